@@ -1,0 +1,8 @@
+//! A tracking lighting desk's engine as a program: it reads a show and a script, and writes replies and frames.
+#![tactic(auto)]
+
+use std::process::ExitCode;
+
+fn main(_rt: HostRuntime) -> ExitCode {
+    ExitCode::from(0)
+}
