@@ -13,7 +13,7 @@ use Rattle.lx_spec.specs.declared.Command.TheVariants as commands
 use Rattle.lx_spec.specs.declared.Refusal.{Refusal}
 use Rattle.lx_spec.specs.declared.Refusal.TheVariants.{NoCueAfter, PlaybackFull, TickLimit}
 use Rattle.lx_spec.specs.Show.{Cue, Show}
-use Rattle.lx_spec.specs.Tracked.{cue_above}
+use Rattle.lx_spec.specs.Tracked.{cue_above, next_cue}
 use Rattle.lx_spec.specs.Run.{Run, captured, extent, entry_extent, greatest}
 use Rattle.lx_spec.specs.Level.{position}
 use Rattle.lx_spec.specs.Laws.{HasNoTimes, IsInstant}
@@ -156,3 +156,27 @@ tick-rests show m at live d s more =
 
 pub stands-opened : (show : Show) → Stands show 0 0 0 (opened show)
 stands-opened show = record { show_is = refl; moment_is = refl; position_is = refl; live_is = refl; no_follow = refl; live_instant = tt; all_at = refl; all_instant = tt; faders_down = refl; full_master = refl }
+
+-- what is found among plain cues is plain
+plain_found : (test : Cue → Bool) (cues : List Cue) (cue : Cue) → AllByRecursion IsPlainCue cues → find test cues ≡ Some cue → IsPlainCue cue
+plain_found test [] cue all found = cc
+plain_found test (x ∷ xs) cue all found =
+    let at : (b : Bool) → cond b (Some x) (find test xs) ≡ Some cue → IsPlainCue cue = λ b. elim b as (λ b. cond b (Some x) (find test xs) ≡ Some cue → IsPlainCue cue) [
+      | true ↦ λ e. let same : x ≡ cue = cc in subst IsPlainCue same all.0
+      | false ↦ λ e. plain_found test xs cue all.1 e
+    ] in
+    at (test x) found
+
+-- the cue above runs, by its number
+pub go-next : (show : Show) (m at live n : ℕ) (d : Desk) → Stands show m at live d → IsPlain show → next_cue show at ≡ Some n → live < RUNS
+    → IsOkAnd (step d (commands.Key (Play Go))) (Stands show m n (live + 1))
+go-next show m at live n d s plain next some =
+    let by : (o : Option Cue) → cue_above show at ≡ o → option_map (λ cue. cue.number) o ≡ Some n → IsOkAnd (step d (commands.Key (Play Go))) (Stands show m n (live + 1)) =
+        λ o. elim o as (λ o. cue_above show at ≡ o → option_map (λ cue. cue.number) o ≡ Some n → IsOkAnd (step d (commands.Key (Play Go))) (Stands show m n (live + 1))) [
+          | None ↦ λ above e. cc
+          | Some cue ↦ λ above e.
+              let number : cue.number ≡ n = cc in
+              subst (λ k. IsOkAnd (step d (commands.Key (Play Go))) (Stands show m k (live + 1))) number
+              (go-runs show m at live d cue s above (plain_found (λ x. nat_lt at x.number) show.cues cue plain.cues above) some)
+        ] in
+    by (cue_above show at) refl next

@@ -1,6 +1,8 @@
 //! A tracking lighting desk's engine as a program: it reads a show and a script, and writes replies and frames.
 #![tactic(auto)]
 
+mod playing;
+
 use std::process::ExitCode;
 
 fn main(_rt: HostRuntime) -> ExitCode {
