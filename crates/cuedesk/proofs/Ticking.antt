@@ -1,0 +1,57 @@
+-- Several ticks of one line, up to the first that is refused.
+use Rattle.std.specs.Prelude.{◌≡◌, ℕ, zero, suc, ◌+◌, ◌-◌, ◌<◌, Option, Some, None, Result, Ok, Err, IsOkAnd, List, [], refl}
+use Rattle.std.proofs.Common.{◌∙◌, ap, sym, subst, arith}
+use Rattle.lx_spec.specs.declared.Command.TheVariants as commands
+use Rattle.lx_spec.specs.declared.Refusal.{Refusal}
+use Rattle.lx_spec.specs.Show.{Show}
+use Rattle.lx_spec.specs.Desk.{Desk, step}
+use Rattle.lx_spec.specs.Replies.{Session, Attempt, attempt, answered, attempt_ticks, and_then}
+use Rattle.cuedesk.specs.Stands.{Stands}
+
+-- The ticks that are left go on from a session with the same text, whose desk the playback stands for.
+pub record Left (show : Show) (moment at live : ℕ) (s : Session) (k left : ℕ) : Type 0 where
+  pub now : Session
+  pub stands : Stands show moment at live now.desk
+  pub same : attempt_ticks [] k s ≡ attempt_ticks [] left now
+  pub text : now.text ≡ s.text
+
+pub begun : (show : Show) (moment at live : ℕ) (s : Session) (k : ℕ) → Stands show moment at live s.desk → Left show moment at live s k k
+begun show moment at live s k stands = record { now = s; stands = stands; same = refl; text = refl }
+
+-- a tick that is accepted
+accepted : (show : Show) (m at live : ℕ) (s : Session) (left : ℕ) (r : Result Desk Refusal) → IsOkAnd r (Stands show m at live)
+    → (next : Session) × Stands show m at live next.desk × (and_then (answered s commands.Tick r) (attempt_ticks [] left) ≡ attempt_ticks [] left next) × (next.text ≡ s.text)
+accepted show m at live s left (Ok d) h = ((answered s commands.Tick (Ok d)).session, h, refl, refl)
+accepted show m at live s left (Err e) h = absurd h
+
+pub goes_on : (show : Show) (m at live m' at' live' : ℕ) (s : Session) (k left left' : ℕ) → left ≡ suc left' → Left show m at live s k left
+    → ((d : Desk) → Stands show m at live d → IsOkAnd (step d commands.Tick) (Stands show m' at' live')) → Left show m' at' live' s k left'
+goes_on show m at live m' at' live' s k left left' one l tick =
+    let next = accepted show m' at' live' l.now left' (step l.now.desk commands.Tick) (tick l.now.desk l.stands) in
+    record { now = next.0; stands = next.1; same = l.same ∙ ap (λ n. attempt_ticks [] n l.now) one ∙ next.2; text = next.3 ∙ l.text }
+
+-- What the line's ticks came to.
+pub record Ticked (show : Show) (moment at live : ℕ) (s : Session) (k : ℕ) (refusal : Option Refusal) : Type 0 where
+  pub refused : (attempt_ticks [] k s).refusal ≡ refusal
+  pub stands : Stands show moment at live (attempt_ticks [] k s).session.desk
+  pub text : (attempt_ticks [] k s).session.text ≡ s.text
+
+pub ends : (show : Show) (m at live : ℕ) (s : Session) (k left : ℕ) → left ≡ 0 → Left show m at live s k left → Ticked show m at live s k None
+ends show m at live s k left none l =
+    let same : attempt_ticks [] k s ≡ record { session = l.now; refusal = None } = l.same ∙ ap (λ n. attempt_ticks [] n l.now) none in
+    record {
+      refused = ap (λ (a : Attempt). a.refusal) same;
+      stands = subst (λ (a : Attempt). Stands show m at live a.session.desk) (sym same) l.stands;
+      text = ap (λ (a : Attempt). a.session.text) same ∙ l.text;
+    }
+
+pub refused : (show : Show) (m at live : ℕ) (s : Session) (k left left' : ℕ) (e : Refusal) → left ≡ suc left' → Left show m at live s k left
+    → ((d : Desk) → Stands show m at live d → step d commands.Tick ≡ Err e) → Ticked show m at live s k (Some e)
+refused show m at live s k left left' e one l tick =
+    let same : attempt_ticks [] k s ≡ record { session = (answered l.now commands.Tick (Err e)).session; refusal = Some e } =
+        l.same ∙ ap (λ n. attempt_ticks [] n l.now) one ∙ ap (λ r. and_then (answered l.now commands.Tick r) (attempt_ticks [] left')) (tick l.now.desk l.stands) in
+    record {
+      refused = ap (λ (a : Attempt). a.refusal) same;
+      stands = subst (λ (a : Attempt). Stands show m at live a.session.desk) (sym same) l.stands;
+      text = ap (λ (a : Attempt). a.session.text) same ∙ l.text;
+    }
