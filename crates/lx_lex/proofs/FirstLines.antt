@@ -1,7 +1,6 @@
 -- The bytes of the first lines.
-use Rattle.std.proofs.Common.{◌≡◌, ◌⊎◌, inl, inr, ℕ, zero, suc, ◌+◌, ◌<◌, ◌≤◌, Bool, true, false, List, [], ◌∷◌, ◌++◌, length, refl, sym, ap, ◌∙◌, append-nil, append_assoc, arith, zero-add, add-one}
+use Rattle.std.proofs.Common.{◌≡◌, inl, inr, ℕ, zero, suc, ◌+◌, ◌≤◌, Bool, true, false, List, [], ◌∷◌, ◌++◌, length, refl, sym, ap, ◌∙◌, arith, zero-add}
 use Rattle.std.proofs.lemmas.Bool.{ne_eqb, cases_eq, eq-eqb}
-use Rattle.std.proofs.lemmas.Grind.{common_steps}
 use Rattle.lx_spec.specs.Text.{cut_lines}
 use Rattle.lx_lex.specs.Lines.{HasNoFeed, feed_of, first_lines}
 

@@ -1,14 +1,14 @@
 -- Lines that were taken one after another: how a loop over `advance` begins, goes on and ends.
 use Rattle.std.proofs.Common.{◌≡◌, ◌⊎◌, inl, inr, ℕ, ◌+◌, ◌<◌, ◌≤◌, Bool, true, false, List, [], ◌∷◌, ◌++◌, length, take, map, Some, None, IfSome, refl, sym, ap, ◌∙◌, subst, append-nil, append_assoc, length-append, arith}
 use Rattle.std.specs.declared.option.Option.{Option}
-use Rattle.std.specs.Io.KnownBytes.{Consumes, IsAtEnd}
+use Rattle.std.specs.Io.KnownBytes.{IsAtEnd}
 use Rattle.std.proofs.KnownBytes.{Consumes-trans}
 use Rattle.std.proofs.Math.Seq.{take-append_seam}
 use Rattle.std.proofs.lemmas.List.{map-append}
 use Rattle.lx_base.specs.declared.TheConstants.{INPUT_BYTES}
 use Rattle.lx_spec.specs.Text.{cut_lines, without_cr, lines_of}
 use Rattle.lx_lex.specs.declared.lines.Step.TheVariants.{InputTooLong}
-use Rattle.lx_lex.specs.Lines.{HasNoFeed, feed_of, Took, TookLine, TookLines, StepOf, first_lines}
+use Rattle.lx_lex.specs.Lines.{HasNoFeed, feed_of, TookLine, TookLines, StepOf, first_lines}
 use Rattle.lx_lex.proofs.FirstLines.{cut_lines-feed, cut_lines-last, first_lines-none, first_lines-feed, first_lines-last, first_lines-front, first_lines-more, first_lines-longer}
 
 -- no line was taken yet
