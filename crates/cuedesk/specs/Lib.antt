@@ -1,3 +1,6 @@
 pub mod Plain
 pub mod Stands
 pub mod Built
+pub mod Session
+pub mod Request
+pub mod Faults

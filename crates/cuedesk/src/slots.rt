@@ -1,0 +1,36 @@
+//! The slots of a universe, from the levels of a show's channels at the position.
+
+ghost use Rattle.std.specs.Prelude.{◌≡◌, ◌≤◌, ◌+◌, ℕ, map};
+ghost use Rattle.lx_spec.specs.Tracked.{tracked};
+ghost use Rattle.lx_spec.specs.Output.{dimmer_value, dimmers_of};
+ghost use Rattle.cuedesk.specs.Request.{IsUniverse};
+
+use lx_base::{CueNo, Dimmer, Level, UNIVERSE_SLOTS, scale};
+use lx_show::Show;
+
+/// Fills the 512 slots of a universe, from 1 to 16: slot j belongs to dimmer 512 (u - 1) + j, and holds
+/// the tracked level of its channel at the position, at its proportional level, or 0 where it isn't patched.
+pub(crate) fn fill_slots(
+    show: &Show,
+    position: CueNo,
+    universe: u8,
+    slots: &mut [u8; UNIVERSE_SLOTS],
+)
+    requires { IsUniverse universe }
+    ensures { slots.new ≡ map (dimmer_value show.now (tracked show.now position)) (dimmers_of universe) }
+{
+    let before = UNIVERSE_SLOTS as u32 * (universe as u32 - 1);
+    for (place, slot) in slots.iter_mut().enumerate() {
+        *slot = value_at(show, position, before + 1 + place as u32);
+    }
+}
+
+/// The value of a dimmer by its number.
+fn value_at(show: &Show, position: CueNo, dimmer: u32) -> Level
+    ensures { result ≡ dimmer_value show.now (tracked show.now position) dimmer }
+{
+    match Dimmer::new(dimmer).and_then(|dimmer| show.patch_of(dimmer)) {
+        Some(row) => scale(show.tracked(position, row.chan), row.level),
+        None => 0,
+    }
+}
