@@ -2,7 +2,7 @@ use Rattle.std.proofs.Common.{◌≡◌, ◌-◌, ℕ, List, max, nat_le, fold, 
 use Rattle.lx_base.specs.declared.TheConstants.{INPUT_BYTES, LINE_BYTES}
 use Rattle.lx_spec.specs.Text.{without_cr}
 use Rattle.lx_lex.specs.Handed.{HandedOut}
-use Rattle.lx_lex.proofs.trial.longest.Given as goal
+use Rattle.lx_lex.proofs.tests.longest.Given as goal
 
 abbrev pub invariant-loop-lines : goal.invariant-loop-lines
 invariant-loop-lines g l = record {

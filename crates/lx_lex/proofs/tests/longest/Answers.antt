@@ -1,13 +1,12 @@
-use Rattle.std.proofs.Common.{◌≡◌, ◌<◌, ◌≤◌, ◌+◌, ◌-◌, ℕ, List, [], ◌∷◌, ◌++◌, map, fold, max, nat_le, length, IfSome, refl, sym, ap, subst, ◌∙◌, arith, length-append, if◌then◌else◌}
+use Rattle.std.proofs.Common.{◌≡◌, ℕ, List, [], ◌∷◌, ◌++◌, map, fold, max, nat_le, length, refl, ap, ◌∙◌, arith, if◌then◌else◌}
 use Rattle.std.proofs.lemmas.Grind.{common_steps}
 use Rattle.std.proofs.lemmas.List.{map_push}
 use Rattle.std.proofs.lemmas.List.Sums.{fold_push}
-use Rattle.lx_base.specs.declared.TheConstants.{LINE_BYTES, INPUT_BYTES}
+use Rattle.lx_base.specs.declared.TheConstants.{LINE_BYTES}
 use Rattle.lx_spec.specs.Text.{without_cr}
-use Rattle.lx_lex.specs.Lines.{first_lines}
 use Rattle.lx_lex.proofs.TakenLines.{next_too_long}
 use Rattle.lx_lex.proofs.HandingOut.{handed_none, handed_one, handed_then}
-use Rattle.lx_lex.proofs.trial.longest.Goals as goal
+use Rattle.lx_lex.proofs.tests.longest.Goals as goal
 
 -- what one more line adds
 more : (raws : List (List ℕ)) (raw : List ℕ)
