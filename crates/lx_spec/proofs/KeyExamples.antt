@@ -1,5 +1,5 @@
 -- Examples of keys, follows and outputs: whole scripts and what is written for them, by computation.
-use Rattle.std.specs.Prelude.{◌≡◌, replicate, flat_map, List, [], ◌∷◌, ◌++◌, refl, codes}
+use Rattle.std.specs.Prelude.{◌≡◌, replicate, [], ◌∷◌, ◌++◌, refl, codes}
 use Rattle.std.specs.Fmt.{digits}
 use Rattle.lx_spec.specs.declared.Form.TheVariants.{Moves}
 use Rattle.lx_spec.specs.Jobs.{render_output}

@@ -1,9 +1,9 @@
 -- Every command keeps what lets the runs before the last rest be forgotten.
-use Rattle.std.specs.Prelude.{◌≡◌, ℕ, ◌+◌, ◌-◌, ◌≤◌, max, Bool, true, false, cond, ◌&&◌, ◌==◌, nat_lt, nat_le, Option, Some, None, Result, Ok, Err, List, [], ◌∷◌, ◌++◌, refl, map, fold, is_some, is_none, length, if◌then◌else◌, unwrap_or, option_and_then, IfOk, slice_set}
+use Rattle.std.specs.Prelude.{◌≡◌, ℕ, ◌+◌, ◌-◌, ◌≤◌, max, Bool, true, false, cond, ◌&&◌, ◌==◌, nat_lt, nat_le, Option, Some, None, Result, Ok, Err, List, [], ◌∷◌, refl, map, fold, is_some, is_none, length, if◌then◌else◌, unwrap_or, option_and_then, IfOk, slice_set}
 use Rattle.std.specs.List.{AllByRecursion, list_all}
 use Rattle.std.specs.Option.{option_map_or}
 use Rattle.std.specs.Result.{result_unwrap_or}
-use Rattle.std.proofs.Common.{arith, ap, sym, ◌∙◌, rules}
+use Rattle.std.proofs.Common.{arith, ap, ◌∙◌}
 use Rattle.std.proofs.lemmas.Bool.Decides.{nat_tests}
 use Rattle.lx_spec.specs.declared.PartTimes.{PartTimes}
 use Rattle.lx_spec.specs.declared.PlayKey.{PlayKey}
@@ -18,7 +18,7 @@ use Rattle.lx_spec.specs.Refusing.{◌>>=◌}
 use Rattle.lx_spec.specs.Listing.{entry_at, has_entry}
 use Rattle.lx_spec.specs.Show.{Show, Cue}
 use Rattle.lx_spec.specs.Tracked.{tracked, move_of, cue_above, cue_below}
-use Rattle.lx_spec.specs.Run.{Run, first_entry, entry_for, entry_extent, greatest, extent, time_of, delay_of, acts}
+use Rattle.lx_spec.specs.Run.{Run, first_entry, entry_for, entry_extent, extent, time_of, delay_of, acts}
 use Rattle.lx_spec.specs.Level.{level, position, run_over, fade_over, rises_to}
 use Rattle.lx_spec.specs.Edited.{edited, the_cue}
 use Rattle.lx_spec.specs.Playback.{Playback, Played, press, tick, ticked, followed, start_above, rested, at_rest, is_over, is_due, has_room, appended, if_room, run_of, run_whole, follow_of, position_of}

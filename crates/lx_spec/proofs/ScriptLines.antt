@@ -1,5 +1,5 @@
 -- Script lines: what they mean, and some that mean nothing, by computation.
-use Rattle.std.specs.Prelude.{◌≡◌, ℕ, ◌*◌, ◌/◌, true, Option, Some, None, List, [], ◌∷◌, refl, codes, replicate}
+use Rattle.std.specs.Prelude.{◌≡◌, ◌*◌, ◌/◌, true, Some, None, refl, codes, replicate}
 use Rattle.lx_base.specs.declared.TheConstants.{CUE_UNIT}
 use Rattle.lx_spec.specs.declared.Line.TheVariants as lines
 use Rattle.lx_spec.specs.declared.Command.TheVariants as commands
