@@ -2,3 +2,5 @@ pub mod Steps
 pub mod Turns
 pub mod Frames
 pub mod Ticking
+pub mod TurnLemmas
+pub mod Sessions

@@ -16,7 +16,7 @@ ghost use Rattle.cuedesk.specs.Faults.{fault_of};
 use crate::answer::answer;
 use crate::playing::Playing;
 use crate::request::Request;
-use crate::script::read_request;
+use crate::script::{ends_script, read_request};
 use crate::session::SessionFault;
 use lx_io::{Sink, SinkFault, Source};
 use lx_lex::{Lines, Step};
@@ -87,7 +87,7 @@ fn reply<K: Sink>(
     ensures write { result ≡ Some (Err SessionFault.WriteFault) → Rose (K.faults output.old) (K.faults output.new) }
     ensures memory { result ≡ Some (Err SessionFault.Memory) → Rose (K.wants output.old) (K.wants output.new) }
 {
-    if matches!(request, Some(Request::Quit)) {
+    if ends_script(request) {
         return Some(finish(output));
     }
     match answer(request, show, playing, output) {

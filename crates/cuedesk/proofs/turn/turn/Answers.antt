@@ -1,33 +1,39 @@
-use Rattle.std.proofs.Common.{rules, ◌≡◌, ◌≤◌, ◌⊎◌, true, Some, None, Ok, Err, option_map, IfSome, IfErr, IsTrue, ◌≢◌, ℕ, ◌+◌, ◌-◌, ◌*◌, ◌<◌, length, ◌/◌, ◌%◌, Bool, false, nat_eq, nat_lt, List, [], ◌∷◌, ◌++◌, slice_index_or, slice_set, bit_and, bit_or, Fits, w8, w32, w64, Bor, MutBor}
-use Rattle.std.specs.Io.KnownBytes.{Keeps, IsAtEnd}
-use Rattle.lx_io.specs.Causes.{Rose}
-use Rattle.lx_io.specs.Puts.{HasSinkCause}
-use Rattle.lx_lex.specs.Unread.{unread, line_of}
-use Rattle.lx_lex.specs.Lines.{StepOf}
-use Rattle.lx_spec.specs.Replies.{is_quit}
-use Rattle.cuedesk.specs.Plain.{IsPlain}
-use Rattle.cuedesk.specs.Request.{line_for, AsksForUniverse}
-use Rattle.cuedesk.specs.Turns.{Replied, RepliedInPart, TurnedOn, TurnedInPart, TookQuit}
-use Rattle.cuedesk.specs.Places.{place_of}
-use Rattle.cuedesk.specs.Faults.{fault_of}
+use Rattle.std.proofs.Common.{◌≡◌, ◌∙◌, ap, sym, inr, []}
+use Rattle.lx_lex.specs.Handed.{HandedOut}
+use Rattle.lx_lex.proofs.HandingOut.{handed_one}
+use Rattle.std.proofs.KnownBytes.{Keeps-trans}
+use Rattle.cuedesk.specs.Built.{line_built}
+use Rattle.cuedesk.proofs.TurnLemmas.{turned_on, failed, took_quit, too_long}
 use Rattle.cuedesk.proofs.turn.turn.Goals as goal
 
--- src/turn.rt:27:1
 pub returns-in-Line-clause-goes_on : goal.returns-in-Line-clause-goes_on
-returns-in-Line-clause-goes_on g c = ?
+returns-in-Line-clause-goes_on g c =
+    let e = c.in-Line.ensures in λ is.
+    turned_on _ _ _ _ _ _ _ _ _ _ e.step.0 _ (handed_one _ _ _ _ e.step.0 e.step.1 e.number e.going e.same_reference e.later)
+    (c.read_request.ensures.meaning ∙ ap line_built (c.line.ensures.line ∙ e.step.2)) c.flush_before_wait.ensures.holds (c.reply.ensures.goes_on is)
 
--- src/turn.rt:27:1
 pub returns-in-Line-clause-ok : goal.returns-in-Line-clause-ok
-returns-in-Line-clause-ok g c = ?
+returns-in-Line-clause-ok g c =
+    let e = c.in-Line.ensures in λ is.
+    let ended = c.reply.ensures.ok is in
+    (Keeps-trans _ _ _ c.flush_before_wait.ensures.holds ended.0,
+     inr (took_quit _ _ _ _ e.step.0 _ (handed_one _ _ _ _ e.step.0 e.step.1 e.number e.going e.same_reference e.later)
+      (c.read_request.ensures.meaning ∙ ap line_built (c.line.ensures.line ∙ e.step.2)) ended.1))
 
--- src/turn.rt:27:1
 pub returns-in-Line-clause-fault : goal.returns-in-Line-clause-fault
-returns-in-Line-clause-fault g c = ?
+returns-in-Line-clause-fault g c =
+    let e = c.in-Line.ensures in
+    failed _ _ _ _ _ _ _ _ _ e.step.0 _ _ (handed_one _ _ _ _ e.step.0 e.step.1 e.number e.going e.same_reference e.later)
+    (c.read_request.ensures.meaning ∙ ap line_built (c.line.ensures.line ∙ e.step.2)) c.flush_before_wait.ensures.holds c.reply.ensures.fault
 
--- src/turn.rt:27:1
 pub returns-in-LongLine-clause-goes_on : goal.returns-in-LongLine-clause-goes_on
-returns-in-LongLine-clause-goes_on g c = ?
+returns-in-LongLine-clause-goes_on g c =
+    let e = c.in-LongLine.ensures in λ is.
+    turned_on _ _ _ _ _ _ _ _ _ _ e.step.0 _ (handed_one _ _ _ _ e.step.0 e.step.1 e.number e.going e.same_reference e.later)
+    (too_long _ e.step.3) c.flush_before_wait.ensures.holds (c.reply-in-LongLine.ensures.goes_on is)
 
--- src/turn.rt:27:1
 pub returns-in-LongLine-clause-fault : goal.returns-in-LongLine-clause-fault
-returns-in-LongLine-clause-fault g c = ?
+returns-in-LongLine-clause-fault g c =
+    let e = c.in-LongLine.ensures in
+    failed _ _ _ _ _ _ _ _ _ e.step.0 _ _ (handed_one _ _ _ _ e.step.0 e.step.1 e.number e.going e.same_reference e.later)
+    (too_long _ e.step.3) c.flush_before_wait.ensures.holds c.reply-in-LongLine.ensures.fault
