@@ -1,11 +1,13 @@
 -- How far a session has come, and how it ends.
-use Rattle.std.proofs.Common.{◌≡◌, ◌⊎◌, inl, inr, ℕ, zero, suc, ◌+◌, ◌≤◌, ◌<◌, Bool, true, false, cond, not, eqb, Result, Ok, Err, OnOk, OnErr, IfErr, Option, Some, None, IfSome, IsTrue, List, [], ◌∷◌, ◌++◌, map, length, take, refl, sym, ap, ◌∙◌, subst, append-nil, append_assoc, length-append, arith}
+use Rattle.std.proofs.Common.{◌≡◌, ◌⊎◌, inl, inr, ℕ, zero, suc, ◌+◌, ◌≤◌, ◌<◌, Bool, true, false, cond, not, eqb, Result, Ok, Err, OnOk, OnErr, IfErr, Option, Some, None, IfSome, IsTrue, List, [], ◌∷◌, ◌++◌, map, length, take, drop, take-append-drop, refl, sym, ap, ◌∙◌, subst, append-nil, append_assoc, length-append, arith}
 use Rattle.std.specs.List.{position_or_len}
 use Rattle.std.specs.Io.KnownBytes.{Appends, Keeps, IsAtEnd}
 use Rattle.std.proofs.KnownBytes.{Appends-nil, Appends-trans}
+use Rattle.std.proofs.Math.Seq.{take-append_seam}
 use Rattle.std.proofs.lemmas.List.{map-append, length-map}
 use Rattle.lx_base.specs.declared.TheConstants.{INPUT_BYTES}
 use Rattle.lx_io.specs.Puts.{AppendsFront}
+use Rattle.lx_io.proofs.Chain.{AppendsFront-is, AppendsFront-from}
 use Rattle.lx_lex.specs.declared.lines.Lines.{Lines}
 use Rattle.lx_lex.specs.Handed.{HandedOut}
 use Rattle.lx_lex.specs.Unread.{unread, line_of}
@@ -131,16 +133,16 @@ quits left faults a b c show place h h' h'' s q kept =
         let all : replies_built (opened show) (lines_of xs) ≡ s.written = ap (replies_built (opened show)) e.1 ∙ s.answered.goes_on (line ∷ e.0) ∙ ap (λ v. s.written ++ v) (replies-quit s.desk line e.0 q.quits) ∙ append-nil s.written in
         subst (λ (t : List ℕ). Appends h h'' t) (sym all) (appended_kept h h' h'' s.written s.appended kept))
 
+-- a front of a text was appended, where the text begins so
+front_made : (a b : Option (List ℕ)) (front rest text : List ℕ) → text ≡ front ++ rest → Appends a b front → AppendsFront a b text
+front_made a b front rest text is p = AppendsFront-from a b text (length front) (subst (λ (v : List ℕ). Appends a b v) (sym (ap (take (length front)) is ∙ take-append_seam front rest)) p)
+
 -- the session stopped between two lines: a front of the text was written
 pub stops : {S : Type 0} (left : S → Option (List ℕ)) (faults : S → ℕ) (a b : Lines S) (show : Show) (place : Place) (h h' h'' : Option (List ℕ))
     → SoFar left faults a b show place h h' → Keeps h' h'' → IfSome (unread left a) (λ bytes. AppendsFront h h'' (replies_built (opened show) (lines_of bytes)))
 stops left faults a b show place h h' h'' s kept =
-    over (unread left a) _ _ (begins (unread left a) (unread left b) a.taken b.taken s.raws s.handed.took) (λ xs e. record {
-      front = s.written;
-      rest = replies_built s.desk e.0;
-      is_text = ap (replies_built (opened show)) e.1 ∙ s.answered.goes_on e.0;
-      appended = appended_kept h h' h'' s.written s.appended kept;
-    })
+    over (unread left a) _ _ (begins (unread left a) (unread left b) a.taken b.taken s.raws s.handed.took) (λ xs e.
+      front_made h h'' s.written (replies_built s.desk e.0) _ (ap (replies_built (opened show)) e.1 ∙ s.answered.goes_on e.0) (appended_kept h h' h'' s.written s.appended kept))
 
 -- the session stopped within a reply
 pub stops_in_part : {S : Type 0} (left : S → Option (List ℕ)) (faults : S → ℕ) (a b c : Lines S) (show : Show) (place : Place) (h h' h'' : Option (List ℕ))
@@ -148,16 +150,18 @@ pub stops_in_part : {S : Type 0} (left : S → Option (List ℕ)) (faults : S �
 stops_in_part left faults a b c show place h h' h'' s t =
     let line = without_cr t.raw in
     let both = handed_then left faults a b c s.raws (t.raw ∷ []) s.handed t.handed in
-    let part = t.replied.text s.desk s.stands in
+    let reply = reply_to s.desk (line_built line) in
+    let part = AppendsFront-is h' h'' reply (t.replied.text s.desk s.stands) in
+    let front = take part.0 reply in
+    let rest = drop part.0 reply in
     let next = desk_after s.desk (line_built line) in
-    over (unread left a) _ _ (begins_more (unread left a) (unread left c) a.taken c.taken s.raws t.raw both.took) (λ xs e. record {
-      front = s.written ++ part.front;
-      rest = part.rest ++ replies_built next e.0;
-      is_text =
-          ap (replies_built (opened show)) e.1 ∙ s.answered.goes_on (line ∷ e.0) ∙ ap (λ v. s.written ++ v) (replies-line s.desk line e.0 t.replied.more ∙ ap (λ v. v ++ replies_built next e.0) part.is_text ∙ append_assoc part.front part.rest (replies_built next e.0))
-          ∙ sym (append_assoc s.written part.front (part.rest ++ replies_built next e.0));
-      appended = Appends-trans h h' h'' s.written part.front s.appended part.appended;
-    })
+    over (unread left a) _ _ (begins_more (unread left a) (unread left c) a.taken c.taken s.raws t.raw both.took) (λ xs e.
+        let later = replies_built next e.0 in
+        front_made h h'' (s.written ++ front) (rest ++ later) _
+        (ap (replies_built (opened show)) e.1 ∙ s.answered.goes_on (line ∷ e.0)
+        ∙ ap (λ v. s.written ++ v) (replies-line s.desk line e.0 t.replied.more ∙ ap (λ v. v ++ later) (sym (take-append-drop part.0 reply)) ∙ append_assoc front rest later)
+        ∙ sym (append_assoc s.written front (rest ++ later)))
+        (Appends-trans h h' h'' s.written front s.appended part.1))
 
 -- The bytes that the script wants.
 first_lines-length : (k : ℕ) (xs : List ℕ) → length (first_lines k xs) ≤ length xs

@@ -1,11 +1,12 @@
 -- A turn of a session, from its parts: a flush, a line that was handed out, and its reply.
-use Rattle.std.proofs.Common.{◌≡◌, ◌⊎◌, inl, inr, ℕ, true, false, Option, Some, None, Result, Ok, Err, IfSome, IfErr, List, [], ◌∷◌, ◌++◌, ap, ◌∙◌, subst, sym, cond, length, ◌<◌, arith}
+use Rattle.std.proofs.Common.{◌≡◌, ◌⊎◌, inl, inr, ℕ, true, false, Option, Some, None, Result, Ok, Err, IfSome, IfErr, List, [], ◌∷◌, ◌++◌, ap, ◌∙◌, subst, sym, cond, length, take, ◌<◌, arith}
 use Rattle.std.specs.Prelude.{nat_lt}
 use Rattle.std.proofs.lemmas.Bool.Decides.{nat_tests}
 use Rattle.lx_base.specs.declared.TheConstants.{LINE_BYTES}
 use Rattle.std.specs.Io.KnownBytes.{Keeps, Appends}
 use Rattle.std.proofs.KnownBytes.{Keeps-trans}
 use Rattle.lx_io.specs.Puts.{AppendsFront}
+use Rattle.lx_io.proofs.Chain.{AppendsFront-is, AppendsFront-from}
 use Rattle.lx_lex.specs.declared.lines.Lines.{Lines}
 use Rattle.lx_lex.specs.Handed.{HandedOut}
 use Rattle.lx_spec.specs.declared.Line.{Line}
@@ -25,7 +26,7 @@ Appends-kept (Some x) (Some y) None xs p q = absurd q
 Appends-kept (Some x) (Some y) (Some z) xs p q = q ∙ ap (λ v. v ++ xs) p
 
 front_kept : (a b c : Option (List ℕ)) (xs : List ℕ) → Keeps a b → AppendsFront b c xs → AppendsFront a c xs
-front_kept a b c xs p q = record { front = q.front; rest = q.rest; is_text = q.is_text; appended = Appends-kept a b c q.front p q.appended }
+front_kept a b c xs p q = let front = AppendsFront-is b c xs q in AppendsFront-from a c xs front.0 (Appends-kept a b c (take front.0 xs) p front.1)
 
 -- a line of this meaning was handed out, and its reply was written
 pub turned_on : {S : Type 0} (left : S → Option (List ℕ)) (faults : S → ℕ) (old new : Lines S) (show : Show) (place place' : Place) (h h' h'' : Option (List ℕ)) (raw : List ℕ) (meaning : Option Line)
