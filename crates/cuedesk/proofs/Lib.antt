@@ -4,3 +4,4 @@ pub mod Frames
 pub mod Ticking
 pub mod TurnLemmas
 pub mod Sessions
+pub mod FilledFrom

@@ -6,6 +6,7 @@ mod playing;
 mod request;
 mod script;
 mod session;
+mod slots;
 mod turn;
 
 use std::process::ExitCode;
