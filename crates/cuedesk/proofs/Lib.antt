@@ -5,3 +5,4 @@ pub mod Ticking
 pub mod TurnLemmas
 pub mod Sessions
 pub mod FilledFrom
+pub mod Replying

@@ -5,8 +5,10 @@ use Rattle.lx_spec.specs.declared.Command.TheVariants as commands
 use Rattle.lx_spec.specs.declared.Refusal.{Refusal}
 use Rattle.lx_spec.specs.Show.{Show}
 use Rattle.lx_spec.specs.Desk.{Desk, step}
-use Rattle.lx_spec.specs.Replies.{Session, Attempt, attempt, answered, attempt_ticks, and_then}
+use Rattle.lx_spec.specs.Replies.{Session, begun, Attempt, attempt, answered, attempt_ticks, and_then}
 use Rattle.cuedesk.specs.Stands.{Stands}
+use Rattle.cuedesk.specs.Turns.{Place, StandsAt}
+use Rattle.cuedesk.specs.Answered.{TickedSo}
 
 -- The ticks that are left go on from a session with the same text, whose desk the playback stands for.
 pub record Left (show : Show) (moment at live : ℕ) (s : Session) (k left : ℕ) : Type 0 where
@@ -15,8 +17,8 @@ pub record Left (show : Show) (moment at live : ℕ) (s : Session) (k left : ℕ
   pub same : attempt_ticks [] k s ≡ attempt_ticks [] left now
   pub text : now.text ≡ s.text
 
-pub begun : (show : Show) (moment at live : ℕ) (s : Session) (k : ℕ) → Stands show moment at live s.desk → Left show moment at live s k k
-begun show moment at live s k stands = record { now = s; stands = stands; same = refl; text = refl }
+pub ticks_left : (show : Show) (moment at live : ℕ) (s : Session) (k : ℕ) → Stands show moment at live s.desk → Left show moment at live s k k
+ticks_left show moment at live s k stands = record { now = s; stands = stands; same = refl; text = refl }
 
 -- a tick that is accepted
 accepted : (show : Show) (m at live : ℕ) (s : Session) (left : ℕ) (r : Result Desk Refusal) → IsOkAnd r (Stands show m at live)
@@ -30,28 +32,22 @@ goes_on show m at live m' at' live' s k left left' one l tick =
     let next = accepted show m' at' live' l.now left' (step l.now.desk commands.Tick) (tick l.now.desk l.stands) in
     record { now = next.0; stands = next.1; same = l.same ∙ ap (λ n. attempt_ticks [] n l.now) one ∙ next.2; text = next.3 ∙ l.text }
 
--- What the line's ticks came to.
-pub record Ticked (show : Show) (moment at live : ℕ) (s : Session) (k : ℕ) (refusal : Option Refusal) : Type 0 where
-  pub refused : (attempt_ticks [] k s).refusal ≡ refusal
-  pub stands : Stands show moment at live (attempt_ticks [] k s).session.desk
-  pub text : (attempt_ticks [] k s).session.text ≡ s.text
-
-pub ends : (show : Show) (m at live : ℕ) (s : Session) (k left : ℕ) → left ≡ 0 → Left show m at live s k left → Ticked show m at live s k None
-ends show m at live s k left none l =
-    let same : attempt_ticks [] k s ≡ record { session = l.now; refusal = None } = l.same ∙ ap (λ n. attempt_ticks [] n l.now) none in
+pub ends : (show : Show) (place : Place) (d : Desk) (k left : ℕ) → left ≡ 0 → Left show place.moment place.at place.live (begun d) k left → TickedSo show place d k (Ok tt)
+ends show place d k left none l =
+    let same : attempt_ticks [] k (begun d) ≡ record { session = l.now; refusal = None } = l.same ∙ ap (λ n. attempt_ticks [] n l.now) none in
     record {
       refused = ap (λ (a : Attempt). a.refusal) same;
-      stands = subst (λ (a : Attempt). Stands show m at live a.session.desk) (sym same) l.stands;
+      stands = subst (λ (a : Attempt). StandsAt show place a.session.desk) (sym same) l.stands;
       text = ap (λ (a : Attempt). a.session.text) same ∙ l.text;
     }
 
-pub refused : (show : Show) (m at live : ℕ) (s : Session) (k left left' : ℕ) (e : Refusal) → left ≡ suc left' → Left show m at live s k left
-    → ((d : Desk) → Stands show m at live d → step d commands.Tick ≡ Err e) → Ticked show m at live s k (Some e)
-refused show m at live s k left left' e one l tick =
-    let same : attempt_ticks [] k s ≡ record { session = (answered l.now commands.Tick (Err e)).session; refusal = Some e } =
+pub refused : (show : Show) (place : Place) (d : Desk) (k left left' : ℕ) (e : Refusal) → left ≡ suc left' → Left show place.moment place.at place.live (begun d) k left
+    → ((x : Desk) → StandsAt show place x → step x commands.Tick ≡ Err e) → TickedSo show place d k (Err e)
+refused show place d k left left' e one l tick =
+    let same : attempt_ticks [] k (begun d) ≡ record { session = (answered l.now commands.Tick (Err e)).session; refusal = Some e } =
         l.same ∙ ap (λ n. attempt_ticks [] n l.now) one ∙ ap (λ r. and_then (answered l.now commands.Tick r) (attempt_ticks [] left')) (tick l.now.desk l.stands) in
     record {
       refused = ap (λ (a : Attempt). a.refusal) same;
-      stands = subst (λ (a : Attempt). Stands show m at live a.session.desk) (sym same) l.stands;
+      stands = subst (λ (a : Attempt). StandsAt show place a.session.desk) (sym same) l.stands;
       text = ap (λ (a : Attempt). a.session.text) same ∙ l.text;
     }

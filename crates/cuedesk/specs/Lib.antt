@@ -6,3 +6,4 @@ pub mod Request
 pub mod Faults
 pub mod Turns
 pub mod Places
+pub mod Answered
