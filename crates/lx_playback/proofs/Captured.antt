@@ -1,5 +1,5 @@
 -- A run captures its times from a valid cue: at least one entry, and no time above the longest.
-use Rattle.std.specs.Prelude.{◌≡◌, ℕ, ◌≤◌, List, [], ◌∷◌, length, map, IsTrue}
+use Rattle.std.specs.Prelude.{◌≤◌, List, [], ◌∷◌, length, map, IsTrue}
 use Rattle.std.specs.List.{AllByRecursion}
 use Rattle.std.proofs.Common.{arith}
 use Rattle.lx_spec.specs.declared.Part.{Part}

@@ -1,5 +1,5 @@
 -- What the answers to a key and a tick tell.
-use Rattle.std.specs.Prelude.{ℕ, ◌+◌, Bool, Option, Some, if◌then◌else◌}
+use Rattle.std.specs.Prelude.{◌+◌, Bool, Option, Some, if◌then◌else◌}
 use Rattle.lx_spec.specs.Show.{Show}
 use Rattle.lx_spec.specs.Run.{Run}
 use Rattle.lx_spec.specs.Playback.{Playback, position_of, run_whole, followed, is_over}

@@ -9,11 +9,10 @@ ghost use Rattle.lx_spec.specs.Show.{IsTime, ValidPart};
 ghost use Rattle.lx_spec.specs.Playback.{press, appended, run_of, run_whole, follow_of, at_rest};
 ghost use Rattle.lx_playback.specs.Told.{run_made};
 
-use lx_base::{BACK_TIME, Cs, CueNo, Moment};
-use lx_show::{Cue, PlayKey, Refusal, Show};
-
 use crate::playback::Playback;
 use crate::run::{Run, captured_all, one_entry};
+use lx_base::{BACK_TIME, Cs, CueNo, Moment};
+use lx_show::{Cue, PlayKey, Refusal, Show};
 
 /// What a key did: Settle alone starts no live run, and settles.
 #[derive(Drop)]

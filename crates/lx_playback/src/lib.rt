@@ -11,3 +11,6 @@ pub use lx_spec::PartTimes;
 pub use playback::Playback;
 pub use run::Run;
 pub use ticks::Ticked;
+
+#[cfg(test)]
+mod tests;

@@ -4,11 +4,10 @@ ghost use Rattle.std.specs.Prelude.{◌≡◌, ◌+◌, ◌<◌, ◌≤◌, ◌=
 ghost use Rattle.lx_spec.specs.Playback.{at_opening, position_of, has_room, is_over, is_due, at_rest};
 ghost use Rattle.lx_playback.specs.Valid.{ValidPlayback, ValidRun};
 
+use crate::run::Run;
 use lx_base::{CueNo, Moment, RUNS, TICK_END};
 use std::alloc::{AllocError, Global};
 use std::marker::Model;
-
-use crate::run::Run;
 
 /// The playback of a show: runs are live from their start until all of them are over, and then
 /// the position becomes the base. Moments are hundredths of a second since the opening, and a tick

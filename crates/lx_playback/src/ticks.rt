@@ -4,11 +4,10 @@ ghost use Rattle.std.specs.Prelude.{◌≡◌, Ok, Err, IfOk, IfErr, OnErr};
 ghost use Rattle.lx_spec.specs.Playback.{tick, start_above, followed, is_over, rested};
 ghost use Rattle.lx_playback.specs.Told.{comes_to_rest};
 
-use lx_base::TICK_END;
-use lx_show::{Refusal, Show};
-
 use crate::playback::Playback;
 use crate::run::Run;
+use lx_base::TICK_END;
+use lx_show::{Refusal, Show};
 
 /// What a tick did: the run that a follow started, and whether the playback came to rest.
 #[derive(Drop)]
