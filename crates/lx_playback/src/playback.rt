@@ -1,6 +1,7 @@
 //! The playback's state: the moment, the base, the live runs and the pending follow.
 
 ghost use Rattle.std.specs.Prelude.{◌≡◌, ◌+◌, ◌<◌, ◌≤◌, ◌==◌, ◌∷◌, None, not, reverse, length, IfOk, IsTrue, IsFalse};
+ghost use Rattle.std.specs.List.{All};
 ghost use Rattle.lx_spec.specs.Playback.{at_opening, position_of, has_room, is_over, is_due, at_rest};
 ghost use Rattle.lx_playback.specs.Valid.{ValidPlayback, ValidRun};
 
@@ -77,6 +78,7 @@ impl Playback {
     /// The live runs, at most 512, the newest last.
     pub fn live(&self) -> &[Run]
         ensures live { reverse result.now ≡ self.now.live }
+        ensures each { All (ValidRun self.now.moment) result.now }
         ensures valid { ValidPlayback self.now }
     {
         self.live.as_slice()
