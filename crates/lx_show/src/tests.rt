@@ -1,0 +1,70 @@
+//! One small show, and each call on it once.
+
+use crate::{Cue, Group, Member, Move, PatchRow, Show, Sub, new_part};
+use lx_base::{CUE_UNIT, Chan, CueNo, Dimmer, GroupNo, PartNo, SubNo};
+use lx_spec::Label;
+use std::alloc::Global;
+use std::test::Fail;
+
+#[test]
+fn a_cue_has_one_move_for_each_channel(rt: HostRuntime) -> Result<(), Fail> {
+    let chan = Chan::new(7).ok_or("no channel 7")?;
+    let number = CueNo::new(CUE_UNIT * 2).ok_or("no cue 2")?;
+    let mut cue = Cue::new(rt.alloc(), number);
+    let part = PartNo::BASE;
+    assert!(rt; !cue.decides(chan));
+    cue.put_move(Move { chan, part, level: 10 })?;
+    cue.put_move(Move { chan, part, level: 200 })?;
+    assert_eq!(rt; cue.level_of(chan), 200);
+    assert!(rt; cue.decides(chan));
+    let copy = cue.copy()?;
+    assert_eq!(rt; cue.drop_move(chan), Some(Move { chan, part, level: 200 }));
+    assert_eq!(rt; cue.drop_move(chan), None);
+    assert_eq!(rt; copy.move_of(chan), Some(Move { chan, part, level: 200 }));
+    Ok(())
+}
+
+#[test]
+fn a_dropped_part_leaves_its_moves_to_part_one(rt: HostRuntime) -> Result<(), Fail> {
+    let chan = Chan::new(7).ok_or("no channel 7")?;
+    let number = CueNo::new(CUE_UNIT * 2).ok_or("no cue 2")?;
+    let two = PartNo::new(2).ok_or("no part 2")?;
+    let mut cue = Cue::new(rt.alloc(), number);
+    cue.put_part(new_part(two));
+    assert_eq!(rt; cue.part(two), Some(new_part(two)));
+    cue.put_move(Move { chan, part: two, level: 9 })?;
+    assert_eq!(rt; cue.drop_part(two), Some(new_part(two)));
+    assert_eq!(rt; cue.level_of(chan), 9);
+    assert_eq!(rt; cue.move_of(chan), Some(Move { chan, part: PartNo::BASE, level: 9 }));
+    assert_eq!(rt; cue.part(two), None);
+    Ok(())
+}
+
+/// A show of 20 channels with cues 1 and 3. Cue 1 brings channel 7 to 100; cue 3 is a block cue.
+fn two_cues(alloc: Global) -> Result<Show, Fail> {
+    let mut show = Show::new(alloc, 20)?;
+    for n in [1, 3] {
+        let number = CueNo::new(CUE_UNIT * n).ok_or("no such cue")?;
+        if number.get() != 0 && show.has_room_for(number) {
+            show.put_cue(Cue::new(alloc, number));
+        }
+    }
+    Ok(show)
+}
+
+#[test]
+fn cues_are_found_by_number(rt: HostRuntime) -> Result<(), Fail> {
+    let show = two_cues(rt.alloc())?;
+    let one = CueNo::new(CUE_UNIT).ok_or("no cue 1")?;
+    let two = CueNo::new(CUE_UNIT * 2).ok_or("no cue 2")?;
+    let three = CueNo::new(CUE_UNIT * 3).ok_or("no cue 3")?;
+    assert_eq!(rt; show.cues().len(), 2);
+    assert_eq!(rt; show.channels(), 20);
+    assert!(rt; show.cue(three).is_some());
+    assert!(rt; show.cue(two).is_none());
+    assert_eq!(rt; show.next_cue(one), Some(three));
+    assert_eq!(rt; show.next_cue(three), None);
+    assert_eq!(rt; show.cue_before(two), Some(one));
+    assert_eq!(rt; show.cue_before(one), None);
+    Ok(())
+}
