@@ -68,3 +68,40 @@ fn cues_are_found_by_number(rt: HostRuntime) -> Result<(), Fail> {
     assert_eq!(rt; show.cue_before(one), None);
     Ok(())
 }
+
+/// Places a move in part 1 of the cue, where the cue is there and the channel within the count.
+fn bring(show: &mut Show, n: CueNo, chan: Chan, level: u8) -> Result<(), Fail> {
+    let part = PartNo::BASE;
+    let ready = match show.cue(n) {
+        Some(cue) => cue.part(part).is_some(),
+        None => false,
+    };
+    if ready && chan.get() <= show.channels() {
+        show.put_move_in(n, Move { chan, part, level })?;
+    }
+    Ok(())
+}
+
+#[test]
+fn a_level_tracks_until_a_block_cue(rt: HostRuntime) -> Result<(), Fail> {
+    let mut show = two_cues(rt.alloc())?;
+    let seven = Chan::new(7).ok_or("no channel 7")?;
+    let one = CueNo::new(CUE_UNIT).ok_or("no cue 1")?;
+    let two = CueNo::new(CUE_UNIT * 2).ok_or("no cue 2")?;
+    let three = CueNo::new(CUE_UNIT * 3).ok_or("no cue 3")?;
+    bring(&mut show, one, seven, 100)?;
+    assert_eq!(rt; show.tracked(two, seven), 100);
+    assert_eq!(rt; show.tracked(three, seven), 100);
+    if show.cue(three).is_some() {
+        show.set_block(three, true);
+    }
+    assert_eq!(rt; show.tracked(two, seven), 100);
+    assert_eq!(rt; show.tracked(three, seven), 0);
+    assert_eq!(rt; show.move_of(one, seven).map(|entry| entry.level), Some(100));
+    assert_eq!(rt; show.move_of(three, seven), None);
+    let copy = show.copy()?;
+    assert!(rt; show.take_cue(one).is_some());
+    assert_eq!(rt; show.tracked(two, seven), 0);
+    assert_eq!(rt; copy.tracked(two, seven), 100);
+    Ok(())
+}
