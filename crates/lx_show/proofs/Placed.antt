@@ -1,14 +1,12 @@
 -- What an entry placed into a rising list leaves: what is found there, its length, and a second placing.
-use Rattle.std.proofs.Common.{◌≡◌, ℕ, suc, ◌+◌, ◌<◌, ◌≤◌, Bool, true, false, cond, List, [], ◌∷◌, ◌++◌, length, Some, None, refl, ◌∙◌, sym, ap, subst, inl, inr, arith}
+use Rattle.std.proofs.Common.{◌≡◌, ℕ, ◌+◌, ◌<◌, ◌≤◌, Bool, true, false, cond, List, [], ◌∷◌, ◌++◌, length, Some, None, refl, ◌∙◌, sym, ap, subst, inl, inr, arith}
 use Rattle.std.specs.Prelude.{Option, IsTrue, filter, find, is_some, nat_lt, ◌==◌, ◌&&◌}
 use Rattle.std.specs.Option.{option_or, option_map_or}
-use Rattle.std.specs.List.{AllByRecursion}
 use Rattle.std.proofs.lemmas.Bool.{cases_order, false≢true}
 use Rattle.std.proofs.lemmas.Bool.Decides.{nat_tests}
-use Rattle.std.proofs.lemmas.List.{length-append, append-nil}
-use Rattle.std.proofs.lemmas.List.Elements.{filter-append}
+use Rattle.std.proofs.lemmas.List.{length-append}
 use Rattle.std.proofs.lemmas.List.Folds.{find-append}
-use Rattle.lx_spec.specs.Listing.{Rises, entry_at, has_entry, entries_below, entries_above, placed, taken_out}
+use Rattle.lx_spec.specs.Listing.{Rises, entry_at, has_entry, entries_below, entries_above, placed}
 use Rattle.lx_show.proofs.Finding.{find_both}
 use Rattle.lx_show.specs.Changed.{changed}
 use Rattle.lx_show.proofs.RisingLists.{each, passes, filter_all, filter_none, find_none, stands_between, lt_true, lt_false, lt_from}

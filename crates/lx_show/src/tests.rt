@@ -169,7 +169,10 @@ fn a_cue_is_changed_where_it_stands(rt: HostRuntime) -> Result<(), Fail> {
     if show.cue(three).is_some() {
         show.put_part_in(three, new_part(PartNo::new(2).ok_or("no part 2")?));
     }
-    assert_eq!(rt; show.move_of(three, seven).map(|entry| entry.level), Some(50));
+    assert_eq!(rt;
+        show.move_of(three, seven).map(|entry| entry.level),
+        Some(50)
+    );
     assert_eq!(rt; forget_moves(rt.alloc(), &mut show, three), 1);
     assert_eq!(rt; show.move_of(three, seven), None);
     let cue = show.cue(three).ok_or("no cue 3")?;
