@@ -1,14 +1,12 @@
 -- What an entry placed into a rising list leaves: what is found there, its length, and a second placing.
-use Rattle.std.proofs.Common.{◌≡◌, ℕ, suc, ◌+◌, ◌<◌, ◌≤◌, Bool, true, false, cond, List, [], ◌∷◌, ◌++◌, length, Some, None, refl, ◌∙◌, sym, ap, subst, inl, inr, arith}
+use Rattle.std.proofs.Common.{◌≡◌, ℕ, ◌+◌, ◌<◌, ◌≤◌, Bool, true, false, cond, List, [], ◌∷◌, ◌++◌, length, Some, None, refl, ◌∙◌, sym, ap, subst, inl, inr, arith}
 use Rattle.std.specs.Prelude.{Option, IsTrue, filter, find, is_some, nat_lt, ◌==◌, ◌&&◌}
 use Rattle.std.specs.Option.{option_or, option_map_or}
-use Rattle.std.specs.List.{AllByRecursion}
 use Rattle.std.proofs.lemmas.Bool.{cases_order, false≢true}
 use Rattle.std.proofs.lemmas.Bool.Decides.{nat_tests}
-use Rattle.std.proofs.lemmas.List.{length-append, append-nil}
-use Rattle.std.proofs.lemmas.List.Elements.{filter-append}
+use Rattle.std.proofs.lemmas.List.{length-append}
 use Rattle.std.proofs.lemmas.List.Folds.{find-append}
-use Rattle.lx_spec.specs.Listing.{Rises, entry_at, has_entry, entries_below, entries_above, placed, taken_out}
+use Rattle.lx_spec.specs.Listing.{Rises, entry_at, has_entry, entries_below, entries_above, placed}
 use Rattle.lx_show.proofs.Finding.{find_both}
 use Rattle.lx_show.specs.Changed.{changed}
 use Rattle.lx_show.proofs.RisingLists.{each, passes, filter_all, filter_none, find_none, stands_between, lt_true, lt_false, lt_from}
@@ -157,3 +155,7 @@ entry_at-changed_here key n change x xs found kept = ap (entry_at key n) (change
 
 pub entry_at-changed_other : {A : Type 0} (key : A → ℕ) (n m : ℕ) (change : A → A) (x : A) (xs : List A) → entry_at key n xs ≡ Some x → (key (change x) ≡ m → ⊥) → entry_at key m (changed key n change xs) ≡ entry_at key m xs
 entry_at-changed_other key n m change x xs found other = ap (entry_at key m) (changed_is_placed key n change x xs found) ∙ entry_at-placed_other key m (change x) xs other
+
+-- what is there stays there where an entry is changed
+pub has_changed : {A : Type 0} (key : A → ℕ) (n m : ℕ) (change : A → A) (xs : List A) → IsTrue (has_entry key m xs) → IsTrue (has_entry key m (changed key n change xs))
+has_changed {A} key n m change xs there = elim (entry_at key n xs) as (λ (o : Option A). IsTrue (has_entry key m (option_map_or (λ x. placed key (change x) xs) o xs))) [ None ↦ there | Some x ↦ has_placed key m (change x) xs there ]

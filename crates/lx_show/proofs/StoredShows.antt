@@ -1,5 +1,5 @@
 -- Shows that stay stored where an entry is placed, taken out or changed in its place.
-use Rattle.std.proofs.Common.{◌≡◌, ℕ, ◌<◌, ◌≤◌, inl, inr, List, ◌∷◌, length, set, get_or, refl, arith, ap, sym, subst, ◌∙◌}
+use Rattle.std.proofs.Common.{◌≡◌, ℕ, ◌<◌, ◌≤◌, inl, inr, List, length, set, get_or, refl, arith, ap, sym, subst, ◌∙◌}
 use Rattle.std.specs.Prelude.{Bool, true, false, IsTrue, not, nat_lt, ◌||◌, ◌==◌, ◌⊎◌}
 use Rattle.std.specs.List.{AllByRecursion}
 use Rattle.std.proofs.Math.ListN.{length-set}
@@ -8,7 +8,7 @@ use Rattle.lx_spec.specs.declared.Move.{Move}
 use Rattle.lx_spec.specs.declared.Member.{Member}
 use Rattle.lx_spec.specs.declared.Part.{Part}
 use Rattle.lx_spec.specs.declared.PatchRow.{PatchRow}
-use Rattle.lx_spec.specs.Listing.{Rises, entry_at, has_entry, placed, taken_out, StandsAt}
+use Rattle.lx_spec.specs.Listing.{Rises, has_entry, placed, taken_out, StandsAt}
 use Rattle.lx_spec.specs.Show.{Cue, Group, Sub, Show, Valid, ValidCue, ValidGroup, ValidSub, ValidPatchRow}
 use Rattle.lx_show.specs.Stored.{IsStored}
 use Rattle.lx_show.specs.Changed.{changed}
