@@ -6,7 +6,11 @@ use Rattle.lx_spec.specs.declared.Line.TheVariants as lines
 use Rattle.lx_spec.specs.declared.Refusal.{Refusal}
 use Rattle.lx_script.specs.Answers.{reply_text}
 use Rattle.lx_spec.specs.Desk.{Desk, step}
-use Rattle.lx_spec.specs.Replies.{begun, answered, replied, attempt_ticks, Attempt, refused_reply, count_ok, with_text, ok_text}
+use Rattle.lx_spec.specs.Replies.{begun, answered, replied, attempt_ticks, Attempt, refused_reply, count_ok, with_text, ok_text, frame_text}
+use Rattle.lx_spec.specs.Tracked.{tracked}
+use Rattle.lx_spec.specs.Output.{dimmer_value, dimmers_of}
+use Rattle.cuedesk.specs.Plain.{IsPlain}
+use Rattle.cuedesk.proofs.Frames.{frame-tracked}
 use Rattle.cuedesk.specs.Built.{reply_to, desk_after}
 use Rattle.cuedesk.specs.Answered.{reply_for, refusal_of, TickedSo}
 use Rattle.cuedesk.specs.Turns.{Place, StandsAt}
@@ -45,3 +49,10 @@ replied-desk a = let at : (r : Option Refusal) → (option_map_or (refused_reply
 
 pub desk-ticks : (show : Show) (place : Place) (d : Desk) (k : ℕ) (done : Result (Unit {0}) Refusal) → TickedSo show place d k done → StandsAt show place (desk_after d (Some (lines.Ticks k)))
 desk-ticks show place d k done t = subst (StandsAt show place) (sym (replied-desk (attempt_ticks [] k (begun d)))) t.stands
+
+-- a frame shows the slots by the tracked levels at the position
+pub reply-frame : (show : Show) (place : Place) (d : Desk) (u : ℕ) (slots : List ℕ) → StandsAt show place d → IsPlain show → slots ≡ map (dimmer_value show (tracked show place.at)) (dimmers_of u)
+    → frame_text [] place.moment u slots ≡ reply_to d (Some (lines.Frame u))
+reply-frame show place d u slots s plain is =
+    ap (λ m. frame_text [] m u slots) (sym s.moment_is)
+    ∙ ap (frame_text [] d.playback.moment u) (is ∙ sym (frame-tracked show place.moment place.at place.live d u s plain))

@@ -1,6 +1,7 @@
 -- Several ticks of one line, up to the first that is refused.
 use Rattle.std.specs.Prelude.{◌≡◌, ℕ, zero, suc, ◌+◌, ◌-◌, ◌<◌, Option, Some, None, Result, Ok, Err, IsOkAnd, List, [], refl}
 use Rattle.std.proofs.Common.{◌∙◌, ap, sym, subst, arith}
+use Rattle.std.specs.Result.{IsErr, IsErrAnd}
 use Rattle.lx_spec.specs.declared.Command.TheVariants as commands
 use Rattle.lx_spec.specs.declared.Refusal.{Refusal}
 use Rattle.lx_spec.specs.Show.{Show}
@@ -17,8 +18,8 @@ pub record Left (show : Show) (moment at live : ℕ) (s : Session) (k left : ℕ
   pub same : attempt_ticks [] k s ≡ attempt_ticks [] left now
   pub text : now.text ≡ s.text
 
-pub ticks_left : (show : Show) (moment at live : ℕ) (s : Session) (k : ℕ) → Stands show moment at live s.desk → Left show moment at live s k k
-ticks_left show moment at live s k stands = record { now = s; stands = stands; same = refl; text = refl }
+pub ticks_left : (show : Show) (moment at live : ℕ) (s : Session) (k left : ℕ) → k ≡ left → Stands show moment at live s.desk → Left show moment at live s k left
+ticks_left show moment at live s k left all stands = record { now = s; stands = stands; same = ap (λ n. attempt_ticks [] n s) all; text = refl }
 
 -- a tick that is accepted
 accepted : (show : Show) (m at live : ℕ) (s : Session) (left : ℕ) (r : Result Desk Refusal) → IsOkAnd r (Stands show m at live)
@@ -51,3 +52,8 @@ refused show place d k left left' e one l tick =
       stands = subst (λ (a : Attempt). StandsAt show place a.session.desk) (sym same) l.stands;
       text = ap (λ (a : Attempt). a.session.text) same ∙ l.text;
     }
+
+-- the same, where the refusal goes through a `?`
+pub refused_by : (show : Show) (place : Place) (d : Desk) (k : ℕ) (e : Refusal) (r : Result (Unit {0}) Refusal) → IsErr r × IsErrAnd r (λ y. y ≡ e) → TickedSo show place d k (Err e) → TickedSo show place d k r
+refused_by show place d k e (Ok u) is t = absurd is.1
+refused_by show place d k e (Err y) is t = subst (λ (x : Refusal). TickedSo show place d k (Err x)) (sym is.1) t

@@ -1,6 +1,6 @@
 //! The answer to one script line.
 
-ghost use Rattle.std.specs.Prelude.{◌≡◌, option_map, IfSome, OnErr};
+ghost use Rattle.std.specs.Prelude.{◌≡◌, Some, option_map, IfSome};
 ghost use Rattle.lx_io.specs.Puts.{HasSinkCause, Puts};
 ghost use Rattle.lx_spec.specs.Show.{Show as ShowData};
 ghost use Rattle.lx_spec.specs.Desk.{Desk};
@@ -35,14 +35,32 @@ pub(crate) fn answer<K: Sink>(
 {
     match request {
         None => put_reply(&Reply::Bad, output),
-        Some(Request::Go) => put_reply(&reply_of(playing.go(show)), output),
-        Some(Request::Ticks(count)) => put_reply(&reply_of(tick_all(playing, count)), output),
-        Some(Request::Frame(universe)) => {
+        Some(request) => answer_request(request, show, playing, output),
+    }
+}
+
+/// Does what is asked for, and appends the reply.
+fn answer_request<K: Sink>(
+    request: Request,
+    show: &Show,
+    playing: &mut Playing,
+    output: &mut K,
+) -> Result<(), SinkFault>
+    requires plain { IsPlain show.now }
+    requires universe { AsksForUniverse request }
+    ensures cause { HasSinkCause K.faults K.wants output.old output.new result }
+    ensures text { (d : Desk) → StandsAt show.now (place_of playing.old) d → Puts K.holds K.faults K.wants output.old output.new result (reply_to d (Some (line_for request))) }
+    ensures stands { (d : Desk) → StandsAt show.now (place_of playing.old) d → StandsAt show.now (place_of playing.new) (desk_after d (Some (line_for request))) }
+{
+    match request {
+        Request::Go => put_reply(&reply_of(playing.go(show)), output),
+        Request::Ticks(count) => put_reply(&reply_of(tick_all(playing, count)), output),
+        Request::Frame(universe) => {
             let mut slots = [0; UNIVERSE_SLOTS];
             fill_slots(show, playing.position, universe, &mut slots);
             put_frame(None, playing.moment, universe, &slots, output)
         }
-        Some(Request::Quit | Request::Blank) => Ok(()),
+        Request::Quit | Request::Blank => Ok(()),
     }
 }
 
