@@ -15,7 +15,7 @@
 --     returns-in_err-f g c = Puts-stops _ c.in_err-f.ensures c.from_residual.ensures
 --     returns-in_err-h g c = Puts-then c.in_ok-f.ensures (Puts-stops _ c.in_err-h.ensures c.from_residual-in_err-h.ensures)
 --     returns g c = Puts-is (Puts-then (Puts-then c.in_ok-f.ensures c.in_ok-h.ensures) c.k.ensures) (simp append_assoc)
-use Rattle.std.proofs.Common.{◌≡◌, ℕ, ◌+◌, ◌-◌, ◌<◌, ◌≤◌, List, [], ◌∷◌, ◌++◌, length, take, drop, get_or, Result, Ok, Err, Some, None, refl, sym, ap, ◌∙◌, subst, append_assoc, append-nil, arith, length-append, length-take, add-one, drop-cons, take-append-drop}
+use Rattle.std.proofs.Common.{◌≡◌, ℕ, ◌+◌, ◌-◌, ◌<◌, ◌≤◌, List, [], ◌∷◌, ◌++◌, length, take, drop, get_or, Result, Ok, Err, Some, None, refl, sym, ap, ◌∙◌, append_assoc, append-nil, arith, length-append, length-take, add-one, drop-cons, take-append-drop}
 use Rattle.std.specs.Prelude.{Bool, flat_map, filter}
 use Rattle.std.proofs.lemmas.List.Elements.{filter-append}
 use Rattle.std.specs.Result.{IsErr, IsErrAnd}
