@@ -1,2 +1,5 @@
 pub mod Later
 pub mod Placing
+pub mod Changing
+pub mod Cues
+pub mod Shows
