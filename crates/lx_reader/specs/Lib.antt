@@ -1,1 +1,2 @@
 pub mod TakenUp
+pub mod Built
