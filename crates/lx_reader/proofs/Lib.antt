@@ -3,3 +3,4 @@ pub mod Placing
 pub mod Changing
 pub mod Cues
 pub mod Shows
+pub mod Readings
