@@ -4,3 +4,5 @@ pub mod Changing
 pub mod Cues
 pub mod Shows
 pub mod Readings
+pub mod Pairs
+pub mod Lengths

@@ -1,2 +1,3 @@
 pub mod TakenUp
 pub mod Built
+pub mod Lists
