@@ -108,14 +108,14 @@ lines_within None b i j raws n p le = tt
 lines_within (Some x) b i j raws n p le = omega (arith, first_lines-longer n (length raws) x le, ap length p.front, p.count, p.within)
 
 -- the next line isn't
-pub next_too_long : (a b c : Option (List ℕ)) (i j k : ℕ) (raws : List (List ℕ)) (line : List ℕ)
-    → TookLines a b i j raws → StepOf InputTooLong b c j k line → IfSome a (λ xs. INPUT_BYTES < i + length (first_lines (length raws + 1) xs))
-next_too_long None b c i j k raws line p s = tt
-next_too_long (Some x) None c i j k raws line p s = absurd p.took
-next_too_long (Some x) (Some y) None i j k raws line p s = absurd s.2.bytes
-next_too_long (Some x) (Some y) (Some z) i j k raws line p s =
+pub next_too_long : (a b c : Option (List ℕ)) (i j k : ℕ) (raws : List (List ℕ)) (line : List ℕ) (n : ℕ)
+    → TookLines a b i j raws → StepOf InputTooLong b c j k line → n ≡ length raws + 1 → IfSome a (λ xs. INPUT_BYTES < i + length (first_lines n xs))
+next_too_long None b c i j k raws line n p s e = tt
+next_too_long (Some x) None c i j k raws line n p s e = absurd p.took
+next_too_long (Some x) (Some y) None i j k raws line n p s e = absurd s.2.bytes
+next_too_long (Some x) (Some y) (Some z) i j k raws line n p s e =
     let mine : p.bytes ≡ first_lines (length raws) (p.bytes ++ y) = p.front ∙ ap (first_lines (length raws)) p.took in
-    let both : first_lines (length raws + 1) x ≡ p.bytes ++ first_lines 1 y = ap (first_lines (length raws + 1)) p.took ∙ first_lines-more (length raws) 1 p.bytes y mine in
+    let both : first_lines n x ≡ p.bytes ++ first_lines 1 y = ap (λ m. first_lines m x) e ∙ ap (first_lines (length raws + 1)) p.took ∙ first_lines-more (length raws) 1 p.bytes y mine in
     let next : length (s.0 ++ feed_of s.1) ≤ length (first_lines 1 y) = subst (λ v. length (s.0 ++ feed_of s.1) ≤ length (first_lines 1 v)) (sym s.2.bytes) (first_lines-front s.0 z s.1 s.2.no_feed) in
     omega (arith, ap length both, length-append p.bytes (first_lines 1 y), length-append s.0 (feed_of s.1), next, p.count, s.2.count, s.3)
 
