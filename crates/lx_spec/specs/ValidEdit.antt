@@ -1,12 +1,14 @@
 -- What holds of each edit that is asked for: it names a cue as a cue may be numbered, and its times are within the limit.
-use Rattle.std.specs.Prelude.{ℕ, Option, Some, None, List, [], ◌∷◌, IfSome}
+use Rattle.std.specs.Prelude.{ℕ, Option, Some, None, List, [], ◌∷◌, IfSome, ⊤}
 use Rattle.std.specs.List.{AllByRecursion}
 use Rattle.std.specs.Option.{option_to_list}
-use Rattle.lx_base.specs.declared.TheConstants.{CUE_MAX}
+use Rattle.lx_base.specs.declared.TheConstants.{CUE_MAX, TICKS, UNIVERSES}
 use Rattle.lx_spec.specs.declared.Edit.{Edit}
 use Rattle.lx_spec.specs.declared.Edit.TheVariants.{MakeCue, DeleteCue, Set, SetGroup, Release, Time, AddPart, DeletePart, Block, Unblock, Follow, Name}
 use Rattle.lx_spec.specs.declared.Command.{Command}
 use Rattle.lx_spec.specs.declared.Command.TheVariants as commands
+use Rattle.lx_spec.specs.declared.Line.{Line}
+use Rattle.lx_spec.specs.declared.Line.TheVariants as lines
 use Rattle.lx_spec.specs.Show.{InRange, IsTime}
 
 -- the cue that the edit names
@@ -42,3 +44,11 @@ edit_of other = None
 
 abbrev pub ValidCommand : Command → Type 0
 ValidCommand command = IfSome (edit_of command) ValidEdit
+
+-- what is known of the meaning of a script line: the numbers in it are in their range
+abbrev pub ValidLine : Line → Type 0
+ValidLine (lines.Command command) = ValidCommand command
+ValidLine (lines.Ticks k) = InRange TICKS k
+ValidLine (lines.Frame u) = InRange UNIVERSES u
+ValidLine (lines.SheetOf n) = InRange CUE_MAX n
+ValidLine other = ⊤
