@@ -9,7 +9,8 @@ use Rattle.std.proofs.lemmas.List.Sums.{fold-append}
 use Rattle.std.proofs.lemmas.Bool.{cases_order, eqb-true}
 use Rattle.std.proofs.lemmas.Bool.Decides.{nat_tests}
 use Rattle.lx_spec.specs.Listing.{placed, entries_below, entries_above, entry_at, has_entry}
-use Rattle.lx_reader.specs.TakenUp.{changed, all_placed}
+use Rattle.lx_show.specs.Changed.{changed}
+use Rattle.lx_reader.specs.TakenUp.{all_placed}
 
 lt_true : (a b : ℕ) → a < b → nat_lt a b ≡ true
 lt_true a b h = grind (arith, nat_tests)

@@ -14,7 +14,9 @@ use Rattle.lx_spec.specs.Show.{Cue}
 use Rattle.lx_spec.specs.Listing.{Rises, placed, has_entry, entry_at}
 use Rattle.lx_spec.specs.Saying.{Entry, Said, HasUp, HasDown, NamesPart, HasLevels, Follows, Links, IsLabelled, Blocks}
 use Rattle.lx_spec.specs.Reading.{last_of_each, numbers, last_in, part_named, follow_said, link_said, label_said, up_said, down_said, levels_said, blocks, moves_said, part_of, cue_from}
-use Rattle.lx_reader.specs.TakenUp.{changed, all_placed, cue_change, new_part, with_part, with_up, with_down}
+use Rattle.lx_spec.specs.Edited.{new_part}
+use Rattle.lx_show.specs.Changed.{changed}
+use Rattle.lx_reader.specs.TakenUp.{all_placed, cue_change, with_part, with_up, with_down}
 use Rattle.lx_reader.proofs.Later.{later, last_in-more, any-more, unwrap-later, filter-more}
 use Rattle.lx_reader.proofs.Placing.{changed-made, map-placed, placed-there, has_made, Rises-numbers, eq-sym, eq-here}
 

@@ -12,7 +12,9 @@ use Rattle.lx_spec.specs.Show.{Cue, Show, Group, Sub}
 use Rattle.lx_spec.specs.Listing.{Rises, placed, has_entry, entry_at}
 use Rattle.lx_spec.specs.Saying.{Entry, Said, NamesCue, NamesGroup, NamesSub, Patches}
 use Rattle.lx_spec.specs.Reading.{last_of_each, numbers, named_by, cue_named, part_named, section_is_cue, section_is_group, section_is_sub, in_cue, in_group, in_sub, group_named, sub_named, cue_from, group_from, sub_from, channels_named, rows_said, show_from}
-use Rattle.lx_reader.specs.TakenUp.{changed, all_placed, cue_change, cues_changed, cues_with, with_cue, new_cue, show_with}
+use Rattle.lx_spec.specs.Edited.{new_cue}
+use Rattle.lx_show.specs.Changed.{changed}
+use Rattle.lx_reader.specs.TakenUp.{all_placed, cue_change, cues_changed, cues_with, with_cue, show_with}
 use Rattle.lx_reader.proofs.Later.{filter-more}
 use Rattle.lx_reader.proofs.Placing.{changed-made, map-placed, placed-there, has_made, Rises-numbers, eq-sym, eq-here}
 use Rattle.lx_reader.proofs.Cues.{cue_by, cond_same, HasPart, IsFresh, cue_from-with}
@@ -52,15 +54,15 @@ change_keeps p entry cue = elim entry as (λ e. (cue_by (cue_change p e) cue).nu
 -- cues made of numbers, of which the one of a section is changed
 cues_of_section : (section : Section) (o : Option (Cue → Cue)) → ((cue : Cue) → (cue_by o cue).number ≡ cue.number) → (f : ℕ → Cue) → ((m : ℕ) → (f m).number ≡ m) → (ns : List ℕ) → Rises (λ m. m) ns
     → ((n : ℕ) → section_is_cue n section ≡ true → has_entry (λ m. m) n ns ≡ true)
-    → map (λ n. cond (section_is_cue n section) (cue_by o (f n)) (f n)) ns ≡ cues_changed section o (map f ns)
-cues_of_section (InCue m) None keeps f keys ns rises named = λ i. map (λ n. cond_same (m == n) (f n) i) ns
+    → map (λ n. cond (section_is_cue n section) (cue_by o (f n)) (f n)) ns ≡ cues_changed o section (map f ns)
+cues_of_section section None keeps f keys ns rises named = λ i. map (λ n. cond_same (section_is_cue n section) (f n) i) ns
 cues_of_section (InCue m) (Some change) keeps f keys ns rises named =
     let g : ℕ → Cue = λ n. cond (m == n) (change (f n)) (f n) in
     let kg : (n : ℕ) → (g n).number ≡ n = λ n. elim (m == n) as (λ b. (cond b (change (f n)) (f n)).number ≡ n) [ true ↦ keeps (f n) ∙ keys n | false ↦ keys n ] in
     let same : (n : ℕ) → (n == m) ≡ false → g n ≡ f n = λ n differs. ap (λ b. cond b (change (f n)) (f n)) (eq-sym n m differs) in
     let here : g m ≡ change (f m) = ap (λ b. cond b (change (f m)) (f m)) (eq-here m) in
     changed-made (λ cue. cue.number) f g keys kg m same change here ns rises (named m (eq-here m))
-cues_of_section other o keeps f keys ns rises named = refl
+cues_of_section other (Some change) keeps f keys ns rises named = refl
 
 -- a cue is named
 naming : (f : ℕ → Cue) → ((m : ℕ) → (f m).number ≡ m) → (n : ℕ) (ns : List ℕ) → Rises (λ m. m) ns → (has_entry (λ m. m) n ns ≡ false → f n ≡ new_cue n) → (b : Bool) → has_entry (λ m. m) n ns ≡ b

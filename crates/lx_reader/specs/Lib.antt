@@ -1,3 +1,4 @@
 pub mod TakenUp
 pub mod Built
 pub mod Lists
+pub mod Stops

@@ -1,32 +1,20 @@
 -- What one more entry makes of a show that is being read.
 use Rattle.std.specs.Prelude.{ℕ, Option, Some, None, List, [], ◌∷◌, map, fold, max, true, false, if◌then◌else◌}
-use Rattle.std.specs.Option.{option_map_or}
-use Rattle.lx_base.specs.declared.TheConstants.{DEFAULT_TIME}
 use Rattle.lx_spec.specs.declared.Part.{Part}
 use Rattle.lx_spec.specs.declared.Move.{Move}
 use Rattle.lx_spec.specs.declared.Member.{Member}
-use Rattle.lx_spec.specs.Listing.{entry_at, has_entry, placed}
+use Rattle.lx_spec.specs.Listing.{has_entry, placed}
+use Rattle.lx_spec.specs.Edited.{new_cue, new_part}
+use Rattle.lx_show.specs.Changed.{changed}
 use Rattle.lx_spec.specs.Show.{Cue, Show}
 use Rattle.lx_spec.specs.declared.Section.{Section}
 use Rattle.lx_spec.specs.declared.Section.TheVariants.{InCue}
 use Rattle.lx_spec.specs.Saying.{Entry, HasLevels, HasUp, HasDown, NamesPart, NamesCue, Follows, Links, IsLabelled, Blocks, Said}
 use Rattle.lx_spec.specs.Reading.{channels_named, rows_said}
 
--- the entry of a number, changed; none where it is absent
-abbrev pub changed : {A : Type 0} → (A → ℕ) → ℕ → (A → A) → List A → List A
-changed key n change xs = option_map_or (λ x. placed key (change x) xs) (entry_at key n xs) xs
-
 -- the entries with these, one after another, each in its place
 abbrev pub all_placed : {A : Type 0} → (A → ℕ) → List A → List A → List A
 all_placed key more xs = fold (λ ys x. placed key x ys) xs more
-
--- a part of which nothing was said
-abbrev pub new_part : ℕ → Part
-new_part p = record { number = p; up = DEFAULT_TIME; up_delay = 0; down = DEFAULT_TIME; down_delay = 0 }
-
--- a cue of which nothing was said
-abbrev pub new_cue : ℕ → Cue
-new_cue n = record { number = n; block = false; follow = None; link = None; label = []; parts = new_part 1 ∷ []; moves = [] }
 
 abbrev pub with_up : ℕ → ℕ → Part → Part
 with_up time delay part = record part { up = time; up_delay = delay }
@@ -59,13 +47,14 @@ abbrev pub with_cue : ℕ → List Cue → List Cue
 with_cue n cues = if has_entry (λ cue. cue.number) n cues then cues else placed (λ cue. cue.number) (new_cue n) cues
 
 -- the cues, where the change is that of the section's cue
-abbrev pub cues_changed : Section → Option (Cue → Cue) → List Cue → List Cue
-cues_changed (InCue n) (Some change) cues = changed (λ cue. cue.number) n change cues
-cues_changed other change cues = cues
+abbrev pub cues_changed : Option (Cue → Cue) → Section → List Cue → List Cue
+cues_changed None section cues = cues
+cues_changed (Some change) (InCue n) cues = changed (λ cue. cue.number) n change cues
+cues_changed (Some change) other cues = cues
 
 abbrev pub cues_with : Section → ℕ → Entry → List Cue → List Cue
 cues_with section p (NamesCue n) cues = with_cue n cues
-cues_with section p entry cues = cues_changed section (cue_change p entry) cues
+cues_with section p entry cues = cues_changed (cue_change p entry) section cues
 
 -- the show with what was said outside of groups and submasters
 abbrev pub show_with : Said → Show → Show

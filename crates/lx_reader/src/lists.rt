@@ -1,6 +1,6 @@
 //! The lists of a line, pair by pair and triple by triple.
 
-ghost use Rattle.std.specs.Prelude.{◌≡◌, ◌∷◌, [], Ok, Err, MatchOption, MatchResult};
+ghost use Rattle.std.specs.Prelude.{◌≡◌, ◌∷◌, [], Ok, Err, ◌<◌, length, IfOk, IfSome, MatchOption, MatchResult};
 ghost use Rattle.lx_base.specs.declared.TheConstants.{CHANNELS, DIMMERS};
 ghost use Rattle.lx_spec.specs.Numerals.{read_whole};
 ghost use Rattle.lx_lex.specs.Left.{left};
@@ -49,7 +49,8 @@ fn fault_in(i: u32, bad: Bad, whole: bool) -> TextFault
 
 /// The next channel and level of a list of pairs; none at its end. A fault is that of the whole list.
 pub(crate) fn next_member(i: u32, tokens: &mut Tokens) -> Result<Option<Member>, TextFault>
-    ensures { MatchResult result
+    ensures fewer { IfOk result (λ o. IfSome o (λ m. length (left tokens.new) < length (left tokens.old))) }
+    ensures list { MatchResult result
         (λ o. MatchOption o (left tokens.old ≡ []) (λ m. all_pairs i (left tokens.old) ≡ onto (m ∷ []) (all_pairs i (left tokens.new))))
         (λ fault. all_pairs i (left tokens.old) ≡ Err fault) }
 {
@@ -71,7 +72,8 @@ pub(crate) fn next_member(i: u32, tokens: &mut Tokens) -> Result<Option<Member>,
 
 /// The next channel, dimmer and level of a list of triples; none at its end. A fault is that of the whole list.
 pub(crate) fn next_row(i: u32, tokens: &mut Tokens) -> Result<Option<PatchRow>, TextFault>
-    ensures { MatchResult result
+    ensures fewer { IfOk result (λ o. IfSome o (λ row. length (left tokens.new) < length (left tokens.old))) }
+    ensures list { MatchResult result
         (λ o. MatchOption o (left tokens.old ≡ []) (λ row. all_triples i (left tokens.old) ≡ onto (row ∷ []) (all_triples i (left tokens.new))))
         (λ fault. all_triples i (left tokens.old) ≡ Err fault) }
 {

@@ -3,8 +3,8 @@ use Rattle.lx_reader.specs.Lists.{all_triples}
 use Rattle.lx_reader.proofs.Pairs.{all_triples-first}
 use Rattle.lx_reader.proofs.lists.next_row.Goals as goal
 
-pub returns-in-Ok-read_level : goal.returns-in-Ok-read_level
-returns-in-Ok-read_level c =
+pub returns-in-Ok-read_level-clause-list : goal.returns-in-Ok-read_level-clause-list
+returns-in-Ok-read_level-clause-list c =
     let first = c.in-Some.ensures in
     let second = c.in-Some-next.ensures in
     let third = c.in-Some-next-2.ensures in
