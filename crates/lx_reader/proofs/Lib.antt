@@ -5,4 +5,5 @@ pub mod Cues
 pub mod Shows
 pub mod Readings
 pub mod Pairs
+pub mod Entering
 pub mod Lengths

@@ -13,10 +13,12 @@ use Rattle.lx_spec.specs.declared.TextFault.TheVariants.{NoEndData}
 use Rattle.lx_spec.specs.Limits.{desk_limits}
 use Rattle.lx_spec.specs.Text.{tokens, lines_of}
 use Rattle.lx_spec.specs.Show.{Show}
-use Rattle.lx_spec.specs.Saying.{Entry, Said, Ends, Skipped, ClearsAll, HasChannels, facts, said, all_said, option_from}
+use Rattle.lx_spec.specs.Saying.{Entry, Said, Nothing, Skipped, ClearsAll, HasChannels, facts, said, all_said, word_of, option_from}
 use Rattle.lx_spec.specs.Reading.{Reading, reading_from, reading_or_fault, ends_reading, reads, show_from, is_end, clears_all, is_skipped, channels_set, last_in}
 use Rattle.lx_spec.specs.Jobs.{script_of}
-use Rattle.lx_reader.specs.Built.{Known, known_from, is_built, if_built, built_said, all_built, ends_built, reading_or_line, reads_built}
+use Rattle.lx_spec.specs.declared.Word.{Word}
+use Rattle.lx_spec.specs.declared.Word.TheVariants as words
+use Rattle.lx_reader.specs.Built.{Known, known_from, is_built, is_built_line, if_built, built_said, all_built, ends_built, reading_or_line, reads_built}
 use Rattle.lx_reader.proofs.Later.{later, last_in-more, any-more}
 
 -- the results of lines end the reading, or not
@@ -122,17 +124,17 @@ length_built before i (x ∷ xs) = omega (arith, length_built (x ∷ before) (i 
 -- a line that is built says what it says, and more
 pub record IsTaken (known : Known) (tokens : List (List ℕ)) (result : Result Said TextFault) (s : Said) : Type 0 where
   pub said : result ≡ Ok s
-  pub built : is_built known tokens s.entry ≡ true
+  pub built : is_built_line known tokens s.entry ≡ true
 
 taken_if : (known : Known) (i : ℕ) (ts : List (List ℕ)) (result : Result Said TextFault) (s : Said) → if_built known i ts result ≡ Ok s → IsTaken known ts result s
 taken_if known i ts (Err fault) s is = cc
 taken_if known i ts (Ok t) s is =
-    let at : (b : Bool) → is_built known ts t.entry ≡ b → cond b (Ok t) (Err i) ≡ Ok s → IsTaken known ts (Ok t) s
-        = λ b. elim b as (λ b. is_built known ts t.entry ≡ b → cond b (Ok t) (Err i) ≡ Ok s → IsTaken known ts (Ok t) s) [
+    let at : (b : Bool) → is_built_line known ts t.entry ≡ b → cond b (Ok t) (Err i) ≡ Ok s → IsTaken known ts (Ok t) s
+        = λ b. elim b as (λ b. is_built_line known ts t.entry ≡ b → cond b (Ok t) (Err i) ≡ Ok s → IsTaken known ts (Ok t) s) [
       | true ↦ λ built is. let same : t ≡ s = cc in subst (λ z. IsTaken known ts (Ok t) z) same (record { said = refl; built = built })
       | false ↦ λ built is. cc
     ] in
-    at (is_built known ts t.entry) refl is
+    at (is_built_line known ts t.entry) refl is
 
 pub taken : (known : Known) (i : ℕ) (line : List ℕ) (s : Said) → built_said known i line ≡ Ok s → IsTaken known (tokens line) (said desk_limits known.facts i line) s
 taken known i line s is = taken_if known i (tokens line) (said desk_limits known.facts i line) s is
@@ -154,13 +156,23 @@ record IsPlain (entry : Entry) : Type 0 where
   pub no_skip : is_skipped entry ≡ false
   pub no_channels : channels_set entry ≡ None
 
-plain_entry : (known : Known) (ts : List (List ℕ)) (entry : Entry) → is_built known ts entry ≡ true → IsPlain entry
-plain_entry known ts entry = elim entry as (λ e. is_built known ts e ≡ true → IsPlain e) [
-  | Skipped ↦ λ h. cc
-  | ClearsAll ↦ λ h. cc
-  | HasChannels n ↦ λ h. cc
+plain_word : (known : Known) (word : Word) (rest : List (List ℕ)) (entry : Entry) → is_built known word rest entry ≡ true → IsPlain entry
+plain_word known word rest entry = elim entry as (λ e. is_built known word rest e ≡ true → IsPlain e) [
+  | Skipped ↦ elim word as (λ w. is_built known w rest Skipped ≡ true → IsPlain Skipped) [ words.Ident ↦ λ h. cc | _ ↦ λ h. cc ]
+  | ClearsAll ↦ elim word as (λ w. is_built known w rest ClearsAll ≡ true → IsPlain ClearsAll) [ words.Ident ↦ λ h. cc | _ ↦ λ h. cc ]
+  | HasChannels n ↦ elim word as (λ w. is_built known w rest (HasChannels n) ≡ true → IsPlain (HasChannels n)) [ words.Ident ↦ λ h. cc | _ ↦ λ h. cc ]
   | _ ↦ λ h. record { no_clear = refl; no_skip = refl; no_channels = refl }
 ]
+
+plain_blank : (known : Known) (entry : Entry) → is_built_line known [] entry ≡ true → IsPlain entry
+plain_blank known entry = elim entry as (λ e. is_built_line known [] e ≡ true → IsPlain e) [
+  | Nothing ↦ λ h. record { no_clear = refl; no_skip = refl; no_channels = refl }
+  | _ ↦ λ h. cc
+]
+
+plain_entry : (known : Known) (ts : List (List ℕ)) (entry : Entry) → is_built_line known ts entry ≡ true → IsPlain entry
+plain_entry known [] entry h = plain_blank known entry h
+plain_entry known (first ∷ rest) entry h = plain_word known (word_of first) rest entry h
 
 still_quiet : (test : Entry → Bool) (saids : List Said) (s : Said) → Quiet test saids → test s.entry ≡ false → Quiet test (saids ++ s ∷ [])
 still_quiet test saids s quiet is = any-more (λ z. test z.entry) saids s ∙ rw is quiet

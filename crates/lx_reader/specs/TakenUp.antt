@@ -3,6 +3,7 @@ use Rattle.std.specs.Prelude.{ℕ, Option, Some, None, List, [], ◌∷◌, map,
 use Rattle.lx_spec.specs.declared.Part.{Part}
 use Rattle.lx_spec.specs.declared.Move.{Move}
 use Rattle.lx_spec.specs.declared.Member.{Member}
+use Rattle.lx_spec.specs.declared.PatchRow.{PatchRow}
 use Rattle.lx_spec.specs.Listing.{has_entry, placed}
 use Rattle.lx_spec.specs.Edited.{new_cue, new_part}
 use Rattle.lx_show.specs.Changed.{changed}
@@ -63,3 +64,11 @@ show_with s show = record show {
   cues = cues_with s.section s.part s.entry show.cues;
   patch = all_placed (λ row. row.dimmer) (rows_said s.entry) show.patch;
 }
+
+-- the show with patch rows
+abbrev pub with_rows : List PatchRow → Show → Show
+with_rows rows show = record show { channels = fold max show.channels (map (λ row. row.chan) rows); patch = all_placed (λ row. row.dimmer) rows show.patch }
+
+-- the show with levels in a part of a cue
+abbrev pub with_levels : ℕ → ℕ → List Member → Show → Show
+with_levels n p members show = show_with (record { section = InCue n; part = p; entry = HasLevels members }) show

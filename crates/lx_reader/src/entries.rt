@@ -1,25 +1,25 @@
 //! What lines say is put into the show that is being read.
 
-ghost use Rattle.std.specs.Prelude.{◌≡◌, ◌≤◌, ◌<◌, ◌≢◌, ◌⊎◌, [], ◌∷◌, length, max, ℕ, Some, OnOk, OnErr, IfErr, IsTrue};
+ghost use Rattle.std.specs.Prelude.{◌≡◌, ◌≤◌, ◌<◌, ◌≢◌, ◌⊎◌, [], ◌∷◌, length, max, Some, OnOk, OnErr, IfErr, IsTrue};
 ghost use Rattle.std.specs.Option.{IsSomeAnd};
 ghost use Rattle.std.specs.List.{AllByRecursion};
 ghost use Rattle.std.specs.Result.{IsOkAnd};
 ghost use Rattle.lx_base.specs.declared.TheConstants.{CUES, TIME_MAX};
 ghost use Rattle.lx_spec.specs.declared.Section.TheVariants.{InCue};
-ghost use Rattle.lx_spec.specs.declared.Section.{Section};
-ghost use Rattle.lx_spec.specs.Listing.{has_entry, entry_at};
+ghost use Rattle.lx_spec.specs.Listing.{Rises, has_entry, entry_at};
 ghost use Rattle.lx_spec.specs.Show.{ValidPart};
 ghost use Rattle.lx_spec.specs.Tracked.{cue_of};
-ghost use Rattle.lx_spec.specs.Saying.{HasLevels, HasUp, HasDown, Patches, NamesCue};
+ghost use Rattle.lx_spec.specs.Saying.{HasUp, HasDown};
 ghost use Rattle.lx_lex.specs.Left.{left};
 ghost use Rattle.lx_reader.specs.Lists.{all_pairs, all_triples};
 ghost use Rattle.lx_reader.specs.Stops.{IsStopOf, HasPartIn};
-ghost use Rattle.lx_reader.specs.TakenUp.{show_with, with_cue};
+ghost use Rattle.lx_reader.specs.TakenUp.{show_with, with_cue, with_levels, with_rows};
 
 use crate::lists::{next_member, next_row};
 use crate::stop::Stop;
 use lx_base::{Chan, CueNo, Cs, PartNo};
 use lx_lex::Tokens;
+use lx_show::rising::entry_of;
 use lx_show::{Cue, Show};
 use lx_spec::{Member, Move, Part, PatchRow};
 use std::alloc::{AllocError, Global};
@@ -47,8 +47,8 @@ fn widen(show: &mut Show, chan: Chan)
 /// Puts a level into a part of the cue.
 fn put_member(show: &mut Show, n: CueNo, part: PartNo, member: Member) -> Result<(), AllocError>
     requires { HasPartIn show.old n part }
-    ensures show { OnOk result (show.new ≡ show_with (record { section = InCue n; part = part; entry = HasLevels (member ∷ []) }) show.old) }
-    ensures part { HasPartIn show.new n part }
+    ensures show { OnOk result (show.new ≡ with_levels n part (member ∷ []) show.old) }
+    ensures part { OnOk result (HasPartIn show.new n part) }
 {
     widen(show, member.chan);
     show.put_move_in(
@@ -64,9 +64,10 @@ fn put_member(show: &mut Show, n: CueNo, part: PartNo, member: Member) -> Result
 /// Puts the levels of a line into a part of the cue.
 pub(crate) fn put_levels(show: &mut Show, n: CueNo, part: PartNo, i: u32, mut tokens: Tokens) -> Result<(), Stop>
     requires { HasPartIn show.old n part }
-    ensures show { OnOk result (IsOkAnd (all_pairs i (left tokens)) (λ members. show.new ≡ show_with (record { section = InCue n; part = part; entry = HasLevels members }) show.old)) }
-    ensures stop { IfErr result (λ stop. IsStopOf stop (all_pairs i (left tokens))) }
+    ensures show { OnOk result (IsOkAnd (all_pairs i (left tokens.entry)) (λ members. show.new ≡ with_levels n part members show.old)) }
+    ensures stop { IfErr result (λ stop. IsStopOf stop (all_pairs i (left tokens.entry))) }
 {
+    let _ = show.channels();
     loop {
         match next_member(i, &mut tokens) {
             Ok(Some(member)) => {
@@ -82,7 +83,7 @@ pub(crate) fn put_levels(show: &mut Show, n: CueNo, part: PartNo, i: u32, mut to
 
 /// Puts a row into the patch.
 fn put_row(show: &mut Show, row: PatchRow)
-    ensures { (section : Section) (p : ℕ) → show.new ≡ show_with (record { section = section; part = p; entry = Patches (row ∷ []) }) show.old }
+    ensures { show.new ≡ with_rows (row ∷ []) show.old }
 {
     widen(show, row.chan);
     show.put_patch(row);
@@ -90,8 +91,8 @@ fn put_row(show: &mut Show, row: PatchRow)
 
 /// Puts the rows of a line into the patch.
 pub(crate) fn put_rows(show: &mut Show, i: u32, mut tokens: Tokens) -> Result<(), Stop>
-    ensures show { OnOk result (IsOkAnd (all_triples i (left tokens)) (λ rows. (section : Section) (p : ℕ) → show.new ≡ show_with (record { section = section; part = p; entry = Patches rows }) show.old)) }
-    ensures stop { IfErr result (λ stop. IsStopOf stop (all_triples i (left tokens))) }
+    ensures show { OnOk result (IsOkAnd (all_triples i (left tokens.entry)) (λ rows. show.new ≡ with_rows rows show.old)) }
+    ensures stop { IfErr result (λ stop. IsStopOf stop (all_triples i (left tokens.entry))) }
 {
     loop {
         match next_row(i, &mut tokens) {
@@ -138,12 +139,13 @@ pub(crate) fn set_down(show: &mut Show, n: CueNo, part: PartNo, time: Cs, delay:
 
 /// The part of the number, which is there.
 fn part_in(parts: &[Part], number: PartNo) -> Part
+    requires rise { Rises (λ p. p.number) parts.now }
     requires there { IsTrue (has_entry (λ p. p.number) number parts.now) }
     requires valid { AllByRecursion ValidPart parts.now }
     ensures found { entry_at (λ p. p.number) number parts.now ≡ Some result }
     ensures valid { ValidPart result }
 {
-    match parts.iter().find(|part| part.number == number) {
+    match entry_of(parts, number.get()) {
         Some(part) => *part,
         None => unreachable!(),
     }
