@@ -66,14 +66,15 @@ is_zero (token ∷ []) = bytes_eq token (codes "0")
 is_zero other = false
 
 -- A line with this word, these tokens after it and this entry is a line of a plain show: IDENT stands once, patch rows before the
--- first cue, cues rise, each has its times, which are 0, each line of levels or rows has some, and no token is left over.
+-- first cue, cues rise, each has its times, which are 0, each line of levels or rows has some, and no
+-- token is left over.
 abbrev pub is_built : Known → Word → List (List ℕ) → Entry → Bool
 is_built known words.Ident rest Nothing = length rest == 1 && not known.facts.identified
-is_built known words.Patch rest (Patches rows) = not (is_empty rows) && is_empty known.facts.cues
+is_built known words.Patch rest (Patches rows) = nat_lt 1 (length rest) && is_empty known.facts.cues
 is_built known words.Cue rest (NamesCue n) = length rest == 1 && list_all (λ m. nat_lt m n) known.facts.cues
 is_built known words.Up rest (HasUp time delay) = is_zero rest
 is_built known words.Down rest (HasDown time delay) = is_zero rest
-is_built known words.Chan rest (HasLevels members) = not (is_empty members) && is_some (cue_in known.facts.section)
+is_built known words.Chan rest (HasLevels members) = not (is_empty rest) && is_some (cue_in known.facts.section)
 is_built known words.EndData rest Ends = is_empty rest && is_timed known.facts.section known.up known.down && known.earlier
 is_built known word rest entry = false
 

@@ -2,3 +2,4 @@ pub mod TakenUp
 pub mod Built
 pub mod Lists
 pub mod Stops
+pub mod PlainState

@@ -2,6 +2,10 @@
 #![tactic(auto)]
 
 mod entries;
+mod fault;
 mod lists;
+mod plain;
 mod stop;
 mod words;
+
+pub use fault::ShowFault;
