@@ -6,4 +6,6 @@ pub mod Shows
 pub mod Readings
 pub mod Pairs
 pub mod Entering
+pub mod PlainLines
+pub mod PlainWords
 pub mod Lengths

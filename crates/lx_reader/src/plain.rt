@@ -4,6 +4,7 @@ ghost use Rattle.std.specs.Prelude.{◌≡◌, ◌≤◌, ◌≢◌, ℕ, None, 
 ghost use Rattle.std.specs.List.{list_all};
 ghost use Rattle.lx_spec.specs.Listing.{Rises};
 ghost use Rattle.lx_reader.specs.Built.{is_empty, is_zero};
+ghost use Rattle.lx_reader.specs.PlainState.{stop_fault};
 ghost use Rattle.lx_base.specs.declared.TheConstants.{LINE_BYTES};
 ghost use Rattle.lx_spec.specs.declared.Word.TheVariants as words;
 ghost use Rattle.lx_spec.specs.Text.{tokens};
@@ -37,7 +38,9 @@ pub(crate) struct Plain {
 }
 
 /// The fault of a line that ends the reading.
-fn fault_of(i: u32, stop: Stop) -> ShowFault {
+fn fault_of(i: u32, stop: Stop) -> ShowFault
+    ensures { result ≡ stop_fault i stop }
+{
     match stop {
         Stop::Fault(_) => ShowFault::NotBuilt(i),
         Stop::Memory => ShowFault::Memory,
@@ -178,6 +181,7 @@ impl Plain {
         if !is_zero(tokens) {
             return Err(ShowFault::NotBuilt(i));
         }
+        let _ = self.show.channels();
         set_up(&mut self.show, n, PartNo::BASE, 0, 0);
         self.up = true;
         Ok(false)
@@ -197,6 +201,7 @@ impl Plain {
         if !is_zero(tokens) {
             return Err(ShowFault::NotBuilt(i));
         }
+        let _ = self.show.channels();
         set_down(&mut self.show, n, PartNo::BASE, 0, 0);
         self.down = true;
         Ok(false)
@@ -216,6 +221,7 @@ impl Plain {
         if is_done(tokens) {
             return Err(ShowFault::NotBuilt(i));
         }
+        let _ = self.show.channels();
         match put_levels(&mut self.show, n, PartNo::BASE, i, tokens) {
             Ok(()) => Ok(false),
             Err(stop) => Err(fault_of(i, stop)),
@@ -285,7 +291,7 @@ fn is_above(cues: &[Cue], n: CueNo) -> bool
     ensures { result ≡ list_all (λ m. nat_lt m n) (map (λ cue. cue.number) cues.now) }
 {
     match cues.last() {
-        Some(cue) => cue.number < n,
+        Some(cue) => cue.number.get() < n.get(),
         None => true,
     }
 }
