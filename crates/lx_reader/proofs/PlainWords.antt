@@ -15,7 +15,7 @@ use Rattle.lx_spec.specs.declared.Section.TheVariants.{NoRecord, InCue}
 use Rattle.lx_spec.specs.declared.Word.{Word}
 use Rattle.lx_spec.specs.declared.Word.TheVariants as words
 use Rattle.lx_spec.specs.declared.TextFault.{TextFault}
-use Rattle.lx_spec.specs.declared.TextFault.TheVariants.{NoIdent, OutOfRange}
+use Rattle.lx_spec.specs.declared.TextFault.TheVariants.{NoIdent, OutOfRange, LineTooLong}
 use Rattle.lx_spec.specs.Limits.{desk_limits}
 use Rattle.lx_spec.specs.Text.{tokens}
 use Rattle.lx_spec.specs.Numerals.{read_whole, read_cue_no}
@@ -24,19 +24,17 @@ use Rattle.lx_spec.specs.Listing.{Rises, placed, entry_at, has_entry}
 use Rattle.lx_spec.specs.Edited.{new_cue}
 use Rattle.lx_spec.specs.Tracked.{cue_of}
 use Rattle.lx_spec.specs.Refusing.{◌>>=◌}
-use Rattle.lx_spec.specs.Saying.{Entry, Said, Facts, HasUp, HasDown, HasLevels, Patches, NamesCue, Skipped, said_by, said, word_of, if_few, begun, cue_in, with_cue_named}
+use Rattle.lx_spec.specs.Saying.{Entry, Said, Facts, HasUp, HasDown, HasLevels, Patches, Nothing, NamesCue, Skipped, inner_line, said_by, said_in, said, word_of, if_few, begun, cue_in, with_cue_named}
 use Rattle.lx_spec.specs.Saying.{number as number_of}
 use Rattle.lx_spec.specs.Reading.{is_end}
 use Rattle.lx_show.specs.Changed.{changed}
 use Rattle.lx_reader.specs.declared.plain.Plain.{Plain}
-use Rattle.lx_reader.specs.declared.stop.Stop.{Stop}
-use Rattle.lx_reader.specs.declared.stop.Stop.TheVariants as stops
 use Rattle.lx_reader.specs.declared.fault.ShowFault.{ShowFault}
 use Rattle.lx_reader.specs.declared.fault.ShowFault.TheVariants as faults
 use Rattle.lx_reader.specs.Built.{Known, is_built, is_built_line, is_timed, is_zero, is_empty, part_at_once, built_said, if_built}
 use Rattle.lx_reader.specs.Lists.{all_pairs, all_triples}
-use Rattle.lx_reader.specs.PlainState.{section_in, known_of, known_by, known_after, is_open, part_timed, IsTimedSoFar, IsSound, TookUp, TakesSaid, TakesWord, TakesLine, built_by, stop_fault}
-use Rattle.lx_reader.specs.Stops.{IsStopOf, HasPartIn}
+use Rattle.lx_reader.specs.PlainState.{section_in, known_of, known_by, known_after, is_open, part_timed, IsTimedSoFar, IsSound, TookUp, TakesSaid, TakesWord, TakesLine, built_by}
+use Rattle.lx_reader.specs.Stops.{HasPartIn}
 use Rattle.lx_reader.specs.TakenUp.{show_with, with_cue, with_up, with_down, with_levels, with_rows, moves_of, all_placed}
 use Rattle.lx_reader.proofs.Changing.{entry_key, entry-placed, entry-changed}
 use Rattle.lx_reader.proofs.PlainLines.{eq_swap, all_found, all_changed, all_placed_with, each, numbers-changed, numbers-placed, named-above, none-is, closed, sound_closed}
@@ -206,12 +204,6 @@ levels_taken old new i n rest (Ok members) id is some valid sound id' is' up' do
           sound;
     })
 
--- a line that stopped
-pub stopped : {A : Type 0} (old new : Plain) (i : ℕ) (word : Word) (rest : List (List ℕ)) (stop : Stop) (r : Result A TextFault) → IsStopOf stop r → ((fault : TextFault) → r ≡ Err fault → built_by (known_of old) i word rest (said_by desk_limits (known_of old).facts i [] word rest) ≡ Err i)
-    → TakesWord old new i word rest (Err (stop_fault i stop))
-stopped old new i word rest (stops.Fault fault) r is built = (refl, built fault is)
-stopped old new i word rest stops.Memory r is built = tt
-
 pub levels_fault_said : (old : Plain) (i n : ℕ) (rest : List (List ℕ)) (fault : TextFault) → old.identified ≡ true → old.cue ≡ Some n → all_pairs i rest ≡ Err fault → built_by (known_of old) i words.Chan rest (said_by desk_limits (known_of old).facts i [] words.Chan rest) ≡ Err i
 levels_fault_said old i n rest fault id is list =
     (λ j. built_by (known_in old n id is j) i words.Chan rest (said_by desk_limits (known_in old n id is j).facts i [] words.Chan rest))
@@ -349,3 +341,114 @@ cue_taken old new i n rest number whole id is below few sound id' is' up' down' 
         sound = record { part = subst (λ o. IfSome o (λ m. HasPartIn new.show m 1)) (sym is') (has_part new n (Some (new_cue n)) is' found refl times); times = times };
       }) in
     subst (λ v. TakesWord old new i words.Cue v (Ok false)) (sym whole) taken
+
+pub none_left : {A : Type 0} (xs : List A) → is_empty xs ≡ true → xs ≡ []
+none_left [] h = refl
+none_left (x ∷ xs) h = cc
+
+suc_not : (n : ℕ) → (suc n == 0) ≡ false
+suc_not n = grind (arith, nat_tests)
+
+pub empty_is : {A : Type 0} (xs : List A) → is_empty xs ≡ (length xs == 0)
+empty_is [] = refl
+empty_is (x ∷ xs) = sym (suc_not (length xs))
+
+-- What the reader makes of a line.
+line_built : (known : Known) (i : ℕ) (first : List ℕ) (rest : List (List ℕ)) (word : Word) (r : Result Entry TextFault) → word_of first ≡ word
+    → if_built known i (first ∷ rest) (r >>= (λ entry. Ok (record { section = known.facts.section; part = known.facts.part; entry = entry }))) ≡ built_by known i word rest r
+line_built known i first rest word (Err fault) is = refl
+line_built known i first rest word (Ok entry) is = ap (λ w. cond (is_built known w rest entry) (Ok (record { section = known.facts.section; part = known.facts.part; entry = entry })) (Err i)) is
+
+short_line : (line : List ℕ) → length line ≤ LINE_BYTES → nat_lt LINE_BYTES (length line) ≡ false
+short_line line h = lt_false LINE_BYTES (length line) h
+
+pub line_said : (known : Known) (i : ℕ) (line first : List ℕ) (rest : List (List ℕ)) (word : Word) → tokens line ≡ first ∷ rest → word_of first ≡ word → length line ≤ LINE_BYTES
+    → built_said known i line ≡ built_by known i word rest (said_by desk_limits known.facts i line word rest)
+line_said known i line first rest word cut is short =
+    (λ j. if_built known i (cut j) (cond (short_line line short j) (Err (LineTooLong i)) (said_in desk_limits known.facts i line (cut j)) >>= (λ entry. Ok (record { section = known.facts.section; part = known.facts.part; entry = entry }))))
+    ∙ (λ j. if_built known i (first ∷ rest) (said_by desk_limits known.facts i line (is j) rest >>= (λ entry. Ok (record { section = known.facts.section; part = known.facts.part; entry = entry }))))
+    ∙ line_built known i first rest word (said_by desk_limits known.facts i line word rest) is
+
+pub line_taken : (old new : Plain) (i : ℕ) (line first : List ℕ) (rest : List (List ℕ)) (word : Word) (result : Result Bool ShowFault) → tokens line ≡ first ∷ rest → word_of first ≡ word → length line ≤ LINE_BYTES
+    → said_by desk_limits (known_of old).facts i line word rest ≡ said_by desk_limits (known_of old).facts i [] word rest → TakesWord old new i word rest result
+    → TakesLine old new i (tokens line) (built_said (known_of old) i line) result
+line_taken old new i line first rest word result cut is short alike taken =
+    let after : known_after (known_of old) (tokens line) ≡ known_by (known_of old) word rest = ap (known_after (known_of old)) cut ∙ ap (λ w. known_by (known_of old) w rest) is in
+    let says : built_said (known_of old) i line ≡ built_by (known_of old) i word rest (said_by desk_limits (known_of old).facts i [] word rest) = line_said (known_of old) i line first rest word cut is short ∙ ap (built_by (known_of old) i word rest) alike in
+    subst (λ k. TakesSaid old new k i result (built_said (known_of old) i line)) (sym after) (subst (λ v. TakesSaid old new (known_by (known_of old) word rest) i result v) (sym says) taken)
+
+up_inner : (o : Option ℕ) (i : ℕ) (line : List ℕ) (rest : List (List ℕ)) → inner_line desk_limits (section_in o) i line words.Up rest ≡ inner_line desk_limits (section_in o) i [] words.Up rest
+up_inner None i line rest = refl
+up_inner (Some n) i line rest = refl
+
+pub up_alike : (o : Option ℕ) (known : Facts) (i : ℕ) (line : List ℕ) (rest : List (List ℕ)) → said_by desk_limits (record known { section = section_in o }) i line words.Up rest ≡ said_by desk_limits (record known { section = section_in o }) i [] words.Up rest
+up_alike o known i line rest = ap (λ r. cond known.identified r (Err (NoIdent i))) (up_inner o i line rest)
+
+down_inner : (o : Option ℕ) (i : ℕ) (line : List ℕ) (rest : List (List ℕ)) → inner_line desk_limits (section_in o) i line words.Down rest ≡ inner_line desk_limits (section_in o) i [] words.Down rest
+down_inner None i line rest = refl
+down_inner (Some n) i line rest = refl
+
+pub down_alike : (o : Option ℕ) (known : Facts) (i : ℕ) (line : List ℕ) (rest : List (List ℕ)) → said_by desk_limits (record known { section = section_in o }) i line words.Down rest ≡ said_by desk_limits (record known { section = section_in o }) i [] words.Down rest
+down_alike o known i line rest = ap (λ r. cond known.identified r (Err (NoIdent i))) (down_inner o i line rest)
+
+chan_inner : (o : Option ℕ) (i : ℕ) (line : List ℕ) (rest : List (List ℕ)) → inner_line desk_limits (section_in o) i line words.Chan rest ≡ inner_line desk_limits (section_in o) i [] words.Chan rest
+chan_inner None i line rest = refl
+chan_inner (Some n) i line rest = refl
+
+pub chan_alike : (o : Option ℕ) (known : Facts) (i : ℕ) (line : List ℕ) (rest : List (List ℕ)) → said_by desk_limits (record known { section = section_in o }) i line words.Chan rest ≡ said_by desk_limits (record known { section = section_in o }) i [] words.Chan rest
+chan_alike o known i line rest = ap (λ r. cond known.identified r (Err (NoIdent i))) (chan_inner o i line rest)
+
+-- a blank line
+pub blank_taken : (old : Plain) (i : ℕ) (line : List ℕ) → tokens line ≡ [] → length line ≤ LINE_BYTES → IsSound old → TakesLine old old i (tokens line) (built_said (known_of old) i line) (Ok false)
+blank_taken old i line none short sound =
+    let K : Known = known_of old in
+    let s : Said = record { section = K.facts.section; part = K.facts.part; entry = Nothing } in
+    let says : built_said K i line ≡ Ok s =
+      (λ j. if_built K i (none j) (cond (short_line line short j) (Err (LineTooLong i)) (said_in desk_limits K.facts i line (none j)) >>= (λ entry. Ok (record { section = K.facts.section; part = K.facts.part; entry = entry })))) in
+    let after : known_after K (tokens line) ≡ K = ap (known_after K) none in
+    subst (λ k. IsOkAnd (built_said K i line) (λ z. (is_end z.entry ≡ false) × TookUp old old k z)) (sym after)
+    (subst (λ r. IsOkAnd r (λ z. (is_end z.entry ≡ false) × TookUp old old K z)) (sym says) (refl, record { known = refl; show = refl; sound = sound }))
+
+pub rows_shown : (r : Result (List PatchRow) TextFault) (old mid new : Show) → new ≡ mid → IsOkAnd r (λ rows. mid ≡ with_rows rows old) → IsOkAnd r (λ rows. new ≡ with_rows rows old)
+rows_shown (Ok rows) old mid new same is = same ∙ is
+rows_shown (Err fault) old mid new same is = absurd is
+
+-- a word that no line of a plain show begins with
+abbrev pub is_plain : Word → Bool
+is_plain words.Ident = true
+is_plain words.Patch = true
+is_plain words.Cue = true
+is_plain words.Up = true
+is_plain words.Down = true
+is_plain words.Chan = true
+is_plain words.EndData = true
+is_plain other = false
+
+other_word : (known : Known) (word : Word) (rest : List (List ℕ)) (entry : Entry) → is_plain word ≡ false → is_built known word rest entry ≡ false
+other_word known word rest entry = elim word as (λ w. is_plain w ≡ false → is_built known w rest entry ≡ false) [
+  | words.Ident ↦ λ h. cc
+  | words.Patch ↦ λ h. cc
+  | words.Cue ↦ λ h. cc
+  | words.Up ↦ λ h. cc
+  | words.Down ↦ λ h. cc
+  | words.Chan ↦ λ h. cc
+  | words.EndData ↦ λ h. cc
+  | _ ↦ λ h. refl
+]
+
+pub line_refused : (old new : Plain) (i : ℕ) (line first : List ℕ) (rest : List (List ℕ)) (word : Word) → tokens line ≡ first ∷ rest → word_of first ≡ word → is_plain word ≡ false → length line ≤ LINE_BYTES
+    → TakesLine old new i (tokens line) (built_said (known_of old) i line) (Err (faults.NotBuilt i))
+line_refused old new i line first rest word cut is other short =
+    (refl, line_said (known_of old) i line first rest word cut is short ∙ not_built (known_of old) i word rest (said_by desk_limits (known_of old).facts i line word rest) (λ entry. other_word (known_of old) word rest entry other))
+
+pub not_plain : (word : Word) → (word ≡ words.Ident → ⊥) → (word ≡ words.Patch → ⊥) → (word ≡ words.Cue → ⊥) → (word ≡ words.Up → ⊥) → (word ≡ words.Down → ⊥) → (word ≡ words.Chan → ⊥) → (word ≡ words.EndData → ⊥) → is_plain word ≡ false
+not_plain word a b c d e f g = elim word as (λ w. word ≡ w → is_plain w ≡ false) [
+  | words.Ident ↦ λ h. absurd (a h)
+  | words.Patch ↦ λ h. absurd (b h)
+  | words.Cue ↦ λ h. absurd (c h)
+  | words.Up ↦ λ h. absurd (d h)
+  | words.Down ↦ λ h. absurd (e h)
+  | words.Chan ↦ λ h. absurd (f h)
+  | words.EndData ↦ λ h. absurd (g h)
+  | _ ↦ λ h. refl
+] refl

@@ -14,8 +14,6 @@ use Rattle.lx_spec.specs.Saying.{Entry, Said, Facts, section_by, cue_in, part_na
 use Rattle.lx_spec.specs.Reading.{is_end}
 use Rattle.lx_spec.specs.Refusing.{◌>>=◌}
 use Rattle.lx_reader.specs.declared.plain.Plain.{Plain}
-use Rattle.lx_reader.specs.declared.stop.Stop.{Stop}
-use Rattle.lx_reader.specs.declared.stop.Stop.TheVariants as stops
 use Rattle.lx_reader.specs.declared.fault.ShowFault.{ShowFault}
 use Rattle.lx_reader.specs.declared.fault.ShowFault.TheVariants as faults
 use Rattle.lx_reader.specs.Built.{Known, is_built, is_ident, is_up, is_down, is_timed, part_at_once}
@@ -90,11 +88,6 @@ TakesSaid old new next i (Err other) said = ⊥
 -- the reader took up a line by its first word and the tokens after it
 abbrev pub TakesWord : Plain → Plain → ℕ → Word → List (List ℕ) → Result Bool ShowFault → Type 0
 TakesWord old new i word rest result = TakesSaid old new (known_by (known_of old) word rest) i result (built_by (known_of old) i word rest (said_by desk_limits (known_of old).facts i [] word rest))
-
--- the fault of a line that ends the reading
-abbrev pub stop_fault : ℕ → Stop → ShowFault
-stop_fault i (stops.Fault fault) = faults.NotBuilt i
-stop_fault i stops.Memory = faults.Memory
 
 -- what is known after a line of these tokens
 abbrev pub known_after : Known → List (List ℕ) → Known

@@ -4,7 +4,6 @@ ghost use Rattle.std.specs.Prelude.{◌≡◌, ◌≤◌, ◌≢◌, ℕ, None, 
 ghost use Rattle.std.specs.List.{list_all};
 ghost use Rattle.lx_spec.specs.Listing.{Rises};
 ghost use Rattle.lx_reader.specs.Built.{is_empty, is_zero};
-ghost use Rattle.lx_reader.specs.PlainState.{stop_fault};
 ghost use Rattle.lx_base.specs.declared.TheConstants.{LINE_BYTES};
 ghost use Rattle.lx_spec.specs.declared.Word.TheVariants as words;
 ghost use Rattle.lx_spec.specs.Text.{tokens};
@@ -35,16 +34,6 @@ pub(crate) struct Plain {
     pub(crate) down: bool,
     /// Each cue before it has both.
     pub(crate) earlier: bool,
-}
-
-/// The fault of a line that ends the reading.
-fn fault_of(i: u32, stop: Stop) -> ShowFault
-    ensures { result ≡ stop_fault i stop }
-{
-    match stop {
-        Stop::Fault(_) => ShowFault::NotBuilt(i),
-        Stop::Memory => ShowFault::Memory,
-    }
 }
 
 impl Plain {
@@ -132,7 +121,8 @@ impl Plain {
         }
         match put_rows(&mut self.show, i, tokens) {
             Ok(()) => {}
-            Err(stop) => return Err(fault_of(i, stop)),
+            Err(Stop::Fault(_)) => return Err(ShowFault::NotBuilt(i)),
+            Err(Stop::Memory) => return Err(ShowFault::Memory),
         }
         self.close();
         Ok(false)
@@ -224,7 +214,8 @@ impl Plain {
         let _ = self.show.channels();
         match put_levels(&mut self.show, n, PartNo::BASE, i, tokens) {
             Ok(()) => Ok(false),
-            Err(stop) => Err(fault_of(i, stop)),
+            Err(Stop::Fault(_)) => Err(ShowFault::NotBuilt(i)),
+            Err(Stop::Memory) => Err(ShowFault::Memory),
         }
     }
 
