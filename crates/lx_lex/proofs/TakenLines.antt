@@ -13,8 +13,8 @@ use Rattle.lx_lex.proofs.FirstLines.{cut_lines-feed, cut_lines-last, first_lines
 
 -- no line was taken yet
 pub no_line : (a : Option (List ℕ)) (i : ℕ) → i ≤ INPUT_BYTES → TookLines a a i i []
-no_line None i h = record { bytes = []; took = tt; count = omega arith; within = h; front = tt; lines = tt }
-no_line (Some xs) i h = record { bytes = []; took = refl; count = omega arith; within = h; front = sym (first_lines-none xs); lines = refl }
+no_line None i h = record { bytes = []; took = tt; count = omega arith; some = omega arith; within = h; front = tt; lines = tt }
+no_line (Some xs) i h = record { bytes = []; took = refl; count = omega arith; some = omega arith; within = h; front = sym (first_lines-none xs); lines = refl }
 
 -- first these lines, and then those
 pub then_lines : (a b c : Option (List ℕ)) (i j k : ℕ) (raws raws' : List (List ℕ))
@@ -23,6 +23,7 @@ then_lines None b c i j k raws raws' p q = record {
   bytes = p.bytes ++ q.bytes;
   took = tt;
   count = omega (arith, p.count, q.count, length-append p.bytes q.bytes);
+  some = omega (arith, p.some, q.some, length-append raws raws');
   within = q.within;
   front = tt;
   lines = tt;
@@ -33,6 +34,7 @@ then_lines (Some x) (Some y) (Some z) i j k raws raws' p q = record {
   bytes = p.bytes ++ q.bytes;
   took = Consumes-trans (Some x) (Some y) (Some z) p.bytes q.bytes p.took q.took;
   count = omega (arith, p.count, q.count, length-append p.bytes q.bytes);
+  some = omega (arith, p.some, q.some, length-append raws raws');
   within = q.within;
   front =
       let mine : p.bytes ≡ first_lines (length raws) (p.bytes ++ y) = p.front ∙ ap (first_lines (length raws)) p.took in
@@ -63,12 +65,19 @@ first_line xs ys (b ∷ raw) false h e ended = elim ended [
       }
 ]
 
+-- a line has a byte
+one_byte : (b : Option (List ℕ)) (raw : List ℕ) (fed : Bool) → (fed ≡ true) ⊎ (IsAtEnd b × (0 < length raw)) → 1 ≤ length raw + length (feed_of fed)
+one_byte b raw true ended = omega arith
+one_byte b raw false (inl odd) = cc
+one_byte b raw false (inr end) = omega (arith, end.1)
+
 -- one line that was handed out
 pub one_line : (a b : Option (List ℕ)) (i j : ℕ) (raw : List ℕ) → TookLine a b i j raw → TookLines a b i j (raw ∷ [])
 one_line None b i j raw t = record {
   bytes = raw ++ feed_of t.fed;
   took = tt;
   count = omega (arith, t.took.count, length-append raw (feed_of t.fed));
+  some = omega (arith, t.took.count, one_byte b raw t.fed t.ended);
   within = t.within;
   front = tt;
   lines = tt;
@@ -80,6 +89,7 @@ one_line (Some x) (Some y) i j raw t =
       bytes = raw ++ feed_of t.fed;
       took = t.took.bytes;
       count = omega (arith, t.took.count, length-append raw (feed_of t.fed));
+      some = omega (arith, t.took.count, one_byte (Some y) raw t.fed t.ended);
       within = t.within;
       front = first.front;
       lines = first.lines;

@@ -1,4 +1,5 @@
-//! Texts of numbers, each written to a sink as one piece.
+//! Texts of numbers, each handed to a sink as one piece. The answer is the sink's own fault, and then a front of the
+//! text was appended.
 ghost use Rattle.std.specs.Prelude.{◌≡◌, ◌<◌, ◌≤◌, ◌++◌, ◌∷◌, decimal, slice_range};
 ghost use Rattle.lx_io.specs.Puts.{Puts};
 ghost use Rattle.lx_spec.specs.Numerals.{decimal_text, time_text, hex_digit, level_text};
@@ -29,22 +30,24 @@ pub fn put_count<K: Sink>(value: u64, sink: &mut K) -> Result<(), SinkFault>
     put_all(sink, buffer.format(value).as_bytes())
 }
 
-/// Appends hundredths, as of seconds: the whole part and, where they aren't 0, a point and the decimals without a
-/// trailing zero. 250 is `2.5`.
+/// Appends a number in hundredths, as a time in hundredths of a second: the whole part and, where they aren't 0, a
+/// point and the decimals without a trailing zero. 250 is `2.5`.
 pub fn put_hundredths<K: Sink>(value: u32, sink: &mut K) -> Result<(), SinkFault>
     ensures { Puts K.holds K.faults K.wants sink.old sink.new result (time_text value) }
 {
     put_decimal(value, 100, sink)
 }
 
-/// Appends a cue number, in whole cues and decimals as above.
+/// Appends a cue number: whole cues and, where they aren't 0, a point and the decimals without a trailing zero. How
+/// many decimals there can be follows from `CUE_UNIT`.
 pub fn put_cue_no<K: Sink>(number: CueNo, sink: &mut K) -> Result<(), SinkFault>
     ensures { Puts K.holds K.faults K.wants sink.old sink.new result (decimal_text CUE_UNIT number) }
 {
     put_decimal(number.get(), CUE_UNIT, sink)
 }
 
-/// Appends a level: `H` and two hexadecimal digits, letters in upper case. 10 is `H0A`.
+/// Appends a level, 0 to 255: `H` and two hexadecimal digits, letters in upper case. 10 is `H0A`. This is the form of
+/// the ASCII text representation 3.0.
 pub fn put_level<K: Sink>(value: Level, sink: &mut K) -> Result<(), SinkFault>
     ensures { Puts K.holds K.faults K.wants sink.old sink.new result (level_text value) }
 {
