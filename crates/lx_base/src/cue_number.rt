@@ -23,6 +23,9 @@ impl Model for CueNo {
 }
 
 impl CueNo {
+    /// No cue: the position before the first one.
+    pub const BEFORE_FIRST: CueNo = CueNo { value: 0 };
+
     /// The cue number of so many hundredths. `None` exactly where they are more than `CUE_MAX`.
     pub fn new(value: u32) -> Option<Self>
         ensures range { IsSome result ↔ (value ≤ CUE_MAX) }

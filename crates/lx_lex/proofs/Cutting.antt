@@ -41,12 +41,12 @@ module _ (p : ℕ → Bool) where
     | inr odd ↦ rw (after_all-no b l odd, take_while-no b l odd) (grind (arith, common_steps))
   ]
 
-  -- where the first doesn't pass, all are left
-  pub after_all-none : (l : List ℕ) → is_filled (take_while p l) ≡ false → after_all p l ≡ l
-  after_all-none [] f = refl
-  after_all-none (b ∷ l) f = elim (cases_Bool (p b)) [
-    | inl so ↦ let e = take_while-yes b l so in grind (arith, common_steps)
-    | inr odd ↦ after_all-no b l odd
+  -- the first that is left doesn't pass
+  pub after_all-first : (m : List ℕ) (b : ℕ) (l : List ℕ) → b ∷ l ≡ after_all p m → p b ≡ false
+  after_all-first [] b l e = cc
+  after_all-first (d ∷ m) b l e = elim (cases_Bool (p d)) [
+    | inl so ↦ after_all-first m b l (e ∙ after_all-yes d m so)
+    | inr odd ↦ let h : b ∷ l ≡ d ∷ m = e ∙ after_all-no d m odd in let k : b ≡ d = cc in rw k odd
   ]
 
 pub is_filled-length : (t : List ℕ) (r : Bool) → r ≡ (length t == 0) → is_filled t ≡ not r
@@ -78,7 +78,7 @@ module _ (sep mark : ℕ → Bool) where
   pub tokens_by-comment : (b : ℕ) (l : List ℕ) → mark b ≡ true → tokens_by (b ∷ l) ≡ []
   tokens_by-comment b l e = ap (λ t. filter is_filled (slice_split sep t)) (before_first-yes mark b l e)
 
-  -- a comment goes on to the end, and nothing has no part
+  -- the part at the front of a line, and the further parts, whose tokens are those of what follows it
   record FirstPart (line : List ℕ) : Type 0 where
     others : List (List ℕ)
     cut : slice_split sep (before_first mark line) ≡ take_while goes line ∷ others
@@ -125,39 +125,27 @@ module _ (sep mark : ℕ → Bool) where
       ]
     ]
 
-    -- a token at the front
-    tokens_by-token : (l : List ℕ) → is_filled (take_while goes l) ≡ true → tokens_by l ≡ take_while goes l ∷ tokens_by (after_all goes l)
-    tokens_by-token l f = let h = part l in rw (h.cut, f, h.rest) refl
-
-    -- no token after the separators
-    tokens_by-end : (m : List ℕ) → is_filled (take_while goes (after_all sep m)) ≡ false → tokens_by (after_all sep m) ≡ []
-    tokens_by-end [] f = refl
-    tokens_by-end (b ∷ m) f = elim (cases_Bool (sep b)) [
-      | inl so ↦ rw (after_all-yes sep b m so) (tokens_by-end m (rw (after_all-yes sep b m so) at f))
-      | inr odd ↦ rw (after_all-no sep b m odd) (elim (cases_Bool (mark b)) [
-        | inl so ↦ tokens_by-comment b m so
-        | inr other ↦ let e = take_while-yes goes b (m) (goes-yes b odd other) in let g = after_all-no sep b m odd in grind (arith, common_steps)
-      ])
-    ]
-
-    -- what is read at the front of a line m: l follows its separators, and r follows the token
-    module _ (m l r : List ℕ) (skipped : l ≡ after_all sep m) (read : r ≡ after_all goes l) where
-      front-is : take (length l - length r) l ≡ take_while goes l
-      front-is = rw read (take-after_all goes l)
-
+    -- what is read at the front of a line m: l follows its separators
+    module _ (m l : List ℕ) (skipped : l ≡ after_all sep m) where
       begins : tokens_by m ≡ tokens_by l
       begins = tokens_by-skip apart m ∙ ap tokens_by (sym skipped)
 
-      pub next-none : true ≡ (length (take (length l - length r) l) == 0) → (tokens_by m ≡ []) × (tokens_by r ≡ [])
-      next-none e =
-          let f : is_filled (take_while goes l) ≡ false = sym (ap is_filled front-is) ∙ is_filled-length _ true e in
-          let k : tokens_by l ≡ [] = rw skipped (tokens_by-end m (rw skipped at f)) in
-          (begins ∙ k, ap tokens_by (read ∙ after_all-none goes l f) ∙ k)
+      pub next-nothing : l ≡ [] → tokens_by m ≡ []
+      next-nothing e = begins ∙ ap tokens_by e
 
-      pub next-some : false ≡ (length (take (length l - length r) l) == 0) → tokens_by m ≡ take (length l - length r) l ∷ tokens_by r
-      next-some e =
-          let f : is_filled (take_while goes l) ≡ true = sym (ap is_filled front-is) ∙ is_filled-length _ false e in
-          begins ∙ tokens_by-token l f ∙ (rw (front-is, read) refl)
+      pub next-comment : (b : ℕ) (t : List ℕ) → l ≡ b ∷ t → mark b ≡ true → tokens_by m ≡ []
+      next-comment b t e so = begins ∙ ap tokens_by e ∙ tokens_by-comment b t so
+
+      -- r follows the token that begins with b
+      pub next-token : (b : ℕ) (t r : List ℕ) → l ≡ b ∷ t → mark b ≡ false → r ≡ after_all goes t → (tokens_by m ≡ take (length l - length r) l ∷ tokens_by r) × (r ≡ after_all goes l)
+      next-token b t r e odd read =
+          let s : sep b ≡ false = after_all-first sep m b t (sym e ∙ skipped) in
+          let g : goes b ≡ true = goes-yes b s odd in
+          let after : r ≡ after_all goes l = read ∙ sym (after_all-yes goes b t g) ∙ ap (after_all goes) (sym e) in
+          let front : take (length l - length r) l ≡ take_while goes l = rw after (take-after_all goes l) in
+          let filled : is_filled (take_while goes l) ≡ true = rw (e, take_while-yes goes b t g) refl in
+          let h = part l in
+          (rw (front, after) (begins ∙ (rw (h.cut, filled, h.rest) refl)), after)
 
   length-onto_first : (b : ℕ) (parts : List (List ℕ)) → length (filter is_filled (onto_first b parts)) ≤ suc (length (filter is_filled parts))
   length-onto_first b [] = omega arith

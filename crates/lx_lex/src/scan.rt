@@ -8,13 +8,14 @@ pub(crate) fn first_token(line: &[u8]) -> Option<(&[u8], &[u8])>
     ensures { MatchOption result (tokens line.now ≡ []) (λ p. (tokens line.now ≡ p.0.now ∷ tokens p.1.now) × (p.1.now ≡ after_token line.now)) }
 {
     let start = past_separators(line);
-    let rest = past_token(start);
-    let token = &start[..start.len() - rest.len()];
-    if token.is_empty() {
-        None
-    } else {
-        Some((token, rest))
+    let [b, tail @ ..] = start else {
+        return None;
+    };
+    if *b == b'!' {
+        return None;
     }
+    let rest = past_token(tail);
+    Some((&start[..start.len() - rest.len()], rest))
 }
 
 /// Space, tab and `, ; / < = > @`.
