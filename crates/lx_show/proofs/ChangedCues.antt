@@ -1,14 +1,13 @@
 -- Cues, groups and submasters that stay valid where they are changed.
-use Rattle.std.proofs.Common.{◌≡◌, ℕ, ◌≤◌, ◌<◌, Bool, true, false, cond, List, [], ◌∷◌, ◌++◌, Some, None, get_or, refl, ◌∙◌, sym, ap, subst, inl, inr, arith}
-use Rattle.std.specs.Prelude.{Result, Ok, Err, OnOk, OnErr, Option, IfSome, IsTrue, find, is_some, ◌==◌}
-use Rattle.std.specs.Option.{IsSomeAnd}
+use Rattle.std.proofs.Common.{◌≡◌, ℕ, Bool, List, sym, subst}
+use Rattle.std.specs.Prelude.{Result, Ok, Err, OnOk, OnErr, Option, IfSome}
 use Rattle.std.specs.List.{AllByRecursion}
-use Rattle.lx_base.specs.declared.TheConstants.{CHANNELS, CUE_MAX}
+use Rattle.lx_base.specs.declared.TheConstants.{CUE_MAX}
 use Rattle.lx_spec.specs.declared.Move.{Move}
 use Rattle.lx_spec.specs.declared.Member.{Member}
 use Rattle.lx_spec.specs.declared.Part.{Part}
-use Rattle.lx_spec.specs.Listing.{Rises, entry_at, has_entry, placed, StandsAt}
-use Rattle.lx_spec.specs.Show.{Cue, Group, Sub, Show, Valid, ValidCue, ValidGroup, ValidSub, ValidPart, ValidMove, ValidMember, ValidMembers, InRange, IsTime, IsLabel, IsLevel}
+use Rattle.lx_spec.specs.Listing.{Rises, placed}
+use Rattle.lx_spec.specs.Show.{Cue, Group, Sub, ValidCue, ValidGroup, ValidSub, ValidPart, ValidMove, ValidMember, ValidMembers, InRange, IsTime, IsLabel}
 use Rattle.lx_show.proofs.RisingLists.{Rises-placed, each}
 use Rattle.lx_show.proofs.Placed.{has_placed}
 use Rattle.lx_show.proofs.ValidShows.{all_placed}

@@ -1,10 +1,10 @@
 -- What is found first, in a filtered list and in one that is read from its end.
-use Rattle.std.proofs.Common.{◌≡◌, ℕ, ◌+◌, ◌-◌, ◌<◌, Bool, true, false, cond, List, [], ◌∷◌, ◌++◌, length, get_or, Some, None, refl, ◌∙◌, sym, ap, arith}
-use Rattle.std.specs.Prelude.{Option, filter, find, reverse, slice_get, ◌&&◌}
+use Rattle.std.proofs.Common.{◌≡◌, ℕ, ◌-◌, ◌<◌, Bool, true, false, cond, List, [], ◌∷◌, ◌++◌, length, get_or, Some, None, refl, ◌∙◌, sym, ap, arith}
+use Rattle.std.specs.Prelude.{filter, find, reverse, slice_get, ◌&&◌}
 use mathlib.Core.List.{reverse-cons}
 use Rattle.std.proofs.lemmas.List.{length-reverse, get_or-reverse, append-nil}
 use Rattle.std.proofs.lemmas.List.Elements.{filter-append}
-use Rattle.std.proofs.lemmas.Option.{slice_get-get_or, slice_get_past}
+use Rattle.std.proofs.lemmas.Option.{slice_get-get_or}
 
 sub-zero : (n : ℕ) → n - 0 ≡ n
 sub-zero n = omega arith

@@ -1,6 +1,6 @@
 -- Shows that stay stored where an entry is placed, taken out or changed in its place.
-use Rattle.std.proofs.Common.{◌≡◌, ℕ, ◌≤◌, List, ◌∷◌, length, set, get_or, refl, arith, ap, sym, subst, ◌∙◌}
-use Rattle.std.specs.Prelude.{not, ◌==◌}
+use Rattle.std.proofs.Common.{◌≡◌, ℕ, ◌<◌, ◌≤◌, inl, inr, List, length, set, get_or, refl, arith, ap, sym, subst, ◌∙◌}
+use Rattle.std.specs.Prelude.{Bool, true, false, IsTrue, not, nat_lt, ◌||◌, ◌==◌, ◌⊎◌}
 use Rattle.std.specs.List.{AllByRecursion}
 use Rattle.std.proofs.Math.ListN.{length-set}
 use Rattle.lx_base.specs.declared.TheConstants.{CUES, GROUPS, SUBS, DIMMERS}
@@ -8,11 +8,12 @@ use Rattle.lx_spec.specs.declared.Move.{Move}
 use Rattle.lx_spec.specs.declared.Member.{Member}
 use Rattle.lx_spec.specs.declared.Part.{Part}
 use Rattle.lx_spec.specs.declared.PatchRow.{PatchRow}
-use Rattle.lx_spec.specs.Listing.{Rises, entry_at, placed, taken_out, StandsAt}
+use Rattle.lx_spec.specs.Listing.{Rises, has_entry, placed, taken_out, StandsAt}
 use Rattle.lx_spec.specs.Show.{Cue, Group, Sub, Show, Valid, ValidCue, ValidGroup, ValidSub, ValidPatchRow}
 use Rattle.lx_show.specs.Stored.{IsStored}
 use Rattle.lx_show.specs.Changed.{changed}
-use Rattle.lx_show.proofs.RisingLists.{kept_by, shorter, each, few_in_range, Rises-placed, replaced, rises_replaced, changed_there}
+use Rattle.lx_show.proofs.RisingLists.{kept_by, shorter, each, few_in_range, Rises-placed, replaced, rises_replaced, changed_there, lt_from}
+use Rattle.lx_show.proofs.Placed.{length-placed, length-placed_there}
 use Rattle.lx_show.proofs.ValidShows.{all_placed, with_cues, with_groups, with_subs, with_patch}
 
 stored_cues : (show : Show) (new : List Cue) (a b c d e : ℕ) → IsStored show a b c d → e ≡ a → AllByRecursion (ValidCue show.channels) new → Rises (λ cue. cue.number) new → length new ≤ CUES → IsStored (record show { cues = new }) e b c d
@@ -51,11 +52,30 @@ stored_patch show new a b c d e stored same all rise = record {
   patch_room = omega (arith, stored.patch_room);
 }
 
+either : (a b : Bool) → IsTrue (a || b) → IsTrue a ⊎ IsTrue b
+either true b holds = inl refl
+either false b holds = inr holds
+
+less_from : (a b : ℕ) → IsTrue (nat_lt a b) → a < b
+less_from a b holds = lt_from a b holds
+
+-- a cue that is there, or for which there is room, can be placed
+few_placed : (show seen : Show) (cue : Cue) → Valid show → show ≡ seen → IsTrue (has_entry (λ x. x.number) cue.number seen.cues || nat_lt (length seen.cues) CUES) → length (placed (λ x. x.number) cue show.cues) ≤ CUES
+few_placed show seen cue valid view room =
+    let here : IsTrue (has_entry (λ x. x.number) cue.number show.cues || nat_lt (length show.cues) CUES) = subst (λ (s : Show). IsTrue (has_entry (λ x. x.number) cue.number s.cues || nat_lt (length s.cues) CUES)) (sym view) room in
+    elim (either (has_entry (λ x. x.number) cue.number show.cues) (nat_lt (length show.cues) CUES) here) [
+      | inl there ↦ omega (arith, length-placed_there (λ x. x.number) cue show.cues there, valid.few_cues)
+      | inr less ↦ omega (arith, length-placed (λ x. x.number) cue show.cues, less_from (length show.cues) CUES less)
+    ]
+
+pub room_for_cue : (show seen : Show) (cue : Cue) (a b c d : ℕ) → IsStored show a b c d → show ≡ seen → IsTrue (has_entry (λ x. x.number) cue.number seen.cues || nat_lt (length seen.cues) CUES) → length (placed (λ x. x.number) cue show.cues) ≤ a
+room_for_cue show seen cue a b c d stored view room = omega (arith, few_placed show seen cue stored.valid view room, stored.cue_room)
+
 -- Placed. The show as it is kept is the one that callers see.
-pub stored_put_cue : (show seen : Show) (cue : Cue) (new : List Cue) (a b c d e : ℕ) → IsStored show a b c d → show ≡ seen → e ≡ a → ValidCue seen.channels cue → length (placed (λ x. x.number) cue seen.cues) ≤ CUES → new ≡ placed (λ x. x.number) cue show.cues → Rises (λ x. x.number) new → IsStored (record show { cues = new }) e b c d
-stored_put_cue show seen cue new a b c d e stored view same valid few placed_is rises =
+pub stored_put_cue : (show seen : Show) (cue : Cue) (new : List Cue) (a b c d e : ℕ) → IsStored show a b c d → show ≡ seen → e ≡ a → ValidCue seen.channels cue → IsTrue (has_entry (λ x. x.number) cue.number seen.cues || nat_lt (length seen.cues) CUES) → new ≡ placed (λ x. x.number) cue show.cues → Rises (λ x. x.number) new → IsStored (record show { cues = new }) e b c d
+stored_put_cue show seen cue new a b c d e stored view same valid room placed_is rises =
     let here : ValidCue show.channels cue = subst (λ (s : Show). ValidCue s.channels cue) (sym view) valid in
-    let less : length new ≤ CUES = subst (λ (xs : List Cue). length xs ≤ CUES) (sym (placed_is ∙ ap (λ (s : Show). placed (λ x. x.number) cue s.cues) view)) few in
+    let less : length new ≤ CUES = omega (arith, ap length placed_is, few_placed show seen cue stored.valid view room) in
     stored_cues show new a b c d e stored same (subst (AllByRecursion (ValidCue show.channels)) (sym placed_is) (all_placed _ _ cue show.cues here stored.valid.cues)) rises less
 
 pub stored_put_group : (show seen : Show) (group : Group) (new : List Group) (a b c d e : ℕ) → IsStored show a b c d → show ≡ seen → e ≡ b → ValidGroup seen.channels group → new ≡ placed (λ x. x.number) group show.groups → Rises (λ x. x.number) new → IsStored (record show { groups = new }) a e c d

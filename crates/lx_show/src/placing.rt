@@ -1,8 +1,8 @@
 //! Entries placed into a show and taken out: each call changes the entry of that number alone. None takes
 //! memory, since a show has room for all numbers.
 
-ghost use Rattle.std.specs.Prelude.{◌≡◌, ◌≤◌, length};
-ghost use Rattle.lx_spec.specs.Listing.{entry_at, placed, taken_out};
+ghost use Rattle.std.specs.Prelude.{◌≡◌, ◌≤◌, ◌||◌, IsTrue, length, nat_lt};
+ghost use Rattle.lx_spec.specs.Listing.{entry_at, has_entry, placed, taken_out};
 ghost use Rattle.lx_spec.specs.Show.{ValidCue, ValidGroup, ValidSub};
 ghost use Rattle.lx_spec.specs.Tracked.{cue_of};
 
@@ -15,11 +15,18 @@ use lx_base::{CUES, CueNo, Dimmer};
 use lx_spec::PatchRow;
 
 impl Show {
+    /// A cue of the number may be placed: it is there, or there are fewer than 2,000 cues.
+    pub fn has_room_for(&self, n: CueNo) -> bool
+        ensures { result ≡ (has_entry (λ x. x.number) n self.now.cues || nat_lt (length self.now.cues) CUES) }
+    {
+        self.cues.len() < CUES || self.cue(n).is_some()
+    }
+
     /// Places the cue, in place of the one of its number. Either that is there, or there are fewer than
     /// 2,000 cues.
     pub fn put_cue(&mut self, cue: Cue)
         requires valid { ValidCue self.old.channels cue }
-        requires few { length (placed (λ x. x.number) cue self.old.cues) ≤ CUES }
+        requires room { IsTrue (has_entry (λ x. x.number) cue.number self.old.cues || nat_lt (length self.old.cues) CUES) }
         ensures { self.new ≡ record self.old { cues = placed (λ x. x.number) cue self.old.cues } }
     {
         rising::put_in_room(&mut self.cues, cue)

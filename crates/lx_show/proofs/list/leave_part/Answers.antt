@@ -1,4 +1,4 @@
-use Rattle.std.proofs.Common.{◌∙◌, ap, sym, set, ◌<◌, length, arith}
+use Rattle.std.proofs.Common.{◌∙◌, ap, sym, set}
 use Rattle.std.proofs.lemmas.List.Edits.{map_over_more}
 use Rattle.lx_spec.specs.declared.Move.{Move}
 use Rattle.lx_spec.specs.Edited.{out_of_part}

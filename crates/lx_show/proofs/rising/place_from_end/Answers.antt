@@ -1,4 +1,4 @@
-use Rattle.std.proofs.Common.{◌<◌, arith, subst}
+use Rattle.std.proofs.Common.{◌<◌, subst}
 use Rattle.lx_show.proofs.RisingLists.{goes_last}
 use Rattle.lx_show.proofs.rising.place_from_end.Goals as goal
 

@@ -1,5 +1,5 @@
-use Rattle.std.proofs.Common.{◌≡◌, ◌∙◌, subst, ap, ℕ, List, length, ◌-◌}
-use Rattle.std.specs.Prelude.{find, reverse, nat_lt, slice_get}
+use Rattle.std.proofs.Common.{◌≡◌, ◌∙◌, subst, ap, ℕ, List}
+use Rattle.std.specs.Prelude.{find, nat_lt, slice_get}
 use Rattle.std.specs.Option.{option_copied}
 use Rattle.std.specs.List.{AllByRecursion}
 use Rattle.lx_spec.specs.Show.{Cue, Show, ValidCue}

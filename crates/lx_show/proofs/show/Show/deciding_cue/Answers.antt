@@ -1,8 +1,6 @@
-use Rattle.std.proofs.Common.{◌≡◌, ◌∙◌, subst, ap, ℕ, List, length, ◌-◌}
-use Rattle.std.specs.Prelude.{find, reverse, nat_lt, slice_get}
-use Rattle.std.specs.Option.{option_copied}
-use Rattle.std.specs.List.{AllByRecursion}
-use Rattle.lx_spec.specs.Show.{Cue, Show, ValidCue}
+use Rattle.std.proofs.Common.{◌∙◌, ap, ℕ, List}
+use Rattle.std.specs.Prelude.{find, reverse}
+use Rattle.lx_spec.specs.Show.{Cue, Show}
 use Rattle.lx_spec.specs.Tracked.{decides}
 use Rattle.std.specs.Prelude.{Bool, nat_le, ◌&&◌}
 use Rattle.lx_show.proofs.Finding.{find_both_last}

@@ -1,5 +1,5 @@
-use Rattle.std.proofs.Common.{◌∙◌, subst, ap, sym}
-use Rattle.std.specs.Prelude.{◌==◌, List, find, nat_lt, length, slice_get}
+use Rattle.std.proofs.Common.{◌∙◌, subst, ap}
+use Rattle.std.specs.Prelude.{◌==◌, List, find}
 use Rattle.std.specs.List.{AllByRecursion}
 use Rattle.lx_spec.specs.Show.{Group, Show, ValidGroup}
 use Rattle.lx_show.proofs.RisingLists.{lent_has}

@@ -1,4 +1,4 @@
-use Rattle.std.proofs.Common.{◌≡◌, ◌≤◌, subst, sym, ap, ◌∙◌, arith}
+use Rattle.std.proofs.Common.{◌≤◌, subst, sym}
 use Rattle.lx_spec.specs.Show.{Show, ValidPatchRow}
 use Rattle.lx_show.proofs.StoredShows.{stored_put_row, room_for_row}
 use Rattle.lx_show.proofs.show.Show.put_patch.Goals as goal

@@ -1,8 +1,8 @@
-use Rattle.std.proofs.Common.{◌≡◌, List, subst, sym, ap, ◌∙◌}
+use Rattle.std.proofs.Common.{◌≡◌, List, subst, sym}
 use Rattle.std.specs.List.{AllByRecursion}
 use Rattle.lx_spec.specs.declared.Move.{Move}
 use Rattle.lx_spec.specs.Listing.{Rises}
-use Rattle.lx_spec.specs.Show.{Cue, Show, ValidCue, ValidMove}
+use Rattle.lx_spec.specs.Show.{Cue, Show, ValidMove}
 use Rattle.lx_show.proofs.ChangedCues.{with_other_moves}
 use Rattle.lx_show.proofs.Standing.{cue_stands, cue_has, cue_some}
 use Rattle.lx_show.proofs.StoredShows.{stored_changed_cue, cue_moves_changed}

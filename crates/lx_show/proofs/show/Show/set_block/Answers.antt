@@ -1,4 +1,4 @@
-use Rattle.std.proofs.Common.{refl, Some}
+use Rattle.std.proofs.Common.{refl}
 use Rattle.lx_spec.specs.Show.{Cue}
 use Rattle.lx_show.proofs.ChangedCues.{with_settings}
 use Rattle.lx_show.proofs.Standing.{cue_stands}
