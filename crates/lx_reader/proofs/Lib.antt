@@ -8,4 +8,5 @@ pub mod Pairs
 pub mod Entering
 pub mod PlainLines
 pub mod PlainWords
+pub mod Turns
 pub mod Lengths

@@ -37,7 +37,7 @@ use Rattle.lx_reader.specs.PlainState.{section_in, known_of, known_by, known_aft
 use Rattle.lx_reader.specs.Stops.{HasPartIn}
 use Rattle.lx_reader.specs.TakenUp.{show_with, with_cue, with_up, with_down, with_levels, with_rows, moves_of, all_placed}
 use Rattle.lx_reader.proofs.Changing.{entry_key, entry-placed, entry-changed}
-use Rattle.lx_reader.proofs.PlainLines.{eq_swap, all_found, all_changed, all_placed_with, each, numbers-changed, numbers-placed, named-above, none-is, closed, sound_closed}
+use Rattle.lx_reader.proofs.PlainLines.{eq_swap, all_found, all_changed, all_placed_with, each, numbers-changed, numbers-placed, named-above, closed, sound_closed}
 
 eq_true : (a b : ℕ) → a ≡ b → (a == b) ≡ true
 eq_true a b h = grind (arith, nat_tests)
@@ -213,10 +213,6 @@ and_false : (a : Bool) → (a && false) ≡ false
 and_false true = refl
 and_false false = refl
 
-or_true : (a : Bool) → (a || true) ≡ true
-or_true true = refl
-or_true false = refl
-
 lt_true : (a b : ℕ) → a < b → nat_lt a b ≡ true
 lt_true a b h = grind (arith, nat_tests)
 
@@ -285,19 +281,26 @@ pub patch_late : (old : Plain) (i : ℕ) (rest : List (List ℕ)) → is_empty o
 patch_late old i rest some = (refl, not_built (known_of old) i words.Patch rest (said_by desk_limits (known_of old).facts i [] words.Patch rest) (λ entry. late_entry (known_of old) rest entry (no_numbers old.show.cues ∙ some)))
 
 -- CUE
-cue_said_by : (known : Known) (i n : ℕ) (number : List ℕ) → known.facts.identified ≡ true → read_cue_no desk_limits number ≡ Ok n → list_all (λ m. nat_lt m n) known.facts.cues ≡ true → nat_lt (length known.facts.cues) CUES ≡ true
+cue_said_by : (known : Known) (i n : ℕ) (number : List ℕ) → known.facts.identified ≡ true → read_cue_no desk_limits number ≡ Ok n → list_all (λ m. nat_lt m n) known.facts.cues ≡ true → (list_any (λ m. m == n) known.facts.cues || nat_lt (length known.facts.cues) CUES) ≡ true
     → built_by known i words.Cue (number ∷ []) (said_by desk_limits known.facts i [] words.Cue (number ∷ [])) ≡ Ok (record { section = known.facts.section; part = known.facts.part; entry = NamesCue n })
-cue_said_by known i n number id is below few =
+cue_said_by known i n number id is below room =
     (λ j. built_by known i words.Cue (number ∷ []) (cond (id j) ((number_of i (is j) >>= (λ m. Ok (NamesCue m))) >>= if_few desk_limits known.facts.cues i) (Err (NoIdent i))))
-    ∙ (λ j. built_by known i words.Cue (number ∷ []) (cond (list_any (λ m. m == n) known.facts.cues || few j) (Ok (NamesCue n)) (Err (OutOfRange i))))
-    ∙ (λ j. built_by known i words.Cue (number ∷ []) (cond (or_true (list_any (λ m. m == n) known.facts.cues) j) (Ok (NamesCue n)) (Err (OutOfRange i))))
+    ∙ (λ j. built_by known i words.Cue (number ∷ []) (cond (room j) (Ok (NamesCue n)) (Err (OutOfRange i))))
     ∙ (λ j. cond (below j) (Ok (record { section = known.facts.section; part = known.facts.part; entry = NamesCue n })) (Err i))
 
-pub cue_full : (old : Plain) (i n : ℕ) (rest : List (List ℕ)) (number : List ℕ) → rest ≡ number ∷ [] → old.identified ≡ true → read_cue_no desk_limits number ≡ Ok n → list_all (λ m. nat_lt m n) (map (λ cue. cue.number) old.show.cues) ≡ true → CUES ≤ length old.show.cues
+any_numbers : (n : ℕ) (cues : List Cue) → list_any (λ m. m == n) (map (λ cue. cue.number) cues) ≡ has_entry (λ cue. cue.number) n cues
+any_numbers n [] = refl
+any_numbers n (cue ∷ cues) = elim (cue.number == n) as (λ b. (b || list_any (λ m. m == n) (map (λ z. z.number) cues)) ≡ is_some (cond b (Some cue) (entry_at (λ z. z.number) n cues))) [ true ↦ refl | false ↦ any_numbers n cues ]
+
+-- there is room for the cue
+room_numbers : (n : ℕ) (cues : List Cue) → (list_any (λ m. m == n) (map (λ cue. cue.number) cues) || nat_lt (length (map (λ cue. cue.number) cues)) CUES) ≡ (has_entry (λ cue. cue.number) n cues || nat_lt (length cues) CUES)
+room_numbers n cues = λ j. any_numbers n cues j || nat_lt (length_numbers cues j) CUES
+
+pub cue_full : (old : Plain) (i n : ℕ) (rest : List (List ℕ)) (number : List ℕ) → rest ≡ number ∷ [] → old.identified ≡ true → read_cue_no desk_limits number ≡ Ok n → (has_entry (λ cue. cue.number) n old.show.cues || nat_lt (length old.show.cues) CUES) ≡ false
     → TakesWord old old i words.Cue rest (Err (faults.NotBuilt i))
-cue_full old i n rest number whole id is below full =
+cue_full old i n rest number whole id is full =
     let cues : List ℕ = map (λ cue. cue.number) old.show.cues in
-    let none : (list_any (λ m. m == n) cues || nat_lt (length cues) CUES) ≡ false = (λ j. none-is n cues below j || nat_lt (length cues) CUES) ∙ lt_false (length cues) CUES (omega (arith, length_numbers old.show.cues, full)) in
+    let none : (list_any (λ m. m == n) cues || nat_lt (length cues) CUES) ≡ false = room_numbers n old.show.cues ∙ full in
     (refl, subst (λ v. built_by (known_of old) i words.Cue v (said_by desk_limits (known_of old).facts i [] words.Cue v) ≡ Err i) (sym whole) (
       (λ j. built_by (known_of old) i words.Cue (number ∷ []) (cond (id j) ((number_of i (is j) >>= (λ m. Ok (NamesCue m))) >>= if_few desk_limits cues i) (Err (NoIdent i))))
       ∙ (λ j. built_by (known_of old) i words.Cue (number ∷ []) (cond (none j) (Ok (NamesCue n)) (Err (OutOfRange i))))))
@@ -314,10 +317,10 @@ known_named old new i n number is id' is' up' down' earlier' numbers =
     (λ j. record { facts = record { identified = id' j; section = section_in (is' j); part = 1; cues = numbers j }; up = up' j; down = down' j; earlier = earlier' j })
     ∙ (λ j. record { facts = record { identified = old.identified; section = begun InCue (sym is j); part = 1; cues = with_cue_named (cue_in (begun InCue (sym is j))) (map (λ cue. cue.number) old.show.cues) }; up = false; down = false; earlier = is_timed (section_in old.cue) old.up old.down && old.earlier })
 
-pub cue_taken : (old new : Plain) (i n : ℕ) (rest : List (List ℕ)) (number : List ℕ) → rest ≡ number ∷ [] → old.identified ≡ true → read_cue_no desk_limits number ≡ Ok n → list_all (λ m. nat_lt m n) (map (λ cue. cue.number) old.show.cues) ≡ true → length old.show.cues < CUES → IsSound old
+pub cue_taken : (old new : Plain) (i n : ℕ) (rest : List (List ℕ)) (number : List ℕ) → rest ≡ number ∷ [] → old.identified ≡ true → read_cue_no desk_limits number ≡ Ok n → list_all (λ m. nat_lt m n) (map (λ cue. cue.number) old.show.cues) ≡ true → (has_entry (λ cue. cue.number) n old.show.cues || nat_lt (length old.show.cues) CUES) ≡ true → IsSound old
     → new.identified ≡ old.identified → new.cue ≡ Some n → new.up ≡ false → new.down ≡ false → new.earlier ≡ (is_timed (section_in old.cue) old.up old.down && old.earlier) → new.show ≡ record old.show { cues = with_cue n old.show.cues }
     → TakesWord old new i words.Cue rest (Ok false)
-cue_taken old new i n rest number whole id is below few sound id' is' up' down' earlier' show' =
+cue_taken old new i n rest number whole id is below room sound id' is' up' down' earlier' show' =
     let s : Said = record { section = section_in old.cue; part = 1; entry = NamesCue n } in
     let cues : List ℕ = map (λ cue. cue.number) old.show.cues in
     let placed_cue : new.show.cues ≡ placed (λ cue. cue.number) (new_cue n) old.show.cues = ap (λ z. z.cues) show' ∙ named-above n old.show.cues below in
@@ -334,7 +337,7 @@ cue_taken old new i n rest number whole id is below few sound id' is' up' down' 
         sound.times) in
     let found : cue_of new.show n ≡ Some (new_cue n) = ap (entry_at (λ cue. cue.number) n) placed_cue ∙ entry-placed (λ cue. cue.number) n (new_cue n) old.show.cues refl in
     let taken : TakesWord old new i words.Cue (number ∷ []) (Ok false) =
-      took old new i words.Cue (number ∷ []) s (cue_said_by (known_of old) i n number id is below (lt_true (length cues) CUES (omega (arith, length_numbers old.show.cues, few)))) refl
+      took old new i words.Cue (number ∷ []) s (cue_said_by (known_of old) i n number id is below (room_numbers n old.show.cues ∙ room)) refl
       (record {
         known = known_named old new i n number is id' is' up' down' earlier' numbers;
         show = show';

@@ -3,3 +3,4 @@ pub mod Built
 pub mod Lists
 pub mod Stops
 pub mod PlainState
+pub mod Loading

@@ -1,6 +1,6 @@
 //! What lines say is put into the show that is being read.
 
-ghost use Rattle.std.specs.Prelude.{◌≡◌, ◌≤◌, ◌<◌, ◌≢◌, ◌⊎◌, [], ◌∷◌, length, max, Some, OnOk, OnErr, IfErr, IsTrue};
+ghost use Rattle.std.specs.Prelude.{◌≡◌, ◌≤◌, ◌<◌, ◌≢◌, ◌||◌, nat_lt, [], ◌∷◌, length, max, Some, OnOk, OnErr, IfErr, IsTrue};
 ghost use Rattle.std.specs.Option.{IsSomeAnd};
 ghost use Rattle.std.specs.List.{AllByRecursion};
 ghost use Rattle.std.specs.Result.{IsOkAnd};
@@ -27,7 +27,7 @@ use std::alloc::{AllocError, Global};
 /// The cue is there: made, if it was absent. It is there, or there are fewer than 2,000 cues.
 pub(crate) fn name_cue(alloc: Global, show: &mut Show, n: CueNo)
     requires number { n ≢ 0 }
-    requires few { IsTrue (has_entry (λ cue. cue.number) n show.old.cues) ⊎ (length show.old.cues < CUES) }
+    requires room { IsTrue (has_entry (λ cue. cue.number) n show.old.cues || nat_lt (length show.old.cues) CUES) }
     ensures { show.new ≡ record show.old { cues = with_cue n show.old.cues } }
 {
     if show.cue(n).is_none() {

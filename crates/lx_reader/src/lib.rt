@@ -4,8 +4,12 @@
 mod entries;
 mod fault;
 mod lists;
+mod loaded;
 mod plain;
+mod read;
 mod stop;
 mod words;
 
 pub use fault::ShowFault;
+pub use loaded::Loaded;
+pub use read::read_show;

@@ -13,7 +13,7 @@ use crate::entries::{name_cue, put_levels, put_rows, set_down, set_up};
 use crate::fault::ShowFault;
 use crate::stop::Stop;
 use crate::words::word_of;
-use lx_base::{CUES, CueNo, PartNo};
+use lx_base::{CueNo, PartNo};
 use lx_lex::{Tokens, read_cue_no, read_whole, tokens, word_is};
 use lx_show::{Cue, Show};
 use lx_spec::Word;
@@ -148,7 +148,7 @@ impl Plain {
         if !is_above(self.show.cues(), n) {
             return Err(ShowFault::NotBuilt(i));
         }
-        if self.show.cues().len() >= CUES {
+        if !self.show.has_room_for(n) {
             return Err(ShowFault::NotBuilt(i));
         }
         self.close();
