@@ -9,4 +9,5 @@ pub mod Entering
 pub mod PlainLines
 pub mod PlainWords
 pub mod Turns
+pub mod Passing
 pub mod Lengths

@@ -54,7 +54,7 @@ has_part r n (Some cue) is found some all =
     let part : IsTrue (has_entry (λ part. part.number) 1 cue.parts) = part_of_timed r n cue is (entry_key (λ z. z.number) n r.show.cues cue found) (all_found (IsTimedSoFar r) (λ z. z.number == n) r.show.cues cue found all) in
     subst (λ o. IsSomeAnd o (λ z. IsTrue (has_entry (λ part. part.number) 1 z.parts))) (sym found) part
 
-entry_in : (r : Plain) (n : ℕ) → r.cue ≡ Some n → IsSound r → (cue : Cue) × (cue_of r.show n ≡ Some cue)
+pub entry_in : (r : Plain) (n : ℕ) → r.cue ≡ Some n → IsSound r → (cue : Cue) × (cue_of r.show n ≡ Some cue)
 entry_in r n is sound =
     let there : HasPartIn r.show n 1 = subst (λ o. IfSome o (λ m. HasPartIn r.show m 1)) is sound.part in
     let at : (o : Option Cue) → cue_of r.show n ≡ o → IsSomeAnd o (λ z. IsTrue (has_entry (λ part. part.number) 1 z.parts)) → (cue : Cue) × (cue_of r.show n ≡ Some cue)

@@ -13,8 +13,8 @@ use Rattle.lx_spec.specs.declared.TextFault.TheVariants.{NoEndData}
 use Rattle.lx_spec.specs.Limits.{desk_limits}
 use Rattle.lx_spec.specs.Text.{tokens, lines_of}
 use Rattle.lx_spec.specs.Show.{Show}
-use Rattle.lx_spec.specs.Saying.{Entry, Said, Nothing, Skipped, ClearsAll, HasChannels, facts, said, all_said, word_of, option_from}
-use Rattle.lx_spec.specs.Reading.{Reading, reading_from, reading_or_fault, ends_reading, reads, show_from, is_end, clears_all, is_skipped, channels_set, last_in}
+use Rattle.lx_spec.specs.Saying.{Entry, Said, Nothing, Skipped, ClearsAll, HasChannels, NamesGroup, NamesSub, NamesPart, facts, said, all_said, word_of, option_from}
+use Rattle.lx_spec.specs.Reading.{Reading, reading_from, reading_or_fault, ends_reading, reads, show_from, is_end, clears_all, is_skipped, channels_set, group_named, sub_named, part_named, last_in}
 use Rattle.lx_spec.specs.Jobs.{script_of}
 use Rattle.lx_spec.specs.declared.Word.{Word}
 use Rattle.lx_spec.specs.declared.Word.TheVariants as words
@@ -151,26 +151,32 @@ pub nothing_yet : SoFar [] []
 nothing_yet = record { results = refl; no_end = refl; no_clear = refl; no_skip = refl; no_channels = refl }
 
 -- what holds of each entry of a built line
-record IsPlain (entry : Entry) : Type 0 where
+pub record IsPlain (entry : Entry) : Type 0 where
   pub no_clear : clears_all entry ≡ false
   pub no_skip : is_skipped entry ≡ false
   pub no_channels : channels_set entry ≡ None
+  pub no_group : group_named entry ≡ None
+  pub no_sub : sub_named entry ≡ None
+  pub no_part : part_named entry ≡ None
 
 plain_word : (known : Known) (word : Word) (rest : List (List ℕ)) (entry : Entry) → is_built known word rest entry ≡ true → IsPlain entry
 plain_word known word rest entry = elim entry as (λ e. is_built known word rest e ≡ true → IsPlain e) [
   | Skipped ↦ elim word as (λ w. is_built known w rest Skipped ≡ true → IsPlain Skipped) [ words.Ident ↦ λ h. cc | _ ↦ λ h. cc ]
   | ClearsAll ↦ elim word as (λ w. is_built known w rest ClearsAll ≡ true → IsPlain ClearsAll) [ words.Ident ↦ λ h. cc | _ ↦ λ h. cc ]
   | HasChannels n ↦ elim word as (λ w. is_built known w rest (HasChannels n) ≡ true → IsPlain (HasChannels n)) [ words.Ident ↦ λ h. cc | _ ↦ λ h. cc ]
-  | _ ↦ λ h. record { no_clear = refl; no_skip = refl; no_channels = refl }
+  | NamesGroup n ↦ elim word as (λ w. is_built known w rest (NamesGroup n) ≡ true → IsPlain (NamesGroup n)) [ words.Ident ↦ λ h. cc | _ ↦ λ h. cc ]
+  | NamesSub n ↦ elim word as (λ w. is_built known w rest (NamesSub n) ≡ true → IsPlain (NamesSub n)) [ words.Ident ↦ λ h. cc | _ ↦ λ h. cc ]
+  | NamesPart n ↦ elim word as (λ w. is_built known w rest (NamesPart n) ≡ true → IsPlain (NamesPart n)) [ words.Ident ↦ λ h. cc | _ ↦ λ h. cc ]
+  | _ ↦ λ h. record { no_clear = refl; no_skip = refl; no_channels = refl; no_group = refl; no_sub = refl; no_part = refl }
 ]
 
 plain_blank : (known : Known) (entry : Entry) → is_built_line known [] entry ≡ true → IsPlain entry
 plain_blank known entry = elim entry as (λ e. is_built_line known [] e ≡ true → IsPlain e) [
-  | Nothing ↦ λ h. record { no_clear = refl; no_skip = refl; no_channels = refl }
+  | Nothing ↦ λ h. record { no_clear = refl; no_skip = refl; no_channels = refl; no_group = refl; no_sub = refl; no_part = refl }
   | _ ↦ λ h. cc
 ]
 
-plain_entry : (known : Known) (ts : List (List ℕ)) (entry : Entry) → is_built_line known ts entry ≡ true → IsPlain entry
+pub plain_entry : (known : Known) (ts : List (List ℕ)) (entry : Entry) → is_built_line known ts entry ≡ true → IsPlain entry
 plain_entry known [] entry h = plain_blank known entry h
 plain_entry known (first ∷ rest) entry h = plain_word known (word_of first) rest entry h
 
