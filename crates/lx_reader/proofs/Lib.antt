@@ -10,4 +10,5 @@ pub mod PlainLines
 pub mod PlainWords
 pub mod Turns
 pub mod Passing
+pub mod Ending
 pub mod Lengths

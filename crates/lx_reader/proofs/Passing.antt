@@ -130,15 +130,15 @@ rooted_more saids p s place rooted show sound n absent =
     ] in
     filter-more (in_cue n) saids s ∙ (λ j. rooted n before j ++ cond (at (section_is_cue n s.section) refl j) (s ∷ []) [])
 
-texts_more : (raws : List (List ℕ)) (raw : List ℕ) → map without_cr (raws ++ raw ∷ []) ≡ map without_cr raws ++ without_cr raw ∷ []
+pub texts_more : (raws : List (List ℕ)) (raw : List ℕ) → map without_cr (raws ++ raw ∷ []) ≡ map without_cr raws ++ without_cr raw ∷ []
 texts_more raws raw = map-append without_cr raws (raw ∷ [])
 
-length_texts : (raws : List (List ℕ)) → length (map without_cr raws) ≡ length raws
+pub length_texts : (raws : List (List ℕ)) → length (map without_cr raws) ≡ length raws
 length_texts [] = refl
 length_texts (raw ∷ raws) = omega (arith, length_texts raws)
 
 -- the line that is read next, by its number
-next_number : {S : Type 0} (left : S → Option (List ℕ)) (rises : S → ℕ) (old l : Lines S) (p : Plain) (past : Passed left rises old l p) → old.number ≡ 0 → l.number + 1 ≡ length (map without_cr past.raws) + 1
+pub next_number : {S : Type 0} (left : S → Option (List ℕ)) (rises : S → ℕ) (old l : Lines S) (p : Plain) (past : Passed left rises old l p) → old.number ≡ 0 → l.number + 1 ≡ length (map without_cr past.raws) + 1
 next_number left rises old l p past first = omega (arith, past.handed.number, length_texts past.raws)
 
 -- one more line was taken up, by what it says

@@ -25,11 +25,11 @@ use Rattle.lx_reader.specs.TakenUp.{with_cue, with_up, with_down}
 use Rattle.lx_reader.proofs.Placing.{placed-there}
 use Rattle.lx_reader.proofs.Changing.{entry_key, entry-placed, entry-changed}
 
-and_first : (a b : Bool) → (a && b) ≡ true → a ≡ true
+pub and_first : (a b : Bool) → (a && b) ≡ true → a ≡ true
 and_first true b h = refl
 and_first false b h = cc
 
-and_second : (a b : Bool) → (a && b) ≡ true → b ≡ true
+pub and_second : (a b : Bool) → (a && b) ≡ true → b ≡ true
 and_second true b h = h
 and_second false b h = cc
 
@@ -144,7 +144,7 @@ open_timed : (o : Option ℕ) (n : ℕ) (up down : Bool) → is_open o n ≡ tru
 open_timed None n up down is timed = cc
 open_timed (Some m) n up down is timed = (and_first up down timed, and_second up down timed)
 
-timed_parts : (old : Plain) (cue : Cue) → IsTimedSoFar old cue → is_timed (section_in old.cue) old.up old.down ≡ true → old.earlier ≡ true → cue.parts ≡ part_at_once ∷ []
+pub timed_parts : (old : Plain) (cue : Cue) → IsTimedSoFar old cue → is_timed (section_in old.cue) old.up old.down ≡ true → old.earlier ≡ true → cue.parts ≡ part_at_once ∷ []
 timed_parts old cue timed is earlier =
     let at : (b : Bool) → is_open old.cue cue.number ≡ b → cue.parts ≡ part_at_once ∷ []
         = λ b. elim b as (λ b. is_open old.cue cue.number ≡ b → cue.parts ≡ part_at_once ∷ []) [
