@@ -78,7 +78,7 @@ module _ (sep mark : ℕ → Bool) where
   pub tokens_by-comment : (b : ℕ) (l : List ℕ) → mark b ≡ true → tokens_by (b ∷ l) ≡ []
   tokens_by-comment b l e = ap (λ t. filter is_filled (slice_split sep t)) (before_first-yes mark b l e)
 
-  -- the part at the front of a line, and the further parts, whose tokens are those of what follows it
+  -- a comment goes on to the end, and nothing has no part
   record FirstPart (line : List ℕ) : Type 0 where
     others : List (List ℕ)
     cut : slice_split sep (before_first mark line) ≡ take_while goes line ∷ others
