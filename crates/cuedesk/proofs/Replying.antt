@@ -9,7 +9,6 @@ use Rattle.lx_spec.specs.Desk.{Desk, step}
 use Rattle.lx_spec.specs.Replies.{begun, answered, replied, attempt_ticks, Attempt, refused_reply, count_ok, with_text, ok_text, frame_text}
 use Rattle.lx_spec.specs.Tracked.{tracked}
 use Rattle.lx_spec.specs.Output.{dimmer_value, dimmers_of}
-use Rattle.cuedesk.specs.Plain.{IsPlain}
 use Rattle.cuedesk.proofs.Frames.{frame-tracked}
 use Rattle.cuedesk.specs.Built.{reply_to, desk_after}
 use Rattle.cuedesk.specs.Answered.{reply_for, refusal_of, TickedSo}
@@ -51,8 +50,8 @@ pub desk-ticks : (show : Show) (place : Place) (d : Desk) (k : ℕ) (done : Resu
 desk-ticks show place d k done t = subst (StandsAt show place) (sym (replied-desk (attempt_ticks [] k (begun d)))) t.stands
 
 -- a frame shows the slots by the tracked levels at the position
-pub reply-frame : (show : Show) (place : Place) (d : Desk) (u : ℕ) (slots : List ℕ) → StandsAt show place d → IsPlain show → slots ≡ map (dimmer_value show (tracked show place.at)) (dimmers_of u)
+pub reply-frame : (show : Show) (place : Place) (d : Desk) (u : ℕ) (slots : List ℕ) → StandsAt show place d → slots ≡ map (dimmer_value show (tracked show place.at)) (dimmers_of u)
     → frame_text [] place.moment u slots ≡ reply_to d (Some (lines.Frame u))
-reply-frame show place d u slots s plain is =
+reply-frame show place d u slots s is =
     ap (λ m. frame_text [] m u slots) (sym s.moment_is)
-    ∙ ap (frame_text [] d.playback.moment u) (is ∙ sym (frame-tracked show place.moment place.at place.live d u s plain))
+    ∙ ap (frame_text [] d.playback.moment u) (is ∙ sym (frame-tracked show place.moment place.at place.live d u s))

@@ -177,6 +177,6 @@ go-next show m at live n d s plain next some =
           | Some cue ↦ λ above e.
               let number : cue.number ≡ n = cc in
               subst (λ k. IsOkAnd (step d (commands.Key (Play Go))) (Stands show m k (live + 1))) number
-              (go-runs show m at live d cue s above (plain_found (λ x. nat_lt at x.number) show.cues cue plain.cues above) some)
+              (go-runs show m at live d cue s above (plain_found (λ x. nat_lt at x.number) show.cues cue plain above) some)
         ] in
     by (cue_above show at) refl next

@@ -7,3 +7,4 @@ pub mod Faults
 pub mod Turns
 pub mod Places
 pub mod Answered
+pub mod Output

@@ -1,5 +1,5 @@
 -- The shows that are played so far: of cues whose times are all 0.
-use Rattle.std.specs.Prelude.{◌≡◌, None, [], ◌∷◌}
+use Rattle.std.specs.Prelude.{◌≡◌, None}
 use Rattle.std.specs.List.{AllByRecursion}
 use Rattle.lx_spec.specs.declared.Part.{Part}
 use Rattle.lx_spec.specs.Show.{Cue, Show}
@@ -16,6 +16,5 @@ pub record IsPlainCue (cue : Cue) : Type 0 where
   pub parts : AllByRecursion TakesNoTime cue.parts
   pub follow : cue.follow ≡ None
 
-pub record IsPlain (show : Show) : Type 0 where
-  pub cues : AllByRecursion IsPlainCue show.cues
-  pub no_subs : show.subs ≡ []
+abbrev pub IsPlain : Show → Type 0
+IsPlain show = AllByRecursion IsPlainCue show.cues

@@ -22,7 +22,7 @@ returns-in-Ticks-clause-stands g c = λ d s.
 pub returns-in-Frame-clause-text : goal.returns-in-Frame-clause-text
 returns-in-Frame-clause-text g c = λ d s.
     Puts-is c.put_frame.ensures
-    (reply-frame c.args.show.now (place_of c.args.playing.now) d c.in-Frame.universe c.fill_slots.new.slots s c.requires.plain c.fill_slots.ensures ∙ sym (ap (λ r. reply_to d (Some (line_for r))) c.in-Frame.is))
+    (reply-frame c.args.show.now (place_of c.args.playing.now) d c.in-Frame.universe c.fill_slots.new.slots s c.fill_slots.ensures ∙ sym (ap (λ r. reply_to d (Some (line_for r))) c.in-Frame.is))
 
 pub returns-in-Frame-clause-stands : goal.returns-in-Frame-clause-stands
 returns-in-Frame-clause-stands g c = λ d s.
