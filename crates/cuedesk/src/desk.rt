@@ -13,8 +13,10 @@ ghost use Rattle.cuedesk.specs.Output.{not_built_text, output_of, input_wanted};
 ghost use Rattle.cuedesk.specs.Faults.{status_for};
 
 use crate::session::{SessionFault, session};
-use lx_io::{Sink, SinkFault, Source, put_all};
-use lx_lex::{Lines, put_whole};
+use crate::turn::{finish, session_fault};
+use itoa::Buffer;
+use lx_io::{Sink, SinkFault, Source, put_row};
+use lx_lex::Lines;
 use lx_reader::{ShowFault, read_show};
 use std::alloc::Global;
 
@@ -109,19 +111,27 @@ fn refuse<K: Sink>(line: u32, output: &mut K) -> Status
     ensures kinds { (result ≡ Status.ShowRefused) ⊎ ((result ≡ Status.WriteFault) ⊎ (result ≡ Status.Memory)) }
     ensures write { result ≡ Status.WriteFault → Rose (K.faults output.old) (K.faults output.new) }
 {
-    match put_refused_show(line, output) {
+    let ended = match put_refused_show(line, output) {
+        Ok(()) => finish(output),
+        Err(fault) => Err(session_fault(fault)),
+    };
+    match ended {
         Ok(()) => Status::ShowRefused,
-        Err(SinkFault::Failed) => Status::WriteFault,
-        Err(SinkFault::Memory) => Status::Memory,
+        Err(fault) => status_of(Err(fault)),
     }
 }
 
-/// Appends the line of a refused show, and flushes it.
+/// Appends the line of a refused show.
 fn put_refused_show<K: Sink>(line: u32, output: &mut K) -> Result<(), SinkFault>
     ensures { Puts K.holds K.faults K.wants output.old output.new result (not_built_text line) }
 {
-    put_all(output, b"show NotBuilt ")?;
-    put_whole(line, output)?;
-    put_all(output, b"\n")?;
-    output.flush()
+    let mut digits = Buffer::new();
+    put_row(
+        output,
+        &[
+            b"show NotBuilt ".as_slice(),
+            digits.format(line).as_bytes(),
+            b"\n".as_slice(),
+        ],
+    )
 }

@@ -97,7 +97,7 @@ fn reply<K: Sink>(
 }
 
 /// The script has ended: what was written is flushed.
-fn finish<K: Sink>(output: &mut K) -> Result<(), SessionFault>
+pub(crate) fn finish<K: Sink>(output: &mut K) -> Result<(), SessionFault>
     ensures holds { Keeps (K.holds output.old) (K.holds output.new) }
     ensures output_later { K.faults output.old ≤ K.faults output.new }
     ensures wants_later { K.wants output.old ≤ K.wants output.new }
