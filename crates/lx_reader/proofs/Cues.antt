@@ -41,9 +41,9 @@ part_from-more : (here : List Said) (s : Said) (p : ℕ) → part_from (here ++ 
 unfolding part_from
 part_from-more here s p =
     let up : unwrap_or (last_in up_said (here ++ s ∷ [])) (DEFAULT_TIME, 0) ≡ unwrap_or (up_said s.entry) (unwrap_or (last_in up_said here) (DEFAULT_TIME, 0))
-        = ap (λ v. unwrap_or v (DEFAULT_TIME, 0)) (last_in-more up_said here s) ∙ unwrap-later (up_said s.entry) (last_in up_said here) (DEFAULT_TIME, 0) in
+    = ap (λ v. unwrap_or v (DEFAULT_TIME, 0)) (last_in-more up_said here s) ∙ unwrap-later (up_said s.entry) (last_in up_said here) (DEFAULT_TIME, 0) in
     let down : unwrap_or (last_in down_said (here ++ s ∷ [])) (DEFAULT_TIME, 0) ≡ unwrap_or (down_said s.entry) (unwrap_or (last_in down_said here) (DEFAULT_TIME, 0))
-        = ap (λ v. unwrap_or v (DEFAULT_TIME, 0)) (last_in-more down_said here s) ∙ unwrap-later (down_said s.entry) (last_in down_said here) (DEFAULT_TIME, 0) in
+    = ap (λ v. unwrap_or v (DEFAULT_TIME, 0)) (last_in-more down_said here s) ∙ unwrap-later (down_said s.entry) (last_in down_said here) (DEFAULT_TIME, 0) in
     λ i. record { number = p; up = (up i).0; up_delay = (up i).1; down = (down i).0; down_delay = (down i).1 }
 
 part_from-some : (here : List Said) (s : Said) (p : ℕ) (b : Bool) → part_from (here ++ cond b (s ∷ []) []) p ≡ cond b (times_with s.entry (part_from here p)) (part_from here p)
@@ -84,7 +84,7 @@ cue_from-more about s n =
     let follow = last_in-more follow_said about s in
     let link = last_in-more link_said about s in
     let label : unwrap_or (last_in label_said (about ++ s ∷ [])) [] ≡ unwrap_or (label_said s.entry) (unwrap_or (last_in label_said about) [])
-        = ap (λ v. unwrap_or v []) (last_in-more label_said about s) ∙ unwrap-later (label_said s.entry) (last_in label_said about) [] in
+    = ap (λ v. unwrap_or v []) (last_in-more label_said about s) ∙ unwrap-later (label_said s.entry) (last_in label_said about) [] in
     let named = parts_named-more about s in
     let moves = moves-more about s in
     λ i. record {

@@ -49,7 +49,7 @@ pub not_built : {S : Type 0} (left : S → Option (List ℕ)) (rises : S → ℕ
 not_built left rises old l l' p q i first past turn = elim turn.1 [
   | inl line ↦
       let said : built_said (known_from (back_onto (map without_cr past.raws) [])) (length (map without_cr past.raws) + 1) (without_cr line.0) ≡ Err i
-          = (λ j. built_said (sym past.known j) (sym (next_number left rises old l p past first) j) (without_cr line.0)) ∙ (λ j. built_said (known_of p) (sym turn.0 j) (without_cr line.0)) ∙ line.2 in
+      = (λ j. built_said (sym past.known j) (sym (next_number left rises old l p past first) j) (without_cr line.0)) ∙ (λ j. built_said (known_of p) (sym turn.0 j) (without_cr line.0)) ∙ line.2 in
       let handed = handed_then left rises old l l' past.raws (line.0 ∷ []) past.handed line.1 in
       record {
         raws = past.raws ++ line.0 ∷ [];
@@ -88,9 +88,9 @@ pub too_long : {S : Type 0} (left : S → Option (List ℕ)) (rises : S → ℕ)
 too_long left rises old l l' p q past turn =
     let open_text : reads_built (map without_cr past.raws) ≡ Err (length past.raws + 1) = reads-open (map without_cr past.raws) past.saids past.so_far ∙ ap (λ n. Err (n + 1)) (length_texts past.raws) in
     let front : IfSome (unread left old) (λ bytes. reads_built (take (length past.raws) (lines_of bytes)) ≡ Err (length past.raws + 1))
-        = text_with (unread left old) (unread left l) old.taken l.taken past.raws (λ v. reads_built (take (length past.raws) v) ≡ Err (length past.raws + 1)) past.handed.took (λ more. ap reads_built (first_texts past.raws more) ∙ open_text) in
+    = text_with (unread left old) (unread left l) old.taken l.taken past.raws (λ v. reads_built (take (length past.raws) v) ≡ Err (length past.raws + 1)) past.handed.took (λ more. ap reads_built (first_texts past.raws more) ∙ open_text) in
     let long : IfSome (unread left old) (λ bytes. INPUT_BYTES < old.taken + length (first_lines (length past.raws + 1) bytes))
-        = next_too_long (unread left old) (unread left l) (unread left l') old.taken l.taken l'.taken past.raws (line_of l') (length past.raws + 1) past.handed.took turn refl in
+    = next_too_long (unread left old) (unread left l) (unread left l') old.taken l.taken l'.taken past.raws (line_of l') (length past.raws + 1) past.handed.took turn refl in
     some_weaker (unread left old) (λ bytes. (reads_built (take (length past.raws) (lines_of bytes)) ≡ Err (length past.raws + 1)) × (INPUT_BYTES < old.taken + length (first_lines (length past.raws + 1) bytes))) (IsTooLong old.taken)
     (λ bytes both. record { n = length past.raws; no_end = both.0; long = both.1 })
     (both_some (unread left old) (λ bytes. reads_built (take (length past.raws) (lines_of bytes)) ≡ Err (length past.raws + 1)) (λ bytes. INPUT_BYTES < old.taken + length (first_lines (length past.raws + 1) bytes)) front long)
@@ -126,7 +126,7 @@ widened : (saids : List Said) → last_in channels_set saids ≡ None → record
 widened saids none =
     let named : List ℕ = flat_map (λ s. channels_named s.entry) saids in
     let greatest : max (fold max 1 named) DEFAULT_CHANNELS ≡ fold max (unwrap_or (last_in channels_set saids) DEFAULT_CHANNELS) named
-        = max_swap (fold max 1 named) DEFAULT_CHANNELS ∙ sym (greatest-from DEFAULT_CHANNELS 1 named) ∙ sym (ap (λ o. fold max (unwrap_or o DEFAULT_CHANNELS) named) none) in
+    = max_swap (fold max 1 named) DEFAULT_CHANNELS ∙ sym (greatest-from DEFAULT_CHANNELS 1 named) ∙ sym (ap (λ o. fold max (unwrap_or o DEFAULT_CHANNELS) named) none) in
     λ j. record (show_from saids) { channels = greatest j }
 
 text_of : (a b : Option (List ℕ)) (i j : ℕ) (raws : List (List ℕ)) (raw : List ℕ) (x y : List ℕ) → a ≡ Some x → b ≡ Some y → TookLines a b i j (raws ++ raw ∷ []) → lines_of x ≡ map without_cr raws ++ without_cr raw ∷ lines_of y

@@ -32,7 +32,7 @@ of_length t n len [] = refl
 of_length t n len (w ∷ ws) =
     let rest = of_length t n len ws in
     let at : (b : Bool) → (length w.0 == n) ≡ b → cond (is_word w.0 t) (Some w) (find (λ e. is_word e.0 t) ws) ≡ find (λ e. is_word e.0 t) (cond b (w ∷ filter (λ e. length e.0 == n) ws) (filter (λ e. length e.0 == n) ws))
-        = λ b. elim b as (λ b. (length w.0 == n) ≡ b → cond (is_word w.0 t) (Some w) (find (λ e. is_word e.0 t) ws) ≡ find (λ e. is_word e.0 t) (cond b (w ∷ filter (λ e. length e.0 == n) ws) (filter (λ e. length e.0 == n) ws))) [
+    = λ b. elim b as (λ b. (length w.0 == n) ≡ b → cond (is_word w.0 t) (Some w) (find (λ e. is_word e.0 t) ws) ≡ find (λ e. is_word e.0 t) (cond b (w ∷ filter (λ e. length e.0 == n) ws) (filter (λ e. length e.0 == n) ws))) [
       | true ↦ λ e. ap (λ v. cond (is_word w.0 t) (Some w) v) rest
       | false ↦ λ e. ap (λ b. cond b (Some w) (find (λ e. is_word e.0 t) ws)) (other_length w.0 t n len e) ∙ rest
     ] in

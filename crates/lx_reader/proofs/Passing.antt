@@ -154,8 +154,8 @@ passed_by left rises old l l' p q past raw handed i place (Ok s) says took =
     let says' : built_said (known_from (back_onto handed_texts [])) (length handed_texts + 1) line ≡ Ok s = (λ j. built_said (sym past.known j) (sym place j) line) ∙ says in
     let more : SoFar (handed_texts ++ line ∷ []) (past.saids ++ s ∷ []) = one_more handed_texts past.saids line s past.so_far says' took.0 in
     let shown : show_so_far (past.saids ++ record { section = section_in p.cue; part = 1; entry = s.entry } ∷ []) ≡ show_with (record { section = section_in p.cue; part = 1; entry = s.entry }) (show_so_far past.saids)
-        = show-more past.saids (section_in p.cue) 1 s.entry (founded past.saids p s.entry past.rooted past.show past.sound plain.no_part)
-          (record { groups = (no_such p.cue).0; subs = (no_such p.cue).1; no_group = plain.no_group; no_sub = plain.no_sub }) in
+    = show-more past.saids (section_in p.cue) 1 s.entry (founded past.saids p s.entry past.rooted past.show past.sound plain.no_part)
+    (record { groups = (no_such p.cue).0; subs = (no_such p.cue).1; no_group = plain.no_group; no_sub = plain.no_sub }) in
     record {
       raws = past.raws ++ raw ∷ [];
       saids = past.saids ++ s ∷ [];

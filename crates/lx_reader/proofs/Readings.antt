@@ -130,7 +130,7 @@ taken_if : (known : Known) (i : ℕ) (ts : List (List ℕ)) (result : Result Sai
 taken_if known i ts (Err fault) s is = cc
 taken_if known i ts (Ok t) s is =
     let at : (b : Bool) → is_built_line known ts t.entry ≡ b → cond b (Ok t) (Err i) ≡ Ok s → IsTaken known ts (Ok t) s
-        = λ b. elim b as (λ b. is_built_line known ts t.entry ≡ b → cond b (Ok t) (Err i) ≡ Ok s → IsTaken known ts (Ok t) s) [
+    = λ b. elim b as (λ b. is_built_line known ts t.entry ≡ b → cond b (Ok t) (Err i) ≡ Ok s → IsTaken known ts (Ok t) s) [
       | true ↦ λ built is. let same : t ≡ s = cc in subst (λ z. IsTaken known ts (Ok t) z) same (record { said = refl; built = built })
       | false ↦ λ built is. cc
     ] in
@@ -282,10 +282,10 @@ text-ended bytes handed saids line more s text so_far is end =
     let count : length saids ≡ length handed = sym (length_ok ℕ saids) ∙ ap length (sym so_far.results) ∙ length_built [] 1 handed in
     let place : position_or_len ends_reading (map Ok saids ++ Ok s ∷ rest) ≡ length handed = position_end saids (Ok s) rest so_far.no_end end ∙ count in (
       ap (λ v. option_map_or (reading_or_fault Moves v) (find ends_reading v) (Err (NoEndData (length v + 1)))) all
-      ∙ ap (λ o. option_map_or (reading_or_fault Moves (map Ok saids ++ Ok s ∷ rest)) o (Err (NoEndData (length (map Ok saids ++ Ok s ∷ rest) + 1)))) found
-      ∙ ap (λ v. Ok (reading_from Moves v)) before,
+          ∙ ap (λ o. option_map_or (reading_or_fault Moves (map Ok saids ++ Ok s ∷ rest)) o (Err (NoEndData (length (map Ok saids ++ Ok s ∷ rest) + 1)))) found
+          ∙ ap (λ v. Ok (reading_from Moves v)) before,
       ap (λ v. drop (position_or_len ends_reading v + 1) (lines_of bytes)) all
-      ∙ ap (λ n. drop (n + 1) (lines_of bytes)) place
-      ∙ ap (drop (length handed + 1)) text
-      ∙ drop_past handed line more,
+          ∙ ap (λ n. drop (n + 1) (lines_of bytes)) place
+          ∙ ap (drop (length handed + 1)) text
+          ∙ drop_past handed line more,
     )

@@ -127,9 +127,9 @@ show-more all section p entry founded outside =
     let channels = channels-more all s in
     let cues = cues-more all section p entry founded in
     let groups : map (λ g. group_from (filter (in_group g) (all ++ s ∷ [])) g) (named_by group_named (all ++ s ∷ [])) ≡ map (λ g. group_from (filter (in_group g) all) g) (named_by group_named all)
-        = λ i. map (λ g. group_from (filter_same (in_group g) all s (outside.groups g) i) g) (named_same group_named all s outside.no_group i) in
+    = λ i. map (λ g. group_from (filter_same (in_group g) all s (outside.groups g) i) g) (named_same group_named all s outside.no_group i) in
     let subs : map (λ n. sub_from (filter (in_sub n) (all ++ s ∷ [])) n) (named_by sub_named (all ++ s ∷ [])) ≡ map (λ n. sub_from (filter (in_sub n) all) n) (named_by sub_named all)
-        = λ i. map (λ n. sub_from (filter_same (in_sub n) all s (outside.subs n) i) n) (named_same sub_named all s outside.no_sub i) in
+    = λ i. map (λ n. sub_from (filter_same (in_sub n) all s (outside.subs n) i) n) (named_same sub_named all s outside.no_sub i) in
     let patch = patch-more all s in
     λ i. record { channels = channels i; cues = cues i; groups = groups i; subs = subs i; patch = patch i }
 

@@ -79,7 +79,7 @@ ident_first t = elim (is_word (codes "IDENT") t) as (λ b. option_map_or (λ e. 
 pub ident_is : (t : List ℕ) → is_word (codes "IDENT") t ≡ is_ident (word_of t)
 ident_is t =
     let at : (b : Bool) → b ≡ is_ident (cond b words.Ident (option_map_or (λ e. e.1) (find (λ e. is_word e.0 t) others) (dollar_word t)))
-        = λ b. elim b as (λ b. b ≡ is_ident (cond b words.Ident (option_map_or (λ e. e.1) (find (λ e. is_word e.0 t) others) (dollar_word t)))) [ true ↦ refl | false ↦ sym (not_ident t) ] in
+    = λ b. elim b as (λ b. b ≡ is_ident (cond b words.Ident (option_map_or (λ e. e.1) (find (λ e. is_word e.0 t) others) (dollar_word t)))) [ true ↦ refl | false ↦ sym (not_ident t) ] in
     at (is_word (codes "IDENT") t) ∙ ap is_ident (sym (ident_first t))
 
 -- CLEAR
