@@ -1,16 +1,14 @@
 -- Entries that are placed or changed one after another.
 use Rattle.std.proofs.Common.{◌≡◌, ℕ, ◌<◌, ◌≤◌, Bool, true, false, cond, List, [], ◌∷◌, ◌++◌, length, ◌+◌, length-append, Option, Some, None, refl, ap, ◌∙◌, sym, subst, inl, inr, append-nil, arith}
-use Rattle.std.specs.Prelude.{filter, fold, nat_lt, ◌==◌, find, is_some}
+use Rattle.std.specs.Prelude.{nat_lt, ◌==◌}
 use Rattle.std.specs.List.{AllByRecursion}
 use Rattle.std.specs.Option.{option_map_or}
 use Rattle.std.proofs.lemmas.List.Elements.{filter-append}
 use Rattle.std.proofs.lemmas.List.Folds.{find-append}
-use Rattle.std.proofs.lemmas.List.Sums.{fold-append}
 use Rattle.std.proofs.lemmas.Bool.{cases_order, eqb-true}
 use Rattle.std.proofs.lemmas.Bool.Decides.{nat_tests}
-use Rattle.lx_spec.specs.Listing.{Rises, placed, entries_below, entries_above, entry_at, has_entry}
+use Rattle.lx_spec.specs.Listing.{Rises, placed, entries_below, entries_above, entry_at}
 use Rattle.lx_show.specs.Changed.{changed}
-use Rattle.lx_reader.specs.TakenUp.{all_placed}
 
 lt_true : (a b : ℕ) → a < b → nat_lt a b ≡ true
 lt_true a b h = grind (arith, nat_tests)

@@ -1,19 +1,17 @@
 -- A cue from what was said in its sections, with one more entry.
-use Rattle.std.proofs.Common.{◌≡◌, ℕ, Bool, true, false, cond, List, [], ◌∷◌, ◌++◌, map, Option, Some, None, refl, ap, ◌∙◌, sym, subst, append-nil}
-use Rattle.std.specs.Prelude.{filter, fold, flat_map, filter_map, unwrap_or, ◌==◌, ◌||◌}
-use Rattle.std.specs.List.{list_any, cons_option}
-use Rattle.std.specs.Option.{option_map_or}
+use Rattle.std.proofs.Common.{◌≡◌, ℕ, Bool, true, false, cond, List, [], ◌∷◌, ◌++◌, map, Option, Some, None, refl, ap, ◌∙◌, sym, append-nil}
+use Rattle.std.specs.Prelude.{filter, fold, flat_map, filter_map, unwrap_or, ◌==◌}
+use Rattle.std.specs.List.{cons_option}
 use Rattle.std.proofs.lemmas.Grind.{flat_map-append}
 use Rattle.std.proofs.lemmas.List.Sums.{fold-append}
 use Rattle.std.proofs.lemmas.List.Elements.{filter_map-append}
 use Rattle.lx_base.specs.declared.TheConstants.{DEFAULT_TIME}
 use Rattle.lx_spec.specs.declared.Part.{Part}
-use Rattle.lx_spec.specs.declared.Move.{Move}
 use Rattle.lx_spec.specs.declared.Section.{Section}
 use Rattle.lx_spec.specs.Show.{Cue}
-use Rattle.lx_spec.specs.Listing.{Rises, placed, has_entry, entry_at}
+use Rattle.lx_spec.specs.Listing.{Rises, placed, has_entry}
 use Rattle.lx_spec.specs.Saying.{Entry, Said, HasUp, HasDown, NamesPart, HasLevels, Follows, Links, IsLabelled, Blocks}
-use Rattle.lx_spec.specs.Reading.{last_of_each, numbers, last_in, part_named, follow_said, link_said, label_said, up_said, down_said, levels_said, blocks, moves_said, part_of, cue_from}
+use Rattle.lx_spec.specs.Reading.{last_of_each, numbers, last_in, part_named, follow_said, link_said, label_said, up_said, down_said, blocks, moves_said, part_of, cue_from}
 use Rattle.lx_spec.specs.Edited.{new_part}
 use Rattle.lx_show.specs.Changed.{changed}
 use Rattle.lx_reader.specs.TakenUp.{all_placed, cue_change, with_part, with_up, with_down}

@@ -1,5 +1,5 @@
 -- How a pass over the lines of a plain show ends.
-use Rattle.std.proofs.Common.{◌≡◌, ℕ, ◌+◌, ◌<◌, ◌≤◌, Bool, true, false, cond, List, [], ◌∷◌, ◌++◌, map, length, take, Option, Some, None, Result, Ok, Err, refl, ap, ◌∙◌, sym, subst, inl, inr, arith, append-nil, append_assoc}
+use Rattle.std.proofs.Common.{◌≡◌, ℕ, ◌+◌, ◌<◌, Bool, true, List, [], ◌∷◌, ◌++◌, map, length, take, Option, Some, None, Result, Ok, Err, refl, ap, ◌∙◌, sym, subst, inl, inr, arith, append_assoc}
 use Rattle.std.specs.Prelude.{◌&&◌, fold, max, flat_map, IfSome, unwrap_or}
 use Rattle.std.specs.List.{AllByRecursion}
 use Rattle.std.specs.Result.{IsOkAnd}
@@ -9,15 +9,13 @@ use Rattle.lx_base.specs.declared.TheConstants.{DEFAULT_CHANNELS, INPUT_BYTES}
 use Rattle.lx_spec.specs.declared.Form.TheVariants.{Moves}
 use Rattle.lx_spec.specs.declared.Word.{Word}
 use Rattle.lx_spec.specs.declared.Word.TheVariants as words
-use Rattle.lx_spec.specs.Limits.{desk_limits}
 use Rattle.lx_spec.specs.Text.{tokens, without_cr, lines_of}
-use Rattle.lx_spec.specs.Show.{Cue, Show, Valid}
-use Rattle.lx_spec.specs.Saying.{Entry, Said, Nothing, Ends, word_of}
+use Rattle.lx_spec.specs.Show.{Show, Valid}
+use Rattle.lx_spec.specs.Saying.{Entry, Said, Ends, word_of}
 use Rattle.lx_spec.specs.Reading.{Reading, reading_from, reads, is_end, channels_named, channels_set, last_in, show_from}
 use Rattle.lx_spec.specs.Jobs.{script_of}
 use Rattle.lx_lex.specs.declared.lines.Lines.{Lines}
-use Rattle.lx_lex.specs.declared.lines.Step.TheVariants as steps
-use Rattle.lx_lex.specs.Lines.{StepOf, TookLines, first_lines}
+use Rattle.lx_lex.specs.Lines.{TookLines, first_lines}
 use Rattle.lx_lex.specs.Handed.{HandedOut}
 use Rattle.lx_lex.specs.Unread.{unread, line_of}
 use Rattle.lx_lex.proofs.TakenLines.{next_too_long, all_texts, texts}

@@ -1,19 +1,15 @@
 -- Entries that are put into a show one after another.
-use Rattle.std.proofs.Common.{◌≡◌, ℕ, ◌≤◌, ◌<◌, Bool, true, false, cond, List, [], ◌∷◌, ◌++◌, map, length, Option, Some, None, refl, ap, ◌∙◌, sym, subst, append-nil, append_assoc, arith, IsTrue, Result, Ok, Err}
+use Rattle.std.proofs.Common.{◌≡◌, ℕ, false, List, [], ◌∷◌, ◌++◌, map, Option, Some, None, refl, ap, ◌∙◌, sym, subst, append-nil, append_assoc, IsTrue, Result, Ok, Err}
 use Rattle.std.specs.Prelude.{fold, max, is_some, OnOk}
 use Rattle.std.specs.Option.{IsSomeAnd, option_map_or, option_copied}
 use denote.Ref.{Bor}
 use Rattle.std.proofs.lemmas.List.{map-append}
 use Rattle.std.proofs.lemmas.List.Sums.{fold-append}
 use Rattle.lx_spec.specs.declared.Member.{Member}
-use Rattle.lx_spec.specs.declared.Move.{Move}
 use Rattle.lx_spec.specs.declared.Part.{Part}
 use Rattle.lx_spec.specs.declared.PatchRow.{PatchRow}
-use Rattle.lx_spec.specs.declared.Section.{Section}
-use Rattle.lx_spec.specs.declared.Section.TheVariants.{InCue}
 use Rattle.lx_spec.specs.Listing.{placed, entry_at, has_entry}
 use Rattle.lx_spec.specs.Show.{Show, Cue, Valid}
-use Rattle.lx_spec.specs.Saying.{Entry, HasLevels, Patches, HasUp, HasDown}
 use Rattle.lx_spec.specs.Tracked.{cue_of}
 use Rattle.lx_show.specs.Changed.{changed}
 use Rattle.lx_reader.specs.TakenUp.{with_rows, with_levels, all_placed, moves_of}

@@ -1,29 +1,21 @@
 -- What a line makes of the reader of a plain show.
-use Rattle.std.proofs.Common.{◌≡◌, ℕ, zero, suc, ◌-◌, ◌≤◌, ◌<◌, Bool, true, false, cond, List, [], ◌∷◌, ◌++◌, map, length, Option, Some, None, Result, Ok, Err, refl, ap, ◌∙◌, sym, subst, append-nil, arith, IsTrue, inl, inr}
-use Rattle.std.specs.Prelude.{◌&&◌, ◌||◌, ◌==◌, not, nat_lt, filter, find, slice_get, is_some, is_none, IfSome}
+use Rattle.std.proofs.Common.{◌≡◌, ℕ, zero, suc, ◌-◌, ◌<◌, Bool, true, false, cond, List, [], ◌∷◌, ◌++◌, map, length, Option, Some, None, refl, ap, ◌∙◌, sym, subst, arith}
+use Rattle.std.specs.Prelude.{◌&&◌, ◌==◌, nat_lt, filter, find, slice_get, is_some, IfSome}
 use Rattle.std.specs.List.{AllByRecursion, list_all, list_any}
-use Rattle.std.specs.Option.{IsSomeAnd, option_map_or}
+use Rattle.std.specs.Option.{option_map_or}
 use Rattle.std.proofs.lemmas.List.{map-append}
-use Rattle.std.proofs.lemmas.Bool.{cases_order, eqb-true}
 use Rattle.std.proofs.lemmas.Bool.Decides.{nat_tests}
-use Rattle.lx_spec.specs.declared.Part.{Part}
-use Rattle.lx_spec.specs.declared.Member.{Member}
-use Rattle.lx_spec.specs.declared.Word.{Word}
-use Rattle.lx_spec.specs.declared.Word.TheVariants as words
-use Rattle.lx_spec.specs.declared.TextFault.{TextFault}
-use Rattle.lx_spec.specs.Show.{Cue, Show}
+use Rattle.lx_spec.specs.Show.{Cue}
 use Rattle.lx_spec.specs.Listing.{Rises, placed, entry_at, has_entry, entries_below, entries_above}
 use Rattle.lx_spec.specs.Edited.{new_cue}
-use Rattle.lx_spec.specs.Tracked.{cue_of}
-use Rattle.lx_spec.specs.Saying.{Entry, Said, Nothing}
 use Rattle.lx_show.specs.Changed.{changed}
 use Rattle.lx_reader.specs.declared.plain.Plain.{Plain}
-use Rattle.lx_reader.specs.Built.{Known, is_built, is_timed, part_at_once}
-use Rattle.lx_reader.specs.PlainState.{section_in, known_of, known_by, is_open, part_timed, IsTimedSoFar, IsSound, built_by}
+use Rattle.lx_reader.specs.Built.{is_timed, part_at_once}
+use Rattle.lx_reader.specs.PlainState.{section_in, is_open, part_timed, IsTimedSoFar, IsSound}
 use Rattle.lx_reader.specs.Stops.{HasPartIn}
-use Rattle.lx_reader.specs.TakenUp.{with_cue, with_up, with_down}
+use Rattle.lx_reader.specs.TakenUp.{with_cue}
 use Rattle.lx_reader.proofs.Placing.{placed-there}
-use Rattle.lx_reader.proofs.Changing.{entry_key, entry-placed, entry-changed}
+use Rattle.lx_reader.proofs.Changing.{entry_key}
 
 pub and_first : (a b : Bool) → (a && b) ≡ true → a ≡ true
 and_first true b h = refl

@@ -1,8 +1,8 @@
 -- The words of a plain show: what each line says, and what the reader makes of it.
-use Rattle.std.proofs.Common.{◌≡◌, ℕ, zero, suc, ◌≤◌, ◌<◌, Bool, true, false, cond, List, [], ◌∷◌, ◌++◌, map, length, Option, Some, None, Result, Ok, Err, refl, ap, ◌∙◌, sym, subst, append-nil, arith, IsTrue, inl, inr}
-use Rattle.std.specs.Prelude.{◌&&◌, ◌||◌, ◌==◌, not, nat_lt, codes, bytes_eq, is_some, is_none, is_ok, IfSome, max, fold}
+use Rattle.std.proofs.Common.{◌≡◌, ℕ, suc, ◌≤◌, ◌<◌, Bool, true, false, cond, List, [], ◌∷◌, map, length, Option, Some, None, Result, Ok, Err, refl, ap, ◌∙◌, sym, subst, arith, IsTrue}
+use Rattle.std.specs.Prelude.{◌&&◌, ◌||◌, ◌==◌, not, nat_lt, codes, is_some, is_ok, IfSome}
 use Rattle.std.specs.List.{AllByRecursion, list_all, list_any}
-use Rattle.std.specs.Option.{IsSomeAnd, option_map_or}
+use Rattle.std.specs.Option.{IsSomeAnd}
 use Rattle.std.specs.Result.{IsOkAnd, is_err}
 use Rattle.std.proofs.lemmas.Bool.Decides.{nat_tests}
 use Rattle.std.proofs.lemmas.Slice.Eq.{bytes_eq-Decides}
@@ -10,8 +10,7 @@ use Rattle.lx_base.specs.declared.TheConstants.{CUES, LINE_BYTES}
 use Rattle.lx_spec.specs.declared.Bad.{Bad}
 use Rattle.lx_spec.specs.declared.Member.{Member}
 use Rattle.lx_spec.specs.declared.PatchRow.{PatchRow}
-use Rattle.lx_spec.specs.declared.Section.{Section}
-use Rattle.lx_spec.specs.declared.Section.TheVariants.{NoRecord, InCue}
+use Rattle.lx_spec.specs.declared.Section.TheVariants.{InCue}
 use Rattle.lx_spec.specs.declared.Word.{Word}
 use Rattle.lx_spec.specs.declared.Word.TheVariants as words
 use Rattle.lx_spec.specs.declared.TextFault.{TextFault}
@@ -20,24 +19,24 @@ use Rattle.lx_spec.specs.Limits.{desk_limits}
 use Rattle.lx_spec.specs.Text.{tokens}
 use Rattle.lx_spec.specs.Numerals.{read_whole, read_cue_no}
 use Rattle.lx_spec.specs.Show.{Cue, Show, Valid}
-use Rattle.lx_spec.specs.Listing.{Rises, placed, entry_at, has_entry}
+use Rattle.lx_spec.specs.Listing.{placed, entry_at, has_entry}
 use Rattle.lx_spec.specs.Edited.{new_cue}
 use Rattle.lx_spec.specs.Tracked.{cue_of}
 use Rattle.lx_spec.specs.Refusing.{◌>>=◌}
-use Rattle.lx_spec.specs.Saying.{Entry, Said, Facts, HasUp, HasDown, HasLevels, Patches, Nothing, NamesCue, Skipped, inner_line, said_by, said_in, said, word_of, if_few, begun, cue_in, with_cue_named}
+use Rattle.lx_spec.specs.Saying.{Entry, Said, Facts, HasUp, HasDown, HasLevels, Patches, Nothing, NamesCue, Skipped, inner_line, said_by, said_in, word_of, if_few, begun, cue_in, with_cue_named}
 use Rattle.lx_spec.specs.Saying.{number as number_of}
 use Rattle.lx_spec.specs.Reading.{is_end}
 use Rattle.lx_show.specs.Changed.{changed}
 use Rattle.lx_reader.specs.declared.plain.Plain.{Plain}
 use Rattle.lx_reader.specs.declared.fault.ShowFault.{ShowFault}
 use Rattle.lx_reader.specs.declared.fault.ShowFault.TheVariants as faults
-use Rattle.lx_reader.specs.Built.{Known, is_built, is_built_line, is_timed, is_zero, is_empty, part_at_once, built_said, if_built}
+use Rattle.lx_reader.specs.Built.{Known, is_built, is_timed, is_zero, is_empty, part_at_once, built_said, if_built}
 use Rattle.lx_reader.specs.Lists.{all_pairs, all_triples}
 use Rattle.lx_reader.specs.PlainState.{section_in, known_of, known_by, known_after, is_open, part_timed, IsTimedSoFar, IsSound, TookUp, TakesSaid, TakesWord, TakesLine, built_by}
 use Rattle.lx_reader.specs.Stops.{HasPartIn}
 use Rattle.lx_reader.specs.TakenUp.{show_with, with_cue, with_up, with_down, with_levels, with_rows, moves_of, all_placed}
 use Rattle.lx_reader.proofs.Changing.{entry_key, entry-placed, entry-changed}
-use Rattle.lx_reader.proofs.PlainLines.{eq_swap, all_found, all_changed, all_placed_with, each, numbers-changed, numbers-placed, named-above, closed, sound_closed}
+use Rattle.lx_reader.proofs.PlainLines.{eq_swap, all_found, all_changed, all_placed_with, numbers-changed, numbers-placed, named-above, closed, sound_closed}
 
 eq_true : (a b : ℕ) → a ≡ b → (a == b) ≡ true
 eq_true a b h = grind (arith, nat_tests)

@@ -1,7 +1,7 @@
 -- What lines mean that were read one after another.
-use Rattle.std.proofs.Common.{◌≡◌, ℕ, zero, suc, ◌+◌, ◌-◌, ◌<◌, get_or, Bool, true, false, cond, List, [], ◌∷◌, ◌++◌, map, length, take, drop, Option, Some, None, Result, Ok, Err, refl, ap, ◌∙◌, sym, subst, append-nil, append_assoc, arith, add-zero, add-one, length-append}
-use Rattle.std.specs.Prelude.{filter_map, find, ◌||◌, ◌&&◌, not, count_by, position, nat_lt, is_some}
-use Rattle.std.specs.List.{list_any, before_first, after_last, position_or_len, cons_option, prefix_len, suffix_len}
+use Rattle.std.proofs.Common.{◌≡◌, ℕ, zero, suc, ◌+◌, ◌-◌, ◌<◌, get_or, Bool, true, false, cond, List, [], ◌∷◌, ◌++◌, map, length, take, drop, Some, None, Result, Ok, Err, refl, ap, ◌∙◌, sym, subst, arith, add-zero, add-one}
+use Rattle.std.specs.Prelude.{filter_map, find, ◌||◌, not, count_by, position, nat_lt}
+use Rattle.std.specs.List.{list_any, before_first, after_last, position_or_len, suffix_len}
 use Rattle.std.specs.Option.{option_map_or}
 use Rattle.std.proofs.lemmas.List.Sums.{suffix_len_is}
 use Rattle.std.proofs.Math.Seq.{take-append_seam}
@@ -12,14 +12,13 @@ use Rattle.lx_spec.specs.declared.TextFault.{TextFault}
 use Rattle.lx_spec.specs.declared.TextFault.TheVariants.{NoEndData}
 use Rattle.lx_spec.specs.Limits.{desk_limits}
 use Rattle.lx_spec.specs.Text.{tokens, lines_of}
-use Rattle.lx_spec.specs.Show.{Show}
 use Rattle.lx_spec.specs.Saying.{Entry, Said, Nothing, Skipped, ClearsAll, HasChannels, NamesGroup, NamesSub, NamesPart, facts, said, all_said, word_of, option_from}
-use Rattle.lx_spec.specs.Reading.{Reading, reading_from, reading_or_fault, ends_reading, reads, show_from, is_end, clears_all, is_skipped, channels_set, group_named, sub_named, part_named, last_in}
+use Rattle.lx_spec.specs.Reading.{reading_from, reading_or_fault, ends_reading, reads, show_from, is_end, clears_all, is_skipped, channels_set, group_named, sub_named, part_named, last_in}
 use Rattle.lx_spec.specs.Jobs.{script_of}
 use Rattle.lx_spec.specs.declared.Word.{Word}
 use Rattle.lx_spec.specs.declared.Word.TheVariants as words
 use Rattle.lx_reader.specs.Built.{Known, known_from, is_built, is_built_line, if_built, built_said, all_built, ends_built, reading_or_line, reads_built}
-use Rattle.lx_reader.proofs.Later.{later, last_in-more, any-more}
+use Rattle.lx_reader.proofs.Later.{last_in-more, any-more}
 
 -- the results of lines end the reading, or not
 abbrev pub ends : {F : Type 0} → Result Said F → Bool
