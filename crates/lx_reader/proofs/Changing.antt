@@ -1,16 +1,14 @@
 -- Entries that are placed or changed one after another.
 use Rattle.std.proofs.Common.{◌≡◌, ℕ, ◌<◌, ◌≤◌, Bool, true, false, cond, List, [], ◌∷◌, ◌++◌, length, ◌+◌, length-append, Option, Some, None, refl, ap, ◌∙◌, sym, subst, inl, inr, append-nil, arith}
-use Rattle.std.specs.Prelude.{filter, fold, nat_lt, ◌==◌, find, is_some}
+use Rattle.std.specs.Prelude.{nat_lt, ◌==◌}
 use Rattle.std.specs.List.{AllByRecursion}
 use Rattle.std.specs.Option.{option_map_or}
 use Rattle.std.proofs.lemmas.List.Elements.{filter-append}
 use Rattle.std.proofs.lemmas.List.Folds.{find-append}
-use Rattle.std.proofs.lemmas.List.Sums.{fold-append}
 use Rattle.std.proofs.lemmas.Bool.{cases_order, eqb-true}
 use Rattle.std.proofs.lemmas.Bool.Decides.{nat_tests}
-use Rattle.lx_spec.specs.Listing.{Rises, placed, entries_below, entries_above, entry_at, has_entry}
+use Rattle.lx_spec.specs.Listing.{Rises, placed, entries_below, entries_above, entry_at}
 use Rattle.lx_show.specs.Changed.{changed}
-use Rattle.lx_reader.specs.TakenUp.{all_placed}
 
 lt_true : (a b : ℕ) → a < b → nat_lt a b ≡ true
 lt_true a b h = grind (arith, nat_tests)
@@ -41,7 +39,7 @@ below_and_above_few key n [] = omega arith
 below_and_above_few {A} key n (x ∷ xs) =
     let rest = below_and_above_few key n xs in
     let at : (a b : Bool) → nat_lt (key x) n ≡ a → nat_lt n (key x) ≡ b → length (cond a (x ∷ entries_below key n xs) (entries_below key n xs)) + length (cond b (x ∷ entries_above key n xs) (entries_above key n xs)) ≤ length (x ∷ xs)
-        = λ a b. elim a as (λ a. nat_lt (key x) n ≡ a → nat_lt n (key x) ≡ b → length (cond a (x ∷ entries_below key n xs) (entries_below key n xs)) + length (cond b (x ∷ entries_above key n xs) (entries_above key n xs)) ≤ length (x ∷ xs)) [
+    = λ a b. elim a as (λ a. nat_lt (key x) n ≡ a → nat_lt n (key x) ≡ b → length (cond a (x ∷ entries_below key n xs) (entries_below key n xs)) + length (cond b (x ∷ entries_above key n xs) (entries_above key n xs)) ≤ length (x ∷ xs)) [
       | true ↦ λ p q. let e : b ≡ false = sym q ∙ not_both (key x) n p in subst (λ b. length (x ∷ entries_below key n xs) + length (cond b (x ∷ entries_above key n xs) (entries_above key n xs)) ≤ length (x ∷ xs)) (sym e) (omega arith)
       | false ↦ λ p q. elim b as (λ b. length (entries_below key n xs) + length (cond b (x ∷ entries_above key n xs) (entries_above key n xs)) ≤ length (x ∷ xs)) [ true ↦ omega arith | false ↦ omega arith ]
     ] in
@@ -52,7 +50,7 @@ below_below : {A : Type 0} (key : A → ℕ) (n : ℕ) (xs : List A) → entries
 below_below key n [] = refl
 below_below {A} key n (x ∷ xs) =
     let at : (b : Bool) → nat_lt (key x) n ≡ b → entries_below key n (cond b (x ∷ entries_below key n xs) (entries_below key n xs)) ≡ cond b (x ∷ entries_below key n xs) (entries_below key n xs)
-        = λ b. elim b as (λ b. nat_lt (key x) n ≡ b → entries_below key n (cond b (x ∷ entries_below key n xs) (entries_below key n xs)) ≡ cond b (x ∷ entries_below key n xs) (entries_below key n xs)) [
+    = λ b. elim b as (λ b. nat_lt (key x) n ≡ b → entries_below key n (cond b (x ∷ entries_below key n xs) (entries_below key n xs)) ≡ cond b (x ∷ entries_below key n xs) (entries_below key n xs)) [
       | true ↦ λ e. rw e (ap (λ v. x ∷ v) (below_below key n xs))
       | false ↦ λ e. below_below key n xs
     ] in
@@ -62,7 +60,7 @@ above_above : {A : Type 0} (key : A → ℕ) (n : ℕ) (xs : List A) → entries
 above_above key n [] = refl
 above_above {A} key n (x ∷ xs) =
     let at : (b : Bool) → nat_lt n (key x) ≡ b → entries_above key n (cond b (x ∷ entries_above key n xs) (entries_above key n xs)) ≡ cond b (x ∷ entries_above key n xs) (entries_above key n xs)
-        = λ b. elim b as (λ b. nat_lt n (key x) ≡ b → entries_above key n (cond b (x ∷ entries_above key n xs) (entries_above key n xs)) ≡ cond b (x ∷ entries_above key n xs) (entries_above key n xs)) [
+    = λ b. elim b as (λ b. nat_lt n (key x) ≡ b → entries_above key n (cond b (x ∷ entries_above key n xs) (entries_above key n xs)) ≡ cond b (x ∷ entries_above key n xs) (entries_above key n xs)) [
       | true ↦ λ e. rw e (ap (λ v. x ∷ v) (above_above key n xs))
       | false ↦ λ e. above_above key n xs
     ] in
@@ -72,7 +70,7 @@ below_above : {A : Type 0} (key : A → ℕ) (n : ℕ) (xs : List A) → entries
 below_above key n [] = refl
 below_above {A} key n (x ∷ xs) =
     let at : (b : Bool) → nat_lt n (key x) ≡ b → entries_below key n (cond b (x ∷ entries_above key n xs) (entries_above key n xs)) ≡ []
-        = λ b. elim b as (λ b. nat_lt n (key x) ≡ b → entries_below key n (cond b (x ∷ entries_above key n xs) (entries_above key n xs)) ≡ []) [
+    = λ b. elim b as (λ b. nat_lt n (key x) ≡ b → entries_below key n (cond b (x ∷ entries_above key n xs) (entries_above key n xs)) ≡ []) [
       | true ↦ λ e. rw (not_both n (key x) e) (below_above key n xs)
       | false ↦ λ e. below_above key n xs
     ] in
@@ -82,7 +80,7 @@ above_below : {A : Type 0} (key : A → ℕ) (n : ℕ) (xs : List A) → entries
 above_below key n [] = refl
 above_below {A} key n (x ∷ xs) =
     let at : (b : Bool) → nat_lt (key x) n ≡ b → entries_above key n (cond b (x ∷ entries_below key n xs) (entries_below key n xs)) ≡ []
-        = λ b. elim b as (λ b. nat_lt (key x) n ≡ b → entries_above key n (cond b (x ∷ entries_below key n xs) (entries_below key n xs)) ≡ []) [
+    = λ b. elim b as (λ b. nat_lt (key x) n ≡ b → entries_above key n (cond b (x ∷ entries_below key n xs) (entries_below key n xs)) ≡ []) [
       | true ↦ λ e. rw (not_both (key x) n e) (above_below key n xs)
       | false ↦ λ e. above_below key n xs
     ] in
@@ -92,7 +90,7 @@ none_at : {A : Type 0} (key : A → ℕ) (n : ℕ) (xs : List A) → entry_at ke
 none_at key n [] = refl
 none_at {A} key n (x ∷ xs) =
     let at : (b : Bool) → nat_lt (key x) n ≡ b → entry_at key n (cond b (x ∷ entries_below key n xs) (entries_below key n xs)) ≡ None
-        = λ b. elim b as (λ b. nat_lt (key x) n ≡ b → entry_at key n (cond b (x ∷ entries_below key n xs) (entries_below key n xs)) ≡ None) [
+    = λ b. elim b as (λ b. nat_lt (key x) n ≡ b → entry_at key n (cond b (x ∷ entries_below key n xs) (entries_below key n xs)) ≡ None) [
       | true ↦ λ e. rw (not_here (key x) n e) (none_at key n xs)
       | false ↦ λ e. none_at key n xs
     ] in
@@ -102,13 +100,13 @@ none_at {A} key n (x ∷ xs) =
 pub placed-twice : {A : Type 0} (key : A → ℕ) (n : ℕ) (x y : A) (xs : List A) → key x ≡ n → key y ≡ n → placed key y (placed key x xs) ≡ placed key y xs
 placed-twice {A} key n x y xs kx ky =
     let all : entries_below key n (entries_below key n xs ++ x ∷ entries_above key n xs) ++ (y ∷ entries_above key n (entries_below key n xs ++ x ∷ entries_above key n xs)) ≡ entries_below key n xs ++ (y ∷ entries_above key n xs) =
-      let low : entries_below key n (entries_below key n xs ++ x ∷ entries_above key n xs) ≡ entries_below key n xs =
-        filter-append (λ z. nat_lt (key z) n) (entries_below key n xs) (x ∷ entries_above key n xs)
-        ∙ rw (lt_same (key x) n kx) (rw (below_below key n xs, below_above key n xs) (append-nil (entries_below key n xs))) in
-      let high : entries_above key n (entries_below key n xs ++ x ∷ entries_above key n xs) ≡ entries_above key n xs =
-        filter-append (λ z. nat_lt n (key z)) (entries_below key n xs) (x ∷ entries_above key n xs)
-        ∙ rw (lt_same n (key x) (sym kx)) (rw (above_below key n xs, above_above key n xs) refl) in
-      λ i. low i ++ (y ∷ high i) in
+    let low : entries_below key n (entries_below key n xs ++ x ∷ entries_above key n xs) ≡ entries_below key n xs =
+    filter-append (λ z. nat_lt (key z) n) (entries_below key n xs) (x ∷ entries_above key n xs)
+    ∙ rw (lt_same (key x) n kx) (rw (below_below key n xs, below_above key n xs) (append-nil (entries_below key n xs))) in
+    let high : entries_above key n (entries_below key n xs ++ x ∷ entries_above key n xs) ≡ entries_above key n xs =
+    filter-append (λ z. nat_lt n (key z)) (entries_below key n xs) (x ∷ entries_above key n xs)
+    ∙ rw (lt_same n (key x) (sym kx)) (rw (above_below key n xs, above_above key n xs) refl) in
+    λ i. low i ++ (y ∷ high i) in
     let atx : entries_below key (key x) xs ++ x ∷ entries_above key (key x) xs ≡ entries_below key n xs ++ x ∷ entries_above key n xs = ap (λ k. entries_below key k xs ++ x ∷ entries_above key k xs) kx in
     ap (placed key y) atx ∙ subst (λ k. entries_below key k (entries_below key n xs ++ x ∷ entries_above key n xs) ++ (y ∷ entries_above key k (entries_below key n xs ++ x ∷ entries_above key n xs)) ≡ entries_below key k xs ++ (y ∷ entries_above key k xs)) (sym ky) all
 
@@ -124,7 +122,7 @@ pub entry_key : {A : Type 0} (key : A → ℕ) (n : ℕ) (xs : List A) (x : A) �
 entry_key key n [] x is = cc
 entry_key {A} key n (y ∷ ys) x is =
     let at : (b : Bool) → (key y == n) ≡ b → cond b (Some y) (entry_at key n ys) ≡ Some x → key x ≡ n
-        = λ b. elim b as (λ b. (key y == n) ≡ b → cond b (Some y) (entry_at key n ys) ≡ Some x → key x ≡ n) [
+    = λ b. elim b as (λ b. (key y == n) ≡ b → cond b (Some y) (entry_at key n ys) ≡ Some x → key x ≡ n) [
       | true ↦ λ e is. let same : y ≡ x = cc in subst (λ z. key z ≡ n) same (eqb-true (key y) n e)
       | false ↦ λ e is. entry_key key n ys x is
     ] in
@@ -134,7 +132,7 @@ entry_key {A} key n (y ∷ ys) x is =
 pub changed-again : {A : Type 0} (key : A → ℕ) (n : ℕ) (f g : A → A) → ((x : A) → key (f x) ≡ key x) → ((x : A) → key (g x) ≡ key x) → (xs : List A) → changed key n g (changed key n f xs) ≡ changed key n (λ x. g (f x)) xs
 changed-again {A} key n f g kf kg xs =
     let at : (o : Option A) → entry_at key n xs ≡ o → changed key n g (option_map_or (λ x. placed key (f x) xs) o xs) ≡ option_map_or (λ x. placed key (g (f x)) xs) o xs
-        = λ o. elim o as (λ o. entry_at key n xs ≡ o → changed key n g (option_map_or (λ x. placed key (f x) xs) o xs) ≡ option_map_or (λ x. placed key (g (f x)) xs) o xs) [
+    = λ o. elim o as (λ o. entry_at key n xs ≡ o → changed key n g (option_map_or (λ x. placed key (f x) xs) o xs) ≡ option_map_or (λ x. placed key (g (f x)) xs) o xs) [
       | None ↦ λ is. ap (λ o. option_map_or (λ x. placed key (g x) xs) o xs) is
       | Some x ↦ λ is.
           let here : key (f x) ≡ n = kf x ∙ entry_key key n xs x is in
@@ -200,7 +198,7 @@ placed-same {A} key n (y ∷ ys) x rises is = elim (cases_order (key y) n) [
 pub changed-not : {A : Type 0} (key : A → ℕ) (n : ℕ) (xs : List A) → Rises key xs → changed key n (λ x. x) xs ≡ xs
 changed-not {A} key n xs rises =
     let at : (o : Option A) → entry_at key n xs ≡ o → option_map_or (λ x. placed key x xs) o xs ≡ xs
-        = λ o. elim o as (λ o. entry_at key n xs ≡ o → option_map_or (λ x. placed key x xs) o xs ≡ xs) [
+    = λ o. elim o as (λ o. entry_at key n xs ≡ o → option_map_or (λ x. placed key x xs) o xs ≡ xs) [
       | None ↦ λ is. refl
       | Some x ↦ λ is. placed-same key n xs x rises is
     ] in

@@ -1,19 +1,17 @@
 -- A cue from what was said in its sections, with one more entry.
-use Rattle.std.proofs.Common.{◌≡◌, ℕ, Bool, true, false, cond, List, [], ◌∷◌, ◌++◌, map, Option, Some, None, refl, ap, ◌∙◌, sym, subst, append-nil}
-use Rattle.std.specs.Prelude.{filter, fold, flat_map, filter_map, unwrap_or, ◌==◌, ◌||◌}
-use Rattle.std.specs.List.{list_any, cons_option}
-use Rattle.std.specs.Option.{option_map_or}
+use Rattle.std.proofs.Common.{◌≡◌, ℕ, Bool, true, false, cond, List, [], ◌∷◌, ◌++◌, map, Option, Some, None, refl, ap, ◌∙◌, sym, append-nil}
+use Rattle.std.specs.Prelude.{filter, fold, flat_map, filter_map, unwrap_or, ◌==◌}
+use Rattle.std.specs.List.{cons_option}
 use Rattle.std.proofs.lemmas.Grind.{flat_map-append}
 use Rattle.std.proofs.lemmas.List.Sums.{fold-append}
 use Rattle.std.proofs.lemmas.List.Elements.{filter_map-append}
 use Rattle.lx_base.specs.declared.TheConstants.{DEFAULT_TIME}
 use Rattle.lx_spec.specs.declared.Part.{Part}
-use Rattle.lx_spec.specs.declared.Move.{Move}
 use Rattle.lx_spec.specs.declared.Section.{Section}
 use Rattle.lx_spec.specs.Show.{Cue}
-use Rattle.lx_spec.specs.Listing.{Rises, placed, has_entry, entry_at}
+use Rattle.lx_spec.specs.Listing.{Rises, placed, has_entry}
 use Rattle.lx_spec.specs.Saying.{Entry, Said, HasUp, HasDown, NamesPart, HasLevels, Follows, Links, IsLabelled, Blocks}
-use Rattle.lx_spec.specs.Reading.{last_of_each, numbers, last_in, part_named, follow_said, link_said, label_said, up_said, down_said, levels_said, blocks, moves_said, part_of, cue_from}
+use Rattle.lx_spec.specs.Reading.{last_of_each, numbers, last_in, part_named, follow_said, link_said, label_said, up_said, down_said, blocks, moves_said, part_of, cue_from}
 use Rattle.lx_spec.specs.Edited.{new_part}
 use Rattle.lx_show.specs.Changed.{changed}
 use Rattle.lx_reader.specs.TakenUp.{all_placed, cue_change, with_part, with_up, with_down}
@@ -41,9 +39,9 @@ part_from-more : (here : List Said) (s : Said) (p : ℕ) → part_from (here ++ 
 unfolding part_from
 part_from-more here s p =
     let up : unwrap_or (last_in up_said (here ++ s ∷ [])) (DEFAULT_TIME, 0) ≡ unwrap_or (up_said s.entry) (unwrap_or (last_in up_said here) (DEFAULT_TIME, 0))
-        = ap (λ v. unwrap_or v (DEFAULT_TIME, 0)) (last_in-more up_said here s) ∙ unwrap-later (up_said s.entry) (last_in up_said here) (DEFAULT_TIME, 0) in
+    = ap (λ v. unwrap_or v (DEFAULT_TIME, 0)) (last_in-more up_said here s) ∙ unwrap-later (up_said s.entry) (last_in up_said here) (DEFAULT_TIME, 0) in
     let down : unwrap_or (last_in down_said (here ++ s ∷ [])) (DEFAULT_TIME, 0) ≡ unwrap_or (down_said s.entry) (unwrap_or (last_in down_said here) (DEFAULT_TIME, 0))
-        = ap (λ v. unwrap_or v (DEFAULT_TIME, 0)) (last_in-more down_said here s) ∙ unwrap-later (down_said s.entry) (last_in down_said here) (DEFAULT_TIME, 0) in
+    = ap (λ v. unwrap_or v (DEFAULT_TIME, 0)) (last_in-more down_said here s) ∙ unwrap-later (down_said s.entry) (last_in down_said here) (DEFAULT_TIME, 0) in
     λ i. record { number = p; up = (up i).0; up_delay = (up i).1; down = (down i).0; down_delay = (down i).1 }
 
 part_from-some : (here : List Said) (s : Said) (p : ℕ) (b : Bool) → part_from (here ++ cond b (s ∷ []) []) p ≡ cond b (times_with s.entry (part_from here p)) (part_from here p)
@@ -84,7 +82,7 @@ cue_from-more about s n =
     let follow = last_in-more follow_said about s in
     let link = last_in-more link_said about s in
     let label : unwrap_or (last_in label_said (about ++ s ∷ [])) [] ≡ unwrap_or (label_said s.entry) (unwrap_or (last_in label_said about) [])
-        = ap (λ v. unwrap_or v []) (last_in-more label_said about s) ∙ unwrap-later (label_said s.entry) (last_in label_said about) [] in
+    = ap (λ v. unwrap_or v []) (last_in-more label_said about s) ∙ unwrap-later (label_said s.entry) (last_in label_said about) [] in
     let named = parts_named-more about s in
     let moves = moves-more about s in
     λ i. record {

@@ -1,5 +1,5 @@
 -- How a pass over the lines of a plain show ends.
-use Rattle.std.proofs.Common.{◌≡◌, ℕ, ◌+◌, ◌<◌, ◌≤◌, Bool, true, false, cond, List, [], ◌∷◌, ◌++◌, map, length, take, Option, Some, None, Result, Ok, Err, refl, ap, ◌∙◌, sym, subst, inl, inr, arith, append-nil, append_assoc}
+use Rattle.std.proofs.Common.{◌≡◌, ℕ, ◌+◌, ◌<◌, Bool, true, List, [], ◌∷◌, ◌++◌, map, length, take, Option, Some, None, Result, Ok, Err, refl, ap, ◌∙◌, sym, subst, inl, inr, arith, append_assoc}
 use Rattle.std.specs.Prelude.{◌&&◌, fold, max, flat_map, IfSome, unwrap_or}
 use Rattle.std.specs.List.{AllByRecursion}
 use Rattle.std.specs.Result.{IsOkAnd}
@@ -9,15 +9,13 @@ use Rattle.lx_base.specs.declared.TheConstants.{DEFAULT_CHANNELS, INPUT_BYTES}
 use Rattle.lx_spec.specs.declared.Form.TheVariants.{Moves}
 use Rattle.lx_spec.specs.declared.Word.{Word}
 use Rattle.lx_spec.specs.declared.Word.TheVariants as words
-use Rattle.lx_spec.specs.Limits.{desk_limits}
 use Rattle.lx_spec.specs.Text.{tokens, without_cr, lines_of}
-use Rattle.lx_spec.specs.Show.{Cue, Show, Valid}
-use Rattle.lx_spec.specs.Saying.{Entry, Said, Nothing, Ends, word_of}
+use Rattle.lx_spec.specs.Show.{Show, Valid}
+use Rattle.lx_spec.specs.Saying.{Entry, Said, Ends, word_of}
 use Rattle.lx_spec.specs.Reading.{Reading, reading_from, reads, is_end, channels_named, channels_set, last_in, show_from}
 use Rattle.lx_spec.specs.Jobs.{script_of}
 use Rattle.lx_lex.specs.declared.lines.Lines.{Lines}
-use Rattle.lx_lex.specs.declared.lines.Step.TheVariants as steps
-use Rattle.lx_lex.specs.Lines.{StepOf, TookLines, first_lines}
+use Rattle.lx_lex.specs.Lines.{TookLines, first_lines}
 use Rattle.lx_lex.specs.Handed.{HandedOut}
 use Rattle.lx_lex.specs.Unread.{unread, line_of}
 use Rattle.lx_lex.proofs.TakenLines.{next_too_long, all_texts, texts}
@@ -49,7 +47,7 @@ pub not_built : {S : Type 0} (left : S → Option (List ℕ)) (rises : S → ℕ
 not_built left rises old l l' p q i first past turn = elim turn.1 [
   | inl line ↦
       let said : built_said (known_from (back_onto (map without_cr past.raws) [])) (length (map without_cr past.raws) + 1) (without_cr line.0) ≡ Err i
-          = (λ j. built_said (sym past.known j) (sym (next_number left rises old l p past first) j) (without_cr line.0)) ∙ (λ j. built_said (known_of p) (sym turn.0 j) (without_cr line.0)) ∙ line.2 in
+      = (λ j. built_said (sym past.known j) (sym (next_number left rises old l p past first) j) (without_cr line.0)) ∙ (λ j. built_said (known_of p) (sym turn.0 j) (without_cr line.0)) ∙ line.2 in
       let handed = handed_then left rises old l l' past.raws (line.0 ∷ []) past.handed line.1 in
       record {
         raws = past.raws ++ line.0 ∷ [];
@@ -88,9 +86,9 @@ pub too_long : {S : Type 0} (left : S → Option (List ℕ)) (rises : S → ℕ)
 too_long left rises old l l' p q past turn =
     let open_text : reads_built (map without_cr past.raws) ≡ Err (length past.raws + 1) = reads-open (map without_cr past.raws) past.saids past.so_far ∙ ap (λ n. Err (n + 1)) (length_texts past.raws) in
     let front : IfSome (unread left old) (λ bytes. reads_built (take (length past.raws) (lines_of bytes)) ≡ Err (length past.raws + 1))
-        = text_with (unread left old) (unread left l) old.taken l.taken past.raws (λ v. reads_built (take (length past.raws) v) ≡ Err (length past.raws + 1)) past.handed.took (λ more. ap reads_built (first_texts past.raws more) ∙ open_text) in
+    = text_with (unread left old) (unread left l) old.taken l.taken past.raws (λ v. reads_built (take (length past.raws) v) ≡ Err (length past.raws + 1)) past.handed.took (λ more. ap reads_built (first_texts past.raws more) ∙ open_text) in
     let long : IfSome (unread left old) (λ bytes. INPUT_BYTES < old.taken + length (first_lines (length past.raws + 1) bytes))
-        = next_too_long (unread left old) (unread left l) (unread left l') old.taken l.taken l'.taken past.raws (line_of l') (length past.raws + 1) past.handed.took turn refl in
+    = next_too_long (unread left old) (unread left l) (unread left l') old.taken l.taken l'.taken past.raws (line_of l') (length past.raws + 1) past.handed.took turn refl in
     some_weaker (unread left old) (λ bytes. (reads_built (take (length past.raws) (lines_of bytes)) ≡ Err (length past.raws + 1)) × (INPUT_BYTES < old.taken + length (first_lines (length past.raws + 1) bytes))) (IsTooLong old.taken)
     (λ bytes both. record { n = length past.raws; no_end = both.0; long = both.1 })
     (both_some (unread left old) (λ bytes. reads_built (take (length past.raws) (lines_of bytes)) ≡ Err (length past.raws + 1)) (λ bytes. INPUT_BYTES < old.taken + length (first_lines (length past.raws + 1) bytes)) front long)
@@ -126,7 +124,7 @@ widened : (saids : List Said) → last_in channels_set saids ≡ None → record
 widened saids none =
     let named : List ℕ = flat_map (λ s. channels_named s.entry) saids in
     let greatest : max (fold max 1 named) DEFAULT_CHANNELS ≡ fold max (unwrap_or (last_in channels_set saids) DEFAULT_CHANNELS) named
-        = max_swap (fold max 1 named) DEFAULT_CHANNELS ∙ sym (greatest-from DEFAULT_CHANNELS 1 named) ∙ sym (ap (λ o. fold max (unwrap_or o DEFAULT_CHANNELS) named) none) in
+    = max_swap (fold max 1 named) DEFAULT_CHANNELS ∙ sym (greatest-from DEFAULT_CHANNELS 1 named) ∙ sym (ap (λ o. fold max (unwrap_or o DEFAULT_CHANNELS) named) none) in
     λ j. record (show_from saids) { channels = greatest j }
 
 text_of : (a b : Option (List ℕ)) (i j : ℕ) (raws : List (List ℕ)) (raw : List ℕ) (x y : List ℕ) → a ≡ Some x → b ≡ Some y → TookLines a b i j (raws ++ raw ∷ []) → lines_of x ≡ map without_cr raws ++ without_cr raw ∷ lines_of y

@@ -1,19 +1,15 @@
 -- Entries that are put into a show one after another.
-use Rattle.std.proofs.Common.{◌≡◌, ℕ, ◌≤◌, ◌<◌, Bool, true, false, cond, List, [], ◌∷◌, ◌++◌, map, length, Option, Some, None, refl, ap, ◌∙◌, sym, subst, append-nil, append_assoc, arith, IsTrue, Result, Ok, Err}
+use Rattle.std.proofs.Common.{◌≡◌, ℕ, false, List, [], ◌∷◌, ◌++◌, map, Option, Some, None, refl, ap, ◌∙◌, sym, subst, append-nil, append_assoc, IsTrue, Result, Ok, Err}
 use Rattle.std.specs.Prelude.{fold, max, is_some, OnOk}
 use Rattle.std.specs.Option.{IsSomeAnd, option_map_or, option_copied}
 use denote.Ref.{Bor}
 use Rattle.std.proofs.lemmas.List.{map-append}
 use Rattle.std.proofs.lemmas.List.Sums.{fold-append}
 use Rattle.lx_spec.specs.declared.Member.{Member}
-use Rattle.lx_spec.specs.declared.Move.{Move}
 use Rattle.lx_spec.specs.declared.Part.{Part}
 use Rattle.lx_spec.specs.declared.PatchRow.{PatchRow}
-use Rattle.lx_spec.specs.declared.Section.{Section}
-use Rattle.lx_spec.specs.declared.Section.TheVariants.{InCue}
 use Rattle.lx_spec.specs.Listing.{placed, entry_at, has_entry}
 use Rattle.lx_spec.specs.Show.{Show, Cue, Valid}
-use Rattle.lx_spec.specs.Saying.{Entry, HasLevels, Patches, HasUp, HasDown}
 use Rattle.lx_spec.specs.Tracked.{cue_of}
 use Rattle.lx_show.specs.Changed.{changed}
 use Rattle.lx_reader.specs.TakenUp.{with_rows, with_levels, all_placed, moves_of}
@@ -29,7 +25,7 @@ with_moves p members cue = record cue { moves = all_placed (λ m. m.chan) (moves
 moves_again : (p : ℕ) (xs ys : List Member) (cue : Cue) → with_moves p ys (with_moves p xs cue) ≡ with_moves p (xs ++ ys) cue
 moves_again p xs ys cue =
     let moves : all_placed (λ m. m.chan) (moves_of p (xs ++ ys)) cue.moves ≡ all_placed (λ m. m.chan) (moves_of p ys) (all_placed (λ m. m.chan) (moves_of p xs) cue.moves)
-        = ap (λ v. all_placed (λ m. m.chan) v cue.moves) (map-append (λ m. record { chan = m.chan; part = p; level = m.level }) xs ys) ∙ fold-append (λ zs x. placed (λ m. m.chan) x zs) cue.moves (moves_of p xs) (moves_of p ys) in
+    = ap (λ v. all_placed (λ m. m.chan) v cue.moves) (map-append (λ m. record { chan = m.chan; part = p; level = m.level }) xs ys) ∙ fold-append (λ zs x. placed (λ m. m.chan) x zs) cue.moves (moves_of p xs) (moves_of p ys) in
     λ i. record cue { moves = sym moves i }
 
 -- first these levels, and then those
@@ -37,9 +33,9 @@ pub levels-again : (n p : ℕ) (xs ys : List Member) (show : Show) → with_leve
 levels-again n p xs ys show =
     let named : (zs : List Member) → map (λ m. m.chan) zs ++ [] ≡ map (λ m. m.chan) zs = λ zs. append-nil (map (λ m. m.chan) zs) in
     let channels : fold max (fold max show.channels (map (λ m. m.chan) xs ++ [])) (map (λ m. m.chan) ys ++ []) ≡ fold max show.channels (map (λ m. m.chan) (xs ++ ys) ++ [])
-        = (λ i. fold max (fold max show.channels (named xs i)) (named ys i)) ∙ sym (fold-append max show.channels (map (λ m. m.chan) xs) (map (λ m. m.chan) ys)) ∙ ap (fold max show.channels) (sym (map-append (λ m. m.chan) xs ys) ∙ sym (named (xs ++ ys))) in
+    = (λ i. fold max (fold max show.channels (named xs i)) (named ys i)) ∙ sym (fold-append max show.channels (map (λ m. m.chan) xs) (map (λ m. m.chan) ys)) ∙ ap (fold max show.channels) (sym (map-append (λ m. m.chan) xs ys) ∙ sym (named (xs ++ ys))) in
     let cues : changed (λ cue. cue.number) n (with_moves p ys) (changed (λ cue. cue.number) n (with_moves p xs) show.cues) ≡ changed (λ cue. cue.number) n (with_moves p (xs ++ ys)) show.cues
-        = changed-again (λ cue. cue.number) n (with_moves p xs) (with_moves p ys) (λ cue. refl) (λ cue. refl) show.cues ∙ (λ i. changed (λ cue. cue.number) n (λ cue. moves_again p xs ys cue i) show.cues) in
+    = changed-again (λ cue. cue.number) n (with_moves p xs) (with_moves p ys) (λ cue. refl) (λ cue. refl) show.cues ∙ (λ i. changed (λ cue. cue.number) n (λ cue. moves_again p xs ys cue i) show.cues) in
     λ i. record show { channels = channels i; cues = cues i }
 
 -- the cue keeps its parts
@@ -54,9 +50,9 @@ HasPartIn-levels n p members show there = keeps_part n p members show (cue_of sh
 pub rows-again : (xs ys : List PatchRow) (show : Show) → with_rows ys (with_rows xs show) ≡ with_rows (xs ++ ys) show
 rows-again xs ys show =
     let channels : fold max (fold max show.channels (map (λ row. row.chan) xs)) (map (λ row. row.chan) ys) ≡ fold max show.channels (map (λ row. row.chan) (xs ++ ys))
-        = sym (fold-append max show.channels (map (λ row. row.chan) xs) (map (λ row. row.chan) ys)) ∙ ap (fold max show.channels) (sym (map-append (λ row. row.chan) xs ys)) in
+    = sym (fold-append max show.channels (map (λ row. row.chan) xs) (map (λ row. row.chan) ys)) ∙ ap (fold max show.channels) (sym (map-append (λ row. row.chan) xs ys)) in
     let patch : all_placed (λ row. row.dimmer) ys (all_placed (λ row. row.dimmer) xs show.patch) ≡ all_placed (λ row. row.dimmer) (xs ++ ys) show.patch
-        = sym (fold-append (λ zs x. placed (λ row. row.dimmer) x zs) show.patch xs ys) in
+    = sym (fold-append (λ zs x. placed (λ row. row.dimmer) x zs) show.patch xs ys) in
     λ i. record show { channels = channels i; patch = patch i }
 
 placed_part : (p : ℕ) (part new : Part) (change : Part → Part) (parts : List Part) → entry_at (λ q. q.number) p parts ≡ Some part → new ≡ change part → placed (λ q. q.number) new parts ≡ changed (λ q. q.number) p change parts

@@ -1,8 +1,7 @@
 -- The word that a token is, among those of its length.
-use Rattle.std.proofs.Common.{◌≡◌, ℕ, Bool, true, false, cond, List, [], ◌∷◌, length, map, Some, None, refl, ap, ◌∙◌, sym, arith}
+use Rattle.std.proofs.Common.{◌≡◌, ℕ, Bool, true, false, cond, List, [], ◌∷◌, length, map, Some, refl, ap, ◌∙◌, sym, arith}
 use Rattle.std.specs.Prelude.{◌==◌, filter, find, bytes_eq}
 use Rattle.std.specs.Option.{option_map_or}
-use Rattle.std.specs.Str.{str_to_ascii_uppercase}
 use Rattle.std.specs.Char.{to_ascii_uppercase}
 use Rattle.std.proofs.lemmas.Bool.Decides.{nat_tests}
 use Rattle.std.proofs.lemmas.Slice.Eq.{bytes_eq-Decides}
@@ -32,7 +31,7 @@ of_length t n len [] = refl
 of_length t n len (w ∷ ws) =
     let rest = of_length t n len ws in
     let at : (b : Bool) → (length w.0 == n) ≡ b → cond (is_word w.0 t) (Some w) (find (λ e. is_word e.0 t) ws) ≡ find (λ e. is_word e.0 t) (cond b (w ∷ filter (λ e. length e.0 == n) ws) (filter (λ e. length e.0 == n) ws))
-        = λ b. elim b as (λ b. (length w.0 == n) ≡ b → cond (is_word w.0 t) (Some w) (find (λ e. is_word e.0 t) ws) ≡ find (λ e. is_word e.0 t) (cond b (w ∷ filter (λ e. length e.0 == n) ws) (filter (λ e. length e.0 == n) ws))) [
+    = λ b. elim b as (λ b. (length w.0 == n) ≡ b → cond (is_word w.0 t) (Some w) (find (λ e. is_word e.0 t) ws) ≡ find (λ e. is_word e.0 t) (cond b (w ∷ filter (λ e. length e.0 == n) ws) (filter (λ e. length e.0 == n) ws))) [
       | true ↦ λ e. ap (λ v. cond (is_word w.0 t) (Some w) v) rest
       | false ↦ λ e. ap (λ b. cond b (Some w) (find (λ e. is_word e.0 t) ws)) (other_length w.0 t n len e) ∙ rest
     ] in

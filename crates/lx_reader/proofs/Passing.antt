@@ -1,51 +1,33 @@
 -- A pass over the lines of a plain show.
-use Rattle.std.proofs.Common.{◌≡◌, ℕ, zero, suc, ◌+◌, ◌<◌, ◌≤◌, Bool, true, false, cond, List, [], ◌∷◌, ◌++◌, map, length, take, Option, Some, None, Result, Ok, Err, refl, ap, ◌∙◌, sym, subst, inl, inr, arith, append-nil, append_assoc, length-append}
-use Rattle.std.specs.Prelude.{◌&&◌, filter, fold, max, flat_map, filter_map, IfSome, is_some, unwrap_or}
+use Rattle.std.proofs.Common.{◌≡◌, ℕ, ◌+◌, Bool, true, false, cond, List, [], ◌∷◌, ◌++◌, map, length, Option, Some, None, Result, Ok, Err, refl, ap, ◌∙◌, sym, subst, arith}
+use Rattle.std.specs.Prelude.{filter, fold, filter_map, IfSome, is_some}
 use Rattle.std.specs.List.{AllByRecursion, cons_option}
-use Rattle.std.specs.Option.{IsSomeAnd}
 use Rattle.std.specs.Result.{IsOkAnd}
-use Rattle.std.specs.Io.KnownBytes.{IsAtEnd}
 use Rattle.std.proofs.lemmas.List.{map-append}
-use Rattle.std.proofs.Math.Seq.{take-append_seam}
 use Rattle.std.proofs.lemmas.Bool.{eqb-true}
-use Rattle.lx_base.specs.declared.TheConstants.{DEFAULT_CHANNELS, INPUT_BYTES}
-use Rattle.lx_spec.specs.declared.Form.TheVariants.{Moves}
-use Rattle.lx_spec.specs.declared.Section.{Section}
-use Rattle.lx_spec.specs.declared.Section.TheVariants.{InCue}
 use Rattle.lx_spec.specs.declared.TextFault.{TextFault}
-use Rattle.lx_spec.specs.declared.Word.{Word}
-use Rattle.lx_spec.specs.declared.Word.TheVariants as words
 use Rattle.lx_spec.specs.Limits.{desk_limits}
-use Rattle.lx_spec.specs.Text.{tokens, without_cr, lines_of}
-use Rattle.lx_spec.specs.Show.{Cue, Show, Valid}
-use Rattle.lx_spec.specs.Listing.{Rises, placed, has_entry, entry_at}
+use Rattle.lx_spec.specs.Text.{tokens, without_cr}
+use Rattle.lx_spec.specs.Show.{Cue}
+use Rattle.lx_spec.specs.Listing.{placed, has_entry}
 use Rattle.lx_spec.specs.Tracked.{cue_of}
 use Rattle.lx_spec.specs.Refusing.{◌>>=◌}
-use Rattle.lx_spec.specs.Saying.{Entry, Said, Ends, Facts, entry_of, said, word_of}
-use Rattle.lx_spec.specs.Reading.{Reading, reading_from, reads, numbers, named_by, cue_named, part_named, in_cue, section_is_cue, section_is_group, section_is_sub, is_end, channels_named, channels_set, last_in, show_from}
-use Rattle.lx_spec.specs.Jobs.{script_of}
+use Rattle.lx_spec.specs.Saying.{Entry, Said, Facts, entry_of}
+use Rattle.lx_spec.specs.Reading.{named_by, cue_named, part_named, in_cue, section_is_cue, section_is_group, section_is_sub, is_end}
 use Rattle.lx_lex.specs.declared.lines.Lines.{Lines}
-use Rattle.lx_lex.specs.declared.lines.Step.TheVariants as steps
-use Rattle.lx_lex.specs.Lines.{StepOf, TookLines, first_lines}
 use Rattle.lx_lex.specs.Handed.{HandedOut}
-use Rattle.lx_lex.specs.Unread.{unread, line_of}
-use Rattle.lx_lex.proofs.TakenLines.{next_too_long, texts, all_texts}
 use Rattle.lx_lex.proofs.HandingOut.{handed_none, handed_then}
 use Rattle.lx_reader.specs.declared.plain.Plain.{Plain}
-use Rattle.lx_reader.specs.declared.loaded.Loaded.{Loaded}
-use Rattle.lx_reader.specs.declared.fault.ShowFault.{ShowFault}
-use Rattle.lx_reader.specs.declared.fault.ShowFault.TheVariants as faults
-use Rattle.lx_reader.specs.Built.{Known, known_from, is_built, is_built_line, is_timed, built_said, reads_built, IsAtOnce, AllAtOnce}
-use Rattle.lx_reader.specs.PlainState.{section_in, known_of, known_after, IsSound, IsTimedSoFar, TookUp, TakesLine}
-use Rattle.lx_reader.specs.Loading.{reading_of, HasRead, IsNotBuilt, IsTooLong, TurnOf}
+use Rattle.lx_reader.specs.Built.{known_from, built_said}
+use Rattle.lx_reader.specs.PlainState.{section_in, known_of, known_after, IsSound, IsTimedSoFar, TookUp}
+use Rattle.lx_reader.specs.Loading.{TurnOf}
 use Rattle.lx_reader.specs.Stops.{HasPartIn}
 use Rattle.lx_reader.specs.TakenUp.{show_with}
 use Rattle.lx_reader.proofs.Later.{filter-more}
-use Rattle.lx_reader.proofs.Placing.{has_made, has-placed, has-all_placed, has-here}
+use Rattle.lx_reader.proofs.Placing.{has_made, has-all_placed, has-here}
 use Rattle.lx_reader.proofs.Cues.{HasPart, IsFresh}
-use Rattle.lx_reader.proofs.Shows.{made, show_so_far, show-more, IsFounded, IsOutside, named-more, greatest-from}
-use Rattle.lx_reader.proofs.Readings.{SoFar, nothing_yet, one_more, back_onto, back_onto-append, IsTaken, taken, IsPlain, plain_entry, reads-refused, reads-ended, reads-open, text-ended, reading_quiet}
-use Rattle.lx_reader.proofs.PlainLines.{each}
+use Rattle.lx_reader.proofs.Shows.{made, show_so_far, show-more, IsFounded, named-more}
+use Rattle.lx_reader.proofs.Readings.{SoFar, nothing_yet, one_more, back_onto, back_onto-append, taken, IsPlain, plain_entry}
 use Rattle.lx_reader.proofs.PlainWords.{entry_in}
 use Rattle.lx_reader.proofs.Turns.{known-more, built_not_clear}
 
@@ -154,8 +136,8 @@ passed_by left rises old l l' p q past raw handed i place (Ok s) says took =
     let says' : built_said (known_from (back_onto handed_texts [])) (length handed_texts + 1) line ≡ Ok s = (λ j. built_said (sym past.known j) (sym place j) line) ∙ says in
     let more : SoFar (handed_texts ++ line ∷ []) (past.saids ++ s ∷ []) = one_more handed_texts past.saids line s past.so_far says' took.0 in
     let shown : show_so_far (past.saids ++ record { section = section_in p.cue; part = 1; entry = s.entry } ∷ []) ≡ show_with (record { section = section_in p.cue; part = 1; entry = s.entry }) (show_so_far past.saids)
-        = show-more past.saids (section_in p.cue) 1 s.entry (founded past.saids p s.entry past.rooted past.show past.sound plain.no_part)
-          (record { groups = (no_such p.cue).0; subs = (no_such p.cue).1; no_group = plain.no_group; no_sub = plain.no_sub }) in
+    = show-more past.saids (section_in p.cue) 1 s.entry (founded past.saids p s.entry past.rooted past.show past.sound plain.no_part)
+    (record { groups = (no_such p.cue).0; subs = (no_such p.cue).1; no_group = plain.no_group; no_sub = plain.no_sub }) in
     record {
       raws = past.raws ++ raw ∷ [];
       saids = past.saids ++ s ∷ [];

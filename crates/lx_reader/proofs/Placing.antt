@@ -7,7 +7,7 @@ use Rattle.lx_show.specs.Changed.{changed}
 use Rattle.std.proofs.lemmas.List.{map-append}
 use Rattle.std.proofs.lemmas.Bool.{cases_order, eqb-true}
 use Rattle.std.proofs.lemmas.Bool.Decides.{nat_tests}
-use Rattle.lx_spec.specs.Listing.{Rises, placed, entries_below, entries_above, entry_at, has_entry}
+use Rattle.lx_spec.specs.Listing.{Rises, placed, entry_at, has_entry}
 use Rattle.lx_spec.specs.Reading.{numbers}
 use Rattle.lx_show.proofs.RisingLists.{Rises-placed}
 
@@ -38,7 +38,7 @@ has-filtered_out n test [] drops = refl
 has-filtered_out n test (x ∷ xs) drops =
     let rest = has-filtered_out n test xs drops in
     let at : (b : Bool) → test x ≡ b → has_entry (λ k. k) n (cond b (x ∷ filter test xs) (filter test xs)) ≡ false
-        = λ b. elim b as (λ b. test x ≡ b → has_entry (λ k. k) n (cond b (x ∷ filter test xs) (filter test xs)) ≡ false) [
+    = λ b. elim b as (λ b. test x ≡ b → has_entry (λ k. k) n (cond b (x ∷ filter test xs) (filter test xs)) ≡ false) [
       | true ↦ λ keeps. elim (cases_order x n) [
         | inl here ↦ (let odd : true ≡ false = sym keeps ∙ ap test here ∙ drops in cc)
         | inr other ↦ elim other [ inl low ↦ rw (eq_below x n low) rest | inr high ↦ rw (eq_above x n high) rest ]
@@ -79,7 +79,7 @@ filter_agrees key f g kf kg test same [] = refl
 filter_agrees {A} key f g kf kg test same (m ∷ ms) =
     let rest = filter_agrees key f g kf kg test same ms in
     let at : (b : Bool) → test m ≡ b → cond b (g m ∷ filter (λ x. test (key x)) (map g ms)) (filter (λ x. test (key x)) (map g ms)) ≡ cond b (f m ∷ filter (λ x. test (key x)) (map f ms)) (filter (λ x. test (key x)) (map f ms))
-        = λ b. elim b as (λ b. test m ≡ b → cond b (g m ∷ filter (λ x. test (key x)) (map g ms)) (filter (λ x. test (key x)) (map g ms)) ≡ cond b (f m ∷ filter (λ x. test (key x)) (map f ms)) (filter (λ x. test (key x)) (map f ms))) [
+    = λ b. elim b as (λ b. test m ≡ b → cond b (g m ∷ filter (λ x. test (key x)) (map g ms)) (filter (λ x. test (key x)) (map g ms)) ≡ cond b (f m ∷ filter (λ x. test (key x)) (map f ms)) (filter (λ x. test (key x)) (map f ms))) [
       | true ↦ λ e i. same m e i ∷ rest i
       | false ↦ λ e. rest
     ] in
@@ -153,7 +153,7 @@ entry_made key f keys n [] = refl
 entry_made {A} key f keys n (m ∷ ms) =
     let rest = entry_made key f keys n ms in
     let at : (b : Bool) → (m == n) ≡ b → cond b (Some (f m)) (entry_at key n (map f ms)) ≡ cond (is_some (cond b (Some m) (entry_at (λ k. k) n ms))) (Some (f n)) None
-        = λ b. elim b as (λ b. (m == n) ≡ b → cond b (Some (f m)) (entry_at key n (map f ms)) ≡ cond (is_some (cond b (Some m) (entry_at (λ k. k) n ms))) (Some (f n)) None) [
+    = λ b. elim b as (λ b. (m == n) ≡ b → cond b (Some (f m)) (entry_at key n (map f ms)) ≡ cond (is_some (cond b (Some m) (entry_at (λ k. k) n ms))) (Some (f n)) None) [
       | true ↦ λ e. ap (λ k. Some (f k)) (eqb-true m n e)
       | false ↦ λ e. rest
     ] in

@@ -1,29 +1,21 @@
 -- What a line makes of the reader of a plain show.
-use Rattle.std.proofs.Common.{◌≡◌, ℕ, zero, suc, ◌-◌, ◌≤◌, ◌<◌, Bool, true, false, cond, List, [], ◌∷◌, ◌++◌, map, length, Option, Some, None, Result, Ok, Err, refl, ap, ◌∙◌, sym, subst, append-nil, arith, IsTrue, inl, inr}
-use Rattle.std.specs.Prelude.{◌&&◌, ◌||◌, ◌==◌, not, nat_lt, filter, find, slice_get, is_some, is_none, IfSome}
+use Rattle.std.proofs.Common.{◌≡◌, ℕ, zero, suc, ◌-◌, ◌<◌, Bool, true, false, cond, List, [], ◌∷◌, ◌++◌, map, length, Option, Some, None, refl, ap, ◌∙◌, sym, subst, arith}
+use Rattle.std.specs.Prelude.{◌&&◌, ◌==◌, nat_lt, filter, find, slice_get, is_some, IfSome}
 use Rattle.std.specs.List.{AllByRecursion, list_all, list_any}
-use Rattle.std.specs.Option.{IsSomeAnd, option_map_or}
+use Rattle.std.specs.Option.{option_map_or}
 use Rattle.std.proofs.lemmas.List.{map-append}
-use Rattle.std.proofs.lemmas.Bool.{cases_order, eqb-true}
 use Rattle.std.proofs.lemmas.Bool.Decides.{nat_tests}
-use Rattle.lx_spec.specs.declared.Part.{Part}
-use Rattle.lx_spec.specs.declared.Member.{Member}
-use Rattle.lx_spec.specs.declared.Word.{Word}
-use Rattle.lx_spec.specs.declared.Word.TheVariants as words
-use Rattle.lx_spec.specs.declared.TextFault.{TextFault}
-use Rattle.lx_spec.specs.Show.{Cue, Show}
+use Rattle.lx_spec.specs.Show.{Cue}
 use Rattle.lx_spec.specs.Listing.{Rises, placed, entry_at, has_entry, entries_below, entries_above}
 use Rattle.lx_spec.specs.Edited.{new_cue}
-use Rattle.lx_spec.specs.Tracked.{cue_of}
-use Rattle.lx_spec.specs.Saying.{Entry, Said, Nothing}
 use Rattle.lx_show.specs.Changed.{changed}
 use Rattle.lx_reader.specs.declared.plain.Plain.{Plain}
-use Rattle.lx_reader.specs.Built.{Known, is_built, is_timed, part_at_once}
-use Rattle.lx_reader.specs.PlainState.{section_in, known_of, known_by, is_open, part_timed, IsTimedSoFar, IsSound, built_by}
+use Rattle.lx_reader.specs.Built.{is_timed, part_at_once}
+use Rattle.lx_reader.specs.PlainState.{section_in, is_open, part_timed, IsTimedSoFar, IsSound}
 use Rattle.lx_reader.specs.Stops.{HasPartIn}
-use Rattle.lx_reader.specs.TakenUp.{with_cue, with_up, with_down}
+use Rattle.lx_reader.specs.TakenUp.{with_cue}
 use Rattle.lx_reader.proofs.Placing.{placed-there}
-use Rattle.lx_reader.proofs.Changing.{entry_key, entry-placed, entry-changed}
+use Rattle.lx_reader.proofs.Changing.{entry_key}
 
 pub and_first : (a b : Bool) → (a && b) ≡ true → a ≡ true
 and_first true b h = refl
@@ -50,7 +42,7 @@ all_kept : {A : Type 0} (P Q : A → Type 0) (test : A → Bool) (xs : List A) �
 all_kept P Q test [] f all = tt
 all_kept {A} P Q test (x ∷ xs) f all =
     let at : (b : Bool) → test x ≡ b → AllByRecursion Q (cond b (x ∷ filter test xs) (filter test xs))
-        = λ b. elim b as (λ b. test x ≡ b → AllByRecursion Q (cond b (x ∷ filter test xs) (filter test xs))) [
+    = λ b. elim b as (λ b. test x ≡ b → AllByRecursion Q (cond b (x ∷ filter test xs) (filter test xs))) [
       | true ↦ λ e. (f x e all.0, all_kept P Q test xs f all.1)
       | false ↦ λ e. all_kept P Q test xs f all.1
     ] in
@@ -64,7 +56,7 @@ pub all_found : {A : Type 0} (P : A → Type 0) (test : A → Bool) (xs : List A
 all_found P test [] x is all = cc
 all_found {A} P test (y ∷ ys) x is all =
     let at : (b : Bool) → test y ≡ b → cond b (Some y) (find test ys) ≡ Some x → P x
-        = λ b. elim b as (λ b. test y ≡ b → cond b (Some y) (find test ys) ≡ Some x → P x) [
+    = λ b. elim b as (λ b. test y ≡ b → cond b (Some y) (find test ys) ≡ Some x → P x) [
       | true ↦ λ e is. let same : y ≡ x = cc in subst P same all.0
       | false ↦ λ e is. all_found P test ys x is all.1
     ] in
@@ -118,7 +110,7 @@ numbers_have key n (x ∷ xs) = elim (key x == n) as (λ b. is_some (cond b (Som
 pub numbers-changed : {A : Type 0} (key : A → ℕ) (n : ℕ) (f : A → A) (xs : List A) → ((x : A) → key (f x) ≡ key x) → Rises key xs → map key (changed key n f xs) ≡ map key xs
 numbers-changed {A} key n f xs keeps rises =
     let at : (o : Option A) → entry_at key n xs ≡ o → map key (option_map_or (λ z. placed key (f z) xs) o xs) ≡ map key xs
-        = λ o. elim o as (λ o. entry_at key n xs ≡ o → map key (option_map_or (λ z. placed key (f z) xs) o xs) ≡ map key xs) [
+    = λ o. elim o as (λ o. entry_at key n xs ≡ o → map key (option_map_or (λ z. placed key (f z) xs) o xs) ≡ map key xs) [
       | None ↦ λ is. refl
       | Some x ↦ λ is.
           let kf : key (f x) ≡ n = keeps x ∙ entry_key key n xs x is in
@@ -147,7 +139,7 @@ open_timed (Some m) n up down is timed = (and_first up down timed, and_second up
 pub timed_parts : (old : Plain) (cue : Cue) → IsTimedSoFar old cue → is_timed (section_in old.cue) old.up old.down ≡ true → old.earlier ≡ true → cue.parts ≡ part_at_once ∷ []
 timed_parts old cue timed is earlier =
     let at : (b : Bool) → is_open old.cue cue.number ≡ b → cue.parts ≡ part_at_once ∷ []
-        = λ b. elim b as (λ b. is_open old.cue cue.number ≡ b → cue.parts ≡ part_at_once ∷ []) [
+    = λ b. elim b as (λ b. is_open old.cue cue.number ≡ b → cue.parts ≡ part_at_once ∷ []) [
       | true ↦ λ e. let both = open_timed old.cue cue.number old.up old.down e is in timed.open_cue e ∙ (λ i. part_timed (both.0 i) (both.1 i) ∷ [])
       | false ↦ λ e. timed.other_cue e earlier
     ] in
@@ -192,7 +184,7 @@ all_below key n x (y ∷ ys) last rises is =
     let rest : list_all (λ m. nat_lt m n) (map key (y ∷ ys)) ≡ nat_lt (key last) n = all_below key n y ys last rises.1 is in
     let first : key x < key last = all_got (λ z. key x < key z) (y ∷ ys) (length ys) last is rises.0 in
     let at : (b : Bool) → nat_lt (key last) n ≡ b → (nat_lt (key x) n && b) ≡ b
-        = λ b. elim b as (λ b. nat_lt (key last) n ≡ b → (nat_lt (key x) n && b) ≡ b) [
+    = λ b. elim b as (λ b. nat_lt (key last) n ≡ b → (nat_lt (key x) n && b) ≡ b) [
       | true ↦ λ e. ap (λ a. a && true) (lt_below (key x) (key last) n first e)
       | false ↦ λ e. and_false (nat_lt (key x) n)
     ] in

@@ -1,8 +1,8 @@
 -- The words of a plain show: what each line says, and what the reader makes of it.
-use Rattle.std.proofs.Common.{◌≡◌, ℕ, zero, suc, ◌≤◌, ◌<◌, Bool, true, false, cond, List, [], ◌∷◌, ◌++◌, map, length, Option, Some, None, Result, Ok, Err, refl, ap, ◌∙◌, sym, subst, append-nil, arith, IsTrue, inl, inr}
-use Rattle.std.specs.Prelude.{◌&&◌, ◌||◌, ◌==◌, not, nat_lt, codes, bytes_eq, is_some, is_none, is_ok, IfSome, max, fold}
+use Rattle.std.proofs.Common.{◌≡◌, ℕ, suc, ◌≤◌, ◌<◌, Bool, true, false, cond, List, [], ◌∷◌, map, length, Option, Some, None, Result, Ok, Err, refl, ap, ◌∙◌, sym, subst, arith, IsTrue}
+use Rattle.std.specs.Prelude.{◌&&◌, ◌||◌, ◌==◌, not, nat_lt, codes, is_some, is_ok, IfSome}
 use Rattle.std.specs.List.{AllByRecursion, list_all, list_any}
-use Rattle.std.specs.Option.{IsSomeAnd, option_map_or}
+use Rattle.std.specs.Option.{IsSomeAnd}
 use Rattle.std.specs.Result.{IsOkAnd, is_err}
 use Rattle.std.proofs.lemmas.Bool.Decides.{nat_tests}
 use Rattle.std.proofs.lemmas.Slice.Eq.{bytes_eq-Decides}
@@ -10,8 +10,7 @@ use Rattle.lx_base.specs.declared.TheConstants.{CUES, LINE_BYTES}
 use Rattle.lx_spec.specs.declared.Bad.{Bad}
 use Rattle.lx_spec.specs.declared.Member.{Member}
 use Rattle.lx_spec.specs.declared.PatchRow.{PatchRow}
-use Rattle.lx_spec.specs.declared.Section.{Section}
-use Rattle.lx_spec.specs.declared.Section.TheVariants.{NoRecord, InCue}
+use Rattle.lx_spec.specs.declared.Section.TheVariants.{InCue}
 use Rattle.lx_spec.specs.declared.Word.{Word}
 use Rattle.lx_spec.specs.declared.Word.TheVariants as words
 use Rattle.lx_spec.specs.declared.TextFault.{TextFault}
@@ -20,24 +19,24 @@ use Rattle.lx_spec.specs.Limits.{desk_limits}
 use Rattle.lx_spec.specs.Text.{tokens}
 use Rattle.lx_spec.specs.Numerals.{read_whole, read_cue_no}
 use Rattle.lx_spec.specs.Show.{Cue, Show, Valid}
-use Rattle.lx_spec.specs.Listing.{Rises, placed, entry_at, has_entry}
+use Rattle.lx_spec.specs.Listing.{placed, entry_at, has_entry}
 use Rattle.lx_spec.specs.Edited.{new_cue}
 use Rattle.lx_spec.specs.Tracked.{cue_of}
 use Rattle.lx_spec.specs.Refusing.{◌>>=◌}
-use Rattle.lx_spec.specs.Saying.{Entry, Said, Facts, HasUp, HasDown, HasLevels, Patches, Nothing, NamesCue, Skipped, inner_line, said_by, said_in, said, word_of, if_few, begun, cue_in, with_cue_named}
+use Rattle.lx_spec.specs.Saying.{Entry, Said, Facts, HasUp, HasDown, HasLevels, Patches, Nothing, NamesCue, Skipped, inner_line, said_by, said_in, word_of, if_few, begun, cue_in, with_cue_named}
 use Rattle.lx_spec.specs.Saying.{number as number_of}
 use Rattle.lx_spec.specs.Reading.{is_end}
 use Rattle.lx_show.specs.Changed.{changed}
 use Rattle.lx_reader.specs.declared.plain.Plain.{Plain}
 use Rattle.lx_reader.specs.declared.fault.ShowFault.{ShowFault}
 use Rattle.lx_reader.specs.declared.fault.ShowFault.TheVariants as faults
-use Rattle.lx_reader.specs.Built.{Known, is_built, is_built_line, is_timed, is_zero, is_empty, part_at_once, built_said, if_built}
+use Rattle.lx_reader.specs.Built.{Known, is_built, is_timed, is_zero, is_empty, part_at_once, built_said, if_built}
 use Rattle.lx_reader.specs.Lists.{all_pairs, all_triples}
 use Rattle.lx_reader.specs.PlainState.{section_in, known_of, known_by, known_after, is_open, part_timed, IsTimedSoFar, IsSound, TookUp, TakesSaid, TakesWord, TakesLine, built_by}
 use Rattle.lx_reader.specs.Stops.{HasPartIn}
 use Rattle.lx_reader.specs.TakenUp.{show_with, with_cue, with_up, with_down, with_levels, with_rows, moves_of, all_placed}
 use Rattle.lx_reader.proofs.Changing.{entry_key, entry-placed, entry-changed}
-use Rattle.lx_reader.proofs.PlainLines.{eq_swap, all_found, all_changed, all_placed_with, each, numbers-changed, numbers-placed, named-above, closed, sound_closed}
+use Rattle.lx_reader.proofs.PlainLines.{eq_swap, all_found, all_changed, all_placed_with, numbers-changed, numbers-placed, named-above, closed, sound_closed}
 
 eq_true : (a b : ℕ) → a ≡ b → (a == b) ≡ true
 eq_true a b h = grind (arith, nat_tests)
@@ -58,7 +57,7 @@ pub entry_in : (r : Plain) (n : ℕ) → r.cue ≡ Some n → IsSound r → (cue
 entry_in r n is sound =
     let there : HasPartIn r.show n 1 = subst (λ o. IfSome o (λ m. HasPartIn r.show m 1)) is sound.part in
     let at : (o : Option Cue) → cue_of r.show n ≡ o → IsSomeAnd o (λ z. IsTrue (has_entry (λ part. part.number) 1 z.parts)) → (cue : Cue) × (cue_of r.show n ≡ Some cue)
-        = λ o. elim o as (λ o. cue_of r.show n ≡ o → IsSomeAnd o (λ z. IsTrue (has_entry (λ part. part.number) 1 z.parts)) → (cue : Cue) × (cue_of r.show n ≡ Some cue)) [
+    = λ o. elim o as (λ o. cue_of r.show n ≡ o → IsSomeAnd o (λ z. IsTrue (has_entry (λ part. part.number) 1 z.parts)) → (cue : Cue) × (cue_of r.show n ≡ Some cue)) [
       | None ↦ λ e h. absurd h
       | Some cue ↦ λ e h. (cue, e)
     ] in
@@ -121,13 +120,13 @@ up_taken old new i n rest id is alone valid sound id' is' up' down' earlier' sho
             other_cue = λ h e. timed.other_cue (ap (λ o. is_open o cue.number) is ∙ eq_swap cue.number n differs) (sym earlier' ∙ e);
           })
           (λ cue here timed.
-            let open_here : is_open old.cue cue.number ≡ true = ap (λ o. is_open o cue.number) is ∙ eq_true n cue.number (sym here) in
-            record {
-              follow = timed.follow;
-              block = timed.block;
-              open_cue = λ h. ap (changed (λ part. part.number) 1 (with_up 0 0)) (timed.open_cue open_here) ∙ (λ j. part_timed (sym up' j) (sym down' j) ∷ []);
-              other_cue = λ h e. let odd : true ≡ false = sym (ap (λ o. is_open o cue.number) (is' ∙ is) ∙ eq_true n cue.number (sym here)) ∙ h in cc;
-            })
+          let open_here : is_open old.cue cue.number ≡ true = ap (λ o. is_open o cue.number) is ∙ eq_true n cue.number (sym here) in
+          record {
+            follow = timed.follow;
+            block = timed.block;
+            open_cue = λ h. ap (changed (λ part. part.number) 1 (with_up 0 0)) (timed.open_cue open_here) ∙ (λ j. part_timed (sym up' j) (sym down' j) ∷ []);
+            other_cue = λ h e. let odd : true ≡ false = sym (ap (λ o. is_open o cue.number) (is' ∙ is) ∙ eq_true n cue.number (sym here)) ∙ h in cc;
+          })
           sound;
     })
 
@@ -156,13 +155,13 @@ down_taken old new i n rest id is alone valid sound id' is' up' down' earlier' s
             other_cue = λ h e. timed.other_cue (ap (λ o. is_open o cue.number) is ∙ eq_swap cue.number n differs) (sym earlier' ∙ e);
           })
           (λ cue here timed.
-            let open_here : is_open old.cue cue.number ≡ true = ap (λ o. is_open o cue.number) is ∙ eq_true n cue.number (sym here) in
-            record {
-              follow = timed.follow;
-              block = timed.block;
-              open_cue = λ h. ap (changed (λ part. part.number) 1 (with_down 0 0)) (timed.open_cue open_here) ∙ (λ j. part_timed (sym up' j) (sym down' j) ∷ []);
-              other_cue = λ h e. let odd : true ≡ false = sym (ap (λ o. is_open o cue.number) (is' ∙ is) ∙ eq_true n cue.number (sym here)) ∙ h in cc;
-            })
+          let open_here : is_open old.cue cue.number ≡ true = ap (λ o. is_open o cue.number) is ∙ eq_true n cue.number (sym here) in
+          record {
+            follow = timed.follow;
+            block = timed.block;
+            open_cue = λ h. ap (changed (λ part. part.number) 1 (with_down 0 0)) (timed.open_cue open_here) ∙ (λ j. part_timed (sym up' j) (sym down' j) ∷ []);
+            other_cue = λ h e. let odd : true ≡ false = sym (ap (λ o. is_open o cue.number) (is' ∙ is) ∙ eq_true n cue.number (sym here)) ∙ h in cc;
+          })
           sound;
     })
 
@@ -255,12 +254,12 @@ patch_taken old new i rest more page (Err fault) whole id page_one some none sou
 patch_taken old new i rest more page (Ok rows) whole id page_one some none sound id' is' up' down' earlier' list show' =
     let s : Said = record { section = section_in old.cue; part = 1; entry = Patches rows } in
     let taken : TakesWord old new i words.Patch (page ∷ more) (Ok false) =
-      took old new i words.Patch (page ∷ more) s (rows_said_by (known_of old) i page more rows id page_one some (no_numbers old.show.cues ∙ none) list) refl
-      (record {
-        known = (λ j. record { facts = record { identified = id' j; section = section_in (is' j); part = 1; cues = map (λ cue. cue.number) (show' j).cues }; up = up' j; down = down' j; earlier = earlier' j });
-        show = show';
-        sound = sound_closed old new is' earlier' (ap (λ z. z.cues) show') sound;
-      }) in
+    took old new i words.Patch (page ∷ more) s (rows_said_by (known_of old) i page more rows id page_one some (no_numbers old.show.cues ∙ none) list) refl
+    (record {
+      known = (λ j. record { facts = record { identified = id' j; section = section_in (is' j); part = 1; cues = map (λ cue. cue.number) (show' j).cues }; up = up' j; down = down' j; earlier = earlier' j });
+      show = show';
+      sound = sound_closed old new is' earlier' (ap (λ z. z.cues) show') sound;
+    }) in
     subst (λ v. TakesWord old new i words.Patch v (Ok false)) (sym whole) taken
 
 pub patch_fault_said : (old : Plain) (i : ℕ) (rest more : List (List ℕ)) (page : List ℕ) (fault : TextFault) → rest ≡ page ∷ more → old.identified ≡ true → is_err (read_whole 1 1 page) ≡ false → all_triples i more ≡ Err fault → built_by (known_of old) i words.Patch rest (said_by desk_limits (known_of old).facts i [] words.Patch rest) ≡ Err i
@@ -300,10 +299,12 @@ pub cue_full : (old : Plain) (i n : ℕ) (rest : List (List ℕ)) (number : List
     → TakesWord old old i words.Cue rest (Err (faults.NotBuilt i))
 cue_full old i n rest number whole id is full =
     let cues : List ℕ = map (λ cue. cue.number) old.show.cues in
-    let none : (list_any (λ m. m == n) cues || nat_lt (length cues) CUES) ≡ false = room_numbers n old.show.cues ∙ full in
-    (refl, subst (λ v. built_by (known_of old) i words.Cue v (said_by desk_limits (known_of old).facts i [] words.Cue v) ≡ Err i) (sym whole) (
-      (λ j. built_by (known_of old) i words.Cue (number ∷ []) (cond (id j) ((number_of i (is j) >>= (λ m. Ok (NamesCue m))) >>= if_few desk_limits cues i) (Err (NoIdent i))))
-      ∙ (λ j. built_by (known_of old) i words.Cue (number ∷ []) (cond (none j) (Ok (NamesCue n)) (Err (OutOfRange i))))))
+    let none : (list_any (λ m. m == n) cues || nat_lt (length cues) CUES) ≡ false = room_numbers n old.show.cues ∙ full in (
+      refl,
+      subst (λ v. built_by (known_of old) i words.Cue v (said_by desk_limits (known_of old).facts i [] words.Cue v) ≡ Err i) (sym whole) (
+          (λ j. built_by (known_of old) i words.Cue (number ∷ []) (cond (id j) ((number_of i (is j) >>= (λ m. Ok (NamesCue m))) >>= if_few desk_limits cues i) (Err (NoIdent i))))
+          ∙ (λ j. built_by (known_of old) i words.Cue (number ∷ []) (cond (none j) (Ok (NamesCue n)) (Err (OutOfRange i))))),
+    )
 
 earlier_parts : (old new : Plain) (cue : Cue) → new.earlier ≡ (is_timed (section_in old.cue) old.up old.down && old.earlier) → IsTimedSoFar old cue → new.earlier ≡ true → cue.parts ≡ part_at_once ∷ []
 earlier_parts old new cue earlier timed e =
@@ -326,23 +327,23 @@ cue_taken old new i n rest number whole id is below room sound id' is' up' down'
     let placed_cue : new.show.cues ≡ placed (λ cue. cue.number) (new_cue n) old.show.cues = ap (λ z. z.cues) show' ∙ named-above n old.show.cues below in
     let numbers : map (λ cue. cue.number) new.show.cues ≡ placed (λ m. m) n cues = ap (map (λ cue. cue.number)) placed_cue ∙ numbers-placed (λ cue. cue.number) (new_cue n) old.show.cues in
     let times : AllByRecursion (IsTimedSoFar new) new.show.cues = subst (AllByRecursion (IsTimedSoFar new)) (sym placed_cue)
-      (all_placed_with (IsTimedSoFar old) (IsTimedSoFar new) (λ cue. cue.number) (new_cue n) old.show.cues
-        (λ cue differs timed. record {
-          follow = timed.follow;
-          block = timed.block;
-          open_cue = λ h. let odd : true ≡ false = sym h ∙ ap (λ o. is_open o cue.number) is' ∙ eq_swap cue.number n differs in cc;
-          other_cue = λ h e. earlier_parts old new cue earlier' timed e;
-        })
-        (record { follow = refl; block = refl; open_cue = λ h j. part_timed (sym up' j) (sym down' j) ∷ []; other_cue = λ h e. let odd : true ≡ false = sym (ap (λ o. is_open o n) is' ∙ eq_true n n refl) ∙ h in cc })
-        sound.times) in
+    (all_placed_with (IsTimedSoFar old) (IsTimedSoFar new) (λ cue. cue.number) (new_cue n) old.show.cues
+    (λ cue differs timed. record {
+      follow = timed.follow;
+      block = timed.block;
+      open_cue = λ h. let odd : true ≡ false = sym h ∙ ap (λ o. is_open o cue.number) is' ∙ eq_swap cue.number n differs in cc;
+      other_cue = λ h e. earlier_parts old new cue earlier' timed e;
+    })
+    (record { follow = refl; block = refl; open_cue = λ h j. part_timed (sym up' j) (sym down' j) ∷ []; other_cue = λ h e. let odd : true ≡ false = sym (ap (λ o. is_open o n) is' ∙ eq_true n n refl) ∙ h in cc })
+    sound.times) in
     let found : cue_of new.show n ≡ Some (new_cue n) = ap (entry_at (λ cue. cue.number) n) placed_cue ∙ entry-placed (λ cue. cue.number) n (new_cue n) old.show.cues refl in
     let taken : TakesWord old new i words.Cue (number ∷ []) (Ok false) =
-      took old new i words.Cue (number ∷ []) s (cue_said_by (known_of old) i n number id is below (room_numbers n old.show.cues ∙ room)) refl
-      (record {
-        known = known_named old new i n number is id' is' up' down' earlier' numbers;
-        show = show';
-        sound = record { part = subst (λ o. IfSome o (λ m. HasPartIn new.show m 1)) (sym is') (has_part new n (Some (new_cue n)) is' found refl times); times = times };
-      }) in
+    took old new i words.Cue (number ∷ []) s (cue_said_by (known_of old) i n number id is below (room_numbers n old.show.cues ∙ room)) refl
+    (record {
+      known = known_named old new i n number is id' is' up' down' earlier' numbers;
+      show = show';
+      sound = record { part = subst (λ o. IfSome o (λ m. HasPartIn new.show m 1)) (sym is') (has_part new n (Some (new_cue n)) is' found refl times); times = times };
+    }) in
     subst (λ v. TakesWord old new i words.Cue v (Ok false)) (sym whole) taken
 
 pub none_left : {A : Type 0} (xs : List A) → is_empty xs ≡ true → xs ≡ []
@@ -407,7 +408,7 @@ blank_taken old i line none short sound =
     let K : Known = known_of old in
     let s : Said = record { section = K.facts.section; part = K.facts.part; entry = Nothing } in
     let says : built_said K i line ≡ Ok s =
-      (λ j. if_built K i (none j) (cond (short_line line short j) (Err (LineTooLong i)) (said_in desk_limits K.facts i line (none j)) >>= (λ entry. Ok (record { section = K.facts.section; part = K.facts.part; entry = entry })))) in
+    (λ j. if_built K i (none j) (cond (short_line line short j) (Err (LineTooLong i)) (said_in desk_limits K.facts i line (none j)) >>= (λ entry. Ok (record { section = K.facts.section; part = K.facts.part; entry = entry })))) in
     let after : known_after K (tokens line) ≡ K = ap (known_after K) none in
     subst (λ k. IsOkAnd (built_said K i line) (λ z. (is_end z.entry ≡ false) × TookUp old old k z)) (sym after)
     (subst (λ r. IsOkAnd r (λ z. (is_end z.entry ≡ false) × TookUp old old K z)) (sym says) (refl, record { known = refl; show = refl; sound = sound }))

@@ -1,7 +1,7 @@
 -- What lines mean that were read one after another.
-use Rattle.std.proofs.Common.{◌≡◌, ℕ, zero, suc, ◌+◌, ◌-◌, ◌<◌, get_or, Bool, true, false, cond, List, [], ◌∷◌, ◌++◌, map, length, take, drop, Option, Some, None, Result, Ok, Err, refl, ap, ◌∙◌, sym, subst, append-nil, append_assoc, arith, add-zero, add-one, length-append}
-use Rattle.std.specs.Prelude.{filter_map, find, ◌||◌, ◌&&◌, not, count_by, position, nat_lt, is_some}
-use Rattle.std.specs.List.{list_any, before_first, after_last, position_or_len, cons_option, prefix_len, suffix_len}
+use Rattle.std.proofs.Common.{◌≡◌, ℕ, zero, suc, ◌+◌, ◌-◌, ◌<◌, get_or, Bool, true, false, cond, List, [], ◌∷◌, ◌++◌, map, length, take, drop, Some, None, Result, Ok, Err, refl, ap, ◌∙◌, sym, subst, arith, add-zero, add-one}
+use Rattle.std.specs.Prelude.{filter_map, find, ◌||◌, not, count_by, position, nat_lt}
+use Rattle.std.specs.List.{list_any, before_first, after_last, position_or_len, suffix_len}
 use Rattle.std.specs.Option.{option_map_or}
 use Rattle.std.proofs.lemmas.List.Sums.{suffix_len_is}
 use Rattle.std.proofs.Math.Seq.{take-append_seam}
@@ -12,14 +12,13 @@ use Rattle.lx_spec.specs.declared.TextFault.{TextFault}
 use Rattle.lx_spec.specs.declared.TextFault.TheVariants.{NoEndData}
 use Rattle.lx_spec.specs.Limits.{desk_limits}
 use Rattle.lx_spec.specs.Text.{tokens, lines_of}
-use Rattle.lx_spec.specs.Show.{Show}
 use Rattle.lx_spec.specs.Saying.{Entry, Said, Nothing, Skipped, ClearsAll, HasChannels, NamesGroup, NamesSub, NamesPart, facts, said, all_said, word_of, option_from}
-use Rattle.lx_spec.specs.Reading.{Reading, reading_from, reading_or_fault, ends_reading, reads, show_from, is_end, clears_all, is_skipped, channels_set, group_named, sub_named, part_named, last_in}
+use Rattle.lx_spec.specs.Reading.{reading_from, reading_or_fault, ends_reading, reads, show_from, is_end, clears_all, is_skipped, channels_set, group_named, sub_named, part_named, last_in}
 use Rattle.lx_spec.specs.Jobs.{script_of}
 use Rattle.lx_spec.specs.declared.Word.{Word}
 use Rattle.lx_spec.specs.declared.Word.TheVariants as words
 use Rattle.lx_reader.specs.Built.{Known, known_from, is_built, is_built_line, if_built, built_said, all_built, ends_built, reading_or_line, reads_built}
-use Rattle.lx_reader.proofs.Later.{later, last_in-more, any-more}
+use Rattle.lx_reader.proofs.Later.{last_in-more, any-more}
 
 -- the results of lines end the reading, or not
 abbrev pub ends : {F : Type 0} → Result Said F → Bool
@@ -130,7 +129,7 @@ taken_if : (known : Known) (i : ℕ) (ts : List (List ℕ)) (result : Result Sai
 taken_if known i ts (Err fault) s is = cc
 taken_if known i ts (Ok t) s is =
     let at : (b : Bool) → is_built_line known ts t.entry ≡ b → cond b (Ok t) (Err i) ≡ Ok s → IsTaken known ts (Ok t) s
-        = λ b. elim b as (λ b. is_built_line known ts t.entry ≡ b → cond b (Ok t) (Err i) ≡ Ok s → IsTaken known ts (Ok t) s) [
+    = λ b. elim b as (λ b. is_built_line known ts t.entry ≡ b → cond b (Ok t) (Err i) ≡ Ok s → IsTaken known ts (Ok t) s) [
       | true ↦ λ built is. let same : t ≡ s = cc in subst (λ z. IsTaken known ts (Ok t) z) same (record { said = refl; built = built })
       | false ↦ λ built is. cc
     ] in
@@ -282,10 +281,10 @@ text-ended bytes handed saids line more s text so_far is end =
     let count : length saids ≡ length handed = sym (length_ok ℕ saids) ∙ ap length (sym so_far.results) ∙ length_built [] 1 handed in
     let place : position_or_len ends_reading (map Ok saids ++ Ok s ∷ rest) ≡ length handed = position_end saids (Ok s) rest so_far.no_end end ∙ count in (
       ap (λ v. option_map_or (reading_or_fault Moves v) (find ends_reading v) (Err (NoEndData (length v + 1)))) all
-      ∙ ap (λ o. option_map_or (reading_or_fault Moves (map Ok saids ++ Ok s ∷ rest)) o (Err (NoEndData (length (map Ok saids ++ Ok s ∷ rest) + 1)))) found
-      ∙ ap (λ v. Ok (reading_from Moves v)) before,
+          ∙ ap (λ o. option_map_or (reading_or_fault Moves (map Ok saids ++ Ok s ∷ rest)) o (Err (NoEndData (length (map Ok saids ++ Ok s ∷ rest) + 1)))) found
+          ∙ ap (λ v. Ok (reading_from Moves v)) before,
       ap (λ v. drop (position_or_len ends_reading v + 1) (lines_of bytes)) all
-      ∙ ap (λ n. drop (n + 1) (lines_of bytes)) place
-      ∙ ap (drop (length handed + 1)) text
-      ∙ drop_past handed line more,
+          ∙ ap (λ n. drop (n + 1) (lines_of bytes)) place
+          ∙ ap (drop (length handed + 1)) text
+          ∙ drop_past handed line more,
     )

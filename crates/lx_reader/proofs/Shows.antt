@@ -1,19 +1,17 @@
 -- The show of what was said, with one more entry.
-use Rattle.std.proofs.Common.{◌≡◌, ℕ, ◌≤◌, Bool, true, false, cond, List, [], ◌∷◌, ◌++◌, map, Option, Some, None, refl, ap, ◌∙◌, sym, subst, append-nil, arith}
-use Rattle.std.specs.Prelude.{filter, fold, flat_map, filter_map, unwrap_or, ◌==◌, max}
+use Rattle.std.proofs.Common.{◌≡◌, ℕ, Bool, true, false, cond, List, [], ◌∷◌, ◌++◌, map, Option, Some, None, refl, ap, ◌∙◌, sym, append-nil, arith}
+use Rattle.std.specs.Prelude.{filter, fold, flat_map, filter_map, ◌==◌, max}
 use Rattle.std.specs.List.{cons_option}
 use Rattle.std.proofs.lemmas.Grind.{flat_map-append}
 use Rattle.std.proofs.lemmas.List.Sums.{fold-append}
 use Rattle.std.proofs.lemmas.List.Elements.{filter_map-append}
-use Rattle.lx_spec.specs.declared.PatchRow.{PatchRow}
 use Rattle.lx_spec.specs.declared.Section.{Section}
 use Rattle.lx_spec.specs.declared.Section.TheVariants.{InCue}
-use Rattle.lx_spec.specs.Show.{Cue, Show, Group, Sub}
-use Rattle.lx_spec.specs.Listing.{Rises, placed, has_entry, entry_at}
-use Rattle.lx_spec.specs.Saying.{Entry, Said, NamesCue, NamesGroup, NamesSub, Patches}
+use Rattle.lx_spec.specs.Show.{Cue, Show}
+use Rattle.lx_spec.specs.Listing.{Rises, placed, has_entry}
+use Rattle.lx_spec.specs.Saying.{Entry, Said, NamesCue}
 use Rattle.lx_spec.specs.Reading.{last_of_each, numbers, named_by, cue_named, part_named, section_is_cue, section_is_group, section_is_sub, in_cue, in_group, in_sub, group_named, sub_named, cue_from, group_from, sub_from, channels_named, rows_said, show_from}
 use Rattle.lx_spec.specs.Edited.{new_cue}
-use Rattle.lx_show.specs.Changed.{changed}
 use Rattle.lx_reader.specs.TakenUp.{all_placed, cue_change, cues_changed, cues_with, with_cue, show_with}
 use Rattle.lx_reader.proofs.Later.{filter-more}
 use Rattle.lx_reader.proofs.Placing.{changed-made, map-placed, placed-there, has_made, Rises-numbers, eq-sym, eq-here}
@@ -127,9 +125,9 @@ show-more all section p entry founded outside =
     let channels = channels-more all s in
     let cues = cues-more all section p entry founded in
     let groups : map (λ g. group_from (filter (in_group g) (all ++ s ∷ [])) g) (named_by group_named (all ++ s ∷ [])) ≡ map (λ g. group_from (filter (in_group g) all) g) (named_by group_named all)
-        = λ i. map (λ g. group_from (filter_same (in_group g) all s (outside.groups g) i) g) (named_same group_named all s outside.no_group i) in
+    = λ i. map (λ g. group_from (filter_same (in_group g) all s (outside.groups g) i) g) (named_same group_named all s outside.no_group i) in
     let subs : map (λ n. sub_from (filter (in_sub n) (all ++ s ∷ [])) n) (named_by sub_named (all ++ s ∷ [])) ≡ map (λ n. sub_from (filter (in_sub n) all) n) (named_by sub_named all)
-        = λ i. map (λ n. sub_from (filter_same (in_sub n) all s (outside.subs n) i) n) (named_same sub_named all s outside.no_sub i) in
+    = λ i. map (λ n. sub_from (filter_same (in_sub n) all s (outside.subs n) i) n) (named_same sub_named all s outside.no_sub i) in
     let patch = patch-more all s in
     λ i. record { channels = channels i; cues = cues i; groups = groups i; subs = subs i; patch = patch i }
 

@@ -1,29 +1,26 @@
 -- One line, and what is known after it.
-use Rattle.std.proofs.Common.{◌≡◌, ℕ, ◌+◌, ◌<◌, ◌≤◌, Bool, true, false, cond, List, [], ◌∷◌, map, length, Option, Some, None, Result, Ok, Err, refl, ap, ◌∙◌, sym, subst, inl, inr, arith}
-use Rattle.std.specs.Prelude.{◌&&◌, ◌||◌, ◌==◌, not, nat_lt, find, codes, bytes_eq, is_some, unwrap_or, option_and_then, if◌then◌else◌}
-use Rattle.std.specs.List.{AllByRecursion, list_any}
+use Rattle.std.proofs.Common.{◌≡◌, ℕ, ◌+◌, ◌<◌, Bool, true, false, cond, List, [], ◌∷◌, length, Option, Some, Result, Ok, Err, refl, ap, ◌∙◌, sym, subst, inl, arith}
+use Rattle.std.specs.Prelude.{◌&&◌, ◌||◌, nat_lt, find, codes, bytes_eq, is_some, unwrap_or, option_and_then, if◌then◌else◌}
+use Rattle.std.specs.List.{AllByRecursion}
 use Rattle.std.specs.Option.{option_map_or}
 use Rattle.std.specs.Str.{str_to_ascii_uppercase}
 use Rattle.std.proofs.lemmas.Bool.Decides.{nat_tests}
 use Rattle.std.proofs.lemmas.Slice.Eq.{bytes_eq-Decides}
-use Rattle.std.specs.Io.KnownBytes.{IsAtEnd}
 use Rattle.lx_base.specs.declared.TheConstants.{LINE_BYTES}
 use Rattle.lx_spec.specs.declared.Word.{Word}
 use Rattle.lx_spec.specs.declared.Word.TheVariants as words
-use Rattle.lx_spec.specs.declared.TextFault.{TextFault}
 use Rattle.lx_spec.specs.declared.TextFault.TheVariants.{LineTooLong}
 use Rattle.lx_spec.specs.Limits.{desk_limits}
 use Rattle.lx_spec.specs.Text.{tokens, without_cr, is_word}
 use Rattle.lx_spec.specs.Refusing.{◌>>=◌}
-use Rattle.lx_spec.specs.Saying.{Entry, Said, said_in, section_after, section_of, open_part, part_by, cue_in, cues_named, with_cue_named, begins_with, is_identified, is_clear_all, is_second, is_dollar, word_of, spellings, dollar_word}
+use Rattle.lx_spec.specs.Saying.{Entry, said_in, section_after, section_of, open_part, part_by, cue_in, cues_named, with_cue_named, begins_with, is_identified, is_clear_all, is_second, is_dollar, word_of, spellings, dollar_word}
 use Rattle.lx_lex.specs.declared.lines.Lines.{Lines}
-use Rattle.lx_lex.specs.Lines.{TookLine}
 use Rattle.lx_lex.specs.Handed.{HandedOut}
 use Rattle.lx_reader.specs.declared.plain.Plain.{Plain}
 use Rattle.lx_reader.specs.declared.fault.ShowFault.{ShowFault}
 use Rattle.lx_reader.specs.declared.fault.ShowFault.TheVariants as faults
 use Rattle.lx_reader.specs.Built.{Known, known_from, is_built, is_built_line, is_ident, is_up, is_down, is_timed, stands_in, were_timed, begins_so, built_said, if_built}
-use Rattle.lx_reader.specs.PlainState.{known_of, known_by, known_after, TakesSaid, TakesLine}
+use Rattle.lx_reader.specs.PlainState.{known_of, known_after, TakesLine}
 use Rattle.lx_reader.specs.Loading.{TurnOf}
 
 -- A line that was handed out and taken up.
@@ -79,7 +76,7 @@ ident_first t = elim (is_word (codes "IDENT") t) as (λ b. option_map_or (λ e. 
 pub ident_is : (t : List ℕ) → is_word (codes "IDENT") t ≡ is_ident (word_of t)
 ident_is t =
     let at : (b : Bool) → b ≡ is_ident (cond b words.Ident (option_map_or (λ e. e.1) (find (λ e. is_word e.0 t) others) (dollar_word t)))
-        = λ b. elim b as (λ b. b ≡ is_ident (cond b words.Ident (option_map_or (λ e. e.1) (find (λ e. is_word e.0 t) others) (dollar_word t)))) [ true ↦ refl | false ↦ sym (not_ident t) ] in
+    = λ b. elim b as (λ b. b ≡ is_ident (cond b words.Ident (option_map_or (λ e. e.1) (find (λ e. is_word e.0 t) others) (dollar_word t)))) [ true ↦ refl | false ↦ sym (not_ident t) ] in
     at (is_word (codes "IDENT") t) ∙ ap is_ident (sym (ident_first t))
 
 -- CLEAR

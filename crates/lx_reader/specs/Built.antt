@@ -1,5 +1,5 @@
 -- Which lines a reader of plain shows takes, and what a text of such lines means.
-use Rattle.std.specs.Prelude.{◌≡◌, ℕ, ◌+◌, Bool, true, false, ◌&&◌, ◌||◌, not, ◌==◌, nat_lt, Option, Some, None, Result, Ok, Err, List, [], ◌∷◌, length, find, filter_map, codes, bytes_eq, is_some, is_none, if◌then◌else◌}
+use Rattle.std.specs.Prelude.{◌≡◌, ℕ, ◌+◌, Bool, true, false, ◌&&◌, ◌||◌, not, ◌==◌, nat_lt, None, Result, Ok, Err, List, [], ◌∷◌, length, find, filter_map, codes, bytes_eq, is_some, is_none, if◌then◌else◌}
 use Rattle.std.specs.Option.{option_map_or}
 use Rattle.std.specs.List.{list_all, before_first, AllByRecursion}
 use Rattle.lx_spec.specs.declared.Form.TheVariants.{Moves}

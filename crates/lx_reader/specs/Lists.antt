@@ -1,5 +1,5 @@
 -- The lists of a line, taken from the front.
-use Rattle.std.specs.Prelude.{◌≡◌, ℕ, ◌%◌, ◌==◌, Bool, Option, Some, None, Result, Ok, Err, List, [], ◌∷◌, ◌++◌, length, if◌then◌else◌}
+use Rattle.std.specs.Prelude.{ℕ, ◌%◌, ◌==◌, Bool, Result, Ok, Err, List, ◌++◌, length, if◌then◌else◌}
 use Rattle.lx_spec.specs.declared.Bad.{Bad}
 use Rattle.lx_spec.specs.declared.Bad.TheVariants.{Shape, Range}
 use Rattle.lx_spec.specs.declared.Member.{Member}

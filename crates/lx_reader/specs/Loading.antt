@@ -1,5 +1,5 @@
 -- What reading a plain show from the lines of a source comes to.
-use Rattle.std.specs.Prelude.{◌≡◌, ◌⊎◌, ℕ, ◌+◌, ◌<◌, true, false, Result, Ok, Err, Bool, List, [], ◌∷◌, ◌++◌, map, length, take, IfSome}
+use Rattle.std.specs.Prelude.{◌≡◌, ◌⊎◌, ℕ, ◌+◌, ◌<◌, Result, Ok, Err, Bool, List, [], ◌∷◌, ◌++◌, map, length, take, IfSome}
 use Rattle.std.specs.declared.option.Option.{Option}
 use Rattle.std.specs.Io.KnownBytes.{IsAtEnd}
 use Rattle.lx_base.specs.declared.TheConstants.{INPUT_BYTES}

@@ -1,5 +1,5 @@
 -- What a reader of a plain show keeps, and what it makes of a line.
-use Rattle.std.specs.Prelude.{◌≡◌, ℕ, Bool, true, false, ◌&&◌, ◌||◌, ◌==◌, Option, Some, None, Result, Ok, Err, List, [], ◌∷◌, map, is_some, is_none, unwrap_or, option_and_then, IfSome, if◌then◌else◌}
+use Rattle.std.specs.Prelude.{◌≡◌, ℕ, Bool, true, false, ◌&&◌, ◌||◌, ◌==◌, Option, Some, None, Result, Ok, Err, List, [], ◌∷◌, map, is_some, unwrap_or, option_and_then, IfSome, if◌then◌else◌}
 use Rattle.std.specs.List.{AllByRecursion}
 use Rattle.std.specs.Result.{IsOkAnd}
 use Rattle.lx_base.specs.declared.TheConstants.{DEFAULT_TIME}
@@ -9,10 +9,9 @@ use Rattle.lx_spec.specs.declared.Section.TheVariants.{NoRecord, InCue}
 use Rattle.lx_spec.specs.declared.TextFault.{TextFault}
 use Rattle.lx_spec.specs.declared.Word.{Word}
 use Rattle.lx_spec.specs.Limits.{desk_limits}
-use Rattle.lx_spec.specs.Show.{Cue, Show}
-use Rattle.lx_spec.specs.Saying.{Entry, Said, Facts, section_by, cue_in, part_named, with_cue_named, word_of, said_by}
+use Rattle.lx_spec.specs.Show.{Cue}
+use Rattle.lx_spec.specs.Saying.{Entry, Said, section_by, cue_in, part_named, with_cue_named, word_of, said_by}
 use Rattle.lx_spec.specs.Reading.{is_end}
-use Rattle.lx_spec.specs.Refusing.{◌>>=◌}
 use Rattle.lx_reader.specs.declared.plain.Plain.{Plain}
 use Rattle.lx_reader.specs.declared.fault.ShowFault.{ShowFault}
 use Rattle.lx_reader.specs.declared.fault.ShowFault.TheVariants as faults

@@ -17,7 +17,7 @@ ghost use Rattle.lx_reader.specs.TakenUp.{show_with, with_cue, with_levels, with
 
 use crate::lists::{next_member, next_row};
 use crate::stop::Stop;
-use lx_base::{Chan, CueNo, Cs, PartNo};
+use lx_base::{Chan, Cs, CueNo, PartNo};
 use lx_lex::Tokens;
 use lx_show::rising::entry_of;
 use lx_show::{Cue, Show};
@@ -62,7 +62,13 @@ fn put_member(show: &mut Show, n: CueNo, part: PartNo, member: Member) -> Result
 }
 
 /// Puts the levels of a line into a part of the cue.
-pub(crate) fn put_levels(show: &mut Show, n: CueNo, part: PartNo, i: u32, mut tokens: Tokens) -> Result<(), Stop>
+pub(crate) fn put_levels(
+    show: &mut Show,
+    n: CueNo,
+    part: PartNo,
+    i: u32,
+    mut tokens: Tokens,
+) -> Result<(), Stop>
     requires { HasPartIn show.old n part }
     ensures show { OnOk result (IsOkAnd (all_pairs i (left tokens.entry)) (λ members. show.new ≡ with_levels n part members show.old)) }
     ensures stop { IfErr result (λ stop. IsStopOf stop (all_pairs i (left tokens.entry))) }
@@ -123,7 +129,14 @@ pub(crate) fn set_up(show: &mut Show, n: CueNo, part: PartNo, time: Cs, delay: C
     ensures show { show.new ≡ show_with (record { section = InCue n; part = part; entry = HasUp time delay }) show.old }
 {
     let times = part_of(show, n, part);
-    show.put_part_in(n, Part { up: time, up_delay: delay, ..times });
+    show.put_part_in(
+        n,
+        Part {
+            up: time,
+            up_delay: delay,
+            ..times
+        },
+    );
 }
 
 /// Sets the times of the falling channels in a part of the cue.
@@ -134,7 +147,14 @@ pub(crate) fn set_down(show: &mut Show, n: CueNo, part: PartNo, time: Cs, delay:
     ensures show { show.new ≡ show_with (record { section = InCue n; part = part; entry = HasDown time delay }) show.old }
 {
     let times = part_of(show, n, part);
-    show.put_part_in(n, Part { down: time, down_delay: delay, ..times });
+    show.put_part_in(
+        n,
+        Part {
+            down: time,
+            down_delay: delay,
+            ..times
+        },
+    );
 }
 
 /// The part of the number, which is there.

@@ -8,6 +8,8 @@ mod loaded;
 mod plain;
 mod read;
 mod stop;
+#[cfg(test)]
+mod tests;
 mod words;
 
 pub use fault::ShowFault;

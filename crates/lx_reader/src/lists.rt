@@ -95,7 +95,11 @@ pub(crate) fn next_row(i: u32, tokens: &mut Tokens) -> Result<Option<PatchRow>, 
         return Err(TextFault::ShortList(i));
     };
     match read_level(third) {
-        Ok(level) => Ok(Some(PatchRow { dimmer, chan, level })),
+        Ok(level) => Ok(Some(PatchRow {
+            dimmer,
+            chan,
+            level,
+        })),
         Err(bad) => Err(fault_in(i, bad, tokens.count_left() % 3 == 0)),
     }
 }

@@ -1,4 +1,4 @@
-use Rattle.std.proofs.Common.{◌≡◌, ◌-◌, ◌≤◌}
+use Rattle.std.proofs.Common.{◌-◌}
 use Rattle.lx_reader.proofs.Passing.{Passed}
 use Rattle.lx_reader.proofs.read.read_show.Given as goal
 

@@ -1,4 +1,4 @@
-use Rattle.std.proofs.Common.{refl, sym, ◌∙◌, ap, ◌∷◌, [], length, arith}
+use Rattle.std.proofs.Common.{refl, sym, ◌∙◌, ap, ◌∷◌}
 use Rattle.lx_lex.specs.Left.{left}
 use Rattle.std.specs.Prelude.{map, nat_lt}
 use Rattle.std.specs.List.{list_all}

@@ -1,6 +1,5 @@
-use Rattle.std.proofs.Common.{refl, sym, ◌∙◌, ap, ◌∷◌}
+use Rattle.std.proofs.Common.{refl, sym}
 use Rattle.lx_lex.specs.Left.{left}
-use Rattle.lx_reader.specs.Lists.{all_pairs, all_triples}
 use Rattle.lx_reader.proofs.PlainWords.{down_taken}
 use Rattle.lx_reader.proofs.plain.Plain.take_down.Goals as goal
 

@@ -1,6 +1,5 @@
-use Rattle.std.proofs.Common.{refl, sym, ◌∙◌, ap, ◌∷◌, [], arith}
+use Rattle.std.proofs.Common.{refl, sym}
 use Rattle.lx_lex.specs.Left.{left}
-use Rattle.lx_spec.specs.declared.Word.TheVariants as words
 use Rattle.lx_reader.specs.Lists.{all_pairs}
 use Rattle.lx_reader.proofs.PlainWords.{levels_taken, levels_fault_said}
 use Rattle.lx_reader.proofs.plain.Plain.take_levels.Goals as goal

@@ -1,7 +1,6 @@
-use Rattle.std.proofs.Common.{refl, sym, ◌∙◌, ap, ◌∷◌, [], arith}
+use Rattle.std.proofs.Common.{refl, sym, ◌∙◌, ap}
 use Rattle.lx_lex.specs.Left.{left}
 use Rattle.std.specs.Result.{is_err}
-use Rattle.lx_spec.specs.declared.Word.TheVariants as words
 use Rattle.lx_reader.specs.Built.{is_empty}
 use Rattle.lx_reader.specs.Lists.{all_triples}
 use Rattle.lx_reader.proofs.PlainWords.{patch_taken, patch_fault_said, patch_late, empty_is, rows_shown}
