@@ -1,0 +1,41 @@
+-- How a loop over `advance` begins and goes on.
+use Rattle.std.proofs.Common.{◌≡◌, ℕ, ◌+◌, ◌≤◌, true, IsTrue, List, [], ◌∷◌, ◌++◌, refl, ◌∙◌, length-append, arith}
+use Rattle.std.specs.declared.option.Option.{Option}
+use Rattle.lx_lex.specs.declared.lines.Lines.{Lines}
+use Rattle.lx_lex.specs.Handed.{HandedOut}
+use Rattle.lx_lex.specs.Lines.{TookLine}
+use Rattle.lx_lex.specs.Unread.{unread}
+use Rattle.lx_lex.proofs.TakenLines.{no_line, one_line, then_lines}
+
+-- no line yet
+pub handed_none : {S : Type 0} (left : S → Option (List ℕ)) (faults : S → ℕ) (a : Lines S) → IsTrue a.going → HandedOut left faults a a []
+handed_none left faults a going = record {
+  took = no_line (unread left a) a.taken (a.fewer going);
+  number = omega arith;
+  going = going;
+  same_reference = refl;
+  later = omega arith;
+}
+
+-- the line of one step
+pub handed_one : {S : Type 0} (left : S → Option (List ℕ)) (faults : S → ℕ) (a b : Lines S) (raw : List ℕ)
+    → TookLine (unread left a) (unread left b) a.taken b.taken raw → b.number ≡ a.number + 1 → b.going ≡ true
+    → b.source.ghost_name ≡ a.source.ghost_name → faults a.source.now ≤ faults b.source.now → HandedOut left faults a b (raw ∷ [])
+handed_one left faults a b raw took number going same later = record {
+  took = one_line (unread left a) (unread left b) a.taken b.taken raw took;
+  number = number;
+  going = going;
+  same_reference = same;
+  later = later;
+}
+
+-- first these, and then those
+pub handed_then : {S : Type 0} (left : S → Option (List ℕ)) (faults : S → ℕ) (a b c : Lines S) (raws raws' : List (List ℕ))
+    → HandedOut left faults a b raws → HandedOut left faults b c raws' → HandedOut left faults a c (raws ++ raws')
+handed_then left faults a b c raws raws' p q = record {
+  took = then_lines (unread left a) (unread left b) (unread left c) a.taken b.taken c.taken raws raws' p.took q.took;
+  number = omega (arith, p.number, q.number, length-append raws raws');
+  going = q.going;
+  same_reference = q.same_reference ∙ p.same_reference;
+  later = omega (arith, p.later, q.later);
+}

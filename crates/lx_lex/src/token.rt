@@ -1,0 +1,49 @@
+//! An iterator over the tokens of a line.
+
+use crate::scan::first_token;
+
+/// The tokens of a line that are left, each a slice of the line, in order.
+///
+/// A token is a longest run of bytes that are no separators (space, tab and `, ; / < = > @`), before the
+/// first `!` of the line, which begins a comment (the ASCII text representation 3.0).
+#[derive(Clone, Copy, Debug, Drop)]
+pub struct Tokens<'a> {
+    rest: &'a [u8],
+}
+
+impl<'a> Tokens<'a> {
+    ghost use Rattle.std.specs.Prelude.{◌≡◌, length};
+    ghost use Rattle.lx_spec.specs.Text.{tokens};
+    ghost use Rattle.lx_lex.specs.Left.{left};
+
+    /// All tokens of a line.
+    pub(crate) fn of(line: &'a [u8]) -> Tokens<'a>
+        ensures { left result ≡ tokens line.now }
+    {
+        Tokens { rest: line }
+    }
+
+    /// How many tokens are left.
+    pub fn count_left(&self) -> usize
+        ensures { result ≡ length (left self.now) }
+    {
+        (*self).count()
+    }
+}
+
+impl<'a> Iterator for Tokens<'a> {
+    type Item = &'a [u8];
+
+    ghost use Rattle.std.specs.Iterator.{item_count, YieldsFirstBy};
+    ghost use Rattle.lx_lex.specs.Left.{left};
+
+    ghost next_gives = { YieldsFirstBy (λ t. t.now) left };
+
+    ghost remaining = { item_count left };
+
+    fn next(&mut self) -> Option<&'a [u8]> {
+        let (token, rest) = first_token(self.rest)?;
+        self.rest = rest;
+        Some(token)
+    }
+}

@@ -1,0 +1,20 @@
+-- Whole inputs of the examples: a show's lines and a script's lines, and the text that is written for them.
+use Rattle.std.specs.Prelude.{ℕ, List, [], ◌∷◌, ◌++◌, flat_map, codes}
+use Rattle.lx_spec.specs.declared.Form.TheVariants.{Moves}
+use Rattle.lx_spec.specs.Jobs.{render_output}
+
+-- the lines, each with its LF
+abbrev pub text : List (List ℕ) → List ℕ
+text lines = flat_map (λ line. line ++ 10 ∷ []) lines
+
+-- the same, each with CR and LF
+abbrev pub crlf_text : List (List ℕ) → List ℕ
+crlf_text lines = flat_map (λ line. line ++ 13 ∷ 10 ∷ []) lines
+
+-- a show whose dimmer 1 follows channel 1
+abbrev pub patched_show : List (List ℕ) → List (List ℕ)
+patched_show lines = codes "IDENT 3:0" ∷ codes "PATCH 1 1<1@FL" ∷ (lines ++ codes "ENDDATA" ∷ [])
+
+-- what is written for the script over that show
+abbrev pub played : List (List ℕ) → List (List ℕ) → List ℕ
+played lines script = render_output Moves (text (patched_show lines ++ script)) []
