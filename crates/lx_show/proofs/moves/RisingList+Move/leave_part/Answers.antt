@@ -5,7 +5,7 @@ use Rattle.lx_spec.specs.declared.Move.{Move}
 use Rattle.lx_spec.specs.Listing.{Rises}
 use Rattle.lx_spec.specs.Edited.{out_of_part}
 use Rattle.lx_show.proofs.RisingLists.{Rises-map}
-use Rattle.lx_show.proofs.list.RisingList+Move.leave_part.Goals as goal
+use Rattle.lx_show.proofs.moves.RisingList+Move.leave_part.Goals as goal
 
 same_channel : (p : ℕ) (m : Move) → (out_of_part p m).chan ≡ m.chan
 same_channel p m = elim (m.part == p) as (λ b. (cond b (record m { part = 1 }) m).chan ≡ m.chan) [ true ↦ refl | false ↦ refl ]
