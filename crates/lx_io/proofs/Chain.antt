@@ -13,7 +13,8 @@
 --     returns-in_err-f g c = Puts-stops _ c.in_err-f.ensures c.from_residual.ensures
 --     returns g c = Puts-is (Puts-then c.in_ok-f.ensures c.h.ensures) (simp append_assoc)
 use Rattle.std.proofs.Common.{◌≡◌, ℕ, ◌+◌, ◌-◌, ◌<◌, ◌≤◌, List, [], ◌∷◌, ◌++◌, length, take, drop, get_or, Result, Ok, Err, Some, None, refl, sym, ap, ◌∙◌, subst, append_assoc, append-nil, arith, length-append, length-take, add-one, drop-cons, take-append-drop}
-use Rattle.std.specs.Prelude.{flat_map}
+use Rattle.std.specs.Prelude.{Bool, flat_map, filter}
+use Rattle.std.proofs.lemmas.List.Elements.{filter-append}
 use Rattle.std.specs.Result.{IsErr, IsErrAnd}
 use Rattle.std.specs.declared.option.Option.{Option}
 use Rattle.std.specs.Io.KnownBytes.{Appends}
@@ -41,12 +42,16 @@ pub flat_map_split : {X : Type 0} (f : X → List ℕ) (xs : List X) (i : ℕ)
     → (flat_map f (take i xs) ≡ flat_map f (take i xs)) × (flat_map f xs ≡ flat_map f (take i xs) ++ flat_map f (drop i xs))
 flat_map_split f xs i = (refl, ap (flat_map f) (sym (take-append-drop i xs)) ∙ flat_map-append f (take i xs) (drop i xs))
 
+pub filter_split : {X : Type 0} (p : X → Bool) (xs : List X) (i : ℕ)
+    → (filter p (take i xs) ≡ filter p (take i xs)) × (filter p xs ≡ filter p (take i xs) ++ filter p (drop i xs))
+filter_split p xs i = (refl, ap (filter p) (sym (take-append-drop i xs)) ∙ filter-append p (take i xs) (drop i xs))
+
 pub drop_here : {X : Type 0} (xs : List X) (i : ℕ) (d : X) → i < length xs
     → (get_or xs i d ≡ get_or xs i d) × (drop i xs ≡ get_or xs i d ∷ drop (i + 1) xs)
 drop_here xs i d within = (refl, rw add-one (drop-cons xs i d within))
 
 -- what a row of calls needs
-pub ruleset puts = (front_along, append_from_left, append_one, append-nil, length-append, flat_map_split, drop_here)
+pub ruleset puts = (front_along, append_from_left, append_one, append-nil, length-append, flat_map-append, flat_map_split, filter_split, drop_here)
 
 -- the empty text needs no call
 pub Puts-nothing : {S T : Type 0} (holds : S → Option (List ℕ)) (faults wants : S → ℕ) (s : S) (t : T) → Puts holds faults wants s s (Ok t) []
