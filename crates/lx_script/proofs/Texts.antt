@@ -92,13 +92,13 @@ cells_more levels i lt =
     ∙ ap (λ n. cells_from 1 (take i levels) ++ cells_from n (get_or levels i 0 ∷ [])) number
     ∙ ap (λ text. cells_from 1 (take i levels) ++ text) (cells_from-first (i + 1) (get_or levels i 0) [] ∙ append-nil (cell (i + 1) (get_or levels i 0)))
 
--- the words before the slots, the slots, and the end of the line
-pub frame_is : (count : List (List ℕ)) (m u : ℕ) (slots : List ℕ)
-    → frame_text count m u slots ≡ (codes "frame" ++ behind_spaces (count ++ decimal m ∷ decimal u ∷ [])) ++ (behind_spaces (cells slots) ++ 10 ∷ [])
+-- the words before the slots
+abbrev pub head : List (List ℕ) → ℕ → ℕ → List ℕ
+head count m u = codes "frame" ++ (behind_spaces count ++ (32 ∷ decimal m ++ 32 ∷ decimal u))
+
+-- these words, the slots, and the end of the line
+pub frame_is : (count : List (List ℕ)) (m u : ℕ) (slots : List ℕ) → frame_text count m u slots ≡ head count m u ++ (behind_spaces (cells slots) ++ 10 ∷ [])
 frame_is count m u slots =
     ap (λ text. text ++ 10 ∷ []) (spaced_more (codes "frame") (count ++ decimal m ∷ decimal u ∷ cells slots))
-    ∙ ap (λ words. (codes "frame" ++ behind_spaces words) ++ 10 ∷ []) (sym (append_assoc count (decimal m ∷ decimal u ∷ []) (cells slots)))
-    ∙ ap (λ text. (codes "frame" ++ text) ++ 10 ∷ []) (flat_map-append (λ w. 32 ∷ w) (count ++ decimal m ∷ decimal u ∷ []) (cells slots))
-    ∙ append_assoc (codes "frame") (behind_spaces (count ++ decimal m ∷ decimal u ∷ []) ++ behind_spaces (cells slots)) (10 ∷ [])
-    ∙ ap (λ text. codes "frame" ++ text) (append_assoc (behind_spaces (count ++ decimal m ∷ decimal u ∷ [])) (behind_spaces (cells slots)) (10 ∷ []))
-    ∙ sym (append_assoc (codes "frame") (behind_spaces (count ++ decimal m ∷ decimal u ∷ [])) (behind_spaces (cells slots) ++ 10 ∷ []))
+    ∙ ap (λ text. (codes "frame" ++ text) ++ 10 ∷ []) (flat_map-append (λ w. 32 ∷ w) count (decimal m ∷ decimal u ∷ cells slots))
+    ∙ (simp append_assoc)

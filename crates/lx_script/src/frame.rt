@@ -37,7 +37,7 @@ fn put_head<K: Sink>(
     sink: &mut K,
 ) -> Result<(), SinkFault>
     ensures { Puts K.holds K.faults K.wants sink.old sink.new result
-        (codes "frame" ++ flat_map (λ word. 32 ∷ word) (count_words count ++ decimal m ∷ decimal universe ∷ [])) }
+        (codes "frame" ++ (flat_map (λ word. 32 ∷ word) (count_words count) ++ (32 ∷ decimal m ++ 32 ∷ decimal universe))) }
 {
     put_all(sink, b"frame")?;
     put_count_before(count, sink)?;
