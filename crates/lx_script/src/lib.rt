@@ -11,6 +11,8 @@ mod loads;
 mod phrase;
 mod reply;
 mod sentence;
+#[cfg(test)]
+mod tests;
 
 pub use cells::put_cells;
 pub use command::read_command;
