@@ -2,9 +2,20 @@
 #![tactic(auto)]
 
 mod cells;
+mod command;
+mod edits;
+mod first_word;
 mod frame;
+mod keys;
+mod loads;
+mod phrase;
 mod reply;
+mod sentence;
+#[cfg(test)]
+mod tests;
 
 pub use cells::put_cells;
+pub use command::read_command;
 pub use frame::put_frame;
+pub use lx_spec::Line;
 pub use reply::{Reply, put_reply};
