@@ -6,3 +6,4 @@ pub mod TurnLemmas
 pub mod Sessions
 pub mod FilledFrom
 pub mod Replying
+pub mod Wanted

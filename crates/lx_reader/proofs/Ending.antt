@@ -1,5 +1,5 @@
 -- How a pass over the lines of a plain show ends.
-use Rattle.std.proofs.Common.{◌≡◌, ℕ, ◌+◌, ◌<◌, Bool, true, List, [], ◌∷◌, ◌++◌, map, length, take, Option, Some, None, Result, Ok, Err, refl, ap, ◌∙◌, sym, subst, inl, inr, arith, append_assoc}
+use Rattle.std.proofs.Common.{◌≡◌, ℕ, ◌+◌, ◌<◌, Bool, true, List, [], ◌∷◌, ◌++◌, map, length, take, Option, Some, None, Result, Ok, Err, refl, ap, ◌∙◌, sym, subst, inl, inr, arith, append_assoc, length-append}
 use Rattle.std.specs.Prelude.{◌&&◌, fold, max, flat_map, IfSome, unwrap_or}
 use Rattle.std.specs.List.{AllByRecursion}
 use Rattle.std.specs.Result.{IsOkAnd}
@@ -54,6 +54,7 @@ not_built left rises old l l' p q i first past turn = elim turn.1 [
         unread_then = unread left l';
         taken_then = l'.taken;
         took = handed.took;
+        whole = inl (omega (arith, turn.0, next_number left rises old l p past first, length_texts past.raws, length-append past.raws (line.0 ∷ [])));
         built = ap reads_built (texts_more past.raws line.0) ∙ reads-refused (map without_cr past.raws) past.saids (without_cr line.0) [] i past.so_far said;
         text_built = text_with (unread left old) (unread left l') old.taken l'.taken (past.raws ++ line.0 ∷ []) (λ v. reads_built v ≡ Err i) handed.took
             (λ more. ap (λ v. reads_built (v ++ more)) (texts_more past.raws line.0) ∙ ap reads_built (append_assoc (map without_cr past.raws) (without_cr line.0 ∷ []) more) ∙ reads-refused (map without_cr past.raws) past.saids (without_cr line.0) more i past.so_far said);
@@ -65,6 +66,7 @@ not_built left rises old l l' p q i first past turn = elim turn.1 [
         unread_then = unread left l;
         taken_then = l.taken;
         took = past.handed.took;
+        whole = inr end;
         built = open_text;
         text_built = text_whole (unread left old) (unread left l) old.taken l.taken past.raws (λ v. reads_built v ≡ Err i) past.handed.took end open_text;
       }

@@ -38,12 +38,13 @@ pub record HasRead {S : Type 0} (left : S → Option (List ℕ)) (faults : S →
   pub valid : Valid loaded.show
   pub at_once : AllAtOnce loaded.show
 
--- these lines were handed out, and say that line i has none of the forms, or that the input ends before it; so does the text
+-- these lines were handed out, and say that line i, which is the last of them, has none of the forms, or that nothing is left before it; so does the text
 pub record IsNotBuilt {S : Type 0} (left : S → Option (List ℕ)) (old : Lines S) (i : ℕ) : Type 0 where
   pub raws : List (List ℕ)
   pub unread_then : Option (List ℕ)
   pub taken_then : ℕ
   pub took : TookLines (unread left old) unread_then old.taken taken_then raws
+  pub whole : (length raws ≡ i) ⊎ IsAtEnd unread_then
   pub built : reads_built (map without_cr raws) ≡ Err i
   pub text_built : IfSome (unread left old) (λ bytes. reads_built (lines_of bytes) ≡ Err i)
 
