@@ -7,3 +7,6 @@ pub mod Sessions
 pub mod FilledFrom
 pub mod Replying
 pub mod Wanted
+pub mod Inputs
+pub mod GivenWords
+pub mod Statuses

@@ -164,7 +164,7 @@ stops_in_part left faults a b c show place h h' h'' s t =
         (Appends-trans h h' h'' s.written front s.appended part.1))
 
 -- The bytes that the script wants.
-first_lines-length : (k : ℕ) (xs : List ℕ) → length (first_lines k xs) ≤ length xs
+pub first_lines-length : (k : ℕ) (xs : List ℕ) → length (first_lines k xs) ≤ length xs
 first_lines-length k [] = omega arith
 first_lines-length zero (x ∷ xs) = omega arith
 first_lines-length (suc k) (x ∷ xs) = omega (arith, first_lines-length (cond (eqb x 10) k (suc k)) xs)

@@ -14,9 +14,8 @@ ghost use Rattle.cuedesk.specs.Faults.{status_for};
 
 use crate::session::{SessionFault, session};
 use crate::turn::{finish, session_fault};
-use itoa::Buffer;
-use lx_io::{Sink, SinkFault, Source, put_row};
-use lx_lex::Lines;
+use lx_io::{Sink, SinkFault, Source, put_all};
+use lx_lex::{Lines, put_whole};
 use lx_reader::{ShowFault, read_show};
 use std::alloc::Global;
 
@@ -74,10 +73,12 @@ pub fn desk<S: Source, K: Sink>(
     let mut lines = Lines::new(input);
     match read_show(alloc, &mut lines) {
         Ok(loaded) => status_of(session(&loaded.show, &mut lines, output)),
-        Err(ShowFault::NotBuilt(line)) => refuse(line, output),
-        Err(ShowFault::ReadFault) => Status::ReadFault,
-        Err(ShowFault::InputTooLong) => Status::InputTooLong,
-        Err(ShowFault::Memory) => Status::Memory,
+        Err(fault) => match fault {
+            ShowFault::NotBuilt(line) => refuse(line, output),
+            ShowFault::ReadFault => Status::ReadFault,
+            ShowFault::InputTooLong => Status::InputTooLong,
+            ShowFault::Memory => Status::Memory,
+        },
     }
 }
 
@@ -125,13 +126,7 @@ fn refuse<K: Sink>(line: u32, output: &mut K) -> Status
 fn put_refused_show<K: Sink>(line: u32, output: &mut K) -> Result<(), SinkFault>
     ensures { Puts K.holds K.faults K.wants output.old output.new result (not_built_text line) }
 {
-    let mut digits = Buffer::new();
-    put_row(
-        output,
-        &[
-            b"show NotBuilt ".as_slice(),
-            digits.format(line).as_bytes(),
-            b"\n".as_slice(),
-        ],
-    )
+    put_all(output, b"show NotBuilt ")?;
+    put_whole(line, output)?;
+    put_all(output, b"\n")
 }

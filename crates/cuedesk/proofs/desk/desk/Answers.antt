@@ -1,34 +1,35 @@
-use Rattle.std.proofs.Common.{rules, ◌≡◌, ◌≢◌, ◌≤◌, ◌<◌, ◌↔◌, ◌⊎◌, ◌∷◌, [], length, map, codes, IfSome, IsOk, IsErr, string_bytes, IsTrue, ℕ, ◌+◌, ◌-◌, ◌*◌, ◌/◌, ◌%◌, Bool, true, false, nat_eq, nat_lt, List, ◌++◌, slice_index_or, slice_set, bit_and, bit_or, Fits, w8, w32, w64, Bor, MutBor}
-use Rattle.std.specs.Io.KnownBytes.{Appends}
-use Rattle.lx_base.specs.declared.TheConstants.{INPUT_BYTES}
-use Rattle.lx_io.specs.Causes.{Rose}
-use Rattle.lx_io.specs.Puts.{AppendsFront, Puts}
-use Rattle.lx_spec.specs.Text.{lines_of}
-use Rattle.lx_reader.specs.Built.{reads_built}
-use Rattle.cuedesk.specs.Output.{not_built_text, output_of, input_wanted}
-use Rattle.cuedesk.specs.Faults.{status_for}
+use Rattle.std.proofs.Common.{◌≡◌, ◌⊎◌, ◌∙◌, sym, subst}
+use Rattle.cuedesk.specs.declared.desk.Status.{Status}
+use Rattle.cuedesk.specs.declared.desk.Status.TheVariants as status
+use Rattle.cuedesk.proofs.Statuses.{too_long_session, whole_session}
+use Rattle.cuedesk.proofs.Inputs.{session_long, session_fits, refusal_fits, refusal_text, refusal_front, show_long}
 use Rattle.cuedesk.proofs.desk.desk.Goals as goal
 
--- src/desk.rt:46:1
 pub returns-in-Ok-clause-long : goal.returns-in-Ok-clause-long
-returns-in-Ok-clause-long g c = ?
+returns-in-Ok-clause-long g c = λ is.
+    session_long _ _ _ _ c.in-Ok.loaded _ c.new-lines.ensures.unread c.new-lines.ensures.taken c.in-Ok.ensures.answer (c.session.ensures.long (too_long_session c.session.result (sym c.status_of.ensures ∙ is)))
 
--- src/desk.rt:46:1
 pub returns-in-Ok-clause-within : goal.returns-in-Ok-clause-within
-returns-in-Ok-clause-within g c = ?
+returns-in-Ok-clause-within g c = λ is.
+    session_fits _ _ _ _ c.in-Ok.loaded _ c.new-lines.ensures.unread c.new-lines.ensures.taken c.in-Ok.ensures.answer
+    (whole_session _ c.session.result (subst (λ (s : Status). (s ≡ status.Ok) ⊎ (s ≡ status.ShowRefused)) c.status_of.ensures is) c.session.ensures.within)
 
--- src/desk.rt:46:1
-pub returns-in-Err-NotBuilt-clause-refused : goal.returns-in-Err-NotBuilt-clause-refused
-returns-in-Err-NotBuilt-clause-refused g c = ?
+pub returns-in-NotBuilt-clause-refused : goal.returns-in-NotBuilt-clause-refused
+returns-in-NotBuilt-clause-refused g c = λ is.
+    let answer = rw c.in-NotBuilt.is at c.in-Err.ensures.answer in
+    refusal_text g.S.Source.left c.new-lines.result c.in-NotBuilt.line _ _ _ c.new-lines.ensures.unread answer (c.refuse.ensures.refused is)
 
--- src/desk.rt:46:1
-pub returns-in-Err-NotBuilt-clause-front : goal.returns-in-Err-NotBuilt-clause-front
-returns-in-Err-NotBuilt-clause-front g c = ?
+pub returns-in-NotBuilt-clause-front : goal.returns-in-NotBuilt-clause-front
+returns-in-NotBuilt-clause-front g c = λ is.
+    let answer = rw c.in-NotBuilt.is at c.in-Err.ensures.answer in
+    refusal_front g.S.Source.left c.new-lines.result c.in-NotBuilt.line _ _ _ c.new-lines.ensures.unread answer c.refuse.ensures.front
 
--- src/desk.rt:46:1
-pub returns-in-Err-NotBuilt-clause-within : goal.returns-in-Err-NotBuilt-clause-within
-returns-in-Err-NotBuilt-clause-within g c = ?
+pub returns-in-NotBuilt-clause-within : goal.returns-in-NotBuilt-clause-within
+returns-in-NotBuilt-clause-within g c = λ is.
+    let answer = rw c.in-NotBuilt.is at c.in-Err.ensures.answer in
+    refusal_fits g.S.Source.left c.new-lines.result c.in-NotBuilt.line _ c.new-lines.ensures.unread c.new-lines.ensures.taken answer
 
--- src/desk.rt:46:1
-pub returns-in-Err-InputTooLong-clause-long : goal.returns-in-Err-InputTooLong-clause-long
-returns-in-Err-InputTooLong-clause-long g c = ?
+pub returns-in-InputTooLong-clause-long : goal.returns-in-InputTooLong-clause-long
+returns-in-InputTooLong-clause-long g c = λ is.
+    let answer = rw c.in-InputTooLong.is at c.in-Err.ensures.answer in
+    show_long g.S.Source.left c.new-lines.result _ c.new-lines.ensures.unread c.new-lines.ensures.taken answer

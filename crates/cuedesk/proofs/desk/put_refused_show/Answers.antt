@@ -1,14 +1,12 @@
-use Rattle.std.proofs.Common.{rules, ◌≡◌, ◌≢◌, ◌≤◌, ◌<◌, ◌↔◌, ◌⊎◌, ◌∷◌, [], length, map, codes, IfSome, IsOk, IsErr, string_bytes, IsTrue, ℕ, ◌+◌, ◌-◌, ◌*◌, ◌/◌, ◌%◌, Bool, true, false, nat_eq, nat_lt, List, ◌++◌, slice_index_or, slice_set, bit_and, bit_or, Fits, w8, w32, w64, Bor, MutBor}
-use Rattle.std.specs.Io.KnownBytes.{Appends}
-use Rattle.lx_base.specs.declared.TheConstants.{INPUT_BYTES}
-use Rattle.lx_io.specs.Causes.{Rose}
-use Rattle.lx_io.specs.Puts.{AppendsFront, Puts}
-use Rattle.lx_spec.specs.Text.{lines_of}
-use Rattle.lx_reader.specs.Built.{reads_built}
-use Rattle.cuedesk.specs.Output.{not_built_text, output_of, input_wanted}
-use Rattle.cuedesk.specs.Faults.{status_for}
+use Rattle.std.proofs.Common.{refl, append_assoc}
+use Rattle.lx_io.proofs.Chain.{Puts-then, Puts-stops, Puts-is}
 use Rattle.cuedesk.proofs.desk.put_refused_show.Goals as goal
 
--- src/desk.rt:125:1
+pub returns-in_err-put_all : goal.returns-in_err-put_all
+returns-in_err-put_all g c = Puts-stops _ c.in_err-put_all.ensures c.from_residual.ensures
+
+pub returns-in_err-put_whole : goal.returns-in_err-put_whole
+returns-in_err-put_whole g c = Puts-then c.in_ok-put_all.ensures (Puts-stops _ c.in_err-put_whole.ensures c.from_residual-in_err-put_whole.ensures)
+
 pub returns : goal.returns
-returns g c = ?
+returns g c = Puts-then c.in_ok-put_all.ensures (Puts-then c.in_ok-put_whole.ensures c.put_all-2.ensures)
