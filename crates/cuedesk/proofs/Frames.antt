@@ -35,7 +35,7 @@ all_down (sub ∷ subs) c =
 out-tracked : (show : Show) (m at live : ℕ) (d : Desk) (c : ℕ) → Stands show m at live d → out d c ≡ tracked show at c
 out-tracked show m at live d c s =
     let here : level d.show 0 d.all c d.playback.moment ≡ tracked show at c =
-        ap (λ n. level d.show 0 d.all c n) s.moment_is ∙ ap (λ x. level x 0 d.all c m) s.show_is ∙ level-instant show 0 d.all c m s.all_instant ∙ ap (λ n. tracked show n c) s.all_at in
+    ap (λ n. level d.show 0 d.all c n) s.moment_is ∙ ap (λ x. level x 0 d.all c m) s.show_is ∙ level-instant show 0 d.all c m s.all_instant ∙ ap (λ n. tracked show n c) s.all_at in
     let none : contribution d.show d.faders c ≡ 0 = ap (λ f. contribution d.show f c) s.faders_down ∙ all_down d.show.subs c in
     ap (λ v. scaled (max v (contribution d.show d.faders c)) d.master) here
     ∙ ap (λ v. scaled (max (tracked show at c) v) d.master) none

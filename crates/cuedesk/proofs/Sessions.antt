@@ -130,8 +130,8 @@ quits left faults a b c show place h h' h'' s q kept =
     let line = without_cr q.raw in
     let both = handed_then left faults a b c s.raws (q.raw ∷ []) s.handed q.handed in
     over (unread left a) _ _ (begins_more (unread left a) (unread left c) a.taken c.taken s.raws q.raw both.took) (λ xs e.
-        let all : replies_built (opened show) (lines_of xs) ≡ s.written = ap (replies_built (opened show)) e.1 ∙ s.answered.goes_on (line ∷ e.0) ∙ ap (λ v. s.written ++ v) (replies-quit s.desk line e.0 q.quits) ∙ append-nil s.written in
-        subst (λ (t : List ℕ). Appends h h'' t) (sym all) (appended_kept h h' h'' s.written s.appended kept))
+    let all : replies_built (opened show) (lines_of xs) ≡ s.written = ap (replies_built (opened show)) e.1 ∙ s.answered.goes_on (line ∷ e.0) ∙ ap (λ v. s.written ++ v) (replies-quit s.desk line e.0 q.quits) ∙ append-nil s.written in
+    subst (λ (t : List ℕ). Appends h h'' t) (sym all) (appended_kept h h' h'' s.written s.appended kept))
 
 -- a front of a text was appended, where the text begins so
 front_made : (a b : Option (List ℕ)) (front rest text : List ℕ) → text ≡ front ++ rest → Appends a b front → AppendsFront a b text
@@ -142,7 +142,7 @@ pub stops : {S : Type 0} (left : S → Option (List ℕ)) (faults : S → ℕ) (
     → SoFar left faults a b show place h h' → Keeps h' h'' → IfSome (unread left a) (λ bytes. AppendsFront h h'' (replies_built (opened show) (lines_of bytes)))
 stops left faults a b show place h h' h'' s kept =
     over (unread left a) _ _ (begins (unread left a) (unread left b) a.taken b.taken s.raws s.handed.took) (λ xs e.
-      front_made h h'' s.written (replies_built s.desk e.0) _ (ap (replies_built (opened show)) e.1 ∙ s.answered.goes_on e.0) (appended_kept h h' h'' s.written s.appended kept))
+    front_made h h'' s.written (replies_built s.desk e.0) _ (ap (replies_built (opened show)) e.1 ∙ s.answered.goes_on e.0) (appended_kept h h' h'' s.written s.appended kept))
 
 -- the session stopped within a reply
 pub stops_in_part : {S : Type 0} (left : S → Option (List ℕ)) (faults : S → ℕ) (a b c : Lines S) (show : Show) (place : Place) (h h' h'' : Option (List ℕ))
@@ -156,12 +156,12 @@ stops_in_part left faults a b c show place h h' h'' s t =
     let rest = drop part.0 reply in
     let next = desk_after s.desk (line_built line) in
     over (unread left a) _ _ (begins_more (unread left a) (unread left c) a.taken c.taken s.raws t.raw both.took) (λ xs e.
-        let later = replies_built next e.0 in
-        front_made h h'' (s.written ++ front) (rest ++ later) _
-        (ap (replies_built (opened show)) e.1 ∙ s.answered.goes_on (line ∷ e.0)
-        ∙ ap (λ v. s.written ++ v) (replies-line s.desk line e.0 t.replied.more ∙ ap (λ v. v ++ later) (sym (take-append-drop part.0 reply)) ∙ append_assoc front rest later)
-        ∙ sym (append_assoc s.written front (rest ++ later)))
-        (Appends-trans h h' h'' s.written front s.appended part.1))
+    let later = replies_built next e.0 in
+    front_made h h'' (s.written ++ front) (rest ++ later) _
+    (ap (replies_built (opened show)) e.1 ∙ s.answered.goes_on (line ∷ e.0)
+    ∙ ap (λ v. s.written ++ v) (replies-line s.desk line e.0 t.replied.more ∙ ap (λ v. v ++ later) (sym (take-append-drop part.0 reply)) ∙ append_assoc front rest later)
+    ∙ sym (append_assoc s.written front (rest ++ later)))
+    (Appends-trans h h' h'' s.written front s.appended part.1))
 
 -- The bytes that the script wants.
 pub first_lines-length : (k : ℕ) (xs : List ℕ) → length (first_lines k xs) ≤ length xs
@@ -190,10 +190,10 @@ fits_by_quit left faults a b c show place h h' s q =
     let both = handed_then left faults a b c s.raws (q.raw ∷ []) s.handed q.handed in
     let n = length (s.raws ++ q.raw ∷ []) in
     with_both (unread left a) _ _ _ (begins_more (unread left a) (unread left c) a.taken c.taken s.raws q.raw both.took) (lines_within (unread left a) (unread left c) a.taken c.taken (s.raws ++ q.raw ∷ []) n both.took (omega arith)) (λ xs e le.
-        let wanted : lines_wanted (lines_of xs) ≡ n =
-            ap (λ ls. position_or_len ends_script ls + 1) e.1
-            ∙ omega (arith, s.answered.none_ends (line ∷ e.0), position-pass line e.0 q.quits, length-append s.raws (q.raw ∷ []), length-map s.raws without_cr) in
-        omega (arith, le, ap (λ k. length (first_lines k xs)) wanted))
+    let wanted : lines_wanted (lines_of xs) ≡ n =
+    ap (λ ls. position_or_len ends_script ls + 1) e.1
+    ∙ omega (arith, s.answered.none_ends (line ∷ e.0), position-pass line e.0 q.quits, length-append s.raws (q.raw ∷ []), length-map s.raws without_cr) in
+    omega (arith, le, ap (λ k. length (first_lines k xs)) wanted))
 
 -- the next line is past the limit: so are the bytes that the script wants
 pub too_long : {S : Type 0} (left : S → Option (List ℕ)) (faults : S → ℕ) (a b c : Lines S) (show : Show) (place : Place) (h h' : Option (List ℕ))
@@ -201,10 +201,10 @@ pub too_long : {S : Type 0} (left : S → Option (List ℕ)) (faults : S → ℕ
 too_long left faults a b c show place h h' s step =
     let n = length s.raws + 1 in
     with_both (unread left a) _ _ _ (begins (unread left a) (unread left b) a.taken b.taken s.raws s.handed.took) (next_too_long (unread left a) (unread left b) (unread left c) a.taken b.taken c.taken s.raws (line_of c) n s.handed.took step refl) (λ xs e lt.
-        let wanted : n ≤ lines_wanted (lines_of xs) =
-            let is = ap (λ ls. position_or_len ends_script ls + 1) e.1 in
-            omega (arith, is, s.answered.none_ends e.0, length-map s.raws without_cr) in
-        omega (arith, lt, first_lines-longer n (lines_wanted (lines_of xs)) xs wanted))
+    let wanted : n ≤ lines_wanted (lines_of xs) =
+    let is = ap (λ ls. position_or_len ends_script ls + 1) e.1 in
+    omega (arith, is, s.answered.none_ends e.0, length-map s.raws without_cr) in
+    omega (arith, lt, first_lines-longer n (lines_wanted (lines_of xs)) xs wanted))
 
 -- What follows from how a turn ended.
 pub on_ok : {E : Type 0} (P : Type 0) (ended : Result (Unit {0}) E) → (Some ended ≡ Some (Ok tt) → P) → OnOk ended P

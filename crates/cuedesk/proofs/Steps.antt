@@ -172,11 +172,11 @@ pub go-next : (show : Show) (m at live n : ℕ) (d : Desk) → Stands show m at 
     → IsOkAnd (step d (commands.Key (Play Go))) (Stands show m n (live + 1))
 go-next show m at live n d s plain next some =
     let by : (o : Option Cue) → cue_above show at ≡ o → option_map (λ cue. cue.number) o ≡ Some n → IsOkAnd (step d (commands.Key (Play Go))) (Stands show m n (live + 1)) =
-        λ o. elim o as (λ o. cue_above show at ≡ o → option_map (λ cue. cue.number) o ≡ Some n → IsOkAnd (step d (commands.Key (Play Go))) (Stands show m n (live + 1))) [
-          | None ↦ λ above e. cc
-          | Some cue ↦ λ above e.
-              let number : cue.number ≡ n = cc in
-              subst (λ k. IsOkAnd (step d (commands.Key (Play Go))) (Stands show m k (live + 1))) number
-              (go-runs show m at live d cue s above (plain_found (λ x. nat_lt at x.number) show.cues cue plain above) some)
-        ] in
+    λ o. elim o as (λ o. cue_above show at ≡ o → option_map (λ cue. cue.number) o ≡ Some n → IsOkAnd (step d (commands.Key (Play Go))) (Stands show m n (live + 1))) [
+      | None ↦ λ above e. cc
+      | Some cue ↦ λ above e.
+          let number : cue.number ≡ n = cc in
+          subst (λ k. IsOkAnd (step d (commands.Key (Play Go))) (Stands show m k (live + 1))) number
+          (go-runs show m at live d cue s above (plain_found (λ x. nat_lt at x.number) show.cues cue plain above) some)
+    ] in
     by (cue_above show at) refl next

@@ -46,7 +46,7 @@ pub refused : (show : Show) (place : Place) (d : Desk) (k left left' : ℕ) (e :
     → ((x : Desk) → StandsAt show place x → step x commands.Tick ≡ Err e) → TickedSo show place d k (Err e)
 refused show place d k left left' e one l tick =
     let same : attempt_ticks [] k (begun d) ≡ record { session = (answered l.now commands.Tick (Err e)).session; refusal = Some e } =
-        l.same ∙ ap (λ n. attempt_ticks [] n l.now) one ∙ ap (λ r. and_then (answered l.now commands.Tick r) (attempt_ticks [] left')) (tick l.now.desk l.stands) in
+    l.same ∙ ap (λ n. attempt_ticks [] n l.now) one ∙ ap (λ r. and_then (answered l.now commands.Tick r) (attempt_ticks [] left')) (tick l.now.desk l.stands) in
     record {
       refused = ap (λ (a : Attempt). a.refusal) same;
       stands = subst (λ (a : Attempt). StandsAt show place a.session.desk) (sym same) l.stands;

@@ -48,7 +48,7 @@ place before i (line ∷ lines) =
     let all : 1 + length lines ≡ length (line ∷ lines) = omega arith in
     subst (λ n. Place i n (position_or_len ends_built (all_built before i (line ∷ lines))) (find ends_built (all_built before i (line ∷ lines)))) all
     (step i (length lines) (position_or_len ends_built (all_built (line ∷ before) (i + 1) lines)) (find ends_built (all_built (line ∷ before) (i + 1) lines)) here (λ j e. said_number (known_from before) i j line e)
-     (place (line ∷ before) (i + 1) lines) (ends_built here) refl)
+    (place (line ∷ before) (i + 1) lines) (ends_built here) refl)
 
 abbrev found_in : List (List ℕ) → Option (Result Said ℕ)
 found_in lines = find ends_built (all_built [] 1 lines)
@@ -162,5 +162,5 @@ show_lines-more lines n is =
     let passed_front : position_or_len ends_built all ≡ length all = omega arith in
     let rest = all_built (back_onto front []) (1 + length front) (drop n lines) in
     let whole : passed lines ≡ length all + position_or_len ends_built rest =
-        ap passed (sym (take-append-drop n lines)) ∙ ap (position_or_len ends_built) (all_built-append [] 1 front (drop n lines)) ∙ position-append ends_built all rest passed_front in
+    ap passed (sym (take-append-drop n lines)) ∙ ap (position_or_len ends_built) (all_built-append [] 1 front (drop n lines)) ∙ position-append ends_built all rest passed_front in
     omega arith

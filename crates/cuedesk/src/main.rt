@@ -9,6 +9,8 @@ mod request;
 mod script;
 mod session;
 mod slots;
+#[cfg(test)]
+mod tests;
 mod turn;
 
 pub use desk::{Status, desk};
@@ -19,8 +21,7 @@ use std::process::ExitCode;
 use std::{env, io};
 
 /// The line that says how the program is used.
-const USAGE: &str =
-    "usage: cuedesk check|render|sheet [states] | make N | run U [states]";
+const USAGE: &str = "usage: cuedesk check|render|sheet [states] | make N | run U [states]";
 
 /// The words after the program's name.
 fn words_given(rt: &HostRuntime) -> io::Result<Vec<String>> {

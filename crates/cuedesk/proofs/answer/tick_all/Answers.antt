@@ -19,8 +19,8 @@ returns-in_err-tick c = λ show d s.
     let same = c.in_err-tick.ensures.unchanged in
     refused_by show _ d c.args.count _ _ c.from_residual.ensures
     (subst (λ (p : Playing). TickedSo show (place_of p) d c.args.count (Err c.in_err-tick.field-0.0)) (sym same)
-     (refused show (place_of c.loop.playing) d c.args.count (c.args.count - c.loop.counter) (c.args.count - (c.loop.counter + 1)) _ (omega arith) (c.loop.invariant show d s)
-      (λ x stands. c.in_err-tick.ensures.step show x stands)))
+    (refused show (place_of c.loop.playing) d c.args.count (c.args.count - c.loop.counter) (c.args.count - (c.loop.counter + 1)) _ (omega arith) (c.loop.invariant show d s)
+    (λ x stands. c.in_err-tick.ensures.step show x stands)))
 
 pub returns : goal.returns
 returns c = λ show d s. ends show (place_of c.loop.playing) d c.args.count (c.args.count - c.loop.counter) (omega arith) (c.loop.invariant show d s)

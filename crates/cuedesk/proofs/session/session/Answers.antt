@@ -28,8 +28,8 @@ pub returns-in-Some-clause-ok : goal.returns-in-Some-clause-ok
 returns-in-Some-clause-ok g c =
     let h = c.loop-ended.invariant.so_far in
     on_ok _ _ (λ is.
-      let e = c.in-Some.ensures.ok is in
-      elim e.1 [ inl end ↦ ends _ _ _ _ _ _ _ _ _ h end e.0 | inr quit ↦ quits _ _ _ _ _ _ _ _ _ _ h quit e.0 ])
+    let e = c.in-Some.ensures.ok is in
+    elim e.1 [ inl end ↦ ends _ _ _ _ _ _ _ _ _ h end e.0 | inr quit ↦ quits _ _ _ _ _ _ _ _ _ _ h quit e.0 ])
 
 pub returns-in-Some-clause-err : goal.returns-in-Some-clause-err
 returns-in-Some-clause-err g c = stopped _ _ _ _ c.turn.new.lines _ _ _ _ _ _ c.loop-ended.invariant.so_far c.in-Some.ensures.fault

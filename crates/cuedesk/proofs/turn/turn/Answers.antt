@@ -15,10 +15,11 @@ returns-in-Line-clause-goes_on g c =
 pub returns-in-Line-clause-ok : goal.returns-in-Line-clause-ok
 returns-in-Line-clause-ok g c =
     let e = c.in-Line.ensures in λ is.
-    let ended = c.reply.ensures.ok is in
-    (Keeps-trans _ _ _ c.flush_before_wait.ensures.holds ended.0,
-     inr (took_quit _ _ _ _ e.step.0 _ (handed_one _ _ _ _ e.step.0 e.step.1 e.number e.going e.same_reference e.later)
-      (c.read_request.ensures.meaning ∙ ap line_built (c.line.ensures.line ∙ e.step.2)) ended.1))
+    let ended = c.reply.ensures.ok is in (
+      Keeps-trans _ _ _ c.flush_before_wait.ensures.holds ended.0,
+      inr (took_quit _ _ _ _ e.step.0 _ (handed_one _ _ _ _ e.step.0 e.step.1 e.number e.going e.same_reference e.later)
+          (c.read_request.ensures.meaning ∙ ap line_built (c.line.ensures.line ∙ e.step.2)) ended.1),
+    )
 
 pub returns-in-Line-clause-fault : goal.returns-in-Line-clause-fault
 returns-in-Line-clause-fault g c =
