@@ -1,0 +1,12 @@
+//! Fades of one channel, kept as a stack in a lent row: the newest fade that has begun gives the
+//! level.
+#![tactic(auto)]
+
+mod fade;
+mod stack;
+
+pub use fade::{Fade, value_at};
+pub use stack::{push_fade, value};
+
+#[cfg(test)]
+mod tests;

@@ -1,0 +1,17 @@
+use Rattle.std.proofs.Common.{arith, ◌∙◌, ◌≡◌, ◌≤◌, ap, length, List, map, subst, sym}
+use Rattle.std.specs.List.{AllByRecursion}
+use Rattle.lx_spec.specs.declared.PartTimes.{PartTimes}
+use Rattle.lx_spec.specs.Run.{captured}
+use Rattle.lx_spec.specs.Show.{Cue}
+use Rattle.lx_playback.specs.Valid.{ValidTimes}
+use Rattle.lx_playback.proofs.Captured.{captured_valid, some_captured}
+use Rattle.lx_playback.proofs.playback.Playback.start.Goals as goal
+
+pub append-requires-clause-run : goal.append-requires-clause-run
+append-requires-clause-run c =
+    let is : c.captured_all.result.items ≡ map captured c.args.cue.now.parts = c.captured_all.ensures ∙ ap (λ (cue : Cue). map captured cue.parts) c.cue.view_is in
+    record {
+      started = omega (arith, c.moment-start.ensures.moment);
+      entry = subst (λ (entries : List PartTimes). 1 ≤ length entries) (sym is) (some_captured c.args.cue.now.parts c.requires.base_part);
+      times = subst (λ (entries : List PartTimes). AllByRecursion ValidTimes entries) (sym is) (captured_valid c.args.cue.now.parts c.requires.parts);
+    }

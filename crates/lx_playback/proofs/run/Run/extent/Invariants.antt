@@ -1,0 +1,7 @@
+use Rattle.std.proofs.Common.{◌*◌, ◌≡◌, ◌≤◌, map, take}
+use Rattle.lx_base.specs.declared.TheConstants.{TIME_MAX}
+use Rattle.lx_spec.specs.Run.{entry_extent, greatest}
+use Rattle.lx_playback.proofs.run.Run.extent.Given as goal
+
+abbrev pub invariant-loop-entry : goal.invariant-loop-entry
+invariant-loop-entry l = record { extent : l.most ≡ greatest (map entry_extent (take l.entry-index l.entry-items)); most : l.most ≤ 2 * TIME_MAX }

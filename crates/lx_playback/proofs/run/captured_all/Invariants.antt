@@ -1,0 +1,6 @@
+use Rattle.std.proofs.Common.{◌≡◌, map, take}
+use Rattle.lx_spec.specs.Run.{captured}
+use Rattle.lx_playback.proofs.run.captured_all.Given as goal
+
+abbrev pub invariant-loop-part : goal.invariant-loop-part
+invariant-loop-part l = l.entries.items ≡ map captured (take l.part-index l.part-items)

@@ -1,0 +1,34 @@
+-- What always holds of a playback.
+use Rattle.std.specs.Prelude.{◌≡◌, ℕ, ◌+◌, ◌%◌, ◌≤◌, nat_le, length}
+use Rattle.std.specs.List.{AllByRecursion, list_all}
+use Rattle.lx_base.specs.declared.TheConstants.{RUNS, TICK_END}
+use Rattle.lx_spec.specs.declared.PartTimes.{PartTimes}
+use Rattle.lx_spec.specs.Show.{IsTime}
+use Rattle.lx_spec.specs.Run.{Run, extent}
+use Rattle.lx_spec.specs.Playback.{Playback}
+
+-- times and delays are at most the longest
+pub record ValidTimes (entry : PartTimes) : Type 0 where
+  pub up : IsTime entry.up
+  pub up_delay : IsTime entry.up_delay
+  pub down : IsTime entry.down
+  pub down_delay : IsTime entry.down_delay
+
+-- a run that started by the moment, with at least one entry of part times
+pub record ValidRun (moment : ℕ) (run : Run) : Type 0 where
+  pub started : run.start ≤ moment
+  pub entry : 1 ≤ length run.parts
+  pub times : AllByRecursion ValidTimes run.parts
+
+-- the moment is a whole number of ticks, and the live runs are few and valid
+pub record ValidPlayback (p : Playback) : Type 0 where
+  pub moment : p.moment ≤ TICK_END
+  pub even : p.moment % 2 ≡ 0
+  pub few : length p.live ≤ RUNS
+  pub live : AllByRecursion (ValidRun p.moment) p.live
+
+-- a playback that has room for all its runs, and knows from which moment on every live run is over
+pub record IsStored (p : Playback) (reserved over_at : ℕ) : Type 0 where
+  pub valid : ValidPlayback p
+  pub room : RUNS ≤ reserved
+  pub over : (m : ℕ) → list_all (λ run. nat_le (run.start + extent run) m) p.live ≡ nat_le over_at m

@@ -1,0 +1,170 @@
+//! The playback's state: the moment, the base, the live runs and the pending follow.
+
+ghost use Rattle.std.specs.Prelude.{◌≡◌, ◌+◌, ◌<◌, ◌≤◌, ◌==◌, ◌∷◌, None, not, reverse, length, IfOk, IsTrue, IsFalse};
+ghost use Rattle.std.specs.List.{All};
+ghost use Rattle.lx_spec.specs.Playback.{at_opening, position_of, has_room, is_over, is_due, at_rest};
+ghost use Rattle.lx_playback.specs.Valid.{ValidPlayback, ValidRun};
+
+use crate::run::Run;
+use lx_base::{CueNo, Moment, RUNS, TICK_END};
+use std::alloc::{AllocError, Global};
+use std::marker::Model;
+
+/// The playback of a show: runs are live from their start until all of them are over, and then
+/// the position becomes the base. Moments are hundredths of a second since the opening, and a tick
+/// is 2 of them.
+#[derive(Drop)]
+pub struct Playback {
+    moment: Moment,
+    base: CueNo,
+    live: Vec<Run>,
+    pending: Option<Moment>,
+    /// From this moment on every live run is over.
+    over_at: Moment,
+}
+
+impl Model for Playback {
+    ghost use Rattle.std.specs.Prelude.{reverse, vec_capacity};
+    ghost use Rattle.lx_spec.specs.Playback.{Playback as PlaybackData};
+    ghost use Rattle.lx_playback.specs.Valid.{IsStored};
+
+    ghost Value = { PlaybackData };
+
+    ghost view = { λ p. record { moment = p.moment; base = p.base; live = reverse p.live.items; pending = p.pending } };
+
+    ghost invariant = { λ p. IsStored (record { moment = p.moment; base = p.base; live = reverse p.live.items; pending = p.pending }) (vec_capacity p.live) p.over_at };
+}
+
+impl Playback {
+    /// The playback at the opening: moment 0, no cue, nothing live and no follow pending. Takes
+    /// all the memory that it will need; an error comes only where that is refused.
+    pub fn open(alloc: Global) -> Result<Playback, AllocError>
+        ensures { IfOk result (λ playback. playback ≡ at_opening) }
+    {
+        Ok(Playback {
+            moment: 0,
+            base: before_first(),
+            live: Vec::with_capacity(alloc, RUNS)?,
+            pending: None,
+            over_at: 0,
+        })
+    }
+
+    /// The present moment, an even number of at most `TICK_END`.
+    pub fn moment(&self) -> Moment
+        ensures moment { result ≡ self.now.moment }
+        ensures valid { ValidPlayback self.now }
+    {
+        self.moment
+    }
+
+    /// The cue of the newest live run, or the base where none is live; 0 is before the first cue.
+    pub fn position(&self) -> CueNo
+        ensures { result ≡ position_of self.now }
+    {
+        match self.live.last() {
+            Some(run) => run.cue,
+            None => self.base,
+        }
+    }
+
+    /// The position at the last rest or settle, 0 if there was none.
+    pub fn base(&self) -> CueNo
+        ensures { result ≡ self.now.base }
+    {
+        self.base
+    }
+
+    /// The live runs, at most 512, the newest last.
+    pub fn live(&self) -> &[Run]
+        ensures live { reverse result.now ≡ self.now.live }
+        ensures each { All (ValidRun self.now.moment) result.now }
+        ensures valid { ValidPlayback self.now }
+    {
+        self.live.as_slice()
+    }
+
+    /// The moment at which the pending follow is due, if one is pending.
+    pub fn pending(&self) -> Option<Moment>
+        ensures { result ≡ self.now.pending }
+    {
+        self.pending
+    }
+
+    /// One more run may be live.
+    pub(crate) fn has_room(&self) -> bool
+        ensures { result ≡ has_room self.now }
+    {
+        self.live.len() < RUNS
+    }
+
+    /// The pending follow is due.
+    pub(crate) fn is_due(&self) -> bool
+        ensures { result ≡ is_due self.now }
+    {
+        match self.pending {
+            Some(m) => m <= self.moment,
+            None => false,
+        }
+    }
+
+    /// Some run is live, every live run is over, and no follow is pending.
+    pub(crate) fn is_over(&self) -> bool
+        ensures { result ≡ is_over self.now }
+    {
+        !self.live.is_empty() && self.pending.is_none() && self.over_at <= self.moment
+    }
+
+    /// Appends a run to the live ones, and sets the pending follow.
+    pub(crate) fn append(&mut self, run: Run, pending: Option<Moment>)
+        requires room { length self.old.live < RUNS }
+        requires run { ValidRun self.old.moment run }
+        ensures { self.new ≡ record self.old { live = run ∷ self.old.live; pending = pending } }
+    {
+        self.over_at = self.over_at.max(run.start + run.extent());
+        match self.live.push(run) {
+            Ok(()) => {}
+            Err(_) => unreachable!(),
+        }
+        self.pending = pending;
+    }
+
+    /// No follow is pending any more.
+    pub(crate) fn clear_pending(&mut self)
+        ensures { self.new ≡ record self.old { pending = None } }
+    {
+        self.pending = None;
+    }
+
+    /// The position becomes the base, and no run is live.
+    pub(crate) fn come_to_rest(&mut self)
+        ensures { self.new ≡ at_rest self.old }
+    {
+        self.base = self.position();
+        self.live.clear();
+        self.over_at = 0;
+    }
+
+    /// The moment grows by a tick, unless it is the last one.
+    pub(crate) fn grow(&mut self) -> bool
+        ensures last { result ≡ not (self.old.moment == TICK_END) }
+        ensures grown { IsTrue result → self.new ≡ record self.old { moment = self.old.moment + 2 } }
+        ensures same { IsFalse result → self.new ≡ self.old }
+    {
+        if self.moment == TICK_END {
+            return false;
+        }
+        self.moment += 2;
+        true
+    }
+}
+
+/// The cue number before the first cue.
+fn before_first() -> CueNo
+    ensures { result ≡ 0 }
+{
+    match CueNo::new(0) {
+        Some(n) => n,
+        None => unreachable!(),
+    }
+}

@@ -1,0 +1,5 @@
+use Rattle.std.proofs.Common.{◌≡◌, take, vec_capacity}
+use Rattle.lx_show.proofs.list.copy_in_room.Given as goal
+
+abbrev pub invariant-loop-x : goal.invariant-loop-x
+invariant-loop-x g l = record { items : l.copy.items ≡ take l.x-index l.xs; room : vec_capacity l.copy ≡ l.room }

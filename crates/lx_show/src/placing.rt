@@ -1,0 +1,75 @@
+//! Entries placed into a show and taken out: each call changes the entry of that number alone. None takes
+//! memory, since a show has room for all numbers.
+
+ghost use Rattle.std.specs.Prelude.{◌≡◌, ◌≤◌, ◌||◌, IsTrue, length, nat_lt};
+ghost use Rattle.lx_spec.specs.Listing.{entry_at, has_entry, placed, taken_out};
+ghost use Rattle.lx_spec.specs.Show.{ValidCue, ValidGroup, ValidSub};
+ghost use Rattle.lx_spec.specs.Tracked.{cue_of};
+
+use crate::cue::Cue;
+use crate::group::Group;
+use crate::show::Show;
+use crate::sub::Sub;
+use crate::{facts, rising};
+use lx_base::{CUES, CueNo, Dimmer};
+use lx_spec::PatchRow;
+
+impl Show {
+    /// A cue of the number may be placed: it is there, or there are fewer than 2,000 cues.
+    pub fn has_room_for(&self, n: CueNo) -> bool
+        ensures { result ≡ (has_entry (λ x. x.number) n self.now.cues || nat_lt (length self.now.cues) CUES) }
+    {
+        self.cues.len() < CUES || self.cue(n).is_some()
+    }
+
+    /// Places the cue, in place of the one of its number. Either that is there, or there are fewer than
+    /// 2,000 cues.
+    pub fn put_cue(&mut self, cue: Cue)
+        requires valid { ValidCue self.old.channels cue }
+        requires room { IsTrue (has_entry (λ x. x.number) cue.number self.old.cues || nat_lt (length self.old.cues) CUES) }
+        ensures { self.new ≡ record self.old { cues = placed (λ x. x.number) cue self.old.cues } }
+    {
+        rising::put_in_room(&mut self.cues, cue)
+    }
+
+    /// Takes the cue out. `None` exactly where there is no cue of the number.
+    pub fn take_cue(&mut self, n: CueNo) -> Option<Cue>
+        ensures cue { result ≡ cue_of self.old n }
+        ensures others { self.new ≡ record self.old { cues = taken_out (λ x. x.number) n self.old.cues } }
+    {
+        rising::take_out(&mut self.cues, n.get())
+    }
+
+    /// Places the group, in place of the one of its number.
+    pub fn put_group(&mut self, group: Group)
+        requires { ValidGroup self.old.channels group }
+        ensures { self.new ≡ record self.old { groups = placed (λ x. x.number) group self.old.groups } }
+    {
+        rising::put_in_room(&mut self.groups, group)
+    }
+
+    /// Places the submaster, in place of the one of its number.
+    pub fn put_sub(&mut self, sub: Sub)
+        requires { ValidSub self.old.channels sub }
+        ensures { self.new ≡ record self.old { subs = placed (λ x. x.number) sub self.old.subs } }
+    {
+        rising::put_in_room(&mut self.subs, sub)
+    }
+
+    /// Places the row, in place of the one of its dimmer. Its channel is within the count.
+    pub fn put_patch(&mut self, row: PatchRow)
+        requires { row.chan ≤ self.old.channels }
+        ensures { self.new ≡ record self.old { patch = placed (λ x. x.dimmer) row self.old.patch } }
+    {
+        facts::of_row(&row);
+        rising::put_in_room(&mut self.patch, row)
+    }
+
+    /// Takes the dimmer's row out. `None` exactly where it has none.
+    pub fn take_patch(&mut self, d: Dimmer) -> Option<PatchRow>
+        ensures row { result ≡ entry_at (λ x. x.dimmer) d self.old.patch }
+        ensures others { self.new ≡ record self.old { patch = taken_out (λ x. x.dimmer) d self.old.patch } }
+    {
+        rising::take_out(&mut self.patch, d.get())
+    }
+}
