@@ -52,6 +52,7 @@ abbrev pub has_first : ℕ → List ℕ → Bool
 has_first letter [] = false
 has_first letter (b ∷ bs) = letter == b
 
+-- the word begins with the letter
 abbrev pub begins_with : ℕ → FirstWord → Bool
 begins_with letter word = has_first letter (text_of word)
 

@@ -6,7 +6,7 @@ ghost use Rattle.lx_lex.specs.Left.{left};
 
 use crate::first_word::FirstWord;
 use crate::phrase::ended;
-use crate::{edits, keys, loads};
+use crate::{edits, groups_and_patch, keys};
 use lx_lex::Tokens;
 use lx_spec::{Line, PlayKey};
 
@@ -33,10 +33,10 @@ pub(crate) fn sentence(word: FirstWord, line: &[u8], rest: Tokens) -> Option<Lin
         FirstWord::Unblock => edits::unblock(rest),
         FirstWord::Follow => edits::follow(rest),
         FirstWord::Label => edits::label(line, rest),
-        FirstWord::Group => loads::group_members(rest),
-        FirstWord::Sub => loads::sub_members(rest),
-        FirstWord::Patch => loads::patch(rest),
-        FirstWord::Unpatch => loads::unpatch(rest),
+        FirstWord::Group => groups_and_patch::group_members(rest),
+        FirstWord::Sub => groups_and_patch::sub_members(rest),
+        FirstWord::Patch => groups_and_patch::patch(rest),
+        FirstWord::Unpatch => groups_and_patch::unpatch(rest),
         FirstWord::Frame => keys::frame(rest),
         FirstWord::Sheet => keys::sheet(rest),
         FirstWord::Save => ended(rest, Line::Save),
