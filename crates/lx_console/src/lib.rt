@@ -1,0 +1,5 @@
+//! The desk: a show in playback, with the levels of its channels and the frames of its dimmers kept.
+#![tactic(auto)]
+
+mod channel;
+mod runs;
