@@ -2,4 +2,8 @@
 #![tactic(auto)]
 
 mod channel;
+mod levels;
+mod mixer;
+mod patch;
 mod runs;
+mod subs;
