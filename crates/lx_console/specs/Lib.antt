@@ -1,3 +1,4 @@
 pub mod Table
 pub mod Slots
 pub mod Standing
+pub mod Filled

@@ -2,8 +2,14 @@
 #![tactic(auto)]
 
 mod channel;
+mod console;
 mod levels;
 mod mixer;
+mod output;
 mod patch;
 mod runs;
+mod stage;
 mod subs;
+mod ticks;
+
+pub use console::Console;
