@@ -1,6 +1,8 @@
 -- A console that stands for a desk obeys as the desk steps.
-use Rattle.std.specs.Prelude.{◌≡◌, ℕ, ◌-◌, Bool, true, false, cond, Result, Ok, Err, refl, slice_set, IsOkAnd, IfOk, OnOk, OnErr, IfErr, IsTrue, IsFalse}
+use Rattle.std.specs.Prelude.{◌≡◌, ℕ, ◌-◌, List, [], ◌∷◌, ◌++◌, Bool, true, false, cond, Result, Ok, Err, refl, slice_set, IsOkAnd, IfOk, OnOk, OnErr, IfErr, IsTrue, IsFalse}
+use Rattle.std.specs.Result.{result_unwrap_or}
 use Rattle.std.proofs.Common.{ap, sym, subst, ◌∙◌}
+use Rattle.std.proofs.lemmas.List.Sums.{fold-append}
 use Rattle.lx_spec.specs.declared.PlayKey.{PlayKey}
 use Rattle.lx_spec.specs.declared.Key.TheVariants.{Play, Fader, Master}
 use Rattle.lx_spec.specs.declared.Command.{Command}
@@ -10,17 +12,31 @@ use Rattle.lx_spec.specs.declared.Refusal.TheVariants.{AbsentSub}
 use Rattle.lx_spec.specs.Refusing.{◌>>=◌}
 use Rattle.lx_spec.specs.Listing.{has_entry}
 use Rattle.lx_spec.specs.Playback.{Played, press, tick}
-use Rattle.lx_spec.specs.Desk.{Desk, step, after_play, replay}
+use Rattle.lx_spec.specs.Desk.{Desk, opened, step, after_play, after_command, replay}
 use Rattle.lx_spec.specs.Stands.{Kept, kept}
 use Rattle.lx_spec.specs.Laws.{KeepsRest}
 use Rattle.lx_spec.specs.Show.{Show}
 use Rattle.lx_spec.proofs.RestKept.{kept-step, kept-replay}
 use Rattle.lx_console.specs.Standing.{StandsFor, Obeys}
-use Rattle.std.specs.Prelude.{List}
 
 -- a console that is all of a replayed desk but its list of runs stands for it
 pub stands_replay : (show : Show) (done : List Command) (console : Kept) → console ≡ kept (replay show done) → StandsFor (replay show done) console
 stands_replay show done console same = record { same = same; rest = kept-replay show done }
+
+stands_after : (d : Desk) (r : Result Desk Refusal) (now : Kept) → IsOkAnd r (λ next. StandsFor next now) → StandsFor (result_unwrap_or r d) now
+stands_after d (Ok next) now ok = ok
+stands_after d (Err refusal) now ok = absurd ok
+
+-- the desk after one more command, which may be refused
+after_one : (d : Desk) (command : Command) (answer : Result (Unit {0}) Refusal) (before now : Kept) → StandsFor d before → Obeys d command answer now → OnErr answer (now ≡ before) → StandsFor (after_command d command) now
+after_one d command (Ok x) before now stands obeys same = stands_after d (step d command) now obeys.ok
+after_one d command (Err refusal) before now stands obeys same =
+    subst (λ (r : Result Desk Refusal). StandsFor (result_unwrap_or r d) now) (sym obeys.err)
+    (record { same = same ∙ stands.same; rest = stands.rest })
+
+pub stands_next : (show : Show) (done : List Command) (command : Command) (answer : Result (Unit {0}) Refusal) (before now : Kept) → StandsFor (replay show done) before → Obeys (replay show done) command answer now → OnErr answer (now ≡ before) → StandsFor (replay show (done ++ command ∷ [])) now
+stands_next show done command answer before now stands obeys same =
+    subst (λ (d : Desk). StandsFor d now) (sym (fold-append after_command (opened show) done (command ∷ []))) (after_one (replay show done) command answer before now stands obeys same)
 
 played_ok : (d : Desk) (r : Result Played Refusal) (now : Kept) → IfOk (r >>= (λ played. Ok (after_play d played))) KeepsRest → IsOkAnd r (λ played. now ≡ record (kept d) { playback = played.playback }) → IsOkAnd (r >>= (λ played. Ok (after_play d played))) (λ next. StandsFor next now)
 played_ok d (Ok played) now rest is = record { same = is; rest = rest }

@@ -3,6 +3,7 @@
 
 mod channel;
 mod console;
+pub mod laws;
 mod levels;
 mod mixer;
 mod output;
@@ -13,3 +14,6 @@ mod subs;
 mod ticks;
 
 pub use console::Console;
+
+#[cfg(test)]
+mod tests;
