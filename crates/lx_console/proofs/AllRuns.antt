@@ -20,9 +20,9 @@ use Rattle.lx_console.specs.Standing.{StandsFor, level_now, out_now}
 -- the live runs over the base give the level that all runs give
 pub over_all : (d : Desk) → KeepsRest d → (c : ℕ) → level_now (kept d) c ≡ level d.show 0 d.all c d.playback.moment
 over_all d rest c = sym (
-  ap (λ runs. level d.show 0 runs c d.playback.moment) rest.all_is
-  ∙ level-rest d.show d.playback.base rest.from d.playback.live rest.front c d.playback.moment rest.base_is (rest.still d.show c) rest.later rest.begun
-)
+    ap (λ runs. level d.show 0 runs c d.playback.moment) rest.all_is
+    ∙ level-rest d.show d.playback.base rest.from d.playback.live rest.front c d.playback.moment rest.base_is (rest.still d.show c) rest.later rest.begun
+    )
 
 outputs : (d : Desk) → KeepsRest d → out_now (kept d) ≡ out d
 outputs d rest = λ i c. scaled (max (over_all d rest c i) (contribution d.show d.faders c)) d.master

@@ -23,9 +23,9 @@ pub mixed : (n master : ℕ) (level contribution : ℕ → ℕ) (levels given ou
 mixed n master level contribution levels given outs reach of_levels of_given each = record {
   reach = reach;
   each = λ k within.
-    each k (omega arith)
-    ∙ ap (λ l. scaled (max l (get_or given k 0)) master) (of_levels.each k within)
-    ∙ ap (λ l. scaled (max (level (k + 1)) l) master) (of_given.each k within);
+      each k (omega arith)
+      ∙ ap (λ l. scaled (max l (get_or given k 0)) master) (of_levels.each k within)
+      ∙ ap (λ l. scaled (max (level (k + 1)) l) master) (of_given.each k within);
 }
 
 -- a table tells the value of a number

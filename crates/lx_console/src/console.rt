@@ -21,6 +21,11 @@ use std::marker::Model;
 
 /// A desk: a show in playback, the faders of its submasters and the master. The level of each channel
 /// and the slot of each dimmer at the present moment are kept, and lent as they are.
+///
+/// A console stands for a desk that also has the list of all runs since its opening: keys and ticks are
+/// accepted, or refused, as that desk does, and the levels and slots are those over all its runs. How
+/// levels follow from runs is our own rule; that the greatest of playback and submasters goes out, under
+/// the master, is console practice.
 #[derive(Drop)]
 pub struct Console {
     show: Show,
@@ -144,7 +149,7 @@ impl Console {
     }
 
     /// The moment grows by 2 hundredths of a second; a follow that is due starts the next cue, and where
-    /// all is over the playback comes to rest. At rest this takes no time for the channels.
+    /// all is over the playback comes to rest. While nothing is live no level is looked at.
     ///
     /// Refused with `TickLimit`, and nothing changes, exactly where the moment is `TICK_END`.
     pub fn tick(&mut self) -> Result<(), Refusal>

@@ -12,12 +12,7 @@ use lx_playback::Playback;
 use lx_show::Show;
 
 /// Fills in the level of each channel at the playback's moment. The row is free before and after.
-pub(crate) fn fill_levels(
-    show: &Show,
-    playback: &Playback,
-    row: &mut [Fade],
-    levels: &mut [Level],
-)
+pub(crate) fn fill_levels(show: &Show, playback: &Playback, row: &mut [Fade], levels: &mut [Level])
     requires room { RUNS ≤ length row.old }
     requires reach { length levels.old ≡ show.now.channels }
     ensures { IsTable show.now.channels (λ c. level show.now playback.now.base playback.now.live c playback.now.moment) levels.new }

@@ -5,8 +5,8 @@ ghost use Rattle.lx_base.specs.Numbers.{scaled};
 
 use lx_base::{Level, scale};
 
-/// Mixes by the greatest: each output is the greater of the playback's level and the submasters', in
-/// proportion to the master.
+/// Mixes by the greatest, as consoles do: each output is the greater of the playback's level and the
+/// submasters', in proportion to the master.
 pub(crate) fn mix_into(playback: &[Level], subs: &[Level], master: Level, out: &mut [Level])
     requires playback { length playback.now ≡ length out.old }
     requires subs { length subs.now ≡ length out.old }
