@@ -1,8 +1,8 @@
 -- The outputs of the channels and the slots of the dimmers, as tables.
-use Rattle.std.specs.Prelude.{◌≡◌, ℕ, ◌+◌, ◌-◌, ◌<◌, ◌≤◌, max, Bool, true, false, cond, ◌==◌, List, [], ◌∷◌, length, refl, EachIndex, Some, Option}
+use Rattle.std.specs.Prelude.{◌≡◌, ℕ, ◌+◌, ◌-◌, ◌≤◌, max, true, false, cond, ◌==◌, List, [], ◌∷◌, length, refl, EachIndex, Some}
 use Rattle.std.specs.List.{All, AllByRecursion}
 use Rattle.std.specs.Option.{option_map_or}
-use Rattle.std.proofs.Common.{arith, get_or, ◌∙◌, ap, sym, subst}
+use Rattle.std.proofs.Common.{arith, get_or, ◌∙◌, ap}
 use Rattle.std.proofs.lemmas.List.Elements.{All-from_recursion}
 use Rattle.lx_base.specs.Numbers.{scaled}
 use Rattle.lx_spec.specs.declared.PatchRow.{PatchRow}

@@ -1,4 +1,4 @@
-use Rattle.std.proofs.Common.{◌≡◌, ℕ, List, arith, length, subst, sym}
+use Rattle.std.proofs.Common.{List, arith, length, subst, sym}
 use Rattle.std.specs.List.{AllByRecursion}
 use Rattle.lx_base.specs.declared.TheConstants.{SLOTS}
 use Rattle.lx_spec.specs.declared.PatchRow.{PatchRow}

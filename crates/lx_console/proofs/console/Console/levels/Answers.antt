@@ -1,4 +1,4 @@
-use Rattle.std.proofs.Common.{ℕ, List, sym, subst, ap, ◌∙◌}
+use Rattle.std.proofs.Common.{ℕ, List, sym, subst}
 use Rattle.lx_spec.specs.Stands.{Kept}
 use Rattle.lx_console.specs.Table.{IsTable}
 use Rattle.lx_console.specs.Standing.{level_now}

@@ -1,4 +1,4 @@
-use Rattle.std.proofs.Common.{ℕ, List, arith, max, subst, sym}
+use Rattle.std.proofs.Common.{arith, max, subst, sym}
 use Rattle.lx_base.specs.declared.TheConstants.{SLOTS}
 use Rattle.lx_base.specs.Numbers.{scaled}
 use Rattle.lx_spec.specs.Output.{dimmer_value}
