@@ -2,17 +2,20 @@
 --
 -- How other crates use this. A function that appends a text ensures
 --     Puts K.holds K.faults K.wants sink.old sink.new result TEXT
--- and makes its calls by `?`, or matches on them. The module that holds such functions begins with
+-- and makes its calls with `?`, as the tail, in a `match` or under an `if`. The module that holds such functions begins with
 --     #![tactic(auto, using(lx_io::proofs::Chain::puts))]
--- and then no call in a row, literal, `if` around a call or tail call needs an answer. A loop with a call per
--- element needs the invariant alone, which is `Puts` of what was put so far:
---     invariant-loop-x g l = Puts {T = Unit {0}} g.K.Sink.holds g.K.Sink.faults g.K.Sink.wants l.initial.sink l.sink
---         (Ok tt) (flat_map text_of (take l.x-index l.xs))
--- where the contract's text is `flat_map text_of xs.now`. Where a goal stays open, for one since the text is said
--- otherwise than the calls put it, or since the row is long, answer it by the lemmas at the end of this file:
+-- and then they need no answer. A line of many pieces, literals and numbers, is one call of `put_row`, which has one goal where
+-- a row of calls has one for each `?`; keep a row of calls to five or so. A loop with a call per element needs its invariant
+-- alone, which is `Puts` of what was put so far:
+--     invariant-loop-x g l = Puts {T = Unit {0}} g.K.Sink.holds g.K.Sink.faults g.K.Sink.wants l.initial.sink l.sink (Ok tt)
+--         (flat_map text_of (take l.x-index l.xs))
+-- where the contract's text is `flat_map text_of xs.now`; where an `if` passes some elements over, it is
+-- `flat_map text_of (filter test xs.now)`, and the invariant has `filter test (take l.x-index l.xs)`.
+-- Where a goal stays open, answer it by the lemmas at the end of this file:
 --     returns-in_err-f g c = Puts-stops _ c.in_err-f.ensures c.from_residual.ensures
---     returns g c = Puts-is (Puts-then c.in_ok-f.ensures c.h.ensures) (simp append_assoc)
-use Rattle.std.proofs.Common.{◌≡◌, ℕ, ◌+◌, ◌-◌, ◌<◌, ◌≤◌, List, [], ◌∷◌, ◌++◌, length, take, drop, get_or, Result, Ok, Err, Some, None, refl, sym, ap, ◌∙◌, subst, append_assoc, append-nil, arith, length-append, length-take, add-one, drop-cons, take-append-drop}
+--     returns-in_err-h g c = Puts-then c.in_ok-f.ensures (Puts-stops _ c.in_err-h.ensures c.from_residual-in_err-h.ensures)
+--     returns g c = Puts-is (Puts-then (Puts-then c.in_ok-f.ensures c.in_ok-h.ensures) c.k.ensures) (simp append_assoc)
+use Rattle.std.proofs.Common.{◌≡◌, ℕ, ◌+◌, ◌-◌, ◌<◌, ◌≤◌, List, [], ◌∷◌, ◌++◌, length, take, drop, get_or, Result, Ok, Err, Some, None, refl, sym, ap, ◌∙◌, append_assoc, append-nil, arith, length-append, length-take, add-one, drop-cons, take-append-drop}
 use Rattle.std.specs.Prelude.{Bool, flat_map, filter}
 use Rattle.std.proofs.lemmas.List.Elements.{filter-append}
 use Rattle.std.specs.Result.{IsErr, IsErrAnd}

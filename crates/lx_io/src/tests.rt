@@ -1,3 +1,4 @@
+use crate::shapes::{each_kept, in_a_row};
 use crate::{
     Failed, MemSink, MemSource, Pace, PlainSink, PlainSource, Sink, SinkFault, Source, StdSink,
     StdSource, put_all,
@@ -75,6 +76,14 @@ fn a_reader_and_a_writer_stand_behind_a_source_and_a_sink(rt: HostRuntime) -> Re
     assert_eq!(rt; sink.flush(), Ok(()));
     assert_eq!(rt; sink.into_inner().as_slice(), b"xyz".as_slice());
     Ok(())
+}
+
+#[test]
+fn texts_are_put_in_order(rt: HostRuntime) {
+    let mut sink = PlainSink::new(rt.alloc());
+    assert_eq!(rt; in_a_row(&mut sink, b"7", b"@50"), Ok(()));
+    assert_eq!(rt; each_kept(&mut sink, b"1020"), Ok(()));
+    assert_eq!(rt; sink.bytes(), b"CHAN 7@50\n1\n2\n".as_slice());
 }
 
 /// A writer that takes nothing and can't be flushed.

@@ -9,8 +9,9 @@ ghost use Rattle.lx_spec.specs.Show.{IsTime, ValidMove, ValidPart};
 ghost use Rattle.lx_spec.specs.Tracked.{cue_of};
 ghost use Rattle.lx_show.specs.Changed.{changed};
 
-use crate::cue::{MoveList, place_part};
+use crate::cue::place_part;
 use crate::facts;
+use crate::moves::MoveList;
 use crate::rising::place_there;
 use crate::show::Show;
 use lx_base::{Cs, CueNo, GroupNo, SubNo};

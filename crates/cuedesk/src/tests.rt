@@ -1,0 +1,132 @@
+ghost use Rattle.std.specs.Prelude.{◌<◌};
+
+use crate::{Status, desk};
+use lx_io::{MemSink, MemSource, PlainSink, PlainSource};
+use std::alloc::{AllocError, Global};
+use std::test::Fail;
+
+/// A show of one cue, which moves channel 1 to half.
+const ONE_CUE: &[u8] = b"IDENT 3:0\nPATCH 1 1<1@FL\nCUE 1\nUP 0\nDOWN 0\nCHAN 1@H80\n";
+
+/// Cue 2 moves it to 0.
+const SECOND_CUE: &[u8] = b"CUE 2\nUP 0\nDOWN 0\nCHAN 1@0\n";
+
+/// The texts one after another.
+fn joined(alloc: Global, texts: &[&[u8]]) -> Result<Vec<u8>, AllocError> {
+    let mut all = Vec::new(alloc);
+    for text in texts {
+        all.extend_from_slice(text)?;
+    }
+    Ok(all)
+}
+
+/// The words of the job that is built.
+fn render(alloc: Global) -> Result<Vec<String>, AllocError> {
+    let mut words = Vec::new(alloc);
+    words.push(String::from_str(alloc, "render")?)?;
+    Ok(words)
+}
+
+/// What an input gives, in pieces of so many bytes.
+fn rendered(alloc: Global, input: Vec<u8>, piece: usize) -> Result<(Status, PlainSink), AllocError>
+    requires { 0 < piece }
+{
+    let mut source = PlainSource::new(input, piece);
+    let mut sink = PlainSink::new(alloc);
+    let status = desk(alloc, &render(alloc)?, &mut source, &mut sink);
+    Ok((status, sink))
+}
+
+#[test]
+fn a_cue_goes_on_stage_however_the_input_is_cut(rt: HostRuntime) -> Result<(), Fail> {
+    let alloc = rt.alloc();
+    for piece in [1, 1000] {
+        let input = joined(
+            alloc,
+            &[ONE_CUE, b"ENDDATA\ngo\nframe\nquit\ngo\n".as_slice()],
+        )?;
+        let (status, sink) = rendered(alloc, input, piece)?;
+        assert_eq!(rt; status, Status::Ok);
+        assert_eq!(rt; sink.bytes(), b"ok\nframe 0 1 1=128\n".as_slice());
+    }
+    Ok(())
+}
+
+#[test]
+fn the_last_cue_has_none_after_it(rt: HostRuntime) -> Result<(), Fail> {
+    let alloc = rt.alloc();
+    let script = b"ENDDATA\ngo\ngo\nframe 1\ngo\n".as_slice();
+    let (status, sink) = rendered(alloc, joined(alloc, &[ONE_CUE, SECOND_CUE, script])?, 7)?;
+    assert_eq!(rt; status, Status::Ok);
+    assert_eq!(rt;
+        sink.bytes(),
+        b"ok\nok\nframe 0 1\nrefused NoCueAfter 2\n".as_slice()
+    );
+    Ok(())
+}
+
+#[test]
+fn ticks_move_the_moment(rt: HostRuntime) -> Result<(), Fail> {
+    let alloc = rt.alloc();
+    let input = joined(
+        alloc,
+        &[b"IDENT 3:0\nENDDATA\ngo\ntick 3\nframe\nfly\n".as_slice()],
+    )?;
+    let (status, sink) = rendered(alloc, input, 100)?;
+    assert_eq!(rt; status, Status::Ok);
+    assert_eq!(rt;
+        sink.bytes(),
+        b"refused NoCueAfter 0\nok\nframe 6 1\nbad\n".as_slice()
+    );
+    Ok(())
+}
+
+#[test]
+fn a_show_with_times_is_refused_at_its_line(rt: HostRuntime) -> Result<(), Fail> {
+    let alloc = rt.alloc();
+    let input = joined(
+        alloc,
+        &[b"IDENT 3:0\nPATCH 1 1<1@FL\nCUE 1\nUP 2\nENDDATA\ngo\n".as_slice()],
+    )?;
+    let (status, sink) = rendered(alloc, input, 100)?;
+    assert_eq!(rt; status, Status::ShowRefused);
+    assert_eq!(rt; sink.bytes(), b"show NotBuilt 4\n".as_slice());
+    Ok(())
+}
+
+#[test]
+fn a_read_that_fails_is_told(rt: HostRuntime) -> Result<(), Fail> {
+    let alloc = rt.alloc();
+    let mut source = MemSource::new(joined(alloc, &[ONE_CUE])?, 7, vec![in alloc; 0u64]?);
+    let mut sink = PlainSink::new(alloc);
+    let status = desk(alloc, &render(alloc)?, &mut source, &mut sink);
+    assert_eq!(rt; status, Status::ReadFault);
+    assert_eq!(rt; source.faults(), 1);
+    assert_eq!(rt; sink.bytes(), b"".as_slice());
+    Ok(())
+}
+
+#[test]
+fn a_write_that_fails_is_told(rt: HostRuntime) -> Result<(), Fail> {
+    let alloc = rt.alloc();
+    let input = joined(alloc, &[ONE_CUE, b"ENDDATA\ngo\nframe\nquit\n".as_slice()])?;
+    let mut source = PlainSource::new(input, 100);
+    let mut sink = MemSink::new(alloc, vec![in alloc; 0u64]?);
+    let status = desk(alloc, &render(alloc)?, &mut source, &mut sink);
+    assert_eq!(rt; status, Status::WriteFault);
+    assert_eq!(rt; sink.faults(), 1);
+    assert_eq!(rt; sink.bytes(), b"".as_slice());
+    Ok(())
+}
+
+#[test]
+fn other_words_are_a_usage_fault(rt: HostRuntime) -> Result<(), Fail> {
+    let alloc = rt.alloc();
+    let words = vec![in alloc; String::from_str(alloc, "RENDER")?]?;
+    let mut source = PlainSource::new(joined(alloc, &[ONE_CUE])?, 100);
+    let mut sink = PlainSink::new(alloc);
+    let status = desk(alloc, &words, &mut source, &mut sink);
+    assert_eq!(rt; status, Status::Usage);
+    assert_eq!(rt; sink.bytes(), b"".as_slice());
+    Ok(())
+}

@@ -1,0 +1,14 @@
+pub mod Later
+pub mod Placing
+pub mod Changing
+pub mod Cues
+pub mod Shows
+pub mod Readings
+pub mod Pairs
+pub mod Entering
+pub mod PlainLines
+pub mod PlainWords
+pub mod Turns
+pub mod Passing
+pub mod Ending
+pub mod Lengths

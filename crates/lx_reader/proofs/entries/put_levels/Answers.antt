@@ -1,0 +1,13 @@
+use Rattle.std.proofs.Common.{sym}
+use Rattle.lx_lex.specs.Left.{left}
+use Rattle.lx_reader.proofs.Entering.{levels_begin, levels_more, ok_given}
+use Rattle.lx_reader.proofs.entries.put_levels.Goals as goal
+
+pub loop-member-init : goal.loop-member-init
+loop-member-init c = levels_begin c.args.i c.args.n c.args.part c.args.show.now (left c.args.tokens) c.channels.ensures.valid c.requires
+
+pub loop-member-preserved : goal.loop-member-preserved
+loop-member-preserved c =
+    let next = rw c.in-Ok-Some.field-0-is at c.in-Ok-Some.ensures.list in
+    levels_more c.args.i c.args.n c.args.part c.args.show.now c.loop-member.show c.put_member.new.show (left c.args.tokens) (left c.loop-member.tokens) (left c.next_member.new.tokens) c.in-Ok-Some.member
+    c.loop-member.invariant next (ok_given c.put_member.result _ (sym c.if-is_err.ensures.value) c.put_member.ensures.show) (ok_given c.put_member.result _ (sym c.if-is_err.ensures.value) c.put_member.ensures.part)

@@ -1,0 +1,6 @@
+pub mod TakenUp
+pub mod Built
+pub mod Lists
+pub mod Stops
+pub mod PlainState
+pub mod Loading

@@ -1,0 +1,18 @@
+-- Why a line ends the reading.
+use Rattle.std.specs.Prelude.{◌≡◌, ℕ, IsTrue, Result, Err}
+use Rattle.std.specs.Option.{IsSomeAnd}
+use Rattle.lx_spec.specs.declared.TextFault.{TextFault}
+use Rattle.lx_spec.specs.Listing.{has_entry}
+use Rattle.lx_spec.specs.Show.{Show}
+use Rattle.lx_spec.specs.Tracked.{cue_of}
+use Rattle.lx_reader.specs.declared.stop.Stop.{Stop}
+use Rattle.lx_reader.specs.declared.stop.Stop.TheVariants.{Fault, Memory}
+
+-- the fault is the definition's; want of memory is free
+abbrev pub IsStopOf : {A : Type 0} → Stop → Result A TextFault → Type 0
+IsStopOf (Fault fault) result = result ≡ Err fault
+IsStopOf Memory result = Unit {0}
+
+-- the show has the cue, and the cue the part
+abbrev pub HasPartIn : Show → ℕ → ℕ → Type 0
+HasPartIn show n p = IsSomeAnd (cue_of show n) (λ cue. IsTrue (has_entry (λ part. part.number) p cue.parts))

@@ -1,0 +1,17 @@
+//! Reads a show text: one pass over its lines, with a running state.
+#![tactic(auto)]
+
+mod entries;
+mod fault;
+mod lists;
+mod loaded;
+mod plain;
+mod read;
+mod stop;
+#[cfg(test)]
+mod tests;
+mod words;
+
+pub use fault::ShowFault;
+pub use loaded::Loaded;
+pub use read::read_show;

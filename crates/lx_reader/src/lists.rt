@@ -1,0 +1,105 @@
+//! The lists of a line, pair by pair and triple by triple.
+
+ghost use Rattle.std.specs.Prelude.{◌≡◌, ◌∷◌, [], Ok, Err, ◌<◌, length, IfOk, IfSome, MatchOption, MatchResult};
+ghost use Rattle.lx_base.specs.declared.TheConstants.{CHANNELS, DIMMERS};
+ghost use Rattle.lx_spec.specs.Numerals.{read_whole};
+ghost use Rattle.lx_lex.specs.Left.{left};
+ghost use Rattle.lx_reader.specs.Lists.{fault_of, fault_in, all_pairs, all_triples, onto};
+
+use lx_base::{CHANNELS, Chan, DIMMERS, Dimmer};
+use lx_lex::{Bad, Tokens, read_level, read_whole};
+use lx_spec::{Member, PatchRow, TextFault};
+
+/// A channel number.
+fn read_channel(token: &[u8]) -> Result<Chan, Bad>
+    ensures { result ≡ read_whole 1 CHANNELS token.now }
+{
+    let number = read_whole(token, 1, CHANNELS)?;
+    Chan::new(number).ok_or(Bad::Range)
+}
+
+/// A dimmer number.
+fn read_dimmer(token: &[u8]) -> Result<Dimmer, Bad>
+    ensures { result ≡ read_whole 1 DIMMERS token.now }
+{
+    let number = read_whole(token, 1, DIMMERS)?;
+    Dimmer::new(number).ok_or(Bad::Range)
+}
+
+/// The fault of a token at a line.
+pub(crate) fn fault_of(i: u32, bad: Bad) -> TextFault
+    ensures { result ≡ fault_of i bad }
+{
+    match bad {
+        Bad::Shape => TextFault::BadNumber(i),
+        Bad::Range => TextFault::OutOfRange(i),
+    }
+}
+
+/// The fault of a token in a list at a line: that of the list, where it isn't whole.
+fn fault_in(i: u32, bad: Bad, whole: bool) -> TextFault
+    ensures { result ≡ fault_in i bad whole }
+{
+    if whole {
+        fault_of(i, bad)
+    } else {
+        TextFault::ShortList(i)
+    }
+}
+
+/// The next channel and level of a list of pairs; none at its end. A fault is that of the whole list.
+pub(crate) fn next_member(i: u32, tokens: &mut Tokens) -> Result<Option<Member>, TextFault>
+    ensures fewer { IfOk result (λ o. IfSome o (λ m. length (left tokens.new) < length (left tokens.old))) }
+    ensures list { MatchResult result
+        (λ o. MatchOption o (left tokens.old ≡ []) (λ m. all_pairs i (left tokens.old) ≡ onto (m ∷ []) (all_pairs i (left tokens.new))))
+        (λ fault. all_pairs i (left tokens.old) ≡ Err fault) }
+{
+    let Some(first) = tokens.next() else {
+        return Ok(None);
+    };
+    let chan = match read_channel(first) {
+        Ok(chan) => chan,
+        Err(bad) => return Err(fault_in(i, bad, tokens.count_left() % 2 == 1)),
+    };
+    let Some(second) = tokens.next() else {
+        return Err(TextFault::ShortList(i));
+    };
+    match read_level(second) {
+        Ok(level) => Ok(Some(Member { chan, level })),
+        Err(bad) => Err(fault_in(i, bad, tokens.count_left() % 2 == 0)),
+    }
+}
+
+/// The next channel, dimmer and level of a list of triples; none at its end. A fault is that of the whole list.
+pub(crate) fn next_row(i: u32, tokens: &mut Tokens) -> Result<Option<PatchRow>, TextFault>
+    ensures fewer { IfOk result (λ o. IfSome o (λ row. length (left tokens.new) < length (left tokens.old))) }
+    ensures list { MatchResult result
+        (λ o. MatchOption o (left tokens.old ≡ []) (λ row. all_triples i (left tokens.old) ≡ onto (row ∷ []) (all_triples i (left tokens.new))))
+        (λ fault. all_triples i (left tokens.old) ≡ Err fault) }
+{
+    let Some(first) = tokens.next() else {
+        return Ok(None);
+    };
+    let chan = match read_channel(first) {
+        Ok(chan) => chan,
+        Err(bad) => return Err(fault_in(i, bad, tokens.count_left() % 3 == 2)),
+    };
+    let Some(second) = tokens.next() else {
+        return Err(TextFault::ShortList(i));
+    };
+    let dimmer = match read_dimmer(second) {
+        Ok(dimmer) => dimmer,
+        Err(bad) => return Err(fault_in(i, bad, tokens.count_left() % 3 == 1)),
+    };
+    let Some(third) = tokens.next() else {
+        return Err(TextFault::ShortList(i));
+    };
+    match read_level(third) {
+        Ok(level) => Ok(Some(PatchRow {
+            dimmer,
+            chan,
+            level,
+        })),
+        Err(bad) => Err(fault_in(i, bad, tokens.count_left() % 3 == 0)),
+    }
+}

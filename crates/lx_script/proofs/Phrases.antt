@@ -1,0 +1,13 @@
+-- A phrase that may be absent, where its word is there.
+use Rattle.std.proofs.Common.{◌≡◌, ℕ, Option, Some, List, [], ◌∷◌, ap, inl, inr}
+use Rattle.std.proofs.lemmas.Bool.{cases_Bool}
+use Rattle.lx_spec.specs.Text.{is_word}
+use Rattle.lx_spec.specs.Phrase.{Tokens, word, optional}
+
+pub optional_there : {A : Type 0} (w : List ℕ) (rest more : Tokens) (follows : Tokens → Option A) (other : Option A)
+    → word w rest ≡ Some more → optional w rest follows other ≡ follows more
+optional_there w [] more follows other there = cc
+optional_there w (token ∷ rest) more follows other there = elim (cases_Bool (is_word w token)) [
+  | inl is ↦ let same : rest ≡ more = let h = rw is at there in cc in rw is (ap follows same)
+  | inr other_word ↦ let none = rw other_word at there in cc
+]

@@ -1,0 +1,104 @@
+-- Words with spaces between them, and the cells of levels, as they are put one after another.
+use Rattle.std.proofs.Common.{◌≡◌, ◌≢◌, ℕ, ◌+◌, ◌<◌, List, [], ◌∷◌, ◌++◌, length, take, drop, get_or, refl, sym, ap, ◌∙◌, append-nil, append_assoc, take-append-drop, arith, add-one, drop-cons, length-take}
+use Rattle.std.proofs.lemmas.List.{take_more}
+use Rattle.std.specs.Prelude.{Bool, true, false, suc, ◌==◌, flat_map, codes, decimal, if◌then◌else◌}
+use Rattle.std.specs.List.{enumerate_from}
+use Rattle.std.proofs.lemmas.Grind.{flat_map-append}
+use Rattle.std.proofs.lemmas.Bool.{ne_eqb}
+use Rattle.lx_spec.specs.declared.Refusal.{Refusal}
+use Rattle.lx_spec.specs.declared.Refusal.TheVariants.{AbsentCue, AbsentPart, AbsentChannel, AbsentMove, AbsentGroup, AbsentSub, AbsentDimmer, CueLimit, BasePart, NoCueAfter, NoCueBefore, PlaybackFull, TickLimit, Memory}
+use Rattle.lx_spec.specs.ShowText.{spaced}
+use Rattle.lx_spec.specs.Replies.{refusal_words, cells, frame_text}
+
+-- words, each behind a space
+abbrev pub behind_spaces : List (List ℕ) → List ℕ
+behind_spaces words = flat_map (λ word. 32 ∷ word) words
+
+pub spaced_more : (word : List ℕ) (words : List (List ℕ)) → spaced (word ∷ words) ≡ word ++ behind_spaces words
+spaced_more word [] = sym (append-nil word)
+spaced_more word (next ∷ words) = ap (λ text. word ++ 32 ∷ text) (spaced_more next words)
+
+-- a refusal has a name
+pub spaced_refusal : (r : Refusal) → spaced (codes "refused" ∷ refusal_words r) ≡ codes "refused " ++ spaced (refusal_words r)
+spaced_refusal (AbsentCue n) = refl
+spaced_refusal (AbsentPart n p) = refl
+spaced_refusal (AbsentChannel c) = refl
+spaced_refusal (AbsentMove n c) = refl
+spaced_refusal (AbsentGroup g) = refl
+spaced_refusal (AbsentSub s) = refl
+spaced_refusal (AbsentDimmer e) = refl
+spaced_refusal CueLimit = refl
+spaced_refusal BasePart = refl
+spaced_refusal (NoCueAfter n) = refl
+spaced_refusal (NoCueBefore n) = refl
+spaced_refusal PlaybackFull = refl
+spaced_refusal (TickLimit m) = refl
+spaced_refusal Memory = refl
+
+-- the text of one cell
+abbrev pub cell : ℕ → ℕ → List ℕ
+cell number level = if level == 0 then [] else 32 ∷ (decimal number ++ 61 ∷ decimal level)
+
+pub cell-some : (number level : ℕ) → level ≢ 0 → cell number level ≡ 32 ∷ (decimal number ++ 61 ∷ decimal level)
+cell-some number level some = rw (ne_eqb level 0 some) refl
+
+pub cell-none : (number level : ℕ) → level ≡ 0 → cell number level ≡ []
+cell-none number level none = rw none refl
+
+abbrev pub cells_from : ℕ → List ℕ → List ℕ
+cells_from number levels = behind_spaces (flat_map (λ e. if e.1 == 0 then [] else (decimal e.0 ++ 61 ∷ decimal e.1) ∷ []) (enumerate_from number levels))
+
+one_word : (none : Bool) (word : List ℕ) → behind_spaces (if none then [] else word ∷ []) ≡ (if none then [] else 32 ∷ word)
+one_word true word = refl
+one_word false word = append-nil (32 ∷ word)
+
+cells_from-first : (number level : ℕ) (levels : List ℕ) → cells_from number (level ∷ levels) ≡ cell number level ++ cells_from (number + 1) levels
+cells_from-first number level levels =
+    let word : List ℕ = decimal number ++ 61 ∷ decimal level in
+    flat_map-append (λ w. 32 ∷ w) (if level == 0 then [] else word ∷ []) (flat_map (λ e. if e.1 == 0 then [] else (decimal e.0 ++ 61 ∷ decimal e.1) ∷ []) (enumerate_from (number + 1) levels))
+    ∙ ap (λ text. text ++ cells_from (number + 1) levels) (one_word (level == 0) word)
+
+cells_from-append : (number : ℕ) (xs ys : List ℕ) → cells_from number (xs ++ ys) ≡ cells_from number xs ++ cells_from (number + length xs) ys
+cells_from-append number [] ys = let same : number ≡ number + 0 = omega arith in ap (λ n. cells_from n ys) same
+cells_from-append number (x ∷ xs) ys =
+    let same : number + 1 + length xs ≡ number + suc (length xs) = omega arith in
+    cells_from-first number x (xs ++ ys)
+    ∙ ap (λ text. cell number x ++ text) (cells_from-append (number + 1) xs ys)
+    ∙ sym (append_assoc (cell number x) (cells_from (number + 1) xs) (cells_from (number + 1 + length xs) ys))
+    ∙ ap (λ text. text ++ cells_from (number + 1 + length xs) ys) (sym (cells_from-first number x xs))
+    ∙ ap (λ n. cells_from number (x ∷ xs) ++ cells_from n ys) same
+
+-- the cells before a place, that at the place, and the rest
+pub cells_at : (levels : List ℕ) (i : ℕ) → i < length levels
+    → behind_spaces (cells levels) ≡ (behind_spaces (cells (take i levels)) ++ cell (i + 1) (get_or levels i 0)) ++ cells_from (i + 2) (drop (i + 1) levels)
+cells_at levels i lt =
+    let here : drop i levels ≡ get_or levels i 0 ∷ drop (i + 1) levels = rw add-one (drop-cons levels i 0 lt) in
+    let number : 1 + length (take i levels) ≡ i + 1 = omega (arith, length-take i levels) in
+    let next : i + 1 + 1 ≡ i + 2 = omega arith in
+    ap (cells_from 1) (sym (take-append-drop i levels))
+    ∙ cells_from-append 1 (take i levels) (drop i levels)
+    ∙ ap (λ n. cells_from 1 (take i levels) ++ cells_from n (drop i levels)) number
+    ∙ ap (λ xs. cells_from 1 (take i levels) ++ cells_from (i + 1) xs) here
+    ∙ ap (λ text. cells_from 1 (take i levels) ++ text) (cells_from-first (i + 1) (get_or levels i 0) (drop (i + 1) levels))
+    ∙ sym (append_assoc (cells_from 1 (take i levels)) (cell (i + 1) (get_or levels i 0)) (cells_from (i + 1 + 1) (drop (i + 1) levels)))
+    ∙ ap (λ n. (cells_from 1 (take i levels) ++ cell (i + 1) (get_or levels i 0)) ++ cells_from n (drop (i + 1) levels)) next
+
+pub cells_more : (levels : List ℕ) (i : ℕ) → i < length levels
+    → behind_spaces (cells (take (i + 1) levels)) ≡ behind_spaces (cells (take i levels)) ++ cell (i + 1) (get_or levels i 0)
+cells_more levels i lt =
+    let number : 1 + length (take i levels) ≡ i + 1 = omega (arith, length-take i levels) in
+    ap (cells_from 1) (take_more levels i 0 lt)
+    ∙ cells_from-append 1 (take i levels) (get_or levels i 0 ∷ [])
+    ∙ ap (λ n. cells_from 1 (take i levels) ++ cells_from n (get_or levels i 0 ∷ [])) number
+    ∙ ap (λ text. cells_from 1 (take i levels) ++ text) (cells_from-first (i + 1) (get_or levels i 0) [] ∙ append-nil (cell (i + 1) (get_or levels i 0)))
+
+-- the words before the slots
+abbrev pub head : List (List ℕ) → ℕ → ℕ → List ℕ
+head count m u = codes "frame" ++ (behind_spaces count ++ (32 ∷ decimal m ++ 32 ∷ decimal u))
+
+-- these words, the slots, and the end of the line
+pub frame_is : (count : List (List ℕ)) (m u : ℕ) (slots : List ℕ) → frame_text count m u slots ≡ head count m u ++ (behind_spaces (cells slots) ++ 10 ∷ [])
+frame_is count m u slots =
+    ap (λ text. text ++ 10 ∷ []) (spaced_more (codes "frame") (count ++ decimal m ∷ decimal u ∷ cells slots))
+    ∙ ap (λ text. (codes "frame" ++ text) ++ 10 ∷ []) (flat_map-append (λ w. 32 ∷ w) count (decimal m ∷ decimal u ∷ cells slots))
+    ∙ (simp append_assoc)

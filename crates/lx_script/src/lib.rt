@@ -1,0 +1,21 @@
+//! Lines of a script as they are read, and the lines that answer them.
+#![tactic(auto)]
+
+mod cells;
+mod command;
+mod edits;
+mod first_word;
+mod frame;
+mod groups_and_patch;
+mod keys;
+mod phrase;
+mod reply;
+mod sentence;
+#[cfg(test)]
+mod tests;
+
+pub use cells::put_cells;
+pub use command::read_command;
+pub use frame::put_frame;
+pub use lx_spec::Line;
+pub use reply::{Reply, put_reply};

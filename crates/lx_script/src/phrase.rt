@@ -1,0 +1,166 @@
+//! Phrases of a script line. Each takes its tokens from the front of those that are left, and is `None` where they
+//! aren't there.
+
+ghost use Rattle.std.specs.Prelude.{◌≡◌, ◌≤◌, false, option_map, IfSome, if◌then◌else◌};
+ghost use Rattle.std.specs.Option.{option_map_or};
+ghost use Rattle.std.specs.Str.{str_to_ascii_uppercase};
+ghost use Rattle.lx_base.specs.Numbers.{Span};
+ghost use Rattle.lx_spec.specs.Numerals.{read_whole, read_level, read_time};
+ghost use Rattle.lx_spec.specs.Phrase.{word, value, value_or, ended, channel, channels, at_level, in_part, only_or_end};
+ghost use Rattle.lx_spec.specs.Script.{cue_number, time};
+ghost use Rattle.lx_lex.specs.Left.{left};
+
+use lx_base::{
+    CHANNELS, Chan, ChanRange, Cs, CueNo, DIMMERS, Dimmer, GROUPS, GroupNo, Level, PARTS, PartNo,
+    SUBS, SubNo,
+};
+use lx_lex::{Tokens, read_cue_no, read_level, read_time, read_whole, word_is};
+
+/// The word, in either case.
+pub(crate) fn word(rest: &mut Tokens, text: &[u8]) -> Option<()>
+    ensures { option_map (λ _. left rest.new) result ≡ word (str_to_ascii_uppercase text.now) (left rest.old) }
+{
+    if word_is(rest.next()?, text) {
+        Some(())
+    } else {
+        None
+    }
+}
+
+/// Whether the word is next; then it is taken.
+pub(crate) fn takes(rest: &mut Tokens, text: &[u8]) -> bool
+    ensures taken { word (str_to_ascii_uppercase text.now) (left rest.old) ≡ (if result then Some (left rest.new) else None) }
+    ensures left { result ≡ false → left rest.new ≡ left rest.old }
+{
+    let mut ahead = *rest;
+    match ahead.next() {
+        Some(token) if word_is(token, text) => {
+            *rest = ahead;
+            true
+        }
+        _ => false,
+    }
+}
+
+/// A whole number from 1 to `most`.
+pub(crate) fn whole(rest: &mut Tokens, most: u32) -> Option<u32>
+    ensures value { option_map (λ n. (n, left rest.new)) result ≡ value (read_whole 1 most) (left rest.old) }
+    ensures range { IfSome result (λ n. (1 ≤ n) × (n ≤ most)) }
+{
+    read_whole(rest.next()?, 1, most).ok()
+}
+
+/// A cue number, which names a cue.
+pub(crate) fn cue_number(rest: &mut Tokens) -> Option<CueNo>
+    ensures { option_map (λ n. (n, left rest.new)) result ≡ cue_number (left rest.old) }
+{
+    read_cue_no(rest.next()?).ok()
+}
+
+/// A part number.
+pub(crate) fn part(rest: &mut Tokens) -> Option<PartNo>
+    ensures { option_map (λ p. (p, left rest.new)) result ≡ value (read_whole 1 PARTS) (left rest.old) }
+{
+    PartNo::new(whole(rest, PARTS)?)
+}
+
+/// A group number.
+pub(crate) fn group(rest: &mut Tokens) -> Option<GroupNo>
+    ensures { option_map (λ g. (g, left rest.new)) result ≡ value (read_whole 1 GROUPS) (left rest.old) }
+{
+    GroupNo::new(whole(rest, GROUPS)?)
+}
+
+/// A submaster number.
+pub(crate) fn sub(rest: &mut Tokens) -> Option<SubNo>
+    ensures { option_map (λ s. (s, left rest.new)) result ≡ value (read_whole 1 SUBS) (left rest.old) }
+{
+    SubNo::new(whole(rest, SUBS)?)
+}
+
+/// A dimmer.
+pub(crate) fn dimmer(rest: &mut Tokens) -> Option<Dimmer>
+    ensures { option_map (λ e. (e, left rest.new)) result ≡ value (read_whole 1 DIMMERS) (left rest.old) }
+{
+    Dimmer::new(whole(rest, DIMMERS)?)
+}
+
+/// A time in hundredths of a second.
+pub(crate) fn time(rest: &mut Tokens) -> Option<Cs>
+    ensures { option_map (λ t. (t, left rest.new)) result ≡ time (left rest.old) }
+{
+    read_time(rest.next()?).ok()
+}
+
+/// `[d]`, and nothing else: a delay in hundredths of a second, none where it is absent.
+pub(crate) fn delay_or_end(mut rest: Tokens) -> Option<Cs>
+    ensures { result ≡ value_or read_time 0 (left rest.entry) }
+{
+    match rest.next() {
+        None => Some(0),
+        Some(token) => ended(rest, read_time(token).ok()?),
+    }
+}
+
+/// A channel.
+pub(crate) fn channel(rest: &mut Tokens) -> Option<Chan>
+    ensures { option_map (λ c. (c, left rest.new)) result ≡ channel (left rest.old) }
+{
+    Chan::new(whole(rest, CHANNELS)?)
+}
+
+/// `a` or `a thru b`: a channel alone, or those from a first to a last.
+pub(crate) fn channels(rest: &mut Tokens) -> Option<ChanRange>
+    ensures { option_map (λ range. (range, left rest.new)) result ≡ channels (left rest.old) }
+{
+    let first = channel(rest)?;
+    let last = if takes(rest, b"THRU") {
+        channel(rest)?
+    } else {
+        first
+    };
+    ChanRange::new(first, last)
+}
+
+/// `at L`: a level.
+pub(crate) fn at_level(rest: &mut Tokens) -> Option<Level>
+    ensures { option_map (λ l. (l, left rest.new)) result ≡ at_level (left rest.old) }
+{
+    word(rest, b"AT")?;
+    read_level(rest.next()?).ok()
+}
+
+/// `[part p]`: a part, where one is named.
+pub(crate) fn in_part(rest: &mut Tokens) -> Option<Option<PartNo>>
+    ensures { option_map (λ p. (p, left rest.new)) result ≡ in_part (left rest.old) }
+{
+    if takes(rest, b"PART") {
+        Some(Some(part(rest)?))
+    } else {
+        Some(None)
+    }
+}
+
+/// `[only]`, and nothing else.
+pub(crate) fn only_or_end(mut rest: Tokens) -> Option<bool>
+    ensures { result ≡ only_or_end (left rest.entry) (λ only. only) }
+{
+    let Some(token) = rest.next() else {
+        return Some(false);
+    };
+    if word_is(token, b"ONLY") {
+        ended(rest, true)
+    } else {
+        None
+    }
+}
+
+/// Nothing else: the answer.
+pub(crate) fn ended<A: Drop>(mut rest: Tokens, answer: A) -> Option<A>
+    ensures { result ≡ ended (left rest.entry) answer }
+{
+    match rest.next() {
+        None => Some(answer),
+        Some(_) => None,
+    }
+}

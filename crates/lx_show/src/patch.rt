@@ -1,0 +1,20 @@
+//! Rows of the patch, which rise by dimmer.
+
+use crate::list::Copied;
+use crate::rising::Keyed;
+use lx_spec::PatchRow;
+use std::alloc::AllocError;
+
+impl Keyed for PatchRow {
+    ghost key = { λ row. row.dimmer };
+
+    fn key(&self) -> u32 {
+        self.dimmer.get()
+    }
+}
+
+impl Copied for PatchRow {
+    fn copied(&self) -> Result<PatchRow, AllocError> {
+        Ok(*self)
+    }
+}
