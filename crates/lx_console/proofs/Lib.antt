@@ -1,0 +1,5 @@
+pub mod Entries
+pub mod Outputs
+pub mod Filling
+pub mod AllRuns
+pub mod Obeying

@@ -1,0 +1,99 @@
+-- A console that stands for a desk obeys as the desk steps.
+use Rattle.std.specs.Prelude.{◌≡◌, ℕ, ◌-◌, List, [], ◌∷◌, ◌++◌, Bool, true, false, cond, Result, Ok, Err, slice_set, IsOkAnd, IfOk, OnOk, OnErr, IfErr, IsTrue, IsFalse}
+use Rattle.std.specs.Result.{result_unwrap_or}
+use Rattle.std.proofs.Common.{ap, sym, subst, ◌∙◌}
+use Rattle.std.proofs.lemmas.List.Sums.{fold-append}
+use Rattle.lx_spec.specs.declared.PlayKey.{PlayKey}
+use Rattle.lx_spec.specs.declared.Key.TheVariants.{Play, Fader, Master}
+use Rattle.lx_spec.specs.declared.Command.{Command}
+use Rattle.lx_spec.specs.declared.Command.TheVariants as commands
+use Rattle.lx_spec.specs.declared.Refusal.{Refusal}
+use Rattle.lx_spec.specs.declared.Refusal.TheVariants.{AbsentSub}
+use Rattle.lx_spec.specs.Refusing.{◌>>=◌}
+use Rattle.lx_spec.specs.Listing.{has_entry}
+use Rattle.lx_spec.specs.Playback.{Played, press, tick}
+use Rattle.lx_spec.specs.Desk.{Desk, opened, step, after_play, after_command, replay}
+use Rattle.lx_spec.specs.Stands.{Kept, kept}
+use Rattle.lx_spec.specs.Laws.{KeepsRest}
+use Rattle.lx_spec.specs.Show.{Show}
+use Rattle.lx_spec.proofs.RestKept.{kept-step, kept-replay}
+use Rattle.lx_console.specs.Standing.{StandsFor, Obeys}
+
+-- a console that is all of a replayed desk but its list of runs stands for it
+pub stands_replay : (show : Show) (done : List Command) (console : Kept) → console ≡ kept (replay show done) → StandsFor (replay show done) console
+stands_replay show done console same = record { same = same; rest = kept-replay show done }
+
+stands_after : (d : Desk) (r : Result Desk Refusal) (now : Kept) → IsOkAnd r (λ next. StandsFor next now) → StandsFor (result_unwrap_or r d) now
+stands_after d (Ok next) now ok = ok
+stands_after d (Err refusal) now ok = absurd ok
+
+-- the desk after one more command, which may be refused
+after_one : (d : Desk) (command : Command) (answer : Result (Unit {0}) Refusal) (before now : Kept) → StandsFor d before → Obeys d command answer now → OnErr answer (now ≡ before) → StandsFor (after_command d command) now
+after_one d command (Ok x) before now stands obeys same = stands_after d (step d command) now obeys.ok
+after_one d command (Err refusal) before now stands obeys same =
+    subst (λ (r : Result Desk Refusal). StandsFor (result_unwrap_or r d) now) (sym obeys.err)
+    (record { same = same ∙ stands.same; rest = stands.rest })
+
+pub stands_next : (show : Show) (done : List Command) (command : Command) (answer : Result (Unit {0}) Refusal) (before now : Kept) → StandsFor (replay show done) before → Obeys (replay show done) command answer now → OnErr answer (now ≡ before) → StandsFor (replay show (done ++ command ∷ [])) now
+stands_next show done command answer before now stands obeys same =
+    subst (λ (d : Desk). StandsFor d now) (sym (fold-append after_command (opened show) done (command ∷ []))) (after_one (replay show done) command answer before now stands obeys same)
+
+played_ok : (d : Desk) (r : Result Played Refusal) (now : Kept) → IfOk (r >>= (λ played. Ok (after_play d played))) KeepsRest → IsOkAnd r (λ played. now ≡ record (kept d) { playback = played.playback }) → IsOkAnd (r >>= (λ played. Ok (after_play d played))) (λ next. StandsFor next now)
+played_ok d (Ok played) now rest is = record { same = is; rest = rest }
+played_ok d (Err refusal) now rest is = absurd is
+
+-- a key of the playback
+pub obeys_play : {A : Type 0} (d : Desk) (key : PlayKey) (answer : Result A Refusal) (before now : Kept) → StandsFor d before
+    → OnOk answer (IsOkAnd (press before.show before.playback key) (λ played. now ≡ record before { playback = played.playback }))
+    → IfErr answer (λ refusal. press before.show before.playback key ≡ Err refusal)
+    → Obeys d (commands.Key (Play key)) answer now
+obeys_play d key (Ok x) before now stands ok err = record {
+  ok = played_ok d (press d.show d.playback key) now (kept-step d (commands.Key (Play key)) stands.rest) (subst (λ (k : Kept). IsOkAnd (press k.show k.playback key) (λ played. now ≡ record k { playback = played.playback })) stands.same ok);
+  err = tt;
+}
+obeys_play d key (Err refusal) before now stands ok err = record {
+  ok = tt;
+  err = ap (λ r. r >>= (λ played. Ok (after_play d played))) (subst (λ (k : Kept). press k.show k.playback key ≡ Err refusal) stands.same err);
+}
+
+pub obeys_tick : {A : Type 0} (d : Desk) (answer : Result A Refusal) (before now : Kept) → StandsFor d before
+    → OnOk answer (IsOkAnd (tick before.show before.playback) (λ played. now ≡ record before { playback = played.playback }))
+    → IfErr answer (λ refusal. tick before.show before.playback ≡ Err refusal)
+    → Obeys d commands.Tick answer now
+obeys_tick d (Ok x) before now stands ok err = record {
+  ok = played_ok d (tick d.show d.playback) now (kept-step d commands.Tick stands.rest) (subst (λ (k : Kept). IsOkAnd (tick k.show k.playback) (λ played. now ≡ record k { playback = played.playback })) stands.same ok);
+  err = tt;
+}
+obeys_tick d (Err refusal) before now stands ok err = record {
+  ok = tt;
+  err = ap (λ r. r >>= (λ played. Ok (after_play d played))) (subst (λ (k : Kept). tick k.show k.playback ≡ Err refusal) stands.same err);
+}
+
+fader_ok : (d : Desk) (s level : ℕ) (b : Bool) (now : Kept) → IsTrue b → IfOk (cond b (Ok (record d { faders = slice_set d.faders (s - 1) level })) (Err (AbsentSub s))) KeepsRest → now ≡ record (kept d) { faders = slice_set d.faders (s - 1) level } → IsOkAnd (cond b (Ok (record d { faders = slice_set d.faders (s - 1) level })) (Err (AbsentSub s))) (λ next. StandsFor next now)
+fader_ok d s level true now there rest is = record { same = is; rest = rest }
+fader_ok d s level false now there rest is = absurd cc
+
+fader_err : (d : Desk) (s level : ℕ) (b : Bool) (refusal : Refusal) → IsFalse b → refusal ≡ AbsentSub s → cond b (Ok (record d { faders = slice_set d.faders (s - 1) level })) (Err (AbsentSub s)) ≡ Err refusal
+fader_err d s level true refusal absent is = absurd cc
+fader_err d s level false refusal absent is = ap Err (sym is)
+
+pub obeys_fader : {A : Type 0} (d : Desk) (s level : ℕ) (answer : Result A Refusal) (before now : Kept) → StandsFor d before
+    → OnOk answer (IsTrue (has_entry (λ x. x.number) s before.show.subs))
+    → OnOk answer (now ≡ record before { faders = slice_set before.faders (s - 1) level })
+    → IfErr answer (λ refusal. refusal ≡ AbsentSub s)
+    → OnErr answer (IsFalse (has_entry (λ x. x.number) s before.show.subs))
+    → Obeys d (commands.Key (Fader s level)) answer now
+obeys_fader d s level (Ok x) before now stands there state err absent = record {
+  ok = fader_ok d s level (has_entry (λ x. x.number) s d.show.subs) now (subst (λ (k : Kept). IsTrue (has_entry (λ x. x.number) s k.show.subs)) stands.same there) (kept-step d (commands.Key (Fader s level)) stands.rest) (subst (λ (k : Kept). now ≡ record k { faders = slice_set k.faders (s - 1) level }) stands.same state);
+  err = tt;
+}
+obeys_fader d s level (Err refusal) before now stands there state err absent = record {
+  ok = tt;
+  err = fader_err d s level (has_entry (λ x. x.number) s d.show.subs) refusal (subst (λ (k : Kept). IsFalse (has_entry (λ x. x.number) s k.show.subs)) stands.same absent) err;
+}
+
+pub obeys_master : (d : Desk) (level : ℕ) (before now : Kept) → StandsFor d before → now ≡ record before { master = level } → IsOkAnd (step d (commands.Key (Master level))) (λ next. StandsFor next now)
+obeys_master d level before now stands state = record {
+  same = subst (λ (k : Kept). now ≡ record k { master = level }) stands.same state;
+  rest = kept-step d (commands.Key (Master level)) stands.rest;
+}

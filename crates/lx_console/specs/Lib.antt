@@ -1,0 +1,5 @@
+pub mod Table
+pub mod Slots
+pub mod Standing
+pub mod Filled
+pub mod Laws

@@ -1,0 +1,226 @@
+//! The console: a desk's state, with the levels and slots that it gives.
+
+ghost use Rattle.std.specs.Prelude.{◌≡◌, ℕ, ◌-◌, ◌≤◌, OnOk, OnErr, IfOk, IfErr, IsOkAnd, IsTrue, IsFalse, slice_set};
+ghost use Rattle.lx_base.specs.declared.TheConstants.{SLOTS, UNIVERSES};
+ghost use Rattle.lx_spec.specs.Listing.{has_entry};
+ghost use Rattle.lx_spec.specs.Level.{level};
+ghost use Rattle.lx_spec.specs.Playback.{position_of, press, tick};
+ghost use Rattle.lx_spec.specs.Output.{dimmer_value, fader, frame};
+ghost use Rattle.lx_spec.specs.Desk.{Desk, opened};
+ghost use Rattle.lx_console.specs.Table.{IsTable};
+ghost use Rattle.lx_console.specs.Slots.{universe};
+ghost use Rattle.lx_console.specs.Standing.{StandsFor, Obeys, level_now, out_now, is_edit};
+
+use crate::stage::Stage;
+use crate::ticks::tick_of;
+use lx_base::{CueNo, Level, Moment, SLOTS, SUBS, SubNo, UNIVERSES};
+use lx_playback::Playback;
+use lx_show::{Command, Key, PlayKey, Refusal, Show};
+use std::alloc::{AllocError, Global};
+use std::marker::Model;
+
+/// A desk: a show in playback, the faders of its submasters and the master. The level of each channel
+/// and the slot of each dimmer at the present moment are kept, and lent as they are.
+///
+/// A console stands for a desk that also has the list of all runs since its opening: keys and ticks are
+/// accepted, or refused, as that desk does, and the levels and slots are those over all its runs. How
+/// levels follow from runs is our own rule; that the greatest of playback and submasters goes out, under
+/// the master, is console practice.
+#[derive(Drop)]
+pub struct Console {
+    show: Show,
+    playback: Playback,
+    /// One for each submaster number.
+    faders: Vec<Level>,
+    master: Level,
+    stage: Stage,
+}
+
+impl Model for Console {
+    ghost use Rattle.lx_spec.specs.Stands.{Kept};
+    ghost use Rattle.lx_console.specs.Filled.{IsFilled};
+
+    ghost Value = { Kept };
+
+    ghost view = { λ c. record { show = c.show; playback = c.playback; faders = c.faders.items; master = c.master } };
+
+    ghost invariant = { λ c. IsFilled (record { show = c.show; playback = c.playback; faders = c.faders.items; master = c.master }) c.stage };
+}
+
+impl Console {
+    /// A desk over the show, as at the opening: at moment 0 before the first cue, with every fader at 0
+    /// and the master at 255. It takes all the memory that keys and ticks need; where that is wanting
+    /// the show is lost.
+    pub fn open(alloc: Global, show: Show) -> Result<Console, AllocError>
+        ensures { IfOk result (StandsFor (opened show)) }
+    {
+        let playback = Playback::open(alloc)?;
+        let faders = vec![in alloc; 0; SUBS as usize]?;
+        let master = 255;
+        let mut stage = Stage::open(alloc, show.channels())?;
+        stage.fill_levels(&show, &playback);
+        stage.fill_contributions(&show, &faders);
+        stage.fill_outputs(&show, master);
+        Ok(Console {
+            show,
+            playback,
+            faders,
+            master,
+            stage,
+        })
+    }
+}
+
+impl Console {
+    /// The show.
+    pub fn show(&self) -> &Show
+        ensures { result.now ≡ self.now.show }
+    {
+        &self.show
+    }
+
+    /// The present moment, in hundredths of a second since the opening.
+    pub fn moment(&self) -> Moment
+        ensures { result ≡ self.now.playback.moment }
+    {
+        self.playback.moment()
+    }
+
+    /// The cue of the newest live run, or the position at the last rest where none is live; 0 is before
+    /// the first cue.
+    pub fn position(&self) -> CueNo
+        ensures { result ≡ position_of self.now.playback }
+    {
+        self.playback.position()
+    }
+
+    /// The master, 0 to 255.
+    pub fn master(&self) -> Level
+        ensures { result ≡ self.now.master }
+    {
+        self.master
+    }
+
+    /// The fader of the submaster, 0 to 255.
+    pub fn fader(&self, sub: SubNo) -> Level
+        ensures { result ≡ fader self.now.faders sub }
+    {
+        self.faders[sub.get() as usize - 1]
+    }
+
+    /// The level of each channel at the present moment, before submasters and master: that of channel c
+    /// at place c - 1. It is the level over all runs since the opening.
+    pub fn levels(&self) -> &[Level]
+        ensures live { IsTable self.now.show.channels (level_now self.now) result.now }
+        ensures all { (d : Desk) → StandsFor d self.now → IsTable d.show.channels (λ c. level d.show 0 d.all c d.playback.moment) result.now }
+    {
+        self.stage.levels.as_slice()
+    }
+
+    /// The slots of the 8,192 dimmers at the present moment, 512 for each universe: those of the desk's
+    /// frames.
+    pub fn frames(&self) -> &[Level]
+        ensures slots { IsTable SLOTS (dimmer_value self.now.show (out_now self.now)) result.now }
+        ensures frames { (d : Desk) (u : ℕ) → StandsFor d self.now → 1 ≤ u → u ≤ UNIVERSES → universe u result.now ≡ frame d u }
+    {
+        self.stage.slots.as_slice()
+    }
+}
+
+impl Console {
+    /// Plays a key, or sets a fader or the master.
+    ///
+    /// A key of the playback is refused with `NoCueAfter` or `NoCueBefore` of the position, or
+    /// `AbsentCue` of the cue named, where there is no such cue, and then with `PlaybackFull` where 512
+    /// runs are live; Settle never. A fader is refused with `AbsentSub` where the show has no such
+    /// submaster, the master never. `Memory` never comes. A refusal changes nothing.
+    pub fn press(&mut self, key: Key) -> Result<(), Refusal>
+        ensures obeys { (d : Desk) → StandsFor d self.old → Obeys d (Command.Key key) result self.new }
+        ensures unchanged { OnErr result (self.new ≡ self.old) }
+    {
+        match key {
+            Key::Play(key) => self.play(key),
+            Key::Fader { sub, level } => self.set_fader(sub, level),
+            Key::Master { level } => {
+                self.set_master(level);
+                Ok(())
+            }
+        }
+    }
+
+    /// The moment grows by 2 hundredths of a second; a follow that is due starts the next cue, and where
+    /// all is over the playback comes to rest. While nothing is live no level is looked at.
+    ///
+    /// Refused with `TickLimit`, and nothing changes, exactly where the moment is `TICK_END`.
+    pub fn tick(&mut self) -> Result<(), Refusal>
+        ensures obeys { (d : Desk) → StandsFor d self.old → Obeys d Command.Tick result self.new }
+        ensures unchanged { OnErr result (self.new ≡ self.old) }
+    {
+        self.advance()
+    }
+
+    /// A key or a tick, as by `press` and `tick`.
+    pub fn command(&mut self, command: &Command) -> Result<(), Refusal>
+        requires { IsFalse (is_edit command.now) }
+        ensures obeys { (d : Desk) → StandsFor d self.old → Obeys d command.now result self.new }
+        ensures unchanged { OnErr result (self.new ≡ self.old) }
+    {
+        match command {
+            Command::Edit(_) => unreachable!(),
+            Command::Key(key) => self.press(*key),
+            Command::Tick => self.tick(),
+        }
+    }
+}
+
+impl Console {
+    /// A tick of the playback.
+    fn advance(&mut self) -> Result<(), Refusal>
+        ensures ok { OnOk result (IsOkAnd (tick self.old.show self.old.playback) (λ played. self.new ≡ record self.old { playback = played.playback })) }
+        ensures err { IfErr result (λ refusal. tick self.old.show self.old.playback ≡ Err refusal) }
+        ensures unchanged { OnErr result (self.new ≡ self.old) }
+    {
+        if tick_of(&mut self.playback, &self.show)? {
+            self.stage.fill_levels(&self.show, &self.playback);
+            self.stage.fill_outputs(&self.show, self.master);
+        }
+        Ok(())
+    }
+
+    /// A key of the playback.
+    fn play(&mut self, key: PlayKey) -> Result<(), Refusal>
+        ensures ok { OnOk result (IsOkAnd (press self.old.show self.old.playback key) (λ played. self.new ≡ record self.old { playback = played.playback })) }
+        ensures err { IfErr result (λ refusal. press self.old.show self.old.playback key ≡ Err refusal) }
+        ensures unchanged { OnErr result (self.new ≡ self.old) }
+    {
+        self.playback.press(&self.show, key)?;
+        self.stage.fill_levels(&self.show, &self.playback);
+        self.stage.fill_outputs(&self.show, self.master);
+        Ok(())
+    }
+
+    /// A submaster's fader.
+    fn set_fader(&mut self, sub: SubNo, level: Level) -> Result<(), Refusal>
+        ensures ok { OnOk result (IsTrue (has_entry (λ x. x.number) sub self.old.show.subs)) }
+        ensures state { OnOk result (self.new ≡ record self.old { faders = slice_set self.old.faders (sub - 1) level }) }
+        ensures err { IfErr result (λ refusal. refusal ≡ Refusal.AbsentSub sub) }
+        ensures absent { OnErr result (IsFalse (has_entry (λ x. x.number) sub self.old.show.subs)) }
+        ensures unchanged { OnErr result (self.new ≡ self.old) }
+    {
+        if self.show.sub(sub).is_none() {
+            return Err(Refusal::AbsentSub(sub));
+        }
+        self.faders[sub.get() as usize - 1] = level;
+        self.stage.fill_contributions(&self.show, &self.faders);
+        self.stage.fill_outputs(&self.show, self.master);
+        Ok(())
+    }
+
+    /// The master.
+    fn set_master(&mut self, level: Level)
+        ensures { self.new ≡ record self.old { master = level } }
+    {
+        self.master = level;
+        self.stage.fill_outputs(&self.show, self.master);
+    }
+}

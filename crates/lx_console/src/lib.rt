@@ -1,0 +1,19 @@
+//! The desk: a show in playback, with the levels of its channels and the frames of its dimmers kept.
+#![tactic(auto)]
+
+mod channel;
+mod console;
+pub mod laws;
+mod levels;
+mod mixer;
+mod output;
+mod patch;
+mod runs;
+mod stage;
+mod subs;
+mod ticks;
+
+pub use console::Console;
+
+#[cfg(test)]
+mod tests;
