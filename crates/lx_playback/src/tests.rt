@@ -45,14 +45,15 @@ fn cue(alloc: Global, number: CueNo, follow: Option<Cs>, up: Cs) -> Cue
     }
 }
 
-/// Puts a cue into a show of few.
+/// Puts a cue into a show that has room.
 fn put(alloc: Global, show: &mut Show, number: CueNo, follow: Option<Cs>, up: Cs)
     requires number { number ≢ 0 }
     requires follow { IfSome follow IsTime }
     requires up { IsTime up }
 {
-    if show.cues().len() < 9 {
-        show.put_cue(cue(alloc, number, follow, up));
+    let made = cue(alloc, number, follow, up);
+    if show.has_room_for(made.number) {
+        show.put_cue(made);
     }
 }
 
