@@ -1,0 +1,9 @@
+use Rattle.std.proofs.Common.{ap, sym, ◌∙◌}
+use Rattle.lx_io.proofs.Chain.{Puts-is}
+use Rattle.lx_session.specs.Replying.{reply_to}
+use Rattle.lx_session.proofs.turn.Turn.finish.Goals as goal
+
+pub returns-in-Some-clause-text : goal.returns-in-Some-clause-text
+returns-in-Some-clause-text g c = λ d stands.
+    Puts-is (c.reply_to_line.ensures.text d stands)
+    (ap (λ m. reply_to d m c.self.inside.refusal) (sym c.in-Some.is) ∙ ap (λ t. reply_to d t.meaning t.refusal) c.self.view_is)
