@@ -23,6 +23,7 @@ begun s meaning console stands turn none = record {
   wants = false;
   meaning = refl;
   later = omega arith;
+  some = λ e. cc;
   by = λ places w. sym (ap (λ r. resumed places (command_of turn.meaning) turn.left r s) none);
   not_yet = λ e. refl;
   stands = stands;
@@ -124,6 +125,7 @@ accepted s old turn c before_it after_it d t next ok stands =
       wants = false;
       meaning = t.meaning;
       later = let le = t.later in omega (arith, le);
+      some = λ e. cc;
       by = λ places w.
           let so_far = t.by places (subst (WantsLast places s.attempts t.now.attempts) (sym none) (before places s.attempts t.now.attempts false w))
               ∙ ap (λ r. resumed places (command_of old.meaning) turn.left r t.now) next.none in
@@ -150,6 +152,7 @@ refused s old turn c before_it after_it refusal t next err stands =
       wants = false;
       meaning = t.meaning;
       later = let le = t.later in omega (arith, le);
+      some = λ e. cc;
       by = λ places w.
           let so_far = t.by places (subst (WantsLast places s.attempts t.now.attempts) (sym none) (before places s.attempts t.now.attempts false w))
               ∙ ap (λ r. resumed places (command_of old.meaning) turn.left r t.now) next.none in
@@ -175,6 +178,7 @@ wanted s old turn c before_it after_it refusal t next memory edit ok stands =
       wants = true;
       meaning = t.meaning;
       later = let le = t.later in omega (arith, le);
+      some = λ e. let le = t.later in omega (arith, le);
       by = λ places w.
           let so_far = t.by places (subst (WantsLast places s.attempts t.now.attempts) (sym none) (before places s.attempts t.now.attempts true w))
               ∙ ap (λ r. resumed places (command_of old.meaning) turn.left r t.now) next.none in

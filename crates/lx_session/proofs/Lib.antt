@@ -4,3 +4,5 @@ pub mod Trying
 pub mod Framing
 pub mod Replies
 pub mod LineDone
+pub mod Giving
+pub mod Takings

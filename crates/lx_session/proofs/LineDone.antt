@@ -62,6 +62,7 @@ goes_on s meaning turn console t done =
     let r = finished t.now meaning turn.refusal in
     record {
       later = let le = t.later in let same = r.attempts in omega (arith, le, same);
+      some = λ is. let lt = t.some is in let same = r.attempts in omega (arith, lt, same);
       by = λ places w.
           let same : command_of meaning ≡ command_of turn.meaning = ap command_of (sym t.meaning) in
           let tried = t.by places (λ n above within. let is = r.attempts in w n above (omega (arith, is, within)) ∙ ap (λ m. t.wants && n == m) r.attempts) in

@@ -1,5 +1,5 @@
 -- A line that was answered.
-use Rattle.std.specs.Prelude.{◌≡◌, ℕ, ◌≤◌, Bool, true, Option, Result, List, ◌++◌, OnOk}
+use Rattle.std.specs.Prelude.{◌≡◌, ℕ, ◌≤◌, ◌<◌, Bool, true, Option, Result, List, ◌++◌, OnOk}
 use Rattle.lx_io.specs.declared.sink.SinkFault.{SinkFault}
 use Rattle.lx_io.specs.Puts.{Puts}
 use Rattle.lx_spec.specs.declared.Line.{Line}
@@ -13,6 +13,7 @@ use Rattle.lx_session.specs.Replying.{counts_in}
 -- The session goes on so by a line of this meaning, whatever want of memory refuses before it and after it.
 pub record GoesOn (s next : Session) (meaning : Option Line) (wants : Bool) : Type 0 where
   pub later : s.attempts ≤ next.attempts
+  pub some : wants ≡ true → s.attempts < next.attempts
   pub by : (places : List ℕ) → WantsLast places s.attempts next.attempts wants → after_meaning places s meaning ≡ next
   pub at_edit : wants ≡ true → IsAcceptedEdit s.desk meaning
 

@@ -3,6 +3,8 @@ pub mod Turning
 pub mod Attempts
 pub mod Replying
 pub mod Answered
+pub mod Given
+pub mod Taken
 pub mod Scripts
 pub mod Faults
 pub mod Counting

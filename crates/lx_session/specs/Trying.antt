@@ -1,5 +1,5 @@
 -- How far the attempts at a line's command have come.
-use Rattle.std.specs.Prelude.{◌≡◌, ◌≤◌, ℕ, Bool, true, false, Option, Some, None, List, IsOk, is_some}
+use Rattle.std.specs.Prelude.{◌≡◌, ◌≤◌, ◌<◌, ℕ, Bool, true, false, Option, Some, None, List, IsOk, is_some}
 use Rattle.std.specs.Option.{option_map_or}
 use Rattle.lx_spec.specs.declared.Command.{Command}
 use Rattle.lx_spec.specs.declared.Refusal.{Refusal}
@@ -27,6 +27,7 @@ pub record Trying (s : Session) (old turn : Turning) (console : Kept) : Type 0 w
   pub wants : Bool
   pub meaning : turn.meaning ≡ old.meaning
   pub later : s.attempts ≤ now.attempts
+  pub some : wants ≡ true → s.attempts < now.attempts
   pub by : (places : List ℕ) → WantsLast places s.attempts now.attempts wants → attempts_for places (command_of old.meaning) old.left s ≡ resumed places (command_of old.meaning) turn.left turn.refusal now
   pub not_yet : turn.refusal ≡ None → wants ≡ false
   pub stands : StandsFor now.desk console

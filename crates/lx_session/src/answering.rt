@@ -1,6 +1,7 @@
 //! One line, from its bytes to its reply.
 
 ghost use Rattle.std.specs.Prelude.{◌≡◌, ◌<◌, ◌≤◌, ◌^◌, ◌+◌, ◌-◌, IfOk, None, not, option_copied};
+ghost use Rattle.lx_io.specs.Puts.{HasSinkCause};
 ghost use Rattle.lx_spec.specs.Replies.{Session, is_quit};
 ghost use Rattle.lx_console.specs.Standing.{StandsFor};
 ghost use Rattle.lx_session.specs.Turning.{given, next_of};
@@ -27,6 +28,7 @@ pub fn answer<K: Sink>(
     requires ok { tally.old.ok < 2 ^ 64 - 1 }
     requires refused { tally.old.refused < 2 ^ 64 - 1 }
     requires bad { tally.old.bad < 2 ^ 64 - 1 }
+    ensures cause { HasSinkCause K.faults K.wants sink.old sink.new result }
     ensures answered { (s : Session) → StandsFor s.desk console.old → s.counts ≡ counts_in tally.old → Answered K.holds K.faults K.wants sink.old sink.new result s (given (option_copied line.entry)) console.new tally.new }
     ensures quit { IfOk result (λ more. more ≡ not (is_quit (given (option_copied line.entry)))) }
     ensures more_ok { tally.new.ok ≤ tally.old.ok + 1 }

@@ -2,7 +2,7 @@
 
 ghost use Rattle.std.specs.Prelude.{◌≡◌, ◌<◌, ◌≤◌, ◌^◌, ◌+◌, ◌-◌, [], length, OnOk, IfOk, None, Some, not, true};
 ghost use Rattle.lx_base.specs.declared.TheConstants.{UNIVERSES, SLOTS};
-ghost use Rattle.lx_io.specs.Puts.{Puts};
+ghost use Rattle.lx_io.specs.Puts.{Puts, HasSinkCause};
 ghost use Rattle.lx_spec.specs.Desk.{Desk};
 ghost use Rattle.lx_spec.specs.Replies.{is_quit, frame_text};
 ghost use Rattle.lx_spec.specs.Output.{frame};
@@ -39,6 +39,7 @@ impl Turn {
         requires ok { tally.old.ok < 2 ^ 64 - 1 }
         requires refused { tally.old.refused < 2 ^ 64 - 1 }
         requires bad { tally.old.bad < 2 ^ 64 - 1 }
+        ensures cause { HasSinkCause K.faults K.wants sink.old sink.new result }
         ensures text { (d : Desk) → StandsFor d console.now → Puts K.holds K.faults K.wants sink.old sink.new result (reply_to d self.meaning self.refusal) }
         ensures counts { (d : Desk) → StandsFor d console.now → OnOk result (counts_in tally.new ≡ counts_after d (counts_in tally.old) self.meaning self.refusal) }
         ensures quit { IfOk result (λ more. more ≡ not (is_quit self.meaning)) }
@@ -66,6 +67,7 @@ fn reply_to_line<K: Sink>(
     requires ok { tally.old.ok < 2 ^ 64 - 1 }
     requires refused { tally.old.refused < 2 ^ 64 - 1 }
     requires bad { tally.old.bad < 2 ^ 64 - 1 }
+    ensures cause { HasSinkCause K.faults K.wants sink.old sink.new result }
     ensures text { (d : Desk) → StandsFor d console.now → Puts K.holds K.faults K.wants sink.old sink.new result (reply_to d (Some line.now) refusal) }
     ensures counts { (d : Desk) → StandsFor d console.now → OnOk result (counts_in tally.new ≡ counts_after d (counts_in tally.old) (Some line.now) refusal) }
     ensures quit { IfOk result (λ more. more ≡ not (is_quit (Some line.now))) }
@@ -119,6 +121,7 @@ fn put_universe<K: Sink>(
 ) -> Result<bool, SinkFault>
     requires least { 1 ≤ universe }
     requires most { universe ≤ UNIVERSES }
+    ensures cause { HasSinkCause K.faults K.wants sink.old sink.new result }
     ensures text { (d : Desk) → StandsFor d console.now → Puts K.holds K.faults K.wants sink.old sink.new result (frame_text [] d.playback.moment universe (frame d universe)) }
     ensures more { IfOk result (λ more. more ≡ true) }
 {

@@ -4,6 +4,7 @@
 mod answering;
 mod fault;
 mod finish;
+mod taking;
 mod tally;
 mod turn;
 

@@ -1,0 +1,82 @@
+-- A line that was handed out and given, from its parts.
+use Rattle.std.proofs.Common.{◌≡◌, ◌⊎◌, inl, inr, ℕ, ◌<◌, true, false, cond, Option, Some, None, Result, Ok, Err, IfSome, IfErr, List, [], ◌∷◌, ◌++◌, length, ap, ◌∙◌, subst, sym, take, arith}
+use Rattle.std.specs.Prelude.{nat_lt}
+use Rattle.std.specs.Io.KnownBytes.{Keeps, Appends, IsAtEnd}
+use Rattle.std.proofs.KnownBytes.{Keeps-trans}
+use Rattle.std.proofs.lemmas.Bool.Decides.{nat_tests}
+use Rattle.lx_base.specs.declared.TheConstants.{LINE_BYTES}
+use Rattle.lx_io.specs.Puts.{AppendsFront}
+use Rattle.lx_io.proofs.Chain.{AppendsFront-is, AppendsFront-from}
+use Rattle.lx_lex.specs.declared.lines.Lines.{Lines}
+use Rattle.lx_lex.specs.Handed.{HandedOut}
+use Rattle.lx_lex.specs.Unread.{unread}
+use Rattle.lx_spec.specs.declared.Line.{Line}
+use Rattle.lx_spec.specs.Text.{without_cr, tokens}
+use Rattle.lx_spec.specs.Script.{meaning}
+use Rattle.lx_spec.specs.Stands.{Kept}
+use Rattle.lx_spec.specs.Replies.{Session, is_quit}
+use Rattle.lx_console.specs.Standing.{StandsFor}
+use Rattle.lx_session.specs.declared.tally.Tally.{Tally}
+use Rattle.lx_session.specs.declared.fault.SessionFault.{SessionFault}
+use Rattle.lx_session.specs.Meaning.{meaning_of, built}
+use Rattle.lx_session.specs.Given.{GivenOn, GivenInPart}
+use Rattle.lx_session.specs.Taken.{TookOne, TookOneInPart, TookQuit, EndedSo, StoppedSo}
+use Rattle.lx_session.specs.Replying.{counts_in}
+
+-- what is appended after bytes that were kept
+Appends-kept : (a b c : Option (List ℕ)) (xs : List ℕ) → Keeps a b → Appends b c xs → Appends a c xs
+Appends-kept None b c xs p q = tt
+Appends-kept (Some x) None c xs p q = absurd p
+Appends-kept (Some x) (Some y) None xs p q = absurd q
+Appends-kept (Some x) (Some y) (Some z) xs p q = q ∙ ap (λ v. v ++ xs) p
+
+front_kept : (a b c : Option (List ℕ)) (xs : List ℕ) → Keeps a b → AppendsFront b c xs → AppendsFront a c xs
+front_kept a b c xs p q = let front = AppendsFront-is b c xs q in AppendsFront-from a c xs front.0 (Appends-kept a b c (take front.0 xs) p front.1)
+
+-- a line of this meaning was handed out, and its reply was written
+pub took_one : {S : Type 0} (left : S → Option (List ℕ)) (faults : S → ℕ) (old new : Lines S) (h h' h'' : Option (List ℕ)) (s : Session) (meaning : Option Line) (console : Kept) (tally : Tally) (raw : List ℕ)
+    → HandedOut left faults old new (raw ∷ []) → meaning ≡ meaning_of (without_cr raw) → Keeps h h' → GivenOn h' h'' s meaning console tally → TookOne left faults old new h h'' s console tally
+took_one left faults old new h h' h'' s meaning console tally raw handed is kept g = record {
+  raw = raw;
+  handed = handed;
+  given_on = subst (λ m. GivenOn h h'' s m console tally) is (record { reply = g.reply; went = g.went; appended = Appends-kept h h' h'' g.reply kept g.appended; counts = g.counts });
+}
+
+took_in_part : {S : Type 0} (left : S → Option (List ℕ)) (faults : S → ℕ) (old new : Lines S) (h h' h'' : Option (List ℕ)) (s : Session) (meaning : Option Line) (console : Kept) (raw : List ℕ)
+    → HandedOut left faults old new (raw ∷ []) → meaning ≡ meaning_of (without_cr raw) → Keeps h h' → GivenInPart h' h'' s meaning console → TookOneInPart left faults old new h h'' s console
+took_in_part left faults old new h h' h'' s meaning console raw handed is kept g = record {
+  raw = raw;
+  handed = handed;
+  given = subst (λ m. GivenInPart h h'' s m console) is (record { reply = g.reply; went = g.went; front = front_kept h h' h'' g.reply kept g.front });
+}
+
+-- a line that ends the script was handed out
+pub took_quit : {S : Type 0} (left : S → Option (List ℕ)) (faults : S → ℕ) (old new : Lines S) (h h' h'' : Option (List ℕ)) (s : Session) (meaning : Option Line) (console : Kept) (tally : Tally) (raw : List ℕ)
+    → HandedOut left faults old new (raw ∷ []) → meaning ≡ meaning_of (without_cr raw) → Keeps h h' → is_quit meaning ≡ true → Keeps h' h'' → StandsFor s.desk console → s.counts ≡ counts_in tally
+    → EndedSo left faults old new h h'' s console tally
+took_quit left faults old new h h' h'' s meaning console tally raw handed is kept quits kept' stands counted = record {
+  kept = Keeps-trans h h' h'' kept kept';
+  how = inr (record { raw = raw; handed = handed; quits = ap is_quit (sym is) ∙ quits });
+  stands = stands;
+  counts = counted;
+}
+
+-- how a line failed: nothing was written and done, or a front of the reply was
+abbrev FailedReply : Option (List ℕ) → Option (List ℕ) → Kept → Tally → Option Line → Kept → Option (Result (Unit {0}) SessionFault) → Type 0
+FailedReply h h' before tally meaning console result = IfSome result (λ ended. IfErr ended (λ fault. (s : Session) → StandsFor s.desk before → s.counts ≡ counts_in tally → (Keeps h h' × StandsFor s.desk console) ⊎ GivenInPart h h' s meaning console))
+
+pub failed : {S : Type 0} (left : S → Option (List ℕ)) (faults : S → ℕ) (old new : Lines S) (h h' h'' : Option (List ℕ)) (before : Kept) (tally : Tally) (meaning : Option Line) (console : Kept) (raw : List ℕ) (result : Option (Result (Unit {0}) SessionFault))
+    → HandedOut left faults old new (raw ∷ []) → meaning ≡ meaning_of (without_cr raw) → Keeps h h' → FailedReply h' h'' before tally meaning console result
+    → IfSome result (λ ended. IfErr ended (λ fault. (s : Session) → StandsFor s.desk before → s.counts ≡ counts_in tally → StoppedSo left faults old new h h'' s console))
+failed left faults old new h h' h'' before tally meaning console raw None handed is kept f = tt
+failed left faults old new h h' h'' before tally meaning console raw (Some (Ok u)) handed is kept f = tt
+failed left faults old new h h' h'' before tally meaning console raw (Some (Err e)) handed is kept f = λ s stands counted. elim (f s stands counted) [
+  | inl same ↦ inl (Keeps-trans h h' h'' kept same.0, same.1)
+  | inr part ↦ inr (took_in_part left faults old new h h' h'' s meaning console raw handed is kept part)
+]
+
+-- a line that is too long has no meaning
+pub too_long : (line : List ℕ) → LINE_BYTES < length line → None ≡ meaning_of line
+too_long line long =
+    let e : nat_lt LINE_BYTES (length line) ≡ true = grind (arith, nat_tests) in
+    sym (ap (λ b. built (cond b None (meaning line (tokens line)))) e)
