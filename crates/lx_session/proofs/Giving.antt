@@ -37,6 +37,11 @@ given_on holds faults wants sink sink' result s meaning console tally b is on qu
       counts = subst (λ (r : Result Bool SinkFault). OnOk r (a.next.counts ≡ counts_in tally)) is a.counts;
     }
 
+pub goes_on_by : (result : Result Bool SinkFault) (meaning : Option Line) (b : Bool) → result ≡ Ok b → b ≡ true → IfOk result (λ more. more ≡ not (is_quit meaning)) → is_quit meaning ≡ false
+goes_on_by result meaning b is on quit =
+    let more : b ≡ not (is_quit meaning) = subst (λ (r : Result Bool SinkFault). IfOk r (λ more. more ≡ not (is_quit meaning))) is quit in
+    not_not (is_quit meaning) (sym on ∙ more)
+
 pub is_quit_by : (result : Result Bool SinkFault) (meaning : Option Line) (b : Bool) → result ≡ Ok b → b ≡ false → IfOk result (λ more. more ≡ not (is_quit meaning)) → is_quit meaning ≡ true
 is_quit_by result meaning b is off quit =
     let more : b ≡ not (is_quit meaning) = subst (λ (r : Result Bool SinkFault). IfOk r (λ more. more ≡ not (is_quit meaning))) is quit in

@@ -6,3 +6,5 @@ pub mod Replies
 pub mod LineDone
 pub mod Giving
 pub mod Takings
+pub mod Places
+pub mod SoFar

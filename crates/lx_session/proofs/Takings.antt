@@ -20,7 +20,7 @@ use Rattle.lx_session.specs.declared.tally.Tally.{Tally}
 use Rattle.lx_session.specs.declared.fault.SessionFault.{SessionFault}
 use Rattle.lx_session.specs.Meaning.{meaning_of, built}
 use Rattle.lx_session.specs.Given.{GivenOn, GivenInPart}
-use Rattle.lx_session.specs.Taken.{TookOne, TookOneInPart, TookQuit, EndedSo, StoppedSo}
+use Rattle.lx_session.specs.Taken.{TookOne, TookOneInPart, PassedOne, TookQuit, StoppedSo}
 use Rattle.lx_session.specs.Replying.{counts_in}
 
 -- what is appended after bytes that were kept
@@ -50,16 +50,14 @@ took_in_part left faults old new h h' h'' s meaning console raw handed is kept g
   given = subst (λ m. GivenInPart h h'' s m console) is (record { reply = g.reply; went = g.went; front = front_kept h h' h'' g.reply kept g.front });
 }
 
--- a line that ends the script was handed out
-pub took_quit : {S : Type 0} (left : S → Option (List ℕ)) (faults : S → ℕ) (old new : Lines S) (h h' h'' : Option (List ℕ)) (s : Session) (meaning : Option Line) (console : Kept) (tally : Tally) (raw : List ℕ)
-    → HandedOut left faults old new (raw ∷ []) → meaning ≡ meaning_of (without_cr raw) → Keeps h h' → is_quit meaning ≡ true → Keeps h' h'' → StandsFor s.desk console → s.counts ≡ counts_in tally
-    → EndedSo left faults old new h h'' s console tally
-took_quit left faults old new h h' h'' s meaning console tally raw handed is kept quits kept' stands counted = record {
-  kept = Keeps-trans h h' h'' kept kept';
-  how = inr (record { raw = raw; handed = handed; quits = ap is_quit (sym is) ∙ quits });
-  stands = stands;
-  counts = counted;
-}
+-- a line that ends the script was handed out, or one that doesn't
+pub took_quit : {S : Type 0} (left : S → Option (List ℕ)) (faults : S → ℕ) (old new : Lines S) (meaning : Option Line) (raw : List ℕ)
+    → HandedOut left faults old new (raw ∷ []) → meaning ≡ meaning_of (without_cr raw) → is_quit meaning ≡ true → TookQuit left faults old new
+took_quit left faults old new meaning raw handed is quits = record { raw = raw; handed = handed; quits = ap is_quit (sym is) ∙ quits }
+
+pub passed_one : {S : Type 0} (left : S → Option (List ℕ)) (faults : S → ℕ) (old new : Lines S) (meaning : Option Line) (raw : List ℕ)
+    → HandedOut left faults old new (raw ∷ []) → meaning ≡ meaning_of (without_cr raw) → is_quit meaning ≡ false → PassedOne left faults old new
+passed_one left faults old new meaning raw handed is more = record { raw = raw; handed = handed; more = ap is_quit (sym is) ∙ more }
 
 -- how a line failed: nothing was written and done, or a front of the reply was
 abbrev FailedReply : Option (List ℕ) → Option (List ℕ) → Kept → Tally → Option Line → Kept → Option (Result (Unit {0}) SessionFault) → Type 0

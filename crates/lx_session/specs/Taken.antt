@@ -1,9 +1,8 @@
 -- A line that was taken from a source and answered.
-use Rattle.std.specs.Prelude.{◌≡◌, ◌⊎◌, ℕ, true, Option, List, [], ◌∷◌}
-use Rattle.std.specs.Io.KnownBytes.{Keeps, IsAtEnd}
+use Rattle.std.specs.Prelude.{◌≡◌, ◌⊎◌, ℕ, true, false, Option, List, [], ◌∷◌}
+use Rattle.std.specs.Io.KnownBytes.{Keeps}
 use Rattle.lx_lex.specs.declared.lines.Lines.{Lines}
 use Rattle.lx_lex.specs.Handed.{HandedOut}
-use Rattle.lx_lex.specs.Unread.{unread}
 use Rattle.lx_spec.specs.Text.{without_cr}
 use Rattle.lx_spec.specs.Stands.{Kept}
 use Rattle.lx_spec.specs.Replies.{Session}
@@ -12,6 +11,12 @@ use Rattle.lx_session.specs.declared.tally.Tally.{Tally}
 use Rattle.lx_session.specs.Meaning.{meaning_of, ends_script}
 use Rattle.lx_session.specs.Given.{GivenOn, GivenInPart}
 use Rattle.lx_session.specs.Replying.{counts_in}
+
+-- One line was handed out, which doesn't end the script.
+pub record PassedOne {S : Type 0} (left : S → Option (List ℕ)) (faults : S → ℕ) (old new : Lines S) : Type 0 where
+  pub raw : List ℕ
+  pub handed : HandedOut left faults old new (raw ∷ [])
+  pub more : ends_script (without_cr raw) ≡ false
 
 -- One line was handed out, done, and its whole reply written.
 pub record TookOne {S : Type 0} (left : S → Option (List ℕ)) (faults : S → ℕ) (old new : Lines S) (held held' : Option (List ℕ)) (s : Session) (console : Kept) (tally : Tally) : Type 0 where
@@ -31,10 +36,9 @@ pub record TookQuit {S : Type 0} (left : S → Option (List ℕ)) (faults : S �
   pub handed : HandedOut left faults old new (raw ∷ [])
   pub quits : ends_script (without_cr raw) ≡ true
 
--- The script ended, by its end or by `quit`, and nothing more was written.
-pub record EndedSo {S : Type 0} (left : S → Option (List ℕ)) (faults : S → ℕ) (old new : Lines S) (held held' : Option (List ℕ)) (s : Session) (console : Kept) (tally : Tally) : Type 0 where
+-- The script ended, and nothing more was written.
+pub record EndedSo (held held' : Option (List ℕ)) (s : Session) (console : Kept) (tally : Tally) : Type 0 where
   pub kept : Keeps held held'
-  pub how : IsAtEnd (unread left old) ⊎ TookQuit left faults old new
   pub stands : StandsFor s.desk console
   pub counts : s.counts ≡ counts_in tally
 

@@ -4,11 +4,13 @@
 mod answering;
 mod fault;
 mod finish;
+mod running;
 mod taking;
 mod tally;
 mod turn;
 
 pub use answering::answer;
 pub use fault::SessionFault;
+pub use running::session;
 pub use tally::Tally;
 pub use turn::Turn;

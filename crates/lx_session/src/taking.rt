@@ -1,6 +1,6 @@
 //! One line of a session: it is taken from the source and answered.
 
-ghost use Rattle.std.specs.Prelude.{◌≡◌, ◌≤◌, ◌<◌, ◌^◌, ◌+◌, ◌-◌, ◌⊎◌, true, Some, None, Ok, Err, IfSome, IfErr, IsTrue, ◌≢◌, option_copied};
+ghost use Rattle.std.specs.Prelude.{◌≡◌, ◌≤◌, ◌<◌, ◌^◌, ◌+◌, ◌-◌, ◌⊎◌, true, false, Some, None, Ok, Err, IfSome, IfErr, IsTrue, ◌≢◌, option_copied};
 ghost use Rattle.std.specs.Io.KnownBytes.{Keeps, IsAtEnd};
 ghost use Rattle.lx_io.specs.Causes.{Rose};
 ghost use Rattle.lx_io.specs.Puts.{HasSinkCause};
@@ -11,7 +11,7 @@ ghost use Rattle.lx_console.specs.Standing.{StandsFor};
 ghost use Rattle.lx_session.specs.Turning.{given};
 ghost use Rattle.lx_session.specs.Replying.{counts_in};
 ghost use Rattle.lx_session.specs.Given.{GivenOn, GivenInPart};
-ghost use Rattle.lx_session.specs.Taken.{TookOne, EndedSo, StoppedSo};
+ghost use Rattle.lx_session.specs.Taken.{PassedOne, TookOne, TookQuit, EndedSo, StoppedSo};
 
 use crate::answering::answer;
 use crate::fault::{SessionFault, session_fault};
@@ -34,13 +34,13 @@ pub(crate) fn take_line<S: Source, K: Sink>(
     requires few_bad { tally.old.bad ≤ lines.old.number }
     ensures same_reference { lines.new.source.ghost_name ≡ lines.old.source.ghost_name }
     ensures goes_on { result ≡ None → (s : Session) → StandsFor s.desk console.old → s.counts ≡ counts_in tally.old → TookOne S.left S.faults lines.old lines.new (K.holds sink.old) (K.holds sink.new) s console.new tally.new }
-    ensures ok { result ≡ Some (Ok tt) → (s : Session) → StandsFor s.desk console.old → s.counts ≡ counts_in tally.old → EndedSo S.left S.faults lines.old lines.new (K.holds sink.old) (K.holds sink.new) s console.new tally.new }
+    ensures ok { result ≡ Some (Ok tt) → (s : Session) → StandsFor s.desk console.old → s.counts ≡ counts_in tally.old → EndedSo (K.holds sink.old) (K.holds sink.new) s console.new tally.new }
     ensures fault { IfSome result (λ ended. IfErr ended (λ fault. (s : Session) → StandsFor s.desk console.old → s.counts ≡ counts_in tally.old → StoppedSo S.left S.faults lines.old lines.new (K.holds sink.old) (K.holds sink.new) s console.new)) }
     ensures more_ok { tally.new.ok ≤ tally.old.ok + 1 }
     ensures more_refused { tally.new.refused ≤ tally.old.refused + 1 }
     ensures more_bad { tally.new.bad ≤ tally.old.bad + 1 }
-    ensures number { result ≡ None → lines.new.number ≡ lines.old.number + 1 }
-    ensures goes { result ≡ None → lines.new.going ≡ true }
+    ensures passed { result ≡ None → PassedOne S.left S.faults lines.old lines.new }
+    ensures ended { result ≡ Some (Ok tt) → IsAtEnd (unread S.left lines.old) ⊎ TookQuit S.left S.faults lines.old lines.new }
     ensures later { S.faults lines.old.source.now ≤ S.faults lines.new.source.now }
     ensures sink_later { K.faults sink.old ≤ K.faults sink.new }
     ensures wants_later { K.wants sink.old ≤ K.wants sink.new }
@@ -84,6 +84,7 @@ fn give_reply<K: Sink>(
     requires few_refused { tally.old.refused < 2 ^ 64 - 1 }
     requires few_bad { tally.old.bad < 2 ^ 64 - 1 }
     ensures goes_on { result ≡ None → (s : Session) → StandsFor s.desk console.old → s.counts ≡ counts_in tally.old → GivenOn (K.holds sink.old) (K.holds sink.new) s (given (option_copied line.entry)) console.new tally.new }
+    ensures more { result ≡ None → is_quit (given (option_copied line.entry)) ≡ false }
     ensures quit { result ≡ Some (Ok tt) → is_quit (given (option_copied line.entry)) ≡ true }
     ensures ok { result ≡ Some (Ok tt) → (s : Session) → StandsFor s.desk console.old → s.counts ≡ counts_in tally.old → Keeps (K.holds sink.old) (K.holds sink.new) × (StandsFor s.desk console.new × (s.counts ≡ counts_in tally.new)) }
     ensures fault { IfSome result (λ ended. IfErr ended (λ fault. (s : Session) → StandsFor s.desk console.old → s.counts ≡ counts_in tally.old → (Keeps (K.holds sink.old) (K.holds sink.new) × StandsFor s.desk console.new) ⊎ GivenInPart (K.holds sink.old) (K.holds sink.new) s (given (option_copied line.entry)) console.new)) }

@@ -1,6 +1,6 @@
 use Rattle.std.proofs.Common.{inl}
 use Rattle.std.proofs.KnownBytes.{Keeps-trans}
-use Rattle.lx_session.proofs.Giving.{given_on, is_quit_by, quit_keeps, quit_stands, quit_counts, failed, on_fault}
+use Rattle.lx_session.proofs.Giving.{given_on, goes_on_by, is_quit_by, quit_keeps, quit_stands, quit_counts, failed, on_fault}
 use Rattle.lx_session.proofs.taking.give_reply.Goals as goal
 
 pub returns-in-Ok-true-clause-goes_on : goal.returns-in-Ok-true-clause-goes_on
@@ -26,3 +26,6 @@ returns-in-Ok-false-clause-fault g c = on_fault c.flush.result _ (λ s stands co
 
 pub returns-in-Err-clause-fault : goal.returns-in-Err-clause-fault
 returns-in-Err-clause-fault g c = λ s stands counted. failed _ _ _ _ _ c.answer.result s _ _ _ c.in-Err.fault c.in-Err.is (c.answer.ensures.answered s stands counted)
+
+pub returns-in-Ok-true-clause-more : goal.returns-in-Ok-true-clause-more
+returns-in-Ok-true-clause-more g c = λ none. goes_on_by c.answer.result _ c.in-Ok-true.field-0 c.in-Ok-true.is c.in-Ok-true.field-0-test c.answer.ensures.quit

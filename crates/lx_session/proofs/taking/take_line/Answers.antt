@@ -1,7 +1,8 @@
-use Rattle.std.proofs.Common.{◌∙◌, ap}
+use Rattle.std.proofs.Common.{◌∙◌, ap, inr}
+use Rattle.std.proofs.KnownBytes.{Keeps-trans}
 use Rattle.lx_lex.proofs.HandingOut.{handed_one}
 use Rattle.lx_session.specs.Meaning.{meaning_of}
-use Rattle.lx_session.proofs.Takings.{took_one, took_quit, failed, too_long}
+use Rattle.lx_session.proofs.Takings.{took_one, took_quit, passed_one, failed, too_long}
 use Rattle.lx_session.proofs.taking.take_line.Goals as goal
 
 pub returns-in-Line-clause-goes_on : goal.returns-in-Line-clause-goes_on
@@ -11,11 +12,19 @@ returns-in-Line-clause-goes_on g c =
     (ap meaning_of (c.line.ensures.line ∙ e.step.2)) c.flush_before_wait.ensures.holds (c.give_reply.ensures.goes_on none s stands counted)
 
 pub returns-in-Line-clause-ok : goal.returns-in-Line-clause-ok
-returns-in-Line-clause-ok g c =
-    let e = c.in-Line.ensures in λ ended s stands counted.
+returns-in-Line-clause-ok g c = λ ended s stands counted.
     let done = c.give_reply.ensures.ok ended s stands counted in
-    took_quit _ _ _ _ _ _ _ s _ _ _ e.step.0 (handed_one _ _ _ _ e.step.0 e.step.1 e.number e.going e.same_reference e.later)
-    (ap meaning_of (c.line.ensures.line ∙ e.step.2)) c.flush_before_wait.ensures.holds (c.give_reply.ensures.quit ended) done.0 done.1.0 done.1.1
+    record { kept = Keeps-trans _ _ _ c.flush_before_wait.ensures.holds done.0; stands = done.1.0; counts = done.1.1 }
+
+pub returns-in-Line-clause-passed : goal.returns-in-Line-clause-passed
+returns-in-Line-clause-passed g c =
+    let e = c.in-Line.ensures in λ none.
+    passed_one _ _ _ _ _ e.step.0 (handed_one _ _ _ _ e.step.0 e.step.1 e.number e.going e.same_reference e.later) (ap meaning_of (c.line.ensures.line ∙ e.step.2)) (c.give_reply.ensures.more none)
+
+pub returns-in-Line-clause-ended : goal.returns-in-Line-clause-ended
+returns-in-Line-clause-ended g c =
+    let e = c.in-Line.ensures in λ ended.
+    inr (took_quit _ _ _ _ _ e.step.0 (handed_one _ _ _ _ e.step.0 e.step.1 e.number e.going e.same_reference e.later) (ap meaning_of (c.line.ensures.line ∙ e.step.2)) (c.give_reply.ensures.quit ended))
 
 pub returns-in-Line-clause-fault : goal.returns-in-Line-clause-fault
 returns-in-Line-clause-fault g c =
@@ -34,3 +43,8 @@ returns-in-LongLine-clause-fault g c =
     let e = c.in-LongLine.ensures in
     failed _ _ _ _ _ _ _ _ _ _ _ e.step.0 c.give_reply-in-LongLine.result (handed_one _ _ _ _ e.step.0 e.step.1 e.number e.going e.same_reference e.later)
     (too_long _ e.step.3) c.flush_before_wait.ensures.holds c.give_reply-in-LongLine.ensures.fault
+
+pub returns-in-LongLine-clause-passed : goal.returns-in-LongLine-clause-passed
+returns-in-LongLine-clause-passed g c =
+    let e = c.in-LongLine.ensures in λ none.
+    passed_one _ _ _ _ _ e.step.0 (handed_one _ _ _ _ e.step.0 e.step.1 e.number e.going e.same_reference e.later) (too_long _ e.step.3) (c.give_reply-in-LongLine.ensures.more none)

@@ -1,0 +1,58 @@
+//! A session: script lines are read one after another, and each is answered before the next is awaited.
+
+ghost use Rattle.std.specs.Prelude.{◌≡◌, ◌≤◌, ◌<◌, ◌+◌, true, List, ℕ, length, IsTrue, IfSome, IfOk, OnErr, OnOk, Ok, Err, Some, None};
+ghost use Rattle.lx_base.specs.declared.TheConstants.{INPUT_BYTES};
+ghost use Rattle.lx_io.specs.Causes.{Rose};
+ghost use Rattle.lx_lex.specs.Unread.{unread};
+ghost use Rattle.lx_spec.specs.Text.{lines_of};
+ghost use Rattle.lx_spec.specs.Desk.{Desk};
+ghost use Rattle.lx_console.specs.Standing.{StandsFor};
+ghost use Rattle.lx_session.specs.Scripts.{AnswersAll, AnswersFront, bytes_wanted};
+
+use crate::fault::SessionFault;
+use crate::taking::take_line;
+use crate::tally::Tally;
+use lx_console::Console;
+use lx_io::{Sink, Source};
+use lx_lex::Lines;
+
+/// Answers the script lines that are left, up to `quit` or the end, on a console. Each line is done and
+/// its reply appended before the next is awaited.
+///
+/// `ReadFault` comes only where the source failed, `InputTooLong` exactly where a wanted line has a byte
+/// past the limit of the input, `WriteFault` and `Memory` only where the sink answered them. What was
+/// written is then a front of the whole text, and the console stands for the desk after the lines that
+/// were done.
+pub fn session<S: Source, K: Sink>(
+    console: &mut Console,
+    lines: &mut Lines<S>,
+    sink: &mut K,
+) -> Result<Tally, SessionFault>
+    requires going { IsTrue lines.old.going }
+    requires within { lines.old.taken ≤ INPUT_BYTES }
+    ensures same_reference { lines.new.source.ghost_name ≡ lines.old.source.ghost_name }
+
+    // Ok: the whole script was answered. Else a front of its text was written.
+    ensures ok { IfOk result (λ tally. (d : Desk) → StandsFor d console.old → IfSome (unread S.left lines.old) (λ bytes. AnswersAll d (lines_of bytes) (K.holds sink.old) (K.holds sink.new) console.new tally)) }
+    ensures err { OnErr result ((d : Desk) → StandsFor d console.old → IfSome (unread S.left lines.old) (λ bytes. AnswersFront d (lines_of bytes) (K.holds sink.old) (K.holds sink.new) console.new)) }
+
+    // The causes.
+    ensures later { S.faults lines.old.source.now ≤ S.faults lines.new.source.now }
+    ensures sink_later { K.faults sink.old ≤ K.faults sink.new }
+    ensures wants_later { K.wants sink.old ≤ K.wants sink.new }
+    ensures read { result ≡ Err SessionFault.ReadFault → Rose (S.faults lines.old.source.now) (S.faults lines.new.source.now) }
+    ensures write { result ≡ Err SessionFault.WriteFault → Rose (K.faults sink.old) (K.faults sink.new) }
+    ensures memory { result ≡ Err SessionFault.Memory → Rose (K.wants sink.old) (K.wants sink.new) }
+    ensures long { result ≡ Err SessionFault.InputTooLong → IfSome (unread S.left lines.old) (λ bytes. INPUT_BYTES < lines.old.taken + length (bytes_wanted bytes)) }
+    ensures within { OnOk result (IfSome (unread S.left lines.old) (λ bytes. lines.old.taken + length (bytes_wanted bytes) ≤ INPUT_BYTES)) }
+{
+    let mut tally = Tally::new();
+    loop {
+        if let Some(ended) = take_line(console, lines, sink, &mut tally) {
+            return match ended {
+                Ok(()) => Ok(tally),
+                Err(fault) => Err(fault),
+            };
+        }
+    }
+}
