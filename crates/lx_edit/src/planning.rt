@@ -1,0 +1,3 @@
+//! The plan of an edit.
+
+use crate::plans::Plan;
