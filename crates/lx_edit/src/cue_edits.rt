@@ -1,6 +1,6 @@
 //! Edits of one cue that leave its levels: its times, parts, follow and label, and a new cue.
 
-ghost use Rattle.std.specs.Prelude.{◌≡◌, ◌≢◌, IfSome, MatchResult};
+ghost use Rattle.std.specs.Prelude.{◌≡◌, ◌≢◌, IfSome};
 ghost use Rattle.lx_spec.specs.Show.{IsTime};
 ghost use Rattle.lx_spec.specs.Edited.{with_time};
 ghost use Rattle.lx_edit.specs.Planned.{Plans};
@@ -10,16 +10,6 @@ use crate::plans::Plan;
 use lx_base::{CUES, Cs, CueNo, PartNo};
 use lx_show::{Cue, Edit, Label, Part, Refusal, Show, new_part};
 use std::alloc::Global;
-
-/// An equal cue, where there is memory for it.
-pub(crate) fn copied(cue: &Cue) -> Result<Cue, Refusal>
-    ensures { MatchResult result (λ copy. copy ≡ cue.now) (λ refusal. refusal ≡ Refusal.Memory) }
-{
-    match cue.copy() {
-        Ok(copy) => Ok(copy),
-        Err(_) => Err(Refusal::Memory),
-    }
-}
 
 /// A new cue with part 1 and nothing else; nothing where it is there.
 pub(crate) fn make_cue(alloc: Global, show: &Show, n: CueNo) -> Result<Plan, Refusal>
@@ -54,7 +44,7 @@ pub(crate) fn time(
 {
     let old = the_cue(show, n)?;
     let part = the_part(old, p)?;
-    let mut cue = copied(old)?;
+    let mut cue = old.copy()?;
     cue.put_part(with_time(part, rising, time, delay));
     Ok(Plan::PlaceCue { cue, above: None })
 }
@@ -90,7 +80,7 @@ pub(crate) fn add_part(show: &Show, n: CueNo, p: PartNo) -> Result<Plan, Refusal
     if old.part(p).is_some() {
         return Ok(Plan::Nothing);
     }
-    let mut cue = copied(old)?;
+    let mut cue = old.copy()?;
     let _ = p.get();
     cue.put_part(new_part(p));
     Ok(Plan::PlaceCue { cue, above: None })
@@ -105,7 +95,7 @@ pub(crate) fn delete_part(show: &Show, n: CueNo, p: PartNo) -> Result<Plan, Refu
     if p.get() == 1 {
         return Err(Refusal::BasePart);
     }
-    let mut cue = copied(old)?;
+    let mut cue = old.copy()?;
     let _ = cue.drop_part(p);
     Ok(Plan::PlaceCue { cue, above: None })
 }
@@ -115,7 +105,7 @@ pub(crate) fn follow(show: &Show, n: CueNo, after: Option<Cs>) -> Result<Plan, R
     requires { IfSome after IsTime }
     ensures { Plans show.now (Edit.Follow n after) result }
 {
-    let mut cue = copied(the_cue(show, n)?)?;
+    let mut cue = the_cue(show, n)?.copy()?;
     cue.follow = after;
     Ok(Plan::PlaceCue { cue, above: None })
 }
@@ -124,7 +114,7 @@ pub(crate) fn follow(show: &Show, n: CueNo, after: Option<Cs>) -> Result<Plan, R
 pub(crate) fn name(show: &Show, n: CueNo, label: &Label) -> Result<Plan, Refusal>
     ensures { Plans show.now (Edit.Name n label.now) result }
 {
-    let mut cue = copied(the_cue(show, n)?)?;
+    let mut cue = the_cue(show, n)?.copy()?;
     lx_show::facts::of_label(label);
     cue.label = label.copy();
     Ok(Plan::PlaceCue { cue, above: None })

@@ -5,6 +5,9 @@
 
 mod absent;
 mod cue_edits;
+mod kept;
+mod levels;
+mod moves;
 pub mod planning;
 mod plans;
 
