@@ -1,6 +1,6 @@
 -- Cues with moves placed and taken out.
-use Rattle.std.proofs.Common.{◌≡◌, ℕ, zero, suc, ◌+◌, ◌<◌, ◌≤◌, Bool, true, false, cond, List, [], ◌∷◌, length, Some, None, refl, ◌∙◌, sym, ap, subst, map, arith}
-use Rattle.std.specs.Prelude.{Option, IsTrue, IfSome, filter, find, not, ◌&&◌, nat_le, nat_lt, ◌==◌}
+use Rattle.std.proofs.Common.{◌≡◌, ℕ, zero, suc, ◌+◌, ◌-◌, ◌<◌, ◌≤◌, Bool, true, false, cond, List, [], ◌∷◌, ◌++◌, Some, None, refl, ◌∙◌, sym, ap, subst, map, arith}
+use Rattle.std.specs.Prelude.{Option, IsTrue, IfSome, filter, find, not, ◌&&◌, nat_le, nat_lt, ◌==◌, if◌then◌else◌}
 use Rattle.std.specs.Option.{option_map_or}
 use Rattle.std.specs.List.{AllByRecursion, range_with_len}
 use Rattle.std.proofs.lemmas.Bool.Decides.{nat_tests}
@@ -9,13 +9,14 @@ use Rattle.lx_spec.specs.declared.Part.{Part}
 use Rattle.lx_spec.specs.declared.Move.{Move}
 use Rattle.lx_spec.specs.declared.Member.{Member}
 use Rattle.lx_spec.specs.Listing.{Rises, entry_at, has_entry, placed, taken_out}
-use Rattle.lx_spec.specs.Show.{Cue, ValidCue, ValidMove, ValidMember}
+use Rattle.lx_spec.specs.Show.{Cue, Show, ValidCue, ValidMove, ValidMember}
 use Rattle.lx_spec.specs.Tracked.{move_in}
-use Rattle.lx_spec.specs.Edited.{all_at, in_proportion, part_for, without_moves}
+use Rattle.lx_spec.specs.Edited.{all_at, in_proportion, part_for, without_moves, moves_for}
 use Rattle.lx_show.proofs.RisingLists.{found_has, kept_by, Rises-filter}
 use Rattle.lx_show.proofs.ChangedCues.{with_other_moves}
 use Rattle.lx_edit.specs.Found.{Fits}
-use Rattle.lx_edit.proofs.Lists.{all_map, filter_both, filter_same, filter_true}
+use Rattle.lx_edit.specs.Kept.{base_moves}
+use Rattle.lx_edit.proofs.Lists.{filter_both, filter_same, filter_true, chosen_more, range_below}
 
 part_of_move : (channels : ℕ) (parts : List Part) (o : Option Move) → IsTrue (has_entry (λ x. x.number) 1 parts) → IfSome o (ValidMove channels parts) → IsTrue (has_entry (λ x. x.number) (option_map_or (λ m. m.part) o 1) parts)
 part_of_move channels parts None base valid = base
@@ -56,3 +57,30 @@ levels_within level first (suc n) top within = (omega arith, levels_within level
 pub proportion_within : (level channels : ℕ) (members : List Member) → AllByRecursion (ValidMember channels) members → AllByRecursion (λ m. m.chan ≤ channels) (map (in_proportion level) members)
 proportion_within level channels [] all = tt
 proportion_within level channels (m ∷ ms) all = (all.0.chan.most, proportion_within level channels ms all.1)
+
+base_step : (c level : ℕ) (b : Bool) → base_moves c (if b then Some level else None) ≡ cond b (record { chan = c; part = 1; level = level } ∷ []) []
+base_step c level true = refl
+base_step c level false = refl
+
+-- a step through the channels, of which some get a move
+pub chosen_next : (test : ℕ → Bool) (level : ℕ → ℕ) (k c : ℕ) (old new : List Move) (o : Option ℕ) → 1 ≤ k → old ≡ map (λ x. record { chan = x; part = 1; level = level x }) (filter test (range_with_len 1 (k - 1))) → c ≡ k → o ≡ (if test c then Some (level c) else None) → new ≡ old ++ base_moves c o → new ≡ map (λ x. record { chan = x; part = 1; level = level x }) (filter test (range_with_len 1 (k + 1 - 1)))
+chosen_next test level k c old new o least was here given is =
+    let at : ℕ → Move = λ x. record { chan = x; part = 1; level = level x } in
+    let length_is : k + 1 - 1 ≡ k - 1 + 1 = omega (arith, least) in
+    is
+    ∙ ap (λ (xs : List Move). xs ++ base_moves c o) was
+    ∙ ap (λ (x : Option ℕ). map at (filter test (range_with_len 1 (k - 1))) ++ base_moves c x) given
+    ∙ ap (λ (x : ℕ). map at (filter test (range_with_len 1 (k - 1))) ++ base_moves x (if test x then Some (level x) else None)) here
+    ∙ ap (λ (xs : List Move). map at (filter test (range_with_len 1 (k - 1))) ++ xs) (base_step k (level k) (test k))
+    ∙ sym (chosen_more test at 1 (k - 1) k (omega (arith, least)))
+    ∙ ap (λ (n : ℕ). map at (filter test (range_with_len 1 n))) (sym length_is)
+
+chosen_fit_in : (channels : ℕ) (parts : List Part) (test : ℕ → Bool) (level : ℕ → ℕ) (xs : List ℕ) → IsTrue (has_entry (λ x. x.number) 1 parts) → AllByRecursion (λ c. c < channels + 1) xs → AllByRecursion (Fits channels parts) (map (λ c. record { chan = c; part = 1; level = level c }) xs)
+chosen_fit_in channels parts test level [] base all = tt
+chosen_fit_in channels parts test level (x ∷ xs) base all =
+    let within : x < channels + 1 = all.0 in
+    (record { chan = omega (arith, within); part = base }, chosen_fit_in channels parts test level xs base all.1)
+
+-- the moves that some of the show's channels get are in the cue's part 1
+pub chosen_fit : (show : Show) (parts : List Part) (test : ℕ → Bool) (level : ℕ → ℕ) → IsTrue (has_entry (λ x. x.number) 1 parts) → AllByRecursion (Fits show.channels parts) (moves_for show test level)
+chosen_fit show parts test level base = chosen_fit_in show.channels parts test level _ base (kept_by (λ c. c < show.channels + 1) test _ (range_below 1 show.channels (show.channels + 1) (omega arith)))

@@ -2,6 +2,8 @@
 use Rattle.std.proofs.Common.{◌≡◌, ℕ, zero, suc, ◌+◌, ◌-◌, ◌<◌, ◌≤◌, Bool, true, false, cond, List, [], ◌∷◌, ◌++◌, length, Some, None, refl, ◌∙◌, sym, ap, subst, map, arith, add-one}
 use Rattle.std.specs.Prelude.{Option, IsTrue, filter, find, ◌==◌, nat_le, ◌&&◌}
 use Rattle.std.specs.List.{AllByRecursion, range_with_len}
+use Rattle.std.proofs.lemmas.List.Elements.{filter-append}
+use Rattle.std.proofs.lemmas.List.FromFn.{map-range_with_len_more}
 use Rattle.lx_show.proofs.Finding.{find_both}
 
 and_known : (a b : Bool) → (b ≡ true → a ≡ true) → (a && b) ≡ b
@@ -48,3 +50,27 @@ filter_true (x ∷ xs) = ap (λ ys. x ∷ ys) (filter_true xs)
 -- the first of a range fails the test
 pub find_next : (p : ℕ → Bool) (n k m : ℕ) → p n ≡ false → k ≡ suc m → find p (range_with_len n k) ≡ find p (range_with_len (n + 1) m)
 find_next p n k m fails is = ap (λ j. find p (range_with_len n j)) is ∙ rw fails refl
+
+map_same : {A : Type 0} (xs : List A) → map (λ x. x) xs ≡ xs
+map_same [] = refl
+map_same (x ∷ xs) = ap (λ ys. x ∷ ys) (map_same xs)
+
+-- one more number in a range
+pub range_more : (a k j : ℕ) → a + k ≡ j → range_with_len a (k + 1) ≡ range_with_len a k ++ (j ∷ [])
+range_more a k j is = sym (map_same (range_with_len a (k + 1))) ∙ map-range_with_len_more (λ x. x) a k j is ∙ ap (λ xs. xs ++ (j ∷ [])) (map_same (range_with_len a k))
+
+map_append : {A B : Type 0} (f : A → B) (xs ys : List A) → map f (xs ++ ys) ≡ map f xs ++ map f ys
+map_append f [] ys = refl
+map_append f (x ∷ xs) ys = ap (λ zs. f x ∷ zs) (map_append f xs ys)
+
+chosen_step : {A : Type 0} (f : ℕ → A) (j : ℕ) (b : Bool) → map f (cond b (j ∷ []) []) ≡ cond b (f j ∷ []) []
+chosen_step f j true = refl
+chosen_step f j false = refl
+
+-- what is made of those of a range that pass a test, with one more number
+pub chosen_more : {A : Type 0} (p : ℕ → Bool) (f : ℕ → A) (a k j : ℕ) → a + k ≡ j → map f (filter p (range_with_len a (k + 1))) ≡ map f (filter p (range_with_len a k)) ++ cond (p j) (f j ∷ []) []
+chosen_more p f a k j is =
+    ap (λ xs. map f (filter p xs)) (range_more a k j is)
+    ∙ ap (map f) (filter-append p (range_with_len a k) (j ∷ []))
+    ∙ map_append f (filter p (range_with_len a k)) (filter p (j ∷ []))
+    ∙ ap (λ ys. map f (filter p (range_with_len a k)) ++ ys) (chosen_step f j (p j))

@@ -4,10 +4,13 @@
 #![tactic(auto)]
 
 mod absent;
+mod blocks;
 mod cue_edits;
 mod kept;
 mod levels;
+mod members;
 mod moves;
+mod patching;
 pub mod planning;
 mod plans;
 

@@ -1,14 +1,15 @@
 //! Moves placed into a cue, and the members from which they come.
 
-ghost use Rattle.std.specs.Prelude.{◌≡◌, ℕ, ◌≤◌, IfOk, IfSome, IsTrue, OnOk, map};
+ghost use Rattle.std.specs.Prelude.{◌≡◌, ℕ, ◌≤◌, IfOk, IfSome, IsTrue, OnOk, map, ◌++◌};
 ghost use Rattle.std.specs.List.{AllByRecursion};
 ghost use Rattle.lx_spec.specs.Listing.{has_entry};
 ghost use Rattle.lx_spec.specs.Show.{ValidCue};
 ghost use Rattle.lx_spec.specs.Edited.{all_at, channels_in, in_proportion, part_for, with_moves, with_levels};
 ghost use Rattle.lx_edit.specs.Found.{Fits};
+ghost use Rattle.lx_edit.specs.Kept.{base_moves};
 
 use crate::absent::channel;
-use lx_base::{ChanRange, Level, PartNo, scale};
+use lx_base::{Chan, ChanRange, Level, PartNo, scale};
 use lx_show::{Cue, Member, Move, facts};
 use std::alloc::{AllocError, Global};
 
@@ -124,4 +125,22 @@ pub(crate) fn with_moves(
         changed.put_move(*entry)?;
     }
     Ok(changed)
+}
+
+/// Adds a move of the channel in part 1, where there is a level for it.
+pub(crate) fn add(
+    moves: &mut Vec<Move>,
+    chan: Chan,
+    level: Option<Level>,
+) -> Result<(), AllocError>
+    ensures { OnOk result (moves.new.items ≡ moves.old.items ++ base_moves chan level) }
+{
+    if let Some(level) = level {
+        moves.push(Move {
+            chan,
+            part: PartNo::BASE,
+            level,
+        })?;
+    }
+    Ok(())
 }
