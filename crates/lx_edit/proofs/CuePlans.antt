@@ -1,21 +1,18 @@
 -- Plans that place one cue in the place of the one of its number.
-use Rattle.std.proofs.Common.{◌≡◌, ℕ, ◌<◌, ◌≤◌, Bool, true, false, cond, List, [], ◌∷◌, length, Some, None, Ok, refl, ◌∙◌, sym, ap, subst, map, inl, inr, arith}
-use Rattle.std.specs.Prelude.{Option, IsTrue, is_some, ◌||◌, nat_lt, ◌==◌, not, filter, find}
+use Rattle.std.proofs.Common.{◌≡◌, ℕ, ◌≤◌, Bool, true, false, cond, List, [], ◌∷◌, length, Some, None, Ok, refl, ◌∙◌, sym, subst, map, arith}
+use Rattle.std.specs.Prelude.{Option, IsTrue, is_some, ◌||◌, nat_lt, ◌==◌, not}
 use Rattle.std.specs.List.{AllByRecursion}
-use Rattle.std.proofs.lemmas.Bool.{cases_order, false≢true}
 use Rattle.std.proofs.lemmas.Bool.Decides.{nat_tests}
 use Rattle.lx_base.specs.declared.TheConstants.{CUES, PARTS}
 use Rattle.lx_spec.specs.declared.Part.{Part}
 use Rattle.lx_spec.specs.declared.Move.{Move}
 use Rattle.lx_spec.specs.declared.Edit.{Edit}
-use Rattle.lx_spec.specs.Listing.{Rises, entry_at, has_entry, placed, taken_out}
-use Rattle.lx_spec.specs.Show.{Cue, Show, ValidCue, ValidPart, ValidMove, InRange, IsTime}
-use Rattle.lx_spec.specs.Edited.{edited, with_cue, with_part, with_time, new_part, without_part, out_of_part}
-use Rattle.lx_show.proofs.RisingLists.{each, found_valid, Rises-filter, Rises-map, kept_by}
+use Rattle.lx_spec.specs.Listing.{entry_at, has_entry, taken_out}
+use Rattle.lx_spec.specs.Show.{Cue, Show, ValidCue, ValidPart, ValidMove, IsTime}
+use Rattle.lx_spec.specs.Edited.{edited, with_cue, with_time, new_part, without_part, out_of_part}
+use Rattle.lx_show.proofs.RisingLists.{found_valid, Rises-filter, Rises-map, kept_by}
 use Rattle.lx_edit.proofs.Lists.{find_in_filter}
-use Rattle.lx_show.proofs.ChangedCues.{with_placed_part}
 use Rattle.lx_edit.specs.Found.{FoundCue}
-use Rattle.lx_edit.specs.declared.plans.Plan.{Plan}
 use Rattle.lx_edit.specs.declared.plans.Plan.TheVariants.{PlaceCue}
 use Rattle.lx_edit.specs.Planned.{CanPlace, IsPlan, dimmer_edited, edits_sub}
 

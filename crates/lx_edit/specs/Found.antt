@@ -1,5 +1,5 @@
 -- What is known of the things that an edit names, once they were found.
-use Rattle.std.specs.Prelude.{◌≡◌, ℕ, ◌≤◌, IsTrue, Option, Some, None, IfSome, Ok, option_and_then, List}
+use Rattle.std.specs.Prelude.{◌≡◌, ℕ, ◌≤◌, IsTrue, Option, Some, IfSome, Ok, option_and_then, List}
 use Rattle.lx_base.specs.Numbers.{Span}
 use Rattle.lx_spec.specs.declared.Part.{Part}
 use Rattle.lx_spec.specs.declared.Move.{Move}

@@ -1,5 +1,5 @@
 -- What a plan makes of the show that it was made for.
-use Rattle.std.specs.Prelude.{◌≡◌, ℕ, ◌≤◌, ◌⊎◌, Bool, true, false, ◌||◌, IsTrue, nat_lt, Option, Some, None, IfSome, IsOk, Result, Ok, Err, List, length, MatchResult, ⊤}
+use Rattle.std.specs.Prelude.{◌≡◌, ℕ, ◌≤◌, ◌⊎◌, Bool, true, false, ◌||◌, IsTrue, nat_lt, Option, Some, None, IfSome, IsOk, Result, Ok, Err, length, MatchResult, ⊤}
 use Rattle.lx_base.specs.declared.TheConstants.{CUES}
 use Rattle.lx_spec.specs.declared.Edit.{Edit}
 use Rattle.lx_spec.specs.declared.Edit.TheVariants.{SubMember, Patch, Unpatch}

@@ -1,10 +1,10 @@
 //! Cue only: the cue above the edited one keeps each level that it had. And cues deleted.
 
-ghost use Rattle.std.specs.Prelude.{◌≡◌, ℕ, ◌==◌, not, true, IfOk, IfSome, Some, None, if◌then◌else◌};
+ghost use Rattle.std.specs.Prelude.{◌≡◌, ℕ, ◌==◌, not, IfOk, IfSome, Some, None, if◌then◌else◌};
 ghost use Rattle.std.specs.Option.{option_copied};
 ghost use Rattle.lx_spec.specs.Show.{ValidCue};
 ghost use Rattle.lx_spec.specs.Tracked.{tracked, cue_above};
-ghost use Rattle.lx_spec.specs.Edited.{cue_only, with_cue, moves_for};
+ghost use Rattle.lx_spec.specs.Edited.{cue_only, with_cue, with_moves, moves_for};
 ghost use Rattle.lx_edit.specs.Found.{FoundCue};
 ghost use Rattle.lx_edit.specs.Planned.{Plans, PlansCues, CanPlace, with_above};
 ghost use Rattle.lx_edit.specs.Kept.{changed_show, decided, decided_by};
@@ -18,20 +18,11 @@ use lx_show::{Cue, Edit, Move, Refusal, Show};
 use std::alloc::{AllocError, Global};
 
 /// The cue goes.
-pub(crate) fn delete_cue(
-    alloc: Global,
-    show: &Show,
-    n: CueNo,
-    only: bool,
-) -> Result<Plan, Refusal>
+pub(crate) fn delete_cue(alloc: Global, show: &Show, n: CueNo, only: bool) -> Result<Plan, Refusal>
     ensures { Plans show.now (Edit.DeleteCue n only) result }
 {
     let old = the_cue(show, n)?;
-    let above = if only {
-        kept_above(alloc, show, n, old, None)?
-    } else {
-        None
-    };
+    let above = kept_above(alloc, show, n, old, None, only)?;
     Ok(Plan::RemoveCue { cue: n, above })
 }
 
@@ -50,34 +41,53 @@ pub(crate) fn place(
     requires valid { ValidCue show.now.channels cue }
     ensures { IfOk result (PlansCues show.now (cue_only only show.now n (with_cue show.now cue))) }
 {
-    let above = if only {
-        kept_above(alloc, show, n, old, Some(&cue))?
-    } else {
-        None
-    };
+    let above = kept_above(alloc, show, n, old, Some(&cue), only)?;
     Ok(Plan::PlaceCue { cue, above })
 }
 
-/// The cue above the edited one, with the moves that keep its levels; none where no cue is above it. An error
-/// comes where memory is wanting.
+/// Cue only, the cue above the edited one, with the moves that keep its levels; none where no cue is above it.
+/// An error comes where memory is wanting.
 fn kept_above(
     alloc: Global,
     show: &Show,
     n: CueNo,
     old: &Cue,
     new: Option<&Cue>,
+    only: bool,
 ) -> Result<Option<Cue>, AllocError>
     requires there { FoundCue show.now n old.now }
     requires number { IfSome new (λ cue. cue.now.number ≡ n) }
-    ensures above { IfOk result (λ above. with_above above (changed_show show.now n (option_copied new.entry)) ≡ cue_only true show.now n (changed_show show.now n (option_copied new.entry))) }
+    ensures above { IfOk result (λ above. with_above above (changed_show show.now n (option_copied new.entry)) ≡ cue_only only show.now n (changed_show show.now n (option_copied new.entry))) }
     ensures valid { IfOk result (λ above. IfSome above (CanPlace (changed_show show.now n (option_copied new.entry)))) }
 {
-    let channels = show.channels();
-    let Some(above) = show.cue_above(n) else {
+    let _ = show.channels();
+    if !only {
         return Ok(None);
-    };
+    }
+    match show.cue_above(n) {
+        Some(above) => Ok(Some(keeping(alloc, show, n, old, new, above)?)),
+        None => Ok(None),
+    }
+}
+
+/// The cue above the edited one with the moves that keep its levels.
+fn keeping(
+    alloc: Global,
+    show: &Show,
+    n: CueNo,
+    old: &Cue,
+    new: Option<&Cue>,
+    above: &Cue,
+) -> Result<Cue, AllocError>
+    requires there { FoundCue show.now n old.now }
+    requires number { IfSome new (λ cue. cue.now.number ≡ n) }
+    requires above { cue_above show.now n ≡ Some above.now }
+    requires valid { ValidCue show.now.channels above.now }
+    ensures kept { IfOk result (λ kept. kept ≡ with_moves above.now (moves_for show.now (λ c. not (tracked show.now above.now.number c == tracked (changed_show show.now n (option_copied new.entry)) above.now.number c)) (λ c. tracked show.now above.now.number c))) }
+    ensures valid { IfOk result (ValidCue show.now.channels) }
+{
     let moves = kept_moves(alloc, show, n, old, new, above)?;
-    Ok(Some(with_moves(channels, above.copy()?, moves.as_slice())?))
+    with_moves(show.channels(), above.copy()?, moves.as_slice())
 }
 
 /// The moves that keep the levels of the cue above.
@@ -139,7 +149,7 @@ fn differs(show: &Show, n: CueNo, old: &Cue, new: Option<&Cue>, above: &Cue, c: 
         (None, None) => false,
         (Some(was), Some(is)) => was != is,
         (Some(was), None) => was != show.tracked(below(n), c),
-        (None, Some(is)) => is != show.tracked(below(n), c),
+        (None, Some(is)) => show.tracked(below(n), c) != is,
     }
 }
 

@@ -109,11 +109,7 @@ fn move_to(cue: &Cue, part: Option<PartNo>, member: &Member) -> Move
 
 /// The cue with these moves, each in the place of the one of its channel. An error comes where memory is
 /// wanting.
-pub(crate) fn with_moves(
-    channels: u32,
-    cue: Cue,
-    moves: &[Move],
-) -> Result<Cue, AllocError>
+pub(crate) fn with_moves(channels: u32, cue: Cue, moves: &[Move]) -> Result<Cue, AllocError>
     requires valid { ValidCue channels cue }
     requires fits { AllByRecursion (Fits channels cue.parts) moves.now }
     ensures cue { IfOk result (λ changed. changed ≡ with_moves cue moves.now) }
@@ -128,11 +124,7 @@ pub(crate) fn with_moves(
 }
 
 /// Adds a move of the channel in part 1, where there is a level for it.
-pub(crate) fn add(
-    moves: &mut Vec<Move>,
-    chan: Chan,
-    level: Option<Level>,
-) -> Result<(), AllocError>
+pub(crate) fn add(moves: &mut Vec<Move>, chan: Chan, level: Option<Level>) -> Result<(), AllocError>
     ensures { OnOk result (moves.new.items ≡ moves.old.items ++ base_moves chan level) }
 {
     if let Some(level) = level {

@@ -10,15 +10,9 @@ pub enum Plan {
     /// The show stays as it is: what the edit makes is there already.
     Nothing,
     /// The cue, in the place of the one of its number. Where the edit is cue only, then also the cue above it.
-    PlaceCue {
-        cue: Cue,
-        above: Option<Cue>,
-    },
+    PlaceCue { cue: Cue, above: Option<Cue> },
     /// The cue of the number goes. Where the edit is cue only, the cue above it is then placed.
-    RemoveCue {
-        cue: CueNo,
-        above: Option<Cue>,
-    },
+    RemoveCue { cue: CueNo, above: Option<Cue> },
     /// The group, in the place of the one of its number.
     PlaceGroup(Group),
     /// The submaster, in the place of the one of its number.

@@ -1,4 +1,4 @@
-use Rattle.std.proofs.Common.{◌≡◌, ◌∙◌, ◌≤◌, ap, sym, subst, map, ℕ, List}
+use Rattle.std.proofs.Common.{◌∙◌, ◌≤◌, ap, sym, subst, map, ℕ, List}
 use Rattle.std.specs.List.{AllByRecursion}
 use Rattle.lx_spec.specs.declared.Member.{Member}
 use Rattle.lx_spec.specs.Show.{Group}

@@ -1,4 +1,4 @@
-use Rattle.std.proofs.Common.{◌≡◌, ◌∙◌, ap, sym, subst, List, take}
+use Rattle.std.proofs.Common.{◌∙◌, ap, sym, subst, List, take}
 use Rattle.std.proofs.lemmas.List.Sums.{fold_more}
 use Rattle.std.proofs.lemmas.List.Elements.{All-from_recursion}
 use Rattle.std.specs.Prelude.{◌≤◌}
@@ -20,8 +20,8 @@ loop-member-preserved c =
     let within : member.chan ≤ channels = subst (λ (m : Member). m.chan ≤ channels) (sym c.member-item.is) (All-from_recursion (λ (m : Member). m.chan ≤ channels) members c.requires.within i member c.loop-member-test.true) in
     record {
       is = c.in_ok-put.ensures.ok
-      ∙ ap (λ (ms : List Member). put ms member) c.loop-member.invariant.is
-      ∙ ap (λ (m : Member). put (with_members start (take i members)) m) c.member-item.is
-      ∙ sym (fold_more put start members i member c.loop-member-test.true);
+          ∙ ap (λ (ms : List Member). put ms member) c.loop-member.invariant.is
+          ∙ ap (λ (m : Member). put (with_members start (take i members)) m) c.member-item.is
+          ∙ sym (fold_more put start members i member c.loop-member-test.true);
       valid = subst (ValidMembers channels) (sym c.in_ok-put.ensures.ok) (with_member channels member c.loop-member.list c.loop-member.invariant.valid (record { chan = record { least = c.of_member.ensures.chan.least; most = within }; level = c.of_member.ensures.level }));
     }

@@ -23,8 +23,8 @@ loop-entry-preserved c =
     let valid_move : ValidMove channels c.loop-entry.changed.parts entry = subst (λ (ps : List Part). ValidMove channels ps entry) (sym same_parts) (record { chan = record { least = c.of_move.ensures.chan.least; most = fits.chan }; part = fits.part; level = c.of_move.ensures.level }) in
     record {
       is = c.in_ok-put_move.ensures.ok
-      ∙ ap (λ (q : Cue). record q { moves = put q.moves entry }) c.loop-entry.invariant.is
-      ∙ ap (λ (m : Move). record cue { moves = put (with_moves cue (take i moves)).moves m }) c.entry-item.is
-      ∙ ap (λ (ms : List Move). record cue { moves = ms }) (sym (fold_more put cue.moves moves i entry c.loop-entry-test.true));
+          ∙ ap (λ (q : Cue). record q { moves = put q.moves entry }) c.loop-entry.invariant.is
+          ∙ ap (λ (m : Move). record cue { moves = put (with_moves cue (take i moves)).moves m }) c.entry-item.is
+          ∙ ap (λ (ms : List Move). record cue { moves = ms }) (sym (fold_more put cue.moves moves i entry c.loop-entry-test.true));
       valid = subst (ValidCue channels) (sym c.in_ok-put_move.ensures.ok) (with_move channels c.loop-entry.changed entry c.loop-entry.invariant.valid valid_move);
     }
