@@ -1,7 +1,8 @@
 -- How the rows are kept: one block of levels, in which each row follows the one before.
-use Rattle.std.specs.Prelude.{◌≡◌, ℕ, ◌*◌, ◌≤◌, List, [], ◌∷◌, length, take, drop}
+use Rattle.std.specs.Prelude.{◌≡◌, ℕ, zero, suc, ◌*◌, ◌≤◌, List, [], ◌∷◌, length, take, drop, slice_index}
 use Rattle.lx_base.specs.declared.TheConstants.{CUES, CHANNELS}
 use Rattle.lx_spec.specs.Listing.{Rises}
+use Rattle.lx_spec.specs.Show.{Cue}
 use Rattle.lx_sheet.specs.declared.sheet.Place.{Place}
 use Rattle.lx_sheet.specs.Rows.{Row}
 
@@ -18,3 +19,19 @@ pub record IsKept (channels : ℕ) (order : List Place) (room : ℕ) (levels loo
   pub row_room : CUES ≤ room
   pub level_room : length levels ≡ CUES * channels
   pub look_room : length look ≡ channels
+
+-- a channel's level among those of the channels from 1 on
+abbrev pub level_among : List ℕ → ℕ → ℕ
+level_among levels c = slice_index (0 ∷ levels) c
+
+-- the same in the row at a place of the block
+unfoldable pub cell : ℕ → List ℕ → ℕ → ℕ → ℕ
+cell channels levels k c = level_among (take channels (drop (k * channels) levels)) c
+
+-- the last of so many values, or 0 where there is none
+abbrev pub last_value : ℕ → (ℕ → ℕ) → ℕ
+last_value zero f = 0
+last_value (suc k) f = f k
+
+abbrev pub place_of_cue : Cue → Place
+place_of_cue cue = record { cue = cue.number }

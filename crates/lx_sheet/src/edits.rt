@@ -1,15 +1,17 @@
 //! A sheet follows the edits of its show. No call takes memory.
 
-ghost use Rattle.std.specs.Prelude.{◌≡◌, ◌≢◌, ℕ, ◌<◌, None};
+ghost use Rattle.std.specs.Prelude.{◌≡◌, ◌≢◌, ℕ, ◌<◌, ◌≤◌, None, length, map, vec_capacity};
 ghost use Rattle.lx_spec.specs.Show.{Show as ShowData, Cue as CueData};
 ghost use Rattle.lx_spec.specs.Tracked.{cue_of, tracked};
 ghost use Rattle.lx_spec.specs.Edited.{with_cue, without_cue};
 ghost use Rattle.lx_sheet.specs.Rows.{numbers_of, level_of};
+ghost use Rattle.lx_sheet.specs.Block.{place_of_cue};
 ghost use Rattle.lx_sheet.specs.Standing.{StandsFor, StandsIn, StandsBelow, cue_numbers};
 
+use crate::block::{fill_column, fill_rows, recall};
 use crate::sheet::{Place, Sheet};
-use lx_base::{CUES, Chan, CueNo, Level};
-use lx_show::around::up_to;
+use lx_base::{Chan, CueNo};
+use lx_show::around::below;
 use lx_show::{Cue, Show};
 
 impl Sheet {
@@ -26,7 +28,11 @@ impl Sheet {
         ensures numbers { numbers_of self.new ≡ numbers_of self.old }
         ensures channels { self.new.channels ≡ self.old.channels }
     {
-        self.retrack(show, from)
+        let cues = show.cues();
+        if chan.get() as usize <= self.channels {
+            let first = below(cues, from.get()).len();
+            fill_column(&mut self.levels, self.channels, cues, first, chan);
+        }
     }
 
     /// The cue was added: a sheet that stood for the show without it stands for the show.
@@ -58,7 +64,22 @@ impl Sheet {
         requires { self.old.channels ≡ show.now.channels }
         ensures { StandsBelow show.now from self.old → StandsFor show.now self.new }
     {
-        let _ = show.channels();
-        let _ = from;
+        let cues = show.cues();
+        let first = below(cues, from.get()).len();
+        recall(&mut self.look, &self.levels, first);
+        list_cues(&mut self.order, cues);
+        fill_rows(&mut self.levels, &mut self.look, cues, first);
+    }
+}
+
+/// Lists the places of the cues, in the room that is there.
+fn list_cues(order: &mut Vec<Place>, cues: &[Cue])
+    requires { length cues.now ≤ vec_capacity order.old }
+    ensures order { order.new.items ≡ map place_of_cue cues.now }
+    ensures room { vec_capacity order.new ≡ vec_capacity order.old }
+{
+    order.clear();
+    for cue in cues {
+        order.push_reserved(Place { cue: cue.number });
     }
 }

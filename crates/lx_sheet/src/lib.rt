@@ -2,7 +2,9 @@
 //! it. A cue holds what it changes, and a row holds what the stage looks like.
 #![tactic(auto)]
 
+mod block;
 mod edits;
+mod look;
 mod sheet;
 
 pub use sheet::Sheet;

@@ -8,6 +8,7 @@ ghost use Rattle.lx_spec.specs.Replies.{row_of};
 ghost use Rattle.lx_sheet.specs.Rows.{row_at, level_of};
 ghost use Rattle.lx_sheet.specs.Standing.{StandsFor};
 
+use crate::block::level_before;
 use lx_base::{CUES, Chan, CueNo, Level};
 use lx_show::Show;
 use lx_show::around::up_to;
@@ -89,12 +90,11 @@ impl Sheet {
         ensures level { result ≡ level_of self.now n c }
         ensures stands { (show : ShowData) → StandsFor show self.now → result ≡ tracked show n c }
     {
-        let rows = up_to(self.order.as_slice(), n.get()).len();
         let at = c.get() as usize - 1;
-        if rows == 0 || at >= self.channels {
-            0
-        } else {
-            self.levels[(rows - 1) * self.channels + at]
+        if at >= self.channels {
+            return 0;
         }
+        let rows = up_to(self.order.as_slice(), n.get()).len();
+        level_before(self.levels.as_slice(), self.channels, rows, at)
     }
 }
