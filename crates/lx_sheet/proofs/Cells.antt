@@ -99,3 +99,11 @@ row_other channels levels look k place end is within long other =
 pub last_value_some : (count : ℕ) (f : ℕ → ℕ) → count ≢ 0 → last_value count f ≡ f (count - 1)
 last_value_some zero f some = absurd (some refl)
 last_value_some (suc k) f some = let e : k ≡ suc k - 1 = omega arith in ap f e
+
+-- from the start of the last row to its end
+pub width_of : (rows channels : ℕ) → rows ≢ 0 → rows * channels - (rows - 1) * channels ≡ channels
+width_of zero channels some = absurd (some refl)
+width_of (suc k) channels some =
+    let before : suc k - 1 ≡ k = omega arith in
+    let e : suc k * channels ≡ k * channels + channels = omega arith in
+    rw before (omega arith)

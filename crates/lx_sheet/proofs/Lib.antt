@@ -1,3 +1,5 @@
 pub mod Cells
+pub mod Columns
 pub mod Moves
+pub mod Rows
 pub mod Tracking
