@@ -11,7 +11,7 @@ use Rattle.lx_spec.specs.Show.{Cue, Show}
 use Rattle.lx_spec.specs.Tracked.{decides, level_in, tracked}
 use Rattle.lx_show.specs.Around.{entries_up_to}
 use Rattle.lx_show.proofs.Finding.{find_both_last}
-use Rattle.lx_show.proofs.RisingLists.{lt_true, lt_false}
+use Rattle.lx_show.proofs.RisingLists.{lt_true, lt_false, shorter}
 use Rattle.lx_sheet.specs.declared.sheet.Place.{Place}
 use Rattle.lx_sheet.specs.Rows.{level_of}
 use Rattle.lx_sheet.specs.Block.{cell, last_value}
@@ -135,3 +135,14 @@ column_right show from channels before after old new c filled right front rows n
           last_value_same first _ _ (λ k below. front k below) ∙ starts_right show from channels before after old new c filled right in
           now ∙ some_rows show channels new c first (count_up_to n numbers) least within start rows ∙ sym (tracked_is show n c filled.cues_rise)
     ]
+
+pub count_under-map : {A : Type 0} (key : A → ℕ) (n : ℕ) (xs : List A) → length (entries_below key n xs) ≡ count_under n (map key xs)
+count_under-map key n [] = refl
+count_under-map {A} key n (x ∷ xs) =
+    elim (nat_lt (key x) n) as (λ b. length (cond b (x ∷ entries_below key n xs) (entries_below key n xs)) ≡ length (cond b (key x ∷ entries_below (λ m. m) n (map key xs)) (entries_below (λ m. m) n (map key xs)))) [
+      | true ↦ ap suc (count_under-map key n xs)
+      | false ↦ count_under-map key n xs
+    ]
+
+pub count_under_within : (n : ℕ) (numbers : List ℕ) → count_under n numbers ≤ length numbers
+count_under_within n numbers = shorter (λ m. nat_lt m n) numbers

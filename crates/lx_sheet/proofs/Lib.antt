@@ -1,5 +1,7 @@
 pub mod Cells
 pub mod Columns
+pub mod EditedShows
 pub mod Moves
+pub mod Past
 pub mod Rows
 pub mod Tracking

@@ -1,0 +1,60 @@
+use Rattle.std.proofs.Common.{◌≡◌, ◌≢◌, ℕ, ◌+◌, ◌*◌, ◌<◌, ◌≤◌, List, length, map, take, drop, ◌++◌, ap, sym, ◌∙◌, subst, arith, vec_capacity}
+use Rattle.std.specs.List.{AllByRecursion}
+use Rattle.std.proofs.lemmas.List.{length-map, with_items_is}
+use Rattle.lx_base.specs.declared.TheConstants.{CUES}
+use Rattle.lx_spec.specs.Show.{Cue, ValidCue}
+use Rattle.lx_spec.specs.Listing.{Rises, entries_below}
+use Rattle.lx_spec.specs.Tracked.{tracked}
+use Rattle.lx_sheet.specs.declared.sheet.Place.{Place}
+use Rattle.lx_sheet.specs.Rows.{Sheet, level_of, numbers_of}
+use Rattle.lx_sheet.specs.Block.{cell, last_value, level_among, place_of_cue}
+use Rattle.lx_sheet.specs.After.{level_after}
+use Rattle.lx_sheet.specs.Standing.{cue_numbers}
+use Rattle.lx_sheet.proofs.Columns.{IsFilledFrom, count_under, count_under-map, count_under_within, starts_right, column_right}
+use Rattle.lx_sheet.proofs.EditedShows.{numbers-listed, Rises-listed}
+use Rattle.lx_sheet.proofs.Rows.{sheet_of, numbers-rows_of}
+use Rattle.lx_sheet.proofs.sheet.Sheet.retrack.Goals as goal
+
+pub recall-requires-clause-rows : goal.recall-requires-clause-rows
+recall-requires-clause-rows c =
+    omega (arith, ap length c.below-first.ensures, count_under-map (λ (cue : Cue). cue.number) c.get.result c.cues-cues.result.now, count_under_within c.get.result (map (λ (cue : Cue). cue.number) c.cues-cues.result.now), length-map c.cues-cues.result.now (λ (cue : Cue). cue.number), ap length c.cues-cues.ensures.cues, c.cues-cues.ensures.valid.few_cues)
+
+pub invariant_of-self : goal.invariant_of-self
+invariant_of-self c =
+    let written = with_items_is c.self.inside.levels c.fill_rows.new.levels (omega arith) in
+    record {
+      few = c.self.invariant.few;
+      rise = subst (λ (xs : List Place). Rises (λ p. p.cue) xs) (sym (c.list_cues.ensures.order ∙ ap (map place_of_cue) c.cues-cues.ensures.cues)) (Rises-listed c.args.show.now.cues c.cues-cues.ensures.valid.cues_rise);
+      rows = omega (arith, ap length c.list_cues.ensures.order, length-map c.cues-cues.result.now place_of_cue, ap length c.cues-cues.ensures.cues, c.cues-cues.ensures.valid.few_cues);
+      row_room = omega (arith, c.list_cues.ensures.room, c.self.invariant.row_room);
+      level_room = ?;
+      look_room = ?;
+    }
+
+pub returns : goal.returns
+returns c = λ stands.
+    let show = c.args.show.now in
+    let from : ℕ = c.args.from in
+    let channels : ℕ = c.self.inside.channels in
+    let before : List Place = c.self.inside.order.items in
+    let after : List Place = c.list_cues.new.order.items in
+    let old : List ℕ = c.self.inside.levels.items in
+    let new : List ℕ = c.fill_rows.new.levels in
+    let cues : List Cue = c.cues-cues.result.now in
+    let first : ℕ = length c.below-first.result.now in
+    let of_cues : cues ≡ show.cues = c.cues-cues.ensures.cues in
+    let of_first : first ≡ count_under from (cue_numbers show) =
+    ap length c.below-first.ensures ∙ count_under-map (λ (cue : Cue). cue.number) c.get.result cues
+    ∙ ap (λ n. count_under n (map (λ (cue : Cue). cue.number) cues)) c.get.ensures.value ∙ ap (λ (xs : List Cue). count_under from (map (λ cue. cue.number) xs)) of_cues in
+    let written = with_items_is c.self.inside.levels new (omega arith) in
+    let listed : after ≡ map place_of_cue show.cues = c.list_cues.ensures.order ∙ ap (map place_of_cue) of_cues in
+    let numbers : map (λ (p : Place). p.cue) after ≡ cue_numbers show = ap (map (λ (p : Place). p.cue)) listed ∙ numbers-listed show.cues in
+    let filled : IsFilledFrom show from channels before after old new = record {
+      before_rises = c.self.invariant.rise;
+      after_rises = subst (λ (xs : List Place). Rises (λ p. p.cue) xs) (sym listed) (Rises-listed show.cues c.cues-cues.ensures.valid.cues_rise);
+      cues_rise = c.cues-cues.ensures.valid.cues_rise;
+      below = ap (entries_below (λ n. n) from) (sym (numbers-rows_of channels before old) ∙ ap numbers_of c.self.view_is) ∙ stands.numbers;
+      numbers = numbers;
+    } in
+    let below : (n chan : ℕ) → n < from → level_of (sheet_of channels before old) n chan ≡ tracked show n chan = λ n chan less. ap (λ (s : Sheet). level_of s n chan) c.self.view_is ∙ stands.columns n chan less in
+    ?
