@@ -1,6 +1,7 @@
 pub mod Cells
 pub mod Columns
 pub mod EditedShows
+pub mod Found
 pub mod Moves
 pub mod Past
 pub mod Rows

@@ -1,5 +1,6 @@
 use Rattle.std.proofs.Common.{◌≡◌, ◌≢◌, ℕ, ◌+◌, ◌*◌, ◌<◌, ◌≤◌, List, length, map, take, drop, ◌++◌, ap, sym, ◌∙◌, subst, arith, vec_capacity}
-use Rattle.std.specs.List.{AllByRecursion}
+use Rattle.std.specs.List.{length_refill}
+use Rattle.std.specs.Vec.{with_items}
 use Rattle.std.proofs.lemmas.List.{length-map, with_items_is}
 use Rattle.lx_base.specs.declared.TheConstants.{CUES}
 use Rattle.lx_spec.specs.Show.{Cue, ValidCue}
@@ -27,8 +28,8 @@ invariant_of-self c =
       rise = subst (λ (xs : List Place). Rises (λ p. p.cue) xs) (sym (c.list_cues.ensures.order ∙ ap (map place_of_cue) c.cues-cues.ensures.cues)) (Rises-listed c.args.show.now.cues c.cues-cues.ensures.valid.cues_rise);
       rows = omega (arith, ap length c.list_cues.ensures.order, length-map c.cues-cues.result.now place_of_cue, ap length c.cues-cues.ensures.cues, c.cues-cues.ensures.valid.few_cues);
       row_room = omega (arith, c.list_cues.ensures.room, c.self.invariant.row_room);
-      level_room = ?;
-      look_room = ?;
+      level_room = omega (arith, ap length written);
+      look_room = omega (arith, length_refill c.self.inside.look.len (with_items c.self.inside.look c.recall.new.look).items c.fill_rows.new.look (length_refill c.self.inside.look.len c.self.inside.look.items c.recall.new.look (omega arith)));
     }
 
 pub returns : goal.returns
@@ -57,4 +58,23 @@ returns c = λ stands.
       numbers = numbers;
     } in
     let below : (n chan : ℕ) → n < from → level_of (sheet_of channels before old) n chan ≡ tracked show n chan = λ n chan less. ap (λ (s : Sheet). level_of s n chan) c.self.view_is ∙ stands.columns n chan less in
-    ?
+    let width_before : length c.deref_mut.result.now ≡ channels = omega (arith, ap length c.deref_mut.ensures.value, c.self.invariant.look_room) in
+    let recalled : c.deref_mut-3.result.now ≡ c.recall.new.look = c.deref_mut-3.ensures.value ∙ with_items_is c.self.inside.look c.recall.new.look (omega arith) in
+    let width : length c.deref_mut-3.result.now ≡ channels = omega (arith, ap length recalled, width_before) in
+    let starts : (chan : ℕ) → level_among c.deref_mut-3.result.now chan ≡ level_after (take first cues) chan = λ chan.
+    ap (λ (xs : List ℕ). level_among xs chan) recalled
+    ∙ c.recall.ensures chan
+    ∙ ap (λ n. last_value first (λ k. cell n c.deref.result.now k chan)) width_before
+    ∙ ap (λ (xs : List ℕ). last_value first (λ k. cell channels xs k chan)) c.deref.ensures.value
+    ∙ ap (λ n. last_value n (λ k. cell channels old k chan)) of_first
+    ∙ starts_right show from channels before after old new chan filled (λ n less. below n chan less)
+    ∙ sym (ap (λ n. level_after (take n show.cues) chan) of_first)
+    ∙ sym (ap (λ (xs : List Cue). level_after (take first xs) chan) of_cues) in
+    record {
+      channels = ap (λ (s : Sheet). s.channels) c.self.view_is ∙ c.requires;
+      numbers = numbers-rows_of channels after (with_items c.self.inside.levels new).items ∙ numbers;
+      columns = λ chan. subst (λ (xs : List ℕ). (n : ℕ) → level_of (sheet_of channels after xs) n chan ≡ tracked show n chan) (sym written)
+      (column_right show from channels before after old new chan filled (λ n less. below n chan less)
+      (λ k less. ap (λ n. cell n new k chan) (sym width) ∙ c.fill_rows.ensures.front k chan (omega (arith, of_first, less)) ∙ ap (λ n. cell n c.deref_mut-2.result.now k chan) width ∙ ap (λ (xs : List ℕ). cell channels xs k chan) c.deref_mut-2.ensures.value)
+      (λ k least less. ap (λ n. cell n new k chan) (sym width) ∙ c.fill_rows.ensures.rows starts k chan (omega (arith, of_first, least)) (omega (arith, ap length of_cues, less)) ∙ ap (λ (xs : List Cue). level_after (take (k + 1) xs) chan) of_cues));
+    }
