@@ -1,6 +1,6 @@
 -- A sheet of a show before an edit stands below the edited cue for the show after it.
-use Rattle.std.proofs.Common.{◌≡◌, ℕ, ◌<◌, ◌≤◌, Bool, true, false, cond, not, List, [], ◌∷◌, ◌++◌, map, Some, None, refl, ◌∙◌, sym, ap, subst, arith, inl, inr}
-use Rattle.std.specs.Prelude.{Option, filter, find, reverse, nat_le, nat_lt, ◌==◌, ◌&&◌}
+use Rattle.std.proofs.Common.{◌≡◌, ℕ, ◌<◌, true, false, cond, not, List, [], ◌∷◌, map, refl, ◌∙◌, sym, ap, subst, arith, inl, inr}
+use Rattle.std.specs.Prelude.{Option, find, reverse, nat_le, nat_lt, ◌==◌}
 use Rattle.std.specs.Option.{option_map_or}
 use Rattle.std.specs.List.{AllByRecursion}
 use Rattle.std.proofs.lemmas.Bool.{cases_lt}
@@ -11,8 +11,7 @@ use Rattle.lx_spec.specs.Tracked.{decides, level_in, tracked}
 use Rattle.lx_show.specs.Around.{entries_up_to}
 use Rattle.lx_show.proofs.Finding.{find_both_last}
 use Rattle.lx_show.proofs.RisingLists.{each, passes, stands_between, lt_true, lt_false, lt_from}
-use Rattle.lx_sheet.specs.declared.sheet.Place.{Place}
-use Rattle.lx_sheet.specs.Rows.{Sheet, level_of, numbers_of}
+use Rattle.lx_sheet.specs.Rows.{Sheet, numbers_of}
 use Rattle.lx_sheet.specs.Block.{place_of_cue}
 use Rattle.lx_sheet.specs.Standing.{StandsFor, StandsBelow, cue_numbers}
 use Rattle.lx_sheet.proofs.Rows.{le_false}

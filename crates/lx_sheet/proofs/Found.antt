@@ -1,23 +1,22 @@
 -- The row of a number, as it stands in the block, and what it is where the sheet stands for a show.
-use Rattle.std.proofs.Common.{◌≡◌, ℕ, zero, suc, ◌+◌, ◌-◌, ◌*◌, ◌<◌, ◌≤◌, Bool, true, false, cond, List, [], ◌∷◌, length, get_or, take, drop, map, Some, None, refl, ◌∙◌, sym, ap, subst, arith, add-one}
-use Rattle.std.specs.Prelude.{Option, find, is_some, option_map, slice_get, ◌==◌, ◌||◌}
-use Rattle.std.specs.List.{AllByRecursion, range_with_len, list_any}
+use Rattle.std.proofs.Common.{◌≡◌, ℕ, zero, suc, ◌+◌, ◌*◌, ◌<◌, ◌≤◌, true, false, cond, List, [], ◌∷◌, length, get_or, take, drop, map, Some, None, refl, ◌∙◌, sym, ap, arith}
+use Rattle.std.specs.Prelude.{Option, is_some, option_map, slice_get, ◌==◌, ◌||◌}
+use Rattle.std.specs.List.{list_any}
 use Rattle.std.proofs.lemmas.Bool.{false≢true}
 use Rattle.std.proofs.lemmas.Bool.Decides.{nat_tests}
-use Rattle.std.proofs.lemmas.List.{length-take, length-drop, length-map, same_lists, get_or-map, get_or-take, get_or-drop, get_or_default}
+use Rattle.std.proofs.lemmas.List.{length-take, length-drop, same_lists, get_or_default}
 use Rattle.std.proofs.lemmas.List.FromFn.{length-map-range_with_len, get_or-map-range_with_len}
 use Rattle.std.proofs.lemmas.List.Elements.{All-from_recursion}
 use Rattle.std.proofs.lemmas.Option.{slice_get-get_or}
 use Rattle.std.proofs.Math.Nat.{mul-le-mul_right}
 use Rattle.lx_base.specs.declared.TheConstants.{CUES}
-use Rattle.lx_spec.specs.Listing.{Rises, entry_at, StandsAt, GoesAt}
+use Rattle.lx_spec.specs.Listing.{Rises, entry_at, StandsAt}
 use Rattle.lx_spec.specs.Show.{Cue, Show}
 use Rattle.lx_spec.specs.Tracked.{cue_of, tracked}
-use Rattle.lx_spec.specs.Edited.{channels_of}
 use Rattle.lx_spec.specs.Replies.{row_of}
-use Rattle.lx_show.proofs.RisingLists.{each, up_to_there, found_number}
+use Rattle.lx_show.proofs.RisingLists.{up_to_there, found_number}
 use Rattle.lx_sheet.specs.declared.sheet.Place.{Place}
-use Rattle.lx_sheet.specs.Rows.{Row, Sheet, level_of, row_at, numbers_of}
+use Rattle.lx_sheet.specs.Rows.{Row, row_at, numbers_of}
 use Rattle.lx_sheet.specs.Block.{rows_of, cell, last_value}
 use Rattle.lx_sheet.specs.Standing.{StandsFor, cue_numbers}
 use Rattle.lx_sheet.proofs.Rows.{count_up_to, count_up_to-map, sheet_of, level_of_block, row_of_block, numbers-rows_of}
@@ -85,9 +84,9 @@ row_right show channels order levels n at room few rises place stands =
     same_lists (take channels (drop (at * channels) levels)) (row_of show n)
     (width ∙ stands.channels ∙ sym (length-map-range_with_len (tracked show n) 1 show.channels))
     (λ k d less.
-      get_or_default (take channels (drop (at * channels) levels)) k d 0 less
-      ∙ cells (suc k)
-      ∙ sym (get_or-map-range_with_len (tracked show n) 1 show.channels k (suc k) d (omega (arith, less, width, stands.channels)) (omega arith)))
+    get_or_default (take channels (drop (at * channels) levels)) k d 0 less
+    ∙ cells (suc k)
+    ∙ sym (get_or-map-range_with_len (tracked show n) 1 show.channels k (suc k) d (omega (arith, less, width, stands.channels)) (omega arith)))
 
 pub cue_found : (show : Show) (channels : ℕ) (order : List Place) (levels : List ℕ) (n at : ℕ) → length levels ≡ CUES * channels → length order ≤ CUES → Rises (λ p. p.cue) order → StandsAt (λ p. p.cue) n order at → StandsFor show (sheet_of channels order levels) → Some (take channels (drop (at * channels) levels)) ≡ option_map (λ cue. row_of show n) (cue_of show n)
 cue_found show channels order levels n at room few rises place stands =

@@ -1,17 +1,17 @@
 -- What is no channel of the show is at 0.
-use Rattle.std.proofs.Common.{◌≡◌, ℕ, ◌<◌, ◌≤◌, Bool, false, List, [], Some, None, refl, ◌∙◌, sym, ap, subst, zero, suc, arith}
-use Rattle.std.specs.Prelude.{Option, IfSome, find, reverse, nat_le, ◌==◌, ◌&&◌}
+use Rattle.std.proofs.Common.{◌≡◌, ℕ, ◌<◌, false, List, Some, None, refl, ◌∙◌, ap, zero, suc, arith}
+use Rattle.std.specs.Prelude.{Option, IfSome, reverse, nat_le, ◌==◌, ◌&&◌}
 use Rattle.std.specs.Option.{option_map_or}
 use Rattle.std.proofs.lemmas.Bool.Decides.{nat_tests}
 use Rattle.lx_spec.specs.declared.Move.{Move}
-use Rattle.lx_spec.specs.Show.{Cue, Show, Valid, ValidCue, ValidMove}
+use Rattle.lx_spec.specs.Show.{Cue, Show, Valid, ValidCue}
 use Rattle.lx_spec.specs.Tracked.{decides, level_in, move_in, tracked}
 use Rattle.lx_show.proofs.RisingLists.{all_reverse, each, found_has, find_none}
 use Rattle.lx_sheet.specs.declared.sheet.Place.{Place}
 use Rattle.lx_sheet.specs.Rows.{level_of}
 use Rattle.lx_sheet.specs.Block.{cell, last_value}
 use Rattle.lx_sheet.proofs.Cells.{cell_past}
-use Rattle.lx_sheet.proofs.Rows.{count_up_to, last_value_same, sheet_of, level_of_block}
+use Rattle.lx_sheet.proofs.Rows.{count_up_to, sheet_of, level_of_block}
 use Rattle.lx_spec.specs.Listing.{Rises}
 use Rattle.std.specs.Prelude.{map}
 

@@ -1,12 +1,12 @@
 -- The rows of a block, by their places, and the level that it gives at a number.
-use Rattle.std.proofs.Common.{◌≡◌, ℕ, zero, suc, ◌+◌, ◌-◌, ◌*◌, ◌<◌, ◌≤◌, Bool, true, false, cond, List, [], ◌∷◌, length, get_or, take, drop, map, Some, None, refl, ◌∙◌, sym, ap, subst, arith, inl, inr}
-use Rattle.std.specs.Prelude.{Option, filter, find, reverse, nat_le, nat_lt, slice_get}
+use Rattle.std.proofs.Common.{◌≡◌, ℕ, zero, suc, ◌+◌, ◌-◌, ◌*◌, ◌<◌, ◌≤◌, true, false, cond, List, [], ◌∷◌, length, get_or, take, drop, map, Some, refl, ◌∙◌, sym, ap, arith, inl, inr}
+use Rattle.std.specs.Prelude.{Option, find, reverse, nat_le, slice_get}
 use Rattle.std.specs.Option.{option_map_or}
 use Rattle.std.specs.List.{AllByRecursion}
 use Rattle.std.proofs.lemmas.Bool.{cases_lt}
 use Rattle.std.proofs.lemmas.Bool.Decides.{nat_tests}
 use Rattle.std.proofs.lemmas.List.{drop-drop, length-map}
-use Rattle.lx_spec.specs.Listing.{Rises, entries_below}
+use Rattle.lx_spec.specs.Listing.{Rises}
 use Rattle.lx_show.specs.Around.{entries_up_to}
 use Rattle.lx_show.proofs.Finding.{find_last}
 use Rattle.lx_show.proofs.RisingLists.{each, filter_none, shorter}

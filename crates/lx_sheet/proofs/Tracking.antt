@@ -1,6 +1,6 @@
 -- The levels after a list of cues, one cue on.
-use Rattle.std.proofs.Common.{◌≡◌, ℕ, ◌+◌, ◌<◌, Bool, true, false, cond, List, [], ◌∷◌, ◌++◌, length, get_or, take, refl, ◌∙◌, sym, ap}
-use Rattle.std.specs.Prelude.{Option, Some, None, find, reverse}
+use Rattle.std.proofs.Common.{◌≡◌, ℕ, ◌+◌, ◌<◌, true, false, cond, List, [], ◌∷◌, ◌++◌, length, get_or, take, refl, ◌∙◌, sym, ap}
+use Rattle.std.specs.Prelude.{Some, find, reverse}
 use Rattle.std.specs.Option.{option_map_or}
 use Rattle.std.proofs.lemmas.List.{take_more, reverse-append}
 use Rattle.lx_spec.specs.Show.{Cue}

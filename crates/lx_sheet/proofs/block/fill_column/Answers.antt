@@ -1,4 +1,4 @@
-use Rattle.std.proofs.Common.{◌≡◌, ◌≢◌, ℕ, ◌+◌, ◌*◌, ◌-◌, ◌<◌, ◌≤◌, length, take, set, ap, sym, ◌∙◌, subst, refl, inl, inr, arith}
+use Rattle.std.proofs.Common.{◌≡◌, ℕ, ◌+◌, ◌*◌, ◌-◌, ◌≤◌, length, take, set, ap, sym, ◌∙◌, subst, refl, inl, inr, arith}
 use Rattle.std.proofs.lemmas.Bool.{cases_eq}
 use Rattle.lx_base.specs.declared.TheConstants.{CUES}
 use Rattle.std.proofs.Math.Nat.{mul-le-mul_right}

@@ -1,4 +1,4 @@
-use Rattle.std.proofs.Common.{◌≡◌, ◌-◌, ◌*◌, List, ℕ, length, take, drop, ap, sym, ◌∙◌, arith}
+use Rattle.std.proofs.Common.{◌≡◌, ◌-◌, ◌*◌, List, ℕ, length, take, drop, ap, sym, ◌∙◌}
 use Rattle.lx_sheet.specs.Block.{cell, level_among}
 use Rattle.lx_sheet.proofs.Cells.{last_value_some, width_of}
 use Rattle.lx_sheet.proofs.block.recall.Goals as goal

@@ -1,4 +1,4 @@
-use Rattle.std.proofs.Common.{◌≡◌, ◌+◌, ◌-◌, ◌*◌, ◌≤◌, List, ℕ, length, take, drop, ap, sym, ◌∙◌, arith}
+use Rattle.std.proofs.Common.{◌+◌, ◌*◌, ◌≤◌, List, ℕ, length, ap, ◌∙◌, arith}
 use Rattle.lx_base.specs.declared.TheConstants.{CUES}
 use Rattle.std.proofs.Math.Nat.{mul-le-mul_right}
 use Rattle.lx_sheet.specs.Block.{cell, level_among}

@@ -1,4 +1,4 @@
-use Rattle.std.proofs.Common.{◌≡◌, ap, sym, ◌∙◌}
+use Rattle.std.proofs.Common.{ap, sym, ◌∙◌}
 use Rattle.lx_spec.specs.Listing.{entries_below}
 use Rattle.lx_spec.specs.Show.{Cue, Show}
 use Rattle.lx_sheet.proofs.EditedShows.{stands_below, below-placed}

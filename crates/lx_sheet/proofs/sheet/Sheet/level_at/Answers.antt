@@ -1,5 +1,4 @@
-use Rattle.std.proofs.Common.{◌≡◌, ℕ, ◌+◌, ◌-◌, ◌<◌, ◌≤◌, List, length, map, ap, sym, ◌∙◌, subst, arith}
-use Rattle.lx_base.specs.declared.TheConstants.{CUES}
+use Rattle.std.proofs.Common.{◌≡◌, ℕ, ◌+◌, ◌-◌, ◌<◌, List, length, map, ap, sym, ◌∙◌, arith}
 use Rattle.lx_show.specs.Around.{entries_up_to}
 use Rattle.lx_show.proofs.RisingLists.{shorter}
 use Rattle.std.specs.Prelude.{nat_le}

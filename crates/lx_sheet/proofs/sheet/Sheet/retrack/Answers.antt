@@ -1,9 +1,8 @@
-use Rattle.std.proofs.Common.{◌≡◌, ◌≢◌, ℕ, ◌+◌, ◌*◌, ◌<◌, ◌≤◌, List, length, map, take, drop, ◌++◌, ap, sym, ◌∙◌, subst, arith, vec_capacity}
+use Rattle.std.proofs.Common.{◌≡◌, ℕ, ◌+◌, ◌<◌, List, length, map, take, ap, sym, ◌∙◌, subst, arith}
 use Rattle.std.specs.List.{length_refill}
 use Rattle.std.specs.Vec.{with_items}
 use Rattle.std.proofs.lemmas.List.{length-map, with_items_is}
-use Rattle.lx_base.specs.declared.TheConstants.{CUES}
-use Rattle.lx_spec.specs.Show.{Cue, ValidCue}
+use Rattle.lx_spec.specs.Show.{Cue}
 use Rattle.lx_spec.specs.Listing.{Rises, entries_below}
 use Rattle.lx_spec.specs.Tracked.{tracked}
 use Rattle.lx_sheet.specs.declared.sheet.Place.{Place}
@@ -74,7 +73,7 @@ returns c = λ stands.
       channels = ap (λ (s : Sheet). s.channels) c.self.view_is ∙ c.requires;
       numbers = numbers-rows_of channels after (with_items c.self.inside.levels new).items ∙ numbers;
       columns = λ chan. subst (λ (xs : List ℕ). (n : ℕ) → level_of (sheet_of channels after xs) n chan ≡ tracked show n chan) (sym written)
-      (column_right show from channels before after old new chan filled (λ n less. below n chan less)
-      (λ k less. ap (λ n. cell n new k chan) (sym width) ∙ c.fill_rows.ensures.front k chan (omega (arith, of_first, less)) ∙ ap (λ n. cell n c.deref_mut-2.result.now k chan) width ∙ ap (λ (xs : List ℕ). cell channels xs k chan) c.deref_mut-2.ensures.value)
-      (λ k least less. ap (λ n. cell n new k chan) (sym width) ∙ c.fill_rows.ensures.rows starts k chan (omega (arith, of_first, least)) (omega (arith, ap length of_cues, less)) ∙ ap (λ (xs : List Cue). level_after (take (k + 1) xs) chan) of_cues));
+          (column_right show from channels before after old new chan filled (λ n less. below n chan less)
+          (λ k less. ap (λ n. cell n new k chan) (sym width) ∙ c.fill_rows.ensures.front k chan (omega (arith, of_first, less)) ∙ ap (λ n. cell n c.deref_mut-2.result.now k chan) width ∙ ap (λ (xs : List ℕ). cell channels xs k chan) c.deref_mut-2.ensures.value)
+          (λ k least less. ap (λ n. cell n new k chan) (sym width) ∙ c.fill_rows.ensures.rows starts k chan (omega (arith, of_first, least)) (omega (arith, ap length of_cues, less)) ∙ ap (λ (xs : List Cue). level_after (take (k + 1) xs) chan) of_cues));
     }
