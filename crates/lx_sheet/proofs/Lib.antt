@@ -1,0 +1,8 @@
+pub mod Cells
+pub mod Columns
+pub mod EditedShows
+pub mod Found
+pub mod Moves
+pub mod Past
+pub mod Rows
+pub mod Tracking
