@@ -1,3 +1,4 @@
 pub mod Found
 pub mod Planned
 pub mod Kept
+pub mod ChanSet

@@ -5,7 +5,9 @@
 
 mod absent;
 mod blocks;
+mod chan_set;
 mod cue_edits;
+mod dirty;
 mod kept;
 mod levels;
 mod members;
@@ -14,4 +16,6 @@ mod patching;
 pub mod planning;
 mod plans;
 
+pub use chan_set::ChanSet;
+pub use dirty::Dirty;
 pub use plans::Plan;
