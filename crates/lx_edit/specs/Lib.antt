@@ -2,3 +2,4 @@ pub mod Found
 pub mod Planned
 pub mod Kept
 pub mod ChanSet
+pub mod Changing

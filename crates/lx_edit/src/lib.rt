@@ -6,6 +6,7 @@
 mod absent;
 mod blocks;
 mod chan_set;
+mod changing;
 mod cue_edits;
 mod dirty;
 mod kept;
