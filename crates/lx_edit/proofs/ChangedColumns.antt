@@ -1,5 +1,5 @@
 -- Channels that see no difference where a cue is changed, added or taken out.
-use Rattle.std.proofs.Common.{◌≡◌, ℕ, ◌+◌, ◌-◌, ◌<◌, ◌≤◌, Bool, true, false, cond, List, [], ◌∷◌, Some, None, refl, ◌∙◌, sym, ap, subst, inl, inr, arith, length}
+use Rattle.std.proofs.Common.{◌≡◌, ℕ, ◌+◌, ◌-◌, ◌<◌, ◌≤◌, Bool, true, false, cond, List, [], ◌∷◌, ◌++◌, map, Some, None, refl, ◌∙◌, sym, ap, subst, inl, inr, arith, length}
 use Rattle.std.specs.Prelude.{Option, IfSome, IsTrue, is_some, not, ◌||◌, ◌&&◌, ◌==◌, filter, find, nat_le, reverse, option_and_then}
 use Rattle.std.specs.Option.{option_map_or}
 use Rattle.std.specs.List.{AllByRecursion}
@@ -7,7 +7,7 @@ use Rattle.std.proofs.lemmas.Bool.{cases_eq, cases_lt, false≢true}
 use Rattle.std.proofs.lemmas.Bool.Decides.{nat_tests}
 use Rattle.lx_base.specs.declared.TheConstants.{CHANNELS}
 use Rattle.lx_spec.specs.declared.Move.{Move}
-use Rattle.lx_spec.specs.Listing.{Rises, entry_at, placed, taken_out, entries_above}
+use Rattle.lx_spec.specs.Listing.{Rises, entry_at, placed, taken_out, entries_above, entries_below}
 use Rattle.lx_spec.specs.Show.{Cue, Show, Valid, ValidCue}
 use Rattle.lx_spec.specs.Tracked.{tracked, cue_of, move_of, move_in, level_in, decides}
 use Rattle.lx_spec.specs.Edited.{with_cue, without_cue}
@@ -19,7 +19,7 @@ use Rattle.lx_sheet.proofs.Past.{tracked_past}
 use Rattle.lx_edit.specs.declared.chan_set.ChanSet.{ChanSet}
 use Rattle.lx_edit.specs.ChanSet.{has_chan}
 use Rattle.lx_edit.specs.Changing.{move_by, is_block, level_from, SameEntry}
-use Rattle.lx_edit.proofs.Lists.{find_in_filter}
+use Rattle.lx_edit.proofs.Lists.{find_in_filter, map_append}
 use Rattle.lx_edit.proofs.Tracking.{through, walked, tracked-with_cue, tracked-without_cue, tracked_below-with_cue, tracked_below-without_cue}
 
 -- Moves that are marked where they differ.
@@ -174,3 +174,19 @@ column_without show n c valid least entry = record {
   moves = λ k. move_without show n c k entry.moves;
   levels = λ k. level_without show n c k valid least entry;
 }
+
+-- Numbers of cues.
+placed_numbers : {A : Type 0} (key : A → ℕ) (x y : A) (xs : List A) → key x ≡ key y → map key (placed key x xs) ≡ map key (placed key y xs)
+placed_numbers {A} key x y xs same =
+    let P : ℕ → Type 0 = λ k. map key (entries_below key (key x) xs ++ (x ∷ entries_above key (key x) xs)) ≡ map key (entries_below key k xs ++ (y ∷ entries_above key k xs)) in
+    subst P same (map_append key (entries_below key (key x) xs) (x ∷ entries_above key (key x) xs) ∙ ap (λ k. map key (entries_below key (key x) xs) ++ (k ∷ map key (entries_above key (key x) xs))) same ∙ sym (map_append key (entries_below key (key x) xs) (y ∷ entries_above key (key x) xs)))
+
+numbers_step : {A : Type 0} (key : A → ℕ) (x : A) (xs : List A) (o : Option A) → entry_at key (key x) xs ≡ o → IsTrue (is_some o) → Rises key xs → map key (placed key x xs) ≡ map key xs
+numbers_step key x xs None is there rises = absurd (false≢true there)
+numbers_step {A} key x xs (Some y) is there rises =
+    let same : key x ≡ key y = found_number key (key x) xs y is in
+    placed_numbers key x y xs same ∙ ap (map key) (placed_same key y xs rises (subst (λ k. entry_at key k xs ≡ Some y) same is))
+
+-- a cue in the place of one that is there leaves the numbers
+pub numbers_with : (show : Show) (cue : Cue) → Valid show → IsTrue (is_some (cue_of show cue.number)) → map (λ x. x.number) (with_cue show cue).cues ≡ map (λ x. x.number) show.cues
+numbers_with show cue valid there = numbers_step (λ (x : Cue). x.number) cue show.cues (cue_of show cue.number) refl there valid.cues_rise

@@ -59,7 +59,7 @@ map_same (x ∷ xs) = ap (λ ys. x ∷ ys) (map_same xs)
 pub range_more : (a k j : ℕ) → a + k ≡ j → range_with_len a (k + 1) ≡ range_with_len a k ++ (j ∷ [])
 range_more a k j is = sym (map_same (range_with_len a (k + 1))) ∙ map-range_with_len_more (λ x. x) a k j is ∙ ap (λ xs. xs ++ (j ∷ [])) (map_same (range_with_len a k))
 
-map_append : {A B : Type 0} (f : A → B) (xs ys : List A) → map f (xs ++ ys) ≡ map f xs ++ map f ys
+pub map_append : {A B : Type 0} (f : A → B) (xs ys : List A) → map f (xs ++ ys) ≡ map f xs ++ map f ys
 map_append f [] ys = refl
 map_append f (x ∷ xs) ys = ap (λ zs. f x ∷ zs) (map_append f xs ys)
 

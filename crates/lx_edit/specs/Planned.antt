@@ -35,7 +35,7 @@ pub record CanPlace (show : Show) (cue : Cue) : Type 0 where
 abbrev pub IsReady : Show → Plan → Type 0
 IsReady show Nothing = ⊤
 IsReady show (PlaceCue cue above) = CanPlace show cue × IfSome above (CanPlace (with_cue show cue))
-IsReady show (RemoveCue n above) = IfSome above (CanPlace (without_cue show n))
+IsReady show (RemoveCue n above) = (1 ≤ n) × IfSome above (CanPlace (without_cue show n))
 IsReady show (PlaceGroup group) = ValidGroup show.channels group
 IsReady show (PlaceSub sub) = ValidSub show.channels sub
 IsReady show (PlaceRow row) = row.chan ≤ show.channels

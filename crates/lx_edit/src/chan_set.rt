@@ -7,6 +7,9 @@ use lx_base::Chan;
 /// Sixty-four channels in a word.
 const WORDS: usize = 32;
 
+/// As many columns take as long as a whole sheet.
+const LARGE: u32 = 48;
+
 /// A set of channels from 1 to 2,048, as one bit each. It takes no memory.
 #[derive(Clone, Copy, PartialEq, Eq, Debug)]
 pub struct ChanSet {
@@ -39,5 +42,14 @@ impl ChanSet {
         let place = c.get() - 1;
         let at = (place / 64) as usize;
         self.words[at] |= 1 << (place % 64);
+    }
+
+    /// It is no gain to go through a sheet column by column for so many channels.
+    pub(crate) fn is_large(&self) -> bool {
+        let mut count = 0;
+        for word in self.words.iter() {
+            count += word.count_ones();
+        }
+        count > LARGE
     }
 }

@@ -4,6 +4,7 @@
 #![tactic(auto)]
 
 mod absent;
+mod applying;
 mod blocks;
 mod chan_set;
 mod changing;
