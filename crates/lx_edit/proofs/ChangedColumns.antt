@@ -1,6 +1,6 @@
 -- Channels that see no difference where a cue is changed, added or taken out.
-use Rattle.std.proofs.Common.{◌≡◌, ℕ, ◌+◌, ◌-◌, ◌<◌, ◌≤◌, Bool, true, false, cond, List, [], ◌∷◌, ◌++◌, map, Some, None, refl, ◌∙◌, sym, ap, subst, inl, inr, arith, length}
-use Rattle.std.specs.Prelude.{Option, IfSome, IsTrue, is_some, not, ◌||◌, ◌&&◌, ◌==◌, filter, find, nat_le, reverse, option_and_then}
+use Rattle.std.proofs.Common.{◌≡◌, ℕ, ◌-◌, ◌≤◌, Bool, true, false, cond, List, [], ◌∷◌, ◌++◌, map, Some, None, refl, ◌∙◌, sym, ap, subst, inl, inr, arith}
+use Rattle.std.specs.Prelude.{Option, IfSome, IsTrue, is_some, not, ◌||◌, ◌&&◌, ◌==◌, nat_le, reverse}
 use Rattle.std.specs.Option.{option_map_or}
 use Rattle.std.specs.List.{AllByRecursion}
 use Rattle.std.proofs.lemmas.Bool.{cases_eq, cases_lt, false≢true}

@@ -45,8 +45,9 @@ impl Plan {
                 Dirty::of_sub()
             }
             Plan::PlaceRow(row) => {
+                let dimmer = row.dimmer;
                 show.put_patch(row);
-                Dirty::of_dimmer(row.dimmer)
+                Dirty::of_dimmer(dimmer)
             }
             Plan::RemoveRow(dimmer) => {
                 let _ = show.take_patch(dimmer);

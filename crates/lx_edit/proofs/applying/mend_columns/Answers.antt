@@ -1,4 +1,4 @@
-use Rattle.std.proofs.Common.{◌≡◌, ◌+◌, ◌<◌, ◌≤◌, inl, inr, refl, ap, ◌∙◌, false, ℕ, arith}
+use Rattle.std.proofs.Common.{◌≡◌, ◌<◌, inl, inr, refl, ap, ◌∙◌, false, ℕ, arith}
 use Rattle.std.proofs.lemmas.Bool.{cases_lt}
 use Rattle.lx_base.specs.declared.TheConstants.{CHANNELS}
 use Rattle.lx_edit.specs.ChanSet.{is_chan}

@@ -11,5 +11,5 @@ invariant-loop-k l = record {
   numbers : numbers_of l.sheet ≡ cue_numbers l.show;
   below : (c n : ℕ) → n < l.from → level_of l.sheet n c ≡ tracked l.show n c;
   others : (c : ℕ) → has_chan l.chans c ≡ false → StandsIn l.show c l.sheet;
-  done : (c : ℕ) → 1 ≤ c → c < l.k → StandsIn l.show c l.sheet
+  done : (c : ℕ) → 1 ≤ c → c < l.k → StandsIn l.show c l.sheet;
 }

@@ -1,4 +1,4 @@
-use Rattle.std.proofs.Common.{◌≡◌, ◌<◌, ◌≤◌, ◌-◌, ◌∙◌, ap, sym, subst, refl, true, false, Some, ℕ, rules}
+use Rattle.std.proofs.Common.{◌≡◌, ◌<◌, ◌≤◌, ◌-◌, ◌∙◌, ap, sym, subst, false, Some, ℕ, rules}
 use Rattle.std.specs.Prelude.{IsTrue, is_some}
 use Rattle.lx_spec.specs.Show.{Show, Cue, Valid}
 use Rattle.lx_spec.specs.Tracked.{cue_of, tracked}

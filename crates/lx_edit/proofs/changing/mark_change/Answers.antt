@@ -1,7 +1,6 @@
-use Rattle.std.proofs.Common.{◌≡◌, ◌≤◌, ◌-◌, ◌∙◌, ap, sym, subst, ℕ, false, None, Some}
+use Rattle.std.proofs.Common.{◌≡◌, ◌-◌, ◌∙◌, sym, subst, None}
 use Rattle.std.specs.Prelude.{Option}
 use Rattle.std.specs.Option.{option_copied}
-use Rattle.lx_base.specs.declared.TheConstants.{CHANNELS}
 use Rattle.lx_spec.specs.Show.{Cue}
 use Rattle.lx_spec.specs.Tracked.{tracked}
 use Rattle.lx_edit.specs.Changing.{move_by, SameEntry}

@@ -1,4 +1,4 @@
-use Rattle.std.proofs.Common.{◌≡◌, ◌<◌, ◌-◌, ◌/◌, ◌∙◌, ap, length, ℕ, rules}
+use Rattle.std.proofs.Common.{◌<◌, ◌-◌, ◌/◌, ◌∙◌, ap, length, ℕ, rules}
 use Rattle.std.specs.Prelude.{◌==◌, ◌||◌}
 use Rattle.lx_edit.specs.ChanSet.{has_chan}
 use Rattle.lx_edit.proofs.ChanBits.{has_chan-with, is_chan-in}
