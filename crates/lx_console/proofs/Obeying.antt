@@ -1,7 +1,7 @@
 -- A console that stands for a desk obeys as the desk steps.
 use Rattle.std.specs.Prelude.{◌≡◌, ℕ, ◌-◌, List, [], ◌∷◌, ◌++◌, Bool, true, false, cond, Result, Ok, Err, slice_set, IsOkAnd, IfOk, OnOk, OnErr, IfErr, IsTrue, IsFalse}
 use Rattle.std.specs.Result.{result_unwrap_or}
-use Rattle.std.proofs.Common.{ap, sym, subst, ◌∙◌}
+use Rattle.std.proofs.Common.{ap, sym, subst, ◌∙◌, inl}
 use Rattle.std.proofs.lemmas.List.Sums.{fold-append}
 use Rattle.lx_spec.specs.declared.PlayKey.{PlayKey}
 use Rattle.lx_spec.specs.declared.Key.TheVariants.{Play, Fader, Master}
@@ -17,7 +17,7 @@ use Rattle.lx_spec.specs.Stands.{Kept, kept}
 use Rattle.lx_spec.specs.Laws.{KeepsRest}
 use Rattle.lx_spec.specs.Show.{Show}
 use Rattle.lx_spec.proofs.RestKept.{kept-step, kept-replay}
-use Rattle.lx_console.specs.Standing.{StandsFor, Obeys}
+use Rattle.lx_console.specs.Standing.{StandsFor, Obeys, Answers, Refuses}
 
 -- a console that is all of a replayed desk but its list of runs stands for it
 pub stands_replay : (show : Show) (done : List Command) (console : Kept) → console ≡ kept (replay show done) → StandsFor (replay show done) console
@@ -97,3 +97,8 @@ obeys_master d level before now stands state = record {
   same = subst (λ (k : Kept). now ≡ record k { master = level }) stands.same state;
   rest = kept-step d (commands.Key (Master level)) stands.rest;
 }
+
+-- what obeys answers
+pub answers : {A : Type 0} (d : Desk) (command : Command) (answer : Result A Refusal) (now : Kept) → Obeys d command answer now → Answers d command answer now
+answers d command (Ok x) now obeys = record { ok = obeys.ok; err = tt }
+answers d command (Err refusal) now obeys = record { ok = tt; err = inl obeys.err }

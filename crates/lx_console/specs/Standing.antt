@@ -1,10 +1,11 @@
 -- What a console stands for, and what it has to tell of it.
-use Rattle.std.specs.Prelude.{◌≡◌, ℕ, [], Bool, true, false, max, Result, Err, OnOk, IfErr}
+use Rattle.std.specs.Prelude.{◌≡◌, ◌⊎◌, ℕ, [], Bool, true, false, max, Result, Err, OnOk, IfErr, IsOk}
 use Rattle.std.specs.Result.{IsOkAnd}
 use Rattle.lx_base.specs.Numbers.{scaled}
 use Rattle.lx_spec.specs.declared.Command.{Command}
 use Rattle.lx_spec.specs.declared.Command.TheVariants as commands
 use Rattle.lx_spec.specs.declared.Refusal.{Refusal}
+use Rattle.lx_spec.specs.declared.Refusal.TheVariants.{Memory}
 use Rattle.lx_spec.specs.Level.{level}
 use Rattle.lx_spec.specs.Playback.{Playback}
 use Rattle.lx_spec.specs.Desk.{Desk, step}
@@ -35,6 +36,21 @@ abbrev pub is_edit : Command → Bool
 is_edit (commands.Edit edit) = true
 is_edit (commands.Key key) = false
 is_edit commands.Tick = false
+
+-- want of memory refuses an edit that the desk accepts
+pub record WantsMemory (d : Desk) (command : Command) (refusal : Refusal) : Type 0 where
+  pub edit : is_edit command ≡ true
+  pub memory : refusal ≡ Memory
+  pub accepted : IsOk (step d command)
+
+-- a refusal is the desk's own, or want of memory at an edit
+abbrev pub Refuses : Desk → Command → Refusal → Type 0
+Refuses d command refusal = (step d command ≡ Err refusal) ⊎ WantsMemory d command refusal
+
+-- As `Obeys`, but that an edit may be refused for want of memory.
+pub record Answers {A : Type 0} (d : Desk) (command : Command) (answer : Result A Refusal) (console : Kept) : Type 0 where
+  pub ok : OnOk answer (IsOkAnd (step d command) (λ next. StandsFor next console))
+  pub err : IfErr answer (Refuses d command)
 
 -- at rest before and after, at the same position: no level changes, whatever moment it is
 pub record StaysAtRest (before after : Playback) : Type 0 where

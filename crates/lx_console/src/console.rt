@@ -9,7 +9,7 @@ ghost use Rattle.lx_spec.specs.Output.{dimmer_value, fader, frame};
 ghost use Rattle.lx_spec.specs.Desk.{Desk, opened};
 ghost use Rattle.lx_console.specs.Table.{IsTable};
 ghost use Rattle.lx_console.specs.Slots.{universe};
-ghost use Rattle.lx_console.specs.Standing.{StandsFor, Obeys, level_now, out_now, is_edit};
+ghost use Rattle.lx_console.specs.Standing.{StandsFor, Obeys, Answers, level_now, out_now, is_edit};
 
 use crate::stage::Stage;
 use crate::ticks::tick_of;
@@ -162,7 +162,7 @@ impl Console {
     /// A key or a tick, as by `press` and `tick`.
     pub fn command(&mut self, command: &Command) -> Result<(), Refusal>
         requires { IsFalse (is_edit command.now) }
-        ensures obeys { (d : Desk) → StandsFor d self.old → Obeys d command.now result self.new }
+        ensures answers { (d : Desk) → StandsFor d self.old → Answers d command.now result self.new }
         ensures unchanged { OnErr result (self.new ≡ self.old) }
     {
         match command {

@@ -1,0 +1,23 @@
+-- The replies of lines, as the code gives them.
+use Rattle.std.proofs.Common.{◌≡◌, ℕ, Option, Some, None, Result, Ok, Err, OnOk, List, [], refl, sym, ap, ◌∙◌, subst}
+use Rattle.lx_spec.specs.declared.Command.{Command}
+use Rattle.lx_spec.specs.declared.Line.{Line}
+use Rattle.lx_spec.specs.declared.Line.TheVariants as lines
+use Rattle.lx_spec.specs.declared.Refusal.{Refusal}
+use Rattle.lx_spec.specs.Desk.{Desk}
+use Rattle.lx_spec.specs.Output.{frame}
+use Rattle.lx_spec.specs.Replies.{Counts, frame_text}
+use Rattle.lx_script.specs.declared.reply.Reply.{Reply}
+use Rattle.lx_script.specs.Answers.{reply_text}
+use Rattle.lx_session.specs.Replying.{reply_to, counts_after}
+use Rattle.lx_session.specs.Counting.{reply_for, counted}
+
+pub frame_reply : (d : Desk) (line : Line) (u : ℕ) (r : Option Refusal) → line ≡ lines.Frame u → frame_text [] d.playback.moment u (frame d u) ≡ reply_to d (Some line) r
+frame_reply d line u r is = ap (λ v. reply_to d (Some v) r) (sym is)
+
+pub frame_counts : (d : Desk) (line : Line) (u : ℕ) (r : Option Refusal) (counts : Counts) → line ≡ lines.Frame u → counts ≡ counts_after d counts (Some line) r
+frame_counts d line u r counts is = ap (λ v. counts_after d counts (Some v) r) (sym is)
+
+pub on_ok : {T E : Type 0} (r : Result T E) (P : Type 0) → P → OnOk r P
+on_ok (Ok x) P p = p
+on_ok (Err e) P p = tt

@@ -1,0 +1,9 @@
+pub mod Meaning
+pub mod Turning
+pub mod Attempts
+pub mod Replying
+pub mod Answered
+pub mod Scripts
+pub mod Faults
+pub mod Counting
+pub mod Trying

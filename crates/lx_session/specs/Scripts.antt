@@ -1,0 +1,39 @@
+-- A session over the lines of a script.
+use Rattle.std.specs.Prelude.{◌≡◌, ℕ, ◌+◌, Option, List, take}
+use Rattle.std.specs.List.{position_or_len, before_first}
+use Rattle.std.specs.Io.KnownBytes.{Appends}
+use Rattle.lx_io.specs.Puts.{AppendsFront}
+use Rattle.lx_lex.specs.Lines.{first_lines}
+use Rattle.lx_spec.specs.Text.{lines_of}
+use Rattle.lx_spec.specs.Stands.{Kept}
+use Rattle.lx_spec.specs.Desk.{Desk}
+use Rattle.lx_spec.specs.Replies.{begun}
+use Rattle.lx_console.specs.Standing.{StandsFor}
+use Rattle.lx_session.specs.declared.tally.Tally.{Tally}
+use Rattle.lx_session.specs.Meaning.{ends_script, session_of, replies_of, after_lines}
+use Rattle.lx_session.specs.Attempts.{WantsAtEdits}
+use Rattle.lx_session.specs.Replying.{counts_in}
+
+-- how many lines a script wants to be read: those up to the one that ends it, or one more than there are
+abbrev pub lines_wanted : List (List ℕ) → ℕ
+lines_wanted script = position_or_len ends_script script + 1
+
+-- the bytes that a script wants to be read
+abbrev pub bytes_wanted : List ℕ → List ℕ
+bytes_wanted bytes = first_lines (lines_wanted (lines_of bytes)) bytes
+
+-- The whole script was answered from a desk on.
+pub record AnswersAll (d : Desk) (script : List (List ℕ)) (held held' : Option (List ℕ)) (console : Kept) (tally : Tally) : Type 0 where
+  pub places : List ℕ
+  pub wants : WantsAtEdits places (begun d) (before_first ends_script script)
+  pub text : Appends held held' (replies_of d script places)
+  pub stands : StandsFor (session_of d script places).desk console
+  pub counts : counts_in tally ≡ (session_of d script places).counts
+
+-- Some lines of the script were done, and a front of the text that answers the script was written.
+pub record AnswersFront (d : Desk) (script : List (List ℕ)) (held held' : Option (List ℕ)) (console : Kept) : Type 0 where
+  pub places : List ℕ
+  pub wants : WantsAtEdits places (begun d) (before_first ends_script script)
+  pub text : AppendsFront held held' (replies_of d script places)
+  pub done : ℕ
+  pub stands : StandsFor (after_lines places (begun d) (take done (before_first ends_script script))).desk console

@@ -1,0 +1,33 @@
+//! Why a session ended before its script did.
+
+ghost use Rattle.std.specs.Prelude.{◌≡◌};
+ghost use Rattle.lx_session.specs.Faults.{fault_of};
+
+use lx_io::SinkFault;
+
+/// Why a session ended before its script did.
+#[derive(Clone, Copy, Debug, PartialEq, Eq, thiserror::Error)]
+pub enum SessionFault {
+    /// The source failed at a read.
+    #[error("reading the script failed")]
+    ReadFault,
+    /// The sink failed at a write.
+    #[error("writing the replies failed")]
+    WriteFault,
+    /// The input has a line with a byte past the 67,108,864th.
+    #[error("the input is too long")]
+    InputTooLong,
+    /// The sink wanted memory in vain.
+    #[error("want of memory")]
+    Memory,
+}
+
+/// The sink's fault, as the session's.
+pub(crate) fn session_fault(fault: SinkFault) -> SessionFault
+    ensures { result ≡ fault_of fault }
+{
+    match fault {
+        SinkFault::Failed => SessionFault::WriteFault,
+        SinkFault::Memory => SessionFault::Memory,
+    }
+}

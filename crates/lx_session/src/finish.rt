@@ -1,0 +1,140 @@
+//! The reply to a line.
+
+ghost use Rattle.std.specs.Prelude.{◌≡◌, ◌<◌, ◌≤◌, ◌^◌, ◌+◌, ◌-◌, [], length, OnOk, IfOk, None, Some, not, true};
+ghost use Rattle.lx_base.specs.declared.TheConstants.{UNIVERSES, SLOTS};
+ghost use Rattle.lx_io.specs.Puts.{Puts};
+ghost use Rattle.lx_spec.specs.Desk.{Desk};
+ghost use Rattle.lx_spec.specs.Replies.{is_quit, frame_text};
+ghost use Rattle.lx_spec.specs.Output.{frame};
+ghost use Rattle.lx_script.specs.Answers.{reply_text};
+ghost use Rattle.lx_console.specs.Slots.{universe as universe_in};
+ghost use Rattle.lx_console.specs.Standing.{StandsFor};
+ghost use Rattle.lx_spec.specs.ValidEdit.{ValidLine};
+ghost use Rattle.lx_session.specs.Meaning.{is_built};
+ghost use Rattle.lx_session.specs.Turning.{next_of};
+ghost use Rattle.lx_session.specs.Replying.{reply_to, counts_after, counts_in};
+ghost use Rattle.lx_session.specs.Counting.{reply_for, counted};
+
+use crate::tally::Tally;
+use crate::turn::Turn;
+use lx_base::{Level, UNIVERSE_SLOTS};
+use lx_console::Console;
+use lx_io::{Sink, SinkFault};
+use lx_script::{Reply, put_frame, put_reply};
+use lx_spec::{Line, Refusal};
+
+impl Turn {
+    /// Appends the reply to the line after its attempts, and counts it. It answers false exactly for
+    /// `quit`.
+    ///
+    /// A fault comes only where the sink answered it in this call, and then a front of the reply was
+    /// appended.
+    pub fn finish<K: Sink>(
+        self,
+        console: &Console,
+        sink: &mut K,
+        tally: &mut Tally,
+    ) -> Result<bool, SinkFault>
+        requires over { next_of self ≡ None }
+        requires ok { tally.old.ok < 2 ^ 64 - 1 }
+        requires refused { tally.old.refused < 2 ^ 64 - 1 }
+        requires bad { tally.old.bad < 2 ^ 64 - 1 }
+        ensures text { (d : Desk) → StandsFor d console.now → Puts K.holds K.faults K.wants sink.old sink.new result (reply_to d self.meaning self.refusal) }
+        ensures counts { (d : Desk) → StandsFor d console.now → OnOk result (counts_in tally.new ≡ counts_after d (counts_in tally.old) self.meaning self.refusal) }
+        ensures quit { IfOk result (λ more. more ≡ not (is_quit self.meaning)) }
+        ensures more_ok { tally.new.ok ≤ tally.old.ok + 1 }
+        ensures more_refused { tally.new.refused ≤ tally.old.refused + 1 }
+        ensures more_bad { tally.new.bad ≤ tally.old.bad + 1 }
+    {
+        match &self.meaning {
+            None => give(Reply::Bad, sink, tally),
+            Some(line) => reply_to_line(line, self.refusal, console, sink, tally),
+        }
+    }
+}
+
+/// Appends the reply to a line that has a meaning, and counts it.
+fn reply_to_line<K: Sink>(
+    line: &Line,
+    refusal: Option<Refusal>,
+    console: &Console,
+    sink: &mut K,
+    tally: &mut Tally,
+) -> Result<bool, SinkFault>
+    requires valid { ValidLine line.now }
+    requires built { is_built line.now ≡ true }
+    requires ok { tally.old.ok < 2 ^ 64 - 1 }
+    requires refused { tally.old.refused < 2 ^ 64 - 1 }
+    requires bad { tally.old.bad < 2 ^ 64 - 1 }
+    ensures text { (d : Desk) → StandsFor d console.now → Puts K.holds K.faults K.wants sink.old sink.new result (reply_to d (Some line.now) refusal) }
+    ensures counts { (d : Desk) → StandsFor d console.now → OnOk result (counts_in tally.new ≡ counts_after d (counts_in tally.old) (Some line.now) refusal) }
+    ensures quit { IfOk result (λ more. more ≡ not (is_quit (Some line.now))) }
+    ensures more_ok { tally.new.ok ≤ tally.old.ok + 1 }
+    ensures more_refused { tally.new.refused ≤ tally.old.refused + 1 }
+    ensures more_bad { tally.new.bad ≤ tally.old.bad + 1 }
+{
+    match line {
+        Line::Command(_) => give(reply_of(refusal), sink, tally),
+        Line::Ticks(_) => give(reply_of(refusal), sink, tally),
+        Line::Frame(universe) => put_universe(*universe, console, sink),
+        Line::Save | Line::SheetOf(_) => unreachable!(),
+        Line::Quit => Ok(false),
+        Line::Blank => Ok(true),
+    }
+}
+
+/// The reply to what was accepted or refused.
+fn reply_of(refusal: Option<Refusal>) -> Reply
+    ensures { result ≡ reply_for refusal }
+{
+    match refusal {
+        None => Reply::Ok,
+        Some(refusal) => Reply::Refused(refusal),
+    }
+}
+
+/// Appends a reply, and counts it.
+fn give<K: Sink>(reply: Reply, sink: &mut K, tally: &mut Tally) -> Result<bool, SinkFault>
+    requires ok { tally.old.ok < 2 ^ 64 - 1 }
+    requires refused { tally.old.refused < 2 ^ 64 - 1 }
+    requires bad { tally.old.bad < 2 ^ 64 - 1 }
+    ensures text { Puts K.holds K.faults K.wants sink.old sink.new result (reply_text reply) }
+    ensures counts { counts_in tally.new ≡ counted reply (counts_in tally.old) }
+    ensures more { IfOk result (λ more. more ≡ true) }
+{
+    match reply {
+        Reply::Ok => tally.ok += 1,
+        Reply::Bad => tally.bad += 1,
+        Reply::Refused(_) => tally.refused += 1,
+    }
+    put_reply(&reply, sink)?;
+    Ok(true)
+}
+
+/// Appends the frame line of a universe.
+fn put_universe<K: Sink>(
+    universe: u8,
+    console: &Console,
+    sink: &mut K,
+) -> Result<bool, SinkFault>
+    requires least { 1 ≤ universe }
+    requires most { universe ≤ UNIVERSES }
+    ensures text { (d : Desk) → StandsFor d console.now → Puts K.holds K.faults K.wants sink.old sink.new result (frame_text [] d.playback.moment universe (frame d universe)) }
+    ensures more { IfOk result (λ more. more ≡ true) }
+{
+    let slots = slots_of(universe, console.frames());
+    put_frame(None, console.moment(), universe, slots, sink)?;
+    Ok(true)
+}
+
+/// The slots of a universe.
+fn slots_of(universe: u8, slots: &[Level]) -> &[Level]
+    requires least { 1 ≤ universe }
+    requires most { universe ≤ UNIVERSES }
+    requires all { length slots.now ≡ SLOTS }
+    ensures slots { result.now ≡ universe_in universe slots.now }
+    ensures full { length result.now ≡ UNIVERSE_SLOTS }
+{
+    let start = (universe as usize - 1) * UNIVERSE_SLOTS;
+    &slots[start..start + UNIVERSE_SLOTS]
+}

@@ -1,0 +1,13 @@
+//! A session: the lines of a script, each taken through its commands on a console and answered.
+#![tactic(auto)]
+
+mod answering;
+mod fault;
+mod finish;
+mod tally;
+mod turn;
+
+pub use answering::answer;
+pub use fault::SessionFault;
+pub use tally::Tally;
+pub use turn::Turn;
