@@ -3,6 +3,8 @@ use Rattle.std.specs.Prelude.{◌≡◌, ℕ, length}
 use Rattle.lx_base.specs.declared.TheConstants.{SUBS, SLOTS, RUNS}
 use Rattle.lx_spec.specs.Output.{contribution, dimmer_value}
 use Rattle.lx_spec.specs.Stands.{Kept}
+use Rattle.lx_sheet.specs.Rows.{Sheet}
+use Rattle.lx_sheet.specs.Standing.{StandsFor}
 use Rattle.lx_console.specs.declared.stage.Stage.{Stage}
 use Rattle.lx_console.specs.Table.{IsTable}
 use Rattle.lx_console.specs.Standing.{level_now, out_now}
@@ -15,11 +17,16 @@ pub record Reaches (channels : ℕ) (stage : Stage) : Type 0 where
   pub slots_reach : length stage.slots.items ≡ SLOTS
   pub room : length stage.row.items ≡ RUNS
 
--- a fader for each submaster number, and the stage is filled in
+-- the stage is filled in
 pub record IsFilled (console : Kept) (stage : Stage) : Type 0 where
-  pub faders : length console.faders ≡ SUBS
   pub reaches : Reaches console.show.channels stage
   pub levels_stand : IsTable console.show.channels (level_now console) stage.levels.items
   pub given_stand : IsTable console.show.channels (contribution console.show console.faders) stage.given.items
   pub outs_stand : IsTable console.show.channels (out_now console) stage.outs.items
   pub slots_stand : IsTable SLOTS (dimmer_value console.show (out_now console)) stage.slots.items
+
+-- the rows stand for the show, there is a fader for each submaster number, and the stage is filled in
+pub record IsKept (console : Kept) (sheet : Sheet) (stage : Stage) : Type 0 where
+  pub rows : StandsFor console.show sheet
+  pub faders : length console.faders ≡ SUBS
+  pub filled : IsFilled console stage

@@ -6,7 +6,7 @@ ghost use Rattle.lx_base.specs.Numbers.{scaled};
 ghost use Rattle.lx_spec.specs.Level.{level};
 ghost use Rattle.lx_spec.specs.Output.{contribution, dimmer_value};
 ghost use Rattle.lx_console.specs.Table.{IsTable};
-ghost use Rattle.lx_console.specs.Filled.{Reaches};
+ghost use Rattle.lx_console.specs.Filled.{Reaches, IsFilled};
 
 use crate::levels::fill_levels;
 use crate::output::fill_outputs;
@@ -52,6 +52,17 @@ impl Stage {
             slots: vec![in alloc; 0; SLOTS]?,
             row: vec![in alloc; NO_FADE; RUNS]?,
         })
+    }
+
+    /// Fills in all of it.
+    pub(crate) fn fill(&mut self, show: &Show, playback: &Playback, faders: &[Level], master: Level)
+        requires reaches { Reaches show.now.channels self.old }
+        requires faders { SUBS ≤ length faders.now }
+        ensures { IsFilled (record { show = show.now; playback = playback.now; faders = faders.now; master = master }) self.new }
+    {
+        self.fill_levels(show, playback);
+        self.fill_contributions(show, faders);
+        self.fill_outputs(show, master);
     }
 
     /// Fills in the levels.
