@@ -72,7 +72,7 @@ impl Console {
         let faders = vec![in alloc; 0; SUBS as usize]?;
         let master = 255;
         let mut stage = Stage::open(alloc, show.channels())?;
-        stage.fill(&show, &playback, &faders, master);
+        stage.fill(&show, &sheet, &playback, &faders, master);
         Ok(Console {
             alloc,
             show,
@@ -208,8 +208,13 @@ impl Console {
     {
         let before = std::mem::replace(&mut self.show, show);
         self.sheet.refill(&self.show);
-        self.stage
-            .fill(&self.show, &self.playback, &self.faders, self.master);
+        self.stage.fill(
+            &self.show,
+            &self.sheet,
+            &self.playback,
+            &self.faders,
+            self.master,
+        );
         before
     }
 }
@@ -223,9 +228,15 @@ impl Console {
         ensures unchanged { OnErr result (self.new ≡ self.old) }
     {
         let plan = plan(self.alloc, &self.show, edit)?;
-        let _ = plan.apply(&mut self.show, &mut self.sheet);
-        self.stage
-            .fill(&self.show, &self.playback, &self.faders, self.master);
+        let dirty = plan.apply(&mut self.show, &mut self.sheet);
+        self.stage.mend(
+            &self.show,
+            &self.sheet,
+            &self.playback,
+            &self.faders,
+            self.master,
+            &dirty,
+        );
         Ok(())
     }
 
@@ -236,7 +247,8 @@ impl Console {
         ensures unchanged { OnErr result (self.new ≡ self.old) }
     {
         if tick_of(&mut self.playback, &self.show)? {
-            self.stage.fill_levels(&self.show, &self.playback);
+            self.stage
+                .fill_levels(&self.show, &self.sheet, &self.playback);
             self.stage.fill_outputs(&self.show, self.master);
         }
         Ok(())
@@ -249,7 +261,8 @@ impl Console {
         ensures unchanged { OnErr result (self.new ≡ self.old) }
     {
         self.playback.press(&self.show, key)?;
-        self.stage.fill_levels(&self.show, &self.playback);
+        self.stage
+            .fill_levels(&self.show, &self.sheet, &self.playback);
         self.stage.fill_outputs(&self.show, self.master);
         Ok(())
     }
