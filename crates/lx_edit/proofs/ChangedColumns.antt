@@ -1,0 +1,192 @@
+-- Channels that see no difference where a cue is changed, added or taken out.
+use Rattle.std.proofs.Common.{◌≡◌, ℕ, ◌-◌, ◌≤◌, Bool, true, false, cond, List, [], ◌∷◌, ◌++◌, map, Some, None, refl, ◌∙◌, sym, ap, subst, inl, inr, arith}
+use Rattle.std.specs.Prelude.{Option, IfSome, IsTrue, is_some, not, ◌||◌, ◌&&◌, ◌==◌, nat_le, reverse}
+use Rattle.std.specs.Option.{option_map_or}
+use Rattle.std.specs.List.{AllByRecursion}
+use Rattle.std.proofs.lemmas.Bool.{cases_eq, cases_lt, false≢true}
+use Rattle.std.proofs.lemmas.Bool.Decides.{nat_tests}
+use Rattle.lx_base.specs.declared.TheConstants.{CHANNELS}
+use Rattle.lx_spec.specs.declared.Move.{Move}
+use Rattle.lx_spec.specs.Listing.{Rises, entry_at, placed, taken_out, entries_above, entries_below}
+use Rattle.lx_spec.specs.Show.{Cue, Show, Valid, ValidCue}
+use Rattle.lx_spec.specs.Tracked.{tracked, cue_of, move_of, move_in, level_in, decides}
+use Rattle.lx_spec.specs.Edited.{with_cue, without_cue}
+use Rattle.lx_spec.specs.Laws.{SameColumn}
+use Rattle.lx_show.specs.Around.{entries_up_to}
+use Rattle.lx_show.proofs.Placed.{placed_same, entry_at-placed_here, entry_at-placed_other}
+use Rattle.lx_show.proofs.RisingLists.{each, filter_all, find_none, found_number, found_valid, found_has, all_reverse}
+use Rattle.lx_sheet.proofs.Past.{tracked_past}
+use Rattle.lx_edit.specs.declared.chan_set.ChanSet.{ChanSet}
+use Rattle.lx_edit.specs.ChanSet.{has_chan}
+use Rattle.lx_edit.specs.Changing.{move_by, is_block, level_from, SameEntry}
+use Rattle.lx_edit.proofs.Lists.{find_in_filter, map_append}
+use Rattle.lx_edit.proofs.Tracking.{through, walked, tracked-with_cue, tracked-without_cue, tracked_below-with_cue, tracked_below-without_cue}
+
+-- Moves that are marked where they differ.
+found_step : (chans : ChanSet) (moves : List Move) (other : Option Cue) (c : ℕ) (o : Option Move) → entry_at (λ m. m.chan) c moves ≡ o → has_chan chans c ≡ false → AllByRecursion (λ m. has_chan chans m.chan ≡ false → move_by other m.chan ≡ Some m) moves → IfSome o (λ m. move_by other c ≡ Some m)
+found_step chans moves other c None is out all = tt
+found_step chans moves other c (Some m) is out all =
+    let here : c ≡ m.chan = found_number (λ (x : Move). x.chan) c moves m is in
+    let marked : has_chan chans m.chan ≡ false → move_by other m.chan ≡ Some m = found_valid (λ (x : Move). has_chan chans x.chan ≡ false → move_by other x.chan ≡ Some x) (λ (x : Move). x.chan) c moves m all is in
+    subst (λ k. has_chan chans k ≡ false → move_by other k ≡ Some m) (sym here) marked out
+
+pub found_marked : (chans : ChanSet) (cue : Cue) (other : Option Cue) (c : ℕ) → has_chan chans c ≡ false → AllByRecursion (λ m. has_chan chans m.chan ≡ false → move_by other m.chan ≡ Some m) cue.moves → IfSome (move_by (Some cue) c) (λ m. move_by other c ≡ Some m)
+found_marked chans cue other c out all = found_step chans cue.moves other c (move_in cue c) refl out all
+
+pub same_both_ways : (a b : Option Move) → IfSome a (λ m. b ≡ Some m) → IfSome b (λ m. a ≡ Some m) → a ≡ b
+same_both_ways None None there back = refl
+same_both_ways None (Some m) there back = back
+same_both_ways (Some m) b there back = sym there
+
+level_step : (one other : Bool) (m : Option Move) (base : ℕ) → (m ≡ None → base ≡ 0) → cond (one || is_some m) (option_map_or (λ x. x.level) m 0) base ≡ cond (other || is_some m) (option_map_or (λ x. x.level) m 0) base
+level_step true true m base none = refl
+level_step false false m base none = refl
+level_step true false None base none = sym (none refl)
+level_step false true None base none = none refl
+level_step true false (Some m) base none = refl
+level_step false true (Some m) base none = refl
+
+-- the same moves, and nothing tracks in where there are none
+pub same_entry : (old new : Option Cue) (c base : ℕ) → move_by old c ≡ move_by new c → (move_by new c ≡ None → base ≡ 0) → SameEntry old new c base
+same_entry old new c base moves none = record {
+  moves = moves;
+  level = ap (λ (m : Option Move). cond (is_block old || is_some m) (option_map_or (λ x. x.level) m 0) base) moves ∙ level_step (is_block old) (is_block new) (move_by new c) base none;
+}
+
+none_at : (a : ℕ) → 1 ≤ a → (a == 0) ≡ false
+none_at a least = grind (arith, nat_tests)
+
+no_level : (channels : ℕ) (cue : Cue) → ValidCue channels cue → level_in cue 0 ≡ 0
+no_level channels cue valid =
+    let none : move_in cue 0 ≡ None = find_none (λ m. m.chan == 0) cue.moves (each _ _ cue.moves (λ m h. none_at m.chan h.chan.least) valid.moves) in
+    ap (λ (o : Option Move). option_map_or (λ m. m.level) o 0) none
+
+no_level_found : (channels : ℕ) (o : Option Cue) → IfSome o (ValidCue channels) → option_map_or (λ cue. level_in cue 0) o 0 ≡ 0
+no_level_found channels None valid = refl
+no_level_found channels (Some cue) valid = no_level channels cue valid
+
+-- 0 is no channel
+tracked_none : (show : Show) (n : ℕ) → Valid show → tracked show n 0 ≡ 0
+tracked_none show n valid = no_level_found show.channels _ (found_has (ValidCue show.channels) (λ cue. nat_le cue.number n && decides cue 0) (reverse show.cues) _ refl (all_reverse (ValidCue show.channels) show.cues valid.cues))
+
+zero_or : (c : ℕ) → (1 ≤ c → ⊥) → c ≡ 0
+zero_or c none = omega arith
+
+-- a channel at which nothing tracks in, as far as channels go
+pub nothing_tracks : (show : Show) (n c : ℕ) → Valid show → (1 ≤ c → c ≤ CHANNELS → tracked show n c ≡ 0) → tracked show n c ≡ 0
+nothing_tracks show n c valid within = elim (cases_lt c 1) [
+  | inl none ↦ ap (tracked show n) (omega (arith, none)) ∙ tracked_none show n valid
+  | inr some ↦ elim (cases_lt CHANNELS c) [
+    | inl past ↦
+        let few : show.channels ≤ CHANNELS = valid.channels.most in
+        tracked_past show n c valid (omega (arith, few, past))
+    | inr in_range ↦ within some in_range
+  ]
+]
+
+-- Columns of shows.
+fails_from : (a : Bool) (A : Type 0) (x : A) (rest : Option A) → cond a (Some x) rest ≡ None → a ≡ false
+fails_from true A x rest is = cc
+fails_from false A x rest is = refl
+
+rest_from : (a : Bool) (A : Type 0) (x : A) (rest : Option A) → cond a (Some x) rest ≡ None → rest ≡ None
+rest_from true A x rest is = cc
+rest_from false A x rest is = is
+
+absent_all : {A : Type 0} (key : A → ℕ) (n : ℕ) (xs : List A) → entry_at key n xs ≡ None → AllByRecursion (λ x. not (key x == n) ≡ true) xs
+absent_all key n [] is = tt
+absent_all {A} key n (x ∷ xs) is = (ap not (fails_from (key x == n) A x (entry_at key n xs) is), absent_all key n xs (rest_from (key x == n) A x (entry_at key n xs) is))
+
+-- what is absent is not taken out
+pub taken_absent : {A : Type 0} (key : A → ℕ) (n : ℕ) (xs : List A) → entry_at key n xs ≡ None → taken_out key n xs ≡ xs
+taken_absent key n xs is = filter_all _ xs (absent_all key n xs is)
+
+abbrev later : Show → ℕ → ℕ → List Cue
+later show n m = entries_up_to (λ cue. cue.number) m (entries_above (λ cue. cue.number) n show.cues)
+
+with_at : (show : Show) (cue : Cue) (n m c : ℕ) → cue.number ≡ n → 1 ≤ n → n ≤ m → tracked (with_cue show cue) m c ≡ walked c (level_from (Some cue) c (tracked show (n - 1) c)) (later show n m)
+with_at show cue n m c same least le =
+    let P : ℕ → Type 0 = λ k. 1 ≤ k → k ≤ m → tracked (with_cue show cue) m c ≡ walked c (through c (tracked show (k - 1) c) cue) (later show k m) in
+    subst P same (λ a b. tracked-with_cue show cue m c a b) least le
+
+split_step : (show : Show) (n m c : ℕ) (o : Option Cue) → cue_of show n ≡ o → Valid show → 1 ≤ n → n ≤ m → tracked show m c ≡ walked c (level_from o c (tracked show (n - 1) c)) (later show n m)
+split_step show n m c None is valid least le =
+    ap (λ (cues : List Cue). tracked (record show { cues = cues }) m c) (sym (taken_absent (λ (x : Cue). x.number) n show.cues is)) ∙ tracked-without_cue show n m c valid.cues_rise least le
+split_step show n m c (Some old) is valid least le =
+    let number : n ≡ old.number = found_number (λ (x : Cue). x.number) n show.cues old is in
+    let there : entry_at (λ (x : Cue). x.number) old.number show.cues ≡ Some old = subst (λ k. entry_at (λ (x : Cue). x.number) k show.cues ≡ Some old) number is in
+    ap (λ (cues : List Cue). tracked (record show { cues = cues }) m c) (sym (placed_same (λ (x : Cue). x.number) old show.cues valid.cues_rise there)) ∙ with_at show old n m c (sym number) least le
+
+-- the tracked level from a number on, by what comes at the number
+tracked_split : (show : Show) (n m c : ℕ) → Valid show → 1 ≤ n → n ≤ m → tracked show m c ≡ walked c (level_from (cue_of show n) c (tracked show (n - 1) c)) (later show n m)
+tracked_split show n m c valid least le = split_step show n m c (cue_of show n) refl valid least le
+
+move_with : (show : Show) (cue : Cue) (n c k : ℕ) → cue.number ≡ n → move_by (cue_of show n) c ≡ move_by (Some cue) c → move_of show k c ≡ move_of (with_cue show cue) k c
+move_with show cue n c k same moves = elim (cases_eq k n) [
+  | inl here ↦
+      subst (λ j. move_of show j c ≡ move_of (with_cue show cue) j c) (sym here) (moves ∙ sym (ap (λ (o : Option Cue). move_by o c) (entry_at-placed_here (λ (x : Cue). x.number) n cue show.cues same)))
+  | inr other ↦ sym (ap (λ (o : Option Cue). move_by o c) (entry_at-placed_other (λ (x : Cue). x.number) k cue show.cues (λ is. other (sym is ∙ same))))
+]
+
+level_with : (show : Show) (cue : Cue) (n c k : ℕ) → Valid show → cue.number ≡ n → 1 ≤ n → SameEntry (cue_of show n) (Some cue) c (tracked show (n - 1) c) → tracked show k c ≡ tracked (with_cue show cue) k c
+level_with show cue n c k valid same least entry = elim (cases_lt k n) [
+  | inl low ↦ sym (tracked_below-with_cue show cue k c (omega (arith, low, same)))
+  | inr high ↦ tracked_split show n k c valid least high ∙ ap (λ base. walked c base (later show n k)) entry.level ∙ sym (with_at show cue n k c same least high)
+]
+
+-- a cue placed, of which the channel sees no difference
+pub column_with : (show : Show) (cue : Cue) (n c : ℕ) → Valid show → cue.number ≡ n → 1 ≤ n → SameEntry (cue_of show n) (Some cue) c (tracked show (n - 1) c) → SameColumn show (with_cue show cue) c
+column_with show cue n c valid same least entry = record {
+  moves = λ k. move_with show cue n c k same entry.moves;
+  levels = λ k. level_with show cue n c k valid same least entry;
+}
+
+not_here : (a n : ℕ) → a ≡ n → not (a == n) ≡ false
+not_here a n is = grind (arith, nat_tests)
+
+gone : {A : Type 0} (key : A → ℕ) (n : ℕ) (xs : List A) → entry_at key n (taken_out key n xs) ≡ None
+gone key n [] = refl
+gone key n (x ∷ xs) = elim (cases_eq (key x) n) [
+  | inl here ↦ rw (not_here (key x) n here) (gone key n xs)
+  | inr other ↦ rw (differs (key x) n other) (rw (differs (key x) n other) (gone key n xs))
+] where
+  differs : (a b : ℕ) → (a ≡ b → ⊥) → (a == b) ≡ false
+  differs a b other = grind (arith, nat_tests)
+
+other_stays : (a k n : ℕ) → (k ≡ n → ⊥) → (a == k) ≡ true → not (a == n) ≡ true
+other_stays a k n other is = grind (arith, nat_tests)
+
+move_without : (show : Show) (n c k : ℕ) → move_by (cue_of show n) c ≡ None → move_of show k c ≡ move_of (without_cue show n) k c
+move_without show n c k none = elim (cases_eq k n) [
+  | inl here ↦ subst (λ j. move_of show j c ≡ move_of (without_cue show n) j c) (sym here) (none ∙ sym (ap (λ (o : Option Cue). move_by o c) (gone (λ (x : Cue). x.number) n show.cues)))
+  | inr other ↦ sym (ap (λ (o : Option Cue). move_by o c) (find_in_filter (λ (x : Cue). x.number == k) (λ (x : Cue). not (x.number == n)) show.cues (λ x h. other_stays x.number k n other h)))
+]
+
+level_without : (show : Show) (n c k : ℕ) → Valid show → 1 ≤ n → SameEntry (cue_of show n) None c (tracked show (n - 1) c) → tracked show k c ≡ tracked (without_cue show n) k c
+level_without show n c k valid least entry = elim (cases_lt k n) [
+  | inl low ↦ sym (tracked_below-without_cue show n k c valid.cues_rise low)
+  | inr high ↦ tracked_split show n k c valid least high ∙ ap (λ base. walked c base (later show n k)) entry.level ∙ sym (tracked-without_cue show n k c valid.cues_rise least high)
+]
+
+-- a cue taken out, of which the channel sees no difference
+pub column_without : (show : Show) (n c : ℕ) → Valid show → 1 ≤ n → SameEntry (cue_of show n) None c (tracked show (n - 1) c) → SameColumn show (without_cue show n) c
+column_without show n c valid least entry = record {
+  moves = λ k. move_without show n c k entry.moves;
+  levels = λ k. level_without show n c k valid least entry;
+}
+
+-- Numbers of cues.
+placed_numbers : {A : Type 0} (key : A → ℕ) (x y : A) (xs : List A) → key x ≡ key y → map key (placed key x xs) ≡ map key (placed key y xs)
+placed_numbers {A} key x y xs same =
+    let P : ℕ → Type 0 = λ k. map key (entries_below key (key x) xs ++ (x ∷ entries_above key (key x) xs)) ≡ map key (entries_below key k xs ++ (y ∷ entries_above key k xs)) in
+    subst P same (map_append key (entries_below key (key x) xs) (x ∷ entries_above key (key x) xs) ∙ ap (λ k. map key (entries_below key (key x) xs) ++ (k ∷ map key (entries_above key (key x) xs))) same ∙ sym (map_append key (entries_below key (key x) xs) (y ∷ entries_above key (key x) xs)))
+
+numbers_step : {A : Type 0} (key : A → ℕ) (x : A) (xs : List A) (o : Option A) → entry_at key (key x) xs ≡ o → IsTrue (is_some o) → Rises key xs → map key (placed key x xs) ≡ map key xs
+numbers_step key x xs None is there rises = absurd (false≢true there)
+numbers_step {A} key x xs (Some y) is there rises =
+    let same : key x ≡ key y = found_number key (key x) xs y is in
+    placed_numbers key x y xs same ∙ ap (map key) (placed_same key y xs rises (subst (λ k. entry_at key k xs ≡ Some y) same is))
+
+-- a cue in the place of one that is there leaves the numbers
+pub numbers_with : (show : Show) (cue : Cue) → Valid show → IsTrue (is_some (cue_of show cue.number)) → map (λ x. x.number) (with_cue show cue).cues ≡ map (λ x. x.number) show.cues
+numbers_with show cue valid there = numbers_step (λ (x : Cue). x.number) cue show.cues (cue_of show cue.number) refl there valid.cues_rise

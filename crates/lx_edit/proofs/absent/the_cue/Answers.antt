@@ -1,0 +1,20 @@
+use Rattle.std.proofs.Common.{◌≡◌, ℕ, List, Some, ap, sym, subst}
+use Rattle.lx_spec.specs.Show.{Cue}
+use Rattle.lx_spec.specs.Listing.{entry_at}
+use Rattle.lx_show.proofs.RisingLists.{found_number}
+use Rattle.lx_show.proofs.Placed.{placed_same}
+use Rattle.lx_edit.proofs.absent.the_cue.Goals as goal
+
+pub returns-in-Some : goal.returns-in-Some
+returns-in-Some c =
+    let show = c.args.show.now in
+    let cue = c.in-Some.cue.now in
+    let found : entry_at (λ (x : Cue). x.number) c.args.n show.cues ≡ Some cue = sym c.in-Some.ensures.cue in
+    let number : c.args.n ≡ cue.number = found_number (λ (x : Cue). x.number) c.args.n show.cues cue found in
+    let there : entry_at (λ (x : Cue). x.number) cue.number show.cues ≡ Some cue = subst (λ (k : ℕ). entry_at (λ (x : Cue). x.number) k show.cues ≡ Some cue) number found in
+    record {
+      found = found;
+      number = sym number;
+      valid = c.in-Some.ensures.valid;
+      same = ap (λ (cues : List Cue). record show { cues = cues }) (placed_same (λ (x : Cue). x.number) cue show.cues c.channels.ensures.valid.cues_rise there);
+    }

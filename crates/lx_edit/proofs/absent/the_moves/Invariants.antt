@@ -1,0 +1,8 @@
+use Rattle.std.proofs.Common.{◌≡◌, ◌+◌, ◌-◌}
+use Rattle.std.specs.Prelude.{find, is_none}
+use Rattle.std.specs.List.{range_with_len}
+use Rattle.lx_spec.specs.Tracked.{move_in}
+use Rattle.lx_edit.proofs.absent.the_moves.Given as goal
+
+abbrev pub invariant-loop-n : goal.invariant-loop-n
+invariant-loop-n l = find (λ c. is_none (move_in l.cue c)) (range_with_len l.first (l.last + 1 - l.first)) ≡ find (λ c. is_none (move_in l.cue c)) (range_with_len l.n (l.last + 1 - l.n))

@@ -1,0 +1,46 @@
+use Rattle.std.proofs.Common.{◌≡◌, ◌<◌, ◌≤◌, ◌-◌, ◌∙◌, ap, sym, subst, false, Some, ℕ, rules}
+use Rattle.std.specs.Prelude.{IsTrue, is_some}
+use Rattle.lx_spec.specs.Show.{Show, Cue, Valid}
+use Rattle.lx_spec.specs.Tracked.{cue_of, tracked}
+use Rattle.lx_spec.specs.Edited.{with_cue}
+use Rattle.lx_spec.specs.Laws.{SameColumn}
+use Rattle.lx_sheet.specs.Standing.{cue_numbers}
+use Rattle.lx_edit.specs.declared.chan_set.ChanSet.{ChanSet}
+use Rattle.lx_edit.specs.ChanSet.{has_chan}
+use Rattle.lx_edit.specs.Changing.{SameEntry, KeepsOthers}
+use Rattle.lx_edit.proofs.ChangedColumns.{column_with, numbers_with}
+use Rattle.lx_edit.proofs.Tracking.{tracked_below-with_cue}
+use Rattle.lx_edit.proofs.applying.place_cue.Goals as goal
+
+-- the channels that aren't marked see no difference
+others : (show new : Show) (cue : Cue) (n : ℕ) (chans : ChanSet) → Valid show → new ≡ with_cue show cue → cue.number ≡ n → 1 ≤ cue.number → ((x : ℕ) → has_chan chans x ≡ false → SameEntry (cue_of show n) (Some cue) x (tracked show (n - 1) x)) → KeepsOthers show new chans
+others show new cue n chans valid is number least entry = λ x out.
+    subst (λ (s : Show). SameColumn show s x) (sym is) (column_with show cue n x valid number (subst (λ k. 1 ≤ k) number least) (entry x out))
+
+pub mend-requires-clause-numbers : goal.mend-requires-clause-numbers
+mend-requires-clause-numbers c =
+    let show = c.args.show.now in
+    let there : IsTrue (is_some (cue_of show c.args.cue.number)) = search rules in
+    c.requires.sheet.numbers ∙ sym (ap cue_numbers c.put_cue.ensures ∙ numbers_with show c.args.cue c.channels.ensures.valid there)
+
+pub mend-requires-clause-below : goal.mend-requires-clause-below
+mend-requires-clause-below c =
+    let show = c.args.show.now in
+    let number : c.cue.inside.number ≡ c.args.cue.number = ap (λ (q : Cue). q.number) c.cue.view_is in
+    λ x m less. c.requires.sheet.columns x m ∙ sym (ap (λ (s : Show). tracked s m x) c.put_cue.ensures ∙ tracked_below-with_cue show c.args.cue m x (subst (λ (k : ℕ). m < k) number less))
+
+pub mend-requires-clause-others : goal.mend-requires-clause-others
+mend-requires-clause-others c =
+    let show = c.args.show.now in
+    let number : c.cue.inside.number ≡ c.args.cue.number = ap (λ (q : Cue). q.number) c.cue.view_is in
+    λ x out m. c.requires.sheet.columns x m ∙ (others show c.put_cue.new.self c.args.cue c.cue.inside.number c.mark_change.new.chans c.channels.ensures.valid c.put_cue.ensures (sym number) c.requires.ready.valid.number.least c.mark_change.ensures.same x out).levels m
+
+pub returns-then-there-clause-others : goal.returns-then-there-clause-others
+returns-then-there-clause-others c =
+    let number : c.cue.inside.number ≡ c.args.cue.number = ap (λ (q : Cue). q.number) c.cue.view_is in
+    others c.args.show.now c.put_cue.new.self c.args.cue c.cue.inside.number c.mark_change.new.chans c.channels.ensures.valid c.put_cue.ensures (sym number) c.requires.ready.valid.number.least c.mark_change.ensures.same
+
+pub returns-else-there-clause-others : goal.returns-else-there-clause-others
+returns-else-there-clause-others c =
+    let number : c.cue.inside.number ≡ c.args.cue.number = ap (λ (q : Cue). q.number) c.cue.view_is in
+    others c.args.show.now c.put_cue.new.self c.args.cue c.cue.inside.number c.mark_change.new.chans c.channels.ensures.valid c.put_cue.ensures (sym number) c.requires.ready.valid.number.least c.mark_change.ensures.same

@@ -1,0 +1,21 @@
+use Rattle.std.proofs.Common.{◌≡◌, ◌-◌, ◌∙◌, sym, subst, None}
+use Rattle.std.specs.Prelude.{Option}
+use Rattle.std.specs.Option.{option_copied}
+use Rattle.lx_spec.specs.Show.{Cue}
+use Rattle.lx_spec.specs.Tracked.{tracked}
+use Rattle.lx_edit.specs.Changing.{move_by, SameEntry}
+use Rattle.lx_edit.proofs.ChangedColumns.{same_both_ways, same_entry, nothing_tracks}
+use Rattle.lx_edit.proofs.changing.mark_change.Goals as goal
+
+pub returns-then-is_block-clause-same : goal.returns-then-is_block-clause-same
+returns-then-is_block-clause-same c =
+    let show = c.args.show.now in
+    let n = c.args.n in
+    let old = option_copied c.cue-old.result in
+    let new = option_copied c.args.new in
+    λ x out.
+    let second = c.mark_tracked.ensures.grows x out in
+    let first = c.mark_moves-2.ensures.grows x second in
+    let moves : move_by old x ≡ move_by new x = same_both_ways (move_by old x) (move_by new x) (c.mark_moves.ensures.marked x first) (c.mark_moves-2.ensures.marked x second) in
+    let none : move_by new x ≡ None → tracked show (n - 1) x ≡ 0 = λ absent. nothing_tracks show (n - 1) x c.channels.ensures.valid (λ least most. sym (c.requires.columns x (n - 1)) ∙ c.mark_tracked.ensures.marked x least most out absent) in
+    subst (λ (o : Option Cue). SameEntry o new x (tracked show (n - 1) x)) c.cue-old.ensures.cue (same_entry old new x (tracked show (n - 1) x) moves none)

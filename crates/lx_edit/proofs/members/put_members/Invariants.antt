@@ -1,0 +1,7 @@
+use Rattle.std.proofs.Common.{◌≡◌, take}
+use Rattle.lx_spec.specs.Show.{ValidMembers}
+use Rattle.lx_spec.specs.Edited.{with_members}
+use Rattle.lx_edit.proofs.members.put_members.Given as goal
+
+abbrev pub invariant-loop-member : goal.invariant-loop-member
+invariant-loop-member l = record { is : l.list ≡ with_members l.initial.list (take l.member-index l.members); valid : ValidMembers l.channels l.list }

@@ -1,0 +1,17 @@
+use Rattle.std.proofs.Common.{◌∙◌, ◌+◌, ◌-◌, ◌≤◌, sym, subst, ℕ, List, arith}
+use Rattle.std.specs.List.{AllByRecursion}
+use Rattle.lx_spec.specs.declared.Member.{Member}
+use Rattle.lx_edit.specs.Found.{IsWithin}
+use Rattle.lx_edit.proofs.CueLevels.{levels_within}
+use Rattle.lx_edit.proofs.members.sub_member.Goals as goal
+
+pub put_members-requires-clause-within : goal.put_members-requires-clause-within
+put_members-requires-clause-within c =
+    let first = c.args.range.first in
+    let last = c.args.range.last in
+    let channels = c.args.show.now.channels in
+    let within : IsWithin channels c.args.range = c.in_ok-the_channels.ensures in
+    let order : first ≤ last = within.order in
+    let most : last ≤ channels = within.most in
+    subst (λ (n : ℕ). AllByRecursion (λ (m : Member). m.chan ≤ n) c.as_slice.result.now) (sym c.channels.ensures.channels)
+    (subst (λ (ms : List Member). AllByRecursion (λ (m : Member). m.chan ≤ channels) ms) (sym (c.as_slice.ensures.value ∙ c.in_ok-members.ensures)) (levels_within c.args.level first (last + 1 - first) channels (omega (arith, order, most))))

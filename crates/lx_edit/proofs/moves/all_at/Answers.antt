@@ -1,0 +1,18 @@
+use Rattle.std.proofs.Common.{◌≡◌, ◌+◌, ◌-◌, ℕ, ◌∙◌, ap, sym, ◌++◌, ◌∷◌, [], List, arith}
+use Rattle.std.specs.List.{range_with_len}
+use Rattle.std.proofs.lemmas.List.FromFn.{map-range_with_len_more}
+use Rattle.lx_spec.specs.declared.Member.{Member}
+use Rattle.lx_spec.specs.Edited.{all_at}
+use Rattle.lx_edit.proofs.moves.all_at.Goals as goal
+
+pub loop-n-preserved : goal.loop-n-preserved
+loop-n-preserved c =
+    let first = c.get-first.result in
+    let n = c.loop-n.n in
+    let at : ℕ → Member = λ k. record { chan = k; level = c.args.level } in
+    let length_is : n + 1 - first ≡ n - first + 1 = omega (arith, c.loop-n.auto.n) in
+    c.in_ok-push.ensures.items
+    ∙ ap (λ (xs : List Member). xs ++ (record { chan = c.channel.result; level = c.args.level } ∷ [])) c.loop-n.invariant
+    ∙ ap (λ (k : ℕ). all_at c.args.level (range_with_len first (n - first)) ++ (at k ∷ [])) c.channel.ensures
+    ∙ sym (map-range_with_len_more at first (n - first) n (omega (arith, c.loop-n.auto.n)))
+    ∙ ap (λ (k : ℕ). all_at c.args.level (range_with_len first k)) (sym length_is)

@@ -1,0 +1,35 @@
+-- What a channel sees of a cue that is changed, added or taken out.
+use Rattle.std.specs.Prelude.{◌≡◌, ℕ, Bool, false, ◌||◌, Option, Some, None, is_some, option_and_then, if◌then◌else◌}
+use Rattle.std.specs.Option.{option_map_or}
+use Rattle.lx_spec.specs.declared.Move.{Move}
+use Rattle.lx_spec.specs.Show.{Cue, Show}
+use Rattle.lx_spec.specs.Tracked.{move_in}
+use Rattle.lx_spec.specs.Laws.{SameColumn}
+use Rattle.lx_edit.specs.declared.chan_set.ChanSet.{ChanSet}
+use Rattle.lx_edit.specs.ChanSet.{has_chan}
+
+-- the channel's move in the cue, where that is there
+abbrev pub move_by : Option Cue → ℕ → Option Move
+move_by cue c = option_and_then (λ x. move_in x c) cue
+
+-- it is there, and a block cue
+abbrev pub is_block : Option Cue → Bool
+is_block None = false
+is_block (Some cue) = cue.block
+
+-- the level that comes of the one that tracks into it
+abbrev pub level_from : Option Cue → ℕ → ℕ → ℕ
+level_from cue c base = if is_block cue || is_some (move_by cue c) then option_map_or (λ m. m.level) (move_by cue c) 0 else base
+
+-- the channel has the same move in both, and the same level comes of the one that tracks into them
+pub record SameEntry (old new : Option Cue) (c base : ℕ) : Type 0 where
+  pub moves : move_by old c ≡ move_by new c
+  pub level : level_from old c base ≡ level_from new c base
+
+-- the set has at least the channels that it had
+abbrev pub Grows : ChanSet → ChanSet → Type 0
+Grows old new = (c : ℕ) → has_chan new c ≡ false → has_chan old c ≡ false
+
+-- a channel that isn't in the set sees the same of both shows
+abbrev pub KeepsOthers : Show → Show → ChanSet → Type 0
+KeepsOthers before after chans = (c : ℕ) → has_chan chans c ≡ false → SameColumn before after c

@@ -1,0 +1,25 @@
+-- How levels go through a changed cue to the one above it.
+use Rattle.std.specs.Prelude.{ℕ, Option, Some, None, List, [], ◌∷◌, if◌then◌else◌}
+use Rattle.lx_spec.specs.declared.Move.{Move}
+use Rattle.lx_spec.specs.Show.{Cue, Show}
+use Rattle.lx_spec.specs.Tracked.{decides, level_in}
+use Rattle.lx_spec.specs.Edited.{with_cue, without_cue}
+
+-- the show with the changed cue in its place, or without the cue of the number
+abbrev pub changed_show : Show → ℕ → Option Cue → Show
+changed_show show n None = without_cue show n
+changed_show show n (Some cue) = with_cue show cue
+
+-- the level that the cue decides for the channel, if it does
+abbrev pub decided : Cue → ℕ → Option ℕ
+decided cue c = if decides cue c then Some (level_in cue c) else None
+
+-- the same of a cue that may be absent
+abbrev pub decided_by : Option Cue → ℕ → Option ℕ
+decided_by None c = None
+decided_by (Some cue) c = decided cue c
+
+-- a move of the channel in part 1, where there is a level for it
+abbrev pub base_moves : ℕ → Option ℕ → List Move
+base_moves c None = []
+base_moves c (Some level) = record { chan = c; part = 1; level = level } ∷ []

@@ -1,0 +1,5 @@
+pub mod Found
+pub mod Planned
+pub mod Kept
+pub mod ChanSet
+pub mod Changing

@@ -1,0 +1,83 @@
+-- What a plan makes of the show that it was made for.
+use Rattle.std.specs.Prelude.{◌≡◌, ℕ, ◌≤◌, ◌⊎◌, Bool, true, false, ◌||◌, IsTrue, nat_lt, Option, Some, None, IfSome, IsOk, Result, Ok, Err, length, MatchResult, ⊤}
+use Rattle.lx_base.specs.declared.TheConstants.{CUES}
+use Rattle.lx_spec.specs.declared.Edit.{Edit}
+use Rattle.lx_spec.specs.declared.Edit.TheVariants.{SubMember, Patch, Unpatch}
+use Rattle.lx_spec.specs.declared.Refusal.{Refusal}
+use Rattle.lx_spec.specs.declared.Refusal.TheVariants.{Memory}
+use Rattle.lx_spec.specs.Listing.{has_entry, placed, taken_out}
+use Rattle.lx_spec.specs.Show.{Cue, Show, ValidCue, ValidGroup, ValidSub}
+use Rattle.lx_spec.specs.Edited.{edited, with_cue, without_cue}
+use Rattle.lx_edit.specs.declared.plans.Plan.{Plan}
+use Rattle.lx_edit.specs.declared.plans.Plan.TheVariants.{Nothing, PlaceCue, RemoveCue, PlaceGroup, PlaceSub, PlaceRow, RemoveRow}
+
+-- the show with this cue too, where there is one
+abbrev pub with_above : Option Cue → Show → Show
+with_above None show = show
+with_above (Some cue) show = with_cue show cue
+
+-- the show with the plan applied
+abbrev pub planned : Show → Plan → Show
+planned show Nothing = show
+planned show (PlaceCue cue above) = with_above above (with_cue show cue)
+planned show (RemoveCue n above) = with_above above (without_cue show n)
+planned show (PlaceGroup group) = record show { groups = placed (λ x. x.number) group show.groups }
+planned show (PlaceSub sub) = record show { subs = placed (λ x. x.number) sub show.subs }
+planned show (PlaceRow row) = record show { patch = placed (λ x. x.dimmer) row show.patch }
+planned show (RemoveRow e) = record show { patch = taken_out (λ x. x.dimmer) e show.patch }
+
+-- the cue may be placed in the show: it is valid there, and there is room for it
+pub record CanPlace (show : Show) (cue : Cue) : Type 0 where
+  pub valid : ValidCue show.channels cue
+  pub room : IsTrue (has_entry (λ x. x.number) cue.number show.cues || nat_lt (length show.cues) CUES)
+
+-- the plan may be applied to the show
+abbrev pub IsReady : Show → Plan → Type 0
+IsReady show Nothing = ⊤
+IsReady show (PlaceCue cue above) = CanPlace show cue × IfSome above (CanPlace (with_cue show cue))
+IsReady show (RemoveCue n above) = (1 ≤ n) × IfSome above (CanPlace (without_cue show n))
+IsReady show (PlaceGroup group) = ValidGroup show.channels group
+IsReady show (PlaceSub sub) = ValidSub show.channels sub
+IsReady show (PlaceRow row) = row.chan ≤ show.channels
+IsReady show (RemoveRow e) = ⊤
+
+-- the dimmer whose row the edit changes
+abbrev pub dimmer_edited : Edit → Option ℕ
+dimmer_edited (Patch e c level) = Some e
+dimmer_edited (Unpatch e) = Some e
+dimmer_edited other = None
+
+abbrev pub dimmer_planned : Plan → Option ℕ
+dimmer_planned (PlaceRow row) = Some row.dimmer
+dimmer_planned (RemoveRow e) = Some e
+dimmer_planned other = None
+
+-- the edit changes a submaster
+abbrev pub edits_sub : Edit → Bool
+edits_sub (SubMember s range level) = true
+edits_sub other = false
+
+abbrev pub plans_sub : Plan → Bool
+plans_sub (PlaceSub sub) = true
+plans_sub other = false
+
+-- the plan makes the edited show, may be applied, and changes the row of a dimmer or a submaster exactly where the edit does
+pub record IsPlan (show : Show) (edit : Edit) (plan : Plan) : Type 0 where
+  pub makes : edited show edit ≡ Ok (planned show plan)
+  pub ready : IsReady show plan
+  pub dimmer : dimmer_planned plan ≡ dimmer_edited edit
+  pub subs : plans_sub plan ≡ edits_sub edit
+
+-- the refusal is the edit's own, or memory was wanting where the edit is not refused
+abbrev pub IsRefusal : Show → Edit → Refusal → Type 0
+IsRefusal show edit refusal = (edited show edit ≡ Err refusal) ⊎ ((refusal ≡ Memory) × IsOk (edited show edit))
+
+abbrev pub Plans : Show → Edit → Result Plan Refusal → Type 0
+Plans show edit answer = MatchResult answer (IsPlan show edit) (IsRefusal show edit)
+
+-- the plan changes cues alone, and makes this show
+pub record PlansCues (show after : Show) (plan : Plan) : Type 0 where
+  pub makes : planned show plan ≡ after
+  pub ready : IsReady show plan
+  pub dimmer : dimmer_planned plan ≡ None
+  pub subs : plans_sub plan ≡ false

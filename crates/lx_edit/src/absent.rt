@@ -1,0 +1,96 @@
+//! What an edit names must be there: each is found, or its absence is the refusal.
+
+ghost use Rattle.std.specs.Prelude.{◌≡◌, ℕ, ◌≤◌, Ok, Err, MatchResult, Some, None, find, is_none};
+ghost use Rattle.lx_spec.specs.Show.{ValidGroup};
+ghost use Rattle.lx_spec.specs.Listing.{entry_at};
+ghost use Rattle.lx_spec.specs.Tracked.{move_in};
+ghost use Rattle.lx_spec.specs.Edited.{the_cue, the_part, the_given_part, the_channels, the_group, the_moves, channels_in};
+ghost use Rattle.lx_edit.specs.Found.{FoundCue, GivenPart, IsWithin};
+
+use lx_base::{CHANNELS, Chan, ChanRange, CueNo, GroupNo, PartNo};
+use lx_show::{Cue, Group, Part, Refusal, Show};
+
+/// The cue of the number.
+pub(crate) fn the_cue(show: &Show, n: CueNo) -> Result<&Cue, Refusal>
+    ensures { MatchResult result (λ cue. FoundCue show.now n cue.now) (λ refusal. the_cue show.now n ≡ Err refusal) }
+{
+    let _ = show.channels();
+    match show.cue(n) {
+        Some(cue) => Ok(cue),
+        None => Err(Refusal::AbsentCue(n)),
+    }
+}
+
+/// The cue's part of the number.
+pub(crate) fn the_part(cue: &Cue, p: PartNo) -> Result<Part, Refusal>
+    ensures { MatchResult result (λ part. entry_at (λ x. x.number) p cue.now.parts ≡ Some part) (λ refusal. the_part cue.now p ≡ Err refusal) }
+{
+    match cue.part(p) {
+        Some(part) => Ok(part),
+        None => Err(Refusal::AbsentPart(cue.number, p)),
+    }
+}
+
+/// The part that is given is the cue's, where one is given.
+pub(crate) fn the_given_part(cue: &Cue, given: Option<PartNo>) -> Result<Option<PartNo>, Refusal>
+    ensures { MatchResult result (GivenPart cue.now given) (λ refusal. the_given_part cue.now given ≡ Err refusal) }
+{
+    match given {
+        Some(p) => {
+            the_part(cue, p)?;
+            Ok(Some(p))
+        }
+        None => Ok(None),
+    }
+}
+
+/// The channels of the range are the show's; else the least that is not is the refusal.
+pub(crate) fn the_channels(show: &Show, range: ChanRange) -> Result<(), Refusal>
+    ensures { MatchResult result (λ _. IsWithin show.now.channels range) (λ refusal. the_channels show.now range ≡ Err refusal) }
+{
+    let channels = show.channels();
+    let last = range.last().get();
+    if last <= channels {
+        return Ok(());
+    }
+    let first = range.first().get();
+    Err(Refusal::AbsentChannel(channel(first.max(channels + 1))))
+}
+
+/// The group of the number.
+pub(crate) fn the_group(show: &Show, g: GroupNo) -> Result<&Group, Refusal>
+    ensures group { MatchResult result (λ group. the_group show.now g ≡ Ok group.now) (λ refusal. the_group show.now g ≡ Err refusal) }
+    ensures valid { MatchResult result (λ group. ValidGroup show.now.channels group.now) (λ refusal. the_group show.now g ≡ Err refusal) }
+{
+    match show.group(g) {
+        Some(group) => Ok(group),
+        None => Err(Refusal::AbsentGroup(g)),
+    }
+}
+
+/// Each channel of the range has a move in the cue; else the least that has none is the refusal.
+pub(crate) fn the_moves(cue: &Cue, range: ChanRange) -> Result<(), Refusal>
+    ensures { MatchResult result (λ _. find (λ c. is_none (move_in cue.now c)) (channels_in range) ≡ None) (λ refusal. the_moves cue.now (channels_in range) ≡ Err refusal) }
+{
+    let first = range.first().get();
+    let last = range.last().get();
+    for n in first..last + 1 {
+        let c = channel(n);
+        if cue.move_of(c).is_none() {
+            return Err(Refusal::AbsentMove(cue.number, c));
+        }
+    }
+    Ok(())
+}
+
+/// The channel of the number.
+pub(crate) fn channel(n: u32) -> Chan
+    requires least { 1 ≤ n }
+    requires most { n ≤ CHANNELS }
+    ensures { result ≡ n }
+{
+    match Chan::new(n) {
+        Some(c) => c,
+        None => unreachable!(),
+    }
+}

@@ -1,0 +1,183 @@
+//! A plan applied: the show becomes the edited one, and the sheet follows. No call takes memory.
+
+ghost use Rattle.std.specs.Prelude.{◌≡◌, ◌≢◌, ◌<◌, ◌≤◌, ℕ, false, IfSome};
+ghost use Rattle.lx_spec.specs.Tracked.{tracked};
+ghost use Rattle.lx_spec.specs.Edited.{with_cue, without_cue};
+ghost use Rattle.lx_sheet.specs.Rows.{level_of, numbers_of};
+ghost use Rattle.lx_sheet.specs.Standing.{StandsFor, StandsIn, cue_numbers};
+ghost use Rattle.lx_edit.specs.ChanSet.{has_chan};
+ghost use Rattle.lx_edit.specs.Changing.{Grows, KeepsOthers};
+ghost use Rattle.lx_edit.specs.Planned.{planned, with_above, CanPlace, IsReady, dimmer_planned, plans_sub};
+
+use crate::absent::channel;
+use crate::chan_set::ChanSet;
+use crate::changing::mark_change;
+use crate::dirty::Dirty;
+use crate::plans::Plan;
+use lx_base::{CHANNELS, Chan, CueNo};
+use lx_sheet::Sheet;
+use lx_show::{Cue, Show};
+
+impl Plan {
+    /// Applies the plan to the show for which it was made: the show becomes the edited one, and the sheet
+    /// stands for it. It answers what was touched. It takes no memory.
+    pub fn apply(self, show: &mut Show, sheet: &mut Sheet) -> Dirty
+        requires ready { IsReady show.old self }
+        requires sheet { StandsFor show.old sheet.old }
+        ensures show { show.new ≡ planned show.old self }
+        ensures sheet { StandsFor show.new sheet.new }
+        ensures others { KeepsOthers show.old show.new result.chans }
+        ensures dimmer { result.dimmer ≡ dimmer_planned self }
+        ensures subs { result.subs ≡ plans_sub self }
+    {
+        match self {
+            Plan::Nothing => Dirty::nothing(),
+            Plan::PlaceCue { cue, above } => Dirty::of_cues(place_cues(show, sheet, cue, above)),
+            Plan::RemoveCue { cue, above } => {
+                Dirty::of_cues(exchange_cues(show, sheet, cue, above))
+            }
+            Plan::PlaceGroup(group) => {
+                show.put_group(group);
+                Dirty::nothing()
+            }
+            Plan::PlaceSub(sub) => {
+                show.put_sub(sub);
+                Dirty::of_sub()
+            }
+            Plan::PlaceRow(row) => {
+                let dimmer = row.dimmer;
+                show.put_patch(row);
+                Dirty::of_dimmer(dimmer)
+            }
+            Plan::RemoveRow(dimmer) => {
+                let _ = show.take_patch(dimmer);
+                Dirty::of_dimmer(dimmer)
+            }
+        }
+    }
+}
+
+/// Places the cue, and the one above it where it is changed too. It answers the channels that see a
+/// difference.
+fn place_cues(show: &mut Show, sheet: &mut Sheet, cue: Cue, above: Option<Cue>) -> ChanSet
+    requires ready { IsReady show.old (Plan.PlaceCue cue above) }
+    requires sheet { StandsFor show.old sheet.old }
+    ensures show { show.new ≡ planned show.old (Plan.PlaceCue cue above) }
+    ensures sheet { StandsFor show.new sheet.new }
+    ensures others { KeepsOthers show.old show.new result }
+{
+    let mut chans = ChanSet::empty();
+    place_cue(show, sheet, &mut chans, cue);
+    place_above(show, sheet, &mut chans, above);
+    chans
+}
+
+/// Takes the cue out, and places the one above it where it is changed. It answers the channels that see a
+/// difference.
+fn exchange_cues(show: &mut Show, sheet: &mut Sheet, n: CueNo, above: Option<Cue>) -> ChanSet
+    requires ready { IsReady show.old (Plan.RemoveCue n above) }
+    requires sheet { StandsFor show.old sheet.old }
+    ensures show { show.new ≡ planned show.old (Plan.RemoveCue n above) }
+    ensures sheet { StandsFor show.new sheet.new }
+    ensures others { KeepsOthers show.old show.new result }
+{
+    let mut chans = ChanSet::empty();
+    remove_cue(show, sheet, &mut chans, n);
+    place_above(show, sheet, &mut chans, above);
+    chans
+}
+
+/// Places the cue above the edited one too, where it is changed, and adds the channels that see a difference.
+fn place_above(show: &mut Show, sheet: &mut Sheet, chans: &mut ChanSet, above: Option<Cue>)
+    requires ready { IfSome above (CanPlace show.old) }
+    requires sheet { StandsFor show.old sheet.old }
+    ensures show { show.new ≡ with_above above show.old }
+    ensures sheet { StandsFor show.new sheet.new }
+    ensures grows { Grows chans.old chans.new }
+    ensures others { KeepsOthers show.old show.new chans.new }
+{
+    if let Some(above) = above {
+        place_cue(show, sheet, chans, above);
+    }
+}
+
+/// Places the cue, in place of the one of its number, and adds the channels that see a difference.
+fn place_cue(show: &mut Show, sheet: &mut Sheet, chans: &mut ChanSet, cue: Cue)
+    requires ready { CanPlace show.old cue }
+    requires sheet { StandsFor show.old sheet.old }
+    ensures show { show.new ≡ with_cue show.old cue }
+    ensures sheet { StandsFor show.new sheet.new }
+    ensures grows { Grows chans.old chans.new }
+    ensures others { KeepsOthers show.old show.new chans.new }
+{
+    let _ = show.channels();
+    let n = cue.number;
+    let there = show.cue(n).is_some();
+    mark_change(chans, show, sheet, n, Some(&cue));
+    show.put_cue(cue);
+    if there {
+        mend(sheet, show, n, chans);
+    } else {
+        sheet.insert_row(show, n);
+    }
+}
+
+/// Takes the cue out, and adds the channels that see a difference.
+fn remove_cue(show: &mut Show, sheet: &mut Sheet, chans: &mut ChanSet, n: CueNo)
+    requires number { 1 ≤ n }
+    requires sheet { StandsFor show.old sheet.old }
+    ensures show { show.new ≡ without_cue show.old n }
+    ensures sheet { StandsFor show.new sheet.new }
+    ensures grows { Grows chans.old chans.new }
+    ensures others { KeepsOthers show.old show.new chans.new }
+{
+    let _ = show.channels();
+    mark_change(chans, show, sheet, n, None);
+    let _ = show.take_cue(n);
+    sheet.remove_row(show, n);
+}
+
+/// A cue was changed in its place: the columns of these channels are filled in anew from it on, or the whole
+/// sheet where they are many.
+fn mend(sheet: &mut Sheet, show: &Show, from: CueNo, chans: &ChanSet)
+    requires channels { sheet.old.channels ≡ show.now.channels }
+    requires numbers { numbers_of sheet.old ≡ cue_numbers show.now }
+    requires below { (c n : ℕ) → n < from → level_of sheet.old n c ≡ tracked show.now n c }
+    requires others { (c : ℕ) → has_chan chans.now c ≡ false → StandsIn show.now c sheet.old }
+    ensures { StandsFor show.now sheet.new }
+{
+    if chans.is_large() {
+        sheet.refill(show);
+    } else {
+        mend_columns(sheet, show, from, chans);
+    }
+}
+
+/// The columns of these channels are filled in anew.
+fn mend_columns(sheet: &mut Sheet, show: &Show, from: CueNo, chans: &ChanSet)
+    requires channels { sheet.old.channels ≡ show.now.channels }
+    requires numbers { numbers_of sheet.old ≡ cue_numbers show.now }
+    requires below { (c n : ℕ) → n < from → level_of sheet.old n c ≡ tracked show.now n c }
+    requires others { (c : ℕ) → has_chan chans.now c ≡ false → StandsIn show.now c sheet.old }
+    ensures { StandsFor show.now sheet.new }
+{
+    for k in 1..CHANNELS + 1 {
+        mend_column(sheet, show, from, chans, channel(k));
+    }
+}
+
+/// The column of the channel is filled in anew, if it is one of these.
+fn mend_column(sheet: &mut Sheet, show: &Show, from: CueNo, chans: &ChanSet, c: Chan)
+    requires channels { sheet.old.channels ≡ show.now.channels }
+    requires numbers { numbers_of sheet.old ≡ cue_numbers show.now }
+    requires below { (x n : ℕ) → n < from → level_of sheet.old n x ≡ tracked show.now n x }
+    requires others { (x : ℕ) → has_chan chans.now x ≡ false → StandsIn show.now x sheet.old }
+    ensures column { StandsIn show.now c sheet.new }
+    ensures stays { (x n : ℕ) → x ≢ c → level_of sheet.new n x ≡ level_of sheet.old n x }
+    ensures channels { sheet.new.channels ≡ sheet.old.channels }
+    ensures numbers { numbers_of sheet.new ≡ numbers_of sheet.old }
+{
+    if chans.contains(c) {
+        sheet.changed(show, from, c);
+    }
+}

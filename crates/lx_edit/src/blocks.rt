@@ -1,0 +1,102 @@
+//! Block cues: a block cue takes over what tracks into it, and one that is no block cue any more still keeps
+//! its look.
+
+ghost use Rattle.std.specs.Prelude.{◌≡◌, ◌-◌, ◌==◌, ◌&&◌, ℕ, not, is_none, IfOk, if◌then◌else◌, Some, None};
+ghost use Rattle.lx_spec.specs.Tracked.{move_in, tracked};
+ghost use Rattle.lx_spec.specs.Edited.{moves_for};
+ghost use Rattle.lx_edit.specs.Planned.{Plans};
+
+use crate::absent::{channel, the_cue};
+use crate::moves::{add, with_moves};
+use crate::plans::Plan;
+use lx_base::{Chan, CueNo, Level};
+use lx_show::{Cue, Edit, Move, Refusal, Show};
+use std::alloc::{AllocError, Global};
+
+/// The cue becomes a block cue, with moves to the levels that track into it; nothing where it is one.
+pub(crate) fn block(alloc: Global, show: &Show, n: CueNo) -> Result<Plan, Refusal>
+    ensures { Plans show.now (Edit.Block n) result }
+{
+    let old = the_cue(show, n)?;
+    if old.block {
+        return Ok(Plan::Nothing);
+    }
+    let moves = taken_over(alloc, show, old)?;
+    let mut cue = old.copy()?;
+    cue.block = true;
+    let cue = with_moves(show.channels(), cue, moves.as_slice())?;
+    Ok(Plan::PlaceCue { cue, above: None })
+}
+
+/// The moves of the channels that have none in the cue, to their tracked levels at it that aren't 0.
+fn taken_over(alloc: Global, show: &Show, cue: &Cue) -> Result<Vec<Move>, AllocError>
+    ensures { IfOk result (λ moves. moves.items ≡ moves_for show.now (λ c. is_none (move_in cue.now c) && not (tracked show.now cue.now.number c == 0)) (λ c. tracked show.now cue.now.number c)) }
+{
+    let mut moves = Vec::new(alloc);
+    for k in 1..show.channels() + 1 {
+        let c = channel(k);
+        let level = level_taken_over(show, cue, c);
+        add(&mut moves, c, level)?;
+    }
+    Ok(moves)
+}
+
+/// The channel's tracked level at the cue that has no move of it, unless that is 0.
+fn level_taken_over(show: &Show, cue: &Cue, c: Chan) -> Option<Level>
+    ensures { result ≡ (if is_none (move_in cue.now c) && not (tracked show.now cue.now.number c == 0) then Some (tracked show.now cue.now.number c) else None) }
+{
+    if cue.move_of(c).is_some() {
+        return None;
+    }
+    let level = show.tracked(cue.number, c);
+    if level == 0 { None } else { Some(level) }
+}
+
+/// The cue is no block cue any more, with moves to 0 for what would track into it; nothing where it is none.
+pub(crate) fn unblock(alloc: Global, show: &Show, n: CueNo) -> Result<Plan, Refusal>
+    ensures { Plans show.now (Edit.Unblock n) result }
+{
+    let old = the_cue(show, n)?;
+    if !old.block {
+        return Ok(Plan::Nothing);
+    }
+    let moves = kept_out(alloc, show, old)?;
+    let mut cue = old.copy()?;
+    cue.block = false;
+    let cue = with_moves(show.channels(), cue, moves.as_slice())?;
+    Ok(Plan::PlaceCue { cue, above: None })
+}
+
+/// The moves to 0 of the channels that have none in the cue, and whose tracked level below it isn't 0.
+fn kept_out(alloc: Global, show: &Show, cue: &Cue) -> Result<Vec<Move>, AllocError>
+    ensures { IfOk result (λ moves. moves.items ≡ moves_for show.now (λ c. is_none (move_in cue.now c) && not (tracked show.now (cue.now.number - 1) c == 0)) (λ c. 0)) }
+{
+    let mut moves = Vec::new(alloc);
+    for k in 1..show.channels() + 1 {
+        let c = channel(k);
+        let level = level_kept_out(show, cue, c);
+        add(&mut moves, c, level)?;
+    }
+    Ok(moves)
+}
+
+/// 0 where the channel has no move in the cue and its tracked level below it isn't 0.
+fn level_kept_out(show: &Show, cue: &Cue, c: Chan) -> Option<Level>
+    ensures { result ≡ (if is_none (move_in cue.now c) && not (tracked show.now (cue.now.number - 1) c == 0) then Some 0 else None) }
+{
+    if cue.move_of(c).is_some() {
+        return None;
+    }
+    let level = show.tracked(below(cue.number), c);
+    if level == 0 { None } else { Some(0) }
+}
+
+/// The number one step below, or 0.
+pub(crate) fn below(n: CueNo) -> CueNo
+    ensures { result ≡ n - 1 }
+{
+    match CueNo::new(n.get().saturating_sub(1)) {
+        Some(below) => below,
+        None => unreachable!(),
+    }
+}

@@ -1,0 +1,121 @@
+//! Which channels see a difference where a cue is changed, added or taken out.
+
+ghost use Rattle.std.specs.Prelude.{◌≡◌, ◌≤◌, ◌-◌, ℕ, true, false, Some, None, IfSome, Option, IsTrue};
+ghost use Rattle.std.specs.Option.{option_copied};
+ghost use Rattle.std.specs.List.{AllByRecursion};
+ghost use Rattle.lx_base.specs.declared.TheConstants.{CHANNELS};
+ghost use Rattle.lx_spec.specs.Tracked.{cue_of, tracked};
+ghost use Rattle.lx_sheet.specs.Rows.{level_of};
+ghost use Rattle.lx_sheet.specs.Standing.{StandsFor};
+ghost use Rattle.lx_edit.specs.ChanSet.{has_chan};
+ghost use Rattle.lx_edit.specs.Changing.{move_by, is_block, SameEntry, Grows};
+
+use crate::absent::channel;
+use crate::blocks::below;
+use crate::chan_set::ChanSet;
+use lx_base::{CHANNELS, Chan, CueNo};
+use lx_sheet::Sheet;
+use lx_show::{Cue, Move, Show};
+
+/// Adds each channel that sees a difference between the show's cue of the number, which may be absent, and
+/// this one, which may be so too.
+pub(crate) fn mark_change(
+    chans: &mut ChanSet,
+    show: &Show,
+    sheet: &Sheet,
+    n: CueNo,
+    new: Option<&Cue>,
+)
+    requires { StandsFor show.now sheet.now }
+    ensures grows { Grows chans.old chans.new }
+    ensures same { (c : ℕ) → has_chan chans.new c ≡ false → SameEntry (cue_of show.now n) (option_copied new.entry) c (tracked show.now (n - 1) c) }
+{
+    let _ = show.channels();
+    let old = show.cue(n);
+    mark_moves(chans, old, new);
+    mark_moves(chans, new, old);
+    if is_block(old) != is_block(new) {
+        mark_tracked(chans, sheet, n, new);
+    }
+}
+
+/// Adds the channels whose moves in the one cue the other hasn't.
+fn mark_moves(chans: &mut ChanSet, cue: Option<&Cue>, other: Option<&Cue>)
+    ensures grows { Grows chans.old chans.new }
+    ensures marked { (c : ℕ) → has_chan chans.new c ≡ false → IfSome (move_by (option_copied cue.entry) c) (λ m. move_by (option_copied other.entry) c ≡ Some m) }
+{
+    if let Some(cue) = cue {
+        mark_all(chans, cue.moves.as_slice(), other);
+    }
+}
+
+/// Adds the channels of the moves that the cue hasn't.
+fn mark_all(chans: &mut ChanSet, moves: &[Move], other: Option<&Cue>)
+    ensures grows { Grows chans.old chans.new }
+    ensures marked { AllByRecursion (λ m. has_chan chans.new m.chan ≡ false → move_by (option_copied other.entry) m.chan ≡ Some m) moves.now }
+{
+    for entry in moves {
+        mark(chans, entry, move_by(other, entry.chan));
+    }
+}
+
+/// Adds the channel of the move, unless the other is the same move.
+fn mark(chans: &mut ChanSet, entry: &Move, other: Option<Move>)
+    ensures grows { Grows chans.old chans.new }
+    ensures marked { has_chan chans.new entry.now.chan ≡ false → other ≡ Some entry.now }
+{
+    if !is_same(entry, other) {
+        chans.insert(entry.chan);
+    }
+}
+
+/// The other is the same move.
+fn is_same(entry: &Move, other: Option<Move>) -> bool
+    ensures { result ≡ true → other ≡ Some entry.now }
+{
+    match other {
+        Some(other) => {
+            entry.chan.get() == other.chan.get()
+                && entry.part.get() == other.part.get()
+                && entry.level == other.level
+        }
+        None => false,
+    }
+}
+
+/// The channel's move in the cue, where that is there.
+fn move_by(cue: Option<&Cue>, c: Chan) -> Option<Move>
+    ensures { result ≡ move_by (option_copied cue.entry) c }
+{
+    cue?.move_of(c)
+}
+
+/// The cue is there, and a block cue.
+fn is_block(cue: Option<&Cue>) -> bool
+    ensures { result ≡ is_block (option_copied cue.entry) }
+{
+    match cue {
+        Some(cue) => cue.block,
+        None => false,
+    }
+}
+
+/// Adds each channel that has no move in the cue, and at which another level than 0 tracks into it.
+fn mark_tracked(chans: &mut ChanSet, sheet: &Sheet, n: CueNo, cue: Option<&Cue>)
+    ensures grows { Grows chans.old chans.new }
+    ensures marked { (c : ℕ) → 1 ≤ c → c ≤ CHANNELS → has_chan chans.new c ≡ false → move_by (option_copied cue.entry) c ≡ None → level_of sheet.now (n - 1) c ≡ 0 }
+{
+    for k in 1..CHANNELS + 1 {
+        mark_at(chans, sheet, n, cue, channel(k));
+    }
+}
+
+/// Adds the channel if it has no move in the cue, and another level than 0 tracks into it.
+fn mark_at(chans: &mut ChanSet, sheet: &Sheet, n: CueNo, cue: Option<&Cue>, c: Chan)
+    ensures grows { Grows chans.old chans.new }
+    ensures marked { has_chan chans.new c ≡ false → move_by (option_copied cue.entry) c ≡ None → level_of sheet.now (n - 1) c ≡ 0 }
+{
+    if move_by(cue, c).is_none() && sheet.level_at(below(n), c) != 0 {
+        chans.insert(c);
+    }
+}

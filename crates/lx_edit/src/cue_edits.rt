@@ -1,0 +1,121 @@
+//! Edits of one cue that leave its levels: its times, parts, follow and label, and a new cue.
+
+ghost use Rattle.std.specs.Prelude.{◌≡◌, ◌≢◌, IfSome};
+ghost use Rattle.lx_spec.specs.Show.{IsTime};
+ghost use Rattle.lx_spec.specs.Edited.{with_time};
+ghost use Rattle.lx_edit.specs.Planned.{Plans};
+
+use crate::absent::{the_cue, the_part};
+use crate::plans::Plan;
+use lx_base::{CUES, Cs, CueNo, PartNo};
+use lx_show::{Cue, Edit, Label, Part, Refusal, Show, new_part};
+use std::alloc::Global;
+
+/// A new cue with part 1 and nothing else; nothing where it is there.
+pub(crate) fn make_cue(alloc: Global, show: &Show, n: CueNo) -> Result<Plan, Refusal>
+    requires { n ≢ 0 }
+    ensures { Plans show.now (Edit.MakeCue n) result }
+{
+    if show.cue(n).is_some() {
+        return Ok(Plan::Nothing);
+    }
+    if show.cues().len() < CUES {
+        Ok(Plan::PlaceCue {
+            cue: Cue::new(alloc, n),
+            above: None,
+        })
+    } else {
+        Err(Refusal::CueLimit)
+    }
+}
+
+/// The part has the time and the delay, for rising channels or for falling ones.
+pub(crate) fn time(
+    show: &Show,
+    n: CueNo,
+    p: PartNo,
+    rising: bool,
+    time: Cs,
+    delay: Cs,
+) -> Result<Plan, Refusal>
+    requires time { IsTime time }
+    requires delay { IsTime delay }
+    ensures { Plans show.now (Edit.Time n p rising time delay) result }
+{
+    let old = the_cue(show, n)?;
+    let part = the_part(old, p)?;
+    let mut cue = old.copy()?;
+    cue.put_part(with_time(part, rising, time, delay));
+    Ok(Plan::PlaceCue { cue, above: None })
+}
+
+/// The part with the times of one direction.
+fn with_time(part: Part, rising: bool, time: Cs, delay: Cs) -> Part
+    ensures { result ≡ with_time part rising time delay }
+{
+    if rising {
+        Part {
+            number: part.number,
+            up: time,
+            up_delay: delay,
+            down: part.down,
+            down_delay: part.down_delay,
+        }
+    } else {
+        Part {
+            number: part.number,
+            up: part.up,
+            up_delay: part.up_delay,
+            down: time,
+            down_delay: delay,
+        }
+    }
+}
+
+/// A new part of the cue; nothing where it is there.
+pub(crate) fn add_part(show: &Show, n: CueNo, p: PartNo) -> Result<Plan, Refusal>
+    ensures { Plans show.now (Edit.AddPart n p) result }
+{
+    let old = the_cue(show, n)?;
+    if old.part(p).is_some() {
+        return Ok(Plan::Nothing);
+    }
+    let mut cue = old.copy()?;
+    let _ = p.get();
+    cue.put_part(new_part(p));
+    Ok(Plan::PlaceCue { cue, above: None })
+}
+
+/// The part goes, and its moves go to part 1, which stays.
+pub(crate) fn delete_part(show: &Show, n: CueNo, p: PartNo) -> Result<Plan, Refusal>
+    ensures { Plans show.now (Edit.DeletePart n p) result }
+{
+    let old = the_cue(show, n)?;
+    the_part(old, p)?;
+    if p.get() == 1 {
+        return Err(Refusal::BasePart);
+    }
+    let mut cue = old.copy()?;
+    let _ = cue.drop_part(p);
+    Ok(Plan::PlaceCue { cue, above: None })
+}
+
+/// The cue above starts by itself so long after the cue, or not.
+pub(crate) fn follow(show: &Show, n: CueNo, after: Option<Cs>) -> Result<Plan, Refusal>
+    requires { IfSome after IsTime }
+    ensures { Plans show.now (Edit.Follow n after) result }
+{
+    let mut cue = the_cue(show, n)?.copy()?;
+    cue.follow = after;
+    Ok(Plan::PlaceCue { cue, above: None })
+}
+
+/// The cue has the label.
+pub(crate) fn name(show: &Show, n: CueNo, label: &Label) -> Result<Plan, Refusal>
+    ensures { Plans show.now (Edit.Name n label.now) result }
+{
+    let mut cue = the_cue(show, n)?.copy()?;
+    lx_show::facts::of_label(label);
+    cue.label = label.copy();
+    Ok(Plan::PlaceCue { cue, above: None })
+}

@@ -1,0 +1,69 @@
+//! What an edit touched.
+
+ghost use Rattle.std.specs.Prelude.{◌≡◌, ℕ, true, false, Some, None};
+ghost use Rattle.lx_edit.specs.ChanSet.{has_chan};
+
+use crate::chan_set::ChanSet;
+use lx_base::Dimmer;
+
+/// What an edit touched, for those who keep values that depend on the show.
+#[derive(Clone, Copy, PartialEq, Eq, Debug)]
+pub struct Dirty {
+    /// A channel that is not among these has the same move in each cue, and the same tracked level at each
+    /// number.
+    pub chans: ChanSet,
+    /// The dimmer whose patch row was changed.
+    pub dimmer: Option<Dimmer>,
+    /// A submaster was changed.
+    pub subs: bool,
+}
+
+impl Dirty {
+    /// Nothing that others depend on.
+    pub(crate) fn nothing() -> Dirty
+        ensures chans { (c : ℕ) → has_chan result.chans c ≡ false }
+        ensures dimmer { result.dimmer ≡ None }
+        ensures subs { result.subs ≡ false }
+    {
+        Dirty::of_cues(ChanSet::empty())
+    }
+
+    /// These channels, in cues.
+    pub(crate) fn of_cues(chans: ChanSet) -> Dirty
+        ensures chans { result.chans ≡ chans }
+        ensures dimmer { result.dimmer ≡ None }
+        ensures subs { result.subs ≡ false }
+    {
+        Dirty {
+            chans,
+            dimmer: None,
+            subs: false,
+        }
+    }
+
+    /// A submaster.
+    pub(crate) fn of_sub() -> Dirty
+        ensures chans { (c : ℕ) → has_chan result.chans c ≡ false }
+        ensures dimmer { result.dimmer ≡ None }
+        ensures subs { result.subs ≡ true }
+    {
+        Dirty {
+            chans: ChanSet::empty(),
+            dimmer: None,
+            subs: true,
+        }
+    }
+
+    /// The row of a dimmer.
+    pub(crate) fn of_dimmer(dimmer: Dimmer) -> Dirty
+        ensures chans { (c : ℕ) → has_chan result.chans c ≡ false }
+        ensures dimmer { result.dimmer ≡ Some dimmer }
+        ensures subs { result.subs ≡ false }
+    {
+        Dirty {
+            chans: ChanSet::empty(),
+            dimmer: Some(dimmer),
+            subs: false,
+        }
+    }
+}

@@ -1,0 +1,175 @@
+//! Cue only: the cue above the edited one keeps each level that it had. And cues deleted.
+
+ghost use Rattle.std.specs.Prelude.{◌≡◌, ℕ, ◌==◌, not, IfOk, IfSome, Some, None, if◌then◌else◌};
+ghost use Rattle.std.specs.Option.{option_copied};
+ghost use Rattle.lx_spec.specs.Show.{ValidCue};
+ghost use Rattle.lx_spec.specs.Tracked.{tracked, cue_above};
+ghost use Rattle.lx_spec.specs.Edited.{cue_only, with_cue, with_moves, moves_for};
+ghost use Rattle.lx_edit.specs.Found.{FoundCue};
+ghost use Rattle.lx_edit.specs.Planned.{Plans, PlansCues, CanPlace, with_above};
+ghost use Rattle.lx_edit.specs.Kept.{changed_show, decided, decided_by};
+
+use crate::absent::{channel, the_cue};
+use crate::blocks::below;
+use crate::moves::{add, with_moves};
+use crate::plans::Plan;
+use lx_base::{Chan, CueNo, Level};
+use lx_show::{Cue, Edit, Move, Refusal, Show};
+use std::alloc::{AllocError, Global};
+
+/// The cue goes.
+pub(crate) fn delete_cue(alloc: Global, show: &Show, n: CueNo, only: bool) -> Result<Plan, Refusal>
+    ensures { Plans show.now (Edit.DeleteCue n only) result }
+{
+    let old = the_cue(show, n)?;
+    let above = kept_above(alloc, show, n, old, None, only)?;
+    Ok(Plan::RemoveCue { cue: n, above })
+}
+
+/// The plan that places the changed cue in the place of the old one and, cue only, the one above it with the
+/// moves that keep its levels. An error comes where memory is wanting.
+pub(crate) fn place(
+    alloc: Global,
+    show: &Show,
+    n: CueNo,
+    old: &Cue,
+    cue: Cue,
+    only: bool,
+) -> Result<Plan, AllocError>
+    requires there { FoundCue show.now n old.now }
+    requires number { cue.number ≡ n }
+    requires valid { ValidCue show.now.channels cue }
+    ensures { IfOk result (PlansCues show.now (cue_only only show.now n (with_cue show.now cue))) }
+{
+    let above = kept_above(alloc, show, n, old, Some(&cue), only)?;
+    Ok(Plan::PlaceCue { cue, above })
+}
+
+/// Cue only, the cue above the edited one, with the moves that keep its levels; none where no cue is above it.
+/// An error comes where memory is wanting.
+fn kept_above(
+    alloc: Global,
+    show: &Show,
+    n: CueNo,
+    old: &Cue,
+    new: Option<&Cue>,
+    only: bool,
+) -> Result<Option<Cue>, AllocError>
+    requires there { FoundCue show.now n old.now }
+    requires number { IfSome new (λ cue. cue.now.number ≡ n) }
+    ensures above { IfOk result (λ above. with_above above (changed_show show.now n (option_copied new.entry)) ≡ cue_only only show.now n (changed_show show.now n (option_copied new.entry))) }
+    ensures valid { IfOk result (λ above. IfSome above (CanPlace (changed_show show.now n (option_copied new.entry)))) }
+{
+    let _ = show.channels();
+    if !only {
+        return Ok(None);
+    }
+    match show.cue_above(n) {
+        Some(above) => Ok(Some(keeping(alloc, show, n, old, new, above)?)),
+        None => Ok(None),
+    }
+}
+
+/// The cue above the edited one with the moves that keep its levels.
+fn keeping(
+    alloc: Global,
+    show: &Show,
+    n: CueNo,
+    old: &Cue,
+    new: Option<&Cue>,
+    above: &Cue,
+) -> Result<Cue, AllocError>
+    requires there { FoundCue show.now n old.now }
+    requires number { IfSome new (λ cue. cue.now.number ≡ n) }
+    requires above { cue_above show.now n ≡ Some above.now }
+    requires valid { ValidCue show.now.channels above.now }
+    ensures kept { IfOk result (λ kept. kept ≡ with_moves above.now (moves_for show.now (λ c. not (tracked show.now above.now.number c == tracked (changed_show show.now n (option_copied new.entry)) above.now.number c)) (λ c. tracked show.now above.now.number c))) }
+    ensures valid { IfOk result (ValidCue show.now.channels) }
+{
+    let moves = kept_moves(alloc, show, n, old, new, above)?;
+    with_moves(show.channels(), above.copy()?, moves.as_slice())
+}
+
+/// The moves that keep the levels of the cue above.
+fn kept_moves(
+    alloc: Global,
+    show: &Show,
+    n: CueNo,
+    old: &Cue,
+    new: Option<&Cue>,
+    above: &Cue,
+) -> Result<Vec<Move>, AllocError>
+    requires there { FoundCue show.now n old.now }
+    requires number { IfSome new (λ cue. cue.now.number ≡ n) }
+    requires above { cue_above show.now n ≡ Some above.now }
+    ensures { IfOk result (λ moves. moves.items ≡ moves_for show.now (λ c. not (tracked show.now above.now.number c == tracked (changed_show show.now n (option_copied new.entry)) above.now.number c)) (λ c. tracked show.now above.now.number c)) }
+{
+    let mut moves = Vec::new(alloc);
+    for k in 1..show.channels() + 1 {
+        let c = channel(k);
+        let level = kept_level(show, n, old, new, above, c);
+        add(&mut moves, c, level)?;
+    }
+    Ok(moves)
+}
+
+/// The level that the channel keeps at the cue above, where the edit would change it.
+fn kept_level(
+    show: &Show,
+    n: CueNo,
+    old: &Cue,
+    new: Option<&Cue>,
+    above: &Cue,
+    c: Chan,
+) -> Option<Level>
+    requires there { FoundCue show.now n old.now }
+    requires number { IfSome new (λ cue. cue.now.number ≡ n) }
+    requires above { cue_above show.now n ≡ Some above.now }
+    ensures { result ≡ (if not (tracked show.now above.now.number c == tracked (changed_show show.now n (option_copied new.entry)) above.now.number c) then Some (tracked show.now above.now.number c) else None) }
+{
+    if differs(show, n, old, new, above, c) {
+        Some(show.tracked(above.number, c))
+    } else {
+        None
+    }
+}
+
+/// The channel's level at the cue above is changed.
+fn differs(show: &Show, n: CueNo, old: &Cue, new: Option<&Cue>, above: &Cue, c: Chan) -> bool
+    requires there { FoundCue show.now n old.now }
+    requires number { IfSome new (λ cue. cue.now.number ≡ n) }
+    requires above { cue_above show.now n ≡ Some above.now }
+    ensures { result ≡ not (tracked show.now above.now.number c == tracked (changed_show show.now n (option_copied new.entry)) above.now.number c) }
+{
+    let _ = show.channels();
+    if above.decides(c) {
+        return false;
+    }
+    match (decided(old, c), decided_by(new, c)) {
+        (None, None) => false,
+        (Some(was), Some(is)) => was != is,
+        (Some(was), None) => was != show.tracked(below(n), c),
+        (None, Some(is)) => show.tracked(below(n), c) != is,
+    }
+}
+
+/// The level that the cue decides for the channel, if it does.
+fn decided(cue: &Cue, c: Chan) -> Option<Level>
+    ensures { result ≡ decided cue.now c }
+{
+    if cue.decides(c) {
+        Some(cue.level_of(c))
+    } else {
+        None
+    }
+}
+
+/// The same of a cue that may be absent.
+fn decided_by(cue: Option<&Cue>, c: Chan) -> Option<Level>
+    ensures { result ≡ decided_by (option_copied cue.entry) c }
+{
+    match cue {
+        Some(cue) => decided(cue, c),
+        None => None,
+    }
+}

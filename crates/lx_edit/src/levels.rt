@@ -1,0 +1,84 @@
+//! Edits of a cue's levels: channels set to a level, a group set, and channels released.
+
+ghost use Rattle.std.specs.Prelude.{◌≡◌, ℕ, IfOk};
+ghost use Rattle.lx_spec.specs.Show.{ValidCue};
+ghost use Rattle.lx_spec.specs.Edited.{without_moves};
+ghost use Rattle.lx_edit.specs.Planned.{Plans};
+
+use crate::absent::{channel, the_channels, the_cue, the_given_part, the_group, the_moves};
+use crate::kept::place;
+use crate::moves::{all_at, in_proportion, with_levels};
+use crate::plans::Plan;
+use lx_base::{ChanRange, CueNo, GroupNo, Level, PartNo};
+use lx_show::{Cue, Edit, Refusal, Show};
+use std::alloc::{AllocError, Global};
+
+/// The channels of the range move to the level in the cue.
+pub(crate) fn set(
+    alloc: Global,
+    show: &Show,
+    n: CueNo,
+    part: Option<PartNo>,
+    range: ChanRange,
+    level: Level,
+    only: bool,
+) -> Result<Plan, Refusal>
+    ensures { Plans show.now (Edit.Set n part range level only) result }
+{
+    let old = the_cue(show, n)?;
+    let part = the_given_part(old, part)?;
+    the_channels(show, range)?;
+    let members = all_at(alloc, range, level)?;
+    let cue = with_levels(alloc, show.channels(), old, part, members.as_slice())?;
+    Ok(place(alloc, show, n, old, cue, only)?)
+}
+
+/// The members of the group move to their levels in proportion to this one.
+pub(crate) fn set_group(
+    alloc: Global,
+    show: &Show,
+    n: CueNo,
+    part: Option<PartNo>,
+    g: GroupNo,
+    level: Level,
+    only: bool,
+) -> Result<Plan, Refusal>
+    ensures { Plans show.now (Edit.SetGroup n part g level only) result }
+{
+    let old = the_cue(show, n)?;
+    let part = the_given_part(old, part)?;
+    let group = the_group(show, g)?;
+    let members = in_proportion(alloc, group.members.as_slice(), level)?;
+    let cue = with_levels(alloc, show.channels(), old, part, members.as_slice())?;
+    Ok(place(alloc, show, n, old, cue, only)?)
+}
+
+/// The channels of the range have no move in the cue any more.
+pub(crate) fn release(
+    alloc: Global,
+    show: &Show,
+    n: CueNo,
+    range: ChanRange,
+    only: bool,
+) -> Result<Plan, Refusal>
+    ensures { Plans show.now (Edit.Release n range only) result }
+{
+    let old = the_cue(show, n)?;
+    the_channels(show, range)?;
+    the_moves(old, range)?;
+    let cue = without_moves(old, range)?;
+    Ok(place(alloc, show, n, old, cue, only)?)
+}
+
+/// The cue without moves for the channels of the range. An error comes where memory is wanting.
+fn without_moves(cue: &Cue, range: ChanRange) -> Result<Cue, AllocError>
+    ensures { IfOk result (λ changed. changed ≡ without_moves cue.now range) }
+{
+    let first = range.first().get();
+    let last = range.last().get();
+    let mut changed = cue.copy()?;
+    for n in first..last + 1 {
+        let _ = changed.drop_move(channel(n));
+    }
+    Ok(changed)
+}

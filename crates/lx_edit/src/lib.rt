@@ -1,0 +1,23 @@
+//! Edits of a show: planned whole, and then applied whole. A plan is refused where the edit is, for what it
+//! names and the show lacks, for a stated limit, or for want of memory, and nothing is changed. It takes all
+//! memory that the edit needs, so that to apply it takes none.
+#![tactic(auto)]
+
+mod absent;
+mod applying;
+mod blocks;
+mod chan_set;
+mod changing;
+mod cue_edits;
+mod dirty;
+mod kept;
+mod levels;
+mod members;
+mod moves;
+mod patching;
+pub mod planning;
+mod plans;
+
+pub use chan_set::ChanSet;
+pub use dirty::Dirty;
+pub use plans::Plan;

@@ -1,0 +1,34 @@
+//! Edits of the patch.
+
+ghost use Rattle.lx_edit.specs.Planned.{Plans};
+
+use crate::plans::Plan;
+use lx_base::{Chan, Dimmer, Level};
+use lx_show::{Edit, PatchRow, Refusal, Show};
+
+/// The dimmer follows the channel, in proportion to the level.
+pub(crate) fn patch(show: &Show, dimmer: Dimmer, chan: Chan, level: Level) -> Result<Plan, Refusal>
+    ensures { Plans show.now (Edit.Patch dimmer chan level) result }
+{
+    let row = PatchRow {
+        dimmer,
+        chan,
+        level,
+    };
+    if chan.get() <= show.channels() {
+        Ok(Plan::PlaceRow(row))
+    } else {
+        Err(Refusal::AbsentChannel(chan))
+    }
+}
+
+/// The dimmer follows no channel.
+pub(crate) fn unpatch(show: &Show, dimmer: Dimmer) -> Result<Plan, Refusal>
+    ensures { Plans show.now (Edit.Unpatch dimmer) result }
+{
+    if show.patch_of(dimmer).is_some() {
+        Ok(Plan::RemoveRow(dimmer))
+    } else {
+        Err(Refusal::AbsentDimmer(dimmer))
+    }
+}

@@ -1,0 +1,40 @@
+-- What is no channel of the show is at 0.
+use Rattle.std.proofs.Common.{◌≡◌, ℕ, ◌<◌, false, List, Some, None, refl, ◌∙◌, ap, zero, suc, arith}
+use Rattle.std.specs.Prelude.{Option, IfSome, reverse, nat_le, ◌==◌, ◌&&◌}
+use Rattle.std.specs.Option.{option_map_or}
+use Rattle.std.proofs.lemmas.Bool.Decides.{nat_tests}
+use Rattle.lx_spec.specs.declared.Move.{Move}
+use Rattle.lx_spec.specs.Show.{Cue, Show, Valid, ValidCue}
+use Rattle.lx_spec.specs.Tracked.{decides, level_in, move_in, tracked}
+use Rattle.lx_show.proofs.RisingLists.{all_reverse, each, found_has, find_none}
+use Rattle.lx_sheet.specs.declared.sheet.Place.{Place}
+use Rattle.lx_sheet.specs.Rows.{level_of}
+use Rattle.lx_sheet.specs.Block.{cell, last_value}
+use Rattle.lx_sheet.proofs.Cells.{cell_past}
+use Rattle.lx_sheet.proofs.Rows.{count_up_to, sheet_of, level_of_block}
+use Rattle.lx_spec.specs.Listing.{Rises}
+use Rattle.std.specs.Prelude.{map}
+
+other_number : (a n : ℕ) → a < n → (a == n) ≡ false
+other_number a n less = grind (arith, nat_tests)
+
+no_level : (channels c : ℕ) (cue : Cue) → channels < c → ValidCue channels cue → level_in cue c ≡ 0
+no_level channels c cue past valid =
+    let none : move_in cue c ≡ None = find_none (λ m. m.chan == c) cue.moves (each _ _ cue.moves (λ m h. other_number m.chan c (omega (arith, h.chan.most))) valid.moves) in
+    ap (λ (o : Option Move). option_map_or (λ m. m.level) o 0) none
+
+no_level_found : (channels c : ℕ) (o : Option Cue) → channels < c → IfSome o (ValidCue channels) → option_map_or (λ cue. level_in cue c) o 0 ≡ 0
+no_level_found channels c None past valid = refl
+no_level_found channels c (Some cue) past valid = no_level channels c cue past valid
+
+pub tracked_past : (show : Show) (n c : ℕ) → Valid show → show.channels < c → tracked show n c ≡ 0
+tracked_past show n c valid past =
+    no_level_found show.channels c _ past (found_has (ValidCue show.channels) (λ cue. nat_le cue.number n && decides cue c) (reverse show.cues) _ refl (all_reverse (ValidCue show.channels) show.cues valid.cues))
+
+last_zero : (count : ℕ) (f : ℕ → ℕ) → ((k : ℕ) → f k ≡ 0) → last_value count f ≡ 0
+last_zero zero f none = refl
+last_zero (suc k) f none = none k
+
+pub level_of_past : (channels : ℕ) (order : List Place) (levels : List ℕ) (n c : ℕ) → Rises (λ p. p.cue) order → channels < c → level_of (sheet_of channels order levels) n c ≡ 0
+level_of_past channels order levels n c rises past =
+    level_of_block channels order levels n c rises ∙ last_zero (count_up_to n (map (λ (p : Place). p.cue) order)) (λ k. cell channels levels k c) (λ k. cell_past channels levels k c past)

@@ -1,0 +1,124 @@
+-- The rows of a block, by their places, and the level that it gives at a number.
+use Rattle.std.proofs.Common.{◌≡◌, ℕ, zero, suc, ◌+◌, ◌-◌, ◌*◌, ◌<◌, ◌≤◌, true, false, cond, List, [], ◌∷◌, length, get_or, take, drop, map, Some, refl, ◌∙◌, sym, ap, arith, inl, inr}
+use Rattle.std.specs.Prelude.{Option, find, reverse, nat_le, slice_get}
+use Rattle.std.specs.Option.{option_map_or}
+use Rattle.std.specs.List.{AllByRecursion}
+use Rattle.std.proofs.lemmas.Bool.{cases_lt}
+use Rattle.std.proofs.lemmas.Bool.Decides.{nat_tests}
+use Rattle.std.proofs.lemmas.List.{drop-drop, length-map}
+use Rattle.lx_spec.specs.Listing.{Rises}
+use Rattle.lx_show.specs.Around.{entries_up_to}
+use Rattle.lx_show.proofs.Finding.{find_last}
+use Rattle.lx_show.proofs.RisingLists.{each, filter_none, shorter}
+use Rattle.lx_sheet.specs.declared.sheet.Place.{Place}
+use Rattle.lx_sheet.specs.Rows.{Row, Sheet, level_of, level_in_row}
+use Rattle.lx_sheet.specs.Block.{rows_of, cell, last_value}
+
+pub le_true : (a b : ℕ) → a ≤ b → nat_le a b ≡ true
+le_true a b h = grind (arith, nat_tests)
+
+pub le_false : (a b : ℕ) → b < a → nat_le a b ≡ false
+le_false a b h = grind (arith, nat_tests)
+
+-- how many of the numbers are up to this one
+abbrev pub count_up_to : ℕ → List ℕ → ℕ
+count_up_to n numbers = length (entries_up_to (λ m. m) n numbers)
+
+pub count_up_to-map : {A : Type 0} (key : A → ℕ) (n : ℕ) (xs : List A) → length (entries_up_to key n xs) ≡ count_up_to n (map key xs)
+count_up_to-map key n [] = refl
+count_up_to-map {A} key n (x ∷ xs) =
+    elim (nat_le (key x) n) as (λ b. length (cond b (x ∷ entries_up_to key n xs) (entries_up_to key n xs)) ≡ length (cond b (key x ∷ entries_up_to (λ m. m) n (map key xs)) (entries_up_to (λ m. m) n (map key xs)))) [
+      | true ↦ ap suc (count_up_to-map key n xs)
+      | false ↦ count_up_to-map key n xs
+    ]
+
+-- those up to a number stand in front
+pub up_to_is_front : {A : Type 0} (key : A → ℕ) (n : ℕ) (xs : List A) → Rises key xs → entries_up_to key n xs ≡ take (count_up_to n (map key xs)) xs
+up_to_is_front key n [] rises = refl
+up_to_is_front {A} key n (x ∷ xs) rises =
+    elim (cases_lt n (key x)) [
+      | inl past ↦
+          let none : entries_up_to key n xs ≡ [] = filter_none _ xs (each _ _ xs (λ y h. le_false (key y) n (omega arith)) rises.0) in
+          let no_count : count_up_to n (map key xs) ≡ 0 = sym (count_up_to-map key n xs) ∙ ap length none in
+          rw (le_false (key x) n past) (none ∙ ap (λ k. take k (x ∷ xs)) (sym no_count))
+      | inr within ↦ rw (le_true (key x) n within) (ap (λ ys. x ∷ ys) (up_to_is_front key n xs rises.1))
+    ]
+
+slice_get-take : {A : Type 0} (xs : List A) (k n : ℕ) → k < n → slice_get (take n xs) k ≡ slice_get xs k
+slice_get-take xs k zero less = absurd (omega arith)
+slice_get-take [] k (suc n) less = refl
+slice_get-take (x ∷ xs) zero (suc n) less = refl
+slice_get-take (x ∷ xs) (suc k) (suc n) less = slice_get-take xs k n (omega arith)
+
+last_of_front : {A : Type 0} (f : A → ℕ) (xs : List A) (j : ℕ) → option_map_or f (slice_get (take j xs) (j - 1)) 0 ≡ last_value j (λ k. option_map_or f (slice_get xs k) 0)
+last_of_front f xs zero = refl
+last_of_front {A} f xs (suc k) =
+    let e : suc k - 1 ≡ k = omega arith in
+    ap (λ (o : Option A). option_map_or f o 0) (ap (slice_get (take (suc k) xs)) e ∙ slice_get-take xs k (suc k) (omega arith))
+
+-- the last entry up to a number, by its place
+pub last_up_to : {A : Type 0} (key f : A → ℕ) (n : ℕ) (xs : List A) → Rises key xs → option_map_or f (find (λ x. nat_le (key x) n) (reverse xs)) 0 ≡ last_value (count_up_to n (map key xs)) (λ k. option_map_or f (slice_get xs k) 0)
+last_up_to {A} key f n xs rises =
+    let found : find (λ x. nat_le (key x) n) (reverse xs) ≡ slice_get (entries_up_to key n xs) (length (entries_up_to key n xs) - 1) = sym (find_last (λ x. nat_le (key x) n) xs) in
+    let front : slice_get (entries_up_to key n xs) (length (entries_up_to key n xs) - 1) ≡ slice_get (take (count_up_to n (map key xs)) xs) (count_up_to n (map key xs) - 1) =
+    ap (λ k. slice_get (entries_up_to key n xs) (k - 1)) (count_up_to-map key n xs) ∙ ap (λ (ys : List A). slice_get ys (count_up_to n (map key xs) - 1)) (up_to_is_front key n xs rises) in
+    ap (λ (o : Option A). option_map_or f o 0) (found ∙ front) ∙ last_of_front f xs (count_up_to n (map key xs))
+
+pub count_within : (n : ℕ) (numbers : List ℕ) → count_up_to n numbers ≤ length numbers
+count_within n numbers = shorter (λ m. nat_le m n) numbers
+
+pub length-rows_of : (channels : ℕ) (order : List Place) (levels : List ℕ) → length (rows_of channels order levels) ≡ length order
+length-rows_of channels [] levels = refl
+length-rows_of channels (p ∷ order) levels = ap suc (length-rows_of channels order (drop channels levels))
+
+pub numbers-rows_of : (channels : ℕ) (order : List Place) (levels : List ℕ) → map (λ r. r.number) (rows_of channels order levels) ≡ map (λ p. p.cue) order
+numbers-rows_of channels [] levels = refl
+numbers-rows_of channels (p ∷ order) levels = ap (λ ns. p.cue ∷ ns) (numbers-rows_of channels order (drop channels levels))
+
+all_rows : (P : ℕ → Type 0) (channels : ℕ) (order : List Place) (levels : List ℕ) → AllByRecursion (λ p. P p.cue) order → AllByRecursion (λ r. P r.number) (rows_of channels order levels)
+all_rows P channels [] levels all = tt
+all_rows P channels (p ∷ order) levels all = (all.0, all_rows P channels order (drop channels levels) all.1)
+
+pub Rises-rows_of : (channels : ℕ) (order : List Place) (levels : List ℕ) → Rises (λ p. p.cue) order → Rises (λ r. r.number) (rows_of channels order levels)
+Rises-rows_of channels [] levels rises = tt
+Rises-rows_of channels (p ∷ order) levels rises = (all_rows (λ n. p.cue < n) channels order (drop channels levels) rises.0, Rises-rows_of channels order (drop channels levels) rises.1)
+
+-- the row at a place
+pub row_of_block : (channels : ℕ) (order : List Place) (levels : List ℕ) (k : ℕ) (p : Place) → k < length order → p ≡ get_or order k p → slice_get (rows_of channels order levels) k ≡ Some (record { number = p.cue; levels = take channels (drop (k * channels) levels) })
+row_of_block channels [] levels k p within is = absurd (omega arith)
+row_of_block channels (q ∷ order) levels zero p within is =
+    let none : 0 ≡ 0 * channels = omega arith in
+    ap (λ (x : Place). Some (record { number = x.cue; levels = take channels levels })) (sym is) ∙ ap (λ n. Some (record { number = p.cue; levels = take channels (drop n levels) })) none
+row_of_block channels (q ∷ order) levels (suc k) p within is =
+    let next : channels + k * channels ≡ suc k * channels = omega arith in
+    row_of_block channels order (drop channels levels) k p (omega arith) is ∙ ap (λ (xs : List ℕ). Some (record { number = p.cue; levels = take channels xs })) (drop-drop (k * channels) channels levels ∙ ap (λ n. drop n levels) next)
+
+-- a level in the row at a place
+level_at_place : (channels : ℕ) (order : List Place) (levels : List ℕ) (k c : ℕ) → k < length order → option_map_or (λ row. level_in_row row c) (slice_get (rows_of channels order levels) k) 0 ≡ cell channels levels k c
+unfolding cell
+level_at_place channels [] levels k c within = absurd (omega arith)
+level_at_place channels (q ∷ order) levels zero c within =
+    let none : 0 ≡ 0 * channels = omega arith in
+    ap (λ n. get_or (0 ∷ take channels (drop n levels)) c 0) none
+level_at_place channels (q ∷ order) levels (suc k) c within =
+    let next : channels + k * channels ≡ suc k * channels = omega arith in
+    level_at_place channels order (drop channels levels) k c (omega arith) ∙ ap (λ (xs : List ℕ). get_or (0 ∷ take channels xs) c 0) (drop-drop (k * channels) channels levels ∙ ap (λ n. drop n levels) next)
+
+-- two values that agree at each place
+pub last_value_same : (count : ℕ) (f g : ℕ → ℕ) → ((k : ℕ) → k < count → f k ≡ g k) → last_value count f ≡ last_value count g
+last_value_same zero f g same = refl
+last_value_same (suc k) f g same = same k (omega arith)
+
+-- the sheet of a block
+abbrev pub sheet_of : ℕ → List Place → List ℕ → Sheet
+sheet_of channels order levels = record { channels = channels; rows = rows_of channels order levels }
+
+-- the level at a number stands in the last row up to it
+pub level_of_block : (channels : ℕ) (order : List Place) (levels : List ℕ) (n c : ℕ) → Rises (λ p. p.cue) order → level_of (sheet_of channels order levels) n c ≡ last_value (count_up_to n (map (λ p. p.cue) order)) (λ k. cell channels levels k c)
+unfolding level_of
+level_of_block channels order levels n c rises =
+    let numbers : List ℕ = map (λ (p : Place). p.cue) order in
+    let within : count_up_to n numbers ≤ length order = omega (arith, count_within n numbers, length-map order (λ (p : Place). p.cue)) in
+    last_up_to (λ (r : Row). r.number) (λ (r : Row). level_in_row r c) n (rows_of channels order levels) (Rises-rows_of channels order levels rises)
+    ∙ ap (λ (ns : List ℕ). last_value (count_up_to n ns) (λ k. option_map_or (λ (r : Row). level_in_row r c) (slice_get (rows_of channels order levels) k) 0)) (numbers-rows_of channels order levels)
+    ∙ last_value_same (count_up_to n numbers) _ _ (λ k less. level_at_place channels order levels k c (omega (arith, within, less)))

@@ -1,0 +1,78 @@
+use Rattle.std.proofs.Common.{◌≡◌, ℕ, ◌+◌, ◌<◌, List, length, map, take, ap, sym, ◌∙◌, subst, arith}
+use Rattle.std.proofs.lemmas.List.{length-map, with_items_is}
+use Rattle.lx_spec.specs.Show.{Cue}
+use Rattle.lx_spec.specs.Listing.{entries_below}
+use Rattle.lx_spec.specs.Tracked.{tracked}
+use Rattle.lx_sheet.specs.declared.sheet.Place.{Place}
+use Rattle.lx_sheet.specs.Rows.{Sheet, level_of, numbers_of}
+use Rattle.lx_sheet.specs.Block.{cell, last_value}
+use Rattle.lx_sheet.specs.After.{level_after}
+use Rattle.lx_sheet.specs.Standing.{cue_numbers}
+use Rattle.lx_sheet.proofs.Columns.{IsFilledFrom, count_under, count_under-map, count_under_within, starts_right, column_right}
+use Rattle.lx_sheet.proofs.Past.{level_of_past, tracked_past}
+use Rattle.lx_sheet.proofs.Rows.{last_value_same, sheet_of, level_of_block, count_up_to, numbers-rows_of}
+use Rattle.lx_sheet.proofs.sheet.Sheet.changed.Goals as goal
+
+pub fill_column-requires-clause-from : goal.fill_column-requires-clause-from
+fill_column-requires-clause-from c =
+    omega (arith, ap length c.below-first.ensures, count_under-map (λ (cue : Cue). cue.number) c.get-then-get-self.result c.cues-cues.result.now, count_under_within c.get-then-get-self.result (map (λ (cue : Cue). cue.number) c.cues-cues.result.now), length-map c.cues-cues.result.now (λ (cue : Cue). cue.number))
+
+pub returns-then-get-self-clause-column : goal.returns-then-get-self-clause-column
+returns-then-get-self-clause-column c =
+    let show = c.args.show.now in
+    let from : ℕ = c.args.from in
+    let chan : ℕ = c.args.chan in
+    let channels : ℕ = c.self.inside.channels in
+    let order : List Place = c.self.inside.order.items in
+    let old : List ℕ = c.self.inside.levels.items in
+    let new : List ℕ = c.fill_column.new.levels in
+    let cues : List Cue = c.cues-cues.result.now in
+    let first : ℕ = length c.below-first.result.now in
+    let of_old : c.deref_mut.result.now ≡ old = c.deref_mut.ensures.value in
+    let of_cues : cues ≡ show.cues = c.cues-cues.ensures.cues in
+    let of_first : first ≡ count_under from (cue_numbers show) =
+    ap length c.below-first.ensures ∙ count_under-map (λ (cue : Cue). cue.number) c.get-then-get-self.result cues
+    ∙ ap (λ n. count_under n (map (λ (cue : Cue). cue.number) cues)) c.get-then-get-self.ensures.value ∙ ap (λ (xs : List Cue). count_under from (map (λ cue. cue.number) xs)) of_cues in
+    let written = with_items_is c.self.inside.levels new (omega arith) in
+    let numbers : map (λ (p : Place). p.cue) order ≡ cue_numbers show = sym (numbers-rows_of channels order old) ∙ ap numbers_of c.self.view_is ∙ c.requires.numbers in
+    let filled : IsFilledFrom show from channels order order old new = record {
+      before_rises = c.self.invariant.rise;
+      after_rises = c.self.invariant.rise;
+      cues_rise = c.cues-cues.ensures.valid.cues_rise;
+      below = ap (entries_below (λ n. n) from) numbers;
+      numbers = numbers;
+    } in
+    let below : (n : ℕ) → n < from → level_of (sheet_of channels order old) n chan ≡ tracked show n chan = λ n less. ap (λ (s : Sheet). level_of s n chan) c.self.view_is ∙ c.requires.below n less in
+    let start : last_value first (λ k. cell channels c.deref_mut.result.now k chan) ≡ level_after (take first cues) chan =
+    ap (λ n. last_value n (λ k. cell channels c.deref_mut.result.now k chan)) of_first
+    ∙ ap (λ (xs : List ℕ). last_value (count_under from (cue_numbers show)) (λ k. cell channels xs k chan)) of_old
+    ∙ starts_right show from channels order order old new chan filled below
+    ∙ sym (ap (λ n. level_after (take n show.cues) chan) of_first)
+    ∙ sym (ap (λ (xs : List Cue). level_after (take first xs) chan) of_cues) in
+    subst (λ (xs : List ℕ). (n : ℕ) → level_of (sheet_of channels order xs) n chan ≡ tracked show n chan) (sym written)
+    (column_right show from channels order order old new chan filled below
+    (λ k less. c.fill_column.ensures.front k (omega (arith, of_first, less)) ∙ ap (λ (xs : List ℕ). cell channels xs k chan) of_old)
+    (λ k least less. c.fill_column.ensures.rows start k (omega (arith, of_first, least)) (omega (arith, ap length of_cues, less)) ∙ ap (λ (xs : List Cue). level_after (take (k + 1) xs) chan) of_cues))
+
+pub returns-then-get-self-clause-others : goal.returns-then-get-self-clause-others
+returns-then-get-self-clause-others c = λ n chan other.
+    let channels : ℕ = c.self.inside.channels in
+    let order : List Place = c.self.inside.order.items in
+    let old : List ℕ = c.self.inside.levels.items in
+    let new : List ℕ = c.fill_column.new.levels in
+    let written = with_items_is c.self.inside.levels new (omega arith) in
+    ap (λ (xs : List ℕ). level_of (sheet_of channels order xs) n chan) written
+    ∙ level_of_block channels order new n chan c.self.invariant.rise
+    ∙ last_value_same (count_up_to n (map (λ (p : Place). p.cue) order)) _ _ (λ k less. c.fill_column.ensures.others k chan other ∙ ap (λ (xs : List ℕ). cell channels xs k chan) c.deref_mut.ensures.value)
+    ∙ sym (level_of_block channels order old n chan c.self.invariant.rise)
+    ∙ ap (λ (s : Sheet). level_of s n chan) c.self.view_is
+
+pub returns-then-get-self-clause-numbers : goal.returns-then-get-self-clause-numbers
+returns-then-get-self-clause-numbers c = numbers-rows_of c.self.inside.channels c.self.inside.order.items _ ∙ sym (numbers-rows_of c.self.inside.channels c.self.inside.order.items c.self.inside.levels.items) ∙ ap numbers_of c.self.view_is
+
+pub returns-else-get-self-clause-column : goal.returns-else-get-self-clause-column
+returns-else-get-self-clause-column c = λ n.
+    let past : c.self.inside.channels < c.args.chan = omega (arith, c.get.ensures.value) in
+    let channels : c.self.inside.channels ≡ c.args.show.now.channels = ap (λ (s : Sheet). s.channels) c.self.view_is ∙ c.requires.channels in
+    sym (ap (λ (s : Sheet). level_of s n c.args.chan) c.self.view_is) ∙ level_of_past c.self.inside.channels c.self.inside.order.items c.self.inside.levels.items n c.args.chan c.self.invariant.rise past
+    ∙ sym (tracked_past c.args.show.now n c.args.chan c.cues-cues.ensures.valid (omega (arith, channels, past)))

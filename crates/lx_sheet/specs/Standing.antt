@@ -1,0 +1,24 @@
+-- What a sheet stands for.
+use Rattle.std.specs.Prelude.{◌≡◌, ℕ, ◌<◌, List, map}
+use Rattle.lx_spec.specs.Listing.{entries_below}
+use Rattle.lx_spec.specs.Show.{Show}
+use Rattle.lx_spec.specs.Tracked.{tracked}
+use Rattle.lx_sheet.specs.Rows.{Sheet, numbers_of, level_of}
+
+abbrev pub cue_numbers : Show → List ℕ
+cue_numbers show = map (λ cue. cue.number) show.cues
+
+-- In the column of a channel the sheet stands for the show: at each number the channel has its tracked level.
+abbrev pub StandsIn : Show → ℕ → Sheet → Type 0
+StandsIn show c sheet = (n : ℕ) → level_of sheet n c ≡ tracked show n c
+
+-- The sheet stands for the show: it has the show's channel count and a row for each of its cues, and stands for it in each column.
+pub record StandsFor (show : Show) (sheet : Sheet) : Type 0 where
+  pub channels : sheet.channels ≡ show.channels
+  pub numbers : numbers_of sheet ≡ cue_numbers show
+  pub columns : (c : ℕ) → StandsIn show c sheet
+
+-- The same below a number.
+pub record StandsBelow (show : Show) (from : ℕ) (sheet : Sheet) : Type 0 where
+  pub numbers : entries_below (λ n. n) from (numbers_of sheet) ≡ entries_below (λ n. n) from (cue_numbers show)
+  pub columns : (n c : ℕ) → n < from → level_of sheet n c ≡ tracked show n c

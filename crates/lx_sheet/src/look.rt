@@ -1,0 +1,35 @@
+//! The levels of one cue, made from those of the cue before.
+
+ghost use Rattle.std.specs.Prelude.{◌≡◌, ◌≤◌, ℕ, length};
+ghost use Rattle.std.specs.List.{All};
+ghost use Rattle.std.specs.Option.{option_map_or};
+ghost use Rattle.lx_spec.specs.Listing.{entry_at};
+ghost use Rattle.lx_spec.specs.Show.{ValidCue};
+ghost use Rattle.lx_sheet.specs.Block.{level_among};
+ghost use Rattle.lx_sheet.specs.After.{tracked_on};
+
+use lx_base::Level;
+use lx_show::{Cue, Move};
+
+/// The levels of the cue before become those of the cue: a block cue starts from 0, and each move sets
+/// its channel's level.
+pub(crate) fn track(look: &mut [Level], cue: &Cue)
+    requires { ValidCue (length look.old) cue.now }
+    ensures { (c : ℕ) → level_among look.new c ≡ tracked_on cue.now c (level_among look.old c) }
+{
+    if cue.block {
+        look.fill(0);
+    }
+    place_moves(look, cue.moves.as_slice());
+}
+
+/// Each move sets its channel's level.
+fn place_moves(look: &mut [Level], moves: &[Move])
+    requires { All (λ m. m.chan ≤ length look.old) moves.now }
+    ensures { (c : ℕ) → level_among look.new c ≡ option_map_or (λ m. m.level) (entry_at (λ m. m.chan) c moves.now) (level_among look.old c) }
+{
+    for i in (0..moves.len()).rev() {
+        let entry = moves[i];
+        look[entry.chan.get() as usize - 1] = entry.level;
+    }
+}

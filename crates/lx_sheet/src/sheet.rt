@@ -1,0 +1,100 @@
+//! A sheet, and what it tells.
+
+ghost use Rattle.std.specs.Prelude.{◌≡◌, IfOk, option_map};
+ghost use Rattle.std.specs.Option.{option_copied};
+ghost use Rattle.lx_spec.specs.Show.{Show as ShowData};
+ghost use Rattle.lx_spec.specs.Tracked.{cue_of, tracked};
+ghost use Rattle.lx_spec.specs.Replies.{row_of};
+ghost use Rattle.lx_sheet.specs.Rows.{row_at, level_of};
+ghost use Rattle.lx_sheet.specs.Standing.{StandsFor};
+
+use crate::block::level_before;
+use lx_base::{CUES, Chan, CueNo, Level};
+use lx_show::Show;
+use lx_show::around::up_to;
+use lx_show::rising::{Keyed, place_of};
+use std::alloc::{AllocError, Global};
+use std::marker::Model;
+
+/// Whose row stands at a place of the block.
+#[derive(Clone, Copy, PartialEq, Eq, Debug)]
+pub(crate) struct Place {
+    pub(crate) cue: CueNo,
+}
+
+impl Keyed for Place {
+    ghost key = { λ p. p.cue };
+
+    fn key(&self) -> u32 {
+        self.cue.get()
+    }
+}
+
+/// A row of tracked levels for each cue of a show. Contracts see the channel count for which it was
+/// opened, and its rows, rising by cue number.
+#[derive(Drop)]
+pub struct Sheet {
+    pub(crate) channels: usize,
+    /// The cues of the rows, in the order of their numbers.
+    pub(crate) order: Vec<Place>,
+    /// The rows in that order, each as long as there are channels.
+    pub(crate) levels: Vec<Level>,
+    /// The levels of the cue that is being filled in.
+    pub(crate) look: Vec<Level>,
+}
+
+impl Model for Sheet {
+    ghost use Rattle.std.specs.Prelude.{vec_capacity};
+    ghost use Rattle.lx_sheet.specs.Rows.{Sheet as SheetData};
+    ghost use Rattle.lx_sheet.specs.Block.{rows_of, IsKept};
+
+    ghost Value = { SheetData };
+
+    ghost view = { λ s. record { channels = s.channels; rows = rows_of s.channels s.order.items s.levels.items } };
+
+    ghost invariant = { λ s. IsKept s.channels s.order.items (vec_capacity s.order) s.levels.items s.look.items };
+}
+
+impl Sheet {
+    /// A sheet that stands for the show. It takes the memory for 2,000 rows of the show's channels; an
+    /// error comes where that is wanting.
+    pub fn open(alloc: Global, show: &Show) -> Result<Sheet, AllocError>
+        ensures { IfOk result (StandsFor show.now) }
+    {
+        let channels = show.channels() as usize;
+        let mut sheet = Sheet {
+            channels,
+            order: Vec::with_capacity(alloc, CUES)?,
+            levels: vec![in alloc; 0; CUES * channels]?,
+            look: vec![in alloc; 0; channels]?,
+        };
+        sheet.refill(show);
+        Ok(sheet)
+    }
+
+    /// The row of the cue: the level of channel c at place c - 1. `None` exactly where there is no cue of
+    /// the number.
+    pub fn row(&self, n: CueNo) -> Option<&[Level]>
+        ensures row { option_copied result ≡ option_map (λ row. row.levels) (row_at self.now n) }
+        ensures stands { (show : ShowData) → StandsFor show self.now → option_copied result ≡ option_map (λ cue. row_of show n) (cue_of show n) }
+    {
+        match place_of(self.order.as_slice(), n.get()) {
+            Ok(at) => Some(&self.levels[at * self.channels..(at + 1) * self.channels]),
+            Err(_) => None,
+        }
+    }
+
+    /// The channel's tracked level at the number, which need not be a cue's: that in the last row up to
+    /// it, and 0 where there is none or the channel is above the count.
+    pub fn level_at(&self, n: CueNo, c: Chan) -> Level
+        ensures level { result ≡ level_of self.now n c }
+        ensures stands { (show : ShowData) → StandsFor show self.now → result ≡ tracked show n c }
+    {
+        let at = c.get() as usize - 1;
+        if at >= self.channels {
+            return 0;
+        }
+        let rows = up_to(self.order.as_slice(), n.get()).len();
+        level_before(self.levels.as_slice(), self.channels, rows, at)
+    }
+}
