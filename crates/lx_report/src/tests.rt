@@ -1,0 +1,1 @@
+//! Rows and the cue list of small shows.
