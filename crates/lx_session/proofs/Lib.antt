@@ -8,3 +8,4 @@ pub mod Giving
 pub mod Takings
 pub mod Places
 pub mod SoFar
+pub mod Rows

@@ -74,7 +74,7 @@ goes_on s meaning turn console t done =
     }
 
 -- a fact where the answer is Ok, from another
-over_ok : {T E : Type 0} (r : Result T E) (P Q : Type 0) → (P → Q) → OnOk r P → OnOk r Q
+pub over_ok : {T E : Type 0} (r : Result T E) (P Q : Type 0) → (P → Q) → OnOk r P → OnOk r Q
 over_ok (Ok x) P Q f p = f p
 over_ok (Err e) P Q f p = tt
 

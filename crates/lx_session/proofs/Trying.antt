@@ -21,16 +21,3 @@ answered_at d c (Err refusal) before after a stands same = (subst (StandsFor d) 
 pub answered : (admitted : Bool) (d : Desk) (c : Command) (r : Result (Unit {0}) Refusal) (o : Option Refusal) (before after : Kept) → admitted ≡ true → Answers d c r after → StandsFor d before → OnErr r (after ≡ before) → o ≡ result_err r → Attempted admitted d c o after
 answered admitted d c r o before after all a stands same is =
     subst (λ b. Attempted b d c o after) (sym all) (subst (λ v. Attempted true d c v after) (sym is) (answered_at d c r before after a stands same))
-
--- a session attempts no edit so far
-no_edit : (meaning : Option Line) (c : Command) → IfSome meaning (λ line. is_built line ≡ true) → command_of meaning ≡ Some c → IsFalse (is_edit c)
-no_edit None c built e = cc
-no_edit (Some (lines.Command (commands.Edit edit))) c built e = cc
-no_edit (Some (lines.Command (commands.Key key))) c built e = let same : commands.Key key ≡ c = cc in subst (λ v. IsFalse (is_edit v)) same refl
-no_edit (Some (lines.Command commands.Tick)) c built e = let same : commands.Tick ≡ c = cc in subst (λ v. IsFalse (is_edit v)) same refl
-no_edit (Some (lines.Ticks k)) c built e = let same : commands.Tick ≡ c = cc in subst (λ v. IsFalse (is_edit v)) same refl
-no_edit (Some (lines.Frame u)) c built e = cc
-no_edit (Some lines.Save) c built e = cc
-no_edit (Some (lines.SheetOf n)) c built e = cc
-no_edit (Some lines.Quit) c built e = cc
-no_edit (Some lines.Blank) c built e = cc

@@ -1,7 +1,6 @@
 -- What a script line means to a session, and a session of script lines.
 use Rattle.std.specs.Prelude.{ℕ, Bool, true, false, Option, Some, None, List, fold, if◌then◌else◌}
 use Rattle.std.specs.List.{before_first}
-use Rattle.lx_spec.specs.declared.Command.TheVariants as commands
 use Rattle.lx_spec.specs.declared.Line.{Line}
 use Rattle.lx_spec.specs.declared.Line.TheVariants as lines
 use Rattle.lx_spec.specs.Script.{line_of}
@@ -10,13 +9,11 @@ use Rattle.lx_spec.specs.Replies.{Session, begun, after_meaning, is_quit}
 
 -- the lines that a session answers so far
 abbrev pub is_built : Line → Bool
-is_built (lines.Command (commands.Edit e)) = false
-is_built (lines.Command (commands.Key key)) = true
-is_built (lines.Command commands.Tick) = true
+is_built (lines.Command command) = true
 is_built (lines.Ticks k) = true
 is_built (lines.Frame u) = true
 is_built lines.Save = false
-is_built (lines.SheetOf n) = false
+is_built (lines.SheetOf n) = true
 is_built lines.Quit = true
 is_built lines.Blank = true
 

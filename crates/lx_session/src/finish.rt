@@ -4,7 +4,7 @@ ghost use Rattle.std.specs.Prelude.{◌≡◌, ◌<◌, ◌≤◌, ◌^◌, ◌+
 ghost use Rattle.lx_base.specs.declared.TheConstants.{UNIVERSES, SLOTS};
 ghost use Rattle.lx_io.specs.Puts.{Puts, HasSinkCause};
 ghost use Rattle.lx_spec.specs.Desk.{Desk};
-ghost use Rattle.lx_spec.specs.Replies.{is_quit, frame_text};
+ghost use Rattle.lx_spec.specs.Replies.{is_quit, frame_text, row_text};
 ghost use Rattle.lx_spec.specs.Output.{frame};
 ghost use Rattle.lx_script.specs.Answers.{reply_text};
 ghost use Rattle.lx_console.specs.Slots.{universe as universe_in};
@@ -17,9 +17,10 @@ ghost use Rattle.lx_session.specs.Counting.{reply_for, counted};
 
 use crate::tally::Tally;
 use crate::turn::Turn;
-use lx_base::{Level, UNIVERSE_SLOTS};
+use lx_base::{CueNo, Level, UNIVERSE_SLOTS};
 use lx_console::Console;
 use lx_io::{Sink, SinkFault};
+use lx_report::put_row;
 use lx_script::{Reply, put_frame, put_reply};
 use lx_spec::{Line, Refusal};
 
@@ -79,7 +80,8 @@ fn reply_to_line<K: Sink>(
         Line::Command(_) => give(reply_of(refusal), sink, tally),
         Line::Ticks(_) => give(reply_of(refusal), sink, tally),
         Line::Frame(universe) => put_universe(*universe, console, sink),
-        Line::Save | Line::SheetOf(_) => unreachable!(),
+        Line::Save => unreachable!(),
+        Line::SheetOf(n) => put_sheet(*n, refusal, console, sink, tally),
         Line::Quit => Ok(false),
         Line::Blank => Ok(true),
     }
@@ -110,6 +112,40 @@ fn give<K: Sink>(reply: Reply, sink: &mut K, tally: &mut Tally) -> Result<bool, 
         Reply::Refused(_) => tally.refused += 1,
     }
     put_reply(&reply, sink)?;
+    Ok(true)
+}
+
+/// Appends the row line of a cue; where there is no such cue, that is refused, and counted so.
+fn put_sheet<K: Sink>(
+    n: CueNo,
+    refusal: Option<Refusal>,
+    console: &Console,
+    sink: &mut K,
+    tally: &mut Tally,
+) -> Result<bool, SinkFault>
+    requires ok { tally.old.ok < 2 ^ 64 - 1 }
+    requires refused { tally.old.refused < 2 ^ 64 - 1 }
+    requires bad { tally.old.bad < 2 ^ 64 - 1 }
+    ensures cause { HasSinkCause K.faults K.wants sink.old sink.new result }
+    ensures text { (d : Desk) → StandsFor d console.now → Puts K.holds K.faults K.wants sink.old sink.new result (reply_to d (Some (Line.SheetOf n)) refusal) }
+    ensures counts { (d : Desk) → StandsFor d console.now → OnOk result (counts_in tally.new ≡ counts_after d (counts_in tally.old) (Some (Line.SheetOf n)) refusal) }
+    ensures more { IfOk result (λ more. more ≡ true) }
+    ensures more_ok { tally.new.ok ≤ tally.old.ok + 1 }
+    ensures more_refused { tally.new.refused ≤ tally.old.refused + 1 }
+    ensures more_bad { tally.new.bad ≤ tally.old.bad + 1 }
+{
+    match console.tracked_row(n) {
+        Some(row) => give_row(n, row, sink),
+        None => give(Reply::Refused(Refusal::AbsentCue(n)), sink, tally),
+    }
+}
+
+/// Appends a row line.
+fn give_row<K: Sink>(n: CueNo, row: &[Level], sink: &mut K) -> Result<bool, SinkFault>
+    ensures text { Puts K.holds K.faults K.wants sink.old sink.new result (row_text n row.now) }
+    ensures more { IfOk result (λ more. more ≡ true) }
+{
+    put_row(n, row, sink)?;
     Ok(true)
 }
 

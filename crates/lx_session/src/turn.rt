@@ -1,8 +1,9 @@
 //! One script line on its way: its commands are attempted one after another.
 
-ghost use Rattle.std.specs.Prelude.{◌≡◌, ◌-◌, false, is_some, is_none, not, map, option_map, option_copied, IsTrue, IsFalse, IfSome};
+ghost use Rattle.std.specs.Prelude.{◌≡◌, ◌-◌, false, is_some, is_none, not, map, option_map, option_copied, IsTrue, IfSome};
 ghost use Rattle.lx_spec.specs.Desk.{Desk};
-ghost use Rattle.lx_console.specs.Standing.{StandsFor, is_edit};
+ghost use Rattle.lx_spec.specs.ValidEdit.{ValidCommand};
+ghost use Rattle.lx_console.specs.Standing.{StandsFor};
 ghost use Rattle.lx_session.specs.Meaning.{built};
 ghost use Rattle.lx_session.specs.Turning.{turn_of, given, next_of, count_of, command_of};
 ghost use Rattle.lx_session.specs.Attempts.{Attempted};
@@ -88,7 +89,7 @@ impl Turn {
 
 /// The refusal of a command, if it is refused.
 fn try_command(command: &Command, console: &mut Console, admitted: bool) -> Option<Refusal>
-    requires { IsFalse (is_edit command.now) }
+    requires { ValidCommand command.now }
     ensures attempted { (d : Desk) → StandsFor d console.old → Attempted admitted d command.now result console.new }
     ensures unchanged { IsTrue (is_some result) → console.new ≡ console.old }
 {
@@ -103,7 +104,7 @@ fn built(meaning: Option<Line>) -> Option<Line>
     ensures { result ≡ built meaning }
 {
     match meaning {
-        Some(Line::Command(Command::Edit(_)) | Line::Save | Line::SheetOf(_)) => None,
+        Some(Line::Save) => None,
         other => other,
     }
 }

@@ -1,3 +1,6 @@
+use Rattle.std.proofs.Common.{Some, ap, sym, ◌∙◌}
+use Rattle.lx_session.specs.Replying.{reply_to, counts_after, counts_in}
+use Rattle.lx_session.proofs.LineDone.{over_ok}
 use Rattle.lx_io.proofs.Chain.{Puts-is}
 use Rattle.lx_session.proofs.Replies.{frame_reply, frame_counts, on_ok}
 use Rattle.lx_session.proofs.finish.reply_to_line.Goals as goal
@@ -7,3 +10,9 @@ returns-in-Frame-clause-text g c = λ d stands. Puts-is (c.put_universe.ensures.
 
 pub returns-in-Frame-clause-counts : goal.returns-in-Frame-clause-counts
 returns-in-Frame-clause-counts g c = λ d stands. on_ok _ _ (frame_counts d _ _ _ _ c.in-Frame.is)
+
+pub returns-in-SheetOf-clause-text : goal.returns-in-SheetOf-clause-text
+returns-in-SheetOf-clause-text g c = λ d stands. Puts-is (c.put_sheet.ensures.text d stands) (ap (λ line. reply_to d (Some line) c.args.refusal) (sym c.in-SheetOf.is))
+
+pub returns-in-SheetOf-clause-counts : goal.returns-in-SheetOf-clause-counts
+returns-in-SheetOf-clause-counts g c = λ d stands. over_ok c.put_sheet.result _ _ (λ e. e ∙ ap (λ line. counts_after d (counts_in c.args.tally.now) (Some line) c.args.refusal) (sym c.in-SheetOf.is)) (c.put_sheet.ensures.counts d stands)
