@@ -1,8 +1,11 @@
 pub mod Later
 pub mod Placing
+pub mod Listed
 pub mod Changing
 pub mod Cues
+pub mod Groups
 pub mod Shows
+pub mod Rooted
 pub mod Readings
 pub mod Pairs
 pub mod Entering

@@ -22,18 +22,16 @@ use Rattle.lx_reader.specs.Built.{known_from, built_said}
 use Rattle.lx_reader.specs.PlainState.{section_in, known_of, known_after, IsSound, IsTimedSoFar, TookUp}
 use Rattle.lx_reader.specs.Loading.{TurnOf}
 use Rattle.lx_reader.specs.Stops.{HasPartIn}
-use Rattle.lx_reader.specs.TakenUp.{show_with}
+use Rattle.lx_reader.specs.TakenUp.{show_with, group_in, sub_in}
 use Rattle.lx_reader.proofs.Later.{filter-more}
 use Rattle.lx_reader.proofs.Placing.{has_made, has-all_placed, has-here}
 use Rattle.lx_reader.proofs.Cues.{HasPart, IsFresh}
-use Rattle.lx_reader.proofs.Shows.{made, show_so_far, show-more, IsFounded, named-more}
+use Rattle.lx_reader.proofs.Listed.{is_at}
+use Rattle.lx_reader.proofs.Shows.{made, show_so_far, show-more, IsRooted, IsNamed, cue_at}
+use Rattle.lx_reader.proofs.Rooted.{rooted-none, rooted-more}
 use Rattle.lx_reader.proofs.Readings.{SoFar, nothing_yet, one_more, back_onto, back_onto-append, taken, IsPlain, plain_entry}
 use Rattle.lx_reader.proofs.PlainWords.{entry_in}
 use Rattle.lx_reader.proofs.Turns.{known-more, built_not_clear}
-
--- where an entry stands in the section of a cue, the cue was named
-abbrev pub IsRooted : List Said → Type 0
-IsRooted saids = (n : ℕ) → has_entry (λ m. m) n (named_by cue_named saids) ≡ false → filter (in_cue n) saids ≡ []
 
 -- The lines that were handed out and taken up, and what they say.
 pub record Passed {S : Type 0} (left : S → Option (List ℕ)) (rises : S → ℕ) (old new : Lines S) (plain : Plain) : Type 0 where
@@ -54,7 +52,7 @@ passed_none left rises l p going identified cue up down earlier show = record {
   so_far = nothing_yet;
   known = (λ j. record { facts = record { identified = identified j; section = section_in (cue j); part = 1; cues = map (λ c. c.number) (show j).cues }; up = up j; down = down j; earlier = earlier j });
   show = show;
-  rooted = λ n absent. refl;
+  rooted = rooted-none;
   sound = record { part = subst (λ o. IfSome o (λ n. HasPartIn p.show n 1)) (sym cue) tt; times = subst (λ s. AllByRecursion (IsTimedSoFar p) s.cues) (sym show) tt };
 }
 
@@ -63,13 +61,13 @@ said_in_place : (known : Facts) (r : Result Entry TextFault) (s : Said) → (r >
 said_in_place known (Err fault) s is = cc
 said_in_place known (Ok entry) s is = let e : record { section = known.section; part = known.part; entry = entry } ≡ s = cc in sym e ∙ (λ j. record { section = known.section; part = known.part; entry = (e j).entry })
 
-no_such : (o : Option ℕ) → ((g : ℕ) → section_is_group g (section_in o) ≡ false) × ((n : ℕ) → section_is_sub n (section_in o) ≡ false)
-no_such None = (λ g. refl, λ n. refl)
-no_such (Some m) = (λ g. refl, λ n. refl)
+no_group : (o : Option ℕ) (g : ℕ) → is_at g (group_in (section_in o)) ≡ true → ⊥
+no_group None g is = cc
+no_group (Some m) g is = cc
 
-fresh_none : (about : List Said) (o : Option ℕ) → o ≡ None → IsFresh about o
-fresh_none about None is = tt
-fresh_none about (Some q) is = cc
+no_sub : (o : Option ℕ) (n : ℕ) → is_at n (sub_in (section_in o)) ≡ true → ⊥
+no_sub None n is = cc
+no_sub (Some m) n is = cc
 
 base_part : (about : List Said) → HasPart about 1
 base_part about = has-all_placed 1 (filter_map (λ s. part_named s.entry) about) (1 ∷ []) (has-here 1 [])
@@ -85,32 +83,13 @@ named_open saids p n show sound is =
     let there : has_entry (λ cue. cue.number) n p.show.cues ≡ true = ap is_some x.1 in
     sym (has_made (λ cue. cue.number) (made saids) (λ m. refl) n (named_by cue_named saids)) ∙ sym (ap (λ s. has_entry (λ cue. cue.number) n s.cues) show) ∙ there
 
-founded : (saids : List Said) (p : Plain) (entry : Entry) → IsRooted saids → p.show ≡ show_so_far saids → IsSound p → part_named entry ≡ None → IsFounded saids (section_in p.cue) 1 entry
-founded saids p entry rooted show sound none = record {
-  named = λ n is. named_open saids p n show sound is;
+named_here : (saids : List Said) (p : Plain) → p.show ≡ show_so_far saids → IsSound p → IsNamed saids (section_in p.cue) 1
+named_here saids p show sound = record {
+  cue = λ n is. named_open saids p n show sound (cue_at n (section_in p.cue) ∙ is);
+  group = λ g is. absurd (no_group p.cue g is);
+  sub = λ n is. absurd (no_sub p.cue n is);
   part = λ n is. base_part (filter (in_cue n) saids);
-  fresh = λ n is. fresh_none (filter (in_cue n) saids) (part_named entry) none;
-  absent = rooted;
 }
-
--- what was absent before
-absent_before : (saids : List Said) (s : Said) (n : ℕ) → has_entry (λ m. m) n (named_by cue_named (saids ++ s ∷ [])) ≡ false → has_entry (λ m. m) n (named_by cue_named saids) ≡ false
-absent_before saids s n absent =
-    let more : has_entry (λ m. m) n (fold (λ ys x. placed (λ k. k) x ys) (named_by cue_named saids) (cons_option (cue_named s.entry) [])) ≡ false = ap (has_entry (λ m. m) n) (sym (named-more cue_named saids s)) ∙ absent in
-    let at : (b : Bool) → has_entry (λ m. m) n (named_by cue_named saids) ≡ b → b ≡ false = λ b. elim b as (λ b. has_entry (λ m. m) n (named_by cue_named saids) ≡ b → b ≡ false) [
-      | true ↦ λ e. sym (has-all_placed n (cons_option (cue_named s.entry) []) (named_by cue_named saids) e) ∙ more
-      | false ↦ λ e. refl
-    ] in
-    at (has_entry (λ m. m) n (named_by cue_named saids)) refl
-
-rooted_more : (saids : List Said) (p : Plain) (s : Said) → s.section ≡ section_in p.cue → IsRooted saids → p.show ≡ show_so_far saids → IsSound p → IsRooted (saids ++ s ∷ [])
-rooted_more saids p s place rooted show sound n absent =
-    let before : has_entry (λ m. m) n (named_by cue_named saids) ≡ false = absent_before saids s n absent in
-    let at : (b : Bool) → section_is_cue n s.section ≡ b → b ≡ false = λ b. elim b as (λ b. section_is_cue n s.section ≡ b → b ≡ false) [
-      | true ↦ λ e. sym (named_open saids p n show sound (ap (section_is_cue n) (sym place) ∙ e)) ∙ before
-      | false ↦ λ e. refl
-    ] in
-    filter-more (in_cue n) saids s ∙ (λ j. rooted n before j ++ cond (at (section_is_cue n s.section) refl j) (s ∷ []) [])
 
 pub texts_more : (raws : List (List ℕ)) (raw : List ℕ) → map without_cr (raws ++ raw ∷ []) ≡ map without_cr raws ++ without_cr raw ∷ []
 texts_more raws raw = map-append without_cr raws (raw ∷ [])
@@ -136,8 +115,7 @@ passed_by left rises old l l' p q past raw handed i place (Ok s) says took =
     let says' : built_said (known_from (back_onto handed_texts [])) (length handed_texts + 1) line ≡ Ok s = (λ j. built_said (sym past.known j) (sym place j) line) ∙ says in
     let more : SoFar (handed_texts ++ line ∷ []) (past.saids ++ s ∷ []) = one_more handed_texts past.saids line s past.so_far says' took.0 in
     let shown : show_so_far (past.saids ++ record { section = section_in p.cue; part = 1; entry = s.entry } ∷ []) ≡ show_with (record { section = section_in p.cue; part = 1; entry = s.entry }) (show_so_far past.saids)
-    = show-more past.saids (section_in p.cue) 1 s.entry (founded past.saids p s.entry past.rooted past.show past.sound plain.no_part)
-    (record { groups = (no_such p.cue).0; subs = (no_such p.cue).1; no_group = plain.no_group; no_sub = plain.no_sub }) in
+    = show-more past.saids (record { section = section_in p.cue; part = 1; entry = s.entry }) past.rooted (named_here past.saids p past.show past.sound) in
     record {
       raws = past.raws ++ raw ∷ [];
       saids = past.saids ++ s ∷ [];
@@ -149,7 +127,7 @@ passed_by left rises old l l' p q past raw handed i place (Ok s) says took =
           ∙ sym (known-more (back_onto handed_texts []) line (built_not_clear (known_of p) (tokens line) s.entry t.built))
           ∙ sym (ap known_from (ap (λ v. back_onto v []) (texts_more past.raws raw) ∙ back_onto-append handed_texts line []));
       show = took.1.show ∙ (λ j. show_with (where_said j) (past.show j)) ∙ sym shown ∙ sym (ap (λ z. show_so_far (past.saids ++ z ∷ [])) where_said);
-      rooted = rooted_more past.saids p s (ap (λ z. z.section) where_said) past.rooted past.show past.sound;
+      rooted = subst (λ z. IsRooted (past.saids ++ z ∷ [])) (sym where_said) (rooted-more past.saids (record { section = section_in p.cue; part = 1; entry = s.entry }) past.rooted (named_here past.saids p past.show past.sound));
       sound = took.1.sound;
     }
 
