@@ -4,4 +4,7 @@ pub mod Lists
 pub mod Stops
 pub mod Known
 pub mod PlainState
+pub mod Numbers
+pub mod Entering
+pub mod ReaderState
 pub mod Loading
