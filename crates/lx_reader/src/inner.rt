@@ -15,7 +15,7 @@ ghost use Rattle.lx_reader.specs.TakenUp.{show_with};
 
 use crate::entries::{set_down, set_up};
 use crate::levels::put_members;
-use crate::naming::name_part;
+use crate::naming::{name_part, put_label};
 use crate::numbers::{next_cue_no, next_part, next_time, next_times};
 use crate::reader::Reader;
 use crate::stop::Stop;
@@ -35,7 +35,8 @@ impl Reader {
         requires { IsReady self.old i }
         ensures { TakesInner self.old self.new i word (left tokens.entry) result (inner_line desk_limits self.old.section i line.now word (left tokens.entry)) }
     {
-        match self.section {
+        let section = self.section;
+        match section {
             Section::NoRecord => self.take_stray(i, word, tokens),
             Section::InCue(n) => self.take_in_cue(n, i, line, word, tokens),
             Section::InGroup(_) => self.take_in_list(i, line, word, tokens),
@@ -133,14 +134,11 @@ impl Reader {
         requires { IsOpen self.old.show self.old.section self.old.part }
         ensures { self.new ≡ record self.old { show = show_with (said_at self.old (IsLabelled (label_of (rest_after line.now 1)))) self.old.show } }
     {
-        let label = Label::new(rest_after(line, 1));
-        match self.section {
-            Section::InCue(n) => self.show.set_label(n, label),
-            Section::InGroup(g) => self.show.set_group_label(g, label),
-            Section::InSub(s) => self.show.set_sub_label(s, label),
-            Section::NoRecord => {}
-            Section::Skipping => {}
-        }
+        put_label(
+            &mut self.show,
+            self.section,
+            Label::new(rest_after(line, 1)),
+        );
     }
 
     /// `PART p`

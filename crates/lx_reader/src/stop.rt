@@ -12,8 +12,9 @@ pub(crate) enum Stop {
 
 impl From<TextFault> for Stop {
     ghost use Rattle.std.specs.Prelude.{◌≡◌};
+    ghost use Rattle.lx_reader.specs.declared.stop.Stop.TheVariants.{Fault};
 
-    ghost from_gives = { λ fault stop. stop ≡ Stop.Fault fault };
+    ghost from_gives = { λ fault stop. stop ≡ Fault fault };
 
     fn from(fault: TextFault) -> Stop {
         Stop::Fault(fault)
@@ -22,8 +23,9 @@ impl From<TextFault> for Stop {
 
 impl From<AllocError> for Stop {
     ghost use Rattle.std.specs.Prelude.{◌≡◌};
+    ghost use Rattle.lx_reader.specs.declared.stop.Stop.TheVariants.{Memory};
 
-    ghost from_gives = { λ _ stop. stop ≡ Stop.Memory };
+    ghost from_gives = { λ _ stop. stop ≡ Memory };
 
     fn from(_: AllocError) -> Stop {
         Stop::Memory
