@@ -6,6 +6,7 @@ pub mod Cues
 pub mod Groups
 pub mod Shows
 pub mod Rooted
+pub mod TakingUp
 pub mod Readings
 pub mod Pairs
 pub mod Entering
