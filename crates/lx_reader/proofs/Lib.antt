@@ -7,6 +7,8 @@ pub mod Groups
 pub mod Shows
 pub mod Rooted
 pub mod TakingUp
+pub mod Spelled
+pub mod KnownLines
 pub mod Readings
 pub mod Pairs
 pub mod Entering
