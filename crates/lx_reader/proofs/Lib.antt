@@ -9,6 +9,7 @@ pub mod Rooted
 pub mod TakingUp
 pub mod Spelled
 pub mod KnownLines
+pub mod Telling
 pub mod Readings
 pub mod Pairs
 pub mod Entering
