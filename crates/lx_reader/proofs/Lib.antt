@@ -10,6 +10,7 @@ pub mod TakingUp
 pub mod Spelled
 pub mod KnownLines
 pub mod Telling
+pub mod Naming
 pub mod Readings
 pub mod Pairs
 pub mod Entering
