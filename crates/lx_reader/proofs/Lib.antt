@@ -6,6 +6,11 @@ pub mod Cues
 pub mod Groups
 pub mod Shows
 pub mod Rooted
+pub mod TakingUp
+pub mod Spelled
+pub mod KnownLines
+pub mod Telling
+pub mod Naming
 pub mod Readings
 pub mod Pairs
 pub mod Entering

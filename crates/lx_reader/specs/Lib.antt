@@ -3,6 +3,7 @@ pub mod Built
 pub mod Lists
 pub mod Stops
 pub mod Known
+pub mod ReadLines
 pub mod PlainState
 pub mod Numbers
 pub mod Entering
