@@ -15,7 +15,7 @@ ghost use Rattle.lx_reader.specs.TakenUp.{show_with};
 
 use crate::entries::{set_down, set_up};
 use crate::levels::put_members;
-use crate::naming::{name_part, put_label};
+use crate::making::{name_part, put_label};
 use crate::numbers::{next_cue_no, next_part, next_time, next_times};
 use crate::reader::Reader;
 use crate::stop::Stop;
@@ -126,7 +126,7 @@ impl Reader {
         requires { IsReady self.old i }
         ensures { TakesInner self.old self.new i words.Chan (left tokens.entry) result (levels desk_limits i (left tokens.entry)) }
     {
-        put_members(&mut self.show, self.section, self.part, i, tokens)
+        put_members(&mut self.show, &self.section, self.part, i, tokens)
     }
 
     /// `TEXT` with a label

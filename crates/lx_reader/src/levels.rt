@@ -27,16 +27,16 @@ fn widen(show: &mut Show, chan: Chan)
 /// Puts a level into the section, and in a cue into this part.
 fn put_member(
     show: &mut Show,
-    section: Section,
+    section: &Section,
     part: PartNo,
     member: Member,
 ) -> Result<(), AllocError>
-    requires { IsOpen show.old section part }
-    ensures show { OnOk result (show.new ≡ with_members section part (member ∷ []) show.old) }
-    ensures open { OnOk result (IsOpen show.new section part) }
+    requires { IsOpen show.old section.now part }
+    ensures show { OnOk result (show.new ≡ with_members section.now part (member ∷ []) show.old) }
+    ensures open { OnOk result (IsOpen show.new section.now part) }
 {
     widen(show, member.chan);
-    match section {
+    match *section {
         Section::InCue(n) => show.put_move_in(
             n,
             Move {
@@ -55,13 +55,13 @@ fn put_member(
 /// Puts the levels of a line into the section, and in a cue into this part.
 pub(crate) fn put_members(
     show: &mut Show,
-    section: Section,
+    section: &Section,
     part: PartNo,
     i: u32,
     mut tokens: Tokens,
 ) -> Result<(), Stop>
-    requires { IsOpen show.old section part }
-    ensures show { OnOk result (IsOkAnd (all_pairs i (left tokens.entry)) (λ members. show.new ≡ with_members section part members show.old)) }
+    requires { IsOpen show.old section.now part }
+    ensures show { OnOk result (IsOkAnd (all_pairs i (left tokens.entry)) (λ members. show.new ≡ with_members section.now part members show.old)) }
     ensures stop { IfErr result (λ stop. IsStopOf stop (all_pairs i (left tokens.entry))) }
 {
     let _ = show.channels();

@@ -7,7 +7,7 @@ mod inner;
 mod levels;
 mod lists;
 mod loaded;
-mod naming;
+mod making;
 mod numbers;
 mod plain;
 mod read;

@@ -1,10 +1,11 @@
 //! The numbers of a line, by their ranges, and the faults of those that it lacks.
 
-ghost use Rattle.std.specs.Prelude.{◌≡◌, ◌∷◌, []};
+ghost use Rattle.std.specs.Prelude.{◌≡◌, ◌∷◌, [], IfOk};
 ghost use Rattle.lx_base.specs.declared.TheConstants.{CHANNELS, DIMMERS, GROUPS, PARTS, SUBS};
 ghost use Rattle.lx_spec.specs.Limits.{desk_limits};
 ghost use Rattle.lx_spec.specs.Numerals.{read_cue_no, read_time, read_whole};
 ghost use Rattle.lx_spec.specs.Saying.{is_page_one, delay_at};
+ghost use Rattle.lx_spec.specs.Show.{IsTime};
 ghost use Rattle.lx_lex.specs.Left.{left};
 ghost use Rattle.lx_reader.specs.Lists.{fault_of};
 ghost use Rattle.lx_reader.specs.Numbers.{next_number, next_times, record_number};
@@ -87,7 +88,8 @@ pub(crate) fn next_part(i: u32, mut tokens: Tokens) -> Result<PartNo, TextFault>
 
 /// The time that comes next.
 pub(crate) fn next_time(i: u32, mut tokens: Tokens) -> Result<Cs, TextFault>
-    ensures { result ≡ next_number i read_time (left tokens.entry) }
+    ensures number { result ≡ next_number i read_time (left tokens.entry) }
+    ensures time { IfOk result IsTime }
 {
     let Some(token) = tokens.next() else {
         return Err(TextFault::ShortList(i));
@@ -107,7 +109,8 @@ pub(crate) fn next_cue_no(i: u32, mut tokens: Tokens) -> Result<CueNo, TextFault
 
 /// The time that comes next and the delay after it.
 pub(crate) fn next_times(i: u32, mut tokens: Tokens) -> Result<(Cs, Cs), TextFault>
-    ensures { result ≡ next_times i (left tokens.entry) }
+    ensures numbers { result ≡ next_times i (left tokens.entry) }
+    ensures times { IfOk result (λ t. IsTime t.0 × IsTime t.1) }
 {
     let Some(token) = tokens.next() else {
         return Err(TextFault::ShortList(i));
@@ -120,7 +123,8 @@ pub(crate) fn next_times(i: u32, mut tokens: Tokens) -> Result<(Cs, Cs), TextFau
 
 /// A delay; 0 where no token is left.
 fn delay(i: u32, mut tokens: Tokens) -> Result<Cs, TextFault>
-    ensures { result ≡ delay_at i (left tokens.entry) }
+    ensures number { result ≡ delay_at i (left tokens.entry) }
+    ensures time { IfOk result IsTime }
 {
     match tokens.next() {
         Some(token) => read_time(token).map_err(|bad| fault_of(i, bad)),

@@ -10,7 +10,7 @@ ghost use Rattle.lx_lex.specs.Left.{left};
 ghost use Rattle.lx_reader.specs.ReaderState.{IsReady, known_of, TakesWord};
 
 use crate::entries::{name_cue, put_rows};
-use crate::naming::{name_group, name_sub};
+use crate::making::{name_group, name_sub};
 use crate::numbers::{cue_of_record, group_of_record, is_one, next_channel, sub_of_record};
 use crate::reader::Reader;
 use crate::stop::Stop;
