@@ -77,11 +77,11 @@ pub record LevelsSoFar (i n p : ℕ) (old new : Show) (all rest : List (List ℕ
   pub show : new ≡ with_levels n p done old
   pub part : HasPartIn new n p
 
-onto_nothing : {A E : Type 0} (r : Result (List A) E) → r ≡ onto [] r
+pub onto_nothing : {A E : Type 0} (r : Result (List A) E) → r ≡ onto [] r
 onto_nothing (Ok xs) = refl
 onto_nothing (Err e) = refl
 
-onto_again : {A E : Type 0} (xs ys : List A) (r : Result (List A) E) → onto xs (onto ys r) ≡ onto (xs ++ ys) r
+pub onto_again : {A E : Type 0} (xs ys : List A) (r : Result (List A) E) → onto xs (onto ys r) ≡ onto (xs ++ ys) r
 onto_again xs ys (Ok zs) = ap Ok (sym (append_assoc xs ys zs))
 onto_again xs ys (Err e) = refl
 

@@ -1,4 +1,3 @@
-pub mod Taking
 pub mod Later
 pub mod Placing
 pub mod Listed
@@ -21,3 +20,5 @@ pub mod Turns
 pub mod Passing
 pub mod Ending
 pub mod Lengths
+pub mod Taking
+pub mod Members

@@ -4,7 +4,7 @@ ghost use Rattle.std.specs.Prelude.{◌≡◌, ◌∷◌, [], IfOk};
 ghost use Rattle.lx_base.specs.declared.TheConstants.{CHANNELS, DIMMERS, GROUPS, PARTS, SUBS};
 ghost use Rattle.lx_spec.specs.Limits.{desk_limits};
 ghost use Rattle.lx_spec.specs.Numerals.{read_cue_no, read_time, read_whole};
-ghost use Rattle.lx_spec.specs.Saying.{is_page_one, delay_at};
+ghost use Rattle.lx_spec.specs.Saying.{is_page_one, delay_at, number};
 ghost use Rattle.lx_spec.specs.Show.{IsTime};
 ghost use Rattle.lx_lex.specs.Left.{left};
 ghost use Rattle.lx_reader.specs.Lists.{fault_of};
@@ -94,7 +94,18 @@ pub(crate) fn next_time(i: u32, mut tokens: Tokens) -> Result<Cs, TextFault>
     let Some(token) = tokens.next() else {
         return Err(TextFault::ShortList(i));
     };
-    read_time(token).map_err(|bad| fault_of(i, bad))
+    time_at(i, token)
+}
+
+/// The time that a token of line i spells.
+fn time_at(i: u32, token: &[u8]) -> Result<Cs, TextFault>
+    ensures number { result ≡ number i (read_time token.now) }
+    ensures time { IfOk result IsTime }
+{
+    match read_time(token) {
+        Ok(time) => Ok(time),
+        Err(bad) => Err(fault_of(i, bad)),
+    }
 }
 
 /// The cue number that comes next.
@@ -115,10 +126,9 @@ pub(crate) fn next_times(i: u32, mut tokens: Tokens) -> Result<(Cs, Cs), TextFau
     let Some(token) = tokens.next() else {
         return Err(TextFault::ShortList(i));
     };
-    match read_time(token) {
-        Ok(time) => Ok((time, delay(i, tokens)?)),
-        Err(bad) => Err(fault_of(i, bad)),
-    }
+    let time = time_at(i, token)?;
+    let delay = delay(i, tokens)?;
+    Ok((time, delay))
 }
 
 /// A delay; 0 where no token is left.
@@ -127,7 +137,7 @@ fn delay(i: u32, mut tokens: Tokens) -> Result<Cs, TextFault>
     ensures time { IfOk result IsTime }
 {
     match tokens.next() {
-        Some(token) => read_time(token).map_err(|bad| fault_of(i, bad)),
+        Some(token) => time_at(i, token),
         None => Ok(0),
     }
 }
