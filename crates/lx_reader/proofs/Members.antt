@@ -109,3 +109,26 @@ members_end i section p old new all rest so_far none =
 
 pub members_fault : (i : ℕ) (section : Section) (p : ℕ) (old new : Show) (all rest : List (List ℕ)) (fault : TextFault) → MembersSoFar i section p old new all rest → all_pairs i rest ≡ Err fault → all_pairs i all ≡ Err fault
 members_fault i section p old new all rest fault so_far is = so_far.list ∙ ap (onto so_far.done) is
+
+-- One level that was put into a widened show.
+same_on_ok : {A E : Type 0} (r : Result (Unit {0}) E) (x y z : A) → OnOk r (x ≡ y) → y ≡ z → OnOk r (x ≡ z)
+same_on_ok (Err e) x y z is same = tt
+same_on_ok (Ok done) x y z is same = is ∙ same
+
+pub member_open : {E : Type 0} (r : Result (Unit {0}) E) (section : Section) (p : ℕ) (m : Member) (old changed_show new : Show) → OnOk r (new ≡ changed_show) → changed_show ≡ with_members section p (m ∷ []) old → IsOpen old section p → OnOk r (IsOpen new section p)
+member_open r section p m old changed_show new is same there = open_after r section p (m ∷ []) old new (same_on_ok r new changed_show (with_members section p (m ∷ []) old) is same) there
+
+pub cue_member : (section : Section) (n p : ℕ) (m : Member) (old wide : Show) → section ≡ InCue n → wide ≡ record old { channels = max old.channels m.chan }
+    → record wide { cues = changed (λ cue. cue.number) n (λ cue. record cue { moves = placed (λ x. x.chan) (record { chan = m.chan; part = p; level = m.level }) cue.moves }) wide.cues } ≡ with_members section p (m ∷ []) old
+cue_member section n p m old wide is widened =
+    (λ j. let w : Show = widened j in record w { cues = changed (λ cue. cue.number) n (λ cue. record cue { moves = placed (λ x. x.chan) (record { chan = m.chan; part = p; level = m.level }) cue.moves }) w.cues }) ∙ ap (λ s. with_members s p (m ∷ []) old) (sym is)
+
+pub group_member : (section : Section) (g p : ℕ) (m : Member) (old wide : Show) → section ≡ InGroup g → wide ≡ record old { channels = max old.channels m.chan }
+    → record wide { groups = changed (λ group. group.number) g (λ group. record group { members = placed (λ x. x.chan) m group.members }) wide.groups } ≡ with_members section p (m ∷ []) old
+group_member section g p m old wide is widened =
+    (λ j. let w : Show = widened j in record w { groups = changed (λ group. group.number) g (λ group. record group { members = placed (λ x. x.chan) m group.members }) w.groups }) ∙ ap (λ s. with_members s p (m ∷ []) old) (sym is)
+
+pub sub_member : (section : Section) (n p : ℕ) (m : Member) (old wide : Show) → section ≡ InSub n → wide ≡ record old { channels = max old.channels m.chan }
+    → record wide { subs = changed (λ sub. sub.number) n (λ sub. record sub { members = placed (λ x. x.chan) m sub.members }) wide.subs } ≡ with_members section p (m ∷ []) old
+sub_member section n p m old wide is widened =
+    (λ j. let w : Show = widened j in record w { subs = changed (λ sub. sub.number) n (λ sub. record sub { members = placed (λ x. x.chan) m sub.members }) w.subs }) ∙ ap (λ s. with_members s p (m ∷ []) old) (sym is)
