@@ -1,10 +1,11 @@
 -- A show text that is read line by line.
-use Rattle.std.proofs.Common.{◌≡◌, ℕ, suc, ◌+◌, ◌≤◌, Bool, true, false, cond, List, [], ◌∷◌, ◌++◌, map, length, take, drop, Option, Some, None, Result, Ok, Err, refl, ap, ◌∙◌, sym, subst, arith, add-zero, add-one}
+use Rattle.std.proofs.Common.{◌≡◌, ℕ, suc, ◌+◌, ◌<◌, ◌≤◌, Bool, true, false, cond, List, [], ◌∷◌, ◌++◌, map, length, take, drop, Option, Some, None, Result, Ok, Err, refl, ap, ◌∙◌, sym, subst, arith, add-zero, add-one, append-nil}
 use Rattle.std.specs.Prelude.{◌&&◌, ◌||◌, nat_lt, codes, filter_map, find, unwrap_or, is_some, option_and_then, IfSome, IfOk, if◌then◌else◌}
 use Rattle.std.specs.List.{list_any, before_first, position_or_len}
 use Rattle.std.specs.Option.{option_map_or}
 use Rattle.std.proofs.Math.Seq.{take-append_seam}
 use Rattle.std.proofs.lemmas.List.{map-append}
+use Rattle.std.proofs.lemmas.Bool.Decides.{nat_tests}
 use Rattle.lx_base.specs.declared.TheConstants.{LINE_BYTES}
 use Rattle.lx_spec.specs.declared.Form.TheVariants.{Moves}
 use Rattle.lx_spec.specs.declared.Section.{Section}
@@ -22,7 +23,7 @@ use Rattle.lx_spec.specs.Reading.{Reading, reading_from, reading_or_fault, ends_
 use Rattle.lx_reader.specs.Stops.{IsOpen}
 use Rattle.lx_reader.specs.TakenUp.{Taken, later, nothing_taken, taken_up, reading_of_taken}
 use Rattle.lx_reader.specs.Known.{is_clear, part_in, facts_from, facts_by, facts_after, IsSoundAt}
-use Rattle.lx_reader.specs.ReadLines.{reads_lines, lines_after}
+use Rattle.lx_reader.specs.ReadLines.{reads_lines, lines_read, lines_after}
 use Rattle.lx_reader.proofs.Later.{any-more}
 use Rattle.lx_reader.proofs.Shows.{made, show_so_far, IsRooted, IsNamed}
 use Rattle.lx_reader.proofs.TakingUp.{since_cleared, IsTakenFrom, taken_none, taken_more, taken_reading, part_outside, skipped_few, since_more}
@@ -251,8 +252,26 @@ read_more lines known t line s so_far says goes_on =
       channels = channels_kept (channels_set s.entry) (clears_all s.entry) t.channels_set (channels_told known (tokens line) s.entry tells) so_far.channels;
     }
 
+-- what is known may be told otherwise
+pub read_known : (lines : List (List ℕ)) (known : Facts) (t : Taken) (k : Facts) → ReadSoFar lines known t → record k { cues = known.cues } ≡ known → k.cues ≡ map (λ cue. cue.number) t.show.cues → ReadSoFar lines k t
+read_known lines known t k so_far same cues =
+    let is : k ≡ known = (λ j. record k { cues = (cues ∙ sym (read_sound lines known t so_far).cues) j }) ∙ same in
+    subst (λ z. ReadSoFar lines z t) (sym is) so_far
+
+-- how many lines are wanted, where the reading ends at one of them
+lines_to : (lines : List (List ℕ)) (saids : List Said) (line : List ℕ) (more : List (List ℕ)) (r : Result Said TextFault) → all_said desk_limits [] 1 lines ≡ map Ok saids → NoEnd saids
+    → said desk_limits (facts desk_limits (back_onto lines [])) (length lines + 1) line ≡ r → ends_reading r ≡ true → lines_read (lines ++ line ∷ more) ≡ length lines + 1
+lines_to lines saids line more r results none is end =
+    let rest : Results = all_said desk_limits (line ∷ back_onto lines []) (length lines + 1 + 1) more in
+    ap (λ v. position_or_len ends_reading v + 1) (results_to lines saids line more r results is)
+    ∙ ap (λ n. n + 1) (position_end saids r rest none end ∙ saids_count lines saids results)
+
 -- The next line has a fault.
-pub read_refused : (lines : List (List ℕ)) (known : Facts) (t : Taken) (line : List ℕ) (fault : TextFault) → ReadSoFar lines known t → said desk_limits known (length lines + 1) line ≡ Err fault → (more : List (List ℕ)) → reads_lines (lines ++ line ∷ more) ≡ Err fault
+pub record Refused (lines : List (List ℕ)) (line : List ℕ) (fault : TextFault) (more : List (List ℕ)) : Type 0 where
+  pub reading : reads_lines (lines ++ line ∷ more) ≡ Err fault
+  pub wanted : lines_read (lines ++ line ∷ more) ≡ length lines + 1
+
+pub read_refused : (lines : List (List ℕ)) (known : Facts) (t : Taken) (line : List ℕ) (fault : TextFault) → ReadSoFar lines known t → said desk_limits known (length lines + 1) line ≡ Err fault → (more : List (List ℕ)) → Refused lines line fault more
 read_refused lines known t line fault so_far says more =
     let i : ℕ = length lines + 1 in
     let before : List (List ℕ) = back_onto lines [] in
@@ -261,8 +280,12 @@ read_refused lines known t line fault so_far says more =
     ap (placed_in (facts desk_limits before)) (entry_by before known i line so_far.known_is ∙ none) in
     let rest : Results = all_said desk_limits (line ∷ before) (i + 1) more in
     let all = results_to lines so_far.saids line more (Err fault) so_far.results says' in
-    ap (λ v. option_map_or (reading_or_fault Moves v) (find ends_reading v) (Err (NoEndData (length v + 1)))) all
-    ∙ ap (λ o. option_map_or (reading_or_fault Moves (map Ok so_far.saids ++ Err fault ∷ rest)) o (Err (NoEndData (length (map Ok so_far.saids ++ Err fault ∷ rest) + 1)))) (find_end so_far.saids (Err fault) rest so_far.no_end refl)
+    record {
+      reading =
+          ap (λ v. option_map_or (reading_or_fault Moves v) (find ends_reading v) (Err (NoEndData (length v + 1)))) all
+          ∙ ap (λ o. option_map_or (reading_or_fault Moves (map Ok so_far.saids ++ Err fault ∷ rest)) o (Err (NoEndData (length (map Ok so_far.saids ++ Err fault ∷ rest) + 1)))) (find_end so_far.saids (Err fault) rest so_far.no_end refl);
+      wanted = lines_to lines so_far.saids line more (Err fault) so_far.results so_far.no_end says' refl;
+    }
 
 -- The next line is ENDDATA.
 drop_suc : {A : Type 0} (front : List A) (x : A) (back : List A) → drop (suc (length front)) (front ++ x ∷ back) ≡ back
@@ -272,9 +295,10 @@ drop_suc (y ∷ front) x back = drop_suc front x back
 drop_past : {A : Type 0} (front : List A) (x : A) (back : List A) → drop (length front + 1) (front ++ x ∷ back) ≡ back
 drop_past front x back = rw (add-one (length front)) (drop_suc front x back)
 
--- what the lines mean, and those after them
+-- what the lines mean, how many are wanted, and those after them
 pub record Ended (lines : List (List ℕ)) (line : List ℕ) (t : Taken) (more : List (List ℕ)) : Type 0 where
   pub reading : reads_lines (lines ++ line ∷ more) ≡ Ok (reading_of_taken t)
+  pub wanted : lines_read (lines ++ line ∷ more) ≡ length lines + 1
   pub after : lines_after (lines ++ line ∷ more) ≡ more
 
 pub read_ended : (lines : List (List ℕ)) (known : Facts) (t : Taken) (line : List ℕ) (s : Said) → ReadSoFar lines known t → said desk_limits known (length lines + 1) line ≡ Ok s → is_end s.entry ≡ true → (more : List (List ℕ)) → Ended lines line t more
@@ -288,23 +312,47 @@ read_ended lines known t line s so_far says end more =
     let rest : Results = all_said desk_limits (line ∷ before) (i + 1) more in
     let all = results_to lines so_far.saids line more (Ok x) so_far.results says' in
     let front : filter_map option_from (before_first ends_reading (map Ok so_far.saids ++ Ok x ∷ rest)) ≡ so_far.saids = ap (filter_map option_from) (before_end so_far.saids (Ok x) rest so_far.no_end end) ∙ from_ok so_far.saids in
-    let place : position_or_len ends_reading (map Ok so_far.saids ++ Ok x ∷ rest) ≡ length lines = position_end so_far.saids (Ok x) rest so_far.no_end end ∙ saids_count lines so_far.saids so_far.results in
+    let wanted : lines_read (lines ++ line ∷ more) ≡ length lines + 1 = lines_to lines so_far.saids line more (Ok x) so_far.results so_far.no_end says' end in
     record {
       reading =
           ap (λ v. option_map_or (reading_or_fault Moves v) (find ends_reading v) (Err (NoEndData (length v + 1)))) all
           ∙ ap (λ o. option_map_or (reading_or_fault Moves (map Ok so_far.saids ++ Ok x ∷ rest)) o (Err (NoEndData (length (map Ok so_far.saids ++ Ok x ∷ rest) + 1)))) (find_end so_far.saids (Ok x) rest so_far.no_end end)
           ∙ ap (λ v. Ok (reading_from Moves v)) front
           ∙ ap Ok (taken_reading so_far.saids t so_far.taken so_far.channels);
-      after =
-          ap (λ v. drop (position_or_len ends_reading v + 1) (lines ++ line ∷ more)) all
-          ∙ ap (λ n. drop (n + 1) (lines ++ line ∷ more)) place
-          ∙ drop_past lines line more;
+      wanted = wanted;
+      after = ap (λ n. drop n (lines ++ line ∷ more)) wanted ∙ drop_past lines line more;
     }
 
--- No line is left.
+-- No line has ended the reading.
 pub read_open : (lines : List (List ℕ)) (known : Facts) (t : Taken) → ReadSoFar lines known t → reads_lines lines ≡ Err (NoEndData (length lines + 1))
 read_open lines known t so_far =
     let count : length (oks so_far.saids) ≡ length lines = length_ok so_far.saids (oks so_far.saids) refl ∙ saids_count lines so_far.saids so_far.results in
     ap (λ v. option_map_or (reading_or_fault Moves v) (find ends_reading v) (Err (NoEndData (length v + 1)))) so_far.results
     ∙ ap (λ o. option_map_or (reading_or_fault Moves (map Ok so_far.saids)) o (Err (NoEndData (length (oks so_far.saids) + 1)))) (find_none so_far.saids so_far.no_end)
     ∙ ap (λ n. Err (NoEndData (n + 1))) count
+
+position_past : (saids : List Said) (more : Results) → NoEnd saids → position_or_len ends_reading (map Ok saids ++ more) ≡ length saids + position_or_len ends_reading more
+position_past [] more none = omega arith
+position_past (s ∷ saids) more none = rw (or_first (is_end s.entry) _ none) (omega (arith, position_past saids more (or_second (is_end s.entry) _ none)))
+
+-- more lines are wanted than those
+pub wanted_more : (lines : List (List ℕ)) (known : Facts) (t : Taken) → ReadSoFar lines known t → (more : List (List ℕ)) → length lines < lines_read (lines ++ more)
+wanted_more lines known t so_far more =
+    let rest : Results = all_said desk_limits (back_onto lines []) (1 + length lines) more in
+    let all : all_said desk_limits [] 1 (lines ++ more) ≡ map Ok so_far.saids ++ rest = all_said-append [] 1 lines more ∙ ap (λ v. v ++ rest) so_far.results in
+    let place : position_or_len ends_reading (all_said desk_limits [] 1 (lines ++ more)) ≡ length so_far.saids + position_or_len ends_reading rest = ap (position_or_len ends_reading) all ∙ position_past so_far.saids rest so_far.no_end in
+    omega (arith, place, saids_count lines so_far.saids so_far.results)
+
+-- where none is left, one more than there are
+pub wanted_one : (lines : List (List ℕ)) (known : Facts) (t : Taken) → ReadSoFar lines known t → lines_read lines ≡ length lines + 1
+wanted_one lines known t so_far =
+    let place : position_or_len ends_reading (all_said desk_limits [] 1 lines) ≡ length so_far.saids + position_or_len ends_reading [] =
+    ap (position_or_len ends_reading) (so_far.results ∙ sym (append-nil (map Ok so_far.saids))) ∙ position_past so_far.saids [] so_far.no_end in
+    omega (arith, place, saids_count lines so_far.saids so_far.results)
+
+-- A line that is too long.
+long_test : (n : ℕ) → LINE_BYTES < n → nat_lt LINE_BYTES n ≡ true
+long_test n h = grind (arith, nat_tests)
+
+pub long_said : (known : Facts) (i : ℕ) (line : List ℕ) → LINE_BYTES < length line → said desk_limits known i line ≡ Err (LineTooLong i)
+long_said known i line long = λ j. placed_in known (cond (long_test (length line) long j) (Err (LineTooLong i)) (said_in desk_limits known i line (tokens line)))

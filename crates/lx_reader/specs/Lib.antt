@@ -4,5 +4,6 @@ pub mod Lists
 pub mod Stops
 pub mod Known
 pub mod ReadLines
+pub mod HandedLines
 pub mod PlainState
 pub mod Loading
