@@ -186,5 +186,4 @@ ended left rises old l l' p q loaded first past turn show skipped first_skipped 
 pub answer_fault : {S : Type 0} (left : S → Option (List ℕ)) (rises : S → ℕ) (old l l' : Lines S) (p q : Plain) (fault : ShowFault) → old.number ≡ 0 → Passed left rises old l p → TurnOf left rises l l' p q (Err fault) → AnswerOf left rises old l' (Err fault)
 answer_fault left rises old l l' p q (faults.NotBuilt i) first past turn = not_built left rises old l l' p q i first past turn
 answer_fault left rises old l l' p q faults.InputTooLong first past turn = too_long left rises old l l' p q past turn
-answer_fault left rises old l l' p q faults.ReadFault first past turn = tt
-answer_fault left rises old l l' p q faults.Memory first past turn = tt
+answer_fault left rises old l l' p q other first past turn = tt

@@ -1,3 +1,4 @@
+pub mod Taking
 pub mod Later
 pub mod Placing
 pub mod Listed

@@ -31,8 +31,7 @@ line_turn left rises l l' p q (Ok ended) raw line i handed is number taken =
 line_turn left rises l l' p q (Err (faults.NotBuilt j)) raw line i handed is number taken =
     (taken.0 ∙ number, inl (raw, handed, subst (λ k. built_said (known_of p) k (without_cr raw) ≡ Err k) (sym taken.0) (subst (λ v. built_said (known_of p) i v ≡ Err i) is taken.1)))
 line_turn left rises l l' p q (Err faults.Memory) raw line i handed is number taken = tt
-line_turn left rises l l' p q (Err faults.ReadFault) raw line i handed is number taken = absurd taken
-line_turn left rises l l' p q (Err faults.InputTooLong) raw line i handed is number taken = absurd taken
+line_turn left rises l l' p q (Err other) raw line i handed is number taken = absurd taken
 
 lt_true : (a b : ℕ) → a < b → nat_lt a b ≡ true
 lt_true a b h = grind (arith, nat_tests)

@@ -6,4 +6,7 @@ pub mod Known
 pub mod ReadLines
 pub mod HandedLines
 pub mod PlainState
+pub mod Numbers
+pub mod Entering
+pub mod ReaderState
 pub mod Loading

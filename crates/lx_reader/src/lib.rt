@@ -3,10 +3,16 @@
 
 mod entries;
 mod fault;
+mod inner;
+mod levels;
 mod lists;
 mod loaded;
+mod making;
+mod numbers;
 mod plain;
 mod read;
+mod reader;
+mod records;
 mod stop;
 #[cfg(test)]
 mod tests;
