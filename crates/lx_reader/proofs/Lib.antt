@@ -11,6 +11,8 @@ pub mod Spelled
 pub mod KnownLines
 pub mod Telling
 pub mod Naming
+pub mod ReadingOn
+pub mod PassedLines
 pub mod Readings
 pub mod Pairs
 pub mod Entering

@@ -68,6 +68,9 @@ still section begun entry = elim entry as (λ e. is_still e ≡ true → IsOfNot
 same_section : IsOfNothing None
 same_section = record { cue = refl; group = refl; sub = refl }
 
+pub blank_told : (section : Section) → Tells section None None false Nothing
+blank_told section = still section None Nothing refl same_section
+
 no_section : IsOfNothing (Some NoRecord)
 no_section = record { cue = refl; group = refl; sub = refl }
 
@@ -253,7 +256,7 @@ names_sub section s = record { cue = refl; group = refl; sub = refl; part = some
 identified_ok : (known : Facts) (i : ℕ) (r : Result Entry TextFault) (P : Entry → Type 0) → IfOk r P → IfOk (if_identified known i r) P
 identified_ok known i r P ok = if_ok known.identified r (NoIdent i) P ok
 
-abbrev TellsBy : Facts → Word → List (List ℕ) → Entry → Type 0
+abbrev pub TellsBy : Facts → Word → List (List ℕ) → Entry → Type 0
 TellsBy known word rest entry = Tells known.section (section_by desk_limits word rest) (part_on word rest) (is_clear word && is_second (codes "ALL") rest) entry
 
 pub word_told : (known : Facts) (i : ℕ) (line : List ℕ) (word : Word) (rest : List (List ℕ)) → IfOk (said_by desk_limits known i line word rest) (TellsBy known word rest)

@@ -4,6 +4,7 @@ pub mod Lists
 pub mod Stops
 pub mod Known
 pub mod ReadLines
+pub mod HandedLines
 pub mod PlainState
 pub mod Numbers
 pub mod Entering

@@ -15,6 +15,10 @@ reads_lines lines =
     let all = all_said desk_limits [] 1 lines in
     option_map_or (reading_or_fault Moves all) (find ends_reading all) (Err (NoEndData (length all + 1)))
 
+-- how many lines a show wants: those up to the one that ends the reading, or one more than there are
+abbrev pub lines_read : List (List ℕ) → ℕ
+lines_read lines = position_or_len ends_reading (all_said desk_limits [] 1 lines) + 1
+
 -- the lines after the one that ends the reading
 abbrev pub lines_after : List (List ℕ) → List (List ℕ)
-lines_after lines = drop (position_or_len ends_reading (all_said desk_limits [] 1 lines) + 1) lines
+lines_after lines = drop (lines_read lines) lines
