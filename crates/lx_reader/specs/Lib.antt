@@ -2,6 +2,7 @@ pub mod TakenUp
 pub mod Built
 pub mod Lists
 pub mod Stops
+pub mod Told
 pub mod Known
 pub mod ReadLines
 pub mod HandedLines

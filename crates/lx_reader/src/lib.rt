@@ -16,6 +16,7 @@ mod records;
 mod stop;
 #[cfg(test)]
 mod tests;
+mod whole;
 mod words;
 
 pub use fault::ShowFault;
