@@ -29,7 +29,8 @@ use Rattle.lx_reader.specs.TakenUp.{Taken, nothing_taken, taken_up, reading_of_t
 use Rattle.lx_reader.specs.Stops.{IsStopOf, IsOpen}
 use Rattle.lx_reader.specs.ReaderState.{known_of, taken_of, said_at, IsReady, TookUp, TakesLine}
 use Rattle.lx_reader.specs.HandedLines.{MeansShow, MeansFault, IsPastLimit}
-use Rattle.lx_reader.specs.WholeLoading.{reading_of, HasRead, fault_told, stop_told, OfText, AnswerOf, FaultOf, TurnOf}
+use Rattle.lx_reader.specs.Told.{fault_told, stop_told}
+use Rattle.lx_reader.specs.WholeLoading.{reading_of, HasRead, OfText, AnswerOf, FaultOf, TurnOf}
 use Rattle.lx_reader.proofs.ReadingOn.{placed_in, long_entry}
 use Rattle.lx_reader.proofs.PassedLines.{PassedLines, lines_none, lines_sound, lines_more, lines_known, lines_ended, lines_refused, lines_open, lines_past_limit}
 
