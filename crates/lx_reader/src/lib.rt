@@ -17,8 +17,11 @@ mod stop;
 #[cfg(test)]
 mod tests;
 mod whole;
+#[cfg(test)]
+mod whole_tests;
 mod words;
 
 pub use fault::ShowFault;
 pub use loaded::Loaded;
 pub use read::read_show;
+pub use whole::read_whole_show;
