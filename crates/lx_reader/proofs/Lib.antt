@@ -13,6 +13,7 @@ pub mod Telling
 pub mod Naming
 pub mod ReadingOn
 pub mod PassedLines
+pub mod WholeTurns
 pub mod Readings
 pub mod Pairs
 pub mod Entering

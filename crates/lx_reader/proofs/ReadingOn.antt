@@ -122,7 +122,7 @@ read_sound lines known t so_far = record {
 }
 
 -- What a line says is known by its entry.
-abbrev placed_in : Facts → Result Entry TextFault → Result Said TextFault
+abbrev pub placed_in : Facts → Result Entry TextFault → Result Said TextFault
 placed_in known r = do
   entry ← r
   Ok (record { section = known.section; part = known.part; entry = entry })
@@ -354,5 +354,5 @@ wanted_one lines known t so_far =
 long_test : (n : ℕ) → LINE_BYTES < n → nat_lt LINE_BYTES n ≡ true
 long_test n h = grind (arith, nat_tests)
 
-pub long_said : (known : Facts) (i : ℕ) (line : List ℕ) → LINE_BYTES < length line → said desk_limits known i line ≡ Err (LineTooLong i)
-long_said known i line long = λ j. placed_in known (cond (long_test (length line) long j) (Err (LineTooLong i)) (said_in desk_limits known i line (tokens line)))
+pub long_entry : (known : Facts) (i : ℕ) (line : List ℕ) → LINE_BYTES < length line → entry_of desk_limits known i line ≡ Err (LineTooLong i)
+long_entry known i line long = λ j. cond (long_test (length line) long j) (Err (LineTooLong i)) (said_in desk_limits known i line (tokens line))

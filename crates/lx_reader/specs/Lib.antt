@@ -11,3 +11,4 @@ pub mod Numbers
 pub mod Entering
 pub mod ReaderState
 pub mod Loading
+pub mod WholeLoading

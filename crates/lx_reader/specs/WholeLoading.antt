@@ -1,0 +1,75 @@
+-- What reading a show from the lines of a source comes to.
+use Rattle.std.specs.Prelude.{◌≡◌, ◌⊎◌, ℕ, ◌+◌, Result, Ok, Err, List, [], ◌∷◌, IfSome}
+use Rattle.std.specs.declared.option.Option.{Option}
+use Rattle.std.specs.Io.KnownBytes.{IsAtEnd}
+use Rattle.lx_spec.specs.declared.TextFault.{TextFault}
+use Rattle.lx_spec.specs.declared.TextFault.TheVariants.{NoIdent, BadNumber, OutOfRange, NotInRecord, LineTooLong, ShortList, NoEndData}
+use Rattle.lx_spec.specs.Limits.{desk_limits}
+use Rattle.lx_spec.specs.Text.{tokens, without_cr}
+use Rattle.lx_spec.specs.Show.{Valid}
+use Rattle.lx_spec.specs.Saying.{entry_of}
+use Rattle.lx_spec.specs.Reading.{Reading}
+use Rattle.lx_lex.specs.declared.lines.Lines.{Lines}
+use Rattle.lx_lex.specs.declared.lines.Step.TheVariants as steps
+use Rattle.lx_lex.specs.Lines.{StepOf}
+use Rattle.lx_lex.specs.Handed.{HandedOut}
+use Rattle.lx_lex.specs.Unread.{unread, line_of}
+use Rattle.lx_reader.specs.declared.fault.ShowFault.{ShowFault}
+use Rattle.lx_reader.specs.declared.fault.ShowFault.TheVariants as faults
+use Rattle.lx_reader.specs.declared.loaded.Loaded.{Loaded}
+use Rattle.lx_reader.specs.declared.reader.Reader.{Reader}
+use Rattle.lx_reader.specs.declared.stop.Stop.{Stop}
+use Rattle.lx_reader.specs.declared.stop.Stop.TheVariants as stops
+use Rattle.lx_reader.specs.HandedLines.{MeansShow, MeansFault, IsPastLimit}
+use Rattle.lx_reader.specs.ReaderState.{known_of, TakesLine}
+
+-- what was read
+abbrev pub reading_of : Loaded → Reading
+reading_of loaded = record { show = loaded.show; skipped = loaded.skipped; first_skipped = loaded.first_skipped }
+
+-- the lines up to ENDDATA were handed out, and mean what was read, which is valid
+pub record HasRead {S : Type 0} (left : S → Option (List ℕ)) (faults : S → ℕ) (old new : Lines S) (loaded : Loaded) : Type 0 where
+  pub means : MeansShow left faults old new (reading_of loaded)
+  pub valid : Valid loaded.show
+
+-- a fault of a text
+abbrev pub fault_told : TextFault → ShowFault
+fault_told (NoIdent i) = faults.NoIdent i
+fault_told (BadNumber i) = faults.BadNumber i
+fault_told (OutOfRange i) = faults.OutOfRange i
+fault_told (NotInRecord i) = faults.NotInRecord i
+fault_told (LineTooLong i) = faults.LineTooLong i
+fault_told (ShortList i) = faults.ShortList i
+fault_told (NoEndData i) = faults.NoEndData i
+
+abbrev pub stop_told : Stop → ShowFault
+stop_told (stops.Fault fault) = fault_told fault
+stop_told stops.Memory = faults.Memory
+
+-- where the fault is one of a text, this holds of that
+abbrev pub OfText : (TextFault → Type 0) → Type 0 → ShowFault → Type 0
+OfText P long (faults.NoIdent i) = P (NoIdent i)
+OfText P long (faults.BadNumber i) = P (BadNumber i)
+OfText P long (faults.OutOfRange i) = P (OutOfRange i)
+OfText P long (faults.NotInRecord i) = P (NotInRecord i)
+OfText P long (faults.LineTooLong i) = P (LineTooLong i)
+OfText P long (faults.ShortList i) = P (ShortList i)
+OfText P long (faults.NoEndData i) = P (NoEndData i)
+OfText P long faults.InputTooLong = long
+OfText P long other = Unit {0}
+
+-- what the answer says: the show, or the first fault of the text, or that the input is too long before there is one
+abbrev pub AnswerOf : {S : Type 0} → (S → Option (List ℕ)) → (S → ℕ) → Lines S → Lines S → Result Loaded ShowFault → Type 0
+AnswerOf left rises old new (Ok loaded) = HasRead left rises old new loaded
+AnswerOf left rises old new (Err fault) = OfText (MeansFault left old) (IfSome (unread left old) (IsPastLimit old.taken)) fault
+
+-- the line that was handed out has the fault, or no line is left
+abbrev pub FaultOf : {S : Type 0} → (S → Option (List ℕ)) → (S → ℕ) → Lines S → Lines S → Reader → TextFault → Type 0
+FaultOf left rises old new r fault =
+    ((raw : List ℕ) × HandedOut left rises old new (raw ∷ []) × (entry_of desk_limits (known_of r) (old.number + 1) (without_cr raw) ≡ Err fault)) ⊎ (IsAtEnd (unread left old) × (fault ≡ NoEndData (old.number + 1)))
+
+-- what one line comes to: it was handed out and taken up, or has a fault, or isn't there
+abbrev pub TurnOf : {S : Type 0} → (S → Option (List ℕ)) → (S → ℕ) → Lines S → Lines S → Reader → Reader → Result (Unit {0}) ShowFault → Type 0
+TurnOf left rises old new r q (Ok done) =
+    (raw : List ℕ) × HandedOut left rises old new (raw ∷ []) × TakesLine r q (old.number + 1) (tokens (without_cr raw)) (Ok done) (entry_of desk_limits (known_of r) (old.number + 1) (without_cr raw))
+TurnOf left rises old new r q (Err fault) = OfText (FaultOf left rises old new r) (StepOf steps.InputTooLong (unread left old) (unread left new) old.taken new.taken (line_of new)) fault
