@@ -1,7 +1,7 @@
 -- A pass over the lines of a show text, by a reader.
 use Rattle.std.proofs.Common.{◌≡◌, ℕ, ◌+◌, ◌<◌, true, false, List, [], ◌∷◌, map, length, Option, None, Result, Ok, Err, refl, ap, ◌∙◌, sym, subst, inl, inr, arith}
 use Rattle.std.specs.Prelude.{IfSome}
-use Rattle.std.specs.Result.{IsOkAnd}
+use Rattle.std.specs.Result.{IsOkAnd, IsErrAnd}
 use Rattle.std.specs.Io.KnownBytes.{IsAtEnd}
 use Rattle.lx_base.specs.declared.TheConstants.{LINE_BYTES}
 use Rattle.lx_spec.specs.declared.Section.{Section}
@@ -29,7 +29,8 @@ use Rattle.lx_reader.specs.TakenUp.{Taken, nothing_taken, taken_up, reading_of_t
 use Rattle.lx_reader.specs.Stops.{IsStopOf, IsOpen}
 use Rattle.lx_reader.specs.ReaderState.{known_of, taken_of, said_at, IsReady, TookUp, TakesLine}
 use Rattle.lx_reader.specs.HandedLines.{MeansShow, MeansFault, IsPastLimit}
-use Rattle.lx_reader.specs.WholeLoading.{reading_of, HasRead, fault_told, stop_told, OfText, AnswerOf, FaultOf, TurnOf}
+use Rattle.lx_reader.specs.Told.{fault_told, stop_told}
+use Rattle.lx_reader.specs.WholeLoading.{reading_of, HasRead, OfText, AnswerOf, FaultOf, TurnOf}
 use Rattle.lx_reader.proofs.ReadingOn.{placed_in, long_entry}
 use Rattle.lx_reader.proofs.PassedLines.{PassedLines, lines_none, lines_sound, lines_more, lines_known, lines_ended, lines_refused, lines_open, lines_past_limit}
 
@@ -151,3 +152,8 @@ pub passage_fault : {S : Type 0} (left : S → Option (List ℕ)) (rises : S →
 passage_fault left rises old l l' r q fault first passage turn =
     of_text (FaultOf left rises l l' r) (MeansFault left old) (StepOf steps.InputTooLong (unread left l) (unread left l') l.taken l'.taken (line_of l')) (IfSome (unread left old) (IsPastLimit old.taken))
     (fault_of_text left rises old l l' r first passage) (lines_past_limit left rises old l l' (known_of r) (taken_of r) passage.past) fault turn
+
+-- a fault that is handed on
+pub handed_on : {S : Type 0} (left : S → Option (List ℕ)) (rises : S → ℕ) (old l : Lines S) (result : Result Loaded ShowFault) (fault : ShowFault) → IsErrAnd result (λ told_fault. told_fault ≡ fault) → AnswerOf left rises old l (Err fault) → AnswerOf left rises old l result
+handed_on left rises old l (Ok loaded) fault is answer = absurd is
+handed_on left rises old l (Err other) fault is answer = subst (λ f. AnswerOf left rises old l (Err f)) (sym is) answer

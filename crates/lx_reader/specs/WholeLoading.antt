@@ -18,8 +18,6 @@ use Rattle.lx_reader.specs.declared.fault.ShowFault.{ShowFault}
 use Rattle.lx_reader.specs.declared.fault.ShowFault.TheVariants as faults
 use Rattle.lx_reader.specs.declared.loaded.Loaded.{Loaded}
 use Rattle.lx_reader.specs.declared.reader.Reader.{Reader}
-use Rattle.lx_reader.specs.declared.stop.Stop.{Stop}
-use Rattle.lx_reader.specs.declared.stop.Stop.TheVariants as stops
 use Rattle.lx_reader.specs.HandedLines.{MeansShow, MeansFault, IsPastLimit}
 use Rattle.lx_reader.specs.ReaderState.{known_of, TakesLine}
 
@@ -31,20 +29,6 @@ reading_of loaded = record { show = loaded.show; skipped = loaded.skipped; first
 pub record HasRead {S : Type 0} (left : S → Option (List ℕ)) (faults : S → ℕ) (old new : Lines S) (loaded : Loaded) : Type 0 where
   pub means : MeansShow left faults old new (reading_of loaded)
   pub valid : Valid loaded.show
-
--- a fault of a text
-abbrev pub fault_told : TextFault → ShowFault
-fault_told (NoIdent i) = faults.NoIdent i
-fault_told (BadNumber i) = faults.BadNumber i
-fault_told (OutOfRange i) = faults.OutOfRange i
-fault_told (NotInRecord i) = faults.NotInRecord i
-fault_told (LineTooLong i) = faults.LineTooLong i
-fault_told (ShortList i) = faults.ShortList i
-fault_told (NoEndData i) = faults.NoEndData i
-
-abbrev pub stop_told : Stop → ShowFault
-stop_told (stops.Fault fault) = fault_told fault
-stop_told stops.Memory = faults.Memory
 
 -- where the fault is one of a text, this holds of that
 abbrev pub OfText : (TextFault → Type 0) → Type 0 → ShowFault → Type 0

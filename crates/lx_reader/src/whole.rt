@@ -55,10 +55,7 @@ fn read_moves<S: Source>(alloc: Global, lines: &mut Lines<S>) -> Result<Loaded, 
         Err(_) => return Err(ShowFault::Memory),
     };
     loop {
-        match take_line(alloc, lines, &mut reader) {
-            Ok(()) => {}
-            Err(fault) => return Err(fault),
-        }
+        take_line(alloc, lines, &mut reader)?;
         if reader.ended {
             return Ok(loaded(reader));
         }
