@@ -1,6 +1,6 @@
 use Rattle.std.proofs.Common.{◌∙◌}
-use Rattle.lx_reader.proofs.WholeTurns.{passage_none, passage_ready, passage_more, passage_ended, passage_fault, handed_on}
-use Rattle.lx_reader.proofs.whole.read_moves.Goals as goal
+use Rattle.lx_reader.proofs.Turns.{passage_none, passage_ready, passage_more, passage_ended, passage_fault, handed_on}
+use Rattle.lx_reader.proofs.read.read_moves.Goals as goal
 
 pub loop-reader-init : goal.loop-reader-init
 loop-reader-init g c =
