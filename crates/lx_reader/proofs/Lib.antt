@@ -13,15 +13,9 @@ pub mod Telling
 pub mod Naming
 pub mod ReadingOn
 pub mod PassedLines
-pub mod WholeTurns
-pub mod Readings
 pub mod Pairs
 pub mod Entering
-pub mod PlainLines
-pub mod PlainWords
 pub mod Turns
-pub mod Passing
-pub mod Ending
 pub mod Lengths
 pub mod Taking
 pub mod Members

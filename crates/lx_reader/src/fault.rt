@@ -3,9 +3,6 @@ use thiserror::Error;
 /// Why a show wasn't read. The faults of a text carry the number of the first line that has one, from 1.
 #[derive(Clone, Copy, Debug, PartialEq, Eq, Drop, Error)]
 pub enum ShowFault {
-    /// The line of this number, from 1, is none that is built, or the input ends before it.
-    #[error("line {0} is none that is built")]
-    NotBuilt(u32),
     /// The line stands before IDENT, or is an IDENT line of another version than 3:0.
     #[error("line {0} isn't identified by IDENT 3:0")]
     NoIdent(u32),

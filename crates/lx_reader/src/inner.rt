@@ -13,12 +13,12 @@ ghost use Rattle.lx_reader.specs.ReaderState.{IsReady, TakesInner, said_at};
 ghost use Rattle.lx_reader.specs.Stops.{IsOpen};
 ghost use Rattle.lx_reader.specs.TakenUp.{show_with};
 
-use crate::entries::{set_down, set_up};
 use crate::levels::put_members;
 use crate::making::{name_part, put_label};
 use crate::numbers::{next_cue_no, next_part, next_time, next_times};
 use crate::reader::Reader;
 use crate::stop::Stop;
+use crate::times::{set_down, set_up};
 use lx_base::CueNo;
 use lx_lex::{Tokens, rest_after};
 use lx_spec::{Label, Section, TextFault, Word};

@@ -1,18 +1,20 @@
-//! The levels of a line are put into the cue, group or submaster in whose section it stands.
+//! The levels of a line are put into the cue, group or submaster in whose section it stands, its rows into the
+//! patch.
 
 ghost use Rattle.std.specs.Prelude.{◌≡◌, ◌≤◌, ◌∷◌, [], max, OnOk, IfErr};
 ghost use Rattle.std.specs.Result.{IsOkAnd};
 ghost use Rattle.lx_lex.specs.Left.{left};
-ghost use Rattle.lx_reader.specs.Lists.{all_pairs};
+ghost use Rattle.lx_reader.specs.Lists.{all_pairs, all_triples};
 ghost use Rattle.lx_reader.specs.Stops.{IsStopOf, IsOpen};
 ghost use Rattle.lx_reader.specs.Entering.{with_members};
+ghost use Rattle.lx_reader.specs.TakenUp.{with_rows};
 
-use crate::lists::next_member;
+use crate::lists::{next_member, next_row};
 use crate::stop::Stop;
 use lx_base::{Chan, PartNo};
 use lx_lex::Tokens;
 use lx_show::Show;
-use lx_spec::{Member, Move, Section};
+use lx_spec::{Member, Move, PatchRow, Section};
 use std::alloc::AllocError;
 
 /// The show has the channel.
@@ -72,6 +74,28 @@ pub(crate) fn put_members(
                     return Err(Stop::Memory);
                 }
             }
+            Ok(None) => return Ok(()),
+            Err(fault) => return Err(Stop::Fault(fault)),
+        }
+    }
+}
+
+/// Puts a row into the patch.
+fn put_row(show: &mut Show, row: PatchRow)
+    ensures { show.new ≡ with_rows (row ∷ []) show.old }
+{
+    widen(show, row.chan);
+    show.put_patch(row);
+}
+
+/// Puts the rows of a line into the patch.
+pub(crate) fn put_rows(show: &mut Show, i: u32, mut tokens: Tokens) -> Result<(), Stop>
+    ensures show { OnOk result (IsOkAnd (all_triples i (left tokens.entry)) (λ rows. show.new ≡ with_rows rows show.old)) }
+    ensures stop { IfErr result (λ stop. IsStopOf stop (all_triples i (left tokens.entry))) }
+{
+    loop {
+        match next_row(i, &mut tokens) {
+            Ok(Some(row)) => put_row(show, row),
             Ok(None) => return Ok(()),
             Err(fault) => return Err(Stop::Fault(fault)),
         }

@@ -1,7 +1,6 @@
 //! Reads a show text: one pass over its lines, with a running state.
 #![tactic(auto)]
 
-mod entries;
 mod fault;
 mod inner;
 mod levels;
@@ -9,14 +8,13 @@ mod lists;
 mod loaded;
 mod making;
 mod numbers;
-mod plain;
 mod read;
 mod reader;
 mod records;
 mod stop;
 #[cfg(test)]
 mod tests;
-mod whole;
+mod times;
 mod words;
 
 pub use fault::ShowFault;

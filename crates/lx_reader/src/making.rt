@@ -1,19 +1,31 @@
 //! What a line names is there: made, if it was absent. What it labels has the label.
 
-ghost use Rattle.std.specs.Prelude.{◌≡◌, ℕ, false, IsTrue};
+ghost use Rattle.std.specs.Prelude.{◌≡◌, ◌≢◌, ◌||◌, ℕ, false, length, nat_lt, IsTrue};
 ghost use Rattle.std.specs.Option.{option_map_or};
+ghost use Rattle.lx_base.specs.declared.TheConstants.{CUES};
 ghost use Rattle.lx_spec.specs.declared.Section.TheVariants.{InCue};
 ghost use Rattle.lx_spec.specs.Saying.{IsLabelled, NamesPart};
 ghost use Rattle.lx_spec.specs.Listing.{has_entry};
 ghost use Rattle.lx_spec.specs.Tracked.{cue_of};
 ghost use Rattle.lx_reader.specs.Stops.{IsOpen};
-ghost use Rattle.lx_reader.specs.TakenUp.{show_with, with_group, with_sub};
+ghost use Rattle.lx_reader.specs.TakenUp.{show_with, with_cue, with_group, with_sub};
 
 use lx_base::{CueNo, GroupNo, PartNo, SubNo};
 use lx_show::rising::entry_of;
-use lx_show::{Group, Show, Sub, new_part};
+use lx_show::{Cue, Group, Show, Sub, new_part};
 use lx_spec::{Label, Section};
 use std::alloc::Global;
+
+/// The cue is there. It was, or there were fewer than 2,000 cues.
+pub(crate) fn name_cue(alloc: Global, show: &mut Show, n: CueNo)
+    requires number { n ≢ 0 }
+    requires room { IsTrue (has_entry (λ cue. cue.number) n show.old.cues || nat_lt (length show.old.cues) CUES) }
+    ensures { show.new ≡ record show.old { cues = with_cue n show.old.cues } }
+{
+    if show.cue(n).is_none() {
+        show.put_cue(Cue::new(alloc, n));
+    }
+}
 
 /// The group is there.
 pub(crate) fn name_group(alloc: Global, show: &mut Show, g: GroupNo)

@@ -9,8 +9,8 @@ ghost use Rattle.std.specs.Str.{str_to_ascii_uppercase};
 ghost use Rattle.lx_lex.specs.Left.{left};
 ghost use Rattle.lx_reader.specs.ReaderState.{IsReady, known_of, TakesWord};
 
-use crate::entries::{name_cue, put_rows};
-use crate::making::{name_group, name_sub};
+use crate::levels::put_rows;
+use crate::making::{name_cue, name_group, name_sub};
 use crate::numbers::{cue_of_record, group_of_record, is_one, next_channel, sub_of_record};
 use crate::reader::Reader;
 use crate::stop::Stop;

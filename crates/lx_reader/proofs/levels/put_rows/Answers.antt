@@ -1,6 +1,6 @@
 use Rattle.lx_lex.specs.Left.{left}
 use Rattle.lx_reader.proofs.Entering.{rows_begin, rows_more}
-use Rattle.lx_reader.proofs.entries.put_rows.Goals as goal
+use Rattle.lx_reader.proofs.levels.put_rows.Goals as goal
 
 pub loop-row-init : goal.loop-row-init
 loop-row-init c = rows_begin c.args.i c.args.show.now (left c.args.tokens)
