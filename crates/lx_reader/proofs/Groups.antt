@@ -3,8 +3,6 @@ use Rattle.std.proofs.Common.{◌≡◌, ℕ, List, [], ◌∷◌, ◌++◌, ref
 use Rattle.std.specs.Prelude.{flat_map, unwrap_or}
 use Rattle.std.proofs.lemmas.Grind.{flat_map-append}
 use Rattle.std.proofs.lemmas.List.Sums.{fold-append}
-use Rattle.lx_spec.specs.declared.Member.{Member}
-use Rattle.lx_spec.specs.Show.{Group, Sub}
 use Rattle.lx_spec.specs.Listing.{placed}
 use Rattle.lx_spec.specs.Saying.{Entry, Said, HasLevels, IsLabelled}
 use Rattle.lx_spec.specs.Reading.{last_of_each, last_in, label_said, levels_said, members_from, group_from, sub_from}

@@ -1,5 +1,5 @@
 -- What is known after one more line.
-use Rattle.std.proofs.Common.{◌≡◌, ℕ, Bool, true, false, cond, List, [], ◌∷◌, Option, Some, None, Result, Ok, Err, refl, ap, ◌∙◌, sym}
+use Rattle.std.proofs.Common.{◌≡◌, ℕ, cond, List, [], ◌∷◌, Option, Some, None, Err, refl}
 use Rattle.std.specs.Prelude.{◌&&◌, ◌||◌, nat_lt, length, codes, is_some, unwrap_or, option_and_then, if◌then◌else◌}
 use Rattle.lx_spec.specs.declared.Section.{Section}
 use Rattle.lx_spec.specs.declared.Section.TheVariants.{InCue}
@@ -9,8 +9,8 @@ use Rattle.lx_base.specs.declared.TheConstants.{LINE_BYTES}
 use Rattle.lx_spec.specs.declared.TextFault.TheVariants.{LineTooLong}
 use Rattle.lx_spec.specs.Limits.{desk_limits}
 use Rattle.lx_spec.specs.Text.{tokens}
-use Rattle.lx_spec.specs.Saying.{Entry, Facts, facts, section_after, section_of, open_part, part_by, cue_in, cues_named, with_cue_named, begins_with, is_identified, is_clear_all, is_second, word_of, said_by, said_in, entry_of}
-use Rattle.lx_reader.specs.Known.{is_ident, is_clear, part_in, facts_from, facts_after}
+use Rattle.lx_spec.specs.Saying.{Facts, section_after, section_of, open_part, part_by, cue_in, cues_named, with_cue_named, begins_with, is_identified, is_clear_all, is_second, word_of, said_by, said_in, entry_of}
+use Rattle.lx_reader.specs.Known.{part_in, facts_from, facts_after}
 use Rattle.lx_reader.proofs.Spelled.{clear_is, ident_is}
 
 -- the part after a line, by the section that it begins, if any

@@ -1,7 +1,6 @@
 -- Levels that are put into a section one after another.
 use Rattle.std.proofs.Common.{◌≡◌, ℕ, false, List, [], ◌∷◌, ◌++◌, map, Option, Some, None, Result, Ok, Err, refl, ap, ◌∙◌, sym, subst, append-nil, IsTrue}
 use Rattle.std.specs.Prelude.{fold, max, is_some, OnOk}
-use Rattle.std.specs.Option.{IsSomeAnd}
 use Rattle.std.specs.Result.{IsOkAnd}
 use Rattle.std.proofs.lemmas.List.{map-append}
 use Rattle.std.proofs.lemmas.List.Sums.{fold-append}
@@ -9,8 +8,8 @@ use Rattle.lx_spec.specs.declared.Member.{Member}
 use Rattle.lx_spec.specs.declared.Section.{Section}
 use Rattle.lx_spec.specs.declared.Section.TheVariants.{NoRecord, InCue, InGroup, InSub, Skipping}
 use Rattle.lx_spec.specs.declared.TextFault.{TextFault}
-use Rattle.lx_spec.specs.Listing.{Rises, placed, entry_at, has_entry}
-use Rattle.lx_spec.specs.Show.{Show, Cue, Group, Sub, Valid}
+use Rattle.lx_spec.specs.Listing.{placed, entry_at, has_entry}
+use Rattle.lx_spec.specs.Show.{Show, Group, Sub, Valid}
 use Rattle.lx_show.specs.Changed.{changed}
 use Rattle.lx_reader.specs.Entering.{with_members}
 use Rattle.lx_reader.specs.Lists.{all_pairs, onto}

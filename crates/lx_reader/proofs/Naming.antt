@@ -1,6 +1,6 @@
 -- What the section is of was named, and is there: before a line, and after it.
-use Rattle.std.proofs.Common.{◌≡◌, ℕ, Bool, true, false, cond, List, [], ◌∷◌, ◌++◌, map, Option, Some, None, refl, ap, ◌∙◌, sym, subst, IsTrue}
-use Rattle.std.specs.Prelude.{filter, filter_map, fold, ◌==◌, is_some, unwrap_or, option_and_then, IfSome}
+use Rattle.std.proofs.Common.{◌≡◌, ℕ, Bool, true, cond, List, [], ◌∷◌, ◌++◌, Option, Some, None, refl, ap, ◌∙◌, sym, subst, IsTrue}
+use Rattle.std.specs.Prelude.{filter, filter_map, fold, ◌==◌, is_some, unwrap_or, IfSome}
 use Rattle.std.specs.List.{cons_option}
 use Rattle.std.specs.Option.{IsSomeAnd}
 use Rattle.std.proofs.lemmas.Bool.{eqb-true}
@@ -12,7 +12,6 @@ use Rattle.lx_spec.specs.Saying.{Entry, Said, cue_in, with_cue_named}
 use Rattle.lx_spec.specs.Reading.{named_by, cue_named, group_named, sub_named, part_named, part_of, in_cue}
 use Rattle.lx_reader.specs.Stops.{HasPartIn, IsOpen}
 use Rattle.lx_reader.specs.Known.{part_in}
-use Rattle.lx_reader.specs.TakenUp.{group_in, sub_in}
 use Rattle.lx_reader.proofs.Later.{filter-more}
 use Rattle.lx_reader.proofs.Placing.{entry_made, has_made, has-here, has-all_placed, eq-here}
 use Rattle.lx_reader.proofs.Listed.{is_at}

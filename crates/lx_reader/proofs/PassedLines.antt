@@ -1,17 +1,16 @@
 -- A pass over the lines of a source.
-use Rattle.std.proofs.Common.{◌≡◌, ℕ, ◌+◌, ◌<◌, true, false, List, [], ◌∷◌, ◌++◌, map, length, take, Option, Some, None, Result, Ok, Err, refl, ap, ◌∙◌, sym, subst, inl, inr, arith, append_assoc, length-append}
+use Rattle.std.proofs.Common.{◌≡◌, ℕ, ◌+◌, ◌<◌, true, false, List, [], ◌∷◌, ◌++◌, map, length, take, Option, Some, None, Ok, Err, refl, ap, ◌∙◌, sym, subst, inl, inr, arith, append_assoc, length-append}
 use Rattle.std.specs.Prelude.{IfSome}
 use Rattle.std.specs.Io.KnownBytes.{IsAtEnd}
 use Rattle.std.proofs.Math.Seq.{take-append_seam}
 use Rattle.std.proofs.lemmas.List.{map-append, length-map}
 use Rattle.lx_base.specs.declared.TheConstants.{INPUT_BYTES}
-use Rattle.lx_spec.specs.declared.Form.TheVariants.{Moves}
 use Rattle.lx_spec.specs.declared.TextFault.{TextFault}
 use Rattle.lx_spec.specs.declared.TextFault.TheVariants.{NoEndData}
 use Rattle.lx_spec.specs.Limits.{desk_limits}
 use Rattle.lx_spec.specs.Text.{tokens, without_cr, lines_of}
 use Rattle.lx_spec.specs.Saying.{Said, Facts, said}
-use Rattle.lx_spec.specs.Reading.{reads, is_end}
+use Rattle.lx_spec.specs.Reading.{is_end}
 use Rattle.lx_spec.specs.Jobs.{script_of}
 use Rattle.lx_lex.specs.declared.lines.Lines.{Lines}
 use Rattle.lx_lex.specs.declared.lines.Step.TheVariants as steps

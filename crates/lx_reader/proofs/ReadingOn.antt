@@ -1,6 +1,6 @@
 -- A show text that is read line by line.
 use Rattle.std.proofs.Common.{◌≡◌, ℕ, suc, ◌+◌, ◌<◌, ◌≤◌, Bool, true, false, cond, List, [], ◌∷◌, ◌++◌, map, length, take, drop, Option, Some, None, Result, Ok, Err, refl, ap, ◌∙◌, sym, subst, arith, add-zero, add-one, append-nil}
-use Rattle.std.specs.Prelude.{◌&&◌, ◌||◌, nat_lt, codes, filter_map, find, unwrap_or, is_some, option_and_then, IfSome, IfOk, if◌then◌else◌}
+use Rattle.std.specs.Prelude.{◌&&◌, ◌||◌, nat_lt, codes, filter_map, find, unwrap_or, is_some, option_and_then, IfSome, IfOk}
 use Rattle.std.specs.List.{list_any, before_first, position_or_len}
 use Rattle.std.specs.Option.{option_map_or}
 use Rattle.std.proofs.Math.Seq.{take-append_seam}
@@ -15,17 +15,17 @@ use Rattle.lx_spec.specs.declared.TextFault.TheVariants.{NoEndData, LineTooLong}
 use Rattle.lx_spec.specs.declared.Word.{Word}
 use Rattle.lx_spec.specs.declared.Word.TheVariants as words
 use Rattle.lx_spec.specs.Limits.{desk_limits}
-use Rattle.lx_spec.specs.Text.{tokens, lines_of}
+use Rattle.lx_spec.specs.Text.{tokens}
 use Rattle.lx_spec.specs.Refusing.{◌>>=◌}
-use Rattle.lx_spec.specs.Saying.{Entry, Nothing, Said, Facts, facts, said, all_said, said_in, entry_of, section_by, cue_in, with_cue_named, is_second, word_of, option_from}
+use Rattle.lx_spec.specs.Saying.{Entry, Said, Facts, facts, said, all_said, said_in, entry_of, section_by, cue_in, with_cue_named, is_second, word_of, option_from}
 use Rattle.lx_spec.specs.Saying.{part_named as part_on}
-use Rattle.lx_spec.specs.Reading.{Reading, reading_from, reading_or_fault, ends_reading, named_by, cue_named, channels_set, is_end, clears_all, is_skipped}
+use Rattle.lx_spec.specs.Reading.{reading_from, reading_or_fault, ends_reading, named_by, cue_named, channels_set, is_end, clears_all}
 use Rattle.lx_reader.specs.Stops.{IsOpen}
 use Rattle.lx_reader.specs.TakenUp.{Taken, later, nothing_taken, taken_up, reading_of_taken}
 use Rattle.lx_reader.specs.Known.{is_clear, part_in, facts_from, facts_by, facts_after, IsSoundAt}
 use Rattle.lx_reader.specs.ReadLines.{reads_lines, lines_read, lines_after}
 use Rattle.lx_reader.proofs.Later.{any-more}
-use Rattle.lx_reader.proofs.Shows.{made, show_so_far, IsRooted, IsNamed}
+use Rattle.lx_reader.proofs.Shows.{made, IsNamed}
 use Rattle.lx_reader.proofs.TakingUp.{since_cleared, IsTakenFrom, taken_none, taken_more, taken_reading, part_outside, skipped_few, since_more}
 use Rattle.lx_reader.proofs.KnownLines.{facts-more, entry_of-part}
 use Rattle.lx_reader.proofs.Telling.{Tells, TellsBy, word_told, blank_told}

@@ -1,15 +1,13 @@
 -- What was said before: of what was not named nothing was said, with one more entry.
 use Rattle.std.proofs.Common.{◌≡◌, ℕ, Bool, true, false, cond, List, [], ◌∷◌, ◌++◌, Option, refl, ap, ◌∙◌, sym, append-nil}
-use Rattle.std.specs.Prelude.{filter, fold, filter_map, ◌==◌}
+use Rattle.std.specs.Prelude.{filter, fold, ◌==◌}
 use Rattle.std.specs.List.{cons_option}
 use Rattle.std.proofs.lemmas.Bool.{eqb-true}
 use Rattle.lx_spec.specs.Listing.{placed, has_entry}
-use Rattle.lx_spec.specs.Saying.{Entry, Said, cue_in}
+use Rattle.lx_spec.specs.Saying.{Entry, Said}
 use Rattle.lx_spec.specs.Reading.{named_by, cue_named, group_named, sub_named, part_named, in_cue, in_group, in_sub}
-use Rattle.lx_reader.specs.TakenUp.{group_in, sub_in}
 use Rattle.lx_reader.proofs.Later.{filter-more}
 use Rattle.lx_reader.proofs.Placing.{has-all_placed}
-use Rattle.lx_reader.proofs.Listed.{is_at}
 use Rattle.lx_reader.proofs.Cues.{parts_named, parts_named-more, HasPart}
 use Rattle.lx_reader.proofs.Shows.{named-more, cue_at, group_at, sub_at, IsRooted, IsNamed}
 

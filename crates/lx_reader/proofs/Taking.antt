@@ -32,7 +32,7 @@ use Rattle.lx_reader.specs.declared.stop.Stop.TheVariants.{Fault, Memory}
 use Rattle.lx_reader.specs.Entering.{with_members}
 use Rattle.lx_reader.specs.Lists.{all_pairs, all_triples}
 use Rattle.lx_reader.specs.Stops.{IsStopOf}
-use Rattle.lx_reader.specs.Known.{part_in, facts_by, facts_after}
+use Rattle.lx_reader.specs.Known.{part_in, facts_by}
 use Rattle.lx_reader.specs.Numbers.{next_times, record_number}
 use Rattle.lx_reader.specs.ReaderState.{known_of, taken_of, said_at, TookUp, Takes, TakesInner, TakesWord, inner_facts}
 use Rattle.lx_reader.specs.TakenUp.{taken_up, show_with, with_rows, with_cue, with_part, empty_show, later}

@@ -1,10 +1,10 @@
 -- Entries taken up one after another: they come to the last entry for each thing.
 use Rattle.std.proofs.Common.{◌≡◌, ℕ, ◌+◌, ◌-◌, ◌<◌, ◌≤◌, Bool, true, false, cond, List, [], ◌∷◌, ◌++◌, map, length, drop, Option, Some, None, refl, ap, ◌∙◌, sym, subst, arith, IsTrue}
-use Rattle.std.specs.Prelude.{filter, filter_map, ◌&&◌, ◌==◌, not, nat_lt, max, fold, flat_map, is_some, unwrap_or, count_by, position, IfSome}
+use Rattle.std.specs.Prelude.{filter, ◌&&◌, ◌==◌, not, nat_lt, max, fold, flat_map, is_some, unwrap_or, count_by, position, IfSome}
 use Rattle.std.specs.Option.{option_map_or, IsSomeAnd}
-use Rattle.std.specs.List.{after_last, suffix_len, prefix_len, position_or_len, list_any, last_or}
+use Rattle.std.specs.List.{after_last, suffix_len, prefix_len, position_or_len}
 use Rattle.std.proofs.lemmas.List.{reverse-append, drop-append-le, drop_all, length-append}
-use Rattle.std.proofs.lemmas.List.Sums.{suffix_len-le-length, fold-append, count_by-le-length}
+use Rattle.std.proofs.lemmas.List.Sums.{fold-append, count_by-le-length}
 use Rattle.std.proofs.lemmas.List.Folds.{position_or_len_push}
 use Rattle.std.proofs.lemmas.Bool.{eqb-true}
 use Rattle.std.proofs.lemmas.Bool.Decides.{nat_tests}
@@ -13,16 +13,15 @@ use Rattle.lx_spec.specs.declared.Form.TheVariants.{Moves}
 use Rattle.lx_spec.specs.declared.Section.{Section}
 use Rattle.lx_spec.specs.declared.Section.TheVariants.{NoRecord, InCue, InGroup, InSub, Skipping}
 use Rattle.lx_spec.specs.Show.{Cue, Show}
-use Rattle.lx_spec.specs.Listing.{entry_at, has_entry}
+use Rattle.lx_spec.specs.Listing.{has_entry}
 use Rattle.lx_spec.specs.Tracked.{cue_of}
-use Rattle.lx_spec.specs.Saying.{Entry, Said, cue_in}
-use Rattle.lx_spec.specs.Reading.{reading_from, show_from, named_by, cue_named, group_named, sub_named, part_of, in_cue, channels_named, channels_set, clears_all, is_skipped, last_in}
+use Rattle.lx_spec.specs.Saying.{Said, cue_in}
+use Rattle.lx_spec.specs.Reading.{reading_from, named_by, cue_named, group_named, sub_named, part_of, in_cue, channels_named, channels_set, clears_all, is_skipped, last_in}
 use Rattle.lx_reader.specs.Stops.{HasPartIn, IsOpen}
 use Rattle.lx_reader.specs.TakenUp.{Taken, later, nothing_taken, taken_up, reading_of_taken, show_with, changed_in, cue_change, with_named}
 use Rattle.lx_spec.specs.Edited.{new_cue}
 use Rattle.lx_reader.proofs.Later.{last_in-more}
 use Rattle.lx_reader.proofs.Placing.{entry_made, has_made}
-use Rattle.lx_reader.proofs.Listed.{is_at}
 use Rattle.lx_reader.proofs.Cues.{parts_named, HasPart}
 use Rattle.lx_reader.proofs.Shows.{made, made_group, made_sub, show_so_far, show-more, greatest-from, IsRooted, IsNamed}
 use Rattle.lx_reader.proofs.Rooted.{rooted-none, rooted-more}

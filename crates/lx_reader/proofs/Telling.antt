@@ -1,12 +1,11 @@
 -- What a line that has no fault says of the section after it.
-use Rattle.std.proofs.Common.{◌≡◌, ℕ, ◌+◌, ◌≤◌, ◌%◌, Bool, true, false, cond, List, [], ◌∷◌, length, Option, Some, None, Result, Ok, Err, refl, sym, subst, arith}
+use Rattle.std.proofs.Common.{◌≡◌, ℕ, ◌≤◌, ◌%◌, Bool, true, false, cond, List, [], ◌∷◌, length, Option, Some, None, Result, Ok, Err, refl, sym, subst, arith}
 use Rattle.std.specs.Prelude.{◌&&◌, ◌||◌, ◌==◌, nat_lt, nat_le, codes, option_and_then, IfSome, IfOk}
 use Rattle.std.specs.List.{list_any}
 use Rattle.std.proofs.lemmas.Bool.Decides.{nat_tests}
 use Rattle.lx_base.specs.declared.TheConstants.{CHANNELS, CUES, PARTS, GROUPS, SUBS}
 use Rattle.lx_spec.specs.declared.Bad.{Bad}
 use Rattle.lx_spec.specs.declared.Bad.TheVariants.{Shape, Range}
-use Rattle.lx_spec.specs.declared.Member.{Member}
 use Rattle.lx_spec.specs.declared.PatchRow.{PatchRow}
 use Rattle.lx_spec.specs.declared.Section.{Section}
 use Rattle.lx_spec.specs.declared.Section.TheVariants.{NoRecord, InCue, InGroup, InSub, Skipping}
@@ -16,7 +15,7 @@ use Rattle.lx_spec.specs.declared.TextFault.{TextFault}
 use Rattle.lx_spec.specs.declared.TextFault.TheVariants.{NoIdent, OutOfRange, ShortList}
 use Rattle.lx_spec.specs.Limits.{desk_limits}
 use Rattle.lx_spec.specs.Text.{is_word, rest_after, label_of}
-use Rattle.lx_spec.specs.Numerals.{is_number, number_of, ranged, read_whole, read_level, read_time, read_cue_no}
+use Rattle.lx_spec.specs.Numerals.{is_number, number_of, ranged, read_whole, read_time, read_cue_no}
 use Rattle.lx_spec.specs.Refusing.{◌>>=◌}
 use Rattle.lx_spec.specs.Saying.{Entry, Nothing, Skipped, ClearsAll, HasChannels, Patches, NamesCue, NamesGroup, NamesSub, HasLevels, NamesPart, HasUp, HasDown, Follows, Links, IsLabelled, Blocks, Ends, Facts, number, pairs, triples, levels, patch_line, delay_at, times, numbered, record_line, if_few, set_line, inner_line, if_identified, said_by, section_by, begun, record_begun, is_page_one, is_second, cue_in, option_from}
 use Rattle.lx_spec.specs.Saying.{part_named as part_on}

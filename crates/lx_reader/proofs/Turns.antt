@@ -1,5 +1,5 @@
 -- A pass over the lines of a show text, by a reader.
-use Rattle.std.proofs.Common.{◌≡◌, ℕ, ◌+◌, ◌<◌, true, false, List, [], ◌∷◌, map, length, Option, None, Result, Ok, Err, refl, ap, ◌∙◌, sym, subst, inl, inr, arith}
+use Rattle.std.proofs.Common.{◌≡◌, ℕ, ◌+◌, ◌<◌, true, false, List, [], ◌∷◌, map, length, Option, None, Result, Ok, Err, refl, ap, ◌∙◌, sym, subst, inl, inr}
 use Rattle.std.specs.Prelude.{IfSome}
 use Rattle.std.specs.Result.{IsOkAnd, IsErrAnd}
 use Rattle.std.specs.Io.KnownBytes.{IsAtEnd}
@@ -11,7 +11,7 @@ use Rattle.lx_spec.specs.declared.TextFault.TheVariants.{NoIdent, BadNumber, Out
 use Rattle.lx_spec.specs.Limits.{desk_limits}
 use Rattle.lx_spec.specs.Text.{tokens, without_cr}
 use Rattle.lx_spec.specs.Show.{Show, Valid}
-use Rattle.lx_spec.specs.Saying.{Entry, Ends, Facts, said, entry_of}
+use Rattle.lx_spec.specs.Saying.{Entry, Ends, said, entry_of}
 use Rattle.lx_spec.specs.Reading.{is_end}
 use Rattle.lx_lex.specs.declared.lines.Lines.{Lines}
 use Rattle.lx_lex.specs.declared.lines.Step.TheVariants as steps
@@ -25,8 +25,8 @@ use Rattle.lx_reader.specs.declared.reader.Reader.{Reader}
 use Rattle.lx_reader.specs.declared.stop.Stop.{Stop}
 use Rattle.lx_reader.specs.declared.stop.Stop.TheVariants as stops
 use Rattle.lx_reader.specs.Known.{part_in, facts_from, facts_after}
-use Rattle.lx_reader.specs.TakenUp.{Taken, nothing_taken, taken_up, reading_of_taken}
-use Rattle.lx_reader.specs.Stops.{IsStopOf, IsOpen}
+use Rattle.lx_reader.specs.TakenUp.{nothing_taken, taken_up, reading_of_taken}
+use Rattle.lx_reader.specs.Stops.{IsOpen}
 use Rattle.lx_reader.specs.ReaderState.{known_of, taken_of, said_at, IsReady, TookUp, TakesLine}
 use Rattle.lx_reader.specs.HandedLines.{MeansShow, MeansFault, IsPastLimit}
 use Rattle.lx_reader.specs.Told.{fault_told, stop_told}

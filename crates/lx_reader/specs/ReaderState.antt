@@ -1,5 +1,5 @@
 -- What a reader keeps, and what it makes of a line.
-use Rattle.std.specs.Prelude.{◌≡◌, ℕ, ◌<◌, Bool, true, false, Result, Ok, Err, List, [], ◌∷◌, map, unwrap_or}
+use Rattle.std.specs.Prelude.{◌≡◌, ℕ, ◌<◌, Bool, true, false, Result, Ok, Err, List, map, unwrap_or}
 use Rattle.std.specs.Result.{IsOkAnd}
 use Rattle.lx_spec.specs.declared.TextFault.{TextFault}
 use Rattle.lx_spec.specs.declared.Word.{Word}

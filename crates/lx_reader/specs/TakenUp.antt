@@ -1,5 +1,5 @@
 -- What one more entry makes of what the lines so far say.
-use Rattle.std.specs.Prelude.{ℕ, ◌+◌, ◌==◌, ◌&&◌, Option, Some, None, List, [], ◌∷◌, map, fold, max, true, unwrap_or, if◌then◌else◌}
+use Rattle.std.specs.Prelude.{ℕ, ◌+◌, ◌==◌, ◌&&◌, Option, Some, None, List, [], map, fold, max, true, unwrap_or, if◌then◌else◌}
 use Rattle.lx_base.specs.declared.TheConstants.{DEFAULT_CHANNELS}
 use Rattle.lx_spec.specs.declared.Part.{Part}
 use Rattle.lx_spec.specs.declared.Move.{Move}

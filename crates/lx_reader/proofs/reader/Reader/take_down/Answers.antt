@@ -1,8 +1,7 @@
-use Rattle.std.proofs.Common.{refl, sym, ◌∙◌}
+use Rattle.std.proofs.Common.{refl}
 use Rattle.lx_lex.specs.Left.{left}
 use Rattle.lx_spec.specs.Saying.{HasDown}
 use Rattle.lx_spec.specs.declared.Word.TheVariants as words
-use Rattle.lx_reader.specs.ReaderState.{known_of, inner_facts}
 use Rattle.lx_reader.proofs.Taking.{stops, times_fault, times_took}
 use Rattle.lx_reader.proofs.reader.Reader.take_down.Goals as goal
 

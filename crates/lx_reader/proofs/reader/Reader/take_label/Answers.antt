@@ -1,4 +1,4 @@
-use Rattle.std.proofs.Common.{ap, ◌∙◌, sym}
+use Rattle.std.proofs.Common.{ap, ◌∙◌}
 use Rattle.lx_spec.specs.Text.{label_of}
 use Rattle.lx_spec.specs.Saying.{IsLabelled}
 use Rattle.lx_reader.specs.Known.{part_in}
