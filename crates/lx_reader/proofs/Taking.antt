@@ -229,10 +229,6 @@ cue_says known i rest r identified is =
 pub cue_fault : (known : Facts) (i : ℕ) (rest : List (List ℕ)) (fault : TextFault) → known.identified ≡ true → Err fault ≡ record_number i (read_cue_no desk_limits) rest → said_by desk_limits known i [] words.Cue rest ≡ Err fault
 cue_fault known i rest fault identified is = cue_says known i rest (Err fault) identified (sym is)
 
--- the section begins, as it is known
-abbrev pub begun_known : Facts → Word → List (List ℕ) → Section → Facts
-begun_known known word rest section = record (facts_by known word rest) { section = section }
-
 pub cue_other_page : (old new : Reader) (i : ℕ) (rest : List (List ℕ)) (o : Option ℕ) → Ok o ≡ record_number i (read_cue_no desk_limits) rest → o ≡ None → old.identified ≡ true → old.ended ≡ false
     → new ≡ record old { section = Skipping; part = 1; skipped = old.skipped + 1; first_skipped = cond (old.skipped == 0) i old.first_skipped }
     → IsOkAnd (said_by desk_limits (known_of old) i [] words.Cue rest) (TookUp old new (facts_by (known_of old) words.Cue rest) i)

@@ -118,10 +118,6 @@ show_with s show = record {
 abbrev pub with_rows : List PatchRow → Show → Show
 with_rows rows show = record show { channels = fold max show.channels (map (λ row. row.chan) rows); patch = all_placed (λ row. row.dimmer) rows show.patch }
 
--- the show with levels in a part of a cue
-abbrev pub with_levels : ℕ → ℕ → List Member → Show → Show
-with_levels n p members show = show_with (record { section = InCue n; part = p; entry = HasLevels members }) show
-
 -- What the lines so far say: the show, whose channel count is the greatest channel that is named, or 1; what SET CHANNELS says; how
 -- many lines were skipped, and the number of the first of them, or 0.
 pub record Taken : Type 0 where
