@@ -2,7 +2,7 @@ ghost use Rattle.std.specs.Prelude.{◌<◌};
 
 use crate::{Loaded, ShowFault, read_show};
 use lx_base::{CUE_UNIT, Chan, CueNo, Dimmer, GroupNo, Level, PartNo, SubNo};
-use lx_io::PlainSource;
+use lx_io::{MemSource, PlainSource};
 use lx_lex::Lines;
 use lx_show::Cue;
 use lx_spec::Form;
@@ -239,5 +239,15 @@ fn a_show_has_at_most_2000_cues(rt: HostRuntime) -> Result<(), Fail> {
         read(alloc, more.as_slice(), 1_000).err(),
         Some(ShowFault::OutOfRange(2_002))
     );
+    Ok(())
+}
+
+#[test]
+fn a_read_that_fails_is_told(rt: HostRuntime) -> Result<(), Fail> {
+    let alloc = rt.alloc();
+    let mut source = MemSource::new(FILE.to_vec(alloc)?, 100, vec![in alloc; 2]?);
+    let read = read_show(alloc, &mut Lines::new(&mut source), Form::Moves);
+    assert_eq!(rt; read.err(), Some(ShowFault::ReadFault));
+    assert_eq!(rt; source.faults(), 1);
     Ok(())
 }
