@@ -146,10 +146,6 @@ pub entry-changed : {A : Type 0} (key : A → ℕ) (n : ℕ) (f : A → A) → (
 entry-changed {A} key n f kf xs x is =
     ap (λ o. entry_at key n (option_map_or (λ z. placed key (f z) xs) o xs)) is ∙ entry-placed key n (f x) xs (kf x ∙ entry_key key n xs x is)
 
--- an entry placed adds at most one
-pub length-placed : {A : Type 0} (key : A → ℕ) (x : A) (xs : List A) → length (placed key x xs) ≤ length xs + 1
-length-placed key x xs = omega (arith, length-append (entries_below key (key x) xs) (x ∷ entries_above key (key x) xs), below_and_above_few key (key x) xs)
-
 -- what is changed alike becomes the same
 pub changed-alike : {A : Type 0} (key : A → ℕ) (n : ℕ) (f g : A → A) (xs : List A) (x : A) → entry_at key n xs ≡ Some x → f x ≡ g x → changed key n f xs ≡ changed key n g xs
 changed-alike key n f g xs x is same =

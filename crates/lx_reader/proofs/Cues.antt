@@ -8,14 +8,14 @@ use Rattle.std.proofs.lemmas.List.Elements.{filter_map-append}
 use Rattle.lx_base.specs.declared.TheConstants.{DEFAULT_TIME}
 use Rattle.lx_spec.specs.declared.Part.{Part}
 use Rattle.lx_spec.specs.declared.Section.{Section}
-use Rattle.lx_spec.specs.Show.{Cue}
 use Rattle.lx_spec.specs.Listing.{Rises, placed, has_entry}
 use Rattle.lx_spec.specs.Saying.{Entry, Said, HasUp, HasDown, NamesPart, HasLevels, Follows, Links, IsLabelled, Blocks}
 use Rattle.lx_spec.specs.Reading.{last_of_each, numbers, last_in, part_named, follow_said, link_said, label_said, up_said, down_said, blocks, moves_said, part_of, cue_from}
 use Rattle.lx_spec.specs.Edited.{new_part}
 use Rattle.lx_show.specs.Changed.{changed}
-use Rattle.lx_reader.specs.TakenUp.{all_placed, cue_change, with_part, with_up, with_down}
-use Rattle.lx_reader.proofs.Later.{later, last_in-more, any-more, unwrap-later, filter-more}
+use Rattle.lx_reader.specs.TakenUp.{later, all_placed, cue_change, with_part, with_up, with_down}
+use Rattle.lx_reader.proofs.Later.{last_in-more, any-more, unwrap-later, filter-more}
+use Rattle.lx_reader.proofs.Listed.{cond_same, after_change}
 use Rattle.lx_reader.proofs.Placing.{changed-made, map-placed, placed-there, has_made, Rises-numbers, eq-sym, eq-here}
 
 -- the times that an entry gives a part
@@ -51,6 +51,11 @@ part_from-some here s p false = ap (λ v. part_from v p) (append-nil here)
 pub part_of-more : (about : List Said) (s : Said) (p : ℕ) → part_of (about ++ s ∷ []) p ≡ part_with s (part_of about p)
 unfolding part_from
 part_of-more about s p = ap (λ v. part_from v p) (filter-more (λ z. z.part == p) about s) ∙ part_from-some (filter (λ z. z.part == p) about) s p (s.part == p)
+
+-- a part of which nothing was said
+pub part_of-none : (about : List Said) (p : ℕ) → filter (λ s. s.part == p) about ≡ [] → part_of about p ≡ new_part p
+unfolding part_from
+part_of-none about p none = ap (λ v. part_from v p) none
 
 -- the numbers of the cue's parts
 abbrev pub parts_named : List Said → List ℕ
@@ -95,10 +100,6 @@ cue_from-more about s n =
       moves = moves i;
     }
 
-pub cond_same : {A : Type 0} (b : Bool) (x : A) → cond b x x ≡ x
-cond_same true x = refl
-cond_same false x = refl
-
 -- the numbers of the parts rise
 parts_rise : (about : List Said) → Rises (λ m. m) (parts_named about)
 parts_rise about = Rises-numbers (1 ∷ filter_map (λ s. part_named s.entry) about)
@@ -119,11 +120,6 @@ parts_changed about s change is there =
     let same : (m : ℕ) → (m == s.part) ≡ false → g m ≡ part_of about m = λ m differs. ap (λ b. cond b (times_with s.entry (part_of about m)) (part_of about m)) (eq-sym m s.part differs) in
     let here : g s.part ≡ change (part_of about s.part) = ap (λ b. cond b (times_with s.entry (part_of about s.part)) (part_of about s.part)) (eq-here s.part) ∙ is (part_of about s.part) in
     changed-made (λ part. part.number) (part_of about) g (λ m. refl) keeps s.part same change here (parts_named about) (parts_rise about) there
-
--- the cue after the change, or as it was
-abbrev pub cue_by : Option (Cue → Cue) → Cue → Cue
-cue_by None cue = cue
-cue_by (Some change) cue = change cue
 
 -- a cue with other parts than those that the entries before gave
 parts_placed : (about : List Said) (q : ℕ) → map (part_of about) (placed (λ m. m) q (parts_named about)) ≡ placed (λ part. part.number) (part_of about q) (map (part_of about) (parts_named about))
@@ -150,7 +146,7 @@ part_opened about section p q fresh =
     ∙ ap (λ b. cond b (map (part_of about) (parts_named about)) (placed (λ part. part.number) (new_part q) (map (part_of about) (parts_named about)))) (sym (has_part about q))
 
 pub cue_from-with : (about : List Said) (section : Section) (p : ℕ) (entry : Entry) (n : ℕ) → HasPart about p → IsFresh about (part_named entry)
-    → cue_from (about ++ record { section = section; part = p; entry = entry } ∷ []) n ≡ cue_by (cue_change p entry) (cue_from about n)
+    → cue_from (about ++ record { section = section; part = p; entry = entry } ∷ []) n ≡ after_change (cue_change p entry) (cue_from about n)
 cue_from-with about section p entry n there fresh =
     let s : Said = record { section = section; part = p; entry = entry } in
     let at : (e : Entry) → IsFresh about (part_named e) → record {
@@ -161,7 +157,7 @@ cue_from-with about section p entry n there fresh =
       label = unwrap_or (label_said e) (cue_from about n).label;
       parts = map (λ q. part_with (record { section = section; part = p; entry = e }) (part_of about q)) (fold (λ ys x. placed (λ m. m) x ys) (parts_named about) (cons_option (part_named e) []));
       moves = all_placed (λ m. m.chan) (moves_said (record { section = section; part = p; entry = e })) (cue_from about n).moves;
-    } ≡ cue_by (cue_change p e) (cue_from about n) = λ e. elim e as (λ e. IsFresh about (part_named e) → record {
+    } ≡ after_change (cue_change p e) (cue_from about n) = λ e. elim e as (λ e. IsFresh about (part_named e) → record {
       number = n;
       block = cond (blocks e) true (cue_from about n).block;
       follow = later (follow_said e) (cue_from about n).follow;
@@ -169,7 +165,7 @@ cue_from-with about section p entry n there fresh =
       label = unwrap_or (label_said e) (cue_from about n).label;
       parts = map (λ q. part_with (record { section = section; part = p; entry = e }) (part_of about q)) (fold (λ ys x. placed (λ m. m) x ys) (parts_named about) (cons_option (part_named e) []));
       moves = all_placed (λ m. m.chan) (moves_said (record { section = section; part = p; entry = e })) (cue_from about n).moves;
-    } ≡ cue_by (cue_change p e) (cue_from about n)) [
+    } ≡ after_change (cue_change p e) (cue_from about n)) [
       | HasUp time delay ↦ λ _.
           let parts = parts_changed about (record { section = section; part = p; entry = HasUp time delay }) (with_up time delay) (λ part. refl) there in
           λ i. record (cue_from about n) { parts = parts i }

@@ -12,7 +12,9 @@ use Rattle.lx_spec.specs.Listing.{placed, entry_at, has_entry}
 use Rattle.lx_spec.specs.Show.{Show, Cue, Valid}
 use Rattle.lx_spec.specs.Tracked.{cue_of}
 use Rattle.lx_show.specs.Changed.{changed}
-use Rattle.lx_reader.specs.TakenUp.{with_rows, with_levels, all_placed, moves_of}
+use Rattle.lx_reader.specs.Entering.{with_members}
+use Rattle.lx_spec.specs.declared.Section.TheVariants.{InCue}
+use Rattle.lx_reader.specs.TakenUp.{with_rows, all_placed, moves_of}
 use Rattle.lx_spec.specs.declared.TextFault.{TextFault}
 use Rattle.std.specs.Result.{IsOkAnd, is_err}
 use Rattle.lx_reader.specs.Lists.{all_pairs, all_triples, onto}
@@ -29,7 +31,7 @@ moves_again p xs ys cue =
     λ i. record cue { moves = sym moves i }
 
 -- first these levels, and then those
-pub levels-again : (n p : ℕ) (xs ys : List Member) (show : Show) → with_levels n p ys (with_levels n p xs show) ≡ with_levels n p (xs ++ ys) show
+pub levels-again : (n p : ℕ) (xs ys : List Member) (show : Show) → with_members (InCue n) p ys (with_members (InCue n) p xs show) ≡ with_members (InCue n) p (xs ++ ys) show
 levels-again n p xs ys show =
     let named : (zs : List Member) → map (λ m. m.chan) zs ++ [] ≡ map (λ m. m.chan) zs = λ zs. append-nil (map (λ m. m.chan) zs) in
     let channels : fold max (fold max show.channels (map (λ m. m.chan) xs ++ [])) (map (λ m. m.chan) ys ++ []) ≡ fold max show.channels (map (λ m. m.chan) (xs ++ ys) ++ [])
@@ -39,12 +41,12 @@ levels-again n p xs ys show =
     λ i. record show { channels = channels i; cues = cues i }
 
 -- the cue keeps its parts
-keeps_part : (n p : ℕ) (members : List Member) (show : Show) (o : Option Cue) → cue_of show n ≡ o → IsSomeAnd o (λ cue. IsTrue (has_entry (λ part. part.number) p cue.parts)) → HasPartIn (with_levels n p members show) n p
+keeps_part : (n p : ℕ) (members : List Member) (show : Show) (o : Option Cue) → cue_of show n ≡ o → IsSomeAnd o (λ cue. IsTrue (has_entry (λ part. part.number) p cue.parts)) → HasPartIn (with_members (InCue n) p members show) n p
 keeps_part n p members show None is there = absurd there
 keeps_part n p members show (Some cue) is there =
     subst (λ o. IsSomeAnd o (λ z. IsTrue (has_entry (λ part. part.number) p z.parts))) (sym (entry-changed (λ z. z.number) n (with_moves p members) (λ z. refl) show.cues cue is)) there
 
-pub HasPartIn-levels : (n p : ℕ) (members : List Member) (show : Show) → HasPartIn show n p → HasPartIn (with_levels n p members show) n p
+pub HasPartIn-levels : (n p : ℕ) (members : List Member) (show : Show) → HasPartIn show n p → HasPartIn (with_members (InCue n) p members show) n p
 HasPartIn-levels n p members show there = keeps_part n p members show (cue_of show n) refl there
 
 pub rows-again : (xs ys : List PatchRow) (show : Show) → with_rows ys (with_rows xs show) ≡ with_rows (xs ++ ys) show
@@ -70,44 +72,13 @@ pub part-placed : (n p : ℕ) (part new : Part) (change : Part → Part) (show :
     → changed (λ cue. cue.number) n (λ cue. record cue { parts = placed (λ q. q.number) new cue.parts }) show.cues ≡ changed (λ cue. cue.number) n (λ cue. record cue { parts = changed (λ q. q.number) p change cue.parts }) show.cues
 part-placed n p part new change show there same = part_placed n p part new change show (cue_of show n) refl there same
 
--- the levels of a line that were read are in the show
-pub record LevelsSoFar (i n p : ℕ) (old new : Show) (all rest : List (List ℕ)) : Type 0 where
-  pub done : List Member
-  pub list : all_pairs i all ≡ onto done (all_pairs i rest)
-  pub show : new ≡ with_levels n p done old
-  pub part : HasPartIn new n p
-
-onto_nothing : {A E : Type 0} (r : Result (List A) E) → r ≡ onto [] r
+pub onto_nothing : {A E : Type 0} (r : Result (List A) E) → r ≡ onto [] r
 onto_nothing (Ok xs) = refl
 onto_nothing (Err e) = refl
 
-onto_again : {A E : Type 0} (xs ys : List A) (r : Result (List A) E) → onto xs (onto ys r) ≡ onto (xs ++ ys) r
+pub onto_again : {A E : Type 0} (xs ys : List A) (r : Result (List A) E) → onto xs (onto ys r) ≡ onto (xs ++ ys) r
 onto_again xs ys (Ok zs) = ap Ok (sym (append_assoc xs ys zs))
 onto_again xs ys (Err e) = refl
-
-pub levels_begin : (i n p : ℕ) (show : Show) (all : List (List ℕ)) → Valid show → HasPartIn show n p → LevelsSoFar i n p show show all all
-levels_begin i n p show all valid part = record {
-  done = [];
-  list = onto_nothing (all_pairs i all);
-  show = (let cues : show.cues ≡ changed (λ cue. cue.number) n (λ cue. cue) show.cues = sym (changed-not (λ cue. cue.number) n show.cues valid.cues_rise) in λ j. record show { cues = cues j });
-  part = part;
-}
-
-pub levels_more : (i n p : ℕ) (old mid new : Show) (all rest rest' : List (List ℕ)) (m : Member) → LevelsSoFar i n p old mid all rest → all_pairs i rest ≡ onto (m ∷ []) (all_pairs i rest') → new ≡ with_levels n p (m ∷ []) mid → HasPartIn new n p → LevelsSoFar i n p old new all rest'
-levels_more i n p old mid new all rest rest' m so_far next is part = record {
-  done = so_far.done ++ m ∷ [];
-  list = so_far.list ∙ ap (onto so_far.done) next ∙ onto_again so_far.done (m ∷ []) (all_pairs i rest');
-  show = is ∙ ap (with_levels n p (m ∷ [])) so_far.show ∙ levels-again n p so_far.done (m ∷ []) old;
-  part = part;
-}
-
-pub levels_end : (i n p : ℕ) (old new : Show) (all rest : List (List ℕ)) → LevelsSoFar i n p old new all rest → rest ≡ [] → IsOkAnd (all_pairs i all) (λ members. new ≡ with_levels n p members old)
-levels_end i n p old new all rest so_far none =
-    let whole : all_pairs i all ≡ Ok so_far.done = so_far.list ∙ ap (λ v. onto so_far.done (all_pairs i v)) none ∙ ap Ok (append-nil so_far.done) in
-    subst (λ r. IsOkAnd r (λ members. new ≡ with_levels n p members old)) (sym whole) so_far.show
-
-pub levels_fault : (i n p : ℕ) (old new : Show) (all rest : List (List ℕ)) (fault : TextFault) → LevelsSoFar i n p old new all rest → all_pairs i rest ≡ Err fault → all_pairs i all ≡ Err fault
-levels_fault i n p old new all rest fault so_far is = so_far.list ∙ ap (onto so_far.done) is
 
 -- the rows of a line that were read are in the show
 pub record RowsSoFar (i : ℕ) (old new : Show) (all rest : List (List ℕ)) : Type 0 where
@@ -132,14 +103,6 @@ rows_end i old new all rest so_far none =
 
 pub rows_fault : (i : ℕ) (old new : Show) (all rest : List (List ℕ)) (fault : TextFault) → RowsSoFar i old new all rest → all_triples i rest ≡ Err fault → all_triples i all ≡ Err fault
 rows_fault i old new all rest fault so_far is = so_far.list ∙ ap (onto so_far.done) is
-
--- a level that was put into a widened show leaves the part there
-pub part_after : {E : Type 0} (r : Result (Unit {0}) E) (n p : ℕ) (m : Member) (old wide new : Show) → wide.cues ≡ old.cues
-    → OnOk r (new ≡ record wide { cues = changed (λ cue. cue.number) n (λ cue. record cue { moves = placed (λ x. x.chan) (record { chan = m.chan; part = p; level = m.level }) cue.moves }) wide.cues }) → HasPartIn old n p → OnOk r (HasPartIn new n p)
-part_after (Err e) n p m old wide new same is there = tt
-part_after (Ok u) n p m old wide new same is there =
-    let cues : new.cues ≡ changed (λ cue. cue.number) n (with_moves p (m ∷ [])) old.cues = ap (λ s. s.cues) is ∙ ap (changed (λ cue. cue.number) n (with_moves p (m ∷ []))) same in
-    subst (λ v. IsSomeAnd (entry_at (λ cue. cue.number) n v) (λ cue. IsTrue (has_entry (λ part. part.number) p cue.parts))) (sym cues) (HasPartIn-levels n p (m ∷ []) old there)
 
 is_nothing : IsTrue false → ⊥
 is_nothing h = cc

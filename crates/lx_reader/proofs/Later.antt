@@ -6,11 +6,7 @@ use Rattle.std.proofs.lemmas.List.Elements.{filter-append, filter_map-append}
 use Rattle.std.proofs.lemmas.List.Folds.{list_any-append}
 use Rattle.lx_spec.specs.Saying.{Entry, Said}
 use Rattle.lx_spec.specs.Reading.{last_in}
-
--- the later answer, where there is one
-abbrev pub later : {A : Type 0} → Option A → Option A → Option A
-later (Some x) o = Some x
-later None o = o
+use Rattle.lx_reader.specs.TakenUp.{later}
 
 pub last_or-append : {A : Type 0} (o : Option A) (xs ys : List A) → last_or o (xs ++ ys) ≡ last_or (last_or o xs) ys
 last_or-append o [] ys = refl

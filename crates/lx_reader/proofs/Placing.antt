@@ -137,9 +137,6 @@ placed-there n (m ∷ ms) rises there = elim (cases_order m n) [
   ]
 ]
 
-pub Rises-placed_number : (n : ℕ) (ns : List ℕ) → Rises (λ m. m) ns → Rises (λ m. m) (placed (λ m. m) n ns)
-Rises-placed_number n ns rises = Rises-placed (λ m. m) n ns rises
-
 pub Rises-all_placed : {A : Type 0} (key : A → ℕ) (more xs : List A) → Rises key xs → Rises key (fold (λ ys x. placed key x ys) xs more)
 Rises-all_placed key [] xs rises = rises
 Rises-all_placed key (x ∷ more) xs rises = Rises-all_placed key more (placed key x xs) (Rises-placed key x xs rises)

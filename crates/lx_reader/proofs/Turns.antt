@@ -1,127 +1,159 @@
--- One line, and what is known after it.
-use Rattle.std.proofs.Common.{◌≡◌, ℕ, ◌+◌, ◌<◌, Bool, true, false, cond, List, [], ◌∷◌, length, Option, Some, Result, Ok, Err, refl, ap, ◌∙◌, sym, subst, inl, arith}
-use Rattle.std.specs.Prelude.{◌&&◌, ◌||◌, nat_lt, find, codes, bytes_eq, is_some, unwrap_or, option_and_then, if◌then◌else◌}
-use Rattle.std.specs.List.{AllByRecursion}
-use Rattle.std.specs.Option.{option_map_or}
-use Rattle.std.specs.Str.{str_to_ascii_uppercase}
-use Rattle.std.proofs.lemmas.Bool.Decides.{nat_tests}
-use Rattle.std.proofs.lemmas.Slice.Eq.{bytes_eq-Decides}
+-- A pass over the lines of a show text, by a reader.
+use Rattle.std.proofs.Common.{◌≡◌, ℕ, ◌+◌, ◌<◌, true, false, List, [], ◌∷◌, map, length, Option, None, Result, Ok, Err, refl, ap, ◌∙◌, sym, subst, inl, inr}
+use Rattle.std.specs.Prelude.{IfSome}
+use Rattle.std.specs.Result.{IsOkAnd, IsErrAnd}
+use Rattle.std.specs.Io.KnownBytes.{IsAtEnd}
 use Rattle.lx_base.specs.declared.TheConstants.{LINE_BYTES}
-use Rattle.lx_spec.specs.declared.Word.{Word}
-use Rattle.lx_spec.specs.declared.Word.TheVariants as words
-use Rattle.lx_spec.specs.declared.TextFault.TheVariants.{LineTooLong}
+use Rattle.lx_spec.specs.declared.Section.{Section}
+use Rattle.lx_spec.specs.declared.Section.TheVariants.{NoRecord, InCue, InGroup, InSub, Skipping}
+use Rattle.lx_spec.specs.declared.TextFault.{TextFault}
+use Rattle.lx_spec.specs.declared.TextFault.TheVariants.{NoIdent, BadNumber, OutOfRange, NotInRecord, LineTooLong, ShortList, NoEndData}
 use Rattle.lx_spec.specs.Limits.{desk_limits}
-use Rattle.lx_spec.specs.Text.{tokens, without_cr, is_word}
-use Rattle.lx_spec.specs.Refusing.{◌>>=◌}
-use Rattle.lx_spec.specs.Saying.{Entry, said_in, section_after, section_of, open_part, part_by, cue_in, cues_named, with_cue_named, begins_with, is_identified, is_clear_all, is_second, is_dollar, word_of, spellings, dollar_word}
+use Rattle.lx_spec.specs.Text.{tokens, without_cr}
+use Rattle.lx_spec.specs.Show.{Show, Valid}
+use Rattle.lx_spec.specs.Saying.{Entry, Ends, said, entry_of}
+use Rattle.lx_spec.specs.Reading.{is_end}
 use Rattle.lx_lex.specs.declared.lines.Lines.{Lines}
+use Rattle.lx_lex.specs.declared.lines.Step.TheVariants as steps
+use Rattle.lx_lex.specs.Lines.{StepOf}
 use Rattle.lx_lex.specs.Handed.{HandedOut}
-use Rattle.lx_reader.specs.declared.plain.Plain.{Plain}
+use Rattle.lx_lex.specs.Unread.{unread, line_of}
 use Rattle.lx_reader.specs.declared.fault.ShowFault.{ShowFault}
 use Rattle.lx_reader.specs.declared.fault.ShowFault.TheVariants as faults
-use Rattle.lx_reader.specs.Built.{Known, known_from, is_built, is_built_line, is_ident, is_up, is_down, is_timed, stands_in, were_timed, begins_so, built_said, if_built}
-use Rattle.lx_reader.specs.PlainState.{known_of, known_after, TakesLine}
-use Rattle.lx_reader.specs.Loading.{TurnOf}
+use Rattle.lx_reader.specs.declared.loaded.Loaded.{Loaded}
+use Rattle.lx_reader.specs.declared.reader.Reader.{Reader}
+use Rattle.lx_reader.specs.declared.stop.Stop.{Stop}
+use Rattle.lx_reader.specs.declared.stop.Stop.TheVariants as stops
+use Rattle.lx_reader.specs.Known.{part_in, facts_from, facts_after}
+use Rattle.lx_reader.specs.TakenUp.{nothing_taken, taken_up, reading_of_taken}
+use Rattle.lx_reader.specs.Stops.{IsOpen}
+use Rattle.lx_reader.specs.ReaderState.{known_of, taken_of, said_at, IsReady, TookUp, TakesLine}
+use Rattle.lx_reader.specs.HandedLines.{MeansShow, MeansFault, IsPastLimit}
+use Rattle.lx_reader.specs.Told.{fault_told, stop_told}
+use Rattle.lx_reader.specs.Loading.{reading_of, HasRead, OfText, AnswerOf, FaultOf, TurnOf}
+use Rattle.lx_reader.proofs.ReadingOn.{placed_in, long_entry}
+use Rattle.lx_reader.proofs.PassedLines.{PassedLines, lines_none, lines_sound, lines_more, lines_known, lines_ended, lines_refused, lines_open, lines_past_limit}
 
--- A line that was handed out and taken up.
-pub line_turn : {S : Type 0} (left : S → Option (List ℕ)) (rises : S → ℕ) (l l' : Lines S) (p q : Plain) (result : Result Bool ShowFault) (raw line : List ℕ) (i : ℕ) → HandedOut left rises l l' (raw ∷ []) → line ≡ without_cr raw → i ≡ l.number + 1
-    → TakesLine p q i (tokens line) (built_said (known_of p) i line) result → TurnOf left rises l l' p q result
-line_turn left rises l l' p q (Ok ended) raw line i handed is number taken =
-    (raw, handed, subst (λ v. TakesLine p q (l.number + 1) (tokens v) (built_said (known_of p) (l.number + 1) v) (Ok ended)) is (subst (λ k. TakesLine p q k (tokens line) (built_said (known_of p) k line) (Ok ended)) number taken))
-line_turn left rises l l' p q (Err (faults.NotBuilt j)) raw line i handed is number taken =
-    (taken.0 ∙ number, inl (raw, handed, subst (λ k. built_said (known_of p) k (without_cr raw) ≡ Err k) (sym taken.0) (subst (λ v. built_said (known_of p) i v ≡ Err i) is taken.1)))
-line_turn left rises l l' p q (Err faults.Memory) raw line i handed is number taken = tt
-line_turn left rises l l' p q (Err faults.ReadFault) raw line i handed is number taken = absurd taken
-line_turn left rises l l' p q (Err faults.InputTooLong) raw line i handed is number taken = absurd taken
+-- what holds of a text's fault holds of it as it is told
+pub told : (P : TextFault → Type 0) (long : Type 0) (fault : TextFault) → P fault → OfText P long (fault_told fault)
+told P long (NoIdent i) is = is
+told P long (BadNumber i) is = is
+told P long (OutOfRange i) is = is
+told P long (NotInRecord i) is = is
+told P long (LineTooLong i) is = is
+told P long (ShortList i) is = is
+told P long (NoEndData i) is = is
 
-lt_true : (a b : ℕ) → a < b → nat_lt a b ≡ true
-lt_true a b h = grind (arith, nat_tests)
+of_text : (P Q : TextFault → Type 0) (long longer : Type 0) → ((fault : TextFault) → P fault → Q fault) → (long → longer) → (fault : ShowFault) → OfText P long fault → OfText Q longer fault
+of_text P Q long longer each past (faults.NoIdent i) is = each (NoIdent i) is
+of_text P Q long longer each past (faults.BadNumber i) is = each (BadNumber i) is
+of_text P Q long longer each past (faults.OutOfRange i) is = each (OutOfRange i) is
+of_text P Q long longer each past (faults.NotInRecord i) is = each (NotInRecord i) is
+of_text P Q long longer each past (faults.LineTooLong i) is = each (LineTooLong i) is
+of_text P Q long longer each past (faults.ShortList i) is = each (ShortList i) is
+of_text P Q long longer each past (faults.NoEndData i) is = each (NoEndData i) is
+of_text P Q long longer each past faults.InputTooLong is = past is
+of_text P Q long longer each past other is = tt
 
--- a line that is too long has none of the forms
-pub long_said : (known : Known) (i : ℕ) (line : List ℕ) → LINE_BYTES < length line → built_said known i line ≡ Err i
-long_said known i line long =
-    (λ j. if_built known i (tokens line) (cond (lt_true LINE_BYTES (length line) long j) (Err (LineTooLong i)) (said_in desk_limits known.facts i line (tokens line)) >>= (λ entry. Ok (record { section = known.facts.section; part = known.facts.part; entry = entry }))))
+-- what a reader answers, as it is told
+abbrev pub answer_told : Result (Unit {0}) Stop → Result (Unit {0}) ShowFault
+answer_told (Ok done) = Ok done
+answer_told (Err stop) = Err (stop_told stop)
 
-pub long_turn : {S : Type 0} (left : S → Option (List ℕ)) (rises : S → ℕ) (l l' : Lines S) (p q : Plain) (raw : List ℕ) (i : ℕ) → HandedOut left rises l l' (raw ∷ []) → LINE_BYTES < length (without_cr raw) → i ≡ l.number + 1
-    → TurnOf left rises l l' p q (Err (faults.NotBuilt i))
-long_turn left rises l l' p q raw i handed long number = (number, inl (raw, handed, long_said (known_of p) i (without_cr raw) long))
+-- A line that was handed out and given to the reader.
+pub line_turn : {S : Type 0} (left : S → Option (List ℕ)) (rises : S → ℕ) (l l' : Lines S) (r q : Reader) (result : Result (Unit {0}) Stop) (raw line : List ℕ) (i : ℕ) → HandedOut left rises l l' (raw ∷ []) → line ≡ without_cr raw → i ≡ l.number + 1
+    → TakesLine r q i (tokens line) result (entry_of desk_limits (known_of r) i line) → TurnOf left rises l l' r q (answer_told result)
+line_turn left rises l l' r q (Ok done) raw line i handed is number taken =
+    (raw, handed, subst (λ k. TakesLine r q k (tokens (without_cr raw)) (Ok done) (entry_of desk_limits (known_of r) k (without_cr raw))) number (subst (λ v. TakesLine r q i (tokens v) (Ok done) (entry_of desk_limits (known_of r) i v)) is taken))
+line_turn left rises l l' r q (Err stops.Memory) raw line i handed is number taken = tt
+line_turn left rises l l' r q (Err (stops.Fault fault)) raw line i handed is number taken =
+    told (FaultOf left rises l l' r) (StepOf steps.InputTooLong (unread left l) (unread left l') l.taken l'.taken (line_of l')) fault
+    (inl (raw, handed, (λ j. entry_of desk_limits (known_of r) (sym number j) (sym is j)) ∙ taken))
 
--- IDENT is the word that a token is exactly where it is spelled so.
-none_such : (test : Word → Bool) (t : List ℕ) (ws : List (List ℕ × Word)) → AllByRecursion (λ e. test e.1 ≡ false) ws → test (dollar_word t) ≡ false → test (option_map_or (λ e. e.1) (find (λ e. is_word e.0 t) ws) (dollar_word t)) ≡ false
-none_such test t [] all other = other
-none_such test t (w ∷ ws) all other = elim (is_word w.0 t) as (λ b. test (option_map_or (λ e. e.1) (cond b (Some w) (find (λ e. is_word e.0 t) ws)) (dollar_word t)) ≡ false) [ true ↦ all.0 | false ↦ none_such test t ws all.1 other ]
+-- A line that is too long.
+pub long_turn : {S : Type 0} (left : S → Option (List ℕ)) (rises : S → ℕ) (l l' : Lines S) (r q : Reader) (raw : List ℕ) (i : ℕ) → HandedOut left rises l l' (raw ∷ []) → LINE_BYTES < length (without_cr raw) → i ≡ l.number + 1 → TurnOf left rises l l' r q (Err (faults.LineTooLong i))
+long_turn left rises l l' r q raw i handed long number = inl (raw, handed, long_entry (known_of r) (l.number + 1) (without_cr raw) long ∙ ap (λ k. Err (LineTooLong k)) (sym number))
 
-dollar_not_ident : (t : List ℕ) → is_ident (dollar_word t) ≡ false
-dollar_not_ident [] = refl
-dollar_not_ident (a ∷ []) = elim (is_dollar a) as (λ b. is_ident (cond b words.OneDollar words.Unknown) ≡ false) [ true ↦ refl | false ↦ refl ]
-dollar_not_ident (a ∷ b ∷ t) = elim (is_dollar a) as (λ x. is_ident (cond x (cond (is_dollar b) words.TwoDollars words.OneDollar) words.Unknown) ≡ false) [
-  | true ↦ elim (is_dollar b) as (λ y. is_ident (cond y words.TwoDollars words.OneDollar) ≡ false) [ true ↦ refl | false ↦ refl ]
-  | false ↦ refl
-]
+-- No line is left.
+pub end_turn : {S : Type 0} (left : S → Option (List ℕ)) (rises : S → ℕ) (l l' : Lines S) (r q : Reader) (i : ℕ) → IsAtEnd (unread left l) → i ≡ l.number + 1 → TurnOf left rises l l' r q (Err (faults.NoEndData i))
+end_turn left rises l l' r q i end number = inr (end, ap NoEndData number)
 
-others : List (List ℕ × Word)
-others =
-    (codes "MANUFACTURER", words.Maker) ∷ (codes "CONSOLE", words.Maker) ∷ (codes "CLEAR", words.Clear) ∷ (codes "SET", words.Set) ∷ (codes "PATCH", words.Patch)
-    ∷ (codes "CUE", words.Cue) ∷ (codes "GROUP", words.Group) ∷ (codes "SUB", words.Sub) ∷ (codes "ENDDATA", words.EndData) ∷ (codes "CHAN", words.Chan) ∷ (codes "PART", words.Part)
-    ∷ (codes "UP", words.Up) ∷ (codes "DOWN", words.Down) ∷ (codes "FOLLOWON", words.FollowOn) ∷ (codes "LINK", words.Link) ∷ (codes "TEXT", words.Text) ∷ (codes "$$BLOCK", words.Block) ∷ []
+-- The pass over the lines.
+pub record Passage {S : Type 0} (left : S → Option (List ℕ)) (rises : S → ℕ) (old l : Lines S) (r : Reader) : Type 0 where
+  pub past : PassedLines left rises old l (known_of r) (taken_of r)
+  pub going : r.ended ≡ false
 
-not_ident : (t : List ℕ) → is_ident (option_map_or (λ e. e.1) (find (λ e. is_word e.0 t) others) (dollar_word t)) ≡ false
-unfolding others
-not_ident t = none_such is_ident t others (refl, (refl, (refl, (refl, (refl, (refl, (refl, (refl, (refl, (refl, (refl, (refl, (refl, (refl, (refl, (refl, (refl, tt))))))))))))))))) (dollar_not_ident t)
+pub passage_none : {S : Type 0} (left : S → Option (List ℕ)) (rises : S → ℕ) (l : Lines S) (r : Reader) → l.going ≡ true → r.show ≡ nothing_taken.show → r.channels_set ≡ None → r.skipped ≡ 0 → r.first_skipped ≡ 0 → r.identified ≡ false → r.section ≡ NoRecord → r.part ≡ 1 → r.ended ≡ false → Passage left rises l l r
+passage_none left rises l r going show set skipped first identified section part ended =
+    let known : known_of r ≡ facts_from [] = λ j. record { identified = identified j; section = section j; part = part_in (section j) (part j); cues = map (λ cue. cue.number) (show j).cues } in
+    let taken : taken_of r ≡ nothing_taken = λ j. record { show = show j; channels_set = set j; skipped = skipped j; first_skipped = first j } in
+    record {
+      past = subst (λ k. PassedLines left rises l l k (taken_of r)) (sym known) (subst (PassedLines left rises l l (facts_from [])) (sym taken) (lines_none left rises l going));
+      going = ended;
+    }
 
-ident_first : (t : List ℕ) → word_of t ≡ cond (is_word (codes "IDENT") t) words.Ident (option_map_or (λ e. e.1) (find (λ e. is_word e.0 t) others) (dollar_word t))
-unfolding others
-ident_first t = elim (is_word (codes "IDENT") t) as (λ b. option_map_or (λ e. e.1) (cond b (Some (codes "IDENT", words.Ident)) (find (λ e. is_word e.0 t) others)) (dollar_word t) ≡ cond b words.Ident (option_map_or (λ e. e.1) (find (λ e. is_word e.0 t) others) (dollar_word t))) [ true ↦ refl | false ↦ refl ]
+open_part_in : (show : Show) (section : Section) (p : ℕ) → IsOpen show section (part_in section p) → IsOpen show section p
+open_part_in show (InCue n) p there = there
+open_part_in show (InGroup g) p there = there
+open_part_in show (InSub s) p there = there
+open_part_in show NoRecord p there = tt
+open_part_in show Skipping p there = tt
 
-pub ident_is : (t : List ℕ) → is_word (codes "IDENT") t ≡ is_ident (word_of t)
-ident_is t =
-    let at : (b : Bool) → b ≡ is_ident (cond b words.Ident (option_map_or (λ e. e.1) (find (λ e. is_word e.0 t) others) (dollar_word t)))
-    = λ b. elim b as (λ b. b ≡ is_ident (cond b words.Ident (option_map_or (λ e. e.1) (find (λ e. is_word e.0 t) others) (dollar_word t)))) [ true ↦ refl | false ↦ sym (not_ident t) ] in
-    at (is_word (codes "IDENT") t) ∙ ap is_ident (sym (ident_first t))
+-- the reader is ready for the next line
+pub passage_ready : {S : Type 0} (left : S → Option (List ℕ)) (rises : S → ℕ) (old l : Lines S) (r : Reader) → old.number ≡ 0 → Passage left rises old l r → IsReady r (l.number + 1)
+passage_ready left rises old l r first passage =
+    let sound = lines_sound left rises old l (known_of r) (taken_of r) first passage.past in
+    record { open_section = open_part_in r.show r.section r.part sound.open_section; few = sound.few; going = passage.going }
 
--- CLEAR
-abbrev pub is_clear : Word → Bool
-is_clear words.Clear = true
-is_clear other = false
+-- what the line says, by its entry
+said_entry : (r : Reader) (i : ℕ) (line : List ℕ) (x : Result Entry TextFault) → entry_of desk_limits (known_of r) i line ≡ x → said desk_limits (known_of r) i line ≡ placed_in (known_of r) x
+said_entry r i line x is = ap (placed_in (known_of r)) is
 
-spelled_clear : (t : List ℕ) → str_to_ascii_uppercase t ≡ codes "CLEAR" → is_clear (word_of t) ≡ true
-spelled_clear t is = ap (λ u. is_clear (option_map_or (λ e. e.1) (find (λ e. bytes_eq u e.0) spellings) (dollar_word t))) is
+more_by : {S : Type 0} (left : S → Option (List ℕ)) (rises : S → ℕ) (old l l' : Lines S) (r q : Reader) (raw : List ℕ) (x : Result Entry TextFault) → old.number ≡ 0 → Passage left rises old l r → HandedOut left rises l l' (raw ∷ [])
+    → entry_of desk_limits (known_of r) (l.number + 1) (without_cr raw) ≡ x → IsOkAnd x (TookUp r q (facts_after (known_of r) (tokens (without_cr raw))) (l.number + 1)) → q.ended ≡ false → Passage left rises old l' q
+more_by left rises old l l' r q raw (Err fault) first passage handed says took going = absurd took
+more_by left rises old l l' r q raw (Ok e) first passage handed says took going =
+    let more = lines_more left rises old l l' (known_of r) (taken_of r) raw (said_at r e) first passage.past handed (said_entry r (l.number + 1) (without_cr raw) (Ok e) says) (sym took.ended ∙ going) in
+    record {
+      past = lines_known left rises old l' (facts_after (known_of r) (tokens (without_cr raw))) (taken_of q) (known_of q)
+          (subst (PassedLines left rises old l' (facts_after (known_of r) (tokens (without_cr raw)))) (sym took.taken) more) took.known refl;
+      going = going;
+    }
 
-pub clear_is : (t : List ℕ) → is_clear (word_of t) ≡ false → is_word (codes "CLEAR") t ≡ false
-clear_is t other =
-    let d = bytes_eq-Decides (str_to_ascii_uppercase t) (codes "CLEAR") in
-    let at : (b : Bool) → is_word (codes "CLEAR") t ≡ b → b ≡ false = λ b. elim b as (λ b. is_word (codes "CLEAR") t ≡ b → b ≡ false) [
-      | true ↦ λ e. sym (spelled_clear t (d.0 e)) ∙ other
-      | false ↦ λ e. refl
-    ] in
-    at (is_word (codes "CLEAR") t) refl
+-- one more line was taken up
+pub passage_more : {S : Type 0} (left : S → Option (List ℕ)) (rises : S → ℕ) (old l l' : Lines S) (r q : Reader) (done : Unit {0}) → old.number ≡ 0 → Passage left rises old l r → TurnOf left rises l l' r q (Ok done) → q.ended ≡ false → Passage left rises old l' q
+passage_more left rises old l l' r q done first passage turn going = more_by left rises old l l' r q turn.0 (entry_of desk_limits (known_of r) (l.number + 1) (without_cr turn.0)) first passage turn.1 refl turn.2 going
 
--- what is known after a line of these tokens, by each fact
-abbrev pub known_with : List (List ℕ) → List (List ℕ) → Known
-known_with before ts = record {
-  facts = record {
-    identified = begins_with (codes "IDENT") ts || is_identified before;
-    section = unwrap_or (section_after desk_limits ts) (section_of desk_limits before);
-    part = if is_some (section_after desk_limits ts) then 1 else unwrap_or (part_by ts) (open_part desk_limits before);
-    cues = if is_clear_all ts then [] else with_cue_named (option_and_then cue_in (section_after desk_limits ts)) (cues_named desk_limits before);
-  };
-  up = if is_some (section_after desk_limits ts) then false else begins_so is_up ts || stands_in is_up before;
-  down = if is_some (section_after desk_limits ts) then false else begins_so is_down ts || stands_in is_down before;
-  earlier = if is_some (section_after desk_limits ts) then is_timed (section_of desk_limits before) (stands_in is_up before) (stands_in is_down before) && were_timed before else were_timed before;
-}
+-- ENDDATA takes nothing up
+end_taken : (i : ℕ) (r : Reader) (e : Entry) → is_end e ≡ true → taken_up i (said_at r e) (taken_of r) ≡ taken_of r
+end_taken i r e = elim e as (λ e. is_end e ≡ true → taken_up i (said_at r e) (taken_of r) ≡ taken_of r) [ Ends ↦ λ is. refl | _ ↦ λ is. cc ]
 
-known_tokens : (before : List (List ℕ)) (ts : List (List ℕ)) → is_clear_all ts ≡ false → known_with before ts ≡ known_after (known_from before) ts
-known_tokens before [] none = refl
-known_tokens before (first ∷ rest) none =
-    (λ j. record (known_with before (first ∷ rest)) { facts = record (known_with before (first ∷ rest)).facts { identified = ident_is first j || is_identified before; cues = if none j then [] else with_cue_named (option_and_then cue_in (section_after desk_limits (first ∷ rest))) (cues_named desk_limits before) } })
+ended_by : {S : Type 0} (left : S → Option (List ℕ)) (rises : S → ℕ) (old l l' : Lines S) (r q : Reader) (loaded : Loaded) (raw : List ℕ) (x : Result Entry TextFault) → old.number ≡ 0 → Passage left rises old l r → HandedOut left rises l l' (raw ∷ [])
+    → entry_of desk_limits (known_of r) (l.number + 1) (without_cr raw) ≡ x → IsOkAnd x (TookUp r q (facts_after (known_of r) (tokens (without_cr raw))) (l.number + 1)) → q.ended ≡ true → reading_of loaded ≡ reading_of_taken (taken_of q) → Valid loaded.show → HasRead left rises old l' loaded
+ended_by left rises old l l' r q loaded raw (Err fault) first passage handed says took ended reading valid = absurd took
+ended_by left rises old l l' r q loaded raw (Ok e) first passage handed says took ended reading valid =
+    let end : is_end e ≡ true = sym took.ended ∙ ended in
+    let same : reading_of_taken (taken_of r) ≡ reading_of loaded = ap reading_of_taken (sym (took.taken ∙ end_taken (l.number + 1) r e end)) ∙ sym reading in
+    record {
+      means = subst (MeansShow left rises old l') same (lines_ended left rises old l l' (known_of r) (taken_of r) raw (said_at r e) first passage.past handed (said_entry r (l.number + 1) (without_cr raw) (Ok e) says) end);
+      valid = valid;
+    }
 
-pub known-more : (before : List (List ℕ)) (line : List ℕ) → is_clear_all (tokens line) ≡ false → known_from (line ∷ before) ≡ known_after (known_from before) (tokens line)
-known-more before line none = known_tokens before (tokens line) none
+-- the line was ENDDATA
+pub passage_ended : {S : Type 0} (left : S → Option (List ℕ)) (rises : S → ℕ) (old l l' : Lines S) (r q : Reader) (loaded : Loaded) (done : Unit {0}) → old.number ≡ 0 → Passage left rises old l r → TurnOf left rises l l' r q (Ok done) → q.ended ≡ true → reading_of loaded ≡ reading_of_taken (taken_of q) → Valid loaded.show → AnswerOf left rises old l' (Ok loaded)
+passage_ended left rises old l l' r q loaded done first passage turn ended reading valid = ended_by left rises old l l' r q loaded turn.0 (entry_of desk_limits (known_of r) (l.number + 1) (without_cr turn.0)) first passage turn.1 refl turn.2 ended reading valid
 
--- a line that is built is no CLEAR line
-clear_not_built : (known : Known) (word : Word) (rest : List (List ℕ)) (entry : Entry) → is_built known word rest entry ≡ true → is_clear word ≡ false
-clear_not_built known word rest entry = elim word as (λ w. is_built known w rest entry ≡ true → is_clear w ≡ false) [ words.Clear ↦ λ h. cc | _ ↦ λ h. refl ]
+-- a fault ends the reading
+fault_of_text : {S : Type 0} (left : S → Option (List ℕ)) (rises : S → ℕ) (old l l' : Lines S) (r : Reader) → old.number ≡ 0 → Passage left rises old l r → (fault : TextFault) → FaultOf left rises l l' r fault → MeansFault left old fault
+fault_of_text left rises old l l' r first passage fault (inl line) = lines_refused left rises old l l' (known_of r) (taken_of r) line.0 fault first passage.past line.1 (said_entry r (l.number + 1) (without_cr line.0) (Err fault) line.2)
+fault_of_text left rises old l l' r first passage fault (inr end) = subst (MeansFault left old) (sym end.1) (lines_open left rises old l (known_of r) (taken_of r) first passage.past end.0)
 
-pub built_not_clear : (known : Known) (ts : List (List ℕ)) (entry : Entry) → is_built_line known ts entry ≡ true → is_clear_all ts ≡ false
-built_not_clear known [] entry built = refl
-built_not_clear known (first ∷ rest) entry built = ap (λ b. b && is_second (codes "ALL") rest) (clear_is first (clear_not_built known (word_of first) rest entry built))
+pub passage_fault : {S : Type 0} (left : S → Option (List ℕ)) (rises : S → ℕ) (old l l' : Lines S) (r q : Reader) (fault : ShowFault) → old.number ≡ 0 → Passage left rises old l r → TurnOf left rises l l' r q (Err fault) → AnswerOf left rises old l' (Err fault)
+passage_fault left rises old l l' r q fault first passage turn =
+    of_text (FaultOf left rises l l' r) (MeansFault left old) (StepOf steps.InputTooLong (unread left l) (unread left l') l.taken l'.taken (line_of l')) (IfSome (unread left old) (IsPastLimit old.taken))
+    (fault_of_text left rises old l l' r first passage) (lines_past_limit left rises old l l' (known_of r) (taken_of r) passage.past) fault turn
+
+-- a fault that is handed on
+pub handed_on : {S : Type 0} (left : S → Option (List ℕ)) (rises : S → ℕ) (old l : Lines S) (result : Result Loaded ShowFault) (fault : ShowFault) → IsErrAnd result (λ told_fault. told_fault ≡ fault) → AnswerOf left rises old l (Err fault) → AnswerOf left rises old l result
+handed_on left rises old l (Ok loaded) fault is answer = absurd is
+handed_on left rises old l (Err other) fault is answer = subst (λ f. AnswerOf left rises old l (Err f)) (sym is) answer

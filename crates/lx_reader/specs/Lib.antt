@@ -1,6 +1,11 @@
 pub mod TakenUp
-pub mod Built
 pub mod Lists
 pub mod Stops
-pub mod PlainState
+pub mod Told
+pub mod Known
+pub mod ReadLines
+pub mod HandedLines
+pub mod Numbers
+pub mod Entering
+pub mod ReaderState
 pub mod Loading

@@ -5,6 +5,8 @@ use Rattle.lx_spec.specs.declared.TextFault.{TextFault}
 use Rattle.lx_spec.specs.Listing.{has_entry}
 use Rattle.lx_spec.specs.Show.{Show}
 use Rattle.lx_spec.specs.Tracked.{cue_of}
+use Rattle.lx_spec.specs.declared.Section.{Section}
+use Rattle.lx_spec.specs.declared.Section.TheVariants.{NoRecord, InCue, InGroup, InSub, Skipping}
 use Rattle.lx_reader.specs.declared.stop.Stop.{Stop}
 use Rattle.lx_reader.specs.declared.stop.Stop.TheVariants.{Fault, Memory}
 
@@ -16,3 +18,11 @@ IsStopOf Memory result = Unit {0}
 -- the show has the cue, and the cue the part
 abbrev pub HasPartIn : Show → ℕ → ℕ → Type 0
 HasPartIn show n p = IsSomeAnd (cue_of show n) (λ cue. IsTrue (has_entry (λ part. part.number) p cue.parts))
+
+-- the show has what the section is of: the cue with the open part, the group or the submaster
+abbrev pub IsOpen : Show → Section → ℕ → Type 0
+IsOpen show (InCue n) p = HasPartIn show n p
+IsOpen show (InGroup g) p = IsTrue (has_entry (λ group. group.number) g show.groups)
+IsOpen show (InSub s) p = IsTrue (has_entry (λ sub. sub.number) s show.subs)
+IsOpen show NoRecord p = Unit {0}
+IsOpen show Skipping p = Unit {0}

@@ -1,15 +1,20 @@
 //! Reads a show text: one pass over its lines, with a running state.
 #![tactic(auto)]
 
-mod entries;
 mod fault;
+mod inner;
+mod levels;
 mod lists;
 mod loaded;
-mod plain;
+mod making;
+mod numbers;
 mod read;
+mod reader;
+mod records;
 mod stop;
 #[cfg(test)]
 mod tests;
+mod times;
 mod words;
 
 pub use fault::ShowFault;

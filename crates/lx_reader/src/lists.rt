@@ -1,40 +1,12 @@
 //! The lists of a line, pair by pair and triple by triple.
 
 ghost use Rattle.std.specs.Prelude.{◌≡◌, ◌∷◌, [], Ok, Err, ◌<◌, length, IfOk, IfSome, MatchOption, MatchResult};
-ghost use Rattle.lx_base.specs.declared.TheConstants.{CHANNELS, DIMMERS};
-ghost use Rattle.lx_spec.specs.Numerals.{read_whole};
 ghost use Rattle.lx_lex.specs.Left.{left};
-ghost use Rattle.lx_reader.specs.Lists.{fault_of, fault_in, all_pairs, all_triples, onto};
+ghost use Rattle.lx_reader.specs.Lists.{fault_in, all_pairs, all_triples, onto};
 
-use lx_base::{CHANNELS, Chan, DIMMERS, Dimmer};
-use lx_lex::{Bad, Tokens, read_level, read_whole};
+use crate::numbers::{fault_of, read_channel, read_dimmer};
+use lx_lex::{Bad, Tokens, read_level};
 use lx_spec::{Member, PatchRow, TextFault};
-
-/// A channel number.
-fn read_channel(token: &[u8]) -> Result<Chan, Bad>
-    ensures { result ≡ read_whole 1 CHANNELS token.now }
-{
-    let number = read_whole(token, 1, CHANNELS)?;
-    Chan::new(number).ok_or(Bad::Range)
-}
-
-/// A dimmer number.
-fn read_dimmer(token: &[u8]) -> Result<Dimmer, Bad>
-    ensures { result ≡ read_whole 1 DIMMERS token.now }
-{
-    let number = read_whole(token, 1, DIMMERS)?;
-    Dimmer::new(number).ok_or(Bad::Range)
-}
-
-/// The fault of a token at a line.
-pub(crate) fn fault_of(i: u32, bad: Bad) -> TextFault
-    ensures { result ≡ fault_of i bad }
-{
-    match bad {
-        Bad::Shape => TextFault::BadNumber(i),
-        Bad::Range => TextFault::OutOfRange(i),
-    }
-}
 
 /// The fault of a token in a list at a line: that of the list, where it isn't whole.
 fn fault_in(i: u32, bad: Bad, whole: bool) -> TextFault

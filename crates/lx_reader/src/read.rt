@@ -1,29 +1,48 @@
-//! The pass over the lines.
+//! The pass over the lines of a show text.
 
-ghost use Rattle.std.specs.Prelude.{◌≡◌, ◌≤◌, IsTrue, Err, max};
-ghost use Rattle.lx_base.specs.declared.TheConstants.{DEFAULT_CHANNELS};
+ghost use Rattle.std.specs.Prelude.{◌≡◌, ◌≤◌, ◌+◌, Err, IsTrue};
 ghost use Rattle.lx_io.specs.Causes.{Rose};
 ghost use Rattle.lx_spec.specs.Show.{Valid};
-ghost use Rattle.lx_reader.specs.PlainState.{IsSound};
-ghost use Rattle.lx_reader.specs.Loading.{AnswerOf, TurnOf};
+ghost use Rattle.lx_reader.specs.ReaderState.{IsReady, taken_of};
+ghost use Rattle.lx_reader.specs.TakenUp.{reading_of_taken};
+ghost use Rattle.lx_reader.specs.Loading.{AnswerOf, TurnOf, reading_of};
 
 use crate::fault::ShowFault;
 use crate::loaded::Loaded;
-use crate::plain::Plain;
+use crate::reader::Reader;
 use lx_base::DEFAULT_CHANNELS;
 use lx_io::Source;
 use lx_lex::{Lines, Step};
 use lx_show::Show;
+use lx_spec::Form;
 use std::alloc::Global;
 
-/// Reads a plain show, up to its ENDDATA line: cues that take no time, their levels and a patch. No line was
-/// read from the lines before.
+/// Reads a show text, up to its ENDDATA line. No line was read from the lines before. The levels of its cues
+/// are read as moves.
 ///
-/// `NotBuilt` names the first line that is none of these: a blank line; `IDENT 3:0`, first of all; `PATCH 1` with
-/// rows, before the first cue; `CUE n`, each above the one before and at most 2,000 of them; in a cue `UP 0`,
-/// `DOWN 0` and `CHAN` with levels; `ENDDATA`, where each cue has an UP line and a DOWN line. Where the input ends
-/// before ENDDATA it names the line after the last.
-pub fn read_show<S: Source>(alloc: Global, lines: &mut Lines<S>) -> Result<Loaded, ShowFault>
+/// The faults that carry a line name the first line that has one. Lines that aren't known are skipped and
+/// counted.
+pub fn read_show<S: Source>(
+    alloc: Global,
+    lines: &mut Lines<S>,
+    form: Form,
+) -> Result<Loaded, ShowFault>
+    requires going { IsTrue lines.old.going }
+    requires first { lines.old.number ≡ 0 }
+    requires moves { form ≡ Form.Moves }
+    ensures same_reference { lines.new.source.ghost_name ≡ lines.old.source.ghost_name }
+    ensures answer { AnswerOf S.left S.faults lines.old lines.new result }
+    ensures later { S.faults lines.old.source.now ≤ S.faults lines.new.source.now }
+    ensures read { result ≡ Err ShowFault.ReadFault → Rose (S.faults lines.old.source.now) (S.faults lines.new.source.now) }
+{
+    match form {
+        Form::Moves => read_moves(alloc, lines),
+        Form::States => unreachable!(),
+    }
+}
+
+/// Reads a show text whose cues' levels are moves.
+fn read_moves<S: Source>(alloc: Global, lines: &mut Lines<S>) -> Result<Loaded, ShowFault>
     requires going { IsTrue lines.old.going }
     requires first { lines.old.number ≡ 0 }
     ensures same_reference { lines.new.source.ghost_name ≡ lines.old.source.ghost_name }
@@ -31,53 +50,59 @@ pub fn read_show<S: Source>(alloc: Global, lines: &mut Lines<S>) -> Result<Loade
     ensures later { S.faults lines.old.source.now ≤ S.faults lines.new.source.now }
     ensures read { result ≡ Err ShowFault.ReadFault → Rose (S.faults lines.old.source.now) (S.faults lines.new.source.now) }
 {
-    let mut plain = match Show::new(alloc, 1) {
-        Ok(show) => Plain::new(show),
+    let mut reader = match Show::new(alloc, 1) {
+        Ok(show) => Reader::new(show),
         Err(_) => return Err(ShowFault::Memory),
     };
     loop {
-        match take_line(alloc, lines, &mut plain) {
-            Ok(false) => {}
-            Ok(true) => return Ok(finish(plain.show)),
-            Err(fault) => return Err(fault),
+        take_line(alloc, lines, &mut reader)?;
+        if reader.ended {
+            return Ok(loaded(reader));
         }
     }
 }
 
-/// Reads one line and takes it up. It says whether the line is ENDDATA.
+/// Reads one line and takes it up.
 fn take_line<S: Source>(
     alloc: Global,
     lines: &mut Lines<S>,
-    plain: &mut Plain,
-) -> Result<bool, ShowFault>
+    reader: &mut Reader,
+) -> Result<(), ShowFault>
     requires going { IsTrue lines.old.going }
-    requires sound { IsSound plain.old }
+    requires ready { IsReady reader.old (lines.old.number + 1) }
     ensures same_reference { lines.new.source.ghost_name ≡ lines.old.source.ghost_name }
-    ensures turn { TurnOf S.left S.faults lines.old lines.new plain.old plain.new result }
+    ensures turn { TurnOf S.left S.faults lines.old lines.new reader.old reader.new result }
     ensures later { S.faults lines.old.source.now ≤ S.faults lines.new.source.now }
     ensures read { result ≡ Err ShowFault.ReadFault → Rose (S.faults lines.old.source.now) (S.faults lines.new.source.now) }
 {
     match lines.advance() {
-        Step::Line => plain.take(alloc, lines.number(), lines.line()),
-        Step::LongLine => Err(ShowFault::NotBuilt(lines.number())),
-        Step::End => Err(ShowFault::NotBuilt(lines.number() + 1)),
+        Step::Line => match reader.take(alloc, lines.number(), lines.line()) {
+            Ok(()) => Ok(()),
+            Err(stop) => Err(ShowFault::from(stop)),
+        },
+        Step::LongLine => Err(ShowFault::LineTooLong(lines.number())),
+        Step::End => Err(ShowFault::NoEndData(lines.number() + 1)),
         Step::ReadFault => Err(ShowFault::ReadFault),
         Step::InputTooLong => Err(ShowFault::InputTooLong),
     }
 }
 
-/// The show, with at least 512 channels.
-fn finish(mut show: Show) -> Loaded
-    ensures show { result.show ≡ record show { channels = max show.channels DEFAULT_CHANNELS } }
-    ensures none { (result.skipped ≡ 0) × (result.first_skipped ≡ 0) }
+/// What was read: the show has as many channels as it names, and as SET CHANNELS says, or else 512.
+fn loaded(reader: Reader) -> Loaded
+    ensures reading { reading_of result ≡ reading_of_taken (taken_of reader) }
     ensures valid { Valid result.show }
 {
-    let channels = show.channels().max(DEFAULT_CHANNELS);
+    let mut show = reader.show;
+    let set = match reader.channels_set {
+        Some(channels) => channels.get(),
+        None => DEFAULT_CHANNELS,
+    };
+    let channels = show.channels().max(set);
     show.widen(channels);
     let _ = show.channels();
     Loaded {
         show,
-        skipped: 0,
-        first_skipped: 0,
+        skipped: reader.skipped,
+        first_skipped: reader.first_skipped,
     }
 }

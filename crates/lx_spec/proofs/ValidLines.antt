@@ -40,7 +40,7 @@ as_range most (Err bad) ok = tt
 whole_in_range : (most : ℕ) (token : List ℕ) → IfOk (read_whole 1 most token) (InRange most)
 whole_in_range most token = if_test (InRange most) (is_number token) (ranged 1 most (number_of token)) Shape (as_range most (ranged 1 most (number_of token)) (in_range-ranged 1 most (number_of token)))
 
-cue_in_range : (token : List ℕ) → IfOk (read_cue_no desk_limits token) (InRange CUE_MAX)
+pub cue_in_range : (token : List ℕ) → IfOk (read_cue_no desk_limits token) (InRange CUE_MAX)
 cue_in_range token = if_test (InRange CUE_MAX) (is_decimal token && nat_le (10 ^ length (decimals token)) desk_limits.cue_unit) (ranged 1 CUE_MAX (decimal_value desk_limits.cue_unit token)) Shape (as_range CUE_MAX (ranged 1 CUE_MAX (decimal_value desk_limits.cue_unit token)) (in_range-ranged 1 CUE_MAX (decimal_value desk_limits.cue_unit token)))
 
 -- digits spell a number below the power of ten of their count
@@ -109,7 +109,7 @@ minutes_in_range minutes seconds =
     let outer : (b : Bool) → is_minutes minutes seconds ≡ b → IfOk (cond b (cond few (Ok time) (Err Range)) (Err Shape)) IsTime = λ b. elim b as (λ v. is_minutes minutes seconds ≡ v → IfOk (cond v (cond few (Ok time) (Err Range)) (Err Shape)) IsTime) [ true ↦ λ is. inner few is refl | false ↦ λ is. tt ] in
     outer (is_minutes minutes seconds) refl
 
-time_in_range : (token : List ℕ) → IfOk (read_time token) IsTime
+pub time_in_range : (token : List ℕ) → IfOk (read_time token) IsTime
 time_in_range token = elim (list_any is_colon token) as (λ b. IfOk (cond b (read_minutes (before_first is_colon token) (after_first is_colon token)) (read_seconds token)) IsTime) [ true ↦ minutes_in_range (before_first is_colon token) (after_first is_colon token) | false ↦ seconds_in_range token ]
 
 -- Phrases: what holds of the first part is known in the next.

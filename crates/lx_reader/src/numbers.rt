@@ -1,0 +1,208 @@
+//! The numbers of a line, by their ranges, and the faults of those that it lacks.
+
+ghost use Rattle.std.specs.Prelude.{◌≡◌, ◌∷◌, [], IfOk};
+ghost use Rattle.lx_base.specs.declared.TheConstants.{CHANNELS, DIMMERS, GROUPS, PARTS, SUBS};
+ghost use Rattle.lx_spec.specs.Limits.{desk_limits};
+ghost use Rattle.lx_spec.specs.Numerals.{read_cue_no, read_time, read_whole};
+ghost use Rattle.lx_spec.specs.Saying.{is_page_one, delay_at, number};
+ghost use Rattle.lx_spec.specs.Show.{IsTime};
+ghost use Rattle.lx_lex.specs.Left.{left};
+ghost use Rattle.lx_reader.specs.Lists.{fault_of};
+ghost use Rattle.lx_reader.specs.Numbers.{next_number, next_times, record_number};
+
+use lx_base::{
+    CHANNELS, Chan, Cs, CueNo, DIMMERS, Dimmer, GROUPS, GroupNo, PARTS, PartNo, SUBS, SubNo,
+};
+use lx_lex::{Bad, Tokens, read_cue_no, read_time, read_whole};
+use lx_spec::TextFault;
+
+/// A channel number.
+pub(crate) fn read_channel(token: &[u8]) -> Result<Chan, Bad>
+    ensures { result ≡ read_whole 1 CHANNELS token.now }
+{
+    let number = read_whole(token, 1, CHANNELS)?;
+    Chan::new(number).ok_or(Bad::Range)
+}
+
+/// A dimmer number.
+pub(crate) fn read_dimmer(token: &[u8]) -> Result<Dimmer, Bad>
+    ensures { result ≡ read_whole 1 DIMMERS token.now }
+{
+    let number = read_whole(token, 1, DIMMERS)?;
+    Dimmer::new(number).ok_or(Bad::Range)
+}
+
+/// A part number.
+fn read_part(token: &[u8]) -> Result<PartNo, Bad>
+    ensures { result ≡ read_whole 1 PARTS token.now }
+{
+    let number = read_whole(token, 1, PARTS)?;
+    PartNo::new(number).ok_or(Bad::Range)
+}
+
+/// A group number.
+fn read_group(token: &[u8]) -> Result<GroupNo, Bad>
+    ensures { result ≡ read_whole 1 GROUPS token.now }
+{
+    let number = read_whole(token, 1, GROUPS)?;
+    GroupNo::new(number).ok_or(Bad::Range)
+}
+
+/// A submaster number.
+fn read_sub(token: &[u8]) -> Result<SubNo, Bad>
+    ensures { result ≡ read_whole 1 SUBS token.now }
+{
+    let number = read_whole(token, 1, SUBS)?;
+    SubNo::new(number).ok_or(Bad::Range)
+}
+
+/// The fault of a token at a line.
+pub(crate) fn fault_of(i: u32, bad: Bad) -> TextFault
+    ensures { result ≡ fault_of i bad }
+{
+    match bad {
+        Bad::Shape => TextFault::BadNumber(i),
+        Bad::Range => TextFault::OutOfRange(i),
+    }
+}
+
+/// The channel number that comes next.
+pub(crate) fn next_channel(i: u32, mut tokens: Tokens) -> Result<Chan, TextFault>
+    ensures { result ≡ next_number i (read_whole 1 CHANNELS) (left tokens.entry) }
+{
+    let Some(token) = tokens.next() else {
+        return Err(TextFault::ShortList(i));
+    };
+    read_channel(token).map_err(|bad| fault_of(i, bad))
+}
+
+/// The part number that comes next.
+pub(crate) fn next_part(i: u32, mut tokens: Tokens) -> Result<PartNo, TextFault>
+    ensures { result ≡ next_number i (read_whole 1 PARTS) (left tokens.entry) }
+{
+    let Some(token) = tokens.next() else {
+        return Err(TextFault::ShortList(i));
+    };
+    read_part(token).map_err(|bad| fault_of(i, bad))
+}
+
+/// The time that comes next.
+pub(crate) fn next_time(i: u32, mut tokens: Tokens) -> Result<Cs, TextFault>
+    ensures number { result ≡ next_number i read_time (left tokens.entry) }
+    ensures time { IfOk result IsTime }
+{
+    let Some(token) = tokens.next() else {
+        return Err(TextFault::ShortList(i));
+    };
+    time_at(i, token)
+}
+
+/// The time that a token of line i spells.
+fn time_at(i: u32, token: &[u8]) -> Result<Cs, TextFault>
+    ensures number { result ≡ number i (read_time token.now) }
+    ensures time { IfOk result IsTime }
+{
+    match read_time(token) {
+        Ok(time) => Ok(time),
+        Err(bad) => Err(fault_of(i, bad)),
+    }
+}
+
+/// The cue number that comes next.
+pub(crate) fn next_cue_no(i: u32, mut tokens: Tokens) -> Result<CueNo, TextFault>
+    ensures { result ≡ next_number i (read_cue_no desk_limits) (left tokens.entry) }
+{
+    let Some(token) = tokens.next() else {
+        return Err(TextFault::ShortList(i));
+    };
+    read_cue_no(token).map_err(|bad| fault_of(i, bad))
+}
+
+/// The time that comes next and the delay after it.
+pub(crate) fn next_times(i: u32, mut tokens: Tokens) -> Result<(Cs, Cs), TextFault>
+    ensures numbers { result ≡ next_times i (left tokens.entry) }
+    ensures times { IfOk result (λ t. IsTime t.0 × IsTime t.1) }
+{
+    let Some(token) = tokens.next() else {
+        return Err(TextFault::ShortList(i));
+    };
+    let time = time_at(i, token)?;
+    let delay = delay(i, tokens)?;
+    Ok((time, delay))
+}
+
+/// A delay; 0 where no token is left.
+fn delay(i: u32, mut tokens: Tokens) -> Result<Cs, TextFault>
+    ensures number { result ≡ delay_at i (left tokens.entry) }
+    ensures time { IfOk result IsTime }
+{
+    match tokens.next() {
+        Some(token) => time_at(i, token),
+        None => Ok(0),
+    }
+}
+
+/// The record is of page 1: no page is named, or page 1.
+fn is_page_one(mut tokens: Tokens) -> bool
+    ensures { result ≡ is_page_one (left tokens.entry) }
+{
+    match tokens.next() {
+        Some(page) => is_one(page),
+        None => true,
+    }
+}
+
+/// The token is the page 1.
+pub(crate) fn is_one(page: &[u8]) -> bool
+    ensures { result ≡ is_page_one (page.now ∷ []) }
+{
+    read_whole(page, 1, 1).is_ok()
+}
+
+/// The number of a cue that a record names; None where it is of another page.
+pub(crate) fn cue_of_record(i: u32, mut tokens: Tokens) -> Result<Option<CueNo>, TextFault>
+    ensures { result ≡ record_number i (read_cue_no desk_limits) (left tokens.entry) }
+{
+    let Some(token) = tokens.next() else {
+        return Err(TextFault::ShortList(i));
+    };
+    if !is_page_one(tokens) {
+        return Ok(None);
+    }
+    match read_cue_no(token) {
+        Ok(number) => Ok(Some(number)),
+        Err(bad) => Err(fault_of(i, bad)),
+    }
+}
+
+/// The number of a group that a record names; None where it is of another page.
+pub(crate) fn group_of_record(i: u32, mut tokens: Tokens) -> Result<Option<GroupNo>, TextFault>
+    ensures { result ≡ record_number i (read_whole 1 GROUPS) (left tokens.entry) }
+{
+    let Some(token) = tokens.next() else {
+        return Err(TextFault::ShortList(i));
+    };
+    if !is_page_one(tokens) {
+        return Ok(None);
+    }
+    match read_group(token) {
+        Ok(number) => Ok(Some(number)),
+        Err(bad) => Err(fault_of(i, bad)),
+    }
+}
+
+/// The number of a submaster that a record names; None where it is of another page.
+pub(crate) fn sub_of_record(i: u32, mut tokens: Tokens) -> Result<Option<SubNo>, TextFault>
+    ensures { result ≡ record_number i (read_whole 1 SUBS) (left tokens.entry) }
+{
+    let Some(token) = tokens.next() else {
+        return Err(TextFault::ShortList(i));
+    };
+    if !is_page_one(tokens) {
+        return Ok(None);
+    }
+    match read_sub(token) {
+        Ok(number) => Ok(Some(number)),
+        Err(bad) => Err(fault_of(i, bad)),
+    }
+}
