@@ -21,3 +21,9 @@ frame_counts d line u r counts is = ap (λ v. counts_after d counts (Some v) r) 
 pub on_ok : {T E : Type 0} (r : Result T E) (P : Type 0) → P → OnOk r P
 on_ok (Ok x) P p = p
 on_ok (Err e) P p = tt
+
+-- what a row line counts
+pub sheet_counts : {T E : Type 0} (d : Desk) (line : Line) (n : ℕ) (r : Option Refusal) (before after : Counts) (result : Result T E) → line ≡ lines.SheetOf n
+    → OnOk result (after ≡ counts_after d before (Some (lines.SheetOf n)) r) → OnOk result (after ≡ counts_after d before (Some line) r)
+sheet_counts d line n r before after (Ok x) is e = e ∙ ap (λ (l : Line). counts_after d before (Some l) r) (sym is)
+sheet_counts d line n r before after (Err x) is e = tt

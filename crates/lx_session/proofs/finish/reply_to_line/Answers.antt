@@ -1,8 +1,7 @@
-use Rattle.std.proofs.Common.{Some, ap, sym, ◌∙◌}
-use Rattle.lx_session.specs.Replying.{reply_to, counts_after, counts_in}
-use Rattle.lx_session.proofs.LineDone.{over_ok}
+use Rattle.std.proofs.Common.{Some, ap, sym}
+use Rattle.lx_session.specs.Replying.{reply_to, counts_in}
 use Rattle.lx_io.proofs.Chain.{Puts-is}
-use Rattle.lx_session.proofs.Replies.{frame_reply, frame_counts, on_ok}
+use Rattle.lx_session.proofs.Replies.{frame_reply, frame_counts, on_ok, sheet_counts}
 use Rattle.lx_session.proofs.finish.reply_to_line.Goals as goal
 
 pub returns-in-Frame-clause-text : goal.returns-in-Frame-clause-text
@@ -15,4 +14,4 @@ pub returns-in-SheetOf-clause-text : goal.returns-in-SheetOf-clause-text
 returns-in-SheetOf-clause-text g c = λ d stands. Puts-is (c.put_sheet.ensures.text d stands) (ap (λ line. reply_to d (Some line) c.args.refusal) (sym c.in-SheetOf.is))
 
 pub returns-in-SheetOf-clause-counts : goal.returns-in-SheetOf-clause-counts
-returns-in-SheetOf-clause-counts g c = λ d stands. over_ok c.put_sheet.result _ _ (λ e. e ∙ ap (λ line. counts_after d (counts_in c.args.tally.now) (Some line) c.args.refusal) (sym c.in-SheetOf.is)) (c.put_sheet.ensures.counts d stands)
+returns-in-SheetOf-clause-counts g c = λ d stands. sheet_counts d c.args.line.now c.in-SheetOf.n c.args.refusal (counts_in c.args.tally.now) (counts_in c.put_sheet.new.tally) c.put_sheet.result c.in-SheetOf.is (c.put_sheet.ensures.counts d stands)
