@@ -6,5 +6,7 @@ mod block;
 mod edits;
 mod look;
 mod sheet;
+#[cfg(test)]
+mod tests;
 
 pub use sheet::Sheet;

@@ -1,0 +1,10 @@
+//! Groups at a level: each member at its own level in proportion.
+#![tactic(auto)]
+
+mod group;
+mod scaled;
+#[cfg(test)]
+mod tests;
+
+pub use group::members;
+pub use scaled::Members;

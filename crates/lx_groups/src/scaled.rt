@@ -1,0 +1,32 @@
+//! An iterator over the members of a group, scaled.
+
+use lx_base::{Level, scale};
+use lx_show::Member;
+
+/// The members of a group that are left, rising by channel, each at its level in proportion. It takes no
+/// memory.
+#[derive(Clone, Copy, Debug, Drop)]
+pub struct Members<'a> {
+    pub(crate) rest: &'a [Member],
+    pub(crate) level: Level,
+}
+
+impl<'a> Iterator for Members<'a> {
+    type Item = Member;
+
+    ghost use Rattle.std.specs.Iterator.{item_count, YieldsFirst};
+    ghost use Rattle.lx_groups.specs.Left.{left};
+
+    ghost next_gives = { YieldsFirst left };
+
+    ghost remaining = { item_count left };
+
+    fn next(&mut self) -> Option<Member> {
+        let (first, rest) = self.rest.split_first()?;
+        self.rest = rest;
+        Some(Member {
+            chan: first.chan,
+            level: scale(first.level, self.level),
+        })
+    }
+}
