@@ -46,10 +46,10 @@ pub(crate) fn set_group(
     ensures { Plans show.now (Edit.SetGroup n part g level only) result }
 {
     let old = the_cue(show, n)?;
-    let part = the_given_part(old, part)?;
+    let given = the_given_part(old, part)?;
     let group = the_group(show, g)?;
     let members = in_proportion(alloc, group.members.as_slice(), level)?;
-    let cue = with_levels(alloc, show.channels(), old, part, members.as_slice())?;
+    let cue = with_levels(alloc, show.channels(), old, given, members.as_slice())?;
     Ok(place(alloc, show, n, old, cue, only)?)
 }
 

@@ -17,6 +17,8 @@ mod moves;
 mod patching;
 pub mod planning;
 mod plans;
+#[cfg(test)]
+mod tests;
 
 pub use chan_set::ChanSet;
 pub use dirty::Dirty;
