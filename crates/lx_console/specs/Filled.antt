@@ -1,5 +1,5 @@
 -- What a console keeps is filled in: it is what the show, the playback, the faders and the master give.
-use Rattle.std.specs.Prelude.{◌≡◌, ℕ, ◌+◌, ◌<◌, false, length, slice_index}
+use Rattle.std.specs.Prelude.{◌≡◌, ℕ, ◌+◌, ◌<◌, false, None, length, slice_index}
 use Rattle.lx_base.specs.declared.TheConstants.{SUBS, SLOTS, RUNS}
 use Rattle.lx_spec.specs.Output.{contribution, dimmer_value}
 use Rattle.lx_spec.specs.Stands.{Kept}
@@ -32,6 +32,12 @@ pub record IsFilledBut (console : Kept) (dirty : Dirty) (stage : Stage) : Type 0
   pub reaches : Reaches console.show.channels stage
   pub levels_stand : (k : ℕ) → k < console.show.channels → has_chan dirty.chans (k + 1) ≡ false → slice_index stage.levels.items k ≡ level_now console (k + 1)
   pub given_stand : dirty.subs ≡ false → IsTable console.show.channels (contribution console.show console.faders) stage.given.items
+
+-- an edit touched nothing that the stage depends on
+pub record IsClean (dirty : Dirty) : Type 0 where
+  pub chans : (c : ℕ) → has_chan dirty.chans c ≡ false
+  pub dimmer : dirty.dimmer ≡ None
+  pub subs : dirty.subs ≡ false
 
 -- the rows stand for the show, there is a fader for each submaster number, and the stage is filled in
 pub record IsKept (console : Kept) (sheet : Sheet) (stage : Stage) : Type 0 where

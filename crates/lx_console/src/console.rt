@@ -17,7 +17,7 @@ ghost use Rattle.lx_console.specs.Table.{IsTable};
 ghost use Rattle.lx_console.specs.Slots.{universe};
 ghost use Rattle.lx_console.specs.Standing.{StandsFor, Obeys, Answers, level_now, out_now};
 
-use crate::stage::Stage;
+use crate::stage::{Stage, reaches_stage};
 use crate::ticks::tick_of;
 use lx_base::{CueNo, Level, Moment, SLOTS, SUBS, SubNo, UNIVERSES};
 use lx_edit::planning::plan;
@@ -229,14 +229,16 @@ impl Console {
     {
         let plan = plan(self.alloc, &self.show, edit)?;
         let dirty = plan.apply(&mut self.show, &mut self.sheet);
-        self.stage.mend(
-            &self.show,
-            &self.sheet,
-            &self.playback,
-            &self.faders,
-            self.master,
-            &dirty,
-        );
+        if reaches_stage(&dirty) {
+            self.stage.mend(
+                &self.show,
+                &self.sheet,
+                &self.playback,
+                &self.faders,
+                self.master,
+                &dirty,
+            );
+        }
         Ok(())
     }
 

@@ -8,7 +8,7 @@ ghost use Rattle.lx_spec.specs.Output.{contribution, dimmer_value};
 ghost use Rattle.lx_sheet.specs.Standing.{StandsFor};
 ghost use Rattle.lx_edit.specs.ChanSet.{has_chan};
 ghost use Rattle.lx_console.specs.Table.{IsTable};
-ghost use Rattle.lx_console.specs.Filled.{Reaches, IsFilled, IsFilledBut};
+ghost use Rattle.lx_console.specs.Filled.{Reaches, IsFilled, IsFilledBut, IsClean};
 
 use crate::levels::{fill_levels, mend_levels};
 use crate::output::fill_outputs;
@@ -170,4 +170,11 @@ impl Stage {
             &mut self.slots,
         );
     }
+}
+
+/// Something that the stage depends on was touched: a channel's level, a submaster, or a dimmer's row.
+pub(crate) fn reaches_stage(dirty: &Dirty) -> bool
+    ensures { result ≡ false → IsClean dirty.now }
+{
+    dirty.subs || dirty.dimmer.is_some() || dirty.chans != ChanSet::empty()
 }
