@@ -1,76 +1,142 @@
 -- How much of its input the program wants, and what it writes for it, from the reader's answer and the session's.
-use Rattle.std.proofs.Common.{◌≡◌, ◌⊎◌, inl, inr, ℕ, ◌+◌, ◌<◌, ◌≤◌, Option, Some, None, Result, Ok, Err, IfSome, IsErr, List, [], ◌∷◌, ◌++◌, map, length, take, refl, sym, ap, ◌∙◌, subst, arith, length-append, append_assoc, append-nil}
+use Rattle.std.proofs.Common.{◌≡◌, ◌≢◌, ◌⊎◌, inl, inr, ℕ, zero, suc, ◌+◌, ◌<◌, ◌≤◌, false, true, eqb, cond, Option, Some, None, Result, Ok, Err, IfSome, IsErr, IsOk, List, [], ◌∷◌, ◌++◌, length, refl, sym, ap, ◌∙◌, subst, arith, length-append, append-nil, take_all}
+use Rattle.std.specs.List.{before_first}
 use Rattle.std.specs.Io.KnownBytes.{Appends, IsAtEnd}
-use Rattle.std.proofs.lemmas.List.{map-append, length-map}
+use Rattle.std.proofs.KnownBytes.{Appends-nil}
 use Rattle.lx_base.specs.declared.TheConstants.{INPUT_BYTES}
 use Rattle.lx_io.specs.Puts.{AppendsFront}
+use Rattle.lx_io.proofs.Chain.{AppendsFront-from}
 use Rattle.lx_lex.specs.declared.lines.Lines.{Lines}
 use Rattle.lx_lex.specs.Lines.{TookLines, first_lines}
 use Rattle.lx_lex.specs.Unread.{unread}
-use Rattle.lx_lex.proofs.TakenLines.{texts, lines_within}
+use Rattle.lx_lex.proofs.TakenLines.{lines_within}
 use Rattle.lx_lex.proofs.FirstLines.{first_lines-more, first_lines-longer}
-use Rattle.lx_spec.specs.Text.{without_cr, lines_of}
-use Rattle.lx_spec.specs.Reading.{Reading}
-use Rattle.lx_spec.specs.Jobs.{script_of}
+use Rattle.lx_spec.specs.declared.Form.TheVariants.{Moves}
+use Rattle.lx_spec.specs.declared.TextFault.{TextFault}
+use Rattle.lx_spec.specs.declared.TextFault.TheVariants as texts_of
+use Rattle.lx_spec.specs.Text.{lines_of}
+use Rattle.lx_spec.specs.Desk.{Desk, opened}
+use Rattle.lx_spec.specs.Reading.{Reading, reads}
+use Rattle.lx_spec.specs.Jobs.{script_of, over_show, fault_text}
+use Rattle.lx_spec.specs.Replies.{begun}
 use Rattle.lx_reader.specs.declared.loaded.Loaded.{Loaded}
-use Rattle.lx_reader.specs.Built.{reads_built}
-use Rattle.lx_reader.specs.Loading.{reading_of, HasRead, IsNotBuilt, IsTooLong}
-use Rattle.cuedesk.specs.Session.{lines_wanted, bytes_wanted}
-use Rattle.cuedesk.specs.Output.{show_lines, lines_wanted_of, input_wanted, text_over, output_of, not_built_text}
-use Rattle.cuedesk.proofs.Sessions.{first_lines-length}
-use Rattle.cuedesk.proofs.Wanted.{show_lines-read, show_lines-refused, show_lines-more}
+use Rattle.lx_reader.specs.declared.fault.ShowFault.{ShowFault}
+use Rattle.lx_reader.specs.declared.fault.ShowFault.TheVariants as faults
+use Rattle.lx_reader.specs.Told.{fault_told}
+use Rattle.lx_reader.specs.ReadLines.{lines_read}
+use Rattle.lx_reader.specs.HandedLines.{MeansFault, IsPastLimit}
+use Rattle.lx_reader.specs.Loading.{reading_of, HasRead, OfText}
+use Rattle.lx_session.specs.Meaning.{ends_script, replies_of}
+use Rattle.lx_session.specs.Attempts.{WantsAtEdits}
+use Rattle.lx_session.specs.Scripts.{lines_wanted, bytes_wanted}
+use Rattle.lx_session.proofs.Places.{wants_nothing}
+use Rattle.cuedesk.specs.declared.desk.Status.{Status}
+use Rattle.cuedesk.specs.declared.desk.Status.TheVariants as status
+use Rattle.cuedesk.specs.Output.{output_of, MayWantOf, WritesAll, WritesFront, Answers, AnswersInFront, lines_wanted_of, input_wanted}
+use Rattle.cuedesk.specs.Refused.{RefusedBy, status_kept}
+
+-- a whole text is a front of itself, and nothing is one of any
+pub whole_front : (a b : Option (List ℕ)) (text : List ℕ) → Appends a b text → AppendsFront a b text
+whole_front a b text p = AppendsFront-from a b text (length text) (subst (λ (v : List ℕ). Appends a b v) (sym (take_all (length text) text (omega arith))) p)
+
+pub front_nothing : (a : Option (List ℕ)) (text : List ℕ) → AppendsFront a a text
+front_nothing a text = AppendsFront-from a a text 0 (Appends-nil a)
+
+no_place : (n m : ℕ) → false ≡ true → n ≤ m
+no_place n m e = absurd cc
+
+pub nothing_wanted : (bytes : List ℕ) (r : Result Reading TextFault) → MayWantOf bytes [] r
+nothing_wanted bytes (Ok reading) = wants_nothing [] (begun (opened reading.show)) (before_first ends_script (script_of bytes)) (λ n has. no_place n 0 has)
+nothing_wanted bytes (Err fault) = tt
+
+-- a front of nothing was written
+pub nothing_written : (o a : Option (List ℕ)) → IfSome o (λ bytes. WritesFront bytes a a)
+nothing_written None a = tt
+nothing_written (Some bytes) a = record { places = []; wants = nothing_wanted bytes (reads Moves bytes); text = front_nothing a (output_of bytes []) }
+
+pub nothing_answered : (o a : Option (List ℕ)) (d : Desk) → IfSome o (λ bytes. AnswersInFront d (lines_of bytes) a a)
+nothing_answered None a d = tt
+nothing_answered (Some bytes) a d = record { places = []; wants = wants_nothing [] (begun d) (before_first ends_script (lines_of bytes)) (λ n has. no_place n 0 has); text = front_nothing a (replies_of d (lines_of bytes) []) }
+
+-- what the session answered is what the program writes
+answer_at : (bytes left : List ℕ) (reading : Reading) (h h' : Option (List ℕ)) → reads Moves bytes ≡ Ok reading → script_of bytes ≡ lines_of left → Answers (opened reading.show) (lines_of left) h h'
+    → WritesAll bytes h h' × IsOk (reads Moves bytes)
+answer_at bytes left reading h h' read script a = (record {
+    places = a.places;
+    wants = subst (λ r. MayWantOf bytes a.places r) (sym read) (subst (λ ls. WantsAtEdits a.places (begun (opened reading.show)) (before_first ends_script ls)) (sym script) a.wants);
+    text = subst (λ (t : List ℕ). Appends h h' t) (sym (ap (λ r. over_show r (λ x. replies_of (opened x.show) (script_of bytes) a.places)) read ∙ ap (λ ls. replies_of (opened reading.show) ls a.places) script)) a.text;
+  }, subst (λ (r : Result Reading TextFault). IsOk r) (sym read) refl)
+
+front_at : (bytes left : List ℕ) (reading : Reading) (h h' : Option (List ℕ)) → reads Moves bytes ≡ Ok reading → script_of bytes ≡ lines_of left → AnswersInFront (opened reading.show) (lines_of left) h h' → WritesFront bytes h h'
+front_at bytes left reading h h' read script a = record {
+  places = a.places;
+  wants = subst (λ r. MayWantOf bytes a.places r) (sym read) (subst (λ ls. WantsAtEdits a.places (begun (opened reading.show)) (before_first ends_script ls)) (sym script) a.wants);
+  text = subst (λ (t : List ℕ). AppendsFront h h' t) (sym (ap (λ r. over_show r (λ x. replies_of (opened x.show) (script_of bytes) a.places)) read ∙ ap (λ ls. replies_of (opened reading.show) ls a.places) script)) a.text;
+}
+
+over_read : (a b : Option (List ℕ)) (i j : ℕ) (raws : List (List ℕ)) (P Q : List ℕ → Type 0) (R : List ℕ → List ℕ → Type 0) → TookLines a b i j raws → IfSome a P → IfSome a (λ x. IfSome b (R x)) → IfSome b Q → (S : List ℕ → Type 0) → ((x y : List ℕ) → P x → R x y → Q y → S x) → IfSome a S
+over_read None b i j raws P Q R took p r q S f = tt
+over_read (Some x) None i j raws P Q R took p r q S f = absurd took.took
+over_read (Some x) (Some y) i j raws P Q R took p r q S f = f x y p r q
+
+pub session_text : {S : Type 0} (left : S → Option (List ℕ)) (faults : S → ℕ) (a b : Lines S) (loaded : Loaded) (o h h' : Option (List ℕ)) → unread left a ≡ o → HasRead left faults a b loaded
+    → IfSome (unread left b) (λ bytes. Answers (opened loaded.show) (lines_of bytes) h h') → IfSome o (λ bytes. WritesAll bytes h h' × IsOk (reads Moves bytes))
+session_text left faults a b loaded o h h' is r answers =
+    subst (λ (v : Option (List ℕ)). IfSome v (λ bytes. WritesAll bytes h h' × IsOk (reads Moves bytes))) is
+    (over_read (unread left a) (unread left b) a.taken b.taken _ _ _ _ r.means.handed.took r.means.text r.means.script answers _ (λ x y read script answer. answer_at x y (reading_of loaded) h h' read script answer))
+
+pub session_front : {S : Type 0} (left : S → Option (List ℕ)) (faults : S → ℕ) (a b : Lines S) (loaded : Loaded) (o h h' : Option (List ℕ)) → unread left a ≡ o → HasRead left faults a b loaded
+    → IfSome (unread left b) (λ bytes. AnswersInFront (opened loaded.show) (lines_of bytes) h h') → IfSome o (λ bytes. WritesFront bytes h h')
+session_front left faults a b loaded o h h' is r answers =
+    subst (λ (v : Option (List ℕ)). IfSome v (λ bytes. WritesFront bytes h h')) is
+    (over_read (unread left a) (unread left b) a.taken b.taken _ _ _ _ r.means.handed.took r.means.text r.means.script answers _ (λ x y read script answer. front_at x y (reading_of loaded) h h' read script answer))
 
 -- of a show that is read the lines that were handed out are wanted, and then those of the script
-wanted_read : (x y : List ℕ) (i j : ℕ) (front : List (List ℕ)) (last : List ℕ) (reading : Reading) → i ≡ 0 → TookLines (Some x) (Some y) i j (front ++ last ∷ [])
-    → reads_built (map without_cr front) ≡ Err (length front + 1) → reads_built (map without_cr (front ++ last ∷ [])) ≡ Ok reading → reads_built (lines_of x) ≡ Ok reading → script_of x ≡ lines_of y
-    → length (input_wanted x) ≡ j + length (bytes_wanted y)
-wanted_read x y i j front last reading none took is_open is_read text script =
-    let lines = map without_cr front in
-    let line = without_cr last in
-    let raws = front ++ last ∷ [] in
-    let count = length-map front without_cr in
-    let opened : reads_built lines ≡ Err (length lines + 1) = is_open ∙ ap (λ n. Err (n + 1)) (sym count) in
-    let read : reads_built (lines ++ line ∷ []) ≡ Ok reading = ap reads_built (sym (map-append without_cr front (last ∷ []))) ∙ is_read in
-    let all : lines_of x ≡ lines ++ line ∷ lines_of y = texts (Some x) (Some y) i j raws took ∙ ap (λ v. v ++ lines_of y) (map-append without_cr front (last ∷ [])) ∙ append_assoc lines (line ∷ []) (lines_of y) in
-    let shown : show_lines (lines_of x) ≡ length raws = ap show_lines all ∙ show_lines-read lines line (lines_of y) reading opened read ∙ omega (arith, count, length-append front (last ∷ [])) in
-    let n : lines_wanted_of x (reads_built (lines_of x)) ≡ length raws + lines_wanted (lines_of y) = ap (lines_wanted_of x) text ∙ ap (λ m. m + lines_wanted (script_of x)) shown ∙ ap (λ s. length raws + lines_wanted s) script in
+wanted_read : (x y : List ℕ) (i j : ℕ) (raws : List (List ℕ)) (reading : Reading) → i ≡ 0 → TookLines (Some x) (Some y) i j raws
+    → lines_read (lines_of x) ≡ length raws → reads Moves x ≡ Ok reading → script_of x ≡ lines_of y → length (input_wanted x) ≡ j + length (bytes_wanted y)
+wanted_read x y i j raws reading none took shown text script =
+    let n : lines_wanted_of x (reads Moves x) ≡ length raws + lines_wanted (lines_of y) = ap (lines_wanted_of x) text ∙ ap (λ m. m + lines_wanted (script_of x)) shown ∙ ap (λ s. length raws + lines_wanted s) script in
     let mine : took.bytes ≡ first_lines (length raws) (took.bytes ++ y) = took.front ∙ ap (first_lines (length raws)) took.took in
     let bytes : input_wanted x ≡ took.bytes ++ bytes_wanted y = ap (λ k. first_lines k x) n ∙ ap (first_lines (length raws + lines_wanted (lines_of y))) took.took ∙ first_lines-more (length raws) (lines_wanted (lines_of y)) took.bytes y mine in
     omega (arith, ap length bytes, length-append took.bytes (bytes_wanted y), took.count)
 
 -- the bytes that are wanted, where the session's are past the limit, or within it
-read_long : (a b : Option (List ℕ)) (i j : ℕ) (front : List (List ℕ)) (last : List ℕ) (reading : Reading) → i ≡ 0 → TookLines a b i j (front ++ last ∷ [])
-    → reads_built (map without_cr front) ≡ Err (length front + 1) → reads_built (map without_cr (front ++ last ∷ [])) ≡ Ok reading → IfSome a (λ x. reads_built (lines_of x) ≡ Ok reading) → IfSome a (λ x. IfSome b (λ y. script_of x ≡ lines_of y))
-    → IfSome b (λ y. INPUT_BYTES < j + length (bytes_wanted y)) → IfSome a (λ x. INPUT_BYTES < length (input_wanted x))
-read_long None b i j front last reading none took is_open is_read text script long = tt
-read_long (Some x) None i j front last reading none took is_open is_read text script long = absurd took.took
-read_long (Some x) (Some y) i j front last reading none took is_open is_read text script long = omega (arith, long, wanted_read x y i j front last reading none took is_open is_read text script)
+over_wanted : (a b : Option (List ℕ)) (i j n : ℕ) (raws : List (List ℕ)) (reading : Reading) (P : ℕ → Type 0) → i ≡ 0 → TookLines a b i j raws → n ≡ length raws
+    → IfSome a (λ x. lines_read (lines_of x) ≡ n) → IfSome a (λ x. reads Moves x ≡ Ok reading) → IfSome a (λ x. IfSome b (λ y. script_of x ≡ lines_of y))
+    → IfSome b (λ y. P (j + length (bytes_wanted y))) → IfSome a (λ x. P (length (input_wanted x)))
+over_wanted None b i j n raws reading P none took count shown text script p = tt
+over_wanted (Some x) None i j n raws reading P none took count shown text script p = absurd took.took
+over_wanted (Some x) (Some y) i j n raws reading P none took count shown text script p = subst P (sym (wanted_read x y i j raws reading none took (shown ∙ count) text script)) p
 
-read_fits : (a b : Option (List ℕ)) (i j : ℕ) (front : List (List ℕ)) (last : List ℕ) (reading : Reading) → i ≡ 0 → TookLines a b i j (front ++ last ∷ [])
-    → reads_built (map without_cr front) ≡ Err (length front + 1) → reads_built (map without_cr (front ++ last ∷ [])) ≡ Ok reading → IfSome a (λ x. reads_built (lines_of x) ≡ Ok reading) → IfSome a (λ x. IfSome b (λ y. script_of x ≡ lines_of y))
-    → IfSome b (λ y. j + length (bytes_wanted y) ≤ INPUT_BYTES) → IfSome a (λ x. length (input_wanted x) ≤ INPUT_BYTES)
-read_fits None b i j front last reading none took is_open is_read text script long = tt
-read_fits (Some x) None i j front last reading none took is_open is_read text script long = absurd took.took
-read_fits (Some x) (Some y) i j front last reading none took is_open is_read text script long = omega (arith, long, wanted_read x y i j front last reading none took is_open is_read text script)
+one_more : (front : List (List ℕ)) (last : List ℕ) → length front + 1 ≡ length (front ++ last ∷ [])
+one_more front last = omega (arith, length-append front (last ∷ []))
 
 pub session_long : {S : Type 0} (left : S → Option (List ℕ)) (faults : S → ℕ) (a b : Lines S) (loaded : Loaded) (o : Option (List ℕ)) → unread left a ≡ o → a.taken ≡ 0 → HasRead left faults a b loaded
     → IfSome (unread left b) (λ y. INPUT_BYTES < b.taken + length (bytes_wanted y)) → IfSome o (λ x. INPUT_BYTES < length (input_wanted x))
-session_long left faults a b loaded o is none h long =
+session_long left faults a b loaded o is none r long =
+    let m = r.means in
     subst (λ (v : Option (List ℕ)). IfSome v (λ x. INPUT_BYTES < length (input_wanted x))) is
-    (read_long (unread left a) (unread left b) a.taken b.taken h.front h.last (reading_of loaded) none h.handed.took h.no_end h.built h.text_built h.script long)
+    (over_wanted (unread left a) (unread left b) a.taken b.taken (length m.front + 1) (m.front ++ m.last ∷ []) (reading_of loaded) (λ n. INPUT_BYTES < n) none m.handed.took (one_more m.front m.last) m.wanted m.text m.script long)
 
 pub session_fits : {S : Type 0} (left : S → Option (List ℕ)) (faults : S → ℕ) (a b : Lines S) (loaded : Loaded) (o : Option (List ℕ)) → unread left a ≡ o → a.taken ≡ 0 → HasRead left faults a b loaded
     → IfSome (unread left b) (λ y. b.taken + length (bytes_wanted y) ≤ INPUT_BYTES) → IfSome o (λ x. length (input_wanted x) ≤ INPUT_BYTES)
-session_fits left faults a b loaded o is none h long =
+session_fits left faults a b loaded o is none r fits =
+    let m = r.means in
     subst (λ (v : Option (List ℕ)). IfSome v (λ x. length (input_wanted x) ≤ INPUT_BYTES)) is
-    (read_fits (unread left a) (unread left b) a.taken b.taken h.front h.last (reading_of loaded) none h.handed.took h.no_end h.built h.text_built h.script long)
+    (over_wanted (unread left a) (unread left b) a.taken b.taken (length m.front + 1) (m.front ++ m.last ∷ []) (reading_of loaded) (λ n. n ≤ INPUT_BYTES) none m.handed.took (one_more m.front m.last) m.wanted m.text m.script fits)
 
--- a show that is refused
-refused_fits : (a b : Option (List ℕ)) (i j n : ℕ) (raws : List (List ℕ)) → i ≡ 0 → TookLines a b i j raws → (length raws ≡ n) ⊎ IsAtEnd b → IfSome a (λ x. reads_built (lines_of x) ≡ Err n) → IfSome a (λ x. length (input_wanted x) ≤ INPUT_BYTES)
-refused_fits None b i j n raws none took whole text = tt
-refused_fits (Some x) None i j n raws none took whole text = absurd took.took
-refused_fits (Some x) (Some y) i j n raws none took whole text =
-    let lines : lines_wanted_of x (reads_built (lines_of x)) ≡ n = ap (lines_wanted_of x) text ∙ show_lines-refused (lines_of x) n text in
+first_lines-length : (k : ℕ) (xs : List ℕ) → length (first_lines k xs) ≤ length xs
+first_lines-length k [] = omega arith
+first_lines-length zero (x ∷ xs) = omega arith
+first_lines-length (suc k) (x ∷ xs) = omega (arith, first_lines-length (cond (eqb x 10) k (suc k)) xs)
+
+-- A show that is refused.
+refused_fits : (a b : Option (List ℕ)) (i j n : ℕ) (raws : List (List ℕ)) (fault : TextFault) → i ≡ 0 → TookLines a b i j raws → (length raws ≡ n) ⊎ IsAtEnd b → IfSome a (λ x. reads Moves x ≡ Err fault) → IfSome a (λ x. lines_read (lines_of x) ≡ n)
+    → IfSome a (λ x. length (input_wanted x) ≤ INPUT_BYTES)
+refused_fits None b i j n raws fault none took whole text wanted = tt
+refused_fits (Some x) None i j n raws fault none took whole text wanted = absurd took.took
+refused_fits (Some x) (Some y) i j n raws fault none took whole text wanted =
+    let lines : lines_wanted_of x (reads Moves x) ≡ n = ap (lines_wanted_of x) text ∙ wanted in
     let bytes : input_wanted x ≡ first_lines n x = ap (λ k. first_lines k x) lines in
     elim whole [
       | inl here ↦ omega (arith, ap length bytes, lines_within (Some x) (Some y) i j raws n took (omega (arith, here)))
@@ -79,35 +145,127 @@ refused_fits (Some x) (Some y) i j n raws none took whole text =
           omega (arith, ap length bytes, first_lines-length n x, ap length all, took.count, took.within)
     ]
 
-pub refusal_fits : {S : Type 0} (left : S → Option (List ℕ)) (a : Lines S) (n : ℕ) (o : Option (List ℕ)) → unread left a ≡ o → a.taken ≡ 0 → IsNotBuilt left a n → IfSome o (λ x. length (input_wanted x) ≤ INPUT_BYTES)
-refusal_fits left a n o is none h =
-    subst (λ (v : Option (List ℕ)). IfSome v (λ x. length (input_wanted x) ≤ INPUT_BYTES)) is (refused_fits (unread left a) h.unread_then a.taken h.taken_then n h.raws none h.took h.whole h.text_built)
+fault_fits : {S : Type 0} (left : S → Option (List ℕ)) (a : Lines S) (fault : TextFault) → a.taken ≡ 0 → MeansFault left a fault → IfSome (unread left a) (λ x. length (input_wanted x) ≤ INPUT_BYTES)
+fault_fits left a fault none m = refused_fits (unread left a) m.unread_then a.taken m.taken_then m.count m.raws fault none m.took m.whole m.text m.wanted
 
--- its line
-text_refused : (o h h' : Option (List ℕ)) (n : ℕ) → IfSome o (λ x. reads_built (lines_of x) ≡ Err n) → Appends h h' (not_built_text n) → IfSome o (λ x. Appends h h' (output_of x) × IsErr (reads_built (lines_of x)))
-text_refused None h h' n text appended = tt
-text_refused (Some x) h h' n text appended = (subst (λ (v : List ℕ). Appends h h' v) (sym (ap (text_over x) text)) appended, subst (λ (r : Result Reading ℕ). IsErr r) (sym text) refl)
+-- what the reader says of a fault of the text
+fault_means : {S : Type 0} (left : S → Option (List ℕ)) (a : Lines S) (P : Type 0) (text : TextFault) → OfText (MeansFault left a) P (fault_told text) → MeansFault left a text
+fault_means left a P (texts_of.NoIdent i) p = p
+fault_means left a P (texts_of.BadNumber i) p = p
+fault_means left a P (texts_of.OutOfRange i) p = p
+fault_means left a P (texts_of.NotInRecord i) p = p
+fault_means left a P (texts_of.LineTooLong i) p = p
+fault_means left a P (texts_of.ShortList i) p = p
+fault_means left a P (texts_of.NoEndData i) p = p
 
-front_refused : (o h h' : Option (List ℕ)) (n : ℕ) → IfSome o (λ x. reads_built (lines_of x) ≡ Err n) → AppendsFront h h' (not_built_text n) → IfSome o (λ x. AppendsFront h h' (output_of x))
-front_refused None h h' n text appended = tt
-front_refused (Some x) h h' n text appended = subst (λ (v : List ℕ). AppendsFront h h' v) (sym (ap (text_over x) text)) appended
+text_at : (o h h' : Option (List ℕ)) (fault : TextFault) → IfSome o (λ x. reads Moves x ≡ Err fault) → Appends h h' (fault_text fault) → IfSome o (λ x. WritesAll x h h' × IsErr (reads Moves x))
+text_at None h h' fault text appended = tt
+text_at (Some x) h h' fault text appended = (record {
+    places = [];
+    wants = nothing_wanted x (reads Moves x);
+    text = subst (λ (v : List ℕ). Appends h h' v) (sym (ap (λ r. over_show r (λ reading. replies_of (opened reading.show) (script_of x) [])) text)) appended;
+  }, subst (λ (r : Result Reading TextFault). IsErr r) (sym text) refl)
 
-pub refusal_text : {S : Type 0} (left : S → Option (List ℕ)) (a : Lines S) (n : ℕ) (o h h' : Option (List ℕ)) → unread left a ≡ o → IsNotBuilt left a n → Appends h h' (not_built_text n) → IfSome o (λ x. Appends h h' (output_of x) × IsErr (reads_built (lines_of x)))
-refusal_text left a n o h h' is b appended = subst (λ (v : Option (List ℕ)). IfSome v (λ x. Appends h h' (output_of x) × IsErr (reads_built (lines_of x)))) is (text_refused (unread left a) h h' n b.text_built appended)
-
-pub refusal_front : {S : Type 0} (left : S → Option (List ℕ)) (a : Lines S) (n : ℕ) (o h h' : Option (List ℕ)) → unread left a ≡ o → IsNotBuilt left a n → AppendsFront h h' (not_built_text n) → IfSome o (λ x. AppendsFront h h' (output_of x))
-refusal_front left a n o h h' is b appended = subst (λ (v : Option (List ℕ)). IfSome v (λ x. AppendsFront h h' (output_of x))) is (front_refused (unread left a) h h' n b.text_built appended)
+text_front : (o h h' : Option (List ℕ)) (fault : TextFault) → IfSome o (λ x. reads Moves x ≡ Err fault) → AppendsFront h h' (fault_text fault) → IfSome o (λ x. WritesFront x h h')
+text_front None h h' fault text appended = tt
+text_front (Some x) h h' fault text appended = record {
+  places = [];
+  wants = nothing_wanted x (reads Moves x);
+  text = subst (λ (v : List ℕ). AppendsFront h h' v) (sym (ap (λ r. over_show r (λ reading. replies_of (opened reading.show) (script_of x) [])) text)) appended;
+}
 
 -- a show that is too long
-more_wanted : (x : List ℕ) (n : ℕ) (r : Result Reading ℕ) → n + 1 ≤ show_lines (lines_of x) → n + 1 ≤ lines_wanted_of x r
+more_wanted : (x : List ℕ) (n : ℕ) (r : Result Reading TextFault) → n + 1 ≤ lines_read (lines_of x) → n + 1 ≤ lines_wanted_of x r
 more_wanted x n (Ok reading) h = omega (arith, h)
 more_wanted x n (Err i) h = h
 
-long_input : (i : ℕ) (o : Option (List ℕ)) → i ≡ 0 → IfSome o (IsTooLong i) → IfSome o (λ x. INPUT_BYTES < length (input_wanted x))
+long_input : (i : ℕ) (o : Option (List ℕ)) → i ≡ 0 → IfSome o (IsPastLimit i) → IfSome o (λ x. INPUT_BYTES < length (input_wanted x))
 long_input i None none long = tt
 long_input i (Some x) none long =
-    let wanted = more_wanted x long.n (reads_built (lines_of x)) (show_lines-more (lines_of x) long.n long.no_end) in
-    omega (arith, long.long, first_lines-longer (long.n + 1) (lines_wanted_of x (reads_built (lines_of x))) x wanted)
+    let lt = long.wanted in
+    let wanted = more_wanted x long.n (reads Moves x) (omega (arith, lt)) in
+    omega (arith, long.long, first_lines-longer (long.n + 1) (lines_wanted_of x (reads Moves x)) x wanted)
 
-pub show_long : {S : Type 0} (left : S → Option (List ℕ)) (a : Lines S) (o : Option (List ℕ)) → unread left a ≡ o → a.taken ≡ 0 → IfSome (unread left a) (IsTooLong a.taken) → IfSome o (λ x. INPUT_BYTES < length (input_wanted x))
-show_long left a o is none long = subst (λ (v : Option (List ℕ)). IfSome v (λ x. INPUT_BYTES < length (input_wanted x))) is (long_input a.taken (unread left a) none long)
+-- What the reader's fault and the status of its refusal say.
+abbrev Says : {S : Type 0} → (S → Option (List ℕ)) → Lines S → ShowFault → Type 0
+Says left a fault = OfText (MeansFault left a) (IfSome (unread left a) (IsPastLimit a.taken)) fault
+
+means_of : {S : Type 0} (left : S → Option (List ℕ)) (a : Lines S) (fault : ShowFault) (text : TextFault) → fault ≡ fault_told text → Says left a fault → MeansFault left a text
+means_of left a fault text told says = fault_means left a (IfSome (unread left a) (IsPastLimit a.taken)) text (subst (λ f. Says left a f) told says)
+
+not_refused : (fault : ShowFault) (s : Status) (P : Type 0) → status_kept fault s → s ≡ status.ShowRefused → P
+not_refused (faults.NoIdent i) s P kept is = absurd kept
+not_refused (faults.BadNumber i) s P kept is = absurd kept
+not_refused (faults.OutOfRange i) s P kept is = absurd kept
+not_refused (faults.NotInRecord i) s P kept is = absurd kept
+not_refused (faults.LineTooLong i) s P kept is = absurd kept
+not_refused (faults.ShortList i) s P kept is = absurd kept
+not_refused (faults.NoEndData i) s P kept is = absurd kept
+not_refused faults.ReadFault s P kept is = absurd cc
+not_refused faults.InputTooLong s P kept is = absurd cc
+not_refused faults.Memory s P kept is = absurd cc
+
+pub refusal_text : {S : Type 0} (left : S → Option (List ℕ)) (a : Lines S) (o h h' : Option (List ℕ)) (fault : ShowFault) (s : Status) → unread left a ≡ o → Says left a fault → RefusedBy h h' fault s → s ≡ status.ShowRefused
+    → IfSome o (λ x. WritesAll x h h' × IsErr (reads Moves x))
+refusal_text left a o h h' fault s is says by refused = elim by [
+  | inl text ↦ subst (λ (v : Option (List ℕ)). IfSome v (λ x. WritesAll x h h' × IsErr (reads Moves x))) is (text_at (unread left a) h h' text.text (means_of left a fault text.text text.told says).text (text.whole refused))
+  | inr other ↦ not_refused fault s (IfSome o (λ x. WritesAll x h h' × IsErr (reads Moves x))) other.is refused
+]
+
+pub refusal_front : {S : Type 0} (left : S → Option (List ℕ)) (a : Lines S) (o h h' : Option (List ℕ)) (fault : ShowFault) (s : Status) → unread left a ≡ o → Says left a fault → RefusedBy h h' fault s → IfSome o (λ x. WritesFront x h h')
+refusal_front left a o h h' fault s is says by = elim by [
+  | inl text ↦ subst (λ (v : Option (List ℕ)). IfSome v (λ x. WritesFront x h h')) is (text_front (unread left a) h h' text.text (means_of left a fault text.text text.told says).text text.front)
+  | inr other ↦ subst (λ (v : Option (List ℕ)). IfSome o (λ x. WritesFront x h v)) (sym other.kept) (nothing_written o h)
+]
+
+pub refusal_fits : {S : Type 0} (left : S → Option (List ℕ)) (a : Lines S) (o h h' : Option (List ℕ)) (fault : ShowFault) (s : Status) → unread left a ≡ o → a.taken ≡ 0 → Says left a fault → RefusedBy h h' fault s → s ≡ status.ShowRefused
+    → IfSome o (λ x. length (input_wanted x) ≤ INPUT_BYTES)
+refusal_fits left a o h h' fault s is none says by refused = elim by [
+  | inl text ↦ subst (λ (v : Option (List ℕ)). IfSome v (λ x. length (input_wanted x) ≤ INPUT_BYTES)) is (fault_fits left a text.text none (means_of left a fault text.text text.told says))
+  | inr other ↦ not_refused fault s (IfSome o (λ x. length (input_wanted x) ≤ INPUT_BYTES)) other.is refused
+]
+
+long_kept : (fault : ShowFault) (s : Status) → status_kept fault s → s ≡ status.InputTooLong → fault ≡ faults.InputTooLong
+long_kept (faults.NoIdent i) s kept is = absurd kept
+long_kept (faults.BadNumber i) s kept is = absurd kept
+long_kept (faults.OutOfRange i) s kept is = absurd kept
+long_kept (faults.NotInRecord i) s kept is = absurd kept
+long_kept (faults.LineTooLong i) s kept is = absurd kept
+long_kept (faults.ShortList i) s kept is = absurd kept
+long_kept (faults.NoEndData i) s kept is = absurd kept
+long_kept faults.ReadFault s kept is = absurd cc
+long_kept faults.InputTooLong s kept is = refl
+long_kept faults.Memory s kept is = absurd cc
+
+kinds_long : (s : Status) (P : Type 0) → (s ≡ status.ShowRefused) ⊎ ((s ≡ status.WriteFault) ⊎ (s ≡ status.Memory)) → s ≡ status.InputTooLong → P
+kinds_long s P kinds is = elim kinds [ inl a ↦ absurd cc | inr b ↦ elim b [ inl x ↦ absurd cc | inr y ↦ absurd cc ] ]
+
+pub refusal_long : {S : Type 0} (left : S → Option (List ℕ)) (a : Lines S) (o h h' : Option (List ℕ)) (fault : ShowFault) (s : Status) → unread left a ≡ o → a.taken ≡ 0 → Says left a fault → RefusedBy h h' fault s → s ≡ status.InputTooLong
+    → IfSome o (λ x. INPUT_BYTES < length (input_wanted x))
+refusal_long left a o h h' fault s is none says by long = elim by [
+  | inl text ↦ kinds_long s (IfSome o (λ x. INPUT_BYTES < length (input_wanted x))) text.kinds long
+  | inr other ↦ subst (λ (v : Option (List ℕ)). IfSome v (λ x. INPUT_BYTES < length (input_wanted x))) is (long_input a.taken (unread left a) none (subst (λ f. Says left a f) (long_kept fault s other.is long) says))
+]
+
+-- a session that ended whole ended Ok
+pub ended_whole : (s : Status) → (s ≡ status.Ok) ⊎ (s ≡ status.ShowRefused) → s ≢ status.ShowRefused → s ≡ status.Ok
+ended_whole s whole not = elim whole [ inl ok ↦ ok | inr refused ↦ absurd (not refused) ]
+
+other_ok : (fault : ShowFault) (s : Status) (P : Type 0) → status_kept fault s → s ≡ status.Ok → P
+other_ok (faults.NoIdent i) s P kept is = absurd kept
+other_ok (faults.BadNumber i) s P kept is = absurd kept
+other_ok (faults.OutOfRange i) s P kept is = absurd kept
+other_ok (faults.NotInRecord i) s P kept is = absurd kept
+other_ok (faults.LineTooLong i) s P kept is = absurd kept
+other_ok (faults.ShortList i) s P kept is = absurd kept
+other_ok (faults.NoEndData i) s P kept is = absurd kept
+other_ok faults.ReadFault s P kept is = absurd cc
+other_ok faults.InputTooLong s P kept is = absurd cc
+other_ok faults.Memory s P kept is = absurd cc
+
+kinds_ok : (s : Status) (P : Type 0) → (s ≡ status.ShowRefused) ⊎ ((s ≡ status.WriteFault) ⊎ (s ≡ status.Memory)) → s ≡ status.Ok → P
+kinds_ok s P kinds is = elim kinds [ inl a ↦ absurd cc | inr b ↦ elim b [ inl x ↦ absurd cc | inr y ↦ absurd cc ] ]
+
+-- a refusal is never Ok
+pub refusal_isnt_ok : (h h' : Option (List ℕ)) (fault : ShowFault) (s : Status) (P : Type 0) → RefusedBy h h' fault s → s ≡ status.Ok → P
+refusal_isnt_ok h h' fault s P by is = elim by [ inl text ↦ kinds_ok s P text.kinds is | inr other ↦ other_ok fault s P other.is is ]

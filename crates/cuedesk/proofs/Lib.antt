@@ -1,12 +1,3 @@
-pub mod Steps
-pub mod Turns
-pub mod Frames
-pub mod Ticking
-pub mod TurnLemmas
-pub mod Sessions
-pub mod FilledFrom
-pub mod Replying
-pub mod Wanted
-pub mod Inputs
-pub mod GivenWords
-pub mod Statuses
+mod GivenWords
+mod Inputs
+mod Statuses

@@ -1,20 +1,12 @@
--- Why a session or the program ended early.
-use Rattle.lx_io.specs.declared.sink.SinkFault.{SinkFault}
-use Rattle.lx_io.specs.declared.sink.SinkFault.TheVariants as sink
-use Rattle.cuedesk.specs.declared.session.SessionFault.{SessionFault}
-use Rattle.cuedesk.specs.declared.session.SessionFault.TheVariants.{ReadFault, WriteFault, InputTooLong, Memory}
+-- The status of a session that ended, and of a show that couldn't be read.
 use Rattle.std.specs.Prelude.{Result, Ok, Err}
+use Rattle.lx_session.specs.declared.fault.SessionFault.{SessionFault}
+use Rattle.lx_session.specs.declared.fault.SessionFault.TheVariants.{ReadFault, WriteFault, InputTooLong, Memory}
 use Rattle.cuedesk.specs.declared.desk.Status.{Status}
 use Rattle.cuedesk.specs.declared.desk.Status.TheVariants as status
 
--- the sink's fault, as the session's
-abbrev pub fault_of : SinkFault → SessionFault
-fault_of sink.Failed = WriteFault
-fault_of sink.Memory = Memory
-
--- the status of a session that ended so
-abbrev pub status_for : Result (Unit {0}) SessionFault → Status
-status_for (Ok u) = status.Ok
+abbrev pub status_for : {A : Type 0} → Result A SessionFault → Status
+status_for (Ok x) = status.Ok
 status_for (Err ReadFault) = status.ReadFault
 status_for (Err WriteFault) = status.WriteFault
 status_for (Err InputTooLong) = status.InputTooLong

@@ -1,10 +1,3 @@
-pub mod Plain
-pub mod Stands
-pub mod Built
-pub mod Session
-pub mod Request
 pub mod Faults
-pub mod Turns
-pub mod Places
-pub mod Answered
 pub mod Output
+pub mod Refused

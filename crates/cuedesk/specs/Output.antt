@@ -1,37 +1,61 @@
 -- What the program writes for an input, and how much of the input it wants.
-use Rattle.std.specs.Prelude.{ℕ, ◌+◌, Result, Ok, Err, List, [], ◌∷◌, length, codes, decimal}
-use Rattle.std.specs.List.{position_or_len}
-use Rattle.lx_spec.specs.Text.{lines_of}
-use Rattle.lx_spec.specs.ShowText.{line}
-use Rattle.lx_spec.specs.Desk.{opened}
-use Rattle.lx_spec.specs.Reading.{Reading}
-use Rattle.lx_spec.specs.Jobs.{script_of}
+use Rattle.std.specs.Prelude.{ℕ, ◌+◌, Result, Ok, Err, Option, List}
+use Rattle.std.specs.List.{before_first}
+use Rattle.std.specs.Io.KnownBytes.{Appends}
+use Rattle.lx_io.specs.Puts.{AppendsFront}
 use Rattle.lx_lex.specs.Lines.{first_lines}
-use Rattle.lx_reader.specs.Built.{reads_built, all_built, ends_built}
-use Rattle.cuedesk.specs.Built.{replies_built}
-use Rattle.cuedesk.specs.Session.{lines_wanted}
-
--- show NotBuilt LINE
-abbrev pub not_built_text : ℕ → List ℕ
-not_built_text i = line (codes "show" ∷ codes "NotBuilt" ∷ decimal i ∷ [])
+use Rattle.lx_spec.specs.declared.Form.TheVariants.{Moves}
+use Rattle.lx_spec.specs.declared.TextFault.{TextFault}
+use Rattle.lx_spec.specs.Text.{lines_of}
+use Rattle.lx_spec.specs.Desk.{Desk, opened}
+use Rattle.lx_spec.specs.Reading.{Reading, reads}
+use Rattle.lx_spec.specs.Jobs.{script_of, over_show}
+use Rattle.lx_spec.specs.Replies.{begun}
+use Rattle.lx_reader.specs.ReadLines.{lines_read}
+use Rattle.lx_session.specs.Meaning.{ends_script, replies_of}
+use Rattle.lx_session.specs.Attempts.{WantsAtEdits}
+use Rattle.lx_session.specs.Scripts.{lines_wanted}
 
 -- the replies to the script over the show that was read, from the opening on, or the line of a refused show
-abbrev pub text_over : List ℕ → Result Reading ℕ → List ℕ
-text_over bytes (Ok reading) = replies_built (opened reading.show) (script_of bytes)
-text_over bytes (Err i) = not_built_text i
+abbrev pub output_of : List ℕ → List ℕ → List ℕ
+output_of bytes places = over_show (reads Moves bytes) (λ reading. replies_of (opened reading.show) (script_of bytes) places)
 
-abbrev pub output_of : List ℕ → List ℕ
-output_of bytes = text_over bytes (reads_built (lines_of bytes))
+-- want of memory refuses none of a script's attempts but edits that the desk accepts
+abbrev pub WantsAtEditsOf : Desk → List (List ℕ) → List ℕ → Type 0
+WantsAtEditsOf d script places = WantsAtEdits places (begun d) (before_first ends_script script)
 
--- how many lines a show wants to be read: those up to the one that ends the reading, or one more than there are
-abbrev pub show_lines : List (List ℕ) → ℕ
-show_lines lines = position_or_len ends_built (all_built [] 1 lines) + 1
+abbrev pub MayWantOf : List ℕ → List ℕ → Result Reading TextFault → Type 0
+MayWantOf bytes places (Ok reading) = WantsAtEditsOf (opened reading.show) (script_of bytes) places
+MayWantOf bytes places (Err fault) = Unit {0}
+
+-- The whole text was written: what the definitions give for these bytes, where want of memory refused at most these attempts.
+pub record WritesAll (bytes : List ℕ) (held held' : Option (List ℕ)) : Type 0 where
+  pub places : List ℕ
+  pub wants : MayWantOf bytes places (reads Moves bytes)
+  pub text : Appends held held' (output_of bytes places)
+
+-- A front of it was written.
+pub record WritesFront (bytes : List ℕ) (held held' : Option (List ℕ)) : Type 0 where
+  pub places : List ℕ
+  pub wants : MayWantOf bytes places (reads Moves bytes)
+  pub text : AppendsFront held held' (output_of bytes places)
+
+-- A script was answered from a desk on, wholly or in front.
+pub record Answers (d : Desk) (script : List (List ℕ)) (held held' : Option (List ℕ)) : Type 0 where
+  pub places : List ℕ
+  pub wants : WantsAtEditsOf d script places
+  pub text : Appends held held' (replies_of d script places)
+
+pub record AnswersInFront (d : Desk) (script : List (List ℕ)) (held held' : Option (List ℕ)) : Type 0 where
+  pub places : List ℕ
+  pub wants : WantsAtEditsOf d script places
+  pub text : AppendsFront held held' (replies_of d script places)
 
 -- how many lines of an input are wanted: those of the show and, where it is read, those of the script
-abbrev pub lines_wanted_of : List ℕ → Result Reading ℕ → ℕ
-lines_wanted_of bytes (Ok reading) = show_lines (lines_of bytes) + lines_wanted (script_of bytes)
-lines_wanted_of bytes (Err i) = show_lines (lines_of bytes)
+abbrev pub lines_wanted_of : List ℕ → Result Reading TextFault → ℕ
+lines_wanted_of bytes (Ok reading) = lines_read (lines_of bytes) + lines_wanted (script_of bytes)
+lines_wanted_of bytes (Err fault) = lines_read (lines_of bytes)
 
 -- the bytes of an input that are wanted
 abbrev pub input_wanted : List ℕ → List ℕ
-input_wanted bytes = first_lines (lines_wanted_of bytes (reads_built (lines_of bytes))) bytes
+input_wanted bytes = first_lines (lines_wanted_of bytes (reads Moves bytes)) bytes

@@ -1,22 +1,18 @@
 //! The program as a call: from the words and the bytes that come in to the bytes that go out.
-#![tactic(auto, using(lx_io::proofs::Chain::puts))]
 
 ghost use Rattle.std.specs.Prelude.{◌≡◌, ◌≢◌, ◌≤◌, ◌<◌, ◌↔◌, ◌⊎◌, ◌∷◌, [], length, map, codes, IfSome, IsOk, IsErr, string_bytes, IsTrue};
-ghost use Rattle.std.specs.Io.KnownBytes.{Appends};
 ghost use Rattle.lx_base.specs.declared.TheConstants.{INPUT_BYTES};
 ghost use Rattle.lx_io.specs.Causes.{Rose};
-ghost use Rattle.lx_io.specs.Puts.{AppendsFront};
-ghost use Rattle.lx_spec.specs.Text.{lines_of};
-ghost use Rattle.lx_reader.specs.Built.{reads_built};
-ghost use Rattle.lx_io.specs.Puts.{Puts};
-ghost use Rattle.cuedesk.specs.Output.{not_built_text, output_of, input_wanted};
-ghost use Rattle.cuedesk.specs.Faults.{status_for};
+ghost use Rattle.lx_spec.specs.Reading.{reads};
+ghost use Rattle.lx_spec.specs.declared.Form.TheVariants.{Moves};
+ghost use Rattle.cuedesk.specs.Output.{WritesAll, WritesFront, input_wanted};
 
-use crate::session::{SessionFault, session};
-use crate::turn::{finish, session_fault};
-use lx_io::{Sink, SinkFault, Source, put_all};
-use lx_lex::{Lines, put_whole};
-use lx_reader::{ShowFault, read_show};
+use crate::play::play;
+use crate::refuse::refuse;
+use lx_io::{Sink, Source};
+use lx_lex::Lines;
+use lx_reader::read_show;
+use lx_show::Form;
 use std::alloc::Global;
 
 /// How the program ended. `main` makes an exit status of it.
@@ -24,7 +20,7 @@ use std::alloc::Global;
 pub enum Status {
     /// The script was read to `quit` or to its end, and answered.
     Ok,
-    /// The show was refused, and one line says where.
+    /// The show was refused, and one line says why and where.
     ShowRefused,
     /// The words aren't `render`.
     Usage,
@@ -40,8 +36,10 @@ pub enum Status {
 
 /// Reads a show and then a script, and answers the script over the show. `words` are those after the program's name.
 ///
-/// For the bytes that the input had left, the text that is written is a function of them: the line of the refused
-/// show, or the replies to the script, in which each frame is evaluated over the whole list of runs since the opening.
+/// For the bytes that the input had left, the text that is written is what the definitions give for them: the line of
+/// the refused show, or the replies to the script, in which each command is done or refused as the desk does it and
+/// each frame is evaluated over the whole show as it then is and the whole list of runs since the opening. Want of
+/// memory refuses nothing but edits.
 pub fn desk<S: Source, K: Sink>(
     alloc: Global,
     words: &[String],
@@ -49,17 +47,17 @@ pub fn desk<S: Source, K: Sink>(
     output: &mut K,
 ) -> Status
     // Ok: the whole text was written, and the show was read.
-    ensures ok { result ≡ Status.Ok → IfSome (S.left input.old) (λ bytes. Appends (K.holds output.old) (K.holds output.new) (output_of bytes) × IsOk (reads_built (lines_of bytes))) }
+    ensures ok { result ≡ Status.Ok → IfSome (S.left input.old) (λ bytes. WritesAll bytes (K.holds output.old) (K.holds output.new) × IsOk (reads Moves bytes)) }
 
     // ShowRefused: the show is refused, and its line was written.
-    ensures refused { result ≡ Status.ShowRefused → IfSome (S.left input.old) (λ bytes. Appends (K.holds output.old) (K.holds output.new) (output_of bytes) × IsErr (reads_built (lines_of bytes))) }
+    ensures refused { result ≡ Status.ShowRefused → IfSome (S.left input.old) (λ bytes. WritesAll bytes (K.holds output.old) (K.holds output.new) × IsErr (reads Moves bytes)) }
 
     // Usage: exactly where the words are others, and then nothing is read or written.
     ensures usage { (result ≡ Status.Usage) ↔ (map string_bytes words.now ≢ codes "render" ∷ []) }
     ensures nothing { result ≡ Status.Usage → (input.new ≡ input.old) × (output.new ≡ output.old) }
 
     // After every status what was written is a front of the whole text.
-    ensures front { result ≢ Status.Usage → IfSome (S.left input.old) (λ bytes. AppendsFront (K.holds output.old) (K.holds output.new) (output_of bytes)) }
+    ensures front { result ≢ Status.Usage → IfSome (S.left input.old) (λ bytes. WritesFront bytes (K.holds output.old) (K.holds output.new)) }
 
     // Each other status has its cause. Want of memory alone is free.
     ensures read { result ≡ Status.ReadFault → Rose (S.faults input.old) (S.faults input.new) }
@@ -71,14 +69,9 @@ pub fn desk<S: Source, K: Sink>(
         return Status::Usage;
     }
     let mut lines = Lines::new(input);
-    match read_show(alloc, &mut lines) {
-        Ok(loaded) => status_of(session(&loaded.show, &mut lines, output)),
-        Err(fault) => match fault {
-            ShowFault::NotBuilt(line) => refuse(line, output),
-            ShowFault::ReadFault => Status::ReadFault,
-            ShowFault::InputTooLong => Status::InputTooLong,
-            ShowFault::Memory => Status::Memory,
-        },
+    match read_show(alloc, &mut lines, Form::Moves) {
+        Ok(loaded) => play(alloc, loaded.show, &mut lines, output),
+        Err(fault) => refuse(fault, output),
     }
 }
 
@@ -90,43 +83,4 @@ fn is_render(words: &[String]) -> bool
         [word] => word.as_str() == "render",
         _ => false,
     }
-}
-
-/// The status of a session.
-fn status_of(ended: Result<(), SessionFault>) -> Status
-    ensures { result ≡ status_for ended }
-{
-    match ended {
-        Ok(()) => Status::Ok,
-        Err(SessionFault::ReadFault) => Status::ReadFault,
-        Err(SessionFault::WriteFault) => Status::WriteFault,
-        Err(SessionFault::InputTooLong) => Status::InputTooLong,
-        Err(SessionFault::Memory) => Status::Memory,
-    }
-}
-
-/// Writes the line of a refused show.
-fn refuse<K: Sink>(line: u32, output: &mut K) -> Status
-    ensures refused { result ≡ Status.ShowRefused → Appends (K.holds output.old) (K.holds output.new) (not_built_text line) }
-    ensures front { AppendsFront (K.holds output.old) (K.holds output.new) (not_built_text line) }
-    ensures kinds { (result ≡ Status.ShowRefused) ⊎ ((result ≡ Status.WriteFault) ⊎ (result ≡ Status.Memory)) }
-    ensures write { result ≡ Status.WriteFault → Rose (K.faults output.old) (K.faults output.new) }
-{
-    let ended = match put_refused_show(line, output) {
-        Ok(()) => finish(output),
-        Err(fault) => Err(session_fault(fault)),
-    };
-    match ended {
-        Ok(()) => Status::ShowRefused,
-        Err(fault) => status_of(Err(fault)),
-    }
-}
-
-/// Appends the line of a refused show.
-fn put_refused_show<K: Sink>(line: u32, output: &mut K) -> Result<(), SinkFault>
-    ensures { Puts K.holds K.faults K.wants output.old output.new result (not_built_text line) }
-{
-    put_all(output, b"show NotBuilt ")?;
-    put_whole(line, output)?;
-    put_all(output, b"\n")
 }

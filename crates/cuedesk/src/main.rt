@@ -2,16 +2,11 @@
 //! writes replies and frames to standard output.
 #![tactic(auto)]
 
-mod answer;
 mod desk;
-mod playing;
-mod request;
-mod script;
-mod session;
-mod slots;
+mod play;
+mod refuse;
 #[cfg(test)]
 mod tests;
-mod turn;
 
 pub use desk::{Status, desk};
 use lx_io::{Sink, StdSink, StdSource};

@@ -1,35 +1,30 @@
-use Rattle.std.proofs.Common.{◌≡◌, ◌⊎◌, ◌∙◌, sym, subst}
-use Rattle.cuedesk.specs.declared.desk.Status.{Status}
-use Rattle.cuedesk.specs.declared.desk.Status.TheVariants as status
-use Rattle.cuedesk.proofs.Statuses.{too_long_session, whole_session}
-use Rattle.cuedesk.proofs.Inputs.{session_long, session_fits, refusal_fits, refusal_text, refusal_front, show_long}
+use Rattle.std.proofs.Common.{inl, inr}
+use Rattle.cuedesk.proofs.Inputs.{session_text, session_front, session_long, session_fits, refusal_text, refusal_front, refusal_fits, refusal_long, ended_whole, refusal_isnt_ok}
 use Rattle.cuedesk.proofs.desk.desk.Goals as goal
 
+pub returns-in-Ok-clause-ok : goal.returns-in-Ok-clause-ok
+returns-in-Ok-clause-ok g c = λ is. session_text _ _ _ _ c.in-Ok.loaded _ _ _ c.new-lines.ensures.unread c.in-Ok.ensures.answer (c.play.ensures.ok is)
+
+pub returns-in-Ok-clause-front : goal.returns-in-Ok-clause-front
+returns-in-Ok-clause-front g c = λ is. session_front _ _ _ _ c.in-Ok.loaded _ _ _ c.new-lines.ensures.unread c.in-Ok.ensures.answer c.play.ensures.front
+
 pub returns-in-Ok-clause-long : goal.returns-in-Ok-clause-long
-returns-in-Ok-clause-long g c = λ is.
-    session_long _ _ _ _ c.in-Ok.loaded _ c.new-lines.ensures.unread c.new-lines.ensures.taken c.in-Ok.ensures.answer (c.session.ensures.long (too_long_session c.session.result (sym c.status_of.ensures ∙ is)))
+returns-in-Ok-clause-long g c = λ is. session_long _ _ _ _ c.in-Ok.loaded _ c.new-lines.ensures.unread c.new-lines.ensures.taken c.in-Ok.ensures.answer (c.play.ensures.long is)
 
 pub returns-in-Ok-clause-within : goal.returns-in-Ok-clause-within
-returns-in-Ok-clause-within g c = λ is.
-    session_fits _ _ _ _ c.in-Ok.loaded _ c.new-lines.ensures.unread c.new-lines.ensures.taken c.in-Ok.ensures.answer
-    (whole_session _ c.session.result (subst (λ (s : Status). (s ≡ status.Ok) ⊎ (s ≡ status.ShowRefused)) c.status_of.ensures is) c.session.ensures.within)
+returns-in-Ok-clause-within g c = λ is. session_fits _ _ _ _ c.in-Ok.loaded _ c.new-lines.ensures.unread c.new-lines.ensures.taken c.in-Ok.ensures.answer (c.play.ensures.within (ended_whole c.play.result is c.play.ensures.refused))
 
-pub returns-in-NotBuilt-clause-refused : goal.returns-in-NotBuilt-clause-refused
-returns-in-NotBuilt-clause-refused g c = λ is.
-    let answer = rw c.in-NotBuilt.is at c.in-Err.ensures.answer in
-    refusal_text g.S.Source.left c.new-lines.result c.in-NotBuilt.line _ _ _ c.new-lines.ensures.unread answer (c.refuse.ensures.refused is)
+pub returns-in-Err-clause-refused : goal.returns-in-Err-clause-refused
+returns-in-Err-clause-refused g c = λ is. refusal_text _ c.new-lines.result _ _ _ c.in-Err.fault _ c.new-lines.ensures.unread c.in-Err.ensures.answer c.refuse.ensures.refused is
 
-pub returns-in-NotBuilt-clause-front : goal.returns-in-NotBuilt-clause-front
-returns-in-NotBuilt-clause-front g c = λ is.
-    let answer = rw c.in-NotBuilt.is at c.in-Err.ensures.answer in
-    refusal_front g.S.Source.left c.new-lines.result c.in-NotBuilt.line _ _ _ c.new-lines.ensures.unread answer c.refuse.ensures.front
+pub returns-in-Err-clause-front : goal.returns-in-Err-clause-front
+returns-in-Err-clause-front g c = λ is. refusal_front _ c.new-lines.result _ _ _ c.in-Err.fault _ c.new-lines.ensures.unread c.in-Err.ensures.answer c.refuse.ensures.refused
 
-pub returns-in-NotBuilt-clause-within : goal.returns-in-NotBuilt-clause-within
-returns-in-NotBuilt-clause-within g c = λ is.
-    let answer = rw c.in-NotBuilt.is at c.in-Err.ensures.answer in
-    refusal_fits g.S.Source.left c.new-lines.result c.in-NotBuilt.line _ c.new-lines.ensures.unread c.new-lines.ensures.taken answer
+pub returns-in-Err-clause-long : goal.returns-in-Err-clause-long
+returns-in-Err-clause-long g c = λ is. refusal_long _ c.new-lines.result _ _ _ c.in-Err.fault _ c.new-lines.ensures.unread c.new-lines.ensures.taken c.in-Err.ensures.answer c.refuse.ensures.refused is
 
-pub returns-in-InputTooLong-clause-long : goal.returns-in-InputTooLong-clause-long
-returns-in-InputTooLong-clause-long g c = λ is.
-    let answer = rw c.in-InputTooLong.is at c.in-Err.ensures.answer in
-    show_long g.S.Source.left c.new-lines.result _ c.new-lines.ensures.unread c.new-lines.ensures.taken answer
+pub returns-in-Err-clause-within : goal.returns-in-Err-clause-within
+returns-in-Err-clause-within g c = λ is. elim is [
+  | inl ok ↦ refusal_isnt_ok _ _ c.in-Err.fault _ _ c.refuse.ensures.refused ok
+  | inr refused ↦ refusal_fits _ c.new-lines.result _ _ _ c.in-Err.fault _ c.new-lines.ensures.unread c.new-lines.ensures.taken c.in-Err.ensures.answer c.refuse.ensures.refused refused
+]

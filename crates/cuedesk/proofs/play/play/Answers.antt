@@ -1,0 +1,9 @@
+use Rattle.cuedesk.proofs.Inputs.{nothing_answered}
+use Rattle.cuedesk.proofs.Statuses.{answered_front}
+use Rattle.cuedesk.proofs.play.play.Goals as goal
+
+pub returns-in_default-clause-front : goal.returns-in_default-clause-front
+returns-in_default-clause-front g c = nothing_answered _ _ _
+
+pub returns-clause-front : goal.returns-clause-front
+returns-clause-front g c = answered_front _ _ _ _ _ _ c.session.result c.in-Ok.ensures c.session.ensures.ok c.session.ensures.err
