@@ -61,11 +61,14 @@ nothing_answered (Some bytes) a d = record { places = []; wants = wants_nothing 
 -- what the session answered is what the program writes
 answer_at : (bytes left : List ℕ) (reading : Reading) (h h' : Option (List ℕ)) → reads Moves bytes ≡ Ok reading → script_of bytes ≡ lines_of left → Answers (opened reading.show) (lines_of left) h h'
     → WritesAll bytes h h' × IsOk (reads Moves bytes)
-answer_at bytes left reading h h' read script a = (record {
+answer_at bytes left reading h h' read script a = (
+  record {
     places = a.places;
     wants = subst (λ r. MayWantOf bytes a.places r) (sym read) (subst (λ ls. WantsAtEdits a.places (begun (opened reading.show)) (before_first ends_script ls)) (sym script) a.wants);
     text = subst (λ (t : List ℕ). Appends h h' t) (sym (ap (λ r. over_show r (λ x. replies_of (opened x.show) (script_of bytes) a.places)) read ∙ ap (λ ls. replies_of (opened reading.show) ls a.places) script)) a.text;
-  }, subst (λ (r : Result Reading TextFault). IsOk r) (sym read) refl)
+  },
+  subst (λ (r : Result Reading TextFault). IsOk r) (sym read) refl,
+)
 
 front_at : (bytes left : List ℕ) (reading : Reading) (h h' : Option (List ℕ)) → reads Moves bytes ≡ Ok reading → script_of bytes ≡ lines_of left → AnswersInFront (opened reading.show) (lines_of left) h h' → WritesFront bytes h h'
 front_at bytes left reading h h' read script a = record {
@@ -160,11 +163,14 @@ fault_means left a P (texts_of.NoEndData i) p = p
 
 text_at : (o h h' : Option (List ℕ)) (fault : TextFault) → IfSome o (λ x. reads Moves x ≡ Err fault) → Appends h h' (fault_text fault) → IfSome o (λ x. WritesAll x h h' × IsErr (reads Moves x))
 text_at None h h' fault text appended = tt
-text_at (Some x) h h' fault text appended = (record {
+text_at (Some x) h h' fault text appended = (
+  record {
     places = [];
     wants = nothing_wanted x (reads Moves x);
     text = subst (λ (v : List ℕ). Appends h h' v) (sym (ap (λ r. over_show r (λ reading. replies_of (opened reading.show) (script_of x) [])) text)) appended;
-  }, subst (λ (r : Result Reading TextFault). IsErr r) (sym text) refl)
+  },
+  subst (λ (r : Result Reading TextFault). IsErr r) (sym text) refl,
+)
 
 text_front : (o h h' : Option (List ℕ)) (fault : TextFault) → IfSome o (λ x. reads Moves x ≡ Err fault) → AppendsFront h h' (fault_text fault) → IfSome o (λ x. WritesFront x h h')
 text_front None h h' fault text appended = tt

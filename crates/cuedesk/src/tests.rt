@@ -81,16 +81,63 @@ fn ticks_move_the_moment(rt: HostRuntime) -> Result<(), Fail> {
     Ok(())
 }
 
+/// What `IDENT 3:0`, a patch of channel 1 and these lines, and then the script, give.
+fn played(alloc: Global, show: &[u8], script: &[u8]) -> Result<PlainSink, AllocError> {
+    let head = b"IDENT 3:0\nPATCH 1 1<1@FL\n".as_slice();
+    let input = joined(alloc, &[head, show, b"ENDDATA\n", script])?;
+    let (_, sink) = rendered(alloc, input, 100)?;
+    Ok(sink)
+}
+
 #[test]
-fn a_show_with_times_is_refused_at_its_line(rt: HostRuntime) -> Result<(), Fail> {
+fn cues_fade_and_edits_reach_into_them(rt: HostRuntime) -> Result<(), Fail> {
+    let alloc = rt.alloc();
+    let show = b"CUE 1\nUP 2\nCHAN 1@FL\nCUE 2\nDOWN 1\nCHAN 1@0\n".as_slice();
+    let script = b"go\ntick 50\nframe\nset 1 chan 1 at H64\nframe\n".as_slice();
+    let sink = played(alloc, show, script)?;
+    assert_eq!(rt;
+        sink.bytes(),
+        b"ok\nok\nframe 100 1 1=127\nok\nframe 100 1 1=50\n".as_slice()
+    );
+    Ok(())
+}
+
+#[test]
+fn an_interrupted_fade_goes_on_from_where_it_is(rt: HostRuntime) -> Result<(), Fail> {
+    let alloc = rt.alloc();
+    let show = b"CUE 1\nUP 2\nCHAN 1@FL\nCUE 2\nDOWN 1\nCHAN 1@0\n".as_slice();
+    let script = b"go\ntick 50\ngo\ntick 25\nframe\nback\nsettle\nframe\n".as_slice();
+    let sink = played(alloc, show, script)?;
+    assert_eq!(rt;
+        sink.bytes(),
+        b"ok\nok\nok\nok\nframe 150 1 1=64\nok\nok\nframe 150 1 1=255\n".as_slice()
+    );
+    Ok(())
+}
+
+#[test]
+fn a_cue_only_edit_leaves_the_next_cue(rt: HostRuntime) -> Result<(), Fail> {
+    let alloc = rt.alloc();
+    let show = b"CUE 1\nCHAN 1@FL\nCUE 2\nCUE 3\n".as_slice();
+    let script = b"set 2 chan 1 at 50 only\nsheet 2\nsheet 3\nsheet 4\n".as_slice();
+    let sink = played(alloc, show, script)?;
+    assert_eq!(rt;
+        sink.bytes(),
+        b"ok\nrow 2 1=128\nrow 3 1=255\nrefused AbsentCue 4\n".as_slice()
+    );
+    Ok(())
+}
+
+#[test]
+fn a_faulty_show_is_refused_at_its_line(rt: HostRuntime) -> Result<(), Fail> {
     let alloc = rt.alloc();
     let input = joined(
         alloc,
-        &[b"IDENT 3:0\nPATCH 1 1<1@FL\nCUE 1\nUP 2\nENDDATA\ngo\n".as_slice()],
+        &[b"IDENT 3:0\nCUE 1\nUP 0\nCHAN 1@101\nENDDATA\ngo\n".as_slice()],
     )?;
     let (status, sink) = rendered(alloc, input, 100)?;
     assert_eq!(rt; status, Status::ShowRefused);
-    assert_eq!(rt; sink.bytes(), b"show NotBuilt 4\n".as_slice());
+    assert_eq!(rt; sink.bytes(), b"show OutOfRange 4\n".as_slice());
     Ok(())
 }
 
