@@ -43,7 +43,7 @@ pub(crate) fn in_proportion(
     level: Level,
 ) -> Result<Vec<Member>, AllocError>
     requires { IsTrue (has_entry (λ x. x.number) g show.now.groups) }
-    ensures members { IfOk result (λ scaled. IsSomeAnd (entry_at (λ x. x.number) g show.now.groups) (λ group. scaled.items ≡ map (in_proportion level) group.members)) }
+    ensures { IfOk result (λ scaled. IsSomeAnd (entry_at (λ x. x.number) g show.now.groups) (λ group. scaled.items ≡ map (in_proportion level) group.members)) }
 {
     members(show, g, level).collect(alloc)
 }

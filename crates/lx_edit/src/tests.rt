@@ -29,6 +29,7 @@ fn cue(n: u8) -> CueNo
 fn chan(c: u16) -> Chan
     requires least { 1 ≤ c }
     requires most { c ≤ CHANNELS }
+    ensures { result ≡ c }
 {
     match Chan::new(c as u32) {
         Some(c) => c,
@@ -258,10 +259,13 @@ impl Desk {
     }
 
     /// The edit is refused so.
-    fn refuses(&self, alloc: Global, edit: Edit, why: Refusal) -> bool
+    fn refuses(&self, alloc: Global, edit: Edit, why: &Refusal) -> bool
         requires { ValidEdit edit }
     {
-        plan(alloc, &self.show, &edit).err() == Some(why)
+        match plan(alloc, &self.show, &edit).err() {
+            Some(refusal) => refusal == *why,
+            None => false,
+        }
     }
 
     /// The channel's levels in cues 1, 2 and 3.
@@ -297,7 +301,7 @@ fn a_released_channel_tracks_again(rt: HostRuntime) -> Result<(), Fail> {
     desk.edit(rt.alloc(), release(3, 1, false))?;
     assert!(rt; desk.is_at(1, [255, 128, 128]));
     let none = Refusal::AbsentMove(cue(3), chan(1));
-    assert!(rt; desk.refuses(rt.alloc(), release(3, 1, false), none));
+    assert!(rt; desk.refuses(rt.alloc(), release(3, 1, false), &none));
     desk.edit(rt.alloc(), release(2, 1, true))?;
     assert!(rt; desk.is_at(1, [255, 255, 128]));
     Ok(())
@@ -400,29 +404,29 @@ fn what_a_set_names_is_tested_in_order(rt: HostRuntime) -> Result<(), Fail> {
     let desk = Desk::small(rt.alloc())?;
     let cue_9 = Refusal::AbsentCue(cue(9));
     let part_2 = Refusal::AbsentPart(cue(1), part(2));
-    assert!(rt; desk.refuses(rt.alloc(), set_in_part(9, 2, 12), cue_9));
-    assert!(rt; desk.refuses(rt.alloc(), set_in_part(1, 2, 12), part_2));
+    assert!(rt; desk.refuses(rt.alloc(), set_in_part(9, 2, 12), &cue_9));
+    assert!(rt; desk.refuses(rt.alloc(), set_in_part(1, 2, 12), &part_2));
     assert!(rt;
         desk.refuses(
             rt.alloc(),
             set_in_part(1, 1, 12),
-            Refusal::AbsentChannel(chan(11))
+            &Refusal::AbsentChannel(chan(11))
         )
     );
     assert!(rt;
         desk.refuses(
             rt.alloc(),
             set(1, 12, 13, 1, true),
-            Refusal::AbsentChannel(chan(12))
+            &Refusal::AbsentChannel(chan(12))
         )
     );
-    assert!(rt; desk.refuses(rt.alloc(), set_group(9, 2, 1), cue_9));
-    assert!(rt; desk.refuses(rt.alloc(), set_group(1, 2, 1), part_2));
+    assert!(rt; desk.refuses(rt.alloc(), set_group(9, 2, 1), &cue_9));
+    assert!(rt; desk.refuses(rt.alloc(), set_group(1, 2, 1), &part_2));
     assert!(rt;
         desk.refuses(
             rt.alloc(),
             set_group(1, 1, 1),
-            Refusal::AbsentGroup(group())
+            &Refusal::AbsentGroup(group())
         )
     );
     Ok(())
@@ -433,27 +437,27 @@ fn what_is_released_or_deleted_is_tested_in_order(rt: HostRuntime) -> Result<(),
     let desk = Desk::small(rt.alloc())?;
     let cue_9 = Refusal::AbsentCue(cue(9));
     let part_2 = Refusal::AbsentPart(cue(1), part(2));
-    assert!(rt; desk.refuses(rt.alloc(), release(9, 12, false), cue_9));
+    assert!(rt; desk.refuses(rt.alloc(), release(9, 12, false), &cue_9));
     assert!(rt;
         desk.refuses(
             rt.alloc(),
             release(1, 12, true),
-            Refusal::AbsentChannel(chan(11))
+            &Refusal::AbsentChannel(chan(11))
         )
     );
     assert!(rt;
         desk.refuses(
             rt.alloc(),
             release(1, 3, true),
-            Refusal::AbsentMove(cue(1), chan(2))
+            &Refusal::AbsentMove(cue(1), chan(2))
         )
     );
-    assert!(rt; desk.refuses(rt.alloc(), delete(9, true), cue_9));
-    assert!(rt; desk.refuses(rt.alloc(), unpart(9, 1), cue_9));
-    assert!(rt; desk.refuses(rt.alloc(), unpart(1, 2), part_2));
-    assert!(rt; desk.refuses(rt.alloc(), unpart(1, 1), Refusal::BasePart));
-    assert!(rt; desk.refuses(rt.alloc(), fall(9, 2), cue_9));
-    assert!(rt; desk.refuses(rt.alloc(), fall(1, 2), part_2));
+    assert!(rt; desk.refuses(rt.alloc(), delete(9, true), &cue_9));
+    assert!(rt; desk.refuses(rt.alloc(), unpart(9, 1), &cue_9));
+    assert!(rt; desk.refuses(rt.alloc(), unpart(1, 2), &part_2));
+    assert!(rt; desk.refuses(rt.alloc(), unpart(1, 1), &Refusal::BasePart));
+    assert!(rt; desk.refuses(rt.alloc(), fall(9, 2), &cue_9));
+    assert!(rt; desk.refuses(rt.alloc(), fall(1, 2), &part_2));
     Ok(())
 }
 
@@ -475,20 +479,20 @@ fn an_absent_cue_or_channel_is_refused(rt: HostRuntime) -> Result<(), Fail> {
         label: Label::none(),
     };
     let channel_11 = Refusal::AbsentChannel(chan(11));
-    assert!(rt; desk.refuses(rt.alloc(), parted, cue_9));
-    assert!(rt; desk.refuses(rt.alloc(), Edit::Block { cue: nine }, cue_9));
-    assert!(rt; desk.refuses(rt.alloc(), Edit::Unblock { cue: nine }, cue_9));
-    assert!(rt; desk.refuses(rt.alloc(), followed, cue_9));
-    assert!(rt; desk.refuses(rt.alloc(), named, cue_9));
-    assert!(rt; desk.refuses(rt.alloc(), member(10, 12, 1), channel_11));
-    assert!(rt; desk.refuses(rt.alloc(), sub_member(10, 12), channel_11));
-    assert!(rt; desk.refuses(rt.alloc(), patch(11), channel_11));
+    assert!(rt; desk.refuses(rt.alloc(), parted, &cue_9));
+    assert!(rt; desk.refuses(rt.alloc(), Edit::Block { cue: nine }, &cue_9));
+    assert!(rt; desk.refuses(rt.alloc(), Edit::Unblock { cue: nine }, &cue_9));
+    assert!(rt; desk.refuses(rt.alloc(), followed, &cue_9));
+    assert!(rt; desk.refuses(rt.alloc(), named, &cue_9));
+    assert!(rt; desk.refuses(rt.alloc(), member(10, 12, 1), &channel_11));
+    assert!(rt; desk.refuses(rt.alloc(), sub_member(10, 12), &channel_11));
+    assert!(rt; desk.refuses(rt.alloc(), patch(11), &channel_11));
     let dimmer = dimmer();
     assert!(rt;
         desk.refuses(
             rt.alloc(),
             Edit::Unpatch { dimmer },
-            Refusal::AbsentDimmer(dimmer)
+            &Refusal::AbsentDimmer(dimmer)
         )
     );
     Ok(())
@@ -524,7 +528,7 @@ fn a_show_has_two_thousand_cues(rt: HostRuntime) -> Result<(), Fail> {
         desk.edit(rt.alloc(), Edit::MakeCue { cue: number })?;
     }
     let full = Edit::MakeCue { cue: cue(100) };
-    assert!(rt; desk.refuses(rt.alloc(), full, Refusal::CueLimit));
+    assert!(rt; desk.refuses(rt.alloc(), full, &Refusal::CueLimit));
     desk.edit(rt.alloc(), Edit::MakeCue { cue: cue(20) })?;
     Ok(())
 }
