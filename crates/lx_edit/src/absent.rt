@@ -59,7 +59,7 @@ pub(crate) fn the_channels(show: &Show, range: ChanRange) -> Result<(), Refusal>
 
 /// The group of the number.
 pub(crate) fn the_group(show: &Show, g: GroupNo) -> Result<&Group, Refusal>
-    ensures group { MatchResult result (λ group. the_group show.now g ≡ Ok group.now) (λ refusal. the_group show.now g ≡ Err refusal) }
+    ensures group { MatchResult result (λ group. entry_at (λ x. x.number) g show.now.groups ≡ Some group.now) (λ refusal. the_group show.now g ≡ Err refusal) }
     ensures valid { MatchResult result (λ group. ValidGroup show.now.channels group.now) (λ refusal. the_group show.now g ≡ Err refusal) }
 {
     match show.group(g) {

@@ -47,8 +47,8 @@ pub(crate) fn set_group(
 {
     let old = the_cue(show, n)?;
     let given = the_given_part(old, part)?;
-    let group = the_group(show, g)?;
-    let members = in_proportion(alloc, group.members.as_slice(), level)?;
+    the_group(show, g)?;
+    let members = in_proportion(alloc, show, g, level)?;
     let cue = with_levels(alloc, show.channels(), old, given, members.as_slice())?;
     Ok(place(alloc, show, n, old, cue, only)?)
 }

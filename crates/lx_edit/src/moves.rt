@@ -2,15 +2,17 @@
 
 ghost use Rattle.std.specs.Prelude.{◌≡◌, ℕ, ◌≤◌, IfOk, IfSome, IsTrue, OnOk, map, ◌++◌};
 ghost use Rattle.std.specs.List.{AllByRecursion};
-ghost use Rattle.lx_spec.specs.Listing.{has_entry};
+ghost use Rattle.std.specs.Option.{IsSomeAnd};
+ghost use Rattle.lx_spec.specs.Listing.{entry_at, has_entry};
 ghost use Rattle.lx_spec.specs.Show.{ValidCue};
 ghost use Rattle.lx_spec.specs.Edited.{all_at, channels_in, in_proportion, part_for, with_moves, with_levels};
 ghost use Rattle.lx_edit.specs.Found.{Fits};
 ghost use Rattle.lx_edit.specs.Kept.{base_moves};
 
 use crate::absent::channel;
-use lx_base::{Chan, ChanRange, Level, PartNo, scale};
-use lx_show::{Cue, Member, Move, facts};
+use lx_base::{Chan, ChanRange, GroupNo, Level, PartNo};
+use lx_groups::members;
+use lx_show::{Cue, Member, Move, Show, facts};
 use std::alloc::{AllocError, Global};
 
 /// The channels of the range at the level.
@@ -33,28 +35,17 @@ pub(crate) fn all_at(
     Ok(members)
 }
 
-/// The members, each at its own level in proportion to this one.
+/// The members of the group, each at its own level in proportion to this one.
 pub(crate) fn in_proportion(
     alloc: Global,
-    members: &[Member],
+    show: &Show,
+    g: GroupNo,
     level: Level,
 ) -> Result<Vec<Member>, AllocError>
-    ensures { IfOk result (λ scaled. scaled.items ≡ map (in_proportion level) members.now) }
+    requires { IsTrue (has_entry (λ x. x.number) g show.now.groups) }
+    ensures { IfOk result (λ scaled. IsSomeAnd (entry_at (λ x. x.number) g show.now.groups) (λ group. scaled.items ≡ map (in_proportion level) group.members)) }
 {
-    members
-        .iter()
-        .map(|member| scaled(member, level))
-        .collect(alloc)
-}
-
-/// The member at its level in proportion.
-fn scaled(member: &Member, level: Level) -> Member
-    ensures { result ≡ in_proportion level member.now }
-{
-    Member {
-        chan: member.chan,
-        level: scale(member.level, level),
-    }
+    members(show, g, level).collect(alloc)
 }
 
 /// The cue with the channels at the levels, each in the part that is given, or else in that of the move

@@ -1,8 +1,8 @@
 //! A small show of 10 channels, made and changed by edits. Cue 1 brings channel 1 to 255; cues 2 and 3 move
 //! nothing.
 
-ghost use Rattle.std.specs.Prelude.{◌≡◌, ◌≤◌, IfOk};
-ghost use Rattle.lx_base.specs.declared.TheConstants.{CUE_MAX, CHANNELS};
+ghost use Rattle.std.specs.Prelude.{◌≡◌, ◌≤◌, IfSome};
+ghost use Rattle.lx_base.specs.declared.TheConstants.{CUE_MAX, CHANNELS, PARTS};
 ghost use Rattle.lx_spec.specs.Show.{InRange};
 ghost use Rattle.lx_spec.specs.ValidEdit.{ValidEdit};
 ghost use Rattle.lx_sheet.specs.Standing.{StandsFor};
@@ -11,42 +11,213 @@ use crate::planning::plan;
 use crate::{ChanSet, Dirty};
 use lx_base::{CUE_UNIT, Chan, ChanRange, CueNo, Dimmer, GroupNo, Level, PartNo, SubNo};
 use lx_sheet::Sheet;
-use lx_show::{Edit, Label, Member, Move, Part, PatchRow, Refusal, Show, new_part};
+use lx_show::{Edit, Label, Refusal, Show};
 use std::alloc::{AllocError, Global};
 use std::test::Fail;
 
 /// The number of a whole cue.
-fn cue(n: u8) -> Result<CueNo, Fail>
+fn cue(n: u8) -> CueNo
     requires { 1 ≤ n }
-    ensures { IfOk result (InRange CUE_MAX) }
+    ensures { InRange CUE_MAX result }
 {
-    Ok(CueNo::new(CUE_UNIT * n as u32).ok_or("no such cue")?)
+    match CueNo::new(CUE_UNIT * n as u32) {
+        Some(n) => n,
+        None => unreachable!(),
+    }
 }
 
-fn chan(c: u16) -> Result<Chan, Fail> {
-    Ok(Chan::new(c as u32).ok_or("no such channel")?)
+fn chan(c: u16) -> Chan
+    requires least { 1 ≤ c }
+    requires most { c ≤ CHANNELS }
+    ensures { result ≡ c }
+{
+    match Chan::new(c as u32) {
+        Some(c) => c,
+        None => unreachable!(),
+    }
 }
 
-fn range(first: u16, last: u16) -> Result<ChanRange, Fail> {
-    Ok(ChanRange::new(chan(first)?, chan(last)?).ok_or("no such range")?)
+fn range(first: u16, last: u16) -> ChanRange
+    requires least { 1 ≤ first }
+    requires order { first ≤ last }
+    requires most { last ≤ CHANNELS }
+{
+    match ChanRange::new(chan(first), chan(last)) {
+        Some(range) => range,
+        None => unreachable!(),
+    }
 }
 
-fn part(p: u8) -> Result<PartNo, Fail> {
-    Ok(PartNo::new(p as u32).ok_or("no such part")?)
+fn part(p: u8) -> PartNo
+    requires least { 1 ≤ p }
+    requires most { p ≤ PARTS }
+{
+    match PartNo::new(p as u32) {
+        Some(p) => p,
+        None => unreachable!(),
+    }
+}
+
+fn group() -> GroupNo {
+    match GroupNo::new(7) {
+        Some(g) => g,
+        None => unreachable!(),
+    }
+}
+
+fn submaster() -> SubNo {
+    match SubNo::new(7) {
+        Some(s) => s,
+        None => unreachable!(),
+    }
+}
+
+fn dimmer() -> Dimmer {
+    match Dimmer::new(5) {
+        Some(d) => d,
+        None => unreachable!(),
+    }
 }
 
 /// The channels move to the level in the cue.
-fn set(n: u8, first: u16, last: u16, level: Level, only: bool) -> Result<Edit, Fail>
-    requires { 1 ≤ n }
-    ensures { IfOk result ValidEdit }
+fn set(n: u8, first: u16, last: u16, level: Level, only: bool) -> Edit
+    requires cue { 1 ≤ n }
+    requires least { 1 ≤ first }
+    requires order { first ≤ last }
+    requires most { last ≤ CHANNELS }
+    ensures { ValidEdit result }
 {
-    Ok(Edit::Set {
-        cue: cue(n)?,
+    Edit::Set {
+        cue: cue(n),
         part: None,
-        range: range(first, last)?,
+        range: range(first, last),
         level,
         only,
-    })
+    }
+}
+
+/// Channels 9 to the last move to level 1 in the part of the cue.
+fn set_in_part(n: u8, p: u8, last: u16) -> Edit
+    requires cue { 1 ≤ n }
+    requires least { 1 ≤ p }
+    requires most { p ≤ PARTS }
+    requires order { 9 ≤ last }
+    requires last { last ≤ CHANNELS }
+    ensures { ValidEdit result }
+{
+    Edit::Set {
+        cue: cue(n),
+        part: Some(part(p)),
+        range: range(9, last),
+        level: 1,
+        only: false,
+    }
+}
+
+/// The group moves to the level in the part of the cue.
+fn set_group(n: u8, p: u8, level: Level) -> Edit
+    requires cue { 1 ≤ n }
+    requires least { 1 ≤ p }
+    requires most { p ≤ PARTS }
+    ensures { ValidEdit result }
+{
+    Edit::SetGroup {
+        cue: cue(n),
+        part: Some(part(p)),
+        group: group(),
+        level,
+        only: false,
+    }
+}
+
+/// A release of channels 1 to the last in the cue.
+fn release(n: u8, last: u16, only: bool) -> Edit
+    requires cue { 1 ≤ n }
+    requires least { 1 ≤ last }
+    requires most { last ≤ CHANNELS }
+    ensures { ValidEdit result }
+{
+    Edit::Release {
+        cue: cue(n),
+        range: range(1, last),
+        only,
+    }
+}
+
+fn delete(n: u8, only: bool) -> Edit
+    requires { 1 ≤ n }
+    ensures { ValidEdit result }
+{
+    Edit::DeleteCue { cue: cue(n), only }
+}
+
+/// The part falls in 3 seconds, after 0.4.
+fn fall(n: u8, p: u8) -> Edit
+    requires cue { 1 ≤ n }
+    requires least { 1 ≤ p }
+    requires most { p ≤ PARTS }
+    ensures { ValidEdit result }
+{
+    Edit::Time {
+        cue: cue(n),
+        part: part(p),
+        rising: false,
+        time: 300,
+        delay: 40,
+    }
+}
+
+fn unpart(n: u8, p: u8) -> Edit
+    requires cue { 1 ≤ n }
+    requires least { 1 ≤ p }
+    requires most { p ≤ PARTS }
+    ensures { ValidEdit result }
+{
+    Edit::DeletePart {
+        cue: cue(n),
+        part: part(p),
+    }
+}
+
+/// The channels are in the group at the level.
+fn member(first: u16, last: u16, level: Level) -> Edit
+    requires least { 1 ≤ first }
+    requires order { first ≤ last }
+    requires most { last ≤ CHANNELS }
+    ensures { ValidEdit result }
+{
+    Edit::GroupMember {
+        group: group(),
+        range: range(first, last),
+        level,
+    }
+}
+
+/// The channels are in the submaster at level 9.
+fn sub_member(first: u16, last: u16) -> Edit
+    requires least { 1 ≤ first }
+    requires order { first ≤ last }
+    requires most { last ≤ CHANNELS }
+    ensures { ValidEdit result }
+{
+    Edit::SubMember {
+        sub: submaster(),
+        range: range(first, last),
+        level: 9,
+    }
+}
+
+/// The dimmer follows the channel.
+fn patch(c: u16) -> Edit
+    requires least { 1 ≤ c }
+    requires most { c ≤ CHANNELS }
+    ensures { ValidEdit result }
+{
+    Edit::Patch {
+        dimmer: dimmer(),
+        chan: chan(c),
+        level: 200,
+    }
 }
 
 /// A show and its sheet.
@@ -58,6 +229,26 @@ struct Desk {
 }
 
 impl Desk {
+    /// A show without cues.
+    fn open(alloc: Global, channels: u32) -> Result<Desk, AllocError>
+        requires least { 1 ≤ channels }
+        requires most { channels ≤ CHANNELS }
+    {
+        let show = Show::new(alloc, channels)?;
+        let sheet = Sheet::open(alloc, &show)?;
+        Ok(Desk { show, sheet })
+    }
+
+    /// The small show.
+    fn small(alloc: Global) -> Result<Desk, Fail> {
+        let mut desk = Desk::open(alloc, 10)?;
+        for n in 1..4 {
+            desk.edit(alloc, Edit::MakeCue { cue: cue(n) })?;
+        }
+        desk.edit(alloc, set(1, 1, 1, 255, false))?;
+        Ok(desk)
+    }
+
     /// Makes the edit, or answers why not.
     fn edit(&mut self, alloc: Global, edit: Edit) -> Result<Dirty, Refusal>
         requires { ValidEdit edit }
@@ -66,298 +257,218 @@ impl Desk {
         let planned = plan(alloc, &desk.show, &edit)?;
         Ok(planned.apply(&mut desk.show, &mut desk.sheet))
     }
-}
 
-/// A show without cues.
-fn opened(alloc: Global, channels: u32) -> Result<Desk, AllocError>
-    requires least { 1 ≤ channels }
-    requires most { channels ≤ CHANNELS }
-{
-    let show = Show::new(alloc, channels)?;
-    let sheet = Sheet::open(alloc, &show)?;
-    Ok(Desk { show, sheet })
-}
-
-/// The small show.
-fn small(alloc: Global) -> Result<Desk, Fail> {
-    let mut desk = opened(alloc, 10)?;
-    for n in 1..4 {
-        desk.edit(alloc, Edit::MakeCue { cue: cue(n)? })?;
+    /// The edit is refused so.
+    fn refuses(&self, alloc: Global, edit: Edit, why: &Refusal) -> bool
+        requires { ValidEdit edit }
+    {
+        match plan(alloc, &self.show, &edit).err() {
+            Some(refusal) => refusal == *why,
+            None => false,
+        }
     }
-    desk.edit(alloc, set(1, 1, 1, 255, false)?)?;
-    Ok(desk)
-}
 
-/// The channel's levels in cues 1, 2 and 3.
-fn column(desk: &Desk, c: u16) -> Result<[Level; 3], Fail> {
-    let c = chan(c)?;
-    Ok([
-        desk.sheet.level_at(cue(1)?, c),
-        desk.sheet.level_at(cue(2)?, c),
-        desk.sheet.level_at(cue(3)?, c),
-    ])
+    /// The channel's levels in cues 1, 2 and 3.
+    fn is_at(&self, c: u16, levels: [Level; 3]) -> bool
+        requires least { 1 ≤ c }
+        requires most { c ≤ CHANNELS }
+    {
+        let c = chan(c);
+        self.sheet.level_at(cue(1), c) == levels[0]
+            && self.sheet.level_at(cue(2), c) == levels[1]
+            && self.sheet.level_at(cue(3), c) == levels[2]
+    }
 }
 
 #[test]
 fn a_cue_only_edit_leaves_the_cue_above(rt: HostRuntime) -> Result<(), Fail> {
-    let mut desk = small(rt.alloc())?;
-    assert_eq!(rt; column(&desk, 1)?, [255, 255, 255]);
-    let dirty = desk.edit(rt.alloc(), set(2, 1, 1, 128, true)?)?;
-    assert!(rt; dirty.chans.contains(chan(1)?));
-    assert!(rt; !dirty.chans.contains(chan(2)?));
-    assert_eq!(rt; column(&desk, 1)?, [255, 128, 255]);
-    desk.edit(rt.alloc(), set(2, 1, 1, 128, true)?)?;
-    assert_eq!(rt; column(&desk, 1)?, [255, 128, 255]);
-    desk.edit(rt.alloc(), set(3, 1, 1, 10, true)?)?;
-    assert_eq!(rt; column(&desk, 1)?, [255, 128, 10]);
-    desk.edit(rt.alloc(), set(2, 1, 1, 7, true)?)?;
-    assert_eq!(rt; column(&desk, 1)?, [255, 7, 10]);
+    let mut desk = Desk::small(rt.alloc())?;
+    let dirty = desk.edit(rt.alloc(), set(2, 1, 1, 128, true))?;
+    assert!(rt; dirty.chans.contains(chan(1)) && !dirty.chans.contains(chan(2)));
+    assert!(rt; desk.is_at(1, [255, 128, 255]));
+    desk.edit(rt.alloc(), set(2, 1, 1, 128, true))?;
+    assert!(rt; desk.is_at(1, [255, 128, 255]));
+    desk.edit(rt.alloc(), set(3, 1, 1, 10, true))?;
+    desk.edit(rt.alloc(), set(2, 1, 1, 7, true))?;
+    assert!(rt; desk.is_at(1, [255, 7, 10]));
     Ok(())
-}
-
-/// A release of channel 1 in the cue.
-fn release(n: u8, only: bool) -> Result<Edit, Fail>
-    requires { 1 ≤ n }
-    ensures { IfOk result ValidEdit }
-{
-    Ok(Edit::Release {
-        cue: cue(n)?,
-        range: range(1, 1)?,
-        only,
-    })
 }
 
 #[test]
 fn a_released_channel_tracks_again(rt: HostRuntime) -> Result<(), Fail> {
-    let mut desk = small(rt.alloc())?;
-    desk.edit(rt.alloc(), set(2, 1, 1, 128, true)?)?;
-    desk.edit(rt.alloc(), release(3, false)?)?;
-    assert_eq!(rt; column(&desk, 1)?, [255, 128, 128]);
-    assert_eq!(rt;
-        desk.edit(rt.alloc(), release(3, false)?),
-        Err(Refusal::AbsentMove(cue(3)?, chan(1)?))
-    );
-    desk.edit(rt.alloc(), release(2, true)?)?;
-    assert_eq!(rt; column(&desk, 1)?, [255, 255, 128]);
+    let mut desk = Desk::small(rt.alloc())?;
+    desk.edit(rt.alloc(), set(2, 1, 1, 128, true))?;
+    desk.edit(rt.alloc(), release(3, 1, false))?;
+    assert!(rt; desk.is_at(1, [255, 128, 128]));
+    let none = Refusal::AbsentMove(cue(3), chan(1));
+    assert!(rt; desk.refuses(rt.alloc(), release(3, 1, false), &none));
+    desk.edit(rt.alloc(), release(2, 1, true))?;
+    assert!(rt; desk.is_at(1, [255, 255, 128]));
     Ok(())
 }
 
 #[test]
 fn a_block_cue_keeps_its_look(rt: HostRuntime) -> Result<(), Fail> {
-    let mut desk = small(rt.alloc())?;
-    let dirty = desk.edit(rt.alloc(), Edit::Block { cue: cue(2)? })?;
-    assert!(rt; dirty.chans.contains(chan(1)?));
-    assert_eq!(rt; column(&desk, 1)?, [255, 255, 255]);
-    desk.edit(rt.alloc(), set(1, 1, 1, 0, false)?)?;
-    desk.edit(rt.alloc(), set(1, 2, 2, 255, false)?)?;
-    assert_eq!(rt; column(&desk, 1)?, [0, 255, 255]);
-    assert_eq!(rt; column(&desk, 2)?, [255, 0, 0]);
-    desk.edit(rt.alloc(), Edit::Unblock { cue: cue(2)? })?;
-    assert_eq!(rt; column(&desk, 1)?, [0, 255, 255]);
-    assert_eq!(rt; column(&desk, 2)?, [255, 0, 0]);
-    let again = desk.edit(rt.alloc(), Edit::Unblock { cue: cue(2)? })?;
-    assert!(rt; !again.chans.contains(chan(2)?));
+    let mut desk = Desk::small(rt.alloc())?;
+    let dirty = desk.edit(rt.alloc(), Edit::Block { cue: cue(2) })?;
+    assert!(rt; dirty.chans.contains(chan(1)));
+    desk.edit(rt.alloc(), set(1, 1, 1, 0, false))?;
+    desk.edit(rt.alloc(), set(1, 2, 2, 255, false))?;
+    assert!(rt; desk.is_at(1, [0, 255, 255]) && desk.is_at(2, [255, 0, 0]));
+    desk.edit(rt.alloc(), Edit::Unblock { cue: cue(2) })?;
+    assert!(rt; desk.is_at(1, [0, 255, 255]) && desk.is_at(2, [255, 0, 0]));
+    let again = desk.edit(rt.alloc(), Edit::Unblock { cue: cue(2) })?;
+    assert!(rt; !again.chans.contains(chan(2)));
     Ok(())
 }
 
 #[test]
 fn a_deleted_cue_goes_with_its_row(rt: HostRuntime) -> Result<(), Fail> {
-    let mut desk = small(rt.alloc())?;
-    desk.edit(rt.alloc(), set(2, 1, 1, 0, false)?)?;
-    assert_eq!(rt; column(&desk, 1)?, [255, 0, 0]);
-    let gone = Edit::DeleteCue {
-        cue: cue(2)?,
-        only: false,
+    let mut desk = Desk::small(rt.alloc())?;
+    desk.edit(rt.alloc(), set(2, 1, 1, 0, false))?;
+    desk.edit(rt.alloc(), delete(2, true))?;
+    assert!(rt; desk.is_at(1, [255, 255, 0]));
+    assert!(rt; desk.sheet.row(cue(2)).is_none());
+    let dirty = desk.edit(rt.alloc(), delete(3, false))?;
+    assert!(rt; dirty.chans.contains(chan(1)) && desk.is_at(1, [255, 255, 255]));
+    Ok(())
+}
+
+#[test]
+fn a_part_leaves_its_moves_to_part_1(rt: HostRuntime) -> Result<(), Fail> {
+    let mut desk = Desk::small(rt.alloc())?;
+    let added = Edit::AddPart {
+        cue: cue(1),
+        part: part(2),
     };
-    let dirty = desk.edit(rt.alloc(), gone)?;
-    assert!(rt; dirty.chans.contains(chan(1)?));
-    assert_eq!(rt; column(&desk, 1)?, [255, 255, 255]);
-    assert_eq!(rt; desk.sheet.row(cue(2)?), None);
+    desk.edit(rt.alloc(), added)?;
+    desk.edit(rt.alloc(), fall(1, 2))?;
+    desk.edit(rt.alloc(), set_in_part(1, 2, 10))?;
+    let found = desk.show.cue(cue(1)).ok_or("no cue 1")?;
+    let times = found.part(part(2)).ok_or("no part 2")?;
+    assert!(rt; times.up == 500 && times.down == 300 && times.down_delay == 40);
+    desk.edit(rt.alloc(), unpart(1, 2))?;
+    let entry = desk.show.move_of(cue(1), chan(9)).ok_or("no move")?;
+    assert!(rt; entry.part == PartNo::BASE && entry.level == 1);
     Ok(())
 }
 
 #[test]
-fn a_cue_deleted_only_leaves_the_cue_above(rt: HostRuntime) -> Result<(), Fail> {
-    let mut desk = small(rt.alloc())?;
-    desk.edit(rt.alloc(), set(2, 1, 1, 0, false)?)?;
-    let gone = Edit::DeleteCue {
-        cue: cue(2)?,
-        only: true,
+fn a_cue_keeps_what_is_not_edited(rt: HostRuntime) -> Result<(), Fail> {
+    let mut desk = Desk::small(rt.alloc())?;
+    let named = Edit::Name {
+        cue: cue(1),
+        label: Label::new(b"Preset"),
     };
-    desk.edit(rt.alloc(), gone)?;
-    assert_eq!(rt; column(&desk, 1)?, [255, 255, 0]);
-    Ok(())
-}
-
-/// Why the edit is refused, if it is.
-fn refusal(alloc: Global, desk: &Desk, edit: &Edit) -> Option<Refusal>
-    requires { ValidEdit edit.now }
-{
-    match plan(alloc, &desk.show, edit) {
-        Ok(_) => None,
-        Err(refusal) => Some(refusal),
-    }
-}
-
-/// A set of channels up to 11 in part 2, of which cue 1 has neither.
-fn set_in_part(n: u8, p: u8, last: u16) -> Result<Edit, Fail>
-    requires { 1 ≤ n }
-    ensures { IfOk result ValidEdit }
-{
-    Ok(Edit::Set {
-        cue: cue(n)?,
-        part: Some(part(p)?),
-        range: range(9, last)?,
-        level: 1,
-        only: false,
-    })
-}
-
-#[test]
-fn a_set_is_refused_for_cue_part_and_channel(rt: HostRuntime) -> Result<(), Fail> {
-    let desk = small(rt.alloc())?;
-    let one = cue(1)?;
-    assert_eq!(rt;
-        refusal(rt.alloc(), &desk, &set_in_part(9, 2, 12)?),
-        Some(Refusal::AbsentCue(cue(9)?))
-    );
-    assert_eq!(rt;
-        refusal(rt.alloc(), &desk, &set_in_part(1, 2, 12)?),
-        Some(Refusal::AbsentPart(one, part(2)?))
-    );
-    assert_eq!(rt;
-        refusal(rt.alloc(), &desk, &set_in_part(1, 1, 12)?),
-        Some(Refusal::AbsentChannel(chan(11)?))
-    );
-    assert_eq!(rt;
-        refusal(rt.alloc(), &desk, &set(1, 12, 13, 1, true)?),
-        Some(Refusal::AbsentChannel(chan(12)?))
-    );
-    assert_eq!(rt; refusal(rt.alloc(), &desk, &set_in_part(1, 1, 10)?), None);
-    Ok(())
-}
-
-/// A group set in a part of a cue.
-fn set_group(n: u8, p: u8, level: Level) -> Result<Edit, Fail>
-    requires { 1 ≤ n }
-    ensures { IfOk result ValidEdit }
-{
-    Ok(Edit::SetGroup {
-        cue: cue(n)?,
-        part: Some(part(p)?),
-        group: GroupNo::new(7).ok_or("no group 7")?,
-        level,
-        only: false,
-    })
-}
-
-#[test]
-fn a_group_set_is_refused_for_cue_part_and_group(rt: HostRuntime) -> Result<(), Fail> {
-    let desk = small(rt.alloc())?;
-    assert_eq!(rt;
-        refusal(rt.alloc(), &desk, &set_group(9, 2, 1)?),
-        Some(Refusal::AbsentCue(cue(9)?))
-    );
-    assert_eq!(rt;
-        refusal(rt.alloc(), &desk, &set_group(1, 2, 1)?),
-        Some(Refusal::AbsentPart(cue(1)?, part(2)?))
-    );
-    assert_eq!(rt;
-        refusal(rt.alloc(), &desk, &set_group(1, 1, 1)?),
-        Some(Refusal::AbsentGroup(GroupNo::new(7).ok_or("no group 7")?))
-    );
-    Ok(())
-}
-
-/// A release of channels 1 to the last.
-fn release_up_to(n: u8, last: u16) -> Result<Edit, Fail>
-    requires { 1 ≤ n }
-    ensures { IfOk result ValidEdit }
-{
-    Ok(Edit::Release {
-        cue: cue(n)?,
-        range: range(1, last)?,
-        only: false,
-    })
-}
-
-#[test]
-fn a_release_is_refused_for_cue_channel_and_move(rt: HostRuntime) -> Result<(), Fail> {
-    let desk = small(rt.alloc())?;
-    assert_eq!(rt;
-        refusal(rt.alloc(), &desk, &release_up_to(9, 12)?),
-        Some(Refusal::AbsentCue(cue(9)?))
-    );
-    assert_eq!(rt;
-        refusal(rt.alloc(), &desk, &release_up_to(1, 12)?),
-        Some(Refusal::AbsentChannel(chan(11)?))
-    );
-    assert_eq!(rt;
-        refusal(rt.alloc(), &desk, &release_up_to(1, 3)?),
-        Some(Refusal::AbsentMove(cue(1)?, chan(2)?))
-    );
-    assert_eq!(rt; refusal(rt.alloc(), &desk, &release_up_to(1, 1)?), None);
-    Ok(())
-}
-
-/// A time of a part.
-fn time(n: u8, p: u8, rising: bool) -> Result<Edit, Fail>
-    requires { 1 ≤ n }
-    ensures { IfOk result ValidEdit }
-{
-    Ok(Edit::Time {
-        cue: cue(n)?,
-        part: part(p)?,
-        rising,
-        time: 300,
-        delay: 40,
-    })
-}
-
-/// The part goes.
-fn unpart(n: u8, p: u8) -> Result<Edit, Fail>
-    requires { 1 ≤ n }
-    ensures { IfOk result ValidEdit }
-{
-    Ok(Edit::DeletePart {
-        cue: cue(n)?,
-        part: part(p)?,
-    })
-}
-
-#[test]
-fn times_and_parts_are_refused_for_cue_and_part(rt: HostRuntime) -> Result<(), Fail> {
-    let desk = small(rt.alloc())?;
-    let absent = Some(Refusal::AbsentCue(cue(9)?));
-    assert_eq!(rt; refusal(rt.alloc(), &desk, &time(9, 2, true)?), absent);
-    assert_eq!(rt;
-        refusal(rt.alloc(), &desk, &time(1, 2, true)?),
-        Some(Refusal::AbsentPart(cue(1)?, part(2)?))
-    );
-    assert_eq!(rt; refusal(rt.alloc(), &desk, &unpart(9, 1)?), absent);
-    assert_eq!(rt;
-        refusal(rt.alloc(), &desk, &unpart(1, 2)?),
-        Some(Refusal::AbsentPart(cue(1)?, part(2)?))
-    );
-    assert_eq!(rt;
-        refusal(rt.alloc(), &desk, &unpart(1, 1)?),
-        Some(Refusal::BasePart)
-    );
-    Ok(())
-}
-
-#[test]
-fn other_edits_of_a_cue_are_refused_for_the_cue(rt: HostRuntime) -> Result<(), Fail> {
-    let desk = small(rt.alloc())?;
-    let nine = cue(9)?;
-    let absent = Some(Refusal::AbsentCue(nine));
-    let gone = Edit::DeleteCue {
-        cue: nine,
-        only: true,
+    desk.edit(rt.alloc(), named)?;
+    let followed = Edit::Follow {
+        cue: cue(1),
+        after: Some(250),
     };
+    desk.edit(rt.alloc(), followed)?;
+    desk.edit(rt.alloc(), Edit::MakeCue { cue: cue(1) })?;
+    let found = desk.show.cue(cue(1)).ok_or("no cue 1")?;
+    assert_eq!(rt; found.label.as_slice(), b"Preset".as_slice());
+    assert!(rt; found.follow == Some(250) && found.level_of(chan(1)) == 255);
+    Ok(())
+}
+
+#[test]
+fn a_group_is_set_in_proportion(rt: HostRuntime) -> Result<(), Fail> {
+    let mut desk = Desk::small(rt.alloc())?;
+    desk.edit(rt.alloc(), member(1, 2, 255))?;
+    desk.edit(rt.alloc(), member(2, 3, 128))?;
+    desk.edit(rt.alloc(), set_group(2, 1, 128))?;
+    assert!(rt; desk.is_at(1, [255, 128, 128]));
+    assert!(rt; desk.is_at(2, [0, 64, 64]) && desk.is_at(3, [0, 64, 64]));
+    Ok(())
+}
+
+#[test]
+fn submasters_and_dimmers_are_told(rt: HostRuntime) -> Result<(), Fail> {
+    let mut desk = Desk::small(rt.alloc())?;
+    let brought = desk.edit(rt.alloc(), sub_member(4, 4))?;
+    assert!(rt; brought.subs && brought.dimmer.is_none());
+    assert!(rt; desk.show.sub(submaster()).is_some());
+    let patched = desk.edit(rt.alloc(), patch(10))?;
+    assert!(rt; !patched.subs && patched.dimmer == Some(dimmer()));
+    assert!(rt; desk.show.patch_of(dimmer()).is_some());
+    let unpatched = desk.edit(rt.alloc(), Edit::Unpatch { dimmer: dimmer() })?;
+    assert!(rt; unpatched.dimmer == Some(dimmer()));
+    assert!(rt; desk.show.patch_of(dimmer()).is_none());
+    Ok(())
+}
+
+#[test]
+fn what_a_set_names_is_tested_in_order(rt: HostRuntime) -> Result<(), Fail> {
+    let desk = Desk::small(rt.alloc())?;
+    let cue_9 = Refusal::AbsentCue(cue(9));
+    let part_2 = Refusal::AbsentPart(cue(1), part(2));
+    assert!(rt; desk.refuses(rt.alloc(), set_in_part(9, 2, 12), &cue_9));
+    assert!(rt; desk.refuses(rt.alloc(), set_in_part(1, 2, 12), &part_2));
+    assert!(rt;
+        desk.refuses(
+            rt.alloc(),
+            set_in_part(1, 1, 12),
+            &Refusal::AbsentChannel(chan(11))
+        )
+    );
+    assert!(rt;
+        desk.refuses(
+            rt.alloc(),
+            set(1, 12, 13, 1, true),
+            &Refusal::AbsentChannel(chan(12))
+        )
+    );
+    assert!(rt; desk.refuses(rt.alloc(), set_group(9, 2, 1), &cue_9));
+    assert!(rt; desk.refuses(rt.alloc(), set_group(1, 2, 1), &part_2));
+    assert!(rt;
+        desk.refuses(
+            rt.alloc(),
+            set_group(1, 1, 1),
+            &Refusal::AbsentGroup(group())
+        )
+    );
+    Ok(())
+}
+
+#[test]
+fn what_is_released_or_deleted_is_tested_in_order(rt: HostRuntime) -> Result<(), Fail> {
+    let desk = Desk::small(rt.alloc())?;
+    let cue_9 = Refusal::AbsentCue(cue(9));
+    let part_2 = Refusal::AbsentPart(cue(1), part(2));
+    assert!(rt; desk.refuses(rt.alloc(), release(9, 12, false), &cue_9));
+    assert!(rt;
+        desk.refuses(
+            rt.alloc(),
+            release(1, 12, true),
+            &Refusal::AbsentChannel(chan(11))
+        )
+    );
+    assert!(rt;
+        desk.refuses(
+            rt.alloc(),
+            release(1, 3, true),
+            &Refusal::AbsentMove(cue(1), chan(2))
+        )
+    );
+    assert!(rt; desk.refuses(rt.alloc(), delete(9, true), &cue_9));
+    assert!(rt; desk.refuses(rt.alloc(), unpart(9, 1), &cue_9));
+    assert!(rt; desk.refuses(rt.alloc(), unpart(1, 2), &part_2));
+    assert!(rt; desk.refuses(rt.alloc(), unpart(1, 1), &Refusal::BasePart));
+    assert!(rt; desk.refuses(rt.alloc(), fall(9, 2), &cue_9));
+    assert!(rt; desk.refuses(rt.alloc(), fall(1, 2), &part_2));
+    Ok(())
+}
+
+#[test]
+fn an_absent_cue_or_channel_is_refused(rt: HostRuntime) -> Result<(), Fail> {
+    let desk = Desk::small(rt.alloc())?;
+    let nine = cue(9);
+    let cue_9 = Refusal::AbsentCue(nine);
     let parted = Edit::AddPart {
         cue: nine,
-        part: part(2)?,
+        part: part(2),
     };
     let followed = Edit::Follow {
         cue: nine,
@@ -367,182 +478,43 @@ fn other_edits_of_a_cue_are_refused_for_the_cue(rt: HostRuntime) -> Result<(), F
         cue: nine,
         label: Label::none(),
     };
-    assert_eq!(rt; refusal(rt.alloc(), &desk, &gone), absent);
-    assert_eq!(rt; refusal(rt.alloc(), &desk, &parted), absent);
-    assert_eq!(rt;
-        refusal(rt.alloc(), &desk, &Edit::Block { cue: nine }),
-        absent
+    let channel_11 = Refusal::AbsentChannel(chan(11));
+    assert!(rt; desk.refuses(rt.alloc(), parted, &cue_9));
+    assert!(rt; desk.refuses(rt.alloc(), Edit::Block { cue: nine }, &cue_9));
+    assert!(rt; desk.refuses(rt.alloc(), Edit::Unblock { cue: nine }, &cue_9));
+    assert!(rt; desk.refuses(rt.alloc(), followed, &cue_9));
+    assert!(rt; desk.refuses(rt.alloc(), named, &cue_9));
+    assert!(rt; desk.refuses(rt.alloc(), member(10, 12, 1), &channel_11));
+    assert!(rt; desk.refuses(rt.alloc(), sub_member(10, 12), &channel_11));
+    assert!(rt; desk.refuses(rt.alloc(), patch(11), &channel_11));
+    let dimmer = dimmer();
+    assert!(rt;
+        desk.refuses(
+            rt.alloc(),
+            Edit::Unpatch { dimmer },
+            &Refusal::AbsentDimmer(dimmer)
+        )
     );
-    assert_eq!(rt;
-        refusal(rt.alloc(), &desk, &Edit::Unblock { cue: nine }),
-        absent
-    );
-    assert_eq!(rt; refusal(rt.alloc(), &desk, &followed), absent);
-    assert_eq!(rt; refusal(rt.alloc(), &desk, &named), absent);
-    Ok(())
-}
-
-#[test]
-fn members_and_rows_are_refused_for_the_channel(rt: HostRuntime) -> Result<(), Fail> {
-    let desk = small(rt.alloc())?;
-    let absent = Some(Refusal::AbsentChannel(chan(11)?));
-    let dimmer = Dimmer::new(5).ok_or("no dimmer 5")?;
-    let member = Edit::GroupMember {
-        group: GroupNo::new(7).ok_or("no group 7")?,
-        range: range(10, 12)?,
-        level: 1,
-    };
-    let brought = Edit::SubMember {
-        sub: SubNo::new(7).ok_or("no submaster 7")?,
-        range: range(10, 12)?,
-        level: 1,
-    };
-    let patched = Edit::Patch {
-        dimmer,
-        chan: chan(11)?,
-        level: 1,
-    };
-    assert_eq!(rt; refusal(rt.alloc(), &desk, &member), absent);
-    assert_eq!(rt; refusal(rt.alloc(), &desk, &brought), absent);
-    assert_eq!(rt; refusal(rt.alloc(), &desk, &patched), absent);
-    assert_eq!(rt;
-        refusal(rt.alloc(), &desk, &Edit::Unpatch { dimmer }),
-        Some(Refusal::AbsentDimmer(dimmer))
-    );
-    Ok(())
-}
-
-#[test]
-fn a_part_has_times_and_leaves_its_moves(rt: HostRuntime) -> Result<(), Fail> {
-    let mut desk = small(rt.alloc())?;
-    let added = Edit::AddPart {
-        cue: cue(1)?,
-        part: part(2)?,
-    };
-    desk.edit(rt.alloc(), added)?;
-    desk.edit(rt.alloc(), time(1, 2, false)?)?;
-    desk.edit(rt.alloc(), set_in_part(1, 2, 10)?)?;
-    let found = desk.show.cue(cue(1)?).ok_or("no cue 1")?;
-    let wanted = Part {
-        down: 300,
-        down_delay: 40,
-        ..new_part(part(2)?)
-    };
-    assert_eq!(rt; found.part(part(2)?), Some(wanted));
-    desk.edit(rt.alloc(), unpart(1, 2)?)?;
-    let moved = Move {
-        chan: chan(9)?,
-        part: PartNo::BASE,
-        level: 1,
-    };
-    assert_eq!(rt; desk.show.move_of(cue(1)?, chan(9)?), Some(moved));
-    Ok(())
-}
-
-#[test]
-fn a_cue_has_a_label_and_a_follow(rt: HostRuntime) -> Result<(), Fail> {
-    let mut desk = small(rt.alloc())?;
-    let named = Edit::Name {
-        cue: cue(1)?,
-        label: Label::new(b"Preset"),
-    };
-    desk.edit(rt.alloc(), named)?;
-    let followed = Edit::Follow {
-        cue: cue(1)?,
-        after: Some(250),
-    };
-    desk.edit(rt.alloc(), followed)?;
-    let made = desk.edit(rt.alloc(), Edit::MakeCue { cue: cue(1)? })?;
-    assert!(rt; !made.chans.contains(chan(1)?));
-    let found = desk.show.cue(cue(1)?).ok_or("no cue 1")?;
-    assert_eq!(rt; found.label.as_slice(), b"Preset".as_slice());
-    assert_eq!(rt; found.follow, Some(250));
-    assert_eq!(rt; found.level_of(chan(1)?), 255);
-    Ok(())
-}
-
-/// The channels are in group 7 at the level.
-fn group_member(first: u16, last: u16, level: Level) -> Result<Edit, Fail>
-    ensures { IfOk result ValidEdit }
-{
-    Ok(Edit::GroupMember {
-        group: GroupNo::new(7).ok_or("no group 7")?,
-        range: range(first, last)?,
-        level,
-    })
-}
-
-#[test]
-fn a_group_is_set_in_proportion(rt: HostRuntime) -> Result<(), Fail> {
-    let mut desk = small(rt.alloc())?;
-    let dirty = desk.edit(rt.alloc(), group_member(1, 2, 255)?)?;
-    desk.edit(rt.alloc(), group_member(2, 3, 128)?)?;
-    assert!(rt; !dirty.chans.contains(chan(1)?));
-    assert!(rt; !dirty.subs);
-    desk.edit(rt.alloc(), set_group(2, 1, 128)?)?;
-    assert_eq!(rt; column(&desk, 1)?, [255, 128, 128]);
-    assert_eq!(rt; column(&desk, 2)?, [0, 64, 64]);
-    assert_eq!(rt; column(&desk, 3)?, [0, 64, 64]);
-    Ok(())
-}
-
-#[test]
-fn submasters_and_dimmers_are_told(rt: HostRuntime) -> Result<(), Fail> {
-    let mut desk = small(rt.alloc())?;
-    let dimmer = Dimmer::new(5).ok_or("no dimmer 5")?;
-    let sub = SubNo::new(7).ok_or("no submaster 7")?;
-    let brought = Edit::SubMember {
-        sub,
-        range: range(4, 4)?,
-        level: 9,
-    };
-    let told = desk.edit(rt.alloc(), brought)?;
-    assert!(rt; told.subs);
-    assert_eq!(rt; told.dimmer, None);
-    let found = desk.show.sub(sub).ok_or("no submaster 7")?;
-    let wanted = Member {
-        chan: chan(4)?,
-        level: 9,
-    };
-    assert_eq!(rt; found.members.as_slice(), [wanted].as_slice());
-    let row = PatchRow {
-        dimmer,
-        chan: chan(10)?,
-        level: 200,
-    };
-    let patched = Edit::Patch {
-        dimmer,
-        chan: chan(10)?,
-        level: 200,
-    };
-    assert_eq!(rt; desk.edit(rt.alloc(), patched)?.dimmer, Some(dimmer));
-    assert_eq!(rt; desk.show.patch_of(dimmer), Some(row));
-    assert_eq!(rt;
-        desk.edit(rt.alloc(), Edit::Unpatch { dimmer })?.dimmer,
-        Some(dimmer)
-    );
-    assert_eq!(rt; desk.show.patch_of(dimmer), None);
     Ok(())
 }
 
 /// Run with each allocation refused in turn: the set is made, or nothing is changed.
 #[test]
 fn want_of_memory_changes_nothing(rt: HostRuntime) -> Result<(), Fail> {
-    let Ok(mut desk) = opened(rt.alloc(), 10) else {
+    let Ok(mut desk) = Desk::open(rt.alloc(), 10) else {
         return Ok(());
     };
     for n in 1..4 {
-        desk.edit(rt.alloc(), Edit::MakeCue { cue: cue(n)? })?;
+        desk.edit(rt.alloc(), Edit::MakeCue { cue: cue(n) })?;
     }
-    match desk.edit(rt.alloc(), set(2, 1, 9, 128, true)?) {
-        Ok(dirty) => {
-            assert!(rt; dirty.chans.contains(chan(1)?));
-            assert_eq!(rt; column(&desk, 1)?, [0, 128, 0]);
+    match desk.edit(rt.alloc(), set(2, 1, 9, 128, true)) {
+        Ok(_) => {
+            assert!(rt; desk.is_at(1, [0, 128, 0]));
         }
         Err(refusal) => {
             assert_eq!(rt; refusal, Refusal::Memory);
-            assert_eq!(rt; column(&desk, 1)?, [0, 0, 0]);
-            assert_eq!(rt; desk.show.move_of(cue(2)?, chan(1)?), None);
+            assert!(rt; desk.is_at(1, [0, 0, 0]));
+            assert!(rt; desk.show.move_of(cue(2), chan(1)).is_none());
         }
     }
     Ok(())
@@ -550,27 +522,24 @@ fn want_of_memory_changes_nothing(rt: HostRuntime) -> Result<(), Fail> {
 
 #[test]
 fn a_show_has_two_thousand_cues(rt: HostRuntime) -> Result<(), Fail> {
-    let mut desk = opened(rt.alloc(), 1)?;
+    let mut desk = Desk::open(rt.alloc(), 1)?;
     for n in 1..2_001 {
         let number = CueNo::new(n).ok_or("no such cue")?;
         desk.edit(rt.alloc(), Edit::MakeCue { cue: number })?;
     }
-    let full = Edit::MakeCue { cue: cue(100)? };
-    let there = Edit::MakeCue { cue: cue(20)? };
-    assert_eq!(rt; refusal(rt.alloc(), &desk, &full), Some(Refusal::CueLimit));
-    assert_eq!(rt; refusal(rt.alloc(), &desk, &there), None);
+    let full = Edit::MakeCue { cue: cue(100) };
+    assert!(rt; desk.refuses(rt.alloc(), full, &Refusal::CueLimit));
+    desk.edit(rt.alloc(), Edit::MakeCue { cue: cue(20) })?;
     Ok(())
 }
 
 #[test]
-fn a_set_of_channels_keeps_what_is_added(rt: HostRuntime) -> Result<(), Fail> {
+fn a_set_of_channels_keeps_what_is_added(rt: HostRuntime) {
     let mut chans = ChanSet::empty();
-    for c in [1, 64, 65, 2_048] {
-        assert!(rt; !chans.contains(chan(c)?));
-        chans.insert(chan(c)?);
-        assert!(rt; chans.contains(chan(c)?));
+    for c in [chan(1), chan(64), chan(65), chan(2_048)] {
+        assert!(rt; !chans.contains(c));
+        chans.insert(c);
+        assert!(rt; chans.contains(c));
     }
-    assert!(rt; !chans.contains(chan(2)?));
-    assert!(rt; !chans.contains(chan(2_047)?));
-    Ok(())
+    assert!(rt; !chans.contains(chan(2)) && !chans.contains(chan(2_047)));
 }
