@@ -1,12 +1,12 @@
 -- Members in proportion stay valid.
-use Rattle.std.proofs.Common.{◌≡◌, ℕ, ◌*◌, ◌/◌, ◌<◌, ◌≤◌, List, [], ◌∷◌, map, subst, arith}
+use Rattle.std.proofs.Common.{ℕ, ◌*◌, ◌<◌, ◌≤◌, List, [], ◌∷◌, map, arith}
 use Rattle.std.specs.List.{AllByRecursion}
 use Rattle.std.proofs.Math.Nat.{mul-le-mul_right}
 use Rattle.lx_base.specs.Numbers.{scaled}
 use Rattle.lx_spec.specs.declared.Member.{Member}
 use Rattle.lx_spec.specs.Edited.{in_proportion}
 use Rattle.lx_spec.specs.Listing.{Rises}
-use Rattle.lx_spec.specs.Show.{IsLevel, ValidMember, ValidMembers}
+use Rattle.lx_spec.specs.Show.{ValidMember, ValidMembers}
 
 -- a level in proportion to a level is one
 pub scaled-level : (a b : ℕ) → a ≤ 255 → b ≤ 255 → scaled a b ≤ 255

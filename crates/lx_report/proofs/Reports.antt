@@ -1,14 +1,13 @@
 -- The row line and the line of a cue as they are put, and the cue at a place of a show.
-use Rattle.std.proofs.Common.{◌≡◌, ◌≢◌, ℕ, zero, suc, ◌+◌, ◌<◌, ◌≤◌, Bool, true, false, cond, List, [], ◌∷◌, ◌++◌, length, get_or, take, drop, take-append-drop, Some, refl, ◌∙◌, sym, ap, arith, append_assoc, append-nil}
-use Rattle.std.specs.Prelude.{find, flat_map, codes, decimal, ◌==◌}
-use Rattle.std.specs.List.{AllByRecursion}
+use Rattle.std.proofs.Common.{◌≡◌, ℕ, zero, suc, ◌+◌, ◌<◌, Bool, true, false, cond, List, [], ◌∷◌, ◌++◌, length, get_or, take, drop, take-append-drop, Some, refl, ◌∙◌, sym, ap, arith, append_assoc, append-nil}
+use Rattle.std.specs.Prelude.{flat_map, codes, decimal, ◌==◌}
 use Rattle.std.proofs.lemmas.Bool.Decides.{nat_tests}
 use Rattle.std.proofs.lemmas.Grind.{flat_map-append}
 use Rattle.std.proofs.lemmas.List.{take_more}
 use Rattle.std.proofs.lemmas.List.Elements.{All-from_recursion}
 use Rattle.lx_spec.specs.Listing.{Rises, entry_at}
 use Rattle.lx_spec.specs.Show.{Cue}
-use Rattle.lx_spec.specs.ShowText.{spaced, cue_number_text}
+use Rattle.lx_spec.specs.ShowText.{cue_number_text}
 use Rattle.lx_spec.specs.Replies.{cells, row_text}
 use Rattle.lx_spec.specs.Jobs.{kind_word, label_word}
 use Rattle.lx_script.proofs.Texts.{spaced_more}

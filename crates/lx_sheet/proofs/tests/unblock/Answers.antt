@@ -1,4 +1,4 @@
-use Rattle.std.proofs.Common.{◌≡◌, ℕ, ap, sym, ◌∙◌, refl, false}
+use Rattle.std.proofs.Common.{ap, sym, ◌∙◌, refl, false}
 use Rattle.lx_spec.specs.Listing.{entries_below}
 use Rattle.lx_spec.specs.Show.{Cue, Show}
 use Rattle.lx_sheet.specs.Standing.{cue_numbers}
