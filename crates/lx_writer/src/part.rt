@@ -6,7 +6,7 @@ ghost use Rattle.lx_io.specs.Puts.{Puts};
 ghost use Rattle.lx_spec.specs.Numerals.{time_text};
 ghost use Rattle.lx_spec.specs.ShowText.{move_text, part_text};
 
-use crate::record::{put_channel, put_numbered};
+use crate::record::{put_between, put_channel};
 use lx_base::{Cs, PartNo};
 use lx_io::{Sink, SinkFault, put_all};
 use lx_lex::put_hundredths;
@@ -30,19 +30,14 @@ pub(crate) fn put_parts<K: Sink>(
 fn put_part<K: Sink>(moves: &[Move], part: &Part, sink: &mut K) -> Result<(), SinkFault>
     ensures { Puts K.holds K.faults K.wants sink.old sink.new result (part_text moves.now part.now) }
 {
-    put_numbered(b"PART ", part.number.get(), sink)?;
+    put_between(b"PART ", part.number.get(), b"\n", sink)?;
     put_time(b"UP ", part.up, part.up_delay, sink)?;
     put_time(b"DOWN ", part.down, part.down_delay, sink)?;
     put_moves(moves, part.number, sink)
 }
 
 /// Appends the line of a time and a delay: `start` is its word and a space.
-fn put_time<K: Sink>(
-    start: &[u8],
-    time: Cs,
-    delay: Cs,
-    sink: &mut K,
-) -> Result<(), SinkFault>
+fn put_time<K: Sink>(start: &[u8], time: Cs, delay: Cs, sink: &mut K) -> Result<(), SinkFault>
     ensures { Puts K.holds K.faults K.wants sink.old sink.new result (start.now ++ time_text time ++ 32 ∷ time_text delay ++ 10 ∷ []) }
 {
     put_all(sink, start)?;

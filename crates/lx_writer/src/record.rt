@@ -1,7 +1,7 @@
 //! Groups and submasters, and the lines that they have in common with cues.
 #![tactic(auto, using(lx_io::proofs::Chain::puts))]
 
-ghost use Rattle.std.specs.Prelude.{ℕ, [], ◌++◌, ◌∷◌, codes, decimal, flat_map};
+ghost use Rattle.std.specs.Prelude.{[], ◌++◌, ◌∷◌, codes, decimal, flat_map};
 ghost use Rattle.lx_io.specs.Puts.{Puts};
 ghost use Rattle.lx_spec.specs.ShowText.{line, at_level, label_text, member_text, group_text, sub_text};
 
@@ -24,7 +24,7 @@ pub(crate) fn put_groups<K: Sink>(groups: &[Group], sink: &mut K) -> Result<(), 
 fn put_group<K: Sink>(group: &Group, sink: &mut K) -> Result<(), SinkFault>
     ensures { Puts K.holds K.faults K.wants sink.old sink.new result (group_text group.now) }
 {
-    put_numbered(b"GROUP ", group.number.get(), sink)?;
+    put_between(b"GROUP ", group.number.get(), b"\n", sink)?;
     put_label(group.label.as_slice(), sink)?;
     put_members(group.members.as_slice(), sink)
 }
@@ -43,7 +43,7 @@ pub(crate) fn put_subs<K: Sink>(subs: &[Sub], sink: &mut K) -> Result<(), SinkFa
 fn put_sub<K: Sink>(submaster: &Sub, sink: &mut K) -> Result<(), SinkFault>
     ensures { Puts K.holds K.faults K.wants sink.old sink.new result (sub_text submaster.now) }
 {
-    put_numbered(b"SUB ", submaster.number.get(), sink)?;
+    put_between(b"SUB ", submaster.number.get(), b"\n", sink)?;
     put_label(submaster.label.as_slice(), sink)?;
     put_members(submaster.members.as_slice(), sink)
 }
@@ -58,17 +58,18 @@ fn put_members<K: Sink>(members: &[Member], sink: &mut K) -> Result<(), SinkFaul
     Ok(())
 }
 
-/// Appends the line of a whole number: `start` is its word and a space.
-pub(crate) fn put_numbered<K: Sink>(
-    start: &[u8],
+/// Appends a whole number between what stands before and behind it.
+pub(crate) fn put_between<K: Sink>(
+    before: &[u8],
     number: u32,
+    behind: &[u8],
     sink: &mut K,
 ) -> Result<(), SinkFault>
-    ensures { Puts K.holds K.faults K.wants sink.old sink.new result (start.now ++ decimal number ++ 10 ∷ []) }
+    ensures { Puts K.holds K.faults K.wants sink.old sink.new result (before.now ++ decimal number ++ behind.now) }
 {
-    put_all(sink, start)?;
+    put_all(sink, before)?;
     put_whole(number, sink)?;
-    put_all(sink, b"\n")
+    put_all(sink, behind)
 }
 
 /// Appends the line of a label, where there is one.
@@ -84,11 +85,7 @@ pub(crate) fn put_label<K: Sink>(label: &[u8], sink: &mut K) -> Result<(), SinkF
 }
 
 /// Appends the line of a channel and its level.
-pub(crate) fn put_channel<K: Sink>(
-    chan: Chan,
-    level: Level,
-    sink: &mut K,
-) -> Result<(), SinkFault>
+pub(crate) fn put_channel<K: Sink>(chan: Chan, level: Level, sink: &mut K) -> Result<(), SinkFault>
     ensures { Puts K.holds K.faults K.wants sink.old sink.new result (line (codes "CHAN" ∷ at_level chan level ∷ [])) }
 {
     put_all(sink, b"CHAN ")?;

@@ -6,9 +6,8 @@ ghost use Rattle.lx_io.specs.Puts.{Puts};
 ghost use Rattle.lx_spec.specs.ShowText.{line, patch_text, show_text};
 
 use crate::cue::put_cues;
-use crate::record::{put_at_level, put_groups, put_subs};
+use crate::record::{put_at_level, put_between, put_groups, put_subs};
 use lx_io::{Sink, SinkFault, put_all};
-use lx_lex::put_whole;
 use lx_show::{PatchRow, Show};
 
 /// Appends the canonical text of a show, in the form of the ASCII text representation 3.0: the channel count, the
@@ -30,9 +29,7 @@ fn put_head<K: Sink>(channels: u32, sink: &mut K) -> Result<(), SinkFault>
     ensures { Puts K.holds K.faults K.wants sink.old sink.new result
         (line (codes "IDENT" ∷ codes "3:0" ∷ []) ++ line (codes "SET" ∷ codes "CHANNELS" ∷ decimal channels ∷ [])) }
 {
-    put_all(sink, b"IDENT 3:0\nSET CHANNELS ")?;
-    put_whole(channels, sink)?;
-    put_all(sink, b"\n")
+    put_between(b"IDENT 3:0\nSET CHANNELS ", channels, b"\n", sink)
 }
 
 /// Appends a line for each patch row.
@@ -49,9 +46,7 @@ fn put_patch<K: Sink>(rows: &[PatchRow], sink: &mut K) -> Result<(), SinkFault>
 fn put_patch_row<K: Sink>(row: &PatchRow, sink: &mut K) -> Result<(), SinkFault>
     ensures { Puts K.holds K.faults K.wants sink.old sink.new result (patch_text row.now) }
 {
-    put_all(sink, b"PATCH 1 ")?;
-    put_whole(row.chan.get(), sink)?;
-    put_all(sink, b"<")?;
+    put_between(b"PATCH 1 ", row.chan.get(), b"<", sink)?;
     put_at_level(row.dimmer.get(), row.level, sink)?;
     put_all(sink, b"\n")
 }
