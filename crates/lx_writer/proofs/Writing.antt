@@ -1,0 +1,18 @@
+-- Texts with a piece for each element that passes a test.
+use Rattle.std.proofs.Common.{◌≡◌, ℕ, ◌+◌, ◌<◌, Bool, true, List, [], ◌∷◌, ◌++◌, length, get_or, take, drop, take-append-drop, sym, ap, ◌∙◌, append_assoc, cond}
+use Rattle.std.specs.Prelude.{filter, flat_map}
+use Rattle.std.proofs.lemmas.Grind.{flat_map-append}
+use Rattle.std.proofs.lemmas.List.Elements.{filter-append}
+use Rattle.lx_io.proofs.Chain.{drop_here}
+
+-- the pieces before an element that passes, its own, and those after it
+pub kept_around : {A : Type 0} (p : A → Bool) (f : A → List ℕ) (xs : List A) (i : ℕ) (x : A) → i < length xs → x ≡ get_or xs i x → p x ≡ true
+    → flat_map f (filter p xs) ≡ (flat_map f (filter p (take i xs)) ++ f x) ++ flat_map f (filter p (drop (i + 1) xs))
+kept_around {A} p f xs i x within is passes =
+    let rest : List A = drop (i + 1) xs in
+    let here : drop i xs ≡ x ∷ rest = (drop_here xs i x within).1 ∙ ap (λ (y : A). y ∷ rest) (sym is) in
+    let kept : filter p (x ∷ rest) ≡ x ∷ filter p rest = ap (λ (b : Bool). cond b (x ∷ filter p rest) (filter p rest)) passes in
+    ap (λ (ys : List A). flat_map f (filter p ys)) (sym (take-append-drop i xs))
+    ∙ ap (flat_map f) (filter-append p (take i xs) (drop i xs) ∙ ap (λ (ys : List A). filter p (take i xs) ++ ys) (ap (filter p) here ∙ kept))
+    ∙ flat_map-append f (filter p (take i xs)) (x ∷ filter p rest)
+    ∙ sym (append_assoc (flat_map f (filter p (take i xs))) (f x) (flat_map f (filter p rest)))
