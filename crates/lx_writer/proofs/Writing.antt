@@ -1,8 +1,9 @@
--- Texts with a piece for each element that passes a test.
-use Rattle.std.proofs.Common.{◌≡◌, ℕ, ◌+◌, ◌<◌, Bool, true, List, [], ◌∷◌, ◌++◌, length, get_or, take, drop, take-append-drop, sym, ap, ◌∙◌, append_assoc, cond}
+-- Texts with a piece for each element, or for each that passes a test.
+use Rattle.std.proofs.Common.{◌≡◌, ℕ, ◌+◌, ◌<◌, Bool, true, List, [], ◌∷◌, ◌++◌, length, get_or, take, drop, take-append-drop, sym, ap, ◌∙◌, append_assoc, append-nil, cond}
 use Rattle.std.specs.Prelude.{filter, flat_map}
 use Rattle.std.proofs.lemmas.Grind.{flat_map-append}
 use Rattle.std.proofs.lemmas.List.Elements.{filter-append}
+use Rattle.std.proofs.lemmas.List.{take_more}
 use Rattle.lx_io.proofs.Chain.{drop_here}
 
 -- the pieces before an element that passes, its own, and those after it
@@ -16,3 +17,12 @@ kept_around {A} p f xs i x within is passes =
     ∙ ap (flat_map f) (filter-append p (take i xs) (drop i xs) ∙ ap (λ (ys : List A). filter p (take i xs) ++ ys) (ap (filter p) here ∙ kept))
     ∙ flat_map-append f (filter p (take i xs)) (x ∷ filter p rest)
     ∙ sym (append_assoc (flat_map f (filter p (take i xs))) (f x) (flat_map f (filter p rest)))
+
+-- one piece more, and the pieces around it
+pub pieces_more : {A : Type 0} (f : A → List ℕ) (xs : List A) (i : ℕ) (x : A) → i < length xs → x ≡ get_or xs i x → flat_map f (take i xs) ++ f x ≡ flat_map f (take (i + 1) xs)
+pieces_more {A} f xs i x within is =
+    sym (ap (flat_map f) (take_more xs i x within ∙ ap (λ (y : A). take i xs ++ y ∷ []) (sym is)) ∙ flat_map-append f (take i xs) (x ∷ []) ∙ ap (λ text. flat_map f (take i xs) ++ text) (append-nil (f x)))
+
+pub pieces_around : {A : Type 0} (f : A → List ℕ) (xs : List A) (i : ℕ) (x : A) → i < length xs → x ≡ get_or xs i x → flat_map f xs ≡ (flat_map f (take i xs) ++ f x) ++ flat_map f (drop (i + 1) xs)
+pieces_around f xs i x within is =
+    ap (flat_map f) (sym (take-append-drop (i + 1) xs)) ∙ flat_map-append f (take (i + 1) xs) (drop (i + 1) xs) ∙ ap (λ text. text ++ flat_map f (drop (i + 1) xs)) (sym (pieces_more f xs i x within is))
