@@ -1,0 +1,11 @@
+//! The canonical text of a show.
+#![tactic(auto)]
+
+mod cue;
+mod part;
+mod record;
+mod show;
+#[cfg(test)]
+mod tests;
+
+pub use show::write_show;

@@ -1,0 +1,74 @@
+//! The parts of a cue, each with its times and the moves in it.
+#![tactic(auto, using(lx_io::proofs::Chain::puts))]
+
+ghost use Rattle.std.specs.Prelude.{◌≡◌, ◌==◌, [], ◌++◌, ◌∷◌, codes, decimal, filter, flat_map};
+ghost use Rattle.lx_io.specs.Puts.{Puts};
+ghost use Rattle.lx_spec.specs.Numerals.{time_text};
+ghost use Rattle.lx_spec.specs.ShowText.{line, move_text, part_text};
+
+use crate::record::{put_between, put_channel};
+use lx_base::{Cs, PartNo};
+use lx_io::{Sink, SinkFault, put_all};
+use lx_lex::put_hundredths;
+use lx_show::{Move, Part};
+
+/// Appends the parts of a cue that has these moves.
+pub(crate) fn put_parts<K: Sink>(
+    moves: &[Move],
+    parts: &[Part],
+    sink: &mut K,
+) -> Result<(), SinkFault>
+    ensures { Puts K.holds K.faults K.wants sink.old sink.new result (flat_map (part_text moves.now) parts.now) }
+{
+    for part in parts {
+        put_part(moves, part, sink)?;
+    }
+    Ok(())
+}
+
+/// Appends a part: its number, its times, and those of the moves that stand in it.
+fn put_part<K: Sink>(moves: &[Move], part: &Part, sink: &mut K) -> Result<(), SinkFault>
+    ensures { Puts K.holds K.faults K.wants sink.old sink.new result (part_text moves.now part.now) }
+{
+    put_number(part.number, sink)?;
+    put_time(b"UP ", part.up, part.up_delay, sink)?;
+    put_time(b"DOWN ", part.down, part.down_delay, sink)?;
+    put_moves(moves, part.number, sink)
+}
+
+/// Appends the line of a part's number.
+fn put_number<K: Sink>(number: PartNo, sink: &mut K) -> Result<(), SinkFault>
+    ensures { Puts K.holds K.faults K.wants sink.old sink.new result (line (codes "PART" ∷ decimal number ∷ [])) }
+{
+    put_between(b"PART ", number.get(), b"\n", sink)
+}
+
+/// Appends the line of a time and a delay: `start` is its word and a space.
+fn put_time<K: Sink>(start: &[u8], time: Cs, delay: Cs, sink: &mut K) -> Result<(), SinkFault>
+    ensures { Puts K.holds K.faults K.wants sink.old sink.new result ((start.now ++ (time_text time ++ 32 ∷ time_text delay)) ++ 10 ∷ []) }
+{
+    put_all(sink, start)?;
+    put_hundredths(time, sink)?;
+    put_all(sink, b" ")?;
+    put_hundredths(delay, sink)?;
+    put_all(sink, b"\n")
+}
+
+/// Appends a line for each move that stands in the part.
+fn put_moves<K: Sink>(moves: &[Move], part: PartNo, sink: &mut K) -> Result<(), SinkFault>
+    ensures { Puts K.holds K.faults K.wants sink.old sink.new result (flat_map move_text (filter (λ entry. entry.part == part) moves.now)) }
+{
+    for entry in moves {
+        if stands_in(entry, part) {
+            put_channel(entry.chan, entry.level, sink)?;
+        }
+    }
+    Ok(())
+}
+
+/// The move stands in the part.
+fn stands_in(entry: &Move, part: PartNo) -> bool
+    ensures { result ≡ (entry.now.part == part) }
+{
+    entry.part.get() == part.get()
+}
