@@ -1,0 +1,1 @@
+//! Dimmers at both ends of each universe.
