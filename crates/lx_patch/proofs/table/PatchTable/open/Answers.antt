@@ -1,9 +1,9 @@
-use Rattle.std.proofs.Common.{◌≡◌, ◌-◌, ◌+◌, ◌∷◌, [], ℕ, List, length, drop, get_or, replicate, subst, sym, ap, arith, add-one, drop-cons}
-use Rattle.std.proofs.lemmas.List.{drop-length}
+use Rattle.std.proofs.Common.{◌≡◌, List, drop, replicate, subst, sym, arith}
+use Rattle.std.proofs.Math.Seq.{drop-length}
 use Rattle.lx_base.specs.declared.TheConstants.{SLOTS}
 use Rattle.lx_spec.specs.declared.PatchRow.{PatchRow}
-use Rattle.lx_patch.specs.Patched.{Patching, StandsForPatch}
-use Rattle.lx_patch.proofs.Rows.{stands_for_none, stands_first}
+use Rattle.lx_patch.specs.Patched.{StandsForPatch}
+use Rattle.lx_patch.proofs.Rows.{stands_for_none, stands_first, drop_before}
 use Rattle.lx_patch.proofs.table.PatchTable.open.Goals as goal
 
 pub loop-i-init : goal.loop-i-init
@@ -15,8 +15,7 @@ loop-i-init c =
 pub loop-i-preserved : goal.loop-i-preserved
 loop-i-preserved c =
     let rows = c.patch-rows.result.now in
-    let at : c.loop-i.i - 1 + 1 ≡ c.loop-i.i = omega arith in
-    let here : drop (c.loop-i.i - 1) rows ≡ c.index-rows-i.result ∷ drop c.loop-i.i rows = ? in
+    let here = drop_before rows c.loop-i.i c.index-rows-i.result c.loop-i-test.true c.loop-i.auto.i c.index-rows-i.is in
     subst (λ (xs : List PatchRow). StandsForPatch xs c.set.new.self) (sym here) (stands_first c.index-rows-i.result (drop c.loop-i.i rows) c.set.new.self (c.set.ensures (drop c.loop-i.i rows) c.loop-i.invariant))
 
 pub returns : goal.returns
