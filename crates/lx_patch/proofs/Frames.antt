@@ -1,5 +1,5 @@
 -- A table that stands for a show's patch reaches no further than the show's channels, and its slots are the values of the dimmers.
-use Rattle.std.specs.Prelude.{◌≡◌, ◌⊎◌, ℕ, ◌+◌, ◌-◌, ◌<◌, true, false, cond, ◌==◌, List, [], ◌∷◌, refl, Some}
+use Rattle.std.specs.Prelude.{◌≡◌, ◌⊎◌, ℕ, ◌+◌, ◌-◌, ◌<◌, ◌≤◌, true, false, cond, ◌==◌, List, [], ◌∷◌, refl, Some}
 use Rattle.std.specs.List.{AllByRecursion}
 use Rattle.std.specs.Option.{option_map_or}
 use Rattle.std.proofs.Common.{arith, get_or, ◌∙◌, ap, inl, inr}
@@ -22,13 +22,13 @@ place_within n e (row ∷ rows) all =
       | false ↦ place_within n e rows all.1
     ]
 
--- an output for each channel is one for each that is patched
-pub reaches : (show : Show) (table : Patching) (n : ℕ) → Valid show → show.channels ≡ n → StandsForPatch show.patch table → Reaches n table
-reaches show table n valid is stands = λ k within.
+-- outputs for all channels have one for each that is patched
+pub reaches : (show : Show) (table : Patching) (n : ℕ) → Valid show → show.channels ≤ n → StandsForPatch show.patch table → Reaches n table
+reaches show table n valid enough stands = λ k within.
     let place = stands.places.each k within in
     let level = stands.levels.each k within in
     elim (place_within show.channels (k + 1) show.patch valid.patch) [
-      | inl low ↦ inl (omega (arith, place, low, is))
+      | inl low ↦ inl (omega (arith, place, low, enough))
       | inr none ↦ inr (place ∙ none.0, level ∙ none.1)
     ]
 
