@@ -28,38 +28,37 @@ impl Rig {
     fn patch(&mut self, dimmer: u32, chan: u32, level: Level) -> Result<(), Fail> {
         let dimmer = Dimmer::new(dimmer).ok_or("no such dimmer")?;
         let chan = Chan::new(chan).ok_or("no such channel")?;
-        let row = PatchRow {
-            dimmer,
-            chan,
-            level,
-        };
         if chan.get() > self.show.channels() {
             return Err(Fail::from("no such channel in the show"));
         }
-        self.show.put_patch(row);
-        self.table.set(row);
+        self.show.put_patch(PatchRow {
+            dimmer,
+            chan,
+            level,
+        });
+        self.table.set(PatchRow {
+            dimmer,
+            chan,
+            level,
+        });
         Ok(())
     }
 
     /// The dimmer follows nothing.
     fn unpatch(&mut self, dimmer: u32) -> Result<(), Fail> {
         let dimmer = Dimmer::new(dimmer).ok_or("no such dimmer")?;
-        self.show.take_patch(dimmer).ok_or("nothing to take out")?;
+        let _ = self.show.take_patch(dimmer);
         self.table.clear(dimmer);
         Ok(())
     }
 
-    /// The slots of all dimmers where channel 1 puts out 200, channel 2 puts out 255 and the last one 51.
-    fn frame(&self, alloc: Global) -> Result<Vec<Level>, Fail> {
-        let mut outs = [0; 2_048];
-        outs[0] = 200;
-        outs[1] = 255;
-        outs[2_047] = 51;
-        let mut slots = vec![in alloc; 7; SLOTS]?;
+    /// The slots of all dimmers, where the channels put these levels out. They are at 7 before.
+    fn frame(&self, alloc: Global, outs: &[Level]) -> Result<Vec<Level>, Fail> {
         if self.show.channels() as usize > outs.len() {
-            return Err(Fail::from("too many channels"));
+            return Err(Fail::from("too few outputs"));
         }
-        self.table.frame_into(&outs, &mut slots);
+        let mut slots = vec![in alloc; 7; SLOTS]?;
+        self.table.frame_into(outs, &mut slots);
         Ok(slots)
     }
 
@@ -73,6 +72,20 @@ impl Rig {
     }
 }
 
+/// Channel 1 puts out 200, channel 2 puts out 255 and the last one 51.
+fn outputs(alloc: Global) -> Result<Vec<Level>, Fail> {
+    let mut outs = vec![in alloc; 0; CHANNELS as usize]?;
+    for (place, level) in outs.iter_mut().enumerate() {
+        *level = match place {
+            0 => 200,
+            1 => 255,
+            2_047 => 51,
+            _ => 0,
+        };
+    }
+    Ok(outs)
+}
+
 /// The slot at a place of a universe where the first and the last dimmer are patched.
 fn end_slot(place: usize) -> Level {
     match place % 512 {
@@ -84,26 +97,28 @@ fn end_slot(place: usize) -> Level {
 
 #[test]
 fn both_ends_of_each_universe(rt: HostRuntime) -> Result<(), Fail> {
+    let outs = outputs(rt.alloc())?;
     let mut rig = Rig::new(rt.alloc())?;
-    assert!(rt; rig.frame(rt.alloc())?.iter().all(|slot| *slot == 0));
+    assert!(rt; rig.frame(rt.alloc(), &outs)?.iter().all(|slot| *slot == 0));
     rig.patch_ends()?;
-    let slots = rig.frame(rt.alloc())?;
+    let slots = rig.frame(rt.alloc(), &outs)?;
     for (place, slot) in slots.iter().enumerate() {
         assert_eq!(rt; *slot, end_slot(place), "at {place}");
     }
     let opened = PatchTable::open(rt.alloc(), &rig.show)?;
     rig.table = opened;
-    assert!(rt; rig.frame(rt.alloc())?.as_slice() == slots.as_slice());
+    assert!(rt; rig.frame(rt.alloc(), &outs)?.as_slice() == slots.as_slice());
     Ok(())
 }
 
 #[test]
 fn a_dimmer_taken_out_goes_dark(rt: HostRuntime) -> Result<(), Fail> {
+    let outs = outputs(rt.alloc())?;
     let mut rig = Rig::new(rt.alloc())?;
     rig.patch_ends()?;
     rig.unpatch(513)?;
     rig.unpatch(8_192)?;
-    let slots = rig.frame(rt.alloc())?;
+    let slots = rig.frame(rt.alloc(), &outs)?;
     assert_eq!(rt; slots.get(0).copied(), Some(200));
     assert_eq!(rt; slots.get(511).copied(), Some(128));
     assert_eq!(rt; slots.get(512).copied(), Some(0));
@@ -115,12 +130,13 @@ fn a_dimmer_taken_out_goes_dark(rt: HostRuntime) -> Result<(), Fail> {
 
 #[test]
 fn a_dimmer_follows_its_last_row(rt: HostRuntime) -> Result<(), Fail> {
+    let outs = outputs(rt.alloc())?;
     let mut rig = Rig::new(rt.alloc())?;
     rig.patch(513, 1, 255)?;
     rig.patch(513, 2_048, 128)?;
     rig.patch(514, 2_048, 255)?;
     rig.patch(515, 2, 0)?;
-    let slots = rig.frame(rt.alloc())?;
+    let slots = rig.frame(rt.alloc(), &outs)?;
     assert_eq!(rt; slots.get(0).copied(), Some(0));
     assert_eq!(rt; slots.get(512).copied(), Some(25));
     assert_eq!(rt; slots.get(513).copied(), Some(51));
