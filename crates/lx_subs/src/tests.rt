@@ -27,7 +27,9 @@ fn show_of_two(alloc: Global) -> Result<Show, Fail> {
 }
 
 /// The show gets a submaster of two channels with their levels.
-fn add(alloc: Global, show: &mut Show, sub: u32, members: [(u32, Level); 2]) -> Result<(), Fail> {
+fn add(alloc: Global, show: &mut Show, sub: u32, members: [(u32, Level); 2]) -> Result<(), Fail>
+    ensures { show.new.channels ≡ show.old.channels }
+{
     let number = SubNo::new(sub).ok_or("no such submaster")?;
     show.put_sub(Sub::new(alloc, number));
     for (chan, level) in members {
@@ -93,16 +95,18 @@ fn two_faders_cross(rt: HostRuntime) -> Result<(), Fail> {
 /// Faders stay where they are as the show changes, also that of a submaster that isn't there yet.
 #[test]
 fn a_changed_submaster_keeps_its_fader(rt: HostRuntime) -> Result<(), Fail> {
-    let mut rig = Rig::new(rt.alloc())?;
+    let mut show = show_of_two(rt.alloc())?;
+    let mut rack = SubRack::open(rt.alloc(), &show)?;
     let one = SubNo::new(1).ok_or("no submaster 1")?;
     let five = SubNo::new(5).ok_or("no submaster 5")?;
-    assert!(rt; rig.given(5, 128)? == [0, 0, 0, 0]);
-    assert!(rt; rig.given(1, 255)? == [0, 255, 0, 100]);
-    put(&mut rig.show, one, 4, 10)?;
-    add(rt.alloc(), &mut rig.show, 5, [(1, 255), (3, 2)])?;
-    rig.rack.changed(&rig.show);
-    assert!(rt; four(rig.rack.contribution())? == [128, 255, 1, 10]);
-    assert_eq!(rt; rig.rack.fader(one), 255);
-    assert_eq!(rt; rig.rack.fader(five), 128);
+    rack.set_fader(&show, five, 128);
+    rack.set_fader(&show, one, 255);
+    assert!(rt; four(rack.contribution())? == [0, 255, 0, 100]);
+    put(&mut show, one, 4, 10)?;
+    add(rt.alloc(), &mut show, 5, [(1, 255), (3, 2)])?;
+    rack.changed(&show);
+    assert!(rt; four(rack.contribution())? == [128, 255, 1, 10]);
+    assert_eq!(rt; rack.fader(one), 255);
+    assert_eq!(rt; rack.fader(five), 128);
     Ok(())
 }
