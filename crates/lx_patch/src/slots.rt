@@ -16,12 +16,3 @@ pub(crate) fn fill(places: &[u16], levels: &[Level], outs: &[Level], slots: &mut
         *slot = scale(outs[places[i] as usize], levels[i]);
     }
 }
-
-/// Makes each slot 0.
-pub(crate) fn black_out(slots: &mut [Level])
-    ensures { EachIndex slots.new (λ k. slice_index slots.new k ≡ 0) }
-{
-    for slot in slots.iter_mut() {
-        *slot = 0;
-    }
-}

@@ -7,7 +7,7 @@ ghost use Rattle.lx_spec.specs.Listing.{placed, taken_out};
 ghost use Rattle.lx_mixer.specs.Table.{IsTable};
 ghost use Rattle.lx_patch.specs.Patched.{StandsForPatch, Reaches, slot_of};
 
-use crate::slots::{black_out, fill};
+use crate::slots::fill;
 use lx_base::{Dimmer, Level, SLOTS};
 use lx_show::{PatchRow, Show};
 use std::alloc::{AllocError, Global};
@@ -45,11 +45,20 @@ impl PatchTable {
             places: vec![in alloc; 0; SLOTS]?,
             levels: vec![in alloc; 0; SLOTS]?,
         };
+        table.changed(show);
+        Ok(table)
+    }
+
+    /// The patch is now the show's.
+    pub fn changed(&mut self, show: &Show)
+        ensures { StandsForPatch show.now.patch self.new }
+    {
+        self.places.fill(0);
+        self.levels.fill(0);
         let rows = show.patch();
         for i in (0..rows.len()).rev() {
-            table.set(rows[i]);
+            self.set(rows[i]);
         }
-        Ok(table)
     }
 
     /// Patches the row's dimmer, in place of what it followed before.
@@ -79,7 +88,7 @@ impl PatchTable {
         ensures { (rows : List Row) → StandsForPatch rows self.now → IsTable SLOTS (slot_of rows (λ c. slice_index out_levels.now (c - 1))) slots.new }
     {
         if out_levels.is_empty() {
-            black_out(slots);
+            slots.fill(0);
         } else {
             fill(&self.places, &self.levels, out_levels, slots);
         }

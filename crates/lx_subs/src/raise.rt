@@ -20,7 +20,7 @@ pub(crate) fn fill(show: &Show, faders: &[Level], given: &mut [Level])
     ensures { IsTable show.now.channels (contribution show.now faders.now) given.new }
 {
     let subs = show.subs();
-    black_out(given);
+    given.fill(0);
     for sub in subs {
         let fader = faders[sub.number.get() as usize - 1];
         raise(sub.members.as_slice(), fader, given);
@@ -36,14 +36,5 @@ fn raise(members: &[Member], fader: Level, given: &mut [Level])
     for member in members {
         let at = member.chan.get() as usize - 1;
         given[at] = given[at].max(scale(member.level, fader));
-    }
-}
-
-/// Makes each level 0.
-fn black_out(given: &mut [Level])
-    ensures { EachIndex given.new (λ k. slice_index given.new k ≡ 0) }
-{
-    for level in given.iter_mut() {
-        *level = 0;
     }
 }
