@@ -15,12 +15,11 @@ use Rattle.lx_console.specs.Filled.{Reaches, IsFilled}
 pub written : (n : ℕ) (xs ys : List ℕ) → length xs ≡ n → take n (xs ++ drop (length xs) ys) ≡ xs
 written n xs ys is = grind (arith, common_steps)
 
-pub filled : (k : Kept) (before after : Stage) → length k.faders ≡ SUBS → Reaches k.show.channels after → IsTable k.show.channels (level_now k) before.levels.items → IsTable k.show.channels (contribution k.show k.faders) before.given.items → after.levels.items ≡ before.levels.items → after.given.items ≡ before.given.items
+pub filled : (k : Kept) (before after : Stage) → Reaches k.show.channels after → IsTable k.show.channels (level_now k) before.levels.items → IsTable k.show.channels (contribution k.show k.faders) before.given.items → after.levels.items ≡ before.levels.items → after.given.items ≡ before.given.items
     → ((level given : ℕ → ℕ) → IsTable k.show.channels level before.levels.items → IsTable k.show.channels given before.given.items → IsTable k.show.channels (λ c. scaled (max (level c) (given c)) k.master) after.outs.items)
     → ((level given : ℕ → ℕ) → IsTable k.show.channels level before.levels.items → IsTable k.show.channels given before.given.items → IsTable SLOTS (dimmer_value k.show (λ c. scaled (max (level c) (given c)) k.master)) after.slots.items)
     → IsFilled k after
-filled k before after faders reaches of_levels of_given same_levels same_given outs slots = record {
-  faders = faders;
+filled k before after reaches of_levels of_given same_levels same_given outs slots = record {
   reaches = reaches;
   levels_stand = subst (IsTable k.show.channels (level_now k)) (sym same_levels) of_levels;
   given_stand = subst (IsTable k.show.channels (contribution k.show k.faders)) (sym same_given) of_given;

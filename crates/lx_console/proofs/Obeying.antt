@@ -1,8 +1,9 @@
 -- A console that stands for a desk obeys as the desk steps.
-use Rattle.std.specs.Prelude.{◌≡◌, ℕ, ◌-◌, List, [], ◌∷◌, ◌++◌, Bool, true, false, cond, Result, Ok, Err, slice_set, IsOkAnd, IfOk, OnOk, OnErr, IfErr, IsTrue, IsFalse}
+use Rattle.std.specs.Prelude.{◌≡◌, ℕ, ◌-◌, List, [], ◌∷◌, ◌++◌, refl, Bool, true, false, cond, Result, Ok, Err, IsOk, slice_set, IsOkAnd, IfOk, OnOk, OnErr, IfErr, IsTrue, IsFalse}
 use Rattle.std.specs.Result.{result_unwrap_or}
-use Rattle.std.proofs.Common.{ap, sym, subst, ◌∙◌, inl}
+use Rattle.std.proofs.Common.{ap, sym, subst, ◌∙◌, inl, inr}
 use Rattle.std.proofs.lemmas.List.Sums.{fold-append}
+use Rattle.lx_spec.specs.declared.Edit.{Edit}
 use Rattle.lx_spec.specs.declared.PlayKey.{PlayKey}
 use Rattle.lx_spec.specs.declared.Key.TheVariants.{Play, Fader, Master}
 use Rattle.lx_spec.specs.declared.Command.{Command}
@@ -12,11 +13,13 @@ use Rattle.lx_spec.specs.declared.Refusal.TheVariants.{AbsentSub}
 use Rattle.lx_spec.specs.Refusing.{◌>>=◌}
 use Rattle.lx_spec.specs.Listing.{has_entry}
 use Rattle.lx_spec.specs.Playback.{Played, press, tick}
+use Rattle.lx_spec.specs.Edited.{edited}
 use Rattle.lx_spec.specs.Desk.{Desk, opened, step, after_play, after_command, replay}
 use Rattle.lx_spec.specs.Stands.{Kept, kept}
 use Rattle.lx_spec.specs.Laws.{KeepsRest}
 use Rattle.lx_spec.specs.Show.{Show}
 use Rattle.lx_spec.proofs.RestKept.{kept-step, kept-replay}
+use Rattle.lx_edit.specs.Planned.{IsRefusal}
 use Rattle.lx_console.specs.Standing.{StandsFor, Obeys, Answers, Refuses}
 
 -- a console that is all of a replayed desk but its list of runs stands for it
@@ -102,3 +105,37 @@ obeys_master d level before now stands state = record {
 pub answers : {A : Type 0} (d : Desk) (command : Command) (answer : Result A Refusal) (now : Kept) → Obeys d command answer now → Answers d command answer now
 answers d command (Ok x) now obeys = record { ok = obeys.ok; err = tt }
 answers d command (Err refusal) now obeys = record { ok = tt; err = inl obeys.err }
+
+-- the desk with another show
+pub stands_over : (d : Desk) (show : Show) (before : Kept) → StandsFor d before → StandsFor (record d { show = show }) (record before { show = show })
+stands_over d show before stands = record {
+  same = ap (λ (k : Kept). record k { show = show }) stands.same;
+  rest = record { from = stands.rest.from; front = stands.rest.front; all_is = stands.rest.all_is; base_is = stands.rest.base_is; still = stands.rest.still; later = stands.rest.later; begun = stands.rest.begun };
+}
+
+edited_ok : (d : Desk) (r : Result Show Refusal) (now : Kept) → IfOk (r >>= (λ show. Ok (record d { show = show }))) KeepsRest → IsOkAnd r (λ show. now ≡ record (kept d) { show = show }) → IsOkAnd (r >>= (λ show. Ok (record d { show = show }))) (λ next. StandsFor next now)
+edited_ok d (Ok show) now rest is = record { same = is; rest = rest }
+edited_ok d (Err refusal) now rest is = absurd is
+
+edited_err : (d : Desk) (edit : Edit) (refusal : Refusal) → IsRefusal d.show edit refusal → Refuses d (commands.Edit edit) refusal
+edited_err d edit refusal r = elim r as (λ s. Refuses d (commands.Edit edit) refusal) [
+  | inl own ↦ inl (ap (λ r. r >>= (λ show. Ok (record d { show = show }))) own)
+  | inr want ↦ inr (record { edit = refl; memory = want.0; accepted = accepted d (edited d.show edit) want.1 })
+] where
+  accepted : (d : Desk) (r : Result Show Refusal) → IsOk r → IsOk (r >>= (λ show. Ok (record d { show = show })))
+  accepted d (Ok show) ok = refl
+  accepted d (Err refusal) ok = absurd cc
+
+-- an edit
+pub answers_edit : {A : Type 0} (d : Desk) (edit : Edit) (answer : Result A Refusal) (before now : Kept) → StandsFor d before
+    → OnOk answer (IsOkAnd (edited before.show edit) (λ show. now ≡ record before { show = show }))
+    → IfErr answer (IsRefusal before.show edit)
+    → Answers d (commands.Edit edit) answer now
+answers_edit d edit (Ok x) before now stands ok err = record {
+  ok = edited_ok d (edited d.show edit) now (kept-step d (commands.Edit edit) stands.rest) (subst (λ (k : Kept). IsOkAnd (edited k.show edit) (λ show. now ≡ record k { show = show })) stands.same ok);
+  err = tt;
+}
+answers_edit d edit (Err refusal) before now stands ok err = record {
+  ok = tt;
+  err = edited_err d edit refusal (subst (λ (k : Kept). IsRefusal k.show edit refusal) stands.same err);
+}

@@ -7,34 +7,38 @@ ghost use Rattle.lx_spec.specs.Tracked.{tracked};
 ghost use Rattle.lx_spec.specs.Level.{level, run_over};
 ghost use Rattle.lx_spec.specs.Fades.{stack_at};
 ghost use Rattle.lx_fade.specs.Row.{stack_in};
+ghost use Rattle.lx_sheet.specs.Standing.{StandsFor};
 ghost use Rattle.lx_playback.specs.Valid.{ValidRun};
 
 use crate::runs::{acts, delay_of, entry_for, rises_to, time_of};
 use lx_base::{Chan, CueNo, Level, Moment, RUNS, TICK_END};
 use lx_fade::{Fade, push_fade, value};
 use lx_playback::Run;
+use lx_sheet::Sheet;
 use lx_show::Show;
 
 /// The level of the channel at the moment over the base and the live runs, the newest last. The fades
 /// of the runs that act on the channel are pushed onto the row, which is free before and after.
 pub(crate) fn level_of(
     show: &Show,
+    sheet: &Sheet,
     base: CueNo,
     live: &[Run],
     c: Chan,
     m: Moment,
     row: &mut [Fade],
 ) -> Level
+    requires rows { StandsFor show.now sheet.now }
     requires room { length live.now ≤ length row.old }
     requires moment { m ≤ TICK_END }
     requires runs { All (ValidRun m) live.now }
     ensures { result ≡ level show.now base (reverse live.now) c m }
 {
-    let bottom = show.tracked(base, c);
+    let bottom = sheet.level_at(base, c);
     let mut looks = bottom;
     let mut used = 0;
     for run in live {
-        let target = show.tracked(run.cue, c);
+        let target = sheet.level_at(run.cue, c);
         if acts(show, run, c, looks, target) {
             used = push_run(show, run, c, target, bottom, row, used);
         }

@@ -1,34 +1,47 @@
 //! The console: a desk's state, with the levels and slots that it gives.
 
-ghost use Rattle.std.specs.Prelude.{◌≡◌, ℕ, ◌-◌, ◌≤◌, OnOk, OnErr, IfOk, IfErr, IsOkAnd, IsTrue, IsFalse, slice_set};
+ghost use Rattle.std.specs.Prelude.{◌≡◌, ℕ, ◌-◌, ◌≤◌, OnOk, OnErr, IfOk, IfErr, IsOkAnd, IsTrue, IsFalse, option_map, slice_set};
+ghost use Rattle.std.specs.Option.{option_copied};
 ghost use Rattle.lx_base.specs.declared.TheConstants.{SLOTS, UNIVERSES};
 ghost use Rattle.lx_spec.specs.Listing.{has_entry};
 ghost use Rattle.lx_spec.specs.Level.{level};
 ghost use Rattle.lx_spec.specs.Playback.{position_of, press, tick};
+ghost use Rattle.lx_spec.specs.Tracked.{cue_of};
+ghost use Rattle.lx_spec.specs.Replies.{row_of};
+ghost use Rattle.lx_spec.specs.Edited.{edited};
+ghost use Rattle.lx_spec.specs.ValidEdit.{ValidEdit, ValidCommand};
 ghost use Rattle.lx_spec.specs.Output.{dimmer_value, fader, frame};
 ghost use Rattle.lx_spec.specs.Desk.{Desk, opened};
+ghost use Rattle.lx_edit.specs.Planned.{IsRefusal};
 ghost use Rattle.lx_console.specs.Table.{IsTable};
 ghost use Rattle.lx_console.specs.Slots.{universe};
-ghost use Rattle.lx_console.specs.Standing.{StandsFor, Obeys, Answers, level_now, out_now, is_edit};
+ghost use Rattle.lx_console.specs.Standing.{StandsFor, Obeys, Answers, level_now, out_now};
 
-use crate::stage::Stage;
+use crate::stage::{Stage, reaches_stage};
 use crate::ticks::tick_of;
 use lx_base::{CueNo, Level, Moment, SLOTS, SUBS, SubNo, UNIVERSES};
+use lx_edit::planning::plan;
 use lx_playback::Playback;
-use lx_show::{Command, Key, PlayKey, Refusal, Show};
+use lx_sheet::Sheet;
+use lx_show::{Command, Edit, Key, PlayKey, Refusal, Show};
 use std::alloc::{AllocError, Global};
 use std::marker::Model;
 
-/// A desk: a show in playback, the faders of its submasters and the master. The level of each channel
-/// and the slot of each dimmer at the present moment are kept, and lent as they are.
+/// A desk: a show in playback, the faders of its submasters and the master. The tracked row of each cue,
+/// and the level of each channel and the slot of each dimmer at the present moment, are kept, and lent as
+/// they are.
 ///
-/// A console stands for a desk that also has the list of all runs since its opening: keys and ticks are
-/// accepted, or refused, as that desk does, and the levels and slots are those over all its runs. How
-/// levels follow from runs is our own rule; that the greatest of playback and submasters goes out, under
-/// the master, is console practice.
+/// A console stands for a desk that also has the list of all runs since its opening: edits, keys and ticks
+/// are accepted, or refused, as that desk does, and the rows are those of its show, the levels and slots
+/// those over all its runs. How levels follow from runs is our own rule; that the greatest of playback and
+/// submasters goes out, under the master, is console practice.
 #[derive(Drop)]
 pub struct Console {
+    /// Where edits take their memory.
+    alloc: Global,
     show: Show,
+    /// The tracked row of each cue.
+    sheet: Sheet,
     playback: Playback,
     /// One for each submaster number.
     faders: Vec<Level>,
@@ -38,31 +51,32 @@ pub struct Console {
 
 impl Model for Console {
     ghost use Rattle.lx_spec.specs.Stands.{Kept};
-    ghost use Rattle.lx_console.specs.Filled.{IsFilled};
+    ghost use Rattle.lx_console.specs.Filled.{IsKept};
 
     ghost Value = { Kept };
 
     ghost view = { λ c. record { show = c.show; playback = c.playback; faders = c.faders.items; master = c.master } };
 
-    ghost invariant = { λ c. IsFilled (record { show = c.show; playback = c.playback; faders = c.faders.items; master = c.master }) c.stage };
+    ghost invariant = { λ c. IsKept (record { show = c.show; playback = c.playback; faders = c.faders.items; master = c.master }) c.sheet c.stage };
 }
 
 impl Console {
     /// A desk over the show, as at the opening: at moment 0 before the first cue, with every fader at 0
-    /// and the master at 255. It takes all the memory that keys and ticks need; where that is wanting
-    /// the show is lost.
+    /// and the master at 255. It takes all the memory that keys and ticks need, and the room for the rows;
+    /// where that is wanting the show is lost. Edits take theirs from the same allocator.
     pub fn open(alloc: Global, show: Show) -> Result<Console, AllocError>
         ensures { IfOk result (StandsFor (opened show)) }
     {
+        let sheet = Sheet::open(alloc, &show)?;
         let playback = Playback::open(alloc)?;
         let faders = vec![in alloc; 0; SUBS as usize]?;
         let master = 255;
         let mut stage = Stage::open(alloc, show.channels())?;
-        stage.fill_levels(&show, &playback);
-        stage.fill_contributions(&show, &faders);
-        stage.fill_outputs(&show, master);
+        stage.fill(&show, &sheet, &playback, &faders, master);
         Ok(Console {
+            alloc,
             show,
+            sheet,
             playback,
             faders,
             master,
@@ -106,6 +120,14 @@ impl Console {
         ensures { result ≡ fader self.now.faders sub }
     {
         self.faders[sub.get() as usize - 1]
+    }
+
+    /// The tracked row of the cue: the tracked level of channel c at place c - 1. `None` exactly where there
+    /// is no cue of the number.
+    pub fn tracked_row(&self, n: CueNo) -> Option<&[Level]>
+        ensures { option_copied result ≡ option_map (λ cue. row_of self.now.show n) (cue_of self.now.show n) }
+    {
+        self.sheet.row(n)
     }
 
     /// The level of each channel at the present moment, before submasters and master: that of channel c
@@ -159,21 +181,67 @@ impl Console {
         self.advance()
     }
 
-    /// A key or a tick, as by `press` and `tick`.
+    /// An edit of the show; or a key or a tick, as by `press` and `tick`.
+    ///
+    /// An edit is refused for what it names and the show lacks, or for a limit, and for want of memory only
+    /// where nothing else refuses it. Rows, levels and slots are then those of the edited show, also where
+    /// fades are under way. A refusal changes nothing.
     pub fn command(&mut self, command: &Command) -> Result<(), Refusal>
-        requires { IsFalse (is_edit command.now) }
+        requires { ValidCommand command.now }
         ensures answers { (d : Desk) → StandsFor d self.old → Answers d command.now result self.new }
         ensures unchanged { OnErr result (self.new ≡ self.old) }
     {
         match command {
-            Command::Edit(_) => unreachable!(),
+            Command::Edit(edit) => self.edit(edit),
             Command::Key(key) => self.press(*key),
             Command::Tick => self.tick(),
         }
     }
+
+    /// Exchanges the show for one of as many channels, and answers the one that was there. All else stays:
+    /// the runs go on over the cues of the show that is given. It takes no memory.
+    pub fn replace_show(&mut self, show: Show) -> Show
+        requires { show.channels ≡ self.old.show.channels }
+        ensures before { result ≡ self.old.show }
+        ensures now { self.new ≡ record self.old { show = show } }
+        ensures stands { (d : Desk) → StandsFor d self.old → StandsFor (record d { show = show }) self.new }
+    {
+        let before = std::mem::replace(&mut self.show, show);
+        self.sheet.refill(&self.show);
+        self.stage.fill(
+            &self.show,
+            &self.sheet,
+            &self.playback,
+            &self.faders,
+            self.master,
+        );
+        before
+    }
 }
 
 impl Console {
+    /// An edit, planned whole and applied whole.
+    fn edit(&mut self, edit: &Edit) -> Result<(), Refusal>
+        requires { ValidEdit edit.now }
+        ensures ok { OnOk result (IsOkAnd (edited self.old.show edit.now) (λ show. self.new ≡ record self.old { show = show })) }
+        ensures err { IfErr result (IsRefusal self.old.show edit.now) }
+        ensures unchanged { OnErr result (self.new ≡ self.old) }
+    {
+        let plan = plan(self.alloc, &self.show, edit)?;
+        let dirty = plan.apply(&mut self.show, &mut self.sheet);
+        if reaches_stage(&dirty) {
+            self.stage.mend(
+                &self.show,
+                &self.sheet,
+                &self.playback,
+                &self.faders,
+                self.master,
+                &dirty,
+            );
+        }
+        Ok(())
+    }
+
     /// A tick of the playback.
     fn advance(&mut self) -> Result<(), Refusal>
         ensures ok { OnOk result (IsOkAnd (tick self.old.show self.old.playback) (λ played. self.new ≡ record self.old { playback = played.playback })) }
@@ -181,7 +249,8 @@ impl Console {
         ensures unchanged { OnErr result (self.new ≡ self.old) }
     {
         if tick_of(&mut self.playback, &self.show)? {
-            self.stage.fill_levels(&self.show, &self.playback);
+            self.stage
+                .fill_levels(&self.show, &self.sheet, &self.playback);
             self.stage.fill_outputs(&self.show, self.master);
         }
         Ok(())
@@ -194,7 +263,8 @@ impl Console {
         ensures unchanged { OnErr result (self.new ≡ self.old) }
     {
         self.playback.press(&self.show, key)?;
-        self.stage.fill_levels(&self.show, &self.playback);
+        self.stage
+            .fill_levels(&self.show, &self.sheet, &self.playback);
         self.stage.fill_outputs(&self.show, self.master);
         Ok(())
     }

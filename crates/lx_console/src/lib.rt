@@ -16,4 +16,6 @@ mod ticks;
 pub use console::Console;
 
 #[cfg(test)]
+mod edit_tests;
+#[cfg(test)]
 mod tests;

@@ -1,8 +1,13 @@
 use Rattle.std.proofs.Common.{subst, sym}
 use Rattle.lx_spec.specs.declared.Command.{Command}
 use Rattle.lx_console.specs.Standing.{Answers}
-use Rattle.lx_console.proofs.Obeying.{answers}
+use Rattle.lx_console.proofs.Obeying.{answers, answers_edit}
 use Rattle.lx_console.proofs.console.Console.command.Goals as goal
+
+pub returns-in-Edit-clause-answers : goal.returns-in-Edit-clause-answers
+returns-in-Edit-clause-answers c = λ d stands.
+    subst (λ (command : Command). Answers d command c.edit.result c.edit.new.self) (sym c.in-Edit.is)
+    (answers_edit d _ c.edit.result c.args.self.now c.edit.new.self stands c.edit.ensures.ok c.edit.ensures.err)
 
 pub returns-in-Key-clause-answers : goal.returns-in-Key-clause-answers
 returns-in-Key-clause-answers c = λ d stands. subst (λ (command : Command). Answers d command c.press.result c.press.new.self) (sym c.in-Key.is) (answers d _ c.press.result _ (c.press.ensures.obeys d stands))

@@ -10,4 +10,4 @@ use Rattle.lx_console.proofs.console.Console.frames.Goals as goal
 pub returns-clause-frames : goal.returns-clause-frames
 returns-clause-frames c = λ d u stands. frame_of_all d c.args.self.now c.as_slice.result.now u stands
     (subst (λ (slots : List ℕ). IsTable SLOTS (dimmer_value c.args.self.now.show (out_now c.args.self.now)) slots) (sym c.as_slice.ensures.value)
-    (subst (λ (k : Kept). IsTable SLOTS (dimmer_value k.show (out_now k)) c.self.inside.stage.slots.items) c.self.view_is c.self.invariant.slots_stand))
+    (subst (λ (k : Kept). IsTable SLOTS (dimmer_value k.show (out_now k)) c.self.inside.stage.slots.items) c.self.view_is c.self.invariant.filled.slots_stand))
