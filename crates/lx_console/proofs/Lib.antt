@@ -1,5 +1,4 @@
 pub mod Entries
-pub mod Outputs
 pub mod Filling
 pub mod Touched
 pub mod AllRuns

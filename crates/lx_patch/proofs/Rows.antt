@@ -45,11 +45,11 @@ and_known false true known = known refl
 and_known false false known = refl
 
 -- what is taken out isn't found
-gone : (n : ℕ) (rows : List PatchRow) → entry_at (λ x. x.dimmer) n (taken_out (λ x. x.dimmer) n rows) ≡ None
+pub gone : (n : ℕ) (rows : List PatchRow) → entry_at (λ x. x.dimmer) n (taken_out (λ x. x.dimmer) n rows) ≡ None
 gone n rows = find_none _ _ (each _ _ _ (λ row h. number_apart row.dimmer n h) (passes (λ row. not (row.dimmer == n)) rows))
 
 -- the others are found as before
-others_stay : (n m : ℕ) (rows : List PatchRow) → (m ≡ n → ⊥) → entry_at (λ x. x.dimmer) m (taken_out (λ x. x.dimmer) n rows) ≡ entry_at (λ x. x.dimmer) m rows
+pub others_stay : (n m : ℕ) (rows : List PatchRow) → (m ≡ n → ⊥) → entry_at (λ x. x.dimmer) m (taken_out (λ x. x.dimmer) n rows) ≡ entry_at (λ x. x.dimmer) m rows
 others_stay n m rows other =
     let same : (λ (row : PatchRow). not (row.dimmer == n) && (row.dimmer == m)) ≡ (λ row. row.dimmer == m) = λ i row. and_known (not (row.dimmer == n)) (row.dimmer == m) (apart_from row.dimmer n m other) i in
     find_both (λ row. not (row.dimmer == n)) (λ row. row.dimmer == m) rows ∙ ap (λ (t : PatchRow → Bool). find t rows) same
@@ -80,8 +80,12 @@ placed_first row rows e = elim (cases_order row.dimmer e) [
       rw (other_number row.dimmer e other) (entry_at-placed_other (λ x. x.dimmer) e row rows other)
 ]
 
-pub stands_first : (row : PatchRow) (rows : List PatchRow) (table : Patching) → StandsForPatch (placed (λ x. x.dimmer) row rows) table → StandsForPatch (row ∷ rows) table
-stands_first row rows table stands = record {
-  places = table_of_same SLOTS _ _ table.places (λ e least most. ap (λ (o : Option PatchRow). option_map_or (λ r. r.chan - 1) o 0) (placed_first row rows e)) stands.places;
-  levels = table_of_same SLOTS _ _ table.levels (λ e least most. ap (λ (o : Option PatchRow). option_map_or (λ r. r.level) o 0) (placed_first row rows e)) stands.levels;
+-- a table stands for all rows that are found alike
+pub stands_alike : (one other : List PatchRow) (table : Patching) → ((e : ℕ) → entry_at (λ x. x.dimmer) e one ≡ entry_at (λ x. x.dimmer) e other) → StandsForPatch one table → StandsForPatch other table
+stands_alike one other table alike stands = record {
+  places = table_of_same SLOTS (place_of one) (place_of other) table.places (λ e least most. ap (λ (o : Option PatchRow). option_map_or (λ r. r.chan - 1) o 0) (alike e)) stands.places;
+  levels = table_of_same SLOTS (proportion_of one) (proportion_of other) table.levels (λ e least most. ap (λ (o : Option PatchRow). option_map_or (λ r. r.level) o 0) (alike e)) stands.levels;
 }
+
+pub stands_first : (row : PatchRow) (rows : List PatchRow) (table : Patching) → StandsForPatch (placed (λ x. x.dimmer) row rows) table → StandsForPatch (row ∷ rows) table
+stands_first row rows table stands = stands_alike (placed (λ x. x.dimmer) row rows) (row ∷ rows) table (placed_first row rows) stands
