@@ -1,5 +1,5 @@
 -- A console that stands for a desk obeys as the desk steps.
-use Rattle.std.specs.Prelude.{◌≡◌, ℕ, ◌-◌, List, [], ◌∷◌, ◌++◌, refl, Bool, true, false, cond, Result, Ok, Err, IsOk, slice_set, IsOkAnd, IfOk, OnOk, OnErr, IfErr, IsTrue, IsFalse}
+use Rattle.std.specs.Prelude.{◌≡◌, ℕ, ◌-◌, List, [], ◌∷◌, ◌++◌, refl, Bool, true, false, cond, Result, Ok, Err, IsOk, slice_set, IsOkAnd, IfOk, OnOk, OnErr, IfErr, MatchResult, IsTrue, IsFalse}
 use Rattle.std.specs.Result.{result_unwrap_or}
 use Rattle.std.proofs.Common.{ap, sym, subst, ◌∙◌, inl, inr}
 use Rattle.std.proofs.lemmas.List.Sums.{fold-append}
@@ -40,6 +40,12 @@ after_one d command (Err refusal) before now stands obeys same =
 pub stands_next : (show : Show) (done : List Command) (command : Command) (answer : Result (Unit {0}) Refusal) (before now : Kept) → StandsFor (replay show done) before → Obeys (replay show done) command answer now → OnErr answer (now ≡ before) → StandsFor (replay show (done ++ command ∷ [])) now
 stands_next show done command answer before now stands obeys same =
     subst (λ (d : Desk). StandsFor d now) (sym (fold-append after_command (opened show) done (command ∷ []))) (after_one (replay show done) command answer before now stands obeys same)
+
+-- a console that answers stands for the replay with the command, where that is accepted, and else for the one before
+pub stands_answered : (show : Show) (done : List Command) (command : Command) (answer : Result (Unit {0}) Refusal) (before now : Kept) → StandsFor (replay show done) before → Answers (replay show done) command answer now → OnErr answer (now ≡ before) → MatchResult answer (λ x. StandsFor (replay show (done ++ command ∷ [])) now) (λ refusal. StandsFor (replay show done) now)
+stands_answered show done command (Ok x) before now stands answers same =
+    subst (λ (d : Desk). StandsFor d now) (sym (fold-append after_command (opened show) done (command ∷ []))) (stands_after (replay show done) (step (replay show done) command) now answers.ok)
+stands_answered show done command (Err refusal) before now stands answers same = record { same = same ∙ stands.same; rest = stands.rest }
 
 played_ok : (d : Desk) (r : Result Played Refusal) (now : Kept) → IfOk (r >>= (λ played. Ok (after_play d played))) KeepsRest → IsOkAnd r (λ played. now ≡ record (kept d) { playback = played.playback }) → IsOkAnd (r >>= (λ played. Ok (after_play d played))) (λ next. StandsFor next now)
 played_ok d (Ok played) now rest is = record { same = is; rest = rest }
