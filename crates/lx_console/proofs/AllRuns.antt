@@ -13,7 +13,7 @@ use Rattle.lx_spec.specs.Desk.{Desk}
 use Rattle.lx_spec.specs.Stands.{Kept, kept}
 use Rattle.lx_spec.specs.Laws.{KeepsRest}
 use Rattle.lx_spec.proofs.Rest.{level-rest}
-use Rattle.lx_console.specs.Table.{IsTable}
+use Rattle.lx_mixer.specs.Table.{IsTable}
 use Rattle.lx_console.specs.Slots.{universe}
 use Rattle.lx_console.specs.Standing.{StandsFor, level_now, out_now}
 

@@ -1,20 +1,24 @@
 -- What an edit leaves of a stage as it was.
-use Rattle.std.specs.Prelude.{◌≡◌, ℕ, ◌+◌, ◌<◌, max, refl, true, false, Some, None, List}
+use Rattle.std.specs.Prelude.{◌≡◌, ◌≢◌, ℕ, ◌+◌, max, refl, Bool, false, Some, None, List, length}
 use Rattle.std.proofs.Common.{arith, ap, sym, subst, ◌∙◌}
 use Rattle.lx_base.specs.declared.TheConstants.{SLOTS}
 use Rattle.lx_base.specs.Numbers.{scaled}
 use Rattle.lx_spec.specs.declared.PatchRow.{PatchRow}
+use Rattle.lx_spec.specs.Listing.{entry_at}
 use Rattle.lx_spec.specs.Show.{Show, Sub}
 use Rattle.lx_spec.specs.Output.{contribution, dimmer_value}
 use Rattle.lx_spec.specs.Stands.{Kept}
 use Rattle.lx_spec.proofs.Columns.{level-columns}
+use Rattle.lx_show.proofs.Placed.{entry_at-placed_other}
 use Rattle.lx_edit.specs.declared.plans.Plan.{Plan}
 use Rattle.lx_edit.specs.declared.plans.Plan.TheVariants.{Nothing, PlaceCue, RemoveCue, PlaceGroup, PlaceSub, PlaceRow, RemoveRow}
 use Rattle.lx_edit.specs.declared.dirty.Dirty.{Dirty}
 use Rattle.lx_edit.specs.Changing.{KeepsOthers}
 use Rattle.lx_edit.specs.Planned.{planned, dimmer_planned, plans_sub}
 use Rattle.lx_console.specs.declared.stage.Stage.{Stage}
-use Rattle.lx_console.specs.Table.{IsTable}
+use Rattle.lx_mixer.specs.Table.{IsTable}
+use Rattle.lx_patch.specs.Patched.{StandsForPatch}
+use Rattle.lx_patch.proofs.Rows.{others_stay}
 use Rattle.lx_console.specs.Standing.{level_now, out_now}
 use Rattle.lx_console.specs.Filled.{Reaches, IsFilled, IsFilledBut, IsClean}
 
@@ -54,21 +58,45 @@ same_patch show (PlaceSub sub) clean = refl
 same_patch show (PlaceRow row) clean = cc
 same_patch show (RemoveRow e) clean = cc
 
+-- a plan leaves the rows of the dimmers but the one that it names
+other_rows : (show : Show) (plan : Plan) (e : ℕ) → dimmer_planned plan ≢ Some e → entry_at (λ row. row.dimmer) e (planned show plan).patch ≡ entry_at (λ row. row.dimmer) e show.patch
+other_rows show Nothing e other = refl
+other_rows show (PlaceCue cue None) e other = refl
+other_rows show (PlaceCue cue (Some above)) e other = refl
+other_rows show (RemoveCue n None) e other = refl
+other_rows show (RemoveCue n (Some above)) e other = refl
+other_rows show (PlaceGroup group) e other = refl
+other_rows show (PlaceSub sub) e other = refl
+other_rows show (PlaceRow row) e other = entry_at-placed_other (λ x. x.dimmer) e row show.patch (λ same. other (ap Some same))
+other_rows show (RemoveRow n) e other = others_stay n e show.patch (λ same. other (ap Some (sym same)))
+
 -- submasters that are the same give the same
-given_by : (one other : Show) (faders given : List ℕ) → other.subs ≡ one.subs → other.channels ≡ one.channels → IsTable one.channels (contribution one faders) given → IsTable other.channels (contribution other faders) given
+pub given_by : (one other : Show) (faders given : List ℕ) → other.subs ≡ one.subs → other.channels ≡ one.channels → IsTable one.channels (contribution one faders) given → IsTable other.channels (contribution other faders) given
 given_by one other faders given subs channels table = record {
   reach = table.reach ∙ sym channels;
   each = λ k within. table.each k (omega (arith, channels)) ∙ ap (λ (s : List Sub). contribution (record one { subs = s }) faders (k + 1)) (sym subs);
 }
 
+-- a rack that stood for the show does so still, where the plan changed no submaster
+pub same_given : (show after : Show) (plan : Plan) (stale : Bool) (faders given : List ℕ) → after ≡ planned show plan → stale ≡ plans_sub plan → IsTable show.channels (contribution show faders) given → stale ≡ false → IsTable after.channels (contribution after faders) given
+same_given show after plan stale faders given is subs table clean = given_by show after faders given (ap (λ (s : Show). s.subs) is ∙ same_subs show plan (sym subs ∙ clean)) (ap (λ (s : Show). s.channels) is ∙ same_channels show plan) table
+
+-- and has the places of the channels
+pub same_reach : (show after : Show) (plan : Plan) (faders given : List ℕ) → after ≡ planned show plan → IsTable show.channels (contribution show faders) given → length given ≡ after.channels
+same_reach show after plan faders given is table = table.reach ∙ sym (ap (λ (s : Show). s.channels) is ∙ same_channels show plan)
+
 -- a stage that was filled in is so but for what the plan touched
-pub touched : (k : Kept) (after : Show) (plan : Plan) (dirty : Dirty) (stage : Stage) → IsFilled k stage → after ≡ planned k.show plan → KeepsOthers k.show after dirty.chans → dirty.subs ≡ plans_sub plan → IsFilledBut (record k { show = after }) dirty stage
-touched k after plan dirty stage filled is others subs =
+pub touched : (k : Kept) (after : Show) (plan : Plan) (dirty : Dirty) (stage : Stage) → IsFilled k stage → after ≡ planned k.show plan → KeepsOthers k.show after dirty.chans → dirty.dimmer ≡ dimmer_planned plan → IsFilledBut (record k { show = after }) dirty stage
+touched k after plan dirty stage filled is others dimmer =
     let channels : after.channels ≡ k.show.channels = ap (λ (s : Show). s.channels) is ∙ same_channels k.show plan in
     record {
       reaches = subst (λ n. Reaches n stage) (sym channels) filled.reaches;
       levels_stand = λ i within clean. filled.levels_stand.each i (omega (arith, channels)) ∙ level-columns k.show after k.playback.base k.playback.live (i + 1) k.playback.moment (others (i + 1) clean);
-      given_stand = λ clean. given_by k.show after k.faders stage.given.items (ap (λ (s : Show). s.subs) is ∙ same_subs k.show plan (sym subs ∙ clean)) channels filled.given_stand;
+      patch_stands = record {
+        before = k.show.patch;
+        stands = filled.patch_stands;
+        others = λ e other. ap (λ (s : Show). entry_at (λ row. row.dimmer) e s.patch) is ∙ other_rows k.show plan e (λ same. other (dimmer ∙ same));
+      };
     }
 
 -- a stage that was filled in is so still, where the plan touched nothing that it depends on
@@ -83,7 +111,7 @@ untouched k after plan dirty stage filled is others dimmer subs clean =
     record {
       reaches = subst (λ n. Reaches n stage) channels filled.reaches;
       levels_stand = table channels levels filled.levels_stand;
-      given_stand = table channels given filled.given_stand;
+      patch_stands = subst (λ (rows : List PatchRow). StandsForPatch rows stage.table) patch filled.patch_stands;
       outs_stand = table channels outs filled.outs_stand;
       slots_stand = subst (λ (rows : List PatchRow). IsTable SLOTS (dimmer_value (record k.show { patch = rows }) (out_now (record k { show = after }))) stage.slots.items) patch
           (subst (λ (o : ℕ → ℕ). IsTable SLOTS (dimmer_value k.show o) stage.slots.items) outs filled.slots_stand);

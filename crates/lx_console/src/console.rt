@@ -13,17 +13,18 @@ ghost use Rattle.lx_spec.specs.ValidEdit.{ValidEdit, ValidCommand};
 ghost use Rattle.lx_spec.specs.Output.{dimmer_value, fader, frame};
 ghost use Rattle.lx_spec.specs.Desk.{Desk, opened};
 ghost use Rattle.lx_edit.specs.Planned.{IsRefusal};
-ghost use Rattle.lx_console.specs.Table.{IsTable};
+ghost use Rattle.lx_mixer.specs.Table.{IsTable};
 ghost use Rattle.lx_console.specs.Slots.{universe};
 ghost use Rattle.lx_console.specs.Standing.{StandsFor, Obeys, Answers, level_now, out_now};
 
-use crate::stage::{Stage, reaches_stage};
+use crate::stage::{Stage, mend_subs, reaches_stage};
 use crate::ticks::tick_of;
-use lx_base::{CueNo, Level, Moment, SLOTS, SUBS, SubNo, UNIVERSES};
+use lx_base::{CueNo, Level, Moment, SLOTS, SubNo, UNIVERSES};
 use lx_edit::planning::plan;
 use lx_playback::Playback;
 use lx_sheet::Sheet;
 use lx_show::{Command, Edit, Key, PlayKey, Refusal, Show};
+use lx_subs::SubRack;
 use std::alloc::{AllocError, Global};
 use std::marker::Model;
 
@@ -43,8 +44,8 @@ pub struct Console {
     /// The tracked row of each cue.
     sheet: Sheet,
     playback: Playback,
-    /// One for each submaster number.
-    faders: Vec<Level>,
+    /// The faders of the submasters, and what they give.
+    rack: SubRack,
     master: Level,
     stage: Stage,
 }
@@ -55,9 +56,9 @@ impl Model for Console {
 
     ghost Value = { Kept };
 
-    ghost view = { λ c. record { show = c.show; playback = c.playback; faders = c.faders.items; master = c.master } };
+    ghost view = { λ c. record { show = c.show; playback = c.playback; faders = c.rack.faders; master = c.master } };
 
-    ghost invariant = { λ c. IsKept (record { show = c.show; playback = c.playback; faders = c.faders.items; master = c.master }) c.sheet c.stage };
+    ghost invariant = { λ c. IsKept (record { show = c.show; playback = c.playback; faders = c.rack.faders; master = c.master }) c.sheet c.rack c.stage };
 }
 
 impl Console {
@@ -69,16 +70,16 @@ impl Console {
     {
         let sheet = Sheet::open(alloc, &show)?;
         let playback = Playback::open(alloc)?;
-        let faders = vec![in alloc; 0; SUBS as usize]?;
+        let rack = SubRack::open(alloc, &show)?;
         let master = 255;
-        let mut stage = Stage::open(alloc, show.channels())?;
-        stage.fill(&show, &sheet, &playback, &faders, master);
+        let mut stage = Stage::open(alloc, &show)?;
+        stage.fill(&show, &sheet, &playback, &rack, master);
         Ok(Console {
             alloc,
             show,
             sheet,
             playback,
-            faders,
+            rack,
             master,
             stage,
         })
@@ -119,7 +120,7 @@ impl Console {
     pub fn fader(&self, sub: SubNo) -> Level
         ensures { result ≡ fader self.now.faders sub }
     {
-        self.faders[sub.get() as usize - 1]
+        self.rack.fader(sub)
     }
 
     /// The tracked row of the cue: the tracked level of channel c at place c - 1. `None` exactly where there
@@ -208,11 +209,13 @@ impl Console {
     {
         let before = std::mem::replace(&mut self.show, show);
         self.sheet.refill(&self.show);
+        self.rack.changed(&self.show);
+        self.stage.take_patch(&self.show);
         self.stage.fill(
             &self.show,
             &self.sheet,
             &self.playback,
-            &self.faders,
+            &self.rack,
             self.master,
         );
         before
@@ -230,11 +233,12 @@ impl Console {
         let plan = plan(self.alloc, &self.show, edit)?;
         let dirty = plan.apply(&mut self.show, &mut self.sheet);
         if reaches_stage(&dirty) {
+            mend_subs(&mut self.rack, &self.show, dirty.subs);
             self.stage.mend(
                 &self.show,
                 &self.sheet,
                 &self.playback,
-                &self.faders,
+                &self.rack,
                 self.master,
                 &dirty,
             );
@@ -251,7 +255,7 @@ impl Console {
         if tick_of(&mut self.playback, &self.show)? {
             self.stage
                 .fill_levels(&self.show, &self.sheet, &self.playback);
-            self.stage.fill_outputs(&self.show, self.master);
+            self.stage.fill_outputs(&self.show, &self.rack, self.master);
         }
         Ok(())
     }
@@ -265,7 +269,7 @@ impl Console {
         self.playback.press(&self.show, key)?;
         self.stage
             .fill_levels(&self.show, &self.sheet, &self.playback);
-        self.stage.fill_outputs(&self.show, self.master);
+        self.stage.fill_outputs(&self.show, &self.rack, self.master);
         Ok(())
     }
 
@@ -280,9 +284,8 @@ impl Console {
         if self.show.sub(sub).is_none() {
             return Err(Refusal::AbsentSub(sub));
         }
-        self.faders[sub.get() as usize - 1] = level;
-        self.stage.fill_contributions(&self.show, &self.faders);
-        self.stage.fill_outputs(&self.show, self.master);
+        self.rack.set_fader(&self.show, sub, level);
+        self.stage.fill_outputs(&self.show, &self.rack, self.master);
         Ok(())
     }
 
@@ -291,6 +294,6 @@ impl Console {
         ensures { self.new ≡ record self.old { master = level } }
     {
         self.master = level;
-        self.stage.fill_outputs(&self.show, self.master);
+        self.stage.fill_outputs(&self.show, &self.rack, self.master);
     }
 }

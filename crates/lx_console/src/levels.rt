@@ -5,7 +5,7 @@ ghost use Rattle.lx_base.specs.declared.TheConstants.{RUNS, CHANNELS};
 ghost use Rattle.lx_spec.specs.Level.{level};
 ghost use Rattle.lx_sheet.specs.Standing.{StandsFor};
 ghost use Rattle.lx_edit.specs.ChanSet.{has_chan};
-ghost use Rattle.lx_console.specs.Table.{IsTable};
+ghost use Rattle.lx_mixer.specs.Table.{IsTable};
 
 use crate::channel::level_of;
 use lx_base::{CHANNELS, Chan, Level, RUNS};

@@ -5,12 +5,8 @@ mod channel;
 mod console;
 pub mod laws;
 mod levels;
-mod mixer;
-mod output;
-mod patch;
 mod runs;
 mod stage;
-mod subs;
 mod ticks;
 
 pub use console::Console;

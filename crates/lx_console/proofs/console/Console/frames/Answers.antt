@@ -2,7 +2,7 @@ use Rattle.std.proofs.Common.{ℕ, List, sym, subst}
 use Rattle.lx_base.specs.declared.TheConstants.{SLOTS}
 use Rattle.lx_spec.specs.Output.{dimmer_value}
 use Rattle.lx_spec.specs.Stands.{Kept}
-use Rattle.lx_console.specs.Table.{IsTable}
+use Rattle.lx_mixer.specs.Table.{IsTable}
 use Rattle.lx_console.specs.Standing.{out_now}
 use Rattle.lx_console.proofs.AllRuns.{frame_of_all}
 use Rattle.lx_console.proofs.console.Console.frames.Goals as goal

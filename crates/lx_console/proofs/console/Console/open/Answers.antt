@@ -1,4 +1,4 @@
-use Rattle.std.proofs.Common.{◌≡◌, ℕ, List, ap, replicate, ◌∙◌}
+use Rattle.std.proofs.Common.{ℕ, List, ap, replicate, ◌∙◌}
 use Rattle.lx_base.specs.declared.TheConstants.{SUBS}
 use Rattle.lx_spec.specs.Playback.{Playback}
 use Rattle.lx_spec.proofs.RestKept.{kept-opened}
@@ -6,7 +6,7 @@ use Rattle.lx_console.proofs.console.Console.open.Goals as goal
 
 pub returns : goal.returns
 returns c =
-    let faders : c.in_ok-faders.faders.items ≡ replicate SUBS 0 = c.in_ok-faders.ensures.items_if_clones_equal (λ y same. same) in
+    let faders = c.in_ok-rack.ensures.faders in
     let playback = c.in_ok-playback.ensures in
     record {
       same = ap (λ (levers : List ℕ). record { show = c.args.show; playback = c.in_ok-playback.playback; faders = levers; master = 255 }) faders ∙ ap (λ (p : Playback). record { show = c.args.show; playback = p; faders = replicate SUBS 0; master = 255 }) playback;

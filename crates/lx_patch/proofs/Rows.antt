@@ -1,0 +1,91 @@
+-- A table of the patch goes on standing for its rows, as they are placed and taken out.
+use Rattle.std.specs.Prelude.{◌≡◌, ℕ, ◌-◌, ◌<◌, ◌≤◌, Bool, true, false, not, ◌==◌, ◌&&◌, Option, None, List, [], ◌∷◌, find, refl}
+use Rattle.std.specs.Option.{option_map_or}
+use Rattle.std.proofs.Common.{arith, length, get_or, drop, drop-cons, set, replicate, suc, ◌∙◌, ap, sym, inl, inr}
+use Rattle.std.proofs.lemmas.List.{length-replicate, get_or-replicate}
+use Rattle.std.proofs.lemmas.Bool.{cases_order}
+use Rattle.std.proofs.lemmas.Bool.Decides.{nat_tests}
+use Rattle.lx_base.specs.declared.TheConstants.{SLOTS}
+use Rattle.lx_spec.specs.declared.PatchRow.{PatchRow}
+use Rattle.lx_spec.specs.Listing.{entry_at, placed, taken_out}
+use Rattle.lx_spec.proofs.Along.{find_none, same_number, other_number}
+use Rattle.lx_show.proofs.Finding.{find_both}
+use Rattle.lx_show.proofs.RisingLists.{each, passes}
+use Rattle.lx_show.proofs.Placed.{entry_at-placed_here, entry_at-placed_other}
+use Rattle.lx_mixer.proofs.Tables.{table_of_same, table-set}
+use Rattle.lx_patch.specs.Patched.{Patching, place_of, proportion_of, StandsForPatch}
+
+-- no dimmer is patched
+pub stands_for_none : StandsForPatch [] (record { places = replicate SLOTS 0; levels = replicate SLOTS 0 })
+stands_for_none = record {
+  places = record { reach = length-replicate {A = ℕ} SLOTS 0; each = λ k within. get_or-replicate {A = ℕ} SLOTS k 0 0 within };
+  levels = record { reach = length-replicate {A = ℕ} SLOTS 0; each = λ k within. get_or-replicate {A = ℕ} SLOTS k 0 0 within };
+}
+
+-- a row is placed
+pub stands_placed : (rows : List PatchRow) (row : PatchRow) (places levels : List ℕ) (at chan : ℕ) → StandsForPatch rows (record { places = places; levels = levels }) → at ≡ row.dimmer → chan ≡ row.chan → 1 ≤ at → at ≤ SLOTS → StandsForPatch (placed (λ x. x.dimmer) row rows) (record { places = set places (at - 1) (chan - 1); levels = set levels (at - 1) row.level })
+stands_placed rows row places levels at chan stands is chan_is least most = record {
+  places = table-set SLOTS at (chan - 1) (place_of rows) (place_of (placed (λ x. x.dimmer) row rows)) places stands.places least most
+      (ap (λ (o : Option PatchRow). option_map_or (λ r. r.chan - 1) o 0) (entry_at-placed_here (λ x. x.dimmer) at row rows (sym is)) ∙ ap (λ n. n - 1) (sym chan_is))
+      (λ c other. ap (λ (o : Option PatchRow). option_map_or (λ r. r.chan - 1) o 0) (entry_at-placed_other (λ x. x.dimmer) c row rows (λ same. other (sym same ∙ sym is))));
+  levels = table-set SLOTS at row.level (proportion_of rows) (proportion_of (placed (λ x. x.dimmer) row rows)) levels stands.levels least most
+      (ap (λ (o : Option PatchRow). option_map_or (λ r. r.level) o 0) (entry_at-placed_here (λ x. x.dimmer) at row rows (sym is)))
+      (λ c other. ap (λ (o : Option PatchRow). option_map_or (λ r. r.level) o 0) (entry_at-placed_other (λ x. x.dimmer) c row rows (λ same. other (sym same ∙ sym is))));
+}
+
+number_apart : (a n : ℕ) → not (a == n) ≡ true → (a == n) ≡ false
+number_apart a n apart = grind (arith, nat_tests)
+
+apart_from : (a n m : ℕ) → (m ≡ n → ⊥) → (a == m) ≡ true → not (a == n) ≡ true
+apart_from a n m other same = grind (arith, nat_tests)
+
+and_known : (a b : Bool) → (b ≡ true → a ≡ true) → (a && b) ≡ b
+and_known true b known = refl
+and_known false true known = known refl
+and_known false false known = refl
+
+-- what is taken out isn't found
+pub gone : (n : ℕ) (rows : List PatchRow) → entry_at (λ x. x.dimmer) n (taken_out (λ x. x.dimmer) n rows) ≡ None
+gone n rows = find_none _ _ (each _ _ _ (λ row h. number_apart row.dimmer n h) (passes (λ row. not (row.dimmer == n)) rows))
+
+-- the others are found as before
+pub others_stay : (n m : ℕ) (rows : List PatchRow) → (m ≡ n → ⊥) → entry_at (λ x. x.dimmer) m (taken_out (λ x. x.dimmer) n rows) ≡ entry_at (λ x. x.dimmer) m rows
+others_stay n m rows other =
+    let same : (λ (row : PatchRow). not (row.dimmer == n) && (row.dimmer == m)) ≡ (λ row. row.dimmer == m) = λ i row. and_known (not (row.dimmer == n)) (row.dimmer == m) (apart_from row.dimmer n m other) i in
+    find_both (λ row. not (row.dimmer == n)) (λ row. row.dimmer == m) rows ∙ ap (λ (t : PatchRow → Bool). find t rows) same
+
+-- a row is taken out
+pub stands_without : (rows : List PatchRow) (places levels : List ℕ) (at n : ℕ) → StandsForPatch rows (record { places = places; levels = levels }) → at ≡ n → 1 ≤ at → at ≤ SLOTS → StandsForPatch (taken_out (λ x. x.dimmer) n rows) (record { places = set places (at - 1) 0; levels = set levels (at - 1) 0 })
+stands_without rows places levels at n stands is least most = record {
+  places = table-set SLOTS at 0 (place_of rows) (place_of (taken_out (λ x. x.dimmer) n rows)) places stands.places least most
+      (ap (λ e. place_of (taken_out (λ x. x.dimmer) n rows) e) is ∙ ap (λ (o : Option PatchRow). option_map_or (λ r. r.chan - 1) o 0) (gone n rows))
+      (λ c other. ap (λ (o : Option PatchRow). option_map_or (λ r. r.chan - 1) o 0) (others_stay n c rows (λ same. other (same ∙ sym is))));
+  levels = table-set SLOTS at 0 (proportion_of rows) (proportion_of (taken_out (λ x. x.dimmer) n rows)) levels stands.levels least most
+      (ap (λ e. proportion_of (taken_out (λ x. x.dimmer) n rows) e) is ∙ ap (λ (o : Option PatchRow). option_map_or (λ r. r.level) o 0) (gone n rows))
+      (λ c other. ap (λ (o : Option PatchRow). option_map_or (λ r. r.level) o 0) (others_stay n c rows (λ same. other (same ∙ sym is))));
+}
+
+-- the rows from a place on are the row there and those after it
+pub drop_before : (rows : List PatchRow) (i : ℕ) (row : PatchRow) → 0 < i → i ≤ length rows → row ≡ get_or rows (i - 1) row → drop (i - 1) rows ≡ row ∷ drop i rows
+drop_before rows i row some within is =
+    let next : suc (i - 1) ≡ i = omega arith in
+    drop-cons rows (i - 1) row (omega arith) ∙ ap (λ x. x ∷ drop (suc (i - 1)) rows) (sym is) ∙ ap (λ k. row ∷ drop k rows) next
+
+-- a row placed is found as one set before the others
+placed_first : (row : PatchRow) (rows : List PatchRow) (e : ℕ) → entry_at (λ x. x.dimmer) e (placed (λ x. x.dimmer) row rows) ≡ entry_at (λ x. x.dimmer) e (row ∷ rows)
+placed_first row rows e = elim (cases_order row.dimmer e) [
+  | inl here ↦ rw (same_number row.dimmer e here) (entry_at-placed_here (λ x. x.dimmer) e row rows here)
+  | inr apart ↦
+      let other : row.dimmer ≡ e → ⊥ = λ same. elim apart [ inl low ↦ omega arith | inr high ↦ omega arith ] in
+      rw (other_number row.dimmer e other) (entry_at-placed_other (λ x. x.dimmer) e row rows other)
+]
+
+-- a table stands for all rows that are found alike
+pub stands_alike : (one other : List PatchRow) (table : Patching) → ((e : ℕ) → entry_at (λ x. x.dimmer) e one ≡ entry_at (λ x. x.dimmer) e other) → StandsForPatch one table → StandsForPatch other table
+stands_alike one other table alike stands = record {
+  places = table_of_same SLOTS (place_of one) (place_of other) table.places (λ e least most. ap (λ (o : Option PatchRow). option_map_or (λ r. r.chan - 1) o 0) (alike e)) stands.places;
+  levels = table_of_same SLOTS (proportion_of one) (proportion_of other) table.levels (λ e least most. ap (λ (o : Option PatchRow). option_map_or (λ r. r.level) o 0) (alike e)) stands.levels;
+}
+
+pub stands_first : (row : PatchRow) (rows : List PatchRow) (table : Patching) → StandsForPatch (placed (λ x. x.dimmer) row rows) table → StandsForPatch (row ∷ rows) table
+stands_first row rows table stands = stands_alike (placed (λ x. x.dimmer) row rows) (row ∷ rows) table (placed_first row rows) stands

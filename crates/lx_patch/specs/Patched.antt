@@ -1,0 +1,34 @@
+-- What a table of the patch stands for, and the slots that it gives.
+use Rattle.std.specs.Prelude.{◌≡◌, ◌⊎◌, ℕ, ◌-◌, ◌<◌, List, slice_index}
+use Rattle.std.specs.Option.{option_map_or}
+use Rattle.lx_base.specs.declared.TheConstants.{SLOTS}
+use Rattle.lx_base.specs.Numbers.{scaled}
+use Rattle.lx_spec.specs.declared.PatchRow.{PatchRow}
+use Rattle.lx_spec.specs.Listing.{entry_at}
+use Rattle.lx_mixer.specs.Table.{IsTable}
+
+-- for each dimmer, the place of its channel's output and the level in whose proportion it follows that
+pub record Patching : Type 0 where
+  pub places : List ℕ
+  pub levels : List ℕ
+
+-- the place of the dimmer's channel, which is below its number, or the first where the dimmer isn't patched
+abbrev pub place_of : List PatchRow → ℕ → ℕ
+place_of rows e = option_map_or (λ row. row.chan - 1) (entry_at (λ row. row.dimmer) e rows) 0
+
+-- the proportional level of the dimmer, or 0 where it isn't patched
+abbrev pub proportion_of : List PatchRow → ℕ → ℕ
+proportion_of rows e = option_map_or (λ row. row.level) (entry_at (λ row. row.dimmer) e rows) 0
+
+-- the table has each dimmer's row, and that of a dimmer without one is as if it followed channel 1 at 0
+pub record StandsForPatch (rows : List PatchRow) (table : Patching) : Type 0 where
+  pub places : IsTable SLOTS (place_of rows) table.places
+  pub levels : IsTable SLOTS (proportion_of rows) table.levels
+
+-- so many outputs have one for each dimmer, or else for each that is patched
+abbrev pub Reaches : ℕ → Patching → Type 0
+Reaches n table = (k : ℕ) → k < SLOTS → (slice_index table.places k < n) ⊎ ((slice_index table.places k ≡ 0) × (slice_index table.levels k ≡ 0))
+
+-- the slot of a dimmer: its channel's output at its proportional level, or 0 where it isn't patched
+abbrev pub slot_of : List PatchRow → (ℕ → ℕ) → ℕ → ℕ
+slot_of patch outs e = option_map_or (λ row. scaled (outs row.chan) row.level) (entry_at (λ row. row.dimmer) e patch) 0

@@ -1,0 +1,7 @@
+use Rattle.std.proofs.Common.{◌≡◌, ℕ, ◌<◌, ◌+◌, get_or, max, take, length}
+use Rattle.lx_base.specs.Numbers.{scaled}
+use Rattle.lx_subs.specs.Faders.{level_among}
+use Rattle.lx_subs.proofs.raise.raise.Given as goal
+
+abbrev pub invariant-loop-member : goal.invariant-loop-member
+invariant-loop-member l = (k : ℕ) → k < length l.given → get_or l.given k 0 ≡ max (get_or l.initial.given k 0) (scaled (level_among (take l.member-index l.members) (k + 1)) l.fader)

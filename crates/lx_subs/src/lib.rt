@@ -1,0 +1,9 @@
+//! What the submasters of a show give its channels, each at its fader.
+#![tactic(auto)]
+
+mod rack;
+mod raise;
+#[cfg(test)]
+mod tests;
+
+pub use rack::SubRack;

@@ -1,0 +1,40 @@
+//! Levels raised by submasters.
+
+ghost use Rattle.std.specs.Prelude.{◌≡◌, ◌+◌, ◌≤◌, ℕ, max, length, slice_index, EachIndex};
+ghost use Rattle.std.specs.List.{AllByRecursion};
+ghost use Rattle.lx_base.specs.declared.TheConstants.{SUBS};
+ghost use Rattle.lx_base.specs.Numbers.{scaled};
+ghost use Rattle.lx_spec.specs.Show.{ValidMembers};
+ghost use Rattle.lx_spec.specs.Output.{contribution};
+ghost use Rattle.lx_mixer.specs.Table.{IsTable};
+ghost use Rattle.lx_subs.specs.Faders.{level_among};
+
+use lx_base::{Level, SUBS, scale};
+use lx_show::{Member, Show};
+
+/// Fills in what the submasters give each channel, each at its fader: channel c stands at place c - 1.
+/// The work is that of the channels and of the submasters' members.
+pub(crate) fn fill(show: &Show, faders: &[Level], given: &mut [Level])
+    requires faders { length faders.now ≡ SUBS }
+    requires reach { length given.old ≡ show.now.channels }
+    ensures { IsTable show.now.channels (contribution show.now faders.now) given.new }
+{
+    let subs = show.subs();
+    given.fill(0);
+    for sub in subs {
+        let fader = faders[sub.number.get() as usize - 1];
+        raise(sub.members.as_slice(), fader, given);
+    }
+}
+
+/// Raises the level of each member's channel to the member's, in proportion to the fader, where that is
+/// higher.
+fn raise(members: &[Member], fader: Level, given: &mut [Level])
+    requires { ValidMembers (length given.old) members.now }
+    ensures { EachIndex given.new (λ k. slice_index given.new k ≡ max (slice_index given.old k) (scaled (level_among members.now (k + 1)) fader)) }
+{
+    for member in members {
+        let at = member.chan.get() as usize - 1;
+        given[at] = given[at].max(scale(member.level, fader));
+    }
+}
