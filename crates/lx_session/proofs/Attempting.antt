@@ -128,7 +128,7 @@ accepted s old turn c before_it after_it d t next ok stands =
       some = λ e. cc;
       by = λ places w.
           let so_far = t.by places (subst (WantsLast places s.attempts t.now.attempts) (sym none) (before places s.attempts t.now.attempts false w))
-              ∙ ap (λ r. resumed places (command_of old.meaning) turn.left r t.now) next.none in
+          ∙ ap (λ r. resumed places (command_of old.meaning) turn.left r t.now) next.none in
           by_one s old c turn.left t.now places _ _ so_far command next.some (attempt-ok places t.now c d (last places s.attempts t.now.attempts false t.later w) ok)
           (sym (ap (λ o. attempts_for places o (turn.left - 1) (accepted_by t.now c d)) command));
       not_yet = λ e. refl;
@@ -155,7 +155,7 @@ refused s old turn c before_it after_it refusal t next err stands =
       some = λ e. cc;
       by = λ places w.
           let so_far = t.by places (subst (WantsLast places s.attempts t.now.attempts) (sym none) (before places s.attempts t.now.attempts false w))
-              ∙ ap (λ r. resumed places (command_of old.meaning) turn.left r t.now) next.none in
+          ∙ ap (λ r. resumed places (command_of old.meaning) turn.left r t.now) next.none in
           by_one s old c turn.left t.now places _ _ so_far command next.some (attempt-err places t.now c refusal (last places s.attempts t.now.attempts false t.later w) err) refl;
       not_yet = λ e. cc;
       stands = stands;
@@ -181,7 +181,7 @@ wanted s old turn c before_it after_it refusal t next memory edit ok stands =
       some = λ e. let le = t.later in omega (arith, le);
       by = λ places w.
           let so_far = t.by places (subst (WantsLast places s.attempts t.now.attempts) (sym none) (before places s.attempts t.now.attempts true w))
-              ∙ ap (λ r. resumed places (command_of old.meaning) turn.left r t.now) next.none in
+          ∙ ap (λ r. resumed places (command_of old.meaning) turn.left r t.now) next.none in
           by_one s old c turn.left t.now places _ _ so_far command next.some (attempt-wanted places t.now c (last places s.attempts t.now.attempts true t.later w))
           (ap (λ r. record { session = refused_by t.now; refusal = Some r }) (sym memory));
       not_yet = λ e. cc;

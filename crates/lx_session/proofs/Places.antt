@@ -80,9 +80,9 @@ own_above from to wanted more le some above n has =
     either (has_place more n) (from < n)
     (λ on. let lt = above n on in omega (arith, le, lt))
     (λ off.
-      let or_false : (x : Bool) → (x || false) ≡ x = λ x. elim x as (λ x. (x || false) ≡ x) [ true ↦ refl | false ↦ refl ] in
-      let own : (wanted && n == to) ≡ true = sym (has-append (own_place wanted to) more n ∙ ap (λ v. has_place (own_place wanted to) n || v) off ∙ or_false (has_place (own_place wanted to) n) ∙ own-has wanted to n) ∙ has in
-      own_is from to wanted n some own)
+    let or_false : (x : Bool) → (x || false) ≡ x = λ x. elim x as (λ x. (x || false) ≡ x) [ true ↦ refl | false ↦ refl ] in
+    let own : (wanted && n == to) ≡ true = sym (has-append (own_place wanted to) more n ∙ ap (λ v. has_place (own_place wanted to) n || v) off ∙ or_false (has_place (own_place wanted to) n) ∙ own-has wanted to n) ∙ has in
+    own_is from to wanted n some own)
 
 own_upto : (to : ℕ) (wanted : Bool) (n : ℕ) → (wanted && n == to) ≡ true → n ≤ to
 own_upto to true n own = let same : n ≡ to = grind (arith, nat_tests, own) in omega (arith, same)
@@ -93,8 +93,8 @@ own_within from to wanted places le within n has =
     either (has_place places n) (n ≤ to)
     (λ on. let up = within n on in omega (arith, le, up))
     (λ off.
-      let own : (wanted && n == to) ≡ true = sym (has-append places (own_place wanted to) n ∙ ap (λ v. v || has_place (own_place wanted to) n) off ∙ own-has wanted to n) ∙ has in
-      own_upto to wanted n own)
+    let own : (wanted && n == to) ≡ true = sym (has-append places (own_place wanted to) n ∙ ap (λ v. v || has_place (own_place wanted to) n) off ∙ own-has wanted to n) ∙ has in
+    own_upto to wanted n own)
 
 first : (a b : Bool) → (a && b) ≡ true → a ≡ true
 first true b e = refl

@@ -150,11 +150,7 @@ fn give_row<K: Sink>(n: CueNo, row: &[Level], sink: &mut K) -> Result<bool, Sink
 }
 
 /// Appends the frame line of a universe.
-fn put_universe<K: Sink>(
-    universe: u8,
-    console: &Console,
-    sink: &mut K,
-) -> Result<bool, SinkFault>
+fn put_universe<K: Sink>(universe: u8, console: &Console, sink: &mut K) -> Result<bool, SinkFault>
     requires least { 1 ≤ universe }
     requires most { universe ≤ UNIVERSES }
     ensures cause { HasSinkCause K.faults K.wants sink.old sink.new result }
