@@ -128,6 +128,79 @@ fn a_cue_only_edit_leaves_the_next_cue(rt: HostRuntime) -> Result<(), Fail> {
     Ok(())
 }
 
+/// Shows over a patch of channel 1, scripts, and what they give by the rules.
+const PLAYED: [(&[u8], &[u8], &[u8]); 12] = [
+    (
+        b"",
+        b"go\nback\nframe\n",
+        b"refused NoCueAfter 0\nrefused NoCueBefore 0\nframe 0 1\n",
+    ),
+    (
+        b"CUE 1\nUP 2 1\nCHAN 1@FL\n",
+        b"go\ntick 50\nframe\ntick 50\nframe\n",
+        b"ok\nok\nframe 100 1\nok\nframe 200 1 1=127\n",
+    ),
+    (
+        b"CUE 1\nUP 1 4\nCHAN 1@FL\nCUE 2\nUP 1 1\nCHAN 1@H80\n",
+        b"go\ngo\ntick 75\nframe\ntick 25\nframe\ntick 200\nframe\n",
+        b"ok\nok\nok\nframe 150 1 1=64\nok\nframe 200 1 1=128\nok\nframe 600 1 1=128\n",
+    ),
+    (
+        b"CUE 1\nUP 0.02 0.01\nCHAN 1@FL\n",
+        b"go\ntick\nframe\n",
+        b"ok\nok\nframe 2 1 1=127\n",
+    ),
+    (
+        b"CUE 1\nCHAN 1@FL\nCUE 2\nCUE 3\n",
+        b"block 2\nset 1 chan 1 at 0\nset 1 chan 2 at FL\nsheet 1\nsheet 2\nunblock 2\nsheet 2\n",
+        b"ok\nok\nok\nrow 1 2=255\nrow 2 1=255\nok\nrow 2 1=255\n",
+    ),
+    (
+        b"CUE 1\nUP 0\nDOWN 0\nCHAN 1@FL\nCUE 2\nUP 0\nDOWN 0\nCHAN 1@0\nCUE 3\nUP 0\nDOWN 0\nCHAN 1@50\n",
+        b"go\ngo\nframe\ndelete 2\nframe\ngo\nframe\n",
+        b"ok\nok\nframe 0 1\nok\nframe 0 1 1=255\nok\nframe 0 1 1=128\n",
+    ),
+    (
+        b"CUE 1\nUP 0\nDOWN 0\nCHAN 1@FL\nCUE 3\nUP 0\nDOWN 0\n",
+        b"goto 3\ntick\nframe\ncue 2.5\nset 2.5 chan 1 at 0\nframe\n",
+        b"ok\nok\nframe 2 1 1=255\nok\nok\nframe 2 1\n",
+    ),
+    (
+        b"CUE 1\nUP 0\nDOWN 0\nFOLLOWON 2.51\nCUE 2\nUP 0\nDOWN 0\nFOLLOWON 0\nCHAN 1@FL\n",
+        b"go\ntick 125\nframe\ntick\nframe\ntick\ngo\n",
+        b"ok\nok\nframe 250 1\nok\nframe 252 1 1=255\nok\nrefused NoCueAfter 2\n",
+    ),
+    (
+        b"PATCH 1 2<513@50\nSUB 1\nCHAN 1@HC8\nCUE 1\nUP 0\nCHAN 1@H64 2@FL\n",
+        b"go\nfader 1 at H80\nframe\nframe 2\nmaster at H80\nframe\nframe 2\nfader 2 at 10\nunpatch 7\n",
+        b"ok\nok\nframe 0 1 1=100\nframe 0 2 1=128\nok\nframe 0 1 1=50\nframe 0 2 1=64\nrefused AbsentSub 2\nrefused AbsentDimmer 7\n",
+    ),
+    (
+        b"CUE 1\nUP 0\nCHAN 1@H80\n",
+        b"set 9 chan 1 at 5\nset 1 chan 1 at 5 part 2\nset 1 chan 510 thru 600 at 5\nset 1 group 4 at 5\nunpart 1 1\nfly 3\ngo\n",
+        b"refused AbsentCue 9\nrefused AbsentPart 1 2\nrefused AbsentChannel 513\nrefused AbsentGroup 4\nrefused BasePart\nbad\nok\n",
+    ),
+    (
+        b"CUE 1\nUP 0\nDOWN 0\nCHAN 1@FL\nCUE 2\nUP 0\nDOWN 0\n$$BLOCK\n",
+        b"go\ngo\nframe\n",
+        b"ok\nok\nframe 0 1\n",
+    ),
+    (
+        b"CUE 1\nUP 0\nDOWN 0\nCHAN 1@FL\nCUE 2\nUP 0\nDOWN 0\nCHAN 1@50\n",
+        b"go\ngo\nback\ntick 125\nframe\n",
+        b"ok\nok\nok\nok\nframe 250 1 1=191\n",
+    ),
+];
+
+#[test]
+fn scripts_are_answered_by_the_rules(rt: HostRuntime) -> Result<(), Fail> {
+    let alloc = rt.alloc();
+    for (show, script, replies) in PLAYED {
+        assert_eq!(rt; played(alloc, show, script)?.bytes(), replies);
+    }
+    Ok(())
+}
+
 #[test]
 fn a_faulty_show_is_refused_at_its_line(rt: HostRuntime) -> Result<(), Fail> {
     let alloc = rt.alloc();
