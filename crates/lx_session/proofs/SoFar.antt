@@ -22,12 +22,14 @@ use Rattle.lx_spec.specs.Stands.{Kept}
 use Rattle.lx_spec.specs.Replies.{Session, begun}
 use Rattle.lx_console.specs.Standing.{StandsFor}
 use Rattle.lx_session.specs.declared.tally.Tally.{Tally}
+use Rattle.lx_session.specs.declared.fault.SessionFault.{SessionFault}
+use Rattle.lx_session.specs.declared.fault.SessionFault.TheVariants as faults_of
 use Rattle.lx_session.specs.Meaning.{meaning_of, ends_script, after_lines, session_of, replies_of}
 use Rattle.lx_session.specs.Attempts.{WantsAtEdits}
 use Rattle.lx_session.specs.Given.{GivenOn, GivenInPart, Went}
 use Rattle.lx_session.specs.Taken.{PassedOne, TookOne, TookOneInPart, TookQuit, EndedSo, StoppedSo}
 use Rattle.lx_session.specs.Replying.{counts_in}
-use Rattle.lx_session.specs.Scripts.{lines_wanted, bytes_wanted, AnswersAll, AnswersFront}
+use Rattle.lx_session.specs.Scripts.{lines_wanted, bytes_wanted, AnswersAll, AnswersFront, AnswersLines}
 use Rattle.lx_session.proofs.Places.{AreAbove, AreWithin, own_place, wants_own, own_above, own_within, may_want, extends_lines, wants_nothing, wants-append, lines-append}
 
 -- no line ends the script
@@ -291,6 +293,29 @@ stops left faults a b d console console' tally h h' h'' s kept stands =
     over (unread left a) _ _ (begins (unread left a) (unread left b) a.taken b.taken s.raws s.handed.took) (λ xs is.
     answers_front d (lines_of xs) lines (before_first ends_script is.0) s.places s.now h h'' console' s.now.text [] (ap (before_first ends_script) is.1 ∙ before_end lines is.0 s.done.go_on) s.done (sym (append-nil s.now.text)) (appended_kept h h' h'' s.now.text s.appended kept) stands)
 
+-- and all lines that were handed out were answered
+answers_lines : (d : Desk) (script lines rest : List (List ℕ)) (places : List ℕ) (now : Session) (h h' : Option (List ℕ)) (console : Kept) → before_first ends_script script ≡ lines ++ rest → Done d lines places now
+    → Appends h h' now.text → StandsFor now.desk console → AnswersLines d script h h' console
+answers_lines d script lines rest places now h h' console is done appended stands =
+    let here : after_lines places (begun d) lines ≡ now = ap (λ ps. after_lines ps (begun d) lines) (sym (append-nil places)) ∙ done.is [] (λ n has. no_place 0 n (now.attempts < n) has) in
+    let first : take (length lines) (before_first ends_script script) ≡ lines = ap (take (length lines)) is ∙ take-append_seam lines rest in
+    let same : after_lines places (begun d) (take (length lines) (before_first ends_script script)) ≡ now = ap (after_lines places (begun d)) first ∙ here in
+    record {
+      places = places;
+      wants = subst (λ ls. WantsAtEdits places (begun d) ls) (sym is)
+          (wants-append places (begun d) lines rest (wants_all d lines places now done) (subst (λ s. WantsAtEdits places s rest) (sym here) (wants_nothing places now rest done.within)));
+      done = length lines;
+      text = subst (λ (s : Session). Appends h h' s.text) (sym same) appended;
+      stands = subst (λ (s : Session). StandsFor s.desk console) (sym same) stands;
+    }
+
+pub so_far_unread : {S : Type 0} (left : S → Option (List ℕ)) (faults : S → ℕ) (a b : Lines S) (d : Desk) (console console' : Kept) (tally : Tally) (h h' h'' : Option (List ℕ))
+    → (s : SoFar left faults a b d console tally h h') → Keeps h' h'' × StandsFor s.now.desk console' → IfSome (unread left a) (λ bytes. AnswersLines d (lines_of bytes) h h'' console')
+so_far_unread left faults a b d console console' tally h h' h'' s same =
+    let lines = map without_cr s.raws in
+    over (unread left a) _ _ (begins (unread left a) (unread left b) a.taken b.taken s.raws s.handed.took) (λ xs is.
+    answers_lines d (lines_of xs) lines (before_first ends_script is.0) s.places s.now h h'' console' (ap (before_first ends_script) is.1 ∙ before_end lines is.0 s.done.go_on) s.done (appended_kept h h' h'' s.now.text s.appended same.0) same.1)
+
 -- the session stopped within a reply
 stops_in_part : {S : Type 0} (left : S → Option (List ℕ)) (faults : S → ℕ) (a b c : Lines S) (d : Desk) (console console' : Kept) (tally : Tally) (h h' h'' : Option (List ℕ))
     → (s : SoFar left faults a b d console tally h h') → TookOneInPart left faults b c h' h'' s.now console' → IfSome (unread left a) (λ bytes. AnswersFront d (lines_of bytes) h h'' console')
@@ -326,3 +351,11 @@ err_of x = Err x
 
 pub same_fault : {T E : Type 0} (x y : E) → err_of {T = T} x ≡ err_of y → x ≡ y
 same_fault x y e = cc
+
+-- the fault of a turn that couldn't read on is the session's
+pub read_faults : {T : Type 0} (result : Option (Result (Unit {0}) SessionFault)) (fault : SessionFault) → result ≡ Some (Err fault) → (err_of {T = T} fault ≡ err_of faults_of.ReadFault) ⊎ (err_of {T = T} fault ≡ err_of faults_of.InputTooLong)
+    → (result ≡ Some (Err faults_of.ReadFault)) ⊎ (result ≡ Some (Err faults_of.InputTooLong))
+read_faults {T = T} result fault is which = elim which [
+  | inl read ↦ inl (is ∙ ap (λ f. Some (Err f)) (same_fault {T = T} fault faults_of.ReadFault read))
+  | inr long ↦ inr (is ∙ ap (λ f. Some (Err f)) (same_fault {T = T} fault faults_of.InputTooLong long))
+]

@@ -37,3 +37,11 @@ pub record AnswersFront (d : Desk) (script : List (List ℕ)) (held held' : Opti
   pub text : AppendsFront held held' (replies_of d script places)
   pub done : ℕ
   pub stands : StandsFor (after_lines places (begun d) (take done (before_first ends_script script))).desk console
+
+-- So many lines of the script were done and wholly answered.
+pub record AnswersLines (d : Desk) (script : List (List ℕ)) (held held' : Option (List ℕ)) (console : Kept) : Type 0 where
+  pub places : List ℕ
+  pub wants : WantsAtEdits places (begun d) (before_first ends_script script)
+  pub done : ℕ
+  pub text : Appends held held' (after_lines places (begun d) (take done (before_first ends_script script))).text
+  pub stands : StandsFor (after_lines places (begun d) (take done (before_first ends_script script))).desk console

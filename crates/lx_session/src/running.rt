@@ -1,13 +1,13 @@
 //! A session: script lines are read one after another, and each is answered before the next is awaited.
 
-ghost use Rattle.std.specs.Prelude.{◌≡◌, ◌≤◌, ◌<◌, ◌+◌, true, List, ℕ, length, IsTrue, IfSome, IfOk, OnErr, OnOk, Ok, Err, Some, None};
+ghost use Rattle.std.specs.Prelude.{◌≡◌, ◌⊎◌, ◌≤◌, ◌<◌, ◌+◌, true, List, ℕ, length, IsTrue, IfSome, IfOk, OnErr, OnOk, Ok, Err, Some, None};
 ghost use Rattle.lx_base.specs.declared.TheConstants.{INPUT_BYTES};
 ghost use Rattle.lx_io.specs.Causes.{Rose};
 ghost use Rattle.lx_lex.specs.Unread.{unread};
 ghost use Rattle.lx_spec.specs.Text.{lines_of};
 ghost use Rattle.lx_spec.specs.Desk.{Desk};
 ghost use Rattle.lx_console.specs.Standing.{StandsFor};
-ghost use Rattle.lx_session.specs.Scripts.{AnswersAll, AnswersFront, bytes_wanted};
+ghost use Rattle.lx_session.specs.Scripts.{AnswersAll, AnswersFront, AnswersLines, bytes_wanted};
 
 use crate::fault::SessionFault;
 use crate::taking::take_line;
@@ -20,9 +20,9 @@ use lx_lex::Lines;
 /// its reply appended before the next is awaited.
 ///
 /// `ReadFault` comes only where the source failed, `InputTooLong` exactly where a wanted line has a byte
-/// past the limit of the input, `WriteFault` and `Memory` only where the sink answered them. What was
-/// written is then a front of the whole text, and the console stands for the desk after the lines that
-/// were done.
+/// past the limit of the input; the lines before it are then wholly answered. `WriteFault` and `Memory`
+/// come only where the sink answered them; what was written is then a front of the whole text. The console
+/// stands for the desk after the lines that were done.
 pub fn session<S: Source, K: Sink>(
     console: &mut Console,
     lines: &mut Lines<S>,
@@ -35,6 +35,9 @@ pub fn session<S: Source, K: Sink>(
     // Ok: the whole script was answered. Else a front of its text was written.
     ensures ok { IfOk result (λ tally. (d : Desk) → StandsFor d console.old → IfSome (unread S.left lines.old) (λ bytes. AnswersAll d (lines_of bytes) (K.holds sink.old) (K.holds sink.new) console.new tally)) }
     ensures err { OnErr result ((d : Desk) → StandsFor d console.old → IfSome (unread S.left lines.old) (λ bytes. AnswersFront d (lines_of bytes) (K.holds sink.old) (K.holds sink.new) console.new)) }
+
+    // Where the script couldn't be read on, the lines that were handed out are done and wholly answered.
+    ensures unread { (result ≡ Err SessionFault.ReadFault) ⊎ (result ≡ Err SessionFault.InputTooLong) → (d : Desk) → StandsFor d console.old → IfSome (unread S.left lines.old) (λ bytes. AnswersLines d (lines_of bytes) (K.holds sink.old) (K.holds sink.new) console.new) }
 
     // The causes.
     ensures later { S.faults lines.old.source.now ≤ S.faults lines.new.source.now }

@@ -36,6 +36,7 @@ pub(crate) fn take_line<S: Source, K: Sink>(
     ensures goes_on { result ≡ None → (s : Session) → StandsFor s.desk console.old → s.counts ≡ counts_in tally.old → TookOne S.left S.faults lines.old lines.new (K.holds sink.old) (K.holds sink.new) s console.new tally.new }
     ensures ok { result ≡ Some (Ok tt) → (s : Session) → StandsFor s.desk console.old → s.counts ≡ counts_in tally.old → EndedSo (K.holds sink.old) (K.holds sink.new) s console.new tally.new }
     ensures fault { IfSome result (λ ended. IfErr ended (λ fault. (s : Session) → StandsFor s.desk console.old → s.counts ≡ counts_in tally.old → StoppedSo S.left S.faults lines.old lines.new (K.holds sink.old) (K.holds sink.new) s console.new)) }
+    ensures unread { (result ≡ Some (Err SessionFault.ReadFault)) ⊎ (result ≡ Some (Err SessionFault.InputTooLong)) → (s : Session) → StandsFor s.desk console.old → Keeps (K.holds sink.old) (K.holds sink.new) × StandsFor s.desk console.new }
     ensures more_ok { tally.new.ok ≤ tally.old.ok + 1 }
     ensures more_refused { tally.new.refused ≤ tally.old.refused + 1 }
     ensures more_bad { tally.new.bad ≤ tally.old.bad + 1 }

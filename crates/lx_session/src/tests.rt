@@ -135,7 +135,8 @@ fn an_edit_reaches_a_running_fade(rt: HostRuntime) -> Result<(), Fail> {
 fn a_refused_command_and_a_bad_line_change_nothing(rt: HostRuntime) -> Result<(), Fail> {
     let alloc = rt.alloc();
     let mut console = one_cue(alloc, 0, 128)?;
-    let script = b"set 9 chan 1 at 5\nset 1 chan 1 at 5 part 2\nset 1 chan 2 thru 9 at 5\nset 1 group 4 at 5\nunpart 1 1\nfly 3\ngo\nframe\n";
+    let script =
+        b"set 9 chan 1 at 5\nset 1 chan 1 at 5 part 2\nset 1 chan 2 thru 9 at 5\nset 1 group 4 at 5\nunpart 1 1\nfly 3\ngo\nframe\n";
     let (outcome, sink) = play(&mut console, alloc, script.to_vec(alloc)?, 100);
     assert_eq!(rt; outcome, tally(1, 5, 1));
     assert_eq!(rt;
@@ -153,7 +154,10 @@ fn the_row_of_an_absent_cue_is_refused(rt: HostRuntime) -> Result<(), Fail> {
     let script = b"sheet 1\nsheet 2\n".to_vec(alloc)?;
     let (outcome, sink) = play(&mut console, alloc, script, 100);
     assert_eq!(rt; outcome, tally(0, 1, 0));
-    assert_eq!(rt; sink.bytes(), b"row 1 1=128\nrefused AbsentCue 2\n".as_slice());
+    assert_eq!(rt;
+        sink.bytes(),
+        b"row 1 1=128\nrefused AbsentCue 2\n".as_slice()
+    );
     Ok(())
 }
 
@@ -280,9 +284,15 @@ fn lines_are_answered_one_by_one(rt: HostRuntime) -> Result<(), Fail> {
     let go = Some(b"GO".as_slice());
     assert_eq!(rt; answer(&mut console, go, &mut sink, &mut counts), Ok(true));
     assert_eq!(rt; answer(&mut console, go, &mut sink, &mut counts), Ok(true));
-    assert_eq!(rt; answer(&mut console, None, &mut sink, &mut counts), Ok(true));
+    assert_eq!(rt;
+        answer(&mut console, None, &mut sink, &mut counts),
+        Ok(true)
+    );
     let quit = Some(b"quit ! good night".as_slice());
-    assert_eq!(rt; answer(&mut console, quit, &mut sink, &mut counts), Ok(false));
+    assert_eq!(rt;
+        answer(&mut console, quit, &mut sink, &mut counts),
+        Ok(false)
+    );
     assert_eq!(rt; sink.bytes(), b"ok\nrefused NoCueAfter 1\nbad\n".as_slice());
     assert_eq!(rt; Ok(counts), tally(8, 6, 4));
     Ok(())
