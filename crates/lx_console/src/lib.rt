@@ -12,6 +12,4 @@ mod ticks;
 pub use console::Console;
 
 #[cfg(test)]
-mod edit_tests;
-#[cfg(test)]
 mod tests;
