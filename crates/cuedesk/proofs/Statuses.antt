@@ -1,5 +1,5 @@
 -- What the status of a session says of it.
-use Rattle.std.proofs.Common.{◌≡◌, Result, Ok, Err, OnOk, IfOk, OnErr, IfSome, Option, Some, None, refl, List, ℕ}
+use Rattle.std.proofs.Common.{◌≡◌, Bool, true, false, Result, Ok, Err, OnOk, IfOk, IfErr, IfSome, Option, Some, None, refl, List, ℕ}
 use Rattle.lx_spec.specs.Text.{lines_of}
 use Rattle.lx_spec.specs.Desk.{Desk}
 use Rattle.lx_spec.specs.Stands.{Kept}
@@ -8,7 +8,9 @@ use Rattle.lx_session.specs.declared.fault.SessionFault.{SessionFault}
 use Rattle.lx_session.specs.declared.fault.SessionFault.TheVariants as faults
 use Rattle.lx_session.specs.declared.tally.Tally.{Tally}
 use Rattle.lx_session.specs.Meaning.{replies_of}
-use Rattle.lx_session.specs.Scripts.{AnswersAll, AnswersFront}
+use Rattle.lx_session.specs.Scripts.{AnswersAll, AnswersFront, AnswersLines}
+use Rattle.lx_session.specs.Faults.{is_of_sink}
+use Rattle.lx_session.proofs.Ends.{front_of_all, whole_of_all}
 use Rattle.cuedesk.specs.declared.desk.Status.TheVariants as status
 use Rattle.cuedesk.specs.Faults.{status_for}
 use Rattle.cuedesk.specs.Output.{AnswersInFront}
@@ -32,12 +34,24 @@ over : (o : Option (List ℕ)) (P Q : List ℕ → Type 0) → IfSome o P → ((
 over None P Q p f = tt
 over (Some xs) P Q p f = f xs p
 
-front_of : (d : Desk) (script : List (List ℕ)) (h h' : Option (List ℕ)) (console : Kept) → AnswersFront d script h h' console → AnswersInFront d script h h'
-front_of d script h h' console a = record { places = a.places; wants = a.wants; text = a.text }
+front_of : (d : Desk) (bytes : List ℕ) (left h h' : Option (List ℕ)) (console : Kept) → AnswersFront d bytes left h h' console → AnswersInFront d (lines_of bytes) h h'
+front_of d bytes left h h' console a = record { places = a.places; wants = a.wants; text = front_of_all d (lines_of bytes) a.places a.done h h' a.text }
+
+lines_front : (d : Desk) (before : ℕ) (bytes : List ℕ) (left h h' : Option (List ℕ)) (console : Kept) → AnswersLines d before bytes left h h' console → AnswersInFront d (lines_of bytes) h h'
+lines_front d before bytes left h h' console a = record { places = a.places; wants = a.wants; text = whole_of_all d (lines_of bytes) a.places a.done h h' a.text }
+
+-- A session that ended by a fault answered in front.
+faulted_front : (o left h h' : Option (List ℕ)) (d : Desk) (before : ℕ) (console : Kept) (fault : SessionFault) (by_sink : Bool) → is_of_sink fault ≡ by_sink
+    → (is_of_sink fault ≡ true → IfSome o (λ bytes. AnswersFront d bytes left h h' console)) → (is_of_sink fault ≡ false → IfSome o (λ bytes. AnswersLines d before bytes left h h' console))
+    → IfSome o (λ bytes. AnswersInFront d (lines_of bytes) h h')
+faulted_front o left h h' d before console fault true is sink source = over o _ _ (sink is) (λ xs a. front_of d xs left h h' console a)
+faulted_front o left h h' d before console fault false is sink source = over o _ _ (source is) (λ xs a. lines_front d before xs left h h' console a)
 
 -- and however it ended, in front
-pub answered_front : (o h h' : Option (List ℕ)) (d : Desk) (before console : Kept) (r : Result Tally SessionFault) → StandsFor d before
-    → IfOk r (λ tally. (d : Desk) → StandsFor d before → IfSome o (λ bytes. AnswersAll d (lines_of bytes) h h' console tally)) → OnErr r ((d : Desk) → StandsFor d before → IfSome o (λ bytes. AnswersFront d (lines_of bytes) h h' console))
+pub answered_front : (o left h h' : Option (List ℕ)) (d : Desk) (taken : ℕ) (before console : Kept) (r : Result Tally SessionFault) → StandsFor d before
+    → IfOk r (λ tally. (d : Desk) → StandsFor d before → IfSome o (λ bytes. AnswersAll d (lines_of bytes) h h' console tally))
+    → IfErr r (λ fault. is_of_sink fault ≡ true → (d : Desk) → StandsFor d before → IfSome o (λ bytes. AnswersFront d bytes left h h' console))
+    → IfErr r (λ fault. is_of_sink fault ≡ false → (d : Desk) → StandsFor d before → IfSome o (λ bytes. AnswersLines d taken bytes left h h' console))
     → IfSome o (λ bytes. AnswersInFront d (lines_of bytes) h h')
-answered_front o h h' d before console (Ok tally) stands all front = over o _ _ (all d stands) (λ xs a. record { places = a.places; wants = a.wants; text = whole_front h h' (replies_of d (lines_of xs) a.places) a.text })
-answered_front o h h' d before console (Err e) stands all front = over o _ _ (front d stands) (λ xs p. front_of d (lines_of xs) h h' console p)
+answered_front o left h h' d taken before console (Ok tally) stands all sink source = over o _ _ (all d stands) (λ xs a. record { places = a.places; wants = a.wants; text = whole_front h h' (replies_of d (lines_of xs) a.places) a.text })
+answered_front o left h h' d taken before console (Err e) stands all sink source = faulted_front o left h h' d taken console e (is_of_sink e) refl (λ is. sink is d stands) (λ is. source is d stands)

@@ -115,15 +115,17 @@ fn an_interrupted_fade_goes_on_from_where_it_is(rt: HostRuntime) -> Result<(), F
     Ok(())
 }
 
+/// The edit gives cue 3 a move at the level that tracks into it, once: it can be released once.
 #[test]
 fn a_cue_only_edit_leaves_the_next_cue(rt: HostRuntime) -> Result<(), Fail> {
     let alloc = rt.alloc();
     let show = b"CUE 1\nCHAN 1@FL\nCUE 2\nCUE 3\n".as_slice();
-    let script = b"set 2 chan 1 at 50 only\nsheet 2\nsheet 3\nsheet 4\n".as_slice();
-    let sink = played(alloc, show, script)?;
+    let set = b"set 2 chan 1 at 50 only\nsheet 1\nsheet 2\nsheet 3\n".as_slice();
+    let release = b"release 3 chan 1\nrelease 3 chan 1\nsheet 4\n".as_slice();
+    let sink = played(alloc, show, &joined(alloc, &[set, set, release])?)?;
     assert_eq!(rt;
         sink.bytes(),
-        b"ok\nrow 2 1=128\nrow 3 1=255\nrefused AbsentCue 4\n".as_slice()
+        b"ok\nrow 1 1=255\nrow 2 1=128\nrow 3 1=255\nok\nrow 1 1=255\nrow 2 1=128\nrow 3 1=255\nok\nrefused AbsentMove 3 1\nrefused AbsentCue 4\n".as_slice()
     );
     Ok(())
 }

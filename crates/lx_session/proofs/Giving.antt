@@ -130,10 +130,10 @@ given_in_part holds faults wants sink sink' result s meaning console tally fault
 
 pub failed : {K : Type 0} (holds : K → Option (List ℕ)) (faults wants : K → ℕ) (sink sink' : K) (result : Result Bool SinkFault) (s : Session) (meaning : Option Line) (console : Kept) (tally : Tally) (fault : SinkFault)
     → result ≡ Err fault → Answered holds faults wants sink sink' result s meaning console tally
-    → (Keeps (holds sink) (holds sink') × StandsFor s.desk console) ⊎ GivenInPart (holds sink) (holds sink') s meaning console
+    → ((Keeps (holds sink) (holds sink') × StandsFor s.desk console) × (is_quit meaning ≡ true)) ⊎ GivenInPart (holds sink) (holds sink') s meaning console
 failed holds faults wants sink sink' result s meaning console tally fault is a =
-    bool_or (is_quit meaning) ((Keeps (holds sink) (holds sink') × StandsFor s.desk console) ⊎ GivenInPart (holds sink) (holds sink') s meaning console)
-    (λ on. inl (quit_fails holds faults wants sink sink' result s meaning console tally fault is on a, quit_stands holds faults wants sink sink' result s meaning console tally on a))
+    bool_or (is_quit meaning) (((Keeps (holds sink) (holds sink') × StandsFor s.desk console) × (is_quit meaning ≡ true)) ⊎ GivenInPart (holds sink) (holds sink') s meaning console)
+    (λ on. inl ((quit_fails holds faults wants sink sink' result s meaning console tally fault is on a, quit_stands holds faults wants sink sink' result s meaning console tally on a), on))
     (λ off. inr (given_in_part holds faults wants sink sink' result s meaning console tally fault is off a))
 
 -- a fact of the fault, where there is one

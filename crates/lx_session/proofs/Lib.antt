@@ -8,4 +8,5 @@ pub mod Giving
 pub mod Takings
 pub mod Places
 pub mod SoFar
+pub mod Ends
 pub mod Rows

@@ -1,4 +1,4 @@
--- How far a session has come, and how it ends.
+-- How far a session has come.
 use Rattle.std.proofs.Common.{◌≡◌, ◌⊎◌, inl, inr, ℕ, zero, suc, ◌+◌, ◌≤◌, ◌<◌, Bool, true, false, cond, not, eqb, Result, Ok, Err, OnOk, OnErr, IfErr, IfOk, Option, Some, None, IfSome, IsTrue, List, [], ◌∷◌, ◌++◌, map, length, take, drop, take-append-drop, refl, sym, ap, ◌∙◌, subst, append-nil, append_assoc, length-append, arith}
 use Rattle.std.specs.List.{position_or_len, before_first, AllByRecursion}
 use Rattle.std.specs.Io.KnownBytes.{Appends, Keeps, IsAtEnd}
@@ -43,7 +43,7 @@ pub record Done (d : Desk) (script : List (List ℕ)) (places : List ℕ) (now :
   pub is : (more : List ℕ) → AreAbove now.attempts more → after_lines (places ++ more) (begun d) script ≡ now
   pub wants : (more : List ℕ) → AreAbove now.attempts more → WantsAtEdits (places ++ more) (begun d) script
 
-no_place : (m n : ℕ) (P : Type 0) → false ≡ true → P
+pub no_place : (m n : ℕ) (P : Type 0) → false ≡ true → P
 no_place m n P e = absurd cc
 
 pub done_none : (d : Desk) → Done d [] [] (begun d)
@@ -129,33 +129,33 @@ passed_more left faults a b c p one = record {
 }
 
 -- where the script ends
-ends_after : (xs : List (List ℕ)) (more : List (List ℕ)) → GoOn xs → position_or_len ends_script (xs ++ more) ≡ length xs + position_or_len ends_script more
+pub ends_after : (xs : List (List ℕ)) (more : List (List ℕ)) → GoOn xs → position_or_len ends_script (xs ++ more) ≡ length xs + position_or_len ends_script more
 ends_after [] more all = omega arith
 ends_after (x ∷ xs) more all =
     let here = ap (λ b. cond (not b) (1 + position_or_len ends_script (xs ++ more)) 0) all.0 in
     let next = ends_after xs more all.1 in
     omega (arith, here, next)
 
-ends_here : (l : List ℕ) (more : List (List ℕ)) → ends_script l ≡ true → position_or_len ends_script (l ∷ more) ≡ 0
+pub ends_here : (l : List ℕ) (more : List (List ℕ)) → ends_script l ≡ true → position_or_len ends_script (l ∷ more) ≡ 0
 ends_here l more e = ap (λ b. cond (not b) (1 + position_or_len ends_script more) 0) e
 
 -- a fact of all known bytes from one that is known, or two
-over : (o : Option (List ℕ)) (P Q : List ℕ → Type 0) → IfSome o P → ((xs : List ℕ) → P xs → Q xs) → IfSome o Q
+pub over : (o : Option (List ℕ)) (P Q : List ℕ → Type 0) → IfSome o P → ((xs : List ℕ) → P xs → Q xs) → IfSome o Q
 over None P Q p f = tt
 over (Some xs) P Q p f = f xs p
 
-with_both : (o : Option (List ℕ)) (P Q R : List ℕ → Type 0) → IfSome o P → IfSome o Q → ((xs : List ℕ) → P xs → Q xs → R xs) → IfSome o R
+pub with_both : (o : Option (List ℕ)) (P Q R : List ℕ → Type 0) → IfSome o P → IfSome o Q → ((xs : List ℕ) → P xs → Q xs → R xs) → IfSome o R
 with_both None P Q R p q f = tt
 with_both (Some xs) P Q R p q f = f xs p q
 
 -- the lines of all known bytes begin with those that were handed out
-begins : (a b : Option (List ℕ)) (i j : ℕ) (raws : List (List ℕ)) → TookLines a b i j raws → IfSome a (λ xs. (rest : List (List ℕ)) × (lines_of xs ≡ map without_cr raws ++ rest))
+pub begins : (a b : Option (List ℕ)) (i j : ℕ) (raws : List (List ℕ)) → TookLines a b i j raws → IfSome a (λ xs. (rest : List (List ℕ)) × (lines_of xs ≡ map without_cr raws ++ rest))
 begins None b i j raws p = tt
 begins (Some x) None i j raws p = absurd p.took
 begins (Some x) (Some y) i j raws p = (lines_of y, texts (Some x) (Some y) i j raws p)
 
 -- and with one more that was handed out after them
-begins_more : (a b : Option (List ℕ)) (i j : ℕ) (raws : List (List ℕ)) (raw : List ℕ) → TookLines a b i j (raws ++ raw ∷ []) → IfSome a (λ xs. (rest : List (List ℕ)) × (lines_of xs ≡ map without_cr raws ++ without_cr raw ∷ rest))
+pub begins_more : (a b : Option (List ℕ)) (i j : ℕ) (raws : List (List ℕ)) (raw : List ℕ) → TookLines a b i j (raws ++ raw ∷ []) → IfSome a (λ xs. (rest : List (List ℕ)) × (lines_of xs ≡ map without_cr raws ++ without_cr raw ∷ rest))
 begins_more a b i j raws raw p =
     over a _ _ (begins a b i j (raws ++ raw ∷ []) p) (λ xs e. (e.0, e.1 ∙ ap (λ v. v ++ e.0) (map-append without_cr raws (raw ∷ [])) ∙ append_assoc (map without_cr raws) (without_cr raw ∷ []) e.0))
 
@@ -200,162 +200,3 @@ too_long left faults a b c s step =
     let is = ap (λ ls. position_or_len ends_script ls + 1) e.1 in
     omega (arith, is, ends_after (map without_cr s.raws) e.0 s.go_on, length-map s.raws without_cr) in
     omega (arith, lt, first_lines-longer n (lines_wanted (lines_of xs)) xs wanted))
-
--- what the lines before the end are
-take_along : (xs more : List (List ℕ)) (n : ℕ) → take (length xs + n) (xs ++ more) ≡ xs ++ take n more
-take_along xs more n = take-append-add xs more n
-
-before_end : (xs : List (List ℕ)) (more : List (List ℕ)) → GoOn xs → before_first ends_script (xs ++ more) ≡ xs ++ before_first ends_script more
-before_end xs more all =
-    ap (λ n. take n (xs ++ more)) (ends_after xs more all) ∙ take_along xs more (position_or_len ends_script more)
-
--- the session that the definitions give, where the lines before the end are these
-session_is : (d : Desk) (script lines : List (List ℕ)) (places : List ℕ) (now : Session) → before_first ends_script script ≡ lines → Done d lines places now → session_of d script places ≡ now
-session_is d script lines places now is done =
-    ap (after_lines places (begun d)) is ∙ ap (λ ps. after_lines ps (begun d) lines) (sym (append-nil places)) ∙ done.is [] (λ n has. no_place 0 n (now.attempts < n) has)
-
-wants_all : (d : Desk) (lines : List (List ℕ)) (places : List ℕ) (now : Session) → Done d lines places now → WantsAtEdits places (begun d) lines
-wants_all d lines places now done = subst (λ ps. WantsAtEdits ps (begun d) lines) (append-nil places) (done.wants [] (λ n has. no_place 0 n (now.attempts < n) has))
-
-answers_all : (d : Desk) (script lines : List (List ℕ)) (places : List ℕ) (now : Session) (h h' : Option (List ℕ)) (console : Kept) (tally : Tally) → before_first ends_script script ≡ lines → Done d lines places now
-    → Appends h h' now.text → StandsFor now.desk console → now.counts ≡ counts_in tally → AnswersAll d script h h' console tally
-answers_all d script lines places now h h' console tally is done appended stands counts =
-    let same = session_is d script lines places now is done in
-    record {
-      places = places;
-      wants = subst (λ ls. WantsAtEdits places (begun d) ls) (sym is) (wants_all d lines places now done);
-      text = subst (λ (s : Session). Appends h h' s.text) (sym same) appended;
-      stands = subst (λ (s : Session). StandsFor s.desk console) (sym same) stands;
-      counts = sym (ap (λ s. s.counts) same ∙ counts);
-    }
-
--- a front of a text was appended, where the text begins so
-front_made : (a b : Option (List ℕ)) (front rest text : List ℕ) → text ≡ front ++ rest → Appends a b front → AppendsFront a b text
-front_made a b front rest text is p = AppendsFront-from a b text (length front) (subst (λ (v : List ℕ). Appends a b v) (sym (ap (take (length front)) is ∙ take-append_seam front rest)) p)
-
-answers_front : (d : Desk) (script lines rest : List (List ℕ)) (places : List ℕ) (now : Session) (h h' : Option (List ℕ)) (console : Kept) (written more : List ℕ) → before_first ends_script script ≡ lines ++ rest → Done d lines places now
-    → now.text ≡ written ++ more → Appends h h' written → StandsFor now.desk console → AnswersFront d script h h' console
-answers_front d script lines rest places now h h' console written more is done text appended stands =
-    let here : after_lines places (begun d) lines ≡ now = ap (λ ps. after_lines ps (begun d) lines) (sym (append-nil places)) ∙ done.is [] (λ n has. no_place 0 n (now.attempts < n) has) in
-    let later = extends_lines places now rest in
-    let whole : replies_of d script places ≡ written ++ (more ++ later.more) =
-    ap (λ ls. (after_lines places (begun d) ls).text) is ∙ ap (λ s. s.text) (lines-append places (begun d) lines rest ∙ ap (λ s. after_lines places s rest) here)
-    ∙ later.text ∙ ap (λ v. v ++ later.more) text ∙ append_assoc written more later.more in
-    let first : take (length lines) (before_first ends_script script) ≡ lines = ap (take (length lines)) is ∙ take-append_seam lines rest in
-    record {
-      places = places;
-      wants = subst (λ ls. WantsAtEdits places (begun d) ls) (sym is)
-          (wants-append places (begun d) lines rest (wants_all d lines places now done) (subst (λ s. WantsAtEdits places s rest) (sym here) (wants_nothing places now rest done.within)));
-      text = front_made h h' written (more ++ later.more) (replies_of d script places) whole appended;
-      done = length lines;
-      stands = subst (λ (s : Session). StandsFor s.desk console) (sym (ap (after_lines places (begun d)) first ∙ here)) stands;
-    }
-
--- what was appended and kept was appended
-appended_kept : (h h' h'' : Option (List ℕ)) (xs : List ℕ) → Appends h h' xs → Keeps h' h'' → Appends h h'' xs
-appended_kept None h' h'' xs p q = tt
-appended_kept (Some x) None h'' xs p q = absurd p
-appended_kept (Some x) (Some y) None xs p q = absurd q
-appended_kept (Some x) (Some y) (Some z) xs p q = q ∙ p
-
-before_all : (xs : List (List ℕ)) → GoOn xs → before_first ends_script xs ≡ xs
-before_all xs all = ap (before_first ends_script) (sym (append-nil xs)) ∙ before_end xs [] all ∙ append-nil xs
-
-before_quit : (xs : List (List ℕ)) (l : List ℕ) (more : List (List ℕ)) → GoOn xs → ends_script l ≡ true → before_first ends_script (xs ++ l ∷ more) ≡ xs
-before_quit xs l more all e = before_end xs (l ∷ more) all ∙ ap (λ n. xs ++ take n (l ∷ more)) (ends_here l more e) ∙ append-nil xs
-
--- The script has ended: the whole text was written.
-ends : {S : Type 0} (left : S → Option (List ℕ)) (faults : S → ℕ) (a b : Lines S) (d : Desk) (console console' : Kept) (tally tally' : Tally) (h h' h'' : Option (List ℕ))
-    → (s : SoFar left faults a b d console tally h h') → EndedSo h' h'' s.now console' tally' → IsAtEnd (unread left b) → IfSome (unread left a) (λ bytes. AnswersAll d (lines_of bytes) h h'' console' tally')
-ends left faults a b d console console' tally tally' h h' h'' s e end =
-    over (unread left a) (λ xs. lines_of xs ≡ map without_cr s.raws) _ (all_texts (unread left a) (unread left b) a.taken b.taken s.raws s.handed.took end)
-    (λ xs is. answers_all d (lines_of xs) (map without_cr s.raws) s.places s.now h h'' console' tally' (ap (before_first ends_script) is ∙ before_all (map without_cr s.raws) s.done.go_on) s.done (appended_kept h h' h'' s.now.text s.appended e.kept) e.stands e.counts)
-
-quits : {S : Type 0} (left : S → Option (List ℕ)) (faults : S → ℕ) (a b c : Lines S) (d : Desk) (console console' : Kept) (tally tally' : Tally) (h h' h'' : Option (List ℕ))
-    → (s : SoFar left faults a b d console tally h h') → EndedSo h' h'' s.now console' tally' → TookQuit left faults b c → IfSome (unread left a) (λ bytes. AnswersAll d (lines_of bytes) h h'' console' tally')
-quits left faults a b c d console console' tally tally' h h' h'' s e q =
-    let both = handed_then left faults a b c s.raws (q.raw ∷ []) s.handed q.handed in
-    over (unread left a) _ _ (begins_more (unread left a) (unread left c) a.taken c.taken s.raws q.raw both.took) (λ xs is.
-    answers_all d (lines_of xs) (map without_cr s.raws) s.places s.now h h'' console' tally' (ap (before_first ends_script) is.1 ∙ before_quit (map without_cr s.raws) (without_cr q.raw) is.0 s.done.go_on q.quits) s.done (appended_kept h h' h'' s.now.text s.appended e.kept) e.stands e.counts)
-
-pub so_far_ends : {S : Type 0} (left : S → Option (List ℕ)) (faults : S → ℕ) (a b c : Lines S) (d : Desk) (console console' : Kept) (tally tally' : Tally) (h h' h'' : Option (List ℕ))
-    → (s : SoFar left faults a b d console tally h h') → EndedSo h' h'' s.now console' tally' → IsAtEnd (unread left b) ⊎ TookQuit left faults b c → IfSome (unread left a) (λ bytes. AnswersAll d (lines_of bytes) h h'' console' tally')
-so_far_ends left faults a b c d console console' tally tally' h h' h'' s e how = elim how [
-  | inl end ↦ ends left faults a b d console console' tally tally' h h' h'' s e end
-  | inr quit ↦ quits left faults a b c d console console' tally tally' h h' h'' s e quit
-]
-
--- the session stopped between two lines
-stops : {S : Type 0} (left : S → Option (List ℕ)) (faults : S → ℕ) (a b : Lines S) (d : Desk) (console console' : Kept) (tally : Tally) (h h' h'' : Option (List ℕ))
-    → (s : SoFar left faults a b d console tally h h') → Keeps h' h'' → StandsFor s.now.desk console' → IfSome (unread left a) (λ bytes. AnswersFront d (lines_of bytes) h h'' console')
-stops left faults a b d console console' tally h h' h'' s kept stands =
-    let lines = map without_cr s.raws in
-    over (unread left a) _ _ (begins (unread left a) (unread left b) a.taken b.taken s.raws s.handed.took) (λ xs is.
-    answers_front d (lines_of xs) lines (before_first ends_script is.0) s.places s.now h h'' console' s.now.text [] (ap (before_first ends_script) is.1 ∙ before_end lines is.0 s.done.go_on) s.done (sym (append-nil s.now.text)) (appended_kept h h' h'' s.now.text s.appended kept) stands)
-
--- and all lines that were handed out were answered
-answers_lines : (d : Desk) (script lines rest : List (List ℕ)) (places : List ℕ) (now : Session) (h h' : Option (List ℕ)) (console : Kept) → before_first ends_script script ≡ lines ++ rest → Done d lines places now
-    → Appends h h' now.text → StandsFor now.desk console → AnswersLines d script h h' console
-answers_lines d script lines rest places now h h' console is done appended stands =
-    let here : after_lines places (begun d) lines ≡ now = ap (λ ps. after_lines ps (begun d) lines) (sym (append-nil places)) ∙ done.is [] (λ n has. no_place 0 n (now.attempts < n) has) in
-    let first : take (length lines) (before_first ends_script script) ≡ lines = ap (take (length lines)) is ∙ take-append_seam lines rest in
-    let same : after_lines places (begun d) (take (length lines) (before_first ends_script script)) ≡ now = ap (after_lines places (begun d)) first ∙ here in
-    record {
-      places = places;
-      wants = subst (λ ls. WantsAtEdits places (begun d) ls) (sym is)
-          (wants-append places (begun d) lines rest (wants_all d lines places now done) (subst (λ s. WantsAtEdits places s rest) (sym here) (wants_nothing places now rest done.within)));
-      done = length lines;
-      text = subst (λ (s : Session). Appends h h' s.text) (sym same) appended;
-      stands = subst (λ (s : Session). StandsFor s.desk console) (sym same) stands;
-    }
-
-pub so_far_unread : {S : Type 0} (left : S → Option (List ℕ)) (faults : S → ℕ) (a b : Lines S) (d : Desk) (console console' : Kept) (tally : Tally) (h h' h'' : Option (List ℕ))
-    → (s : SoFar left faults a b d console tally h h') → Keeps h' h'' × StandsFor s.now.desk console' → IfSome (unread left a) (λ bytes. AnswersLines d (lines_of bytes) h h'' console')
-so_far_unread left faults a b d console console' tally h h' h'' s same =
-    let lines = map without_cr s.raws in
-    over (unread left a) _ _ (begins (unread left a) (unread left b) a.taken b.taken s.raws s.handed.took) (λ xs is.
-    answers_lines d (lines_of xs) lines (before_first ends_script is.0) s.places s.now h h'' console' (ap (before_first ends_script) is.1 ∙ before_end lines is.0 s.done.go_on) s.done (appended_kept h h' h'' s.now.text s.appended same.0) same.1)
-
--- the session stopped within a reply
-stops_in_part : {S : Type 0} (left : S → Option (List ℕ)) (faults : S → ℕ) (a b c : Lines S) (d : Desk) (console console' : Kept) (tally : Tally) (h h' h'' : Option (List ℕ))
-    → (s : SoFar left faults a b d console tally h h') → TookOneInPart left faults b c h' h'' s.now console' → IfSome (unread left a) (λ bytes. AnswersFront d (lines_of bytes) h h'' console')
-stops_in_part left faults a b c d console console' tally h h' h'' s t =
-    let line = without_cr t.raw in
-    let lines = map without_cr s.raws in
-    let w = t.given.went in
-    let both = handed_then left faults a b c s.raws (t.raw ∷ []) s.handed t.handed in
-    let reply = t.given.reply in
-    let part = AppendsFront-is h' h'' reply t.given.front in
-    let front = take part.0 reply in
-    let rest = drop part.0 reply in
-    let done = done_more d lines s.places s.now line console' reply s.done w in
-    over (unread left a) _ _ (begins_more (unread left a) (unread left c) a.taken c.taken s.raws t.raw both.took) (λ xs is.
-    answers_front d (lines_of xs) (lines ++ line ∷ []) (before_first ends_script is.0) (s.places ++ own_place w.wanted w.next.attempts) w.next h h'' console' (s.now.text ++ front) rest
-    (ap (before_first ends_script) (is.1 ∙ sym (append_assoc lines (line ∷ []) is.0)) ∙ before_end (lines ++ line ∷ []) is.0 done.go_on) done
-    (w.text ∙ ap (λ v. s.now.text ++ v) (sym (take-append-drop part.0 reply)) ∙ sym (append_assoc s.now.text front rest))
-    (Appends-trans h h' h'' s.now.text front s.appended part.1) w.stands)
-
-pub so_far_stops : {S : Type 0} (left : S → Option (List ℕ)) (faults : S → ℕ) (a b c : Lines S) (d : Desk) (console console' : Kept) (tally : Tally) (h h' h'' : Option (List ℕ))
-    → (s : SoFar left faults a b d console tally h h') → StoppedSo left faults b c h' h'' s.now console' → IfSome (unread left a) (λ bytes. AnswersFront d (lines_of bytes) h h'' console')
-so_far_stops left faults a b c d console console' tally h h' h'' s how = elim how [
-  | inl same ↦ stops left faults a b d console console' tally h h' h'' s same.0 same.1
-  | inr part ↦ stops_in_part left faults a b c d console console' tally h h' h'' s part
-]
-
--- what is known of a fault that came
-pub fault_at : {E : Type 0} (P : E → Type 0) (result : Option (Result (Unit {0}) E)) (fault : E) → result ≡ Some (Err fault) → IfSome result (λ ended. IfErr ended P) → P fault
-fault_at P result fault is known = subst (λ (r : Option (Result (Unit {0}) _)). IfSome r (λ ended. IfErr ended P)) is known
-
-abbrev err_of : {T E : Type 0} → E → Result T E
-err_of x = Err x
-
-pub same_fault : {T E : Type 0} (x y : E) → err_of {T = T} x ≡ err_of y → x ≡ y
-same_fault x y e = cc
-
--- the fault of a turn that couldn't read on is the session's
-pub read_faults : {T : Type 0} (result : Option (Result (Unit {0}) SessionFault)) (fault : SessionFault) → result ≡ Some (Err fault) → (err_of {T = T} fault ≡ err_of faults_of.ReadFault) ⊎ (err_of {T = T} fault ≡ err_of faults_of.InputTooLong)
-    → (result ≡ Some (Err faults_of.ReadFault)) ⊎ (result ≡ Some (Err faults_of.InputTooLong))
-read_faults {T = T} result fault is which = elim which [
-  | inl read ↦ inl (is ∙ ap (λ f. Some (Err f)) (same_fault {T = T} fault faults_of.ReadFault read))
-  | inr long ↦ inr (is ∙ ap (λ f. Some (Err f)) (same_fault {T = T} fault faults_of.InputTooLong long))
-]

@@ -18,9 +18,14 @@ abbrev pub RefusesAttempt : Bool → Desk → Command → Refusal → Type 0
 RefusesAttempt true d command refusal = Refuses d command refusal
 RefusesAttempt false d command refusal = refusal ≡ Memory
 
+-- a command that wasn't admitted is never accepted, and any other as the desk accepts it
+abbrev pub AcceptsAttempt : Bool → Desk → Command → Kept → Type 0
+AcceptsAttempt true d command console = IsOkAnd (step d command) (λ next. StandsFor next console)
+AcceptsAttempt false d command console = ⊥
+
 -- An attempt: accepted, and the console stands for the desk after it; or refused, and it stands for the same.
 abbrev pub Attempted : Bool → Desk → Command → Option Refusal → Kept → Type 0
-Attempted admitted d command None console = IsOkAnd (step d command) (λ next. StandsFor next console)
+Attempted admitted d command None console = AcceptsAttempt admitted d command console
 Attempted admitted d command (Some refusal) console = StandsFor d console × RefusesAttempt admitted d command refusal
 
 -- so many attempts at a command, up to the first that is refused

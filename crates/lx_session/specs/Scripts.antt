@@ -1,13 +1,14 @@
 -- A session over the lines of a script.
-use Rattle.std.specs.Prelude.{◌≡◌, ℕ, ◌+◌, Option, List, take}
+use Rattle.std.specs.Prelude.{◌≡◌, ℕ, ◌+◌, ◌-◌, Option, IfSome, List, ◌++◌, length, take}
 use Rattle.std.specs.List.{position_or_len, before_first}
 use Rattle.std.specs.Io.KnownBytes.{Appends}
+use Rattle.lx_base.specs.declared.TheConstants.{INPUT_BYTES}
 use Rattle.lx_io.specs.Puts.{AppendsFront}
-use Rattle.lx_lex.specs.Lines.{first_lines}
+use Rattle.lx_lex.specs.Lines.{HasNoFeed, first_lines}
 use Rattle.lx_spec.specs.Text.{lines_of}
 use Rattle.lx_spec.specs.Stands.{Kept}
 use Rattle.lx_spec.specs.Desk.{Desk}
-use Rattle.lx_spec.specs.Replies.{begun}
+use Rattle.lx_spec.specs.Replies.{Session, begun}
 use Rattle.lx_console.specs.Standing.{StandsFor}
 use Rattle.lx_session.specs.declared.tally.Tally.{Tally}
 use Rattle.lx_session.specs.Meaning.{ends_script, session_of, replies_of, after_lines}
@@ -30,18 +31,26 @@ pub record AnswersAll (d : Desk) (script : List (List ℕ)) (held held' : Option
   pub stands : StandsFor (session_of d script places).desk console
   pub counts : counts_in tally ≡ (session_of d script places).counts
 
--- Some lines of the script were done, and a front of the text that answers the script was written.
-pub record AnswersFront (d : Desk) (script : List (List ℕ)) (held held' : Option (List ℕ)) (console : Kept) : Type 0 where
-  pub places : List ℕ
-  pub wants : WantsAtEdits places (begun d) (before_first ends_script script)
-  pub text : AppendsFront held held' (replies_of d script places)
-  pub done : ℕ
-  pub stands : StandsFor (after_lines places (begun d) (take done (before_first ends_script script))).desk console
+-- the session after the first so many lines of a script; a line that ends it, and those behind, count for nothing
+abbrev pub after_first : Desk → List (List ℕ) → List ℕ → ℕ → Session
+after_first d script places done = after_lines places (begun d) (take done (before_first ends_script script))
 
--- So many lines of the script were done and wholly answered.
-pub record AnswersLines (d : Desk) (script : List (List ℕ)) (held held' : Option (List ℕ)) (console : Kept) : Type 0 where
+-- So many lines were handed out and done, and a front of the text that answers them was written.
+pub record AnswersFront (d : Desk) (bytes : List ℕ) (left : Option (List ℕ)) (held held' : Option (List ℕ)) (console : Kept) : Type 0 where
   pub places : List ℕ
-  pub wants : WantsAtEdits places (begun d) (before_first ends_script script)
+  pub wants : WantsAtEdits places (begun d) (before_first ends_script (lines_of bytes))
   pub done : ℕ
-  pub text : Appends held held' (after_lines places (begun d) (take done (before_first ends_script script))).text
-  pub stands : StandsFor (after_lines places (begun d) (take done (before_first ends_script script))).desk console
+  pub handed : IfSome left (λ rest. bytes ≡ first_lines done bytes ++ rest)
+  pub text : AppendsFront held held' (after_first d (lines_of bytes) places done).text
+  pub stands : StandsFor (after_first d (lines_of bytes) places done).desk console
+
+-- So many lines were handed out, done and wholly answered. Of the next line some bytes were taken, but within the limit of the input no LF.
+pub record AnswersLines (d : Desk) (before : ℕ) (bytes : List ℕ) (left : Option (List ℕ)) (held held' : Option (List ℕ)) (console : Kept) : Type 0 where
+  pub places : List ℕ
+  pub wants : WantsAtEdits places (begun d) (before_first ends_script (lines_of bytes))
+  pub done : ℕ
+  pub next : List ℕ
+  pub handed : IfSome left (λ rest. bytes ≡ first_lines done bytes ++ (next ++ rest))
+  pub no_feed : HasNoFeed (take (INPUT_BYTES - (before + length (first_lines done bytes))) next)
+  pub text : Appends held held' (after_first d (lines_of bytes) places done).text
+  pub stands : StandsFor (after_first d (lines_of bytes) places done).desk console

@@ -7,6 +7,8 @@ mod finish;
 mod running;
 mod taking;
 mod tally;
+#[cfg(test)]
+mod tests;
 mod turn;
 
 pub use answering::answer;

@@ -1,12 +1,13 @@
 //! A session: script lines are read one after another, and each is answered before the next is awaited.
 
-ghost use Rattle.std.specs.Prelude.{◌≡◌, ◌⊎◌, ◌≤◌, ◌<◌, ◌+◌, true, List, ℕ, length, IsTrue, IfSome, IfOk, OnErr, OnOk, Ok, Err, Some, None};
+ghost use Rattle.std.specs.Prelude.{◌≡◌, ◌≤◌, ◌<◌, ◌+◌, true, false, length, IsTrue, IfSome, IfOk, IfErr, OnOk, Err};
 ghost use Rattle.lx_base.specs.declared.TheConstants.{INPUT_BYTES};
 ghost use Rattle.lx_io.specs.Causes.{Rose};
 ghost use Rattle.lx_lex.specs.Unread.{unread};
 ghost use Rattle.lx_spec.specs.Text.{lines_of};
 ghost use Rattle.lx_spec.specs.Desk.{Desk};
 ghost use Rattle.lx_console.specs.Standing.{StandsFor};
+ghost use Rattle.lx_session.specs.Faults.{is_of_sink};
 ghost use Rattle.lx_session.specs.Scripts.{AnswersAll, AnswersFront, AnswersLines, bytes_wanted};
 
 use crate::fault::SessionFault;
@@ -32,12 +33,14 @@ pub fn session<S: Source, K: Sink>(
     requires within { lines.old.taken ≤ INPUT_BYTES }
     ensures same_reference { lines.new.source.ghost_name ≡ lines.old.source.ghost_name }
 
-    // Ok: the whole script was answered. Else a front of its text was written.
+    // Ok: the whole script was answered.
     ensures ok { IfOk result (λ tally. (d : Desk) → StandsFor d console.old → IfSome (unread S.left lines.old) (λ bytes. AnswersAll d (lines_of bytes) (K.holds sink.old) (K.holds sink.new) console.new tally)) }
-    ensures err { OnErr result ((d : Desk) → StandsFor d console.old → IfSome (unread S.left lines.old) (λ bytes. AnswersFront d (lines_of bytes) (K.holds sink.old) (K.holds sink.new) console.new)) }
 
-    // Where the script couldn't be read on, the lines that were handed out are done and wholly answered.
-    ensures unread { (result ≡ Err SessionFault.ReadFault) ⊎ (result ≡ Err SessionFault.InputTooLong) → (d : Desk) → StandsFor d console.old → IfSome (unread S.left lines.old) (λ bytes. AnswersLines d (lines_of bytes) (K.holds sink.old) (K.holds sink.new) console.new) }
+    // Where the sink failed, the lines that were handed out are done, and a front of their replies was written.
+    ensures unwritten { IfErr result (λ fault. is_of_sink fault ≡ true → (d : Desk) → StandsFor d console.old → IfSome (unread S.left lines.old) (λ bytes. AnswersFront d bytes (unread S.left lines.new) (K.holds sink.old) (K.holds sink.new) console.new)) }
+
+    // Where the script couldn't be read on, the lines whose LF was taken within the limit are done and wholly answered.
+    ensures unread { IfErr result (λ fault. is_of_sink fault ≡ false → (d : Desk) → StandsFor d console.old → IfSome (unread S.left lines.old) (λ bytes. AnswersLines d lines.old.taken bytes (unread S.left lines.new) (K.holds sink.old) (K.holds sink.new) console.new)) }
 
     // The causes.
     ensures later { S.faults lines.old.source.now ≤ S.faults lines.new.source.now }

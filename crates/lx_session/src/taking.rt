@@ -11,7 +11,8 @@ ghost use Rattle.lx_console.specs.Standing.{StandsFor};
 ghost use Rattle.lx_session.specs.Turning.{given};
 ghost use Rattle.lx_session.specs.Replying.{counts_in};
 ghost use Rattle.lx_session.specs.Given.{GivenOn, GivenInPart};
-ghost use Rattle.lx_session.specs.Taken.{PassedOne, TookOne, TookQuit, EndedSo, StoppedSo};
+ghost use Rattle.lx_session.specs.Taken.{PassedOne, TookOne, TookQuit, EndedSo, StoppedSo, NotTaken};
+ghost use Rattle.lx_session.specs.Faults.{is_of_sink};
 
 use crate::answering::answer;
 use crate::fault::{SessionFault, session_fault};
@@ -35,8 +36,8 @@ pub(crate) fn take_line<S: Source, K: Sink>(
     ensures same_reference { lines.new.source.ghost_name ≡ lines.old.source.ghost_name }
     ensures goes_on { result ≡ None → (s : Session) → StandsFor s.desk console.old → s.counts ≡ counts_in tally.old → TookOne S.left S.faults lines.old lines.new (K.holds sink.old) (K.holds sink.new) s console.new tally.new }
     ensures ok { result ≡ Some (Ok tt) → (s : Session) → StandsFor s.desk console.old → s.counts ≡ counts_in tally.old → EndedSo (K.holds sink.old) (K.holds sink.new) s console.new tally.new }
-    ensures fault { IfSome result (λ ended. IfErr ended (λ fault. (s : Session) → StandsFor s.desk console.old → s.counts ≡ counts_in tally.old → StoppedSo S.left S.faults lines.old lines.new (K.holds sink.old) (K.holds sink.new) s console.new)) }
-    ensures unread { (result ≡ Some (Err SessionFault.ReadFault)) ⊎ (result ≡ Some (Err SessionFault.InputTooLong)) → (s : Session) → StandsFor s.desk console.old → Keeps (K.holds sink.old) (K.holds sink.new) × StandsFor s.desk console.new }
+    ensures unwritten { IfSome result (λ ended. IfErr ended (λ fault. is_of_sink fault ≡ true → (s : Session) → StandsFor s.desk console.old → s.counts ≡ counts_in tally.old → StoppedSo S.left S.faults lines.old lines.new (K.holds sink.old) (K.holds sink.new) s console.new)) }
+    ensures unread { IfSome result (λ ended. IfErr ended (λ fault. is_of_sink fault ≡ false → (s : Session) → StandsFor s.desk console.old → NotTaken S.left lines.old lines.new (K.holds sink.old) (K.holds sink.new) s console.new)) }
     ensures more_ok { tally.new.ok ≤ tally.old.ok + 1 }
     ensures more_refused { tally.new.refused ≤ tally.old.refused + 1 }
     ensures more_bad { tally.new.bad ≤ tally.old.bad + 1 }
@@ -88,7 +89,7 @@ fn give_reply<K: Sink>(
     ensures more { result ≡ None → is_quit (given (option_copied line.entry)) ≡ false }
     ensures quit { result ≡ Some (Ok tt) → is_quit (given (option_copied line.entry)) ≡ true }
     ensures ok { result ≡ Some (Ok tt) → (s : Session) → StandsFor s.desk console.old → s.counts ≡ counts_in tally.old → Keeps (K.holds sink.old) (K.holds sink.new) × (StandsFor s.desk console.new × (s.counts ≡ counts_in tally.new)) }
-    ensures fault { IfSome result (λ ended. IfErr ended (λ fault. (s : Session) → StandsFor s.desk console.old → s.counts ≡ counts_in tally.old → (Keeps (K.holds sink.old) (K.holds sink.new) × StandsFor s.desk console.new) ⊎ GivenInPart (K.holds sink.old) (K.holds sink.new) s (given (option_copied line.entry)) console.new)) }
+    ensures fault { IfSome result (λ ended. IfErr ended (λ fault. (s : Session) → StandsFor s.desk console.old → s.counts ≡ counts_in tally.old → ((Keeps (K.holds sink.old) (K.holds sink.new) × StandsFor s.desk console.new) × (is_quit (given (option_copied line.entry)) ≡ true)) ⊎ GivenInPart (K.holds sink.old) (K.holds sink.new) s (given (option_copied line.entry)) console.new)) }
     ensures more_ok { tally.new.ok ≤ tally.old.ok + 1 }
     ensures more_refused { tally.new.refused ≤ tally.old.refused + 1 }
     ensures more_bad { tally.new.bad ≤ tally.old.bad + 1 }

@@ -6,4 +6,4 @@ pub returns-in_default-clause-front : goal.returns-in_default-clause-front
 returns-in_default-clause-front g c = nothing_answered _ _ _
 
 pub returns-clause-front : goal.returns-clause-front
-returns-clause-front g c = answered_front _ _ _ _ _ _ c.session.result c.in-Ok.ensures c.session.ensures.ok c.session.ensures.err
+returns-clause-front g c = answered_front _ _ _ _ _ _ _ _ c.session.result c.in-Ok.ensures c.session.ensures.ok c.session.ensures.unwritten c.session.ensures.unread

@@ -1,6 +1,7 @@
 use Rattle.std.proofs.Common.{◌≡◌, Some, Ok, Err, ap, sym, ◌∙◌, refl, subst, arith, IfErr, IfSome}
 use Rattle.lx_spec.specs.Replies.{Session}
-use Rattle.lx_session.proofs.SoFar.{so_far_none, so_far_more, passed_none, passed_more, so_far_ends, so_far_stops, so_far_unread, read_faults, fits, too_long, fault_at, same_fault}
+use Rattle.lx_session.proofs.SoFar.{so_far_none, so_far_more, passed_none, passed_more, fits, too_long}
+use Rattle.lx_session.proofs.Ends.{so_far_ends, so_far_stops, so_far_unread, fault_at, same_fault}
 use Rattle.lx_session.proofs.running.session.Goals as goal
 
 pub loop-ended-init : goal.loop-ended-init
@@ -38,15 +39,15 @@ returns-in-Ok-clause-ok g c = λ d stands.
 pub returns-in-Ok-clause-within : goal.returns-in-Ok-clause-within
 returns-in-Ok-clause-within g c = fits _ _ _ _ _ c.loop-ended.invariant.passed (c.take_line.ensures.ended (c.in-Some.is ∙ ap Some c.in-Ok.is))
 
-pub returns-in-Err-clause-err : goal.returns-in-Err-clause-err
-returns-in-Err-clause-err g c = λ d stands.
+pub returns-in-Err-clause-unwritten : goal.returns-in-Err-clause-unwritten
+returns-in-Err-clause-unwritten g c = λ by_sink d stands.
     let s = c.loop-ended.invariant.so_far d stands in
-    so_far_stops _ _ _ _ _ d _ _ _ _ _ _ s (fault_at _ c.take_line.result _ (c.in-Some.is ∙ ap Some c.in-Err.is) c.take_line.ensures.fault s.now s.stands s.counts)
+    so_far_stops _ _ _ _ _ d _ _ _ _ _ _ s (fault_at _ c.take_line.result _ (c.in-Some.is ∙ ap Some c.in-Err.is) c.take_line.ensures.unwritten by_sink s.now s.stands s.counts)
 
 pub returns-in-Err-clause-long : goal.returns-in-Err-clause-long
 returns-in-Err-clause-long g c = λ is. too_long _ _ _ _ c.take_line.new.lines c.loop-ended.invariant.passed (c.take_line.ensures.long (c.in-Some.is ∙ ap Some (c.in-Err.is ∙ ap Err (same_fault _ _ is))))
 
 pub returns-in-Err-clause-unread : goal.returns-in-Err-clause-unread
-returns-in-Err-clause-unread g c = λ is d stands.
+returns-in-Err-clause-unread g c = λ by_source d stands.
     let s = c.loop-ended.invariant.so_far d stands in
-    so_far_unread _ _ _ _ d _ _ _ _ _ _ s (c.take_line.ensures.unread (read_faults c.take_line.result c.in-Err.fault (c.in-Some.is ∙ ap Some c.in-Err.is) is) s.now s.stands)
+    so_far_unread _ _ _ _ _ d _ _ _ _ _ _ s (fault_at _ c.take_line.result _ (c.in-Some.is ∙ ap Some c.in-Err.is) c.take_line.ensures.unread by_source s.now s.stands)

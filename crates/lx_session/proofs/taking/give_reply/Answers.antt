@@ -22,7 +22,7 @@ pub returns-in-Ok-false-clause-fault : goal.returns-in-Ok-false-clause-fault
 returns-in-Ok-false-clause-fault g c = on_fault c.flush.result _ (λ s stands counted.
     let quit = is_quit_by c.answer.result _ c.in-Ok-false.field-0 c.in-Ok-false.is c.in-Ok-false.field-0-test c.answer.ensures.quit in
     let a = c.answer.ensures.answered s stands counted in
-    inl (Keeps-trans _ _ _ (quit_keeps _ _ _ _ _ c.answer.result s _ _ _ c.in-Ok-false.field-0 c.in-Ok-false.is quit a) c.flush.ensures.holds, quit_stands _ _ _ _ _ c.answer.result s _ _ _ quit a))
+    inl ((Keeps-trans _ _ _ (quit_keeps _ _ _ _ _ c.answer.result s _ _ _ c.in-Ok-false.field-0 c.in-Ok-false.is quit a) c.flush.ensures.holds, quit_stands _ _ _ _ _ c.answer.result s _ _ _ quit a), quit))
 
 pub returns-in-Err-clause-fault : goal.returns-in-Err-clause-fault
 returns-in-Err-clause-fault g c = λ s stands counted. failed _ _ _ _ _ c.answer.result s _ _ _ c.in-Err.fault c.in-Err.is (c.answer.ensures.answered s stands counted)

@@ -2,7 +2,7 @@ use Rattle.std.proofs.Common.{◌∙◌, ap, inr}
 use Rattle.std.proofs.KnownBytes.{Keeps-trans}
 use Rattle.lx_lex.proofs.HandingOut.{handed_one}
 use Rattle.lx_session.specs.Meaning.{meaning_of}
-use Rattle.lx_session.proofs.Takings.{took_one, took_quit, passed_one, failed, too_long}
+use Rattle.lx_session.proofs.Takings.{took_one, took_quit, passed_one, failed, too_long, only_sink}
 use Rattle.lx_session.proofs.taking.take_line.Goals as goal
 
 pub returns-in-Line-clause-goes_on : goal.returns-in-Line-clause-goes_on
@@ -26,10 +26,10 @@ returns-in-Line-clause-ended g c =
     let e = c.in-Line.ensures in λ ended.
     inr (took_quit _ _ _ _ _ e.step.0 (handed_one _ _ _ _ e.step.0 e.step.1 e.number e.going e.same_reference e.later) (ap meaning_of (c.line.ensures.line ∙ e.step.2)) (c.give_reply.ensures.quit ended))
 
-pub returns-in-Line-clause-fault : goal.returns-in-Line-clause-fault
-returns-in-Line-clause-fault g c =
+pub returns-in-Line-clause-unwritten : goal.returns-in-Line-clause-unwritten
+returns-in-Line-clause-unwritten g c =
     let e = c.in-Line.ensures in
-    failed _ _ _ _ _ _ _ _ _ _ _ e.step.0 c.give_reply.result (handed_one _ _ _ _ e.step.0 e.step.1 e.number e.going e.same_reference e.later)
+    failed g.S.Source.left g.S.Source.faults c.args.lines.now c.advance.new.self _ _ _ _ _ _ _ e.step.0 c.give_reply.result (handed_one _ _ _ _ e.step.0 e.step.1 e.number e.going e.same_reference e.later)
     (ap meaning_of (c.line.ensures.line ∙ e.step.2)) c.flush_before_wait.ensures.holds c.give_reply.ensures.fault
 
 pub returns-in-LongLine-clause-goes_on : goal.returns-in-LongLine-clause-goes_on
@@ -38,13 +38,19 @@ returns-in-LongLine-clause-goes_on g c =
     took_one _ _ _ _ _ _ _ s _ _ _ e.step.0 (handed_one _ _ _ _ e.step.0 e.step.1 e.number e.going e.same_reference e.later)
     (too_long _ e.step.3) c.flush_before_wait.ensures.holds (c.give_reply-in-LongLine.ensures.goes_on none s stands counted)
 
-pub returns-in-LongLine-clause-fault : goal.returns-in-LongLine-clause-fault
-returns-in-LongLine-clause-fault g c =
+pub returns-in-LongLine-clause-unwritten : goal.returns-in-LongLine-clause-unwritten
+returns-in-LongLine-clause-unwritten g c =
     let e = c.in-LongLine.ensures in
-    failed _ _ _ _ _ _ _ _ _ _ _ e.step.0 c.give_reply-in-LongLine.result (handed_one _ _ _ _ e.step.0 e.step.1 e.number e.going e.same_reference e.later)
+    failed g.S.Source.left g.S.Source.faults c.args.lines.now c.advance.new.self _ _ _ _ _ _ _ e.step.0 c.give_reply-in-LongLine.result (handed_one _ _ _ _ e.step.0 e.step.1 e.number e.going e.same_reference e.later)
     (too_long _ e.step.3) c.flush_before_wait.ensures.holds c.give_reply-in-LongLine.ensures.fault
 
 pub returns-in-LongLine-clause-passed : goal.returns-in-LongLine-clause-passed
 returns-in-LongLine-clause-passed g c =
     let e = c.in-LongLine.ensures in λ none.
     passed_one _ _ _ _ _ e.step.0 (handed_one _ _ _ _ e.step.0 e.step.1 e.number e.going e.same_reference e.later) (too_long _ e.step.3) (c.give_reply-in-LongLine.ensures.more none)
+
+pub returns-in-Line-clause-unread : goal.returns-in-Line-clause-unread
+returns-in-Line-clause-unread g c = only_sink _ c.give_reply.result c.give_reply.ensures.read c.give_reply.ensures.long
+
+pub returns-in-LongLine-clause-unread : goal.returns-in-LongLine-clause-unread
+returns-in-LongLine-clause-unread g c = only_sink _ c.give_reply-in-LongLine.result c.give_reply-in-LongLine.ensures.read c.give_reply-in-LongLine.ensures.long
