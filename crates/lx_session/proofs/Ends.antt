@@ -5,14 +5,14 @@ use Rattle.std.specs.Io.KnownBytes.{Appends, Keeps, IsAtEnd}
 use Rattle.std.proofs.KnownBytes.{Appends-trans, Appends-kept}
 use Rattle.std.proofs.Math.Seq.{take-append_seam, take-append-add}
 use Rattle.std.proofs.lemmas.List.{map-append, length-map}
-use Rattle.lx_base.specs.declared.TheConstants.{INPUT_BYTES}
 use Rattle.lx_io.specs.Puts.{AppendsFront}
 use Rattle.lx_io.proofs.Chain.{AppendsFront-is, AppendsFront-from}
 use Rattle.lx_lex.specs.declared.lines.Lines.{Lines}
 use Rattle.lx_lex.specs.Unread.{unread}
-use Rattle.lx_lex.specs.Lines.{Took, TookLines, HasNoFeed, feed_of, first_lines}
+use Rattle.lx_lex.specs.CutOff.{NotTaken}
+use Rattle.lx_lex.specs.Lines.{TookLines, first_lines}
 use Rattle.lx_lex.proofs.HandingOut.{handed_then}
-use Rattle.lx_lex.proofs.Progress.{HasNoFeed-append}
+use Rattle.lx_lex.proofs.CuttingOff.{cut_off}
 use Rattle.lx_lex.proofs.TakenLines.{all_texts}
 use Rattle.lx_spec.specs.Text.{without_cr, lines_of}
 use Rattle.lx_spec.specs.Desk.{Desk}
@@ -22,7 +22,7 @@ use Rattle.lx_console.specs.Standing.{StandsFor}
 use Rattle.lx_session.specs.declared.tally.Tally.{Tally}
 use Rattle.lx_session.specs.Meaning.{ends_script, after_lines, session_of, replies_of}
 use Rattle.lx_session.specs.Attempts.{WantsAtEdits}
-use Rattle.lx_session.specs.Taken.{TookOneInPart, TookQuit, TookNoMore, EndedSo, StoppedSo, NotTaken}
+use Rattle.lx_session.specs.Taken.{TookOneInPart, TookQuit, TookNoMore, EndedSo, StoppedSo}
 use Rattle.lx_session.specs.Replying.{counts_in}
 use Rattle.lx_session.specs.Scripts.{after_first, AnswersAll, AnswersFront, AnswersLines}
 use Rattle.lx_session.proofs.Places.{own_place, extends_lines, wants_nothing, wants-append, lines-append}
@@ -186,55 +186,20 @@ so_far_stops left faults a b c d console console' tally h h' h'' s how = elim ho
 ]
 
 -- The source failed, or its limit was passed.
-no_feed-take : (k : ℕ) (xs : List ℕ) → HasNoFeed xs → HasNoFeed (take k xs)
-no_feed-take zero xs h = tt
-no_feed-take (suc k) [] h = tt
-no_feed-take (suc k) (x ∷ xs) h = (h.0, no_feed-take k xs h.1)
-
-no_feed-before : (k : ℕ) (raw more : List ℕ) → k ≤ length raw → HasNoFeed raw → HasNoFeed (take k (raw ++ more))
-no_feed-before zero raw more le h = tt
-no_feed-before (suc k) [] more le h = absurd (omega (arith, le))
-no_feed-before (suc k) (b ∷ raw) more le h = (h.0, no_feed-before k raw more (omega (arith, le)) h.1)
-
-no_feed_within : (k : ℕ) (raw : List ℕ) (fed : Bool) → HasNoFeed raw → (fed ≡ true → k ≤ length raw) → HasNoFeed (take k (raw ++ feed_of fed))
-no_feed_within k raw true h le = no_feed-before k raw (10 ∷ []) (le refl) h
-no_feed_within k raw false h le = no_feed-take k (raw ++ []) (HasNoFeed-append raw [] h tt)
-
--- what was taken of the next line
-record TakenNext (i n : ℕ) (raw : List ℕ) (fed : Bool) (o : Option (List ℕ)) (xs : List ℕ) : Type 0 where
-  pub handed : IfSome o (λ zs. xs ≡ first_lines n xs ++ ((raw ++ feed_of fed) ++ zs))
-  pub no_feed : HasNoFeed (take (INPUT_BYTES - (i + length (first_lines n xs))) (raw ++ feed_of fed))
-
-taken_next : (a b c : Option (List ℕ)) (i j k : ℕ) (raws : List (List ℕ)) (raw : List ℕ) (fed : Bool) → TookLines a b i j raws → Took b c j k raw fed → (fed ≡ true → INPUT_BYTES < k) → IfSome a (TakenNext i (length raws) raw fed c)
-taken_next None b c i j k raws raw fed p q past = tt
-taken_next (Some x) None c i j k raws raw fed p q past = absurd p.took
-taken_next (Some x) (Some y) None i j k raws raw fed p q past = absurd q.bytes
-taken_next (Some x) (Some y) (Some z) i j k raws raw fed p q past = record {
-  handed = p.took ∙ ap (λ v. v ++ y) p.front ∙ ap (λ v. first_lines (length raws) x ++ v) q.bytes;
-  no_feed = no_feed_within (INPUT_BYTES - (i + length (first_lines (length raws) x))) raw fed q.no_feed (λ on.
-      let over = past on in
-      let one = ap (λ f. length (feed_of f)) on in
-      omega (arith, over, one, p.count, q.count, ap length p.front));
-}
-
 pub so_far_unread : {S : Type 0} (left : S → Option (List ℕ)) (faults : S → ℕ) (a b c : Lines S) (d : Desk) (console console' : Kept) (tally : Tally) (h h' h'' : Option (List ℕ))
-    → (s : SoFar left faults a b d console tally h h') → NotTaken left b c h' h'' s.now console' → IfSome (unread left a) (λ bytes. AnswersLines d a.taken bytes (unread left c) h h'' console')
-so_far_unread left faults a b c d console console' tally h h' h'' s t =
+    → (s : SoFar left faults a b d console tally h h') → Keeps h' h'' × StandsFor s.now.desk console' → NotTaken left b c → IfSome (unread left a) (λ bytes. AnswersLines d a.taken bytes (left c.source.now) h h'' console')
+so_far_unread left faults a b c d console console' tally h h' h'' s same n =
     let lines = map without_cr s.raws in
-    with_both (unread left a) _ _ _ (begins (unread left a) (unread left b) a.taken b.taken s.raws s.handed.took)
-    (taken_next (unread left a) (unread left b) (unread left c) a.taken b.taken c.taken s.raws t.raw t.fed s.handed.took t.took t.past) (λ xs is next.
+    with_both (unread left a) _ _ _ (begins (unread left a) (unread left b) a.taken b.taken s.raws s.handed.took) (cut_off left a b c s.raws s.handed.took n) (λ xs is cut.
     let rest = before_first ends_script is.0 in
     let before : before_first ends_script (lines_of xs) ≡ lines ++ rest = ap (before_first ends_script) is.1 ∙ before_end lines is.0 s.done.go_on in
-    let same = after_first_is d (lines_of xs) lines rest s.places s.now (length s.raws) before (take_raws s.raws rest) s.done in
+    let now : after_first d (lines_of xs) s.places cut.0.lines ≡ s.now = ap (after_first d (lines_of xs) s.places) cut.1 ∙ after_first_is d (lines_of xs) lines rest s.places s.now (length s.raws) before (take_raws s.raws rest) s.done in
     record {
       places = s.places;
       wants = subst (λ ls. WantsAtEdits s.places (begun d) ls) (sym before) (wants_more d lines rest s.places s.now s.done);
-      done = length s.raws;
-      next = t.raw ++ feed_of t.fed;
-      handed = next.handed;
-      no_feed = next.no_feed;
-      text = subst (λ (v : Session). Appends h h'' v.text) (sym same) (Appends-kept h h' h'' s.now.text s.appended t.kept);
-      stands = subst (λ (v : Session). StandsFor v.desk console') (sym same) t.stands;
+      cut = cut.0;
+      text = subst (λ (v : Session). Appends h h'' v.text) (sym now) (Appends-kept h h' h'' s.now.text s.appended same.0);
+      stands = subst (λ (v : Session). StandsFor v.desk console') (sym now) same.1;
     })
 
 -- The replies to the first lines are a front of the replies to all.

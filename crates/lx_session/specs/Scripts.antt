@@ -1,10 +1,10 @@
 -- A session over the lines of a script.
-use Rattle.std.specs.Prelude.{◌≡◌, ℕ, ◌+◌, ◌-◌, Option, IfSome, List, ◌++◌, length, take}
+use Rattle.std.specs.Prelude.{◌≡◌, ℕ, ◌+◌, Option, IfSome, List, ◌++◌, take}
 use Rattle.std.specs.List.{position_or_len, before_first}
 use Rattle.std.specs.Io.KnownBytes.{Appends}
-use Rattle.lx_base.specs.declared.TheConstants.{INPUT_BYTES}
 use Rattle.lx_io.specs.Puts.{AppendsFront}
-use Rattle.lx_lex.specs.Lines.{HasNoFeed, first_lines}
+use Rattle.lx_lex.specs.CutOff.{CutOff}
+use Rattle.lx_lex.specs.Lines.{first_lines}
 use Rattle.lx_spec.specs.Text.{lines_of}
 use Rattle.lx_spec.specs.Stands.{Kept}
 use Rattle.lx_spec.specs.Desk.{Desk}
@@ -44,13 +44,10 @@ pub record AnswersFront (d : Desk) (bytes : List ℕ) (left : Option (List ℕ))
   pub text : AppendsFront held held' (after_first d (lines_of bytes) places done).text
   pub stands : StandsFor (after_first d (lines_of bytes) places done).desk console
 
--- So many lines were handed out, done and wholly answered. Of the next line some bytes were taken, but within the limit of the input no LF.
+-- The lines that were taken whole, within the limit of the input, were done and wholly answered. `left` is what the source has left.
 pub record AnswersLines (d : Desk) (before : ℕ) (bytes : List ℕ) (left : Option (List ℕ)) (held held' : Option (List ℕ)) (console : Kept) : Type 0 where
   pub places : List ℕ
   pub wants : WantsAtEdits places (begun d) (before_first ends_script (lines_of bytes))
-  pub done : ℕ
-  pub next : List ℕ
-  pub handed : IfSome left (λ rest. bytes ≡ first_lines done bytes ++ (next ++ rest))
-  pub no_feed : HasNoFeed (take (INPUT_BYTES - (before + length (first_lines done bytes))) next)
-  pub text : Appends held held' (after_first d (lines_of bytes) places done).text
-  pub stands : StandsFor (after_first d (lines_of bytes) places done).desk console
+  pub cut : CutOff before bytes left
+  pub text : Appends held held' (after_first d (lines_of bytes) places cut.lines).text
+  pub stands : StandsFor (after_first d (lines_of bytes) places cut.lines).desk console

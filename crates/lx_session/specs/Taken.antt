@@ -1,10 +1,8 @@
 -- A line that was taken from a source and answered.
-use Rattle.std.specs.Prelude.{◌≡◌, ◌⊎◌, ◌<◌, ℕ, Bool, true, false, Option, IfSome, List, [], ◌∷◌}
+use Rattle.std.specs.Prelude.{◌≡◌, ◌⊎◌, ℕ, true, false, Option, IfSome, List, [], ◌∷◌}
 use Rattle.std.specs.Io.KnownBytes.{Keeps}
-use Rattle.lx_base.specs.declared.TheConstants.{INPUT_BYTES}
 use Rattle.lx_lex.specs.declared.lines.Lines.{Lines}
 use Rattle.lx_lex.specs.Handed.{HandedOut}
-use Rattle.lx_lex.specs.Lines.{Took}
 use Rattle.lx_lex.specs.Unread.{unread}
 use Rattle.lx_spec.specs.Text.{without_cr}
 use Rattle.lx_spec.specs.Stands.{Kept}
@@ -52,12 +50,3 @@ TookNoMore left faults old new = IfSome (unread left old) (λ xs. IfSome (unread
 -- The sink failed: nothing more was written and done, or a line was done and a front of its reply written.
 abbrev pub StoppedSo : {S : Type 0} → (S → Option (List ℕ)) → (S → ℕ) → Lines S → Lines S → Option (List ℕ) → Option (List ℕ) → Session → Kept → Type 0
 StoppedSo left faults old new held held' s console = ((Keeps held held' × StandsFor s.desk console) × TookNoMore left faults old new) ⊎ TookOneInPart left faults old new held held' s console
-
--- The next line couldn't be taken within the limit of the input: nothing more was written and done.
-pub record NotTaken {S : Type 0} (left : S → Option (List ℕ)) (old new : Lines S) (held held' : Option (List ℕ)) (s : Session) (console : Kept) : Type 0 where
-  pub raw : List ℕ
-  pub fed : Bool
-  pub took : Took (unread left old) (unread left new) old.taken new.taken raw fed
-  pub past : fed ≡ true → INPUT_BYTES < new.taken
-  pub kept : Keeps held held'
-  pub stands : StandsFor s.desk console

@@ -40,7 +40,7 @@ pub fn session<S: Source, K: Sink>(
     ensures unwritten { IfErr result (λ fault. is_of_sink fault ≡ true → (d : Desk) → StandsFor d console.old → IfSome (unread S.left lines.old) (λ bytes. AnswersFront d bytes (unread S.left lines.new) (K.holds sink.old) (K.holds sink.new) console.new)) }
 
     // Where the script couldn't be read on, the lines whose LF was taken within the limit are done and wholly answered.
-    ensures unread { IfErr result (λ fault. is_of_sink fault ≡ false → (d : Desk) → StandsFor d console.old → IfSome (unread S.left lines.old) (λ bytes. AnswersLines d lines.old.taken bytes (unread S.left lines.new) (K.holds sink.old) (K.holds sink.new) console.new)) }
+    ensures unread { IfErr result (λ fault. is_of_sink fault ≡ false → (d : Desk) → StandsFor d console.old → IfSome (unread S.left lines.old) (λ bytes. AnswersLines d lines.old.taken bytes (S.left lines.new.source.now) (K.holds sink.old) (K.holds sink.new) console.new)) }
 
     // The causes.
     ensures later { S.faults lines.old.source.now ≤ S.faults lines.new.source.now }

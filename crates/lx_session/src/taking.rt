@@ -5,13 +5,14 @@ ghost use Rattle.std.specs.Io.KnownBytes.{Keeps, IsAtEnd};
 ghost use Rattle.lx_io.specs.Causes.{Rose};
 ghost use Rattle.lx_io.specs.Puts.{HasSinkCause};
 ghost use Rattle.lx_lex.specs.Unread.{unread, line_of};
+ghost use Rattle.lx_lex.specs.CutOff.{NotTaken};
 ghost use Rattle.lx_lex.specs.Lines.{StepOf};
 ghost use Rattle.lx_spec.specs.Replies.{Session, is_quit};
 ghost use Rattle.lx_console.specs.Standing.{StandsFor};
 ghost use Rattle.lx_session.specs.Turning.{given};
 ghost use Rattle.lx_session.specs.Replying.{counts_in};
 ghost use Rattle.lx_session.specs.Given.{GivenOn, GivenInPart};
-ghost use Rattle.lx_session.specs.Taken.{PassedOne, TookOne, TookQuit, EndedSo, StoppedSo, NotTaken};
+ghost use Rattle.lx_session.specs.Taken.{PassedOne, TookOne, TookQuit, EndedSo, StoppedSo};
 ghost use Rattle.lx_session.specs.Faults.{is_of_sink};
 
 use crate::answering::answer;
@@ -37,7 +38,8 @@ pub(crate) fn take_line<S: Source, K: Sink>(
     ensures goes_on { result ≡ None → (s : Session) → StandsFor s.desk console.old → s.counts ≡ counts_in tally.old → TookOne S.left S.faults lines.old lines.new (K.holds sink.old) (K.holds sink.new) s console.new tally.new }
     ensures ok { result ≡ Some (Ok tt) → (s : Session) → StandsFor s.desk console.old → s.counts ≡ counts_in tally.old → EndedSo (K.holds sink.old) (K.holds sink.new) s console.new tally.new }
     ensures unwritten { IfSome result (λ ended. IfErr ended (λ fault. is_of_sink fault ≡ true → (s : Session) → StandsFor s.desk console.old → s.counts ≡ counts_in tally.old → StoppedSo S.left S.faults lines.old lines.new (K.holds sink.old) (K.holds sink.new) s console.new)) }
-    ensures unread { IfSome result (λ ended. IfErr ended (λ fault. is_of_sink fault ≡ false → (s : Session) → StandsFor s.desk console.old → NotTaken S.left lines.old lines.new (K.holds sink.old) (K.holds sink.new) s console.new)) }
+    ensures unread { IfSome result (λ ended. IfErr ended (λ fault. is_of_sink fault ≡ false → (s : Session) → StandsFor s.desk console.old → Keeps (K.holds sink.old) (K.holds sink.new) × StandsFor s.desk console.new)) }
+    ensures not_taken { IfSome result (λ ended. IfErr ended (λ fault. is_of_sink fault ≡ false → NotTaken S.left lines.old lines.new)) }
     ensures more_ok { tally.new.ok ≤ tally.old.ok + 1 }
     ensures more_refused { tally.new.refused ≤ tally.old.refused + 1 }
     ensures more_bad { tally.new.bad ≤ tally.old.bad + 1 }

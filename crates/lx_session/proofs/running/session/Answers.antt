@@ -50,4 +50,6 @@ returns-in-Err-clause-long g c = λ is. too_long _ _ _ _ c.take_line.new.lines c
 pub returns-in-Err-clause-unread : goal.returns-in-Err-clause-unread
 returns-in-Err-clause-unread g c = λ by_source d stands.
     let s = c.loop-ended.invariant.so_far d stands in
-    so_far_unread _ _ _ _ _ d _ _ _ _ _ _ s (fault_at _ c.take_line.result _ (c.in-Some.is ∙ ap Some c.in-Err.is) c.take_line.ensures.unread by_source s.now s.stands)
+    let is = c.in-Some.is ∙ ap Some c.in-Err.is in
+    let e = c.take_line.ensures in
+    so_far_unread _ _ _ _ c.take_line.new.lines d _ _ _ _ _ _ s (fault_at _ c.take_line.result _ is e.unread by_source s.now s.stands) (fault_at _ c.take_line.result _ is e.not_taken by_source)

@@ -1,6 +1,7 @@
-use Rattle.std.proofs.Common.{◌∙◌, ap, inr}
+use Rattle.std.proofs.Common.{◌∙◌, ap, inr, refl}
 use Rattle.std.proofs.KnownBytes.{Keeps-trans}
 use Rattle.lx_lex.proofs.HandingOut.{handed_one}
+use Rattle.lx_lex.proofs.CuttingOff as cutting
 use Rattle.lx_session.specs.Meaning.{meaning_of}
 use Rattle.lx_session.proofs.Takings.{took_one, took_quit, passed_one, failed, too_long, only_sink}
 use Rattle.lx_session.proofs.taking.take_line.Goals as goal
@@ -54,3 +55,15 @@ returns-in-Line-clause-unread g c = only_sink _ c.give_reply.result c.give_reply
 
 pub returns-in-LongLine-clause-unread : goal.returns-in-LongLine-clause-unread
 returns-in-LongLine-clause-unread g c = only_sink _ c.give_reply-in-LongLine.result c.give_reply-in-LongLine.ensures.read c.give_reply-in-LongLine.ensures.long
+
+pub returns-in-Line-clause-not_taken : goal.returns-in-Line-clause-not_taken
+returns-in-Line-clause-not_taken g c = only_sink _ c.give_reply.result c.give_reply.ensures.read c.give_reply.ensures.long
+
+pub returns-in-LongLine-clause-not_taken : goal.returns-in-LongLine-clause-not_taken
+returns-in-LongLine-clause-not_taken g c = only_sink _ c.give_reply-in-LongLine.result c.give_reply-in-LongLine.ensures.read c.give_reply-in-LongLine.ensures.long
+
+pub returns-in-ReadFault-clause-not_taken : goal.returns-in-ReadFault-clause-not_taken
+returns-in-ReadFault-clause-not_taken g c = let e = c.in-ReadFault.ensures in λ by_source. cutting.not_read g.S.Source.left c.args.lines.now c.advance.new.self e.step (e.none_held refl)
+
+pub returns-in-InputTooLong-clause-not_taken : goal.returns-in-InputTooLong-clause-not_taken
+returns-in-InputTooLong-clause-not_taken g c = let e = c.in-InputTooLong.ensures in λ by_source. cutting.too_long g.S.Source.left c.args.lines.now c.advance.new.self e.step
