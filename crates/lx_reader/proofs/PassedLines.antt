@@ -15,14 +15,16 @@ use Rattle.lx_spec.specs.Jobs.{script_of}
 use Rattle.lx_lex.specs.declared.lines.Lines.{Lines}
 use Rattle.lx_lex.specs.declared.lines.Step.TheVariants as steps
 use Rattle.lx_lex.specs.Lines.{StepOf, TookLines, first_lines}
+use Rattle.lx_lex.specs.CutOff.{NotTaken, CutOff}
 use Rattle.lx_lex.specs.Handed.{HandedOut}
 use Rattle.lx_lex.specs.Unread.{unread, line_of}
 use Rattle.lx_lex.proofs.TakenLines.{next_too_long, all_texts, texts}
 use Rattle.lx_lex.proofs.HandingOut.{handed_none, handed_then}
+use Rattle.lx_lex.proofs.CuttingOff.{cut_off}
 use Rattle.lx_reader.specs.Known.{facts_from, facts_after, IsSoundAt}
 use Rattle.lx_reader.specs.TakenUp.{Taken, nothing_taken, taken_up, reading_of_taken}
 use Rattle.lx_reader.specs.ReadLines.{reads_lines, lines_read, lines_after}
-use Rattle.lx_reader.specs.HandedLines.{MeansShow, MeansFault, IsPastLimit}
+use Rattle.lx_reader.specs.HandedLines.{MeansShow, MeansFault, IsPastLimit, IsCutShort}
 use Rattle.lx_reader.proofs.ReadingOn.{ReadSoFar, Ended, Refused, read_none, read_sound, read_more, read_known, read_refused, read_ended, read_open, wanted_more, wanted_one}
 
 -- The lines that were handed out and taken up.
@@ -157,3 +159,14 @@ lines_past_limit left rises old l l' known t past step =
     (text_with (unread left old) (unread left l) old.taken l.taken past.raws (λ v. reads_lines (take n v) ≡ Err (NoEndData (n + 1))) past.handed.took (λ more. ap reads_lines (first_texts past.raws more) ∙ meant))
     (text_with (unread left old) (unread left l) old.taken l.taken past.raws (λ v. n < lines_read v) past.handed.took (λ more. omega (arith, wanted_more front known t past.so_far more, count)))
     (next_too_long (unread left old) (unread left l) (unread left l') old.taken l.taken l'.taken past.raws (line_of l') (n + 1) past.handed.took step refl)
+
+-- The next line wasn't taken.
+cut_short : (o left : Option (List ℕ)) (taken n : ℕ) → IfSome o (λ bytes. (cut : CutOff taken bytes left) × (cut.lines ≡ n)) → IfSome o (λ bytes. n < lines_read (lines_of bytes)) → IfSome o (λ bytes. IsCutShort taken bytes left)
+cut_short None left taken n cut wanted = tt
+cut_short (Some bytes) left taken n cut wanted = record { cut = cut.0; wanted = subst (λ k. k < lines_read (lines_of bytes)) (sym cut.1) wanted }
+
+pub lines_cut : {S : Type 0} (left : S → Option (List ℕ)) (rises : S → ℕ) (old l l' : Lines S) (known : Facts) (t : Taken) → PassedLines left rises old l known t → NotTaken left l l' → IfSome (unread left old) (λ bytes. IsCutShort old.taken bytes (left l'.source.now))
+lines_cut left rises old l l' known t past not =
+    let count = length-map past.raws without_cr in
+    cut_short (unread left old) (left l'.source.now) old.taken (length past.raws) (cut_off left old l l' past.raws past.handed.took not)
+    (text_with (unread left old) (unread left l) old.taken l.taken past.raws (λ v. length past.raws < lines_read v) past.handed.took (λ more. omega (arith, wanted_more (map without_cr past.raws) known t past.so_far more, count)))

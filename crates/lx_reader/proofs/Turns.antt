@@ -16,7 +16,9 @@ use Rattle.lx_spec.specs.Reading.{is_end}
 use Rattle.lx_lex.specs.declared.lines.Lines.{Lines}
 use Rattle.lx_lex.specs.declared.lines.Step.TheVariants as steps
 use Rattle.lx_lex.specs.Lines.{StepOf}
+use Rattle.lx_lex.specs.CutOff.{NotTaken}
 use Rattle.lx_lex.specs.Handed.{HandedOut}
+use Rattle.lx_lex.proofs.CuttingOff.{too_long}
 use Rattle.lx_lex.specs.Unread.{unread, line_of}
 use Rattle.lx_reader.specs.declared.fault.ShowFault.{ShowFault}
 use Rattle.lx_reader.specs.declared.fault.ShowFault.TheVariants as faults
@@ -30,30 +32,31 @@ use Rattle.lx_reader.specs.Stops.{IsOpen}
 use Rattle.lx_reader.specs.ReaderState.{known_of, taken_of, said_at, IsReady, TookUp, TakesLine}
 use Rattle.lx_reader.specs.HandedLines.{MeansShow, MeansFault, IsPastLimit}
 use Rattle.lx_reader.specs.Told.{fault_told, stop_told}
-use Rattle.lx_reader.specs.Loading.{reading_of, HasRead, OfText, AnswerOf, FaultOf, TurnOf}
+use Rattle.lx_reader.specs.Loading.{reading_of, HasRead, OfText, CutShort, AnswerOf, FaultOf, TurnOf}
 use Rattle.lx_reader.proofs.ReadingOn.{placed_in, long_entry}
-use Rattle.lx_reader.proofs.PassedLines.{PassedLines, lines_none, lines_sound, lines_more, lines_known, lines_ended, lines_refused, lines_open, lines_past_limit}
+use Rattle.lx_reader.proofs.PassedLines.{PassedLines, lines_none, lines_sound, lines_more, lines_known, lines_ended, lines_refused, lines_open, lines_past_limit, lines_cut}
 
 -- what holds of a text's fault holds of it as it is told
-pub told : (P : TextFault → Type 0) (long : Type 0) (fault : TextFault) → P fault → OfText P long (fault_told fault)
-told P long (NoIdent i) is = is
-told P long (BadNumber i) is = is
-told P long (OutOfRange i) is = is
-told P long (NotInRecord i) is = is
-told P long (LineTooLong i) is = is
-told P long (ShortList i) is = is
-told P long (NoEndData i) is = is
+pub told : (P : TextFault → Type 0) (long cut : Type 0) (fault : TextFault) → P fault → OfText P long cut (fault_told fault)
+told P long cut (NoIdent i) is = is
+told P long cut (BadNumber i) is = is
+told P long cut (OutOfRange i) is = is
+told P long cut (NotInRecord i) is = is
+told P long cut (LineTooLong i) is = is
+told P long cut (ShortList i) is = is
+told P long cut (NoEndData i) is = is
 
-of_text : (P Q : TextFault → Type 0) (long longer : Type 0) → ((fault : TextFault) → P fault → Q fault) → (long → longer) → (fault : ShowFault) → OfText P long fault → OfText Q longer fault
-of_text P Q long longer each past (faults.NoIdent i) is = each (NoIdent i) is
-of_text P Q long longer each past (faults.BadNumber i) is = each (BadNumber i) is
-of_text P Q long longer each past (faults.OutOfRange i) is = each (OutOfRange i) is
-of_text P Q long longer each past (faults.NotInRecord i) is = each (NotInRecord i) is
-of_text P Q long longer each past (faults.LineTooLong i) is = each (LineTooLong i) is
-of_text P Q long longer each past (faults.ShortList i) is = each (ShortList i) is
-of_text P Q long longer each past (faults.NoEndData i) is = each (NoEndData i) is
-of_text P Q long longer each past faults.InputTooLong is = past is
-of_text P Q long longer each past other is = tt
+of_text : (P Q : TextFault → Type 0) (long longer cut shorter : Type 0) → ((fault : TextFault) → P fault → Q fault) → (long → longer) → (cut → shorter) → (fault : ShowFault) → OfText P long cut fault → OfText Q longer shorter fault
+of_text P Q long longer cut shorter each past short (faults.NoIdent i) is = each (NoIdent i) is
+of_text P Q long longer cut shorter each past short (faults.BadNumber i) is = each (BadNumber i) is
+of_text P Q long longer cut shorter each past short (faults.OutOfRange i) is = each (OutOfRange i) is
+of_text P Q long longer cut shorter each past short (faults.NotInRecord i) is = each (NotInRecord i) is
+of_text P Q long longer cut shorter each past short (faults.LineTooLong i) is = each (LineTooLong i) is
+of_text P Q long longer cut shorter each past short (faults.ShortList i) is = each (ShortList i) is
+of_text P Q long longer cut shorter each past short (faults.NoEndData i) is = each (NoEndData i) is
+of_text P Q long longer cut shorter each past short faults.InputTooLong is = past is
+of_text P Q long longer cut shorter each past short faults.ReadFault is = short is
+of_text P Q long longer cut shorter each past short other is = tt
 
 -- what a reader answers, as it is told
 abbrev pub answer_told : Result (Unit {0}) Stop → Result (Unit {0}) ShowFault
@@ -67,7 +70,7 @@ line_turn left rises l l' r q (Ok done) raw line i handed is number taken =
     (raw, handed, subst (λ k. TakesLine r q k (tokens (without_cr raw)) (Ok done) (entry_of desk_limits (known_of r) k (without_cr raw))) number (subst (λ v. TakesLine r q i (tokens v) (Ok done) (entry_of desk_limits (known_of r) i v)) is taken))
 line_turn left rises l l' r q (Err stops.Memory) raw line i handed is number taken = tt
 line_turn left rises l l' r q (Err (stops.Fault fault)) raw line i handed is number taken =
-    told (FaultOf left rises l l' r) (StepOf steps.InputTooLong (unread left l) (unread left l') l.taken l'.taken (line_of l')) fault
+    told (FaultOf left rises l l' r) (StepOf steps.InputTooLong (unread left l) (unread left l') l.taken l'.taken (line_of l')) (NotTaken left l l') fault
     (inl (raw, handed, (λ j. entry_of desk_limits (known_of r) (sym number j) (sym is j)) ∙ taken))
 
 -- A line that is too long.
@@ -150,8 +153,10 @@ fault_of_text left rises old l l' r first passage fault (inr end) = subst (Means
 
 pub passage_fault : {S : Type 0} (left : S → Option (List ℕ)) (rises : S → ℕ) (old l l' : Lines S) (r q : Reader) (fault : ShowFault) → old.number ≡ 0 → Passage left rises old l r → TurnOf left rises l l' r q (Err fault) → AnswerOf left rises old l' (Err fault)
 passage_fault left rises old l l' r q fault first passage turn =
-    of_text (FaultOf left rises l l' r) (MeansFault left old) (StepOf steps.InputTooLong (unread left l) (unread left l') l.taken l'.taken (line_of l')) (IfSome (unread left old) (IsPastLimit old.taken))
-    (fault_of_text left rises old l l' r first passage) (lines_past_limit left rises old l l' (known_of r) (taken_of r) passage.past) fault turn
+    of_text (FaultOf left rises l l' r) (MeansFault left old) (StepOf steps.InputTooLong (unread left l) (unread left l') l.taken l'.taken (line_of l')) (IfSome (unread left old) (IsPastLimit old.taken) × CutShort left old l') (NotTaken left l l') (CutShort left old l')
+    (fault_of_text left rises old l l' r first passage)
+    (λ step. (lines_past_limit left rises old l l' (known_of r) (taken_of r) passage.past step, lines_cut left rises old l l' (known_of r) (taken_of r) passage.past (too_long left l l' step)))
+    (lines_cut left rises old l l' (known_of r) (taken_of r) passage.past) fault turn
 
 -- a fault that is handed on
 pub handed_on : {S : Type 0} (left : S → Option (List ℕ)) (rises : S → ℕ) (old l : Lines S) (result : Result Loaded ShowFault) (fault : ShowFault) → IsErrAnd result (λ told_fault. told_fault ≡ fault) → AnswerOf left rises old l (Err fault) → AnswerOf left rises old l result

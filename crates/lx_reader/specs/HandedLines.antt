@@ -10,6 +10,7 @@ use Rattle.lx_spec.specs.Text.{without_cr, lines_of}
 use Rattle.lx_spec.specs.Reading.{Reading, reads}
 use Rattle.lx_spec.specs.Jobs.{script_of}
 use Rattle.lx_lex.specs.declared.lines.Lines.{Lines}
+use Rattle.lx_lex.specs.CutOff.{CutOff}
 use Rattle.lx_lex.specs.Lines.{TookLines, first_lines}
 use Rattle.lx_lex.specs.Handed.{HandedOut}
 use Rattle.lx_lex.specs.Unread.{unread}
@@ -45,3 +46,8 @@ pub record IsPastLimit (taken : ℕ) (bytes : List ℕ) : Type 0 where
   pub no_end : reads_lines (take n (lines_of bytes)) ≡ Err (NoEndData (n + 1))
   pub wanted : n < lines_read (lines_of bytes)
   pub long : INPUT_BYTES < taken + length (first_lines (n + 1) bytes)
+
+-- the lines that were taken whole within the limit of the input don't end the reading, and so more are wanted; `left` is what the source has left
+pub record IsCutShort (taken : ℕ) (bytes : List ℕ) (left : Option (List ℕ)) : Type 0 where
+  pub cut : CutOff taken bytes left
+  pub wanted : cut.lines < lines_read (lines_of bytes)

@@ -11,6 +11,7 @@ use Rattle.lx_spec.specs.Saying.{entry_of}
 use Rattle.lx_spec.specs.Reading.{Reading}
 use Rattle.lx_lex.specs.declared.lines.Lines.{Lines}
 use Rattle.lx_lex.specs.declared.lines.Step.TheVariants as steps
+use Rattle.lx_lex.specs.CutOff.{NotTaken}
 use Rattle.lx_lex.specs.Lines.{StepOf}
 use Rattle.lx_lex.specs.Handed.{HandedOut}
 use Rattle.lx_lex.specs.Unread.{unread, line_of}
@@ -18,7 +19,7 @@ use Rattle.lx_reader.specs.declared.fault.ShowFault.{ShowFault}
 use Rattle.lx_reader.specs.declared.fault.ShowFault.TheVariants as faults
 use Rattle.lx_reader.specs.declared.loaded.Loaded.{Loaded}
 use Rattle.lx_reader.specs.declared.reader.Reader.{Reader}
-use Rattle.lx_reader.specs.HandedLines.{MeansShow, MeansFault, IsPastLimit}
+use Rattle.lx_reader.specs.HandedLines.{MeansShow, MeansFault, IsPastLimit, IsCutShort}
 use Rattle.lx_reader.specs.ReaderState.{known_of, TakesLine}
 
 -- what was read
@@ -30,22 +31,27 @@ pub record HasRead {S : Type 0} (left : S → Option (List ℕ)) (faults : S →
   pub means : MeansShow left faults old new (reading_of loaded)
   pub valid : Valid loaded.show
 
--- where the fault is one of a text, this holds of that
-abbrev pub OfText : (TextFault → Type 0) → Type 0 → ShowFault → Type 0
-OfText P long (faults.NoIdent i) = P (NoIdent i)
-OfText P long (faults.BadNumber i) = P (BadNumber i)
-OfText P long (faults.OutOfRange i) = P (OutOfRange i)
-OfText P long (faults.NotInRecord i) = P (NotInRecord i)
-OfText P long (faults.LineTooLong i) = P (LineTooLong i)
-OfText P long (faults.ShortList i) = P (ShortList i)
-OfText P long (faults.NoEndData i) = P (NoEndData i)
-OfText P long faults.InputTooLong = long
-OfText P long other = Unit {0}
+-- what holds of a fault: of a text, of an input that is too long, or of a read
+abbrev pub OfText : (TextFault → Type 0) → Type 0 → Type 0 → ShowFault → Type 0
+OfText P long cut (faults.NoIdent i) = P (NoIdent i)
+OfText P long cut (faults.BadNumber i) = P (BadNumber i)
+OfText P long cut (faults.OutOfRange i) = P (OutOfRange i)
+OfText P long cut (faults.NotInRecord i) = P (NotInRecord i)
+OfText P long cut (faults.LineTooLong i) = P (LineTooLong i)
+OfText P long cut (faults.ShortList i) = P (ShortList i)
+OfText P long cut (faults.NoEndData i) = P (NoEndData i)
+OfText P long cut faults.InputTooLong = long
+OfText P long cut faults.ReadFault = cut
+OfText P long cut other = Unit {0}
 
--- what the answer says: the show, or the first fault of the text, or that the input is too long before there is one
+-- the lines that were taken whole are too few
+abbrev pub CutShort : {S : Type 0} → (S → Option (List ℕ)) → Lines S → Lines S → Type 0
+CutShort left old new = IfSome (unread left old) (λ bytes. IsCutShort old.taken bytes (left new.source.now))
+
+-- what the answer says: the show, or the first fault of the text, or that there was none before the input was too long or a read failed
 abbrev pub AnswerOf : {S : Type 0} → (S → Option (List ℕ)) → (S → ℕ) → Lines S → Lines S → Result Loaded ShowFault → Type 0
 AnswerOf left rises old new (Ok loaded) = HasRead left rises old new loaded
-AnswerOf left rises old new (Err fault) = OfText (MeansFault left old) (IfSome (unread left old) (IsPastLimit old.taken)) fault
+AnswerOf left rises old new (Err fault) = OfText (MeansFault left old) (IfSome (unread left old) (IsPastLimit old.taken) × CutShort left old new) (CutShort left old new) fault
 
 -- the line that was handed out has the fault, or no line is left
 abbrev pub FaultOf : {S : Type 0} → (S → Option (List ℕ)) → (S → ℕ) → Lines S → Lines S → Reader → TextFault → Type 0
@@ -56,4 +62,4 @@ FaultOf left rises old new r fault =
 abbrev pub TurnOf : {S : Type 0} → (S → Option (List ℕ)) → (S → ℕ) → Lines S → Lines S → Reader → Reader → Result (Unit {0}) ShowFault → Type 0
 TurnOf left rises old new r q (Ok done) =
     (raw : List ℕ) × HandedOut left rises old new (raw ∷ []) × TakesLine r q (old.number + 1) (tokens (without_cr raw)) (Ok done) (entry_of desk_limits (known_of r) (old.number + 1) (without_cr raw))
-TurnOf left rises old new r q (Err fault) = OfText (FaultOf left rises old new r) (StepOf steps.InputTooLong (unread left old) (unread left new) old.taken new.taken (line_of new)) fault
+TurnOf left rises old new r q (Err fault) = OfText (FaultOf left rises old new r) (StepOf steps.InputTooLong (unread left old) (unread left new) old.taken new.taken (line_of new)) (NotTaken left old new) fault

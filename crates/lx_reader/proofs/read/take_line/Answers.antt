@@ -1,4 +1,5 @@
-use Rattle.std.proofs.Common.{◌∙◌, Ok, Err, sym, subst}
+use Rattle.std.proofs.Common.{◌∙◌, Ok, Err, refl, sym, subst}
+use Rattle.lx_lex.proofs.CuttingOff.{not_read}
 use Rattle.lx_lex.proofs.HandingOut.{handed_one}
 use Rattle.lx_reader.specs.Loading.{TurnOf}
 use Rattle.lx_reader.proofs.Turns.{line_turn, long_turn}
@@ -22,3 +23,6 @@ returns-in-LongLine-clause-turn g c =
     let e = c.in-LongLine.ensures in
     long_turn g.S.Source.left g.S.Source.faults c.args.lines.now c.advance.new.self c.args.reader.now c.args.reader.now e.step.0 c.number-in-LongLine.result
     (handed_one g.S.Source.left g.S.Source.faults c.args.lines.now c.advance.new.self e.step.0 e.step.1 e.number e.going e.same_reference e.later) e.step.3 (c.number-in-LongLine.ensures ∙ e.number)
+
+pub returns-in-ReadFault-clause-turn : goal.returns-in-ReadFault-clause-turn
+returns-in-ReadFault-clause-turn g c = let e = c.in-ReadFault.ensures in not_read g.S.Source.left c.args.lines.now c.advance.new.self e.step (e.none_held refl)
