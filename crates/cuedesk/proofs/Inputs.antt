@@ -1,5 +1,5 @@
 -- How much of its input the program wants, and what it writes for it, from the reader's answer and the session's.
-use Rattle.std.proofs.Common.{◌≡◌, ◌≢◌, ◌⊎◌, inl, inr, ℕ, zero, suc, ◌+◌, ◌<◌, ◌≤◌, false, true, eqb, cond, Option, Some, None, Result, Ok, Err, IfSome, IsErr, IsOk, List, [], ◌∷◌, ◌++◌, length, refl, sym, ap, ◌∙◌, subst, arith, length-append, append-nil, take_all}
+use Rattle.std.proofs.Common.{◌≡◌, ◌≢◌, ◌⊎◌, inl, inr, ℕ, zero, suc, ◌+◌, ◌-◌, ◌<◌, ◌≤◌, false, true, eqb, cond, Option, Some, None, Result, Ok, Err, IfSome, IsErr, IsOk, List, [], ◌∷◌, ◌++◌, length, take, refl, sym, ap, ◌∙◌, subst, arith, length-append, append-nil, append_assoc, take_all}
 use Rattle.std.specs.List.{before_first}
 use Rattle.std.specs.Io.KnownBytes.{Appends, IsAtEnd}
 use Rattle.std.proofs.KnownBytes.{Appends-nil}
@@ -7,7 +7,7 @@ use Rattle.lx_base.specs.declared.TheConstants.{INPUT_BYTES}
 use Rattle.lx_io.specs.Puts.{AppendsFront}
 use Rattle.lx_io.proofs.Chain.{AppendsFront-from}
 use Rattle.lx_lex.specs.declared.lines.Lines.{Lines}
-use Rattle.lx_lex.specs.Lines.{TookLines, first_lines}
+use Rattle.lx_lex.specs.Lines.{HasNoFeed, TookLines, first_lines}
 use Rattle.lx_lex.specs.Unread.{unread}
 use Rattle.lx_lex.proofs.TakenLines.{lines_within}
 use Rattle.lx_lex.proofs.FirstLines.{first_lines-more, first_lines-longer}
@@ -24,15 +24,15 @@ use Rattle.lx_reader.specs.declared.fault.ShowFault.{ShowFault}
 use Rattle.lx_reader.specs.declared.fault.ShowFault.TheVariants as faults
 use Rattle.lx_reader.specs.Told.{fault_told}
 use Rattle.lx_reader.specs.ReadLines.{lines_read}
-use Rattle.lx_reader.specs.HandedLines.{MeansFault, IsPastLimit}
-use Rattle.lx_reader.specs.Loading.{reading_of, HasRead, OfText}
+use Rattle.lx_reader.specs.HandedLines.{MeansFault, IsPastLimit, IsCutShort}
+use Rattle.lx_reader.specs.Loading.{reading_of, HasRead, OfText, CutShort}
 use Rattle.lx_session.specs.Meaning.{ends_script, replies_of}
 use Rattle.lx_session.specs.Attempts.{WantsAtEdits}
-use Rattle.lx_session.specs.Scripts.{lines_wanted, bytes_wanted}
+use Rattle.lx_session.specs.Scripts.{lines_wanted, bytes_wanted, after_first}
 use Rattle.lx_session.proofs.Places.{wants_nothing}
 use Rattle.cuedesk.specs.declared.desk.Status.{Status}
 use Rattle.cuedesk.specs.declared.desk.Status.TheVariants as status
-use Rattle.cuedesk.specs.Output.{output_of, MayWantOf, WritesAll, WritesFront, Answers, AnswersInFront, lines_wanted_of, input_wanted}
+use Rattle.cuedesk.specs.Output.{output_of, MayWantOf, WritesAll, WritesFront, WritesTaken, Answers, AnswersInFront, AnswersTaken, first_replies, lines_wanted_of, input_wanted}
 use Rattle.cuedesk.specs.Refused.{RefusedBy, status_kept}
 
 -- a whole text is a front of itself, and nothing is one of any
@@ -128,6 +128,70 @@ session_fits left faults a b loaded o is none r fits =
     subst (λ (v : Option (List ℕ)). IfSome v (λ x. length (input_wanted x) ≤ INPUT_BYTES)) is
     (over_wanted (unread left a) (unread left b) a.taken b.taken (length m.front + 1) (m.front ++ m.last ∷ []) (reading_of loaded) (λ n. n ≤ INPUT_BYTES) none m.handed.took (one_more m.front m.last) m.wanted m.text m.script fits)
 
+-- The script was cut off behind a show that was read.
+if_known : (o : Option (List ℕ)) (P Q : List ℕ → Type 0) → IfSome o P → ((xs : List ℕ) → P xs → Q xs) → IfSome o Q
+if_known None P Q p f = tt
+if_known (Some xs) P Q p f = f xs p
+
+cut_behind : (x y : List ℕ) (left h h' : Option (List ℕ)) (i j : ℕ) (raws : List (List ℕ)) (reading : Reading) → i ≡ 0 → TookLines (Some x) (Some y) i j raws
+    → lines_read (lines_of x) ≡ length raws → reads Moves x ≡ Ok reading → script_of x ≡ lines_of y → AnswersTaken (opened reading.show) j y left h h' → WritesTaken x left h h'
+cut_behind x y left h h' i j raws reading none took shown text script a =
+    let n = a.cut.lines in
+    let mine : took.bytes ≡ first_lines (length raws) (took.bytes ++ y) = took.front ∙ ap (first_lines (length raws)) took.took in
+    let first : first_lines (length raws + n) x ≡ took.bytes ++ first_lines n y = ap (first_lines (length raws + n)) took.took ∙ first_lines-more (length raws) n took.bytes y mine in
+    let count : j + length (first_lines n y) ≡ 0 + length (first_lines (length raws + n) x) = omega (arith, none, took.count, ap length first, length-append took.bytes (first_lines n y)) in
+    let done : length raws + n - lines_read (lines_of x) ≡ n = omega (arith, shown) in
+    record {
+      places = a.places;
+      wants = subst (λ r. MayWantOf x a.places r) (sym text) (subst (λ ls. WantsAtEdits a.places (begun (opened reading.show)) (before_first ends_script ls)) (sym script) a.wants);
+      cut = record {
+        lines = length raws + n;
+        next = a.cut.next;
+        taken = if_known left _ _ a.cut.taken (λ rest e.
+            took.took ∙ ap (λ v. took.bytes ++ v) e ∙ sym (append_assoc took.bytes (first_lines n y) (a.cut.next ++ rest)) ∙ ap (λ v. v ++ (a.cut.next ++ rest)) (sym first));
+        no_feed = subst (λ k. HasNoFeed (take (INPUT_BYTES - k) a.cut.next)) count a.cut.no_feed;
+      };
+      text = subst (λ (t : List ℕ). Appends h h' t)
+          (sym (ap (λ r. first_replies r (script_of x) a.places (length raws + n - lines_read (lines_of x))) text
+          ∙ ap (λ k. (after_first (opened reading.show) (script_of x) a.places k).text) done
+          ∙ ap (λ ls. (after_first (opened reading.show) ls a.places n).text) script)) a.text;
+    }
+
+over_cut : (a b left h h' : Option (List ℕ)) (i j n : ℕ) (raws : List (List ℕ)) (reading : Reading) → i ≡ 0 → TookLines a b i j raws → n ≡ length raws
+    → IfSome a (λ x. lines_read (lines_of x) ≡ n) → IfSome a (λ x. reads Moves x ≡ Ok reading) → IfSome a (λ x. IfSome b (λ y. script_of x ≡ lines_of y))
+    → IfSome b (λ y. AnswersTaken (opened reading.show) j y left h h') → IfSome a (λ x. WritesTaken x left h h')
+over_cut None b left h h' i j n raws reading none took count shown text script p = tt
+over_cut (Some x) None left h h' i j n raws reading none took count shown text script p = absurd took.took
+over_cut (Some x) (Some y) left h h' i j n raws reading none took count shown text script p = cut_behind x y left h h' i j raws reading none took (shown ∙ count) text script p
+
+pub session_cut : {S : Type 0} (left : S → Option (List ℕ)) (faults : S → ℕ) (a b : Lines S) (loaded : Loaded) (o rest h h' : Option (List ℕ)) → unread left a ≡ o → a.taken ≡ 0 → HasRead left faults a b loaded
+    → IfSome (unread left b) (λ y. AnswersTaken (opened loaded.show) b.taken y rest h h') → IfSome o (λ x. WritesTaken x rest h h')
+session_cut left faults a b loaded o rest h h' is none r answers =
+    let m = r.means in
+    subst (λ (v : Option (List ℕ)). IfSome v (λ x. WritesTaken x rest h h')) is
+    (over_cut (unread left a) (unread left b) rest h h' a.taken b.taken (length m.front + 1) (m.front ++ m.last ∷ []) (reading_of loaded) none m.handed.took (one_more m.front m.last) m.wanted m.text m.script answers)
+
+-- The input was cut off within the show.
+none_replied : (r : Result Reading TextFault) (script : List (List ℕ)) (places : List ℕ) → first_replies r script places 0 ≡ []
+none_replied (Ok reading) script places = refl
+none_replied (Err fault) script places = refl
+
+cut_within : (x : List ℕ) (left h : Option (List ℕ)) (i : ℕ) → i ≡ 0 → IsCutShort i x left → WritesTaken x left h h
+cut_within x left h i none short =
+    let cut = short.cut in
+    let few : cut.lines - lines_read (lines_of x) ≡ 0 = let lt = short.wanted in omega (arith, lt) in
+    record {
+      places = [];
+      wants = nothing_wanted x (reads Moves x);
+      cut = record {
+        lines = cut.lines;
+        next = cut.next;
+        taken = cut.taken;
+        no_feed = subst (λ k. HasNoFeed (take (INPUT_BYTES - (k + length (first_lines cut.lines x))) cut.next)) none cut.no_feed;
+      };
+      text = subst (λ (t : List ℕ). Appends h h t) (sym (ap (first_replies (reads Moves x) (script_of x) []) few ∙ none_replied (reads Moves x) (script_of x) [])) (Appends-nil h);
+    }
+
 first_lines-length : (k : ℕ) (xs : List ℕ) → length (first_lines k xs) ≤ length xs
 first_lines-length k [] = omega arith
 first_lines-length zero (x ∷ xs) = omega arith
@@ -152,14 +216,14 @@ fault_fits : {S : Type 0} (left : S → Option (List ℕ)) (a : Lines S) (fault 
 fault_fits left a fault none m = refused_fits (unread left a) m.unread_then a.taken m.taken_then m.count m.raws fault none m.took m.whole m.text m.wanted
 
 -- what the reader says of a fault of the text
-fault_means : {S : Type 0} (left : S → Option (List ℕ)) (a : Lines S) (P : Type 0) (text : TextFault) → OfText (MeansFault left a) P (fault_told text) → MeansFault left a text
-fault_means left a P (texts_of.NoIdent i) p = p
-fault_means left a P (texts_of.BadNumber i) p = p
-fault_means left a P (texts_of.OutOfRange i) p = p
-fault_means left a P (texts_of.NotInRecord i) p = p
-fault_means left a P (texts_of.LineTooLong i) p = p
-fault_means left a P (texts_of.ShortList i) p = p
-fault_means left a P (texts_of.NoEndData i) p = p
+fault_means : {S : Type 0} (left : S → Option (List ℕ)) (a : Lines S) (P Q : Type 0) (text : TextFault) → OfText (MeansFault left a) P Q (fault_told text) → MeansFault left a text
+fault_means left a P Q (texts_of.NoIdent i) p = p
+fault_means left a P Q (texts_of.BadNumber i) p = p
+fault_means left a P Q (texts_of.OutOfRange i) p = p
+fault_means left a P Q (texts_of.NotInRecord i) p = p
+fault_means left a P Q (texts_of.LineTooLong i) p = p
+fault_means left a P Q (texts_of.ShortList i) p = p
+fault_means left a P Q (texts_of.NoEndData i) p = p
 
 text_at : (o h h' : Option (List ℕ)) (fault : TextFault) → IfSome o (λ x. reads Moves x ≡ Err fault) → Appends h h' (fault_text fault) → IfSome o (λ x. WritesAll x h h' × IsErr (reads Moves x))
 text_at None h h' fault text appended = tt
@@ -193,11 +257,11 @@ long_input i (Some x) none long =
     omega (arith, long.long, first_lines-longer (long.n + 1) (lines_wanted_of x (reads Moves x)) x wanted)
 
 -- What the reader's fault and the status of its refusal say.
-abbrev Says : {S : Type 0} → (S → Option (List ℕ)) → Lines S → ShowFault → Type 0
-Says left a fault = OfText (MeansFault left a) (IfSome (unread left a) (IsPastLimit a.taken)) fault
+abbrev Says : {S : Type 0} → (S → Option (List ℕ)) → Lines S → Lines S → ShowFault → Type 0
+Says left a b fault = OfText (MeansFault left a) (IfSome (unread left a) (IsPastLimit a.taken) × CutShort left a b) (CutShort left a b) fault
 
-means_of : {S : Type 0} (left : S → Option (List ℕ)) (a : Lines S) (fault : ShowFault) (text : TextFault) → fault ≡ fault_told text → Says left a fault → MeansFault left a text
-means_of left a fault text told says = fault_means left a (IfSome (unread left a) (IsPastLimit a.taken)) text (subst (λ f. Says left a f) told says)
+means_of : {S : Type 0} (left : S → Option (List ℕ)) (a b : Lines S) (fault : ShowFault) (text : TextFault) → fault ≡ fault_told text → Says left a b fault → MeansFault left a text
+means_of left a b fault text told says = fault_means left a (IfSome (unread left a) (IsPastLimit a.taken) × CutShort left a b) (CutShort left a b) text (subst (λ f. Says left a b f) told says)
 
 not_refused : (fault : ShowFault) (s : Status) (P : Type 0) → status_kept fault s → s ≡ status.ShowRefused → P
 not_refused (faults.NoIdent i) s P kept is = absurd kept
@@ -211,23 +275,23 @@ not_refused faults.ReadFault s P kept is = absurd cc
 not_refused faults.InputTooLong s P kept is = absurd cc
 not_refused faults.Memory s P kept is = absurd cc
 
-pub refusal_text : {S : Type 0} (left : S → Option (List ℕ)) (a : Lines S) (o h h' : Option (List ℕ)) (fault : ShowFault) (s : Status) → unread left a ≡ o → Says left a fault → RefusedBy h h' fault s → s ≡ status.ShowRefused
+pub refusal_text : {S : Type 0} (left : S → Option (List ℕ)) (a b : Lines S) (o h h' : Option (List ℕ)) (fault : ShowFault) (s : Status) → unread left a ≡ o → Says left a b fault → RefusedBy h h' fault s → s ≡ status.ShowRefused
     → IfSome o (λ x. WritesAll x h h' × IsErr (reads Moves x))
-refusal_text left a o h h' fault s is says by refused = elim by [
-  | inl text ↦ subst (λ (v : Option (List ℕ)). IfSome v (λ x. WritesAll x h h' × IsErr (reads Moves x))) is (text_at (unread left a) h h' text.text (means_of left a fault text.text text.told says).text (text.whole refused))
+refusal_text left a b o h h' fault s is says by refused = elim by [
+  | inl text ↦ subst (λ (v : Option (List ℕ)). IfSome v (λ x. WritesAll x h h' × IsErr (reads Moves x))) is (text_at (unread left a) h h' text.text (means_of left a b fault text.text text.told says).text (text.whole refused))
   | inr other ↦ not_refused fault s (IfSome o (λ x. WritesAll x h h' × IsErr (reads Moves x))) other.is refused
 ]
 
-pub refusal_front : {S : Type 0} (left : S → Option (List ℕ)) (a : Lines S) (o h h' : Option (List ℕ)) (fault : ShowFault) (s : Status) → unread left a ≡ o → Says left a fault → RefusedBy h h' fault s → IfSome o (λ x. WritesFront x h h')
-refusal_front left a o h h' fault s is says by = elim by [
-  | inl text ↦ subst (λ (v : Option (List ℕ)). IfSome v (λ x. WritesFront x h h')) is (text_front (unread left a) h h' text.text (means_of left a fault text.text text.told says).text text.front)
+pub refusal_front : {S : Type 0} (left : S → Option (List ℕ)) (a b : Lines S) (o h h' : Option (List ℕ)) (fault : ShowFault) (s : Status) → unread left a ≡ o → Says left a b fault → RefusedBy h h' fault s → IfSome o (λ x. WritesFront x h h')
+refusal_front left a b o h h' fault s is says by = elim by [
+  | inl text ↦ subst (λ (v : Option (List ℕ)). IfSome v (λ x. WritesFront x h h')) is (text_front (unread left a) h h' text.text (means_of left a b fault text.text text.told says).text text.front)
   | inr other ↦ subst (λ (v : Option (List ℕ)). IfSome o (λ x. WritesFront x h v)) (sym other.kept) (nothing_written o h)
 ]
 
-pub refusal_fits : {S : Type 0} (left : S → Option (List ℕ)) (a : Lines S) (o h h' : Option (List ℕ)) (fault : ShowFault) (s : Status) → unread left a ≡ o → a.taken ≡ 0 → Says left a fault → RefusedBy h h' fault s → s ≡ status.ShowRefused
+pub refusal_fits : {S : Type 0} (left : S → Option (List ℕ)) (a b : Lines S) (o h h' : Option (List ℕ)) (fault : ShowFault) (s : Status) → unread left a ≡ o → a.taken ≡ 0 → Says left a b fault → RefusedBy h h' fault s → s ≡ status.ShowRefused
     → IfSome o (λ x. length (input_wanted x) ≤ INPUT_BYTES)
-refusal_fits left a o h h' fault s is none says by refused = elim by [
-  | inl text ↦ subst (λ (v : Option (List ℕ)). IfSome v (λ x. length (input_wanted x) ≤ INPUT_BYTES)) is (fault_fits left a text.text none (means_of left a fault text.text text.told says))
+refusal_fits left a b o h h' fault s is none says by refused = elim by [
+  | inl text ↦ subst (λ (v : Option (List ℕ)). IfSome v (λ x. length (input_wanted x) ≤ INPUT_BYTES)) is (fault_fits left a text.text none (means_of left a b fault text.text text.told says))
   | inr other ↦ not_refused fault s (IfSome o (λ x. length (input_wanted x) ≤ INPUT_BYTES)) other.is refused
 ]
 
@@ -246,11 +310,39 @@ long_kept faults.Memory s kept is = absurd cc
 kinds_long : (s : Status) (P : Type 0) → (s ≡ status.ShowRefused) ⊎ ((s ≡ status.WriteFault) ⊎ (s ≡ status.Memory)) → s ≡ status.InputTooLong → P
 kinds_long s P kinds is = elim kinds [ inl a ↦ absurd cc | inr b ↦ elim b [ inl x ↦ absurd cc | inr y ↦ absurd cc ] ]
 
-pub refusal_long : {S : Type 0} (left : S → Option (List ℕ)) (a : Lines S) (o h h' : Option (List ℕ)) (fault : ShowFault) (s : Status) → unread left a ≡ o → a.taken ≡ 0 → Says left a fault → RefusedBy h h' fault s → s ≡ status.InputTooLong
+pub refusal_long : {S : Type 0} (left : S → Option (List ℕ)) (a b : Lines S) (o h h' : Option (List ℕ)) (fault : ShowFault) (s : Status) → unread left a ≡ o → a.taken ≡ 0 → Says left a b fault → RefusedBy h h' fault s → s ≡ status.InputTooLong
     → IfSome o (λ x. INPUT_BYTES < length (input_wanted x))
-refusal_long left a o h h' fault s is none says by long = elim by [
+refusal_long left a b o h h' fault s is none says by long = elim by [
   | inl text ↦ kinds_long s (IfSome o (λ x. INPUT_BYTES < length (input_wanted x))) text.kinds long
-  | inr other ↦ subst (λ (v : Option (List ℕ)). IfSome v (λ x. INPUT_BYTES < length (input_wanted x))) is (long_input a.taken (unread left a) none (subst (λ f. Says left a f) (long_kept fault s other.is long) says))
+  | inr other ↦ subst (λ (v : Option (List ℕ)). IfSome v (λ x. INPUT_BYTES < length (input_wanted x))) is (long_input a.taken (unread left a) none (subst (λ f. Says left a b f) (long_kept fault s other.is long) says).0)
+]
+
+cut_kept : {S : Type 0} (left : S → Option (List ℕ)) (a b : Lines S) (fault : ShowFault) (s : Status) → status_kept fault s → (s ≡ status.ReadFault) ⊎ (s ≡ status.InputTooLong) → Says left a b fault → CutShort left a b
+cut_kept left a b (faults.NoIdent i) s kept is says = absurd kept
+cut_kept left a b (faults.BadNumber i) s kept is says = absurd kept
+cut_kept left a b (faults.OutOfRange i) s kept is says = absurd kept
+cut_kept left a b (faults.NotInRecord i) s kept is says = absurd kept
+cut_kept left a b (faults.LineTooLong i) s kept is says = absurd kept
+cut_kept left a b (faults.ShortList i) s kept is says = absurd kept
+cut_kept left a b (faults.NoEndData i) s kept is says = absurd kept
+cut_kept left a b faults.ReadFault s kept is says = says
+cut_kept left a b faults.InputTooLong s kept is says = says.1
+cut_kept left a b faults.Memory s kept is says = elim is [ inl x ↦ absurd cc | inr y ↦ absurd cc ]
+
+kinds_cut : (s : Status) (P : Type 0) → (s ≡ status.ShowRefused) ⊎ ((s ≡ status.WriteFault) ⊎ (s ≡ status.Memory)) → (s ≡ status.ReadFault) ⊎ (s ≡ status.InputTooLong) → P
+kinds_cut s P kinds is = elim is [
+  | inl read ↦ elim kinds [ inl a ↦ absurd cc | inr b ↦ elim b [ inl x ↦ absurd cc | inr y ↦ absurd cc ] ]
+  | inr long ↦ kinds_long s P kinds long
+]
+
+pub refusal_cut : {S : Type 0} (left : S → Option (List ℕ)) (a b : Lines S) (o h h' : Option (List ℕ)) (fault : ShowFault) (s : Status) → unread left a ≡ o → a.taken ≡ 0 → Says left a b fault → RefusedBy h h' fault s
+    → (s ≡ status.ReadFault) ⊎ (s ≡ status.InputTooLong) → IfSome o (λ x. WritesTaken x (left b.source.now) h h')
+refusal_cut left a b o h h' fault s is none says by cut = elim by [
+  | inl text ↦ kinds_cut s (IfSome o (λ x. WritesTaken x (left b.source.now) h h')) text.kinds cut
+  | inr other ↦
+      subst (λ (v : Option (List ℕ)). IfSome o (λ x. WritesTaken x (left b.source.now) h v)) (sym other.kept)
+      (subst (λ (v : Option (List ℕ)). IfSome v (λ x. WritesTaken x (left b.source.now) h h)) is
+      (if_known (unread left a) _ _ (cut_kept left a b fault s other.is cut says) (λ x short. cut_within x (left b.source.now) h a.taken none short)))
 ]
 
 -- a session that ended whole ended Ok

@@ -1,8 +1,9 @@
 -- What the program writes for an input, and how much of the input it wants.
-use Rattle.std.specs.Prelude.{ℕ, ◌+◌, Result, Ok, Err, Option, List}
+use Rattle.std.specs.Prelude.{ℕ, ◌+◌, ◌-◌, [], Result, Ok, Err, Option, List}
 use Rattle.std.specs.List.{before_first}
 use Rattle.std.specs.Io.KnownBytes.{Appends}
 use Rattle.lx_io.specs.Puts.{AppendsFront}
+use Rattle.lx_lex.specs.CutOff.{CutOff}
 use Rattle.lx_lex.specs.Lines.{first_lines}
 use Rattle.lx_spec.specs.declared.Form.TheVariants.{Moves}
 use Rattle.lx_spec.specs.declared.TextFault.{TextFault}
@@ -14,7 +15,7 @@ use Rattle.lx_spec.specs.Replies.{begun}
 use Rattle.lx_reader.specs.ReadLines.{lines_read}
 use Rattle.lx_session.specs.Meaning.{ends_script, replies_of}
 use Rattle.lx_session.specs.Attempts.{WantsAtEdits}
-use Rattle.lx_session.specs.Scripts.{lines_wanted}
+use Rattle.lx_session.specs.Scripts.{lines_wanted, after_first}
 
 -- the replies to the script over the show that was read, from the opening on, or the line of a refused show
 abbrev pub output_of : List ℕ → List ℕ → List ℕ
@@ -50,6 +51,25 @@ pub record AnswersInFront (d : Desk) (script : List (List ℕ)) (held held' : Op
   pub places : List ℕ
   pub wants : WantsAtEditsOf d script places
   pub text : AppendsFront held held' (replies_of d script places)
+
+-- the lines of a script that were taken whole were answered from a desk on, and wholly
+pub record AnswersTaken (d : Desk) (before : ℕ) (bytes : List ℕ) (left held held' : Option (List ℕ)) : Type 0 where
+  pub places : List ℕ
+  pub wants : WantsAtEditsOf d (lines_of bytes) places
+  pub cut : CutOff before bytes left
+  pub text : Appends held held' (after_first d (lines_of bytes) places cut.lines).text
+
+-- the replies to the first so many lines of a script, where the show is read
+abbrev pub first_replies : Result Reading TextFault → List (List ℕ) → List ℕ → ℕ → List ℕ
+first_replies (Ok reading) script places lines = (after_first (opened reading.show) script places lines).text
+first_replies (Err fault) script places lines = []
+
+-- The input was cut off: the replies to the script lines that were taken whole, within its limit, were written.
+pub record WritesTaken (bytes : List ℕ) (left held held' : Option (List ℕ)) : Type 0 where
+  pub places : List ℕ
+  pub wants : MayWantOf bytes places (reads Moves bytes)
+  pub cut : CutOff 0 bytes left
+  pub text : Appends held held' (first_replies (reads Moves bytes) (script_of bytes) places (cut.lines - lines_read (lines_of bytes)))
 
 -- how many lines of an input are wanted: those of the show and, where it is read, those of the script
 abbrev pub lines_wanted_of : List ℕ → Result Reading TextFault → ℕ

@@ -5,7 +5,7 @@ ghost use Rattle.lx_base.specs.declared.TheConstants.{INPUT_BYTES};
 ghost use Rattle.lx_io.specs.Causes.{Rose};
 ghost use Rattle.lx_spec.specs.Reading.{reads};
 ghost use Rattle.lx_spec.specs.declared.Form.TheVariants.{Moves};
-ghost use Rattle.cuedesk.specs.Output.{WritesAll, WritesFront, input_wanted};
+ghost use Rattle.cuedesk.specs.Output.{WritesAll, WritesFront, WritesTaken, input_wanted};
 
 use crate::play::play;
 use crate::refuse::refuse;
@@ -58,6 +58,9 @@ pub fn desk<S: Source, K: Sink>(
 
     // After every status what was written is a front of the whole text.
     ensures front { result ≢ Status.Usage → IfSome (S.left input.old) (λ bytes. WritesFront bytes (K.holds output.old) (K.holds output.new)) }
+
+    // Where the input couldn't be read on, it is exactly the replies to the script lines whose LF was taken, within the limit.
+    ensures unread { (result ≡ Status.ReadFault) ⊎ (result ≡ Status.InputTooLong) → IfSome (S.left input.old) (λ bytes. WritesTaken bytes (S.left input.new) (K.holds output.old) (K.holds output.new)) }
 
     // Each other status has its cause. Want of memory alone is free.
     ensures read { result ≡ Status.ReadFault → Rose (S.faults input.old) (S.faults input.new) }

@@ -1,6 +1,6 @@
 //! The script over a show that was read.
 
-ghost use Rattle.std.specs.Prelude.{◌≡◌, ◌≢◌, ◌≤◌, ◌<◌, ◌+◌, length, IfSome, IsTrue};
+ghost use Rattle.std.specs.Prelude.{◌≡◌, ◌≢◌, ◌⊎◌, ◌≤◌, ◌<◌, ◌+◌, length, IfSome, IsTrue};
 ghost use Rattle.lx_base.specs.declared.TheConstants.{INPUT_BYTES};
 ghost use Rattle.lx_io.specs.Causes.{Rose};
 ghost use Rattle.lx_lex.specs.Unread.{unread};
@@ -8,7 +8,7 @@ ghost use Rattle.lx_spec.specs.Text.{lines_of};
 ghost use Rattle.lx_spec.specs.Desk.{opened};
 ghost use Rattle.lx_session.specs.Scripts.{bytes_wanted};
 ghost use Rattle.cuedesk.specs.Faults.{status_for};
-ghost use Rattle.cuedesk.specs.Output.{Answers, AnswersInFront};
+ghost use Rattle.cuedesk.specs.Output.{Answers, AnswersInFront, AnswersTaken};
 
 use crate::desk::Status;
 use lx_console::Console;
@@ -30,6 +30,7 @@ pub(crate) fn play<S: Source, K: Sink>(
     ensures same_reference { lines.new.source.ghost_name ≡ lines.old.source.ghost_name }
     ensures ok { result ≡ Status.Ok → IfSome (unread S.left lines.old) (λ bytes. Answers (opened show) (lines_of bytes) (K.holds output.old) (K.holds output.new)) }
     ensures front { IfSome (unread S.left lines.old) (λ bytes. AnswersInFront (opened show) (lines_of bytes) (K.holds output.old) (K.holds output.new)) }
+    ensures unread { (result ≡ Status.ReadFault) ⊎ (result ≡ Status.InputTooLong) → IfSome (unread S.left lines.old) (λ bytes. AnswersTaken (opened show) lines.old.taken bytes (S.left lines.new.source.now) (K.holds output.old) (K.holds output.new)) }
     ensures usage { result ≢ Status.Usage }
     ensures refused { result ≢ Status.ShowRefused }
     ensures later { S.faults lines.old.source.now ≤ S.faults lines.new.source.now }
