@@ -33,6 +33,20 @@ fn scale_is_rounded_down(rt: HostRuntime) {
     }
 }
 
+/// The product of each pair of levels, divided by 255 and rounded down, in wider numbers.
+#[test]
+fn each_pair_of_levels_is_scaled(rt: HostRuntime) {
+    for a in 0..256u32 {
+        for b in 0..256u32 {
+            let level = scale(a as u8, b as u8) as u32;
+            assert!(rt;
+                255 * level <= a * b && a * b < 255 * level + 255,
+                "{a} by {b}"
+            );
+        }
+    }
+}
+
 #[test]
 fn numbers_end_at_their_limits(rt: HostRuntime) {
     assert_eq!(rt; CueNo::new(0).map(|n| n.get()), Some(0));

@@ -1,7 +1,7 @@
 //! A small show of 10 channels, made and changed by edits. Cue 1 brings channel 1 to 255; cues 2 and 3 move
 //! nothing.
 
-ghost use Rattle.std.specs.Prelude.{◌≡◌, ◌≤◌, IfSome};
+ghost use Rattle.std.specs.Prelude.{◌≡◌, ◌<◌, ◌≤◌, IfSome};
 ghost use Rattle.lx_base.specs.declared.TheConstants.{CUE_MAX, CHANNELS, PARTS};
 ghost use Rattle.lx_spec.specs.Show.{InRange};
 ghost use Rattle.lx_spec.specs.ValidEdit.{ValidEdit};
@@ -9,7 +9,7 @@ ghost use Rattle.lx_sheet.specs.Standing.{StandsFor};
 
 use crate::planning::plan;
 use crate::{ChanSet, Dirty};
-use lx_base::{CUE_UNIT, Chan, ChanRange, CueNo, Dimmer, GroupNo, Level, PartNo, SubNo};
+use lx_base::{CHANNELS, CUE_UNIT, Chan, ChanRange, CueNo, Dimmer, GroupNo, Level, PartNo, SubNo};
 use lx_sheet::Sheet;
 use lx_show::{Edit, Label, Refusal, Show};
 use std::alloc::{AllocError, Global};
@@ -258,6 +258,44 @@ impl Desk {
         Ok(planned.apply(&mut desk.show, &mut desk.sheet))
     }
 
+    /// The edit is made, and then channel 1 is at these levels in cues 1, 2 and 3.
+    fn brings(&mut self, alloc: Global, edit: Edit, levels: [Level; 3]) -> bool
+        requires { ValidEdit edit }
+    {
+        self.edit(alloc, edit).is_ok() && self.is_at(1, levels)
+    }
+
+    /// The edit is made, and touches nothing.
+    fn touches_nothing(&mut self, alloc: Global, edit: Edit) -> bool
+        requires { ValidEdit edit }
+    {
+        match self.edit(alloc, edit) {
+            Ok(dirty) => dirty == Dirty::nothing(),
+            Err(_) => false,
+        }
+    }
+
+    /// Eight blocks of 256 channels are in the group, at the levels 1, 33, 65 and so on.
+    fn fill_group(&mut self, alloc: Global) -> Result<(), Refusal> {
+        for k in 0..8u16 {
+            let brought = member(256 * k + 1, 256 * k + 256, (32 * k + 1) as u8);
+            self.edit(alloc, brought)?;
+        }
+        Ok(())
+    }
+
+    /// Each channel of the block is at the level in cue 2.
+    fn block_is_at(&self, k: u16, level: Level) -> bool
+        requires { k < 8 }
+    {
+        for c in 256 * k + 1..256 * k + 257 {
+            if self.sheet.level_at(cue(2), chan(c)) != level {
+                return false;
+            }
+        }
+        true
+    }
+
     /// The edit is refused so.
     fn refuses(&self, alloc: Global, edit: Edit, why: &Refusal) -> bool
         requires { ValidEdit edit }
@@ -266,6 +304,13 @@ impl Desk {
             Some(refusal) => refusal == *why,
             None => false,
         }
+    }
+
+    /// The cue has no move of channel 1.
+    fn has_no_move_in(&self, n: u8) -> bool
+        requires { 1 ≤ n }
+    {
+        self.show.move_of(cue(n), chan(1)).is_none()
     }
 
     /// The channel's levels in cues 1, 2 and 3.
@@ -319,6 +364,61 @@ fn a_block_cue_keeps_its_look(rt: HostRuntime) -> Result<(), Fail> {
     assert!(rt; desk.is_at(1, [0, 255, 255]) && desk.is_at(2, [255, 0, 0]));
     let again = desk.edit(rt.alloc(), Edit::Unblock { cue: cue(2) })?;
     assert!(rt; !again.chans.contains(chan(2)));
+    Ok(())
+}
+
+/// Channel 1 is released after each: a second block takes nothing over, and a second unblock keeps nothing out.
+#[test]
+fn a_second_block_or_unblock_changes_nothing(rt: HostRuntime) -> Result<(), Fail> {
+    let mut desk = Desk::small(rt.alloc())?;
+    assert!(rt; desk.brings(rt.alloc(), Edit::Block { cue: cue(2) }, [255, 255, 255]));
+    assert!(rt; desk.brings(rt.alloc(), release(2, 1, false), [255, 0, 0]));
+    assert!(rt; desk.touches_nothing(rt.alloc(), Edit::Block { cue: cue(2) }));
+    assert!(rt; desk.is_at(1, [255, 0, 0]) && desk.has_no_move_in(2));
+    assert!(rt; desk.brings(rt.alloc(), Edit::Unblock { cue: cue(2) }, [255, 0, 0]));
+    assert!(rt; desk.brings(rt.alloc(), release(2, 1, false), [255, 255, 255]));
+    assert!(rt; desk.touches_nothing(rt.alloc(), Edit::Unblock { cue: cue(2) }));
+    assert!(rt; desk.is_at(1, [255, 255, 255]) && desk.has_no_move_in(2));
+    Ok(())
+}
+
+/// Nothing tracks into a block cue, so it needs no move to keep its level.
+#[test]
+fn cue_only_before_a_block_cue_adds_nothing(rt: HostRuntime) -> Result<(), Fail> {
+    let mut desk = Desk::small(rt.alloc())?;
+    assert!(rt; desk.brings(rt.alloc(), set(2, 1, 1, 100, false), [255, 100, 100]));
+    assert!(rt; desk.brings(rt.alloc(), Edit::Block { cue: cue(3) }, [255, 100, 100]));
+    assert!(rt; desk.brings(rt.alloc(), release(3, 1, false), [255, 100, 0]));
+    assert!(rt; desk.brings(rt.alloc(), set(2, 1, 1, 50, true), [255, 50, 0]));
+    assert!(rt; desk.has_no_move_in(3));
+    assert!(rt; desk.brings(rt.alloc(), release(2, 1, true), [255, 255, 0]));
+    assert!(rt; desk.has_no_move_in(3));
+    assert!(rt; desk.brings(rt.alloc(), delete(2, true), [255, 255, 0]));
+    assert!(rt; desk.has_no_move_in(3));
+    Ok(())
+}
+
+/// The cue above has a move of its own, which stays.
+#[test]
+fn cue_only_before_a_move_leaves_it(rt: HostRuntime) -> Result<(), Fail> {
+    let mut desk = Desk::small(rt.alloc())?;
+    assert!(rt; desk.brings(rt.alloc(), set(3, 1, 1, 30, false), [255, 255, 30]));
+    assert!(rt; desk.brings(rt.alloc(), set(2, 1, 1, 50, true), [255, 50, 30]));
+    assert!(rt; desk.brings(rt.alloc(), release(2, 1, true), [255, 255, 30]));
+    assert!(rt; desk.brings(rt.alloc(), set(2, 1, 1, 100, true), [255, 100, 30]));
+    assert!(rt; desk.brings(rt.alloc(), delete(2, true), [255, 255, 30]));
+    Ok(())
+}
+
+/// There is no cue above that would keep its levels.
+#[test]
+fn cue_only_at_the_last_cue_is_as_any_edit(rt: HostRuntime) -> Result<(), Fail> {
+    let mut desk = Desk::small(rt.alloc())?;
+    assert!(rt; desk.brings(rt.alloc(), set(3, 1, 1, 50, true), [255, 255, 50]));
+    assert!(rt; desk.brings(rt.alloc(), release(3, 1, true), [255, 255, 255]));
+    assert!(rt; desk.brings(rt.alloc(), set(3, 1, 1, 50, true), [255, 255, 50]));
+    assert!(rt; desk.brings(rt.alloc(), delete(3, true), [255, 255, 255]));
+    assert!(rt; desk.sheet.row(cue(3)).is_none());
     Ok(())
 }
 
@@ -381,6 +481,20 @@ fn a_group_is_set_in_proportion(rt: HostRuntime) -> Result<(), Fail> {
     desk.edit(rt.alloc(), set_group(2, 1, 128))?;
     assert!(rt; desk.is_at(1, [255, 128, 128]));
     assert!(rt; desk.is_at(2, [0, 64, 64]) && desk.is_at(3, [0, 64, 64]));
+    Ok(())
+}
+
+/// At 200 of 255: 33 becomes 25 and something, 65 becomes 50 and something, and so on.
+#[test]
+fn a_group_of_all_channels_is_set_in_proportion(rt: HostRuntime) -> Result<(), Fail> {
+    let mut desk = Desk::open(rt.alloc(), CHANNELS)?;
+    desk.edit(rt.alloc(), Edit::MakeCue { cue: cue(2) })?;
+    desk.fill_group(rt.alloc())?;
+    desk.edit(rt.alloc(), set_group(2, 1, 200))?;
+    let levels = [0, 25, 50, 76, 101, 126, 151, 176];
+    for k in 0..8u16 {
+        assert!(rt; desk.block_is_at(k, levels[k as usize]), "block {k}");
+    }
     Ok(())
 }
 
