@@ -12,4 +12,8 @@ mod ticks;
 pub use console::Console;
 
 #[cfg(test)]
+mod edit_tests;
+#[cfg(test)]
+mod steps;
+#[cfg(test)]
 mod tests;

@@ -7,14 +7,14 @@ use std::alloc::Global;
 use std::test::Fail;
 
 /// A show of 2 channels whose dimmer 1 follows channel 1.
-fn patched(alloc: Global) -> Result<Show, Fail> {
+pub(crate) fn patched(alloc: Global) -> Result<Show, Fail> {
     let mut show = Show::new(alloc, 2)?;
     patch(&mut show, 1, 1, 255)?;
     Ok(show)
 }
 
 /// The dimmer follows the channel at the level.
-fn patch(show: &mut Show, dimmer: u16, chan: u16, level: Level) -> Result<(), Fail> {
+pub(crate) fn patch(show: &mut Show, dimmer: u16, chan: u16, level: Level) -> Result<(), Fail> {
     let dimmer = Dimmer::new(dimmer as u32).ok_or("no such dimmer")?;
     let chan = Chan::new(chan as u32).ok_or("no such channel")?;
     if chan.get() <= show.channels() {
@@ -70,12 +70,12 @@ fn first_slot(console: &Console) -> Level {
 }
 
 /// A key of the playback is accepted.
-fn plays(console: &mut Console, key: PlayKey) -> bool {
+pub(crate) fn plays(console: &mut Console, key: PlayKey) -> bool {
     console.press(Key::Play(key)).is_ok()
 }
 
 /// So many ticks are accepted.
-fn ticks(console: &mut Console, count: u32) -> bool {
+pub(crate) fn ticks(console: &mut Console, count: u32) -> bool {
     for _ in 0..count {
         if console.tick().is_err() {
             return false;
