@@ -6,9 +6,8 @@ ghost use Rattle.lx_spec.specs.Show.{InRange};
 ghost use Rattle.lx_spec.specs.ValidEdit.{ValidEdit};
 
 use crate::Console;
-use crate::tests::{patch, patched, plays, ticks};
 use lx_base::{CUE_UNIT, Chan, ChanRange, Cs, CueNo, Dimmer, Level, PartNo, SubNo};
-use lx_show::{Command, Edit, Key, Label, PlayKey, Refusal, Show};
+use lx_show::{Command, Edit, Key, Label, PatchRow, PlayKey, Refusal, Show};
 use std::alloc::Global;
 use std::test::Fail;
 
@@ -41,16 +40,28 @@ pub(crate) enum Step {
     Back,
     Goto(u8),
     Settle,
+    /// The cue starts so many times.
+    Runs(u8, u32),
+    /// A tick, as a command.
+    Tick,
     Ticks(u32),
     Fader(u8, Level),
     Master(Level),
     /// There is no such submaster.
     NoFader(u8),
+    /// The cue can't start: the playback is full.
+    Full(u8),
+    /// There is no cue above the position.
+    NoGo,
     /// So many ticks of a fade of channel 2 from 0 to 255 in 2 seconds from the opening on, while channel 1
     /// is at 255.
     Fades(u32),
     /// The slots of dimmers 1 and 2.
     Slots(Level, Level),
+    /// The slot of the dimmer.
+    Slot(u16, Level),
+    /// The moment, the master, and the fader of submaster 1.
+    Stands(u32, Level, Level),
     /// The tracked levels in the cue.
     Row(u8, Level, Level),
     /// There is no such cue: it has no row, and edits of it are refused.
@@ -281,6 +292,45 @@ fn goes_to(console: &mut Console, n: u8) -> bool {
     }
 }
 
+/// The key of the playback is accepted.
+fn plays(console: &mut Console, key: PlayKey) -> bool {
+    console.press(Key::Play(key)).is_ok()
+}
+
+/// So many ticks are accepted.
+fn ticks(console: &mut Console, count: u32) -> bool {
+    for _ in 0..count {
+        if console.tick().is_err() {
+            return false;
+        }
+    }
+    true
+}
+
+/// The cue starts so many times.
+fn runs(console: &mut Console, n: u8, count: u32) -> bool {
+    for _ in 0..count {
+        if !goes_to(console, n) {
+            return false;
+        }
+    }
+    true
+}
+
+/// The cue can't start: the playback is full.
+fn is_full(console: &mut Console, n: u8) -> bool {
+    match cue(n) {
+        Some(n) => console.press(Key::Play(PlayKey::Goto(n))) == Err(Refusal::PlaybackFull),
+        None => false,
+    }
+}
+
+/// There is no cue above the position.
+fn is_last(console: &mut Console) -> bool {
+    let last = console.position();
+    console.press(Key::Play(PlayKey::Go)) == Err(Refusal::NoCueAfter(last))
+}
+
 /// The submaster's fader is set.
 fn fades_sub(console: &mut Console, s: u8, level: Level) -> bool {
     match SubNo::new(s as u32) {
@@ -316,6 +366,21 @@ fn keeps_fading(console: &mut Console, count: u32) -> bool {
 /// The slots of dimmers 1 and 2.
 fn has_slots(console: &Console, first: Level, second: Level) -> bool {
     console.frames()[0] == first && console.frames()[1] == second
+}
+
+/// The slot of the dimmer, if there is such a one.
+fn has_slot(console: &Console, e: u16, level: Level) -> bool {
+    e > 0 && e <= 8192 && console.frames()[e as usize - 1] == level
+}
+
+/// The moment, the master, and the fader of submaster 1.
+fn stands(console: &Console, moment: u32, master: Level, fader: Level) -> bool {
+    match SubNo::new(1) {
+        Some(sub) => {
+            console.moment() == moment && console.master() == master && console.fader(sub) == fader
+        }
+        None => false,
+    }
 }
 
 /// The cue has these tracked levels.
@@ -374,12 +439,18 @@ fn does(console: &mut Console, step: Step) -> bool {
         Step::Back => plays(console, PlayKey::Back),
         Step::Goto(n) => goes_to(console, n),
         Step::Settle => plays(console, PlayKey::Settle),
+        Step::Runs(n, count) => runs(console, n, count),
+        Step::Tick => console.command(&Command::Tick).is_ok(),
         Step::Ticks(count) => ticks(console, count),
         Step::Fader(s, level) => fades_sub(console, s, level),
         Step::Master(level) => console.press(Key::Master { level }).is_ok(),
         Step::NoFader(s) => lacks_sub(console, s),
+        Step::Full(n) => is_full(console, n),
+        Step::NoGo => is_last(console),
         Step::Fades(count) => keeps_fading(console, count),
         Step::Slots(first, second) => has_slots(console, first, second),
+        Step::Slot(e, level) => has_slot(console, e, level),
+        Step::Stands(moment, master, fader) => stands(console, moment, master, fader),
         Step::Row(n, first, second) => has_row(console, n, [first, second].as_slice()),
         Step::NoCue(n) => lacks_cue(console, n),
         Step::NoChannel(n, c) => lacks_channel(console, n, c),
@@ -407,10 +478,25 @@ pub(crate) fn play(console: &mut Console, steps: &[Step]) -> Result<(), Undone> 
     Ok(())
 }
 
+/// The dimmer follows the channel at full.
+fn patch(show: &mut Show, dimmer: u16, chan: u16) -> Result<(), Fail> {
+    let dimmer = Dimmer::new(dimmer as u32).ok_or("no such dimmer")?;
+    let chan = Chan::new(chan as u32).ok_or("no such channel")?;
+    if chan.get() <= show.channels() {
+        show.put_patch(PatchRow {
+            dimmer,
+            chan,
+            level: 255,
+        });
+    }
+    Ok(())
+}
+
 /// A console without cues, whose dimmers 1 and 2 follow channels 1 and 2.
 pub(crate) fn opened(alloc: Global) -> Result<Console, Fail> {
-    let mut show = patched(alloc)?;
-    patch(&mut show, 2, 2, 255)?;
+    let mut show = Show::new(alloc, 2)?;
+    patch(&mut show, 1, 1)?;
+    patch(&mut show, 2, 2)?;
     Ok(Console::open(alloc, show)?)
 }
 
