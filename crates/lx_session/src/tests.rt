@@ -55,13 +55,24 @@ fn tally(ok: u64, refused: u64, bad: u64) -> Result<Tally, SessionFault> {
     Ok(Tally { ok, refused, bad })
 }
 
-/// The text so many times.
-fn times(alloc: Global, count: u32, text: &[u8]) -> Result<Vec<u8>, AllocError> {
+/// The text so many times, and then an end.
+fn repeated(alloc: Global, count: u32, text: &[u8], end: &[u8]) -> Result<Vec<u8>, AllocError> {
     let mut all = Vec::new(alloc);
     for _ in 0..count {
         all.extend_from_slice(text)?;
     }
+    all.extend_from_slice(end)?;
     Ok(all)
+}
+
+/// A line of the word and so many blanks.
+fn padded(alloc: Global, word: &[u8], blanks: u32) -> Result<Vec<u8>, AllocError> {
+    let mut line = word.to_vec(alloc)?;
+    for _ in 0..blanks {
+        line.push(b' ')?;
+    }
+    line.push(b'\n')?;
+    Ok(line)
 }
 
 /// However the script is cut, `quit` is its end: it has no reply, and no line behind it is done.
@@ -148,10 +159,10 @@ fn ticks_past_the_last_moment_are_refused_once(rt: HostRuntime) -> Result<(), Fa
 #[test]
 fn each_of_512_runs_is_answered(rt: HostRuntime) -> Result<(), Fail> {
     let mut console = prepared(rt.alloc(), IN_TEN_MINUTES)?;
-    let mut script = times(rt.alloc(), 513, b"goto 1\n")?;
-    script.extend_from_slice(b"frame\nsettle\ngoto 1\nframe\n")?;
-    let mut written = times(rt.alloc(), 512, b"ok\n")?;
-    written.extend_from_slice(b"refused PlaybackFull\nframe 0 1\nok\nok\nframe 0 1 1=255\n")?;
+    let then = b"frame\nsettle\ngoto 1\nframe\n".as_slice();
+    let script = repeated(rt.alloc(), 513, b"goto 1\n", then)?;
+    let replies = b"refused PlaybackFull\nframe 0 1\nok\nok\nframe 0 1 1=255\n".as_slice();
+    let written = repeated(rt.alloc(), 512, b"ok\n", replies)?;
     comes_to(
         rt.alloc(),
         &mut console,
@@ -162,23 +173,24 @@ fn each_of_512_runs_is_answered(rt: HostRuntime) -> Result<(), Fail> {
     )
 }
 
+/// The word and so many blanks are answered so.
+fn answers_padded(
+    alloc: Global,
+    word: &[u8],
+    blanks: u32,
+    outcome: Result<Tally, SessionFault>,
+    written: &[u8],
+) -> Result<(), Fail> {
+    let mut console = prepared(alloc, AT_ONCE)?;
+    let line = padded(alloc, word, blanks)?;
+    comes_to(alloc, &mut console, &line, 1000, outcome, written)
+}
+
 /// A line has at most 4,096 bytes, and one of 4,097 is bad, whatever it says.
 #[test]
 fn a_line_of_4097_bytes_is_bad(rt: HostRuntime) -> Result<(), Fail> {
-    let mut console = prepared(rt.alloc(), AT_ONCE)?;
-    let mut script = b"go".to_vec(rt.alloc())?;
-    script.extend_from_slice(&times(rt.alloc(), 4095, b" ")?)?;
-    script.extend_from_slice(b"\nframe")?;
-    script.extend_from_slice(&times(rt.alloc(), 4091, b" ")?)?;
-    let written = b"bad\nframe 0 1\n".as_slice();
-    comes_to(
-        rt.alloc(),
-        &mut console,
-        &script,
-        1000,
-        tally(0, 0, 1),
-        written,
-    )
+    answers_padded(rt.alloc(), b"go", 4095, tally(0, 0, 1), b"bad\n")?;
+    answers_padded(rt.alloc(), b"frame", 4091, tally(0, 0, 0), b"frame 0 1\n")
 }
 
 #[test]
@@ -197,29 +209,42 @@ fn an_input_past_its_limit_ends_the_session(rt: HostRuntime) -> Result<(), Fail>
 }
 
 /// The first read gives the first line, which is answered; the second fails.
+fn ends_at_a_read(alloc: Global, console: &mut Console) -> Result<bool, AllocError> {
+    let script = b"go\nfly\n".to_vec(alloc)?;
+    let mut source = MemSource::new(script, 3, vec![in alloc; 1]?);
+    let mut sink = PlainSink::new(alloc);
+    let outcome = session(console, &mut Lines::new(&mut source), &mut sink);
+    Ok(
+        outcome == Err(SessionFault::ReadFault)
+            && source.faults() == 1
+            && sink.bytes() == b"ok\n".as_slice(),
+    )
+}
+
 #[test]
 fn a_read_that_fails_ends_the_session(rt: HostRuntime) -> Result<(), Fail> {
     let mut console = prepared(rt.alloc(), AT_ONCE)?;
-    let script = b"go\nfly\n".to_vec(rt.alloc())?;
-    let mut source = MemSource::new(script, 3, vec![in rt.alloc(); 1]?);
-    let mut sink = PlainSink::new(rt.alloc());
-    let outcome = session(&mut console, &mut Lines::new(&mut source), &mut sink);
-    assert!(rt; outcome == Err(SessionFault::ReadFault));
-    assert!(rt; source.faults() == 1);
-    assert!(rt; sink.bytes() == b"ok\n".as_slice());
+    assert!(rt; ends_at_a_read(rt.alloc(), &mut console)?);
     Ok(())
 }
 
-/// The line was done, and no later one is.
+/// The first write fails; its line was done, and no later one is.
+fn ends_at_a_write(alloc: Global, console: &mut Console) -> Result<bool, AllocError> {
+    let script = b"go\nmaster at 0\n".to_vec(alloc)?;
+    let mut source = PlainSource::new(script, 100);
+    let mut sink = MemSink::new(alloc, vec![in alloc; 0]?);
+    let outcome = session(console, &mut Lines::new(&mut source), &mut sink);
+    Ok(
+        outcome == Err(SessionFault::WriteFault)
+            && sink.faults() == 1
+            && sink.bytes() == b"".as_slice(),
+    )
+}
+
 #[test]
 fn a_write_that_fails_ends_the_session(rt: HostRuntime) -> Result<(), Fail> {
     let mut console = prepared(rt.alloc(), AT_ONCE)?;
-    let script = b"go\nmaster at 0\n".to_vec(rt.alloc())?;
-    let mut source = PlainSource::new(script, 100);
-    let mut sink = MemSink::new(rt.alloc(), vec![in rt.alloc(); 0]?);
-    let outcome = session(&mut console, &mut Lines::new(&mut source), &mut sink);
-    assert!(rt; outcome == Err(SessionFault::WriteFault));
-    assert!(rt; sink.faults() == 1 && sink.bytes() == b"".as_slice());
+    assert!(rt; ends_at_a_write(rt.alloc(), &mut console)?);
     assert!(rt; console.frames()[0] == 128 && console.master() == 255);
     Ok(())
 }
