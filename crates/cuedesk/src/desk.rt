@@ -59,7 +59,7 @@ pub fn desk<S: Source, K: Sink>(
     // After every status what was written is a front of the whole text.
     ensures front { result ≢ Status.Usage → IfSome (S.left input.old) (λ bytes. WritesFront bytes (K.holds output.old) (K.holds output.new)) }
 
-    // Where the input couldn't be read on, it is exactly the replies to the script lines whose LF was taken, within the limit.
+    // Where the input couldn't be read on, it is exactly the replies to the script lines that were taken whole, within the limit.
     ensures unread { (result ≡ Status.ReadFault) ⊎ (result ≡ Status.InputTooLong) → IfSome (S.left input.old) (λ bytes. WritesTaken bytes (S.left input.new) (K.holds output.old) (K.holds output.new)) }
 
     // Each other status has its cause. Want of memory alone is free.

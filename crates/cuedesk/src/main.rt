@@ -2,6 +2,9 @@
 //! writes replies and frames to standard output.
 #![tactic(auto)]
 
+ghost use Rattle.std.specs.Prelude.{◌≡◌};
+ghost use Rattle.cuedesk.specs.Exits.{exit_status};
+
 mod desk;
 mod play;
 mod refuse;
@@ -29,7 +32,9 @@ fn words_given(rt: &HostRuntime) -> io::Result<Vec<String>> {
 }
 
 /// The exit status of the program.
-fn exit_of(status: Status) -> u8 {
+fn exit_of(status: Status) -> u8
+    ensures { result ≡ exit_status status }
+{
     match status {
         Status::Ok => 0,
         Status::ShowRefused => 1,
