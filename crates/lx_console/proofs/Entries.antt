@@ -3,9 +3,9 @@ use Rattle.std.specs.Prelude.{◌≤◌, List, [], ◌∷◌, length, unwrap_or,
 use Rattle.std.specs.List.{AllByRecursion}
 use Rattle.std.proofs.Common.{arith}
 use Rattle.lx_spec.specs.declared.PartTimes.{PartTimes}
-use Rattle.lx_spec.specs.Listing.{entry_at}
+use Rattle.lx_spec.specs.SortedList.{entry_at}
 use Rattle.lx_spec.specs.Show.{Show}
-use Rattle.lx_spec.specs.Tracked.{move_of}
+use Rattle.lx_spec.specs.TrackedLevel.{move_of}
 use Rattle.lx_spec.specs.Run.{Run, first_entry, entry_for}
 use Rattle.lx_spec.proofs.Instant.{All-find}
 

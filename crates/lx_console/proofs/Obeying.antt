@@ -10,10 +10,10 @@ use Rattle.lx_spec.specs.declared.Command.{Command}
 use Rattle.lx_spec.specs.declared.Command.TheVariants as commands
 use Rattle.lx_spec.specs.declared.Refusal.{Refusal}
 use Rattle.lx_spec.specs.declared.Refusal.TheVariants.{AbsentSub}
-use Rattle.lx_spec.specs.Refusing.{◌>>=◌}
-use Rattle.lx_spec.specs.Listing.{has_entry}
+use Rattle.lx_spec.specs.FirstRefusal.{◌>>=◌}
+use Rattle.lx_spec.specs.SortedList.{has_entry}
 use Rattle.lx_spec.specs.Playback.{Played, press, tick}
-use Rattle.lx_spec.specs.Edited.{edited}
+use Rattle.lx_spec.specs.EditedShow.{edited}
 use Rattle.lx_spec.specs.Desk.{Desk, opened, step, after_play, after_command, replay}
 use Rattle.lx_spec.specs.Stands.{Kept, kept}
 use Rattle.lx_spec.specs.Laws.{KeepsRest}

@@ -4,7 +4,7 @@ use Rattle.std.proofs.Common.{arith, ap, sym, subst, ◌∙◌}
 use Rattle.lx_base.specs.declared.TheConstants.{SLOTS}
 use Rattle.lx_base.specs.Numbers.{scaled}
 use Rattle.lx_spec.specs.declared.PatchRow.{PatchRow}
-use Rattle.lx_spec.specs.Listing.{entry_at}
+use Rattle.lx_spec.specs.SortedList.{entry_at}
 use Rattle.lx_spec.specs.Show.{Show, Sub}
 use Rattle.lx_spec.specs.Output.{contribution, dimmer_value}
 use Rattle.lx_spec.specs.Stands.{Kept}

@@ -2,7 +2,7 @@
 use Rattle.std.specs.Prelude.{◌≡◌, ◌≢◌, ℕ, ◌+◌, ◌<◌, false, Option, Some, None, List, length, slice_index}
 use Rattle.lx_base.specs.declared.TheConstants.{SLOTS, RUNS}
 use Rattle.lx_spec.specs.declared.PatchRow.{PatchRow}
-use Rattle.lx_spec.specs.Listing.{entry_at}
+use Rattle.lx_spec.specs.SortedList.{entry_at}
 use Rattle.lx_spec.specs.Output.{dimmer_value}
 use Rattle.lx_spec.specs.Stands.{Kept}
 use Rattle.lx_sheet.specs.Rows.{Sheet}

@@ -3,7 +3,7 @@
 ghost use Rattle.std.specs.Prelude.{◌≡◌, ℕ, ◌+◌, ◌<◌, ◌≤◌, length, reverse};
 ghost use Rattle.std.specs.List.{All};
 ghost use Rattle.lx_base.specs.declared.TheConstants.{RUNS, TICK_END};
-ghost use Rattle.lx_spec.specs.Tracked.{tracked};
+ghost use Rattle.lx_spec.specs.TrackedLevel.{tracked};
 ghost use Rattle.lx_spec.specs.Level.{level, run_over};
 ghost use Rattle.lx_spec.specs.Fades.{stack_at};
 ghost use Rattle.lx_fade.specs.Row.{stack_in};

@@ -3,12 +3,12 @@
 ghost use Rattle.std.specs.Prelude.{◌≡◌, ℕ, ◌-◌, ◌≤◌, OnOk, OnErr, IfOk, IfErr, IsOkAnd, IsTrue, IsFalse, option_map, slice_set};
 ghost use Rattle.std.specs.Option.{option_copied};
 ghost use Rattle.lx_base.specs.declared.TheConstants.{SLOTS, UNIVERSES};
-ghost use Rattle.lx_spec.specs.Listing.{has_entry};
+ghost use Rattle.lx_spec.specs.SortedList.{has_entry};
 ghost use Rattle.lx_spec.specs.Level.{level};
 ghost use Rattle.lx_spec.specs.Playback.{position_of, press, tick};
-ghost use Rattle.lx_spec.specs.Tracked.{cue_of};
+ghost use Rattle.lx_spec.specs.TrackedLevel.{cue_of};
 ghost use Rattle.lx_spec.specs.Replies.{row_of};
-ghost use Rattle.lx_spec.specs.Edited.{edited};
+ghost use Rattle.lx_spec.specs.EditedShow.{edited};
 ghost use Rattle.lx_spec.specs.ValidEdit.{ValidEdit, ValidCommand};
 ghost use Rattle.lx_spec.specs.Output.{dimmer_value, fader, frame};
 ghost use Rattle.lx_spec.specs.Desk.{Desk, opened};

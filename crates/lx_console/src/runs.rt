@@ -2,9 +2,9 @@
 
 ghost use Rattle.std.specs.Prelude.{◌≡◌, ℕ, ◌≤◌, ◌==◌, length, nat_le, option_and_then, if◌then◌else◌};
 ghost use Rattle.std.specs.Option.{option_copied};
-ghost use Rattle.lx_spec.specs.Listing.{entry_at};
+ghost use Rattle.lx_spec.specs.SortedList.{entry_at};
 ghost use Rattle.lx_spec.specs.Show.{IsTime};
-ghost use Rattle.lx_spec.specs.Tracked.{tracked, move_of};
+ghost use Rattle.lx_spec.specs.TrackedLevel.{tracked, move_of};
 ghost use Rattle.lx_spec.specs.Run.{acts, entry_for, first_entry};
 ghost use Rattle.lx_spec.specs.Fades.{stack_at};
 ghost use Rattle.lx_fade.specs.Row.{stack_in};

@@ -7,10 +7,10 @@ use Rattle.std.proofs.lemmas.Bool.{cases_eq, cases_lt, false≢true}
 use Rattle.std.proofs.lemmas.Bool.Decides.{nat_tests}
 use Rattle.lx_base.specs.declared.TheConstants.{CHANNELS}
 use Rattle.lx_spec.specs.declared.Move.{Move}
-use Rattle.lx_spec.specs.Listing.{Rises, entry_at, placed, taken_out, entries_above, entries_below}
+use Rattle.lx_spec.specs.SortedList.{Rises, entry_at, placed, taken_out, entries_above, entries_below}
 use Rattle.lx_spec.specs.Show.{Cue, Show, Valid, ValidCue}
-use Rattle.lx_spec.specs.Tracked.{tracked, cue_of, move_of, move_in, level_in, decides}
-use Rattle.lx_spec.specs.Edited.{with_cue, without_cue}
+use Rattle.lx_spec.specs.TrackedLevel.{tracked, cue_of, move_of, move_in, level_in, decides}
+use Rattle.lx_spec.specs.EditedShow.{with_cue, without_cue}
 use Rattle.lx_spec.specs.Laws.{SameColumn}
 use Rattle.lx_show.specs.Around.{entries_up_to}
 use Rattle.lx_show.proofs.Placed.{placed_same, entry_at-placed_here, entry_at-placed_other}

@@ -8,10 +8,10 @@ use Rattle.lx_base.specs.Numbers.{Span}
 use Rattle.lx_spec.specs.declared.Part.{Part}
 use Rattle.lx_spec.specs.declared.Move.{Move}
 use Rattle.lx_spec.specs.declared.Member.{Member}
-use Rattle.lx_spec.specs.Listing.{has_entry, taken_out}
+use Rattle.lx_spec.specs.SortedList.{has_entry, taken_out}
 use Rattle.lx_spec.specs.Show.{Cue, Show, ValidCue, ValidMove, ValidMember}
-use Rattle.lx_spec.specs.Tracked.{move_in}
-use Rattle.lx_spec.specs.Edited.{all_at, in_proportion, part_for, without_moves, moves_for}
+use Rattle.lx_spec.specs.TrackedLevel.{move_in}
+use Rattle.lx_spec.specs.EditedShow.{all_at, in_proportion, part_for, without_moves, moves_for}
 use Rattle.lx_show.proofs.RisingLists.{found_has, kept_by, Rises-filter}
 use Rattle.lx_show.proofs.ChangedCues.{with_other_moves}
 use Rattle.lx_edit.specs.Found.{Fits}

@@ -7,9 +7,9 @@ use Rattle.lx_base.specs.declared.TheConstants.{CUES, PARTS}
 use Rattle.lx_spec.specs.declared.Part.{Part}
 use Rattle.lx_spec.specs.declared.Move.{Move}
 use Rattle.lx_spec.specs.declared.Edit.{Edit}
-use Rattle.lx_spec.specs.Listing.{entry_at, has_entry, taken_out}
+use Rattle.lx_spec.specs.SortedList.{entry_at, has_entry, taken_out}
 use Rattle.lx_spec.specs.Show.{Cue, Show, ValidCue, ValidPart, ValidMove, IsTime}
-use Rattle.lx_spec.specs.Edited.{edited, with_cue, with_time, new_part, without_part, out_of_part}
+use Rattle.lx_spec.specs.EditedShow.{edited, with_cue, with_time, new_part, without_part, out_of_part}
 use Rattle.lx_show.proofs.RisingLists.{found_valid, Rises-filter, Rises-map, kept_by}
 use Rattle.lx_edit.proofs.Lists.{find_in_filter}
 use Rattle.lx_edit.specs.Found.{FoundCue}

@@ -6,10 +6,10 @@ use denote.Ref.{Bor}
 use Rattle.std.proofs.lemmas.Bool.{false≢true}
 use Rattle.std.proofs.lemmas.Bool.Decides.{nat_tests}
 use Rattle.std.proofs.lemmas.List.Elements.{filter-append}
-use Rattle.lx_spec.specs.Listing.{Rises, entry_at, has_entry, placed, entries_below, entries_above}
+use Rattle.lx_spec.specs.SortedList.{Rises, entry_at, has_entry, placed, entries_below, entries_above}
 use Rattle.lx_spec.specs.Show.{Cue, Show, ValidCue}
-use Rattle.lx_spec.specs.Tracked.{tracked, decides, level_in, cue_above}
-use Rattle.lx_spec.specs.Edited.{with_cue}
+use Rattle.lx_spec.specs.TrackedLevel.{tracked, decides, level_in, cue_above}
+use Rattle.lx_spec.specs.EditedShow.{with_cue}
 use Rattle.lx_show.specs.Around.{entries_up_to}
 use Rattle.lx_show.proofs.Finding.{find_first, find_passes}
 use Rattle.lx_show.proofs.RisingLists.{each, filter_all, filter_none, passes, lt_from}

@@ -7,10 +7,10 @@ use Rattle.std.proofs.lemmas.Bool.Decides.{nat_tests}
 use Rattle.std.proofs.lemmas.List.Folds.{find-append}
 use Rattle.std.proofs.lemmas.List.Sums.{fold-append}
 use Rattle.std.proofs.lemmas.List.Elements.{filter-append}
-use Rattle.lx_spec.specs.Listing.{Rises, placed, taken_out, entries_below, entries_above}
+use Rattle.lx_spec.specs.SortedList.{Rises, placed, taken_out, entries_below, entries_above}
 use Rattle.lx_spec.specs.Show.{Cue, Show}
-use Rattle.lx_spec.specs.Tracked.{tracked, decides, level_in, cue_above}
-use Rattle.lx_spec.specs.Edited.{with_cue, without_cue}
+use Rattle.lx_spec.specs.TrackedLevel.{tracked, decides, level_in, cue_above}
+use Rattle.lx_spec.specs.EditedShow.{with_cue, without_cue}
 use Rattle.lx_show.specs.Around.{entries_up_to}
 use Rattle.lx_show.proofs.Finding.{find_first, find_both_last}
 use Rattle.lx_show.proofs.RisingLists.{each, filter_all, filter_none, passes, below_and_above, Rises-filter}

@@ -3,7 +3,7 @@ use Rattle.std.specs.Prelude.{◌≡◌, ℕ, Bool, false, ◌||◌, Option, Som
 use Rattle.std.specs.Option.{option_map_or}
 use Rattle.lx_spec.specs.declared.Move.{Move}
 use Rattle.lx_spec.specs.Show.{Cue, Show}
-use Rattle.lx_spec.specs.Tracked.{move_in}
+use Rattle.lx_spec.specs.TrackedLevel.{move_in}
 use Rattle.lx_spec.specs.Laws.{SameColumn}
 use Rattle.lx_edit.specs.declared.chan_set.ChanSet.{ChanSet}
 use Rattle.lx_edit.specs.ChanSet.{has_chan}

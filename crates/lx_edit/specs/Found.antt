@@ -3,10 +3,10 @@ use Rattle.std.specs.Prelude.{◌≡◌, ℕ, ◌≤◌, IsTrue, Option, Some, I
 use Rattle.lx_base.specs.Numbers.{Span}
 use Rattle.lx_spec.specs.declared.Part.{Part}
 use Rattle.lx_spec.specs.declared.Move.{Move}
-use Rattle.lx_spec.specs.Listing.{entry_at, has_entry}
+use Rattle.lx_spec.specs.SortedList.{entry_at, has_entry}
 use Rattle.lx_spec.specs.Show.{Cue, Show, ValidCue}
-use Rattle.lx_spec.specs.Tracked.{cue_of}
-use Rattle.lx_spec.specs.Edited.{with_cue, the_given_part}
+use Rattle.lx_spec.specs.TrackedLevel.{cue_of}
+use Rattle.lx_spec.specs.EditedShow.{with_cue, the_given_part}
 
 -- the show has the cue, of this number
 pub record FoundCue (show : Show) (n : ℕ) (cue : Cue) : Type 0 where

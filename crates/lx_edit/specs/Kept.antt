@@ -2,8 +2,8 @@
 use Rattle.std.specs.Prelude.{ℕ, Option, Some, None, List, [], ◌∷◌, if◌then◌else◌}
 use Rattle.lx_spec.specs.declared.Move.{Move}
 use Rattle.lx_spec.specs.Show.{Cue, Show}
-use Rattle.lx_spec.specs.Tracked.{decides, level_in}
-use Rattle.lx_spec.specs.Edited.{with_cue, without_cue}
+use Rattle.lx_spec.specs.TrackedLevel.{decides, level_in}
+use Rattle.lx_spec.specs.EditedShow.{with_cue, without_cue}
 
 -- the show with the changed cue in its place, or without the cue of the number
 abbrev pub changed_show : Show → ℕ → Option Cue → Show

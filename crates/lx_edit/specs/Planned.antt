@@ -5,9 +5,9 @@ use Rattle.lx_spec.specs.declared.Edit.{Edit}
 use Rattle.lx_spec.specs.declared.Edit.TheVariants.{SubMember, Patch, Unpatch}
 use Rattle.lx_spec.specs.declared.Refusal.{Refusal}
 use Rattle.lx_spec.specs.declared.Refusal.TheVariants.{Memory}
-use Rattle.lx_spec.specs.Listing.{has_entry, placed, taken_out}
+use Rattle.lx_spec.specs.SortedList.{has_entry, placed, taken_out}
 use Rattle.lx_spec.specs.Show.{Cue, Show, ValidCue, ValidGroup, ValidSub}
-use Rattle.lx_spec.specs.Edited.{edited, with_cue, without_cue}
+use Rattle.lx_spec.specs.EditedShow.{edited, with_cue, without_cue}
 use Rattle.lx_edit.specs.declared.plans.Plan.{Plan}
 use Rattle.lx_edit.specs.declared.plans.Plan.TheVariants.{Nothing, PlaceCue, RemoveCue, PlaceGroup, PlaceSub, PlaceRow, RemoveRow}
 

@@ -2,9 +2,9 @@
 
 ghost use Rattle.std.specs.Prelude.{◌≡◌, ℕ, ◌≤◌, Ok, Err, MatchResult, Some, None, find, is_none};
 ghost use Rattle.lx_spec.specs.Show.{ValidGroup};
-ghost use Rattle.lx_spec.specs.Listing.{entry_at};
-ghost use Rattle.lx_spec.specs.Tracked.{move_in};
-ghost use Rattle.lx_spec.specs.Edited.{the_cue, the_part, the_given_part, the_channels, the_group, the_moves, channels_in};
+ghost use Rattle.lx_spec.specs.SortedList.{entry_at};
+ghost use Rattle.lx_spec.specs.TrackedLevel.{move_in};
+ghost use Rattle.lx_spec.specs.EditedShow.{the_cue, the_part, the_given_part, the_channels, the_group, the_moves, channels_in};
 ghost use Rattle.lx_edit.specs.Found.{FoundCue, GivenPart, IsWithin};
 
 use lx_base::{CHANNELS, Chan, ChanRange, CueNo, GroupNo, PartNo};

@@ -1,8 +1,8 @@
 //! A plan applied: the show becomes the edited one, and the sheet follows. No call takes memory.
 
 ghost use Rattle.std.specs.Prelude.{◌≡◌, ◌≢◌, ◌<◌, ◌≤◌, ℕ, false, IfSome};
-ghost use Rattle.lx_spec.specs.Tracked.{tracked};
-ghost use Rattle.lx_spec.specs.Edited.{with_cue, without_cue};
+ghost use Rattle.lx_spec.specs.TrackedLevel.{tracked};
+ghost use Rattle.lx_spec.specs.EditedShow.{with_cue, without_cue};
 ghost use Rattle.lx_sheet.specs.Rows.{level_of, numbers_of};
 ghost use Rattle.lx_sheet.specs.Standing.{StandsFor, StandsIn, cue_numbers};
 ghost use Rattle.lx_edit.specs.ChanSet.{has_chan};

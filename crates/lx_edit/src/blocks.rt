@@ -2,8 +2,8 @@
 //! its look.
 
 ghost use Rattle.std.specs.Prelude.{◌≡◌, ◌-◌, ◌==◌, ◌&&◌, ℕ, not, is_none, IfOk, if◌then◌else◌, Some, None};
-ghost use Rattle.lx_spec.specs.Tracked.{move_in, tracked};
-ghost use Rattle.lx_spec.specs.Edited.{moves_for};
+ghost use Rattle.lx_spec.specs.TrackedLevel.{move_in, tracked};
+ghost use Rattle.lx_spec.specs.EditedShow.{moves_for};
 ghost use Rattle.lx_edit.specs.Planned.{Plans};
 
 use crate::absent::{channel, the_cue};

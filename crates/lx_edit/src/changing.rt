@@ -4,7 +4,7 @@ ghost use Rattle.std.specs.Prelude.{◌≡◌, ◌≤◌, ◌-◌, ℕ, true, fa
 ghost use Rattle.std.specs.Option.{option_copied};
 ghost use Rattle.std.specs.List.{AllByRecursion};
 ghost use Rattle.lx_base.specs.declared.TheConstants.{CHANNELS};
-ghost use Rattle.lx_spec.specs.Tracked.{cue_of, tracked};
+ghost use Rattle.lx_spec.specs.TrackedLevel.{cue_of, tracked};
 ghost use Rattle.lx_sheet.specs.Rows.{level_of};
 ghost use Rattle.lx_sheet.specs.Standing.{StandsFor};
 ghost use Rattle.lx_edit.specs.ChanSet.{has_chan};

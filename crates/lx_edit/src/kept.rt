@@ -3,8 +3,8 @@
 ghost use Rattle.std.specs.Prelude.{◌≡◌, ℕ, ◌==◌, not, IfOk, IfSome, Some, None, if◌then◌else◌};
 ghost use Rattle.std.specs.Option.{option_copied};
 ghost use Rattle.lx_spec.specs.Show.{ValidCue};
-ghost use Rattle.lx_spec.specs.Tracked.{tracked, cue_above};
-ghost use Rattle.lx_spec.specs.Edited.{cue_only, with_cue, with_moves, moves_for};
+ghost use Rattle.lx_spec.specs.TrackedLevel.{tracked, cue_above};
+ghost use Rattle.lx_spec.specs.EditedShow.{cue_only, with_cue, with_moves, moves_for};
 ghost use Rattle.lx_edit.specs.Found.{FoundCue};
 ghost use Rattle.lx_edit.specs.Planned.{Plans, PlansCues, CanPlace, with_above};
 ghost use Rattle.lx_edit.specs.Kept.{changed_show, decided, decided_by};

@@ -2,7 +2,7 @@
 
 ghost use Rattle.std.specs.Prelude.{◌≡◌, ℕ, IfOk};
 ghost use Rattle.lx_spec.specs.Show.{ValidCue};
-ghost use Rattle.lx_spec.specs.Edited.{without_moves};
+ghost use Rattle.lx_spec.specs.EditedShow.{without_moves};
 ghost use Rattle.lx_edit.specs.Planned.{Plans};
 
 use crate::absent::{channel, the_channels, the_cue, the_given_part, the_group, the_moves};

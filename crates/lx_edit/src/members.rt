@@ -3,7 +3,7 @@
 ghost use Rattle.std.specs.Prelude.{◌≡◌, ℕ, ◌≤◌, IfOk, OnOk, unwrap_or};
 ghost use Rattle.std.specs.List.{AllByRecursion};
 ghost use Rattle.lx_spec.specs.Show.{ValidMembers, ValidGroup, ValidSub};
-ghost use Rattle.lx_spec.specs.Edited.{with_members, group_or_new, sub_or_new};
+ghost use Rattle.lx_spec.specs.EditedShow.{with_members, group_or_new, sub_or_new};
 ghost use Rattle.lx_edit.specs.Planned.{Plans};
 
 use crate::absent::the_channels;

@@ -3,9 +3,9 @@
 ghost use Rattle.std.specs.Prelude.{◌≡◌, ℕ, ◌≤◌, IfOk, IfSome, IsTrue, OnOk, map, ◌++◌};
 ghost use Rattle.std.specs.List.{AllByRecursion};
 ghost use Rattle.std.specs.Option.{IsSomeAnd};
-ghost use Rattle.lx_spec.specs.Listing.{entry_at, has_entry};
+ghost use Rattle.lx_spec.specs.SortedList.{entry_at, has_entry};
 ghost use Rattle.lx_spec.specs.Show.{ValidCue};
-ghost use Rattle.lx_spec.specs.Edited.{all_at, channels_in, in_proportion, part_for, with_moves, with_levels};
+ghost use Rattle.lx_spec.specs.EditedShow.{all_at, channels_in, in_proportion, part_for, with_moves, with_levels};
 ghost use Rattle.lx_edit.specs.Found.{Fits};
 ghost use Rattle.lx_edit.specs.Kept.{base_moves};
 

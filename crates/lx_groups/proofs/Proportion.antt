@@ -4,8 +4,8 @@ use Rattle.std.specs.List.{AllByRecursion}
 use Rattle.std.proofs.Math.Nat.{mul-le-mul_right}
 use Rattle.lx_base.specs.Numbers.{scaled}
 use Rattle.lx_spec.specs.declared.Member.{Member}
-use Rattle.lx_spec.specs.Edited.{in_proportion}
-use Rattle.lx_spec.specs.Listing.{Rises}
+use Rattle.lx_spec.specs.EditedShow.{in_proportion}
+use Rattle.lx_spec.specs.SortedList.{Rises}
 use Rattle.lx_spec.specs.Show.{ValidMember, ValidMembers}
 
 -- a level in proportion to a level is one

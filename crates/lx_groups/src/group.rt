@@ -2,8 +2,8 @@
 
 ghost use Rattle.std.specs.Prelude.{◌≡◌, IsTrue, map};
 ghost use Rattle.std.specs.Option.{IsSomeAnd};
-ghost use Rattle.lx_spec.specs.Edited.{in_proportion};
-ghost use Rattle.lx_spec.specs.Listing.{entry_at, has_entry};
+ghost use Rattle.lx_spec.specs.EditedShow.{in_proportion};
+ghost use Rattle.lx_spec.specs.SortedList.{entry_at, has_entry};
 ghost use Rattle.lx_spec.specs.Show.{ValidMembers};
 ghost use Rattle.lx_groups.specs.Left.{left};
 

@@ -7,7 +7,7 @@ use Rattle.std.proofs.lemmas.Bool.{cases_order}
 use Rattle.std.proofs.lemmas.Bool.Decides.{nat_tests}
 use Rattle.lx_base.specs.declared.TheConstants.{SLOTS}
 use Rattle.lx_spec.specs.declared.PatchRow.{PatchRow}
-use Rattle.lx_spec.specs.Listing.{entry_at, placed, taken_out}
+use Rattle.lx_spec.specs.SortedList.{entry_at, placed, taken_out}
 use Rattle.lx_spec.proofs.Along.{find_none, same_number, other_number}
 use Rattle.lx_show.proofs.Finding.{find_both}
 use Rattle.lx_show.proofs.RisingLists.{each, passes}

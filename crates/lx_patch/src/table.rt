@@ -3,7 +3,7 @@
 ghost use Rattle.std.specs.Prelude.{◌≡◌, ◌-◌, List, length, slice_index, IfOk};
 ghost use Rattle.lx_base.specs.declared.TheConstants.{SLOTS};
 ghost use Rattle.lx_spec.specs.declared.PatchRow.{PatchRow as Row};
-ghost use Rattle.lx_spec.specs.Listing.{placed, taken_out};
+ghost use Rattle.lx_spec.specs.SortedList.{placed, taken_out};
 ghost use Rattle.lx_mixer.specs.Table.{IsTable};
 ghost use Rattle.lx_patch.specs.Patched.{StandsForPatch, Reaches, slot_of};
 

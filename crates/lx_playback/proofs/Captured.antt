@@ -3,7 +3,7 @@ use Rattle.std.specs.Prelude.{◌≤◌, List, [], ◌∷◌, length, map, IsTru
 use Rattle.std.specs.List.{AllByRecursion}
 use Rattle.std.proofs.Common.{arith}
 use Rattle.lx_spec.specs.declared.Part.{Part}
-use Rattle.lx_spec.specs.Listing.{has_entry}
+use Rattle.lx_spec.specs.SortedList.{has_entry}
 use Rattle.lx_spec.specs.Show.{ValidPart}
 use Rattle.lx_spec.specs.Run.{captured}
 use Rattle.lx_playback.specs.Valid.{ValidTimes}

@@ -4,7 +4,7 @@ ghost use Rattle.std.specs.Prelude.{◌≡◌, ◌↔◌, ◌+◌, ◌<◌, ◌�
 ghost use Rattle.std.specs.List.{AllByRecursion};
 ghost use Rattle.std.specs.Option.{IsSomeAnd};
 ghost use Rattle.lx_base.specs.declared.TheConstants.{RUNS, TICK_END, BACK_TIME};
-ghost use Rattle.lx_spec.specs.Listing.{has_entry};
+ghost use Rattle.lx_spec.specs.SortedList.{has_entry};
 ghost use Rattle.lx_spec.specs.Show.{IsTime, ValidPart};
 ghost use Rattle.lx_spec.specs.Playback.{press, appended, run_of, run_whole, follow_of, at_rest};
 ghost use Rattle.lx_playback.specs.Told.{run_made};

@@ -7,7 +7,7 @@ use Rattle.std.proofs.lemmas.List.Elements.{filter-append}
 use Rattle.std.proofs.lemmas.List.Folds.{find-append}
 use Rattle.std.proofs.lemmas.Bool.{cases_order, eqb-true}
 use Rattle.std.proofs.lemmas.Bool.Decides.{nat_tests}
-use Rattle.lx_spec.specs.Listing.{Rises, placed, entries_below, entries_above, entry_at}
+use Rattle.lx_spec.specs.SortedList.{Rises, placed, entries_below, entries_above, entry_at}
 use Rattle.lx_show.specs.Changed.{changed}
 
 lt_true : (a b : ℕ) → a < b → nat_lt a b ≡ true

@@ -8,10 +8,10 @@ use Rattle.std.proofs.lemmas.List.Elements.{filter_map-append}
 use Rattle.lx_base.specs.declared.TheConstants.{DEFAULT_TIME}
 use Rattle.lx_spec.specs.declared.Part.{Part}
 use Rattle.lx_spec.specs.declared.Section.{Section}
-use Rattle.lx_spec.specs.Listing.{Rises, placed, has_entry}
+use Rattle.lx_spec.specs.SortedList.{Rises, placed, has_entry}
 use Rattle.lx_spec.specs.Saying.{Entry, Said, HasUp, HasDown, NamesPart, HasLevels, Follows, Links, IsLabelled, Blocks}
 use Rattle.lx_spec.specs.Reading.{last_of_each, numbers, last_in, part_named, follow_said, link_said, label_said, up_said, down_said, blocks, moves_said, part_of, cue_from}
-use Rattle.lx_spec.specs.Edited.{new_part}
+use Rattle.lx_spec.specs.EditedShow.{new_part}
 use Rattle.lx_show.specs.Changed.{changed}
 use Rattle.lx_reader.specs.TakenUp.{later, all_placed, cue_change, with_part, with_up, with_down}
 use Rattle.lx_reader.proofs.Later.{last_in-more, any-more, unwrap-later, filter-more}

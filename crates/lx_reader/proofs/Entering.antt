@@ -8,9 +8,9 @@ use Rattle.std.proofs.lemmas.List.Sums.{fold-append}
 use Rattle.lx_spec.specs.declared.Member.{Member}
 use Rattle.lx_spec.specs.declared.Part.{Part}
 use Rattle.lx_spec.specs.declared.PatchRow.{PatchRow}
-use Rattle.lx_spec.specs.Listing.{placed, entry_at, has_entry}
+use Rattle.lx_spec.specs.SortedList.{placed, entry_at, has_entry}
 use Rattle.lx_spec.specs.Show.{Show, Cue, Valid}
-use Rattle.lx_spec.specs.Tracked.{cue_of}
+use Rattle.lx_spec.specs.TrackedLevel.{cue_of}
 use Rattle.lx_show.specs.Changed.{changed}
 use Rattle.lx_reader.specs.Entering.{with_members}
 use Rattle.lx_spec.specs.declared.Section.TheVariants.{InCue}

@@ -3,7 +3,7 @@ use Rattle.std.proofs.Common.{◌≡◌, ℕ, List, [], ◌∷◌, ◌++◌, ref
 use Rattle.std.specs.Prelude.{flat_map, unwrap_or}
 use Rattle.std.proofs.lemmas.Grind.{flat_map-append}
 use Rattle.std.proofs.lemmas.List.Sums.{fold-append}
-use Rattle.lx_spec.specs.Listing.{placed}
+use Rattle.lx_spec.specs.SortedList.{placed}
 use Rattle.lx_spec.specs.Saying.{Entry, Said, HasLevels, IsLabelled}
 use Rattle.lx_spec.specs.Reading.{last_of_each, last_in, label_said, levels_said, members_from, group_from, sub_from}
 use Rattle.lx_reader.specs.TakenUp.{all_placed, group_change, sub_change}

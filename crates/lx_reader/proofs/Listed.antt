@@ -2,7 +2,7 @@
 use Rattle.std.proofs.Common.{◌≡◌, ℕ, Bool, true, false, cond, List, [], map, Option, Some, None, refl, ap, ◌∙◌, sym}
 use Rattle.std.specs.Prelude.{fold, ◌==◌, IfSome}
 use Rattle.std.specs.List.{cons_option}
-use Rattle.lx_spec.specs.Listing.{Rises, placed, has_entry}
+use Rattle.lx_spec.specs.SortedList.{Rises, placed, has_entry}
 use Rattle.lx_reader.specs.TakenUp.{with_named, changed_in}
 use Rattle.lx_reader.proofs.Placing.{changed-made, map-placed, placed-there, has_made, eq-sym, eq-here}
 

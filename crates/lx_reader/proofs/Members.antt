@@ -8,7 +8,7 @@ use Rattle.lx_spec.specs.declared.Member.{Member}
 use Rattle.lx_spec.specs.declared.Section.{Section}
 use Rattle.lx_spec.specs.declared.Section.TheVariants.{NoRecord, InCue, InGroup, InSub, Skipping}
 use Rattle.lx_spec.specs.declared.TextFault.{TextFault}
-use Rattle.lx_spec.specs.Listing.{placed, entry_at, has_entry}
+use Rattle.lx_spec.specs.SortedList.{placed, entry_at, has_entry}
 use Rattle.lx_spec.specs.Show.{Show, Group, Sub, Valid}
 use Rattle.lx_show.specs.Changed.{changed}
 use Rattle.lx_reader.specs.Entering.{with_members}

@@ -6,8 +6,8 @@ use Rattle.std.specs.Option.{IsSomeAnd}
 use Rattle.std.proofs.lemmas.Bool.{eqb-true}
 use Rattle.lx_spec.specs.declared.Section.{Section}
 use Rattle.lx_spec.specs.declared.Section.TheVariants.{NoRecord, InCue, InGroup, InSub, Skipping}
-use Rattle.lx_spec.specs.Listing.{placed, has_entry}
-use Rattle.lx_spec.specs.Tracked.{cue_of}
+use Rattle.lx_spec.specs.SortedList.{placed, has_entry}
+use Rattle.lx_spec.specs.TrackedLevel.{cue_of}
 use Rattle.lx_spec.specs.Saying.{Entry, Said, cue_in, with_cue_named}
 use Rattle.lx_spec.specs.Reading.{named_by, cue_named, group_named, sub_named, part_named, part_of, in_cue}
 use Rattle.lx_reader.specs.Stops.{HasPartIn, IsOpen}

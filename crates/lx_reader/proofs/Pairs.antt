@@ -9,7 +9,7 @@ use Rattle.lx_spec.specs.declared.TextFault.TheVariants.{ShortList}
 use Rattle.lx_spec.specs.Limits.{desk_limits}
 use Rattle.lx_spec.specs.Numerals.{read_whole, read_level}
 use Rattle.lx_spec.specs.Saying.{pairs, triples, number}
-use Rattle.lx_spec.specs.Refusing.{◌>>=◌}
+use Rattle.lx_spec.specs.FirstRefusal.{◌>>=◌}
 use Rattle.lx_reader.specs.Lists.{all_pairs, all_triples, onto}
 
 two_more : (n : ℕ) → suc (suc n) % 2 ≡ n % 2

@@ -7,7 +7,7 @@ use Rattle.lx_show.specs.Changed.{changed}
 use Rattle.std.proofs.lemmas.List.{map-append}
 use Rattle.std.proofs.lemmas.Bool.{cases_order, eqb-true}
 use Rattle.std.proofs.lemmas.Bool.Decides.{nat_tests}
-use Rattle.lx_spec.specs.Listing.{Rises, placed, entry_at, has_entry}
+use Rattle.lx_spec.specs.SortedList.{Rises, placed, entry_at, has_entry}
 use Rattle.lx_spec.specs.Reading.{numbers}
 use Rattle.lx_show.proofs.RisingLists.{Rises-placed}
 

@@ -16,7 +16,7 @@ use Rattle.lx_spec.specs.declared.Word.{Word}
 use Rattle.lx_spec.specs.declared.Word.TheVariants as words
 use Rattle.lx_spec.specs.Limits.{desk_limits}
 use Rattle.lx_spec.specs.Text.{tokens}
-use Rattle.lx_spec.specs.Refusing.{◌>>=◌}
+use Rattle.lx_spec.specs.FirstRefusal.{◌>>=◌}
 use Rattle.lx_spec.specs.Saying.{Entry, Said, Facts, facts, said, all_said, said_in, entry_of, section_by, cue_in, with_cue_named, is_second, word_of, option_from}
 use Rattle.lx_spec.specs.Saying.{part_named as part_on}
 use Rattle.lx_spec.specs.Reading.{reading_from, reading_or_fault, ends_reading, named_by, cue_named, channels_set, is_end, clears_all}

@@ -3,7 +3,7 @@ use Rattle.std.proofs.Common.{◌≡◌, ℕ, Bool, true, false, cond, List, [],
 use Rattle.std.specs.Prelude.{filter, fold, ◌==◌}
 use Rattle.std.specs.List.{cons_option}
 use Rattle.std.proofs.lemmas.Bool.{eqb-true}
-use Rattle.lx_spec.specs.Listing.{placed, has_entry}
+use Rattle.lx_spec.specs.SortedList.{placed, has_entry}
 use Rattle.lx_spec.specs.Saying.{Entry, Said}
 use Rattle.lx_spec.specs.Reading.{named_by, cue_named, group_named, sub_named, part_named, in_cue, in_group, in_sub}
 use Rattle.lx_reader.proofs.Later.{filter-more}

@@ -8,10 +8,10 @@ use Rattle.std.proofs.lemmas.List.Elements.{filter_map-append}
 use Rattle.lx_spec.specs.declared.Section.{Section}
 use Rattle.lx_spec.specs.declared.Section.TheVariants.{InCue, InGroup, InSub}
 use Rattle.lx_spec.specs.Show.{Cue, Group, Sub, Show}
-use Rattle.lx_spec.specs.Listing.{placed, has_entry}
+use Rattle.lx_spec.specs.SortedList.{placed, has_entry}
 use Rattle.lx_spec.specs.Saying.{Entry, Said, NamesCue, NamesGroup, NamesSub, HasLevels, IsLabelled, cue_in}
 use Rattle.lx_spec.specs.Reading.{last_of_each, numbers, named_by, cue_named, part_named, section_is_cue, section_is_group, section_is_sub, in_cue, in_group, in_sub, group_named, sub_named, cue_from, group_from, sub_from, channels_named, rows_said, show_from}
-use Rattle.lx_spec.specs.Edited.{new_cue}
+use Rattle.lx_spec.specs.EditedShow.{new_cue}
 use Rattle.lx_reader.specs.TakenUp.{all_placed, cue_change, group_change, sub_change, group_in, sub_in, new_group, new_sub, show_with}
 use Rattle.lx_reader.proofs.Later.{filter-more}
 use Rattle.lx_reader.proofs.Placing.{Rises-numbers}

@@ -7,9 +7,9 @@ use Rattle.std.specs.Result.{IsOkAnd, IsErrAnd}
 use Rattle.lx_base.specs.declared.TheConstants.{CUES}
 use Rattle.lx_spec.specs.declared.Bad.{Bad}
 use Rattle.lx_spec.specs.declared.Bad.TheVariants.{Shape, Range}
-use Rattle.lx_spec.specs.Listing.{entry_at, has_entry, placed}
-use Rattle.lx_spec.specs.Edited.{new_part}
-use Rattle.lx_spec.specs.Tracked.{cue_of}
+use Rattle.lx_spec.specs.SortedList.{entry_at, has_entry, placed}
+use Rattle.lx_spec.specs.EditedShow.{new_part}
+use Rattle.lx_spec.specs.TrackedLevel.{cue_of}
 use Rattle.lx_show.specs.Changed.{changed}
 use Rattle.lx_spec.specs.declared.Section.{Section}
 use Rattle.lx_spec.specs.declared.Section.TheVariants.{NoRecord, InCue, InGroup, InSub, Skipping}
@@ -21,7 +21,7 @@ use Rattle.lx_spec.specs.declared.Member.{Member}
 use Rattle.lx_spec.specs.declared.PatchRow.{PatchRow}
 use Rattle.lx_spec.specs.Limits.{desk_limits}
 use Rattle.lx_spec.specs.Numerals.{read_time, read_whole, read_cue_no}
-use Rattle.lx_spec.specs.Refusing.{◌>>=◌}
+use Rattle.lx_spec.specs.FirstRefusal.{◌>>=◌}
 use Rattle.lx_spec.specs.Show.{IsTime, Cue, Show, Valid}
 use Rattle.lx_spec.specs.Saying.{Entry, HasLevels, Patches, Skipped, NamesPart, NamesCue, record_line, record_begun, begun, is_page_one, if_few, Facts, part_named, times, number, delay_at, levels, said_by}
 use Rattle.lx_spec.specs.Reading.{is_end, clears_all, channels_set, is_skipped}

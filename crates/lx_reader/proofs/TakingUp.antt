@@ -13,13 +13,13 @@ use Rattle.lx_spec.specs.declared.Form.TheVariants.{Moves}
 use Rattle.lx_spec.specs.declared.Section.{Section}
 use Rattle.lx_spec.specs.declared.Section.TheVariants.{NoRecord, InCue, InGroup, InSub, Skipping}
 use Rattle.lx_spec.specs.Show.{Cue, Show}
-use Rattle.lx_spec.specs.Listing.{has_entry}
-use Rattle.lx_spec.specs.Tracked.{cue_of}
+use Rattle.lx_spec.specs.SortedList.{has_entry}
+use Rattle.lx_spec.specs.TrackedLevel.{cue_of}
 use Rattle.lx_spec.specs.Saying.{Said, cue_in}
 use Rattle.lx_spec.specs.Reading.{reading_from, named_by, cue_named, group_named, sub_named, part_of, in_cue, channels_named, channels_set, clears_all, is_skipped, last_in}
 use Rattle.lx_reader.specs.Stops.{HasPartIn, IsOpen}
 use Rattle.lx_reader.specs.TakenUp.{Taken, later, nothing_taken, taken_up, reading_of_taken, show_with, changed_in, cue_change, with_named}
-use Rattle.lx_spec.specs.Edited.{new_cue}
+use Rattle.lx_spec.specs.EditedShow.{new_cue}
 use Rattle.lx_reader.proofs.Later.{last_in-more}
 use Rattle.lx_reader.proofs.Placing.{entry_made, has_made}
 use Rattle.lx_reader.proofs.Cues.{parts_named, HasPart}

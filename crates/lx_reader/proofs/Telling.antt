@@ -16,7 +16,7 @@ use Rattle.lx_spec.specs.declared.TextFault.TheVariants.{NoIdent, OutOfRange, Sh
 use Rattle.lx_spec.specs.Limits.{desk_limits}
 use Rattle.lx_spec.specs.Text.{is_word, rest_after, label_of}
 use Rattle.lx_spec.specs.Numerals.{is_number, number_of, ranged, read_whole, read_time, read_cue_no}
-use Rattle.lx_spec.specs.Refusing.{◌>>=◌}
+use Rattle.lx_spec.specs.FirstRefusal.{◌>>=◌}
 use Rattle.lx_spec.specs.Saying.{Entry, Nothing, Skipped, ClearsAll, HasChannels, Patches, NamesCue, NamesGroup, NamesSub, HasLevels, NamesPart, HasUp, HasDown, Follows, Links, IsLabelled, Blocks, Ends, Facts, number, pairs, triples, levels, patch_line, delay_at, times, numbered, record_line, if_few, set_line, inner_line, if_identified, said_by, section_by, begun, record_begun, is_page_one, is_second, cue_in, option_from}
 use Rattle.lx_spec.specs.Saying.{part_named as part_on}
 use Rattle.lx_spec.specs.Reading.{cue_named, group_named, sub_named, part_named, channels_set, clears_all}

@@ -3,7 +3,7 @@ use Rattle.std.specs.Prelude.{ℕ, Option, Some, None, Result, Ok, Err, List, []
 use Rattle.lx_spec.specs.declared.Bad.{Bad}
 use Rattle.lx_spec.specs.declared.TextFault.{TextFault}
 use Rattle.lx_spec.specs.declared.TextFault.TheVariants.{ShortList}
-use Rattle.lx_spec.specs.Refusing.{◌>>=◌}
+use Rattle.lx_spec.specs.FirstRefusal.{◌>>=◌}
 use Rattle.lx_spec.specs.Numerals.{read_time}
 use Rattle.lx_spec.specs.Saying.{number, next, delay_at, is_page_one}
 

@@ -2,9 +2,9 @@
 use Rattle.std.specs.Prelude.{◌≡◌, ℕ, IsTrue, Result, Err}
 use Rattle.std.specs.Option.{IsSomeAnd}
 use Rattle.lx_spec.specs.declared.TextFault.{TextFault}
-use Rattle.lx_spec.specs.Listing.{has_entry}
+use Rattle.lx_spec.specs.SortedList.{has_entry}
 use Rattle.lx_spec.specs.Show.{Show}
-use Rattle.lx_spec.specs.Tracked.{cue_of}
+use Rattle.lx_spec.specs.TrackedLevel.{cue_of}
 use Rattle.lx_spec.specs.declared.Section.{Section}
 use Rattle.lx_spec.specs.declared.Section.TheVariants.{NoRecord, InCue, InGroup, InSub, Skipping}
 use Rattle.lx_reader.specs.declared.stop.Stop.{Stop}

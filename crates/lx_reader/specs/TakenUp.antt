@@ -5,8 +5,8 @@ use Rattle.lx_spec.specs.declared.Part.{Part}
 use Rattle.lx_spec.specs.declared.Move.{Move}
 use Rattle.lx_spec.specs.declared.Member.{Member}
 use Rattle.lx_spec.specs.declared.PatchRow.{PatchRow}
-use Rattle.lx_spec.specs.Listing.{has_entry, placed}
-use Rattle.lx_spec.specs.Edited.{new_cue, new_part}
+use Rattle.lx_spec.specs.SortedList.{has_entry, placed}
+use Rattle.lx_spec.specs.EditedShow.{new_cue, new_part}
 use Rattle.lx_show.specs.Changed.{changed}
 use Rattle.lx_spec.specs.Show.{Cue, Group, Sub, Show}
 use Rattle.lx_spec.specs.declared.Section.{Section}

@@ -5,8 +5,8 @@ ghost use Rattle.std.specs.Option.{option_map_or};
 ghost use Rattle.lx_base.specs.declared.TheConstants.{CUES};
 ghost use Rattle.lx_spec.specs.declared.Section.TheVariants.{InCue};
 ghost use Rattle.lx_spec.specs.Saying.{IsLabelled, NamesPart};
-ghost use Rattle.lx_spec.specs.Listing.{has_entry};
-ghost use Rattle.lx_spec.specs.Tracked.{cue_of};
+ghost use Rattle.lx_spec.specs.SortedList.{has_entry};
+ghost use Rattle.lx_spec.specs.TrackedLevel.{cue_of};
 ghost use Rattle.lx_reader.specs.Stops.{IsOpen};
 ghost use Rattle.lx_reader.specs.TakenUp.{show_with, with_cue, with_group, with_sub};
 

@@ -5,7 +5,7 @@ use Rattle.std.proofs.lemmas.Bool.Decides.{nat_tests}
 use Rattle.std.proofs.lemmas.Grind.{flat_map-append}
 use Rattle.std.proofs.lemmas.List.{take_more}
 use Rattle.std.proofs.lemmas.List.Elements.{All-from_recursion}
-use Rattle.lx_spec.specs.Listing.{Rises, entry_at}
+use Rattle.lx_spec.specs.SortedList.{Rises, entry_at}
 use Rattle.lx_spec.specs.Show.{Cue}
 use Rattle.lx_spec.specs.ShowText.{cue_number_text}
 use Rattle.lx_spec.specs.Replies.{cells, row_text}

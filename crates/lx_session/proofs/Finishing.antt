@@ -9,7 +9,7 @@ use Rattle.lx_spec.specs.declared.Line.{Line}
 use Rattle.lx_spec.specs.declared.Line.TheVariants as lines
 use Rattle.lx_spec.specs.declared.Refusal.{Refusal}
 use Rattle.lx_spec.specs.declared.Refusal.TheVariants.{AbsentCue}
-use Rattle.lx_spec.specs.Tracked.{cue_of}
+use Rattle.lx_spec.specs.TrackedLevel.{cue_of}
 use Rattle.lx_spec.specs.Desk.{Desk}
 use Rattle.lx_spec.specs.Replies.{Session, Counts, Attempt, attempt, and_then, attempt_ticks, after_meaning, replied, refused_reply, count_ok, with_text, ok_text, refused_text, row_text, row_of}
 use Rattle.lx_session.specs.Turning.{Turning, command_of, count_of, next_of}

@@ -5,7 +5,7 @@ use Rattle.lx_spec.specs.declared.Line.TheVariants as lines
 use Rattle.lx_spec.specs.declared.Refusal.{Refusal}
 use Rattle.lx_spec.specs.declared.Refusal.TheVariants.{AbsentCue}
 use Rattle.lx_spec.specs.Show.{Cue, Show}
-use Rattle.lx_spec.specs.Tracked.{cue_of}
+use Rattle.lx_spec.specs.TrackedLevel.{cue_of}
 use Rattle.lx_spec.specs.Desk.{Desk}
 use Rattle.lx_spec.specs.Stands.{Kept}
 use Rattle.lx_spec.specs.Replies.{Counts, row_of, row_text, refused_text, with_text, refused_reply}

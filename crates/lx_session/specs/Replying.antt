@@ -4,7 +4,7 @@ use Rattle.lx_spec.specs.declared.Line.{Line}
 use Rattle.lx_spec.specs.declared.Line.TheVariants as lines
 use Rattle.lx_spec.specs.declared.Refusal.{Refusal}
 use Rattle.lx_spec.specs.declared.Refusal.TheVariants.{AbsentCue}
-use Rattle.lx_spec.specs.Tracked.{cue_of}
+use Rattle.lx_spec.specs.TrackedLevel.{cue_of}
 use Rattle.lx_spec.specs.Desk.{Desk}
 use Rattle.lx_spec.specs.Output.{frame}
 use Rattle.lx_spec.specs.ShowText.{show_text}

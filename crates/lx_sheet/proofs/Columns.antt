@@ -6,9 +6,9 @@ use Rattle.std.proofs.lemmas.Bool.{cases_lt}
 use Rattle.std.proofs.lemmas.Bool.Decides.{nat_tests}
 use Rattle.std.proofs.lemmas.List.{length-map}
 use Rattle.std.proofs.lemmas.List.Elements.{filter_agree}
-use Rattle.lx_spec.specs.Listing.{Rises, entries_below}
+use Rattle.lx_spec.specs.SortedList.{Rises, entries_below}
 use Rattle.lx_spec.specs.Show.{Cue, Show}
-use Rattle.lx_spec.specs.Tracked.{decides, level_in, tracked}
+use Rattle.lx_spec.specs.TrackedLevel.{decides, level_in, tracked}
 use Rattle.lx_show.specs.Around.{entries_up_to}
 use Rattle.lx_show.proofs.Finding.{find_both_last}
 use Rattle.lx_show.proofs.RisingLists.{lt_true, lt_false, shorter}

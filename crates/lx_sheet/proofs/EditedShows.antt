@@ -5,9 +5,9 @@ use Rattle.std.specs.Option.{option_map_or}
 use Rattle.std.specs.List.{AllByRecursion}
 use Rattle.std.proofs.lemmas.Bool.{cases_lt}
 use Rattle.std.proofs.lemmas.Bool.Decides.{nat_tests}
-use Rattle.lx_spec.specs.Listing.{Rises, entries_below, entries_above, placed, taken_out}
+use Rattle.lx_spec.specs.SortedList.{Rises, entries_below, entries_above, placed, taken_out}
 use Rattle.lx_spec.specs.Show.{Cue, Show}
-use Rattle.lx_spec.specs.Tracked.{decides, level_in, tracked}
+use Rattle.lx_spec.specs.TrackedLevel.{decides, level_in, tracked}
 use Rattle.lx_show.specs.Around.{entries_up_to}
 use Rattle.lx_show.proofs.Finding.{find_both_last}
 use Rattle.lx_show.proofs.RisingLists.{each, passes, stands_between, lt_true, lt_false, lt_from}

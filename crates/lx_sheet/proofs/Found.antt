@@ -10,9 +10,9 @@ use Rattle.std.proofs.lemmas.List.Elements.{All-from_recursion}
 use Rattle.std.proofs.lemmas.Option.{slice_get-get_or}
 use Rattle.std.proofs.Math.Nat.{mul-le-mul_right}
 use Rattle.lx_base.specs.declared.TheConstants.{CUES}
-use Rattle.lx_spec.specs.Listing.{Rises, entry_at, StandsAt}
+use Rattle.lx_spec.specs.SortedList.{Rises, entry_at, StandsAt}
 use Rattle.lx_spec.specs.Show.{Cue, Show}
-use Rattle.lx_spec.specs.Tracked.{cue_of, tracked}
+use Rattle.lx_spec.specs.TrackedLevel.{cue_of, tracked}
 use Rattle.lx_spec.specs.Replies.{row_of}
 use Rattle.lx_show.proofs.RisingLists.{up_to_there, found_number}
 use Rattle.lx_sheet.specs.declared.sheet.Place.{Place}

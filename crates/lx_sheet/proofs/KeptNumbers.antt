@@ -4,7 +4,7 @@ use Rattle.std.specs.Prelude.{Option, IsTrue, find, is_some, ◌==◌}
 use Rattle.std.specs.Option.{option_map_or}
 use Rattle.std.proofs.lemmas.Bool.{cases_order, false≢true}
 use Rattle.std.proofs.lemmas.Bool.Decides.{nat_tests}
-use Rattle.lx_spec.specs.Listing.{Rises, entry_at, has_entry, entries_below, entries_above, placed}
+use Rattle.lx_spec.specs.SortedList.{Rises, entry_at, has_entry, entries_below, entries_above, placed}
 use Rattle.lx_show.specs.Changed.{changed}
 use Rattle.lx_show.proofs.RisingLists.{each, filter_all, filter_none, find_none, lt_true, lt_false, found_number}
 use Rattle.lx_sheet.proofs.EditedShows.{below-placed}

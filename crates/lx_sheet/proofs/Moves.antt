@@ -6,7 +6,7 @@ use Rattle.std.proofs.lemmas.Bool.{cases_eq}
 use Rattle.std.proofs.lemmas.Bool.Decides.{nat_tests}
 use Rattle.std.proofs.lemmas.List.{drop_more}
 use Rattle.lx_spec.specs.declared.Move.{Move}
-use Rattle.lx_spec.specs.Listing.{entry_at}
+use Rattle.lx_spec.specs.SortedList.{entry_at}
 use Rattle.lx_sheet.specs.Block.{level_among}
 use Rattle.lx_sheet.proofs.Cells.{level_among-set, level_among-other}
 

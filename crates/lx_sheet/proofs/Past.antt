@@ -5,14 +5,14 @@ use Rattle.std.specs.Option.{option_map_or}
 use Rattle.std.proofs.lemmas.Bool.Decides.{nat_tests}
 use Rattle.lx_spec.specs.declared.Move.{Move}
 use Rattle.lx_spec.specs.Show.{Cue, Show, Valid, ValidCue}
-use Rattle.lx_spec.specs.Tracked.{decides, level_in, move_in, tracked}
+use Rattle.lx_spec.specs.TrackedLevel.{decides, level_in, move_in, tracked}
 use Rattle.lx_show.proofs.RisingLists.{all_reverse, each, found_has, find_none}
 use Rattle.lx_sheet.specs.declared.sheet.Place.{Place}
 use Rattle.lx_sheet.specs.Rows.{level_of}
 use Rattle.lx_sheet.specs.Block.{cell, last_value}
 use Rattle.lx_sheet.proofs.Cells.{cell_past}
 use Rattle.lx_sheet.proofs.Rows.{count_up_to, sheet_of, level_of_block}
-use Rattle.lx_spec.specs.Listing.{Rises}
+use Rattle.lx_spec.specs.SortedList.{Rises}
 use Rattle.std.specs.Prelude.{map}
 
 other_number : (a n : ℕ) → a < n → (a == n) ≡ false

@@ -4,7 +4,7 @@ use Rattle.std.specs.Prelude.{Some, find, reverse}
 use Rattle.std.specs.Option.{option_map_or}
 use Rattle.std.proofs.lemmas.List.{take_more, reverse-append}
 use Rattle.lx_spec.specs.Show.{Cue}
-use Rattle.lx_spec.specs.Tracked.{decides, level_in}
+use Rattle.lx_spec.specs.TrackedLevel.{decides, level_in}
 use Rattle.lx_sheet.specs.After.{level_after, tracked_on}
 
 pub level_after-nil : (c : ℕ) → level_after [] c ≡ 0

@@ -2,7 +2,7 @@
 use Rattle.std.specs.Prelude.{ℕ, List, find, reverse, if◌then◌else◌}
 use Rattle.std.specs.Option.{option_map_or}
 use Rattle.lx_spec.specs.Show.{Cue}
-use Rattle.lx_spec.specs.Tracked.{decides, level_in}
+use Rattle.lx_spec.specs.TrackedLevel.{decides, level_in}
 
 -- a channel's level after these cues: that of the last one that decides it, or 0
 unfoldable pub level_after : List Cue → ℕ → ℕ

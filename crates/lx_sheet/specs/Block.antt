@@ -1,7 +1,7 @@
 -- How the rows are kept: one block of levels, in which each row follows the one before.
 use Rattle.std.specs.Prelude.{◌≡◌, ℕ, zero, suc, ◌*◌, ◌≤◌, List, [], ◌∷◌, length, take, drop, slice_index}
 use Rattle.lx_base.specs.declared.TheConstants.{CUES, CHANNELS}
-use Rattle.lx_spec.specs.Listing.{Rises}
+use Rattle.lx_spec.specs.SortedList.{Rises}
 use Rattle.lx_spec.specs.Show.{Cue}
 use Rattle.lx_sheet.specs.declared.sheet.Place.{Place}
 use Rattle.lx_sheet.specs.Rows.{Row}

@@ -1,7 +1,7 @@
 -- A sheet: the levels that channels have in each cue.
 use Rattle.std.specs.Prelude.{ℕ, Option, List, ◌∷◌, map, find, reverse, nat_le, slice_index}
 use Rattle.std.specs.Option.{option_map_or}
-use Rattle.lx_spec.specs.Listing.{entry_at}
+use Rattle.lx_spec.specs.SortedList.{entry_at}
 
 -- the row of a cue: the levels of the channels from 1 on
 pub record Row : Type 0 where

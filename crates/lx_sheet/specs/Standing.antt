@@ -1,8 +1,8 @@
 -- What a sheet stands for.
 use Rattle.std.specs.Prelude.{◌≡◌, ℕ, ◌<◌, List, map}
-use Rattle.lx_spec.specs.Listing.{entries_below}
+use Rattle.lx_spec.specs.SortedList.{entries_below}
 use Rattle.lx_spec.specs.Show.{Show}
-use Rattle.lx_spec.specs.Tracked.{tracked}
+use Rattle.lx_spec.specs.TrackedLevel.{tracked}
 use Rattle.lx_sheet.specs.Rows.{Sheet, numbers_of, level_of}
 
 abbrev pub cue_numbers : Show → List ℕ

@@ -2,8 +2,8 @@
 
 ghost use Rattle.std.specs.Prelude.{◌≡◌, ◌≢◌, ℕ, ◌<◌, ◌≤◌, None, length, map, vec_capacity};
 ghost use Rattle.lx_spec.specs.Show.{Show as ShowData, Cue as CueData};
-ghost use Rattle.lx_spec.specs.Tracked.{cue_of, tracked};
-ghost use Rattle.lx_spec.specs.Edited.{with_cue, without_cue};
+ghost use Rattle.lx_spec.specs.TrackedLevel.{cue_of, tracked};
+ghost use Rattle.lx_spec.specs.EditedShow.{with_cue, without_cue};
 ghost use Rattle.lx_sheet.specs.Rows.{numbers_of, level_of};
 ghost use Rattle.lx_sheet.specs.Block.{place_of_cue};
 ghost use Rattle.lx_sheet.specs.Standing.{StandsFor, StandsIn, StandsBelow, cue_numbers};

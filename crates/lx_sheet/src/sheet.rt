@@ -3,7 +3,7 @@
 ghost use Rattle.std.specs.Prelude.{◌≡◌, IfOk, option_map};
 ghost use Rattle.std.specs.Option.{option_copied};
 ghost use Rattle.lx_spec.specs.Show.{Show as ShowData};
-ghost use Rattle.lx_spec.specs.Tracked.{cue_of, tracked};
+ghost use Rattle.lx_spec.specs.TrackedLevel.{cue_of, tracked};
 ghost use Rattle.lx_spec.specs.Replies.{row_of};
 ghost use Rattle.lx_sheet.specs.Rows.{row_at, level_of};
 ghost use Rattle.lx_sheet.specs.Standing.{StandsFor};

@@ -6,7 +6,7 @@ use Rattle.lx_base.specs.declared.TheConstants.{CUE_MAX}
 use Rattle.lx_spec.specs.declared.Move.{Move}
 use Rattle.lx_spec.specs.declared.Member.{Member}
 use Rattle.lx_spec.specs.declared.Part.{Part}
-use Rattle.lx_spec.specs.Listing.{Rises, placed}
+use Rattle.lx_spec.specs.SortedList.{Rises, placed}
 use Rattle.lx_spec.specs.Show.{Cue, Group, Sub, ValidCue, ValidGroup, ValidSub, ValidPart, ValidMove, ValidMember, ValidMembers, InRange, IsTime, IsLabel}
 use Rattle.lx_show.proofs.RisingLists.{Rises-placed, each}
 use Rattle.lx_show.proofs.Placed.{has_placed}

@@ -6,7 +6,7 @@ use Rattle.std.proofs.lemmas.Bool.{cases_order, false≢true}
 use Rattle.std.proofs.lemmas.Bool.Decides.{nat_tests}
 use Rattle.std.proofs.lemmas.List.{length-append}
 use Rattle.std.proofs.lemmas.List.Folds.{find-append}
-use Rattle.lx_spec.specs.Listing.{Rises, entry_at, has_entry, entries_below, entries_above, placed}
+use Rattle.lx_spec.specs.SortedList.{Rises, entry_at, has_entry, entries_below, entries_above, placed}
 use Rattle.lx_show.proofs.Finding.{find_both}
 use Rattle.lx_show.specs.Changed.{changed}
 use Rattle.lx_show.proofs.RisingLists.{each, passes, filter_all, filter_none, find_none, stands_between, lt_true, lt_false, lt_from}

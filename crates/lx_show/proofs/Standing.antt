@@ -2,9 +2,9 @@
 use Rattle.std.proofs.Common.{◌≡◌, ℕ, List, get_or, Some, sym, subst, ap, ◌∙◌}
 use Rattle.std.specs.Prelude.{Option}
 use Rattle.std.specs.Option.{IsSomeAnd}
-use Rattle.lx_spec.specs.Tracked.{cue_of}
+use Rattle.lx_spec.specs.TrackedLevel.{cue_of}
 use Rattle.std.specs.List.{AllByRecursion}
-use Rattle.lx_spec.specs.Listing.{entry_at, StandsAt}
+use Rattle.lx_spec.specs.SortedList.{entry_at, StandsAt}
 use Rattle.lx_spec.specs.Show.{Cue, Group, Sub, Show, ValidCue, ValidGroup, ValidSub}
 use Rattle.lx_show.specs.Stored.{IsStored}
 use Rattle.lx_show.proofs.RisingLists.{stands_entry, found_number, found_valid}

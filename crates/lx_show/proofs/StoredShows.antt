@@ -8,7 +8,7 @@ use Rattle.lx_spec.specs.declared.Move.{Move}
 use Rattle.lx_spec.specs.declared.Member.{Member}
 use Rattle.lx_spec.specs.declared.Part.{Part}
 use Rattle.lx_spec.specs.declared.PatchRow.{PatchRow}
-use Rattle.lx_spec.specs.Listing.{Rises, has_entry, placed, taken_out, StandsAt}
+use Rattle.lx_spec.specs.SortedList.{Rises, has_entry, placed, taken_out, StandsAt}
 use Rattle.lx_spec.specs.Show.{Cue, Group, Sub, Show, Valid, ValidCue, ValidGroup, ValidSub, ValidPatchRow}
 use Rattle.lx_show.specs.Stored.{IsStored}
 use Rattle.lx_show.specs.Changed.{changed}

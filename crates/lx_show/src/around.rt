@@ -1,7 +1,7 @@
 //! The parts of a rising list that stand below, up to and above a number, each found by halving.
 
 ghost use Rattle.std.specs.Prelude.{◌≡◌};
-ghost use Rattle.lx_spec.specs.Listing.{Rises, entries_below, entries_above};
+ghost use Rattle.lx_spec.specs.SortedList.{Rises, entries_below, entries_above};
 ghost use Rattle.lx_show.specs.Around.{entries_up_to};
 
 use crate::rising::{Keyed, place_of};

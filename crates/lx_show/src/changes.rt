@@ -4,9 +4,9 @@
 ghost use Rattle.std.specs.Prelude.{◌≡◌, ◌≤◌, IfSome, IsTrue, OnOk, OnErr};
 ghost use Rattle.std.specs.Option.{IsSomeAnd};
 ghost use Rattle.std.specs.List.{AllByRecursion};
-ghost use Rattle.lx_spec.specs.Listing.{has_entry, entry_at, placed};
+ghost use Rattle.lx_spec.specs.SortedList.{has_entry, entry_at, placed};
 ghost use Rattle.lx_spec.specs.Show.{IsTime, ValidMove, ValidPart};
-ghost use Rattle.lx_spec.specs.Tracked.{cue_of};
+ghost use Rattle.lx_spec.specs.TrackedLevel.{cue_of};
 ghost use Rattle.lx_show.specs.Changed.{changed};
 
 use crate::cue::place_part;

@@ -1,7 +1,7 @@
 //! A group: channels with levels, named by one number.
 
 ghost use Rattle.std.specs.Prelude.{◌≡◌, ℕ, [], OnOk, OnErr, IfOk};
-ghost use Rattle.lx_spec.specs.Listing.{placed};
+ghost use Rattle.lx_spec.specs.SortedList.{placed};
 ghost use Rattle.lx_spec.specs.Show.{ValidGroup};
 
 use crate::list::{Copied, RisingList};

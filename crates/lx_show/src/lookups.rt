@@ -2,9 +2,9 @@
 
 ghost use Rattle.std.specs.Prelude.{◌≡◌, IfSome, find, reverse};
 ghost use Rattle.std.specs.Option.{option_copied};
-ghost use Rattle.lx_spec.specs.Listing.{entry_at};
+ghost use Rattle.lx_spec.specs.SortedList.{entry_at};
 ghost use Rattle.lx_spec.specs.Show.{ValidCue, ValidGroup, ValidSub, ValidPatchRow};
-ghost use Rattle.lx_spec.specs.Tracked.{cue_of, decides, move_of, tracked, deciding_cue, cue_above, cue_below, next_cue, cue_before};
+ghost use Rattle.lx_spec.specs.TrackedLevel.{cue_of, decides, move_of, tracked, deciding_cue, cue_above, cue_below, next_cue, cue_before};
 
 use crate::cue::Cue;
 use crate::group::Group;

@@ -2,9 +2,9 @@
 //! memory, since a show has room for all numbers.
 
 ghost use Rattle.std.specs.Prelude.{◌≡◌, ◌≤◌, ◌||◌, IsTrue, length, nat_lt};
-ghost use Rattle.lx_spec.specs.Listing.{entry_at, has_entry, placed, taken_out};
+ghost use Rattle.lx_spec.specs.SortedList.{entry_at, has_entry, placed, taken_out};
 ghost use Rattle.lx_spec.specs.Show.{ValidCue, ValidGroup, ValidSub};
-ghost use Rattle.lx_spec.specs.Tracked.{cue_of};
+ghost use Rattle.lx_spec.specs.TrackedLevel.{cue_of};
 
 use crate::cue::Cue;
 use crate::group::Group;

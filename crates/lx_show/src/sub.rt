@@ -1,7 +1,7 @@
 //! A submaster: channels with the levels that its fader brings up.
 
 ghost use Rattle.std.specs.Prelude.{◌≡◌, ℕ, [], OnOk, OnErr, IfOk};
-ghost use Rattle.lx_spec.specs.Listing.{placed};
+ghost use Rattle.lx_spec.specs.SortedList.{placed};
 ghost use Rattle.lx_spec.specs.Show.{ValidSub};
 
 use crate::group::MemberList;

@@ -7,9 +7,9 @@ use mathlib.Core.List.{reverse-cons}
 use Rattle.std.proofs.lemmas.Bool.{cases_order}
 use Rattle.std.proofs.lemmas.Bool.Decides.{nat_tests}
 use Rattle.std.proofs.lemmas.List.Folds.{find-append}
-use Rattle.lx_spec.specs.Listing.{Rises, entry_at, entries_below, entries_above, taken_out}
+use Rattle.lx_spec.specs.SortedList.{Rises, entry_at, entries_below, entries_above, taken_out}
 use Rattle.lx_spec.specs.Show.{Cue, Show}
-use Rattle.lx_spec.specs.Tracked.{decides, level_in, tracked}
+use Rattle.lx_spec.specs.TrackedLevel.{decides, level_in, tracked}
 
 -- the level in a cue, from the one before
 abbrev pub tracked_on : ℕ → Cue → ℕ → ℕ

@@ -8,10 +8,10 @@ use Rattle.std.proofs.lemmas.Bool.Decides.{nat_tests}
 use Rattle.std.proofs.lemmas.List.Elements.{filter-append}
 use Rattle.std.proofs.lemmas.List.Folds.{find-append}
 use Rattle.std.proofs.lemmas.List.{append-nil}
-use Rattle.lx_spec.specs.Listing.{Rises, entry_at, entries_below, entries_above, placed}
+use Rattle.lx_spec.specs.SortedList.{Rises, entry_at, entries_below, entries_above, placed}
 use Rattle.lx_spec.specs.Show.{Cue, Show, InRange}
-use Rattle.lx_spec.specs.Tracked.{tracked, cue_of, cue_above}
-use Rattle.lx_spec.specs.Edited.{cue_only, kept_above, with_cue, with_moves, moves_for}
+use Rattle.lx_spec.specs.TrackedLevel.{tracked, cue_of, cue_above}
+use Rattle.lx_spec.specs.EditedShow.{cue_only, kept_above, with_cue, with_moves, moves_for}
 use Rattle.lx_spec.proofs.Along.{tracked_on, along, tracked-along, along-append, along-past, along-same, step_in, each, filter_all, filter_none, find_none, lt_true, lt_false, other_number}
 use Rattle.lx_spec.proofs.MovesFor.{on_passing, on_other}
 

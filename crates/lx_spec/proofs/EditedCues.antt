@@ -9,11 +9,11 @@ use Rattle.lx_spec.specs.declared.Edit.{Edit}
 use Rattle.lx_spec.specs.declared.Edit.TheVariants.{DeleteCue, Set, SetGroup, Release, Block, Unblock}
 use Rattle.lx_spec.specs.declared.Move.{Move}
 use Rattle.lx_spec.specs.declared.Refusal.{Refusal}
-use Rattle.lx_spec.specs.Refusing.{◌>>=◌}
-use Rattle.lx_spec.specs.Listing.{Rises, entries_below, entries_above}
+use Rattle.lx_spec.specs.FirstRefusal.{◌>>=◌}
+use Rattle.lx_spec.specs.SortedList.{Rises, entries_below, entries_above}
 use Rattle.lx_spec.specs.Show.{Cue, Show, Valid, ValidCue, InRange}
-use Rattle.lx_spec.specs.Tracked.{tracked, cue_of, move_in, level_in}
-use Rattle.lx_spec.specs.Edited.{edited, cue_only, the_cue, the_given_part, the_channels, the_group, the_moves, with_cue, without_cue, with_levels, without_moves, all_at, in_proportion, with_moves, moves_for, blocked, unblocked}
+use Rattle.lx_spec.specs.TrackedLevel.{tracked, cue_of, move_in, level_in}
+use Rattle.lx_spec.specs.EditedShow.{edited, cue_only, the_cue, the_given_part, the_channels, the_group, the_moves, with_cue, without_cue, with_levels, without_moves, all_at, in_proportion, with_moves, moves_for, blocked, unblocked}
 use Rattle.lx_spec.specs.Laws.{cue_alone, is_block_edit}
 use Rattle.lx_spec.proofs.Along.{tracked_on, along, tracked-along, along-append, along-past, along-same, step_in, step_out, each, all_below, all_above, found_number, split_there, split_without, Rises-filter}
 use Rattle.lx_spec.proofs.MovesFor.{on_passing, on_other}

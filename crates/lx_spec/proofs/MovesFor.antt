@@ -7,10 +7,10 @@ use Rattle.std.proofs.lemmas.Bool.{cases_order, cases_lt, true≢false}
 use Rattle.std.proofs.lemmas.Bool.Decides.{nat_tests}
 use Rattle.std.proofs.lemmas.List.Folds.{find-append}
 use Rattle.lx_spec.specs.declared.Move.{Move}
-use Rattle.lx_spec.specs.Listing.{entry_at, entries_below, entries_above, placed}
+use Rattle.lx_spec.specs.SortedList.{entry_at, entries_below, entries_above, placed}
 use Rattle.lx_spec.specs.Show.{Cue, Show, InRange}
-use Rattle.lx_spec.specs.Tracked.{move_in}
-use Rattle.lx_spec.specs.Edited.{channels_of, moves_for, with_moves}
+use Rattle.lx_spec.specs.TrackedLevel.{move_in}
+use Rattle.lx_spec.specs.EditedShow.{channels_of, moves_for, with_moves}
 use Rattle.lx_spec.proofs.Along.{tracked_on, each, all_below, all_above, find_none, other_number, same_number}
 
 find_both : {A : Type 0} (p q : A → Bool) (xs : List A) → find q (filter p xs) ≡ find (λ x. p x && q x) xs

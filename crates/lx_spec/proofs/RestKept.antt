@@ -14,13 +14,13 @@ use Rattle.lx_spec.specs.declared.Command.TheVariants as commands
 use Rattle.lx_spec.specs.declared.Refusal.{Refusal}
 use Rattle.lx_spec.specs.declared.Refusal.TheVariants.{PlaybackFull, NoCueAfter, NoCueBefore, TickLimit, AbsentSub}
 use Rattle.lx_base.specs.declared.TheConstants.{BACK_TIME, TICK_END}
-use Rattle.lx_spec.specs.Refusing.{◌>>=◌}
-use Rattle.lx_spec.specs.Listing.{entry_at, has_entry}
+use Rattle.lx_spec.specs.FirstRefusal.{◌>>=◌}
+use Rattle.lx_spec.specs.SortedList.{entry_at, has_entry}
 use Rattle.lx_spec.specs.Show.{Show, Cue}
-use Rattle.lx_spec.specs.Tracked.{tracked, move_of, cue_above, cue_below}
+use Rattle.lx_spec.specs.TrackedLevel.{tracked, move_of, cue_above, cue_below}
 use Rattle.lx_spec.specs.Run.{Run, first_entry, entry_for, entry_extent, extent, time_of, delay_of, acts}
 use Rattle.lx_spec.specs.Level.{level, position, run_over, fade_over, rises_to}
-use Rattle.lx_spec.specs.Edited.{edited, the_cue}
+use Rattle.lx_spec.specs.EditedShow.{edited, the_cue}
 use Rattle.lx_spec.specs.Playback.{Playback, Played, press, tick, ticked, followed, start_above, rested, at_rest, is_over, is_due, has_room, appended, if_room, run_of, run_whole, follow_of, position_of}
 use Rattle.lx_spec.specs.Desk.{Desk, opened, step, after_play, after_command, replay}
 use Rattle.lx_spec.specs.Laws.{KeepsRest, IsInstant}

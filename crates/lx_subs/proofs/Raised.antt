@@ -10,7 +10,7 @@ use Rattle.std.proofs.lemmas.List.Folds.{find-append}
 use Rattle.std.proofs.lemmas.List.Elements.{All-from_recursion}
 use Rattle.lx_base.specs.Numbers.{scaled}
 use Rattle.lx_spec.specs.declared.Member.{Member}
-use Rattle.lx_spec.specs.Listing.{Rises, entry_at}
+use Rattle.lx_spec.specs.SortedList.{Rises, entry_at}
 use Rattle.lx_spec.specs.Show.{ValidMember}
 use Rattle.lx_spec.proofs.Along.{find_none, same_number, other_number}
 use Rattle.lx_show.proofs.RisingLists.{each, passes, lt_from, stands_where}

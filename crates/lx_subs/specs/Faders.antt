@@ -2,7 +2,7 @@
 use Rattle.std.specs.Prelude.{ℕ, List}
 use Rattle.std.specs.Option.{option_map_or}
 use Rattle.lx_spec.specs.declared.Member.{Member}
-use Rattle.lx_spec.specs.Listing.{entry_at}
+use Rattle.lx_spec.specs.SortedList.{entry_at}
 use Rattle.lx_spec.specs.Show.{Show}
 use Rattle.lx_spec.specs.Output.{contribution}
 use Rattle.lx_mixer.specs.Table.{IsTable}

@@ -1,7 +1,7 @@
 use Rattle.std.proofs.Common.{◌≡◌, ℕ, ◌≤◌, reverse, take}
 use Rattle.lx_spec.specs.Fades.{stack_at}
 use Rattle.lx_spec.specs.Level.{level, position}
-use Rattle.lx_spec.specs.Tracked.{tracked}
+use Rattle.lx_spec.specs.TrackedLevel.{tracked}
 use Rattle.lx_fade.specs.Row.{stack_in}
 use Rattle.lx_console.proofs.channel.level_of.Given as goal
 

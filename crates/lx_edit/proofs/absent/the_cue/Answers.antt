@@ -1,6 +1,6 @@
 use Rattle.std.proofs.Common.{◌≡◌, ℕ, List, Some, ap, sym, subst}
 use Rattle.lx_spec.specs.Show.{Cue}
-use Rattle.lx_spec.specs.Listing.{entry_at}
+use Rattle.lx_spec.specs.SortedList.{entry_at}
 use Rattle.lx_show.proofs.RisingLists.{found_number}
 use Rattle.lx_show.proofs.Placed.{placed_same}
 use Rattle.lx_edit.proofs.absent.the_cue.Goals as goal

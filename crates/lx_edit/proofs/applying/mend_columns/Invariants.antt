@@ -1,5 +1,5 @@
 use Rattle.std.proofs.Common.{◌≡◌, ◌≤◌, ◌<◌, ℕ, false}
-use Rattle.lx_spec.specs.Tracked.{tracked}
+use Rattle.lx_spec.specs.TrackedLevel.{tracked}
 use Rattle.lx_sheet.specs.Rows.{level_of, numbers_of}
 use Rattle.lx_sheet.specs.Standing.{StandsIn, cue_numbers}
 use Rattle.lx_edit.specs.ChanSet.{has_chan}

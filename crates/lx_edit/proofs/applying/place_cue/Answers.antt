@@ -1,8 +1,8 @@
 use Rattle.std.proofs.Common.{◌≡◌, ◌<◌, ◌≤◌, ◌-◌, ◌∙◌, ap, sym, subst, false, Some, ℕ, rules}
 use Rattle.std.specs.Prelude.{IsTrue, is_some}
 use Rattle.lx_spec.specs.Show.{Show, Cue, Valid}
-use Rattle.lx_spec.specs.Tracked.{cue_of, tracked}
-use Rattle.lx_spec.specs.Edited.{with_cue}
+use Rattle.lx_spec.specs.TrackedLevel.{cue_of, tracked}
+use Rattle.lx_spec.specs.EditedShow.{with_cue}
 use Rattle.lx_spec.specs.Laws.{SameColumn}
 use Rattle.lx_sheet.specs.Standing.{cue_numbers}
 use Rattle.lx_edit.specs.declared.chan_set.ChanSet.{ChanSet}

@@ -1,5 +1,5 @@
 use Rattle.std.specs.Prelude.{is_none, not, ◌&&◌, ◌==◌}
-use Rattle.lx_spec.specs.Tracked.{move_in, tracked}
+use Rattle.lx_spec.specs.TrackedLevel.{move_in, tracked}
 use Rattle.lx_edit.proofs.CueLevels.{chosen_next}
 use Rattle.lx_edit.proofs.blocks.taken_over.Goals as goal
 

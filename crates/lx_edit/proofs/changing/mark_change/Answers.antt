@@ -2,7 +2,7 @@ use Rattle.std.proofs.Common.{◌≡◌, ◌-◌, ◌∙◌, sym, subst, None}
 use Rattle.std.specs.Prelude.{Option}
 use Rattle.std.specs.Option.{option_copied}
 use Rattle.lx_spec.specs.Show.{Cue}
-use Rattle.lx_spec.specs.Tracked.{tracked}
+use Rattle.lx_spec.specs.TrackedLevel.{tracked}
 use Rattle.lx_edit.specs.Changing.{move_by, SameEntry}
 use Rattle.lx_edit.proofs.ChangedColumns.{same_both_ways, same_entry, nothing_tracks}
 use Rattle.lx_edit.proofs.changing.mark_change.Goals as goal

@@ -3,9 +3,9 @@ use Rattle.std.specs.Prelude.{is_some}
 use Rattle.lx_base.specs.declared.TheConstants.{PARTS}
 use Rattle.lx_spec.specs.declared.Part.{Part}
 use Rattle.lx_spec.specs.declared.Edit.TheVariants.{AddPart}
-use Rattle.lx_spec.specs.Listing.{has_entry}
+use Rattle.lx_spec.specs.SortedList.{has_entry}
 use Rattle.lx_spec.specs.Show.{Cue}
-use Rattle.lx_spec.specs.Edited.{with_part, new_part, with_cue, edited}
+use Rattle.lx_spec.specs.EditedShow.{with_part, new_part, with_cue, edited}
 use Rattle.lx_show.proofs.ChangedCues.{with_placed_part}
 use Rattle.lx_edit.specs.declared.plans.Plan.TheVariants.{PlaceCue}
 use Rattle.lx_edit.specs.Planned.{IsPlan}

@@ -3,7 +3,7 @@ use Rattle.std.specs.Prelude.{◌==◌}
 use Rattle.std.proofs.lemmas.Bool.Decides.{nat_tests}
 use Rattle.lx_spec.specs.declared.Edit.TheVariants.{DeletePart}
 use Rattle.lx_spec.specs.Show.{Cue}
-use Rattle.lx_spec.specs.Edited.{without_part, with_cue, edited}
+use Rattle.lx_spec.specs.EditedShow.{without_part, with_cue, edited}
 use Rattle.lx_edit.specs.declared.plans.Plan.TheVariants.{PlaceCue}
 use Rattle.lx_edit.specs.Planned.{IsPlan}
 use Rattle.lx_edit.proofs.CuePlans.{places, valid_without_part}

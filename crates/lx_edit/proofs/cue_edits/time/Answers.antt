@@ -2,7 +2,7 @@ use Rattle.std.proofs.Common.{◌≡◌, ◌∙◌, ap, sym, subst, refl, None, 
 use Rattle.lx_spec.specs.declared.Part.{Part}
 use Rattle.lx_spec.specs.declared.Edit.TheVariants.{Time}
 use Rattle.lx_spec.specs.Show.{Cue}
-use Rattle.lx_spec.specs.Edited.{with_part, with_time, with_cue, edited}
+use Rattle.lx_spec.specs.EditedShow.{with_part, with_time, with_cue, edited}
 use Rattle.lx_show.proofs.ChangedCues.{with_placed_part}
 use Rattle.lx_edit.specs.declared.plans.Plan.TheVariants.{PlaceCue}
 use Rattle.lx_edit.specs.Planned.{IsPlan}

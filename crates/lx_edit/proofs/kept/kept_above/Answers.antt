@@ -2,8 +2,8 @@ use Rattle.std.proofs.Common.{◌≡◌, ◌∙◌, ap, sym, Bool, true, Some, N
 use Rattle.std.specs.Prelude.{Option}
 use Rattle.std.specs.Option.{option_copied, option_map_or}
 use Rattle.lx_spec.specs.Show.{Cue}
-use Rattle.lx_spec.specs.Tracked.{cue_above}
-use Rattle.lx_spec.specs.Edited.{cue_only, kept_above, with_cue}
+use Rattle.lx_spec.specs.TrackedLevel.{cue_above}
+use Rattle.lx_spec.specs.EditedShow.{cue_only, kept_above, with_cue}
 use Rattle.lx_edit.specs.Kept.{changed_show}
 use Rattle.lx_edit.proofs.KeptLevels.{cue_above-changed, above_fits, lent_number}
 use Rattle.lx_edit.proofs.kept.kept_above.Goals as goal

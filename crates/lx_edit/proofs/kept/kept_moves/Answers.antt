@@ -1,6 +1,6 @@
 use Rattle.std.specs.Prelude.{not, ◌==◌}
 use Rattle.std.specs.Option.{option_copied}
-use Rattle.lx_spec.specs.Tracked.{tracked}
+use Rattle.lx_spec.specs.TrackedLevel.{tracked}
 use Rattle.lx_edit.specs.Kept.{changed_show}
 use Rattle.lx_edit.proofs.CueLevels.{chosen_next}
 use Rattle.lx_edit.proofs.kept.kept_moves.Goals as goal

@@ -4,7 +4,7 @@ use Rattle.std.specs.Option.{IsSomeAnd}
 use Rattle.std.specs.List.{AllByRecursion}
 use Rattle.lx_spec.specs.declared.Member.{Member}
 use Rattle.lx_spec.specs.Show.{Group}
-use Rattle.lx_spec.specs.Edited.{in_proportion}
+use Rattle.lx_spec.specs.EditedShow.{in_proportion}
 use Rattle.lx_edit.proofs.CueLevels.{proportion_within}
 use Rattle.lx_edit.proofs.levels.set_group.Goals as goal
 

@@ -1,7 +1,7 @@
 use Rattle.std.proofs.Common.{◌≡◌, ◌∙◌, ap, refl, List, ℕ}
 use Rattle.std.specs.Prelude.{filter, not, ◌&&◌, nat_le, nat_lt}
 use Rattle.lx_spec.specs.declared.Move.{Move}
-use Rattle.lx_spec.specs.Listing.{taken_out}
+use Rattle.lx_spec.specs.SortedList.{taken_out}
 use Rattle.lx_spec.specs.Show.{Cue}
 use Rattle.lx_edit.proofs.CueLevels.{none_left_out, one_left_out}
 use Rattle.lx_edit.proofs.levels.without_moves.Goals as goal

@@ -3,9 +3,9 @@ use Rattle.std.proofs.lemmas.List.Sums.{fold_more}
 use Rattle.std.proofs.lemmas.List.Elements.{All-from_recursion}
 use Rattle.std.specs.Prelude.{◌≤◌}
 use Rattle.lx_spec.specs.declared.Member.{Member}
-use Rattle.lx_spec.specs.Listing.{placed}
+use Rattle.lx_spec.specs.SortedList.{placed}
 use Rattle.lx_spec.specs.Show.{ValidMembers}
-use Rattle.lx_spec.specs.Edited.{with_members}
+use Rattle.lx_spec.specs.EditedShow.{with_members}
 use Rattle.lx_show.proofs.ChangedCues.{with_member}
 use Rattle.lx_edit.proofs.members.put_members.Goals as goal
 

@@ -3,9 +3,9 @@ use Rattle.std.proofs.lemmas.List.Sums.{fold_more}
 use Rattle.std.proofs.lemmas.List.Elements.{All-from_recursion}
 use Rattle.lx_spec.specs.declared.Part.{Part}
 use Rattle.lx_spec.specs.declared.Move.{Move}
-use Rattle.lx_spec.specs.Listing.{placed}
+use Rattle.lx_spec.specs.SortedList.{placed}
 use Rattle.lx_spec.specs.Show.{Cue, ValidCue, ValidMove}
-use Rattle.lx_spec.specs.Edited.{with_moves}
+use Rattle.lx_spec.specs.EditedShow.{with_moves}
 use Rattle.lx_show.proofs.ChangedCues.{with_move}
 use Rattle.lx_edit.specs.Found.{Fits}
 use Rattle.lx_edit.proofs.moves.with_moves.Goals as goal

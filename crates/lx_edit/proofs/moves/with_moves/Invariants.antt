@@ -1,6 +1,6 @@
 use Rattle.std.proofs.Common.{◌≡◌, take}
 use Rattle.lx_spec.specs.Show.{ValidCue}
-use Rattle.lx_spec.specs.Edited.{with_moves}
+use Rattle.lx_spec.specs.EditedShow.{with_moves}
 use Rattle.lx_edit.proofs.moves.with_moves.Given as goal
 
 abbrev pub invariant-loop-entry : goal.invariant-loop-entry

@@ -1,6 +1,6 @@
 use Rattle.std.proofs.Common.{List, map, arith, ap, sym, subst, ◌∙◌}
 use Rattle.lx_spec.specs.declared.Member.{Member}
-use Rattle.lx_spec.specs.Edited.{in_proportion}
+use Rattle.lx_spec.specs.EditedShow.{in_proportion}
 use Rattle.lx_spec.specs.Show.{Group, ValidMembers}
 use Rattle.lx_groups.proofs.Proportion.{in_proportion-valid}
 use Rattle.lx_groups.proofs.group.members.Goals as goal

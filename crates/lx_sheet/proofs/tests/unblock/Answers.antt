@@ -1,5 +1,5 @@
 use Rattle.std.proofs.Common.{ap, sym, ◌∙◌, refl, false}
-use Rattle.lx_spec.specs.Listing.{entries_below}
+use Rattle.lx_spec.specs.SortedList.{entries_below}
 use Rattle.lx_spec.specs.Show.{Cue, Show}
 use Rattle.lx_sheet.specs.Standing.{cue_numbers}
 use Rattle.lx_sheet.proofs.EditedShows.{tracked_below}

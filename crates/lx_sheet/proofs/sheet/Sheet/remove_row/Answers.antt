@@ -1,5 +1,5 @@
 use Rattle.std.proofs.Common.{ap, sym, ◌∙◌}
-use Rattle.lx_spec.specs.Listing.{entries_below}
+use Rattle.lx_spec.specs.SortedList.{entries_below}
 use Rattle.lx_spec.specs.Show.{Cue, Show}
 use Rattle.lx_sheet.proofs.EditedShows.{stands_below, below-taken_out}
 use Rattle.lx_sheet.proofs.sheet.Sheet.remove_row.Goals as goal

@@ -3,8 +3,8 @@ use Rattle.std.specs.List.{length_refill}
 use Rattle.std.specs.Vec.{with_items}
 use Rattle.std.proofs.lemmas.List.{length-map, with_items_is}
 use Rattle.lx_spec.specs.Show.{Cue}
-use Rattle.lx_spec.specs.Listing.{Rises, entries_below}
-use Rattle.lx_spec.specs.Tracked.{tracked}
+use Rattle.lx_spec.specs.SortedList.{Rises, entries_below}
+use Rattle.lx_spec.specs.TrackedLevel.{tracked}
 use Rattle.lx_sheet.specs.declared.sheet.Place.{Place}
 use Rattle.lx_sheet.specs.Rows.{Sheet, level_of, numbers_of}
 use Rattle.lx_sheet.specs.Block.{cell, last_value, level_among, place_of_cue}

@@ -1,6 +1,6 @@
 use Rattle.std.proofs.Common.{◌≡◌, ℕ, ◌+◌, ◌-◌, ◌*◌, List, take, drop, ap, sym, ◌∙◌, subst, arith, Some, None}
 use Rattle.std.specs.Prelude.{option_map}
-use Rattle.lx_spec.specs.Listing.{StandsAt, entry_at}
+use Rattle.lx_spec.specs.SortedList.{StandsAt, entry_at}
 use Rattle.lx_spec.specs.Replies.{row_of}
 use Rattle.lx_sheet.specs.declared.sheet.Place.{Place}
 use Rattle.lx_sheet.specs.Rows.{Sheet, row_at, numbers_of}

@@ -2,8 +2,8 @@ use Rattle.std.proofs.Common.{◌≡◌, ◌∙◌, ap, sym, subst, ℕ, map, tr
 use Rattle.std.proofs.lemmas.List.{length-map, with_items_is}
 use Rattle.std.specs.Prelude.{◌==◌}
 use Rattle.lx_spec.specs.declared.Move.{Move}
-use Rattle.lx_spec.specs.Listing.{Rises}
-use Rattle.lx_spec.specs.Edited.{out_of_part}
+use Rattle.lx_spec.specs.SortedList.{Rises}
+use Rattle.lx_spec.specs.EditedShow.{out_of_part}
 use Rattle.lx_show.proofs.RisingLists.{Rises-map}
 use Rattle.lx_show.proofs.moves.RisingList+Move.leave_part.Goals as goal
 

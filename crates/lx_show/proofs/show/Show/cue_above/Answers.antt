@@ -3,7 +3,7 @@ use Rattle.std.specs.Prelude.{find, nat_lt, slice_get}
 use Rattle.std.specs.Option.{option_copied}
 use Rattle.std.specs.List.{AllByRecursion}
 use Rattle.lx_spec.specs.Show.{Cue, Show, ValidCue}
-use Rattle.lx_spec.specs.Tracked.{cue_above}
+use Rattle.lx_spec.specs.TrackedLevel.{cue_above}
 use Rattle.lx_show.proofs.Finding.{find_first}
 use Rattle.lx_show.proofs.RisingLists.{lent_has}
 use Rattle.lx_show.proofs.show.Show.cue_above.Goals as goal

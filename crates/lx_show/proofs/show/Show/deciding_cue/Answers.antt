@@ -1,7 +1,7 @@
 use Rattle.std.proofs.Common.{◌∙◌, ap, ℕ, List}
 use Rattle.std.specs.Prelude.{find, reverse}
 use Rattle.lx_spec.specs.Show.{Cue, Show}
-use Rattle.lx_spec.specs.Tracked.{decides}
+use Rattle.lx_spec.specs.TrackedLevel.{decides}
 use Rattle.std.specs.Prelude.{Bool, nat_le, ◌&&◌}
 use Rattle.lx_show.proofs.Finding.{find_both_last}
 use Rattle.lx_show.proofs.show.Show.deciding_cue.Goals as goal

@@ -1,7 +1,7 @@
 use Rattle.std.proofs.Common.{◌≤◌, List, subst, sym}
 use Rattle.std.proofs.lemmas.Result.{on_ok_weaker}
 use Rattle.lx_spec.specs.declared.Member.{Member}
-use Rattle.lx_spec.specs.Listing.{placed}
+use Rattle.lx_spec.specs.SortedList.{placed}
 use Rattle.lx_spec.specs.Show.{Show, ValidMember}
 use Rattle.lx_show.proofs.ChangedCues.{sub_after_put}
 use Rattle.lx_show.proofs.Standing.{sub_stands}

@@ -1,7 +1,7 @@
 use Rattle.std.proofs.Common.{◌≤◌, List, subst, sym}
 use Rattle.std.proofs.lemmas.Result.{on_ok_weaker}
 use Rattle.lx_spec.specs.declared.Move.{Move}
-use Rattle.lx_spec.specs.Listing.{placed}
+use Rattle.lx_spec.specs.SortedList.{placed}
 use Rattle.lx_spec.specs.Show.{Show, ValidMove}
 use Rattle.lx_show.proofs.ChangedCues.{cue_after_put}
 use Rattle.lx_show.proofs.Standing.{cue_stands, cue_has}

@@ -1,7 +1,7 @@
 use Rattle.std.proofs.Common.{◌≡◌, List, subst, sym}
 use Rattle.std.specs.List.{AllByRecursion}
 use Rattle.lx_spec.specs.declared.Move.{Move}
-use Rattle.lx_spec.specs.Listing.{Rises}
+use Rattle.lx_spec.specs.SortedList.{Rises}
 use Rattle.lx_spec.specs.Show.{Cue, Show, ValidMove}
 use Rattle.lx_show.proofs.ChangedCues.{with_other_moves}
 use Rattle.lx_show.proofs.Standing.{cue_stands, cue_has, cue_some}
