@@ -1,0 +1,341 @@
+#!/usr/bin/env python3
+"""Runs the built program on a table of inputs, and compares what it writes and how it ends.
+
+    program.py [--program PATH] [--only TEXT]
+
+Prints a line for each run that went wrong, and last 'N passed, M failed'. What is expected is written down from the
+rules (docs/FORMATS.md), never from what the program printed. Without --program it is crates/cuedesk/out/cuedesk, which
+`rt ci` leaves there; where it is missing or a source is newer, the launcher builds it first.
+"""
+import argparse
+import os
+import resource
+import subprocess
+import sys
+import tempfile
+import time
+
+TOP = os.path.dirname(os.path.dirname(os.path.abspath(__file__)))
+USAGE = b"usage: cuedesk check|render|sheet [states] | make N | run U [states]\n"
+INPUT_BYTES = 67_108_864
+TIME_LIMIT = 60
+
+# A patch of channel 1 to dimmer 1, and a cue that moves channel 1 at once.
+PATCHED = "IDENT 3:0\nPATCH 1 1<1@FL\n"
+AT_ONCE = "UP 0\nDOWN 0\n"
+ONE_CUE = PATCHED + "CUE 1\n" + AT_ONCE + "CHAN 1@H80\nENDDATA\n"
+
+
+class Case:
+    """One run: words, input, and the status and the output that are wanted."""
+
+    def __init__(self, name, text, output, status=0, words=("render",), error=b"", **special):
+        self.name = name
+        self.input = text if isinstance(text, bytes) else text.encode()
+        self.output = output if isinstance(output, bytes) else output.encode()
+        self.status = status
+        self.words = list(words)
+        self.error = error
+        self.special = special
+
+
+def show(lines):
+    return PATCHED + lines + "ENDDATA\n"
+
+
+def fault(name, lines, cause, line):
+    """A show text behind its IDENT line that is refused at the line given."""
+    return Case(f"refused: {name}", "IDENT 3:0\n" + lines + "\nENDDATA\n", f"show {cause} {line}\n", status=1)
+
+
+# ---------------------------------------------------------------------------------------------------------------------
+# The edge: how the program ends, and what its words and streams do.
+
+
+def edge_cases():
+    limited = {"memory": 4 << 20}
+    return [
+        Case("status 0 at the end of the script", ONE_CUE + "go\nframe\n", "ok\nframe 0 1 1=128\n"),
+        Case("status 0 at quit", ONE_CUE + "go\nquit\nframe\n", "ok\n"),
+        Case("status 1 for a show that is refused", "CUE 1\n", "show NoIdent 1\n", status=1),
+        Case("status 3 where the input is a folder", b"", "", status=3, folder=True),
+        Case("status 4 where the output is a full device", ONE_CUE + "go\n", "", status=4, full=True),
+        Case("status 4 where a refused show's line can't be written", "CUE 1\n", "", status=4, full=True),
+        Case("status 5 for want of memory", ONE_CUE + "go\n", "", status=5, **limited),
+        Case("status 6 for an input that is too long", b"\n" * INPUT_BYTES + b"X", "", status=6),
+        Case("an input of the greatest length is read to its end", b"\n" * INPUT_BYTES, f"show NoEndData {INPUT_BYTES + 1}\n", status=1),
+        Case("no words", ONE_CUE, "", status=2, words=(), error=USAGE),
+        Case("a word in the other case", ONE_CUE, "", status=2, words=("RENDER",), error=USAGE),
+        Case("a word that isn't known", ONE_CUE, "", status=2, words=("play",), error=USAGE),
+        Case("a second word that isn't known", ONE_CUE, "", status=2, words=("render", "moves"), error=USAGE),
+        Case("an empty word", ONE_CUE, "", status=2, words=("",), error=USAGE),
+        Case("a word that begins with a dash", ONE_CUE, "", status=2, words=("--help",), error=USAGE),
+        Case("a word whose bytes are no text", ONE_CUE, "", status=2, words=(b"render\xff",), error=USAGE),
+    ]
+
+
+# ---------------------------------------------------------------------------------------------------------------------
+# Long runs and limits.
+
+
+def cue_limit():
+    """A show of 2,000 cues: one that is there may be made again, a further one not."""
+    cues = "".join(f"CUE {n}\n" for n in range(1, 2001))
+    return Case("the 2,001st cue", show(cues) + "cue 9999.99\ncue 2000\ncue 0.01\ndelete 7\ncue 9999.99\n",
+                "refused CueLimit\nok\nrefused CueLimit\nok\nok\n")
+
+
+def full_playback():
+    text = show("CUE 1\nUP 40:00\nCHAN 1@FL\n") + "goto 1\n" * 513 + "settle\ngoto 1\nframe\n"
+    return Case("512 runs live", text, "ok\n" * 512 + "refused PlaybackFull\nok\nok\nframe 0 1 1=255\n")
+
+
+def limit_cases():
+    ident = "IDENT 3:0\nENDDATA\n"
+    longest = "x" * 4096
+    return [
+        Case("all ticks, and one more", ONE_CUE + "tick 100000000\ntick\nframe\n", "ok\nrefused TickLimit 200000000\nframe 200000000 1\n"),
+        Case("ticks past the last moment are refused once", ONE_CUE + "tick 99999999\ntick 2\nframe\n", "ok\nrefused TickLimit 200000000\nframe 200000000 1\n"),
+        full_playback(),
+        cue_limit(),
+        Case("the 2,001st cue of a text", "IDENT 3:0\n" + "".join(f"CUE {n}\n" for n in range(1, 2002)) + "ENDDATA\n", "show OutOfRange 2002\n", status=1),
+        Case("a script line of 4,096 bytes and one of 4,097", ident + longest + "\n" + longest + "x\nframe\n", "bad\nbad\nframe 0 1\n"),
+        Case("a show line of 4,096 bytes", f"IDENT 3:0\n{longest}\nENDDATA\nframe\n", "frame 0 1\n"),
+        fault("a show line of 4,097 bytes", longest + "x", "LineTooLong", 2),
+        Case("a last line without its line end", ONE_CUE + "go\nframe", "ok\nframe 0 1 1=128\n"),
+    ]
+
+
+# ---------------------------------------------------------------------------------------------------------------------
+# Shows at their greatest: every group and submaster, every channel, nine parts.
+
+
+def labelled_shows():
+    """999 groups and 96 submasters with labels; the last of each is used, and the text that is saved is the show's."""
+    groups = "".join(f"GROUP {g}\nTEXT group {g}\nCHAN 1@H80\n" for g in range(1, 1000))
+    subs = "".join(f"SUB {s}\nTEXT sub {s}\nCHAN 1@H64\n" for s in range(1, 97))
+    cue = "CUE 1\n" + AT_ONCE
+    script = "set 1 group 999 at FL\ngo\nframe\nmaster at FL\nfader 96 at FL\nframe\nset 1 group 1 at 0\nframe\nsave\n"
+    saved = ("IDENT 3:0\nSET CHANNELS 512\nPATCH 1 1<1@HFF\n" + groups + subs
+             + "CUE 1\nPART 1\nUP 0 0\nDOWN 0 0\nCHAN 1@H00\nENDDATA\n")
+    return Case("every group and submaster, with labels", PATCHED + groups + subs + cue + "ENDDATA\n" + script,
+                "ok\nok\nframe 0 1 1=128\nok\nok\nframe 0 1 1=128\nok\nframe 0 1 1=100\n" + saved)
+
+
+def all_channels():
+    """2,048 channels on 2,048 dimmers are edited and played in four universes."""
+    patch = "SET CHANNELS 2048\n" + "".join(f"PATCH 1 {c}<{c}@FL\n" for c in range(1, 2049))
+    script = "set 1 chan 1 thru 2048 at H40\ngo\nframe 4\nset 1 chan 2048 at FL\nframe 4\nset 1 chan 2049 at 5\nrelease 1 chan 1 thru 2048\nframe 4\n"
+    frame = "frame 0 4" + "".join(f" {s}=64" for s in range(1, 512))
+    return Case("2,048 channels", "IDENT 3:0\n" + patch + "CUE 1\n" + AT_ONCE + "ENDDATA\n" + script,
+                f"ok\nok\n{frame} 512=64\nok\n{frame} 512=255\nbad\nok\nframe 0 4\n")
+
+
+def nine_parts():
+    parts = "".join(f"PART {p}\nUP {p}\nCHAN {p}@FL\n" for p in range(1, 10))
+    patch = "".join(f"PATCH 1 {c}<{c}@FL\n" for c in range(2, 10))
+    script = "time 1 part 9 up 4 2\ngo\ntick 200\nframe\nunpart 1 9\nunpart 1 9\npart 1 9\nset 1 chan 9 at 0 part 9\nframe\n"
+    # At 400 hundredths: part p gives 255 * 400 / (100 p), and part 9 has gone 200 of its 400.
+    levels = " ".join(f"{p}={min(255, 255 * 400 // (100 * p))}" for p in range(1, 9))
+    # Without part 9 its move stands in part 1, whose times the run took too; a move at 0 rises from 0 to 0.
+    return Case("the last of nine parts", PATCHED + patch + "CUE 1\n" + parts + "ENDDATA\n" + script,
+                f"ok\nok\nok\nframe 400 1 {levels} 9=127\nok\nrefused AbsentPart 1 9\nok\nok\nframe 400 1 {levels}\n")
+
+
+def label_and_follow():
+    saved = "IDENT 3:0\nSET CHANNELS 512\nPATCH 1 1<1@HFF\nCUE 1\nPART 1\nUP 5 0\nDOWN 5 0\nENDDATA\n"
+    return Case("a label and a follow are taken away", show("CUE 1\nTEXT Preset\nFOLLOWON 2\n") + "label 1\nfollow 1 off\nsave\n", "ok\nok\n" + saved)
+
+
+def great_cases():
+    return [labelled_shows(), all_channels(), nine_parts(), label_and_follow()]
+
+
+# ---------------------------------------------------------------------------------------------------------------------
+# Show texts: each word of a record with each of its tokens missing, of the wrong form and out of range.
+
+# The word, a line before it, its tokens, and for each token a text that hasn't the form and one out of range.
+WRONG_TOKENS = [
+    ("CHAN", "CUE 1\n", ["1", "50"], [("x", "2049"), ("x", "101")]),
+    ("PART", "CUE 1\n", ["1"], [("x", "10")]),
+    ("UP", "CUE 1\n", ["1", "2"], [("x", "6000"), ("1:", "1:60")]),
+    ("DOWN", "CUE 1\n", ["1", "2"], [("1:2:3", "100:00"), (".", "99:60")]),
+    ("FOLLOWON", "CUE 1\n", ["1"], [("x", "6000")]),
+    ("LINK", "CUE 1\n", ["2"], [("1.234", "0")]),
+    ("CUE", "", ["1"], [("1.234", "10000")]),
+    ("GROUP", "", ["1"], [("1.5", "1000")]),
+    ("SUB", "", ["1"], [("x", "97")]),
+    ("CHAN", "GROUP 1\n", ["1", "50"], [("1.5", "0"), ("H1", "101")]),
+    ("CHAN", "SUB 1\n", ["1", "50"], [("", "0"), ("HGG", "999")]),
+    ("SET CHANNELS", "", ["24"], [("x", "2049")]),
+    ("PATCH 1", "", ["1", "2", "50"], [("x", "2049"), ("x", "8193"), ("x", "101")]),
+]
+# Words whose later tokens may be absent: how many are needed.
+NEEDED = {"UP": 1, "DOWN": 1}
+
+
+def wrong_tokens():
+    for word, before, tokens, wrong in WRONG_TOKENS:
+        line = 2 + before.count("\n") + 0
+        for k, (shape, outside) in enumerate(wrong):
+            for text, cause in ((shape, "BadNumber"), (outside, "OutOfRange")):
+                if text:
+                    said = " ".join([word] + tokens[:k] + [text] + tokens[k + 1:])
+                    yield fault(f"{before.strip()} {said}", before + said, cause, line)
+        for k in range(NEEDED.get(word, len(tokens))):
+            if k or word not in ("CHAN", "PATCH 1"):
+                said = " ".join([word] + tokens[:k])
+                yield fault(f"{before.strip()} {said}", before + said, "ShortList", line)
+
+
+def reading_cases():
+    return list(wrong_tokens()) + [
+        fault("a level without its channel", "CUE 1\nCHAN 1@", "ShortList", 3),
+        fault("a channel that is no number", "CUE 1\nCHAN x@5", "BadNumber", 3),
+        fault("101 percent", "CUE 1\nCHAN 1@101", "OutOfRange", 3),
+        fault("the leftmost token decides", "CUE 1\nCHAN 1@101 x@5", "OutOfRange", 3),
+        fault("levels outside of a record", "CHAN 1@50", "NotInRecord", 2),
+        fault("a part outside of a record", "PART 1", "NotInRecord", 2),
+        fault("a time outside of a record", "UP 1", "NotInRecord", 2),
+        fault("a patch without its page", "PATCH", "ShortList", 2),
+        Case("refused: no IDENT", "ENDDATA\n", "show NoIdent 1\n", status=1),
+        Case("refused: another version", "IDENT 2:0\n", "show NoIdent 1\n", status=1),
+        Case("refused: no ENDDATA", "IDENT 3:0\nCUE 1\n", "show NoEndData 3\n", status=1),
+        Case("words in either case", "ident 3:0\npatch 1 1<1@fl\nCue 1\nup 0\nchan 1@h80\nenddata\nGO\nFrame\n", "ok\nframe 0 1 1=128\n"),
+        Case("CR LF", ONE_CUE.replace("\n", "\r\n") + "go\r\nframe\r\n", "ok\nframe 0 1 1=128\n"),
+        Case("a cue of another page", PATCHED + "CUE 1 2\nCHAN 1@FL\nCUE 2\n" + AT_ONCE + "CHAN 1@50\nENDDATA\ngo\nframe\n", "ok\nframe 0 1 1=128\n"),
+        Case("CLEAR ALL forgets", PATCHED + "CUE 1\nCLEAR ALL\nPATCH 1 2<1@FL\nENDDATA\ngo\nfader 1 at FL\n", "refused NoCueAfter 0\nrefused AbsentSub 1\n"),
+    ]
+
+
+# ---------------------------------------------------------------------------------------------------------------------
+# Runs that need more than one look: a talk over pipes, and a reader that goes away.
+
+
+def talk(program):
+    """Each reply is there before the next line is sent."""
+    steps = [("go\n", b"ok\n"), ("frame\n", b"frame 0 1 1=128\n"), ("fly\n", b"bad\n"), ("tick 5\n", b"ok\n"), ("frame\n", b"frame 10 1 1=128\n")]
+    with subprocess.Popen([program, "render"], stdin=subprocess.PIPE, stdout=subprocess.PIPE) as run:
+        run.stdin.write(ONE_CUE.encode())
+        run.stdin.flush()
+        for line, reply in steps:
+            run.stdin.write(line.encode())
+            run.stdin.flush()
+            got = run.stdout.readline()
+            if got != reply:
+                run.kill()
+                return [f"{line.strip()} was answered {got!r}, not {reply!r}"]
+        run.stdin.close()
+        rest = run.stdout.read()
+        status = run.wait(TIME_LIMIT)
+    return [f"status {status} and {rest!r} at the end"] if status or rest else []
+
+
+def refused_at_once(program):
+    """A refused show is told while the input is still open."""
+    with subprocess.Popen([program, "render"], stdin=subprocess.PIPE, stdout=subprocess.PIPE) as run:
+        run.stdin.write(b"IDENT 3:0\nCHAN 1@50\n")
+        run.stdin.flush()
+        got = run.stdout.readline()
+        run.stdin.close()
+        status = run.wait(TIME_LIMIT)
+    return [] if (got, status) == (b"show NotInRecord 2\n", 1) else [f"answered {got!r}, status {status}"]
+
+
+def reader_goes_away(program):
+    """A reader that closes its end early makes a failed write, and no message of the language's runtime."""
+    text = (ONE_CUE + "go\n" + "frame\n" * 200_000).encode()
+    with tempfile.TemporaryFile() as source:
+        source.write(text)
+        source.seek(0)
+        with subprocess.Popen([program, "render"], stdin=source, stdout=subprocess.PIPE, stderr=subprocess.PIPE) as run:
+            run.stdout.readline()
+            run.stdout.close()
+            error = run.stderr.read()
+            status = run.wait(TIME_LIMIT)
+    return [] if (status, error) == (4, b"") else [f"status {status}, standard error {error[:200]!r}"]
+
+
+def closed_output(program):
+    """Standard output is closed from the start."""
+    run = subprocess.run([program, "render"], input=(ONE_CUE + "go\n").encode(), stderr=subprocess.PIPE, timeout=TIME_LIMIT,
+                         preexec_fn=lambda: os.close(1))
+    return [] if (run.returncode, run.stderr) == (4, b"") else [f"status {run.returncode}, standard error {run.stderr[:200]!r}"]
+
+
+TALKS = [talk, refused_at_once, reader_goes_away, closed_output]
+
+
+# ---------------------------------------------------------------------------------------------------------------------
+
+
+def limits_for(case):
+    memory = case.special.get("memory")
+
+    def limit():
+        if memory:
+            resource.setrlimit(resource.RLIMIT_DATA, (memory, memory))
+
+    return limit
+
+
+def wrong_in(program, case):
+    """What went wrong in one run, in words."""
+    with tempfile.TemporaryDirectory() as folder, tempfile.TemporaryFile() as source:
+        source.write(case.input)
+        source.seek(0)
+        stdin = os.open(folder, os.O_RDONLY) if case.special.get("folder") else source
+        stdout = open("/dev/full", "wb") if case.special.get("full") else subprocess.PIPE
+        try:
+            run = subprocess.run([program] + case.words, stdin=stdin, stdout=stdout, stderr=subprocess.PIPE, cwd=folder,
+                                 timeout=TIME_LIMIT, preexec_fn=limits_for(case))
+        except subprocess.TimeoutExpired:
+            return [f"no end within {TIME_LIMIT} seconds"]
+        finally:
+            if case.special.get("folder"):
+                os.close(stdin)
+            if case.special.get("full"):
+                stdout.close()
+    wrong = []
+    if run.returncode != case.status:
+        wrong.append(f"status {run.returncode}, not {case.status}")
+    if (run.stdout or b"") != case.output:
+        wrong.append(f"output {(run.stdout or b'')[:300]!r}, not {case.output[:300]!r}")
+    if run.stderr != case.error:
+        wrong.append(f"standard error {run.stderr[:200]!r}, not {case.error!r}")
+    return wrong
+
+
+def built_program():
+    """The program that `rt ci` left, or else one that the launcher builds."""
+    program = os.path.join(TOP, "crates/cuedesk/out/cuedesk")
+    sources = [os.path.join(folder, name) for folder, names, files in os.walk(os.path.join(TOP, "crates"))
+               if os.sep + "out" not in folder for name in files if name.endswith((".rt", ".antt"))]
+    newest = max(os.path.getmtime(name) for name in sources + [os.path.join(TOP, "crates.txt")])
+    if not os.path.exists(program) or os.path.getmtime(program) < newest:
+        subprocess.run([os.path.join(TOP, "cuedesk")], stdin=subprocess.DEVNULL, stderr=subprocess.DEVNULL)
+    return program
+
+
+def main():
+    parser = argparse.ArgumentParser()
+    parser.add_argument("--program")
+    parser.add_argument("--only", default="")
+    given = parser.parse_args()
+    program = os.path.abspath(given.program or built_program())
+    cases = edge_cases() + limit_cases() + great_cases() + reading_cases()
+    runs = [(case.name, lambda case=case: wrong_in(program, case)) for case in cases]
+    runs += [(each.__name__.replace("_", " "), lambda each=each: each(program)) for each in TALKS]
+    passed = failed = 0
+    for name, run in runs:
+        if given.only in name:
+            wrong = run()
+            passed, failed = passed + (not wrong), failed + bool(wrong)
+            if wrong:
+                print(f"FAILED {name}: {'; '.join(wrong)}")
+    print(f"{passed} passed, {failed} failed")
+    return 1 if failed or not passed else 0
+
+
+if __name__ == "__main__":
+    sys.exit(main())
