@@ -9,7 +9,7 @@ use Rattle.lx_spec.specs.declared.Member.{Member}
 use Rattle.lx_spec.specs.declared.Part.{Part}
 use Rattle.lx_spec.specs.declared.PatchRow.{PatchRow}
 use Rattle.lx_spec.specs.SortedList.{placed, entry_at, has_entry}
-use Rattle.lx_spec.specs.Show.{Show, Cue, Valid}
+use Rattle.lx_spec.specs.Show.{Show, Cue}
 use Rattle.lx_spec.specs.TrackedLevel.{cue_of}
 use Rattle.lx_show.specs.Changed.{changed}
 use Rattle.lx_reader.specs.Entering.{with_members}
@@ -17,9 +17,9 @@ use Rattle.lx_spec.specs.declared.Section.TheVariants.{InCue}
 use Rattle.lx_reader.specs.TakenUp.{with_rows, all_placed, moves_of}
 use Rattle.lx_spec.specs.declared.TextFault.{TextFault}
 use Rattle.std.specs.Result.{IsOkAnd, is_err}
-use Rattle.lx_reader.specs.Lists.{all_pairs, all_triples, onto}
+use Rattle.lx_reader.specs.Lists.{all_triples, onto}
 use Rattle.lx_reader.specs.Stops.{HasPartIn}
-use Rattle.lx_reader.proofs.Changing.{changed-again, changed-not, entry-changed, changed-alike}
+use Rattle.lx_reader.proofs.Changing.{changed-again, entry-changed, changed-alike}
 
 abbrev pub with_moves : ℕ → List Member → Cue → Cue
 with_moves p members cue = record cue { moves = all_placed (λ m. m.chan) (moves_of p members) cue.moves }

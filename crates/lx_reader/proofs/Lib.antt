@@ -16,6 +16,6 @@ pub mod PassedLines
 pub mod Pairs
 pub mod Entering
 pub mod Turns
-pub mod Lengths
 pub mod Taking
 pub mod Members
+pub mod WordTable

@@ -10,7 +10,7 @@ use Rattle.lx_spec.specs.EditedShow.{new_cue, new_part}
 use Rattle.lx_show.specs.Changed.{changed}
 use Rattle.lx_spec.specs.Show.{Cue, Group, Sub, Show}
 use Rattle.lx_spec.specs.declared.Section.{Section}
-use Rattle.lx_spec.specs.declared.Section.TheVariants.{InCue, InGroup, InSub}
+use Rattle.lx_spec.specs.declared.Section.TheVariants.{InGroup, InSub}
 use Rattle.lx_spec.specs.Saying.{Entry, HasLevels, HasUp, HasDown, NamesPart, Follows, Links, IsLabelled, Blocks, Said, cue_in}
 use Rattle.lx_spec.specs.Reading.{Reading, cue_named, group_named, sub_named, channels_named, channels_set, rows_said, clears_all, is_skipped}
 

@@ -4,8 +4,8 @@ ghost use Rattle.std.specs.Prelude.{◌≡◌, ◌∷◌, [], Ok, Err, ◌<◌, 
 ghost use Rattle.lx_lex.specs.Left.{left};
 ghost use Rattle.lx_reader.specs.Lists.{fault_in, all_pairs, all_triples, onto};
 
-use crate::numbers::{fault_of, read_channel, read_dimmer};
-use lx_lex::{Bad, Tokens, read_level};
+use crate::numbers::fault_of;
+use lx_lex::{Bad, Tokens, read_channel, read_dimmer, read_level};
 use lx_spec::{Member, PatchRow, TextFault};
 
 /// The fault of a token in a list at a line: that of the list, where it isn't whole.

@@ -1,7 +1,7 @@
 //! The numbers of a line, by their ranges, and the faults of those that it lacks.
 
 ghost use Rattle.std.specs.Prelude.{◌≡◌, ◌∷◌, [], IfOk};
-ghost use Rattle.lx_base.specs.declared.TheConstants.{CHANNELS, DIMMERS, GROUPS, PARTS, SUBS};
+ghost use Rattle.lx_base.specs.declared.TheConstants.{CHANNELS, GROUPS, PARTS, SUBS};
 ghost use Rattle.lx_spec.specs.Limits.{desk_limits};
 ghost use Rattle.lx_spec.specs.Numerals.{read_cue_no, read_time, read_whole};
 ghost use Rattle.lx_spec.specs.Saying.{is_page_one, delay_at, number};
@@ -10,51 +10,11 @@ ghost use Rattle.lx_lex.specs.Left.{left};
 ghost use Rattle.lx_reader.specs.Lists.{fault_of};
 ghost use Rattle.lx_reader.specs.Numbers.{next_number, next_times, record_number};
 
-use lx_base::{
-    CHANNELS, Chan, Cs, CueNo, DIMMERS, Dimmer, GROUPS, GroupNo, PARTS, PartNo, SUBS, SubNo,
+use lx_base::{Chan, Cs, CueNo, GroupNo, PartNo, SubNo};
+use lx_lex::{
+    Bad, Tokens, read_channel, read_cue_no, read_group, read_part, read_sub, read_time, read_whole,
 };
-use lx_lex::{Bad, Tokens, read_cue_no, read_time, read_whole};
 use lx_spec::TextFault;
-
-/// A channel number.
-pub(crate) fn read_channel(token: &[u8]) -> Result<Chan, Bad>
-    ensures { result ≡ read_whole 1 CHANNELS token.now }
-{
-    let number = read_whole(token, 1, CHANNELS)?;
-    Chan::new(number).ok_or(Bad::Range)
-}
-
-/// A dimmer number.
-pub(crate) fn read_dimmer(token: &[u8]) -> Result<Dimmer, Bad>
-    ensures { result ≡ read_whole 1 DIMMERS token.now }
-{
-    let number = read_whole(token, 1, DIMMERS)?;
-    Dimmer::new(number).ok_or(Bad::Range)
-}
-
-/// A part number.
-fn read_part(token: &[u8]) -> Result<PartNo, Bad>
-    ensures { result ≡ read_whole 1 PARTS token.now }
-{
-    let number = read_whole(token, 1, PARTS)?;
-    PartNo::new(number).ok_or(Bad::Range)
-}
-
-/// A group number.
-fn read_group(token: &[u8]) -> Result<GroupNo, Bad>
-    ensures { result ≡ read_whole 1 GROUPS token.now }
-{
-    let number = read_whole(token, 1, GROUPS)?;
-    GroupNo::new(number).ok_or(Bad::Range)
-}
-
-/// A submaster number.
-fn read_sub(token: &[u8]) -> Result<SubNo, Bad>
-    ensures { result ≡ read_whole 1 SUBS token.now }
-{
-    let number = read_whole(token, 1, SUBS)?;
-    SubNo::new(number).ok_or(Bad::Range)
-}
 
 /// The fault of a token at a line.
 pub(crate) fn fault_of(i: u32, bad: Bad) -> TextFault

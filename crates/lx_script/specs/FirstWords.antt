@@ -1,5 +1,5 @@
 -- The first words of script lines, and what a line may be after each.
-use Rattle.std.specs.Prelude.{ℕ, Bool, false, ◌==◌, Option, List, [], ◌∷◌, codes}
+use Rattle.std.specs.Prelude.{ℕ, Option, List, [], ◌∷◌, codes}
 use Rattle.lx_spec.specs.declared.Edit.TheVariants.{MakeCue, AddPart, DeletePart}
 use Rattle.lx_spec.specs.declared.Edit.TheVariants as edits
 use Rattle.lx_spec.specs.declared.PlayKey.TheVariants as keys
@@ -12,49 +12,16 @@ use Rattle.lx_spec.specs.Script.{alone, goto_line, fader_line, master_line, tick
 use Rattle.lx_script.specs.declared.first_word.FirstWord.{FirstWord}
 use Rattle.lx_script.specs.declared.first_word.FirstWord.TheVariants.{Go, Back, Goto, Settle, Fader, Master, Tick, Cue, Delete, Set, Release, Time, Part, Unpart, Block, Unblock, Follow, Label, Group, Sub, Patch, Unpatch, Frame, Sheet, Save, Quit}
 
--- the word in capitals
-abbrev pub text_of : FirstWord → List ℕ
-text_of Go = codes "GO"
-text_of Back = codes "BACK"
-text_of Goto = codes "GOTO"
-text_of Settle = codes "SETTLE"
-text_of Fader = codes "FADER"
-text_of Master = codes "MASTER"
-text_of Tick = codes "TICK"
-text_of Cue = codes "CUE"
-text_of Delete = codes "DELETE"
-text_of Set = codes "SET"
-text_of Release = codes "RELEASE"
-text_of Time = codes "TIME"
-text_of Part = codes "PART"
-text_of Unpart = codes "UNPART"
-text_of Block = codes "BLOCK"
-text_of Unblock = codes "UNBLOCK"
-text_of Follow = codes "FOLLOW"
-text_of Label = codes "LABEL"
-text_of Group = codes "GROUP"
-text_of Sub = codes "SUB"
-text_of Patch = codes "PATCH"
-text_of Unpatch = codes "UNPATCH"
-text_of Frame = codes "FRAME"
-text_of Sheet = codes "SHEET"
-text_of Save = codes "SAVE"
-text_of Quit = codes "QUIT"
-
--- all of them
-unfoldable pub all_words : List FirstWord
-all_words =
-    Go ∷ Back ∷ Goto ∷ Settle ∷ Fader ∷ Master ∷ Tick ∷ Cue ∷ Delete ∷ Set ∷ Release ∷ Time ∷ Part ∷ Unpart ∷ Block ∷ Unblock ∷ Follow ∷ Label
-    ∷ Group ∷ Sub ∷ Patch ∷ Unpatch ∷ Frame ∷ Sheet ∷ Save ∷ Quit ∷ []
-
--- the text begins with the letter
-abbrev pub has_first : ℕ → List ℕ → Bool
-has_first letter [] = false
-has_first letter (b ∷ bs) = letter == b
-
--- the word begins with the letter
-abbrev pub begins_with : ℕ → FirstWord → Bool
-begins_with letter word = has_first letter (text_of word)
+-- how they are spelled
+abbrev pub first_words : List (List ℕ × FirstWord)
+first_words =
+    (codes "GO", Go) ∷ (codes "BACK", Back) ∷ (codes "GOTO", Goto) ∷ (codes "SETTLE", Settle)
+    ∷ (codes "FADER", Fader) ∷ (codes "MASTER", Master) ∷ (codes "TICK", Tick) ∷ (codes "CUE", Cue)
+    ∷ (codes "DELETE", Delete) ∷ (codes "SET", Set) ∷ (codes "RELEASE", Release) ∷ (codes "TIME", Time)
+    ∷ (codes "PART", Part) ∷ (codes "UNPART", Unpart) ∷ (codes "BLOCK", Block) ∷ (codes "UNBLOCK", Unblock)
+    ∷ (codes "FOLLOW", Follow) ∷ (codes "LABEL", Label) ∷ (codes "GROUP", Group) ∷ (codes "SUB", Sub)
+    ∷ (codes "PATCH", Patch) ∷ (codes "UNPATCH", Unpatch) ∷ (codes "FRAME", Frame) ∷ (codes "SHEET", Sheet)
+    ∷ (codes "SAVE", Save) ∷ (codes "QUIT", Quit) ∷ []
 
 -- what a line with the word at its front may be, by the tokens after it
 abbrev pub sentence_of : List ℕ → FirstWord → Tokens → Option Line

@@ -5,7 +5,7 @@ ghost use Rattle.lx_spec.specs.Text.{tokens};
 ghost use Rattle.lx_spec.specs.Script.{line_of, meaning};
 ghost use Rattle.lx_spec.specs.ValidEdit.{ValidLine};
 
-use crate::first_word::FirstWord;
+use crate::first_word::first_word;
 use crate::sentence::sentence;
 use lx_base::LINE_BYTES;
 use lx_lex::tokens;
@@ -32,6 +32,6 @@ fn meaning(line: &[u8]) -> Option<Line>
     let mut rest = tokens(line);
     match rest.next() {
         None => Some(Line::Blank),
-        Some(first) => sentence(FirstWord::of(first)?, line, rest),
+        Some(first) => sentence(first_word(first)?, line, rest),
     }
 }

@@ -1,7 +1,8 @@
 //! Phrases of a script line. Each takes its tokens from the front of those that are left, and is `None` where they
 //! aren't there.
 
-ghost use Rattle.std.specs.Prelude.{◌≡◌, ◌≤◌, false, option_map, IfSome, if◌then◌else◌};
+ghost use Rattle.lx_base.specs.declared.TheConstants.{CHANNELS, DIMMERS, GROUPS, PARTS, SUBS};
+ghost use Rattle.std.specs.Prelude.{◌≡◌, false, option_map, if◌then◌else◌};
 ghost use Rattle.std.specs.Option.{option_map_or};
 ghost use Rattle.std.specs.Str.{str_to_ascii_uppercase};
 ghost use Rattle.lx_base.specs.Numbers.{Span};
@@ -10,11 +11,11 @@ ghost use Rattle.lx_spec.specs.Phrase.{word, value, value_or, ended, channel, ch
 ghost use Rattle.lx_spec.specs.Script.{cue_number, time};
 ghost use Rattle.lx_lex.specs.Left.{left};
 
-use lx_base::{
-    CHANNELS, Chan, ChanRange, Cs, CueNo, DIMMERS, Dimmer, GROUPS, GroupNo, Level, PARTS, PartNo,
-    SUBS, SubNo,
+use lx_base::{Chan, ChanRange, Cs, CueNo, Dimmer, GroupNo, Level, PartNo, SubNo};
+use lx_lex::{
+    Tokens, read_channel, read_cue_no, read_dimmer, read_group, read_level, read_part, read_sub,
+    read_time, word_is,
 };
-use lx_lex::{Tokens, read_cue_no, read_level, read_time, read_whole, word_is};
 
 /// The word, in either case.
 pub(crate) fn word(rest: &mut Tokens, text: &[u8]) -> Option<()>
@@ -42,14 +43,6 @@ pub(crate) fn takes(rest: &mut Tokens, text: &[u8]) -> bool
     }
 }
 
-/// A whole number from 1 to `most`.
-pub(crate) fn whole(rest: &mut Tokens, most: u32) -> Option<u32>
-    ensures value { option_map (λ n. (n, left rest.new)) result ≡ value (read_whole 1 most) (left rest.old) }
-    ensures range { IfSome result (λ n. (1 ≤ n) × (n ≤ most)) }
-{
-    read_whole(rest.next()?, 1, most).ok()
-}
-
 /// A cue number, which names a cue.
 pub(crate) fn cue_number(rest: &mut Tokens) -> Option<CueNo>
     ensures { option_map (λ n. (n, left rest.new)) result ≡ cue_number (left rest.old) }
@@ -61,28 +54,28 @@ pub(crate) fn cue_number(rest: &mut Tokens) -> Option<CueNo>
 pub(crate) fn part(rest: &mut Tokens) -> Option<PartNo>
     ensures { option_map (λ p. (p, left rest.new)) result ≡ value (read_whole 1 PARTS) (left rest.old) }
 {
-    PartNo::new(whole(rest, PARTS)?)
+    read_part(rest.next()?).ok()
 }
 
 /// A group number.
 pub(crate) fn group(rest: &mut Tokens) -> Option<GroupNo>
     ensures { option_map (λ g. (g, left rest.new)) result ≡ value (read_whole 1 GROUPS) (left rest.old) }
 {
-    GroupNo::new(whole(rest, GROUPS)?)
+    read_group(rest.next()?).ok()
 }
 
 /// A submaster number.
 pub(crate) fn sub(rest: &mut Tokens) -> Option<SubNo>
     ensures { option_map (λ s. (s, left rest.new)) result ≡ value (read_whole 1 SUBS) (left rest.old) }
 {
-    SubNo::new(whole(rest, SUBS)?)
+    read_sub(rest.next()?).ok()
 }
 
 /// A dimmer.
 pub(crate) fn dimmer(rest: &mut Tokens) -> Option<Dimmer>
     ensures { option_map (λ e. (e, left rest.new)) result ≡ value (read_whole 1 DIMMERS) (left rest.old) }
 {
-    Dimmer::new(whole(rest, DIMMERS)?)
+    read_dimmer(rest.next()?).ok()
 }
 
 /// A time in hundredths of a second.
@@ -106,7 +99,7 @@ pub(crate) fn delay_or_end(mut rest: Tokens) -> Option<Cs>
 pub(crate) fn channel(rest: &mut Tokens) -> Option<Chan>
     ensures { option_map (λ c. (c, left rest.new)) result ≡ channel (left rest.old) }
 {
-    Chan::new(whole(rest, CHANNELS)?)
+    read_channel(rest.next()?).ok()
 }
 
 /// `a` or `a thru b`: a channel alone, or those from a first to a last.

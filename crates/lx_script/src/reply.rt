@@ -5,7 +5,7 @@ ghost use Rattle.std.specs.Prelude.{◌++◌, ◌∷◌, decimal};
 ghost use Rattle.lx_io.specs.Puts.{Puts};
 ghost use Rattle.lx_spec.specs.ShowText.{cue_number_text, spaced};
 ghost use Rattle.lx_spec.specs.Replies.{refused_text, refusal_words};
-ghost use Rattle.lx_script.specs.Answers.{reply_text};
+ghost use Rattle.lx_script.specs.ReplyTexts.{reply_text};
 
 use lx_base::CueNo;
 use lx_io::{Sink, SinkFault, put_all};

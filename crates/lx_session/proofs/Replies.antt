@@ -8,7 +8,7 @@ use Rattle.lx_spec.specs.Desk.{Desk}
 use Rattle.lx_spec.specs.Output.{frame}
 use Rattle.lx_spec.specs.Replies.{Counts, frame_text}
 use Rattle.lx_script.specs.declared.reply.Reply.{Reply}
-use Rattle.lx_script.specs.Answers.{reply_text}
+use Rattle.lx_script.specs.ReplyTexts.{reply_text}
 use Rattle.lx_session.specs.Replying.{reply_to, counts_after}
 use Rattle.lx_session.specs.Counting.{reply_for, counted}
 

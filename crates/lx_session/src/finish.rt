@@ -6,7 +6,7 @@ ghost use Rattle.lx_io.specs.Puts.{Puts, HasSinkCause};
 ghost use Rattle.lx_spec.specs.Desk.{Desk};
 ghost use Rattle.lx_spec.specs.Replies.{is_quit, frame_text, row_text};
 ghost use Rattle.lx_spec.specs.Output.{frame};
-ghost use Rattle.lx_script.specs.Answers.{reply_text};
+ghost use Rattle.lx_script.specs.ReplyTexts.{reply_text};
 ghost use Rattle.lx_console.specs.Slots.{universe as universe_in};
 ghost use Rattle.lx_console.specs.Standing.{StandsFor};
 ghost use Rattle.lx_spec.specs.ValidEdit.{ValidLine};

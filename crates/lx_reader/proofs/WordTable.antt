@@ -1,0 +1,16 @@
+-- The word that a token is, looked up in the table of words.
+use Rattle.std.proofs.Common.{◌≡◌, ℕ, List, Option, Some, None, refl, ap, ◌∙◌}
+use Rattle.std.specs.Prelude.{find, option_map, unwrap_or}
+use Rattle.std.specs.Option.{option_map_or}
+use Rattle.lx_spec.specs.declared.Word.{Word}
+use Rattle.lx_spec.specs.Text.{is_word}
+use Rattle.lx_spec.specs.Saying.{spellings, dollar_word, word_of}
+use Rattle.lx_lex.specs.WordTable.{looked_up}
+
+or_else : {A B : Type 0} (f : A → B) (o : Option A) (other : B) → option_map_or f o other ≡ unwrap_or (option_map f o) other
+or_else f None other = refl
+or_else f (Some x) other = refl
+
+-- the word that the table has, or that of the dollars
+pub word_is_found : (token : List ℕ) (found : Option Word) → looked_up spellings token ≡ found → word_of token ≡ unwrap_or found (dollar_word token)
+word_is_found token found is = or_else (λ (e : List ℕ × Word). e.1) (find (λ (e : List ℕ × Word). is_word e.0 token) spellings) (dollar_word token) ∙ ap (λ o. unwrap_or o (dollar_word token)) is
