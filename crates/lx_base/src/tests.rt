@@ -1,7 +1,8 @@
 use crate::{
-    CHANNELS, CUE_MAX, Chan, ChanRange, CueNo, DIMMERS, Dimmer, GROUPS, GroupNo, PARTS, PartNo,
-    SUBS, SubNo, of_percent, scale,
+    CHANNELS, CUE_MAX, Chan, ChanRange, CueNo, DIMMERS, Dimmer, GROUPS, GroupNo, Level, PARTS,
+    PartNo, SUBS, SubNo, next_change, of_percent, scale, scale_into,
 };
+use std::alloc::Global;
 use std::test::Fail;
 
 #[test]
@@ -33,18 +34,66 @@ fn scale_is_rounded_down(rt: HostRuntime) {
     }
 }
 
-/// The product of each pair of levels, divided by 255 and rounded down, in wider numbers.
+/// All pairs of levels, as two rows.
+fn all_pairs(alloc: Global) -> Result<(Vec<Level>, Vec<Level>), Fail> {
+    let mut levels = Vec::new(alloc);
+    let mut by = Vec::new(alloc);
+    for pair in 0..=u16::MAX {
+        levels.push((pair / 256) as u8)?;
+        by.push((pair % 256) as u8)?;
+    }
+    Ok((levels, by))
+}
+
+/// All pairs of levels in one row: the product, divided by 255 and rounded down, in wider numbers.
 #[test]
-fn each_pair_of_levels_is_scaled(rt: HostRuntime) {
-    for a in 0..256u32 {
-        for b in 0..256u32 {
-            let level = scale(a as u8, b as u8) as u32;
-            assert!(rt;
-                255 * level <= a * b && a * b < 255 * level + 255,
-                "{a} by {b}"
-            );
+fn each_pair_of_levels_is_scaled(rt: HostRuntime) -> Result<(), Fail> {
+    let (levels, by) = all_pairs(rt.alloc())?;
+    assert!(rt; levels.len() == 65_536 && by.len() == levels.len());
+    let mut out = vec![in rt.alloc(); 7; levels.len()]?;
+    scale_into(&levels, &by, &mut out);
+    for (i, level) in out.iter().enumerate() {
+        let product = levels[i] as u32 * by[i] as u32;
+        let times = 255 * *level as u32;
+        assert!(rt; times <= product && product < times + 255, "at {i}");
+    }
+    Ok(())
+}
+
+/// Lengths that end before 32 levels, with them and past them.
+const LENGTHS: [usize; 7] = [0, 1, 31, 32, 33, 2_048, 8_192];
+
+#[test]
+fn a_row_of_any_length_is_scaled_to_its_end(rt: HostRuntime) -> Result<(), Fail> {
+    for length in LENGTHS {
+        let levels = vec![in rt.alloc(); 200; length]?;
+        let by = vec![in rt.alloc(); 51; length]?;
+        let mut out = vec![in rt.alloc(); 7; length]?;
+        scale_into(&levels, &by, &mut out);
+        for level in out.iter() {
+            assert_eq!(rt; *level, 40, "of {length}");
         }
     }
+    Ok(())
+}
+
+/// A change at the first place, in the middle, at the last place and nowhere.
+#[test]
+fn the_next_change_is_found_in_a_row_of_any_length(rt: HostRuntime) -> Result<(), Fail> {
+    for length in LENGTHS {
+        let old = vec![in rt.alloc(); 7; length]?;
+        assert_eq!(rt; next_change(&old, &old, 0), None, "of {length}");
+        for at in [0, length / 2, length.saturating_sub(1)] {
+            let mut new = vec![in rt.alloc(); 7; length]?;
+            if at < length {
+                new[at] = 8;
+                assert_eq!(rt; next_change(&old, &new, 0), Some(at), "of {length}");
+                assert_eq!(rt; next_change(&old, &new, at), Some(at), "of {length}");
+                assert_eq!(rt; next_change(&old, &new, at + 1), None, "of {length}");
+            }
+        }
+    }
+    Ok(())
 }
 
 #[test]
