@@ -7,7 +7,7 @@ use Rattle.lx_base.specs.declared.TheConstants.{INPUT_BYTES}
 use Rattle.lx_io.specs.Puts.{AppendsFront}
 use Rattle.lx_io.proofs.Chain.{AppendsFront-from}
 use Rattle.lx_lex.specs.declared.lines.Lines.{Lines}
-use Rattle.lx_lex.specs.Lines.{HasNoFeed, TookLines, first_lines}
+use Rattle.lx_lex.specs.Lines.{TookLines}
 use Rattle.lx_lex.specs.Unread.{unread}
 use Rattle.lx_lex.proofs.TakenLines.{lines_within}
 use Rattle.lx_lex.proofs.FirstLines.{first_lines-more, first_lines-longer}
@@ -17,22 +17,21 @@ use Rattle.lx_spec.specs.declared.TextFault.TheVariants as texts_of
 use Rattle.lx_spec.specs.Text.{lines_of}
 use Rattle.lx_spec.specs.Desk.{Desk, opened}
 use Rattle.lx_spec.specs.Reading.{Reading, reads}
-use Rattle.lx_spec.specs.Jobs.{script_of, over_show, fault_text}
-use Rattle.lx_spec.specs.Replies.{begun}
+use Rattle.lx_spec.specs.CutInput.{HasNoFeed, first_lines}
+use Rattle.lx_spec.specs.RenderOutput.{script_of, lines_read, first_replies, input_lines_wanted, input_wanted, render_output, OutputPlacesAreEdits}
+use Rattle.lx_spec.specs.FaultLine.{over_show, fault_text}
+use Rattle.lx_spec.specs.Session.{begin_at, ends_script, replies, lines_wanted, bytes_wanted, after_first}
+use Rattle.lx_spec.specs.RefusedPlaces.{PlacesAreEdits}
 use Rattle.lx_reader.specs.declared.loaded.Loaded.{Loaded}
 use Rattle.lx_reader.specs.declared.fault.ShowFault.{ShowFault}
 use Rattle.lx_reader.specs.declared.fault.ShowFault.TheVariants as faults
 use Rattle.lx_reader.specs.Told.{fault_told}
-use Rattle.lx_reader.specs.ReadLines.{lines_read}
 use Rattle.lx_reader.specs.HandedLines.{MeansFault, IsPastLimit, IsCutShort}
 use Rattle.lx_reader.specs.Loading.{reading_of, HasRead, OfText, CutShort}
-use Rattle.lx_session.specs.Meaning.{ends_script, replies_of}
-use Rattle.lx_session.specs.Attempts.{WantsAtEdits}
-use Rattle.lx_session.specs.Scripts.{lines_wanted, bytes_wanted, after_first}
 use Rattle.lx_session.proofs.Places.{wants_nothing}
 use Rattle.cuedesk.specs.declared.desk.Status.{Status}
 use Rattle.cuedesk.specs.declared.desk.Status.TheVariants as status
-use Rattle.cuedesk.specs.Output.{output_of, MayWantOf, WritesAll, WritesFront, WritesTaken, Answers, AnswersInFront, AnswersTaken, first_replies, lines_wanted_of, input_wanted}
+use Rattle.cuedesk.specs.Output.{WritesAll, WritesFront, WritesTaken, AnswersScript, AnswersInFront, AnswersTaken}
 use Rattle.cuedesk.specs.Refused.{RefusedBy, status_kept}
 
 -- a whole text is a front of itself, and nothing is one of any
@@ -45,27 +44,27 @@ front_nothing a text = AppendsFront-from a a text 0 (Appends-nil a)
 no_place : (n m : ℕ) → false ≡ true → n ≤ m
 no_place n m e = absurd cc
 
-pub nothing_wanted : (bytes : List ℕ) (r : Result Reading TextFault) → MayWantOf bytes [] r
-nothing_wanted bytes (Ok reading) = wants_nothing [] (begun (opened reading.show)) (before_first ends_script (script_of bytes)) (λ n has. no_place n 0 has)
+pub nothing_wanted : (bytes : List ℕ) (r : Result Reading TextFault) → OutputPlacesAreEdits bytes [] r
+nothing_wanted bytes (Ok reading) = wants_nothing [] (begin_at (opened reading.show)) (before_first ends_script (script_of bytes)) (λ n has. no_place n 0 has)
 nothing_wanted bytes (Err fault) = tt
 
 -- a front of nothing was written
 pub nothing_written : (o a : Option (List ℕ)) → IfSome o (λ bytes. WritesFront bytes a a)
 nothing_written None a = tt
-nothing_written (Some bytes) a = record { places = []; wants = nothing_wanted bytes (reads Moves bytes); text = front_nothing a (output_of bytes []) }
+nothing_written (Some bytes) a = record { places = []; wants = nothing_wanted bytes (reads Moves bytes); text = front_nothing a (render_output Moves bytes []) }
 
 pub nothing_answered : (o a : Option (List ℕ)) (d : Desk) → IfSome o (λ bytes. AnswersInFront d (lines_of bytes) a a)
 nothing_answered None a d = tt
-nothing_answered (Some bytes) a d = record { places = []; wants = wants_nothing [] (begun d) (before_first ends_script (lines_of bytes)) (λ n has. no_place n 0 has); text = front_nothing a (replies_of d (lines_of bytes) []) }
+nothing_answered (Some bytes) a d = record { places = []; wants = wants_nothing [] (begin_at d) (before_first ends_script (lines_of bytes)) (λ n has. no_place n 0 has); text = front_nothing a (replies d (lines_of bytes) []) }
 
 -- what the session answered is what the program writes
-answer_at : (bytes left : List ℕ) (reading : Reading) (h h' : Option (List ℕ)) → reads Moves bytes ≡ Ok reading → script_of bytes ≡ lines_of left → Answers (opened reading.show) (lines_of left) h h'
+answer_at : (bytes left : List ℕ) (reading : Reading) (h h' : Option (List ℕ)) → reads Moves bytes ≡ Ok reading → script_of bytes ≡ lines_of left → AnswersScript (opened reading.show) (lines_of left) h h'
     → WritesAll bytes h h' × IsOk (reads Moves bytes)
 answer_at bytes left reading h h' read script a = (
   record {
     places = a.places;
-    wants = subst (λ r. MayWantOf bytes a.places r) (sym read) (subst (λ ls. WantsAtEdits a.places (begun (opened reading.show)) (before_first ends_script ls)) (sym script) a.wants);
-    text = subst (λ (t : List ℕ). Appends h h' t) (sym (ap (λ r. over_show r (λ x. replies_of (opened x.show) (script_of bytes) a.places)) read ∙ ap (λ ls. replies_of (opened reading.show) ls a.places) script)) a.text;
+    wants = subst (λ r. OutputPlacesAreEdits bytes a.places r) (sym read) (subst (λ ls. PlacesAreEdits (opened reading.show) ls a.places) (sym script) a.wants);
+    text = subst (λ (t : List ℕ). Appends h h' t) (sym (ap (λ r. over_show r (λ x. replies (opened x.show) (script_of bytes) a.places)) read ∙ ap (λ ls. replies (opened reading.show) ls a.places) script)) a.text;
   },
   subst (λ (r : Result Reading TextFault). IsOk r) (sym read) refl,
 )
@@ -73,8 +72,8 @@ answer_at bytes left reading h h' read script a = (
 front_at : (bytes left : List ℕ) (reading : Reading) (h h' : Option (List ℕ)) → reads Moves bytes ≡ Ok reading → script_of bytes ≡ lines_of left → AnswersInFront (opened reading.show) (lines_of left) h h' → WritesFront bytes h h'
 front_at bytes left reading h h' read script a = record {
   places = a.places;
-  wants = subst (λ r. MayWantOf bytes a.places r) (sym read) (subst (λ ls. WantsAtEdits a.places (begun (opened reading.show)) (before_first ends_script ls)) (sym script) a.wants);
-  text = subst (λ (t : List ℕ). AppendsFront h h' t) (sym (ap (λ r. over_show r (λ x. replies_of (opened x.show) (script_of bytes) a.places)) read ∙ ap (λ ls. replies_of (opened reading.show) ls a.places) script)) a.text;
+  wants = subst (λ r. OutputPlacesAreEdits bytes a.places r) (sym read) (subst (λ ls. PlacesAreEdits (opened reading.show) ls a.places) (sym script) a.wants);
+  text = subst (λ (t : List ℕ). AppendsFront h h' t) (sym (ap (λ r. over_show r (λ x. replies (opened x.show) (script_of bytes) a.places)) read ∙ ap (λ ls. replies (opened reading.show) ls a.places) script)) a.text;
 }
 
 over_read : (a b : Option (List ℕ)) (i j : ℕ) (raws : List (List ℕ)) (P Q : List ℕ → Type 0) (R : List ℕ → List ℕ → Type 0) → TookLines a b i j raws → IfSome a P → IfSome a (λ x. IfSome b (R x)) → IfSome b Q → (S : List ℕ → Type 0) → ((x y : List ℕ) → P x → R x y → Q y → S x) → IfSome a S
@@ -83,7 +82,7 @@ over_read (Some x) None i j raws P Q R took p r q S f = absurd took.took
 over_read (Some x) (Some y) i j raws P Q R took p r q S f = f x y p r q
 
 pub session_text : {S : Type 0} (left : S → Option (List ℕ)) (faults : S → ℕ) (a b : Lines S) (loaded : Loaded) (o h h' : Option (List ℕ)) → unread left a ≡ o → HasRead left faults a b loaded
-    → IfSome (unread left b) (λ bytes. Answers (opened loaded.show) (lines_of bytes) h h') → IfSome o (λ bytes. WritesAll bytes h h' × IsOk (reads Moves bytes))
+    → IfSome (unread left b) (λ bytes. AnswersScript (opened loaded.show) (lines_of bytes) h h') → IfSome o (λ bytes. WritesAll bytes h h' × IsOk (reads Moves bytes))
 session_text left faults a b loaded o h h' is r answers =
     subst (λ (v : Option (List ℕ)). IfSome v (λ bytes. WritesAll bytes h h' × IsOk (reads Moves bytes))) is
     (over_read (unread left a) (unread left b) a.taken b.taken _ _ _ _ r.means.handed.took r.means.text r.means.script answers _ (λ x y read script answer. answer_at x y (reading_of loaded) h h' read script answer))
@@ -96,17 +95,17 @@ session_front left faults a b loaded o h h' is r answers =
 
 -- of a show that is read the lines that were handed out are wanted, and then those of the script
 wanted_read : (x y : List ℕ) (i j : ℕ) (raws : List (List ℕ)) (reading : Reading) → i ≡ 0 → TookLines (Some x) (Some y) i j raws
-    → lines_read (lines_of x) ≡ length raws → reads Moves x ≡ Ok reading → script_of x ≡ lines_of y → length (input_wanted x) ≡ j + length (bytes_wanted y)
+    → lines_read (lines_of x) ≡ length raws → reads Moves x ≡ Ok reading → script_of x ≡ lines_of y → length (input_wanted Moves x) ≡ j + length (bytes_wanted y)
 wanted_read x y i j raws reading none took shown text script =
-    let n : lines_wanted_of x (reads Moves x) ≡ length raws + lines_wanted (lines_of y) = ap (lines_wanted_of x) text ∙ ap (λ m. m + lines_wanted (script_of x)) shown ∙ ap (λ s. length raws + lines_wanted s) script in
+    let n : input_lines_wanted x (reads Moves x) ≡ length raws + lines_wanted (lines_of y) = ap (input_lines_wanted x) text ∙ ap (λ m. m + lines_wanted (script_of x)) shown ∙ ap (λ s. length raws + lines_wanted s) script in
     let mine : took.bytes ≡ first_lines (length raws) (took.bytes ++ y) = took.front ∙ ap (first_lines (length raws)) took.took in
-    let bytes : input_wanted x ≡ took.bytes ++ bytes_wanted y = ap (λ k. first_lines k x) n ∙ ap (first_lines (length raws + lines_wanted (lines_of y))) took.took ∙ first_lines-more (length raws) (lines_wanted (lines_of y)) took.bytes y mine in
+    let bytes : input_wanted Moves x ≡ took.bytes ++ bytes_wanted y = ap (λ k. first_lines k x) n ∙ ap (first_lines (length raws + lines_wanted (lines_of y))) took.took ∙ first_lines-more (length raws) (lines_wanted (lines_of y)) took.bytes y mine in
     omega (arith, ap length bytes, length-append took.bytes (bytes_wanted y), took.count)
 
 -- the bytes that are wanted, where the session's are past the limit, or within it
 over_wanted : (a b : Option (List ℕ)) (i j n : ℕ) (raws : List (List ℕ)) (reading : Reading) (P : ℕ → Type 0) → i ≡ 0 → TookLines a b i j raws → n ≡ length raws
     → IfSome a (λ x. lines_read (lines_of x) ≡ n) → IfSome a (λ x. reads Moves x ≡ Ok reading) → IfSome a (λ x. IfSome b (λ y. script_of x ≡ lines_of y))
-    → IfSome b (λ y. P (j + length (bytes_wanted y))) → IfSome a (λ x. P (length (input_wanted x)))
+    → IfSome b (λ y. P (j + length (bytes_wanted y))) → IfSome a (λ x. P (length (input_wanted Moves x)))
 over_wanted None b i j n raws reading P none took count shown text script p = tt
 over_wanted (Some x) None i j n raws reading P none took count shown text script p = absurd took.took
 over_wanted (Some x) (Some y) i j n raws reading P none took count shown text script p = subst P (sym (wanted_read x y i j raws reading none took (shown ∙ count) text script)) p
@@ -115,17 +114,17 @@ one_more : (front : List (List ℕ)) (last : List ℕ) → length front + 1 ≡ 
 one_more front last = omega (arith, length-append front (last ∷ []))
 
 pub session_long : {S : Type 0} (left : S → Option (List ℕ)) (faults : S → ℕ) (a b : Lines S) (loaded : Loaded) (o : Option (List ℕ)) → unread left a ≡ o → a.taken ≡ 0 → HasRead left faults a b loaded
-    → IfSome (unread left b) (λ y. INPUT_BYTES < b.taken + length (bytes_wanted y)) → IfSome o (λ x. INPUT_BYTES < length (input_wanted x))
+    → IfSome (unread left b) (λ y. INPUT_BYTES < b.taken + length (bytes_wanted y)) → IfSome o (λ x. INPUT_BYTES < length (input_wanted Moves x))
 session_long left faults a b loaded o is none r long =
     let m = r.means in
-    subst (λ (v : Option (List ℕ)). IfSome v (λ x. INPUT_BYTES < length (input_wanted x))) is
+    subst (λ (v : Option (List ℕ)). IfSome v (λ x. INPUT_BYTES < length (input_wanted Moves x))) is
     (over_wanted (unread left a) (unread left b) a.taken b.taken (length m.front + 1) (m.front ++ m.last ∷ []) (reading_of loaded) (λ n. INPUT_BYTES < n) none m.handed.took (one_more m.front m.last) m.wanted m.text m.script long)
 
 pub session_fits : {S : Type 0} (left : S → Option (List ℕ)) (faults : S → ℕ) (a b : Lines S) (loaded : Loaded) (o : Option (List ℕ)) → unread left a ≡ o → a.taken ≡ 0 → HasRead left faults a b loaded
-    → IfSome (unread left b) (λ y. b.taken + length (bytes_wanted y) ≤ INPUT_BYTES) → IfSome o (λ x. length (input_wanted x) ≤ INPUT_BYTES)
+    → IfSome (unread left b) (λ y. b.taken + length (bytes_wanted y) ≤ INPUT_BYTES) → IfSome o (λ x. length (input_wanted Moves x) ≤ INPUT_BYTES)
 session_fits left faults a b loaded o is none r fits =
     let m = r.means in
-    subst (λ (v : Option (List ℕ)). IfSome v (λ x. length (input_wanted x) ≤ INPUT_BYTES)) is
+    subst (λ (v : Option (List ℕ)). IfSome v (λ x. length (input_wanted Moves x) ≤ INPUT_BYTES)) is
     (over_wanted (unread left a) (unread left b) a.taken b.taken (length m.front + 1) (m.front ++ m.last ∷ []) (reading_of loaded) (λ n. n ≤ INPUT_BYTES) none m.handed.took (one_more m.front m.last) m.wanted m.text m.script fits)
 
 -- The script was cut off behind a show that was read.
@@ -143,12 +142,13 @@ cut_behind x y left h h' i j raws reading none took shown text script a =
     let done : length raws + n - lines_read (lines_of x) ≡ n = omega (arith, shown) in
     record {
       places = a.places;
-      wants = subst (λ r. MayWantOf x a.places r) (sym text) (subst (λ ls. WantsAtEdits a.places (begun (opened reading.show)) (before_first ends_script ls)) (sym script) a.wants);
+      wants = subst (λ r. OutputPlacesAreEdits x a.places r) (sym text) (subst (λ ls. PlacesAreEdits (opened reading.show) ls a.places) (sym script) a.wants);
       cut = record {
         lines = length raws + n;
         next = a.cut.next;
         taken = if_known left _ _ a.cut.taken (λ rest e.
             took.took ∙ ap (λ v. took.bytes ++ v) e ∙ sym (append_assoc took.bytes (first_lines n y) (a.cut.next ++ rest)) ∙ ap (λ v. v ++ (a.cut.next ++ rest)) (sym first));
+        within = omega (arith, count, a.cut.within);
         no_feed = subst (λ k. HasNoFeed (take (INPUT_BYTES - k) a.cut.next)) count a.cut.no_feed;
       };
       text = subst (λ (t : List ℕ). Appends h h' t)
@@ -187,6 +187,7 @@ cut_within x left h i none short =
         lines = cut.lines;
         next = cut.next;
         taken = cut.taken;
+        within = let w = cut.within in omega (arith, none, w);
         no_feed = subst (λ k. HasNoFeed (take (INPUT_BYTES - (k + length (first_lines cut.lines x))) cut.next)) none cut.no_feed;
       };
       text = subst (λ (t : List ℕ). Appends h h t) (sym (ap (first_replies (reads Moves x) (script_of x) []) few ∙ none_replied (reads Moves x) (script_of x) [])) (Appends-nil h);
@@ -199,12 +200,12 @@ first_lines-length (suc k) (x ∷ xs) = omega (arith, first_lines-length (cond (
 
 -- A show that is refused.
 refused_fits : (a b : Option (List ℕ)) (i j n : ℕ) (raws : List (List ℕ)) (fault : TextFault) → i ≡ 0 → TookLines a b i j raws → (length raws ≡ n) ⊎ IsAtEnd b → IfSome a (λ x. reads Moves x ≡ Err fault) → IfSome a (λ x. lines_read (lines_of x) ≡ n)
-    → IfSome a (λ x. length (input_wanted x) ≤ INPUT_BYTES)
+    → IfSome a (λ x. length (input_wanted Moves x) ≤ INPUT_BYTES)
 refused_fits None b i j n raws fault none took whole text wanted = tt
 refused_fits (Some x) None i j n raws fault none took whole text wanted = absurd took.took
 refused_fits (Some x) (Some y) i j n raws fault none took whole text wanted =
-    let lines : lines_wanted_of x (reads Moves x) ≡ n = ap (lines_wanted_of x) text ∙ wanted in
-    let bytes : input_wanted x ≡ first_lines n x = ap (λ k. first_lines k x) lines in
+    let lines : input_lines_wanted x (reads Moves x) ≡ n = ap (input_lines_wanted x) text ∙ wanted in
+    let bytes : input_wanted Moves x ≡ first_lines n x = ap (λ k. first_lines k x) lines in
     elim whole [
       | inl here ↦ omega (arith, ap length bytes, lines_within (Some x) (Some y) i j raws n took (omega (arith, here)))
       | inr end ↦
@@ -212,7 +213,7 @@ refused_fits (Some x) (Some y) i j n raws fault none took whole text wanted =
           omega (arith, ap length bytes, first_lines-length n x, ap length all, took.count, took.within)
     ]
 
-fault_fits : {S : Type 0} (left : S → Option (List ℕ)) (a : Lines S) (fault : TextFault) → a.taken ≡ 0 → MeansFault left a fault → IfSome (unread left a) (λ x. length (input_wanted x) ≤ INPUT_BYTES)
+fault_fits : {S : Type 0} (left : S → Option (List ℕ)) (a : Lines S) (fault : TextFault) → a.taken ≡ 0 → MeansFault left a fault → IfSome (unread left a) (λ x. length (input_wanted Moves x) ≤ INPUT_BYTES)
 fault_fits left a fault none m = refused_fits (unread left a) m.unread_then a.taken m.taken_then m.count m.raws fault none m.took m.whole m.text m.wanted
 
 -- what the reader says of a fault of the text
@@ -231,7 +232,7 @@ text_at (Some x) h h' fault text appended = (
   record {
     places = [];
     wants = nothing_wanted x (reads Moves x);
-    text = subst (λ (v : List ℕ). Appends h h' v) (sym (ap (λ r. over_show r (λ reading. replies_of (opened reading.show) (script_of x) [])) text)) appended;
+    text = subst (λ (v : List ℕ). Appends h h' v) (sym (ap (λ r. over_show r (λ reading. replies (opened reading.show) (script_of x) [])) text)) appended;
   },
   subst (λ (r : Result Reading TextFault). IsErr r) (sym text) refl,
 )
@@ -241,20 +242,20 @@ text_front None h h' fault text appended = tt
 text_front (Some x) h h' fault text appended = record {
   places = [];
   wants = nothing_wanted x (reads Moves x);
-  text = subst (λ (v : List ℕ). AppendsFront h h' v) (sym (ap (λ r. over_show r (λ reading. replies_of (opened reading.show) (script_of x) [])) text)) appended;
+  text = subst (λ (v : List ℕ). AppendsFront h h' v) (sym (ap (λ r. over_show r (λ reading. replies (opened reading.show) (script_of x) [])) text)) appended;
 }
 
 -- a show that is too long
-more_wanted : (x : List ℕ) (n : ℕ) (r : Result Reading TextFault) → n + 1 ≤ lines_read (lines_of x) → n + 1 ≤ lines_wanted_of x r
+more_wanted : (x : List ℕ) (n : ℕ) (r : Result Reading TextFault) → n + 1 ≤ lines_read (lines_of x) → n + 1 ≤ input_lines_wanted x r
 more_wanted x n (Ok reading) h = omega (arith, h)
 more_wanted x n (Err i) h = h
 
-long_input : (i : ℕ) (o : Option (List ℕ)) → i ≡ 0 → IfSome o (IsPastLimit i) → IfSome o (λ x. INPUT_BYTES < length (input_wanted x))
+long_input : (i : ℕ) (o : Option (List ℕ)) → i ≡ 0 → IfSome o (IsPastLimit i) → IfSome o (λ x. INPUT_BYTES < length (input_wanted Moves x))
 long_input i None none long = tt
 long_input i (Some x) none long =
     let lt = long.wanted in
     let wanted = more_wanted x long.n (reads Moves x) (omega (arith, lt)) in
-    omega (arith, long.long, first_lines-longer (long.n + 1) (lines_wanted_of x (reads Moves x)) x wanted)
+    omega (arith, long.long, first_lines-longer (long.n + 1) (input_lines_wanted x (reads Moves x)) x wanted)
 
 -- What the reader's fault and the status of its refusal say.
 abbrev Says : {S : Type 0} → (S → Option (List ℕ)) → Lines S → Lines S → ShowFault → Type 0
@@ -289,10 +290,10 @@ refusal_front left a b o h h' fault s is says by = elim by [
 ]
 
 pub refusal_fits : {S : Type 0} (left : S → Option (List ℕ)) (a b : Lines S) (o h h' : Option (List ℕ)) (fault : ShowFault) (s : Status) → unread left a ≡ o → a.taken ≡ 0 → Says left a b fault → RefusedBy h h' fault s → s ≡ status.ShowRefused
-    → IfSome o (λ x. length (input_wanted x) ≤ INPUT_BYTES)
+    → IfSome o (λ x. length (input_wanted Moves x) ≤ INPUT_BYTES)
 refusal_fits left a b o h h' fault s is none says by refused = elim by [
-  | inl text ↦ subst (λ (v : Option (List ℕ)). IfSome v (λ x. length (input_wanted x) ≤ INPUT_BYTES)) is (fault_fits left a text.text none (means_of left a b fault text.text text.told says))
-  | inr other ↦ not_refused fault s (IfSome o (λ x. length (input_wanted x) ≤ INPUT_BYTES)) other.is refused
+  | inl text ↦ subst (λ (v : Option (List ℕ)). IfSome v (λ x. length (input_wanted Moves x) ≤ INPUT_BYTES)) is (fault_fits left a text.text none (means_of left a b fault text.text text.told says))
+  | inr other ↦ not_refused fault s (IfSome o (λ x. length (input_wanted Moves x) ≤ INPUT_BYTES)) other.is refused
 ]
 
 long_kept : (fault : ShowFault) (s : Status) → status_kept fault s → s ≡ status.InputTooLong → fault ≡ faults.InputTooLong
@@ -311,11 +312,24 @@ kinds_long : (s : Status) (P : Type 0) → (s ≡ status.ShowRefused) ⊎ ((s �
 kinds_long s P kinds is = elim kinds [ inl a ↦ absurd cc | inr b ↦ elim b [ inl x ↦ absurd cc | inr y ↦ absurd cc ] ]
 
 pub refusal_long : {S : Type 0} (left : S → Option (List ℕ)) (a b : Lines S) (o h h' : Option (List ℕ)) (fault : ShowFault) (s : Status) → unread left a ≡ o → a.taken ≡ 0 → Says left a b fault → RefusedBy h h' fault s → s ≡ status.InputTooLong
-    → IfSome o (λ x. INPUT_BYTES < length (input_wanted x))
+    → IfSome o (λ x. INPUT_BYTES < length (input_wanted Moves x))
 refusal_long left a b o h h' fault s is none says by long = elim by [
-  | inl text ↦ kinds_long s (IfSome o (λ x. INPUT_BYTES < length (input_wanted x))) text.kinds long
-  | inr other ↦ subst (λ (v : Option (List ℕ)). IfSome v (λ x. INPUT_BYTES < length (input_wanted x))) is (long_input a.taken (unread left a) none (subst (λ f. Says left a b f) (long_kept fault s other.is long) says).0)
+  | inl text ↦ kinds_long s (IfSome o (λ x. INPUT_BYTES < length (input_wanted Moves x))) text.kinds long
+  | inr other ↦ subst (λ (v : Option (List ℕ)). IfSome v (λ x. INPUT_BYTES < length (input_wanted Moves x))) is (long_input a.taken (unread left a) none (subst (λ f. Says left a b f) (long_kept fault s other.is long) says).0)
 ]
+
+-- a fault that isn't one of the text is told as want of memory only where it is one
+pub memory_kept : (fault : ShowFault) (s : Status) → status_kept fault s → s ≡ status.Memory → fault ≡ faults.Memory
+memory_kept (faults.NoIdent i) s kept is = absurd kept
+memory_kept (faults.BadNumber i) s kept is = absurd kept
+memory_kept (faults.OutOfRange i) s kept is = absurd kept
+memory_kept (faults.NotInRecord i) s kept is = absurd kept
+memory_kept (faults.LineTooLong i) s kept is = absurd kept
+memory_kept (faults.ShortList i) s kept is = absurd kept
+memory_kept (faults.NoEndData i) s kept is = absurd kept
+memory_kept faults.ReadFault s kept is = absurd cc
+memory_kept faults.InputTooLong s kept is = absurd cc
+memory_kept faults.Memory s kept is = refl
 
 cut_kept : {S : Type 0} (left : S → Option (List ℕ)) (a b : Lines S) (fault : ShowFault) (s : Status) → status_kept fault s → (s ≡ status.ReadFault) ⊎ (s ≡ status.InputTooLong) → Says left a b fault → CutShort left a b
 cut_kept left a b (faults.NoIdent i) s kept is says = absurd kept

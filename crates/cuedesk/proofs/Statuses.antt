@@ -3,11 +3,11 @@ use Rattle.std.proofs.Common.{◌≡◌, ◌⊎◌, inl, inr, Bool, true, false,
 use Rattle.lx_spec.specs.Text.{lines_of}
 use Rattle.lx_spec.specs.Desk.{Desk}
 use Rattle.lx_spec.specs.Stands.{Kept}
+use Rattle.lx_spec.specs.Session.{replies}
 use Rattle.lx_console.specs.Standing.{StandsFor}
 use Rattle.lx_session.specs.declared.fault.SessionFault.{SessionFault}
 use Rattle.lx_session.specs.declared.fault.SessionFault.TheVariants as faults
 use Rattle.lx_session.specs.declared.tally.Tally.{Tally}
-use Rattle.lx_session.specs.Meaning.{replies_of}
 use Rattle.lx_session.specs.Scripts.{AnswersAll, AnswersFront, AnswersLines}
 use Rattle.lx_session.specs.Faults.{is_of_sink}
 use Rattle.lx_session.proofs.Ends.{front_of_all, whole_of_all}
@@ -53,7 +53,7 @@ pub answered_front : (o unread left h h' : Option (List ℕ)) (d : Desk) (taken 
     → IfErr r (λ fault. is_of_sink fault ≡ true → (d : Desk) → StandsFor d before → IfSome o (λ bytes. AnswersFront d bytes unread h h' console))
     → IfErr r (λ fault. is_of_sink fault ≡ false → (d : Desk) → StandsFor d before → IfSome o (λ bytes. AnswersLines d taken bytes left h h' console))
     → IfSome o (λ bytes. AnswersInFront d (lines_of bytes) h h')
-answered_front o unread left h h' d taken before console (Ok tally) stands all sink source = over o _ _ (all d stands) (λ xs a. record { places = a.places; wants = a.wants; text = whole_front h h' (replies_of d (lines_of xs) a.places) a.text })
+answered_front o unread left h h' d taken before console (Ok tally) stands all sink source = over o _ _ (all d stands) (λ xs a. record { places = a.places; wants = a.wants; text = whole_front h h' (replies d (lines_of xs) a.places) a.text })
 answered_front o unread left h h' d taken before console (Err e) stands all sink source = faulted_front o unread left h h' d taken console e (is_of_sink e) refl (λ is. sink is d stands) (λ is. source is d stands)
 
 -- what was taken of the script was answered

@@ -5,7 +5,8 @@ ghost use Rattle.lx_base.specs.declared.TheConstants.{INPUT_BYTES};
 ghost use Rattle.lx_io.specs.Causes.{Rose};
 ghost use Rattle.lx_spec.specs.Reading.{reads};
 ghost use Rattle.lx_spec.specs.declared.Form.TheVariants.{Moves};
-ghost use Rattle.cuedesk.specs.Output.{WritesAll, WritesFront, WritesTaken, input_wanted};
+ghost use Rattle.lx_spec.specs.RenderOutput.{input_wanted};
+ghost use Rattle.cuedesk.specs.Output.{WritesAll, WritesFront, WritesTaken};
 
 use crate::play::play;
 use crate::refuse::refuse;
@@ -65,8 +66,8 @@ pub fn desk<S: Source, K: Sink>(
     // Each other status has its cause. Want of memory alone is free.
     ensures read { result ≡ Status.ReadFault → Rose (S.faults input.old) (S.faults input.new) }
     ensures write { result ≡ Status.WriteFault → Rose (K.faults output.old) (K.faults output.new) }
-    ensures long { result ≡ Status.InputTooLong → IfSome (S.left input.old) (λ bytes. INPUT_BYTES < length (input_wanted bytes)) }
-    ensures within { (result ≡ Status.Ok) ⊎ (result ≡ Status.ShowRefused) → IfSome (S.left input.old) (λ bytes. length (input_wanted bytes) ≤ INPUT_BYTES) }
+    ensures long { result ≡ Status.InputTooLong → IfSome (S.left input.old) (λ bytes. INPUT_BYTES < length (input_wanted Moves bytes)) }
+    ensures within { (result ≡ Status.Ok) ⊎ (result ≡ Status.ShowRefused) → IfSome (S.left input.old) (λ bytes. length (input_wanted Moves bytes) ≤ INPUT_BYTES) }
 {
     if !is_render(words) {
         return Status::Usage;

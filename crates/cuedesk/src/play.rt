@@ -6,9 +6,9 @@ ghost use Rattle.lx_io.specs.Causes.{Rose};
 ghost use Rattle.lx_lex.specs.Unread.{unread};
 ghost use Rattle.lx_spec.specs.Text.{lines_of};
 ghost use Rattle.lx_spec.specs.Desk.{opened};
-ghost use Rattle.lx_session.specs.Scripts.{bytes_wanted};
+ghost use Rattle.lx_spec.specs.Session.{bytes_wanted};
 ghost use Rattle.cuedesk.specs.Faults.{status_for};
-ghost use Rattle.cuedesk.specs.Output.{Answers, AnswersInFront, AnswersTaken};
+ghost use Rattle.cuedesk.specs.Output.{AnswersScript, AnswersInFront, AnswersTaken};
 
 use crate::desk::Status;
 use lx_console::Console;
@@ -18,7 +18,7 @@ use lx_session::{SessionFault, Tally, session};
 use lx_show::Show;
 use std::alloc::Global;
 
-/// Answers the script that is left over a show, from its opening on.
+/// AnswersScript the script that is left over a show, from its opening on.
 pub(crate) fn play<S: Source, K: Sink>(
     alloc: Global,
     show: Show,
@@ -28,7 +28,7 @@ pub(crate) fn play<S: Source, K: Sink>(
     requires going { IsTrue lines.old.going }
     requires within { lines.old.taken ≤ INPUT_BYTES }
     ensures same_reference { lines.new.source.ghost_name ≡ lines.old.source.ghost_name }
-    ensures ok { result ≡ Status.Ok → IfSome (unread S.left lines.old) (λ bytes. Answers (opened show) (lines_of bytes) (K.holds output.old) (K.holds output.new)) }
+    ensures ok { result ≡ Status.Ok → IfSome (unread S.left lines.old) (λ bytes. AnswersScript (opened show) (lines_of bytes) (K.holds output.old) (K.holds output.new)) }
     ensures front { IfSome (unread S.left lines.old) (λ bytes. AnswersInFront (opened show) (lines_of bytes) (K.holds output.old) (K.holds output.new)) }
     ensures unread { (result ≡ Status.ReadFault) ⊎ (result ≡ Status.InputTooLong) → IfSome (unread S.left lines.old) (λ bytes. AnswersTaken (opened show) lines.old.taken bytes (S.left lines.new.source.now) (K.holds output.old) (K.holds output.new)) }
     ensures usage { result ≢ Status.Usage }

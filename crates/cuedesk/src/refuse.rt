@@ -6,7 +6,7 @@ ghost use Rattle.std.specs.Io.KnownBytes.{Appends, Keeps};
 ghost use Rattle.lx_io.specs.Causes.{Rose};
 ghost use Rattle.lx_io.specs.Puts.{AppendsFront, Puts};
 ghost use Rattle.lx_spec.specs.ShowText.{line as text_line};
-ghost use Rattle.lx_spec.specs.Jobs.{fault_text};
+ghost use Rattle.lx_spec.specs.FaultLine.{fault_text};
 ghost use Rattle.lx_reader.specs.Told.{fault_told};
 ghost use Rattle.cuedesk.specs.Refused.{RefusedBy, status_kept};
 
@@ -20,6 +20,7 @@ use lx_spec::TextFault;
 pub(crate) fn refuse<K: Sink>(fault: ShowFault, output: &mut K) -> Status
     ensures refused { RefusedBy (K.holds output.old) (K.holds output.new) fault result }
     ensures write { result ≡ Status.WriteFault → Rose (K.faults output.old) (K.faults output.new) }
+    ensures memory { result ≡ Status.Memory → (fault ≡ ShowFault.Memory) ⊎ Rose (K.wants output.old) (K.wants output.new) }
 {
     match text_fault(fault) {
         Ok(fault) => write_fault(fault, output),
@@ -52,6 +53,7 @@ fn write_fault<K: Sink>(fault: TextFault, output: &mut K) -> Status
     ensures front { AppendsFront (K.holds output.old) (K.holds output.new) (fault_text fault) }
     ensures kinds { (result ≡ Status.ShowRefused) ⊎ ((result ≡ Status.WriteFault) ⊎ (result ≡ Status.Memory)) }
     ensures write { result ≡ Status.WriteFault → Rose (K.faults output.old) (K.faults output.new) }
+    ensures memory { result ≡ Status.Memory → Rose (K.wants output.old) (K.wants output.new) }
 {
     match put_and_flush(fault, output) {
         Ok(()) => Status::ShowRefused,

@@ -1,14 +1,14 @@
 -- What a console stands for, and what it has to tell of it.
-use Rattle.std.specs.Prelude.{◌≡◌, ◌⊎◌, ℕ, [], Bool, true, false, max, Result, Err, OnOk, IfErr, IsOk}
+use Rattle.std.specs.Prelude.{◌≡◌, ◌⊎◌, ℕ, [], true, max, Result, Err, OnOk, IfErr, IsOk}
 use Rattle.std.specs.Result.{IsOkAnd}
 use Rattle.lx_base.specs.Numbers.{scaled}
 use Rattle.lx_spec.specs.declared.Command.{Command}
-use Rattle.lx_spec.specs.declared.Command.TheVariants as commands
 use Rattle.lx_spec.specs.declared.Refusal.{Refusal}
 use Rattle.lx_spec.specs.declared.Refusal.TheVariants.{Memory}
 use Rattle.lx_spec.specs.Level.{level}
 use Rattle.lx_spec.specs.Playback.{Playback}
 use Rattle.lx_spec.specs.Desk.{Desk, step}
+use Rattle.lx_spec.specs.RefusedPlaces.{is_edit}
 use Rattle.lx_spec.specs.Output.{contribution}
 use Rattle.lx_spec.specs.Stands.{Kept, kept}
 use Rattle.lx_spec.specs.Laws.{KeepsRest}
@@ -30,12 +30,6 @@ pub record StandsFor (d : Desk) (console : Kept) : Type 0 where
 pub record Obeys {A : Type 0} (d : Desk) (command : Command) (answer : Result A Refusal) (console : Kept) : Type 0 where
   pub ok : OnOk answer (IsOkAnd (step d command) (λ next. StandsFor next console))
   pub err : IfErr answer (λ refusal. step d command ≡ Err refusal)
-
--- the command is an edit
-abbrev pub is_edit : Command → Bool
-is_edit (commands.Edit edit) = true
-is_edit (commands.Key key) = false
-is_edit commands.Tick = false
 
 -- want of memory refuses an edit that the desk accepts
 pub record WantsMemory (d : Desk) (command : Command) (refusal : Refusal) : Type 0 where

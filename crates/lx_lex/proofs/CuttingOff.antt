@@ -2,11 +2,12 @@
 use Rattle.std.proofs.Common.{◌≡◌, ◌⊎◌, inl, inr, ℕ, zero, suc, ◌+◌, ◌-◌, ◌≤◌, ◌<◌, Bool, true, false, Option, Some, None, IfSome, List, [], ◌∷◌, ◌++◌, length, take, refl, sym, ap, ◌∙◌, subst, append-nil, append_assoc, length-append, arith}
 use Rattle.std.specs.Io.KnownBytes.{prepend_known}
 use Rattle.lx_base.specs.declared.TheConstants.{INPUT_BYTES}
+use Rattle.lx_spec.specs.CutInput.{HasNoFeed, first_lines, CutOff}
 use Rattle.lx_lex.specs.declared.lines.Lines.{Lines}
 use Rattle.lx_lex.specs.declared.lines.Step.TheVariants.{ReadFault, InputTooLong}
-use Rattle.lx_lex.specs.Lines.{HasNoFeed, feed_of, Took, TookLines, StepOf, first_lines}
+use Rattle.lx_lex.specs.Lines.{feed_of, Took, TookLines, StepOf}
 use Rattle.lx_lex.specs.Unread.{held, unread, line_of}
-use Rattle.lx_lex.specs.CutOff.{NotTaken, CutOff}
+use Rattle.lx_lex.specs.CutOff.{NotTaken}
 use Rattle.lx_lex.proofs.Progress.{HasNoFeed-append}
 
 -- the next line wasn't taken: a read failed, or the input is too long
@@ -48,6 +49,7 @@ cut_at (Some x) (Some y) (Some z) i j k more raws raw fed p q stop = (
     lines = length raws;
     next = (raw ++ feed_of fed) ++ more;
     taken = p.took ∙ ap (λ v. v ++ y) p.front ∙ ap (λ v. first_lines (length raws) x ++ v) (q.bytes ∙ sym (append_assoc (raw ++ feed_of fed) more z));
+    within = omega (arith, p.count, ap length p.front, p.within);
     no_feed = elim stop [
       | inl past ↦ within_limit (INPUT_BYTES - (i + length (first_lines (length raws) x))) raw more fed (omega (arith, past, p.count, q.count, ap length p.front, p.within)) q.no_feed
       | inr held ↦ all_held (INPUT_BYTES - (i + length (first_lines (length raws) x))) raw more fed held.0 held.1 q.no_feed

@@ -6,9 +6,10 @@ use Rattle.std.proofs.KnownBytes.{Consumes-trans}
 use Rattle.std.proofs.Math.Seq.{take-append_seam}
 use Rattle.std.proofs.lemmas.List.{map-append}
 use Rattle.lx_base.specs.declared.TheConstants.{INPUT_BYTES}
+use Rattle.lx_spec.specs.CutInput.{HasNoFeed, first_lines}
 use Rattle.lx_spec.specs.Text.{cut_lines, without_cr, lines_of}
 use Rattle.lx_lex.specs.declared.lines.Step.TheVariants.{InputTooLong}
-use Rattle.lx_lex.specs.Lines.{HasNoFeed, feed_of, TookLine, TookLines, StepOf, first_lines}
+use Rattle.lx_lex.specs.Lines.{feed_of, TookLine, TookLines, StepOf}
 use Rattle.lx_lex.proofs.FirstLines.{cut_lines-feed, cut_lines-last, first_lines-none, first_lines-feed, first_lines-last, first_lines-front, first_lines-more, first_lines-longer}
 
 -- no line was taken yet

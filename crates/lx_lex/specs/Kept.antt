@@ -1,8 +1,9 @@
 -- What is kept of a line while it is read.
 use Rattle.std.specs.Prelude.{ℕ, ◌+◌, ◌≤◌, ◌≡◌, Bool, List, ◌++◌, length, take}
 use Rattle.lx_base.specs.declared.TheConstants.{LINE_BYTES}
+use Rattle.lx_spec.specs.CutInput.{HasNoFeed}
 use Rattle.lx_spec.specs.Text.{without_cr}
-use Rattle.lx_lex.specs.Lines.{HasNoFeed, feed_of}
+use Rattle.lx_lex.specs.Lines.{feed_of}
 
 -- the first `total` bytes of the line's buffer are these, where they have room
 pub record Keeps (raw : List ℕ) (before after : List ℕ) (total total' : ℕ) : Type 0 where

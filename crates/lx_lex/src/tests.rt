@@ -1,8 +1,8 @@
 ghost use Rattle.std.specs.Prelude.{◌≡◌, ◌<◌, ◌≤◌, ◌+◌, ◌-◌, max, nat_le, None, IsTrue, IfSome, fold, length, if◌then◌else◌};
 ghost use Rattle.lx_base.specs.declared.TheConstants.{INPUT_BYTES, LINE_BYTES};
 ghost use Rattle.lx_io.specs.Causes.{Rose};
+ghost use Rattle.lx_spec.specs.CutInput.{first_lines};
 ghost use Rattle.lx_spec.specs.Text.{lines_of};
-ghost use Rattle.lx_lex.specs.Lines.{first_lines};
 ghost use Rattle.lx_lex.specs.Unread.{unread};
 
 use crate::{Lines, Step, put_count, put_cue_no, put_hundredths, put_level, put_whole};

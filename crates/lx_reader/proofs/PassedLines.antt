@@ -5,17 +5,18 @@ use Rattle.std.specs.Io.KnownBytes.{IsAtEnd}
 use Rattle.std.proofs.Math.Seq.{take-append_seam}
 use Rattle.std.proofs.lemmas.List.{map-append, length-map}
 use Rattle.lx_base.specs.declared.TheConstants.{INPUT_BYTES}
+use Rattle.lx_spec.specs.CutInput.{first_lines, CutOff}
 use Rattle.lx_spec.specs.declared.TextFault.{TextFault}
 use Rattle.lx_spec.specs.declared.TextFault.TheVariants.{NoEndData}
 use Rattle.lx_spec.specs.Limits.{desk_limits}
 use Rattle.lx_spec.specs.Text.{tokens, without_cr, lines_of}
 use Rattle.lx_spec.specs.Saying.{Said, Facts, said}
 use Rattle.lx_spec.specs.Reading.{is_end}
-use Rattle.lx_spec.specs.Jobs.{script_of}
+use Rattle.lx_spec.specs.RenderOutput.{lines_read, script_of}
 use Rattle.lx_lex.specs.declared.lines.Lines.{Lines}
 use Rattle.lx_lex.specs.declared.lines.Step.TheVariants as steps
-use Rattle.lx_lex.specs.Lines.{StepOf, TookLines, first_lines}
-use Rattle.lx_lex.specs.CutOff.{NotTaken, CutOff}
+use Rattle.lx_lex.specs.Lines.{StepOf, TookLines}
+use Rattle.lx_lex.specs.CutOff.{NotTaken}
 use Rattle.lx_lex.specs.Handed.{HandedOut}
 use Rattle.lx_lex.specs.Unread.{unread, line_of}
 use Rattle.lx_lex.proofs.TakenLines.{next_too_long, all_texts, texts}
@@ -23,7 +24,7 @@ use Rattle.lx_lex.proofs.HandingOut.{handed_none, handed_then}
 use Rattle.lx_lex.proofs.CuttingOff.{cut_off}
 use Rattle.lx_reader.specs.Known.{facts_from, facts_after, IsSoundAt}
 use Rattle.lx_reader.specs.TakenUp.{Taken, nothing_taken, taken_up, reading_of_taken}
-use Rattle.lx_reader.specs.ReadLines.{reads_lines, lines_read, lines_after}
+use Rattle.lx_reader.specs.ReadLines.{reads_lines, lines_after}
 use Rattle.lx_reader.specs.HandedLines.{MeansShow, MeansFault, IsPastLimit, IsCutShort}
 use Rattle.lx_reader.proofs.ReadingOn.{ReadSoFar, Ended, Refused, read_none, read_sound, read_more, read_known, read_refused, read_ended, read_open, wanted_more, wanted_one}
 

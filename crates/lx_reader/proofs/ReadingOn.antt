@@ -23,7 +23,8 @@ use Rattle.lx_spec.specs.Reading.{reading_from, reading_or_fault, ends_reading, 
 use Rattle.lx_reader.specs.Stops.{IsOpen}
 use Rattle.lx_reader.specs.TakenUp.{Taken, later, nothing_taken, taken_up, reading_of_taken}
 use Rattle.lx_reader.specs.Known.{is_clear, part_in, facts_from, facts_by, facts_after, IsSoundAt}
-use Rattle.lx_reader.specs.ReadLines.{reads_lines, lines_read, lines_after}
+use Rattle.lx_spec.specs.RenderOutput.{lines_read}
+use Rattle.lx_reader.specs.ReadLines.{reads_lines, lines_after}
 use Rattle.lx_reader.proofs.Later.{any-more}
 use Rattle.lx_reader.proofs.Shows.{made, IsNamed}
 use Rattle.lx_reader.proofs.TakingUp.{since_cleared, IsTakenFrom, taken_none, taken_more, taken_reading, part_outside, skipped_few, since_more}

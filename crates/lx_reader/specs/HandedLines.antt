@@ -8,13 +8,13 @@ use Rattle.lx_spec.specs.declared.TextFault.{TextFault}
 use Rattle.lx_spec.specs.declared.TextFault.TheVariants.{NoEndData}
 use Rattle.lx_spec.specs.Text.{without_cr, lines_of}
 use Rattle.lx_spec.specs.Reading.{Reading, reads}
-use Rattle.lx_spec.specs.Jobs.{script_of}
+use Rattle.lx_spec.specs.CutInput.{CutOff, first_lines}
+use Rattle.lx_spec.specs.RenderOutput.{lines_read, script_of}
 use Rattle.lx_lex.specs.declared.lines.Lines.{Lines}
-use Rattle.lx_lex.specs.CutOff.{CutOff}
-use Rattle.lx_lex.specs.Lines.{TookLines, first_lines}
+use Rattle.lx_lex.specs.Lines.{TookLines}
 use Rattle.lx_lex.specs.Handed.{HandedOut}
 use Rattle.lx_lex.specs.Unread.{unread}
-use Rattle.lx_reader.specs.ReadLines.{reads_lines, lines_read}
+use Rattle.lx_reader.specs.ReadLines.{reads_lines}
 
 -- The lines up to ENDDATA, each without its LF, were handed out, and this is what they mean. Where the source tells its bytes, it is
 -- what its text means, of which no further line is wanted for the show, and the script is the lines that are left.

@@ -9,9 +9,9 @@ use Rattle.lx_spec.specs.SortedList.{Rises, entry_at}
 use Rattle.lx_spec.specs.Show.{Cue}
 use Rattle.lx_spec.specs.ShowText.{cue_number_text}
 use Rattle.lx_spec.specs.Replies.{cells, row_text}
-use Rattle.lx_spec.specs.Jobs.{kind_word, label_word}
+use Rattle.lx_spec.specs.SheetOutput.{kind_word, label_word, cue_line}
 use Rattle.lx_script.proofs.Texts.{spaced_more}
-use Rattle.lx_report.specs.CueLine.{cue_line, label_behind}
+use Rattle.lx_report.specs.CueLine.{label_behind}
 
 pub row_is : (n : ℕ) (row : List ℕ) → row_text n row ≡ codes "row " ++ (cue_number_text n ++ (flat_map (λ word. 32 ∷ word) (cells row) ++ 10 ∷ []))
 row_is n row =

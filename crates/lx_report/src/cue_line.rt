@@ -4,8 +4,8 @@
 ghost use Rattle.std.specs.Prelude.{◌≡◌, ◌++◌, ◌∷◌, length, codes, decimal};
 ghost use Rattle.lx_io.specs.Puts.{Puts};
 ghost use Rattle.lx_spec.specs.ShowText.{cue_number_text};
-ghost use Rattle.lx_spec.specs.Jobs.{kind_word};
-ghost use Rattle.lx_report.specs.CueLine.{cue_line, label_behind};
+ghost use Rattle.lx_spec.specs.SheetOutput.{kind_word, cue_line};
+ghost use Rattle.lx_report.specs.CueLine.{label_behind};
 
 use lx_io::{Sink, SinkFault, put_all};
 use lx_lex::{put_count, put_cue_no};

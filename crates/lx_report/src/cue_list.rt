@@ -3,11 +3,10 @@
 
 ghost use Rattle.std.specs.Prelude.{◌≡◌, ◌++◌, Some, flat_map};
 ghost use Rattle.lx_io.specs.Puts.{Puts};
-ghost use Rattle.lx_spec.specs.Jobs.{cue_lines};
+ghost use Rattle.lx_spec.specs.SheetOutput.{cue_line, cue_lines};
 ghost use Rattle.lx_spec.specs.Replies.{row_of, row_text};
 ghost use Rattle.lx_spec.specs.TrackedLevel.{cue_of};
 ghost use Rattle.lx_sheet.specs.Standing.{StandsFor};
-ghost use Rattle.lx_report.specs.CueLine.{cue_line};
 
 use crate::cue_line::put_cue_line;
 use crate::row::put_row;

@@ -10,10 +10,11 @@ use Rattle.lx_spec.specs.declared.Refusal.{Refusal}
 use Rattle.lx_spec.specs.declared.Refusal.TheVariants.{Memory}
 use Rattle.lx_spec.specs.Desk.{Desk, step}
 use Rattle.lx_spec.specs.Stands.{Kept}
-use Rattle.lx_spec.specs.Replies.{Session, Attempt, answered, attempt, and_then}
-use Rattle.lx_console.specs.Standing.{StandsFor, Refuses, is_edit}
-use Rattle.lx_session.specs.Turning.{Turning, command_of, next_of, turn_of}
-use Rattle.lx_session.specs.Attempts.{Attempted, attempts_of, attempts_for, WantsLast}
+use Rattle.lx_spec.specs.Session.{Session, Attempt, answered, attempt, and_then, command_of, attempts_of, attempts_for}
+use Rattle.lx_spec.specs.RefusedPlaces.{is_edit}
+use Rattle.lx_console.specs.Standing.{StandsFor, Refuses}
+use Rattle.lx_session.specs.Turning.{Turning, next_of}
+use Rattle.lx_session.specs.Attempts.{Attempted, WantsLast}
 use Rattle.lx_session.specs.Trying.{resumed, IsWanted, Trying}
 
 -- nothing was attempted yet

@@ -10,21 +10,21 @@ use Rattle.lx_io.proofs.Chain.{AppendsFront-is, AppendsFront-from}
 use Rattle.lx_lex.specs.declared.lines.Lines.{Lines}
 use Rattle.lx_lex.specs.Unread.{unread}
 use Rattle.lx_lex.specs.CutOff.{NotTaken}
-use Rattle.lx_lex.specs.Lines.{TookLines, first_lines}
+use Rattle.lx_lex.specs.Lines.{TookLines}
 use Rattle.lx_lex.proofs.HandingOut.{handed_then}
 use Rattle.lx_lex.proofs.CuttingOff.{cut_off}
 use Rattle.lx_lex.proofs.TakenLines.{all_texts}
 use Rattle.lx_spec.specs.Text.{without_cr, lines_of}
 use Rattle.lx_spec.specs.Desk.{Desk}
 use Rattle.lx_spec.specs.Stands.{Kept}
-use Rattle.lx_spec.specs.Replies.{Session, begun}
+use Rattle.lx_spec.specs.CutInput.{first_lines}
+use Rattle.lx_spec.specs.Session.{Session, begin_at, ends_script, after_lines, session, replies, after_first}
+use Rattle.lx_spec.specs.RefusedPlaces.{WantsAtEdits}
 use Rattle.lx_console.specs.Standing.{StandsFor}
 use Rattle.lx_session.specs.declared.tally.Tally.{Tally}
-use Rattle.lx_session.specs.Meaning.{ends_script, after_lines, session_of, replies_of}
-use Rattle.lx_session.specs.Attempts.{WantsAtEdits}
 use Rattle.lx_session.specs.Taken.{TookOneInPart, TookQuit, TookNoMore, EndedSo, StoppedSo}
 use Rattle.lx_session.specs.Replying.{counts_in}
-use Rattle.lx_session.specs.Scripts.{after_first, AnswersAll, AnswersFront, AnswersLines}
+use Rattle.lx_session.specs.Scripts.{AnswersAll, AnswersFront, AnswersLines}
 use Rattle.lx_session.proofs.Places.{own_place, extends_lines, wants_nothing, wants-append, lines-append}
 use Rattle.lx_session.proofs.SoFar.{GoOn, Done, SoFar, done_more, no_place, over, with_both, begins, begins_more, ends_after, ends_here}
 
@@ -43,25 +43,25 @@ before_quit : (xs : List (List ℕ)) (l : List ℕ) (more : List (List ℕ)) →
 before_quit xs l more all e = before_end xs (l ∷ more) all ∙ ap (λ n. xs ++ take n (l ∷ more)) (ends_here l more e) ∙ append-nil xs
 
 -- The session of the lines that are done.
-done_is : (d : Desk) (lines : List (List ℕ)) (places : List ℕ) (now : Session) → Done d lines places now → after_lines places (begun d) lines ≡ now
+done_is : (d : Desk) (lines : List (List ℕ)) (places : List ℕ) (now : Session) → Done d lines places now → after_lines places (begin_at d) lines ≡ now
 done_is d lines places now done =
-    ap (λ ps. after_lines ps (begun d) lines) (sym (append-nil places)) ∙ done.is [] (λ n has. no_place 0 n (now.attempts < n) has)
+    ap (λ ps. after_lines ps (begin_at d) lines) (sym (append-nil places)) ∙ done.is [] (λ n has. no_place 0 n (now.attempts < n) has)
 
-wants_all : (d : Desk) (lines : List (List ℕ)) (places : List ℕ) (now : Session) → Done d lines places now → WantsAtEdits places (begun d) lines
-wants_all d lines places now done = subst (λ ps. WantsAtEdits ps (begun d) lines) (append-nil places) (done.wants [] (λ n has. no_place 0 n (now.attempts < n) has))
+wants_all : (d : Desk) (lines : List (List ℕ)) (places : List ℕ) (now : Session) → Done d lines places now → WantsAtEdits places (begin_at d) lines
+wants_all d lines places now done = subst (λ ps. WantsAtEdits ps (begin_at d) lines) (append-nil places) (done.wants [] (λ n has. no_place 0 n (now.attempts < n) has))
 
 -- want of memory refuses none of the lines behind those that are done
-wants_more : (d : Desk) (lines rest : List (List ℕ)) (places : List ℕ) (now : Session) → Done d lines places now → WantsAtEdits places (begun d) (lines ++ rest)
+wants_more : (d : Desk) (lines rest : List (List ℕ)) (places : List ℕ) (now : Session) → Done d lines places now → WantsAtEdits places (begin_at d) (lines ++ rest)
 wants_more d lines rest places now done =
-    wants-append places (begun d) lines rest (wants_all d lines places now done) (subst (λ s. WantsAtEdits places s rest) (sym (done_is d lines places now done)) (wants_nothing places now rest done.within))
+    wants-append places (begin_at d) lines rest (wants_all d lines places now done) (subst (λ s. WantsAtEdits places s rest) (sym (done_is d lines places now done)) (wants_nothing places now rest done.within))
 
 answers_all : (d : Desk) (script lines : List (List ℕ)) (places : List ℕ) (now : Session) (h h' : Option (List ℕ)) (console : Kept) (tally : Tally) → before_first ends_script script ≡ lines → Done d lines places now
     → Appends h h' now.text → StandsFor now.desk console → now.counts ≡ counts_in tally → AnswersAll d script h h' console tally
 answers_all d script lines places now h h' console tally is done appended stands counts =
-    let same : session_of d script places ≡ now = ap (after_lines places (begun d)) is ∙ done_is d lines places now done in
+    let same : session d script places ≡ now = ap (after_lines places (begin_at d)) is ∙ done_is d lines places now done in
     record {
       places = places;
-      wants = subst (λ ls. WantsAtEdits places (begun d) ls) (sym is) (wants_all d lines places now done);
+      wants = subst (λ ls. WantsAtEdits places (begin_at d) ls) (sym is) (wants_all d lines places now done);
       text = subst (λ (s : Session). Appends h h' s.text) (sym same) appended;
       stands = subst (λ (s : Session). StandsFor s.desk console) (sym same) stands;
       counts = sym (ap (λ s. s.counts) same ∙ counts);
@@ -91,7 +91,7 @@ so_far_ends left faults a b c d console console' tally tally' h h' h'' s e how =
 -- The session of the first lines of a script.
 after_first_is : (d : Desk) (script lines rest : List (List ℕ)) (places : List ℕ) (now : Session) (n : ℕ) → before_first ends_script script ≡ lines ++ rest → take n (lines ++ rest) ≡ lines → Done d lines places now → after_first d script places n ≡ now
 after_first_is d script lines rest places now n is first done =
-    ap (λ ls. after_lines places (begun d) ls) (ap (take n) is ∙ first) ∙ done_is d lines places now done
+    ap (λ ls. after_lines places (begin_at d) ls) (ap (take n) is ∙ first) ∙ done_is d lines places now done
 
 take_raws : (raws rest : List (List ℕ)) → take (length raws) (map without_cr raws ++ rest) ≡ map without_cr raws
 take_raws raws rest = ap (λ n. take n (map without_cr raws ++ rest)) (sym (length-map raws without_cr)) ∙ take-append_seam (map without_cr raws) rest
@@ -124,7 +124,7 @@ answers_front d xs o lines rest places now n h h' console written more is first 
     let same = after_first_is d (lines_of xs) lines rest places now n is first done in
     record {
       places = places;
-      wants = subst (λ ls. WantsAtEdits places (begun d) ls) (sym is) (wants_more d lines rest places now done);
+      wants = subst (λ ls. WantsAtEdits places (begin_at d) ls) (sym is) (wants_more d lines rest places now done);
       done = n;
       handed = handed;
       text = front_made h h' written more (after_first d (lines_of xs) places n).text (ap (λ s. s.text) same ∙ text) appended;
@@ -196,32 +196,32 @@ so_far_unread left faults a b c d console console' tally h h' h'' s same n =
     let now : after_first d (lines_of xs) s.places cut.0.lines ≡ s.now = ap (after_first d (lines_of xs) s.places) cut.1 ∙ after_first_is d (lines_of xs) lines rest s.places s.now (length s.raws) before (take_raws s.raws rest) s.done in
     record {
       places = s.places;
-      wants = subst (λ ls. WantsAtEdits s.places (begun d) ls) (sym before) (wants_more d lines rest s.places s.now s.done);
+      wants = subst (λ ls. WantsAtEdits s.places (begin_at d) ls) (sym before) (wants_more d lines rest s.places s.now s.done);
       cut = cut.0;
       text = subst (λ (v : Session). Appends h h'' v.text) (sym now) (Appends-kept h h' h'' s.now.text s.appended same.0);
       stands = subst (λ (v : Session). StandsFor v.desk console') (sym now) same.1;
     })
 
 -- The replies to the first lines are a front of the replies to all.
-more_replies : (d : Desk) (script : List (List ℕ)) (places : List ℕ) (n : ℕ) → (more : List ℕ) × (replies_of d script places ≡ (after_first d script places n).text ++ more)
+more_replies : (d : Desk) (script : List (List ℕ)) (places : List ℕ) (n : ℕ) → (more : List ℕ) × (replies d script places ≡ (after_first d script places n).text ++ more)
 more_replies d script places n =
     let lines = before_first ends_script script in
     let later = extends_lines places (after_first d script places n) (drop n lines) in (
       later.more,
-      ap (λ ls. (after_lines places (begun d) ls).text) (sym (take-append-drop n lines)) ∙ ap (λ s. s.text) (lines-append places (begun d) (take n lines) (drop n lines)) ∙ later.text,
+      ap (λ ls. (after_lines places (begin_at d) ls).text) (sym (take-append-drop n lines)) ∙ ap (λ s. s.text) (lines-append places (begin_at d) (take n lines) (drop n lines)) ∙ later.text,
     )
 
-pub front_of_all : (d : Desk) (script : List (List ℕ)) (places : List ℕ) (n : ℕ) (h h' : Option (List ℕ)) → AppendsFront h h' (after_first d script places n).text → AppendsFront h h' (replies_of d script places)
+pub front_of_all : (d : Desk) (script : List (List ℕ)) (places : List ℕ) (n : ℕ) (h h' : Option (List ℕ)) → AppendsFront h h' (after_first d script places n).text → AppendsFront h h' (replies d script places)
 front_of_all d script places n h h' p =
     let text = (after_first d script places n).text in
     let more = more_replies d script places n in
     let part = AppendsFront-is h h' text p in
-    front_made h h' (take part.0 text) (drop part.0 text ++ more.0) (replies_of d script places) (more.1 ∙ ap (λ v. v ++ more.0) (sym (take-append-drop part.0 text)) ∙ append_assoc (take part.0 text) (drop part.0 text) more.0) part.1
+    front_made h h' (take part.0 text) (drop part.0 text ++ more.0) (replies d script places) (more.1 ∙ ap (λ v. v ++ more.0) (sym (take-append-drop part.0 text)) ∙ append_assoc (take part.0 text) (drop part.0 text) more.0) part.1
 
-pub whole_of_all : (d : Desk) (script : List (List ℕ)) (places : List ℕ) (n : ℕ) (h h' : Option (List ℕ)) → Appends h h' (after_first d script places n).text → AppendsFront h h' (replies_of d script places)
+pub whole_of_all : (d : Desk) (script : List (List ℕ)) (places : List ℕ) (n : ℕ) (h h' : Option (List ℕ)) → Appends h h' (after_first d script places n).text → AppendsFront h h' (replies d script places)
 whole_of_all d script places n h h' p =
     let more = more_replies d script places n in
-    front_made h h' (after_first d script places n).text more.0 (replies_of d script places) more.1 p
+    front_made h h' (after_first d script places n).text more.0 (replies d script places) more.1 p
 
 -- What is known of a fault that came.
 pub fault_at : {E : Type 0} (P : E → Type 0) (result : Option (Result (Unit {0}) E)) (fault : E) → result ≡ Some (Err fault) → IfSome result (λ ended. IfErr ended P) → P fault

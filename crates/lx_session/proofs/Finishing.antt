@@ -11,34 +11,11 @@ use Rattle.lx_spec.specs.declared.Refusal.{Refusal}
 use Rattle.lx_spec.specs.declared.Refusal.TheVariants.{AbsentCue}
 use Rattle.lx_spec.specs.TrackedLevel.{cue_of}
 use Rattle.lx_spec.specs.Desk.{Desk}
-use Rattle.lx_spec.specs.Replies.{Session, Counts, Attempt, attempt, and_then, attempt_ticks, after_meaning, replied, refused_reply, count_ok, with_text, ok_text, refused_text, row_text, row_of}
-use Rattle.lx_session.specs.Turning.{Turning, command_of, count_of, next_of}
-use Rattle.lx_session.specs.Attempts.{attempts_of, attempts_for}
+use Rattle.lx_spec.specs.Replies.{row_text, row_of}
+use Rattle.lx_spec.specs.Session.{Session, Attempt, replied, refused_reply, with_text, command_of, attempts_for, after_attempts}
+use Rattle.lx_session.specs.Turning.{Turning, next_of}
 use Rattle.lx_session.specs.Trying.{resumed}
-use Rattle.lx_session.specs.Replying.{after_attempts, tried_at, reply_to, counts_after}
-
--- nothing more is attempted
-then_none : (tried : Attempt) → and_then tried (λ s. record { session = s; refusal = None }) ≡ tried
-then_none tried =
-    let at : (r : Option Refusal) → option_map_or (λ refusal. record { session = tried.session; refusal = r }) r (record { session = tried.session; refusal = None }) ≡ record { session = tried.session; refusal = r } =
-    λ r. elim r as (λ r. option_map_or (λ refusal. record { session = tried.session; refusal = r }) r (record { session = tried.session; refusal = None }) ≡ record { session = tried.session; refusal = r }) [ None ↦ refl | Some e ↦ refl ] in
-    at tried.refusal
-
--- ticks are attempts at the one command
-ticks_are : (places : List ℕ) (k : ℕ) (s : Session) → attempt_ticks places k s ≡ attempts_of places commands.Tick k s
-ticks_are places zero s = refl
-ticks_are places (suc k) s = ap (λ r. option_map_or (λ refusal. attempt places s commands.Tick) (attempt places s commands.Tick).refusal r) (ticks_are places k (attempt places s commands.Tick).session)
-
--- the session after a line, from its attempts
-pub meant : (places : List ℕ) (s : Session) (meaning : Option Line) → after_meaning places s meaning ≡ after_attempts meaning (attempts_for places (command_of meaning) (count_of meaning) s)
-meant places s None = refl
-meant places s (Some (lines.Command c)) = ap replied (sym (then_none (attempt places s c)))
-meant places s (Some (lines.Ticks k)) = ap replied (ticks_are places k s)
-meant places s (Some (lines.Frame u)) = refl
-meant places s (Some lines.Save) = refl
-meant places s (Some (lines.SheetOf n)) = refl
-meant places s (Some lines.Quit) = refl
-meant places s (Some lines.Blank) = refl
+use Rattle.lx_session.specs.Replying.{tried_at, reply_to, counts_after}
 
 -- where there is nothing more to attempt
 over_at : (places : List ℕ) (meaning : Option Line) (left : ℕ) (refusal : Option Refusal) (t : Session) → next_of (record { meaning = meaning; left = left; refusal = refusal }) ≡ None

@@ -9,10 +9,11 @@ use Rattle.lx_spec.specs.declared.Line.{Line}
 use Rattle.lx_spec.specs.declared.Line.TheVariants as lines
 use Rattle.lx_spec.specs.Desk.{Desk}
 use Rattle.lx_spec.specs.Stands.{Kept}
-use Rattle.lx_spec.specs.Replies.{Session, is_quit, after_meaning}
+use Rattle.lx_spec.specs.Session.{Session, is_quit, after_meaning}
+use Rattle.lx_spec.specs.RefusedPlaces.{IsAcceptedEdit}
 use Rattle.lx_console.specs.Standing.{StandsFor}
 use Rattle.lx_session.specs.declared.tally.Tally.{Tally}
-use Rattle.lx_session.specs.Attempts.{WantsLast, IsAcceptedEdit}
+use Rattle.lx_session.specs.Attempts.{WantsLast}
 use Rattle.lx_session.specs.Answered.{GoesOn, Answered}
 use Rattle.lx_session.specs.Given.{Went, GivenOn, GivenInPart}
 use Rattle.lx_session.specs.Replying.{counts_in}

@@ -10,15 +10,15 @@ use Rattle.lx_spec.specs.declared.Line.TheVariants as lines
 use Rattle.lx_spec.specs.declared.Refusal.{Refusal}
 use Rattle.lx_spec.specs.Desk.{Desk, step}
 use Rattle.lx_spec.specs.Stands.{Kept}
-use Rattle.lx_spec.specs.Replies.{Session, Counts, Attempt, after_meaning}
-use Rattle.lx_console.specs.Standing.{StandsFor, is_edit}
+use Rattle.lx_spec.specs.Session.{Session, Counts, command_of, count_of, after_attempts}
+use Rattle.lx_spec.specs.RefusedPlaces.{is_edit, IsAcceptedEdit}
+use Rattle.lx_console.specs.Standing.{StandsFor}
 use Rattle.lx_session.specs.declared.tally.Tally.{Tally}
-use Rattle.lx_session.specs.Turning.{Turning, command_of, count_of, next_of, turn_of}
-use Rattle.lx_session.specs.Attempts.{attempts_for, WantsLast, IsAcceptedEdit}
+use Rattle.lx_session.specs.Turning.{Turning, next_of, turn_of}
 use Rattle.lx_session.specs.Trying.{Trying, IsWanted, resumed}
-use Rattle.lx_session.specs.Replying.{after_attempts, reply_to, counts_after, counts_in}
+use Rattle.lx_session.specs.Replying.{reply_to, counts_after, counts_in}
 use Rattle.lx_session.specs.Answered.{GoesOn, Answered}
-use Rattle.lx_session.proofs.Finishing.{meant, over, finished, IsReplied}
+use Rattle.lx_session.proofs.Finishing.{over, finished, IsReplied}
 
 -- an edit that want of memory refuses is the command of its line
 edit_of_line : (d d' : Desk) (meaning : Option Line) → d' ≡ d → IsWanted d' (command_of meaning) → IsAcceptedEdit d meaning
@@ -66,8 +66,7 @@ goes_on s meaning turn console t done =
       by = λ places w.
           let same : command_of meaning ≡ command_of turn.meaning = ap command_of (sym t.meaning) in
           let tried = t.by places (λ n above within. let is = r.attempts in w n above (omega (arith, is, within)) ∙ ap (λ m. t.wants && n == m) r.attempts) in
-          meant places s meaning
-          ∙ ap (after_attempts meaning) (tried ∙ ap (λ c. resumed places c turn.left turn.refusal t.now) same ∙ over places turn t.now done);
+          ap (after_attempts meaning) (tried ∙ ap (λ c. resumed places c turn.left turn.refusal t.now) same ∙ over places turn t.now done);
       at_edit = λ is.
           let w = t.at_edit is in
           edit_of_line s.desk t.now.desk meaning (t.still (one_attempt t.now.desk meaning w) (refused_then turn.refusal t.wants t.not_yet is)) w;

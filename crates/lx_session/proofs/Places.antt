@@ -10,13 +10,13 @@ use Rattle.lx_spec.specs.declared.Line.{Line}
 use Rattle.lx_spec.specs.declared.Refusal.{Refusal}
 use Rattle.lx_spec.specs.declared.Refusal.TheVariants.{Memory}
 use Rattle.lx_spec.specs.Desk.{Desk, step}
-use Rattle.lx_spec.specs.Replies.{Session, Attempt, answered, attempt, and_then, after_meaning}
-use Rattle.lx_session.specs.Meaning.{meaning_of, after_line, after_lines}
-use Rattle.lx_session.specs.Turning.{command_of, count_of}
-use Rattle.lx_session.specs.Attempts.{attempts_of, attempts_for, WantsLast, IsAcceptedEdit, MayWant, WantsAtEdits}
+use Rattle.lx_spec.specs.Session.{Session, Attempt, answered, attempt, and_then, after_meaning, after_line, after_lines, command_of, count_of, attempts_of, attempts_for}
+use Rattle.lx_spec.specs.Script.{line_of}
+use Rattle.lx_spec.specs.RefusedPlaces.{MayWant, WantsAtEdits}
+use Rattle.lx_session.specs.Attempts.{WantsLast}
 use Rattle.lx_session.specs.Replying.{reply_to}
 use Rattle.lx_session.specs.Answered.{GoesOn}
-use Rattle.lx_session.proofs.Finishing.{meant, finished}
+use Rattle.lx_session.proofs.Finishing.{finished}
 
 -- the attempt is one that want of memory refuses
 abbrev pub has_place : List ℕ → ℕ → Bool
@@ -146,17 +146,16 @@ extends_line places s meaning =
     let tried = attempts_for places (command_of meaning) (count_of meaning) s in
     let l = later_for places (command_of meaning) (count_of meaning) s in
     let f = finished tried.session meaning tried.refusal in
-    let is = meant places s meaning in
     record {
-      attempts = let a = l.attempts in let b = f.attempts in let c = ap (λ t. t.attempts) is in omega (arith, a, b, c);
+      attempts = let a = l.attempts in let b = f.attempts in omega (arith, a, b);
       more = reply_to tried.session.desk meaning tried.refusal;
-      text = ap (λ t. t.text) is ∙ f.text ∙ ap (λ v. v ++ reply_to tried.session.desk meaning tried.refusal) l.text;
+      text = f.text ∙ ap (λ v. v ++ reply_to tried.session.desk meaning tried.refusal) l.text;
     }
 
 pub extends_lines : (places : List ℕ) (s : Session) (script : List (List ℕ)) → Extends s (after_lines places s script)
 extends_lines places s [] = record { attempts = omega arith; more = []; text = sym (append-nil s.text) }
 extends_lines places s (line ∷ script) =
-    let a = extends_line places s (meaning_of line) in
+    let a = extends_line places s (line_of line) in
     let b = extends_lines places (after_line places s line) script in
     record {
       attempts = let x = a.attempts in let y = b.attempts in omega (arith, x, y);
@@ -168,7 +167,7 @@ extends_lines places s (line ∷ script) =
 pub wants_nothing : (places : List ℕ) (s : Session) (script : List (List ℕ)) → AreWithin s.attempts places → WantsAtEdits places s script
 wants_nothing places s [] within = tt
 wants_nothing places s (line ∷ script) within =
-    let a = extends_line places s (meaning_of line) in (
+    let a = extends_line places s (line_of line) in (
       λ n lower upper has. let le = within n has in absurd (omega (arith, le, lower)),
       wants_nothing places (after_line places s line) script (λ n has. let le = within n has in let x = a.attempts in omega (arith, le, x)),
     )

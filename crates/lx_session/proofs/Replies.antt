@@ -6,8 +6,10 @@ use Rattle.lx_spec.specs.declared.Line.TheVariants as lines
 use Rattle.lx_spec.specs.declared.Refusal.{Refusal}
 use Rattle.lx_spec.specs.Desk.{Desk}
 use Rattle.lx_spec.specs.Output.{frame}
-use Rattle.lx_spec.specs.Replies.{Counts, frame_text}
+use Rattle.lx_spec.specs.Replies.{frame_text}
+use Rattle.lx_spec.specs.Session.{Counts}
 use Rattle.lx_script.specs.declared.reply.Reply.{Reply}
+use Rattle.lx_spec.specs.ShowText.{show_text}
 use Rattle.lx_script.specs.ReplyTexts.{reply_text}
 use Rattle.lx_session.specs.Replying.{reply_to, counts_after}
 use Rattle.lx_session.specs.Counting.{reply_for, counted}
@@ -17,6 +19,12 @@ frame_reply d line u r is = ap (λ v. reply_to d (Some v) r) (sym is)
 
 pub frame_counts : (d : Desk) (line : Line) (u : ℕ) (r : Option Refusal) (counts : Counts) → line ≡ lines.Frame u → counts ≡ counts_after d counts (Some line) r
 frame_counts d line u r counts is = ap (λ v. counts_after d counts (Some v) r) (sym is)
+
+pub save_reply : (d : Desk) (line : Line) (r : Option Refusal) → line ≡ lines.Save → show_text d.show ≡ reply_to d (Some line) r
+save_reply d line r is = ap (λ v. reply_to d (Some v) r) (sym is)
+
+pub save_counts : (d : Desk) (line : Line) (r : Option Refusal) (counts : Counts) → line ≡ lines.Save → counts ≡ counts_after d counts (Some line) r
+save_counts d line r counts is = ap (λ v. counts_after d counts (Some v) r) (sym is)
 
 pub on_ok : {T E : Type 0} (r : Result T E) (P : Type 0) → P → OnOk r P
 on_ok (Ok x) P p = p

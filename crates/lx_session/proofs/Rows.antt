@@ -8,9 +8,10 @@ use Rattle.lx_spec.specs.Show.{Cue, Show}
 use Rattle.lx_spec.specs.TrackedLevel.{cue_of}
 use Rattle.lx_spec.specs.Desk.{Desk}
 use Rattle.lx_spec.specs.Stands.{Kept}
-use Rattle.lx_spec.specs.Replies.{Counts, row_of, row_text, refused_text, with_text, refused_reply}
+use Rattle.lx_spec.specs.Replies.{row_of, row_text, refused_text}
+use Rattle.lx_spec.specs.Session.{with_text, refused_reply}
 use Rattle.lx_console.specs.Standing.{StandsFor}
-use Rattle.lx_session.specs.Replying.{reply_to, counts_after, tried_at}
+use Rattle.lx_session.specs.Replying.{reply_to, tried_at}
 
 -- no row, no cue
 absent : (o : Option Cue) (show : Show) (n : ℕ) → None ≡ option_map (λ (cue : Cue). row_of show n) o → is_some o ≡ false

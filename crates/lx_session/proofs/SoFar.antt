@@ -13,23 +13,24 @@ use Rattle.lx_lex.specs.Handed.{HandedOut}
 use Rattle.lx_lex.specs.Unread.{unread, line_of}
 use Rattle.lx_lex.proofs.HandingOut.{handed_none, handed_then}
 use Rattle.lx_lex.specs.declared.lines.Step.TheVariants.{InputTooLong}
-use Rattle.lx_lex.specs.Lines.{TookLines, StepOf, first_lines}
+use Rattle.lx_lex.specs.Lines.{TookLines, StepOf}
 use Rattle.lx_lex.proofs.TakenLines.{texts, all_texts, lines_within, next_too_long}
 use Rattle.lx_lex.proofs.FirstLines.{first_lines-longer}
 use Rattle.lx_spec.specs.Text.{without_cr, lines_of}
 use Rattle.lx_spec.specs.Desk.{Desk}
 use Rattle.lx_spec.specs.Stands.{Kept}
-use Rattle.lx_spec.specs.Replies.{Session, begun}
+use Rattle.lx_spec.specs.CutInput.{first_lines}
+use Rattle.lx_spec.specs.Session.{Session, begin_at, ends_script, after_lines, lines_wanted, bytes_wanted}
+use Rattle.lx_spec.specs.Script.{line_of as meant_by}
+use Rattle.lx_spec.specs.RefusedPlaces.{WantsAtEdits}
 use Rattle.lx_console.specs.Standing.{StandsFor}
 use Rattle.lx_session.specs.declared.tally.Tally.{Tally}
 use Rattle.lx_session.specs.declared.fault.SessionFault.{SessionFault}
 use Rattle.lx_session.specs.declared.fault.SessionFault.TheVariants as faults_of
-use Rattle.lx_session.specs.Meaning.{meaning_of, ends_script, after_lines, session_of, replies_of}
-use Rattle.lx_session.specs.Attempts.{WantsAtEdits}
 use Rattle.lx_session.specs.Given.{GivenOn, GivenInPart, Went}
 use Rattle.lx_session.specs.Taken.{PassedOne, TookOne, TookOneInPart, TookQuit, EndedSo, StoppedSo}
 use Rattle.lx_session.specs.Replying.{counts_in}
-use Rattle.lx_session.specs.Scripts.{lines_wanted, bytes_wanted, AnswersAll, AnswersFront, AnswersLines}
+use Rattle.lx_session.specs.Scripts.{AnswersAll, AnswersFront, AnswersLines}
 use Rattle.lx_session.proofs.Places.{AreAbove, AreWithin, own_place, wants_own, own_above, own_within, may_want, extends_lines, wants_nothing, wants-append, lines-append}
 
 -- no line ends the script
@@ -40,13 +41,13 @@ GoOn script = AllByRecursion (λ line. ends_script line ≡ false) script
 pub record Done (d : Desk) (script : List (List ℕ)) (places : List ℕ) (now : Session) : Type 0 where
   pub go_on : GoOn script
   pub within : AreWithin now.attempts places
-  pub is : (more : List ℕ) → AreAbove now.attempts more → after_lines (places ++ more) (begun d) script ≡ now
-  pub wants : (more : List ℕ) → AreAbove now.attempts more → WantsAtEdits (places ++ more) (begun d) script
+  pub is : (more : List ℕ) → AreAbove now.attempts more → after_lines (places ++ more) (begin_at d) script ≡ now
+  pub wants : (more : List ℕ) → AreAbove now.attempts more → WantsAtEdits (places ++ more) (begin_at d) script
 
 pub no_place : (m n : ℕ) (P : Type 0) → false ≡ true → P
 no_place m n P e = absurd cc
 
-pub done_none : (d : Desk) → Done d [] [] (begun d)
+pub done_none : (d : Desk) → Done d [] [] (begin_at d)
 done_none d = record { go_on = tt; within = λ n has. no_place 0 n (n ≤ 0) has; is = λ more above. refl; wants = λ more above. tt }
 
 go_on_append : (xs : List (List ℕ)) (l : List ℕ) → GoOn xs → ends_script l ≡ false → GoOn (xs ++ l ∷ [])
@@ -54,23 +55,23 @@ go_on_append [] l all more = (more, tt)
 go_on_append (x ∷ xs) l all more = (all.0, go_on_append xs l all.1 more)
 
 -- one more line
-pub done_more : (d : Desk) (script : List (List ℕ)) (places : List ℕ) (now : Session) (line : List ℕ) (console : Kept) (reply : List ℕ) → Done d script places now → (w : Went now (meaning_of line) console reply)
+pub done_more : (d : Desk) (script : List (List ℕ)) (places : List ℕ) (now : Session) (line : List ℕ) (console : Kept) (reply : List ℕ) → Done d script places now → (w : Went now (meant_by line) console reply)
     → Done d (script ++ line ∷ []) (places ++ own_place w.wanted w.next.attempts) w.next
 done_more d script places now line console reply done w =
     let later = w.goes_on.later in
     let before : (more : List ℕ) → AreAbove w.next.attempts more → AreAbove now.attempts (own_place w.wanted w.next.attempts ++ more) = λ more above. own_above now.attempts w.next.attempts w.wanted more later w.goes_on.some above in
     let P : List ℕ → List ℕ = λ more. (places ++ own_place w.wanted w.next.attempts) ++ more in
     let same : (more : List ℕ) → P more ≡ places ++ (own_place w.wanted w.next.attempts ++ more) = λ more. append_assoc places (own_place w.wanted w.next.attempts) more in
-    let here : (more : List ℕ) → AreAbove w.next.attempts more → after_lines (P more) (begun d) script ≡ now = λ more above. ap (λ ps. after_lines ps (begun d) script) (same more) ∙ done.is (own_place w.wanted w.next.attempts ++ more) (before more above) in
+    let here : (more : List ℕ) → AreAbove w.next.attempts more → after_lines (P more) (begin_at d) script ≡ now = λ more above. ap (λ ps. after_lines ps (begin_at d) script) (same more) ∙ done.is (own_place w.wanted w.next.attempts ++ more) (before more above) in
     let last = λ (more : List ℕ) (above : AreAbove w.next.attempts more). wants_own places more now.attempts w.next.attempts w.wanted done.within above in
     record {
       go_on = go_on_append script line done.go_on w.more;
       within = own_within now.attempts w.next.attempts w.wanted places later done.within;
       is = λ more above.
-          lines-append (P more) (begun d) script (line ∷ []) ∙ ap (λ s. after_lines (P more) s (line ∷ [])) (here more above) ∙ w.goes_on.by (P more) (last more above);
+          lines-append (P more) (begin_at d) script (line ∷ []) ∙ ap (λ s. after_lines (P more) s (line ∷ [])) (here more above) ∙ w.goes_on.by (P more) (last more above);
       wants = λ more above.
-          wants-append (P more) (begun d) script (line ∷ [])
-          (subst (λ ps. WantsAtEdits ps (begun d) script) (sym (same more)) (done.wants (own_place w.wanted w.next.attempts ++ more) (before more above)))
+          wants-append (P more) (begin_at d) script (line ∷ [])
+          (subst (λ ps. WantsAtEdits ps (begin_at d) script) (sym (same more)) (done.wants (own_place w.wanted w.next.attempts ++ more) (before more above)))
           (subst (λ s. WantsAtEdits (P more) s (line ∷ [])) (sym (here more above)) (may_want (P more) now w.next _ w.wanted w.goes_on (last more above), tt));
     }
 
@@ -90,7 +91,7 @@ so_far_none left faults a d console tally h going stands counts = record {
   raws = [];
   handed = handed_none left faults a going;
   places = [];
-  now = begun d;
+  now = begin_at d;
   done = done_none d;
   stands = stands;
   appended = Appends-nil h;

@@ -14,15 +14,15 @@ use Rattle.lx_spec.specs.declared.Line.{Line}
 use Rattle.lx_spec.specs.Text.{without_cr, tokens}
 use Rattle.lx_spec.specs.Script.{meaning}
 use Rattle.lx_spec.specs.Stands.{Kept}
-use Rattle.lx_spec.specs.Replies.{Session, is_quit}
 use Rattle.lx_console.specs.Standing.{StandsFor}
 use Rattle.lx_session.specs.declared.tally.Tally.{Tally}
 use Rattle.lx_session.specs.declared.fault.SessionFault.{SessionFault}
 use Rattle.lx_session.specs.declared.fault.SessionFault.TheVariants as faults_of
 use Rattle.lx_io.specs.declared.sink.SinkFault.{SinkFault}
 use Rattle.lx_io.specs.declared.sink.SinkFault.TheVariants as sinks
+use Rattle.lx_spec.specs.Session.{Session, is_quit}
+use Rattle.lx_spec.specs.Script.{line_of}
 use Rattle.lx_session.specs.Faults.{is_of_sink, fault_of}
-use Rattle.lx_session.specs.Meaning.{meaning_of, built}
 use Rattle.lx_session.specs.Given.{GivenOn, GivenInPart}
 use Rattle.lx_session.specs.Taken.{TookOne, TookOneInPart, PassedOne, TookQuit, StoppedSo}
 use Rattle.lx_session.specs.Replying.{counts_in}
@@ -39,7 +39,7 @@ front_kept a b c xs p q = let front = AppendsFront-is b c xs q in AppendsFront-f
 
 -- a line of this meaning was handed out, and its reply was written
 pub took_one : {S : Type 0} (left : S → Option (List ℕ)) (faults : S → ℕ) (old new : Lines S) (h h' h'' : Option (List ℕ)) (s : Session) (meaning : Option Line) (console : Kept) (tally : Tally) (raw : List ℕ)
-    → HandedOut left faults old new (raw ∷ []) → meaning ≡ meaning_of (without_cr raw) → Keeps h h' → GivenOn h' h'' s meaning console tally → TookOne left faults old new h h'' s console tally
+    → HandedOut left faults old new (raw ∷ []) → meaning ≡ line_of (without_cr raw) → Keeps h h' → GivenOn h' h'' s meaning console tally → TookOne left faults old new h h'' s console tally
 took_one left faults old new h h' h'' s meaning console tally raw handed is kept g = record {
   raw = raw;
   handed = handed;
@@ -47,7 +47,7 @@ took_one left faults old new h h' h'' s meaning console tally raw handed is kept
 }
 
 took_in_part : {S : Type 0} (left : S → Option (List ℕ)) (faults : S → ℕ) (old new : Lines S) (h h' h'' : Option (List ℕ)) (s : Session) (meaning : Option Line) (console : Kept) (raw : List ℕ)
-    → HandedOut left faults old new (raw ∷ []) → meaning ≡ meaning_of (without_cr raw) → Keeps h h' → GivenInPart h' h'' s meaning console → TookOneInPart left faults old new h h'' s console
+    → HandedOut left faults old new (raw ∷ []) → meaning ≡ line_of (without_cr raw) → Keeps h h' → GivenInPart h' h'' s meaning console → TookOneInPart left faults old new h h'' s console
 took_in_part left faults old new h h' h'' s meaning console raw handed is kept g = record {
   raw = raw;
   handed = handed;
@@ -56,11 +56,11 @@ took_in_part left faults old new h h' h'' s meaning console raw handed is kept g
 
 -- a line that ends the script was handed out, or one that doesn't
 pub took_quit : {S : Type 0} (left : S → Option (List ℕ)) (faults : S → ℕ) (old new : Lines S) (meaning : Option Line) (raw : List ℕ)
-    → HandedOut left faults old new (raw ∷ []) → meaning ≡ meaning_of (without_cr raw) → is_quit meaning ≡ true → TookQuit left faults old new
+    → HandedOut left faults old new (raw ∷ []) → meaning ≡ line_of (without_cr raw) → is_quit meaning ≡ true → TookQuit left faults old new
 took_quit left faults old new meaning raw handed is quits = record { raw = raw; handed = handed; quits = ap is_quit (sym is) ∙ quits }
 
 pub passed_one : {S : Type 0} (left : S → Option (List ℕ)) (faults : S → ℕ) (old new : Lines S) (meaning : Option Line) (raw : List ℕ)
-    → HandedOut left faults old new (raw ∷ []) → meaning ≡ meaning_of (without_cr raw) → is_quit meaning ≡ false → PassedOne left faults old new
+    → HandedOut left faults old new (raw ∷ []) → meaning ≡ line_of (without_cr raw) → is_quit meaning ≡ false → PassedOne left faults old new
 passed_one left faults old new meaning raw handed is more = record { raw = raw; handed = handed; more = ap is_quit (sym is) ∙ more }
 
 -- how a line failed: nothing was written and done, or a front of the reply was
@@ -68,7 +68,7 @@ abbrev FailedReply : Option (List ℕ) → Option (List ℕ) → Kept → Tally 
 FailedReply h h' before tally meaning console result = IfSome result (λ ended. IfErr ended (λ fault. (s : Session) → StandsFor s.desk before → s.counts ≡ counts_in tally → ((Keeps h h' × StandsFor s.desk console) × (is_quit meaning ≡ true)) ⊎ GivenInPart h h' s meaning console))
 
 pub failed : {S : Type 0} (left : S → Option (List ℕ)) (faults : S → ℕ) (old new : Lines S) (h h' h'' : Option (List ℕ)) (before : Kept) (tally : Tally) (meaning : Option Line) (console : Kept) (raw : List ℕ) (result : Option (Result (Unit {0}) SessionFault))
-    → HandedOut left faults old new (raw ∷ []) → meaning ≡ meaning_of (without_cr raw) → Keeps h h' → FailedReply h' h'' before tally meaning console result
+    → HandedOut left faults old new (raw ∷ []) → meaning ≡ line_of (without_cr raw) → Keeps h h' → FailedReply h' h'' before tally meaning console result
     → IfSome result (λ ended. IfErr ended (λ fault. is_of_sink fault ≡ true → (s : Session) → StandsFor s.desk before → s.counts ≡ counts_in tally → StoppedSo left faults old new h h'' s console))
 failed left faults old new h h' h'' before tally meaning console raw None handed is kept f = tt
 failed left faults old new h h' h'' before tally meaning console raw (Some (Ok u)) handed is kept f = tt
@@ -101,7 +101,7 @@ none_left (Some x) None p q = tt
 none_left (Some x) (Some y) p q = p ∙ sym q
 
 -- a line that is too long has no meaning
-pub too_long : (line : List ℕ) → LINE_BYTES < length line → None ≡ meaning_of line
+pub too_long : (line : List ℕ) → LINE_BYTES < length line → None ≡ line_of line
 too_long line long =
     let e : nat_lt LINE_BYTES (length line) ≡ true = grind (arith, nat_tests) in
-    sym (ap (λ b. built (cond b None (meaning line (tokens line)))) e)
+    sym (ap (λ b. cond b None (meaning line (tokens line))) e)

@@ -9,9 +9,7 @@ use Rattle.lx_spec.specs.declared.Line.TheVariants as lines
 use Rattle.lx_spec.specs.declared.Refusal.{Refusal}
 use Rattle.lx_spec.specs.Desk.{Desk}
 use Rattle.lx_spec.specs.Stands.{Kept}
-use Rattle.lx_console.specs.Standing.{StandsFor, Answers, is_edit}
-use Rattle.lx_session.specs.Meaning.{is_built}
-use Rattle.lx_session.specs.Turning.{Turning, command_of, next_of}
+use Rattle.lx_console.specs.Standing.{StandsFor, Answers}
 use Rattle.lx_session.specs.Attempts.{Attempted}
 
 answered_at : (d : Desk) (c : Command) (r : Result (Unit {0}) Refusal) (before after : Kept) → Answers d c r after → StandsFor d before → OnErr r (after ≡ before) → Attempted true d c (result_err r) after

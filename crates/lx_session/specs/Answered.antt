@@ -4,10 +4,11 @@ use Rattle.lx_io.specs.declared.sink.SinkFault.{SinkFault}
 use Rattle.lx_io.specs.Puts.{Puts}
 use Rattle.lx_spec.specs.declared.Line.{Line}
 use Rattle.lx_spec.specs.Stands.{Kept}
-use Rattle.lx_spec.specs.Replies.{Session, after_meaning}
+use Rattle.lx_spec.specs.Session.{Session, after_meaning}
+use Rattle.lx_spec.specs.RefusedPlaces.{IsAcceptedEdit}
 use Rattle.lx_console.specs.Standing.{StandsFor}
 use Rattle.lx_session.specs.declared.tally.Tally.{Tally}
-use Rattle.lx_session.specs.Attempts.{WantsLast, IsAcceptedEdit}
+use Rattle.lx_session.specs.Attempts.{WantsLast}
 use Rattle.lx_session.specs.Replying.{counts_in}
 
 -- The session goes on so by a line of this meaning, whatever want of memory refuses before it and after it.

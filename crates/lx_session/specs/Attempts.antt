@@ -9,9 +9,7 @@ use Rattle.lx_spec.specs.declared.Refusal.{Refusal}
 use Rattle.lx_spec.specs.declared.Refusal.TheVariants.{Memory}
 use Rattle.lx_spec.specs.Desk.{Desk, step}
 use Rattle.lx_spec.specs.Stands.{Kept}
-use Rattle.lx_spec.specs.Replies.{Session, Attempt, attempt, and_then, after_meaning}
-use Rattle.lx_console.specs.Standing.{StandsFor, Refuses, is_edit}
-use Rattle.lx_session.specs.Meaning.{meaning_of, after_line}
+use Rattle.lx_console.specs.Standing.{StandsFor, Refuses}
 
 -- a command that wasn't admitted is refused for want of memory, and any other as the console refuses it
 abbrev pub RefusesAttempt : Bool → Desk → Command → Refusal → Type 0
@@ -28,31 +26,6 @@ abbrev pub Attempted : Bool → Desk → Command → Option Refusal → Kept →
 Attempted admitted d command None console = AcceptsAttempt admitted d command console
 Attempted admitted d command (Some refusal) console = StandsFor d console × RefusesAttempt admitted d command refusal
 
--- so many attempts at a command, up to the first that is refused
-abbrev pub attempts_of : List ℕ → Command → ℕ → Session → Attempt
-attempts_of places command zero s = record { session = s; refusal = None }
-attempts_of places command (suc n) s = and_then (attempt places s command) (attempts_of places command n)
-
--- the attempts at the command of a line
-abbrev pub attempts_for : List ℕ → Option Command → ℕ → Session → Attempt
-attempts_for places command n s = option_map_or (λ c. attempts_of places c n s) command (record { session = s; refusal = None })
-
 -- Of the attempts above one number and up to another, want of memory refused the last, or none.
 abbrev pub WantsLast : List ℕ → ℕ → ℕ → Bool → Type 0
 WantsLast places from to wants = (n : ℕ) → from < n → n ≤ to → list_any (λ place. place == n) places ≡ (wants && n == to)
-
--- the line is an edit that the desk accepts
-pub record IsAcceptedEdit (d : Desk) (meaning : Option Line) : Type 0 where
-  pub command : Command
-  pub means : meaning ≡ Some (lines.Command command)
-  pub edit : is_edit command ≡ true
-  pub accepted : IsOk (step d command)
-
--- want of memory refuses nothing of the line but an edit that the desk accepts
-abbrev pub MayWant : List ℕ → Session → Option Line → Type 0
-MayWant places s meaning = (n : ℕ) → s.attempts < n → n ≤ (after_meaning places s meaning).attempts → list_any (λ place. place == n) places ≡ true → IsAcceptedEdit s.desk meaning
-
--- and so of each of the lines
-abbrev pub WantsAtEdits : List ℕ → Session → List (List ℕ) → Type 0
-WantsAtEdits places s [] = Unit {0}
-WantsAtEdits places s (line ∷ script) = MayWant places s (meaning_of line) × WantsAtEdits places (after_line places s line) script

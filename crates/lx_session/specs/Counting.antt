@@ -1,7 +1,7 @@
 -- The reply to a command, and how it counts.
 use Rattle.std.specs.Prelude.{◌+◌, Option, Some, None}
 use Rattle.lx_spec.specs.declared.Refusal.{Refusal}
-use Rattle.lx_spec.specs.Replies.{Counts}
+use Rattle.lx_spec.specs.Session.{Counts}
 use Rattle.lx_script.specs.declared.reply.Reply.{Reply}
 use Rattle.lx_script.specs.declared.reply.Reply.TheVariants as replies
 

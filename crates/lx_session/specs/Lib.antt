@@ -1,4 +1,3 @@
-pub mod Meaning
 pub mod Turning
 pub mod Attempts
 pub mod Replying

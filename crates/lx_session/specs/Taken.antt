@@ -6,10 +6,10 @@ use Rattle.lx_lex.specs.Handed.{HandedOut}
 use Rattle.lx_lex.specs.Unread.{unread}
 use Rattle.lx_spec.specs.Text.{without_cr}
 use Rattle.lx_spec.specs.Stands.{Kept}
-use Rattle.lx_spec.specs.Replies.{Session}
+use Rattle.lx_spec.specs.Session.{Session, ends_script}
+use Rattle.lx_spec.specs.Script.{line_of}
 use Rattle.lx_console.specs.Standing.{StandsFor}
 use Rattle.lx_session.specs.declared.tally.Tally.{Tally}
-use Rattle.lx_session.specs.Meaning.{meaning_of, ends_script}
 use Rattle.lx_session.specs.Given.{GivenOn, GivenInPart}
 use Rattle.lx_session.specs.Replying.{counts_in}
 
@@ -23,13 +23,13 @@ pub record PassedOne {S : Type 0} (left : S → Option (List ℕ)) (faults : S �
 pub record TookOne {S : Type 0} (left : S → Option (List ℕ)) (faults : S → ℕ) (old new : Lines S) (held held' : Option (List ℕ)) (s : Session) (console : Kept) (tally : Tally) : Type 0 where
   pub raw : List ℕ
   pub handed : HandedOut left faults old new (raw ∷ [])
-  pub given_on : GivenOn held held' s (meaning_of (without_cr raw)) console tally
+  pub given_on : GivenOn held held' s (line_of (without_cr raw)) console tally
 
 -- One line was handed out, done, and a front of its reply written.
 pub record TookOneInPart {S : Type 0} (left : S → Option (List ℕ)) (faults : S → ℕ) (old new : Lines S) (held held' : Option (List ℕ)) (s : Session) (console : Kept) : Type 0 where
   pub raw : List ℕ
   pub handed : HandedOut left faults old new (raw ∷ [])
-  pub given : GivenInPart held held' s (meaning_of (without_cr raw)) console
+  pub given : GivenInPart held held' s (line_of (without_cr raw)) console
 
 -- One line was handed out, which ends the script.
 pub record TookQuit {S : Type 0} (left : S → Option (List ℕ)) (faults : S → ℕ) (old new : Lines S) : Type 0 where

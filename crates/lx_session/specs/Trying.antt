@@ -5,10 +5,11 @@ use Rattle.lx_spec.specs.declared.Command.{Command}
 use Rattle.lx_spec.specs.declared.Refusal.{Refusal}
 use Rattle.lx_spec.specs.Desk.{Desk, step}
 use Rattle.lx_spec.specs.Stands.{Kept}
-use Rattle.lx_spec.specs.Replies.{Session, Attempt}
-use Rattle.lx_console.specs.Standing.{StandsFor, is_edit}
-use Rattle.lx_session.specs.Turning.{Turning, command_of}
-use Rattle.lx_session.specs.Attempts.{attempts_for, WantsLast}
+use Rattle.lx_spec.specs.Session.{Session, Attempt, command_of, attempts_for}
+use Rattle.lx_spec.specs.RefusedPlaces.{is_edit}
+use Rattle.lx_console.specs.Standing.{StandsFor}
+use Rattle.lx_session.specs.Turning.{Turning}
+use Rattle.lx_session.specs.Attempts.{WantsLast}
 
 -- the attempts that are left, unless one was refused
 abbrev pub resumed : List ℕ → Option Command → ℕ → Option Refusal → Session → Attempt

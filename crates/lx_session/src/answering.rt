@@ -2,7 +2,7 @@
 
 ghost use Rattle.std.specs.Prelude.{◌≡◌, ◌<◌, ◌≤◌, ◌^◌, ◌+◌, ◌-◌, IfOk, None, not, option_copied};
 ghost use Rattle.lx_io.specs.Puts.{HasSinkCause};
-ghost use Rattle.lx_spec.specs.Replies.{Session, is_quit};
+ghost use Rattle.lx_spec.specs.Session.{Session, is_quit};
 ghost use Rattle.lx_console.specs.Standing.{StandsFor};
 ghost use Rattle.lx_session.specs.Turning.{given, next_of};
 ghost use Rattle.lx_session.specs.Replying.{counts_in};

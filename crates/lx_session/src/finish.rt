@@ -4,13 +4,14 @@ ghost use Rattle.std.specs.Prelude.{◌≡◌, ◌<◌, ◌≤◌, ◌^◌, ◌+
 ghost use Rattle.lx_base.specs.declared.TheConstants.{UNIVERSES, SLOTS};
 ghost use Rattle.lx_io.specs.Puts.{Puts, HasSinkCause};
 ghost use Rattle.lx_spec.specs.Desk.{Desk};
-ghost use Rattle.lx_spec.specs.Replies.{is_quit, frame_text, row_text};
+ghost use Rattle.lx_spec.specs.Replies.{frame_text, row_text};
 ghost use Rattle.lx_spec.specs.Output.{frame};
+ghost use Rattle.lx_spec.specs.ShowText.{show_text};
 ghost use Rattle.lx_script.specs.ReplyTexts.{reply_text};
 ghost use Rattle.lx_console.specs.Slots.{universe as universe_in};
 ghost use Rattle.lx_console.specs.Standing.{StandsFor};
 ghost use Rattle.lx_spec.specs.ValidEdit.{ValidLine};
-ghost use Rattle.lx_session.specs.Meaning.{is_built};
+ghost use Rattle.lx_spec.specs.Session.{is_quit};
 ghost use Rattle.lx_session.specs.Turning.{next_of};
 ghost use Rattle.lx_session.specs.Replying.{reply_to, counts_after, counts_in};
 ghost use Rattle.lx_session.specs.Counting.{reply_for, counted};
@@ -23,6 +24,7 @@ use lx_io::{Sink, SinkFault};
 use lx_report::put_row;
 use lx_script::{Reply, put_frame, put_reply};
 use lx_spec::{Line, Refusal};
+use lx_writer::write_show;
 
 impl Turn {
     /// Appends the reply to the line after its attempts, and counts it. It answers false exactly for
@@ -64,7 +66,6 @@ fn reply_to_line<K: Sink>(
     tally: &mut Tally,
 ) -> Result<bool, SinkFault>
     requires valid { ValidLine line.now }
-    requires built { is_built line.now ≡ true }
     requires ok { tally.old.ok < 2 ^ 64 - 1 }
     requires refused { tally.old.refused < 2 ^ 64 - 1 }
     requires bad { tally.old.bad < 2 ^ 64 - 1 }
@@ -80,7 +81,7 @@ fn reply_to_line<K: Sink>(
         Line::Command(_) => give(reply_of(refusal), sink, tally),
         Line::Ticks(_) => give(reply_of(refusal), sink, tally),
         Line::Frame(universe) => put_universe(*universe, console, sink),
-        Line::Save => unreachable!(),
+        Line::Save => put_show(console, sink),
         Line::SheetOf(n) => put_sheet(*n, refusal, console, sink, tally),
         Line::Quit => Ok(false),
         Line::Blank => Ok(true),
@@ -146,6 +147,16 @@ fn give_row<K: Sink>(n: CueNo, row: &[Level], sink: &mut K) -> Result<bool, Sink
     ensures more { IfOk result (λ more. more ≡ true) }
 {
     put_row(n, row, sink)?;
+    Ok(true)
+}
+
+/// Appends the canonical text of the show.
+fn put_show<K: Sink>(console: &Console, sink: &mut K) -> Result<bool, SinkFault>
+    ensures cause { HasSinkCause K.faults K.wants sink.old sink.new result }
+    ensures text { (d : Desk) → StandsFor d console.now → Puts K.holds K.faults K.wants sink.old sink.new result (show_text d.show) }
+    ensures more { IfOk result (λ more. more ≡ true) }
+{
+    write_show(console.show(), sink)?;
     Ok(true)
 }
 

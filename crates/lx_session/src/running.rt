@@ -6,9 +6,10 @@ ghost use Rattle.lx_io.specs.Causes.{Rose};
 ghost use Rattle.lx_lex.specs.Unread.{unread};
 ghost use Rattle.lx_spec.specs.Text.{lines_of};
 ghost use Rattle.lx_spec.specs.Desk.{Desk};
+ghost use Rattle.lx_spec.specs.Session.{bytes_wanted};
 ghost use Rattle.lx_console.specs.Standing.{StandsFor};
 ghost use Rattle.lx_session.specs.Faults.{is_of_sink};
-ghost use Rattle.lx_session.specs.Scripts.{AnswersAll, AnswersFront, AnswersLines, bytes_wanted};
+ghost use Rattle.lx_session.specs.Scripts.{AnswersAll, AnswersFront, AnswersLines};
 
 use crate::fault::SessionFault;
 use crate::taking::take_line;

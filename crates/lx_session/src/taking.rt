@@ -7,7 +7,7 @@ ghost use Rattle.lx_io.specs.Puts.{HasSinkCause};
 ghost use Rattle.lx_lex.specs.Unread.{unread, line_of};
 ghost use Rattle.lx_lex.specs.CutOff.{NotTaken};
 ghost use Rattle.lx_lex.specs.Lines.{StepOf};
-ghost use Rattle.lx_spec.specs.Replies.{Session, is_quit};
+ghost use Rattle.lx_spec.specs.Session.{Session, is_quit};
 ghost use Rattle.lx_console.specs.Standing.{StandsFor};
 ghost use Rattle.lx_session.specs.Turning.{given};
 ghost use Rattle.lx_session.specs.Replying.{counts_in};

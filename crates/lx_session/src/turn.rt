@@ -3,9 +3,9 @@
 ghost use Rattle.std.specs.Prelude.{◌≡◌, ◌-◌, false, is_some, is_none, not, map, option_map, option_copied, IsTrue, IfSome};
 ghost use Rattle.lx_spec.specs.Desk.{Desk};
 ghost use Rattle.lx_spec.specs.ValidEdit.{ValidCommand};
+ghost use Rattle.lx_spec.specs.Session.{count_of, command_of};
 ghost use Rattle.lx_console.specs.Standing.{StandsFor};
-ghost use Rattle.lx_session.specs.Meaning.{built};
-ghost use Rattle.lx_session.specs.Turning.{turn_of, given, next_of, count_of, command_of};
+ghost use Rattle.lx_session.specs.Turning.{turn_of, given, next_of};
 ghost use Rattle.lx_session.specs.Attempts.{Attempted};
 
 use lx_console::Console;
@@ -43,7 +43,7 @@ impl Turn {
         ensures { result ≡ turn_of (given (option_copied line.entry)) }
     {
         let meaning = match line {
-            Some(line) => built(read_command(line)),
+            Some(line) => read_command(line),
             None => None,
         };
         let left = count_of(&meaning);
@@ -97,16 +97,6 @@ fn try_command(command: &Command, console: &mut Console, admitted: bool) -> Opti
         return Some(Refusal::Memory);
     }
     console.command(command).err()
-}
-
-/// The line, where sessions answer such lines.
-fn built(meaning: Option<Line>) -> Option<Line>
-    ensures { result ≡ built meaning }
-{
-    match meaning {
-        Some(Line::Save) => None,
-        other => other,
-    }
 }
 
 /// How many commands a line has.

@@ -2,7 +2,7 @@
 use Rattle.std.specs.Prelude.{◌≡◌, [], ◌∷◌, ◌++◌, refl, codes}
 use Rattle.std.specs.Fmt.{digits}
 use Rattle.lx_spec.specs.declared.Form.TheVariants.{Moves}
-use Rattle.lx_spec.specs.Jobs.{render_output}
+use Rattle.lx_spec.specs.RenderOutput.{render_output}
 use Rattle.lx_spec.proofs.ScriptTexts.{text, played, patched_show}
 
 -- a cue-only edit leaves the look of the cue above as it was; a second one changes nothing

@@ -2,7 +2,8 @@
 use Rattle.std.specs.Prelude.{◌≡◌, ℕ, List, [], ◌∷◌, ◌++◌, refl, codes}
 use Rattle.std.specs.Fmt.{digits}
 use Rattle.lx_spec.specs.declared.Form.TheVariants.{Moves, States}
-use Rattle.lx_spec.specs.Jobs.{check_output, render_output}
+use Rattle.lx_spec.specs.CheckOutput.{check_output}
+use Rattle.lx_spec.specs.RenderOutput.{render_output}
 use Rattle.lx_spec.proofs.ScriptTexts.{text, crlf_text}
 
 abbrev uncut : List (List ℕ)

@@ -2,7 +2,7 @@
 use Rattle.std.specs.Prelude.{◌≡◌, replicate, [], ◌∷◌, ◌++◌, refl, codes}
 use Rattle.std.specs.Fmt.{digits}
 use Rattle.lx_spec.specs.declared.Form.TheVariants.{Moves}
-use Rattle.lx_spec.specs.Jobs.{render_output}
+use Rattle.lx_spec.specs.RenderOutput.{render_output}
 use Rattle.lx_spec.proofs.ScriptTexts.{text, played}
 
 -- one cue, its frame, and the canonical text of its show

@@ -1,7 +1,7 @@
 -- Whole inputs of the examples: a show's lines and a script's lines, and the text that is written for them.
 use Rattle.std.specs.Prelude.{ℕ, List, [], ◌∷◌, ◌++◌, flat_map, codes}
 use Rattle.lx_spec.specs.declared.Form.TheVariants.{Moves}
-use Rattle.lx_spec.specs.Jobs.{render_output}
+use Rattle.lx_spec.specs.RenderOutput.{render_output}
 
 -- the lines, each with its LF
 abbrev pub text : List (List ℕ) → List ℕ

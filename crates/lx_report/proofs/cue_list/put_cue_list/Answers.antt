@@ -2,9 +2,8 @@ use Rattle.std.proofs.Common.{◌≡◌, ◌<◌, ◌+◌, ◌++◌, List, ℕ, 
 use Rattle.std.specs.Prelude.{flat_map}
 use Rattle.lx_io.proofs.Chain.{Puts-then, Puts-stops, Puts-is}
 use Rattle.lx_spec.specs.Show.{Cue}
-use Rattle.lx_spec.specs.Jobs.{cue_lines}
+use Rattle.lx_spec.specs.SheetOutput.{cue_line, cue_lines}
 use Rattle.lx_spec.specs.Replies.{row_text}
-use Rattle.lx_report.specs.CueLine.{cue_line}
 use Rattle.lx_report.proofs.Reports.{entry_there, pieces_more, pieces_around}
 use Rattle.lx_report.proofs.cue_list.put_cue_list.Goals as goal
 

@@ -1,7 +1,7 @@
 use Rattle.std.proofs.Common.{take, Ok}
 use Rattle.std.specs.Prelude.{flat_map}
 use Rattle.lx_io.specs.Puts.{Puts}
-use Rattle.lx_spec.specs.Jobs.{cue_lines}
+use Rattle.lx_spec.specs.SheetOutput.{cue_lines}
 use Rattle.lx_report.proofs.cue_list.put_cue_list.Given as goal
 
 abbrev pub invariant-loop-cue : goal.invariant-loop-cue

@@ -1,5 +1,5 @@
 use Rattle.std.proofs.Common.{◌≡◌}
-use Rattle.lx_spec.specs.Replies.{Session}
+use Rattle.lx_spec.specs.Session.{Session}
 use Rattle.lx_console.specs.Standing.{StandsFor}
 use Rattle.lx_session.specs.Trying.{Trying}
 use Rattle.lx_session.proofs.answering.attempt_all.Given as goal

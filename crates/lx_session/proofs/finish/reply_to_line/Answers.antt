@@ -1,7 +1,7 @@
 use Rattle.std.proofs.Common.{Some, ap, sym}
 use Rattle.lx_session.specs.Replying.{reply_to, counts_in}
 use Rattle.lx_io.proofs.Chain.{Puts-is}
-use Rattle.lx_session.proofs.Replies.{frame_reply, frame_counts, on_ok, sheet_counts}
+use Rattle.lx_session.proofs.Replies.{frame_reply, frame_counts, save_reply, save_counts, on_ok, sheet_counts}
 use Rattle.lx_session.proofs.finish.reply_to_line.Goals as goal
 
 pub returns-in-Frame-clause-text : goal.returns-in-Frame-clause-text
@@ -9,6 +9,12 @@ returns-in-Frame-clause-text g c = λ d stands. Puts-is (c.put_universe.ensures.
 
 pub returns-in-Frame-clause-counts : goal.returns-in-Frame-clause-counts
 returns-in-Frame-clause-counts g c = λ d stands. on_ok _ _ (frame_counts d _ _ _ _ c.in-Frame.is)
+
+pub returns-in-Save-clause-text : goal.returns-in-Save-clause-text
+returns-in-Save-clause-text g c = λ d stands. Puts-is (c.put_show.ensures.text d stands) (save_reply d _ _ c.in-Save.is)
+
+pub returns-in-Save-clause-counts : goal.returns-in-Save-clause-counts
+returns-in-Save-clause-counts g c = λ d stands. on_ok _ _ (save_counts d _ _ _ c.in-Save.is)
 
 pub returns-in-SheetOf-clause-text : goal.returns-in-SheetOf-clause-text
 returns-in-SheetOf-clause-text g c = λ d stands. Puts-is (c.put_sheet.ensures.text d stands) (ap (λ line. reply_to d (Some line) c.args.refusal) (sym c.in-SheetOf.is))

@@ -1,5 +1,4 @@
 use Rattle.std.proofs.Common.{◌≡◌, Some, Ok, Err, ap, sym, ◌∙◌, refl, subst, arith, IfErr, IfSome}
-use Rattle.lx_spec.specs.Replies.{Session}
 use Rattle.lx_session.proofs.SoFar.{so_far_none, so_far_more, passed_none, passed_more, fits, too_long}
 use Rattle.lx_session.proofs.Ends.{so_far_ends, so_far_stops, so_far_unread, fault_at, same_fault}
 use Rattle.lx_session.proofs.running.session.Goals as goal

@@ -1,0 +1,24 @@
+-- The first lines of an input, and an input that was cut off.
+use Rattle.std.specs.Prelude.{◌≡◌, ◌≢◌, ◌≤◌, ℕ, zero, suc, ◌+◌, ◌-◌, ◌==◌, Option, IfSome, List, [], ◌∷◌, ◌++◌, length, take, if◌then◌else◌}
+use Rattle.std.specs.List.{AllByRecursion}
+use Rattle.lx_base.specs.declared.TheConstants.{INPUT_BYTES}
+
+-- no byte is LF
+abbrev pub HasNoFeed : List ℕ → Type 0
+HasNoFeed bytes = AllByRecursion (λ b. b ≢ 10) bytes
+
+-- the bytes of the first k lines, each with its LF where it has one
+abbrev pub first_lines : ℕ → List ℕ → List ℕ
+first_lines k [] = []
+first_lines zero (b ∷ bs) = []
+first_lines (suc k) (b ∷ bs) = b ∷ first_lines (if b == 10 then k else suc k) bs
+
+-- Of these bytes the source was asked for so many lines, which lie within the limit of the input, and for some of the bytes behind
+-- them, among which, as far as they are within the limit, is no LF. `before` bytes of the input were taken before, and `left` is
+-- what the source has left.
+pub record CutOff (before : ℕ) (bytes : List ℕ) (left : Option (List ℕ)) : Type 0 where
+  pub lines : ℕ
+  pub next : List ℕ
+  pub taken : IfSome left (λ rest. bytes ≡ first_lines lines bytes ++ (next ++ rest))
+  pub within : before + length (first_lines lines bytes) ≤ INPUT_BYTES
+  pub no_feed : HasNoFeed (take (INPUT_BYTES - (before + length (first_lines lines bytes))) next)
