@@ -1,4 +1,5 @@
 -- Rows of levels, place by place.
+use Rattle.lx_base.specs.Numbers.{scaled}
 use Rattle.std.specs.Prelude.{◌≡◌, ◌≢◌, ℕ, ◌+◌, ◌≤◌, ◌<◌, List, length, slice_index}
 
 -- two rows agree at each place from one to below another
@@ -17,6 +18,10 @@ pub record IsRun (old new : List ℕ) (at lanes run : ℕ) : Type 0 where
   pub most : run ≤ lanes
   pub agree : Agree old new at (at + run)
   pub stops : run < lanes → slice_index old (at + run) ≢ slice_index new (at + run)
+
+-- each entry, from one place to below another, is the level there in proportion to the other row's
+abbrev pub IsScaled : List ℕ → List ℕ → List ℕ → ℕ → ℕ → Type 0
+IsScaled levels by out from to = (k : ℕ) → from ≤ k → k < to → slice_index out k ≡ scaled (slice_index levels k) (slice_index by k)
 
 -- thirty-two values, each what its place has
 pub record HasLanes (values : List ℕ) (value : ℕ → ℕ) : Type 0 where

@@ -3,11 +3,8 @@
 ghost use Rattle.std.specs.Prelude.{◌≡◌, ◌≤◌, ◌+◌, None, IfSome, length};
 ghost use Rattle.lx_base.specs.Rows.{Agree, IsNextChange, IsRun};
 
-use crate::Level;
+use crate::{LANES, Level};
 use std::simd::prelude::*;
-
-/// How many levels are compared at once.
-const LANES: usize = 32;
 
 /// The least place from `from` on where the two rows differ. `None` exactly where they agree from there to
 /// their end. The rows have one length, and `from` is at most that.

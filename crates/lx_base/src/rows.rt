@@ -2,13 +2,10 @@
 
 ghost use Rattle.std.specs.Prelude.{◌≡◌, ℕ, ◌≤◌, ◌<◌, ◌+◌, length, slice_index, EachIndex};
 ghost use Rattle.lx_base.specs.Numbers.{scaled};
-ghost use Rattle.lx_base.specs.Rows.{HasLanes};
+ghost use Rattle.lx_base.specs.Rows.{HasLanes, IsScaled};
 
-use crate::{Level, scale};
+use crate::{LANES, Level, scale};
 use std::simd::prelude::*;
-
-/// How many levels are scaled at once.
-const LANES: usize = 32;
 
 /// Scales each level by the one at its place: each entry of `out` is `scale` of the two entries at its place.
 /// The rows have one length.
@@ -29,7 +26,7 @@ fn scale_rest(levels: &[Level], by: &[Level], out: &mut [Level], from: usize)
     requires levels { length levels.now ≡ length out.old }
     requires by { length by.now ≡ length out.old }
     ensures before { (k : ℕ) → k < from → slice_index out.new k ≡ slice_index out.old k }
-    ensures rest { (k : ℕ) → from ≤ k → k < length out.new → slice_index out.new k ≡ scaled (slice_index levels.now k) (slice_index by.now k) }
+    ensures rest { IsScaled levels.now by.now out.new from (length out.new) }
 {
     for i in from..out.len() {
         out[i] = scale(levels[i], by[i]);
@@ -42,7 +39,7 @@ fn scale_block(levels: &[Level], by: &[Level], out: &mut [Level], at: usize)
     requires by { at + LANES ≤ length by.now }
     requires out { at + LANES ≤ length out.old }
     ensures before { (k : ℕ) → k < at → slice_index out.new k ≡ slice_index out.old k }
-    ensures block { (k : ℕ) → at ≤ k → k < at + LANES → slice_index out.new k ≡ scaled (slice_index levels.now k) (slice_index by.now k) }
+    ensures block { IsScaled levels.now by.now out.new at (at + LANES) }
 {
     let levels = u8x32::from_slice(&levels[at..]);
     let by = u8x32::from_slice(&by[at..]);

@@ -1,5 +1,5 @@
 -- Tables: what they tell, one value of them changed, and a mix of two.
-use Rattle.std.specs.Prelude.{◌≡◌, ℕ, ◌+◌, ◌-◌, ◌<◌, ◌≤◌, max, List, length, EachIndex}
+use Rattle.std.specs.Prelude.{◌≡◌, ℕ, ◌+◌, ◌-◌, ◌≤◌, max, List, length, EachIndex}
 use Rattle.std.proofs.Common.{arith, get_or, set, get_or-set_other, ◌∙◌, ap, sym, inl, inr}
 use Rattle.std.proofs.Math.ListN.{length-set}
 use Rattle.std.proofs.lemmas.Bool.{cases_order}

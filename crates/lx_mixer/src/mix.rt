@@ -1,9 +1,12 @@
 //! The greatest of two rows of levels, under a master.
 
-ghost use Rattle.std.specs.Prelude.{◌≡◌, max, length, slice_index, EachIndex};
+ghost use Rattle.std.specs.Prelude.{◌≡◌, ◌≤◌, ◌<◌, ◌+◌, ℕ, max, length, slice_index, EachIndex};
 ghost use Rattle.lx_base.specs.Numbers.{scaled};
+ghost use Rattle.lx_base.specs.Rows.{HasLanes};
+ghost use Rattle.lx_mixer.specs.Mix.{IsMixed};
 
-use lx_base::{Level, scale};
+use lx_base::{LANES, Level, scale, scale_lanes};
+use std::simd::prelude::*;
 
 /// Mixes by the greatest, as consoles do: each channel's output is the greater of the level that the
 /// playback gives it and the one that the submasters do, in proportion to the master. The channels
@@ -13,7 +16,42 @@ pub fn mix_into(playback: &[Level], subs: &[Level], master: Level, out: &mut [Le
     requires subs { length subs.now ≡ length out.old }
     ensures { EachIndex out.new (λ k. slice_index out.new k ≡ scaled (max (slice_index playback.now k) (slice_index subs.now k)) master) }
 {
-    for (i, level) in out.iter_mut().enumerate() {
-        *level = scale(playback[i].max(subs[i]), master);
+    let blocks = out.len() / LANES;
+    for i in 0..blocks {
+        mix_block(playback, subs, master, out, LANES * i);
+    }
+    mix_rest(playback, subs, master, out, LANES * blocks);
+}
+
+/// Mixes the 32 channels from a place on.
+fn mix_block(playback: &[Level], subs: &[Level], master: Level, out: &mut [Level], at: usize)
+    requires playback { at + LANES ≤ length playback.now }
+    requires subs { at + LANES ≤ length subs.now }
+    requires out { at + LANES ≤ length out.old }
+    ensures before { (k : ℕ) → k < at → slice_index out.new k ≡ slice_index out.old k }
+    ensures block { IsMixed playback.now subs.now master out.new at (at + LANES) }
+{
+    let playback = u8x32::from_slice(&playback[at..]);
+    let subs = u8x32::from_slice(&subs[at..]);
+    scale_lanes(greater(playback, subs), u8x32::splat(master)).copy_to_slice(&mut out[at..]);
+}
+
+/// The greater of the two levels in each lane.
+#[inline(always)]
+fn greater(playback: u8x32, subs: u8x32) -> u8x32
+    ensures { HasLanes result (λ k. max (slice_index playback k) (slice_index subs k)) }
+{
+    playback.simd_max(subs)
+}
+
+/// Mixes the channels from a place on, one by one.
+fn mix_rest(playback: &[Level], subs: &[Level], master: Level, out: &mut [Level], from: usize)
+    requires playback { length playback.now ≡ length out.old }
+    requires subs { length subs.now ≡ length out.old }
+    ensures before { (k : ℕ) → k < from → slice_index out.new k ≡ slice_index out.old k }
+    ensures rest { IsMixed playback.now subs.now master out.new from (length out.new) }
+{
+    for i in from..out.len() {
+        out[i] = scale(playback[i].max(subs[i]), master);
     }
 }

@@ -2,6 +2,7 @@
 
 use crate::mix_into;
 use lx_base::Level;
+use std::test::Fail;
 
 /// All levels, each at its own place.
 fn all_levels() -> [Level; 256] {
@@ -47,4 +48,19 @@ fn the_greatest_goes_out(rt: HostRuntime) {
     assert!(rt; out == [50, 50, 50, 128, 0]);
     mix_into(&playback, &subs, 0, &mut out);
     assert!(rt; out == [0; 5]);
+}
+
+/// Rows that end before 32 channels, with them and past them: each channel is mixed.
+#[test]
+fn rows_of_any_length_are_mixed_to_their_end(rt: HostRuntime) -> Result<(), Fail> {
+    for length in [0, 1, 31, 32, 33, 2_048] {
+        let playback = vec![in rt.alloc(); 100; length]?;
+        let subs = vec![in rt.alloc(); 200; length]?;
+        let mut out = vec![in rt.alloc(); 7; length]?;
+        mix_into(&playback, &subs, 51, &mut out);
+        for level in out.iter() {
+            assert_eq!(rt; *level, 40, "of {length}");
+        }
+    }
+    Ok(())
 }
