@@ -2,7 +2,7 @@
 use Rattle.std.proofs.Common.{◌≡◌, ◌⊎◌, inl, inr, Bool, true, false, Result, Ok, Err, OnOk, IfOk, IfErr, IfSome, Option, Some, None, refl, List, ℕ}
 use Rattle.lx_spec.specs.Text.{lines_of}
 use Rattle.lx_spec.specs.Desk.{Desk}
-use Rattle.lx_spec.specs.Stands.{Kept}
+use Rattle.lx_spec.specs.Kept.{Kept}
 use Rattle.lx_spec.specs.Session.{replies}
 use Rattle.lx_console.specs.Standing.{StandsFor}
 use Rattle.lx_session.specs.declared.fault.SessionFault.{SessionFault}

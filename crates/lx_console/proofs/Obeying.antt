@@ -15,7 +15,7 @@ use Rattle.lx_spec.specs.SortedList.{has_entry}
 use Rattle.lx_spec.specs.Playback.{Played, press, tick}
 use Rattle.lx_spec.specs.EditedShow.{edited}
 use Rattle.lx_spec.specs.Desk.{Desk, opened, step, after_play, after_command, replay}
-use Rattle.lx_spec.specs.Stands.{Kept, kept}
+use Rattle.lx_spec.specs.Kept.{Kept, kept}
 use Rattle.lx_spec.specs.Laws.{KeepsRest}
 use Rattle.lx_spec.specs.Show.{Show}
 use Rattle.lx_spec.proofs.RestKept.{kept-step, kept-replay}
@@ -116,7 +116,7 @@ answers d command (Err refusal) now obeys = record { ok = tt; err = inl obeys.er
 pub stands_over : (d : Desk) (show : Show) (before : Kept) → StandsFor d before → StandsFor (record d { show = show }) (record before { show = show })
 stands_over d show before stands = record {
   same = ap (λ (k : Kept). record k { show = show }) stands.same;
-  rest = record { from = stands.rest.from; front = stands.rest.front; all_is = stands.rest.all_is; base_is = stands.rest.base_is; still = stands.rest.still; later = stands.rest.later; begun = stands.rest.begun };
+  rest = record { from = stands.rest.from; older = stands.rest.older; all_is = stands.rest.all_is; base_is = stands.rest.base_is; still = stands.rest.still; later = stands.rest.later; begun = stands.rest.begun };
 }
 
 edited_ok : (d : Desk) (r : Result Show Refusal) (now : Kept) → IfOk (r >>= (λ show. Ok (record d { show = show }))) KeepsRest → IsOkAnd r (λ show. now ≡ record (kept d) { show = show }) → IsOkAnd (r >>= (λ show. Ok (record d { show = show }))) (λ next. StandsFor next now)

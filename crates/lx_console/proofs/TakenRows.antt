@@ -4,7 +4,7 @@ use Rattle.std.proofs.Common.{arith, ap, sym, ◌∙◌, inl, inr}
 use Rattle.std.proofs.lemmas.Bool.{cases_order}
 use Rattle.lx_spec.specs.declared.PatchRow.{PatchRow}
 use Rattle.lx_spec.specs.SortedList.{entry_at, placed, taken_out}
-use Rattle.lx_show.proofs.RisingLists.{found_number}
+use Rattle.lx_show.proofs.SortedLists.{found_number}
 use Rattle.lx_show.proofs.Placed.{entry_at-placed_here, entry_at-placed_other}
 use Rattle.lx_patch.specs.Patched.{Patching, StandsForPatch}
 use Rattle.lx_patch.proofs.Rows.{gone, others_stay, stands_alike}

@@ -7,7 +7,7 @@ use Rattle.lx_spec.specs.declared.PatchRow.{PatchRow}
 use Rattle.lx_spec.specs.SortedList.{entry_at}
 use Rattle.lx_spec.specs.Show.{Show, Sub}
 use Rattle.lx_spec.specs.Output.{contribution, dimmer_value}
-use Rattle.lx_spec.specs.Stands.{Kept}
+use Rattle.lx_spec.specs.Kept.{Kept}
 use Rattle.lx_spec.proofs.Columns.{level-columns}
 use Rattle.lx_show.proofs.Placed.{entry_at-placed_other}
 use Rattle.lx_edit.specs.declared.plans.Plan.{Plan}
@@ -113,8 +113,8 @@ untouched k after plan dirty stage filled is others dimmer subs clean =
       levels_stand = table channels levels filled.levels_stand;
       patch_stands = subst (λ (rows : List PatchRow). StandsForPatch rows stage.table) patch filled.patch_stands;
       outs_stand = table channels outs filled.outs_stand;
-      slots_stand = subst (λ (rows : List PatchRow). IsTable SLOTS (dimmer_value (record k.show { patch = rows }) (out_now (record k { show = after }))) stage.slots.items) patch
-          (subst (λ (o : ℕ → ℕ). IsTable SLOTS (dimmer_value k.show o) stage.slots.items) outs filled.slots_stand);
+      slots_stand = subst (λ (rows : List PatchRow). IsTable SLOTS (dimmer_value rows (out_now (record k { show = after }))) stage.slots.items) patch
+          (subst (λ (o : ℕ → ℕ). IsTable SLOTS (dimmer_value k.show.patch o) stage.slots.items) outs filled.slots_stand);
     } where
       table : {n m : ℕ} {f g : ℕ → ℕ} {xs : List ℕ} → n ≡ m → f ≡ g → IsTable n f xs → IsTable m g xs
       table {n = n} {g = g} {xs = xs} reach value t = subst (λ x. IsTable x g xs) reach (subst (λ (v : ℕ → ℕ). IsTable n v xs) value t)

@@ -4,7 +4,7 @@ use Rattle.lx_base.specs.declared.TheConstants.{SLOTS, RUNS}
 use Rattle.lx_spec.specs.declared.PatchRow.{PatchRow}
 use Rattle.lx_spec.specs.SortedList.{entry_at}
 use Rattle.lx_spec.specs.Output.{dimmer_value}
-use Rattle.lx_spec.specs.Stands.{Kept}
+use Rattle.lx_spec.specs.Kept.{Kept}
 use Rattle.lx_sheet.specs.Rows.{Sheet}
 use Rattle.lx_sheet.specs.Standing.{StandsFor}
 use Rattle.lx_edit.specs.declared.dirty.Dirty.{Dirty}
@@ -28,7 +28,7 @@ pub record IsFilled (console : Kept) (stage : Stage) : Type 0 where
   pub levels_stand : IsTable console.show.channels (level_now console) stage.levels.items
   pub patch_stands : StandsForPatch console.show.patch stage.table
   pub outs_stand : IsTable console.show.channels (out_now console) stage.outs.items
-  pub slots_stand : IsTable SLOTS (dimmer_value console.show (out_now console)) stage.slots.items
+  pub slots_stand : IsTable SLOTS (dimmer_value console.show.patch (out_now console)) stage.slots.items
 
 -- the table stands for these rows but for that of the dimmer, if there is one
 pub record IsPatchedBut (rows : List PatchRow) (dimmer : Option ℕ) (table : Patching) : Type 0 where

@@ -10,7 +10,7 @@ use Rattle.lx_spec.specs.Playback.{Playback}
 use Rattle.lx_spec.specs.Desk.{Desk, step}
 use Rattle.lx_spec.specs.RefusedPlaces.{is_edit}
 use Rattle.lx_spec.specs.Output.{contribution}
-use Rattle.lx_spec.specs.Stands.{Kept, kept}
+use Rattle.lx_spec.specs.Kept.{Kept, kept}
 use Rattle.lx_spec.specs.Laws.{KeepsRest}
 
 -- the level of a channel at the present moment, over the base and the live runs

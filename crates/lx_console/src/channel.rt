@@ -5,7 +5,7 @@ ghost use Rattle.std.specs.List.{All};
 ghost use Rattle.lx_base.specs.declared.TheConstants.{RUNS, TICK_END};
 ghost use Rattle.lx_spec.specs.TrackedLevel.{tracked};
 ghost use Rattle.lx_spec.specs.Level.{level, run_over};
-ghost use Rattle.lx_spec.specs.Fades.{stack_at};
+ghost use Rattle.lx_fade.specs.Fades.{stack_at};
 ghost use Rattle.lx_fade.specs.Row.{stack_in};
 ghost use Rattle.lx_sheet.specs.Standing.{StandsFor};
 ghost use Rattle.lx_playback.specs.Valid.{ValidRun};

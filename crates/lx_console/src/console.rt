@@ -51,7 +51,7 @@ pub struct Console {
 }
 
 impl Model for Console {
-    ghost use Rattle.lx_spec.specs.Stands.{Kept};
+    ghost use Rattle.lx_spec.specs.Kept.{Kept};
     ghost use Rattle.lx_console.specs.Filled.{IsKept};
 
     ghost Value = { Kept };
@@ -143,7 +143,7 @@ impl Console {
     /// The slots of the 8,192 dimmers at the present moment, 512 for each universe: those of the desk's
     /// frames.
     pub fn frames(&self) -> &[Level]
-        ensures slots { IsTable SLOTS (dimmer_value self.now.show (out_now self.now)) result.now }
+        ensures slots { IsTable SLOTS (dimmer_value self.now.show.patch (out_now self.now)) result.now }
         ensures frames { (d : Desk) (u : ℕ) → StandsFor d self.now → 1 ≤ u → u ≤ UNIVERSES → universe u result.now ≡ frame d u }
     {
         self.stage.slots.as_slice()

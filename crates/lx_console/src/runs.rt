@@ -6,7 +6,7 @@ ghost use Rattle.lx_spec.specs.SortedList.{entry_at};
 ghost use Rattle.lx_spec.specs.Show.{IsTime};
 ghost use Rattle.lx_spec.specs.TrackedLevel.{tracked, move_of};
 ghost use Rattle.lx_spec.specs.Run.{acts, entry_for, first_entry};
-ghost use Rattle.lx_spec.specs.Fades.{stack_at};
+ghost use Rattle.lx_fade.specs.Fades.{stack_at};
 ghost use Rattle.lx_fade.specs.Row.{stack_in};
 ghost use Rattle.lx_playback.specs.Valid.{ValidTimes};
 

@@ -8,7 +8,8 @@ ghost use Rattle.lx_spec.specs.Level.{level};
 ghost use Rattle.lx_sheet.specs.Standing.{StandsFor};
 ghost use Rattle.lx_edit.specs.ChanSet.{has_chan};
 ghost use Rattle.lx_mixer.specs.Table.{IsTable};
-ghost use Rattle.lx_patch.specs.Patched.{StandsForPatch, slot_of};
+ghost use Rattle.lx_spec.specs.Output.{dimmer_value};
+ghost use Rattle.lx_patch.specs.Patched.{StandsForPatch};
 ghost use Rattle.lx_subs.specs.Faders.{StandsForSubs};
 ghost use Rattle.lx_console.specs.Filled.{Reaches, IsFilled, IsFilledBut, IsPatchedBut, IsClean};
 
@@ -163,7 +164,7 @@ impl Stage {
         ensures levels { self.new.levels.items ≡ self.old.levels.items }
         ensures patch { self.new.table ≡ self.old.table }
         ensures outs { EachIndex self.new.outs.items (λ k. slice_index self.new.outs.items k ≡ scaled (max (slice_index self.old.levels.items k) (slice_index rack.now.given k)) master) }
-        ensures slots { IsTable SLOTS (slot_of show.now.patch (λ c. slice_index self.new.outs.items (c - 1))) self.new.slots.items }
+        ensures slots { IsTable SLOTS (dimmer_value show.now.patch (λ c. slice_index self.new.outs.items (c - 1))) self.new.slots.items }
         ensures valid { Valid show.now }
     {
         let _ = show.channels();

@@ -7,14 +7,14 @@ use Rattle.std.proofs.lemmas.Bool.{cases_eq, cases_lt, false≢true}
 use Rattle.std.proofs.lemmas.Bool.Decides.{nat_tests}
 use Rattle.lx_base.specs.declared.TheConstants.{CHANNELS}
 use Rattle.lx_spec.specs.declared.Move.{Move}
-use Rattle.lx_spec.specs.SortedList.{Rises, entry_at, placed, taken_out, entries_above, entries_below}
+use Rattle.lx_spec.specs.SortedList.{IsStrictlySorted, entry_at, placed, taken_out, entries_above, entries_below}
 use Rattle.lx_spec.specs.Show.{Cue, Show, Valid, ValidCue}
 use Rattle.lx_spec.specs.TrackedLevel.{tracked, cue_of, move_of, move_in, level_in, decides}
 use Rattle.lx_spec.specs.EditedShow.{with_cue, without_cue}
 use Rattle.lx_spec.specs.Laws.{SameColumn}
 use Rattle.lx_show.specs.Around.{entries_up_to}
 use Rattle.lx_show.proofs.Placed.{placed_same, entry_at-placed_here, entry_at-placed_other}
-use Rattle.lx_show.proofs.RisingLists.{each, filter_all, find_none, found_number, found_valid, found_has, all_reverse}
+use Rattle.lx_show.proofs.SortedLists.{each, filter_all, find_none, found_number, found_valid, found_has, all_reverse}
 use Rattle.lx_sheet.proofs.Past.{tracked_past}
 use Rattle.lx_edit.specs.declared.chan_set.ChanSet.{ChanSet}
 use Rattle.lx_edit.specs.ChanSet.{has_chan}
@@ -111,11 +111,11 @@ with_at show cue n m c same least le =
 
 split_step : (show : Show) (n m c : ℕ) (o : Option Cue) → cue_of show n ≡ o → Valid show → 1 ≤ n → n ≤ m → tracked show m c ≡ walked c (level_from o c (tracked show (n - 1) c)) (later show n m)
 split_step show n m c None is valid least le =
-    ap (λ (cues : List Cue). tracked (record show { cues = cues }) m c) (sym (taken_absent (λ (x : Cue). x.number) n show.cues is)) ∙ tracked-without_cue show n m c valid.cues_rise least le
+    ap (λ (cues : List Cue). tracked (record show { cues = cues }) m c) (sym (taken_absent (λ (x : Cue). x.number) n show.cues is)) ∙ tracked-without_cue show n m c valid.cues_sorted least le
 split_step show n m c (Some old) is valid least le =
     let number : n ≡ old.number = found_number (λ (x : Cue). x.number) n show.cues old is in
     let there : entry_at (λ (x : Cue). x.number) old.number show.cues ≡ Some old = subst (λ k. entry_at (λ (x : Cue). x.number) k show.cues ≡ Some old) number is in
-    ap (λ (cues : List Cue). tracked (record show { cues = cues }) m c) (sym (placed_same (λ (x : Cue). x.number) old show.cues valid.cues_rise there)) ∙ with_at show old n m c (sym number) least le
+    ap (λ (cues : List Cue). tracked (record show { cues = cues }) m c) (sym (placed_same (λ (x : Cue). x.number) old show.cues valid.cues_sorted there)) ∙ with_at show old n m c (sym number) least le
 
 -- the tracked level from a number on, by what comes at the number
 tracked_split : (show : Show) (n m c : ℕ) → Valid show → 1 ≤ n → n ≤ m → tracked show m c ≡ walked c (level_from (cue_of show n) c (tracked show (n - 1) c)) (later show n m)
@@ -164,8 +164,8 @@ move_without show n c k none = elim (cases_eq k n) [
 
 level_without : (show : Show) (n c k : ℕ) → Valid show → 1 ≤ n → SameEntry (cue_of show n) None c (tracked show (n - 1) c) → tracked show k c ≡ tracked (without_cue show n) k c
 level_without show n c k valid least entry = elim (cases_lt k n) [
-  | inl low ↦ sym (tracked_below-without_cue show n k c valid.cues_rise low)
-  | inr high ↦ tracked_split show n k c valid least high ∙ ap (λ base. walked c base (later show n k)) entry.level ∙ sym (tracked-without_cue show n k c valid.cues_rise least high)
+  | inl low ↦ sym (tracked_below-without_cue show n k c valid.cues_sorted low)
+  | inr high ↦ tracked_split show n k c valid least high ∙ ap (λ base. walked c base (later show n k)) entry.level ∙ sym (tracked-without_cue show n k c valid.cues_sorted least high)
 ]
 
 -- a cue taken out, of which the channel sees no difference
@@ -181,12 +181,12 @@ placed_numbers {A} key x y xs same =
     let P : ℕ → Type 0 = λ k. map key (entries_below key (key x) xs ++ (x ∷ entries_above key (key x) xs)) ≡ map key (entries_below key k xs ++ (y ∷ entries_above key k xs)) in
     subst P same (map_append key (entries_below key (key x) xs) (x ∷ entries_above key (key x) xs) ∙ ap (λ k. map key (entries_below key (key x) xs) ++ (k ∷ map key (entries_above key (key x) xs))) same ∙ sym (map_append key (entries_below key (key x) xs) (y ∷ entries_above key (key x) xs)))
 
-numbers_step : {A : Type 0} (key : A → ℕ) (x : A) (xs : List A) (o : Option A) → entry_at key (key x) xs ≡ o → IsTrue (is_some o) → Rises key xs → map key (placed key x xs) ≡ map key xs
-numbers_step key x xs None is there rises = absurd (false≢true there)
-numbers_step {A} key x xs (Some y) is there rises =
+numbers_step : {A : Type 0} (key : A → ℕ) (x : A) (xs : List A) (o : Option A) → entry_at key (key x) xs ≡ o → IsTrue (is_some o) → IsStrictlySorted key xs → map key (placed key x xs) ≡ map key xs
+numbers_step key x xs None is there sorted = absurd (false≢true there)
+numbers_step {A} key x xs (Some y) is there sorted =
     let same : key x ≡ key y = found_number key (key x) xs y is in
-    placed_numbers key x y xs same ∙ ap (map key) (placed_same key y xs rises (subst (λ k. entry_at key k xs ≡ Some y) same is))
+    placed_numbers key x y xs same ∙ ap (map key) (placed_same key y xs sorted (subst (λ k. entry_at key k xs ≡ Some y) same is))
 
 -- a cue in the place of one that is there leaves the numbers
 pub numbers_with : (show : Show) (cue : Cue) → Valid show → IsTrue (is_some (cue_of show cue.number)) → map (λ x. x.number) (with_cue show cue).cues ≡ map (λ x. x.number) show.cues
-numbers_with show cue valid there = numbers_step (λ (x : Cue). x.number) cue show.cues (cue_of show cue.number) refl there valid.cues_rise
+numbers_with show cue valid there = numbers_step (λ (x : Cue). x.number) cue show.cues (cue_of show cue.number) refl there valid.cues_sorted

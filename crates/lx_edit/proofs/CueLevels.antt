@@ -12,7 +12,7 @@ use Rattle.lx_spec.specs.SortedList.{has_entry, taken_out}
 use Rattle.lx_spec.specs.Show.{Cue, Show, ValidCue, ValidMove, ValidMember}
 use Rattle.lx_spec.specs.TrackedLevel.{move_in}
 use Rattle.lx_spec.specs.EditedShow.{all_at, in_proportion, part_for, without_moves, moves_for}
-use Rattle.lx_show.proofs.RisingLists.{found_has, kept_by, Rises-filter}
+use Rattle.lx_show.proofs.SortedLists.{found_has, kept_by, IsStrictlySorted-filter}
 use Rattle.lx_show.proofs.ChangedCues.{with_other_moves}
 use Rattle.lx_edit.specs.Found.{Fits}
 use Rattle.lx_edit.specs.Kept.{base_moves}
@@ -25,7 +25,7 @@ part_of_move channels parts (Some m) base valid = valid.part
 -- the part for a new move is one of the cue's
 pub part_there : (channels : ℕ) (cue : Cue) (part : Option ℕ) (c : ℕ) → ValidCue channels cue → IfSome part (λ p. IsTrue (has_entry (λ x. x.number) p cue.parts)) → IsTrue (has_entry (λ x. x.number) (part_for part cue c) cue.parts)
 part_there channels cue (Some p) c valid there = there
-part_there channels cue None c valid there = part_of_move channels cue.parts (move_in cue c) valid.base_part (found_has (ValidMove channels cue.parts) (λ (m : Move). m.chan == c) cue.moves (move_in cue c) refl valid.moves)
+part_there channels cue None c valid there = part_of_move channels cue.parts (move_in cue c) valid.first_part (found_has (ValidMove channels cue.parts) (λ (m : Move). m.chan == c) cue.moves (move_in cue c) refl valid.moves)
 
 pub moves_fit : (channels : ℕ) (cue : Cue) (part : Option ℕ) (members : List Member) → ValidCue channels cue → IfSome part (λ p. IsTrue (has_entry (λ x. x.number) p cue.parts)) → AllByRecursion (λ m. m.chan ≤ channels) members → AllByRecursion (Fits channels cue.parts) (map (λ m. record { chan = m.chan; part = part_for part cue m.chan; level = m.level }) members)
 moves_fit channels cue part [] valid there all = tt
@@ -33,7 +33,7 @@ moves_fit channels cue part (m ∷ ms) valid there all = (record { chan = all.0;
 
 -- a cue with some of its moves left out
 pub valid_without_moves : (channels : ℕ) (cue : Cue) (range : Span) → ValidCue channels cue → ValidCue channels (without_moves cue range)
-valid_without_moves channels cue range valid = with_other_moves channels cue _ valid (kept_by (ValidMove channels cue.parts) _ cue.moves valid.moves) (Rises-filter (λ (m : Move). m.chan) _ cue.moves valid.moves_rise)
+valid_without_moves channels cue range valid = with_other_moves channels cue _ valid (kept_by (ValidMove channels cue.parts) _ cue.moves valid.moves) (IsStrictlySorted-filter (λ (m : Move). m.chan) _ cue.moves valid.moves_sorted)
 
 outside : (first c n : ℕ) → n ≡ first → not (nat_le first c && nat_lt c n) ≡ true
 outside first c n is = grind (arith, nat_tests)

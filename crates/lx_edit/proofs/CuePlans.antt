@@ -10,7 +10,7 @@ use Rattle.lx_spec.specs.declared.Edit.{Edit}
 use Rattle.lx_spec.specs.SortedList.{entry_at, has_entry, taken_out}
 use Rattle.lx_spec.specs.Show.{Cue, Show, ValidCue, ValidPart, ValidMove, IsTime}
 use Rattle.lx_spec.specs.EditedShow.{edited, with_cue, with_time, new_part, without_part, out_of_part}
-use Rattle.lx_show.proofs.RisingLists.{found_valid, Rises-filter, Rises-map, kept_by}
+use Rattle.lx_show.proofs.SortedLists.{found_valid, IsStrictlySorted-filter, IsStrictlySorted-map, kept_by}
 use Rattle.lx_edit.proofs.Lists.{find_in_filter}
 use Rattle.lx_edit.specs.Found.{FoundCue}
 use Rattle.lx_edit.specs.declared.plans.Plan.TheVariants.{PlaceCue}
@@ -64,9 +64,9 @@ valid_without_part channels p cue base valid = record {
   follow = valid.follow;
   link = valid.link;
   label = valid.label;
-  base_part = has_other p 1 cue.parts base valid.base_part;
+  first_part = has_other p 1 cue.parts base valid.first_part;
   parts = kept_by ValidPart _ cue.parts valid.parts;
-  parts_rise = Rises-filter (λ (x : Part). x.number) _ cue.parts valid.parts_rise;
-  moves = all_moved channels p cue.parts cue.moves base valid.base_part valid.moves;
-  moves_rise = Rises-map (λ (m : Move). m.chan) (out_of_part p) cue.moves (moved_chan p) valid.moves_rise;
+  parts_sorted = IsStrictlySorted-filter (λ (x : Part). x.number) _ cue.parts valid.parts_sorted;
+  moves = all_moved channels p cue.parts cue.moves base valid.first_part valid.moves;
+  moves_sorted = IsStrictlySorted-map (λ (m : Move). m.chan) (out_of_part p) cue.moves (moved_chan p) valid.moves_sorted;
 }

@@ -6,13 +6,13 @@ use denote.Ref.{Bor}
 use Rattle.std.proofs.lemmas.Bool.{false≢true}
 use Rattle.std.proofs.lemmas.Bool.Decides.{nat_tests}
 use Rattle.std.proofs.lemmas.List.Elements.{filter-append}
-use Rattle.lx_spec.specs.SortedList.{Rises, entry_at, has_entry, placed, entries_below, entries_above}
+use Rattle.lx_spec.specs.SortedList.{IsStrictlySorted, entry_at, has_entry, placed, entries_below, entries_above}
 use Rattle.lx_spec.specs.Show.{Cue, Show, ValidCue}
 use Rattle.lx_spec.specs.TrackedLevel.{tracked, decides, level_in, cue_above}
 use Rattle.lx_spec.specs.EditedShow.{with_cue}
 use Rattle.lx_show.specs.Around.{entries_up_to}
 use Rattle.lx_show.proofs.Finding.{find_first, find_passes}
-use Rattle.lx_show.proofs.RisingLists.{each, filter_all, filter_none, passes, lt_from}
+use Rattle.lx_show.proofs.SortedLists.{each, filter_all, filter_none, passes, lt_from}
 use Rattle.lx_edit.specs.Found.{FoundCue}
 use Rattle.lx_edit.specs.Kept.{changed_show, decided, decided_by}
 use Rattle.lx_edit.specs.Planned.{CanPlace}
@@ -51,25 +51,25 @@ decided_or : (c base : ℕ) (cue : Cue) (b : Bool) → cond b (level_in cue c) b
 decided_or c base cue true = refl
 decided_or c base cue false = refl
 
-with_at : (show : Show) (cue above : Cue) (n c : ℕ) → Rises (λ x. x.number) show.cues → 1 ≤ n → cue.number ≡ n → cue_above show n ≡ Some above → tracked (with_cue show cue) above.number c ≡ through c (unwrap_or (decided cue c) (tracked show (n - 1) c)) above
-with_at show cue above n c rises least same is =
+with_at : (show : Show) (cue above : Cue) (n c : ℕ) → IsStrictlySorted (λ x. x.number) show.cues → 1 ≤ n → cue.number ≡ n → cue_above show n ≡ Some above → tracked (with_cue show cue) above.number c ≡ through c (unwrap_or (decided cue c) (tracked show (n - 1) c)) above
+with_at show cue above n c sorted least same is =
     let key : Cue → ℕ = λ x. x.number in
     let P : ℕ → Type 0 = λ k. 1 ≤ k → k ≤ above.number → tracked (with_cue show cue) above.number c ≡ walked c (through c (tracked show (k - 1) c) cue) (entries_up_to key above.number (entries_above key k show.cues)) in
     let higher : n < above.number = above_higher show n above is in
     subst P same (λ a b. tracked-with_cue show cue above.number c a b) least (omega (arith, higher))
-    ∙ ap (walked c (through c (tracked show (n - 1) c) cue)) (up_to_first show n above rises is)
+    ∙ ap (walked c (through c (tracked show (n - 1) c) cue)) (up_to_first show n above sorted is)
     ∙ ap (λ base. through c base above) (decided_or c (tracked show (n - 1) c) cue (decides cue c))
 
 -- what the cue above tracks after the change
-pub above-changed : (show : Show) (n : ℕ) (new : Option Cue) (above : Cue) (c : ℕ) → Rises (λ x. x.number) show.cues → 1 ≤ n → IfSome new (λ cue. cue.number ≡ n) → cue_above show n ≡ Some above → tracked (changed_show show n new) above.number c ≡ through c (unwrap_or (decided_by new c) (tracked show (n - 1) c)) above
-above-changed show n None above c rises least number is =
+pub above-changed : (show : Show) (n : ℕ) (new : Option Cue) (above : Cue) (c : ℕ) → IsStrictlySorted (λ x. x.number) show.cues → 1 ≤ n → IfSome new (λ cue. cue.number ≡ n) → cue_above show n ≡ Some above → tracked (changed_show show n new) above.number c ≡ through c (unwrap_or (decided_by new c) (tracked show (n - 1) c)) above
+above-changed show n None above c sorted least number is =
     let higher : n < above.number = above_higher show n above is in
-    tracked-without_cue show n above.number c rises least (omega (arith, higher)) ∙ ap (walked c (tracked show (n - 1) c)) (up_to_first show n above rises is)
-above-changed show n (Some cue) above c rises least number is = with_at show cue above n c rises least number is
+    tracked-without_cue show n above.number c sorted least (omega (arith, higher)) ∙ ap (walked c (tracked show (n - 1) c)) (up_to_first show n above sorted is)
+above-changed show n (Some cue) above c sorted least number is = with_at show cue above n c sorted least number is
 
 -- and before it
-pub above-before : (show : Show) (n : ℕ) (old above : Cue) (c : ℕ) → Rises (λ x. x.number) show.cues → 1 ≤ n → FoundCue show n old → cue_above show n ≡ Some above → tracked show above.number c ≡ through c (unwrap_or (decided old c) (tracked show (n - 1) c)) above
-above-before show n old above c rises least here is = ap (λ (s : Show). tracked s above.number c) (sym here.same) ∙ with_at show old above n c rises least here.number is
+pub above-before : (show : Show) (n : ℕ) (old above : Cue) (c : ℕ) → IsStrictlySorted (λ x. x.number) show.cues → 1 ≤ n → FoundCue show n old → cue_above show n ≡ Some above → tracked show above.number c ≡ through c (unwrap_or (decided old c) (tracked show (n - 1) c)) above
+above-before show n old above c sorted least here is = ap (λ (s : Show). tracked s above.number c) (sym here.same) ∙ with_at show old above n c sorted least here.number is
 
 same_test : (x : ℕ) → (x == x) ≡ true
 same_test x = grind (arith, nat_tests)

@@ -7,13 +7,13 @@ use Rattle.std.proofs.lemmas.Bool.Decides.{nat_tests}
 use Rattle.std.proofs.lemmas.List.Folds.{find-append}
 use Rattle.std.proofs.lemmas.List.Sums.{fold-append}
 use Rattle.std.proofs.lemmas.List.Elements.{filter-append}
-use Rattle.lx_spec.specs.SortedList.{Rises, placed, taken_out, entries_below, entries_above}
+use Rattle.lx_spec.specs.SortedList.{IsStrictlySorted, placed, taken_out, entries_below, entries_above}
 use Rattle.lx_spec.specs.Show.{Cue, Show}
 use Rattle.lx_spec.specs.TrackedLevel.{tracked, decides, level_in, cue_above}
 use Rattle.lx_spec.specs.EditedShow.{with_cue, without_cue}
 use Rattle.lx_show.specs.Around.{entries_up_to}
 use Rattle.lx_show.proofs.Finding.{find_first, find_both_last}
-use Rattle.lx_show.proofs.RisingLists.{each, filter_all, filter_none, passes, below_and_above, Rises-filter}
+use Rattle.lx_show.proofs.SortedLists.{each, filter_all, filter_none, passes, below_and_above, IsStrictlySorted-filter}
 use Rattle.lx_edit.proofs.Lists.{filter_both, filter_same}
 
 -- what the cue makes of the level that tracks into it
@@ -69,9 +69,9 @@ up_to_placed key m x xs le =
     filter-append (λ y. nat_le (key y) m) (entries_below key (key x) xs) (x ∷ entries_above key (key x) xs)
     ∙ rw (below_up_to key (key x) m xs le, le_true (key x) m le) refl
 
-pub up_to_taken : {A : Type 0} (key : A → ℕ) (n m : ℕ) (xs : List A) → Rises key xs → n ≤ m → entries_up_to key m (taken_out key n xs) ≡ entries_below key n xs ++ entries_up_to key m (entries_above key n xs)
-up_to_taken key n m xs rises le =
-    ap (entries_up_to key m) (sym (below_and_above key n xs rises))
+pub up_to_taken : {A : Type 0} (key : A → ℕ) (n m : ℕ) (xs : List A) → IsStrictlySorted key xs → n ≤ m → entries_up_to key m (taken_out key n xs) ≡ entries_below key n xs ++ entries_up_to key m (entries_above key n xs)
+up_to_taken key n m xs sorted le =
+    ap (entries_up_to key m) (sym (below_and_above key n xs sorted))
     ∙ filter-append (λ y. nat_le (key y) m) (entries_below key n xs) (entries_above key n xs)
     ∙ rw (below_up_to key n m xs le) refl
 
@@ -99,9 +99,9 @@ up_to_placed_below key m x xs less =
     ∙ append_nil_right (entries_up_to key m (entries_below key (key x) xs)) (entries_up_to key m (x ∷ entries_above key (key x) xs)) (rw (not_le (key x) m less) (none_above key (key x) m xs less))
     ∙ low_part key (key x) m xs less
 
-pub up_to_taken_below : {A : Type 0} (key : A → ℕ) (n m : ℕ) (xs : List A) → Rises key xs → m < n → entries_up_to key m (taken_out key n xs) ≡ entries_up_to key m xs
-up_to_taken_below key n m xs rises less =
-    ap (entries_up_to key m) (sym (below_and_above key n xs rises))
+pub up_to_taken_below : {A : Type 0} (key : A → ℕ) (n m : ℕ) (xs : List A) → IsStrictlySorted key xs → m < n → entries_up_to key m (taken_out key n xs) ≡ entries_up_to key m xs
+up_to_taken_below key n m xs sorted less =
+    ap (entries_up_to key m) (sym (below_and_above key n xs sorted))
     ∙ filter-append (λ y. nat_le (key y) m) (entries_below key n xs) (entries_above key n xs)
     ∙ append_nil_right (entries_up_to key m (entries_below key n xs)) (entries_up_to key m (entries_above key n xs)) (none_above key n m xs less)
     ∙ low_part key n m xs less
@@ -120,12 +120,12 @@ tracked-with_cue show cue m c least le =
     ∙ fold-append (λ level x. through c level x) 0 (entries_below key cue.number show.cues) (cue ∷ later)
     ∙ ap (λ base. walked c (through c base cue) later) (sym (tracked_into show cue.number c least))
 
-pub tracked-without_cue : (show : Show) (n m c : ℕ) → Rises (λ x. x.number) show.cues → 1 ≤ n → n ≤ m → tracked (without_cue show n) m c ≡ walked c (tracked show (n - 1) c) (entries_up_to (λ x. x.number) m (entries_above (λ x. x.number) n show.cues))
-tracked-without_cue show n m c rises least le =
+pub tracked-without_cue : (show : Show) (n m c : ℕ) → IsStrictlySorted (λ x. x.number) show.cues → 1 ≤ n → n ≤ m → tracked (without_cue show n) m c ≡ walked c (tracked show (n - 1) c) (entries_up_to (λ x. x.number) m (entries_above (λ x. x.number) n show.cues))
+tracked-without_cue show n m c sorted least le =
     let key : Cue → ℕ = λ x. x.number in
     let later = entries_up_to key m (entries_above key n show.cues) in
     tracked-walked (without_cue show n) m c
-    ∙ ap (walked c 0) (up_to_taken key n m show.cues rises le)
+    ∙ ap (walked c 0) (up_to_taken key n m show.cues sorted le)
     ∙ fold-append (λ level x. through c level x) 0 (entries_below key n show.cues) later
     ∙ ap (λ base. walked c base later) (sym (tracked_into show n c least))
 
@@ -133,8 +133,8 @@ tracked-without_cue show n m c rises least le =
 pub tracked_below-with_cue : (show : Show) (cue : Cue) (m c : ℕ) → m < cue.number → tracked (with_cue show cue) m c ≡ tracked show m c
 tracked_below-with_cue show cue m c less = tracked-walked (with_cue show cue) m c ∙ ap (walked c 0) (up_to_placed_below (λ (x : Cue). x.number) m cue show.cues less) ∙ sym (tracked-walked show m c)
 
-pub tracked_below-without_cue : (show : Show) (n m c : ℕ) → Rises (λ x. x.number) show.cues → m < n → tracked (without_cue show n) m c ≡ tracked show m c
-tracked_below-without_cue show n m c rises less = tracked-walked (without_cue show n) m c ∙ ap (walked c 0) (up_to_taken_below (λ (x : Cue). x.number) n m show.cues rises less) ∙ sym (tracked-walked show m c)
+pub tracked_below-without_cue : (show : Show) (n m c : ℕ) → IsStrictlySorted (λ x. x.number) show.cues → m < n → tracked (without_cue show n) m c ≡ tracked show m c
+tracked_below-without_cue show n m c sorted less = tracked-walked (without_cue show n) m c ∙ ap (walked c 0) (up_to_taken_below (λ (x : Cue). x.number) n m show.cues sorted less) ∙ sym (tracked-walked show m c)
 
 some_is : {A : Type 0} (x y : A) → Some x ≡ Some y → x ≡ y
 some_is x y is = cc
@@ -143,13 +143,13 @@ none_is : {A : Type 0} (x : A) → None ≡ Some x → ⊥
 none_is x is = cc
 
 -- a list that begins with what is found first
-begins : {A : Type 0} (key : A → ℕ) (x : A) (ys : List A) → slice_get ys 0 ≡ Some x → Rises key ys → entries_up_to key (key x) ys ≡ x ∷ []
-begins key x [] is rises = absurd (none_is x is)
-begins {A} key x (y ∷ ys) is rises =
+begins : {A : Type 0} (key : A → ℕ) (x : A) (ys : List A) → slice_get ys 0 ≡ Some x → IsStrictlySorted key ys → entries_up_to key (key x) ys ≡ x ∷ []
+begins key x [] is sorted = absurd (none_is x is)
+begins {A} key x (y ∷ ys) is sorted =
     let same : y ≡ x = some_is y x is in
     subst (λ (z : A). entries_up_to key (key z) (y ∷ ys) ≡ z ∷ []) same
-    (rw (le_true (key y) (key y) (omega arith)) (ap (λ zs. y ∷ zs) (filter_none _ ys (each _ _ ys (λ z h. not_le (key z) (key y) h) rises.0))))
+    (rw (le_true (key y) (key y) (omega arith)) (ap (λ zs. y ∷ zs) (filter_none _ ys (each _ _ ys (λ z h. not_le (key z) (key y) h) sorted.0))))
 
 -- of the cues above a number, those up to the first are that one
-pub up_to_first : (show : Show) (n : ℕ) (above : Cue) → Rises (λ x. x.number) show.cues → cue_above show n ≡ Some above → entries_up_to (λ x. x.number) above.number (entries_above (λ x. x.number) n show.cues) ≡ above ∷ []
-up_to_first show n above rises is = begins (λ (x : Cue). x.number) above (entries_above (λ x. x.number) n show.cues) (find_first (λ (x : Cue). nat_lt n x.number) show.cues ∙ is) (Rises-filter (λ (x : Cue). x.number) _ show.cues rises)
+pub up_to_first : (show : Show) (n : ℕ) (above : Cue) → IsStrictlySorted (λ x. x.number) show.cues → cue_above show n ≡ Some above → entries_up_to (λ x. x.number) above.number (entries_above (λ x. x.number) n show.cues) ≡ above ∷ []
+up_to_first show n above sorted is = begins (λ (x : Cue). x.number) above (entries_above (λ x. x.number) n show.cues) (find_first (λ (x : Cue). nat_lt n x.number) show.cues ∙ is) (IsStrictlySorted-filter (λ (x : Cue). x.number) _ show.cues sorted)

@@ -3,7 +3,7 @@
 ghost use Rattle.std.specs.Prelude.{◌≡◌, ℕ, ◌≤◌, IfOk, OnOk, unwrap_or};
 ghost use Rattle.std.specs.List.{AllByRecursion};
 ghost use Rattle.lx_spec.specs.Show.{ValidMembers, ValidGroup, ValidSub};
-ghost use Rattle.lx_spec.specs.EditedShow.{with_members, group_or_new, sub_or_new};
+ghost use Rattle.lx_spec.specs.EditedShow.{with_members, set_or_new};
 ghost use Rattle.lx_edit.specs.Planned.{Plans};
 
 use crate::absent::the_channels;
@@ -49,7 +49,7 @@ pub(crate) fn sub_member(
 
 /// An equal group, or a new one where it is absent. An error comes where memory is wanting.
 fn group_or_new(alloc: Global, show: &Show, g: GroupNo) -> Result<Group, AllocError>
-    ensures group { IfOk result (λ group. group ≡ group_or_new show.now g) }
+    ensures group { IfOk result (λ group. group ≡ set_or_new show.now.groups g) }
     ensures valid { IfOk result (ValidGroup show.now.channels) }
 {
     match show.group(g) {
@@ -60,7 +60,7 @@ fn group_or_new(alloc: Global, show: &Show, g: GroupNo) -> Result<Group, AllocEr
 
 /// An equal submaster, or a new one where it is absent. An error comes where memory is wanting.
 fn sub_or_new(alloc: Global, show: &Show, s: SubNo) -> Result<Sub, AllocError>
-    ensures submaster { IfOk result (λ submaster. submaster ≡ sub_or_new show.now s) }
+    ensures submaster { IfOk result (λ submaster. submaster ≡ set_or_new show.now.subs s) }
     ensures valid { IfOk result (ValidSub show.now.channels) }
 {
     match show.sub(s) {

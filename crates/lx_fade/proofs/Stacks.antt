@@ -4,7 +4,7 @@ use Rattle.std.specs.Option.{option_map_or}
 use Rattle.std.specs.List.{AllByRecursion}
 use Rattle.std.proofs.Common.{arith, ◌∙◌, ap, sym}
 use Rattle.std.proofs.lemmas.Bool.Decides.{nat_tests}
-use Rattle.lx_spec.specs.Fades.{Fade, fade_at, stack_at, begun_by, pushed, StartsFall}
+use Rattle.lx_fade.specs.Fades.{Fade, fade_at, stack_at, begun_by, pushed, StartsFall}
 use Rattle.lx_fade.specs.Row.{stack_in}
 use Rattle.std.proofs.lemmas.Grind.{common_steps}
 
@@ -13,14 +13,14 @@ lt-le : (s m : ℕ) (b : Bool) → nat_le s m ≡ b → nat_lt m s ≡ cond b fa
 lt-le s m true h = grind (arith, nat_tests)
 lt-le s m false h = grind (arith, nat_tests)
 
-level_step : (b : Bool) (base m : ℕ) (fade : Fade) (older : List Fade) → nat_le fade.start m ≡ b → stack_at base older m ≡ option_map_or (λ f. fade_at f m) (find (λ f. nat_le f.start m) older) base → cond (nat_lt m fade.start) (stack_at base older m) (fade_at fade m) ≡ option_map_or (λ f. fade_at f m) (cond b (Some fade) (find (λ f. nat_le f.start m) older)) base
-level_step true base m fade older h rest = ap (λ t. cond t (stack_at base older m) (fade_at fade m)) (lt-le fade.start m true h)
-level_step false base m fade older h rest = ap (λ t. cond t (stack_at base older m) (fade_at fade m)) (lt-le fade.start m false h) ∙ rest
+level_step : (b : Bool) (bottom m : ℕ) (fade : Fade) (older : List Fade) → nat_le fade.start m ≡ b → stack_at bottom older m ≡ option_map_or (λ f. fade_at f m) (find (λ f. nat_le f.start m) older) bottom → cond (nat_lt m fade.start) (stack_at bottom older m) (fade_at fade m) ≡ option_map_or (λ f. fade_at f m) (cond b (Some fade) (find (λ f. nat_le f.start m) older)) bottom
+level_step true bottom m fade older h rest = ap (λ t. cond t (stack_at bottom older m) (fade_at fade m)) (lt-le fade.start m true h)
+level_step false bottom m fade older h rest = ap (λ t. cond t (stack_at bottom older m) (fade_at fade m)) (lt-le fade.start m false h) ∙ rest
 
--- the level of the stack is that of the newest fade that has begun, or the base
-pub stack_at-find : (base m : ℕ) (stack : List Fade) → stack_at base stack m ≡ option_map_or (λ f. fade_at f m) (find (λ f. nat_le f.start m) stack) base
-stack_at-find base m [] = refl
-stack_at-find base m (fade ∷ older) = level_step (nat_le fade.start m) base m fade older refl (stack_at-find base m older)
+-- the level of the stack is that of the newest fade that has begun, or the bottom
+pub stack_at-find : (bottom m : ℕ) (stack : List Fade) → stack_at bottom stack m ≡ option_map_or (λ f. fade_at f m) (find (λ f. nat_le f.start m) stack) bottom
+stack_at-find bottom m [] = refl
+stack_at-find bottom m (fade ∷ older) = level_step (nat_le fade.start m) bottom m fade older refl (stack_at-find bottom m older)
 
 begun_step : (b : Bool) (m : ℕ) (fade g : Fade) (rest : Option Fade) → nat_le fade.start m ≡ b → (rest ≡ Some g → g.start ≤ m) → cond b (Some fade) rest ≡ Some g → g.start ≤ m
 begun_step true m fade g rest h later is = let same : fade ≡ g = cc in let le : nat_le g.start m ≡ true = ap (λ f. nat_le f.start m) (sym same) ∙ h in grind (arith, nat_tests)
@@ -54,10 +54,10 @@ falls s [] h = (tt, tt)
 falls s (fade ∷ older) h = falls_step (nat_lt s fade.start) s fade older refl h (falls s older h.1)
 
 -- a pushed fade begins last
-pub StartsFall-pushed : (base : ℕ) (stack : List Fade) (s time target : ℕ) → StartsFall stack → StartsFall (pushed base stack s time target)
+pub StartsFall-pushed : (bottom : ℕ) (stack : List Fade) (s time target : ℕ) → StartsFall stack → StartsFall (pushed bottom stack s time target)
 unfolding Begun
-StartsFall-pushed base stack s time target h = falls s stack h
+StartsFall-pushed bottom stack s time target h = falls s stack h
 
 -- the fade from the level at its start, written after those that stay, makes the pushed stack
-pub stack_in-pushed : (row : List Fade) (used kept base start time target from : ℕ) → kept < length row → stack_in row kept ≡ begun_by start (stack_in row used) → from ≡ stack_at base (stack_in row used) start → stack_in (slice_set row kept (record { start = start; time = time; from = from; target = target })) (kept + 1) ≡ pushed base (stack_in row used) start time target
-stack_in-pushed row used kept base start time target from room stays is = let written = stack_in-written row kept (record { start = start; time = time; from = from; target = target }) room in cc
+pub stack_in-pushed : (row : List Fade) (used kept bottom start time target from : ℕ) → kept < length row → stack_in row kept ≡ begun_by start (stack_in row used) → from ≡ stack_at bottom (stack_in row used) start → stack_in (slice_set row kept (record { start = start; time = time; from = from; target = target })) (kept + 1) ≡ pushed bottom (stack_in row used) start time target
+stack_in-pushed row used kept bottom start time target from room stays is = let written = stack_in-written row kept (record { start = start; time = time; from = from; target = target }) room in cc

@@ -3,7 +3,7 @@
 ghost use Rattle.std.specs.Prelude.{◌≡◌, ◌≤◌, nat_le};
 ghost use Rattle.lx_base.specs.declared.TheConstants.{TIME_MAX};
 ghost use Rattle.lx_spec.specs.Level.{faded};
-ghost use Rattle.lx_spec.specs.Fades.{fade_at};
+ghost use Rattle.lx_fade.specs.Fades.{fade_at};
 
 use lx_base::{Cs, Level, Moment};
 use std::marker::Model;
@@ -21,7 +21,7 @@ pub struct Fade {
 impl Model for Fade {
     ghost use Rattle.std.specs.Prelude.{◌≤◌};
     ghost use Rattle.lx_base.specs.declared.TheConstants.{TIME_MAX};
-    ghost use Rattle.lx_spec.specs.Fades.{Fade as FadeData};
+    ghost use Rattle.lx_fade.specs.Fades.{Fade as FadeData};
 
     ghost Value = { FadeData };
 

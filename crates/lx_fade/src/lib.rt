@@ -3,6 +3,7 @@
 #![tactic(auto)]
 
 mod fade;
+pub mod laws;
 mod stack;
 
 pub use fade::{Fade, value_at};

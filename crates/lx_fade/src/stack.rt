@@ -4,21 +4,21 @@ ghost use Rattle.std.specs.Prelude.{◌≡◌, ℕ, ◌+◌, ◌<◌, ◌≤◌,
 ghost use Rattle.std.specs.Option.{option_copied};
 ghost use Rattle.lx_base.specs.declared.TheConstants.{TIME_MAX};
 ghost use Rattle.lx_spec.specs.Level.{fade_over};
-ghost use Rattle.lx_spec.specs.Fades.{stack_at, begun_by, pushed, StartsFall};
+ghost use Rattle.lx_fade.specs.Fades.{stack_at, begun_by, pushed, StartsFall};
 ghost use Rattle.lx_fade.specs.Row.{stack_in};
 
 use crate::fade::{Fade, value_at};
 use lx_base::{Cs, Level, Moment};
 
-/// The level at a moment over the stack: that of its newest fade that has begun, or `base` where
+/// The level at a moment over the stack: that of its newest fade that has begun, or `bottom` where
 /// none has.
-pub fn value(row: &[Fade], used: usize, base: Level, m: Moment) -> Level
+pub fn value(row: &[Fade], used: usize, bottom: Level, m: Moment) -> Level
     requires { used ≤ length row.now }
-    ensures { result ≡ stack_at base (stack_in row.now used) m }
+    ensures { result ≡ stack_at bottom (stack_in row.now used) m }
 {
     match governing(row, used, m) {
         Some(fade) => value_at(fade, m),
-        None => base,
+        None => bottom,
     }
 }
 
@@ -28,19 +28,19 @@ pub fn value(row: &[Fade], used: usize, base: Level, m: Moment) -> Level
 pub fn push_fade(
     row: &mut [Fade],
     used: usize,
-    base: Level,
+    bottom: Level,
     start: Moment,
     time: Cs,
     target: Level,
 ) -> usize
     requires room { used < length row.old }
     requires time { time ≤ TIME_MAX }
-    ensures stack { stack_in row.new result ≡ pushed base (stack_in row.old used) start time target }
+    ensures stack { stack_in row.new result ≡ pushed bottom (stack_in row.old used) start time target }
     ensures count { result ≤ used + 1 }
-    ensures level { (m : ℕ) → stack_at base (stack_in row.new result) m ≡ fade_over (stack_at base (stack_in row.old used)) start time target m }
+    ensures level { (m : ℕ) → stack_at bottom (stack_in row.new result) m ≡ fade_over (stack_at bottom (stack_in row.old used)) start time target m }
     ensures order { StartsFall (stack_in row.old used) → StartsFall (stack_in row.new result) }
 {
-    let from = value(row, used, base, start);
+    let from = value(row, used, bottom, start);
     let kept = kept_at(row, used, start);
     row[kept] = Fade {
         start,

@@ -5,7 +5,7 @@ use Rattle.std.proofs.Math.Nat.{mul-le-mul_right}
 use Rattle.lx_base.specs.Numbers.{scaled}
 use Rattle.lx_spec.specs.declared.Member.{Member}
 use Rattle.lx_spec.specs.EditedShow.{in_proportion}
-use Rattle.lx_spec.specs.SortedList.{Rises}
+use Rattle.lx_spec.specs.SortedList.{IsStrictlySorted}
 use Rattle.lx_spec.specs.Show.{ValidMember, ValidMembers}
 
 -- a level in proportion to a level is one
@@ -22,9 +22,9 @@ above-in_proportion : (n level : ℕ) (members : List Member) → AllByRecursion
 above-in_proportion n level [] all = tt
 above-in_proportion n level (m ∷ members) all = (all.0, above-in_proportion n level members all.1)
 
-in_proportion-rises : (level : ℕ) (members : List Member) → Rises (λ m. m.chan) members → Rises (λ m. m.chan) (map (in_proportion level) members)
-in_proportion-rises level [] rises = tt
-in_proportion-rises level (m ∷ members) rises = (above-in_proportion m.chan level members rises.0, in_proportion-rises level members rises.1)
+in_proportion-sorted : (level : ℕ) (members : List Member) → IsStrictlySorted (λ m. m.chan) members → IsStrictlySorted (λ m. m.chan) (map (in_proportion level) members)
+in_proportion-sorted level [] sorted = tt
+in_proportion-sorted level (m ∷ members) sorted = (above-in_proportion m.chan level members sorted.0, in_proportion-sorted level members sorted.1)
 
 pub in_proportion-valid : (channels level : ℕ) (members : List Member) → level ≤ 255 → ValidMembers channels members → ValidMembers channels (map (in_proportion level) members)
-in_proportion-valid channels level members le valid = record { each = in_proportion-each channels level members le valid.each; rise = in_proportion-rises level members valid.rise }
+in_proportion-valid channels level members le valid = record { each = in_proportion-each channels level members le valid.each; sorted = in_proportion-sorted level members valid.sorted }

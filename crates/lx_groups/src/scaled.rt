@@ -3,7 +3,7 @@
 use lx_base::{Level, scale};
 use lx_show::Member;
 
-/// The members of a group that are left, rising by channel, each at its level in proportion. It takes no
+/// The members of a group that are left, sorted by channel, each at its level in proportion. It takes no
 /// memory.
 #[derive(Clone, Copy, Debug, Drop)]
 pub struct Members<'a> {

@@ -11,7 +11,7 @@ use Rattle.lx_spec.specs.Show.{Show, Valid, ValidPatchRow}
 use Rattle.lx_spec.specs.Output.{dimmer_value}
 use Rattle.lx_mixer.specs.Table.{IsTable}
 use Rattle.lx_mixer.proofs.Tables.{told}
-use Rattle.lx_patch.specs.Patched.{Patching, place_of, proportion_of, StandsForPatch, Reaches, slot_of}
+use Rattle.lx_patch.specs.Patched.{Patching, place_of, proportion_of, StandsForPatch, Reaches}
 
 -- each row's place is below the channel count, and a dimmer without a row has the first place at 0
 place_within : (n e : ℕ) (rows : List PatchRow) → AllByRecursion (ValidPatchRow n) rows → (place_of rows e < n) ⊎ ((place_of rows e ≡ 0) × (proportion_of rows e ≡ 0))
@@ -32,7 +32,7 @@ reaches show table n valid enough stands = λ k within.
       | inr none ↦ inr (place ∙ none.0, level ∙ none.1)
     ]
 
-same_slot : (channels e : ℕ) (outs : List ℕ) (out : ℕ → ℕ) (patch : List PatchRow) → IsTable channels out outs → AllByRecursion (ValidPatchRow channels) patch → slot_of patch (λ c. get_or outs (c - 1) 0) e ≡ slot_of patch out e
+same_slot : (channels e : ℕ) (outs : List ℕ) (out : ℕ → ℕ) (patch : List PatchRow) → IsTable channels out outs → AllByRecursion (ValidPatchRow channels) patch → dimmer_value patch (λ c. get_or outs (c - 1) 0) e ≡ dimmer_value patch out e
 same_slot channels e outs out [] table all = refl
 same_slot channels e outs out (row ∷ patch) table all =
     elim (row.dimmer == e) as (λ b. option_map_or (λ r. scaled (get_or outs (r.chan - 1) 0) r.level) (cond b (Some row) (entry_at (λ r. r.dimmer) e patch)) 0 ≡ option_map_or (λ r. scaled (out r.chan) r.level) (cond b (Some row) (entry_at (λ r. r.dimmer) e patch)) 0) [
@@ -41,7 +41,7 @@ same_slot channels e outs out (row ∷ patch) table all =
     ]
 
 -- the slots of the outputs in a table are the values of the dimmers
-pub patched : (show : Show) (out : ℕ → ℕ) (outs slots : List ℕ) → Valid show → IsTable show.channels out outs → IsTable SLOTS (slot_of show.patch (λ c. get_or outs (c - 1) 0)) slots → IsTable SLOTS (dimmer_value show out) slots
+pub patched : (show : Show) (out : ℕ → ℕ) (outs slots : List ℕ) → Valid show → IsTable show.channels out outs → IsTable SLOTS (dimmer_value show.patch (λ c. get_or outs (c - 1) 0)) slots → IsTable SLOTS (dimmer_value show.patch out) slots
 patched show out outs slots valid table stand = record {
   reach = stand.reach;
   each = λ k within. stand.each k within ∙ same_slot show.channels (k + 1) outs out show.patch table valid.patch;

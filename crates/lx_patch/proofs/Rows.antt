@@ -10,7 +10,7 @@ use Rattle.lx_spec.specs.declared.PatchRow.{PatchRow}
 use Rattle.lx_spec.specs.SortedList.{entry_at, placed, taken_out}
 use Rattle.lx_spec.proofs.Along.{find_none, same_number, other_number}
 use Rattle.lx_show.proofs.Finding.{find_both}
-use Rattle.lx_show.proofs.RisingLists.{each, passes}
+use Rattle.lx_show.proofs.SortedLists.{each, passes}
 use Rattle.lx_show.proofs.Placed.{entry_at-placed_here, entry_at-placed_other}
 use Rattle.lx_mixer.proofs.Tables.{table_of_same, table-set}
 use Rattle.lx_patch.specs.Patched.{Patching, place_of, proportion_of, StandsForPatch}

@@ -2,7 +2,6 @@
 use Rattle.std.specs.Prelude.{◌≡◌, ◌⊎◌, ℕ, ◌-◌, ◌<◌, List, slice_index}
 use Rattle.std.specs.Option.{option_map_or}
 use Rattle.lx_base.specs.declared.TheConstants.{SLOTS}
-use Rattle.lx_base.specs.Numbers.{scaled}
 use Rattle.lx_spec.specs.declared.PatchRow.{PatchRow}
 use Rattle.lx_spec.specs.SortedList.{entry_at}
 use Rattle.lx_mixer.specs.Table.{IsTable}
@@ -28,7 +27,3 @@ pub record StandsForPatch (rows : List PatchRow) (table : Patching) : Type 0 whe
 -- so many outputs have one for each dimmer, or else for each that is patched
 abbrev pub Reaches : ℕ → Patching → Type 0
 Reaches n table = (k : ℕ) → k < SLOTS → (slice_index table.places k < n) ⊎ ((slice_index table.places k ≡ 0) × (slice_index table.levels k ≡ 0))
-
--- the slot of a dimmer: its channel's output at its proportional level, or 0 where it isn't patched
-abbrev pub slot_of : List PatchRow → (ℕ → ℕ) → ℕ → ℕ
-slot_of patch outs e = option_map_or (λ row. scaled (outs row.chan) row.level) (entry_at (λ row. row.dimmer) e patch) 0

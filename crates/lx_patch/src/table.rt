@@ -4,8 +4,9 @@ ghost use Rattle.std.specs.Prelude.{◌≡◌, ◌-◌, List, length, slice_inde
 ghost use Rattle.lx_base.specs.declared.TheConstants.{SLOTS};
 ghost use Rattle.lx_spec.specs.declared.PatchRow.{PatchRow as Row};
 ghost use Rattle.lx_spec.specs.SortedList.{placed, taken_out};
+ghost use Rattle.lx_spec.specs.Output.{dimmer_value};
 ghost use Rattle.lx_mixer.specs.Table.{IsTable};
-ghost use Rattle.lx_patch.specs.Patched.{StandsForPatch, Reaches, slot_of};
+ghost use Rattle.lx_patch.specs.Patched.{StandsForPatch, Reaches};
 
 use crate::slots::fill;
 use lx_base::{Dimmer, Level, SLOTS};
@@ -85,7 +86,7 @@ impl PatchTable {
     pub fn frame_into(&self, out_levels: &[Level], slots: &mut [Level])
         requires slots { length slots.old ≡ SLOTS }
         requires reach { Reaches (length out_levels.now) self.now }
-        ensures { (rows : List Row) → StandsForPatch rows self.now → IsTable SLOTS (slot_of rows (λ c. slice_index out_levels.now (c - 1))) slots.new }
+        ensures { (rows : List Row) → StandsForPatch rows self.now → IsTable SLOTS (dimmer_value rows (λ c. slice_index out_levels.now (c - 1))) slots.new }
     {
         if out_levels.is_empty() {
             slots.fill(0);

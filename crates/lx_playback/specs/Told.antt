@@ -1,5 +1,6 @@
 -- What the answers to a key and a tick tell.
 use Rattle.std.specs.Prelude.{◌+◌, Bool, Option, Some, if◌then◌else◌}
+use Rattle.lx_base.specs.declared.TheConstants.{TICK_STEP}
 use Rattle.lx_spec.specs.Show.{Show}
 use Rattle.lx_spec.specs.Run.{Run}
 use Rattle.lx_spec.specs.Playback.{Playback, position_of, run_whole, followed, is_over}
@@ -11,4 +12,4 @@ run_made before pressed = if pressed.settled then Some (run_whole before (positi
 
 -- the tick comes to rest: all is over when the moment has grown and a follow that is due has fired
 abbrev pub comes_to_rest : Show → Playback → Bool
-comes_to_rest show p = is_over (followed show (record p { moment = p.moment + 2 })).playback
+comes_to_rest show p = is_over (followed show (record p { moment = p.moment + TICK_STEP })).playback

@@ -1,7 +1,7 @@
 -- What always holds of a playback.
 use Rattle.std.specs.Prelude.{◌≡◌, ℕ, ◌+◌, ◌%◌, ◌≤◌, nat_le, length}
 use Rattle.std.specs.List.{AllByRecursion, list_all}
-use Rattle.lx_base.specs.declared.TheConstants.{RUNS, TICK_END}
+use Rattle.lx_base.specs.declared.TheConstants.{RUNS, TICK_STEP, TICK_END}
 use Rattle.lx_spec.specs.declared.PartTimes.{PartTimes}
 use Rattle.lx_spec.specs.Show.{IsTime}
 use Rattle.lx_spec.specs.Run.{Run, extent}
@@ -23,7 +23,7 @@ pub record ValidRun (moment : ℕ) (run : Run) : Type 0 where
 -- the moment is a whole number of ticks, and the live runs are few and valid
 pub record ValidPlayback (p : Playback) : Type 0 where
   pub moment : p.moment ≤ TICK_END
-  pub even : p.moment % 2 ≡ 0
+  pub even : p.moment % TICK_STEP ≡ 0
   pub few : length p.live ≤ RUNS
   pub live : AllByRecursion (ValidRun p.moment) p.live
 

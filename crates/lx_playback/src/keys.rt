@@ -53,7 +53,7 @@ impl Playback {
         requires room { length self.old.live < RUNS }
         requires follow { IfSome cue.now.follow IsTime }
         requires parts { AllByRecursion ValidPart cue.now.parts }
-        requires base_part { IsTrue (has_entry (λ p. p.number) 1 cue.now.parts) }
+        requires first_part { IsTrue (has_entry (λ p. p.number) 1 cue.now.parts) }
         ensures run { result ≡ run_of self.old cue.now whole }
         ensures started { self.new ≡ (appended self.old (run_of self.old cue.now whole) (follow_of self.old cue.now)).playback }
     {

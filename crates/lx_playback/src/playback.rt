@@ -6,7 +6,7 @@ ghost use Rattle.lx_spec.specs.Playback.{at_opening, position_of, has_room, is_o
 ghost use Rattle.lx_playback.specs.Valid.{ValidPlayback, ValidRun};
 
 use crate::run::Run;
-use lx_base::{CueNo, Moment, RUNS, TICK_END};
+use lx_base::{CueNo, Moment, RUNS, TICK_END, TICK_STEP};
 use std::alloc::{AllocError, Global};
 use std::marker::Model;
 
@@ -148,13 +148,13 @@ impl Playback {
     /// The moment grows by a tick, unless it is the last one.
     pub(crate) fn grow(&mut self) -> bool
         ensures last { result ≡ not (self.old.moment == TICK_END) }
-        ensures grown { IsTrue result → self.new ≡ record self.old { moment = self.old.moment + 2 } }
+        ensures grown { IsTrue result → self.new ≡ record self.old { moment = self.old.moment + TICK_STEP } }
         ensures same { IsFalse result → self.new ≡ self.old }
     {
         if self.moment == TICK_END {
             return false;
         }
-        self.moment += 2;
+        self.moment += TICK_STEP;
         true
     }
 }

@@ -7,7 +7,7 @@ use Rattle.std.proofs.lemmas.List.Elements.{filter-append}
 use Rattle.std.proofs.lemmas.List.Folds.{find-append}
 use Rattle.std.proofs.lemmas.Bool.{cases_order, eqb-true}
 use Rattle.std.proofs.lemmas.Bool.Decides.{nat_tests}
-use Rattle.lx_spec.specs.SortedList.{Rises, placed, entries_below, entries_above, entry_at}
+use Rattle.lx_spec.specs.SortedList.{IsStrictlySorted, placed, entries_below, entries_above, entry_at}
 use Rattle.lx_show.specs.Changed.{changed}
 
 lt_true : (a b : ℕ) → a < b → nat_lt a b ≡ true
@@ -169,33 +169,33 @@ weaker key m n [] le all = tt
 weaker key m n (x ∷ xs) le all = (omega (arith, all.0), weaker key m n xs le all.1)
 
 -- an entry that is there, placed again
-pub placed-same : {A : Type 0} (key : A → ℕ) (n : ℕ) (xs : List A) (x : A) → Rises key xs → entry_at key n xs ≡ Some x → placed key x xs ≡ xs
-placed-same key n [] x rises is = cc
-placed-same {A} key n (y ∷ ys) x rises is = elim (cases_order (key y) n) [
+pub placed-same : {A : Type 0} (key : A → ℕ) (n : ℕ) (xs : List A) (x : A) → IsStrictlySorted key xs → entry_at key n xs ≡ Some x → placed key x xs ≡ xs
+placed-same key n [] x sorted is = cc
+placed-same {A} key n (y ∷ ys) x sorted is = elim (cases_order (key y) n) [
   | inl here ↦
       let found : Some y ≡ Some x = rw (eq_true (key y) n here) at is in
       let same : y ≡ x = cc in
-      let low : entries_below key (key y) ys ≡ [] = none_below key (key y) ys rises.0 in
-      let high : entries_above key (key y) ys ≡ ys = all_above key (key y) ys rises.0 in
+      let low : entries_below key (key y) ys ≡ [] = none_below key (key y) ys sorted.0 in
+      let high : entries_above key (key y) ys ≡ ys = all_above key (key y) ys sorted.0 in
       let self : placed key y (y ∷ ys) ≡ y ∷ ys = rw (lt_same (key y) (key y) refl) (rw (low, high) refl) in
       subst (λ z. placed key z (y ∷ ys) ≡ y ∷ ys) same self
   | inr other ↦ elim other [
     | inl low ↦
         let rest : entry_at key n ys ≡ Some x = rw (eq_below (key y) n low) at is in
         let kx : key x ≡ n = entry_key key n ys x rest in
-        rw (lt_true (key y) (key x) (omega arith), lt_false (key x) (key y) (omega arith)) (ap (λ v. y ∷ v) (placed-same key n ys x rises.1 rest))
+        rw (lt_true (key y) (key x) (omega arith), lt_false (key x) (key y) (omega arith)) (ap (λ v. y ∷ v) (placed-same key n ys x sorted.1 rest))
     | inr high ↦
         let rest : entry_at key n ys ≡ Some x = rw (eq_above (key y) n high) at is in
-        absurd (found_above key n ys x (weaker key n (key y) ys (omega arith) rises.0) rest)
+        absurd (found_above key n ys x (weaker key n (key y) ys (omega arith) sorted.0) rest)
   ]
 ]
 
 -- what isn't changed stays as it is
-pub changed-not : {A : Type 0} (key : A → ℕ) (n : ℕ) (xs : List A) → Rises key xs → changed key n (λ x. x) xs ≡ xs
-changed-not {A} key n xs rises =
+pub changed-not : {A : Type 0} (key : A → ℕ) (n : ℕ) (xs : List A) → IsStrictlySorted key xs → changed key n (λ x. x) xs ≡ xs
+changed-not {A} key n xs sorted =
     let at : (o : Option A) → entry_at key n xs ≡ o → option_map_or (λ x. placed key x xs) o xs ≡ xs
     = λ o. elim o as (λ o. entry_at key n xs ≡ o → option_map_or (λ x. placed key x xs) o xs ≡ xs) [
       | None ↦ λ is. refl
-      | Some x ↦ λ is. placed-same key n xs x rises is
+      | Some x ↦ λ is. placed-same key n xs x sorted is
     ] in
     at (entry_at key n xs) refl

@@ -8,7 +8,7 @@ use Rattle.std.proofs.lemmas.List.Elements.{filter_map-append}
 use Rattle.lx_base.specs.declared.TheConstants.{DEFAULT_TIME}
 use Rattle.lx_spec.specs.declared.Part.{Part}
 use Rattle.lx_spec.specs.declared.Section.{Section}
-use Rattle.lx_spec.specs.SortedList.{Rises, placed, has_entry}
+use Rattle.lx_spec.specs.SortedList.{IsStrictlySorted, placed, has_entry}
 use Rattle.lx_spec.specs.Saying.{Entry, Said, HasUp, HasDown, NamesPart, HasLevels, Follows, Links, IsLabelled, Blocks}
 use Rattle.lx_spec.specs.Reading.{last_of_each, numbers, last_in, part_named, follow_said, link_said, label_said, up_said, down_said, blocks, moves_said, part_of, cue_from}
 use Rattle.lx_spec.specs.EditedShow.{new_part}
@@ -16,7 +16,7 @@ use Rattle.lx_show.specs.Changed.{changed}
 use Rattle.lx_reader.specs.TakenUp.{later, all_placed, cue_change, with_part, with_up, with_down}
 use Rattle.lx_reader.proofs.Later.{last_in-more, any-more, unwrap-later, filter-more}
 use Rattle.lx_reader.proofs.Listed.{cond_same, after_change}
-use Rattle.lx_reader.proofs.Placing.{changed-made, map-placed, placed-there, has_made, Rises-numbers, eq-sym, eq-here}
+use Rattle.lx_reader.proofs.Placing.{changed-made, map-placed, placed-there, has_made, IsStrictlySorted-numbers, eq-sym, eq-here}
 
 -- the times that an entry gives a part
 abbrev pub times_with : Entry → Part → Part
@@ -100,9 +100,9 @@ cue_from-more about s n =
       moves = moves i;
     }
 
--- the numbers of the parts rise
-parts_rise : (about : List Said) → Rises (λ m. m) (parts_named about)
-parts_rise about = Rises-numbers (1 ∷ filter_map (λ s. part_named s.entry) about)
+-- the numbers of the parts are sorted
+parts_sorted : (about : List Said) → IsStrictlySorted (λ m. m) (parts_named about)
+parts_sorted about = IsStrictlySorted-numbers (1 ∷ filter_map (λ s. part_named s.entry) about)
 
 -- the part in which the entry stands
 abbrev pub HasPart : List Said → ℕ → Type 0
@@ -119,7 +119,7 @@ parts_changed about s change is there =
     let keeps : (m : ℕ) → (g m).number ≡ m = λ m. elim (s.part == m) as (λ b. (cond b (times_with s.entry (part_of about m)) (part_of about m)).number ≡ m) [ true ↦ refl | false ↦ refl ] in
     let same : (m : ℕ) → (m == s.part) ≡ false → g m ≡ part_of about m = λ m differs. ap (λ b. cond b (times_with s.entry (part_of about m)) (part_of about m)) (eq-sym m s.part differs) in
     let here : g s.part ≡ change (part_of about s.part) = ap (λ b. cond b (times_with s.entry (part_of about s.part)) (part_of about s.part)) (eq-here s.part) ∙ is (part_of about s.part) in
-    changed-made (λ part. part.number) (part_of about) g (λ m. refl) keeps s.part same change here (parts_named about) (parts_rise about) there
+    changed-made (λ part. part.number) (part_of about) g (λ m. refl) keeps s.part same change here (parts_named about) (parts_sorted about) there
 
 -- a cue with other parts than those that the entries before gave
 parts_placed : (about : List Said) (q : ℕ) → map (part_of about) (placed (λ m. m) q (parts_named about)) ≡ placed (λ part. part.number) (part_of about q) (map (part_of about) (parts_named about))
@@ -132,7 +132,7 @@ IsFresh about (Some q) = has_entry (λ m. m) q (parts_named about) ≡ false →
 
 part_added : (about : List Said) (q : ℕ) (b : Bool) → has_entry (λ m. m) q (parts_named about) ≡ b → IsFresh about (Some q)
     → map (part_of about) (placed (λ m. m) q (parts_named about)) ≡ cond b (map (part_of about) (parts_named about)) (placed (λ part. part.number) (new_part q) (map (part_of about) (parts_named about)))
-part_added about q true there fresh = ap (λ v. map (part_of about) v) (placed-there q (parts_named about) (parts_rise about) there)
+part_added about q true there fresh = ap (λ v. map (part_of about) v) (placed-there q (parts_named about) (parts_sorted about) there)
 part_added about q false absent fresh = parts_placed about q ∙ ap (λ part. placed (λ x. x.number) part (map (part_of about) (parts_named about))) (fresh absent)
 
 has_part : (about : List Said) (q : ℕ) → has_entry (λ part. part.number) q (map (part_of about) (parts_named about)) ≡ has_entry (λ m. m) q (parts_named about)

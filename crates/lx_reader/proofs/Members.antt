@@ -78,9 +78,9 @@ open_after (Ok done) section p members old new is there = subst (λ s. IsOpen s 
 -- no levels
 no_members : (section : Section) (p : ℕ) (show : Show) → Valid show → show ≡ with_members section p [] show
 no_members NoRecord p show valid = refl
-no_members (InCue n) p show valid = let same = sym (changed-not (λ cue. cue.number) n show.cues valid.cues_rise) in λ j. record show { cues = same j }
-no_members (InGroup g) p show valid = let same = sym (changed-not (λ group. group.number) g show.groups valid.groups_rise) in λ j. record show { groups = same j }
-no_members (InSub s) p show valid = let same = sym (changed-not (λ sub. sub.number) s show.subs valid.subs_rise) in λ j. record show { subs = same j }
+no_members (InCue n) p show valid = let same = sym (changed-not (λ cue. cue.number) n show.cues valid.cues_sorted) in λ j. record show { cues = same j }
+no_members (InGroup g) p show valid = let same = sym (changed-not (λ group. group.number) g show.groups valid.groups_sorted) in λ j. record show { groups = same j }
+no_members (InSub s) p show valid = let same = sym (changed-not (λ sub. sub.number) s show.subs valid.subs_sorted) in λ j. record show { subs = same j }
 no_members Skipping p show valid = refl
 
 -- the levels of a line that were read are in the show

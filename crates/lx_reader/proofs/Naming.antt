@@ -50,8 +50,8 @@ now_named of all s m n names is =
     ap (has_entry (λ k. k) m) (named-more of all s) ∙ ap (λ o. has_entry (λ k. k) m (fold (λ ys x. placed (λ k. k) x ys) (named_by of all) (cons_option o []))) names ∙ has-here m (named_by of all) in
     subst (λ k. has_entry (λ j. j) k (named_by of (all ++ s ∷ [])) ≡ true) (eqb-true m n is) here
 
-base_part : (about : List Said) → HasPart about 1
-base_part about = has-all_placed 1 (filter_map (λ s. part_named s.entry) about) (1 ∷ []) (has-here 1 [])
+first_part : (about : List Said) → HasPart about 1
+first_part about = has-all_placed 1 (filter_map (λ s. part_named s.entry) about) (1 ∷ []) (has-here 1 [])
 
 part_more : (about : List Said) (s : Said) (named : Option ℕ) (p : ℕ) → part_named s.entry ≡ named → HasPart about p → HasPart (about ++ s ∷ []) (unwrap_or named p)
 part_more about s None p names there =
@@ -83,7 +83,7 @@ named_next all s None named clearing p tells before = record {
   sub = λ n is. still_named sub_named all s n (before.sub n is);
   part = λ n is. part_kept all s.section s.part s.entry named p n tells.part is (before.part n is);
 }
-named_next all s (Some (InCue m)) named clearing p tells before = record { cue = λ n is. now_named cue_named all s m n tells.cue is; group = λ n is. cc; sub = λ n is. cc; part = λ n is. base_part (filter (in_cue n) (all ++ s ∷ [])) }
+named_next all s (Some (InCue m)) named clearing p tells before = record { cue = λ n is. now_named cue_named all s m n tells.cue is; group = λ n is. cc; sub = λ n is. cc; part = λ n is. first_part (filter (in_cue n) (all ++ s ∷ [])) }
 named_next all s (Some (InGroup m)) named clearing p tells before = record { cue = λ n is. cc; group = λ n is. now_named group_named all s m n tells.group is; sub = λ n is. cc; part = λ n is. cc }
 named_next all s (Some (InSub m)) named clearing p tells before = record { cue = λ n is. cc; group = λ n is. cc; sub = λ n is. now_named sub_named all s m n tells.sub is; part = λ n is. cc }
 named_next all s (Some NoRecord) named clearing p tells before = record { cue = λ n is. cc; group = λ n is. cc; sub = λ n is. cc; part = λ n is. cc }

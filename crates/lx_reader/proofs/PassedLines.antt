@@ -29,13 +29,13 @@ use Rattle.lx_reader.specs.HandedLines.{MeansShow, MeansFault, IsPastLimit, IsCu
 use Rattle.lx_reader.proofs.ReadingOn.{ReadSoFar, Ended, Refused, read_none, read_sound, read_more, read_known, read_refused, read_ended, read_open, wanted_more, wanted_one}
 
 -- The lines that were handed out and taken up.
-pub record PassedLines {S : Type 0} (left : S → Option (List ℕ)) (rises : S → ℕ) (old new : Lines S) (known : Facts) (t : Taken) : Type 0 where
+pub record PassedLines {S : Type 0} (left : S → Option (List ℕ)) (sorted : S → ℕ) (old new : Lines S) (known : Facts) (t : Taken) : Type 0 where
   pub raws : List (List ℕ)
-  pub handed : HandedOut left rises old new raws
+  pub handed : HandedOut left sorted old new raws
   pub so_far : ReadSoFar (map without_cr raws) known t
 
-pub lines_none : {S : Type 0} (left : S → Option (List ℕ)) (rises : S → ℕ) (l : Lines S) → l.going ≡ true → PassedLines left rises l l (facts_from []) nothing_taken
-lines_none left rises l going = record { raws = []; handed = handed_none left rises l going; so_far = read_none }
+pub lines_none : {S : Type 0} (left : S → Option (List ℕ)) (sorted : S → ℕ) (l : Lines S) → l.going ≡ true → PassedLines left sorted l l (facts_from []) nothing_taken
+lines_none left sorted l going = record { raws = []; handed = handed_none left sorted l going; so_far = read_none }
 
 texts_more : (raws : List (List ℕ)) (raw : List ℕ) → map without_cr (raws ++ raw ∷ []) ≡ map without_cr raws ++ without_cr raw ∷ []
 texts_more raws raw = map-append without_cr raws (raw ∷ [])
@@ -44,29 +44,29 @@ texts_then : (raws : List (List ℕ)) (raw : List ℕ) (more : List (List ℕ)) 
 texts_then raws raw more = ap (λ v. v ++ more) (texts_more raws raw) ∙ append_assoc (map without_cr raws) (without_cr raw ∷ []) more
 
 -- the line that is read next, by its number
-next_number : {S : Type 0} (left : S → Option (List ℕ)) (rises : S → ℕ) (old l : Lines S) (known : Facts) (t : Taken) (past : PassedLines left rises old l known t) → old.number ≡ 0 → l.number + 1 ≡ length (map without_cr past.raws) + 1
-next_number left rises old l known t past first = omega (arith, past.handed.number, length-map past.raws without_cr)
+next_number : {S : Type 0} (left : S → Option (List ℕ)) (sorted : S → ℕ) (old l : Lines S) (known : Facts) (t : Taken) (past : PassedLines left sorted old l known t) → old.number ≡ 0 → l.number + 1 ≡ length (map without_cr past.raws) + 1
+next_number left sorted old l known t past first = omega (arith, past.handed.number, length-map past.raws without_cr)
 
 -- what is known and taken serves the next line
-pub lines_sound : {S : Type 0} (left : S → Option (List ℕ)) (rises : S → ℕ) (old l : Lines S) (known : Facts) (t : Taken) → old.number ≡ 0 → PassedLines left rises old l known t → IsSoundAt (l.number + 1) known t
-lines_sound left rises old l known t first past = subst (λ i. IsSoundAt i known t) (sym (next_number left rises old l known t past first)) (read_sound (map without_cr past.raws) known t past.so_far)
+pub lines_sound : {S : Type 0} (left : S → Option (List ℕ)) (sorted : S → ℕ) (old l : Lines S) (known : Facts) (t : Taken) → old.number ≡ 0 → PassedLines left sorted old l known t → IsSoundAt (l.number + 1) known t
+lines_sound left sorted old l known t first past = subst (λ i. IsSoundAt i known t) (sym (next_number left sorted old l known t past first)) (read_sound (map without_cr past.raws) known t past.so_far)
 
 -- one more line was taken up
-pub lines_more : {S : Type 0} (left : S → Option (List ℕ)) (rises : S → ℕ) (old l l' : Lines S) (known : Facts) (t : Taken) (raw : List ℕ) (s : Said) → old.number ≡ 0 → PassedLines left rises old l known t → HandedOut left rises l l' (raw ∷ [])
-    → said desk_limits known (l.number + 1) (without_cr raw) ≡ Ok s → is_end s.entry ≡ false → PassedLines left rises old l' (facts_after known (tokens (without_cr raw))) (taken_up (l.number + 1) s t)
-lines_more left rises old l l' known t raw s first past handed says goes_on =
-    let number = next_number left rises old l known t past first in
+pub lines_more : {S : Type 0} (left : S → Option (List ℕ)) (sorted : S → ℕ) (old l l' : Lines S) (known : Facts) (t : Taken) (raw : List ℕ) (s : Said) → old.number ≡ 0 → PassedLines left sorted old l known t → HandedOut left sorted l l' (raw ∷ [])
+    → said desk_limits known (l.number + 1) (without_cr raw) ≡ Ok s → is_end s.entry ≡ false → PassedLines left sorted old l' (facts_after known (tokens (without_cr raw))) (taken_up (l.number + 1) s t)
+lines_more left sorted old l l' known t raw s first past handed says goes_on =
+    let number = next_number left sorted old l known t past first in
     let more = read_more (map without_cr past.raws) known t (without_cr raw) s past.so_far ((λ j. said desk_limits known (sym number j) (without_cr raw)) ∙ says) goes_on in
     record {
       raws = past.raws ++ raw ∷ [];
-      handed = handed_then left rises old l l' past.raws (raw ∷ []) past.handed handed;
+      handed = handed_then left sorted old l l' past.raws (raw ∷ []) past.handed handed;
       so_far = subst (λ v. ReadSoFar v (facts_after known (tokens (without_cr raw))) (taken_up (l.number + 1) s t)) (sym (texts_more past.raws raw))
           (subst (λ i. ReadSoFar (map without_cr past.raws ++ without_cr raw ∷ []) (facts_after known (tokens (without_cr raw))) (taken_up i s t)) (sym number) more);
     }
 
 -- what is known may be told otherwise
-pub lines_known : {S : Type 0} (left : S → Option (List ℕ)) (rises : S → ℕ) (old l : Lines S) (known : Facts) (t : Taken) (k : Facts) → PassedLines left rises old l known t → record k { cues = known.cues } ≡ known → k.cues ≡ map (λ cue. cue.number) t.show.cues → PassedLines left rises old l k t
-lines_known left rises old l known t k past same cues = record { raws = past.raws; handed = past.handed; so_far = read_known (map without_cr past.raws) known t k past.so_far same cues }
+pub lines_known : {S : Type 0} (left : S → Option (List ℕ)) (sorted : S → ℕ) (old l : Lines S) (known : Facts) (t : Taken) (k : Facts) → PassedLines left sorted old l known t → record k { cues = known.cues } ≡ known → k.cues ≡ map (λ cue. cue.number) t.show.cues → PassedLines left sorted old l k t
+lines_known left sorted old l known t k past same cues = record { raws = past.raws; handed = past.handed; so_far = read_known (map without_cr past.raws) known t k past.so_far same cues }
 
 -- what holds of each list of lines that begins with these holds of the text
 text_with : (a b : Option (List ℕ)) (i j : ℕ) (raws : List (List ℕ)) (P : List (List ℕ) → Type 0) → TookLines a b i j raws → ((more : List (List ℕ)) → P (map without_cr raws ++ more)) → IfSome a (λ bytes. P (lines_of bytes))
@@ -84,13 +84,13 @@ script_with (Some x) None i j raws took all = tt
 script_with (Some x) (Some y) i j raws took all = ap lines_after (texts (Some x) (Some y) i j raws took) ∙ all (lines_of y)
 
 -- The next line is ENDDATA.
-pub lines_ended : {S : Type 0} (left : S → Option (List ℕ)) (rises : S → ℕ) (old l l' : Lines S) (known : Facts) (t : Taken) (raw : List ℕ) (s : Said) → old.number ≡ 0 → PassedLines left rises old l known t → HandedOut left rises l l' (raw ∷ [])
-    → said desk_limits known (l.number + 1) (without_cr raw) ≡ Ok s → is_end s.entry ≡ true → MeansShow left rises old l' (reading_of_taken t)
-lines_ended left rises old l l' known t raw s first past handed says end =
-    let number = next_number left rises old l known t past first in
+pub lines_ended : {S : Type 0} (left : S → Option (List ℕ)) (sorted : S → ℕ) (old l l' : Lines S) (known : Facts) (t : Taken) (raw : List ℕ) (s : Said) → old.number ≡ 0 → PassedLines left sorted old l known t → HandedOut left sorted l l' (raw ∷ [])
+    → said desk_limits known (l.number + 1) (without_cr raw) ≡ Ok s → is_end s.entry ≡ true → MeansShow left sorted old l' (reading_of_taken t)
+lines_ended left sorted old l l' known t raw s first past handed says end =
+    let number = next_number left sorted old l known t past first in
     let front : List (List ℕ) = map without_cr past.raws in
     let all : (more : List (List ℕ)) → Ended front (without_cr raw) t more = read_ended front known t (without_cr raw) s past.so_far ((λ j. said desk_limits known (sym number j) (without_cr raw)) ∙ says) end in
-    let whole = handed_then left rises old l l' past.raws (raw ∷ []) past.handed handed in
+    let whole = handed_then left sorted old l l' past.raws (raw ∷ []) past.handed handed in
     let count : length front + 1 ≡ length past.raws + 1 = omega (arith, length-map past.raws without_cr) in
     record {
       front = past.raws;
@@ -103,13 +103,13 @@ lines_ended left rises old l l' known t raw s first past handed says end =
     }
 
 -- The next line has a fault.
-pub lines_refused : {S : Type 0} (left : S → Option (List ℕ)) (rises : S → ℕ) (old l l' : Lines S) (known : Facts) (t : Taken) (raw : List ℕ) (fault : TextFault) → old.number ≡ 0 → PassedLines left rises old l known t → HandedOut left rises l l' (raw ∷ [])
+pub lines_refused : {S : Type 0} (left : S → Option (List ℕ)) (sorted : S → ℕ) (old l l' : Lines S) (known : Facts) (t : Taken) (raw : List ℕ) (fault : TextFault) → old.number ≡ 0 → PassedLines left sorted old l known t → HandedOut left sorted l l' (raw ∷ [])
     → said desk_limits known (l.number + 1) (without_cr raw) ≡ Err fault → MeansFault left old fault
-lines_refused left rises old l l' known t raw fault first past handed says =
-    let number = next_number left rises old l known t past first in
+lines_refused left sorted old l l' known t raw fault first past handed says =
+    let number = next_number left sorted old l known t past first in
     let front : List (List ℕ) = map without_cr past.raws in
     let all : (more : List (List ℕ)) → Refused front (without_cr raw) fault more = read_refused front known t (without_cr raw) fault past.so_far ((λ j. said desk_limits known (sym number j) (without_cr raw)) ∙ says) in
-    let whole = handed_then left rises old l l' past.raws (raw ∷ []) past.handed handed in
+    let whole = handed_then left sorted old l l' past.raws (raw ∷ []) past.handed handed in
     let count : length front + 1 ≡ length past.raws + 1 = omega (arith, length-map past.raws without_cr) in
     record {
       raws = past.raws ++ raw ∷ [];
@@ -124,10 +124,10 @@ lines_refused left rises old l l' known t raw fault first past handed says =
     }
 
 -- No line is left.
-pub lines_open : {S : Type 0} (left : S → Option (List ℕ)) (rises : S → ℕ) (old l : Lines S) (known : Facts) (t : Taken) → old.number ≡ 0 → PassedLines left rises old l known t → IsAtEnd (unread left l) → MeansFault left old (NoEndData (l.number + 1))
-lines_open left rises old l known t first past end =
+pub lines_open : {S : Type 0} (left : S → Option (List ℕ)) (sorted : S → ℕ) (old l : Lines S) (known : Facts) (t : Taken) → old.number ≡ 0 → PassedLines left sorted old l known t → IsAtEnd (unread left l) → MeansFault left old (NoEndData (l.number + 1))
+lines_open left sorted old l known t first past end =
     let front : List (List ℕ) = map without_cr past.raws in
-    let number = next_number left rises old l known t past first in
+    let number = next_number left sorted old l known t past first in
     let meant : reads_lines front ≡ Err (NoEndData (l.number + 1)) = read_open front known t past.so_far ∙ ap (λ n. Err (NoEndData n)) (sym number) in
     let wanted : lines_read front ≡ l.number + 1 = wanted_one front known t past.so_far ∙ sym number in
     record {
@@ -150,8 +150,8 @@ past_limit : (o : Option (List ℕ)) (taken n : ℕ) → IfSome o (λ bytes. rea
 past_limit None taken n open_text wanted long = tt
 past_limit (Some bytes) taken n open_text wanted long = record { n = n; no_end = open_text; wanted = wanted; long = long }
 
-pub lines_past_limit : {S : Type 0} (left : S → Option (List ℕ)) (rises : S → ℕ) (old l l' : Lines S) (known : Facts) (t : Taken) → PassedLines left rises old l known t → StepOf steps.InputTooLong (unread left l) (unread left l') l.taken l'.taken (line_of l') → IfSome (unread left old) (IsPastLimit old.taken)
-lines_past_limit left rises old l l' known t past step =
+pub lines_past_limit : {S : Type 0} (left : S → Option (List ℕ)) (sorted : S → ℕ) (old l l' : Lines S) (known : Facts) (t : Taken) → PassedLines left sorted old l known t → StepOf steps.InputTooLong (unread left l) (unread left l') l.taken l'.taken (line_of l') → IfSome (unread left old) (IsPastLimit old.taken)
+lines_past_limit left sorted old l l' known t past step =
     let front : List (List ℕ) = map without_cr past.raws in
     let n : ℕ = length past.raws in
     let count = length-map past.raws without_cr in
@@ -166,8 +166,8 @@ cut_short : (o left : Option (List ℕ)) (taken n : ℕ) → IfSome o (λ bytes.
 cut_short None left taken n cut wanted = tt
 cut_short (Some bytes) left taken n cut wanted = record { cut = cut.0; wanted = subst (λ k. k < lines_read (lines_of bytes)) (sym cut.1) wanted }
 
-pub lines_cut : {S : Type 0} (left : S → Option (List ℕ)) (rises : S → ℕ) (old l l' : Lines S) (known : Facts) (t : Taken) → PassedLines left rises old l known t → NotTaken left l l' → IfSome (unread left old) (λ bytes. IsCutShort old.taken bytes (left l'.source.now))
-lines_cut left rises old l l' known t past not =
+pub lines_cut : {S : Type 0} (left : S → Option (List ℕ)) (sorted : S → ℕ) (old l l' : Lines S) (known : Facts) (t : Taken) → PassedLines left sorted old l known t → NotTaken left l l' → IfSome (unread left old) (λ bytes. IsCutShort old.taken bytes (left l'.source.now))
+lines_cut left sorted old l l' known t past not =
     let count = length-map past.raws without_cr in
     cut_short (unread left old) (left l'.source.now) old.taken (length past.raws) (cut_off left old l l' past.raws past.handed.took not)
     (text_with (unread left old) (unread left l) old.taken l.taken past.raws (λ v. length past.raws < lines_read v) past.handed.took (λ more. omega (arith, wanted_more (map without_cr past.raws) known t past.so_far more, count)))

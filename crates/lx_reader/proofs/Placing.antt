@@ -1,4 +1,4 @@
--- Lists made of rising numbers, with an entry placed.
+-- Lists made of sorted numbers, with an entry placed.
 use Rattle.std.proofs.Common.{◌≡◌, ℕ, ◌<◌, ◌≤◌, Bool, true, false, cond, List, [], ◌∷◌, ◌++◌, map, Some, None, refl, ap, ◌∙◌, sym, subst, inl, inr, arith}
 use Rattle.std.specs.Prelude.{filter, fold, nat_lt, ◌==◌, is_some, find, ◌||◌}
 use Rattle.std.specs.List.{AllByRecursion}
@@ -7,9 +7,9 @@ use Rattle.lx_show.specs.Changed.{changed}
 use Rattle.std.proofs.lemmas.List.{map-append}
 use Rattle.std.proofs.lemmas.Bool.{cases_order, eqb-true}
 use Rattle.std.proofs.lemmas.Bool.Decides.{nat_tests}
-use Rattle.lx_spec.specs.SortedList.{Rises, placed, entry_at, has_entry}
+use Rattle.lx_spec.specs.SortedList.{IsStrictlySorted, placed, entry_at, has_entry}
 use Rattle.lx_spec.specs.Reading.{numbers}
-use Rattle.lx_show.proofs.RisingLists.{Rises-placed}
+use Rattle.lx_show.proofs.SortedLists.{IsStrictlySorted-placed}
 
 lt_true : (a b : ℕ) → a < b → nat_lt a b ≡ true
 lt_true a b h = grind (arith, nat_tests)
@@ -119,30 +119,30 @@ each P Q [] f all = all
 each P Q (x ∷ xs) f all = (f x all.0, each P Q xs f all.1)
 
 -- a number that is there stays where it is
-pub placed-there : (n : ℕ) (ns : List ℕ) → Rises (λ m. m) ns → has_entry (λ m. m) n ns ≡ true → placed (λ m. m) n ns ≡ ns
-placed-there n [] rises there = cc
-placed-there n (m ∷ ms) rises there = elim (cases_order m n) [
+pub placed-there : (n : ℕ) (ns : List ℕ) → IsStrictlySorted (λ m. m) ns → has_entry (λ m. m) n ns ≡ true → placed (λ m. m) n ns ≡ ns
+placed-there n [] sorted there = cc
+placed-there n (m ∷ ms) sorted there = elim (cases_order m n) [
   | inl here ↦
-      let low : filter (λ x. nat_lt x n) ms ≡ [] = filter_none (λ x. nat_lt x n) ms (each (λ x. m < x) (λ x. nat_lt x n ≡ false) ms (λ x h. lt_false x n (omega arith)) rises.0) in
-      let high : filter (λ x. nat_lt n x) ms ≡ ms = filter_all (λ x. nat_lt n x) ms (each (λ x. m < x) (λ x. nat_lt n x ≡ true) ms (λ x h. lt_true n x (omega arith)) rises.0) in
+      let low : filter (λ x. nat_lt x n) ms ≡ [] = filter_none (λ x. nat_lt x n) ms (each (λ x. m < x) (λ x. nat_lt x n ≡ false) ms (λ x h. lt_false x n (omega arith)) sorted.0) in
+      let high : filter (λ x. nat_lt n x) ms ≡ ms = filter_all (λ x. nat_lt n x) ms (each (λ x. m < x) (λ x. nat_lt n x ≡ true) ms (λ x h. lt_true n x (omega arith)) sorted.0) in
       rw (lt_false m n (omega arith), lt_false n m (omega arith)) (rw (low, high) (ap (λ k. k ∷ ms) (sym here)))
   | inr other ↦ elim other [
     | inl low ↦
         let rest : has_entry (λ m. m) n ms ≡ true = rw (eq_below m n low) at there in
-        rw (lt_true m n low, lt_false n m (omega arith)) (ap (λ v. m ∷ v) (placed-there n ms rises.1 rest))
+        rw (lt_true m n low, lt_false n m (omega arith)) (ap (λ v. m ∷ v) (placed-there n ms sorted.1 rest))
     | inr high ↦
-        let none : has_entry (λ m. m) n ms ≡ false = absent_above n ms (each (λ x. m < x) (λ x. n < x) ms (λ x h. omega arith) rises.0) in
+        let none : has_entry (λ m. m) n ms ≡ false = absent_above n ms (each (λ x. m < x) (λ x. n < x) ms (λ x h. omega arith) sorted.0) in
         let rest : has_entry (λ m. m) n ms ≡ true = rw (eq_above m n high) at there in
         (cc)
   ]
 ]
 
-pub Rises-all_placed : {A : Type 0} (key : A → ℕ) (more xs : List A) → Rises key xs → Rises key (fold (λ ys x. placed key x ys) xs more)
-Rises-all_placed key [] xs rises = rises
-Rises-all_placed key (x ∷ more) xs rises = Rises-all_placed key more (placed key x xs) (Rises-placed key x xs rises)
+pub IsStrictlySorted-all_placed : {A : Type 0} (key : A → ℕ) (more xs : List A) → IsStrictlySorted key xs → IsStrictlySorted key (fold (λ ys x. placed key x ys) xs more)
+IsStrictlySorted-all_placed key [] xs sorted = sorted
+IsStrictlySorted-all_placed key (x ∷ more) xs sorted = IsStrictlySorted-all_placed key more (placed key x xs) (IsStrictlySorted-placed key x xs sorted)
 
-pub Rises-numbers : (ns : List ℕ) → Rises (λ m. m) (numbers ns)
-Rises-numbers ns = Rises-all_placed (λ m. m) ns [] tt
+pub IsStrictlySorted-numbers : (ns : List ℕ) → IsStrictlySorted (λ m. m) (numbers ns)
+IsStrictlySorted-numbers ns = IsStrictlySorted-all_placed (λ m. m) ns [] tt
 
 -- the entry that is made of a number that is there
 pub entry_made : {A : Type 0} (key : A → ℕ) (f : ℕ → A) → ((m : ℕ) → key (f m) ≡ m) → (n : ℕ) (ns : List ℕ) → entry_at key n (map f ns) ≡ cond (has_entry (λ m. m) n ns) (Some (f n)) None
@@ -219,10 +219,10 @@ has-all_placed n [] ns there = there
 has-all_placed n (m ∷ more) ns there = has-all_placed n more (placed (λ k. k) m ns) (has-placed n m ns there)
 
 -- entries made of numbers, of which one is changed
-pub changed-made : {A : Type 0} (key : A → ℕ) (f g : ℕ → A) → ((m : ℕ) → key (f m) ≡ m) → ((m : ℕ) → key (g m) ≡ m) → (n : ℕ) → ((m : ℕ) → (m == n) ≡ false → g m ≡ f m) → (change : A → A) → g n ≡ change (f n) → (ns : List ℕ) → Rises (λ m. m) ns → has_entry (λ m. m) n ns ≡ true → map g ns ≡ changed key n change (map f ns)
-changed-made {A} key f g kf kg n same change here ns rises there =
+pub changed-made : {A : Type 0} (key : A → ℕ) (f g : ℕ → A) → ((m : ℕ) → key (f m) ≡ m) → ((m : ℕ) → key (g m) ≡ m) → (n : ℕ) → ((m : ℕ) → (m == n) ≡ false → g m ≡ f m) → (change : A → A) → g n ≡ change (f n) → (ns : List ℕ) → IsStrictlySorted (λ m. m) ns → has_entry (λ m. m) n ns ≡ true → map g ns ≡ changed key n change (map f ns)
+changed-made {A} key f g kf kg n same change here ns sorted there =
     let made : entry_at key n (map f ns) ≡ Some (f n) = entry_made key f kf n ns ∙ ap (λ b. cond b (Some (f n)) None) there in
-    ap (λ v. map g v) (sym (placed-there n ns rises there))
+    ap (λ v. map g v) (sym (placed-there n ns sorted there))
     ∙ map-placed_anew key f g kf kg n same ns
     ∙ ap (λ v. placed key v (map f ns)) here
     ∙ sym (ap (λ o. option_map_or (λ x. placed key (change x) (map f ns)) o (map f ns)) made)

@@ -14,7 +14,7 @@ use Rattle.lx_spec.specs.Reading.{last_of_each, numbers, named_by, cue_named, pa
 use Rattle.lx_spec.specs.EditedShow.{new_cue}
 use Rattle.lx_reader.specs.TakenUp.{all_placed, cue_change, group_change, sub_change, group_in, sub_in, new_group, new_sub, show_with}
 use Rattle.lx_reader.proofs.Later.{filter-more}
-use Rattle.lx_reader.proofs.Placing.{Rises-numbers}
+use Rattle.lx_reader.proofs.Placing.{IsStrictlySorted-numbers}
 use Rattle.lx_reader.proofs.Listed.{is_at, after_change, listed-more}
 use Rattle.lx_reader.proofs.Cues.{parts_named, HasPart, IsFresh, part_of-none, cue_from-with}
 use Rattle.lx_reader.proofs.Groups.{group_from-with, sub_from-with}
@@ -133,19 +133,19 @@ patch-more all s =
 
 pub show-more : (all : List Said) (s : Said) → IsRooted all → IsNamed all s.section s.part → show_so_far (all ++ s ∷ []) ≡ show_with s (show_so_far all)
 show-more all s rooted named =
-    let rises = λ (of : Entry → Option ℕ). Rises-numbers (filter_map (λ z. of z.entry) all) in
+    let sorted = λ (of : Entry → Option ℕ). IsStrictlySorted-numbers (filter_map (λ z. of z.entry) all) in
     let cues =
     (λ i. map (made (all ++ s ∷ [])) (named-more cue_named all s i))
     ∙ listed-more (λ cue. cue.number) new_cue (cue_named s.entry) (cue_change s.part s.entry) (cue_in s.section) (made all) (made (all ++ s ∷ [])) (named_by cue_named all)
-    (cue_alone s.part s.entry) (keeps_cue s.part s.entry) (λ m. refl) (rises cue_named) named.cue (λ n absent. ap (λ v. cue_from v n) (rooted.cues n absent)) (made-more all s rooted named) in
+    (cue_alone s.part s.entry) (keeps_cue s.part s.entry) (λ m. refl) (sorted cue_named) named.cue (λ n absent. ap (λ v. cue_from v n) (rooted.cues n absent)) (made-more all s rooted named) in
     let groups =
     (λ i. map (made_group (all ++ s ∷ [])) (named-more group_named all s i))
     ∙ listed-more (λ group. group.number) new_group (group_named s.entry) (group_change s.entry) (group_in s.section) (made_group all) (made_group (all ++ s ∷ [])) (named_by group_named all)
-    (group_alone s.entry) (keeps_group s.entry) (λ m. refl) (rises group_named) named.group (λ g absent. ap (λ v. group_from v g) (rooted.groups g absent)) (made_group-more all s) in
+    (group_alone s.entry) (keeps_group s.entry) (λ m. refl) (sorted group_named) named.group (λ g absent. ap (λ v. group_from v g) (rooted.groups g absent)) (made_group-more all s) in
     let subs =
     (λ i. map (made_sub (all ++ s ∷ [])) (named-more sub_named all s i))
     ∙ listed-more (λ sub. sub.number) new_sub (sub_named s.entry) (sub_change s.entry) (sub_in s.section) (made_sub all) (made_sub (all ++ s ∷ [])) (named_by sub_named all)
-    (sub_alone s.entry) (keeps_sub s.entry) (λ m. refl) (rises sub_named) named.sub (λ n absent. ap (λ v. sub_from v n) (rooted.subs n absent)) (made_sub-more all s) in
+    (sub_alone s.entry) (keeps_sub s.entry) (λ m. refl) (sorted sub_named) named.sub (λ n absent. ap (λ v. sub_from v n) (rooted.subs n absent)) (made_sub-more all s) in
     let channels = channels-more all s in
     let patch = patch-more all s in
     λ i. record { channels = channels i; cues = cues i; groups = groups i; subs = subs i; patch = patch i }

@@ -183,7 +183,7 @@ part_kept n p show None is there valid = cc
 part_kept n p show (Some cue) is there valid =
     let parts : with_part p cue.parts ≡ cue.parts = ap (λ b. cond b cue.parts (placed (λ q. q.number) (new_part p) cue.parts)) there in
     let cues : changed (λ z. z.number) n (λ z. record z { parts = with_part p z.parts }) show.cues ≡ show.cues
-    = changed-alike (λ z. z.number) n (λ z. record z { parts = with_part p z.parts }) (λ z. z) show.cues cue is (λ j. record cue { parts = parts j }) ∙ changed-not (λ z. z.number) n show.cues valid.cues_rise in
+    = changed-alike (λ z. z.number) n (λ z. record z { parts = with_part p z.parts }) (λ z. z) show.cues cue is (λ j. record cue { parts = parts j }) ∙ changed-not (λ z. z.number) n show.cues valid.cues_sorted in
     λ j. record show { cues = sym cues j }
 
 pub part_there : (n p : ℕ) (show : Show) → true ≡ option_map_or (λ cue. has_entry (λ q. q.number) p cue.parts) (cue_of show n) false → Valid show → show ≡ show_with (record { section = InCue n; part = p; entry = NamesPart p }) show

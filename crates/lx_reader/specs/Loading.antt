@@ -50,16 +50,16 @@ CutShort left old new = IfSome (unread left old) (λ bytes. IsCutShort old.taken
 
 -- what the answer says: the show, or the first fault of the text, or that there was none before the input was too long or a read failed
 abbrev pub AnswerOf : {S : Type 0} → (S → Option (List ℕ)) → (S → ℕ) → Lines S → Lines S → Result Loaded ShowFault → Type 0
-AnswerOf left rises old new (Ok loaded) = HasRead left rises old new loaded
-AnswerOf left rises old new (Err fault) = OfText (MeansFault left old) (IfSome (unread left old) (IsPastLimit old.taken) × CutShort left old new) (CutShort left old new) fault
+AnswerOf left sorted old new (Ok loaded) = HasRead left sorted old new loaded
+AnswerOf left sorted old new (Err fault) = OfText (MeansFault left old) (IfSome (unread left old) (IsPastLimit old.taken) × CutShort left old new) (CutShort left old new) fault
 
 -- the line that was handed out has the fault, or no line is left
 abbrev pub FaultOf : {S : Type 0} → (S → Option (List ℕ)) → (S → ℕ) → Lines S → Lines S → Reader → TextFault → Type 0
-FaultOf left rises old new r fault =
-    ((raw : List ℕ) × HandedOut left rises old new (raw ∷ []) × (entry_of desk_limits (known_of r) (old.number + 1) (without_cr raw) ≡ Err fault)) ⊎ (IsAtEnd (unread left old) × (fault ≡ NoEndData (old.number + 1)))
+FaultOf left sorted old new r fault =
+    ((raw : List ℕ) × HandedOut left sorted old new (raw ∷ []) × (entry_of desk_limits (known_of r) (old.number + 1) (without_cr raw) ≡ Err fault)) ⊎ (IsAtEnd (unread left old) × (fault ≡ NoEndData (old.number + 1)))
 
 -- what one line comes to: it was handed out and taken up, or has a fault, or isn't there
 abbrev pub TurnOf : {S : Type 0} → (S → Option (List ℕ)) → (S → ℕ) → Lines S → Lines S → Reader → Reader → Result (Unit {0}) ShowFault → Type 0
-TurnOf left rises old new r q (Ok done) =
-    (raw : List ℕ) × HandedOut left rises old new (raw ∷ []) × TakesLine r q (old.number + 1) (tokens (without_cr raw)) (Ok done) (entry_of desk_limits (known_of r) (old.number + 1) (without_cr raw))
-TurnOf left rises old new r q (Err fault) = OfText (FaultOf left rises old new r) (StepOf steps.InputTooLong (unread left old) (unread left new) old.taken new.taken (line_of new)) (NotTaken left old new) fault
+TurnOf left sorted old new r q (Ok done) =
+    (raw : List ℕ) × HandedOut left sorted old new (raw ∷ []) × TakesLine r q (old.number + 1) (tokens (without_cr raw)) (Ok done) (entry_of desk_limits (known_of r) (old.number + 1) (without_cr raw))
+TurnOf left sorted old new r q (Err fault) = OfText (FaultOf left sorted old new r) (StepOf steps.InputTooLong (unread left old) (unread left new) old.taken new.taken (line_of new)) (NotTaken left old new) fault

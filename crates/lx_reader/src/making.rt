@@ -11,7 +11,7 @@ ghost use Rattle.lx_reader.specs.Stops.{IsOpen};
 ghost use Rattle.lx_reader.specs.TakenUp.{show_with, with_cue, with_group, with_sub};
 
 use lx_base::{CueNo, GroupNo, PartNo, SubNo};
-use lx_show::rising::entry_of;
+use lx_show::sorted::entry_of;
 use lx_show::{Cue, Group, Show, Sub, new_part};
 use lx_spec::{Label, Section};
 use std::alloc::Global;

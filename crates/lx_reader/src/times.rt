@@ -5,7 +5,7 @@ ghost use Rattle.std.specs.Option.{IsSomeAnd};
 ghost use Rattle.std.specs.List.{AllByRecursion};
 ghost use Rattle.lx_base.specs.declared.TheConstants.{TIME_MAX};
 ghost use Rattle.lx_spec.specs.declared.Section.TheVariants.{InCue};
-ghost use Rattle.lx_spec.specs.SortedList.{Rises, has_entry, entry_at};
+ghost use Rattle.lx_spec.specs.SortedList.{IsStrictlySorted, has_entry, entry_at};
 ghost use Rattle.lx_spec.specs.Show.{ValidPart};
 ghost use Rattle.lx_spec.specs.TrackedLevel.{cue_of};
 ghost use Rattle.lx_spec.specs.Saying.{HasUp, HasDown};
@@ -14,7 +14,7 @@ ghost use Rattle.lx_reader.specs.TakenUp.{show_with};
 
 use lx_base::{Cs, CueNo, PartNo};
 use lx_show::Show;
-use lx_show::rising::entry_of;
+use lx_show::sorted::entry_of;
 use lx_spec::Part;
 
 /// The part of the cue, which is there.
@@ -31,7 +31,7 @@ fn part_of(show: &Show, n: CueNo, part: PartNo) -> Part
 
 /// The part of the number, which is there.
 fn part_in(parts: &[Part], number: PartNo) -> Part
-    requires rise { Rises (λ p. p.number) parts.now }
+    requires sorted { IsStrictlySorted (λ p. p.number) parts.now }
     requires there { IsTrue (has_entry (λ p. p.number) number parts.now) }
     requires valid { AllByRecursion ValidPart parts.now }
     ensures found { entry_at (λ p. p.number) number parts.now ≡ Some result }

@@ -5,7 +5,7 @@ use Rattle.std.proofs.lemmas.Bool.Decides.{nat_tests}
 use Rattle.std.proofs.lemmas.Grind.{flat_map-append}
 use Rattle.std.proofs.lemmas.List.{take_more}
 use Rattle.std.proofs.lemmas.List.Elements.{All-from_recursion}
-use Rattle.lx_spec.specs.SortedList.{Rises, entry_at}
+use Rattle.lx_spec.specs.SortedList.{IsStrictlySorted, entry_at}
 use Rattle.lx_spec.specs.Show.{Cue}
 use Rattle.lx_spec.specs.ShowText.{cue_number_text}
 use Rattle.lx_spec.specs.Replies.{cells, row_text}
@@ -38,13 +38,13 @@ same_number a n same = grind (arith, nat_tests)
 other_number : (a n : ℕ) → a < n → (a == n) ≡ false
 other_number a n less = grind (arith, nat_tests)
 
--- the entry at a place of a rising list is the entry of its number
-pub entry_there : {A : Type 0} (key : A → ℕ) (xs : List A) (k : ℕ) (x : A) → Rises key xs → k < length xs → x ≡ get_or xs k x → entry_at key (key x) xs ≡ Some x
-entry_there key [] k x rises within is = absurd (omega arith)
-entry_there {A} key (y ∷ ys) zero x rises within is = ap (λ (b : Bool). cond b (Some y) (entry_at key (key x) ys)) (same_number (key y) (key x) (ap key (sym is))) ∙ ap Some (sym is)
-entry_there {A} key (y ∷ ys) (suc k) x rises within is =
-    let above : key y < key (get_or ys k x) = All-from_recursion (λ z. key y < key z) ys rises.0 k x (omega arith) in
-    ap (λ (b : Bool). cond b (Some y) (entry_at key (key x) ys)) (other_number (key y) (key x) (omega (arith, above, ap key is))) ∙ entry_there key ys k x rises.1 (omega arith) is
+-- the entry at a place of a sorted list is the entry of its number
+pub entry_there : {A : Type 0} (key : A → ℕ) (xs : List A) (k : ℕ) (x : A) → IsStrictlySorted key xs → k < length xs → x ≡ get_or xs k x → entry_at key (key x) xs ≡ Some x
+entry_there key [] k x sorted within is = absurd (omega arith)
+entry_there {A} key (y ∷ ys) zero x sorted within is = ap (λ (b : Bool). cond b (Some y) (entry_at key (key x) ys)) (same_number (key y) (key x) (ap key (sym is))) ∙ ap Some (sym is)
+entry_there {A} key (y ∷ ys) (suc k) x sorted within is =
+    let above : key y < key (get_or ys k x) = All-from_recursion (λ z. key y < key z) ys sorted.0 k x (omega arith) in
+    ap (λ (b : Bool). cond b (Some y) (entry_at key (key x) ys)) (other_number (key y) (key x) (omega (arith, above, ap key is))) ∙ entry_there key ys k x sorted.1 (omega arith) is
 
 -- one piece more of a list of pieces, and the list around it
 pub pieces_more : {A : Type 0} (f : A → List ℕ) (xs : List A) (i : ℕ) (x : A) → i < length xs → x ≡ get_or xs i x → flat_map f (take i xs) ++ f x ≡ flat_map f (take (i + 1) xs)

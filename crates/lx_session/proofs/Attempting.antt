@@ -9,7 +9,7 @@ use Rattle.lx_spec.specs.declared.Line.{Line}
 use Rattle.lx_spec.specs.declared.Refusal.{Refusal}
 use Rattle.lx_spec.specs.declared.Refusal.TheVariants.{Memory}
 use Rattle.lx_spec.specs.Desk.{Desk, step}
-use Rattle.lx_spec.specs.Stands.{Kept}
+use Rattle.lx_spec.specs.Kept.{Kept}
 use Rattle.lx_spec.specs.Session.{Session, Attempt, answered, attempt, and_then, command_of, attempts_of, attempts_for}
 use Rattle.lx_spec.specs.RefusedPlaces.{is_edit}
 use Rattle.lx_console.specs.Standing.{StandsFor, Refuses}

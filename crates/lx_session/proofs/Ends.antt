@@ -16,7 +16,7 @@ use Rattle.lx_lex.proofs.CuttingOff.{cut_off}
 use Rattle.lx_lex.proofs.TakenLines.{all_texts}
 use Rattle.lx_spec.specs.Text.{without_cr, lines_of}
 use Rattle.lx_spec.specs.Desk.{Desk}
-use Rattle.lx_spec.specs.Stands.{Kept}
+use Rattle.lx_spec.specs.Kept.{Kept}
 use Rattle.lx_spec.specs.CutInput.{first_lines}
 use Rattle.lx_spec.specs.Session.{Session, begin_at, ends_script, after_lines, session, replies, after_first}
 use Rattle.lx_spec.specs.RefusedPlaces.{WantsAtEdits}

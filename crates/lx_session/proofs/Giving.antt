@@ -8,7 +8,7 @@ use Rattle.lx_io.proofs.Chain.{AppendsFront-is}
 use Rattle.lx_spec.specs.declared.Line.{Line}
 use Rattle.lx_spec.specs.declared.Line.TheVariants as lines
 use Rattle.lx_spec.specs.Desk.{Desk}
-use Rattle.lx_spec.specs.Stands.{Kept}
+use Rattle.lx_spec.specs.Kept.{Kept}
 use Rattle.lx_spec.specs.Session.{Session, is_quit, after_meaning}
 use Rattle.lx_spec.specs.RefusedPlaces.{IsAcceptedEdit}
 use Rattle.lx_console.specs.Standing.{StandsFor}

@@ -9,7 +9,7 @@ use Rattle.lx_spec.specs.declared.Line.{Line}
 use Rattle.lx_spec.specs.declared.Line.TheVariants as lines
 use Rattle.lx_spec.specs.declared.Refusal.{Refusal}
 use Rattle.lx_spec.specs.Desk.{Desk, step}
-use Rattle.lx_spec.specs.Stands.{Kept}
+use Rattle.lx_spec.specs.Kept.{Kept}
 use Rattle.lx_spec.specs.Session.{Session, Counts, command_of, count_of, after_attempts}
 use Rattle.lx_spec.specs.RefusedPlaces.{is_edit, IsAcceptedEdit}
 use Rattle.lx_console.specs.Standing.{StandsFor}

@@ -7,7 +7,7 @@ use Rattle.lx_spec.specs.declared.Refusal.TheVariants.{AbsentCue}
 use Rattle.lx_spec.specs.Show.{Cue, Show}
 use Rattle.lx_spec.specs.TrackedLevel.{cue_of}
 use Rattle.lx_spec.specs.Desk.{Desk}
-use Rattle.lx_spec.specs.Stands.{Kept}
+use Rattle.lx_spec.specs.Kept.{Kept}
 use Rattle.lx_spec.specs.Replies.{row_of, row_text, refused_text}
 use Rattle.lx_spec.specs.Session.{with_text, refused_reply}
 use Rattle.lx_console.specs.Standing.{StandsFor}

@@ -18,7 +18,7 @@ use Rattle.lx_lex.proofs.TakenLines.{texts, all_texts, lines_within, next_too_lo
 use Rattle.lx_lex.proofs.FirstLines.{first_lines-longer}
 use Rattle.lx_spec.specs.Text.{without_cr, lines_of}
 use Rattle.lx_spec.specs.Desk.{Desk}
-use Rattle.lx_spec.specs.Stands.{Kept}
+use Rattle.lx_spec.specs.Kept.{Kept}
 use Rattle.lx_spec.specs.CutInput.{first_lines}
 use Rattle.lx_spec.specs.Session.{Session, begin_at, ends_script, after_lines, lines_wanted, bytes_wanted}
 use Rattle.lx_spec.specs.Script.{line_of as meant_by}

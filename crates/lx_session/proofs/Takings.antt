@@ -13,7 +13,7 @@ use Rattle.lx_lex.specs.Unread.{unread}
 use Rattle.lx_spec.specs.declared.Line.{Line}
 use Rattle.lx_spec.specs.Text.{without_cr, tokens}
 use Rattle.lx_spec.specs.Script.{meaning}
-use Rattle.lx_spec.specs.Stands.{Kept}
+use Rattle.lx_spec.specs.Kept.{Kept}
 use Rattle.lx_console.specs.Standing.{StandsFor}
 use Rattle.lx_session.specs.declared.tally.Tally.{Tally}
 use Rattle.lx_session.specs.declared.fault.SessionFault.{SessionFault}

@@ -8,7 +8,7 @@ use Rattle.lx_spec.specs.declared.Line.{Line}
 use Rattle.lx_spec.specs.declared.Line.TheVariants as lines
 use Rattle.lx_spec.specs.declared.Refusal.{Refusal}
 use Rattle.lx_spec.specs.Desk.{Desk}
-use Rattle.lx_spec.specs.Stands.{Kept}
+use Rattle.lx_spec.specs.Kept.{Kept}
 use Rattle.lx_console.specs.Standing.{StandsFor, Answers}
 use Rattle.lx_session.specs.Attempts.{Attempted}
 

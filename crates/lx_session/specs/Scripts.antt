@@ -4,7 +4,7 @@ use Rattle.std.specs.List.{position_or_len, before_first}
 use Rattle.std.specs.Io.KnownBytes.{Appends}
 use Rattle.lx_io.specs.Puts.{AppendsFront}
 use Rattle.lx_spec.specs.Text.{lines_of}
-use Rattle.lx_spec.specs.Stands.{Kept}
+use Rattle.lx_spec.specs.Kept.{Kept}
 use Rattle.lx_spec.specs.Desk.{Desk}
 use Rattle.lx_spec.specs.CutInput.{first_lines, CutOff}
 use Rattle.lx_spec.specs.Session.{session, replies, after_first}

@@ -5,7 +5,7 @@ use Rattle.lx_lex.specs.declared.lines.Lines.{Lines}
 use Rattle.lx_lex.specs.Handed.{HandedOut}
 use Rattle.lx_lex.specs.Unread.{unread}
 use Rattle.lx_spec.specs.Text.{without_cr}
-use Rattle.lx_spec.specs.Stands.{Kept}
+use Rattle.lx_spec.specs.Kept.{Kept}
 use Rattle.lx_spec.specs.Session.{Session, ends_script}
 use Rattle.lx_spec.specs.Script.{line_of}
 use Rattle.lx_console.specs.Standing.{StandsFor}

@@ -5,35 +5,35 @@ use borrow.Rule.Slice.PartMut.{put_mid}
 use Rattle.std.proofs.lemmas.Bool.{cases_lt, cases_order}
 use Rattle.std.proofs.lemmas.List.{get_or-take, get_or-drop, get_or_past, get_or-set_same, get_or-set_other, length-take, drop-take}
 use Rattle.std.proofs.lemmas.Slice.{between-put_mid, take-put_mid_below, drop-put_mid}
-use Rattle.lx_sheet.specs.Block.{cell, level_among, last_value}
+use Rattle.lx_sheet.specs.Block.{cell, level_in_look, last_value}
 
 one_below : (c : ℕ) → 1 ≤ c → suc (c - 1) ≡ c
 one_below c least = omega arith
 
 -- the level of a channel stands below its number
-pub level_among_is : (levels : List ℕ) (c : ℕ) → 1 ≤ c → level_among levels c ≡ get_or levels (c - 1) 0
-level_among_is levels c least = subst (λ (n : ℕ). get_or (0 ∷ levels) n 0 ≡ get_or levels (c - 1) 0) (one_below c least) refl
+pub level_in_look_is : (levels : List ℕ) (c : ℕ) → 1 ≤ c → level_in_look levels c ≡ get_or levels (c - 1) 0
+level_in_look_is levels c least = subst (λ (n : ℕ). get_or (0 ∷ levels) n 0 ≡ get_or levels (c - 1) 0) (one_below c least) refl
 
 -- a level written
-pub level_among-set : (levels : List ℕ) (chan c level : ℕ) → 1 ≤ chan → chan ≤ length levels → c ≡ chan → level_among (set levels (chan - 1) level) c ≡ level
-level_among-set levels chan c level least most same =
-    level_among_is (set levels (chan - 1) level) c (omega arith) ∙ ap (λ n. get_or (set levels (chan - 1) level) (n - 1) 0) same ∙ get_or-set_same levels (chan - 1) level 0 (omega arith)
+pub level_in_look-set : (levels : List ℕ) (chan c level : ℕ) → 1 ≤ chan → chan ≤ length levels → c ≡ chan → level_in_look (set levels (chan - 1) level) c ≡ level
+level_in_look-set levels chan c level least most same =
+    level_in_look_is (set levels (chan - 1) level) c (omega arith) ∙ ap (λ n. get_or (set levels (chan - 1) level) (n - 1) 0) same ∙ get_or-set_same levels (chan - 1) level 0 (omega arith)
 
-pub level_among-other : (levels : List ℕ) (chan c level : ℕ) → 1 ≤ chan → c ≢ chan → level_among (set levels (chan - 1) level) c ≡ level_among levels c
-level_among-other levels chan zero level least other = refl
-level_among-other levels chan (suc c) level least other = get_or-set_other levels (chan - 1) c level 0 (λ same. other (omega arith))
+pub level_in_look-other : (levels : List ℕ) (chan c level : ℕ) → 1 ≤ chan → c ≢ chan → level_in_look (set levels (chan - 1) level) c ≡ level_in_look levels c
+level_in_look-other levels chan zero level least other = refl
+level_in_look-other levels chan (suc c) level least other = get_or-set_other levels (chan - 1) c level 0 (λ same. other (omega arith))
 
 -- the level in a row stands in the block
 pub cell_is : (channels : ℕ) (levels : List ℕ) (k c : ℕ) → 1 ≤ c → c ≤ channels → cell channels levels k c ≡ get_or levels (k * channels + (c - 1)) 0
 unfolding cell
 cell_is channels levels k c least most =
-    level_among_is (take channels (drop (k * channels) levels)) c least ∙ get_or-take channels (drop (k * channels) levels) (c - 1) 0 (omega arith) ∙ get_or-drop (k * channels) levels (c - 1) 0
+    level_in_look_is (take channels (drop (k * channels) levels)) c least ∙ get_or-take channels (drop (k * channels) levels) (c - 1) 0 (omega arith) ∙ get_or-drop (k * channels) levels (c - 1) 0
 
 -- what is no channel is at 0
 pub cell_past : (channels : ℕ) (levels : List ℕ) (k c : ℕ) → channels < c → cell channels levels k c ≡ 0
 unfolding cell
 cell_past channels levels k c more =
-    level_among_is (take channels (drop (k * channels) levels)) c (omega arith) ∙ get_or_past (take channels (drop (k * channels) levels)) (c - 1) 0 (omega (arith, length-take channels (drop (k * channels) levels)))
+    level_in_look_is (take channels (drop (k * channels) levels)) c (omega arith) ∙ get_or_past (take channels (drop (k * channels) levels)) (c - 1) 0 (omega (arith, length-take channels (drop (k * channels) levels)))
 
 pub cell_zero : (channels : ℕ) (levels : List ℕ) (k : ℕ) → cell channels levels k 0 ≡ 0
 unfolding cell

@@ -6,12 +6,12 @@ use Rattle.std.proofs.lemmas.Bool.{cases_lt}
 use Rattle.std.proofs.lemmas.Bool.Decides.{nat_tests}
 use Rattle.std.proofs.lemmas.List.{length-map}
 use Rattle.std.proofs.lemmas.List.Elements.{filter_agree}
-use Rattle.lx_spec.specs.SortedList.{Rises, entries_below}
+use Rattle.lx_spec.specs.SortedList.{IsStrictlySorted, entries_below}
 use Rattle.lx_spec.specs.Show.{Cue, Show}
 use Rattle.lx_spec.specs.TrackedLevel.{decides, level_in, tracked}
 use Rattle.lx_show.specs.Around.{entries_up_to}
 use Rattle.lx_show.proofs.Finding.{find_both_last}
-use Rattle.lx_show.proofs.RisingLists.{lt_true, lt_false, shorter}
+use Rattle.lx_show.proofs.SortedLists.{lt_true, lt_false, shorter}
 use Rattle.lx_sheet.specs.declared.sheet.Place.{Place}
 use Rattle.lx_sheet.specs.Rows.{level_of}
 use Rattle.lx_sheet.specs.Block.{cell, last_value}
@@ -21,13 +21,13 @@ use Rattle.lx_sheet.proofs.Rows.{le_true, le_false, count_up_to, count_within, u
 use Rattle.lx_sheet.proofs.Tracking.{level_after-nil}
 
 -- the tracked level follows from the cues up to the number
-pub tracked_is : (show : Show) (n c : ℕ) → Rises (λ cue. cue.number) show.cues → tracked show n c ≡ level_after (take (count_up_to n (cue_numbers show)) show.cues) c
+pub tracked_is : (show : Show) (n c : ℕ) → IsStrictlySorted (λ cue. cue.number) show.cues → tracked show n c ≡ level_after (take (count_up_to n (cue_numbers show)) show.cues) c
 unfolding level_after
-tracked_is show n c rises =
+tracked_is show n c sorted =
     let p : Cue → Bool = λ cue. nat_le cue.number n in
     let q : Cue → Bool = λ cue. decides cue c in
     let found : find (λ cue. p cue && q cue) (reverse show.cues) ≡ find q (reverse (filter p show.cues)) = sym (find_both_last p q show.cues) in
-    ap (λ (o : Option Cue). option_map_or (λ cue. level_in cue c) o 0) (found ∙ ap (λ (xs : List Cue). find q (reverse xs)) (up_to_is_front (λ (cue : Cue). cue.number) n show.cues rises))
+    ap (λ (o : Option Cue). option_map_or (λ cue. level_in cue c) o 0) (found ∙ ap (λ (xs : List Cue). find q (reverse xs)) (up_to_is_front (λ (cue : Cue). cue.number) n show.cues sorted))
 
 le_is_below : (m n : ℕ) → nat_le m n ≡ nat_lt m (suc n)
 le_is_below m n = grind (arith, nat_tests)
@@ -80,9 +80,9 @@ count_shrinks n from (m ∷ numbers) less =
 
 -- A block before and after its rows were filled in: what stood below the number is as it was, and the other rows follow the cues.
 pub record IsFilledFrom (show : Show) (from channels : ℕ) (before after : List Place) (old new : List ℕ) : Type 0 where
-  pub before_rises : Rises (λ p. p.cue) before
-  pub after_rises : Rises (λ p. p.cue) after
-  pub cues_rise : Rises (λ cue. cue.number) show.cues
+  pub before_sorted : IsStrictlySorted (λ p. p.cue) before
+  pub after_sorted : IsStrictlySorted (λ p. p.cue) after
+  pub cues_sorted : IsStrictlySorted (λ cue. cue.number) show.cues
   pub below : entries_below (λ n. n) from (map (λ p. p.cue) before) ≡ entries_below (λ n. n) from (cue_numbers show)
   pub numbers : map (λ p. p.cue) after ≡ cue_numbers show
 
@@ -94,9 +94,9 @@ starts_right show (suc from) channels before after old new c filled right =
     let old_numbers : List ℕ = map (λ (p : Place). p.cue) before in
     let count : count_under (suc from) (cue_numbers show) ≡ count_up_to from old_numbers = ap length (sym filled.below) ∙ count_before from old_numbers in
     ap (λ k. last_value k (λ i. cell channels old i c)) count
-    ∙ sym (level_of_block channels before old from c filled.before_rises)
+    ∙ sym (level_of_block channels before old from c filled.before_sorted)
     ∙ right from (omega arith)
-    ∙ tracked_is show from c filled.cues_rise
+    ∙ tracked_is show from c filled.cues_sorted
     ∙ ap (λ k. level_after (take k show.cues) c) (sym (count_before from (cue_numbers show)))
 
 some_rows : (show : Show) (channels : ℕ) (new : List ℕ) (c first j : ℕ) → first ≤ j → j ≤ length show.cues → last_value first (λ k. cell channels new k c) ≡ level_after (take first show.cues) c → ((k : ℕ) → first ≤ k → k < length show.cues → cell channels new k c ≡ level_after (take (k + 1) show.cues) c) → last_value j (λ k. cell channels new k c) ≡ level_after (take j show.cues) c
@@ -119,21 +119,21 @@ column_right show from channels before after old new c filled right front rows n
     let numbers : List ℕ = cue_numbers show in
     let first : ℕ = count_under from numbers in
     let now : level_of (sheet_of channels after new) n c ≡ last_value (count_up_to n numbers) (λ k. cell channels new k c) =
-    level_of_block channels after new n c filled.after_rises ∙ ap (λ (ns : List ℕ). last_value (count_up_to n ns) (λ k. cell channels new k c)) filled.numbers in
+    level_of_block channels after new n c filled.after_sorted ∙ ap (λ (ns : List ℕ). last_value (count_up_to n ns) (λ k. cell channels new k c)) filled.numbers in
     elim (cases_lt n from) [
       | inl less ↦
           let old_numbers : List ℕ = map (λ (p : Place). p.cue) before in
           let most : count_up_to n numbers ≤ first = count_shrinks n from numbers less in
           now ∙ last_value_same (count_up_to n numbers) _ _ (λ k below. front k (omega (arith, most, below)))
           ∙ ap (λ j. last_value j (λ k. cell channels old k c)) (sym (count_agrees n from old_numbers numbers less filled.below))
-          ∙ sym (level_of_block channels before old n c filled.before_rises)
+          ∙ sym (level_of_block channels before old n c filled.before_sorted)
           ∙ right n less
       | inr more ↦
           let least : first ≤ count_up_to n numbers = count_grows n from numbers more in
           let within : count_up_to n numbers ≤ length show.cues = omega (arith, count_within n numbers, length-map show.cues (λ (cue : Cue). cue.number)) in
           let start : last_value first (λ k. cell channels new k c) ≡ level_after (take first show.cues) c =
           last_value_same first _ _ (λ k below. front k below) ∙ starts_right show from channels before after old new c filled right in
-          now ∙ some_rows show channels new c first (count_up_to n numbers) least within start rows ∙ sym (tracked_is show n c filled.cues_rise)
+          now ∙ some_rows show channels new c first (count_up_to n numbers) least within start rows ∙ sym (tracked_is show n c filled.cues_sorted)
     ]
 
 pub count_under-map : {A : Type 0} (key : A → ℕ) (n : ℕ) (xs : List A) → length (entries_below key n xs) ≡ count_under n (map key xs)

@@ -5,18 +5,18 @@ use Rattle.std.specs.Option.{option_map_or}
 use Rattle.std.specs.List.{AllByRecursion}
 use Rattle.std.proofs.lemmas.Bool.{cases_lt}
 use Rattle.std.proofs.lemmas.Bool.Decides.{nat_tests}
-use Rattle.lx_spec.specs.SortedList.{Rises, entries_below, entries_above, placed, taken_out}
+use Rattle.lx_spec.specs.SortedList.{IsStrictlySorted, entries_below, entries_above, placed, taken_out}
 use Rattle.lx_spec.specs.Show.{Cue, Show}
 use Rattle.lx_spec.specs.TrackedLevel.{decides, level_in, tracked}
 use Rattle.lx_show.specs.Around.{entries_up_to}
 use Rattle.lx_show.proofs.Finding.{find_both_last}
-use Rattle.lx_show.proofs.RisingLists.{each, passes, stands_between, lt_true, lt_false, lt_from}
+use Rattle.lx_show.proofs.SortedLists.{each, passes, stands_between, lt_true, lt_false, lt_from}
 use Rattle.lx_sheet.specs.Rows.{Sheet, numbers_of}
 use Rattle.lx_sheet.specs.Block.{place_of_cue}
 use Rattle.lx_sheet.specs.Standing.{StandsFor, StandsBelow, cue_numbers}
 use Rattle.lx_sheet.proofs.Rows.{le_false}
 
--- the places of rising cues
+-- the places of sorted cues
 pub numbers-listed : (cues : List Cue) → map (λ p. p.cue) (map place_of_cue cues) ≡ map (λ cue. cue.number) cues
 numbers-listed [] = refl
 numbers-listed (cue ∷ cues) = ap (λ ns. cue.number ∷ ns) (numbers-listed cues)
@@ -25,9 +25,9 @@ above-listed : (n : ℕ) (cues : List Cue) → AllByRecursion (λ cue. n < cue.n
 above-listed n [] all = tt
 above-listed n (cue ∷ cues) all = (all.0, above-listed n cues all.1)
 
-pub Rises-listed : (cues : List Cue) → Rises (λ cue. cue.number) cues → Rises (λ p. p.cue) (map place_of_cue cues)
-Rises-listed [] rises = tt
-Rises-listed (cue ∷ cues) rises = (above-listed cue.number cues rises.0, Rises-listed cues rises.1)
+pub IsStrictlySorted-listed : (cues : List Cue) → IsStrictlySorted (λ cue. cue.number) cues → IsStrictlySorted (λ p. p.cue) (map place_of_cue cues)
+IsStrictlySorted-listed [] sorted = tt
+IsStrictlySorted-listed (cue ∷ cues) sorted = (above-listed cue.number cues sorted.0, IsStrictlySorted-listed cues sorted.1)
 
 below-map : {A : Type 0} (key : A → ℕ) (n : ℕ) (xs : List A) → entries_below (λ m. m) n (map key xs) ≡ map key (entries_below key n xs)
 below-map key n [] = refl

@@ -10,11 +10,12 @@ use Rattle.std.proofs.lemmas.List.Elements.{All-from_recursion}
 use Rattle.std.proofs.lemmas.Option.{slice_get-get_or}
 use Rattle.std.proofs.Math.Nat.{mul-le-mul_right}
 use Rattle.lx_base.specs.declared.TheConstants.{CUES}
-use Rattle.lx_spec.specs.SortedList.{Rises, entry_at, StandsAt}
+use Rattle.lx_spec.specs.SortedList.{IsStrictlySorted, entry_at}
+use Rattle.lx_show.specs.Indexes.{StandsAt}
 use Rattle.lx_spec.specs.Show.{Cue, Show}
 use Rattle.lx_spec.specs.TrackedLevel.{cue_of, tracked}
 use Rattle.lx_spec.specs.Replies.{row_of}
-use Rattle.lx_show.proofs.RisingLists.{up_to_there, found_number}
+use Rattle.lx_show.proofs.SortedLists.{up_to_there, found_number}
 use Rattle.lx_sheet.specs.declared.sheet.Place.{Place}
 use Rattle.lx_sheet.specs.Rows.{Row, row_at, numbers_of}
 use Rattle.lx_sheet.specs.Block.{rows_of, cell, last_value}
@@ -45,23 +46,23 @@ same_number : (a n : ℕ) → a ≡ n → (a == n) ≡ true
 same_number a n same = grind (arith, nat_tests)
 
 -- the row of a number, at the place of its cue
-row_at_place : (channels : ℕ) (order : List Place) (levels : List ℕ) (n k : ℕ) (d : Place) → Rises (λ p. p.cue) order → k < length order → (get_or order k d).cue ≡ n → entry_at (λ (r : Row). r.number) n (rows_of channels order levels) ≡ slice_get (rows_of channels order levels) k
-row_at_place channels [] levels n k d rises within here = absurd (omega arith)
-row_at_place channels (p ∷ order) levels n zero d rises within here = rw (same_number p.cue n here) refl
-row_at_place channels (p ∷ order) levels n (suc k) d rises within here =
-    let above : p.cue < (get_or order k d).cue = All-from_recursion (λ (q : Place). p.cue < q.cue) order rises.0 k d (omega arith) in
-    rw (other_number p.cue n (omega (arith, here, above))) (row_at_place channels order (drop channels levels) n k d rises.1 (omega arith) here)
+row_at_place : (channels : ℕ) (order : List Place) (levels : List ℕ) (n k : ℕ) (d : Place) → IsStrictlySorted (λ p. p.cue) order → k < length order → (get_or order k d).cue ≡ n → entry_at (λ (r : Row). r.number) n (rows_of channels order levels) ≡ slice_get (rows_of channels order levels) k
+row_at_place channels [] levels n k d sorted within here = absurd (omega arith)
+row_at_place channels (p ∷ order) levels n zero d sorted within here = rw (same_number p.cue n here) refl
+row_at_place channels (p ∷ order) levels n (suc k) d sorted within here =
+    let above : p.cue < (get_or order k d).cue = All-from_recursion (λ (q : Place). p.cue < q.cue) order sorted.0 k d (omega arith) in
+    rw (other_number p.cue n (omega (arith, here, above))) (row_at_place channels order (drop channels levels) n k d sorted.1 (omega arith) here)
 
 -- where a number stands in the order
 pub stands_number : (order : List Place) (n at : ℕ) (d : Place) → StandsAt (λ p. p.cue) n order at → (get_or order at d).cue ≡ n
 stands_number order n at d stands =
     sym (found_number (λ (p : Place). p.cue) n order (get_or order at d) (stands.here ∙ slice_get-get_or order at d stands.within))
 
-pub row_found : (channels : ℕ) (order : List Place) (levels : List ℕ) (n at : ℕ) → Rises (λ p. p.cue) order → StandsAt (λ p. p.cue) n order at → Some (take channels (drop (at * channels) levels)) ≡ option_map (λ r. r.levels) (row_at (sheet_of channels order levels) n)
-row_found channels order levels n at rises stands =
+pub row_found : (channels : ℕ) (order : List Place) (levels : List ℕ) (n at : ℕ) → IsStrictlySorted (λ p. p.cue) order → StandsAt (λ p. p.cue) n order at → Some (take channels (drop (at * channels) levels)) ≡ option_map (λ r. r.levels) (row_at (sheet_of channels order levels) n)
+row_found channels order levels n at sorted stands =
     let d : Place = record { cue = 0 } in
     let p : Place = get_or order at d in
-    sym (ap (option_map (λ (r : Row). r.levels)) (row_at_place channels order levels n at d rises stands.within (stands_number order n at d stands) ∙ row_of_block channels order levels at p stands.within (get_or_default order at d p stands.within)))
+    sym (ap (option_map (λ (r : Row). r.levels)) (row_at_place channels order levels n at d sorted stands.within (stands_number order n at d stands) ∙ row_of_block channels order levels at p stands.within (get_or_default order at d p stands.within)))
 
 pub row_absent : (channels : ℕ) (order : List Place) (levels : List ℕ) (n : ℕ) → entry_at (λ p. p.cue) n order ≡ None → None ≡ option_map (λ r. r.levels) (row_at (sheet_of channels order levels) n)
 row_absent channels order levels n absent =
@@ -72,15 +73,15 @@ cue_absent show channels order levels n f numbers absent =
     not_there (cue_of show n) f (sym (same_numbers (λ (p : Place). p.cue) (λ (cue : Cue). cue.number) n order show.cues (sym (numbers-rows_of channels order levels) ∙ numbers)) ∙ ap is_some absent)
 
 -- the row of a sheet that stands for a show
-pub row_right : (show : Show) (channels : ℕ) (order : List Place) (levels : List ℕ) (n at : ℕ) → length levels ≡ CUES * channels → length order ≤ CUES → Rises (λ p. p.cue) order → StandsAt (λ p. p.cue) n order at → StandsFor show (sheet_of channels order levels) → take channels (drop (at * channels) levels) ≡ row_of show n
+pub row_right : (show : Show) (channels : ℕ) (order : List Place) (levels : List ℕ) (n at : ℕ) → length levels ≡ CUES * channels → length order ≤ CUES → IsStrictlySorted (λ p. p.cue) order → StandsAt (λ p. p.cue) n order at → StandsFor show (sheet_of channels order levels) → take channels (drop (at * channels) levels) ≡ row_of show n
 unfolding cell
-row_right show channels order levels n at room few rises place stands =
+row_right show channels order levels n at room few sorted place stands =
     let most : suc at * channels ≤ CUES * channels = mul-le-mul_right {m = suc at} {n = CUES} channels (omega (arith, place.within)) in
     let width : length (take channels (drop (at * channels) levels)) ≡ channels = omega (arith, length-take channels (drop (at * channels) levels), length-drop (at * channels) levels) in
     let count : count_up_to n (map (λ (p : Place). p.cue) order) ≡ suc at =
-    omega (arith, count_up_to-map (λ (p : Place). p.cue) n order, ap length (up_to_there (λ (p : Place). p.cue) n order at rises place), length-take (at + 1) order, place.within) in
+    omega (arith, count_up_to-map (λ (p : Place). p.cue) n order, ap length (up_to_there (λ (p : Place). p.cue) n order at sorted place), length-take (at + 1) order, place.within) in
     let cells : (c : ℕ) → cell channels levels at c ≡ tracked show n c = λ c.
-    sym (level_of_block channels order levels n c rises ∙ ap (λ k. last_value k (λ i. cell channels levels i c)) count) ∙ stands.columns c n in
+    sym (level_of_block channels order levels n c sorted ∙ ap (λ k. last_value k (λ i. cell channels levels i c)) count) ∙ stands.columns c n in
     same_lists (take channels (drop (at * channels) levels)) (row_of show n)
     (width ∙ stands.channels ∙ sym (length-map-range_with_len (tracked show n) 1 show.channels))
     (λ k d less.
@@ -88,9 +89,9 @@ row_right show channels order levels n at room few rises place stands =
     ∙ cells (suc k)
     ∙ sym (get_or-map-range_with_len (tracked show n) 1 show.channels k (suc k) d (omega (arith, less, width, stands.channels)) (omega arith)))
 
-pub cue_found : (show : Show) (channels : ℕ) (order : List Place) (levels : List ℕ) (n at : ℕ) → length levels ≡ CUES * channels → length order ≤ CUES → Rises (λ p. p.cue) order → StandsAt (λ p. p.cue) n order at → StandsFor show (sheet_of channels order levels) → Some (take channels (drop (at * channels) levels)) ≡ option_map (λ cue. row_of show n) (cue_of show n)
-cue_found show channels order levels n at room few rises place stands =
+pub cue_found : (show : Show) (channels : ℕ) (order : List Place) (levels : List ℕ) (n at : ℕ) → length levels ≡ CUES * channels → length order ≤ CUES → IsStrictlySorted (λ p. p.cue) order → StandsAt (λ p. p.cue) n order at → StandsFor show (sheet_of channels order levels) → Some (take channels (drop (at * channels) levels)) ≡ option_map (λ cue. row_of show n) (cue_of show n)
+cue_found show channels order levels n at room few sorted place stands =
     let some : is_some (cue_of show n) ≡ true =
     sym (same_numbers (λ (p : Place). p.cue) (λ (cue : Cue). cue.number) n order show.cues (sym (numbers-rows_of channels order levels) ∙ stands.numbers))
     ∙ ap is_some (place.here ∙ slice_get-get_or order at (record { cue = 0 }) place.within) in
-    ap Some (row_right show channels order levels n at room few rises place stands) ∙ there (cue_of show n) (row_of show n) some
+    ap Some (row_right show channels order levels n at room few sorted place stands) ∙ there (cue_of show n) (row_of show n) some

@@ -4,41 +4,41 @@ use Rattle.std.specs.Prelude.{Option, IsTrue, find, is_some, ◌==◌}
 use Rattle.std.specs.Option.{option_map_or}
 use Rattle.std.proofs.lemmas.Bool.{cases_order, false≢true}
 use Rattle.std.proofs.lemmas.Bool.Decides.{nat_tests}
-use Rattle.lx_spec.specs.SortedList.{Rises, entry_at, has_entry, entries_below, entries_above, placed}
+use Rattle.lx_spec.specs.SortedList.{IsStrictlySorted, entry_at, has_entry, entries_below, entries_above, placed}
 use Rattle.lx_show.specs.Changed.{changed}
-use Rattle.lx_show.proofs.RisingLists.{each, filter_all, filter_none, find_none, lt_true, lt_false, found_number}
+use Rattle.lx_show.proofs.SortedLists.{each, filter_all, filter_none, find_none, lt_true, lt_false, found_number}
 use Rattle.lx_sheet.proofs.EditedShows.{below-placed}
 
 other_number : (a n : ℕ) → (a ≡ n → ⊥) → (a == n) ≡ false
 other_number a n other = grind (arith, nat_tests)
 
 -- an entry in the place of the one of its number
-pub numbers-placed : {A : Type 0} (key : A → ℕ) (x : A) (xs : List A) → Rises key xs → IsTrue (has_entry key (key x) xs) → map key (placed key x xs) ≡ map key xs
-numbers-placed key x [] rises there = absurd (false≢true there)
-numbers-placed {A} key x (y ∷ ys) rises there =
+pub numbers-placed : {A : Type 0} (key : A → ℕ) (x : A) (xs : List A) → IsStrictlySorted key xs → IsTrue (has_entry key (key x) xs) → map key (placed key x xs) ≡ map key xs
+numbers-placed key x [] sorted there = absurd (false≢true there)
+numbers-placed {A} key x (y ∷ ys) sorted there =
     elim (cases_order (key y) (key x)) [
       | inl here ↦
-          let high : entries_above key (key x) ys ≡ ys = filter_all _ ys (each _ _ ys (λ z h. lt_true (key x) (key z) (omega (arith, here))) rises.0) in
-          let low : entries_below key (key x) ys ≡ [] = filter_none _ ys (each _ _ ys (λ z h. lt_false (key z) (key x) (omega (arith, here))) rises.0) in
+          let high : entries_above key (key x) ys ≡ ys = filter_all _ ys (each _ _ ys (λ z h. lt_true (key x) (key z) (omega (arith, here))) sorted.0) in
+          let low : entries_below key (key x) ys ≡ [] = filter_none _ ys (each _ _ ys (λ z h. lt_false (key z) (key x) (omega (arith, here))) sorted.0) in
           rw (lt_false (key y) (key x) (omega arith), lt_false (key x) (key y) (omega arith)) (rw (low, high) (ap (λ n. n ∷ map key ys) (sym here)))
       | inr other ↦ elim other [
         | inl less ↦
-            let rest : map key (placed key x ys) ≡ map key ys = numbers-placed key x ys rises.1 (rw (other_number (key y) (key x) (λ same. omega arith)) at there) in
+            let rest : map key (placed key x ys) ≡ map key ys = numbers-placed key x ys sorted.1 (rw (other_number (key y) (key x) (λ same. omega arith)) at there) in
             rw (lt_true (key y) (key x) less, lt_false (key x) (key y) (omega arith)) (ap (λ ns. key y ∷ ns) rest)
         | inr more ↦
-            let none : find (λ z. key z == key x) ys ≡ None = find_none _ ys (each _ _ ys (λ z h. other_number (key z) (key x) (λ same. omega (arith, h))) rises.0) in
+            let none : find (λ z. key z == key x) ys ≡ None = find_none _ ys (each _ _ ys (λ z h. other_number (key z) (key x) (λ same. omega (arith, h))) sorted.0) in
             absurd (false≢true (sym (ap is_some none) ∙ (rw (other_number (key y) (key x) (λ same. omega arith)) at there)))
       ]
     ]
 
-numbers_step : {A : Type 0} (key : A → ℕ) (n : ℕ) (change : A → A) (xs : List A) (found : Option A) → Rises key xs → ((x : A) → key (change x) ≡ key x) → entry_at key n xs ≡ found → map key (option_map_or (λ x. placed key (change x) xs) found xs) ≡ map key xs
-numbers_step key n change xs None rises kept is = refl
-numbers_step {A} key n change xs (Some x) rises kept is =
+numbers_step : {A : Type 0} (key : A → ℕ) (n : ℕ) (change : A → A) (xs : List A) (found : Option A) → IsStrictlySorted key xs → ((x : A) → key (change x) ≡ key x) → entry_at key n xs ≡ found → map key (option_map_or (λ x. placed key (change x) xs) found xs) ≡ map key xs
+numbers_step key n change xs None sorted kept is = refl
+numbers_step {A} key n change xs (Some x) sorted kept is =
     let number : n ≡ key (change x) = found_number key n xs x is ∙ sym (kept x) in
-    numbers-placed key (change x) xs rises (subst (λ m. IsTrue (has_entry key m xs)) number (ap is_some is))
+    numbers-placed key (change x) xs sorted (subst (λ m. IsTrue (has_entry key m xs)) number (ap is_some is))
 
-pub numbers-changed : {A : Type 0} (key : A → ℕ) (n : ℕ) (change : A → A) (xs : List A) → Rises key xs → ((x : A) → key (change x) ≡ key x) → map key (changed key n change xs) ≡ map key xs
-numbers-changed key n change xs rises kept = numbers_step key n change xs (entry_at key n xs) rises kept refl
+pub numbers-changed : {A : Type 0} (key : A → ℕ) (n : ℕ) (change : A → A) (xs : List A) → IsStrictlySorted key xs → ((x : A) → key (change x) ≡ key x) → map key (changed key n change xs) ≡ map key xs
+numbers-changed key n change xs sorted kept = numbers_step key n change xs (entry_at key n xs) sorted kept refl
 
 below_step : {A : Type 0} (key : A → ℕ) (n : ℕ) (change : A → A) (xs : List A) (found : Option A) → ((x : A) → key (change x) ≡ key x) → entry_at key n xs ≡ found → entries_below key n (option_map_or (λ x. placed key (change x) xs) found xs) ≡ entries_below key n xs
 below_step key n change xs None kept is = refl

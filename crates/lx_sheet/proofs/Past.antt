@@ -6,13 +6,13 @@ use Rattle.std.proofs.lemmas.Bool.Decides.{nat_tests}
 use Rattle.lx_spec.specs.declared.Move.{Move}
 use Rattle.lx_spec.specs.Show.{Cue, Show, Valid, ValidCue}
 use Rattle.lx_spec.specs.TrackedLevel.{decides, level_in, move_in, tracked}
-use Rattle.lx_show.proofs.RisingLists.{all_reverse, each, found_has, find_none}
+use Rattle.lx_show.proofs.SortedLists.{all_reverse, each, found_has, find_none}
 use Rattle.lx_sheet.specs.declared.sheet.Place.{Place}
 use Rattle.lx_sheet.specs.Rows.{level_of}
 use Rattle.lx_sheet.specs.Block.{cell, last_value}
 use Rattle.lx_sheet.proofs.Cells.{cell_past}
 use Rattle.lx_sheet.proofs.Rows.{count_up_to, sheet_of, level_of_block}
-use Rattle.lx_spec.specs.SortedList.{Rises}
+use Rattle.lx_spec.specs.SortedList.{IsStrictlySorted}
 use Rattle.std.specs.Prelude.{map}
 
 other_number : (a n : ℕ) → a < n → (a == n) ≡ false
@@ -35,6 +35,6 @@ last_zero : (count : ℕ) (f : ℕ → ℕ) → ((k : ℕ) → f k ≡ 0) → la
 last_zero zero f none = refl
 last_zero (suc k) f none = none k
 
-pub level_of_past : (channels : ℕ) (order : List Place) (levels : List ℕ) (n c : ℕ) → Rises (λ p. p.cue) order → channels < c → level_of (sheet_of channels order levels) n c ≡ 0
-level_of_past channels order levels n c rises past =
-    level_of_block channels order levels n c rises ∙ last_zero (count_up_to n (map (λ (p : Place). p.cue) order)) (λ k. cell channels levels k c) (λ k. cell_past channels levels k c past)
+pub level_of_past : (channels : ℕ) (order : List Place) (levels : List ℕ) (n c : ℕ) → IsStrictlySorted (λ p. p.cue) order → channels < c → level_of (sheet_of channels order levels) n c ≡ 0
+level_of_past channels order levels n c sorted past =
+    level_of_block channels order levels n c sorted ∙ last_zero (count_up_to n (map (λ (p : Place). p.cue) order)) (λ k. cell channels levels k c) (λ k. cell_past channels levels k c past)

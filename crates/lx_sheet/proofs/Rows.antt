@@ -6,10 +6,10 @@ use Rattle.std.specs.List.{AllByRecursion}
 use Rattle.std.proofs.lemmas.Bool.{cases_lt}
 use Rattle.std.proofs.lemmas.Bool.Decides.{nat_tests}
 use Rattle.std.proofs.lemmas.List.{drop-drop, length-map}
-use Rattle.lx_spec.specs.SortedList.{Rises}
+use Rattle.lx_spec.specs.SortedList.{IsStrictlySorted}
 use Rattle.lx_show.specs.Around.{entries_up_to}
 use Rattle.lx_show.proofs.Finding.{find_last}
-use Rattle.lx_show.proofs.RisingLists.{each, filter_none, shorter}
+use Rattle.lx_show.proofs.SortedLists.{each, filter_none, shorter}
 use Rattle.lx_sheet.specs.declared.sheet.Place.{Place}
 use Rattle.lx_sheet.specs.Rows.{Row, Sheet, level_of, level_in_row}
 use Rattle.lx_sheet.specs.Block.{rows_of, cell, last_value}
@@ -33,15 +33,15 @@ count_up_to-map {A} key n (x ∷ xs) =
     ]
 
 -- those up to a number stand in front
-pub up_to_is_front : {A : Type 0} (key : A → ℕ) (n : ℕ) (xs : List A) → Rises key xs → entries_up_to key n xs ≡ take (count_up_to n (map key xs)) xs
-up_to_is_front key n [] rises = refl
-up_to_is_front {A} key n (x ∷ xs) rises =
+pub up_to_is_front : {A : Type 0} (key : A → ℕ) (n : ℕ) (xs : List A) → IsStrictlySorted key xs → entries_up_to key n xs ≡ take (count_up_to n (map key xs)) xs
+up_to_is_front key n [] sorted = refl
+up_to_is_front {A} key n (x ∷ xs) sorted =
     elim (cases_lt n (key x)) [
       | inl past ↦
-          let none : entries_up_to key n xs ≡ [] = filter_none _ xs (each _ _ xs (λ y h. le_false (key y) n (omega arith)) rises.0) in
+          let none : entries_up_to key n xs ≡ [] = filter_none _ xs (each _ _ xs (λ y h. le_false (key y) n (omega arith)) sorted.0) in
           let no_count : count_up_to n (map key xs) ≡ 0 = sym (count_up_to-map key n xs) ∙ ap length none in
           rw (le_false (key x) n past) (none ∙ ap (λ k. take k (x ∷ xs)) (sym no_count))
-      | inr within ↦ rw (le_true (key x) n within) (ap (λ ys. x ∷ ys) (up_to_is_front key n xs rises.1))
+      | inr within ↦ rw (le_true (key x) n within) (ap (λ ys. x ∷ ys) (up_to_is_front key n xs sorted.1))
     ]
 
 slice_get-take : {A : Type 0} (xs : List A) (k n : ℕ) → k < n → slice_get (take n xs) k ≡ slice_get xs k
@@ -57,11 +57,11 @@ last_of_front {A} f xs (suc k) =
     ap (λ (o : Option A). option_map_or f o 0) (ap (slice_get (take (suc k) xs)) e ∙ slice_get-take xs k (suc k) (omega arith))
 
 -- the last entry up to a number, by its place
-pub last_up_to : {A : Type 0} (key f : A → ℕ) (n : ℕ) (xs : List A) → Rises key xs → option_map_or f (find (λ x. nat_le (key x) n) (reverse xs)) 0 ≡ last_value (count_up_to n (map key xs)) (λ k. option_map_or f (slice_get xs k) 0)
-last_up_to {A} key f n xs rises =
+pub last_up_to : {A : Type 0} (key f : A → ℕ) (n : ℕ) (xs : List A) → IsStrictlySorted key xs → option_map_or f (find (λ x. nat_le (key x) n) (reverse xs)) 0 ≡ last_value (count_up_to n (map key xs)) (λ k. option_map_or f (slice_get xs k) 0)
+last_up_to {A} key f n xs sorted =
     let found : find (λ x. nat_le (key x) n) (reverse xs) ≡ slice_get (entries_up_to key n xs) (length (entries_up_to key n xs) - 1) = sym (find_last (λ x. nat_le (key x) n) xs) in
     let front : slice_get (entries_up_to key n xs) (length (entries_up_to key n xs) - 1) ≡ slice_get (take (count_up_to n (map key xs)) xs) (count_up_to n (map key xs) - 1) =
-    ap (λ k. slice_get (entries_up_to key n xs) (k - 1)) (count_up_to-map key n xs) ∙ ap (λ (ys : List A). slice_get ys (count_up_to n (map key xs) - 1)) (up_to_is_front key n xs rises) in
+    ap (λ k. slice_get (entries_up_to key n xs) (k - 1)) (count_up_to-map key n xs) ∙ ap (λ (ys : List A). slice_get ys (count_up_to n (map key xs) - 1)) (up_to_is_front key n xs sorted) in
     ap (λ (o : Option A). option_map_or f o 0) (found ∙ front) ∙ last_of_front f xs (count_up_to n (map key xs))
 
 pub count_within : (n : ℕ) (numbers : List ℕ) → count_up_to n numbers ≤ length numbers
@@ -79,9 +79,9 @@ all_rows : (P : ℕ → Type 0) (channels : ℕ) (order : List Place) (levels : 
 all_rows P channels [] levels all = tt
 all_rows P channels (p ∷ order) levels all = (all.0, all_rows P channels order (drop channels levels) all.1)
 
-pub Rises-rows_of : (channels : ℕ) (order : List Place) (levels : List ℕ) → Rises (λ p. p.cue) order → Rises (λ r. r.number) (rows_of channels order levels)
-Rises-rows_of channels [] levels rises = tt
-Rises-rows_of channels (p ∷ order) levels rises = (all_rows (λ n. p.cue < n) channels order (drop channels levels) rises.0, Rises-rows_of channels order (drop channels levels) rises.1)
+pub IsStrictlySorted-rows_of : (channels : ℕ) (order : List Place) (levels : List ℕ) → IsStrictlySorted (λ p. p.cue) order → IsStrictlySorted (λ r. r.number) (rows_of channels order levels)
+IsStrictlySorted-rows_of channels [] levels sorted = tt
+IsStrictlySorted-rows_of channels (p ∷ order) levels sorted = (all_rows (λ n. p.cue < n) channels order (drop channels levels) sorted.0, IsStrictlySorted-rows_of channels order (drop channels levels) sorted.1)
 
 -- the row at a place
 pub row_of_block : (channels : ℕ) (order : List Place) (levels : List ℕ) (k : ℕ) (p : Place) → k < length order → p ≡ get_or order k p → slice_get (rows_of channels order levels) k ≡ Some (record { number = p.cue; levels = take channels (drop (k * channels) levels) })
@@ -114,11 +114,11 @@ abbrev pub sheet_of : ℕ → List Place → List ℕ → Sheet
 sheet_of channels order levels = record { channels = channels; rows = rows_of channels order levels }
 
 -- the level at a number stands in the last row up to it
-pub level_of_block : (channels : ℕ) (order : List Place) (levels : List ℕ) (n c : ℕ) → Rises (λ p. p.cue) order → level_of (sheet_of channels order levels) n c ≡ last_value (count_up_to n (map (λ p. p.cue) order)) (λ k. cell channels levels k c)
+pub level_of_block : (channels : ℕ) (order : List Place) (levels : List ℕ) (n c : ℕ) → IsStrictlySorted (λ p. p.cue) order → level_of (sheet_of channels order levels) n c ≡ last_value (count_up_to n (map (λ p. p.cue) order)) (λ k. cell channels levels k c)
 unfolding level_of
-level_of_block channels order levels n c rises =
+level_of_block channels order levels n c sorted =
     let numbers : List ℕ = map (λ (p : Place). p.cue) order in
     let within : count_up_to n numbers ≤ length order = omega (arith, count_within n numbers, length-map order (λ (p : Place). p.cue)) in
-    last_up_to (λ (r : Row). r.number) (λ (r : Row). level_in_row r c) n (rows_of channels order levels) (Rises-rows_of channels order levels rises)
+    last_up_to (λ (r : Row). r.number) (λ (r : Row). level_in_row r c) n (rows_of channels order levels) (IsStrictlySorted-rows_of channels order levels sorted)
     ∙ ap (λ (ns : List ℕ). last_value (count_up_to n ns) (λ k. option_map_or (λ (r : Row). level_in_row r c) (slice_get (rows_of channels order levels) k) 0)) (numbers-rows_of channels order levels)
     ∙ last_value_same (count_up_to n numbers) _ _ (λ k less. level_at_place channels order levels k c (omega (arith, within, less)))

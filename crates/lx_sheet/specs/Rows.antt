@@ -8,7 +8,7 @@ pub record Row : Type 0 where
   pub number : ℕ
   pub levels : List ℕ
 
--- the channel count for which the sheet was opened, and a row for each cue, rising by number
+-- the channel count for which the sheet was opened, and a row for each cue, sorted by number
 pub record Sheet : Type 0 where
   pub channels : ℕ
   pub rows : List Row

@@ -4,7 +4,7 @@ ghost use Rattle.std.specs.Prelude.{◌≡◌, ◌≢◌, ℕ, ◌+◌, ◌*◌,
 ghost use Rattle.std.specs.List.{AllByRecursion};
 ghost use Rattle.lx_base.specs.declared.TheConstants.{CUES, CHANNELS};
 ghost use Rattle.lx_spec.specs.Show.{ValidCue};
-ghost use Rattle.lx_sheet.specs.Block.{cell, last_value, level_among};
+ghost use Rattle.lx_sheet.specs.Block.{cell, last_value, level_in_look};
 ghost use Rattle.lx_sheet.specs.After.{level_after, tracked_on};
 
 use crate::look::track;
@@ -16,7 +16,7 @@ pub(crate) fn recall(look: &mut [Level], levels: &[Level], rows: usize)
     requires few { length look.old ≤ CHANNELS }
     requires room { length levels.now ≡ CUES * length look.old }
     requires rows { rows ≤ CUES }
-    ensures { (c : ℕ) → level_among look.new c ≡ last_value rows (λ k. cell (length look.old) levels.now k c) }
+    ensures { (c : ℕ) → level_in_look look.new c ≡ last_value rows (λ k. cell (length look.old) levels.now k c) }
 {
     if rows == 0 {
         look.fill(0);
@@ -31,7 +31,7 @@ fn write_row(levels: &mut [Level], look: &[Level], place: usize)
     requires few { length look.now ≤ CHANNELS }
     requires room { length levels.old ≡ CUES * length look.now }
     requires place { place < CUES }
-    ensures here { (c : ℕ) → cell (length look.now) levels.new place c ≡ level_among look.now c }
+    ensures here { (c : ℕ) → cell (length look.now) levels.new place c ≡ level_in_look look.now c }
     ensures others { (k c : ℕ) → k ≢ place → cell (length look.now) levels.new k c ≡ cell (length look.now) levels.old k c }
 {
     let len = look.len();
@@ -46,7 +46,7 @@ pub(crate) fn fill_rows(levels: &mut [Level], look: &mut [Level], cues: &[Cue], 
     requires cues { length cues.now ≤ CUES }
     requires valid { AllByRecursion (ValidCue (length look.old)) cues.now }
     ensures front { (k c : ℕ) → k < from → cell (length look.old) levels.new k c ≡ cell (length look.old) levels.old k c }
-    ensures rows { ((c : ℕ) → level_among look.old c ≡ level_after (take from cues.now) c) → (k c : ℕ) → from ≤ k → k < length cues.now → cell (length look.old) levels.new k c ≡ level_after (take (k + 1) cues.now) c }
+    ensures rows { ((c : ℕ) → level_in_look look.old c ≡ level_after (take from cues.now) c) → (k c : ℕ) → from ≤ k → k < length cues.now → cell (length look.old) levels.new k c ≡ level_after (take (k + 1) cues.now) c }
 {
     for place in from..cues.len() {
         track(look, &cues[place]);

@@ -5,7 +5,7 @@ ghost use Rattle.std.specs.List.{All};
 ghost use Rattle.std.specs.Option.{option_map_or};
 ghost use Rattle.lx_spec.specs.SortedList.{entry_at};
 ghost use Rattle.lx_spec.specs.Show.{ValidCue};
-ghost use Rattle.lx_sheet.specs.Block.{level_among};
+ghost use Rattle.lx_sheet.specs.Block.{level_in_look};
 ghost use Rattle.lx_sheet.specs.After.{tracked_on};
 
 use lx_base::Level;
@@ -15,7 +15,7 @@ use lx_show::{Cue, Move};
 /// its channel's level.
 pub(crate) fn track(look: &mut [Level], cue: &Cue)
     requires { ValidCue (length look.old) cue.now }
-    ensures { (c : ℕ) → level_among look.new c ≡ tracked_on cue.now c (level_among look.old c) }
+    ensures { (c : ℕ) → level_in_look look.new c ≡ tracked_on cue.now c (level_in_look look.old c) }
 {
     if cue.block {
         look.fill(0);
@@ -26,7 +26,7 @@ pub(crate) fn track(look: &mut [Level], cue: &Cue)
 /// Each move sets its channel's level.
 fn place_moves(look: &mut [Level], moves: &[Move])
     requires { All (λ m. m.chan ≤ length look.old) moves.now }
-    ensures { (c : ℕ) → level_among look.new c ≡ option_map_or (λ m. m.level) (entry_at (λ m. m.chan) c moves.now) (level_among look.old c) }
+    ensures { (c : ℕ) → level_in_look look.new c ≡ option_map_or (λ m. m.level) (entry_at (λ m. m.chan) c moves.now) (level_in_look look.old c) }
 {
     for i in (0..moves.len()).rev() {
         let entry = moves[i];

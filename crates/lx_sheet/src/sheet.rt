@@ -12,7 +12,7 @@ use crate::block::level_before;
 use lx_base::{CUES, Chan, CueNo, Level};
 use lx_show::Show;
 use lx_show::around::up_to;
-use lx_show::rising::{Keyed, place_of};
+use lx_show::sorted::{Keyed, index_of};
 use std::alloc::{AllocError, Global};
 use std::marker::Model;
 
@@ -31,7 +31,7 @@ impl Keyed for Place {
 }
 
 /// A row of tracked levels for each cue of a show. Contracts see the channel count for which it was
-/// opened, and its rows, rising by cue number.
+/// opened, and its rows, sorted by cue number.
 #[derive(Drop)]
 pub struct Sheet {
     pub(crate) channels: usize,
@@ -78,7 +78,7 @@ impl Sheet {
         ensures row { option_copied result ≡ option_map (λ row. row.levels) (row_at self.now n) }
         ensures stands { (show : ShowData) → StandsFor show self.now → option_copied result ≡ option_map (λ cue. row_of show n) (cue_of show n) }
     {
-        match place_of(self.order.as_slice(), n.get()) {
+        match index_of(self.order.as_slice(), n.get()) {
             Ok(at) => Some(&self.levels[at * self.channels..(at + 1) * self.channels]),
             Err(_) => None,
         }

@@ -6,9 +6,9 @@ use Rattle.lx_base.specs.declared.TheConstants.{CUE_MAX}
 use Rattle.lx_spec.specs.declared.Move.{Move}
 use Rattle.lx_spec.specs.declared.Member.{Member}
 use Rattle.lx_spec.specs.declared.Part.{Part}
-use Rattle.lx_spec.specs.SortedList.{Rises, placed}
+use Rattle.lx_spec.specs.SortedList.{IsStrictlySorted, placed}
 use Rattle.lx_spec.specs.Show.{Cue, Group, Sub, ValidCue, ValidGroup, ValidSub, ValidPart, ValidMove, ValidMember, ValidMembers, InRange, IsTime, IsLabel}
-use Rattle.lx_show.proofs.RisingLists.{Rises-placed, each}
+use Rattle.lx_show.proofs.SortedLists.{IsStrictlySorted-placed, each}
 use Rattle.lx_show.proofs.Placed.{has_placed}
 use Rattle.lx_show.proofs.ValidShows.{all_placed}
 
@@ -19,30 +19,30 @@ with_settings channels cue block follow link label valid is_time is_number is_la
   follow = is_time;
   link = is_number;
   label = is_label;
-  base_part = valid.base_part;
+  first_part = valid.first_part;
   parts = valid.parts;
-  parts_rise = valid.parts_rise;
+  parts_sorted = valid.parts_sorted;
   moves = valid.moves;
-  moves_rise = valid.moves_rise;
+  moves_sorted = valid.moves_sorted;
 }
 
 -- other moves
-pub with_other_moves : (channels : ℕ) (cue : Cue) (moves : List Move) → ValidCue channels cue → AllByRecursion (ValidMove channels cue.parts) moves → Rises (λ m. m.chan) moves → ValidCue channels (record cue { moves = moves })
-with_other_moves channels cue moves valid all rise = record {
+pub with_other_moves : (channels : ℕ) (cue : Cue) (moves : List Move) → ValidCue channels cue → AllByRecursion (ValidMove channels cue.parts) moves → IsStrictlySorted (λ m. m.chan) moves → ValidCue channels (record cue { moves = moves })
+with_other_moves channels cue moves valid all sorted = record {
   number = valid.number;
   follow = valid.follow;
   link = valid.link;
   label = valid.label;
-  base_part = valid.base_part;
+  first_part = valid.first_part;
   parts = valid.parts;
-  parts_rise = valid.parts_rise;
+  parts_sorted = valid.parts_sorted;
   moves = all;
-  moves_rise = rise;
+  moves_sorted = sorted;
 }
 
 -- a move placed
 pub with_move : (channels : ℕ) (cue : Cue) (m : Move) → ValidCue channels cue → ValidMove channels cue.parts m → ValidCue channels (record cue { moves = placed (λ x. x.chan) m cue.moves })
-with_move channels cue m valid here = with_other_moves channels cue (placed (λ x. x.chan) m cue.moves) valid (all_placed _ _ m cue.moves here valid.moves) (Rises-placed _ m cue.moves valid.moves_rise)
+with_move channels cue m valid here = with_other_moves channels cue (placed (λ x. x.chan) m cue.moves) valid (all_placed _ _ m cue.moves here valid.moves) (IsStrictlySorted-placed _ m cue.moves valid.moves_sorted)
 
 -- a part placed
 pub with_placed_part : (channels : ℕ) (cue : Cue) (part : Part) → ValidCue channels cue → ValidPart part → ValidCue channels (record cue { parts = placed (λ p. p.number) part cue.parts })
@@ -51,16 +51,16 @@ with_placed_part channels cue part valid here = record {
   follow = valid.follow;
   link = valid.link;
   label = valid.label;
-  base_part = has_placed (λ p. p.number) 1 part cue.parts valid.base_part;
+  first_part = has_placed (λ p. p.number) 1 part cue.parts valid.first_part;
   parts = all_placed _ _ part cue.parts here valid.parts;
-  parts_rise = Rises-placed _ part cue.parts valid.parts_rise;
+  parts_sorted = IsStrictlySorted-placed _ part cue.parts valid.parts_sorted;
   moves = each _ _ cue.moves (λ m h. record { chan = h.chan; part = has_placed (λ p. p.number) m.part part cue.parts h.part; level = h.level }) valid.moves;
-  moves_rise = valid.moves_rise;
+  moves_sorted = valid.moves_sorted;
 }
 
 -- a member placed
 pub with_member : (channels : ℕ) (m : Member) (members : List Member) → ValidMembers channels members → ValidMember channels m → ValidMembers channels (placed (λ x. x.chan) m members)
-with_member channels m members valid here = record { each = all_placed _ _ m members here valid.each; rise = Rises-placed _ m members valid.rise }
+with_member channels m members valid here = record { each = all_placed _ _ m members here valid.each; sorted = IsStrictlySorted-placed _ m members valid.sorted }
 
 pub with_members : (channels : ℕ) (group : Group) (members : List Member) → ValidGroup channels group → ValidMembers channels members → ValidGroup channels (record group { members = members })
 with_members channels group members valid all = record { number = valid.number; label = valid.label; members = all }

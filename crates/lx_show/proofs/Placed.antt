@@ -1,4 +1,4 @@
--- What an entry placed into a rising list leaves: what is found there, its length, and a second placing.
+-- What an entry placed into a sorted list leaves: what is found there, its length, and a second placing.
 use Rattle.std.proofs.Common.{◌≡◌, ℕ, ◌+◌, ◌<◌, ◌≤◌, Bool, true, false, cond, List, [], ◌∷◌, ◌++◌, length, Some, None, refl, ◌∙◌, sym, ap, subst, inl, inr, arith}
 use Rattle.std.specs.Prelude.{Option, IsTrue, filter, find, is_some, nat_lt, ◌==◌, ◌&&◌}
 use Rattle.std.specs.Option.{option_or, option_map_or}
@@ -6,10 +6,10 @@ use Rattle.std.proofs.lemmas.Bool.{cases_order, false≢true}
 use Rattle.std.proofs.lemmas.Bool.Decides.{nat_tests}
 use Rattle.std.proofs.lemmas.List.{length-append}
 use Rattle.std.proofs.lemmas.List.Folds.{find-append}
-use Rattle.lx_spec.specs.SortedList.{Rises, entry_at, has_entry, entries_below, entries_above, placed}
+use Rattle.lx_spec.specs.SortedList.{IsStrictlySorted, entry_at, has_entry, entries_below, entries_above, placed}
 use Rattle.lx_show.proofs.Finding.{find_both}
 use Rattle.lx_show.specs.Changed.{changed}
-use Rattle.lx_show.proofs.RisingLists.{each, passes, filter_all, filter_none, find_none, stands_between, lt_true, lt_false, lt_from}
+use Rattle.lx_show.proofs.SortedLists.{each, passes, filter_all, filter_none, find_none, stands_between, lt_true, lt_false, lt_from}
 
 and_known : (a b : Bool) → (b ≡ true → a ≡ true) → (a && b) ≡ b
 and_known true b known = refl
@@ -118,21 +118,21 @@ first_is y x true rest test found = cc
 first_is y x false rest test found = absurd (false≢true test)
 
 -- the entry that is there already, placed again, changes nothing
-pub placed_same : {A : Type 0} (key : A → ℕ) (x : A) (xs : List A) → Rises key xs → entry_at key (key x) xs ≡ Some x → placed key x xs ≡ xs
-placed_same key x [] rises found = absurd (none_differs x found)
-placed_same {A} key x (y ∷ ys) rises found =
+pub placed_same : {A : Type 0} (key : A → ℕ) (x : A) (xs : List A) → IsStrictlySorted key xs → entry_at key (key x) xs ≡ Some x → placed key x xs ≡ xs
+placed_same key x [] sorted found = absurd (none_differs x found)
+placed_same {A} key x (y ∷ ys) sorted found =
     elim (cases_order (key y) (key x)) [
       | inl here ↦
           let same : y ≡ x = first_is y x (key y == key x) (find (λ z. key z == key x) ys) (same_number (key y) (key x) here) found in
-          let high : entries_above key (key x) ys ≡ ys = filter_all _ ys (each _ _ ys (λ z h. lt_true (key x) (key z) (omega (arith, here))) rises.0) in
-          let low : entries_below key (key x) ys ≡ [] = filter_none _ ys (each _ _ ys (λ z h. lt_false (key z) (key x) (omega (arith, here))) rises.0) in
+          let high : entries_above key (key x) ys ≡ ys = filter_all _ ys (each _ _ ys (λ z h. lt_true (key x) (key z) (omega (arith, here))) sorted.0) in
+          let low : entries_below key (key x) ys ≡ [] = filter_none _ ys (each _ _ ys (λ z h. lt_false (key z) (key x) (omega (arith, here))) sorted.0) in
           rw (lt_false (key y) (key x) (omega arith), lt_false (key x) (key y) (omega arith)) (rw (low, high) (ap (λ z. z ∷ ys) (sym same)))
       | inr other ↦ elim other [
         | inl less ↦
-            let rest : placed key x ys ≡ ys = placed_same key x ys rises.1 (rw (other_number (key y) (key x) (λ same. omega arith)) at found) in
+            let rest : placed key x ys ≡ ys = placed_same key x ys sorted.1 (rw (other_number (key y) (key x) (λ same. omega arith)) at found) in
             rw (lt_true (key y) (key x) less, lt_false (key x) (key y) (omega arith)) (ap (λ zs. y ∷ zs) rest)
         | inr more ↦
-            let none : find (λ z. key z == key x) ys ≡ None = find_none _ ys (each _ _ ys (λ z h. other_number (key z) (key x) (λ same. omega (arith, h))) rises.0) in
+            let none : find (λ z. key z == key x) ys ≡ None = find_none _ ys (each _ _ ys (λ z h. other_number (key z) (key x) (λ same. omega (arith, h))) sorted.0) in
             absurd (none_differs x (sym none ∙ (rw (other_number (key y) (key x) (λ same. omega arith)) at found)))
       ]
     ]

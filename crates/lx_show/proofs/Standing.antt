@@ -4,10 +4,11 @@ use Rattle.std.specs.Prelude.{Option}
 use Rattle.std.specs.Option.{IsSomeAnd}
 use Rattle.lx_spec.specs.TrackedLevel.{cue_of}
 use Rattle.std.specs.List.{AllByRecursion}
-use Rattle.lx_spec.specs.SortedList.{entry_at, StandsAt}
+use Rattle.lx_spec.specs.SortedList.{entry_at}
+use Rattle.lx_show.specs.Indexes.{StandsAt}
 use Rattle.lx_spec.specs.Show.{Cue, Group, Sub, Show, ValidCue, ValidGroup, ValidSub}
 use Rattle.lx_show.specs.Stored.{IsStored}
-use Rattle.lx_show.proofs.RisingLists.{stands_entry, found_number, found_valid}
+use Rattle.lx_show.proofs.SortedLists.{stands_entry, found_number, found_valid}
 
 -- the entry of a number, as it is found at its place
 pub record Stands {A : Type 0} (P : A → Type 0) (key : A → ℕ) (n : ℕ) (xs : List A) (at : ℕ) (x : A) : Type 0 where

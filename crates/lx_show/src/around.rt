@@ -1,17 +1,17 @@
-//! The parts of a rising list that stand below, up to and above a number, each found by halving.
+//! The parts of a sorted list that stand below, up to and above a number, each found by halving.
 
 ghost use Rattle.std.specs.Prelude.{◌≡◌};
-ghost use Rattle.lx_spec.specs.SortedList.{Rises, entries_below, entries_above};
+ghost use Rattle.lx_spec.specs.SortedList.{IsStrictlySorted, entries_below, entries_above};
 ghost use Rattle.lx_show.specs.Around.{entries_up_to};
 
-use crate::rising::{Keyed, place_of};
+use crate::sorted::{Keyed, index_of};
 
 /// The entries below the number.
 pub fn below<T: Keyed>(xs: &[T], n: u32) -> &[T]
-    requires { Rises T.key xs.now }
+    requires { IsStrictlySorted T.key xs.now }
     ensures { result.now ≡ entries_below T.key n xs.now }
 {
-    match place_of(xs, n) {
+    match index_of(xs, n) {
         Ok(at) => &xs[..at],
         Err(at) => &xs[..at],
     }
@@ -19,10 +19,10 @@ pub fn below<T: Keyed>(xs: &[T], n: u32) -> &[T]
 
 /// The entries up to the number.
 pub fn up_to<T: Keyed>(xs: &[T], n: u32) -> &[T]
-    requires { Rises T.key xs.now }
+    requires { IsStrictlySorted T.key xs.now }
     ensures { result.now ≡ entries_up_to T.key n xs.now }
 {
-    match place_of(xs, n) {
+    match index_of(xs, n) {
         Ok(at) => &xs[..at + 1],
         Err(at) => &xs[..at],
     }
@@ -30,10 +30,10 @@ pub fn up_to<T: Keyed>(xs: &[T], n: u32) -> &[T]
 
 /// The entries above the number.
 pub fn above<T: Keyed>(xs: &[T], n: u32) -> &[T]
-    requires { Rises T.key xs.now }
+    requires { IsStrictlySorted T.key xs.now }
     ensures { result.now ≡ entries_above T.key n xs.now }
 {
-    match place_of(xs, n) {
+    match index_of(xs, n) {
         Ok(at) => &xs[at + 1..],
         Err(at) => &xs[at..],
     }

@@ -12,7 +12,7 @@ ghost use Rattle.lx_show.specs.Changed.{changed};
 use crate::cue::place_part;
 use crate::facts;
 use crate::moves::MoveList;
-use crate::rising::place_there;
+use crate::sorted::find_near;
 use crate::show::Show;
 use lx_base::{Cs, CueNo, GroupNo, SubNo};
 use lx_spec::{Label, Member, Move, Part};
@@ -25,7 +25,7 @@ impl Show {
         requires { IsTrue (has_entry (λ x. x.number) n self.old.cues) }
         ensures { self.new ≡ record self.old { cues = changed (λ x. x.number) n (λ cue. record cue { block = block }) self.old.cues } }
     {
-        let at = place_there(self.cues.as_slice(), self.recent, n.get());
+        let at = find_near(self.cues.as_slice(), self.recent, n.get());
         self.recent = at;
         let cue = &mut self.cues[at];
         cue.block = block;
@@ -37,7 +37,7 @@ impl Show {
         requires time { IfSome follow IsTime }
         ensures { self.new ≡ record self.old { cues = changed (λ x. x.number) n (λ cue. record cue { follow = follow }) self.old.cues } }
     {
-        let at = place_there(self.cues.as_slice(), self.recent, n.get());
+        let at = find_near(self.cues.as_slice(), self.recent, n.get());
         self.recent = at;
         let cue = &mut self.cues[at];
         cue.follow = follow;
@@ -50,7 +50,7 @@ impl Show {
         ensures { self.new ≡ record self.old { cues = changed (λ x. x.number) n (λ cue. record cue { link = Some link }) self.old.cues } }
     {
         let _ = link.get();
-        let at = place_there(self.cues.as_slice(), self.recent, n.get());
+        let at = find_near(self.cues.as_slice(), self.recent, n.get());
         self.recent = at;
         let cue = &mut self.cues[at];
         cue.link = Some(link);
@@ -62,7 +62,7 @@ impl Show {
         ensures { self.new ≡ record self.old { cues = changed (λ x. x.number) n (λ cue. record cue { label = label }) self.old.cues } }
     {
         facts::of_label(&label);
-        let at = place_there(self.cues.as_slice(), self.recent, n.get());
+        let at = find_near(self.cues.as_slice(), self.recent, n.get());
         self.recent = at;
         let cue = &mut self.cues[at];
         cue.label = label;
@@ -74,7 +74,7 @@ impl Show {
         requires part { ValidPart part }
         ensures { self.new ≡ record self.old { cues = changed (λ x. x.number) n (λ cue. record cue { parts = placed (λ p. p.number) part cue.parts }) self.old.cues } }
     {
-        let at = place_there(self.cues.as_slice(), self.recent, n.get());
+        let at = find_near(self.cues.as_slice(), self.recent, n.get());
         self.recent = at;
         let cue = &mut self.cues[at];
         place_part(&mut cue.parts, part);
@@ -89,7 +89,7 @@ impl Show {
         ensures err { OnErr result (self.new ≡ self.old) }
     {
         facts::of_move(&entry);
-        let at = place_there(self.cues.as_slice(), self.recent, n.get());
+        let at = find_near(self.cues.as_slice(), self.recent, n.get());
         self.recent = at;
         let cue = &mut self.cues[at];
         cue.moves.put(entry)
@@ -103,7 +103,7 @@ impl Show {
         ensures after { self.new ≡ record self.old { cues = changed (λ x. x.number) n (λ cue. record cue { moves = moves }) self.old.cues } }
     {
         let _ = moves.as_slice();
-        let at = place_there(self.cues.as_slice(), self.recent, n.get());
+        let at = find_near(self.cues.as_slice(), self.recent, n.get());
         self.recent = at;
         let cue = &mut self.cues[at];
         mem::replace(&mut cue.moves, moves)
@@ -117,7 +117,7 @@ impl Show {
         ensures { self.new ≡ record self.old { groups = changed (λ x. x.number) g (λ group. record group { label = label }) self.old.groups } }
     {
         facts::of_label(&label);
-        let at = place_there(self.groups.as_slice(), self.recent, g.get());
+        let at = find_near(self.groups.as_slice(), self.recent, g.get());
         self.recent = at;
         let group = &mut self.groups[at];
         group.label = label;
@@ -132,7 +132,7 @@ impl Show {
         ensures err { OnErr result (self.new ≡ self.old) }
     {
         facts::of_member(&entry);
-        let at = place_there(self.groups.as_slice(), self.recent, g.get());
+        let at = find_near(self.groups.as_slice(), self.recent, g.get());
         self.recent = at;
         let group = &mut self.groups[at];
         group.members.put(entry)
@@ -146,7 +146,7 @@ impl Show {
         ensures { self.new ≡ record self.old { subs = changed (λ x. x.number) s (λ sub. record sub { label = label }) self.old.subs } }
     {
         facts::of_label(&label);
-        let at = place_there(self.subs.as_slice(), self.recent, s.get());
+        let at = find_near(self.subs.as_slice(), self.recent, s.get());
         self.recent = at;
         let sub = &mut self.subs[at];
         sub.label = label;
@@ -161,7 +161,7 @@ impl Show {
         ensures err { OnErr result (self.new ≡ self.old) }
     {
         facts::of_member(&entry);
-        let at = place_there(self.subs.as_slice(), self.recent, s.get());
+        let at = find_near(self.subs.as_slice(), self.recent, s.get());
         self.recent = at;
         let sub = &mut self.subs[at];
         sub.members.put(entry)

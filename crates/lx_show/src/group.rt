@@ -4,8 +4,8 @@ ghost use Rattle.std.specs.Prelude.{◌≡◌, ℕ, [], OnOk, OnErr, IfOk};
 ghost use Rattle.lx_spec.specs.SortedList.{placed};
 ghost use Rattle.lx_spec.specs.Show.{ValidGroup};
 
-use crate::list::{Copied, RisingList};
-use crate::rising::Keyed;
+use crate::list::{Copied, SortedList};
+use crate::sorted::Keyed;
 use lx_base::GroupNo;
 use lx_spec::{Label, Member};
 use std::alloc::{AllocError, Global};
@@ -19,8 +19,8 @@ impl Keyed for Member {
     }
 }
 
-/// Members that rise by channel, one for each channel.
-pub type MemberList = RisingList<Member>;
+/// Members sorted by channel, one for each channel.
+pub type MemberList = SortedList<Member>;
 
 /// A group: channels with levels, named by one number.
 #[derive(Drop)]
@@ -29,7 +29,7 @@ pub struct Group {
     pub number: GroupNo,
     /// Its label, which may be empty.
     pub label: Label,
-    /// Rising by channel.
+    /// Sorted by channel.
     pub members: MemberList,
 }
 
@@ -65,7 +65,7 @@ impl Group {
         Group {
             number,
             label: Label::none(),
-            members: RisingList::new(alloc),
+            members: SortedList::new(alloc),
         }
     }
 

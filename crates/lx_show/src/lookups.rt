@@ -10,7 +10,7 @@ use crate::cue::Cue;
 use crate::group::Group;
 use crate::show::Show;
 use crate::sub::Sub;
-use crate::{around, rising};
+use crate::{around, sorted};
 use lx_base::{Chan, CueNo, Dimmer, GroupNo, Level, SubNo};
 use lx_spec::{Move, PatchRow};
 
@@ -20,7 +20,7 @@ impl Show {
         ensures cue { option_copied result ≡ cue_of self.now n }
         ensures valid { IfSome result (λ cue. ValidCue self.now.channels cue.now) }
     {
-        rising::entry_of(self.cues.as_slice(), n.get())
+        sorted::entry_of(self.cues.as_slice(), n.get())
     }
 
     /// The group with the number. `None` exactly where there is none.
@@ -28,7 +28,7 @@ impl Show {
         ensures group { option_copied result ≡ entry_at (λ x. x.number) g self.now.groups }
         ensures valid { IfSome result (λ group. ValidGroup self.now.channels group.now) }
     {
-        rising::entry_of(self.groups.as_slice(), g.get())
+        sorted::entry_of(self.groups.as_slice(), g.get())
     }
 
     /// The submaster with the number. `None` exactly where there is none.
@@ -36,7 +36,7 @@ impl Show {
         ensures sub { option_copied result ≡ entry_at (λ x. x.number) s self.now.subs }
         ensures valid { IfSome result (λ sub. ValidSub self.now.channels sub.now) }
     {
-        rising::entry_of(self.subs.as_slice(), s.get())
+        sorted::entry_of(self.subs.as_slice(), s.get())
     }
 
     /// The dimmer's patch row. `None` exactly where it has none.
@@ -44,7 +44,7 @@ impl Show {
         ensures row { result ≡ entry_at (λ x. x.dimmer) d self.now.patch }
         ensures valid { IfSome result (λ row. ValidPatchRow self.now.channels row) }
     {
-        rising::entry_of(self.patch.as_slice(), d.get()).copied()
+        sorted::entry_of(self.patch.as_slice(), d.get()).copied()
     }
 
     /// The channel's move in the cue. `None` exactly where there is no such cue or no such move.

@@ -3,13 +3,13 @@
 ghost use Rattle.std.specs.Prelude.{◌≡◌, map};
 ghost use Rattle.lx_spec.specs.EditedShow.{out_of_part};
 
-use crate::list::RisingList;
-use crate::rising::Keyed;
+use crate::list::SortedList;
+use crate::sorted::Keyed;
 use lx_base::PartNo;
 use lx_spec::Move;
 
-/// Moves that rise by channel, one for each channel.
-pub type MoveList = RisingList<Move>;
+/// Moves sorted by channel, one for each channel.
+pub type MoveList = SortedList<Move>;
 
 impl Keyed for Move {
     ghost key = { λ m. m.chan };
@@ -19,7 +19,7 @@ impl Keyed for Move {
     }
 }
 
-impl RisingList<Move> {
+impl SortedList<Move> {
     /// Puts the moves of the part into part 1.
     pub fn leave_part(&mut self, part: PartNo)
         ensures { self.new ≡ map (out_of_part part) self.old }

@@ -1,7 +1,7 @@
-//! Rows of the patch, which rise by dimmer.
+//! Rows of the patch, sorted by dimmer.
 
 use crate::list::Copied;
-use crate::rising::Keyed;
+use crate::sorted::Keyed;
 use lx_spec::PatchRow;
 use std::alloc::AllocError;
 

@@ -10,7 +10,7 @@ use crate::cue::Cue;
 use crate::group::Group;
 use crate::show::Show;
 use crate::sub::Sub;
-use crate::{facts, rising};
+use crate::{facts, sorted};
 use lx_base::{CUES, CueNo, Dimmer};
 use lx_spec::PatchRow;
 
@@ -29,7 +29,7 @@ impl Show {
         requires room { IsTrue (has_entry (λ x. x.number) cue.number self.old.cues || nat_lt (length self.old.cues) CUES) }
         ensures { self.new ≡ record self.old { cues = placed (λ x. x.number) cue self.old.cues } }
     {
-        rising::put_in_room(&mut self.cues, cue)
+        sorted::put_in_room(&mut self.cues, cue)
     }
 
     /// Takes the cue out. `None` exactly where there is no cue of the number.
@@ -37,7 +37,7 @@ impl Show {
         ensures cue { result ≡ cue_of self.old n }
         ensures others { self.new ≡ record self.old { cues = taken_out (λ x. x.number) n self.old.cues } }
     {
-        rising::take_out(&mut self.cues, n.get())
+        sorted::take_out(&mut self.cues, n.get())
     }
 
     /// Places the group, in place of the one of its number.
@@ -45,7 +45,7 @@ impl Show {
         requires { ValidGroup self.old.channels group }
         ensures { self.new ≡ record self.old { groups = placed (λ x. x.number) group self.old.groups } }
     {
-        rising::put_in_room(&mut self.groups, group)
+        sorted::put_in_room(&mut self.groups, group)
     }
 
     /// Places the submaster, in place of the one of its number.
@@ -53,7 +53,7 @@ impl Show {
         requires { ValidSub self.old.channels sub }
         ensures { self.new ≡ record self.old { subs = placed (λ x. x.number) sub self.old.subs } }
     {
-        rising::put_in_room(&mut self.subs, sub)
+        sorted::put_in_room(&mut self.subs, sub)
     }
 
     /// Places the row, in place of the one of its dimmer. Its channel is within the count.
@@ -62,7 +62,7 @@ impl Show {
         ensures { self.new ≡ record self.old { patch = placed (λ x. x.dimmer) row self.old.patch } }
     {
         facts::of_row(&row);
-        rising::put_in_room(&mut self.patch, row)
+        sorted::put_in_room(&mut self.patch, row)
     }
 
     /// Takes the dimmer's row out. `None` exactly where it has none.
@@ -70,6 +70,6 @@ impl Show {
         ensures row { result ≡ entry_at (λ x. x.dimmer) d self.old.patch }
         ensures others { self.new ≡ record self.old { patch = taken_out (λ x. x.dimmer) d self.old.patch } }
     {
-        rising::take_out(&mut self.patch, d.get())
+        sorted::take_out(&mut self.patch, d.get())
     }
 }

@@ -5,8 +5,8 @@ ghost use Rattle.lx_spec.specs.SortedList.{placed};
 ghost use Rattle.lx_spec.specs.Show.{ValidSub};
 
 use crate::group::MemberList;
-use crate::list::{Copied, RisingList};
-use crate::rising::Keyed;
+use crate::list::{Copied, SortedList};
+use crate::sorted::Keyed;
 use lx_base::SubNo;
 use lx_spec::{Label, Member};
 use std::alloc::{AllocError, Global};
@@ -19,7 +19,7 @@ pub struct Sub {
     pub number: SubNo,
     /// Its label, which may be empty.
     pub label: Label,
-    /// Rising by channel.
+    /// Sorted by channel.
     pub members: MemberList,
 }
 
@@ -55,7 +55,7 @@ impl Sub {
         Sub {
             number,
             label: Label::none(),
-            members: RisingList::new(alloc),
+            members: SortedList::new(alloc),
         }
     }
 

@@ -1,4 +1,4 @@
--- Tracking on one channel along a list of cues, from the first to the last, and lists that rise by number.
+-- Tracking on one channel along a list of cues, from the first to the last, and lists sorted by number.
 use Rattle.std.proofs.Common.{◌≡◌, ℕ, ◌<◌, ◌≤◌, Bool, true, false, cond, List, [], ◌∷◌, ◌++◌, Some, None, refl, ◌∙◌, sym, ap, inl, inr, arith}
 use Rattle.std.specs.Prelude.{Option, find, filter, reverse, nat_le, nat_lt, ◌==◌, ◌&&◌}
 use Rattle.std.specs.Option.{option_or, option_map_or}
@@ -7,7 +7,7 @@ use mathlib.Core.List.{reverse-cons}
 use Rattle.std.proofs.lemmas.Bool.{cases_order}
 use Rattle.std.proofs.lemmas.Bool.Decides.{nat_tests}
 use Rattle.std.proofs.lemmas.List.Folds.{find-append}
-use Rattle.lx_spec.specs.SortedList.{Rises, entry_at, entries_below, entries_above, taken_out}
+use Rattle.lx_spec.specs.SortedList.{IsStrictlySorted, entry_at, entries_below, entries_above, taken_out}
 use Rattle.lx_spec.specs.Show.{Cue, Show}
 use Rattle.lx_spec.specs.TrackedLevel.{decides, level_in, tracked}
 
@@ -124,37 +124,37 @@ first_is : {A : Type 0} (y x : A) (b : Bool) (rest : Option A) → b ≡ true �
 first_is y x true rest test found = cc
 first_is y x false rest test found = cc
 
--- A rising list is what stands below a number, its entry, and what stands above it.
-pub split_there : {A : Type 0} (key : A → ℕ) (n : ℕ) (x : A) (xs : List A) → Rises key xs → entry_at key n xs ≡ Some x → xs ≡ entries_below key n xs ++ (x ∷ entries_above key n xs)
-split_there key n x [] rises found = absurd (none_differs x found)
-split_there {A} key n x (y ∷ ys) rises found =
+-- A sorted list is what stands below a number, its entry, and what stands above it.
+pub split_there : {A : Type 0} (key : A → ℕ) (n : ℕ) (x : A) (xs : List A) → IsStrictlySorted key xs → entry_at key n xs ≡ Some x → xs ≡ entries_below key n xs ++ (x ∷ entries_above key n xs)
+split_there key n x [] sorted found = absurd (none_differs x found)
+split_there {A} key n x (y ∷ ys) sorted found =
     elim (cases_order (key y) n) [
       | inl here ↦
           let same : y ≡ x = first_is y x (key y == n) (find (λ z. key z == n) ys) (same_number (key y) n here) found in
-          let high : entries_above key n ys ≡ ys = filter_all _ ys (each _ _ ys (λ z h. lt_true n (key z) (omega (arith, here))) rises.0) in
-          let low : entries_below key n ys ≡ [] = filter_none _ ys (each _ _ ys (λ z h. lt_false (key z) n (omega (arith, here))) rises.0) in
+          let high : entries_above key n ys ≡ ys = filter_all _ ys (each _ _ ys (λ z h. lt_true n (key z) (omega (arith, here))) sorted.0) in
+          let low : entries_below key n ys ≡ [] = filter_none _ ys (each _ _ ys (λ z h. lt_false (key z) n (omega (arith, here))) sorted.0) in
           rw (lt_false (key y) n (omega arith), lt_false n (key y) (omega arith)) (rw (low, high) (ap (λ z. z ∷ ys) same))
       | inr other ↦ elim other [
         | inl less ↦
-            let rest : ys ≡ entries_below key n ys ++ (x ∷ entries_above key n ys) = split_there key n x ys rises.1 (rw (other_number (key y) n (λ same. omega arith)) at found) in
+            let rest : ys ≡ entries_below key n ys ++ (x ∷ entries_above key n ys) = split_there key n x ys sorted.1 (rw (other_number (key y) n (λ same. omega arith)) at found) in
             rw (lt_true (key y) n less, lt_false n (key y) (omega arith)) (ap (λ zs. y ∷ zs) rest)
         | inr more ↦
-            let none : find (λ z. key z == n) ys ≡ None = find_none _ ys (each _ _ ys (λ z h. other_number (key z) n (λ same. omega (arith, h))) rises.0) in
+            let none : find (λ z. key z == n) ys ≡ None = find_none _ ys (each _ _ ys (λ z h. other_number (key z) n (λ same. omega (arith, h))) sorted.0) in
             absurd (none_differs x (sym none ∙ (rw (other_number (key y) n (λ same. omega arith)) at found)))
       ]
     ]
 
 -- without the entry of the number it is what stands below and above it
-pub split_without : {A : Type 0} (key : A → ℕ) (n : ℕ) (xs : List A) → Rises key xs → taken_out key n xs ≡ entries_below key n xs ++ entries_above key n xs
-split_without key n [] rises = refl
-split_without {A} key n (x ∷ xs) rises =
-    let rest : taken_out key n xs ≡ entries_below key n xs ++ entries_above key n xs = split_without key n xs rises.1 in
+pub split_without : {A : Type 0} (key : A → ℕ) (n : ℕ) (xs : List A) → IsStrictlySorted key xs → taken_out key n xs ≡ entries_below key n xs ++ entries_above key n xs
+split_without key n [] sorted = refl
+split_without {A} key n (x ∷ xs) sorted =
+    let rest : taken_out key n xs ≡ entries_below key n xs ++ entries_above key n xs = split_without key n xs sorted.1 in
     elim (cases_order (key x) n) [
       | inl here ↦ rw (lt_false (key x) n (omega arith), lt_false n (key x) (omega arith), same_number (key x) n here) rest
       | inr other ↦ elim other [
         | inl low ↦ rw (lt_true (key x) n low, lt_false n (key x) (omega arith), other_number (key x) n (λ same. omega arith)) (ap (λ ys. x ∷ ys) rest)
         | inr high ↦
-            let none : entries_below key n xs ≡ [] = filter_none _ xs (each _ _ xs (λ y h. lt_false (key y) n (omega arith)) rises.0) in
+            let none : entries_below key n xs ≡ [] = filter_none _ xs (each _ _ xs (λ y h. lt_false (key y) n (omega arith)) sorted.0) in
             rw (lt_false (key x) n (omega arith), lt_true n (key x) high, other_number (key x) n (λ same. omega arith)) (rw none (ap (λ ys. x ∷ ys) (rest ∙ ap (λ zs. zs ++ entries_above key n xs) none)))
       ]
     ]
@@ -180,6 +180,6 @@ kept_by : {A : Type 0} (P : A → Type 0) (p : A → Bool) (xs : List A) → All
 kept_by P p [] all = tt
 kept_by P p (x ∷ xs) all = elim (p x) as (λ b. AllByRecursion P (cond b (x ∷ filter p xs) (filter p xs))) [ true ↦ (all.0, kept_by P p xs all.1) | false ↦ kept_by P p xs all.1 ]
 
-pub Rises-filter : {A : Type 0} (key : A → ℕ) (p : A → Bool) (xs : List A) → Rises key xs → Rises key (filter p xs)
-Rises-filter key p [] rises = tt
-Rises-filter {A} key p (x ∷ xs) rises = elim (p x) as (λ b. Rises key (cond b (x ∷ filter p xs) (filter p xs))) [ true ↦ (kept_by (λ y. key x < key y) p xs rises.0, Rises-filter key p xs rises.1) | false ↦ Rises-filter key p xs rises.1 ]
+pub IsStrictlySorted-filter : {A : Type 0} (key : A → ℕ) (p : A → Bool) (xs : List A) → IsStrictlySorted key xs → IsStrictlySorted key (filter p xs)
+IsStrictlySorted-filter key p [] sorted = tt
+IsStrictlySorted-filter {A} key p (x ∷ xs) sorted = elim (p x) as (λ b. IsStrictlySorted key (cond b (x ∷ filter p xs) (filter p xs))) [ true ↦ (kept_by (λ y. key x < key y) p xs sorted.0, IsStrictlySorted-filter key p xs sorted.1) | false ↦ IsStrictlySorted-filter key p xs sorted.1 ]

@@ -8,7 +8,7 @@ use Rattle.std.proofs.lemmas.Bool.Decides.{nat_tests}
 use Rattle.std.proofs.lemmas.List.Elements.{filter-append}
 use Rattle.std.proofs.lemmas.List.Folds.{find-append}
 use Rattle.std.proofs.lemmas.List.{append-nil}
-use Rattle.lx_spec.specs.SortedList.{Rises, entry_at, entries_below, entries_above, placed}
+use Rattle.lx_spec.specs.SortedList.{IsStrictlySorted, entry_at, entries_below, entries_above, placed}
 use Rattle.lx_spec.specs.Show.{Cue, Show, InRange}
 use Rattle.lx_spec.specs.TrackedLevel.{tracked, cue_of, cue_above}
 use Rattle.lx_spec.specs.EditedShow.{cue_only, kept_above, with_cue, with_moves, moves_for}
@@ -40,7 +40,7 @@ pub record IsAround (n : ℕ) (cues below here above : List Cue) : Type 0 where
   pub low : AllByRecursion (λ cue. cue.number < n) below
   pub at : AllByRecursion (λ cue. cue.number ≡ n) here
   pub high : AllByRecursion (λ cue. n < cue.number) above
-  pub rise : Rises (λ cue. cue.number) above
+  pub sorted : IsStrictlySorted (λ cue. cue.number) above
 
 -- below the number nothing above counts
 pub tracked_low : (show : Show) (n k c : ℕ) (below here above : List Cue) → IsAround n show.cues below here above → k < n → tracked show k c ≡ along k c 0 below
@@ -64,7 +64,7 @@ tracked_first show n k c below here above x around le =
     all_append (λ (cue : Cue). cue.number ≤ m) below here (each _ _ below (λ y h. omega (arith, h)) around.low) (each _ _ here (λ y h. omega (arith, h)) around.at) in
     let first : n < x.number = around.high.0 in
     tracked_high show n x.number c below here above x around (omega arith)
-    ∙ along-past x.number c (tracked_on c x (along x.number c 0 (below ++ here))) above around.rise.0
+    ∙ along-past x.number c (tracked_on c x (along x.number c 0 (below ++ here))) above around.sorted.0
     ∙ ap (tracked_on c x) (along-same x.number k c 0 (below ++ here) (up_to x.number first) (up_to k (omega arith)))
 
 equal_is : (a b : ℕ) → not (a == b) ≡ false → a ≡ b
@@ -101,12 +101,12 @@ kept_around before after n below other above x now =
     all_append (λ (cue : Cue). cue.number < x.number) below other (each _ _ below (λ y h. omega (arith, h, now.high.0)) now.low) (each _ _ other (λ y h. omega (arith, h, now.high.0)) now.at) in
     record {
       is = ap (placed (λ (cue : Cue). cue.number) (kept before after x)) (now.is ∙ sym (append_assoc below other (x ∷ above)))
-          ∙ placed_between (λ (cue : Cue). cue.number) (below ++ other) above x (kept before after x) refl front now.rise.0
+          ∙ placed_between (λ (cue : Cue). cue.number) (below ++ other) above x (kept before after x) refl front now.sorted.0
           ∙ append_assoc below other (kept before after x ∷ above);
       low = now.low;
       at = now.at;
       high = now.high;
-      rise = now.rise;
+      sorted = now.sorted;
     }
 
 some_differs : {A : Type 0} (x : A) → Some x ≡ None → ⊥
@@ -121,13 +121,13 @@ is_above show n k below here above around less =
     ∙ find-append (λ (cue : Cue). cue.number == k) (below ++ here) above
     ∙ ap (λ (o : Option Cue). option_or o (entry_at (λ cue. cue.number) k above)) none
 
--- a cue of a rising list is no lower than its first
-not_lower : (x : Cue) (above : List Cue) (k : ℕ) → Rises (λ cue. cue.number) (x ∷ above) → IsTrue (is_some (entry_at (λ cue. cue.number) k (x ∷ above))) → x.number ≤ k
-not_lower x above k rises there =
+-- a cue of a sorted list is no lower than its first
+not_lower : (x : Cue) (above : List Cue) (k : ℕ) → IsStrictlySorted (λ cue. cue.number) (x ∷ above) → IsTrue (is_some (entry_at (λ cue. cue.number) k (x ∷ above))) → x.number ≤ k
+not_lower x above k sorted there =
     elim (cases_lt k x.number) [
       | inl lower ↦
           let none : entry_at (λ cue. cue.number) k (x ∷ above) ≡ None =
-          find_none (λ (cue : Cue). cue.number == k) (x ∷ above) (other_number x.number k (λ same. omega arith), each _ _ above (λ y h. other_number y.number k (λ same. omega (arith, h))) rises.0) in
+          find_none (λ (cue : Cue). cue.number == k) (x ∷ above) (other_number x.number k (λ same. omega arith), each _ _ above (λ y h. other_number y.number k (λ same. omega (arith, h))) sorted.0) in
           absurd (false≢true (sym (ap is_some none) ∙ there))
       | inr le ↦ le
     ]
@@ -152,7 +152,7 @@ kept_alone before after n k c below here other (x ∷ above) around now range ap
       | inr other_side ↦ elim other_side [
         | inl less ↦ ap (λ (s : Show). tracked s k c) to ∙ tracked_low (with_cue after (kept before after x)) n k c below other (kept before after x ∷ above) then less ∙ sym (tracked_low before n k c below here (x ∷ above) around less)
         | inr more ↦
-            let le : x.number ≤ k = not_lower x above k around.rise (sym (ap is_some (is_above before n k below here (x ∷ above) around more)) ∙ there) in
+            let le : x.number ≤ k = not_lower x above k around.sorted (sym (ap is_some (is_above before n k below here (x ∷ above) around more)) ∙ there) in
             ap (λ (s : Show). tracked s k c) to
             ∙ tracked_high (with_cue after (kept before after x)) n k c below other above (kept before after x) then le
             ∙ ap (λ l. along k c l above) (keeps_level before after n k c below here other above x range around now le)

@@ -10,12 +10,12 @@ use Rattle.lx_spec.specs.declared.Edit.TheVariants.{DeleteCue, Set, SetGroup, Re
 use Rattle.lx_spec.specs.declared.Move.{Move}
 use Rattle.lx_spec.specs.declared.Refusal.{Refusal}
 use Rattle.lx_spec.specs.FirstRefusal.{◌>>=◌}
-use Rattle.lx_spec.specs.SortedList.{Rises, entries_below, entries_above}
+use Rattle.lx_spec.specs.SortedList.{IsStrictlySorted, entries_below, entries_above}
 use Rattle.lx_spec.specs.Show.{Cue, Show, Valid, ValidCue, InRange}
 use Rattle.lx_spec.specs.TrackedLevel.{tracked, cue_of, move_in, level_in}
 use Rattle.lx_spec.specs.EditedShow.{edited, cue_only, the_cue, the_given_part, the_channels, the_group, the_moves, with_cue, without_cue, with_levels, without_moves, all_at, in_proportion, with_moves, moves_for, blocked, unblocked}
 use Rattle.lx_spec.specs.Laws.{cue_alone, is_block_edit}
-use Rattle.lx_spec.proofs.Along.{tracked_on, along, tracked-along, along-append, along-past, along-same, step_in, step_out, each, all_below, all_above, found_number, split_there, split_without, Rises-filter}
+use Rattle.lx_spec.proofs.Along.{tracked_on, along, tracked-along, along-append, along-past, along-same, step_in, step_out, each, all_below, all_above, found_number, split_there, split_without, IsStrictlySorted-filter}
 use Rattle.lx_spec.proofs.MovesFor.{on_passing, on_other}
 use Rattle.lx_spec.proofs.CueOnly.{IsAround, kept_alone, tracked_low}
 
@@ -32,41 +32,41 @@ there_is None refusal cue is = cc
 there_is (Some x) refusal cue is = cc
 
 -- the cues around an edited cue, before and after
-around_cue : (show : Show) (n : ℕ) (cue : Cue) → Rises (λ x. x.number) show.cues → cue_of show n ≡ Some cue → IsAround n show.cues (entries_below (λ x. x.number) n show.cues) (cue ∷ []) (entries_above (λ x. x.number) n show.cues)
-around_cue show n cue rises found = record {
-  is = split_there (λ (x : Cue). x.number) n cue show.cues rises found;
+around_cue : (show : Show) (n : ℕ) (cue : Cue) → IsStrictlySorted (λ x. x.number) show.cues → cue_of show n ≡ Some cue → IsAround n show.cues (entries_below (λ x. x.number) n show.cues) (cue ∷ []) (entries_above (λ x. x.number) n show.cues)
+around_cue show n cue sorted found = record {
+  is = split_there (λ (x : Cue). x.number) n cue show.cues sorted found;
   low = all_below (λ (x : Cue). x.number) n show.cues;
   at = (found_number (λ (x : Cue). x.number) n show.cues cue found, tt);
   high = all_above (λ (x : Cue). x.number) n show.cues;
-  rise = Rises-filter (λ (x : Cue). x.number) _ show.cues rises;
+  sorted = IsStrictlySorted-filter (λ (x : Cue). x.number) _ show.cues sorted;
 }
 
-around_placed : (show : Show) (n : ℕ) (cue : Cue) → Rises (λ x. x.number) show.cues → cue.number ≡ n → IsAround n (with_cue show cue).cues (entries_below (λ x. x.number) n show.cues) (cue ∷ []) (entries_above (λ x. x.number) n show.cues)
-around_placed show n cue rises number = record {
+around_placed : (show : Show) (n : ℕ) (cue : Cue) → IsStrictlySorted (λ x. x.number) show.cues → cue.number ≡ n → IsAround n (with_cue show cue).cues (entries_below (λ x. x.number) n show.cues) (cue ∷ []) (entries_above (λ x. x.number) n show.cues)
+around_placed show n cue sorted number = record {
   is = ap (λ m. entries_below (λ (x : Cue). x.number) m show.cues ++ (cue ∷ entries_above (λ x. x.number) m show.cues)) number;
   low = all_below (λ (x : Cue). x.number) n show.cues;
   at = (number, tt);
   high = all_above (λ (x : Cue). x.number) n show.cues;
-  rise = Rises-filter (λ (x : Cue). x.number) _ show.cues rises;
+  sorted = IsStrictlySorted-filter (λ (x : Cue). x.number) _ show.cues sorted;
 }
 
-around_absent : (show : Show) (n : ℕ) → Rises (λ x. x.number) show.cues → IsAround n (without_cue show n).cues (entries_below (λ x. x.number) n show.cues) [] (entries_above (λ x. x.number) n show.cues)
-around_absent show n rises = record {
-  is = split_without (λ (x : Cue). x.number) n show.cues rises;
+around_absent : (show : Show) (n : ℕ) → IsStrictlySorted (λ x. x.number) show.cues → IsAround n (without_cue show n).cues (entries_below (λ x. x.number) n show.cues) [] (entries_above (λ x. x.number) n show.cues)
+around_absent show n sorted = record {
+  is = split_without (λ (x : Cue). x.number) n show.cues sorted;
   low = all_below (λ (x : Cue). x.number) n show.cues;
   at = tt;
   high = all_above (λ (x : Cue). x.number) n show.cues;
-  rise = Rises-filter (λ (x : Cue). x.number) _ show.cues rises;
+  sorted = IsStrictlySorted-filter (λ (x : Cue). x.number) _ show.cues sorted;
 }
 
 -- a cue changed alone
 changed_alone : (show : Show) (n k c : ℕ) (cue new : Cue) → Valid show → cue_of show n ≡ Some cue → new.number ≡ cue.number → InRange show.channels c → k ≢ n → IsTrue (is_some (cue_of show k)) → tracked (cue_only true show n (with_cue show new)) k c ≡ tracked show k c
 changed_alone show n k c cue new valid found kept range apart there =
-    kept_alone show (with_cue show new) n k c (entries_below (λ (x : Cue). x.number) n show.cues) (cue ∷ []) (new ∷ []) (entries_above (λ (x : Cue). x.number) n show.cues) (around_cue show n cue valid.cues_rise found) (around_placed show n new valid.cues_rise (kept ∙ found_number (λ (x : Cue). x.number) n show.cues cue found)) range apart there
+    kept_alone show (with_cue show new) n k c (entries_below (λ (x : Cue). x.number) n show.cues) (cue ∷ []) (new ∷ []) (entries_above (λ (x : Cue). x.number) n show.cues) (around_cue show n cue valid.cues_sorted found) (around_placed show n new valid.cues_sorted (kept ∙ found_number (λ (x : Cue). x.number) n show.cues cue found)) range apart there
 
 removed_alone : (show : Show) (n k c : ℕ) (cue : Cue) → Valid show → cue_of show n ≡ Some cue → InRange show.channels c → k ≢ n → IsTrue (is_some (cue_of show k)) → tracked (cue_only true show n (without_cue show n)) k c ≡ tracked show k c
 removed_alone show n k c cue valid found range apart there =
-    kept_alone show (without_cue show n) n k c (entries_below (λ (x : Cue). x.number) n show.cues) (cue ∷ []) [] (entries_above (λ (x : Cue). x.number) n show.cues) (around_cue show n cue valid.cues_rise found) (around_absent show n valid.cues_rise) range apart there
+    kept_alone show (without_cue show n) n k c (entries_below (λ (x : Cue). x.number) n show.cues) (cue ∷ []) [] (entries_above (λ (x : Cue). x.number) n show.cues) (around_cue show n cue valid.cues_sorted found) (around_absent show n valid.cues_sorted) range apart there
 
 some_is : (m n : ℕ) → Some m ≡ Some n → m ≡ n
 some_is m n is = cc
@@ -112,8 +112,8 @@ same_there show n k c cue new valid found kept same =
     let below : List Cue = entries_below (λ x. x.number) n show.cues in
     let above : List Cue = entries_above (λ x. x.number) n show.cues in
     let number : cue.number ≡ n = found_number (λ (x : Cue). x.number) n show.cues cue found in
-    let around = around_cue show n cue valid.cues_rise found in
-    let now = around_placed show n new valid.cues_rise (kept ∙ number) in
+    let around = around_cue show n cue valid.cues_sorted found in
+    let now = around_placed show n new valid.cues_sorted (kept ∙ number) in
     tracked-along (with_cue show new) k c
     ∙ ap (along k c 0) now.is
     ∙ along-append k c 0 below (new ∷ above)
@@ -131,7 +131,7 @@ tracked_here show n k c cue valid found le =
     let below : List Cue = entries_below (λ x. x.number) n show.cues in
     let above : List Cue = entries_above (λ x. x.number) n show.cues in
     let number : cue.number ≡ n = found_number (λ (x : Cue). x.number) n show.cues cue found in
-    let around = around_cue show n cue valid.cues_rise found in
+    let around = around_cue show n cue valid.cues_sorted found in
     tracked-along show n c
     ∙ ap (along n c 0) around.is
     ∙ along-append n c 0 below (cue ∷ above)
@@ -142,7 +142,7 @@ tracked_here show n k c cue valid found le =
 tracked_before : (show : Show) (n k c : ℕ) (cue : Cue) → Valid show → cue_of show n ≡ Some cue → 1 ≤ n → n ≤ k → tracked show (n - 1) c ≡ along k c 0 (entries_below (λ x. x.number) n show.cues)
 tracked_before show n k c cue valid found least le =
     let below : List Cue = entries_below (λ x. x.number) n show.cues in
-    let around = around_cue show n cue valid.cues_rise found in
+    let around = around_cue show n cue valid.cues_sorted found in
     tracked_low show n (n - 1) c below (cue ∷ []) (entries_above (λ x. x.number) n show.cues) around (omega arith)
     ∙ along-same (n - 1) k c 0 below (each _ _ below (λ x h. omega (arith, h)) around.low) (each _ _ below (λ x h. omega (arith, h)) around.low)
 

@@ -13,19 +13,19 @@ use Rattle.lx_spec.specs.declared.Command.{Command}
 use Rattle.lx_spec.specs.declared.Command.TheVariants as commands
 use Rattle.lx_spec.specs.declared.Refusal.{Refusal}
 use Rattle.lx_spec.specs.declared.Refusal.TheVariants.{PlaybackFull, NoCueAfter, NoCueBefore, TickLimit, AbsentSub}
-use Rattle.lx_base.specs.declared.TheConstants.{BACK_TIME, TICK_END}
+use Rattle.lx_base.specs.declared.TheConstants.{BACK_TIME, TICK_STEP, TICK_END}
 use Rattle.lx_spec.specs.FirstRefusal.{◌>>=◌}
 use Rattle.lx_spec.specs.SortedList.{entry_at, has_entry}
 use Rattle.lx_spec.specs.Show.{Show, Cue}
 use Rattle.lx_spec.specs.TrackedLevel.{tracked, move_of, cue_above, cue_below}
 use Rattle.lx_spec.specs.Run.{Run, first_entry, entry_for, entry_extent, extent, time_of, delay_of, acts}
-use Rattle.lx_spec.specs.Level.{level, position, run_over, fade_over, rises_to}
+use Rattle.lx_spec.specs.Level.{level, last_cue, run_over, fade_over, rises_to}
 use Rattle.lx_spec.specs.EditedShow.{edited, the_cue}
 use Rattle.lx_spec.specs.Playback.{Playback, Played, press, tick, ticked, followed, start_above, rested, at_rest, is_over, is_due, has_room, appended, if_room, run_of, run_whole, follow_of, position_of}
 use Rattle.lx_spec.specs.Desk.{Desk, opened, step, after_play, after_command, replay}
 use Rattle.lx_spec.specs.Laws.{KeepsRest, IsInstant}
 use Rattle.lx_spec.proofs.Instant.{All-find, same_level, either, run_at_once}
-use Rattle.lx_spec.proofs.Rest.{level-rest, position_over}
+use Rattle.lx_spec.proofs.Rest.{level-rest, last_cue-over}
 
 -- A run that is over gives its target, whatever the show.
 fold_reaches : (xs : List ℕ) (a : ℕ) → a ≤ fold max a xs
@@ -73,17 +73,17 @@ run_over_by show before run c m over =
     over_by before (run.start + delay_of show run c rising) (time_of show run c rising) (tracked show run.cue c) m late
 
 -- runs that are over give the tracked level at the position
-pub level-over : (show : Show) (base : ℕ) (runs : List Run) (c m : ℕ) → AllByRecursion (IsOver m) runs → level show base runs c m ≡ tracked show (position base runs) c
+pub level-over : (show : Show) (base : ℕ) (runs : List Run) (c m : ℕ) → AllByRecursion (IsOver m) runs → level show base runs c m ≡ tracked show (last_cue base runs) c
 level-over show base [] c m all = refl
 level-over show base (run ∷ older) c m all =
-    either (acts show (position base older) run c) _ _ _ (run_over_by show (level show base older c) run c m all.0)
+    either (acts show (last_cue base older) run c) _ _ _ (run_over_by show (level show base older c) run c m all.0)
     (λ e. level-over show base older c m all.1 ∙ same_level run.whole (is_some (move_of show run.cue c)) _ _ e)
 
 -- Each step of a command keeps it.
 kept-added : (d : Desk) (run : Run) (pending : Option ℕ) → KeepsRest d → d.playback.moment ≤ run.start → KeepsRest (after_play d (appended d.playback run pending))
 kept-added d run pending k starts = record {
   from = k.from;
-  front = k.front;
+  older = k.older;
   all_is = ap (λ runs. run ∷ runs) k.all_is;
   base_is = k.base_is;
   still = k.still;
@@ -107,7 +107,7 @@ kept-settled d k =
     let run = run_whole d.playback (position_of d.playback) 0 in
     record {
       from = d.playback.moment;
-      front = run ∷ d.all;
+      older = run ∷ d.all;
       all_is = refl;
       base_is = refl;
       still = λ show c y late. run_at_once show (level show 0 d.all c) run c y (no_times_at_once y d late);
@@ -138,7 +138,7 @@ with_playback d p = record d { playback = p }
 kept-later : (d : Desk) (m : ℕ) (pending : Option ℕ) → KeepsRest d → d.playback.moment ≤ m → KeepsRest (with_playback d (record d.playback { moment = m; pending = pending }))
 kept-later d m pending k later = record {
   from = k.from;
-  front = k.front;
+  older = k.older;
   all_is = k.all_is;
   base_is = k.base_is;
   still = k.still;
@@ -177,11 +177,11 @@ over_later m y (run ∷ runs) late all = (omega (arith, all.0, late), over_later
 kept-at_rest : (d : Desk) → KeepsRest d → AllByRecursion (IsOver d.playback.moment) d.playback.live → KeepsRest (with_playback d (at_rest d.playback))
 kept-at_rest d k over = record {
   from = d.playback.moment;
-  front = d.all;
+  older = d.all;
   all_is = refl;
-  base_is = ap (λ runs. position 0 runs) k.all_is ∙ position_over d.playback.base d.playback.live k.front k.base_is;
+  base_is = ap (λ runs. last_cue 0 runs) k.all_is ∙ last_cue-over d.playback.base d.playback.live k.older k.base_is;
   still = λ show c y late. ap (λ runs. level show 0 runs c y) k.all_is
-      ∙ level-rest show d.playback.base k.from d.playback.live k.front c y k.base_is (k.still show c) k.later (omega (arith, k.begun, late))
+      ∙ level-rest show d.playback.base k.from d.playback.live k.older c y k.base_is (k.still show c) k.later (omega (arith, k.begun, late))
       ∙ level-over show d.playback.base d.playback.live c y (over_later d.playback.moment y d.playback.live late over);
   later = tt;
   begun = omega arith;
@@ -201,8 +201,8 @@ kept-rested d k =
 
 kept-ticked : (d : Desk) → KeepsRest d → KeepsRest (after_play d (ticked d.show d.playback))
 kept-ticked d k =
-    let later = with_playback d (record d.playback { moment = d.playback.moment + 2 }) in
-    kept-rested (after_play later (followed d.show later.playback)) (kept-followed later (kept-later d (d.playback.moment + 2) d.playback.pending k (omega arith)))
+    let later = with_playback d (record d.playback { moment = d.playback.moment + TICK_STEP }) in
+    kept-rested (after_play later (followed d.show later.playback)) (kept-followed later (kept-later d (d.playback.moment + TICK_STEP) d.playback.pending k (omega arith)))
 
 kept-tick : (d : Desk) → KeepsRest d → IfOk (tick d.show d.playback) (λ played. KeepsRest (after_play d played))
 kept-tick d k = elim (d.playback.moment == TICK_END) as (λ b. IfOk (cond b (Err (TickLimit TICK_END)) (Ok (ticked d.show d.playback))) (λ played. KeepsRest (after_play d played))) [
@@ -217,7 +217,7 @@ after_played d (Err refusal) k = tt
 
 -- it says nothing of the show, the faders and the master
 kept-beside : (d : Desk) (show : Show) (faders : List ℕ) (master : ℕ) → KeepsRest d → KeepsRest (record d { show = show; faders = faders; master = master })
-kept-beside d show faders master k = record { from = k.from; front = k.front; all_is = k.all_is; base_is = k.base_is; still = k.still; later = k.later; begun = k.begun }
+kept-beside d show faders master k = record { from = k.from; older = k.older; all_is = k.all_is; base_is = k.base_is; still = k.still; later = k.later; begun = k.begun }
 
 after_edit : (d : Desk) (r : Result Show Refusal) → KeepsRest d → IfOk (r >>= (λ show. Ok (record d { show = show }))) KeepsRest
 after_edit d (Ok show) k = kept-beside d show d.faders d.master k
@@ -233,7 +233,7 @@ kept-step d (commands.Key (Master level)) k = kept-beside d d.show d.faders leve
 kept-step d commands.Tick k = after_played d (tick d.show d.playback) (kept-tick d k)
 
 pub kept-opened : (show : Show) → KeepsRest (opened show)
-kept-opened show = record { from = 0; front = []; all_is = refl; base_is = refl; still = λ x c y late. refl; later = tt; begun = omega arith }
+kept-opened show = record { from = 0; older = []; all_is = refl; base_is = refl; still = λ x c y late. refl; later = tt; begun = omega arith }
 
 kept-after : (d : Desk) (r : Result Desk Refusal) → KeepsRest d → IfOk r KeepsRest → KeepsRest (result_unwrap_or r d)
 kept-after d (Ok next) k kept = kept
@@ -249,7 +249,7 @@ kept-replay show done = kept-fold (opened show) done (kept-opened show)
 forgotten : (d : Desk) → KeepsRest d → (show : Show) (c y : ℕ) → d.playback.moment ≤ y → level show 0 d.all c y ≡ level show d.playback.base d.playback.live c y
 forgotten d k show c y late =
     ap (λ runs. level show 0 runs c y) k.all_is
-    ∙ level-rest show d.playback.base k.from d.playback.live k.front c y k.base_is (k.still show c) k.later (omega (arith, k.begun, late))
+    ∙ level-rest show d.playback.base k.from d.playback.live k.older c y k.base_is (k.still show c) k.later (omega (arith, k.begun, late))
 
 -- After every list of commands, the live runs over the base give the level that all runs give.
 pub level-replay : (opening : Show) (done : List Command) (show : Show) (c y : ℕ) → (replay opening done).playback.moment ≤ y → level show 0 (replay opening done).all c y ≡ level show (replay opening done).playback.base (replay opening done).playback.live c y

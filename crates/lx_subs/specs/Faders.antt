@@ -1,8 +1,5 @@
 -- What a rack of faders holds, and the show for whose submasters it stands.
 use Rattle.std.specs.Prelude.{ℕ, List}
-use Rattle.std.specs.Option.{option_map_or}
-use Rattle.lx_spec.specs.declared.Member.{Member}
-use Rattle.lx_spec.specs.SortedList.{entry_at}
 use Rattle.lx_spec.specs.Show.{Show}
 use Rattle.lx_spec.specs.Output.{contribution}
 use Rattle.lx_mixer.specs.Table.{IsTable}
@@ -15,7 +12,3 @@ pub record Faders : Type 0 where
 -- the rack has what the show's submasters give each channel, at its faders
 abbrev pub StandsForSubs : Show → Faders → Type 0
 StandsForSubs show rack = IsTable show.channels (contribution show rack.faders) rack.given
-
--- the channel's level among these members, or 0
-abbrev pub level_among : List Member → ℕ → ℕ
-level_among members c = option_map_or (λ m. m.level) (entry_at (λ m. m.chan) c members) 0

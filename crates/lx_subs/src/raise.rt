@@ -7,7 +7,7 @@ ghost use Rattle.lx_base.specs.Numbers.{scaled};
 ghost use Rattle.lx_spec.specs.Show.{ValidMembers};
 ghost use Rattle.lx_spec.specs.Output.{contribution};
 ghost use Rattle.lx_mixer.specs.Table.{IsTable};
-ghost use Rattle.lx_subs.specs.Faders.{level_among};
+ghost use Rattle.lx_spec.specs.Output.{level_among};
 
 use lx_base::{Level, SUBS, scale};
 use lx_show::{Member, Show};

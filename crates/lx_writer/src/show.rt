@@ -11,7 +11,7 @@ use lx_io::{Sink, SinkFault, put_all};
 use lx_show::{PatchRow, Show};
 
 /// Appends the canonical text of a show, in the form of the ASCII text representation 3.0: the channel count, the
-/// patch rows, the groups, the submasters and the cues, each rising by number, and `ENDDATA`. It takes no memory. A
+/// patch rows, the groups, the submasters and the cues, each sorted by number, and `ENDDATA`. It takes no memory. A
 /// fault is the sink's own, and then a front of the text was appended.
 pub fn write_show<K: Sink>(show: &Show, sink: &mut K) -> Result<(), SinkFault>
     ensures { Puts K.holds K.faults K.wants sink.old sink.new result (show_text show.now) }

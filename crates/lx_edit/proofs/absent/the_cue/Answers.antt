@@ -1,7 +1,7 @@
 use Rattle.std.proofs.Common.{◌≡◌, ℕ, List, Some, ap, sym, subst}
 use Rattle.lx_spec.specs.Show.{Cue}
 use Rattle.lx_spec.specs.SortedList.{entry_at}
-use Rattle.lx_show.proofs.RisingLists.{found_number}
+use Rattle.lx_show.proofs.SortedLists.{found_number}
 use Rattle.lx_show.proofs.Placed.{placed_same}
 use Rattle.lx_edit.proofs.absent.the_cue.Goals as goal
 
@@ -16,5 +16,5 @@ returns-in-Some c =
       found = found;
       number = sym number;
       valid = c.in-Some.ensures.valid;
-      same = ap (λ (cues : List Cue). record show { cues = cues }) (placed_same (λ (x : Cue). x.number) cue show.cues c.channels.ensures.valid.cues_rise there);
+      same = ap (λ (cues : List Cue). record show { cues = cues }) (placed_same (λ (x : Cue). x.number) cue show.cues c.channels.ensures.valid.cues_sorted there);
     }

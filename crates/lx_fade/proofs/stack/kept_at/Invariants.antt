@@ -1,5 +1,5 @@
 use Rattle.std.proofs.Common.{◌≡◌, ◌≤◌}
-use Rattle.lx_spec.specs.Fades.{begun_by}
+use Rattle.lx_fade.specs.Fades.{begun_by}
 use Rattle.lx_fade.specs.Row.{stack_in}
 use Rattle.lx_fade.proofs.stack.kept_at.Given as goal
 

@@ -1,7 +1,7 @@
 use Rattle.std.proofs.Common.{Some}
 use Rattle.std.specs.Prelude.{◌==◌}
 use Rattle.lx_spec.specs.Show.{ValidPart}
-use Rattle.lx_show.proofs.RisingLists.{lent_has}
+use Rattle.lx_show.proofs.SortedLists.{lent_has}
 use Rattle.lx_reader.proofs.times.part_in.Goals as goal
 
 pub returns-clause-valid : goal.returns-clause-valid

@@ -11,7 +11,7 @@ pub row_in-requires-clause-there : goal.row_in-requires-clause-there
 row_in-requires-clause-there g c =
     let cues : List Cue = c.args.show.now.cues in
     let within : c.loop-cue.cue-index < length cues = omega (arith, ap length c.cues-cue-items.ensures.cues, c.loop-cue-test.true) in
-    entry_there (λ (x : Cue). x.number) cues c.loop-cue.cue-index c.cue-item.result c.cues-cue-items.ensures.valid.cues_rise within (c.cue-item.is ∙ ap (λ (xs : List Cue). get_or xs c.loop-cue.cue-index c.cue-item.result) c.cues-cue-items.ensures.cues)
+    entry_there (λ (x : Cue). x.number) cues c.loop-cue.cue-index c.cue-item.result c.cues-cue-items.ensures.valid.cues_sorted within (c.cue-item.is ∙ ap (λ (xs : List Cue). get_or xs c.loop-cue.cue-index c.cue-item.result) c.cues-cue-items.ensures.cues)
 
 pub loop-cue-preserved : goal.loop-cue-preserved
 loop-cue-preserved g c =

@@ -1,7 +1,7 @@
 use Rattle.std.proofs.Common.{◌+◌, ◌*◌, ◌≤◌, List, ℕ, length, ap, ◌∙◌, arith}
 use Rattle.lx_base.specs.declared.TheConstants.{CUES}
 use Rattle.std.proofs.Math.Nat.{mul-le-mul_right}
-use Rattle.lx_sheet.specs.Block.{cell, level_among}
+use Rattle.lx_sheet.specs.Block.{cell, level_in_look}
 use Rattle.lx_sheet.proofs.Cells.{row_here, row_other}
 use Rattle.lx_sheet.proofs.block.write_row.Goals as goal
 
@@ -10,7 +10,7 @@ unfolding cell
 returns-clause-here c = λ chan.
     let len : ℕ = length c.args.look.now in
     let within : c.args.place * len ≤ length c.args.levels.now = omega (arith, mul-le-mul_right {m = c.args.place} {n = CUES} len (omega arith)) in
-    ap (λ (xs : List ℕ). level_among xs chan)
+    ap (λ (xs : List ℕ). level_in_look xs chan)
     (row_here len c.args.levels.now c.copy_from_slice.new.self c.args.place ((c.args.place + 1) * len) (omega arith) within (omega (arith, ap length c.copy_from_slice.ensures.after)) ∙ c.copy_from_slice.ensures.after)
 
 pub returns-clause-others : goal.returns-clause-others
@@ -18,5 +18,5 @@ unfolding cell
 returns-clause-others c = λ k chan other.
     let len : ℕ = length c.args.look.now in
     let within : c.args.place * len ≤ length c.args.levels.now = omega (arith, mul-le-mul_right {m = c.args.place} {n = CUES} len (omega arith)) in
-    ap (λ (xs : List ℕ). level_among xs chan)
+    ap (λ (xs : List ℕ). level_in_look xs chan)
     (row_other len c.args.levels.now c.copy_from_slice.new.self k c.args.place ((c.args.place + 1) * len) (omega arith) within (omega (arith, ap length c.copy_from_slice.ensures.after)) other)

@@ -8,7 +8,7 @@ use Rattle.lx_sheet.proofs.tests.unblock.Goals as goal
 
 pub changed-requires-clause-numbers : goal.changed-requires-clause-numbers
 changed-requires-clause-numbers c =
-    c.requires.numbers ∙ sym (ap cue_numbers c.set_block.ensures ∙ numbers-changed (λ (x : Cue). x.number) c.args.n (λ (x : Cue). record x { block = false }) c.args.show.now.cues c.channels.ensures.valid.cues_rise (λ x. refl))
+    c.requires.numbers ∙ sym (ap cue_numbers c.set_block.ensures ∙ numbers-changed (λ (x : Cue). x.number) c.args.n (λ (x : Cue). record x { block = false }) c.args.show.now.cues c.channels.ensures.valid.cues_sorted (λ x. refl))
 
 pub changed-requires-clause-below : goal.changed-requires-clause-below
 changed-requires-clause-below c = λ n less.

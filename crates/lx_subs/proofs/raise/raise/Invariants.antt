@@ -1,6 +1,6 @@
 use Rattle.std.proofs.Common.{◌≡◌, ℕ, ◌<◌, ◌+◌, get_or, max, take, length}
 use Rattle.lx_base.specs.Numbers.{scaled}
-use Rattle.lx_subs.specs.Faders.{level_among}
+use Rattle.lx_spec.specs.Output.{level_among}
 use Rattle.lx_subs.proofs.raise.raise.Given as goal
 
 abbrev pub invariant-loop-member : goal.invariant-loop-member

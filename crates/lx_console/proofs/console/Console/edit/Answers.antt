@@ -1,5 +1,5 @@
 use Rattle.std.proofs.Common.{ℕ, List, subst, sym}
-use Rattle.lx_spec.specs.Stands.{Kept}
+use Rattle.lx_spec.specs.Kept.{Kept}
 use Rattle.lx_console.specs.Filled.{IsFilledBut}
 use Rattle.lx_console.proofs.Touched.{touched, untouched, same_given, same_reach}
 use Rattle.lx_console.proofs.console.Console.edit.Goals as goal

@@ -1,7 +1,7 @@
 use Rattle.std.proofs.Common.{ℕ, List, sym, subst}
 use Rattle.lx_base.specs.declared.TheConstants.{SLOTS}
 use Rattle.lx_spec.specs.Output.{dimmer_value}
-use Rattle.lx_spec.specs.Stands.{Kept}
+use Rattle.lx_spec.specs.Kept.{Kept}
 use Rattle.lx_mixer.specs.Table.{IsTable}
 use Rattle.lx_console.specs.Standing.{out_now}
 use Rattle.lx_console.proofs.AllRuns.{frame_of_all}
@@ -9,5 +9,5 @@ use Rattle.lx_console.proofs.console.Console.frames.Goals as goal
 
 pub returns-clause-frames : goal.returns-clause-frames
 returns-clause-frames c = λ d u stands. frame_of_all d c.args.self.now c.as_slice.result.now u stands
-    (subst (λ (slots : List ℕ). IsTable SLOTS (dimmer_value c.args.self.now.show (out_now c.args.self.now)) slots) (sym c.as_slice.ensures.value)
-    (subst (λ (k : Kept). IsTable SLOTS (dimmer_value k.show (out_now k)) c.self.inside.stage.slots.items) c.self.view_is c.self.invariant.filled.slots_stand))
+    (subst (λ (slots : List ℕ). IsTable SLOTS (dimmer_value c.args.self.now.show.patch (out_now c.args.self.now)) slots) (sym c.as_slice.ensures.value)
+    (subst (λ (k : Kept). IsTable SLOTS (dimmer_value k.show.patch (out_now k)) c.self.inside.stage.slots.items) c.self.view_is c.self.invariant.filled.slots_stand))

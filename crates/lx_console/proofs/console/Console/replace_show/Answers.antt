@@ -1,6 +1,6 @@
 use Rattle.std.proofs.Common.{ℕ, List, subst, sym}
 use Rattle.lx_spec.specs.Show.{Show}
-use Rattle.lx_spec.specs.Stands.{Kept}
+use Rattle.lx_spec.specs.Kept.{Kept}
 use Rattle.lx_console.specs.Standing.{StandsFor}
 use Rattle.lx_console.proofs.Obeying.{stands_over}
 use Rattle.lx_console.proofs.console.Console.replace_show.Goals as goal

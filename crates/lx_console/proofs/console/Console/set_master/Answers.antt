@@ -1,4 +1,4 @@
-use Rattle.lx_spec.specs.Stands.{Kept}
+use Rattle.lx_spec.specs.Kept.{Kept}
 use Rattle.lx_console.proofs.Filling.{filled}
 use Rattle.lx_console.proofs.console.Console.set_master.Goals as goal
 

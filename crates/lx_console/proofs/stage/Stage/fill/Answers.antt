@@ -1,5 +1,5 @@
 use Rattle.std.proofs.Common.{subst, sym}
-use Rattle.lx_spec.specs.Stands.{Kept}
+use Rattle.lx_spec.specs.Kept.{Kept}
 use Rattle.lx_patch.specs.Patched.{StandsForPatch}
 use Rattle.lx_console.proofs.Filling.{filled}
 use Rattle.lx_console.proofs.stage.Stage.fill.Goals as goal

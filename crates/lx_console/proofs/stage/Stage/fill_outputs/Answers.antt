@@ -1,7 +1,7 @@
 use Rattle.std.proofs.Common.{◌-◌, ◌≤◌, ◌++◌, take, drop, List, ℕ, arith, length, get_or, subst, sym}
 use Rattle.lx_base.specs.declared.TheConstants.{SLOTS}
 use Rattle.lx_mixer.specs.Table.{IsTable}
-use Rattle.lx_patch.specs.Patched.{slot_of}
+use Rattle.lx_spec.specs.Output.{dimmer_value}
 use Rattle.lx_patch.proofs.Frames.{reaches}
 use Rattle.lx_console.proofs.Filling.{written}
 use Rattle.lx_console.proofs.stage.Stage.fill_outputs.Goals as goal
@@ -14,5 +14,5 @@ frame_into-requires-clause-reach c =
 pub returns-clause-slots : goal.returns-clause-slots
 returns-clause-slots c =
     let rows = c.args.show.now.patch in
-    let slots = subst (IsTable SLOTS (slot_of rows (λ n. get_or c.deref-2.result.now (n - 1) 0))) (sym (written c.args.self.now.slots.len c.frame_into.new.slots c.args.self.now.slots.items (omega arith))) (c.frame_into.ensures rows c.requires.patch) in
-    subst (λ (outs : List ℕ). IsTable SLOTS (slot_of rows (λ n. get_or outs (n - 1) 0)) (take c.args.self.now.slots.len (c.frame_into.new.slots ++ drop (length c.frame_into.new.slots) c.args.self.now.slots.items))) c.deref-2.ensures.value slots
+    let slots = subst (IsTable SLOTS (dimmer_value rows (λ n. get_or c.deref-2.result.now (n - 1) 0))) (sym (written c.args.self.now.slots.len c.frame_into.new.slots c.args.self.now.slots.items (omega arith))) (c.frame_into.ensures rows c.requires.patch) in
+    subst (λ (outs : List ℕ). IsTable SLOTS (dimmer_value rows (λ n. get_or outs (n - 1) 0)) (take c.args.self.now.slots.len (c.frame_into.new.slots ++ drop (length c.frame_into.new.slots) c.args.self.now.slots.items))) c.deref-2.ensures.value slots

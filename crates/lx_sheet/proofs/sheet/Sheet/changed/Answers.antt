@@ -36,9 +36,9 @@ returns-then-get-self-clause-column c =
     let written = with_items_is c.self.inside.levels new (omega arith) in
     let numbers : map (λ (p : Place). p.cue) order ≡ cue_numbers show = sym (numbers-rows_of channels order old) ∙ ap numbers_of c.self.view_is ∙ c.requires.numbers in
     let filled : IsFilledFrom show from channels order order old new = record {
-      before_rises = c.self.invariant.rise;
-      after_rises = c.self.invariant.rise;
-      cues_rise = c.cues-cues.ensures.valid.cues_rise;
+      before_sorted = c.self.invariant.sorted;
+      after_sorted = c.self.invariant.sorted;
+      cues_sorted = c.cues-cues.ensures.valid.cues_sorted;
       below = ap (entries_below (λ n. n) from) numbers;
       numbers = numbers;
     } in
@@ -62,9 +62,9 @@ returns-then-get-self-clause-others c = λ n chan other.
     let new : List ℕ = c.fill_column.new.levels in
     let written = with_items_is c.self.inside.levels new (omega arith) in
     ap (λ (xs : List ℕ). level_of (sheet_of channels order xs) n chan) written
-    ∙ level_of_block channels order new n chan c.self.invariant.rise
+    ∙ level_of_block channels order new n chan c.self.invariant.sorted
     ∙ last_value_same (count_up_to n (map (λ (p : Place). p.cue) order)) _ _ (λ k less. c.fill_column.ensures.others k chan other ∙ ap (λ (xs : List ℕ). cell channels xs k chan) c.deref_mut.ensures.value)
-    ∙ sym (level_of_block channels order old n chan c.self.invariant.rise)
+    ∙ sym (level_of_block channels order old n chan c.self.invariant.sorted)
     ∙ ap (λ (s : Sheet). level_of s n chan) c.self.view_is
 
 pub returns-then-get-self-clause-numbers : goal.returns-then-get-self-clause-numbers
@@ -74,5 +74,5 @@ pub returns-else-get-self-clause-column : goal.returns-else-get-self-clause-colu
 returns-else-get-self-clause-column c = λ n.
     let past : c.self.inside.channels < c.args.chan = omega (arith, c.get.ensures.value) in
     let channels : c.self.inside.channels ≡ c.args.show.now.channels = ap (λ (s : Sheet). s.channels) c.self.view_is ∙ c.requires.channels in
-    sym (ap (λ (s : Sheet). level_of s n c.args.chan) c.self.view_is) ∙ level_of_past c.self.inside.channels c.self.inside.order.items c.self.inside.levels.items n c.args.chan c.self.invariant.rise past
+    sym (ap (λ (s : Sheet). level_of s n c.args.chan) c.self.view_is) ∙ level_of_past c.self.inside.channels c.self.inside.order.items c.self.inside.levels.items n c.args.chan c.self.invariant.sorted past
     ∙ sym (tracked_past c.args.show.now n c.args.chan c.cues-cues.ensures.valid (omega (arith, channels, past)))

@@ -1,6 +1,6 @@
 use Rattle.std.proofs.Common.{◌≡◌, ℕ, ◌+◌, ◌-◌, ◌<◌, List, length, map, ap, sym, ◌∙◌, arith}
 use Rattle.lx_show.specs.Around.{entries_up_to}
-use Rattle.lx_show.proofs.RisingLists.{shorter}
+use Rattle.lx_show.proofs.SortedLists.{shorter}
 use Rattle.std.specs.Prelude.{nat_le}
 use Rattle.lx_sheet.specs.declared.sheet.Place.{Place}
 use Rattle.lx_sheet.specs.Rows.{Sheet, level_of}
@@ -12,7 +12,7 @@ use Rattle.lx_sheet.proofs.sheet.Sheet.level_at.Goals as goal
 pub returns-then-at-self-clause-level : goal.returns-then-at-self-clause-level
 returns-then-at-self-clause-level c =
     let past : c.self.inside.channels < c.args.c = omega (arith, c.get.ensures.value, c.get.ensures.least) in
-    sym (level_of_past c.self.inside.channels c.self.inside.order.items c.self.inside.levels.items c.args.n c.args.c c.self.invariant.rise past) ∙ ap (λ (s : Sheet). level_of s c.args.n c.args.c) c.self.view_is
+    sym (level_of_past c.self.inside.channels c.self.inside.order.items c.self.inside.levels.items c.args.n c.args.c c.self.invariant.sorted past) ∙ ap (λ (s : Sheet). level_of s c.args.n c.args.c) c.self.view_is
 
 pub returns-then-at-self-clause-stands : goal.returns-then-at-self-clause-stands
 returns-then-at-self-clause-stands c = λ show stands. returns-then-at-self-clause-level c ∙ stands.columns c.args.c c.args.n
@@ -33,7 +33,7 @@ returns-clause-level c =
     ∙ ap (λ n. last_value (length c.up_to-rows.result.now) (λ k. cell c.self.inside.channels c.as_slice-2.result.now k n)) chan
     ∙ ap (λ (xs : List ℕ). last_value (length c.up_to-rows.result.now) (λ k. cell c.self.inside.channels xs k c.args.c)) c.as_slice-2.ensures.value
     ∙ ap (λ n. last_value n (λ k. cell c.self.inside.channels c.self.inside.levels.items k c.args.c)) rows
-    ∙ sym (level_of_block c.self.inside.channels order c.self.inside.levels.items c.args.n c.args.c c.self.invariant.rise)
+    ∙ sym (level_of_block c.self.inside.channels order c.self.inside.levels.items c.args.n c.args.c c.self.invariant.sorted)
     ∙ ap (λ (s : Sheet). level_of s c.args.n c.args.c) c.self.view_is
 
 pub returns-clause-stands : goal.returns-clause-stands

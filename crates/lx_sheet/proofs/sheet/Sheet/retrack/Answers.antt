@@ -3,15 +3,15 @@ use Rattle.std.specs.List.{length_refill}
 use Rattle.std.specs.Vec.{with_items}
 use Rattle.std.proofs.lemmas.List.{length-map, with_items_is}
 use Rattle.lx_spec.specs.Show.{Cue}
-use Rattle.lx_spec.specs.SortedList.{Rises, entries_below}
+use Rattle.lx_spec.specs.SortedList.{IsStrictlySorted, entries_below}
 use Rattle.lx_spec.specs.TrackedLevel.{tracked}
 use Rattle.lx_sheet.specs.declared.sheet.Place.{Place}
 use Rattle.lx_sheet.specs.Rows.{Sheet, level_of, numbers_of}
-use Rattle.lx_sheet.specs.Block.{cell, last_value, level_among, place_of_cue}
+use Rattle.lx_sheet.specs.Block.{cell, last_value, level_in_look, place_of_cue}
 use Rattle.lx_sheet.specs.After.{level_after}
 use Rattle.lx_sheet.specs.Standing.{cue_numbers}
 use Rattle.lx_sheet.proofs.Columns.{IsFilledFrom, count_under, count_under-map, count_under_within, starts_right, column_right}
-use Rattle.lx_sheet.proofs.EditedShows.{numbers-listed, Rises-listed}
+use Rattle.lx_sheet.proofs.EditedShows.{numbers-listed, IsStrictlySorted-listed}
 use Rattle.lx_sheet.proofs.Rows.{sheet_of, numbers-rows_of}
 use Rattle.lx_sheet.proofs.sheet.Sheet.retrack.Goals as goal
 
@@ -24,7 +24,7 @@ invariant_of-self c =
     let written = with_items_is c.self.inside.levels c.fill_rows.new.levels (omega arith) in
     record {
       few = c.self.invariant.few;
-      rise = subst (λ (xs : List Place). Rises (λ p. p.cue) xs) (sym (c.list_cues.ensures.order ∙ ap (map place_of_cue) c.cues-cues.ensures.cues)) (Rises-listed c.args.show.now.cues c.cues-cues.ensures.valid.cues_rise);
+      sorted = subst (λ (xs : List Place). IsStrictlySorted (λ p. p.cue) xs) (sym (c.list_cues.ensures.order ∙ ap (map place_of_cue) c.cues-cues.ensures.cues)) (IsStrictlySorted-listed c.args.show.now.cues c.cues-cues.ensures.valid.cues_sorted);
       rows = omega (arith, ap length c.list_cues.ensures.order, length-map c.cues-cues.result.now place_of_cue, ap length c.cues-cues.ensures.cues, c.cues-cues.ensures.valid.few_cues);
       row_room = omega (arith, c.list_cues.ensures.room, c.self.invariant.row_room);
       level_room = omega (arith, ap length written);
@@ -50,9 +50,9 @@ returns c = λ stands.
     let listed : after ≡ map place_of_cue show.cues = c.list_cues.ensures.order ∙ ap (map place_of_cue) of_cues in
     let numbers : map (λ (p : Place). p.cue) after ≡ cue_numbers show = ap (map (λ (p : Place). p.cue)) listed ∙ numbers-listed show.cues in
     let filled : IsFilledFrom show from channels before after old new = record {
-      before_rises = c.self.invariant.rise;
-      after_rises = subst (λ (xs : List Place). Rises (λ p. p.cue) xs) (sym listed) (Rises-listed show.cues c.cues-cues.ensures.valid.cues_rise);
-      cues_rise = c.cues-cues.ensures.valid.cues_rise;
+      before_sorted = c.self.invariant.sorted;
+      after_sorted = subst (λ (xs : List Place). IsStrictlySorted (λ p. p.cue) xs) (sym listed) (IsStrictlySorted-listed show.cues c.cues-cues.ensures.valid.cues_sorted);
+      cues_sorted = c.cues-cues.ensures.valid.cues_sorted;
       below = ap (entries_below (λ n. n) from) (sym (numbers-rows_of channels before old) ∙ ap numbers_of c.self.view_is) ∙ stands.numbers;
       numbers = numbers;
     } in
@@ -60,8 +60,8 @@ returns c = λ stands.
     let width_before : length c.deref_mut.result.now ≡ channels = omega (arith, ap length c.deref_mut.ensures.value, c.self.invariant.look_room) in
     let recalled : c.deref_mut-3.result.now ≡ c.recall.new.look = c.deref_mut-3.ensures.value ∙ with_items_is c.self.inside.look c.recall.new.look (omega arith) in
     let width : length c.deref_mut-3.result.now ≡ channels = omega (arith, ap length recalled, width_before) in
-    let starts : (chan : ℕ) → level_among c.deref_mut-3.result.now chan ≡ level_after (take first cues) chan = λ chan.
-    ap (λ (xs : List ℕ). level_among xs chan) recalled
+    let starts : (chan : ℕ) → level_in_look c.deref_mut-3.result.now chan ≡ level_after (take first cues) chan = λ chan.
+    ap (λ (xs : List ℕ). level_in_look xs chan) recalled
     ∙ c.recall.ensures chan
     ∙ ap (λ n. last_value first (λ k. cell n c.deref.result.now k chan)) width_before
     ∙ ap (λ (xs : List ℕ). last_value first (λ k. cell channels xs k chan)) c.deref.ensures.value

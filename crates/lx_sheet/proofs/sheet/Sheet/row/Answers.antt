@@ -1,6 +1,7 @@
 use Rattle.std.proofs.Common.{◌≡◌, ℕ, ◌+◌, ◌-◌, ◌*◌, List, take, drop, ap, sym, ◌∙◌, subst, arith, Some, None}
 use Rattle.std.specs.Prelude.{option_map}
-use Rattle.lx_spec.specs.SortedList.{StandsAt, entry_at}
+use Rattle.lx_spec.specs.SortedList.{entry_at}
+use Rattle.lx_show.specs.Indexes.{StandsAt}
 use Rattle.lx_spec.specs.Replies.{row_of}
 use Rattle.lx_sheet.specs.declared.sheet.Place.{Place}
 use Rattle.lx_sheet.specs.Rows.{Sheet, row_at, numbers_of}
@@ -27,7 +28,7 @@ returns-in-Ok-clause-row c =
     let channels : ℕ = c.self.inside.channels in
     let place = place_is c.args.n c.get.result c.in-Ok.at c.as_slice.result.now order c.get.ensures.value c.as_slice.ensures.value c.in-Ok.ensures.stands in
     ap Some (part channels c.in-Ok.at c.deref.result.now levels c.deref.ensures.value)
-    ∙ row_found channels order levels c.args.n c.in-Ok.at c.self.invariant.rise place
+    ∙ row_found channels order levels c.args.n c.in-Ok.at c.self.invariant.sorted place
     ∙ ap (λ (s : Sheet). option_map (λ row. row.levels) (row_at s c.args.n)) c.self.view_is
 
 pub returns-in-Ok-clause-stands : goal.returns-in-Ok-clause-stands
@@ -37,7 +38,7 @@ returns-in-Ok-clause-stands c = λ show stands.
     let channels : ℕ = c.self.inside.channels in
     let place = place_is c.args.n c.get.result c.in-Ok.at c.as_slice.result.now order c.get.ensures.value c.as_slice.ensures.value c.in-Ok.ensures.stands in
     ap Some (part channels c.in-Ok.at c.deref.result.now levels c.deref.ensures.value)
-    ∙ cue_found show channels order levels c.args.n c.in-Ok.at c.self.invariant.level_room c.self.invariant.rows c.self.invariant.rise place (subst (StandsFor show) (sym c.self.view_is) stands)
+    ∙ cue_found show channels order levels c.args.n c.in-Ok.at c.self.invariant.level_room c.self.invariant.rows c.self.invariant.sorted place (subst (StandsFor show) (sym c.self.view_is) stands)
 
 pub returns-in-Err-clause-row : goal.returns-in-Err-clause-row
 returns-in-Err-clause-row c =

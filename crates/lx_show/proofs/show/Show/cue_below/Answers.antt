@@ -5,7 +5,7 @@ use Rattle.std.specs.List.{AllByRecursion}
 use Rattle.lx_spec.specs.Show.{Cue, Show, ValidCue}
 use Rattle.lx_spec.specs.TrackedLevel.{cue_below}
 use Rattle.lx_show.proofs.Finding.{find_last}
-use Rattle.lx_show.proofs.RisingLists.{lent_has, all_reverse}
+use Rattle.lx_show.proofs.SortedLists.{lent_has, all_reverse}
 use Rattle.lx_show.proofs.show.Show.cue_below.Goals as goal
 
 found : (c : goal.After-last) → option_copied c.last.result ≡ cue_below c.args.self.now c.args.n

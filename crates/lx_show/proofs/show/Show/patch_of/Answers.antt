@@ -3,7 +3,7 @@ use Rattle.std.specs.Prelude.{◌==◌, List, find}
 use Rattle.std.specs.List.{AllByRecursion}
 use Rattle.lx_spec.specs.Show.{Show, ValidPatchRow}
 use Rattle.lx_spec.specs.declared.PatchRow.{PatchRow}
-use Rattle.lx_show.proofs.RisingLists.{found_has}
+use Rattle.lx_show.proofs.SortedLists.{found_has}
 use Rattle.lx_show.proofs.show.Show.patch_of.Goals as goal
 
 pub returns-clause-valid : goal.returns-clause-valid

@@ -13,4 +13,4 @@ pub invariant_of-self : goal.invariant_of-self
 invariant_of-self c =
     let within : c.args.row.chan ≤ c.self.inside.channels = subst (λ (s : Show). c.args.row.chan ≤ s.channels) (sym c.self.view_is) c.requires in
     let valid : ValidPatchRow c.self.inside.channels c.args.row = record { dimmer = c.of_row.ensures.dimmer; chan = record { least = c.of_row.ensures.chan.least; most = within }; level = c.of_row.ensures.level } in
-    stored_put_row _ c.args.row _ _ _ _ _ _ c.self.invariant c.put_in_room.ensures.capacity valid c.put_in_room.ensures.items c.put_in_room.ensures.rises
+    stored_put_row _ c.args.row _ _ _ _ _ _ c.self.invariant c.put_in_room.ensures.capacity valid c.put_in_room.ensures.items c.put_in_room.ensures.sorted

@@ -2,10 +2,10 @@ use Rattle.std.proofs.Common.{◌≡◌, ◌∙◌, ap, sym, subst, ℕ, map, tr
 use Rattle.std.proofs.lemmas.List.{length-map, with_items_is}
 use Rattle.std.specs.Prelude.{◌==◌}
 use Rattle.lx_spec.specs.declared.Move.{Move}
-use Rattle.lx_spec.specs.SortedList.{Rises}
+use Rattle.lx_spec.specs.SortedList.{IsStrictlySorted}
 use Rattle.lx_spec.specs.EditedShow.{out_of_part}
-use Rattle.lx_show.proofs.RisingLists.{Rises-map}
-use Rattle.lx_show.proofs.moves.RisingList+Move.leave_part.Goals as goal
+use Rattle.lx_show.proofs.SortedLists.{IsStrictlySorted-map}
+use Rattle.lx_show.proofs.moves.SortedList+Move.leave_part.Goals as goal
 
 same_channel : (p : ℕ) (m : Move) → (out_of_part p m).chan ≡ m.chan
 same_channel p m = elim (m.part == p) as (λ b. (cond b (record m { part = 1 }) m).chan ≡ m.chan) [ true ↦ refl | false ↦ refl ]
@@ -15,4 +15,4 @@ invariant_of-self c =
     let xs = c.self.inside.entries.items in
     let same : c.leave_part.new.moves ≡ map (out_of_part c.args.part) xs = c.leave_part.ensures ∙ ap (map (out_of_part c.args.part)) c.deref_mut.ensures.value in
     let long : length c.leave_part.new.moves ≡ c.self.inside.entries.len = omega (arith, ap length c.leave_part.ensures, length-map c.deref_mut.result.now (out_of_part c.args.part), c.deref_mut.ensures.len) in
-    subst (Rises (λ (m : Move). m.chan)) (sym (with_items_is c.self.inside.entries c.leave_part.new.moves long ∙ same)) (Rises-map (λ (m : Move). m.chan) (out_of_part c.args.part) xs (same_channel c.args.part) c.self.invariant)
+    subst (IsStrictlySorted (λ (m : Move). m.chan)) (sym (with_items_is c.self.inside.entries c.leave_part.new.moves long ∙ same)) (IsStrictlySorted-map (λ (m : Move). m.chan) (out_of_part c.args.part) xs (same_channel c.args.part) c.self.invariant)

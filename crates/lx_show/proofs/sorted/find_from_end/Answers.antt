@@ -1,6 +1,6 @@
 use Rattle.std.proofs.Common.{◌<◌, subst}
-use Rattle.lx_show.proofs.RisingLists.{goes_last}
-use Rattle.lx_show.proofs.rising.place_from_end.Goals as goal
+use Rattle.lx_show.proofs.SortedLists.{goes_last}
+use Rattle.lx_show.proofs.sorted.find_from_end.Goals as goal
 
 pub returns-then-key-n-clause-goes : goal.returns-then-key-n-clause-goes
 returns-then-key-n-clause-goes g c =
