@@ -1,0 +1,82 @@
+-- The jobs of the program: the words that name each, what it is given, and what it writes.
+use Rattle.std.specs.Prelude.{ℕ, Bool, false, ◌==◌, Option, Some, None, Result, List, [], ◌∷◌, option_map, codes, bytes_eq, if◌then◌else◌}
+use Rattle.lx_base.specs.declared.TheConstants.{CUES}
+use Rattle.lx_spec.specs.declared.Form.{Form}
+use Rattle.lx_spec.specs.declared.Form.TheVariants.{Moves}
+use Rattle.lx_spec.specs.declared.Job.{Job}
+use Rattle.lx_spec.specs.declared.Job.TheVariants.{Check, Render, Sheet, Make}
+use Rattle.lx_spec.specs.declared.TextFault.{TextFault}
+use Rattle.lx_spec.specs.Text.{lines_of}
+use Rattle.lx_spec.specs.Numerals.{read_whole}
+use Rattle.lx_spec.specs.Phrase.{read_as}
+use Rattle.lx_spec.specs.Reading.{Reading, reads}
+use Rattle.lx_spec.specs.CutInput.{first_lines}
+use Rattle.lx_spec.specs.CheckOutput.{check_output}
+use Rattle.lx_spec.specs.SheetOutput.{sheet_output}
+use Rattle.lx_spec.specs.RenderOutput.{lines_read, render_output, input_wanted, OutputPlacesAreEdits}
+use Rattle.lx_spec.specs.MakeOutput.{made_input, make_output}
+
+-- the form that the words behind `check`, `render` and `sheet` name
+abbrev pub form_of : List (List ℕ) → Option Form
+form_of [] = Some Moves
+form_of other = None
+
+abbrev pub begins_with : ℕ → List ℕ → Bool
+begins_with c [] = false
+begins_with c (b ∷ bs) = b == c
+
+-- a count of cues, without a leading 0
+abbrev pub cues_in : List ℕ → Option ℕ
+cues_in word = if begins_with 48 word then None else read_as (read_whole 1 CUES word)
+
+abbrev pub cues_of : List (List ℕ) → Option ℕ
+cues_of (word ∷ []) = cues_in word
+cues_of other = None
+
+-- the job that a list of words names, if they are one of the forms
+abbrev pub job_of : List (List ℕ) → Option Job
+job_of [] = None
+job_of (name ∷ rest) =
+    if bytes_eq name (codes "check") then option_map Check (form_of rest)
+    else if bytes_eq name (codes "render") then option_map Render (form_of rest)
+    else if bytes_eq name (codes "sheet") then option_map Sheet (form_of rest)
+    else if bytes_eq name (codes "make") then option_map Make (cues_of rest)
+    else None
+
+-- the bytes that a job is given, where its source tells what it has left: `make` is given none
+abbrev pub given_to : Job → Option (List ℕ) → Option (List ℕ)
+given_to (Check form) left = left
+given_to (Render form) left = left
+given_to (Sheet form) left = left
+given_to (Make n) left = Some []
+
+-- the show that a job is about
+abbrev pub show_of : Job → List ℕ → Result Reading TextFault
+show_of (Check form) bytes = reads form bytes
+show_of (Render form) bytes = reads form bytes
+show_of (Sheet form) bytes = reads form bytes
+show_of (Make n) bytes = reads Moves (made_input n)
+
+-- what a job writes, where want of memory refuses the edits at these places
+abbrev pub output_of : Job → List ℕ → List ℕ → List ℕ
+output_of (Check form) bytes places = check_output form bytes
+output_of (Render form) bytes places = render_output form bytes places
+output_of (Sheet form) bytes places = sheet_output form bytes
+output_of (Make n) bytes places = make_output n places
+
+-- want of memory refuses nothing but edits that the desk accepts
+abbrev pub WantsEdits : Job → List ℕ → List ℕ → Type 0
+WantsEdits (Check form) bytes places = Unit {0}
+WantsEdits (Render form) bytes places = OutputPlacesAreEdits bytes places (reads form bytes)
+WantsEdits (Sheet form) bytes places = Unit {0}
+WantsEdits (Make n) bytes places = OutputPlacesAreEdits (made_input n) places (reads Moves (made_input n))
+
+-- the bytes of a job's input that are wanted
+abbrev pub show_wanted : List ℕ → List ℕ
+show_wanted bytes = first_lines (lines_read (lines_of bytes)) bytes
+
+abbrev pub wanted_of : Job → List ℕ → List ℕ
+wanted_of (Check form) bytes = show_wanted bytes
+wanted_of (Render form) bytes = input_wanted form bytes
+wanted_of (Sheet form) bytes = show_wanted bytes
+wanted_of (Make n) bytes = input_wanted Moves (made_input n)
