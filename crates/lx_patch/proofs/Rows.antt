@@ -1,5 +1,5 @@
 -- A table of the patch goes on standing for its rows, as they are placed and taken out.
-use Rattle.std.specs.Prelude.{◌≡◌, ℕ, ◌-◌, ◌<◌, ◌≤◌, Bool, true, false, not, ◌==◌, ◌&&◌, Option, None, List, [], ◌∷◌, find, refl}
+use Rattle.std.specs.Prelude.{◌≡◌, ℕ, ◌-◌, ◌<◌, ◌≤◌, Bool, true, false, not, ◌==◌, ◌&&◌, Option, None, List, [], ◌∷◌, find}
 use Rattle.std.specs.Option.{option_map_or}
 use Rattle.std.proofs.Common.{arith, length, get_or, drop, drop-cons, set, replicate, suc, ◌∙◌, ap, sym, inl, inr}
 use Rattle.std.proofs.lemmas.List.{length-replicate, get_or-replicate}
@@ -8,12 +8,11 @@ use Rattle.std.proofs.lemmas.Bool.Decides.{nat_tests}
 use Rattle.lx_base.specs.declared.TheConstants.{SLOTS}
 use Rattle.lx_spec.specs.declared.PatchRow.{PatchRow}
 use Rattle.lx_spec.specs.SortedList.{entry_at, placed, taken_out}
-use Rattle.lx_spec.proofs.Along.{find_none, same_number, other_number}
-use Rattle.lx_show.proofs.Finding.{find_both}
-use Rattle.lx_show.proofs.SortedLists.{each, passes}
-use Rattle.lx_show.proofs.Placed.{entry_at-placed_here, entry_at-placed_other}
 use Rattle.lx_mixer.proofs.Tables.{table_of_same, table-set}
 use Rattle.lx_patch.specs.Patched.{Patching, place_of, proportion_of, StandsForPatch}
+use Rattle.lx_spec.proofs.Comparisons.{and_known, eq_other, eq_true}
+use Rattle.lx_spec.proofs.Lists.{each, find_both, find_none, passes}
+use Rattle.lx_spec.proofs.SortedLists.{entry_at-placed_here, entry_at-placed_other}
 
 -- no dimmer is patched
 pub stands_for_none : StandsForPatch [] (record { places = replicate SLOTS 0; levels = replicate SLOTS 0 })
@@ -38,11 +37,6 @@ number_apart a n apart = grind (arith, nat_tests)
 
 apart_from : (a n m : ℕ) → (m ≡ n → ⊥) → (a == m) ≡ true → not (a == n) ≡ true
 apart_from a n m other same = grind (arith, nat_tests)
-
-and_known : (a b : Bool) → (b ≡ true → a ≡ true) → (a && b) ≡ b
-and_known true b known = refl
-and_known false true known = known refl
-and_known false false known = refl
 
 -- what is taken out isn't found
 pub gone : (n : ℕ) (rows : List PatchRow) → entry_at (λ x. x.dimmer) n (taken_out (λ x. x.dimmer) n rows) ≡ None
@@ -74,10 +68,10 @@ drop_before rows i row some within is =
 -- a row placed is found as one set before the others
 placed_first : (row : PatchRow) (rows : List PatchRow) (e : ℕ) → entry_at (λ x. x.dimmer) e (placed (λ x. x.dimmer) row rows) ≡ entry_at (λ x. x.dimmer) e (row ∷ rows)
 placed_first row rows e = elim (cases_order row.dimmer e) [
-  | inl here ↦ rw (same_number row.dimmer e here) (entry_at-placed_here (λ x. x.dimmer) e row rows here)
+  | inl here ↦ rw (eq_true row.dimmer e here) (entry_at-placed_here (λ x. x.dimmer) e row rows here)
   | inr apart ↦
       let other : row.dimmer ≡ e → ⊥ = λ same. elim apart [ inl low ↦ omega arith | inr high ↦ omega arith ] in
-      rw (other_number row.dimmer e other) (entry_at-placed_other (λ x. x.dimmer) e row rows other)
+      rw (eq_other row.dimmer e other) (entry_at-placed_other (λ x. x.dimmer) e row rows other)
 ]
 
 -- a table stands for all rows that are found alike

@@ -12,12 +12,10 @@ use Rattle.lx_spec.specs.SortedList.{IsStrictlySorted, entry_at, entries_below, 
 use Rattle.lx_spec.specs.Show.{Cue, Show, InRange}
 use Rattle.lx_spec.specs.TrackedLevel.{tracked, cue_of, cue_above}
 use Rattle.lx_spec.specs.EditedShow.{cue_only, kept_above, with_cue, with_moves, moves_for}
-use Rattle.lx_spec.proofs.Along.{tracked_on, along, tracked-along, along-append, along-past, along-same, step_in, each, filter_all, filter_none, find_none, lt_true, lt_false, other_number}
+use Rattle.lx_spec.proofs.Along.{tracked_on, along, tracked-along, along-append, along-past, along-same, step_in}
 use Rattle.lx_spec.proofs.MovesFor.{on_passing, on_other}
-
-all_append : {A : Type 0} (P : A → Type 0) (xs ys : List A) → AllByRecursion P xs → AllByRecursion P ys → AllByRecursion P (xs ++ ys)
-all_append P [] ys all more = more
-all_append P (x ∷ xs) ys all more = (all.0, all_append P xs ys all.1 more)
+use Rattle.lx_spec.proofs.Comparisons.{eq_other, lt_false, lt_true}
+use Rattle.lx_spec.proofs.Lists.{all_append, each, filter_all, filter_none, find_none}
 
 -- an entry placed between those below and above its number
 placed_between : {A : Type 0} (key : A → ℕ) (front back : List A) (x y : A) → key y ≡ key x → AllByRecursion (λ z. key z < key x) front → AllByRecursion (λ z. key x < key z) back → placed key y (front ++ (x ∷ back)) ≡ front ++ (y ∷ back)
@@ -116,7 +114,7 @@ some_differs x is = cc
 is_above : (show : Show) (n k : ℕ) (below here above : List Cue) → IsAround n show.cues below here above → n < k → cue_of show k ≡ entry_at (λ cue. cue.number) k above
 is_above show n k below here above around less =
     let none : entry_at (λ cue. cue.number) k (below ++ here) ≡ None =
-    find_none (λ (cue : Cue). cue.number == k) (below ++ here) (all_append (λ (cue : Cue). (cue.number == k) ≡ false) below here (each _ _ below (λ y h. other_number y.number k (λ same. omega (arith, h))) around.low) (each _ _ here (λ y h. other_number y.number k (λ same. omega (arith, h))) around.at)) in
+    find_none (λ (cue : Cue). cue.number == k) (below ++ here) (all_append (λ (cue : Cue). (cue.number == k) ≡ false) below here (each _ _ below (λ y h. eq_other y.number k (λ same. omega (arith, h))) around.low) (each _ _ here (λ y h. eq_other y.number k (λ same. omega (arith, h))) around.at)) in
     ap (entry_at (λ cue. cue.number) k) (around.is ∙ sym (append_assoc below here above))
     ∙ find-append (λ (cue : Cue). cue.number == k) (below ++ here) above
     ∙ ap (λ (o : Option Cue). option_or o (entry_at (λ cue. cue.number) k above)) none
@@ -127,7 +125,7 @@ not_lower x above k sorted there =
     elim (cases_lt k x.number) [
       | inl lower ↦
           let none : entry_at (λ cue. cue.number) k (x ∷ above) ≡ None =
-          find_none (λ (cue : Cue). cue.number == k) (x ∷ above) (other_number x.number k (λ same. omega arith), each _ _ above (λ y h. other_number y.number k (λ same. omega (arith, h))) sorted.0) in
+          find_none (λ (cue : Cue). cue.number == k) (x ∷ above) (eq_other x.number k (λ same. omega arith), each _ _ above (λ y h. eq_other y.number k (λ same. omega (arith, h))) sorted.0) in
           absurd (false≢true (sym (ap is_some none) ∙ there))
       | inr le ↦ le
     ]

@@ -15,9 +15,11 @@ use Rattle.lx_spec.specs.Show.{Cue, Show, Valid, ValidCue, InRange}
 use Rattle.lx_spec.specs.TrackedLevel.{tracked, cue_of, move_in, level_in}
 use Rattle.lx_spec.specs.EditedShow.{edited, cue_only, the_cue, the_given_part, the_channels, the_group, the_moves, with_cue, without_cue, with_levels, without_moves, all_at, in_proportion, with_moves, moves_for, blocked, unblocked}
 use Rattle.lx_spec.specs.Laws.{cue_alone, is_block_edit}
-use Rattle.lx_spec.proofs.Along.{tracked_on, along, tracked-along, along-append, along-past, along-same, step_in, step_out, each, all_below, all_above, found_number, split_there, split_without, IsStrictlySorted-filter}
+use Rattle.lx_spec.proofs.Along.{tracked_on, along, tracked-along, along-append, along-past, along-same, step_in, step_out}
 use Rattle.lx_spec.proofs.MovesFor.{on_passing, on_other}
 use Rattle.lx_spec.proofs.CueOnly.{IsAround, kept_alone, tracked_low}
+use Rattle.lx_spec.proofs.Lists.{each}
+use Rattle.lx_spec.proofs.SortedLists.{below_and_above, IsStrictlySorted-filter, all_above, all_below, entry_number, split_there}
 
 -- a step that was not refused
 bind_ok : {A B E : Type 0} (r : Result A E) (next : A → Result B E) (y : B) → (r >>= next) ≡ Ok y → (x : A) × (r ≡ Ok x) × (next x ≡ Ok y)
@@ -36,7 +38,7 @@ around_cue : (show : Show) (n : ℕ) (cue : Cue) → IsStrictlySorted (λ x. x.n
 around_cue show n cue sorted found = record {
   is = split_there (λ (x : Cue). x.number) n cue show.cues sorted found;
   low = all_below (λ (x : Cue). x.number) n show.cues;
-  at = (found_number (λ (x : Cue). x.number) n show.cues cue found, tt);
+  at = (entry_number (λ (x : Cue). x.number) n show.cues cue found, tt);
   high = all_above (λ (x : Cue). x.number) n show.cues;
   sorted = IsStrictlySorted-filter (λ (x : Cue). x.number) _ show.cues sorted;
 }
@@ -52,7 +54,7 @@ around_placed show n cue sorted number = record {
 
 around_absent : (show : Show) (n : ℕ) → IsStrictlySorted (λ x. x.number) show.cues → IsAround n (without_cue show n).cues (entries_below (λ x. x.number) n show.cues) [] (entries_above (λ x. x.number) n show.cues)
 around_absent show n sorted = record {
-  is = split_without (λ (x : Cue). x.number) n show.cues sorted;
+  is = sym (below_and_above (λ (x : Cue). x.number) n show.cues sorted);
   low = all_below (λ (x : Cue). x.number) n show.cues;
   at = tt;
   high = all_above (λ (x : Cue). x.number) n show.cues;
@@ -62,7 +64,7 @@ around_absent show n sorted = record {
 -- a cue changed alone
 changed_alone : (show : Show) (n k c : ℕ) (cue new : Cue) → Valid show → cue_of show n ≡ Some cue → new.number ≡ cue.number → InRange show.channels c → k ≢ n → IsTrue (is_some (cue_of show k)) → tracked (cue_only true show n (with_cue show new)) k c ≡ tracked show k c
 changed_alone show n k c cue new valid found kept range apart there =
-    kept_alone show (with_cue show new) n k c (entries_below (λ (x : Cue). x.number) n show.cues) (cue ∷ []) (new ∷ []) (entries_above (λ (x : Cue). x.number) n show.cues) (around_cue show n cue valid.cues_sorted found) (around_placed show n new valid.cues_sorted (kept ∙ found_number (λ (x : Cue). x.number) n show.cues cue found)) range apart there
+    kept_alone show (with_cue show new) n k c (entries_below (λ (x : Cue). x.number) n show.cues) (cue ∷ []) (new ∷ []) (entries_above (λ (x : Cue). x.number) n show.cues) (around_cue show n cue valid.cues_sorted found) (around_placed show n new valid.cues_sorted (kept ∙ entry_number (λ (x : Cue). x.number) n show.cues cue found)) range apart there
 
 removed_alone : (show : Show) (n k c : ℕ) (cue : Cue) → Valid show → cue_of show n ≡ Some cue → InRange show.channels c → k ≢ n → IsTrue (is_some (cue_of show k)) → tracked (cue_only true show n (without_cue show n)) k c ≡ tracked show k c
 removed_alone show n k c cue valid found range apart there =
@@ -111,7 +113,7 @@ same_there : (show : Show) (n k c : ℕ) (cue new : Cue) → Valid show → cue_
 same_there show n k c cue new valid found kept same =
     let below : List Cue = entries_below (λ x. x.number) n show.cues in
     let above : List Cue = entries_above (λ x. x.number) n show.cues in
-    let number : cue.number ≡ n = found_number (λ (x : Cue). x.number) n show.cues cue found in
+    let number : cue.number ≡ n = entry_number (λ (x : Cue). x.number) n show.cues cue found in
     let around = around_cue show n cue valid.cues_sorted found in
     let now = around_placed show n new valid.cues_sorted (kept ∙ number) in
     tracked-along (with_cue show new) k c
@@ -130,7 +132,7 @@ tracked_here : (show : Show) (n k c : ℕ) (cue : Cue) → Valid show → cue_of
 tracked_here show n k c cue valid found le =
     let below : List Cue = entries_below (λ x. x.number) n show.cues in
     let above : List Cue = entries_above (λ x. x.number) n show.cues in
-    let number : cue.number ≡ n = found_number (λ (x : Cue). x.number) n show.cues cue found in
+    let number : cue.number ≡ n = entry_number (λ (x : Cue). x.number) n show.cues cue found in
     let around = around_cue show n cue valid.cues_sorted found in
     tracked-along show n c
     ∙ ap (along n c 0) around.is
@@ -167,7 +169,7 @@ blocked_level : (show : Show) (n k c : ℕ) (cue : Cue) → Valid show → cue_o
 blocked_level show n k c cue valid found free range le =
     let before : ℕ = along k c 0 (entries_below (λ (x : Cue). x.number) n show.cues) in
     let test : ℕ → Bool = λ d. is_none (move_in cue d) && not (tracked show cue.number d == 0) in
-    let number : cue.number ≡ n = found_number (λ (x : Cue). x.number) n show.cues cue found in
+    let number : cue.number ≡ n = entry_number (λ (x : Cue). x.number) n show.cues cue found in
     let here : tracked show cue.number c ≡ tracked_on c cue before = ap (λ m. tracked show m c) number ∙ tracked_here show n k c cue valid found le in
     let open_step : tracked_on c cue before ≡ cond (is_some (move_in cue c)) (level_in cue c) before = ap (λ b. cond (b || is_some (move_in cue c)) (level_in cue c) before) free in
     elim (cases_Bool (test c)) [
@@ -180,7 +182,7 @@ unblocked_level : (show : Show) (n k c : ℕ) (cue : Cue) → Valid show → cue
 unblocked_level show n k c cue valid found blocks least range le =
     let before : ℕ = along k c 0 (entries_below (λ (x : Cue). x.number) n show.cues) in
     let test : ℕ → Bool = λ d. is_none (move_in cue d) && not (tracked show (cue.number - 1) d == 0) in
-    let number : cue.number ≡ n = found_number (λ (x : Cue). x.number) n show.cues cue found in
+    let number : cue.number ≡ n = entry_number (λ (x : Cue). x.number) n show.cues cue found in
     let under : tracked show (cue.number - 1) c ≡ before = ap (λ m. tracked show (m - 1) c) number ∙ tracked_before show n k c cue valid found least le in
     let block_step : tracked_on c cue before ≡ level_in cue c = ap (λ b. cond (b || is_some (move_in cue c)) (level_in cue c) before) blocks in
     elim (cases_Bool (test c)) [
@@ -216,7 +218,7 @@ found_has P test (y ∷ ys) x all is = found_step P test y x ys (test y) all.0 (
 least_number : (show : Show) (n : ℕ) (cue : Cue) → Valid show → cue_of show n ≡ Some cue → 1 ≤ n
 least_number show n cue valid found =
     let of_cue : ValidCue show.channels cue = found_has (ValidCue show.channels) (λ (x : Cue). x.number == n) show.cues cue valid.cues found in
-    omega (arith, of_cue.number.least, found_number (λ (x : Cue). x.number) n show.cues cue found)
+    omega (arith, of_cue.number.least, entry_number (λ (x : Cue). x.number) n show.cues cue found)
 
 -- the law of block
 pub same_everywhere : (show after : Show) (edit : Edit) (k c : ℕ) → Valid show → IsTrue (is_block_edit edit) → edited show edit ≡ Ok after → InRange show.channels c → tracked after k c ≡ tracked show k c

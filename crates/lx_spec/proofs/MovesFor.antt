@@ -1,7 +1,7 @@
 -- A cue with moves for the channels that pass a test.
 use Rattle.std.proofs.Common.{◌≡◌, ℕ, zero, suc, ◌+◌, ◌<◌, ◌≤◌, Bool, true, false, cond, List, [], ◌∷◌, map, Some, None, refl, ◌∙◌, sym, ap, inl, inr, arith}
-use Rattle.std.specs.Prelude.{Option, find, filter, fold, is_some, nat_lt, ◌==◌, ◌&&◌, ◌||◌}
-use Rattle.std.specs.Option.{option_or, option_map_or}
+use Rattle.std.specs.Prelude.{Option, filter, fold, is_some, nat_lt, ◌==◌, ◌&&◌, ◌||◌}
+use Rattle.std.specs.Option.{option_map_or}
 use Rattle.std.specs.List.{list_any, range_with_len}
 use Rattle.std.proofs.lemmas.Bool.{cases_order, cases_lt, true≢false}
 use Rattle.std.proofs.lemmas.Bool.Decides.{nat_tests}
@@ -11,35 +11,10 @@ use Rattle.lx_spec.specs.SortedList.{entry_at, entries_below, entries_above, pla
 use Rattle.lx_spec.specs.Show.{Cue, Show, InRange}
 use Rattle.lx_spec.specs.TrackedLevel.{move_in}
 use Rattle.lx_spec.specs.EditedShow.{channels_of, moves_for, with_moves}
-use Rattle.lx_spec.proofs.Along.{tracked_on, each, all_below, all_above, find_none, other_number, same_number}
-
-find_both : {A : Type 0} (p q : A → Bool) (xs : List A) → find q (filter p xs) ≡ find (λ x. p x && q x) xs
-find_both p q [] = refl
-find_both p q (x ∷ xs) = elim (p x) as (λ b. find q (cond b (x ∷ filter p xs) (filter p xs)) ≡ cond (b && q x) (Some x) (find (λ y. p y && q y) xs)) [
-  | true ↦ elim (q x) as (λ b. cond b (Some x) (find q (filter p xs)) ≡ cond b (Some x) (find (λ y. p y && q y) xs)) [ true ↦ refl | false ↦ find_both p q xs ]
-  | false ↦ find_both p q xs
-]
-
-and_known : (a b : Bool) → (b ≡ true → a ≡ true) → (a && b) ≡ b
-and_known true b known = refl
-and_known false true known = known refl
-and_known false false known = refl
-
--- a filter that keeps all that a test finds
-find_in_filter : {A : Type 0} (p q : A → Bool) (xs : List A) → ((x : A) → p x ≡ true → q x ≡ true) → find p (filter q xs) ≡ find p xs
-find_in_filter {A} p q xs keeps =
-    let same : (λ x. q x && p x) ≡ p = λ i x. and_known (q x) (p x) (keeps x) i in
-    find_both q p xs ∙ ap (λ (t : A → Bool). find t xs) same
-
-or_none : {A : Type 0} (o : Option A) → option_or o None ≡ o
-or_none None = refl
-or_none (Some x) = refl
-
-equal_below : (a n k : ℕ) → n < k → (a == n) ≡ true → nat_lt a k ≡ true
-equal_below a n k less same = grind (arith, nat_tests)
-
-equal_above : (a n k : ℕ) → k < n → (a == n) ≡ true → nat_lt k a ≡ true
-equal_above a n k less same = grind (arith, nat_tests)
+use Rattle.lx_spec.proofs.Along.{tracked_on}
+use Rattle.lx_spec.proofs.Comparisons.{eq_other, eq_true, equal_above, equal_below}
+use Rattle.lx_spec.proofs.Lists.{each, find_in_filter, find_none, or_none}
+use Rattle.lx_spec.proofs.SortedLists.{all_above, all_below}
 
 -- what is found after an entry was placed
 pub entry_at-placed : {A : Type 0} (key : A → ℕ) (n : ℕ) (x : A) (xs : List A) → entry_at key n (placed key x xs) ≡ cond (key x == n) (Some x) (entry_at key n xs)
@@ -47,16 +22,16 @@ entry_at-placed {A} key n x xs =
     let split = find-append (λ y. key y == n) (entries_below key (key x) xs) (x ∷ entries_above key (key x) xs) in
     elim (cases_order (key x) n) [
       | inl here ↦
-          let none : entry_at key n (entries_below key (key x) xs) ≡ None = find_none _ _ (each _ _ _ (λ y h. other_number (key y) n (λ same. omega (arith, h, here))) (all_below key (key x) xs)) in
-          split ∙ rw (none, same_number (key x) n here) refl
+          let none : entry_at key n (entries_below key (key x) xs) ≡ None = find_none _ _ (each _ _ _ (λ y h. eq_other (key y) n (λ same. omega (arith, h, here))) (all_below key (key x) xs)) in
+          split ∙ rw (none, eq_true (key x) n here) refl
       | inr apart ↦ elim apart [
         | inl low ↦
-            let none : entry_at key n (entries_below key (key x) xs) ≡ None = find_none _ _ (each _ _ _ (λ y h. other_number (key y) n (λ same. omega (arith, h))) (all_below key (key x) xs)) in
-            split ∙ rw (none, other_number (key x) n (λ same. omega arith)) (find_in_filter (λ y. key y == n) (λ y. nat_lt (key x) (key y)) xs (λ y h. equal_above (key y) n (key x) low h))
+            let none : entry_at key n (entries_below key (key x) xs) ≡ None = find_none _ _ (each _ _ _ (λ y h. eq_other (key y) n (λ same. omega (arith, h))) (all_below key (key x) xs)) in
+            split ∙ rw (none, eq_other (key x) n (λ same. omega arith)) (find_in_filter (λ y. key y == n) (λ y. nat_lt (key x) (key y)) xs (λ y h. equal_above (key y) n (key x) low h))
         | inr high ↦
-            let none : entry_at key n (entries_above key (key x) xs) ≡ None = find_none _ _ (each _ _ _ (λ y h. other_number (key y) n (λ same. omega (arith, h))) (all_above key (key x) xs)) in
+            let none : entry_at key n (entries_above key (key x) xs) ≡ None = find_none _ _ (each _ _ _ (λ y h. eq_other (key y) n (λ same. omega (arith, h))) (all_above key (key x) xs)) in
             let front : entry_at key n (entries_below key (key x) xs) ≡ entry_at key n xs = find_in_filter (λ y. key y == n) (λ y. nat_lt (key y) (key x)) xs (λ y h. equal_below (key y) n (key x) high h) in
-            split ∙ rw (other_number (key x) n (λ same. omega arith), none, front) (or_none (entry_at key n xs))
+            split ∙ rw (eq_other (key x) n (λ same. omega arith), none, front) (or_none (entry_at key n xs))
       ]
     ]
 
@@ -106,7 +81,7 @@ any_in_range a zero c least most = absurd (omega arith)
 any_in_range a (suc n) c least most =
     elim (cases_lt a c) [
       | inl less ↦ or_true (a == c) (list_any (λ d. d == c) (range_with_len (a + 1) n)) (any_in_range (a + 1) n c (omega arith) (omega arith))
-      | inr here ↦ ap (λ b. b || list_any (λ d. d == c) (range_with_len (a + 1) n)) (same_number a c (omega arith))
+      | inr here ↦ ap (λ b. b || list_any (λ d. d == c) (range_with_len (a + 1) n)) (eq_true a c (omega arith))
     ]
 
 and_true : (a b : Bool) → b ≡ true → (a && b) ≡ a

@@ -12,20 +12,17 @@ use Rattle.lx_base.specs.Numbers.{scaled}
 use Rattle.lx_spec.specs.declared.Member.{Member}
 use Rattle.lx_spec.specs.SortedList.{IsStrictlySorted, entry_at}
 use Rattle.lx_spec.specs.Show.{ValidMember}
-use Rattle.lx_spec.proofs.Along.{find_none, same_number, other_number}
-use Rattle.lx_show.proofs.SortedLists.{each, passes, lt_from, stands_where}
+use Rattle.lx_show.proofs.SortedLists.{stands_where}
 use Rattle.lx_spec.specs.Output.{level_among}
-
-or_none : {A : Type 0} (o : Option A) → option_or o None ≡ o
-or_none None = refl
-or_none (Some x) = refl
+use Rattle.lx_spec.proofs.Comparisons.{eq_other, eq_true, lt_from}
+use Rattle.lx_spec.proofs.Lists.{each, find_none, or_none, passes}
 
 -- no member before one has its channel
 none_before : (members : List Member) (i : ℕ) (m : Member) → IsStrictlySorted (λ x. x.chan) members → i < length members → m ≡ get_or members i m → entry_at (λ x. x.chan) m.chan (take i members) ≡ None
 none_before members i m sorted within is =
     let stands = stands_where (λ x. x.chan) m.chan members i m sorted within is refl in
     ap (λ (xs : List Member). entry_at (λ x. x.chan) m.chan xs) stands.before
-    ∙ find_none _ _ (each _ _ _ (λ y h. let less : y.chan < m.chan = lt_from y.chan m.chan h in other_number y.chan m.chan (λ same. omega arith)) (passes (λ y. nat_lt y.chan m.chan) members))
+    ∙ find_none _ _ (each _ _ _ (λ y h. let less : y.chan < m.chan = lt_from y.chan m.chan h in eq_other y.chan m.chan (λ same. omega arith)) (passes (λ y. nat_lt y.chan m.chan) members))
 
 one_more : (members : List Member) (i c : ℕ) (m : Member) → i < length members → m ≡ get_or members i m → entry_at (λ x. x.chan) c (take (i + 1) members) ≡ option_or (entry_at (λ x. x.chan) c (take i members)) (entry_at (λ x. x.chan) c (m ∷ []))
 one_more members i c m within is =
@@ -36,7 +33,7 @@ one_more members i c m within is =
 among_here : (members : List Member) (i c : ℕ) (m : Member) → IsStrictlySorted (λ x. x.chan) members → i < length members → m ≡ get_or members i m → m.chan ≡ c → level_among (take (i + 1) members) c ≡ m.level
 among_here members i c m sorted within is here =
     let none : entry_at (λ x. x.chan) c (take i members) ≡ None = ap (λ n. entry_at (λ x. x.chan) n (take i members)) (sym here) ∙ none_before members i m sorted within is in
-    let found : option_or (entry_at (λ x. x.chan) c (take i members)) (entry_at (λ x. x.chan) c (m ∷ [])) ≡ Some m = rw (none, same_number m.chan c here) refl in
+    let found : option_or (entry_at (λ x. x.chan) c (take i members)) (entry_at (λ x. x.chan) c (m ∷ [])) ≡ Some m = rw (none, eq_true m.chan c here) refl in
     ap (λ (o : Option Member). option_map_or (λ x. x.level) o 0) (one_more members i c m within is ∙ found)
 
 -- before it the channel isn't among them
@@ -47,7 +44,7 @@ among_before members i c m sorted within is here =
 -- the levels of other channels stay
 among_other : (members : List Member) (i c : ℕ) (m : Member) → i < length members → m ≡ get_or members i m → (m.chan ≡ c → ⊥) → level_among (take (i + 1) members) c ≡ level_among (take i members) c
 among_other members i c m within is other =
-    let same : option_or (entry_at (λ x. x.chan) c (take i members)) (entry_at (λ x. x.chan) c (m ∷ [])) ≡ entry_at (λ x. x.chan) c (take i members) = rw (other_number m.chan c other) (or_none (entry_at (λ x. x.chan) c (take i members))) in
+    let same : option_or (entry_at (λ x. x.chan) c (take i members)) (entry_at (λ x. x.chan) c (m ∷ [])) ≡ entry_at (λ x. x.chan) c (take i members) = rw (eq_other m.chan c other) (or_none (entry_at (λ x. x.chan) c (take i members))) in
     ap (λ (o : Option Member). option_map_or (λ x. x.level) o 0) (one_more members i c m within is ∙ same)
 
 -- each member's channel is among the levels
