@@ -14,9 +14,9 @@ use Rattle.lx_spec.specs.Session.{Session, Attempt, answered, attempt, and_then,
 use Rattle.lx_spec.specs.Script.{line_of}
 use Rattle.lx_spec.specs.RefusedPlaces.{MayWant, WantsAtEdits}
 use Rattle.lx_session.specs.Attempts.{WantsLast}
-use Rattle.lx_session.specs.Replying.{reply_to}
-use Rattle.lx_session.specs.Answered.{GoesOn}
-use Rattle.lx_session.proofs.Finishing.{finished}
+use Rattle.lx_session.specs.LineReply.{reply_to}
+use Rattle.lx_session.specs.LineAnswer.{GoesOn}
+use Rattle.lx_session.proofs.RepliedLines.{finished}
 
 -- the attempt is one that want of memory refuses
 abbrev pub has_place : List ℕ → ℕ → Bool
@@ -50,7 +50,7 @@ abbrev pub own_place : Bool → ℕ → List ℕ
 own_place true to = to ∷ []
 own_place false to = []
 
-own-has : (wanted : Bool) (to n : ℕ) → has_place (own_place wanted to) n ≡ (wanted && n == to)
+pub own-has : (wanted : Bool) (to n : ℕ) → has_place (own_place wanted to) n ≡ (wanted && n == to)
 own-has true to n =
     let same : (to == n) ≡ (n == to) = grind (arith, nat_tests) in
     let at : (b : Bool) → (b || false) ≡ b = λ b. elim b as (λ b. (b || false) ≡ b) [ true ↦ refl | false ↦ refl ] in
@@ -101,11 +101,11 @@ first true b e = refl
 first false b e = cc
 
 -- what a line may want, by how the session went on by it
-pub may_want : (P : List ℕ) (s next : Session) (meaning : Option Line) (wanted : Bool) → GoesOn s next meaning wanted → WantsLast P s.attempts next.attempts wanted → MayWant P s meaning
-may_want P s next meaning wanted g w n lower upper has =
+pub may_want : (all : Bool) (heard : List Command → Type 0) (P : List ℕ) (s next : Session) (meaning : Option Line) (wanted : Bool) → all ≡ true → GoesOn all heard s next meaning wanted → WantsLast P s.attempts next.attempts wanted → MayWant P s meaning
+may_want all heard P s next meaning wanted every g w n lower upper has =
     let is = ap (λ t. t.attempts) (g.by P w) in
     let here : (wanted && n == next.attempts) ≡ true = sym (w n lower (omega (arith, upper, is))) ∙ has in
-    g.at_edit (first wanted (n == next.attempts) here)
+    g.at_edit (first wanted (n == next.attempts) here) every
 
 -- attempts add to their number, and leave the text
 record Later (s : Session) (tried : Attempt) : Type 0 where

@@ -11,8 +11,7 @@ use Rattle.lx_spec.specs.Session.{Counts}
 use Rattle.lx_script.specs.declared.reply.Reply.{Reply}
 use Rattle.lx_spec.specs.ShowText.{show_text}
 use Rattle.lx_script.specs.ReplyTexts.{reply_text}
-use Rattle.lx_session.specs.Replying.{reply_to, counts_after}
-use Rattle.lx_session.specs.Counting.{reply_for, counted}
+use Rattle.lx_session.specs.LineReply.{reply_to, counts_after}
 
 pub frame_reply : (d : Desk) (line : Line) (u : ℕ) (r : Option Refusal) → line ≡ lines.Frame u → frame_text [] d.playback.moment u (frame d u) ≡ reply_to d (Some line) r
 frame_reply d line u r is = ap (λ v. reply_to d (Some v) r) (sym is)

@@ -11,7 +11,7 @@ use Rattle.lx_spec.specs.Kept.{Kept}
 use Rattle.lx_spec.specs.Replies.{row_of, row_text, refused_text}
 use Rattle.lx_spec.specs.Session.{with_text, refused_reply}
 use Rattle.lx_console.specs.Standing.{StandsFor}
-use Rattle.lx_session.specs.Replying.{reply_to, tried_at}
+use Rattle.lx_session.specs.LineReply.{reply_to, tried_at}
 
 -- no row, no cue
 absent : (o : Option Cue) (show : Show) (n : ℕ) → None ≡ option_map (λ (cue : Cue). row_of show n) o → is_some o ≡ false

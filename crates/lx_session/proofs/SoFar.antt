@@ -17,20 +17,19 @@ use Rattle.lx_lex.specs.Lines.{TookLines, StepOf}
 use Rattle.lx_lex.proofs.TakenLines.{texts, all_texts, lines_within, next_too_long}
 use Rattle.lx_lex.proofs.FirstLines.{first_lines-longer}
 use Rattle.lx_spec.specs.Text.{without_cr, lines_of}
-use Rattle.lx_spec.specs.Desk.{Desk}
+use Rattle.std.proofs.lemmas.List.Sums.{fold-append}
+use Rattle.lx_spec.specs.declared.Command.{Command}
+use Rattle.lx_spec.specs.Desk.{Desk, after_command}
 use Rattle.lx_spec.specs.Kept.{Kept}
 use Rattle.lx_spec.specs.CutInput.{first_lines}
-use Rattle.lx_spec.specs.Session.{Session, begin_at, ends_script, after_lines, lines_wanted, bytes_wanted}
+use Rattle.lx_spec.specs.Session.{Session, begin_at, ends_script, after_lines, lines_wanted, bytes_wanted, after_commands}
 use Rattle.lx_spec.specs.Script.{line_of as meant_by}
 use Rattle.lx_spec.specs.RefusedPlaces.{WantsAtEdits}
 use Rattle.lx_console.specs.Standing.{StandsFor}
 use Rattle.lx_session.specs.declared.tally.Tally.{Tally}
-use Rattle.lx_session.specs.declared.fault.SessionFault.{SessionFault}
-use Rattle.lx_session.specs.declared.fault.SessionFault.TheVariants as faults_of
-use Rattle.lx_session.specs.Given.{GivenOn, GivenInPart, Went}
-use Rattle.lx_session.specs.Taken.{PassedOne, TookOne, TookOneInPart, TookQuit, EndedSo, StoppedSo}
-use Rattle.lx_session.specs.Replying.{counts_in}
-use Rattle.lx_session.specs.Scripts.{AnswersAll, AnswersFront, AnswersLines}
+use Rattle.lx_session.specs.LineAnswer.{DoneLine}
+use Rattle.lx_session.specs.LineOutcome.{PassedLine, QuitLine, AnsweredLine}
+use Rattle.lx_session.specs.LineReply.{counts_in}
 use Rattle.lx_session.proofs.Places.{AreAbove, AreWithin, own_place, wants_own, own_above, own_within, may_want, extends_lines, wants_nothing, wants-append, lines-append}
 
 -- no line ends the script
@@ -38,26 +37,26 @@ abbrev pub GoOn : List (List ℕ) → Type 0
 GoOn script = AllByRecursion (λ line. ends_script line ≡ false) script
 
 -- The lines are done from a desk on, and the session has come so far; more attempts that want of memory refuses later change nothing of it.
-pub record Done (d : Desk) (script : List (List ℕ)) (places : List ℕ) (now : Session) : Type 0 where
+pub record Done (all : Bool) (d : Desk) (script : List (List ℕ)) (places : List ℕ) (now : Session) : Type 0 where
   pub go_on : GoOn script
   pub within : AreWithin now.attempts places
   pub is : (more : List ℕ) → AreAbove now.attempts more → after_lines (places ++ more) (begin_at d) script ≡ now
-  pub wants : (more : List ℕ) → AreAbove now.attempts more → WantsAtEdits (places ++ more) (begin_at d) script
+  pub wants : all ≡ true → (more : List ℕ) → AreAbove now.attempts more → WantsAtEdits (places ++ more) (begin_at d) script
 
 pub no_place : (m n : ℕ) (P : Type 0) → false ≡ true → P
 no_place m n P e = absurd cc
 
-pub done_none : (d : Desk) → Done d [] [] (begin_at d)
-done_none d = record { go_on = tt; within = λ n has. no_place 0 n (n ≤ 0) has; is = λ more above. refl; wants = λ more above. tt }
+pub done_none : (all : Bool) (d : Desk) → Done all d [] [] (begin_at d)
+done_none all d = record { go_on = tt; within = λ n has. no_place 0 n (n ≤ 0) has; is = λ more above. refl; wants = λ every more above. tt }
 
 go_on_append : (xs : List (List ℕ)) (l : List ℕ) → GoOn xs → ends_script l ≡ false → GoOn (xs ++ l ∷ [])
 go_on_append [] l all more = (more, tt)
 go_on_append (x ∷ xs) l all more = (all.0, go_on_append xs l all.1 more)
 
 -- one more line
-pub done_more : (d : Desk) (script : List (List ℕ)) (places : List ℕ) (now : Session) (line : List ℕ) (console : Kept) (reply : List ℕ) → Done d script places now → (w : Went now (meant_by line) console reply)
-    → Done d (script ++ line ∷ []) (places ++ own_place w.wanted w.next.attempts) w.next
-done_more d script places now line console reply done w =
+pub done_more : (all : Bool) (heard : List Command → Type 0) (d : Desk) (script : List (List ℕ)) (places : List ℕ) (now : Session) (line : List ℕ) (console : Kept) (reply : List ℕ) → Done all d script places now → (w : DoneLine all heard now (meant_by line) console reply)
+    → Done all d (script ++ line ∷ []) (places ++ own_place w.wanted w.next.attempts) w.next
+done_more all heard d script places now line console reply done w =
     let later = w.goes_on.later in
     let before : (more : List ℕ) → AreAbove w.next.attempts more → AreAbove now.attempts (own_place w.wanted w.next.attempts ++ more) = λ more above. own_above now.attempts w.next.attempts w.wanted more later w.goes_on.some above in
     let P : List ℕ → List ℕ = λ more. (places ++ own_place w.wanted w.next.attempts) ++ more in
@@ -69,48 +68,68 @@ done_more d script places now line console reply done w =
       within = own_within now.attempts w.next.attempts w.wanted places later done.within;
       is = λ more above.
           lines-append (P more) (begin_at d) script (line ∷ []) ∙ ap (λ s. after_lines (P more) s (line ∷ [])) (here more above) ∙ w.goes_on.by (P more) (last more above);
-      wants = λ more above.
+      wants = λ every more above.
           wants-append (P more) (begin_at d) script (line ∷ [])
-          (subst (λ ps. WantsAtEdits ps (begin_at d) script) (sym (same more)) (done.wants (own_place w.wanted w.next.attempts ++ more) (before more above)))
-          (subst (λ s. WantsAtEdits (P more) s (line ∷ [])) (sym (here more above)) (may_want (P more) now w.next _ w.wanted w.goes_on (last more above), tt));
+          (subst (λ ps. WantsAtEdits ps (begin_at d) script) (sym (same more)) (done.wants every (own_place w.wanted w.next.attempts ++ more) (before more above)))
+          (subst (λ s. WantsAtEdits (P more) s (line ∷ [])) (sym (here more above)) (may_want all heard (P more) now w.next _ w.wanted every w.goes_on (last more above), tt));
     }
 
--- The lines that were handed out from a to b are done and answered, and the console stands for the desk after them.
-pub record SoFar {S : Type 0} (left : S → Option (List ℕ)) (faults : S → ℕ) (a b : Lines S) (d : Desk) (console : Kept) (tally : Tally) (h h' : Option (List ℕ)) : Type 0 where
+-- The lines that were handed out from a to b are done and answered, the console stands for the desk after them, and the commands that
+-- were accepted were heard of.
+pub record SoFar {S : Type 0} (all : Bool) (heard : List Command → Type 0) (left : S → Option (List ℕ)) (faults : S → ℕ) (a b : Lines S) (d : Desk) (console : Kept) (tally : Tally) (h h' : Option (List ℕ)) : Type 0 where
   pub raws : List (List ℕ)
   pub handed : HandedOut left faults a b raws
   pub places : List ℕ
   pub now : Session
-  pub done : Done d (map without_cr raws) places now
+  pub done : Done all d (map without_cr raws) places now
+  pub desk : now.desk ≡ after_commands d now.accepted
+  pub listened : heard now.accepted
   pub stands : StandsFor now.desk console
   pub appended : Appends h h' now.text
   pub counts : now.counts ≡ counts_in tally
 
-pub so_far_none : {S : Type 0} (left : S → Option (List ℕ)) (faults : S → ℕ) (a : Lines S) (d : Desk) (console : Kept) (tally : Tally) (h : Option (List ℕ)) → IsTrue a.going → StandsFor d console → counts_in tally ≡ record { ok = 0; refused = 0; bad = 0 } → SoFar left faults a a d console tally h h
-so_far_none left faults a d console tally h going stands counts = record {
+pub so_far_none : {S : Type 0} (all : Bool) (heard : List Command → Type 0) (left : S → Option (List ℕ)) (faults : S → ℕ) (a : Lines S) (d : Desk) (console : Kept) (tally : Tally) (h : Option (List ℕ)) → IsTrue a.going → heard [] → StandsFor d console → counts_in tally ≡ record { ok = 0; refused = 0; bad = 0 }
+    → SoFar all heard left faults a a d console tally h h
+so_far_none all heard left faults a d console tally h going nothing stands counts = record {
   raws = [];
   handed = handed_none left faults a going;
   places = [];
   now = begin_at d;
-  done = done_none d;
+  done = done_none all d;
+  desk = refl;
+  listened = nothing;
   stands = stands;
   appended = Appends-nil h;
   counts = sym counts;
 }
 
-pub so_far_more : {S : Type 0} (left : S → Option (List ℕ)) (faults : S → ℕ) (a b c : Lines S) (d : Desk) (console console' : Kept) (tally tally' : Tally) (h h' h'' : Option (List ℕ))
-    → (s : SoFar left faults a b d console tally h h') → TookOne left faults b c h' h'' s.now console' tally' → SoFar left faults a c d console' tally' h h''
-so_far_more left faults a b c d console console' tally tally' h h' h'' s t =
-    let w = t.given_on.went in
+-- what was heard of goes on
+abbrev pub Joined : (List Command → Type 0) → (List Command → Type 0) → (List Command → Type 0) → Type 0
+Joined heard next heard' = (before after : List Command) → heard before → next after → heard' (before ++ after)
+
+pub joined_none : (heard next heard' : List Command → Type 0) → Joined heard next heard' → (commands : List Command) → heard commands → next [] → heard' commands
+joined_none heard next heard' joined commands h n = subst heard' (append-nil commands) (joined commands [] h n)
+
+-- the desk after all commands that were accepted, and after more
+pub more_accepted : (d now next : Desk) (done more done' : List Command) → now ≡ after_commands d done → next ≡ after_commands now more → done' ≡ done ++ more → next ≡ after_commands d done'
+more_accepted d now next done more done' is then all = then ∙ ap (λ e. after_commands e more) is ∙ sym (fold-append after_command d done more) ∙ ap (after_commands d) (sym all)
+
+pub so_far_more : {S : Type 0} (all : Bool) (heard next heard' : List Command → Type 0) (left : S → Option (List ℕ)) (faults : S → ℕ) (a b c : Lines S) (d : Desk) (console console' : Kept) (tally tally' : Tally) (h h' h'' : Option (List ℕ))
+    → Joined heard next heard' → (s : SoFar all heard left faults a b d console tally h h') → AnsweredLine all next left faults b c h' h'' s.now console' tally' → SoFar all heard' left faults a c d console' tally' h h''
+so_far_more all heard next heard' left faults a b c d console console' tally tally' h h' h'' joined s t =
+    let w = t.whole.line in
     record {
       raws = s.raws ++ t.raw ∷ [];
       handed = handed_then left faults a b c s.raws (t.raw ∷ []) s.handed t.handed;
       places = s.places ++ own_place w.wanted w.next.attempts;
       now = w.next;
-      done = subst (λ ls. Done d ls (s.places ++ own_place w.wanted w.next.attempts) w.next) (sym (map-append without_cr s.raws (t.raw ∷ []))) (done_more d (map without_cr s.raws) s.places s.now (without_cr t.raw) console' t.given_on.reply s.done w);
+      done = subst (λ ls. Done all d ls (s.places ++ own_place w.wanted w.next.attempts) w.next) (sym (map-append without_cr s.raws (t.raw ∷ [])))
+          (done_more all next d (map without_cr s.raws) s.places s.now (without_cr t.raw) console' t.whole.reply s.done w);
+      desk = more_accepted d s.now.desk w.next.desk s.now.accepted w.goes_on.commands w.next.accepted s.desk w.goes_on.desk w.goes_on.accepted;
+      listened = subst heard' (sym w.goes_on.accepted) (joined s.now.accepted w.goes_on.commands s.listened w.goes_on.listened);
       stands = w.stands;
-      appended = subst (λ (x : List ℕ). Appends h h'' x) (sym w.text) (Appends-trans h h' h'' s.now.text t.given_on.reply s.appended t.given_on.appended);
-      counts = t.given_on.counts;
+      appended = subst (λ (x : List ℕ). Appends h h'' x) (sym w.text) (Appends-trans h h' h'' s.now.text t.whole.reply s.appended t.whole.appended);
+      counts = t.whole.counts;
     }
 
 -- These lines were handed out from a to b, and none of them ends the script.
@@ -122,7 +141,7 @@ pub record Passed {S : Type 0} (left : S → Option (List ℕ)) (faults : S → 
 pub passed_none : {S : Type 0} (left : S → Option (List ℕ)) (faults : S → ℕ) (a : Lines S) → IsTrue a.going → Passed left faults a a
 passed_none left faults a going = record { raws = []; handed = handed_none left faults a going; go_on = tt }
 
-pub passed_more : {S : Type 0} (left : S → Option (List ℕ)) (faults : S → ℕ) (a b c : Lines S) → Passed left faults a b → PassedOne left faults b c → Passed left faults a c
+pub passed_more : {S : Type 0} (left : S → Option (List ℕ)) (faults : S → ℕ) (a b c : Lines S) → Passed left faults a b → PassedLine left faults b c → Passed left faults a c
 passed_more left faults a b c p one = record {
   raws = p.raws ++ one.raw ∷ [];
   handed = handed_then left faults a b c p.raws (one.raw ∷ []) p.handed one.handed;
@@ -175,7 +194,7 @@ all_within (Some x) (Some y) i j raws p end =
     omega (arith, first_lines-length (lines_wanted (lines_of x)) x, ap length all, p.count, p.within)
 
 -- at the end of the input they are within its limit, and likewise where a line ended the script
-fits_by_quit : {S : Type 0} (left : S → Option (List ℕ)) (faults : S → ℕ) (a b c : Lines S) → Passed left faults a b → TookQuit left faults b c → IfSome (unread left a) (λ bytes. a.taken + length (bytes_wanted bytes) ≤ INPUT_BYTES)
+fits_by_quit : {S : Type 0} (left : S → Option (List ℕ)) (faults : S → ℕ) (a b c : Lines S) → Passed left faults a b → QuitLine left faults b c → IfSome (unread left a) (λ bytes. a.taken + length (bytes_wanted bytes) ≤ INPUT_BYTES)
 fits_by_quit left faults a b c s q =
     let line = without_cr q.raw in
     let both = handed_then left faults a b c s.raws (q.raw ∷ []) s.handed q.handed in
@@ -186,7 +205,7 @@ fits_by_quit left faults a b c s q =
     ∙ omega (arith, ends_after (map without_cr s.raws) (line ∷ e.0) s.go_on, ends_here line e.0 q.quits, length-append s.raws (q.raw ∷ []), length-map s.raws without_cr) in
     omega (arith, le, ap (λ k. length (first_lines k xs)) wanted))
 
-pub fits : {S : Type 0} (left : S → Option (List ℕ)) (faults : S → ℕ) (a b c : Lines S) → Passed left faults a b → IsAtEnd (unread left b) ⊎ TookQuit left faults b c → IfSome (unread left a) (λ bytes. a.taken + length (bytes_wanted bytes) ≤ INPUT_BYTES)
+pub fits : {S : Type 0} (left : S → Option (List ℕ)) (faults : S → ℕ) (a b c : Lines S) → Passed left faults a b → IsAtEnd (unread left b) ⊎ QuitLine left faults b c → IfSome (unread left a) (λ bytes. a.taken + length (bytes_wanted bytes) ≤ INPUT_BYTES)
 fits left faults a b c s how = elim how [
   | inl end ↦ all_within (unread left a) (unread left b) a.taken b.taken s.raws s.handed.took end
   | inr quit ↦ fits_by_quit left faults a b c s quit

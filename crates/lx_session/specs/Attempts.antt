@@ -1,10 +1,8 @@
--- Attempts at the command of a line, and which of them want of memory may refuse.
-use Rattle.std.specs.Prelude.{◌≡◌, ◌⊎◌, ◌≤◌, ◌<◌, ℕ, zero, suc, ◌+◌, ◌==◌, Bool, true, false, ◌&&◌, Option, Some, None, Result, Ok, Err, List, [], ◌∷◌, IsOk, IsOkAnd}
-use Rattle.std.specs.Option.{option_map_or}
+-- Attempts at a command on a console, and which of them want of memory refused.
+use Rattle.std.specs.Prelude.{◌≡◌, ◌≤◌, ◌<◌, ℕ, ◌==◌, Bool, true, false, ◌&&◌, Option, Some, None, List, [], ◌∷◌}
+use Rattle.std.specs.Result.{IsOkAnd}
 use Rattle.std.specs.List.{list_any}
 use Rattle.lx_spec.specs.declared.Command.{Command}
-use Rattle.lx_spec.specs.declared.Line.{Line}
-use Rattle.lx_spec.specs.declared.Line.TheVariants as lines
 use Rattle.lx_spec.specs.declared.Refusal.{Refusal}
 use Rattle.lx_spec.specs.declared.Refusal.TheVariants.{Memory}
 use Rattle.lx_spec.specs.Desk.{Desk, step}
@@ -25,6 +23,21 @@ AcceptsAttempt false d command console = ⊥
 abbrev pub Attempted : Bool → Desk → Command → Option Refusal → Kept → Type 0
 Attempted admitted d command None console = AcceptsAttempt admitted d command console
 Attempted admitted d command (Some refusal) console = StandsFor d console × RefusesAttempt admitted d command refusal
+
+-- Whatever desk the console stood for before accepts the command, and now it stands for the desk after it.
+abbrev pub AcceptedStep : Kept → Command → Kept → Type 0
+AcceptedStep before command console = (d : Desk) → StandsFor d before → IsOkAnd (step d command) (λ next. StandsFor next console)
+
+-- An attempt where some commands may not be admitted; `all` says that all are.
+pub record ListenedAttempt (all : Bool) (d : Desk) (command : Command) (refusal : Option Refusal) (console : Kept) : Type 0 where
+  pub admitted : Bool
+  pub is_all : all ≡ true → admitted ≡ true
+  pub attempted : Attempted admitted d command refusal console
+
+-- a command is heard of where it wasn't refused
+abbrev pub heard_of : Command → Option Refusal → List Command
+heard_of command None = command ∷ []
+heard_of command (Some refusal) = []
 
 -- Of the attempts above one number and up to another, want of memory refused the last, or none.
 abbrev pub WantsLast : List ℕ → ℕ → ℕ → Bool → Type 0

@@ -1,10 +1,8 @@
-pub mod Turning
+pub mod LineState
 pub mod Attempts
-pub mod Replying
-pub mod Answered
-pub mod Given
-pub mod Taken
-pub mod Scripts
-pub mod Faults
-pub mod Counting
-pub mod Trying
+pub mod LineProgress
+pub mod LineReply
+pub mod LineAnswer
+pub mod LineOutcome
+pub mod SessionFaults
+pub mod SessionOutcome

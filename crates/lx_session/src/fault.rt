@@ -1,7 +1,7 @@
 //! Why a session ended before its script did.
 
 ghost use Rattle.std.specs.Prelude.{◌≡◌};
-ghost use Rattle.lx_session.specs.Faults.{fault_of};
+ghost use Rattle.lx_session.specs.SessionFaults.{fault_of};
 
 use lx_io::SinkFault;
 
@@ -22,12 +22,13 @@ pub enum SessionFault {
     Memory,
 }
 
-/// The sink's fault, as the session's.
-pub(crate) fn session_fault(fault: SinkFault) -> SessionFault
-    ensures { result ≡ fault_of fault }
-{
-    match fault {
-        SinkFault::Failed => SessionFault::WriteFault,
-        SinkFault::Memory => SessionFault::Memory,
+impl From<SinkFault> for SessionFault {
+    ghost from_gives = { λ fault own. own ≡ fault_of fault };
+
+    fn from(fault: SinkFault) -> SessionFault {
+        match fault {
+            SinkFault::Failed => SessionFault::WriteFault,
+            SinkFault::Memory => SessionFault::Memory,
+        }
     }
 }

@@ -1,6 +1,6 @@
 //! The reply to a line.
 
-ghost use Rattle.std.specs.Prelude.{◌≡◌, ◌<◌, ◌≤◌, ◌^◌, ◌+◌, ◌-◌, [], length, OnOk, IfOk, None, Some, not, true};
+ghost use Rattle.std.specs.Prelude.{◌≡◌, ◌≤◌, [], length, OnOk, IfOk, None, Some, not, true};
 ghost use Rattle.lx_base.specs.declared.TheConstants.{UNIVERSES, SLOTS};
 ghost use Rattle.lx_io.specs.Puts.{Puts, HasSinkCause};
 ghost use Rattle.lx_spec.specs.Desk.{Desk};
@@ -12,9 +12,8 @@ ghost use Rattle.lx_console.specs.Slots.{universe as universe_in};
 ghost use Rattle.lx_console.specs.Standing.{StandsFor};
 ghost use Rattle.lx_spec.specs.ValidEdit.{ValidLine};
 ghost use Rattle.lx_spec.specs.Session.{is_quit};
-ghost use Rattle.lx_session.specs.Turning.{next_of};
-ghost use Rattle.lx_session.specs.Replying.{reply_to, counts_after, counts_in};
-ghost use Rattle.lx_session.specs.Counting.{reply_for, counted};
+ghost use Rattle.lx_session.specs.LineState.{next_of};
+ghost use Rattle.lx_session.specs.LineReply.{reply_to, reply_for, counts_after, counts_in, counted, HasRoom, HasOneMore};
 
 use crate::tally::Tally;
 use crate::turn::Turn;
@@ -30,7 +29,7 @@ impl Turn {
     /// Appends the reply to the line after its attempts, and counts it. It answers false exactly for
     /// `quit`.
     ///
-    /// A fault comes only where the sink answered it in this call, and then a front of the reply was
+    /// A fault comes only where the sink answered it in this call, and then a prefix of the reply was
     /// appended.
     pub fn finish<K: Sink>(
         self,
@@ -39,16 +38,12 @@ impl Turn {
         tally: &mut Tally,
     ) -> Result<bool, SinkFault>
         requires over { next_of self ≡ None }
-        requires ok { tally.old.ok < 2 ^ 64 - 1 }
-        requires refused { tally.old.refused < 2 ^ 64 - 1 }
-        requires bad { tally.old.bad < 2 ^ 64 - 1 }
+        requires room { HasRoom tally.old }
         ensures cause { HasSinkCause K.faults K.wants sink.old sink.new result }
         ensures text { (d : Desk) → StandsFor d console.now → Puts K.holds K.faults K.wants sink.old sink.new result (reply_to d self.meaning self.refusal) }
         ensures counts { (d : Desk) → StandsFor d console.now → OnOk result (counts_in tally.new ≡ counts_after d (counts_in tally.old) self.meaning self.refusal) }
         ensures quit { IfOk result (λ more. more ≡ not (is_quit self.meaning)) }
-        ensures more_ok { tally.new.ok ≤ tally.old.ok + 1 }
-        ensures more_refused { tally.new.refused ≤ tally.old.refused + 1 }
-        ensures more_bad { tally.new.bad ≤ tally.old.bad + 1 }
+        ensures counted { HasOneMore tally.old tally.new }
     {
         match &self.meaning {
             None => give(Reply::Bad, sink, tally),
@@ -66,16 +61,12 @@ fn reply_to_line<K: Sink>(
     tally: &mut Tally,
 ) -> Result<bool, SinkFault>
     requires valid { ValidLine line.now }
-    requires ok { tally.old.ok < 2 ^ 64 - 1 }
-    requires refused { tally.old.refused < 2 ^ 64 - 1 }
-    requires bad { tally.old.bad < 2 ^ 64 - 1 }
+    requires room { HasRoom tally.old }
     ensures cause { HasSinkCause K.faults K.wants sink.old sink.new result }
     ensures text { (d : Desk) → StandsFor d console.now → Puts K.holds K.faults K.wants sink.old sink.new result (reply_to d (Some line.now) refusal) }
     ensures counts { (d : Desk) → StandsFor d console.now → OnOk result (counts_in tally.new ≡ counts_after d (counts_in tally.old) (Some line.now) refusal) }
     ensures quit { IfOk result (λ more. more ≡ not (is_quit (Some line.now))) }
-    ensures more_ok { tally.new.ok ≤ tally.old.ok + 1 }
-    ensures more_refused { tally.new.refused ≤ tally.old.refused + 1 }
-    ensures more_bad { tally.new.bad ≤ tally.old.bad + 1 }
+    ensures counted { HasOneMore tally.old tally.new }
 {
     match line {
         Line::Command(_) => give(reply_of(refusal), sink, tally),
@@ -100,11 +91,10 @@ fn reply_of(refusal: Option<Refusal>) -> Reply
 
 /// Appends a reply, and counts it.
 fn give<K: Sink>(reply: Reply, sink: &mut K, tally: &mut Tally) -> Result<bool, SinkFault>
-    requires ok { tally.old.ok < 2 ^ 64 - 1 }
-    requires refused { tally.old.refused < 2 ^ 64 - 1 }
-    requires bad { tally.old.bad < 2 ^ 64 - 1 }
+    requires room { HasRoom tally.old }
     ensures text { Puts K.holds K.faults K.wants sink.old sink.new result (reply_text reply) }
     ensures counts { counts_in tally.new ≡ counted reply (counts_in tally.old) }
+    ensures counted { HasOneMore tally.old tally.new }
     ensures more { IfOk result (λ more. more ≡ true) }
 {
     match reply {
@@ -124,16 +114,12 @@ fn put_sheet<K: Sink>(
     sink: &mut K,
     tally: &mut Tally,
 ) -> Result<bool, SinkFault>
-    requires ok { tally.old.ok < 2 ^ 64 - 1 }
-    requires refused { tally.old.refused < 2 ^ 64 - 1 }
-    requires bad { tally.old.bad < 2 ^ 64 - 1 }
+    requires room { HasRoom tally.old }
     ensures cause { HasSinkCause K.faults K.wants sink.old sink.new result }
     ensures text { (d : Desk) → StandsFor d console.now → Puts K.holds K.faults K.wants sink.old sink.new result (reply_to d (Some (Line.SheetOf n)) refusal) }
     ensures counts { (d : Desk) → StandsFor d console.now → OnOk result (counts_in tally.new ≡ counts_after d (counts_in tally.old) (Some (Line.SheetOf n)) refusal) }
     ensures more { IfOk result (λ more. more ≡ true) }
-    ensures more_ok { tally.new.ok ≤ tally.old.ok + 1 }
-    ensures more_refused { tally.new.refused ≤ tally.old.refused + 1 }
-    ensures more_bad { tally.new.bad ≤ tally.old.bad + 1 }
+    ensures counted { HasOneMore tally.old tally.new }
 {
     match console.tracked_row(n) {
         Some(row) => give_row(n, row, sink),

@@ -13,7 +13,7 @@ pub struct Tally {
 
 impl Tally {
     ghost use Rattle.std.specs.Prelude.{◌≡◌};
-    ghost use Rattle.lx_session.specs.Replying.{counts_in};
+    ghost use Rattle.lx_session.specs.LineReply.{counts_in};
 
     /// Nothing was counted yet.
     pub fn new() -> Tally

@@ -2,7 +2,7 @@
 
 ghost use Rattle.std.specs.Prelude.{◌<◌};
 
-use crate::{SessionFault, Tally, Turn, answer, session};
+use crate::{SessionFault, Tally, Turn, session};
 use lx_console::Console;
 use lx_io::{MemSink, MemSource, PlainSink, PlainSource};
 use lx_lex::Lines;

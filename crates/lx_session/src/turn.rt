@@ -5,7 +5,7 @@ ghost use Rattle.lx_spec.specs.Desk.{Desk};
 ghost use Rattle.lx_spec.specs.ValidEdit.{ValidCommand};
 ghost use Rattle.lx_spec.specs.Session.{count_of, command_of};
 ghost use Rattle.lx_console.specs.Standing.{StandsFor};
-ghost use Rattle.lx_session.specs.Turning.{turn_of, given, next_of};
+ghost use Rattle.lx_session.specs.LineState.{unattempted, meaning_of, next_of};
 ghost use Rattle.lx_session.specs.Attempts.{Attempted};
 
 use lx_console::Console;
@@ -28,19 +28,19 @@ pub struct Turn {
 impl Model for Turn {
     ghost use Rattle.std.specs.Prelude.{◌≡◌};
     ghost use Rattle.lx_spec.specs.declared.Command.TheVariants as commands;
-    ghost use Rattle.lx_session.specs.Turning.{Turning, IsTurn};
+    ghost use Rattle.lx_session.specs.LineState.{LineState, IsLineState};
 
-    ghost Value = { Turning };
+    ghost Value = { LineState };
 
     ghost view = { λ t. record { meaning = t.meaning; left = t.left; refusal = t.refusal } };
 
-    ghost invariant = { λ t. IsTurn (record { meaning = t.meaning; left = t.left; refusal = t.refusal }) × (t.tick ≡ commands.Tick) };
+    ghost invariant = { λ t. IsLineState (record { meaning = t.meaning; left = t.left; refusal = t.refusal }) × (t.tick ≡ commands.Tick) };
 }
 
 impl Turn {
     /// Takes up a line. None stands for a line that is too long, which is bad.
     pub fn begin(line: Option<&[u8]>) -> Turn
-        ensures { result ≡ turn_of (given (option_copied line.entry)) }
+        ensures { result ≡ unattempted (meaning_of (option_copied line.entry)) }
     {
         let meaning = match line {
             Some(line) => read_command(line),

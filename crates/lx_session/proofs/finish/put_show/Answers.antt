@@ -1,6 +1,6 @@
 use Rattle.std.proofs.Common.{◌∙◌, true, append-nil, []}
 use Rattle.lx_io.proofs.Chain.{Puts-is, Puts-ok, Puts-stops}
-use Rattle.lx_session.proofs.Framing.{show_saved}
+use Rattle.lx_session.proofs.ShownDesk.{show_saved}
 use Rattle.lx_session.proofs.finish.put_show.Goals as goal
 
 pub returns-in_err-write_show-clause-text : goal.returns-in_err-write_show-clause-text

@@ -1,6 +1,6 @@
 use Rattle.std.proofs.Common.{◌∙◌, true, append-nil, []}
 use Rattle.lx_io.proofs.Chain.{Puts-is, Puts-ok, Puts-stops}
-use Rattle.lx_session.proofs.Framing.{frame_shown}
+use Rattle.lx_session.proofs.ShownDesk.{frame_shown}
 use Rattle.lx_session.proofs.finish.put_universe.Goals as goal
 
 pub returns-in_err-put_frame-clause-text : goal.returns-in_err-put_frame-clause-text

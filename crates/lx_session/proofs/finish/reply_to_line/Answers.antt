@@ -1,5 +1,5 @@
 use Rattle.std.proofs.Common.{Some, ap, sym}
-use Rattle.lx_session.specs.Replying.{reply_to, counts_in}
+use Rattle.lx_session.specs.LineReply.{reply_to, counts_in}
 use Rattle.lx_io.proofs.Chain.{Puts-is}
 use Rattle.lx_session.proofs.Replies.{frame_reply, frame_counts, save_reply, save_counts, on_ok, sheet_counts}
 use Rattle.lx_session.proofs.finish.reply_to_line.Goals as goal

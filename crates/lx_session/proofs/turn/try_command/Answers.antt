@@ -1,4 +1,4 @@
-use Rattle.lx_session.proofs.Trying.{answered}
+use Rattle.lx_session.proofs.Commands.{answered}
 use Rattle.lx_session.proofs.turn.try_command.Goals as goal
 
 pub returns-clause-attempted : goal.returns-clause-attempted

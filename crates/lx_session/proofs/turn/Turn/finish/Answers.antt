@@ -1,6 +1,6 @@
 use Rattle.std.proofs.Common.{ap, sym, ◌∙◌}
 use Rattle.lx_io.proofs.Chain.{Puts-is}
-use Rattle.lx_session.specs.Replying.{reply_to}
+use Rattle.lx_session.specs.LineReply.{reply_to}
 use Rattle.lx_session.proofs.turn.Turn.finish.Goals as goal
 
 pub returns-in-Some-clause-text : goal.returns-in-Some-clause-text

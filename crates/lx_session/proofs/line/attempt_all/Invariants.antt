@@ -1,0 +1,15 @@
+use Rattle.std.proofs.Common.{◌≡◌}
+use Rattle.lx_spec.specs.Session.{Session}
+use Rattle.lx_console.specs.Standing.{StandsFor}
+use Rattle.lx_session.specs.LineProgress.{LineProgress}
+use Rattle.lx_session.proofs.line.attempt_all.Given as goal
+
+abbrev pub invariant-commands : goal.invariant-commands
+invariant-commands g l = record {
+  keeps : g.L.Listener.keeps l.listener l.console;
+  meaning : l.turn.meaning ≡ l.initial.turn.meaning;
+  progress : (s : Session) → StandsFor s.desk l.initial.console → LineProgress g.L.Listener.admits_all (g.L.Listener.heard l.initial.listener l.listener) s l.initial.turn l.turn l.console;
+}
+
+abbrev pub decreases-commands : goal.decreases-commands
+decreases-commands g l = l.turn.left

@@ -1,0 +1,82 @@
+//! One line, from its bytes to its reply.
+
+ghost use Rattle.std.specs.Prelude.{◌≡◌, ◌-◌, ◌++◌, IfOk, None, Some, not, true, option_copied};
+ghost use Rattle.lx_io.specs.Puts.{HasSinkCause};
+ghost use Rattle.lx_spec.specs.Desk.{Desk};
+ghost use Rattle.lx_spec.specs.Session.{is_quit};
+ghost use Rattle.lx_spec.specs.Session.{Session};
+ghost use Rattle.lx_console.specs.Standing.{StandsFor};
+ghost use Rattle.lx_session.specs.Attempts.{ListenedAttempt, heard_of};
+ghost use Rattle.lx_session.specs.LineState.{meaning_of, next_of};
+ghost use Rattle.lx_session.specs.LineProgress.{LineProgress};
+ghost use Rattle.lx_session.specs.LineReply.{HasRoom, HasOneMore};
+ghost use Rattle.lx_session.specs.LineAnswer.{LineAnswer};
+ghost use Rattle.lx_session.specs.LineOutcome.{FromSession};
+
+use crate::listener::Listener;
+use crate::tally::Tally;
+use crate::turn::Turn;
+use lx_console::Console;
+use lx_io::{Sink, SinkFault};
+use lx_spec::Command;
+
+/// Does what a line asks for, then appends its replies and counts them. None stands for a line that is too
+/// long, which is bad. It answers false exactly for `quit`.
+///
+/// A fault comes only where the sink answered it in this call; then a prefix of the replies was appended, and
+/// the line's commands were applied.
+pub(crate) fn answer<L: Listener, K: Sink>(
+    listener: &mut L,
+    console: &mut Console,
+    line: Option<&[u8]>,
+    sink: &mut K,
+    tally: &mut Tally,
+) -> Result<bool, SinkFault>
+    requires room { HasRoom tally.old }
+    requires keeps { L.keeps listener.old console.old }
+    ensures keeps { L.keeps listener.new console.new }
+    ensures answered { FromSession console.old tally.old (λ s. LineAnswer L.admits_all (L.heard listener.old listener.new) K.holds K.faults K.wants sink.old sink.new result s (meaning_of (option_copied line.entry)) console.new tally.new) }
+    ensures quit { IfOk result (λ more. more ≡ not (is_quit (meaning_of (option_copied line.entry)))) }
+    ensures cause { HasSinkCause K.faults K.wants sink.old sink.new result }
+    ensures more { HasOneMore tally.old tally.new }
+{
+    let mut turn = Turn::begin(line);
+    attempt_all(listener, &mut turn, console);
+    turn.finish(console, sink, tally)
+}
+
+/// Attempts the commands of a line.
+fn attempt_all<L: Listener>(listener: &mut L, turn: &mut Turn, console: &mut Console)
+    requires start { turn.old.refusal ≡ None }
+    requires keeps { L.keeps listener.old console.old }
+    ensures keeps { L.keeps listener.new console.new }
+    ensures meaning { turn.new.meaning ≡ turn.old.meaning }
+    ensures over { next_of turn.new ≡ None }
+    ensures tried { (s : Session) → StandsFor s.desk console.old → LineProgress L.admits_all (L.heard listener.old listener.new) s turn.old turn.new console.new }
+{
+    'commands: while let Some(command) = turn.next() {
+        let command = command.copy();
+        attempt_one(listener, turn, &command, console);
+    }
+}
+
+/// Attempts the next command of a line, which is this one.
+fn attempt_one<L: Listener>(
+    listener: &mut L,
+    turn: &mut Turn,
+    command: &Command,
+    console: &mut Console,
+)
+    requires next { next_of turn.old ≡ Some command.now }
+    requires keeps { L.keeps listener.old console.old }
+    ensures keeps { L.keeps listener.new console.new }
+    ensures attempted { (d : Desk) → StandsFor d console.old → ListenedAttempt L.admits_all d command.now turn.new.refusal console.new }
+    ensures heard { L.heard listener.old listener.new (heard_of command.now turn.new.refusal) }
+    ensures turn { turn.new ≡ record turn.old { left = turn.old.left - 1; refusal = turn.new.refusal } }
+{
+    let admitted = listener.admit(command);
+    if !turn.attempt(console, admitted) {
+        return;
+    }
+    listener.hear(command, console);
+}

@@ -1,0 +1,64 @@
+//! What listens to a session: it may refuse to admit a command, and hears of each that is accepted.
+
+ghost use Rattle.std.specs.Prelude.{◌≡◌, ◌++◌, ◌∷◌, [], Bool, true, List};
+ghost use Rattle.lx_spec.specs.declared.Command.{Command};
+ghost use Rattle.lx_spec.specs.Kept.{Kept};
+ghost use Rattle.lx_session.specs.Attempts.{AcceptedStep};
+
+use lx_console::Console;
+use lx_spec::Command;
+
+/// What listens to a session. Before each attempt at a command it is asked whether it admits it, and it hears of
+/// each command that was accepted, with the console after it.
+///
+/// A listener has three meanings for contracts: what it keeps true of itself together with the console (`keeps`),
+/// which accepted commands it heard of between two of its states (`heard`), and whether it admits every command
+/// (`admits_all`).
+pub trait Listener {
+    /// What it keeps true of itself together with the console.
+    ghost keeps: { Self → Kept → Type 0 };
+
+    /// From the first state to the second it heard of these accepted commands, in order.
+    ghost heard: { Self → Self → List Command → Type 0 };
+
+    /// Whether it admits every command.
+    ghost admits_all: { Bool };
+
+    /// Whether the command may be attempted. One that isn't admitted is refused with `Memory`.
+    fn admit(&mut self, command: &Command) -> bool
+        ensures keeps { (console : Kept) → keeps self.old console → keeps self.new console }
+        ensures heard { heard self.old self.new [] }
+        ensures all { admits_all ≡ true → result ≡ true };
+
+    /// Hears of a command that was accepted; the console is the one after it.
+    fn hear(&mut self, command: &Command, console: &Console)
+        requires { (before : Kept) × (keeps self.old before × AcceptedStep before command.now console.now) }
+        ensures keeps { keeps self.new console.now }
+        ensures heard { heard self.old self.new (command.now ∷ []) };
+
+    ghost nothing: { (state : Self) → heard state state [] };
+
+    ghost both: { (first middle last : Self) (before after : List Command) → heard first middle before → heard middle last after → heard first last (before ++ after) };
+}
+
+/// Listens to nothing, and admits every command.
+#[derive(Drop)]
+pub struct NoListener;
+
+impl Listener for NoListener {
+    ghost keeps = { λ _ _. Unit {0} };
+
+    ghost heard = { λ _ _ _. Unit {0} };
+
+    ghost admits_all = { true };
+
+    ghost nothing = { λ state. tt };
+
+    ghost both = { λ first middle last before after one two. tt };
+
+    fn admit(&mut self, _command: &Command) -> bool {
+        true
+    }
+
+    fn hear(&mut self, _command: &Command, _console: &Console) {}
+}

@@ -1,0 +1,60 @@
+//! A session: script lines are read one after another, and each is answered before the next is awaited.
+
+ghost use Rattle.std.specs.Prelude.{◌≤◌, true, IfSome};
+ghost use Rattle.lx_base.specs.declared.TheConstants.{INPUT_BYTES};
+ghost use Rattle.lx_lex.specs.Unread.{CanAdvance, SameSource, bytes_taken, source_left, unread};
+ghost use Rattle.lx_spec.specs.Desk.{Desk};
+ghost use Rattle.lx_console.specs.Standing.{StandsFor};
+ghost use Rattle.lx_session.specs.SessionOutcome.{SessionOutcome, HasSessionCause, KeepsLimit};
+
+use crate::fault::SessionFault;
+use crate::listener::{Listener, NoListener};
+use crate::take::take_line;
+use crate::tally::Tally;
+use lx_console::Console;
+use lx_io::{Sink, Source};
+use lx_lex::Lines;
+
+/// Answers the script lines that are left, up to `quit` or the end, on a console. Each line is done and
+/// its reply appended before the next is awaited.
+///
+/// `ReadFault` comes only where the source failed, `InputTooLong` exactly where a wanted line has a byte
+/// past the limit of the input; the lines before it are then wholly answered. `WriteFault` and `Memory`
+/// come only where the sink answered them; what was written is then a prefix of the whole text. However it
+/// ends, the console stands for the desk after the commands that were accepted.
+pub fn session<S: Source, K: Sink>(
+    console: &mut Console,
+    lines: &mut Lines<S>,
+    sink: &mut K,
+) -> Result<Tally, SessionFault>
+    requires going { CanAdvance lines.old }
+    requires within { bytes_taken lines.old ≤ INPUT_BYTES }
+    ensures same_source { SameSource lines.old lines.new }
+    ensures outcome { (d : Desk) → StandsFor d console.old → IfSome (unread S.left lines.old) (λ bytes. SessionOutcome true (λ commands. Unit {0}) d (bytes_taken lines.old) bytes (unread S.left lines.new) (source_left S.left lines.new) (K.holds sink.old) (K.holds sink.new) console.new result) }
+    ensures limit { IfSome (unread S.left lines.old) (λ bytes. KeepsLimit (bytes_taken lines.old) bytes result) }
+    ensures cause { HasSessionCause S.faults K.faults K.wants lines.old lines.new sink.old sink.new result }
+{
+    session_with(&mut NoListener, console, lines, sink)
+}
+
+/// As `session`, with a listener: a command that it doesn't admit is refused with `Memory`, and it hears of
+/// each command that is accepted, in order.
+pub fn session_with<L: Listener, S: Source, K: Sink>(
+    listener: &mut L,
+    console: &mut Console,
+    lines: &mut Lines<S>,
+    sink: &mut K,
+) -> Result<Tally, SessionFault>
+    requires going { CanAdvance lines.old }
+    requires within { bytes_taken lines.old ≤ INPUT_BYTES }
+    requires keeps { L.keeps listener.old console.old }
+    ensures same_source { SameSource lines.old lines.new }
+    ensures keeps { L.keeps listener.new console.new }
+    ensures outcome { (d : Desk) → StandsFor d console.old → IfSome (unread S.left lines.old) (λ bytes. SessionOutcome L.admits_all (L.heard listener.old listener.new) d (bytes_taken lines.old) bytes (unread S.left lines.new) (source_left S.left lines.new) (K.holds sink.old) (K.holds sink.new) console.new result) }
+    ensures limit { IfSome (unread S.left lines.old) (λ bytes. KeepsLimit (bytes_taken lines.old) bytes result) }
+    ensures cause { HasSessionCause S.faults K.faults K.wants lines.old lines.new sink.old sink.new result }
+{
+    let mut tally = Tally::new();
+    'script: while take_line(listener, console, lines, sink, &mut tally)? {}
+    Ok(tally)
+}
