@@ -87,6 +87,25 @@ fn a_line_has_at_most_4096_bytes_that_count(rt: HostRuntime) -> Result<(), Fail>
     Ok(())
 }
 
+/// Pieces of so many bytes, and the number of the first read, from 0, that isn't needed for the first line.
+const READS: [(usize, u64); 4] = [(1, 4), (2, 2), (3, 2), (4, 1)];
+
+/// The line comes first, although the next read fails.
+#[test]
+fn a_line_is_handed_out_before_a_later_read(rt: HostRuntime) -> Result<(), Fail> {
+    let alloc = rt.alloc();
+    for (piece, failing) in READS {
+        if piece == 0 {
+            return Err(Fail::from("a piece has a byte"));
+        }
+        let mut source = MemSource::new(b"one\ntwo\n".to_vec(alloc)?, piece, vec![in alloc; failing]?);
+        let (lines, last) = read_all(alloc, &mut source)?;
+        assert_eq!(rt; lines.as_slice(), b"one|".as_slice());
+        assert_eq!(rt; last, Step::ReadFault);
+    }
+    Ok(())
+}
+
 #[test]
 fn a_read_that_fails_in_a_line_is_told(rt: HostRuntime) -> Result<(), Fail> {
     let alloc = rt.alloc();

@@ -1,12 +1,14 @@
 //! Scripts over small shows, and what is written and counted: all of it is worked out by hand.
 
-ghost use Rattle.std.specs.Prelude.{◌<◌};
+ghost use Rattle.std.specs.Prelude.{◌≡◌, ◌<◌, None};
+ghost use Rattle.lx_io.specs.Causes.{one_more};
 
-use crate::{SessionFault, Tally, Turn, session};
+use crate::{Listener, SessionFault, Tally, Turn, session, session_with};
 use lx_console::Console;
-use lx_io::{MemSink, MemSource, PlainSink, PlainSource};
+use lx_io::{MemSink, MemSource, PlainSink, PlainSource, Sink, SinkFault};
 use lx_lex::Lines;
 use lx_show::Show;
+use lx_spec::Command;
 use std::alloc::{AllocError, Global};
 use std::test::Fail;
 
@@ -120,6 +122,15 @@ fn a_refused_command_and_a_bad_line_change_nothing(rt: HostRuntime) -> Result<()
         tally(1, 5, 1),
         written,
     )
+}
+
+/// The show is written as it stands after the edits.
+#[test]
+fn a_show_is_saved(rt: HostRuntime) -> Result<(), Fail> {
+    let mut console = prepared(rt.alloc(), AT_ONCE)?;
+    let script = b"time 1 down 0\nsave\n".as_slice();
+    let written = b"ok\nIDENT 3:0\nSET CHANNELS 2\nPATCH 1 1<1@HFF\nCUE 1\nPART 1\nUP 0 0\nDOWN 0 0\nCHAN 1@H80\nENDDATA\n".as_slice();
+    comes_to(rt.alloc(), &mut console, script, 100, tally(1, 0, 0), written)
 }
 
 /// A row is counted in none; the row of an absent cue is refused.
@@ -274,31 +285,136 @@ fn a_tick_that_is_not_admitted_ends_its_line(rt: HostRuntime) -> Result<(), Fail
     Ok(())
 }
 
-/// Lines, and whether more is to come after them. Only `quit` answers false.
-const LINES: [(Option<&[u8]>, bool); 4] = [
-    (Some(b"GO"), true),
-    (Some(b"go"), true),
-    (None, true),
-    (Some(b"quit ! good night"), false),
+/// A listener that admits so many commands, and counts those that it hears of.
+#[derive(Drop)]
+struct Few {
+    left: u32,
+    heard: u32,
+}
+
+impl Listener for Few {
+    ghost keeps = { λ _ _. Unit {0} };
+
+    ghost heard = { λ _ _ _. Unit {0} };
+
+    ghost admits_all = { false };
+
+    ghost nothing = { λ state. tt };
+
+    ghost both = { λ first middle last before after one two. tt };
+
+    fn admit(&mut self, _command: &Command) -> bool {
+        let admitted = self.left > 0;
+        self.left = self.left.saturating_sub(1);
+        admitted
+    }
+
+    fn hear(&mut self, _command: &Command, _console: &Console) {
+        self.heard = self.heard.saturating_add(1);
+    }
+}
+
+/// What isn't admitted is refused with `Memory`, and only what is accepted is heard of.
+#[test]
+fn a_listener_admits_and_hears(rt: HostRuntime) -> Result<(), Fail> {
+    let mut console = prepared(rt.alloc(), AT_ONCE)?;
+    let script = b"go\ngo\nmaster at 0\nframe\n".to_vec(rt.alloc())?;
+    let mut source = PlainSource::new(script, 100);
+    let mut sink = PlainSink::new(rt.alloc());
+    let mut few = Few { left: 2, heard: 0 };
+    let mut lines = Lines::new(&mut source);
+    let outcome = session_with(&mut few, &mut console, &mut lines, &mut sink);
+    assert!(rt; outcome == tally(1, 2, 0));
+    assert!(rt; sink.bytes() == b"ok\nrefused NoCueAfter 1\nrefused Memory\nframe 0 1 1=128\n".as_slice());
+    assert!(rt; few.heard == 1);
+    Ok(())
+}
+
+/// A sink that records what is written, and `|` for each flush. Each flush fails where it is told to.
+#[derive(Drop)]
+struct Recorder {
+    record: Vec<u8>,
+    fails: bool,
+    faults: u64,
+}
+
+impl Recorder {
+    /// Counts a fault.
+    fn fail(&mut self) -> SinkFault
+        ensures fault { result ≡ SinkFault.Failed }
+        ensures count { self.new.faults ≡ one_more self.old.faults }
+    {
+        self.faults = self.faults.saturating_add(1);
+        SinkFault::Failed
+    }
+}
+
+impl Sink for Recorder {
+    ghost holds = { λ _. None };
+
+    ghost faults = { λ s. s.faults };
+
+    ghost wants = { λ _. 0 };
+
+    fn write(&mut self, piece: &[u8]) -> Result<usize, SinkFault> {
+        match self.record.extend_from_slice(piece) {
+            Ok(()) => Ok(piece.len()),
+            Err(_) => Err(self.fail()),
+        }
+    }
+
+    fn flush(&mut self) -> Result<(), SinkFault> {
+        if self.fails || self.record.push(b'|').is_err() {
+            return Err(self.fail());
+        }
+        Ok(())
+    }
+}
+
+/// What a session over the script, read in pieces of so many bytes, writes and flushes.
+fn recorded(
+    alloc: Global,
+    script: &[u8],
+    piece: usize,
+    fails: bool,
+) -> Result<(Result<Tally, SessionFault>, Recorder), Fail>
+    requires { 0 < piece }
+{
+    let mut console = prepared(alloc, AT_ONCE)?;
+    let mut source = PlainSource::new(script.to_vec(alloc)?, piece);
+    let mut sink = Recorder {
+        record: Vec::new(alloc),
+        fails,
+        faults: 0,
+    };
+    let outcome = session(&mut console, &mut Lines::new(&mut source), &mut sink);
+    Ok((outcome, sink))
+}
+
+/// Scripts, in pieces of so many bytes, and what is written and flushed: before each read that may wait, and at the end.
+const FLUSHED: [(&[u8], usize, &[u8]); 4] = [
+    (b"go\nframe\n", 100, b"|ok\nframe 0 1 1=128\n||"),
+    (b"go\nframe\n", 3, b"|ok\n|frame 0 1 1=128\n||"),
+    (b"go\nquit\ngo\n", 100, b"|ok\n|"),
+    (b"fly", 100, b"|bad\n||"),
 ];
 
-/// Counts go on from those before.
 #[test]
-fn lines_are_answered_one_by_one(rt: HostRuntime) -> Result<(), Fail> {
-    let mut console = prepared(rt.alloc(), AT_ONCE)?;
-    let mut counts = Tally {
-        ok: 7,
-        refused: 5,
-        bad: 3,
-    };
-    let mut sink = PlainSink::new(rt.alloc());
-    for (line, more) in LINES {
-        if counts.ok > 100 || counts.refused > 100 || counts.bad > 100 {
-            return Err(Fail::from("too much was counted"));
+fn replies_are_flushed_before_a_wait(rt: HostRuntime) -> Result<(), Fail> {
+    for (script, piece, record) in FLUSHED {
+        if piece == 0 {
+            return Err(Fail::from("a piece has a byte"));
         }
-        assert!(rt; answer(&mut console, line, &mut sink, &mut counts) == Ok(more));
+        let (_, sink) = recorded(rt.alloc(), script, piece, false)?;
+        assert_eq!(rt; sink.record.as_slice(), record);
     }
-    assert!(rt; sink.bytes() == b"ok\nrefused NoCueAfter 1\nbad\n".as_slice());
-    assert!(rt; Ok(counts) == tally(8, 6, 4));
+    Ok(())
+}
+
+#[test]
+fn a_flush_that_fails_is_a_write_fault(rt: HostRuntime) -> Result<(), Fail> {
+    let (outcome, sink) = recorded(rt.alloc(), b"go\n".as_slice(), 100, true)?;
+    assert!(rt; outcome == Err(SessionFault::WriteFault));
+    assert!(rt; sink.faults == 1 && sink.record.is_empty());
     Ok(())
 }
