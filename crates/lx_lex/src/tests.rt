@@ -98,7 +98,11 @@ fn a_line_is_handed_out_before_a_later_read(rt: HostRuntime) -> Result<(), Fail>
         if piece == 0 {
             return Err(Fail::from("a piece has a byte"));
         }
-        let mut source = MemSource::new(b"one\ntwo\n".to_vec(alloc)?, piece, vec![in alloc; failing]?);
+        let mut source = MemSource::new(
+            b"one\ntwo\n".to_vec(alloc)?,
+            piece,
+            vec![in alloc; failing]?,
+        );
         let (lines, last) = read_all(alloc, &mut source)?;
         assert_eq!(rt; lines.as_slice(), b"one|".as_slice());
         assert_eq!(rt; last, Step::ReadFault);

@@ -12,10 +12,10 @@ use Rattle.lx_spec.specs.declared.Refusal.{Refusal}
 use Rattle.lx_spec.specs.declared.Refusal.TheVariants.{Memory}
 use Rattle.lx_spec.specs.Desk.{Desk, step, after_command}
 use Rattle.lx_spec.specs.Kept.{Kept}
-use Rattle.lx_spec.specs.Session.{Session, Attempt, answered, attempt, and_then, command_of, attempts_of, attempts_for, after_commands}
+use Rattle.lx_spec.specs.Session.{Session, Attempt, answered, attempt, and_then, command_of, attempts_of, attempts_for}
 use Rattle.lx_console.specs.Standing.{StandsFor, Refuses}
 use Rattle.lx_session.specs.LineState.{LineState, next_of}
-use Rattle.lx_session.specs.Attempts.{Attempted, AcceptedStep, ListenedAttempt, heard_of, WantsLast}
+use Rattle.lx_session.specs.Attempts.{Attempted, AcceptedStep, ListenedAttempt, heard_of, WantsLast, after_commands}
 use Rattle.lx_session.specs.LineProgress.{resumed, IsWanted, LineProgress}
 
 -- nothing was attempted yet

@@ -21,9 +21,10 @@ use Rattle.lx_spec.specs.Desk.{Desk, opened, after_command}
 use Rattle.lx_spec.specs.Kept.{Kept}
 use Rattle.lx_spec.specs.CutInput.{first_lines}
 use Rattle.lx_spec.specs.declared.Command.{Command}
-use Rattle.lx_spec.specs.Session.{Session, begin_at, ends_script, after_lines, session, replies, after_first, after_commands}
+use Rattle.lx_spec.specs.Session.{Session, begin_at, ends_script, after_lines, session, replies, after_first}
 use Rattle.lx_spec.specs.RefusedPlaces.{WantsAtEdits}
 use Rattle.lx_console.specs.Standing.{StandsFor}
+use Rattle.lx_session.specs.Attempts.{after_commands}
 use Rattle.lx_session.specs.declared.tally.Tally.{Tally}
 use Rattle.lx_session.specs.LineOutcome.{QuitLine, HalfAnsweredLine, Untouched, ScriptEnd, SinkStop, LineOutcome}
 use Rattle.lx_session.specs.LineReply.{counts_in}

@@ -22,10 +22,11 @@ use Rattle.lx_spec.specs.declared.Command.{Command}
 use Rattle.lx_spec.specs.Desk.{Desk, after_command}
 use Rattle.lx_spec.specs.Kept.{Kept}
 use Rattle.lx_spec.specs.CutInput.{first_lines}
-use Rattle.lx_spec.specs.Session.{Session, begin_at, ends_script, after_lines, lines_wanted, bytes_wanted, after_commands}
+use Rattle.lx_spec.specs.Session.{Session, begin_at, ends_script, after_lines, lines_wanted, bytes_wanted}
 use Rattle.lx_spec.specs.Script.{line_of as meant_by}
 use Rattle.lx_spec.specs.RefusedPlaces.{WantsAtEdits}
 use Rattle.lx_console.specs.Standing.{StandsFor}
+use Rattle.lx_session.specs.Attempts.{after_commands}
 use Rattle.lx_session.specs.declared.tally.Tally.{Tally}
 use Rattle.lx_session.specs.LineAnswer.{DoneLine}
 use Rattle.lx_session.specs.LineOutcome.{PassedLine, QuitLine, AnsweredLine}

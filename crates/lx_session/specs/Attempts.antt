@@ -1,13 +1,17 @@
 -- Attempts at a command on a console, and which of them want of memory refused.
-use Rattle.std.specs.Prelude.{◌≡◌, ◌≤◌, ◌<◌, ℕ, ◌==◌, Bool, true, false, ◌&&◌, Option, Some, None, List, [], ◌∷◌}
+use Rattle.std.specs.Prelude.{◌≡◌, ◌≤◌, ◌<◌, ℕ, ◌==◌, Bool, true, false, ◌&&◌, Option, Some, None, List, [], ◌∷◌, fold}
 use Rattle.std.specs.Result.{IsOkAnd}
 use Rattle.std.specs.List.{list_any}
 use Rattle.lx_spec.specs.declared.Command.{Command}
 use Rattle.lx_spec.specs.declared.Refusal.{Refusal}
 use Rattle.lx_spec.specs.declared.Refusal.TheVariants.{Memory}
-use Rattle.lx_spec.specs.Desk.{Desk, step}
+use Rattle.lx_spec.specs.Desk.{Desk, step, after_command}
 use Rattle.lx_spec.specs.Kept.{Kept}
 use Rattle.lx_console.specs.Standing.{StandsFor, Refuses}
+
+-- the desk after commands, in order
+abbrev pub after_commands : Desk → List Command → Desk
+after_commands d commands = fold after_command d commands
 
 -- a command that wasn't admitted is refused for want of memory, and any other as the console refuses it
 abbrev pub RefusesAttempt : Bool → Desk → Command → Refusal → Type 0

@@ -6,11 +6,11 @@ use Rattle.lx_io.specs.Puts.{Puts, AppendsFront}
 use Rattle.lx_spec.specs.declared.Command.{Command}
 use Rattle.lx_spec.specs.declared.Line.{Line}
 use Rattle.lx_spec.specs.Kept.{Kept}
-use Rattle.lx_spec.specs.Session.{Session, after_meaning, after_commands, is_quit}
+use Rattle.lx_spec.specs.Session.{Session, after_meaning, is_quit}
 use Rattle.lx_spec.specs.RefusedPlaces.{IsAcceptedEdit}
 use Rattle.lx_console.specs.Standing.{StandsFor}
 use Rattle.lx_session.specs.declared.tally.Tally.{Tally}
-use Rattle.lx_session.specs.Attempts.{WantsLast}
+use Rattle.lx_session.specs.Attempts.{WantsLast, after_commands}
 use Rattle.lx_session.specs.LineReply.{counts_in}
 
 -- The session goes on so by a line of this meaning, whatever want of memory refuses before it and after it, and the commands that were

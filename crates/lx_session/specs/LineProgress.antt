@@ -5,11 +5,11 @@ use Rattle.lx_spec.specs.declared.Command.{Command}
 use Rattle.lx_spec.specs.declared.Refusal.{Refusal}
 use Rattle.lx_spec.specs.Desk.{Desk, step}
 use Rattle.lx_spec.specs.Kept.{Kept}
-use Rattle.lx_spec.specs.Session.{Session, Attempt, attempts_for, command_of, after_commands}
+use Rattle.lx_spec.specs.Session.{Session, Attempt, attempts_for, command_of}
 use Rattle.lx_spec.specs.RefusedPlaces.{is_edit}
 use Rattle.lx_console.specs.Standing.{StandsFor}
 use Rattle.lx_session.specs.LineState.{LineState}
-use Rattle.lx_session.specs.Attempts.{WantsLast}
+use Rattle.lx_session.specs.Attempts.{WantsLast, after_commands}
 
 -- the attempts that are left, unless one was refused
 abbrev pub resumed : List ℕ → Option Command → ℕ → Option Refusal → Session → Attempt

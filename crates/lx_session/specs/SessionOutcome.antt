@@ -11,9 +11,10 @@ use Rattle.lx_spec.specs.Show.{Show}
 use Rattle.lx_spec.specs.Kept.{Kept}
 use Rattle.lx_spec.specs.Desk.{Desk, replay}
 use Rattle.lx_spec.specs.CutInput.{first_lines, CutOff}
-use Rattle.lx_spec.specs.Session.{replies, accepted, tallied, after_first, after_commands, bytes_wanted}
+use Rattle.lx_spec.specs.Session.{replies, accepted, tallied, after_first, bytes_wanted}
 use Rattle.lx_spec.specs.RefusedPlaces.{PlacesAreEdits}
 use Rattle.lx_console.specs.Standing.{StandsFor}
+use Rattle.lx_session.specs.Attempts.{after_commands}
 use Rattle.lx_session.specs.declared.fault.SessionFault.{SessionFault}
 use Rattle.lx_session.specs.declared.fault.SessionFault.TheVariants.{ReadFault, WriteFault, InputTooLong, Memory}
 use Rattle.lx_session.specs.declared.tally.Tally.{Tally}

@@ -9,7 +9,7 @@ use Rattle.lx_spec.specs.declared.Line.TheVariants as lines
 use Rattle.lx_spec.specs.declared.Refusal.{Refusal}
 use Rattle.lx_spec.specs.declared.Refusal.TheVariants.{AbsentCue, Memory}
 use Rattle.lx_spec.specs.TrackedLevel.{cue_of}
-use Rattle.lx_spec.specs.Desk.{Desk, step, after_command}
+use Rattle.lx_spec.specs.Desk.{Desk, step}
 use Rattle.lx_spec.specs.Output.{frame}
 use Rattle.lx_spec.specs.ShowText.{show_text}
 use Rattle.lx_spec.specs.Text.{lines_of}
@@ -133,10 +133,6 @@ ends_script line = is_quit (line_of line)
 -- the session of the lines up to quit, from a desk on
 abbrev pub session : Desk → List (List ℕ) → List ℕ → Session
 session d script places = after_lines places (begin_at d) (before_first ends_script script)
-
--- the desk after commands, in order
-abbrev pub after_commands : Desk → List Command → Desk
-after_commands d commands = fold after_command d commands
 
 -- the text that answers, the accepted commands in order, and the counts
 abbrev pub replies : Desk → List (List ℕ) → List ℕ → List ℕ
