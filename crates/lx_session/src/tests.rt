@@ -129,8 +129,16 @@ fn a_refused_command_and_a_bad_line_change_nothing(rt: HostRuntime) -> Result<()
 fn a_show_is_saved(rt: HostRuntime) -> Result<(), Fail> {
     let mut console = prepared(rt.alloc(), AT_ONCE)?;
     let script = b"time 1 down 0\nsave\n".as_slice();
-    let written = b"ok\nIDENT 3:0\nSET CHANNELS 2\nPATCH 1 1<1@HFF\nCUE 1\nPART 1\nUP 0 0\nDOWN 0 0\nCHAN 1@H80\nENDDATA\n".as_slice();
-    comes_to(rt.alloc(), &mut console, script, 100, tally(1, 0, 0), written)
+    let written =
+        b"ok\nIDENT 3:0\nSET CHANNELS 2\nPATCH 1 1<1@HFF\nCUE 1\nPART 1\nUP 0 0\nDOWN 0 0\nCHAN 1@H80\nENDDATA\n".as_slice();
+    comes_to(
+        rt.alloc(),
+        &mut console,
+        script,
+        100,
+        tally(1, 0, 0),
+        written,
+    )
 }
 
 /// A row is counted in none; the row of an absent cue is refused.
@@ -325,7 +333,9 @@ fn a_listener_admits_and_hears(rt: HostRuntime) -> Result<(), Fail> {
     let mut lines = Lines::new(&mut source);
     let outcome = session_with(&mut few, &mut console, &mut lines, &mut sink);
     assert!(rt; outcome == tally(1, 2, 0));
-    assert!(rt; sink.bytes() == b"ok\nrefused NoCueAfter 1\nrefused Memory\nframe 0 1 1=128\n".as_slice());
+    assert!(rt;
+        sink.bytes() == b"ok\nrefused NoCueAfter 1\nrefused Memory\nframe 0 1 1=128\n".as_slice()
+    );
     assert!(rt; few.heard == 1);
     Ok(())
 }
