@@ -1,0 +1,43 @@
+-- Unsent commands of which the history has some already.
+use Rattle.std.proofs.Common.{◌≡◌, ◌-◌, ◌≤◌, List, [], ◌∷◌, ◌++◌, length, drop, refl, sym, ap, ◌∙◌, arith, append_assoc, length-append}
+use Rattle.std.proofs.lemmas.List.{append-nil}
+use Rattle.lx_spec.specs.declared.Command.{Command}
+use Rattle.lx_gate.specs.Gates.{Published, IsEntered}
+use Rattle.lx_gate.proofs.Prefixes.{prefix_length}
+
+drop_append : {A : Type 0} (xs ys : List A) → drop (length xs) (xs ++ ys) ≡ ys
+drop_append [] ys = refl
+drop_append (x ∷ xs) ys = drop_append xs ys
+
+append_cancel : {A : Type 0} (xs ys zs : List A) → xs ++ ys ≡ xs ++ zs → ys ≡ zs
+append_cancel xs ys zs h = sym (drop_append xs ys) ∙ (ap (drop (length xs)) h ∙ drop_append xs zs)
+
+-- what the history lacks of the unsent commands, after those that it has
+pub entered_whole : (g : Published) (unsent : List Command) → IsEntered g unsent
+    → g.entered ++ drop (length g.entered - length g.published) unsent ≡ g.published ++ unsent
+entered_whole g unsent h =
+    let b = h.begins.0 in
+    let r = h.rest.0 in
+    let tail : b ++ r ≡ unsent = append_cancel g.published (b ++ r) unsent (sym (append_assoc g.published b r) ∙ (ap (λ w. w ++ r) h.begins.1 ∙ h.rest.1)) in
+    let n : length g.entered - length g.published ≡ length b = omega (arith, sym (ap length h.begins.1) ∙ length-append g.published b) in
+    let rest : drop (length g.entered - length g.published) unsent ≡ r = ap (λ k. drop k unsent) n ∙ (ap (drop (length b)) (sym tail) ∙ drop_append b r) in
+    ap (λ w. g.entered ++ w) rest ∙ h.rest.1
+
+-- so many of the unsent commands the history has
+pub entered_known : (g : Published) (unsent : List Command) → IsEntered g unsent → length g.entered - length g.published ≤ length unsent
+entered_known g unsent h = let e = prefix_length g.entered (g.published ++ unsent) h.rest in let f = length-append g.published unsent in omega arith
+
+-- the history has them all, and none are published
+pub entered_all : (p u e : List Command) → e ≡ p ++ u → IsEntered (record { published = p; entered = e }) u
+entered_all p u e is = record { begins = (u, sym is); rest = ([], append-nil e ∙ is) }
+
+-- all are published
+pub entered_none : (p e : List Command) → e ≡ p → IsEntered (record { published = p; entered = e }) []
+entered_none p e is = record { begins = ([], append-nil p ∙ sym is); rest = ([], append-nil e ∙ (is ∙ sym (append-nil p))) }
+
+-- a further unsent command
+pub entered_push : (g : Published) (unsent : List Command) (c : Command) → IsEntered g unsent → IsEntered g (unsent ++ c ∷ [])
+entered_push g unsent c h = record {
+  begins = h.begins;
+  rest = (h.rest.0 ++ c ∷ [], sym (append_assoc g.entered h.rest.0 (c ∷ [])) ∙ (ap (λ w. w ++ c ∷ []) h.rest.1 ∙ append_assoc g.published unsent (c ∷ [])));
+}

@@ -1,0 +1,8 @@
+use Rattle.std.proofs.Common.{◌++◌, sym, ap, ◌∙◌}
+use Rattle.lx_gate.proofs.Entering.{entered_all}
+use Rattle.lx_gate.proofs.gate.Gate+G+GateWriter+G.publish.Goals as goal
+
+pub returns-in_err-send-clause-entered : goal.returns-in_err-send-clause-entered
+returns-in_err-send-clause-entered g c =
+    entered_all c.self.inside.published c.args.unsent.now.commands.items c.again.result
+    (c.again.ensures ∙ (c.in_ok-entered.ensures ∙ ap (λ v. v.published ++ c.args.unsent.now.commands.items) (sym c.self.view_is)))

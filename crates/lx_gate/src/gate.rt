@@ -1,0 +1,187 @@
+//! The gate: it publishes versions, and ends by `close`.
+ghost use Rattle.std.specs.Prelude.{◌≡◌, ◌+◌, ◌-◌, ◌<◌, ◌≤◌, ◌^◌, ◌++◌, List, [], length, IsSomeAnd, IfOk, OnOk, OnErr, drop};
+ghost use Rattle.lx_spec.specs.declared.Command.{Command};
+ghost use Rattle.lx_spec.specs.Show.{Show};
+ghost use Rattle.lx_gate.specs.Commits.{changed};
+ghost use Rattle.lx_gate.specs.Frames.{AreFramesOf, moment_after, IsVersion};
+ghost use Rattle.lx_gate.specs.Gates.{IsAtRest, IsEntered};
+ghost use Rattle.lx_gate.specs.Notes.{IsNoteOf, list_of};
+
+use crate::{Change, Commit, GateRule, History, Note, Origin, Prefix, Shows, Unsent, Version};
+use left_right::writer::Writer;
+use lx_spec::Command;
+use std::alloc::{AllocError, Global};
+use std::marker::Model;
+use std::sync::Wait;
+
+pub type GateWriter<G> = Writer<Version<G>, Commit<G>, (), GateRule<G>>;
+
+/// What a writer shows to taps.
+pub trait Window {
+    /// Taps are shown the version of this list over this show, and nothing else is on its way.
+    ghost rests: { Self → Show → List Command → Type 0 };
+}
+
+impl<G: Origin> Window for GateWriter<G> {
+    ghost rests = { λ w show list. IsAtRest show list w.desk.shown.value.list w.desk.shown.value.slots w.desk.shown.value.count w.desk.shown.value.moment (drop w.behind w.log.items) };
+}
+
+/// The gate over a writer of type `W`. Contracts see it as the commands that it has published, and those in its history.
+pub struct Gate<G: Origin, W: Window> {
+    pub(crate) writer: Option<W>,
+    pub(crate) history: History<G>,
+    pub(crate) entered: Prefix<G>,
+    pub(crate) published: Prefix<G>,
+    pub(crate) alloc: Global,
+}
+
+impl<G: Origin, W: Window> Model for Gate<G, W> {
+    ghost use Rattle.std.specs.Prelude.{IsSomeAnd};
+    ghost use Rattle.lx_gate.specs.Gates.{Published};
+
+    ghost Value = { Published };
+
+    ghost view = { λ g. record { published = g.published; entered = g.entered } };
+
+    ghost invariant = { λ g. IsSomeAnd g.writer (λ w. W.rests w G.show g.published) };
+}
+
+impl<G: Origin> Gate<G, GateWriter<G>> {
+    /// Publishes all unsent commands at one step. An error is want of memory; then taps see what they saw, and the commands
+    /// go out with a later publish. It may wait for taps.
+    pub fn publish<R: Wait>(
+        &mut self,
+        rt: &R,
+        unsent: &mut Unsent,
+        frames: &[u8],
+        moment: u32,
+    ) -> Result<(), AllocError>
+        requires entered { IsEntered self.old unsent.old.commands.items }
+        requires slots { length frames.now ≡ 8192 }
+        requires frames { AreFramesOf G.show (self.old.published ++ unsent.old.commands.items) frames.now }
+        requires moment { moment ≡ moment_after G.show (self.old.published ++ unsent.old.commands.items) }
+        requires room { length self.old.published + length unsent.old.commands.items < 2 ^ 64 - 1 }
+        ensures entered { IsEntered self.new unsent.new.commands.items }
+        ensures ok { OnOk result ((self.new.published ≡ self.old.published ++ unsent.old.commands.items) × (unsent.new.commands.items ≡ [])) }
+        ensures err { OnErr result ((self.new.published ≡ self.old.published) × (unsent.new.commands.items ≡ unsent.old.commands.items)) }
+    {
+        let Some(writer) = &self.writer else {
+            unreachable!()
+        };
+        let changes = changes_of(self.alloc, &writer.published().slots, frames)?;
+        let entered = self.enter(unsent)?;
+        self.entered = entered.again();
+        let commit = Commit {
+            changes,
+            list: entered.again(),
+            moment,
+        };
+        send(rt, &mut self.writer, commit)?;
+        self.published = entered;
+        unsent.commands.clear();
+        Ok(())
+    }
+
+    /// The history with all unsent commands. It has some of them already where a publish failed.
+    fn enter(&self, unsent: &Unsent) -> Result<Prefix<G>, AllocError>
+        requires entered { IsEntered self.now unsent.now.commands.items }
+        requires room { length self.now.published + length unsent.now.commands.items < 2 ^ 64 - 1 }
+        ensures { IfOk result (λ list. list ≡ self.now.published ++ unsent.now.commands.items) }
+    {
+        let mut entered = self.entered.again();
+        let known = entered.len() - self.published.len();
+        if entered.extend(&self.history, after(&unsent.commands, known)) {
+            Ok(entered)
+        } else {
+            Err(AllocError)
+        }
+    }
+
+    /// What is published now. It takes no memory and waits for nobody.
+    pub fn note(&self) -> Note
+        ensures gate { IsNoteOf G.show G.book result }
+        ensures list { list_of result ≡ self.now.published }
+    {
+        let Some(writer) = &self.writer else {
+            unreachable!()
+        };
+        let version = writer.published();
+        Note {
+            slots: version.slots,
+            count: version.count,
+            moment: version.moment,
+            seen: self.published.mark(),
+        }
+    }
+
+    /// How many commands are published.
+    pub fn count(&self) -> u64
+        ensures { result ≡ length self.now.published }
+    {
+        self.published.len()
+    }
+
+    /// Ends the gate. It may wait for taps.
+    pub fn close<R: Wait>(self, rt: &R) {
+        let Gate {
+            writer,
+            history: _history,
+            entered: _entered,
+            published: _published,
+            alloc: _,
+        } = self;
+        if let Some(writer) = writer {
+            let _version = writer.take(rt);
+        }
+    }
+}
+
+/// The commands after the first `known`.
+fn after(commands: &Vec<Command>, known: u64) -> &[Command]
+    requires { known ≤ length commands.now.items }
+    ensures { result.now ≡ drop known commands.now.items }
+{
+    &commands[known as usize..]
+}
+
+/// Publishes a commit at one step. An error changes nothing.
+fn send<G: Origin, R: Wait>(
+    rt: &R,
+    writer: &mut Option<GateWriter<G>>,
+    commit: Commit<G>,
+) -> Result<(), AllocError>
+    requires rest { IsSomeAnd writer.old (λ w. drop w.behind w.log.items ≡ []) }
+    requires slots { IsSomeAnd writer.old (λ w. AreFramesOf G.show commit.list (changed w.desk.shown.value.slots commit.changes.items)) }
+    requires moment { commit.moment ≡ moment_after G.show commit.list }
+    ensures ok { OnOk result (IsSomeAnd writer.new (λ w. ⟦<GateWriter<G> as Window>⟧.rests w G.show commit.list)) }
+    ensures err { OnErr result ((list : List Command) → IsSomeAnd writer.old (λ w. ⟦<GateWriter<G> as Window>⟧.rests w G.show list) → IsSomeAnd writer.new (λ w. ⟦<GateWriter<G> as Window>⟧.rests w G.show list)) }
+{
+    let Some(mut open) = writer.take() else {
+        unreachable!()
+    };
+    let (open, answer) = match open.append(commit) {
+        Err(_) => (open, Err(AllocError)),
+        Ok(()) => (open.publish_as::<Shows<G>, R>(rt).0, Ok(())),
+    };
+    match writer.replace(open) {
+        None => answer,
+        Some(_) => unreachable!(),
+    }
+}
+
+/// The slots in which two lists of slots differ, with the values of the second.
+fn changes_of(alloc: Global, slots: &[u8; 8192], frames: &[u8]) -> Result<Vec<Change>, AllocError>
+    requires { length frames.now ≡ 8192 }
+    ensures { IfOk result (λ changes. changed slots.now changes.items ≡ frames.now) }
+{
+    let mut changes = Vec::new(alloc);
+    for i in 0..8192 {
+        if frames[i] != slots[i] {
+            changes.push(Change {
+                slot: i as u16,
+                value: frames[i],
+            })?;
+        }
+    }
+    Ok(changes)
+}

@@ -1,0 +1,24 @@
+//! Versions of the desk's frames: one gate publishes them, and a tap for each universe takes them without waiting.
+#![tactic(auto)]
+
+mod gate;
+mod history;
+mod note;
+mod origin;
+mod port;
+mod rule;
+mod senders;
+mod start;
+mod tap;
+mod unsent;
+mod version;
+
+pub use gate::{Gate, GateWriter, Window};
+pub use history::{EmptyHistory, History, Prefix};
+pub use note::Note;
+pub use origin::Origin;
+pub use port::{GatePort, GateReader, LrPort, Port, Stamp};
+pub use rule::{GateRule, Shows};
+pub use tap::Tap;
+pub use unsent::Unsent;
+pub use version::{Change, Commit, Version};

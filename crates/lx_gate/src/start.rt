@@ -1,0 +1,80 @@
+//! The start of a gate.
+ghost use Rattle.std.specs.Prelude.{◌≡◌, ◌+◌, ◌≤◌, [], replicate, IfOk, vec_len, vec_capacity};
+ghost use Rattle.lx_spec.specs.Show.{Valid};
+ghost use Rattle.lx_gate.specs.Gates.{Published};
+ghost use Rattle.lx_gate.specs.Places.{EachAt};
+
+use crate::{EmptyHistory, Gate, GatePort, GateWriter, LrPort, Origin, Prefix, Tap, Version};
+use left_right::writer::Writer;
+use std::alloc::{AllocError, Global};
+
+impl<G: Origin> Gate<G, GateWriter<G>> {
+    /// A gate over a show that has published nothing, and a tap for each universe, at place u - 1 that of universe u, which has
+    /// taken and learnt nothing. An error is want of memory.
+    pub fn open(
+        alloc: Global,
+        universes: u8,
+        history: EmptyHistory,
+    ) -> Result<(Gate<G, GateWriter<G>>, Vec<Tap<GatePort<G>>>), AllocError>
+        requires low { 1 ≤ universes }
+        requires high { universes ≤ 16 }
+        requires valid { Valid G.show }
+        requires book { history.seen.book ≡ G.book }
+        ensures gate { IfOk result (λ r. r.0 ≡ record { published = []; entered = [] }) }
+        ensures universes { IfOk result (λ r. vec_len r.1 ≡ universes) }
+        ensures taps { IfOk result (λ r. EachAt (λ k t. (t.universe ≡ k + 1) × (t.port.seen ≡ []) × (t.port.learnt ≡ [])) r.1.items) }
+    {
+        let (history, none) = history.named::<G>();
+        let mut taps = Vec::with_capacity(alloc, universes as usize)?;
+        let writer = Writer::new(
+            alloc,
+            first_version(none.again()),
+            first_version(none.again()),
+            universes as usize,
+        )?;
+        fill(&writer, &none, &mut taps, universes);
+        let gate = Gate {
+            writer: Some(writer),
+            history,
+            entered: none.again(),
+            published: none,
+            alloc,
+        };
+        Ok((gate, taps))
+    }
+}
+
+/// The version of the empty list.
+fn first_version<G: Origin>(list: Prefix<G>) -> Version<G>
+    ensures { result ≡ record { slots = replicate 8192 0; list = list; count = 0; moment = 0 } }
+{
+    Version {
+        slots: [0; 8192],
+        list,
+        count: 0,
+        moment: 0,
+    }
+}
+
+/// Makes the taps. A tap for which no reader can be had reads nothing.
+fn fill<G: Origin>(
+    writer: &GateWriter<G>,
+    none: &Prefix<G>,
+    taps: &mut Vec<Tap<GatePort<G>>>,
+    universes: u8,
+)
+    requires high { universes ≤ 16 }
+    requires valid { Valid G.show }
+    requires none { none.now ≡ [] }
+    requires empty { taps.old.items ≡ [] }
+    requires len { vec_len taps.old ≡ 0 }
+    requires room { universes ≤ vec_capacity taps.old }
+    ensures universes { vec_len taps.new ≡ universes }
+    ensures taps { EachAt (λ k t. (t.universe ≡ k + 1) × (t.port.seen ≡ []) × (t.port.learnt ≡ [])) taps.new.items }
+{
+    for place in 0..universes {
+        let reader = writer.factory().reader().ok();
+        let port = LrPort::new(reader, none.again(), none.again());
+        taps.push_reserved(Tap::new(port, place + 1));
+    }
+}
