@@ -7,6 +7,7 @@ use Rattle.lx_console.specs.Slots.{universe as universe_in}
 use Rattle.std.proofs.lemmas.List.{take-replicate, drop-replicate}
 use Rattle.std.specs.List.{slice_range}
 use Rattle.lx_gate.specs.Places.{EachAt}
+use Rattle.lx_gate.specs.Readings.{nothing_told}
 
 pub each_snoc : {A : Type 0} (P : ℕ → A → Type 0) (xs : List A) (x : A) (n : ℕ) → EachAt P xs → n ≡ length xs → P n x → EachAt P (xs ++ x ∷ [])
 each_snoc P [] x n h e p zero y is = let same : x ≡ y = cc in subst (λ z. P zero z) same (subst (λ k. P k x) e p)
@@ -31,11 +32,11 @@ range_is u slots low = ap (λ (n : ℕ). take n (drop (512 * (u - 1)) slots)) (w
 
 -- the slots of one universe of a version
 pub frame_of_version : (show : Show) (list : List Command) (u : ℕ) (slots : List ℕ) (count moment : ℕ) → 1 ≤ u → u ≤ 16 → IsVersion show list slots count moment
-    → IsFrame show list u (slice_range {X = ℕ} slots (512 * (u - 1)) (512 * u)) count moment
+    → IsFrame show list u (slice_range {X = ℕ} slots (512 * (u - 1)) (512 * u)) (record { count = count; moment = moment })
 unfolding AreFramesOf
 frame_of_version show list u slots count moment low high v = record { slots_are = range_is u slots low ∙ v.slots_are u low high; count_is = v.count_is; moment_is = v.moment_is }
 
-pub first_frame : (show : Show) (u : ℕ) → 1 ≤ u → u ≤ 16 → AreFramesOf show [] (replicate 8192 0) → IsFrame show [] u (replicate 512 0) 0 0
+pub first_frame : (show : Show) (u : ℕ) → 1 ≤ u → u ≤ 16 → AreFramesOf show [] (replicate 8192 0) → IsFrame show [] u (replicate 512 0) (record { count = 0; moment = 0 })
 unfolding AreFramesOf moment_after
 first_frame show u low high dark =
     let all : slice_range {X = ℕ} (replicate 8192 0) (512 * (u - 1)) (512 * u) ≡ replicate (512 * u - 512 * (u - 1)) 0 = range_replicate (512 * (u - 1)) (512 * u) 8192 (omega arith) (omega arith) in
@@ -44,5 +45,10 @@ first_frame show u low high dark =
 
 -- the same, from a place that is named otherwise
 pub frame_from : (show : Show) (list : List Command) (u from : ℕ) (slots : List ℕ) (count moment : ℕ) → 1 ≤ u → u ≤ 16 → from ≡ 512 * (u - 1) → IsVersion show list slots count moment
-    → IsFrame show list u (slice_range {X = ℕ} slots from (512 * u)) count moment
-frame_from show list u from slots count moment low high is v = subst (λ (n : ℕ). IsFrame show list u (slice_range {X = ℕ} slots n (512 * u)) count moment) (sym is) (frame_of_version show list u slots count moment low high v)
+    → IsFrame show list u (slice_range {X = ℕ} slots from (512 * u)) (record { count = count; moment = moment })
+frame_from show list u from slots count moment low high is v = subst (λ (n : ℕ). IsFrame show list u (slice_range {X = ℕ} slots n (512 * u)) (record { count = count; moment = moment })) (sym is) (frame_of_version show list u slots count moment low high v)
+
+-- what is told of a tap that has taken and learnt nothing
+pub new_tap : (u : ℕ) (seen learnt : List Command) (reads misses : ℕ) → seen ≡ [] → learnt ≡ [] → reads ≡ 0 → misses ≡ 0
+    → record { universe = u; told = record { seen = seen; learnt = learnt; reads = reads; misses = misses } } ≡ nothing_told u
+new_tap u seen learnt reads misses h k m n = cc (h, k, m, n)

@@ -4,6 +4,7 @@ use Rattle.lx_base.specs.declared.TheConstants.{UNIVERSES}
 use Rattle.lx_spec.specs.declared.Command.{Command}
 use Rattle.lx_spec.specs.Show.{Show}
 use Rattle.lx_spec.specs.Versions.{version}
+use Rattle.lx_gate.specs.declared.stamp.Stamp.{Stamp}
 use Rattle.lx_console.specs.Slots.{universe as universe_in}
 
 -- the slots of a universe after the commands
@@ -24,8 +25,8 @@ pub record IsVersion (show : Show) (list : List Command) (slots : List ℕ) (cou
   pub count_is : count ≡ length list
   pub moment_is : moment ≡ moment_after show list
 
--- the same of the slots of one universe
-pub record IsFrame (show : Show) (list : List Command) (universe : ℕ) (slots : List ℕ) (count moment : ℕ) : Type 0 where
+-- these slots of one universe and this stamp are the version of the commands
+pub record IsFrame (show : Show) (list : List Command) (universe : ℕ) (slots : List ℕ) (stamp : Stamp) : Type 0 where
   pub slots_are : slots ≡ frame_after show list universe
-  pub count_is : count ≡ length list
-  pub moment_is : moment ≡ moment_after show list
+  pub count_is : stamp.count ≡ length list
+  pub moment_is : stamp.moment ≡ moment_after show list

@@ -1,11 +1,12 @@
 -- What a note tells.
-use Rattle.std.specs.Prelude.{◌≡◌, List}
+use Rattle.std.specs.Prelude.{◌≡◌, ℕ, List}
 use Rattle.logbook.specs.Pages.{Book}
 use Rattle.lx_spec.specs.Show.{Show}
 use Rattle.lx_spec.specs.declared.Command.{Command}
 use Rattle.lx_gate.specs.declared.note.Note.{Note}
-use Rattle.lx_gate.specs.CommandLists.{flat}
-use Rattle.lx_gate.specs.Frames.{IsVersion}
+use Rattle.lx_gate.specs.CommandLists.{flat, longest}
+use Rattle.lx_gate.specs.declared.stamp.Stamp.{Stamp}
+use Rattle.lx_gate.specs.Frames.{IsVersion, IsFrame}
 
 -- the commands that led to a note
 abbrev pub list_of : Note → List Command
@@ -15,3 +16,8 @@ list_of note = flat note.seen.log
 pub record IsNoteOf (show : Show) (book : Book) (note : Note) : Type 0 where
   pub book_is : note.seen.book ≡ book
   pub version : IsVersion show (list_of note) note.slots note.count note.moment
+
+-- slots and stamp of a version became those of the note, where its list is longer
+abbrev pub KeepsLater : Note → ℕ → List ℕ → Stamp → List ℕ → Stamp → Type 0
+KeepsLater note universe slots stamp slots' stamp' = (show : Show) (list : List Command) → IsVersion show (list_of note) note.slots note.count note.moment
+    → IsFrame show list universe slots stamp → IsFrame show (longest list (list_of note)) universe slots' stamp'

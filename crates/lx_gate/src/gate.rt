@@ -4,7 +4,7 @@ ghost use Rattle.lx_spec.specs.declared.Command.{Command};
 ghost use Rattle.lx_spec.specs.Show.{Show};
 ghost use Rattle.lx_gate.specs.Commits.{changed};
 ghost use Rattle.lx_gate.specs.Frames.{AreFramesOf, moment_after, IsVersion};
-ghost use Rattle.lx_gate.specs.Gates.{IsAtRest, IsEntered};
+ghost use Rattle.lx_gate.specs.Gates.{IsAtRest, IsEntered, StillRests, HasSent, HasSentNone};
 ghost use Rattle.lx_gate.specs.Notes.{IsNoteOf, list_of};
 
 use crate::{Change, Commit, GateRule, History, Note, Origin, Prefix, Shows, Unsent, Version};
@@ -62,8 +62,8 @@ impl<G: Origin> Gate<G, GateWriter<G>> {
         requires moment { moment ≡ moment_after G.show (self.old.published ++ unsent.old.commands.items) }
         requires room { length self.old.published + length unsent.old.commands.items < 2 ^ 64 - 1 }
         ensures entered { IsEntered self.new unsent.new.commands.items }
-        ensures ok { OnOk result ((self.new.published ≡ self.old.published ++ unsent.old.commands.items) × (unsent.new.commands.items ≡ [])) }
-        ensures err { OnErr result ((self.new.published ≡ self.old.published) × (unsent.new.commands.items ≡ unsent.old.commands.items)) }
+        ensures ok { OnOk result (HasSent self.old unsent.old.commands.items self.new unsent.new.commands.items) }
+        ensures err { OnErr result (HasSentNone self.old unsent.old.commands.items self.new unsent.new.commands.items) }
     {
         let Some(writer) = &self.writer else {
             unreachable!()
@@ -154,7 +154,7 @@ fn send<G: Origin, R: Wait>(
     requires slots { IsSomeAnd writer.old (λ w. AreFramesOf G.show commit.list (changed w.desk.shown.value.slots commit.changes.items)) }
     requires moment { commit.moment ≡ moment_after G.show commit.list }
     ensures ok { OnOk result (IsSomeAnd writer.new (λ w. ⟦<GateWriter<G> as Window>⟧.rests w G.show commit.list)) }
-    ensures err { OnErr result ((list : List Command) → IsSomeAnd writer.old (λ w. ⟦<GateWriter<G> as Window>⟧.rests w G.show list) → IsSomeAnd writer.new (λ w. ⟦<GateWriter<G> as Window>⟧.rests w G.show list)) }
+    ensures err { OnErr result (StillRests ⟦<GateWriter<G> as Window>⟧.rests G.show writer.old writer.new) }
 {
     let Some(mut open) = writer.take() else {
         unreachable!()

@@ -3,22 +3,15 @@ ghost use Rattle.std.specs.Prelude.{◌≡◌, ◌≤◌, ◌-◌, ◌*◌, ◌�
 ghost use mathlib.Core.List.{IsPrefix};
 ghost use Rattle.lx_io.specs.Causes.{Rose};
 ghost use Rattle.lx_spec.specs.declared.Command.{Command};
-ghost use Rattle.lx_gate.specs.Frames.{IsVersion};
+ghost use Rattle.lx_gate.specs.Frames.{IsVersion, IsFrame};
 ghost use Rattle.lx_gate.specs.CommandLists.{IsChained, longest};
 ghost use Rattle.lx_gate.specs.Notes.{IsNoteOf, list_of};
 ghost use Rattle.lx_spec.specs.Show.{Show};
 ghost use Rattle.logbook.specs.Pages.{Book};
-ghost use Rattle.lx_gate.specs.Readings.{IsReading};
+ghost use Rattle.lx_gate.specs.Readings.{IsReading, Told, HasMissed, HasLearnt};
 
-use crate::{GateRule, Note, Origin, Prefix, Shows, Version};
+use crate::{GateRule, Note, Origin, Prefix, Shows, Stamp, Version};
 use left_right::reader::Reader;
-
-/// How many commands led to a version, and the moment in hundredths of a second.
-#[derive(Clone, Copy, Debug, PartialEq, Eq)]
-pub struct Stamp {
-    pub count: u64,
-    pub moment: u32,
-}
 
 /// What a tap reads from: one gate, whose versions it gives.
 pub trait Port {
@@ -28,38 +21,23 @@ pub trait Port {
     /// The history of the gate that it reads.
     ghost book: { Book };
 
-    /// The list that the last reading was of.
-    ghost seen: { Self → List Command };
-
-    /// The longest list that it learnt.
-    ghost learnt: { Self → List Command };
-
-    /// How often it had a reading.
-    ghost reads: { Self → ℕ };
-
-    /// How often it had none.
-    ghost misses: { Self → ℕ };
+    /// What it was told.
+    ghost told: { Self → Told };
 
     /// Gives the slots of a universe and the stamp, wholly of one version. None is a miss: `out` is as before.
     fn read(&mut self, universe: u8, out: &mut [u8; 512]) -> Option<Stamp>
         requires low { 1 ≤ universe }
         requires high { universe ≤ 16 }
-        ensures some { IfSome result (λ stamp. IsReading show universe (seen self.old) (learnt self.old) (seen self.new) out.new stamp.count stamp.moment) }
-        ensures reads { IfSome result (λ _. Rose (reads self.old) (reads self.new)) }
-        ensures none { result ≡ None → (seen self.new ≡ seen self.old) × (out.new ≡ out.old) }
-        ensures misses { result ≡ None → Rose (misses self.old) (misses self.new) }
-        ensures learnt { learnt self.new ≡ learnt self.old }
-        ensures chained { IsChained (seen self.new) (learnt self.new) };
+        ensures some { IfSome result (λ stamp. IsReading show universe (told self.old) (told self.new) out.new stamp) }
+        ensures none { result ≡ None → HasMissed (told self.old) (told self.new) }
+        ensures kept { result ≡ None → out.new ≡ out.old }
+        ensures chained { IsChained (told self.new).seen (told self.new).learnt };
 
     /// Learns what a note has. Each later reading has at least that.
     fn learn(&mut self, note: Note)
         requires gate { IsNoteOf show book note }
-        ensures learnt { learnt self.new ≡ longest (learnt self.old) (list_of note) }
-        ensures earlier { IsPrefix (learnt self.old) (learnt self.new) }
-        ensures note { IsPrefix (list_of note) (learnt self.new) }
-        ensures chained { IsChained (seen self.new) (learnt self.new) }
-        ensures seen { seen self.new ≡ seen self.old }
-        ensures counts { (reads self.new ≡ reads self.old) × (misses self.new ≡ misses self.old) };
+        ensures learnt { HasLearnt (told self.old) (told self.new) (list_of note) }
+        ensures chained { IsChained (told self.new).seen (told self.new).learnt };
 }
 
 pub type GateReader<G> = Reader<Version<G>, (), GateRule<G>>;
@@ -79,7 +57,8 @@ pub struct LrPort<G: Origin, R> {
 impl<G: Origin> LrPort<G, GateReader<G>> {
     /// A port that has seen and learnt these lists.
     pub fn new(reader: Option<GateReader<G>>, seen: Prefix<G>, learnt: Prefix<G>) -> GatePort<G>
-        ensures { (result.seen ≡ seen) × (result.learnt ≡ learnt) }
+        ensures seen { (result.seen ≡ seen) × (result.learnt ≡ learnt) }
+        ensures counts { (result.reads ≡ 0) × (result.misses ≡ 0) }
     {
         LrPort {
             reader,
@@ -96,13 +75,7 @@ impl<G: Origin> Port for LrPort<G, GateReader<G>> {
 
     ghost book = { G.book };
 
-    ghost seen = { λ p. p.seen };
-
-    ghost learnt = { λ p. p.learnt };
-
-    ghost reads = { λ p. p.reads };
-
-    ghost misses = { λ p. p.misses };
+    ghost told = { λ p. record { seen = p.seen; learnt = p.learnt; reads = p.reads; misses = p.misses } };
 
     fn read(&mut self, universe: u8, out: &mut [u8; 512]) -> Option<Stamp> {
         self.seen.chain(&self.learnt);
@@ -154,7 +127,10 @@ fn copy_later<G: Origin>(
     requires low { 1 ≤ universe }
     requires high { universe ≤ 16 }
     requires version { IsVersion G.show version.now.list version.now.slots version.now.count version.now.moment }
-    ensures { MatchOption result (out.new ≡ out.old) (λ stamp. IsReading G.show universe seen.now learnt.now version.now.list out.new stamp.count stamp.moment) }
+    ensures none { result ≡ None → out.new ≡ out.old }
+    ensures frame { IfSome result (λ stamp. IsFrame G.show version.now.list universe out.new stamp) }
+    ensures seen { IfSome result (λ _. IsPrefix seen.now version.now.list) }
+    ensures learnt { IfSome result (λ _. IsPrefix learnt.now version.now.list) }
 {
     if version.list.follows(seen) && version.list.follows(learnt) {
         return Some(copy_slots(version, universe, out));

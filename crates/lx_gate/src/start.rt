@@ -3,6 +3,7 @@ ghost use Rattle.std.specs.Prelude.{◌≡◌, ◌+◌, ◌≤◌, [], replicate
 ghost use Rattle.lx_spec.specs.Show.{Valid};
 ghost use Rattle.lx_gate.specs.Gates.{Published};
 ghost use Rattle.lx_gate.specs.Places.{EachAt};
+ghost use Rattle.lx_gate.specs.Readings.{IsNewTap};
 
 use crate::{EmptyHistory, Gate, GatePort, GateWriter, LrPort, Origin, Prefix, Tap, Version};
 use left_right::writer::Writer;
@@ -22,7 +23,7 @@ impl<G: Origin> Gate<G, GateWriter<G>> {
         requires book { history.seen.book ≡ G.book }
         ensures gate { IfOk result (λ r. r.0 ≡ record { published = []; entered = [] }) }
         ensures universes { IfOk result (λ r. vec_len r.1 ≡ universes) }
-        ensures taps { IfOk result (λ r. EachAt (λ k t. (t.universe ≡ k + 1) × (t.port.seen ≡ []) × (t.port.learnt ≡ [])) r.1.items) }
+        ensures taps { IfOk result (λ r. EachAt IsNewTap r.1.items) }
     {
         let (history, none) = history.named::<G>();
         let mut taps = Vec::with_capacity(alloc, universes as usize)?;
@@ -70,7 +71,7 @@ fn fill<G: Origin>(
     requires len { vec_len taps.old ≡ 0 }
     requires room { universes ≤ vec_capacity taps.old }
     ensures universes { vec_len taps.new ≡ universes }
-    ensures taps { EachAt (λ k t. (t.universe ≡ k + 1) × (t.port.seen ≡ []) × (t.port.learnt ≡ [])) taps.new.items }
+    ensures taps { EachAt IsNewTap taps.new.items }
 {
     for place in 0..universes {
         let reader = writer.factory().reader().ok();

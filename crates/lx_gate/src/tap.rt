@@ -1,25 +1,33 @@
 //! A tap: the slots of one universe, of a version that is never older than what it had.
 ghost use Rattle.std.specs.Prelude.{◌≡◌, ◌≤◌, ◌-◌, ◌*◌, ◌⊎◌, List, [], replicate, slice_range};
 ghost use mathlib.Core.List.{IsPrefix};
-ghost use Rattle.lx_spec.specs.Show.{Show};
-ghost use Rattle.lx_spec.specs.declared.Command.{Command};
-ghost use Rattle.lx_gate.specs.Frames.{IsFrame, IsVersion};
-ghost use Rattle.lx_gate.specs.CommandLists.{longest, IsChained};
-ghost use Rattle.lx_gate.specs.Notes.{IsNoteOf, list_of};
-ghost use Rattle.lx_gate.specs.Readings.{HasRead, HasMissed};
+ghost use Rattle.lx_gate.specs.CommandLists.{IsChained};
+ghost use Rattle.lx_gate.specs.Frames.{IsFrame};
+ghost use Rattle.lx_gate.specs.Notes.{IsNoteOf, list_of, KeepsLater};
+ghost use Rattle.lx_gate.specs.Readings.{Told, newest, HasRead, HasMissed, HasLearnt};
 
 use crate::{Note, Port, Stamp};
+use std::marker::Model;
 
-/// One universe's output. It keeps the version that it took or learnt last.
+/// One universe's output. It keeps the version that it took or learnt last. Contracts see its universe and what its port was told.
 #[derive(Drop)]
 pub struct Tap<P: Port> {
-    pub(crate) port: P,
+    port: P,
     universe: u8,
     slots: [u8; 512],
     stamp: Stamp,
-    ghost low: { 1 ≤ universe },
-    ghost high: { universe ≤ 16 },
-    ghost kept: { IsFrame P.show (longest (P.seen port) (P.learnt port)) universe slots stamp.count stamp.moment },
+}
+
+impl<P: Port> Model for Tap<P> {
+    ghost use Rattle.std.specs.Prelude.{◌≤◌};
+    ghost use Rattle.lx_gate.specs.Frames.{IsFrame};
+    ghost use Rattle.lx_gate.specs.Readings.{Tapped, newest};
+
+    ghost Value = { Tapped };
+
+    ghost view = { λ t. record { universe = t.universe; told = P.told t.port } };
+
+    ghost invariant = { λ t. (1 ≤ t.universe) × (t.universe ≤ 16) × IsFrame P.show (newest (P.told t.port)) t.universe t.slots t.stamp };
 }
 
 impl<P: Port> Tap<P> {
@@ -27,11 +35,9 @@ impl<P: Port> Tap<P> {
     pub fn new(port: P, universe: u8) -> Tap<P>
         requires low { 1 ≤ universe }
         requires high { universe ≤ 16 }
-        requires seen { P.seen port ≡ [] }
-        requires learnt { P.learnt port ≡ [] }
-        requires opening { IsFrame P.show [] universe (replicate 512 0) 0 0 }
-        ensures port { result.port ≡ port }
-        ensures universe { result.universe ≡ universe }
+        requires told { P.told port ≡ record { seen = []; learnt = []; reads = 0; misses = 0 } }
+        requires opening { IsFrame P.show [] universe (replicate 512 0) (record { count = 0; moment = 0 }) }
+        ensures { result ≡ record { universe = universe; told = P.told port } }
     {
         Tap {
             port,
@@ -46,7 +52,9 @@ impl<P: Port> Tap<P> {
 
     /// The universe, from 1 to 16.
     pub fn universe(&self) -> u8
-        ensures { result ≡ self.now.universe }
+        ensures value { result ≡ self.now.universe }
+        ensures low { 1 ≤ result }
+        ensures high { result ≤ 16 }
     {
         self.universe
     }
@@ -54,13 +62,9 @@ impl<P: Port> Tap<P> {
     /// Learns what a note of its gate has. Later takes have at least that; it keeps the note's slots where they are newer.
     pub fn learn(&mut self, note: Note)
         requires gate { IsNoteOf P.show P.book note }
-        ensures learnt { P.learnt self.new.port ≡ longest (P.learnt self.old.port) (list_of note) }
-        ensures earlier { IsPrefix (P.learnt self.old.port) (P.learnt self.new.port) }
-        ensures note { IsPrefix (list_of note) (P.learnt self.new.port) }
-        ensures chained { IsChained (P.seen self.new.port) (P.learnt self.new.port) }
-        ensures seen { P.seen self.new.port ≡ P.seen self.old.port }
+        ensures learnt { HasLearnt self.old.told self.new.told (list_of note) }
+        ensures chained { IsChained self.new.told.seen self.new.told.learnt }
         ensures universe { self.new.universe ≡ self.old.universe }
-        ensures counts { (P.reads self.new.port ≡ P.reads self.old.port) × (P.misses self.new.port ≡ P.misses self.old.port) }
     {
         self.stamp = keep_later(&note, self.universe, self.stamp, &mut self.slots);
         self.port.learn(note);
@@ -69,11 +73,10 @@ impl<P: Port> Tap<P> {
     /// Gives the slots of the universe after a list of published commands, and how many these are. It waits for nobody. Where it
     /// has no reading, it gives what it kept.
     pub fn take(&mut self, out: &mut [u8; 512]) -> Stamp
-        ensures version { IsFrame P.show (longest (P.seen self.new.port) (P.learnt self.new.port)) self.old.universe out.new result.count result.moment }
-        ensures seen { IsPrefix (P.seen self.old.port) (longest (P.seen self.new.port) (P.learnt self.new.port)) }
-        ensures heard { IsPrefix (P.learnt self.old.port) (longest (P.seen self.new.port) (P.learnt self.new.port)) }
-        ensures reading { HasRead (P.seen self.new.port) (P.learnt self.new.port) (P.reads self.old.port) (P.reads self.new.port) ⊎ HasMissed (P.seen self.old.port) (P.seen self.new.port) (P.misses self.old.port) (P.misses self.new.port) }
-        ensures learnt { P.learnt self.new.port ≡ P.learnt self.old.port }
+        ensures version { IsFrame P.show (newest self.new.told) self.old.universe out.new result }
+        ensures seen { IsPrefix self.old.told.seen (newest self.new.told) }
+        ensures heard { IsPrefix self.old.told.learnt (newest self.new.told) }
+        ensures reading { HasRead self.old.told self.new.told ⊎ HasMissed self.old.told self.new.told }
         ensures universe { self.new.universe ≡ self.old.universe }
     {
         match self.port.read(self.universe, out) {
@@ -94,7 +97,7 @@ impl<P: Port> Tap<P> {
 fn keep_later(note: &Note, universe: u8, stamp: Stamp, slots: &mut [u8; 512]) -> Stamp
     requires low { 1 ≤ universe }
     requires high { universe ≤ 16 }
-    ensures { (show : Show) (list : List Command) → IsVersion show (list_of note.now) note.now.slots note.now.count note.now.moment → IsFrame show list universe slots.old stamp.count stamp.moment → IsFrame show (longest list (list_of note.now)) universe slots.new result.count result.moment }
+    ensures { KeepsLater note.now universe slots.old stamp slots.new result }
 {
     if stamp.count < note.count {
         let end = 512 * universe as usize;

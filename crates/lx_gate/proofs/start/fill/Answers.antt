@@ -1,6 +1,7 @@
 use Rattle.std.proofs.Common.{◌+◌, ◌∷◌, [], length, length-append, arith, sym, ap, ◌∙◌}
+use Rattle.lx_gate.specs.Readings.{IsNewTap}
 use Rattle.lx_gate.proofs.DarkDesk.{dark}
-use Rattle.lx_gate.proofs.FirstVersion.{first_frame, each_snoc}
+use Rattle.lx_gate.proofs.FirstVersion.{first_frame, each_snoc, new_tap}
 use Rattle.lx_gate.proofs.start.fill.Goals as goal
 
 pub new-requires-clause-opening : goal.new-requires-clause-opening
@@ -11,6 +12,6 @@ loop-place-preserved g c = record {
   len = omega (arith, c.push_reserved.ensures.len, c.loop-place.invariant.len);
   count = omega (arith, ap length c.push_reserved.ensures.items, length-append c.loop-place.taps.items (c.new.result ∷ []), c.loop-place.invariant.count);
   room = omega (arith, c.push_reserved.ensures.capacity, c.loop-place.invariant.room);
-  each = rw c.push_reserved.ensures.items (each_snoc _ c.loop-place.taps.items c.new.result c.loop-place.place c.loop-place.invariant.each (sym c.loop-place.invariant.count)
-      (c.new.ensures.universe, ap (λ p. p.seen) c.new.ensures.port ∙ (c.new-port.ensures.0 ∙ (c.again.ensures ∙ c.requires.none)), ap (λ p. p.learnt) c.new.ensures.port ∙ (c.new-port.ensures.1 ∙ (c.again-in-loop-place.ensures ∙ c.requires.none))));
+  each = rw c.push_reserved.ensures.items (each_snoc IsNewTap c.loop-place.taps.items c.new.result c.loop-place.place c.loop-place.invariant.each (sym c.loop-place.invariant.count)
+      (c.new.ensures ∙ new_tap _ _ _ _ _ (c.new-port.ensures.seen.0 ∙ (c.again.ensures ∙ c.requires.none)) (c.new-port.ensures.seen.1 ∙ (c.again-in-loop-place.ensures ∙ c.requires.none)) c.new-port.ensures.counts.0 c.new-port.ensures.counts.1));
 }

@@ -1,5 +1,6 @@
-use Rattle.std.proofs.Common.{◌≡◌, ◌≤◌, ◌+◌, [], length, vec_len, vec_capacity}
+use Rattle.std.proofs.Common.{◌≡◌, ◌≤◌, length, vec_len, vec_capacity}
 use Rattle.lx_gate.specs.Places.{EachAt}
+use Rattle.lx_gate.specs.Readings.{IsNewTap}
 use Rattle.lx_gate.proofs.start.fill.Given as goal
 
 abbrev pub invariant-loop-place : goal.invariant-loop-place
@@ -7,5 +8,5 @@ invariant-loop-place g l = record {
   len : vec_len l.taps ≡ l.place;
   count : length l.taps.items ≡ l.place;
   room : l.universes ≤ vec_capacity l.taps;
-  each : EachAt (λ k t. (t.universe ≡ k + 1) × (t.port.seen ≡ []) × (t.port.learnt ≡ [])) l.taps.items;
+  each : EachAt IsNewTap l.taps.items;
 }
