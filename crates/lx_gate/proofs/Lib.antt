@@ -5,3 +5,4 @@ pub mod Changes
 pub mod FirstVersion
 pub mod DarkDesk
 pub mod Entering
+pub mod DeskSteps

@@ -9,5 +9,6 @@ changed slots [] = slots
 changed slots (c ∷ changes) = changed (slice_set slots c.slot c.value) changes
 
 -- the slots change, and the list, its length and the moment are those of the commit
-abbrev pub applied : List ℕ × List Command × ℕ × ℕ → List Change → List Command → ℕ → List ℕ × List Command × ℕ × ℕ
+abbrev pub applied : List ℕ × List Command × ℕ × ℕ → List Change → List Command → ℕ
+    → List ℕ × List Command × ℕ × ℕ
 applied version changes list moment = (changed version.0 changes, list, length list, moment)

@@ -25,7 +25,8 @@ pub record IsEntered (gate : Published) (unsent : List Command) : Type 0 where
 
 -- what a writer rested on before it rests on now
 abbrev pub StillRests : {W : Type 0} → (W → Show → List Command → Type 0) → Show → Option W → Option W → Type 0
-StillRests rests show old new = (list : List Command) → IsSomeAnd old (λ w. rests w show list) → IsSomeAnd new (λ w. rests w show list)
+StillRests rests show old new =
+    (list : List Command) → IsSomeAnd old (λ w. rests w show list) → IsSomeAnd new (λ w. rests w show list)
 
 -- all unsent commands are published, and none is left unsent
 abbrev pub HasSent : Published → List Command → Published → List Command → Type 0

@@ -6,4 +6,5 @@ pub mod Commits
 pub mod Readings
 pub mod Notes
 pub mod Gates
+pub mod Desks
 pub mod Places

@@ -19,5 +19,6 @@ pub record IsNoteOf (show : Show) (book : Book) (note : Note) : Type 0 where
 
 -- slots and stamp of a version became those of the note, where its list is longer
 abbrev pub KeepsLater : Note → ℕ → List ℕ → Stamp → List ℕ → Stamp → Type 0
-KeepsLater note universe slots stamp slots' stamp' = (show : Show) (list : List Command) → IsVersion show (list_of note) note.slots note.count note.moment
+KeepsLater note universe slots stamp slots' stamp' =
+    (show : Show) (list : List Command) → IsVersion show (list_of note) note.slots note.count note.moment
     → IsFrame show list universe slots stamp → IsFrame show (longest list (list_of note)) universe slots' stamp'

@@ -23,7 +23,9 @@ pub trait Window {
 }
 
 impl<G: Origin> Window for GateWriter<G> {
-    ghost rests = { λ w show list. IsAtRest show list w.desk.shown.value.list w.desk.shown.value.slots w.desk.shown.value.count w.desk.shown.value.moment (drop w.behind w.log.items) };
+    ghost rests = { λ w show list.
+        let version = w.desk.shown.value in
+        IsAtRest show list version.list version.slots version.count version.moment (drop w.behind w.log.items) };
 }
 
 /// The gate over a writer of type `W`. Contracts see it as the commands that it has published, and those in its history.

@@ -1,6 +1,7 @@
 //! Versions of the desk's frames: one gate publishes them, and a tap for each universe takes them without waiting.
 #![tactic(auto)]
 
+mod desk;
 mod gate;
 mod history;
 mod note;
@@ -11,6 +12,8 @@ mod senders;
 mod stamp;
 mod start;
 mod tap;
+#[cfg(test)]
+mod tests;
 mod unsent;
 mod version;
 

@@ -7,6 +7,7 @@ ghost use Rattle.lx_gate.specs.Readings.{IsNewTap};
 
 use crate::{EmptyHistory, Gate, GatePort, GateWriter, LrPort, Origin, Prefix, Tap, Version};
 use left_right::writer::Writer;
+use lx_show::Show;
 use std::alloc::{AllocError, Global};
 
 impl<G: Origin> Gate<G, GateWriter<G>> {
@@ -14,17 +15,19 @@ impl<G: Origin> Gate<G, GateWriter<G>> {
     /// taken and learnt nothing. An error is want of memory.
     pub fn open(
         alloc: Global,
+        show: &Show,
         universes: u8,
         history: EmptyHistory,
     ) -> Result<(Gate<G, GateWriter<G>>, Vec<Tap<GatePort<G>>>), AllocError>
         requires low { 1 ≤ universes }
         requires high { universes ≤ 16 }
-        requires valid { Valid G.show }
+        requires show { show.now ≡ G.show }
         requires book { history.seen.book ≡ G.book }
         ensures gate { IfOk result (λ r. r.0 ≡ record { published = []; entered = [] }) }
         ensures universes { IfOk result (λ r. vec_len r.1 ≡ universes) }
         ensures taps { IfOk result (λ r. EachAt IsNewTap r.1.items) }
     {
+        let _channels = show.channels();
         let (history, none) = history.named::<G>();
         let mut taps = Vec::with_capacity(alloc, universes as usize)?;
         let writer = Writer::new(

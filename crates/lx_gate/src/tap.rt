@@ -27,7 +27,8 @@ impl<P: Port> Model for Tap<P> {
 
     ghost view = { λ t. record { universe = t.universe; told = P.told t.port } };
 
-    ghost invariant = { λ t. (1 ≤ t.universe) × (t.universe ≤ 16) × IsFrame P.show (newest (P.told t.port)) t.universe t.slots t.stamp };
+    ghost invariant = { λ t. (1 ≤ t.universe) × (t.universe ≤ 16)
+        × IsFrame P.show (newest (P.told t.port)) t.universe t.slots t.stamp };
 }
 
 impl<P: Port> Tap<P> {

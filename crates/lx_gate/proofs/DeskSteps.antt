@@ -1,0 +1,67 @@
+-- What a gate publishes of a console.
+use Rattle.std.proofs.Common.{◌≡◌, ℕ, ◌+◌, ◌-◌, ◌^◌, ◌<◌, ◌≤◌, List, [], ◌∷◌, ◌++◌, length, Result, Ok, Err, IsOkAnd, OnOk, OnErr, refl, sym, ap, ◌∙◌, subst, arith, length-append, append-nil, append_assoc}
+use Rattle.std.specs.Result.{result_unwrap_or}
+use Rattle.std.proofs.lemmas.Grind.{fold-append}
+use Rattle.lx_base.specs.declared.TheConstants.{UNIVERSES}
+use Rattle.lx_spec.specs.declared.Command.{Command}
+use Rattle.lx_spec.specs.declared.Refusal.{Refusal}
+use Rattle.lx_spec.specs.Show.{Show}
+use Rattle.lx_spec.specs.Desk.{Desk, replay, step, after_command, opened}
+use Rattle.lx_spec.specs.Output.{frame}
+use Rattle.lx_spec.specs.Stands.{Kept}
+use Rattle.lx_console.specs.Slots.{universe as universe_in}
+use Rattle.lx_console.specs.Standing.{StandsFor}
+use Rattle.lx_gate.specs.Desks.{IsInStep}
+use Rattle.lx_gate.specs.Frames.{AreFramesOf, frame_after, moment_after}
+use Rattle.lx_gate.specs.Gates.{Published, IsEntered, HasSent, HasSentNone}
+use Rattle.lx_gate.proofs.Entering.{entered_push}
+
+-- the console's frames are those that the gate wants
+pub frames_are : (show : Show) (list : List Command) (console : Kept) (slots : List ℕ) → StandsFor (replay show list) console
+    → ((d : Desk) (u : ℕ) → StandsFor d console → 1 ≤ u → u ≤ UNIVERSES → universe_in u slots ≡ frame d u) → AreFramesOf show list slots
+unfolding AreFramesOf frame_after
+frames_are show list console slots stands frames = λ u low high. frames (replay show list) u stands low high
+
+pub moment_is : (show : Show) (list : List Command) (console : Kept) → StandsFor (replay show list) console → console.playback.moment ≡ moment_after show list
+unfolding moment_after
+moment_is show list console stands = ap (λ (k : Kept). k.playback.moment) stands.same
+
+next_stands : (d : Desk) (r : Result Desk Refusal) (console : Kept) → IsOkAnd r (λ next. StandsFor next console) → StandsFor (result_unwrap_or r d) console
+next_stands d (Ok next) console ok = ok
+next_stands d (Err refusal) console ok = absurd ok
+
+-- after one more accepted command
+pub stands_after : (show : Show) (list : List Command) (command : Command) (console : Kept)
+    → IsOkAnd (step (replay show list) command) (λ next. StandsFor next console) → StandsFor (replay show (list ++ command ∷ [])) console
+stands_after show list command console ok =
+    subst (λ (d : Desk). StandsFor d console) (sym (fold-append after_command (opened show) list (command ∷ [])))
+    (next_stands (replay show list) (step (replay show list) command) console ok)
+
+-- an accepted command is unsent
+pub in_step_push : (show : Show) (gate : Published) (unsent : List Command) (command : Command) (before after : Kept) → IsInStep show gate unsent before
+    → length gate.published + (length unsent + 1) < 2 ^ 64 - 1 → IsOkAnd (step (replay show (gate.published ++ unsent)) command) (λ next. StandsFor next after)
+    → IsInStep show gate (unsent ++ command ∷ []) after
+in_step_push show gate unsent command before after h few ok = record {
+  stands = subst (λ (l : List Command). StandsFor (replay show l) after) (append_assoc gate.published unsent (command ∷ [])) (stands_after show (gate.published ++ unsent) command after ok);
+  few = omega (arith, few, length-append unsent (command ∷ []));
+  entered = entered_push gate unsent command h.entered;
+}
+
+-- published or not, the commands are the same ones
+pub in_step_over : (show : Show) (gate gate' : Published) (unsent unsent' : List Command) (console : Kept) → IsInStep show gate unsent console
+    → gate'.published ++ unsent' ≡ gate.published ++ unsent → IsEntered gate' unsent' → IsInStep show gate' unsent' console
+in_step_over show gate gate' unsent unsent' console h same entered = record {
+  stands = subst (λ (l : List Command). StandsFor (replay show l) console) (sym same) h.stands;
+  few = let n = h.few in omega (arith, n, ap length same, length-append gate'.published unsent', length-append gate.published unsent);
+  entered = entered;
+}
+
+sent_none_same : (gate gate' : Published) (unsent unsent' : List Command)
+    → HasSentNone gate unsent gate' unsent' → gate'.published ++ unsent' ≡ gate.published ++ unsent
+sent_none_same gate gate' unsent unsent' h = ap (λ l. l ++ unsent') h.0 ∙ ap (λ l. gate.published ++ l) h.1
+
+-- whatever the answer, the same commands are published and unsent
+pub answered_same : {A E : Type 0} (answer : Result A E) (gate gate' : Published) (unsent unsent' : List Command)
+    → OnOk answer (HasSent gate unsent gate' unsent') → OnErr answer (HasSentNone gate unsent gate' unsent') → gate'.published ++ unsent' ≡ gate.published ++ unsent
+answered_same (Ok a) gate gate' unsent unsent' ok err = ap (λ l. gate'.published ++ l) ok.1 ∙ (append-nil gate'.published ∙ ok.0)
+answered_same (Err e) gate gate' unsent unsent' ok err = sent_none_same gate gate' unsent unsent' err

@@ -1,0 +1,26 @@
+//! The gate beside the console whose frames it publishes.
+ghost use Rattle.std.specs.Prelude.{OnOk, OnErr};
+ghost use Rattle.lx_gate.specs.Desks.{IsInStep};
+ghost use Rattle.lx_gate.specs.Gates.{HasSent, HasSentNone};
+
+use crate::{Gate, GateWriter, Origin, Unsent};
+use lx_console::Console;
+use std::alloc::AllocError;
+use std::sync::Wait;
+
+impl<G: Origin> Gate<G, GateWriter<G>> {
+    /// Publishes all unsent commands, with the frames and the moment of the console that obeyed them. An error is want of memory.
+    pub fn publish_desk<R: Wait>(
+        &mut self,
+        rt: &R,
+        unsent: &mut Unsent,
+        console: &Console,
+    ) -> Result<(), AllocError>
+        requires { IsInStep G.show self.old unsent.old.commands.items console.now }
+        ensures in_step { IsInStep G.show self.new unsent.new.commands.items console.now }
+        ensures ok { OnOk result (HasSent self.old unsent.old.commands.items self.new unsent.new.commands.items) }
+        ensures err { OnErr result (HasSentNone self.old unsent.old.commands.items self.new unsent.new.commands.items) }
+    {
+        self.publish(rt, unsent, console.frames(), console.moment())
+    }
+}
