@@ -13,7 +13,7 @@ use Rattle.lx_spec.specs.declared.PatchRow.{PatchRow}
 use Rattle.lx_spec.specs.Show.{Show, Cue, Valid, ValidCue}
 use Rattle.lx_spec.specs.Run.{greatest}
 use Rattle.lx_spec.specs.Desk.{opened}
-use Rattle.lx_spec.specs.Output.{frame, out, contribution, sub_level, dimmer_value, dimmers_of}
+use Rattle.lx_spec.specs.Output.{frame, out, contribution, level_among, dimmer_value, dimmers_of}
 use Rattle.lx_spec.specs.SortedList.{entry_at}
 use Rattle.lx_spec.proofs.Along.{along, tracked_on, tracked-along}
 use Rattle.lx_gate.specs.Frames.{AreFramesOf, frame_after}
@@ -41,7 +41,7 @@ scaled_from_zero : (y : ℕ) → scaled 0 y ≡ 0
 scaled_from_zero y = let e : 0 * y ≡ 0 = omega arith in ap (λ (n : ℕ). n / 255) e
 
 nothing_given : (show : Show) (c : ℕ) → contribution show (replicate SUBS 0) c ≡ 0
-nothing_given show c = greatest_zero _ show.subs (λ sub. ap (scaled (sub_level sub c)) (get_zero SUBS (sub.number - 1)) ∙ scaled_zero (sub_level sub c))
+nothing_given show c = greatest_zero _ show.subs (λ sub. ap (scaled (level_among sub.members c)) (get_zero SUBS (sub.number - 1)) ∙ scaled_zero (level_among sub.members c))
 
 no_out : (show : Show) (c : ℕ) → Valid show → out (opened show) c ≡ 0
 no_out show c v =
@@ -58,7 +58,7 @@ map_zero f (x ∷ xs) h = ap (λ (n : ℕ). n ∷ map f xs) (h x) ∙ ap (λ (ys
 
 dark_frame : (show : Show) (u : ℕ) → Valid show → frame (opened show) u ≡ replicate {A = ℕ} 512 0
 dark_frame show u v =
-    map_zero (dimmer_value show (out (opened show))) (dimmers_of u) (λ e. row_zero (out (opened show)) (entry_at (λ row. row.dimmer) e show.patch) (λ c. no_out show c v))
+    map_zero (dimmer_value show.patch (out (opened show))) (dimmers_of u) (λ e. row_zero (out (opened show)) (entry_at (λ row. row.dimmer) e show.patch) (λ c. no_out show c v))
     ∙ ap (λ (n : ℕ). replicate {A = ℕ} n 0) (length-range_with_len (512 * (u - 1) + 1) 512)
 
 -- the desk is dark at its opening

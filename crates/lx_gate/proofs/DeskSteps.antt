@@ -8,7 +8,7 @@ use Rattle.lx_spec.specs.declared.Refusal.{Refusal}
 use Rattle.lx_spec.specs.Show.{Show}
 use Rattle.lx_spec.specs.Desk.{Desk, replay, step, after_command, opened}
 use Rattle.lx_spec.specs.Output.{frame}
-use Rattle.lx_spec.specs.Stands.{Kept}
+use Rattle.lx_spec.specs.Kept.{Kept}
 use Rattle.lx_console.specs.Slots.{universe as universe_in}
 use Rattle.lx_console.specs.Standing.{StandsFor}
 use Rattle.lx_gate.specs.Desks.{IsInStep}
