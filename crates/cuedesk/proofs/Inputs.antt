@@ -16,18 +16,18 @@ use Rattle.lx_spec.specs.declared.TextFault.{TextFault}
 use Rattle.lx_spec.specs.declared.TextFault.TheVariants as texts_of
 use Rattle.lx_spec.specs.Text.{lines_of}
 use Rattle.lx_spec.specs.Desk.{Desk, opened}
-use Rattle.lx_spec.specs.Reading.{Reading, reads}
+use Rattle.lx_spec.specs.Reading.{Reading, reads, script_of, lines_read}
 use Rattle.lx_spec.specs.CutInput.{HasNoFeed, first_lines}
-use Rattle.lx_spec.specs.RenderOutput.{script_of, lines_read, first_replies, input_lines_wanted, input_wanted, render_output, OutputPlacesAreEdits}
+use Rattle.lx_spec.specs.RenderOutput.{first_replies, input_lines_wanted, input_wanted, render_output, OutputPlacesAreEdits}
 use Rattle.lx_spec.specs.FaultLine.{over_show, fault_text}
 use Rattle.lx_spec.specs.Session.{begin_at, ends_script, replies, lines_wanted, bytes_wanted, after_first}
 use Rattle.lx_spec.specs.RefusedPlaces.{PlacesAreEdits}
 use Rattle.lx_reader.specs.declared.loaded.Loaded.{Loaded}
 use Rattle.lx_reader.specs.declared.fault.ShowFault.{ShowFault}
 use Rattle.lx_reader.specs.declared.fault.ShowFault.TheVariants as faults
-use Rattle.lx_reader.specs.Told.{fault_told}
+use Rattle.lx_reader.specs.LineFaults.{show_fault}
 use Rattle.lx_reader.specs.HandedLines.{MeansFault, IsPastLimit, IsCutShort}
-use Rattle.lx_reader.specs.Loading.{reading_of, HasRead, OfText, CutShort}
+use Rattle.lx_reader.specs.Answer.{reading_of, HasRead, OfText, CutShort}
 use Rattle.lx_session.proofs.Places.{wants_nothing}
 use Rattle.cuedesk.specs.declared.desk.Status.{Status}
 use Rattle.cuedesk.specs.declared.desk.Status.TheVariants as status
@@ -81,13 +81,13 @@ over_read None b i j raws P Q R took p r q S f = tt
 over_read (Some x) None i j raws P Q R took p r q S f = absurd took.took
 over_read (Some x) (Some y) i j raws P Q R took p r q S f = f x y p r q
 
-pub session_text : {S : Type 0} (left : S → Option (List ℕ)) (faults : S → ℕ) (a b : Lines S) (loaded : Loaded) (o h h' : Option (List ℕ)) → unread left a ≡ o → HasRead left faults a b loaded
+pub session_text : {S : Type 0} (left : S → Option (List ℕ)) (faults : S → ℕ) (a b : Lines S) (loaded : Loaded) (o h h' : Option (List ℕ)) → unread left a ≡ o → HasRead left faults a b Moves loaded
     → IfSome (unread left b) (λ bytes. AnswersScript (opened loaded.show) (lines_of bytes) h h') → IfSome o (λ bytes. WritesAll bytes h h' × IsOk (reads Moves bytes))
 session_text left faults a b loaded o h h' is r answers =
     subst (λ (v : Option (List ℕ)). IfSome v (λ bytes. WritesAll bytes h h' × IsOk (reads Moves bytes))) is
     (over_read (unread left a) (unread left b) a.taken b.taken _ _ _ _ r.means.handed.took r.means.text r.means.script answers _ (λ x y read script answer. answer_at x y (reading_of loaded) h h' read script answer))
 
-pub session_front : {S : Type 0} (left : S → Option (List ℕ)) (faults : S → ℕ) (a b : Lines S) (loaded : Loaded) (o h h' : Option (List ℕ)) → unread left a ≡ o → HasRead left faults a b loaded
+pub session_front : {S : Type 0} (left : S → Option (List ℕ)) (faults : S → ℕ) (a b : Lines S) (loaded : Loaded) (o h h' : Option (List ℕ)) → unread left a ≡ o → HasRead left faults a b Moves loaded
     → IfSome (unread left b) (λ bytes. AnswersInFront (opened loaded.show) (lines_of bytes) h h') → IfSome o (λ bytes. WritesFront bytes h h')
 session_front left faults a b loaded o h h' is r answers =
     subst (λ (v : Option (List ℕ)). IfSome v (λ bytes. WritesFront bytes h h')) is
@@ -113,14 +113,14 @@ over_wanted (Some x) (Some y) i j n raws reading P none took count shown text sc
 one_more : (front : List (List ℕ)) (last : List ℕ) → length front + 1 ≡ length (front ++ last ∷ [])
 one_more front last = omega (arith, length-append front (last ∷ []))
 
-pub session_long : {S : Type 0} (left : S → Option (List ℕ)) (faults : S → ℕ) (a b : Lines S) (loaded : Loaded) (o : Option (List ℕ)) → unread left a ≡ o → a.taken ≡ 0 → HasRead left faults a b loaded
+pub session_long : {S : Type 0} (left : S → Option (List ℕ)) (faults : S → ℕ) (a b : Lines S) (loaded : Loaded) (o : Option (List ℕ)) → unread left a ≡ o → a.taken ≡ 0 → HasRead left faults a b Moves loaded
     → IfSome (unread left b) (λ y. INPUT_BYTES < b.taken + length (bytes_wanted y)) → IfSome o (λ x. INPUT_BYTES < length (input_wanted Moves x))
 session_long left faults a b loaded o is none r long =
     let m = r.means in
     subst (λ (v : Option (List ℕ)). IfSome v (λ x. INPUT_BYTES < length (input_wanted Moves x))) is
     (over_wanted (unread left a) (unread left b) a.taken b.taken (length m.front + 1) (m.front ++ m.last ∷ []) (reading_of loaded) (λ n. INPUT_BYTES < n) none m.handed.took (one_more m.front m.last) m.wanted m.text m.script long)
 
-pub session_fits : {S : Type 0} (left : S → Option (List ℕ)) (faults : S → ℕ) (a b : Lines S) (loaded : Loaded) (o : Option (List ℕ)) → unread left a ≡ o → a.taken ≡ 0 → HasRead left faults a b loaded
+pub session_fits : {S : Type 0} (left : S → Option (List ℕ)) (faults : S → ℕ) (a b : Lines S) (loaded : Loaded) (o : Option (List ℕ)) → unread left a ≡ o → a.taken ≡ 0 → HasRead left faults a b Moves loaded
     → IfSome (unread left b) (λ y. b.taken + length (bytes_wanted y) ≤ INPUT_BYTES) → IfSome o (λ x. length (input_wanted Moves x) ≤ INPUT_BYTES)
 session_fits left faults a b loaded o is none r fits =
     let m = r.means in
@@ -164,7 +164,7 @@ over_cut None b left h h' i j n raws reading none took count shown text script p
 over_cut (Some x) None left h h' i j n raws reading none took count shown text script p = absurd took.took
 over_cut (Some x) (Some y) left h h' i j n raws reading none took count shown text script p = cut_behind x y left h h' i j raws reading none took (shown ∙ count) text script p
 
-pub session_cut : {S : Type 0} (left : S → Option (List ℕ)) (faults : S → ℕ) (a b : Lines S) (loaded : Loaded) (o rest h h' : Option (List ℕ)) → unread left a ≡ o → a.taken ≡ 0 → HasRead left faults a b loaded
+pub session_cut : {S : Type 0} (left : S → Option (List ℕ)) (faults : S → ℕ) (a b : Lines S) (loaded : Loaded) (o rest h h' : Option (List ℕ)) → unread left a ≡ o → a.taken ≡ 0 → HasRead left faults a b Moves loaded
     → IfSome (unread left b) (λ y. AnswersTaken (opened loaded.show) b.taken y rest h h') → IfSome o (λ x. WritesTaken x rest h h')
 session_cut left faults a b loaded o rest h h' is none r answers =
     let m = r.means in
@@ -213,11 +213,11 @@ refused_fits (Some x) (Some y) i j n raws fault none took whole text wanted =
           omega (arith, ap length bytes, first_lines-length n x, ap length all, took.count, took.within)
     ]
 
-fault_fits : {S : Type 0} (left : S → Option (List ℕ)) (a : Lines S) (fault : TextFault) → a.taken ≡ 0 → MeansFault left a fault → IfSome (unread left a) (λ x. length (input_wanted Moves x) ≤ INPUT_BYTES)
+fault_fits : {S : Type 0} (left : S → Option (List ℕ)) (a : Lines S) (fault : TextFault) → a.taken ≡ 0 → MeansFault left a Moves fault → IfSome (unread left a) (λ x. length (input_wanted Moves x) ≤ INPUT_BYTES)
 fault_fits left a fault none m = refused_fits (unread left a) m.unread_then a.taken m.taken_then m.count m.raws fault none m.took m.whole m.text m.wanted
 
 -- what the reader says of a fault of the text
-fault_means : {S : Type 0} (left : S → Option (List ℕ)) (a : Lines S) (P Q : Type 0) (text : TextFault) → OfText (MeansFault left a) P Q (fault_told text) → MeansFault left a text
+fault_means : {S : Type 0} (left : S → Option (List ℕ)) (a : Lines S) (P Q : Type 0) (text : TextFault) → OfText (MeansFault left a Moves) P Q (show_fault text) → MeansFault left a Moves text
 fault_means left a P Q (texts_of.NoIdent i) p = p
 fault_means left a P Q (texts_of.BadNumber i) p = p
 fault_means left a P Q (texts_of.OutOfRange i) p = p
@@ -259,9 +259,9 @@ long_input i (Some x) none long =
 
 -- What the reader's fault and the status of its refusal say.
 abbrev Says : {S : Type 0} → (S → Option (List ℕ)) → Lines S → Lines S → ShowFault → Type 0
-Says left a b fault = OfText (MeansFault left a) (IfSome (unread left a) (IsPastLimit a.taken) × CutShort left a b) (CutShort left a b) fault
+Says left a b fault = OfText (MeansFault left a Moves) (IfSome (unread left a) (IsPastLimit a.taken) × CutShort left a b) (CutShort left a b) fault
 
-means_of : {S : Type 0} (left : S → Option (List ℕ)) (a b : Lines S) (fault : ShowFault) (text : TextFault) → fault ≡ fault_told text → Says left a b fault → MeansFault left a text
+means_of : {S : Type 0} (left : S → Option (List ℕ)) (a b : Lines S) (fault : ShowFault) (text : TextFault) → fault ≡ show_fault text → Says left a b fault → MeansFault left a Moves text
 means_of left a b fault text told says = fault_means left a (IfSome (unread left a) (IsPastLimit a.taken) × CutShort left a b) (CutShort left a b) text (subst (λ f. Says left a b f) told says)
 
 not_refused : (fault : ShowFault) (s : Status) (P : Type 0) → status_kept fault s → s ≡ status.ShowRefused → P

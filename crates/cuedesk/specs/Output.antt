@@ -5,11 +5,11 @@ use Rattle.lx_io.specs.Puts.{AppendsFront}
 use Rattle.lx_spec.specs.declared.Form.TheVariants.{Moves}
 use Rattle.lx_spec.specs.Text.{lines_of}
 use Rattle.lx_spec.specs.Desk.{Desk}
-use Rattle.lx_spec.specs.Reading.{reads}
+use Rattle.lx_spec.specs.Reading.{reads, script_of, lines_read}
 use Rattle.lx_spec.specs.CutInput.{CutOff}
 use Rattle.lx_spec.specs.Session.{replies, after_first}
 use Rattle.lx_spec.specs.RefusedPlaces.{PlacesAreEdits}
-use Rattle.lx_spec.specs.RenderOutput.{script_of, lines_read, render_output, first_replies, OutputPlacesAreEdits}
+use Rattle.lx_spec.specs.RenderOutput.{render_output, first_replies, OutputPlacesAreEdits}
 
 -- The whole text was written: what the definitions give for these bytes, where want of memory refused at most these attempts.
 pub record WritesAll (bytes : List ℕ) (held held' : Option (List ℕ)) : Type 0 where

@@ -6,7 +6,7 @@ use Rattle.lx_spec.specs.declared.TextFault.{TextFault}
 use Rattle.lx_spec.specs.FaultLine.{fault_text}
 use Rattle.lx_reader.specs.declared.fault.ShowFault.{ShowFault}
 use Rattle.lx_reader.specs.declared.fault.ShowFault.TheVariants as faults
-use Rattle.lx_reader.specs.Told.{fault_told}
+use Rattle.lx_reader.specs.LineFaults.{show_fault}
 use Rattle.cuedesk.specs.declared.desk.Status.{Status}
 use Rattle.cuedesk.specs.declared.desk.Status.TheVariants as status
 
@@ -20,7 +20,7 @@ status_kept other s = ⊥
 -- the line of a fault of the text was written, or a front of it
 pub record RefusesText (held held' : Option (List ℕ)) (fault : ShowFault) (s : Status) : Type 0 where
   pub text : TextFault
-  pub told : fault ≡ fault_told text
+  pub told : fault ≡ show_fault text
   pub whole : s ≡ status.ShowRefused → Appends held held' (fault_text text)
   pub front : AppendsFront held held' (fault_text text)
   pub kinds : (s ≡ status.ShowRefused) ⊎ ((s ≡ status.WriteFault) ⊎ (s ≡ status.Memory))

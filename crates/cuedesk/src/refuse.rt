@@ -7,7 +7,7 @@ ghost use Rattle.lx_io.specs.Causes.{Rose};
 ghost use Rattle.lx_io.specs.Puts.{AppendsFront, Puts};
 ghost use Rattle.lx_spec.specs.ShowText.{line as text_line};
 ghost use Rattle.lx_spec.specs.FaultLine.{fault_text};
-ghost use Rattle.lx_reader.specs.Told.{fault_told};
+ghost use Rattle.lx_reader.specs.LineFaults.{show_fault};
 ghost use Rattle.cuedesk.specs.Refused.{RefusedBy, status_kept};
 
 use crate::desk::Status;
@@ -30,7 +30,7 @@ pub(crate) fn refuse<K: Sink>(fault: ShowFault, output: &mut K) -> Status
 
 /// The fault of the text, or the status of any other fault.
 fn text_fault(fault: ShowFault) -> Result<TextFault, Status>
-    ensures told { IfOk result (λ text. fault ≡ fault_told text) }
+    ensures told { IfOk result (λ text. fault ≡ show_fault text) }
     ensures other { IfErr result (λ status. status_kept fault status) }
 {
     match fault {

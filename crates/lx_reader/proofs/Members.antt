@@ -9,14 +9,14 @@ use Rattle.lx_spec.specs.declared.Section.{Section}
 use Rattle.lx_spec.specs.declared.Section.TheVariants.{NoRecord, InCue, InGroup, InSub, Skipping}
 use Rattle.lx_spec.specs.declared.TextFault.{TextFault}
 use Rattle.lx_spec.specs.SortedList.{placed, entry_at, has_entry}
-use Rattle.lx_spec.specs.Show.{Show, Group, Sub, Valid}
+use Rattle.lx_spec.specs.Show.{Show, MemberSet, Valid}
 use Rattle.lx_show.specs.Changed.{changed}
-use Rattle.lx_reader.specs.Entering.{with_members}
-use Rattle.lx_reader.specs.Lists.{all_pairs, onto}
-use Rattle.lx_reader.specs.Stops.{IsOpen}
-use Rattle.lx_reader.specs.TakenUp.{all_placed}
-use Rattle.lx_reader.proofs.Changing.{changed-again, changed-not, entry-changed}
-use Rattle.lx_reader.proofs.Entering.{levels-again, HasPartIn-levels, onto_nothing, onto_again}
+use Rattle.lx_reader.specs.ReadingState.{with_members}
+use Rattle.lx_reader.specs.FieldLists.{all_pairs, onto}
+use Rattle.lx_reader.specs.OpenRecord.{IsOpen}
+use Rattle.lx_spec.specs.SortedList.{all_placed}
+use Rattle.lx_reader.proofs.EntryChanges.{changed-again, changed-not, entry-changed}
+use Rattle.lx_reader.proofs.SectionLevels.{levels-again, HasPartIn-levels, onto_nothing, onto_again}
 
 -- channels of levels, and then those of more
 named : (xs : List Member) → map (λ m. m.chan) xs ++ [] ≡ map (λ m. m.chan) xs
@@ -26,27 +26,21 @@ channels_again : (n : ℕ) (xs ys : List Member) → fold max (fold max n (map (
 channels_again n xs ys =
     (λ i. fold max (fold max n (named xs i)) (named ys i)) ∙ sym (fold-append max n (map (λ m. m.chan) xs) (map (λ m. m.chan) ys)) ∙ ap (fold max n) (sym (map-append (λ m. m.chan) xs ys) ∙ sym (named (xs ++ ys)))
 
-abbrev pub with_group_members : List Member → Group → Group
-with_group_members members group = record group { members = all_placed (λ m. m.chan) members group.members }
+abbrev pub with_set_members : List Member → MemberSet → MemberSet
+with_set_members members group = record group { members = all_placed (λ m. m.chan) members group.members }
 
-abbrev pub with_sub_members : List Member → Sub → Sub
-with_sub_members members sub = record sub { members = all_placed (λ m. m.chan) members sub.members }
-
-group_again : (xs ys : List Member) (group : Group) → with_group_members ys (with_group_members xs group) ≡ with_group_members (xs ++ ys) group
-group_again xs ys group = λ i. record group { members = sym (fold-append (λ zs x. placed (λ m. m.chan) x zs) group.members xs ys) i }
-
-sub_again : (xs ys : List Member) (sub : Sub) → with_sub_members ys (with_sub_members xs sub) ≡ with_sub_members (xs ++ ys) sub
-sub_again xs ys sub = λ i. record sub { members = sym (fold-append (λ zs x. placed (λ m. m.chan) x zs) sub.members xs ys) i }
+set_again : (xs ys : List Member) (group : MemberSet) → with_set_members ys (with_set_members xs group) ≡ with_set_members (xs ++ ys) group
+set_again xs ys group = λ i. record group { members = sym (fold-append (λ zs x. placed (λ m. m.chan) x zs) group.members xs ys) i }
 
 -- first these levels, and then those
 pub members-again : (section : Section) (p : ℕ) (xs ys : List Member) (show : Show) → with_members section p ys (with_members section p xs show) ≡ with_members section p (xs ++ ys) show
 members-again NoRecord p xs ys show = λ i. record show { channels = channels_again show.channels xs ys i }
 members-again (InCue n) p xs ys show = levels-again n p xs ys show
 members-again (InGroup g) p xs ys show =
-    let groups = changed-again (λ group. group.number) g (with_group_members xs) (with_group_members ys) (λ group. refl) (λ group. refl) show.groups ∙ (λ i. changed (λ group. group.number) g (λ group. group_again xs ys group i) show.groups) in
+    let groups = changed-again (λ group. group.number) g (with_set_members xs) (with_set_members ys) (λ group. refl) (λ group. refl) show.groups ∙ (λ i. changed (λ group. group.number) g (λ group. set_again xs ys group i) show.groups) in
     λ i. record show { channels = channels_again show.channels xs ys i; groups = groups i }
 members-again (InSub s) p xs ys show =
-    let subs = changed-again (λ sub. sub.number) s (with_sub_members xs) (with_sub_members ys) (λ sub. refl) (λ sub. refl) show.subs ∙ (λ i. changed (λ sub. sub.number) s (λ sub. sub_again xs ys sub i) show.subs) in
+    let subs = changed-again (λ sub. sub.number) s (with_set_members xs) (with_set_members ys) (λ sub. refl) (λ sub. refl) show.subs ∙ (λ i. changed (λ sub. sub.number) s (λ sub. set_again xs ys sub i) show.subs) in
     λ i. record show { channels = channels_again show.channels xs ys i; subs = subs i }
 members-again Skipping p xs ys show = λ i. record show { channels = channels_again show.channels xs ys i }
 
@@ -67,8 +61,8 @@ has_changed {A} key n f xs keeps there =
 pub open_members : (section : Section) (p : ℕ) (members : List Member) (show : Show) → IsOpen show section p → IsOpen (with_members section p members show) section p
 open_members NoRecord p members show there = tt
 open_members (InCue n) p members show there = HasPartIn-levels n p members show there
-open_members (InGroup g) p members show there = has_changed (λ group. group.number) g (with_group_members members) show.groups (λ group. refl) there
-open_members (InSub s) p members show there = has_changed (λ sub. sub.number) s (with_sub_members members) show.subs (λ sub. refl) there
+open_members (InGroup g) p members show there = has_changed (λ group. group.number) g (with_set_members members) show.groups (λ group. refl) there
+open_members (InSub s) p members show there = has_changed (λ sub. sub.number) s (with_set_members members) show.subs (λ sub. refl) there
 open_members Skipping p members show there = tt
 
 pub open_after : {E : Type 0} (r : Result (Unit {0}) E) (section : Section) (p : ℕ) (members : List Member) (old new : Show) → OnOk r (new ≡ with_members section p members old) → IsOpen old section p → OnOk r (IsOpen new section p)

@@ -8,9 +8,9 @@ use Rattle.lx_spec.specs.declared.TextFault.{TextFault}
 use Rattle.lx_spec.specs.declared.TextFault.TheVariants.{ShortList}
 use Rattle.lx_spec.specs.Limits.{desk_limits}
 use Rattle.lx_spec.specs.Numerals.{read_whole, read_level}
-use Rattle.lx_spec.specs.Saying.{pairs, triples, number}
+use Rattle.lx_spec.specs.Fields.{pairs, triples, number}
 use Rattle.lx_spec.specs.FirstRefusal.{◌>>=◌}
-use Rattle.lx_reader.specs.Lists.{all_pairs, all_triples, onto}
+use Rattle.lx_reader.specs.FieldLists.{all_pairs, all_triples, onto}
 
 two_more : (n : ℕ) → suc (suc n) % 2 ≡ n % 2
 two_more n = omega arith

@@ -4,7 +4,7 @@ use Rattle.std.specs.Prelude.{find, option_map, unwrap_or}
 use Rattle.std.specs.Option.{option_map_or}
 use Rattle.lx_spec.specs.declared.Word.{Word}
 use Rattle.lx_spec.specs.Text.{is_word}
-use Rattle.lx_spec.specs.Saying.{spellings, dollar_word, word_of}
+use Rattle.lx_spec.specs.FirstWord.{spellings, dollar_word, word_of}
 use Rattle.lx_lex.specs.WordTable.{looked_up}
 
 or_else : {A B : Type 0} (f : A → B) (o : Option A) (other : B) → option_map_or f o other ≡ unwrap_or (option_map f o) other

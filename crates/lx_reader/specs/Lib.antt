@@ -1,11 +1,7 @@
-pub mod TakenUp
-pub mod Lists
-pub mod Stops
-pub mod Told
-pub mod Known
-pub mod ReadLines
+pub mod ReadingState
+pub mod FieldLists
+pub mod OpenRecord
+pub mod LineFaults
 pub mod HandedLines
-pub mod Numbers
-pub mod Entering
-pub mod ReaderState
-pub mod Loading
+pub mod LineOutcome
+pub mod Answer

@@ -4,13 +4,13 @@
 ghost use Rattle.std.specs.Prelude.{◌≡◌, ◌≤◌, ◌∷◌, [], max, OnOk, IfErr};
 ghost use Rattle.std.specs.Result.{IsOkAnd};
 ghost use Rattle.lx_lex.specs.Left.{left};
-ghost use Rattle.lx_reader.specs.Lists.{all_pairs, all_triples};
-ghost use Rattle.lx_reader.specs.Stops.{IsStopOf, IsOpen};
-ghost use Rattle.lx_reader.specs.Entering.{with_members};
-ghost use Rattle.lx_reader.specs.TakenUp.{with_rows};
+ghost use Rattle.lx_reader.specs.FieldLists.{all_pairs, all_triples};
+ghost use Rattle.lx_reader.specs.LineFaults.{IsFaultOf};
+ghost use Rattle.lx_reader.specs.OpenRecord.{IsOpen};
+ghost use Rattle.lx_reader.specs.ReadingState.{with_members, with_rows};
 
+use crate::line_fault::LineFault;
 use crate::lists::{next_member, next_row};
-use crate::stop::Stop;
 use lx_base::{Chan, PartNo};
 use lx_lex::Tokens;
 use lx_show::Show;
@@ -61,21 +61,21 @@ pub(crate) fn put_members(
     part: PartNo,
     i: u32,
     mut tokens: Tokens,
-) -> Result<(), Stop>
+) -> Result<(), LineFault>
     requires { IsOpen show.old section.now part }
     ensures show { OnOk result (IsOkAnd (all_pairs i (left tokens.entry)) (λ members. show.new ≡ with_members section.now part members show.old)) }
-    ensures stop { IfErr result (λ stop. IsStopOf stop (all_pairs i (left tokens.entry))) }
+    ensures stop { IfErr result (λ stop. IsFaultOf stop (all_pairs i (left tokens.entry))) }
 {
     let _ = show.channels();
     loop {
         match next_member(i, &mut tokens) {
             Ok(Some(member)) => {
                 if put_member(show, section, part, member).is_err() {
-                    return Err(Stop::Memory);
+                    return Err(LineFault::Memory);
                 }
             }
             Ok(None) => return Ok(()),
-            Err(fault) => return Err(Stop::Fault(fault)),
+            Err(fault) => return Err(LineFault::Text(fault)),
         }
     }
 }
@@ -89,15 +89,15 @@ fn put_row(show: &mut Show, row: PatchRow)
 }
 
 /// Puts the rows of a line into the patch.
-pub(crate) fn put_rows(show: &mut Show, i: u32, mut tokens: Tokens) -> Result<(), Stop>
+pub(crate) fn put_rows(show: &mut Show, i: u32, mut tokens: Tokens) -> Result<(), LineFault>
     ensures show { OnOk result (IsOkAnd (all_triples i (left tokens.entry)) (λ rows. show.new ≡ with_rows rows show.old)) }
-    ensures stop { IfErr result (λ stop. IsStopOf stop (all_triples i (left tokens.entry))) }
+    ensures stop { IfErr result (λ stop. IsFaultOf stop (all_triples i (left tokens.entry))) }
 {
     loop {
         match next_row(i, &mut tokens) {
             Ok(Some(row)) => put_row(show, row),
             Ok(None) => return Ok(()),
-            Err(fault) => return Err(Stop::Fault(fault)),
+            Err(fault) => return Err(LineFault::Text(fault)),
         }
     }
 }

@@ -2,21 +2,21 @@
 #![tactic(auto)]
 
 mod fault;
-mod inner;
+mod inner_line;
 mod levels;
+mod line_fault;
 mod lists;
 mod loaded;
-mod making;
 mod numbers;
-mod read;
+mod outer_line;
+mod pass;
+mod presence;
 mod reader;
-mod records;
-mod stop;
 #[cfg(test)]
 mod tests;
 mod times;
-mod words;
+mod word;
 
 pub use fault::ShowFault;
 pub use loaded::Loaded;
-pub use read::read_show;
+pub use pass::read_show;

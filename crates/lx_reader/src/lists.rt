@@ -2,7 +2,7 @@
 
 ghost use Rattle.std.specs.Prelude.{◌≡◌, ◌∷◌, [], Ok, Err, ◌<◌, length, IfOk, IfSome, MatchOption, MatchResult};
 ghost use Rattle.lx_lex.specs.Left.{left};
-ghost use Rattle.lx_reader.specs.Lists.{fault_in, all_pairs, all_triples, onto};
+ghost use Rattle.lx_reader.specs.FieldLists.{fault_in, all_pairs, all_triples, onto};
 
 use crate::numbers::fault_of;
 use lx_lex::{Bad, Tokens, read_channel, read_dimmer, read_level};

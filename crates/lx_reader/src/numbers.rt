@@ -4,11 +4,11 @@ ghost use Rattle.std.specs.Prelude.{◌≡◌, ◌∷◌, [], IfOk};
 ghost use Rattle.lx_base.specs.declared.TheConstants.{CHANNELS, GROUPS, PARTS, SUBS};
 ghost use Rattle.lx_spec.specs.Limits.{desk_limits};
 ghost use Rattle.lx_spec.specs.Numerals.{read_cue_no, read_time, read_whole};
-ghost use Rattle.lx_spec.specs.Saying.{is_page_one, delay_at, number};
+ghost use Rattle.lx_spec.specs.Fields.{delay_at, is_page_one, number};
 ghost use Rattle.lx_spec.specs.Show.{IsTime};
 ghost use Rattle.lx_lex.specs.Left.{left};
-ghost use Rattle.lx_reader.specs.Lists.{fault_of};
-ghost use Rattle.lx_reader.specs.Numbers.{next_number, next_times, record_number};
+ghost use Rattle.lx_reader.specs.FieldLists.{fault_of};
+ghost use Rattle.lx_reader.specs.FieldLists.{next_number, next_times, record_number};
 
 use lx_base::{Chan, Cs, CueNo, GroupNo, PartNo, SubNo};
 use lx_lex::{

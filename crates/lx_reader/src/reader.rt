@@ -4,13 +4,11 @@ ghost use Rattle.std.specs.Prelude.{◌≡◌, ◌==◌, ◌≤◌, ◌<◌, ◌
 ghost use Rattle.lx_base.specs.declared.TheConstants.{LINE_BYTES};
 ghost use Rattle.lx_spec.specs.declared.Section.TheVariants.{NoRecord};
 ghost use Rattle.lx_spec.specs.declared.Word.TheVariants as words;
-ghost use Rattle.lx_spec.specs.Limits.{desk_limits};
-ghost use Rattle.lx_spec.specs.Text.{tokens};
-ghost use Rattle.lx_spec.specs.Saying.{entry_of, said_by, word_of};
+ghost use Rattle.lx_spec.specs.LineRules.{entry_of, entry_by_word};
 ghost use Rattle.lx_lex.specs.Left.{left};
 
-use crate::stop::Stop;
-use crate::words::word_of;
+use crate::line_fault::LineFault;
+use crate::word::word_of;
 use lx_base::{Chan, PartNo};
 use lx_lex::{Tokens, tokens};
 use lx_show::Show;
@@ -32,21 +30,21 @@ pub(crate) struct Reader {
     pub(crate) identified: bool,
     /// Where the next line stands.
     pub(crate) section: Section,
-    /// The open part, where that is a cue.
+    /// The open part: 1 outside of cues.
     pub(crate) part: PartNo,
     /// ENDDATA was read.
     pub(crate) ended: bool,
 }
 
 impl Reader {
-    ghost use Rattle.lx_reader.specs.ReaderState.{IsReady, known_of, TakesLine, TakesWord, needs_ident};
+    ghost use Rattle.lx_reader.specs.LineOutcome.{IsReady, facts_of, Outcome, needs_ident};
 
     /// Nothing was read yet.
     pub(crate) fn new(show: Show) -> Reader
         ensures show { result.show ≡ show }
         ensures channels_set { result.channels_set ≡ None }
         ensures skipped { (result.skipped ≡ 0) × (result.first_skipped ≡ 0) }
-        ensures known { (result.identified ≡ false) × (result.section ≡ NoRecord) × (result.part ≡ 1) }
+        ensures facts { (result.identified ≡ false) × (result.section ≡ NoRecord) × (result.part ≡ 1) }
         ensures ended { result.ended ≡ false }
     {
         Reader {
@@ -80,85 +78,84 @@ impl Reader {
         self.part = PartNo::BASE;
     }
 
-    /// Takes up line i, which isn't too long.
-    pub(crate) fn take(&mut self, alloc: Global, i: u32, line: &[u8]) -> Result<(), Stop>
+    /// Goes on with line i, which isn't too long.
+    pub(crate) fn step(&mut self, alloc: Global, i: u32, line: &[u8]) -> Result<(), LineFault>
         requires short { length line.now ≤ LINE_BYTES }
         requires ready { IsReady self.old i }
-        ensures { TakesLine self.old self.new i (tokens line.now) result (entry_of desk_limits (known_of self.old) i line.now) }
+        ensures { Outcome self.old self.new i result (entry_of (facts_of self.old i) line.now) }
     {
         let mut tokens = tokens(line);
         let Some(first) = tokens.next() else {
             return Ok(());
         };
-        self.take_word(alloc, i, line, word_of(first), tokens)
+        self.line_of_word(alloc, i, line, word_of(first), tokens)
     }
 
-    /// Takes up a line that begins with this word, before which these tokens follow.
-    fn take_word(
+    /// A line of this word, which these tokens follow. The rules are tried in their order.
+    fn line_of_word(
         &mut self,
         alloc: Global,
         i: u32,
         line: &[u8],
         word: Word,
         tokens: Tokens,
-    ) -> Result<(), Stop>
+    ) -> Result<(), LineFault>
         requires ready { IsReady self.old i }
-        ensures { TakesWord self.old self.new i word (left tokens.entry) result (said_by desk_limits (known_of self.old) i line.now word (left tokens.entry)) }
+        ensures { Outcome self.old self.new i result (entry_by_word (facts_of self.old i) line.now word (left tokens.entry)) }
     {
         match word {
-            Word::Ident => self.take_ident(i, tokens),
-            Word::Maker => {
-                self.enter(Section::NoRecord);
-                Ok(())
-            }
-            Word::OneDollar => {
-                self.skip_record(i);
-                Ok(())
-            }
             Word::TwoDollars => {
                 self.skip(i);
+                Ok(())
+            }
+            Word::Block => self.block_line(i),
+            Word::OneDollar => {
+                self.skip_record(i);
                 Ok(())
             }
             Word::Unknown => {
                 self.skip(i);
                 Ok(())
             }
-            Word::Block => self.take_inner(i, line, word, tokens),
-            _ if self.identified => self.take_known(alloc, i, line, word, tokens),
-            _ => Err(Stop::Fault(TextFault::NoIdent(i))),
+            Word::Ident => self.ident_line(i, tokens),
+            Word::Maker => {
+                self.enter(Section::NoRecord);
+                Ok(())
+            }
+            _ if self.identified => self.known_line(alloc, i, line, word, tokens),
+            _ => Err(LineFault::Text(TextFault::NoIdent(i))),
         }
     }
 
-    /// Takes up a line that begins with such a word, once IDENT was read.
-    fn take_known(
+    /// A line of such a word, once IDENT was read.
+    fn known_line(
         &mut self,
         alloc: Global,
         i: u32,
         line: &[u8],
         word: Word,
         tokens: Tokens,
-    ) -> Result<(), Stop>
+    ) -> Result<(), LineFault>
         requires ready { IsReady self.old i }
         requires identified { self.old.identified ≡ true }
         requires known { needs_ident word ≡ true }
-        ensures { TakesWord self.old self.new i word (left tokens.entry) result (said_by desk_limits (known_of self.old) i line.now word (left tokens.entry)) }
+        ensures { Outcome self.old self.new i result (entry_by_word (facts_of self.old i) line.now word (left tokens.entry)) }
     {
         match word {
             Word::Clear => {
-                self.take_clear(i, tokens);
+                self.clear_line(i, tokens);
                 Ok(())
             }
-            Word::Set => self.take_set(i, tokens),
-            Word::Patch => self.take_patch(i, tokens),
-            Word::Cue => self.take_cue(alloc, i, tokens),
-            Word::Group => self.take_group(alloc, i, tokens),
-            Word::Sub => self.take_sub(alloc, i, tokens),
+            Word::Set => self.set_line(i, tokens),
+            Word::Patch => self.patch_line(i, tokens),
+            Word::Cue => self.cue_line(alloc, i, tokens),
+            Word::Group => self.group_line(alloc, i, tokens),
+            Word::Sub => self.sub_line(alloc, i, tokens),
             Word::EndData => {
-                self.enter(Section::NoRecord);
                 self.ended = true;
                 Ok(())
             }
-            inner => self.take_inner(i, line, inner, tokens),
+            inner => self.inner_line(i, line, inner, tokens),
         }
     }
 }

@@ -8,9 +8,9 @@ ghost use Rattle.lx_spec.specs.declared.Section.TheVariants.{InCue};
 ghost use Rattle.lx_spec.specs.SortedList.{IsStrictlySorted, has_entry, entry_at};
 ghost use Rattle.lx_spec.specs.Show.{ValidPart};
 ghost use Rattle.lx_spec.specs.TrackedLevel.{cue_of};
-ghost use Rattle.lx_spec.specs.Saying.{HasUp, HasDown};
-ghost use Rattle.lx_reader.specs.Stops.{HasPartIn};
-ghost use Rattle.lx_reader.specs.TakenUp.{show_with};
+ghost use Rattle.lx_spec.specs.Entry.{HasDown, HasUp};
+ghost use Rattle.lx_reader.specs.OpenRecord.{HasPartIn};
+ghost use Rattle.lx_reader.specs.ReadingState.{show_with};
 
 use lx_base::{Cs, CueNo, PartNo};
 use lx_show::Show;

@@ -9,11 +9,11 @@ use Rattle.lx_spec.specs.declared.TextFault.{TextFault}
 use Rattle.lx_spec.specs.Text.{lines_of}
 use Rattle.lx_spec.specs.Numerals.{read_whole}
 use Rattle.lx_spec.specs.Phrase.{read_as}
-use Rattle.lx_spec.specs.Reading.{Reading, reads}
+use Rattle.lx_spec.specs.Reading.{Reading, reads, lines_read}
 use Rattle.lx_spec.specs.CutInput.{first_lines}
 use Rattle.lx_spec.specs.CheckOutput.{check_output}
 use Rattle.lx_spec.specs.SheetOutput.{sheet_output}
-use Rattle.lx_spec.specs.RenderOutput.{lines_read, render_output, input_wanted, OutputPlacesAreEdits}
+use Rattle.lx_spec.specs.RenderOutput.{render_output, input_wanted, OutputPlacesAreEdits}
 use Rattle.lx_spec.specs.MakeOutput.{made_input, make_output}
 
 -- the form that the words behind `check`, `render` and `sheet` name

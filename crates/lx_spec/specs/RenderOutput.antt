@@ -1,25 +1,14 @@
 -- What the job `render` writes, and how much of its input it wants.
-use Rattle.std.specs.Prelude.{ℕ, ◌+◌, Result, Ok, Err, List, [], drop}
-use Rattle.std.specs.List.{position_or_len}
+use Rattle.std.specs.Prelude.{ℕ, ◌+◌, Result, Ok, Err, List, []}
 use Rattle.lx_spec.specs.declared.Form.{Form}
 use Rattle.lx_spec.specs.declared.TextFault.{TextFault}
-use Rattle.lx_spec.specs.Limits.{desk_limits}
 use Rattle.lx_spec.specs.Text.{lines_of}
 use Rattle.lx_spec.specs.Desk.{opened}
-use Rattle.lx_spec.specs.Saying.{all_said}
-use Rattle.lx_spec.specs.Reading.{Reading, reads, ends_reading}
+use Rattle.lx_spec.specs.Reading.{Reading, reads, lines_read, script_of}
 use Rattle.lx_spec.specs.Session.{Session, session, after_first, lines_wanted}
 use Rattle.lx_spec.specs.RefusedPlaces.{PlacesAreEdits}
 use Rattle.lx_spec.specs.CutInput.{first_lines}
 use Rattle.lx_spec.specs.FaultLine.{over_show}
-
--- how many lines a show wants to be read: those up to the one that ends the reading, or one more than there are
-abbrev pub lines_read : List (List ℕ) → ℕ
-lines_read lines = position_or_len ends_reading (all_said desk_limits [] 1 lines) + 1
-
--- the script begins at the line after the one that ends the show
-abbrev pub script_of : List ℕ → List (List ℕ)
-script_of bytes = drop (lines_read (lines_of bytes)) (lines_of bytes)
 
 -- the session of the script over the show
 abbrev pub rendered : List ℕ → List ℕ → Reading → Session

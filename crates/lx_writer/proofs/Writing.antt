@@ -6,7 +6,7 @@ use Rattle.std.proofs.lemmas.List.Elements.{filter-append}
 use Rattle.std.proofs.lemmas.List.{take_more}
 use Rattle.lx_io.proofs.Chain.{drop_here}
 use Rattle.lx_spec.specs.declared.PatchRow.{PatchRow}
-use Rattle.lx_spec.specs.ShowText.{at_level, patch_text}
+use Rattle.lx_spec.specs.ShowText.{at_text, patch_text}
 
 -- the pieces before an element that passes, its own, and those after it
 pub kept_around : {A : Type 0} (p : A → Bool) (f : A → List ℕ) (xs : List A) (i : ℕ) (x : A) → i < length xs → x ≡ get_or xs i x → p x ≡ true
@@ -30,5 +30,5 @@ pieces_around f xs i x within is =
     ap (flat_map f) (sym (take-append-drop (i + 1) xs)) ∙ flat_map-append f (take (i + 1) xs) (drop (i + 1) xs) ∙ ap (λ text. text ++ flat_map f (drop (i + 1) xs)) (sym (pieces_more f xs i x within is))
 
 -- a patch row as it is put
-pub patch_is : (row : PatchRow) → ((codes "PATCH 1 " ++ decimal row.chan ++ 60 ∷ []) ++ at_level row.dimmer row.level) ++ 10 ∷ [] ≡ patch_text row
-patch_is row = ap (λ text. text ++ 10 ∷ []) (append_assoc (codes "PATCH 1 " ++ decimal row.chan) (60 ∷ []) (at_level row.dimmer row.level))
+pub patch_is : (row : PatchRow) → ((codes "PATCH 1 " ++ decimal row.chan ++ 60 ∷ []) ++ at_text row.dimmer row.level) ++ 10 ∷ [] ≡ patch_text row
+patch_is row = ap (λ text. text ++ 10 ∷ []) (append_assoc (codes "PATCH 1 " ++ decimal row.chan) (60 ∷ []) (at_text row.dimmer row.level))

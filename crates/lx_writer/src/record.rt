@@ -3,7 +3,7 @@
 
 ghost use Rattle.std.specs.Prelude.{[], ◌++◌, ◌∷◌, codes, decimal, flat_map};
 ghost use Rattle.lx_io.specs.Puts.{Puts};
-ghost use Rattle.lx_spec.specs.ShowText.{line, at_level, label_text, member_text, group_text, sub_text};
+ghost use Rattle.lx_spec.specs.ShowText.{line, at_text, label_text, member_text, group_text, sub_text};
 
 use lx_base::{Chan, Level};
 use lx_io::{Sink, SinkFault, put_all};
@@ -86,7 +86,7 @@ pub(crate) fn put_label<K: Sink>(label: &[u8], sink: &mut K) -> Result<(), SinkF
 
 /// Appends the line of a channel and its level.
 pub(crate) fn put_channel<K: Sink>(chan: Chan, level: Level, sink: &mut K) -> Result<(), SinkFault>
-    ensures { Puts K.holds K.faults K.wants sink.old sink.new result (line (codes "CHAN" ∷ at_level chan level ∷ [])) }
+    ensures { Puts K.holds K.faults K.wants sink.old sink.new result (line (codes "CHAN" ∷ at_text chan level ∷ [])) }
 {
     put_all(sink, b"CHAN ")?;
     put_at_level(chan.get(), level, sink)?;
@@ -99,7 +99,7 @@ pub(crate) fn put_at_level<K: Sink>(
     level: Level,
     sink: &mut K,
 ) -> Result<(), SinkFault>
-    ensures { Puts K.holds K.faults K.wants sink.old sink.new result (at_level number level) }
+    ensures { Puts K.holds K.faults K.wants sink.old sink.new result (at_text number level) }
 {
     put_whole(number, sink)?;
     put_all(sink, b"@")?;

@@ -1,6 +1,6 @@
 use Rattle.std.proofs.Common.{sym}
 use Rattle.lx_lex.specs.Left.{left}
-use Rattle.lx_reader.proofs.Entering.{ok_given}
+use Rattle.lx_reader.proofs.SectionLevels.{ok_given}
 use Rattle.lx_reader.proofs.Members.{members_begin, members_more}
 use Rattle.lx_reader.proofs.levels.put_members.Goals as goal
 

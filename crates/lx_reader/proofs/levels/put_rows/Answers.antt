@@ -1,5 +1,5 @@
 use Rattle.lx_lex.specs.Left.{left}
-use Rattle.lx_reader.proofs.Entering.{rows_begin, rows_more}
+use Rattle.lx_reader.proofs.SectionLevels.{rows_begin, rows_more}
 use Rattle.lx_reader.proofs.levels.put_rows.Goals as goal
 
 pub loop-row-init : goal.loop-row-init

@@ -1,6 +1,6 @@
 use Rattle.std.proofs.Common.{length}
 use Rattle.lx_lex.specs.Left.{left}
-use Rattle.lx_reader.proofs.Entering.{RowsSoFar}
+use Rattle.lx_reader.proofs.SectionLevels.{RowsSoFar}
 use Rattle.lx_reader.proofs.levels.put_rows.Given as goal
 
 abbrev pub invariant-loop-row : goal.invariant-loop-row

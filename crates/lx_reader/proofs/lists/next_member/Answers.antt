@@ -1,5 +1,5 @@
 use Rattle.std.proofs.Common.{◌∷◌, ap, ◌∙◌, sym}
-use Rattle.lx_reader.specs.Lists.{all_pairs}
+use Rattle.lx_reader.specs.FieldLists.{all_pairs}
 use Rattle.lx_reader.proofs.Pairs.{all_pairs-first}
 use Rattle.lx_reader.proofs.lists.next_member.Goals as goal
 

@@ -1,5 +1,5 @@
 use Rattle.std.proofs.Common.{◌∷◌, ap, ◌∙◌, sym}
-use Rattle.lx_reader.specs.Lists.{all_triples}
+use Rattle.lx_reader.specs.FieldLists.{all_triples}
 use Rattle.lx_reader.proofs.Pairs.{all_triples-first}
 use Rattle.lx_reader.proofs.lists.next_row.Goals as goal
 

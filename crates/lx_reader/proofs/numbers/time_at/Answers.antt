@@ -1,4 +1,4 @@
-use Rattle.lx_reader.proofs.Taking.{time_within}
+use Rattle.lx_reader.proofs.LineSteps.{time_within}
 use Rattle.lx_reader.proofs.numbers.time_at.Goals as goal
 
 pub returns-in-Ok-clause-time : goal.returns-in-Ok-clause-time

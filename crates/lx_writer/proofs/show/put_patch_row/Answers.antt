@@ -1,7 +1,7 @@
 use Rattle.std.proofs.Common.{[], ◌∷◌, ◌++◌, ap}
 use Rattle.std.specs.Prelude.{codes, decimal}
 use Rattle.lx_io.proofs.Chain.{Puts-then, Puts-stops, Puts-is}
-use Rattle.lx_spec.specs.ShowText.{at_level}
+use Rattle.lx_spec.specs.ShowText.{at_text}
 use Rattle.lx_writer.proofs.Writing.{patch_is}
 use Rattle.lx_writer.proofs.show.put_patch_row.Goals as goal
 
@@ -10,6 +10,6 @@ returns-in_err-put_at_level g c =
     Puts-is (Puts-stops (10 ∷ [])
     (Puts-then
     (Puts-is c.in_ok-put_between.ensures (ap (λ n. codes "PATCH 1 " ++ decimal n ++ 60 ∷ []) c.get.ensures.value))
-    (Puts-is c.in_err-put_at_level.ensures (ap (λ n. at_level n c.args.row.now.level) c.get-2.ensures.value)))
+    (Puts-is c.in_err-put_at_level.ensures (ap (λ n. at_text n c.args.row.now.level) c.get-2.ensures.value)))
     c.from_residual-in_err-put_at_level.ensures)
     (patch_is c.args.row.now)

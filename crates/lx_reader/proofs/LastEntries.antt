@@ -1,0 +1,40 @@
+-- Lists of entries with one more at the end.
+use Rattle.std.proofs.Common.{◌≡◌, Bool, true, false, cond, List, [], ◌∷◌, ◌++◌, Option, Some, None, refl, ap, ◌∙◌}
+use Rattle.std.specs.Prelude.{◌||◌, filter, filter_map, unwrap_or}
+use Rattle.std.specs.List.{last_or, list_any, cons_option}
+use Rattle.std.proofs.lemmas.List.Elements.{filter-append, filter_map-append}
+use Rattle.std.proofs.lemmas.List.Folds.{list_any-append}
+use Rattle.lx_spec.specs.Entry.{Entry, PlacedEntry}
+use Rattle.lx_spec.specs.Reading.{last_in}
+use Rattle.lx_reader.specs.ReadingState.{later}
+
+pub last_or-append : {A : Type 0} (o : Option A) (xs ys : List A) → last_or o (xs ++ ys) ≡ last_or (last_or o xs) ys
+last_or-append o [] ys = refl
+last_or-append o (x ∷ xs) ys = last_or-append (Some x) xs ys
+
+last_or-option : {A : Type 0} (o x : Option A) → last_or o (cons_option x []) ≡ later x o
+last_or-option o None = refl
+last_or-option o (Some x) = refl
+
+pub last_in-more : {A : Type 0} (of : Entry → Option A) (all : List PlacedEntry) (s : PlacedEntry) → last_in of (all ++ s ∷ []) ≡ later (of s.entry) (last_in of all)
+last_in-more of all s =
+    ap (λ v. last_or None v) (filter_map-append (λ z. of z.entry) all (s ∷ []))
+    ∙ last_or-append None (filter_map (λ z. of z.entry) all) (cons_option (of s.entry) [])
+    ∙ last_or-option (last_in of all) (of s.entry)
+
+or_more : (a b : Bool) → (a || (b || false)) ≡ cond b true a
+or_more true true = refl
+or_more true false = refl
+or_more false true = refl
+or_more false false = refl
+
+pub any-more : {A : Type 0} (test : A → Bool) (xs : List A) (x : A) → list_any test (xs ++ x ∷ []) ≡ cond (test x) true (list_any test xs)
+any-more test xs x = list_any-append test xs (x ∷ []) ∙ or_more (list_any test xs) (test x)
+
+pub unwrap-later : {A : Type 0} (x o : Option A) (d : A) → unwrap_or (later x o) d ≡ unwrap_or x (unwrap_or o d)
+unwrap-later None o d = refl
+unwrap-later (Some x) o d = refl
+
+-- the entries that pass a test, with one more
+pub filter-more : {A : Type 0} (test : A → Bool) (xs : List A) (x : A) → filter test (xs ++ x ∷ []) ≡ filter test xs ++ cond (test x) (x ∷ []) []
+filter-more test xs x = filter-append test xs (x ∷ [])

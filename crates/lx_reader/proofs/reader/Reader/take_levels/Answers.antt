@@ -1,6 +1,0 @@
-use Rattle.lx_lex.specs.Left.{left}
-use Rattle.lx_reader.proofs.Taking.{levels_took}
-use Rattle.lx_reader.proofs.reader.Reader.take_levels.Goals as goal
-
-pub returns : goal.returns
-returns c = levels_took c.args.self.now c.put_members.new.show c.args.i (left c.args.tokens) c.put_members.result c.requires.going c.put_members.ensures.show c.put_members.ensures.stop

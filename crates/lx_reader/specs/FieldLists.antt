@@ -1,0 +1,53 @@
+-- The fields of a line, taken from the front of its tokens.
+use Rattle.std.specs.Prelude.{ℕ, ◌%◌, ◌==◌, Bool, Option, Some, None, Result, Ok, Err, List, [], ◌∷◌, ◌++◌, length, if◌then◌else◌}
+use Rattle.lx_spec.specs.declared.Bad.{Bad}
+use Rattle.lx_spec.specs.declared.Bad.TheVariants.{Shape, Range}
+use Rattle.lx_spec.specs.declared.Member.{Member}
+use Rattle.lx_spec.specs.declared.PatchRow.{PatchRow}
+use Rattle.lx_spec.specs.declared.TextFault.{TextFault}
+use Rattle.lx_spec.specs.declared.TextFault.TheVariants.{BadNumber, OutOfRange, ShortList}
+use Rattle.lx_spec.specs.Limits.{desk_limits}
+use Rattle.lx_spec.specs.FirstRefusal.{◌>>=◌}
+use Rattle.lx_spec.specs.Numerals.{read_time}
+use Rattle.lx_spec.specs.Fields.{pairs, triples, number, next, delay_at, is_page_one}
+
+-- the fault of a token
+abbrev pub fault_of : ℕ → Bad → TextFault
+fault_of i Shape = BadNumber i
+fault_of i Range = OutOfRange i
+
+-- the fault of a token in a list, which may also be short
+abbrev pub fault_in : ℕ → Bad → Bool → TextFault
+fault_in i bad whole = if whole then fault_of i bad else ShortList i
+
+-- the levels of a line, or its fault
+abbrev pub all_pairs : ℕ → List (List ℕ) → Result (List Member) TextFault
+all_pairs i tokens = if length tokens % 2 == 0 then pairs desk_limits i tokens else Err (ShortList i)
+
+-- the patch rows of a line, or its fault
+abbrev pub all_triples : ℕ → List (List ℕ) → Result (List PatchRow) TextFault
+all_triples i tokens = if length tokens % 3 == 0 then triples desk_limits i tokens else Err (ShortList i)
+
+-- the list with these entries before it
+abbrev pub onto : {A E : Type 0} → List A → Result (List A) E → Result (List A) E
+onto front (Ok more) = Ok (front ++ more)
+onto front (Err fault) = Err fault
+
+-- the number that comes next
+abbrev pub next_number : ℕ → (List ℕ → Result ℕ Bad) → List (List ℕ) → Result ℕ TextFault
+next_number i read rest = do
+  token ← next i rest
+  number i (read token)
+
+-- the time that comes next and the delay after it
+abbrev pub next_times : ℕ → List (List ℕ) → Result (ℕ × ℕ) TextFault
+next_times i [] = Err (ShortList i)
+next_times i (token ∷ rest) = do
+  time ← number i (read_time token)
+  delay ← delay_at i rest
+  Ok (time, delay)
+
+-- the number of the record that a line begins; none where it is of another page
+abbrev pub record_number : ℕ → (List ℕ → Result ℕ Bad) → List (List ℕ) → Result (Option ℕ) TextFault
+record_number i read [] = Err (ShortList i)
+record_number i read (token ∷ page) = if is_page_one page then (number i (read token) >>= (λ n. Ok (Some n))) else Ok None

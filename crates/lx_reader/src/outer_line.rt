@@ -1,0 +1,165 @@
+//! The lines that begin a record, or end one.
+
+ghost use Rattle.std.specs.Prelude.{◌≡◌, ◌==◌, ◌<◌, ◌+◌, Ok, true, [], if◌then◌else◌};
+ghost use Rattle.lx_spec.specs.declared.Section.TheVariants.{Skipping};
+ghost use Rattle.lx_spec.specs.declared.Word.TheVariants as words;
+ghost use Rattle.lx_spec.specs.Limits.{desk_limits};
+ghost use Rattle.lx_spec.specs.LineRules.{is_next};
+ghost use Rattle.lx_spec.specs.LineRules.{entry_by_word};
+ghost use Rattle.std.specs.Str.{str_to_ascii_uppercase};
+ghost use Rattle.lx_lex.specs.Left.{left};
+ghost use Rattle.lx_reader.specs.LineOutcome.{IsReady, facts_of, Outcome};
+
+use crate::levels::put_rows;
+use crate::line_fault::LineFault;
+use crate::numbers::{cue_of_record, group_of_record, is_one, next_channel, sub_of_record};
+use crate::presence::{ensure_cue, ensure_group, ensure_sub};
+use crate::reader::Reader;
+use lx_lex::{Tokens, word_is};
+use lx_spec::{Section, TextFault};
+use std::alloc::Global;
+
+/// The next token is the word.
+fn is_next(mut tokens: Tokens, word: &[u8]) -> bool
+    ensures { result ≡ is_next (str_to_ascii_uppercase word.now) (left tokens.entry) }
+{
+    match tokens.next() {
+        Some(token) => word_is(token, word),
+        None => false,
+    }
+}
+
+impl Reader {
+    /// Line i is skipped, and what follows up to the next record.
+    pub(crate) fn skip_record(&mut self, i: u32)
+        requires { self.old.skipped < i }
+        ensures { self.new ≡ record self.old { section = Skipping; part = 1; skipped = self.old.skipped + 1; first_skipped = if self.old.skipped == 0 then i else self.old.first_skipped } }
+    {
+        self.enter(Section::Skipping);
+        self.skip(i);
+    }
+
+    /// `IDENT 3:0`
+    pub(crate) fn ident_line(&mut self, i: u32, tokens: Tokens) -> Result<(), LineFault>
+        requires { IsReady self.old i }
+        ensures { Outcome self.old self.new i result (entry_by_word (facts_of self.old i) [] words.Ident (left tokens.entry)) }
+    {
+        if !is_next(tokens, b"3:0") {
+            return Err(LineFault::Text(TextFault::NoIdent(i)));
+        }
+        self.enter(Section::NoRecord);
+        self.identified = true;
+        Ok(())
+    }
+
+    /// `CLEAR ALL`
+    pub(crate) fn clear_line(&mut self, i: u32, tokens: Tokens)
+        requires ready { IsReady self.old i }
+        requires identified { self.old.identified ≡ true }
+        ensures { Outcome self.old self.new i (Ok tt) (entry_by_word (facts_of self.old i) [] words.Clear (left tokens.entry)) }
+    {
+        self.enter(Section::NoRecord);
+        if is_next(tokens, b"ALL") {
+            self.show.clear(1);
+            self.channels_set = None;
+        } else {
+            self.skip(i);
+        }
+    }
+
+    /// `SET CHANNELS n`
+    pub(crate) fn set_line(&mut self, i: u32, mut tokens: Tokens) -> Result<(), LineFault>
+        requires ready { IsReady self.old i }
+        requires identified { self.old.identified ≡ true }
+        ensures { Outcome self.old self.new i result (entry_by_word (facts_of self.old i) [] words.Set (left tokens.entry)) }
+    {
+        self.enter(Section::NoRecord);
+        match tokens.next() {
+            Some(what) if word_is(what, b"CHANNELS") => {
+                self.channels_set = Some(next_channel(i, tokens)?);
+            }
+            _ => self.skip(i),
+        }
+        Ok(())
+    }
+
+    /// `PATCH 1` with rows
+    pub(crate) fn patch_line(&mut self, i: u32, mut tokens: Tokens) -> Result<(), LineFault>
+        requires ready { IsReady self.old i }
+        requires identified { self.old.identified ≡ true }
+        ensures { Outcome self.old self.new i result (entry_by_word (facts_of self.old i) [] words.Patch (left tokens.entry)) }
+    {
+        let Some(page) = tokens.next() else {
+            return Err(LineFault::Text(TextFault::ShortList(i)));
+        };
+        self.enter(Section::NoRecord);
+        if !is_one(page) {
+            self.skip(i);
+            return Ok(());
+        }
+        put_rows(&mut self.show, i, tokens)
+    }
+
+    /// `CUE n`
+    pub(crate) fn cue_line(
+        &mut self,
+        alloc: Global,
+        i: u32,
+        tokens: Tokens,
+    ) -> Result<(), LineFault>
+        requires ready { IsReady self.old i }
+        requires identified { self.old.identified ≡ true }
+        ensures { Outcome self.old self.new i result (entry_by_word (facts_of self.old i) [] words.Cue (left tokens.entry)) }
+    {
+        let Some(n) = cue_of_record(i, tokens)? else {
+            self.skip_record(i);
+            return Ok(());
+        };
+        if !self.show.has_room_for(n) {
+            return Err(LineFault::Text(TextFault::OutOfRange(i)));
+        }
+        ensure_cue(alloc, &mut self.show, n);
+        self.enter(Section::InCue(n));
+        Ok(())
+    }
+
+    /// `GROUP n`
+    pub(crate) fn group_line(
+        &mut self,
+        alloc: Global,
+        i: u32,
+        tokens: Tokens,
+    ) -> Result<(), LineFault>
+        requires ready { IsReady self.old i }
+        requires identified { self.old.identified ≡ true }
+        ensures { Outcome self.old self.new i result (entry_by_word (facts_of self.old i) [] words.Group (left tokens.entry)) }
+    {
+        let Some(g) = group_of_record(i, tokens)? else {
+            self.skip_record(i);
+            return Ok(());
+        };
+        ensure_group(alloc, &mut self.show, g);
+        self.enter(Section::InGroup(g));
+        Ok(())
+    }
+
+    /// `SUB n`
+    pub(crate) fn sub_line(
+        &mut self,
+        alloc: Global,
+        i: u32,
+        tokens: Tokens,
+    ) -> Result<(), LineFault>
+        requires ready { IsReady self.old i }
+        requires identified { self.old.identified ≡ true }
+        ensures { Outcome self.old self.new i result (entry_by_word (facts_of self.old i) [] words.Sub (left tokens.entry)) }
+    {
+        let Some(s) = sub_of_record(i, tokens)? else {
+            self.skip_record(i);
+            return Ok(());
+        };
+        ensure_sub(alloc, &mut self.show, s);
+        self.enter(Section::InSub(s));
+        Ok(())
+    }
+}

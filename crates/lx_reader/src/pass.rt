@@ -1,0 +1,109 @@
+//! The pass over the lines of a show text.
+
+ghost use Rattle.std.specs.Prelude.{◌≡◌, ◌≤◌, ◌+◌, Err, IfSome, IsTrue};
+ghost use Rattle.lx_io.specs.Causes.{Rose};
+ghost use Rattle.lx_spec.specs.Show.{Valid};
+ghost use Rattle.lx_reader.specs.LineOutcome.{IsReady, state_of};
+ghost use Rattle.lx_reader.specs.ReadingState.{final_reading};
+ghost use Rattle.lx_reader.specs.Answer.{AnswerOf, TurnOf, reading_of};
+
+use crate::fault::ShowFault;
+use crate::loaded::Loaded;
+use crate::reader::Reader;
+use lx_base::DEFAULT_CHANNELS;
+use lx_io::Source;
+use lx_lex::{Lines, Step};
+use lx_show::Show;
+use lx_spec::Form;
+use std::alloc::Global;
+
+/// Reads a show text, up to its ENDDATA line. No line was read from the lines before. The levels of its cues
+/// are read as moves.
+///
+/// The faults that carry a line name the first line that has one. Lines that aren't known are skipped and
+/// counted.
+pub fn read_show<S: Source>(
+    alloc: Global,
+    lines: &mut Lines<S>,
+    form: Form,
+) -> Result<Loaded, ShowFault>
+    requires going { IsTrue lines.old.going }
+    requires first { lines.old.number ≡ 0 }
+    requires moves { form ≡ Form.Moves }
+    ensures same_reference { lines.new.source.ghost_name ≡ lines.old.source.ghost_name }
+    ensures answer { AnswerOf S.left S.faults lines.old lines.new form result }
+    ensures later { S.faults lines.old.source.now ≤ S.faults lines.new.source.now }
+    ensures read { result ≡ Err ShowFault.ReadFault → Rose (S.faults lines.old.source.now) (S.faults lines.new.source.now) }
+{
+    match form {
+        Form::Moves => read_moves(alloc, lines),
+        Form::States => unreachable!(),
+    }
+}
+
+/// Reads a show text whose cues' levels are moves.
+fn read_moves<S: Source>(alloc: Global, lines: &mut Lines<S>) -> Result<Loaded, ShowFault>
+    requires going { IsTrue lines.old.going }
+    requires first { lines.old.number ≡ 0 }
+    ensures same_reference { lines.new.source.ghost_name ≡ lines.old.source.ghost_name }
+    ensures answer { AnswerOf S.left S.faults lines.old lines.new Form.Moves result }
+    ensures later { S.faults lines.old.source.now ≤ S.faults lines.new.source.now }
+    ensures read { result ≡ Err ShowFault.ReadFault → Rose (S.faults lines.old.source.now) (S.faults lines.new.source.now) }
+{
+    let mut reader = match Show::new(alloc, 1) {
+        Ok(show) => Reader::new(show),
+        Err(_) => return Err(ShowFault::Memory),
+    };
+    loop {
+        read_line(alloc, lines, &mut reader)?;
+        if reader.ended {
+            return Ok(loaded(reader));
+        }
+    }
+}
+
+/// Reads one line, and goes a step on with it.
+fn read_line<S: Source>(
+    alloc: Global,
+    lines: &mut Lines<S>,
+    reader: &mut Reader,
+) -> Result<(), ShowFault>
+    requires going { IsTrue lines.old.going }
+    requires ready { IsReady reader.old (lines.old.number + 1) }
+    ensures same_reference { lines.new.source.ghost_name ≡ lines.old.source.ghost_name }
+    ensures turn { TurnOf S.left S.faults lines.old lines.new reader.old reader.new result }
+    ensures later { S.faults lines.old.source.now ≤ S.faults lines.new.source.now }
+    ensures read { result ≡ Err ShowFault.ReadFault → Rose (S.faults lines.old.source.now) (S.faults lines.new.source.now) }
+{
+    match lines.advance() {
+        Step::Line => match reader.step(alloc, lines.number(), lines.line()) {
+            Ok(()) => Ok(()),
+            Err(fault) => Err(ShowFault::from(fault)),
+        },
+        Step::LongLine => Err(ShowFault::LineTooLong(lines.number())),
+        Step::End => Err(ShowFault::NoEndData(lines.number() + 1)),
+        Step::ReadFault => Err(ShowFault::ReadFault),
+        Step::InputTooLong => Err(ShowFault::InputTooLong),
+    }
+}
+
+/// What was read: the show has as many channels as it names, and as SET CHANNELS says, or else 512.
+fn loaded(reader: Reader) -> Loaded
+    ensures reading { reading_of result ≡ final_reading Form.Moves (state_of reader) }
+    ensures least { IfSome reader.channels_set (λ n. 1 ≤ n) }
+    ensures valid { Valid result.show }
+{
+    let mut show = reader.show;
+    let set = match reader.channels_set {
+        Some(channels) => channels.get(),
+        None => DEFAULT_CHANNELS,
+    };
+    let channels = show.channels().max(set);
+    show.widen(channels);
+    let _ = show.channels();
+    Loaded {
+        show,
+        skipped: reader.skipped,
+        first_skipped: reader.first_skipped,
+    }
+}

@@ -1,0 +1,66 @@
+-- A label that is its own has no line end, no blank before it and at most 240 bytes.
+use Rattle.std.specs.Prelude.{◌≡◌, ℕ, ◌≤◌, Bool, true, false, cond, ◌&&◌, List, [], ◌∷◌, filter, take, length, refl}
+use Rattle.std.specs.List.{list_all}
+use Rattle.std.proofs.Common.{arith, ap, ◌∙◌, sym}
+use Rattle.std.proofs.lemmas.List.{length-take}
+use Rattle.lx_base.specs.declared.TheConstants.{LABEL_BYTES}
+use Rattle.lx_spec.specs.Text.{is_blank, after_all}
+use Rattle.lx_spec.specs.Show.{IsLabel}
+use Rattle.lx_text_laws.proofs.Tokens.{stays}
+
+filter_fewer : (test : ℕ → Bool) (xs : List ℕ) → length (filter test xs) ≤ length xs
+filter_fewer test [] = omega arith
+filter_fewer test (x ∷ xs) = elim (test x) as (λ b. length (cond b (x ∷ filter test xs) (filter test xs)) ≤ length (x ∷ xs)) [ true ↦ omega (arith, filter_fewer test xs) | false ↦ omega (arith, filter_fewer test xs) ]
+
+after_fewer : (test : ℕ → Bool) (xs : List ℕ) → length (after_all test xs) ≤ length xs
+after_fewer test [] = omega arith
+after_fewer test (x ∷ xs) = elim (test x) as (λ b. length (cond b (after_all test xs) (x ∷ xs)) ≤ length (x ∷ xs)) [ true ↦ omega (arith, after_fewer test xs) | false ↦ omega arith ]
+
+filter_all : (test : ℕ → Bool) (xs : List ℕ) → length xs ≤ length (filter test xs) → list_all test xs ≡ true
+filter_all test [] full = refl
+filter_all test (x ∷ xs) full =
+    let split : (b : Bool) → length (x ∷ xs) ≤ length (cond b (x ∷ filter test xs) (filter test xs)) → (b && list_all test xs) ≡ true = λ b. elim b as (λ v. length (x ∷ xs) ≤ length (cond v (x ∷ filter test xs) (filter test xs)) → (v && list_all test xs) ≡ true) [
+      | true ↦ λ h. filter_all test xs (omega (arith, h))
+      | false ↦ λ h. absurd (omega (arith, h, filter_fewer test xs))
+    ] in
+    split (test x) full
+
+after_none : (test : ℕ → Bool) (xs : List ℕ) → length xs ≤ length (after_all test xs) → after_all test xs ≡ xs
+after_none test [] full = refl
+after_none test (x ∷ xs) full =
+    let split : (b : Bool) → length (x ∷ xs) ≤ length (cond b (after_all test xs) (x ∷ xs)) → cond b (after_all test xs) (x ∷ xs) ≡ x ∷ xs = λ b. elim b as (λ v. length (x ∷ xs) ≤ length (cond v (after_all test xs) (x ∷ xs)) → cond v (after_all test xs) (x ∷ xs) ≡ x ∷ xs) [
+      | true ↦ λ h. absurd (omega (arith, h, after_fewer test xs))
+      | false ↦ λ h. refl
+    ] in
+    split (test x) full
+
+filter_kept : (test : ℕ → Bool) (xs : List ℕ) → list_all test xs ≡ true → filter test xs ≡ xs
+filter_kept test [] all = refl
+filter_kept test (x ∷ xs) all =
+    let split : (b : Bool) → (b && list_all test xs) ≡ true → cond b (x ∷ filter test xs) (filter test xs) ≡ x ∷ xs = λ b. elim b as (λ v. (v && list_all test xs) ≡ true → cond v (x ∷ filter test xs) (filter test xs) ≡ x ∷ xs) [
+      | true ↦ λ h. ap (λ v. x ∷ v) (filter_kept test xs h)
+      | false ↦ λ h. cc
+    ] in
+    split (test x) all
+
+pub record OwnLabel (label : List ℕ) : Type 0 where
+  pub stays_all : list_all stays label ≡ true
+  pub no_blank : after_all is_blank label ≡ label
+  pub short : length label ≤ LABEL_BYTES
+
+pub own_label : (label : List ℕ) → IsLabel label → OwnLabel label
+own_label label own =
+    let kept = filter stays label in
+    let cut = after_all is_blank kept in
+    let size : length (take LABEL_BYTES cut) ≡ length label = ap length own in
+    let few = length-take LABEL_BYTES cut in
+    let a = after_fewer is_blank kept in
+    let b = filter_fewer stays label in
+    let all : list_all stays label ≡ true = filter_all stays label (omega (arith, size, few, a, b)) in
+    let same = filter_kept stays label all in
+    let full : length kept ≤ length cut = omega (arith, size, few, a, b) in
+    record {
+      stays_all = all;
+      no_blank = (λ j. after_all is_blank (sym same j)) ∙ after_none is_blank kept full ∙ same;
+      short = omega (arith, size, few);
+    }
