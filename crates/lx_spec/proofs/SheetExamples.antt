@@ -2,7 +2,7 @@
 use Rattle.std.specs.Prelude.{◌≡◌, List, [], ◌∷◌, ◌++◌, refl, codes, ℕ}
 use Rattle.std.specs.Fmt.{digits}
 use Rattle.lx_spec.specs.declared.Form.TheVariants.{Moves, States}
-use Rattle.lx_spec.specs.declared.Edit.TheVariants.{MakeCue, SubMember}
+use Rattle.lx_spec.specs.declared.Edit.TheVariants.{SubMember}
 use Rattle.lx_spec.specs.declared.Key.TheVariants.{Fader}
 use Rattle.lx_spec.specs.declared.Command.TheVariants as commands
 use Rattle.lx_spec.specs.Show.{Show}

@@ -1,5 +1,4 @@
 -- What a line of a show text says: of eight rules the first that fits is taken.
--- 1. A line that is too long is a fault. 2. A blank line says nothing. The others go by the line's first word.
 use Rattle.std.specs.Prelude.{ℕ, Bool, true, false, ◌&&◌, ◌||◌, ◌==◌, not, nat_lt, Some, None, Result, Ok, Err, List, [], ◌∷◌, length, codes, is_none, if◌then◌else◌}
 use Rattle.std.specs.List.{list_any}
 use Rattle.lx_base.specs.declared.TheConstants.{LINE_BYTES, PARTS, GROUPS, SUBS}
@@ -15,6 +14,11 @@ use Rattle.lx_spec.specs.Facts.{Facts}
 use Rattle.lx_spec.specs.Fields.{numbered, times, levels, patch_entry, channels_entry, record_entry}
 use Rattle.lx_spec.specs.Entry.{Section, NoRecord, InCue, InGroup, InSub, Skipping, cue_in, Entry, Nothing, Skipped, Identifies, Begins, ClearsAll, NamesPart, HasUp, HasDown, Follows, Links, IsLabelled, Blocks, Ends}
 
+-- 1. A line that is too long is a fault.
+abbrev pub is_too_long : List ℕ → Bool
+is_too_long line = nat_lt LINE_BYTES (length line)
+
+-- 2. A blank line, which has no token, says nothing. The other rules go by the first word.
 -- 3. A manufacturer's own line, which begins with two dollars, is skipped; in a cue `$$BLOCK` isn't one.
 abbrev pub is_makers_line : Section → Word → Bool
 is_makers_line section words.TwoDollars = true
@@ -115,4 +119,4 @@ entry_by_tokens facts line [] = Ok Nothing
 entry_by_tokens facts line (first ∷ rest) = entry_by_word facts line (word_of first) rest
 
 abbrev pub entry_of : Facts → List ℕ → Result Entry TextFault
-entry_of facts line = if nat_lt LINE_BYTES (length line) then Err (LineTooLong facts.number) else entry_by_tokens facts line (tokens line)
+entry_of facts line = if is_too_long line then Err (LineTooLong facts.number) else entry_by_tokens facts line (tokens line)

@@ -19,7 +19,9 @@ use Rattle.lx_spec.specs.Entry.{Entry, PlacedEntry, NamesPart, HasUp, HasDown, F
 use Rattle.lx_spec.specs.Reading.{last_of_each, last_in, label_from, part_from, moves_in, parts_from, cue_from, members_from, group_from, sub_from}
 use Rattle.lx_text_laws.proofs.Passage.{here}
 use Rattle.lx_text_laws.proofs.ShowEntries.{level_entry, member_entries, label_entries, move_entries, in_part, parts_entries, block_entries, follow_entries, link_entries, cue_body, group_body, sub_body}
-use Rattle.lx_text_laws.proofs.SortedGroups.{All-weaker, All-both, All-each, All-map, last_of_each-same, last_of_each-grouped}
+use Rattle.lx_spec.proofs.Comparisons.{eq_above}
+use Rattle.lx_spec.proofs.Lists.{each, passes, find_none}
+use Rattle.lx_text_laws.proofs.SortedGroups.{All-both, All-each, All-map, last_of_each-same, last_of_each-grouped}
 use Rattle.lx_text_laws.proofs.Views.{filter_map-filter, flat_map-none, picked, picked-own, map-own}
 
 -- Pieces that say nothing of what is asked.
@@ -165,12 +167,6 @@ block_back cue =
 own_part : (n p : ℕ) (m : Move) → (m.part == p) ≡ true → moves_in (level_entry (InCue n) p m.chan m.level) ≡ m ∷ []
 own_part n p m is = let same : m.part ≡ p = eqb-true m.part p is in λ j. record m { part = sym same j } ∷ []
 
-passes : {A : Type 0} (test : A → Bool) (xs : List A) → AllByRecursion (λ x. test x ≡ true) (filter test xs)
-passes test [] = tt
-passes test (x ∷ xs) =
-    let split : (b : Bool) → test x ≡ b → AllByRecursion (λ x. test x ≡ true) (cond b (x ∷ filter test xs) (filter test xs)) = λ b. elim b as (λ b. test x ≡ b → AllByRecursion (λ x. test x ≡ true) (cond b (x ∷ filter test xs) (filter test xs))) [ true ↦ λ is. (is, passes test xs) | false ↦ λ is. passes test xs ] in
-    split (test x) refl
-
 own_moves : (n p : ℕ) (moves : List Move) → AllByRecursion (λ m. (m.part == p) ≡ true) moves → flat_map moves_in (move_entries n p moves) ≡ moves
 own_moves n p [] all = refl
 own_moves n p (m ∷ moves) all = λ j. own_part n p m all.0 j ++ own_moves n p moves all.1 j
@@ -226,7 +222,7 @@ moves_back : (channels : ℕ) (cue : Cue) → ValidCue channels cue → last_of_
 moves_back channels cue valid =
     ap (last_of_each (λ m. m.chan)) (moves_of_body cue)
     ∙ last_of_each-grouped (λ m. m.chan) (λ part m. m.part == part.number) cue.moves cue.parts valid.moves_sorted
-    (All-weaker (ValidMove channels cue.parts) (λ m. list_any (λ part. m.part == part.number) cue.parts ≡ true) cue.moves (λ m v. sym (has_part m.part cue.parts) ∙ v.part) valid.moves)
+    (each (ValidMove channels cue.parts) (λ m. list_any (λ part. m.part == part.number) cue.parts ≡ true) cue.moves (λ m v. sym (has_part m.part cue.parts) ∙ v.part) valid.moves)
 
 -- the parts
 cond_none : {A : Type 0} (b : Bool) → cond {A = Option A} b None None ≡ None
@@ -294,12 +290,6 @@ pub sorted-map : {A : Type 0} (key : A → ℕ) (xs : List A) → IsStrictlySort
 sorted-map key [] sorted = tt
 sorted-map key (x ∷ xs) sorted = (All-map (λ m. key x < m) key xs sorted.0, sorted-map key xs sorted.1)
 
-none_above : (p : ℕ) (parts : List Part) → AllByRecursion (λ x. p < x.number) parts → is_some (find (λ x. x.number == p) parts) ≡ false
-none_above p [] all = refl
-none_above p (part ∷ parts) all =
-    let differs : (part.number == p) ≡ false = let high = all.0 in grind (arith, nat_tests, high) in
-    ap (λ b. is_some (cond b (Some part) (find (λ x. x.number == p) parts))) differs ∙ none_above p parts all.1
-
 -- part 1 comes first, so to name it once more changes nothing
 first_part : (parts : List Part) → AllByRecursion ValidPart parts → IsStrictlySorted (λ part. part.number) parts → is_some (find (λ x. x.number == 1) parts) ≡ true
     → last_of_each (λ m. m) (1 ∷ map (λ part. part.number) parts) ≡ last_of_each (λ m. m) (map (λ part. part.number) parts)
@@ -309,7 +299,7 @@ first_part (part ∷ parts) valid sorted there =
     let split : (b : Bool) → (part.number == 1) ≡ b → is_some (cond b (Some part) (find (λ x. x.number == 1) parts)) ≡ true → part.number ≡ 1 = λ b. elim b as (λ b. (part.number == 1) ≡ b → is_some (cond b (Some part) (find (λ x. x.number == 1) parts)) ≡ true → part.number ≡ 1) [
       | true ↦ λ is found. eqb-true part.number 1 is
       | false ↦ λ is found.
-          let none : is_some (find (λ x. x.number == 1) parts) ≡ false = none_above 1 parts (All-weaker (λ x. part.number < x.number) (λ x. 1 < x.number) parts (λ x low. omega (arith, low, least)) sorted.0) in
+          let none : is_some (find (λ x. x.number == 1) parts) ≡ false = ap is_some (find_none (λ x. x.number == 1) parts (each (λ x. part.number < x.number) (λ x. (x.number == 1) ≡ false) parts (λ x low. eq_above x.number 1 (omega (arith, low, least))) sorted.0)) in
           cc
     ] in
     let one : part.number ≡ 1 = split (part.number == 1) refl there in

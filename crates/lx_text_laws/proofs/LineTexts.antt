@@ -1,5 +1,5 @@
 -- Each line of a show as it is written: what it says.
-use Rattle.std.specs.Prelude.{◌≡◌, ℕ, ◌+◌, ◌==◌, ◌^◌, ◌<◌, ◌≤◌, Bool, true, false, cond, ◌||◌, nat_lt, nat_le, filter, Result, Ok, Err, List, [], ◌∷◌, ◌++◌, length, codes, decimal, refl}
+use Rattle.std.specs.Prelude.{◌≡◌, ℕ, ◌+◌, ◌==◌, ◌^◌, ◌<◌, ◌≤◌, Bool, true, false, cond, ◌||◌, nat_lt, nat_le, Result, Ok, Err, List, [], ◌∷◌, ◌++◌, length, codes, decimal, refl}
 use Rattle.std.specs.List.{list_all, list_any}
 use Rattle.std.proofs.Common.{arith, ap, ◌∙◌}
 use Rattle.std.proofs.lemmas.Bool.Decides.{nat_tests}
@@ -22,6 +22,8 @@ use Rattle.lx_spec.specs.Fields.{number, levels}
 use Rattle.lx_spec.specs.LineRules.{entry_of, entry_by_word, entry_by_tokens, if_few}
 use Rattle.lx_spec.specs.SortedList.{placed}
 use Rattle.lx_spec.specs.ShowText.{line, spaced, at_text, cue_number_text}
+use Rattle.lx_spec.proofs.Comparisons.{lt_true, lt_false}
+use Rattle.lx_spec.proofs.SortedLists.{length-placed}
 use Rattle.lx_text_laws.proofs.Tokens.{is_plain, stays, tokens-at, tokens-last, all-append}
 use Rattle.lx_text_laws.proofs.Digits.{read_whole-decimal}
 use Rattle.lx_text_laws.proofs.Decimals.{IsNumberText, number_plain, number_stays, whole_text, time_is_text, read_time-written, cue_is_text, read_cue_no-written, read_level-written, level_plain, level_stays}
@@ -43,12 +45,9 @@ level_piece : (l : ℕ) → l ≤ 255 → Piece 3 (level_text l)
 level_piece l low = record { stays_all = level_stays l low; short = omega arith }
 
 -- a line that isn't too long goes by its tokens
-short_test : (n : ℕ) → n ≤ LINE_BYTES → nat_lt LINE_BYTES n ≡ false
-short_test n low = grind (arith, nat_tests, low)
-
 pub by_tokens : (f : Facts) (body : List ℕ) (ts : List (List ℕ)) → length body ≤ LINE_BYTES → tokens body ≡ ts → entry_of f body ≡ entry_by_tokens f body ts
 by_tokens f body ts short are =
-    ap (λ b. cond b (Err (LineTooLong f.number)) (entry_by_tokens f body (tokens body))) (short_test (length body) short) ∙ ap (entry_by_tokens f body) are
+    ap (λ b. cond b (Err (LineTooLong f.number)) (entry_by_tokens f body (tokens body))) (lt_false LINE_BYTES (length body) short) ∙ ap (entry_by_tokens f body) are
 
 -- a word and a number
 two_tokens : (w text : List ℕ) → list_all is_plain w ≡ true → is_filled w ≡ true → IsNumberText text → tokens (w ++ 32 ∷ text) ≡ w ∷ text ∷ []
@@ -137,30 +136,12 @@ sub_reads s p n range =
     (λ i cs j. one_number i (λ m. Begins (InSub m)) (read_whole-decimal 1 SUBS n range.least range.most (omega arith) j)) refl (λ i cs. refl)
 
 -- CUE n, where there is room for one more
-kept_both : (n : ℕ) (ns : List ℕ) → length (filter (λ m. nat_lt m n) ns) + length (filter (λ m. nat_lt n m) ns) ≤ length ns
-kept_both n [] = omega arith
-kept_both n (m ∷ ns) =
-    let below : List ℕ = filter (λ k. nat_lt k n) ns in
-    let above : List ℕ = filter (λ k. nat_lt n k) ns in
-    let more = kept_both n ns in
-    let split : (a b : Bool) → nat_lt m n ≡ a → nat_lt n m ≡ b → length (cond a (m ∷ below) below) + length (cond b (m ∷ above) above) ≤ length (m ∷ ns) = λ a b. elim a as (λ a. nat_lt m n ≡ a → nat_lt n m ≡ b → length (cond a (m ∷ below) below) + length (cond b (m ∷ above) above) ≤ length (m ∷ ns)) [
-      | true ↦ elim b as (λ b. nat_lt m n ≡ true → nat_lt n m ≡ b → length (m ∷ below) + length (cond b (m ∷ above) above) ≤ length (m ∷ ns)) [ true ↦ λ x y. absurd (grind (arith, nat_tests, x, y)) | false ↦ λ x y. omega (arith, more) ]
-      | false ↦ elim b as (λ b. nat_lt m n ≡ false → nat_lt n m ≡ b → length below + length (cond b (m ∷ above) above) ≤ length (m ∷ ns)) [ true ↦ λ x y. omega (arith, more) | false ↦ λ x y. omega (arith, more) ]
-    ] in
-    split (nat_lt m n) (nat_lt n m) refl refl
-
-one_more_cue : (n : ℕ) (ns : List ℕ) → length (placed (λ m. m) n ns) ≤ length ns + 1
-one_more_cue n ns = omega (arith, length-append (filter (λ m. nat_lt m n) ns) (n ∷ filter (λ m. nat_lt n m) ns), kept_both n ns)
-
 or_true : (a b : Bool) → b ≡ true → (a || b) ≡ true
 or_true true b is = refl
 or_true false b is = is
 
 abbrev cue_entry_of : Facts → Result ℕ Bad → Result Entry TextFault
 cue_entry_of f r = (number f.number r >>= (λ n. Ok (Begins (InCue n)))) >>= if_few f
-
-few_cues : (n : ℕ) → n < CUES → nat_lt n CUES ≡ true
-few_cues n low = grind (arith, nat_tests, low)
 
 pub cue_reads : (s : Section) (p n : ℕ) → InRange CUE_MAX n → Reads s p (line (codes "CUE" ∷ cue_number_text n ∷ [])) (here s p (Begins (InCue n)) ∷ []) (InCue n) 1 1
 cue_reads s p n range i cs room =
@@ -169,7 +150,7 @@ cue_reads s p n range i cs room =
     let t = cue_is_text n range.most in
     let piece : Piece 9 (codes "CUE") = record { stays_all = refl; short = omega arith } in
     let whole = joined 9 25 (codes "CUE") (32 ∷ text) piece (joined 1 24 (32 ∷ []) text (record { stays_all = refl; short = omega arith }) (number_piece text t)) in
-    let has_room : (list_any (λ m. m == n) cs || nat_lt (length cs) CUES) ≡ true = or_true (list_any (λ m. m == n) cs) (nat_lt (length cs) CUES) (few_cues (length cs) (omega (arith, room))) in
+    let has_room : (list_any (λ m. m == n) cs || nat_lt (length cs) CUES) ≡ true = or_true (list_any (λ m. m == n) cs) (nat_lt (length cs) CUES) (lt_true (length cs) CUES (omega (arith, room))) in
     let is : entry_of f (number_body (codes "CUE") text) ≡ Ok (Begins (InCue n)) =
     by_tokens f (number_body (codes "CUE") text) (codes "CUE" ∷ text ∷ []) (omega (arith, whole.short)) (two_tokens (codes "CUE") text refl refl t)
     ∙ (λ j. cue_entry_of f (read_cue_no-written n range.least range.most j))
@@ -177,7 +158,7 @@ cue_reads s p n range i cs room =
     record {
       number = i + 1;
       cues = placed (λ m. m) n cs;
-      few = one_more_cue n cs;
+      few = length-placed (λ m. m) n cs;
       passage = line_passage f (number_body (codes "CUE") text) (Begins (InCue n)) (number_stays_all (codes "CUE") text piece t) is refl;
     }
 

@@ -1,5 +1,5 @@
 -- A text that is read as looks has the levels of its looks.
-use Rattle.std.specs.Prelude.{◌≡◌, ℕ, zero, suc, ◌+◌, ◌<◌, ◌≤◌, Bool, true, false, cond, not, ◌||◌, ◌&&◌, ◌==◌, nat_lt, nat_le, Option, Some, None, Result, Ok, Err, List, [], ◌∷◌, ◌++◌, map, filter, fold, filter_map, is_some, option_and_then, refl, if◌then◌else◌}
+use Rattle.std.specs.Prelude.{◌≡◌, ℕ, zero, suc, ◌+◌, ◌<◌, ◌≤◌, Bool, true, false, cond, not, ◌||◌, ◌&&◌, ◌==◌, nat_le, Option, Some, None, Result, Ok, Err, List, [], ◌∷◌, map, filter, fold, filter_map, is_some, option_and_then, refl, if◌then◌else◌}
 use Rattle.std.specs.List.{AllByRecursion, list_any, range_with_len, after_last}
 use Rattle.std.specs.Option.{option_map_or}
 use Rattle.std.proofs.Common.{arith, ap, ◌∙◌, sym, subst}
@@ -11,7 +11,7 @@ use Rattle.lx_spec.specs.declared.TextFault.{TextFault}
 use Rattle.lx_spec.specs.FirstRefusal.{◌>>=◌}
 use Rattle.lx_spec.specs.Limits.{desk_limits}
 use Rattle.lx_spec.specs.Text.{lines_of}
-use Rattle.lx_spec.specs.SortedList.{IsStrictlySorted, entry_at, entries_below, entries_above, placed}
+use Rattle.lx_spec.specs.SortedList.{IsStrictlySorted, entry_at, placed}
 use Rattle.lx_spec.specs.Show.{Cue, Show, InRange}
 use Rattle.lx_spec.specs.TrackedLevel.{cue_of, move_in, level_in, tracked}
 use Rattle.lx_spec.specs.EditedShow.{channels_of}
@@ -21,7 +21,9 @@ use Rattle.lx_spec.specs.Facts.{first_facts}
 use Rattle.lx_spec.specs.Looks.{look_moves, from_looks, by_form}
 use Rattle.lx_spec.specs.Reading.{Reading, entries, reads, reading_from, numbers_begun, stands_in, cue_from, show_from}
 use Rattle.lx_spec.proofs.Along.{tracked_on, along, tracked-along, step_in, along-past}
-use Rattle.lx_text_laws.proofs.SortedGroups.{All-weaker, All-append, All-map}
+use Rattle.lx_spec.proofs.Lists.{each}
+use Rattle.lx_spec.proofs.SortedLists.{IsStrictlySorted-placed}
+use Rattle.lx_text_laws.proofs.SortedGroups.{All-map}
 
 -- The moves of a look.
 any_passing : (test : ℕ → Bool) (c : ℕ) (cs : List ℕ) → list_any (λ d. d == c) (filter test cs) ≡ (test c && list_any (λ d. d == c) cs)
@@ -141,46 +143,14 @@ looks_along show before (x ∷ cues) cue n c level range sorted was is =
     split (x.number == n) refl is
 
 -- The cues of a show that was read are sorted.
-lt_from : (a b : ℕ) → nat_lt a b ≡ true → a < b
-lt_from a b h = grind (arith, nat_tests, h)
-
-below_all : (n : ℕ) (ns : List ℕ) → AllByRecursion (λ m. m < n) (entries_below (λ m. m) n ns)
-below_all n [] = tt
-below_all n (m ∷ ns) =
-    let split : (b : Bool) → nat_lt m n ≡ b → AllByRecursion (λ m. m < n) (cond b (m ∷ entries_below (λ m. m) n ns) (entries_below (λ m. m) n ns)) = λ b. elim b as (λ b. nat_lt m n ≡ b → AllByRecursion (λ m. m < n) (cond b (m ∷ entries_below (λ m. m) n ns) (entries_below (λ m. m) n ns))) [ true ↦ λ is. (lt_from m n is, below_all n ns) | false ↦ λ is. below_all n ns ] in
-    split (nat_lt m n) refl
-
-above_all : (n : ℕ) (ns : List ℕ) → AllByRecursion (λ m. n < m) (entries_above (λ m. m) n ns)
-above_all n [] = tt
-above_all n (m ∷ ns) =
-    let split : (b : Bool) → nat_lt n m ≡ b → AllByRecursion (λ m. n < m) (cond b (m ∷ entries_above (λ m. m) n ns) (entries_above (λ m. m) n ns)) = λ b. elim b as (λ b. nat_lt n m ≡ b → AllByRecursion (λ m. n < m) (cond b (m ∷ entries_above (λ m. m) n ns) (entries_above (λ m. m) n ns))) [ true ↦ λ is. (lt_from n m is, above_all n ns) | false ↦ λ is. above_all n ns ] in
-    split (nat_lt n m) refl
-
-kept_by : (P : ℕ → Type 0) (test : ℕ → Bool) (ns : List ℕ) → AllByRecursion P ns → AllByRecursion P (filter test ns)
-kept_by P test [] all = tt
-kept_by P test (m ∷ ns) all = elim (test m) as (λ b. AllByRecursion P (cond b (m ∷ filter test ns) (filter test ns))) [ true ↦ (all.0, kept_by P test ns all.1) | false ↦ kept_by P test ns all.1 ]
-
-sorted-filter : (test : ℕ → Bool) (ns : List ℕ) → IsStrictlySorted (λ m. m) ns → IsStrictlySorted (λ m. m) (filter test ns)
-sorted-filter test [] sorted = tt
-sorted-filter test (m ∷ ns) sorted = elim (test m) as (λ b. IsStrictlySorted (λ k. k) (cond b (m ∷ filter test ns) (filter test ns))) [ true ↦ (kept_by (λ k. m < k) test ns sorted.0, sorted-filter test ns sorted.1) | false ↦ sorted-filter test ns sorted.1 ]
-
-sorted-join : (n : ℕ) (low high : List ℕ) → IsStrictlySorted (λ m. m) low → IsStrictlySorted (λ m. m) high → AllByRecursion (λ m. m < n) low → AllByRecursion (λ m. n < m) high → IsStrictlySorted (λ m. m) (low ++ n ∷ high)
-sorted-join n [] high one other below above = (above, other)
-sorted-join n (m ∷ low) high one other below above =
-    (All-append (λ k. m < k) low (n ∷ high) one.0 (below.0, All-weaker (λ k. n < k) (λ k. m < k) high (λ k up. let down = below.0 in omega (arith, up, down)) above), sorted-join n low high one.1 other below.1 above)
-
-sorted-placed : (n : ℕ) (ns : List ℕ) → IsStrictlySorted (λ m. m) ns → IsStrictlySorted (λ m. m) (placed (λ m. m) n ns)
-sorted-placed n ns sorted =
-    sorted-join n (entries_below (λ m. m) n ns) (entries_above (λ m. m) n ns) (sorted-filter (λ m. nat_lt m n) ns sorted) (sorted-filter (λ m. nat_lt n m) ns sorted) (below_all n ns) (above_all n ns)
-
 sorted-fold : (ns more : List ℕ) → IsStrictlySorted (λ m. m) ns → IsStrictlySorted (λ m. m) (fold (λ ys n. placed (λ m. m) n ys) ns more)
 sorted-fold ns [] sorted = sorted
-sorted-fold ns (n ∷ more) sorted = sorted-fold (placed (λ m. m) n ns) more (sorted-placed n ns sorted)
+sorted-fold ns (n ∷ more) sorted = sorted-fold (placed (λ m. m) n ns) more (IsStrictlySorted-placed (λ m. m) n ns sorted)
 
 sorted-made : (make : ℕ → Cue) (ns : List ℕ) → ((n : ℕ) → (make n).number ≡ n) → IsStrictlySorted (λ m. m) ns → IsStrictlySorted (λ x. x.number) (map make ns)
 sorted-made make [] own sorted = tt
 sorted-made make (n ∷ ns) own sorted =
-    (All-map (λ x. (make n).number < x.number) make ns (All-weaker (λ m. n < m) (λ m. (make n).number < (make m).number) ns (λ m up. omega (arith, own n, own m, up)) sorted.0), sorted-made make ns own sorted.1)
+    (All-map (λ x. (make n).number < x.number) make ns (each (λ m. n < m) (λ m. (make n).number < (make m).number) ns (λ m up. omega (arith, own n, own m, up)) sorted.0), sorted-made make ns own sorted.1)
 
 cues_sorted : (all : List PlacedEntry) → IsStrictlySorted (λ x. x.number) (show_from all).cues
 cues_sorted all =

@@ -17,9 +17,10 @@ use Rattle.lx_spec.specs.SortedList.{IsStrictlySorted}
 use Rattle.lx_spec.specs.Show.{Show, Valid, ValidCue, ValidGroup, ValidSub, ValidPatchRow}
 use Rattle.lx_spec.specs.Entry.{PlacedEntry, Identifies, section_begun, channels_set, rows_in, is_skipped, clears_all, cue_in, group_in, sub_in}
 use Rattle.lx_spec.specs.Reading.{last_of_each, last_in, numbers_begun, stands_in, each_record, cue_from, group_from, sub_from, channels_named, show_from, reading_from}
+use Rattle.lx_spec.proofs.Lists.{each, all_append, filter_all, filter_none}
 use Rattle.lx_text_laws.proofs.Passage.{here}
 use Rattle.lx_text_laws.proofs.ShowEntries.{cue_body, group_body, sub_body, Chunk, cue_chunk, group_chunk, sub_chunk, chunks_entries, patch_entries}
-use Rattle.lx_text_laws.proofs.SortedGroups.{filter_yes, filter_no, All-weaker, All-both, All-append, last_of_each-same}
+use Rattle.lx_text_laws.proofs.SortedGroups.{All-both, last_of_each-same}
 use Rattle.lx_text_laws.proofs.Views.{filter_map-none, flat_map-none, filter-swap, picked, picked-own, map-own}
 use Rattle.lx_text_laws.proofs.CueBack.{sorted-map, cue_back, group_back, sub_back}
 use Rattle.lx_text_laws.proofs.ShowBack.{speaks, cue-skim, group-skim, sub-skim, Within, AllWithin, ChunkWithin, chunks_of, chunks_within, show_entries}
@@ -29,7 +30,7 @@ abbrev begun : (Section → Option ℕ) → PlacedEntry → Option ℕ
 begun number e = option_and_then number (section_begun e.entry)
 
 body_begins_none : (number : Section → Option ℕ) (channels : ℕ) (s : Section) (es : List PlacedEntry) → AllWithin channels s es → filter_map (begun number) es ≡ []
-body_begins_none number channels s es all = filter_map-none (begun number) es (All-weaker (Within channels s) (λ e. begun number e ≡ None) es (λ e w. ap (option_and_then number) w.begins) all)
+body_begins_none number channels s es all = filter_map-none (begun number) es (each (Within channels s) (λ e. begun number e ≡ None) es (λ e w. ap (option_and_then number) w.begins) all)
 
 chunks_begin : (number : Section → Option ℕ) (channels : ℕ) (s : Section) (p : ℕ) (cs : List Chunk) → AllByRecursion (ChunkWithin channels) cs → filter_map (begun number) (chunks_entries s p cs) ≡ filter_map (λ c. number c.section) cs
 chunks_begin number channels s p [] all = refl
@@ -71,7 +72,7 @@ spoken_chunks : (channels : ℕ) (s : Section) (p : ℕ) (cs : List Chunk) → A
 spoken_chunks channels s p [] all = refl
 spoken_chunks channels s p (c ∷ cs) all =
     filter-append speaks c.body (chunks_entries c.section c.part cs)
-    ∙ (λ j. filter_yes speaks c.body (All-weaker (Within channels c.section) (λ e. speaks e ≡ true) c.body (λ e w. ap is_none w.begins) all.0) j ++ spoken_chunks channels c.section c.part cs all.1 j)
+    ∙ (λ j. filter_all speaks c.body (each (Within channels c.section) (λ e. speaks e ≡ true) c.body (λ e w. ap is_none w.begins) all.0) j ++ spoken_chunks channels c.section c.part cs all.1 j)
 
 spoken : (show : Show) → Valid show → filter speaks (show_entries show) ≡ flat_map (λ c. c.body) (chunks_of show)
 spoken show valid =
@@ -82,8 +83,8 @@ abbrev is_at : ℕ → Option ℕ → Bool
 is_at n o = option_map_or (λ m. m == n) o false
 
 filter_same : {A : Type 0} (test : A → Bool) (b : Bool) (xs : List A) → AllByRecursion (λ x. test x ≡ b) xs → filter test xs ≡ cond b xs []
-filter_same test true xs all = filter_yes test xs all
-filter_same test false xs all = filter_no test xs all
+filter_same test true xs all = filter_all test xs all
+filter_same test false xs all = filter_none test xs all
 
 abbrev own : (Section → Option ℕ) → ℕ → Chunk → List PlacedEntry
 own number n c = cond (is_at n (number c.section)) c.body []
@@ -92,7 +93,7 @@ standing : (number : Section → Option ℕ) (n channels : ℕ) (cs : List Chunk
 standing number n channels [] all = refl
 standing number n channels (c ∷ cs) all =
     filter-append (stands_in number n) c.body (flat_map (λ c. c.body) cs)
-    ∙ (λ j. filter_same (stands_in number n) (is_at n (number c.section)) c.body (All-weaker (Within channels c.section) (λ e. stands_in number n e ≡ is_at n (number c.section)) c.body (λ e w. ap (λ s. is_at n (number s)) w.place) all.0) j
+    ∙ (λ j. filter_same (stands_in number n) (is_at n (number c.section)) c.body (each (Within channels c.section) (λ e. stands_in number n e ≡ is_at n (number c.section)) c.body (λ e w. ap (λ s. is_at n (number s)) w.place) all.0) j
     ++ standing number n channels cs all.1 j)
 
 own_skip : {A : Type 0} (number : Section → Option ℕ) (n : ℕ) (chunk : A → Chunk) (xs : List A) → ((x : A) → number (chunk x).section ≡ None) → flat_map (own number n) (map chunk xs) ≡ []
@@ -131,21 +132,21 @@ cues_back show valid =
     records_back show cue_in cue_from (λ cue. cue.number) cue_body show.cues valid refl valid.cues_sorted cue-skim
     (chunk_numbers cue_in show ∙ (λ j. numbers_skip cue_in group_chunk show.groups (λ g. refl) j ++ (numbers_skip cue_in sub_chunk show.subs (λ s. refl) j ++ numbers_take cue_in cue_chunk (λ cue. cue.number) show.cues (λ cue. refl) j)))
     (λ n. own_chunks cue_in n show ∙ (λ j. own_skip cue_in n group_chunk show.groups (λ g. refl) j ++ (own_skip cue_in n sub_chunk show.subs (λ s. refl) j ++ own_take cue_in n cue_chunk (λ cue. cue.number) show.cues (λ cue. refl) j)))
-    (All-weaker (ValidCue show.channels) (λ cue. cue_from (cue_body cue) cue.number ≡ cue) show.cues (λ cue v. cue_back show.channels cue v) valid.cues)
+    (each (ValidCue show.channels) (λ cue. cue_from (cue_body cue) cue.number ≡ cue) show.cues (λ cue v. cue_back show.channels cue v) valid.cues)
 
 groups_back : (show : Show) → Valid show → each_record group_in group_from (show_entries show) ≡ show.groups
 groups_back show valid =
     records_back show group_in group_from (λ g. g.number) group_body show.groups valid refl valid.groups_sorted group-skim
     (chunk_numbers group_in show ∙ (λ j. numbers_take group_in group_chunk (λ g. g.number) show.groups (λ g. refl) j ++ (numbers_skip group_in sub_chunk show.subs (λ s. refl) j ++ numbers_skip group_in cue_chunk show.cues (λ cue. refl) j)) ∙ append-nil (map (λ g. g.number) show.groups))
     (λ n. own_chunks group_in n show ∙ (λ j. own_take group_in n group_chunk (λ g. g.number) show.groups (λ g. refl) j ++ (own_skip group_in n sub_chunk show.subs (λ s. refl) j ++ own_skip group_in n cue_chunk show.cues (λ cue. refl) j)) ∙ append-nil (picked (λ g. g.number) group_body n show.groups))
-    (All-weaker (ValidGroup show.channels) (λ g. group_from (group_body g) g.number ≡ g) show.groups (λ g v. group_back show.channels g v) valid.groups)
+    (each (ValidGroup show.channels) (λ g. group_from (group_body g) g.number ≡ g) show.groups (λ g v. group_back show.channels g v) valid.groups)
 
 subs_back : (show : Show) → Valid show → each_record sub_in sub_from (show_entries show) ≡ show.subs
 subs_back show valid =
     records_back show sub_in sub_from (λ s. s.number) sub_body show.subs valid refl valid.subs_sorted sub-skim
     (chunk_numbers sub_in show ∙ (λ j. numbers_skip sub_in group_chunk show.groups (λ g. refl) j ++ (numbers_take sub_in sub_chunk (λ s. s.number) show.subs (λ s. refl) j ++ numbers_skip sub_in cue_chunk show.cues (λ cue. refl) j)) ∙ append-nil (map (λ s. s.number) show.subs))
     (λ n. own_chunks sub_in n show ∙ (λ j. own_skip sub_in n group_chunk show.groups (λ g. refl) j ++ (own_take sub_in n sub_chunk (λ s. s.number) show.subs (λ s. refl) j ++ own_skip sub_in n cue_chunk show.cues (λ cue. refl) j)) ∙ append-nil (picked (λ s. s.number) sub_body n show.subs))
-    (All-weaker (ValidSub show.channels) (λ s. sub_from (sub_body s) s.number ≡ s) show.subs (λ s v. sub_back show.channels s v) valid.subs)
+    (each (ValidSub show.channels) (λ s. sub_from (sub_body s) s.number ≡ s) show.subs (λ s v. sub_back show.channels s v) valid.subs)
 
 -- The patch.
 patch_rows : (rows : List PatchRow) → flat_map (λ e. rows_in e.entry) (patch_entries rows) ≡ rows
@@ -156,7 +157,7 @@ chunk_rows : (channels : ℕ) (s : Section) (p : ℕ) (cs : List Chunk) → AllB
 chunk_rows channels s p [] all = refl
 chunk_rows channels s p (c ∷ cs) all =
     flat_map-append (λ e. rows_in e.entry) c.body (chunks_entries c.section c.part cs)
-    ∙ (λ j. flat_map-none (λ e. rows_in e.entry) c.body (All-weaker (Within channels c.section) (λ e. rows_in e.entry ≡ []) c.body (λ e w. w.rows) all.0) j ++ chunk_rows channels c.section c.part cs all.1 j)
+    ∙ (λ j. flat_map-none (λ e. rows_in e.entry) c.body (each (Within channels c.section) (λ e. rows_in e.entry ≡ []) c.body (λ e w. w.rows) all.0) j ++ chunk_rows channels c.section c.part cs all.1 j)
 
 patch_back : (show : Show) → Valid show → last_of_each (λ row. row.dimmer) (flat_map (λ e. rows_in e.entry) (show_entries show)) ≡ show.patch
 patch_back show valid =
@@ -173,7 +174,7 @@ sets_chunks : (channels : ℕ) (s : Section) (p : ℕ) (cs : List Chunk) → All
 sets_chunks channels s p [] all = refl
 sets_chunks channels s p (c ∷ cs) all =
     filter_map-append (λ e. channels_set e.entry) c.body (chunks_entries c.section c.part cs)
-    ∙ (λ j. filter_map-none (λ e. channels_set e.entry) c.body (All-weaker (Within channels c.section) (λ e. channels_set e.entry ≡ None) c.body (λ e w. w.sets) all.0) j ++ sets_chunks channels c.section c.part cs all.1 j)
+    ∙ (λ j. filter_map-none (λ e. channels_set e.entry) c.body (each (Within channels c.section) (λ e. channels_set e.entry ≡ None) c.body (λ e w. w.sets) all.0) j ++ sets_chunks channels c.section c.part cs all.1 j)
 
 set_back : (show : Show) → Valid show → last_in channels_set (show_entries show) ≡ Some show.channels
 set_back show valid =
@@ -189,11 +190,11 @@ patch_names channels (row ∷ rows) valid = ((valid.0.chan.most, tt), patch_name
 
 chunk_names : (channels : ℕ) (s : Section) (p : ℕ) (cs : List Chunk) → AllByRecursion (ChunkWithin channels) cs → AllByRecursion (NamesWithin channels) (chunks_entries s p cs)
 chunk_names channels s p [] all = tt
-chunk_names channels s p (c ∷ cs) all = (tt, All-append (NamesWithin channels) c.body (chunks_entries c.section c.part cs) (All-weaker (Within channels c.section) (NamesWithin channels) c.body (λ e w. w.names) all.0) (chunk_names channels c.section c.part cs all.1))
+chunk_names channels s p (c ∷ cs) all = (tt, all_append (NamesWithin channels) c.body (chunks_entries c.section c.part cs) (each (Within channels c.section) (NamesWithin channels) c.body (λ e w. w.names) all.0) (chunk_names channels c.section c.part cs all.1))
 
 All-flat_map : {A B : Type 0} (P : B → Type 0) (f : A → List B) (xs : List A) → AllByRecursion (λ x. AllByRecursion P (f x)) xs → AllByRecursion P (flat_map f xs)
 All-flat_map P f [] all = tt
-All-flat_map P f (x ∷ xs) all = All-append P (f x) (flat_map f xs) all.0 (All-flat_map P f xs all.1)
+All-flat_map P f (x ∷ xs) all = all_append P (f x) (flat_map f xs) all.0 (All-flat_map P f xs all.1)
 
 greatest : (c : ℕ) (ns : List ℕ) → AllByRecursion (λ n. n ≤ c) ns → fold max c ns ≡ c
 greatest c [] all = refl
@@ -202,7 +203,7 @@ greatest c (n ∷ ns) all = let low = all.0 in let same : max c n ≡ c = omega 
 channels_back : (show : Show) → Valid show → fold max (unwrap_or (last_in channels_set (show_entries show)) DEFAULT_CHANNELS) (flat_map (λ e. channels_named e.entry) (show_entries show)) ≡ show.channels
 channels_back show valid =
     let k = show.channels in
-    let named : AllByRecursion (NamesWithin k) (show_entries show) = (tt, (tt, All-append (NamesWithin k) (patch_entries show.patch) (chunks_entries NoRecord 1 (chunks_of show)) (patch_names k show.patch valid.patch) (chunk_names k NoRecord 1 (chunks_of show) (chunks_within show valid)))) in
+    let named : AllByRecursion (NamesWithin k) (show_entries show) = (tt, (tt, all_append (NamesWithin k) (patch_entries show.patch) (chunks_entries NoRecord 1 (chunks_of show)) (patch_names k show.patch valid.patch) (chunk_names k NoRecord 1 (chunks_of show) (chunks_within show valid)))) in
     ap (λ o. fold max (unwrap_or o DEFAULT_CHANNELS) (flat_map (λ e. channels_named e.entry) (show_entries show))) (set_back show valid)
     ∙ greatest k (flat_map (λ e. channels_named e.entry) (show_entries show)) (All-flat_map (λ c. c ≤ k) (λ e. channels_named e.entry) (show_entries show) named)
 
@@ -219,10 +220,10 @@ patch_quiet (row ∷ rows) = ((refl, refl), patch_quiet rows)
 
 chunks_quiet : (channels : ℕ) (s : Section) (p : ℕ) (cs : List Chunk) → AllByRecursion (ChunkWithin channels) cs → AllByRecursion Quiet (chunks_entries s p cs)
 chunks_quiet channels s p [] all = tt
-chunks_quiet channels s p (c ∷ cs) all = ((refl, refl), All-append Quiet c.body (chunks_entries c.section c.part cs) (All-weaker (Within channels c.section) Quiet c.body (λ e w. (w.skips, w.clears)) all.0) (chunks_quiet channels c.section c.part cs all.1))
+chunks_quiet channels s p (c ∷ cs) all = ((refl, refl), all_append Quiet c.body (chunks_entries c.section c.part cs) (each (Within channels c.section) Quiet c.body (λ e w. (w.skips, w.clears)) all.0) (chunks_quiet channels c.section c.part cs all.1))
 
 all_quiet : (show : Show) → Valid show → AllByRecursion Quiet (show_entries show)
-all_quiet show valid = ((refl, refl), ((refl, refl), All-append Quiet (patch_entries show.patch) (chunks_entries NoRecord 1 (chunks_of show)) (patch_quiet show.patch) (chunks_quiet show.channels NoRecord 1 (chunks_of show) (chunks_within show valid))))
+all_quiet show valid = ((refl, refl), ((refl, refl), all_append Quiet (patch_entries show.patch) (chunks_entries NoRecord 1 (chunks_of show)) (patch_quiet show.patch) (chunks_quiet show.channels NoRecord 1 (chunks_of show) (chunks_within show valid))))
 
 none_counted : {A : Type 0} (test : A → Bool) (xs : List A) → AllByRecursion (λ x. test x ≡ false) xs → count_by test xs ≡ 0
 none_counted test [] all = refl
@@ -252,7 +253,7 @@ pub reading_back : (show : Show) → Valid show → reading_from Moves (show_ent
 reading_back show valid =
     let all = show_entries show in
     let quiet = all_quiet show valid in
-    let unskipped = All-weaker Quiet (λ e. is_skipped e.entry ≡ false) all (λ e q. q.0) quiet in
-    let uncleared = All-weaker Quiet (λ e. clears_all e.entry ≡ false) all (λ e q. q.1) quiet in
+    let unskipped = each Quiet (λ e. is_skipped e.entry ≡ false) all (λ e q. q.0) quiet in
+    let uncleared = each Quiet (λ e. clears_all e.entry ≡ false) all (λ e q. q.1) quiet in
     let since : show_from (after_last (λ e. clears_all e.entry) all) ≡ show = ap show_from (none_last (λ e. clears_all e.entry) all (here NoRecord 1 Identifies) uncleared) ∙ show_back show valid in
     λ j. record { show = since j; skipped = none_counted (λ e. is_skipped e.entry) all unskipped j; first_skipped = option_map_or (λ i. i + 1) (none_there (λ e. is_skipped e.entry) all unskipped j) 0 }

@@ -10,9 +10,10 @@ use Rattle.lx_spec.specs.declared.Member.{Member}
 use Rattle.lx_spec.specs.Show.{Cue, Group, Sub, Show, Valid, ValidCue, ValidGroup, ValidSub, ValidMember, ValidMove}
 use Rattle.lx_spec.specs.Entry.{Entry, PlacedEntry, Identifies, HasChannels, HasLevels, NamesPart, HasUp, HasDown, Follows, Links, IsLabelled, Blocks, section_begun, channels_set, rows_in, levels_in, part_named, up_in, down_in, follow_in, link_in, label_in, blocks, is_skipped, clears_all}
 use Rattle.lx_spec.specs.Reading.{last_of_each, last_in, part_from, moves_in, parts_from, cue_from, group_from, sub_from, channels_named}
+use Rattle.lx_spec.proofs.Lists.{each, all_append, kept_by}
 use Rattle.lx_text_laws.proofs.Passage.{here}
-use Rattle.lx_text_laws.proofs.ShowEntries.{member_entries, label_entries, move_entries, in_part, parts_entries, block_entries, follow_entries, link_entries, cue_body, group_body, sub_body, Chunk, cue_chunk, group_chunk, sub_chunk, chunks_entries, patch_entries, All-filter}
-use Rattle.lx_text_laws.proofs.SortedGroups.{All-weaker, All-map, All-append}
+use Rattle.lx_text_laws.proofs.ShowEntries.{member_entries, label_entries, move_entries, in_part, parts_entries, block_entries, follow_entries, link_entries, cue_body, group_body, sub_body, Chunk, cue_chunk, group_chunk, sub_chunk, chunks_entries, patch_entries}
+use Rattle.lx_text_laws.proofs.SortedGroups.{All-map}
 use Rattle.lx_text_laws.proofs.Views.{filter_map-skim, flat_map-skim, list_any-skim, filter-swap}
 
 -- an entry that begins no section
@@ -126,8 +127,8 @@ parts_within channels n q all moves (part ∷ parts) valid =
         record { place = refl; begins = refl; sets = refl; rows = refl; skips = refl; clears = refl; names = tt },
         (
           record { place = refl; begins = refl; sets = refl; rows = refl; skips = refl; clears = refl; names = tt },
-          All-append (Within channels (InCue n)) (move_entries n p (in_part p moves)) (parts_entries n p moves parts)
-              (moves_within channels n p all (in_part p moves) (All-filter (ValidMove channels all) (λ m. m.part == p) moves valid)) (parts_within channels n p all moves parts valid),
+          all_append (Within channels (InCue n)) (move_entries n p (in_part p moves)) (parts_entries n p moves parts)
+              (moves_within channels n p all (in_part p moves) (kept_by (ValidMove channels all) (λ m. m.part == p) moves valid)) (parts_within channels n p all moves parts valid),
         ),
       ),
     )
@@ -153,20 +154,20 @@ cue_within channels cue valid =
     let follow = follow_entries n cue.follow in
     let link = link_entries n cue.link in
     let parts = parts_entries n 1 cue.moves cue.parts in
-    All-append P block (label ++ (follow ++ (link ++ parts))) (block_within channels n cue.block)
-    (All-append P label (follow ++ (link ++ parts)) (label_within channels (InCue n) cue.label)
-    (All-append P follow (link ++ parts) (follow_within channels n cue.follow)
-    (All-append P link parts (link_within channels n cue.link) (parts_within channels n 1 cue.parts cue.moves cue.parts valid.moves))))
+    all_append P block (label ++ (follow ++ (link ++ parts))) (block_within channels n cue.block)
+    (all_append P label (follow ++ (link ++ parts)) (label_within channels (InCue n) cue.label)
+    (all_append P follow (link ++ parts) (follow_within channels n cue.follow)
+    (all_append P link parts (link_within channels n cue.link) (parts_within channels n 1 cue.parts cue.moves cue.parts valid.moves))))
 
 group_within : (channels : ℕ) (group : Group) → ValidGroup channels group → AllWithin channels (InGroup group.number) (group_body group)
 group_within channels group valid =
     let s = InGroup group.number in
-    All-append (Within channels s) (label_entries s group.label) (member_entries s group.members) (label_within channels s group.label) (members_within channels s group.members valid.members.each)
+    all_append (Within channels s) (label_entries s group.label) (member_entries s group.members) (label_within channels s group.label) (members_within channels s group.members valid.members.each)
 
 sub_within : (channels : ℕ) (sub : Sub) → ValidSub channels sub → AllWithin channels (InSub sub.number) (sub_body sub)
 sub_within channels sub valid =
     let s = InSub sub.number in
-    All-append (Within channels s) (label_entries s sub.label) (member_entries s sub.members) (label_within channels s sub.label) (members_within channels s sub.members valid.members.each)
+    all_append (Within channels s) (label_entries s sub.label) (member_entries s sub.members) (label_within channels s sub.label) (members_within channels s sub.members valid.members.each)
 
 -- all records of a show
 abbrev pub chunks_of : Show → List Chunk
@@ -179,11 +180,11 @@ pub chunks_within : (show : Show) → Valid show → AllByRecursion (ChunkWithin
 chunks_within show valid =
     let k = show.channels in
     let P = ChunkWithin k in
-    All-append P (map group_chunk show.groups) (map sub_chunk show.subs ++ map cue_chunk show.cues)
-    (All-map P group_chunk show.groups (All-weaker (ValidGroup k) (λ g. P (group_chunk g)) show.groups (λ g v. group_within k g v) valid.groups))
-    (All-append P (map sub_chunk show.subs) (map cue_chunk show.cues)
-    (All-map P sub_chunk show.subs (All-weaker (ValidSub k) (λ s. P (sub_chunk s)) show.subs (λ s v. sub_within k s v) valid.subs))
-    (All-map P cue_chunk show.cues (All-weaker (ValidCue k) (λ c. P (cue_chunk c)) show.cues (λ c v. cue_within k c v) valid.cues)))
+    all_append P (map group_chunk show.groups) (map sub_chunk show.subs ++ map cue_chunk show.cues)
+    (All-map P group_chunk show.groups (each (ValidGroup k) (λ g. P (group_chunk g)) show.groups (λ g v. group_within k g v) valid.groups))
+    (all_append P (map sub_chunk show.subs) (map cue_chunk show.cues)
+    (All-map P sub_chunk show.subs (each (ValidSub k) (λ s. P (sub_chunk s)) show.subs (λ s v. sub_within k s v) valid.subs))
+    (All-map P cue_chunk show.cues (each (ValidCue k) (λ c. P (cue_chunk c)) show.cues (λ c v. cue_within k c v) valid.cues)))
 
 abbrev pub show_entries : Show → List PlacedEntry
 show_entries show = here NoRecord 1 Identifies ∷ here NoRecord 1 (HasChannels show.channels) ∷ (patch_entries show.patch ++ chunks_entries NoRecord 1 (chunks_of show))

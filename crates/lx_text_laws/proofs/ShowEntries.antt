@@ -1,5 +1,5 @@
 -- The entries of a show as it is written, piece by piece.
-use Rattle.std.specs.Prelude.{◌≡◌, ℕ, ◌+◌, Bool, true, false, cond, ◌==◌, Option, Some, None, List, [], ◌∷◌, ◌++◌, map, filter, flat_map, codes, decimal, refl, if◌then◌else◌, IfSome}
+use Rattle.std.specs.Prelude.{◌≡◌, ℕ, ◌+◌, Bool, true, false, ◌==◌, Option, Some, None, List, [], ◌∷◌, ◌++◌, map, filter, flat_map, codes, decimal, refl, if◌then◌else◌, IfSome}
 use Rattle.std.specs.List.{AllByRecursion}
 use Rattle.std.proofs.Common.{arith, subst, append_assoc}
 use Rattle.lx_base.specs.declared.TheConstants.{CHANNELS, CUE_MAX}
@@ -14,6 +14,7 @@ use Rattle.lx_spec.specs.Show.{Cue, Group, Sub, InRange, IsTime, IsLabel, ValidP
 use Rattle.lx_spec.specs.Entry.{PlacedEntry, Begins, Patches, HasLevels, NamesPart, HasUp, HasDown, Follows, Links, IsLabelled, Blocks}
 use Rattle.lx_spec.specs.ShowText.{line, cue_number_text, patch_text, label_text, member_text, group_text, sub_text, move_text, part_text, block_text, follow_text, link_text, cue_text}
 use Rattle.lx_spec.specs.Numerals.{time_text}
+use Rattle.lx_spec.proofs.Lists.{kept_by}
 use Rattle.lx_text_laws.proofs.Passage.{here, Reads, reads_none, reads_then}
 use Rattle.lx_text_laws.proofs.LineTexts.{TakesLevels, level_reads, TakesLabel, label_reads, group_reads, sub_reads, cue_reads, patch_reads, part_reads, up_reads, down_reads, follow_reads, link_reads, block_reads}
 
@@ -65,10 +66,6 @@ moves_read n p channels parts (m ∷ moves) range all =
     reads_then (InCue n) (InCue n) (InCue n) p p p 0 0 (move_text m) (flat_map move_text moves) (level_entry (InCue n) p m.chan m.level ∷ []) (move_entries n p moves)
     (level_reads (InCue n) p m.chan m.level (λ i cs line rest. refl) (wider channels m.chan range all.0.chan) all.0.level) (moves_read n p channels parts moves range all.1)
 
-pub All-filter : {A : Type 0} (P : A → Type 0) (test : A → Bool) (xs : List A) → AllByRecursion P xs → AllByRecursion P (filter test xs)
-All-filter P test [] all = tt
-All-filter P test (x ∷ xs) all = elim (test x) as (λ b. AllByRecursion P (cond b (x ∷ filter test xs) (filter test xs))) [ true ↦ (all.0, All-filter P test xs all.1) | false ↦ All-filter P test xs all.1 ]
-
 abbrev pub in_part : ℕ → List Move → List Move
 in_part p moves = filter (λ m. m.part == p) moves
 
@@ -83,7 +80,7 @@ part_read n q channels parts moves part range all valid =
     let s = InCue n in
     let p = part.number in
     let some = in_part p moves in
-    let last = moves_read n p channels parts some range (All-filter (ValidMove channels parts) (λ m. m.part == p) moves all) in
+    let last = moves_read n p channels parts some range (kept_by (ValidMove channels parts) (λ m. m.part == p) moves all) in
     let down = reads_then s s s p p p 0 0 (line (codes "DOWN" ∷ time_text part.down ∷ time_text part.down_delay ∷ [])) (flat_map move_text some) (here s p (HasDown part.down part.down_delay) ∷ []) (move_entries n p some)
     (down_reads n p part.down part.down_delay valid.down valid.down_delay) last in
     let up = reads_then s s s p p p 0 0 (line (codes "UP" ∷ time_text part.up ∷ time_text part.up_delay ∷ [])) (line (codes "DOWN" ∷ time_text part.down ∷ time_text part.down_delay ∷ []) ++ flat_map move_text some) (here s p (HasUp part.up part.up_delay) ∷ []) (here s p (HasDown part.down part.down_delay) ∷ move_entries n p some)

@@ -2,33 +2,18 @@
 use Rattle.std.specs.Prelude.{◌≡◌, ℕ, ◌<◌, Bool, true, false, cond, ◌||◌, nat_lt, List, [], ◌∷◌, ◌++◌, map, filter, fold, flat_map, refl}
 use Rattle.std.specs.List.{AllByRecursion, list_any}
 use Rattle.std.proofs.Common.{arith, ap, ◌∙◌, sym, subst, append_assoc}
-use Rattle.std.proofs.lemmas.Bool.Decides.{nat_tests}
 use Rattle.std.proofs.lemmas.List.{append-nil}
 use Rattle.std.proofs.lemmas.List.Elements.{filter-append}
 use Rattle.std.proofs.lemmas.List.Sums.{fold-append}
 use Rattle.lx_spec.specs.SortedList.{IsStrictlySorted, placed}
 use Rattle.lx_spec.specs.Reading.{last_of_each}
-use Rattle.lx_text_laws.proofs.ShowEntries.{All-filter}
-
-pub filter_yes : {A : Type 0} (test : A → Bool) (xs : List A) → AllByRecursion (λ x. test x ≡ true) xs → filter test xs ≡ xs
-filter_yes test [] all = refl
-filter_yes test (x ∷ xs) all = ap (λ b. cond b (x ∷ filter test xs) (filter test xs)) all.0 ∙ ap (λ v. x ∷ v) (filter_yes test xs all.1)
-
-pub filter_no : {A : Type 0} (test : A → Bool) (xs : List A) → AllByRecursion (λ x. test x ≡ false) xs → filter test xs ≡ []
-filter_no test [] all = refl
-filter_no test (x ∷ xs) all = ap (λ b. cond b (x ∷ filter test xs) (filter test xs)) all.0 ∙ filter_no test xs all.1
-
-pub All-weaker : {A : Type 0} (P Q : A → Type 0) (xs : List A) → ((x : A) → P x → Q x) → AllByRecursion P xs → AllByRecursion Q xs
-All-weaker P Q [] weaker all = tt
-All-weaker P Q (x ∷ xs) weaker all = (weaker x all.0, All-weaker P Q xs weaker all.1)
+use Rattle.lx_spec.proofs.Comparisons.{lt_true, lt_false}
+use Rattle.lx_spec.proofs.Lists.{each, kept_by, filter_all, filter_none}
+use Rattle.lx_spec.proofs.SortedLists.{below_seam, above_seam}
 
 pub All-both : {A : Type 0} (P Q R : A → Type 0) (xs : List A) → ((x : A) → P x → Q x → R x) → AllByRecursion P xs → AllByRecursion Q xs → AllByRecursion R xs
 All-both P Q R [] both one other = tt
 All-both P Q R (x ∷ xs) both one other = (both x one.0 other.0, All-both P Q R xs both one.1 other.1)
-
-pub All-append : {A : Type 0} (P : A → Type 0) (xs ys : List A) → AllByRecursion P xs → AllByRecursion P ys → AllByRecursion P (xs ++ ys)
-All-append P [] ys one other = other
-All-append P (x ∷ xs) ys one other = (one.0, All-append P xs ys one.1 other)
 
 pub All-map : {A B : Type 0} (P : B → Type 0) (f : A → B) (xs : List A) → AllByRecursion (λ x. P (f x)) xs → AllByRecursion P (map f xs)
 All-map P f [] all = tt
@@ -38,43 +23,22 @@ pub All-each : {A : Type 0} (P : A → Type 0) (xs : List A) → ((x : A) → P 
 All-each P [] each = tt
 All-each P (x ∷ xs) each = (each x, All-each P xs each)
 
-below_test : (m n : ℕ) → m < n → nat_lt m n ≡ true
-below_test m n low = grind (arith, nat_tests, low)
-
-above_test : (m n : ℕ) → n < m → nat_lt m n ≡ false
-above_test m n high = grind (arith, nat_tests, high)
-
-same_test : (n : ℕ) → nat_lt n n ≡ false
-same_test n = grind (arith, nat_tests)
-
 module _ {A : Type 0} (key : A → ℕ) where
-  sorted_before : (done : List A) (x : A) (todo : List A) → IsStrictlySorted key (done ++ x ∷ todo) → AllByRecursion (λ y. key y < key x) done
-  sorted_before [] x todo sorted = tt
-  sorted_before (y ∷ done) x todo sorted = (in_all done x todo (key y) sorted.0, sorted_before done x todo sorted.1)
-    where
-      in_all : (done : List A) (x : A) (todo : List A) (n : ℕ) → AllByRecursion (λ z. n < key z) (done ++ x ∷ todo) → n < key x
-      in_all [] x todo n all = all.0
-      in_all (z ∷ done) x todo n all = in_all done x todo n all.1
-
-  sorted_after : (done : List A) (x : A) (todo : List A) → IsStrictlySorted key (done ++ x ∷ todo) → AllByRecursion (λ y. key x < key y) todo
-  sorted_after [] x todo sorted = sorted.0
-  sorted_after (y ∷ done) x todo sorted = sorted_after done x todo sorted.1
-
   -- an entry in its place between those below it and those above it
   placed-between : (x : A) (before after : List A) (b : Bool) → AllByRecursion (λ y. key y < key x) before → AllByRecursion (λ y. key x < key y) after → placed key x (before ++ (cond b (x ∷ []) [] ++ after)) ≡ before ++ x ∷ after
   placed-between x before after b low high =
       let n = key x in
       let below = λ (y : A). nat_lt (key y) n in
       let above = λ (y : A). nat_lt n (key y) in
-      let own_below : filter below (cond b (x ∷ []) []) ≡ [] = elim b as (λ b. filter below (cond b (x ∷ []) []) ≡ []) [ true ↦ ap (λ v. cond v (x ∷ []) []) (same_test n) | false ↦ refl ] in
-      let own_above : filter above (cond b (x ∷ []) []) ≡ [] = elim b as (λ b. filter above (cond b (x ∷ []) []) ≡ []) [ true ↦ ap (λ v. cond v (x ∷ []) []) (same_test n) | false ↦ refl ] in
+      let own_below : filter below (cond b (x ∷ []) []) ≡ [] = elim b as (λ b. filter below (cond b (x ∷ []) []) ≡ []) [ true ↦ ap (λ v. cond v (x ∷ []) []) (lt_false n n (omega arith)) | false ↦ refl ] in
+      let own_above : filter above (cond b (x ∷ []) []) ≡ [] = elim b as (λ b. filter above (cond b (x ∷ []) []) ≡ []) [ true ↦ ap (λ v. cond v (x ∷ []) []) (lt_false n n (omega arith)) | false ↦ refl ] in
       let lower : filter below (before ++ (cond b (x ∷ []) [] ++ after)) ≡ before =
       filter-append below before (cond b (x ∷ []) [] ++ after) ∙ ap (λ v. filter below before ++ v) (filter-append below (cond b (x ∷ []) []) after)
-      ∙ (λ j. filter_yes below before (All-weaker (λ y. key y < n) (λ y. below y ≡ true) before (λ y. below_test (key y) n) low) j ++ (own_below j ++ filter_no below after (All-weaker (λ y. n < key y) (λ y. below y ≡ false) after (λ y. above_test (key y) n) high) j))
+      ∙ (λ j. filter_all below before (each (λ y. key y < n) (λ y. below y ≡ true) before (λ y. lt_true (key y) n) low) j ++ (own_below j ++ filter_none below after (each (λ y. n < key y) (λ y. below y ≡ false) after (λ y up. lt_false (key y) n (omega (arith, up))) high) j))
       ∙ append-nil before in
       let higher : filter above (before ++ (cond b (x ∷ []) [] ++ after)) ≡ after =
       filter-append above before (cond b (x ∷ []) [] ++ after) ∙ ap (λ v. filter above before ++ v) (filter-append above (cond b (x ∷ []) []) after)
-      ∙ (λ j. filter_no above before (All-weaker (λ y. key y < n) (λ y. above y ≡ false) before (λ y. above_test n (key y)) low) j ++ (own_above j ++ filter_yes above after (All-weaker (λ y. n < key y) (λ y. above y ≡ true) after (λ y. below_test n (key y)) high) j)) in
+      ∙ (λ j. filter_none above before (each (λ y. key y < n) (λ y. above y ≡ false) before (λ y down. lt_false n (key y) (omega (arith, down))) low) j ++ (own_above j ++ filter_all above after (each (λ y. n < key y) (λ y. above y ≡ true) after (λ y. lt_true n (key y)) high) j)) in
       λ j. lower j ++ x ∷ higher j
 
   cond_first : (b : Bool) (x : A) (xs : List A) → cond b (x ∷ xs) xs ≡ cond b (x ∷ []) [] ++ xs
@@ -102,8 +66,8 @@ module _ {A : Type 0} (key : A → ℕ) where
       let more = place_group t u (done ++ x ∷ []) todo next in
       let last : filter both ((done ++ x ∷ []) ++ todo) ≡ filter both (done ++ x ∷ todo) = ap (filter both) (append_assoc done (x ∷ []) todo) in
       let now : filter both done ++ filter t (x ∷ todo) ≡ filter both done ++ (cond (t x) (x ∷ []) [] ++ filter t todo) = ap (λ v. filter both done ++ v) (cond_first (t x) x (filter t todo)) in
-      let low = All-filter (λ y. key y < key x) both done (sorted_before done x todo sorted) in
-      let high = All-filter (λ y. key x < key y) t todo (sorted_after done x todo sorted) in
+      let low = kept_by (λ y. key y < key x) both done (below_seam key done todo x sorted) in
+      let high = kept_by (λ y. key x < key y) t todo (above_seam key done todo x sorted) in
       let split : (b : Bool) → u x ≡ b → fold (λ ys y. placed key y ys) (filter both done ++ filter t (x ∷ todo)) (cond b (x ∷ filter u todo) (filter u todo)) ≡ filter both (done ++ x ∷ todo)
       = λ b. elim b as (λ b. u x ≡ b → fold (λ ys y. placed key y ys) (filter both done ++ filter t (x ∷ todo)) (cond b (x ∷ filter u todo) (filter u todo)) ≡ filter both (done ++ x ∷ todo)) [
         | true ↦ λ is.
@@ -119,9 +83,9 @@ module _ {A : Type 0} (key : A → ℕ) where
 
   pub last_of_each-same : (xs : List A) → IsStrictlySorted key xs → last_of_each key xs ≡ xs
   last_of_each-same xs sorted =
-      (λ j. fold (λ ys x. placed key x ys) (sym (filter_no (λ x. false) xs (All-each (λ x. false ≡ false) xs (λ x. refl))) j) (sym (filter_yes (λ x. true) xs (All-each (λ x. true ≡ true) xs (λ x. refl))) j))
+      (λ j. fold (λ ys x. placed key x ys) (sym (filter_none (λ x. false) xs (All-each (λ x. false ≡ false) xs (λ x. refl))) j) (sym (filter_all (λ x. true) xs (All-each (λ x. true ≡ true) xs (λ x. refl))) j))
       ∙ place_group (λ x. false) (λ x. true) [] xs sorted
-      ∙ filter_yes (λ x. true) xs (All-each (λ x. true ≡ true) xs (λ x. refl))
+      ∙ filter_all (λ x. true) xs (All-each (λ x. true ≡ true) xs (λ x. refl))
 
   or_assoc : (a b c : Bool) → (a || b || c) ≡ (a || (b || c))
   or_assoc true b c = refl
@@ -140,6 +104,6 @@ module _ {A : Type 0} (key : A → ℕ) where
   pub last_of_each-grouped : {P : Type 0} (member : P → A → Bool) (xs : List A) (ps : List P) → IsStrictlySorted key xs → AllByRecursion (λ x. list_any (λ p. member p x) ps ≡ true) xs
       → last_of_each key (flat_map (λ p. filter (member p) xs) ps) ≡ xs
   last_of_each-grouped member xs ps sorted all =
-      ap (λ v. fold (λ ys x. placed key x ys) v (flat_map (λ p. filter (member p) xs) ps)) (sym (filter_no (λ x. false) xs (All-each (λ x. false ≡ false) xs (λ x. refl))))
+      ap (λ v. fold (λ ys x. placed key x ys) v (flat_map (λ p. filter (member p) xs) ps)) (sym (filter_none (λ x. false) xs (All-each (λ x. false ≡ false) xs (λ x. refl))))
       ∙ grouped member xs sorted (λ x. false) ps
-      ∙ filter_yes (λ x. list_any (λ p. member p x) ps) xs all
+      ∙ filter_all (λ x. list_any (λ p. member p x) ps) xs all

@@ -1,10 +1,10 @@
 -- What a list of entries comes to in part: where some of them are left out, and for one number.
 use Rattle.std.specs.Prelude.{◌≡◌, ℕ, ◌<◌, Bool, true, false, cond, ◌||◌, ◌==◌, Option, None, List, [], ◌∷◌, ◌++◌, map, filter, flat_map, filter_map, refl}
 use Rattle.std.specs.List.{AllByRecursion, list_any, cons_option}
-use Rattle.std.proofs.Common.{arith, ap, ◌∙◌, sym}
-use Rattle.std.proofs.lemmas.Bool.Decides.{nat_tests}
+use Rattle.std.proofs.Common.{ap, ◌∙◌, sym}
 use Rattle.std.proofs.lemmas.List.{append-nil}
 use Rattle.lx_spec.specs.SortedList.{IsStrictlySorted}
+use Rattle.lx_spec.proofs.Comparisons.{eq_true, eq_below, eq_above}
 use Rattle.lx_text_laws.proofs.SortedGroups.{All-both}
 
 -- entries of which nothing is asked may be left out
@@ -74,26 +74,17 @@ flat_map-none h (x ∷ xs) all = ap (λ v. v ++ flat_map h xs) all.0 ∙ flat_ma
 abbrev pub picked : {A B : Type 0} → (B → ℕ) → (B → List A) → ℕ → List B → List A
 picked key value n xs = flat_map (λ x. cond (key x == n) (value x) []) xs
 
-same_number : (n : ℕ) → (n == n) ≡ true
-same_number n = grind (arith, nat_tests)
-
-lower_differs : (m n : ℕ) → m < n → (m == n) ≡ false
-lower_differs m n low = grind (arith, nat_tests, low)
-
-higher_differs : (m n : ℕ) → n < m → (m == n) ≡ false
-higher_differs m n high = grind (arith, nat_tests, high)
-
 picked-none : {A B : Type 0} (key : B → ℕ) (value : B → List A) (n : ℕ) (xs : List B) → AllByRecursion (λ y. n < key y) xs → picked key value n xs ≡ []
 picked-none key value n [] all = refl
-picked-none key value n (y ∷ xs) all = ap (λ b. cond b (value y) [] ++ picked key value n xs) (higher_differs (key y) n all.0) ∙ picked-none key value n xs all.1
+picked-none key value n (y ∷ xs) all = ap (λ b. cond b (value y) [] ++ picked key value n xs) (eq_above (key y) n all.0) ∙ picked-none key value n xs all.1
 
 -- in a sorted list each finds its own
 pub picked-own : {A B : Type 0} (key : B → ℕ) (value : B → List A) (xs : List B) → IsStrictlySorted key xs → AllByRecursion (λ y. picked key value (key y) xs ≡ value y) xs
 picked-own key value [] sorted = tt
 picked-own key value (x ∷ xs) sorted = (
-  ap (λ b. cond b (value x) [] ++ picked key value (key x) xs) (same_number (key x)) ∙ ap (λ v. value x ++ v) (picked-none key value (key x) xs sorted.0) ∙ append-nil (value x),
+  ap (λ b. cond b (value x) [] ++ picked key value (key x) xs) (eq_true (key x) (key x) refl) ∙ ap (λ v. value x ++ v) (picked-none key value (key x) xs sorted.0) ∙ append-nil (value x),
   All-both (λ y. key x < key y) (λ y. picked key value (key y) xs ≡ value y) (λ y. picked key value (key y) (x ∷ xs) ≡ value y) xs
-      (λ y low is. ap (λ b. cond b (value x) [] ++ picked key value (key y) xs) (lower_differs (key x) (key y) low) ∙ is) sorted.0 (picked-own key value xs sorted.1),
+      (λ y low is. ap (λ b. cond b (value x) [] ++ picked key value (key y) xs) (eq_below (key x) (key y) low) ∙ is) sorted.0 (picked-own key value xs sorted.1),
 )
 
 pub map-own : {B : Type 0} (key : B → ℕ) (make : ℕ → B) (xs : List B) → AllByRecursion (λ y. make (key y) ≡ y) xs → map make (map key xs) ≡ xs

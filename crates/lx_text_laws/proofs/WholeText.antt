@@ -1,6 +1,6 @@
 -- The whole text of a show reads back.
-use Rattle.std.specs.Prelude.{◌≡◌, ℕ, ◌+◌, Ok, List, [], ◌∷◌, ◌++◌, map, flat_map, length, codes, decimal, refl}
-use Rattle.std.specs.List.{AllByRecursion}
+use Rattle.std.specs.Prelude.{◌≡◌, ℕ, suc, ◌+◌, Bool, true, false, cond, ◌==◌, Ok, List, [], ◌∷◌, ◌++◌, map, flat_map, length, codes, decimal, refl}
+use Rattle.std.specs.List.{AllByRecursion, onto_first}
 use Rattle.std.proofs.Common.{arith, ap, ◌∙◌, sym, append_assoc}
 use Rattle.std.proofs.lemmas.Grind.{flat_map-append}
 use Rattle.std.proofs.lemmas.List.{append-nil}
@@ -9,17 +9,20 @@ use Rattle.lx_spec.specs.declared.Section.TheVariants.{NoRecord}
 use Rattle.lx_spec.specs.declared.Form.TheVariants.{Moves}
 use Rattle.lx_spec.specs.FirstRefusal.{◌>>=◌}
 use Rattle.lx_spec.specs.Limits.{desk_limits}
-use Rattle.lx_spec.specs.Text.{lines_of}
+use Rattle.std.proofs.lemmas.List.{length-map}
+use Rattle.lx_spec.specs.CutInput.{first_lines}
+use Rattle.lx_spec.specs.Text.{cut_lines, without_cr, lines_of}
 use Rattle.lx_spec.specs.Show.{Cue, Show, Valid, ValidCue, ValidGroup, ValidSub}
 use Rattle.lx_spec.specs.Entry.{PlacedEntry, Identifies, HasChannels}
 use Rattle.lx_spec.specs.Facts.{first_facts}
 use Rattle.lx_spec.specs.Reading.{entries, reading_from, count_read, lines_read}
 use Rattle.lx_spec.specs.ShowText.{line, spaced, patch_text, group_text, sub_text, cue_text, show_text}
 use Rattle.lx_text_laws.specs.RoundTrip.{ReadsBack}
+use Rattle.lx_spec.proofs.Lists.{each, all_append}
 use Rattle.lx_text_laws.proofs.Passage.{here, onto, Passage, then, line_passage, at, Reads, reads_then}
 use Rattle.lx_text_laws.proofs.LineTexts.{channels_reads}
 use Rattle.lx_text_laws.proofs.ShowEntries.{Chunk, ChunkReads, group_chunk, group_read, sub_chunk, sub_read, cue_chunk, cue_read, chunks_entries, chunks_read, last_section, part_at_end, new_in, patch_entries, patch_read}
-use Rattle.lx_text_laws.proofs.SortedGroups.{All-weaker, All-map, All-append}
+use Rattle.lx_text_laws.proofs.SortedGroups.{All-map}
 use Rattle.lx_text_laws.proofs.ShowBack.{chunks_of, show_entries}
 use Rattle.lx_text_laws.proofs.RecordsBack.{reading_back}
 
@@ -52,11 +55,11 @@ chunks_text show =
 chunks_all_read : (show : Show) → Valid show → AllByRecursion ChunkReads (chunks_of show)
 chunks_all_read show valid =
     let k = show.channels in
-    All-append ChunkReads (map group_chunk show.groups) (map sub_chunk show.subs ++ map cue_chunk show.cues)
-    (All-map ChunkReads group_chunk show.groups (All-weaker (ValidGroup k) (λ g. ChunkReads (group_chunk g)) show.groups (λ g v. group_read k g valid.channels v) valid.groups))
-    (All-append ChunkReads (map sub_chunk show.subs) (map cue_chunk show.cues)
-    (All-map ChunkReads sub_chunk show.subs (All-weaker (ValidSub k) (λ s. ChunkReads (sub_chunk s)) show.subs (λ s v. sub_read k s valid.channels v) valid.subs))
-    (All-map ChunkReads cue_chunk show.cues (All-weaker (ValidCue k) (λ c. ChunkReads (cue_chunk c)) show.cues (λ c v. cue_read k c valid.channels v) valid.cues)))
+    all_append ChunkReads (map group_chunk show.groups) (map sub_chunk show.subs ++ map cue_chunk show.cues)
+    (All-map ChunkReads group_chunk show.groups (each (ValidGroup k) (λ g. ChunkReads (group_chunk g)) show.groups (λ g v. group_read k g valid.channels v) valid.groups))
+    (all_append ChunkReads (map sub_chunk show.subs) (map cue_chunk show.cues)
+    (All-map ChunkReads sub_chunk show.subs (each (ValidSub k) (λ s. ChunkReads (sub_chunk s)) show.subs (λ s v. sub_read k s valid.channels v) valid.subs))
+    (All-map ChunkReads cue_chunk show.cues (each (ValidCue k) (λ c. ChunkReads (cue_chunk c)) show.cues (λ c v. cue_read k c valid.channels v) valid.cues)))
 
 abbrev ident : List ℕ
 ident = line (codes "IDENT" ∷ codes "3:0" ∷ [])
@@ -118,6 +121,24 @@ ends_here i s p cs = refl
 last_counted : (i : ℕ) (s : Section) (p : ℕ) (cs : List ℕ) → count_read (at i s p cs) (lines_of end) ≡ 1
 last_counted i s p cs = refl
 
+-- all lines of a text are all its bytes
+all_lines : (bytes : List ℕ) → first_lines (length (cut_lines bytes)) bytes ≡ bytes
+all_lines [] = refl
+all_lines (b ∷ bs) =
+    let split : (v : Bool) → (b == 10) ≡ v → first_lines (length (cond v ([] ∷ cut_lines bs) (onto_first b (cut_lines bs)))) (b ∷ bs) ≡ b ∷ bs = λ v. elim v as (λ v. (b == 10) ≡ v → first_lines (length (cond v ([] ∷ cut_lines bs) (onto_first b (cut_lines bs)))) (b ∷ bs) ≡ b ∷ bs) [
+      | true ↦ λ is. ap (λ v. b ∷ first_lines (cond v (length (cut_lines bs)) (suc (length (cut_lines bs)))) bs) is ∙ ap (λ v. b ∷ v) (all_lines bs)
+      | false ↦ λ is. onto (cut_lines bs) is (all_lines bs)
+    ] in
+    split (b == 10) refl
+  where
+    onto : (parts : List (List ℕ)) → (b == 10) ≡ false → first_lines (length parts) bs ≡ bs → first_lines (length (onto_first b parts)) (b ∷ bs) ≡ b ∷ bs
+    onto [] other all = ap (λ v. b ∷ first_lines (cond v 0 1) bs) other ∙ ap (λ v. b ∷ v) (none bs all)
+      where
+        none : (xs : List ℕ) → first_lines 0 xs ≡ xs → first_lines 1 xs ≡ xs
+        none [] same = refl
+        none (x ∷ xs) same = cc
+    onto (part ∷ parts) other all = ap (λ v. b ∷ first_lines (cond v (length parts) (suc (length parts))) bs) other ∙ ap (λ v. b ∷ v) all
+
 pub reads_back : (show : Show) → Valid show → ReadsBack show
 reads_back show valid =
     let all = show_entries show in
@@ -133,4 +154,5 @@ reads_back show valid =
     record {
       reading = ap (λ r. r >>= (λ all. Ok (reading_from Moves all))) said ∙ ap Ok (reading_back show valid);
       lines = counted ∙ sym long;
+      bytes = ap (λ n. first_lines n (show_text show)) (counted ∙ sym long ∙ length-map (cut_lines (show_text show)) without_cr) ∙ all_lines (show_text show);
     }
