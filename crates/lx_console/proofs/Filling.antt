@@ -10,7 +10,7 @@ use Rattle.lx_spec.specs.Kept.{Kept}
 use Rattle.lx_mixer.specs.Table.{IsTable}
 use Rattle.lx_mixer.proofs.Tables.{mixed}
 use Rattle.lx_spec.specs.Output.{dimmer_value}
-use Rattle.lx_patch.specs.Patched.{StandsForPatch}
+use Rattle.lx_patch.specs.DimmerTable.{StandsForPatch}
 use Rattle.lx_patch.proofs.Frames.{patched}
 use Rattle.lx_console.specs.declared.stage.Stage.{Stage}
 use Rattle.lx_console.specs.Standing.{level_now, out_now}

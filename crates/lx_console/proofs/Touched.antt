@@ -17,7 +17,7 @@ use Rattle.lx_edit.specs.Changing.{KeepsOthers}
 use Rattle.lx_edit.specs.Planned.{planned, dimmer_planned, plans_sub}
 use Rattle.lx_console.specs.declared.stage.Stage.{Stage}
 use Rattle.lx_mixer.specs.Table.{IsTable}
-use Rattle.lx_patch.specs.Patched.{StandsForPatch}
+use Rattle.lx_patch.specs.DimmerTable.{StandsForPatch}
 use Rattle.lx_patch.proofs.Rows.{others_stay}
 use Rattle.lx_console.specs.Standing.{level_now, out_now}
 use Rattle.lx_console.specs.Filled.{Reaches, IsFilled, IsFilledBut, IsClean}

@@ -10,7 +10,7 @@ use Rattle.lx_sheet.specs.Standing.{StandsFor}
 use Rattle.lx_edit.specs.declared.dirty.Dirty.{Dirty}
 use Rattle.lx_edit.specs.ChanSet.{has_chan}
 use Rattle.lx_mixer.specs.Table.{IsTable}
-use Rattle.lx_patch.specs.Patched.{Patching, StandsForPatch}
+use Rattle.lx_patch.specs.DimmerTable.{DimmerTable, StandsForPatch}
 use Rattle.lx_subs.specs.Faders.{Faders, StandsForSubs}
 use Rattle.lx_console.specs.declared.stage.Stage.{Stage}
 use Rattle.lx_console.specs.Standing.{level_now, out_now}
@@ -31,7 +31,7 @@ pub record IsFilled (console : Kept) (stage : Stage) : Type 0 where
   pub slots_stand : IsTable SLOTS (dimmer_value console.show.patch (out_now console)) stage.slots.items
 
 -- the table stands for these rows but for that of the dimmer, if there is one
-pub record IsPatchedBut (rows : List PatchRow) (dimmer : Option ℕ) (table : Patching) : Type 0 where
+pub record IsPatchedBut (rows : List PatchRow) (dimmer : Option ℕ) (table : DimmerTable) : Type 0 where
   pub before : List PatchRow
   pub stands : StandsForPatch before table
   pub others : (e : ℕ) → dimmer ≢ Some e → entry_at (λ row. row.dimmer) e rows ≡ entry_at (λ row. row.dimmer) e before

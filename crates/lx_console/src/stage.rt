@@ -9,7 +9,7 @@ ghost use Rattle.lx_sheet.specs.Standing.{StandsFor};
 ghost use Rattle.lx_edit.specs.ChanSet.{has_chan};
 ghost use Rattle.lx_mixer.specs.Table.{IsTable};
 ghost use Rattle.lx_spec.specs.Output.{dimmer_value};
-ghost use Rattle.lx_patch.specs.Patched.{StandsForPatch};
+ghost use Rattle.lx_patch.specs.DimmerTable.{StandsForPatch};
 ghost use Rattle.lx_subs.specs.Faders.{StandsForSubs};
 ghost use Rattle.lx_console.specs.Filled.{Reaches, IsFilled, IsFilledBut, IsPatchedBut, IsClean};
 
@@ -139,7 +139,7 @@ impl Stage {
         ensures reaches { Reaches show.now.channels self.new }
         ensures patch { StandsForPatch show.now.patch self.new.table }
     {
-        self.table.changed(show);
+        self.table.refresh(show);
     }
 
     /// Takes up the dimmer's row, if there is a dimmer: the other rows stand already.

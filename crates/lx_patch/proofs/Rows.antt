@@ -9,7 +9,7 @@ use Rattle.lx_base.specs.declared.TheConstants.{SLOTS}
 use Rattle.lx_spec.specs.declared.PatchRow.{PatchRow}
 use Rattle.lx_spec.specs.SortedList.{entry_at, placed, taken_out}
 use Rattle.lx_mixer.proofs.Tables.{table_of_same, table-set}
-use Rattle.lx_patch.specs.Patched.{Patching, place_of, proportion_of, StandsForPatch}
+use Rattle.lx_patch.specs.DimmerTable.{DimmerTable, place_of, proportion_of, StandsForPatch}
 use Rattle.lx_spec.proofs.Comparisons.{and_known, eq_other, eq_true}
 use Rattle.lx_spec.proofs.Lists.{each, find_both, find_none, passes}
 use Rattle.lx_spec.proofs.SortedLists.{entry_at-placed_here, entry_at-placed_other}
@@ -75,11 +75,11 @@ placed_first row rows e = elim (cases_order row.dimmer e) [
 ]
 
 -- a table stands for all rows that are found alike
-pub stands_alike : (one other : List PatchRow) (table : Patching) → ((e : ℕ) → entry_at (λ x. x.dimmer) e one ≡ entry_at (λ x. x.dimmer) e other) → StandsForPatch one table → StandsForPatch other table
+pub stands_alike : (one other : List PatchRow) (table : DimmerTable) → ((e : ℕ) → entry_at (λ x. x.dimmer) e one ≡ entry_at (λ x. x.dimmer) e other) → StandsForPatch one table → StandsForPatch other table
 stands_alike one other table alike stands = record {
   places = table_of_same SLOTS (place_of one) (place_of other) table.places (λ e least most. ap (λ (o : Option PatchRow). option_map_or (λ r. r.chan - 1) o 0) (alike e)) stands.places;
   levels = table_of_same SLOTS (proportion_of one) (proportion_of other) table.levels (λ e least most. ap (λ (o : Option PatchRow). option_map_or (λ r. r.level) o 0) (alike e)) stands.levels;
 }
 
-pub stands_first : (row : PatchRow) (rows : List PatchRow) (table : Patching) → StandsForPatch (placed (λ x. x.dimmer) row rows) table → StandsForPatch (row ∷ rows) table
+pub stands_first : (row : PatchRow) (rows : List PatchRow) (table : DimmerTable) → StandsForPatch (placed (λ x. x.dimmer) row rows) table → StandsForPatch (row ∷ rows) table
 stands_first row rows table stands = stands_alike (placed (λ x. x.dimmer) row rows) (row ∷ rows) table (placed_first row rows) stands

@@ -6,7 +6,7 @@ ghost use Rattle.lx_spec.specs.declared.PatchRow.{PatchRow as Row};
 ghost use Rattle.lx_spec.specs.SortedList.{placed, taken_out};
 ghost use Rattle.lx_spec.specs.Output.{dimmer_value};
 ghost use Rattle.lx_mixer.specs.Table.{IsTable};
-ghost use Rattle.lx_patch.specs.Patched.{StandsForPatch, Reaches};
+ghost use Rattle.lx_patch.specs.DimmerTable.{StandsForPatch, Reaches};
 
 use crate::slots::fill;
 use lx_base::{Dimmer, Level, SLOTS};
@@ -27,9 +27,9 @@ pub struct PatchTable {
 impl Model for PatchTable {
     ghost use Rattle.std.specs.Prelude.{◌≡◌, length};
     ghost use Rattle.lx_base.specs.declared.TheConstants.{SLOTS};
-    ghost use Rattle.lx_patch.specs.Patched.{Patching};
+    ghost use Rattle.lx_patch.specs.DimmerTable.{DimmerTable};
 
-    ghost Value = { Patching };
+    ghost Value = { DimmerTable };
 
     ghost view = { λ t. record { places = t.places.items; levels = t.levels.items } };
 
@@ -46,12 +46,12 @@ impl PatchTable {
             places: vec![in alloc; 0; SLOTS]?,
             levels: vec![in alloc; 0; SLOTS]?,
         };
-        table.changed(show);
+        table.refresh(show);
         Ok(table)
     }
 
-    /// The patch is now the show's.
-    pub fn changed(&mut self, show: &Show)
+    /// Takes up the show's patch anew.
+    pub fn refresh(&mut self, show: &Show)
         ensures { StandsForPatch show.now.patch self.new }
     {
         self.places.fill(0);

@@ -1,6 +1,6 @@
 //! A patch of dimmers at both ends of each universe, and what becomes of their slots.
 
-ghost use Rattle.lx_patch.specs.Patched.{StandsForPatch};
+ghost use Rattle.lx_patch.specs.DimmerTable.{StandsForPatch};
 
 use crate::PatchTable;
 use lx_base::{CHANNELS, Chan, Dimmer, Level, SLOTS};

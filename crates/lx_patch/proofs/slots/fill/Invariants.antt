@@ -1,6 +1,6 @@
-use Rattle.std.proofs.Common.{◌≡◌, ℕ, ◌<◌, get_or}
-use Rattle.lx_base.specs.Numbers.{scaled}
+use Rattle.std.proofs.Common.{◌*◌}
+use Rattle.lx_patch.specs.Slots.{IsFilled}
 use Rattle.lx_patch.proofs.slots.fill.Given as goal
 
 abbrev pub invariant-loop-i : goal.invariant-loop-i
-invariant-loop-i l = (k : ℕ) → k < l.i → get_or l.slots k 0 ≡ scaled (get_or l.outs (get_or l.places k 0) 0) (get_or l.levels k 0)
+invariant-loop-i l = IsFilled l.places l.levels l.outs l.slots 0 (32 * l.i)

@@ -1,6 +1,6 @@
 use Rattle.std.proofs.Common.{subst, sym}
 use Rattle.lx_spec.specs.Kept.{Kept}
-use Rattle.lx_patch.specs.Patched.{StandsForPatch}
+use Rattle.lx_patch.specs.DimmerTable.{StandsForPatch}
 use Rattle.lx_console.proofs.Filling.{filled}
 use Rattle.lx_console.proofs.console.Console.play.Goals as goal
 

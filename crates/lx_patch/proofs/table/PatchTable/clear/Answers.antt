@@ -1,5 +1,5 @@
 use Rattle.std.proofs.Common.{subst, sym}
-use Rattle.lx_patch.specs.Patched.{StandsForPatch}
+use Rattle.lx_patch.specs.DimmerTable.{StandsForPatch}
 use Rattle.lx_patch.proofs.Rows.{stands_without}
 use Rattle.lx_patch.proofs.table.PatchTable.clear.Goals as goal
 

@@ -1,6 +1,6 @@
 use Rattle.std.proofs.Common.{subst, sym}
 use Rattle.lx_spec.specs.Show.{Show}
-use Rattle.lx_patch.specs.Patched.{StandsForPatch}
+use Rattle.lx_patch.specs.DimmerTable.{StandsForPatch}
 use Rattle.lx_patch.proofs.tests.Rig.unpatch.Goals as goal
 
 pub invariant_of-self : goal.invariant_of-self

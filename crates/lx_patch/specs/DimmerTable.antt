@@ -7,7 +7,7 @@ use Rattle.lx_spec.specs.SortedList.{entry_at}
 use Rattle.lx_mixer.specs.Table.{IsTable}
 
 -- for each dimmer, the place of its channel's output and the level in whose proportion it follows that
-pub record Patching : Type 0 where
+pub record DimmerTable : Type 0 where
   pub places : List ℕ
   pub levels : List ℕ
 
@@ -20,10 +20,10 @@ abbrev pub proportion_of : List PatchRow → ℕ → ℕ
 proportion_of rows e = option_map_or (λ row. row.level) (entry_at (λ row. row.dimmer) e rows) 0
 
 -- the table has each dimmer's row, and that of a dimmer without one is as if it followed channel 1 at 0
-pub record StandsForPatch (rows : List PatchRow) (table : Patching) : Type 0 where
+pub record StandsForPatch (rows : List PatchRow) (table : DimmerTable) : Type 0 where
   pub places : IsTable SLOTS (place_of rows) table.places
   pub levels : IsTable SLOTS (proportion_of rows) table.levels
 
 -- so many outputs have one for each dimmer, or else for each that is patched
-abbrev pub Reaches : ℕ → Patching → Type 0
+abbrev pub Reaches : ℕ → DimmerTable → Type 0
 Reaches n table = (k : ℕ) → k < SLOTS → (slice_index table.places k < n) ⊎ ((slice_index table.places k ≡ 0) × (slice_index table.levels k ≡ 0))
