@@ -1,7 +1,8 @@
 -- A column that is filled in from a number on stands for the show.
-use Rattle.std.proofs.Common.{◌≡◌, ℕ, zero, suc, ◌+◌, ◌<◌, ◌≤◌, Bool, true, false, cond, List, [], ◌∷◌, length, take, map, refl, ◌∙◌, sym, ap, subst, arith, inl, inr}
-use Rattle.std.specs.Prelude.{Option, filter, find, reverse, nat_le, nat_lt, ◌&&◌}
+use Rattle.std.proofs.Common.{◌≡◌, ℕ, zero, suc, ◌+◌, ◌<◌, ◌≤◌, Bool, true, false, cond, List, [], ◌∷◌, length, get_or, take, map, refl, ◌∙◌, sym, ap, subst, arith, inl, inr}
+use Rattle.std.specs.Prelude.{Option, Some, None, IfSome, filter, find, reverse, nat_le, nat_lt, ◌&&◌}
 use Rattle.std.specs.Option.{option_map_or}
+use Rattle.std.specs.List.{AllByRecursion}
 use Rattle.std.proofs.lemmas.Bool.{cases_lt}
 use Rattle.std.proofs.lemmas.Bool.Decides.{nat_tests}
 use Rattle.std.proofs.lemmas.List.{length-map}
@@ -11,10 +12,11 @@ use Rattle.lx_spec.specs.Show.{Cue, Show}
 use Rattle.lx_spec.specs.TrackedLevel.{decides, level_in, tracked}
 use Rattle.lx_show.specs.Around.{entries_up_to}
 use Rattle.lx_show.proofs.Finding.{find_both_last}
-use Rattle.lx_show.proofs.SortedLists.{lt_true, lt_false, shorter}
+use Rattle.std.proofs.lemmas.List.Elements.{All-from_recursion}
+use Rattle.lx_show.proofs.SortedLists.{each, filter_none, lt_true, lt_false, shorter}
 use Rattle.lx_sheet.specs.declared.sheet.Place.{Place}
 use Rattle.lx_sheet.specs.Rows.{level_of}
-use Rattle.lx_sheet.specs.Block.{cell, last_value}
+use Rattle.lx_sheet.specs.Block.{cell, last_value, count_under}
 use Rattle.lx_sheet.specs.After.{level_after}
 use Rattle.lx_sheet.specs.Standing.{cue_numbers}
 use Rattle.lx_sheet.proofs.Rows.{le_true, le_false, count_up_to, count_within, up_to_is_front, last_value_same, sheet_of, level_of_block}
@@ -48,10 +50,6 @@ count_below n from (m ∷ numbers) less =
 
 count_agrees : (n from : ℕ) (ms ns : List ℕ) → n < from → entries_below (λ m. m) from ms ≡ entries_below (λ m. m) from ns → count_up_to n ms ≡ count_up_to n ns
 count_agrees n from ms ns less same = sym (count_below n from ms less) ∙ ap (count_up_to n) same ∙ count_below n from ns less
-
--- how many of the numbers are below this one
-abbrev pub count_under : ℕ → List ℕ → ℕ
-count_under from numbers = length (entries_below (λ m. m) from numbers)
 
 count_before : (from : ℕ) (numbers : List ℕ) → count_under (suc from) numbers ≡ count_up_to from numbers
 count_before from numbers = ap length (sym (up_to_is_below from numbers))
@@ -146,3 +144,64 @@ count_under-map {A} key n (x ∷ xs) =
 
 pub count_under_within : (n : ℕ) (numbers : List ℕ) → count_under n numbers ≤ length numbers
 count_under_within n numbers = shorter (λ m. nat_lt m n) numbers
+
+-- up to the number at a place there are that many and one
+count_at : (numbers : List ℕ) (k : ℕ) → IsStrictlySorted (λ n. n) numbers → k < length numbers → count_up_to (get_or numbers k 0) numbers ≡ suc k
+count_at [] k sorted within = absurd (omega arith)
+count_at (m ∷ ms) zero sorted within =
+    let none : entries_up_to (λ x. x) m ms ≡ [] = filter_none _ ms (each _ _ ms (λ y h. le_false y m h) sorted.0) in
+    rw (le_true m m (omega arith)) (ap (λ xs. suc (length xs)) none)
+count_at (m ∷ ms) (suc k) sorted within =
+    let above : m < get_or ms k 0 = All-from_recursion (λ y. m < y) ms sorted.0 k 0 (omega arith) in
+    rw (le_true m (get_or ms k 0) (omega (arith, above))) (ap suc (count_at ms k sorted.1 (omega arith)))
+
+-- from the place on that so many below it leave, the numbers aren't below it
+reached : (end : ℕ) (numbers : List ℕ) (k : ℕ) → IsStrictlySorted (λ n. n) numbers → count_under end numbers ≤ k → k < length numbers → end ≤ get_or numbers k 0
+reached end [] k sorted least within = absurd (omega arith)
+reached end (m ∷ ms) zero sorted least within =
+    elim (cases_lt m end) [
+      | inl low ↦ absurd (let none : suc (count_under end ms) ≤ 0 = rw (lt_true m end low) at least in omega (arith, none))
+      | inr high ↦ high
+    ]
+reached end (m ∷ ms) (suc k) sorted least within =
+    elim (cases_lt m end) [
+      | inl low ↦ reached end ms k sorted.1 (let less : suc (count_under end ms) ≤ suc k = rw (lt_true m end low) at least in omega (arith, less)) (omega arith)
+      | inr high ↦ omega (arith, high, All-from_recursion (λ y. m < y) ms sorted.0 k 0 (omega arith))
+    ]
+
+all_numbers : (n : ℕ) (cues : List Cue) → AllByRecursion (λ cue. n < cue.number) cues → AllByRecursion (λ m. n < m) (map (λ cue. cue.number) cues)
+all_numbers n [] all = tt
+all_numbers n (cue ∷ cues) all = (all.0, all_numbers n cues all.1)
+
+sorted_numbers : (cues : List Cue) → IsStrictlySorted (λ cue. cue.number) cues → IsStrictlySorted (λ n. n) (map (λ cue. cue.number) cues)
+sorted_numbers [] sorted = tt
+sorted_numbers (cue ∷ cues) sorted = (all_numbers cue.number cues sorted.0, sorted_numbers cues sorted.1)
+
+-- where a sheet stands for a show from a number on, the rows of the cues there are right
+pub rows_from : (show : Show) (end channels : ℕ) (order : List Place) (levels : List ℕ) (c k : ℕ) → IsStrictlySorted (λ p. p.cue) order → IsStrictlySorted (λ cue. cue.number) show.cues → map (λ p. p.cue) order ≡ cue_numbers show → ((n : ℕ) → end ≤ n → level_of (sheet_of channels order levels) n c ≡ tracked show n c) → count_under end (cue_numbers show) ≤ k → k < length show.cues → cell channels levels k c ≡ level_after (take (k + 1) show.cues) c
+rows_from show end channels order levels c k order_sorted cues_sorted numbers right least within =
+    let all : List ℕ = cue_numbers show in
+    let sorted = sorted_numbers show.cues cues_sorted in
+    let long : length all ≡ length show.cues = length-map show.cues (λ (cue : Cue). cue.number) in
+    let n : ℕ = get_or all k 0 in
+    let count : count_up_to n all ≡ suc k = count_at all k sorted (omega (arith, long, within)) in
+    let next : suc k ≡ k + 1 = omega arith in
+    ap (λ j. last_value j (λ i. cell channels levels i c)) (sym count)
+    ∙ ap (λ (ns : List ℕ). last_value (count_up_to n ns) (λ i. cell channels levels i c)) (sym numbers)
+    ∙ sym (level_of_block channels order levels n c order_sorted)
+    ∙ right n (reached end all k sorted least (omega (arith, long, within)))
+    ∙ tracked_is show n c cues_sorted
+    ∙ ap (λ j. level_after (take j show.cues) c) (count ∙ next)
+
+-- how many cues are below the number, or all
+abbrev pub until : Option ℕ → List Cue → ℕ
+until to cues = option_map_or (λ end. count_under end (map (λ cue. cue.number) cues)) to (length cues)
+
+pub last_within : (to : Option ℕ) (cues : List Cue) (last : ℕ) → last ≡ until to cues → last ≤ length cues
+last_within None cues last is = omega (arith, is)
+last_within (Some end) cues last is = omega (arith, is, count_under_within end (map (λ (cue : Cue). cue.number) cues), length-map cues (λ (cue : Cue). cue.number))
+
+-- the rows that aren't filled in are right
+pub rows_until : (show : Show) (to : Option ℕ) (last channels : ℕ) (order : List Place) (levels : List ℕ) (c k : ℕ) → IsStrictlySorted (λ p. p.cue) order → IsStrictlySorted (λ cue. cue.number) show.cues → map (λ p. p.cue) order ≡ cue_numbers show → last ≡ until to show.cues → IfSome to (λ end. (n : ℕ) → end ≤ n → level_of (sheet_of channels order levels) n c ≡ tracked show n c) → last ≤ k → k < length show.cues → cell channels levels k c ≡ level_after (take (k + 1) show.cues) c
+rows_until show None last channels order levels c k order_sorted cues_sorted numbers is right least within = absurd (omega (arith, is, least, within))
+rows_until show (Some end) last channels order levels c k order_sorted cues_sorted numbers is right least within = rows_from show end channels order levels c k order_sorted cues_sorted numbers right (omega (arith, is, least)) within

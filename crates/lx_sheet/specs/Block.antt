@@ -1,7 +1,7 @@
 -- How the rows are kept: one block of levels, in which each row follows the one before.
 use Rattle.std.specs.Prelude.{◌≡◌, ℕ, zero, suc, ◌*◌, ◌≤◌, List, [], ◌∷◌, length, take, drop, slice_index}
 use Rattle.lx_base.specs.declared.TheConstants.{CUES, CHANNELS}
-use Rattle.lx_spec.specs.SortedList.{IsStrictlySorted}
+use Rattle.lx_spec.specs.SortedList.{IsStrictlySorted, entries_below}
 use Rattle.lx_spec.specs.Show.{Cue}
 use Rattle.lx_sheet.specs.declared.sheet.Place.{Place}
 use Rattle.lx_sheet.specs.Rows.{Row}
@@ -32,6 +32,10 @@ cell channels levels k c = level_in_look (take channels (drop (k * channels) lev
 abbrev pub last_value : ℕ → (ℕ → ℕ) → ℕ
 last_value zero f = 0
 last_value (suc k) f = f k
+
+-- how many of the numbers are below this one
+abbrev pub count_under : ℕ → List ℕ → ℕ
+count_under from numbers = length (entries_below (λ m. m) from numbers)
 
 abbrev pub place_of_cue : Cue → Place
 place_of_cue cue = record { cue = cue.number }

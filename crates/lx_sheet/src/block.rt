@@ -54,26 +54,29 @@ pub(crate) fn fill_rows(levels: &mut [Level], look: &mut [Level], cues: &[Cue], 
     }
 }
 
-/// Fills in the channel's column in the rows of the cues from a place on, each from the one before.
+/// Fills in the channel's column in the rows of the cues from a place to below another, each from the one before.
 pub(crate) fn fill_column(
     levels: &mut [Level],
     channels: usize,
     cues: &[Cue],
     from: usize,
+    to: usize,
     chan: Chan,
 )
     requires few { channels ≤ CHANNELS }
     requires room { length levels.old ≡ CUES * channels }
     requires cues { length cues.now ≤ CUES }
     requires from { from ≤ length cues.now }
+    requires to { to ≤ length cues.now }
     requires within { chan ≤ channels }
     ensures others { (k c : ℕ) → c ≢ chan → cell channels levels.new k c ≡ cell channels levels.old k c }
     ensures front { (k : ℕ) → k < from → cell channels levels.new k chan ≡ cell channels levels.old k chan }
-    ensures rows { last_value from (λ k. cell channels levels.old k chan) ≡ level_after (take from cues.now) chan → (k : ℕ) → from ≤ k → k < length cues.now → cell channels levels.new k chan ≡ level_after (take (k + 1) cues.now) chan }
+    ensures back { (k : ℕ) → to ≤ k → cell channels levels.new k chan ≡ cell channels levels.old k chan }
+    ensures rows { last_value from (λ k. cell channels levels.old k chan) ≡ level_after (take from cues.now) chan → (k : ℕ) → from ≤ k → k < to → cell channels levels.new k chan ≡ level_after (take (k + 1) cues.now) chan }
 {
     let at = chan.get() as usize - 1;
     let mut level = level_before(levels, channels, from, at);
-    for place in from..cues.len() {
+    for place in from..to {
         level = level_on(&cues[place], chan, level);
         levels[place * channels + at] = level;
     }

@@ -1,11 +1,13 @@
 //! A sheet follows the edits of its show. No call takes memory.
 
-ghost use Rattle.std.specs.Prelude.{◌≡◌, ◌≢◌, ℕ, ◌<◌, ◌≤◌, None, length, map, vec_capacity};
+ghost use Rattle.std.specs.Prelude.{◌≡◌, ◌≢◌, ℕ, ◌<◌, ◌≤◌, None, IfSome, length, map, vec_capacity};
+ghost use Rattle.std.specs.Option.{option_map_or};
+ghost use Rattle.lx_spec.specs.SortedList.{IsStrictlySorted};
 ghost use Rattle.lx_spec.specs.Show.{Show as ShowData, Cue as CueData};
 ghost use Rattle.lx_spec.specs.TrackedLevel.{cue_of, tracked};
 ghost use Rattle.lx_spec.specs.EditedShow.{with_cue, without_cue};
 ghost use Rattle.lx_sheet.specs.Rows.{numbers_of, level_of};
-ghost use Rattle.lx_sheet.specs.Block.{place_of_cue};
+ghost use Rattle.lx_sheet.specs.Block.{place_of_cue, count_under};
 ghost use Rattle.lx_sheet.specs.Standing.{StandsFor, StandsIn, StandsBelow, cue_numbers};
 
 use crate::block::{fill_column, fill_rows, recall};
@@ -28,10 +30,26 @@ impl Sheet {
         ensures numbers { numbers_of self.new ≡ numbers_of self.old }
         ensures channels { self.new.channels ≡ self.old.channels }
     {
+        self.changed_until(show, from, None, chan)
+    }
+
+    /// The same where the rows of the cues from `to` on stand for the show as they are, if `to` is a number:
+    /// they aren't touched.
+    pub fn changed_until(&mut self, show: &Show, from: CueNo, to: Option<CueNo>, chan: Chan)
+        requires channels { self.old.channels ≡ show.now.channels }
+        requires numbers { numbers_of self.old ≡ cue_numbers show.now }
+        requires below { (n : ℕ) → n < from → level_of self.old n chan ≡ tracked show.now n chan }
+        requires above { IfSome to (λ end. (n : ℕ) → end ≤ n → level_of self.old n chan ≡ tracked show.now n chan) }
+        ensures column { StandsIn show.now chan self.new }
+        ensures others { (n c : ℕ) → c ≢ chan → level_of self.new n c ≡ level_of self.old n c }
+        ensures numbers { numbers_of self.new ≡ numbers_of self.old }
+        ensures channels { self.new.channels ≡ self.old.channels }
+    {
         let cues = show.cues();
         if chan.get() as usize <= self.channels {
             let first = below(cues, from.get()).len();
-            fill_column(&mut self.levels, self.channels, cues, first, chan);
+            let last = count_below(cues, to);
+            fill_column(&mut self.levels, self.channels, cues, first, last, chan);
         }
     }
 
@@ -69,6 +87,17 @@ impl Sheet {
         recall(&mut self.look, &self.levels, first);
         list_cues(&mut self.order, cues);
         fill_rows(&mut self.levels, &mut self.look, cues, first);
+    }
+}
+
+/// How many cues are below the number: all where there is none.
+fn count_below(cues: &[Cue], to: Option<CueNo>) -> usize
+    requires { IsStrictlySorted (λ cue. cue.number) cues.now }
+    ensures { result ≡ option_map_or (λ end. count_under end (map (λ cue. cue.number) cues.now)) to (length cues.now) }
+{
+    match to {
+        Some(end) => below(cues, end.get()).len(),
+        None => cues.len(),
     }
 }
 

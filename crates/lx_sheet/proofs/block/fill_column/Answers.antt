@@ -15,6 +15,7 @@ loop-place-init c =
       level = λ start. c.level_before-level.ensures ∙ ap (λ n. last_value c.args.from (λ k. cell c.args.channels c.args.levels.now k n)) at ∙ start;
       others = λ k c' other. refl;
       front = λ k less. refl;
+      back = λ k more. refl;
       rows = λ start k least less. absurd (omega arith);
     }
 
@@ -29,11 +30,12 @@ loop-place-preserved c =
     let new = set c.loop-place.levels (place * n + (c.get.result - 1)) c.level_on-level.result in
     let here : cell n new place c.args.chan ≡ c.level_on-level.result = subst (λ (c' : ℕ). cell n new place c' ≡ c.level_on-level.result) is (cell-set_here n c.loop-place.levels place c.get.result c.level_on-level.result least most (omega arith)) in
     let tracks : last_value c.args.from (λ k. cell n c.args.levels.now k c.args.chan) ≡ level_after (take c.args.from c.args.cues.now) c.args.chan → c.level_on-level.result ≡ level_after (take (place + 1) c.args.cues.now) c.args.chan =
-    λ start. c.level_on-level.ensures ∙ ap (tracked_on c.index-cues-place.result c.args.chan) (c.loop-place.invariant.level start) ∙ sym (level_after-take c.args.cues.now place c.index-cues-place.result c.args.chan c.loop-place-test.true c.index-cues-place.is) in
+    λ start. c.level_on-level.ensures ∙ ap (tracked_on c.index-cues-place.result c.args.chan) (c.loop-place.invariant.level start) ∙ sym (level_after-take c.args.cues.now place c.index-cues-place.result c.args.chan (omega arith) c.index-cues-place.is) in
     record {
       level = tracks;
       others = λ k c' other. cell-set_other n c.loop-place.levels place k c.get.result c' c.level_on-level.result least most (λ _ e. other (e ∙ is)) ∙ c.loop-place.invariant.others k c' other;
       front = λ k less. cell-set_other n c.loop-place.levels place k c.get.result c.args.chan c.level_on-level.result least most (λ e _. omega arith) ∙ c.loop-place.invariant.front k less;
+      back = λ k more. cell-set_other n c.loop-place.levels place k c.get.result c.args.chan c.level_on-level.result least most (λ e _. omega arith) ∙ c.loop-place.invariant.back k more;
       rows = λ start k from below. elim (cases_eq k place) [
         | inl e ↦ ap (λ p. cell n new p c.args.chan) e ∙ here ∙ tracks start ∙ ap (λ p. level_after (take (p + 1) c.args.cues.now) c.args.chan) (sym e)
         | inr apart ↦ cell-set_other n c.loop-place.levels place k c.get.result c.args.chan c.level_on-level.result least most (λ e _. apart e) ∙ c.loop-place.invariant.rows start k from (omega arith)

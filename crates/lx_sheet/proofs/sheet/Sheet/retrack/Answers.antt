@@ -10,7 +10,8 @@ use Rattle.lx_sheet.specs.Rows.{Sheet, level_of, numbers_of}
 use Rattle.lx_sheet.specs.Block.{cell, last_value, level_in_look, place_of_cue}
 use Rattle.lx_sheet.specs.After.{level_after}
 use Rattle.lx_sheet.specs.Standing.{cue_numbers}
-use Rattle.lx_sheet.proofs.Columns.{IsFilledFrom, count_under, count_under-map, count_under_within, starts_right, column_right}
+use Rattle.lx_sheet.specs.Block.{count_under}
+use Rattle.lx_sheet.proofs.Columns.{IsFilledFrom, count_under-map, count_under_within, starts_right, column_right}
 use Rattle.lx_sheet.proofs.EditedShows.{numbers-listed, IsStrictlySorted-listed}
 use Rattle.lx_sheet.proofs.Rows.{sheet_of, numbers-rows_of}
 use Rattle.lx_sheet.proofs.sheet.Sheet.retrack.Goals as goal

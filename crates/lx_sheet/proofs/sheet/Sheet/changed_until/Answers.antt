@@ -1,4 +1,6 @@
-use Rattle.std.proofs.Common.{◌≡◌, ℕ, ◌+◌, ◌<◌, List, length, map, take, ap, sym, ◌∙◌, subst, arith}
+use Rattle.std.proofs.Common.{◌≡◌, ℕ, ◌+◌, ◌<◌, List, length, map, take, ap, sym, ◌∙◌, subst, inl, inr, arith}
+use Rattle.std.specs.Prelude.{IfSome, ◌≤◌}
+use Rattle.std.proofs.lemmas.Bool.{cases_lt}
 use Rattle.std.proofs.lemmas.List.{length-map, with_items_is}
 use Rattle.lx_spec.specs.Show.{Cue}
 use Rattle.lx_spec.specs.SortedList.{entries_below}
@@ -8,14 +10,18 @@ use Rattle.lx_sheet.specs.Rows.{Sheet, level_of, numbers_of}
 use Rattle.lx_sheet.specs.Block.{cell, last_value}
 use Rattle.lx_sheet.specs.After.{level_after}
 use Rattle.lx_sheet.specs.Standing.{cue_numbers}
-use Rattle.lx_sheet.proofs.Columns.{IsFilledFrom, count_under, count_under-map, count_under_within, starts_right, column_right}
+use Rattle.lx_sheet.specs.Block.{count_under}
+use Rattle.lx_sheet.proofs.Columns.{IsFilledFrom, count_under-map, count_under_within, starts_right, column_right, rows_until, last_within, until}
 use Rattle.lx_sheet.proofs.Past.{level_of_past, tracked_past}
 use Rattle.lx_sheet.proofs.Rows.{last_value_same, sheet_of, level_of_block, count_up_to, numbers-rows_of}
-use Rattle.lx_sheet.proofs.sheet.Sheet.changed.Goals as goal
+use Rattle.lx_sheet.proofs.sheet.Sheet.changed_until.Goals as goal
 
 pub fill_column-requires-clause-from : goal.fill_column-requires-clause-from
 fill_column-requires-clause-from c =
     omega (arith, ap length c.below-first.ensures, count_under-map (λ (cue : Cue). cue.number) c.get-then-get-self.result c.cues-cues.result.now, count_under_within c.get-then-get-self.result (map (λ (cue : Cue). cue.number) c.cues-cues.result.now), length-map c.cues-cues.result.now (λ (cue : Cue). cue.number))
+
+pub fill_column-requires-clause-to : goal.fill_column-requires-clause-to
+fill_column-requires-clause-to c = last_within c.args.to c.cues-cues.result.now c.count_below-last.result c.count_below-last.ensures
 
 pub returns-then-get-self-clause-column : goal.returns-then-get-self-clause-column
 returns-then-get-self-clause-column c =
@@ -49,10 +55,18 @@ returns-then-get-self-clause-column c =
     ∙ starts_right show from channels order order old new chan filled below
     ∙ sym (ap (λ n. level_after (take n show.cues) chan) of_first)
     ∙ sym (ap (λ (xs : List Cue). level_after (take first xs) chan) of_cues) in
+    let right_above : IfSome c.args.to (λ end. (n : ℕ) → end ≤ n → level_of (sheet_of channels order old) n chan ≡ tracked show n chan) = subst (λ (s : Sheet). IfSome c.args.to (λ end. (n : ℕ) → end ≤ n → level_of s n chan ≡ tracked show n chan)) (sym c.self.view_is) c.requires.above in
     subst (λ (xs : List ℕ). (n : ℕ) → level_of (sheet_of channels order xs) n chan ≡ tracked show n chan) (sym written)
     (column_right show from channels order order old new chan filled below
     (λ k less. c.fill_column.ensures.front k (omega (arith, of_first, less)) ∙ ap (λ (xs : List ℕ). cell channels xs k chan) of_old)
-    (λ k least less. c.fill_column.ensures.rows start k (omega (arith, of_first, least)) (omega (arith, ap length of_cues, less)) ∙ ap (λ (xs : List Cue). level_after (take (k + 1) xs) chan) of_cues))
+    (λ k least less. elim (cases_lt k c.count_below-last.result) [
+      | inl within ↦ c.fill_column.ensures.rows start k (omega (arith, of_first, least)) within ∙ ap (λ (xs : List Cue). level_after (take (k + 1) xs) chan) of_cues
+      | inr past ↦
+          c.fill_column.ensures.back k past
+          ∙ ap (λ (xs : List ℕ). cell channels xs k chan) of_old
+          ∙ rows_until show c.args.to c.count_below-last.result channels order old chan k c.self.invariant.sorted c.cues-cues.ensures.valid.cues_sorted numbers
+          (c.count_below-last.ensures ∙ ap (λ (xs : List Cue). until c.args.to xs) of_cues) right_above past less
+    ]))
 
 pub returns-then-get-self-clause-others : goal.returns-then-get-self-clause-others
 returns-then-get-self-clause-others c = λ n chan other.
