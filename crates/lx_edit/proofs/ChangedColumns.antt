@@ -1,7 +1,7 @@
 -- Channels that see no difference where a cue is changed, added or taken out.
-use Rattle.std.proofs.Common.{◌≡◌, ℕ, ◌-◌, ◌≤◌, Bool, true, false, cond, List, [], ◌∷◌, ◌++◌, map, Some, None, refl, ◌∙◌, sym, ap, subst, inl, inr, arith}
-use Rattle.std.specs.Prelude.{Option, IfSome, IsTrue, is_some, not, ◌||◌, ◌&&◌, ◌==◌, nat_le, reverse}
-use Rattle.std.specs.Option.{option_map_or}
+use Rattle.std.proofs.Common.{◌≡◌, ℕ, ◌-◌, ◌<◌, ◌≤◌, Bool, true, false, cond, List, [], ◌∷◌, ◌++◌, map, Some, None, refl, ◌∙◌, sym, ap, subst, inl, inr, arith}
+use Rattle.std.specs.Prelude.{Option, option_map, find, IfSome, IsTrue, is_some, not, ◌||◌, ◌&&◌, ◌==◌, nat_le, reverse}
+use Rattle.std.specs.Option.{option_map_or, IsSomeAnd}
 use Rattle.std.specs.List.{AllByRecursion}
 use Rattle.std.proofs.lemmas.Bool.{cases_eq, cases_lt, false≢true}
 use Rattle.std.proofs.lemmas.Bool.Decides.{nat_tests}
@@ -18,7 +18,8 @@ use Rattle.lx_show.proofs.SortedLists.{each, filter_all, find_none, found_number
 use Rattle.lx_sheet.proofs.Past.{tracked_past}
 use Rattle.lx_edit.specs.declared.chan_set.ChanSet.{ChanSet}
 use Rattle.lx_edit.specs.ChanSet.{has_chan}
-use Rattle.lx_edit.specs.Changing.{move_by, is_block, level_from, SameEntry}
+use Rattle.lx_edit.specs.Changing.{move_by, is_block, level_from, SameEntry, IsPastDecision}
+use Rattle.lx_edit.proofs.KeptLevels.{above_placed}
 use Rattle.lx_edit.proofs.Lists.{find_in_filter, map_append}
 use Rattle.lx_edit.proofs.Tracking.{through, walked, tracked-with_cue, tracked-without_cue, tracked_below-with_cue, tracked_below-without_cue}
 
@@ -190,3 +191,55 @@ numbers_step {A} key x xs (Some y) is there sorted =
 -- a cue in the place of one that is there leaves the numbers
 pub numbers_with : (show : Show) (cue : Cue) → Valid show → IsTrue (is_some (cue_of show cue.number)) → map (λ x. x.number) (with_cue show cue).cues ≡ map (λ x. x.number) show.cues
 numbers_with show cue valid there = numbers_step (λ (x : Cue). x.number) cue show.cues (cue_of show cue.number) refl there valid.cues_sorted
+
+-- From the next decision on nothing is changed.
+first_is : (d y : Cue) → Some y ≡ Some d → y ≡ d
+first_is d y is = cc
+
+none_is : (d : Cue) → None ≡ Some d → ⊥
+none_is d is = cc
+
+le_true : (a m : ℕ) → a ≤ m → nat_le a m ≡ true
+le_true a m le = grind (arith, nat_tests)
+
+passed : (c base : ℕ) (y : Cue) → decides y c ≡ false → through c base y ≡ base
+passed c base y test = ap (λ (bit : Bool). cond bit (level_in y c) base) test
+
+set_by : (c base : ℕ) (y : Cue) → decides y c ≡ true → through c base y ≡ level_in y c
+set_by c base y test = ap (λ (bit : Bool). cond bit (level_in y c) base) test
+
+decided_step : (c a b m : ℕ) (d y : Cue) (ys : List Cue) (bit : Bool) → decides y c ≡ bit → cond bit (Some y) (find (λ cue. decides cue c) ys) ≡ Some d → d.number ≤ m → (find (λ cue. decides cue c) ys ≡ Some d → walked c a (entries_up_to (λ cue. cue.number) m ys) ≡ walked c b (entries_up_to (λ cue. cue.number) m ys)) → walked c a (entries_up_to (λ cue. cue.number) m (y ∷ ys)) ≡ walked c b (entries_up_to (λ cue. cue.number) m (y ∷ ys))
+decided_step c a b m d y ys true test is le rest =
+    let low : y.number ≤ m = subst (λ (x : Cue). x.number ≤ m) (sym (first_is d y is)) le in
+    rw (le_true y.number m low) (ap (λ base. walked c base (entries_up_to (λ cue. cue.number) m ys)) (set_by c a y test ∙ sym (set_by c b y test)))
+decided_step c a b m d y ys false test is le rest =
+    elim (nat_le y.number m) as (λ t. walked c a (cond t (y ∷ entries_up_to (λ cue. cue.number) m ys) (entries_up_to (λ cue. cue.number) m ys)) ≡ walked c b (cond t (y ∷ entries_up_to (λ cue. cue.number) m ys) (entries_up_to (λ cue. cue.number) m ys))) [
+      | true ↦ ap (λ base. walked c base (entries_up_to (λ cue. cue.number) m ys)) (passed c a y test) ∙ rest is ∙ sym (ap (λ base. walked c base (entries_up_to (λ cue. cue.number) m ys)) (passed c b y test))
+      | false ↦ rest is
+    ]
+
+-- whatever tracks into them, cues of which one decides give the same
+decided_alike : (c a b m : ℕ) (d : Cue) (cues : List Cue) → find (λ cue. decides cue c) cues ≡ Some d → d.number ≤ m → walked c a (entries_up_to (λ cue. cue.number) m cues) ≡ walked c b (entries_up_to (λ cue. cue.number) m cues)
+decided_alike c a b m d [] is le = absurd (none_is d is)
+decided_alike c a b m d (y ∷ ys) is le = decided_step c a b m d y ys (decides y c) refl is le (λ found. decided_alike c a b m d ys found le)
+
+past_step : (c a b m : ℕ) (cues : List Cue) (o : Option Cue) → find (λ cue. decides cue c) cues ≡ o → IsSomeAnd (option_map (λ cue. cue.number) o) (λ end. end ≤ m) → walked c a (entries_up_to (λ cue. cue.number) m cues) ≡ walked c b (entries_up_to (λ cue. cue.number) m cues)
+past_step c a b m cues None is past = absurd past
+past_step c a b m cues (Some d) is past = decided_alike c a b m d cues is past
+
+pub alike_past : (show : Show) (cue : Cue) (n m c : ℕ) → Valid show → cue.number ≡ n → 1 ≤ n → IsPastDecision (with_cue show cue) n c m → tracked show m c ≡ tracked (with_cue show cue) m c
+alike_past show cue n m c valid number least past =
+    elim (cases_lt m n) [
+      | inl less ↦ sym (tracked_below-with_cue show cue m c (subst (λ k. m < k) (sym number) less))
+      | inr le ↦
+          let key : Cue → ℕ = λ x. x.number in
+          let same : entries_above key n (with_cue show cue).cues ≡ entries_above key n show.cues = subst (λ k. entries_above key k (with_cue show cue).cues ≡ entries_above key k show.cues) number (above_placed key cue show.cues) in
+          split_step show n m c (cue_of show n) refl valid least le
+          ∙ past_step c _ _ m (entries_above key n show.cues) _ refl (subst (λ (cues : List Cue). IsSomeAnd (option_map (λ x. x.number) (find (λ x. decides x c) cues)) (λ end. end ≤ m)) same past)
+          ∙ sym (with_at show cue n m c number least le)
+    ]
+
+-- a column that is right past a number, where there is one
+pub from_there : (to : Option ℕ) (P : ℕ → Type 0) → ((m : ℕ) → IsSomeAnd to (λ end. end ≤ m) → P m) → IfSome to (λ end. (m : ℕ) → end ≤ m → P m)
+from_there None P right = tt
+from_there (Some end) P right = λ m le. right m le

@@ -28,7 +28,7 @@ not_both a k less = grind (arith, nat_tests)
 above_differs : (a n : ℕ) → nat_lt n a ≡ true → not (a == n) ≡ true
 above_differs a n less = grind (arith, nat_tests)
 
-above_placed : {A : Type 0} (key : A → ℕ) (x : A) (xs : List A) → entries_above key (key x) (placed key x xs) ≡ entries_above key (key x) xs
+pub above_placed : {A : Type 0} (key : A → ℕ) (x : A) (xs : List A) → entries_above key (key x) (placed key x xs) ≡ entries_above key (key x) xs
 above_placed key x xs =
     let none : entries_above key (key x) (entries_below key (key x) xs) ≡ [] = filter_none _ _ (each _ _ _ (λ y h. not_both (key y) (key x) h) (passes (λ y. nat_lt (key y) (key x)) xs)) in
     let all : entries_above key (key x) (entries_above key (key x) xs) ≡ entries_above key (key x) xs = filter_all _ _ (passes (λ y. nat_lt (key x) (key y)) xs) in

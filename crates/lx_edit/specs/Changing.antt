@@ -1,9 +1,10 @@
 -- What a channel sees of a cue that is changed, added or taken out.
-use Rattle.std.specs.Prelude.{◌≡◌, ℕ, Bool, false, ◌||◌, Option, Some, None, is_some, option_and_then, if◌then◌else◌}
-use Rattle.std.specs.Option.{option_map_or}
+use Rattle.std.specs.Prelude.{◌≡◌, ℕ, ◌≤◌, option_map, find, Bool, false, ◌||◌, Option, Some, None, is_some, option_and_then, if◌then◌else◌}
+use Rattle.std.specs.Option.{option_map_or, IsSomeAnd}
 use Rattle.lx_spec.specs.declared.Move.{Move}
 use Rattle.lx_spec.specs.Show.{Cue, Show}
-use Rattle.lx_spec.specs.TrackedLevel.{move_in}
+use Rattle.lx_spec.specs.SortedList.{entries_above}
+use Rattle.lx_spec.specs.TrackedLevel.{move_in, decides}
 use Rattle.lx_spec.specs.Laws.{SameColumn}
 use Rattle.lx_edit.specs.declared.chan_set.ChanSet.{ChanSet}
 use Rattle.lx_edit.specs.ChanSet.{has_chan}
@@ -33,3 +34,11 @@ Grows old new = (c : ℕ) → has_chan new c ≡ false → has_chan old c ≡ fa
 -- a channel that isn't in the set sees the same of both shows
 abbrev pub KeepsOthers : Show → Show → ChanSet → Type 0
 KeepsOthers before after chans = (c : ℕ) → has_chan chans c ≡ false → SameColumn before after c
+
+-- the number of the least cue above this one that decides the channel
+abbrev pub next_decision : Show → ℕ → ℕ → Option ℕ
+next_decision show n c = option_map (λ cue. cue.number) (find (λ cue. decides cue c) (entries_above (λ cue. cue.number) n show.cues))
+
+-- a number from that cue on
+abbrev pub IsPastDecision : Show → ℕ → ℕ → ℕ → Type 0
+IsPastDecision show n c m = IsSomeAnd (next_decision show n c) (λ end. end ≤ m)

@@ -6,7 +6,7 @@ ghost use Rattle.lx_spec.specs.EditedShow.{with_cue, without_cue};
 ghost use Rattle.lx_sheet.specs.Rows.{level_of, numbers_of};
 ghost use Rattle.lx_sheet.specs.Standing.{StandsFor, StandsIn, cue_numbers};
 ghost use Rattle.lx_edit.specs.ChanSet.{has_chan};
-ghost use Rattle.lx_edit.specs.Changing.{Grows, KeepsOthers};
+ghost use Rattle.lx_edit.specs.Changing.{Grows, KeepsOthers, IsPastDecision, next_decision};
 ghost use Rattle.lx_edit.specs.Planned.{planned, with_above, CanPlace, IsReady, dimmer_planned, plans_sub};
 
 use crate::absent::channel;
@@ -16,6 +16,7 @@ use crate::dirty::Dirty;
 use crate::plans::Plan;
 use lx_base::{CHANNELS, Chan, CueNo};
 use lx_sheet::Sheet;
+use lx_show::around::above;
 use lx_show::{Cue, Show};
 
 impl Plan {
@@ -143,6 +144,7 @@ fn mend(sheet: &mut Sheet, show: &Show, from: CueNo, chans: &ChanSet)
     requires channels { sheet.old.channels ≡ show.now.channels }
     requires numbers { numbers_of sheet.old ≡ cue_numbers show.now }
     requires below { (c n : ℕ) → n < from → level_of sheet.old n c ≡ tracked show.now n c }
+    requires later { (c n : ℕ) → IsPastDecision show.now from c n → level_of sheet.old n c ≡ tracked show.now n c }
     requires others { (c : ℕ) → has_chan chans.now c ≡ false → StandsIn show.now c sheet.old }
     ensures { StandsFor show.now sheet.new }
 {
@@ -158,6 +160,7 @@ fn mend_columns(sheet: &mut Sheet, show: &Show, from: CueNo, chans: &ChanSet)
     requires channels { sheet.old.channels ≡ show.now.channels }
     requires numbers { numbers_of sheet.old ≡ cue_numbers show.now }
     requires below { (c n : ℕ) → n < from → level_of sheet.old n c ≡ tracked show.now n c }
+    requires later { (c n : ℕ) → IsPastDecision show.now from c n → level_of sheet.old n c ≡ tracked show.now n c }
     requires others { (c : ℕ) → has_chan chans.now c ≡ false → StandsIn show.now c sheet.old }
     ensures { StandsFor show.now sheet.new }
 {
@@ -166,11 +169,13 @@ fn mend_columns(sheet: &mut Sheet, show: &Show, from: CueNo, chans: &ChanSet)
     }
 }
 
-/// The column of the channel is filled in anew, if it is one of these.
+/// The column of the channel is filled in anew, if it is one of these: from the cue on, up to the next that
+/// decides the channel.
 fn mend_column(sheet: &mut Sheet, show: &Show, from: CueNo, chans: &ChanSet, c: Chan)
     requires channels { sheet.old.channels ≡ show.now.channels }
     requires numbers { numbers_of sheet.old ≡ cue_numbers show.now }
     requires below { (x n : ℕ) → n < from → level_of sheet.old n x ≡ tracked show.now n x }
+    requires later { (x n : ℕ) → IsPastDecision show.now from x n → level_of sheet.old n x ≡ tracked show.now n x }
     requires others { (x : ℕ) → has_chan chans.now x ≡ false → StandsIn show.now x sheet.old }
     ensures column { StandsIn show.now c sheet.new }
     ensures stays { (x n : ℕ) → x ≢ c → level_of sheet.new n x ≡ level_of sheet.old n x }
@@ -178,6 +183,14 @@ fn mend_column(sheet: &mut Sheet, show: &Show, from: CueNo, chans: &ChanSet, c: 
     ensures numbers { numbers_of sheet.new ≡ numbers_of sheet.old }
 {
     if chans.contains(c) {
-        sheet.changed(show, from, c);
+        sheet.changed_until(show, from, next_decision(show, from, c), c);
     }
+}
+
+/// The least cue above the number that decides the channel: it moves it or is a block cue.
+fn next_decision(show: &Show, n: CueNo, c: Chan) -> Option<CueNo>
+    ensures { result ≡ next_decision show.now n c }
+{
+    let cue = above(show.cues(), n.get()).iter().find(|cue| cue.decides(c))?;
+    Some(cue.number)
 }

@@ -7,8 +7,8 @@ use Rattle.lx_spec.specs.Laws.{SameColumn}
 use Rattle.lx_sheet.specs.Standing.{cue_numbers}
 use Rattle.lx_edit.specs.declared.chan_set.ChanSet.{ChanSet}
 use Rattle.lx_edit.specs.ChanSet.{has_chan}
-use Rattle.lx_edit.specs.Changing.{SameEntry, KeepsOthers}
-use Rattle.lx_edit.proofs.ChangedColumns.{column_with, numbers_with}
+use Rattle.lx_edit.specs.Changing.{SameEntry, KeepsOthers, IsPastDecision}
+use Rattle.lx_edit.proofs.ChangedColumns.{column_with, numbers_with, alike_past}
 use Rattle.lx_edit.proofs.Tracking.{tracked_below-with_cue}
 use Rattle.lx_edit.proofs.applying.place_cue.Goals as goal
 
@@ -28,6 +28,15 @@ mend-requires-clause-below c =
     let show = c.args.show.now in
     let number : c.cue.inside.number ≡ c.args.cue.number = ap (λ (q : Cue). q.number) c.cue.view_is in
     λ x m less. c.requires.sheet.columns x m ∙ sym (ap (λ (s : Show). tracked s m x) c.put_cue.ensures ∙ tracked_below-with_cue show c.args.cue m x (subst (λ (k : ℕ). m < k) number less))
+
+pub mend-requires-clause-later : goal.mend-requires-clause-later
+mend-requires-clause-later c =
+    let show = c.args.show.now in
+    let number : c.cue.inside.number ≡ c.args.cue.number = ap (λ (q : Cue). q.number) c.cue.view_is in
+    λ x m past.
+    c.requires.sheet.columns x m
+    ∙ alike_past show c.args.cue c.cue.inside.number m x c.channels.ensures.valid (sym number) (subst (λ (k : ℕ). 1 ≤ k) (sym number) c.requires.ready.valid.number.least) (subst (λ (s : Show). IsPastDecision s c.cue.inside.number x m) c.put_cue.ensures past)
+    ∙ sym (ap (λ (s : Show). tracked s m x) c.put_cue.ensures)
 
 pub mend-requires-clause-others : goal.mend-requires-clause-others
 mend-requires-clause-others c =
