@@ -249,17 +249,6 @@ impl Desk {
         Ok(desk)
     }
 
-    /// Five cues: cue 1 brings channel 1 to 255, and cue 4 brings it to 0.
-    fn five_cues(alloc: Global) -> Result<Desk, Fail> {
-        let mut desk = Desk::open(alloc, 10)?;
-        for n in 1..6 {
-            desk.edit(alloc, Edit::MakeCue { cue: cue(n) })?;
-        }
-        desk.edit(alloc, set(1, 1, 1, 255, false))?;
-        desk.edit(alloc, set(4, 1, 1, 0, false))?;
-        Ok(desk)
-    }
-
     /// Makes the edit, or answers why not.
     fn edit(&mut self, alloc: Global, edit: Edit) -> Result<Dirty, Refusal>
         requires { ValidEdit edit }
@@ -322,16 +311,6 @@ impl Desk {
         requires { 1 ≤ n }
     {
         self.show.move_of(cue(n), chan(1)).is_none()
-    }
-
-    /// Channel 1 is at these levels in cues 1 to 5.
-    fn tracks(&self, levels: [Level; 5]) -> bool {
-        for (k, level) in levels.iter().enumerate() {
-            if self.sheet.level_at(cue(k as u8 + 1), chan(1)) != *level {
-                return false;
-            }
-        }
-        true
     }
 
     /// The channel's levels in cues 1, 2 and 3.
@@ -400,22 +379,6 @@ fn a_second_block_or_unblock_changes_nothing(rt: HostRuntime) -> Result<(), Fail
     assert!(rt; desk.brings(rt.alloc(), release(2, 1, false), [255, 255, 255]));
     assert!(rt; desk.touches_nothing(rt.alloc(), Edit::Unblock { cue: cue(2) }));
     assert!(rt; desk.is_at(1, [255, 255, 255]) && desk.has_no_move_in(2));
-    Ok(())
-}
-
-/// A level tracks up to the next move, or up to the next cue where the edit is cue only.
-#[test]
-fn a_level_tracks_up_to_the_next_move(rt: HostRuntime) -> Result<(), Fail> {
-    let edits = [
-        (false, [255, 100, 100, 0, 0]),
-        (true, [255, 100, 255, 0, 0]),
-    ];
-    for (only, levels) in edits {
-        let mut desk = Desk::five_cues(rt.alloc())?;
-        assert!(rt; desk.tracks([255, 255, 255, 0, 0]));
-        desk.edit(rt.alloc(), set(2, 1, 1, 100, only))?;
-        assert!(rt; desk.tracks(levels), "cue only: {only}");
-    }
     Ok(())
 }
 
