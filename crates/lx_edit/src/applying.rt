@@ -191,6 +191,8 @@ fn mend_column(sheet: &mut Sheet, show: &Show, from: CueNo, chans: &ChanSet, c: 
 fn next_decision(show: &Show, n: CueNo, c: Chan) -> Option<CueNo>
     ensures { result ≡ next_decision show.now n c }
 {
-    let cue = above(show.cues(), n.get()).iter().find(|cue| cue.decides(c))?;
+    let cue = above(show.cues(), n.get())
+        .iter()
+        .find(|cue| cue.decides(c))?;
     Some(cue.number)
 }
