@@ -1,37 +1,38 @@
--- A stage is filled in when its outputs and slots are mixed from its levels and from what the submasters give.
-use Rattle.std.specs.Prelude.{◌≡◌, ℕ, ◌-◌, max, List, length, take, drop, ◌++◌, EachIndex}
-use Rattle.std.proofs.Common.{arith, get_or, sym, subst}
+-- A stage is filled in when its outputs and slots are mixed from the levels and from what the submasters give.
+use Rattle.std.specs.Prelude.{◌≡◌, ℕ, ◌+◌, ◌<◌, ◌≤◌, max, List, length, take, drop, ◌++◌}
+use Rattle.std.proofs.Common.{arith, ap, ◌∙◌, sym}
 use Rattle.std.proofs.lemmas.Grind.{common_steps}
-use Rattle.lx_base.specs.declared.TheConstants.{SLOTS}
 use Rattle.lx_base.specs.Numbers.{scaled}
-use Rattle.lx_spec.specs.Show.{Valid}
+use Rattle.lx_spec.specs.Level.{level}
+use Rattle.lx_spec.specs.Playback.{Playback}
 use Rattle.lx_spec.specs.Output.{contribution}
 use Rattle.lx_spec.specs.Kept.{Kept}
 use Rattle.lx_mixer.specs.Table.{IsTable}
-use Rattle.lx_mixer.proofs.Tables.{mixed}
-use Rattle.lx_spec.specs.Output.{dimmer_value}
-use Rattle.lx_patch.specs.DimmerTable.{StandsForPatch}
-use Rattle.lx_patch.proofs.Frames.{patched}
+use Rattle.lx_mixer.proofs.Tables.{mixed, table_of_same}
+use Rattle.lx_levels.specs.Stacks.{Kept as Levels, level_at}
+use Rattle.lx_levels.specs.Standing.{LevelsStandFor}
+use Rattle.lx_levels.proofs.Stands.{kept_level}
 use Rattle.lx_console.specs.declared.stage.Stage.{Stage}
 use Rattle.lx_console.specs.Standing.{level_now, out_now}
-use Rattle.lx_console.specs.Filled.{Reaches, IsFilled}
+use Rattle.lx_console.specs.Filled.{IsFilled, IsMixed}
 
 -- a list written over the whole of another is itself
 pub written : (n : ℕ) (xs ys : List ℕ) → length xs ≡ n → take n (xs ++ drop (length xs) ys) ≡ xs
 written n xs ys is = grind (arith, common_steps)
 
-pub filled : (k : Kept) (before after : Stage) (given : List ℕ) → Valid k.show → Reaches k.show.channels after
-    → IsTable k.show.channels (level_now k) before.levels.items → IsTable k.show.channels (contribution k.show k.faders) given → StandsForPatch k.show.patch before.table
-    → after.levels.items ≡ before.levels.items → after.table ≡ before.table
-    → EachIndex after.outs.items (λ i. get_or after.outs.items i 0 ≡ scaled (max (get_or before.levels.items i 0) (get_or given i 0)) k.master)
-    → IsTable SLOTS (dimmer_value k.show.patch (λ c. get_or after.outs.items (c - 1) 0)) after.slots.items
-    → IsFilled k after
-filled k before after given valid reaches of_levels of_given of_patch same_levels same_table each slots =
-    let outs = mixed k.show.channels k.master (level_now k) (contribution k.show k.faders) before.levels.items given after.outs.items reaches.outs_reach of_levels of_given each in
-    record {
-      reaches = reaches;
-      levels_stand = subst (IsTable k.show.channels (level_now k)) (sym same_levels) of_levels;
-      patch_stands = subst (StandsForPatch k.show.patch) (sym same_table) of_patch;
-      outs_stand = outs;
-      slots_stand = patched k.show (out_now k) after.outs.items after.slots.items valid outs slots;
-    }
+pub filled : (k : Kept) (levels given : List ℕ) (stage : Stage) → IsTable k.show.channels (level_now k) levels → IsTable k.show.channels (contribution k.show k.faders) given → IsMixed levels k.show given k.master stage → IsFilled k stage
+filled k levels given stage of_levels of_given is = record {
+  reaches = is.reaches;
+  patch_stands = is.patch_stands;
+  outs_stand = mixed k.show.channels k.master (level_now k) (contribution k.show k.faders) levels given stage.outs.items is.reaches.outs_reach of_levels of_given is.outs;
+  slots_stand = is.slots_stand;
+}
+
+-- where no level changes, no output does
+pub filled_still : (k : Kept) (p : Playback) (before after : Levels) (stage : Stage) → IsFilled k stage → LevelsStandFor k.show k.playback before → LevelsStandFor k.show p after → ((i : ℕ) → i < k.show.channels → level_at after i ≡ level_at before i) → IsFilled (record k { playback = p }) stage
+filled_still k p before after stage is old new same = record {
+  reaches = is.reaches;
+  patch_stands = is.patch_stands;
+  outs_stand = record { reach = is.outs_stand.reach; each = λ i within. is.outs_stand.each i within ∙ ap (λ l. scaled (max l (contribution k.show k.faders (i + 1))) k.master) (sym (kept_level k.show k.playback before i old within) ∙ sym (same i within) ∙ kept_level k.show p after i new within) };
+  slots_stand = is.slots_stand;
+}

@@ -1,6 +1,6 @@
-pub mod Entries
 pub mod Filling
 pub mod Touched
 pub mod TakenRows
 pub mod AllRuns
 pub mod Obeying
+pub mod Played

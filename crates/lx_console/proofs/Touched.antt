@@ -1,12 +1,12 @@
 -- What an edit leaves of a stage as it was.
-use Rattle.std.specs.Prelude.{◌≡◌, ◌≢◌, ℕ, ◌+◌, max, refl, Bool, false, Some, None, List, length}
+use Rattle.std.specs.Prelude.{◌≡◌, ◌≢◌, ℕ, ◌+◌, ◌<◌, max, refl, Bool, false, Option, Some, None, List, length}
 use Rattle.std.proofs.Common.{arith, ap, sym, subst, ◌∙◌}
 use Rattle.lx_base.specs.declared.TheConstants.{SLOTS}
 use Rattle.lx_base.specs.Numbers.{scaled}
 use Rattle.lx_spec.specs.declared.PatchRow.{PatchRow}
 use Rattle.lx_spec.specs.SortedList.{entry_at}
 use Rattle.lx_spec.specs.Show.{Show, Sub}
-use Rattle.lx_spec.specs.Output.{contribution, dimmer_value}
+use Rattle.lx_spec.specs.Output.{contribution}
 use Rattle.lx_spec.specs.Kept.{Kept}
 use Rattle.lx_spec.proofs.Columns.{level-columns}
 use Rattle.lx_show.proofs.Placed.{entry_at-placed_other}
@@ -15,15 +15,20 @@ use Rattle.lx_edit.specs.declared.plans.Plan.TheVariants.{Nothing, PlaceCue, Rem
 use Rattle.lx_edit.specs.declared.dirty.Dirty.{Dirty}
 use Rattle.lx_edit.specs.Changing.{KeepsOthers}
 use Rattle.lx_edit.specs.Planned.{planned, dimmer_planned, plans_sub}
+use Rattle.lx_edit.specs.declared.chan_set.ChanSet.{ChanSet}
+use Rattle.lx_edit.specs.ChanSet.{has_chan}
+use Rattle.lx_levels.specs.Stacks.{Kept as Levels}
+use Rattle.lx_levels.specs.Standing.{LevelsStandFor, StandsAt}
+use Rattle.lx_spec.specs.Playback.{Playback}
 use Rattle.lx_console.specs.declared.stage.Stage.{Stage}
 use Rattle.lx_mixer.specs.Table.{IsTable}
 use Rattle.lx_patch.specs.DimmerTable.{StandsForPatch}
 use Rattle.lx_patch.proofs.Rows.{others_stay}
 use Rattle.lx_console.specs.Standing.{level_now, out_now}
-use Rattle.lx_console.specs.Filled.{Reaches, IsFilled, IsFilledBut, IsClean}
+use Rattle.lx_console.specs.Filled.{Reaches, SlotsStand, IsFilled, IsPatchedBut, IsClean}
 
 -- a plan leaves the channel count
-same_channels : (show : Show) (plan : Plan) → (planned show plan).channels ≡ show.channels
+pub same_channels : (show : Show) (plan : Plan) → (planned show plan).channels ≡ show.channels
 same_channels show Nothing = refl
 same_channels show (PlaceCue cue None) = refl
 same_channels show (PlaceCue cue (Some above)) = refl
@@ -85,19 +90,30 @@ same_given show after plan stale faders given is subs table clean = given_by sho
 pub same_reach : (show after : Show) (plan : Plan) (faders given : List ℕ) → after ≡ planned show plan → IsTable show.channels (contribution show faders) given → length given ≡ after.channels
 same_reach show after plan faders given is table = table.reach ∙ sym (ap (λ (s : Show). s.channels) is ∙ same_channels show plan)
 
--- a stage that was filled in is so but for what the plan touched
-pub touched : (k : Kept) (after : Show) (plan : Plan) (dirty : Dirty) (stage : Stage) → IsFilled k stage → after ≡ planned k.show plan → KeepsOthers k.show after dirty.chans → dirty.dimmer ≡ dimmer_planned plan → IsFilledBut (record k { show = after }) dirty stage
-touched k after plan dirty stage filled is others dimmer =
-    let channels : after.channels ≡ k.show.channels = ap (λ (s : Show). s.channels) is ∙ same_channels k.show plan in
+-- a channel that isn't touched keeps what its levels stand for
+pub untouched_levels : (show after : Show) (p : Playback) (chans : ChanSet) (levels : Levels) → LevelsStandFor show p levels → after.channels ≡ show.channels → KeepsOthers show after chans → (k : ℕ) → k < after.channels → has_chan chans (k + 1) ≡ false → StandsAt after p levels k
+untouched_levels show after p chans levels stands channels others k within clean =
+    let old = stands.each k (omega (arith, channels)) in
     record {
-      reaches = subst (λ n. Reaches n stage) (sym channels) filled.reaches;
-      levels_stand = λ i within clean. filled.levels_stand.each i (omega (arith, channels)) ∙ level-columns k.show after k.playback.base k.playback.live (i + 1) k.playback.moment (others (i + 1) clean);
-      patch_stands = record {
-        before = k.show.patch;
-        stands = filled.patch_stands;
-        others = λ e other. ap (λ (s : Show). entry_at (λ row. row.dimmer) e s.patch) is ∙ other_rows k.show plan e (λ same. other (dimmer ∙ same));
-      };
+      later = λ x from. old.later x from ∙ level-columns show after p.base p.live (k + 1) x (others (k + 1) clean);
+      few = old.few;
     }
+
+-- and all do where none is touched
+pub same_levels : (show after : Show) (p : Playback) (chans : ChanSet) (levels : Levels) → LevelsStandFor show p levels → after.channels ≡ show.channels → KeepsOthers show after chans → ((c : ℕ) → has_chan chans c ≡ false) → LevelsStandFor after p levels
+same_levels show after p chans levels stands channels others clean = record {
+  moment = stands.moment;
+  reach = stands.reach ∙ sym channels;
+  each = λ k within. untouched_levels show after p chans levels stands channels others k within (clean (k + 1));
+}
+
+-- a table that stood for the patch does so but for the row that the plan touched
+pub touched_patch : (show after : Show) (plan : Plan) (dimmer : Option ℕ) (stage : Stage) → StandsForPatch show.patch stage.table → after ≡ planned show plan → dimmer ≡ dimmer_planned plan → IsPatchedBut after.patch dimmer stage.table
+touched_patch show after plan dimmer stage stands is names = record {
+  before = show.patch;
+  stands = stands;
+  others = λ e other. ap (λ (s : Show). entry_at (λ row. row.dimmer) e s.patch) is ∙ other_rows show plan e (λ same. other (names ∙ same));
+}
 
 -- a stage that was filled in is so still, where the plan touched nothing that it depends on
 pub untouched : (k : Kept) (after : Show) (plan : Plan) (dirty : Dirty) (stage : Stage) → IsFilled k stage → after ≡ planned k.show plan → KeepsOthers k.show after dirty.chans → dirty.dimmer ≡ dimmer_planned plan → dirty.subs ≡ plans_sub plan → IsClean dirty → IsFilled (record k { show = after }) stage
@@ -110,11 +126,9 @@ untouched k after plan dirty stage filled is others dimmer subs clean =
     let outs : out_now k ≡ out_now (record k { show = after }) = λ i c. scaled (max (levels i c) (given i c)) k.master in
     record {
       reaches = subst (λ n. Reaches n stage) channels filled.reaches;
-      levels_stand = table channels levels filled.levels_stand;
       patch_stands = subst (λ (rows : List PatchRow). StandsForPatch rows stage.table) patch filled.patch_stands;
       outs_stand = table channels outs filled.outs_stand;
-      slots_stand = subst (λ (rows : List PatchRow). IsTable SLOTS (dimmer_value rows (out_now (record k { show = after }))) stage.slots.items) patch
-          (subst (λ (o : ℕ → ℕ). IsTable SLOTS (dimmer_value k.show.patch o) stage.slots.items) outs filled.slots_stand);
+      slots_stand = subst (λ (rows : List PatchRow). SlotsStand rows stage) patch filled.slots_stand;
     } where
       table : {n m : ℕ} {f g : ℕ → ℕ} {xs : List ℕ} → n ≡ m → f ≡ g → IsTable n f xs → IsTable m g xs
       table {n = n} {g = g} {xs = xs} reach value t = subst (λ x. IsTable x g xs) reach (subst (λ (v : ℕ → ℕ). IsTable n v xs) value t)

@@ -2,3 +2,4 @@ pub mod Slots
 pub mod Standing
 pub mod Filled
 pub mod Laws
+pub mod Played

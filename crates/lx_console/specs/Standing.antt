@@ -45,9 +45,3 @@ Refuses d command refusal = (step d command ≡ Err refusal) ⊎ WantsMemory d c
 pub record Answers {A : Type 0} (d : Desk) (command : Command) (answer : Result A Refusal) (console : Kept) : Type 0 where
   pub ok : OnOk answer (IsOkAnd (step d command) (λ next. StandsFor next console))
   pub err : IfErr answer (Refuses d command)
-
--- at rest before and after, at the same position: no level changes, whatever moment it is
-pub record StaysAtRest (before after : Playback) : Type 0 where
-  pub rest_before : before.live ≡ []
-  pub rest_after : after.live ≡ []
-  pub base : after.base ≡ before.base

@@ -17,10 +17,12 @@ ghost use Rattle.lx_mixer.specs.Table.{IsTable};
 ghost use Rattle.lx_console.specs.Slots.{universe};
 ghost use Rattle.lx_console.specs.Standing.{StandsFor, Obeys, Answers, level_now, out_now};
 
+use crate::levels::{recompute_all, recompute_touched};
 use crate::stage::{Stage, mend_subs, reaches_stage};
-use crate::ticks::tick_of;
+use crate::ticks::{press_key, tick_of};
 use lx_base::{CueNo, Level, Moment, SLOTS, SubNo, UNIVERSES};
 use lx_edit::planning::plan;
+use lx_levels::Levels;
 use lx_playback::Playback;
 use lx_sheet::Sheet;
 use lx_show::{Command, Edit, Key, PlayKey, Refusal, Show};
@@ -47,6 +49,8 @@ pub struct Console {
     /// The faders of the submasters, and what they give.
     rack: SubRack,
     master: Level,
+    /// The level of each channel.
+    levels: Levels,
     stage: Stage,
 }
 
@@ -58,7 +62,7 @@ impl Model for Console {
 
     ghost view = { λ c. record { show = c.show; playback = c.playback; faders = c.rack.faders; master = c.master } };
 
-    ghost invariant = { λ c. IsKept (record { show = c.show; playback = c.playback; faders = c.rack.faders; master = c.master }) c.sheet c.rack c.stage };
+    ghost invariant = { λ c. IsKept (record { show = c.show; playback = c.playback; faders = c.rack.faders; master = c.master }) c.sheet c.rack c.levels c.stage };
 }
 
 impl Console {
@@ -72,8 +76,10 @@ impl Console {
         let playback = Playback::open(alloc)?;
         let rack = SubRack::open(alloc, &show)?;
         let master = 255;
+        let mut levels = Levels::open(alloc, &show)?;
+        levels.settled(&sheet, &playback);
         let mut stage = Stage::open(alloc, &show)?;
-        stage.fill(&show, &sheet, &playback, &rack, master);
+        stage.fill(levels.row(), &show, &rack, master);
         Ok(Console {
             alloc,
             show,
@@ -81,6 +87,7 @@ impl Console {
             playback,
             rack,
             master,
+            levels,
             stage,
         })
     }
@@ -137,7 +144,7 @@ impl Console {
         ensures live { IsTable self.now.show.channels (level_now self.now) result.now }
         ensures all { (d : Desk) → StandsFor d self.now → IsTable d.show.channels (λ c. level d.show 0 d.all c d.playback.moment) result.now }
     {
-        self.stage.levels.as_slice()
+        self.levels.row()
     }
 
     /// The slots of the 8,192 dimmers at the present moment, 512 for each universe: those of the desk's
@@ -146,6 +153,7 @@ impl Console {
         ensures slots { IsTable SLOTS (dimmer_value self.now.show.patch (out_now self.now)) result.now }
         ensures frames { (d : Desk) (u : ℕ) → StandsFor d self.now → 1 ≤ u → u ≤ UNIVERSES → universe u result.now ≡ frame d u }
     {
+        let _ = self.show.channels();
         self.stage.slots.as_slice()
     }
 }
@@ -211,13 +219,9 @@ impl Console {
         self.sheet.refill(&self.show);
         self.rack.changed(&self.show);
         self.stage.take_patch(&self.show);
-        self.stage.fill(
-            &self.show,
-            &self.sheet,
-            &self.playback,
-            &self.rack,
-            self.master,
-        );
+        recompute_all(&mut self.levels, &self.show, &self.sheet, &self.playback);
+        self.stage
+            .fill(self.levels.row(), &self.show, &self.rack, self.master);
         before
     }
 }
@@ -233,14 +237,20 @@ impl Console {
         let plan = plan(self.alloc, &self.show, edit)?;
         let dirty = plan.apply(&mut self.show, &mut self.sheet);
         if reaches_stage(&dirty) {
-            mend_subs(&mut self.rack, &self.show, dirty.subs);
-            self.stage.mend(
+            recompute_touched(
+                &mut self.levels,
                 &self.show,
                 &self.sheet,
                 &self.playback,
+                &dirty.chans,
+            );
+            mend_subs(&mut self.rack, &self.show, dirty.subs);
+            self.stage.mend(
+                self.levels.row(),
+                &self.show,
                 &self.rack,
                 self.master,
-                &dirty,
+                dirty.dimmer,
             );
         }
         Ok(())
@@ -252,10 +262,14 @@ impl Console {
         ensures err { IfErr result (λ refusal. tick self.old.show self.old.playback ≡ Err refusal) }
         ensures unchanged { OnErr result (self.new ≡ self.old) }
     {
-        if tick_of(&mut self.playback, &self.show)? {
+        if tick_of(
+            &mut self.playback,
+            &mut self.levels,
+            &self.show,
+            &self.sheet,
+        )? {
             self.stage
-                .fill_levels(&self.show, &self.sheet, &self.playback);
-            self.stage.fill_outputs(&self.show, &self.rack, self.master);
+                .fill(self.levels.row(), &self.show, &self.rack, self.master);
         }
         Ok(())
     }
@@ -266,10 +280,15 @@ impl Console {
         ensures err { IfErr result (λ refusal. press self.old.show self.old.playback key ≡ Err refusal) }
         ensures unchanged { OnErr result (self.new ≡ self.old) }
     {
-        self.playback.press(&self.show, key)?;
+        press_key(
+            &mut self.playback,
+            &mut self.levels,
+            &self.show,
+            &self.sheet,
+            key,
+        )?;
         self.stage
-            .fill_levels(&self.show, &self.sheet, &self.playback);
-        self.stage.fill_outputs(&self.show, &self.rack, self.master);
+            .fill(self.levels.row(), &self.show, &self.rack, self.master);
         Ok(())
     }
 
@@ -285,7 +304,8 @@ impl Console {
             return Err(Refusal::AbsentSub(sub));
         }
         self.rack.set_fader(&self.show, sub, level);
-        self.stage.fill_outputs(&self.show, &self.rack, self.master);
+        self.stage
+            .fill(self.levels.row(), &self.show, &self.rack, self.master);
         Ok(())
     }
 
@@ -294,6 +314,7 @@ impl Console {
         ensures { self.new ≡ record self.old { master = level } }
     {
         self.master = level;
-        self.stage.fill_outputs(&self.show, &self.rack, self.master);
+        self.stage
+            .fill(self.levels.row(), &self.show, &self.rack, self.master);
     }
 }

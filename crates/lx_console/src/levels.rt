@@ -1,72 +1,104 @@
-//! The levels of all channels.
+//! The kept levels, as keys, ticks and edits leave them.
 
-ghost use Rattle.std.specs.Prelude.{◌≡◌, ℕ, ◌+◌, ◌<◌, ◌≤◌, false, length, slice_index};
-ghost use Rattle.lx_base.specs.declared.TheConstants.{RUNS, CHANNELS};
-ghost use Rattle.lx_spec.specs.Level.{level};
+ghost use Rattle.std.specs.Prelude.{◌≡◌, ℕ, ◌+◌, ◌<◌, ◌≤◌, [], true, false, length, is_some, IsTrue};
+ghost use Rattle.lx_base.specs.declared.TheConstants.{CHANNELS};
 ghost use Rattle.lx_sheet.specs.Standing.{StandsFor};
 ghost use Rattle.lx_edit.specs.ChanSet.{has_chan};
-ghost use Rattle.lx_mixer.specs.Table.{IsTable};
+ghost use Rattle.lx_levels.specs.Stacks.{level_at};
+ghost use Rattle.lx_levels.specs.Standing.{LevelsStandFor, StandsAt, StandsBefore};
+ghost use Rattle.lx_console.specs.Played.{IsTicked};
 
-use crate::channel::level_of;
-use lx_base::{CHANNELS, Chan, Level, RUNS};
+use lx_base::{CHANNELS, Chan};
 use lx_edit::ChanSet;
-use lx_fade::Fade;
-use lx_playback::Playback;
+use lx_levels::Levels;
+use lx_playback::{Playback, Ticked};
 use lx_sheet::Sheet;
 use lx_show::Show;
 
-/// Fills in the level of each channel at the playback's moment. The row is free before and after.
-pub(crate) fn fill_levels(
+/// After a key: Settle has left no run live, another has started one.
+pub(crate) fn after_key(
+    levels: &mut Levels,
     show: &Show,
     sheet: &Sheet,
     playback: &Playback,
-    row: &mut [Fade],
-    levels: &mut [Level],
+    settled: bool,
 )
     requires rows { StandsFor show.now sheet.now }
-    requires room { RUNS ≤ length row.old }
-    requires reach { length levels.old ≡ show.now.channels }
-    ensures { IsTable show.now.channels (λ c. level show.now playback.now.base playback.now.live c playback.now.moment) levels.new }
+    requires moment { levels.old.moment ≡ playback.now.moment }
+    requires reach { length levels.old.stacks ≡ show.now.channels }
+    requires settled { settled ≡ true → playback.now.live ≡ [] }
+    requires started { settled ≡ false → StandsBefore show.now playback.now levels.old }
+    ensures { LevelsStandFor show.now playback.now levels.new }
 {
-    let _ = show.channels();
-    let base = playback.base();
-    let m = playback.moment();
-    let live = playback.live();
-    for (i, level) in levels.iter_mut().enumerate() {
-        *level = level_of(show, sheet, base, live, channel_at(i), m, row);
+    if settled {
+        levels.settled(sheet, playback);
+    } else {
+        levels.run_added(show, sheet, playback);
     }
 }
 
-/// Fills in the level of each of these channels; the others stand already. The row is free before and
-/// after.
-pub(crate) fn mend_levels(
+/// After a tick: the moment has grown, and a follow may have started a run, or the playback come to rest.
+/// Answers whether a level may have changed.
+pub(crate) fn after_tick(
+    levels: &mut Levels,
+    show: &Show,
+    sheet: &Sheet,
+    playback: &Playback,
+    ticked: &Ticked,
+) -> bool
+    requires rows { StandsFor show.now sheet.now }
+    requires ticked { IsTicked show.now playback.now levels.old ticked.now.rested (is_some ticked.now.fired) }
+    ensures stands { LevelsStandFor show.now playback.now levels.new }
+    ensures same { result ≡ false → (k : ℕ) → k < show.now.channels → level_at levels.new k ≡ level_at levels.old k }
+{
+    let changed = levels.to_moment(playback.moment());
+    if ticked.rested {
+        levels.settled(sheet, playback);
+        return true;
+    }
+    if ticked.fired.is_some() {
+        levels.run_added(show, sheet, playback);
+        return true;
+    }
+    changed
+}
+
+/// Makes these channels anew from the live runs; the others stand already.
+pub(crate) fn recompute_touched(
+    levels: &mut Levels,
     show: &Show,
     sheet: &Sheet,
     playback: &Playback,
     chans: &ChanSet,
-    row: &mut [Fade],
-    levels: &mut [Level],
 )
     requires rows { StandsFor show.now sheet.now }
-    requires room { RUNS ≤ length row.old }
-    requires reach { length levels.old ≡ show.now.channels }
-    requires others { (k : ℕ) → k < length levels.old → has_chan chans.now (k + 1) ≡ false → slice_index levels.old k ≡ level show.now playback.now.base playback.now.live (k + 1) playback.now.moment }
-    ensures { IsTable show.now.channels (λ c. level show.now playback.now.base playback.now.live c playback.now.moment) levels.new }
+    requires moment { levels.old.moment ≡ playback.now.moment }
+    requires reach { length levels.old.stacks ≡ show.now.channels }
+    requires others { (k : ℕ) → k < show.now.channels → has_chan chans.now (k + 1) ≡ false → StandsAt show.now playback.now levels.old k }
+    ensures { LevelsStandFor show.now playback.now levels.new }
 {
-    let _ = show.channels();
-    let base = playback.base();
-    let m = playback.moment();
-    let live = playback.live();
-    for (i, level) in levels.iter_mut().enumerate() {
-        let c = channel_at(i);
+    for k in 0..show.channels() as usize {
+        let c = channel_at(k);
         if chans.contains(c) {
-            *level = level_of(show, sheet, base, live, c, m, row);
+            levels.recompute(show, sheet, playback, c);
         }
     }
 }
 
+/// Makes every channel anew from the live runs.
+pub(crate) fn recompute_all(levels: &mut Levels, show: &Show, sheet: &Sheet, playback: &Playback)
+    requires rows { StandsFor show.now sheet.now }
+    requires moment { levels.old.moment ≡ playback.now.moment }
+    requires reach { length levels.old.stacks ≡ show.now.channels }
+    ensures { LevelsStandFor show.now playback.now levels.new }
+{
+    for k in 0..show.channels() as usize {
+        levels.recompute(show, sheet, playback, channel_at(k));
+    }
+}
+
 /// The channel whose value stands at the place.
-pub(crate) fn channel_at(place: usize) -> Chan
+fn channel_at(place: usize) -> Chan
     requires { place < CHANNELS }
     ensures { result ≡ place + 1 }
 {

@@ -1,11 +1,9 @@
 //! The desk: a show in playback, with the levels of its channels and the frames of its dimmers kept.
 #![tactic(auto)]
 
-mod channel;
 mod console;
 pub mod laws;
 mod levels;
-mod runs;
 mod stage;
 mod ticks;
 

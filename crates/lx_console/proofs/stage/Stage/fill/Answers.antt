@@ -1,12 +1,32 @@
-use Rattle.std.proofs.Common.{subst, sym}
-use Rattle.lx_spec.specs.Kept.{Kept}
-use Rattle.lx_patch.specs.DimmerTable.{StandsForPatch}
-use Rattle.lx_console.proofs.Filling.{filled}
+use Rattle.std.proofs.Common.{◌≡◌, ◌-◌, ◌≤◌, ◌++◌, max, take, drop, List, ℕ, arith, length, get_or, subst, sym, ap, ◌∙◌}
+use Rattle.lx_base.specs.declared.TheConstants.{SLOTS}
+use Rattle.lx_base.specs.Numbers.{scaled}
+use Rattle.lx_spec.specs.Output.{dimmer_value}
+use Rattle.lx_mixer.specs.Table.{IsTable}
+use Rattle.lx_patch.proofs.Frames.{reaches}
+use Rattle.lx_console.proofs.Filling.{written}
 use Rattle.lx_console.proofs.stage.Stage.fill.Goals as goal
+
+pub frame_into-requires-clause-reach : goal.frame_into-requires-clause-reach
+frame_into-requires-clause-reach c =
+    let enough : c.args.show.now.channels ≤ length c.deref.result.now = omega (arith, c.deref.ensures.len, c.requires.reaches.outs_reach) in
+    reaches c.args.show.now c.args.self.now.table (length c.deref.result.now) c.channels.ensures.valid enough c.requires.patch
 
 pub returns : goal.returns
 returns c =
-    let k : Kept = record { show = c.args.show.now; playback = c.args.playback.now; faders = c.args.rack.now.faders; master = c.args.master } in
-    let after = c.fill_outputs.ensures in
-    let patch = subst (StandsForPatch k.show.patch) (sym c.fill_levels.ensures.patch) c.requires.patch in
-    filled k c.fill_levels.new.self c.fill_outputs.new.self c.args.rack.now.given after.valid after.reaches c.fill_levels.ensures.levels c.requires.subs patch after.levels after.patch after.outs after.slots
+    let rows = c.args.show.now.patch in
+    let outs = c.args.self.now.outs in
+    let slots = c.args.self.now.slots in
+    let outs_are : take outs.len (c.mix_into.new.out ++ drop (length c.mix_into.new.out) outs.items) ≡ c.mix_into.new.out = written outs.len c.mix_into.new.out outs.items (omega (arith, c.mix_into.auto.out, c.deref_mut.ensures.len)) in
+    let slots_are : take slots.len (c.frame_into.new.slots ++ drop (length c.frame_into.new.slots) slots.items) ≡ c.frame_into.new.slots = written slots.len c.frame_into.new.slots slots.items (omega (arith, c.frame_into.auto.slots, c.deref_mut-2.ensures.len)) in
+    let mixed = c.mix_into.ensures in
+    record {
+      reaches = record {
+        outs_reach = ap length outs_are ∙ c.mix_into.auto.out ∙ ap length c.deref_mut.ensures.value ∙ c.requires.reaches.outs_reach;
+        slots_reach = ap length slots_are ∙ c.frame_into.auto.slots ∙ ap length c.deref_mut-2.ensures.value ∙ c.requires.reaches.slots_reach;
+      };
+      patch_stands = c.requires.patch;
+      outs = λ k within. ap (λ (xs : List ℕ). get_or xs k 0) outs_are ∙ mixed k (omega (arith, within, ap length outs_are)) ∙ ap (λ (xs : List ℕ). scaled (max (get_or c.args.levels.now k 0) (get_or xs k 0)) c.args.master) c.contribution.ensures.given;
+      slots_stand = subst (λ (xs : List ℕ). IsTable SLOTS (dimmer_value rows (λ n. get_or (take outs.len (c.mix_into.new.out ++ drop (length c.mix_into.new.out) outs.items)) (n - 1) 0)) xs) (sym slots_are)
+          (subst (λ (xs : List ℕ). IsTable SLOTS (dimmer_value rows (λ n. get_or xs (n - 1) 0)) c.frame_into.new.slots) c.deref.ensures.value (c.frame_into.ensures rows c.requires.patch));
+    }

@@ -1,0 +1,6 @@
+pub mod Entries
+pub mod Exchanged
+pub mod UnderWay
+pub mod Begun
+pub mod Added
+pub mod Stands

@@ -1,0 +1,24 @@
+use Rattle.std.proofs.Common.{◌≡◌, ◌+◌, ◌<◌, ◌∙◌, ap, sym, subst, arith}
+use Rattle.lx_spec.specs.Run.{acts}
+use Rattle.lx_spec.specs.Level.{last_cue}
+use Rattle.lx_levels.specs.Standing.{IsAdded}
+use Rattle.lx_levels.proofs.Added.{starts_now, channel_added, channel_passed, same_run_copied}
+use Rattle.lx_levels.proofs.levels.Levels.run_added.Goals as goal
+use Rattle.lx_levels.proofs.levels.Levels.run_added.Goals.{then-acts, else-acts}
+
+pub loop-k-preserved : goal.loop-k-preserved
+loop-k-preserved c = λ last older is.
+    let show = c.args.show.now in
+    let p = c.args.playback.now in
+    let run_is : c.in-Some.run'.now ≡ last = same_run_copied c.in-Some.run'.now last (c.in-Some.ensures.last last older is) in
+    let within : c.loop-k.k < show.channels = omega (arith, c.loop-k-test.true, c.channels-k-end.ensures.channels) in
+    let looks = c.level_at.ensures.stands show c.requires.rows in
+    let acts_is : c.acts.result ≡ acts show (last_cue p.base older) c.in-Some.run'.now c.channel_at-c.result =
+    c.acts.ensures c.before_last-from.result looks ∙ ap (λ n. acts show n c.in-Some.run'.now c.channel_at-c.result) (c.before_last-from.ensures last older is) in
+    elim c.if-acts.branch [
+      | then-acts w ↦ subst (IsAdded show p older (c.loop-k.k + 1)) (sym w.self-is)
+          (channel_added show p last c.in-Some.run'.now older c.loop-k.k c.channel_at-c.result c.loop-k.self w.add_run.new.self is (starts_now show p c.args.self.now last older c.requires.stood is) c.channel_at-c.ensures run_is (sym acts_is ∙ w.if-acts.true) within
+          w.add_run.ensures.level w.add_run.ensures.few w.add_run.ensures.others (c.loop-k.invariant last older is))
+      | else-acts w ↦ subst (IsAdded show p older (c.loop-k.k + 1)) (sym w.self-is)
+          (channel_passed show p last c.in-Some.run'.now older c.loop-k.k c.channel_at-c.result c.loop-k.self is c.channel_at-c.ensures run_is (sym acts_is ∙ w.if-acts.false) within (c.loop-k.invariant last older is))
+    ]

@@ -1,0 +1,35 @@
+-- The stack of fades of each channel, as levels keep them.
+use Rattle.std.specs.Prelude.{ℕ, ◌<◌, ◌≤◌, List, [], slice_index_or}
+use Rattle.std.specs.List.{All}
+use Rattle.lx_base.specs.declared.TheConstants.{RUNS}
+use Rattle.lx_levels.specs.declared.current.TheConstants.{NEVER}
+use Rattle.lx_fade.specs.Fades.{Fade, stack_at}
+
+-- fades, the newest first, over the level at which the channel is until one has begun
+pub record Stack : Type 0 where
+  pub bottom : ℕ
+  pub fades : List Fade
+
+-- the level at a moment
+abbrev pub level_in : Stack → ℕ → ℕ
+level_in stack m = stack_at stack.bottom stack.fades m
+
+abbrev pub no_stack : Stack
+no_stack = record { bottom = 0; fades = [] }
+
+-- there is room for the fade of each run that may be live, and each fade begins before NEVER
+pub record IsRoomy (fades : List Fade) (room : ℕ) : Type 0 where
+  pub room_is : RUNS ≤ room
+  pub begin : All (λ f. f.start < NEVER) fades
+
+-- what levels keep: the moment, and the stack of channel c at place c - 1
+pub record Kept : Type 0 where
+  pub moment : ℕ
+  pub stacks : List Stack
+
+abbrev pub stack_of : Kept → ℕ → Stack
+stack_of kept k = slice_index_or kept.stacks k no_stack
+
+-- the level that is kept for the channel at a place
+abbrev pub level_at : Kept → ℕ → ℕ
+level_at kept k = level_in (stack_of kept k) kept.moment

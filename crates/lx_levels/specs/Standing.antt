@@ -1,0 +1,39 @@
+-- What levels stand for.
+use Rattle.std.specs.Prelude.{◌≡◌, ◌≢◌, ℕ, ◌+◌, ◌<◌, ◌≤◌, List, ◌∷◌, length}
+use Rattle.lx_spec.specs.Show.{Show}
+use Rattle.lx_spec.specs.Run.{Run}
+use Rattle.lx_spec.specs.Level.{level}
+use Rattle.lx_spec.specs.Playback.{Playback}
+use Rattle.lx_levels.specs.Stacks.{Kept, level_in, stack_of}
+
+-- the stack of channel c, at place c - 1, gives its level at every moment from the present one on, and has no more fades than runs are live
+pub record StandsAt (show : Show) (p : Playback) (kept : Kept) (k : ℕ) : Type 0 where
+  pub later : (x : ℕ) → p.moment ≤ x → level_in (stack_of kept k) x ≡ level show p.base p.live (k + 1) x
+  pub few : length (stack_of kept k).fades ≤ length p.live
+
+-- levels stand for a show and a playback: they are at its moment, and have a stack for each channel
+pub record LevelsStandFor (show : Show) (p : Playback) (kept : Kept) : Type 0 where
+  pub moment : kept.moment ≡ p.moment
+  pub reach : length kept.stacks ≡ show.channels
+  pub each : (k : ℕ) → k < show.channels → StandsAt show p kept k
+
+-- they stand for the playback as it was before its last run, which starts at the present moment
+pub record StandsBefore (show : Show) (p : Playback) (kept : Kept) : Type 0 where
+  pub last : Run
+  pub older : List Run
+  pub live_is : p.live ≡ last ∷ older
+  pub now : last.start ≡ p.moment
+  pub stands : LevelsStandFor show (record p { live = older }) kept
+
+-- the same levels but at one place
+pub record IsElsewhere (place : ℕ) (before after : Kept) : Type 0 where
+  pub moment : after.moment ≡ before.moment
+  pub reach : length after.stacks ≡ length before.stacks
+  pub others : (k : ℕ) → k ≢ place → stack_of after k ≡ stack_of before k
+
+-- so many channels stand for the playback already, the others for it as it was before its last run
+pub record IsAdded (show : Show) (p : Playback) (older : List Run) (n : ℕ) (kept : Kept) : Type 0 where
+  pub moment : kept.moment ≡ p.moment
+  pub reach : length kept.stacks ≡ show.channels
+  pub done : (k : ℕ) → k < n → StandsAt show p kept k
+  pub left : (k : ℕ) → n ≤ k → k < show.channels → StandsAt show (record p { live = older }) kept k

@@ -1,0 +1,58 @@
+//! The fades of one channel over runs.
+
+ghost use Rattle.std.specs.Prelude.{◌≡◌, ℕ, ◌+◌, ◌<◌, ◌≤◌, length, reverse};
+ghost use Rattle.std.specs.List.{All};
+ghost use Rattle.lx_base.specs.declared.TheConstants.{RUNS, TICK_END};
+ghost use Rattle.lx_spec.specs.TrackedLevel.{tracked};
+ghost use Rattle.lx_spec.specs.Level.{level, run_over};
+ghost use Rattle.lx_sheet.specs.Standing.{StandsFor as RowsStandFor};
+ghost use Rattle.lx_playback.specs.Valid.{ValidRun};
+ghost use Rattle.lx_levels.specs.Stacks.{level_in};
+
+use crate::runs::{acts, delay_of, entry_for, time_of};
+use crate::stack::Stack;
+use lx_base::{Chan, CueNo, Level};
+use lx_playback::Run;
+use lx_sheet::Sheet;
+use lx_show::Show;
+
+/// Fills in the fades of the channel over the base and the live runs, the newest last.
+pub(crate) fn fill_stack(
+    stack: &mut Stack,
+    show: &Show,
+    sheet: &Sheet,
+    base: CueNo,
+    live: &[Run],
+    c: Chan,
+)
+    requires rows { RowsStandFor show.now sheet.now }
+    requires few { length live.now ≤ RUNS }
+    requires runs { All (ValidRun TICK_END) live.now }
+    ensures level { (m : ℕ) → level_in stack.new m ≡ level show.now base (reverse live.now) c m }
+    ensures few { length stack.new.fades ≤ length live.now }
+{
+    stack.restart(sheet.level_at(base, c));
+    let mut looks = sheet.level_at(base, c);
+    for run in live {
+        let target = sheet.level_at(run.cue, c);
+        if acts(show, run, c, looks, target) {
+            push_run(stack, show, run, c, target);
+        }
+        looks = target;
+    }
+}
+
+/// Pushes the fade of a run that acts on the channel. It begins when the delay is over, at the level
+/// that the channel has then over the older runs.
+pub(crate) fn push_run(stack: &mut Stack, show: &Show, run: &Run, c: Chan, target: Level)
+    requires target { target ≡ tracked show.now run.now.cue c }
+    requires room { length stack.old.fades < RUNS }
+    requires run { ValidRun TICK_END run.now }
+    ensures level { (m : ℕ) → level_in stack.new m ≡ run_over show.now (level_in stack.old) run.now c m }
+    ensures few { length stack.new.fades ≤ length stack.old.fades + 1 }
+{
+    let entry = entry_for(show, run, c);
+    let rising = stack.value(run.start) <= target;
+    let start = run.start + delay_of(&entry, rising);
+    stack.push(start, time_of(&entry, rising), target);
+}

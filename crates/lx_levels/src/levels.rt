@@ -1,0 +1,236 @@
+//! Kept levels.
+
+ghost use Rattle.std.specs.Prelude.{◌≡◌, ◌≢◌, ℕ, ◌+◌, ◌-◌, ◌<◌, ◌≤◌, [], ◌∷◌, false, List, length, slice_index, slice_set, IfOk, IfSome};
+ghost use Rattle.std.specs.Option.{option_copied};
+ghost use Rattle.lx_base.specs.declared.TheConstants.{RUNS, CHANNELS, TICK_END};
+ghost use Rattle.lx_spec.specs.Show.{Show as ShowData};
+ghost use Rattle.lx_spec.specs.TrackedLevel.{tracked};
+ghost use Rattle.lx_spec.specs.Run.{Run as RunData};
+ghost use Rattle.lx_spec.specs.Level.{level, last_cue, run_over};
+ghost use Rattle.lx_spec.specs.Playback.{Playback as PlaybackData, at_opening};
+ghost use Rattle.lx_sheet.specs.Standing.{StandsFor as RowsStandFor};
+ghost use Rattle.lx_mixer.specs.Table.{IsTable};
+ghost use Rattle.lx_playback.specs.Valid.{ValidRun};
+ghost use Rattle.lx_levels.specs.declared.current.TheConstants.{NEVER};
+ghost use Rattle.lx_levels.specs.Stacks.{level_in, level_at, stack_of};
+ghost use Rattle.lx_levels.specs.Standing.{LevelsStandFor, StandsAt, StandsBefore, IsElsewhere};
+
+use crate::channel::{fill_stack, push_run};
+use crate::current::{Current, NEVER};
+use crate::motion::{advance, refresh, retire};
+use crate::roster::Roster;
+use crate::runs::acts;
+use crate::stack::Stack;
+use lx_base::{CHANNELS, Chan, CueNo, Level, Moment};
+use lx_playback::{Playback, Run};
+use lx_sheet::Sheet;
+use lx_show::Show;
+use std::alloc::{AllocError, Global};
+use std::marker::Model;
+
+/// The level of each channel at a moment, and what is needed to follow it: a stack of fades for each
+/// channel, and of those that are under way the fade that governs. All memory is taken by `open`.
+///
+/// Contracts see the moment and the stacks.
+#[derive(Drop)]
+pub struct Levels {
+    moment: Moment,
+    /// The fades of each channel.
+    stacks: Vec<Stack>,
+    /// The fade that governs each channel under way.
+    currents: Vec<Current>,
+    levels: Vec<Level>,
+    /// The channels that are under way: their level changes yet, or a fade waits.
+    roster: Roster,
+}
+
+impl Model for Levels {
+    ghost use Rattle.lx_levels.specs.Stacks.{Kept};
+    ghost use Rattle.lx_levels.specs.Moving.{IsRight};
+
+    ghost Value = { Kept };
+
+    ghost view = { λ l. record { moment = l.moment; stacks = l.stacks.items } };
+
+    ghost invariant = { λ l. IsRight l.moment l.roster l.stacks.items l.currents.items l.levels.items };
+}
+
+impl Levels {
+    /// Each channel of the show at level 0, at moment 0. An error comes where memory is wanting.
+    pub fn open(alloc: Global, show: &Show) -> Result<Levels, AllocError>
+        ensures moment { IfOk result (λ levels. levels.moment ≡ 0) }
+        ensures reach { IfOk result (λ levels. length levels.stacks ≡ show.now.channels) }
+    {
+        let channels = show.channels() as usize;
+        let mut stacks = Vec::with_capacity(alloc, channels)?;
+        for _ in 0..channels {
+            stacks.push(Stack::open(alloc)?)?;
+        }
+        Ok(Levels {
+            moment: 0,
+            stacks,
+            currents: vec![in alloc; Current::still(0, NEVER); channels]?,
+            levels: vec![in alloc; 0; channels]?,
+            roster: Roster::open(alloc, channels)?,
+        })
+    }
+
+    /// The level of channel c at place c - 1.
+    pub fn row(&self) -> &[Level]
+        ensures reach { length result.now ≡ length self.now.stacks }
+        ensures levels { (k : ℕ) → k < length self.now.stacks → slice_index result.now k ≡ level_at self.now k }
+        ensures stands { (show : ShowData) (p : PlaybackData) → LevelsStandFor show p self.now → IsTable show.channels (λ c. level show p.base p.live c p.moment) result.now }
+    {
+        self.levels.as_slice()
+    }
+
+    /// The playback has another run, which starts at its moment. The levels stood for the playback before
+    /// it.
+    pub fn run_added(&mut self, show: &Show, sheet: &Sheet, playback: &Playback)
+        requires rows { RowsStandFor show.now sheet.now }
+        requires stood { StandsBefore show.now playback.now self.old }
+        ensures { LevelsStandFor show.now playback.now self.new }
+    {
+        let Some(run) = last_run(playback) else {
+            return;
+        };
+        let from = before_last(playback);
+        for k in 0..show.channels() as usize {
+            let c = channel_at(k);
+            let target = sheet.level_at(run.cue, c);
+            if acts(show, run, c, sheet.level_at(from, c), target) {
+                self.add_run(show, run, c, target);
+            }
+        }
+    }
+
+    /// No run is live any more: each channel is at its tracked level at the base.
+    pub fn settled(&mut self, sheet: &Sheet, playback: &Playback)
+        requires moment { self.old.moment ≡ playback.now.moment }
+        requires rest { playback.now.live ≡ [] }
+        ensures { (show : ShowData) → show.channels ≡ length self.old.stacks → RowsStandFor show sheet.now → LevelsStandFor show playback.now self.new }
+    {
+        let base = playback.base();
+        for k in 0..self.levels.len() {
+            self.restart(k, sheet.level_at(base, channel_at(k)));
+        }
+    }
+
+    /// The levels at a later moment; answers whether one changed. It looks at the channels alone that are
+    /// under way.
+    pub fn to_moment(&mut self, m: Moment) -> bool
+        requires later { self.old.moment ≤ m }
+        requires end { m ≤ TICK_END }
+        ensures stands { (show : ShowData) (p : PlaybackData) → LevelsStandFor show p self.old → LevelsStandFor show (record p { moment = m }) self.new }
+        ensures unchanged { result ≡ false → (k : ℕ) → k < length self.old.stacks → level_at self.new k ≡ level_at self.old k }
+    {
+        self.moment = m;
+        let step = advance(
+            m,
+            &self.roster,
+            &self.stacks,
+            &mut self.currents,
+            &mut self.levels,
+        );
+        if step.arrived {
+            retire(m, &mut self.roster, &self.currents);
+        }
+        step.changed
+    }
+
+    /// The level and the fades of one channel are made anew from the live runs; every other channel is
+    /// left as it was.
+    pub fn recompute(&mut self, show: &Show, sheet: &Sheet, playback: &Playback, chan: Chan)
+        requires rows { RowsStandFor show.now sheet.now }
+        requires moment { self.old.moment ≡ playback.now.moment }
+        requires chan { chan ≤ length self.old.stacks }
+        ensures here { StandsAt show.now playback.now self.new (chan - 1) }
+        ensures others { IsElsewhere (chan - 1) self.old self.new }
+    {
+        let k = chan.get() as usize - 1;
+        let stack = &mut self.stacks[k];
+        fill_stack(stack, show, sheet, playback.base(), playback.live(), chan);
+        refresh(
+            k,
+            self.moment,
+            stack,
+            &mut self.currents,
+            &mut self.levels,
+            &mut self.roster,
+        );
+    }
+}
+
+impl Levels {
+    /// The fade of the run on the channel, on which it acts.
+    fn add_run(&mut self, show: &Show, run: &Run, c: Chan, target: Level)
+        requires within { c ≤ length self.old.stacks }
+        requires target { target ≡ tracked show.now run.now.cue c }
+        requires room { length (stack_of self.old (c - 1)).fades < RUNS }
+        requires run { ValidRun TICK_END run.now }
+        ensures level { (x : ℕ) → level_in (stack_of self.new (c - 1)) x ≡ run_over show.now (level_in (stack_of self.old (c - 1))) run.now c x }
+        ensures few { length (stack_of self.new (c - 1)).fades ≤ length (stack_of self.old (c - 1)).fades + 1 }
+        ensures others { IsElsewhere (c - 1) self.old self.new }
+    {
+        let k = c.get() as usize - 1;
+        let stack = &mut self.stacks[k];
+        push_run(stack, show, run, c, target);
+        refresh(
+            k,
+            self.moment,
+            stack,
+            &mut self.currents,
+            &mut self.levels,
+            &mut self.roster,
+        );
+    }
+
+    /// No fade on the channel at a place.
+    fn restart(&mut self, k: usize, bottom: Level)
+        requires { k < length self.old.stacks }
+        ensures { self.new ≡ record self.old { stacks = slice_set self.old.stacks k (record { bottom = bottom; fades = [] }) } }
+    {
+        let stack = &mut self.stacks[k];
+        stack.restart(bottom);
+        refresh(
+            k,
+            self.moment,
+            stack,
+            &mut self.currents,
+            &mut self.levels,
+            &mut self.roster,
+        );
+    }
+}
+
+/// The last run.
+fn last_run(playback: &Playback) -> Option<&Run>
+    ensures last { (run : RunData) (older : List RunData) → playback.now.live ≡ run ∷ older → option_copied result ≡ Some run }
+    ensures valid { IfSome result (λ run. ValidRun TICK_END run.now) }
+    ensures few { length playback.now.live ≤ RUNS }
+{
+    playback.live().last()
+}
+
+/// The position before the last run.
+fn before_last(playback: &Playback) -> CueNo
+    ensures { (run : RunData) (older : List RunData) → playback.now.live ≡ run ∷ older → result ≡ last_cue playback.now.base older }
+{
+    let live = playback.live();
+    if live.len() < 2 {
+        return playback.base();
+    }
+    let run = &live[live.len() - 2];
+    run.cue
+}
+
+/// The channel whose value stands at the place.
+fn channel_at(place: usize) -> Chan
+    requires { place < CHANNELS }
+    ensures { result ≡ place + 1 }
+{
+    match Chan::new(place as u32 + 1) {
+        Some(c) => c,
+        None => unreachable!(),
+    }
+}

@@ -1,0 +1,12 @@
+//! The level of each channel, kept while runs are live: a stack of fades for each, of which one governs.
+#![tactic(auto)]
+
+mod channel;
+mod current;
+mod levels;
+mod motion;
+mod roster;
+mod runs;
+mod stack;
+
+pub use levels::Levels;

@@ -1,0 +1,96 @@
+//! What a run is to one channel: whether it acts on it, and with which times.
+
+ghost use Rattle.std.specs.Prelude.{◌≡◌, ℕ, ◌==◌, option_and_then, if◌then◌else◌};
+ghost use Rattle.std.specs.Option.{option_copied};
+ghost use Rattle.lx_spec.specs.SortedList.{entry_at};
+ghost use Rattle.lx_spec.specs.Show.{IsTime};
+ghost use Rattle.lx_spec.specs.TrackedLevel.{tracked, move_of};
+ghost use Rattle.lx_spec.specs.Run.{acts, entry_for, first_entry};
+ghost use Rattle.lx_playback.specs.Valid.{ValidTimes};
+
+use lx_base::{Chan, Cs, Level, PartNo};
+use lx_playback::{PartTimes, Run};
+use lx_show::Show;
+
+/// The run acts on the channel: it is whole, or its cue moves the channel, or the channel is to come
+/// to another level. `looks` is the tracked level at the position that the run comes from, `target`
+/// the one at the run's cue.
+pub(crate) fn acts(show: &Show, run: &Run, c: Chan, looks: Level, target: Level) -> bool
+    requires { target ≡ tracked show.now run.now.cue c }
+    ensures { (from : ℕ) → looks ≡ tracked show.now from c → result ≡ acts show.now from run.now c }
+{
+    run.whole || show.move_of(run.cue, c).is_some() || looks != target
+}
+
+/// The entry whose times the run takes for the channel: the one that it captured of the part of its
+/// cue's move, or else its first.
+pub(crate) fn entry_for(show: &Show, run: &Run, c: Chan) -> PartTimes
+    ensures { result ≡ entry_for show.now run.now c }
+{
+    match captured_for(show, run, c) {
+        Some(entry) => entry,
+        None => first_entry(run.parts.as_slice()),
+    }
+}
+
+/// The entry that the run captured of the part in which its cue now moves the channel.
+fn captured_for(show: &Show, run: &Run, c: Chan) -> Option<PartTimes>
+    ensures { result ≡ option_and_then (λ m. entry_at (λ entry. entry.part) m.part run.now.parts) (move_of show.now run.now.cue c) }
+{
+    let entry = show.move_of(run.cue, c)?;
+    entry_of(run.parts.as_slice(), entry.part).copied()
+}
+
+/// The entry of the part.
+fn entry_of(entries: &[PartTimes], part: PartNo) -> Option<&PartTimes>
+    ensures { option_copied result ≡ entry_at (λ entry. entry.part) part entries.now }
+{
+    entries.iter().find(|entry| is_of(entry, part))
+}
+
+/// The entry is of the part.
+fn is_of(entry: &PartTimes, part: PartNo) -> bool
+    ensures { result ≡ (entry.now.part == part) }
+{
+    entry.part.get() == part.get()
+}
+
+/// The first entry: each run has one.
+fn first_entry(entries: &[PartTimes]) -> PartTimes
+    ensures { result ≡ first_entry entries.now }
+{
+    match entries.first() {
+        Some(entry) => *entry,
+        None => NO_TIMES,
+    }
+}
+
+const NO_TIMES: PartTimes = PartTimes {
+    part: PartNo::BASE,
+    up: 0,
+    up_delay: 0,
+    down: 0,
+    down_delay: 0,
+};
+
+/// The time that a rising channel takes, or a falling one.
+pub(crate) fn time_of(entry: &PartTimes, rising: bool) -> Cs
+    requires { ValidTimes entry.now }
+    ensures time { result ≡ (if rising then entry.now.up else entry.now.down) }
+    ensures most { IsTime result }
+{
+    if rising { entry.up } else { entry.down }
+}
+
+/// How long a rising channel waits before, or a falling one.
+pub(crate) fn delay_of(entry: &PartTimes, rising: bool) -> Cs
+    requires { ValidTimes entry.now }
+    ensures delay { result ≡ (if rising then entry.now.up_delay else entry.now.down_delay) }
+    ensures most { IsTime result }
+{
+    if rising {
+        entry.up_delay
+    } else {
+        entry.down_delay
+    }
+}
