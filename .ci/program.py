@@ -53,7 +53,6 @@ def fault(name, lines, cause, line):
 
 
 def edge_cases():
-    limited = {"memory": 4 << 20}
     return [
         Case("status 0 at the end of the script", ONE_CUE + "go\nframe\n", "ok\nframe 0 1 1=128\n"),
         Case("status 0 at quit", ONE_CUE + "go\nquit\nframe\n", "ok\n"),
@@ -61,7 +60,7 @@ def edge_cases():
         Case("status 3 where the input is a folder", b"", "", status=3, folder=True),
         Case("status 4 where the output is a full device", ONE_CUE + "go\n", "", status=4, full=True),
         Case("status 4 where a refused show's line can't be written", "CUE 1\n", "", status=4, full=True),
-        Case("status 5 for want of memory", ONE_CUE + "go\n", "", status=5, **limited),
+        Case("status 5 for lack of memory", "IDENT 3:0\nSET CHANNELS 2048\nENDDATA\ngo\n", "", status=5, memory=3 << 20),
         Case("status 6 for an input that is too long", b"\n" * INPUT_BYTES + b"X", "", status=6),
         Case("an input of the greatest length is read to its end", b"\n" * INPUT_BYTES, f"show NoEndData {INPUT_BYTES + 1}\n", status=1),
         Case("no words", ONE_CUE, "", status=2, words=(), error=USAGE),
