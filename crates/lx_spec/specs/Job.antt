@@ -1,14 +1,11 @@
 -- The jobs of the program: the words that name each, what it is given, and what it writes.
-use Rattle.std.specs.Prelude.{ℕ, Bool, false, ◌==◌, Option, Some, None, Result, List, [], ◌∷◌, option_map, codes, bytes_eq, if◌then◌else◌}
-use Rattle.lx_base.specs.declared.TheConstants.{CUES}
+use Rattle.std.specs.Prelude.{ℕ, Option, Some, None, Result, List, [], ◌∷◌, option_map, codes, bytes_eq, if◌then◌else◌}
 use Rattle.lx_spec.specs.declared.Form.{Form}
 use Rattle.lx_spec.specs.declared.Form.TheVariants.{Moves}
 use Rattle.lx_spec.specs.declared.Job.{Job}
 use Rattle.lx_spec.specs.declared.Job.TheVariants.{Check, Render, Sheet, Make}
 use Rattle.lx_spec.specs.declared.TextFault.{TextFault}
 use Rattle.lx_spec.specs.Text.{lines_of}
-use Rattle.lx_spec.specs.Numerals.{read_whole}
-use Rattle.lx_spec.specs.Phrase.{read_as}
 use Rattle.lx_spec.specs.Reading.{Reading, reads, lines_read}
 use Rattle.lx_spec.specs.CutInput.{first_lines}
 use Rattle.lx_spec.specs.CheckOutput.{check_output}
@@ -21,26 +18,13 @@ abbrev pub form_of : List (List ℕ) → Option Form
 form_of [] = Some Moves
 form_of other = None
 
-abbrev pub begins_with : ℕ → List ℕ → Bool
-begins_with c [] = false
-begins_with c (b ∷ bs) = b == c
-
--- a count of cues, without a leading 0
-abbrev pub cues_in : List ℕ → Option ℕ
-cues_in word = if begins_with 48 word then None else read_as (read_whole 1 CUES word)
-
-abbrev pub cues_of : List (List ℕ) → Option ℕ
-cues_of (word ∷ []) = cues_in word
-cues_of other = None
-
--- the job that a list of words names, if they are one of the forms
+-- the job that a list of words names, if they are one of the forms; no words name `make` as long as its generator is not built
 abbrev pub job_of : List (List ℕ) → Option Job
 job_of [] = None
 job_of (name ∷ rest) =
     if bytes_eq name (codes "check") then option_map Check (form_of rest)
     else if bytes_eq name (codes "render") then option_map Render (form_of rest)
     else if bytes_eq name (codes "sheet") then option_map Sheet (form_of rest)
-    else if bytes_eq name (codes "make") then option_map Make (cues_of rest)
     else None
 
 -- the bytes that a job is given, where its source tells what it has left: `make` is given none
