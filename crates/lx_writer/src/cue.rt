@@ -1,38 +1,33 @@
 //! Cues, but for their parts.
 #![tactic(auto, using(lx_io::proofs::Chain::puts))]
 
-ghost use Rattle.std.specs.Prelude.{[], ◌++◌, ◌∷◌, codes, flat_map};
+ghost use Rattle.std.specs.Prelude.{[], ◌++◌, ◌∷◌, codes};
 ghost use Rattle.lx_io.specs.Puts.{Puts};
 ghost use Rattle.lx_spec.specs.Numerals.{time_text};
-ghost use Rattle.lx_spec.specs.ShowText.{line, cue_number_text, block_text, label_text, follow_text, link_text, cue_text};
+ghost use Rattle.lx_spec.specs.ShowText.{line, cue_number_text, block_text, label_text, follow_text, link_text};
 
 use crate::part::put_parts;
+use crate::pieces::Written;
 use crate::record::put_label;
 use lx_base::{Cs, CueNo};
 use lx_io::{Sink, SinkFault, put_all};
 use lx_lex::{put_cue_no, put_hundredths};
 use lx_show::Cue;
 
-/// Appends the cues.
-pub(crate) fn put_cues<K: Sink>(cues: &[Cue], sink: &mut K) -> Result<(), SinkFault>
-    ensures { Puts K.holds K.faults K.wants sink.old sink.new result (flat_map cue_text cues.now) }
-{
-    for cue in cues {
-        put_cue(cue, sink)?;
-    }
-    Ok(())
-}
+impl Written for Cue {
+    ghost use Rattle.lx_spec.specs.ShowText.{cue_text};
 
-/// Appends a cue: what is said of it as a whole, and its parts with their moves.
-fn put_cue<K: Sink>(cue: &Cue, sink: &mut K) -> Result<(), SinkFault>
-    ensures { Puts K.holds K.faults K.wants sink.old sink.new result (cue_text cue.now) }
-{
-    put_cue_number(b"CUE ", cue.number, sink)?;
-    put_block(cue.block, sink)?;
-    put_label(cue.label.as_slice(), sink)?;
-    put_follow(cue.follow, sink)?;
-    put_link(cue.link, sink)?;
-    put_parts(cue.moves.as_slice(), cue.parts.as_slice(), sink)
+    ghost text = { cue_text };
+
+    /// Appends a cue: what is said of it as a whole, and its parts with their moves.
+    fn write<K: Sink>(&self, sink: &mut K) -> Result<(), SinkFault> {
+        put_cue_number(b"CUE ", self.number, sink)?;
+        put_block(self.block, sink)?;
+        put_label(self.label.as_slice(), sink)?;
+        put_follow(self.follow, sink)?;
+        put_link(self.link, sink)?;
+        put_parts(self.moves.as_slice(), self.parts.as_slice(), sink)
+    }
 }
 
 /// Appends the line that makes a block cue, where it is one.

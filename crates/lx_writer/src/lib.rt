@@ -3,6 +3,7 @@
 
 mod cue;
 mod part;
+mod pieces;
 mod record;
 mod show;
 #[cfg(test)]

@@ -3,61 +3,56 @@
 
 ghost use Rattle.std.specs.Prelude.{[], ◌++◌, ◌∷◌, codes, decimal, flat_map};
 ghost use Rattle.lx_io.specs.Puts.{Puts};
-ghost use Rattle.lx_spec.specs.ShowText.{line, at_text, label_text, member_text, group_text, sub_text};
+ghost use Rattle.lx_spec.specs.ShowText.{line, at_text, label_text, member_text};
 
+use crate::pieces::{Written, write_each};
 use lx_base::{Chan, Level};
 use lx_io::{Sink, SinkFault, put_all};
 use lx_lex::{put_level, put_whole};
 use lx_show::{Group, Member, Sub};
 
-/// Appends the groups.
-pub(crate) fn put_groups<K: Sink>(groups: &[Group], sink: &mut K) -> Result<(), SinkFault>
-    ensures { Puts K.holds K.faults K.wants sink.old sink.new result (flat_map group_text groups.now) }
-{
-    for group in groups {
-        put_group(group, sink)?;
+impl Written for Group {
+    ghost use Rattle.lx_spec.specs.ShowText.{group_text};
+
+    ghost text = { group_text };
+
+    /// Appends a group: its number, its label and its members.
+    fn write<K: Sink>(&self, sink: &mut K) -> Result<(), SinkFault> {
+        put_between(b"GROUP ", self.number.get(), b"\n", sink)?;
+        put_members(self.label.as_slice(), self.members.as_slice(), sink)
     }
-    Ok(())
 }
 
-/// Appends a group: its number, its label and its members.
-fn put_group<K: Sink>(group: &Group, sink: &mut K) -> Result<(), SinkFault>
-    ensures { Puts K.holds K.faults K.wants sink.old sink.new result (group_text group.now) }
-{
-    put_between(b"GROUP ", group.number.get(), b"\n", sink)?;
-    put_label(group.label.as_slice(), sink)?;
-    put_members(group.members.as_slice(), sink)
-}
+impl Written for Sub {
+    ghost use Rattle.lx_spec.specs.ShowText.{sub_text};
 
-/// Appends the submasters.
-pub(crate) fn put_subs<K: Sink>(subs: &[Sub], sink: &mut K) -> Result<(), SinkFault>
-    ensures { Puts K.holds K.faults K.wants sink.old sink.new result (flat_map sub_text subs.now) }
-{
-    for submaster in subs {
-        put_sub(submaster, sink)?;
+    ghost text = { sub_text };
+
+    /// Appends a submaster: its number, its label and its members.
+    fn write<K: Sink>(&self, sink: &mut K) -> Result<(), SinkFault> {
+        put_between(b"SUB ", self.number.get(), b"\n", sink)?;
+        put_members(self.label.as_slice(), self.members.as_slice(), sink)
     }
-    Ok(())
 }
 
-/// Appends a submaster: its number, its label and its members.
-fn put_sub<K: Sink>(submaster: &Sub, sink: &mut K) -> Result<(), SinkFault>
-    ensures { Puts K.holds K.faults K.wants sink.old sink.new result (sub_text submaster.now) }
+/// Appends what follows the number of a group or submaster: its label and its members.
+fn put_members<K: Sink>(label: &[u8], members: &[Member], sink: &mut K) -> Result<(), SinkFault>
+    ensures { Puts K.holds K.faults K.wants sink.old sink.new result (label_text label.now ++ flat_map member_text members.now) }
 {
-    put_between(b"SUB ", submaster.number.get(), b"\n", sink)?;
-    put_label(submaster.label.as_slice(), sink)?;
-    put_members(submaster.members.as_slice(), sink)
+    put_label(label, sink)?;
+    write_each(members, sink)
 }
 
-/// Appends a line for each member of a group or submaster.
-fn put_members<K: Sink>(members: &[Member], sink: &mut K) -> Result<(), SinkFault>
-    ensures { Puts K.holds K.faults K.wants sink.old sink.new result (flat_map member_text members.now) }
-{
-    for member in members {
-        put_channel(member.chan, member.level, sink)?;
+impl Written for Member {
+    ghost use Rattle.lx_spec.specs.ShowText.{member_text};
+
+    ghost text = { member_text };
+
+    /// Appends the line of a member.
+    fn write<K: Sink>(&self, sink: &mut K) -> Result<(), SinkFault> {
+        put_channel(self.chan, self.level, sink)
     }
-    Ok(())
 }
-
 /// Appends a whole number between what stands before and behind it.
 pub(crate) fn put_between<K: Sink>(
     before: &[u8],

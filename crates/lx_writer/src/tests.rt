@@ -189,7 +189,7 @@ fn each_kind_of_line_stands_in_its_place(rt: HostRuntime) -> Result<(), Fail> {
 }
 
 #[test]
-fn whichever_write_fails_a_front_was_appended(rt: HostRuntime) -> Result<(), Fail> {
+fn whichever_write_fails_a_prefix_was_appended(rt: HostRuntime) -> Result<(), Fail> {
     let show = small_show(rt.alloc())?;
     for failing in 0..10 {
         let mut fails = Vec::new(rt.alloc());

@@ -1,0 +1,13 @@
+use Rattle.std.proofs.Common.{List, ℕ, [], ◌∷◌, ◌++◌, ap, sym, ◌∙◌, append_assoc}
+use Rattle.std.specs.Prelude.{flat_map, codes, decimal}
+use Rattle.lx_io.proofs.Chain.{Puts-then, Puts-is}
+use Rattle.lx_spec.specs.declared.Member.{Member}
+use Rattle.lx_spec.specs.ShowText.{label_text, member_text}
+use Rattle.lx_writer.proofs.record.SubWritten.write.Goals as goal
+
+pub returns : goal.returns
+returns g c =
+    rw (← c.self.view_is)
+    (Puts-is (Puts-then (Puts-is c.in_ok-put_between.ensures (ap (λ n. codes "SUB " ++ decimal n ++ 10 ∷ []) c.get.ensures.value))
+    (Puts-is c.put_members.ensures (ap (λ (label : List ℕ). label_text label ++ flat_map member_text c.as_slice-2.result.now) c.as_slice.ensures.bytes ∙ ap (λ (members : List Member). label_text c.self.inside.label ++ flat_map member_text members) c.as_slice-2.ensures.entries)))
+    (sym (append_assoc (codes "SUB " ++ decimal c.self.inside.number ++ 10 ∷ []) (label_text c.self.inside.label) (flat_map member_text c.self.inside.members))))
