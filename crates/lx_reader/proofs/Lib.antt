@@ -16,3 +16,4 @@ pub mod PassedLines
 pub mod LineSteps
 pub mod LinePass
 pub mod WordTable
+pub mod LookMoves

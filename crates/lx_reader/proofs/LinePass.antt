@@ -29,7 +29,7 @@ use Rattle.lx_reader.specs.ReadingState.{first_state, step, final_reading}
 use Rattle.lx_reader.specs.LineOutcome.{facts_of, state_of, IsReady, IsStep, Outcome}
 use Rattle.lx_reader.specs.HandedLines.{MeansShow, MeansFault, IsPastLimit}
 use Rattle.lx_reader.specs.LineFaults.{show_fault, told_fault}
-use Rattle.lx_reader.specs.Answer.{reading_of, HasRead, OfText, CutShort, AnswerOf, FaultOf, TurnOf}
+use Rattle.lx_reader.specs.Answer.{reading_of, HasRead, IsLoaded, OfText, CutShort, AnswerOf, FaultOf, TurnOf}
 use Rattle.lx_reader.proofs.ReadLines.{long_entry}
 use Rattle.lx_reader.proofs.PassedLines.{PassedLines, lines_none, lines_sound, lines_more, lines_ended, lines_refused, lines_open, lines_past_limit, lines_cut}
 
@@ -127,6 +127,16 @@ pub passage_ended : {S : Type 0} (left : S → Option (List ℕ)) (rises : S →
     → reading_of loaded ≡ final_reading form (state_of q) → Valid loaded.show → AnswerOf left rises old l' form (Ok loaded)
 passage_ended left rises old l l' form r q loaded done first passage turn ended least reading valid =
     ended_by left rises old l l' form r q loaded turn.0 (entry_of (facts_of r (l.number + 1)) (without_cr turn.0)) first passage turn.1 refl turn.2 ended least reading valid
+
+pub passage_loaded : {S : Type 0} (left : S → Option (List ℕ)) (rises : S → ℕ) (old l l' : Lines S) (form : Form) (r q : Reader) (result : Result Loaded ShowFault) (done : Unit {0}) → old.number ≡ 0 → Passage left rises old l r → TurnOf left rises l l' r q (Ok done) → q.ended ≡ true
+    → IsLoaded form q result → AnswerOf left rises old l' form result
+passage_loaded left rises old l l' form r q (Ok loaded) done first passage turn ended is = passage_ended left rises old l l' form r q loaded done first passage turn ended is.least is.reading is.valid
+passage_loaded left rises old l l' form r q (Err fault) done first passage turn ended is = subst (λ f. AnswerOf left rises old l' form (Err f)) (sym is) tt
+
+-- want of memory is no failed read
+pub loaded_read : {P : Type 0} (form : Form) (q : Reader) (result : Result Loaded ShowFault) → IsLoaded form q result → result ≡ Err faults.ReadFault → P
+loaded_read form q (Ok loaded) is read = cc
+loaded_read form q (Err fault) is read = cc
 
 -- a fault ends the reading
 fault_of_text : {S : Type 0} (left : S → Option (List ℕ)) (rises : S → ℕ) (old l l' : Lines S) (form : Form) (r : Reader) → old.number ≡ 0 → Passage left rises old l r → (fault : TextFault) → FaultOf left rises l l' r fault → MeansFault left old form fault

@@ -1,5 +1,5 @@
 -- What reading a show from the lines of a source comes to.
-use Rattle.std.specs.Prelude.{◌≡◌, ◌⊎◌, ℕ, ◌+◌, Result, Ok, Err, List, [], ◌∷◌, IfSome}
+use Rattle.std.specs.Prelude.{◌≡◌, ◌≤◌, ◌⊎◌, ℕ, ◌+◌, Result, Ok, Err, List, [], ◌∷◌, IfSome}
 use Rattle.std.specs.declared.option.Option.{Option}
 use Rattle.std.specs.Io.KnownBytes.{IsAtEnd}
 use Rattle.lx_spec.specs.declared.TextFault.{TextFault}
@@ -20,7 +20,8 @@ use Rattle.lx_reader.specs.declared.fault.ShowFault.TheVariants as faults
 use Rattle.lx_reader.specs.declared.loaded.Loaded.{Loaded}
 use Rattle.lx_reader.specs.declared.reader.Reader.{Reader}
 use Rattle.lx_reader.specs.HandedLines.{MeansShow, MeansFault, IsPastLimit, IsCutShort}
-use Rattle.lx_reader.specs.LineOutcome.{facts_of, Outcome}
+use Rattle.lx_reader.specs.LineOutcome.{facts_of, state_of, Outcome}
+use Rattle.lx_reader.specs.ReadingState.{final_reading}
 
 -- what was read
 abbrev pub reading_of : Loaded → Reading
@@ -63,3 +64,13 @@ abbrev pub TurnOf : {S : Type 0} → (S → Option (List ℕ)) → (S → ℕ) �
 TurnOf left rises old new r q (Ok done) =
     (raw : List ℕ) × HandedOut left rises old new (raw ∷ []) × Outcome r q (old.number + 1) (Ok done) (entry_of (facts_of r (old.number + 1)) (without_cr raw))
 TurnOf left rises old new r q (Err fault) = OfText (FaultOf left rises old new r) (StepOf steps.InputTooLong (unread left old) (unread left new) old.taken new.taken (line_of new)) (NotTaken left old new) fault
+
+-- what was read, by its form; only memory may be wanting
+pub record HasLoaded (form : Form) (r : Reader) (loaded : Loaded) : Type 0 where
+  pub reading : reading_of loaded ≡ final_reading form (state_of r)
+  pub least : IfSome r.channels_set (λ n. 1 ≤ n)
+  pub valid : Valid loaded.show
+
+abbrev pub IsLoaded : Form → Reader → Result Loaded ShowFault → Type 0
+IsLoaded form r (Ok loaded) = HasLoaded form r loaded
+IsLoaded form r (Err fault) = fault ≡ faults.Memory

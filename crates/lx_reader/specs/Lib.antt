@@ -5,3 +5,4 @@ pub mod LineFaults
 pub mod HandedLines
 pub mod LineOutcome
 pub mod Answer
+pub mod LookMoves

@@ -7,6 +7,7 @@ mod levels;
 mod line_fault;
 mod lists;
 mod loaded;
+mod looks;
 mod numbers;
 mod outer_line;
 mod pass;

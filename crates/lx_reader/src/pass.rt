@@ -5,10 +5,11 @@ ghost use Rattle.lx_io.specs.Causes.{Rose};
 ghost use Rattle.lx_spec.specs.Show.{Valid};
 ghost use Rattle.lx_reader.specs.LineOutcome.{IsReady, state_of};
 ghost use Rattle.lx_reader.specs.ReadingState.{final_reading};
-ghost use Rattle.lx_reader.specs.Answer.{AnswerOf, TurnOf, reading_of};
+ghost use Rattle.lx_reader.specs.Answer.{AnswerOf, IsLoaded, TurnOf, reading_of};
 
 use crate::fault::ShowFault;
 use crate::loaded::Loaded;
+use crate::looks::looks_to_moves;
 use crate::reader::Reader;
 use lx_base::DEFAULT_CHANNELS;
 use lx_io::Source;
@@ -18,7 +19,7 @@ use lx_spec::Form;
 use std::alloc::Global;
 
 /// Reads a show text, up to its ENDDATA line. No line was read from the lines before. The levels of its cues
-/// are read as moves.
+/// are moves, or in the form States whole looks, which become moves.
 ///
 /// The faults that carry a line name the first line that has one. Lines that aren't known are skipped and
 /// counted.
@@ -29,24 +30,8 @@ pub fn read_show<S: Source>(
 ) -> Result<Loaded, ShowFault>
     requires going { IsTrue lines.old.going }
     requires first { lines.old.number ≡ 0 }
-    requires moves { form ≡ Form.Moves }
     ensures same_reference { lines.new.source.ghost_name ≡ lines.old.source.ghost_name }
     ensures answer { AnswerOf S.left S.faults lines.old lines.new form result }
-    ensures later { S.faults lines.old.source.now ≤ S.faults lines.new.source.now }
-    ensures read { result ≡ Err ShowFault.ReadFault → Rose (S.faults lines.old.source.now) (S.faults lines.new.source.now) }
-{
-    match form {
-        Form::Moves => read_moves(alloc, lines),
-        Form::States => unreachable!(),
-    }
-}
-
-/// Reads a show text whose cues' levels are moves.
-fn read_moves<S: Source>(alloc: Global, lines: &mut Lines<S>) -> Result<Loaded, ShowFault>
-    requires going { IsTrue lines.old.going }
-    requires first { lines.old.number ≡ 0 }
-    ensures same_reference { lines.new.source.ghost_name ≡ lines.old.source.ghost_name }
-    ensures answer { AnswerOf S.left S.faults lines.old lines.new Form.Moves result }
     ensures later { S.faults lines.old.source.now ≤ S.faults lines.new.source.now }
     ensures read { result ≡ Err ShowFault.ReadFault → Rose (S.faults lines.old.source.now) (S.faults lines.new.source.now) }
 {
@@ -57,7 +42,7 @@ fn read_moves<S: Source>(alloc: Global, lines: &mut Lines<S>) -> Result<Loaded, 
     loop {
         read_line(alloc, lines, &mut reader)?;
         if reader.ended {
-            return Ok(loaded(reader));
+            return loaded_by(alloc, reader, form);
         }
     }
 }
@@ -84,6 +69,23 @@ fn read_line<S: Source>(
         Step::End => Err(ShowFault::NoEndData(lines.number() + 1)),
         Step::ReadFault => Err(ShowFault::ReadFault),
         Step::InputTooLong => Err(ShowFault::InputTooLong),
+    }
+}
+
+/// What was read, in the form of the text.
+fn loaded_by(alloc: Global, reader: Reader, form: Form) -> Result<Loaded, ShowFault>
+    ensures { IsLoaded form reader result }
+{
+    let mut loaded = loaded(reader);
+    match form {
+        Form::Moves => Ok(loaded),
+        Form::States => match looks_to_moves(alloc, &mut loaded.show) {
+            Ok(()) => {
+                let _ = loaded.show.channels();
+                Ok(loaded)
+            }
+            Err(_) => Err(ShowFault::Memory),
+        },
     }
 }
 

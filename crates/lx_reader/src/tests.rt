@@ -20,6 +20,37 @@ fn read(alloc: Global, text: &[u8], piece: usize) -> Result<Loaded, ShowFault>
     read_show(alloc, &mut Lines::new(&mut source), Form::Moves)
 }
 
+/// Three cues that name whole looks: the second drops channel 2, and the third is a block cue.
+const LOOKS: &[u8] =
+    b"IDENT 3:0\nCUE 2\nCHAN 1@50 3@10\nCUE 1\nCHAN 1@50 2@FL\nCUE 3\n$$BLOCK\nPART 2\nCHAN 1@50\nENDDATA\n";
+
+#[test]
+fn looks_become_moves(rt: HostRuntime) -> Result<(), Fail> {
+    let alloc = rt.alloc();
+    let mut source = PlainSource::new(LOOKS.to_vec(alloc)?, 10);
+    let Ok(loaded) = read_show(alloc, &mut Lines::new(&mut source), Form::States) else {
+        assert!(rt; false, "it is read");
+        return Ok(());
+    };
+    for (number, chan, want) in [
+        (1, 1, Some((128, 1))),
+        (1, 2, Some((255, 1))),
+        (1, 3, None),
+        (2, 1, None),
+        (2, 2, Some((0, 1))),
+        (2, 3, Some((26, 1))),
+        (3, 1, Some((128, 2))),
+        (3, 3, None),
+    ] {
+        assert_eq!(rt;
+            move_in(&loaded, number, chan),
+            want,
+            "channel {chan} in cue {number}"
+        );
+    }
+    Ok(())
+}
+
 /// What a text comes to whose lines end with CR LF where they ended with LF.
 fn with_cr(alloc: Global, text: &[u8]) -> Result<Vec<u8>, AllocError> {
     let mut bytes = Vec::new(alloc);

@@ -1,7 +1,6 @@
 use Rattle.std.proofs.Common.{◌∙◌}
-use Rattle.lx_spec.specs.declared.Form.TheVariants.{Moves}
-use Rattle.lx_reader.proofs.LinePass.{passage_none, passage_ready, passage_more, passage_ended, passage_fault, handed_on}
-use Rattle.lx_reader.proofs.pass.read_moves.Goals as goal
+use Rattle.lx_reader.proofs.LinePass.{passage_none, passage_ready, passage_more, passage_loaded, loaded_read, passage_fault, handed_on}
+use Rattle.lx_reader.proofs.pass.read_show.Goals as goal
 
 pub loop-reader-init : goal.loop-reader-init
 loop-reader-init g c =
@@ -14,13 +13,16 @@ read_line-requires-clause-ready g c = passage_ready g.S.Source.left g.S.Source.f
 pub returns-in_err-read_line-clause-answer : goal.returns-in_err-read_line-clause-answer
 returns-in_err-read_line-clause-answer g c =
     let e = c.in_err-read_line.ensures in
-    handed_on g.S.Source.left g.S.Source.faults c.args.lines.now c.read_line.new.lines Moves c.from_residual.result c.in_err-read_line.field-0.0 c.from_residual.ensures.1
-    (passage_fault g.S.Source.left g.S.Source.faults c.args.lines.now c.loop-reader.lines c.read_line.new.lines Moves c.loop-reader.reader c.read_line.new.reader c.in_err-read_line.field-0.0 c.requires.first c.loop-reader.invariant e.turn)
+    handed_on g.S.Source.left g.S.Source.faults c.args.lines.now c.read_line.new.lines c.args.form c.from_residual.result c.in_err-read_line.field-0.0 c.from_residual.ensures.1
+    (passage_fault g.S.Source.left g.S.Source.faults c.args.lines.now c.loop-reader.lines c.read_line.new.lines c.args.form c.loop-reader.reader c.read_line.new.reader c.in_err-read_line.field-0.0 c.requires.first c.loop-reader.invariant e.turn)
 
 pub returns-then-reader-clause-answer : goal.returns-then-reader-clause-answer
 returns-then-reader-clause-answer g c =
     let e = c.in_ok-read_line.ensures in
-    passage_ended g.S.Source.left g.S.Source.faults c.args.lines.now c.loop-reader.lines c.read_line.new.lines Moves c.loop-reader.reader c.read_line.new.reader c.loaded.result c.in_ok-read_line.field-0 c.requires.first c.loop-reader.invariant e.turn c.if-reader.true c.loaded.ensures.least c.loaded.ensures.reading c.loaded.ensures.valid
+    passage_loaded g.S.Source.left g.S.Source.faults c.args.lines.now c.loop-reader.lines c.read_line.new.lines c.args.form c.loop-reader.reader c.read_line.new.reader c.loaded_by.result c.in_ok-read_line.field-0 c.requires.first c.loop-reader.invariant e.turn c.if-reader.true c.loaded_by.ensures
+
+pub returns-then-reader-clause-read : goal.returns-then-reader-clause-read
+returns-then-reader-clause-read g c = λ read. loaded_read c.args.form c.read_line.new.reader c.loaded_by.result c.loaded_by.ensures read
 
 pub loop-reader-preserved : goal.loop-reader-preserved
 loop-reader-preserved g c =

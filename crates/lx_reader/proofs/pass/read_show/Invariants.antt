@@ -1,6 +1,6 @@
 use Rattle.std.proofs.Common.{◌-◌}
 use Rattle.lx_reader.proofs.LinePass.{Passage}
-use Rattle.lx_reader.proofs.pass.read_moves.Given as goal
+use Rattle.lx_reader.proofs.pass.read_show.Given as goal
 
 abbrev pub invariant-loop-reader : goal.invariant-loop-reader
 invariant-loop-reader g l = Passage g.S.Source.left g.S.Source.faults l.fn.lines l.lines l.reader

@@ -1,0 +1,6 @@
+use Rattle.std.proofs.Common.{◌≡◌}
+use Rattle.lx_reader.specs.LookMoves.{last_look, moves_up_to}
+use Rattle.lx_reader.proofs.looks.look_moves.Given as goal
+
+abbrev pub invariant-loop-n : goal.invariant-loop-n
+invariant-loop-n l = l.moves ≡ moves_up_to (last_look l.front) l.cue l.n
