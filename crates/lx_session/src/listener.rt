@@ -11,9 +11,9 @@ use lx_spec::Command;
 /// What listens to a session. Before each attempt at a command it is asked whether it admits it, and it hears of
 /// each command that was accepted, with the console after it.
 ///
-/// A listener has three meanings for contracts: what it keeps true of itself together with the console (`keeps`),
-/// which accepted commands it heard of between two of its states (`heard`), and whether it admits every command
-/// (`admits_all`).
+/// A listener has four meanings for contracts: what it keeps true of itself together with the console (`keeps`),
+/// which accepted commands it heard of between two of its states (`heard`), whether it admits every command
+/// (`admits_all`), and what it has ready for a command that it admitted (`ready`).
 pub trait Listener {
     /// What it keeps true of itself together with the console.
     ghost keeps: { Self → Kept → Type 0 };
@@ -24,15 +24,19 @@ pub trait Listener {
     /// Whether it admits every command.
     ghost admits_all: { Bool };
 
+    /// What it keeps from admitting a command until it hears of it.
+    ghost ready: { Self → Type 0 };
+
     /// Whether the command may be attempted. One that isn't admitted is refused with `Memory`.
     fn admit(&mut self, command: &Command) -> bool
         ensures keeps { (console : Kept) → keeps self.old console → keeps self.new console }
         ensures heard { heard self.old self.new [] }
-        ensures all { admits_all ≡ true → result ≡ true };
+        ensures all { admits_all ≡ true → result ≡ true }
+        ensures ready { result ≡ true → ready self.new };
 
-    /// Hears of a command that was accepted; the console is the one after it.
+    /// Hears of a command that was accepted; the console is the one after it. The listener is as `admit` left it.
     fn hear(&mut self, command: &Command, console: &Console)
-        requires { (before : Kept) × (keeps self.old before × AcceptedStep before command.now console.now) }
+        requires { (before : Kept) × (keeps self.old before × (AcceptedStep before command.now console.now × ready self.old)) }
         ensures keeps { keeps self.new console.now }
         ensures heard { heard self.old self.new (command.now ∷ []) };
 
@@ -51,6 +55,8 @@ impl Listener for NoListener {
     ghost heard = { λ _ _ _. Unit {0} };
 
     ghost admits_all = { true };
+
+    ghost ready = { λ _. Unit {0} };
 
     ghost nothing = { λ state. tt };
 

@@ -307,6 +307,8 @@ impl Listener for Few {
 
     ghost admits_all = { false };
 
+    ghost ready = { λ _. Unit {0} };
+
     ghost nothing = { λ state. tt };
 
     ghost both = { λ first middle last before after one two. tt };

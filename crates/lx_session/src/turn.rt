@@ -1,6 +1,6 @@
 //! One script line on its way: its commands are attempted one after another.
 
-ghost use Rattle.std.specs.Prelude.{◌≡◌, ◌-◌, false, is_some, is_none, not, map, option_map, option_copied, IsTrue, IfSome};
+ghost use Rattle.std.specs.Prelude.{◌≡◌, ◌-◌, true, false, is_some, is_none, not, map, option_map, option_copied, IsTrue, IfSome};
 ghost use Rattle.lx_spec.specs.Desk.{Desk};
 ghost use Rattle.lx_spec.specs.ValidEdit.{ValidCommand};
 ghost use Rattle.lx_spec.specs.Session.{count_of, command_of};
@@ -75,6 +75,7 @@ impl Turn {
         ensures attempted { (d : Desk) → StandsFor d console.old → IfSome (next_of self.old) (λ command. Attempted admitted d command self.new.refusal console.new) }
         ensures turn { self.new ≡ record self.old { left = self.old.left - 1; refusal = self.new.refusal } }
         ensures accepted { result ≡ is_none self.new.refusal }
+        ensures admitted { is_none self.new.refusal ≡ true → admitted ≡ true }
         ensures unchanged { result ≡ false → console.new ≡ console.old }
     {
         let refusal = match self.next() {
@@ -91,6 +92,7 @@ impl Turn {
 fn try_command(command: &Command, console: &mut Console, admitted: bool) -> Option<Refusal>
     requires { ValidCommand command.now }
     ensures attempted { (d : Desk) → StandsFor d console.old → Attempted admitted d command.now result console.new }
+    ensures admitted { is_none result ≡ true → admitted ≡ true }
     ensures unchanged { IsTrue (is_some result) → console.new ≡ console.old }
 {
     if !admitted {

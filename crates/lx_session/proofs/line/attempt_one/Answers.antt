@@ -9,7 +9,10 @@ hear-requires g c =
       c.args.console.now,
       (
         c.admit-admitted.ensures.keeps c.args.console.now c.requires.keeps,
-        accepted_step c.admit-admitted.result c.args.turn.now c.args.command.now c.attempt.new.self.refusal c.args.console.now c.attempt.new.console c.requires.next none c.attempt.ensures.attempted,
+        (
+          accepted_step c.admit-admitted.result c.args.turn.now c.args.command.now c.attempt.new.self.refusal c.args.console.now c.attempt.new.console c.requires.next none c.attempt.ensures.attempted,
+          c.admit-admitted.ensures.ready (c.attempt.ensures.admitted none),
+        ),
       ),
     )
 
