@@ -1,3 +1,5 @@
+
+
 pub mod Lists
 pub mod CuePlans
 pub mod CueLevels

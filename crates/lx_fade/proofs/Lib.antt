@@ -1,3 +1,5 @@
+
+
 pub mod Pushed
 pub mod RunStacks
 pub mod Stacks

@@ -1,3 +1,5 @@
+
+
 pub mod Texts
 pub mod FirstWords
 pub mod Phrases
