@@ -1,3 +1,1 @@
-
-
 pub mod Lanes

@@ -1,5 +1,3 @@
-
-
 pub mod Lists
 pub mod CuePlans
 pub mod CueLevels

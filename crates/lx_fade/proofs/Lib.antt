@@ -1,5 +1,3 @@
-
-
 pub mod Pushed
 pub mod RunStacks
 pub mod Stacks

@@ -1,4 +1,2 @@
-
-
 pub mod Captured
 pub mod Backwards

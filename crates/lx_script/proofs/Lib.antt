@@ -1,5 +1,3 @@
-
-
 pub mod Texts
 pub mod FirstWords
 pub mod Phrases

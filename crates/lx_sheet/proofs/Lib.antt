@@ -1,5 +1,3 @@
-
-
 pub mod Cells
 pub mod Columns
 pub mod EditedShows
