@@ -190,7 +190,11 @@ fn a_label_and_a_follow_are_taken_away(rt: HostRuntime) -> Result<(), Fail> {
     let mut show = two_cues(rt.alloc())?;
     let one = CueNo::new(CUE_UNIT).ok_or("no cue 1")?;
     for given in [true, false] {
-        let label = if given { Label::new(b"Night".as_slice()) } else { Label::none() };
+        let label = if given {
+            Label::new(b"Night".as_slice())
+        } else {
+            Label::none()
+        };
         if show.cue(one).is_some() {
             show.set_label(one, label);
             show.set_follow(one, if given { Some(250) } else { None });
