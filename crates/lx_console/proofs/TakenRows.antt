@@ -4,10 +4,9 @@ use Rattle.std.proofs.Common.{arith, ap, sym, ◌∙◌, inl, inr}
 use Rattle.std.proofs.lemmas.Bool.{cases_order}
 use Rattle.lx_spec.specs.declared.PatchRow.{PatchRow}
 use Rattle.lx_spec.specs.SortedList.{entry_at, placed, taken_out}
-use Rattle.lx_show.proofs.SortedLists.{found_number}
-use Rattle.lx_show.proofs.Placed.{entry_at-placed_here, entry_at-placed_other}
 use Rattle.lx_patch.specs.DimmerTable.{DimmerTable, StandsForPatch}
 use Rattle.lx_patch.proofs.Rows.{gone, others_stay, stands_alike}
+use Rattle.lx_spec.proofs.SortedLists.{entry_at-placed_here, entry_at-placed_other, found_number}
 
 same_dimmer : (d e : ℕ) → Some d ≡ Some e → d ≡ e
 same_dimmer d e same = cc

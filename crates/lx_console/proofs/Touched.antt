@@ -9,7 +9,6 @@ use Rattle.lx_spec.specs.Show.{Show, Sub}
 use Rattle.lx_spec.specs.Output.{contribution}
 use Rattle.lx_spec.specs.Kept.{Kept}
 use Rattle.lx_spec.proofs.Columns.{level-columns}
-use Rattle.lx_show.proofs.Placed.{entry_at-placed_other}
 use Rattle.lx_edit.specs.declared.plans.Plan.{Plan}
 use Rattle.lx_edit.specs.declared.plans.Plan.TheVariants.{Nothing, PlaceCue, RemoveCue, PlaceGroup, PlaceSub, PlaceRow, RemoveRow}
 use Rattle.lx_edit.specs.declared.dirty.Dirty.{Dirty}
@@ -26,6 +25,7 @@ use Rattle.lx_patch.specs.DimmerTable.{StandsForPatch}
 use Rattle.lx_patch.proofs.Rows.{others_stay}
 use Rattle.lx_console.specs.Standing.{level_now, out_now}
 use Rattle.lx_console.specs.Filled.{Reaches, SlotsStand, IsFilled, IsPatchedBut, IsClean}
+use Rattle.lx_spec.proofs.SortedLists.{entry_at-placed_other}
 
 -- a plan leaves the channel count
 pub same_channels : (show : Show) (plan : Plan) → (planned show plan).channels ≡ show.channels

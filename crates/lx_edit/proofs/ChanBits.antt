@@ -10,6 +10,7 @@ use Rattle.std.proofs.lemmas.Nat.Bits.{bit_at-zero, bit_at_set_same, bit_at_set_
 use Rattle.std.proofs.Math.Nat.{div-add-mod}
 use Rattle.lx_edit.specs.declared.chan_set.ChanSet.{ChanSet}
 use Rattle.lx_edit.specs.ChanSet.{has_chan, is_chan}
+use Rattle.lx_spec.proofs.Comparisons.{eq_other, eq_true}
 
 pub is_chan-in : (c : ℕ) → 1 ≤ c → c ≤ CHANNELS → is_chan c ≡ true
 is_chan-in c least most = grind (arith, nat_tests)
@@ -40,12 +41,6 @@ both_false false = refl
 pub has_chan-empty : (x : ℕ) → has_chan (record { words = replicate 32 0 }) x ≡ false
 unfolding has_chan
 has_chan-empty x = ap (λ w. is_chan x && (bit_at w ((x - 1) % 64) == 1)) (zeros 32 ((x - 1) / 64)) ∙ ap (λ b. is_chan x && (b == 1)) (bit_at-zero ((x - 1) % 64)) ∙ both_false (is_chan x)
-
-same : (x c : ℕ) → x ≡ c → (x == c) ≡ true
-same x c is = grind (arith, nat_tests)
-
-other : (x c : ℕ) → (x ≡ c → ⊥) → (x == c) ≡ false
-other x c differ = grind (arith, nat_tests)
 
 in_word : (k : ℕ) → k % 64 < 64
 in_word k = omega arith
@@ -78,15 +73,15 @@ differs_from x c none here is = false≢true (sym none ∙ ap is_chan is ∙ her
 
 with_step : (words : List ℕ) (c x : ℕ) (b : Bool) → is_chan x ≡ b → is_chan c ≡ true → (c - 1) / 64 < length words → has_chan (record { words = with_chan words c }) x ≡ (x == c || has_chan (record { words = words }) x)
 with_step words c x false none here within =
-    has_chan-none (record { words = with_chan words c }) x none ∙ sym (ap (λ b. b || has_chan (record { words = words }) x) (other x c (differs_from x c none here)) ∙ has_chan-none (record { words = words }) x none)
+    has_chan-none (record { words = with_chan words c }) x none ∙ sym (ap (λ b. b || has_chan (record { words = words }) x) (eq_other x c (differs_from x c none here)) ∙ has_chan-none (record { words = words }) x none)
 with_step words c x true is here within = elim (cases_eq x c) [
   | inl at ↦
       let P : ℕ → Type 0 = λ k. has_chan (record { words = with_chan words c }) k ≡ (k == c || has_chan (record { words = words }) k) in
-      subst P (sym at) (has_chan-at (record { words = with_chan words c }) c here ∙ ap (λ b. b == 1) (set_here words c within) ∙ sym (ap (λ b. b || has_chan (record { words = words }) c) (same c c refl)))
+      subst P (sym at) (has_chan-at (record { words = with_chan words c }) c here ∙ ap (λ b. b == 1) (set_here words c within) ∙ sym (ap (λ b. b || has_chan (record { words = words }) c) (eq_true c c refl)))
   | inr differ ↦
       has_chan-at (record { words = with_chan words c }) x is
       ∙ ap (λ b. b == 1) (bit_kept words c x (least_of c here) (least_of x is) within differ)
-      ∙ sym (ap (λ b. b || has_chan (record { words = words }) x) (other x c differ) ∙ has_chan-at (record { words = words }) x is)
+      ∙ sym (ap (λ b. b || has_chan (record { words = words }) x) (eq_other x c differ) ∙ has_chan-at (record { words = words }) x is)
 ]
 
 -- a set with one channel more

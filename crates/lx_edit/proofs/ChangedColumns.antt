@@ -13,15 +13,16 @@ use Rattle.lx_spec.specs.TrackedLevel.{tracked, cue_of, move_of, move_in, level_
 use Rattle.lx_spec.specs.EditedShow.{with_cue, without_cue}
 use Rattle.lx_spec.specs.Laws.{SameColumn}
 use Rattle.lx_show.specs.Around.{entries_up_to}
-use Rattle.lx_show.proofs.Placed.{placed_same, entry_at-placed_here, entry_at-placed_other}
-use Rattle.lx_show.proofs.SortedLists.{each, filter_all, find_none, found_number, found_valid, found_has, all_reverse}
 use Rattle.lx_sheet.proofs.Past.{tracked_past}
 use Rattle.lx_edit.specs.declared.chan_set.ChanSet.{ChanSet}
 use Rattle.lx_edit.specs.ChanSet.{has_chan}
 use Rattle.lx_edit.specs.Changing.{move_by, is_block, level_from, SameEntry, IsPastDecision}
 use Rattle.lx_edit.proofs.KeptLevels.{above_placed}
-use Rattle.lx_edit.proofs.Lists.{find_in_filter, map_append}
+use Rattle.lx_edit.proofs.Lists.{map_append}
 use Rattle.lx_edit.proofs.Tracking.{through, walked, tracked-with_cue, tracked-without_cue, tracked_below-with_cue, tracked_below-without_cue}
+use Rattle.lx_spec.proofs.Comparisons.{le_true}
+use Rattle.lx_spec.proofs.Lists.{all_reverse, each, filter_all, find_in_filter, find_none, found_has}
+use Rattle.lx_spec.proofs.SortedLists.{entry_at-placed_here, entry_at-placed_other, found_number, found_valid, placed_same}
 
 -- Moves that are marked where they differ.
 found_step : (chans : ChanSet) (moves : List Move) (other : Option Cue) (c : ℕ) (o : Option Move) → entry_at (λ m. m.chan) c moves ≡ o → has_chan chans c ≡ false → AllByRecursion (λ m. has_chan chans m.chan ≡ false → move_by other m.chan ≡ Some m) moves → IfSome o (λ m. move_by other c ≡ Some m)
@@ -198,9 +199,6 @@ first_is d y is = cc
 
 none_is : (d : Cue) → None ≡ Some d → ⊥
 none_is d is = cc
-
-le_true : (a m : ℕ) → a ≤ m → nat_le a m ≡ true
-le_true a m le = grind (arith, nat_tests)
 
 passed : (c base : ℕ) (y : Cue) → decides y c ≡ false → through c base y ≡ base
 passed c base y test = ap (λ (bit : Bool). cond bit (level_in y c) base) test

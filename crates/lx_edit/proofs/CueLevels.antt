@@ -12,11 +12,12 @@ use Rattle.lx_spec.specs.SortedList.{has_entry, taken_out}
 use Rattle.lx_spec.specs.Show.{Cue, Show, ValidCue, ValidMove, ValidMember}
 use Rattle.lx_spec.specs.TrackedLevel.{move_in}
 use Rattle.lx_spec.specs.EditedShow.{all_at, in_proportion, part_for, without_moves, moves_for}
-use Rattle.lx_show.proofs.SortedLists.{found_has, kept_by, IsStrictlySorted-filter}
 use Rattle.lx_show.proofs.ChangedCues.{with_other_moves}
 use Rattle.lx_edit.specs.Found.{Fits}
 use Rattle.lx_edit.specs.Kept.{base_moves}
 use Rattle.lx_edit.proofs.Lists.{filter_both, filter_same, filter_true, chosen_more, range_below}
+use Rattle.lx_spec.proofs.Lists.{found_has, kept_by}
+use Rattle.lx_spec.proofs.SortedLists.{IsStrictlySorted-filter}
 
 part_of_move : (channels : ℕ) (parts : List Part) (o : Option Move) → IsTrue (has_entry (λ x. x.number) 1 parts) → IfSome o (ValidMove channels parts) → IsTrue (has_entry (λ x. x.number) (option_map_or (λ m. m.part) o 1) parts)
 part_of_move channels parts None base valid = base

@@ -10,11 +10,11 @@ use Rattle.lx_spec.specs.declared.Edit.{Edit}
 use Rattle.lx_spec.specs.SortedList.{entry_at, has_entry, taken_out}
 use Rattle.lx_spec.specs.Show.{Cue, Show, ValidCue, ValidPart, ValidMove, IsTime}
 use Rattle.lx_spec.specs.EditedShow.{edited, with_cue, with_time, new_part, without_part, out_of_part}
-use Rattle.lx_show.proofs.SortedLists.{found_valid, IsStrictlySorted-filter, IsStrictlySorted-map, kept_by}
-use Rattle.lx_edit.proofs.Lists.{find_in_filter}
 use Rattle.lx_edit.specs.Found.{FoundCue}
 use Rattle.lx_edit.specs.declared.plans.Plan.TheVariants.{PlaceCue}
 use Rattle.lx_edit.specs.Planned.{CanPlace, IsPlan, dimmer_edited, edits_sub}
+use Rattle.lx_spec.proofs.Lists.{find_in_filter, kept_by}
+use Rattle.lx_spec.proofs.SortedLists.{IsStrictlySorted-filter, IsStrictlySorted-map, found_valid}
 
 -- a cue in the place of one that is there
 pub replaces : (show : Show) (n : ℕ) (old new : Cue) → FoundCue show n old → new.number ≡ old.number → ValidCue show.channels new → CanPlace show new

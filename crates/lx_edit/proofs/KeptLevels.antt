@@ -11,13 +11,12 @@ use Rattle.lx_spec.specs.Show.{Cue, Show, ValidCue}
 use Rattle.lx_spec.specs.TrackedLevel.{tracked, decides, level_in, cue_above}
 use Rattle.lx_spec.specs.EditedShow.{with_cue}
 use Rattle.lx_show.specs.Around.{entries_up_to}
-use Rattle.lx_show.proofs.Finding.{find_first, find_passes}
-use Rattle.lx_show.proofs.SortedLists.{each, filter_all, filter_none, passes, lt_from}
 use Rattle.lx_edit.specs.Found.{FoundCue}
 use Rattle.lx_edit.specs.Kept.{changed_show, decided, decided_by}
 use Rattle.lx_edit.specs.Planned.{CanPlace}
-use Rattle.lx_edit.proofs.Lists.{find_in_filter}
 use Rattle.lx_edit.proofs.Tracking.{through, walked, tracked-with_cue, tracked-without_cue, up_to_first}
+use Rattle.lx_spec.proofs.Comparisons.{lt_from}
+use Rattle.lx_spec.proofs.Lists.{each, filter_all, filter_none, find_first, find_in_filter, find_passes, none_differs, passes}
 
 lt_self : (k : ℕ) → nat_lt k k ≡ false
 lt_self k = grind (arith, nat_tests)
@@ -97,12 +96,9 @@ found_step p key y ys x true test is rest =
     subst (λ z. IsTrue (has_entry key (key z) (y ∷ ys))) same (rw (same_test (key y)) refl)
 found_step p key y ys x false test is rest = elim (key y == key x) as (λ b. IsTrue (is_some (cond b (Some y) (entry_at key (key x) ys)))) [ true ↦ refl | false ↦ rest is ]
 
-none_found : {A : Type 0} (x : A) → None ≡ Some x → ⊥
-none_found x is = cc
-
 -- what is found by a test is there by its number
 found_there : {A : Type 0} (p : A → Bool) (key : A → ℕ) (x : A) (xs : List A) → find p xs ≡ Some x → IsTrue (has_entry key (key x) xs)
-found_there p key x [] is = absurd (none_found x is)
+found_there p key x [] is = absurd (none_differs x is)
 found_there p key x (y ∷ ys) is = found_step p key y ys x (p y) refl is (found_there p key x ys)
 
 channels-changed : (show : Show) (n : ℕ) (new : Option Cue) → (changed_show show n new).channels ≡ show.channels

@@ -4,18 +4,6 @@ use Rattle.std.specs.Prelude.{filter, find, ◌&&◌}
 use Rattle.std.specs.List.{AllByRecursion, range_with_len}
 use Rattle.std.proofs.lemmas.List.Elements.{filter-append}
 use Rattle.std.proofs.lemmas.List.FromFn.{map-range_with_len_more}
-use Rattle.lx_show.proofs.Finding.{find_both}
-
-and_known : (a b : Bool) → (b ≡ true → a ≡ true) → (a && b) ≡ b
-and_known true b known = refl
-and_known false true known = known refl
-and_known false false known = refl
-
--- a filter that keeps all that a test finds
-pub find_in_filter : {A : Type 0} (p q : A → Bool) (xs : List A) → ((x : A) → p x ≡ true → q x ≡ true) → find p (filter q xs) ≡ find p xs
-find_in_filter {A} p q xs keeps =
-    let same : (λ x. q x && p x) ≡ p = λ i x. and_known (q x) (p x) (keeps x) i in
-    find_both q p xs ∙ ap (λ (t : A → Bool). find t xs) same
 
 -- what all have, their images have
 pub all_map : {A B : Type 0} (P : A → Type 0) (Q : B → Type 0) (f : A → B) (xs : List A) → ((x : A) → P x → Q (f x)) → AllByRecursion P xs → AllByRecursion Q (map f xs)

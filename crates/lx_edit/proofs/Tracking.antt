@@ -12,9 +12,10 @@ use Rattle.lx_spec.specs.Show.{Cue, Show}
 use Rattle.lx_spec.specs.TrackedLevel.{tracked, decides, level_in, cue_above}
 use Rattle.lx_spec.specs.EditedShow.{with_cue, without_cue}
 use Rattle.lx_show.specs.Around.{entries_up_to}
-use Rattle.lx_show.proofs.Finding.{find_first, find_both_last}
-use Rattle.lx_show.proofs.SortedLists.{each, filter_all, filter_none, passes, below_and_above, IsStrictlySorted-filter}
 use Rattle.lx_edit.proofs.Lists.{filter_both, filter_same}
+use Rattle.lx_spec.proofs.Comparisons.{and_known, le_false, le_true}
+use Rattle.lx_spec.proofs.Lists.{each, filter_all, filter_none, find_both_last, find_first, none_differs, passes}
+use Rattle.lx_spec.proofs.SortedLists.{IsStrictlySorted-filter, below_and_above}
 
 -- what the cue makes of the level that tracks into it
 abbrev pub through : ℕ → ℕ → Cue → ℕ
@@ -43,12 +44,6 @@ tracked-walked show n c = ap (λ (o : Option Cue). option_map_or (λ cue. level_
 
 le_from_lt : (a k m : ℕ) → nat_lt a k ≡ true → k ≤ m → nat_le a m ≡ true
 le_from_lt a k m low le = grind (arith, nat_tests)
-
-le_true : (a m : ℕ) → a ≤ m → nat_le a m ≡ true
-le_true a m le = grind (arith, nat_tests)
-
-not_le : (a m : ℕ) → m < a → nat_le a m ≡ false
-not_le a m more = grind (arith, nat_tests)
 
 lt_from_le : (a m k : ℕ) → m < k → nat_le a m ≡ true → nat_lt a k ≡ true
 lt_from_le a m k less le = grind (arith, nat_tests)
@@ -79,11 +74,6 @@ up_to_taken key n m xs sorted le =
 none_above : {A : Type 0} (key : A → ℕ) (k m : ℕ) (xs : List A) → m < k → entries_up_to key m (entries_above key k xs) ≡ []
 none_above key k m xs less = filter_none _ _ (each _ _ _ (λ y h. not_le_above (key y) m k less h) (passes (λ y. nat_lt k (key y)) xs))
 
-and_known : (a b : Bool) → (b ≡ true → a ≡ true) → (a && b) ≡ b
-and_known true b known = refl
-and_known false true known = known refl
-and_known false false known = refl
-
 low_part : {A : Type 0} (key : A → ℕ) (k m : ℕ) (xs : List A) → m < k → entries_up_to key m (entries_below key k xs) ≡ entries_up_to key m xs
 low_part key k m xs less =
     filter_both (λ y. nat_lt (key y) k) (λ y. nat_le (key y) m) xs
@@ -96,7 +86,7 @@ append_nil_right (x ∷ xs) ys none = ap (λ zs. x ∷ zs) (append_nil_right xs 
 pub up_to_placed_below : {A : Type 0} (key : A → ℕ) (m : ℕ) (x : A) (xs : List A) → m < key x → entries_up_to key m (placed key x xs) ≡ entries_up_to key m xs
 up_to_placed_below key m x xs less =
     filter-append (λ y. nat_le (key y) m) (entries_below key (key x) xs) (x ∷ entries_above key (key x) xs)
-    ∙ append_nil_right (entries_up_to key m (entries_below key (key x) xs)) (entries_up_to key m (x ∷ entries_above key (key x) xs)) (rw (not_le (key x) m less) (none_above key (key x) m xs less))
+    ∙ append_nil_right (entries_up_to key m (entries_below key (key x) xs)) (entries_up_to key m (x ∷ entries_above key (key x) xs)) (rw (le_false (key x) m less) (none_above key (key x) m xs less))
     ∙ low_part key (key x) m xs less
 
 pub up_to_taken_below : {A : Type 0} (key : A → ℕ) (n m : ℕ) (xs : List A) → IsStrictlySorted key xs → m < n → entries_up_to key m (taken_out key n xs) ≡ entries_up_to key m xs
@@ -139,16 +129,13 @@ tracked_below-without_cue show n m c sorted less = tracked-walked (without_cue s
 some_is : {A : Type 0} (x y : A) → Some x ≡ Some y → x ≡ y
 some_is x y is = cc
 
-none_is : {A : Type 0} (x : A) → None ≡ Some x → ⊥
-none_is x is = cc
-
 -- a list that begins with what is found first
 begins : {A : Type 0} (key : A → ℕ) (x : A) (ys : List A) → slice_get ys 0 ≡ Some x → IsStrictlySorted key ys → entries_up_to key (key x) ys ≡ x ∷ []
-begins key x [] is sorted = absurd (none_is x is)
+begins key x [] is sorted = absurd (none_differs x is)
 begins {A} key x (y ∷ ys) is sorted =
     let same : y ≡ x = some_is y x is in
     subst (λ (z : A). entries_up_to key (key z) (y ∷ ys) ≡ z ∷ []) same
-    (rw (le_true (key y) (key y) (omega arith)) (ap (λ zs. y ∷ zs) (filter_none _ ys (each _ _ ys (λ z h. not_le (key z) (key y) h) sorted.0))))
+    (rw (le_true (key y) (key y) (omega arith)) (ap (λ zs. y ∷ zs) (filter_none _ ys (each _ _ ys (λ z h. le_false (key z) (key y) h) sorted.0))))
 
 -- of the cues above a number, those up to the first are that one
 pub up_to_first : (show : Show) (n : ℕ) (above : Cue) → IsStrictlySorted (λ x. x.number) show.cues → cue_above show n ≡ Some above → entries_up_to (λ x. x.number) above.number (entries_above (λ x. x.number) n show.cues) ≡ above ∷ []

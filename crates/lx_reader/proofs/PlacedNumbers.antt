@@ -9,7 +9,7 @@ use Rattle.std.proofs.lemmas.Bool.{cases_order, eqb-true}
 use Rattle.std.proofs.lemmas.Bool.Decides.{nat_tests}
 use Rattle.lx_spec.specs.SortedList.{IsStrictlySorted, placed, entry_at, has_entry}
 use Rattle.lx_spec.specs.Reading.{last_of_each}
-use Rattle.lx_show.proofs.SortedLists.{IsStrictlySorted-placed}
+use Rattle.lx_spec.proofs.SortedLists.{IsStrictlySorted-placed}
 
 lt_true : (a b : ℕ) → a < b → nat_lt a b ≡ true
 lt_true a b h = grind (arith, nat_tests)

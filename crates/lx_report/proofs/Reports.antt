@@ -1,7 +1,6 @@
 -- The row line and the line of a cue as they are put, and the cue at a place of a show.
-use Rattle.std.proofs.Common.{◌≡◌, ℕ, zero, suc, ◌+◌, ◌<◌, Bool, true, false, cond, List, [], ◌∷◌, ◌++◌, length, get_or, take, drop, take-append-drop, Some, refl, ◌∙◌, sym, ap, arith, append_assoc, append-nil}
-use Rattle.std.specs.Prelude.{flat_map, codes, decimal, ◌==◌}
-use Rattle.std.proofs.lemmas.Bool.Decides.{nat_tests}
+use Rattle.std.proofs.Common.{◌≡◌, ℕ, zero, suc, ◌+◌, ◌<◌, Bool, cond, List, [], ◌∷◌, ◌++◌, length, get_or, take, drop, take-append-drop, Some, refl, ◌∙◌, sym, ap, arith, append_assoc, append-nil}
+use Rattle.std.specs.Prelude.{flat_map, codes, decimal}
 use Rattle.std.proofs.lemmas.Grind.{flat_map-append}
 use Rattle.std.proofs.lemmas.List.{take_more}
 use Rattle.std.proofs.lemmas.List.Elements.{All-from_recursion}
@@ -12,6 +11,7 @@ use Rattle.lx_spec.specs.Replies.{cells, row_text}
 use Rattle.lx_spec.specs.SheetOutput.{kind_word, label_word, cue_line}
 use Rattle.lx_script.proofs.Texts.{spaced_more}
 use Rattle.lx_report.specs.CueLine.{label_behind}
+use Rattle.lx_spec.proofs.Comparisons.{eq_below, eq_true}
 
 pub row_is : (n : ℕ) (row : List ℕ) → row_text n row ≡ codes "row " ++ (cue_number_text n ++ (flat_map (λ word. 32 ∷ word) (cells row) ++ 10 ∷ []))
 row_is n row =
@@ -32,19 +32,13 @@ line_is cue =
     ∙ ap (λ text. (codes "cue" ++ (32 ∷ cue_number_text cue.number ++ (32 ∷ kind_word cue.block ++ (32 ∷ decimal (length cue.parts) ++ (32 ∷ decimal (length cue.moves) ++ text))))) ++ 10 ∷ []) (behind_label cue.label)
     ∙ line_shape (cue_number_text cue.number) (kind_word cue.block) (decimal (length cue.parts)) (decimal (length cue.moves)) (label_behind cue.label)
 
-same_number : (a n : ℕ) → a ≡ n → (a == n) ≡ true
-same_number a n same = grind (arith, nat_tests)
-
-other_number : (a n : ℕ) → a < n → (a == n) ≡ false
-other_number a n less = grind (arith, nat_tests)
-
 -- the entry at a place of a sorted list is the entry of its number
 pub entry_there : {A : Type 0} (key : A → ℕ) (xs : List A) (k : ℕ) (x : A) → IsStrictlySorted key xs → k < length xs → x ≡ get_or xs k x → entry_at key (key x) xs ≡ Some x
 entry_there key [] k x sorted within is = absurd (omega arith)
-entry_there {A} key (y ∷ ys) zero x sorted within is = ap (λ (b : Bool). cond b (Some y) (entry_at key (key x) ys)) (same_number (key y) (key x) (ap key (sym is))) ∙ ap Some (sym is)
+entry_there {A} key (y ∷ ys) zero x sorted within is = ap (λ (b : Bool). cond b (Some y) (entry_at key (key x) ys)) (eq_true (key y) (key x) (ap key (sym is))) ∙ ap Some (sym is)
 entry_there {A} key (y ∷ ys) (suc k) x sorted within is =
     let above : key y < key (get_or ys k x) = All-from_recursion (λ z. key y < key z) ys sorted.0 k x (omega arith) in
-    ap (λ (b : Bool). cond b (Some y) (entry_at key (key x) ys)) (other_number (key y) (key x) (omega (arith, above, ap key is))) ∙ entry_there key ys k x sorted.1 (omega arith) is
+    ap (λ (b : Bool). cond b (Some y) (entry_at key (key x) ys)) (eq_below (key y) (key x) (omega (arith, above, ap key is))) ∙ entry_there key ys k x sorted.1 (omega arith) is
 
 -- one piece more of a list of pieces, and the list around it
 pub pieces_more : {A : Type 0} (f : A → List ℕ) (xs : List A) (i : ℕ) (x : A) → i < length xs → x ≡ get_or xs i x → flat_map f (take i xs) ++ f x ≡ flat_map f (take (i + 1) xs)

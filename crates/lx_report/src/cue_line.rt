@@ -12,7 +12,7 @@ use lx_lex::{put_count, put_cue_no};
 use lx_show::Cue;
 
 /// Appends the line of a cue: `cue`, its number, `block` or `track`, how many parts and how many moves it
-/// has, and its label if there is one. A fault is the sink's own, and then a front of the line was
+/// has, and its label if there is one. A fault is the sink's own, and then a prefix of the line was
 /// appended.
 pub(crate) fn put_cue_line<K: Sink>(cue: &Cue, sink: &mut K) -> Result<(), SinkFault>
     ensures { Puts K.holds K.faults K.wants sink.old sink.new result (cue_line cue.now) }

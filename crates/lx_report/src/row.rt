@@ -11,7 +11,7 @@ use lx_script::put_cells;
 
 /// Appends the row line of a cue: `row`, the cue number, and for each channel whose level isn't 0, rising,
 /// `channel=level` in decimal. The level of channel c stands at place c - 1. A fault is the sink's own, and
-/// then a front of the line was appended.
+/// then a prefix of the line was appended.
 pub fn put_row<K: Sink>(n: CueNo, row: &[Level], sink: &mut K) -> Result<(), SinkFault>
     ensures { Puts K.holds K.faults K.wants sink.old sink.new result (row_text n row.now) }
 {

@@ -20,7 +20,7 @@ fn a_row_line_has_the_levels_above_0(rt: HostRuntime) -> Result<(), Fail> {
     Ok(())
 }
 
-/// A sink whose second write fails has a front of the line, and its fault is answered.
+/// A sink whose second write fails has a prefix of the line, and its fault is answered.
 #[test]
 fn a_fault_of_the_sink_is_answered(rt: HostRuntime) -> Result<(), Fail> {
     let mut fails = Vec::new(rt.alloc());

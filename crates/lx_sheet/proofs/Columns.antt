@@ -11,16 +11,16 @@ use Rattle.lx_spec.specs.SortedList.{IsStrictlySorted, entries_below}
 use Rattle.lx_spec.specs.Show.{Cue, Show}
 use Rattle.lx_spec.specs.TrackedLevel.{decides, level_in, tracked}
 use Rattle.lx_show.specs.Around.{entries_up_to}
-use Rattle.lx_show.proofs.Finding.{find_both_last}
 use Rattle.std.proofs.lemmas.List.Elements.{All-from_recursion}
-use Rattle.lx_show.proofs.SortedLists.{each, filter_none, lt_true, lt_false, shorter}
 use Rattle.lx_sheet.specs.declared.sheet.Place.{Place}
 use Rattle.lx_sheet.specs.Rows.{level_of}
 use Rattle.lx_sheet.specs.Block.{cell, last_value, count_under}
 use Rattle.lx_sheet.specs.After.{level_after}
 use Rattle.lx_sheet.specs.Standing.{cue_numbers}
-use Rattle.lx_sheet.proofs.Rows.{le_true, le_false, count_up_to, count_within, up_to_is_front, last_value_same, sheet_of, level_of_block}
+use Rattle.lx_sheet.proofs.Rows.{count_up_to, count_within, up_to_is_front, last_value_same, sheet_of, level_of_block}
 use Rattle.lx_sheet.proofs.Tracking.{level_after-nil}
+use Rattle.lx_spec.proofs.Comparisons.{le_false, le_true, lt_false, lt_true}
+use Rattle.lx_spec.proofs.Lists.{each, filter_none, find_both_last, shorter}
 
 -- the tracked level follows from the cues up to the number
 pub tracked_is : (show : Show) (n c : ℕ) → IsStrictlySorted (λ cue. cue.number) show.cues → tracked show n c ≡ level_after (take (count_up_to n (cue_numbers show)) show.cues) c

@@ -9,12 +9,12 @@ use Rattle.lx_spec.specs.SortedList.{IsStrictlySorted, entries_below, entries_ab
 use Rattle.lx_spec.specs.Show.{Cue, Show}
 use Rattle.lx_spec.specs.TrackedLevel.{decides, level_in, tracked}
 use Rattle.lx_show.specs.Around.{entries_up_to}
-use Rattle.lx_show.proofs.Finding.{find_both_last}
-use Rattle.lx_show.proofs.SortedLists.{each, passes, stands_between, lt_true, lt_false, lt_from}
 use Rattle.lx_sheet.specs.Rows.{Sheet, numbers_of}
 use Rattle.lx_sheet.specs.Block.{place_of_cue}
 use Rattle.lx_sheet.specs.Standing.{StandsFor, StandsBelow, cue_numbers}
-use Rattle.lx_sheet.proofs.Rows.{le_false}
+use Rattle.lx_spec.proofs.Comparisons.{le_false, lt_false, lt_from, lt_true}
+use Rattle.lx_spec.proofs.Lists.{each, find_both_last, passes}
+use Rattle.lx_spec.proofs.SortedLists.{stands_between}
 
 -- the places of sorted cues
 pub numbers-listed : (cues : List Cue) → map (λ p. p.cue) (map place_of_cue cues) ≡ map (λ cue. cue.number) cues

@@ -3,7 +3,6 @@ use Rattle.std.proofs.Common.{◌≡◌, ℕ, zero, suc, ◌+◌, ◌*◌, ◌<�
 use Rattle.std.specs.Prelude.{Option, is_some, option_map, slice_get, ◌==◌, ◌||◌}
 use Rattle.std.specs.List.{list_any}
 use Rattle.std.proofs.lemmas.Bool.{false≢true}
-use Rattle.std.proofs.lemmas.Bool.Decides.{nat_tests}
 use Rattle.std.proofs.lemmas.List.{length-take, length-drop, same_lists, get_or_default}
 use Rattle.std.proofs.lemmas.List.FromFn.{length-map-range_with_len, get_or-map-range_with_len}
 use Rattle.std.proofs.lemmas.List.Elements.{All-from_recursion}
@@ -15,12 +14,14 @@ use Rattle.lx_show.specs.Indexes.{StandsAt}
 use Rattle.lx_spec.specs.Show.{Cue, Show}
 use Rattle.lx_spec.specs.TrackedLevel.{cue_of, tracked}
 use Rattle.lx_spec.specs.Replies.{row_of}
-use Rattle.lx_show.proofs.SortedLists.{up_to_there, found_number}
+use Rattle.lx_show.proofs.Indexes.{up_to_there}
 use Rattle.lx_sheet.specs.declared.sheet.Place.{Place}
 use Rattle.lx_sheet.specs.Rows.{Row, row_at, numbers_of}
 use Rattle.lx_sheet.specs.Block.{rows_of, cell, last_value}
 use Rattle.lx_sheet.specs.Standing.{StandsFor, cue_numbers}
 use Rattle.lx_sheet.proofs.Rows.{count_up_to, count_up_to-map, sheet_of, level_of_block, row_of_block, numbers-rows_of}
+use Rattle.lx_spec.proofs.Comparisons.{eq_below, eq_true}
+use Rattle.lx_spec.proofs.SortedLists.{found_number}
 
 -- a number is there as an entry's number
 has_number : {A : Type 0} (key : A → ℕ) (n : ℕ) (xs : List A) → is_some (entry_at key n xs) ≡ list_any (λ m. m == n) (map key xs)
@@ -39,19 +40,13 @@ not_there : {A B : Type 0} (o : Option A) (f : A → B) → is_some o ≡ false 
 not_there None f none = refl
 not_there (Some x) f none = absurd (false≢true (sym none))
 
-other_number : (a n : ℕ) → a < n → (a == n) ≡ false
-other_number a n less = grind (arith, nat_tests)
-
-same_number : (a n : ℕ) → a ≡ n → (a == n) ≡ true
-same_number a n same = grind (arith, nat_tests)
-
 -- the row of a number, at the place of its cue
 row_at_place : (channels : ℕ) (order : List Place) (levels : List ℕ) (n k : ℕ) (d : Place) → IsStrictlySorted (λ p. p.cue) order → k < length order → (get_or order k d).cue ≡ n → entry_at (λ (r : Row). r.number) n (rows_of channels order levels) ≡ slice_get (rows_of channels order levels) k
 row_at_place channels [] levels n k d sorted within here = absurd (omega arith)
-row_at_place channels (p ∷ order) levels n zero d sorted within here = rw (same_number p.cue n here) refl
+row_at_place channels (p ∷ order) levels n zero d sorted within here = rw (eq_true p.cue n here) refl
 row_at_place channels (p ∷ order) levels n (suc k) d sorted within here =
     let above : p.cue < (get_or order k d).cue = All-from_recursion (λ (q : Place). p.cue < q.cue) order sorted.0 k d (omega arith) in
-    rw (other_number p.cue n (omega (arith, here, above))) (row_at_place channels order (drop channels levels) n k d sorted.1 (omega arith) here)
+    rw (eq_below p.cue n (omega (arith, here, above))) (row_at_place channels order (drop channels levels) n k d sorted.1 (omega arith) here)
 
 -- where a number stands in the order
 pub stands_number : (order : List Place) (n at : ℕ) (d : Place) → StandsAt (λ p. p.cue) n order at → (get_or order at d).cue ≡ n

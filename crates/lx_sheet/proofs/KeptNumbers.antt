@@ -3,14 +3,12 @@ use Rattle.std.proofs.Common.{◌≡◌, ℕ, false, List, [], ◌∷◌, map, S
 use Rattle.std.specs.Prelude.{Option, IsTrue, find, is_some, ◌==◌}
 use Rattle.std.specs.Option.{option_map_or}
 use Rattle.std.proofs.lemmas.Bool.{cases_order, false≢true}
-use Rattle.std.proofs.lemmas.Bool.Decides.{nat_tests}
 use Rattle.lx_spec.specs.SortedList.{IsStrictlySorted, entry_at, has_entry, entries_below, entries_above, placed}
 use Rattle.lx_show.specs.Changed.{changed}
-use Rattle.lx_show.proofs.SortedLists.{each, filter_all, filter_none, find_none, lt_true, lt_false, found_number}
 use Rattle.lx_sheet.proofs.EditedShows.{below-placed}
-
-other_number : (a n : ℕ) → (a ≡ n → ⊥) → (a == n) ≡ false
-other_number a n other = grind (arith, nat_tests)
+use Rattle.lx_spec.proofs.Comparisons.{eq_other, lt_false, lt_true}
+use Rattle.lx_spec.proofs.Lists.{each, filter_all, filter_none, find_none}
+use Rattle.lx_spec.proofs.SortedLists.{found_number}
 
 -- an entry in the place of the one of its number
 pub numbers-placed : {A : Type 0} (key : A → ℕ) (x : A) (xs : List A) → IsStrictlySorted key xs → IsTrue (has_entry key (key x) xs) → map key (placed key x xs) ≡ map key xs
@@ -23,11 +21,11 @@ numbers-placed {A} key x (y ∷ ys) sorted there =
           rw (lt_false (key y) (key x) (omega arith), lt_false (key x) (key y) (omega arith)) (rw (low, high) (ap (λ n. n ∷ map key ys) (sym here)))
       | inr other ↦ elim other [
         | inl less ↦
-            let rest : map key (placed key x ys) ≡ map key ys = numbers-placed key x ys sorted.1 (rw (other_number (key y) (key x) (λ same. omega arith)) at there) in
+            let rest : map key (placed key x ys) ≡ map key ys = numbers-placed key x ys sorted.1 (rw (eq_other (key y) (key x) (λ same. omega arith)) at there) in
             rw (lt_true (key y) (key x) less, lt_false (key x) (key y) (omega arith)) (ap (λ ns. key y ∷ ns) rest)
         | inr more ↦
-            let none : find (λ z. key z == key x) ys ≡ None = find_none _ ys (each _ _ ys (λ z h. other_number (key z) (key x) (λ same. omega (arith, h))) sorted.0) in
-            absurd (false≢true (sym (ap is_some none) ∙ (rw (other_number (key y) (key x) (λ same. omega arith)) at there)))
+            let none : find (λ z. key z == key x) ys ≡ None = find_none _ ys (each _ _ ys (λ z h. eq_other (key z) (key x) (λ same. omega (arith, h))) sorted.0) in
+            absurd (false≢true (sym (ap is_some none) ∙ (rw (eq_other (key y) (key x) (λ same. omega arith)) at there)))
       ]
     ]
 

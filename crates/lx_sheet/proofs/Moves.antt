@@ -1,30 +1,24 @@
 -- The moves of a cue placed from the last to the first.
-use Rattle.std.proofs.Common.{◌≡◌, ◌≢◌, ℕ, ◌+◌, ◌-◌, ◌<◌, ◌≤◌, Bool, true, false, List, ◌∷◌, length, get_or, set, drop, Some, ◌∙◌, sym, ap, inl, inr, arith}
-use Rattle.std.specs.Prelude.{cond, ◌==◌}
+use Rattle.std.proofs.Common.{◌≡◌, ◌≢◌, ℕ, ◌+◌, ◌-◌, ◌<◌, ◌≤◌, Bool, List, ◌∷◌, length, get_or, set, drop, Some, ◌∙◌, sym, ap, inl, inr, arith}
+use Rattle.std.specs.Prelude.{cond}
 use Rattle.std.specs.Option.{option_map_or}
 use Rattle.std.proofs.lemmas.Bool.{cases_eq}
-use Rattle.std.proofs.lemmas.Bool.Decides.{nat_tests}
 use Rattle.std.proofs.lemmas.List.{drop_more}
 use Rattle.lx_spec.specs.declared.Move.{Move}
 use Rattle.lx_spec.specs.SortedList.{entry_at}
 use Rattle.lx_sheet.specs.Block.{level_in_look}
 use Rattle.lx_sheet.proofs.Cells.{level_in_look-set, level_in_look-other}
-
-same_number : (a n : ℕ) → a ≡ n → (a == n) ≡ true
-same_number a n same = grind (arith, nat_tests)
-
-other_number : (a n : ℕ) → (a ≡ n → ⊥) → (a == n) ≡ false
-other_number a n other = grind (arith, nat_tests)
+use Rattle.lx_spec.proofs.Comparisons.{eq_other, eq_true}
 
 -- the level that the moves set, or the one before
 abbrev pub level_placed : List Move → ℕ → ℕ → ℕ
 level_placed moves c before = option_map_or (λ m. m.level) (entry_at (λ m. m.chan) c moves) before
 
 first_placed : (m : Move) (moves : List Move) (c before : ℕ) → m.chan ≡ c → level_placed (m ∷ moves) c before ≡ m.level
-first_placed m moves c before same = ap (λ (b : Bool). option_map_or (λ x. x.level) (cond b (Some m) (entry_at (λ x. x.chan) c moves)) before) (same_number m.chan c same)
+first_placed m moves c before same = ap (λ (b : Bool). option_map_or (λ x. x.level) (cond b (Some m) (entry_at (λ x. x.chan) c moves)) before) (eq_true m.chan c same)
 
 first_other : (m : Move) (moves : List Move) (c before : ℕ) → m.chan ≢ c → level_placed (m ∷ moves) c before ≡ level_placed moves c before
-first_other m moves c before other = ap (λ (b : Bool). option_map_or (λ x. x.level) (cond b (Some m) (entry_at (λ x. x.chan) c moves)) before) (other_number m.chan c other)
+first_other m moves c before other = ap (λ (b : Bool). option_map_or (λ x. x.level) (cond b (Some m) (entry_at (λ x. x.chan) c moves)) before) (eq_other m.chan c other)
 
 -- one move more, before those that were placed
 pub move_placed : (moves : List Move) (look before : List ℕ) (i chan : ℕ) (m : Move) → 0 < i → i ≤ length moves → m ≡ get_or moves (i - 1) m → chan ≡ m.chan → 1 ≤ chan → chan ≤ length look → ((c : ℕ) → level_in_look look c ≡ level_placed (drop i moves) c (level_in_look before c)) → (c : ℕ) → level_in_look (set look (chan - 1) m.level) c ≡ level_placed (drop (i - 1) moves) c (level_in_look before c)

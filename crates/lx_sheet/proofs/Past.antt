@@ -1,12 +1,10 @@
 -- What is no channel of the show is at 0.
-use Rattle.std.proofs.Common.{◌≡◌, ℕ, ◌<◌, false, List, Some, None, refl, ◌∙◌, ap, zero, suc, arith}
+use Rattle.std.proofs.Common.{◌≡◌, ℕ, ◌<◌, List, Some, None, refl, ◌∙◌, ap, zero, suc, arith}
 use Rattle.std.specs.Prelude.{Option, IfSome, reverse, nat_le, ◌==◌, ◌&&◌}
 use Rattle.std.specs.Option.{option_map_or}
-use Rattle.std.proofs.lemmas.Bool.Decides.{nat_tests}
 use Rattle.lx_spec.specs.declared.Move.{Move}
 use Rattle.lx_spec.specs.Show.{Cue, Show, Valid, ValidCue}
 use Rattle.lx_spec.specs.TrackedLevel.{decides, level_in, move_in, tracked}
-use Rattle.lx_show.proofs.SortedLists.{all_reverse, each, found_has, find_none}
 use Rattle.lx_sheet.specs.declared.sheet.Place.{Place}
 use Rattle.lx_sheet.specs.Rows.{level_of}
 use Rattle.lx_sheet.specs.Block.{cell, last_value}
@@ -14,13 +12,12 @@ use Rattle.lx_sheet.proofs.Cells.{cell_past}
 use Rattle.lx_sheet.proofs.Rows.{count_up_to, sheet_of, level_of_block}
 use Rattle.lx_spec.specs.SortedList.{IsStrictlySorted}
 use Rattle.std.specs.Prelude.{map}
-
-other_number : (a n : ℕ) → a < n → (a == n) ≡ false
-other_number a n less = grind (arith, nat_tests)
+use Rattle.lx_spec.proofs.Comparisons.{eq_below}
+use Rattle.lx_spec.proofs.Lists.{all_reverse, each, find_none, found_has}
 
 no_level : (channels c : ℕ) (cue : Cue) → channels < c → ValidCue channels cue → level_in cue c ≡ 0
 no_level channels c cue past valid =
-    let none : move_in cue c ≡ None = find_none (λ m. m.chan == c) cue.moves (each _ _ cue.moves (λ m h. other_number m.chan c (omega (arith, h.chan.most))) valid.moves) in
+    let none : move_in cue c ≡ None = find_none (λ m. m.chan == c) cue.moves (each _ _ cue.moves (λ m h. eq_below m.chan c (omega (arith, h.chan.most))) valid.moves) in
     ap (λ (o : Option Move). option_map_or (λ m. m.level) o 0) none
 
 no_level_found : (channels c : ℕ) (o : Option Cue) → channels < c → IfSome o (ValidCue channels) → option_map_or (λ cue. level_in cue c) o 0 ≡ 0

@@ -4,21 +4,14 @@ use Rattle.std.specs.Prelude.{Option, find, reverse, nat_le, slice_get}
 use Rattle.std.specs.Option.{option_map_or}
 use Rattle.std.specs.List.{AllByRecursion}
 use Rattle.std.proofs.lemmas.Bool.{cases_lt}
-use Rattle.std.proofs.lemmas.Bool.Decides.{nat_tests}
 use Rattle.std.proofs.lemmas.List.{drop-drop, length-map}
 use Rattle.lx_spec.specs.SortedList.{IsStrictlySorted}
 use Rattle.lx_show.specs.Around.{entries_up_to}
-use Rattle.lx_show.proofs.Finding.{find_last}
-use Rattle.lx_show.proofs.SortedLists.{each, filter_none, shorter}
 use Rattle.lx_sheet.specs.declared.sheet.Place.{Place}
 use Rattle.lx_sheet.specs.Rows.{Row, Sheet, level_of, level_in_row}
 use Rattle.lx_sheet.specs.Block.{rows_of, cell, last_value}
-
-pub le_true : (a b : ℕ) → a ≤ b → nat_le a b ≡ true
-le_true a b h = grind (arith, nat_tests)
-
-pub le_false : (a b : ℕ) → b < a → nat_le a b ≡ false
-le_false a b h = grind (arith, nat_tests)
+use Rattle.lx_spec.proofs.Comparisons.{le_false, le_true}
+use Rattle.lx_spec.proofs.Lists.{each, filter_none, find_last, shorter}
 
 -- how many of the numbers are up to this one
 abbrev pub count_up_to : ℕ → List ℕ → ℕ

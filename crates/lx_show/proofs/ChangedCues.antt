@@ -8,9 +8,8 @@ use Rattle.lx_spec.specs.declared.Member.{Member}
 use Rattle.lx_spec.specs.declared.Part.{Part}
 use Rattle.lx_spec.specs.SortedList.{IsStrictlySorted, placed}
 use Rattle.lx_spec.specs.Show.{Cue, Group, Sub, ValidCue, ValidGroup, ValidSub, ValidPart, ValidMove, ValidMember, ValidMembers, InRange, IsTime, IsLabel}
-use Rattle.lx_show.proofs.SortedLists.{IsStrictlySorted-placed, each}
-use Rattle.lx_show.proofs.Placed.{has_placed}
-use Rattle.lx_show.proofs.ValidShows.{all_placed}
+use Rattle.lx_spec.proofs.Lists.{each}
+use Rattle.lx_spec.proofs.SortedLists.{All-placed, IsStrictlySorted-placed, has_placed}
 
 -- other settings: block flag, follow, link and label
 pub with_settings : (channels : ℕ) (cue : Cue) (block : Bool) (follow link : Option ℕ) (label : List ℕ) → ValidCue channels cue → IfSome follow IsTime → IfSome link (InRange CUE_MAX) → IsLabel label → ValidCue channels (record cue { block = block; follow = follow; link = link; label = label })
@@ -42,7 +41,7 @@ with_other_moves channels cue moves valid all sorted = record {
 
 -- a move placed
 pub with_move : (channels : ℕ) (cue : Cue) (m : Move) → ValidCue channels cue → ValidMove channels cue.parts m → ValidCue channels (record cue { moves = placed (λ x. x.chan) m cue.moves })
-with_move channels cue m valid here = with_other_moves channels cue (placed (λ x. x.chan) m cue.moves) valid (all_placed _ _ m cue.moves here valid.moves) (IsStrictlySorted-placed _ m cue.moves valid.moves_sorted)
+with_move channels cue m valid here = with_other_moves channels cue (placed (λ x. x.chan) m cue.moves) valid (All-placed _ _ m cue.moves here valid.moves) (IsStrictlySorted-placed _ m cue.moves valid.moves_sorted)
 
 -- a part placed
 pub with_placed_part : (channels : ℕ) (cue : Cue) (part : Part) → ValidCue channels cue → ValidPart part → ValidCue channels (record cue { parts = placed (λ p. p.number) part cue.parts })
@@ -52,7 +51,7 @@ with_placed_part channels cue part valid here = record {
   link = valid.link;
   label = valid.label;
   first_part = has_placed (λ p. p.number) 1 part cue.parts valid.first_part;
-  parts = all_placed _ _ part cue.parts here valid.parts;
+  parts = All-placed _ _ part cue.parts here valid.parts;
   parts_sorted = IsStrictlySorted-placed _ part cue.parts valid.parts_sorted;
   moves = each _ _ cue.moves (λ m h. record { chan = h.chan; part = has_placed (λ p. p.number) m.part part cue.parts h.part; level = h.level }) valid.moves;
   moves_sorted = valid.moves_sorted;
@@ -60,7 +59,7 @@ with_placed_part channels cue part valid here = record {
 
 -- a member placed
 pub with_member : (channels : ℕ) (m : Member) (members : List Member) → ValidMembers channels members → ValidMember channels m → ValidMembers channels (placed (λ x. x.chan) m members)
-with_member channels m members valid here = record { each = all_placed _ _ m members here valid.each; sorted = IsStrictlySorted-placed _ m members valid.sorted }
+with_member channels m members valid here = record { each = All-placed _ _ m members here valid.each; sorted = IsStrictlySorted-placed _ m members valid.sorted }
 
 pub with_members : (channels : ℕ) (group : Group) (members : List Member) → ValidGroup channels group → ValidMembers channels members → ValidGroup channels (record group { members = members })
 with_members channels group members valid all = record { number = valid.number; label = valid.label; members = all }

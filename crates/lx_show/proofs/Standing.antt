@@ -8,7 +8,8 @@ use Rattle.lx_spec.specs.SortedList.{entry_at}
 use Rattle.lx_show.specs.Indexes.{StandsAt}
 use Rattle.lx_spec.specs.Show.{Cue, Group, Sub, Show, ValidCue, ValidGroup, ValidSub}
 use Rattle.lx_show.specs.Stored.{IsStored}
-use Rattle.lx_show.proofs.SortedLists.{stands_entry, found_number, found_valid}
+use Rattle.lx_show.proofs.Indexes.{stands_entry}
+use Rattle.lx_spec.proofs.SortedLists.{found_number, found_valid}
 
 -- the entry of a number, as it is found at its place
 pub record Stands {A : Type 0} (P : A → Type 0) (key : A → ℕ) (n : ℕ) (xs : List A) (at : ℕ) (x : A) : Type 0 where

@@ -13,9 +13,11 @@ use Rattle.lx_show.specs.Indexes.{StandsAt}
 use Rattle.lx_spec.specs.Show.{Cue, Group, Sub, Show, Valid, ValidCue, ValidGroup, ValidSub, ValidPatchRow}
 use Rattle.lx_show.specs.Stored.{IsStored}
 use Rattle.lx_show.specs.Changed.{changed}
-use Rattle.lx_show.proofs.SortedLists.{kept_by, shorter, each, few_in_range, IsStrictlySorted-placed, replaced, sorted_replaced, changed_there, lt_from}
-use Rattle.lx_show.proofs.Placed.{length-placed, length-placed_there}
-use Rattle.lx_show.proofs.ValidShows.{all_placed, with_cues, with_groups, with_subs, with_patch}
+use Rattle.lx_show.proofs.Indexes.{replaced, sorted_replaced, changed_there}
+use Rattle.lx_show.proofs.ValidShows.{with_cues, with_groups, with_subs, with_patch}
+use Rattle.lx_spec.proofs.Comparisons.{lt_from}
+use Rattle.lx_spec.proofs.Lists.{each, kept_by, shorter}
+use Rattle.lx_spec.proofs.SortedLists.{All-placed, IsStrictlySorted-placed, few_in_range, length-placed, length-placed_there}
 
 stored_cues : (show : Show) (new : List Cue) (a b c d e : ℕ) → IsStored show a b c d → e ≡ a → AllByRecursion (ValidCue show.channels) new → IsStrictlySorted (λ cue. cue.number) new → length new ≤ CUES → IsStored (record show { cues = new }) e b c d
 stored_cues show new a b c d e stored same all sorted few = record {
@@ -77,21 +79,21 @@ pub stored_put_cue : (show seen : Show) (cue : Cue) (new : List Cue) (a b c d e 
 stored_put_cue show seen cue new a b c d e stored view same valid room placed_is sorted =
     let here : ValidCue show.channels cue = subst (λ (s : Show). ValidCue s.channels cue) (sym view) valid in
     let less : length new ≤ CUES = omega (arith, ap length placed_is, few_placed show seen cue stored.valid view room) in
-    stored_cues show new a b c d e stored same (subst (AllByRecursion (ValidCue show.channels)) (sym placed_is) (all_placed _ _ cue show.cues here stored.valid.cues)) sorted less
+    stored_cues show new a b c d e stored same (subst (AllByRecursion (ValidCue show.channels)) (sym placed_is) (All-placed _ _ cue show.cues here stored.valid.cues)) sorted less
 
 pub stored_put_group : (show seen : Show) (group : Group) (new : List Group) (a b c d e : ℕ) → IsStored show a b c d → show ≡ seen → e ≡ b → ValidGroup seen.channels group → new ≡ placed (λ x. x.number) group show.groups → IsStrictlySorted (λ x. x.number) new → IsStored (record show { groups = new }) a e c d
 stored_put_group show seen group new a b c d e stored view same valid placed_is sorted =
     let here : ValidGroup show.channels group = subst (λ (s : Show). ValidGroup s.channels group) (sym view) valid in
-    stored_groups show new a b c d e stored same (subst (AllByRecursion (ValidGroup show.channels)) (sym placed_is) (all_placed _ _ group show.groups here stored.valid.groups)) sorted
+    stored_groups show new a b c d e stored same (subst (AllByRecursion (ValidGroup show.channels)) (sym placed_is) (All-placed _ _ group show.groups here stored.valid.groups)) sorted
 
 pub stored_put_sub : (show seen : Show) (sub : Sub) (new : List Sub) (a b c d e : ℕ) → IsStored show a b c d → show ≡ seen → e ≡ c → ValidSub seen.channels sub → new ≡ placed (λ x. x.number) sub show.subs → IsStrictlySorted (λ x. x.number) new → IsStored (record show { subs = new }) a b e d
 stored_put_sub show seen sub new a b c d e stored view same valid placed_is sorted =
     let here : ValidSub show.channels sub = subst (λ (s : Show). ValidSub s.channels sub) (sym view) valid in
-    stored_subs show new a b c d e stored same (subst (AllByRecursion (ValidSub show.channels)) (sym placed_is) (all_placed _ _ sub show.subs here stored.valid.subs)) sorted
+    stored_subs show new a b c d e stored same (subst (AllByRecursion (ValidSub show.channels)) (sym placed_is) (All-placed _ _ sub show.subs here stored.valid.subs)) sorted
 
 pub stored_put_row : (show : Show) (row : PatchRow) (new : List PatchRow) (a b c d e : ℕ) → IsStored show a b c d → e ≡ d → ValidPatchRow show.channels row → new ≡ placed (λ x. x.dimmer) row show.patch → IsStrictlySorted (λ x. x.dimmer) new → IsStored (record show { patch = new }) a b c e
 stored_put_row show row new a b c d e stored same here placed_is sorted =
-    stored_patch show new a b c d e stored same (subst (AllByRecursion (ValidPatchRow show.channels)) (sym placed_is) (all_placed _ _ row show.patch here stored.valid.patch)) sorted
+    stored_patch show new a b c d e stored same (subst (AllByRecursion (ValidPatchRow show.channels)) (sym placed_is) (All-placed _ _ row show.patch here stored.valid.patch)) sorted
 
 -- there are no more entries than numbers
 pub few_groups : (show : Show) → Valid show → length show.groups ≤ GROUPS
@@ -106,17 +108,17 @@ few_rows show valid = few_in_range (λ x. x.dimmer) DIMMERS show.patch valid.pat
 -- there is room for each number
 pub room_for_group : (show : Show) (group : Group) (a b c d : ℕ) → IsStored show a b c d → ValidGroup show.channels group → length (placed (λ x. x.number) group show.groups) ≤ b
 room_for_group show group a b c d stored here =
-    let few : length (placed (λ x. x.number) group show.groups) ≤ GROUPS = few_in_range (λ x. x.number) GROUPS (placed (λ x. x.number) group show.groups) (IsStrictlySorted-placed _ group show.groups stored.valid.groups_sorted) (all_placed _ _ group show.groups here.number (each _ _ show.groups (λ x h. h.number) stored.valid.groups)) in
+    let few : length (placed (λ x. x.number) group show.groups) ≤ GROUPS = few_in_range (λ x. x.number) GROUPS (placed (λ x. x.number) group show.groups) (IsStrictlySorted-placed _ group show.groups stored.valid.groups_sorted) (All-placed _ _ group show.groups here.number (each _ _ show.groups (λ x h. h.number) stored.valid.groups)) in
     omega (arith, stored.group_room)
 
 pub room_for_sub : (show : Show) (sub : Sub) (a b c d : ℕ) → IsStored show a b c d → ValidSub show.channels sub → length (placed (λ x. x.number) sub show.subs) ≤ c
 room_for_sub show sub a b c d stored here =
-    let few : length (placed (λ x. x.number) sub show.subs) ≤ SUBS = few_in_range (λ x. x.number) SUBS (placed (λ x. x.number) sub show.subs) (IsStrictlySorted-placed _ sub show.subs stored.valid.subs_sorted) (all_placed _ _ sub show.subs here.number (each _ _ show.subs (λ x h. h.number) stored.valid.subs)) in
+    let few : length (placed (λ x. x.number) sub show.subs) ≤ SUBS = few_in_range (λ x. x.number) SUBS (placed (λ x. x.number) sub show.subs) (IsStrictlySorted-placed _ sub show.subs stored.valid.subs_sorted) (All-placed _ _ sub show.subs here.number (each _ _ show.subs (λ x h. h.number) stored.valid.subs)) in
     omega (arith, stored.sub_room)
 
 pub room_for_row : (show : Show) (row : PatchRow) (a b c d : ℕ) → IsStored show a b c d → ValidPatchRow show.channels row → length (placed (λ x. x.dimmer) row show.patch) ≤ d
 room_for_row show row a b c d stored here =
-    let few : length (placed (λ x. x.dimmer) row show.patch) ≤ DIMMERS = few_in_range (λ x. x.dimmer) DIMMERS (placed (λ x. x.dimmer) row show.patch) (IsStrictlySorted-placed _ row show.patch stored.valid.patch_sorted) (all_placed _ _ row show.patch here.dimmer (each _ _ show.patch (λ x h. h.dimmer) stored.valid.patch)) in
+    let few : length (placed (λ x. x.dimmer) row show.patch) ≤ DIMMERS = few_in_range (λ x. x.dimmer) DIMMERS (placed (λ x. x.dimmer) row show.patch) (IsStrictlySorted-placed _ row show.patch stored.valid.patch_sorted) (All-placed _ _ row show.patch here.dimmer (each _ _ show.patch (λ x h. h.dimmer) stored.valid.patch)) in
     omega (arith, stored.patch_room)
 
 -- Taken out.
@@ -132,15 +134,15 @@ stored_take_row show n new a b c d e stored same taken sorted =
 -- Changed in its place.
 pub stored_changed_cue : (show : Show) (n at : ℕ) (ys : List Cue) (new : Cue) (a b c d : ℕ) → IsStored show a b c d → ys ≡ show.cues → StandsAt (λ x. x.number) n ys at → n ≡ new.number → ValidCue show.channels new → IsStored (record show { cues = set show.cues at new }) a b c d
 stored_changed_cue show n at ys new a b c d stored same stands number valid =
-    stored_cues show (set show.cues at new) a b c d a stored refl (subst (AllByRecursion (ValidCue show.channels)) (sym (replaced _ n ys show.cues new at number same stands)) (all_placed _ _ new show.cues valid stored.valid.cues)) (sorted_replaced _ n ys show.cues new at number same stands stored.valid.cues_sorted) (omega (arith, length-set show.cues at new, stored.valid.few_cues))
+    stored_cues show (set show.cues at new) a b c d a stored refl (subst (AllByRecursion (ValidCue show.channels)) (sym (replaced _ n ys show.cues new at number same stands)) (All-placed _ _ new show.cues valid stored.valid.cues)) (sorted_replaced _ n ys show.cues new at number same stands stored.valid.cues_sorted) (omega (arith, length-set show.cues at new, stored.valid.few_cues))
 
 pub stored_changed_group : (show : Show) (n at : ℕ) (ys : List Group) (new : Group) (a b c d : ℕ) → IsStored show a b c d → ys ≡ show.groups → StandsAt (λ x. x.number) n ys at → n ≡ new.number → ValidGroup show.channels new → IsStored (record show { groups = set show.groups at new }) a b c d
 stored_changed_group show n at ys new a b c d stored same stands number valid =
-    stored_groups show (set show.groups at new) a b c d b stored refl (subst (AllByRecursion (ValidGroup show.channels)) (sym (replaced _ n ys show.groups new at number same stands)) (all_placed _ _ new show.groups valid stored.valid.groups)) (sorted_replaced _ n ys show.groups new at number same stands stored.valid.groups_sorted)
+    stored_groups show (set show.groups at new) a b c d b stored refl (subst (AllByRecursion (ValidGroup show.channels)) (sym (replaced _ n ys show.groups new at number same stands)) (All-placed _ _ new show.groups valid stored.valid.groups)) (sorted_replaced _ n ys show.groups new at number same stands stored.valid.groups_sorted)
 
 pub stored_changed_sub : (show : Show) (n at : ℕ) (ys : List Sub) (new : Sub) (a b c d : ℕ) → IsStored show a b c d → ys ≡ show.subs → StandsAt (λ x. x.number) n ys at → n ≡ new.number → ValidSub show.channels new → IsStored (record show { subs = set show.subs at new }) a b c d
 stored_changed_sub show n at ys new a b c d stored same stands number valid =
-    stored_subs show (set show.subs at new) a b c d c stored refl (subst (AllByRecursion (ValidSub show.channels)) (sym (replaced _ n ys show.subs new at number same stands)) (all_placed _ _ new show.subs valid stored.valid.subs)) (sorted_replaced _ n ys show.subs new at number same stands stored.valid.subs_sorted)
+    stored_subs show (set show.subs at new) a b c d c stored refl (subst (AllByRecursion (ValidSub show.channels)) (sym (replaced _ n ys show.subs new at number same stands)) (All-placed _ _ new show.subs valid stored.valid.subs)) (sorted_replaced _ n ys show.subs new at number same stands stored.valid.subs_sorted)
 
 -- and that is the show with the entry of the number changed
 pub cue_changed : (show seen : Show) (n m at : ℕ) (ys : List Cue) (cue : Cue) (change : Cue → Cue) → show ≡ seen → n ≡ m → ys ≡ show.cues → StandsAt (λ x. x.number) n ys at → cue ≡ get_or show.cues at cue → (change cue).number ≡ cue.number → record show { cues = set show.cues at (change cue) } ≡ record seen { cues = changed (λ x. x.number) m change seen.cues }

@@ -25,8 +25,7 @@ impl Show {
         requires { IsTrue (has_entry (λ x. x.number) n self.old.cues) }
         ensures { self.new ≡ record self.old { cues = changed (λ x. x.number) n (λ cue. record cue { block = block }) self.old.cues } }
     {
-        let at = find_near(self.cues.as_slice(), self.recent, n.get());
-        self.recent = at;
+        let at = find_near(self.cues.as_slice(), &mut self.recent, n.get());
         let cue = &mut self.cues[at];
         cue.block = block;
     }
@@ -37,8 +36,7 @@ impl Show {
         requires time { IfSome follow IsTime }
         ensures { self.new ≡ record self.old { cues = changed (λ x. x.number) n (λ cue. record cue { follow = follow }) self.old.cues } }
     {
-        let at = find_near(self.cues.as_slice(), self.recent, n.get());
-        self.recent = at;
+        let at = find_near(self.cues.as_slice(), &mut self.recent, n.get());
         let cue = &mut self.cues[at];
         cue.follow = follow;
     }
@@ -49,9 +47,9 @@ impl Show {
         requires number { 1 ≤ link }
         ensures { self.new ≡ record self.old { cues = changed (λ x. x.number) n (λ cue. record cue { link = Some link }) self.old.cues } }
     {
+        // For its proof alone: the range of the number.
         let _ = link.get();
-        let at = find_near(self.cues.as_slice(), self.recent, n.get());
-        self.recent = at;
+        let at = find_near(self.cues.as_slice(), &mut self.recent, n.get());
         let cue = &mut self.cues[at];
         cue.link = Some(link);
     }
@@ -62,8 +60,7 @@ impl Show {
         ensures { self.new ≡ record self.old { cues = changed (λ x. x.number) n (λ cue. record cue { label = label }) self.old.cues } }
     {
         facts::of_label(&label);
-        let at = find_near(self.cues.as_slice(), self.recent, n.get());
-        self.recent = at;
+        let at = find_near(self.cues.as_slice(), &mut self.recent, n.get());
         let cue = &mut self.cues[at];
         cue.label = label;
     }
@@ -74,8 +71,7 @@ impl Show {
         requires part { ValidPart part }
         ensures { self.new ≡ record self.old { cues = changed (λ x. x.number) n (λ cue. record cue { parts = placed (λ p. p.number) part cue.parts }) self.old.cues } }
     {
-        let at = find_near(self.cues.as_slice(), self.recent, n.get());
-        self.recent = at;
+        let at = find_near(self.cues.as_slice(), &mut self.recent, n.get());
         let cue = &mut self.cues[at];
         place_part(&mut cue.parts, part);
     }
@@ -89,8 +85,7 @@ impl Show {
         ensures err { OnErr result (self.new ≡ self.old) }
     {
         facts::of_move(&entry);
-        let at = find_near(self.cues.as_slice(), self.recent, n.get());
-        self.recent = at;
+        let at = find_near(self.cues.as_slice(), &mut self.recent, n.get());
         let cue = &mut self.cues[at];
         cue.moves.put(entry)
     }
@@ -102,9 +97,9 @@ impl Show {
         ensures before { IsSomeAnd (cue_of self.old n) (λ cue. result ≡ cue.moves) }
         ensures after { self.new ≡ record self.old { cues = changed (λ x. x.number) n (λ cue. record cue { moves = moves }) self.old.cues } }
     {
+        // For its proof alone: the moves are sorted.
         let _ = moves.as_slice();
-        let at = find_near(self.cues.as_slice(), self.recent, n.get());
-        self.recent = at;
+        let at = find_near(self.cues.as_slice(), &mut self.recent, n.get());
         let cue = &mut self.cues[at];
         mem::replace(&mut cue.moves, moves)
     }
@@ -117,8 +112,7 @@ impl Show {
         ensures { self.new ≡ record self.old { groups = changed (λ x. x.number) g (λ group. record group { label = label }) self.old.groups } }
     {
         facts::of_label(&label);
-        let at = find_near(self.groups.as_slice(), self.recent, g.get());
-        self.recent = at;
+        let at = find_near(self.groups.as_slice(), &mut self.recent, g.get());
         let group = &mut self.groups[at];
         group.label = label;
     }
@@ -132,8 +126,7 @@ impl Show {
         ensures err { OnErr result (self.new ≡ self.old) }
     {
         facts::of_member(&entry);
-        let at = find_near(self.groups.as_slice(), self.recent, g.get());
-        self.recent = at;
+        let at = find_near(self.groups.as_slice(), &mut self.recent, g.get());
         let group = &mut self.groups[at];
         group.members.put(entry)
     }
@@ -146,8 +139,7 @@ impl Show {
         ensures { self.new ≡ record self.old { subs = changed (λ x. x.number) s (λ sub. record sub { label = label }) self.old.subs } }
     {
         facts::of_label(&label);
-        let at = find_near(self.subs.as_slice(), self.recent, s.get());
-        self.recent = at;
+        let at = find_near(self.subs.as_slice(), &mut self.recent, s.get());
         let sub = &mut self.subs[at];
         sub.label = label;
     }
@@ -161,8 +153,7 @@ impl Show {
         ensures err { OnErr result (self.new ≡ self.old) }
     {
         facts::of_member(&entry);
-        let at = find_near(self.subs.as_slice(), self.recent, s.get());
-        self.recent = at;
+        let at = find_near(self.subs.as_slice(), &mut self.recent, s.get());
         let sub = &mut self.subs[at];
         sub.members.put(entry)
     }

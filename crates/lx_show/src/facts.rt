@@ -1,9 +1,10 @@
-//! What the types of a show's plain data keep, as facts for proofs. These calls do nothing.
+//! What the types of a show's plain data keep, as facts. These calls do nothing, and stand for proofs alone:
+//! a proof about a value that was handed in begins with the facts of its type.
 
 ghost use Rattle.lx_spec.specs.Show.{InRange, IsLabel, IsLevel};
 
-use lx_base::{CHANNELS, DIMMERS, PARTS};
-use lx_spec::{Label, Member, Move, Part, PatchRow};
+use lx_base::{CHANNELS, DIMMERS};
+use lx_spec::{Label, Member, Move, PatchRow};
 
 /// A move's channel is at least 1, and its level at most 255.
 pub fn of_move(entry: &Move)
@@ -32,13 +33,6 @@ pub fn of_row(row: &PatchRow)
     let _ = row.dimmer.get();
     let _ = row.chan.get();
     let _level = row.level;
-}
-
-/// A part's number is from 1 to 9.
-pub fn of_part(part: &Part)
-    ensures { InRange PARTS part.now.number }
-{
-    let _ = part.number.get();
 }
 
 /// A label is made as labels are.

@@ -7,9 +7,8 @@ ghost use Rattle.lx_spec.specs.Show.{ValidCue, ValidGroup, ValidSub, ValidPatchR
 ghost use Rattle.lx_spec.specs.TrackedLevel.{cue_of, decides, move_of, tracked, deciding_cue, cue_above, cue_below, next_cue, cue_before};
 
 use crate::cue::Cue;
-use crate::group::Group;
+use crate::members::{Group, Sub};
 use crate::show::Show;
-use crate::sub::Sub;
 use crate::{around, sorted};
 use lx_base::{Chan, CueNo, Dimmer, GroupNo, Level, SubNo};
 use lx_spec::{Move, PatchRow};

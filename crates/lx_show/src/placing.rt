@@ -7,9 +7,8 @@ ghost use Rattle.lx_spec.specs.Show.{ValidCue, ValidGroup, ValidSub};
 ghost use Rattle.lx_spec.specs.TrackedLevel.{cue_of};
 
 use crate::cue::Cue;
-use crate::group::Group;
+use crate::members::{Group, Sub};
 use crate::show::Show;
-use crate::sub::Sub;
 use crate::{facts, sorted};
 use lx_base::{CUES, CueNo, Dimmer};
 use lx_spec::PatchRow;

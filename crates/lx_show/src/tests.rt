@@ -166,8 +166,10 @@ fn a_cue_is_changed_where_it_stands(rt: HostRuntime) -> Result<(), Fail> {
     if show.cue(three).is_some() {
         show.set_label(three, Label::new(b"Night".as_slice()));
     }
-    if show.cue(three).is_some() {
-        show.put_part_in(three, new_part(PartNo::new(2).ok_or("no part 2")?));
+    for p in 2..10 {
+        if show.cue(three).is_some() {
+            show.put_part_in(three, new_part(PartNo::new(p).ok_or("no such part")?));
+        }
     }
     assert_eq!(rt;
         show.move_of(three, seven).map(|entry| entry.level),
@@ -179,7 +181,28 @@ fn a_cue_is_changed_where_it_stands(rt: HostRuntime) -> Result<(), Fail> {
     assert_eq!(rt; cue.follow, Some(250));
     assert_eq!(rt; cue.link, Some(one));
     assert_eq!(rt; cue.label.as_slice(), b"Night".as_slice());
-    assert_eq!(rt; cue.parts.len(), 2);
+    assert_eq!(rt; cue.parts.len(), 9);
+    Ok(())
+}
+
+#[test]
+fn a_label_and_a_follow_are_taken_away(rt: HostRuntime) -> Result<(), Fail> {
+    let mut show = two_cues(rt.alloc())?;
+    let one = CueNo::new(CUE_UNIT).ok_or("no cue 1")?;
+    for given in [true, false] {
+        let label = if given {
+            Label::new(b"Night".as_slice())
+        } else {
+            Label::none()
+        };
+        if show.cue(one).is_some() {
+            show.set_label(one, label);
+            show.set_follow(one, if given { Some(250) } else { None });
+        }
+        let cue = show.cue(one).ok_or("no cue 1")?;
+        assert_eq!(rt; cue.label.as_slice().len(), if given { 5 } else { 0 });
+        assert_eq!(rt; cue.follow.is_some(), given);
+    }
     Ok(())
 }
 
@@ -219,6 +242,45 @@ fn groups_and_submasters_keep_their_members(rt: HostRuntime) -> Result<(), Fail>
         [Member { chan, level: 20 }].as_slice()
     );
     assert_eq!(rt; sub.copy()?.label.as_slice(), b"Front".as_slice());
+    Ok(())
+}
+
+/// The label of a group or submaster in a show that has them all.
+fn name_of(number: u32) -> Label {
+    Label::new(&[b'A' + (number % 26) as u8])
+}
+
+#[test]
+fn every_group_has_its_label(rt: HostRuntime) -> Result<(), Fail> {
+    let mut show = Show::new(rt.alloc(), 1)?;
+    for number in 1..1_000 {
+        let g = GroupNo::new(number).ok_or("no such group")?;
+        show.put_group(Group::new(rt.alloc(), g));
+        if show.group(g).is_some() {
+            show.set_group_label(g, name_of(number));
+        }
+    }
+    assert_eq!(rt; show.groups().len(), 999);
+    for group in show.groups() {
+        assert!(rt; group.label == name_of(group.number.get()));
+    }
+    Ok(())
+}
+
+#[test]
+fn every_submaster_has_its_label(rt: HostRuntime) -> Result<(), Fail> {
+    let mut show = Show::new(rt.alloc(), 1)?;
+    for number in 1..97 {
+        let s = SubNo::new(number).ok_or("no such submaster")?;
+        show.put_sub(Sub::new(rt.alloc(), s));
+        if show.sub(s).is_some() {
+            show.set_sub_label(s, name_of(number));
+        }
+    }
+    assert_eq!(rt; show.subs().len(), 96);
+    for sub in show.subs() {
+        assert!(rt; sub.label == name_of(sub.number.get()));
+    }
     Ok(())
 }
 

@@ -12,7 +12,7 @@ use Rattle.lx_base.specs.Numbers.{scaled}
 use Rattle.lx_spec.specs.declared.Member.{Member}
 use Rattle.lx_spec.specs.SortedList.{IsStrictlySorted, entry_at}
 use Rattle.lx_spec.specs.Show.{ValidMember}
-use Rattle.lx_show.proofs.SortedLists.{stands_where}
+use Rattle.lx_show.proofs.Indexes.{stands_where}
 use Rattle.lx_spec.specs.Output.{level_among}
 use Rattle.lx_spec.proofs.Comparisons.{eq_other, eq_true, lt_from}
 use Rattle.lx_spec.proofs.Lists.{each, find_none, or_none, passes}

@@ -1,9 +1,8 @@
 use Rattle.std.proofs.Common.{◌≡◌, ℕ, List, Some, ap, sym, subst}
 use Rattle.lx_spec.specs.Show.{Cue}
 use Rattle.lx_spec.specs.SortedList.{entry_at}
-use Rattle.lx_show.proofs.SortedLists.{found_number}
-use Rattle.lx_show.proofs.Placed.{placed_same}
 use Rattle.lx_edit.proofs.absent.the_cue.Goals as goal
+use Rattle.lx_spec.proofs.SortedLists.{found_number, placed_same}
 
 pub returns-in-Some : goal.returns-in-Some
 returns-in-Some c =

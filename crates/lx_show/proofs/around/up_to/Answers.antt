@@ -1,4 +1,4 @@
-use Rattle.lx_show.proofs.SortedLists.{up_to_there, up_to_absent}
+use Rattle.lx_show.proofs.Indexes.{up_to_there, up_to_absent}
 use Rattle.lx_show.proofs.around.up_to.Goals as goal
 
 pub returns-in-Ok : goal.returns-in-Ok

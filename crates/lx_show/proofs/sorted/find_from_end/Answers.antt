@@ -1,5 +1,5 @@
 use Rattle.std.proofs.Common.{◌<◌, subst}
-use Rattle.lx_show.proofs.SortedLists.{goes_last}
+use Rattle.lx_show.proofs.Indexes.{goes_last}
 use Rattle.lx_show.proofs.sorted.find_from_end.Goals as goal
 
 pub returns-then-key-n-clause-goes : goal.returns-then-key-n-clause-goes

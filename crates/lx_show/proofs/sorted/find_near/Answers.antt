@@ -1,5 +1,5 @@
 use Rattle.std.proofs.Common.{◌∙◌, sym}
-use Rattle.lx_show.proofs.SortedLists.{stands_where}
+use Rattle.lx_show.proofs.Indexes.{stands_where}
 use Rattle.lx_show.proofs.sorted.find_near.Goals as goal
 
 pub returns-then-key-n : goal.returns-then-key-n

@@ -1,5 +1,5 @@
 use Rattle.std.proofs.Common.{subst, sym}
-use Rattle.lx_show.proofs.SortedLists.{replaced, sorted_replaced, sorted_added}
+use Rattle.lx_show.proofs.Indexes.{replaced, sorted_replaced, sorted_added}
 use Rattle.lx_spec.specs.SortedList.{IsStrictlySorted}
 use Rattle.lx_show.proofs.sorted.put_in_room.Goals as goal
 

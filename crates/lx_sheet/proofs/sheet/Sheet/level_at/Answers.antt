@@ -1,6 +1,5 @@
 use Rattle.std.proofs.Common.{◌≡◌, ℕ, ◌+◌, ◌-◌, ◌<◌, List, length, map, ap, sym, ◌∙◌, arith}
 use Rattle.lx_show.specs.Around.{entries_up_to}
-use Rattle.lx_show.proofs.SortedLists.{shorter}
 use Rattle.std.specs.Prelude.{nat_le}
 use Rattle.lx_sheet.specs.declared.sheet.Place.{Place}
 use Rattle.lx_sheet.specs.Rows.{Sheet, level_of}
@@ -8,6 +7,7 @@ use Rattle.lx_sheet.specs.Block.{cell, last_value}
 use Rattle.lx_sheet.proofs.Past.{level_of_past}
 use Rattle.lx_sheet.proofs.Rows.{count_up_to, count_up_to-map, level_of_block}
 use Rattle.lx_sheet.proofs.sheet.Sheet.level_at.Goals as goal
+use Rattle.lx_spec.proofs.Lists.{shorter}
 
 pub returns-then-at-self-clause-level : goal.returns-then-at-self-clause-level
 returns-then-at-self-clause-level c =

@@ -4,8 +4,8 @@ use Rattle.std.specs.Prelude.{◌==◌}
 use Rattle.lx_spec.specs.declared.Move.{Move}
 use Rattle.lx_spec.specs.SortedList.{IsStrictlySorted}
 use Rattle.lx_spec.specs.EditedShow.{out_of_part}
-use Rattle.lx_show.proofs.SortedLists.{IsStrictlySorted-map}
 use Rattle.lx_show.proofs.moves.SortedList+Move.leave_part.Goals as goal
+use Rattle.lx_spec.proofs.SortedLists.{IsStrictlySorted-map}
 
 same_channel : (p : ℕ) (m : Move) → (out_of_part p m).chan ≡ m.chan
 same_channel p m = elim (m.part == p) as (λ b. (cond b (record m { part = 1 }) m).chan ≡ m.chan) [ true ↦ refl | false ↦ refl ]

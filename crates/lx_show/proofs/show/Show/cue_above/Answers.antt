@@ -4,9 +4,8 @@ use Rattle.std.specs.Option.{option_copied}
 use Rattle.std.specs.List.{AllByRecursion}
 use Rattle.lx_spec.specs.Show.{Cue, Show, ValidCue}
 use Rattle.lx_spec.specs.TrackedLevel.{cue_above}
-use Rattle.lx_show.proofs.Finding.{find_first}
-use Rattle.lx_show.proofs.SortedLists.{lent_has}
 use Rattle.lx_show.proofs.show.Show.cue_above.Goals as goal
+use Rattle.lx_spec.proofs.Lists.{find_first, lent_has}
 
 found : (c : goal.After-first) → option_copied c.first.result ≡ cue_above c.args.self.now c.args.n
 found c =

@@ -4,9 +4,8 @@ use Rattle.std.specs.Option.{option_copied}
 use Rattle.std.specs.List.{AllByRecursion}
 use Rattle.lx_spec.specs.Show.{Cue, Show, ValidCue}
 use Rattle.lx_spec.specs.TrackedLevel.{cue_below}
-use Rattle.lx_show.proofs.Finding.{find_last}
-use Rattle.lx_show.proofs.SortedLists.{lent_has, all_reverse}
 use Rattle.lx_show.proofs.show.Show.cue_below.Goals as goal
+use Rattle.lx_spec.proofs.Lists.{all_reverse, find_last, lent_has}
 
 found : (c : goal.After-last) → option_copied c.last.result ≡ cue_below c.args.self.now c.args.n
 found c =

@@ -3,8 +3,8 @@ use Rattle.std.specs.Prelude.{find, reverse}
 use Rattle.lx_spec.specs.Show.{Cue, Show}
 use Rattle.lx_spec.specs.TrackedLevel.{decides}
 use Rattle.std.specs.Prelude.{Bool, nat_le, ◌&&◌}
-use Rattle.lx_show.proofs.Finding.{find_both_last}
 use Rattle.lx_show.proofs.show.Show.deciding_cue.Goals as goal
+use Rattle.lx_spec.proofs.Lists.{find_both_last}
 
 pub returns : goal.returns
 returns c =
