@@ -111,7 +111,7 @@ fn take_after_note<G: Origin, R: Wait + Abort>(
 }
 
 /// So many masters are pressed after the first key: the nth command brings every patched slot to n modulo 256.
-const COMMITS: u32 = 4_000;
+const COMMITS: u32 = 2_000;
 
 #[test]
 fn two_taps_take_beside_a_gate(rt: HostRuntime) -> Result<(), Fail> {
