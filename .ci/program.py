@@ -151,6 +151,24 @@ def great_cases():
 
 
 # ---------------------------------------------------------------------------------------------------------------------
+# Kept levels: edits under running fades, and many runs for a long time.
+
+
+def kept_cases():
+    delayed = show("CUE 1\nUP 4 1\nCHAN 1@FL\n")
+    # 512 runs of a fade of 40 minutes: after 2,000 seconds it has gone 200,000 of 240,000 hundredths.
+    long = ("IDENT 3:0\nSET CHANNELS 2048\nPATCH 1 1<1@FL\nCUE 1\nUP 40:00\nCHAN 1@FL\nENDDATA\n" + "goto 1\n" * 512 + "tick 100000\nframe\n")
+    return [
+        Case("a cue is deleted while its fade is delayed", delayed + "go\ntick 25\ndelete 1\ntick 100\nframe\n", "ok\nok\nok\nok\nframe 250 1\n"),
+        Case("a level is set while it fades", delayed + "go\ntick 150\nset 1 chan 1 at H80\nframe\n", "ok\nok\nok\nframe 300 1 1=64\n"),
+        Case("a cue behind the position changes nothing", delayed + "go\ntick 150\ncue 0.5\nset 0.5 chan 1 at H64\nframe\n", "ok\nok\nok\nok\nframe 300 1 1=127\n"),
+        Case("512 runs of 2,048 channels for 100,000 ticks", long, "ok\n" * 513 + f"frame 200000 1 1={255 * 200000 // 240000}\n"),
+        Case("a follow-on fires and rests in one tick", show("CUE 1\n" + AT_ONCE + "FOLLOWON 0\nCUE 2\n" + AT_ONCE + "CHAN 1@FL\n") + "go\ntick\nframe\ngo\n",
+             "ok\nok\nframe 2 1 1=255\nrefused NoCueAfter 2\n"),
+    ]
+
+
+# ---------------------------------------------------------------------------------------------------------------------
 # Show texts: each word of a record with each of its tokens missing, of the wrong form and out of range.
 
 # The word, a line before it, its tokens, and for each token a text that hasn't the form and one out of range.
@@ -322,7 +340,7 @@ def main():
     parser.add_argument("--only", default="")
     given = parser.parse_args()
     program = os.path.abspath(given.program or built_program())
-    cases = edge_cases() + limit_cases() + great_cases() + reading_cases()
+    cases = edge_cases() + limit_cases() + great_cases() + kept_cases() + reading_cases()
     runs = [(case.name, lambda case=case: wrong_in(program, case)) for case in cases]
     runs += [(each.__name__.replace("_", " "), lambda each=each: each(program)) for each in TALKS]
     passed = failed = 0

@@ -12,8 +12,6 @@ mod senders;
 mod stamp;
 mod start;
 mod tap;
-#[cfg(test)]
-mod tests;
 mod unsent;
 mod version;
 

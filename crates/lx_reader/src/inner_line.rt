@@ -36,7 +36,8 @@ impl Reader {
         tokens: Tokens,
     ) -> Result<(), LineFault>
         requires { IsReady self.old i }
-        ensures { Outcome self.old self.new i result (inner_entry self.old.section (facts_of self.old i) line.now word (left tokens.entry)) }
+        ensures { Outcome self.old self.new i result
+            (inner_entry self.old.section (facts_of self.old i) line.now word (left tokens.entry)) }
     {
         let section = self.section;
         match section {
@@ -156,7 +157,10 @@ impl Reader {
     /// `TEXT` with a label
     fn label_line(&mut self, line: &[u8])
         requires { IsOpen self.old.show self.old.section self.old.part }
-        ensures { self.new ≡ record self.old { show = show_with (placed_at self.old (IsLabelled (label_of (rest_after line.now 1)))) self.old.show } }
+        ensures { self.new ≡ record self.old {
+          show = show_with
+              (placed_at self.old (IsLabelled (label_of (rest_after line.now 1)))) self.old.show;
+        } }
     {
         put_label(
             &mut self.show,

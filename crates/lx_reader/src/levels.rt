@@ -63,7 +63,8 @@ pub(crate) fn put_members(
     mut tokens: Tokens,
 ) -> Result<(), LineFault>
     requires { IsOpen show.old section.now part }
-    ensures show { OnOk result (IsOkAnd (all_pairs i (left tokens.entry)) (λ members. show.new ≡ with_members section.now part members show.old)) }
+    ensures show { OnOk result (IsOkAnd (all_pairs i (left tokens.entry))
+        (λ members. show.new ≡ with_members section.now part members show.old)) }
     ensures stop { IfErr result (λ stop. IsFaultOf stop (all_pairs i (left tokens.entry))) }
 {
     let _ = show.channels();

@@ -23,7 +23,8 @@ fn fault_in(i: u32, bad: Bad, whole: bool) -> TextFault
 pub(crate) fn next_member(i: u32, tokens: &mut Tokens) -> Result<Option<Member>, TextFault>
     ensures fewer { IfOk result (λ o. IfSome o (λ m. length (left tokens.new) < length (left tokens.old))) }
     ensures list { MatchResult result
-        (λ o. MatchOption o (left tokens.old ≡ []) (λ m. all_pairs i (left tokens.old) ≡ onto (m ∷ []) (all_pairs i (left tokens.new))))
+        (λ o. MatchOption o (left tokens.old ≡ [])
+        (λ m. all_pairs i (left tokens.old) ≡ onto (m ∷ []) (all_pairs i (left tokens.new))))
         (λ fault. all_pairs i (left tokens.old) ≡ Err fault) }
 {
     let Some(first) = tokens.next() else {
@@ -46,7 +47,8 @@ pub(crate) fn next_member(i: u32, tokens: &mut Tokens) -> Result<Option<Member>,
 pub(crate) fn next_row(i: u32, tokens: &mut Tokens) -> Result<Option<PatchRow>, TextFault>
     ensures fewer { IfOk result (λ o. IfSome o (λ row. length (left tokens.new) < length (left tokens.old))) }
     ensures list { MatchResult result
-        (λ o. MatchOption o (left tokens.old ≡ []) (λ row. all_triples i (left tokens.old) ≡ onto (row ∷ []) (all_triples i (left tokens.new))))
+        (λ o. MatchOption o (left tokens.old ≡ [])
+        (λ row. all_triples i (left tokens.old) ≡ onto (row ∷ []) (all_triples i (left tokens.new))))
         (λ fault. all_triples i (left tokens.old) ≡ Err fault) }
 {
     let Some(first) = tokens.next() else {

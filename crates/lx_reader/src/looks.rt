@@ -84,7 +84,8 @@ fn last_look(front: &[Cue], chan: Chan) -> Level
 
 /// Puts the channel's move in the look, where its level isn't the one before, or in a block cue 0.
 fn put_move(moves: &mut MoveList, before: Level, cue: &Cue, chan: Chan) -> Result<(), AllocError>
-    ensures { OnOk result (moves.new ≡ (if not (level_in cue.now chan == (if cue.now.block then 0 else before)) then placed (λ m. m.chan) (look_move cue.now chan) moves.old else moves.old)) }
+    ensures { OnOk result (moves.new ≡ (if not (level_in cue.now chan == (if cue.now.block then 0 else before))
+        then placed (λ m. m.chan) (look_move cue.now chan) moves.old else moves.old)) }
 {
     let tracked = if cue.block { 0 } else { before };
     if cue.level_of(chan) == tracked {

@@ -33,7 +33,12 @@ impl Reader {
     /// Line i is skipped, and what follows up to the next record.
     pub(crate) fn skip_record(&mut self, i: u32)
         requires { self.old.skipped < i }
-        ensures { self.new ≡ record self.old { section = Skipping; part = 1; skipped = self.old.skipped + 1; first_skipped = if self.old.skipped == 0 then i else self.old.first_skipped } }
+        ensures { self.new ≡ record self.old {
+          section = Skipping;
+          part = 1;
+          skipped = self.old.skipped + 1;
+          first_skipped = if self.old.skipped == 0 then i else self.old.first_skipped;
+        } }
     {
         self.enter(Section::Skipping);
         self.skip(i);

@@ -62,7 +62,10 @@ impl Reader {
     /// Line i is skipped.
     pub(crate) fn skip(&mut self, i: u32)
         requires { self.old.skipped < i }
-        ensures { self.new ≡ record self.old { skipped = self.old.skipped + 1; first_skipped = if self.old.skipped == 0 then i else self.old.first_skipped } }
+        ensures { self.new ≡ record self.old {
+          skipped = self.old.skipped + 1;
+          first_skipped = if self.old.skipped == 0 then i else self.old.first_skipped;
+        } }
     {
         if self.skipped == 0 {
             self.first_skipped = i;
