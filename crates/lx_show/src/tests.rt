@@ -197,6 +197,8 @@ fn a_label_and_a_follow_are_taken_away(rt: HostRuntime) -> Result<(), Fail> {
         };
         if show.cue(one).is_some() {
             show.set_label(one, label);
+        }
+        if show.cue(one).is_some() {
             show.set_follow(one, if given { Some(250) } else { None });
         }
         let cue = show.cue(one).ok_or("no cue 1")?;
