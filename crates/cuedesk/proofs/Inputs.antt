@@ -31,7 +31,12 @@ use Rattle.lx_reader.specs.Answer.{reading_of, HasRead, OfText, CutShort}
 use Rattle.lx_session.proofs.Places.{wants_nothing}
 use Rattle.cuedesk.specs.declared.desk.Status.{Status}
 use Rattle.cuedesk.specs.declared.desk.Status.TheVariants as status
-use Rattle.cuedesk.specs.Output.{WritesAll, WritesFront, WritesTaken, AnswersScript, AnswersInFront, AnswersTaken}
+use Rattle.lx_spec.specs.declared.Job.{Job}
+use Rattle.lx_spec.specs.declared.Job.TheVariants.{Check, Render, Sheet}
+use Rattle.lx_spec.specs.CheckOutput.{check_text}
+use Rattle.lx_spec.specs.SheetOutput.{sheet_text}
+use Rattle.lx_spec.specs.Job.{show_of, output_of, WantsEdits, wanted_of, show_wanted}
+use Rattle.cuedesk.specs.Output.{WritesAll, WritesPrefix, WritesTaken, RepliesToTaken, AnswersScript, AnswersInFront, AnswersTaken}
 use Rattle.cuedesk.specs.Refused.{RefusedBy, status_kept}
 
 -- a whole text is a front of itself, and nothing is one of any
@@ -48,18 +53,13 @@ pub nothing_wanted : (bytes : List ℕ) (r : Result Reading TextFault) → Outpu
 nothing_wanted bytes (Ok reading) = wants_nothing [] (begin_at (opened reading.show)) (before_first ends_script (script_of bytes)) (λ n has. no_place n 0 has)
 nothing_wanted bytes (Err fault) = tt
 
--- a front of nothing was written
-pub nothing_written : (o a : Option (List ℕ)) → IfSome o (λ bytes. WritesFront bytes a a)
-nothing_written None a = tt
-nothing_written (Some bytes) a = record { places = []; wants = nothing_wanted bytes (reads Moves bytes); text = front_nothing a (render_output Moves bytes []) }
-
 pub nothing_answered : (o a : Option (List ℕ)) (d : Desk) → IfSome o (λ bytes. AnswersInFront d (lines_of bytes) a a)
 nothing_answered None a d = tt
 nothing_answered (Some bytes) a d = record { places = []; wants = wants_nothing [] (begin_at d) (before_first ends_script (lines_of bytes)) (λ n has. no_place n 0 has); text = front_nothing a (replies d (lines_of bytes) []) }
 
 -- what the session answered is what the program writes
 answer_at : (bytes left : List ℕ) (reading : Reading) (h h' : Option (List ℕ)) → reads Moves bytes ≡ Ok reading → script_of bytes ≡ lines_of left → AnswersScript (opened reading.show) (lines_of left) h h'
-    → WritesAll bytes h h' × IsOk (reads Moves bytes)
+    → WritesAll (Render Moves) bytes h h' × IsOk (reads Moves bytes)
 answer_at bytes left reading h h' read script a = (
   record {
     places = a.places;
@@ -69,7 +69,7 @@ answer_at bytes left reading h h' read script a = (
   subst (λ (r : Result Reading TextFault). IsOk r) (sym read) refl,
 )
 
-front_at : (bytes left : List ℕ) (reading : Reading) (h h' : Option (List ℕ)) → reads Moves bytes ≡ Ok reading → script_of bytes ≡ lines_of left → AnswersInFront (opened reading.show) (lines_of left) h h' → WritesFront bytes h h'
+front_at : (bytes left : List ℕ) (reading : Reading) (h h' : Option (List ℕ)) → reads Moves bytes ≡ Ok reading → script_of bytes ≡ lines_of left → AnswersInFront (opened reading.show) (lines_of left) h h' → WritesPrefix (Render Moves) bytes h h'
 front_at bytes left reading h h' read script a = record {
   places = a.places;
   wants = subst (λ r. OutputPlacesAreEdits bytes a.places r) (sym read) (subst (λ ls. PlacesAreEdits (opened reading.show) ls a.places) (sym script) a.wants);
@@ -82,15 +82,15 @@ over_read (Some x) None i j raws P Q R took p r q S f = absurd took.took
 over_read (Some x) (Some y) i j raws P Q R took p r q S f = f x y p r q
 
 pub session_text : {S : Type 0} (left : S → Option (List ℕ)) (faults : S → ℕ) (a b : Lines S) (loaded : Loaded) (o h h' : Option (List ℕ)) → unread left a ≡ o → HasRead left faults a b Moves loaded
-    → IfSome (unread left b) (λ bytes. AnswersScript (opened loaded.show) (lines_of bytes) h h') → IfSome o (λ bytes. WritesAll bytes h h' × IsOk (reads Moves bytes))
+    → IfSome (unread left b) (λ bytes. AnswersScript (opened loaded.show) (lines_of bytes) h h') → IfSome o (λ bytes. WritesAll (Render Moves) bytes h h' × IsOk (reads Moves bytes))
 session_text left faults a b loaded o h h' is r answers =
-    subst (λ (v : Option (List ℕ)). IfSome v (λ bytes. WritesAll bytes h h' × IsOk (reads Moves bytes))) is
+    subst (λ (v : Option (List ℕ)). IfSome v (λ bytes. WritesAll (Render Moves) bytes h h' × IsOk (reads Moves bytes))) is
     (over_read (unread left a) (unread left b) a.taken b.taken _ _ _ _ r.means.handed.took r.means.text r.means.script answers _ (λ x y read script answer. answer_at x y (reading_of loaded) h h' read script answer))
 
 pub session_front : {S : Type 0} (left : S → Option (List ℕ)) (faults : S → ℕ) (a b : Lines S) (loaded : Loaded) (o h h' : Option (List ℕ)) → unread left a ≡ o → HasRead left faults a b Moves loaded
-    → IfSome (unread left b) (λ bytes. AnswersInFront (opened loaded.show) (lines_of bytes) h h') → IfSome o (λ bytes. WritesFront bytes h h')
+    → IfSome (unread left b) (λ bytes. AnswersInFront (opened loaded.show) (lines_of bytes) h h') → IfSome o (λ bytes. WritesPrefix (Render Moves) bytes h h')
 session_front left faults a b loaded o h h' is r answers =
-    subst (λ (v : Option (List ℕ)). IfSome v (λ bytes. WritesFront bytes h h')) is
+    subst (λ (v : Option (List ℕ)). IfSome v (λ bytes. WritesPrefix (Render Moves) bytes h h')) is
     (over_read (unread left a) (unread left b) a.taken b.taken _ _ _ _ r.means.handed.took r.means.text r.means.script answers _ (λ x y read script answer. front_at x y (reading_of loaded) h h' read script answer))
 
 -- of a show that is read the lines that were handed out are wanted, and then those of the script
@@ -133,7 +133,7 @@ if_known None P Q p f = tt
 if_known (Some xs) P Q p f = f xs p
 
 cut_behind : (x y : List ℕ) (left h h' : Option (List ℕ)) (i j : ℕ) (raws : List (List ℕ)) (reading : Reading) → i ≡ 0 → TookLines (Some x) (Some y) i j raws
-    → lines_read (lines_of x) ≡ length raws → reads Moves x ≡ Ok reading → script_of x ≡ lines_of y → AnswersTaken (opened reading.show) j y left h h' → WritesTaken x left h h'
+    → lines_read (lines_of x) ≡ length raws → reads Moves x ≡ Ok reading → script_of x ≡ lines_of y → AnswersTaken (opened reading.show) j y left h h' → RepliesToTaken Moves x left h h'
 cut_behind x y left h h' i j raws reading none took shown text script a =
     let n = a.cut.lines in
     let mine : took.bytes ≡ first_lines (length raws) (took.bytes ++ y) = took.front ∙ ap (first_lines (length raws)) took.took in
@@ -159,16 +159,16 @@ cut_behind x y left h h' i j raws reading none took shown text script a =
 
 over_cut : (a b left h h' : Option (List ℕ)) (i j n : ℕ) (raws : List (List ℕ)) (reading : Reading) → i ≡ 0 → TookLines a b i j raws → n ≡ length raws
     → IfSome a (λ x. lines_read (lines_of x) ≡ n) → IfSome a (λ x. reads Moves x ≡ Ok reading) → IfSome a (λ x. IfSome b (λ y. script_of x ≡ lines_of y))
-    → IfSome b (λ y. AnswersTaken (opened reading.show) j y left h h') → IfSome a (λ x. WritesTaken x left h h')
+    → IfSome b (λ y. AnswersTaken (opened reading.show) j y left h h') → IfSome a (λ x. RepliesToTaken Moves x left h h')
 over_cut None b left h h' i j n raws reading none took count shown text script p = tt
 over_cut (Some x) None left h h' i j n raws reading none took count shown text script p = absurd took.took
 over_cut (Some x) (Some y) left h h' i j n raws reading none took count shown text script p = cut_behind x y left h h' i j raws reading none took (shown ∙ count) text script p
 
 pub session_cut : {S : Type 0} (left : S → Option (List ℕ)) (faults : S → ℕ) (a b : Lines S) (loaded : Loaded) (o rest h h' : Option (List ℕ)) → unread left a ≡ o → a.taken ≡ 0 → HasRead left faults a b Moves loaded
-    → IfSome (unread left b) (λ y. AnswersTaken (opened loaded.show) b.taken y rest h h') → IfSome o (λ x. WritesTaken x rest h h')
+    → IfSome (unread left b) (λ y. AnswersTaken (opened loaded.show) b.taken y rest h h') → IfSome o (λ x. RepliesToTaken Moves x rest h h')
 session_cut left faults a b loaded o rest h h' is none r answers =
     let m = r.means in
-    subst (λ (v : Option (List ℕ)). IfSome v (λ x. WritesTaken x rest h h')) is
+    subst (λ (v : Option (List ℕ)). IfSome v (λ x. RepliesToTaken Moves x rest h h')) is
     (over_cut (unread left a) (unread left b) rest h h' a.taken b.taken (length m.front + 1) (m.front ++ m.last ∷ []) (reading_of loaded) none m.handed.took (one_more m.front m.last) m.wanted m.text m.script answers)
 
 -- The input was cut off within the show.
@@ -176,7 +176,7 @@ none_replied : (r : Result Reading TextFault) (script : List (List ℕ)) (places
 none_replied (Ok reading) script places = refl
 none_replied (Err fault) script places = refl
 
-cut_within : (x : List ℕ) (left h : Option (List ℕ)) (i : ℕ) → i ≡ 0 → IsCutShort i x left → WritesTaken x left h h
+cut_within : (x : List ℕ) (left h : Option (List ℕ)) (i : ℕ) → i ≡ 0 → IsCutShort i x left → RepliesToTaken Moves x left h h
 cut_within x left h i none short =
     let cut = short.cut in
     let few : cut.lines - lines_read (lines_of x) ≡ 0 = let lt = short.wanted in omega (arith, lt) in
@@ -193,19 +193,126 @@ cut_within x left h i none short =
       text = subst (λ (t : List ℕ). Appends h h t) (sym (ap (first_replies (reads Moves x) (script_of x) []) few ∙ none_replied (reads Moves x) (script_of x) [])) (Appends-nil h);
     }
 
+-- A job over the show that its input begins with.
+pub record IsOverShow (job : Job) : Type 0 where
+  pub show : (x : List ℕ) → show_of job x ≡ reads Moves x
+  pub nothing : (x : List ℕ) → WantsEdits job x []
+  pub refusal : (x : List ℕ) (fault : TextFault) → reads Moves x ≡ Err fault → output_of job x [] ≡ fault_text fault
+  pub wanted : (x : List ℕ) (fault : TextFault) → reads Moves x ≡ Err fault → wanted_of job x ≡ show_wanted x
+  pub longer : (x : List ℕ) (n : ℕ) → n + 1 ≤ lines_read (lines_of x) → length (first_lines (n + 1) x) ≤ length (wanted_of job x)
+  pub cut : (x : List ℕ) (left h : Option (List ℕ)) (i : ℕ) → i ≡ 0 → IsCutShort i x left → WritesTaken job x left h h
+
+-- And a job that tells of the show alone.
+pub record IsOfShow (job : Job) (f : Reading → List ℕ) : Type 0 where
+  pub over : IsOverShow job
+  pub output : (x : List ℕ) → output_of job x [] ≡ over_show (reads Moves x) f
+  pub bytes : (x : List ℕ) → wanted_of job x ≡ show_wanted x
+
+more_wanted : (x : List ℕ) (n : ℕ) (r : Result Reading TextFault) → n + 1 ≤ lines_read (lines_of x) → n + 1 ≤ input_lines_wanted x r
+more_wanted x n (Ok reading) h = omega (arith, h)
+more_wanted x n (Err i) h = h
+
+pub render_over : IsOverShow (Render Moves)
+render_over = record {
+  show = λ x. refl;
+  nothing = λ x. nothing_wanted x (reads Moves x);
+  refusal = λ x fault text. ap (λ r. over_show r (λ reading. replies (opened reading.show) (script_of x) [])) text;
+  wanted = λ x fault text. ap (λ k. first_lines k x) (ap (input_lines_wanted x) text);
+  longer = λ x n h. first_lines-longer (n + 1) (input_lines_wanted x (reads Moves x)) x (more_wanted x n (reads Moves x) h);
+  cut = cut_within;
+}
+
+pub check_tells : IsOfShow (Check Moves) check_text
+check_tells = record {
+  over = record {
+    show = λ x. refl;
+    nothing = λ x. tt;
+    refusal = λ x fault text. ap (λ r. over_show r check_text) text;
+    wanted = λ x fault text. refl;
+    longer = λ x n h. first_lines-longer (n + 1) (lines_read (lines_of x)) x h;
+    cut = λ x left h i none short. refl;
+  };
+  output = λ x. refl;
+  bytes = λ x. refl;
+}
+
+pub sheet_tells : IsOfShow (Sheet Moves) sheet_text
+sheet_tells = record {
+  over = record {
+    show = λ x. refl;
+    nothing = λ x. tt;
+    refusal = λ x fault text. ap (λ r. over_show r sheet_text) text;
+    wanted = λ x fault text. refl;
+    longer = λ x n h. first_lines-longer (n + 1) (lines_read (lines_of x)) x h;
+    cut = λ x left h i none short. refl;
+  };
+  output = λ x. refl;
+  bytes = λ x. refl;
+}
+
+-- a prefix of nothing was written
+pub nothing_written : (job : Job) → IsOverShow job → (o a : Option (List ℕ)) → IfSome o (λ bytes. WritesPrefix job bytes a a)
+nothing_written job over None a = tt
+nothing_written job over (Some bytes) a = record { places = []; wants = over.nothing bytes; text = front_nothing a (output_of job bytes []) }
+
+-- What is told of a show that was read.
+told_at : (job : Job) (f : Reading → List ℕ) → IsOfShow job f → (x : List ℕ) (h h' : Option (List ℕ)) (reading : Reading) → reads Moves x ≡ Ok reading → Appends h h' (f reading) → WritesAll job x h h' × IsOk (show_of job x)
+told_at job f tells x h h' reading read text = (
+  record {
+    places = [];
+    wants = tells.over.nothing x;
+    text = subst (λ (t : List ℕ). Appends h h' t) (sym (tells.output x ∙ ap (λ r. over_show r f) read)) text;
+  },
+  subst (λ (r : Result Reading TextFault). IsOk r) (sym (tells.over.show x ∙ read)) refl,
+)
+
+told_front_at : (job : Job) (f : Reading → List ℕ) → IsOfShow job f → (x : List ℕ) (h h' : Option (List ℕ)) (reading : Reading) → reads Moves x ≡ Ok reading → AppendsFront h h' (f reading) → WritesPrefix job x h h'
+told_front_at job f tells x h h' reading read text = record {
+  places = [];
+  wants = tells.over.nothing x;
+  text = subst (λ (t : List ℕ). AppendsFront h h' t) (sym (tells.output x ∙ ap (λ r. over_show r f) read)) text;
+}
+
+pub told_text : {S : Type 0} (left : S → Option (List ℕ)) (faults : S → ℕ) (a b : Lines S) (loaded : Loaded) (job : Job) (f : Reading → List ℕ) → IsOfShow job f → (o h h' : Option (List ℕ)) → unread left a ≡ o → HasRead left faults a b Moves loaded
+    → Appends h h' (f (reading_of loaded)) → IfSome o (λ x. WritesAll job x h h' × IsOk (show_of job x))
+told_text left faults a b loaded job f tells o h h' is r text =
+    subst (λ (v : Option (List ℕ)). IfSome v (λ x. WritesAll job x h h' × IsOk (show_of job x))) is
+    (if_known (unread left a) _ _ r.means.text (λ x read. told_at job f tells x h h' (reading_of loaded) read text))
+
+pub told_prefix : {S : Type 0} (left : S → Option (List ℕ)) (faults : S → ℕ) (a b : Lines S) (loaded : Loaded) (job : Job) (f : Reading → List ℕ) → IsOfShow job f → (o h h' : Option (List ℕ)) → unread left a ≡ o → HasRead left faults a b Moves loaded
+    → AppendsFront h h' (f (reading_of loaded)) → IfSome o (λ x. WritesPrefix job x h h')
+told_prefix left faults a b loaded job f tells o h h' is r text =
+    subst (λ (v : Option (List ℕ)). IfSome v (λ x. WritesPrefix job x h h')) is
+    (if_known (unread left a) _ _ r.means.text (λ x read. told_front_at job f tells x h h' (reading_of loaded) read text))
+
+both_known : (o : Option (List ℕ)) (P Q R : List ℕ → Type 0) → IfSome o P → IfSome o Q → ((xs : List ℕ) → P xs → Q xs → R xs) → IfSome o R
+both_known None P Q R p q f = tt
+both_known (Some xs) P Q R p q f = f xs p q
+
+told_fits_at : (job : Job) (f : Reading → List ℕ) → IsOfShow job f → (x : List ℕ) (i n : ℕ) → i ≡ 0 → lines_read (lines_of x) ≡ n → i + length (first_lines n x) ≤ INPUT_BYTES → length (wanted_of job x) ≤ INPUT_BYTES
+told_fits_at job f tells x i n none count fits = omega (arith, none, fits, ap length (tells.bytes x ∙ ap (λ k. first_lines k x) count))
+
+pub told_fits : {S : Type 0} (left : S → Option (List ℕ)) (faults : S → ℕ) (a b : Lines S) (loaded : Loaded) (job : Job) (f : Reading → List ℕ) → IsOfShow job f → (o : Option (List ℕ)) → unread left a ≡ o → a.taken ≡ 0 → HasRead left faults a b Moves loaded
+    → IfSome o (λ x. length (wanted_of job x) ≤ INPUT_BYTES)
+told_fits left faults a b loaded job f tells o is none r =
+    let m = r.means in
+    let fits : IfSome (unread left a) (λ x. a.taken + length (first_lines (length m.front + 1) x) ≤ INPUT_BYTES) =
+    lines_within (unread left a) (unread left b) a.taken b.taken (m.front ++ m.last ∷ []) (length m.front + 1) m.handed.took (omega (arith, one_more m.front m.last)) in
+    subst (λ (v : Option (List ℕ)). IfSome v (λ x. length (wanted_of job x) ≤ INPUT_BYTES)) is
+    (both_known (unread left a) _ _ _ m.wanted fits (λ x count fit. told_fits_at job f tells x a.taken (length m.front + 1) none count fit))
+
 first_lines-length : (k : ℕ) (xs : List ℕ) → length (first_lines k xs) ≤ length xs
 first_lines-length k [] = omega arith
 first_lines-length zero (x ∷ xs) = omega arith
 first_lines-length (suc k) (x ∷ xs) = omega (arith, first_lines-length (cond (eqb x 10) k (suc k)) xs)
 
 -- A show that is refused.
-refused_fits : (a b : Option (List ℕ)) (i j n : ℕ) (raws : List (List ℕ)) (fault : TextFault) → i ≡ 0 → TookLines a b i j raws → (length raws ≡ n) ⊎ IsAtEnd b → IfSome a (λ x. reads Moves x ≡ Err fault) → IfSome a (λ x. lines_read (lines_of x) ≡ n)
-    → IfSome a (λ x. length (input_wanted Moves x) ≤ INPUT_BYTES)
-refused_fits None b i j n raws fault none took whole text wanted = tt
-refused_fits (Some x) None i j n raws fault none took whole text wanted = absurd took.took
-refused_fits (Some x) (Some y) i j n raws fault none took whole text wanted =
-    let lines : input_lines_wanted x (reads Moves x) ≡ n = ap (input_lines_wanted x) text ∙ wanted in
-    let bytes : input_wanted Moves x ≡ first_lines n x = ap (λ k. first_lines k x) lines in
+refused_fits : (job : Job) → IsOverShow job → (a b : Option (List ℕ)) (i j n : ℕ) (raws : List (List ℕ)) (fault : TextFault) → i ≡ 0 → TookLines a b i j raws → (length raws ≡ n) ⊎ IsAtEnd b → IfSome a (λ x. reads Moves x ≡ Err fault) → IfSome a (λ x. lines_read (lines_of x) ≡ n)
+    → IfSome a (λ x. length (wanted_of job x) ≤ INPUT_BYTES)
+refused_fits job over None b i j n raws fault none took whole text wanted = tt
+refused_fits job over (Some x) None i j n raws fault none took whole text wanted = absurd took.took
+refused_fits job over (Some x) (Some y) i j n raws fault none took whole text wanted =
+    let bytes : wanted_of job x ≡ first_lines n x = over.wanted x fault text ∙ ap (λ k. first_lines k x) wanted in
     elim whole [
       | inl here ↦ omega (arith, ap length bytes, lines_within (Some x) (Some y) i j raws n took (omega (arith, here)))
       | inr end ↦
@@ -213,8 +320,8 @@ refused_fits (Some x) (Some y) i j n raws fault none took whole text wanted =
           omega (arith, ap length bytes, first_lines-length n x, ap length all, took.count, took.within)
     ]
 
-fault_fits : {S : Type 0} (left : S → Option (List ℕ)) (a : Lines S) (fault : TextFault) → a.taken ≡ 0 → MeansFault left a Moves fault → IfSome (unread left a) (λ x. length (input_wanted Moves x) ≤ INPUT_BYTES)
-fault_fits left a fault none m = refused_fits (unread left a) m.unread_then a.taken m.taken_then m.count m.raws fault none m.took m.whole m.text m.wanted
+fault_fits : (job : Job) → IsOverShow job → {S : Type 0} (left : S → Option (List ℕ)) (a : Lines S) (fault : TextFault) → a.taken ≡ 0 → MeansFault left a Moves fault → IfSome (unread left a) (λ x. length (wanted_of job x) ≤ INPUT_BYTES)
+fault_fits job over left a fault none m = refused_fits job over (unread left a) m.unread_then a.taken m.taken_then m.count m.raws fault none m.took m.whole m.text m.wanted
 
 -- what the reader says of a fault of the text
 fault_means : {S : Type 0} (left : S → Option (List ℕ)) (a : Lines S) (P Q : Type 0) (text : TextFault) → OfText (MeansFault left a Moves) P Q (show_fault text) → MeansFault left a Moves text
@@ -226,36 +333,31 @@ fault_means left a P Q (texts_of.LineTooLong i) p = p
 fault_means left a P Q (texts_of.ShortList i) p = p
 fault_means left a P Q (texts_of.NoEndData i) p = p
 
-text_at : (o h h' : Option (List ℕ)) (fault : TextFault) → IfSome o (λ x. reads Moves x ≡ Err fault) → Appends h h' (fault_text fault) → IfSome o (λ x. WritesAll x h h' × IsErr (reads Moves x))
-text_at None h h' fault text appended = tt
-text_at (Some x) h h' fault text appended = (
+text_at : (job : Job) → IsOverShow job → (o h h' : Option (List ℕ)) (fault : TextFault) → IfSome o (λ x. reads Moves x ≡ Err fault) → Appends h h' (fault_text fault) → IfSome o (λ x. WritesAll job x h h' × IsErr (show_of job x))
+text_at job over None h h' fault text appended = tt
+text_at job over (Some x) h h' fault text appended = (
   record {
     places = [];
-    wants = nothing_wanted x (reads Moves x);
-    text = subst (λ (v : List ℕ). Appends h h' v) (sym (ap (λ r. over_show r (λ reading. replies (opened reading.show) (script_of x) [])) text)) appended;
+    wants = over.nothing x;
+    text = subst (λ (v : List ℕ). Appends h h' v) (sym (over.refusal x fault text)) appended;
   },
-  subst (λ (r : Result Reading TextFault). IsErr r) (sym text) refl,
+  subst (λ (r : Result Reading TextFault). IsErr r) (sym (over.show x ∙ text)) refl,
 )
 
-text_front : (o h h' : Option (List ℕ)) (fault : TextFault) → IfSome o (λ x. reads Moves x ≡ Err fault) → AppendsFront h h' (fault_text fault) → IfSome o (λ x. WritesFront x h h')
-text_front None h h' fault text appended = tt
-text_front (Some x) h h' fault text appended = record {
+text_front : (job : Job) → IsOverShow job → (o h h' : Option (List ℕ)) (fault : TextFault) → IfSome o (λ x. reads Moves x ≡ Err fault) → AppendsFront h h' (fault_text fault) → IfSome o (λ x. WritesPrefix job x h h')
+text_front job over None h h' fault text appended = tt
+text_front job over (Some x) h h' fault text appended = record {
   places = [];
-  wants = nothing_wanted x (reads Moves x);
-  text = subst (λ (v : List ℕ). AppendsFront h h' v) (sym (ap (λ r. over_show r (λ reading. replies (opened reading.show) (script_of x) [])) text)) appended;
+  wants = over.nothing x;
+  text = subst (λ (v : List ℕ). AppendsFront h h' v) (sym (over.refusal x fault text)) appended;
 }
 
 -- a show that is too long
-more_wanted : (x : List ℕ) (n : ℕ) (r : Result Reading TextFault) → n + 1 ≤ lines_read (lines_of x) → n + 1 ≤ input_lines_wanted x r
-more_wanted x n (Ok reading) h = omega (arith, h)
-more_wanted x n (Err i) h = h
-
-long_input : (i : ℕ) (o : Option (List ℕ)) → i ≡ 0 → IfSome o (IsPastLimit i) → IfSome o (λ x. INPUT_BYTES < length (input_wanted Moves x))
-long_input i None none long = tt
-long_input i (Some x) none long =
+long_input : (job : Job) → IsOverShow job → (i : ℕ) (o : Option (List ℕ)) → i ≡ 0 → IfSome o (IsPastLimit i) → IfSome o (λ x. INPUT_BYTES < length (wanted_of job x))
+long_input job over i None none long = tt
+long_input job over i (Some x) none long =
     let lt = long.wanted in
-    let wanted = more_wanted x long.n (reads Moves x) (omega (arith, lt)) in
-    omega (arith, long.long, first_lines-longer (long.n + 1) (input_lines_wanted x (reads Moves x)) x wanted)
+    omega (arith, none, long.long, over.longer x long.n (omega (arith, lt)))
 
 -- What the reader's fault and the status of its refusal say.
 abbrev Says : {S : Type 0} → (S → Option (List ℕ)) → Lines S → Lines S → ShowFault → Type 0
@@ -276,24 +378,24 @@ not_refused faults.ReadFault s P kept is = absurd cc
 not_refused faults.InputTooLong s P kept is = absurd cc
 not_refused faults.Memory s P kept is = absurd cc
 
-pub refusal_text : {S : Type 0} (left : S → Option (List ℕ)) (a b : Lines S) (o h h' : Option (List ℕ)) (fault : ShowFault) (s : Status) → unread left a ≡ o → Says left a b fault → RefusedBy h h' fault s → s ≡ status.ShowRefused
-    → IfSome o (λ x. WritesAll x h h' × IsErr (reads Moves x))
-refusal_text left a b o h h' fault s is says by refused = elim by [
-  | inl text ↦ subst (λ (v : Option (List ℕ)). IfSome v (λ x. WritesAll x h h' × IsErr (reads Moves x))) is (text_at (unread left a) h h' text.text (means_of left a b fault text.text text.told says).text (text.whole refused))
-  | inr other ↦ not_refused fault s (IfSome o (λ x. WritesAll x h h' × IsErr (reads Moves x))) other.is refused
+pub refusal_text : (job : Job) → IsOverShow job → {S : Type 0} (left : S → Option (List ℕ)) (a b : Lines S) (o h h' : Option (List ℕ)) (fault : ShowFault) (s : Status) → unread left a ≡ o → Says left a b fault → RefusedBy h h' fault s → s ≡ status.ShowRefused
+    → IfSome o (λ x. WritesAll job x h h' × IsErr (show_of job x))
+refusal_text job over left a b o h h' fault s is says by refused = elim by [
+  | inl text ↦ subst (λ (v : Option (List ℕ)). IfSome v (λ x. WritesAll job x h h' × IsErr (show_of job x))) is (text_at job over (unread left a) h h' text.text (means_of left a b fault text.text text.told says).text (text.whole refused))
+  | inr other ↦ not_refused fault s (IfSome o (λ x. WritesAll job x h h' × IsErr (show_of job x))) other.is refused
 ]
 
-pub refusal_front : {S : Type 0} (left : S → Option (List ℕ)) (a b : Lines S) (o h h' : Option (List ℕ)) (fault : ShowFault) (s : Status) → unread left a ≡ o → Says left a b fault → RefusedBy h h' fault s → IfSome o (λ x. WritesFront x h h')
-refusal_front left a b o h h' fault s is says by = elim by [
-  | inl text ↦ subst (λ (v : Option (List ℕ)). IfSome v (λ x. WritesFront x h h')) is (text_front (unread left a) h h' text.text (means_of left a b fault text.text text.told says).text text.front)
-  | inr other ↦ subst (λ (v : Option (List ℕ)). IfSome o (λ x. WritesFront x h v)) (sym other.kept) (nothing_written o h)
+pub refusal_front : (job : Job) → IsOverShow job → {S : Type 0} (left : S → Option (List ℕ)) (a b : Lines S) (o h h' : Option (List ℕ)) (fault : ShowFault) (s : Status) → unread left a ≡ o → Says left a b fault → RefusedBy h h' fault s → IfSome o (λ x. WritesPrefix job x h h')
+refusal_front job over left a b o h h' fault s is says by = elim by [
+  | inl text ↦ subst (λ (v : Option (List ℕ)). IfSome v (λ x. WritesPrefix job x h h')) is (text_front job over (unread left a) h h' text.text (means_of left a b fault text.text text.told says).text text.front)
+  | inr other ↦ subst (λ (v : Option (List ℕ)). IfSome o (λ x. WritesPrefix job x h v)) (sym other.kept) (nothing_written job over o h)
 ]
 
-pub refusal_fits : {S : Type 0} (left : S → Option (List ℕ)) (a b : Lines S) (o h h' : Option (List ℕ)) (fault : ShowFault) (s : Status) → unread left a ≡ o → a.taken ≡ 0 → Says left a b fault → RefusedBy h h' fault s → s ≡ status.ShowRefused
-    → IfSome o (λ x. length (input_wanted Moves x) ≤ INPUT_BYTES)
-refusal_fits left a b o h h' fault s is none says by refused = elim by [
-  | inl text ↦ subst (λ (v : Option (List ℕ)). IfSome v (λ x. length (input_wanted Moves x) ≤ INPUT_BYTES)) is (fault_fits left a text.text none (means_of left a b fault text.text text.told says))
-  | inr other ↦ not_refused fault s (IfSome o (λ x. length (input_wanted Moves x) ≤ INPUT_BYTES)) other.is refused
+pub refusal_fits : (job : Job) → IsOverShow job → {S : Type 0} (left : S → Option (List ℕ)) (a b : Lines S) (o h h' : Option (List ℕ)) (fault : ShowFault) (s : Status) → unread left a ≡ o → a.taken ≡ 0 → Says left a b fault → RefusedBy h h' fault s → s ≡ status.ShowRefused
+    → IfSome o (λ x. length (wanted_of job x) ≤ INPUT_BYTES)
+refusal_fits job over left a b o h h' fault s is none says by refused = elim by [
+  | inl text ↦ subst (λ (v : Option (List ℕ)). IfSome v (λ x. length (wanted_of job x) ≤ INPUT_BYTES)) is (fault_fits job over left a text.text none (means_of left a b fault text.text text.told says))
+  | inr other ↦ not_refused fault s (IfSome o (λ x. length (wanted_of job x) ≤ INPUT_BYTES)) other.is refused
 ]
 
 long_kept : (fault : ShowFault) (s : Status) → status_kept fault s → s ≡ status.InputTooLong → fault ≡ faults.InputTooLong
@@ -311,11 +413,11 @@ long_kept faults.Memory s kept is = absurd cc
 kinds_long : (s : Status) (P : Type 0) → (s ≡ status.ShowRefused) ⊎ ((s ≡ status.WriteFault) ⊎ (s ≡ status.Memory)) → s ≡ status.InputTooLong → P
 kinds_long s P kinds is = elim kinds [ inl a ↦ absurd cc | inr b ↦ elim b [ inl x ↦ absurd cc | inr y ↦ absurd cc ] ]
 
-pub refusal_long : {S : Type 0} (left : S → Option (List ℕ)) (a b : Lines S) (o h h' : Option (List ℕ)) (fault : ShowFault) (s : Status) → unread left a ≡ o → a.taken ≡ 0 → Says left a b fault → RefusedBy h h' fault s → s ≡ status.InputTooLong
-    → IfSome o (λ x. INPUT_BYTES < length (input_wanted Moves x))
-refusal_long left a b o h h' fault s is none says by long = elim by [
-  | inl text ↦ kinds_long s (IfSome o (λ x. INPUT_BYTES < length (input_wanted Moves x))) text.kinds long
-  | inr other ↦ subst (λ (v : Option (List ℕ)). IfSome v (λ x. INPUT_BYTES < length (input_wanted Moves x))) is (long_input a.taken (unread left a) none (subst (λ f. Says left a b f) (long_kept fault s other.is long) says).0)
+pub refusal_long : (job : Job) → IsOverShow job → {S : Type 0} (left : S → Option (List ℕ)) (a b : Lines S) (o h h' : Option (List ℕ)) (fault : ShowFault) (s : Status) → unread left a ≡ o → a.taken ≡ 0 → Says left a b fault → RefusedBy h h' fault s → s ≡ status.InputTooLong
+    → IfSome o (λ x. INPUT_BYTES < length (wanted_of job x))
+refusal_long job over left a b o h h' fault s is none says by long = elim by [
+  | inl text ↦ kinds_long s (IfSome o (λ x. INPUT_BYTES < length (wanted_of job x))) text.kinds long
+  | inr other ↦ subst (λ (v : Option (List ℕ)). IfSome v (λ x. INPUT_BYTES < length (wanted_of job x))) is (long_input job over a.taken (unread left a) none (subst (λ f. Says left a b f) (long_kept fault s other.is long) says).0)
 ]
 
 -- a fault that isn't one of the text is told as want of memory only where it is one
@@ -349,14 +451,14 @@ kinds_cut s P kinds is = elim is [
   | inr long ↦ kinds_long s P kinds long
 ]
 
-pub refusal_cut : {S : Type 0} (left : S → Option (List ℕ)) (a b : Lines S) (o h h' : Option (List ℕ)) (fault : ShowFault) (s : Status) → unread left a ≡ o → a.taken ≡ 0 → Says left a b fault → RefusedBy h h' fault s
-    → (s ≡ status.ReadFault) ⊎ (s ≡ status.InputTooLong) → IfSome o (λ x. WritesTaken x (left b.source.now) h h')
-refusal_cut left a b o h h' fault s is none says by cut = elim by [
-  | inl text ↦ kinds_cut s (IfSome o (λ x. WritesTaken x (left b.source.now) h h')) text.kinds cut
+pub refusal_cut : (job : Job) → IsOverShow job → {S : Type 0} (left : S → Option (List ℕ)) (a b : Lines S) (o h h' : Option (List ℕ)) (fault : ShowFault) (s : Status) → unread left a ≡ o → a.taken ≡ 0 → Says left a b fault → RefusedBy h h' fault s
+    → (s ≡ status.ReadFault) ⊎ (s ≡ status.InputTooLong) → IfSome o (λ x. WritesTaken job x (left b.source.now) h h')
+refusal_cut job over left a b o h h' fault s is none says by cut = elim by [
+  | inl text ↦ kinds_cut s (IfSome o (λ x. WritesTaken job x (left b.source.now) h h')) text.kinds cut
   | inr other ↦
-      subst (λ (v : Option (List ℕ)). IfSome o (λ x. WritesTaken x (left b.source.now) h v)) (sym other.kept)
-      (subst (λ (v : Option (List ℕ)). IfSome v (λ x. WritesTaken x (left b.source.now) h h)) is
-      (if_known (unread left a) _ _ (cut_kept left a b fault s other.is cut says) (λ x short. cut_within x (left b.source.now) h a.taken none short)))
+      subst (λ (v : Option (List ℕ)). IfSome o (λ x. WritesTaken job x (left b.source.now) h v)) (sym other.kept)
+      (subst (λ (v : Option (List ℕ)). IfSome v (λ x. WritesTaken job x (left b.source.now) h h)) is
+      (if_known (unread left a) _ _ (cut_kept left a b fault s other.is cut says) (λ x short. over.cut x (left b.source.now) h a.taken none short)))
 ]
 
 -- a session that ended whole ended Ok

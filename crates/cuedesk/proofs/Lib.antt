@@ -1,3 +1,4 @@
-mod GivenWords
+mod CheckLine
 mod Inputs
+mod JobWords
 mod Statuses

@@ -1,34 +1,56 @@
--- What the program wrote for an input.
-use Rattle.std.specs.Prelude.{ℕ, ◌-◌, Option, List}
+-- What the program wrote for a job.
+use Rattle.std.specs.Prelude.{◌≡◌, ℕ, ◌-◌, Option, IfSome, List}
 use Rattle.std.specs.Io.KnownBytes.{Appends}
 use Rattle.lx_io.specs.Puts.{AppendsFront}
+use Rattle.lx_spec.specs.declared.Form.{Form}
 use Rattle.lx_spec.specs.declared.Form.TheVariants.{Moves}
+use Rattle.lx_spec.specs.declared.Job.{Job}
+use Rattle.lx_spec.specs.declared.Job.TheVariants.{Check, Render, Sheet, Make}
 use Rattle.lx_spec.specs.Text.{lines_of}
 use Rattle.lx_spec.specs.Desk.{Desk}
 use Rattle.lx_spec.specs.Reading.{reads, script_of, lines_read}
 use Rattle.lx_spec.specs.CutInput.{CutOff}
 use Rattle.lx_spec.specs.Session.{replies, after_first}
 use Rattle.lx_spec.specs.RefusedPlaces.{PlacesAreEdits}
-use Rattle.lx_spec.specs.RenderOutput.{render_output, first_replies, OutputPlacesAreEdits}
+use Rattle.lx_spec.specs.RenderOutput.{first_replies}
+use Rattle.lx_spec.specs.Job.{job_of, given_to, output_of, WantsEdits}
+
+-- Of the job that the words name, and of the bytes that it is given.
+abbrev pub OfJob : List (List ℕ) → Option (List ℕ) → (Job → List ℕ → Type 0) → Type 0
+OfJob words left P = IfSome (job_of words) (λ job. IfSome (given_to job left) (P job))
 
 -- The whole text was written: what the definitions give for these bytes, where want of memory refused at most these attempts.
-pub record WritesAll (bytes : List ℕ) (held held' : Option (List ℕ)) : Type 0 where
+pub record WritesAll (job : Job) (bytes : List ℕ) (held held' : Option (List ℕ)) : Type 0 where
   pub places : List ℕ
-  pub wants : OutputPlacesAreEdits bytes places (reads Moves bytes)
-  pub text : Appends held held' (render_output Moves bytes places)
+  pub wants : WantsEdits job bytes places
+  pub text : Appends held held' (output_of job bytes places)
 
 -- A prefix of it was written.
-pub record WritesFront (bytes : List ℕ) (held held' : Option (List ℕ)) : Type 0 where
+pub record WritesPrefix (job : Job) (bytes : List ℕ) (held held' : Option (List ℕ)) : Type 0 where
   pub places : List ℕ
-  pub wants : OutputPlacesAreEdits bytes places (reads Moves bytes)
-  pub text : AppendsFront held held' (render_output Moves bytes places)
+  pub wants : WantsEdits job bytes places
+  pub text : AppendsFront held held' (output_of job bytes places)
 
 -- The input was cut off: the replies to the script lines that were taken whole, within its limit, were written.
-pub record WritesTaken (bytes : List ℕ) (left held held' : Option (List ℕ)) : Type 0 where
+pub record RepliesToTaken (form : Form) (bytes : List ℕ) (left held held' : Option (List ℕ)) : Type 0 where
   pub places : List ℕ
-  pub wants : OutputPlacesAreEdits bytes places (reads Moves bytes)
+  pub wants : WantsEdits (Render form) bytes places
   pub cut : CutOff 0 bytes left
-  pub text : Appends held held' (first_replies (reads Moves bytes) (script_of bytes) places (cut.lines - lines_read (lines_of bytes)))
+  pub text : Appends held held' (first_replies (reads form bytes) (script_of bytes) places (cut.lines - lines_read (lines_of bytes)))
+
+-- By `render` they are, and by every other job nothing is.
+abbrev pub WritesTaken : Job → List ℕ → Option (List ℕ) → Option (List ℕ) → Option (List ℕ) → Type 0
+WritesTaken (Check form) bytes left held held' = held' ≡ held
+WritesTaken (Render form) bytes left held held' = RepliesToTaken form bytes left held held'
+WritesTaken (Sheet form) bytes left held held' = held' ≡ held
+WritesTaken (Make n) bytes left held held' = held' ≡ held
+
+-- The jobs that are built: those over a show whose levels are read as moves.
+abbrev pub IsBuilt : Job → Type 0
+IsBuilt (Check form) = form ≡ Moves
+IsBuilt (Render form) = form ≡ Moves
+IsBuilt (Sheet form) = form ≡ Moves
+IsBuilt (Make n) = ⊥
 
 -- A script was answered from a desk on, wholly or by a prefix of the replies.
 pub record AnswersScript (d : Desk) (script : List (List ℕ)) (held held' : Option (List ℕ)) : Type 0 where

@@ -1,15 +1,19 @@
-//! A tracking lighting desk's engine as a program: `cuedesk render` reads a show and a script from standard input, and
-//! writes replies and frames to standard output.
+//! A tracking lighting desk's engine as a program: it reads a show, and a script, from standard input, and writes replies
+//! and frames, or what there is to tell of the show, to standard output.
 #![tactic(auto)]
 
 ghost use Rattle.std.specs.Prelude.{◌≡◌};
 ghost use Rattle.cuedesk.specs.Exits.{exit_status};
 
+mod check;
 mod desk;
 mod play;
 mod refuse;
+mod render;
+mod sheet;
 #[cfg(test)]
 mod tests;
+mod words;
 
 pub use desk::{Status, desk};
 use lx_io::{Sink, StdSink, StdSource};
@@ -17,6 +21,7 @@ use std::alloc::Global;
 use std::io::BufWriter;
 use std::process::ExitCode;
 use std::{env, io};
+pub use words::{WordsFault, words_of};
 
 /// The line that says how the program is used.
 const USAGE: &str = "usage: cuedesk check|render|sheet [states] | make N | run U [states]";

@@ -20,11 +20,20 @@ fn joined(alloc: Global, texts: &[&[u8]]) -> Result<Vec<u8>, AllocError> {
     Ok(all)
 }
 
-/// The words of the job that is built.
-fn render(alloc: Global) -> Result<Vec<String>, AllocError> {
+/// A list of words; an empty one is none.
+fn words(alloc: Global, texts: [&str; 2]) -> Result<Vec<String>, AllocError> {
     let mut words = Vec::new(alloc);
-    words.push(String::from_str(alloc, "render")?)?;
+    for text in texts {
+        if !text.is_empty() {
+            words.push(String::from_str(alloc, text)?)?;
+        }
+    }
     Ok(words)
+}
+
+/// The word of the job that plays a script.
+fn render(alloc: Global) -> Result<Vec<String>, AllocError> {
+    words(alloc, ["render", ""])
 }
 
 /// What an input gives, in pieces of so many bytes.
@@ -241,14 +250,53 @@ fn a_write_that_fails_is_told(rt: HostRuntime) -> Result<(), Fail> {
     Ok(())
 }
 
+/// A show as desks write it: its lines 8, 9 and 14 are skipped.
+const PRESET: &[u8] =
+    b"IDENT 3:0\nMANUFACTURER EXAMPLE\nCONSOLE DESK\nCLEAR ALL\nSET CHANNELS 24\n! front of house\nPATCH 1 1<1@100 2<2@100 3<3@50\n$SPECIAL 7\nCHAN 1@30\nCUE 1\nTEXT Preset\nUP 3\nDOWN 3\n$$SNAP 1\nCHAN 1@50 2@100\nCUE 2\nUP 5\nDOWN 5 1\nCHAN 1@50 3@FL\nCUE 3\nCHAN 2@100\n";
+
+/// Words, how the job ends over that show, and what it writes by the rules.
+const JOBS: [([&str; 2], Status, &[u8]); 8] = [
+    (
+        ["check", ""],
+        Status::Ok,
+        b"show cues 3 channels 24 skipped 3 first 8\n",
+    ),
+    (
+        ["sheet", ""],
+        Status::Ok,
+        b"cue 1 track 1 2 Preset\nrow 1 1=128 2=255\ncue 2 track 1 2\nrow 2 1=128 2=255 3=255\ncue 3 track 1 1\nrow 3 1=128 2=255 3=255\n",
+    ),
+    (["render", ""], Status::Ok, b"row 1 1=128 2=255\n"),
+    (["", ""], Status::Usage, b""),
+    (["render", "moves"], Status::Usage, b""),
+    (["run", "17"], Status::Usage, b""),
+    (["check", "--"], Status::Usage, b""),
+    (["Check", ""], Status::Usage, b""),
+];
+
 #[test]
-fn other_words_are_a_usage_fault(rt: HostRuntime) -> Result<(), Fail> {
+fn each_job_writes_its_text(rt: HostRuntime) -> Result<(), Fail> {
     let alloc = rt.alloc();
-    let words = vec![in alloc; String::from_str(alloc, "RENDER")?]?;
-    let mut source = PlainSource::new(joined(alloc, &[ONE_CUE])?, 100);
-    let mut sink = PlainSink::new(alloc);
-    let status = desk(alloc, &words, &mut source, &mut sink);
-    assert_eq!(rt; status, Status::Usage);
-    assert_eq!(rt; sink.bytes(), b"".as_slice());
+    for (texts, ends, text) in JOBS {
+        let input = joined(alloc, &[PRESET, b"ENDDATA\nsheet 1\n".as_slice()])?;
+        let mut source = PlainSource::new(input, 7);
+        let mut sink = PlainSink::new(alloc);
+        let status = desk(alloc, &words(alloc, texts)?, &mut source, &mut sink);
+        assert_eq!(rt; status, ends);
+        assert_eq!(rt; sink.bytes(), text);
+    }
+    Ok(())
+}
+
+#[test]
+fn each_job_refuses_a_show_without_an_end(rt: HostRuntime) -> Result<(), Fail> {
+    let alloc = rt.alloc();
+    for word in ["check", "sheet", "render"] {
+        let mut source = PlainSource::new(joined(alloc, &[PRESET])?, 100);
+        let mut sink = PlainSink::new(alloc);
+        let status = desk(alloc, &words(alloc, [word, ""])?, &mut source, &mut sink);
+        assert_eq!(rt; status, Status::ShowRefused);
+        assert_eq!(rt; sink.bytes(), b"show NoEndData 22\n".as_slice());
+    }
     Ok(())
 }

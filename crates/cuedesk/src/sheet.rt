@@ -1,0 +1,67 @@
+//! The job `sheet`: the list of a show's cues.
+#![tactic(auto, using(lx_io::proofs::Chain::puts))]
+
+ghost use Rattle.std.specs.Prelude.{◌≡◌, ◌≢◌, ◌≤◌, ◌<◌, ◌⊎◌, length, flat_map, IfSome, IsOk, IsErr};
+ghost use Rattle.lx_base.specs.declared.TheConstants.{INPUT_BYTES};
+ghost use Rattle.lx_io.specs.Causes.{Rose};
+ghost use Rattle.lx_spec.specs.Job.{show_of, wanted_of};
+ghost use Rattle.cuedesk.specs.Output.{WritesAll, WritesPrefix, WritesTaken};
+ghost use Rattle.std.specs.Io.KnownBytes.{Appends};
+ghost use Rattle.lx_io.specs.Puts.{AppendsFront, Puts};
+ghost use Rattle.lx_spec.specs.SheetOutput.{cue_lines};
+ghost use Rattle.lx_sheet.specs.Standing.{StandsFor};
+
+use crate::desk::Status;
+use crate::refuse::refuse;
+use lx_io::{Sink, SinkFault, Source};
+use lx_lex::Lines;
+use lx_reader::read_show;
+use lx_report::put_cue_list;
+use lx_sheet::Sheet;
+use lx_show::{Form, Show};
+use std::alloc::Global;
+
+/// Reads a show and writes its cue list: each cue, rising, with its tracked levels.
+pub(crate) fn sheet<S: Source, K: Sink>(alloc: Global, input: &mut S, output: &mut K) -> Status
+    ensures ok { result ≡ Status.Ok → IfSome (S.left input.old) (λ bytes. WritesAll (Job.Sheet Form.Moves) bytes (K.holds output.old) (K.holds output.new) × IsOk (show_of (Job.Sheet Form.Moves) bytes)) }
+    ensures refused { result ≡ Status.ShowRefused → IfSome (S.left input.old) (λ bytes. WritesAll (Job.Sheet Form.Moves) bytes (K.holds output.old) (K.holds output.new) × IsErr (show_of (Job.Sheet Form.Moves) bytes)) }
+    ensures usage { result ≢ Status.Usage }
+    ensures prefix { IfSome (S.left input.old) (λ bytes. WritesPrefix (Job.Sheet Form.Moves) bytes (K.holds output.old) (K.holds output.new)) }
+    ensures unread { (result ≡ Status.ReadFault) ⊎ (result ≡ Status.InputTooLong) → IfSome (S.left input.old) (λ bytes. WritesTaken (Job.Sheet Form.Moves) bytes (S.left input.new) (K.holds output.old) (K.holds output.new)) }
+    ensures read { result ≡ Status.ReadFault → Rose (S.faults input.old) (S.faults input.new) }
+    ensures write { result ≡ Status.WriteFault → Rose (K.faults output.old) (K.faults output.new) }
+    ensures long { result ≡ Status.InputTooLong → IfSome (S.left input.old) (λ bytes. INPUT_BYTES < length (wanted_of (Job.Sheet Form.Moves) bytes)) }
+    ensures within { (result ≡ Status.Ok) ⊎ (result ≡ Status.ShowRefused) → IfSome (S.left input.old) (λ bytes. length (wanted_of (Job.Sheet Form.Moves) bytes) ≤ INPUT_BYTES) }
+{
+    let mut lines = Lines::new(input);
+    match read_show(alloc, &mut lines, Form::Moves) {
+        Ok(loaded) => list(alloc, &loaded.show, output),
+        Err(fault) => refuse(fault, output),
+    }
+}
+
+/// Writes the cue list of a show that was read.
+fn list<K: Sink>(alloc: Global, show: &Show, output: &mut K) -> Status
+    ensures ok { result ≡ Status.Ok → Appends (K.holds output.old) (K.holds output.new) (flat_map (cue_lines show.now) show.now.cues) }
+    ensures prefix { AppendsFront (K.holds output.old) (K.holds output.new) (flat_map (cue_lines show.now) show.now.cues) }
+    ensures kinds { (result ≡ Status.Ok) ⊎ ((result ≡ Status.WriteFault) ⊎ (result ≡ Status.Memory)) }
+    ensures write { result ≡ Status.WriteFault → Rose (K.faults output.old) (K.faults output.new) }
+{
+    let Ok(sheet) = Sheet::open(alloc, show) else {
+        return Status::Memory;
+    };
+    match put_and_flush(show, &sheet, output) {
+        Ok(()) => Status::Ok,
+        Err(SinkFault::Failed) => Status::WriteFault,
+        Err(SinkFault::Memory) => Status::Memory,
+    }
+}
+
+/// Appends the list, and flushes.
+fn put_and_flush<K: Sink>(show: &Show, sheet: &Sheet, output: &mut K) -> Result<(), SinkFault>
+    requires { StandsFor show.now sheet.now }
+    ensures { Puts K.holds K.faults K.wants output.old output.new result (flat_map (cue_lines show.now) show.now.cues) }
+{
+    put_cue_list(show, sheet, output)?;
+    output.flush()
+}
