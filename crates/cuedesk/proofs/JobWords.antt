@@ -1,19 +1,25 @@
 -- The job that words name is one that is built, and what holds of it holds of the words.
-use Rattle.std.proofs.Common.{◌≡◌, Bool, true, false, Option, Some, None, IfSome, List, ℕ, [], ◌∷◌, refl, sym, subst}
+use Rattle.std.proofs.Common.{◌≡◌, Bool, true, false, Option, Some, None, IfSome, List, ℕ, [], ◌∷◌, sym, subst}
 use Rattle.std.specs.Prelude.{option_map, codes, bytes_eq, if◌then◌else◌}
 use Rattle.lx_spec.specs.declared.Form.{Form}
-use Rattle.lx_spec.specs.declared.Form.TheVariants.{Moves}
+use Rattle.lx_spec.specs.declared.Form.TheVariants.{Moves, States}
 use Rattle.lx_spec.specs.declared.Job.{Job}
 use Rattle.lx_spec.specs.declared.Job.TheVariants.{Check, Render, Sheet, Make}
+use Rattle.lx_spec.specs.Phrase.{ended}
 use Rattle.lx_spec.specs.Reading.{reads}
 use Rattle.lx_spec.specs.MakeOutput.{made_input}
 use Rattle.lx_spec.specs.Job.{job_of, form_of, given_to, output_of, WantsEdits}
 use Rattle.cuedesk.specs.Output.{OfJob, IsBuilt, WritesPrefix}
 use Rattle.cuedesk.proofs.Inputs.{front_nothing, nothing_wanted}
 
-form_built : (make : Form → Job) → IsBuilt (make Moves) → (rest : List (List ℕ)) → IfSome (option_map make (form_of rest)) IsBuilt
-form_built make built [] = built
-form_built make built (word ∷ rest) = tt
+states_built : (make : Form → Job) → IsBuilt (make States) → (test : Bool) (more : List (List ℕ)) → IfSome (option_map make (if test then ended more States else None)) IsBuilt
+states_built make built true [] = built
+states_built make built true (word ∷ more) = tt
+states_built make built false more = tt
+
+form_built : (make : Form → Job) → IsBuilt (make Moves) → IsBuilt (make States) → (rest : List (List ℕ)) → IfSome (option_map make (form_of rest)) IsBuilt
+form_built make moves states [] = moves
+form_built make moves states (word ∷ rest) = states_built make states (bytes_eq word (codes "states")) rest
 
 either : (test : Bool) (x y : Option Job) → IfSome x IsBuilt → IfSome y IsBuilt → IfSome (if test then x else y) IsBuilt
 either true x y p q = p
@@ -22,9 +28,9 @@ either false x y p q = q
 words_built : (ws : List (List ℕ)) → IfSome (job_of ws) IsBuilt
 words_built [] = tt
 words_built (name ∷ rest) =
-    either (bytes_eq name (codes "check")) _ _ (form_built Check refl rest)
-    (either (bytes_eq name (codes "render")) _ _ (form_built Render refl rest)
-    (either (bytes_eq name (codes "sheet")) _ _ (form_built Sheet refl rest) tt))
+    either (bytes_eq name (codes "check")) _ _ (form_built Check tt tt rest)
+    (either (bytes_eq name (codes "render")) _ _ (form_built Render tt tt rest)
+    (either (bytes_eq name (codes "sheet")) _ _ (form_built Sheet tt tt rest) tt))
 
 pub job_built : (ws : List (List ℕ)) (job : Job) → job_of ws ≡ Some job → IsBuilt job
 job_built ws job named = subst (λ (o : Option Job). IfSome o IsBuilt) named (words_built ws)

@@ -3,7 +3,6 @@ use Rattle.std.specs.Prelude.{◌≡◌, ℕ, ◌-◌, Option, IfSome, List}
 use Rattle.std.specs.Io.KnownBytes.{Appends}
 use Rattle.lx_io.specs.Puts.{AppendsFront}
 use Rattle.lx_spec.specs.declared.Form.{Form}
-use Rattle.lx_spec.specs.declared.Form.TheVariants.{Moves}
 use Rattle.lx_spec.specs.declared.Job.{Job}
 use Rattle.lx_spec.specs.declared.Job.TheVariants.{Check, Render, Sheet, Make}
 use Rattle.lx_spec.specs.Text.{lines_of}
@@ -45,11 +44,11 @@ WritesTaken (Render form) bytes left held held' = RepliesToTaken form bytes left
 WritesTaken (Sheet form) bytes left held held' = held' ≡ held
 WritesTaken (Make n) bytes left held held' = held' ≡ held
 
--- The jobs that are built: those over a show whose levels are read as moves.
+-- The jobs that are built: those over the show that the input begins with.
 abbrev pub IsBuilt : Job → Type 0
-IsBuilt (Check form) = form ≡ Moves
-IsBuilt (Render form) = form ≡ Moves
-IsBuilt (Sheet form) = form ≡ Moves
+IsBuilt (Check form) = Unit {0}
+IsBuilt (Render form) = Unit {0}
+IsBuilt (Sheet form) = Unit {0}
 IsBuilt (Make n) = ⊥
 
 -- A script was answered from a desk on, wholly or by a prefix of the replies.

@@ -4,7 +4,6 @@
 ghost use Rattle.std.specs.Prelude.{◌≡◌, ◌≢◌, ◌≤◌, ◌<◌, ◌⊎◌, ◌++◌, ◌∷◌, [], length, codes, decimal, IfSome, IsOk, IsErr};
 ghost use Rattle.lx_base.specs.declared.TheConstants.{INPUT_BYTES};
 ghost use Rattle.lx_io.specs.Causes.{Rose};
-ghost use Rattle.lx_spec.specs.declared.Form.TheVariants.{Moves};
 ghost use Rattle.lx_spec.specs.declared.Job.TheVariants.{Check};
 ghost use Rattle.lx_spec.specs.Job.{show_of, wanted_of};
 ghost use Rattle.cuedesk.specs.Output.{WritesAll, WritesPrefix, WritesTaken};
@@ -23,19 +22,24 @@ use std::alloc::Global;
 
 /// Reads a show and writes one line about it: how many cues and channels it has, how many of its lines were skipped, and
 /// which was the first of them.
-pub(crate) fn check<S: Source, K: Sink>(alloc: Global, input: &mut S, output: &mut K) -> Status
-    ensures ok { result ≡ Status.Ok → IfSome (S.left input.old) (λ bytes. WritesAll (Check Moves) bytes (K.holds output.old) (K.holds output.new) × IsOk (show_of (Check Moves) bytes)) }
-    ensures refused { result ≡ Status.ShowRefused → IfSome (S.left input.old) (λ bytes. WritesAll (Check Moves) bytes (K.holds output.old) (K.holds output.new) × IsErr (show_of (Check Moves) bytes)) }
+pub(crate) fn check<S: Source, K: Sink>(
+    alloc: Global,
+    form: Form,
+    input: &mut S,
+    output: &mut K,
+) -> Status
+    ensures ok { result ≡ Status.Ok → IfSome (S.left input.old) (λ bytes. WritesAll (Check form) bytes (K.holds output.old) (K.holds output.new) × IsOk (show_of (Check form) bytes)) }
+    ensures refused { result ≡ Status.ShowRefused → IfSome (S.left input.old) (λ bytes. WritesAll (Check form) bytes (K.holds output.old) (K.holds output.new) × IsErr (show_of (Check form) bytes)) }
     ensures usage { result ≢ Status.Usage }
-    ensures prefix { IfSome (S.left input.old) (λ bytes. WritesPrefix (Check Moves) bytes (K.holds output.old) (K.holds output.new)) }
-    ensures unread { (result ≡ Status.ReadFault) ⊎ (result ≡ Status.InputTooLong) → IfSome (S.left input.old) (λ bytes. WritesTaken (Check Moves) bytes (S.left input.new) (K.holds output.old) (K.holds output.new)) }
+    ensures prefix { IfSome (S.left input.old) (λ bytes. WritesPrefix (Check form) bytes (K.holds output.old) (K.holds output.new)) }
+    ensures unread { (result ≡ Status.ReadFault) ⊎ (result ≡ Status.InputTooLong) → IfSome (S.left input.old) (λ bytes. WritesTaken (Check form) bytes (S.left input.new) (K.holds output.old) (K.holds output.new)) }
     ensures read { result ≡ Status.ReadFault → Rose (S.faults input.old) (S.faults input.new) }
     ensures write { result ≡ Status.WriteFault → Rose (K.faults output.old) (K.faults output.new) }
-    ensures long { result ≡ Status.InputTooLong → IfSome (S.left input.old) (λ bytes. INPUT_BYTES < length (wanted_of (Check Moves) bytes)) }
-    ensures within { (result ≡ Status.Ok) ⊎ (result ≡ Status.ShowRefused) → IfSome (S.left input.old) (λ bytes. length (wanted_of (Check Moves) bytes) ≤ INPUT_BYTES) }
+    ensures long { result ≡ Status.InputTooLong → IfSome (S.left input.old) (λ bytes. INPUT_BYTES < length (wanted_of (Check form) bytes)) }
+    ensures within { (result ≡ Status.Ok) ⊎ (result ≡ Status.ShowRefused) → IfSome (S.left input.old) (λ bytes. length (wanted_of (Check form) bytes) ≤ INPUT_BYTES) }
 {
     let mut lines = Lines::new(input);
-    match read_show(alloc, &mut lines, Form::Moves) {
+    match read_show(alloc, &mut lines, form) {
         Ok(loaded) => tell(&loaded, output),
         Err(fault) => refuse(fault, output),
     }

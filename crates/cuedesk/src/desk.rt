@@ -88,9 +88,9 @@ fn run<S: Source, K: Sink>(alloc: Global, job: Job, input: &mut S, output: &mut 
     ensures within { (result ≡ Status.Ok) ⊎ (result ≡ Status.ShowRefused) → IfSome (given_to job (S.left input.old)) (λ bytes. length (wanted_of job bytes) ≤ INPUT_BYTES) }
 {
     match job {
-        Job::Check(_) => check(alloc, input, output),
-        Job::Render(_) => render(alloc, input, output),
-        Job::Sheet(_) => sheet(alloc, input, output),
+        Job::Check(form) => check(alloc, form, input, output),
+        Job::Render(form) => render(alloc, form, input, output),
+        Job::Sheet(form) => sheet(alloc, form, input, output),
         Job::Make(_) => unreachable!(),
     }
 }

@@ -4,8 +4,7 @@
 ghost use Rattle.std.specs.Prelude.{◌≡◌, ◌≢◌, ◌≤◌, ◌<◌, ◌⊎◌, length, flat_map, IfSome, IsOk, IsErr};
 ghost use Rattle.lx_base.specs.declared.TheConstants.{INPUT_BYTES};
 ghost use Rattle.lx_io.specs.Causes.{Rose};
-ghost use Rattle.lx_spec.specs.declared.Form.TheVariants.{Moves};
-ghost use Rattle.lx_spec.specs.declared.Job.TheVariants.{Sheet};
+ghost use Rattle.lx_spec.specs.declared.Job.TheVariants as jobs;
 ghost use Rattle.lx_spec.specs.Job.{show_of, wanted_of};
 ghost use Rattle.cuedesk.specs.Output.{WritesAll, WritesPrefix, WritesTaken};
 ghost use Rattle.std.specs.Io.KnownBytes.{Appends};
@@ -24,19 +23,24 @@ use lx_show::{Form, Show};
 use std::alloc::Global;
 
 /// Reads a show and writes its cue list: each cue, rising, with its tracked levels.
-pub(crate) fn sheet<S: Source, K: Sink>(alloc: Global, input: &mut S, output: &mut K) -> Status
-    ensures ok { result ≡ Status.Ok → IfSome (S.left input.old) (λ bytes. WritesAll (Sheet Moves) bytes (K.holds output.old) (K.holds output.new) × IsOk (show_of (Sheet Moves) bytes)) }
-    ensures refused { result ≡ Status.ShowRefused → IfSome (S.left input.old) (λ bytes. WritesAll (Sheet Moves) bytes (K.holds output.old) (K.holds output.new) × IsErr (show_of (Sheet Moves) bytes)) }
+pub(crate) fn sheet<S: Source, K: Sink>(
+    alloc: Global,
+    form: Form,
+    input: &mut S,
+    output: &mut K,
+) -> Status
+    ensures ok { result ≡ Status.Ok → IfSome (S.left input.old) (λ bytes. WritesAll (jobs.Sheet form) bytes (K.holds output.old) (K.holds output.new) × IsOk (show_of (jobs.Sheet form) bytes)) }
+    ensures refused { result ≡ Status.ShowRefused → IfSome (S.left input.old) (λ bytes. WritesAll (jobs.Sheet form) bytes (K.holds output.old) (K.holds output.new) × IsErr (show_of (jobs.Sheet form) bytes)) }
     ensures usage { result ≢ Status.Usage }
-    ensures prefix { IfSome (S.left input.old) (λ bytes. WritesPrefix (Sheet Moves) bytes (K.holds output.old) (K.holds output.new)) }
-    ensures unread { (result ≡ Status.ReadFault) ⊎ (result ≡ Status.InputTooLong) → IfSome (S.left input.old) (λ bytes. WritesTaken (Sheet Moves) bytes (S.left input.new) (K.holds output.old) (K.holds output.new)) }
+    ensures prefix { IfSome (S.left input.old) (λ bytes. WritesPrefix (jobs.Sheet form) bytes (K.holds output.old) (K.holds output.new)) }
+    ensures unread { (result ≡ Status.ReadFault) ⊎ (result ≡ Status.InputTooLong) → IfSome (S.left input.old) (λ bytes. WritesTaken (jobs.Sheet form) bytes (S.left input.new) (K.holds output.old) (K.holds output.new)) }
     ensures read { result ≡ Status.ReadFault → Rose (S.faults input.old) (S.faults input.new) }
     ensures write { result ≡ Status.WriteFault → Rose (K.faults output.old) (K.faults output.new) }
-    ensures long { result ≡ Status.InputTooLong → IfSome (S.left input.old) (λ bytes. INPUT_BYTES < length (wanted_of (Sheet Moves) bytes)) }
-    ensures within { (result ≡ Status.Ok) ⊎ (result ≡ Status.ShowRefused) → IfSome (S.left input.old) (λ bytes. length (wanted_of (Sheet Moves) bytes) ≤ INPUT_BYTES) }
+    ensures long { result ≡ Status.InputTooLong → IfSome (S.left input.old) (λ bytes. INPUT_BYTES < length (wanted_of (jobs.Sheet form) bytes)) }
+    ensures within { (result ≡ Status.Ok) ⊎ (result ≡ Status.ShowRefused) → IfSome (S.left input.old) (λ bytes. length (wanted_of (jobs.Sheet form) bytes) ≤ INPUT_BYTES) }
 {
     let mut lines = Lines::new(input);
-    match read_show(alloc, &mut lines, Form::Moves) {
+    match read_show(alloc, &mut lines, form) {
         Ok(loaded) => list(alloc, &loaded.show, output),
         Err(fault) => refuse(fault, output),
     }

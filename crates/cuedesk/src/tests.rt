@@ -255,7 +255,7 @@ const PRESET: &[u8] =
     b"IDENT 3:0\nMANUFACTURER EXAMPLE\nCONSOLE DESK\nCLEAR ALL\nSET CHANNELS 24\n! front of house\nPATCH 1 1<1@100 2<2@100 3<3@50\n$SPECIAL 7\nCHAN 1@30\nCUE 1\nTEXT Preset\nUP 3\nDOWN 3\n$$SNAP 1\nCHAN 1@50 2@100\nCUE 2\nUP 5\nDOWN 5 1\nCHAN 1@50 3@FL\nCUE 3\nCHAN 2@100\n";
 
 /// Words, how the job ends over that show, and what it writes by the rules.
-const JOBS: [([&str; 2], Status, &[u8]); 8] = [
+const JOBS: [([&str; 2], Status, &[u8]); 10] = [
     (
         ["check", ""],
         Status::Ok,
@@ -267,6 +267,12 @@ const JOBS: [([&str; 2], Status, &[u8]); 8] = [
         b"cue 1 track 1 2 Preset\nrow 1 1=128 2=255\ncue 2 track 1 2\nrow 2 1=128 2=255 3=255\ncue 3 track 1 1\nrow 3 1=128 2=255 3=255\n",
     ),
     (["render", ""], Status::Ok, b"row 1 1=128 2=255\n"),
+    (
+        ["sheet", "states"],
+        Status::Ok,
+        b"cue 1 track 1 2 Preset\nrow 1 1=128 2=255\ncue 2 track 1 2\nrow 2 1=128 3=255\ncue 3 track 1 3\nrow 3 2=255\n",
+    ),
+    (["render", "states"], Status::Ok, b"row 1 1=128 2=255\n"),
     (["", ""], Status::Usage, b""),
     (["render", "moves"], Status::Usage, b""),
     (["run", "17"], Status::Usage, b""),

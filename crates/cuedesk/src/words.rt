@@ -3,6 +3,7 @@
 ghost use Rattle.std.specs.Prelude.{◌≡◌, None, Some, Err, map, string_bytes, IfOk};
 ghost use Rattle.cuedesk.specs.Output.{IsBuilt};
 ghost use Rattle.lx_spec.specs.Job.{job_of, form_of};
+ghost use Rattle.lx_spec.specs.Phrase.{ended};
 
 use lx_spec::{Form, Job};
 use std::alloc::Global;
@@ -16,7 +17,8 @@ pub enum WordsFault {
     Memory,
 }
 
-/// The job that the words name: `check`, `render` or `sheet`. `Usage` comes exactly where they are none of these.
+/// The job that the words name: `check`, `render` or `sheet`, or one of them and `states`. `Usage` comes exactly
+/// where they are none of these.
 pub fn words_of(_alloc: Global, words: &[String]) -> Result<Job, WordsFault>
     ensures job { IfOk result (λ job. job_of (map string_bytes words.now) ≡ Some job) }
     ensures built { IfOk result IsBuilt }
@@ -41,12 +43,25 @@ fn job_in(words: &[String]) -> Option<Job>
     }
 }
 
-/// How the levels are read.
+/// How the levels are read: as moves, or with the word `states` as whole looks.
 fn form_in(words: &[String]) -> Option<Form>
     ensures { result ≡ form_of (map string_bytes words.now) }
 {
+    let Some((word, rest)) = words.split_first() else {
+        return Some(Form::Moves);
+    };
+    match word.as_str() {
+        "states" => ended(rest, Form::States),
+        _ => None,
+    }
+}
+
+/// The form, where no further word is given.
+fn ended(words: &[String], form: Form) -> Option<Form>
+    ensures { result ≡ ended (map string_bytes words.now) form }
+{
     match words {
-        [] => Some(Form::Moves),
+        [] => Some(form),
         _ => None,
     }
 }

@@ -1,11 +1,12 @@
 -- The jobs of the program: the words that name each, what it is given, and what it writes.
 use Rattle.std.specs.Prelude.{ℕ, Option, Some, None, Result, List, [], ◌∷◌, option_map, codes, bytes_eq, if◌then◌else◌}
 use Rattle.lx_spec.specs.declared.Form.{Form}
-use Rattle.lx_spec.specs.declared.Form.TheVariants.{Moves}
+use Rattle.lx_spec.specs.declared.Form.TheVariants.{Moves, States}
 use Rattle.lx_spec.specs.declared.Job.{Job}
 use Rattle.lx_spec.specs.declared.Job.TheVariants.{Check, Render, Sheet, Make}
 use Rattle.lx_spec.specs.declared.TextFault.{TextFault}
 use Rattle.lx_spec.specs.Text.{lines_of}
+use Rattle.lx_spec.specs.Phrase.{ended}
 use Rattle.lx_spec.specs.Reading.{Reading, reads, lines_read}
 use Rattle.lx_spec.specs.CutInput.{first_lines}
 use Rattle.lx_spec.specs.CheckOutput.{check_output}
@@ -16,7 +17,7 @@ use Rattle.lx_spec.specs.MakeOutput.{made_input, make_output}
 -- the form that the words behind `check`, `render` and `sheet` name
 abbrev pub form_of : List (List ℕ) → Option Form
 form_of [] = Some Moves
-form_of other = None
+form_of (word ∷ rest) = if bytes_eq word (codes "states") then ended rest States else None
 
 -- the job that a list of words names, if they are one of the forms; no words name `make` as long as its generator is not built
 abbrev pub job_of : List (List ℕ) → Option Job
