@@ -28,9 +28,3 @@ returns-in-Err-clause-within g c = λ is. elim is [
   | inl ok ↦ refusal_isnt_ok _ _ c.in-Err.fault _ _ c.refuse.ensures.refused ok
   | inr refused ↦ refusal_fits c.args.form (Sheet c.args.form) ((sheet_tells c.args.form).over) _ c.new-lines.result c.read_show.new.lines _ _ _ c.in-Err.fault _ c.new-lines.ensures.unread c.new-lines.ensures.taken c.in-Err.ensures.answer c.refuse.ensures.refused refused
 ]
-
-pub returns-in-Err-clause-unread : goal.returns-in-Err-clause-unread
-returns-in-Err-clause-unread g c = λ is.
-    let same = c.in-Err.input-in-Err-1-own.given.1 (sym (c.in-Err.ensures.same_reference ∙ c.new-lines.ensures.same_reference)) in
-    subst (λ v. IfSome (g.S.Source.left c.args.input.now) (λ bytes. WritesTaken (Sheet c.args.form) bytes (g.S.Source.left v) (g.K.Sink.holds c.args.output.now) (g.K.Sink.holds c.refuse.new.output))) (sym same)
-    (refusal_cut c.args.form (Sheet c.args.form) ((sheet_tells c.args.form).over) _ c.new-lines.result c.read_show.new.lines _ _ _ c.in-Err.fault _ c.new-lines.ensures.unread c.new-lines.ensures.taken c.in-Err.ensures.answer c.refuse.ensures.refused is)
