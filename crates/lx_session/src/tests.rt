@@ -1,7 +1,6 @@
 //! Scripts over small shows, and what is written and counted: all of it is worked out by hand.
 
-ghost use Rattle.std.specs.Prelude.{◌≡◌, ◌<◌, None};
-ghost use Rattle.lx_io.specs.Causes.{one_more};
+ghost use Rattle.std.specs.Prelude.{◌<◌, None, false};
 
 use crate::{Listener, SessionFault, Tally, Turn, session, session_with};
 use lx_console::Console;
@@ -350,17 +349,6 @@ struct Recorder {
     faults: u64,
 }
 
-impl Recorder {
-    /// Counts a fault.
-    fn fail(&mut self) -> SinkFault
-        ensures fault { result ≡ SinkFault.Failed }
-        ensures count { self.new.faults ≡ one_more self.old.faults }
-    {
-        self.faults = self.faults.saturating_add(1);
-        SinkFault::Failed
-    }
-}
-
 impl Sink for Recorder {
     ghost holds = { λ _. None };
 
@@ -369,15 +357,17 @@ impl Sink for Recorder {
     ghost wants = { λ _. 0 };
 
     fn write(&mut self, piece: &[u8]) -> Result<usize, SinkFault> {
-        match self.record.extend_from_slice(piece) {
-            Ok(()) => Ok(piece.len()),
-            Err(_) => Err(self.fail()),
+        if self.record.extend_from_slice(piece).is_err() {
+            self.faults = self.faults.saturating_add(1);
+            return Err(SinkFault::Failed);
         }
+        Ok(piece.len())
     }
 
     fn flush(&mut self) -> Result<(), SinkFault> {
         if self.fails || self.record.push(b'|').is_err() {
-            return Err(self.fail());
+            self.faults = self.faults.saturating_add(1);
+            return Err(SinkFault::Failed);
         }
         Ok(())
     }
