@@ -1,0 +1,5 @@
+pub mod WrittenLines
+pub mod TapSteps
+pub mod WorkerSteps
+pub mod LastLines
+pub mod Zip

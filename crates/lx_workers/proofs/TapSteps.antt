@@ -1,0 +1,61 @@
+-- What a tap keeps grows.
+use Rattle.std.proofs.Common.{◌≡◌, ℕ, ◌⊎◌, inl, inr, Bool, true, false, cond, ltb, List, length, sym, ap, subst, arith}
+use mathlib.Core.List.{IsPrefix}
+use Rattle.lx_io.specs.Causes.{Rose}
+use Rattle.lx_spec.specs.declared.Command.{Command}
+use Rattle.lx_gate.specs.CommandLists.{longest, IsChained}
+use Rattle.lx_gate.specs.Readings.{Told, newest, HasRead, HasMissed, HasLearnt}
+use Rattle.lx_gate.proofs.Prefixes.{prefix_trans}
+use Rattle.lx_workers.specs.Works.{HasLooked, RoseOrSame}
+
+by_test : (b : Bool) (xs ys top : List Command) → IsPrefix xs top → IsPrefix ys top → IsPrefix (cond b ys xs) top
+by_test true xs ys top p q = q
+by_test false xs ys top p q = p
+
+-- what begins with two lists begins with the longer one
+pub longest_begins : (xs ys top : List Command) → IsPrefix xs top → IsPrefix ys top → IsPrefix (longest xs ys) top
+longest_begins xs ys top p q = by_test (ltb (length xs) (length ys)) xs ys top p q
+
+-- one change of a count after another
+pub rose_on : (a b c : ℕ) → RoseOrSame a b → Rose b c → Rose a c
+rose_on a b c (inl e) r = omega (arith, e, r)
+rose_on a b c (inr s) r = omega (arith, s, r)
+
+pub count_on : (a b c : ℕ) → RoseOrSame a b → RoseOrSame b c → RoseOrSame a c
+count_on a b c h (inl e) = subst (λ (n : ℕ). RoseOrSame a n) (sym e) h
+count_on a b c h (inr r) = inr (rose_on a b c h r)
+
+-- what is left as it was by a take, and what grew
+pub record HasTaken (before now : Told) : Type 0 where
+  pub learnt : now.learnt ≡ before.learnt
+  pub reads : RoseOrSame before.reads now.reads
+  pub misses : RoseOrSame before.misses now.misses
+  pub looked : HasLooked before now
+
+pub taken : (before now : Told) → HasRead before now ⊎ HasMissed before now → HasTaken before now
+taken before now (inl h) = record {
+  learnt = ap (λ (t : Told). t.learnt) h.rest;
+  reads = inr h.rose;
+  misses = inl (ap (λ (t : Told). t.misses) h.rest);
+  looked = inl h.rose;
+}
+taken before now (inr h) = record {
+  learnt = ap (λ (t : Told). t.learnt) h.rest;
+  reads = inl (ap (λ (t : Told). t.reads) h.rest);
+  misses = inr h.rose;
+  looked = inr h.rose;
+}
+
+-- a reading or a miss after earlier ones
+pub looked_on : (start before now : Told) → RoseOrSame start.reads before.reads → RoseOrSame start.misses before.misses → HasLooked before now → HasLooked start now
+looked_on start before now r m (inl h) = inl (rose_on start.reads before.reads now.reads r h)
+looked_on start before now r m (inr h) = inr (rose_on start.misses before.misses now.misses m h)
+
+-- what is kept grows with what is learnt
+pub learnt_begins : (before now : Told) (list : List Command) → HasLearnt before now list → IsChained now.seen now.learnt → IsPrefix (newest before) (newest now)
+learnt_begins before now list h chained =
+    let seen : now.seen ≡ before.seen = ap (λ (t : Told). t.seen) h.rest in
+    longest_begins before.seen before.learnt (newest now) (rw (← seen) chained.first) (prefix_trans before.learnt now.learnt (newest now) h.earlier chained.second)
+
+pub note_begins : (before now : Told) (list top : List Command) → HasLearnt before now list → IsChained now.seen now.learnt → IsPrefix (newest now) top → IsPrefix list top
+note_begins before now list top h chained q = prefix_trans list now.learnt top h.note (prefix_trans now.learnt (newest now) top chained.second q)

@@ -1,0 +1,96 @@
+-- Lines that are added to those of rising lists.
+use Rattle.std.proofs.Common.{◌≡◌, ℕ, ◌<◌, ◌+◌, ◌-◌, ◌^◌, min, List, [], ◌∷◌, ◌++◌, length, take, Option, Some, None, IfSome, IsSomeAnd, ◌≤◌, refl, sym, ap, ◌∙◌, subst, append-nil, arith}
+use Rattle.std.specs.Prelude.{reverse}
+use mathlib.Core.List.{IsPrefix, reverse-cons}
+use Rattle.std.specs.Io.KnownBytes.{Appends}
+use Rattle.std.proofs.KnownBytes.{Appends-nil, Appends-trans}
+use Rattle.std.proofs.Math.Seq.{take-append-add}
+use Rattle.std.proofs.lemmas.Grind.{flat_map-append}
+use Rattle.lx_io.specs.Puts.{AppendsFront}
+use Rattle.lx_io.proofs.Chain.{AppendsFront-is, AppendsFront-from}
+use Rattle.lx_spec.specs.Show.{Show}
+use Rattle.lx_spec.specs.declared.Command.{Command}
+use Rattle.lx_spec.specs.Versions.{version_text, versions_text}
+use Rattle.lx_gate.specs.declared.stamp.Stamp.{Stamp}
+use Rattle.lx_gate.specs.Frames.{IsFrame, frame_after, moment_after}
+use Rattle.lx_gate.proofs.Prefixes.{prefix_self, prefix_trans, prefix_length, prefix_whole}
+use Rattle.lx_workers.specs.Lines.{line, lines_of, Older, Falling, last_of, HasWritten, HasWrittenPart}
+
+versions-append : (show : Show) (u : ℕ) (xs ys : List (List Command)) → versions_text show u (xs ++ ys) ≡ versions_text show u xs ++ versions_text show u ys
+versions-append show u xs ys = flat_map-append (version_text show u) xs ys
+
+-- the line of the newest comes last
+lines-newest : (show : Show) (u : ℕ) (list : List Command) (lists : List (List Command)) → lines_of show u (list ∷ lists) ≡ lines_of show u lists ++ version_text show u list
+unfolding lines_of
+lines-newest show u list lists = ap (versions_text show u) (reverse-cons list lists) ∙ (versions-append show u (reverse lists) (list ∷ []) ∙ ap (λ w. versions_text show u (reverse lists) ++ w) (append-nil (version_text show u list)))
+
+-- the line of a version
+line_is : (show : Show) (u : ℕ) (list : List Command) (slots : List ℕ) (stamp : Stamp) → IsFrame show list u slots stamp → line u slots stamp ≡ version_text show u list
+unfolding line frame_after moment_after
+line_is show u list slots stamp frame = rw (frame.slots_are, frame.count_is, frame.moment_is) refl
+
+pub falls_on : (top top' : List Command) → IsPrefix top top' → (lists : List (List Command)) → Falling top lists → Falling top' lists
+falls_on top top' p [] h = tt
+falls_on top top' p (list ∷ lists) h = (prefix_trans list top top' h.0 p, h.1)
+
+-- no line was added
+pub goes_on : (show : Show) (u : ℕ) (before after : Option (List ℕ)) (top top' : List Command) (taken : ℕ) (last : Option ℕ) → IsPrefix top top'
+    → HasWritten show u before after top taken last → HasWritten show u before after top' taken last
+goes_on show u before after top top' taken last p h = record { lists = h.lists; text = h.text; chain = falls_on top top' p h.lists h.chain; taken_is = h.taken_is; last_is = h.last_is }
+
+newer : (top top' : List Command) (last : Option ℕ) (lists : List (List Command)) → IsPrefix top top' → Falling top lists → last ≡ last_of lists → IfSome last (λ n. n < length top') → Older top' lists
+newer top top' last [] p h e f = tt
+newer top top' last (list ∷ lists) p h e f =
+    let g : IfSome (last_of (list ∷ lists)) (λ n. n < length top') = subst (λ (o : Option ℕ). IfSome o (λ n. n < length top')) e f in
+    (prefix_trans list top top' h.0 p, g, h.1)
+
+chain_on : (show : Show) (u : ℕ) (before after : Option (List ℕ)) (top top' : List Command) (taken : ℕ) (last : Option ℕ) (count : ℕ) → IsPrefix top top'
+    → count ≡ length top' → IfSome last (λ n. n < count) → (h : HasWritten show u before after top taken last) → Falling top' (top' ∷ h.lists)
+chain_on show u before after top top' taken last count p is fresh h = (prefix_self top', newer top top' last h.lists p h.chain h.last_is (subst (λ (n : ℕ). IfSome last (λ m. m < n)) is fresh))
+
+-- the line of a longer list was added
+pub adds_line : (show : Show) (u : ℕ) (before after after' : Option (List ℕ)) (top top' : List Command) (taken : ℕ) (last : Option ℕ) (slots : List ℕ) (stamp : Stamp) → IsPrefix top top'
+    → IsFrame show top' u slots stamp → Appends after after' (line u slots stamp) → IfSome last (λ n. n < stamp.count)
+    → HasWritten show u before after top taken last → HasWritten show u before after' top' (min (taken + 1) (2 ^ 64 - 1)) (Some stamp.count)
+adds_line show u before after after' top top' taken last slots stamp p frame is fresh h =
+    let added : Appends after after' (version_text show u top') = subst (λ (w : List ℕ). Appends after after' w) (line_is show u top' slots stamp frame) is in
+    record {
+      lists = top' ∷ h.lists;
+      text = subst (λ (w : List ℕ). Appends before after' w) (sym (lines-newest show u top' h.lists)) (Appends-trans before after after' (lines_of show u h.lists) (version_text show u top') h.text added);
+      chain = chain_on show u before after top top' taken last stamp.count p frame.count_is fresh h;
+      taken_is = omega (arith, h.taken_is);
+      last_is = ap (λ (n : ℕ). Some n) frame.count_is;
+    }
+
+-- a prefix of the line was added
+pub adds_part : (show : Show) (u : ℕ) (before after after' : Option (List ℕ)) (top top' : List Command) (taken : ℕ) (last : Option ℕ) (slots : List ℕ) (stamp : Stamp) → IsPrefix top top'
+    → IsFrame show top' u slots stamp → AppendsFront after after' (line u slots stamp) → IfSome last (λ n. n < stamp.count)
+    → HasWritten show u before after top taken last → HasWrittenPart show u before after' top'
+adds_part show u before after after' top top' taken last slots stamp p frame is fresh h =
+    let front = AppendsFront-is after after' (version_text show u top') (subst (λ (w : List ℕ). AppendsFront after after' w) (line_is show u top' slots stamp frame) is) in
+    let lines = lines_of show u h.lists in
+    let text : Appends before after' (lines ++ take front.0 (version_text show u top')) = Appends-trans before after after' lines (take front.0 (version_text show u top')) h.text front.1 in
+    record {
+      lists = top' ∷ h.lists;
+      text = subst (λ (w : List ℕ). AppendsFront before after' w) (sym (lines-newest show u top' h.lists))
+          (AppendsFront-from before after' (lines ++ version_text show u top') (length lines + front.0) (subst (λ (w : List ℕ). Appends before after' w) (sym (take-append-add lines (version_text show u top') front.0)) text));
+      chain = chain_on show u before after top top' taken last stamp.count p frame.count_is fresh h;
+    }
+
+pub none_written : (show : Show) (u : ℕ) (before : Option (List ℕ)) (top : List Command) → HasWritten show u before before top 0 None
+unfolding lines_of
+none_written show u before top = record { lists = []; text = Appends-nil before; chain = tt; taken_is = refl; last_is = refl }
+
+whole : (top top' : List Command) (last : Option ℕ) (lists : List (List Command)) (count : ℕ) → IsPrefix top top' → Falling top lists → last ≡ last_of lists → count ≡ length top'
+    → IsSomeAnd last (λ n. count ≤ n) → last ≡ Some (length top')
+whole top top' last [] count p h e c k = absurd (subst (λ (o : Option ℕ). IsSomeAnd o (λ n. count ≤ n)) e k)
+whole top top' last (list ∷ lists) count p h e c k =
+    let at : IsSomeAnd (last_of (list ∷ lists)) (λ n. count ≤ n) = subst (λ (o : Option ℕ). IsSomeAnd o (λ n. count ≤ n)) e k in
+    let le : count ≤ length list = at in
+    let same : length list ≡ length top' = omega (arith, le, c, prefix_length list top h.0, prefix_length top top' p) in
+    e ∙ ap (λ (n : ℕ). Some n) same
+
+-- where nothing newer was taken, the last line is that of the newest list
+pub last_stays : (show : Show) (u : ℕ) (before after : Option (List ℕ)) (top top' : List Command) (taken : ℕ) (last : Option ℕ) (count : ℕ) → IsPrefix top top' → count ≡ length top'
+    → IsSomeAnd last (λ n. count ≤ n) → HasWritten show u before after top taken last → last ≡ Some (length top')
+last_stays show u before after top top' taken last count p c k h = whole top top' last h.lists count p h.chain h.last_is c k

@@ -1,0 +1,65 @@
+-- What a worker promises, and what an outlet has at the end.
+use Rattle.std.specs.Prelude.{◌≡◌, ℕ, ◌⊎◌, List, ◌∷◌, length, Some, None}
+use Rattle.std.specs.declared.option.Option.{Option}
+use Rattle.std.specs.Io.KnownBytes.{Appends}
+use mathlib.Core.List.{IsPrefix}
+use Rattle.lx_io.specs.declared.sink.SinkFault.{SinkFault}
+use Rattle.lx_io.specs.Causes.{Rose}
+use Rattle.lx_io.specs.Puts.{AppendsFront}
+use Rattle.lx_spec.specs.declared.Command.{Command}
+use Rattle.lx_spec.specs.Show.{Show}
+use Rattle.lx_gate.specs.Readings.{Tapped, Told, newest}
+use Rattle.lx_workers.specs.declared.worker.Served.{Served}
+use Rattle.lx_workers.specs.Lines.{lines_of, Older, Falling, HasWritten, HasWrittenPart, HasFault}
+
+-- a count rose, or is as before
+abbrev pub RoseOrSame : ℕ → ℕ → Type 0
+RoseOrSame before now = (now ≡ before) ⊎ Rose before now
+
+-- from the tap and the sink before to those after a worker's run
+pub record HasServed {K : Type 0} (holds : K → Option (List ℕ)) (faults wants : K → ℕ) (show : Show)
+    (tap tap' : Tapped) (sink sink' : K) (served : Served) : Type 0 where
+  pub written : served.fault ≡ None → HasWritten show tap.universe (holds sink) (holds sink') (newest tap'.told) served.taken served.last
+  pub part : (f : SinkFault) → served.fault ≡ Some f → HasWrittenPart show tap.universe (holds sink) (holds sink') (newest tap'.told)
+  pub cause : HasFault faults wants sink sink' served.fault
+  pub goes_on : IsPrefix (newest tap.told) (newest tap'.told)
+  pub same_universe : tap'.universe ≡ tap.universe
+  pub reads : RoseOrSame tap.told.reads tap'.told.reads
+  pub misses : RoseOrSame tap.told.misses tap'.told.misses
+
+-- a step of a worker that had no fault: what was served up to it is served up to its end
+pub record HasStepped {K : Type 0} (holds : K → Option (List ℕ)) (faults wants : K → ℕ) (show : Show)
+    (tap tap' : Tapped) (sink sink' : K) (served served' : Served) : Type 0 where
+  pub serves : (start : Tapped) (from : K) → HasServed holds faults wants show start tap from sink served
+      → HasServed holds faults wants show start tap' from sink' served'
+  pub goes_on : IsPrefix (newest tap.told) (newest tap'.told)
+  pub same_learnt : tap'.told.learnt ≡ tap.told.learnt
+  pub last : (start : Tapped) (from : K) → HasServed holds faults wants show start tap from sink served → served'.fault ≡ None
+      → served'.last ≡ Some (length (newest tap'.told))
+
+-- the tap's port had a reading or a miss
+abbrev pub HasLooked : Told → Told → Type 0
+HasLooked before now = Rose before.reads now.reads ⊎ Rose before.misses now.misses
+
+-- an outlet has the lines of rising lists, of which the last begins with all that was published
+pub record HasAll (show : Show) (universe : ℕ) (before after : Option (List ℕ)) (published : List Command) : Type 0 where
+  pub top : List Command
+  pub earlier : List (List Command)
+  pub begins : IsPrefix published top
+  pub chain : Older top earlier
+  pub text : Appends before after (lines_of show universe (top ∷ earlier))
+
+-- where it failed, a prefix of lines of rising lists, all prefixes of one that begins with what was published
+pub record HasPart (show : Show) (universe : ℕ) (before after : Option (List ℕ)) (published : List Command) : Type 0 where
+  pub top : List Command
+  pub lists : List (List Command)
+  pub begins : IsPrefix published top
+  pub chain : Falling top lists
+  pub text : AppendsFront before after (lines_of show universe lists)
+
+-- what an outlet got, and its fault
+pub record Delivered {K : Type 0} (holds : K → Option (List ℕ)) (faults wants : K → ℕ) (show : Show) (universe : ℕ)
+    (sink sink' : K) (published : List Command) (fault : Option SinkFault) : Type 0 where
+  pub whole : fault ≡ None → HasAll show universe (holds sink) (holds sink') published
+  pub part : (f : SinkFault) → fault ≡ Some f → HasPart show universe (holds sink) (holds sink') published
+  pub cause : HasFault faults wants sink sink' fault

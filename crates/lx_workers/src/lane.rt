@@ -1,0 +1,53 @@
+//! What a worker owns while it runs, and how it ended.
+ghost use Rattle.std.specs.Prelude.{◌≡◌, IsSome};
+ghost use Rattle.lx_gate.specs.Notes.{IsNoteOf, list_of};
+ghost use Rattle.lx_gate.specs.Readings.{Tapped};
+ghost use Rattle.lx_workers.specs.Works.{HasServed, Delivered};
+
+use crate::worker::step;
+use crate::{Job, Served, Stop, serve};
+use lx_gate::{Note, Port, Tap};
+use lx_io::{Pace, Sink};
+use std::sync::Wait;
+
+/// One outlet's worker: its tap and its sink, the pace that it keeps, and the stop that it watches.
+#[derive(Drop)]
+pub struct Lane<'a, P: Port, K, C> {
+    pub tap: Tap<P>,
+    pub sink: K,
+    pub served: Served,
+    pub stop: &'a Stop,
+    pub pace: &'a C,
+}
+
+impl<P: Port, K: Sink, C: Pace> Job for Lane<'_, P, K, C> {
+    ghost ready = { λ x. Unit {0} };
+
+    ghost done = { λ x y. HasServed K.holds K.faults K.wants P.show x.tap y.tap x.sink y.sink y.served };
+
+    fn run<R: Wait>(&mut self, rt: &R) {
+        self.served = serve(
+            rt,
+            &mut self.tap,
+            &mut self.sink,
+            self.pace,
+            &mut self.stop.watch(),
+        );
+    }
+}
+
+impl<P: Port, K: Sink, C: Pace> Lane<'_, P, K, C> {
+    /// Learns what is published at the end and takes once more, unless the sink had a fault. The last line is then that of a
+    /// list which begins with the note's.
+    pub fn finish(&mut self, note: Note)
+        requires gate { IsNoteOf P.show P.book note }
+        ensures delivered { (start : Tapped) (from : K) → HasServed K.holds K.faults K.wants P.show start self.old.tap from self.old.sink self.old.served → Delivered K.holds K.faults K.wants P.show start.universe from self.new.sink (list_of note) self.new.served.fault }
+        ensures unwritten { IsSome self.old.served.fault → self.new.sink ≡ self.old.sink }
+    {
+        self.tap.learn(note);
+        if self.served.fault.is_some() {
+            return;
+        }
+        step(&mut self.tap, &mut self.sink, self.pace, &mut self.served);
+    }
+}

@@ -1,0 +1,110 @@
+//! One output worker.
+ghost use Rattle.std.specs.Prelude.{◌≡◌, ◌<◌, ◌≤◌, IsTrue, true, false, IfSome, IsSomeAnd, Some, None, length};
+ghost use Rattle.lx_io.specs.Puts.{Puts};
+ghost use Rattle.lx_gate.specs.Readings.{newest};
+ghost use Rattle.lx_workers.specs.Lines.{line};
+ghost use Rattle.lx_workers.specs.Works.{HasServed, HasStepped, HasLooked};
+
+use crate::Halt;
+use lx_gate::{Port, Stamp, Tap};
+use lx_io::{Pace, Sink, SinkFault};
+use lx_script::put_frame;
+use std::sync::Wait;
+
+/// How a worker ended: how many lines it wrote, how many commands led to the last, and its sink's fault.
+#[derive(Clone, Copy, Debug, PartialEq, Eq)]
+pub struct Served {
+    pub taken: u64,
+    pub last: Option<u64>,
+    pub fault: Option<SinkFault>,
+}
+
+impl Served {
+    /// Nothing was written.
+    pub fn none() -> Served
+        ensures { result ≡ record { taken = 0; last = None; fault = None } }
+    {
+        Served {
+            taken: 0,
+            last: None,
+            fault: None,
+        }
+    }
+}
+
+/// Takes again and again until a stop was known before a take, or the sink had a fault. It writes the line of the first
+/// take and of each that is newer than the last line.
+pub fn serve<R: Wait, P: Port, K: Sink, C: Pace, H: Halt>(
+    rt: &R,
+    tap: &mut Tap<P>,
+    sink: &mut K,
+    pace: &C,
+    halt: &mut H,
+) -> Served
+    ensures served { HasServed K.holds K.faults K.wants P.show tap.old tap.new sink.old sink.new result }
+    ensures learnt { tap.new.told.learnt ≡ tap.old.told.learnt }
+    ensures last { result.fault ≡ None → result.last ≡ Some (length (newest tap.new.told)) }
+    ensures looked { result.fault ≡ None → HasLooked tap.old.told tap.new.told }
+    ensures halted { result.fault ≡ None → H.known halt.new ≡ true }
+{
+    let mut served = Served::none();
+    for _ in rt.forever() {
+        let halted = halt.is_set();
+        step(tap, sink, pace, &mut served);
+        if halted || served.fault.is_some() {
+            return served;
+        }
+    }
+    unreachable!()
+}
+
+/// One take, and its line where it is the first or newer than the last.
+pub(crate) fn step<P: Port, K: Sink, C: Pace>(
+    tap: &mut Tap<P>,
+    sink: &mut K,
+    pace: &C,
+    served: &mut Served,
+)
+    requires { served.old.fault ≡ None }
+    ensures stepped { HasStepped K.holds K.faults K.wants P.show tap.old tap.new sink.old sink.new served.old served.new }
+    ensures looked { HasLooked tap.old.told tap.new.told }
+{
+    let mut slots = [0; 512];
+    let stamp = tap.take(&mut slots);
+    if !is_newer(stamp.count, served.last) {
+        pace.pause();
+        return;
+    }
+    match put_line(tap.universe(), &slots, stamp, sink) {
+        Ok(()) => {
+            served.taken = served.taken.saturating_add(1);
+            served.last = Some(stamp.count);
+            pace.taken(tap.universe(), stamp.count);
+        }
+        Err(fault) => served.fault = Some(fault),
+    }
+}
+
+/// Appends the line of a version.
+#[tactic(auto, unfolding(crate::specs::Lines::line))]
+fn put_line<K: Sink>(
+    universe: u8,
+    slots: &[u8; 512],
+    stamp: Stamp,
+    sink: &mut K,
+) -> Result<(), SinkFault>
+    ensures { Puts K.holds K.faults K.wants sink.old sink.new result (line universe slots.now stamp) }
+{
+    put_frame(Some(stamp.count), stamp.moment, universe, slots, sink)
+}
+
+/// Whether there was no line yet, or the last was of fewer commands.
+fn is_newer(count: u64, last: Option<u64>) -> bool
+    ensures newer { IsTrue result → IfSome last (λ n. n < count) }
+    ensures known { result ≡ false → IsSomeAnd last (λ n. count ≤ n) }
+{
+    match last {
+        None => true,
+        Some(n) => n < count,
+    }
+}
