@@ -1,3 +1,5 @@
+//! Tests of the program as a call.
+
 ghost use Rattle.std.specs.Prelude.{◌<◌};
 
 use crate::{Status, desk};

@@ -1,3 +1,5 @@
+//! Numbers of channels, and ranges of them.
+
 ghost use Rattle.std.specs.Prelude.{◌≡◌, ◌≤◌, ◌↔◌, IsSome, IfSome};
 
 use crate::CHANNELS;

@@ -1,3 +1,5 @@
+//! Cue numbers.
+
 ghost use Rattle.std.specs.Prelude.{◌≡◌, ◌≤◌, ◌↔◌, IsSome, IfSome};
 
 use crate::CUE_MAX;

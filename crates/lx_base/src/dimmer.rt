@@ -1,3 +1,5 @@
+//! Numbers of dimmers.
+
 ghost use Rattle.std.specs.Prelude.{◌≡◌, ◌≤◌, ◌↔◌, IsSome, IfSome};
 
 use crate::DIMMERS;

@@ -1,3 +1,5 @@
+//! Numbers of groups.
+
 ghost use Rattle.std.specs.Prelude.{◌≡◌, ◌≤◌, ◌↔◌, IsSome, IfSome};
 
 use crate::GROUPS;

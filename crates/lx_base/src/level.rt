@@ -1,3 +1,5 @@
+//! Levels, and how one is scaled by another.
+
 ghost use Rattle.std.specs.Prelude.{◌≡◌, ◌≤◌};
 ghost use Rattle.lx_base.specs.Numbers.{percent, scaled};
 

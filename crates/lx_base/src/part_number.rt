@@ -1,3 +1,5 @@
+//! Numbers of a cue's parts.
+
 ghost use Rattle.std.specs.Prelude.{◌≡◌, ◌≤◌, ◌↔◌, IsSome, IfSome};
 
 use crate::PARTS;

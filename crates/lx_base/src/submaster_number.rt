@@ -1,3 +1,5 @@
+//! Numbers of submasters.
+
 ghost use Rattle.std.specs.Prelude.{◌≡◌, ◌≤◌, ◌↔◌, IsSome, IfSome};
 
 use crate::SUBS;

@@ -1,3 +1,5 @@
+//! Tests of the numbers, of scaling and of rows.
+
 use crate::{
     CHANNELS, CUE_MAX, Chan, ChanRange, CueNo, DIMMERS, Dimmer, GROUPS, GroupNo, Level, PARTS,
     PartNo, SUBS, SubNo, next_change, of_percent, scale, scale_into,

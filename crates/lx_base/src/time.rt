@@ -1,3 +1,5 @@
+//! Times and moments.
+
 /// A time or a delay, in hundredths of a second.
 pub type Cs = u32;
 

@@ -1,3 +1,5 @@
+//! How the sources in memory hand out their bytes.
+
 ghost use Rattle.std.specs.Prelude.{◌≡◌, ◌≤◌, ◌+◌, ◌-◌, take, drop, length, min};
 
 /// Moves the first bytes from a place on, at most `piece`, into the front of `buf`, and says how many.

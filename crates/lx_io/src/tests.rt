@@ -1,3 +1,5 @@
+//! Tests of the sources and sinks.
+
 use crate::shapes::{each_kept, in_a_row};
 use crate::{
     Failed, MemSink, MemSource, Pace, PlainSink, PlainSource, Sink, SinkFault, Source, StdSink,

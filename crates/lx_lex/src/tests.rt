@@ -1,3 +1,5 @@
+//! Tests of lines, tokens and numbers.
+
 ghost use Rattle.std.specs.Prelude.{◌≡◌, ◌<◌, ◌≤◌, ◌+◌, ◌-◌, max, nat_le, None, IsTrue, IfSome, fold, length, if◌then◌else◌};
 ghost use Rattle.lx_base.specs.declared.TheConstants.{INPUT_BYTES, LINE_BYTES};
 ghost use Rattle.lx_io.specs.Causes.{Rose};

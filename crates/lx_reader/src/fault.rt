@@ -1,3 +1,5 @@
+//! Why a show text is refused.
+
 use thiserror::Error;
 
 /// Why a show wasn't read. The faults of a text carry the number of the first line that has one, from 1.

@@ -1,3 +1,5 @@
+//! What reading a show text gives.
+
 use lx_show::Show;
 
 /// A show that was read.

@@ -1,3 +1,5 @@
+//! Tests of the reader.
+
 ghost use Rattle.std.specs.Prelude.{◌<◌};
 
 use crate::{Loaded, ShowFault, read_show};

@@ -1,12 +1,14 @@
 -- The jobs of the program: the words that name each, what it is given, and what it writes.
-use Rattle.std.specs.Prelude.{ℕ, Option, Some, None, Result, List, [], ◌∷◌, option_map, codes, bytes_eq, if◌then◌else◌}
+use Rattle.std.specs.Prelude.{ℕ, ◌==◌, Bool, false, Option, Some, None, Result, List, [], ◌∷◌, option_and_then, option_map, codes, bytes_eq, if◌then◌else◌}
+use Rattle.lx_base.specs.declared.TheConstants.{CUES, UNIVERSES}
 use Rattle.lx_spec.specs.declared.Form.{Form}
 use Rattle.lx_spec.specs.declared.Form.TheVariants.{Moves, States}
 use Rattle.lx_spec.specs.declared.Job.{Job}
-use Rattle.lx_spec.specs.declared.Job.TheVariants.{Check, Render, Sheet, Make}
+use Rattle.lx_spec.specs.declared.Job.TheVariants.{Check, Render, Sheet, Make, Run}
 use Rattle.lx_spec.specs.declared.TextFault.{TextFault}
 use Rattle.lx_spec.specs.Text.{lines_of}
-use Rattle.lx_spec.specs.Phrase.{ended}
+use Rattle.lx_spec.specs.Numerals.{read_whole}
+use Rattle.lx_spec.specs.Phrase.{ended, read_as}
 use Rattle.lx_spec.specs.Reading.{Reading, reads, lines_read}
 use Rattle.lx_spec.specs.CutInput.{first_lines}
 use Rattle.lx_spec.specs.CheckOutput.{check_output}
@@ -14,18 +16,38 @@ use Rattle.lx_spec.specs.SheetOutput.{sheet_output}
 use Rattle.lx_spec.specs.RenderOutput.{render_output, input_wanted, OutputPlacesAreEdits}
 use Rattle.lx_spec.specs.MakeOutput.{made_input, make_output}
 
--- the form that the words behind `check`, `render` and `sheet` name
+-- the form that the last words of a job name
 abbrev pub form_of : List (List ℕ) → Option Form
 form_of [] = Some Moves
 form_of (word ∷ rest) = if bytes_eq word (codes "states") then ended rest States else None
 
--- the job that a list of words names, if they are one of the forms; no words name `make` as long as its generator is not built
+abbrev pub leads_with_zero : List ℕ → Bool
+leads_with_zero [] = false
+leads_with_zero (b ∷ bs) = b == 48
+
+-- a whole number among the words, from 1 up to the most: digits without a leading zero
+abbrev pub plain_number : ℕ → List ℕ → Option ℕ
+plain_number most word = if leads_with_zero word then None else read_as (read_whole 1 most word)
+
+-- one number, and no word behind it
+abbrev pub number_alone : ℕ → List (List ℕ) → Option ℕ
+number_alone most [] = None
+number_alone most (word ∷ rest) = option_and_then (plain_number most word) (ended rest)
+
+-- the universes and the form that the words behind `run` name
+abbrev pub run_of : List (List ℕ) → Option Job
+run_of [] = None
+run_of (word ∷ rest) = option_and_then (plain_number UNIVERSES word) (λ universes. option_map (Run universes) (form_of rest))
+
+-- the job that a list of words names, if they are one of the forms
 abbrev pub job_of : List (List ℕ) → Option Job
 job_of [] = None
 job_of (name ∷ rest) =
     if bytes_eq name (codes "check") then option_map Check (form_of rest)
     else if bytes_eq name (codes "render") then option_map Render (form_of rest)
     else if bytes_eq name (codes "sheet") then option_map Sheet (form_of rest)
+    else if bytes_eq name (codes "make") then option_map Make (number_alone CUES rest)
+    else if bytes_eq name (codes "run") then run_of rest
     else None
 
 -- the bytes that a job is given, where its source tells what it has left: `make` is given none
@@ -34,6 +56,7 @@ given_to (Check form) left = left
 given_to (Render form) left = left
 given_to (Sheet form) left = left
 given_to (Make n) left = Some []
+given_to (Run universes form) left = left
 
 -- the show that a job is about
 abbrev pub show_of : Job → List ℕ → Result Reading TextFault
@@ -41,6 +64,7 @@ show_of (Check form) bytes = reads form bytes
 show_of (Render form) bytes = reads form bytes
 show_of (Sheet form) bytes = reads form bytes
 show_of (Make n) bytes = reads Moves (made_input n)
+show_of (Run universes form) bytes = reads form bytes
 
 -- what a job writes, where want of memory refuses the edits at these places
 abbrev pub output_of : Job → List ℕ → List ℕ → List ℕ
@@ -48,20 +72,24 @@ output_of (Check form) bytes places = check_output form bytes
 output_of (Render form) bytes places = render_output form bytes places
 output_of (Sheet form) bytes places = sheet_output form bytes
 output_of (Make n) bytes places = make_output n places
+output_of (Run universes form) bytes places = render_output form bytes places
 
--- want of memory refuses nothing but edits that the desk accepts
+-- want of memory refuses nothing but edits that the desk accepts; live, any attempt may be refused where there is no memory to hand it on
 abbrev pub WantsEdits : Job → List ℕ → List ℕ → Type 0
 WantsEdits (Check form) bytes places = Unit {0}
 WantsEdits (Render form) bytes places = OutputPlacesAreEdits bytes places (reads form bytes)
 WantsEdits (Sheet form) bytes places = Unit {0}
 WantsEdits (Make n) bytes places = OutputPlacesAreEdits (made_input n) places (reads Moves (made_input n))
+WantsEdits (Run universes form) bytes places = Unit {0}
 
--- the bytes of a job's input that are wanted
+-- the bytes of an input that a show text wants
 abbrev pub show_wanted : List ℕ → List ℕ
 show_wanted bytes = first_lines (lines_read (lines_of bytes)) bytes
 
+-- the bytes of a job's input that are wanted
 abbrev pub wanted_of : Job → List ℕ → List ℕ
 wanted_of (Check form) bytes = show_wanted bytes
 wanted_of (Render form) bytes = input_wanted form bytes
 wanted_of (Sheet form) bytes = show_wanted bytes
 wanted_of (Make n) bytes = input_wanted Moves (made_input n)
+wanted_of (Run universes form) bytes = input_wanted form bytes

@@ -4,13 +4,14 @@ ghost use Rattle.std.specs.Prelude.{◌≡◌, ℕ, List, [], ◌∷◌, ◌++�
 ghost use Rattle.lx_spec.specs.Text.{label_of};
 
 use arrayvec::ArrayVec;
+use lx_base::LABEL_BYTES;
 use std::marker::Model;
 
-/// A label of at most 240 bytes, without CR and LF, which does not begin with a space or a tab. A label
+/// A label of at most `LABEL_BYTES` bytes, without CR and LF, which does not begin with a space or a tab. A label
 /// without bytes is no label. Contracts see its bytes.
 #[derive(Drop)]
 pub struct Label {
-    bytes: ArrayVec<u8, 240>,
+    bytes: ArrayVec<u8, LABEL_BYTES>,
 }
 
 impl Model for Label {
@@ -62,7 +63,7 @@ impl Label {
     }
 
     /// The label that is made from bytes: every CR and LF is left out, then leading spaces and tabs, and the
-    /// first 240 bytes of the rest are kept.
+    /// first `LABEL_BYTES` bytes of the rest are kept.
     pub fn new(bytes: &[u8]) -> Label
         ensures { result ≡ label_of bytes.now }
     {
@@ -96,7 +97,7 @@ impl Label {
 
 /// Where the bytes kept are the label of some bytes, they become the label of these and one more.
 #[inline]
-fn keep(kept: &mut ArrayVec<u8, 240>, byte: u8)
+fn keep(kept: &mut ArrayVec<u8, LABEL_BYTES>, byte: u8)
     ensures { (front : List ℕ) → kept.old.items ≡ label_of front → kept.new.items ≡ label_of (front ++ byte ∷ []) }
 {
     if is_line_end(byte) {

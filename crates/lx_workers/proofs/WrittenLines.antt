@@ -14,14 +14,15 @@ use Rattle.lx_spec.specs.Versions.{version_text, versions_text}
 use Rattle.lx_gate.specs.declared.stamp.Stamp.{Stamp}
 use Rattle.lx_gate.specs.Frames.{IsFrame, frame_after, moment_after}
 use Rattle.lx_gate.proofs.Prefixes.{prefix_self, prefix_trans, prefix_length, prefix_whole}
-use Rattle.lx_workers.specs.Lines.{line, lines_of, Older, Falling, last_of, HasWritten, HasWrittenPart}
+use Rattle.lx_spec.specs.Versions.{outlet_text, Older, Falling}
+use Rattle.lx_workers.specs.Lines.{line, last_of, HasWritten, HasWrittenPart}
 
 versions-append : (show : Show) (u : ℕ) (xs ys : List (List Command)) → versions_text show u (xs ++ ys) ≡ versions_text show u xs ++ versions_text show u ys
 versions-append show u xs ys = flat_map-append (version_text show u) xs ys
 
 -- the line of the newest comes last
-lines-newest : (show : Show) (u : ℕ) (list : List Command) (lists : List (List Command)) → lines_of show u (list ∷ lists) ≡ lines_of show u lists ++ version_text show u list
-unfolding lines_of
+lines-newest : (show : Show) (u : ℕ) (list : List Command) (lists : List (List Command)) → outlet_text show u (list ∷ lists) ≡ outlet_text show u lists ++ version_text show u list
+unfolding outlet_text
 lines-newest show u list lists = ap (versions_text show u) (reverse-cons list lists) ∙ (versions-append show u (reverse lists) (list ∷ []) ∙ ap (λ w. versions_text show u (reverse lists) ++ w) (append-nil (version_text show u list)))
 
 -- the line of a version
@@ -56,7 +57,7 @@ adds_line show u before after after' top top' taken last slots stamp p frame is 
     let added : Appends after after' (version_text show u top') = subst (λ (w : List ℕ). Appends after after' w) (line_is show u top' slots stamp frame) is in
     record {
       lists = top' ∷ h.lists;
-      text = subst (λ (w : List ℕ). Appends before after' w) (sym (lines-newest show u top' h.lists)) (Appends-trans before after after' (lines_of show u h.lists) (version_text show u top') h.text added);
+      text = subst (λ (w : List ℕ). Appends before after' w) (sym (lines-newest show u top' h.lists)) (Appends-trans before after after' (outlet_text show u h.lists) (version_text show u top') h.text added);
       chain = chain_on show u before after top top' taken last stamp.count p frame.count_is fresh h;
       taken_is = omega (arith, h.taken_is);
       last_is = ap (λ (n : ℕ). Some n) frame.count_is;
@@ -68,7 +69,7 @@ pub adds_part : (show : Show) (u : ℕ) (before after after' : Option (List ℕ)
     → HasWritten show u before after top taken last → HasWrittenPart show u before after' top'
 adds_part show u before after after' top top' taken last slots stamp p frame is fresh h =
     let front = AppendsFront-is after after' (version_text show u top') (subst (λ (w : List ℕ). AppendsFront after after' w) (line_is show u top' slots stamp frame) is) in
-    let lines = lines_of show u h.lists in
+    let lines = outlet_text show u h.lists in
     let text : Appends before after' (lines ++ take front.0 (version_text show u top')) = Appends-trans before after after' lines (take front.0 (version_text show u top')) h.text front.1 in
     record {
       lists = top' ∷ h.lists;
@@ -78,7 +79,7 @@ adds_part show u before after after' top top' taken last slots stamp p frame is 
     }
 
 pub none_written : (show : Show) (u : ℕ) (before : Option (List ℕ)) (top : List Command) → HasWritten show u before before top 0 None
-unfolding lines_of
+unfolding outlet_text
 none_written show u before top = record { lists = []; text = Appends-nil before; chain = tt; taken_is = refl; last_is = refl }
 
 whole : (top top' : List Command) (last : Option ℕ) (lists : List (List Command)) (count : ℕ) → IsPrefix top top' → Falling top lists → last ≡ last_of lists → count ≡ length top'

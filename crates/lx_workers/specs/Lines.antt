@@ -10,26 +10,12 @@ use Rattle.lx_io.specs.Puts.{AppendsFront}
 use Rattle.lx_spec.specs.declared.Command.{Command}
 use Rattle.lx_spec.specs.Show.{Show}
 use Rattle.lx_spec.specs.Replies.{frame_text}
-use Rattle.lx_spec.specs.Versions.{versions_text}
+use Rattle.lx_spec.specs.Versions.{outlet_text, Falling}
 use Rattle.lx_gate.specs.declared.stamp.Stamp.{Stamp}
-
--- the lines of the versions of lists, of which the newest stands first
-unfoldable pub lines_of : Show → ℕ → List (List Command) → List ℕ
-lines_of show universe lists = versions_text show universe (reverse lists)
 
 -- the line of these slots under this stamp
 unfoldable pub line : ℕ → List ℕ → Stamp → List ℕ
 line universe slots stamp = frame_text (decimal stamp.count ∷ []) stamp.moment universe slots
-
--- each list is a prefix of the one after it, and shorter
-abbrev pub Older : List Command → List (List Command) → Type 0
-Older list [] = Unit {0}
-Older list (earlier ∷ lists) = IsPrefix earlier list × (length earlier < length list) × Older earlier lists
-
--- the newest is a prefix of this list
-abbrev pub Falling : List Command → List (List Command) → Type 0
-Falling top [] = Unit {0}
-Falling top (list ∷ lists) = IsPrefix list top × Older list lists
 
 -- the number of commands of the newest list
 abbrev pub last_of : List (List Command) → Option ℕ
@@ -39,7 +25,7 @@ last_of (list ∷ lists) = Some (length list)
 -- the lines of rising lists were appended, all prefixes of one list
 pub record HasWritten (show : Show) (universe : ℕ) (before after : Option (List ℕ)) (top : List Command) (taken : ℕ) (last : Option ℕ) : Type 0 where
   pub lists : List (List Command)
-  pub text : Appends before after (lines_of show universe lists)
+  pub text : Appends before after (outlet_text show universe lists)
   pub chain : Falling top lists
   pub taken_is : taken ≡ min (length lists) (2 ^ 64 - 1)
   pub last_is : last ≡ last_of lists
@@ -47,7 +33,7 @@ pub record HasWritten (show : Show) (universe : ℕ) (before after : Option (Lis
 -- a prefix of such lines was appended
 pub record HasWrittenPart (show : Show) (universe : ℕ) (before after : Option (List ℕ)) (top : List Command) : Type 0 where
   pub lists : List (List Command)
-  pub text : AppendsFront before after (lines_of show universe lists)
+  pub text : AppendsFront before after (outlet_text show universe lists)
   pub chain : Falling top lists
 
 -- neither count of a sink has fallen, and a fault comes only where its own count rose

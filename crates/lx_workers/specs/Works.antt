@@ -10,7 +10,8 @@ use Rattle.lx_spec.specs.declared.Command.{Command}
 use Rattle.lx_spec.specs.Show.{Show}
 use Rattle.lx_gate.specs.Readings.{Tapped, Told, newest}
 use Rattle.lx_workers.specs.declared.worker.Served.{Served}
-use Rattle.lx_workers.specs.Lines.{lines_of, Older, Falling, HasWritten, HasWrittenPart, HasFault}
+use Rattle.lx_spec.specs.Versions.{outlet_text, Older, Falling}
+use Rattle.lx_workers.specs.Lines.{HasWritten, HasWrittenPart, HasFault}
 
 -- a count rose, or is as before
 abbrev pub RoseOrSame : ℕ → ℕ → Type 0
@@ -47,7 +48,7 @@ pub record HasAll (show : Show) (universe : ℕ) (before after : Option (List �
   pub earlier : List (List Command)
   pub begins : IsPrefix published top
   pub chain : Older top earlier
-  pub text : Appends before after (lines_of show universe (top ∷ earlier))
+  pub text : Appends before after (outlet_text show universe (top ∷ earlier))
 
 -- where it failed, a prefix of lines of rising lists, all prefixes of one that begins with what was published
 pub record HasPart (show : Show) (universe : ℕ) (before after : Option (List ℕ)) (published : List Command) : Type 0 where
@@ -55,7 +56,7 @@ pub record HasPart (show : Show) (universe : ℕ) (before after : Option (List �
   pub lists : List (List Command)
   pub begins : IsPrefix published top
   pub chain : Falling top lists
-  pub text : AppendsFront before after (lines_of show universe lists)
+  pub text : AppendsFront before after (outlet_text show universe lists)
 
 -- what an outlet got, and its fault
 pub record Delivered {K : Type 0} (holds : K → Option (List ℕ)) (faults wants : K → ℕ) (show : Show) (universe : ℕ)
