@@ -32,12 +32,12 @@ plain_number most word = if leads_with_zero word then None else read_as (read_wh
 -- one number, and no word behind it
 abbrev pub number_alone : ℕ → List (List ℕ) → Option ℕ
 number_alone most [] = None
-number_alone most (word ∷ rest) = option_and_then (plain_number most word) (ended rest)
+number_alone most (word ∷ rest) = option_and_then (ended rest) (plain_number most word)
 
 -- the universes and the form that the words behind `run` name
 abbrev pub run_of : List (List ℕ) → Option Job
 run_of [] = None
-run_of (word ∷ rest) = option_and_then (plain_number UNIVERSES word) (λ universes. option_map (Run universes) (form_of rest))
+run_of (word ∷ rest) = option_and_then (λ universes. option_map (Run universes) (form_of rest)) (plain_number UNIVERSES word)
 
 -- the job that a list of words names, if they are one of the forms
 abbrev pub job_of : List (List ℕ) → Option Job
