@@ -1,5 +1,5 @@
 -- A gate beside the console whose frames it publishes.
-use Rattle.std.specs.Prelude.{ℕ, ◌+◌, ◌-◌, ◌^◌, ◌<◌, List, ◌++◌, length}
+use Rattle.std.specs.Prelude.{◌+◌, ◌-◌, ◌^◌, ◌<◌, List, ◌++◌, length}
 use Rattle.lx_spec.specs.declared.Command.{Command}
 use Rattle.lx_spec.specs.Show.{Show}
 use Rattle.lx_spec.specs.Desk.{replay}

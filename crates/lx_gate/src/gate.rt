@@ -9,6 +9,7 @@ ghost use Rattle.lx_gate.specs.Notes.{IsNoteOf, list_of};
 
 use crate::{Change, Commit, GateRule, History, Note, Origin, Prefix, Shows, Unsent, Version};
 use left_right::writer::Writer;
+use lx_base::next_change;
 use lx_spec::Command;
 use std::alloc::{AllocError, Global};
 use std::marker::Model;
@@ -177,13 +178,13 @@ fn changes_of(alloc: Global, slots: &[u8; 8192], frames: &[u8]) -> Result<Vec<Ch
     ensures { IfOk result (λ changes. changed slots.now changes.items ≡ frames.now) }
 {
     let mut changes = Vec::new(alloc);
-    for i in 0..8192 {
-        if frames[i] != slots[i] {
-            changes.push(Change {
-                slot: i as u16,
-                value: frames[i],
-            })?;
-        }
+    let mut from = 0;
+    while let Some(at) = next_change(slots, frames, from) {
+        changes.push(Change {
+            slot: at as u16,
+            value: frames[at],
+        })?;
+        from = at + 1;
     }
     Ok(changes)
 }
