@@ -91,6 +91,6 @@ fn run<S: Source, K: Sink>(alloc: Global, job: Job, input: &mut S, output: &mut 
         Job::Check(form) => check(alloc, form, input, output),
         Job::Render(form) => render(alloc, form, input, output),
         Job::Sheet(form) => sheet(alloc, form, input, output),
-        Job::Make(_) => unreachable!(),
+        Job::Make(_) | Job::Run(_, _) => unreachable!(),
     }
 }
