@@ -4,7 +4,8 @@ use Rattle.lx_spec.specs.Limits.{Limits}
 use Rattle.lx_spec.specs.SortedList.{placed}
 use Rattle.lx_spec.specs.Entry.{Section, NoRecord, Entry, section_begun, part_named, identifies, clears_all, cue_in}
 
--- The limits of the text, the line's number, whether an IDENT line stands before it, its section and open part, and the cues that were begun
+-- The limits of the text, the line's number, whether an IDENT line stands before it, its section and open part, and the cues that were
+-- begun
 -- since the last CLEAR ALL, each once.
 pub record Facts : Type 0 where
   pub limits : Limits

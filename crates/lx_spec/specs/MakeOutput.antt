@@ -36,20 +36,23 @@ abbrev pub made_turn : ℕ → ℕ → List ℕ
 made_turn seed k =
     let i = 9 * seed + 3 * (k - 1) + 1 in
     line (codes "go" ∷ []) ++ line (codes "tick" ∷ decimal (1 + draw seed i 100) ∷ [])
-    ++ line (codes "set" ∷ decimal k ∷ codes "chan" ∷ decimal (1 + draw seed (i + 1) 512) ∷ codes "at" ∷ decimal (draw seed (i + 2) 101) ∷ [])
+    ++ line (codes "set" ∷ decimal k ∷ codes "chan" ∷ decimal (1 + draw seed (i + 1) 512)
+    ∷ codes "at" ∷ decimal (draw seed (i + 2) 101) ∷ [])
     ++ line (codes "frame" ∷ [])
 
 -- the input that is made of a number
 abbrev pub made_input : ℕ → List ℕ
 made_input n =
-    line (codes "IDENT" ∷ codes "3:0" ∷ []) ++ flat_map made_patch (range_with_len 1 512) ++ flat_map (made_cue n) (range_with_len 1 n) ++ line (codes "ENDDATA" ∷ [])
+    line (codes "IDENT" ∷ codes "3:0" ∷ []) ++ flat_map made_patch (range_with_len 1 512) ++ flat_map (made_cue n) (range_with_len 1 n)
+    ++ line (codes "ENDDATA" ∷ [])
     ++ flat_map (made_turn n) (range_with_len 1 n) ++ line (codes "quit" ∷ [])
 
 -- the five lines about the session of that input
 abbrev pub made_text : ℕ → Session → List ℕ
 made_text n s =
     line (codes "cues" ∷ decimal n ∷ []) ++ line (codes "moment" ∷ decimal s.desk.playback.moment ∷ [])
-    ++ line (codes "ok" ∷ decimal s.counts.ok ∷ []) ++ line (codes "refused" ∷ decimal s.counts.refused ∷ []) ++ line (codes "sum" ∷ decimal (sum (frame s.desk 1)) ∷ [])
+    ++ line (codes "ok" ∷ decimal s.counts.ok ∷ []) ++ line (codes "refused" ∷ decimal s.counts.refused ∷ [])
+    ++ line (codes "sum" ∷ decimal (sum (frame s.desk 1)) ∷ [])
 
 abbrev pub make_output : ℕ → List ℕ → List ℕ
 make_output n places = over_show (reads Moves (made_input n)) (λ reading. made_text n (rendered (made_input n) places reading))

@@ -24,7 +24,9 @@ pub record IsAcceptedEdit (d : Desk) (meaning : Option Line) : Type 0 where
 
 -- want of memory refuses nothing of the line but an edit that the desk accepts
 abbrev pub MayWant : List ℕ → Session → Option Line → Type 0
-MayWant places s meaning = (n : ℕ) → s.attempts < n → n ≤ (after_meaning places s meaning).attempts → list_any (λ place. place == n) places ≡ true → IsAcceptedEdit s.desk meaning
+MayWant places s meaning =
+    (n : ℕ) → s.attempts < n → n ≤ (after_meaning places s meaning).attempts → list_any (λ place. place == n) places ≡ true
+    → IsAcceptedEdit s.desk meaning
 
 -- and so of each of the lines
 abbrev pub WantsAtEdits : List ℕ → Session → List (List ℕ) → Type 0

@@ -1,5 +1,6 @@
 -- A session: the script lines in order, the commands that were accepted and the text that answers.
-use Rattle.std.specs.Prelude.{ℕ, zero, suc, ◌+◌, Bool, true, false, ◌==◌, Option, Some, None, Result, Ok, Err, List, [], ◌∷◌, ◌++◌, fold, take, is_some, if◌then◌else◌}
+use Rattle.std.specs.Prelude.{ℕ, zero, suc, ◌+◌, Bool, true, false, ◌==◌, Option, Some, None, Result, Ok, Err, List, [], ◌∷◌, ◌++◌, fold,
+  take, is_some, if◌then◌else◌}
 use Rattle.std.specs.Option.{option_map_or}
 use Rattle.std.specs.List.{list_any, before_first, position_or_len}
 use Rattle.lx_spec.specs.declared.Command.{Command}
@@ -45,12 +46,14 @@ pub record Attempt : Type 0 where
 
 -- the answer of the desk, or want of memory
 abbrev pub answered : Session → Command → Result Desk Refusal → Attempt
-answered s command (Ok d) = record { session = record s { desk = d; attempts = s.attempts + 1; accepted = s.accepted ++ command ∷ [] }; refusal = None }
+answered s command (Ok d) =
+    record { session = record s { desk = d; attempts = s.attempts + 1; accepted = s.accepted ++ command ∷ [] }; refusal = None }
 answered s command (Err refusal) = record { session = record s { attempts = s.attempts + 1 }; refusal = Some refusal }
 
 -- places are the attempts, counted from 1, that want of memory refuses
 abbrev pub attempt : List ℕ → Session → Command → Attempt
-attempt places s command = answered s command (if list_any (λ place. place == s.attempts + 1) places then Err Memory else step s.desk command)
+attempt places s command =
+    answered s command (if list_any (λ place. place == s.attempts + 1) places then Err Memory else step s.desk command)
 
 -- the next, unless the last was refused
 abbrev pub and_then : Attempt → (Session → Attempt) → Attempt
@@ -105,9 +108,12 @@ abbrev pub after_attempts : Option Line → Attempt → Session
 after_attempts None tried = bad_reply tried.session
 after_attempts (Some (lines.Command command)) tried = replied tried
 after_attempts (Some (lines.Ticks k)) tried = replied tried
-after_attempts (Some (lines.Frame u)) tried = with_text tried.session (frame_text [] tried.session.desk.playback.moment u (frame tried.session.desk u))
+after_attempts (Some (lines.Frame u)) tried =
+    with_text tried.session (frame_text [] tried.session.desk.playback.moment u (frame tried.session.desk u))
 after_attempts (Some lines.Save) tried = with_text tried.session (show_text tried.session.desk.show)
-after_attempts (Some (lines.SheetOf n)) tried = if is_some (cue_of tried.session.desk.show n) then with_text tried.session (row_text n (row_of tried.session.desk.show n)) else refused_reply tried.session (AbsentCue n)
+after_attempts (Some (lines.SheetOf n)) tried =
+    if is_some (cue_of tried.session.desk.show n) then with_text tried.session (row_text n (row_of tried.session.desk.show n))
+    else refused_reply tried.session (AbsentCue n)
 after_attempts (Some lines.Quit) tried = tried.session
 after_attempts (Some lines.Blank) tried = tried.session
 

@@ -17,7 +17,9 @@ label_word (b ∷ bs) = (b ∷ bs) ∷ []
 
 -- cue N KIND P M and its label
 abbrev pub cue_line : Cue → List ℕ
-cue_line cue = line (codes "cue" ∷ cue_number_text cue.number ∷ kind_word cue.block ∷ decimal (length cue.parts) ∷ decimal (length cue.moves) ∷ label_word cue.label)
+cue_line cue =
+    line (codes "cue" ∷ cue_number_text cue.number ∷ kind_word cue.block ∷ decimal (length cue.parts) ∷ decimal (length cue.moves)
+    ∷ label_word cue.label)
 
 -- and then its row
 abbrev pub cue_lines : Show → Cue → List ℕ
