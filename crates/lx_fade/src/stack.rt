@@ -37,7 +37,8 @@ pub fn push_fade(
     requires time { time ≤ TIME_MAX }
     ensures stack { stack_in row.new result ≡ pushed bottom (stack_in row.old used) start time target }
     ensures count { result ≤ used + 1 }
-    ensures level { (m : ℕ) → stack_at bottom (stack_in row.new result) m ≡ fade_over (stack_at bottom (stack_in row.old used)) start time target m }
+    ensures level { (m : ℕ) → stack_at bottom (stack_in row.new result) m
+        ≡ fade_over (stack_at bottom (stack_in row.old used)) start time target m }
     ensures order { StartsFall (stack_in row.old used) → StartsFall (stack_in row.new result) }
 {
     let from = value(row, used, bottom, start);

@@ -1,6 +1,7 @@
 //! Playback keys: go, back, goto and settle.
 
-ghost use Rattle.std.specs.Prelude.{◌≡◌, ◌↔◌, ◌+◌, ◌<◌, ◌≤◌, false, length, Ok, Err, Some, None, is_none, option_map, IfOk, IfErr, OnErr, IfSome, IsTrue};
+ghost use Rattle.std.specs.Prelude.{◌≡◌, ◌↔◌, ◌+◌, ◌<◌, ◌≤◌, false, length, Ok, Err, Some, None, is_none, option_map, IfOk, IfErr, OnErr};
+ghost use Rattle.std.specs.Prelude.{IfSome, IsTrue};
 ghost use Rattle.std.specs.List.{AllByRecursion};
 ghost use Rattle.std.specs.Option.{IsSomeAnd};
 ghost use Rattle.lx_base.specs.declared.TheConstants.{RUNS, TICK_END, BACK_TIME};
@@ -34,7 +35,8 @@ impl Playback {
     /// named, where there is no such cue, and then with `PlaybackFull` where 512 runs are live;
     /// never with `Memory`. A refusal changes nothing. The rules are our own.
     pub fn press(&mut self, show: &Show, key: PlayKey) -> Result<Pressed, Refusal>
-        ensures ok { IfOk result (λ pressed. press show.now self.old key ≡ Ok (record { playback = self.new; run = run_made self.old pressed })) }
+        ensures ok { IfOk result (λ pressed. press show.now self.old key
+            ≡ Ok (record { playback = self.new; run = run_made self.old pressed })) }
         ensures settled { IfOk result (λ pressed. IsTrue pressed.settled ↔ (key ≡ PlayKey.Settle)) }
         ensures run { IfOk result (λ pressed. is_none pressed.run ≡ pressed.settled) }
         ensures err { IfErr result (λ refusal. press show.now self.old key ≡ Err refusal) }

@@ -32,7 +32,8 @@ impl Model for Playback {
 
     ghost view = { λ p. record { moment = p.moment; base = p.base; live = reverse p.live.items; pending = p.pending } };
 
-    ghost invariant = { λ p. IsStored (record { moment = p.moment; base = p.base; live = reverse p.live.items; pending = p.pending }) (vec_capacity p.live) p.over_at };
+    ghost invariant = { λ p. IsStored (record { moment = p.moment; base = p.base; live = reverse p.live.items; pending = p.pending })
+        (vec_capacity p.live) p.over_at };
 }
 
 impl Playback {
