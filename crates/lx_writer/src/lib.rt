@@ -2,6 +2,7 @@
 #![tactic(auto)]
 
 mod cue;
+mod lines;
 mod part;
 mod pieces;
 mod record;
