@@ -51,15 +51,7 @@ pub fn put_cue_no<K: Sink>(number: CueNo, sink: &mut K) -> Result<(), SinkFault>
 pub fn put_level<K: Sink>(value: Level, sink: &mut K) -> Result<(), SinkFault>
     ensures { Puts K.holds K.faults K.wants sink.old sink.new result (level_text value) }
 {
-    put_all(sink, &level_text(value))
-}
-
-/// The text of a level, 0 to 255, as `put_level` appends it.
-#[inline]
-pub fn level_text(value: Level) -> [u8; 3]
-    ensures { result ≡ level_text value }
-{
-    [b'H', hex_digit(value / 16), hex_digit(value % 16)]
+    put_all(sink, &[b'H', hex_digit(value / 16), hex_digit(value % 16)])
 }
 
 /// A hexadecimal digit, in upper case.

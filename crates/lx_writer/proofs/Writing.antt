@@ -1,11 +1,12 @@
 -- Texts with a piece for each element, or for each that passes a test.
-use Rattle.std.proofs.Common.{◌≡◌, ℕ, ◌+◌, ◌-◌, ◌<◌, ◌≤◌, Bool, true, List, [], ◌∷◌, ◌++◌, length, get_or, take, drop, take-append-drop, length-take, sym, ap, ◌∙◌, append_assoc, append-nil, cond, arith}
+use Rattle.std.proofs.Common.{◌≡◌, ℕ, ◌+◌, ◌-◌, ◌/◌, ◌%◌, ◌<◌, ◌≤◌, Bool, List, [], ◌∷◌, ◌++◌, length, get_or, take, drop, take-append-drop, length-take, refl, sym, ap, ◌∙◌, append_assoc, append-nil, cond, arith}
 use Rattle.std.specs.Prelude.{filter, flat_map, codes, decimal, slice_range}
 use Rattle.std.proofs.lemmas.Grind.{flat_map-append}
 use Rattle.std.proofs.lemmas.List.Elements.{filter-append}
-use Rattle.std.proofs.lemmas.List.{take_more, drop-drop}
+use Rattle.std.proofs.lemmas.List.{take_more, drop-drop, drop-append-le}
 use Rattle.std.proofs.Math.Seq.{take-add, drop-append-add}
 use borrow.Rule.Slice.PartMut.{put_mid}
+use Rattle.itoa.proofs.Decimal.{pair, decimal_pair}
 use Rattle.lx_io.proofs.Chain.{drop_here}
 use Rattle.lx_spec.specs.declared.PatchRow.{PatchRow}
 use Rattle.lx_spec.specs.Numerals.{level_text}
@@ -46,20 +47,31 @@ pub kept_here : {A : Type 0} (p : A → Bool) (xs : List A) (i : ℕ) (x : A) �
     → filter p (drop i xs) ≡ cond (p x) (x ∷ filter p (drop (i + 1) xs)) (filter p (drop (i + 1) xs))
 kept_here p xs i x within is = ap (filter p) ((drop_here xs i x within).1 ∙ ap (λ y. y ∷ drop (i + 1) xs) (sym is))
 
--- the line of a move as it is written
-pub line_is : (n level : ℕ) (rest : List ℕ) → codes "CHAN " ++ (decimal n ++ ((64 ∷ (level_text level ++ 10 ∷ [])) ++ rest)) ≡ line (codes "CHAN" ∷ at_text n level ∷ []) ++ rest
-line_is n level rest = simp append_assoc
+-- the last bytes of a row that is put into a text, so that they end at a place
+pub put_end : (text row new : List ℕ) (end size count : ℕ) → new ≡ row → length row ≡ size → count ≤ size → size ≤ end → end ≤ length text
+    → drop (end - count) (put_mid (end - size) (end - (end - size)) text new) ≡ drop (size - count) row ++ drop end text
+put_end text row new end size count same long few room within =
+    let at : ℕ = end - size in
+    let front : List ℕ = take at text in
+    let post : List ℕ = drop (end - at) (drop at text) in
+    let here : end - count ≡ length front + (size - count) = omega (arith, length-take at text) in
+    let end_is : at + (end - at) ≡ end = omega arith in
+    ap (λ n. drop (end - count) (front ++ (n ++ post))) same
+    ∙ ap (λ k. drop k (front ++ (row ++ post))) here
+    ∙ drop-append-add front (row ++ post) (size - count)
+    ∙ drop-append-le (size - count) row post (omega (arith, long))
+    ∙ ap (λ p. drop (size - count) row ++ p) (drop-drop (end - at) at text ∙ ap (λ k. drop k text) end_is)
 
--- bytes that are put into a text so that they end at a place
+-- all of them
 pub put_before : (text bytes new : List ℕ) (end : ℕ) → new ≡ bytes → length bytes ≤ end → end ≤ length text
     → drop (end - length bytes) (put_mid (end - length bytes) (end - (end - length bytes)) text new) ≡ bytes ++ drop end text
 put_before text bytes new end same room within =
-    let at : ℕ = end - length bytes in
-    let front : List ℕ = take at text in
-    let post : List ℕ = drop (end - at) (drop at text) in
-    let here : at ≡ length front + 0 = omega (arith, length-take at text) in
-    let end_is : at + (end - at) ≡ end = omega arith in
-    ap (λ n. drop at (front ++ (n ++ post))) same
-    ∙ ap (λ k. drop k (front ++ (bytes ++ post))) here
-    ∙ drop-append-add front (bytes ++ post) 0
-    ∙ ap (λ p. bytes ++ p) (drop-drop (end - at) at text ∙ ap (λ k. drop k text) end_is)
+    let none : length bytes - length bytes ≡ 0 = omega arith in
+    put_end text bytes new end (length bytes) (length bytes) same refl (omega arith) room within ∙ ap (λ k. drop k bytes ++ drop end text) none
+
+-- a line of a channel and its level, as its parts are written
+pub line_is : (n level : ℕ) (rest : List ℕ) → (codes "CHAN " ++ (decimal n ++ 64 ∷ [])) ++ ((level_text level ++ 10 ∷ []) ++ rest) ≡ line (codes "CHAN" ∷ at_text n level ∷ []) ++ rest
+line_is n level rest = simp append_assoc
+
+pub channel_is : (n : ℕ) (rest : List ℕ) → 100 ≤ n → n ≤ 2048 → (codes "CHAN " ++ decimal (n / 100)) ++ ((pair (n % 100) ++ 64 ∷ []) ++ rest) ≡ (codes "CHAN " ++ (decimal n ++ 64 ∷ [])) ++ rest
+channel_is n rest from most = rw (decimal_pair n from (omega arith)) (simp append_assoc)

@@ -6,6 +6,7 @@ mod lines;
 mod part;
 mod pieces;
 mod record;
+mod rows;
 mod show;
 #[cfg(test)]
 mod tests;

@@ -2,25 +2,26 @@
 //! sink as one piece.
 #![tactic(auto, using(lx_io::proofs::Chain::puts))]
 
-ghost use Rattle.std.specs.Prelude.{◌≡◌, ◌==◌, ◌+◌, ◌≤◌, [], ◌++◌, ◌∷◌, codes, drop, filter, flat_map, length};
+ghost use Rattle.std.specs.Prelude.{◌≡◌, ◌==◌, ◌+◌, ◌≤◌, [], ◌++◌, ◌∷◌, codes, decimal, drop, filter, flat_map, length};
 ghost use Rattle.lx_io.specs.Puts.{Puts};
-ghost use Rattle.lx_spec.specs.Numerals.{level_text};
+ghost use Rattle.lx_base.specs.declared.TheConstants.{CHANNELS};
 ghost use Rattle.lx_spec.specs.ShowText.{line, at_text, move_text};
 
+use crate::rows::{FRONTS, LEVELS, TENS};
 use itoa::write_digits;
 use lx_base::{Chan, Level, PartNo};
 use lx_io::{Sink, SinkFault, put_all};
-use lx_lex::level_text;
 use lx_show::Move;
 
-/// The most bytes of a line: `CHAN `, a number of up to four digits, `@`, a level of three bytes and the line's end.
-const LINE_BYTES: usize = 14;
+/// The most bytes of a line: `CHAN `, a number of up to four digits, `@`, a level of three bytes and the line's end; and a byte
+/// that is written over.
+const LINE_BYTES: usize = 15;
 
 /// The most moves whose lines are one piece.
 const PIECE_MOVES: usize = 64;
 
 /// The most bytes of a piece.
-const PIECE_BYTES: usize = 896;
+const PIECE_BYTES: usize = 960;
 
 /// Appends a line for each move that stands in the part.
 pub(crate) fn put_moves<K: Sink>(
@@ -89,10 +90,44 @@ fn write_line(chan: Chan, level: Level, text: &mut [u8; PIECE_BYTES], end: usize
     ensures before { result ≤ end }
     ensures text { drop result text.new ≡ line (codes "CHAN" ∷ at_text chan level ∷ []) ++ drop end text.old }
 {
-    let [h, high, low] = level_text(level);
-    let start = write_before(&[b'@', h, high, low, b'\n'], text, end);
-    let start = write_digits(chan.get() as u64, text, start);
-    write_before(b"CHAN ", text, start)
+    let end = write_before(&LEVELS[level as usize], text, end);
+    write_channel(chan.get(), text, end)
+}
+
+/// Writes `CHAN `, a channel's number and `@` so that they end at a place, and says where they begin.
+#[inline(always)]
+fn write_channel(number: u32, text: &mut [u8; PIECE_BYTES], end: usize) -> usize
+    requires most { number ≤ CHANNELS }
+    requires room { 11 ≤ end }
+    requires within { end ≤ PIECE_BYTES }
+    ensures start { end ≤ result + 11 }
+    ensures before { result ≤ end }
+    ensures text { drop result text.new ≡ (codes "CHAN " ++ (decimal number ++ 64 ∷ [])) ++ drop end text.old }
+{
+    if number < 100 {
+        let end = write_before(b"@", text, end);
+        let end = write_digits(number as u64, text, end);
+        write_before(b"CHAN ", text, end)
+    } else {
+        let end = write_before(&TENS[(number % 100) as usize], text, end);
+        write_front(number / 100, text, end)
+    }
+}
+
+/// Writes `CHAN ` and the hundreds of a channel's number so that they end at a place, and says where they begin.
+#[inline(always)]
+fn write_front(hundreds: u32, text: &mut [u8; PIECE_BYTES], end: usize) -> usize
+    requires few { hundreds ≤ 20 }
+    requires room { 8 ≤ end }
+    requires within { end ≤ PIECE_BYTES }
+    ensures start { end ≤ result + 8 }
+    ensures before { result ≤ end }
+    ensures text { drop result text.new ≡ (codes "CHAN " ++ decimal hundreds) ++ drop end text.old }
+{
+    let front = &FRONTS[hundreds as usize];
+    let count = if hundreds < 10 { 6 } else { 7 };
+    text[end - 8..end].copy_from_slice(front);
+    end - count
 }
 
 /// Writes some bytes so that they end at a place, and says where they begin.

@@ -1,21 +1,13 @@
-use Rattle.std.proofs.Common.{ℕ, ◌≤◌, ◌+◌, ◌^◌, length, decimal, arith}
-use Rattle.std.proofs.lemmas.Fmt.{length-decimal-le}
+use Rattle.std.proofs.Common.{[], ◌∷◌, ◌++◌, ◌∙◌, codes, decimal, drop, ap, arith}
+use Rattle.lx_writer.proofs.Writing.{line_is}
+use Rattle.lx_writer.proofs.ReadyParts.{level_row}
 use Rattle.lx_writer.proofs.lines.write_line.Goals as goal
 
-four_digits : (n : ℕ) → 1 ≤ n → n ≤ 2048 → length (decimal n) ≤ 4
-four_digits n least most = length-decimal-le 4 n (omega arith) (omega arith) (omega arith)
-
-pub write_digits-start-requires : goal.write_digits-start-requires
-write_digits-start-requires c =
-    let number = four_digits c.get.result c.get.ensures.least c.get.ensures.most in
-    (omega (arith, number), omega arith)
-
-pub write_before-requires-clause-room : goal.write_before-requires-clause-room
-write_before-requires-clause-room c =
-    let number = four_digits c.get.result c.get.ensures.least c.get.ensures.most in
-    omega (arith, number, c.write_digits-start.ensures.start)
-
-pub returns-clause-start : goal.returns-clause-start
-returns-clause-start c =
-    let number = four_digits c.get.result c.get.ensures.least c.get.ensures.most in
-    omega (arith, number, c.write_digits-start.ensures.start)
+pub returns-clause-text : goal.returns-clause-text
+returns-clause-text c =
+    let rest = drop c.args.end c.args.text.now in
+    let level = c.write_before-end.ensures.text ∙ ap (λ row. row ++ rest) (level_row c.args.level [] (omega arith)) in
+    c.write_channel.ensures.text
+    ∙ ap (λ n. (codes "CHAN " ++ (decimal n ++ 64 ∷ [])) ++ drop c.write_before-end.result c.write_before-end.new.text) c.get.ensures.value
+    ∙ ap (λ text. (codes "CHAN " ++ (decimal c.args.chan ++ 64 ∷ [])) ++ text) level
+    ∙ line_is c.args.chan c.args.level rest

@@ -7,8 +7,8 @@ use Rattle.lx_writer.proofs.lines.write_lines.Given as goal
 abbrev pub invariant-loop-left : goal.invariant-loop-left
 invariant-loop-left l = record {
   within : l.left ≤ length l.moves;
-  room : 14 * l.left ≤ l.start;
-  start : l.start ≤ 896;
+  room : 15 * l.left ≤ l.start;
+  start : l.start ≤ 960;
   text : drop l.start l.text ≡ flat_map move_text (filter (λ (entry : Move). entry.part == l.part) (drop l.left l.moves));
 }
 
