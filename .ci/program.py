@@ -13,12 +13,14 @@ import resource
 import subprocess
 import sys
 import tempfile
-import time
+
+import walks
 
 TOP = os.path.dirname(os.path.dirname(os.path.abspath(__file__)))
 USAGE = b"usage: cuedesk check|render|sheet [states] | make N | run U [states]\n"
 INPUT_BYTES = 67_108_864
 TIME_LIMIT = 60
+WALKS = 600
 
 # A patch of channel 1 to dimmer 1, and a cue that moves channel 1 at once.
 PATCHED = "IDENT 3:0\nPATCH 1 1<1@FL\n"
@@ -346,6 +348,7 @@ def main():
     cases = edge_cases() + limit_cases() + great_cases() + kept_cases() + reading_cases()
     runs = [(case.name, lambda case=case: wrong_in(program, case)) for case in cases]
     runs += [(each.__name__.replace("_", " "), lambda each=each: each(program)) for each in TALKS]
+    runs += [(name, lambda inputs=inputs: walks.wrong_in_table(program, inputs)[1]) for name, inputs in walks.tables(WALKS, 1)]
     passed = failed = 0
     for name, run in runs:
         if given.only in name:

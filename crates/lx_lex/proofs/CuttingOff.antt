@@ -1,5 +1,5 @@
 -- Where lines are cut off.
-use Rattle.std.proofs.Common.{◌≡◌, ◌⊎◌, inl, inr, ℕ, zero, suc, ◌+◌, ◌-◌, ◌≤◌, ◌<◌, Bool, true, false, Option, Some, None, IfSome, List, [], ◌∷◌, ◌++◌, length, take, refl, sym, ap, ◌∙◌, subst, append-nil, append_assoc, length-append, arith}
+use Rattle.std.proofs.Common.{◌≡◌, ◌⊎◌, inl, inr, ℕ, zero, suc, ◌+◌, ◌-◌, ◌≤◌, ◌<◌, Bool, true, false, Option, Some, None, IfSome, List, [], ◌∷◌, ◌++◌, length, take, refl, sym, ap, ◌∙◌, subst, append-nil, append_assoc, arith}
 use Rattle.std.specs.Io.KnownBytes.{prepend_known}
 use Rattle.lx_base.specs.declared.TheConstants.{INPUT_BYTES}
 use Rattle.lx_spec.specs.CutInput.{HasNoFeed, first_lines, CutOff}
@@ -8,7 +8,6 @@ use Rattle.lx_lex.specs.declared.lines.Step.TheVariants.{ReadFault, InputTooLong
 use Rattle.lx_lex.specs.Lines.{feed_of, Took, TookLines, StepOf}
 use Rattle.lx_lex.specs.Unread.{held, unread, line_of}
 use Rattle.lx_lex.specs.CutOff.{NotTaken}
-use Rattle.lx_lex.proofs.Progress.{HasNoFeed-append}
 
 -- the next line wasn't taken: a read failed, or the input is too long
 pub not_read : {S : Type 0} (left : S → Option (List ℕ)) (old new : Lines S) → StepOf ReadFault (unread left old) (unread left new) old.taken new.taken (line_of new) → held new ≡ [] → NotTaken left old new

@@ -19,7 +19,7 @@ pub(crate) fn first_token(line: &[u8]) -> Option<(&[u8], &[u8])>
 }
 
 /// Space, tab and `, ; / < = > @`.
-fn is_separator(b: u8) -> bool
+pub(crate) fn is_separator(b: u8) -> bool
     ensures { result ≡ is_separator b }
 {
     matches!(
@@ -29,7 +29,7 @@ fn is_separator(b: u8) -> bool
 }
 
 /// What follows the separators at the front.
-fn past_separators(line: &[u8]) -> &[u8]
+pub(crate) fn past_separators(line: &[u8]) -> &[u8]
     ensures { result.now ≡ after_all is_separator line.now }
 {
     let mut rest = line;

@@ -1,5 +1,6 @@
 //! An iterator over the tokens of a line.
 
+use crate::plain::first_number;
 use crate::scan::first_token;
 
 /// The tokens of a line that are left, each a slice of the line, in order.
@@ -12,9 +13,10 @@ pub struct Tokens<'a> {
 }
 
 impl<'a> Tokens<'a> {
-    ghost use Rattle.std.specs.Prelude.{◌≡◌, length};
+    ghost use Rattle.std.specs.Prelude.{◌≡◌, length, MatchOption};
     ghost use Rattle.lx_spec.specs.Text.{tokens};
     ghost use Rattle.lx_lex.specs.Left.{left};
+    ghost use Rattle.lx_lex.specs.PlainNumber.{FirstIsNumber};
 
     /// All tokens of a line.
     pub(crate) fn of(line: &'a [u8]) -> Tokens<'a>
@@ -28,6 +30,17 @@ impl<'a> Tokens<'a> {
         ensures { result ≡ length (left self.now) }
     {
         (*self).count()
+    }
+
+    /// Takes the next token where it is a number of digits alone, which isn't far above every limit, and answers the
+    /// number. Else it takes none, and answers None: this is the short way for tokens of the usual form.
+    #[inline]
+    pub fn take_number(&mut self) -> Option<u32>
+        ensures { MatchOption result (self.new ≡ self.old) (λ n. FirstIsNumber (left self.old) n (left self.new)) }
+    {
+        let (number, rest) = first_number(self.rest)?;
+        self.rest = rest;
+        Some(number)
     }
 }
 

@@ -1,5 +1,6 @@
 -- The fields of a line, taken from the front of its tokens.
-use Rattle.std.specs.Prelude.{ℕ, ◌%◌, ◌==◌, Bool, Option, Some, None, Result, Ok, Err, List, [], ◌∷◌, ◌++◌, length, if◌then◌else◌}
+use Rattle.std.specs.Prelude.{ℕ, ◌≡◌, ◌%◌, ◌==◌, Bool, Option, Some, None, Result, Ok, Err, List, [], ◌∷◌, ◌++◌, length, if◌then◌else◌}
+use Rattle.lx_base.specs.declared.TheConstants.{CHANNELS}
 use Rattle.lx_spec.specs.declared.Bad.{Bad}
 use Rattle.lx_spec.specs.declared.Bad.TheVariants.{Shape, Range}
 use Rattle.lx_spec.specs.declared.Member.{Member}
@@ -8,7 +9,7 @@ use Rattle.lx_spec.specs.declared.TextFault.{TextFault}
 use Rattle.lx_spec.specs.declared.TextFault.TheVariants.{BadNumber, OutOfRange, ShortList}
 use Rattle.lx_spec.specs.Limits.{desk_limits}
 use Rattle.lx_spec.specs.FirstRefusal.{◌>>=◌}
-use Rattle.lx_spec.specs.Numerals.{read_time}
+use Rattle.lx_spec.specs.Numerals.{read_level, read_time, read_whole}
 use Rattle.lx_spec.specs.Fields.{pairs, triples, number, next, delay_at, is_page_one}
 
 -- the fault of a token
@@ -51,3 +52,11 @@ next_times i (token ∷ rest) = do
 abbrev pub record_number : ℕ → (List ℕ → Result ℕ Bad) → List (List ℕ) → Result (Option ℕ) TextFault
 record_number i read [] = Err (ShortList i)
 record_number i read (token ∷ page) = if is_page_one page then (number i (read token) >>= (λ n. Ok (Some n))) else Ok None
+
+-- a channel's token and a level's token, which are this member, and then the others
+pub record FirstIsMember (all : List (List ℕ)) (m : Member) (others : List (List ℕ)) : Type 0 where
+  pub chan_token : List ℕ
+  pub level_token : List ℕ
+  pub chan : read_whole 1 CHANNELS chan_token ≡ Ok m.chan
+  pub level : read_level level_token ≡ Ok m.level
+  pub first : all ≡ chan_token ∷ level_token ∷ others

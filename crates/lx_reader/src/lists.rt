@@ -1,10 +1,12 @@
 //! The lists of a line, pair by pair and triple by triple.
 
-ghost use Rattle.std.specs.Prelude.{◌≡◌, ◌∷◌, [], Ok, Err, ◌<◌, length, IfOk, IfSome, MatchOption, MatchResult};
+ghost use Rattle.std.specs.Prelude.{◌≡◌, ◌∷◌, [], Ok, Err, ◌<◌, ◌≤◌, length, IfOk, IfSome, MatchOption, MatchResult};
+ghost use Rattle.lx_base.specs.Numbers.{percent as percent_level};
 ghost use Rattle.lx_lex.specs.Left.{left};
-ghost use Rattle.lx_reader.specs.FieldLists.{fault_in, all_pairs, all_triples, onto};
+ghost use Rattle.lx_reader.specs.FieldLists.{FirstIsMember, fault_in, all_pairs, all_triples, onto};
 
 use crate::numbers::fault_of;
+use lx_base::{Chan, Level, of_percent};
 use lx_lex::{Bad, Tokens, read_channel, read_dimmer, read_level};
 use lx_spec::{Member, PatchRow, TextFault};
 
@@ -21,6 +23,45 @@ fn fault_in(i: u32, bad: Bad, whole: bool) -> TextFault
 
 /// The next channel and level of a list of pairs; none at its end. A fault is that of the whole list.
 pub(crate) fn next_member(i: u32, tokens: &mut Tokens) -> Result<Option<Member>, TextFault>
+    ensures fewer { IfOk result (λ o. IfSome o (λ m. length (left tokens.new) < length (left tokens.old))) }
+    ensures list { MatchResult result
+        (λ o. MatchOption o (left tokens.old ≡ [])
+        (λ m. all_pairs i (left tokens.old) ≡ onto (m ∷ []) (all_pairs i (left tokens.new))))
+        (λ fault. all_pairs i (left tokens.old) ≡ Err fault) }
+{
+    match plain_member(tokens) {
+        Some(member) => Ok(Some(member)),
+        None => any_member(i, tokens),
+    }
+}
+
+/// The next channel and level where both are numbers of digits alone, as most are, and within their ranges. Else no
+/// token is taken.
+#[inline]
+fn plain_member(tokens: &mut Tokens) -> Option<Member>
+    ensures { MatchOption result (tokens.new ≡ tokens.old) (λ m. FirstIsMember (left tokens.old) m (left tokens.new)) }
+{
+    let mut rest = *tokens;
+    let chan = Chan::new(rest.take_number()?)?;
+    let level = plain_level(rest.take_number()?)?;
+    *tokens = rest;
+    Some(Member { chan, level })
+}
+
+/// The level of so many percent; none above 100.
+#[inline]
+fn plain_level(percent: u32) -> Option<Level>
+    ensures { IfSome result (λ level. (percent ≤ 100) × (level ≡ percent_level percent)) }
+{
+    if percent <= 100 {
+        Some(of_percent(percent as u8))
+    } else {
+        None
+    }
+}
+
+/// The same as `next_member`, in whatever form the tokens are.
+fn any_member(i: u32, tokens: &mut Tokens) -> Result<Option<Member>, TextFault>
     ensures fewer { IfOk result (λ o. IfSome o (λ m. length (left tokens.new) < length (left tokens.old))) }
     ensures list { MatchResult result
         (λ o. MatchOption o (left tokens.old ≡ [])

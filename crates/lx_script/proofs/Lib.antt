@@ -1,3 +1,4 @@
 pub mod Texts
+pub mod Ready
 pub mod FirstWords
 pub mod Phrases

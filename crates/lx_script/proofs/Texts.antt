@@ -1,8 +1,9 @@
 -- Words with spaces between them, and the cells of levels, as they are put one after another.
-use Rattle.std.proofs.Common.{◌≡◌, ◌≢◌, ℕ, ◌+◌, ◌<◌, List, [], ◌∷◌, ◌++◌, length, take, drop, get_or, refl, sym, ap, ◌∙◌, append-nil, append_assoc, take-append-drop, arith, add-one, drop-cons, length-take}
-use Rattle.std.proofs.lemmas.List.{take_more}
-use Rattle.std.specs.Prelude.{Bool, true, false, suc, ◌==◌, flat_map, codes, decimal, if◌then◌else◌}
+use Rattle.std.proofs.Common.{◌≡◌, ◌≢◌, ℕ, ◌+◌, ◌-◌, ◌<◌, ◌≤◌, List, [], ◌∷◌, ◌++◌, length, take, drop, get_or, refl, sym, ap, ◌∙◌, append-nil, append_assoc, take-append-drop, arith, add-one, drop-cons, length-take}
+use Rattle.std.proofs.Math.Seq.{take-add}
+use Rattle.std.specs.Prelude.{Bool, true, false, suc, ◌==◌, flat_map, codes, decimal, slice_range, if◌then◌else◌}
 use Rattle.std.specs.List.{enumerate_from}
+use Rattle.lx_script.specs.Cells.{cells_from}
 use Rattle.std.proofs.lemmas.Grind.{flat_map-append}
 use Rattle.std.proofs.lemmas.Bool.{ne_eqb}
 use Rattle.lx_spec.specs.declared.Refusal.{Refusal}
@@ -45,9 +46,6 @@ cell-some number level some = rw (ne_eqb level 0 some) refl
 pub cell-none : (number level : ℕ) → level ≡ 0 → cell number level ≡ []
 cell-none number level none = rw none refl
 
-abbrev pub cells_from : ℕ → List ℕ → List ℕ
-cells_from number levels = behind_spaces (flat_map (λ e. if e.1 == 0 then [] else (decimal e.0 ++ 61 ∷ decimal e.1) ∷ []) (enumerate_from number levels))
-
 one_word : (none : Bool) (word : List ℕ) → behind_spaces (if none then [] else word ∷ []) ≡ (if none then [] else 32 ∷ word)
 one_word true word = refl
 one_word false word = append-nil (32 ∷ word)
@@ -68,29 +66,35 @@ cells_from-append number (x ∷ xs) ys =
     ∙ ap (λ text. text ++ cells_from (number + 1 + length xs) ys) (sym (cells_from-first number x xs))
     ∙ ap (λ n. cells_from number (x ∷ xs) ++ cells_from n ys) same
 
--- the cells before a place, that at the place, and the rest
-pub cells_at : (levels : List ℕ) (i : ℕ) → i < length levels
-    → behind_spaces (cells levels) ≡ (behind_spaces (cells (take i levels)) ++ cell (i + 1) (get_or levels i 0)) ++ cells_from (i + 2) (drop (i + 1) levels)
-cells_at levels i lt =
-    let here : drop i levels ≡ get_or levels i 0 ∷ drop (i + 1) levels = rw add-one (drop-cons levels i 0 lt) in
-    let number : 1 + length (take i levels) ≡ i + 1 = omega (arith, length-take i levels) in
-    let next : i + 1 + 1 ≡ i + 2 = omega arith in
-    ap (cells_from 1) (sym (take-append-drop i levels))
-    ∙ cells_from-append 1 (take i levels) (drop i levels)
-    ∙ ap (λ n. cells_from 1 (take i levels) ++ cells_from n (drop i levels)) number
-    ∙ ap (λ xs. cells_from 1 (take i levels) ++ cells_from (i + 1) xs) here
-    ∙ ap (λ text. cells_from 1 (take i levels) ++ text) (cells_from-first (i + 1) (get_or levels i 0) (drop (i + 1) levels))
-    ∙ sym (append_assoc (cells_from 1 (take i levels)) (cell (i + 1) (get_or levels i 0)) (cells_from (i + 1 + 1) (drop (i + 1) levels)))
-    ∙ ap (λ n. (cells_from 1 (take i levels) ++ cell (i + 1) (get_or levels i 0)) ++ cells_from n (drop (i + 1) levels)) next
+-- the cells before a place, and those from it on
+pub cells_split : (levels : List ℕ) (from : ℕ) → from ≤ length levels
+    → behind_spaces (cells levels) ≡ behind_spaces (cells (take from levels)) ++ cells_from (from + 1) (drop from levels)
+cells_split levels from within =
+    let number : 1 + length (take from levels) ≡ from + 1 = omega (arith, length-take from levels) in
+    ap (cells_from 1) (sym (take-append-drop from levels))
+    ∙ cells_from-append 1 (take from levels) (drop from levels)
+    ∙ ap (λ n. cells_from 1 (take from levels) ++ cells_from n (drop from levels)) number
 
-pub cells_more : (levels : List ℕ) (i : ℕ) → i < length levels
-    → behind_spaces (cells (take (i + 1) levels)) ≡ behind_spaces (cells (take i levels)) ++ cell (i + 1) (get_or levels i 0)
-cells_more levels i lt =
-    let number : 1 + length (take i levels) ≡ i + 1 = omega (arith, length-take i levels) in
-    ap (cells_from 1) (take_more levels i 0 lt)
-    ∙ cells_from-append 1 (take i levels) (get_or levels i 0 ∷ [])
-    ∙ ap (λ n. cells_from 1 (take i levels) ++ cells_from n (get_or levels i 0 ∷ [])) number
-    ∙ ap (λ text. cells_from 1 (take i levels) ++ text) (cells_from-first (i + 1) (get_or levels i 0) [] ∙ append-nil (cell (i + 1) (get_or levels i 0)))
+-- a piece more
+pub cells_more : (levels : List ℕ) (from end : ℕ) → from ≤ end → end ≤ length levels
+    → behind_spaces (cells (take end levels)) ≡ behind_spaces (cells (take from levels)) ++ cells_from (from + 1) (slice_range levels from end)
+cells_more levels from end before within =
+    let number : 1 + length (take from levels) ≡ from + 1 = omega (arith, length-take from levels) in
+    let same : end ≡ from + (end - from) = omega arith in
+    ap (λ n. cells_from 1 (take n levels)) same
+    ∙ ap (cells_from 1) (take-add from (end - from) levels)
+    ∙ cells_from-append 1 (take from levels) (slice_range levels from end)
+    ∙ ap (λ n. cells_from 1 (take from levels) ++ cells_from n (slice_range levels from end)) number
+
+-- a level more, before those that are written
+pub cells_before : (number left : ℕ) (levels : List ℕ) → left < length levels
+    → cells_from (number + left) (drop left levels) ≡ cell (number + left) (get_or levels left 0) ++ cells_from (number + (left + 1)) (drop (left + 1) levels)
+cells_before number left levels lt =
+    let here : drop left levels ≡ get_or levels left 0 ∷ drop (left + 1) levels = rw add-one (drop-cons levels left 0 lt) in
+    let next : number + left + 1 ≡ number + (left + 1) = omega arith in
+    ap (cells_from (number + left)) here
+    ∙ cells_from-first (number + left) (get_or levels left 0) (drop (left + 1) levels)
+    ∙ ap (λ n. cell (number + left) (get_or levels left 0) ++ cells_from n (drop (left + 1) levels)) next
 
 -- the words before the slots
 abbrev pub head : List (List ℕ) → ℕ → ℕ → List ℕ

@@ -1,10 +1,12 @@
 //! Words for levels that aren't 0, each behind a space.
 #![tactic(auto, using(lx_io::proofs::Chain::puts))]
 
-ghost use Rattle.std.specs.Prelude.{◌≡◌, ◌+◌, ◌<◌, ◌≤◌, ◌++◌, ◌∷◌, length, drop, decimal, flat_map};
+ghost use Rattle.std.specs.Prelude.{◌≡◌, ◌+◌, ◌-◌, ◌*◌, ◌<◌, ◌≤◌, ◌^◌, ◌≢◌, ◌++◌, ◌∷◌, length, drop, decimal, flat_map};
 ghost use Rattle.lx_io.specs.Puts.{Puts};
 ghost use Rattle.lx_spec.specs.Replies.{cells};
+ghost use Rattle.lx_script.specs.Cells.{cells_from};
 
+use crate::rows::{DIGITS, LEVELS, NUMBERS};
 use itoa::write_digits;
 use lx_base::Level;
 use lx_io::{Sink, SinkFault, put_all};
@@ -12,33 +14,127 @@ use lx_io::{Sink, SinkFault, put_all};
 /// The most bytes of a cell: a space, a number of up to 20 digits, `=` and a level of up to three.
 const CELL_BYTES: usize = 25;
 
+/// The most levels whose cells are one piece.
+const PIECE_CELLS: usize = 64;
+
+/// The most bytes of a piece.
+const PIECE_BYTES: usize = 1600;
+
 /// Appends ` number=level` in decimal for each level that isn't 0, rising, the first level's number being 1. A fault is
 /// the sink's own, and then a front of the text was appended.
 pub fn put_cells<K: Sink>(levels: &[Level], sink: &mut K) -> Result<(), SinkFault>
     ensures { Puts K.holds K.faults K.wants sink.old sink.new result (flat_map (λ word. 32 ∷ word) (cells levels.now)) }
 {
-    for (i, level) in levels.iter().enumerate() {
-        if *level != 0 {
-            put_cell(i as u64 + 1, *level, sink)?;
-        }
+    let mut text = [0; PIECE_BYTES];
+    let mut from = 0;
+    while from < levels.len() {
+        let end = (from + PIECE_CELLS).min(levels.len());
+        put_piece(from as u64 + 1, &levels[from..end], &mut text, sink)?;
+        from = end;
     }
     Ok(())
 }
 
-/// Appends ` number=level`, as one piece.
-fn put_cell<K: Sink>(number: u64, level: Level, sink: &mut K) -> Result<(), SinkFault>
-    ensures { Puts K.holds K.faults K.wants sink.old sink.new result (32 ∷ (decimal number ++ 61 ∷ decimal level)) }
+/// Appends the cells of some levels, as one piece that is written into `text`.
+fn put_piece<K: Sink>(
+    number: u64,
+    levels: &[Level],
+    text: &mut [u8; PIECE_BYTES],
+    sink: &mut K,
+) -> Result<(), SinkFault>
+    requires few { length levels.now ≤ PIECE_CELLS }
+    requires numbers { number + length levels.now < 2 ^ 64 }
+    ensures { Puts K.holds K.faults K.wants sink.old sink.new result (cells_from number levels.now) }
 {
-    let mut text = [0; CELL_BYTES];
-    let start = write_word(level as u64, b'=', &mut text, CELL_BYTES);
-    let start = write_word(number, b' ', &mut text, start);
+    let start = write_cells(number, levels, text);
     put_all(sink, &text[start..])
 }
 
+/// Writes the cells of some levels so that they end where the text does, and says where they begin.
+fn write_cells(number: u64, levels: &[Level], text: &mut [u8; PIECE_BYTES]) -> usize
+    requires few { length levels.now ≤ PIECE_CELLS }
+    requires numbers { number + length levels.now < 2 ^ 64 }
+    ensures start { result ≤ PIECE_BYTES }
+    ensures text { drop result text.new ≡ cells_from number levels.now }
+{
+    let mut start = PIECE_BYTES;
+    let mut left = levels.len();
+    while left > 0 {
+        left -= 1;
+        let level = levels[left];
+        if level != 0 {
+            start = write_cell(number + left as u64, level, text, start);
+        }
+    }
+    start
+}
+
+/// Writes ` number=level` so that it ends at a place, and says where it begins.
+#[inline(always)]
+fn write_cell(number: u64, level: Level, text: &mut [u8; PIECE_BYTES], end: usize) -> usize
+    requires room { CELL_BYTES ≤ end }
+    requires within { end ≤ PIECE_BYTES }
+    ensures start { end ≤ result + CELL_BYTES }
+    ensures before { result ≤ end }
+    ensures text { drop result text.new ≡ (32 ∷ (decimal number ++ 61 ∷ decimal level)) ++ drop end text.old }
+{
+    let start = write_level(level, text, end);
+    write_number(number, text, start)
+}
+
+/// Writes `=level` so that it ends at a place, and says where it begins.
+#[inline(always)]
+fn write_level(level: Level, text: &mut [u8; PIECE_BYTES], end: usize) -> usize
+    requires room { 4 ≤ end }
+    requires within { end ≤ PIECE_BYTES }
+    ensures start { result + length (decimal level) + 1 ≡ end }
+    ensures text { drop result text.new ≡ 61 ∷ (decimal level ++ drop end text.old) }
+{
+    write_row(&LEVELS[level as usize], digits(level as u64) + 1, text, end)
+}
+
+/// Writes a space and a number so that they end at a place, and says where they begin.
+#[inline(always)]
+fn write_number(number: u64, text: &mut [u8; PIECE_BYTES], end: usize) -> usize
+    requires room { 20 < end }
+    requires within { end ≤ PIECE_BYTES }
+    ensures start { result + length (decimal number) + 1 ≡ end }
+    ensures text { drop result text.new ≡ 32 ∷ (decimal number ++ drop end text.old) }
+{
+    if number < 1000 {
+        write_row(&NUMBERS[number as usize], digits(number) + 1, text, end)
+    } else {
+        write_word(number, b' ', text, end)
+    }
+}
+
+/// How many digits a number below 1,000 has.
+#[inline(always)]
+fn digits(number: u64) -> usize
+    requires { number < 1000 }
+    ensures few { result ≤ 3 }
+    ensures digits { result ≡ length (decimal number) }
+{
+    DIGITS[number as usize] as usize
+}
+
+/// Writes the last bytes of a row so that they end at a place, and says where they begin.
+#[inline(always)]
+fn write_row(row: &[u8; 4], count: usize, text: &mut [u8; PIECE_BYTES], end: usize) -> usize
+    requires count { count ≤ 4 }
+    requires room { 4 ≤ end }
+    requires within { end ≤ PIECE_BYTES }
+    ensures start { result + count ≡ end }
+    ensures text { drop result text.new ≡ drop (4 - count) row.now ++ drop end text.old }
+{
+    text[end - 4..end].copy_from_slice(row);
+    end - count
+}
+
 /// Writes a byte and a whole number so that they end at a place, and says where they begin.
-fn write_word(number: u64, before: u8, text: &mut [u8; CELL_BYTES], end: usize) -> usize
+fn write_word(number: u64, before: u8, text: &mut [u8; PIECE_BYTES], end: usize) -> usize
     requires room { length (decimal number) < end }
-    requires within { end ≤ CELL_BYTES }
+    requires within { end ≤ PIECE_BYTES }
     ensures start { result + length (decimal number) + 1 ≡ end }
     ensures text { drop result text.new ≡ before ∷ (decimal number ++ drop end text.old) }
 {

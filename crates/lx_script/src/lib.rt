@@ -10,6 +10,7 @@ mod groups_and_patch;
 mod keys;
 mod phrase;
 mod reply;
+mod rows;
 mod sentence;
 #[cfg(test)]
 mod tests;

@@ -5,7 +5,7 @@ use Rattle.std.specs.Option.{option_map_or}
 use Rattle.std.specs.List.{AllByRecursion}
 use Rattle.std.specs.List.Sorted.{IsPartitionPoint}
 use Rattle.std.proofs.lemmas.Bool.{cases_order}
-use Rattle.std.proofs.lemmas.List.{set_split, take-append-drop, get_or-take, get_or-drop, append-nil, length-take, length-drop, take_all, drop_all}
+use Rattle.std.proofs.lemmas.List.{set_split, take-append-drop, get_or-take, get_or-drop, get_or_default, append-nil, length-take, length-drop, take_all, drop_all}
 use Rattle.std.proofs.lemmas.List.Elements.{recursion_from_All}
 use Rattle.std.proofs.lemmas.Option.{slice_get-get_or}
 use Rattle.lx_spec.specs.Show.{InRange}
@@ -15,7 +15,7 @@ use Rattle.lx_show.specs.Around.{entries_up_to}
 use Rattle.lx_show.specs.Changed.{changed}
 use Rattle.lx_spec.proofs.Comparisons.{eq_above, eq_below, eq_true, le_false, le_from, le_true, lt_false, lt_from, lt_true}
 use Rattle.lx_spec.proofs.Lists.{all_append, each, filter_all, filter_none, find_none, kept_by, passes, take_with}
-use Rattle.lx_spec.proofs.SortedLists.{IsStrictlySorted-drop, IsStrictlySorted-filter, IsStrictlySorted-placed, above_seam, below_and_above, below_seam, few, found_number, goes_between, low_end, none_below, seam, stands_between, strictly_above}
+use Rattle.lx_spec.proofs.SortedLists.{IsStrictlySorted-drop, IsStrictlySorted-filter, IsStrictlySorted-placed, above_seam, below_and_above, below_seam, few, found_number, goes_between, in_order, low_end, none_below, seam, stands_between, strictly_above}
 
 -- the first entries of a list cut at a point are below the number, and the others not
 below_cut : {A : Type 0} (key : A → ℕ) (n : ℕ) (xs : List A) (at : ℕ) → at ≤ length xs → IsPartitionPoint (λ x. nat_lt (key x) n ≡ true) (λ x. nat_lt (key x) n ≡ false) xs at → AllByRecursion (λ y. key y < n) (take at xs)
@@ -50,6 +50,14 @@ goes_at key n xs at sorted within cut other =
       absent = ap (entry_at key n) whole ∙ all.1;
       after = sym (ap (entries_above key n) whole ∙ all.2);
     }
+
+-- a number between those of two neighbours goes between them
+pub goes_here : {A : Type 0} (key : A → ℕ) (n : ℕ) (xs : List A) (at : ℕ) (x y : A) → IsStrictlySorted key xs → 0 < at → at < length xs → x ≡ get_or xs (at - 1) x → key x < n → y ≡ get_or xs at y → n < key y → GoesAt key n xs at
+goes_here key n xs at x y sorted some within before low here high =
+    goes_at key n xs at sorted (omega arith) (
+      λ k d from to. lt_true _ n (let le = in_order key xs sorted k (at - 1) d (omega arith) (omega arith) in let same = ap key (get_or_default xs (at - 1) d x (omega arith) ∙ sym before) in omega (arith, le, same, low)),
+      λ k d from to. lt_false _ n (let le = in_order key xs sorted at k d (omega arith) (omega arith) in let same = ap key (get_or_default xs at d y within ∙ sym here) in omega (arith, le, same, high)),
+    ) (λ z lt is same. let at_key = ap key (is ∙ get_or_default xs at z y within ∙ sym here) in omega (arith, at_key, same, high))
 
 -- a number above that of the last entry goes to the end
 pub goes_last : {A : Type 0} (key : A → ℕ) (n : ℕ) (xs : List A) (x : A) → IsStrictlySorted key xs → 0 < length xs → x ≡ get_or xs (length xs - 1) x → key x < n → GoesAt key n xs (length xs)

@@ -1,24 +1,16 @@
 -- Texts with a piece for each element, or for each that passes a test.
-use Rattle.std.proofs.Common.{◌≡◌, ℕ, ◌+◌, ◌<◌, Bool, true, List, [], ◌∷◌, ◌++◌, length, get_or, take, drop, take-append-drop, sym, ap, ◌∙◌, append_assoc, append-nil, cond}
-use Rattle.std.specs.Prelude.{filter, flat_map, codes, decimal}
+use Rattle.std.proofs.Common.{◌≡◌, ℕ, ◌+◌, ◌-◌, ◌/◌, ◌%◌, ◌<◌, ◌≤◌, Bool, List, [], ◌∷◌, ◌++◌, length, get_or, take, drop, take-append-drop, length-take, refl, sym, ap, ◌∙◌, append_assoc, append-nil, cond, arith}
+use Rattle.std.specs.Prelude.{filter, flat_map, codes, decimal, slice_range}
 use Rattle.std.proofs.lemmas.Grind.{flat_map-append}
 use Rattle.std.proofs.lemmas.List.Elements.{filter-append}
-use Rattle.std.proofs.lemmas.List.{take_more}
+use Rattle.std.proofs.lemmas.List.{take_more, drop-drop, drop-append-le}
+use Rattle.std.proofs.Math.Seq.{take-add, drop-append-add}
+use borrow.Rule.Slice.PartMut.{put_mid}
+use Rattle.itoa.proofs.Decimal.{pair, decimal_pair}
 use Rattle.lx_io.proofs.Chain.{drop_here}
 use Rattle.lx_spec.specs.declared.PatchRow.{PatchRow}
-use Rattle.lx_spec.specs.ShowText.{at_text, patch_text}
-
--- the pieces before an element that passes, its own, and those after it
-pub kept_around : {A : Type 0} (p : A → Bool) (f : A → List ℕ) (xs : List A) (i : ℕ) (x : A) → i < length xs → x ≡ get_or xs i x → p x ≡ true
-    → flat_map f (filter p xs) ≡ (flat_map f (filter p (take i xs)) ++ f x) ++ flat_map f (filter p (drop (i + 1) xs))
-kept_around {A} p f xs i x within is passes =
-    let rest : List A = drop (i + 1) xs in
-    let here : drop i xs ≡ x ∷ rest = (drop_here xs i x within).1 ∙ ap (λ (y : A). y ∷ rest) (sym is) in
-    let kept : filter p (x ∷ rest) ≡ x ∷ filter p rest = ap (λ (b : Bool). cond b (x ∷ filter p rest) (filter p rest)) passes in
-    ap (λ (ys : List A). flat_map f (filter p ys)) (sym (take-append-drop i xs))
-    ∙ ap (flat_map f) (filter-append p (take i xs) (drop i xs) ∙ ap (λ (ys : List A). filter p (take i xs) ++ ys) (ap (filter p) here ∙ kept))
-    ∙ flat_map-append f (filter p (take i xs)) (x ∷ filter p rest)
-    ∙ sym (append_assoc (flat_map f (filter p (take i xs))) (f x) (flat_map f (filter p rest)))
+use Rattle.lx_spec.specs.Numerals.{level_text}
+use Rattle.lx_spec.specs.ShowText.{line, at_text, patch_text}
 
 -- one piece more, and the pieces around it
 pub pieces_more : {A : Type 0} (f : A → List ℕ) (xs : List A) (i : ℕ) (x : A) → i < length xs → x ≡ get_or xs i x → flat_map f (take i xs) ++ f x ≡ flat_map f (take (i + 1) xs)
@@ -32,3 +24,54 @@ pieces_around f xs i x within is =
 -- a patch row as it is put
 pub patch_is : (row : PatchRow) → ((codes "PATCH 1 " ++ decimal row.chan ++ 60 ∷ []) ++ at_text row.dimmer row.level) ++ 10 ∷ [] ≡ patch_text row
 patch_is row = ap (λ text. text ++ 10 ∷ []) (append_assoc (codes "PATCH 1 " ++ decimal row.chan) (60 ∷ []) (at_text row.dimmer row.level))
+
+-- the pieces of those that pass, split at a place, and one range more
+pub kept_split : {A : Type 0} (p : A → Bool) (f : A → List ℕ) (xs : List A) (from : ℕ)
+    → flat_map f (filter p xs) ≡ flat_map f (filter p (take from xs)) ++ flat_map f (filter p (drop from xs))
+kept_split p f xs from =
+    ap (λ ys. flat_map f (filter p ys)) (sym (take-append-drop from xs))
+    ∙ ap (flat_map f) (filter-append p (take from xs) (drop from xs))
+    ∙ flat_map-append f (filter p (take from xs)) (filter p (drop from xs))
+
+pub kept_more : {A : Type 0} (p : A → Bool) (f : A → List ℕ) (xs : List A) (from end : ℕ) → from ≤ end
+    → flat_map f (filter p (take end xs)) ≡ flat_map f (filter p (take from xs)) ++ flat_map f (filter p (slice_range xs from end))
+kept_more p f xs from end before =
+    let same : end ≡ from + (end - from) = omega arith in
+    ap (λ n. flat_map f (filter p (take n xs))) same
+    ∙ ap (λ ys. flat_map f (filter p ys)) (take-add from (end - from) xs)
+    ∙ ap (flat_map f) (filter-append p (take from xs) (slice_range xs from end))
+    ∙ flat_map-append f (filter p (take from xs)) (filter p (slice_range xs from end))
+
+-- those from a place on that pass, and the entry at it
+pub kept_here : {A : Type 0} (p : A → Bool) (xs : List A) (i : ℕ) (x : A) → i < length xs → x ≡ get_or xs i x
+    → filter p (drop i xs) ≡ cond (p x) (x ∷ filter p (drop (i + 1) xs)) (filter p (drop (i + 1) xs))
+kept_here p xs i x within is = ap (filter p) ((drop_here xs i x within).1 ∙ ap (λ y. y ∷ drop (i + 1) xs) (sym is))
+
+-- the last bytes of a row that is put into a text, so that they end at a place
+pub put_end : (text row new : List ℕ) (end size count : ℕ) → new ≡ row → length row ≡ size → count ≤ size → size ≤ end → end ≤ length text
+    → drop (end - count) (put_mid (end - size) (end - (end - size)) text new) ≡ drop (size - count) row ++ drop end text
+put_end text row new end size count same long few room within =
+    let at : ℕ = end - size in
+    let front : List ℕ = take at text in
+    let post : List ℕ = drop (end - at) (drop at text) in
+    let here : end - count ≡ length front + (size - count) = omega (arith, length-take at text) in
+    let end_is : at + (end - at) ≡ end = omega arith in
+    ap (λ n. drop (end - count) (front ++ (n ++ post))) same
+    ∙ ap (λ k. drop k (front ++ (row ++ post))) here
+    ∙ drop-append-add front (row ++ post) (size - count)
+    ∙ drop-append-le (size - count) row post (omega (arith, long))
+    ∙ ap (λ p. drop (size - count) row ++ p) (drop-drop (end - at) at text ∙ ap (λ k. drop k text) end_is)
+
+-- all of them
+pub put_before : (text bytes new : List ℕ) (end : ℕ) → new ≡ bytes → length bytes ≤ end → end ≤ length text
+    → drop (end - length bytes) (put_mid (end - length bytes) (end - (end - length bytes)) text new) ≡ bytes ++ drop end text
+put_before text bytes new end same room within =
+    let none : length bytes - length bytes ≡ 0 = omega arith in
+    put_end text bytes new end (length bytes) (length bytes) same refl (omega arith) room within ∙ ap (λ k. drop k bytes ++ drop end text) none
+
+-- a line of a channel and its level, as its parts are written
+pub line_is : (n level : ℕ) (rest : List ℕ) → (codes "CHAN " ++ (decimal n ++ 64 ∷ [])) ++ ((level_text level ++ 10 ∷ []) ++ rest) ≡ line (codes "CHAN" ∷ at_text n level ∷ []) ++ rest
+line_is n level rest = simp append_assoc
+
+pub channel_is : (n : ℕ) (rest : List ℕ) → 100 ≤ n → n ≤ 2048 → (codes "CHAN " ++ decimal (n / 100)) ++ ((pair (n % 100) ++ 64 ∷ []) ++ rest) ≡ (codes "CHAN " ++ (decimal n ++ 64 ∷ [])) ++ rest
+channel_is n rest from most = rw (decimal_pair n from (omega arith)) (simp append_assoc)

@@ -2,9 +2,11 @@
 #![tactic(auto)]
 
 mod cue;
+mod lines;
 mod part;
 mod pieces;
 mod record;
+mod rows;
 mod show;
 #[cfg(test)]
 mod tests;

@@ -1,12 +1,13 @@
 //! The parts of a cue, each with its times and the moves in it.
 #![tactic(auto, using(lx_io::proofs::Chain::puts))]
 
-ghost use Rattle.std.specs.Prelude.{◌≡◌, ◌==◌, [], ◌++◌, ◌∷◌, codes, decimal, filter, flat_map};
+ghost use Rattle.std.specs.Prelude.{[], ◌++◌, ◌∷◌, codes, decimal, flat_map};
 ghost use Rattle.lx_io.specs.Puts.{Puts};
 ghost use Rattle.lx_spec.specs.Numerals.{time_text};
-ghost use Rattle.lx_spec.specs.ShowText.{line, move_text, part_text};
+ghost use Rattle.lx_spec.specs.ShowText.{line, part_text};
 
-use crate::record::{put_between, put_channel};
+use crate::lines::put_moves;
+use crate::record::put_between;
 use lx_base::{Cs, PartNo};
 use lx_io::{Sink, SinkFault, put_all};
 use lx_lex::put_hundredths;
@@ -52,23 +53,4 @@ fn put_time<K: Sink>(start: &[u8], time: Cs, delay: Cs, sink: &mut K) -> Result<
     put_all(sink, b" ")?;
     put_hundredths(delay, sink)?;
     put_all(sink, b"\n")
-}
-
-/// Appends a line for each move that stands in the part.
-fn put_moves<K: Sink>(moves: &[Move], part: PartNo, sink: &mut K) -> Result<(), SinkFault>
-    ensures { Puts K.holds K.faults K.wants sink.old sink.new result (flat_map move_text (filter (λ entry. entry.part == part) moves.now)) }
-{
-    for entry in moves {
-        if stands_in(entry, part) {
-            put_channel(entry.chan, entry.level, sink)?;
-        }
-    }
-    Ok(())
-}
-
-/// The move stands in the part.
-fn stands_in(entry: &Move, part: PartNo) -> bool
-    ensures { result ≡ (entry.now.part == part) }
-{
-    entry.part.get() == part.get()
 }

@@ -1,9 +1,10 @@
-use Rattle.std.proofs.Common.{◌∷◌, ap, ◌∙◌, sym}
+use Rattle.std.proofs.Common.{ap, ◌∙◌}
+use Rattle.lx_lex.specs.Left.{left}
 use Rattle.lx_reader.specs.FieldLists.{all_pairs}
 use Rattle.lx_reader.proofs.Pairs.{all_pairs-first}
 use Rattle.lx_reader.proofs.lists.next_member.Goals as goal
 
-pub returns-in-Ok-read_level-clause-list : goal.returns-in-Ok-read_level-clause-list
-returns-in-Ok-read_level-clause-list c =
-    ap (all_pairs c.args.i) (let h = c.in-Some.ensures in h.steps ∙ ap (λ v. c.in-Some.first.now ∷ v) (let k = c.in-Some-next.ensures in k.steps))
-    ∙ all_pairs-first c.args.i c.in-Some.first.now c.in-Some-next.second.now _ (record { chan = c.in-Ok.chan; level = c.in-Ok-read_level.level }) (sym (c.in-Ok.ensures)) (sym (c.in-Ok-read_level.ensures))
+pub returns-in-Some-clause-list : goal.returns-in-Some-clause-list
+returns-in-Some-clause-list c =
+    let m = c.in-Some.ensures in
+    ap (all_pairs c.args.i) m.first ∙ all_pairs-first c.args.i m.chan_token m.level_token (left c.plain_member.new.tokens) c.in-Some.member m.chan m.level

@@ -1,0 +1,77 @@
+//! The ready parts of a channel's line.
+#![tactic(auto)]
+
+/// The word and the hundreds of the channel's number, at the end of eight bytes.
+pub(crate) static FRONTS: [[u8; 8]; 21] = [
+    *b"  CHAN 0",
+    *b"  CHAN 1",
+    *b"  CHAN 2",
+    *b"  CHAN 3",
+    *b"  CHAN 4",
+    *b"  CHAN 5",
+    *b"  CHAN 6",
+    *b"  CHAN 7",
+    *b"  CHAN 8",
+    *b"  CHAN 9",
+    *b" CHAN 10",
+    *b" CHAN 11",
+    *b" CHAN 12",
+    *b" CHAN 13",
+    *b" CHAN 14",
+    *b" CHAN 15",
+    *b" CHAN 16",
+    *b" CHAN 17",
+    *b" CHAN 18",
+    *b" CHAN 19",
+    *b" CHAN 20",
+];
+
+/// The tens and ones of the channel's number, and `@`.
+pub(crate) static TENS: [[u8; 3]; 100] = [
+    *b"00@", *b"01@", *b"02@", *b"03@", *b"04@", *b"05@", *b"06@", *b"07@", *b"08@", *b"09@",
+    *b"10@", *b"11@", *b"12@", *b"13@", *b"14@", *b"15@", *b"16@", *b"17@", *b"18@", *b"19@",
+    *b"20@", *b"21@", *b"22@", *b"23@", *b"24@", *b"25@", *b"26@", *b"27@", *b"28@", *b"29@",
+    *b"30@", *b"31@", *b"32@", *b"33@", *b"34@", *b"35@", *b"36@", *b"37@", *b"38@", *b"39@",
+    *b"40@", *b"41@", *b"42@", *b"43@", *b"44@", *b"45@", *b"46@", *b"47@", *b"48@", *b"49@",
+    *b"50@", *b"51@", *b"52@", *b"53@", *b"54@", *b"55@", *b"56@", *b"57@", *b"58@", *b"59@",
+    *b"60@", *b"61@", *b"62@", *b"63@", *b"64@", *b"65@", *b"66@", *b"67@", *b"68@", *b"69@",
+    *b"70@", *b"71@", *b"72@", *b"73@", *b"74@", *b"75@", *b"76@", *b"77@", *b"78@", *b"79@",
+    *b"80@", *b"81@", *b"82@", *b"83@", *b"84@", *b"85@", *b"86@", *b"87@", *b"88@", *b"89@",
+    *b"90@", *b"91@", *b"92@", *b"93@", *b"94@", *b"95@", *b"96@", *b"97@", *b"98@", *b"99@",
+];
+
+/// A level, and the line's end.
+pub(crate) static LEVELS: [[u8; 4]; 256] = [
+    *b"H00\n", *b"H01\n", *b"H02\n", *b"H03\n", *b"H04\n", *b"H05\n", *b"H06\n", *b"H07\n",
+    *b"H08\n", *b"H09\n", *b"H0A\n", *b"H0B\n", *b"H0C\n", *b"H0D\n", *b"H0E\n", *b"H0F\n",
+    *b"H10\n", *b"H11\n", *b"H12\n", *b"H13\n", *b"H14\n", *b"H15\n", *b"H16\n", *b"H17\n",
+    *b"H18\n", *b"H19\n", *b"H1A\n", *b"H1B\n", *b"H1C\n", *b"H1D\n", *b"H1E\n", *b"H1F\n",
+    *b"H20\n", *b"H21\n", *b"H22\n", *b"H23\n", *b"H24\n", *b"H25\n", *b"H26\n", *b"H27\n",
+    *b"H28\n", *b"H29\n", *b"H2A\n", *b"H2B\n", *b"H2C\n", *b"H2D\n", *b"H2E\n", *b"H2F\n",
+    *b"H30\n", *b"H31\n", *b"H32\n", *b"H33\n", *b"H34\n", *b"H35\n", *b"H36\n", *b"H37\n",
+    *b"H38\n", *b"H39\n", *b"H3A\n", *b"H3B\n", *b"H3C\n", *b"H3D\n", *b"H3E\n", *b"H3F\n",
+    *b"H40\n", *b"H41\n", *b"H42\n", *b"H43\n", *b"H44\n", *b"H45\n", *b"H46\n", *b"H47\n",
+    *b"H48\n", *b"H49\n", *b"H4A\n", *b"H4B\n", *b"H4C\n", *b"H4D\n", *b"H4E\n", *b"H4F\n",
+    *b"H50\n", *b"H51\n", *b"H52\n", *b"H53\n", *b"H54\n", *b"H55\n", *b"H56\n", *b"H57\n",
+    *b"H58\n", *b"H59\n", *b"H5A\n", *b"H5B\n", *b"H5C\n", *b"H5D\n", *b"H5E\n", *b"H5F\n",
+    *b"H60\n", *b"H61\n", *b"H62\n", *b"H63\n", *b"H64\n", *b"H65\n", *b"H66\n", *b"H67\n",
+    *b"H68\n", *b"H69\n", *b"H6A\n", *b"H6B\n", *b"H6C\n", *b"H6D\n", *b"H6E\n", *b"H6F\n",
+    *b"H70\n", *b"H71\n", *b"H72\n", *b"H73\n", *b"H74\n", *b"H75\n", *b"H76\n", *b"H77\n",
+    *b"H78\n", *b"H79\n", *b"H7A\n", *b"H7B\n", *b"H7C\n", *b"H7D\n", *b"H7E\n", *b"H7F\n",
+    *b"H80\n", *b"H81\n", *b"H82\n", *b"H83\n", *b"H84\n", *b"H85\n", *b"H86\n", *b"H87\n",
+    *b"H88\n", *b"H89\n", *b"H8A\n", *b"H8B\n", *b"H8C\n", *b"H8D\n", *b"H8E\n", *b"H8F\n",
+    *b"H90\n", *b"H91\n", *b"H92\n", *b"H93\n", *b"H94\n", *b"H95\n", *b"H96\n", *b"H97\n",
+    *b"H98\n", *b"H99\n", *b"H9A\n", *b"H9B\n", *b"H9C\n", *b"H9D\n", *b"H9E\n", *b"H9F\n",
+    *b"HA0\n", *b"HA1\n", *b"HA2\n", *b"HA3\n", *b"HA4\n", *b"HA5\n", *b"HA6\n", *b"HA7\n",
+    *b"HA8\n", *b"HA9\n", *b"HAA\n", *b"HAB\n", *b"HAC\n", *b"HAD\n", *b"HAE\n", *b"HAF\n",
+    *b"HB0\n", *b"HB1\n", *b"HB2\n", *b"HB3\n", *b"HB4\n", *b"HB5\n", *b"HB6\n", *b"HB7\n",
+    *b"HB8\n", *b"HB9\n", *b"HBA\n", *b"HBB\n", *b"HBC\n", *b"HBD\n", *b"HBE\n", *b"HBF\n",
+    *b"HC0\n", *b"HC1\n", *b"HC2\n", *b"HC3\n", *b"HC4\n", *b"HC5\n", *b"HC6\n", *b"HC7\n",
+    *b"HC8\n", *b"HC9\n", *b"HCA\n", *b"HCB\n", *b"HCC\n", *b"HCD\n", *b"HCE\n", *b"HCF\n",
+    *b"HD0\n", *b"HD1\n", *b"HD2\n", *b"HD3\n", *b"HD4\n", *b"HD5\n", *b"HD6\n", *b"HD7\n",
+    *b"HD8\n", *b"HD9\n", *b"HDA\n", *b"HDB\n", *b"HDC\n", *b"HDD\n", *b"HDE\n", *b"HDF\n",
+    *b"HE0\n", *b"HE1\n", *b"HE2\n", *b"HE3\n", *b"HE4\n", *b"HE5\n", *b"HE6\n", *b"HE7\n",
+    *b"HE8\n", *b"HE9\n", *b"HEA\n", *b"HEB\n", *b"HEC\n", *b"HED\n", *b"HEE\n", *b"HEF\n",
+    *b"HF0\n", *b"HF1\n", *b"HF2\n", *b"HF3\n", *b"HF4\n", *b"HF5\n", *b"HF6\n", *b"HF7\n",
+    *b"HF8\n", *b"HF9\n", *b"HFA\n", *b"HFB\n", *b"HFC\n", *b"HFD\n", *b"HFE\n", *b"HFF\n",
+];
