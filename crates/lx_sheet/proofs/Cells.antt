@@ -5,6 +5,7 @@ use borrow.Rule.Slice.PartMut.{put_mid}
 use Rattle.std.proofs.lemmas.Bool.{cases_lt, cases_order}
 use Rattle.std.proofs.lemmas.List.{get_or-take, get_or-drop, get_or_past, get_or-set_same, get_or-set_other, length-take, drop-take}
 use Rattle.std.proofs.lemmas.Slice.{between-put_mid, take-put_mid_below, drop-put_mid}
+use Rattle.lx_base.specs.Rows.{Agree}
 use Rattle.lx_sheet.specs.Block.{cell, level_in_look, last_value}
 
 one_below : (c : ℕ) → 1 ≤ c → suc (c - 1) ≡ c
@@ -100,10 +101,15 @@ pub last_value_some : (count : ℕ) (f : ℕ → ℕ) → count ≢ 0 → last_v
 last_value_some zero f some = absurd (some refl)
 last_value_some (suc k) f some = let e : k ≡ suc k - 1 = omega arith in ap f e
 
--- from the start of the last row to its end
-pub width_of : (rows channels : ℕ) → rows ≢ 0 → rows * channels - (rows - 1) * channels ≡ channels
-width_of zero channels some = absurd (some refl)
-width_of (suc k) channels some =
-    let before : suc k - 1 ≡ k = omega arith in
-    let e : suc k * channels ≡ k * channels + channels = omega arith in
-    rw before (omega arith)
+-- from the start of a row to its end
+pub width_of : (row channels : ℕ) → (row + 1) * channels - row * channels ≡ channels
+width_of row channels = omega arith
+
+-- two rows that agree at each place
+pub same_look : (a b : List ℕ) → length a ≡ length b → Agree a b 0 (length a) → (c : ℕ) → level_in_look a c ≡ level_in_look b c
+same_look a b long agree zero = refl
+same_look a b long agree (suc k) =
+    elim (cases_lt k (length a)) [
+      | inl within ↦ agree k (omega arith) within
+      | inr past ↦ get_or_past a k 0 past ∙ sym (get_or_past b k 0 (omega arith))
+    ]

@@ -1,9 +1,11 @@
 pub mod Cells
-pub mod Columns
 pub mod EditedShows
 pub mod Found
 pub mod KeptNumbers
+pub mod LevelsAfter
 pub mod Moves
 pub mod Past
+pub mod RowPool
+pub mod RightRows
 pub mod Rows
-pub mod Tracking
+pub mod ShiftedRows

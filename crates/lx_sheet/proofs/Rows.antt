@@ -1,15 +1,15 @@
--- The rows of a block, by their places, and the level that it gives at a number.
-use Rattle.std.proofs.Common.{◌≡◌, ℕ, zero, suc, ◌+◌, ◌-◌, ◌*◌, ◌<◌, ◌≤◌, true, false, cond, List, [], ◌∷◌, length, get_or, take, drop, map, Some, refl, ◌∙◌, sym, ap, arith, inl, inr}
+-- The rows of cues, by their places in the order, and the level that they give at a number.
+use Rattle.std.proofs.Common.{◌≡◌, ℕ, zero, suc, ◌-◌, ◌*◌, ◌<◌, ◌≤◌, true, false, cond, List, [], ◌∷◌, length, get_or, take, drop, map, Some, refl, ◌∙◌, sym, ap, arith, inl, inr}
 use Rattle.std.specs.Prelude.{Option, find, reverse, nat_le, slice_get}
 use Rattle.std.specs.Option.{option_map_or}
 use Rattle.std.specs.List.{AllByRecursion}
 use Rattle.std.proofs.lemmas.Bool.{cases_lt}
-use Rattle.std.proofs.lemmas.List.{drop-drop, length-map}
+use Rattle.std.proofs.lemmas.List.{length-map}
 use Rattle.lx_spec.specs.SortedList.{IsStrictlySorted}
 use Rattle.lx_show.specs.Around.{entries_up_to}
 use Rattle.lx_sheet.specs.declared.sheet.Place.{Place}
 use Rattle.lx_sheet.specs.Rows.{Row, Sheet, level_of, level_in_row}
-use Rattle.lx_sheet.specs.Block.{rows_of, cell, last_value}
+use Rattle.lx_sheet.specs.Block.{rows_of, cell, cue_level, last_value}
 use Rattle.lx_spec.proofs.Comparisons.{le_false, le_true}
 use Rattle.lx_spec.proofs.Lists.{each, filter_none, find_last, shorter}
 
@@ -60,42 +60,36 @@ last_up_to {A} key f n xs sorted =
 pub count_within : (n : ℕ) (numbers : List ℕ) → count_up_to n numbers ≤ length numbers
 count_within n numbers = shorter (λ m. nat_le m n) numbers
 
-pub length-rows_of : (channels : ℕ) (order : List Place) (levels : List ℕ) → length (rows_of channels order levels) ≡ length order
-length-rows_of channels [] levels = refl
-length-rows_of channels (p ∷ order) levels = ap suc (length-rows_of channels order (drop channels levels))
-
 pub numbers-rows_of : (channels : ℕ) (order : List Place) (levels : List ℕ) → map (λ r. r.number) (rows_of channels order levels) ≡ map (λ p. p.cue) order
 numbers-rows_of channels [] levels = refl
-numbers-rows_of channels (p ∷ order) levels = ap (λ ns. p.cue ∷ ns) (numbers-rows_of channels order (drop channels levels))
+numbers-rows_of channels (p ∷ order) levels = ap (λ ns. p.cue ∷ ns) (numbers-rows_of channels order levels)
 
-all_rows : (P : ℕ → Type 0) (channels : ℕ) (order : List Place) (levels : List ℕ) → AllByRecursion (λ p. P p.cue) order → AllByRecursion (λ r. P r.number) (rows_of channels order levels)
+all_rows : (P : ℕ → Type 0) (channels : ℕ) (order : List Place) (levels : List ℕ) → AllByRecursion (λ p. P p.cue) order
+    → AllByRecursion (λ r. P r.number) (rows_of channels order levels)
 all_rows P channels [] levels all = tt
-all_rows P channels (p ∷ order) levels all = (all.0, all_rows P channels order (drop channels levels) all.1)
+all_rows P channels (p ∷ order) levels all = (all.0, all_rows P channels order levels all.1)
 
-pub IsStrictlySorted-rows_of : (channels : ℕ) (order : List Place) (levels : List ℕ) → IsStrictlySorted (λ p. p.cue) order → IsStrictlySorted (λ r. r.number) (rows_of channels order levels)
+pub IsStrictlySorted-rows_of : (channels : ℕ) (order : List Place) (levels : List ℕ) → IsStrictlySorted (λ p. p.cue) order
+    → IsStrictlySorted (λ r. r.number) (rows_of channels order levels)
 IsStrictlySorted-rows_of channels [] levels sorted = tt
-IsStrictlySorted-rows_of channels (p ∷ order) levels sorted = (all_rows (λ n. p.cue < n) channels order (drop channels levels) sorted.0, IsStrictlySorted-rows_of channels order (drop channels levels) sorted.1)
+IsStrictlySorted-rows_of channels (p ∷ order) levels sorted =
+    (all_rows (λ n. p.cue < n) channels order levels sorted.0, IsStrictlySorted-rows_of channels order levels sorted.1)
 
--- the row at a place
-pub row_of_block : (channels : ℕ) (order : List Place) (levels : List ℕ) (k : ℕ) (p : Place) → k < length order → p ≡ get_or order k p → slice_get (rows_of channels order levels) k ≡ Some (record { number = p.cue; levels = take channels (drop (k * channels) levels) })
-row_of_block channels [] levels k p within is = absurd (omega arith)
-row_of_block channels (q ∷ order) levels zero p within is =
-    let none : 0 ≡ 0 * channels = omega arith in
-    ap (λ (x : Place). Some (record { number = x.cue; levels = take channels levels })) (sym is) ∙ ap (λ n. Some (record { number = p.cue; levels = take channels (drop n levels) })) none
-row_of_block channels (q ∷ order) levels (suc k) p within is =
-    let next : channels + k * channels ≡ suc k * channels = omega arith in
-    row_of_block channels order (drop channels levels) k p (omega arith) is ∙ ap (λ (xs : List ℕ). Some (record { number = p.cue; levels = take channels xs })) (drop-drop (k * channels) channels levels ∙ ap (λ n. drop n levels) next)
+-- the row of the cue at a place
+pub row_of_place : (channels : ℕ) (order : List Place) (levels : List ℕ) (k : ℕ) (p : Place) → k < length order → p ≡ get_or order k p
+    → slice_get (rows_of channels order levels) k ≡ Some (record { number = p.cue; levels = take channels (drop (p.row * channels) levels) })
+row_of_place channels [] levels k p within is = absurd (omega arith)
+row_of_place channels (q ∷ order) levels zero p within is =
+    ap (λ (x : Place). Some (record { number = x.cue; levels = take channels (drop (x.row * channels) levels) })) (sym is)
+row_of_place channels (q ∷ order) levels (suc k) p within is = row_of_place channels order levels k p (omega arith) is
 
--- a level in the row at a place
-level_at_place : (channels : ℕ) (order : List Place) (levels : List ℕ) (k c : ℕ) → k < length order → option_map_or (λ row. level_in_row row c) (slice_get (rows_of channels order levels) k) 0 ≡ cell channels levels k c
+-- a level in the row of the cue at a place
+level_at_place : (channels : ℕ) (order : List Place) (levels : List ℕ) (k c : ℕ) → k < length order
+    → option_map_or (λ row. level_in_row row c) (slice_get (rows_of channels order levels) k) 0 ≡ cue_level channels order levels k c
 unfolding cell
 level_at_place channels [] levels k c within = absurd (omega arith)
-level_at_place channels (q ∷ order) levels zero c within =
-    let none : 0 ≡ 0 * channels = omega arith in
-    ap (λ n. get_or (0 ∷ take channels (drop n levels)) c 0) none
-level_at_place channels (q ∷ order) levels (suc k) c within =
-    let next : channels + k * channels ≡ suc k * channels = omega arith in
-    level_at_place channels order (drop channels levels) k c (omega arith) ∙ ap (λ (xs : List ℕ). get_or (0 ∷ take channels xs) c 0) (drop-drop (k * channels) channels levels ∙ ap (λ n. drop n levels) next)
+level_at_place channels (q ∷ order) levels zero c within = refl
+level_at_place channels (q ∷ order) levels (suc k) c within = level_at_place channels order levels k c (omega arith)
 
 -- two values that agree at each place
 pub last_value_same : (count : ℕ) (f g : ℕ → ℕ) → ((k : ℕ) → k < count → f k ≡ g k) → last_value count f ≡ last_value count g
@@ -106,12 +100,14 @@ last_value_same (suc k) f g same = same k (omega arith)
 abbrev pub sheet_of : ℕ → List Place → List ℕ → Sheet
 sheet_of channels order levels = record { channels = channels; rows = rows_of channels order levels }
 
--- the level at a number stands in the last row up to it
-pub level_of_block : (channels : ℕ) (order : List Place) (levels : List ℕ) (n c : ℕ) → IsStrictlySorted (λ p. p.cue) order → level_of (sheet_of channels order levels) n c ≡ last_value (count_up_to n (map (λ p. p.cue) order)) (λ k. cell channels levels k c)
+-- the level at a number stands in the row of the last cue up to it
+pub level_of_block : (channels : ℕ) (order : List Place) (levels : List ℕ) (n c : ℕ) → IsStrictlySorted (λ p. p.cue) order
+    → level_of (sheet_of channels order levels) n c ≡ last_value (count_up_to n (map (λ p. p.cue) order)) (λ k. cue_level channels order levels k c)
 unfolding level_of
 level_of_block channels order levels n c sorted =
     let numbers : List ℕ = map (λ (p : Place). p.cue) order in
     let within : count_up_to n numbers ≤ length order = omega (arith, count_within n numbers, length-map order (λ (p : Place). p.cue)) in
+    let at : ℕ → ℕ = λ k. option_map_or (λ (r : Row). level_in_row r c) (slice_get (rows_of channels order levels) k) 0 in
     last_up_to (λ (r : Row). r.number) (λ (r : Row). level_in_row r c) n (rows_of channels order levels) (IsStrictlySorted-rows_of channels order levels sorted)
-    ∙ ap (λ (ns : List ℕ). last_value (count_up_to n ns) (λ k. option_map_or (λ (r : Row). level_in_row r c) (slice_get (rows_of channels order levels) k) 0)) (numbers-rows_of channels order levels)
+    ∙ ap (λ (ns : List ℕ). last_value (count_up_to n ns) at) (numbers-rows_of channels order levels)
     ∙ last_value_same (count_up_to n numbers) _ _ (λ k less. level_at_place channels order levels k c (omega (arith, within, less)))

@@ -1,8 +1,10 @@
 -- The levels after a list of cues.
-use Rattle.std.specs.Prelude.{ℕ, List, find, reverse, if◌then◌else◌}
+use Rattle.std.specs.Prelude.{◌≡◌, ℕ, ◌+◌, ◌<◌, ◌≤◌, List, find, length, reverse, take, if◌then◌else◌}
 use Rattle.std.specs.Option.{option_map_or}
 use Rattle.lx_spec.specs.Show.{Cue}
 use Rattle.lx_spec.specs.TrackedLevel.{decides, level_in}
+use Rattle.lx_sheet.specs.declared.sheet.Place.{Place}
+use Rattle.lx_sheet.specs.Block.{cue_level, last_value}
 
 -- a channel's level after these cues: that of the last one that decides it, or 0
 unfoldable pub level_after : List Cue → ℕ → ℕ
@@ -11,3 +13,16 @@ level_after cues c = option_map_or (λ cue. level_in cue c) (find (λ cue. decid
 -- a channel's level in a cue, from the one before
 abbrev pub tracked_on : Cue → ℕ → ℕ → ℕ
 tracked_on cue c before = if decides cue c then level_in cue c else before
+
+-- the row at this place holds the levels after the cues up to it
+abbrev pub IsRight : ℕ → List Place → List Cue → List ℕ → ℕ → ℕ → Type 0
+IsRight channels order cues levels k c = cue_level channels order levels k c ≡ level_after (take (k + 1) cues) c
+
+-- from a place on each row follows from the one before: it is right where that one is
+abbrev pub Follows : ℕ → List Place → List Cue → List ℕ → ℕ → Type 0
+Follows channels order cues levels from = (k c : ℕ) → from ≤ k → k + 1 < length cues → IsRight channels order cues levels k c → IsRight channels order cues levels (k + 1) c
+
+-- The rows from a place on were filled in: those before it are as they were, and where the last of them was right and rows follow from `sure` on, the others are right.
+pub record IsFilled (channels : ℕ) (order : List Place) (cues : List Cue) (levels filled : List ℕ) (from sure : ℕ) : Type 0 where
+  pub front : (k c : ℕ) → k < from → k < length order → cue_level channels order filled k c ≡ cue_level channels order levels k c
+  pub rows : ((c : ℕ) → last_value from (λ k. cue_level channels order levels k c) ≡ level_after (take from cues) c) → Follows channels order cues levels sure → (k c : ℕ) → from ≤ k → k < length cues → IsRight channels order cues filled k c

@@ -1,22 +1,37 @@
--- How the rows are kept: one block of levels, in which each row follows the one before.
-use Rattle.std.specs.Prelude.{◌≡◌, ℕ, zero, suc, ◌*◌, ◌≤◌, List, [], ◌∷◌, length, take, drop, slice_index}
+-- How the rows are kept: a block of levels by row, and the cues in order, each with the row of the block that is its own.
+use Rattle.std.specs.Prelude.{◌≡◌, ℕ, zero, suc, ◌*◌, ◌≤◌, ◌<◌, ◌==◌, List, [], ◌∷◌, ◌++◌, length, map, take, drop, slice_index}
+use Rattle.std.specs.List.{All, IsDistinct}
 use Rattle.lx_base.specs.declared.TheConstants.{CUES, CHANNELS}
 use Rattle.lx_spec.specs.SortedList.{IsStrictlySorted, entries_below}
 use Rattle.lx_spec.specs.Show.{Cue}
 use Rattle.lx_sheet.specs.declared.sheet.Place.{Place}
 use Rattle.lx_sheet.specs.Rows.{Row}
 
--- the rows of a block, each as many levels as there are channels
+-- the rows of cues, each as many levels as there are channels
 abbrev pub rows_of : ℕ → List Place → List ℕ → List Row
-rows_of channels [] levels = []
-rows_of channels (place ∷ order) levels = record { number = place.cue; levels = take channels levels } ∷ rows_of channels order (drop channels levels)
+rows_of channels order levels = map (λ p. record { number = p.cue; levels = take channels (drop (p.row * channels) levels) }) order
 
--- the rows are sorted by number; there is room for the greatest number of rows, and for the levels of one cue
-pub record IsKept (channels : ℕ) (order : List Place) (room : ℕ) (levels look : List ℕ) : Type 0 where
+-- the rows of the block that are cues' own
+abbrev pub own_rows : List Place → List ℕ
+own_rows order = map (λ p. p.row) order
+
+-- no row is there twice, and each stands in the block
+pub record AreApart (rows : List ℕ) : Type 0 where
+  pub distinct : IsDistinct (λ a b. a == b) rows
+  pub within : All (λ r. r < CUES) rows
+
+-- the cues' own rows and the free ones are apart, and together all rows of the block
+pub record IsPool (order : List Place) (free : List ℕ) : Type 0 where
+  pub apart : AreApart (own_rows order ++ free)
+  pub all : length (own_rows order ++ free) ≡ CUES
+
+-- the cues are sorted by number, and their rows a pool; there is room for the greatest number of rows, and for the levels of one cue
+pub record IsKept (channels : ℕ) (order : List Place) (room : ℕ) (free : List ℕ) (spare : ℕ) (levels look : List ℕ) : Type 0 where
   pub few : channels ≤ CHANNELS
   pub sorted : IsStrictlySorted (λ p. p.cue) order
-  pub rows : length order ≤ CUES
+  pub pool : IsPool order free
   pub row_room : CUES ≤ room
+  pub free_room : CUES ≤ spare
   pub level_room : length levels ≡ CUES * channels
   pub look_room : length look ≡ channels
 
@@ -24,9 +39,17 @@ pub record IsKept (channels : ℕ) (order : List Place) (room : ℕ) (levels loo
 abbrev pub level_in_look : List ℕ → ℕ → ℕ
 level_in_look levels c = slice_index (0 ∷ levels) c
 
--- the same in the row at a place of the block
+-- the same in a row of the block
 unfoldable pub cell : ℕ → List ℕ → ℕ → ℕ → ℕ
-cell channels levels k c = level_in_look (take channels (drop (k * channels) levels)) c
+cell channels levels row c = level_in_look (take channels (drop (row * channels) levels)) c
+
+-- the row of the block that is the own one of the cue at this place of the order
+abbrev pub row_at_place : List Place → ℕ → ℕ
+row_at_place order k = slice_index (own_rows order) k
+
+-- a channel's level in the cue at this place of the order
+abbrev pub cue_level : ℕ → List Place → List ℕ → ℕ → ℕ → ℕ
+cue_level channels order levels k c = cell channels levels (row_at_place order k) c
 
 -- the last of so many values, or 0 where there is none
 abbrev pub last_value : ℕ → (ℕ → ℕ) → ℕ
@@ -37,5 +60,7 @@ last_value (suc k) f = f k
 abbrev pub count_under : ℕ → List ℕ → ℕ
 count_under from numbers = length (entries_below (λ m. m) from numbers)
 
-abbrev pub place_of_cue : Cue → Place
-place_of_cue cue = record { cue = cue.number }
+-- the cues, each with the row of its own place, counted from this one on
+abbrev pub placed_from : ℕ → List Cue → List Place
+placed_from row [] = []
+placed_from row (cue ∷ cues) = record { cue = cue.number; row = row } ∷ placed_from (suc row) cues

@@ -1,6 +1,5 @@
 -- What a sheet stands for.
-use Rattle.std.specs.Prelude.{◌≡◌, ℕ, ◌<◌, List, map}
-use Rattle.lx_spec.specs.SortedList.{entries_below}
+use Rattle.std.specs.Prelude.{◌≡◌, ℕ, List, map}
 use Rattle.lx_spec.specs.Show.{Show}
 use Rattle.lx_spec.specs.TrackedLevel.{tracked}
 use Rattle.lx_sheet.specs.Rows.{Sheet, numbers_of, level_of}
@@ -17,8 +16,3 @@ pub record StandsFor (show : Show) (sheet : Sheet) : Type 0 where
   pub channels : sheet.channels ≡ show.channels
   pub numbers : numbers_of sheet ≡ cue_numbers show
   pub columns : (c : ℕ) → StandsIn show c sheet
-
--- The same below a number.
-pub record StandsBelow (show : Show) (from : ℕ) (sheet : Sheet) : Type 0 where
-  pub numbers : entries_below (λ n. n) from (numbers_of sheet) ≡ entries_below (λ n. n) from (cue_numbers show)
-  pub columns : (n c : ℕ) → n < from → level_of sheet n c ≡ tracked show n c

@@ -1,56 +1,112 @@
 //! The block of rows: rows written and read, and columns mended.
 
-ghost use Rattle.std.specs.Prelude.{◌≡◌, ◌≢◌, ℕ, ◌+◌, ◌*◌, ◌<◌, ◌≤◌, length, take};
+ghost use Rattle.std.specs.Prelude.{◌≡◌, ◌≢◌, ℕ, true, ◌+◌, ◌*◌, ◌<◌, ◌≤◌, length, take};
 ghost use Rattle.std.specs.List.{AllByRecursion};
 ghost use Rattle.lx_base.specs.declared.TheConstants.{CUES, CHANNELS};
 ghost use Rattle.lx_spec.specs.Show.{ValidCue};
-ghost use Rattle.lx_sheet.specs.Block.{cell, last_value, level_in_look};
-ghost use Rattle.lx_sheet.specs.After.{level_after, tracked_on};
+ghost use Rattle.lx_sheet.specs.Block.{AreApart, own_rows, row_at_place, cell, cue_level, last_value, level_in_look};
+ghost use Rattle.lx_sheet.specs.After.{level_after, tracked_on, IsRight, Follows, IsFilled};
 
 use crate::look::track;
-use lx_base::{CHANNELS, CUES, Chan, Level};
+use crate::sheet::Place;
+use lx_base::{CHANNELS, CUES, Chan, Level, next_change};
 use lx_show::Cue;
 
-/// Takes up the levels of the last of so many rows, or 0 where there is none.
-pub(crate) fn recall(look: &mut [Level], levels: &[Level], rows: usize)
+/// Fills in the rows of the cues from a place on, each from the one before, up to the first from `sure` on
+/// that holds its levels already: those above it follow.
+pub(crate) fn fill_from(
+    levels: &mut [Level],
+    look: &mut [Level],
+    order: &[Place],
+    cues: &[Cue],
+    from: usize,
+    sure: usize,
+)
+    requires few { length look.old ≤ CHANNELS }
+    requires room { length levels.old ≡ CUES * length look.old }
+    requires order { length order.now ≡ length cues.now }
+    requires rows { AreApart (own_rows order.now) }
+    requires valid { AllByRecursion (ValidCue (length look.old)) cues.now }
+    requires from { from ≤ length cues.now }
+    ensures { IsFilled (length look.old) order.now cues.now levels.old levels.new from sure }
+{
+    recall(look, levels, order, from);
+    fill_rows(levels, look, order, cues, from, sure);
+}
+
+/// Takes up the levels of the last of so many cues, or 0 where there is none.
+fn recall(look: &mut [Level], levels: &[Level], order: &[Place], cues: usize)
     requires few { length look.old ≤ CHANNELS }
     requires room { length levels.now ≡ CUES * length look.old }
-    requires rows { rows ≤ CUES }
-    ensures { (c : ℕ) → level_in_look look.new c ≡ last_value rows (λ k. cell (length look.old) levels.now k c) }
+    requires cues { cues ≤ length order.now }
+    requires rows { AreApart (own_rows order.now) }
+    ensures { (c : ℕ) → level_in_look look.new c ≡ last_value cues (λ k. cue_level (length look.old) order.now levels.now k c) }
 {
-    if rows == 0 {
+    if cues == 0 {
         look.fill(0);
     } else {
-        let len = look.len();
-        look.copy_from_slice(&levels[(rows - 1) * len..rows * len]);
+        read_row(look, levels, own_row(order, cues - 1));
     }
 }
 
-/// Writes the levels as the row at the place.
-fn write_row(levels: &mut [Level], look: &[Level], place: usize)
-    requires few { length look.now ≤ CHANNELS }
-    requires room { length levels.old ≡ CUES * length look.now }
-    requires place { place < CUES }
-    ensures here { (c : ℕ) → cell (length look.now) levels.new place c ≡ level_in_look look.now c }
-    ensures others { (k c : ℕ) → k ≢ place → cell (length look.now) levels.new k c ≡ cell (length look.now) levels.old k c }
+/// Takes up the levels of the row.
+fn read_row(look: &mut [Level], levels: &[Level], row: usize)
+    requires few { length look.old ≤ CHANNELS }
+    requires room { length levels.now ≡ CUES * length look.old }
+    requires row { row < CUES }
+    ensures { (c : ℕ) → level_in_look look.new c ≡ cell (length look.old) levels.now row c }
 {
     let len = look.len();
-    levels[place * len..(place + 1) * len].copy_from_slice(look);
+    look.copy_from_slice(&levels[row * len..(row + 1) * len]);
 }
 
-/// Fills in the rows of the cues from a place on, each from the one before. The look holds the levels
-/// before the first of them.
-pub(crate) fn fill_rows(levels: &mut [Level], look: &mut [Level], cues: &[Cue], from: usize)
+/// Writes the levels as the row.
+fn write_row(levels: &mut [Level], look: &[Level], row: usize)
+    requires few { length look.now ≤ CHANNELS }
+    requires room { length levels.old ≡ CUES * length look.now }
+    requires row { row < CUES }
+    ensures here { (c : ℕ) → cell (length look.now) levels.new row c ≡ level_in_look look.now c }
+    ensures others { (r c : ℕ) → r ≢ row → cell (length look.now) levels.new r c ≡ cell (length look.now) levels.old r c }
+{
+    let len = look.len();
+    levels[row * len..(row + 1) * len].copy_from_slice(look);
+}
+
+/// The row holds these levels.
+fn holds(levels: &[Level], look: &[Level], row: usize) -> bool
+    requires few { length look.now ≤ CHANNELS }
+    requires room { length levels.now ≡ CUES * length look.now }
+    requires row { row < CUES }
+    ensures { result ≡ true → (c : ℕ) → cell (length look.now) levels.now row c ≡ level_in_look look.now c }
+{
+    let len = look.len();
+    next_change(&levels[row * len..(row + 1) * len], look, 0).is_none()
+}
+
+/// The same where the look holds the levels before the first of the rows.
+fn fill_rows(
+    levels: &mut [Level],
+    look: &mut [Level],
+    order: &[Place],
+    cues: &[Cue],
+    from: usize,
+    sure: usize,
+)
     requires few { length look.old ≤ CHANNELS }
     requires room { length levels.old ≡ CUES * length look.old }
-    requires cues { length cues.now ≤ CUES }
+    requires order { length order.now ≡ length cues.now }
+    requires rows { AreApart (own_rows order.now) }
     requires valid { AllByRecursion (ValidCue (length look.old)) cues.now }
-    ensures front { (k c : ℕ) → k < from → cell (length look.old) levels.new k c ≡ cell (length look.old) levels.old k c }
-    ensures rows { ((c : ℕ) → level_in_look look.old c ≡ level_after (take from cues.now) c) → (k c : ℕ) → from ≤ k → k < length cues.now → cell (length look.old) levels.new k c ≡ level_after (take (k + 1) cues.now) c }
+    ensures front { (k c : ℕ) → k < from → k < length order.now → cue_level (length look.old) order.now levels.new k c ≡ cue_level (length look.old) order.now levels.old k c }
+    ensures rows { ((c : ℕ) → level_in_look look.old c ≡ level_after (take from cues.now) c) → Follows (length look.old) order.now cues.now levels.old sure → (k c : ℕ) → from ≤ k → k < length cues.now → IsRight (length look.old) order.now cues.now levels.new k c }
 {
     for place in from..cues.len() {
         track(look, &cues[place]);
-        write_row(levels, look, place);
+        let row = own_row(order, place);
+        if place >= sure && holds(levels, look, row) {
+            return;
+        }
+        write_row(levels, look, row);
     }
 }
 
@@ -58,6 +114,7 @@ pub(crate) fn fill_rows(levels: &mut [Level], look: &mut [Level], cues: &[Cue], 
 pub(crate) fn fill_column(
     levels: &mut [Level],
     channels: usize,
+    order: &[Place],
     cues: &[Cue],
     from: usize,
     to: usize,
@@ -65,37 +122,55 @@ pub(crate) fn fill_column(
 )
     requires few { channels ≤ CHANNELS }
     requires room { length levels.old ≡ CUES * channels }
-    requires cues { length cues.now ≤ CUES }
+    requires order { length order.now ≡ length cues.now }
+    requires rows { AreApart (own_rows order.now) }
     requires from { from ≤ length cues.now }
     requires to { to ≤ length cues.now }
     requires within { chan ≤ channels }
-    ensures others { (k c : ℕ) → c ≢ chan → cell channels levels.new k c ≡ cell channels levels.old k c }
-    ensures front { (k : ℕ) → k < from → cell channels levels.new k chan ≡ cell channels levels.old k chan }
-    ensures back { (k : ℕ) → to ≤ k → cell channels levels.new k chan ≡ cell channels levels.old k chan }
-    ensures rows { last_value from (λ k. cell channels levels.old k chan) ≡ level_after (take from cues.now) chan → (k : ℕ) → from ≤ k → k < to → cell channels levels.new k chan ≡ level_after (take (k + 1) cues.now) chan }
+    ensures others { (r c : ℕ) → c ≢ chan → cell channels levels.new r c ≡ cell channels levels.old r c }
+    ensures front { (k : ℕ) → k < from → cue_level channels order.now levels.new k chan ≡ cue_level channels order.now levels.old k chan }
+    ensures back { (k : ℕ) → to ≤ k → k < length cues.now → cue_level channels order.now levels.new k chan ≡ cue_level channels order.now levels.old k chan }
+    ensures rows { last_value from (λ k. cue_level channels order.now levels.old k chan) ≡ level_after (take from cues.now) chan → (k : ℕ) → from ≤ k → k < to → IsRight channels order.now cues.now levels.new k chan }
 {
     let at = chan.get() as usize - 1;
-    let mut level = level_before(levels, channels, from, at);
+    let mut level = level_before(levels, channels, order, from, at);
     for place in from..to {
         level = level_on(&cues[place], chan, level);
-        levels[place * channels + at] = level;
+        levels[own_row(order, place) * channels + at] = level;
     }
 }
 
-/// The channel's level in the last of so many rows, or 0 where there is none. It stands at this place in
+/// The channel's level in the last of so many cues, or 0 where there is none. It stands at this place in
 /// each row.
-pub(crate) fn level_before(levels: &[Level], channels: usize, rows: usize, at: usize) -> Level
+pub(crate) fn level_before(
+    levels: &[Level],
+    channels: usize,
+    order: &[Place],
+    cues: usize,
+    at: usize,
+) -> Level
     requires few { channels ≤ CHANNELS }
     requires room { length levels.now ≡ CUES * channels }
-    requires rows { rows ≤ CUES }
+    requires cues { cues ≤ length order.now }
+    requires rows { AreApart (own_rows order.now) }
     requires within { at < channels }
-    ensures { result ≡ last_value rows (λ k. cell channels levels.now k (at + 1)) }
+    ensures { result ≡ last_value cues (λ k. cue_level channels order.now levels.now k (at + 1)) }
 {
-    if rows == 0 {
+    if cues == 0 {
         0
     } else {
-        levels[(rows - 1) * channels + at]
+        levels[own_row(order, cues - 1) * channels + at]
     }
+}
+
+/// The row of the block that is the own one of the cue at this place of the order.
+pub(crate) fn own_row(order: &[Place], place: usize) -> usize
+    requires place { place < length order.now }
+    requires rows { AreApart (own_rows order.now) }
+    ensures row { result ≡ row_at_place order.now place }
+    ensures within { result < CUES }
+{
+    order[place].row
 }
 
 /// The channel's level in the cue, from the one before.

@@ -1,17 +1,18 @@
 //! A sheet follows the edits of its show. No call takes memory.
 
-ghost use Rattle.std.specs.Prelude.{◌≡◌, ◌≢◌, ℕ, ◌<◌, ◌≤◌, None, IfSome, length, map, vec_capacity};
+ghost use Rattle.std.specs.Prelude.{◌≡◌, ◌≢◌, ℕ, ◌<◌, ◌≤◌, None, IfSome, length, map};
 ghost use Rattle.std.specs.Option.{option_map_or};
 ghost use Rattle.lx_spec.specs.SortedList.{IsStrictlySorted};
 ghost use Rattle.lx_spec.specs.Show.{Show as ShowData, Cue as CueData};
 ghost use Rattle.lx_spec.specs.TrackedLevel.{cue_of, tracked};
 ghost use Rattle.lx_spec.specs.EditedShow.{with_cue, without_cue};
 ghost use Rattle.lx_sheet.specs.Rows.{numbers_of, level_of};
-ghost use Rattle.lx_sheet.specs.Block.{place_of_cue, count_under};
-ghost use Rattle.lx_sheet.specs.Standing.{StandsFor, StandsIn, StandsBelow, cue_numbers};
+ghost use Rattle.lx_sheet.specs.Block.{count_under};
+ghost use Rattle.lx_sheet.specs.Standing.{StandsFor, StandsIn, cue_numbers};
 
-use crate::block::{fill_column, fill_rows, recall};
-use crate::sheet::{Place, Sheet};
+use crate::block::{fill_column, fill_from};
+use crate::pool::{add_place, drop_place, list_cues, list_free};
+use crate::sheet::Sheet;
 use lx_base::{Chan, CueNo};
 use lx_show::around::below;
 use lx_show::{Cue, Show};
@@ -49,24 +50,49 @@ impl Sheet {
         if chan.get() as usize <= self.channels {
             let first = below(cues, from.get()).len();
             let last = count_below(cues, to);
-            fill_column(&mut self.levels, self.channels, cues, first, last, chan);
+            fill_column(
+                &mut self.levels,
+                self.channels,
+                &self.order,
+                cues,
+                first,
+                last,
+                chan,
+            );
         }
     }
 
-    /// The cue was added: a sheet that stood for the show without it stands for the show.
+    /// The cue was added: a sheet that stood for the show without it stands for the show. No other row is moved.
     pub fn insert_row(&mut self, show: &Show, n: CueNo)
         requires { self.old.channels ≡ show.now.channels }
         ensures { (before : ShowData) (cue : CueData) → StandsFor before self.old → cue.number ≡ n → cue_of before n ≡ None → show.now ≡ with_cue before cue → StandsFor show.now self.new }
     {
-        self.retrack(show, n)
+        let cues = show.cues();
+        if let Some(at) = add_place(&mut self.order, &mut self.free, n) {
+            if self.order.len() == cues.len() {
+                fill_from(
+                    &mut self.levels,
+                    &mut self.look,
+                    &self.order,
+                    cues,
+                    at,
+                    at + 1,
+                );
+            }
+        }
     }
 
-    /// The cue was taken out: a sheet that stood for the show with it stands for the show.
+    /// The cue was taken out: a sheet that stood for the show with it stands for the show. No other row is moved.
     pub fn remove_row(&mut self, show: &Show, n: CueNo)
         requires { self.old.channels ≡ show.now.channels }
         ensures { (before : ShowData) → StandsFor before self.old → show.now ≡ without_cue before n → StandsFor show.now self.new }
     {
-        self.retrack(show, n)
+        let cues = show.cues();
+        if let Some(at) = drop_place(&mut self.order, &mut self.free, n) {
+            if self.order.len() == cues.len() {
+                fill_from(&mut self.levels, &mut self.look, &self.order, cues, at, at);
+            }
+        }
     }
 
     /// Fills in every row anew: the sheet stands for the show, which has its channel count.
@@ -74,22 +100,19 @@ impl Sheet {
         requires { self.old.channels ≡ show.now.channels }
         ensures { StandsFor show.now self.new }
     {
-        self.retrack(show, CueNo::BEFORE_FIRST)
-    }
-
-    /// Fills in the rows of cues from `from` on.
-    fn retrack(&mut self, show: &Show, from: CueNo)
-        requires { self.old.channels ≡ show.now.channels }
-        ensures { StandsBelow show.now from self.old → StandsFor show.now self.new }
-    {
         let cues = show.cues();
-        let first = below(cues, from.get()).len();
-        recall(&mut self.look, &self.levels, first);
         list_cues(&mut self.order, cues);
-        fill_rows(&mut self.levels, &mut self.look, cues, first);
+        list_free(&mut self.free, cues.len());
+        fill_from(
+            &mut self.levels,
+            &mut self.look,
+            &self.order,
+            cues,
+            0,
+            cues.len(),
+        );
     }
 }
-
 /// How many cues are below the number: all where there is none.
 fn count_below(cues: &[Cue], to: Option<CueNo>) -> usize
     requires { IsStrictlySorted (λ cue. cue.number) cues.now }
@@ -98,17 +121,5 @@ fn count_below(cues: &[Cue], to: Option<CueNo>) -> usize
     match to {
         Some(end) => below(cues, end.get()).len(),
         None => cues.len(),
-    }
-}
-
-/// Lists the places of the cues, in the room that is there.
-fn list_cues(order: &mut Vec<Place>, cues: &[Cue])
-    requires { length cues.now ≤ vec_capacity order.old }
-    ensures order { order.new.items ≡ map place_of_cue cues.now }
-    ensures room { vec_capacity order.new ≡ vec_capacity order.old }
-{
-    order.clear();
-    for cue in cues {
-        order.push_reserved(Place { cue: cue.number });
     }
 }

@@ -5,6 +5,7 @@
 mod block;
 mod edits;
 mod look;
+mod pool;
 mod sheet;
 #[cfg(test)]
 mod tests;

@@ -8,7 +8,8 @@ ghost use Rattle.lx_spec.specs.Replies.{row_of};
 ghost use Rattle.lx_sheet.specs.Rows.{row_at, level_of};
 ghost use Rattle.lx_sheet.specs.Standing.{StandsFor};
 
-use crate::block::level_before;
+use crate::block::{level_before, own_row};
+use crate::pool::list_free;
 use lx_base::{CUES, Chan, CueNo, Level};
 use lx_show::Show;
 use lx_show::around::up_to;
@@ -16,10 +17,11 @@ use lx_show::sorted::{Keyed, index_of};
 use std::alloc::{AllocError, Global};
 use std::marker::Model;
 
-/// Whose row stands at a place of the block.
+/// Which row of the block is a cue's own.
 #[derive(Clone, Copy, PartialEq, Eq, Debug)]
 pub(crate) struct Place {
     pub(crate) cue: CueNo,
+    pub(crate) row: usize,
 }
 
 impl Keyed for Place {
@@ -35,9 +37,11 @@ impl Keyed for Place {
 #[derive(Drop)]
 pub struct Sheet {
     pub(crate) channels: usize,
-    /// The cues of the rows, in the order of their numbers.
+    /// The cues in the order of their numbers, and the row of each.
     pub(crate) order: Vec<Place>,
-    /// The rows in that order, each as long as there are channels.
+    /// The rows of the block that are no cue's.
+    pub(crate) free: Vec<usize>,
+    /// The block of rows, each as long as there are channels. A row stays in its place as long as its cue is there.
     pub(crate) levels: Vec<Level>,
     /// The levels of the cue that is being filled in.
     pub(crate) look: Vec<Level>,
@@ -52,7 +56,7 @@ impl Model for Sheet {
 
     ghost view = { λ s. record { channels = s.channels; rows = rows_of s.channels s.order.items s.levels.items } };
 
-    ghost invariant = { λ s. IsKept s.channels s.order.items (vec_capacity s.order) s.levels.items s.look.items };
+    ghost invariant = { λ s. IsKept s.channels s.order.items (vec_capacity s.order) s.free.items (vec_capacity s.free) s.levels.items s.look.items };
 }
 
 impl Sheet {
@@ -62,9 +66,12 @@ impl Sheet {
         ensures { IfOk result (StandsFor show.now) }
     {
         let channels = show.channels() as usize;
+        let mut free = Vec::with_capacity(alloc, CUES)?;
+        list_free(&mut free, 0);
         let mut sheet = Sheet {
             channels,
             order: Vec::with_capacity(alloc, CUES)?,
+            free,
             levels: vec![in alloc; 0; CUES * channels]?,
             look: vec![in alloc; 0; channels]?,
         };
@@ -78,8 +85,12 @@ impl Sheet {
         ensures row { option_copied result ≡ option_map (λ row. row.levels) (row_at self.now n) }
         ensures stands { (show : ShowData) → StandsFor show self.now → option_copied result ≡ option_map (λ cue. row_of show n) (cue_of show n) }
     {
-        match index_of(self.order.as_slice(), n.get()) {
-            Ok(at) => Some(&self.levels[at * self.channels..(at + 1) * self.channels]),
+        let order = self.order.as_slice();
+        match index_of(order, n.get()) {
+            Ok(at) => {
+                let row = own_row(order, at);
+                Some(&self.levels[row * self.channels..(row + 1) * self.channels])
+            }
             Err(_) => None,
         }
     }
@@ -94,7 +105,8 @@ impl Sheet {
         if at >= self.channels {
             return 0;
         }
-        let rows = up_to(self.order.as_slice(), n.get()).len();
-        level_before(self.levels.as_slice(), self.channels, rows, at)
+        let order = self.order.as_slice();
+        let cues = up_to(order, n.get()).len();
+        level_before(self.levels.as_slice(), self.channels, order, cues, at)
     }
 }

@@ -2,7 +2,7 @@ use Rattle.std.proofs.Common.{◌≡◌, length, map, ap, sym, ◌∙◌, subst,
 use Rattle.std.specs.Prelude.{Option}
 use Rattle.lx_spec.specs.Show.{Cue}
 use Rattle.lx_sheet.specs.Block.{count_under}
-use Rattle.lx_sheet.proofs.Columns.{count_under-map, until}
+use Rattle.lx_sheet.proofs.RightRows.{count_under-map, until}
 use Rattle.lx_sheet.proofs.edits.count_below.Goals as goal
 
 pub returns-in-Some : goal.returns-in-Some

@@ -1,0 +1,10 @@
+use Rattle.std.proofs.Common.{◌<◌, subst}
+use Rattle.std.proofs.lemmas.List.{get_or-map}
+use Rattle.lx_base.specs.declared.TheConstants.{CUES}
+use Rattle.lx_sheet.specs.declared.sheet.Place.{Place}
+use Rattle.lx_sheet.proofs.RowPool.{row_within}
+use Rattle.lx_sheet.proofs.block.own_row.Goals as goal
+
+pub returns-clause-within : goal.returns-clause-within
+returns-clause-within c =
+    subst (λ r. r < CUES) (get_or-map (λ (p : Place). p.row) c.args.order.now c.args.place c.index-order-place.result 0 c.requires.place) (row_within c.args.order.now c.args.place c.requires.rows c.requires.place)

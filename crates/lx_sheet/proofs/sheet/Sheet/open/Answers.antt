@@ -1,0 +1,20 @@
+use Rattle.std.proofs.Common.{◌≡◌, ◌-◌, List, [], sym, subst, arith, rules}
+use Rattle.lx_base.specs.declared.TheConstants.{CUES}
+use Rattle.lx_spec.specs.SortedList.{IsStrictlySorted}
+use Rattle.lx_sheet.specs.declared.sheet.Place.{Place}
+use Rattle.lx_sheet.proofs.RowPool.{listed_pool}
+use Rattle.lx_sheet.proofs.sheet.Sheet.open.Goals as goal
+
+pub invariant_of-sheet : goal.invariant_of-sheet
+invariant_of-sheet c =
+    let order : List Place = c.in_ok-with_capacity.field-0.items in
+    let none : order ≡ [] = c.in_ok-with_capacity.ensures.items in
+    record {
+      few = omega (arith, c.channels-channels.ensures.channels, c.channels-channels.ensures.valid.channels.most);
+      sorted = subst (IsStrictlySorted (λ (p : Place). p.cue)) (sym none) tt;
+      pool = listed_pool order c.list_free.new.free.items [] (CUES - 0) none c.list_free.ensures.free (omega arith);
+      row_room = search rules;
+      free_room = search rules;
+      level_room = search rules;
+      look_room = search rules;
+    }
