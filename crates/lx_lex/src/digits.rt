@@ -33,7 +33,8 @@ pub(crate) fn number(digits: &[u8]) -> Option<u64>
 /// The whole number that a text spells, or `TOO_GREAT` where it is at least that. None where it isn't digits,
 /// one or more.
 pub(crate) fn whole(text: &[u8]) -> Option<u64>
-    ensures { MatchOption result (is_number text.now ≡ false) (λ n. (is_number text.now ≡ true) × (n ≡ min (number_of text.now) TOO_GREAT)) }
+    ensures { MatchOption result (is_number text.now ≡ false) (λ n. (is_number text.now ≡ true)
+        × (n ≡ min (number_of text.now) TOO_GREAT)) }
 {
     if text.is_empty() { None } else { number(text) }
 }
@@ -41,7 +42,8 @@ pub(crate) fn whole(text: &[u8]) -> Option<u64>
 /// What stands before and after the first byte that is the mark. None where no byte is.
 pub(crate) fn cut_at(text: &[u8], mark: u8) -> Option<(&[u8], &[u8])>
     ensures { MatchOption result (list_any (λ b. b == mark) text.now ≡ false)
-        (λ p. (list_any (λ b. b == mark) text.now ≡ true) × (p.0.now ≡ before_first (λ b. b == mark) text.now) × (p.1.now ≡ after_first (λ b. b == mark) text.now)) }
+        (λ p. (list_any (λ b. b == mark) text.now ≡ true)
+        × (p.0.now ≡ before_first (λ b. b == mark) text.now) × (p.1.now ≡ after_first (λ b. b == mark) text.now)) }
 {
     let place = place_of(text, mark)?;
     Some((&text[..place], &text[place + 1..]))

@@ -5,7 +5,8 @@ ghost use Rattle.lx_spec.specs.Text.{is_separator, is_blank, begins_comment, aft
 
 /// The first token and what follows it, if there is a token before the comment.
 pub(crate) fn first_token(line: &[u8]) -> Option<(&[u8], &[u8])>
-    ensures { MatchOption result (tokens line.now ≡ []) (λ p. (tokens line.now ≡ p.0.now ∷ tokens p.1.now) × (p.1.now ≡ after_token line.now)) }
+    ensures { MatchOption result (tokens line.now ≡ []) (λ p. (tokens line.now ≡ p.0.now ∷ tokens p.1.now)
+        × (p.1.now ≡ after_token line.now)) }
 {
     let start = past_separators(line);
     let [b, tail @ ..] = start else {

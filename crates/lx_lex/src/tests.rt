@@ -31,8 +31,10 @@ fn read_all<S: Source>(alloc: Global, source: &mut S) -> Result<(Vec<u8>, Step),
 fn longest<S: Source>(lines: &mut Lines<S>) -> (usize, Step)
     requires { IsTrue lines.old.going }
     ensures same_reference { lines.new.source.ghost_name ≡ lines.old.source.ghost_name }
-    ensures all { result.1 ≡ Step.End → IfSome (unread S.left lines.old) (λ xs. result.0 ≡ fold (λ n l. if nat_le (length l) LINE_BYTES then max n (length l) else n) 0 (lines_of xs)) }
-    ensures too_long { result.1 ≡ Step.InputTooLong → IfSome (unread S.left lines.old) (λ xs. INPUT_BYTES < lines.old.taken + length (first_lines (lines.new.number - lines.old.number + 1) xs)) }
+    ensures all { result.1 ≡ Step.End → IfSome (unread S.left lines.old)
+        (λ xs. result.0 ≡ fold (λ n l. if nat_le (length l) LINE_BYTES then max n (length l) else n) 0 (lines_of xs)) }
+    ensures too_long { result.1 ≡ Step.InputTooLong → IfSome (unread S.left lines.old)
+        (λ xs. INPUT_BYTES < lines.old.taken + length (first_lines (lines.new.number - lines.old.number + 1) xs)) }
     ensures fault { result.1 ≡ Step.ReadFault → Rose (S.faults lines.old.source.now) (S.faults lines.new.source.now) }
 {
     let mut most = 0;

@@ -69,7 +69,10 @@ impl Show {
     pub fn put_part_in(&mut self, n: CueNo, part: Part)
         requires there { IsTrue (has_entry (λ x. x.number) n self.old.cues) }
         requires part { ValidPart part }
-        ensures { self.new ≡ record self.old { cues = changed (λ x. x.number) n (λ cue. record cue { parts = placed (λ p. p.number) part cue.parts }) self.old.cues } }
+        ensures { self.new ≡ record self.old {
+          cues = changed (λ x. x.number) n
+              (λ cue. record cue { parts = placed (λ p. p.number) part cue.parts }) self.old.cues;
+        } }
     {
         let at = find_near(self.cues.as_slice(), &mut self.recent, n.get());
         let cue = &mut self.cues[at];
@@ -81,7 +84,10 @@ impl Show {
     pub fn put_move_in(&mut self, n: CueNo, entry: Move) -> Result<(), AllocError>
         requires channel { entry.chan ≤ self.old.channels }
         requires part { IsSomeAnd (cue_of self.old n) (λ cue. IsTrue (has_entry (λ p. p.number) entry.part cue.parts)) }
-        ensures ok { OnOk result (self.new ≡ record self.old { cues = changed (λ x. x.number) n (λ cue. record cue { moves = placed (λ m. m.chan) entry cue.moves }) self.old.cues }) }
+        ensures ok { OnOk result (self.new ≡ record self.old {
+          cues = changed (λ x. x.number) n
+              (λ cue. record cue { moves = placed (λ m. m.chan) entry cue.moves }) self.old.cues;
+        }) }
         ensures err { OnErr result (self.new ≡ self.old) }
     {
         facts::of_move(&entry);
@@ -95,7 +101,10 @@ impl Show {
     pub fn replace_moves(&mut self, n: CueNo, moves: MoveList) -> MoveList
         requires { IsSomeAnd (cue_of self.old n) (λ cue. AllByRecursion (ValidMove self.old.channels cue.parts) moves) }
         ensures before { IsSomeAnd (cue_of self.old n) (λ cue. result ≡ cue.moves) }
-        ensures after { self.new ≡ record self.old { cues = changed (λ x. x.number) n (λ cue. record cue { moves = moves }) self.old.cues } }
+        ensures after { self.new ≡ record self.old {
+          cues = changed (λ x. x.number) n
+              (λ cue. record cue { moves = moves }) self.old.cues;
+        } }
     {
         // For its proof alone: the moves are sorted.
         let _ = moves.as_slice();
@@ -109,7 +118,10 @@ impl Show {
     /// Sets the group's label.
     pub fn set_group_label(&mut self, g: GroupNo, label: Label)
         requires { IsTrue (has_entry (λ x. x.number) g self.old.groups) }
-        ensures { self.new ≡ record self.old { groups = changed (λ x. x.number) g (λ group. record group { label = label }) self.old.groups } }
+        ensures { self.new ≡ record self.old {
+          groups = changed (λ x. x.number) g
+              (λ group. record group { label = label }) self.old.groups;
+        } }
     {
         facts::of_label(&label);
         let at = find_near(self.groups.as_slice(), &mut self.recent, g.get());
@@ -122,7 +134,10 @@ impl Show {
     pub fn put_member_in_group(&mut self, g: GroupNo, entry: Member) -> Result<(), AllocError>
         requires there { IsTrue (has_entry (λ x. x.number) g self.old.groups) }
         requires channel { entry.chan ≤ self.old.channels }
-        ensures ok { OnOk result (self.new ≡ record self.old { groups = changed (λ x. x.number) g (λ group. record group { members = placed (λ m. m.chan) entry group.members }) self.old.groups }) }
+        ensures ok { OnOk result (self.new ≡ record self.old {
+          groups = changed (λ x. x.number) g
+              (λ group. record group { members = placed (λ m. m.chan) entry group.members }) self.old.groups;
+        }) }
         ensures err { OnErr result (self.new ≡ self.old) }
     {
         facts::of_member(&entry);
@@ -149,7 +164,10 @@ impl Show {
     pub fn put_member_in_sub(&mut self, s: SubNo, entry: Member) -> Result<(), AllocError>
         requires there { IsTrue (has_entry (λ x. x.number) s self.old.subs) }
         requires channel { entry.chan ≤ self.old.channels }
-        ensures ok { OnOk result (self.new ≡ record self.old { subs = changed (λ x. x.number) s (λ sub. record sub { members = placed (λ m. m.chan) entry sub.members }) self.old.subs }) }
+        ensures ok { OnOk result (self.new ≡ record self.old {
+          subs = changed (λ x. x.number) s
+              (λ sub. record sub { members = placed (λ m. m.chan) entry sub.members }) self.old.subs;
+        }) }
         ensures err { OnErr result (self.new ≡ self.old) }
     {
         facts::of_member(&entry);
