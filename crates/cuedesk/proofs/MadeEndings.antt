@@ -52,7 +52,7 @@ use Rattle.cuedesk.proofs.Sessions.{desk_of_session}
 report_is : (cues : ℕ) (s : Session) (d : Desk) (tally : Tally) (r : Report) → r ≡ report_of cues d tally → d ≡ s.desk → counts_in tally ≡ s.counts → report_text r ≡ made_text cues s
 report_is cues s d tally r is desk counts =
     ap report_text (is ∙ ap (λ (e : Desk). report_of cues e tally) desk)
-    ∙ ap (λ (c : Counts). line (codes "cues" ∷ decimal cues ∷ []) ++ (line (codes "moment" ∷ decimal s.desk.playback.moment ∷ []) ++ (line (codes "ok" ∷ decimal c.ok ∷ []) ++ (line (codes "refused" ∷ decimal c.refused ∷ []) ++ line (codes "sum" ∷ decimal (sum (frame s.desk 1)) ∷ []))))) counts
+    ∙ ap (λ (c : Counts). line (codes "cues" ∷ decimal cues ∷ []) ++ line (codes "moment" ∷ decimal s.desk.playback.moment ∷ []) ++ line (codes "ok" ∷ decimal c.ok ∷ []) ++ line (codes "refused" ∷ decimal c.refused ∷ []) ++ line (codes "sum" ∷ decimal (sum (frame s.desk 1)) ∷ [])) counts
 
 -- what the report of a console says, where it is said of each desk that the console stands for
 abbrev Reports : ℕ → Kept → Tally → Report → Type 0
@@ -145,6 +145,11 @@ no_read_fault status.Live reads reads' writes writes' n none none' c = tt
 
 -- ---- the job
 
+-- nothing was written
+pub nothing_made : (n : ℕ) (h h' : Option (List ℕ)) → h' ≡ h → WritesPrefix (Make n) [] h h'
+nothing_made n h h' kept = subst (λ v. WritesPrefix (Make n) [] h v) (sym kept)
+    (record { places = []; wants = nothing_wanted (made_input n) (reads Moves (made_input n)); text = front_nothing h (make_output n []) })
+
 -- Of the input that is made of a number, over lines that hand it out.
 module _ (n : ℕ) {S : Type 0} (left : S → Option (List ℕ)) (a b : Lines S) (is : unread left a ≡ Some (made_input n)) (none : a.taken ≡ 0) where
   over_made : (faults : S → ℕ) (loaded : Loaded) (Q : List ℕ → Type 0) (R : Type 0) → HasRead left faults a b Moves loaded → IfSome (unread left b) Q
@@ -189,11 +194,11 @@ module _ (n : ℕ) {S : Type 0} (left : S → Option (List ℕ)) (a b : Lines S)
       → IfSome (unread left b) (λ y. HasTold s n (opened loaded.show) b.taken y h h') → HasEnded s (Make n) [] rest h h'
   made_ended faults loaded rest h h' status.Ok r ends p =
       over_made faults loaded _ _ r p (λ y read script t. (
-      record {
-        text = whole_at h h' y (reading_of loaded) read script t.0;
-        within = session_fits Moves left faults a b loaded (Some (made_input n)) is none r (if_known (unread left b) _ _ p (λ z q. q.1));
-      },
-      subst (λ (v : Result Reading TextFault). IsOk v) (sym read) refl,
+        record {
+          text = whole_at h h' y (reading_of loaded) read script t.0;
+          within = session_fits Moves left faults a b loaded (Some (made_input n)) is none r (if_known (unread left b) _ _ p (λ z q. q.1));
+        },
+        subst (λ (v : Result Reading TextFault). IsOk v) (sym read) refl,
       ))
   made_ended faults loaded rest h h' status.ShowRefused r ends p = absurd ends
   made_ended faults loaded rest h h' status.Usage r ends p = absurd ends
@@ -207,10 +212,6 @@ module _ (n : ℕ) {S : Type 0} (left : S → Option (List ℕ)) (a b : Lines S)
   made_ended faults loaded rest h h' status.Live r ends p = absurd ends
 
   -- a made show that isn't read
-  nothing_made : (h h' : Option (List ℕ)) → h' ≡ h → WritesPrefix (Make n) [] h h'
-  nothing_made h h' kept = subst (λ v. WritesPrefix (Make n) [] h v) (sym kept)
-      (record { places = []; wants = nothing_wanted (made_input n) (reads Moves (made_input n)); text = front_nothing h (make_output n []) })
-
   fault_is : (fault : ShowFault) (h h' : Option (List ℕ)) (s : Status) → Says Moves left a b fault → (t : RefusesText h h' fault s) → reads Moves (made_input n) ≡ Err t.text
   fault_is fault h h' s says t = subst (λ (v : Option (List ℕ)). IfSome v (λ x. reads Moves x ≡ Err t.text)) is (means_of Moves left a b fault t.text t.told says).text
 
@@ -250,19 +251,19 @@ module _ (n : ℕ) {S : Type 0} (left : S → Option (List ℕ)) (a b : Lines S)
   kept_made rest h h' faults.ReadFault s says by same kept = subst (λ t. HasEnded t (Make n) [] rest h h') (sym kept) same
   kept_made rest h h' faults.InputTooLong s says by same kept = subst (λ t. HasEnded t (Make n) [] rest h h') (sym kept)
       (same, refusal_long Moves (Render Moves) (render_over Moves) left a b (Some (made_input n)) h h' faults.InputTooLong s is none says by kept)
-  kept_made rest h h' faults.Memory s says by same kept = subst (λ t. HasEnded t (Make n) [] rest h h') (sym kept) (nothing_made h h' same)
+  kept_made rest h h' faults.Memory s says by same kept = subst (λ t. HasEnded t (Make n) [] rest h h') (sym kept) (nothing_made n h h' same)
 
   pub made_refused : (rest h h' : Option (List ℕ)) (fault : ShowFault) (s : Status) → Says Moves left a b fault → RefusedBy h h' fault s → HasEnded s (Make n) [] rest h h'
   made_refused rest h h' fault s says by = elim by [
     | inl t ↦ elim t.kinds [
-      | inl refused ↦ subst (λ v. HasEnded v (Make n) [] rest h h') (sym refused) (refused_whole fault h h' s says by t refused)
+      | inl refused ↦ subst (λ v. HasEnded v (Make n) [] rest h h') (sym refused) (refused_whole fault h h' s says (inl t) t refused)
       | inr other ↦ elim other [
         | inl write ↦ subst (λ v. HasEnded v (Make n) [] rest h h') (sym write) (refused_front fault h h' s says t)
         | inr memory ↦ subst (λ v. HasEnded v (Make n) [] rest h h') (sym memory) (refused_front fault h h' s says t)
       ]
     ]
-    | inr other ↦ kept_made rest h h' fault s says by other.kept other.is
+    | inr other ↦ kept_made rest h h' fault s says (inr other) other.kept other.is
   ]
 
   pub made_refused_front : (h h' : Option (List ℕ)) (fault : ShowFault) (s : Status) → Says Moves left a b fault → RefusedBy h h' fault s → WritesPrefix (Make n) [] h h'
-  made_refused_front h h' fault s says by = elim by [ inl t ↦ refused_front fault h h' s says t | inr other ↦ nothing_made h h' other.kept ]
+  made_refused_front h h' fault s says by = elim by [ inl t ↦ refused_front fault h h' s says t | inr other ↦ nothing_made n h h' other.kept ]

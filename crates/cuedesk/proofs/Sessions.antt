@@ -14,7 +14,7 @@ use Rattle.lx_spec.specs.Desk.{Desk, step, after_command}
 use Rattle.lx_spec.specs.TrackedLevel.{cue_of}
 use Rattle.lx_spec.specs.Replies.{row_text, row_of}
 use Rattle.lx_spec.specs.Script.{line_of}
-use Rattle.lx_spec.specs.Session.{Session, Attempt, begin_at, answered, attempt, attempts_of, attempts_for, command_of, count_of, with_text, refused_reply, ok_reply, replied, after_attempts, after_line, after_lines, ends_script, session, accepted}
+use Rattle.lx_spec.specs.Session.{Session, Attempt, begin_at, answered, attempt, and_then, attempts_of, attempts_for, command_of, count_of, with_text, refused_reply, ok_reply, replied, after_attempts, after_line, after_lines, ends_script, session, accepted}
 use Rattle.lx_session.specs.Attempts.{after_commands}
 
 abbrev Follows : Desk → Session → Type 0
@@ -32,13 +32,16 @@ attempt_follows d places s c is = go (list_any (λ place. place == s.attempts + 
     go false (Ok next) e = one_accepted d s.desk next s.accepted c is e
     go false (Err refusal) e = is
 
+next_follows : (d : Desk) (tried : Attempt) (next : Session → Attempt) → Follows d tried.session → ((t : Session) → Follows d t → Follows d (next t).session) → Follows d (and_then tried next).session
+next_follows d tried next now f = go tried.refusal
+  where
+    go : (refusal : Option Refusal) → Follows d (option_map_or (λ r. tried) refusal (next tried.session)).session
+    go None = f tried.session now
+    go (Some refusal) = now
+
 attempts_follow : (d : Desk) (places : List ℕ) (c : Command) (n : ℕ) (s : Session) → Follows d s → Follows d (attempts_of places c n s).session
 attempts_follow d places c zero s is = is
-attempts_follow d places c (suc n) s is = go (attempt places s c) (attempt places s c).refusal (attempt_follows d places s c is)
-  where
-    go : (tried : Attempt) (refusal : Option Refusal) → Follows d tried.session → Follows d (option_map_or (λ r. tried) refusal (attempts_of places c n tried.session)).session
-    go tried None now = attempts_follow d places c n tried.session now
-    go tried (Some refusal) now = now
+attempts_follow d places c (suc n) s is = next_follows d (attempt places s c) (attempts_of places c n) (attempt_follows d places s c is) (λ t now. attempts_follow d places c n t now)
 
 tried_follows : (d : Desk) (places : List ℕ) (o : Option Command) (n : ℕ) (s : Session) → Follows d s → Follows d (attempts_for places o n s).session
 tried_follows d places None n s is = is

@@ -34,6 +34,10 @@ after_turn x = after_setting (after_draw x)
 abbrev pub turn_from : ℕ → Turn
 turn_from x = record { ticks = 1 + after_draw x / 65536 % 100; setting = setting_from (after_draw x) }
 
+-- PATCH 1 c<d@100
+abbrev pub patched_text : ℕ → ℕ → List ℕ
+patched_text c d = line (codes "PATCH" ∷ codes "1" ∷ (decimal c ++ 60 ∷ decimal d ++ 64 ∷ codes "100") ∷ [])
+
 -- CHAN c@p
 abbrev pub chan_text : Setting → List ℕ
 chan_text s = line (codes "CHAN" ∷ (decimal s.channel ++ 64 ∷ decimal s.percent) ∷ [])
@@ -46,7 +50,10 @@ cue_text k cue = cue_head k cue.up ++ flat_map chan_text cue.settings
 
 -- set k chan c at p
 abbrev pub set_text : ℕ → Setting → List ℕ
-set_text k s = line (codes "set" ∷ decimal k ∷ codes "chan" ∷ decimal s.channel ∷ codes "at" ∷ decimal s.percent ∷ [])
+set_text k s = codes "set " ++ decimal k ++ (codes " chan " ++ decimal s.channel) ++ (codes " at " ++ decimal s.percent ++ 10 ∷ [])
+
+abbrev pub go_text : ℕ → List ℕ
+go_text ticks = line (codes "go" ∷ []) ++ line (codes "tick" ∷ decimal ticks ∷ [])
 
 abbrev pub turn_text : ℕ → Turn → List ℕ
-turn_text k turn = line (codes "go" ∷ []) ++ line (codes "tick" ∷ decimal turn.ticks ∷ []) ++ set_text k turn.setting ++ line (codes "frame" ∷ [])
+turn_text k turn = go_text turn.ticks ++ set_text k turn.setting ++ line (codes "frame" ∷ [])

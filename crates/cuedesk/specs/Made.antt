@@ -17,7 +17,9 @@ use Rattle.cuedesk.specs.declared.make.Report.{Report}
 
 -- the five lines
 abbrev pub report_text : Report → List ℕ
-report_text r = line (codes "cues" ∷ decimal r.cues ∷ []) ++ (line (codes "moment" ∷ decimal r.moment ∷ []) ++ (line (codes "ok" ∷ decimal r.ok ∷ []) ++ (line (codes "refused" ∷ decimal r.refused ∷ []) ++ line (codes "sum" ∷ decimal r.sum ∷ []))))
+report_text r =
+    line (codes "cues" ∷ decimal r.cues ∷ []) ++ line (codes "moment" ∷ decimal r.moment ∷ []) ++ line (codes "ok" ∷ decimal r.ok ∷ [])
+    ++ line (codes "refused" ∷ decimal r.refused ∷ []) ++ line (codes "sum" ∷ decimal r.sum ∷ [])
 
 -- what there is to tell of a desk after so many replies
 abbrev pub report_of : ℕ → Desk → Tally → Report

@@ -4,7 +4,9 @@ ghost use Rattle.std.specs.Prelude.{◌≡◌, ◌<◌, ◌/◌, ◌%◌};
 ghost use Rattle.cuedesk.specs.Generator.{after_draw, after_setting, after_cue, after_turn, setting_from, cue_from, turn_from};
 
 const FACTOR: u64 = 1_103_515_245;
+
 const SUMMAND: u64 = 12_345;
+
 const MODULUS: u64 = 2_147_483_648;
 
 /// What is cut off of each number: its lowest bits repeat soon.

@@ -13,6 +13,7 @@ ghost use Rattle.lx_spec.specs.Text.{lines_of};
 ghost use Rattle.lx_spec.specs.ShowText.{line};
 ghost use Rattle.lx_spec.specs.Desk.{Desk, opened};
 ghost use Rattle.lx_spec.specs.Output.{frame};
+ghost use Rattle.lx_console.specs.Slots.{universe};
 ghost use Rattle.lx_console.specs.Standing.{StandsFor};
 ghost use Rattle.cuedesk.specs.Output.{WritesPrefix};
 ghost use Rattle.cuedesk.specs.Endings.{EndsJob, EndsScript, HasEnded, HasCauseOf};
@@ -23,7 +24,7 @@ use crate::discard::Discard;
 use crate::made_input::made_input;
 use crate::play::status_of;
 use crate::refuse::refuse;
-use lx_base::{Level, Moment, UNIVERSE_SLOTS};
+use lx_base::{Level, UNIVERSE_SLOTS};
 use lx_console::Console;
 use lx_io::{PlainSource, Sink, SinkFault, Source, put_all};
 use lx_lex::{Lines, put_count};
@@ -39,15 +40,15 @@ const PIECE: usize = 65_536;
 #[derive(Clone, Copy, Debug, PartialEq, Eq)]
 pub(crate) struct Report {
     /// How many cues were made.
-    pub(crate) cues: u32,
+    pub(crate) cues: u64,
     /// The last moment, in hundredths of a second.
-    pub(crate) moment: Moment,
+    pub(crate) moment: u64,
     /// How many replies were `ok`.
     pub(crate) ok: u64,
     /// How many were `refused`.
     pub(crate) refused: u64,
     /// The sum of the slots of universe 1.
-    pub(crate) sum: u32,
+    pub(crate) sum: u64,
 }
 
 /// Makes an input of a number, reads its show and answers its script as `render` does, and writes five lines about the
@@ -98,22 +99,31 @@ fn report_on(cues: u32, console: &Console, tally: Tally) -> Report
     ensures { (d : Desk) → StandsFor d console.now → result ≡ report_of cues d tally }
 {
     Report {
-        cues,
-        moment: console.moment(),
+        cues: cues as u64,
+        moment: console.moment() as u64,
         ok: tally.ok,
         refused: tally.refused,
-        sum: sum_of(&console.frames()[..UNIVERSE_SLOTS]),
+        sum: sum_of(first_universe(console.frames())),
     }
 }
 
+/// The slots of universe 1, of those of all dimmers.
+fn first_universe(slots: &[Level]) -> &[Level]
+    requires { UNIVERSE_SLOTS ≤ length slots.now }
+    ensures slots { result.now ≡ universe 1 slots.now }
+    ensures reach { length result.now ≤ UNIVERSE_SLOTS }
+{
+    &slots[..UNIVERSE_SLOTS]
+}
+
 /// The sum of the slots of a universe.
-fn sum_of(slots: &[Level]) -> u32
+fn sum_of(slots: &[Level]) -> u64
     requires { length slots.now ≤ UNIVERSE_SLOTS }
     ensures { result ≡ sum slots.now }
 {
     let mut total = 0;
     for slot in slots {
-        total += u32::from(*slot);
+        total += *slot as u64;
     }
     total
 }
@@ -144,11 +154,11 @@ fn put_and_flush<K: Sink>(report: Report, output: &mut K) -> Result<(), SinkFaul
 fn put_report<K: Sink>(report: Report, output: &mut K) -> Result<(), SinkFault>
     ensures { Puts K.holds K.faults K.wants output.old output.new result (report_text report) }
 {
-    put_line(b"cues", u64::from(report.cues), output)?;
-    put_line(b"moment", u64::from(report.moment), output)?;
+    put_line(b"cues", report.cues, output)?;
+    put_line(b"moment", report.moment, output)?;
     put_line(b"ok", report.ok, output)?;
     put_line(b"refused", report.refused, output)?;
-    put_line(b"sum", u64::from(report.sum), output)
+    put_line(b"sum", report.sum, output)
 }
 
 /// Appends a line of a word and a number.

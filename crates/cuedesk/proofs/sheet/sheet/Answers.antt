@@ -22,7 +22,7 @@ returns-in-Err-clause-works g c = refusal_ends _ _ c.in-Err.fault c.refuse.resul
 
 pub returns-in-Err-clause-ended : goal.returns-in-Err-clause-ended
 returns-in-Err-clause-ended g c =
-    let same = c.in-Err.input-in-Err-1-own.given.1 (sym (c.in-Err.ensures.same_reference ∙ c.new-lines.ensures.same_reference)) in
+    let same = c.input-1.given.1 (sym (c.in-Err.ensures.same_reference ∙ c.new-lines.ensures.same_reference)) in
     subst (λ v. IfSome (g.S.Source.left c.args.input.now) (λ bytes. HasEnded c.refuse.result (Sheet c.args.form) bytes (g.S.Source.left v) (g.K.Sink.holds c.args.output.now) (g.K.Sink.holds c.refuse.new.output))) (sym same)
     (refusal_ended c.args.form (Sheet c.args.form) ((sheet_tells c.args.form).over) _ c.new-lines.result c.read_show.new.lines _ _ _ c.in-Err.fault c.refuse.result c.new-lines.ensures.unread c.new-lines.ensures.taken c.in-Err.ensures.answer c.refuse.ensures.refused)
 
