@@ -54,8 +54,28 @@ def fault(name, lines, cause, line):
 # The edge: how the program ends, and what its words and streams do.
 
 
+def made(words, output, **special):
+    """A run of `make`, which reads nothing: its standard input is a folder, which can't be read."""
+    return Case(" ".join(words), b"", output, words=words, folder=True, **special)
+
+
+def job_cases():
+    """The words of `make` and `run`. What the greater numbers come to was worked out by a desk that was written apart, from the same rules."""
+    wrong = [("make",), ("make", "0"), ("make", "2001"), ("make", "01"), ("make", "1", "2"), ("make", "+1"), ("make", "-1"),
+             ("make", "1x"), ("make", ""), ("make", "4294967297"), ("make", "1", "states"), ("run",), ("run", "0"), ("run", "17"),
+             ("run", "01"), ("run", "1", "moves"), ("run", "states"), ("render", "-"), ("check", "--"), ("-h",), ("help",), ("--version",)]
+    return [made(words, "", status=2, error=USAGE) for words in wrong] + [
+        made(("make", "1"), "cues 1\nmoment 174\nok 3\nrefused 0\nsum 127\n"),
+        made(("make", "30"), "cues 30\nmoment 3308\nok 90\nrefused 0\nsum 16319\n"),
+        made(("make", "30"), "cues 30\nmoment 3308\nok 90\nrefused 0\nsum 16319\n"),
+        made(("make", "300"), "cues 300\nmoment 30742\nok 900\nrefused 0\nsum 62920\n"),
+        made(("make", "300"), "cues 300\nmoment 30742\nok 900\nrefused 0\nsum 62920\n"),
+        made(("make", "2000"), "cues 2000\nmoment 202568\nok 5979\nrefused 21\nsum 63336\n"),
+    ]
+
+
 def edge_cases():
-    return [
+    return job_cases() + [
         Case("status 0 at the end of the script", ONE_CUE + "go\nframe\n", "ok\nframe 0 1 1=128\n"),
         Case("status 0 at quit", ONE_CUE + "go\nquit\nframe\n", "ok\n"),
         Case("status 1 for a show that is refused", "CUE 1\n", "show NoIdent 1\n", status=1),

@@ -1,5 +1,5 @@
 -- How much of its input the program wants, and what it writes for it, from the reader's answer and the session's.
-use Rattle.std.proofs.Common.{◌≡◌, ◌≢◌, ◌⊎◌, inl, inr, ℕ, zero, suc, ◌+◌, ◌-◌, ◌<◌, ◌≤◌, false, true, eqb, cond, Option, Some, None, Result, Ok, Err, IfSome, IsErr, IsOk, List, [], ◌∷◌, ◌++◌, length, take, refl, sym, ap, ◌∙◌, subst, arith, length-append, append-nil, append_assoc, take_all}
+use Rattle.std.proofs.Common.{◌≡◌, ◌⊎◌, inl, inr, ℕ, zero, suc, ◌+◌, ◌-◌, ◌<◌, ◌≤◌, false, true, eqb, cond, Option, Some, None, Result, Ok, Err, IfSome, IsErr, IsOk, List, [], ◌∷◌, ◌++◌, length, take, refl, sym, ap, ◌∙◌, subst, arith, length-append, append-nil, append_assoc, take_all}
 use Rattle.std.specs.List.{before_first}
 use Rattle.std.specs.Io.KnownBytes.{Appends, IsAtEnd}
 use Rattle.std.proofs.KnownBytes.{Appends-nil}
@@ -46,7 +46,7 @@ whole_front a b text p = AppendsFront-from a b text (length text) (subst (λ (v 
 pub front_nothing : (a : Option (List ℕ)) (text : List ℕ) → AppendsFront a a text
 front_nothing a text = AppendsFront-from a a text 0 (Appends-nil a)
 
-no_place : (n m : ℕ) → false ≡ true → n ≤ m
+pub no_place : (n m : ℕ) → false ≡ true → n ≤ m
 no_place n m e = absurd cc
 
 pub nothing_wanted : (bytes : List ℕ) (r : Result Reading TextFault) → OutputPlacesAreEdits bytes [] r
@@ -69,10 +69,6 @@ memory_kept (faults.NoEndData i) s kept is = absurd kept
 memory_kept faults.ReadFault s kept is = absurd cc
 memory_kept faults.InputTooLong s kept is = absurd cc
 memory_kept faults.Memory s kept is = refl
-
--- a session that ended whole ended Ok
-pub ended_whole : (s : Status) → (s ≡ status.Ok) ⊎ (s ≡ status.ShowRefused) → s ≢ status.ShowRefused → s ≡ status.Ok
-ended_whole s whole not = elim whole [ inl ok ↦ ok | inr refused ↦ absurd (not refused) ]
 
 other_ok : (fault : ShowFault) (s : Status) (P : Type 0) → status_kept fault s → s ≡ status.Ok → P
 other_ok (faults.NoIdent i) s P kept is = absurd kept
@@ -114,7 +110,7 @@ module _ (form : Form) where
     text = subst (λ (t : List ℕ). AppendsFront h h' t) (sym (ap (λ r. over_show r (λ x. replies (opened x.show) (script_of bytes) a.places)) read ∙ ap (λ ls. replies (opened reading.show) ls a.places) script)) a.text;
   }
 
-  over_read : (a b : Option (List ℕ)) (i j : ℕ) (raws : List (List ℕ)) (P Q : List ℕ → Type 0) (R : List ℕ → List ℕ → Type 0) → TookLines a b i j raws → IfSome a P → IfSome a (λ x. IfSome b (R x)) → IfSome b Q → (S : List ℕ → Type 0) → ((x y : List ℕ) → P x → R x y → Q y → S x) → IfSome a S
+  pub over_read : (a b : Option (List ℕ)) (i j : ℕ) (raws : List (List ℕ)) (P Q : List ℕ → Type 0) (R : List ℕ → List ℕ → Type 0) → TookLines a b i j raws → IfSome a P → IfSome a (λ x. IfSome b (R x)) → IfSome b Q → (S : List ℕ → Type 0) → ((x y : List ℕ) → P x → R x y → Q y → S x) → IfSome a S
   over_read None b i j raws P Q R took p r q S f = tt
   over_read (Some x) None i j raws P Q R took p r q S f = absurd took.took
   over_read (Some x) (Some y) i j raws P Q R took p r q S f = f x y p r q
@@ -171,7 +167,7 @@ module _ (form : Form) where
   if_known (Some xs) P Q p f = f xs p
 
   cut_behind : (x y : List ℕ) (left h h' : Option (List ℕ)) (i j : ℕ) (raws : List (List ℕ)) (reading : Reading) → i ≡ 0 → TookLines (Some x) (Some y) i j raws
-      → lines_read (lines_of x) ≡ length raws → reads form x ≡ Ok reading → script_of x ≡ lines_of y → AnswersTaken (opened reading.show) j y left h h' → RepliesToTaken form x left h h'
+      → lines_read (lines_of x) ≡ length raws → reads form x ≡ Ok reading → script_of x ≡ lines_of y → AnswersTaken (opened reading.show) j y left h h' → RepliesToTaken (Render form) form x left h h'
   cut_behind x y left h h' i j raws reading none took shown text script a =
       let n = a.cut.lines in
       let mine : took.bytes ≡ first_lines (length raws) (took.bytes ++ y) = took.front ∙ ap (first_lines (length raws)) took.took in
@@ -197,16 +193,16 @@ module _ (form : Form) where
 
   over_cut : (a b left h h' : Option (List ℕ)) (i j n : ℕ) (raws : List (List ℕ)) (reading : Reading) → i ≡ 0 → TookLines a b i j raws → n ≡ length raws
       → IfSome a (λ x. lines_read (lines_of x) ≡ n) → IfSome a (λ x. reads form x ≡ Ok reading) → IfSome a (λ x. IfSome b (λ y. script_of x ≡ lines_of y))
-      → IfSome b (λ y. AnswersTaken (opened reading.show) j y left h h') → IfSome a (λ x. RepliesToTaken form x left h h')
+      → IfSome b (λ y. AnswersTaken (opened reading.show) j y left h h') → IfSome a (λ x. RepliesToTaken (Render form) form x left h h')
   over_cut None b left h h' i j n raws reading none took count shown text script p = tt
   over_cut (Some x) None left h h' i j n raws reading none took count shown text script p = absurd took.took
   over_cut (Some x) (Some y) left h h' i j n raws reading none took count shown text script p = cut_behind x y left h h' i j raws reading none took (shown ∙ count) text script p
 
   pub session_cut : {S : Type 0} (left : S → Option (List ℕ)) (faults : S → ℕ) (a b : Lines S) (loaded : Loaded) (o rest h h' : Option (List ℕ)) → unread left a ≡ o → a.taken ≡ 0 → HasRead left faults a b form loaded
-      → IfSome (unread left b) (λ y. AnswersTaken (opened loaded.show) b.taken y rest h h') → IfSome o (λ x. RepliesToTaken form x rest h h')
+      → IfSome (unread left b) (λ y. AnswersTaken (opened loaded.show) b.taken y rest h h') → IfSome o (λ x. RepliesToTaken (Render form) form x rest h h')
   session_cut left faults a b loaded o rest h h' is none r answers =
       let m = r.means in
-      subst (λ (v : Option (List ℕ)). IfSome v (λ x. RepliesToTaken form x rest h h')) is
+      subst (λ (v : Option (List ℕ)). IfSome v (λ x. RepliesToTaken (Render form) form x rest h h')) is
       (over_cut (unread left a) (unread left b) rest h h' a.taken b.taken (length m.front + 1) (m.front ++ m.last ∷ []) (reading_of loaded) none m.handed.took (one_more m.front m.last) m.wanted m.text m.script answers)
 
   -- The input was cut off within the show.
@@ -214,7 +210,7 @@ module _ (form : Form) where
   none_replied (Ok reading) script places = refl
   none_replied (Err fault) script places = refl
 
-  cut_within : (x : List ℕ) (left h : Option (List ℕ)) (i : ℕ) → i ≡ 0 → IsCutShort i x left → RepliesToTaken form x left h h
+  cut_within : (x : List ℕ) (left h : Option (List ℕ)) (i : ℕ) → i ≡ 0 → IsCutShort i x left → RepliesToTaken (Render form) form x left h h
   cut_within x left h i none short =
       let cut = short.cut in
       let few : cut.lines - lines_read (lines_of x) ≡ 0 = let lt = short.wanted in omega (arith, lt) in
@@ -398,10 +394,10 @@ module _ (form : Form) where
       omega (arith, none, long.long, over.longer x long.n (omega (arith, lt)))
 
   -- What the reader's fault and the status of its refusal say.
-  abbrev Says : {S : Type 0} → (S → Option (List ℕ)) → Lines S → Lines S → ShowFault → Type 0
+  abbrev pub Says : {S : Type 0} → (S → Option (List ℕ)) → Lines S → Lines S → ShowFault → Type 0
   Says left a b fault = OfText (MeansFault left a form) (IfSome (unread left a) (IsPastLimit a.taken) × CutShort left a b) (CutShort left a b) fault
 
-  means_of : {S : Type 0} (left : S → Option (List ℕ)) (a b : Lines S) (fault : ShowFault) (text : TextFault) → fault ≡ show_fault text → Says left a b fault → MeansFault left a form text
+  pub means_of : {S : Type 0} (left : S → Option (List ℕ)) (a b : Lines S) (fault : ShowFault) (text : TextFault) → fault ≡ show_fault text → Says left a b fault → MeansFault left a form text
   means_of left a b fault text told says = fault_means left a (IfSome (unread left a) (IsPastLimit a.taken) × CutShort left a b) (CutShort left a b) text (subst (λ f. Says left a b f) told says)
 
   not_refused : (fault : ShowFault) (s : Status) (P : Type 0) → status_kept fault s → s ≡ status.ShowRefused → P

@@ -1,4 +1,8 @@
 mod CheckLine
+mod Endings
+mod Generated
 mod Inputs
 mod JobWords
+mod MadeEndings
+mod Sessions
 mod Statuses

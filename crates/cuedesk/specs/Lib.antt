@@ -1,4 +1,7 @@
+pub mod Endings
 pub mod Exits
 pub mod Faults
+pub mod Generator
+pub mod Made
 pub mod Output
 pub mod Refused

@@ -1,10 +1,11 @@
 -- What the program wrote for a job.
-use Rattle.std.specs.Prelude.{◌≡◌, ℕ, ◌-◌, Option, IfSome, List}
+use Rattle.std.specs.Prelude.{◌≡◌, ◌≤◌, ℕ, ◌-◌, Option, IfSome, List}
 use Rattle.std.specs.Io.KnownBytes.{Appends}
 use Rattle.lx_io.specs.Puts.{AppendsFront}
+use Rattle.lx_base.specs.declared.TheConstants.{UNIVERSES}
 use Rattle.lx_spec.specs.declared.Form.{Form}
 use Rattle.lx_spec.specs.declared.Job.{Job}
-use Rattle.lx_spec.specs.declared.Job.TheVariants.{Check, Render, Sheet, Make}
+use Rattle.lx_spec.specs.declared.Job.TheVariants.{Check, Render, Sheet, Make, Run}
 use Rattle.lx_spec.specs.Text.{lines_of}
 use Rattle.lx_spec.specs.Desk.{Desk}
 use Rattle.lx_spec.specs.Reading.{reads, script_of, lines_read}
@@ -31,25 +32,27 @@ pub record WritesPrefix (job : Job) (bytes : List ℕ) (held held' : Option (Lis
   pub text : AppendsFront held held' (output_of job bytes places)
 
 -- The input was cut off: the replies to the script lines that were taken whole, within its limit, were written.
-pub record RepliesToTaken (form : Form) (bytes : List ℕ) (left held held' : Option (List ℕ)) : Type 0 where
+pub record RepliesToTaken (job : Job) (form : Form) (bytes : List ℕ) (left held held' : Option (List ℕ)) : Type 0 where
   pub places : List ℕ
-  pub wants : WantsEdits (Render form) bytes places
+  pub wants : WantsEdits job bytes places
   pub cut : CutOff 0 bytes left
   pub text : Appends held held' (first_replies (reads form bytes) (script_of bytes) places (cut.lines - lines_read (lines_of bytes)))
 
--- By `render` they are, and by every other job nothing is.
+-- By the jobs that answer a script they are, and by every other job nothing is.
 abbrev pub WritesTaken : Job → List ℕ → Option (List ℕ) → Option (List ℕ) → Option (List ℕ) → Type 0
 WritesTaken (Check form) bytes left held held' = held' ≡ held
-WritesTaken (Render form) bytes left held held' = RepliesToTaken form bytes left held held'
+WritesTaken (Render form) bytes left held held' = RepliesToTaken (Render form) form bytes left held held'
 WritesTaken (Sheet form) bytes left held held' = held' ≡ held
 WritesTaken (Make n) bytes left held held' = held' ≡ held
+WritesTaken (Run universes form) bytes left held held' = RepliesToTaken (Run universes form) form bytes left held held'
 
--- The jobs that are built: those over the show that the input begins with.
-abbrev pub IsBuilt : Job → Type 0
-IsBuilt (Check form) = Unit {0}
-IsBuilt (Render form) = Unit {0}
-IsBuilt (Sheet form) = Unit {0}
-IsBuilt (Make n) = ⊥
+-- what plays live plays 1 to 16 universes
+abbrev pub HasUniverses : Job → Type 0
+HasUniverses (Check form) = Unit {0}
+HasUniverses (Render form) = Unit {0}
+HasUniverses (Sheet form) = Unit {0}
+HasUniverses (Make n) = Unit {0}
+HasUniverses (Run universes form) = (1 ≤ universes) × (universes ≤ UNIVERSES)
 
 -- A script was answered from a desk on, wholly or by a prefix of the replies.
 pub record AnswersScript (d : Desk) (script : List (List ℕ)) (held held' : Option (List ℕ)) : Type 0 where

@@ -1,12 +1,11 @@
 //! The job `check`: one line about a show.
 #![tactic(auto, using(lx_io::proofs::Chain::puts))]
 
-ghost use Rattle.std.specs.Prelude.{◌≡◌, ◌≢◌, ◌≤◌, ◌<◌, ◌⊎◌, ◌++◌, ◌∷◌, [], length, codes, decimal, IfSome, IsOk, IsErr};
-ghost use Rattle.lx_base.specs.declared.TheConstants.{INPUT_BYTES};
+ghost use Rattle.std.specs.Prelude.{◌≡◌, ◌⊎◌, ◌++◌, ◌∷◌, [], codes, decimal, IfSome};
 ghost use Rattle.lx_io.specs.Causes.{Rose};
 ghost use Rattle.lx_spec.specs.declared.Job.TheVariants.{Check};
-ghost use Rattle.lx_spec.specs.Job.{show_of, wanted_of};
-ghost use Rattle.cuedesk.specs.Output.{WritesAll, WritesPrefix, WritesTaken};
+ghost use Rattle.cuedesk.specs.Output.{WritesPrefix};
+ghost use Rattle.cuedesk.specs.Endings.{EndsJob, HasEnded, HasCauseOf};
 ghost use Rattle.std.specs.Io.KnownBytes.{Appends};
 ghost use Rattle.lx_io.specs.Puts.{AppendsFront, Puts};
 ghost use Rattle.lx_spec.specs.CheckOutput.{check_text};
@@ -28,15 +27,10 @@ pub(crate) fn check<S: Source, K: Sink>(
     input: &mut S,
     output: &mut K,
 ) -> Status
-    ensures ok { result ≡ Status.Ok → IfSome (S.left input.old) (λ bytes. WritesAll (Check form) bytes (K.holds output.old) (K.holds output.new) × IsOk (show_of (Check form) bytes)) }
-    ensures refused { result ≡ Status.ShowRefused → IfSome (S.left input.old) (λ bytes. WritesAll (Check form) bytes (K.holds output.old) (K.holds output.new) × IsErr (show_of (Check form) bytes)) }
-    ensures usage { result ≢ Status.Usage }
+    ensures works { EndsJob result }
+    ensures ended { IfSome (S.left input.old) (λ bytes. HasEnded result (Check form) bytes (S.left input.new) (K.holds output.old) (K.holds output.new)) }
     ensures prefix { IfSome (S.left input.old) (λ bytes. WritesPrefix (Check form) bytes (K.holds output.old) (K.holds output.new)) }
-    ensures unread { (result ≡ Status.ReadFault) ⊎ (result ≡ Status.InputTooLong) → IfSome (S.left input.old) (λ bytes. WritesTaken (Check form) bytes (S.left input.new) (K.holds output.old) (K.holds output.new)) }
-    ensures read { result ≡ Status.ReadFault → Rose (S.faults input.old) (S.faults input.new) }
-    ensures write { result ≡ Status.WriteFault → Rose (K.faults output.old) (K.faults output.new) }
-    ensures long { result ≡ Status.InputTooLong → IfSome (S.left input.old) (λ bytes. INPUT_BYTES < length (wanted_of (Check form) bytes)) }
-    ensures within { (result ≡ Status.Ok) ⊎ (result ≡ Status.ShowRefused) → IfSome (S.left input.old) (λ bytes. length (wanted_of (Check form) bytes) ≤ INPUT_BYTES) }
+    ensures cause { HasCauseOf result (S.faults input.old) (S.faults input.new) (K.faults output.old) (K.faults output.new) }
 {
     let mut lines = Lines::new(input);
     match read_show(alloc, &mut lines, form) {

@@ -7,6 +7,10 @@ ghost use Rattle.cuedesk.specs.Exits.{exit_status};
 
 mod check;
 mod desk;
+mod discard;
+mod draws;
+mod made_input;
+mod make;
 mod play;
 mod refuse;
 mod render;
@@ -43,7 +47,7 @@ fn exit_of(status: Status) -> u8
     match status {
         Status::Ok => 0,
         Status::ShowRefused => 1,
-        Status::Usage => 2,
+        Status::Usage | Status::Live => 2,
         Status::ReadFault => 3,
         Status::WriteFault => 4,
         Status::Memory => 5,
@@ -63,7 +67,7 @@ fn main(rt: HostRuntime) -> ExitCode {
     let mut output = StdSink::new(writer);
     let status = desk(rt.alloc(), &words, &mut input, &mut output);
     match status {
-        Status::Usage => {
+        Status::Usage | Status::Live => {
             let _ = eprintln!(rt; "{USAGE}");
         }
         // What was answered before a fault is handed on as far as it can be.

@@ -1,12 +1,11 @@
 //! The job `sheet`: the list of a show's cues.
 #![tactic(auto, using(lx_io::proofs::Chain::puts))]
 
-ghost use Rattle.std.specs.Prelude.{◌≡◌, ◌≢◌, ◌≤◌, ◌<◌, ◌⊎◌, length, flat_map, IfSome, IsOk, IsErr};
-ghost use Rattle.lx_base.specs.declared.TheConstants.{INPUT_BYTES};
+ghost use Rattle.std.specs.Prelude.{◌≡◌, ◌⊎◌, flat_map, IfSome};
 ghost use Rattle.lx_io.specs.Causes.{Rose};
 ghost use Rattle.lx_spec.specs.declared.Job.TheVariants as jobs;
-ghost use Rattle.lx_spec.specs.Job.{show_of, wanted_of};
-ghost use Rattle.cuedesk.specs.Output.{WritesAll, WritesPrefix, WritesTaken};
+ghost use Rattle.cuedesk.specs.Output.{WritesPrefix};
+ghost use Rattle.cuedesk.specs.Endings.{EndsJob, HasEnded, HasCauseOf};
 ghost use Rattle.std.specs.Io.KnownBytes.{Appends};
 ghost use Rattle.lx_io.specs.Puts.{AppendsFront, Puts};
 ghost use Rattle.lx_spec.specs.SheetOutput.{cue_lines};
@@ -29,15 +28,10 @@ pub(crate) fn sheet<S: Source, K: Sink>(
     input: &mut S,
     output: &mut K,
 ) -> Status
-    ensures ok { result ≡ Status.Ok → IfSome (S.left input.old) (λ bytes. WritesAll (jobs.Sheet form) bytes (K.holds output.old) (K.holds output.new) × IsOk (show_of (jobs.Sheet form) bytes)) }
-    ensures refused { result ≡ Status.ShowRefused → IfSome (S.left input.old) (λ bytes. WritesAll (jobs.Sheet form) bytes (K.holds output.old) (K.holds output.new) × IsErr (show_of (jobs.Sheet form) bytes)) }
-    ensures usage { result ≢ Status.Usage }
+    ensures works { EndsJob result }
+    ensures ended { IfSome (S.left input.old) (λ bytes. HasEnded result (jobs.Sheet form) bytes (S.left input.new) (K.holds output.old) (K.holds output.new)) }
     ensures prefix { IfSome (S.left input.old) (λ bytes. WritesPrefix (jobs.Sheet form) bytes (K.holds output.old) (K.holds output.new)) }
-    ensures unread { (result ≡ Status.ReadFault) ⊎ (result ≡ Status.InputTooLong) → IfSome (S.left input.old) (λ bytes. WritesTaken (jobs.Sheet form) bytes (S.left input.new) (K.holds output.old) (K.holds output.new)) }
-    ensures read { result ≡ Status.ReadFault → Rose (S.faults input.old) (S.faults input.new) }
-    ensures write { result ≡ Status.WriteFault → Rose (K.faults output.old) (K.faults output.new) }
-    ensures long { result ≡ Status.InputTooLong → IfSome (S.left input.old) (λ bytes. INPUT_BYTES < length (wanted_of (jobs.Sheet form) bytes)) }
-    ensures within { (result ≡ Status.Ok) ⊎ (result ≡ Status.ShowRefused) → IfSome (S.left input.old) (λ bytes. length (wanted_of (jobs.Sheet form) bytes) ≤ INPUT_BYTES) }
+    ensures cause { HasCauseOf result (S.faults input.old) (S.faults input.new) (K.faults output.old) (K.faults output.new) }
 {
     let mut lines = Lines::new(input);
     match read_show(alloc, &mut lines, form) {

@@ -1,10 +1,12 @@
 //! The words of the command line.
 
-ghost use Rattle.std.specs.Prelude.{◌≡◌, None, Some, Err, map, string_bytes, IfOk};
-ghost use Rattle.cuedesk.specs.Output.{IsBuilt};
-ghost use Rattle.lx_spec.specs.Job.{job_of, form_of};
+ghost use Rattle.std.specs.Prelude.{◌≡◌, ◌≤◌, None, Some, Err, map, string_bytes, IfOk, IfSome};
+ghost use Rattle.lx_spec.specs.Job.{job_of, form_of, number_alone, plain_number, run_of};
 ghost use Rattle.lx_spec.specs.Phrase.{ended};
+ghost use Rattle.cuedesk.specs.Output.{HasUniverses};
 
+use lx_base::{CUES, UNIVERSES};
+use lx_lex::read_whole;
 use lx_spec::{Form, Job};
 use std::alloc::Global;
 
@@ -17,11 +19,11 @@ pub enum WordsFault {
     Memory,
 }
 
-/// The job that the words name: `check`, `render` or `sheet`, or one of them and `states`. `Usage` comes exactly
-/// where they are none of these.
+/// The job that the words name: `check`, `render` or `sheet`, or one of them and `states`; `make` and a number of cues; or
+/// `run` and a number of universes, or these and `states`. `Usage` comes exactly where they are none of these.
 pub fn words_of(_alloc: Global, words: &[String]) -> Result<Job, WordsFault>
     ensures job { IfOk result (λ job. job_of (map string_bytes words.now) ≡ Some job) }
-    ensures built { IfOk result IsBuilt }
+    ensures universes { IfOk result HasUniverses }
     ensures usage { result ≡ Err WordsFault.Usage → job_of (map string_bytes words.now) ≡ None }
 {
     match job_in(words) {
@@ -32,14 +34,48 @@ pub fn words_of(_alloc: Global, words: &[String]) -> Result<Job, WordsFault>
 
 /// The job that the words name.
 fn job_in(words: &[String]) -> Option<Job>
-    ensures { result ≡ job_of (map string_bytes words.now) }
+    ensures job { result ≡ job_of (map string_bytes words.now) }
+    ensures universes { IfSome result HasUniverses }
 {
     let (name, rest) = words.split_first()?;
     match name.as_str() {
         "check" => form_in(rest).map(Job::Check),
         "render" => form_in(rest).map(Job::Render),
         "sheet" => form_in(rest).map(Job::Sheet),
+        "make" => number_alone(CUES as u32, rest).map(Job::Make),
+        "run" => run_in(rest),
         _ => None,
+    }
+}
+
+/// How many universes are played live, and how the levels are read.
+fn run_in(words: &[String]) -> Option<Job>
+    ensures job { result ≡ run_of (map string_bytes words.now) }
+    ensures universes { IfSome result HasUniverses }
+{
+    let (word, rest) = words.split_first()?;
+    let universes = plain_number(u32::from(UNIVERSES), word)?;
+    let form = form_in(rest)?;
+    Some(Job::Run(universes as u8, form))
+}
+
+/// The number, where no further word is given.
+fn number_alone(most: u32, words: &[String]) -> Option<u32>
+    ensures { result ≡ number_alone most (map string_bytes words.now) }
+{
+    let (word, rest) = words.split_first()?;
+    let number = plain_number(most, word)?;
+    ended(rest, number)
+}
+
+/// A number from 1 up to the most: digits without a leading zero.
+fn plain_number(most: u32, word: &str) -> Option<u32>
+    ensures number { result ≡ plain_number most word.now }
+    ensures within { IfSome result (λ n. (1 ≤ n) × (n ≤ most)) }
+{
+    match word.as_bytes() {
+        [b'0', ..] => None,
+        digits => read_whole(digits, 1, most).ok(),
     }
 }
 
@@ -56,12 +92,12 @@ fn form_in(words: &[String]) -> Option<Form>
     }
 }
 
-/// The form, where no further word is given.
-fn ended(words: &[String], form: Form) -> Option<Form>
-    ensures { result ≡ ended (map string_bytes words.now) form }
+/// The answer, where no further word is given.
+fn ended<A: Copy>(words: &[String], answer: A) -> Option<A>
+    ensures { result ≡ ended (map string_bytes words.now) answer }
 {
     match words {
-        [] => Some(form),
+        [] => Some(answer),
         _ => None,
     }
 }

@@ -1,30 +1,29 @@
-use Rattle.std.proofs.Common.{◌≡◌, ◌⊎◌, ◌∙◌, sym, subst}
+use Rattle.std.proofs.Common.{sym, subst, IfSome}
 use Rattle.lx_spec.specs.Desk.{opened}
-use Rattle.cuedesk.specs.declared.desk.Status.TheVariants as status
+use Rattle.lx_lex.specs.Unread.{unread}
+use Rattle.cuedesk.specs.Endings.{EndsScript, HasPlayed, HasCauseOf}
 use Rattle.cuedesk.proofs.Inputs.{nothing_answered}
-use Rattle.cuedesk.proofs.Statuses.{answered_whole, answered_front, answered_taken, wanted_too_much, wanted_within, read_failed, write_failed}
+use Rattle.cuedesk.proofs.Statuses.{answered_front, has_played, ends_script, has_cause}
 use Rattle.cuedesk.proofs.play.play.Goals as goal
+
+pub returns-in_default-clause-ended : goal.returns-in_default-clause-ended
+returns-in_default-clause-ended g c = nothing_answered _ _ _
 
 pub returns-in_default-clause-front : goal.returns-in_default-clause-front
 returns-in_default-clause-front g c = nothing_answered _ _ _
 
-pub returns-clause-ok : goal.returns-clause-ok
-returns-clause-ok g c = λ is. answered_whole _ _ _ _ _ _ (opened c.args.show) _ _ c.session.result (sym c.status_of.ensures ∙ is) (c.session.ensures.outcome (opened c.args.show) c.in-Ok.ensures)
+pub returns-clause-works : goal.returns-clause-works
+returns-clause-works g c = subst EndsScript (sym c.status_of.ensures) (ends_script c.session.result)
+
+pub returns-clause-ended : goal.returns-clause-ended
+returns-clause-ended g c =
+    subst (λ s. IfSome (unread g.S.Source.left c.args.lines.now) (λ bytes. HasPlayed s (opened c.args.show) c.args.lines.now.taken bytes (g.S.Source.left c.session.new.lines.source.now) (g.K.Sink.holds c.args.output.now) (g.K.Sink.holds c.session.new.sink))) (sym c.status_of.ensures)
+    (has_played _ _ _ _ _ _ (opened c.args.show) _ _ c.session.result (c.session.ensures.outcome (opened c.args.show) c.in-Ok.ensures) c.session.ensures.limit)
 
 pub returns-clause-front : goal.returns-clause-front
 returns-clause-front g c = answered_front _ _ _ _ _ _ (opened c.args.show) _ _ c.session.result (c.session.ensures.outcome (opened c.args.show) c.in-Ok.ensures)
 
-pub returns-clause-unread : goal.returns-clause-unread
-returns-clause-unread g c = λ is. answered_taken _ _ _ _ _ _ (opened c.args.show) _ _ c.session.result (subst (λ s. (s ≡ status.ReadFault) ⊎ (s ≡ status.InputTooLong)) c.status_of.ensures is) (c.session.ensures.outcome (opened c.args.show) c.in-Ok.ensures)
-
-pub returns-clause-long : goal.returns-clause-long
-returns-clause-long g c = λ is. wanted_too_much _ _ c.session.result (sym c.status_of.ensures ∙ is) c.session.ensures.limit
-
-pub returns-clause-within : goal.returns-clause-within
-returns-clause-within g c = λ is. wanted_within _ _ c.session.result (sym c.status_of.ensures ∙ is) c.session.ensures.limit
-
-pub returns-clause-read : goal.returns-clause-read
-returns-clause-read g c = λ is. read_failed g.S.Source.faults g.K.Sink.faults g.K.Sink.wants _ _ _ _ c.session.result (sym c.status_of.ensures ∙ is) c.session.ensures.cause
-
-pub returns-clause-write : goal.returns-clause-write
-returns-clause-write g c = λ is. write_failed g.S.Source.faults g.K.Sink.faults g.K.Sink.wants _ _ _ _ c.session.result (sym c.status_of.ensures ∙ is) c.session.ensures.cause
+pub returns-clause-cause : goal.returns-clause-cause
+returns-clause-cause g c =
+    subst (λ s. HasCauseOf s (g.S.Source.faults c.args.lines.now.source.now) (g.S.Source.faults c.session.new.lines.source.now) (g.K.Sink.faults c.args.output.now) (g.K.Sink.faults c.session.new.sink)) (sym c.status_of.ensures)
+    (has_cause g.S.Source.faults g.K.Sink.faults g.K.Sink.wants _ _ _ _ c.session.result c.session.ensures.cause)
