@@ -7,13 +7,12 @@ use Rattle.lx_io.specs.declared.sink.SinkFault.TheVariants.{Failed, Memory}
 use Rattle.lx_io.specs.Puts.{AppendsFront, HasSinkCause}
 use Rattle.std.proofs.lemmas.Option.{same_Some}
 use Rattle.lx_spec.specs.Show.{Show}
-use Rattle.lx_spec.specs.declared.Command.{Command}
 use Rattle.lx_gate.specs.declared.stamp.Stamp.{Stamp}
 use Rattle.lx_gate.specs.Frames.{IsFrame}
-use Rattle.lx_gate.specs.Readings.{Told, Tapped, newest}
+use Rattle.lx_gate.specs.Readings.{Tapped, newest}
 use Rattle.lx_gate.proofs.Prefixes.{prefix_self, prefix_trans}
 use Rattle.lx_workers.specs.declared.worker.Served.{Served}
-use Rattle.lx_workers.specs.Lines.{line, HasWritten, HasWrittenPart, HasFault}
+use Rattle.lx_workers.specs.Lines.{line, HasFault}
 use Rattle.lx_workers.specs.Works.{HasServed, HasStepped}
 use Rattle.lx_workers.proofs.WrittenLines.{goes_on, adds_line, adds_part, last_stays, none_written}
 use Rattle.lx_workers.proofs.TapSteps.{HasTaken, count_on}

@@ -13,7 +13,7 @@ use Rattle.lx_spec.specs.declared.Command.{Command}
 use Rattle.lx_spec.specs.Versions.{version_text, versions_text}
 use Rattle.lx_gate.specs.declared.stamp.Stamp.{Stamp}
 use Rattle.lx_gate.specs.Frames.{IsFrame, frame_after, moment_after}
-use Rattle.lx_gate.proofs.Prefixes.{prefix_self, prefix_trans, prefix_length, prefix_whole}
+use Rattle.lx_gate.proofs.Prefixes.{prefix_self, prefix_trans, prefix_length}
 use Rattle.lx_spec.specs.Versions.{outlet_text, Older, Falling}
 use Rattle.lx_workers.specs.Lines.{line, last_of, HasWritten, HasWrittenPart}
 

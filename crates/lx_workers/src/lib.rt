@@ -1,13 +1,18 @@
-//! Output workers: each writes the versions of one universe to its own sink, beside the engine.
+//! A live run: the engine publishes what a session accepts, and output workers, each for one universe, write its versions
+//! to their own sinks.
 #![tactic(auto)]
 
+mod engine;
 mod halt;
 mod lane;
+mod playing;
+mod script;
 mod senders;
 mod work;
 mod worker;
 
 pub use halt::{Halt, Stop, Watch};
 pub use lane::Lane;
+pub use playing::{Played, play};
 pub use work::{Job, run_all, run_beside};
 pub use worker::{Served, serve};

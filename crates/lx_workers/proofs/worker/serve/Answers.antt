@@ -1,4 +1,4 @@
-use Rattle.std.proofs.Common.{rules, ◌≡◌, ◌∙◌, refl, ap}
+use Rattle.std.proofs.Common.{rules, ◌∙◌, refl, ap}
 use Rattle.lx_workers.proofs.WorkerSteps.{served_none}
 use Rattle.lx_workers.proofs.worker.serve.Goals as goal
 

@@ -1,4 +1,4 @@
-use Rattle.std.proofs.Common.{rules, ◌≡◌}
+use Rattle.std.proofs.Common.{rules}
 use Rattle.lx_gate.proofs.Prefixes.{prefix_self}
 use Rattle.lx_workers.proofs.TapSteps.{note_begins}
 use Rattle.lx_workers.proofs.LastLines.{served_learnt, delivered_part, delivered_step}

@@ -1,0 +1,38 @@
+use Rattle.std.proofs.Common.{rules, ◌≡◌, ◌-◌, ◌<◌, [], Some, length, vec_len, refl, sym, ◌∙◌, arith}
+use Rattle.std.proofs.lemmas.Option.{slice_get_within}
+use Rattle.lx_workers.proofs.PlacesKept.{full_at, zip_at, get_within, is_back}
+use Rattle.lx_workers.proofs.Runs.{in_step_at, played_of, held_in}
+use Rattle.lx_workers.specs.Engines.{HasRun}
+use Rattle.lx_workers.proofs.playing.play_over.Goals as goal
+
+pub fill_lanes-lanes-requires-clause-full : goal.fill_lanes-lanes-requires-clause-full
+fill_lanes-lanes-requires-clause-full g c = full_at _ c.requires.full
+
+pub perform-lanes-requires-clause-in_step : goal.perform-lanes-requires-clause-in_step
+perform-lanes-requires-clause-in_step g c = λ κs bounds. in_step_at _ _ _ _ c.in_ok-gate.ensures.gate refl c.requires.opened
+
+pub returns-clause-played : goal.returns-clause-played
+returns-clause-played g c =
+    let run = held_in c.perform-lanes.new.gate c.in-Some.gate
+    (λ held. HasRun g.S.Source.left g.S.Source.faults g.O.Sink.holds g.O.Sink.faults g.O.Sink.wants g.G.Origin.show c.in_ok-gate.gate [] c.args.console.now c.args.lines.now c.args.output.now held c.perform-lanes.new.unsent.commands.items c.perform-lanes.new.console c.perform-lanes.new.lines c.perform-lanes.new.output c.perform-lanes.result.1)
+    c.in-Some.is c.perform-lanes.ensures.engine in
+    record {
+      published = c.in-Some.gate.published;
+      held_back = c.perform-lanes.new.unsent.commands.items;
+      unsent_is = c.len.ensures;
+      stands = run.in_step.stands;
+      session_is = played_of _ _ _ _ _ _ _ _ _ _ _ _ _ _ _ _ _ c.in_ok-gate.ensures.gate refl c.requires.opened run;
+      outlets_are = record {
+        same_places = c.give_back-faults.ensures.same ∙ c.fill_lanes-lanes.ensures.same;
+        each = λ place start is.
+            let within : place < length c.args.outlets.now = slice_get_within c.args.outlets.now place (Some start) is in
+            let count : vec_len c.perform-lanes.result.0 ≡ length c.args.outlets.now = c.perform-lanes.ensures.count ∙ c.fill_lanes-lanes.ensures.count in
+            let items : vec_len c.perform-lanes.result.0 ≡ length c.perform-lanes.result.0.items = search rules in
+            let y = get_within c.perform-lanes.result.0.items (length c.args.outlets.now - 1 - place) (omega (arith, within, count, items)) in
+            let x = zip_at _ _ _ _ y.0 c.perform-lanes.ensures.lanes y.1 in
+            is_back _ _ _ _ c.args.outlets.now _ _ _ place (length c.args.outlets.now - 1 - place) (length c.args.outlets.now) _ start _ _ _ _ _ is within refl c.fill_lanes-lanes.ensures.same
+            (c.fill_lanes-lanes.ensures.lanes (length c.args.outlets.now - 1 - place) x.0 x.1) x.2
+            (c.give_back-faults.ensures.back (length c.args.outlets.now - 1 - place) y.0 y.1);
+        others = λ place fault is. rw (sym c.fill_lanes-lanes.ensures.same) (c.give_back-faults.ensures.others place fault is);
+      };
+    }

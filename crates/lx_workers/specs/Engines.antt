@@ -1,0 +1,56 @@
+-- The engine's commands: those that are published, and then those that aren't yet.
+use Rattle.std.specs.Prelude.{◌≡◌, ℕ, ◌+◌, ◌-◌, ◌<◌, ◌^◌, List, [], ◌++◌, length, vec_len, vec_capacity, false, Option, Result, IfSome, IsSomeAnd}
+use mathlib.Core.Path.{sym, ap, ◌∙◌}
+use mathlib.Core.List.{append-nil, append_assoc}
+use Rattle.lx_lex.specs.declared.lines.Lines.{Lines}
+use Rattle.lx_lex.specs.Unread.{SameSource, bytes_taken, source_left, unread}
+use Rattle.lx_spec.specs.Show.{Show}
+use Rattle.lx_spec.specs.Desk.{Desk}
+use Rattle.lx_spec.specs.Kept.{Kept}
+use Rattle.lx_console.specs.Standing.{StandsFor}
+use Rattle.lx_session.specs.declared.fault.SessionFault.{SessionFault}
+use Rattle.lx_session.specs.declared.tally.Tally.{Tally}
+use Rattle.lx_session.specs.SessionOutcome.{SessionOutcome, HasSessionCause, KeepsLimit}
+use Rattle.lx_gate.specs.Desks.{IsInStep}
+use Rattle.lx_spec.specs.declared.Command.{Command}
+use Rattle.lx_gate.specs.Gates.{Published}
+use Rattle.lx_gate.specs.declared.unsent.Unsent.{Unsent}
+
+-- all commands that were accepted: what is published, and then what is unsent
+abbrev pub accepted_of : Published → List Command → List Command
+accepted_of gate unsent = gate.published ++ unsent
+
+-- these commands were accepted beside those that were
+abbrev pub HasAccepted : Published → List Command → Published → List Command → List Command → Type 0
+HasAccepted gate unsent gate' unsent' commands = accepted_of gate' unsent' ≡ accepted_of gate unsent ++ commands
+
+-- there is room for one more unsent command, and not too many to count
+pub record HasRoom (gate : Published) (unsent : Unsent) : Type 0 where
+  pub place : vec_len unsent.commands < vec_capacity unsent.commands
+  pub few : length gate.published + (length unsent.commands.items + 1) < 2 ^ 64 - 1
+
+pub accepted_nothing : (gate : Published) (unsent : List Command) → HasAccepted gate unsent gate unsent []
+accepted_nothing gate unsent = sym (append-nil (accepted_of gate unsent))
+
+pub accepted_both : (gate : Published) (unsent : List Command) (gate' : Published) (unsent' : List Command) (gate'' : Published) (unsent'' : List Command) (before after : List Command)
+    → HasAccepted gate unsent gate' unsent' before → HasAccepted gate' unsent' gate'' unsent'' after → HasAccepted gate unsent gate'' unsent'' (before ++ after)
+accepted_both gate unsent gate' unsent' gate'' unsent'' before after one two = two ∙ (ap (λ l. l ++ after) one ∙ append_assoc (accepted_of gate unsent) before after)
+
+-- A session was played: the console stands for the desk after all commands, those that its lines came to are published or unsent, and it
+-- answered as a session in which a command may not be admitted.
+pub record HasRun {S K : Type 0} (left : S → Option (List ℕ)) (reads : S → ℕ) (holds : K → Option (List ℕ)) (faults wants : K → ℕ) (show : Show)
+    (gate : Published) (unsent : List Command) (console : Kept) (lines : Lines S) (output : K)
+    (gate' : Published) (unsent' : List Command) (console' : Kept) (lines' : Lines S) (output' : K) (result : Result Tally SessionFault) : Type 0 where
+  pub in_step : IsInStep show gate' unsent' console'
+  pub same_source : SameSource lines lines'
+  pub outcome : (d : Desk) → StandsFor d console → IfSome (unread left lines) (λ bytes.
+      SessionOutcome false (HasAccepted gate unsent gate' unsent') d (bytes_taken lines) bytes (unread left lines') (source_left left lines')
+      (holds output) (holds output') console' result)
+  pub limit : IfSome (unread left lines) (λ bytes. KeepsLimit (bytes_taken lines) bytes result)
+  pub cause : HasSessionCause reads faults wants lines lines' output output' result
+
+-- the same of a gate that is there, with nothing unsent before
+abbrev pub HasRunFrom : {S K : Type 0} → (S → Option (List ℕ)) → (S → ℕ) → (K → Option (List ℕ)) → (K → ℕ) → (K → ℕ) → Show
+    → Option Published → Kept → Lines S → K → Option Published → List Command → Kept → Lines S → K → Result Tally SessionFault → Type 0
+HasRunFrom left reads holds faults wants show gate console lines output gate' unsent' console' lines' output' result =
+    IsSomeAnd gate (λ held. IsSomeAnd gate' (λ held'. HasRun left reads holds faults wants show held [] console lines output held' unsent' console' lines' output' result))

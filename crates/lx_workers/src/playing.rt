@@ -1,0 +1,281 @@
+//! A live run: the engine, and a worker for each outlet beside it.
+ghost use Rattle.std.specs.Prelude.{◌≡◌, ◌+◌, ◌-◌, ◌<◌, ◌≤◌, [], length, IsSome, IsSomeAnd, IfOk, IfSome, OnErr, vec_len, vec_capacity, ℕ, Some, None, slice_get, slice_set, List};
+ghost use Rattle.std.specs.List.{AllZip};
+ghost use Rattle.lx_base.specs.declared.TheConstants.{INPUT_BYTES};
+ghost use Rattle.lx_lex.specs.Unread.{CanAdvance, SameSource, bytes_taken, unread};
+ghost use Rattle.lx_spec.specs.Desk.{opened};
+ghost use Rattle.lx_console.specs.Standing.{StandsFor};
+ghost use Rattle.lx_session.specs.SessionOutcome.{HasSessionCause, KeepsLimit};
+ghost use Rattle.lx_gate.specs.Gates.{Published};
+ghost use Rattle.lx_gate.specs.Desks.{IsInStep};
+ghost use Rattle.lx_gate.specs.Places.{EachAt};
+ghost use Rattle.lx_gate.specs.Readings.{IsNewTap};
+ghost use Rattle.lx_io.specs.declared.sink.SinkFault.{SinkFault};
+ghost use Rattle.lx_workers.specs.Engines.{HasRunFrom};
+ghost use Rattle.lx_workers.specs.Works.{HasServed};
+ghost use Rattle.lx_workers.specs.Places.{IsFull, IsTaken, IsGiven};
+ghost use Rattle.lx_workers.specs.Playing.{HasPlayed};
+
+use crate::script::Engine;
+use crate::{Lane, Served, Stop, run_beside};
+use lx_console::Console;
+use lx_gate::{EmptyHistory, Gate, GatePort, GateWriter, Origin, Tap, Unsent};
+use lx_io::{Pace, Sink, SinkFault, Source};
+use lx_lex::Lines;
+use lx_session::{SessionFault, Tally};
+use std::alloc::{AllocError, Global};
+use std::marker::Brand;
+use std::sync::Wait;
+use std::thread::Threads;
+
+/// How a live run ended.
+#[derive(Drop)]
+pub struct Played {
+    /// How the session ended.
+    pub session: Result<Tally, SessionFault>,
+    /// The fault of the outlet of universe u, at place u - 1, where it had one.
+    pub outlets: [Option<SinkFault>; 16],
+    /// How many accepted commands, the last ones, weren't published, for want of memory.
+    pub unsent: usize,
+}
+
+/// Plays the script lines that are left, up to `quit` or the end, over a console as it is at its opening: each is answered
+/// on the output as in a session, and each accepted command is published at once. Beside it a worker for each outlet, of
+/// universe 1 at place 0 and so on, writes the lines of newer and newer versions of its universe's frame. At the end each
+/// outlet that had no fault gets the line of what is published last.
+///
+/// A command for which no room can be had is refused with `Memory`. A fault of an outlet ends that outlet alone: it isn't
+/// written again. `AllocError` comes only before the first line, and then nothing was read or written.
+pub fn play<
+    R: Threads + Wait + Sync,
+    S: Source + Send,
+    O: Sink + Send,
+    K: Sink + Send + Drop,
+    C: Pace + Sync,
+>(
+    rt: &R,
+    alloc: Global,
+    console: &mut Console,
+    lines: &mut Lines<S>,
+    output: &mut O,
+    outlets: &mut [Option<K>],
+    pace: &C,
+) -> Result<Played, AllocError>
+    requires opened { StandsFor (opened console.old.show) console.old }
+    requires going { CanAdvance lines.old }
+    requires within { bytes_taken lines.old ≤ INPUT_BYTES }
+    requires some { 1 ≤ length outlets.old }
+    requires most { length outlets.old ≤ 16 }
+    requires full { IsFull outlets.old }
+    ensures err { OnErr result ((console.new ≡ console.old) × ((lines.new ≡ lines.old) × ((output.new ≡ output.old) × (outlets.new ≡ outlets.old)))) }
+    ensures same_source { SameSource lines.old lines.new }
+    ensures played { IfOk result (λ p. HasPlayed S.left O.holds K.holds K.faults K.wants console.old.show lines.old lines.new output.old output.new outlets.old outlets.new console.new p.session p.outlets p.unsent) }
+    ensures limit { IfOk result (λ p. IfSome (unread S.left lines.old) (λ bytes. KeepsLimit (bytes_taken lines.old) bytes p.session)) }
+    ensures cause { IfOk result (λ p. HasSessionCause S.faults O.faults O.wants lines.old lines.new output.old output.new p.session) }
+{
+    play_over::<Brand, R, S, O, K, C>(
+        rt,
+        alloc,
+        console,
+        lines,
+        output,
+        outlets,
+        pace,
+        EmptyHistory::new(),
+    )
+}
+
+/// Plays the lines over a gate with this history.
+fn play_over<
+    G: Origin + Send + Sync,
+    R: Threads + Wait + Sync,
+    S: Source + Send,
+    O: Sink + Send,
+    K: Sink + Send + Drop,
+    C: Pace + Sync,
+>(
+    rt: &R,
+    alloc: Global,
+    console: &mut Console,
+    lines: &mut Lines<S>,
+    output: &mut O,
+    outlets: &mut [Option<K>],
+    pace: &C,
+    history: EmptyHistory,
+) -> Result<Played, AllocError>
+    requires show { console.old.show ≡ G.show }
+    requires opened { StandsFor (opened G.show) console.old }
+    requires book { history.seen.book ≡ G.book }
+    requires going { CanAdvance lines.old }
+    requires within { bytes_taken lines.old ≤ INPUT_BYTES }
+    requires some { 1 ≤ length outlets.old }
+    requires most { length outlets.old ≤ 16 }
+    requires full { IsFull outlets.old }
+    ensures err { OnErr result ((console.new ≡ console.old) × ((lines.new ≡ lines.old) × ((output.new ≡ output.old) × (outlets.new ≡ outlets.old)))) }
+    ensures same_source { SameSource lines.old lines.new }
+    ensures played { IfOk result (λ p. HasPlayed S.left O.holds K.holds K.faults K.wants G.show lines.old lines.new output.old output.new outlets.old outlets.new console.new p.session p.outlets p.unsent) }
+    ensures limit { IfOk result (λ p. IfSome (unread S.left lines.old) (λ bytes. KeepsLimit (bytes_taken lines.old) bytes p.session)) }
+    ensures cause { IfOk result (λ p. HasSessionCause S.faults O.faults O.wants lines.old lines.new output.old output.new p.session) }
+{
+    let stop = Stop::new();
+    let lanes = Vec::with_capacity(alloc, outlets.len())?;
+    let (gate, taps) = Gate::<G, GateWriter<G>>::open(
+        alloc,
+        console.show(),
+        outlets.len() as u8,
+        history,
+    )?;
+    let lanes = fill_lanes(&stop, pace, taps, outlets, lanes);
+    let mut gate = Some(gate);
+    let mut unsent = Unsent::new(alloc);
+    let (lanes, session) = perform(
+        rt,
+        alloc,
+        console,
+        lines,
+        output,
+        &mut gate,
+        &mut unsent,
+        &stop,
+        pace,
+        lanes,
+    );
+    let Some(gate) = gate else { unreachable!() };
+    let faults = give_back(&gate, lanes, outlets);
+    gate.close(rt);
+    Ok(Played {
+        session,
+        outlets: faults,
+        unsent: unsent.len(),
+    })
+}
+
+/// Runs the engine and the workers at the same time.
+fn perform<
+    'a,
+    G: Origin + Send + Sync,
+    R: Threads + Wait + Sync,
+    S: Source + Send,
+    O: Sink + Send,
+    K: Sink + Send + Drop,
+    C: Pace + Sync,
+>(
+    rt: &R,
+    alloc: Global,
+    console: &mut Console,
+    lines: &mut Lines<S>,
+    output: &mut O,
+    gate: &mut Option<Gate<G, GateWriter<G>>>,
+    unsent: &mut Unsent,
+    stop: &Stop,
+    pace: &C,
+    mut lanes: Vec<Lane<'a, GatePort<G>, K, C>>,
+) -> (
+    Vec<Lane<'a, GatePort<G>, K, C>>,
+    Result<Tally, SessionFault>,
+)
+    requires in_step { IsSomeAnd gate.old (λ held. IsInStep G.show held [] console.old) }
+    requires going { CanAdvance lines.old }
+    requires within { bytes_taken lines.old ≤ INPUT_BYTES }
+    ensures engine { HasRunFrom S.left S.faults O.holds O.faults O.wants G.show gate.old console.old lines.old output.old gate.new unsent.new.commands.items console.new lines.new output.new result.1 }
+    ensures count { vec_len result.0 ≡ vec_len lanes.entry }
+    ensures lanes { AllZip (λ x y. HasServed K.holds K.faults K.wants G.show x.tap y.tap x.sink y.sink y.served) lanes.entry.items result.0.items }
+{
+    let mut engine = Engine {
+        alloc,
+        console: &mut *console,
+        lines: &mut *lines,
+        output: &mut *output,
+        gate: &mut *gate,
+        unsent: &mut *unsent,
+        stop,
+        pace,
+        session: Ok(Tally::new()),
+    };
+    run_beside(rt, &mut engine, lanes.as_mut_slice());
+    let session = engine.session;
+    (lanes, session)
+}
+
+/// Moves each sink out of its place into a lane, beside its tap, from the last place on.
+fn fill_lanes<'a, G: Origin, K: Sink + Drop, C: Pace>(
+    stop: &'a Stop,
+    pace: &'a C,
+    mut taps: Vec<Tap<GatePort<G>>>,
+    outlets: &mut [Option<K>],
+    mut lanes: Vec<Lane<'a, GatePort<G>, K, C>>,
+) -> Vec<Lane<'a, GatePort<G>, K, C>>
+    requires full { (place : ℕ) → place < length outlets.old → IsSomeAnd (slice_get outlets.old place) IsSome }
+    requires most { length outlets.old ≤ 16 }
+    requires taps { EachAt IsNewTap taps.items }
+    requires count { vec_len taps ≡ length outlets.old }
+    requires none { lanes.items ≡ [] }
+    requires len { vec_len lanes ≡ 0 }
+    requires room { length outlets.old ≤ vec_capacity lanes }
+    ensures same { length outlets.new ≡ length outlets.old }
+    ensures count { vec_len result ≡ length outlets.old }
+    ensures lanes { EachAt (λ k x. IsTaken outlets.old (length outlets.old) k x.tap x.sink) result.items }
+{
+    while let Some(tap) = taps.pop() {
+        let sink = take_sink(outlets, taps.len());
+        lanes.push_reserved(Lane {
+            tap,
+            sink,
+            served: Served::none(),
+            stop,
+            pace,
+        });
+    }
+    lanes
+}
+
+/// Each lane learns what is published and takes once more, and its sink goes back to its place.
+fn give_back<G: Origin, K: Sink + Drop, C: Pace>(
+    gate: &Gate<G, GateWriter<G>>,
+    mut lanes: Vec<Lane<'_, GatePort<G>, K, C>>,
+    outlets: &mut [Option<K>],
+) -> [Option<SinkFault>; 16]
+    requires count { vec_len lanes ≡ length outlets.old }
+    requires most { length outlets.old ≤ 16 }
+    ensures same { length outlets.new ≡ length outlets.old }
+    ensures back { EachAt (λ k x. IsGiven K.holds K.faults K.wants G.show outlets.new result gate.now.published (length outlets.old - 1 - k) x.tap x.sink x.served) lanes.entry.items }
+    ensures others { (place : ℕ) (fault : SinkFault) → slice_get result place ≡ Some (Some fault) → place < length outlets.old }
+{
+    let count = outlets.len();
+    let mut faults = [None; 16];
+    while let Some(mut lane) = lanes.pop() {
+        lane.finish(gate.note());
+        let Lane {
+            tap: _tap,
+            sink,
+            served,
+            stop: _,
+            pace: _,
+        } = lane;
+        let place = count - 1 - lanes.len();
+        put_sink(outlets, place, sink);
+        faults[place] = served.fault;
+    }
+    faults
+}
+
+/// The sink of a place, which is then empty.
+fn take_sink<K>(outlets: &mut [Option<K>], place: usize) -> K
+    requires within { place < length outlets.old }
+    requires full { IsSomeAnd (slice_get outlets.old place) IsSome }
+    ensures sink { slice_get outlets.old place ≡ Some (Some result) }
+    ensures after { outlets.new ≡ slice_set outlets.old place None }
+{
+    match outlets[place].take() {
+        Some(sink) => sink,
+        None => unreachable!(),
+    }
+}
+
+/// Puts a sink into a place.
+fn put_sink<K: Drop>(outlets: &mut [Option<K>], place: usize, sink: K)
+    requires within { place < length outlets.old }
+    ensures after { outlets.new ≡ slice_set outlets.old place (Some sink) }
+{
+    outlets[place] = Some(sink);
+}
