@@ -5,7 +5,7 @@ use Rattle.std.specs.List.{cons_option}
 use Rattle.std.proofs.lemmas.Bool.{eqb-true}
 use Rattle.lx_spec.specs.SortedList.{placed, has_entry}
 use Rattle.lx_spec.specs.declared.Section.{Section}
-use Rattle.lx_spec.specs.Entry.{Entry, PlacedEntry, part_named, cue_in, group_in, sub_in}
+use Rattle.lx_spec.specs.Entry.{PlacedEntry, part_named, cue_in, group_in, sub_in}
 use Rattle.lx_spec.specs.Reading.{numbers_begun, stands_in}
 use Rattle.lx_reader.specs.ReadingState.{number_begun}
 use Rattle.lx_reader.proofs.LastEntries.{filter-more}

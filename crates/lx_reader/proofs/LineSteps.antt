@@ -22,7 +22,6 @@ use Rattle.lx_spec.specs.Show.{IsTime, Cue, Show, Valid}
 use Rattle.lx_spec.specs.declared.Section.{Section}
 use Rattle.lx_spec.specs.declared.Section.TheVariants.{NoRecord, InCue, Skipping}
 use Rattle.lx_spec.specs.Entry.{Entry, Nothing, Skipped, Identifies, Begins, ClearsAll, HasChannels, Patches, HasLevels, NamesPart, Ends, part_named, is_end}
-use Rattle.lx_spec.specs.Facts.{Facts}
 use Rattle.lx_spec.specs.Fields.{times, number, delay_at, levels, is_page_one, record_entry}
 use Rattle.lx_spec.specs.LineRules.{if_few, entry_by_word}
 use Rattle.lx_spec.proofs.ValidLines.{time_in_range}

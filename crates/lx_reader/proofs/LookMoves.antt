@@ -1,5 +1,5 @@
 -- The moves of a look, channel by channel, and the cues whose looks become moves, from the last one on.
-use Rattle.std.proofs.Common.{◌≡◌, ℕ, suc, zero, ◌+◌, ◌<◌, ◌≤◌, Bool, true, false, cond, List, [], ◌∷◌, ◌++◌, map, length, take, drop, get_or, Option, Some, None, refl, ap, ◌∙◌, sym, subst, arith, add-one, append-nil, append_assoc, IsTrue, length-append, take_all}
+use Rattle.std.proofs.Common.{◌≡◌, ℕ, suc, zero, ◌+◌, ◌<◌, ◌≤◌, Bool, true, false, cond, List, [], ◌∷◌, ◌++◌, map, length, take, drop, get_or, Option, Some, None, refl, ap, ◌∙◌, sym, subst, arith, add-one, append-nil, append_assoc, IsTrue, take_all}
 use Rattle.std.specs.Prelude.{filter, not, ◌==◌, ◌-◌, IfSome}
 use Rattle.std.specs.Option.{option_map_or, IsSomeAnd}
 use Rattle.std.specs.List.{AllByRecursion, range_with_len}

@@ -12,7 +12,7 @@ use Rattle.lx_spec.specs.FirstRefusal.{◌>>=◌}
 use Rattle.lx_spec.specs.Entry.{Entry, PlacedEntry, is_end}
 use Rattle.lx_spec.specs.Facts.{Facts, first_facts, facts_after}
 use Rattle.lx_spec.specs.LineRules.{entry_by_tokens, entry_of}
-use Rattle.lx_spec.specs.Reading.{Reading, entries, reading_from, reads_lines, count_read, lines_read}
+use Rattle.lx_spec.specs.Reading.{entries, reading_from, reads_lines, count_read, lines_read}
 use Rattle.lx_reader.specs.FieldLists.{onto}
 use Rattle.lx_reader.specs.ReadingState.{ReadingState, first_state, step, placed_in, facts_in, final_reading}
 use Rattle.lx_reader.proofs.SectionLevels.{onto_nothing, onto_again}

@@ -1,6 +1,6 @@
 -- The states of a reading: each comes to the last of its entries for each thing.
 use Rattle.std.proofs.Common.{◌≡◌, ℕ, ◌+◌, ◌-◌, ◌<◌, ◌≤◌, Bool, true, false, cond, List, [], ◌∷◌, ◌++◌, map, length, drop, Option, Some, None, refl, ap, ◌∙◌, sym, subst, arith}
-use Rattle.std.specs.Prelude.{◌&&◌, ◌==◌, is_some, not, nat_lt, max, fold, flat_map, unwrap_or, count_by, position, IfSome}
+use Rattle.std.specs.Prelude.{◌&&◌, ◌==◌, is_some, not, max, fold, flat_map, unwrap_or, count_by, position, IfSome}
 use Rattle.std.specs.Option.{option_map_or}
 use Rattle.std.specs.List.{after_last, suffix_len, prefix_len, position_or_len}
 use Rattle.std.proofs.lemmas.List.{reverse-append, drop-append-le, drop_all, length-append}
@@ -8,6 +8,7 @@ use Rattle.std.proofs.lemmas.List.Sums.{fold-append, count_by-le-length}
 use Rattle.std.proofs.lemmas.List.Folds.{position_or_len_push}
 use Rattle.std.proofs.lemmas.Bool.{eqb-true}
 use Rattle.std.proofs.lemmas.Bool.Decides.{nat_tests}
+use Rattle.lx_spec.proofs.Comparisons.{eq_below, eq_true, lt_false, lt_true}
 use Rattle.lx_base.specs.declared.TheConstants.{DEFAULT_CHANNELS}
 use Rattle.lx_spec.specs.declared.Form.{Form}
 use Rattle.lx_spec.specs.Show.{Show}
@@ -57,18 +58,6 @@ count_push test xs x = fold-append (λ a z. a + one_if (test z)) 0 xs (x ∷ [])
 count_from : {A : Type 0} (test : A → Bool) (xs : List A) (n : ℕ) → fold (λ a z. a + one_if (test z)) n xs ≡ n + count_by test xs
 count_from test [] n = omega arith
 count_from test (x ∷ xs) n = omega (arith, count_from test xs (n + one_if (test x)), count_from test xs (0 + one_if (test x)))
-
-lt_true : (a b : ℕ) → a < b → nat_lt a b ≡ true
-lt_true a b h = grind (arith, nat_tests)
-
-lt_false : (a b : ℕ) → b ≤ a → nat_lt a b ≡ false
-lt_false a b h = grind (arith, nat_tests)
-
-eq_true : (a b : ℕ) → a ≡ b → (a == b) ≡ true
-eq_true a b h = grind (arith, nat_tests)
-
-eq_below : (a b : ℕ) → a < b → (a == b) ≡ false
-eq_below a b h = grind (arith, nat_tests)
 
 not_zero : (n : ℕ) → (n == 0) ≡ false → 0 < n
 not_zero n h = grind (arith, nat_tests)

@@ -5,11 +5,11 @@ use Rattle.std.specs.List.{cons_option}
 use Rattle.std.proofs.lemmas.Grind.{flat_map-append}
 use Rattle.std.proofs.lemmas.List.Sums.{fold-append}
 use Rattle.std.proofs.lemmas.List.Elements.{filter_map-append}
-use Rattle.lx_spec.specs.Show.{Cue, Group, Sub, Show}
+use Rattle.lx_spec.specs.Show.{Show}
 use Rattle.lx_spec.specs.SortedList.{placed, has_entry}
 use Rattle.lx_spec.specs.declared.Section.{Section}
 use Rattle.lx_spec.specs.declared.Section.TheVariants.{NoRecord}
-use Rattle.lx_spec.specs.Entry.{Entry, Skipped, Identifies, Begins, ClearsAll, HasChannels, Patches, PlacedEntry, section_begun, part_named, cue_in, group_in, sub_in, rows_in}
+use Rattle.lx_spec.specs.Entry.{Entry, Skipped, Identifies, Begins, ClearsAll, HasChannels, Patches, PlacedEntry, part_named, cue_in, group_in, sub_in, rows_in}
 use Rattle.lx_spec.specs.Reading.{last_of_each, numbers_begun, stands_in, each_record, cue_from, group_from, sub_from, channels_named, show_from}
 use Rattle.lx_spec.specs.EditedShow.{new_cue}
 use Rattle.lx_reader.specs.ReadingState.{with_named, changed_in, cue_with, set_with, change_by, number_begun, speaks, new_set, show_with}

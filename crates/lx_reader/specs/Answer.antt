@@ -28,7 +28,8 @@ abbrev pub reading_of : Loaded → Reading
 reading_of loaded = record { show = loaded.show; skipped = loaded.skipped; first_skipped = loaded.first_skipped }
 
 -- the lines up to ENDDATA were handed out, and mean what was read, which is valid
-pub record HasRead {S : Type 0} (left : S → Option (List ℕ)) (faults : S → ℕ) (old new : Lines S) (form : Form) (loaded : Loaded) : Type 0 where
+pub record HasRead {S : Type 0} (left : S → Option (List ℕ)) (faults : S → ℕ) (old new : Lines S) (form : Form) (loaded : Loaded)
+    : Type 0 where
   pub means : MeansShow left faults old new form (reading_of loaded)
   pub valid : Valid loaded.show
 
@@ -52,18 +53,27 @@ CutShort left old new = IfSome (unread left old) (λ bytes. IsCutShort old.taken
 -- what the answer says: the show, or the first fault of the text, or that there was none before the input was too long or a read failed
 abbrev pub AnswerOf : {S : Type 0} → (S → Option (List ℕ)) → (S → ℕ) → Lines S → Lines S → Form → Result Loaded ShowFault → Type 0
 AnswerOf left rises old new form (Ok loaded) = HasRead left rises old new form loaded
-AnswerOf left rises old new form (Err fault) = OfText (MeansFault left old form) (IfSome (unread left old) (IsPastLimit old.taken) × CutShort left old new) (CutShort left old new) fault
+AnswerOf left rises old new form (Err fault) =
+    OfText (MeansFault left old form)
+    (IfSome (unread left old) (IsPastLimit old.taken) × CutShort left old new)
+    (CutShort left old new) fault
 
 -- the line that was handed out has the fault, or no line is left
 abbrev pub FaultOf : {S : Type 0} → (S → Option (List ℕ)) → (S → ℕ) → Lines S → Lines S → Reader → TextFault → Type 0
 FaultOf left rises old new r fault =
-    ((raw : List ℕ) × HandedOut left rises old new (raw ∷ []) × (entry_of (facts_of r (old.number + 1)) (without_cr raw) ≡ Err fault)) ⊎ (IsAtEnd (unread left old) × (fault ≡ NoEndData (old.number + 1)))
+    ((raw : List ℕ) × HandedOut left rises old new (raw ∷ []) × (entry_of (facts_of r (old.number + 1)) (without_cr raw) ≡ Err fault))
+    ⊎ (IsAtEnd (unread left old) × (fault ≡ NoEndData (old.number + 1)))
 
 -- what one line comes to: it was handed out and taken up, or has a fault, or isn't there
-abbrev pub TurnOf : {S : Type 0} → (S → Option (List ℕ)) → (S → ℕ) → Lines S → Lines S → Reader → Reader → Result (Unit {0}) ShowFault → Type 0
+abbrev pub TurnOf : {S : Type 0} → (S → Option (List ℕ)) → (S → ℕ) → Lines S → Lines S → Reader → Reader → Result (Unit {0}) ShowFault
+    → Type 0
 TurnOf left rises old new r q (Ok done) =
-    (raw : List ℕ) × HandedOut left rises old new (raw ∷ []) × Outcome r q (old.number + 1) (Ok done) (entry_of (facts_of r (old.number + 1)) (without_cr raw))
-TurnOf left rises old new r q (Err fault) = OfText (FaultOf left rises old new r) (StepOf steps.InputTooLong (unread left old) (unread left new) old.taken new.taken (line_of new)) (NotTaken left old new) fault
+    (raw : List ℕ) × HandedOut left rises old new (raw ∷ [])
+    × Outcome r q (old.number + 1) (Ok done) (entry_of (facts_of r (old.number + 1)) (without_cr raw))
+TurnOf left rises old new r q (Err fault) =
+    OfText (FaultOf left rises old new r)
+    (StepOf steps.InputTooLong (unread left old) (unread left new) old.taken new.taken (line_of new))
+    (NotTaken left old new) fault
 
 -- what was read, by its form; only memory may be wanting
 pub record HasLoaded (form : Form) (r : Reader) (loaded : Loaded) : Type 0 where

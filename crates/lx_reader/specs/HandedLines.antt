@@ -18,7 +18,8 @@ use Rattle.lx_lex.specs.Unread.{unread}
 
 -- The lines up to ENDDATA, each without its LF, were handed out, and this is what they mean. Where the source tells its bytes, it is
 -- what its text means, of which no further line is wanted for the show, and the script is the lines that are left.
-pub record MeansShow {S : Type 0} (left : S → Option (List ℕ)) (faults : S → ℕ) (old new : Lines S) (form : Form) (reading : Reading) : Type 0 where
+pub record MeansShow {S : Type 0} (left : S → Option (List ℕ)) (faults : S → ℕ) (old new : Lines S) (form : Form) (reading : Reading)
+    : Type 0 where
   pub front : List (List ℕ)
   pub last : List ℕ
   pub handed : HandedOut left faults old new (front ++ last ∷ [])
@@ -47,7 +48,8 @@ pub record IsPastLimit (taken : ℕ) (bytes : List ℕ) : Type 0 where
   pub wanted : n < lines_read (lines_of bytes)
   pub long : INPUT_BYTES < taken + length (first_lines (n + 1) bytes)
 
--- the lines that were taken whole within the limit of the input don't end the reading, and so more are wanted; `left` is what the source has left
+-- the lines that were taken whole within the limit of the input don't end the reading, and so more are wanted; `left` is what the source
+-- has left
 pub record IsCutShort (taken : ℕ) (bytes : List ℕ) (left : Option (List ℕ)) : Type 0 where
   pub cut : CutOff taken bytes left
   pub wanted : cut.lines < lines_read (lines_of bytes)

@@ -14,7 +14,15 @@ use Rattle.lx_reader.specs.ReadingState.{ReadingState, step, placed_in, facts_in
 
 -- what the lines so far say
 abbrev pub state_of : Reader → ReadingState
-state_of r = record { show = r.show; channels_set = r.channels_set; skipped = r.skipped; first_skipped = r.first_skipped; identified = r.identified; section = r.section; part = r.part }
+state_of r = record {
+  show = r.show;
+  channels_set = r.channels_set;
+  skipped = r.skipped;
+  first_skipped = r.first_skipped;
+  identified = r.identified;
+  section = r.section;
+  part = r.part;
+}
 
 -- what the reader knows of line i, which is next
 abbrev pub facts_of : Reader → ℕ → Facts

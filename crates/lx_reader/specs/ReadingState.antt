@@ -1,5 +1,6 @@
 -- The state of a reading, and the step that one more entry is.
-use Rattle.std.specs.Prelude.{ℕ, ◌+◌, ◌==◌, ◌&&◌, Option, Some, None, List, [], map, fold, max, Bool, true, false, unwrap_or, option_and_then, is_some, ◌||◌, if◌then◌else◌}
+use Rattle.std.specs.Prelude.{ℕ, ◌+◌, ◌==◌, ◌&&◌, Option, Some, None, List, [], map, fold, max, Bool, true, false, unwrap_or}
+use Rattle.std.specs.Prelude.{option_and_then, is_some, ◌||◌, if◌then◌else◌}
 use Rattle.lx_base.specs.declared.TheConstants.{DEFAULT_CHANNELS}
 use Rattle.lx_spec.specs.declared.Part.{Part}
 use Rattle.lx_spec.specs.declared.Move.{Move}
@@ -12,7 +13,9 @@ use Rattle.lx_spec.specs.Show.{Cue, MemberSet, Show}
 use Rattle.lx_spec.specs.declared.Form.{Form}
 use Rattle.lx_spec.specs.declared.Section.{Section}
 use Rattle.lx_spec.specs.declared.Section.TheVariants.{NoRecord}
-use Rattle.lx_spec.specs.Entry.{Entry, Nothing, Skipped, Identifies, Begins, ClearsAll, HasChannels, Patches, HasLevels, HasUp, HasDown, NamesPart, Ends, PlacedEntry, section_begun, part_named, identifies, cue_in, group_in, sub_in, channels_set, rows_in, levels_in, follow_in, link_in, label_in, blocks, is_skipped, clears_all}
+use Rattle.lx_spec.specs.Entry.{Entry, Nothing, Skipped, Identifies, Begins, ClearsAll, HasChannels, Patches, HasLevels, HasUp, HasDown}
+use Rattle.lx_spec.specs.Entry.{NamesPart, Ends, PlacedEntry, section_begun, part_named, identifies, cue_in, group_in, sub_in}
+use Rattle.lx_spec.specs.Entry.{channels_set, rows_in, levels_in, follow_in, link_in, label_in, blocks, is_skipped, clears_all}
 use Rattle.lx_spec.specs.Facts.{Facts}
 use Rattle.lx_spec.specs.Limits.{desk_limits}
 use Rattle.lx_spec.specs.Looks.{by_form}
@@ -85,7 +88,11 @@ cue_with p entry cue = record {
 
 -- the group or submaster
 abbrev pub set_with : Entry → MemberSet → MemberSet
-set_with entry set = record { number = set.number; label = unwrap_or (label_in entry) set.label; members = all_placed (λ m. m.chan) (levels_in entry) set.members }
+set_with entry set = record {
+  number = set.number;
+  label = unwrap_or (label_in entry) set.label;
+  members = all_placed (λ m. m.chan) (levels_in entry) set.members;
+}
 
 -- what an entry makes of the record in whose section it stands
 abbrev pub change_by : {A : Type 0} → (Entry → A → A) → Entry → Option (A → A)
@@ -101,7 +108,9 @@ number_begun number entry = option_and_then number (section_begun entry)
 
 -- the cues with what an entry says: it begins one, or changes that of its section
 abbrev pub cues_with : Section → ℕ → Entry → List Cue → List Cue
-cues_with section p entry cues = changed_in (λ cue. cue.number) (change_by (cue_with p) entry) (cue_in section) (with_named (λ cue. cue.number) new_cue (number_begun cue_in entry) cues)
+cues_with section p entry cues =
+    changed_in (λ cue. cue.number) (change_by (cue_with p) entry) (cue_in section)
+    (with_named (λ cue. cue.number) new_cue (number_begun cue_in entry) cues)
 
 abbrev pub new_set : ℕ → MemberSet
 new_set n = record { number = n; label = []; members = [] }
@@ -111,7 +120,9 @@ abbrev pub with_set : ℕ → List MemberSet → List MemberSet
 with_set n sets = with_entry (λ set. set.number) new_set n sets
 
 abbrev pub sets_with : (Section → Option ℕ) → Section → Entry → List MemberSet → List MemberSet
-sets_with number section entry sets = changed_in (λ set. set.number) (change_by set_with entry) (number section) (with_named (λ set. set.number) new_set (number_begun number entry) sets)
+sets_with number section entry sets =
+    changed_in (λ set. set.number) (change_by set_with entry) (number section)
+    (with_named (λ set. set.number) new_set (number_begun number entry) sets)
 
 -- the show with what was said
 abbrev pub show_with : PlacedEntry → Show → Show
@@ -125,7 +136,8 @@ show_with s show = record {
 
 -- the show with patch rows
 abbrev pub with_rows : List PatchRow → Show → Show
-with_rows rows show = record show { channels = fold max show.channels (map (λ row. row.chan) rows); patch = all_placed (λ row. row.dimmer) rows show.patch }
+with_rows rows show =
+    record show { channels = fold max show.channels (map (λ row. row.chan) rows); patch = all_placed (λ row. row.dimmer) rows show.patch }
 
 -- the show with levels in a section, and in part p where it is a cue
 abbrev pub with_members : Section → ℕ → List Member → Show → Show
@@ -146,7 +158,8 @@ abbrev pub empty_show : Show
 empty_show = record { channels = 1; cues = []; groups = []; subs = []; patch = [] }
 
 abbrev pub first_state : ReadingState
-first_state = record { show = empty_show; channels_set = None; skipped = 0; first_skipped = 0; identified = false; section = NoRecord; part = 1 }
+first_state =
+    record { show = empty_show; channels_set = None; skipped = 0; first_skipped = 0; identified = false; section = NoRecord; part = 1 }
 
 -- an entry where the reading stands
 abbrev pub placed_in : ReadingState → Entry → PlacedEntry
@@ -166,7 +179,14 @@ step i entry state = record {
 
 -- what is known of line i
 abbrev pub facts_in : ReadingState → ℕ → Facts
-facts_in state i = record { limits = desk_limits; number = i; identified = state.identified; section = state.section; part = state.part; cues = map (λ cue. cue.number) state.show.cues }
+facts_in state i = record {
+  limits = desk_limits;
+  number = i;
+  identified = state.identified;
+  section = state.section;
+  part = state.part;
+  cues = map (λ cue. cue.number) state.show.cues;
+}
 
 -- what was read, once the text ends in this state
 abbrev pub final_reading : Form → ReadingState → Reading

@@ -25,7 +25,8 @@ pub(crate) fn put_cue_line<K: Sink>(cue: &Cue, sink: &mut K) -> Result<(), SinkF
 
 /// Appends `cue`, the number and the kind.
 fn put_kind<K: Sink>(cue: &Cue, sink: &mut K) -> Result<(), SinkFault>
-    ensures { Puts K.holds K.faults K.wants sink.old sink.new result (codes "cue " ++ (cue_number_text cue.now.number ++ 32 ∷ kind_word cue.now.block)) }
+    ensures { Puts K.holds K.faults K.wants sink.old sink.new result
+        (codes "cue " ++ (cue_number_text cue.now.number ++ 32 ∷ kind_word cue.now.block)) }
 {
     put_all(sink, b"cue ")?;
     put_cue_no(cue.number, sink)?;
@@ -41,7 +42,8 @@ fn kind_behind(block: bool) -> &'static [u8]
 
 /// Appends a space and a count, twice.
 fn put_counts<K: Sink>(cue: &Cue, sink: &mut K) -> Result<(), SinkFault>
-    ensures { Puts K.holds K.faults K.wants sink.old sink.new result (32 ∷ decimal (length cue.now.parts) ++ 32 ∷ decimal (length cue.now.moves)) }
+    ensures { Puts K.holds K.faults K.wants sink.old sink.new result
+        (32 ∷ decimal (length cue.now.parts) ++ 32 ∷ decimal (length cue.now.moves)) }
 {
     put_all(sink, b" ")?;
     put_count(cue.parts.len() as u64, sink)?;

@@ -1,5 +1,5 @@
 -- The rows of the tables of ready texts.
-use Rattle.std.proofs.Common.{◌≡◌, ℕ, ◌+◌, ◌-◌, ◌/◌, ◌%◌, ◌<◌, ◌≤◌, List, [], ◌∷◌, ◌++◌, length, get_or, map, take, drop, decimal, refl, ap, sym, ◌∙◌, arith, length-take, cond, true, false, inl, inr, ◌⊎◌}
+use Rattle.std.proofs.Common.{◌≡◌, ℕ, ◌+◌, ◌-◌, ◌/◌, ◌%◌, ◌<◌, ◌≤◌, List, [], ◌∷◌, ◌++◌, length, get_or, map, take, drop, decimal, refl, ap, sym, ◌∙◌, arith, length-take, cond, inl, inr, ◌⊎◌}
 use Rattle.std.specs.List.{range_with_len}
 use Rattle.std.proofs.lemmas.List.FromFn.{get_or-map-range_with_len}
 use borrow.Rule.Slice.PartMut.{put_mid}
@@ -9,7 +9,7 @@ use Rattle.itoa.proofs.Decimal.{pair, decimal_pair, decimal_two, length_one, len
 use Rattle.std.proofs.lemmas.Fmt.{decimal_digit}
 use Rattle.std.specs.Prelude.{nat_lt}
 use Rattle.std.proofs.lemmas.Bool.{cases_Bool}
-use Rattle.std.proofs.lemmas.Bool.Decides.{nat_tests}
+use Rattle.lx_spec.proofs.Comparisons.{le_from, lt_false, lt_from, lt_true}
 use Rattle.lx_script.specs.declared.rows.TheConstants.{DIGITS, LEVELS, NUMBERS}
 
 -- a byte and a number of at most three digits, at the end of four bytes
@@ -31,20 +31,8 @@ level_row v d lt = ap (λ rows. get_or rows v d) levels_are ∙ get_or-map-range
 pub number_row : (n : ℕ) (d : List ℕ) → n < 1000 → get_or NUMBERS n d ≡ ready 32 n
 number_row n d lt = ap (λ rows. get_or rows n d) numbers_are ∙ get_or-map-range_with_len (ready 32) 0 1000 n n d lt (omega arith)
 
-lt_from : (a b : ℕ) → nat_lt a b ≡ true → a < b
-lt_from a b h = grind (arith, nat_tests)
-
-le_from : (a b : ℕ) → nat_lt a b ≡ false → b ≤ a
-le_from a b h = grind (arith, nat_tests)
-
 below_or_from : (a b : ℕ) → (a < b) ⊎ (b ≤ a)
 below_or_from a b = elim (cases_Bool (nat_lt a b)) [ inl is ↦ inl (lt_from a b is) | inr not ↦ inr (le_from a b not) ]
-
-lt_true : (a b : ℕ) → a < b → nat_lt a b ≡ true
-lt_true a b h = grind (arith, nat_tests)
-
-lt_false : (a b : ℕ) → b ≤ a → nat_lt a b ≡ false
-lt_false a b h = grind (arith, nat_tests)
 
 pub three_digits : (n : ℕ) → 100 ≤ n → n < 1000 → decimal n ≡ (48 + n / 100) ∷ (48 + n % 100 / 10) ∷ (48 + n % 100 % 10) ∷ []
 three_digits n lo hi = decimal_pair n lo (omega arith) ∙ ap (λ front. front ++ pair (n % 100)) (decimal_digit (n / 100) (omega arith))

@@ -4,4 +4,6 @@ use Rattle.std.specs.List.{enumerate_from}
 
 -- ` number=level` for each level that isn't 0, the first level's number being given
 abbrev pub cells_from : ℕ → List ℕ → List ℕ
-cells_from number levels = flat_map (λ word. 32 ∷ word) (flat_map (λ e. if e.1 == 0 then [] else (decimal e.0 ++ 61 ∷ decimal e.1) ∷ []) (enumerate_from number levels))
+cells_from number levels =
+    flat_map (λ word. 32 ∷ word)
+    (flat_map (λ e. if e.1 == 0 then [] else (decimal e.0 ++ 61 ∷ decimal e.1) ∷ []) (enumerate_from number levels))

@@ -8,9 +8,13 @@ use Rattle.lx_spec.specs.declared.Command.TheVariants as commands
 use Rattle.lx_spec.specs.declared.Line.{Line}
 use Rattle.lx_spec.specs.declared.Line.TheVariants as lines
 use Rattle.lx_spec.specs.Phrase.{Tokens}
-use Rattle.lx_spec.specs.Script.{alone, goto_line, fader_line, master_line, tick_line, cue_edit, delete_line, set_line, release_line, time_line, part_edit, follow_line, label_line, group_line, sub_line, patch_line, unpatch_line, frame_line, sheet_line}
+use Rattle.lx_spec.specs.Script.{alone, goto_line, fader_line, master_line, tick_line, cue_edit, delete_line, set_line, release_line}
+use Rattle.lx_spec.specs.Script.{time_line, part_edit, follow_line, label_line, group_line, sub_line, patch_line, unpatch_line}
+use Rattle.lx_spec.specs.Script.{frame_line, sheet_line}
 use Rattle.lx_script.specs.declared.first_word.FirstWord.{FirstWord}
-use Rattle.lx_script.specs.declared.first_word.FirstWord.TheVariants.{Go, Back, Goto, Settle, Fader, Master, Tick, Cue, Delete, Set, Release, Time, Part, Unpart, Block, Unblock, Follow, Label, Group, Sub, Patch, Unpatch, Frame, Sheet, Save, Quit}
+use Rattle.lx_script.specs.declared.first_word.FirstWord.TheVariants.{Go, Back, Goto, Settle, Fader, Master, Tick, Cue, Delete, Set}
+use Rattle.lx_script.specs.declared.first_word.FirstWord.TheVariants.{Release, Time, Part, Unpart, Block, Unblock, Follow, Label, Group}
+use Rattle.lx_script.specs.declared.first_word.FirstWord.TheVariants.{Sub, Patch, Unpatch, Frame, Sheet, Save, Quit}
 
 -- how they are spelled
 abbrev pub first_words : List (List ℕ × FirstWord)

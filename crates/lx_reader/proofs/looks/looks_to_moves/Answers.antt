@@ -1,5 +1,5 @@
 use Rattle.std.proofs.Common.{◌≡◌, ◌-◌, suc, subst, arith}
-use Rattle.lx_reader.proofs.LookMoves.{IsLooked, looked_none, looked_next, looked_all}
+use Rattle.lx_reader.proofs.LookMoves.{IsLooked, looked_next}
 use Rattle.lx_reader.proofs.looks.looks_to_moves.Goals as goal
 
 pub loop-left-preserved : goal.loop-left-preserved

@@ -1,5 +1,4 @@
-use Rattle.std.proofs.Common.{◌≡◌, ◌≤◌, ◌∷◌, ◌++◌, ◌-◌, ◌+◌, ◌∙◌, List, [], ℕ, ap, length, decimal, drop, get_or, arith}
-use Rattle.std.proofs.lemmas.Fmt.{length-decimal-le}
+use Rattle.std.proofs.Common.{◌≡◌, ◌∷◌, ◌++◌, ◌-◌, ◌+◌, ◌∙◌, [], ap, length, decimal, drop, get_or, arith}
 use Rattle.lx_script.proofs.Ready.{level_row, ready_end}
 use Rattle.lx_script.proofs.cells.write_level.Goals as goal
 
