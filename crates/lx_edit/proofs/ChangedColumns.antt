@@ -16,13 +16,14 @@ use Rattle.lx_show.specs.Around.{entries_up_to}
 use Rattle.lx_sheet.proofs.Past.{tracked_past}
 use Rattle.lx_edit.specs.declared.chan_set.ChanSet.{ChanSet}
 use Rattle.lx_edit.specs.ChanSet.{has_chan}
-use Rattle.lx_edit.specs.Changing.{move_by, is_block, level_from, SameEntry, IsPastDecision}
+use Rattle.lx_edit.specs.Changing.{move_by, is_block, level_from, SameEntry, Grows, KeepsOthers, IsPast}
+use Rattle.lx_edit.specs.Planned.{KeepsAbove}
 use Rattle.lx_edit.proofs.KeptLevels.{above_placed}
 use Rattle.lx_edit.proofs.Lists.{map_append}
-use Rattle.lx_edit.proofs.Tracking.{through, walked, tracked-with_cue, tracked-without_cue, tracked_below-with_cue, tracked_below-without_cue}
+use Rattle.lx_edit.proofs.Walks.{through, walked, tracked-with_cue, tracked-without_cue, tracked_below-with_cue, tracked_below-without_cue}
 use Rattle.lx_spec.proofs.Comparisons.{le_true}
 use Rattle.lx_spec.proofs.Lists.{all_reverse, each, filter_all, find_in_filter, find_none, found_has}
-use Rattle.lx_spec.proofs.SortedLists.{entry_at-placed_here, entry_at-placed_other, found_number, found_valid, placed_same}
+use Rattle.lx_spec.proofs.SortedLists.{entry_at-placed_here, entry_at-placed_other, found_number, found_valid, has_placed, placed_same}
 
 -- Moves that are marked where they differ.
 found_step : (chans : ChanSet) (moves : List Move) (other : Option Cue) (c : ℕ) (o : Option Move) → entry_at (λ m. m.chan) c moves ≡ o → has_chan chans c ≡ false → AllByRecursion (λ m. has_chan chans m.chan ≡ false → move_by other m.chan ≡ Some m) moves → IfSome o (λ m. move_by other c ≡ Some m)
@@ -68,7 +69,7 @@ no_level_found channels None valid = refl
 no_level_found channels (Some cue) valid = no_level channels cue valid
 
 -- 0 is no channel
-tracked_none : (show : Show) (n : ℕ) → Valid show → tracked show n 0 ≡ 0
+pub tracked_none : (show : Show) (n : ℕ) → Valid show → tracked show n 0 ≡ 0
 tracked_none show n valid = no_level_found show.channels _ (found_has (ValidCue show.channels) (λ cue. nat_le cue.number n && decides cue 0) (reverse show.cues) _ refl (all_reverse (ValidCue show.channels) show.cues valid.cues))
 
 zero_or : (c : ℕ) → (1 ≤ c → ⊥) → c ≡ 0
@@ -123,7 +124,7 @@ split_step show n m c (Some old) is valid least le =
 tracked_split : (show : Show) (n m c : ℕ) → Valid show → 1 ≤ n → n ≤ m → tracked show m c ≡ walked c (level_from (cue_of show n) c (tracked show (n - 1) c)) (later show n m)
 tracked_split show n m c valid least le = split_step show n m c (cue_of show n) refl valid least le
 
-move_with : (show : Show) (cue : Cue) (n c k : ℕ) → cue.number ≡ n → move_by (cue_of show n) c ≡ move_by (Some cue) c → move_of show k c ≡ move_of (with_cue show cue) k c
+pub move_with : (show : Show) (cue : Cue) (n c k : ℕ) → cue.number ≡ n → move_by (cue_of show n) c ≡ move_by (Some cue) c → move_of show k c ≡ move_of (with_cue show cue) k c
 move_with show cue n c k same moves = elim (cases_eq k n) [
   | inl here ↦
       subst (λ j. move_of show j c ≡ move_of (with_cue show cue) j c) (sym here) (moves ∙ sym (ap (λ (o : Option Cue). move_by o c) (entry_at-placed_here (λ (x : Cue). x.number) n cue show.cues same)))
@@ -142,6 +143,11 @@ column_with show cue n c valid same least entry = record {
   moves = λ k. move_with show cue n c k same entry.moves;
   levels = λ k. level_with show cue n c k valid same least entry;
 }
+
+-- the channels that aren't marked see no difference
+pub others_with : (show new : Show) (cue : Cue) (n : ℕ) (chans : ChanSet) → Valid show → new ≡ with_cue show cue → cue.number ≡ n → 1 ≤ cue.number → ((x : ℕ) → has_chan chans x ≡ false → SameEntry (cue_of show n) (Some cue) x (tracked show (n - 1) x)) → KeepsOthers show new chans
+others_with show new cue n chans valid is number least entry = λ x out.
+    subst (λ (s : Show). SameColumn show s x) (sym is) (column_with show cue n x valid number (subst (λ k. 1 ≤ k) number least) (entry x out))
 
 not_here : (a n : ℕ) → a ≡ n → not (a == n) ≡ false
 not_here a n is = grind (arith, nat_tests)
@@ -225,7 +231,7 @@ past_step : (c a b m : ℕ) (cues : List Cue) (o : Option Cue) → find (λ cue.
 past_step c a b m cues None is past = absurd past
 past_step c a b m cues (Some d) is past = decided_alike c a b m d cues is past
 
-pub alike_past : (show : Show) (cue : Cue) (n m c : ℕ) → Valid show → cue.number ≡ n → 1 ≤ n → IsPastDecision (with_cue show cue) n c m → tracked show m c ≡ tracked (with_cue show cue) m c
+pub alike_past : (show : Show) (cue : Cue) (n m c : ℕ) → Valid show → cue.number ≡ n → 1 ≤ n → IsPast None (with_cue show cue) n c m → tracked show m c ≡ tracked (with_cue show cue) m c
 alike_past show cue n m c valid number least past =
     elim (cases_lt m n) [
       | inl less ↦ sym (tracked_below-with_cue show cue m c (subst (λ k. m < k) (sym number) less))
@@ -241,3 +247,57 @@ alike_past show cue n m c valid number least past =
 pub from_there : (to : Option ℕ) (P : ℕ → Type 0) → ((m : ℕ) → IsSomeAnd to (λ end. end ≤ m) → P m) → IfSome to (λ end. (m : ℕ) → end ≤ m → P m)
 from_there None P right = tt
 from_there (Some end) P right = λ m le. right m le
+
+-- Cue only: a cue placed, and the one above it with it.
+pub alone_numbers : (show : Show) (cue kept : Cue) → Valid show → Valid (with_cue show cue) → KeepsAbove show (with_cue show cue) cue.number kept
+    → map (λ x. x.number) (with_cue (with_cue show cue) kept).cues ≡ map (λ x. x.number) show.cues
+alone_numbers show cue kept valid then keeps =
+    numbers_with (with_cue show cue) kept then (has_placed (λ (x : Cue). x.number) kept.number cue show.cues keeps.above) ∙ numbers_with show cue valid keeps.cue
+
+pub alone_below : (show : Show) (cue kept : Cue) (m c : ℕ) → KeepsAbove show (with_cue show cue) cue.number kept → m < cue.number
+    → tracked (with_cue (with_cue show cue) kept) m c ≡ tracked show m c
+alone_below show cue kept m c keeps less =
+    let higher : cue.number < kept.number = keeps.higher in
+    tracked_below-with_cue (with_cue show cue) kept m c (omega arith) ∙ tracked_below-with_cue show cue m c less
+
+-- from the cue above on nothing is changed
+pub alone_later : (show : Show) (cue kept : Cue) (m c : ℕ) → Valid show → Valid (with_cue (with_cue show cue) kept) → KeepsAbove show (with_cue show cue) cue.number kept → kept.number ≤ m
+    → tracked (with_cue (with_cue show cue) kept) m c ≡ tracked show m c
+alone_later show cue kept m c valid then keeps le = elim (cases_lt c 1) [
+  | inl none ↦
+      let zero_is : c ≡ 0 = omega (arith, none) in
+      ap (tracked (with_cue (with_cue show cue) kept) m) zero_is ∙ tracked_none (with_cue (with_cue show cue) kept) m then ∙ sym (ap (tracked show m) zero_is ∙ tracked_none show m valid)
+  | inr some ↦ elim (cases_lt show.channels c) [
+    | inl past ↦ tracked_past (with_cue (with_cue show cue) kept) m c then past ∙ sym (tracked_past show m c valid past)
+    | inr within ↦ keeps.levels m c (record { least = some; most = within }) le
+  ]
+]
+
+-- a channel that sees no difference at either cue sees none at all
+pub alone_columns : (show : Show) (cue kept : Cue) (c : ℕ) → Valid show → Valid (with_cue (with_cue show cue) kept) → 1 ≤ cue.number → KeepsAbove show (with_cue show cue) cue.number kept
+    → SameEntry (cue_of show cue.number) (Some cue) c (tracked show (cue.number - 1) c) → move_by (cue_of show kept.number) c ≡ move_by (Some kept) c
+    → SameColumn show (with_cue (with_cue show cue) kept) c
+alone_columns show cue kept c valid then least keeps entry moves =
+    let first : SameColumn show (with_cue show cue) c = column_with show cue cue.number c valid refl least entry in
+    let higher : cue.number < kept.number = keeps.higher in
+    let there : move_by (cue_of (with_cue show cue) kept.number) c ≡ move_by (Some kept) c =
+    ap (λ (o : Option Cue). move_by o c) (entry_at-placed_other (λ (x : Cue). x.number) kept.number cue show.cues (λ same. omega arith)) ∙ moves in
+    record {
+      moves = λ k. first.moves k ∙ move_with (with_cue show cue) kept kept.number c k refl there;
+      levels = λ k. elim (cases_lt k kept.number) [
+        | inl less ↦ first.levels k ∙ sym (tracked_below-with_cue (with_cue show cue) kept k c less)
+        | inr le ↦ sym (alone_later show cue kept k c valid then keeps le)
+      ];
+    }
+
+-- the channels that aren't marked see no difference
+pub others_alone : (show new : Show) (cue kept : Cue) (n end : ℕ) (first chans : ChanSet) → Valid show → Valid new → new ≡ with_cue (with_cue show cue) kept → n ≡ cue.number → end ≡ kept.number
+    → 1 ≤ cue.number → KeepsAbove show (with_cue show cue) cue.number kept → Grows first chans
+    → ((x : ℕ) → has_chan first x ≡ false → SameEntry (cue_of show n) (Some cue) x (tracked show (n - 1) x))
+    → ((x : ℕ) → has_chan chans x ≡ false → SameEntry (cue_of show end) (Some kept) x (tracked show (end - 1) x))
+    → KeepsOthers show new chans
+others_alone show new cue kept n end first chans valid then is number higher least keeps grows here above = λ x out.
+    subst (λ (s : Show). SameColumn show s x) (sym is)
+    (alone_columns show cue kept x valid (subst Valid is then) least keeps
+    (subst (λ k. SameEntry (cue_of show k) (Some cue) x (tracked show (k - 1) x)) number (here x (grows x out)))
+    (subst (λ k. SameEntry (cue_of show k) (Some kept) x (tracked show (k - 1) x)) higher (above x out)).moves)

@@ -14,7 +14,7 @@ use Rattle.lx_show.specs.Around.{entries_up_to}
 use Rattle.lx_edit.specs.Found.{FoundCue}
 use Rattle.lx_edit.specs.Kept.{changed_show, decided, decided_by}
 use Rattle.lx_edit.specs.Planned.{CanPlace}
-use Rattle.lx_edit.proofs.Tracking.{through, walked, tracked-with_cue, tracked-without_cue, up_to_first}
+use Rattle.lx_edit.proofs.Walks.{through, walked, tracked-with_cue, tracked-without_cue, up_to_first}
 use Rattle.lx_spec.proofs.Comparisons.{lt_from}
 use Rattle.lx_spec.proofs.Lists.{each, filter_all, filter_none, find_first, find_in_filter, find_passes, none_differs, passes}
 
@@ -24,7 +24,7 @@ lt_self k = grind (arith, nat_tests)
 not_both : (a k : ℕ) → nat_lt a k ≡ true → nat_lt k a ≡ false
 not_both a k less = grind (arith, nat_tests)
 
-above_differs : (a n : ℕ) → nat_lt n a ≡ true → not (a == n) ≡ true
+pub above_differs : (a n : ℕ) → nat_lt n a ≡ true → not (a == n) ≡ true
 above_differs a n less = grind (arith, nat_tests)
 
 pub above_placed : {A : Type 0} (key : A → ℕ) (x : A) (xs : List A) → entries_above key (key x) (placed key x xs) ≡ entries_above key (key x) xs
@@ -97,7 +97,7 @@ found_step p key y ys x true test is rest =
 found_step p key y ys x false test is rest = elim (key y == key x) as (λ b. IsTrue (is_some (cond b (Some y) (entry_at key (key x) ys)))) [ true ↦ refl | false ↦ rest is ]
 
 -- what is found by a test is there by its number
-found_there : {A : Type 0} (p : A → Bool) (key : A → ℕ) (x : A) (xs : List A) → find p xs ≡ Some x → IsTrue (has_entry key (key x) xs)
+pub found_there : {A : Type 0} (p : A → Bool) (key : A → ℕ) (x : A) (xs : List A) → find p xs ≡ Some x → IsTrue (has_entry key (key x) xs)
 found_there p key x [] is = absurd (none_differs x is)
 found_there p key x (y ∷ ys) is = found_step p key y ys x (p y) refl is (found_there p key x ys)
 

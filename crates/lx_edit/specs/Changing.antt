@@ -1,6 +1,6 @@
 -- What a channel sees of a cue that is changed, added or taken out.
 use Rattle.std.specs.Prelude.{◌≡◌, ℕ, ◌≤◌, option_map, find, Bool, false, ◌||◌, Option, Some, None, is_some, option_and_then, if◌then◌else◌}
-use Rattle.std.specs.Option.{option_map_or, IsSomeAnd}
+use Rattle.std.specs.Option.{option_map_or, option_or, IsSomeAnd}
 use Rattle.lx_spec.specs.declared.Move.{Move}
 use Rattle.lx_spec.specs.Show.{Cue, Show}
 use Rattle.lx_spec.specs.SortedList.{entries_above}
@@ -39,6 +39,10 @@ KeepsOthers before after chans = (c : ℕ) → has_chan chans c ≡ false → Sa
 abbrev pub next_decision : Show → ℕ → ℕ → Option ℕ
 next_decision show n c = option_map (λ cue. cue.number) (find (λ cue. decides cue c) (entries_above (λ cue. cue.number) n show.cues))
 
--- a number from that cue on
-abbrev pub IsPastDecision : Show → ℕ → ℕ → ℕ → Type 0
-IsPastDecision show n c m = IsSomeAnd (next_decision show n c) (λ end. end ≤ m)
+-- where the channel's changed levels end: at the given number, or else at that cue
+abbrev pub column_end : Option ℕ → Show → ℕ → ℕ → Option ℕ
+column_end to show n c = option_or to (next_decision show n c)
+
+-- a number from there on
+abbrev pub IsPast : Option ℕ → Show → ℕ → ℕ → ℕ → Type 0
+IsPast to show n c m = IsSomeAnd (column_end to show n c) (λ end. end ≤ m)

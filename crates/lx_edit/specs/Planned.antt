@@ -1,12 +1,13 @@
 -- What a plan makes of the show that it was made for.
-use Rattle.std.specs.Prelude.{◌≡◌, ℕ, ◌≤◌, ◌⊎◌, Bool, true, false, ◌||◌, IsTrue, nat_lt, Option, Some, None, IfSome, IsOk, Result, Ok, Err, length, MatchResult, ⊤}
+use Rattle.std.specs.Prelude.{◌≡◌, ℕ, ◌<◌, ◌≤◌, ◌⊎◌, Bool, true, false, ◌||◌, IsTrue, nat_lt, Option, Some, None, IfSome, IsOk, Result, Ok, Err, length, MatchResult, ⊤}
 use Rattle.lx_base.specs.declared.TheConstants.{CUES}
 use Rattle.lx_spec.specs.declared.Edit.{Edit}
 use Rattle.lx_spec.specs.declared.Edit.TheVariants.{SubMember, Patch, Unpatch}
 use Rattle.lx_spec.specs.declared.Refusal.{Refusal}
 use Rattle.lx_spec.specs.declared.Refusal.TheVariants.{Memory}
 use Rattle.lx_spec.specs.SortedList.{has_entry, placed, taken_out}
-use Rattle.lx_spec.specs.Show.{Cue, Show, ValidCue, ValidGroup, ValidSub}
+use Rattle.lx_spec.specs.TrackedLevel.{tracked}
+use Rattle.lx_spec.specs.Show.{Cue, Show, InRange, ValidCue, ValidGroup, ValidSub}
 use Rattle.lx_spec.specs.EditedShow.{edited, with_cue, without_cue}
 use Rattle.lx_edit.specs.declared.plans.Plan.{Plan}
 use Rattle.lx_edit.specs.declared.plans.Plan.TheVariants.{Nothing, PlaceCue, RemoveCue, PlaceGroup, PlaceSub, PlaceRow, RemoveRow}
@@ -31,10 +32,17 @@ pub record CanPlace (show : Show) (cue : Cue) : Type 0 where
   pub valid : ValidCue show.channels cue
   pub room : IsTrue (has_entry (λ x. x.number) cue.number show.cues || nat_lt (length show.cues) CUES)
 
+-- Cue only: the show after the change of the cue is given this cue too, in the place of the one above it, and from it on each channel keeps its level.
+pub record KeepsAbove (show after : Show) (n : ℕ) (kept : Cue) : Type 0 where
+  pub cue : IsTrue (has_entry (λ x. x.number) n show.cues)
+  pub above : IsTrue (has_entry (λ x. x.number) kept.number show.cues)
+  pub higher : n < kept.number
+  pub levels : (m c : ℕ) → InRange show.channels c → kept.number ≤ m → tracked (with_cue after kept) m c ≡ tracked show m c
+
 -- the plan may be applied to the show
 abbrev pub IsReady : Show → Plan → Type 0
 IsReady show Nothing = ⊤
-IsReady show (PlaceCue cue above) = CanPlace show cue × IfSome above (CanPlace (with_cue show cue))
+IsReady show (PlaceCue cue above) = CanPlace show cue × IfSome above (λ kept. CanPlace (with_cue show cue) kept × KeepsAbove show (with_cue show cue) cue.number kept)
 IsReady show (RemoveCue n above) = (1 ≤ n) × IfSome above (CanPlace (without_cue show n))
 IsReady show (PlaceGroup group) = ValidGroup show.channels group
 IsReady show (PlaceSub sub) = ValidSub show.channels sub

@@ -4,17 +4,17 @@
 #![tactic(auto)]
 
 mod absent;
-mod applying;
+mod application;
 mod blocks;
 mod chan_set;
-mod changing;
 mod cue_edits;
 mod dirty;
 mod kept;
 mod levels;
+mod marks;
 mod members;
 mod moves;
-mod patching;
+mod patch_edits;
 pub mod planning;
 mod plans;
 #[cfg(test)]

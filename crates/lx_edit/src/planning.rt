@@ -4,7 +4,7 @@ ghost use Rattle.lx_spec.specs.ValidEdit.{ValidEdit};
 ghost use Rattle.lx_edit.specs.Planned.{Plans};
 
 use crate::plans::Plan;
-use crate::{blocks, cue_edits, kept, levels, members, patching};
+use crate::{blocks, cue_edits, kept, levels, members, patch_edits};
 use lx_show::{Edit, Refusal, Show};
 use std::alloc::Global;
 
@@ -57,7 +57,7 @@ pub fn plan(alloc: Global, show: &Show, edit: &Edit) -> Result<Plan, Refusal>
             dimmer,
             chan,
             level,
-        } => patching::patch(show, *dimmer, *chan, *level),
-        Edit::Unpatch { dimmer } => patching::unpatch(show, *dimmer),
+        } => patch_edits::patch(show, *dimmer, *chan, *level),
+        Edit::Unpatch { dimmer } => patch_edits::unpatch(show, *dimmer),
     }
 }

@@ -3,7 +3,7 @@ use Rattle.std.specs.Prelude.{Option, not, ◌==◌, unwrap_or}
 use Rattle.std.specs.Option.{option_copied}
 use Rattle.lx_spec.specs.TrackedLevel.{tracked, decides, level_in}
 use Rattle.lx_edit.specs.Kept.{changed_show, decided, decided_by}
-use Rattle.lx_edit.proofs.Tracking.{through}
+use Rattle.lx_edit.proofs.Walks.{through}
 use Rattle.lx_edit.proofs.KeptLevels.{above-before, above-changed, lent_number, cue_least, same_through, differ_through, none_through}
 use Rattle.lx_edit.proofs.kept.differs.Goals as goal
 

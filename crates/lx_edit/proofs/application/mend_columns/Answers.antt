@@ -3,7 +3,7 @@ use Rattle.std.proofs.lemmas.Bool.{cases_lt}
 use Rattle.lx_base.specs.declared.TheConstants.{CHANNELS}
 use Rattle.lx_edit.specs.ChanSet.{is_chan}
 use Rattle.lx_edit.proofs.ChanBits.{has_chan-none, is_chan-past}
-use Rattle.lx_edit.proofs.applying.mend_columns.Goals as goal
+use Rattle.lx_edit.proofs.application.mend_columns.Goals as goal
 
 none_below : (x : ℕ) → x < 1 → is_chan x ≡ false
 none_below x low =

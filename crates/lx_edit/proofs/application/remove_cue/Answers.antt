@@ -2,7 +2,7 @@ use Rattle.std.proofs.Common.{sym, subst}
 use Rattle.lx_spec.specs.Show.{Show}
 use Rattle.lx_spec.specs.Laws.{SameColumn}
 use Rattle.lx_edit.proofs.ChangedColumns.{column_without}
-use Rattle.lx_edit.proofs.applying.remove_cue.Goals as goal
+use Rattle.lx_edit.proofs.application.remove_cue.Goals as goal
 
 pub returns-clause-others : goal.returns-clause-others
 returns-clause-others c = λ x out.

@@ -7,7 +7,7 @@ use Rattle.lx_spec.specs.Show.{Cue}
 use Rattle.lx_edit.specs.ChanSet.{has_chan}
 use Rattle.lx_edit.specs.Changing.{move_by}
 use Rattle.lx_edit.proofs.ChangedColumns.{found_marked}
-use Rattle.lx_edit.proofs.changing.mark_moves.Goals as goal
+use Rattle.lx_edit.proofs.marks.mark_moves.Goals as goal
 
 pub returns-in-Some-clause-marked : goal.returns-in-Some-clause-marked
 returns-in-Some-clause-marked c =

@@ -5,7 +5,7 @@ use Rattle.lx_spec.specs.Show.{Cue}
 use Rattle.lx_spec.specs.TrackedLevel.{tracked}
 use Rattle.lx_edit.specs.Changing.{move_by, SameEntry}
 use Rattle.lx_edit.proofs.ChangedColumns.{same_both_ways, same_entry, nothing_tracks}
-use Rattle.lx_edit.proofs.changing.mark_change.Goals as goal
+use Rattle.lx_edit.proofs.marks.mark_change.Goals as goal
 
 pub returns-then-is_block-clause-same : goal.returns-then-is_block-clause-same
 returns-then-is_block-clause-same c =

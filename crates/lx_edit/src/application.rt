@@ -6,13 +6,13 @@ ghost use Rattle.lx_spec.specs.EditedShow.{with_cue, without_cue};
 ghost use Rattle.lx_sheet.specs.Rows.{level_of, numbers_of};
 ghost use Rattle.lx_sheet.specs.Standing.{StandsFor, StandsIn, cue_numbers};
 ghost use Rattle.lx_edit.specs.ChanSet.{has_chan};
-ghost use Rattle.lx_edit.specs.Changing.{Grows, KeepsOthers, IsPastDecision, next_decision};
-ghost use Rattle.lx_edit.specs.Planned.{planned, with_above, CanPlace, IsReady, dimmer_planned, plans_sub};
+ghost use Rattle.lx_edit.specs.Changing.{Grows, KeepsOthers, IsPast, column_end, next_decision};
+ghost use Rattle.lx_edit.specs.Planned.{planned, with_above, CanPlace, KeepsAbove, IsReady, dimmer_planned, plans_sub};
 
 use crate::absent::channel;
 use crate::chan_set::ChanSet;
-use crate::changing::mark_change;
 use crate::dirty::Dirty;
+use crate::marks::mark_change;
 use crate::plans::Plan;
 use lx_base::{CHANNELS, Chan, CueNo};
 use lx_sheet::Sheet;
@@ -68,9 +68,34 @@ fn place_cues(show: &mut Show, sheet: &mut Sheet, cue: Cue, above: Option<Cue>) 
     ensures others { KeepsOthers show.old show.new result }
 {
     let mut chans = ChanSet::empty();
-    place_cue(show, sheet, &mut chans, cue);
-    place_above(show, sheet, &mut chans, above);
+    match above {
+        Some(above) => place_alone(show, sheet, &mut chans, cue, above),
+        None => place_cue(show, sheet, &mut chans, cue),
+    }
     chans
+}
+
+/// Cue only: places the cue, and the one above it, which keeps its levels. It adds the channels that see a
+/// difference. The rows from the cue above on are as they were.
+fn place_alone(show: &mut Show, sheet: &mut Sheet, chans: &mut ChanSet, cue: Cue, above: Cue)
+    requires ready { CanPlace show.old cue }
+    requires above { CanPlace (with_cue show.old cue) above }
+    requires keeps { KeepsAbove show.old (with_cue show.old cue) cue.number above }
+    requires sheet { StandsFor show.old sheet.old }
+    ensures show { show.new ≡ with_cue (with_cue show.old cue) above }
+    ensures sheet { StandsFor show.new sheet.new }
+    ensures others { KeepsOthers show.old show.new chans.new }
+{
+    let _ = show.channels();
+    let n = cue.number;
+    let end = above.number;
+    mark_change(chans, show, sheet, n, Some(&cue));
+    mark_change(chans, show, sheet, end, Some(&above));
+    show.put_cue(cue);
+    let _ = show.channels();
+    show.put_cue(above);
+    let _ = show.channels();
+    mend(sheet, show, n, Some(end), chans);
 }
 
 /// Takes the cue out, and places the one above it where it is changed. It answers the channels that see a
@@ -117,7 +142,7 @@ fn place_cue(show: &mut Show, sheet: &mut Sheet, chans: &mut ChanSet, cue: Cue)
     mark_change(chans, show, sheet, n, Some(&cue));
     show.put_cue(cue);
     if there {
-        mend(sheet, show, n, chans);
+        mend(sheet, show, n, None, chans);
     } else {
         sheet.insert_row(show, n);
     }
@@ -138,44 +163,51 @@ fn remove_cue(show: &mut Show, sheet: &mut Sheet, chans: &mut ChanSet, n: CueNo)
     sheet.remove_row(show, n);
 }
 
-/// A cue was changed in its place: the columns of these channels are filled in anew from it on, or the whole
-/// sheet where they are many.
-fn mend(sheet: &mut Sheet, show: &Show, from: CueNo, chans: &ChanSet)
+/// A cue was changed in its place: the columns of these channels are filled in anew from it on, up to the
+/// given end, or the whole sheet where they are many.
+fn mend(sheet: &mut Sheet, show: &Show, from: CueNo, to: Option<CueNo>, chans: &ChanSet)
     requires channels { sheet.old.channels ≡ show.now.channels }
     requires numbers { numbers_of sheet.old ≡ cue_numbers show.now }
     requires below { (c n : ℕ) → n < from → level_of sheet.old n c ≡ tracked show.now n c }
-    requires later { (c n : ℕ) → IsPastDecision show.now from c n → level_of sheet.old n c ≡ tracked show.now n c }
+    requires later { (c n : ℕ) → IsPast to show.now from c n → level_of sheet.old n c ≡ tracked show.now n c }
     requires others { (c : ℕ) → has_chan chans.now c ≡ false → StandsIn show.now c sheet.old }
     ensures { StandsFor show.now sheet.new }
 {
     if chans.is_large() {
         sheet.refill(show);
     } else {
-        mend_columns(sheet, show, from, chans);
+        mend_columns(sheet, show, from, &to, chans);
     }
 }
 
 /// The columns of these channels are filled in anew.
-fn mend_columns(sheet: &mut Sheet, show: &Show, from: CueNo, chans: &ChanSet)
+fn mend_columns(sheet: &mut Sheet, show: &Show, from: CueNo, to: &Option<CueNo>, chans: &ChanSet)
     requires channels { sheet.old.channels ≡ show.now.channels }
     requires numbers { numbers_of sheet.old ≡ cue_numbers show.now }
     requires below { (c n : ℕ) → n < from → level_of sheet.old n c ≡ tracked show.now n c }
-    requires later { (c n : ℕ) → IsPastDecision show.now from c n → level_of sheet.old n c ≡ tracked show.now n c }
+    requires later { (c n : ℕ) → IsPast to.now show.now from c n → level_of sheet.old n c ≡ tracked show.now n c }
     requires others { (c : ℕ) → has_chan chans.now c ≡ false → StandsIn show.now c sheet.old }
     ensures { StandsFor show.now sheet.new }
 {
     for k in 1..CHANNELS + 1 {
-        mend_column(sheet, show, from, chans, channel(k));
+        mend_column(sheet, show, from, to, chans, channel(k));
     }
 }
 
-/// The column of the channel is filled in anew, if it is one of these: from the cue on, up to the next that
-/// decides the channel.
-fn mend_column(sheet: &mut Sheet, show: &Show, from: CueNo, chans: &ChanSet, c: Chan)
+/// The column of the channel is filled in anew, if it is one of these: from the cue on, up to the given end
+/// or else to the next cue that decides the channel.
+fn mend_column(
+    sheet: &mut Sheet,
+    show: &Show,
+    from: CueNo,
+    to: &Option<CueNo>,
+    chans: &ChanSet,
+    c: Chan,
+)
     requires channels { sheet.old.channels ≡ show.now.channels }
     requires numbers { numbers_of sheet.old ≡ cue_numbers show.now }
     requires below { (x n : ℕ) → n < from → level_of sheet.old n x ≡ tracked show.now n x }
-    requires later { (x n : ℕ) → IsPastDecision show.now from x n → level_of sheet.old n x ≡ tracked show.now n x }
+    requires later { (x n : ℕ) → IsPast to.now show.now from x n → level_of sheet.old n x ≡ tracked show.now n x }
     requires others { (x : ℕ) → has_chan chans.now x ≡ false → StandsIn show.now x sheet.old }
     ensures column { StandsIn show.now c sheet.new }
     ensures stays { (x n : ℕ) → x ≢ c → level_of sheet.new n x ≡ level_of sheet.old n x }
@@ -183,7 +215,17 @@ fn mend_column(sheet: &mut Sheet, show: &Show, from: CueNo, chans: &ChanSet, c: 
     ensures numbers { numbers_of sheet.new ≡ numbers_of sheet.old }
 {
     if chans.contains(c) {
-        sheet.changed_until(show, from, next_decision(show, from, c), c);
+        sheet.changed_until(show, from, column_end(to, show, from, c), c);
+    }
+}
+
+/// Where the channel's changed levels end: at the given number, or else at the next cue that decides it.
+fn column_end(to: &Option<CueNo>, show: &Show, n: CueNo, c: Chan) -> Option<CueNo>
+    ensures { result ≡ column_end to.now show.now n c }
+{
+    match to {
+        Some(end) => Some(*end),
+        None => next_decision(show, n, c),
     }
 }
 
