@@ -1,20 +1,8 @@
 //! Lines that edit cues: what follows their first word.
 
 ghost use Rattle.std.specs.Prelude.{◌≡◌};
-ghost use Rattle.lx_spec.specs.Script.{
-  edit,
-  cue_edit,
-  part_edit,
-  delete_line,
-  set_line,
-  set_channels,
-  set_group,
-  release_line,
-  time_line,
-  time_edit,
-  follow_line,
-  label_line,
-};
+ghost use Rattle.lx_spec.specs.Script.{edit, cue_edit, part_edit, delete_line, set_line, set_channels, set_group, release_line, time_line};
+ghost use Rattle.lx_spec.specs.Script.{time_edit, follow_line, label_line};
 ghost use Rattle.lx_lex.specs.Left.{left};
 
 use crate::phrase::{

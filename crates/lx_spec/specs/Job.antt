@@ -1,6 +1,6 @@
 -- The jobs of the program: the words that name each, what it is given, and what it writes.
-use Rattle.std.specs.Prelude.{ℕ, ◌==◌, Bool, false, Option, Some, None, Result, List, [], ◌∷◌, option_and_then, option_map, codes, bytes_eq,
-  if◌then◌else◌}
+use Rattle.std.specs.Prelude.{ℕ, ◌==◌, Bool, false, Option, Some, None, Result, List, [], ◌∷◌, option_and_then, option_map, codes, bytes_eq}
+use Rattle.std.specs.Prelude.{if◌then◌else◌}
 use Rattle.lx_base.specs.declared.TheConstants.{CUES, UNIVERSES}
 use Rattle.lx_spec.specs.declared.Form.{Form}
 use Rattle.lx_spec.specs.declared.Form.TheVariants.{Moves, States}

@@ -1,6 +1,6 @@
 -- What a line of a show text says: of eight rules the first that fits is taken.
-use Rattle.std.specs.Prelude.{ℕ, Bool, true, false, ◌&&◌, ◌||◌, ◌==◌, not, nat_lt, Some, None, Result, Ok, Err, List, [], ◌∷◌, length,
-  codes, is_none, if◌then◌else◌}
+use Rattle.std.specs.Prelude.{ℕ, Bool, true, false, ◌&&◌, ◌||◌, ◌==◌, not, nat_lt, Some, None, Result, Ok, Err, List, [], ◌∷◌, length}
+use Rattle.std.specs.Prelude.{codes, is_none, if◌then◌else◌}
 use Rattle.std.specs.List.{list_any}
 use Rattle.lx_base.specs.declared.TheConstants.{LINE_BYTES, PARTS, GROUPS, SUBS}
 use Rattle.lx_spec.specs.declared.Word.{Word}
@@ -13,8 +13,8 @@ use Rattle.lx_spec.specs.Numerals.{read_whole, read_time, read_cue_no}
 use Rattle.lx_spec.specs.FirstWord.{word_of, is_inner}
 use Rattle.lx_spec.specs.Facts.{Facts}
 use Rattle.lx_spec.specs.Fields.{numbered, times, levels, patch_entry, channels_entry, record_entry}
-use Rattle.lx_spec.specs.Entry.{Section, NoRecord, InCue, InGroup, InSub, Skipping, cue_in, Entry, Nothing, Skipped, Identifies, Begins,
-  ClearsAll, NamesPart, HasUp, HasDown, Follows, Links, IsLabelled, Blocks, Ends}
+use Rattle.lx_spec.specs.Entry.{Section, NoRecord, InCue, InGroup, InSub, Skipping, cue_in, Entry, Nothing, Skipped, Identifies, Begins}
+use Rattle.lx_spec.specs.Entry.{ClearsAll, NamesPart, HasUp, HasDown, Follows, Links, IsLabelled, Blocks, Ends}
 
 -- 1. A line that is too long is a fault.
 abbrev pub is_too_long : List ℕ → Bool

@@ -4,8 +4,8 @@ use Rattle.std.specs.List.{AllByRecursion}
 use Rattle.std.specs.Option.{option_to_list}
 use Rattle.lx_base.specs.declared.TheConstants.{CUE_MAX, TICKS, UNIVERSES}
 use Rattle.lx_spec.specs.declared.Edit.{Edit}
-use Rattle.lx_spec.specs.declared.Edit.TheVariants.{MakeCue, DeleteCue, Set, SetGroup, Release, Time, AddPart, DeletePart, Block, Unblock,
-  Follow, Name}
+use Rattle.lx_spec.specs.declared.Edit.TheVariants.{MakeCue, DeleteCue, Set, SetGroup, Release, Time, AddPart, DeletePart, Block, Unblock}
+use Rattle.lx_spec.specs.declared.Edit.TheVariants.{Follow, Name}
 use Rattle.lx_spec.specs.declared.Command.{Command}
 use Rattle.lx_spec.specs.declared.Command.TheVariants as commands
 use Rattle.lx_spec.specs.declared.Line.{Line}
