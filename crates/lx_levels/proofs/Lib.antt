@@ -3,4 +3,5 @@ pub mod Exchanged
 pub mod UnderWay
 pub mod Begun
 pub mod Added
+pub mod Recalled
 pub mod Stands

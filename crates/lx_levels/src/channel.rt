@@ -1,45 +1,72 @@
 //! The fades of one channel over runs.
 
-ghost use Rattle.std.specs.Prelude.{◌≡◌, ℕ, ◌+◌, ◌<◌, ◌≤◌, length, reverse};
+ghost use Rattle.std.specs.Prelude.{◌≡◌, ℕ, ◌+◌, ◌<◌, ◌≤◌, true, length, reverse};
 ghost use Rattle.std.specs.List.{All};
 ghost use Rattle.lx_base.specs.declared.TheConstants.{RUNS, TICK_END};
 ghost use Rattle.lx_spec.specs.TrackedLevel.{tracked};
-ghost use Rattle.lx_spec.specs.Level.{level, run_over};
+ghost use Rattle.lx_spec.specs.Run.{entry_for, entry_extent};
+ghost use Rattle.lx_spec.specs.Level.{last_cue, level, run_over};
 ghost use Rattle.lx_sheet.specs.Standing.{StandsFor as RowsStandFor};
 ghost use Rattle.lx_playback.specs.Valid.{ValidRun};
 ghost use Rattle.lx_levels.specs.Stacks.{level_in};
 
-use crate::runs::{acts, delay_of, entry_for, time_of};
+use crate::runs::{acts, delay_of, entry_for, extent_of, time_of};
 use crate::stack::Stack;
-use lx_base::{Chan, CueNo, Level};
+use lx_base::{Chan, CueNo, Level, Moment};
 use lx_playback::Run;
 use lx_sheet::Sheet;
 use lx_show::Show;
 
-/// Fills in the fades of the channel over the base and the live runs, the newest last.
+/// Fills in the fades of the channel over the base and the live runs, the newest last, for the moments from
+/// the one given on. What is older than a run whose fade is over by then isn't looked at.
 pub(crate) fn fill_stack(
     stack: &mut Stack,
     show: &Show,
     sheet: &Sheet,
     base: CueNo,
     live: &[Run],
+    from: Moment,
     c: Chan,
 )
     requires rows { RowsStandFor show.now sheet.now }
     requires few { length live.now ≤ RUNS }
     requires runs { All (ValidRun TICK_END) live.now }
-    ensures level { (m : ℕ) → level_in stack.new m ≡ level show.now base (reverse live.now) c m }
+    ensures level { (m : ℕ) → from ≤ m → level_in stack.new m ≡ level show.now base (reverse live.now) c m }
     ensures few { length stack.new.fades ≤ length live.now }
 {
-    stack.restart(sheet.level_at(base, c));
-    let mut looks = sheet.level_at(base, c);
-    for run in live {
-        let target = sheet.level_at(run.cue, c);
-        if acts(show, run, c, looks, target) {
-            push_run(stack, show, run, c, target);
-        }
-        looks = target;
+    let Some((run, older)) = live.split_last() else {
+        stack.restart(sheet.level_at(base, c));
+        return;
+    };
+    let looks = sheet.level_at(last_cue(base, older), c);
+    let target = sheet.level_at(run.cue, c);
+    if !acts(show, run, c, looks, target) {
+        fill_stack(stack, show, sheet, base, older, from, c);
+    } else if is_over(show, run, c, from) {
+        stack.restart(target);
+    } else {
+        fill_stack(stack, show, sheet, base, older, from.min(run.start), c);
+        push_run(stack, show, run, c, target);
     }
+}
+
+/// The cue of the newest run, or the base.
+pub(crate) fn last_cue(base: CueNo, live: &[Run]) -> CueNo
+    ensures { result ≡ last_cue base (reverse live.now) }
+{
+    match live.last() {
+        Some(run) => run.cue,
+        None => base,
+    }
+}
+
+/// A run that acts on the channel has brought it to its target by the moment, whichever way it goes.
+fn is_over(show: &Show, run: &Run, c: Chan, m: Moment) -> bool
+    requires run { ValidRun TICK_END run.now }
+    ensures { result ≡ true → run.now.start + entry_extent (entry_for show.now run.now c) ≤ m }
+{
+    let entry = entry_for(show, run, c);
+    run.start + extent_of(&entry) <= m
 }
 
 /// Pushes the fade of a run that acts on the channel. It begins when the delay is over, at the level

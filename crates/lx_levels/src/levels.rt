@@ -149,7 +149,15 @@ impl Levels {
     {
         let k = chan.get() as usize - 1;
         let stack = &mut self.stacks[k];
-        fill_stack(stack, show, sheet, playback.base(), playback.live(), chan);
+        fill_stack(
+            stack,
+            show,
+            sheet,
+            playback.base(),
+            playback.live(),
+            self.moment,
+            chan,
+        );
         refresh(
             k,
             self.moment,
