@@ -13,6 +13,7 @@ ghost use Rattle.lx_levels.specs.Stacks.{level_in};
 use crate::runs::{acts, delay_of, entry_for, extent_of, time_of};
 use crate::stack::Stack;
 use lx_base::{Chan, CueNo, Level, Moment};
+use lx_fade::Fade;
 use lx_playback::Run;
 use lx_sheet::Sheet;
 use lx_show::Show;
@@ -38,15 +39,15 @@ pub(crate) fn fill_stack(
         stack.restart(sheet.level_at(base, c));
         return;
     };
-    let looks = sheet.level_at(last_cue(base, older), c);
     let target = sheet.level_at(run.cue, c);
+    let looks = sheet.level_at(last_cue(base, older), c);
     if !acts(show, run, c, looks, target) {
         fill_stack(stack, show, sheet, base, older, from, c);
     } else if is_over(show, run, c, from) {
         stack.restart(target);
     } else {
         fill_stack(stack, show, sheet, base, older, from.min(run.start), c);
-        push_run(stack, show, run, c, target);
+        push_run(stack, show, run, c, target, from);
     }
 }
 
@@ -70,16 +71,35 @@ fn is_over(show: &Show, run: &Run, c: Chan, m: Moment) -> bool
 }
 
 /// Pushes the fade of a run that acts on the channel. It begins when the delay is over, at the level
-/// that the channel has then over the older runs.
-pub(crate) fn push_run(stack: &mut Stack, show: &Show, run: &Run, c: Chan, target: Level)
+/// that the channel has then over the older runs; of those nothing is kept where it begins at once.
+/// The levels are right from a moment on.
+pub(crate) fn push_run(
+    stack: &mut Stack,
+    show: &Show,
+    run: &Run,
+    c: Chan,
+    target: Level,
+    from: Moment,
+)
     requires target { target ≡ tracked show.now run.now.cue c }
     requires room { length stack.old.fades < RUNS }
     requires run { ValidRun TICK_END run.now }
-    ensures level { (m : ℕ) → level_in stack.new m ≡ run_over show.now (level_in stack.old) run.now c m }
+    ensures level { (m : ℕ) → from ≤ m → level_in stack.new m ≡ run_over show.now (level_in stack.old) run.now c m }
     ensures few { length stack.new.fades ≤ length stack.old.fades + 1 }
 {
     let entry = entry_for(show, run, c);
-    let rising = stack.value(run.start) <= target;
-    let start = run.start + delay_of(&entry, rising);
-    stack.push(start, time_of(&entry, rising), target);
+    let before = stack.value(run.start);
+    let rising = before <= target;
+    let delay = delay_of(&entry, rising);
+    let time = time_of(&entry, rising);
+    if delay == 0 && run.start <= from {
+        stack.begin(Fade {
+            start: run.start,
+            time,
+            from: before,
+            target,
+        });
+    } else {
+        stack.push(run.start + delay, time, target);
+    }
 }

@@ -24,13 +24,17 @@ pub(crate) fn acts(show: &Show, run: &Run, c: Chan, looks: Level, target: Level)
 }
 
 /// The entry whose times the run takes for the channel: the one that it captured of the part of its
-/// cue's move, or else its first.
+/// cue's move, or else its first. Of a run of one part no move is looked up.
 pub(crate) fn entry_for(show: &Show, run: &Run, c: Chan) -> PartTimes
     ensures { result ≡ entry_for show.now run.now c }
 {
+    let entries = run.parts.as_slice();
+    if entries.len() < 2 {
+        return first_entry(entries);
+    }
     match captured_for(show, run, c) {
         Some(entry) => entry,
-        None => first_entry(run.parts.as_slice()),
+        None => first_entry(entries),
     }
 }
 
