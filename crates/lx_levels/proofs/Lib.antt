@@ -5,3 +5,4 @@ pub mod Begun
 pub mod Added
 pub mod Recalled
 pub mod Stands
+pub mod Found

@@ -10,7 +10,8 @@ ghost use Rattle.lx_sheet.specs.Standing.{StandsFor as RowsStandFor};
 ghost use Rattle.lx_playback.specs.Valid.{ValidRun};
 ghost use Rattle.lx_levels.specs.Stacks.{level_in};
 
-use crate::runs::{acts, delay_of, entry_for, extent_of, time_of};
+use crate::hints::acts_by_hint;
+use crate::runs::{delay_of, entry_for, extent_of, time_of};
 use crate::stack::Stack;
 use lx_base::{Chan, CueNo, Level, Moment};
 use lx_fade::Fade;
@@ -19,7 +20,8 @@ use lx_sheet::Sheet;
 use lx_show::Show;
 
 /// Fills in the fades of the channel over the base and the live runs, the newest last, for the moments from
-/// the one given on. What is older than a run whose fade is over by then isn't looked at.
+/// the one given on. What is older than a run whose fade is over by then isn't looked at. The hints are where
+/// the cues of the runs were found last.
 pub(crate) fn fill_stack(
     stack: &mut Stack,
     show: &Show,
@@ -28,25 +30,51 @@ pub(crate) fn fill_stack(
     live: &[Run],
     from: Moment,
     c: Chan,
+    hints: &mut [u16],
 )
     requires rows { RowsStandFor show.now sheet.now }
     requires few { length live.now ≤ RUNS }
     requires runs { All (ValidRun TICK_END) live.now }
+    requires hints { length hints.old ≡ RUNS }
+    ensures level { (m : ℕ) → from ≤ m → level_in stack.new m ≡ level show.now base (reverse live.now) c m }
+    ensures few { length stack.new.fades ≤ length live.now }
+{
+    let target = sheet.level_at(last_cue(base, live), c);
+    fill_from(stack, show, sheet, base, live, target, from, c, hints);
+}
+
+/// The same, where the channel's tracked level at the position is known.
+fn fill_from(
+    stack: &mut Stack,
+    show: &Show,
+    sheet: &Sheet,
+    base: CueNo,
+    live: &[Run],
+    target: Level,
+    from: Moment,
+    c: Chan,
+    hints: &mut [u16],
+)
+    requires rows { RowsStandFor show.now sheet.now }
+    requires few { length live.now ≤ RUNS }
+    requires runs { All (ValidRun TICK_END) live.now }
+    requires target { target ≡ tracked show.now (last_cue base (reverse live.now)) c }
+    requires hints { length hints.old ≡ RUNS }
     ensures level { (m : ℕ) → from ≤ m → level_in stack.new m ≡ level show.now base (reverse live.now) c m }
     ensures few { length stack.new.fades ≤ length live.now }
 {
     let Some((run, older)) = live.split_last() else {
-        stack.restart(sheet.level_at(base, c));
+        stack.restart(target);
         return;
     };
-    let target = sheet.level_at(run.cue, c);
     let looks = sheet.level_at(last_cue(base, older), c);
-    if !acts(show, run, c, looks, target) {
-        fill_stack(stack, show, sheet, base, older, from, c);
+    if !acts_by_hint(show, run, c, looks, target, &mut hints[older.len()]) {
+        fill_from(stack, show, sheet, base, older, looks, from, c, hints);
     } else if is_over(show, run, c, from) {
         stack.restart(target);
     } else {
-        fill_stack(stack, show, sheet, base, older, from.min(run.start), c);
+        let earlier = from.min(run.start);
+        fill_from(stack, show, sheet, base, older, looks, earlier, c, hints);
         push_run(stack, show, run, c, target, from);
     }
 }

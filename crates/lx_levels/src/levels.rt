@@ -22,7 +22,7 @@ use crate::motion::{advance, refresh, retire};
 use crate::roster::Roster;
 use crate::runs::acts;
 use crate::stack::Stack;
-use lx_base::{CHANNELS, Chan, CueNo, Level, Moment};
+use lx_base::{CHANNELS, Chan, CueNo, Level, Moment, RUNS};
 use lx_playback::{Playback, Run};
 use lx_sheet::Sheet;
 use lx_show::Show;
@@ -43,17 +43,19 @@ pub struct Levels {
     levels: Vec<Level>,
     /// The channels that are under way: their level changes yet, or a fade waits.
     roster: Roster,
+    /// Where the cue of each live run was found last among the cues.
+    hints: Vec<u16>,
 }
 
 impl Model for Levels {
     ghost use Rattle.lx_levels.specs.Stacks.{Kept};
-    ghost use Rattle.lx_levels.specs.Moving.{IsRight};
+    ghost use Rattle.lx_levels.specs.Moving.{IsReady};
 
     ghost Value = { Kept };
 
     ghost view = { λ l. record { moment = l.moment; stacks = l.stacks.items } };
 
-    ghost invariant = { λ l. IsRight l.moment l.roster l.stacks.items l.currents.items l.levels.items };
+    ghost invariant = { λ l. IsReady l.moment l.roster l.stacks.items l.currents.items l.levels.items l.hints.items };
 }
 
 impl Levels {
@@ -73,6 +75,7 @@ impl Levels {
             currents: vec![in alloc; Current::still(0, NEVER); channels]?,
             levels: vec![in alloc; 0; channels]?,
             roster: Roster::open(alloc, channels)?,
+            hints: vec![in alloc; 0; RUNS]?,
         })
     }
 
@@ -161,6 +164,7 @@ impl Levels {
             playback.live(),
             self.moment,
             chan,
+            &mut self.hints,
         );
         refresh(
             k,
