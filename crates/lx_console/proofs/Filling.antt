@@ -1,19 +1,18 @@
 -- A stage is filled in when its outputs and slots are mixed from the levels and from what the submasters give.
-use Rattle.std.specs.Prelude.{◌≡◌, ℕ, ◌+◌, ◌<◌, ◌≤◌, max, List, length, take, drop, ◌++◌}
+use Rattle.std.specs.Prelude.{◌≡◌, ℕ, ◌+◌, ◌<◌, max, List, length, take, drop, ◌++◌}
 use Rattle.std.proofs.Common.{arith, ap, ◌∙◌, sym}
 use Rattle.std.proofs.lemmas.Grind.{common_steps}
 use Rattle.lx_base.specs.Numbers.{scaled}
-use Rattle.lx_spec.specs.Level.{level}
 use Rattle.lx_spec.specs.Playback.{Playback}
 use Rattle.lx_spec.specs.Output.{contribution}
 use Rattle.lx_spec.specs.Kept.{Kept}
 use Rattle.lx_mixer.specs.Table.{IsTable}
-use Rattle.lx_mixer.proofs.Tables.{mixed, table_of_same}
+use Rattle.lx_mixer.proofs.Tables.{mixed}
 use Rattle.lx_levels.specs.Stacks.{Kept as Levels, level_at}
 use Rattle.lx_levels.specs.Standing.{LevelsStandFor}
 use Rattle.lx_levels.proofs.Stands.{kept_level}
 use Rattle.lx_console.specs.declared.stage.Stage.{Stage}
-use Rattle.lx_console.specs.Standing.{level_now, out_now}
+use Rattle.lx_console.specs.Standing.{level_now}
 use Rattle.lx_console.specs.Filled.{IsFilled, IsMixed}
 
 -- a list written over the whole of another is itself

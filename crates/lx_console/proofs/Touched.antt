@@ -1,7 +1,6 @@
 -- What an edit leaves of a stage as it was.
 use Rattle.std.specs.Prelude.{◌≡◌, ◌≢◌, ℕ, ◌+◌, ◌<◌, max, refl, Bool, false, Option, Some, None, List, length}
 use Rattle.std.proofs.Common.{arith, ap, sym, subst, ◌∙◌}
-use Rattle.lx_base.specs.declared.TheConstants.{SLOTS}
 use Rattle.lx_base.specs.Numbers.{scaled}
 use Rattle.lx_spec.specs.declared.PatchRow.{PatchRow}
 use Rattle.lx_spec.specs.SortedList.{entry_at}
@@ -114,6 +113,10 @@ touched_patch show after plan dimmer stage stands is names = record {
   stands = stands;
   others = λ e other. ap (λ (s : Show). entry_at (λ row. row.dimmer) e s.patch) is ∙ other_rows show plan e (λ same. other (names ∙ same));
 }
+
+-- where it touched none, the slots are those of its outputs still
+pub same_slots : (show after : Show) (plan : Plan) (dimmer : Option ℕ) (stage : Stage) → SlotsStand show.patch stage → after ≡ planned show plan → dimmer ≡ dimmer_planned plan → dimmer ≡ None → SlotsStand after.patch stage
+same_slots show after plan dimmer stage stand is names none = subst (λ (rows : List PatchRow). SlotsStand rows stage) (sym (ap (λ (s : Show). s.patch) is ∙ same_patch show plan (sym names ∙ none))) stand
 
 -- a stage that was filled in is so still, where the plan touched nothing that it depends on
 pub untouched : (k : Kept) (after : Show) (plan : Plan) (dirty : Dirty) (stage : Stage) → IsFilled k stage → after ≡ planned k.show plan → KeepsOthers k.show after dirty.chans → dirty.dimmer ≡ dimmer_planned plan → dirty.subs ≡ plans_sub plan → IsClean dirty → IsFilled (record k { show = after }) stage

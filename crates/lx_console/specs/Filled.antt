@@ -22,6 +22,7 @@ use Rattle.lx_console.specs.Standing.{out_now}
 -- a place for each channel and for each dimmer
 pub record Reaches (channels : ℕ) (stage : Stage) : Type 0 where
   pub outs_reach : length stage.outs.items ≡ channels
+  pub mixed_reach : length stage.mixed.items ≡ channels
   pub slots_reach : length stage.slots.items ≡ SLOTS
 
 -- the slots are those of the outputs

@@ -1,5 +1,5 @@
 -- What keys and ticks do to the live runs.
-use Rattle.std.specs.Prelude.{◌≡◌, ◌≤◌, Bool, true, false, List, [], ◌∷◌}
+use Rattle.std.specs.Prelude.{◌≡◌, ◌≤◌, Bool, true, false, [], ◌∷◌}
 use Rattle.lx_spec.specs.Show.{Show}
 use Rattle.lx_spec.specs.Run.{Run}
 use Rattle.lx_spec.specs.Playback.{Playback}

@@ -269,7 +269,7 @@ impl Console {
             &self.sheet,
         )? {
             self.stage
-                .fill(self.levels.row(), &self.show, &self.rack, self.master);
+                .refill(self.levels.row(), &self.show, &self.rack, self.master);
         }
         Ok(())
     }
@@ -288,7 +288,7 @@ impl Console {
             key,
         )?;
         self.stage
-            .fill(self.levels.row(), &self.show, &self.rack, self.master);
+            .refill(self.levels.row(), &self.show, &self.rack, self.master);
         Ok(())
     }
 
@@ -305,7 +305,7 @@ impl Console {
         }
         self.rack.set_fader(&self.show, sub, level);
         self.stage
-            .fill(self.levels.row(), &self.show, &self.rack, self.master);
+            .refill(self.levels.row(), &self.show, &self.rack, self.master);
         Ok(())
     }
 
@@ -315,6 +315,6 @@ impl Console {
     {
         self.master = level;
         self.stage
-            .fill(self.levels.row(), &self.show, &self.rack, self.master);
+            .refill(self.levels.row(), &self.show, &self.rack, self.master);
     }
 }

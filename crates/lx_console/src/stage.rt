@@ -1,9 +1,9 @@
 //! What a console keeps filled in for its channels and dimmers.
 
-ghost use Rattle.std.specs.Prelude.{◌≡◌, Some, false, length, IfOk};
+ghost use Rattle.std.specs.Prelude.{◌≡◌, Some, None, false, length, IfOk};
 ghost use Rattle.lx_patch.specs.DimmerTable.{StandsForPatch};
 ghost use Rattle.lx_subs.specs.Faders.{StandsForSubs};
-ghost use Rattle.lx_console.specs.Filled.{Reaches, IsMixed, IsPatchedBut, IsClean};
+ghost use Rattle.lx_console.specs.Filled.{Reaches, SlotsStand, IsMixed, IsPatchedBut, IsClean};
 
 use lx_base::{Dimmer, Level, SLOTS};
 use lx_edit::{ChanSet, Dirty};
@@ -18,6 +18,8 @@ use std::alloc::{AllocError, Global};
 pub(crate) struct Stage {
     /// What each channel puts out.
     pub(crate) outs: Vec<Level>,
+    /// Where outputs are mixed, to be compared with those before.
+    pub(crate) mixed: Vec<Level>,
     /// The patch of each dimmer.
     pub(crate) table: PatchTable,
     /// The slot of each dimmer.
@@ -33,12 +35,13 @@ impl Stage {
         let channels = show.channels() as usize;
         Ok(Stage {
             outs: vec![in alloc; 0; channels]?,
+            mixed: vec![in alloc; 0; channels]?,
             table: PatchTable::open(alloc, show)?,
             slots: vec![in alloc; 0; SLOTS]?,
         })
     }
 
-    /// Fills in what an edit touched, and the outputs and slots.
+    /// Fills in what an edit touched: all slots where it was a dimmer, and else those whose outputs changed.
     pub(crate) fn mend(
         &mut self,
         levels: &[Level],
@@ -51,10 +54,15 @@ impl Stage {
         requires subs { length rack.now.given ≡ show.now.channels }
         requires reaches { Reaches show.now.channels self.old }
         requires patch { IsPatchedBut show.now.patch dimmer self.old.table }
+        requires slots { dimmer ≡ None → SlotsStand show.now.patch self.old }
         ensures { IsMixed levels.now show.now rack.now.given master self.new }
     {
-        self.mend_patch(show, dimmer);
-        self.fill(levels, show, rack, master);
+        if let Some(dimmer) = dimmer {
+            mend_row(&mut self.table, show, dimmer);
+            self.fill(levels, show, rack, master);
+        } else {
+            self.refill(levels, show, rack, master);
+        }
     }
 
     /// Takes up the show's patch.
@@ -64,18 +72,6 @@ impl Stage {
         ensures patch { StandsForPatch show.now.patch self.new.table }
     {
         self.table.refresh(show);
-    }
-
-    /// Takes up the dimmer's row, if there is a dimmer: the other rows stand already.
-    fn mend_patch(&mut self, show: &Show, dimmer: Option<Dimmer>)
-        requires reaches { Reaches show.now.channels self.old }
-        requires others { IsPatchedBut show.now.patch dimmer self.old.table }
-        ensures reaches { Reaches show.now.channels self.new }
-        ensures patch { StandsForPatch show.now.patch self.new.table }
-    {
-        if let Some(dimmer) = dimmer {
-            mend_row(&mut self.table, show, dimmer);
-        }
     }
 
     /// Fills in the outputs and the slots, from the levels and what the submasters give.
@@ -89,6 +85,21 @@ impl Stage {
         let _ = show.channels();
         mix_into(levels, rack.contribution(), master, &mut self.outs);
         self.table.frame_into(&self.outs, &mut self.slots);
+    }
+
+    /// Fills in the outputs, and the slots of those that changed: the slots were those of the outputs before.
+    pub(crate) fn refill(&mut self, levels: &[Level], show: &Show, rack: &SubRack, master: Level)
+        requires levels { length levels.now ≡ show.now.channels }
+        requires subs { length rack.now.given ≡ show.now.channels }
+        requires reaches { Reaches show.now.channels self.old }
+        requires patch { StandsForPatch show.now.patch self.old.table }
+        requires slots { SlotsStand show.now.patch self.old }
+        ensures { IsMixed levels.now show.now rack.now.given master self.new }
+    {
+        let _ = show.channels();
+        mix_into(levels, rack.contribution(), master, &mut self.mixed);
+        self.table.follow(&self.outs, &self.mixed, &mut self.slots);
+        std::mem::swap(&mut self.outs, &mut self.mixed);
     }
 }
 

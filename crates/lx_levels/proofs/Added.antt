@@ -1,15 +1,17 @@
 -- A run that is added to levels which stood for the playback before it.
-use Rattle.std.specs.Prelude.{◌≡◌, ℕ, ◌+◌, ◌-◌, ◌<◌, ◌≤◌, Bool, true, false, cond, Some, List, [], ◌∷◌, length, reverse, refl}
+use Rattle.std.specs.Prelude.{◌≡◌, ℕ, ◌+◌, ◌-◌, ◌*◌, ◌/◌, ◌<◌, ◌≤◌, nat_lt, nat_le, Bool, true, false, cond, Some, List, [], ◌∷◌, length, reverse, refl}
 use Rattle.std.proofs.lemmas.List.{get_or-reverse, length-reverse}
 use Rattle.std.proofs.Common.{arith, get_or, ◌∙◌, ap, sym, subst, inl, inr}
 use Rattle.std.proofs.lemmas.Bool.{cases_eq}
 use Rattle.lx_spec.specs.Show.{Show}
-use Rattle.lx_spec.specs.Run.{Run, acts}
-use Rattle.lx_spec.specs.Level.{level, last_cue, run_over}
+use Rattle.lx_spec.specs.TrackedLevel.{tracked}
+use Rattle.lx_spec.specs.Run.{Run, acts, delay_of, time_of}
+use Rattle.lx_spec.specs.Level.{level, last_cue, run_over, fade_over, faded, moved_towards, rises_to}
 use Rattle.lx_spec.specs.Playback.{Playback}
 use Rattle.lx_spec.proofs.Rest.{same_run}
 use Rattle.lx_levels.proofs.Stands.{same_stack}
 use Rattle.lx_levels.specs.Stacks.{Kept, level_in, stack_of}
+use Rattle.lx_levels.specs.Moving.{IsStill}
 use Rattle.lx_levels.specs.Standing.{LevelsStandFor, StandsAt, StandsBefore, IsElsewhere, IsAdded}
 
 tails : {A : Type 0} (x y : A) (xs ys : List A) → x ∷ xs ≡ y ∷ ys → xs ≡ ys
@@ -61,7 +63,7 @@ at_place show p k i kept same stands = subst (StandsAt show p kept) (sym same) s
 -- the channel at the next place, where the run acts on it
 pub next_added : (show : Show) (p : Playback) (last : Run) (older : List Run) (k : ℕ) (before after : Kept)
     → p.live ≡ last ∷ older → last.start ≡ p.moment → acts show (last_cue p.base older) last (k + 1) ≡ true → k < show.channels
-    → ((x : ℕ) → level_in (stack_of after k) x ≡ run_over show (level_in (stack_of before k)) last (k + 1) x) → length (stack_of after k).fades ≤ length (stack_of before k).fades + 1
+    → ((x : ℕ) → p.moment ≤ x → level_in (stack_of after k) x ≡ run_over show (level_in (stack_of before k)) last (k + 1) x) → length (stack_of after k).fades ≤ length (stack_of before k).fades + 1
     → IsElsewhere k before after → IsAdded show p older k before → IsAdded show p older (k + 1) after
 next_added show p last older k before after is starts acts_on within gives few elsewhere added = record {
   moment = elsewhere.moment ∙ added.moment;
@@ -78,7 +80,7 @@ next_added show p last older k before after is starts acts_on within gives few e
   here : StandsAt show p after k
   here = record {
     later = λ x from.
-        gives x
+        gives x from
         ∙ same_run show (level_in (stack_of before k)) (level show p.base older (k + 1)) last (k + 1) p.moment x old.later (omega (arith, starts)) from
         ∙ sym (level_added show p last older (k + 1) x is acts_on);
     few = omega (arith, few, old.few, live_count p last older is);
@@ -105,20 +107,76 @@ next_passed show p last older k kept is not_on within added = record {
     few = omega (arith, old.few, live_count p last older is);
   }
 
-Given : (show : Show) (before after : Kept) (place c : ℕ) (run : Run) → Type 0
-Given show before after place c run = ((x : ℕ) → level_in (stack_of after place) x ≡ run_over show (level_in (stack_of before place)) run c x) × (length (stack_of after place).fades ≤ length (stack_of before place).fades + 1) × IsElsewhere place before after
+-- a channel that stays at a level does so over a run to that level
+faded_nowhere : (v gone time : ℕ) → faded v v gone time ≡ v
+faded_nowhere v gone time = elim (nat_le time gone) as (λ b. cond b v (moved_towards v v gone time) ≡ v) [ true ↦ refl | false ↦ moved ] where
+  moved : moved_towards v v gone time ≡ v
+  moved = elim (nat_le v v) as (λ b. cond b (v - (v - v) * gone / time) (v + (v - v) * gone / time) ≡ v) [ true ↦ less | false ↦ more ] where
+    none : (v - v) * gone / time ≡ 0
+    none = ap (λ d. d * gone / time) (let e : v - v ≡ 0 = omega arith in e) ∙ grind arith
+
+    less : v - (v - v) * gone / time ≡ v
+    less = omega (arith, none)
+
+    more : v + (v - v) * gone / time ≡ v
+    more = omega (arith, none)
+
+run_nowhere : (show : Show) (before : ℕ → ℕ) (run : Run) (c from x v : ℕ) → ((y : ℕ) → from ≤ y → before y ≡ v) → from ≤ run.start → from ≤ x → tracked show run.cue c ≡ v → run_over show before run c x ≡ v
+run_nowhere show before run c from x v still starts late target = over (rises_to show before run c) where
+  over : (b : Bool) → fade_over before (run.start + delay_of show run c b) (time_of show run c b) (tracked show run.cue c) x ≡ v
+  over b =
+      ap (λ (t : ℕ). fade_over before (run.start + delay_of show run c b) (time_of show run c b) t x) target
+      ∙ elim (nat_lt x (run.start + delay_of show run c b)) as (λ t. cond t (before x) (faded (before (run.start + delay_of show run c b)) v (x - (run.start + delay_of show run c b)) (time_of show run c b)) ≡ v) [
+        | true ↦ still x late
+        | false ↦
+            ap (λ l. faded l v (x - (run.start + delay_of show run c b)) (time_of show run c b)) (still (run.start + delay_of show run c b) (omega arith))
+            ∙ faded_nowhere v (x - (run.start + delay_of show run c b)) (time_of show run c b)
+      ]
+
+pub still_added : (show : Show) (p : Playback) (last : Run) (older : List Run) (k v : ℕ) (kept : Kept)
+    → p.live ≡ last ∷ older → last.start ≡ p.moment → k < show.channels → tracked show last.cue (k + 1) ≡ v → IsStill p.moment (stack_of kept k) v
+    → IsAdded show p older k kept → IsAdded show p older (k + 1) kept
+still_added show p last older k v kept is starts within target still added = record {
+  moment = added.moment;
+  reach = added.reach;
+  done = λ i below. elim (cases_eq i k) [
+    | inl same ↦ at_place show p k i kept same here
+    | inr other ↦ added.done i (omega (arith, other))
+  ];
+  left = λ i past in_show. added.left i (omega arith) in_show;
+} where
+  old : StandsAt show (record p { live = older }) kept k
+  old = added.left k (omega arith) within
+
+  level_stays : (x : ℕ) → p.moment ≤ x → level show p.base older (k + 1) x ≡ v
+  level_stays x from = sym (old.later x from) ∙ still x from
+
+  here : StandsAt show p kept k
+  here = record {
+    later = λ x from.
+        still x from
+        ∙ sym (ap (λ (runs : List Run). level show p.base runs (k + 1) x) is
+        ∙ (elim (acts show (last_cue p.base older) last (k + 1)) as (λ b. cond b (run_over show (level show p.base older (k + 1)) last (k + 1) x) (level show p.base older (k + 1) x) ≡ v) [
+          | true ↦ run_nowhere show (level show p.base older (k + 1)) last (k + 1) p.moment x v level_stays (omega (arith, starts)) from target
+          | false ↦ level_stays x from
+        ]));
+    few = omega (arith, old.few, live_count p last older is);
+  }
+
+Given : (show : Show) (before after : Kept) (from place c : ℕ) (run : Run) → Type 0
+Given show before after from place c run = ((x : ℕ) → from ≤ x → level_in (stack_of after place) x ≡ run_over show (level_in (stack_of before place)) run c x) × (length (stack_of after place).fades ≤ length (stack_of before place).fades + 1) × IsElsewhere place before after
 
 -- the same of a run and a channel that are named otherwise
 pub channel_added : (show : Show) (p : Playback) (last run : Run) (older : List Run) (k c : ℕ) (before after : Kept)
     → p.live ≡ last ∷ older → last.start ≡ p.moment → c ≡ k + 1 → run ≡ last → acts show (last_cue p.base older) run c ≡ true → k < show.channels
-    → ((x : ℕ) → level_in (stack_of after (c - 1)) x ≡ run_over show (level_in (stack_of before (c - 1))) run c x) → length (stack_of after (c - 1)).fades ≤ length (stack_of before (c - 1)).fades + 1
+    → ((x : ℕ) → p.moment ≤ x → level_in (stack_of after (c - 1)) x ≡ run_over show (level_in (stack_of before (c - 1))) run c x) → length (stack_of after (c - 1)).fades ≤ length (stack_of before (c - 1)).fades + 1
     → IsElsewhere (c - 1) before after → IsAdded show p older k before → IsAdded show p older (k + 1) after
 unfolding Given
 channel_added show p last run older k c before after is starts c_is run_is acts_on within gives few elsewhere added =
     let place : c - 1 ≡ k = omega arith in
-    let at_place = subst (λ n. Given show before after n c run) place (gives, few, elsewhere) in
-    let at_channel = subst (λ n. Given show before after k n run) c_is at_place in
-    let at_run = subst (Given show before after k (k + 1)) run_is at_channel in
+    let at_place = subst (λ n. Given show before after p.moment n c run) place (gives, few, elsewhere) in
+    let at_channel = subst (λ n. Given show before after p.moment k n run) c_is at_place in
+    let at_run = subst (Given show before after p.moment k (k + 1)) run_is at_channel in
     let acts_here = subst (λ n. acts show (last_cue p.base older) run n ≡ true) c_is acts_on in
     next_added show p last older k before after is starts (subst (λ (r : Run). acts show (last_cue p.base older) r (k + 1) ≡ true) run_is acts_here) within at_run.0 at_run.1 at_run.2 added
 

@@ -3,4 +3,6 @@ pub mod Exchanged
 pub mod UnderWay
 pub mod Begun
 pub mod Added
+pub mod Recalled
 pub mod Stands
+pub mod Found

@@ -1,6 +1,8 @@
 -- Channels that are under way, as time goes on.
 use Rattle.std.specs.Prelude.{◌≡◌, ◌≢◌, ◌⊎◌, ℕ, ◌+◌, ◌<◌, ◌≤◌, Bool, true, false, not, eqb, nat_lt, List, length, slice_index_or}
-use Rattle.std.proofs.Common.{arith, get_or, set, get_or-set_other, refl, ◌∙◌, ap, sym, subst, inl, inr}
+use Rattle.std.proofs.Common.{arith, get_or, set, get_or-set_other, replicate, lit<, refl, ◌∙◌, ap, sym, subst, inl, inr}
+use Rattle.std.proofs.lemmas.List.{length-replicate, get_or-replicate}
+use Rattle.lx_base.specs.declared.TheConstants.{CHANNELS}
 use Rattle.std.proofs.Math.ListN.{length-set}
 use Rattle.std.proofs.lemmas.Bool.{cases_eq}
 use Rattle.std.proofs.lemmas.Bool.Decides.{nat_tests}
@@ -181,3 +183,27 @@ unchanged_next n k level before levels room same others i li = elim (cases_eq i 
 -- a level that isn't another is the same
 pub same_by_test : (b : Bool) (read level : ℕ) → b ≡ not (eqb read level) → b ≡ false → read ≡ level
 same_by_test b read level is still = grind (arith, nat_tests)
+
+-- at the opening each channel is still at 0
+pub opened_right : (on : Places) (stacks : List Stack) (currents : List Current) (levels : List ℕ) (n : ℕ)
+    → length on.order ≡ n → n ≤ CHANNELS → on.count ≡ 0 → length stacks ≡ n → length currents ≡ n → levels ≡ replicate n 0 → ((k : ℕ) → get_or stacks k no_stack ≡ no_stack)
+    → IsRight 0 on stacks currents levels
+opened_right on stacks currents levels n reach few none of_stacks of_currents zeros empty = record {
+  reaches = record {
+    few = omega (arith, reach);
+    of_stacks = of_stacks ∙ sym reach;
+    of_currents = of_currents ∙ sym reach;
+    of_levels = ap length zeros ∙ length-replicate {A = ℕ} n 0 ∙ sym reach;
+  };
+  begun = lit< tt;
+  told = λ k within. record {
+    moves = λ is. absurd (omega (arith, lt_from (get_or on.places k 0) on.count is, none));
+    still = λ off x from. at_zero k x ∙ sym (dark k (omega (arith, reach)));
+  };
+  now = λ k within. dark k (omega (arith, reach)) ∙ sym (at_zero k 0);
+} where
+  at_zero : (k x : ℕ) → level_in (get_or stacks k no_stack) x ≡ 0
+  at_zero k x = ap (λ (s : Stack). level_in s x) (empty k)
+
+  dark : (k : ℕ) → k < n → get_or levels k 0 ≡ 0
+  dark k within = ap (λ (ls : List ℕ). get_or ls k 0) zeros ∙ get_or-replicate {A = ℕ} n k 0 0 within

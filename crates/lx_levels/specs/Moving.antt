@@ -1,6 +1,6 @@
 -- Which fade gives a channel's level for how long.
 use Rattle.std.specs.Prelude.{◌≡◌, ◌≢◌, ◌⊎◌, ℕ, ◌<◌, ◌≤◌, true, false, List, length, slice_index, slice_index_or}
-use Rattle.lx_base.specs.declared.TheConstants.{CHANNELS}
+use Rattle.lx_base.specs.declared.TheConstants.{CHANNELS, RUNS}
 use Rattle.lx_fade.specs.Fades.{fade_at}
 use Rattle.lx_levels.specs.declared.current.TheConstants.{NEVER}
 use Rattle.lx_levels.specs.declared.current.Current.{Current}
@@ -37,6 +37,11 @@ pub record IsRight (m : ℕ) (on : Places) (stacks : List Stack) (currents : Lis
   pub begun : m < NEVER
   pub told : (k : ℕ) → k < length on.order → IsTold m on stacks currents levels k
   pub now : (k : ℕ) → k < length on.order → slice_index levels k ≡ level_in (slice_index_or stacks k no_stack) m
+
+-- and there is a hint for each run that may be live
+pub record IsReady (m : ℕ) (on : Places) (stacks : List Stack) (currents : List Current) (levels : List ℕ) (hints : List ℕ) : Type 0 where
+  pub right : IsRight m on stacks currents levels
+  pub room : length hints ≡ RUNS
 
 -- the same but for the channel at one place
 pub record IsRightBut (m place : ℕ) (on : Places) (stacks : List Stack) (currents : List Current) (levels : List ℕ) : Type 0 where

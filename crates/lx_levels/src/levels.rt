@@ -1,6 +1,6 @@
 //! Kept levels.
 
-ghost use Rattle.std.specs.Prelude.{◌≡◌, ◌≢◌, ℕ, ◌+◌, ◌-◌, ◌<◌, ◌≤◌, [], ◌∷◌, false, List, length, slice_index, slice_set, IfOk, IfSome};
+ghost use Rattle.std.specs.Prelude.{◌≡◌, ◌≢◌, ℕ, ◌+◌, ◌-◌, ◌<◌, ◌≤◌, [], ◌∷◌, true, false, List, length, slice_index, slice_set, IfOk, IfSome};
 ghost use Rattle.std.specs.Option.{option_copied};
 ghost use Rattle.lx_base.specs.declared.TheConstants.{RUNS, CHANNELS, TICK_END};
 ghost use Rattle.lx_spec.specs.Show.{Show as ShowData};
@@ -13,6 +13,7 @@ ghost use Rattle.lx_mixer.specs.Table.{IsTable};
 ghost use Rattle.lx_playback.specs.Valid.{ValidRun};
 ghost use Rattle.lx_levels.specs.declared.current.TheConstants.{NEVER};
 ghost use Rattle.lx_levels.specs.Stacks.{level_in, level_at, stack_of};
+ghost use Rattle.lx_levels.specs.Moving.{IsStill};
 ghost use Rattle.lx_levels.specs.Standing.{LevelsStandFor, StandsAt, StandsBefore, IsElsewhere};
 
 use crate::channel::{fill_stack, push_run};
@@ -21,7 +22,7 @@ use crate::motion::{advance, refresh, retire};
 use crate::roster::Roster;
 use crate::runs::acts;
 use crate::stack::Stack;
-use lx_base::{CHANNELS, Chan, CueNo, Level, Moment};
+use lx_base::{CHANNELS, Chan, CueNo, Level, Moment, RUNS};
 use lx_playback::{Playback, Run};
 use lx_sheet::Sheet;
 use lx_show::Show;
@@ -42,17 +43,19 @@ pub struct Levels {
     levels: Vec<Level>,
     /// The channels that are under way: their level changes yet, or a fade waits.
     roster: Roster,
+    /// Where the cue of each live run was found last among the cues.
+    hints: Vec<u16>,
 }
 
 impl Model for Levels {
     ghost use Rattle.lx_levels.specs.Stacks.{Kept};
-    ghost use Rattle.lx_levels.specs.Moving.{IsRight};
+    ghost use Rattle.lx_levels.specs.Moving.{IsReady};
 
     ghost Value = { Kept };
 
     ghost view = { λ l. record { moment = l.moment; stacks = l.stacks.items } };
 
-    ghost invariant = { λ l. IsRight l.moment l.roster l.stacks.items l.currents.items l.levels.items };
+    ghost invariant = { λ l. IsReady l.moment l.roster l.stacks.items l.currents.items l.levels.items l.hints.items };
 }
 
 impl Levels {
@@ -72,6 +75,7 @@ impl Levels {
             currents: vec![in alloc; Current::still(0, NEVER); channels]?,
             levels: vec![in alloc; 0; channels]?,
             roster: Roster::open(alloc, channels)?,
+            hints: vec![in alloc; 0; RUNS]?,
         })
     }
 
@@ -98,6 +102,9 @@ impl Levels {
         for k in 0..show.channels() as usize {
             let c = channel_at(k);
             let target = sheet.level_at(run.cue, c);
+            if self.stays_at(k, target) {
+                continue;
+            }
             if acts(show, run, c, sheet.level_at(from, c), target) {
                 self.add_run(show, run, c, target);
             }
@@ -149,7 +156,16 @@ impl Levels {
     {
         let k = chan.get() as usize - 1;
         let stack = &mut self.stacks[k];
-        fill_stack(stack, show, sheet, playback.base(), playback.live(), chan);
+        fill_stack(
+            stack,
+            show,
+            sheet,
+            playback.base(),
+            playback.live(),
+            self.moment,
+            chan,
+            &mut self.hints,
+        );
         refresh(
             k,
             self.moment,
@@ -162,19 +178,28 @@ impl Levels {
 }
 
 impl Levels {
+    /// The channel at the place is at the level, and nothing is under way there: whatever times a run to that
+    /// level has, it stays.
+    fn stays_at(&self, k: usize, level: Level) -> bool
+        requires { k < length self.now.stacks }
+        ensures { result ≡ true → IsStill self.now.moment (stack_of self.now k) level }
+    {
+        self.levels[k] == level && !self.roster.has(k)
+    }
+
     /// The fade of the run on the channel, on which it acts.
     fn add_run(&mut self, show: &Show, run: &Run, c: Chan, target: Level)
         requires within { c ≤ length self.old.stacks }
         requires target { target ≡ tracked show.now run.now.cue c }
         requires room { length (stack_of self.old (c - 1)).fades < RUNS }
         requires run { ValidRun TICK_END run.now }
-        ensures level { (x : ℕ) → level_in (stack_of self.new (c - 1)) x ≡ run_over show.now (level_in (stack_of self.old (c - 1))) run.now c x }
+        ensures level { (x : ℕ) → self.old.moment ≤ x → level_in (stack_of self.new (c - 1)) x ≡ run_over show.now (level_in (stack_of self.old (c - 1))) run.now c x }
         ensures few { length (stack_of self.new (c - 1)).fades ≤ length (stack_of self.old (c - 1)).fades + 1 }
         ensures others { IsElsewhere (c - 1) self.old self.new }
     {
         let k = c.get() as usize - 1;
         let stack = &mut self.stacks[k];
-        push_run(stack, show, run, c, target);
+        push_run(stack, show, run, c, target, self.moment);
         refresh(
             k,
             self.moment,

@@ -3,6 +3,7 @@
 
 mod channel;
 mod current;
+mod hints;
 mod levels;
 mod motion;
 mod roster;

@@ -64,6 +64,14 @@ impl Roster {
         self.order[j] as usize
     }
 
+    /// The channel is on the list.
+    pub(crate) fn has(&self, k: usize) -> bool
+        requires { k < length self.now.order }
+        ensures { result ≡ is_on self.now k }
+    {
+        (self.places[k] as usize) < self.count
+    }
+
     /// The channel is on the list, if it wasn't.
     pub(crate) fn insert(&mut self, k: usize)
         requires { k < length self.old.order }

@@ -1,11 +1,12 @@
 //! What a run is to one channel: whether it acts on it, and with which times.
 
-ghost use Rattle.std.specs.Prelude.{◌≡◌, ℕ, ◌==◌, option_and_then, if◌then◌else◌};
+ghost use Rattle.std.specs.Prelude.{◌≡◌, ℕ, ◌*◌, ◌≤◌, ◌==◌, option_and_then, if◌then◌else◌};
+ghost use Rattle.lx_base.specs.declared.TheConstants.{TIME_MAX};
 ghost use Rattle.std.specs.Option.{option_copied};
 ghost use Rattle.lx_spec.specs.SortedList.{entry_at};
 ghost use Rattle.lx_spec.specs.Show.{IsTime};
 ghost use Rattle.lx_spec.specs.TrackedLevel.{tracked, move_of};
-ghost use Rattle.lx_spec.specs.Run.{acts, entry_for, first_entry};
+ghost use Rattle.lx_spec.specs.Run.{acts, entry_for, entry_extent, first_entry};
 ghost use Rattle.lx_playback.specs.Valid.{ValidTimes};
 
 use lx_base::{Chan, Cs, Level, PartNo};
@@ -23,13 +24,17 @@ pub(crate) fn acts(show: &Show, run: &Run, c: Chan, looks: Level, target: Level)
 }
 
 /// The entry whose times the run takes for the channel: the one that it captured of the part of its
-/// cue's move, or else its first.
+/// cue's move, or else its first. Of a run of one part no move is looked up.
 pub(crate) fn entry_for(show: &Show, run: &Run, c: Chan) -> PartTimes
     ensures { result ≡ entry_for show.now run.now c }
 {
+    let entries = run.parts.as_slice();
+    if entries.len() < 2 {
+        return first_entry(entries);
+    }
     match captured_for(show, run, c) {
         Some(entry) => entry,
-        None => first_entry(run.parts.as_slice()),
+        None => first_entry(entries),
     }
 }
 
@@ -93,4 +98,15 @@ pub(crate) fn delay_of(entry: &PartTimes, rising: bool) -> Cs
     } else {
         entry.down_delay
     }
+}
+
+/// How long a channel takes to come to its target at most, whichever way it goes.
+pub(crate) fn extent_of(entry: &PartTimes) -> Cs
+    requires { ValidTimes entry.now }
+    ensures extent { result ≡ entry_extent entry.now }
+    ensures most { result ≤ 2 * TIME_MAX }
+{
+    let up = entry.up_delay + entry.up;
+    let down = entry.down_delay + entry.down;
+    up.max(down)
 }

@@ -9,7 +9,7 @@ use Rattle.lx_base.specs.declared.TheConstants.{SLOTS}
 use Rattle.lx_spec.specs.declared.PatchRow.{PatchRow}
 use Rattle.lx_spec.specs.SortedList.{entry_at, placed, taken_out}
 use Rattle.lx_mixer.proofs.Tables.{table_of_same, table-set}
-use Rattle.lx_patch.specs.DimmerTable.{DimmerTable, place_of, proportion_of, StandsForPatch}
+use Rattle.lx_patch.specs.DimmerTable.{DimmerTable, IsWired, place_of, proportion_of, StandsForPatch}
 use Rattle.lx_spec.proofs.Comparisons.{and_known, eq_other, eq_true}
 use Rattle.lx_spec.proofs.Lists.{each, find_both, find_none, passes}
 use Rattle.lx_spec.proofs.SortedLists.{entry_at-placed_here, entry_at-placed_other}
@@ -19,6 +19,14 @@ pub stands_for_none : StandsForPatch [] (record { places = replicate SLOTS 0; le
 stands_for_none = record {
   places = record { reach = length-replicate {A = ℕ} SLOTS 0; each = λ k within. get_or-replicate {A = ℕ} SLOTS k 0 0 within };
   levels = record { reach = length-replicate {A = ℕ} SLOTS 0; each = λ k within. get_or-replicate {A = ℕ} SLOTS k 0 0 within };
+}
+
+-- neither is it when every place and level is 0
+pub wired_none : (places levels : List ℕ) → places ≡ replicate SLOTS 0 → levels ≡ replicate SLOTS 0 → IsWired places levels
+wired_none places levels places_are levels_are = record {
+  places_reach = ap length places_are ∙ length-replicate {A = ℕ} SLOTS 0;
+  levels_reach = ap length levels_are ∙ length-replicate {A = ℕ} SLOTS 0;
+  channels = λ e within. omega (arith, ap (λ (xs : List ℕ). get_or xs e 0) places_are ∙ get_or-replicate {A = ℕ} SLOTS e 0 0 within);
 }
 
 -- a row is placed

@@ -1,7 +1,7 @@
 -- What a table of the patch stands for, and the slots that it gives.
-use Rattle.std.specs.Prelude.{◌≡◌, ◌⊎◌, ℕ, ◌-◌, ◌<◌, List, slice_index}
+use Rattle.std.specs.Prelude.{◌≡◌, ◌⊎◌, ℕ, ◌-◌, ◌<◌, List, length, slice_index}
 use Rattle.std.specs.Option.{option_map_or}
-use Rattle.lx_base.specs.declared.TheConstants.{SLOTS}
+use Rattle.lx_base.specs.declared.TheConstants.{CHANNELS, SLOTS}
 use Rattle.lx_spec.specs.declared.PatchRow.{PatchRow}
 use Rattle.lx_spec.specs.SortedList.{entry_at}
 use Rattle.lx_mixer.specs.Table.{IsTable}
@@ -10,6 +10,12 @@ use Rattle.lx_mixer.specs.Table.{IsTable}
 pub record DimmerTable : Type 0 where
   pub places : List ℕ
   pub levels : List ℕ
+
+-- there is a place and a level for each dimmer, and each place is that of a channel
+pub record IsWired (places levels : List ℕ) : Type 0 where
+  pub places_reach : length places ≡ SLOTS
+  pub levels_reach : length levels ≡ SLOTS
+  pub channels : (e : ℕ) → e < SLOTS → slice_index places e < CHANNELS
 
 -- the place of the dimmer's channel, which is below its number, or the first where the dimmer isn't patched
 abbrev pub place_of : List PatchRow → ℕ → ℕ

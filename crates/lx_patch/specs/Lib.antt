@@ -1,2 +1,3 @@
 pub mod DimmerTable
 pub mod Slots
+pub mod Followed

@@ -1,9 +1,11 @@
 //! The patch of a show, kept so that the slots of all its dimmers are filled in by one pass.
 #![tactic(auto)]
 
+mod followers;
 mod slots;
 mod table;
 #[cfg(test)]
 mod tests;
+mod wiring;
 
 pub use table::PatchTable;

@@ -7,18 +7,28 @@ ghost use Rattle.lx_patch.specs.Slots.{IsFilled};
 use lx_base::{LANES, Level, scale, scale_lanes};
 use std::simd::prelude::*;
 
-/// Fills in each slot: the output at its place, in proportion to its level.
-pub(crate) fn fill(places: &[u16], levels: &[Level], outs: &[Level], slots: &mut [Level])
+/// Fills in each of so many slots: the output at its place, in proportion to its level.
+pub(crate) fn fill(
+    places: &[u16],
+    levels: &[Level],
+    outs: &[Level],
+    slots: &mut [Level],
+    count: usize,
+)
     requires places { length places.now ≡ length slots.old }
     requires levels { length levels.now ≡ length slots.old }
+    requires count { count ≤ length slots.old }
     requires reach { EachIndex places.now (λ k. slice_index places.now k < length outs.now) }
-    ensures { IsFilled places.now levels.now outs.now slots.new 0 (length slots.new) }
+    ensures filled { IsFilled places.now levels.now outs.now slots.new 0 count }
+    ensures others { (k : ℕ) → count ≤ k → slice_index slots.new k ≡ slice_index slots.old k }
 {
-    let blocks = slots.len() / LANES;
+    let blocks = count / LANES;
     for i in 0..blocks {
         fill_block(places, levels, outs, slots, LANES * i);
     }
-    fill_rest(places, levels, outs, slots, LANES * blocks);
+    for i in LANES * blocks..count {
+        slots[i] = scale(outs[places[i] as usize], levels[i]);
+    }
 }
 
 /// Fills in the 32 slots from a place on.
@@ -29,6 +39,7 @@ fn fill_block(places: &[u16], levels: &[Level], outs: &[Level], slots: &mut [Lev
     requires reach { EachIndex places.now (λ k. slice_index places.now k < length outs.now) }
     ensures before { (k : ℕ) → k < at → slice_index slots.new k ≡ slice_index slots.old k }
     ensures block { IsFilled places.now levels.now outs.now slots.new at (at + LANES) }
+    ensures after { (k : ℕ) → at + LANES ≤ k → slice_index slots.new k ≡ slice_index slots.old k }
 {
     let gathered = gather(places, outs, at);
     let outs = u8x32::from_slice(&gathered);
@@ -47,17 +58,4 @@ fn gather(places: &[u16], outs: &[Level], at: usize) -> [Level; LANES]
         gathered[k] = outs[places[at + k] as usize];
     }
     gathered
-}
-
-/// Fills in the slots from a place on, one by one.
-fn fill_rest(places: &[u16], levels: &[Level], outs: &[Level], slots: &mut [Level], from: usize)
-    requires places { length places.now ≡ length slots.old }
-    requires levels { length levels.now ≡ length slots.old }
-    requires reach { EachIndex places.now (λ k. slice_index places.now k < length outs.now) }
-    ensures before { (k : ℕ) → k < from → slice_index slots.new k ≡ slice_index slots.old k }
-    ensures rest { IsFilled places.now levels.now outs.now slots.new from (length slots.new) }
-{
-    for i in from..slots.len() {
-        slots[i] = scale(outs[places[i] as usize], levels[i]);
-    }
 }

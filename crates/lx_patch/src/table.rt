@@ -1,39 +1,43 @@
 //! A table of the patch.
 
-ghost use Rattle.std.specs.Prelude.{◌≡◌, ◌-◌, List, length, slice_index, IfOk};
-ghost use Rattle.lx_base.specs.declared.TheConstants.{SLOTS};
+ghost use Rattle.std.specs.Prelude.{◌≡◌, ◌-◌, ◌≤◌, List, length, slice_index, IfOk};
+ghost use Rattle.lx_base.specs.declared.TheConstants.{CHANNELS, SLOTS};
 ghost use Rattle.lx_spec.specs.declared.PatchRow.{PatchRow as Row};
 ghost use Rattle.lx_spec.specs.SortedList.{placed, taken_out};
 ghost use Rattle.lx_spec.specs.Output.{dimmer_value};
 ghost use Rattle.lx_mixer.specs.Table.{IsTable};
 ghost use Rattle.lx_patch.specs.DimmerTable.{StandsForPatch, Reaches};
+ghost use Rattle.lx_patch.specs.Slots.{IsFilled};
 
+use crate::followers::Followers;
 use crate::slots::fill;
-use lx_base::{Dimmer, Level, SLOTS};
+use crate::wiring::Wiring;
+use lx_base::{Dimmer, Level, SLOTS, next_change};
 use lx_show::{PatchRow, Show};
 use std::alloc::{AllocError, Global};
 use std::marker::Model;
 
+/// So many dimmers are filled by lanes in the time in which those of one channel are found.
+const LANES_A_CHANGE: usize = 16;
+
 /// The patch by dimmer. It stands for patch rows, as a show has them: for each dimmer it has the row's
-/// channel and proportional level at hand, so that all slots are filled in by one pass over them.
+/// channel and proportional level at hand, so that all slots are filled in by one pass over them; and for
+/// each channel the dimmers that follow it, so that those of a few channels are.
 #[derive(Drop)]
 pub struct PatchTable {
-    /// The place of each dimmer's channel, which is below its number: the first where it isn't patched.
-    places: Vec<u16>,
-    /// The proportional level of each dimmer: 0 where it isn't patched.
-    levels: Vec<Level>,
+    wiring: Wiring,
+    followers: Followers,
 }
 
 impl Model for PatchTable {
-    ghost use Rattle.std.specs.Prelude.{◌≡◌, length};
-    ghost use Rattle.lx_base.specs.declared.TheConstants.{SLOTS};
     ghost use Rattle.lx_patch.specs.DimmerTable.{DimmerTable};
+    ghost use Rattle.lx_patch.specs.Followed.{IsLinked};
 
     ghost Value = { DimmerTable };
 
-    ghost view = { λ t. record { places = t.places.items; levels = t.levels.items } };
+    ghost view = { λ t. t.wiring };
 
-    ghost invariant = { λ t. (length t.places.items ≡ SLOTS) × (length t.levels.items ≡ SLOTS) };
+    ghost invariant = { λ t. IsLinked t.wiring.places t.wiring.levels t.followers };
 }
 
 impl PatchTable {
@@ -42,42 +46,38 @@ impl PatchTable {
     pub fn open(alloc: Global, show: &Show) -> Result<PatchTable, AllocError>
         ensures { IfOk result (StandsForPatch show.now.patch) }
     {
-        let mut table = PatchTable {
-            places: vec![in alloc; 0; SLOTS]?,
-            levels: vec![in alloc; 0; SLOTS]?,
-        };
-        table.refresh(show);
-        Ok(table)
+        let mut wiring = Wiring::open(alloc)?;
+        wiring.refresh(show);
+        let mut followers = Followers::open(alloc)?;
+        followers.link(wiring.places(), wiring.levels());
+        Ok(PatchTable { wiring, followers })
     }
 
     /// Takes up the show's patch anew.
     pub fn refresh(&mut self, show: &Show)
         ensures { StandsForPatch show.now.patch self.new }
     {
-        self.places.fill(0);
-        self.levels.fill(0);
-        let rows = show.patch();
-        for i in (0..rows.len()).rev() {
-            self.set(rows[i]);
-        }
+        self.wiring.refresh(show);
+        self.followers
+            .link(self.wiring.places(), self.wiring.levels());
     }
 
     /// Patches the row's dimmer, in place of what it followed before.
     pub fn set(&mut self, row: PatchRow)
         ensures { (rows : List Row) → StandsForPatch rows self.old → StandsForPatch (placed (λ x. x.dimmer) row rows) self.new }
     {
-        let at = row.dimmer.get() as usize - 1;
-        self.places[at] = row.chan.get() as u16 - 1;
-        self.levels[at] = row.level;
+        self.wiring.set(row);
+        self.followers
+            .link(self.wiring.places(), self.wiring.levels());
     }
 
     /// Takes the dimmer's row out.
     pub fn clear(&mut self, dimmer: Dimmer)
         ensures { (rows : List Row) → StandsForPatch rows self.old → StandsForPatch (taken_out (λ x. x.dimmer) dimmer rows) self.new }
     {
-        let at = dimmer.get() as usize - 1;
-        self.places[at] = 0;
-        self.levels[at] = 0;
+        self.wiring.clear(dimmer);
+        self.followers
+            .link(self.wiring.places(), self.wiring.levels());
     }
 
     /// Fills in the slots of all dimmers: the output of the dimmer's channel, channel c at place c - 1, in
@@ -88,10 +88,36 @@ impl PatchTable {
         requires reach { Reaches (length out_levels.now) self.now }
         ensures { (rows : List Row) → StandsForPatch rows self.now → IsTable SLOTS (dimmer_value rows (λ c. slice_index out_levels.now (c - 1))) slots.new }
     {
+        let places = self.wiring.places();
+        let levels = self.wiring.levels();
         if out_levels.is_empty() {
             slots.fill(0);
         } else {
-            fill(&self.places, &self.levels, out_levels, slots);
+            fill(places, levels, out_levels, slots, SLOTS);
+        }
+    }
+
+    /// Fills in the slots of the dimmers whose channels have another output than before: the slots were
+    /// those of the outputs before. There is an output for each patched channel.
+    pub fn follow(&self, before: &[Level], out_levels: &[Level], slots: &mut [Level])
+        requires slots { length slots.old ≡ SLOTS }
+        requires same { length before.now ≡ length out_levels.now }
+        requires few { length out_levels.now ≤ CHANNELS }
+        requires reach { Reaches (length out_levels.now) self.now }
+        ensures { (rows : List Row) → StandsForPatch rows self.now → IsTable SLOTS (dimmer_value rows (λ c. slice_index before.now (c - 1))) slots.old → IsTable SLOTS (dimmer_value rows (λ c. slice_index out_levels.now (c - 1))) slots.new }
+    {
+        let places = self.wiring.places();
+        let levels = self.wiring.levels();
+        let mut left = self.followers.top / LANES_A_CHANGE;
+        let mut from = 0;
+        while let Some(k) = next_change(before, out_levels, from) {
+            if left == 0 {
+                fill(places, levels, out_levels, slots, self.followers.top);
+                return;
+            }
+            left -= 1;
+            self.followers.fill(places, levels, k, out_levels[k], slots);
+            from = k + 1;
         }
     }
 }

@@ -1,4 +1,3 @@
-use Rattle.std.proofs.Common.{sym}
 use Rattle.lx_playback.specs.Told.{run_made}
 use Rattle.lx_console.proofs.Played.{stands_before, not_both}
 use Rattle.lx_console.proofs.ticks.press_key.Goals as goal

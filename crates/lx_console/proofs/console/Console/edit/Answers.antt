@@ -1,7 +1,7 @@
-use Rattle.std.proofs.Common.{ℕ, List, subst, sym, ap, ◌∙◌}
+use Rattle.std.proofs.Common.{sym, ap, ◌∙◌}
 use Rattle.lx_spec.specs.Show.{Show}
 use Rattle.lx_spec.specs.Kept.{Kept}
-use Rattle.lx_console.proofs.Touched.{untouched, untouched_levels, same_levels, touched_patch, same_given, same_reach, same_channels}
+use Rattle.lx_console.proofs.Touched.{untouched, untouched_levels, same_levels, touched_patch, same_given, same_reach, same_channels, same_slots}
 use Rattle.lx_console.proofs.console.Console.edit.Goals as goal
 
 pub recompute_touched-requires-clause-others : goal.recompute_touched-requires-clause-others
@@ -21,8 +21,12 @@ mend_subs-requires-clause-given c = same_given c.self.inside.show c.apply-dirty.
 pub mend-requires-clause-reaches : goal.mend-requires-clause-reaches
 mend-requires-clause-reaches c = record {
   outs_reach = c.self.invariant.filled.reaches.outs_reach ∙ sym (ap (λ (s : Show). s.channels) c.apply-dirty.ensures.show ∙ same_channels c.self.inside.show c.in_ok-plan.plan);
+  mixed_reach = c.self.invariant.filled.reaches.mixed_reach ∙ sym (ap (λ (s : Show). s.channels) c.apply-dirty.ensures.show ∙ same_channels c.self.inside.show c.in_ok-plan.plan);
   slots_reach = c.self.invariant.filled.reaches.slots_reach;
 }
+
+pub mend-requires-clause-slots : goal.mend-requires-clause-slots
+mend-requires-clause-slots c = λ none. same_slots c.self.inside.show c.apply-dirty.new.show c.in_ok-plan.plan c.apply-dirty.result.dimmer c.self.inside.stage c.self.invariant.filled.slots_stand c.apply-dirty.ensures.show c.apply-dirty.ensures.dimmer none
 
 pub mend-requires-clause-patch : goal.mend-requires-clause-patch
 mend-requires-clause-patch c = touched_patch c.self.inside.show c.apply-dirty.new.show c.in_ok-plan.plan c.apply-dirty.result.dimmer c.self.inside.stage c.self.invariant.filled.patch_stands c.apply-dirty.ensures.show c.apply-dirty.ensures.dimmer

@@ -23,6 +23,7 @@ returns c =
     record {
       reaches = record {
         outs_reach = ap length outs_are ∙ c.mix_into.auto.out ∙ ap length c.deref_mut.ensures.value ∙ c.requires.reaches.outs_reach;
+        mixed_reach = c.requires.reaches.mixed_reach;
         slots_reach = ap length slots_are ∙ c.frame_into.auto.slots ∙ ap length c.deref_mut-2.ensures.value ∙ c.requires.reaches.slots_reach;
       };
       patch_stands = c.requires.patch;

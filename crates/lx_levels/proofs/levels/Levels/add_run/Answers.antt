@@ -10,5 +10,9 @@ invariant_of-self c =
     let k = c.get.result - 1 in
     let within = subst (λ (v : Kept). c.args.c ≤ length v.stacks) (sym c.self.view_is) c.requires.within in
     let room : k < length stacks = omega (arith, within, c.get.ensures.value, c.get.ensures.least) in
-    c.refresh.ensures.right (set stacks k c.push_run.new.stack) (get_or-set_at stacks k k c.push_run.new.stack no_stack refl room)
-    (right_but c.self.inside.moment k c.self.inside.roster stacks c.self.inside.currents.items c.self.inside.levels.items c.push_run.new.stack c.self.invariant)
+    record {
+      right =
+          c.refresh.ensures.right (set stacks k c.push_run.new.stack) (get_or-set_at stacks k k c.push_run.new.stack no_stack refl room)
+          (right_but c.self.inside.moment k c.self.inside.roster stacks c.self.inside.currents.items c.self.inside.levels.items c.push_run.new.stack c.self.invariant.right);
+      room = c.self.invariant.room;
+    }

@@ -1,8 +1,11 @@
 use Rattle.std.proofs.Common.{◌≡◌, ◌+◌, ◌<◌, ◌∙◌, ap, sym, subst, arith}
-use Rattle.lx_spec.specs.Run.{acts}
+use Rattle.lx_spec.specs.TrackedLevel.{tracked}
+use Rattle.lx_spec.specs.Run.{Run, acts}
 use Rattle.lx_spec.specs.Level.{last_cue}
+use Rattle.lx_levels.specs.Stacks.{stack_of}
+use Rattle.lx_levels.specs.Moving.{IsStill}
 use Rattle.lx_levels.specs.Standing.{IsAdded}
-use Rattle.lx_levels.proofs.Added.{starts_now, channel_added, channel_passed, same_run_copied}
+use Rattle.lx_levels.proofs.Added.{starts_now, still_added, channel_added, channel_passed, same_run_copied}
 use Rattle.lx_levels.proofs.levels.Levels.run_added.Goals as goal
 use Rattle.lx_levels.proofs.levels.Levels.run_added.Goals.{then-acts, else-acts}
 
@@ -18,7 +21,20 @@ loop-k-preserved c = λ last older is.
     elim c.if-acts.branch [
       | then-acts w ↦ subst (IsAdded show p older (c.loop-k.k + 1)) (sym w.self-is)
           (channel_added show p last c.in-Some.run'.now older c.loop-k.k c.channel_at-c.result c.loop-k.self w.add_run.new.self is (starts_now show p c.args.self.now last older c.requires.stood is) c.channel_at-c.ensures run_is (sym acts_is ∙ w.if-acts.true) within
-          w.add_run.ensures.level w.add_run.ensures.few w.add_run.ensures.others (c.loop-k.invariant last older is))
+          (λ x from. w.add_run.ensures.level x (omega (arith, from, (c.loop-k.invariant last older is).moment))) w.add_run.ensures.few w.add_run.ensures.others (c.loop-k.invariant last older is))
       | else-acts w ↦ subst (IsAdded show p older (c.loop-k.k + 1)) (sym w.self-is)
           (channel_passed show p last c.in-Some.run'.now older c.loop-k.k c.channel_at-c.result c.loop-k.self is c.channel_at-c.ensures run_is (sym acts_is ∙ w.if-acts.false) within (c.loop-k.invariant last older is))
     ]
+
+pub loop-k-preserved-then-stays_at : goal.loop-k-preserved-then-stays_at
+loop-k-preserved-then-stays_at c = λ last older is.
+    let show = c.args.show.now in
+    let p = c.args.playback.now in
+    let k = c.loop-k.k in
+    let added = c.loop-k.invariant last older is in
+    let run_is : c.in-Some.run'.now ≡ last = same_run_copied c.in-Some.run'.now last (c.in-Some.ensures.last last older is) in
+    let within : k < show.channels = omega (arith, c.loop-k-test.true, c.channels-k-end.ensures.channels) in
+    let target : tracked show last.cue (k + 1) ≡ c.level_at-target.result =
+    ap (λ n. tracked show last.cue n) (sym c.channel_at-c.ensures) ∙ ap (λ (r : Run). tracked show r.cue c.channel_at-c.result) (sym run_is ∙ sym c.run.view_is) ∙ sym (c.level_at-target.ensures.stands show c.requires.rows) in
+    let still = subst (λ m. IsStill m (stack_of c.loop-k.self k) c.level_at-target.result) added.moment (c.stays_at.ensures c.if-stays_at.true) in
+    still_added show p last older k c.level_at-target.result c.loop-k.self is (starts_now show p c.args.self.now last older c.requires.stood is) within target still added

@@ -1,6 +1,6 @@
 use Rattle.std.proofs.Common.{drop}
 use Rattle.lx_patch.specs.DimmerTable.{StandsForPatch}
-use Rattle.lx_patch.proofs.table.PatchTable.refresh.Given as goal
+use Rattle.lx_patch.proofs.wiring.Wiring.refresh.Given as goal
 
 abbrev pub invariant-loop-i : goal.invariant-loop-i
 invariant-loop-i l = StandsForPatch (drop l.i l.rows) l.self

@@ -2,7 +2,7 @@ use Rattle.std.proofs.Common.{◌≡◌, List, subst, sym, arith}
 use Rattle.lx_spec.specs.declared.PatchRow.{PatchRow}
 use Rattle.lx_patch.specs.DimmerTable.{StandsForPatch}
 use Rattle.lx_patch.proofs.Rows.{stands_first, drop_before}
-use Rattle.lx_patch.proofs.table.PatchTable.refresh.Goals as goal
+use Rattle.lx_patch.proofs.wiring.Wiring.refresh.Goals as goal
 
 pub loop-i-preserved : goal.loop-i-preserved
 loop-i-preserved c =

@@ -1,0 +1,9 @@
+use Rattle.std.proofs.Common.{◌≡◌, ℕ, ◌<◌, get_or, length}
+use Rattle.lx_base.specs.declared.TheConstants.{CHANNELS, SLOTS}
+use Rattle.lx_patch.proofs.followers.clear.Given as goal
+
+abbrev pub invariant-loop-k : goal.invariant-loop-k
+invariant-loop-k l = record {
+  reach : length l.first.items ≡ CHANNELS;
+  each : (k : ℕ) → k < l.k → get_or l.first.items k 0 ≡ SLOTS;
+}

@@ -1,0 +1,13 @@
+use Rattle.std.proofs.Common.{◌≤◌}
+use Rattle.lx_base.specs.declared.TheConstants.{SLOTS}
+use Rattle.lx_patch.specs.Followed.{IsAbove}
+use Rattle.lx_patch.proofs.followers.top_of.Given as goal
+
+abbrev pub invariant-loop-top : goal.invariant-loop-top
+invariant-loop-top l = record {
+  most : l.top ≤ SLOTS;
+  dark : IsAbove l.levels l.top;
+}
+
+abbrev pub decreases-loop-top : goal.decreases-loop-top
+decreases-loop-top l = l.top
