@@ -16,8 +16,6 @@ import tempfile
 
 import walks
 
-import plain
-
 TOP = os.path.dirname(os.path.dirname(os.path.abspath(__file__)))
 USAGE = b"usage: cuedesk check|render|sheet [states] | make N | run U [states]\n"
 INPUT_BYTES = 67_108_864
@@ -192,7 +190,7 @@ def kept_cases():
         Case("512 runs of 2,048 channels for 100,000 ticks", long, "ok\n" * 513 + f"frame 200000 1 1={255 * 200000 // 240000}\n"),
         Case("a follow-on fires and rests in one tick", show("CUE 1\n" + AT_ONCE + "FOLLOWON 0\nCUE 2\n" + AT_ONCE + "CHAN 1@FL\n") + "go\ntick\nframe\ngo\n",
              "ok\nok\nframe 2 1 1=255\nrefused NoCueAfter 2\n"),
-    ] + [Case(f"random walk {seed}: each frame is the plain evaluation's", text, output) for seed, text, output in plain.walks()]
+    ]
 
 
 # ---------------------------------------------------------------------------------------------------------------------

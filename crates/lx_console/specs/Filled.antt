@@ -33,7 +33,8 @@ SlotsStand patch stage = IsTable SLOTS (dimmer_value patch (λ c. slice_index st
 pub record IsMixed (levels : List ℕ) (show : Show) (given : List ℕ) (master : ℕ) (stage : Stage) : Type 0 where
   pub reaches : Reaches show.channels stage
   pub patch_stands : StandsForPatch show.patch stage.table
-  pub outs : (k : ℕ) → k < length stage.outs.items → slice_index stage.outs.items k ≡ scaled (max (slice_index levels k) (slice_index given k)) master
+  pub outs : (k : ℕ) → k < length stage.outs.items
+      → slice_index stage.outs.items k ≡ scaled (max (slice_index levels k) (slice_index given k)) master
   pub slots_stand : SlotsStand show.patch stage
 
 -- the stage is filled in

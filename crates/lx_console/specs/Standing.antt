@@ -25,7 +25,8 @@ pub record StandsFor (d : Desk) (console : Kept) : Type 0 where
   pub same : console ≡ kept d
   pub rest : KeepsRest d
 
--- The answer to a command of the desk: where it is Ok, the desk accepts the command and the console then stands for the desk after it. A refusal is the desk's own.
+-- The answer to a command of the desk: where it is Ok, the desk accepts the command and the console then stands for the desk after it. A
+-- refusal is the desk's own.
 pub record Obeys {A : Type 0} (d : Desk) (command : Command) (answer : Result A Refusal) (console : Kept) : Type 0 where
   pub ok : OnOk answer (IsOkAnd (step d command) (λ next. StandsFor next console))
   pub err : IfErr answer (λ refusal. step d command ≡ Err refusal)

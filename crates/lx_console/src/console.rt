@@ -62,7 +62,8 @@ impl Model for Console {
 
     ghost view = { λ c. record { show = c.show; playback = c.playback; faders = c.rack.faders; master = c.master } };
 
-    ghost invariant = { λ c. IsKept (record { show = c.show; playback = c.playback; faders = c.rack.faders; master = c.master }) c.sheet c.rack c.levels c.stage };
+    ghost invariant = { λ c. IsKept (record { show = c.show; playback = c.playback; faders = c.rack.faders; master = c.master })
+        c.sheet c.rack c.levels c.stage };
 }
 
 impl Console {
@@ -142,7 +143,8 @@ impl Console {
     /// at place c - 1. It is the level over all runs since the opening.
     pub fn levels(&self) -> &[Level]
         ensures live { IsTable self.now.show.channels (level_now self.now) result.now }
-        ensures all { (d : Desk) → StandsFor d self.now → IsTable d.show.channels (λ c. level d.show 0 d.all c d.playback.moment) result.now }
+        ensures all { (d : Desk) → StandsFor d self.now
+            → IsTable d.show.channels (λ c. level d.show 0 d.all c d.playback.moment) result.now }
     {
         self.levels.row()
     }
@@ -258,7 +260,8 @@ impl Console {
 
     /// A tick of the playback.
     fn advance(&mut self) -> Result<(), Refusal>
-        ensures ok { OnOk result (IsOkAnd (tick self.old.show self.old.playback) (λ played. self.new ≡ record self.old { playback = played.playback })) }
+        ensures ok { OnOk result (IsOkAnd (tick self.old.show self.old.playback)
+            (λ played. self.new ≡ record self.old { playback = played.playback })) }
         ensures err { IfErr result (λ refusal. tick self.old.show self.old.playback ≡ Err refusal) }
         ensures unchanged { OnErr result (self.new ≡ self.old) }
     {
@@ -276,7 +279,8 @@ impl Console {
 
     /// A key of the playback.
     fn play(&mut self, key: PlayKey) -> Result<(), Refusal>
-        ensures ok { OnOk result (IsOkAnd (press self.old.show self.old.playback key) (λ played. self.new ≡ record self.old { playback = played.playback })) }
+        ensures ok { OnOk result (IsOkAnd (press self.old.show self.old.playback key)
+            (λ played. self.new ≡ record self.old { playback = played.playback })) }
         ensures err { IfErr result (λ refusal. press self.old.show self.old.playback key ≡ Err refusal) }
         ensures unchanged { OnErr result (self.new ≡ self.old) }
     {

@@ -44,7 +44,8 @@ pub(crate) fn tick_of(
     requires levels { LevelsStandFor show.now playback.old levels.old }
     ensures ok { OnOk result (IsOkAnd (tick show.now playback.old) (λ played. played.playback ≡ playback.new)) }
     ensures levels { OnOk result (LevelsStandFor show.now playback.new levels.new) }
-    ensures same { IfOk result (λ changed. changed ≡ false → (k : ℕ) → k < show.now.channels → level_at levels.new k ≡ level_at levels.old k) }
+    ensures same { IfOk result (λ changed. changed ≡ false → (k : ℕ) → k < show.now.channels
+        → level_at levels.new k ≡ level_at levels.old k) }
     ensures err { IfErr result (λ refusal. tick show.now playback.old ≡ Err refusal) }
     ensures unchanged { OnErr result (playback.new ≡ playback.old) }
     ensures kept { OnErr result (levels.new ≡ levels.old) }

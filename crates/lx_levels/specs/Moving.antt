@@ -50,10 +50,14 @@ pub record IsRightBut (m place : ℕ) (on : Places) (stacks : List Stack) (curre
   pub now : (k : ℕ) → k < length on.order → k ≢ place → slice_index levels k ≡ level_in (slice_index_or stacks k no_stack) m
 
 -- the channels on the first places of the list have been brought to the moment, the others are as they were before
-pub record IsAdvanced (m j : ℕ) (on : Places) (stacks : List Stack) (before currents : List Current) (levels_before levels : List ℕ) : Type 0 where
+pub record IsAdvanced (m j : ℕ) (on : Places) (stacks : List Stack) (before currents : List Current)
+    (levels_before levels : List ℕ) : Type 0 where
   pub currents_reach : length currents ≡ length before
   pub levels_reach : length levels ≡ length levels_before
-  pub done : (k : ℕ) → k < length on.order → slice_index on.places k < j → Governs m (slice_index_or stacks k no_stack) (slice_index_or currents k no_current)
-  pub now : (k : ℕ) → k < length on.order → slice_index on.places k < j → slice_index levels k ≡ level_in (slice_index_or stacks k no_stack) m
-  pub left : (k : ℕ) → k < length on.order → j ≤ slice_index on.places k → slice_index_or currents k no_current ≡ slice_index_or before k no_current
+  pub done : (k : ℕ) → k < length on.order → slice_index on.places k < j
+      → Governs m (slice_index_or stacks k no_stack) (slice_index_or currents k no_current)
+  pub now : (k : ℕ) → k < length on.order → slice_index on.places k < j
+      → slice_index levels k ≡ level_in (slice_index_or stacks k no_stack) m
+  pub left : (k : ℕ) → k < length on.order → j ≤ slice_index on.places k
+      → slice_index_or currents k no_current ≡ slice_index_or before k no_current
   pub left_levels : (k : ℕ) → k < length on.order → j ≤ slice_index on.places k → slice_index levels k ≡ slice_index levels_before k

@@ -1,4 +1,5 @@
--- A list of channels that is entered and left in one step: an order of all channels of which so many are on the list, and the place of each in that order.
+-- A list of channels that is entered and left in one step: an order of all channels of which so many are on the list, and the place of each
+-- in that order.
 use Rattle.std.specs.Prelude.{◌≡◌, ℕ, ◌<◌, ◌≤◌, Bool, nat_lt, List, length, slice_index}
 use Rattle.lx_base.specs.declared.TheConstants.{CHANNELS}
 

@@ -1,6 +1,7 @@
 //! Kept levels.
 
-ghost use Rattle.std.specs.Prelude.{◌≡◌, ◌≢◌, ℕ, ◌+◌, ◌-◌, ◌<◌, ◌≤◌, [], ◌∷◌, true, false, List, length, slice_index, slice_set, IfOk, IfSome};
+ghost use Rattle.std.specs.Prelude.{◌≡◌, ◌≢◌, ℕ, ◌+◌, ◌-◌, ◌<◌, ◌≤◌, [], ◌∷◌, true, false, List, length, slice_index, slice_set, IfOk};
+ghost use Rattle.std.specs.Prelude.{IfSome};
 ghost use Rattle.std.specs.Option.{option_copied};
 ghost use Rattle.lx_base.specs.declared.TheConstants.{RUNS, CHANNELS, TICK_END};
 ghost use Rattle.lx_spec.specs.Show.{Show as ShowData};
@@ -83,7 +84,8 @@ impl Levels {
     pub fn row(&self) -> &[Level]
         ensures reach { length result.now ≡ length self.now.stacks }
         ensures levels { (k : ℕ) → k < length self.now.stacks → slice_index result.now k ≡ level_at self.now k }
-        ensures stands { (show : ShowData) (p : PlaybackData) → LevelsStandFor show p self.now → IsTable show.channels (λ c. level show p.base p.live c p.moment) result.now }
+        ensures stands { (show : ShowData) (p : PlaybackData) → LevelsStandFor show p self.now
+            → IsTable show.channels (λ c. level show p.base p.live c p.moment) result.now }
     {
         self.levels.as_slice()
     }
@@ -115,7 +117,8 @@ impl Levels {
     pub fn settled(&mut self, sheet: &Sheet, playback: &Playback)
         requires moment { self.old.moment ≡ playback.now.moment }
         requires rest { playback.now.live ≡ [] }
-        ensures { (show : ShowData) → show.channels ≡ length self.old.stacks → RowsStandFor show sheet.now → LevelsStandFor show playback.now self.new }
+        ensures { (show : ShowData) → show.channels ≡ length self.old.stacks → RowsStandFor show sheet.now
+            → LevelsStandFor show playback.now self.new }
     {
         let base = playback.base();
         for k in 0..self.levels.len() {
@@ -128,7 +131,8 @@ impl Levels {
     pub fn to_moment(&mut self, m: Moment) -> bool
         requires later { self.old.moment ≤ m }
         requires end { m ≤ TICK_END }
-        ensures stands { (show : ShowData) (p : PlaybackData) → LevelsStandFor show p self.old → LevelsStandFor show (record p { moment = m }) self.new }
+        ensures stands { (show : ShowData) (p : PlaybackData) → LevelsStandFor show p self.old
+            → LevelsStandFor show (record p { moment = m }) self.new }
         ensures unchanged { result ≡ false → (k : ℕ) → k < length self.old.stacks → level_at self.new k ≡ level_at self.old k }
     {
         self.moment = m;
@@ -193,7 +197,8 @@ impl Levels {
         requires target { target ≡ tracked show.now run.now.cue c }
         requires room { length (stack_of self.old (c - 1)).fades < RUNS }
         requires run { ValidRun TICK_END run.now }
-        ensures level { (x : ℕ) → self.old.moment ≤ x → level_in (stack_of self.new (c - 1)) x ≡ run_over show.now (level_in (stack_of self.old (c - 1))) run.now c x }
+        ensures level { (x : ℕ) → self.old.moment ≤ x → level_in (stack_of self.new (c - 1)) x
+            ≡ run_over show.now (level_in (stack_of self.old (c - 1))) run.now c x }
         ensures few { length (stack_of self.new (c - 1)).fades ≤ length (stack_of self.old (c - 1)).fades + 1 }
         ensures others { IsElsewhere (c - 1) self.old self.new }
     {

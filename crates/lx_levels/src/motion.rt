@@ -33,7 +33,8 @@ pub(crate) fn advance(
     requires moment { m < NEVER }
     requires told { (k : ℕ) → k < length roster.now.order → IsTold m roster.now stacks.now currents.old.items levels.old.items k }
     ensures right { IsRight m roster.now stacks.now currents.new.items levels.new.items }
-    ensures unchanged { result.changed ≡ false → (k : ℕ) → k < length roster.now.order → slice_index_or levels.new.items k 0 ≡ slice_index_or levels.old.items k 0 }
+    ensures unchanged { result.changed ≡ false → (k : ℕ) → k < length roster.now.order
+        → slice_index_or levels.new.items k 0 ≡ slice_index_or levels.old.items k 0 }
 {
     let mut changed = false;
     let mut arrived = false;
@@ -66,7 +67,8 @@ fn current_at(current: &Current, stack: &Stack, m: Moment) -> Current
 /// Takes the channels off the list whose level changes no more.
 pub(crate) fn retire(m: Moment, roster: &mut Roster, currents: &[Current])
     requires { length currents.now ≡ length roster.old.order }
-    ensures right { (stacks : List StackData) (levels : List ℕ) → IsRight m roster.old stacks currents.now levels → IsRight m roster.new stacks currents.now levels }
+    ensures right { (stacks : List StackData) (levels : List ℕ) → IsRight m roster.old stacks currents.now levels
+        → IsRight m roster.new stacks currents.now levels }
 {
     let mut j = roster.len();
     while j > 0 {
@@ -91,7 +93,9 @@ pub(crate) fn refresh(
     requires within { k < length roster.old.order }
     requires currents { length currents.old.items ≡ length roster.old.order }
     requires levels { length levels.old.items ≡ length roster.old.order }
-    ensures right { (stacks : List StackData) → slice_index_or stacks k no_stack ≡ stack.now → IsRightBut m k roster.old stacks currents.old.items levels.old.items → IsRight m roster.new stacks currents.new.items levels.new.items }
+    ensures right { (stacks : List StackData) → slice_index_or stacks k no_stack ≡ stack.now
+        → IsRightBut m k roster.old stacks currents.old.items levels.old.items
+        → IsRight m roster.new stacks currents.new.items levels.new.items }
 {
     let current = stack.governing(m);
     currents[k] = current;

@@ -118,8 +118,10 @@ fn exchange(order: &mut Vec<u16>, places: &mut Vec<u16>, a: usize, b: usize)
     requires b { b < length order.old.items }
     requires few { length order.old.items ≤ CHANNELS }
     requires within { (j : ℕ) → j < length order.old.items → slice_index order.old.items j < length places.old.items }
-    ensures order { order.new.items ≡ slice_set (slice_set order.old.items a (slice_index order.old.items b)) b (slice_index order.old.items a) }
-    ensures places { places.new.items ≡ slice_set (slice_set places.old.items (slice_index order.old.items a) b) (slice_index order.old.items b) a }
+    ensures order { order.new.items ≡ slice_set (slice_set order.old.items a (slice_index order.old.items b)) b
+        (slice_index order.old.items a) }
+    ensures places { places.new.items ≡ slice_set (slice_set places.old.items (slice_index order.old.items a) b)
+        (slice_index order.old.items b) a }
 {
     let first = order[a];
     let second = order[b];

@@ -4,4 +4,5 @@ use Rattle.lx_base.specs.Numbers.{scaled}
 
 -- each entry, from one place to below another, is the greater of the two levels there, in proportion to the master
 abbrev pub IsMixed : List ℕ → List ℕ → ℕ → List ℕ → ℕ → ℕ → Type 0
-IsMixed playback subs master out from to = (k : ℕ) → from ≤ k → k < to → slice_index out k ≡ scaled (max (slice_index playback k) (slice_index subs k)) master
+IsMixed playback subs master out from to =
+    (k : ℕ) → from ≤ k → k < to → slice_index out k ≡ scaled (max (slice_index playback k) (slice_index subs k)) master

@@ -32,4 +32,5 @@ pub record StandsForPatch (rows : List PatchRow) (table : DimmerTable) : Type 0 
 
 -- so many outputs have one for each dimmer, or else for each that is patched
 abbrev pub Reaches : ℕ → DimmerTable → Type 0
-Reaches n table = (k : ℕ) → k < SLOTS → (slice_index table.places k < n) ⊎ ((slice_index table.places k ≡ 0) × (slice_index table.levels k ≡ 0))
+Reaches n table =
+    (k : ℕ) → k < SLOTS → (slice_index table.places k < n) ⊎ ((slice_index table.places k ≡ 0) × (slice_index table.levels k ≡ 0))

@@ -12,7 +12,8 @@ pub record Follows (places levels : List ℕ) (k e : ℕ) : Type 0 where
 abbrev pub IsAbove : List ℕ → ℕ → Type 0
 IsAbove levels top = (e : ℕ) → top ≤ e → e < length levels → slice_index levels e ≡ 0
 
--- The chains of the dimmers from a place on: each channel's begins with the first of its dimmers there, and goes on from each dimmer to the next one of its channel, or ends.
+-- The chains of the dimmers from a place on: each channel's begins with the first of its dimmers there, and goes on from each dimmer to the
+-- next one of its channel, or ends.
 pub record IsChained (places levels first next : List ℕ) (from : ℕ) : Type 0 where
   pub first_reach : length first ≡ CHANNELS
   pub next_reach : length next ≡ SLOTS
@@ -20,8 +21,10 @@ pub record IsChained (places levels first next : List ℕ) (from : ℕ) : Type 0
   pub first_own : (k : ℕ) → k < CHANNELS → slice_index first k < SLOTS → Follows places levels k (slice_index first k)
   pub first_all : (k e : ℕ) → k < CHANNELS → from ≤ e → e < SLOTS → Follows places levels k e → slice_index first k ≤ e
   pub next_later : (e : ℕ) → from ≤ e → e < SLOTS → 0 < slice_index levels e → e < slice_index next e
-  pub next_own : (e : ℕ) → from ≤ e → e < SLOTS → 0 < slice_index levels e → slice_index next e < SLOTS → Follows places levels (slice_index places e) (slice_index next e)
-  pub next_all : (e d : ℕ) → from ≤ e → e < SLOTS → 0 < slice_index levels e → e < d → d < SLOTS → Follows places levels (slice_index places e) d → slice_index next e ≤ d
+  pub next_own : (e : ℕ) → from ≤ e → e < SLOTS → 0 < slice_index levels e → slice_index next e < SLOTS
+      → Follows places levels (slice_index places e) (slice_index next e)
+  pub next_all : (e d : ℕ) → from ≤ e → e < SLOTS → 0 < slice_index levels e → e < d → d < SLOTS
+      → Follows places levels (slice_index places e) d → slice_index next e ≤ d
 
 -- the chains of all dimmers
 pub record IsLinked (places levels : List ℕ) (followers : Followers) : Type 0 where

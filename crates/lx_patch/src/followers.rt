@@ -68,7 +68,8 @@ impl Followers {
         requires place { k < CHANNELS }
         requires levels { length levels.now ≡ SLOTS }
         requires slots { length slots.old ≡ SLOTS }
-        ensures here { (e : ℕ) → e < SLOTS → Follows places.now levels.now k e → slice_index slots.new e ≡ scaled out (slice_index levels.now e) }
+        ensures here { (e : ℕ) → e < SLOTS → Follows places.now levels.now k e
+            → slice_index slots.new e ≡ scaled out (slice_index levels.now e) }
         ensures others { (e : ℕ) → e < SLOTS → slice_index places.now e ≢ k → slice_index slots.new e ≡ slice_index slots.old e }
         ensures dark { (e : ℕ) → e < SLOTS → slice_index levels.now e ≡ 0 → slice_index slots.new e ≡ slice_index slots.old e }
     {

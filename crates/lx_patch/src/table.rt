@@ -86,7 +86,8 @@ impl PatchTable {
     pub fn frame_into(&self, out_levels: &[Level], slots: &mut [Level])
         requires slots { length slots.old ≡ SLOTS }
         requires reach { Reaches (length out_levels.now) self.now }
-        ensures { (rows : List Row) → StandsForPatch rows self.now → IsTable SLOTS (dimmer_value rows (λ c. slice_index out_levels.now (c - 1))) slots.new }
+        ensures { (rows : List Row) → StandsForPatch rows self.now
+            → IsTable SLOTS (dimmer_value rows (λ c. slice_index out_levels.now (c - 1))) slots.new }
     {
         let places = self.wiring.places();
         let levels = self.wiring.levels();
@@ -104,7 +105,9 @@ impl PatchTable {
         requires same { length before.now ≡ length out_levels.now }
         requires few { length out_levels.now ≤ CHANNELS }
         requires reach { Reaches (length out_levels.now) self.now }
-        ensures { (rows : List Row) → StandsForPatch rows self.now → IsTable SLOTS (dimmer_value rows (λ c. slice_index before.now (c - 1))) slots.old → IsTable SLOTS (dimmer_value rows (λ c. slice_index out_levels.now (c - 1))) slots.new }
+        ensures { (rows : List Row) → StandsForPatch rows self.now
+            → IsTable SLOTS (dimmer_value rows (λ c. slice_index before.now (c - 1))) slots.old
+            → IsTable SLOTS (dimmer_value rows (λ c. slice_index out_levels.now (c - 1))) slots.new }
     {
         let places = self.wiring.places();
         let levels = self.wiring.levels();

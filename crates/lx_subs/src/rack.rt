@@ -78,7 +78,8 @@ impl SubRack {
     /// What the submasters give each channel: that of channel c at place c - 1.
     pub fn contribution(&self) -> &[Level]
         ensures given { result.now ≡ self.now.given }
-        ensures table { (show : ShowData) → StandsForSubs show self.now → IsTable show.channels (contribution show self.now.faders) result.now }
+        ensures table { (show : ShowData) → StandsForSubs show self.now
+            → IsTable show.channels (contribution show self.now.faders) result.now }
     {
         self.given.as_slice()
     }

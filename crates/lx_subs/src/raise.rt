@@ -31,7 +31,8 @@ pub(crate) fn fill(show: &Show, faders: &[Level], given: &mut [Level])
 /// higher.
 fn raise(members: &[Member], fader: Level, given: &mut [Level])
     requires { ValidMembers (length given.old) members.now }
-    ensures { EachIndex given.new (λ k. slice_index given.new k ≡ max (slice_index given.old k) (scaled (level_among members.now (k + 1)) fader)) }
+    ensures { EachIndex given.new (λ k. slice_index given.new k
+        ≡ max (slice_index given.old k) (scaled (level_among members.now (k + 1)) fader)) }
 {
     for member in members {
         let at = member.chan.get() as usize - 1;
