@@ -13,7 +13,7 @@ use lx_lex::put_count;
 
 /// Appends the line of a frame: `frame`, the count where there is one, the moment in hundredths of a second, the
 /// universe, and for each of its 512 slots that isn't 0, rising, `slot=value`. A fault is the sink's own, and then a
-/// front of the line was appended.
+/// prefix of the line was appended.
 pub fn put_frame<K: Sink>(
     count: Option<u64>,
     m: Moment,
