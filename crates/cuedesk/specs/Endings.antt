@@ -51,7 +51,8 @@ abbrev pub HasEnded : Status → Job → List ℕ → Option (List ℕ) → Opti
 HasEnded status.Ok job bytes left held held' = WritesWhole job bytes held held' × IsOk (show_of job bytes)
 HasEnded status.ShowRefused job bytes left held held' = WritesWhole job bytes held held' × IsErr (show_of job bytes)
 HasEnded status.ReadFault job bytes left held held' = WritesTaken job bytes left held held'
-HasEnded status.InputTooLong job bytes left held held' = WritesTaken job bytes left held held' × (INPUT_BYTES < length (wanted_of job bytes))
+HasEnded status.InputTooLong job bytes left held held' =
+    WritesTaken job bytes left held held' × (INPUT_BYTES < length (wanted_of job bytes))
 HasEnded status.WriteFault job bytes left held held' = WritesPrefix job bytes held held'
 HasEnded status.Memory job bytes left held held' = WritesPrefix job bytes held held'
 HasEnded status.Usage job bytes left held held' = ⊥
@@ -65,9 +66,11 @@ HasCauseOf other reads reads' writes writes' = Unit {0}
 
 -- The same of a script over a desk, before which so many bytes of the input were taken.
 abbrev pub HasPlayed : Status → Desk → ℕ → List ℕ → Option (List ℕ) → Option (List ℕ) → Option (List ℕ) → Type 0
-HasPlayed status.Ok d before bytes left held held' = AnswersScript d (lines_of bytes) held held' × (before + length (bytes_wanted bytes) ≤ INPUT_BYTES)
+HasPlayed status.Ok d before bytes left held held' =
+    AnswersScript d (lines_of bytes) held held' × (before + length (bytes_wanted bytes) ≤ INPUT_BYTES)
 HasPlayed status.ReadFault d before bytes left held held' = AnswersTaken d before bytes left held held'
-HasPlayed status.InputTooLong d before bytes left held held' = AnswersTaken d before bytes left held held' × (INPUT_BYTES < before + length (bytes_wanted bytes))
+HasPlayed status.InputTooLong d before bytes left held held' =
+    AnswersTaken d before bytes left held held' × (INPUT_BYTES < before + length (bytes_wanted bytes))
 HasPlayed status.WriteFault d before bytes left held held' = AnswersInFront d (lines_of bytes) held held'
 HasPlayed status.Memory d before bytes left held held' = AnswersInFront d (lines_of bytes) held held'
 HasPlayed other d before bytes left held held' = ⊥

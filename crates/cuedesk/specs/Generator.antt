@@ -1,6 +1,8 @@
 -- The numbers that are drawn for `make`, each from the one before, and the texts that are made of them.
 use Rattle.std.specs.Prelude.{ℕ, ◌+◌, ◌*◌, ◌/◌, ◌%◌, List, [], ◌∷◌, ◌++◌, flat_map, codes, decimal}
+use Rattle.std.specs.List.{range_with_len}
 use Rattle.lx_spec.specs.ShowText.{line}
+use Rattle.lx_spec.specs.MakeOutput.{made_patch, made_cue}
 use Rattle.cuedesk.specs.declared.draws.Setting.{Setting}
 use Rattle.cuedesk.specs.declared.draws.Cue.{Cue}
 use Rattle.cuedesk.specs.declared.draws.Turn.{Turn}
@@ -57,3 +59,9 @@ go_text ticks = line (codes "go" ∷ []) ++ line (codes "tick" ∷ decimal ticks
 
 abbrev pub turn_text : ℕ → Turn → List ℕ
 turn_text k turn = go_text turn.ticks ++ set_text k turn.setting ++ line (codes "frame" ∷ [])
+
+-- the show of so many cues
+abbrev pub made_show : ℕ → List ℕ
+made_show n =
+    line (codes "IDENT" ∷ codes "3:0" ∷ []) ++ flat_map made_patch (range_with_len 1 512) ++ flat_map (made_cue n) (range_with_len 1 n)
+    ++ line (codes "ENDDATA" ∷ [])

@@ -38,7 +38,8 @@ pub record TellsInFront (cues : ℕ) (d : Desk) (script : List (List ℕ)) (held
 
 -- What was written about a session, by the status: where the script couldn't be read on, nothing.
 abbrev pub HasTold : Status → ℕ → Desk → ℕ → List ℕ → Option (List ℕ) → Option (List ℕ) → Type 0
-HasTold status.Ok cues d before bytes held held' = TellsSession cues d (lines_of bytes) held held' × (before + length (bytes_wanted bytes) ≤ INPUT_BYTES)
+HasTold status.Ok cues d before bytes held held' =
+    TellsSession cues d (lines_of bytes) held held' × (before + length (bytes_wanted bytes) ≤ INPUT_BYTES)
 HasTold status.ReadFault cues d before bytes held held' = held' ≡ held
 HasTold status.InputTooLong cues d before bytes held held' = (held' ≡ held) × (INPUT_BYTES < before + length (bytes_wanted bytes))
 HasTold status.WriteFault cues d before bytes held held' = TellsInFront cues d (lines_of bytes) held held'

@@ -28,7 +28,8 @@ pub(crate) fn check<S: Source, K: Sink>(
     output: &mut K,
 ) -> Status
     ensures works { EndsJob result }
-    ensures ended { IfSome (S.left input.old) (λ bytes. HasEnded result (Check form) bytes (S.left input.new) (K.holds output.old) (K.holds output.new)) }
+    ensures ended { IfSome (S.left input.old) (λ bytes. HasEnded result (Check form) bytes (S.left input.new) (K.holds output.old)
+        (K.holds output.new)) }
     ensures prefix { IfSome (S.left input.old) (λ bytes. WritesPrefix (Check form) bytes (K.holds output.old) (K.holds output.new)) }
     ensures cause { HasCauseOf result (S.faults input.old) (S.faults input.new) (K.faults output.old) (K.faults output.new) }
 {
@@ -71,7 +72,8 @@ fn put_size<K: Sink>(loaded: &Loaded, output: &mut K) -> Result<(), SinkFault>
 
 /// Appends how many cues and channels there are.
 fn put_counts<K: Sink>(cues: usize, channels: u32, output: &mut K) -> Result<(), SinkFault>
-    ensures { Puts K.holds K.faults K.wants output.old output.new result (codes "show cues " ++ (decimal cues ++ (codes " channels " ++ decimal channels))) }
+    ensures { Puts K.holds K.faults K.wants output.old output.new result
+        (codes "show cues " ++ (decimal cues ++ (codes " channels " ++ decimal channels))) }
 {
     put_all(output, b"show cues ")?;
     put_count(cues as u64, output)?;
@@ -81,7 +83,8 @@ fn put_counts<K: Sink>(cues: usize, channels: u32, output: &mut K) -> Result<(),
 
 /// Appends how many lines were skipped, and which was the first.
 fn put_skipped<K: Sink>(skipped: u32, first: u32, output: &mut K) -> Result<(), SinkFault>
-    ensures { Puts K.holds K.faults K.wants output.old output.new result (codes " skipped " ++ (decimal skipped ++ (codes " first " ++ (decimal first ++ 10 ∷ [])))) }
+    ensures { Puts K.holds K.faults K.wants output.old output.new result
+        (codes " skipped " ++ (decimal skipped ++ (codes " first " ++ (decimal first ++ 10 ∷ [])))) }
 {
     put_all(output, b" skipped ")?;
     put_whole(skipped, output)?;

@@ -52,10 +52,12 @@ pub fn desk<S: Source, K: Sink>(
     ensures words { AnswersWords (job_of (map string_bytes words.now)) result input.old input.new output.old output.new }
 
     // What was read and written, by the status: with Ok and ShowRefused the whole text of the job.
-    ensures ended { OfJob (map string_bytes words.now) (S.left input.old) (λ job bytes. HasEnded result job bytes (S.left input.new) (K.holds output.old) (K.holds output.new)) }
+    ensures ended { OfJob (map string_bytes words.now) (S.left input.old)
+        (λ job bytes. HasEnded result job bytes (S.left input.new) (K.holds output.old) (K.holds output.new)) }
 
     // After every status it is a prefix of the whole text.
-    ensures prefix { OfJob (map string_bytes words.now) (S.left input.old) (λ job bytes. WritesPrefix job bytes (K.holds output.old) (K.holds output.new)) }
+    ensures prefix { OfJob (map string_bytes words.now) (S.left input.old)
+        (λ job bytes. WritesPrefix job bytes (K.holds output.old) (K.holds output.new)) }
 
     // ReadFault and WriteFault have their causes. Want of memory alone is free.
     ensures cause { HasCauseOf result (S.faults input.old) (S.faults input.new) (K.faults output.old) (K.faults output.new) }
@@ -70,7 +72,8 @@ pub fn desk<S: Source, K: Sink>(
 /// Does the job.
 fn run<S: Source, K: Sink>(alloc: Global, job: Job, input: &mut S, output: &mut K) -> Status
     ensures words { AnswersWords (Some job) result input.old input.new output.old output.new }
-    ensures ended { IfSome (given_to job (S.left input.old)) (λ bytes. HasEnded result job bytes (S.left input.new) (K.holds output.old) (K.holds output.new)) }
+    ensures ended { IfSome (given_to job (S.left input.old))
+        (λ bytes. HasEnded result job bytes (S.left input.new) (K.holds output.old) (K.holds output.new)) }
     ensures prefix { IfSome (given_to job (S.left input.old)) (λ bytes. WritesPrefix job bytes (K.holds output.old) (K.holds output.new)) }
     ensures cause { HasCauseOf result (S.faults input.old) (S.faults input.new) (K.faults output.old) (K.faults output.new) }
 {

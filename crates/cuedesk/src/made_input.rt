@@ -6,7 +6,7 @@ ghost use Rattle.std.specs.List.{range_with_len};
 ghost use Rattle.lx_io.specs.Puts.{Puts};
 ghost use Rattle.lx_spec.specs.ShowText.{line};
 ghost use Rattle.lx_spec.specs.MakeOutput.{drawn_from, made_cue, made_patch, made_turn, made_input};
-ghost use Rattle.cuedesk.specs.Generator.{chan_text, cue_head, cue_text, go_text, patched_text, set_text, turn_text};
+ghost use Rattle.cuedesk.specs.Generator.{chan_text, cue_head, cue_text, go_text, made_show, patched_text, set_text, turn_text};
 
 use crate::draws::{Cue, Draws, Setting, Turn};
 use lx_io::{PlainSink, Sink, SinkFault, put_all};
@@ -37,8 +37,7 @@ fn put_input<K: Sink>(cues: u32, sink: &mut K) -> Result<(), SinkFault>
 /// Appends the show.
 fn put_show<K: Sink>(cues: u32, draws: &mut Draws, sink: &mut K) -> Result<(), SinkFault>
     requires { draws.old.number ≡ cues }
-    ensures text { Puts K.holds K.faults K.wants sink.old sink.new result
-        (line (codes "IDENT" ∷ codes "3:0" ∷ []) ++ flat_map made_patch (range_with_len 1 512) ++ flat_map (made_cue cues) (range_with_len 1 cues) ++ line (codes "ENDDATA" ∷ [])) }
+    ensures text { Puts K.holds K.faults K.wants sink.old sink.new result (made_show cues) }
     ensures draws { OnOk result (draws.new.number ≡ drawn_from cues (9 * cues)) }
 {
     put_all(sink, b"IDENT 3:0\n")?;
@@ -117,7 +116,8 @@ fn put_setting<K: Sink>(setting: Setting, sink: &mut K) -> Result<(), SinkFault>
 /// Appends the script.
 fn put_script<K: Sink>(cues: u32, draws: &mut Draws, sink: &mut K) -> Result<(), SinkFault>
     requires { draws.old.number ≡ drawn_from cues (9 * cues) }
-    ensures { Puts K.holds K.faults K.wants sink.old sink.new result (flat_map (made_turn cues) (range_with_len 1 cues) ++ line (codes "quit" ∷ [])) }
+    ensures { Puts K.holds K.faults K.wants sink.old sink.new result
+        (flat_map (made_turn cues) (range_with_len 1 cues) ++ line (codes "quit" ∷ [])) }
 {
     put_turns(cues, draws, sink)?;
     put_all(sink, b"quit\n")

@@ -81,9 +81,12 @@ fn tell_session<S: Source, K: Sink>(
     requires going { IsTrue lines.old.going }
     requires within { lines.old.taken ≤ INPUT_BYTES }
     ensures works { EndsScript result }
-    ensures ended { IfSome (unread S.left lines.old) (λ bytes. HasTold result cues (opened show) lines.old.taken bytes (K.holds output.old) (K.holds output.new)) }
-    ensures front { IfSome (unread S.left lines.old) (λ bytes. TellsInFront cues (opened show) (lines_of bytes) (K.holds output.old) (K.holds output.new)) }
-    ensures cause { HasCauseOf result (S.faults lines.old.source.now) (S.faults lines.new.source.now) (K.faults output.old) (K.faults output.new) }
+    ensures ended { IfSome (unread S.left lines.old)
+        (λ bytes. HasTold result cues (opened show) lines.old.taken bytes (K.holds output.old) (K.holds output.new)) }
+    ensures front { IfSome (unread S.left lines.old)
+        (λ bytes. TellsInFront cues (opened show) (lines_of bytes) (K.holds output.old) (K.holds output.new)) }
+    ensures cause { HasCauseOf result (S.faults lines.old.source.now) (S.faults lines.new.source.now) (K.faults output.old)
+        (K.faults output.new) }
 {
     let Ok(mut console) = Console::open(alloc, show) else {
         return Status::Memory;

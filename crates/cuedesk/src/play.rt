@@ -28,10 +28,14 @@ pub(crate) fn play<S: Source, K: Sink>(
     requires within { lines.old.taken ≤ INPUT_BYTES }
     ensures same_reference { lines.new.source.ghost_name ≡ lines.old.source.ghost_name }
     ensures works { EndsScript result }
-    ensures ended { IfSome (unread S.left lines.old) (λ bytes. HasPlayed result (opened show) lines.old.taken bytes (S.left lines.new.source.now) (K.holds output.old) (K.holds output.new)) }
-    ensures front { IfSome (unread S.left lines.old) (λ bytes. AnswersInFront (opened show) (lines_of bytes) (K.holds output.old) (K.holds output.new)) }
+    ensures ended { IfSome (unread S.left lines.old)
+        (λ bytes. HasPlayed result (opened show) lines.old.taken bytes (S.left lines.new.source.now) (K.holds output.old)
+        (K.holds output.new)) }
+    ensures front { IfSome (unread S.left lines.old)
+        (λ bytes. AnswersInFront (opened show) (lines_of bytes) (K.holds output.old) (K.holds output.new)) }
     ensures later { S.faults lines.old.source.now ≤ S.faults lines.new.source.now }
-    ensures cause { HasCauseOf result (S.faults lines.old.source.now) (S.faults lines.new.source.now) (K.faults output.old) (K.faults output.new) }
+    ensures cause { HasCauseOf result (S.faults lines.old.source.now) (S.faults lines.new.source.now) (K.faults output.old)
+        (K.faults output.new) }
 {
     let Ok(mut console) = Console::open(alloc, show) else {
         return Status::Memory;

@@ -22,7 +22,8 @@ pub(crate) fn render<S: Source, K: Sink>(
     output: &mut K,
 ) -> Status
     ensures works { EndsJob result }
-    ensures ended { IfSome (S.left input.old) (λ bytes. HasEnded result (Render form) bytes (S.left input.new) (K.holds output.old) (K.holds output.new)) }
+    ensures ended { IfSome (S.left input.old) (λ bytes. HasEnded result (Render form) bytes (S.left input.new) (K.holds output.old)
+        (K.holds output.new)) }
     ensures prefix { IfSome (S.left input.old) (λ bytes. WritesPrefix (Render form) bytes (K.holds output.old) (K.holds output.new)) }
     ensures cause { HasCauseOf result (S.faults input.old) (S.faults input.new) (K.faults output.old) (K.faults output.new) }
 {

@@ -29,7 +29,8 @@ pub(crate) fn sheet<S: Source, K: Sink>(
     output: &mut K,
 ) -> Status
     ensures works { EndsJob result }
-    ensures ended { IfSome (S.left input.old) (λ bytes. HasEnded result (jobs.Sheet form) bytes (S.left input.new) (K.holds output.old) (K.holds output.new)) }
+    ensures ended { IfSome (S.left input.old) (λ bytes. HasEnded result (jobs.Sheet form) bytes (S.left input.new) (K.holds output.old)
+        (K.holds output.new)) }
     ensures prefix { IfSome (S.left input.old) (λ bytes. WritesPrefix (jobs.Sheet form) bytes (K.holds output.old) (K.holds output.new)) }
     ensures cause { HasCauseOf result (S.faults input.old) (S.faults input.new) (K.faults output.old) (K.faults output.new) }
 {

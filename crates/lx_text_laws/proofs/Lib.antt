@@ -12,3 +12,4 @@ pub mod ShowBack
 pub mod RecordsBack
 pub mod WholeText
 pub mod LookLevels
+mod ReadBack

@@ -3,7 +3,8 @@ use Rattle.std.specs.Prelude.{codes, flat_map}
 use Rattle.std.specs.List.{range_with_len}
 use Rattle.lx_io.proofs.Chain.{Puts-then, Puts-fails, Puts-stops, Puts-is}
 use Rattle.lx_spec.specs.ShowText.{line}
-use Rattle.lx_spec.specs.MakeOutput.{made_patch, made_cue, made_turn}
+use Rattle.lx_spec.specs.MakeOutput.{made_turn}
+use Rattle.cuedesk.specs.Generator.{made_show}
 use Rattle.cuedesk.proofs.made_input.put_input.Goals as goal
 
 pub returns-in_err-put_show : goal.returns-in_err-put_show
@@ -13,5 +14,4 @@ returns-in_err-put_show g c =
 pub returns : goal.returns
 returns g c =
     let n = c.args.cues in
-    let show : List ℕ = line (codes "IDENT" ∷ codes "3:0" ∷ []) ++ flat_map made_patch (range_with_len 1 512) ++ flat_map (made_cue n) (range_with_len 1 n) ++ line (codes "ENDDATA" ∷ []) in
-    Puts-is (Puts-then c.in_ok-put_show.ensures.text c.put_script.ensures) (sym (append_assoc show (flat_map (made_turn n) (range_with_len 1 n)) (line (codes "quit" ∷ []))))
+    Puts-is (Puts-then c.in_ok-put_show.ensures.text c.put_script.ensures) (sym (append_assoc (made_show n) (flat_map (made_turn n) (range_with_len 1 n)) (line (codes "quit" ∷ []))))

@@ -2,7 +2,6 @@
 
 ghost use Rattle.std.specs.Prelude.{◌≡◌, ◌<◌, ◌⊎◌, length, IfOk, IfErr};
 ghost use Rattle.lx_base.specs.declared.TheConstants.{INPUT_BYTES};
-ghost use Rattle.lx_spec.specs.Show.{Valid};
 ghost use Rattle.lx_spec.specs.ShowText.{show_text};
 ghost use Rattle.lx_reader.specs.Answer.{reading_of};
 
@@ -20,14 +19,15 @@ const PIECE: usize = 65_536;
 /// Writes a show's canonical text, and reads it back: what comes is the show, with no skipped line. `InputTooLong` comes
 /// only where the text is longer than the limit of an input, and `Memory` where memory was wanted in vain.
 pub fn read_back(alloc: Global, show: &Show) -> Result<Loaded, ShowFault>
-    requires { Valid show.now }
     ensures same { IfOk result (λ loaded. reading_of loaded ≡ record { show = show.now; skipped = 0; first_skipped = 0 }) }
     ensures fault { IfErr result (λ fault. (fault ≡ ShowFault.Memory) ⊎ ((fault ≡ ShowFault.InputTooLong) × (INPUT_BYTES < length (show_text show.now)))) }
 {
+    // A show is always valid, and its calls tell so.
+    let _ = show.channels();
     let mut sink = PlainSink::new(alloc);
-    if write_show(show, &mut sink).is_err() {
+    let Ok(()) = write_show(show, &mut sink) else {
         return Err(ShowFault::Memory);
-    }
+    };
     let mut source = PlainSource::new(sink.into_bytes(), PIECE);
     let mut lines = Lines::new(&mut source);
     read_show(alloc, &mut lines, Form::Moves)
