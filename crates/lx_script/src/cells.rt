@@ -1,12 +1,12 @@
 //! Words for levels that aren't 0, each behind a space.
 #![tactic(auto, using(lx_io::proofs::Chain::puts))]
 
-ghost use Rattle.std.specs.Prelude.{◌≡◌, ◌+◌, ◌-◌, ◌*◌, ◌/◌, ◌%◌, ◌<◌, ◌≤◌, ◌^◌, ◌≢◌, ◌++◌, ◌∷◌, length, drop, decimal, flat_map};
+ghost use Rattle.std.specs.Prelude.{◌≡◌, ◌+◌, ◌-◌, ◌*◌, ◌<◌, ◌≤◌, ◌^◌, ◌≢◌, ◌++◌, ◌∷◌, length, drop, decimal, flat_map};
 ghost use Rattle.lx_io.specs.Puts.{Puts};
 ghost use Rattle.lx_spec.specs.Replies.{cells};
 ghost use Rattle.lx_script.specs.Cells.{cells_from};
 
-use crate::rows::{LEVELS, NUMBERS, PAIRS};
+use crate::rows::{DIGITS, LEVELS, NUMBERS};
 use itoa::write_digits;
 use lx_base::Level;
 use lx_io::{Sink, SinkFault, put_all};
@@ -101,39 +101,11 @@ fn write_number(number: u64, text: &mut [u8; PIECE_BYTES], end: usize) -> usize
     ensures start { result + length (decimal number) + 1 ≡ end }
     ensures text { drop result text.new ≡ 32 ∷ (decimal number ++ drop end text.old) }
 {
-    if number < 100 {
-        write_short(number, text, end)
-    } else if number < 10_000 {
-        let end = write_pair(number % 100, text, end);
-        write_short(number / 100, text, end)
+    if number < 1000 {
+        write_row(&NUMBERS[number as usize], digits(number) + 1, text, end)
     } else {
         write_word(number, b' ', text, end)
     }
-}
-
-/// Writes a space and a number below 100 so that they end at a place, and says where they begin.
-#[inline(always)]
-fn write_short(number: u64, text: &mut [u8; PIECE_BYTES], end: usize) -> usize
-    requires few { number < 100 }
-    requires room { 4 ≤ end }
-    requires within { end ≤ PIECE_BYTES }
-    ensures start { result + length (decimal number) + 1 ≡ end }
-    ensures text { drop result text.new ≡ 32 ∷ (decimal number ++ drop end text.old) }
-{
-    write_row(&NUMBERS[number as usize], digits(number) + 1, text, end)
-}
-
-/// Writes the last two digits of a number so that they end at a place, and says where they begin.
-#[inline(always)]
-fn write_pair(pair: u64, text: &mut [u8; PIECE_BYTES], end: usize) -> usize
-    requires few { pair < 100 }
-    requires room { 2 ≤ end }
-    requires within { end ≤ PIECE_BYTES }
-    ensures start { result + 2 ≡ end }
-    ensures text { drop result text.new ≡ (48 + pair / 10) ∷ (48 + pair % 10) ∷ drop end text.old }
-{
-    text[end - 2..end].copy_from_slice(&PAIRS[pair as usize]);
-    end - 2
 }
 
 /// How many digits a number below 1,000 has.
@@ -143,13 +115,7 @@ fn digits(number: u64) -> usize
     ensures few { result ≤ 3 }
     ensures digits { result ≡ length (decimal number) }
 {
-    if number < 10 {
-        1
-    } else if number < 100 {
-        2
-    } else {
-        3
-    }
+    DIGITS[number as usize] as usize
 }
 
 /// Writes the last bytes of a row so that they end at a place, and says where they begin.
