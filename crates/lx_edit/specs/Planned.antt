@@ -1,5 +1,6 @@
 -- What a plan makes of the show that it was made for.
-use Rattle.std.specs.Prelude.{◌≡◌, ℕ, ◌<◌, ◌≤◌, ◌⊎◌, Bool, true, false, ◌||◌, IsTrue, nat_lt, Option, Some, None, IfSome, IsOk, Result, Ok, Err, length, MatchResult, ⊤}
+use Rattle.std.specs.Prelude.{◌≡◌, ℕ, ◌<◌, ◌≤◌, ◌⊎◌, Bool, true, false, ◌||◌, IsTrue, nat_lt, Option, Some, None, IfSome, IsOk, Result, Ok}
+use Rattle.std.specs.Prelude.{Err, length, MatchResult, ⊤}
 use Rattle.lx_base.specs.declared.TheConstants.{CUES}
 use Rattle.lx_spec.specs.declared.Edit.{Edit}
 use Rattle.lx_spec.specs.declared.Edit.TheVariants.{SubMember, Patch, Unpatch}
@@ -32,7 +33,8 @@ pub record CanPlace (show : Show) (cue : Cue) : Type 0 where
   pub valid : ValidCue show.channels cue
   pub room : IsTrue (has_entry (λ x. x.number) cue.number show.cues || nat_lt (length show.cues) CUES)
 
--- Cue only: the show after the change of the cue is given this cue too, in the place of the one above it, and from it on each channel keeps its level.
+-- Cue only: the show after the change of the cue is given this cue too, in the place of the one above it, and from it on each channel keeps
+-- its level.
 pub record KeepsAbove (show after : Show) (n : ℕ) (kept : Cue) : Type 0 where
   pub cue : IsTrue (has_entry (λ x. x.number) n show.cues)
   pub above : IsTrue (has_entry (λ x. x.number) kept.number show.cues)
@@ -42,7 +44,8 @@ pub record KeepsAbove (show after : Show) (n : ℕ) (kept : Cue) : Type 0 where
 -- the plan may be applied to the show
 abbrev pub IsReady : Show → Plan → Type 0
 IsReady show Nothing = ⊤
-IsReady show (PlaceCue cue above) = CanPlace show cue × IfSome above (λ kept. CanPlace (with_cue show cue) kept × KeepsAbove show (with_cue show cue) cue.number kept)
+IsReady show (PlaceCue cue above) =
+    CanPlace show cue × IfSome above (λ kept. CanPlace (with_cue show cue) kept × KeepsAbove show (with_cue show cue) cue.number kept)
 IsReady show (RemoveCue n above) = (1 ≤ n) × IfSome above (CanPlace (without_cue show n))
 IsReady show (PlaceGroup group) = ValidGroup show.channels group
 IsReady show (PlaceSub sub) = ValidSub show.channels sub

@@ -23,7 +23,8 @@ pub(crate) fn the_cue(show: &Show, n: CueNo) -> Result<&Cue, Refusal>
 
 /// The cue's part of the number.
 pub(crate) fn the_part(cue: &Cue, p: PartNo) -> Result<Part, Refusal>
-    ensures { MatchResult result (λ part. entry_at (λ x. x.number) p cue.now.parts ≡ Some part) (λ refusal. the_part cue.now p ≡ Err refusal) }
+    ensures { MatchResult result (λ part. entry_at (λ x. x.number) p cue.now.parts ≡ Some part)
+        (λ refusal. the_part cue.now p ≡ Err refusal) }
 {
     match cue.part(p) {
         Some(part) => Ok(part),
@@ -59,7 +60,8 @@ pub(crate) fn the_channels(show: &Show, range: ChanRange) -> Result<(), Refusal>
 
 /// The group of the number.
 pub(crate) fn the_group(show: &Show, g: GroupNo) -> Result<&Group, Refusal>
-    ensures group { MatchResult result (λ group. entry_at (λ x. x.number) g show.now.groups ≡ Some group.now) (λ refusal. the_group show.now g ≡ Err refusal) }
+    ensures group { MatchResult result (λ group. entry_at (λ x. x.number) g show.now.groups ≡ Some group.now)
+        (λ refusal. the_group show.now g ≡ Err refusal) }
     ensures valid { MatchResult result (λ group. ValidGroup show.now.channels group.now) (λ refusal. the_group show.now g ≡ Err refusal) }
 {
     match show.group(g) {
@@ -70,7 +72,8 @@ pub(crate) fn the_group(show: &Show, g: GroupNo) -> Result<&Group, Refusal>
 
 /// Each channel of the range has a move in the cue; else the least that has none is the refusal.
 pub(crate) fn the_moves(cue: &Cue, range: ChanRange) -> Result<(), Refusal>
-    ensures { MatchResult result (λ _. find (λ c. is_none (move_in cue.now c)) (channels_in range) ≡ None) (λ refusal. the_moves cue.now (channels_in range) ≡ Err refusal) }
+    ensures { MatchResult result (λ _. find (λ c. is_none (move_in cue.now c)) (channels_in range) ≡ None)
+        (λ refusal. the_moves cue.now (channels_in range) ≡ Err refusal) }
 {
     let first = range.first().get();
     let last = range.last().get();

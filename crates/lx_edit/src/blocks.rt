@@ -30,7 +30,9 @@ pub(crate) fn block(alloc: Global, show: &Show, n: CueNo) -> Result<Plan, Refusa
 
 /// The moves of the channels that have none in the cue, to their tracked levels at it that aren't 0.
 fn taken_over(alloc: Global, show: &Show, cue: &Cue) -> Result<Vec<Move>, AllocError>
-    ensures { IfOk result (λ moves. moves.items ≡ moves_for show.now (λ c. is_none (move_in cue.now c) && not (tracked show.now cue.now.number c == 0)) (λ c. tracked show.now cue.now.number c)) }
+    ensures { IfOk result (λ moves. moves.items
+        ≡ moves_for show.now (λ c. is_none (move_in cue.now c) && not (tracked show.now cue.now.number c == 0))
+        (λ c. tracked show.now cue.now.number c)) }
 {
     let mut moves = Vec::new(alloc);
     for k in 1..show.channels() + 1 {
@@ -43,7 +45,8 @@ fn taken_over(alloc: Global, show: &Show, cue: &Cue) -> Result<Vec<Move>, AllocE
 
 /// The channel's tracked level at the cue that has no move of it, unless that is 0.
 fn level_taken_over(show: &Show, cue: &Cue, c: Chan) -> Option<Level>
-    ensures { result ≡ (if is_none (move_in cue.now c) && not (tracked show.now cue.now.number c == 0) then Some (tracked show.now cue.now.number c) else None) }
+    ensures { result ≡ (if is_none (move_in cue.now c) && not (tracked show.now cue.now.number c == 0) then Some
+        (tracked show.now cue.now.number c) else None) }
 {
     if cue.move_of(c).is_some() {
         return None;
@@ -69,7 +72,8 @@ pub(crate) fn unblock(alloc: Global, show: &Show, n: CueNo) -> Result<Plan, Refu
 
 /// The moves to 0 of the channels that have none in the cue, and whose tracked level below it isn't 0.
 fn kept_out(alloc: Global, show: &Show, cue: &Cue) -> Result<Vec<Move>, AllocError>
-    ensures { IfOk result (λ moves. moves.items ≡ moves_for show.now (λ c. is_none (move_in cue.now c) && not (tracked show.now (cue.now.number - 1) c == 0)) (λ c. 0)) }
+    ensures { IfOk result (λ moves. moves.items
+        ≡ moves_for show.now (λ c. is_none (move_in cue.now c) && not (tracked show.now (cue.now.number - 1) c == 0)) (λ c. 0)) }
 {
     let mut moves = Vec::new(alloc);
     for k in 1..show.channels() + 1 {

@@ -57,7 +57,8 @@ fn kept_above(
 ) -> Result<Option<Cue>, AllocError>
     requires there { FoundCue show.now n old.now }
     requires number { IfSome new (λ cue. cue.now.number ≡ n) }
-    ensures above { IfOk result (λ above. with_above above (changed_show show.now n (option_copied new.entry)) ≡ cue_only only show.now n (changed_show show.now n (option_copied new.entry))) }
+    ensures above { IfOk result (λ above. with_above above (changed_show show.now n (option_copied new.entry))
+        ≡ cue_only only show.now n (changed_show show.now n (option_copied new.entry))) }
     ensures valid { IfOk result (λ above. IfSome above (CanPlace (changed_show show.now n (option_copied new.entry)))) }
     ensures keeps { IfOk result (λ above. IfSome above (KeepsAbove show.now (changed_show show.now n (option_copied new.entry)) n)) }
 {
@@ -84,7 +85,10 @@ fn keeping(
     requires number { IfSome new (λ cue. cue.now.number ≡ n) }
     requires above { cue_above show.now n ≡ Some above.now }
     requires valid { ValidCue show.now.channels above.now }
-    ensures kept { IfOk result (λ kept. kept ≡ with_moves above.now (moves_for show.now (λ c. not (tracked show.now above.now.number c == tracked (changed_show show.now n (option_copied new.entry)) above.now.number c)) (λ c. tracked show.now above.now.number c))) }
+    ensures kept { IfOk result (λ kept. kept ≡ with_moves above.now
+        (moves_for show.now (λ c. not
+        (tracked show.now above.now.number c == tracked (changed_show show.now n (option_copied new.entry)) above.now.number c))
+        (λ c. tracked show.now above.now.number c))) }
     ensures valid { IfOk result (ValidCue show.now.channels) }
 {
     let moves = kept_moves(alloc, show, n, old, new, above)?;
@@ -103,7 +107,10 @@ fn kept_moves(
     requires there { FoundCue show.now n old.now }
     requires number { IfSome new (λ cue. cue.now.number ≡ n) }
     requires above { cue_above show.now n ≡ Some above.now }
-    ensures { IfOk result (λ moves. moves.items ≡ moves_for show.now (λ c. not (tracked show.now above.now.number c == tracked (changed_show show.now n (option_copied new.entry)) above.now.number c)) (λ c. tracked show.now above.now.number c)) }
+    ensures { IfOk result (λ moves. moves.items
+        ≡ moves_for show.now (λ c. not
+        (tracked show.now above.now.number c == tracked (changed_show show.now n (option_copied new.entry)) above.now.number c))
+        (λ c. tracked show.now above.now.number c)) }
 {
     let mut moves = Vec::new(alloc);
     for k in 1..show.channels() + 1 {
@@ -126,7 +133,9 @@ fn kept_level(
     requires there { FoundCue show.now n old.now }
     requires number { IfSome new (λ cue. cue.now.number ≡ n) }
     requires above { cue_above show.now n ≡ Some above.now }
-    ensures { result ≡ (if not (tracked show.now above.now.number c == tracked (changed_show show.now n (option_copied new.entry)) above.now.number c) then Some (tracked show.now above.now.number c) else None) }
+    ensures { result ≡ (if not (tracked show.now above.now.number c == tracked
+        (changed_show show.now n (option_copied new.entry)) above.now.number c) then Some
+        (tracked show.now above.now.number c) else None) }
 {
     if differs(show, n, old, new, above, c) {
         Some(show.tracked(above.number, c))
@@ -140,7 +149,8 @@ fn differs(show: &Show, n: CueNo, old: &Cue, new: Option<&Cue>, above: &Cue, c: 
     requires there { FoundCue show.now n old.now }
     requires number { IfSome new (λ cue. cue.now.number ≡ n) }
     requires above { cue_above show.now n ≡ Some above.now }
-    ensures { result ≡ not (tracked show.now above.now.number c == tracked (changed_show show.now n (option_copied new.entry)) above.now.number c) }
+    ensures { result ≡ not (tracked show.now above.now.number c == tracked
+        (changed_show show.now n (option_copied new.entry)) above.now.number c) }
 {
     let _ = show.channels();
     if above.decides(c) {

@@ -30,7 +30,8 @@ pub(crate) fn mark_change(
 )
     requires { StandsFor show.now sheet.now }
     ensures grows { Grows chans.old chans.new }
-    ensures same { (c : ℕ) → has_chan chans.new c ≡ false → SameEntry (cue_of show.now n) (option_copied new.entry) c (tracked show.now (n - 1) c) }
+    ensures same { (c : ℕ) → has_chan chans.new c ≡ false
+        → SameEntry (cue_of show.now n) (option_copied new.entry) c (tracked show.now (n - 1) c) }
 {
     let _ = show.channels();
     let old = show.cue(n);
@@ -44,7 +45,8 @@ pub(crate) fn mark_change(
 /// Adds the channels whose moves in the one cue the other hasn't.
 fn mark_moves(chans: &mut ChanSet, cue: Option<&Cue>, other: Option<&Cue>)
     ensures grows { Grows chans.old chans.new }
-    ensures marked { (c : ℕ) → has_chan chans.new c ≡ false → IfSome (move_by (option_copied cue.entry) c) (λ m. move_by (option_copied other.entry) c ≡ Some m) }
+    ensures marked { (c : ℕ) → has_chan chans.new c ≡ false
+        → IfSome (move_by (option_copied cue.entry) c) (λ m. move_by (option_copied other.entry) c ≡ Some m) }
 {
     if let Some(cue) = cue {
         mark_all(chans, cue.moves.as_slice(), other);
@@ -54,7 +56,8 @@ fn mark_moves(chans: &mut ChanSet, cue: Option<&Cue>, other: Option<&Cue>)
 /// Adds the channels of the moves that the cue hasn't.
 fn mark_all(chans: &mut ChanSet, moves: &[Move], other: Option<&Cue>)
     ensures grows { Grows chans.old chans.new }
-    ensures marked { AllByRecursion (λ m. has_chan chans.new m.chan ≡ false → move_by (option_copied other.entry) m.chan ≡ Some m) moves.now }
+    ensures marked { AllByRecursion (λ m. has_chan chans.new m.chan ≡ false
+        → move_by (option_copied other.entry) m.chan ≡ Some m) moves.now }
 {
     let mut near = 0;
     for entry in moves {
@@ -133,7 +136,8 @@ fn is_block(cue: Option<&Cue>) -> bool
 /// Adds each channel that has no move in the cue, and at which another level than 0 tracks into it.
 fn mark_tracked(chans: &mut ChanSet, sheet: &Sheet, n: CueNo, cue: Option<&Cue>)
     ensures grows { Grows chans.old chans.new }
-    ensures marked { (c : ℕ) → 1 ≤ c → c ≤ CHANNELS → has_chan chans.new c ≡ false → move_by (option_copied cue.entry) c ≡ None → level_of sheet.now (n - 1) c ≡ 0 }
+    ensures marked { (c : ℕ) → 1 ≤ c → c ≤ CHANNELS → has_chan chans.new c ≡ false → move_by (option_copied cue.entry) c ≡ None
+        → level_of sheet.now (n - 1) c ≡ 0 }
 {
     for k in 1..CHANNELS + 1 {
         mark_at(chans, sheet, n, cue, channel(k));

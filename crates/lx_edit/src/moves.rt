@@ -43,7 +43,8 @@ pub(crate) fn in_proportion(
     level: Level,
 ) -> Result<Vec<Member>, AllocError>
     requires { IsTrue (has_entry (λ x. x.number) g show.now.groups) }
-    ensures { IfOk result (λ scaled. IsSomeAnd (entry_at (λ x. x.number) g show.now.groups) (λ group. scaled.items ≡ map (in_proportion level) group.members)) }
+    ensures { IfOk result (λ scaled. IsSomeAnd (entry_at (λ x. x.number) g show.now.groups)
+        (λ group. scaled.items ≡ map (in_proportion level) group.members)) }
 {
     members(show, g, level).collect(alloc)
 }
@@ -74,7 +75,8 @@ fn moves_to(
     part: Option<PartNo>,
     members: &[Member],
 ) -> Result<Vec<Move>, AllocError>
-    ensures { IfOk result (λ moves. moves.items ≡ map (λ m. record { chan = m.chan; part = part_for part cue.now m.chan; level = m.level }) members.now) }
+    ensures { IfOk result (λ moves. moves.items
+        ≡ map (λ m. record { chan = m.chan; part = part_for part cue.now m.chan; level = m.level }) members.now) }
 {
     members
         .iter()

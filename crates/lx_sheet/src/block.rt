@@ -97,8 +97,11 @@ fn fill_rows(
     requires order { length order.now ≡ length cues.now }
     requires rows { AreApart (own_rows order.now) }
     requires valid { AllByRecursion (ValidCue (length look.old)) cues.now }
-    ensures front { (k c : ℕ) → k < from → k < length order.now → cue_level (length look.old) order.now levels.new k c ≡ cue_level (length look.old) order.now levels.old k c }
-    ensures rows { ((c : ℕ) → level_in_look look.old c ≡ level_after (take from cues.now) c) → Follows (length look.old) order.now cues.now levels.old sure → (k c : ℕ) → from ≤ k → k < length cues.now → IsRight (length look.old) order.now cues.now levels.new k c }
+    ensures front { (k c : ℕ) → k < from → k < length order.now
+        → cue_level (length look.old) order.now levels.new k c ≡ cue_level (length look.old) order.now levels.old k c }
+    ensures rows { ((c : ℕ) → level_in_look look.old c ≡ level_after (take from cues.now) c)
+        → Follows (length look.old) order.now cues.now levels.old sure → (k c : ℕ) → from ≤ k → k < length cues.now
+        → IsRight (length look.old) order.now cues.now levels.new k c }
 {
     for place in from..cues.len() {
         track(look, &cues[place]);
@@ -129,8 +132,10 @@ pub(crate) fn fill_column(
     requires within { chan ≤ channels }
     ensures others { (r c : ℕ) → c ≢ chan → cell channels levels.new r c ≡ cell channels levels.old r c }
     ensures front { (k : ℕ) → k < from → cue_level channels order.now levels.new k chan ≡ cue_level channels order.now levels.old k chan }
-    ensures back { (k : ℕ) → to ≤ k → k < length cues.now → cue_level channels order.now levels.new k chan ≡ cue_level channels order.now levels.old k chan }
-    ensures rows { last_value from (λ k. cue_level channels order.now levels.old k chan) ≡ level_after (take from cues.now) chan → (k : ℕ) → from ≤ k → k < to → IsRight channels order.now cues.now levels.new k chan }
+    ensures back { (k : ℕ) → to ≤ k → k < length cues.now
+        → cue_level channels order.now levels.new k chan ≡ cue_level channels order.now levels.old k chan }
+    ensures rows { last_value from (λ k. cue_level channels order.now levels.old k chan) ≡ level_after (take from cues.now) chan
+        → (k : ℕ) → from ≤ k → k < to → IsRight channels order.now cues.now levels.new k chan }
 {
     let at = chan.get() as usize - 1;
     let mut level = level_before(levels, channels, order, from, at);

@@ -65,7 +65,8 @@ impl Sheet {
     /// The cue was added: a sheet that stood for the show without it stands for the show. No other row is moved.
     pub fn insert_row(&mut self, show: &Show, n: CueNo)
         requires { self.old.channels ≡ show.now.channels }
-        ensures { (before : ShowData) (cue : CueData) → StandsFor before self.old → cue.number ≡ n → cue_of before n ≡ None → show.now ≡ with_cue before cue → StandsFor show.now self.new }
+        ensures { (before : ShowData) (cue : CueData) → StandsFor before self.old → cue.number ≡ n → cue_of before n ≡ None
+            → show.now ≡ with_cue before cue → StandsFor show.now self.new }
     {
         let cues = show.cues();
         if let Some(at) = add_place(&mut self.order, &mut self.free, n) {

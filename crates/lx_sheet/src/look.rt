@@ -26,7 +26,8 @@ pub(crate) fn track(look: &mut [Level], cue: &Cue)
 /// Each move sets its channel's level.
 fn place_moves(look: &mut [Level], moves: &[Move])
     requires { All (λ m. m.chan ≤ length look.old) moves.now }
-    ensures { (c : ℕ) → level_in_look look.new c ≡ option_map_or (λ m. m.level) (entry_at (λ m. m.chan) c moves.now) (level_in_look look.old c) }
+    ensures { (c : ℕ) → level_in_look look.new c
+        ≡ option_map_or (λ m. m.level) (entry_at (λ m. m.chan) c moves.now) (level_in_look look.old c) }
 {
     for i in (0..moves.len()).rev() {
         let entry = moves[i];

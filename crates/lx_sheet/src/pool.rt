@@ -22,7 +22,8 @@ pub(crate) fn add_place(order: &mut Vec<Place>, free: &mut Vec<usize>, n: CueNo)
     ensures room { vec_capacity order.new ≡ vec_capacity order.old }
     ensures free_room { vec_capacity free.new ≡ vec_capacity free.old }
     ensures goes { IfSome result (GoesAt (λ p. p.cue) n order.old.items) }
-    ensures added { IfSome result (λ at. order.new.items ≡ insert order.old.items at (record { cue = n; row = row_at_place order.new.items at })) }
+    ensures added { IfSome result (λ at. order.new.items
+        ≡ insert order.old.items at (record { cue = n; row = row_at_place order.new.items at })) }
     ensures none { result ≡ None → entry_at (λ p. p.cue) n order.old.items ≡ None → CUES ≤ length order.old.items }
 {
     match index_of(order.as_slice(), n.get()) {

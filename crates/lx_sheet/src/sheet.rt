@@ -56,7 +56,8 @@ impl Model for Sheet {
 
     ghost view = { λ s. record { channels = s.channels; rows = rows_of s.channels s.order.items s.levels.items } };
 
-    ghost invariant = { λ s. IsKept s.channels s.order.items (vec_capacity s.order) s.free.items (vec_capacity s.free) s.levels.items s.look.items };
+    ghost invariant = { λ s. IsKept s.channels s.order.items (vec_capacity s.order) s.free.items
+        (vec_capacity s.free) s.levels.items s.look.items };
 }
 
 impl Sheet {
@@ -83,7 +84,8 @@ impl Sheet {
     /// the number.
     pub fn row(&self, n: CueNo) -> Option<&[Level]>
         ensures row { option_copied result ≡ option_map (λ row. row.levels) (row_at self.now n) }
-        ensures stands { (show : ShowData) → StandsFor show self.now → option_copied result ≡ option_map (λ cue. row_of show n) (cue_of show n) }
+        ensures stands { (show : ShowData) → StandsFor show self.now
+            → option_copied result ≡ option_map (λ cue. row_of show n) (cue_of show n) }
     {
         let order = self.order.as_slice();
         match index_of(order, n.get()) {
