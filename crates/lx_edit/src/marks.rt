@@ -4,6 +4,7 @@ ghost use Rattle.std.specs.Prelude.{◌≡◌, ◌≤◌, ◌-◌, ℕ, true, fa
 ghost use Rattle.std.specs.Option.{option_copied};
 ghost use Rattle.std.specs.List.{AllByRecursion};
 ghost use Rattle.lx_base.specs.declared.TheConstants.{CHANNELS};
+ghost use Rattle.lx_spec.specs.SortedList.{IsStrictlySorted, entry_at};
 ghost use Rattle.lx_spec.specs.TrackedLevel.{cue_of, tracked};
 ghost use Rattle.lx_sheet.specs.Rows.{level_of};
 ghost use Rattle.lx_sheet.specs.Standing.{StandsFor};
@@ -15,6 +16,7 @@ use crate::blocks::below;
 use crate::chan_set::ChanSet;
 use lx_base::{CHANNELS, Chan, CueNo};
 use lx_sheet::Sheet;
+use lx_show::sorted::index_of;
 use lx_show::{Cue, Move, Show};
 
 /// Adds each channel that sees a difference between the show's cue of the number, which may be absent, and
@@ -57,8 +59,9 @@ fn mark_all(chans: &mut ChanSet, moves: &[Move], other: Option<&Cue>)
     ensures marked { AllByRecursion (λ m. has_chan chans.new m.chan ≡ false
         → move_by (option_copied other.entry) m.chan ≡ Some m) moves.now }
 {
+    let mut near = 0;
     for entry in moves {
-        mark(chans, entry, move_by(other, entry.chan));
+        mark(chans, entry, move_near(other, &mut near, entry.chan));
     }
 }
 
@@ -83,6 +86,33 @@ fn is_same(entry: &Move, other: Option<Move>) -> bool
                 && entry.level == other.level
         }
         None => false,
+    }
+}
+
+/// The channel's move in the cue, where that is there. It is looked for first at the place after the one that
+/// was found last.
+fn move_near(cue: Option<&Cue>, near: &mut usize, c: Chan) -> Option<Move>
+    ensures { result ≡ move_by (option_copied cue.entry) c }
+{
+    entry_near(cue?.moves.as_slice(), near, c)
+}
+
+/// The channel's move among these, looked for so.
+fn entry_near(moves: &[Move], near: &mut usize, c: Chan) -> Option<Move>
+    requires { IsStrictlySorted (λ m. m.chan) moves.now }
+    ensures { result ≡ entry_at (λ m. m.chan) c moves.now }
+{
+    let next = *near;
+    if next < moves.len() && moves[next].chan.get() == c.get() {
+        *near = next + 1;
+        return Some(moves[next]);
+    }
+    match index_of(moves, c.get()) {
+        Ok(at) => {
+            *near = at + 1;
+            Some(moves[at])
+        }
+        Err(_) => None,
     }
 }
 

@@ -26,6 +26,18 @@ fn cue(n: u8) -> CueNo
     }
 }
 
+/// The number of a cue in hundredths.
+fn number(k: u32) -> CueNo
+    requires least { 1 ≤ k }
+    requires most { k ≤ 2000 }
+    ensures { InRange CUE_MAX result }
+{
+    match CueNo::new(k) {
+        Some(n) => n,
+        None => unreachable!(),
+    }
+}
+
 fn chan(c: u16) -> Chan
     requires least { 1 ≤ c }
     requires most { c ≤ CHANNELS }
@@ -290,6 +302,62 @@ impl Desk {
     {
         for c in 256 * k + 1..256 * k + 257 {
             if self.sheet.level_at(cue(2), chan(c)) != level {
+                return false;
+            }
+        }
+        true
+    }
+
+    /// The cue of the number comes, and moves one of channels 1 to 4.
+    fn comes(&mut self, alloc: Global, k: u32) -> Result<(), Refusal>
+        requires least { 1 ≤ k }
+        requires most { k ≤ 2000 }
+    {
+        let c = (k % 4) as u16 + 1;
+        self.edit(alloc, Edit::MakeCue { cue: number(k) })?;
+        let brought = Edit::Set {
+            cue: number(k),
+            part: None,
+            range: range(c, c),
+            level: (k % 251) as u8,
+            only: false,
+        };
+        self.edit(alloc, brought)?;
+        Ok(())
+    }
+
+    /// The cue of the number goes.
+    fn goes(&mut self, alloc: Global, k: u32) -> Result<(), Refusal>
+        requires least { 1 ≤ k }
+        requires most { k ≤ 2000 }
+    {
+        let gone = Edit::DeleteCue {
+            cue: number(k),
+            only: false,
+        };
+        self.edit(alloc, gone)?;
+        Ok(())
+    }
+
+    /// At each tenth number the sheet gives the level that tracks in the show, and has a row exactly for a cue.
+    fn agrees(&self) -> bool {
+        for k in 1..200 {
+            let n = number(10 * k);
+            let c = chan((k % 4) as u16 + 1);
+            let there = self.show.cue(n).is_some();
+            if self.sheet.level_at(n, c) != self.show.tracked(n, c)
+                || self.sheet.row(n).is_some() != there
+            {
+                return false;
+            }
+        }
+        true
+    }
+
+    /// Channel 1 is at these levels in cues 1 to 5.
+    fn reads(&self, levels: [Level; 5]) -> bool {
+        for n in 1..6u8 {
+            if self.sheet.level_at(cue(n), chan(1)) != levels[n as usize - 1] {
                 return false;
             }
         }
@@ -609,6 +677,43 @@ fn an_absent_cue_or_channel_is_refused(rt: HostRuntime) -> Result<(), Fail> {
             &Refusal::AbsentDimmer(dimmer)
         )
     );
+    Ok(())
+}
+
+/// Channel 1 is moved in cues 1 and 4 of five.
+#[test]
+fn a_through_edit_ends_at_the_next_move(rt: HostRuntime) -> Result<(), Fail> {
+    let mut desk = Desk::open(rt.alloc(), 10)?;
+    for n in 1..6 {
+        desk.edit(rt.alloc(), Edit::MakeCue { cue: cue(n) })?;
+    }
+    desk.edit(rt.alloc(), set(1, 1, 1, 255, false))?;
+    desk.edit(rt.alloc(), set(4, 1, 1, 0, false))?;
+    assert!(rt; desk.reads([255, 255, 255, 0, 0]));
+    desk.edit(rt.alloc(), set(2, 1, 1, 100, false))?;
+    assert!(rt; desk.reads([255, 100, 100, 0, 0]));
+    desk.edit(rt.alloc(), release(2, 1, false))?;
+    desk.edit(rt.alloc(), set(2, 1, 1, 100, true))?;
+    assert!(rt; desk.reads([255, 100, 255, 0, 0]));
+    Ok(())
+}
+
+/// Cues come from the last to the first, each before all others, and go in a scattered order.
+#[test]
+fn rows_stand_while_cues_come_and_go(rt: HostRuntime) -> Result<(), Fail> {
+    let mut desk = Desk::open(rt.alloc(), 4)?;
+    for k in 0..2_000u32 {
+        desk.comes(rt.alloc(), 2_000 - k)?;
+        if k % 200 == 199 {
+            assert!(rt; desk.agrees(), "{k} came");
+        }
+    }
+    for k in 0..2_000u32 {
+        desk.goes(rt.alloc(), (777 * k) % 2_000 + 1)?;
+        if k % 200 == 199 {
+            assert!(rt; desk.agrees(), "{k} went");
+        }
+    }
     Ok(())
 }
 

@@ -134,8 +134,8 @@ pub(crate) fn fill_column(
     ensures front { (k : ℕ) → k < from → cue_level channels order.now levels.new k chan ≡ cue_level channels order.now levels.old k chan }
     ensures back { (k : ℕ) → to ≤ k → k < length cues.now
         → cue_level channels order.now levels.new k chan ≡ cue_level channels order.now levels.old k chan }
-    ensures rows { last_value from (λ k. cue_level channels order.now levels.old k chan) ≡ level_after (take from cues.now) chan → (k : ℕ) → from ≤ k
-        → k < to → IsRight channels order.now cues.now levels.new k chan }
+    ensures rows { last_value from (λ k. cue_level channels order.now levels.old k chan) ≡ level_after (take from cues.now) chan
+        → (k : ℕ) → from ≤ k → k < to → IsRight channels order.now cues.now levels.new k chan }
 {
     let at = chan.get() as usize - 1;
     let mut level = level_before(levels, channels, order, from, at);
