@@ -126,3 +126,12 @@ lent_number n (Some cue) number = number
 
 pub cue_least : (show : Show) (n : ℕ) (old : Cue) → FoundCue show n old → 1 ≤ n
 cue_least show n old here = subst (λ k. 1 ≤ k) here.number here.valid.number.least
+
+-- what the cue above tracks before and after the change
+pub above_both : (show : Show) (n : ℕ) (old above : Cue) (new : Option (Bor Cue)) (c : ℕ) → IsStrictlySorted (λ x. x.number) show.cues → FoundCue show n old
+    → IfSome new (λ cue. cue.now.number ≡ n) → cue_above show n ≡ Some above
+    → (tracked show above.number c ≡ through c (unwrap_or (decided old c) (tracked show (n - 1) c)) above)
+    × (tracked (changed_show show n (option_copied new)) above.number c ≡ through c (unwrap_or (decided_by (option_copied new) c) (tracked show (n - 1) c)) above)
+above_both show n old above new c sorted here number is =
+    let least : 1 ≤ n = cue_least show n old here in
+    (above-before show n old above c sorted least here is, above-changed show n (option_copied new) above c sorted least (lent_number n new number) is)
