@@ -40,7 +40,7 @@ first_or_more P w ws e first more = go (begins_with_dash w) refl
     go false is = more (ap (λ b. b || list_any begins_with_dash ws) (sym is) ∙ e)
 
 skip : (b : Bool) (x y : Option Job) → b ≡ false → y ≡ None → (if b then x else y) ≡ None
-skip b x y no none = ap (λ t. if t then x else y) no ∙ none
+skip b x y not_so none = ap (λ t. if t then x else y) not_so ∙ none
 
 neither : {A : Type 0} (b : Bool) (x y : Option A) → x ≡ None → y ≡ None → (if b then x else y) ≡ None
 neither true x y none none' = none
