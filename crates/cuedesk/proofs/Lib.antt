@@ -6,3 +6,5 @@ mod JobWords
 mod MadeEndings
 mod Sessions
 mod Statuses
+mod DashedWords
+mod WordsTaken

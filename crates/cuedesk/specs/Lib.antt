@@ -5,3 +5,4 @@ pub mod Generator
 pub mod Made
 pub mod Output
 pub mod Refused
+pub mod Words
