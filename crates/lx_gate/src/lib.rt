@@ -12,6 +12,8 @@ mod senders;
 mod stamp;
 mod start;
 mod tap;
+#[cfg(test)]
+mod tests;
 mod unsent;
 mod version;
 
