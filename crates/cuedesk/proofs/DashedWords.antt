@@ -5,7 +5,6 @@ use Rattle.std.specs.List.{list_any}
 use Rattle.std.specs.Str.{bytes_eq}
 use Rattle.std.proofs.lemmas.Bool.Decides.{nat_tests}
 use Rattle.lx_base.specs.declared.TheConstants.{CUES, UNIVERSES}
-use Rattle.lx_spec.specs.declared.Form.{Form}
 use Rattle.lx_spec.specs.declared.Form.TheVariants.{States}
 use Rattle.lx_spec.specs.declared.Job.{Job}
 use Rattle.lx_spec.specs.declared.Job.TheVariants.{Check, Render, Sheet, Make, Run}

@@ -1,6 +1,5 @@
 -- What holds where a job ended, from what holds at each status.
-use Rattle.std.proofs.Common.{◌≡◌, ◌⊎◌, inl, inr, ◌≤◌, ◌<◌, ◌+◌, Option, Some, None, IfSome, IsOk, IsErr, List, ℕ, length, refl, sym, subst}
-use Rattle.lx_base.specs.declared.TheConstants.{INPUT_BYTES}
+use Rattle.std.proofs.Common.{◌≡◌, ◌⊎◌, inl, inr, Option, Some, None, IfSome, List, ℕ, refl, sym, subst}
 use Rattle.lx_io.specs.Puts.{AppendsFront}
 use Rattle.std.specs.Io.KnownBytes.{Appends}
 use Rattle.lx_lex.specs.declared.lines.Lines.{Lines}
@@ -8,18 +7,14 @@ use Rattle.lx_lex.specs.Unread.{unread}
 use Rattle.lx_spec.specs.declared.Form.{Form}
 use Rattle.lx_spec.specs.declared.Job.{Job}
 use Rattle.lx_spec.specs.declared.Job.TheVariants.{Render}
-use Rattle.lx_spec.specs.Text.{lines_of}
 use Rattle.lx_spec.specs.Desk.{opened}
-use Rattle.lx_spec.specs.Session.{bytes_wanted}
 use Rattle.lx_spec.specs.Reading.{Reading}
-use Rattle.lx_spec.specs.Job.{show_of, wanted_of}
 use Rattle.lx_reader.specs.declared.loaded.Loaded.{Loaded}
 use Rattle.lx_reader.specs.declared.fault.ShowFault.{ShowFault}
 use Rattle.lx_reader.specs.declared.fault.ShowFault.TheVariants as faults
 use Rattle.lx_reader.specs.Answer.{reading_of, HasRead}
 use Rattle.cuedesk.specs.declared.desk.Status.{Status}
 use Rattle.cuedesk.specs.declared.desk.Status.TheVariants as status
-use Rattle.cuedesk.specs.Output.{WritesAll, WritesPrefix, WritesTaken, AnswersScript, AnswersInFront, AnswersTaken}
 use Rattle.cuedesk.specs.Refused.{RefusedBy, status_kept}
 use Rattle.cuedesk.specs.Endings.{EndsJob, EndsScript, HasEnded, HasPlayed}
 use Rattle.cuedesk.proofs.Inputs.{Says, IsOverShow, IsOfShow, told_text, told_prefix, told_fits, session_text, session_front, session_long, session_fits, session_cut, refusal_cut, refusal_text, refusal_front, refusal_fits, refusal_long, refusal_isnt_ok}

@@ -1,10 +1,10 @@
 -- What is drawn number by number is what the definition of the made input draws by its places.
-use Rattle.std.proofs.Common.{◌≡◌, ℕ, zero, suc, ◌+◌, ◌-◌, ◌*◌, ◌/◌, ◌%◌, ◌<◌, List, [], ◌∷◌, ◌++◌, refl, sym, ap, ap₂, ◌∙◌, append_assoc, append-nil, arith, length}
+use Rattle.std.proofs.Common.{◌≡◌, ℕ, zero, suc, ◌+◌, ◌-◌, ◌*◌, ◌/◌, ◌%◌, ◌<◌, List, [], ◌∷◌, ◌++◌, refl, sym, ap, ap₂, ◌∙◌, append_assoc, append-nil, arith}
 use Rattle.std.specs.Prelude.{flat_map, codes, decimal}
 use Rattle.std.specs.List.{range_with_len}
 use Rattle.lx_spec.specs.ShowText.{line}
 use Rattle.lx_spec.specs.MakeOutput.{drawn_from, chan_line, made_cue, made_turn}
-use Rattle.cuedesk.specs.Generator.{after_draw, after_setting, after_cue, after_turn, setting_from, cue_from, turn_from, chan_text, cue_head, cue_text, set_text, turn_text}
+use Rattle.cuedesk.specs.Generator.{after_draw, after_setting, after_cue, after_turn, setting_from, cue_from, turn_from, chan_text, cue_text, turn_text}
 
 -- one draw, and two
 one_more : (seed i : ℕ) → drawn_from seed (suc i) ≡ after_draw (drawn_from seed i)

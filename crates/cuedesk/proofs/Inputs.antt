@@ -18,7 +18,7 @@ use Rattle.lx_spec.specs.Text.{lines_of}
 use Rattle.lx_spec.specs.Desk.{Desk, opened}
 use Rattle.lx_spec.specs.Reading.{Reading, reads, script_of, lines_read}
 use Rattle.lx_spec.specs.CutInput.{HasNoFeed, first_lines}
-use Rattle.lx_spec.specs.RenderOutput.{first_replies, input_lines_wanted, input_wanted, render_output, OutputPlacesAreEdits}
+use Rattle.lx_spec.specs.RenderOutput.{first_replies, input_lines_wanted, input_wanted, OutputPlacesAreEdits}
 use Rattle.lx_spec.specs.FaultLine.{over_show, fault_text}
 use Rattle.lx_spec.specs.Session.{begin_at, ends_script, replies, lines_wanted, bytes_wanted, after_first}
 use Rattle.lx_spec.specs.RefusedPlaces.{PlacesAreEdits}

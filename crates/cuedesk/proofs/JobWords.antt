@@ -1,5 +1,5 @@
 -- What holds of the job that words name holds of the words.
-use Rattle.std.proofs.Common.{◌≡◌, Option, Some, None, IfSome, List, ℕ, [], ◌∷◌, sym, subst}
+use Rattle.std.proofs.Common.{◌≡◌, Option, Some, None, IfSome, List, ℕ, [], sym, subst}
 use Rattle.lx_spec.specs.declared.Form.TheVariants.{Moves}
 use Rattle.lx_spec.specs.declared.Job.{Job}
 use Rattle.lx_spec.specs.declared.Job.TheVariants.{Check, Render, Sheet, Make, Run}

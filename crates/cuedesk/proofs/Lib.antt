@@ -8,3 +8,5 @@ mod Sessions
 mod Statuses
 mod DashedWords
 mod WordsTaken
+mod LiveRuns
+mod LiveEnds

@@ -1,10 +1,9 @@
 -- What `make` writes, from the reader's answer and the session's.
-use Rattle.std.proofs.Common.{◌≡◌, ◌⊎◌, inl, inr, ℕ, ◌+◌, ◌<◌, ◌≤◌, true, Option, Some, None, Result, Ok, Err, IfSome, IsOk, IsErr, List, [], ◌∷◌, ◌++◌, length, sum, refl, sym, ap, ◌∙◌, subst, arith}
+use Rattle.std.proofs.Common.{◌≡◌, ◌⊎◌, inl, inr, ℕ, ◌+◌, ◌≤◌, true, Option, Some, None, Result, Ok, Err, IfSome, IsOk, IsErr, List, [], ◌∷◌, ◌++◌, length, sum, refl, sym, ap, ◌∙◌, subst, arith}
 use Rattle.std.specs.Prelude.{codes, decimal}
 use Rattle.std.specs.List.{before_first}
 use Rattle.std.specs.Io.KnownBytes.{Appends}
 use Rattle.lx_base.specs.declared.TheConstants.{INPUT_BYTES}
-use Rattle.lx_io.specs.Causes.{Rose}
 use Rattle.lx_io.specs.Puts.{AppendsFront}
 use Rattle.lx_lex.specs.declared.lines.Lines.{Lines}
 use Rattle.lx_lex.specs.Unread.{unread}
@@ -42,7 +41,7 @@ use Rattle.cuedesk.specs.Output.{WritesAll, WritesPrefix}
 use Rattle.cuedesk.specs.Refused.{RefusedBy, RefusesText, status_kept}
 use Rattle.cuedesk.specs.Endings.{EndsScript, HasEnded, HasCauseOf, WritesWhole}
 use Rattle.cuedesk.specs.Made.{HasTold, TellsSession, TellsInFront, report_of, report_text}
-use Rattle.cuedesk.proofs.Inputs.{Says, means_of, no_place, nothing_wanted, front_nothing, whole_front, over_read, render_over, refusal_fits, refusal_long, session_long, session_fits}
+use Rattle.cuedesk.proofs.Inputs.{Says, means_of, no_place, nothing_wanted, front_nothing, over_read, render_over, refusal_fits, refusal_long, session_long, session_fits}
 use Rattle.cuedesk.proofs.Endings.{if_known, both_known}
 use Rattle.cuedesk.proofs.Sessions.{desk_of_session}
 

@@ -1,5 +1,5 @@
 -- The desk at the end of a session is that after the commands that were accepted.
-use Rattle.std.proofs.Common.{◌≡◌, ℕ, zero, suc, ◌+◌, ◌==◌, Bool, true, false, Option, Some, None, Result, Ok, Err, List, [], ◌∷◌, ◌++◌, refl, sym, ap, ◌∙◌, fold}
+use Rattle.std.proofs.Common.{◌≡◌, ℕ, zero, suc, ◌+◌, ◌==◌, Bool, true, false, Option, Some, None, Result, Ok, Err, List, [], ◌∷◌, ◌++◌, refl, sym, ap, ◌∙◌}
 use Rattle.std.specs.Prelude.{is_some, if◌then◌else◌}
 use Rattle.std.specs.List.{list_any, before_first}
 use Rattle.std.specs.Option.{option_map_or}
@@ -14,7 +14,7 @@ use Rattle.lx_spec.specs.Desk.{Desk, step, after_command}
 use Rattle.lx_spec.specs.TrackedLevel.{cue_of}
 use Rattle.lx_spec.specs.Replies.{row_text, row_of}
 use Rattle.lx_spec.specs.Script.{line_of}
-use Rattle.lx_spec.specs.Session.{Session, Attempt, begin_at, answered, attempt, and_then, attempts_of, attempts_for, command_of, count_of, with_text, refused_reply, ok_reply, replied, after_attempts, after_line, after_lines, ends_script, session, accepted}
+use Rattle.lx_spec.specs.Session.{Session, Attempt, begin_at, answered, attempt, and_then, attempts_of, attempts_for, command_of, count_of, with_text, refused_reply, ok_reply, after_attempts, after_line, after_lines, ends_script, session, accepted}
 use Rattle.lx_session.specs.Attempts.{after_commands}
 
 abbrev Follows : Desk → Session → Type 0

@@ -1,14 +1,14 @@
 -- clap takes each list of words of which none begins with a dash, and its one argument then has them as its values.
-use Rattle.std.proofs.Common.{◌≡◌, ◌∙◌, ◌≤◌, ℕ, Bool, true, false, Option, Some, None, List, [], ◌∷◌, ◌++◌, length, fold, refl, sym, ap, append_assoc, append-nil, arith}
-use Rattle.std.specs.Prelude.{codes, ◌==◌, ◌&&◌, ◌||◌, nat_le, option_and_then, if◌then◌else◌}
+use Rattle.std.proofs.Common.{◌≡◌, ◌∙◌, ◌≤◌, Bool, true, false, Option, Some, None, List, [], ◌∷◌, ◌++◌, length, fold, refl, sym, ap, append_assoc, append-nil, arith}
+use Rattle.std.specs.Prelude.{codes, ◌&&◌, ◌||◌, nat_le, option_and_then, if◌then◌else◌}
 use Rattle.std.specs.List.{list_all, list_any}
 use Rattle.std.specs.Str.{bytes_eq}
 use Rattle.std.specs.Option.{option_map_or}
 use Rattle.std.proofs.lemmas.Bool.Decides.{nat_tests}
 use Rattle.clap.specs.Lexer.{long_of, short_of, long_of_rest, short_of_rest, strip_byte, usize_max}
-use Rattle.clap.specs.Walk.{Text, Rule, Row, Held, Walk, Step, Waiting, idle, positional, value, trailing, walked, walk, walk_from, nothing_held, word_met, after_step, long_or_other, short_or_plain, finished, reading_by}
+use Rattle.clap.specs.Walk.{Text, Rule, Row, Held, Walk, Step, idle, positional, value, trailing, walked, walk, walk_from, nothing_held, word_met, after_step, long_or_other, short_or_plain, finished, reading_by}
 use Rattle.clap.specs.Simple.{App, Shape, built, new_app, new_rule, with_rule, on_top, is_simple, matches_of}
-use Rattle.clap.specs.Takes.{takes, other_passes, step_passes, default_passes, is_valid, walk_passes, turn_passes, flag_word_passes, bundle_passes, value_passes, settle_passes, level_passes, built_takes}
+use Rattle.clap.specs.Takes.{takes, other_passes, step_passes, default_passes, is_valid, walk_passes, turn_passes, flag_word_passes, bundle_passes, value_passes, settle_passes, level_passes}
 use Rattle.clap.specs.declared.builder.action.ArgAction.TheVariants.{Append}
 use Rattle.clap.specs.declared.parser.matches.ValueSource.TheVariants.{CommandLine}
 use Rattle.clap.proofs.OnLiterals.{clap_on_literals}

@@ -11,5 +11,5 @@ exit_status status.ReadFault = 3
 exit_status status.WriteFault = 4
 exit_status status.Memory = 5
 exit_status status.InputTooLong = 6
--- the job that plays live isn't built
+-- `main` plays live instead
 exit_status status.Live = 2

@@ -6,3 +6,4 @@ pub mod Made
 pub mod Output
 pub mod Refused
 pub mod Words
+pub mod Live

@@ -9,6 +9,7 @@ mod check;
 mod desk;
 mod discard;
 mod draws;
+mod live;
 mod made_input;
 mod make;
 mod play;
@@ -17,14 +18,17 @@ mod render;
 mod sheet;
 #[cfg(test)]
 mod tests;
+mod universes;
 mod words;
 
 pub use desk::{Status, desk};
+pub use live::desk_live;
 use lx_io::{Sink, StdSink, StdSource};
 use std::alloc::Global;
 use std::io::BufWriter;
 use std::process::ExitCode;
 use std::{env, io};
+use universes::{DeskPace, files};
 pub use words::{WordsFault, words_of};
 
 /// The line that says how the program is used.
@@ -65,7 +69,18 @@ fn main(rt: HostRuntime) -> ExitCode {
     };
     let mut input = StdSource::new(rt.stdin());
     let mut output = StdSink::new(writer);
-    let status = desk(rt.alloc(), &words, &mut input, &mut output);
+    let status = match desk(rt.alloc(), &words, &mut input, &mut output) {
+        Status::Live => desk_live(
+            &rt,
+            rt.alloc(),
+            &words,
+            &mut input,
+            &mut output,
+            &mut files(&rt, rt.alloc()),
+            &DeskPace::new(&rt),
+        ),
+        done => done,
+    };
     match status {
         Status::Usage | Status::Live => {
             let _ = eprintln!(rt; "{USAGE}");

@@ -35,7 +35,8 @@ impl<R: Wait, G: Origin, C: Pace> Listener for Publisher<'_, '_, R, G, GateWrite
 
     ghost nothing = { λ x. accepted_nothing x.gate x.unsent.commands.items };
 
-    ghost both = { λ x y z before after one two. accepted_both x.gate x.unsent.commands.items y.gate y.unsent.commands.items z.gate z.unsent.commands.items before after one two };
+    ghost both = { λ x y z before after one two. accepted_both x.gate x.unsent.commands.items y.gate y.unsent.commands.items z.gate
+        z.unsent.commands.items before after one two };
 
     fn admit(&mut self, command: &Command) -> bool {
         if is_tick(command) {

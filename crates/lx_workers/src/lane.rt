@@ -41,7 +41,9 @@ impl<P: Port, K: Sink, C: Pace> Lane<'_, P, K, C> {
     /// list which begins with the note's.
     pub fn finish(&mut self, note: Note)
         requires gate { IsNoteOf P.show P.book note }
-        ensures delivered { (start : Tapped) (from : K) → HasServed K.holds K.faults K.wants P.show start self.old.tap from self.old.sink self.old.served → Delivered K.holds K.faults K.wants P.show start.universe from self.new.sink (list_of note) self.new.served.fault }
+        ensures delivered { (start : Tapped) (from : K)
+            → HasServed K.holds K.faults K.wants P.show start self.old.tap from self.old.sink self.old.served
+            → Delivered K.holds K.faults K.wants P.show start.universe from self.new.sink (list_of note) self.new.served.fault }
         ensures unwritten { IsSome self.old.served.fault → self.new.sink ≡ self.old.sink }
     {
         self.tap.learn(note);

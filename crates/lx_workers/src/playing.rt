@@ -67,9 +67,11 @@ pub fn play<
     requires some { 1 ≤ length outlets.old }
     requires most { length outlets.old ≤ 16 }
     requires full { IsFull outlets.old }
-    ensures err { OnErr result ((console.new ≡ console.old) × ((lines.new ≡ lines.old) × ((output.new ≡ output.old) × (outlets.new ≡ outlets.old)))) }
+    ensures err { OnErr result ((console.new ≡ console.old)
+        × ((lines.new ≡ lines.old) × ((output.new ≡ output.old) × (outlets.new ≡ outlets.old)))) }
     ensures same_source { SameSource lines.old lines.new }
-    ensures played { IfOk result (λ p. HasPlayed S.left O.holds K.holds K.faults K.wants console.old.show lines.old lines.new output.old output.new outlets.old outlets.new console.new p.session p.outlets p.unsent) }
+    ensures played { IfOk result (λ p. HasPlayed S.left O.holds K.holds K.faults K.wants console.old.show lines.old lines.new output.old
+        output.new outlets.old outlets.new console.new p.session p.outlets p.unsent) }
     ensures limit { IfOk result (λ p. IfSome (unread S.left lines.old) (λ bytes. KeepsLimit (bytes_taken lines.old) bytes p.session)) }
     ensures cause { IfOk result (λ p. HasSessionCause S.faults O.faults O.wants lines.old lines.new output.old output.new p.session) }
 {
@@ -111,9 +113,11 @@ fn play_over<
     requires some { 1 ≤ length outlets.old }
     requires most { length outlets.old ≤ 16 }
     requires full { IsFull outlets.old }
-    ensures err { OnErr result ((console.new ≡ console.old) × ((lines.new ≡ lines.old) × ((output.new ≡ output.old) × (outlets.new ≡ outlets.old)))) }
+    ensures err { OnErr result ((console.new ≡ console.old)
+        × ((lines.new ≡ lines.old) × ((output.new ≡ output.old) × (outlets.new ≡ outlets.old)))) }
     ensures same_source { SameSource lines.old lines.new }
-    ensures played { IfOk result (λ p. HasPlayed S.left O.holds K.holds K.faults K.wants G.show lines.old lines.new output.old output.new outlets.old outlets.new console.new p.session p.outlets p.unsent) }
+    ensures played { IfOk result (λ p. HasPlayed S.left O.holds K.holds K.faults K.wants G.show lines.old lines.new output.old
+        output.new outlets.old outlets.new console.new p.session p.outlets p.unsent) }
     ensures limit { IfOk result (λ p. IfSome (unread S.left lines.old) (λ bytes. KeepsLimit (bytes_taken lines.old) bytes p.session)) }
     ensures cause { IfOk result (λ p. HasSessionCause S.faults O.faults O.wants lines.old lines.new output.old output.new p.session) }
 {
@@ -177,9 +181,11 @@ fn perform<
     requires in_step { IsSomeAnd gate.old (λ held. IsInStep G.show held [] console.old) }
     requires going { CanAdvance lines.old }
     requires within { bytes_taken lines.old ≤ INPUT_BYTES }
-    ensures engine { HasRunFrom S.left S.faults O.holds O.faults O.wants G.show gate.old console.old lines.old output.old gate.new unsent.new.commands.items console.new lines.new output.new result.1 }
+    ensures engine { HasRunFrom S.left S.faults O.holds O.faults O.wants G.show gate.old console.old lines.old output.old gate.new
+        unsent.new.commands.items console.new lines.new output.new result.1 }
     ensures count { vec_len result.0 ≡ vec_len lanes.entry }
-    ensures lanes { AllZip (λ x y. HasServed K.holds K.faults K.wants G.show x.tap y.tap x.sink y.sink y.served) lanes.entry.items result.0.items }
+    ensures lanes { AllZip (λ x y. HasServed K.holds K.faults K.wants G.show x.tap y.tap x.sink y.sink y.served) lanes.entry.items
+        result.0.items }
 {
     let mut engine = Engine {
         alloc,
@@ -238,7 +244,8 @@ fn give_back<G: Origin, K: Sink + Drop, C: Pace>(
     requires count { vec_len lanes ≡ length outlets.old }
     requires most { length outlets.old ≤ 16 }
     ensures same { length outlets.new ≡ length outlets.old }
-    ensures back { EachAt (λ k x. IsGiven K.holds K.faults K.wants G.show outlets.new result gate.now.published (length outlets.old - 1 - k) x.tap x.sink x.served) lanes.entry.items }
+    ensures back { EachAt (λ k x. IsGiven K.holds K.faults K.wants G.show outlets.new result gate.now.published
+        (length outlets.old - 1 - k) x.tap x.sink x.served) lanes.entry.items }
     ensures others { (place : ℕ) (fault : SinkFault) → slice_get result place ≡ Some (Some fault) → place < length outlets.old }
 {
     let count = outlets.len();

@@ -1,4 +1,4 @@
-use Rattle.std.proofs.Common.{List, ℕ, [], ◌∷◌, ◌++◌, sym, append_assoc}
+use Rattle.std.proofs.Common.{[], ◌∷◌, sym, append_assoc}
 use Rattle.std.specs.Prelude.{codes, flat_map}
 use Rattle.std.specs.List.{range_with_len}
 use Rattle.lx_io.proofs.Chain.{Puts-then, Puts-fails, Puts-stops, Puts-is}

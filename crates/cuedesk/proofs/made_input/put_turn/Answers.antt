@@ -1,4 +1,4 @@
-use Rattle.std.proofs.Common.{[], ◌∷◌, ◌++◌}
+use Rattle.std.proofs.Common.{[], ◌∷◌}
 use Rattle.std.specs.Prelude.{codes}
 use Rattle.lx_io.proofs.Chain.{Puts-then, Puts-fails, Puts-stops}
 use Rattle.lx_spec.specs.ShowText.{line}

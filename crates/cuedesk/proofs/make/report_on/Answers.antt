@@ -1,6 +1,5 @@
-use Rattle.std.proofs.Common.{◌≤◌, ◌∙◌, ℕ, ap, ap₂, arith, sum}
+use Rattle.std.proofs.Common.{◌∙◌, ℕ, ap, ap₂, arith, sum}
 use Rattle.lx_spec.specs.Kept.{Kept}
-use Rattle.cuedesk.specs.declared.make.Report.{Report}
 use Rattle.cuedesk.proofs.make.report_on.Goals as goal
 
 pub first_universe-requires : goal.first_universe-requires

@@ -1,4 +1,4 @@
-use Rattle.std.proofs.Common.{inl, inr}
+use Rattle.std.proofs.Common.{inl}
 use Rattle.cuedesk.proofs.Inputs.{memory_kept}
 use Rattle.cuedesk.proofs.refuse.refuse.Goals as goal
 

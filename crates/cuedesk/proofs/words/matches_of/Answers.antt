@@ -1,8 +1,8 @@
-use Rattle.std.proofs.Common.{rules, true, ◌≡◌, ◌∙◌, ◌≤◌, ℕ, Option, Some, None, IsSomeAnd, ap, ap₂, map, length, arith, List}
+use Rattle.std.proofs.Common.{rules, true, ◌≡◌, ◌∙◌, ◌≤◌, Option, Some, None, IsSomeAnd, ap, ap₂, map, length, arith}
 use Rattle.std.specs.Prelude.{string_bytes}
 use Rattle.std.proofs.lemmas.Result.{IfErr-weaker, IfOk-weaker}
 use Rattle.std.proofs.lemmas.List.{length-map}
-use Rattle.clap.specs.Words.{App, Rule, app_of, is_simple, matches_of, new_app, rule_of, takes, with_rule}
+use Rattle.clap.specs.Words.{App, Rule, app_of, is_simple, matches_of, rule_of, takes, with_rule}
 use Rattle.clap.specs.Simple.{app_of_fields, on_top}
 use Rattle.clap.specs.Lexer.{usize_max}
 use Rattle.clap.specs.declared.builder.range.ValueRange.{ValueRange}

@@ -1,4 +1,4 @@
-use Rattle.std.proofs.Common.{◌≡◌, ◌+◌, ap, ℕ}
+use Rattle.std.proofs.Common.{◌+◌, ap, ℕ}
 use Rattle.std.specs.Prelude.{◌*◌, ◌%◌}
 use Rattle.cuedesk.specs.Generator.{after_draw}
 use Rattle.cuedesk.proofs.draws.Draws.draw.Goals as goal

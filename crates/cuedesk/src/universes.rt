@@ -1,0 +1,154 @@
+//! The outlets and the pace of the program's live runs: a file for each universe, and beats of 20 milliseconds.
+
+ghost use Rattle.std.specs.Prelude.{◌≡◌, ◌≤◌, length, IfOk, None, IsSome};
+ghost use Rattle.lx_workers.specs.Places.{IsFull};
+
+use lx_io::{Pace, Sink, SinkFault};
+use std::alloc::Global;
+use std::fs::File;
+use std::io::{BufWriter, Write};
+use std::rt::{Clock, Files};
+use std::time::Duration;
+use std::{fs, io, thread};
+
+/// Room for the longest line of an outlet: 512 slots of at most 8 bytes each, and less than 100 bytes before them.
+const LINE_ROOM: usize = 8_192;
+
+/// The file `universe-U.txt` in the current folder. It is made anew at its first write, so that a named pipe of that name is
+/// opened then; and each line is handed on by one write, once it is whole.
+#[derive(Drop)]
+pub(crate) struct UniverseFile<'r, R> {
+    rt: &'r R,
+    alloc: Global,
+    universe: u8,
+    writer: Option<BufWriter<File>>,
+    faults: u64,
+    wants: u64,
+}
+
+impl<'r, R: Files<File = File>> UniverseFile<'r, R> {
+    /// The file of a universe, from 1 to 16. Nothing is opened yet.
+    pub(crate) fn new(rt: &'r R, alloc: Global, universe: u8) -> UniverseFile<'r, R> {
+        UniverseFile {
+            rt,
+            alloc,
+            universe,
+            writer: None,
+            faults: 0,
+            wants: 0,
+        }
+    }
+
+    /// Makes the file.
+    fn open(&self) -> io::Result<BufWriter<File>> {
+        let path = format!(in self.alloc; "universe-{}.txt", self.universe)?;
+        let file = fs::create(self.rt, path)?;
+        BufWriter::with_capacity(self.alloc, LINE_ROOM, file)
+    }
+
+    /// Writes a piece, and hands on what was written where the piece ends a line.
+    fn put(&mut self, piece: &[u8]) -> io::Result<usize>
+        ensures bound { IfOk result (λ n. n ≤ length piece.now) }
+        ensures faults { self.new.faults ≡ self.old.faults }
+        ensures wants { self.new.wants ≡ self.old.wants }
+    {
+        let mut writer = match self.writer.take() {
+            Some(writer) => writer,
+            None => self.open()?,
+        };
+        let written = put_piece(&mut writer, piece);
+        self.writer = Some(writer);
+        written
+    }
+}
+
+fn put_piece(writer: &mut BufWriter<File>, piece: &[u8]) -> io::Result<usize>
+    ensures { IfOk result (λ n. n ≤ length piece.now) }
+{
+    let count = writer.write(piece)?;
+    if piece[..count].ends_with(b"\n") {
+        writer.flush()?;
+    }
+    Ok(count)
+}
+
+impl<R: Files<File = File>> Sink for UniverseFile<'_, R> {
+    ghost holds = { λ _. None };
+
+    ghost faults = { λ s. s.faults };
+
+    ghost wants = { λ s. s.wants };
+
+    fn write(&mut self, piece: &[u8]) -> Result<usize, SinkFault> {
+        match self.put(piece) {
+            Ok(count) if count > 0 => Ok(count),
+            Err(fault) if fault.kind() == io::ErrorKind::OutOfMemory => {
+                self.wants = self.wants.saturating_add(1);
+                Err(SinkFault::Memory)
+            }
+            _ => {
+                self.faults = self.faults.saturating_add(1);
+                Err(SinkFault::Failed)
+            }
+        }
+    }
+}
+
+/// The pace of the desk's clock: 20 milliseconds a beat, and 2 milliseconds between two looks for something new.
+#[derive(Drop)]
+pub(crate) struct DeskPace<'r, R> {
+    rt: &'r R,
+}
+
+impl<'r, R: Clock> DeskPace<'r, R> {
+    pub(crate) fn new(rt: &'r R) -> DeskPace<'r, R> {
+        DeskPace { rt }
+    }
+}
+
+impl<R: Clock> Pace for DeskPace<'_, R> {
+    fn beat(&self) {
+        thread::sleep(self.rt, Duration::from_millis(20));
+    }
+
+    fn pause(&self) {
+        thread::sleep(self.rt, Duration::from_millis(2));
+    }
+
+    fn taken(&self, _universe: u8, _count: u64) {}
+}
+
+/// The files of the sixteen universes.
+pub(crate) fn files<R: Files<File = File>>(
+    rt: &R,
+    alloc: Global,
+) -> [Option<UniverseFile<'_, R>>; 16]
+    ensures count { length result ≡ 16 }
+    ensures full { IsFull result }
+{
+    [
+        file(rt, alloc, 1),
+        file(rt, alloc, 2),
+        file(rt, alloc, 3),
+        file(rt, alloc, 4),
+        file(rt, alloc, 5),
+        file(rt, alloc, 6),
+        file(rt, alloc, 7),
+        file(rt, alloc, 8),
+        file(rt, alloc, 9),
+        file(rt, alloc, 10),
+        file(rt, alloc, 11),
+        file(rt, alloc, 12),
+        file(rt, alloc, 13),
+        file(rt, alloc, 14),
+        file(rt, alloc, 15),
+        file(rt, alloc, 16),
+    ]
+}
+
+/// The file of a universe.
+fn file<R: Files<File = File>>(rt: &R, alloc: Global, universe: u8) -> Option<UniverseFile<'_, R>>
+    ensures { IsSome result }
+{
+    Some(UniverseFile::new(rt, alloc, universe))
+}
