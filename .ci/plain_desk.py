@@ -2,7 +2,9 @@
 scratch when somebody looks. `program.py` compares the built program with it; docs/FORMATS.md and docs/DEFINITIONS.md say the
 rules. It is slow, and reads no clock, file or stream.
 
-    output(words, data) -> (status, bytes)      what the program must answer for `render`, `check` or `sheet`, each also with `states`
+    output(words, data) -> (status, bytes)      what the program must answer for `render`, `check` or `sheet`, each also with `states`,
+                                                and on standard output for `run`
+    versions(data, universe) -> [bytes]         the lines that an outlet of a live run may have
 """
 import copy
 
@@ -472,6 +474,26 @@ class Script:
 
 
 # ---------------------------------------------------------------------------------------------------------------------
+
+
+def versions(data, universe):
+    """The line of each version of a universe in a live run: after no command, after the first that is accepted, and so on."""
+    lines, reader = lines_of(data), Reader()
+    read = reader.read(lines, "moves")
+    script, out = Script(reader.show), []
+
+    def version():
+        desk = script.desk
+        out.append(f"frame {len(out)} {desk.moment} {universe}{cells(desk.slots(universe))}\n".encode())
+
+    version()
+    for line in lines[read:]:
+        word, *given = tokens_of(line) or [b""]
+        single = [b"tick"] * int(given[0]) if word == b"tick" and given else [line]
+        for each in single:
+            if script.answer([each]) == b"ok\n":
+                version()
+    return out
 
 
 def output(words, data):

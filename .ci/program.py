@@ -14,6 +14,7 @@ import subprocess
 import sys
 import tempfile
 
+import plain_desk
 import walks
 
 TOP = os.path.dirname(os.path.dirname(os.path.abspath(__file__)))
@@ -305,7 +306,56 @@ def closed_output(program):
     return [] if (run.returncode, run.stderr) == (4, b"") else [f"status {run.returncode}, standard error {run.stderr[:200]!r}"]
 
 
-TALKS = [talk, refused_at_once, reader_goes_away, closed_output]
+LIVE = ("IDENT 3:0\nPATCH 1 1<1@FL 2<513@FL 3<1025@FL\nCUE 1\nUP 0.2\nCHAN 1@FL 2@H80\nCUE 2\nDOWN 0.1\nCHAN 1@0 3@50\nENDDATA\n"
+        "go\ntick 8\nset 1 chan 1 at H40\nfly\ngo\nset 9 chan 1 at 0\ntick 6\nframe 2\nmaster at 50\n").encode()
+
+
+def outlet_is_wrong(path, universe, whole=True):
+    """What is wrong in a live run's file: each line is a version's, the counts rise, and the last is that of all commands."""
+    with open(path, "rb") as file:
+        lines = file.read().splitlines(keepends=True)
+    versions = plain_desk.versions(LIVE, universe)
+    counts = [int(line.split()[1]) for line in lines]
+    wrong = [f"line {line!r}" for count, line in zip(counts, lines) if versions[count:count + 1] != [line]]
+    if counts != sorted(set(counts)) or (whole and counts[-1:] != [len(versions) - 1]):
+        wrong.append(f"counts {counts} of {len(versions) - 1}")
+    return [f"universe {universe}: {said}" for said in wrong]
+
+
+def live(program, full=None):
+    """Status, output and wrong lines of a live run of three universes, of which one may go to a full device."""
+    with tempfile.TemporaryDirectory() as folder:
+        if full:
+            os.symlink("/dev/full", os.path.join(folder, f"universe-{full}.txt"))
+        run = subprocess.run([program, "run", "3"], input=LIVE, stdout=subprocess.PIPE, stderr=subprocess.PIPE, cwd=folder, timeout=TIME_LIMIT)
+        wrong = [said for u in (1, 2, 3) if u != full for said in outlet_is_wrong(os.path.join(folder, f"universe-{u}.txt"), u)]
+        more = sorted(set(os.listdir(folder)) - {f"universe-{u}.txt" for u in (1, 2, 3)})
+    if run.stdout != plain_desk.output(("run",), LIVE)[1] or run.stderr or more:
+        wrong.append(f"output {run.stdout!r}, standard error {run.stderr[:200]!r}, files {more}")
+    return run.returncode, wrong
+
+
+def live_run(program):
+    """Three universes: each file has lines of versions alone, and ends with that of all commands."""
+    status, wrong = live(program)
+    return wrong + ([f"status {status}"] if status else [])
+
+
+def live_run_with_a_full_device(program):
+    """An outlet that can't be written ends alone, and the status is 4."""
+    status, wrong = live(program, full=2)
+    return wrong + ([f"status {status}, not 4"] if status != 4 else [])
+
+
+def live_run_of_a_refused_show(program):
+    """No file is made."""
+    with tempfile.TemporaryDirectory() as folder:
+        run = subprocess.run([program, "run", "2"], input=b"CUE 1\n", stdout=subprocess.PIPE, cwd=folder, timeout=TIME_LIMIT)
+        files = os.listdir(folder)
+    return [] if (run.returncode, run.stdout, files) == (1, b"show NoIdent 1\n", []) else [f"status {run.returncode}, {run.stdout!r}, files {files}"]
+
+
+TALKS = [talk, refused_at_once, reader_goes_away, closed_output, live_run, live_run_with_a_full_device, live_run_of_a_refused_show]
 
 
 # ---------------------------------------------------------------------------------------------------------------------
