@@ -26,7 +26,8 @@ pub record GoesOn (all : Bool) (heard : List Command → Type 0) (s next : Sessi
   pub listened : heard commands
 
 -- The line was done: the console stands for the desk after it, and its reply was appended, or at a fault a prefix of it.
-pub record LineAnswer {K T : Type 0} (all : Bool) (heard : List Command → Type 0) (holds : K → Option (List ℕ)) (faults wants : K → ℕ) (sink sink' : K) (result : Result T SinkFault) (s : Session) (meaning : Option Line) (console : Kept) (tally : Tally) : Type 0 where
+pub record LineAnswer {K T : Type 0} (all : Bool) (heard : List Command → Type 0) (holds : K → Option (List ℕ)) (faults wants : K → ℕ)
+    (sink sink' : K) (result : Result T SinkFault) (s : Session) (meaning : Option Line) (console : Kept) (tally : Tally) : Type 0 where
   pub next : Session
   pub wanted : Bool
   pub goes_on : GoesOn all heard s next meaning wanted
@@ -37,7 +38,8 @@ pub record LineAnswer {K T : Type 0} (all : Bool) (heard : List Command → Type
   pub counts : OnOk result (next.counts ≡ counts_in tally)
 
 -- The session went on by a line of this meaning, for which the console stands, with this reply.
-pub record DoneLine (all : Bool) (heard : List Command → Type 0) (s : Session) (meaning : Option Line) (console : Kept) (reply : List ℕ) : Type 0 where
+pub record DoneLine (all : Bool) (heard : List Command → Type 0) (s : Session) (meaning : Option Line) (console : Kept) (reply : List ℕ)
+    : Type 0 where
   pub more : is_quit meaning ≡ false
   pub next : Session
   pub wanted : Bool
@@ -46,14 +48,16 @@ pub record DoneLine (all : Bool) (heard : List Command → Type 0) (s : Session)
   pub text : next.text ≡ s.text ++ reply
 
 -- the whole reply was written
-pub record WholeReply (all : Bool) (heard : List Command → Type 0) (held held' : Option (List ℕ)) (s : Session) (meaning : Option Line) (console : Kept) (tally : Tally) : Type 0 where
+pub record WholeReply (all : Bool) (heard : List Command → Type 0) (held held' : Option (List ℕ)) (s : Session) (meaning : Option Line)
+    (console : Kept) (tally : Tally) : Type 0 where
   pub reply : List ℕ
   pub line : DoneLine all heard s meaning console reply
   pub appended : Appends held held' reply
   pub counts : line.next.counts ≡ counts_in tally
 
 -- a prefix of the reply was written
-pub record ReplyPrefix (all : Bool) (heard : List Command → Type 0) (held held' : Option (List ℕ)) (s : Session) (meaning : Option Line) (console : Kept) : Type 0 where
+pub record ReplyPrefix (all : Bool) (heard : List Command → Type 0) (held held' : Option (List ℕ)) (s : Session) (meaning : Option Line)
+    (console : Kept) : Type 0 where
   pub reply : List ℕ
   pub line : DoneLine all heard s meaning console reply
   pub front : AppendsFront held held' reply

@@ -13,7 +13,8 @@ use Rattle.lx_session.specs.Attempts.{WantsLast, after_commands}
 
 -- the attempts that are left, unless one was refused
 abbrev pub resumed : List ℕ → Option Command → ℕ → Option Refusal → Session → Attempt
-resumed places command left refusal t = option_map_or (λ r. record { session = t; refusal = Some r }) refusal (attempts_for places command left t)
+resumed places command left refusal t =
+    option_map_or (λ r. record { session = t; refusal = Some r }) refusal (attempts_for places command left t)
 
 -- want of memory refused the command at this desk, which is an edit that the desk accepts
 pub record IsWanted (d : Desk) (command : Option Command) : Type 0 where
@@ -31,7 +32,8 @@ pub record LineProgress (all : Bool) (heard : List Command → Type 0) (s : Sess
   pub meaning : turn.meaning ≡ old.meaning
   pub later : s.attempts ≤ now.attempts
   pub some : wants ≡ true → s.attempts < now.attempts
-  pub by : (places : List ℕ) → WantsLast places s.attempts now.attempts wants → attempts_for places (command_of old.meaning) old.left s ≡ resumed places (command_of old.meaning) turn.left turn.refusal now
+  pub by : (places : List ℕ) → WantsLast places s.attempts now.attempts wants
+      → attempts_for places (command_of old.meaning) old.left s ≡ resumed places (command_of old.meaning) turn.left turn.refusal now
   pub not_yet : turn.refusal ≡ None → wants ≡ false
   pub stands : StandsFor now.desk console
   pub text : now.text ≡ s.text

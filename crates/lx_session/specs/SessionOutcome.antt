@@ -20,7 +20,8 @@ use Rattle.lx_session.specs.declared.fault.SessionFault.TheVariants.{ReadFault, 
 use Rattle.lx_session.specs.declared.tally.Tally.{Tally}
 use Rattle.lx_session.specs.LineReply.{counts_in}
 
--- The console stands for the desk after these commands; where the desk was that of a replay, for the replay of the commands before with these.
+-- The console stands for the desk after these commands; where the desk was that of a replay, for the replay of the commands before with
+-- these.
 pub record StandsAfter (d : Desk) (commands : List Command) (console : Kept) : Type 0 where
   pub now : StandsFor (after_commands d commands) console
   pub replayed : (show : Show) (done : List Command) → d ≡ replay show done → StandsFor (replay show (done ++ commands)) console
@@ -32,7 +33,8 @@ pub record HasDone (heard : List Command → Type 0) (d : Desk) (commands : List
 
 -- The whole script was answered from a desk on. Where all commands are admitted, want of memory refused nothing but edits that the desk
 -- accepts.
-pub record WholeScript (all : Bool) (heard : List Command → Type 0) (d : Desk) (script : List (List ℕ)) (held held' : Option (List ℕ)) (console : Kept) (tally : Tally) : Type 0 where
+pub record WholeScript (all : Bool) (heard : List Command → Type 0) (d : Desk) (script : List (List ℕ)) (held held' : Option (List ℕ))
+    (console : Kept) (tally : Tally) : Type 0 where
   pub places : List ℕ
   pub wants : all ≡ true → PlacesAreEdits d script places
   pub text : Appends held held' (replies d script places)
@@ -40,7 +42,8 @@ pub record WholeScript (all : Bool) (heard : List Command → Type 0) (d : Desk)
   pub done : HasDone heard d (accepted d script places) console
 
 -- So many lines were handed out and done, and a prefix of the text that answers them was written.
-pub record ScriptPrefix (all : Bool) (heard : List Command → Type 0) (d : Desk) (bytes : List ℕ) (unread held held' : Option (List ℕ)) (console : Kept) : Type 0 where
+pub record ScriptPrefix (all : Bool) (heard : List Command → Type 0) (d : Desk) (bytes : List ℕ) (unread held held' : Option (List ℕ))
+    (console : Kept) : Type 0 where
   pub places : List ℕ
   pub wants : all ≡ true → PlacesAreEdits d (lines_of bytes) places
   pub lines : ℕ
@@ -49,7 +52,8 @@ pub record ScriptPrefix (all : Bool) (heard : List Command → Type 0) (d : Desk
   pub done : HasDone heard d (after_first d (lines_of bytes) places lines).accepted console
 
 -- The lines that were taken whole, within the limit of the input, were done and wholly answered. `left` is what the source has left.
-pub record TakenScript (all : Bool) (heard : List Command → Type 0) (d : Desk) (before : ℕ) (bytes : List ℕ) (left held held' : Option (List ℕ)) (console : Kept) : Type 0 where
+pub record TakenScript (all : Bool) (heard : List Command → Type 0) (d : Desk) (before : ℕ) (bytes : List ℕ)
+    (left held held' : Option (List ℕ)) (console : Kept) : Type 0 where
   pub places : List ℕ
   pub wants : all ≡ true → PlacesAreEdits d (lines_of bytes) places
   pub cut : CutOff before bytes left
@@ -57,17 +61,23 @@ pub record TakenScript (all : Bool) (heard : List Command → Type 0) (d : Desk)
   pub done : HasDone heard d (after_first d (lines_of bytes) places cut.lines).accepted console
 
 -- how a session ended by a fault: the sink's, or the script couldn't be read on
-abbrev pub FaultySession : Bool → (List Command → Type 0) → Desk → ℕ → List ℕ → Option (List ℕ) → Option (List ℕ) → Option (List ℕ) → Option (List ℕ) → Kept → SessionFault → Type 0
-FaultySession all heard d before bytes unread left held held' console ReadFault = TakenScript all heard d before bytes left held held' console
-FaultySession all heard d before bytes unread left held held' console InputTooLong = TakenScript all heard d before bytes left held held' console
+abbrev pub FaultySession : Bool → (List Command → Type 0) → Desk → ℕ → List ℕ → Option (List ℕ) → Option (List ℕ) → Option (List ℕ)
+    → Option (List ℕ) → Kept → SessionFault → Type 0
+FaultySession all heard d before bytes unread left held held' console ReadFault =
+    TakenScript all heard d before bytes left held held' console
+FaultySession all heard d before bytes unread left held held' console InputTooLong =
+    TakenScript all heard d before bytes left held held' console
 FaultySession all heard d before bytes unread left held held' console WriteFault = ScriptPrefix all heard d bytes unread held held' console
 FaultySession all heard d before bytes unread left held held' console Memory = ScriptPrefix all heard d bytes unread held held' console
 
 -- Of a script of these bytes, before which so many bytes of the input were taken. `unread` are the bytes that weren't handed out, and
 -- `left` those that the source has left.
-abbrev pub SessionOutcome : Bool → (List Command → Type 0) → Desk → ℕ → List ℕ → Option (List ℕ) → Option (List ℕ) → Option (List ℕ) → Option (List ℕ) → Kept → Result Tally SessionFault → Type 0
-SessionOutcome all heard d before bytes unread left held held' console (Ok tally) = WholeScript all heard d (lines_of bytes) held held' console tally
-SessionOutcome all heard d before bytes unread left held held' console (Err fault) = FaultySession all heard d before bytes unread left held held' console fault
+abbrev pub SessionOutcome : Bool → (List Command → Type 0) → Desk → ℕ → List ℕ → Option (List ℕ) → Option (List ℕ) → Option (List ℕ)
+    → Option (List ℕ) → Kept → Result Tally SessionFault → Type 0
+SessionOutcome all heard d before bytes unread left held held' console (Ok tally) =
+    WholeScript all heard d (lines_of bytes) held held' console tally
+SessionOutcome all heard d before bytes unread left held held' console (Err fault) =
+    FaultySession all heard d before bytes unread left held held' console fault
 
 -- a session that ends well wants no byte past the limit of the input, and `InputTooLong` is told only where it wants one
 abbrev pub KeepsLimit : ℕ → List ℕ → Result Tally SessionFault → Type 0
@@ -83,8 +93,10 @@ HasRisen InputTooLong reads reads' faults faults' wants wants' = Unit {0}
 HasRisen Memory reads reads' faults faults' wants wants' = Rose wants wants'
 
 -- no count has fallen, and a fault comes only where its own count rose
-pub record HasSessionCause {S K T : Type 0} (reads : S → ℕ) (faults wants : K → ℕ) (old new : Lines S) (sink sink' : K) (result : Result T SessionFault) : Type 0 where
+pub record HasSessionCause {S K T : Type 0} (reads : S → ℕ) (faults wants : K → ℕ) (old new : Lines S) (sink sink' : K)
+    (result : Result T SessionFault) : Type 0 where
   pub later : reads old.source.now ≤ reads new.source.now
   pub sink_later : faults sink ≤ faults sink'
   pub wants_later : wants sink ≤ wants sink'
-  pub failed : IfErr result (λ fault. HasRisen fault (reads old.source.now) (reads new.source.now) (faults sink) (faults sink') (wants sink) (wants sink'))
+  pub failed : IfErr result
+      (λ fault. HasRisen fault (reads old.source.now) (reads new.source.now) (faults sink) (faults sink') (wants sink) (wants sink'))

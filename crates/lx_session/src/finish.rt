@@ -40,8 +40,10 @@ impl Turn {
         requires over { next_of self ≡ None }
         requires room { HasRoom tally.old }
         ensures cause { HasSinkCause K.faults K.wants sink.old sink.new result }
-        ensures text { (d : Desk) → StandsFor d console.now → Puts K.holds K.faults K.wants sink.old sink.new result (reply_to d self.meaning self.refusal) }
-        ensures counts { (d : Desk) → StandsFor d console.now → OnOk result (counts_in tally.new ≡ counts_after d (counts_in tally.old) self.meaning self.refusal) }
+        ensures text { (d : Desk) → StandsFor d console.now
+            → Puts K.holds K.faults K.wants sink.old sink.new result (reply_to d self.meaning self.refusal) }
+        ensures counts { (d : Desk) → StandsFor d console.now
+            → OnOk result (counts_in tally.new ≡ counts_after d (counts_in tally.old) self.meaning self.refusal) }
         ensures quit { IfOk result (λ more. more ≡ not (is_quit self.meaning)) }
         ensures counted { HasOneMore tally.old tally.new }
     {
@@ -63,8 +65,10 @@ fn reply_to_line<K: Sink>(
     requires valid { ValidLine line.now }
     requires room { HasRoom tally.old }
     ensures cause { HasSinkCause K.faults K.wants sink.old sink.new result }
-    ensures text { (d : Desk) → StandsFor d console.now → Puts K.holds K.faults K.wants sink.old sink.new result (reply_to d (Some line.now) refusal) }
-    ensures counts { (d : Desk) → StandsFor d console.now → OnOk result (counts_in tally.new ≡ counts_after d (counts_in tally.old) (Some line.now) refusal) }
+    ensures text { (d : Desk) → StandsFor d console.now
+        → Puts K.holds K.faults K.wants sink.old sink.new result (reply_to d (Some line.now) refusal) }
+    ensures counts { (d : Desk) → StandsFor d console.now
+        → OnOk result (counts_in tally.new ≡ counts_after d (counts_in tally.old) (Some line.now) refusal) }
     ensures quit { IfOk result (λ more. more ≡ not (is_quit (Some line.now))) }
     ensures counted { HasOneMore tally.old tally.new }
 {
@@ -116,8 +120,10 @@ fn put_sheet<K: Sink>(
 ) -> Result<bool, SinkFault>
     requires room { HasRoom tally.old }
     ensures cause { HasSinkCause K.faults K.wants sink.old sink.new result }
-    ensures text { (d : Desk) → StandsFor d console.now → Puts K.holds K.faults K.wants sink.old sink.new result (reply_to d (Some (Line.SheetOf n)) refusal) }
-    ensures counts { (d : Desk) → StandsFor d console.now → OnOk result (counts_in tally.new ≡ counts_after d (counts_in tally.old) (Some (Line.SheetOf n)) refusal) }
+    ensures text { (d : Desk) → StandsFor d console.now
+        → Puts K.holds K.faults K.wants sink.old sink.new result (reply_to d (Some (Line.SheetOf n)) refusal) }
+    ensures counts { (d : Desk) → StandsFor d console.now
+        → OnOk result (counts_in tally.new ≡ counts_after d (counts_in tally.old) (Some (Line.SheetOf n)) refusal) }
     ensures more { IfOk result (λ more. more ≡ true) }
     ensures counted { HasOneMore tally.old tally.new }
 {
@@ -151,7 +157,8 @@ fn put_universe<K: Sink>(universe: u8, console: &Console, sink: &mut K) -> Resul
     requires least { 1 ≤ universe }
     requires most { universe ≤ UNIVERSES }
     ensures cause { HasSinkCause K.faults K.wants sink.old sink.new result }
-    ensures text { (d : Desk) → StandsFor d console.now → Puts K.holds K.faults K.wants sink.old sink.new result (frame_text [] d.playback.moment universe (frame d universe)) }
+    ensures text { (d : Desk) → StandsFor d console.now
+        → Puts K.holds K.faults K.wants sink.old sink.new result (frame_text [] d.playback.moment universe (frame d universe)) }
     ensures more { IfOk result (λ more. more ≡ true) }
 {
     let slots = slots_of(universe, console.frames());

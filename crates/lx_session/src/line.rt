@@ -35,7 +35,9 @@ pub(crate) fn answer<L: Listener, K: Sink>(
     requires room { HasRoom tally.old }
     requires keeps { L.keeps listener.old console.old }
     ensures keeps { L.keeps listener.new console.new }
-    ensures answered { FromSession console.old tally.old (λ s. LineAnswer L.admits_all (L.heard listener.old listener.new) K.holds K.faults K.wants sink.old sink.new result s (meaning_of (option_copied line.entry)) console.new tally.new) }
+    ensures answered { FromSession console.old tally.old
+        (λ s. LineAnswer L.admits_all (L.heard listener.old listener.new) K.holds K.faults K.wants sink.old sink.new result s
+        (meaning_of (option_copied line.entry)) console.new tally.new) }
     ensures quit { IfOk result (λ more. more ≡ not (is_quit (meaning_of (option_copied line.entry)))) }
     ensures cause { HasSinkCause K.faults K.wants sink.old sink.new result }
     ensures more { HasOneMore tally.old tally.new }
@@ -52,7 +54,8 @@ fn attempt_all<L: Listener>(listener: &mut L, turn: &mut Turn, console: &mut Con
     ensures keeps { L.keeps listener.new console.new }
     ensures meaning { turn.new.meaning ≡ turn.old.meaning }
     ensures over { next_of turn.new ≡ None }
-    ensures tried { (s : Session) → StandsFor s.desk console.old → LineProgress L.admits_all (L.heard listener.old listener.new) s turn.old turn.new console.new }
+    ensures tried { (s : Session) → StandsFor s.desk console.old
+        → LineProgress L.admits_all (L.heard listener.old listener.new) s turn.old turn.new console.new }
 {
     'commands: while let Some(command) = turn.next() {
         let command = command.copy();

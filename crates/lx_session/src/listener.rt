@@ -42,7 +42,8 @@ pub trait Listener {
 
     ghost nothing: { (state : Self) → heard state state [] };
 
-    ghost both: { (first middle last : Self) (before after : List Command) → heard first middle before → heard middle last after → heard first last (before ++ after) };
+    ghost both: { (first middle last : Self) (before after : List Command) → heard first middle before → heard middle last after
+        → heard first last (before ++ after) };
 }
 
 /// Listens to nothing, and admits every command.

@@ -30,7 +30,10 @@ pub fn session<S: Source, K: Sink>(
     requires going { CanAdvance lines.old }
     requires within { bytes_taken lines.old ≤ INPUT_BYTES }
     ensures same_source { SameSource lines.old lines.new }
-    ensures outcome { (d : Desk) → StandsFor d console.old → IfSome (unread S.left lines.old) (λ bytes. SessionOutcome true (λ commands. Unit {0}) d (bytes_taken lines.old) bytes (unread S.left lines.new) (source_left S.left lines.new) (K.holds sink.old) (K.holds sink.new) console.new result) }
+    ensures outcome { (d : Desk) → StandsFor d console.old
+        → IfSome (unread S.left lines.old)
+        (λ bytes. SessionOutcome true (λ commands. Unit {0}) d (bytes_taken lines.old) bytes (unread S.left lines.new)
+        (source_left S.left lines.new) (K.holds sink.old) (K.holds sink.new) console.new result) }
     ensures limit { IfSome (unread S.left lines.old) (λ bytes. KeepsLimit (bytes_taken lines.old) bytes result) }
     ensures cause { HasSessionCause S.faults K.faults K.wants lines.old lines.new sink.old sink.new result }
 {
@@ -50,7 +53,10 @@ pub fn session_with<L: Listener, S: Source, K: Sink>(
     requires keeps { L.keeps listener.old console.old }
     ensures same_source { SameSource lines.old lines.new }
     ensures keeps { L.keeps listener.new console.new }
-    ensures outcome { (d : Desk) → StandsFor d console.old → IfSome (unread S.left lines.old) (λ bytes. SessionOutcome L.admits_all (L.heard listener.old listener.new) d (bytes_taken lines.old) bytes (unread S.left lines.new) (source_left S.left lines.new) (K.holds sink.old) (K.holds sink.new) console.new result) }
+    ensures outcome { (d : Desk) → StandsFor d console.old
+        → IfSome (unread S.left lines.old)
+        (λ bytes. SessionOutcome L.admits_all (L.heard listener.old listener.new) d (bytes_taken lines.old) bytes
+        (unread S.left lines.new) (source_left S.left lines.new) (K.holds sink.old) (K.holds sink.new) console.new result) }
     ensures limit { IfSome (unread S.left lines.old) (λ bytes. KeepsLimit (bytes_taken lines.old) bytes result) }
     ensures cause { HasSessionCause S.faults K.faults K.wants lines.old lines.new sink.old sink.new result }
 {

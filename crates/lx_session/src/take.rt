@@ -32,7 +32,8 @@ pub(crate) fn take_line<L: Listener, S: Source, K: Sink>(
     requires keeps { L.keeps listener.old console.old }
     ensures same_source { SameSource lines.old lines.new }
     ensures keeps { L.keeps listener.new console.new }
-    ensures outcome { LineOutcome L.admits_all (L.heard listener.old listener.new) S.left S.faults lines.old lines.new (K.holds sink.old) (K.holds sink.new) console.old console.new tally.old tally.new result }
+    ensures outcome { LineOutcome L.admits_all (L.heard listener.old listener.new) S.left S.faults lines.old lines.new (K.holds sink.old)
+        (K.holds sink.new) console.old console.new tally.old tally.new result }
     ensures cause { HasSessionCause S.faults K.faults K.wants lines.old lines.new sink.old sink.new result }
     ensures more { HasOneMore tally.old tally.new }
 {
@@ -72,7 +73,8 @@ fn give_reply<L: Listener, K: Sink>(
     requires room { HasRoom tally.old }
     requires keeps { L.keeps listener.old console.old }
     ensures keeps { L.keeps listener.new console.new }
-    ensures outcome { ReplyOutcome L.admits_all (L.heard listener.old listener.new) (K.holds sink.old) (K.holds sink.new) console.old console.new tally.old tally.new (meaning_of (option_copied line.entry)) result }
+    ensures outcome { ReplyOutcome L.admits_all (L.heard listener.old listener.new) (K.holds sink.old)
+        (K.holds sink.new) console.old console.new tally.old tally.new (meaning_of (option_copied line.entry)) result }
     ensures cause { HasSinkCause K.faults K.wants sink.old sink.new result }
     ensures more { HasOneMore tally.old tally.new }
 {

@@ -72,7 +72,8 @@ impl Turn {
     /// otherwise it is as by `Console::command`. After a refusal the console is as before.
     pub fn attempt(&mut self, console: &mut Console, admitted: bool) -> bool
         requires { IsTrue (is_some (next_of self.old)) }
-        ensures attempted { (d : Desk) → StandsFor d console.old → IfSome (next_of self.old) (λ command. Attempted admitted d command self.new.refusal console.new) }
+        ensures attempted { (d : Desk) → StandsFor d console.old
+            → IfSome (next_of self.old) (λ command. Attempted admitted d command self.new.refusal console.new) }
         ensures turn { self.new ≡ record self.old { left = self.old.left - 1; refusal = self.new.refusal } }
         ensures accepted { result ≡ is_none self.new.refusal }
         ensures admitted { is_none self.new.refusal ≡ true → admitted ≡ true }

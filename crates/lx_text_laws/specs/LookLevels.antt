@@ -7,5 +7,7 @@ use Rattle.lx_spec.specs.Reading.{Reading, reads}
 
 -- where a text is read as looks, the tracked level of each channel at each cue is the one that the text names for it in that cue, or 0
 abbrev pub LawOfLooks : Type 0
-LawOfLooks = (bytes : List ℕ) (named looks : Reading) (cue : Cue) (n c : ℕ) → reads Moves bytes ≡ Ok named → reads States bytes ≡ Ok looks → cue_of named.show n ≡ Some cue → InRange named.show.channels c
+LawOfLooks =
+    (bytes : List ℕ) (named looks : Reading) (cue : Cue) (n c : ℕ) → reads Moves bytes ≡ Ok named → reads States bytes ≡ Ok looks
+    → cue_of named.show n ≡ Some cue → InRange named.show.channels c
     → tracked looks.show n c ≡ level_in cue c

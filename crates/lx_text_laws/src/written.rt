@@ -20,7 +20,8 @@ const PIECE: usize = 65_536;
 /// only where the text is longer than the limit of an input, and `Memory` where memory was wanted in vain.
 pub fn read_back(alloc: Global, show: &Show) -> Result<Loaded, ShowFault>
     ensures same { IfOk result (λ loaded. reading_of loaded ≡ record { show = show.now; skipped = 0; first_skipped = 0 }) }
-    ensures fault { IfErr result (λ fault. (fault ≡ ShowFault.Memory) ⊎ ((fault ≡ ShowFault.InputTooLong) × (INPUT_BYTES < length (show_text show.now)))) }
+    ensures fault { IfErr result (λ fault. (fault ≡ ShowFault.Memory)
+        ⊎ ((fault ≡ ShowFault.InputTooLong) × (INPUT_BYTES < length (show_text show.now)))) }
 {
     // A show is always valid, and its calls tell so.
     let _ = show.channels();

@@ -1,5 +1,6 @@
 -- The engine's commands: those that are published, and then those that aren't yet.
-use Rattle.std.specs.Prelude.{◌≡◌, ℕ, ◌+◌, ◌-◌, ◌<◌, ◌^◌, List, [], ◌++◌, length, vec_len, vec_capacity, false, Option, Result, IfSome, IsSomeAnd}
+use Rattle.std.specs.Prelude.{◌≡◌, ℕ, ◌+◌, ◌-◌, ◌<◌, ◌^◌, List, [], ◌++◌, length, vec_len, vec_capacity, false, Option, Result, IfSome}
+use Rattle.std.specs.Prelude.{IsSomeAnd}
 use mathlib.Core.Path.{sym, ap, ◌∙◌}
 use mathlib.Core.List.{append-nil, append_assoc}
 use Rattle.lx_lex.specs.declared.lines.Lines.{Lines}
@@ -32,19 +33,25 @@ pub record HasRoom (gate : Published) (unsent : Unsent) : Type 0 where
 pub accepted_nothing : (gate : Published) (unsent : List Command) → HasAccepted gate unsent gate unsent []
 accepted_nothing gate unsent = sym (append-nil (accepted_of gate unsent))
 
-pub accepted_both : (gate : Published) (unsent : List Command) (gate' : Published) (unsent' : List Command) (gate'' : Published) (unsent'' : List Command) (before after : List Command)
-    → HasAccepted gate unsent gate' unsent' before → HasAccepted gate' unsent' gate'' unsent'' after → HasAccepted gate unsent gate'' unsent'' (before ++ after)
-accepted_both gate unsent gate' unsent' gate'' unsent'' before after one two = two ∙ (ap (λ l. l ++ after) one ∙ append_assoc (accepted_of gate unsent) before after)
+pub accepted_both : (gate : Published) (unsent : List Command) (gate' : Published) (unsent' : List Command) (gate'' : Published)
+    (unsent'' : List Command) (before after : List Command)
+    → HasAccepted gate unsent gate' unsent' before → HasAccepted gate' unsent' gate'' unsent'' after
+    → HasAccepted gate unsent gate'' unsent'' (before ++ after)
+accepted_both gate unsent gate' unsent' gate'' unsent'' before after one two =
+    two ∙ (ap (λ l. l ++ after) one ∙ append_assoc (accepted_of gate unsent) before after)
 
 -- A session was played: the console stands for the desk after all commands, those that its lines came to are published or unsent, and it
 -- answered as a session in which a command may not be admitted.
-pub record HasRun {S K : Type 0} (left : S → Option (List ℕ)) (reads : S → ℕ) (holds : K → Option (List ℕ)) (faults wants : K → ℕ) (show : Show)
+pub record HasRun {S K : Type 0} (left : S → Option (List ℕ)) (reads : S → ℕ) (holds : K → Option (List ℕ)) (faults wants : K → ℕ)
+    (show : Show)
     (gate : Published) (unsent : List Command) (console : Kept) (lines : Lines S) (output : K)
-    (gate' : Published) (unsent' : List Command) (console' : Kept) (lines' : Lines S) (output' : K) (result : Result Tally SessionFault) : Type 0 where
+    (gate' : Published) (unsent' : List Command) (console' : Kept) (lines' : Lines S) (output' : K) (result : Result Tally SessionFault)
+    : Type 0 where
   pub in_step : IsInStep show gate' unsent' console'
   pub same_source : SameSource lines lines'
   pub outcome : (d : Desk) → StandsFor d console → IfSome (unread left lines) (λ bytes.
-      SessionOutcome false (HasAccepted gate unsent gate' unsent') d (bytes_taken lines) bytes (unread left lines') (source_left left lines')
+      SessionOutcome false (HasAccepted gate unsent gate' unsent') d (bytes_taken lines) bytes (unread left lines')
+      (source_left left lines')
       (holds output) (holds output') console' result)
   pub limit : IfSome (unread left lines) (λ bytes. KeepsLimit (bytes_taken lines) bytes result)
   pub cause : HasSessionCause reads faults wants lines lines' output output' result

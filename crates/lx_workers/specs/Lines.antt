@@ -22,7 +22,8 @@ last_of [] = None
 last_of (list ∷ lists) = Some (length list)
 
 -- the lines of rising lists were appended, all prefixes of one list
-pub record HasWritten (show : Show) (universe : ℕ) (before after : Option (List ℕ)) (top : List Command) (taken : ℕ) (last : Option ℕ) : Type 0 where
+pub record HasWritten (show : Show) (universe : ℕ) (before after : Option (List ℕ)) (top : List Command) (taken : ℕ) (last : Option ℕ)
+    : Type 0 where
   pub lists : List (List Command)
   pub text : Appends before after (outlet_text show universe lists)
   pub chain : Falling top lists
