@@ -8,11 +8,11 @@ trap 'rm -rf "$folder"' EXIT
 mkfifo "$folder/universe-1.txt" "$folder/universe-2.txt"
 bars() {
     while read -r _ count moment universe slots; do
-        printf 'universe %s after %3s commands at %4s ' "$universe" "$count" "$moment"
+        line=$(printf 'universe %s after %3s commands at %4s' "$universe" "$count" "$moment")
         for slot in $slots; do
-            printf '  %s %-16s' "${slot%%=*}" "$(printf '%*s' $(( ${slot#*=} / 16 )) '' | tr ' ' '#')"
+            line+=$(printf '   %s %-16s' "${slot%%=*}" "$(printf '%*s' $(( ${slot#*=} / 16 )) '' | tr ' ' '#')")
         done
-        printf '\n'
+        printf '%s\n' "$line"
     done < "$folder/universe-$1.txt"
 }
 bars 1 & bars 2 &
