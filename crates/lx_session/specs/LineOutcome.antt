@@ -67,7 +67,8 @@ NoLineMore left faults old new = IfSome (unread left old) (λ xs. IfSome (unread
 abbrev pub SinkStop : {S : Type 0} → Bool → (List Command → Type 0) → (S → Option (List ℕ)) → (S → ℕ) → Lines S → Lines S → Option (List ℕ)
     → Option (List ℕ) → Session → Kept → Type 0
 SinkStop all heard left faults old new held held' s console =
-    (Untouched heard held held' s console × NoLineMore left faults old new) ⊎ HalfAnsweredLine all heard left faults old new held held' s console
+    (Untouched heard held held' s console × NoLineMore left faults old new)
+    ⊎ HalfAnsweredLine all heard left faults old new held held' s console
 
 -- what holds of a session for which the console stood, and which had counted so many
 abbrev pub FromSession : Kept → Tally → (Session → Type 0) → Type 0

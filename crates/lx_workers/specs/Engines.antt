@@ -43,16 +43,14 @@ accepted_both gate unsent gate' unsent' gate'' unsent'' before after one two =
 -- A session was played: the console stands for the desk after all commands, those that its lines came to are published or unsent, and it
 -- answered as a session in which a command may not be admitted.
 pub record HasRun {S K : Type 0} (left : S → Option (List ℕ)) (reads : S → ℕ) (holds : K → Option (List ℕ)) (faults wants : K → ℕ)
-    (show : Show)
-    (gate : Published) (unsent : List Command) (console : Kept) (lines : Lines S) (output : K)
+    (show : Show) (gate : Published) (unsent : List Command) (console : Kept) (lines : Lines S) (output : K)
     (gate' : Published) (unsent' : List Command) (console' : Kept) (lines' : Lines S) (output' : K) (result : Result Tally SessionFault)
     : Type 0 where
   pub in_step : IsInStep show gate' unsent' console'
   pub same_source : SameSource lines lines'
   pub outcome : (d : Desk) → StandsFor d console → IfSome (unread left lines) (λ bytes.
       SessionOutcome false (HasAccepted gate unsent gate' unsent') d (bytes_taken lines) bytes (unread left lines')
-      (source_left left lines')
-      (holds output) (holds output') console' result)
+      (source_left left lines') (holds output) (holds output') console' result)
   pub limit : IfSome (unread left lines) (λ bytes. KeepsLimit (bytes_taken lines) bytes result)
   pub cause : HasSessionCause reads faults wants lines lines' output output' result
 
@@ -60,4 +58,5 @@ pub record HasRun {S K : Type 0} (left : S → Option (List ℕ)) (reads : S →
 abbrev pub HasRunFrom : {S K : Type 0} → (S → Option (List ℕ)) → (S → ℕ) → (K → Option (List ℕ)) → (K → ℕ) → (K → ℕ) → Show
     → Option Published → Kept → Lines S → K → Option Published → List Command → Kept → Lines S → K → Result Tally SessionFault → Type 0
 HasRunFrom left reads holds faults wants show gate console lines output gate' unsent' console' lines' output' result =
-    IsSomeAnd gate (λ held. IsSomeAnd gate' (λ held'. HasRun left reads holds faults wants show held [] console lines output held' unsent' console' lines' output' result))
+    IsSomeAnd gate (λ held. IsSomeAnd gate' (λ held'.
+    HasRun left reads holds faults wants show held [] console lines output held' unsent' console' lines' output' result))
