@@ -388,28 +388,22 @@ class Script:
         self.desk.edit(change)
 
     def block(self, words):
-        n = words.next(cue_number)
-        words.end()
-
-        def change(show):
-            cue = self.desk.the_cue(show, n)
-            if not cue.block:
-                row = show.row(n)
-                cue.block = True
-                cue.moves.update({c: (1, value) for c, value in enumerate(row, 1) if value and c not in cue.moves})
-
-        self.desk.edit(change)
+        self.set_block(words, True)
 
     def unblock(self, words):
+        self.set_block(words, False)
+
+    def set_block(self, words, block):
+        """A block cue takes over what tracks into it; one that is none any more keeps out what would come up."""
         n = words.next(cue_number)
         words.end()
 
         def change(show):
             cue = self.desk.the_cue(show, n)
-            if cue.block:
-                row = show.row(n - 1)
-                cue.block = False
-                cue.moves.update({c: (1, 0) for c, value in enumerate(row, 1) if value and c not in cue.moves})
+            if cue.block != block:
+                row = show.row(n if block else n - 1)
+                cue.block = block
+                cue.moves.update({c: (1, value if block else 0) for c, value in enumerate(row, 1) if value and c not in cue.moves})
 
         self.desk.edit(change)
 

@@ -4,23 +4,15 @@
 # answered (its source holds lines back until each outlet has got earlier versions); a slow outlet holds up nobody. Run by hand.
 set -eu
 top=$(cd "$(dirname "$0")/.." && pwd)
-copy=$(mktemp -d)
-trap 'rm -rf "$copy"' EXIT
-cp "$top/HANDLES" "$copy"
-sed 's/^lx_workers:/lx_workers: lx_show/' "$top/crates.txt" > "$copy/crates.txt"
-mkdir "$copy/crates"
-for crate in "$top"/crates/*/; do
-    name=$(basename "$crate")
-    mkdir "$copy/crates/$name"
-    cp -r "$crate/src" "$crate/specs" "$crate/proofs" "$copy/crates/$name" 2> /dev/null || true
-done
+. "$top/bench/copy.sh"
+sed -i 's/^lx_workers:/lx_workers: lx_show/' "$copy/crates.txt"
 sed -i 's/^mod worker;/#[cfg(test)]\nmod tests;\nmod worker;/' "$copy/crates/lx_workers/src/lib.rt"
 cat > "$copy/crates/lx_workers/src/tests.rt" << 'RATTLE'
 //! Scripts that are played live, beside workers in threads of their own.
 
 ghost use Rattle.std.specs.Prelude.{◌<◌, ◌≤◌, length, Some, None};
 
-use crate::play;
+use crate::{Played, play};
 use lx_console::Console;
 use lx_io::{Failed, MemSink, Pace, PlainSink, PlainSource, Sink, SinkFault, Source};
 use lx_lex::Lines;
@@ -28,8 +20,10 @@ use lx_show::Show;
 use std::alloc::Global;
 use std::sync::atomic::AtomicU64;
 use std::sync::atomic::Ordering::SeqCst;
+use std::sync::Wait;
 use std::test::*;
 use std::thread;
+use std::thread::Threads;
 
 /// Cue 1 brings channel 1 to full in 2 seconds, and dimmer 1 follows it; then two ticks.
 const SCRIPT: &[u8] =
@@ -56,28 +50,42 @@ impl Pace for NoPace {
     fn taken(&self, _universe: u8, _count: u64) {}
 }
 
+/// Plays the script of a source over an empty show beside these outlets: how that ended, and what was answered.
+fn played<
+    R: Threads + Wait + Sync,
+    S: Source + Send,
+    K: Sink + Send + Drop,
+    P: Pace + Sync,
+>(
+    rt: &R,
+    alloc: Global,
+    source: &mut S,
+    outlets: &mut [Option<K>],
+    pace: &P,
+) -> Result<(Played, PlainSink), Fail> {
+    let mut console = Console::open(alloc, Show::new(alloc, 2)?)?;
+    let mut lines = Lines::new(source);
+    let mut output = PlainSink::new(alloc);
+    let played = play(rt, alloc, &mut console, &mut lines, &mut output, outlets, pace)?;
+    Ok((played, output))
+}
+
+/// The script in pieces of a hundred bytes.
+fn script(alloc: Global) -> Result<PlainSource, Fail> {
+    Ok(PlainSource::new(SCRIPT.to_vec(alloc)?, 100))
+}
+
 /// The script over three outlets: the output is that of a session, and each outlet ends with the last version.
 #[test]
 fn each_outlet_ends_with_the_last_version(rt: HostRuntime) -> Result<(), Fail> {
     let alloc = rt.alloc();
-    let mut console = Console::open(alloc, Show::new(alloc, 2)?)?;
-    let mut source = PlainSource::new(SCRIPT.to_vec(alloc)?, 100);
-    let mut lines = Lines::new(&mut source);
-    let mut output = PlainSink::new(alloc);
+    let mut source = script(alloc)?;
     let mut outlets = [
         Some(PlainSink::new(alloc)),
         Some(PlainSink::new(alloc)),
         Some(PlainSink::new(alloc)),
     ];
-    let played = play(
-        &rt,
-        alloc,
-        &mut console,
-        &mut lines,
-        &mut output,
-        &mut outlets,
-        &NoPace,
-    )?;
+    let (played, output) = played(&rt, alloc, &mut source, &mut outlets, &NoPace)?;
     assert_eq!(rt; played.unsent, 0);
     assert!(rt; played.session.is_ok());
     assert_eq!(rt; output.bytes(), REPLIES);
@@ -99,24 +107,13 @@ fn ends_with(outlet: &Option<PlainSink>, line: &[u8]) -> bool {
 fn a_fault_of_an_outlet_ends_that_outlet_alone(rt: HostRuntime) -> Result<(), Fail> {
     let alloc = rt.alloc();
     for write in 0..8u64 {
-        let mut console = Console::open(alloc, Show::new(alloc, 2)?)?;
-        let mut source = PlainSource::new(SCRIPT.to_vec(alloc)?, 100);
-        let mut lines = Lines::new(&mut source);
-        let mut output = PlainSink::new(alloc);
+        let mut source = script(alloc)?;
         let mut outlets = [
             Some(MemSink::new(alloc, Vec::new(alloc))),
             Some(MemSink::new(alloc, vec![in alloc; write]?)),
             Some(MemSink::new(alloc, Vec::new(alloc))),
         ];
-        let played = play(
-            &rt,
-            alloc,
-            &mut console,
-            &mut lines,
-            &mut output,
-            &mut outlets,
-            &NoPace,
-        )?;
+        let (played, output) = played(&rt, alloc, &mut source, &mut outlets, &NoPace)?;
         assert!(rt; played.session.is_ok());
         assert_eq!(rt; output.bytes(), REPLIES);
         let [first, second, third, ..] = played.outlets;
@@ -273,29 +270,18 @@ fn workers_run_beside_the_engine(rt: HostRuntime) -> Result<(), Fail> {
         lines: words(),
         taken: words(),
     };
-    let mut console = Console::open(alloc, Show::new(alloc, 2)?)?;
     let mut source = Holding {
         inner: PlainSource::new(SCRIPT.to_vec(alloc)?, 1),
         given: 0,
         flags: &flags,
         faults: 0,
     };
-    let mut lines = Lines::new(&mut source);
-    let mut output = PlainSink::new(alloc);
     let mut outlets = [
         Some(told(alloc, &flags, &SIXTH, 0)),
         Some(told(alloc, &flags, &SIXTH, 1)),
         Some(told(alloc, &flags, &SIXTH, 2)),
     ];
-    let played = play(
-        &rt,
-        alloc,
-        &mut console,
-        &mut lines,
-        &mut output,
-        &mut outlets,
-        &Noting { flags: &flags },
-    )?;
+    let (played, output) = played(&rt, alloc, &mut source, &mut outlets, &Noting { flags: &flags })?;
     assert!(rt; played.session.is_ok());
     assert_eq!(rt; output.bytes(), REPLIES);
     Ok(())
@@ -309,22 +295,11 @@ fn a_slow_outlet_holds_nobody_up(rt: HostRuntime) -> Result<(), Fail> {
         lines: words(),
         taken: words(),
     };
-    let mut console = Console::open(alloc, Show::new(alloc, 2)?)?;
-    let mut source = PlainSource::new(SCRIPT.to_vec(alloc)?, 100);
-    let mut lines = Lines::new(&mut source);
-    let mut output = PlainSink::new(alloc);
+    let mut source = script(alloc)?;
     let mut slow = told(alloc, &flags, &LAST, 1);
     slow.behind = Some(&flags.lines[0]);
     let mut outlets = [Some(told(alloc, &flags, &LAST, 0)), Some(slow)];
-    let played = play(
-        &rt,
-        alloc,
-        &mut console,
-        &mut lines,
-        &mut output,
-        &mut outlets,
-        &Noting { flags: &flags },
-    )?;
+    let (played, _output) = played(&rt, alloc, &mut source, &mut outlets, &Noting { flags: &flags })?;
     assert!(rt; played.session.is_ok());
     let [first, second, ..] = played.outlets;
     assert!(rt; first.is_none() && second.is_none());

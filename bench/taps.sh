@@ -4,15 +4,7 @@
 # allocation was one of its preparation (then it says AllocError, or that the show isn't prepared). Run by hand.
 set -eu
 top=$(cd "$(dirname "$0")/.." && pwd)
-copy=$(mktemp -d)
-trap 'rm -rf "$copy"' EXIT
-cp "$top/crates.txt" "$top/HANDLES" "$copy"
-mkdir "$copy/crates"
-for crate in "$top"/crates/*/; do
-    name=$(basename "$crate")
-    mkdir "$copy/crates/$name"
-    cp -r "$crate/src" "$crate/specs" "$crate/proofs" "$copy/crates/$name" 2> /dev/null || true
-done
+. "$top/bench/copy.sh"
 rm -rf "$copy/crates/lx_gate/proofs/tests"
 cat > "$copy/crates/lx_gate/src/tests.rt" << 'RATTLE'
 //! A gate beside a true console: a publish that may be refused, and taps in threads.
