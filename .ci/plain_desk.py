@@ -9,7 +9,7 @@ rules. It is slow, and reads no clock, file or stream.
 import copy
 
 from plain_show import (CHANNELS, CUES, DIMMERS, GROUPS, LINE_BYTES, PARTS, RUNS, SUBS, TICK_END, TICKS, UNIVERSES, Cue, Fault, Reader, Refused,
-                        cells, cue_number, hundredths_text, label_of, level, lines_of, rest_after, row_text, sheet_text, show_text, time, tokens_of,
+                        cells, cue_number, cue_text, label_of, level, lines_of, rest_after, row_text, sheet_text, show_text, time, tokens_of,
                         whole)
 
 
@@ -42,7 +42,7 @@ class Desk:
             cue = show.cues.get(run.cue)
             move = cue.moves.get(channel) if cue else None
             target = show.tracked(run.cue, channel)
-            if run.all_channels or move or show.tracked(before, channel) != target:
+            if run.all_channels or cue and cue.asserted or move or show.tracked(before, channel) != target:
                 times = run.parts.get(move[0]) if move else None
                 older = self.fade(older, run, times or run.parts[min(run.parts)], target)
             before = run.cue
@@ -107,11 +107,11 @@ class Desk:
             self.runs.append(Run(self.moment, position, {1: [0, 0, 0, 0]}, True))
             return
         if key == "go" and (number := self.show.above(position)) is None:
-            raise Refused(f"NoCueAfter {hundredths_text(position)}")
+            raise Refused(f"NoCueAfter {cue_text(position)}")
         if key == "back" and (number := self.show.below(position)) is None:
-            raise Refused(f"NoCueBefore {hundredths_text(position)}")
+            raise Refused(f"NoCueBefore {cue_text(position)}")
         if number not in self.show.cues:
-            raise Refused(f"AbsentCue {hundredths_text(number)}")
+            raise Refused(f"AbsentCue {cue_text(number)}")
         if len(self.live) == RUNS:
             raise Refused("PlaybackFull")
         if key == "back":
@@ -134,13 +134,13 @@ class Desk:
 
     def the_cue(self, show, n):
         if n not in show.cues:
-            raise Refused(f"AbsentCue {hundredths_text(n)}")
+            raise Refused(f"AbsentCue {cue_text(n)}")
         return show.cues[n]
 
     @staticmethod
     def the_part(cue, n, part):
         if part not in cue.parts:
-            raise Refused(f"AbsentPart {hundredths_text(n)} {part}")
+            raise Refused(f"AbsentPart {cue_text(n)} {part}")
         return cue.parts[part]
 
     @staticmethod
@@ -254,6 +254,7 @@ class Script:
         plain = {"goto": self.goto, "fader": self.fader, "master": self.set_master, "tick": self.ticks, "frame": self.frame,
                  "sheet": self.row, "save": self.save, "cue": self.make, "delete": self.delete, "set": self.set, "release": self.release,
                  "time": self.time, "part": self.add_part, "unpart": self.delete_part, "block": self.block, "unblock": self.unblock,
+                 "assert": lambda words: self.set_asserted(words, True), "unassert": lambda words: self.set_asserted(words, False),
                  "follow": self.follow, "group": self.group, "sub": self.sub, "patch": self.patch, "unpatch": self.unpatch}
         if word == "label":
             return self.label(words, line)
@@ -349,7 +350,7 @@ class Script:
             cue = self.desk.the_cue(show, n)
             for c in self.desk.the_channels(show, *channels):
                 if c not in cue.moves:
-                    raise Refused(f"AbsentMove {hundredths_text(n)} {c}")
+                    raise Refused(f"AbsentMove {cue_text(n)} {c}")
                 del cue.moves[c]
 
         self.desk.edit(change, n, only)
@@ -404,6 +405,15 @@ class Script:
                 row = show.row(n if block else n - 1)
                 cue.block = block
                 cue.moves.update({c: (1, value if block else 0) for c, value in enumerate(row, 1) if value and c not in cue.moves})
+
+        self.desk.edit(change)
+
+    def set_asserted(self, words, asserted):
+        n = words.next(cue_number)
+        words.end()
+
+        def change(show):
+            self.desk.the_cue(show, n).asserted = asserted
 
         self.desk.edit(change)
 

@@ -4,8 +4,8 @@ rules.
 import re
 
 SEPARATORS = b" \t,;/<=>@"
-CHANNELS, DIMMERS, GROUPS, SUBS, PARTS, UNIVERSES = 2048, 8192, 999, 96, 9, 16
-CUE_MAX, CUES, RUNS, TIME_MAX, TICK_END, TICKS, LINE_BYTES = 999_999, 2000, 512, 599_999, 200_000_000, 100_000_000, 4096
+CHANNELS, DIMMERS, GROUPS, SUBS, PARTS, UNIVERSES = 4096, 16384, 999, 96, 9, 32
+CUE_MAX, CUES, RUNS, TIME_MAX, TICK_END, TICKS, LINE_BYTES = 9_999_999, 4000, 512, 599_999, 200_000_000, 100_000_000, 4096
 RECORD_WORDS = {b"IDENT", b"MANUFACTURER", b"CONSOLE", b"CLEAR", b"SET", b"PATCH", b"CUE", b"GROUP", b"SUB", b"ENDDATA"}
 INNER_WORDS = {b"CHAN", b"PART", b"UP", b"DOWN", b"FOLLOWON", b"LINK", b"TEXT"}
 
@@ -74,10 +74,23 @@ def level(token):
     raise Fault("BadNumber")
 
 
-def hundredths(text):
-    """Digits with decimals, in hundredths; further decimals are cut off."""
+def scaled(text, decimals):
+    """Digits with decimals, in the units that so many decimals have; further ones are cut off."""
     before, _, after = text.partition(b".")
-    return 100 * int(before or b"0") + int((after + b"00")[:2])
+    return int((before or b"0") + (after + b"0" * decimals)[:decimals])
+
+
+def scaled_text(n, decimals):
+    unit = 10 ** decimals
+    return f"{n // unit}" + (f".{n % unit:0{decimals}}".rstrip("0") if n % unit else "")
+
+
+def hundredths(text):
+    return scaled(text, 2)
+
+
+def hundredths_text(n):
+    return scaled_text(n, 2)
 
 
 def time(token):
@@ -92,13 +105,13 @@ def time(token):
 
 
 def cue_number(token):
-    if not re.fullmatch(rb"[0-9]+|[0-9]*\.[0-9]{1,2}", token):
+    if not re.fullmatch(rb"[0-9]+|[0-9]*\.[0-9]{1,3}", token):
         raise Fault("BadNumber")
-    return in_range(hundredths(token), 1, CUE_MAX)
+    return in_range(scaled(token, 3), 1, CUE_MAX)
 
 
-def hundredths_text(n):
-    return f"{n // 100}" + (f".{n % 100:02}".rstrip("0") if n % 100 else "")
+def cue_text(n):
+    return scaled_text(n, 3)
 
 
 # ---------------------------------------------------------------------------------------------------------------------
@@ -107,7 +120,7 @@ def hundredths_text(n):
 
 class Cue:
     def __init__(self):
-        self.block, self.follow, self.link, self.label = False, None, None, b""
+        self.block, self.asserted, self.follow, self.link, self.label = False, False, None, None, b""
         self.parts = {1: [500, 0, 500, 0]}  # up, its delay, down, its delay
         self.moves = {}  # channel: (part, level)
 
@@ -177,13 +190,13 @@ class Reader:
         if not tokens:
             return False
         word = tokens[0].upper()
-        blocks = word == b"$$BLOCK" and isinstance(self.section, Cue)
-        if word.startswith(b"$") and not blocks:
+        flags = word in (b"$$BLOCK", b"$$ASSERT") and isinstance(self.section, Cue)
+        if word.startswith(b"$") and not flags:
             self.skip(number)
             if not word.startswith(b"$$"):
                 self.section = "skipping"
             return False
-        if word not in RECORD_WORDS | INNER_WORDS and not blocks:
+        if word not in RECORD_WORDS | INNER_WORDS and not flags:
             self.skip(number)
             return False
         if not self.identified and word not in (b"IDENT", b"MANUFACTURER", b"CONSOLE"):
@@ -191,8 +204,8 @@ class Reader:
         if self.section == "skipping" and word in INNER_WORDS:
             self.skip(number)
             return False
-        if blocks:
-            self.section.block = True
+        if flags:
+            setattr(self.section, "block" if word == b"$$BLOCK" else "asserted", True)
         elif word in INNER_WORDS:
             self.inner(word, tokens[1:], line, number)
         else:
@@ -305,7 +318,7 @@ def cells(levels):
 
 
 def row_text(show, number):
-    return f"row {hundredths_text(number)}{cells(show.row(number))}\n".encode()
+    return f"row {cue_text(number)}{cells(show.row(number))}\n".encode()
 
 
 def sheet_text(show):
@@ -313,7 +326,7 @@ def sheet_text(show):
     for n in sorted(show.cues):
         cue = show.cues[n]
         kind = "block" if cue.block else "track"
-        out += f"cue {hundredths_text(n)} {kind} {len(cue.parts)} {len(cue.moves)}".encode()
+        out += f"cue {cue_text(n)} {kind} {len(cue.parts)} {len(cue.moves)}".encode()
         out += (b" " + cue.label if cue.label else b"") + b"\n" + row_text(show, n)
     return out
 
@@ -326,10 +339,10 @@ def show_text(show):
             out += [b"%s %d" % (word, n)] + ([b"TEXT " + label] if label else [])
             out += [b"CHAN %d@H%02X" % member for member in sorted(members.items())]
     for n, cue in sorted(show.cues.items()):
-        out += [b"CUE " + hundredths_text(n).encode()] + ([b"$$BLOCK"] if cue.block else [])
+        out += [b"CUE " + cue_text(n).encode()] + ([b"$$BLOCK"] if cue.block else []) + ([b"$$ASSERT"] if cue.asserted else [])
         out += [b"TEXT " + cue.label] if cue.label else []
         out += [b"FOLLOWON " + hundredths_text(cue.follow).encode()] if cue.follow is not None else []
-        out += [b"LINK " + hundredths_text(cue.link).encode()] if cue.link is not None else []
+        out += [b"LINK " + cue_text(cue.link).encode()] if cue.link is not None else []
         for p, (up, up_delay, down, down_delay) in sorted(cue.parts.items()):
             texts = tuple(hundredths_text(t).encode() for t in (up, up_delay, down, down_delay))
             out += [b"PART %d" % p, b"UP %s %s" % texts[:2], b"DOWN %s %s" % texts[2:]]

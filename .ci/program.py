@@ -8,6 +8,7 @@ rules (docs/FORMATS.md), never from what the program printed. Without --program 
 `rt ci` leaves there; where it is missing or a source is newer, the launcher builds it first.
 """
 import argparse
+import functools
 import os
 import resource
 import subprocess
@@ -15,6 +16,7 @@ import sys
 import tempfile
 
 import plain_desk
+import refusals
 import walks
 
 TOP = os.path.dirname(os.path.dirname(os.path.abspath(__file__)))
@@ -62,8 +64,8 @@ def made(words, output, **special):
 
 def job_cases():
     """The words of `make` and `run`. What the greater numbers come to was worked out by a desk that was written apart, from the same rules."""
-    wrong = [("make",), ("make", "0"), ("make", "2001"), ("make", "01"), ("make", "1", "2"), ("make", "+1"), ("make", "-1"),
-             ("make", "1x"), ("make", ""), ("make", "4294967297"), ("make", "1", "states"), ("run",), ("run", "0"), ("run", "17"),
+    wrong = [("make",), ("make", "0"), ("make", "4001"), ("make", "01"), ("make", "1", "2"), ("make", "+1"), ("make", "-1"),
+             ("make", "1x"), ("make", ""), ("make", "4294967297"), ("make", "1", "states"), ("run",), ("run", "0"), ("run", "33"),
              ("run", "01"), ("run", "1", "moves"), ("run", "states"), ("render", "-"), ("check", "--"), ("-h",), ("help",), ("--version",)]
     return [made(words, "", status=2, error=USAGE) for words in wrong] + [
         made(("make", "1"), "cues 1\nmoment 174\nok 3\nrefused 0\nsum 127\n"),
@@ -83,8 +85,13 @@ def edge_cases():
         Case("status 3 where the input is a folder", b"", "", status=3, folder=True),
         Case("status 4 where the output is a full device", ONE_CUE + "go\n", "", status=4, full=True),
         Case("status 4 where a refused show's line can't be written", "CUE 1\n", "", status=4, full=True),
-        Case("status 5 for lack of memory", "IDENT 3:0\nSET CHANNELS 2048\nENDDATA\ngo\n", "", status=5, memory=3 << 20),
+        *[Case(f"status 4 of {' '.join(words)} on a full device", ONE_CUE + "go\n", "", status=4, words=words, full=True)
+          for words in (("check",), ("check", "states"), ("sheet",), ("sheet", "states"), ("make", "1"), ("render", "states"), ("run", "1"))],
+        *[Case(f"status 3 of {' '.join(words)} on a folder", b"", "", status=3, words=words, folder=True)
+          for words in (("check",), ("check", "states"), ("sheet",), ("sheet", "states"), ("render", "states"), ("run", "1"), ("run", "1", "states"))],
+        Case("status 5 for lack of memory", "IDENT 3:0\nSET CHANNELS 4096\nENDDATA\ngo\n", "", status=5, memory=3 << 20),
         Case("status 6 for an input that is too long", b"\n" * INPUT_BYTES + b"X", "", status=6),
+        Case("status 6 for a script that is too long", (ONE_CUE + "go\n").encode() + b"!" * INPUT_BYTES, "ok\n", status=6),
         Case("an input of the greatest length is read to its end", b"\n" * INPUT_BYTES, f"show NoEndData {INPUT_BYTES + 1}\n", status=1),
         Case("check", ONE_CUE + "go\n", "show cues 1 channels 512 skipped 0 first 0\n", words=("check",)),
         Case("sheet", ONE_CUE + "go\n", "cue 1 track 1 1\nrow 1 1=128\n", words=("sheet",)),
@@ -104,15 +111,22 @@ def edge_cases():
 
 
 def cue_limit():
-    """A show of 2,000 cues: one that is there may be made again, a further one not."""
-    cues = "".join(f"CUE {n}\n" for n in range(1, 2001))
-    return Case("the 2,001st cue", show(cues) + "cue 9999.99\ncue 2000\ncue 0.01\ndelete 7\ncue 9999.99\n",
+    """A show of 4,000 cues: one that is there may be made again, a further one not."""
+    cues = "".join(f"CUE {n}\n" for n in range(1, 4001))
+    return Case("the 4,001st cue", show(cues) + "cue 9999.999\ncue 4000\ncue 0.001\ndelete 7\ncue 9999.999\n",
                 "refused CueLimit\nok\nrefused CueLimit\nok\nok\n")
 
 
 def full_playback():
     text = show("CUE 1\nUP 40:00\nCHAN 1@FL\n") + "goto 1\n" * 513 + "settle\ngoto 1\nframe\n"
     return Case("512 runs live", text, "ok\n" * 512 + "refused PlaybackFull\nok\nok\nframe 0 1 1=255\n")
+
+
+def bad_lines(ident):
+    """Script lines that say nothing: numbers out of range, a word too many, ranges and words in the wrong order, and lines that are too long."""
+    lines = ["tick 0", "tick 100000001", "goto 0", "go now", "set 1 chan 5 thru 4 at 0", "set 1 chan 1 at 5 only part 1", "x" * 4097,
+             "frame 0", "frame 33", "save all", "quit now", "delete only", "only delete 1", "set 1 sub 1 at 5", "patch 0 chan 1 at 5", "label", "tick -1"]
+    return Case("script lines that are bad", ident + "\n".join(lines) + "\nframe\n", "bad\n" * len(lines) + "frame 0 1\n")
 
 
 def limit_cases():
@@ -123,10 +137,11 @@ def limit_cases():
         Case("ticks past the last moment are refused once", ONE_CUE + "tick 99999999\ntick 2\nframe\n", "ok\nrefused TickLimit 200000000\nframe 200000000 1\n"),
         full_playback(),
         cue_limit(),
-        Case("the 2,001st cue of a text", "IDENT 3:0\n" + "".join(f"CUE {n}\n" for n in range(1, 2002)) + "ENDDATA\n", "show OutOfRange 2002\n", status=1),
+        Case("the 4,001st cue of a text", "IDENT 3:0\n" + "".join(f"CUE {n}\n" for n in range(1, 4002)) + "ENDDATA\n", "show OutOfRange 4002\n", status=1),
         Case("a script line of 4,096 bytes and one of 4,097", ident + longest + "\n" + longest + "x\nframe\n", "bad\nbad\nframe 0 1\n"),
         Case("a show line of 4,096 bytes", f"IDENT 3:0\n{longest}\nENDDATA\nframe\n", "frame 0 1\n"),
         fault("a show line of 4,097 bytes", longest + "x", "LineTooLong", 2),
+        bad_lines(ident),
         Case("a last line without its line end", ONE_CUE + "go\nframe", "ok\nframe 0 1 1=128\n"),
     ]
 
@@ -148,12 +163,12 @@ def labelled_shows():
 
 
 def all_channels():
-    """2,048 channels on 2,048 dimmers are edited and played in four universes."""
-    patch = "SET CHANNELS 2048\n" + "".join(f"PATCH 1 {c}<{c}@FL\n" for c in range(1, 2049))
-    script = "set 1 chan 1 thru 2048 at H40\ngo\nframe 4\nset 1 chan 2048 at FL\nframe 4\nset 1 chan 2049 at 5\nrelease 1 chan 1 thru 2048\nframe 4\n"
-    frame = "frame 0 4" + "".join(f" {s}=64" for s in range(1, 512))
-    return Case("2,048 channels", "IDENT 3:0\n" + patch + "CUE 1\n" + AT_ONCE + "ENDDATA\n" + script,
-                f"ok\nok\n{frame} 512=64\nok\n{frame} 512=255\nbad\nok\nframe 0 4\n")
+    """4,096 channels on 4,096 dimmers are edited and played in eight universes."""
+    patch = "SET CHANNELS 4096\n" + "".join(f"PATCH 1 {c}<{c}@FL\n" for c in range(1, 4097))
+    script = "set 1 chan 1 thru 4096 at H40\ngo\nframe 8\nset 1 chan 4096 at FL\nframe 8\nset 1 chan 4097 at 5\nrelease 1 chan 1 thru 4096\nframe 8\n"
+    frame = "frame 0 8" + "".join(f" {s}=64" for s in range(1, 512))
+    return Case("4,096 channels", "IDENT 3:0\n" + patch + "CUE 1\n" + AT_ONCE + "ENDDATA\n" + script,
+                f"ok\nok\n{frame} 512=64\nok\n{frame} 512=255\nbad\nok\nframe 0 8\n")
 
 
 def nine_parts():
@@ -172,8 +187,16 @@ def label_and_follow():
     return Case("a label and a follow are taken away", show("CUE 1\nTEXT Preset\nFOLLOWON 2\n") + "label 1\nfollow 1 off\nsave\n", "ok\nok\n" + saved)
 
 
+def finest_numbers():
+    """A cue between cues by a thousandth, the last channel and the last dimmer; cue 2.55 lies below it."""
+    text = "IDENT 3:0\nSET CHANNELS 4096\nCUE 2.555\nUP 0\nCHAN 4096@FL\nENDDATA\n"
+    return [Case("the last channel and dimmer", text + "patch 16384 chan 4096 at 50\ngo\nframe 32\nsheet 2.555\n",
+                 "ok\nok\nframe 0 32 512=128\nrow 2.555 4096=255\n"),
+            Case("a cue below by five thousandths", text + "cue 2.55\ngo\ngo\nback\nback\n", "ok\nok\nok\nok\nrefused NoCueBefore 2.55\n")]
+
+
 def great_cases():
-    return [labelled_shows(), all_channels(), nine_parts(), label_and_follow()]
+    return [labelled_shows(), all_channels(), nine_parts(), label_and_follow()] + finest_numbers()
 
 
 # ---------------------------------------------------------------------------------------------------------------------
@@ -183,14 +206,39 @@ def great_cases():
 def kept_cases():
     delayed = show("CUE 1\nUP 4 1\nCHAN 1@FL\n")
     # 512 runs of a fade of 40 minutes: after 2,000 seconds it has gone 200,000 of 240,000 hundredths.
-    long = ("IDENT 3:0\nSET CHANNELS 2048\nPATCH 1 1<1@FL\nCUE 1\nUP 40:00\nCHAN 1@FL\nENDDATA\n" + "goto 1\n" * 512 + "tick 100000\nframe\n")
+    long = ("IDENT 3:0\nSET CHANNELS 4096\nPATCH 1 1<1@FL\nCUE 1\nUP 40:00\nCHAN 1@FL\nENDDATA\n" + "goto 1\n" * 512 + "tick 100000\nframe\n")
     return [
         Case("a cue is deleted while its fade is delayed", delayed + "go\ntick 25\ndelete 1\ntick 100\nframe\n", "ok\nok\nok\nok\nframe 250 1\n"),
         Case("a level is set while it fades", delayed + "go\ntick 150\nset 1 chan 1 at H80\nframe\n", "ok\nok\nok\nframe 300 1 1=64\n"),
         Case("a cue behind the position changes nothing", delayed + "go\ntick 150\ncue 0.5\nset 0.5 chan 1 at H64\nframe\n", "ok\nok\nok\nok\nframe 300 1 1=127\n"),
-        Case("512 runs of 2,048 channels for 100,000 ticks", long, "ok\n" * 513 + f"frame 200000 1 1={255 * 200000 // 240000}\n"),
+        Case("512 runs of 4,096 channels for 100,000 ticks", long, "ok\n" * 513 + f"frame 200000 1 1={255 * 200000 // 240000}\n"),
         Case("a follow-on fires and rests in one tick", show("CUE 1\n" + AT_ONCE + "FOLLOWON 0\nCUE 2\n" + AT_ONCE + "CHAN 1@FL\n") + "go\ntick\nframe\ngo\n",
              "ok\nok\nframe 2 1 1=255\nrefused NoCueAfter 2\n"),
+    ]
+
+
+def assert_cases():
+    """Cue 1 brings channel 1 to full in 10 seconds; cue 2 doesn't name it, and acts on it while it is asserted."""
+    def over(cue, script, *frames):
+        replies = "".join(f"frame {frame}\n" if frame else "ok\n" for frame in frames)
+        return show("CUE 1\nUP 10\nCHAN 1@FL\nCUE 2\n" + cue) + "\n".join(script.split("|")) + "\n", replies
+
+    begun, on = "go|tick 250|go|tick 50|frame|", ["", "", "", "", "600 1 1=153"]
+    return [
+        Case("a cue is asserted while it runs", *over("UP 2\n", begun + "assert 2|frame|unassert 2|frame|assert 2|assert 2|frame",
+                                                      *on, "", "600 1 1=191", "", "600 1 1=153", "", "", "600 1 1=191")),
+        Case("an asserted cue is deleted, and made again", *over("$$ASSERT\nUP 2\n", "go|tick 250|go|tick 50|frame|delete 2|frame|cue 2|frame",
+                                                                 "", "", "", "", "600 1 1=191", "", "600 1 1=153", "", "600 1 1=153")),
+        Case("asserted while its fade waits", *over("UP 2 1\n", begun + "assert 2|frame|tick 50|frame|unassert 2|frame|assert 2|delete 2 only|frame",
+                                                    *on, "", "600 1 1=153", "", "700 1 1=204", "", "700 1 1=178", "", "", "700 1 1=178")),
+        Case("a cue-only edit below an asserted cue", over("$$ASSERT\nUP 2\n", "set 1 chan 1 at 0 only|save")[0],
+             "ok\nIDENT 3:0\nSET CHANNELS 512\nPATCH 1 1<1@HFF\nCUE 1\nPART 1\nUP 10 0\nDOWN 5 0\nCHAN 1@H00\n"
+             "CUE 2\n$$ASSERT\nPART 1\nUP 2 0\nDOWN 5 0\nCHAN 1@HFF\nENDDATA\n"),
+        Case("an absent cue isn't asserted", PATCHED + "ENDDATA\nassert 9\nunassert 9\nassert\nassert 9 x\nunassert 0\n",
+             "refused AbsentCue 9\nrefused AbsentCue 9\nbad\nbad\nbad\n"),
+        Case("$$ASSERT is saved behind $$BLOCK, and skipped outside of a cue",
+             "$$ASSERT\nIDENT 3:0\nSUB 1\n$$ASSERT\nCUE 1\n$$assert\n$$BLOCK\nTEXT x\nENDDATA\nsave\n",
+             "IDENT 3:0\nSET CHANNELS 512\nSUB 1\nCUE 1\n$$BLOCK\n$$ASSERT\nTEXT x\nPART 1\nUP 5 0\nDOWN 5 0\nENDDATA\n"),
     ]
 
 
@@ -199,19 +247,19 @@ def kept_cases():
 
 # The word, a line before it, its tokens, and for each token a text that hasn't the form and one out of range.
 WRONG_TOKENS = [
-    ("CHAN", "CUE 1\n", ["1", "50"], [("x", "2049"), ("x", "101")]),
+    ("CHAN", "CUE 1\n", ["1", "50"], [("x", "4097"), ("x", "101")]),
     ("PART", "CUE 1\n", ["1"], [("x", "10")]),
     ("UP", "CUE 1\n", ["1", "2"], [("x", "6000"), ("1:", "1:60")]),
     ("DOWN", "CUE 1\n", ["1", "2"], [("1:2:3", "100:00"), (".", "99:60")]),
     ("FOLLOWON", "CUE 1\n", ["1"], [("x", "6000")]),
-    ("LINK", "CUE 1\n", ["2"], [("1.234", "0")]),
-    ("CUE", "", ["1"], [("1.234", "10000")]),
+    ("LINK", "CUE 1\n", ["2"], [("1.2345", "0")]),
+    ("CUE", "", ["1"], [("1.2345", "10000")]),
     ("GROUP", "", ["1"], [("1.5", "1000")]),
     ("SUB", "", ["1"], [("x", "97")]),
     ("CHAN", "GROUP 1\n", ["1", "50"], [("1.5", "0"), ("H1", "101")]),
     ("CHAN", "SUB 1\n", ["1", "50"], [("", "0"), ("HGG", "999")]),
-    ("SET CHANNELS", "", ["24"], [("x", "2049")]),
-    ("PATCH 1", "", ["1", "2", "50"], [("x", "2049"), ("x", "8193"), ("x", "101")]),
+    ("SET CHANNELS", "", ["24"], [("x", "4097")]),
+    ("PATCH 1", "", ["1", "2", "50"], [("x", "4097"), ("x", "16385"), ("x", "101")]),
 ]
 # Words whose later tokens may be absent: how many are needed.
 NEEDED = {"UP": 1, "DOWN": 1}
@@ -306,15 +354,92 @@ def closed_output(program):
     return [] if (run.returncode, run.stderr) == (4, b"") else [f"status {run.returncode}, standard error {run.stderr[:200]!r}"]
 
 
+def terminal_goes_away(program):
+    """A terminal that is closed in the middle of a line: the read or the write fails, and nothing else is said."""
+    master, terminal = os.openpty()
+    with subprocess.Popen([program, "render"], stdin=terminal, stdout=terminal, stderr=subprocess.PIPE, start_new_session=True) as run:
+        os.close(terminal)
+        os.write(master, ONE_CUE.encode() + b"go\n")
+        os.read(master, 4096)
+        os.write(master, b"fra")
+        os.close(master)
+        error = run.stderr.read()
+        status = run.wait(TIME_LIMIT)
+    return [] if status in (3, 4) and error == b"" else [f"status {status}, standard error {error[:200]!r}"]
+
+
+# A rig of all channels, and edits that want more and more memory, with keys and frames among them; every line has one line of reply.
+GREAT_RIG = "IDENT 3:0\nSET CHANNELS 4096\nPATCH 1 1<1@FL 2<1024@50\nCUE 1\n" + AT_ONCE + "CHAN 1@50 4096@FL\nENDDATA\n"
+GROWING = [line for n in range(2, 26) for line in [f"cue {n}", f"set {n} chan 1 thru 4096 at H{n:02X}", f"label {n} the look of cue {n}"]
+           + ["go", "tick 3", "frame"] * (n % 6 == 0)]
+
+
+def under(program, limit):
+    """Status, replies and standard error of the edits above with so many bytes of memory."""
+    run = subprocess.run([program, "render"], input=(GREAT_RIG + "\n".join(GROWING)).encode(), stdout=subprocess.PIPE, stderr=subprocess.PIPE,
+                         timeout=TIME_LIMIT, preexec_fn=lambda: resource.setrlimit(resource.RLIMIT_DATA, (limit, limit)))
+    return run.returncode, run.stdout.decode("latin-1").splitlines(), run.stderr
+
+
+def is_refused(reply):
+    return reply == "refused Memory"
+
+
+def least_limit(holds):
+    """The least number of pages of memory at which it holds, of a thing that holds with more memory too."""
+    few, enough = 16, 1 << 14
+    while few + 1 < enough:
+        middle = (few + enough) // 2
+        few, enough = (few, middle) if holds(middle << 12) else (middle, enough)
+    return enough
+
+
+@functools.cache
+def replies_but(refused):
+    """The replies where the lines of these numbers are refused. They change nothing: the other replies are those of the script in which a bad
+    line stands in the place of each."""
+    kept = ["fly" if k in refused else line for k, line in enumerate(GROWING)]
+    replies = plain_desk.output(("render",), (GREAT_RIG + "\n".join(kept)).encode())[1].decode("latin-1").splitlines()
+    return ["refused Memory" if k in refused else reply for k, reply in enumerate(replies)]
+
+
+def wrong_under(program, limit):
+    """What is wrong with so many bytes of memory."""
+    status, replies, error = under(program, limit)
+    refused = frozenset(k for k, reply in enumerate(replies) if is_refused(reply))
+    wanted = replies_but(refused)
+    wrong = [f"status {status}, {error[:100]!r}"] * (status != 0 or error != b"") + ["another output"] * (replies != wanted)
+    wrong += [f"{GROWING[k]} is refused" for k in refused if GROWING[k].split()[0] not in ("cue", "set", "label")]
+    return [f"with {limit} bytes: {said}" for said in wrong]
+
+
+def memory_runs_out(program):
+    """With less and less memory more and more edits are refused, and then the desk isn't opened: page by page, with no other fault."""
+    whole = least_limit(lambda limit: not any(map(is_refused, under(program, limit)[1])) and under(program, limit)[0] == 0)
+    opened = least_limit(lambda limit: under(program, limit)[0] == 0)
+    wrong = [] if opened + 20 < whole else [f"the edits want {whole - opened} pages"]
+    for pages in range(opened, whole, max(1, (whole - opened) // 30)):
+        wrong += wrong_under(program, pages << 12)
+    for pages in range(opened - 200, opened, 10):
+        status, replies, error = under(program, pages << 12)
+        wrong += [f"with {pages} pages: status {status}, {replies[:1]}, {error[:100]!r}"] * ((status, replies, error) != (5, [], b""))
+    return wrong[:5]
+
+
 LIVE = ("IDENT 3:0\nPATCH 1 1<1@FL 2<513@FL 3<1025@FL\nCUE 1\nUP 0.2\nCHAN 1@FL 2@H80\nCUE 2\nDOWN 0.1\nCHAN 1@0 3@50\nENDDATA\n"
         "go\ntick 8\nset 1 chan 1 at H40\nfly\ngo\nset 9 chan 1 at 0\ntick 6\nframe 2\nmaster at 50\n").encode()
 
 
-def outlet_is_wrong(path, universe, whole=True):
+# Two universes whose first and last slots change with each of 10,000 commands.
+MANY = ("IDENT 3:0\nPATCH 1 1<1@FL 2<512@FL 2<513@FL 1<1024@FL\nCUE 1\nUP 0\nCHAN 1@FL 2@HFE\nENDDATA\ngo\n"
+        + "".join(f"master at H{255 - n % 251:02X}\n" for n in range(1, 10_000))).encode()
+
+
+def outlet_is_wrong(path, universe, script=LIVE, whole=True):
     """What is wrong in a live run's file: each line is a version's, the counts rise, and the last is that of all commands."""
     with open(path, "rb") as file:
         lines = file.read().splitlines(keepends=True)
-    versions = plain_desk.versions(LIVE, universe)
+    versions = plain_desk.versions(script, universe)
     counts = [int(line.split()[1]) for line in lines]
     wrong = [f"line {line!r}" for count, line in zip(counts, lines) if versions[count:count + 1] != [line]]
     if counts != sorted(set(counts)) or (whole and counts[-1:] != [len(versions) - 1]):
@@ -347,6 +472,16 @@ def live_run_with_a_full_device(program):
     return wrong + ([f"status {status}, not 4"] if status != 4 else [])
 
 
+def live_run_of_many_commits(program):
+    """Two taps take beside an engine that publishes 10,000 commits."""
+    with tempfile.TemporaryDirectory() as folder:
+        run = subprocess.run([program, "run", "2"], input=MANY, stdout=subprocess.PIPE, stderr=subprocess.PIPE, cwd=folder, timeout=TIME_LIMIT)
+        wrong = [said for u in (1, 2) for said in outlet_is_wrong(os.path.join(folder, f"universe-{u}.txt"), u, MANY)]
+    if (run.returncode, run.stdout, run.stderr) != (0, b"ok\n" * 10_000, b""):
+        wrong.append(f"status {run.returncode}, output {run.stdout[:100]!r}, standard error {run.stderr[:200]!r}")
+    return wrong[:5]
+
+
 def live_run_of_a_refused_show(program):
     """No file is made."""
     with tempfile.TemporaryDirectory() as folder:
@@ -355,7 +490,14 @@ def live_run_of_a_refused_show(program):
     return [] if (run.returncode, run.stdout, files) == (1, b"show NoIdent 1\n", []) else [f"status {run.returncode}, {run.stdout!r}, files {files}"]
 
 
-TALKS = [talk, refused_at_once, reader_goes_away, closed_output, live_run, live_run_with_a_full_device, live_run_of_a_refused_show]
+def each_call_refused_in_turn(program):
+    """Each allocation, each read and each write of each job is refused in turn."""
+    runs, wrong = refusals.refusals(program)
+    return wrong[:5] + (["hardly any call was refused"] if runs < 500 else [])
+
+
+TALKS = [talk, refused_at_once, reader_goes_away, closed_output, terminal_goes_away, memory_runs_out, live_run, live_run_with_a_full_device,
+         live_run_of_many_commits, live_run_of_a_refused_show, each_call_refused_in_turn]
 
 
 # ---------------------------------------------------------------------------------------------------------------------
@@ -415,7 +557,7 @@ def main():
     parser.add_argument("--only", default="")
     given = parser.parse_args()
     program = os.path.abspath(given.program or built_program())
-    cases = edge_cases() + limit_cases() + great_cases() + kept_cases() + reading_cases()
+    cases = edge_cases() + limit_cases() + great_cases() + kept_cases() + assert_cases() + reading_cases()
     runs = [(case.name, lambda case=case: wrong_in(program, case)) for case in cases]
     runs += [(each.__name__.replace("_", " "), lambda each=each: each(program)) for each in TALKS]
     runs += [(name, lambda inputs=inputs: walks.wrong_in_table(program, inputs)[1]) for name, inputs in walks.tables(WALKS, 1)]

@@ -108,7 +108,7 @@ class Walk:
         return self.pick("0", "0.01", "0.02", "0.1", "0.5", "1", "2.5", "3", "5")
 
     def cue(self):
-        return self.pick("0.5", "1", "2", "2.5", "3", "3.25", "4", "5", "6", "7", "8")
+        return self.pick("0.5", "1", "2", "2.5", "3", "3.25", "3.255", "4", "5", "6", "7", "8")
 
     def levels(self):
         return "CHAN " + " ".join(f"{self.below(self.channels)}@{self.level()}" for _ in range(self.below(4)))
@@ -118,7 +118,7 @@ class Walk:
 
     def cue_lines(self, number):
         yield f"CUE {number}"
-        for chance, line in ((.3, "TEXT Preset !1"), (.2, "$$BLOCK"), (.2, f"FOLLOWON {self.time()}"), (.1, f"LINK {self.cue()}")):
+        for chance, line in ((.3, "TEXT Preset !1"), (.2, "$$BLOCK"), (.2, "$$ASSERT"), (.2, f"FOLLOWON {self.time()}"), (.1, f"LINK {self.cue()}")):
             if self.often(chance):
                 yield line
         for part in range(self.pick(1, 1, 1, 2, 3)):
@@ -133,7 +133,7 @@ class Walk:
         if self.often(.7):
             yield f"SET CHANNELS {self.channels}"
         for d in range(1, self.below(13)):
-            yield f"PATCH 1 {self.below(self.channels)}<{self.pick(d, d, 512 + d, 512 * d, 8192 - d)}@{self.pick('FL', self.level())}"
+            yield f"PATCH 1 {self.below(self.channels)}<{self.pick(d, d, 512 + d, 512 * d, 16384 - d)}@{self.pick('FL', self.level())}"
         for number in sorted({self.cue() for _ in range(self.random.randrange(7))}, key=float):
             yield from self.cue_lines(number)
         for word in ("GROUP", "SUB"):
@@ -156,9 +156,10 @@ class Walk:
             f"set {cue} {self.range()} at {self.level()}{only}", f"set {cue} group {self.below(3)} at {self.level()}{part}{only}",
             f"release {cue} {self.range()}{only}", f"time {cue}{part} {self.pick('up', 'down')} {self.time()}" + self.pick("", f" {self.time()}"),
             f"part {cue} {self.below(4)}", f"unpart {cue} {self.below(4)}", f"{self.pick('block', 'unblock')} {cue}",
+            f"{self.pick('assert', 'assert', 'unassert')} {cue}",
             f"follow {cue} {self.pick('off', self.time())}", f"label {cue} {self.pick('', 'two  words', '!x')}",
             f"group {self.below(3)} {self.range()} at {self.level()}", f"sub {self.below(3)} {self.range()} at {self.level()}",
-            f"patch {self.pick(1, 2, 513, 8192, 14)} chan {self.below(self.channels + 1)} at {self.level()}", f"unpatch {self.pick(1, 2, 513, 8192)}")
+            f"patch {self.pick(1, 2, 513, 16384, 14)} chan {self.below(self.channels + 1)} at {self.level()}", f"unpatch {self.pick(1, 2, 513, 16384)}")
 
     def key(self):
         return self.pick("go", "go", "go", "back", f"goto {self.cue()}", "settle", f"fader {self.below(3)} at {self.level()}", f"master at {self.level()}")
@@ -170,7 +171,7 @@ class Walk:
         if chance < .42:
             return "tick " + self.pick("", "1", "3", "5", "25", "50", "100", "300", "2000")
         if chance < .6:
-            return self.pick("frame", "frame", "frame 2", "frame 16", f"sheet {self.cue()}", "save")
+            return self.pick("frame", "frame", "frame 2", "frame 32", f"sheet {self.cue()}", "save")
         if chance < .98:
             return self.edit()
         return self.pick("bogus", "set 1", "go 1", "", "  ! c", "tick 0")

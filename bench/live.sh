@@ -1,25 +1,148 @@
 #!/usr/bin/env bash
-# A live run of 3,000 ticks over 16 universes into files, beside `render` of the same script with a frame line after each tick.
-# The live run keeps its pace of 20 milliseconds a beat, so its processor time is what counts. Run by hand; it takes a minute.
+# A live run of 3,000 ticks over 16 universes that are all under way, beside `render` of the same script with a frame line after each tick,
+# both in memory: a copy of the program is built whose `main` keeps output and outlets, and tells how long the job took. The live run is
+# played with a pace of none, and once with beats of a millisecond, by which the workers wait when a tick comes: then the engine's own time
+# from beat to beat is told. The copy stands on the proofs of the crates here (`rt all check` first); only its `main` is proved anew.
+# Run by hand on a quiet machine. `bench/live.sh files` instead plays 500 ticks by the program itself, into files, at its own pace.
 set -eu
 top=$(cd "$(dirname "$0")/.." && pwd)
-ticks=${1:-3000}
-folder=$(mktemp -d)
-trap 'rm -rf "$folder"' EXIT
-python3 - "$folder" "$ticks" <<'PYTHON'
+copy=$(mktemp -d)
+trap 'rm -rf "$copy"' EXIT
+python3 - "$copy" <<'PYTHON'
 import sys
-folder, ticks = sys.argv[1], int(sys.argv[2])
+folder = sys.argv[1]
 head = ['IDENT 3:0', 'SET CHANNELS 2048']
 head += ['PATCH 1 ' + ' '.join('%d<%d@FL' % (1 + (d - 1) % 2048, d) for d in range(at, at + 64)) for at in range(1, 8193, 64)]
 head += ['CUE 1', 'UP 1:00'] + ['CHAN ' + ' '.join('%d@FL' % c for c in range(at, at + 64)) for at in range(1, 2049, 64)] + ['ENDDATA', 'go']
-for name, lines in (('live', ['tick'] * ticks), ('render', ['tick', 'frame'] * ticks)):
+for name, lines in (('live', ['tick'] * 3000), ('render', ['tick', 'frame'] * 3000), ('short', ['tick'] * 500)):
     with open(folder + '/' + name, 'w') as out:
         out.write('\n'.join(head + lines) + '\n')
 PYTHON
-cd "$folder"
-TIMEFORMAT='%R s, %U s of processor time and %S s in the system'
-echo "live, 16 universes:"
-time "$top/crates/cuedesk/out/cuedesk" run 16 < live > /dev/null
-wc -l universe-*.txt | tail -1
-echo "render, a frame a tick:"
-time "$top/crates/cuedesk/out/cuedesk" render < render > /dev/null
+if [ "${1:-}" = files ]; then
+    cd "$copy"
+    TIMEFORMAT='500 ticks into 16 files: %R s, %U s of processor time and %S s in the system'
+    time "$top/crates/cuedesk/out/cuedesk" run 16 < short > /dev/null
+    wc -l universe-*.txt | tail -1
+    exit
+fi
+cp -a "$top/crates.txt" "$top/HANDLES" "$top/crates" "$copy"
+cd "$copy/crates/cuedesk"
+rm -f stdin stdout args status src/universes.rt
+python3 - src/main.rt <<'PYTHON'
+import sys
+path = sys.argv[1]
+text = open(path).read()
+head = text[:text.index('fn main(rt')].replace('use lx_io::{Sink, StdSink, StdSource};', 'use lx_io::{Pace, PlainSink, StdSource};')
+head = head.replace('use std::io::BufWriter;\n', 'use std::sync::atomic::AtomicU64;\nuse std::sync::atomic::Ordering::SeqCst;\nuse std::thread;\n')
+head = head.replace('use std::process::ExitCode;\n', 'use std::process::ExitCode;\nuse std::time::{Duration, Instant};\n')
+head = head.replace('use universes::{DeskPace, files};\n', '').replace('mod universes;\n', '')
+open(path, 'w').write(head + '''/// A pace whose beats take so many microseconds, and which counts the engine's own time from beat to beat.
+#[derive(Drop)]
+struct Timed<'r> {
+    rt: &'r HostRuntime,
+    start: Instant,
+    beat: u64,
+    last: AtomicU64,
+    spent: AtomicU64,
+}
+
+impl Timed<'_> {
+    /// Microseconds since the start.
+    fn now(&self) -> u64 {
+        match self.start.elapsed(self.rt) {
+            Ok(spent) => spent.as_secs().saturating_mul(1_000_000).saturating_add(spent.subsec_micros() as u64),
+            Err(_) => 0,
+        }
+    }
+}
+
+impl Pace for Timed<'_> {
+    fn beat(&self) {
+        let last = self.last.load(SeqCst);
+        if last > 0 {
+            self.spent.fetch_add(self.now().saturating_sub(last), SeqCst);
+        }
+        if self.beat > 0 {
+            thread::sleep(self.rt, Duration::from_micros(self.beat));
+        }
+        self.last.store(self.now(), SeqCst);
+    }
+
+    fn pause(&self) {
+        if self.beat > 0 {
+            thread::sleep(self.rt, Duration::from_micros(self.beat));
+        } else {
+            thread::yield_now();
+        }
+    }
+
+    fn taken(&self, _universe: u8, _count: u64) {}
+}
+
+fn kept(alloc: Global) -> Option<PlainSink>
+    ensures { IsSome result }
+{
+    Some(PlainSink::new(alloc))
+}
+
+/// Sinks for sixteen universes that keep their lines.
+fn outlets(alloc: Global) -> [Option<PlainSink>; 16]
+    ensures count { length result ≡ 16 }
+    ensures full { IsFull result }
+{
+    [
+        kept(alloc), kept(alloc), kept(alloc), kept(alloc), kept(alloc), kept(alloc), kept(alloc), kept(alloc),
+        kept(alloc), kept(alloc), kept(alloc), kept(alloc), kept(alloc), kept(alloc), kept(alloc), kept(alloc),
+    ]
+}
+
+fn main(rt: HostRuntime) -> ExitCode {
+    let alloc: Global = rt.alloc();
+    let Ok(words) = words_given(&rt) else {
+        return ExitCode::from(2);
+    };
+    let Ok(start) = Instant::now(&rt) else {
+        return ExitCode::from(3);
+    };
+    let beat = match env::var(&rt, "BEAT") {
+        Ok(_) => 1_000,
+        Err(_) => 0,
+    };
+    let mut input = StdSource::new(rt.stdin());
+    let mut output = PlainSink::new(alloc);
+    let mut outlets = outlets(alloc);
+    let pace = Timed { rt: &rt, start, beat, last: AtomicU64::new(0), spent: AtomicU64::new(0) };
+    let begun = pace.now();
+    let status = match desk(alloc, &words, &mut input, &mut output) {
+        Status::Live => desk_live(&rt, alloc, &words, &mut input, &mut output, &mut outlets, &pace),
+        done => done,
+    };
+    let micros = pace.now().saturating_sub(begun);
+    let engine = pace.spent.load(SeqCst);
+    let exit = exit_of(status);
+    let mut bytes: usize = 0;
+    for outlet in &outlets {
+        if let Some(sink) = outlet {
+            bytes = bytes.saturating_add(sink.bytes().len());
+        }
+    }
+    let written = output.bytes().len();
+    let _ = println!(rt; "status {exit}, {micros} microseconds, engine {engine} between beats, {written} bytes of output, {bytes} in outlets");
+    ExitCode::from(exit)
+}
+''')
+path = sys.argv[1]
+text = open(path).read()
+text = text.replace('ghost use Rattle.std.specs.Prelude.{◌≡◌};', 'ghost use Rattle.std.specs.Prelude.{◌≡◌, length, IsSome};\nghost use Rattle.lx_workers.specs.Places.{IsFull};')
+open(path, 'w').write(text)
+PYTHON
+rt run < /dev/null > "$copy/log" 2>&1 || true
+if [ ! -x out/cuedesk ]; then
+    tail -n 20 "$copy/log" >&2
+    exit 1
+fi
+for turn in 1 2 3; do
+    echo "render, a frame a tick: $(out/cuedesk render < "$copy/render")"
+    echo "live, a pace of none:   $(out/cuedesk run 16 < "$copy/live" || true)"
+done
+echo "live, beats of 1 ms:    $(BEAT=1 out/cuedesk run 16 < "$copy/short" || true)"

@@ -65,7 +65,8 @@ no_run : (ws : List (List ℕ)) → HasDash ws → run_of ws ≡ None
 no_run [] e = absurd cc
 no_run (w ∷ ws) e = first_or_more (run_of (w ∷ ws) ≡ None) w ws e
     (λ first. ap (option_and_then (λ u. option_map (Run u) (form_of ws))) (no_number UNIVERSES w first))
-    (λ more. after_number (plain_number UNIVERSES w) (λ u. option_map (Run u) (form_of ws)) (λ u. ap (option_map (Run u)) (no_form ws more)))
+    (λ more. after_number (plain_number UNIVERSES w) (λ u. option_map (Run u) (form_of ws))
+    (λ u. ap (option_map (Run u)) (no_form ws more)))
 
 pub no_job : (ws : List (List ℕ)) → HasDash ws → job_of ws ≡ None
 no_job [] e = absurd cc

@@ -1,5 +1,7 @@
 -- How much of its input the program wants, and what it writes for it, from the reader's answer and the session's.
-use Rattle.std.proofs.Common.{◌≡◌, ◌⊎◌, inl, inr, ℕ, zero, suc, ◌+◌, ◌-◌, ◌<◌, ◌≤◌, false, true, eqb, cond, Option, Some, None, Result, Ok, Err, IfSome, IsErr, IsOk, List, [], ◌∷◌, ◌++◌, length, take, refl, sym, ap, ◌∙◌, subst, arith, length-append, append-nil, append_assoc, take_all}
+use Rattle.std.proofs.Common.{◌≡◌, ◌⊎◌, inl, inr, ℕ, zero, suc, ◌+◌, ◌-◌, ◌<◌, ◌≤◌, false, true, eqb, cond, Option, Some, None, Result, Ok}
+use Rattle.std.proofs.Common.{Err, IfSome, IsErr, IsOk, List, [], ◌∷◌, ◌++◌, length, take, refl, sym, ap, ◌∙◌, subst, arith, length-append}
+use Rattle.std.proofs.Common.{append-nil, append_assoc, take_all}
 use Rattle.std.specs.List.{before_first}
 use Rattle.std.specs.Io.KnownBytes.{Appends, IsAtEnd}
 use Rattle.std.proofs.KnownBytes.{Appends-nil}
@@ -7,7 +9,7 @@ use Rattle.lx_base.specs.declared.TheConstants.{INPUT_BYTES}
 use Rattle.lx_io.specs.Puts.{AppendsFront}
 use Rattle.lx_io.proofs.Chain.{AppendsFront-from}
 use Rattle.lx_lex.specs.declared.lines.Lines.{Lines}
-use Rattle.lx_lex.specs.Lines.{TookLines}
+use Rattle.lx_lex.specs.Lines.{LinesBetween}
 use Rattle.lx_lex.specs.Unread.{unread}
 use Rattle.lx_lex.proofs.TakenLines.{lines_within}
 use Rattle.lx_lex.proofs.FirstLines.{first_lines-more, first_lines-longer}
@@ -41,7 +43,8 @@ use Rattle.cuedesk.specs.Refused.{RefusedBy, status_kept}
 
 -- a whole text is a front of itself, and nothing is one of any
 pub whole_front : (a b : Option (List ℕ)) (text : List ℕ) → Appends a b text → AppendsFront a b text
-whole_front a b text p = AppendsFront-from a b text (length text) (subst (λ (v : List ℕ). Appends a b v) (sym (take_all (length text) text (omega arith))) p)
+whole_front a b text p = AppendsFront-from a b text (length text)
+    (subst (λ (v : List ℕ). Appends a b v) (sym (take_all (length text) text (omega arith))) p)
 
 pub front_nothing : (a : Option (List ℕ)) (text : List ℕ) → AppendsFront a a text
 front_nothing a text = AppendsFront-from a a text 0 (Appends-nil a)
@@ -50,12 +53,18 @@ pub no_place : (n m : ℕ) → false ≡ true → n ≤ m
 no_place n m e = absurd cc
 
 pub nothing_wanted : (bytes : List ℕ) (r : Result Reading TextFault) → OutputPlacesAreEdits bytes [] r
-nothing_wanted bytes (Ok reading) = wants_nothing [] (begin_at (opened reading.show)) (before_first ends_script (script_of bytes)) (λ n has. no_place n 0 has)
+nothing_wanted bytes (Ok reading) = wants_nothing [] (begin_at (opened reading.show)) (before_first ends_script (script_of bytes))
+    (λ n has. no_place n 0 has)
 nothing_wanted bytes (Err fault) = tt
 
 pub nothing_answered : (o a : Option (List ℕ)) (d : Desk) → IfSome o (λ bytes. AnswersInFront d (lines_of bytes) a a)
 nothing_answered None a d = tt
-nothing_answered (Some bytes) a d = record { places = []; wants = wants_nothing [] (begin_at d) (before_first ends_script (lines_of bytes)) (λ n has. no_place n 0 has); text = front_nothing a (replies d (lines_of bytes) []) }
+nothing_answered (Some bytes) a d = record {
+  places = [];
+  wants = wants_nothing [] (begin_at d) (before_first ends_script (lines_of bytes)) (λ n has. no_place n 0 has);
+  text =
+      front_nothing a (replies d (lines_of bytes) []);
+}
 
 -- a fault that isn't one of the text is told as want of memory only where it is one
 pub memory_kept : (fault : ShowFault) (s : Status) → status_kept fault s → s ≡ status.Memory → fault ≡ faults.Memory
@@ -92,96 +101,131 @@ refusal_isnt_ok h h' fault s P by is = elim by [ inl text ↦ kinds_ok s P text.
 -- Of a show whose levels are read in this form.
 module _ (form : Form) where
   -- what the session answered is what the program writes
-  answer_at : (bytes left : List ℕ) (reading : Reading) (h h' : Option (List ℕ)) → reads form bytes ≡ Ok reading → script_of bytes ≡ lines_of left → AnswersScript (opened reading.show) (lines_of left) h h'
+  answer_at : (bytes left : List ℕ) (reading : Reading) (h h' : Option (List ℕ)) → reads form bytes ≡ Ok reading
+      → script_of bytes ≡ lines_of left → AnswersScript (opened reading.show) (lines_of left) h h'
       → WritesAll (Render form) bytes h h' × IsOk (reads form bytes)
   answer_at bytes left reading h h' read script a = (
     record {
       places = a.places;
-      wants = subst (λ r. OutputPlacesAreEdits bytes a.places r) (sym read) (subst (λ ls. PlacesAreEdits (opened reading.show) ls a.places) (sym script) a.wants);
-      text = subst (λ (t : List ℕ). Appends h h' t) (sym (ap (λ r. over_show r (λ x. replies (opened x.show) (script_of bytes) a.places)) read ∙ ap (λ ls. replies (opened reading.show) ls a.places) script)) a.text;
+      wants = subst (λ r. OutputPlacesAreEdits bytes a.places r) (sym read)
+          (subst (λ ls. PlacesAreEdits (opened reading.show) ls a.places) (sym script) a.wants);
+      text = subst (λ (t : List ℕ). Appends h h' t)
+          (sym (ap (λ r. over_show r (λ x. replies (opened x.show) (script_of bytes) a.places)) read
+          ∙ ap (λ ls. replies (opened reading.show) ls a.places) script)) a.text;
     },
     subst (λ (r : Result Reading TextFault). IsOk r) (sym read) refl,
   )
 
-  front_at : (bytes left : List ℕ) (reading : Reading) (h h' : Option (List ℕ)) → reads form bytes ≡ Ok reading → script_of bytes ≡ lines_of left → AnswersInFront (opened reading.show) (lines_of left) h h' → WritesPrefix (Render form) bytes h h'
+  front_at : (bytes left : List ℕ) (reading : Reading) (h h' : Option (List ℕ)) → reads form bytes ≡ Ok reading
+      → script_of bytes ≡ lines_of left → AnswersInFront (opened reading.show) (lines_of left) h h' → WritesPrefix (Render form) bytes h h'
   front_at bytes left reading h h' read script a = record {
     places = a.places;
-    wants = subst (λ r. OutputPlacesAreEdits bytes a.places r) (sym read) (subst (λ ls. PlacesAreEdits (opened reading.show) ls a.places) (sym script) a.wants);
-    text = subst (λ (t : List ℕ). AppendsFront h h' t) (sym (ap (λ r. over_show r (λ x. replies (opened x.show) (script_of bytes) a.places)) read ∙ ap (λ ls. replies (opened reading.show) ls a.places) script)) a.text;
+    wants = subst (λ r. OutputPlacesAreEdits bytes a.places r) (sym read)
+        (subst (λ ls. PlacesAreEdits (opened reading.show) ls a.places) (sym script) a.wants);
+    text = subst (λ (t : List ℕ). AppendsFront h h' t)
+        (sym (ap (λ r. over_show r (λ x. replies (opened x.show) (script_of bytes) a.places)) read
+        ∙ ap (λ ls. replies (opened reading.show) ls a.places) script)) a.text;
   }
 
-  pub over_read : (a b : Option (List ℕ)) (i j : ℕ) (raws : List (List ℕ)) (P Q : List ℕ → Type 0) (R : List ℕ → List ℕ → Type 0) → TookLines a b i j raws → IfSome a P → IfSome a (λ x. IfSome b (R x)) → IfSome b Q → (S : List ℕ → Type 0) → ((x y : List ℕ) → P x → R x y → Q y → S x) → IfSome a S
+  pub over_read : (a b : Option (List ℕ)) (i j : ℕ) (raws : List (List ℕ)) (P Q : List ℕ → Type 0) (R : List ℕ → List ℕ → Type 0)
+      → LinesBetween a b i j raws → IfSome a P → IfSome a (λ x. IfSome b (R x)) → IfSome b Q → (S : List ℕ → Type 0)
+      → ((x y : List ℕ) → P x → R x y → Q y → S x) → IfSome a S
   over_read None b i j raws P Q R took p r q S f = tt
   over_read (Some x) None i j raws P Q R took p r q S f = absurd took.took
   over_read (Some x) (Some y) i j raws P Q R took p r q S f = f x y p r q
 
-  pub session_text : {S : Type 0} (left : S → Option (List ℕ)) (faults : S → ℕ) (a b : Lines S) (loaded : Loaded) (o h h' : Option (List ℕ)) → unread left a ≡ o → HasRead left faults a b form loaded
-      → IfSome (unread left b) (λ bytes. AnswersScript (opened loaded.show) (lines_of bytes) h h') → IfSome o (λ bytes. WritesAll (Render form) bytes h h' × IsOk (reads form bytes))
+  pub session_text : {S : Type 0} (left : S → Option (List ℕ)) (faults : S → ℕ) (a b : Lines S) (loaded : Loaded) (o h h' : Option (List ℕ))
+      → unread left a ≡ o → HasRead left faults a b form loaded
+      → IfSome (unread left b) (λ bytes. AnswersScript (opened loaded.show) (lines_of bytes) h h')
+      → IfSome o (λ bytes. WritesAll (Render form) bytes h h' × IsOk (reads form bytes))
   session_text left faults a b loaded o h h' is r answers =
       subst (λ (v : Option (List ℕ)). IfSome v (λ bytes. WritesAll (Render form) bytes h h' × IsOk (reads form bytes))) is
-      (over_read (unread left a) (unread left b) a.taken b.taken _ _ _ _ r.means.handed.took r.means.text r.means.script answers _ (λ x y read script answer. answer_at x y (reading_of loaded) h h' read script answer))
+      (over_read (unread left a) (unread left b) a.taken b.taken _ _ _ _ r.means.handed.took r.means.text r.means.script answers _
+      (λ x y read script answer. answer_at x y (reading_of loaded) h h' read script answer))
 
-  pub session_front : {S : Type 0} (left : S → Option (List ℕ)) (faults : S → ℕ) (a b : Lines S) (loaded : Loaded) (o h h' : Option (List ℕ)) → unread left a ≡ o → HasRead left faults a b form loaded
-      → IfSome (unread left b) (λ bytes. AnswersInFront (opened loaded.show) (lines_of bytes) h h') → IfSome o (λ bytes. WritesPrefix (Render form) bytes h h')
+  pub session_front : {S : Type 0} (left : S → Option (List ℕ)) (faults : S → ℕ) (a b : Lines S) (loaded : Loaded)
+      (o h h' : Option (List ℕ)) → unread left a ≡ o → HasRead left faults a b form loaded
+      → IfSome (unread left b) (λ bytes. AnswersInFront (opened loaded.show) (lines_of bytes) h h')
+      → IfSome o (λ bytes. WritesPrefix (Render form) bytes h h')
   session_front left faults a b loaded o h h' is r answers =
       subst (λ (v : Option (List ℕ)). IfSome v (λ bytes. WritesPrefix (Render form) bytes h h')) is
-      (over_read (unread left a) (unread left b) a.taken b.taken _ _ _ _ r.means.handed.took r.means.text r.means.script answers _ (λ x y read script answer. front_at x y (reading_of loaded) h h' read script answer))
+      (over_read (unread left a) (unread left b) a.taken b.taken _ _ _ _ r.means.handed.took r.means.text r.means.script answers _
+      (λ x y read script answer. front_at x y (reading_of loaded) h h' read script answer))
 
   -- of a show that is read the lines that were handed out are wanted, and then those of the script
-  wanted_read : (x y : List ℕ) (i j : ℕ) (raws : List (List ℕ)) (reading : Reading) → i ≡ 0 → TookLines (Some x) (Some y) i j raws
-      → lines_read (lines_of x) ≡ length raws → reads form x ≡ Ok reading → script_of x ≡ lines_of y → length (input_wanted form x) ≡ j + length (bytes_wanted y)
+  wanted_read : (x y : List ℕ) (i j : ℕ) (raws : List (List ℕ)) (reading : Reading) → i ≡ 0 → LinesBetween (Some x) (Some y) i j raws
+      → lines_read (lines_of x) ≡ length raws → reads form x ≡ Ok reading → script_of x ≡ lines_of y
+      → length (input_wanted form x) ≡ j + length (bytes_wanted y)
   wanted_read x y i j raws reading none took shown text script =
-      let n : input_lines_wanted x (reads form x) ≡ length raws + lines_wanted (lines_of y) = ap (input_lines_wanted x) text ∙ ap (λ m. m + lines_wanted (script_of x)) shown ∙ ap (λ s. length raws + lines_wanted s) script in
+      let n : input_lines_wanted x (reads form x) ≡ length raws + lines_wanted (lines_of y) = ap (input_lines_wanted x) text
+      ∙ ap (λ m. m + lines_wanted (script_of x)) shown ∙ ap (λ s. length raws + lines_wanted s) script in
       let mine : took.bytes ≡ first_lines (length raws) (took.bytes ++ y) = took.front ∙ ap (first_lines (length raws)) took.took in
-      let bytes : input_wanted form x ≡ took.bytes ++ bytes_wanted y = ap (λ k. first_lines k x) n ∙ ap (first_lines (length raws + lines_wanted (lines_of y))) took.took ∙ first_lines-more (length raws) (lines_wanted (lines_of y)) took.bytes y mine in
+      let bytes : input_wanted form x ≡ took.bytes ++ bytes_wanted y = ap (λ k. first_lines k x) n
+      ∙ ap (first_lines (length raws + lines_wanted (lines_of y))) took.took
+      ∙ first_lines-more (length raws) (lines_wanted (lines_of y)) took.bytes y mine in
       omega (arith, ap length bytes, length-append took.bytes (bytes_wanted y), took.count)
 
   -- the bytes that are wanted, where the session's are past the limit, or within it
-  over_wanted : (a b : Option (List ℕ)) (i j n : ℕ) (raws : List (List ℕ)) (reading : Reading) (P : ℕ → Type 0) → i ≡ 0 → TookLines a b i j raws → n ≡ length raws
-      → IfSome a (λ x. lines_read (lines_of x) ≡ n) → IfSome a (λ x. reads form x ≡ Ok reading) → IfSome a (λ x. IfSome b (λ y. script_of x ≡ lines_of y))
+  over_wanted : (a b : Option (List ℕ)) (i j n : ℕ) (raws : List (List ℕ)) (reading : Reading) (P : ℕ → Type 0) → i ≡ 0
+      → LinesBetween a b i j raws → n ≡ length raws
+      → IfSome a (λ x. lines_read (lines_of x) ≡ n) → IfSome a (λ x. reads form x ≡ Ok reading)
+      → IfSome a (λ x. IfSome b (λ y. script_of x ≡ lines_of y))
       → IfSome b (λ y. P (j + length (bytes_wanted y))) → IfSome a (λ x. P (length (input_wanted form x)))
   over_wanted None b i j n raws reading P none took count shown text script p = tt
   over_wanted (Some x) None i j n raws reading P none took count shown text script p = absurd took.took
-  over_wanted (Some x) (Some y) i j n raws reading P none took count shown text script p = subst P (sym (wanted_read x y i j raws reading none took (shown ∙ count) text script)) p
+  over_wanted (Some x) (Some y) i j n raws reading P none took count shown text script p =
+      subst P (sym (wanted_read x y i j raws reading none took (shown ∙ count) text script)) p
 
   one_more : (front : List (List ℕ)) (last : List ℕ) → length front + 1 ≡ length (front ++ last ∷ [])
   one_more front last = omega (arith, length-append front (last ∷ []))
 
-  pub session_long : {S : Type 0} (left : S → Option (List ℕ)) (faults : S → ℕ) (a b : Lines S) (loaded : Loaded) (o : Option (List ℕ)) → unread left a ≡ o → a.taken ≡ 0 → HasRead left faults a b form loaded
-      → IfSome (unread left b) (λ y. INPUT_BYTES < b.taken + length (bytes_wanted y)) → IfSome o (λ x. INPUT_BYTES < length (input_wanted form x))
+  pub session_long : {S : Type 0} (left : S → Option (List ℕ)) (faults : S → ℕ) (a b : Lines S) (loaded : Loaded) (o : Option (List ℕ))
+      → unread left a ≡ o → a.taken ≡ 0 → HasRead left faults a b form loaded
+      → IfSome (unread left b) (λ y. INPUT_BYTES < b.taken + length (bytes_wanted y))
+      → IfSome o (λ x. INPUT_BYTES < length (input_wanted form x))
   session_long left faults a b loaded o is none r long =
       let m = r.means in
       subst (λ (v : Option (List ℕ)). IfSome v (λ x. INPUT_BYTES < length (input_wanted form x))) is
-      (over_wanted (unread left a) (unread left b) a.taken b.taken (length m.front + 1) (m.front ++ m.last ∷ []) (reading_of loaded) (λ n. INPUT_BYTES < n) none m.handed.took (one_more m.front m.last) m.wanted m.text m.script long)
+      (over_wanted (unread left a) (unread left b) a.taken b.taken (length m.front + 1) (m.front ++ m.last ∷ []) (reading_of loaded)
+      (λ n. INPUT_BYTES < n) none m.handed.took (one_more m.front m.last) m.wanted m.text m.script long)
 
-  pub session_fits : {S : Type 0} (left : S → Option (List ℕ)) (faults : S → ℕ) (a b : Lines S) (loaded : Loaded) (o : Option (List ℕ)) → unread left a ≡ o → a.taken ≡ 0 → HasRead left faults a b form loaded
-      → IfSome (unread left b) (λ y. b.taken + length (bytes_wanted y) ≤ INPUT_BYTES) → IfSome o (λ x. length (input_wanted form x) ≤ INPUT_BYTES)
+  pub session_fits : {S : Type 0} (left : S → Option (List ℕ)) (faults : S → ℕ) (a b : Lines S) (loaded : Loaded) (o : Option (List ℕ))
+      → unread left a ≡ o → a.taken ≡ 0 → HasRead left faults a b form loaded
+      → IfSome (unread left b) (λ y. b.taken + length (bytes_wanted y) ≤ INPUT_BYTES)
+      → IfSome o (λ x. length (input_wanted form x) ≤ INPUT_BYTES)
   session_fits left faults a b loaded o is none r fits =
       let m = r.means in
       subst (λ (v : Option (List ℕ)). IfSome v (λ x. length (input_wanted form x) ≤ INPUT_BYTES)) is
-      (over_wanted (unread left a) (unread left b) a.taken b.taken (length m.front + 1) (m.front ++ m.last ∷ []) (reading_of loaded) (λ n. n ≤ INPUT_BYTES) none m.handed.took (one_more m.front m.last) m.wanted m.text m.script fits)
+      (over_wanted (unread left a) (unread left b) a.taken b.taken (length m.front + 1) (m.front ++ m.last ∷ []) (reading_of loaded)
+      (λ n. n ≤ INPUT_BYTES) none m.handed.took (one_more m.front m.last) m.wanted m.text m.script fits)
 
   -- The script was cut off behind a show that was read.
   if_known : (o : Option (List ℕ)) (P Q : List ℕ → Type 0) → IfSome o P → ((xs : List ℕ) → P xs → Q xs) → IfSome o Q
   if_known None P Q p f = tt
   if_known (Some xs) P Q p f = f xs p
 
-  cut_behind : (x y : List ℕ) (left h h' : Option (List ℕ)) (i j : ℕ) (raws : List (List ℕ)) (reading : Reading) → i ≡ 0 → TookLines (Some x) (Some y) i j raws
-      → lines_read (lines_of x) ≡ length raws → reads form x ≡ Ok reading → script_of x ≡ lines_of y → AnswersTaken (opened reading.show) j y left h h' → RepliesToTaken (Render form) form x left h h'
+  cut_behind : (x y : List ℕ) (left h h' : Option (List ℕ)) (i j : ℕ) (raws : List (List ℕ)) (reading : Reading) → i ≡ 0
+      → LinesBetween (Some x) (Some y) i j raws
+      → lines_read (lines_of x) ≡ length raws → reads form x ≡ Ok reading → script_of x ≡ lines_of y
+      → AnswersTaken (opened reading.show) j y left h h' → RepliesToTaken (Render form) form x left h h'
   cut_behind x y left h h' i j raws reading none took shown text script a =
       let n = a.cut.lines in
       let mine : took.bytes ≡ first_lines (length raws) (took.bytes ++ y) = took.front ∙ ap (first_lines (length raws)) took.took in
-      let first : first_lines (length raws + n) x ≡ took.bytes ++ first_lines n y = ap (first_lines (length raws + n)) took.took ∙ first_lines-more (length raws) n took.bytes y mine in
-      let count : j + length (first_lines n y) ≡ 0 + length (first_lines (length raws + n) x) = omega (arith, none, took.count, ap length first, length-append took.bytes (first_lines n y)) in
+      let first : first_lines (length raws + n) x ≡ took.bytes ++ first_lines n y = ap (first_lines (length raws + n)) took.took
+      ∙ first_lines-more (length raws) n took.bytes y mine in
+      let count : j + length (first_lines n y) ≡ 0 + length (first_lines (length raws + n) x) =
+      omega (arith, none, took.count, ap length first, length-append took.bytes (first_lines n y)) in
       let done : length raws + n - lines_read (lines_of x) ≡ n = omega (arith, shown) in
       record {
         places = a.places;
-        wants = subst (λ r. OutputPlacesAreEdits x a.places r) (sym text) (subst (λ ls. PlacesAreEdits (opened reading.show) ls a.places) (sym script) a.wants);
+        wants = subst (λ r. OutputPlacesAreEdits x a.places r) (sym text)
+            (subst (λ ls. PlacesAreEdits (opened reading.show) ls a.places) (sym script) a.wants);
         cut = record {
           lines = length raws + n;
           next = a.cut.next;
           taken = if_known left _ _ a.cut.taken (λ rest e.
-              took.took ∙ ap (λ v. took.bytes ++ v) e ∙ sym (append_assoc took.bytes (first_lines n y) (a.cut.next ++ rest)) ∙ ap (λ v. v ++ (a.cut.next ++ rest)) (sym first));
+              took.took ∙ ap (λ v. took.bytes ++ v) e ∙ sym (append_assoc took.bytes (first_lines n y) (a.cut.next ++ rest))
+              ∙ ap (λ v. v ++ (a.cut.next ++ rest)) (sym first));
           within = omega (arith, count, a.cut.within);
           no_feed = subst (λ k. HasNoFeed (take (INPUT_BYTES - k) a.cut.next)) count a.cut.no_feed;
         };
@@ -191,19 +235,25 @@ module _ (form : Form) where
             ∙ ap (λ ls. (after_first (opened reading.show) ls a.places n).text) script)) a.text;
       }
 
-  over_cut : (a b left h h' : Option (List ℕ)) (i j n : ℕ) (raws : List (List ℕ)) (reading : Reading) → i ≡ 0 → TookLines a b i j raws → n ≡ length raws
-      → IfSome a (λ x. lines_read (lines_of x) ≡ n) → IfSome a (λ x. reads form x ≡ Ok reading) → IfSome a (λ x. IfSome b (λ y. script_of x ≡ lines_of y))
+  over_cut : (a b left h h' : Option (List ℕ)) (i j n : ℕ) (raws : List (List ℕ)) (reading : Reading) → i ≡ 0 → LinesBetween a b i j raws
+      → n ≡ length raws
+      → IfSome a (λ x. lines_read (lines_of x) ≡ n) → IfSome a (λ x. reads form x ≡ Ok reading)
+      → IfSome a (λ x. IfSome b (λ y. script_of x ≡ lines_of y))
       → IfSome b (λ y. AnswersTaken (opened reading.show) j y left h h') → IfSome a (λ x. RepliesToTaken (Render form) form x left h h')
   over_cut None b left h h' i j n raws reading none took count shown text script p = tt
   over_cut (Some x) None left h h' i j n raws reading none took count shown text script p = absurd took.took
-  over_cut (Some x) (Some y) left h h' i j n raws reading none took count shown text script p = cut_behind x y left h h' i j raws reading none took (shown ∙ count) text script p
+  over_cut (Some x) (Some y) left h h' i j n raws reading none took count shown text script p =
+      cut_behind x y left h h' i j raws reading none took (shown ∙ count) text script p
 
-  pub session_cut : {S : Type 0} (left : S → Option (List ℕ)) (faults : S → ℕ) (a b : Lines S) (loaded : Loaded) (o rest h h' : Option (List ℕ)) → unread left a ≡ o → a.taken ≡ 0 → HasRead left faults a b form loaded
-      → IfSome (unread left b) (λ y. AnswersTaken (opened loaded.show) b.taken y rest h h') → IfSome o (λ x. RepliesToTaken (Render form) form x rest h h')
+  pub session_cut : {S : Type 0} (left : S → Option (List ℕ)) (faults : S → ℕ) (a b : Lines S) (loaded : Loaded)
+      (o rest h h' : Option (List ℕ)) → unread left a ≡ o → a.taken ≡ 0 → HasRead left faults a b form loaded
+      → IfSome (unread left b) (λ y. AnswersTaken (opened loaded.show) b.taken y rest h h')
+      → IfSome o (λ x. RepliesToTaken (Render form) form x rest h h')
   session_cut left faults a b loaded o rest h h' is none r answers =
       let m = r.means in
       subst (λ (v : Option (List ℕ)). IfSome v (λ x. RepliesToTaken (Render form) form x rest h h')) is
-      (over_cut (unread left a) (unread left b) rest h h' a.taken b.taken (length m.front + 1) (m.front ++ m.last ∷ []) (reading_of loaded) none m.handed.took (one_more m.front m.last) m.wanted m.text m.script answers)
+      (over_cut (unread left a) (unread left b) rest h h' a.taken b.taken (length m.front + 1) (m.front ++ m.last ∷ []) (reading_of loaded)
+      none m.handed.took (one_more m.front m.last) m.wanted m.text m.script answers)
 
   -- The input was cut off within the show.
   none_replied : (r : Result Reading TextFault) (script : List (List ℕ)) (places : List ℕ) → first_replies r script places 0 ≡ []
@@ -224,7 +274,8 @@ module _ (form : Form) where
           within = let w = cut.within in omega (arith, none, w);
           no_feed = subst (λ k. HasNoFeed (take (INPUT_BYTES - (k + length (first_lines cut.lines x))) cut.next)) none cut.no_feed;
         };
-        text = subst (λ (t : List ℕ). Appends h h t) (sym (ap (first_replies (reads form x) (script_of x) []) few ∙ none_replied (reads form x) (script_of x) [])) (Appends-nil h);
+        text = subst (λ (t : List ℕ). Appends h h t)
+            (sym (ap (first_replies (reads form x) (script_of x) []) few ∙ none_replied (reads form x) (script_of x) [])) (Appends-nil h);
       }
 
   -- A job over the show that its input begins with.
@@ -287,10 +338,12 @@ module _ (form : Form) where
   -- a prefix of nothing was written
   pub nothing_written : (job : Job) → IsOverShow job → (o a : Option (List ℕ)) → IfSome o (λ bytes. WritesPrefix job bytes a a)
   nothing_written job over None a = tt
-  nothing_written job over (Some bytes) a = record { places = []; wants = over.nothing bytes; text = front_nothing a (output_of job bytes []) }
+  nothing_written job over (Some bytes) a =
+      record { places = []; wants = over.nothing bytes; text = front_nothing a (output_of job bytes []) }
 
   -- What is told of a show that was read.
-  told_at : (job : Job) (f : Reading → List ℕ) → IsOfShow job f → (x : List ℕ) (h h' : Option (List ℕ)) (reading : Reading) → reads form x ≡ Ok reading → Appends h h' (f reading) → WritesAll job x h h' × IsOk (show_of job x)
+  told_at : (job : Job) (f : Reading → List ℕ) → IsOfShow job f → (x : List ℕ) (h h' : Option (List ℕ)) (reading : Reading)
+      → reads form x ≡ Ok reading → Appends h h' (f reading) → WritesAll job x h h' × IsOk (show_of job x)
   told_at job f tells x h h' reading read text = (
     record {
       places = [];
@@ -300,20 +353,23 @@ module _ (form : Form) where
     subst (λ (r : Result Reading TextFault). IsOk r) (sym (tells.over.show x ∙ read)) refl,
   )
 
-  told_front_at : (job : Job) (f : Reading → List ℕ) → IsOfShow job f → (x : List ℕ) (h h' : Option (List ℕ)) (reading : Reading) → reads form x ≡ Ok reading → AppendsFront h h' (f reading) → WritesPrefix job x h h'
+  told_front_at : (job : Job) (f : Reading → List ℕ) → IsOfShow job f → (x : List ℕ) (h h' : Option (List ℕ)) (reading : Reading)
+      → reads form x ≡ Ok reading → AppendsFront h h' (f reading) → WritesPrefix job x h h'
   told_front_at job f tells x h h' reading read text = record {
     places = [];
     wants = tells.over.nothing x;
     text = subst (λ (t : List ℕ). AppendsFront h h' t) (sym (tells.output x ∙ ap (λ r. over_show r f) read)) text;
   }
 
-  pub told_text : {S : Type 0} (left : S → Option (List ℕ)) (faults : S → ℕ) (a b : Lines S) (loaded : Loaded) (job : Job) (f : Reading → List ℕ) → IsOfShow job f → (o h h' : Option (List ℕ)) → unread left a ≡ o → HasRead left faults a b form loaded
+  pub told_text : {S : Type 0} (left : S → Option (List ℕ)) (faults : S → ℕ) (a b : Lines S) (loaded : Loaded) (job : Job)
+      (f : Reading → List ℕ) → IsOfShow job f → (o h h' : Option (List ℕ)) → unread left a ≡ o → HasRead left faults a b form loaded
       → Appends h h' (f (reading_of loaded)) → IfSome o (λ x. WritesAll job x h h' × IsOk (show_of job x))
   told_text left faults a b loaded job f tells o h h' is r text =
       subst (λ (v : Option (List ℕ)). IfSome v (λ x. WritesAll job x h h' × IsOk (show_of job x))) is
       (if_known (unread left a) _ _ r.means.text (λ x read. told_at job f tells x h h' (reading_of loaded) read text))
 
-  pub told_prefix : {S : Type 0} (left : S → Option (List ℕ)) (faults : S → ℕ) (a b : Lines S) (loaded : Loaded) (job : Job) (f : Reading → List ℕ) → IsOfShow job f → (o h h' : Option (List ℕ)) → unread left a ≡ o → HasRead left faults a b form loaded
+  pub told_prefix : {S : Type 0} (left : S → Option (List ℕ)) (faults : S → ℕ) (a b : Lines S) (loaded : Loaded) (job : Job)
+      (f : Reading → List ℕ) → IsOfShow job f → (o h h' : Option (List ℕ)) → unread left a ≡ o → HasRead left faults a b form loaded
       → AppendsFront h h' (f (reading_of loaded)) → IfSome o (λ x. WritesPrefix job x h h')
   told_prefix left faults a b loaded job f tells o h h' is r text =
       subst (λ (v : Option (List ℕ)). IfSome v (λ x. WritesPrefix job x h h')) is
@@ -323,17 +379,22 @@ module _ (form : Form) where
   both_known None P Q R p q f = tt
   both_known (Some xs) P Q R p q f = f xs p q
 
-  told_fits_at : (job : Job) (f : Reading → List ℕ) → IsOfShow job f → (x : List ℕ) (i n : ℕ) → i ≡ 0 → lines_read (lines_of x) ≡ n → i + length (first_lines n x) ≤ INPUT_BYTES → length (wanted_of job x) ≤ INPUT_BYTES
+  told_fits_at : (job : Job) (f : Reading → List ℕ) → IsOfShow job f → (x : List ℕ) (i n : ℕ) → i ≡ 0 → lines_read (lines_of x) ≡ n
+      → i + length (first_lines n x) ≤ INPUT_BYTES → length (wanted_of job x) ≤ INPUT_BYTES
   told_fits_at job f tells x i n none count fits = omega (arith, none, fits, ap length (tells.bytes x ∙ ap (λ k. first_lines k x) count))
 
-  pub told_fits : {S : Type 0} (left : S → Option (List ℕ)) (faults : S → ℕ) (a b : Lines S) (loaded : Loaded) (job : Job) (f : Reading → List ℕ) → IsOfShow job f → (o : Option (List ℕ)) → unread left a ≡ o → a.taken ≡ 0 → HasRead left faults a b form loaded
+  pub told_fits : {S : Type 0} (left : S → Option (List ℕ)) (faults : S → ℕ) (a b : Lines S) (loaded : Loaded) (job : Job)
+      (f : Reading → List ℕ) → IsOfShow job f → (o : Option (List ℕ)) → unread left a ≡ o → a.taken ≡ 0
+      → HasRead left faults a b form loaded
       → IfSome o (λ x. length (wanted_of job x) ≤ INPUT_BYTES)
   told_fits left faults a b loaded job f tells o is none r =
       let m = r.means in
       let fits : IfSome (unread left a) (λ x. a.taken + length (first_lines (length m.front + 1) x) ≤ INPUT_BYTES) =
-      lines_within (unread left a) (unread left b) a.taken b.taken (m.front ++ m.last ∷ []) (length m.front + 1) m.handed.took (omega (arith, one_more m.front m.last)) in
+      lines_within (unread left a) (unread left b) a.taken b.taken (m.front ++ m.last ∷ []) (length m.front + 1) m.handed.took
+      (omega (arith, one_more m.front m.last)) in
       subst (λ (v : Option (List ℕ)). IfSome v (λ x. length (wanted_of job x) ≤ INPUT_BYTES)) is
-      (both_known (unread left a) _ _ _ m.wanted fits (λ x count fit. told_fits_at job f tells x a.taken (length m.front + 1) none count fit))
+      (both_known (unread left a) _ _ _ m.wanted fits
+      (λ x count fit. told_fits_at job f tells x a.taken (length m.front + 1) none count fit))
 
   first_lines-length : (k : ℕ) (xs : List ℕ) → length (first_lines k xs) ≤ length xs
   first_lines-length k [] = omega arith
@@ -341,7 +402,9 @@ module _ (form : Form) where
   first_lines-length (suc k) (x ∷ xs) = omega (arith, first_lines-length (cond (eqb x 10) k (suc k)) xs)
 
   -- A show that is refused.
-  refused_fits : (job : Job) → IsOverShow job → (a b : Option (List ℕ)) (i j n : ℕ) (raws : List (List ℕ)) (fault : TextFault) → i ≡ 0 → TookLines a b i j raws → (length raws ≡ n) ⊎ IsAtEnd b → IfSome a (λ x. reads form x ≡ Err fault) → IfSome a (λ x. lines_read (lines_of x) ≡ n)
+  refused_fits : (job : Job) → IsOverShow job → (a b : Option (List ℕ)) (i j n : ℕ) (raws : List (List ℕ)) (fault : TextFault) → i ≡ 0
+      → LinesBetween a b i j raws → (length raws ≡ n) ⊎ IsAtEnd b → IfSome a (λ x. reads form x ≡ Err fault)
+      → IfSome a (λ x. lines_read (lines_of x) ≡ n)
       → IfSome a (λ x. length (wanted_of job x) ≤ INPUT_BYTES)
   refused_fits job over None b i j n raws fault none took whole text wanted = tt
   refused_fits job over (Some x) None i j n raws fault none took whole text wanted = absurd took.took
@@ -354,11 +417,14 @@ module _ (form : Form) where
             omega (arith, ap length bytes, first_lines-length n x, ap length all, took.count, took.within)
       ]
 
-  fault_fits : (job : Job) → IsOverShow job → {S : Type 0} (left : S → Option (List ℕ)) (a : Lines S) (fault : TextFault) → a.taken ≡ 0 → MeansFault left a form fault → IfSome (unread left a) (λ x. length (wanted_of job x) ≤ INPUT_BYTES)
-  fault_fits job over left a fault none m = refused_fits job over (unread left a) m.unread_then a.taken m.taken_then m.count m.raws fault none m.took m.whole m.text m.wanted
+  fault_fits : (job : Job) → IsOverShow job → {S : Type 0} (left : S → Option (List ℕ)) (a : Lines S) (fault : TextFault) → a.taken ≡ 0
+      → MeansFault left a form fault → IfSome (unread left a) (λ x. length (wanted_of job x) ≤ INPUT_BYTES)
+  fault_fits job over left a fault none m =
+      refused_fits job over (unread left a) m.unread_then a.taken m.taken_then m.count m.raws fault none m.took m.whole m.text m.wanted
 
   -- what the reader says of a fault of the text
-  fault_means : {S : Type 0} (left : S → Option (List ℕ)) (a : Lines S) (P Q : Type 0) (text : TextFault) → OfText (MeansFault left a form) P Q (show_fault text) → MeansFault left a form text
+  fault_means : {S : Type 0} (left : S → Option (List ℕ)) (a : Lines S) (P Q : Type 0) (text : TextFault)
+      → OfText (MeansFault left a form) P Q (show_fault text) → MeansFault left a form text
   fault_means left a P Q (texts_of.NoIdent i) p = p
   fault_means left a P Q (texts_of.BadNumber i) p = p
   fault_means left a P Q (texts_of.OutOfRange i) p = p
@@ -367,7 +433,8 @@ module _ (form : Form) where
   fault_means left a P Q (texts_of.ShortList i) p = p
   fault_means left a P Q (texts_of.NoEndData i) p = p
 
-  text_at : (job : Job) → IsOverShow job → (o h h' : Option (List ℕ)) (fault : TextFault) → IfSome o (λ x. reads form x ≡ Err fault) → Appends h h' (fault_text fault) → IfSome o (λ x. WritesAll job x h h' × IsErr (show_of job x))
+  text_at : (job : Job) → IsOverShow job → (o h h' : Option (List ℕ)) (fault : TextFault) → IfSome o (λ x. reads form x ≡ Err fault)
+      → Appends h h' (fault_text fault) → IfSome o (λ x. WritesAll job x h h' × IsErr (show_of job x))
   text_at job over None h h' fault text appended = tt
   text_at job over (Some x) h h' fault text appended = (
     record {
@@ -378,7 +445,8 @@ module _ (form : Form) where
     subst (λ (r : Result Reading TextFault). IsErr r) (sym (over.show x ∙ text)) refl,
   )
 
-  text_front : (job : Job) → IsOverShow job → (o h h' : Option (List ℕ)) (fault : TextFault) → IfSome o (λ x. reads form x ≡ Err fault) → AppendsFront h h' (fault_text fault) → IfSome o (λ x. WritesPrefix job x h h')
+  text_front : (job : Job) → IsOverShow job → (o h h' : Option (List ℕ)) (fault : TextFault) → IfSome o (λ x. reads form x ≡ Err fault)
+      → AppendsFront h h' (fault_text fault) → IfSome o (λ x. WritesPrefix job x h h')
   text_front job over None h h' fault text appended = tt
   text_front job over (Some x) h h' fault text appended = record {
     places = [];
@@ -387,7 +455,8 @@ module _ (form : Form) where
   }
 
   -- a show that is too long
-  long_input : (job : Job) → IsOverShow job → (i : ℕ) (o : Option (List ℕ)) → i ≡ 0 → IfSome o (IsPastLimit i) → IfSome o (λ x. INPUT_BYTES < length (wanted_of job x))
+  long_input : (job : Job) → IsOverShow job → (i : ℕ) (o : Option (List ℕ)) → i ≡ 0 → IfSome o (IsPastLimit i)
+      → IfSome o (λ x. INPUT_BYTES < length (wanted_of job x))
   long_input job over i None none long = tt
   long_input job over i (Some x) none long =
       let lt = long.wanted in
@@ -395,10 +464,14 @@ module _ (form : Form) where
 
   -- What the reader's fault and the status of its refusal say.
   abbrev pub Says : {S : Type 0} → (S → Option (List ℕ)) → Lines S → Lines S → ShowFault → Type 0
-  Says left a b fault = OfText (MeansFault left a form) (IfSome (unread left a) (IsPastLimit a.taken) × CutShort left a b) (CutShort left a b) fault
+  Says left a b fault = OfText (MeansFault left a form) (IfSome (unread left a) (IsPastLimit a.taken) × CutShort left a b)
+      (CutShort left a b) fault
 
-  pub means_of : {S : Type 0} (left : S → Option (List ℕ)) (a b : Lines S) (fault : ShowFault) (text : TextFault) → fault ≡ show_fault text → Says left a b fault → MeansFault left a form text
-  means_of left a b fault text told says = fault_means left a (IfSome (unread left a) (IsPastLimit a.taken) × CutShort left a b) (CutShort left a b) text (subst (λ f. Says left a b f) told says)
+  pub means_of : {S : Type 0} (left : S → Option (List ℕ)) (a b : Lines S) (fault : ShowFault) (text : TextFault) → fault ≡ show_fault text
+      → Says left a b fault → MeansFault left a form text
+  means_of left a b fault text told says =
+      fault_means left a (IfSome (unread left a) (IsPastLimit a.taken) × CutShort left a b) (CutShort left a b) text
+      (subst (λ f. Says left a b f) told says)
 
   not_refused : (fault : ShowFault) (s : Status) (P : Type 0) → status_kept fault s → s ≡ status.ShowRefused → P
   not_refused (faults.NoIdent i) s P kept is = absurd kept
@@ -412,23 +485,32 @@ module _ (form : Form) where
   not_refused faults.InputTooLong s P kept is = absurd cc
   not_refused faults.Memory s P kept is = absurd cc
 
-  pub refusal_text : (job : Job) → IsOverShow job → {S : Type 0} (left : S → Option (List ℕ)) (a b : Lines S) (o h h' : Option (List ℕ)) (fault : ShowFault) (s : Status) → unread left a ≡ o → Says left a b fault → RefusedBy h h' fault s → s ≡ status.ShowRefused
+  pub refusal_text : (job : Job) → IsOverShow job
+      → {S : Type 0} (left : S → Option (List ℕ)) (a b : Lines S) (o h h' : Option (List ℕ)) (fault : ShowFault) (s : Status)
+      → unread left a ≡ o → Says left a b fault → RefusedBy h h' fault s → s ≡ status.ShowRefused
       → IfSome o (λ x. WritesAll job x h h' × IsErr (show_of job x))
   refusal_text job over left a b o h h' fault s is says by refused = elim by [
-    | inl text ↦ subst (λ (v : Option (List ℕ)). IfSome v (λ x. WritesAll job x h h' × IsErr (show_of job x))) is (text_at job over (unread left a) h h' text.text (means_of left a b fault text.text text.told says).text (text.whole refused))
+    | inl text ↦ subst (λ (v : Option (List ℕ)). IfSome v (λ x. WritesAll job x h h' × IsErr (show_of job x))) is
+        (text_at job over (unread left a) h h' text.text (means_of left a b fault text.text text.told says).text (text.whole refused))
     | inr other ↦ not_refused fault s (IfSome o (λ x. WritesAll job x h h' × IsErr (show_of job x))) other.is refused
   ]
 
-  pub refusal_front : (job : Job) → IsOverShow job → {S : Type 0} (left : S → Option (List ℕ)) (a b : Lines S) (o h h' : Option (List ℕ)) (fault : ShowFault) (s : Status) → unread left a ≡ o → Says left a b fault → RefusedBy h h' fault s → IfSome o (λ x. WritesPrefix job x h h')
+  pub refusal_front : (job : Job) → IsOverShow job
+      → {S : Type 0} (left : S → Option (List ℕ)) (a b : Lines S) (o h h' : Option (List ℕ)) (fault : ShowFault) (s : Status)
+      → unread left a ≡ o → Says left a b fault → RefusedBy h h' fault s → IfSome o (λ x. WritesPrefix job x h h')
   refusal_front job over left a b o h h' fault s is says by = elim by [
-    | inl text ↦ subst (λ (v : Option (List ℕ)). IfSome v (λ x. WritesPrefix job x h h')) is (text_front job over (unread left a) h h' text.text (means_of left a b fault text.text text.told says).text text.front)
+    | inl text ↦ subst (λ (v : Option (List ℕ)). IfSome v (λ x. WritesPrefix job x h h')) is
+        (text_front job over (unread left a) h h' text.text (means_of left a b fault text.text text.told says).text text.front)
     | inr other ↦ subst (λ (v : Option (List ℕ)). IfSome o (λ x. WritesPrefix job x h v)) (sym other.kept) (nothing_written job over o h)
   ]
 
-  pub refusal_fits : (job : Job) → IsOverShow job → {S : Type 0} (left : S → Option (List ℕ)) (a b : Lines S) (o h h' : Option (List ℕ)) (fault : ShowFault) (s : Status) → unread left a ≡ o → a.taken ≡ 0 → Says left a b fault → RefusedBy h h' fault s → s ≡ status.ShowRefused
+  pub refusal_fits : (job : Job) → IsOverShow job
+      → {S : Type 0} (left : S → Option (List ℕ)) (a b : Lines S) (o h h' : Option (List ℕ)) (fault : ShowFault) (s : Status)
+      → unread left a ≡ o → a.taken ≡ 0 → Says left a b fault → RefusedBy h h' fault s → s ≡ status.ShowRefused
       → IfSome o (λ x. length (wanted_of job x) ≤ INPUT_BYTES)
   refusal_fits job over left a b o h h' fault s is none says by refused = elim by [
-    | inl text ↦ subst (λ (v : Option (List ℕ)). IfSome v (λ x. length (wanted_of job x) ≤ INPUT_BYTES)) is (fault_fits job over left a text.text none (means_of left a b fault text.text text.told says))
+    | inl text ↦ subst (λ (v : Option (List ℕ)). IfSome v (λ x. length (wanted_of job x) ≤ INPUT_BYTES)) is
+        (fault_fits job over left a text.text none (means_of left a b fault text.text text.told says))
     | inr other ↦ not_refused fault s (IfSome o (λ x. length (wanted_of job x) ≤ INPUT_BYTES)) other.is refused
   ]
 
@@ -444,17 +526,22 @@ module _ (form : Form) where
   long_kept faults.InputTooLong s kept is = refl
   long_kept faults.Memory s kept is = absurd cc
 
-  kinds_long : (s : Status) (P : Type 0) → (s ≡ status.ShowRefused) ⊎ ((s ≡ status.WriteFault) ⊎ (s ≡ status.Memory)) → s ≡ status.InputTooLong → P
+  kinds_long : (s : Status) (P : Type 0) → (s ≡ status.ShowRefused) ⊎ ((s ≡ status.WriteFault) ⊎ (s ≡ status.Memory))
+      → s ≡ status.InputTooLong → P
   kinds_long s P kinds is = elim kinds [ inl a ↦ absurd cc | inr b ↦ elim b [ inl x ↦ absurd cc | inr y ↦ absurd cc ] ]
 
-  pub refusal_long : (job : Job) → IsOverShow job → {S : Type 0} (left : S → Option (List ℕ)) (a b : Lines S) (o h h' : Option (List ℕ)) (fault : ShowFault) (s : Status) → unread left a ≡ o → a.taken ≡ 0 → Says left a b fault → RefusedBy h h' fault s → s ≡ status.InputTooLong
+  pub refusal_long : (job : Job) → IsOverShow job
+      → {S : Type 0} (left : S → Option (List ℕ)) (a b : Lines S) (o h h' : Option (List ℕ)) (fault : ShowFault) (s : Status)
+      → unread left a ≡ o → a.taken ≡ 0 → Says left a b fault → RefusedBy h h' fault s → s ≡ status.InputTooLong
       → IfSome o (λ x. INPUT_BYTES < length (wanted_of job x))
   refusal_long job over left a b o h h' fault s is none says by long = elim by [
     | inl text ↦ kinds_long s (IfSome o (λ x. INPUT_BYTES < length (wanted_of job x))) text.kinds long
-    | inr other ↦ subst (λ (v : Option (List ℕ)). IfSome v (λ x. INPUT_BYTES < length (wanted_of job x))) is (long_input job over a.taken (unread left a) none (subst (λ f. Says left a b f) (long_kept fault s other.is long) says).0)
+    | inr other ↦ subst (λ (v : Option (List ℕ)). IfSome v (λ x. INPUT_BYTES < length (wanted_of job x))) is
+        (long_input job over a.taken (unread left a) none (subst (λ f. Says left a b f) (long_kept fault s other.is long) says).0)
   ]
 
-  cut_kept : {S : Type 0} (left : S → Option (List ℕ)) (a b : Lines S) (fault : ShowFault) (s : Status) → status_kept fault s → (s ≡ status.ReadFault) ⊎ (s ≡ status.InputTooLong) → Says left a b fault → CutShort left a b
+  cut_kept : {S : Type 0} (left : S → Option (List ℕ)) (a b : Lines S) (fault : ShowFault) (s : Status) → status_kept fault s
+      → (s ≡ status.ReadFault) ⊎ (s ≡ status.InputTooLong) → Says left a b fault → CutShort left a b
   cut_kept left a b (faults.NoIdent i) s kept is says = absurd kept
   cut_kept left a b (faults.BadNumber i) s kept is says = absurd kept
   cut_kept left a b (faults.OutOfRange i) s kept is says = absurd kept
@@ -466,18 +553,22 @@ module _ (form : Form) where
   cut_kept left a b faults.InputTooLong s kept is says = says.1
   cut_kept left a b faults.Memory s kept is says = elim is [ inl x ↦ absurd cc | inr y ↦ absurd cc ]
 
-  kinds_cut : (s : Status) (P : Type 0) → (s ≡ status.ShowRefused) ⊎ ((s ≡ status.WriteFault) ⊎ (s ≡ status.Memory)) → (s ≡ status.ReadFault) ⊎ (s ≡ status.InputTooLong) → P
+  kinds_cut : (s : Status) (P : Type 0) → (s ≡ status.ShowRefused) ⊎ ((s ≡ status.WriteFault) ⊎ (s ≡ status.Memory))
+      → (s ≡ status.ReadFault) ⊎ (s ≡ status.InputTooLong) → P
   kinds_cut s P kinds is = elim is [
     | inl read ↦ elim kinds [ inl a ↦ absurd cc | inr b ↦ elim b [ inl x ↦ absurd cc | inr y ↦ absurd cc ] ]
     | inr long ↦ kinds_long s P kinds long
   ]
 
-  pub refusal_cut : (job : Job) → IsOverShow job → {S : Type 0} (left : S → Option (List ℕ)) (a b : Lines S) (o h h' : Option (List ℕ)) (fault : ShowFault) (s : Status) → unread left a ≡ o → a.taken ≡ 0 → Says left a b fault → RefusedBy h h' fault s
+  pub refusal_cut : (job : Job) → IsOverShow job
+      → {S : Type 0} (left : S → Option (List ℕ)) (a b : Lines S) (o h h' : Option (List ℕ)) (fault : ShowFault) (s : Status)
+      → unread left a ≡ o → a.taken ≡ 0 → Says left a b fault → RefusedBy h h' fault s
       → (s ≡ status.ReadFault) ⊎ (s ≡ status.InputTooLong) → IfSome o (λ x. WritesTaken job x (left b.source.now) h h')
   refusal_cut job over left a b o h h' fault s is none says by cut = elim by [
     | inl text ↦ kinds_cut s (IfSome o (λ x. WritesTaken job x (left b.source.now) h h')) text.kinds cut
     | inr other ↦
         subst (λ (v : Option (List ℕ)). IfSome o (λ x. WritesTaken job x (left b.source.now) h v)) (sym other.kept)
         (subst (λ (v : Option (List ℕ)). IfSome v (λ x. WritesTaken job x (left b.source.now) h h)) is
-        (if_known (unread left a) _ _ (cut_kept left a b fault s other.is cut says) (λ x short. over.cut x (left b.source.now) h a.taken none short)))
+        (if_known (unread left a) _ _ (cut_kept left a b fault s other.is cut says)
+        (λ x short. over.cut x (left b.source.now) h a.taken none short)))
   ]

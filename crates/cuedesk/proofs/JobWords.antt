@@ -9,14 +9,16 @@ use Rattle.lx_spec.specs.Job.{job_of, given_to, output_of, WantsEdits}
 use Rattle.cuedesk.specs.Output.{OfJob, WritesPrefix}
 use Rattle.cuedesk.proofs.Inputs.{front_nothing, nothing_wanted}
 
-pub of_job : (ws : List (List ℕ)) (left : Option (List ℕ)) (P : Job → List ℕ → Type 0) (job : Job) → job_of ws ≡ Some job → IfSome (given_to job left) (P job) → OfJob ws left P
+pub of_job : (ws : List (List ℕ)) (left : Option (List ℕ)) (P : Job → List ℕ → Type 0) (job : Job) → job_of ws ≡ Some job
+    → IfSome (given_to job left) (P job) → OfJob ws left P
 of_job ws left P job named p = subst (λ (o : Option Job). IfSome o (λ j. IfSome (given_to j left) (P j))) (sym named) p
 
 each_given : (left : Option (List ℕ)) (P : List ℕ → Type 0) → ((bytes : List ℕ) → P bytes) → IfSome left P
 each_given None P p = tt
 each_given (Some bytes) P p = p bytes
 
-each_job : (o : Option Job) (left : Option (List ℕ)) (P : Job → List ℕ → Type 0) → ((job : Job) (bytes : List ℕ) → P job bytes) → IfSome o (λ job. IfSome (given_to job left) (P job))
+each_job : (o : Option Job) (left : Option (List ℕ)) (P : Job → List ℕ → Type 0) → ((job : Job) (bytes : List ℕ) → P job bytes)
+    → IfSome o (λ job. IfSome (given_to job left) (P job))
 each_job None left P p = tt
 each_job (Some job) left P p = each_given (given_to job left) (P job) (p job)
 
@@ -29,4 +31,5 @@ no_wants (Run universes form) bytes = tt
 
 -- where nothing was written, a prefix was
 pub untouched : (ws : List (List ℕ)) (left h : Option (List ℕ)) → OfJob ws left (λ job bytes. WritesPrefix job bytes h h)
-untouched ws left h = each_job (job_of ws) left (λ job bytes. WritesPrefix job bytes h h) (λ job bytes. record { places = []; wants = no_wants job bytes; text = front_nothing h (output_of job bytes []) })
+untouched ws left h = each_job (job_of ws) left (λ job bytes. WritesPrefix job bytes h h)
+    (λ job bytes. record { places = []; wants = no_wants job bytes; text = front_nothing h (output_of job bytes []) })

@@ -1,5 +1,6 @@
 -- The desk at the end of a session is that after the commands that were accepted.
-use Rattle.std.proofs.Common.{◌≡◌, ℕ, zero, suc, ◌+◌, ◌==◌, Bool, true, false, Option, Some, None, Result, Ok, Err, List, [], ◌∷◌, ◌++◌, refl, sym, ap, ◌∙◌}
+use Rattle.std.proofs.Common.{◌≡◌, ℕ, zero, suc, ◌+◌, ◌==◌, Bool, true, false, Option, Some, None, Result, Ok, Err, List, [], ◌∷◌, ◌++◌}
+use Rattle.std.proofs.Common.{refl, sym, ap, ◌∙◌}
 use Rattle.std.specs.Prelude.{is_some, if◌then◌else◌}
 use Rattle.std.specs.List.{list_any, before_first}
 use Rattle.std.specs.Option.{option_map_or}
@@ -14,13 +15,16 @@ use Rattle.lx_spec.specs.Desk.{Desk, step, after_command}
 use Rattle.lx_spec.specs.TrackedLevel.{cue_of}
 use Rattle.lx_spec.specs.Replies.{row_text, row_of}
 use Rattle.lx_spec.specs.Script.{line_of}
-use Rattle.lx_spec.specs.Session.{Session, Attempt, begin_at, answered, attempt, and_then, attempts_of, attempts_for, command_of, count_of, with_text, refused_reply, ok_reply, after_attempts, after_line, after_lines, ends_script, session, accepted}
+use Rattle.lx_spec.specs.Session.{Session, Attempt, begin_at, answered, attempt, and_then, attempts_of, attempts_for, command_of, count_of}
+use Rattle.lx_spec.specs.Session.{with_text, refused_reply, ok_reply, after_attempts, after_line, after_lines, ends_script, session}
+use Rattle.lx_spec.specs.Session.{accepted}
 use Rattle.lx_session.specs.Attempts.{after_commands}
 
 abbrev Follows : Desk → Session → Type 0
 Follows d s = s.desk ≡ after_commands d s.accepted
 
-one_accepted : (d now next : Desk) (commands : List Command) (c : Command) → now ≡ after_commands d commands → step now c ≡ Ok next → next ≡ after_commands d (commands ++ c ∷ [])
+one_accepted : (d now next : Desk) (commands : List Command) (c : Command) → now ≡ after_commands d commands → step now c ≡ Ok next
+    → next ≡ after_commands d (commands ++ c ∷ [])
 one_accepted d now next commands c is ok =
     sym (fold-append after_command d commands (c ∷ []) ∙ ap (λ e. after_command e c) (sym is) ∙ ap (λ r. result_unwrap_or r now) ok)
 
@@ -32,18 +36,23 @@ attempt_follows d places s c is = go (list_any (λ place. place == s.attempts + 
     go false (Ok next) e = one_accepted d s.desk next s.accepted c is e
     go false (Err refusal) e = is
 
-next_follows : (d : Desk) (tried : Attempt) (next : Session → Attempt) → Follows d tried.session → ((t : Session) → Follows d t → Follows d (next t).session) → Follows d (and_then tried next).session
+next_follows : (d : Desk) (tried : Attempt) (next : Session → Attempt) → Follows d tried.session
+    → ((t : Session) → Follows d t → Follows d (next t).session) → Follows d (and_then tried next).session
 next_follows d tried next now f = go tried.refusal
   where
     go : (refusal : Option Refusal) → Follows d (option_map_or (λ r. tried) refusal (next tried.session)).session
     go None = f tried.session now
     go (Some refusal) = now
 
-attempts_follow : (d : Desk) (places : List ℕ) (c : Command) (n : ℕ) (s : Session) → Follows d s → Follows d (attempts_of places c n s).session
+attempts_follow : (d : Desk) (places : List ℕ) (c : Command) (n : ℕ) (s : Session) → Follows d s
+    → Follows d (attempts_of places c n s).session
 attempts_follow d places c zero s is = is
-attempts_follow d places c (suc n) s is = next_follows d (attempt places s c) (attempts_of places c n) (attempt_follows d places s c is) (λ t now. attempts_follow d places c n t now)
+attempts_follow d places c (suc n) s is =
+    next_follows d (attempt places s c) (attempts_of places c n) (attempt_follows d places s c is)
+    (λ t now. attempts_follow d places c n t now)
 
-tried_follows : (d : Desk) (places : List ℕ) (o : Option Command) (n : ℕ) (s : Session) → Follows d s → Follows d (attempts_for places o n s).session
+tried_follows : (d : Desk) (places : List ℕ) (o : Option Command) (n : ℕ) (s : Session) → Follows d s
+    → Follows d (attempts_for places o n s).session
 tried_follows d places None n s is = is
 tried_follows d places (Some c) n s is = attempts_follow d places c n s is
 
@@ -51,7 +60,8 @@ replied_follows : (d : Desk) (s : Session) (o : Option Refusal) → Follows d s 
 replied_follows d s None is = is
 replied_follows d s (Some refusal) is = is
 
-row_follows : (d : Desk) (s : Session) (n : ℕ) (test : Bool) → Follows d s → Follows d (if test then with_text s (row_text n (row_of s.desk.show n)) else refused_reply s (AbsentCue n))
+row_follows : (d : Desk) (s : Session) (n : ℕ) (test : Bool) → Follows d s
+    → Follows d (if test then with_text s (row_text n (row_of s.desk.show n)) else refused_reply s (AbsentCue n))
 row_follows d s n true is = is
 row_follows d s n false is = is
 
@@ -71,5 +81,6 @@ lines_follow d places (line ∷ script) s is =
     lines_follow d places script (after_line places s line)
     (answer_follows d (line_of line) _ (tried_follows d places (command_of (line_of line)) (count_of (line_of line)) s is))
 
-pub desk_of_session : (d : Desk) (script : List (List ℕ)) (places : List ℕ) → (session d script places).desk ≡ after_commands d (accepted d script places)
+pub desk_of_session : (d : Desk) (script : List (List ℕ)) (places : List ℕ)
+    → (session d script places).desk ≡ after_commands d (accepted d script places)
 desk_of_session d script places = lines_follow d places (before_first ends_script script) (begin_at d) refl

@@ -21,22 +21,39 @@ over None P Q p f = tt
 over (Some xs) P Q p f = f xs p
 
 -- However it ended, it answered by a prefix.
-front_of : (heard : List Command → Type 0) (d : Desk) (bytes : List ℕ) (left h h' : Option (List ℕ)) (console : Kept) → ScriptPrefix true heard d bytes left h h' console → AnswersInFront d (lines_of bytes) h h'
-front_of heard d bytes left h h' console a = record { places = a.places; wants = a.wants refl; text = front_of_all d (lines_of bytes) a.places a.lines h h' a.text }
+front_of : (heard : List Command → Type 0) (d : Desk) (bytes : List ℕ) (left h h' : Option (List ℕ)) (console : Kept)
+    → ScriptPrefix true heard d bytes left h h' console → AnswersInFront d (lines_of bytes) h h'
+front_of heard d bytes left h h' console a =
+    record { places = a.places; wants = a.wants refl; text = front_of_all d (lines_of bytes) a.places a.lines h h' a.text }
 
-taken_front : (heard : List Command → Type 0) (d : Desk) (before : ℕ) (bytes : List ℕ) (left h h' : Option (List ℕ)) (console : Kept) → TakenScript true heard d before bytes left h h' console → AnswersInFront d (lines_of bytes) h h'
-taken_front heard d before bytes left h h' console a = record { places = a.places; wants = a.wants refl; text = whole_of_all d (lines_of bytes) a.places a.cut.lines h h' a.text }
+taken_front : (heard : List Command → Type 0) (d : Desk) (before : ℕ) (bytes : List ℕ) (left h h' : Option (List ℕ)) (console : Kept)
+    → TakenScript true heard d before bytes left h h' console → AnswersInFront d (lines_of bytes) h h'
+taken_front heard d before bytes left h h' console a =
+    record { places = a.places; wants = a.wants refl; text = whole_of_all d (lines_of bytes) a.places a.cut.lines h h' a.text }
 
-pub answered_front : (heard : List Command → Type 0) (o unread left h h' : Option (List ℕ)) (d : Desk) (taken : ℕ) (console : Kept) (r : Result Tally SessionFault)
-    → IfSome o (λ bytes. SessionOutcome true heard d taken bytes unread left h h' console r) → IfSome o (λ bytes. AnswersInFront d (lines_of bytes) h h')
-answered_front heard o unread left h h' d taken console (Ok tally) p = over o _ _ p (λ xs a. record { places = a.places; wants = a.wants refl; text = whole_front h h' (replies d (lines_of xs) a.places) a.text })
-answered_front heard o unread left h h' d taken console (Err faults.ReadFault) p = over o _ _ p (λ xs a. taken_front heard d taken xs left h h' console a)
-answered_front heard o unread left h h' d taken console (Err faults.WriteFault) p = over o _ _ p (λ xs a. front_of heard d xs unread h h' console a)
-answered_front heard o unread left h h' d taken console (Err faults.InputTooLong) p = over o _ _ p (λ xs a. taken_front heard d taken xs left h h' console a)
-answered_front heard o unread left h h' d taken console (Err faults.Memory) p = over o _ _ p (λ xs a. front_of heard d xs unread h h' console a)
+pub answered_front : (heard : List Command → Type 0) (o unread left h h' : Option (List ℕ)) (d : Desk) (taken : ℕ) (console : Kept)
+    (r : Result Tally SessionFault)
+    → IfSome o (λ bytes. SessionOutcome true heard d taken bytes unread left h h' console r)
+    → IfSome o (λ bytes. AnswersInFront d (lines_of bytes) h h')
+answered_front heard o unread left h h' d taken console (Ok tally) p =
+    over o _ _ p (λ xs a. record {
+      places = a.places;
+      wants = a.wants refl;
+      text =
+          whole_front h h' (replies d (lines_of xs) a.places) a.text;
+    })
+answered_front heard o unread left h h' d taken console (Err faults.ReadFault) p =
+    over o _ _ p (λ xs a. taken_front heard d taken xs left h h' console a)
+answered_front heard o unread left h h' d taken console (Err faults.WriteFault) p =
+    over o _ _ p (λ xs a. front_of heard d xs unread h h' console a)
+answered_front heard o unread left h h' d taken console (Err faults.InputTooLong) p =
+    over o _ _ p (λ xs a. taken_front heard d taken xs left h h' console a)
+answered_front heard o unread left h h' d taken console (Err faults.Memory) p =
+    over o _ _ p (λ xs a. front_of heard d xs unread h h' console a)
 
 -- Where the script couldn't be read on, it answered what was taken of it.
-taken_of : (heard : List Command → Type 0) (d : Desk) (before : ℕ) (bytes : List ℕ) (left h h' : Option (List ℕ)) (console : Kept) → TakenScript true heard d before bytes left h h' console → AnswersTaken d before bytes left h h'
+taken_of : (heard : List Command → Type 0) (d : Desk) (before : ℕ) (bytes : List ℕ) (left h h' : Option (List ℕ)) (console : Kept)
+    → TakenScript true heard d before bytes left h h' console → AnswersTaken d before bytes left h h'
 taken_of heard d before bytes left h h' console a = record { places = a.places; wants = a.wants refl; cut = a.cut; text = a.text }
 
 both : (o : Option (List ℕ)) (P Q R : List ℕ → Type 0) → IfSome o P → IfSome o Q → ((xs : List ℕ) → P xs → Q xs → R xs) → IfSome o R
@@ -44,14 +61,20 @@ both None P Q R p q f = tt
 both (Some xs) P Q R p q f = f xs p q
 
 -- What the status of a session says of the script.
-pub has_played : (heard : List Command → Type 0) (o unread left h h' : Option (List ℕ)) (d : Desk) (taken : ℕ) (console : Kept) (r : Result Tally SessionFault)
+pub has_played : (heard : List Command → Type 0) (o unread left h h' : Option (List ℕ)) (d : Desk) (taken : ℕ) (console : Kept)
+    (r : Result Tally SessionFault)
     → IfSome o (λ bytes. SessionOutcome true heard d taken bytes unread left h h' console r) → IfSome o (λ bytes. KeepsLimit taken bytes r)
     → IfSome o (λ bytes. HasPlayed (status_for r) d taken bytes left h h')
-has_played heard o unread left h h' d taken console (Ok tally) p limit = both o _ _ _ p limit (λ xs a fits. (record { places = a.places; wants = a.wants refl; text = a.text }, fits))
-has_played heard o unread left h h' d taken console (Err faults.ReadFault) p limit = over o _ _ p (λ xs a. taken_of heard d taken xs left h h' console a)
-has_played heard o unread left h h' d taken console (Err faults.WriteFault) p limit = over o _ _ p (λ xs a. front_of heard d xs unread h h' console a)
-has_played heard o unread left h h' d taken console (Err faults.InputTooLong) p limit = both o _ _ _ p limit (λ xs a long. (taken_of heard d taken xs left h h' console a, long))
-has_played heard o unread left h h' d taken console (Err faults.Memory) p limit = over o _ _ p (λ xs a. front_of heard d xs unread h h' console a)
+has_played heard o unread left h h' d taken console (Ok tally) p limit =
+    both o _ _ _ p limit (λ xs a fits. (record { places = a.places; wants = a.wants refl; text = a.text }, fits))
+has_played heard o unread left h h' d taken console (Err faults.ReadFault) p limit =
+    over o _ _ p (λ xs a. taken_of heard d taken xs left h h' console a)
+has_played heard o unread left h h' d taken console (Err faults.WriteFault) p limit =
+    over o _ _ p (λ xs a. front_of heard d xs unread h h' console a)
+has_played heard o unread left h h' d taken console (Err faults.InputTooLong) p limit =
+    both o _ _ _ p limit (λ xs a long. (taken_of heard d taken xs left h h' console a, long))
+has_played heard o unread left h h' d taken console (Err faults.Memory) p limit =
+    over o _ _ p (λ xs a. front_of heard d xs unread h h' console a)
 
 pub ends_script : (r : Result Tally SessionFault) → EndsScript (status_for r)
 ends_script (Ok tally) = tt
@@ -61,7 +84,8 @@ ends_script (Err faults.InputTooLong) = tt
 ends_script (Err faults.Memory) = tt
 
 pub has_cause : {S K : Type 0} (reads : S → ℕ) (failures wants : K → ℕ) (old new : Lines S) (sink sink' : K) (r : Result Tally SessionFault)
-    → HasSessionCause reads failures wants old new sink sink' r → HasCauseOf (status_for r) (reads old.source.now) (reads new.source.now) (failures sink) (failures sink')
+    → HasSessionCause reads failures wants old new sink sink' r
+    → HasCauseOf (status_for r) (reads old.source.now) (reads new.source.now) (failures sink) (failures sink')
 has_cause reads failures wants old new sink sink' (Ok tally) c = tt
 has_cause reads failures wants old new sink sink' (Err faults.ReadFault) c = c.failed
 has_cause reads failures wants old new sink sink' (Err faults.WriteFault) c = c.failed

@@ -1,14 +1,17 @@
 -- clap takes each list of words of which none begins with a dash, and its one argument then has them as its values.
-use Rattle.std.proofs.Common.{◌≡◌, ◌∙◌, ◌≤◌, Bool, true, false, Option, Some, None, List, [], ◌∷◌, ◌++◌, length, fold, refl, sym, ap, append_assoc, append-nil, arith}
+use Rattle.std.proofs.Common.{◌≡◌, ◌∙◌, ◌≤◌, Bool, true, false, Option, Some, None, List, [], ◌∷◌, ◌++◌, length, fold, refl, sym, ap}
+use Rattle.std.proofs.Common.{append_assoc, append-nil, arith}
 use Rattle.std.specs.Prelude.{codes, ◌&&◌, ◌||◌, nat_le, option_and_then, if◌then◌else◌}
 use Rattle.std.specs.List.{list_all, list_any}
 use Rattle.std.specs.Str.{bytes_eq}
 use Rattle.std.specs.Option.{option_map_or}
 use Rattle.std.proofs.lemmas.Bool.Decides.{nat_tests}
 use Rattle.clap.specs.Lexer.{long_of, short_of, long_of_rest, short_of_rest, strip_byte, usize_max}
-use Rattle.clap.specs.Walk.{Text, Rule, Row, Held, Walk, Step, idle, positional, value, trailing, walked, walk, walk_from, nothing_held, word_met, after_step, long_or_other, short_or_plain, finished, reading_by}
+use Rattle.clap.specs.Walk.{Text, Rule, Row, Held, Walk, Step, idle, positional, value, trailing, walked, walk, walk_from, nothing_held}
+use Rattle.clap.specs.Walk.{word_met, after_step, long_or_other, short_or_plain, finished, reading_by}
 use Rattle.clap.specs.Simple.{App, Shape, built, new_app, new_rule, with_rule, on_top, is_simple, matches_of}
-use Rattle.clap.specs.Takes.{takes, other_passes, step_passes, default_passes, is_valid, walk_passes, turn_passes, flag_word_passes, bundle_passes, value_passes, settle_passes, level_passes}
+use Rattle.clap.specs.Takes.{takes, other_passes, step_passes, default_passes, is_valid, walk_passes, turn_passes, flag_word_passes}
+use Rattle.clap.specs.Takes.{bundle_passes, value_passes, settle_passes, level_passes}
 use Rattle.clap.specs.declared.builder.action.ArgAction.TheVariants.{Append}
 use Rattle.clap.specs.declared.parser.matches.ValueSource.TheVariants.{CommandLine}
 use Rattle.clap.proofs.OnLiterals.{clap_on_literals}
@@ -23,7 +26,8 @@ use Rattle.clap.specs.declared.parser.matches.Found.{Found}
 use Rattle.cuedesk.specs.Words.{begins_with_dash, values_of}
 
 abbrev pub the_rule : Rule
-the_rule = record (new_rule (codes "word")) { range = Some (record { start_inclusive = 1; end_inclusive = usize_max }); action = Some Append }
+the_rule = record (new_rule (codes "word"))
+    { range = Some (record { start_inclusive = 1; end_inclusive = usize_max }); action = Some Append }
 
 abbrev pub the_app : App
 the_app = with_rule (on_top (λ s. record s { no_binary_name = true }) (new_app (codes "cuedesk"))) the_rule
@@ -36,7 +40,13 @@ rules = shape.rules
 
 -- the words so far are the values that are being read
 abbrev standing : List Text → Walk
-standing vs = record { held = record { rows = []; pending = Some (codes "word", vs); skip = 0 }; waiting = positional; position = 1; is_trailing = false; stopped = None }
+standing vs = record {
+  held = record { rows = []; pending = Some (codes "word", vs); skip = 0 };
+  waiting = positional;
+  position = 1;
+  is_trailing = false;
+  stopped = None;
+}
 
 -- ---- a word that doesn't begin with a dash
 
@@ -102,7 +112,8 @@ row_given : (w : Text) (ws : List Text) → finished rules (standing (w ∷ ws))
 unfolding clap_on_literals
 row_given w ws = refl
 
-pub words_given : (w : Text) (ws : List Text) → list_any begins_with_dash (w ∷ ws) ≡ false → matches_of the_app (w ∷ ws) ≡ given_row (w ∷ ws) ∷ []
+pub words_given : (w : Text) (ws : List Text) → list_any begins_with_dash (w ∷ ws) ≡ false
+    → matches_of the_app (w ∷ ws) ≡ given_row (w ∷ ws) ∷ []
 words_given w ws e = ap (λ (x : Walk). finished rules x.held) (whole w ws e) ∙ row_given w ws
 
 -- ---- and nothing is refused
@@ -140,7 +151,8 @@ all_pass : (vs : List Text) → list_all (value_passes the_rule) vs ≡ true
 all_pass [] = refl
 all_pass (v ∷ vs) = all_pass vs
 
-settles : (w : Text) (ws : List Text) → length (w ∷ ws) ≤ usize_max → settle_passes rules shape.args_override_self (standing (w ∷ ws)).held ≡ true
+settles : (w : Text) (ws : List Text) → length (w ∷ ws) ≤ usize_max
+    → settle_passes rules shape.args_override_self (standing (w ∷ ws)).held ≡ true
 unfolding clap_on_literals
 settles w ws few =
     let some : nat_le 1 (length (w ∷ ws)) ≡ true = grind (arith, nat_tests) in
@@ -159,14 +171,17 @@ defaults_fine : list_all default_passes rules ≡ true
 unfolding clap_on_literals
 defaults_fine = refl
 
-level_fine : (w : Text) (ws : List Text) → list_any begins_with_dash (w ∷ ws) ≡ false → length (w ∷ ws) ≤ usize_max → level_passes shape [] nothing_held (w ∷ ws) false ≡ true
+level_fine : (w : Text) (ws : List Text) → list_any begins_with_dash (w ∷ ws) ≡ false → length (w ∷ ws) ≤ usize_max
+    → level_passes shape [] nothing_held (w ∷ ws) false ≡ true
 unfolding walk_passes
 level_fine w ws e few =
     let p = parts (begins_with_dash w) (list_any begins_with_dash ws) e in
     let walks : walk_passes shape [] (walk_from nothing_held) (w ∷ ws) ≡ true =
-    both (turn_passes shape [] (walk_from nothing_held) w) _ (first_passes w p.0) (ap (λ (x : Walk). walk_passes shape [] x ws) (first w p.0) ∙ rest_passes ws (w ∷ []) p.1) in
+    both (turn_passes shape [] (walk_from nothing_held) w) _ (first_passes w p.0)
+    (ap (λ (x : Walk). walk_passes shape [] x ws) (first w p.0) ∙ rest_passes ws (w ∷ []) p.1) in
     both (walk_passes shape [] (walk_from nothing_held) (w ∷ ws)) _ walks
-    (ap (λ (x : Walk). settle_passes rules shape.args_override_self x.held && (list_all default_passes rules && is_valid shape (finished rules x.held) false)) (whole w ws e)
+    (ap (λ (x : Walk). settle_passes rules shape.args_override_self x.held &&
+    (list_all default_passes rules && is_valid shape (finished rules x.held) false)) (whole w ws e)
     ∙ both (settle_passes rules shape.args_override_self (standing (w ∷ ws)).held) _ (settles w ws few)
     (both (list_all default_passes rules) _ defaults_fine (ap (λ rows. is_valid shape rows false) (row_given w ws) ∙ valid_end w ws)))
 
@@ -178,8 +193,10 @@ no_subs : (built the_app).subs ≡ []
 unfolding clap_on_literals
 no_subs = refl
 
-pub words_taken : (w : Text) (ws : List Text) → list_any begins_with_dash (w ∷ ws) ≡ false → length (w ∷ ws) ≤ usize_max → takes the_app (w ∷ ws) ≡ true
-words_taken w ws e few = both (is_simple the_app) _ simple (leaf_takes (built the_app) nothing_held (w ∷ ws) no_subs (level_fine w ws e few))
+pub words_taken : (w : Text) (ws : List Text) → list_any begins_with_dash (w ∷ ws) ≡ false → length (w ∷ ws) ≤ usize_max
+    → takes the_app (w ∷ ws) ≡ true
+words_taken w ws e few = both (is_simple the_app) _ simple
+    (leaf_takes (built the_app) nothing_held (w ∷ ws) no_subs (level_fine w ws e few))
 
 -- ---- the values that clap hands out
 
@@ -188,11 +205,15 @@ entry_values None = refl
 entry_values (Some e) = refl
 
 found_values : (f : Found) (id : Text) → option_map raw_values (matched_of f id) ≡ all_of id (rows_of f)
-found_values f id = entry_values (find (λ e. bytes_eq e.0.now id) f.entries.items) ∙ ap (option_map (λ (r : Row). r.values)) (sym (find_row f.entries.items id))
+found_values f id = entry_values (find (λ e. bytes_eq e.0.now id) f.entries.items)
+    ∙ ap (option_map (λ (r : Row). r.values)) (sym (find_row f.entries.items id))
 
-pub are_given : (words : List Text) (m : ArgMatches) → list_any begins_with_dash words ≡ false → rows_of (found_of m) ≡ matches_of the_app words → values_of m ≡ words
-are_given [] m e rows = ap (λ o. unwrap_or o []) (found_values (found_of m) (codes "word")) ∙ ap (λ r. unwrap_or (all_of (codes "word") r) []) (rows ∙ none_given)
-are_given (w ∷ ws) m e rows = ap (λ o. unwrap_or o []) (found_values (found_of m) (codes "word")) ∙ ap (λ r. unwrap_or (all_of (codes "word") r) []) (rows ∙ words_given w ws e)
+pub are_given : (words : List Text) (m : ArgMatches) → list_any begins_with_dash words ≡ false
+    → rows_of (found_of m) ≡ matches_of the_app words → values_of m ≡ words
+are_given [] m e rows = ap (λ o. unwrap_or o []) (found_values (found_of m) (codes "word"))
+    ∙ ap (λ r. unwrap_or (all_of (codes "word") r) []) (rows ∙ none_given)
+are_given (w ∷ ws) m e rows = ap (λ o. unwrap_or o []) (found_values (found_of m) (codes "word"))
+    ∙ ap (λ r. unwrap_or (all_of (codes "word") r) []) (rows ∙ words_given w ws e)
 
 pub are_taken : (words : List Text) → list_any begins_with_dash words ≡ false → length words ≤ usize_max → takes the_app words ≡ true
 are_taken [] e few = none_taken

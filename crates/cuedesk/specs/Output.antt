@@ -46,7 +46,7 @@ WritesTaken (Sheet form) bytes left held held' = held' ≡ held
 WritesTaken (Make n) bytes left held held' = held' ≡ held
 WritesTaken (Run universes form) bytes left held held' = RepliesToTaken (Run universes form) form bytes left held held'
 
--- what plays live plays 1 to 16 universes
+-- what plays live plays 1 to all universes
 abbrev pub HasUniverses : Job → Type 0
 HasUniverses (Check form) = Unit {0}
 HasUniverses (Render form) = Unit {0}

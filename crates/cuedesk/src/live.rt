@@ -1,7 +1,7 @@
 //! The job `run`: a script over the show that stands before it, played live.
 
 ghost use Rattle.std.specs.Prelude.{◌≡◌, ◌≢◌, ◌≤◌, ◌⊎◌, IfSome, Some, length, map, string_bytes};
-ghost use Rattle.lx_base.specs.declared.TheConstants.{INPUT_BYTES};
+ghost use Rattle.lx_base.specs.declared.TheConstants.{INPUT_BYTES, UNIVERSES};
 ghost use Rattle.lx_lex.specs.Unread.{CanAdvance, SameSource, bytes_taken, source_faults, source_left, unread};
 ghost use Rattle.lx_spec.specs.Job.{job_of};
 ghost use Rattle.lx_spec.specs.declared.Job.TheVariants.{Run};
@@ -19,7 +19,7 @@ use lx_lex::Lines;
 use lx_reader::read_show;
 use lx_show::Show;
 use lx_spec::{Form, Job};
-use lx_workers::{Played, play};
+use lx_workers::{OUTLETS, Played, play};
 use std::alloc::Global;
 use std::sync::Wait;
 use std::thread::Threads;
@@ -49,16 +49,17 @@ pub fn desk_live<
     outlets: &mut [Option<K>],
     pace: &C,
 ) -> Status
-    requires sixteen { length outlets.old ≡ 16 }
+    requires all { length outlets.old ≡ UNIVERSES }
     requires full { IsFull outlets.old }
     // Usage exactly where the words name no live run, unless memory was wanted in vain, and then nothing is read or written.
     // The outlets past the universes are never touched.
     ensures outlets { KeepsOutlets K.holds K.faults K.wants (job_of (map string_bytes words.now)) result input.old input.new output.old
         output.new outlets.old outlets.new }
 
-    // What was read and written, by the status: with Ok the whole output, and each outlet up to the version of all accepted commands.
+    // What was read and written, by the status: with Ok the whole output, and each outlet up to the version of all accepted commands;
+    // after a fault each outlet up to what was published of the commands that the lines which were answered came to.
     ensures ended { OfRun (job_of (map string_bytes words.now)) (S.left input.old)
-        (λ universes form bytes. HasLived result K.holds universes form bytes (S.left input.new) (O.holds output.old)
+        (λ universes form bytes. HasLived result K.holds K.faults K.wants universes form bytes (S.left input.new) (O.holds output.old)
         (O.holds output.new) outlets.old outlets.new) }
 
     // ReadFault and WriteFault have their causes. Want of memory alone is free.
@@ -93,14 +94,14 @@ fn run_live<
     pace: &C,
 ) -> Status
     requires some { 1 ≤ universes }
-    requires most { universes ≤ 16 }
-    requires sixteen { length outlets.old ≡ 16 }
+    requires most { universes ≤ UNIVERSES }
+    requires all { length outlets.old ≡ UNIVERSES }
     requires full { IsFull outlets.old }
     ensures outlets { KeepsOutlets K.holds K.faults K.wants (Some (Run universes form)) result input.old input.new output.old output.new
         outlets.old outlets.new }
     ensures ended { IfSome (S.left input.old)
-        (λ bytes. HasLived result K.holds universes form bytes (S.left input.new) (O.holds output.old) (O.holds output.new) outlets.old
-        outlets.new) }
+        (λ bytes. HasLived result K.holds K.faults K.wants universes form bytes (S.left input.new) (O.holds output.old)
+        (O.holds output.new) outlets.old outlets.new) }
     ensures cause { HasLiveCause K.faults result (S.faults input.old) (S.faults input.new) (O.faults output.old) (O.faults output.new)
         outlets.old outlets.new }
 {
@@ -140,8 +141,8 @@ fn play_live<
     pace: &C,
 ) -> Status
     requires some { 1 ≤ universes }
-    requires most { universes ≤ 16 }
-    requires sixteen { length outlets.old ≡ 16 }
+    requires most { universes ≤ UNIVERSES }
+    requires all { length outlets.old ≡ UNIVERSES }
     requires full { IsFull outlets.old }
     requires going { CanAdvance lines.old }
     requires within { bytes_taken lines.old ≤ INPUT_BYTES }
@@ -149,8 +150,8 @@ fn play_live<
     ensures usage { result ≢ Status.Usage }
     ensures outlets { (outlets.new ≡ outlets.old) ⊎ ArePlayed K.holds K.faults K.wants universes outlets.old outlets.new }
     ensures ended { IfSome (unread S.left lines.old)
-        (λ bytes. HasPlayedLive result K.holds show universes (bytes_taken lines.old) bytes (source_left S.left lines.new)
-        (O.holds output.old) (O.holds output.new) outlets.old outlets.new) }
+        (λ bytes. HasPlayedLive result K.holds K.faults K.wants show universes (bytes_taken lines.old) bytes
+        (source_left S.left lines.new) (O.holds output.old) (O.holds output.new) outlets.old outlets.new) }
     ensures later { source_faults S.faults lines.old ≤ source_faults S.faults lines.new }
     ensures cause { HasLiveCause K.faults result (source_faults S.faults lines.old) (source_faults S.faults lines.new)
         (O.faults output.old) (O.faults output.new) outlets.old outlets.new }
@@ -176,7 +177,7 @@ fn status_of_run(played: &Played) -> Status
 }
 
 /// The status where the session had no fault.
-fn status_of_outlets(faults: &[Option<SinkFault>; 16], unsent: usize) -> Status
+fn status_of_outlets(faults: &[Option<SinkFault>; OUTLETS], unsent: usize) -> Status
     ensures { TellsOutlets faults.now unsent result }
 {
     if faults.contains(&Some(SinkFault::Failed)) {

@@ -16,8 +16,6 @@ mod play;
 mod refuse;
 mod render;
 mod sheet;
-#[cfg(test)]
-mod tests;
 mod universes;
 mod words;
 
@@ -33,6 +31,9 @@ pub use words::{WordsFault, words_of};
 
 /// The line that says how the program is used.
 const USAGE: &str = "usage: cuedesk check|render|sheet [states] | make N | run U [states]";
+
+/// How many bytes of output are kept before they are handed on, where no read that may wait comes before.
+const OUTPUT_ROOM: usize = 65_536;
 
 /// The words after the program's name.
 fn words_given(rt: &HostRuntime) -> io::Result<Vec<String>> {
@@ -59,13 +60,29 @@ fn exit_of(status: Status) -> u8
     }
 }
 
-fn main(rt: HostRuntime) -> ExitCode {
-    let Ok(words) = words_given(&rt) else {
+/// How the program ends where its words can't be taken: without memory for them, or with one that isn't text, which names no job.
+fn status_without_words(error: &io::Error) -> Status {
+    match error.kind() {
+        io::ErrorKind::OutOfMemory => Status::Memory,
+        _ => Status::Usage,
+    }
+}
+
+/// Ends with the status. The usage line goes to standard error where the words name no job.
+fn end(rt: &HostRuntime, status: Status) -> ExitCode {
+    if matches!(status, Status::Usage | Status::Live) {
         let _ = eprintln!(rt; "{USAGE}");
-        return ExitCode::from(exit_of(Status::Usage));
+    }
+    ExitCode::from(exit_of(status))
+}
+
+fn main(rt: HostRuntime) -> ExitCode {
+    let words = match words_given(&rt) {
+        Ok(words) => words,
+        Err(error) => return end(&rt, status_without_words(&error)),
     };
-    let Ok(writer) = BufWriter::new(rt.alloc(), rt.stdout()) else {
-        return ExitCode::from(exit_of(Status::Memory));
+    let Ok(writer) = BufWriter::with_capacity(rt.alloc(), OUTPUT_ROOM, rt.stdout()) else {
+        return end(&rt, Status::Memory);
     };
     let mut input = StdSource::new(rt.stdin());
     let mut output = StdSink::new(writer);
@@ -81,14 +98,7 @@ fn main(rt: HostRuntime) -> ExitCode {
         ),
         done => done,
     };
-    match status {
-        Status::Usage | Status::Live => {
-            let _ = eprintln!(rt; "{USAGE}");
-        }
-        // What was answered before a fault is handed on as far as it can be.
-        _ => {
-            let _ = output.flush();
-        }
-    }
-    ExitCode::from(exit_of(status))
+    // What was answered before a fault is handed on as far as it can be.
+    let _ = output.flush();
+    end(&rt, status)
 }

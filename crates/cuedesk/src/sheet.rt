@@ -9,7 +9,7 @@ ghost use Rattle.cuedesk.specs.Endings.{EndsJob, HasEnded, HasCauseOf};
 ghost use Rattle.std.specs.Io.KnownBytes.{Appends};
 ghost use Rattle.lx_io.specs.Puts.{AppendsFront, Puts};
 ghost use Rattle.lx_spec.specs.SheetOutput.{cue_lines};
-ghost use Rattle.lx_sheet.specs.Standing.{StandsFor};
+ghost use Rattle.lx_sheet.specs.Standing.{RowsStandFor};
 
 use crate::desk::Status;
 use crate::refuse::refuse;
@@ -60,7 +60,7 @@ fn list<K: Sink>(alloc: Global, show: &Show, output: &mut K) -> Status
 
 /// Appends the list, and flushes.
 fn put_and_flush<K: Sink>(show: &Show, sheet: &Sheet, output: &mut K) -> Result<(), SinkFault>
-    requires { StandsFor show.now sheet.now }
+    requires { RowsStandFor show.now sheet.now }
     ensures { Puts K.holds K.faults K.wants output.old output.new result (flat_map (cue_lines show.now) show.now.cues) }
 {
     put_cue_list(show, sheet, output)?;

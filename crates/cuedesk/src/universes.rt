@@ -1,9 +1,11 @@
 //! The outlets and the pace of the program's live runs: a file for each universe, and beats of 20 milliseconds.
 
 ghost use Rattle.std.specs.Prelude.{◌≡◌, ◌≤◌, length, IfOk, None, IsSome};
+ghost use Rattle.lx_base.specs.declared.TheConstants.{UNIVERSES};
 ghost use Rattle.lx_workers.specs.Places.{IsFull};
 
 use lx_io::{Pace, Sink, SinkFault};
+use lx_workers::OUTLETS;
 use std::alloc::Global;
 use std::fs::File;
 use std::io::{BufWriter, Write};
@@ -27,7 +29,7 @@ pub(crate) struct UniverseFile<'r, R> {
 }
 
 impl<'r, R: Files<File = File>> UniverseFile<'r, R> {
-    /// The file of a universe, from 1 to 16. Nothing is opened yet.
+    /// The file of a universe, from 1 to `UNIVERSES`. Nothing is opened yet.
     pub(crate) fn new(rt: &'r R, alloc: Global, universe: u8) -> UniverseFile<'r, R> {
         UniverseFile {
             rt,
@@ -118,12 +120,12 @@ impl<R: Clock> Pace for DeskPace<'_, R> {
     fn taken(&self, _universe: u8, _count: u64) {}
 }
 
-/// The files of the sixteen universes.
+/// The files of all universes.
 pub(crate) fn files<R: Files<File = File>>(
     rt: &R,
     alloc: Global,
-) -> [Option<UniverseFile<'_, R>>; 16]
-    ensures count { length result ≡ 16 }
+) -> [Option<UniverseFile<'_, R>>; OUTLETS]
+    ensures count { length result ≡ UNIVERSES }
     ensures full { IsFull result }
 {
     [
@@ -143,6 +145,22 @@ pub(crate) fn files<R: Files<File = File>>(
         file(rt, alloc, 14),
         file(rt, alloc, 15),
         file(rt, alloc, 16),
+        file(rt, alloc, 17),
+        file(rt, alloc, 18),
+        file(rt, alloc, 19),
+        file(rt, alloc, 20),
+        file(rt, alloc, 21),
+        file(rt, alloc, 22),
+        file(rt, alloc, 23),
+        file(rt, alloc, 24),
+        file(rt, alloc, 25),
+        file(rt, alloc, 26),
+        file(rt, alloc, 27),
+        file(rt, alloc, 28),
+        file(rt, alloc, 29),
+        file(rt, alloc, 30),
+        file(rt, alloc, 31),
+        file(rt, alloc, 32),
     ]
 }
 

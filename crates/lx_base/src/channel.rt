@@ -8,7 +8,7 @@ use std::marker::Model;
 /// A channel number, from 1 to `CHANNELS`.
 #[derive(Clone, Copy, PartialEq, Eq, PartialOrd, Ord, Debug)]
 pub struct Chan {
-    value: u32,
+    value: u16,
 }
 
 impl Model for Chan {
@@ -31,7 +31,9 @@ impl Chan {
         ensures value { IfSome result (λ n. n ≡ value) }
     {
         if 1 <= value && value <= CHANNELS {
-            Some(Chan { value })
+            Some(Chan {
+                value: value as u16,
+            })
         } else {
             None
         }
@@ -43,7 +45,7 @@ impl Chan {
         ensures least { 1 ≤ result }
         ensures most { result ≤ CHANNELS }
     {
-        self.value
+        self.value as u32
     }
 }
 

@@ -5,7 +5,7 @@ ghost use Rattle.std.specs.Prelude.{◌≡◌, ◌≤◌, ◌↔◌, IsSome, IfS
 use crate::CUE_MAX;
 use std::marker::Model;
 
-/// A cue number, in hundredths, from 0 to `CUE_MAX`: 100 is cue 1. 0 names no cue and means before the first.
+/// A cue number, in thousandths, from 0 to `CUE_MAX`: 1,000 is cue 1. 0 names no cue and means before the first.
 #[derive(Clone, Copy, PartialEq, Eq, PartialOrd, Ord, Debug)]
 pub struct CueNo {
     value: u32,
@@ -28,7 +28,7 @@ impl CueNo {
     /// No cue: the position before the first one.
     pub const BEFORE_FIRST: CueNo = CueNo { value: 0 };
 
-    /// The cue number of so many hundredths. `None` exactly where they are more than `CUE_MAX`.
+    /// The cue number of so many thousandths. `None` exactly where they are more than `CUE_MAX`.
     pub fn new(value: u32) -> Option<Self>
         ensures range { IsSome result ↔ (value ≤ CUE_MAX) }
         ensures value { IfSome result (λ n. n ≡ value) }
@@ -40,7 +40,7 @@ impl CueNo {
         }
     }
 
-    /// The number in hundredths, from 0 to `CUE_MAX`.
+    /// The number in thousandths, from 0 to `CUE_MAX`.
     pub fn get(self) -> u32
         ensures value { result ≡ self }
         ensures range { result ≤ CUE_MAX }

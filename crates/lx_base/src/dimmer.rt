@@ -8,7 +8,7 @@ use std::marker::Model;
 /// A dimmer number, from 1 to `DIMMERS`. Dimmers 1 to 512 are the slots of universe 1, the next 512 those of universe 2, and so on.
 #[derive(Clone, Copy, PartialEq, Eq, PartialOrd, Ord, Debug)]
 pub struct Dimmer {
-    value: u32,
+    value: u16,
 }
 
 impl Model for Dimmer {
@@ -31,7 +31,9 @@ impl Dimmer {
         ensures value { IfSome result (λ n. n ≡ value) }
     {
         if 1 <= value && value <= DIMMERS {
-            Some(Dimmer { value })
+            Some(Dimmer {
+                value: value as u16,
+            })
         } else {
             None
         }
@@ -43,6 +45,6 @@ impl Dimmer {
         ensures least { 1 ≤ result }
         ensures most { result ≤ DIMMERS }
     {
-        self.value
+        self.value as u32
     }
 }

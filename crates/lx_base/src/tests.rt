@@ -63,7 +63,7 @@ fn each_pair_of_levels_is_scaled(rt: HostRuntime) -> Result<(), Fail> {
 }
 
 /// Lengths that end before 32 levels, with them and past them.
-const LENGTHS: [usize; 7] = [0, 1, 31, 32, 33, 2_048, 8_192];
+const LENGTHS: [usize; 7] = [0, 1, 31, 32, 33, 4_096, 16_384];
 
 #[test]
 fn a_row_of_any_length_is_scaled_to_its_end(rt: HostRuntime) -> Result<(), Fail> {
@@ -101,11 +101,11 @@ fn the_next_change_is_found_in_a_row_of_any_length(rt: HostRuntime) -> Result<()
 #[test]
 fn numbers_end_at_their_limits(rt: HostRuntime) {
     assert_eq!(rt; CueNo::new(0).map(|n| n.get()), Some(0));
-    assert_eq!(rt; CueNo::new(CUE_MAX).map(|n| n.get()), Some(999_999));
+    assert_eq!(rt; CueNo::new(CUE_MAX).map(|n| n.get()), Some(9_999_999));
     assert_eq!(rt; CueNo::new(CUE_MAX + 1), None);
     assert_eq!(rt; Chan::new(0), None);
-    assert_eq!(rt; Chan::new(CHANNELS).map(|n| n.get()), Some(2_048));
-    assert_eq!(rt; Dimmer::new(DIMMERS).map(|n| n.get()), Some(8_192));
+    assert_eq!(rt; Chan::new(CHANNELS).map(|n| n.get()), Some(4_096));
+    assert_eq!(rt; Dimmer::new(DIMMERS).map(|n| n.get()), Some(16_384));
     assert_eq!(rt; GroupNo::new(GROUPS).map(|n| n.get()), Some(999));
     assert_eq!(rt; SubNo::new(SUBS).map(|n| n.get()), Some(96));
     assert_eq!(rt; PartNo::new(PARTS).map(|n| n.get()), Some(9));

@@ -19,19 +19,28 @@ use Rattle.lx_console.specs.Filled.{IsFilled, IsMixed}
 pub written : (n : ℕ) (xs ys : List ℕ) → length xs ≡ n → take n (xs ++ drop (length xs) ys) ≡ xs
 written n xs ys is = grind (arith, common_steps)
 
-pub filled : (k : Kept) (levels given : List ℕ) (stage : Stage) → IsTable k.show.channels (level_now k) levels → IsTable k.show.channels (contribution k.show k.faders) given → IsMixed levels k.show given k.master stage → IsFilled k stage
+pub filled : (k : Kept) (levels given : List ℕ) (stage : Stage) → IsTable k.show.channels (level_now k) levels
+    → IsTable k.show.channels (contribution k.show k.faders) given → IsMixed levels k.show given k.master stage → IsFilled k stage
 filled k levels given stage of_levels of_given is = record {
   reaches = is.reaches;
   patch_stands = is.patch_stands;
-  outs_stand = mixed k.show.channels k.master (level_now k) (contribution k.show k.faders) levels given stage.outs.items is.reaches.outs_reach of_levels of_given is.outs;
+  outs_stand = mixed k.show.channels k.master (level_now k) (contribution k.show k.faders) levels given stage.outs.items
+      is.reaches.outs_reach of_levels of_given is.outs;
   slots_stand = is.slots_stand;
 }
 
 -- where no level changes, no output does
-pub filled_still : (k : Kept) (p : Playback) (before after : Levels) (stage : Stage) → IsFilled k stage → LevelsStandFor k.show k.playback before → LevelsStandFor k.show p after → ((i : ℕ) → i < k.show.channels → level_at after i ≡ level_at before i) → IsFilled (record k { playback = p }) stage
+pub filled_still : (k : Kept) (p : Playback) (before after : Levels) (stage : Stage) → IsFilled k stage
+    → LevelsStandFor k.show k.playback before → LevelsStandFor k.show p after
+    → ((i : ℕ) → i < k.show.channels → level_at after i ≡ level_at before i) → IsFilled (record k { playback = p }) stage
 filled_still k p before after stage is old new same = record {
   reaches = is.reaches;
   patch_stands = is.patch_stands;
-  outs_stand = record { reach = is.outs_stand.reach; each = λ i within. is.outs_stand.each i within ∙ ap (λ l. scaled (max l (contribution k.show k.faders (i + 1))) k.master) (sym (kept_level k.show k.playback before i old within) ∙ sym (same i within) ∙ kept_level k.show p after i new within) };
+  outs_stand = record {
+    reach = is.outs_stand.reach;
+    each = λ i within. is.outs_stand.each i within
+        ∙ ap (λ l. scaled (max l (contribution k.show k.faders (i + 1))) k.master)
+        (sym (kept_level k.show k.playback before i old within) ∙ sym (same i within) ∙ kept_level k.show p after i new within);
+  };
   slots_stand = is.slots_stand;
 }

@@ -4,3 +4,4 @@ pub mod TakenRows
 pub mod AllRuns
 pub mod Obeying
 pub mod Played
+pub mod PassedTicks

@@ -1,5 +1,6 @@
 -- What keys and ticks do to the live runs.
-use Rattle.std.specs.Prelude.{◌≡◌, ℕ, ◌+◌, Bool, true, false, cond, Option, Some, None, is_some, Result, Ok, Err, List, [], ◌∷◌, ◌==◌, refl, IsTrue}
+use Rattle.std.specs.Prelude.{◌≡◌, ℕ, ◌+◌, Bool, true, false, cond, Option, Some, None, is_some, Result, Ok, Err, List, [], ◌∷◌, ◌==◌, refl}
+use Rattle.std.specs.Prelude.{IsTrue}
 use Rattle.std.specs.Option.{option_map_or}
 use Rattle.std.proofs.Common.{arith, ap, sym, subst, ◌∙◌}
 use Rattle.lx_base.specs.declared.TheConstants.{TICK_END, TICK_STEP, BACK_TIME}
@@ -12,7 +13,8 @@ use Rattle.lx_spec.specs.Show.{Cue, Show}
 use Rattle.lx_spec.specs.TrackedLevel.{cue_above, cue_below}
 use Rattle.lx_spec.specs.Run.{Run}
 use Rattle.lx_spec.specs.EditedShow.{the_cue}
-use Rattle.lx_spec.specs.Playback.{Playback, Played, press, tick, ticked, followed, start_above, is_due, is_over, at_rest, rested, has_room, if_room, appended, run_of, run_whole, follow_of, position_of}
+use Rattle.lx_spec.specs.Playback.{Playback, Played, press, tick, ticked, followed, start_above, is_due, is_over, at_rest, rested, has_room}
+use Rattle.lx_spec.specs.Playback.{if_room, appended, run_of, run_whole, follow_of, position_of}
 use Rattle.lx_playback.specs.Told.{comes_to_rest}
 use Rattle.lx_levels.specs.Stacks.{Kept as Levels}
 use Rattle.lx_levels.specs.Standing.{LevelsStandFor, StandsBefore}
@@ -31,15 +33,26 @@ clash h = cc
 none : (p : Playback) → IsFollowed p.live p.base p.moment (record { playback = p; run = None })
 none p = record { moment_is = refl; base_is = refl; started = λ is. absurd (clash is); same = λ is. refl }
 
-if_start : (b : Bool) (p : Playback) (cue : Cue) → IsFollowed p.live p.base p.moment (cond b (appended p (run_of p cue false) (follow_of p cue)) (record { playback = p; run = None }))
-if_start true p cue = record { moment_is = refl; base_is = refl; started = λ is. (run_of p cue false, refl, refl); same = λ is. absurd (clash (sym is)) }
+if_start : (b : Bool) (p : Playback) (cue : Cue)
+    → IsFollowed p.live p.base p.moment (cond b (appended p (run_of p cue false) (follow_of p cue)) (record { playback = p; run = None }))
+if_start true p cue = record {
+  moment_is = refl;
+  base_is = refl;
+  started = λ is. (run_of p cue false, refl, refl);
+  same =
+      λ is. absurd (clash (sym is));
+}
 if_start false p cue = none p
 
-cue_start : (o : Option Cue) (p : Playback) → IsFollowed p.live p.base p.moment (option_map_or (λ cue. cond (has_room p) (appended p (run_of p cue false) (follow_of p cue)) (record { playback = p; run = None })) o (record { playback = p; run = None }))
+cue_start : (o : Option Cue) (p : Playback)
+    → IsFollowed p.live p.base p.moment (option_map_or
+    (λ cue. cond (has_room p) (appended p (run_of p cue false) (follow_of p cue)) (record { playback = p; run = None })) o
+    (record { playback = p; run = None }))
 cue_start (Some cue) p = if_start (has_room p) p cue
 cue_start None p = none p
 
-due : (b : Bool) (show : Show) (p : Playback) → IsFollowed p.live p.base p.moment (cond b (start_above show (record p { pending = None })) (record { playback = p; run = None }))
+due : (b : Bool) (show : Show) (p : Playback)
+    → IsFollowed p.live p.base p.moment (cond b (start_above show (record p { pending = None })) (record { playback = p; run = None }))
 due true show p = cue_start (cue_above show (position_of (record p { pending = None }))) (record p { pending = None })
 due false show p = none p
 
@@ -65,11 +78,14 @@ rest_moment true q after is = ap (λ (p : Playback). p.moment) (sym is)
 rest_moment false q after is = ap (λ (p : Playback). p.moment) (sym is)
 
 -- a tick, and what it tells
-pub tick_told : (show : Show) (p after : Playback) (fired : Option Run) (at_rest_now : Bool) (levels : Levels) → tick show p ≡ Ok (record { playback = after; run = fired }) → at_rest_now ≡ comes_to_rest show p → LevelsStandFor show p levels → IsTicked show after levels at_rest_now (is_some fired)
+pub tick_told : (show : Show) (p after : Playback) (fired : Option Run) (at_rest_now : Bool) (levels : Levels)
+    → tick show p ≡ Ok (record { playback = after; run = fired }) → at_rest_now ≡ comes_to_rest show p → LevelsStandFor show p levels
+    → IsTicked show after levels at_rest_now (is_some fired)
 tick_told show p after fired at_rest_now levels is tells stands =
     let q : Playback = record p { moment = p.moment + TICK_STEP } in
     let made : Played = followed show q in
-    let same : ticked show p ≡ record { playback = after; run = fired } = unless (p.moment == TICK_END) (ticked show p) (record { playback = after; run = fired }) (TickLimit TICK_END) is in
+    let same : ticked show p ≡ record { playback = after; run = fired } =
+    unless (p.moment == TICK_END) (ticked show p) (record { playback = after; run = fired }) (TickLimit TICK_END) is in
     let rests : rested made.playback ≡ after = ap (λ (x : Played). x.playback) same in
     let fired_is : made.run ≡ fired = ap (λ (x : Played). x.run) same in
     let facts = followed_is show q in
@@ -104,7 +120,8 @@ record KeyStarted (before after : Playback) : Type 0 where
 no_ok : {A : Type 0} (refusal : Refusal) (y : A) → Err refusal ≡ Ok y → ⊥
 no_ok refusal y h = cc
 
-room : (b : Bool) (p : Playback) (run : Run) (pending : Option ℕ) (after : Playback) (made : Option Run) → run.start ≡ p.moment → cond b (Ok (appended p run pending)) (Err PlaybackFull) ≡ Ok (record { playback = after; run = made }) → KeyStarted p after
+room : (b : Bool) (p : Playback) (run : Run) (pending : Option ℕ) (after : Playback) (made : Option Run) → run.start ≡ p.moment
+    → cond b (Ok (appended p run pending)) (Err PlaybackFull) ≡ Ok (record { playback = after; run = made }) → KeyStarted p after
 room true p run pending after made now is =
     let same : (appended p run pending) ≡ (record { playback = after; run = made }) = cc in
     let state : (appended p run pending).playback ≡ after = ap (λ (x : Played). x.playback) same in
@@ -119,26 +136,34 @@ room true p run pending after made now is =
     }
 room false p run pending after made now is = absurd (no_ok _ _ is)
 
-go_key : (o : Option Cue) (p after : Playback) (made : Option Run) → option_map_or (λ cue. if_room p (run_of p cue false) (follow_of p cue)) o (Err (NoCueAfter (position_of p))) ≡ Ok (record { playback = after; run = made }) → KeyStarted p after
+go_key : (o : Option Cue) (p after : Playback) (made : Option Run)
+    → option_map_or (λ cue. if_room p (run_of p cue false) (follow_of p cue)) o (Err (NoCueAfter (position_of p)))
+    ≡ Ok (record { playback = after; run = made }) → KeyStarted p after
 go_key (Some cue) p after made is = room (has_room p) p (run_of p cue false) (follow_of p cue) after made refl is
 go_key None p after made is = absurd (no_ok _ _ is)
 
-back_key : (o : Option Cue) (p after : Playback) (made : Option Run) → option_map_or (λ cue. if_room p (run_whole p cue.number BACK_TIME) None) o (Err (NoCueBefore (position_of p))) ≡ Ok (record { playback = after; run = made }) → KeyStarted p after
+back_key : (o : Option Cue) (p after : Playback) (made : Option Run)
+    → option_map_or (λ cue. if_room p (run_whole p cue.number BACK_TIME) None) o (Err (NoCueBefore (position_of p)))
+    ≡ Ok (record { playback = after; run = made }) → KeyStarted p after
 back_key (Some cue) p after made is = room (has_room p) p (run_whole p cue.number BACK_TIME) None after made refl is
 back_key None p after made is = absurd (no_ok _ _ is)
 
-goto_key : (r : Result Cue Refusal) (p after : Playback) (made : Option Run) → (r >>= (λ cue. if_room p (run_of p cue true) (follow_of p cue))) ≡ Ok (record { playback = after; run = made }) → KeyStarted p after
+goto_key : (r : Result Cue Refusal) (p after : Playback) (made : Option Run)
+    → (r >>= (λ cue. if_room p (run_of p cue true) (follow_of p cue))) ≡ Ok (record { playback = after; run = made }) → KeyStarted p after
 goto_key (Ok cue) p after made is = room (has_room p) p (run_of p cue true) (follow_of p cue) after made refl is
 goto_key (Err refusal) p after made is = absurd (no_ok _ _ is)
 
-key_started : (show : Show) (p after : Playback) (key : PlayKey) (made : Option Run) → press show p key ≡ Ok (record { playback = after; run = made }) → (key ≡ Settle → ⊥) → KeyStarted p after
+key_started : (show : Show) (p after : Playback) (key : PlayKey) (made : Option Run)
+    → press show p key ≡ Ok (record { playback = after; run = made }) → (key ≡ Settle → ⊥) → KeyStarted p after
 key_started show p after Go made is other = go_key (cue_above show (position_of p)) p after made is
 key_started show p after Back made is other = back_key (cue_below show (position_of p)) p after made is
 key_started show p after (Goto n) made is other = goto_key (the_cue show n) p after made is
 key_started show p after Settle made is other = absurd (other refl)
 
 -- the levels that stood before the key
-pub stands_before : (show : Show) (p after : Playback) (key : PlayKey) (made : Option Run) (levels : Levels) → press show p key ≡ Ok (record { playback = after; run = made }) → (key ≡ Settle → ⊥) → LevelsStandFor show p levels → StandsBefore show after levels
+pub stands_before : (show : Show) (p after : Playback) (key : PlayKey) (made : Option Run) (levels : Levels)
+    → press show p key ≡ Ok (record { playback = after; run = made }) → (key ≡ Settle → ⊥) → LevelsStandFor show p levels
+    → StandsBefore show after levels
 stands_before show p after key made levels is other stands =
     let s = key_started show p after key made is other in
     record {
@@ -149,23 +174,30 @@ stands_before show p after key made levels is other stands =
       stands = stands_over show p (record after { live = p.live }) levels s.started.base refl s.moment stands;
     }
 
-settled_state : (show : Show) (p after : Playback) (made : Option Run) → press show p Settle ≡ Ok (record { playback = after; run = made }) → record (at_rest p) { pending = None } ≡ after
+settled_state : (show : Show) (p after : Playback) (made : Option Run) → press show p Settle ≡ Ok (record { playback = after; run = made })
+    → record (at_rest p) { pending = None } ≡ after
 settled_state show p after made is =
-    let same : (record { playback = record (at_rest p) { pending = None }; run = Some (run_whole p (position_of p) 0) }) ≡ (record { playback = after; run = made }) = cc in
+    let same : (record { playback = record (at_rest p) { pending = None }; run = Some (run_whole p (position_of p) 0) })
+    ≡ (record { playback = after; run = made }) = cc in
     ap (λ (x : Played). x.playback) same
 
-pub settled_live : (show : Show) (p after : Playback) (key : PlayKey) (made : Option Run) → press show p key ≡ Ok (record { playback = after; run = made }) → key ≡ Settle → after.live ≡ []
-settled_live show p after key made is settles = ap (λ (x : Playback). x.live) (sym (settled_state show p after made (subst (λ k. press show p k ≡ Ok (record { playback = after; run = made })) settles is)))
+pub settled_live : (show : Show) (p after : Playback) (key : PlayKey) (made : Option Run)
+    → press show p key ≡ Ok (record { playback = after; run = made }) → key ≡ Settle → after.live ≡ []
+settled_live show p after key made is settles =
+    ap (λ (x : Playback). x.live) (sym (settled_state show p after made
+    (subst (λ k. press show p k ≡ Ok (record { playback = after; run = made })) settles is)))
 
 -- no key changes the moment
-pub key_moment : (show : Show) (p after : Playback) (key : PlayKey) (made : Option Run) → press show p key ≡ Ok (record { playback = after; run = made }) → after.moment ≡ p.moment
+pub key_moment : (show : Show) (p after : Playback) (key : PlayKey) (made : Option Run)
+    → press show p key ≡ Ok (record { playback = after; run = made }) → after.moment ≡ p.moment
 key_moment show p after Go made is = (go_key (cue_above show (position_of p)) p after made is).moment
 key_moment show p after Back made is = (back_key (cue_below show (position_of p)) p after made is).moment
 key_moment show p after (Goto n) made is = (goto_key (the_cue show n) p after made is).moment
 key_moment show p after Settle made is = ap (λ (x : Playback). x.moment) (sym (settled_state show p after made is))
 
 -- the levels that stood before the tick, brought to its moment
-pub stands_started : (show : Show) (p before : Playback) (m : ℕ) (levels : Levels) → m ≡ p.moment → LevelsStandFor show (record before { moment = m }) levels → IsStarted before p → StandsBefore show p levels
+pub stands_started : (show : Show) (p before : Playback) (m : ℕ) (levels : Levels) → m ≡ p.moment
+    → LevelsStandFor show (record before { moment = m }) levels → IsStarted before p → StandsBefore show p levels
 stands_started show p before m levels now stands s = record {
   last = s.last;
   older = before.live;
@@ -174,7 +206,8 @@ stands_started show p before m levels now stands s = record {
   stands = stands_over show (record before { moment = m }) (record p { live = before.live }) levels s.base refl (sym now) stands;
 }
 
-pub stands_same : (show : Show) (p before : Playback) (m : ℕ) (levels : Levels) → m ≡ p.moment → LevelsStandFor show (record before { moment = m }) levels → IsSame before p → LevelsStandFor show p levels
+pub stands_same : (show : Show) (p before : Playback) (m : ℕ) (levels : Levels) → m ≡ p.moment
+    → LevelsStandFor show (record before { moment = m }) levels → IsSame before p → LevelsStandFor show p levels
 stands_same show p before m levels now stands s = stands_over show (record before { moment = m }) p levels s.base s.live_is (sym now) stands
 
 pub not_both : (b : Bool) → b ≡ false → IsTrue b → ⊥

@@ -11,20 +11,26 @@ use Rattle.lx_spec.proofs.SortedLists.{entry_at-placed_here, entry_at-placed_oth
 same_dimmer : (d e : ℕ) → Some d ≡ Some e → d ≡ e
 same_dimmer d e same = cc
 
-pub row_set : (rows before : List PatchRow) (d : ℕ) (row : PatchRow) (table : DimmerTable) → entry_at (λ x. x.dimmer) d rows ≡ Some row → ((e : ℕ) → Some d ≢ Some e → entry_at (λ x. x.dimmer) e rows ≡ entry_at (λ x. x.dimmer) e before) → StandsForPatch (placed (λ x. x.dimmer) row before) table → StandsForPatch rows table
+pub row_set : (rows before : List PatchRow) (d : ℕ) (row : PatchRow) (table : DimmerTable) → entry_at (λ x. x.dimmer) d rows ≡ Some row
+    → ((e : ℕ) → Some d ≢ Some e → entry_at (λ x. x.dimmer) e rows ≡ entry_at (λ x. x.dimmer) e before)
+    → StandsForPatch (placed (λ x. x.dimmer) row before) table → StandsForPatch rows table
 row_set rows before d row table found others stands =
     let own : d ≡ row.dimmer = found_number (λ x. x.dimmer) d rows row found in
     stands_alike (placed (λ x. x.dimmer) row before) rows table (λ e. elim (cases_order row.dimmer e) [
-      | inl here ↦ entry_at-placed_here (λ x. x.dimmer) e row before here ∙ sym (ap (λ n. entry_at (λ x. x.dimmer) n rows) (sym (own ∙ here)) ∙ found)
+      | inl here ↦ entry_at-placed_here (λ x. x.dimmer) e row before here
+          ∙ sym (ap (λ n. entry_at (λ x. x.dimmer) n rows) (sym (own ∙ here)) ∙ found)
       | inr apart ↦
           let other : row.dimmer ≢ e = λ same. elim apart [ inl low ↦ omega arith | inr high ↦ omega arith ] in
           entry_at-placed_other (λ x. x.dimmer) e row before other ∙ sym (others e (λ same. other (sym own ∙ same_dimmer d e same)))
     ]) stands
 
-pub row_cleared : (rows before : List PatchRow) (d : ℕ) (table : DimmerTable) → entry_at (λ x. x.dimmer) d rows ≡ None → ((e : ℕ) → Some d ≢ Some e → entry_at (λ x. x.dimmer) e rows ≡ entry_at (λ x. x.dimmer) e before) → StandsForPatch (taken_out (λ x. x.dimmer) d before) table → StandsForPatch rows table
+pub row_cleared : (rows before : List PatchRow) (d : ℕ) (table : DimmerTable) → entry_at (λ x. x.dimmer) d rows ≡ None
+    → ((e : ℕ) → Some d ≢ Some e → entry_at (λ x. x.dimmer) e rows ≡ entry_at (λ x. x.dimmer) e before)
+    → StandsForPatch (taken_out (λ x. x.dimmer) d before) table → StandsForPatch rows table
 row_cleared rows before d table none others stands =
     stands_alike (taken_out (λ x. x.dimmer) d before) rows table (λ e. elim (cases_order d e) [
-      | inl here ↦ ap (λ n. entry_at (λ x. x.dimmer) n (taken_out (λ x. x.dimmer) d before)) (sym here) ∙ gone d before ∙ sym (ap (λ n. entry_at (λ x. x.dimmer) n rows) (sym here) ∙ none)
+      | inl here ↦ ap (λ n. entry_at (λ x. x.dimmer) n (taken_out (λ x. x.dimmer) d before)) (sym here) ∙ gone d before
+          ∙ sym (ap (λ n. entry_at (λ x. x.dimmer) n rows) (sym here) ∙ none)
       | inr apart ↦
           let other : d ≢ e = λ same. elim apart [ inl low ↦ omega arith | inr high ↦ omega arith ] in
           others_stay d e before (λ same. other (sym same)) ∙ sym (others e (λ same. other (same_dimmer d e same)))

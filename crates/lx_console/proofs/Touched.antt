@@ -4,7 +4,7 @@ use Rattle.std.proofs.Common.{arith, ap, sym, subst, ◌∙◌}
 use Rattle.lx_base.specs.Numbers.{scaled}
 use Rattle.lx_spec.specs.declared.PatchRow.{PatchRow}
 use Rattle.lx_spec.specs.SortedList.{entry_at}
-use Rattle.lx_spec.specs.Show.{Show, Sub}
+use Rattle.lx_spec.specs.Show.{Show, Sub, InRange}
 use Rattle.lx_spec.specs.Output.{contribution}
 use Rattle.lx_spec.specs.Kept.{Kept}
 use Rattle.lx_spec.proofs.Columns.{level-columns}
@@ -63,7 +63,8 @@ same_patch show (PlaceRow row) clean = cc
 same_patch show (RemoveRow e) clean = cc
 
 -- a plan leaves the rows of the dimmers but the one that it names
-other_rows : (show : Show) (plan : Plan) (e : ℕ) → dimmer_planned plan ≢ Some e → entry_at (λ row. row.dimmer) e (planned show plan).patch ≡ entry_at (λ row. row.dimmer) e show.patch
+other_rows : (show : Show) (plan : Plan) (e : ℕ) → dimmer_planned plan ≢ Some e
+    → entry_at (λ row. row.dimmer) e (planned show plan).patch ≡ entry_at (λ row. row.dimmer) e show.patch
 other_rows show Nothing e other = refl
 other_rows show (PlaceCue cue None) e other = refl
 other_rows show (PlaceCue cue (Some above)) e other = refl
@@ -75,31 +76,46 @@ other_rows show (PlaceRow row) e other = entry_at-placed_other (λ x. x.dimmer) 
 other_rows show (RemoveRow n) e other = others_stay n e show.patch (λ same. other (ap Some (sym same)))
 
 -- submasters that are the same give the same
-pub given_by : (one other : Show) (faders given : List ℕ) → other.subs ≡ one.subs → other.channels ≡ one.channels → IsTable one.channels (contribution one faders) given → IsTable other.channels (contribution other faders) given
+pub given_by : (one other : Show) (faders given : List ℕ) → other.subs ≡ one.subs → other.channels ≡ one.channels
+    → IsTable one.channels (contribution one faders) given → IsTable other.channels (contribution other faders) given
 given_by one other faders given subs channels table = record {
   reach = table.reach ∙ sym channels;
-  each = λ k within. table.each k (omega (arith, channels)) ∙ ap (λ (s : List Sub). contribution (record one { subs = s }) faders (k + 1)) (sym subs);
+  each = λ k within. table.each k (omega (arith, channels))
+      ∙ ap (λ (s : List Sub). contribution (record one { subs = s }) faders (k + 1)) (sym subs);
 }
 
 -- a rack that stood for the show does so still, where the plan changed no submaster
-pub same_given : (show after : Show) (plan : Plan) (stale : Bool) (faders given : List ℕ) → after ≡ planned show plan → stale ≡ plans_sub plan → IsTable show.channels (contribution show faders) given → stale ≡ false → IsTable after.channels (contribution after faders) given
-same_given show after plan stale faders given is subs table clean = given_by show after faders given (ap (λ (s : Show). s.subs) is ∙ same_subs show plan (sym subs ∙ clean)) (ap (λ (s : Show). s.channels) is ∙ same_channels show plan) table
+pub same_given : (show after : Show) (plan : Plan) (stale : Bool) (faders given : List ℕ) → after ≡ planned show plan
+    → stale ≡ plans_sub plan → IsTable show.channels (contribution show faders) given → stale ≡ false
+    → IsTable after.channels (contribution after faders) given
+same_given show after plan stale faders given is subs table clean =
+    given_by show after faders given (ap (λ (s : Show). s.subs) is ∙ same_subs show plan (sym subs ∙ clean))
+    (ap (λ (s : Show). s.channels) is ∙ same_channels show plan) table
 
 -- and has the places of the channels
-pub same_reach : (show after : Show) (plan : Plan) (faders given : List ℕ) → after ≡ planned show plan → IsTable show.channels (contribution show faders) given → length given ≡ after.channels
+pub same_reach : (show after : Show) (plan : Plan) (faders given : List ℕ) → after ≡ planned show plan
+    → IsTable show.channels (contribution show faders) given → length given ≡ after.channels
 same_reach show after plan faders given is table = table.reach ∙ sym (ap (λ (s : Show). s.channels) is ∙ same_channels show plan)
 
+-- the channel of a place
+in_show : (channels k : ℕ) → k < channels → InRange channels (k + 1)
+in_show channels k within = record { least = omega arith; most = omega arith }
+
 -- a channel that isn't touched keeps what its levels stand for
-pub untouched_levels : (show after : Show) (p : Playback) (chans : ChanSet) (levels : Levels) → LevelsStandFor show p levels → after.channels ≡ show.channels → KeepsOthers show after chans → (k : ℕ) → k < after.channels → has_chan chans (k + 1) ≡ false → StandsAt after p levels k
+pub untouched_levels : (show after : Show) (p : Playback) (chans : ChanSet) (levels : Levels) → LevelsStandFor show p levels
+    → after.channels ≡ show.channels → KeepsOthers show after chans → (k : ℕ) → k < after.channels → has_chan chans (k + 1) ≡ false
+    → StandsAt after p levels k
 untouched_levels show after p chans levels stands channels others k within clean =
     let old = stands.each k (omega (arith, channels)) in
     record {
-      later = λ x from. old.later x from ∙ level-columns show after p.base p.live (k + 1) x (others (k + 1) clean);
+      later = λ x from. old.later x from
+          ∙ level-columns show after p.base p.live (k + 1) x (others (k + 1) (in_show show.channels k (omega (arith, channels))) clean);
       few = old.few;
     }
 
 -- and all do where none is touched
-pub same_levels : (show after : Show) (p : Playback) (chans : ChanSet) (levels : Levels) → LevelsStandFor show p levels → after.channels ≡ show.channels → KeepsOthers show after chans → ((c : ℕ) → has_chan chans c ≡ false) → LevelsStandFor after p levels
+pub same_levels : (show after : Show) (p : Playback) (chans : ChanSet) (levels : Levels) → LevelsStandFor show p levels
+    → after.channels ≡ show.channels → KeepsOthers show after chans → ((c : ℕ) → has_chan chans c ≡ false) → LevelsStandFor after p levels
 same_levels show after p chans levels stands channels others clean = record {
   moment = stands.moment;
   reach = stands.reach ∙ sym channels;
@@ -107,7 +123,8 @@ same_levels show after p chans levels stands channels others clean = record {
 }
 
 -- a table that stood for the patch does so but for the row that the plan touched
-pub touched_patch : (show after : Show) (plan : Plan) (dimmer : Option ℕ) (stage : Stage) → StandsForPatch show.patch stage.table → after ≡ planned show plan → dimmer ≡ dimmer_planned plan → IsPatchedBut after.patch dimmer stage.table
+pub touched_patch : (show after : Show) (plan : Plan) (dimmer : Option ℕ) (stage : Stage) → StandsForPatch show.patch stage.table
+    → after ≡ planned show plan → dimmer ≡ dimmer_planned plan → IsPatchedBut after.patch dimmer stage.table
 touched_patch show after plan dimmer stage stands is names = record {
   before = show.patch;
   stands = stands;
@@ -115,23 +132,36 @@ touched_patch show after plan dimmer stage stands is names = record {
 }
 
 -- where it touched none, the slots are those of its outputs still
-pub same_slots : (show after : Show) (plan : Plan) (dimmer : Option ℕ) (stage : Stage) → SlotsStand show.patch stage → after ≡ planned show plan → dimmer ≡ dimmer_planned plan → dimmer ≡ None → SlotsStand after.patch stage
-same_slots show after plan dimmer stage stand is names none = subst (λ (rows : List PatchRow). SlotsStand rows stage) (sym (ap (λ (s : Show). s.patch) is ∙ same_patch show plan (sym names ∙ none))) stand
+pub same_slots : (show after : Show) (plan : Plan) (dimmer : Option ℕ) (stage : Stage) → SlotsStand show.patch stage
+    → after ≡ planned show plan → dimmer ≡ dimmer_planned plan → dimmer ≡ None → SlotsStand after.patch stage
+same_slots show after plan dimmer stage stand is names none =
+    subst (λ (rows : List PatchRow). SlotsStand rows stage) (sym (ap (λ (s : Show). s.patch) is ∙ same_patch show plan (sym names ∙ none)))
+    stand
 
 -- a stage that was filled in is so still, where the plan touched nothing that it depends on
-pub untouched : (k : Kept) (after : Show) (plan : Plan) (dirty : Dirty) (stage : Stage) → IsFilled k stage → after ≡ planned k.show plan → KeepsOthers k.show after dirty.chans → dirty.dimmer ≡ dimmer_planned plan → dirty.subs ≡ plans_sub plan → IsClean dirty → IsFilled (record k { show = after }) stage
+pub untouched : (k : Kept) (after : Show) (plan : Plan) (dirty : Dirty) (stage : Stage) → IsFilled k stage → after ≡ planned k.show plan
+    → KeepsOthers k.show after dirty.chans → dirty.dimmer ≡ dimmer_planned plan → dirty.subs ≡ plans_sub plan → IsClean dirty
+    → IsFilled (record k { show = after }) stage
 untouched k after plan dirty stage filled is others dimmer subs clean =
     let channels : k.show.channels ≡ after.channels = sym (ap (λ (s : Show). s.channels) is ∙ same_channels k.show plan) in
     let patch : k.show.patch ≡ after.patch = sym (ap (λ (s : Show). s.patch) is ∙ same_patch k.show plan (sym dimmer ∙ clean.dimmer)) in
     let same_sub : k.show.subs ≡ after.subs = sym (ap (λ (s : Show). s.subs) is ∙ same_subs k.show plan (sym subs ∙ clean.subs)) in
-    let levels : level_now k ≡ level_now (record k { show = after }) = λ i c. level-columns k.show after k.playback.base k.playback.live c k.playback.moment (others c (clean.chans c)) i in
-    let given : contribution k.show k.faders ≡ contribution after k.faders = ap (λ (s : List Sub). contribution (record k.show { subs = s }) k.faders) same_sub in
-    let outs : out_now k ≡ out_now (record k { show = after }) = λ i c. scaled (max (levels i c) (given i c)) k.master in
+    let given : contribution k.show k.faders ≡ contribution after k.faders =
+    ap (λ (s : List Sub). contribution (record k.show { subs = s }) k.faders) same_sub in
     record {
       reaches = subst (λ n. Reaches n stage) channels filled.reaches;
       patch_stands = subst (λ (rows : List PatchRow). StandsForPatch rows stage.table) patch filled.patch_stands;
-      outs_stand = table channels outs filled.outs_stand;
+      outs_stand = record {
+        reach = filled.outs_stand.reach ∙ channels;
+        each = λ i within. filled.outs_stand.each i (omega (arith, channels)) ∙ same_out given i (omega (arith, channels));
+      };
       slots_stand = subst (λ (rows : List PatchRow). SlotsStand rows stage) patch filled.slots_stand;
     } where
-      table : {n m : ℕ} {f g : ℕ → ℕ} {xs : List ℕ} → n ≡ m → f ≡ g → IsTable n f xs → IsTable m g xs
-      table {n = n} {g = g} {xs = xs} reach value t = subst (λ x. IsTable x g xs) reach (subst (λ (v : ℕ → ℕ). IsTable n v xs) value t)
+      same_out : contribution k.show k.faders ≡ contribution after k.faders → (i : ℕ) → i < k.show.channels
+          → out_now k (i + 1) ≡ out_now (record k { show = after }) (i + 1)
+      same_out given i within =
+          let level : level_now k (i + 1) ≡ level_now (record k { show = after }) (i + 1) =
+          level-columns k.show after k.playback.base k.playback.live (i + 1) k.playback.moment
+          (others (i + 1) (in_show k.show.channels i within) (clean.chans (i + 1))) in
+          ap (λ l. scaled (max l (contribution k.show k.faders (i + 1))) k.master) level
+          ∙ ap (λ (f : ℕ → ℕ). scaled (max (level_now (record k { show = after }) (i + 1)) (f (i + 1))) k.master) given

@@ -8,7 +8,7 @@ use Rattle.lx_spec.specs.Show.{Show}
 use Rattle.lx_spec.specs.Output.{dimmer_value}
 use Rattle.lx_spec.specs.Kept.{Kept}
 use Rattle.lx_sheet.specs.Rows.{Sheet}
-use Rattle.lx_sheet.specs.Standing.{StandsFor}
+use Rattle.lx_sheet.specs.Standing.{RowsStandFor}
 use Rattle.lx_edit.specs.declared.dirty.Dirty.{Dirty}
 use Rattle.lx_edit.specs.ChanSet.{has_chan}
 use Rattle.lx_mixer.specs.Table.{IsTable}
@@ -58,7 +58,7 @@ pub record IsClean (dirty : Dirty) : Type 0 where
 
 -- the rows, the rack and the levels stand for the show and the playback, and the stage is filled in
 pub record IsKept (console : Kept) (sheet : Sheet) (rack : Faders) (levels : Levels) (stage : Stage) : Type 0 where
-  pub rows : StandsFor console.show sheet
+  pub rows : RowsStandFor console.show sheet
   pub subs : StandsForSubs console.show rack
   pub levels_stand : LevelsStandFor console.show console.playback levels
   pub filled : IsFilled console stage

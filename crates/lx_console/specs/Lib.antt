@@ -3,3 +3,4 @@ pub mod Standing
 pub mod Filled
 pub mod Laws
 pub mod Played
+pub mod Ticks

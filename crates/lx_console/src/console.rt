@@ -1,12 +1,13 @@
 //! The console: a desk's state, with the levels and slots that it gives.
 
-ghost use Rattle.std.specs.Prelude.{◌≡◌, ℕ, ◌-◌, ◌≤◌, OnOk, OnErr, IfOk, IfErr, IsOkAnd, IsTrue, IsFalse, option_map, slice_set};
+ghost use Rattle.std.specs.Prelude.{◌≡◌, ℕ, ◌-◌, ◌/◌, ◌≤◌, [], None, min, option_map, slice_set};
+ghost use Rattle.std.specs.Prelude.{OnOk, OnErr, IfOk, IfErr, IsOkAnd, IsTrue, IsFalse};
 ghost use Rattle.std.specs.Option.{option_copied};
-ghost use Rattle.lx_base.specs.declared.TheConstants.{SLOTS, UNIVERSES};
+ghost use Rattle.lx_base.specs.declared.TheConstants.{SLOTS, TICK_END, TICK_STEP, UNIVERSES};
 ghost use Rattle.lx_spec.specs.SortedList.{has_entry};
 ghost use Rattle.lx_spec.specs.Level.{level};
 ghost use Rattle.lx_spec.specs.Playback.{position_of, press, tick};
-ghost use Rattle.lx_spec.specs.TrackedLevel.{cue_of};
+ghost use Rattle.lx_spec.specs.TrackedLevel.{cue_of, tracked};
 ghost use Rattle.lx_spec.specs.Replies.{row_of};
 ghost use Rattle.lx_spec.specs.EditedShow.{edited};
 ghost use Rattle.lx_spec.specs.ValidEdit.{ValidEdit, ValidCommand};
@@ -16,11 +17,12 @@ ghost use Rattle.lx_edit.specs.Planned.{IsRefusal};
 ghost use Rattle.lx_mixer.specs.Table.{IsTable};
 ghost use Rattle.lx_console.specs.Slots.{universe};
 ghost use Rattle.lx_console.specs.Standing.{StandsFor, Obeys, Answers, level_now, out_now};
+ghost use Rattle.lx_console.specs.Ticks.{after_ticks};
 
 use crate::levels::{recompute_all, recompute_touched};
 use crate::stage::{Stage, mend_subs, reaches_stage};
-use crate::ticks::{press_key, tick_of};
-use lx_base::{CueNo, Level, Moment, SLOTS, SubNo, UNIVERSES};
+use crate::ticks::{pass_ticks, press_key, tick_of};
+use lx_base::{Chan, CueNo, Level, Moment, SLOTS, SubNo, UNIVERSES};
 use lx_edit::planning::plan;
 use lx_levels::Levels;
 use lx_playback::Playback;
@@ -139,6 +141,19 @@ impl Console {
         self.sheet.row(n)
     }
 
+    /// The channel's tracked level at the number, which need not be a cue's: as by the show, but read from the row
+    /// of the last cue up to it. It is 0 above the channel count.
+    pub fn tracked(&self, n: CueNo, c: Chan) -> Level
+        ensures { result ≡ tracked self.now.show n c }
+    {
+        self.sheet.level_at(n, c)
+    }
+
+    /// Where edits take their memory.
+    pub fn allocator(&self) -> Global {
+        self.alloc
+    }
+
     /// The level of each channel at the present moment, before submasters and master: that of channel c
     /// at place c - 1. It is the level over all runs since the opening.
     pub fn levels(&self) -> &[Level]
@@ -149,7 +164,7 @@ impl Console {
         self.levels.row()
     }
 
-    /// The slots of the 8,192 dimmers at the present moment, 512 for each universe: those of the desk's
+    /// The slots of all dimmers at the present moment, 512 for each universe: those of the desk's
     /// frames.
     pub fn frames(&self) -> &[Level]
         ensures slots { IsTable SLOTS (dimmer_value self.now.show.patch (out_now self.now)) result.now }
@@ -190,6 +205,24 @@ impl Console {
         ensures unchanged { OnErr result (self.new ≡ self.old) }
     {
         self.advance()
+    }
+
+    /// Lets ticks pass at which nothing starts or ends, all at once: no follow is due, and the playback doesn't
+    /// come to rest. It is as by so many calls of `tick` that were accepted.
+    ///
+    /// It answers how many ticks there were, at most so many; none where the next tick is another or is refused.
+    pub fn pass(&mut self, most: u32) -> u32
+        ensures most { result ≤ most }
+        ensures ticks { (d : Desk) → StandsFor d self.old → IsOkAnd (after_ticks result d) (λ next. StandsFor next self.new) }
+        ensures rest { self.old.playback.live ≡ [] → self.old.playback.pending ≡ None
+            → result ≡ min most ((TICK_END - self.old.playback.moment) / TICK_STEP) }
+    {
+        let passed = pass_ticks(&mut self.playback, &mut self.levels, most);
+        if passed.changed {
+            self.stage
+                .refill(self.levels.row(), &self.show, &self.rack, self.master);
+        }
+        passed.ticks
     }
 
     /// An edit of the show; or a key or a tick, as by `press` and `tick`.

@@ -2,7 +2,7 @@
 
 ghost use Rattle.std.specs.Prelude.{◌≡◌, ℕ, ◌+◌, ◌<◌, ◌≤◌, [], true, false, length, is_some, IsTrue};
 ghost use Rattle.lx_base.specs.declared.TheConstants.{CHANNELS};
-ghost use Rattle.lx_sheet.specs.Standing.{StandsFor};
+ghost use Rattle.lx_sheet.specs.Standing.{RowsStandFor};
 ghost use Rattle.lx_edit.specs.ChanSet.{has_chan};
 ghost use Rattle.lx_levels.specs.Stacks.{level_at};
 ghost use Rattle.lx_levels.specs.Standing.{LevelsStandFor, StandsAt, StandsBefore};
@@ -23,7 +23,7 @@ pub(crate) fn after_key(
     playback: &Playback,
     settled: bool,
 )
-    requires rows { StandsFor show.now sheet.now }
+    requires rows { RowsStandFor show.now sheet.now }
     requires moment { levels.old.moment ≡ playback.now.moment }
     requires reach { length levels.old.stacks ≡ show.now.channels }
     requires settled { settled ≡ true → playback.now.live ≡ [] }
@@ -46,7 +46,7 @@ pub(crate) fn after_tick(
     playback: &Playback,
     ticked: &Ticked,
 ) -> bool
-    requires rows { StandsFor show.now sheet.now }
+    requires rows { RowsStandFor show.now sheet.now }
     requires ticked { IsTicked show.now playback.now levels.old ticked.now.rested (is_some ticked.now.fired) }
     ensures stands { LevelsStandFor show.now playback.now levels.new }
     ensures same { result ≡ false → (k : ℕ) → k < show.now.channels → level_at levels.new k ≡ level_at levels.old k }
@@ -71,7 +71,7 @@ pub(crate) fn recompute_touched(
     playback: &Playback,
     chans: &ChanSet,
 )
-    requires rows { StandsFor show.now sheet.now }
+    requires rows { RowsStandFor show.now sheet.now }
     requires moment { levels.old.moment ≡ playback.now.moment }
     requires reach { length levels.old.stacks ≡ show.now.channels }
     requires others { (k : ℕ) → k < show.now.channels → has_chan chans.now (k + 1) ≡ false → StandsAt show.now playback.now levels.old k }
@@ -87,7 +87,7 @@ pub(crate) fn recompute_touched(
 
 /// Makes every channel anew from the live runs.
 pub(crate) fn recompute_all(levels: &mut Levels, show: &Show, sheet: &Sheet, playback: &Playback)
-    requires rows { StandsFor show.now sheet.now }
+    requires rows { RowsStandFor show.now sheet.now }
     requires moment { levels.old.moment ≡ playback.now.moment }
     requires reach { length levels.old.stacks ≡ show.now.channels }
     ensures { LevelsStandFor show.now playback.now levels.new }

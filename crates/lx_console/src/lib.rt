@@ -8,10 +8,3 @@ mod stage;
 mod ticks;
 
 pub use console::Console;
-
-#[cfg(test)]
-mod edit_tests;
-#[cfg(test)]
-mod steps;
-#[cfg(test)]
-mod tests;

@@ -1,12 +1,13 @@
 -- Channels as bits.
-use Rattle.std.proofs.Common.{◌≡◌, ◌≢◌, ℕ, zero, suc, ◌+◌, ◌-◌, ◌*◌, ◌/◌, ◌%◌, ◌^◌, ◌<◌, ◌≤◌, Bool, true, false, List, length, get_or, set, replicate, refl, ◌∙◌, sym, ap, subst, inl, inr, arith, w64}
+use Rattle.std.proofs.Common.{◌≡◌, ◌≢◌, ℕ, zero, suc, ◌+◌, ◌-◌, ◌*◌, ◌/◌, ◌%◌, ◌^◌, ◌<◌, ◌≤◌, Bool, true, false, List, length, get_or, set}
+use Rattle.std.proofs.Common.{replicate, refl, ◌∙◌, sym, ap, subst, inl, inr, arith, w64}
 use Rattle.std.specs.Prelude.{◌==◌, ◌||◌, ◌&&◌, bit_or, slice_index}
 use Rattle.std.specs.Int.{bit_at}
 use Rattle.std.proofs.lemmas.Bool.{cases_eq, false≢true}
 use Rattle.lx_base.specs.declared.TheConstants.{CHANNELS}
 use Rattle.std.proofs.lemmas.Bool.Decides.{nat_tests}
-use Rattle.std.proofs.lemmas.List.{get_or-set_same, get_or-set_other}
-use Rattle.std.proofs.lemmas.Nat.Bits.{bit_at-zero, bit_at_set_same, bit_at_set_other}
+use Rattle.std.proofs.lemmas.List.{get_or-replicate, get_or-set_same, get_or-set_other}
+use Rattle.std.proofs.lemmas.Nat.Bits.{bit_at-zero, bit_at_ones, bit_at_set_same, bit_at_set_other}
 use Rattle.std.proofs.Math.Nat.{div-add-mod}
 use Rattle.lx_edit.specs.declared.chan_set.ChanSet.{ChanSet}
 use Rattle.lx_edit.specs.ChanSet.{has_chan, is_chan}
@@ -21,7 +22,11 @@ is_chan-past c past = grind (arith, nat_tests)
 least_of : (c : ℕ) → is_chan c ≡ true → 1 ≤ c
 least_of c is = grind (arith, nat_tests)
 
-pub has_chan-at : (chans : ChanSet) (c : ℕ) → is_chan c ≡ true → has_chan chans c ≡ (bit_at (slice_index chans.words ((c - 1) / 64)) ((c - 1) % 64) == 1)
+most_of : (c : ℕ) → is_chan c ≡ true → c ≤ CHANNELS
+most_of c is = grind (arith, nat_tests)
+
+pub has_chan-at : (chans : ChanSet) (c : ℕ) → is_chan c ≡ true
+    → has_chan chans c ≡ (bit_at (slice_index chans.words ((c - 1) / 64)) ((c - 1) % 64) == 1)
 unfolding has_chan
 has_chan-at chans c is = ap (λ b. b && (bit_at (slice_index chans.words ((c - 1) / 64)) ((c - 1) % 64) == 1)) is
 
@@ -38,31 +43,56 @@ both_false : (a : Bool) → (a && false) ≡ false
 both_false true = refl
 both_false false = refl
 
-pub has_chan-empty : (x : ℕ) → has_chan (record { words = replicate 32 0 }) x ≡ false
+pub has_chan-empty : (n x : ℕ) → has_chan (record { words = replicate n 0 }) x ≡ false
 unfolding has_chan
-has_chan-empty x = ap (λ w. is_chan x && (bit_at w ((x - 1) % 64) == 1)) (zeros 32 ((x - 1) / 64)) ∙ ap (λ b. is_chan x && (b == 1)) (bit_at-zero ((x - 1) % 64)) ∙ both_false (is_chan x)
+has_chan-empty n x = ap (λ w. is_chan x && (bit_at w ((x - 1) % 64) == 1)) (zeros n ((x - 1) / 64))
+    ∙ ap (λ b. is_chan x && (b == 1)) (bit_at-zero ((x - 1) % 64)) ∙ both_false (is_chan x)
 
 in_word : (k : ℕ) → k % 64 < 64
 in_word k = omega arith
 
+-- in a set whose words are all ones is each channel
+pub has_chan-full : (n x : ℕ) → 1 ≤ x → x ≤ CHANNELS → CHANNELS ≤ 64 * n
+    → has_chan (record { words = replicate n 18446744073709551615 }) x ≡ true
+has_chan-full n x least most room =
+    let word : (x - 1) / 64 < n = omega (arith, least, most, room) in
+    has_chan-at (record { words = replicate n 18446744073709551615 }) x (is_chan-in x least most)
+    ∙ ap (λ w. bit_at w ((x - 1) % 64) == 1) (get_or-replicate n ((x - 1) / 64) 18446744073709551615 0 word)
+    ∙ ap (λ b. b == 1) (bit_at_ones 64 ((x - 1) % 64) (in_word (x - 1)))
+
+-- what isn't in a set that has each channel is in none
+outside : (full other : ChanSet) → ((x : ℕ) → 1 ≤ x → x ≤ CHANNELS → has_chan full x ≡ true) → (c : ℕ) → has_chan full c ≡ false
+    → (b : Bool) → is_chan c ≡ b → has_chan other c ≡ false
+outside full other each c out true is = absurd (false≢true (sym out ∙ each c (least_of c is) (most_of c is)))
+outside full other each c out false is = has_chan-none other c is
+
+pub no_channel : (full other : ChanSet) → ((x : ℕ) → 1 ≤ x → x ≤ CHANNELS → has_chan full x ≡ true) → (c : ℕ) → has_chan full c ≡ false
+    → has_chan other c ≡ false
+no_channel full other each c out = outside full other each c out (is_chan c) refl
+
 -- two channels of one word have two bits
 two_bits : (x c : ℕ) → 1 ≤ x → 1 ≤ c → (x - 1) / 64 ≡ (c - 1) / 64 → (x ≡ c → ⊥) → (x - 1) % 64 ≢ (c - 1) % 64
 two_bits x c least_x least_c word differ bit =
-    let before : x - 1 ≡ c - 1 = sym (div-add-mod (x - 1) 64) ∙ ap (λ k. 64 * k + (x - 1) % 64) word ∙ ap (λ k. 64 * ((c - 1) / 64) + k) bit ∙ div-add-mod (c - 1) 64 in
+    let before : x - 1 ≡ c - 1 = sym (div-add-mod (x - 1) 64) ∙ ap (λ k. 64 * k + (x - 1) % 64) word ∙ ap (λ k. 64 * ((c - 1) / 64) + k) bit
+    ∙ div-add-mod (c - 1) 64 in
     differ (omega (arith, before))
 
 abbrev pub with_chan : List ℕ → ℕ → List ℕ
 with_chan words c = set words ((c - 1) / 64) (bit_or (get_or words ((c - 1) / 64) 0) (1 * 2 ^ ((c - 1) % 64) % 18446744073709551616))
 
 set_here : (words : List ℕ) (c : ℕ) → (c - 1) / 64 < length words → bit_at (get_or (with_chan words c) ((c - 1) / 64) 0) ((c - 1) % 64) ≡ 1
-set_here words c within = ap (λ w. bit_at w ((c - 1) % 64)) (get_or-set_same words ((c - 1) / 64) _ 0 within) ∙ bit_at_set_same w64 (get_or words ((c - 1) / 64) 0) ((c - 1) % 64) (in_word (c - 1))
+set_here words c within = ap (λ w. bit_at w ((c - 1) % 64)) (get_or-set_same words ((c - 1) / 64) _ 0 within)
+    ∙ bit_at_set_same w64 (get_or words ((c - 1) / 64) 0) ((c - 1) % 64) (in_word (c - 1))
 
-set_other_bit : (words : List ℕ) (c i j : ℕ) → (c - 1) / 64 < length words → i ≡ (c - 1) / 64 → j ≢ (c - 1) % 64 → bit_at (get_or (with_chan words c) i 0) j ≡ bit_at (get_or words i 0) j
+set_other_bit : (words : List ℕ) (c i j : ℕ) → (c - 1) / 64 < length words → i ≡ (c - 1) / 64 → j ≢ (c - 1) % 64
+    → bit_at (get_or (with_chan words c) i 0) j ≡ bit_at (get_or words i 0) j
 set_other_bit words c i j within word bit =
     let P : ℕ → Type 0 = λ k. bit_at (get_or (with_chan words c) k 0) j ≡ bit_at (get_or words k 0) j in
-    subst P (sym word) (ap (λ w. bit_at w j) (get_or-set_same words ((c - 1) / 64) _ 0 within) ∙ bit_at_set_other w64 (get_or words ((c - 1) / 64) 0) ((c - 1) % 64) (in_word (c - 1)) j bit)
+    subst P (sym word) (ap (λ w. bit_at w j) (get_or-set_same words ((c - 1) / 64) _ 0 within)
+    ∙ bit_at_set_other w64 (get_or words ((c - 1) / 64) 0) ((c - 1) % 64) (in_word (c - 1)) j bit)
 
-bit_kept : (words : List ℕ) (c x : ℕ) → 1 ≤ c → 1 ≤ x → (c - 1) / 64 < length words → (x ≡ c → ⊥) → bit_at (get_or (with_chan words c) ((x - 1) / 64) 0) ((x - 1) % 64) ≡ bit_at (get_or words ((x - 1) / 64) 0) ((x - 1) % 64)
+bit_kept : (words : List ℕ) (c x : ℕ) → 1 ≤ c → 1 ≤ x → (c - 1) / 64 < length words → (x ≡ c → ⊥)
+    → bit_at (get_or (with_chan words c) ((x - 1) / 64) 0) ((x - 1) % 64) ≡ bit_at (get_or words ((x - 1) / 64) 0) ((x - 1) % 64)
 bit_kept words c x least_c least_x within differ = elim (cases_eq ((x - 1) / 64) ((c - 1) / 64)) [
   | inl word ↦ set_other_bit words c ((x - 1) / 64) ((x - 1) % 64) within word (two_bits x c least_x least_c word differ)
   | inr apart ↦ ap (λ w. bit_at w ((x - 1) % 64)) (get_or-set_other words ((c - 1) / 64) ((x - 1) / 64) _ 0 apart)
@@ -71,13 +101,17 @@ bit_kept words c x least_c least_x within differ = elim (cases_eq ((x - 1) / 64)
 differs_from : (x c : ℕ) → is_chan x ≡ false → is_chan c ≡ true → x ≡ c → ⊥
 differs_from x c none here is = false≢true (sym none ∙ ap is_chan is ∙ here)
 
-with_step : (words : List ℕ) (c x : ℕ) (b : Bool) → is_chan x ≡ b → is_chan c ≡ true → (c - 1) / 64 < length words → has_chan (record { words = with_chan words c }) x ≡ (x == c || has_chan (record { words = words }) x)
+with_step : (words : List ℕ) (c x : ℕ) (b : Bool) → is_chan x ≡ b → is_chan c ≡ true → (c - 1) / 64 < length words
+    → has_chan (record { words = with_chan words c }) x ≡ (x == c || has_chan (record { words = words }) x)
 with_step words c x false none here within =
-    has_chan-none (record { words = with_chan words c }) x none ∙ sym (ap (λ b. b || has_chan (record { words = words }) x) (eq_other x c (differs_from x c none here)) ∙ has_chan-none (record { words = words }) x none)
+    has_chan-none (record { words = with_chan words c }) x none
+    ∙ sym (ap (λ b. b || has_chan (record { words = words }) x) (eq_other x c (differs_from x c none here))
+    ∙ has_chan-none (record { words = words }) x none)
 with_step words c x true is here within = elim (cases_eq x c) [
   | inl at ↦
       let P : ℕ → Type 0 = λ k. has_chan (record { words = with_chan words c }) k ≡ (k == c || has_chan (record { words = words }) k) in
-      subst P (sym at) (has_chan-at (record { words = with_chan words c }) c here ∙ ap (λ b. b == 1) (set_here words c within) ∙ sym (ap (λ b. b || has_chan (record { words = words }) c) (eq_true c c refl)))
+      subst P (sym at) (has_chan-at (record { words = with_chan words c }) c here ∙ ap (λ b. b == 1) (set_here words c within)
+      ∙ sym (ap (λ b. b || has_chan (record { words = words }) c) (eq_true c c refl)))
   | inr differ ↦
       has_chan-at (record { words = with_chan words c }) x is
       ∙ ap (λ b. b == 1) (bit_kept words c x (least_of c here) (least_of x is) within differ)
@@ -85,5 +119,15 @@ with_step words c x true is here within = elim (cases_eq x c) [
 ]
 
 -- a set with one channel more
-pub has_chan-with : (words : List ℕ) (c x : ℕ) → is_chan c ≡ true → (c - 1) / 64 < length words → has_chan (record { words = with_chan words c }) x ≡ (x == c || has_chan (record { words = words }) x)
+pub has_chan-with : (words : List ℕ) (c x : ℕ) → is_chan c ≡ true → (c - 1) / 64 < length words
+    → has_chan (record { words = with_chan words c }) x ≡ (x == c || has_chan (record { words = words }) x)
 has_chan-with words c x here within = with_step words c x (is_chan x) refl here within
+
+-- no channel of a word without a bit is in the set
+pub has_chan-clear : (chans : ChanSet) (k x : ℕ) → 1 ≤ k → (k - 1) % 64 ≡ 0 → slice_index chans.words ((k - 1) / 64) ≡ 0 → k ≤ x
+    → x < k + 64 → (b : Bool) → is_chan x ≡ b → has_chan chans x ≡ false
+has_chan-clear chans k x least start clear from to false none = has_chan-none chans x none
+has_chan-clear chans k x least start clear from to true is =
+    let word : (x - 1) / 64 ≡ (k - 1) / 64 = omega (arith, least, start, from, to) in
+    has_chan-at chans x is ∙ ap (λ n. bit_at (slice_index chans.words n) ((x - 1) % 64) == 1) word
+    ∙ ap (λ w. bit_at w ((x - 1) % 64) == 1) clear ∙ ap (λ b. b == 1) (bit_at-zero ((x - 1) % 64))

@@ -1,5 +1,6 @@
 -- Cues with moves placed and taken out.
-use Rattle.std.proofs.Common.{◌≡◌, ℕ, zero, suc, ◌+◌, ◌-◌, ◌<◌, ◌≤◌, Bool, true, false, cond, List, [], ◌∷◌, ◌++◌, Some, None, refl, ◌∙◌, sym, ap, map, arith}
+use Rattle.std.proofs.Common.{◌≡◌, ℕ, zero, suc, ◌+◌, ◌-◌, ◌<◌, ◌≤◌, Bool, true, false, cond, List, [], ◌∷◌, ◌++◌, Some, None, refl, ◌∙◌}
+use Rattle.std.proofs.Common.{sym, ap, map, arith}
 use Rattle.std.specs.Prelude.{Option, IsTrue, IfSome, filter, not, ◌&&◌, nat_le, nat_lt, ◌==◌, if◌then◌else◌}
 use Rattle.std.specs.Option.{option_map_or}
 use Rattle.std.specs.List.{AllByRecursion, range_with_len}
@@ -19,52 +20,72 @@ use Rattle.lx_edit.proofs.Lists.{filter_both, filter_same, filter_true, chosen_m
 use Rattle.lx_spec.proofs.Lists.{found_has, kept_by}
 use Rattle.lx_spec.proofs.SortedLists.{IsStrictlySorted-filter}
 
-part_of_move : (channels : ℕ) (parts : List Part) (o : Option Move) → IsTrue (has_entry (λ x. x.number) 1 parts) → IfSome o (ValidMove channels parts) → IsTrue (has_entry (λ x. x.number) (option_map_or (λ m. m.part) o 1) parts)
+part_of_move : (channels : ℕ) (parts : List Part) (o : Option Move) → IsTrue (has_entry (λ x. x.number) 1 parts)
+    → IfSome o (ValidMove channels parts) → IsTrue (has_entry (λ x. x.number) (option_map_or (λ m. m.part) o 1) parts)
 part_of_move channels parts None base valid = base
 part_of_move channels parts (Some m) base valid = valid.part
 
 -- the part for a new move is one of the cue's
-pub part_there : (channels : ℕ) (cue : Cue) (part : Option ℕ) (c : ℕ) → ValidCue channels cue → IfSome part (λ p. IsTrue (has_entry (λ x. x.number) p cue.parts)) → IsTrue (has_entry (λ x. x.number) (part_for part cue c) cue.parts)
+pub part_there : (channels : ℕ) (cue : Cue) (part : Option ℕ) (c : ℕ) → ValidCue channels cue
+    → IfSome part (λ p. IsTrue (has_entry (λ x. x.number) p cue.parts)) → IsTrue (has_entry (λ x. x.number) (part_for part cue c) cue.parts)
 part_there channels cue (Some p) c valid there = there
-part_there channels cue None c valid there = part_of_move channels cue.parts (move_in cue c) valid.first_part (found_has (ValidMove channels cue.parts) (λ (m : Move). m.chan == c) cue.moves (move_in cue c) refl valid.moves)
+part_there channels cue None c valid there =
+    part_of_move channels cue.parts (move_in cue c) valid.first_part
+    (found_has (ValidMove channels cue.parts) (λ (m : Move). m.chan == c) cue.moves (move_in cue c) refl valid.moves)
 
-pub moves_fit : (channels : ℕ) (cue : Cue) (part : Option ℕ) (members : List Member) → ValidCue channels cue → IfSome part (λ p. IsTrue (has_entry (λ x. x.number) p cue.parts)) → AllByRecursion (λ m. m.chan ≤ channels) members → AllByRecursion (Fits channels cue.parts) (map (λ m. record { chan = m.chan; part = part_for part cue m.chan; level = m.level }) members)
+pub moves_fit : (channels : ℕ) (cue : Cue) (part : Option ℕ) (members : List Member) → ValidCue channels cue
+    → IfSome part (λ p. IsTrue (has_entry (λ x. x.number) p cue.parts)) → AllByRecursion (λ m. m.chan ≤ channels) members
+    → AllByRecursion (Fits channels cue.parts)
+    (map (λ m. record { chan = m.chan; part = part_for part cue m.chan; level = m.level }) members)
 moves_fit channels cue part [] valid there all = tt
-moves_fit channels cue part (m ∷ ms) valid there all = (record { chan = all.0; part = part_there channels cue part m.chan valid there }, moves_fit channels cue part ms valid there all.1)
+moves_fit channels cue part (m ∷ ms) valid there all =
+    (record { chan = all.0; part = part_there channels cue part m.chan valid there }, moves_fit channels cue part ms valid there all.1)
 
 -- a cue with some of its moves left out
 pub valid_without_moves : (channels : ℕ) (cue : Cue) (range : Span) → ValidCue channels cue → ValidCue channels (without_moves cue range)
-valid_without_moves channels cue range valid = with_other_moves channels cue _ valid (kept_by (ValidMove channels cue.parts) _ cue.moves valid.moves) (IsStrictlySorted-filter (λ (m : Move). m.chan) _ cue.moves valid.moves_sorted)
+valid_without_moves channels cue range valid =
+    with_other_moves channels cue _ valid (kept_by (ValidMove channels cue.parts) _ cue.moves valid.moves)
+    (IsStrictlySorted-filter (λ (m : Move). m.chan) _ cue.moves valid.moves_sorted)
 
 outside : (first c n : ℕ) → n ≡ first → not (nat_le first c && nat_lt c n) ≡ true
 outside first c n is = grind (arith, nat_tests)
 
 pub none_left_out : (first n : ℕ) (moves : List Move) → n ≡ first → moves ≡ filter (λ m. not (nat_le first m.chan && nat_lt m.chan n)) moves
-none_left_out first n moves is = sym (filter_same (λ (m : Move). not (nat_le first m.chan && nat_lt m.chan n)) (λ m. true) moves (λ m. outside first m.chan n is) ∙ filter_true moves)
+none_left_out first n moves is = sym (filter_same (λ (m : Move). not (nat_le first m.chan && nat_lt m.chan n)) (λ m. true) moves
+    (λ m. outside first m.chan n is) ∙ filter_true moves)
 
 one_more : (first c n : ℕ) → first ≤ n → (not (nat_le first c && nat_lt c n) && not (c == n)) ≡ not (nat_le first c && nat_lt c (n + 1))
 one_more first c n le = grind (arith, nat_tests)
 
-pub one_left_out : (first n : ℕ) (moves : List Move) → first ≤ n → taken_out (λ m. m.chan) n (filter (λ m. not (nat_le first m.chan && nat_lt m.chan n)) moves) ≡ filter (λ m. not (nat_le first m.chan && nat_lt m.chan (n + 1))) moves
+pub one_left_out : (first n : ℕ) (moves : List Move) → first ≤ n
+    → taken_out (λ m. m.chan) n (filter (λ m. not (nat_le first m.chan && nat_lt m.chan n)) moves)
+    ≡ filter (λ m. not (nat_le first m.chan && nat_lt m.chan (n + 1))) moves
 one_left_out first n moves le =
     filter_both (λ (m : Move). not (nat_le first m.chan && nat_lt m.chan n)) (λ (m : Move). not (m.chan == n)) moves
-    ∙ filter_same (λ (m : Move). not (nat_le first m.chan && nat_lt m.chan n) && not (m.chan == n)) (λ (m : Move). not (nat_le first m.chan && nat_lt m.chan (n + 1))) moves (λ m. one_more first m.chan n le)
+    ∙ filter_same (λ (m : Move). not (nat_le first m.chan && nat_lt m.chan n) && not (m.chan == n))
+    (λ (m : Move). not (nat_le first m.chan && nat_lt m.chan (n + 1))) moves (λ m. one_more first m.chan n le)
 
 -- the channels of a range within the show's
-pub levels_within : (level first n top : ℕ) → first + n ≤ top + 1 → AllByRecursion (λ m. m.chan ≤ top) (all_at level (range_with_len first n))
+pub levels_within : (level first n top : ℕ) → first + n ≤ top + 1
+    → AllByRecursion (λ m. m.chan ≤ top) (all_at level (range_with_len first n))
 levels_within level first zero top within = tt
 levels_within level first (suc n) top within = (omega arith, levels_within level (first + 1) n top (omega arith))
 
-pub proportion_within : (level channels : ℕ) (members : List Member) → AllByRecursion (ValidMember channels) members → AllByRecursion (λ m. m.chan ≤ channels) (map (in_proportion level) members)
+pub proportion_within : (level channels : ℕ) (members : List Member) → AllByRecursion (ValidMember channels) members
+    → AllByRecursion (λ m. m.chan ≤ channels) (map (in_proportion level) members)
 proportion_within level channels [] all = tt
 proportion_within level channels (m ∷ ms) all = (all.0.chan.most, proportion_within level channels ms all.1)
 
-base_step : (c level : ℕ) (b : Bool) → base_moves c (if b then Some level else None) ≡ cond b (record { chan = c; part = 1; level = level } ∷ []) []
+base_step : (c level : ℕ) (b : Bool) → base_moves c (if b then Some level else None)
+    ≡ cond b (record { chan = c; part = 1; level = level } ∷ []) []
 base_step c level true = refl
 base_step c level false = refl
 
 -- a step through the channels, of which some get a move
-pub chosen_next : (test : ℕ → Bool) (level : ℕ → ℕ) (k c : ℕ) (old new : List Move) (o : Option ℕ) → 1 ≤ k → old ≡ map (λ x. record { chan = x; part = 1; level = level x }) (filter test (range_with_len 1 (k - 1))) → c ≡ k → o ≡ (if test c then Some (level c) else None) → new ≡ old ++ base_moves c o → new ≡ map (λ x. record { chan = x; part = 1; level = level x }) (filter test (range_with_len 1 (k + 1 - 1)))
+pub chosen_next : (test : ℕ → Bool) (level : ℕ → ℕ) (k c : ℕ) (old new : List Move) (o : Option ℕ) → 1 ≤ k
+    → old ≡ map (λ x. record { chan = x; part = 1; level = level x }) (filter test (range_with_len 1 (k - 1))) → c ≡ k
+    → o ≡ (if test c then Some (level c) else None) → new ≡ old ++ base_moves c o
+    → new ≡ map (λ x. record { chan = x; part = 1; level = level x }) (filter test (range_with_len 1 (k + 1 - 1)))
 chosen_next test level k c old new o least was here given is =
     let at : ℕ → Move = λ x. record { chan = x; part = 1; level = level x } in
     let length_is : k + 1 - 1 ≡ k - 1 + 1 = omega (arith, least) in
@@ -76,12 +97,16 @@ chosen_next test level k c old new o least was here given is =
     ∙ sym (chosen_more test at 1 (k - 1) k (omega (arith, least)))
     ∙ ap (λ (n : ℕ). map at (filter test (range_with_len 1 n))) (sym length_is)
 
-chosen_fit_in : (channels : ℕ) (parts : List Part) (test : ℕ → Bool) (level : ℕ → ℕ) (xs : List ℕ) → IsTrue (has_entry (λ x. x.number) 1 parts) → AllByRecursion (λ c. c < channels + 1) xs → AllByRecursion (Fits channels parts) (map (λ c. record { chan = c; part = 1; level = level c }) xs)
+chosen_fit_in : (channels : ℕ) (parts : List Part) (test : ℕ → Bool) (level : ℕ → ℕ) (xs : List ℕ)
+    → IsTrue (has_entry (λ x. x.number) 1 parts) → AllByRecursion (λ c. c < channels + 1) xs
+    → AllByRecursion (Fits channels parts) (map (λ c. record { chan = c; part = 1; level = level c }) xs)
 chosen_fit_in channels parts test level [] base all = tt
 chosen_fit_in channels parts test level (x ∷ xs) base all =
     let within : x < channels + 1 = all.0 in
     (record { chan = omega (arith, within); part = base }, chosen_fit_in channels parts test level xs base all.1)
 
 -- the moves that some of the show's channels get are in the cue's part 1
-pub chosen_fit : (show : Show) (parts : List Part) (test : ℕ → Bool) (level : ℕ → ℕ) → IsTrue (has_entry (λ x. x.number) 1 parts) → AllByRecursion (Fits show.channels parts) (moves_for show test level)
-chosen_fit show parts test level base = chosen_fit_in show.channels parts test level _ base (kept_by (λ c. c < show.channels + 1) test _ (range_below 1 show.channels (show.channels + 1) (omega arith)))
+pub chosen_fit : (show : Show) (parts : List Part) (test : ℕ → Bool) (level : ℕ → ℕ) → IsTrue (has_entry (λ x. x.number) 1 parts)
+    → AllByRecursion (Fits show.channels parts) (moves_for show test level)
+chosen_fit show parts test level base = chosen_fit_in show.channels parts test level _ base
+    (kept_by (λ c. c < show.channels + 1) test _ (range_below 1 show.channels (show.channels + 1) (omega arith)))

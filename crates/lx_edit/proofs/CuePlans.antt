@@ -1,5 +1,6 @@
 -- Plans that place one cue in the place of the one of its number.
-use Rattle.std.proofs.Common.{◌≡◌, ℕ, ◌≤◌, Bool, true, false, cond, List, [], ◌∷◌, length, Some, None, Ok, refl, ◌∙◌, sym, subst, map, arith}
+use Rattle.std.proofs.Common.{◌≡◌, ℕ, ◌≤◌, Bool, true, false, cond, List, [], ◌∷◌, length, Some, None, Ok, refl, ◌∙◌, sym, subst, map}
+use Rattle.std.proofs.Common.{arith}
 use Rattle.std.specs.Prelude.{Option, IsTrue, is_some, ◌||◌, nat_lt, ◌==◌, not}
 use Rattle.std.specs.List.{AllByRecursion}
 use Rattle.std.proofs.lemmas.Bool.Decides.{nat_tests}
@@ -17,31 +18,54 @@ use Rattle.lx_spec.proofs.Lists.{find_in_filter, kept_by}
 use Rattle.lx_spec.proofs.SortedLists.{IsStrictlySorted-filter, IsStrictlySorted-map, found_valid}
 
 -- a cue in the place of one that is there
-pub replaces : (show : Show) (n : ℕ) (old new : Cue) → FoundCue show n old → new.number ≡ old.number → ValidCue show.channels new → CanPlace show new
+pub replaces : (show : Show) (n : ℕ) (old new : Cue) → FoundCue show n old → new.number ≡ old.number → ValidCue show.channels new
+    → CanPlace show new
 replaces show n old new here same valid =
-    let there : IsTrue (has_entry (λ (x : Cue). x.number) n show.cues || nat_lt (length show.cues) CUES) = subst (λ (o : Option Cue). IsTrue (is_some o || nat_lt (length show.cues) CUES)) (sym here.found) refl in
-    record { valid = valid; room = subst (λ k. IsTrue (has_entry (λ (x : Cue). x.number) k show.cues || nat_lt (length show.cues) CUES)) (sym (same ∙ here.number)) there }
+    let there : IsTrue (has_entry (λ (x : Cue). x.number) n show.cues || nat_lt (length show.cues) CUES) =
+    subst (λ (o : Option Cue). IsTrue (is_some o || nat_lt (length show.cues) CUES)) (sym here.found) refl in
+    record {
+      valid = valid;
+      room = subst (λ k. IsTrue (has_entry (λ (x : Cue). x.number) k show.cues || nat_lt (length show.cues) CUES))
+          (sym (same ∙ here.number)) there;
+    }
 
-pub places : (show : Show) (edit : Edit) (n : ℕ) (old new : Cue) → FoundCue show n old → new.number ≡ old.number → ValidCue show.channels new → edited show edit ≡ Ok (with_cue show new) → None ≡ dimmer_edited edit → false ≡ edits_sub edit → IsPlan show edit (PlaceCue new None)
-places show edit n old new here same valid makes dimmer subs = record { makes = makes; ready = (replaces show n old new here same valid, tt); dimmer = dimmer; subs = subs }
+pub places : (show : Show) (edit : Edit) (n : ℕ) (old new : Cue) → FoundCue show n old → new.number ≡ old.number
+    → ValidCue show.channels new → edited show edit ≡ Ok (with_cue show new) → None ≡ dimmer_edited edit → false ≡ edits_sub edit
+    → IsPlan show edit (PlaceCue new None)
+places show edit n old new here same valid makes dimmer subs =
+    record { makes = makes; ready = (replaces show n old new here same valid, tt); dimmer = dimmer; subs = subs }
 
 -- the part found in a valid cue, with a time
-pub valid_part : (channels p : ℕ) (cue : Cue) (part : Part) → ValidCue channels cue → entry_at (λ x. x.number) p cue.parts ≡ Some part → ValidPart part
+pub valid_part : (channels p : ℕ) (cue : Cue) (part : Part) → ValidCue channels cue → entry_at (λ x. x.number) p cue.parts ≡ Some part
+    → ValidPart part
 valid_part channels p cue part valid found = found_valid ValidPart (λ x. x.number) p cue.parts part valid.parts found
 
-pub valid_time : (part : Part) (rising : Bool) (time delay : ℕ) → ValidPart part → IsTime time → IsTime delay → ValidPart (with_time part rising time delay)
-valid_time part true time delay valid is_time is_delay = record { number = valid.number; up = is_time; up_delay = is_delay; down = valid.down; down_delay = valid.down_delay }
-valid_time part false time delay valid is_time is_delay = record { number = valid.number; up = valid.up; up_delay = valid.up_delay; down = is_time; down_delay = is_delay }
+pub valid_time : (part : Part) (rising : Bool) (time delay : ℕ) → ValidPart part → IsTime time → IsTime delay
+    → ValidPart (with_time part rising time delay)
+valid_time part true time delay valid is_time is_delay =
+    record { number = valid.number; up = is_time; up_delay = is_delay; down = valid.down; down_delay = valid.down_delay }
+valid_time part false time delay valid is_time is_delay =
+    record { number = valid.number; up = valid.up; up_delay = valid.up_delay; down = is_time; down_delay = is_delay }
 
 pub valid_new_part : (p : ℕ) → 1 ≤ p → p ≤ PARTS → ValidPart (new_part p)
-valid_new_part p least most = record { number = record { least = least; most = most }; up = omega arith; up_delay = omega arith; down = omega arith; down_delay = omega arith }
+valid_new_part p least most = record {
+  number = record { least = least; most = most };
+  up = omega arith;
+  up_delay = omega arith;
+  down =
+      omega arith;
+  down_delay = omega arith;
+}
 
 other_kept : (a n p : ℕ) → (n ≡ p → ⊥) → (a == n) ≡ true → not (a == p) ≡ true
 other_kept a n p other same = grind (arith, nat_tests)
 
 -- a part other than the one taken out stays
-has_other : (p q : ℕ) (parts : List Part) → (q ≡ p → ⊥) → IsTrue (has_entry (λ x. x.number) q parts) → IsTrue (has_entry (λ x. x.number) q (taken_out (λ x. x.number) p parts))
-has_other p q parts other there = subst (λ (o : Option Part). IsTrue (is_some o)) (sym (find_in_filter (λ (x : Part). x.number == q) (λ (x : Part). not (x.number == p)) parts (λ x h. other_kept x.number q p other h))) there
+has_other : (p q : ℕ) (parts : List Part) → (q ≡ p → ⊥) → IsTrue (has_entry (λ x. x.number) q parts)
+    → IsTrue (has_entry (λ x. x.number) q (taken_out (λ x. x.number) p parts))
+has_other p q parts other there = subst (λ (o : Option Part). IsTrue (is_some o))
+    (sym (find_in_filter (λ (x : Part). x.number == q) (λ (x : Part). not (x.number == p)) parts (λ x h. other_kept x.number q p other h)))
+    there
 
 moved_chan : (p : ℕ) (m : Move) → (out_of_part p m).chan ≡ m.chan
 moved_chan p m = elim (m.part == p) as (λ b. (cond b (record m { part = 1 }) m).chan ≡ m.chan) [ true ↦ refl | false ↦ refl ]
@@ -49,13 +73,20 @@ moved_chan p m = elim (m.part == p) as (λ b. (cond b (record m { part = 1 }) m)
 differs : (a b : ℕ) → (a == b) ≡ false → a ≡ b → ⊥
 differs a b test same = grind (arith, nat_tests)
 
-moved_step : (channels p : ℕ) (parts : List Part) (m : Move) (b : Bool) → (m.part == p) ≡ b → (1 ≡ p → ⊥) → IsTrue (has_entry (λ x. x.number) 1 parts) → ValidMove channels parts m → ValidMove channels (taken_out (λ x. x.number) p parts) (cond b (record m { part = 1 }) m)
-moved_step channels p parts m true test base has_base valid = record { chan = valid.chan; part = has_other p 1 parts base has_base; level = valid.level }
-moved_step channels p parts m false test base has_base valid = record { chan = valid.chan; part = has_other p m.part parts (differs m.part p test) valid.part; level = valid.level }
+moved_step : (channels p : ℕ) (parts : List Part) (m : Move) (b : Bool) → (m.part == p) ≡ b → (1 ≡ p → ⊥)
+    → IsTrue (has_entry (λ x. x.number) 1 parts) → ValidMove channels parts m
+    → ValidMove channels (taken_out (λ x. x.number) p parts) (cond b (record m { part = 1 }) m)
+moved_step channels p parts m true test base has_base valid =
+    record { chan = valid.chan; part = has_other p 1 parts base has_base; level = valid.level }
+moved_step channels p parts m false test base has_base valid =
+    record { chan = valid.chan; part = has_other p m.part parts (differs m.part p test) valid.part; level = valid.level }
 
-all_moved : (channels p : ℕ) (parts : List Part) (moves : List Move) → (1 ≡ p → ⊥) → IsTrue (has_entry (λ x. x.number) 1 parts) → AllByRecursion (ValidMove channels parts) moves → AllByRecursion (ValidMove channels (taken_out (λ x. x.number) p parts)) (map (out_of_part p) moves)
+all_moved : (channels p : ℕ) (parts : List Part) (moves : List Move) → (1 ≡ p → ⊥) → IsTrue (has_entry (λ x. x.number) 1 parts)
+    → AllByRecursion (ValidMove channels parts) moves
+    → AllByRecursion (ValidMove channels (taken_out (λ x. x.number) p parts)) (map (out_of_part p) moves)
 all_moved channels p parts [] base has_base all = tt
-all_moved channels p parts (m ∷ ms) base has_base all = (moved_step channels p parts m (m.part == p) refl base has_base all.0, all_moved channels p parts ms base has_base all.1)
+all_moved channels p parts (m ∷ ms) base has_base all =
+    (moved_step channels p parts m (m.part == p) refl base has_base all.0, all_moved channels p parts ms base has_base all.1)
 
 -- a cue without a part other than part 1
 pub valid_without_part : (channels p : ℕ) (cue : Cue) → (1 ≡ p → ⊥) → ValidCue channels cue → ValidCue channels (without_part cue p)

@@ -27,20 +27,28 @@ not_both a k less = grind (arith, nat_tests)
 pub above_differs : (a n : ℕ) → nat_lt n a ≡ true → not (a == n) ≡ true
 above_differs a n less = grind (arith, nat_tests)
 
-pub above_placed : {A : Type 0} (key : A → ℕ) (x : A) (xs : List A) → entries_above key (key x) (placed key x xs) ≡ entries_above key (key x) xs
+pub above_placed : {A : Type 0} (key : A → ℕ) (x : A) (xs : List A)
+    → entries_above key (key x) (placed key x xs) ≡ entries_above key (key x) xs
 above_placed key x xs =
-    let none : entries_above key (key x) (entries_below key (key x) xs) ≡ [] = filter_none _ _ (each _ _ _ (λ y h. not_both (key y) (key x) h) (passes (λ y. nat_lt (key y) (key x)) xs)) in
-    let all : entries_above key (key x) (entries_above key (key x) xs) ≡ entries_above key (key x) xs = filter_all _ _ (passes (λ y. nat_lt (key x) (key y)) xs) in
-    filter-append (λ y. nat_lt (key x) (key y)) (entries_below key (key x) xs) (x ∷ entries_above key (key x) xs) ∙ rw (none, lt_self (key x)) all
+    let none : entries_above key (key x) (entries_below key (key x) xs) ≡ [] =
+    filter_none _ _ (each _ _ _ (λ y h. not_both (key y) (key x) h) (passes (λ y. nat_lt (key y) (key x)) xs)) in
+    let all : entries_above key (key x) (entries_above key (key x) xs) ≡ entries_above key (key x) xs =
+    filter_all _ _ (passes (λ y. nat_lt (key x) (key y)) xs) in
+    filter-append (λ y. nat_lt (key x) (key y)) (entries_below key (key x) xs) (x ∷ entries_above key (key x) xs)
+    ∙ rw (none, lt_self (key x)) all
 
 -- the cue above the changed one is the same
 above_with : (show : Show) (cue : Cue) (n : ℕ) → cue.number ≡ n → cue_above (with_cue show cue) n ≡ cue_above show n
 above_with show cue n same =
     let P : ℕ → Type 0 = λ k. cue_above (with_cue show cue) k ≡ cue_above show k in
-    subst P same (sym (find_first (λ (x : Cue). nat_lt cue.number x.number) (with_cue show cue).cues) ∙ ap (λ (xs : List Cue). slice_get xs 0) (above_placed (λ (x : Cue). x.number) cue show.cues) ∙ find_first (λ (x : Cue). nat_lt cue.number x.number) show.cues)
+    subst P same (sym (find_first (λ (x : Cue). nat_lt cue.number x.number) (with_cue show cue).cues)
+    ∙ ap (λ (xs : List Cue). slice_get xs 0) (above_placed (λ (x : Cue). x.number) cue show.cues)
+    ∙ find_first (λ (x : Cue). nat_lt cue.number x.number) show.cues)
 
-pub cue_above-changed : (show : Show) (n : ℕ) (new : Option Cue) → IfSome new (λ cue. cue.number ≡ n) → cue_above (changed_show show n new) n ≡ cue_above show n
-cue_above-changed show n None number = find_in_filter (λ (x : Cue). nat_lt n x.number) (λ (x : Cue). not (x.number == n)) show.cues (λ x h. above_differs x.number n h)
+pub cue_above-changed : (show : Show) (n : ℕ) (new : Option Cue) → IfSome new (λ cue. cue.number ≡ n)
+    → cue_above (changed_show show n new) n ≡ cue_above show n
+cue_above-changed show n None number = find_in_filter (λ (x : Cue). nat_lt n x.number) (λ (x : Cue). not (x.number == n)) show.cues
+    (λ x h. above_differs x.number n h)
 cue_above-changed show n (Some cue) number = above_with show cue n number
 
 pub above_higher : (show : Show) (n : ℕ) (above : Cue) → cue_above show n ≡ Some above → n < above.number
@@ -50,25 +58,35 @@ decided_or : (c base : ℕ) (cue : Cue) (b : Bool) → cond b (level_in cue c) b
 decided_or c base cue true = refl
 decided_or c base cue false = refl
 
-with_at : (show : Show) (cue above : Cue) (n c : ℕ) → IsStrictlySorted (λ x. x.number) show.cues → 1 ≤ n → cue.number ≡ n → cue_above show n ≡ Some above → tracked (with_cue show cue) above.number c ≡ through c (unwrap_or (decided cue c) (tracked show (n - 1) c)) above
+with_at : (show : Show) (cue above : Cue) (n c : ℕ) → IsStrictlySorted (λ x. x.number) show.cues → 1 ≤ n → cue.number ≡ n
+    → cue_above show n ≡ Some above → tracked (with_cue show cue) above.number c
+    ≡ through c (unwrap_or (decided cue c) (tracked show (n - 1) c)) above
 with_at show cue above n c sorted least same is =
     let key : Cue → ℕ = λ x. x.number in
-    let P : ℕ → Type 0 = λ k. 1 ≤ k → k ≤ above.number → tracked (with_cue show cue) above.number c ≡ walked c (through c (tracked show (k - 1) c) cue) (entries_up_to key above.number (entries_above key k show.cues)) in
+    let P : ℕ → Type 0 = λ k. 1 ≤ k → k ≤ above.number
+    → tracked (with_cue show cue) above.number c
+    ≡ walked c (through c (tracked show (k - 1) c) cue) (entries_up_to key above.number (entries_above key k show.cues)) in
     let higher : n < above.number = above_higher show n above is in
     subst P same (λ a b. tracked-with_cue show cue above.number c a b) least (omega (arith, higher))
     ∙ ap (walked c (through c (tracked show (n - 1) c) cue)) (up_to_first show n above sorted is)
     ∙ ap (λ base. through c base above) (decided_or c (tracked show (n - 1) c) cue (decides cue c))
 
 -- what the cue above tracks after the change
-pub above-changed : (show : Show) (n : ℕ) (new : Option Cue) (above : Cue) (c : ℕ) → IsStrictlySorted (λ x. x.number) show.cues → 1 ≤ n → IfSome new (λ cue. cue.number ≡ n) → cue_above show n ≡ Some above → tracked (changed_show show n new) above.number c ≡ through c (unwrap_or (decided_by new c) (tracked show (n - 1) c)) above
+pub above-changed : (show : Show) (n : ℕ) (new : Option Cue) (above : Cue) (c : ℕ) → IsStrictlySorted (λ x. x.number) show.cues → 1 ≤ n
+    → IfSome new (λ cue. cue.number ≡ n) → cue_above show n ≡ Some above
+    → tracked (changed_show show n new) above.number c ≡ through c (unwrap_or (decided_by new c) (tracked show (n - 1) c)) above
 above-changed show n None above c sorted least number is =
     let higher : n < above.number = above_higher show n above is in
-    tracked-without_cue show n above.number c sorted least (omega (arith, higher)) ∙ ap (walked c (tracked show (n - 1) c)) (up_to_first show n above sorted is)
+    tracked-without_cue show n above.number c sorted least (omega (arith, higher))
+    ∙ ap (walked c (tracked show (n - 1) c)) (up_to_first show n above sorted is)
 above-changed show n (Some cue) above c sorted least number is = with_at show cue above n c sorted least number is
 
 -- and before it
-pub above-before : (show : Show) (n : ℕ) (old above : Cue) (c : ℕ) → IsStrictlySorted (λ x. x.number) show.cues → 1 ≤ n → FoundCue show n old → cue_above show n ≡ Some above → tracked show above.number c ≡ through c (unwrap_or (decided old c) (tracked show (n - 1) c)) above
-above-before show n old above c sorted least here is = ap (λ (s : Show). tracked s above.number c) (sym here.same) ∙ with_at show old above n c sorted least here.number is
+pub above-before : (show : Show) (n : ℕ) (old above : Cue) (c : ℕ) → IsStrictlySorted (λ x. x.number) show.cues → 1 ≤ n
+    → FoundCue show n old → cue_above show n ≡ Some above
+    → tracked show above.number c ≡ through c (unwrap_or (decided old c) (tracked show (n - 1) c)) above
+above-before show n old above c sorted least here is = ap (λ (s : Show). tracked s above.number c) (sym here.same)
+    ∙ with_at show old above n c sorted least here.number is
 
 same_test : (x : ℕ) → (x == x) ≡ true
 same_test x = grind (arith, nat_tests)
@@ -90,11 +108,14 @@ none_through d l a x y x_is y_is =
     let both : x ≡ y = x_is ∙ sym y_is in
     subst (λ z. false ≡ not (x == z)) both (sym (ap not (same_test x)))
 
-found_step : {A : Type 0} (p : A → Bool) (key : A → ℕ) (y : A) (ys : List A) (x : A) (b : Bool) → p y ≡ b → cond b (Some y) (find p ys) ≡ Some x → (find p ys ≡ Some x → IsTrue (has_entry key (key x) ys)) → IsTrue (has_entry key (key x) (y ∷ ys))
+found_step : {A : Type 0} (p : A → Bool) (key : A → ℕ) (y : A) (ys : List A) (x : A) (b : Bool) → p y ≡ b
+    → cond b (Some y) (find p ys) ≡ Some x → (find p ys ≡ Some x → IsTrue (has_entry key (key x) ys))
+    → IsTrue (has_entry key (key x) (y ∷ ys))
 found_step p key y ys x true test is rest =
     let same : y ≡ x = cc in
     subst (λ z. IsTrue (has_entry key (key z) (y ∷ ys))) same (rw (same_test (key y)) refl)
-found_step p key y ys x false test is rest = elim (key y == key x) as (λ b. IsTrue (is_some (cond b (Some y) (entry_at key (key x) ys)))) [ true ↦ refl | false ↦ rest is ]
+found_step p key y ys x false test is rest =
+    elim (key y == key x) as (λ b. IsTrue (is_some (cond b (Some y) (entry_at key (key x) ys)))) [ true ↦ refl | false ↦ rest is ]
 
 -- what is found by a test is there by its number
 pub found_there : {A : Type 0} (p : A → Bool) (key : A → ℕ) (x : A) (xs : List A) → find p xs ≡ Some x → IsTrue (has_entry key (key x) xs)
@@ -110,17 +131,20 @@ or_true true b is = refl
 or_true false b is = absurd (false≢true is)
 
 -- the cue above may be placed again, with other moves
-pub above_fits : (show : Show) (n : ℕ) (new : Option Cue) (above kept : Cue) → IfSome new (λ cue. cue.number ≡ n) → cue_above show n ≡ Some above → kept.number ≡ above.number → ValidCue show.channels kept → CanPlace (changed_show show n new) kept
+pub above_fits : (show : Show) (n : ℕ) (new : Option Cue) (above kept : Cue) → IfSome new (λ cue. cue.number ≡ n)
+    → cue_above show n ≡ Some above → kept.number ≡ above.number → ValidCue show.channels kept → CanPlace (changed_show show n new) kept
 above_fits show n new above kept number is same valid =
     let after = changed_show show n new in
-    let there : IsTrue (has_entry (λ (x : Cue). x.number) above.number after.cues) = found_there (λ (x : Cue). nat_lt n x.number) (λ (x : Cue). x.number) above after.cues (cue_above-changed show n new number ∙ is) in
+    let there : IsTrue (has_entry (λ (x : Cue). x.number) above.number after.cues) =
+    found_there (λ (x : Cue). nat_lt n x.number) (λ (x : Cue). x.number) above after.cues (cue_above-changed show n new number ∙ is) in
     record {
       valid = subst (λ k. ValidCue k kept) (sym (channels-changed show n new)) valid;
       room = or_true _ _ (subst (λ k. IsTrue (has_entry (λ (x : Cue). x.number) k after.cues)) (sym same) there);
     }
 
 -- the number of a changed cue that is lent
-pub lent_number : (n : ℕ) (new : Option (Bor Cue)) → IfSome new (λ cue. cue.now.number ≡ n) → IfSome (option_copied new) (λ cue. cue.number ≡ n)
+pub lent_number : (n : ℕ) (new : Option (Bor Cue)) → IfSome new (λ cue. cue.now.number ≡ n)
+    → IfSome (option_copied new) (λ cue. cue.number ≡ n)
 lent_number n None number = number
 lent_number n (Some cue) number = number
 
@@ -128,10 +152,14 @@ pub cue_least : (show : Show) (n : ℕ) (old : Cue) → FoundCue show n old → 
 cue_least show n old here = subst (λ k. 1 ≤ k) here.number here.valid.number.least
 
 -- what the cue above tracks before and after the change
-pub above_both : (show : Show) (n : ℕ) (old above : Cue) (new : Option (Bor Cue)) (c : ℕ) → IsStrictlySorted (λ x. x.number) show.cues → FoundCue show n old
+pub above_both : (show : Show) (n : ℕ) (old above : Cue) (new : Option (Bor Cue)) (c : ℕ) → IsStrictlySorted (λ x. x.number) show.cues
+    → FoundCue show n old
     → IfSome new (λ cue. cue.now.number ≡ n) → cue_above show n ≡ Some above
     → (tracked show above.number c ≡ through c (unwrap_or (decided old c) (tracked show (n - 1) c)) above)
-    × (tracked (changed_show show n (option_copied new)) above.number c ≡ through c (unwrap_or (decided_by (option_copied new) c) (tracked show (n - 1) c)) above)
+    × (tracked (changed_show show n (option_copied new)) above.number c
+    ≡ through c (unwrap_or (decided_by (option_copied new) c) (tracked show (n - 1) c)) above)
 above_both show n old above new c sorted here number is =
-    let least : 1 ≤ n = cue_least show n old here in
-    (above-before show n old above c sorted least here is, above-changed show n (option_copied new) above c sorted least (lent_number n new number) is)
+    let least : 1 ≤ n = cue_least show n old here in (
+      above-before show n old above c sorted least here is,
+      above-changed show n (option_copied new) above c sorted least (lent_number n new number) is,
+    )

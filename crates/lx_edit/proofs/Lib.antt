@@ -6,3 +6,4 @@ pub mod Walks
 pub mod KeptLevels
 pub mod ChangedColumns
 pub mod KeptRows
+pub mod Asserted

@@ -1,12 +1,14 @@
 -- Small facts on lists, tests and ranges of numbers.
-use Rattle.std.proofs.Common.{◌≡◌, ℕ, zero, suc, ◌+◌, ◌<◌, ◌≤◌, Bool, true, false, cond, List, [], ◌∷◌, ◌++◌, refl, ◌∙◌, sym, ap, map, arith}
+use Rattle.std.proofs.Common.{◌≡◌, ℕ, zero, suc, ◌+◌, ◌<◌, ◌≤◌, Bool, true, false, cond, List, [], ◌∷◌, ◌++◌, refl, ◌∙◌, sym, ap, map}
+use Rattle.std.proofs.Common.{arith}
 use Rattle.std.specs.Prelude.{filter, find, ◌&&◌}
 use Rattle.std.specs.List.{AllByRecursion, range_with_len}
 use Rattle.std.proofs.lemmas.List.Elements.{filter-append}
 use Rattle.std.proofs.lemmas.List.FromFn.{map-range_with_len_more}
 
 -- what all have, their images have
-pub all_map : {A B : Type 0} (P : A → Type 0) (Q : B → Type 0) (f : A → B) (xs : List A) → ((x : A) → P x → Q (f x)) → AllByRecursion P xs → AllByRecursion Q (map f xs)
+pub all_map : {A B : Type 0} (P : A → Type 0) (Q : B → Type 0) (f : A → B) (xs : List A) → ((x : A) → P x → Q (f x)) → AllByRecursion P xs
+    → AllByRecursion Q (map f xs)
 all_map P Q f [] each all = tt
 all_map P Q f (x ∷ xs) each all = (each x all.0, all_map P Q f xs each all.1)
 
@@ -15,7 +17,9 @@ pub range_below : (a n top : ℕ) → a + n ≤ top → AllByRecursion (λ k. k 
 range_below a zero top within = tt
 range_below a (suc n) top within = (omega arith, range_below (a + 1) n top (omega arith))
 
-filter_step : {A : Type 0} (p q : A → Bool) (x : A) (xs : List A) (b e : Bool) → p x ≡ b → q x ≡ e → filter q (filter p xs) ≡ filter (λ y. p y && q y) xs → filter q (cond b (x ∷ filter p xs) (filter p xs)) ≡ cond (b && q x) (x ∷ filter (λ y. p y && q y) xs) (filter (λ y. p y && q y) xs)
+filter_step : {A : Type 0} (p q : A → Bool) (x : A) (xs : List A) (b e : Bool) → p x ≡ b → q x ≡ e
+    → filter q (filter p xs) ≡ filter (λ y. p y && q y) xs
+    → filter q (cond b (x ∷ filter p xs) (filter p xs)) ≡ cond (b && q x) (x ∷ filter (λ y. p y && q y) xs) (filter (λ y. p y && q y) xs)
 filter_step p q x xs true true p_is q_is rest = rw q_is (ap (λ ys. x ∷ ys) rest)
 filter_step p q x xs true false p_is q_is rest = rw q_is rest
 filter_step p q x xs false e p_is q_is rest = rest
@@ -45,7 +49,8 @@ map_same (x ∷ xs) = ap (λ ys. x ∷ ys) (map_same xs)
 
 -- one more number in a range
 pub range_more : (a k j : ℕ) → a + k ≡ j → range_with_len a (k + 1) ≡ range_with_len a k ++ (j ∷ [])
-range_more a k j is = sym (map_same (range_with_len a (k + 1))) ∙ map-range_with_len_more (λ x. x) a k j is ∙ ap (λ xs. xs ++ (j ∷ [])) (map_same (range_with_len a k))
+range_more a k j is = sym (map_same (range_with_len a (k + 1))) ∙ map-range_with_len_more (λ x. x) a k j is
+    ∙ ap (λ xs. xs ++ (j ∷ [])) (map_same (range_with_len a k))
 
 pub map_append : {A B : Type 0} (f : A → B) (xs ys : List A) → map f (xs ++ ys) ≡ map f xs ++ map f ys
 map_append f [] ys = refl
@@ -56,7 +61,8 @@ chosen_step f j true = refl
 chosen_step f j false = refl
 
 -- what is made of those of a range that pass a test, with one more number
-pub chosen_more : {A : Type 0} (p : ℕ → Bool) (f : ℕ → A) (a k j : ℕ) → a + k ≡ j → map f (filter p (range_with_len a (k + 1))) ≡ map f (filter p (range_with_len a k)) ++ cond (p j) (f j ∷ []) []
+pub chosen_more : {A : Type 0} (p : ℕ → Bool) (f : ℕ → A) (a k j : ℕ) → a + k ≡ j
+    → map f (filter p (range_with_len a (k + 1))) ≡ map f (filter p (range_with_len a k)) ++ cond (p j) (f j ∷ []) []
 chosen_more p f a k j is =
     ap (λ xs. map f (filter p xs)) (range_more a k j is)
     ∙ ap (map f) (filter-append p (range_with_len a k) (j ∷ []))

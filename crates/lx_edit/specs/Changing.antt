@@ -2,9 +2,9 @@
 use Rattle.std.specs.Prelude.{◌≡◌, ℕ, ◌≤◌, option_map, find, Bool, false, ◌||◌, Option, Some, None, is_some, option_and_then, if◌then◌else◌}
 use Rattle.std.specs.Option.{option_map_or, option_or, IsSomeAnd}
 use Rattle.lx_spec.specs.declared.Move.{Move}
-use Rattle.lx_spec.specs.Show.{Cue, Show}
+use Rattle.lx_spec.specs.Show.{Cue, Show, InRange}
 use Rattle.lx_spec.specs.SortedList.{entries_above}
-use Rattle.lx_spec.specs.TrackedLevel.{move_in, decides}
+use Rattle.lx_spec.specs.TrackedLevel.{move_in, move_of, tracked, decides}
 use Rattle.lx_spec.specs.Laws.{SameColumn}
 use Rattle.lx_edit.specs.declared.chan_set.ChanSet.{ChanSet}
 use Rattle.lx_edit.specs.ChanSet.{has_chan}
@@ -31,9 +31,18 @@ pub record SameEntry (old new : Option Cue) (c base : ℕ) : Type 0 where
 abbrev pub Grows : ChanSet → ChanSet → Type 0
 Grows old new = (c : ℕ) → has_chan new c ≡ false → has_chan old c ≡ false
 
--- a channel that isn't in the set sees the same of both shows
+-- the same moves and tracked levels of the channel, at every number
+pub record SameLevels (one other : Show) (c : ℕ) : Type 0 where
+  pub moves : (n : ℕ) → move_of one n c ≡ move_of other n c
+  pub levels : (n : ℕ) → tracked one n c ≡ tracked other n c
+
+-- a channel that isn't in the set has the same moves and levels in both shows
+abbrev pub KeepsLevels : Show → Show → ChanSet → Type 0
+KeepsLevels before after chans = (c : ℕ) → has_chan chans c ≡ false → SameLevels before after c
+
+-- a channel of the show that isn't in the set sees the same of both shows
 abbrev pub KeepsOthers : Show → Show → ChanSet → Type 0
-KeepsOthers before after chans = (c : ℕ) → has_chan chans c ≡ false → SameColumn before after c
+KeepsOthers before after chans = (c : ℕ) → InRange before.channels c → has_chan chans c ≡ false → SameColumn before after c
 
 -- the number of the least cue above this one that decides the channel
 abbrev pub next_decision : Show → ℕ → ℕ → Option ℕ

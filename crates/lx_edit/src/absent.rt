@@ -87,7 +87,7 @@ pub(crate) fn the_moves(cue: &Cue, range: ChanRange) -> Result<(), Refusal>
 }
 
 /// The channel of the number.
-pub(crate) fn channel(n: u32) -> Chan
+pub fn channel(n: u32) -> Chan
     requires least { 1 ≤ n }
     requires most { n ≤ CHANNELS }
     ensures { result ≡ n }

@@ -4,15 +4,15 @@ ghost use Rattle.std.specs.Prelude.{◌≡◌, ◌≢◌, ◌<◌, ◌≤◌, �
 ghost use Rattle.lx_spec.specs.TrackedLevel.{tracked};
 ghost use Rattle.lx_spec.specs.EditedShow.{with_cue, without_cue};
 ghost use Rattle.lx_sheet.specs.Rows.{level_of, numbers_of};
-ghost use Rattle.lx_sheet.specs.Standing.{StandsFor, StandsIn, cue_numbers};
+ghost use Rattle.lx_sheet.specs.Standing.{RowsStandFor, StandsIn, cue_numbers};
 ghost use Rattle.lx_edit.specs.ChanSet.{has_chan};
-ghost use Rattle.lx_edit.specs.Changing.{Grows, KeepsOthers, IsPast, column_end, next_decision};
+ghost use Rattle.lx_edit.specs.Changing.{Grows, KeepsLevels, KeepsOthers, IsPast, column_end, next_decision};
 ghost use Rattle.lx_edit.specs.Planned.{planned, with_above, CanPlace, KeepsAbove, IsReady, dimmer_planned, plans_sub};
 
 use crate::absent::channel;
 use crate::chan_set::ChanSet;
 use crate::dirty::Dirty;
-use crate::marks::mark_change;
+use crate::marks::{changes_asserts, mark_change};
 use crate::plans::Plan;
 use lx_base::{CHANNELS, Chan, CueNo};
 use lx_sheet::Sheet;
@@ -21,13 +21,31 @@ use lx_show::{Cue, Show};
 
 impl Plan {
     /// Applies the plan to the show for which it was made: the show becomes the edited one, and the sheet
-    /// stands for it. It answers what was touched. It takes no memory.
+    /// stands for it. It answers what was touched: all channels where a cue is asserted, or is so no longer,
+    /// since each run of it acts on other channels then. It takes no memory.
     pub fn apply(self, show: &mut Show, sheet: &mut Sheet) -> Dirty
         requires ready { IsReady show.old self }
-        requires sheet { StandsFor show.old sheet.old }
+        requires sheet { RowsStandFor show.old sheet.old }
         ensures show { show.new ≡ planned show.old self }
-        ensures sheet { StandsFor show.new sheet.new }
+        ensures sheet { RowsStandFor show.new sheet.new }
+        ensures levels { KeepsLevels show.old show.new result.chans }
         ensures others { KeepsOthers show.old show.new result.chans }
+        ensures dimmer { result.dimmer ≡ dimmer_planned self }
+        ensures subs { result.subs ≡ plans_sub self }
+    {
+        let _ = show.channels();
+        let reaches_all = changes_asserts(show, &self);
+        let dirty = self.applied(show, sheet);
+        if reaches_all { dirty.with_all() } else { dirty }
+    }
+
+    /// The same, where the channels are those alone whose moves or tracked levels are changed.
+    fn applied(self, show: &mut Show, sheet: &mut Sheet) -> Dirty
+        requires ready { IsReady show.old self }
+        requires sheet { RowsStandFor show.old sheet.old }
+        ensures show { show.new ≡ planned show.old self }
+        ensures sheet { RowsStandFor show.new sheet.new }
+        ensures others { KeepsLevels show.old show.new result.chans }
         ensures dimmer { result.dimmer ≡ dimmer_planned self }
         ensures subs { result.subs ≡ plans_sub self }
     {
@@ -62,10 +80,10 @@ impl Plan {
 /// difference.
 fn place_cues(show: &mut Show, sheet: &mut Sheet, cue: Cue, above: Option<Cue>) -> ChanSet
     requires ready { IsReady show.old (Plan.PlaceCue cue above) }
-    requires sheet { StandsFor show.old sheet.old }
+    requires sheet { RowsStandFor show.old sheet.old }
     ensures show { show.new ≡ planned show.old (Plan.PlaceCue cue above) }
-    ensures sheet { StandsFor show.new sheet.new }
-    ensures others { KeepsOthers show.old show.new result }
+    ensures sheet { RowsStandFor show.new sheet.new }
+    ensures others { KeepsLevels show.old show.new result }
 {
     let mut chans = ChanSet::empty();
     match above {
@@ -81,10 +99,10 @@ fn place_alone(show: &mut Show, sheet: &mut Sheet, chans: &mut ChanSet, cue: Cue
     requires ready { CanPlace show.old cue }
     requires above { CanPlace (with_cue show.old cue) above }
     requires keeps { KeepsAbove show.old (with_cue show.old cue) cue.number above }
-    requires sheet { StandsFor show.old sheet.old }
+    requires sheet { RowsStandFor show.old sheet.old }
     ensures show { show.new ≡ with_cue (with_cue show.old cue) above }
-    ensures sheet { StandsFor show.new sheet.new }
-    ensures others { KeepsOthers show.old show.new chans.new }
+    ensures sheet { RowsStandFor show.new sheet.new }
+    ensures others { KeepsLevels show.old show.new chans.new }
 {
     let _ = show.channels();
     let n = cue.number;
@@ -102,10 +120,10 @@ fn place_alone(show: &mut Show, sheet: &mut Sheet, chans: &mut ChanSet, cue: Cue
 /// difference.
 fn exchange_cues(show: &mut Show, sheet: &mut Sheet, n: CueNo, above: Option<Cue>) -> ChanSet
     requires ready { IsReady show.old (Plan.RemoveCue n above) }
-    requires sheet { StandsFor show.old sheet.old }
+    requires sheet { RowsStandFor show.old sheet.old }
     ensures show { show.new ≡ planned show.old (Plan.RemoveCue n above) }
-    ensures sheet { StandsFor show.new sheet.new }
-    ensures others { KeepsOthers show.old show.new result }
+    ensures sheet { RowsStandFor show.new sheet.new }
+    ensures others { KeepsLevels show.old show.new result }
 {
     let mut chans = ChanSet::empty();
     remove_cue(show, sheet, &mut chans, n);
@@ -116,11 +134,11 @@ fn exchange_cues(show: &mut Show, sheet: &mut Sheet, n: CueNo, above: Option<Cue
 /// Places the cue above the edited one too, where it is changed, and adds the channels that see a difference.
 fn place_above(show: &mut Show, sheet: &mut Sheet, chans: &mut ChanSet, above: Option<Cue>)
     requires ready { IfSome above (CanPlace show.old) }
-    requires sheet { StandsFor show.old sheet.old }
+    requires sheet { RowsStandFor show.old sheet.old }
     ensures show { show.new ≡ with_above above show.old }
-    ensures sheet { StandsFor show.new sheet.new }
+    ensures sheet { RowsStandFor show.new sheet.new }
     ensures grows { Grows chans.old chans.new }
-    ensures others { KeepsOthers show.old show.new chans.new }
+    ensures others { KeepsLevels show.old show.new chans.new }
 {
     if let Some(above) = above {
         place_cue(show, sheet, chans, above);
@@ -130,32 +148,34 @@ fn place_above(show: &mut Show, sheet: &mut Sheet, chans: &mut ChanSet, above: O
 /// Places the cue, in place of the one of its number, and adds the channels that see a difference.
 fn place_cue(show: &mut Show, sheet: &mut Sheet, chans: &mut ChanSet, cue: Cue)
     requires ready { CanPlace show.old cue }
-    requires sheet { StandsFor show.old sheet.old }
+    requires sheet { RowsStandFor show.old sheet.old }
     ensures show { show.new ≡ with_cue show.old cue }
-    ensures sheet { StandsFor show.new sheet.new }
+    ensures sheet { RowsStandFor show.new sheet.new }
     ensures grows { Grows chans.old chans.new }
-    ensures others { KeepsOthers show.old show.new chans.new }
+    ensures others { KeepsLevels show.old show.new chans.new }
 {
     let _ = show.channels();
     let n = cue.number;
     let there = show.cue(n).is_some();
     mark_change(chans, show, sheet, n, Some(&cue));
     show.put_cue(cue);
-    if there {
-        mend(sheet, show, n, None, chans);
-    } else {
+    if !there {
         sheet.insert_row(show, n);
+    } else if chans.is_large() {
+        sheet.replace_row(show, n);
+    } else {
+        mend_columns(sheet, show, n, &None, chans);
     }
 }
 
 /// Takes the cue out, and adds the channels that see a difference.
 fn remove_cue(show: &mut Show, sheet: &mut Sheet, chans: &mut ChanSet, n: CueNo)
     requires number { 1 ≤ n }
-    requires sheet { StandsFor show.old sheet.old }
+    requires sheet { RowsStandFor show.old sheet.old }
     ensures show { show.new ≡ without_cue show.old n }
-    ensures sheet { StandsFor show.new sheet.new }
+    ensures sheet { RowsStandFor show.new sheet.new }
     ensures grows { Grows chans.old chans.new }
-    ensures others { KeepsOthers show.old show.new chans.new }
+    ensures others { KeepsLevels show.old show.new chans.new }
 {
     let _ = show.channels();
     mark_change(chans, show, sheet, n, None);
@@ -171,7 +191,7 @@ fn mend(sheet: &mut Sheet, show: &Show, from: CueNo, to: Option<CueNo>, chans: &
     requires below { (c n : ℕ) → n < from → level_of sheet.old n c ≡ tracked show.now n c }
     requires later { (c n : ℕ) → IsPast to show.now from c n → level_of sheet.old n c ≡ tracked show.now n c }
     requires others { (c : ℕ) → has_chan chans.now c ≡ false → StandsIn show.now c sheet.old }
-    ensures { StandsFor show.now sheet.new }
+    ensures { RowsStandFor show.now sheet.new }
 {
     if chans.is_large() {
         sheet.refill(show);
@@ -187,10 +207,16 @@ fn mend_columns(sheet: &mut Sheet, show: &Show, from: CueNo, to: &Option<CueNo>,
     requires below { (c n : ℕ) → n < from → level_of sheet.old n c ≡ tracked show.now n c }
     requires later { (c n : ℕ) → IsPast to.now show.now from c n → level_of sheet.old n c ≡ tracked show.now n c }
     requires others { (c : ℕ) → has_chan chans.now c ≡ false → StandsIn show.now c sheet.old }
-    ensures { StandsFor show.now sheet.new }
+    ensures { RowsStandFor show.now sheet.new }
 {
-    for k in 1..CHANNELS + 1 {
-        mend_column(sheet, show, from, to, chans, channel(k));
+    let mut k = 1;
+    while k <= CHANNELS {
+        if chans.is_clear_from(k) {
+            k += 64;
+        } else {
+            mend_column(sheet, show, from, to, chans, channel(k));
+            k += 1;
+        }
     }
 }
 

@@ -1,16 +1,17 @@
 //! A set of channels.
 
-ghost use Rattle.std.specs.Prelude.{◌≡◌, ℕ, ◌==◌, ◌||◌, false};
+ghost use Rattle.std.specs.Prelude.{◌≡◌, ◌≤◌, ◌<◌, ◌+◌, ℕ, ◌==◌, ◌||◌, true, false};
+ghost use Rattle.lx_base.specs.declared.TheConstants.{CHANNELS};
 
-use lx_base::Chan;
+use lx_base::{CHANNELS, Chan};
 
 /// Sixty-four channels in a word.
-const WORDS: usize = 32;
+const WORDS: usize = CHANNELS as usize / 64;
 
 /// As many columns take as long as a whole sheet.
 const LARGE: u32 = 48;
 
-/// A set of channels from 1 to 2,048, as one bit each. It takes no memory.
+/// A set of channels from 1 to `CHANNELS`, as one bit each. It takes no memory.
 #[derive(Clone, Copy, PartialEq, Eq, Debug)]
 pub struct ChanSet {
     words: [u64; WORDS],
@@ -24,6 +25,15 @@ impl ChanSet {
         ensures { (x : ℕ) → has_chan result x ≡ false }
     {
         ChanSet { words: [0; WORDS] }
+    }
+
+    /// Each channel.
+    pub fn all() -> ChanSet
+        ensures { (x : ℕ) → 1 ≤ x → x ≤ CHANNELS → has_chan result x ≡ true }
+    {
+        ChanSet {
+            words: [u64::MAX; WORDS],
+        }
     }
 
     /// The channel is in the set.
@@ -42,6 +52,19 @@ impl ChanSet {
         let place = c.get() - 1;
         let at = (place / 64) as usize;
         self.words[at] |= 1 << (place % 64);
+    }
+
+    /// The 64 channels from the number on share a word, and none of them is in the set.
+    pub(crate) fn is_clear_from(&self, k: u32) -> bool
+        requires least { 1 ≤ k }
+        requires most { k ≤ CHANNELS }
+        ensures { result ≡ true → (x : ℕ) → k ≤ x → x < k + 64 → has_chan self.now x ≡ false }
+    {
+        let place = k - 1;
+        if place % 64 != 0 {
+            return false;
+        }
+        self.words[(place / 64) as usize] == 0
     }
 
     /// It is no gain to go through a sheet column by column for so many channels.

@@ -1,4 +1,4 @@
-//! Edits of one cue that leave its levels: its times, parts, follow and label, and a new cue.
+//! Edits of one cue that leave its levels: its times, parts, follow and label, that it is asserted, and a new cue.
 
 ghost use Rattle.std.specs.Prelude.{◌≡◌, ◌≢◌, IfSome};
 ghost use Rattle.lx_spec.specs.Show.{IsTime};
@@ -97,6 +97,15 @@ pub(crate) fn delete_part(show: &Show, n: CueNo, p: PartNo) -> Result<Plan, Refu
     }
     let mut cue = old.copy()?;
     let _ = cue.drop_part(p);
+    Ok(Plan::PlaceCue { cue, above: None })
+}
+
+/// The cue is asserted, or it is not.
+pub(crate) fn assert(show: &Show, n: CueNo, on: bool) -> Result<Plan, Refusal>
+    ensures { Plans show.now (Edit.Asserted n on) result }
+{
+    let mut cue = the_cue(show, n)?.copy()?;
+    cue.asserted = on;
     Ok(Plan::PlaceCue { cue, above: None })
 }
 

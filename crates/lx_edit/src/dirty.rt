@@ -1,7 +1,9 @@
 //! What an edit touched.
 
-ghost use Rattle.std.specs.Prelude.{◌≡◌, ℕ, true, false, Some, None};
+ghost use Rattle.std.specs.Prelude.{◌≡◌, ◌≤◌, ℕ, true, false, Some, None};
+ghost use Rattle.lx_base.specs.declared.TheConstants.{CHANNELS};
 ghost use Rattle.lx_edit.specs.ChanSet.{has_chan};
+ghost use Rattle.lx_edit.specs.Changing.{Grows};
 
 use crate::chan_set::ChanSet;
 use lx_base::Dimmer;
@@ -10,7 +12,7 @@ use lx_base::Dimmer;
 #[derive(Clone, Copy, PartialEq, Eq, Debug)]
 pub struct Dirty {
     /// A channel that is not among these has the same move in each cue, and the same tracked level at each
-    /// number.
+    /// number, and the same cues are asserted.
     pub chans: ChanSet,
     /// The dimmer whose patch row was changed.
     pub dimmer: Option<Dimmer>,
@@ -38,6 +40,20 @@ impl Dirty {
             chans,
             dimmer: None,
             subs: false,
+        }
+    }
+
+    /// The same, and all channels.
+    pub(crate) fn with_all(self) -> Dirty
+        ensures chans { (c : ℕ) → 1 ≤ c → c ≤ CHANNELS → has_chan result.chans c ≡ true }
+        ensures grows { Grows self.chans result.chans }
+        ensures dimmer { result.dimmer ≡ self.dimmer }
+        ensures subs { result.subs ≡ self.subs }
+    {
+        Dirty {
+            chans: ChanSet::all(),
+            dimmer: self.dimmer,
+            subs: self.subs,
         }
     }
 

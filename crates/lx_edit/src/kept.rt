@@ -3,7 +3,7 @@
 ghost use Rattle.std.specs.Prelude.{◌≡◌, ℕ, ◌==◌, not, IfOk, IfSome, Some, None, if◌then◌else◌};
 ghost use Rattle.std.specs.Option.{option_copied};
 ghost use Rattle.lx_spec.specs.Show.{ValidCue};
-ghost use Rattle.lx_spec.specs.TrackedLevel.{tracked, cue_above};
+ghost use Rattle.lx_spec.specs.TrackedLevel.{tracked, cue_above, decides};
 ghost use Rattle.lx_spec.specs.EditedShow.{cue_only, with_cue, with_moves, moves_for};
 ghost use Rattle.lx_edit.specs.Found.{FoundCue};
 ghost use Rattle.lx_edit.specs.Planned.{Plans, PlansCues, CanPlace, KeepsAbove, with_above};
@@ -11,6 +11,7 @@ ghost use Rattle.lx_edit.specs.Kept.{changed_show, decided, decided_by};
 
 use crate::absent::{channel, the_cue};
 use crate::blocks::below;
+use crate::marks::entry_near;
 use crate::moves::{add, with_moves};
 use crate::plans::Plan;
 use lx_base::{Chan, CueNo, Level};
@@ -113,15 +114,17 @@ fn kept_moves(
         (λ c. tracked show.now above.now.number c)) }
 {
     let mut moves = Vec::new(alloc);
+    let mut near = 0;
     for k in 1..show.channels() + 1 {
         let c = channel(k);
-        let level = kept_level(show, n, old, new, above, c);
+        let level = kept_level(show, n, old, new, above, c, &mut near);
         add(&mut moves, c, level)?;
     }
     Ok(moves)
 }
 
-/// The level that the channel keeps at the cue above, where the edit would change it.
+/// The level that the channel keeps at the cue above, where the edit would change it. The channel's move there
+/// is looked for at `near` first.
 fn kept_level(
     show: &Show,
     n: CueNo,
@@ -129,6 +132,7 @@ fn kept_level(
     new: Option<&Cue>,
     above: &Cue,
     c: Chan,
+    near: &mut usize,
 ) -> Option<Level>
     requires there { FoundCue show.now n old.now }
     requires number { IfSome new (λ cue. cue.now.number ≡ n) }
@@ -137,7 +141,7 @@ fn kept_level(
         (changed_show show.now n (option_copied new.entry)) above.now.number c) then Some
         (tracked show.now above.now.number c) else None) }
 {
-    if differs(show, n, old, new, above, c) {
+    if differs(show, n, old, new, above, c, near) {
         Some(show.tracked(above.number, c))
     } else {
         None
@@ -145,7 +149,15 @@ fn kept_level(
 }
 
 /// The channel's level at the cue above is changed.
-fn differs(show: &Show, n: CueNo, old: &Cue, new: Option<&Cue>, above: &Cue, c: Chan) -> bool
+fn differs(
+    show: &Show,
+    n: CueNo,
+    old: &Cue,
+    new: Option<&Cue>,
+    above: &Cue,
+    c: Chan,
+    near: &mut usize,
+) -> bool
     requires there { FoundCue show.now n old.now }
     requires number { IfSome new (λ cue. cue.now.number ≡ n) }
     requires above { cue_above show.now n ≡ Some above.now }
@@ -153,7 +165,7 @@ fn differs(show: &Show, n: CueNo, old: &Cue, new: Option<&Cue>, above: &Cue, c: 
         (changed_show show.now n (option_copied new.entry)) above.now.number c) }
 {
     let _ = show.channels();
-    if above.decides(c) {
+    if decides(above, c, near) {
         return false;
     }
     match (decided(old, c), decided_by(new, c)) {
@@ -162,6 +174,13 @@ fn differs(show: &Show, n: CueNo, old: &Cue, new: Option<&Cue>, above: &Cue, c: 
         (Some(was), None) => was != show.tracked(below(n), c),
         (None, Some(is)) => show.tracked(below(n), c) != is,
     }
+}
+
+/// The cue decides the channel. Its move is looked for at `near` first.
+fn decides(cue: &Cue, c: Chan, near: &mut usize) -> bool
+    ensures { result ≡ decides cue.now c }
+{
+    cue.block || entry_near(cue.moves.as_slice(), near, c).is_some()
 }
 
 /// The level that the cue decides for the channel, if it does.

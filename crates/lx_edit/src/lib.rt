@@ -17,9 +17,9 @@ mod moves;
 mod patch_edits;
 pub mod planning;
 mod plans;
-#[cfg(test)]
-mod tests;
 
+pub use absent::channel;
 pub use chan_set::ChanSet;
 pub use dirty::Dirty;
+pub use moves::{add, with_levels, with_moves};
 pub use plans::Plan;

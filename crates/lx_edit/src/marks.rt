@@ -5,15 +5,17 @@ ghost use Rattle.std.specs.Option.{option_copied};
 ghost use Rattle.std.specs.List.{AllByRecursion};
 ghost use Rattle.lx_base.specs.declared.TheConstants.{CHANNELS};
 ghost use Rattle.lx_spec.specs.SortedList.{IsStrictlySorted, entry_at};
-ghost use Rattle.lx_spec.specs.TrackedLevel.{cue_of, tracked};
+ghost use Rattle.lx_spec.specs.TrackedLevel.{cue_of, asserts, tracked};
 ghost use Rattle.lx_sheet.specs.Rows.{level_of};
-ghost use Rattle.lx_sheet.specs.Standing.{StandsFor};
+ghost use Rattle.lx_sheet.specs.Standing.{RowsStandFor};
 ghost use Rattle.lx_edit.specs.ChanSet.{has_chan};
+ghost use Rattle.lx_edit.specs.Planned.{planned};
 ghost use Rattle.lx_edit.specs.Changing.{move_by, is_block, SameEntry, Grows};
 
 use crate::absent::channel;
 use crate::blocks::below;
 use crate::chan_set::ChanSet;
+use crate::plans::Plan;
 use lx_base::{CHANNELS, Chan, CueNo};
 use lx_sheet::Sheet;
 use lx_show::sorted::index_of;
@@ -28,7 +30,7 @@ pub(crate) fn mark_change(
     n: CueNo,
     new: Option<&Cue>,
 )
-    requires { StandsFor show.now sheet.now }
+    requires { RowsStandFor show.now sheet.now }
     ensures grows { Grows chans.old chans.new }
     ensures same { (c : ℕ) → has_chan chans.new c ≡ false
         → SameEntry (cue_of show.now n) (option_copied new.entry) c (tracked show.now (n - 1) c) }
@@ -98,7 +100,7 @@ fn move_near(cue: Option<&Cue>, near: &mut usize, c: Chan) -> Option<Move>
 }
 
 /// The channel's move among these, looked for so.
-fn entry_near(moves: &[Move], near: &mut usize, c: Chan) -> Option<Move>
+pub(crate) fn entry_near(moves: &[Move], near: &mut usize, c: Chan) -> Option<Move>
     requires { IsStrictlySorted (λ m. m.chan) moves.now }
     ensures { result ≡ entry_at (λ m. m.chan) c moves.now }
 {
@@ -129,6 +131,44 @@ fn is_block(cue: Option<&Cue>) -> bool
 {
     match cue {
         Some(cue) => cue.block,
+        None => false,
+    }
+}
+
+/// The plan changes at some number whether an asserted cue is there.
+pub(crate) fn changes_asserts(show: &Show, plan: &Plan) -> bool
+    ensures { result ≡ false → (n : ℕ) → asserts show.now n ≡ asserts (planned show.now plan.now) n }
+{
+    match plan {
+        Plan::PlaceCue { cue, above } => changes_assert(show, cue) || changes_above(show, above),
+        Plan::RemoveCue { cue, above } => asserts(show, *cue) || changes_above(show, above),
+        _ => false,
+    }
+}
+
+/// There is a cue, and it is asserted where that of its number is not, or the other way round.
+fn changes_above(show: &Show, above: &Option<Cue>) -> bool
+    ensures { result ≡ false → IfSome above.now (λ cue. asserts show.now cue.number ≡ cue.asserted) }
+{
+    match above {
+        Some(cue) => changes_assert(show, cue),
+        None => false,
+    }
+}
+
+/// The cue is asserted where that of its number is not, or the other way round.
+fn changes_assert(show: &Show, cue: &Cue) -> bool
+    ensures { result ≡ false → asserts show.now cue.now.number ≡ cue.now.asserted }
+{
+    asserts(show, cue.number) != cue.asserted
+}
+
+/// The cue of the number is there, and asserted.
+fn asserts(show: &Show, n: CueNo) -> bool
+    ensures { result ≡ asserts show.now n }
+{
+    match show.cue(n) {
+        Some(cue) => cue.asserted,
         None => false,
     }
 }

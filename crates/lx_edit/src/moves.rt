@@ -51,7 +51,7 @@ pub(crate) fn in_proportion(
 
 /// The cue with the channels at the levels, each in the part that is given, or else in that of the move
 /// which it had, or else in part 1. An error comes where memory is wanting.
-pub(crate) fn with_levels(
+pub fn with_levels(
     alloc: Global,
     channels: u32,
     cue: &Cue,
@@ -102,7 +102,7 @@ fn move_to(cue: &Cue, part: Option<PartNo>, member: &Member) -> Move
 
 /// The cue with these moves, each in the place of the one of its channel. An error comes where memory is
 /// wanting.
-pub(crate) fn with_moves(channels: u32, cue: Cue, moves: &[Move]) -> Result<Cue, AllocError>
+pub fn with_moves(channels: u32, cue: Cue, moves: &[Move]) -> Result<Cue, AllocError>
     requires valid { ValidCue channels cue }
     requires fits { AllByRecursion (Fits channels cue.parts) moves.now }
     ensures cue { IfOk result (λ changed. changed ≡ with_moves cue moves.now) }
@@ -117,7 +117,7 @@ pub(crate) fn with_moves(channels: u32, cue: Cue, moves: &[Move]) -> Result<Cue,
 }
 
 /// Adds a move of the channel in part 1, where there is a level for it.
-pub(crate) fn add(moves: &mut Vec<Move>, chan: Chan, level: Option<Level>) -> Result<(), AllocError>
+pub fn add(moves: &mut Vec<Move>, chan: Chan, level: Option<Level>) -> Result<(), AllocError>
     ensures { OnOk result (moves.new.items ≡ moves.old.items ++ base_moves chan level) }
 {
     if let Some(level) = level {

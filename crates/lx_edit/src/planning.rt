@@ -43,6 +43,7 @@ pub fn plan(alloc: Global, show: &Show, edit: &Edit) -> Result<Plan, Refusal>
         Edit::DeletePart { cue, part } => cue_edits::delete_part(show, *cue, *part),
         Edit::Block { cue } => blocks::block(alloc, show, *cue),
         Edit::Unblock { cue } => blocks::unblock(alloc, show, *cue),
+        Edit::Asserted { cue, on } => cue_edits::assert(show, *cue, *on),
         Edit::Follow { cue, after } => cue_edits::follow(show, *cue, *after),
         Edit::Name { cue, label } => cue_edits::name(show, *cue, label),
         Edit::GroupMember {

@@ -1,3 +1,4 @@
 pub mod Pushed
 pub mod RunStacks
+pub mod Slopes
 pub mod Stacks

@@ -1,3 +1,4 @@
 pub mod Fades
 pub mod RunStack
 pub mod Row
+pub mod Slopes

@@ -4,10 +4,9 @@
 
 mod fade;
 pub mod laws;
+mod slope;
 mod stack;
 
 pub use fade::{Fade, value_at};
+pub use slope::{slope_of, value_by_slope};
 pub use stack::{push_fade, value};
-
-#[cfg(test)]
-mod tests;

@@ -1,5 +1,6 @@
 -- The step that adds a batch keeps the rule of the history.
-use Rattle.std.proofs.Common.{◌≡◌, ℕ, ◌+◌, ◌<◌, ◌==◌, ◌≢◌, Bool, true, false, List, [], ◌∷◌, ◌++◌, length, refl, ap, sym, ◌∙◌, subst, arith, inl, append_assoc, length-append, None, MatchBool}
+use Rattle.std.proofs.Common.{◌≡◌, ℕ, ◌+◌, ◌<◌, ◌==◌, ◌≢◌, Bool, true, false, List, [], ◌∷◌, ◌++◌, length, refl, ap, sym, ◌∙◌, subst, arith}
+use Rattle.std.proofs.Common.{inl, append_assoc, length-append, None, MatchBool}
 use Rattle.std.proofs.lemmas.List.{append-nil}
 use Rattle.std.proofs.lemmas.Bool.Decides.{nat_tests}
 use mathlib.Core.List.{IsPrefix}
@@ -26,13 +27,16 @@ shown log = []
 abbrev pub moved : List (List Command) → List (List Command) → ℕ → Type 0
 moved xs ys n = Unit {0}
 
-pub adds_goes : (log v : List (List Command)) (b : List Command) (old new : ℕ) → length (flat v) ≡ old → new ≡ old + length b → IsPrefix v log
+pub adds_goes : (log v : List (List Command)) (b : List Command) (old new : ℕ) → length (flat v) ≡ old → new ≡ old + length b
+    → IsPrefix v log
     → (t : Bool) → (length (flat log) == old) ≡ t
-    → Goes IsCounted shown moved 0 (v, (no_nib, None)) (λ n. either (n == old) new n) (Adds (step 0 old new b) (v, (no_nib, None))) ((length (flat log), true) ∷ (0, true) ∷ []) log
+    → Goes IsCounted shown moved 0 (v, (no_nib, None)) (λ n. either (n == old) new n) (Adds (step 0 old new b) (v, (no_nib, None)))
+    ((length (flat log), true) ∷ (0, true) ∷ []) log
 adds_goes log v b old new len more pre true is =
     let here : length (flat log) ≡ old = grind (arith, nat_tests) in
     let same : flat v ≡ flat log = prefix_whole (flat v) (flat log) (flat_prefix v log pre) (omega arith) in
-    let n : either (length (flat log) == old) new (length (flat log)) ≡ length (flat (log ++ b ∷ [])) = rw is (omega (arith, ap length (flat-snoc log b), length-append (flat log) b)) in (
+    let n : either (length (flat log) == old) new (length (flat log)) ≡ length (flat (log ++ b ∷ [])) =
+    rw is (omega (arith, ap length (flat-snoc log b), length-append (flat log) b)) in (
       keeps,
       b ∷ [],
       None,
@@ -43,7 +47,8 @@ adds_goes log v b old new len more pre true is =
     )
 adds_goes log v b old new len more pre false is =
     let all : log ++ [] ≡ log = append-nil log in
-    let n : either (length (flat log) == old) new (length (flat log)) ≡ length (flat (log ++ [])) = rw is (ap (λ w. length (flat w)) (sym all)) in (
+    let n : either (length (flat log) == old) new (length (flat log)) ≡ length (flat (log ++ [])) =
+    rw is (ap (λ w. length (flat w)) (sym all)) in (
       keeps,
       [],
       None,
@@ -57,7 +62,9 @@ adds_goes log v b old new len more pre false is =
 pub adds_moves : (v : List (List Command)) (b : List Command) (old new : ℕ) → length (flat v) ≡ old → new ≡ old + length b
     → Moves IsCounted shown moved 0 (v, (no_nib, None)) (λ n. either (n == old) new n) (Adds (step 0 old new b) (v, (no_nib, None)))
 adds_moves v b old new len more cs log kept pre away =
-    let P : List Cell → Type 0 = λ c. (0 < length c) × ((cell c 0).1 ≡ true) × Goes IsCounted shown moved 0 (v, (no_nib, None)) (λ n. either (n == old) new n) (Adds (step 0 old new b) (v, (no_nib, None))) c log in
+    let P : List Cell → Type 0 = λ c. (0 < length c) × ((cell c 0).1 ≡ true)
+    × Goes IsCounted shown moved 0 (v, (no_nib, None)) (λ n. either (n == old) new n) (Adds (step 0 old new b) (v, (no_nib, None))) c
+    log in
     subst P (sym kept.words) (omega arith, refl, adds_goes log v b old new len more pre (length (flat log) == old) refl)
 
 -- where the length found isn't the one expected, what is then seen is longer

@@ -1,5 +1,6 @@
 -- At the opening every slot is 0.
-use Rattle.std.proofs.Common.{◌≡◌, ℕ, zero, suc, ◌+◌, ◌-◌, ◌*◌, ◌/◌, ◌≤◌, max, Bool, false, cond, List, [], ◌∷◌, map, take, replicate, get_or, length, Some, None, refl, sym, ap, ◌∙◌, arith}
+use Rattle.std.proofs.Common.{◌≡◌, ℕ, zero, suc, ◌+◌, ◌-◌, ◌*◌, ◌/◌, ◌≤◌, max, Bool, false, cond, List, [], ◌∷◌, map, take, replicate}
+use Rattle.std.proofs.Common.{get_or, length, Some, None, refl, sym, ap, ◌∙◌, arith}
 use Rattle.std.specs.Prelude.{fold, nat_le}
 use Rattle.std.specs.List.{AllByRecursion}
 use Rattle.std.specs.Option.{option_map_or}
@@ -8,7 +9,7 @@ use Rattle.std.proofs.lemmas.Bool.Decides.{nat_tests}
 use Rattle.std.proofs.lemmas.List.{take-replicate, drop-replicate}
 use Rattle.std.proofs.lemmas.List.FromFn.{length-range_with_len}
 use Rattle.lx_base.specs.Numbers.{scaled}
-use Rattle.lx_base.specs.declared.TheConstants.{SUBS}
+use Rattle.lx_base.specs.declared.TheConstants.{SUBS, SLOTS}
 use Rattle.lx_spec.specs.declared.PatchRow.{PatchRow}
 use Rattle.lx_spec.specs.Show.{Show, Cue, Valid, ValidCue}
 use Rattle.lx_spec.specs.Run.{greatest}
@@ -41,11 +42,13 @@ scaled_from_zero : (y : ℕ) → scaled 0 y ≡ 0
 scaled_from_zero y = let e : 0 * y ≡ 0 = omega arith in ap (λ (n : ℕ). n / 255) e
 
 nothing_given : (show : Show) (c : ℕ) → contribution show (replicate SUBS 0) c ≡ 0
-nothing_given show c = greatest_zero _ show.subs (λ sub. ap (scaled (level_among sub.members c)) (get_zero SUBS (sub.number - 1)) ∙ scaled_zero (level_among sub.members c))
+nothing_given show c = greatest_zero _ show.subs
+    (λ sub. ap (scaled (level_among sub.members c)) (get_zero SUBS (sub.number - 1)) ∙ scaled_zero (level_among sub.members c))
 
 no_out : (show : Show) (c : ℕ) → Valid show → out (opened show) c ≡ 0
 no_out show c v =
-    ap (λ (n : ℕ). scaled (max n (contribution show (replicate SUBS 0) c)) 255) (tracked-along show 0 c ∙ dark_along c show.channels show.cues v.cues)
+    ap (λ (n : ℕ). scaled (max n (contribution show (replicate SUBS 0) c)) 255)
+    (tracked-along show 0 c ∙ dark_along c show.channels show.cues v.cues)
     ∙ (ap (λ (n : ℕ). scaled (max 0 n) 255) (nothing_given show c) ∙ scaled_from_zero 255)
 
 row_zero : (outs : ℕ → ℕ) (o : Option PatchRow) → ((c : ℕ) → outs c ≡ 0) → option_map_or (λ row. scaled (outs row.chan) row.level) o 0 ≡ 0
@@ -58,11 +61,13 @@ map_zero f (x ∷ xs) h = ap (λ (n : ℕ). n ∷ map f xs) (h x) ∙ ap (λ (ys
 
 dark_frame : (show : Show) (u : ℕ) → Valid show → frame (opened show) u ≡ replicate {A = ℕ} 512 0
 dark_frame show u v =
-    map_zero (dimmer_value show.patch (out (opened show))) (dimmers_of u) (λ e. row_zero (out (opened show)) (entry_at (λ row. row.dimmer) e show.patch) (λ c. no_out show c v))
+    map_zero (dimmer_value show.patch (out (opened show))) (dimmers_of u)
+    (λ e. row_zero (out (opened show)) (entry_at (λ row. row.dimmer) e show.patch) (λ c. no_out show c v))
     ∙ ap (λ (n : ℕ). replicate {A = ℕ} n 0) (length-range_with_len (512 * (u - 1) + 1) 512)
 
 -- the desk is dark at its opening
-pub dark : (show : Show) → Valid show → AreFramesOf show [] (replicate 8192 0)
+pub dark : (show : Show) → Valid show → AreFramesOf show [] (replicate SLOTS 0)
 unfolding AreFramesOf frame_after
 dark show v = λ u low high.
-    ap (λ (w : List ℕ). take 512 w) (drop-replicate {X = ℕ} (512 * (u - 1)) 8192 0) ∙ (take-replicate {X = ℕ} 512 (8192 - 512 * (u - 1)) 0 (omega (arith, low, high)) ∙ sym (dark_frame show u v))
+    ap (λ (w : List ℕ). take 512 w) (drop-replicate {X = ℕ} (512 * (u - 1)) SLOTS 0)
+    ∙ (take-replicate {X = ℕ} 512 (SLOTS - 512 * (u - 1)) 0 (omega (arith, low, high)) ∙ sym (dark_frame show u v))

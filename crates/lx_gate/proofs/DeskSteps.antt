@@ -1,5 +1,6 @@
 -- What a gate publishes of a console.
-use Rattle.std.proofs.Common.{◌≡◌, ℕ, ◌+◌, ◌-◌, ◌^◌, ◌<◌, ◌≤◌, List, [], ◌∷◌, ◌++◌, length, Result, Ok, Err, IsOkAnd, OnOk, OnErr, sym, ap, ◌∙◌, subst, arith, length-append, append-nil, append_assoc}
+use Rattle.std.proofs.Common.{◌≡◌, ℕ, ◌+◌, ◌-◌, ◌^◌, ◌<◌, ◌≤◌, List, [], ◌∷◌, ◌++◌, length, Result, Ok, Err, IsOkAnd, OnOk, OnErr, sym, ap}
+use Rattle.std.proofs.Common.{◌∙◌, subst, arith, length-append, append-nil, append_assoc}
 use Rattle.std.specs.Result.{result_unwrap_or}
 use Rattle.std.proofs.lemmas.Grind.{fold-append}
 use Rattle.lx_base.specs.declared.TheConstants.{UNIVERSES}
@@ -22,11 +23,13 @@ pub frames_are : (show : Show) (list : List Command) (console : Kept) (slots : L
 unfolding AreFramesOf frame_after
 frames_are show list console slots stands frames = λ u low high. frames (replay show list) u stands low high
 
-pub moment_is : (show : Show) (list : List Command) (console : Kept) → StandsFor (replay show list) console → console.playback.moment ≡ moment_after show list
+pub moment_is : (show : Show) (list : List Command) (console : Kept) → StandsFor (replay show list) console
+    → console.playback.moment ≡ moment_after show list
 unfolding moment_after
 moment_is show list console stands = ap (λ (k : Kept). k.playback.moment) stands.same
 
-next_stands : (d : Desk) (r : Result Desk Refusal) (console : Kept) → IsOkAnd r (λ next. StandsFor next console) → StandsFor (result_unwrap_or r d) console
+next_stands : (d : Desk) (r : Result Desk Refusal) (console : Kept) → IsOkAnd r (λ next. StandsFor next console)
+    → StandsFor (result_unwrap_or r d) console
 next_stands d (Ok next) console ok = ok
 next_stands d (Err refusal) console ok = absurd ok
 
@@ -38,17 +41,21 @@ stands_after show list command console ok =
     (next_stands (replay show list) (step (replay show list) command) console ok)
 
 -- an accepted command is unsent
-pub in_step_push : (show : Show) (gate : Published) (unsent : List Command) (command : Command) (before after : Kept) → IsInStep show gate unsent before
-    → length gate.published + (length unsent + 1) < 2 ^ 64 - 1 → IsOkAnd (step (replay show (gate.published ++ unsent)) command) (λ next. StandsFor next after)
+pub in_step_push : (show : Show) (gate : Published) (unsent : List Command) (command : Command) (before after : Kept)
+    → IsInStep show gate unsent before
+    → length gate.published + (length unsent + 1) < 2 ^ 64 - 1
+    → IsOkAnd (step (replay show (gate.published ++ unsent)) command) (λ next. StandsFor next after)
     → IsInStep show gate (unsent ++ command ∷ []) after
 in_step_push show gate unsent command before after h few ok = record {
-  stands = subst (λ (l : List Command). StandsFor (replay show l) after) (append_assoc gate.published unsent (command ∷ [])) (stands_after show (gate.published ++ unsent) command after ok);
+  stands = subst (λ (l : List Command). StandsFor (replay show l) after) (append_assoc gate.published unsent (command ∷ []))
+      (stands_after show (gate.published ++ unsent) command after ok);
   few = omega (arith, few, length-append unsent (command ∷ []));
   entered = entered_push gate unsent command h.entered;
 }
 
 -- published or not, the commands are the same ones
-pub in_step_over : (show : Show) (gate gate' : Published) (unsent unsent' : List Command) (console : Kept) → IsInStep show gate unsent console
+pub in_step_over : (show : Show) (gate gate' : Published) (unsent unsent' : List Command) (console : Kept)
+    → IsInStep show gate unsent console
     → gate'.published ++ unsent' ≡ gate.published ++ unsent → IsEntered gate' unsent' → IsInStep show gate' unsent' console
 in_step_over show gate gate' unsent unsent' console h same entered = record {
   stands = subst (λ (l : List Command). StandsFor (replay show l) console) (sym same) h.stands;
@@ -62,6 +69,7 @@ sent_none_same gate gate' unsent unsent' h = ap (λ l. l ++ unsent') h.0 ∙ ap 
 
 -- whatever the answer, the same commands are published and unsent
 pub answered_same : {A E : Type 0} (answer : Result A E) (gate gate' : Published) (unsent unsent' : List Command)
-    → OnOk answer (HasSent gate unsent gate' unsent') → OnErr answer (HasSentNone gate unsent gate' unsent') → gate'.published ++ unsent' ≡ gate.published ++ unsent
+    → OnOk answer (HasSent gate unsent gate' unsent') → OnErr answer (HasSentNone gate unsent gate' unsent')
+    → gate'.published ++ unsent' ≡ gate.published ++ unsent
 answered_same (Ok a) gate gate' unsent unsent' ok err = ap (λ l. gate'.published ++ l) ok.1 ∙ (append-nil gate'.published ∙ ok.0)
 answered_same (Err e) gate gate' unsent unsent' ok err = sent_none_same gate gate' unsent unsent' err

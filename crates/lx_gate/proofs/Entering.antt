@@ -18,14 +18,17 @@ pub entered_whole : (g : Published) (unsent : List Command) → IsEntered g unse
 entered_whole g unsent h =
     let b = h.begins.0 in
     let r = h.rest.0 in
-    let tail : b ++ r ≡ unsent = append_cancel g.published (b ++ r) unsent (sym (append_assoc g.published b r) ∙ (ap (λ w. w ++ r) h.begins.1 ∙ h.rest.1)) in
+    let tail : b ++ r ≡ unsent = append_cancel g.published (b ++ r) unsent
+    (sym (append_assoc g.published b r) ∙ (ap (λ w. w ++ r) h.begins.1 ∙ h.rest.1)) in
     let n : length g.entered - length g.published ≡ length b = omega (arith, sym (ap length h.begins.1) ∙ length-append g.published b) in
-    let rest : drop (length g.entered - length g.published) unsent ≡ r = ap (λ k. drop k unsent) n ∙ (ap (drop (length b)) (sym tail) ∙ drop_append b r) in
+    let rest : drop (length g.entered - length g.published) unsent ≡ r = ap (λ k. drop k unsent) n
+    ∙ (ap (drop (length b)) (sym tail) ∙ drop_append b r) in
     ap (λ w. g.entered ++ w) rest ∙ h.rest.1
 
 -- so many of the unsent commands the history has
 pub entered_known : (g : Published) (unsent : List Command) → IsEntered g unsent → length g.entered - length g.published ≤ length unsent
-entered_known g unsent h = let e = prefix_length g.entered (g.published ++ unsent) h.rest in let f = length-append g.published unsent in omega arith
+entered_known g unsent h = let e = prefix_length g.entered (g.published ++ unsent) h.rest in let f =
+    length-append g.published unsent in omega arith
 
 -- the history has them all, and none are published
 pub entered_all : (p u e : List Command) → e ≡ p ++ u → IsEntered (record { published = p; entered = e }) u
@@ -39,5 +42,9 @@ entered_none p e is = record { begins = ([], append-nil p ∙ sym is); rest = ([
 pub entered_push : (g : Published) (unsent : List Command) (c : Command) → IsEntered g unsent → IsEntered g (unsent ++ c ∷ [])
 entered_push g unsent c h = record {
   begins = h.begins;
-  rest = (h.rest.0 ++ c ∷ [], sym (append_assoc g.entered h.rest.0 (c ∷ [])) ∙ (ap (λ w. w ++ c ∷ []) h.rest.1 ∙ append_assoc g.published unsent (c ∷ [])));
+  rest = (
+    h.rest.0 ++ c ∷ [],
+    sym (append_assoc g.entered h.rest.0 (c ∷ []))
+        ∙ (ap (λ w. w ++ c ∷ []) h.rest.1 ∙ append_assoc g.published unsent (c ∷ [])),
+  );
 }

@@ -1,5 +1,7 @@
 -- The opening of a gate.
-use Rattle.std.proofs.Common.{◌≡◌, ℕ, zero, suc, ◌-◌, ◌*◌, ◌≤◌, List, [], ◌∷◌, ◌++◌, length, take, drop, replicate, refl, sym, ap, ◌∙◌, subst, arith}
+use Rattle.std.proofs.Common.{◌≡◌, ℕ, zero, suc, ◌-◌, ◌*◌, ◌≤◌, List, [], ◌∷◌, ◌++◌, length, take, drop, replicate, refl, sym, ap, ◌∙◌}
+use Rattle.std.proofs.Common.{subst, arith}
+use Rattle.lx_base.specs.declared.TheConstants.{SLOTS, UNIVERSES}
 use Rattle.lx_spec.specs.Show.{Show}
 use Rattle.lx_gate.specs.Frames.{AreFramesOf, moment_after, IsVersion, IsFrame}
 use Rattle.lx_spec.specs.declared.Command.{Command}
@@ -9,17 +11,20 @@ use Rattle.std.specs.List.{slice_range}
 use Rattle.lx_gate.specs.Places.{EachAt}
 use Rattle.lx_gate.specs.Readings.{nothing_told}
 
-pub each_snoc : {A : Type 0} (P : ℕ → A → Type 0) (xs : List A) (x : A) (n : ℕ) → EachAt P xs → n ≡ length xs → P n x → EachAt P (xs ++ x ∷ [])
+pub each_snoc : {A : Type 0} (P : ℕ → A → Type 0) (xs : List A) (x : A) (n : ℕ) → EachAt P xs → n ≡ length xs → P n x
+    → EachAt P (xs ++ x ∷ [])
 each_snoc P [] x n h e p zero y is = let same : x ≡ y = cc in subst (λ z. P zero z) same (subst (λ k. P k x) e p)
 each_snoc P [] x n h e p (suc k) y is = absurd cc
 each_snoc P (z ∷ xs) x n h e p zero y is = h zero y is
 each_snoc P (z ∷ xs) x n h e p (suc k) y is =
-    each_snoc (λ i. P (suc i)) xs x (length xs) (λ i w q. h (suc i) w q) refl (subst (λ i. P i x) (let t : n ≡ suc (length xs) = omega (arith, e) in t) p) k y is
+    each_snoc (λ i. P (suc i)) xs x (length xs) (λ i w q. h (suc i) w q) refl
+    (subst (λ i. P i x) (let t : n ≡ suc (length xs) = omega (arith, e) in t) p) k y is
 
 range_replicate : (a b n : ℕ) → a ≤ b → b ≤ n → slice_range {X = ℕ} (replicate n 0) a b ≡ replicate (b - a) 0
-range_replicate a b n low high = ap (λ (w : List ℕ). take (b - a) w) (drop-replicate {X = ℕ} a n 0) ∙ take-replicate {X = ℕ} (b - a) (n - a) 0 (omega arith)
+range_replicate a b n low high = ap (λ (w : List ℕ). take (b - a) w) (drop-replicate {X = ℕ} a n 0)
+    ∙ take-replicate {X = ℕ} (b - a) (n - a) 0 (omega arith)
 
-pub first_is : (show : Show) → AreFramesOf show [] (replicate 8192 0) → IsVersion show [] (replicate 8192 0) 0 0
+pub first_is : (show : Show) → AreFramesOf show [] (replicate SLOTS 0) → IsVersion show [] (replicate SLOTS 0) 0 0
 unfolding moment_after
 first_is show dark = record { slots_are = dark; count_is = refl; moment_is = refl }
 
@@ -31,22 +36,30 @@ pub range_is : (u : ℕ) (slots : List ℕ) → 1 ≤ u → slice_range {X = ℕ
 range_is u slots low = ap (λ (n : ℕ). take n (drop (512 * (u - 1)) slots)) (wide u low)
 
 -- the slots of one universe of a version
-pub frame_of_version : (show : Show) (list : List Command) (u : ℕ) (slots : List ℕ) (count moment : ℕ) → 1 ≤ u → u ≤ 16 → IsVersion show list slots count moment
+pub frame_of_version : (show : Show) (list : List Command) (u : ℕ) (slots : List ℕ) (count moment : ℕ) → 1 ≤ u → u ≤ UNIVERSES
+    → IsVersion show list slots count moment
     → IsFrame show list u (slice_range {X = ℕ} slots (512 * (u - 1)) (512 * u)) (record { count = count; moment = moment })
 unfolding AreFramesOf
-frame_of_version show list u slots count moment low high v = record { slots_are = range_is u slots low ∙ v.slots_are u low high; count_is = v.count_is; moment_is = v.moment_is }
+frame_of_version show list u slots count moment low high v =
+    record { slots_are = range_is u slots low ∙ v.slots_are u low high; count_is = v.count_is; moment_is = v.moment_is }
 
-pub first_frame : (show : Show) (u : ℕ) → 1 ≤ u → u ≤ 16 → AreFramesOf show [] (replicate 8192 0) → IsFrame show [] u (replicate 512 0) (record { count = 0; moment = 0 })
+pub first_frame : (show : Show) (u : ℕ) → 1 ≤ u → u ≤ UNIVERSES → AreFramesOf show [] (replicate SLOTS 0)
+    → IsFrame show [] u (replicate 512 0) (record { count = 0; moment = 0 })
 unfolding AreFramesOf moment_after
 first_frame show u low high dark =
-    let all : slice_range {X = ℕ} (replicate 8192 0) (512 * (u - 1)) (512 * u) ≡ replicate (512 * u - 512 * (u - 1)) 0 = range_replicate (512 * (u - 1)) (512 * u) 8192 (omega arith) (omega arith) in
-    let mine : replicate {A = ℕ} 512 0 ≡ universe_in u (replicate 8192 0) = sym (sym (range_is u (replicate 8192 0) low) ∙ (all ∙ ap (λ (n : ℕ). replicate {A = ℕ} n 0) (wide u low))) in
+    let all : slice_range {X = ℕ} (replicate SLOTS 0) (512 * (u - 1)) (512 * u) ≡ replicate (512 * u - 512 * (u - 1)) 0 =
+    range_replicate (512 * (u - 1)) (512 * u) SLOTS (omega arith) (omega arith) in
+    let mine : replicate {A = ℕ} 512 0 ≡ universe_in u (replicate SLOTS 0) =
+    sym (sym (range_is u (replicate SLOTS 0) low) ∙ (all ∙ ap (λ (n : ℕ). replicate {A = ℕ} n 0) (wide u low))) in
     record { slots_are = mine ∙ dark u low high; count_is = refl; moment_is = refl }
 
 -- the same, from a place that is named otherwise
-pub frame_from : (show : Show) (list : List Command) (u from : ℕ) (slots : List ℕ) (count moment : ℕ) → 1 ≤ u → u ≤ 16 → from ≡ 512 * (u - 1) → IsVersion show list slots count moment
+pub frame_from : (show : Show) (list : List Command) (u from : ℕ) (slots : List ℕ) (count moment : ℕ) → 1 ≤ u → u ≤ UNIVERSES
+    → from ≡ 512 * (u - 1) → IsVersion show list slots count moment
     → IsFrame show list u (slice_range {X = ℕ} slots from (512 * u)) (record { count = count; moment = moment })
-frame_from show list u from slots count moment low high is v = subst (λ (n : ℕ). IsFrame show list u (slice_range {X = ℕ} slots n (512 * u)) (record { count = count; moment = moment })) (sym is) (frame_of_version show list u slots count moment low high v)
+frame_from show list u from slots count moment low high is v =
+    subst (λ (n : ℕ). IsFrame show list u (slice_range {X = ℕ} slots n (512 * u)) (record { count = count; moment = moment })) (sym is)
+    (frame_of_version show list u slots count moment low high v)
 
 -- what is told of a tap that has taken and learnt nothing
 pub new_tap : (u : ℕ) (seen learnt : List Command) (reads misses : ℕ) → seen ≡ [] → learnt ≡ [] → reads ≡ 0 → misses ≡ 0

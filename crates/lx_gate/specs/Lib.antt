@@ -2,7 +2,6 @@
 pub mod CommandLists
 pub mod Histories
 pub mod Frames
-pub mod Commits
 pub mod Readings
 pub mod Notes
 pub mod Gates

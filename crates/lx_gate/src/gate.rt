@@ -1,17 +1,17 @@
 //! The gate: it publishes versions, and ends by `close`.
 ghost use Rattle.std.specs.Prelude.{◌≡◌, ◌+◌, ◌-◌, ◌<◌, ◌≤◌, ◌^◌, ◌++◌, List, [], length, IsSomeAnd, IfOk, OnOk, OnErr, drop};
+ghost use Rattle.lx_base.specs.declared.TheConstants.{SLOTS};
 ghost use Rattle.lx_spec.specs.declared.Command.{Command};
 ghost use Rattle.lx_spec.specs.Show.{Show};
-ghost use Rattle.lx_gate.specs.Commits.{changed};
 ghost use Rattle.lx_gate.specs.Frames.{AreFramesOf, moment_after, IsVersion};
 ghost use Rattle.lx_gate.specs.Gates.{IsAtRest, IsEntered, StillRests, HasSent, HasSentNone};
 ghost use Rattle.lx_gate.specs.Notes.{IsNoteOf, list_of};
 
-use crate::{Change, Commit, GateRule, History, Note, Origin, Prefix, Shows, Unsent, Version};
+use crate::{Commit, GateRule, History, Note, Origin, Prefix, Shows, Unsent, Version};
 use left_right::writer::Writer;
-use lx_base::next_change;
+use lx_base::SLOTS;
 use lx_spec::Command;
-use std::alloc::{AllocError, Global};
+use std::alloc::AllocError;
 use std::marker::Model;
 use std::sync::Wait;
 
@@ -35,7 +35,6 @@ pub struct Gate<G: Origin, W: Window> {
     pub(crate) history: History<G>,
     pub(crate) entered: Prefix<G>,
     pub(crate) published: Prefix<G>,
-    pub(crate) alloc: Global,
 }
 
 impl<G: Origin, W: Window> Model for Gate<G, W> {
@@ -60,7 +59,7 @@ impl<G: Origin> Gate<G, GateWriter<G>> {
         moment: u32,
     ) -> Result<(), AllocError>
         requires entered { IsEntered self.old unsent.old.commands.items }
-        requires slots { length frames.now ≡ 8192 }
+        requires slots { length frames.now ≡ SLOTS }
         requires frames { AreFramesOf G.show (self.old.published ++ unsent.old.commands.items) frames.now }
         requires moment { moment ≡ moment_after G.show (self.old.published ++ unsent.old.commands.items) }
         requires room { length self.old.published + length unsent.old.commands.items < 2 ^ 64 - 1 }
@@ -68,14 +67,10 @@ impl<G: Origin> Gate<G, GateWriter<G>> {
         ensures ok { OnOk result (HasSent self.old unsent.old.commands.items self.new unsent.new.commands.items) }
         ensures err { OnErr result (HasSentNone self.old unsent.old.commands.items self.new unsent.new.commands.items) }
     {
-        let Some(writer) = &self.writer else {
-            unreachable!()
-        };
-        let changes = changes_of(self.alloc, &writer.published().slots, frames)?;
         let entered = self.enter(unsent)?;
         self.entered = entered.again();
         let commit = Commit {
-            changes,
+            slots: slots_of(frames),
             list: entered.again(),
             moment,
         };
@@ -131,7 +126,6 @@ impl<G: Origin> Gate<G, GateWriter<G>> {
             history: _history,
             entered: _entered,
             published: _published,
-            alloc: _,
         } = self;
         if let Some(writer) = writer {
             let _version = writer.take(rt);
@@ -154,7 +148,7 @@ fn send<G: Origin, R: Wait>(
     commit: Commit<G>,
 ) -> Result<(), AllocError>
     requires rest { IsSomeAnd writer.old (λ w. drop w.behind w.log.items ≡ []) }
-    requires slots { IsSomeAnd writer.old (λ w. AreFramesOf G.show commit.list (changed w.desk.shown.value.slots commit.changes.items)) }
+    requires slots { AreFramesOf G.show commit.list commit.slots }
     requires moment { commit.moment ≡ moment_after G.show commit.list }
     ensures ok { OnOk result (IsSomeAnd writer.new (λ w. ⟦<GateWriter<G> as Window>⟧.rests w G.show commit.list)) }
     ensures err { OnErr result (StillRests ⟦<GateWriter<G> as Window>⟧.rests G.show writer.old writer.new) }
@@ -172,19 +166,12 @@ fn send<G: Origin, R: Wait>(
     }
 }
 
-/// The slots in which two lists of slots differ, with the values of the second.
-fn changes_of(alloc: Global, slots: &[u8; 8192], frames: &[u8]) -> Result<Vec<Change>, AllocError>
-    requires { length frames.now ≡ 8192 }
-    ensures { IfOk result (λ changes. changed slots.now changes.items ≡ frames.now) }
+/// The slots of all universes.
+fn slots_of(frames: &[u8]) -> [u8; SLOTS]
+    requires { length frames.now ≡ SLOTS }
+    ensures { result ≡ frames.now }
 {
-    let mut changes = Vec::new(alloc);
-    let mut from = 0;
-    while let Some(at) = next_change(slots, frames, from) {
-        changes.push(Change {
-            slot: at as u16,
-            value: frames[at],
-        })?;
-        from = at + 1;
-    }
-    Ok(changes)
+    let mut slots = [0; SLOTS];
+    slots.copy_from_slice(frames);
+    slots
 }

@@ -12,8 +12,6 @@ mod senders;
 mod stamp;
 mod start;
 mod tap;
-#[cfg(test)]
-mod tests;
 mod unsent;
 mod version;
 
@@ -26,4 +24,4 @@ pub use rule::{GateRule, Shows};
 pub use stamp::Stamp;
 pub use tap::Tap;
 pub use unsent::Unsent;
-pub use version::{Change, Commit, Version};
+pub use version::{Commit, Version};

@@ -2,11 +2,12 @@
 use crate::history::{Batch, Law};
 use crate::{Origin, Prefix};
 use logbook::Seen;
+use lx_base::SLOTS;
 
 /// A version that a gate published, to be learnt by a tap. Only `Gate::note` makes one.
 #[derive(Drop)]
 pub struct Note {
-    pub(crate) slots: [u8; 8192],
+    pub(crate) slots: [u8; SLOTS],
     pub(crate) count: u64,
     pub(crate) moment: u32,
     pub(crate) seen: Seen<Batch, u64, Law>,

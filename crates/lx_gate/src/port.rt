@@ -1,5 +1,6 @@
 //! What a tap reads from.
 ghost use Rattle.std.specs.Prelude.{◌≡◌, ◌≤◌, ◌-◌, ◌*◌, ◌⊎◌, ℕ, List, None, IfSome, MatchOption, slice_range, [], IsTrue};
+ghost use Rattle.lx_base.specs.declared.TheConstants.{UNIVERSES};
 ghost use mathlib.Core.List.{IsPrefix};
 ghost use Rattle.lx_io.specs.Causes.{Rose};
 ghost use Rattle.lx_spec.specs.declared.Command.{Command};
@@ -27,7 +28,7 @@ pub trait Port {
     /// Gives the slots of a universe and the stamp, wholly of one version. None is a miss: `out` is as before.
     fn read(&mut self, universe: u8, out: &mut [u8; 512]) -> Option<Stamp>
         requires low { 1 ≤ universe }
-        requires high { universe ≤ 16 }
+        requires high { universe ≤ UNIVERSES }
         ensures some { IfSome result (λ stamp. IsReading show universe (told self.old) (told self.new) out.new stamp) }
         ensures none { result ≡ None → HasMissed (told self.old) (told self.new) }
         ensures kept { result ≡ None → out.new ≡ out.old }
@@ -125,7 +126,7 @@ fn copy_later<G: Origin>(
     out: &mut [u8; 512],
 ) -> Option<Stamp>
     requires low { 1 ≤ universe }
-    requires high { universe ≤ 16 }
+    requires high { universe ≤ UNIVERSES }
     requires version { IsVersion G.show version.now.list version.now.slots version.now.count version.now.moment }
     ensures none { result ≡ None → out.new ≡ out.old }
     ensures frame { IfSome result (λ stamp. IsFrame G.show version.now.list universe out.new stamp) }
@@ -141,7 +142,7 @@ fn copy_later<G: Origin>(
 /// Copies the slots of a universe.
 fn copy_slots<G: Origin>(version: &Version<G>, universe: u8, out: &mut [u8; 512]) -> Stamp
     requires low { 1 ≤ universe }
-    requires high { universe ≤ 16 }
+    requires high { universe ≤ UNIVERSES }
     ensures slots { out.new ≡ slice_range version.now.slots (512 * (universe - 1)) (512 * universe) }
     ensures stamp { (result.count ≡ version.now.count) × (result.moment ≡ version.now.moment) }
 {

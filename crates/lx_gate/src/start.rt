@@ -1,5 +1,6 @@
 //! The start of a gate.
 ghost use Rattle.std.specs.Prelude.{◌≡◌, ◌+◌, ◌≤◌, [], replicate, IfOk, vec_len, vec_capacity};
+ghost use Rattle.lx_base.specs.declared.TheConstants.{SLOTS, UNIVERSES};
 ghost use Rattle.lx_spec.specs.Show.{Valid};
 ghost use Rattle.lx_gate.specs.Gates.{Published};
 ghost use Rattle.lx_gate.specs.Places.{EachAt};
@@ -7,6 +8,7 @@ ghost use Rattle.lx_gate.specs.Readings.{IsNewTap};
 
 use crate::{EmptyHistory, Gate, GatePort, GateWriter, LrPort, Origin, Prefix, Tap, Version};
 use left_right::writer::Writer;
+use lx_base::SLOTS;
 use lx_show::Show;
 use std::alloc::{AllocError, Global};
 
@@ -20,7 +22,7 @@ impl<G: Origin> Gate<G, GateWriter<G>> {
         history: EmptyHistory,
     ) -> Result<(Gate<G, GateWriter<G>>, Vec<Tap<GatePort<G>>>), AllocError>
         requires low { 1 ≤ universes }
-        requires high { universes ≤ 16 }
+        requires high { universes ≤ UNIVERSES }
         requires show { show.now ≡ G.show }
         requires book { history.seen.book ≡ G.book }
         ensures gate { IfOk result (λ r. r.0 ≡ record { published = []; entered = [] }) }
@@ -42,7 +44,6 @@ impl<G: Origin> Gate<G, GateWriter<G>> {
             history,
             entered: none.again(),
             published: none,
-            alloc,
         };
         Ok((gate, taps))
     }
@@ -50,10 +51,10 @@ impl<G: Origin> Gate<G, GateWriter<G>> {
 
 /// The version of the empty list.
 fn first_version<G: Origin>(list: Prefix<G>) -> Version<G>
-    ensures { result ≡ record { slots = replicate 8192 0; list = list; count = 0; moment = 0 } }
+    ensures { result ≡ record { slots = replicate SLOTS 0; list = list; count = 0; moment = 0 } }
 {
     Version {
-        slots: [0; 8192],
+        slots: [0; SLOTS],
         list,
         count: 0,
         moment: 0,
@@ -67,7 +68,7 @@ fn fill<G: Origin>(
     taps: &mut Vec<Tap<GatePort<G>>>,
     universes: u8,
 )
-    requires high { universes ≤ 16 }
+    requires high { universes ≤ UNIVERSES }
     requires valid { Valid G.show }
     requires none { none.now ≡ [] }
     requires empty { taps.old.items ≡ [] }

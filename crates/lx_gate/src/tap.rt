@@ -1,5 +1,6 @@
 //! A tap: the slots of one universe, of a version that is never older than what it had.
 ghost use Rattle.std.specs.Prelude.{◌≡◌, ◌≤◌, ◌-◌, ◌*◌, ◌⊎◌, List, [], replicate, slice_range};
+ghost use Rattle.lx_base.specs.declared.TheConstants.{UNIVERSES};
 ghost use mathlib.Core.List.{IsPrefix};
 ghost use Rattle.lx_gate.specs.CommandLists.{IsChained};
 ghost use Rattle.lx_gate.specs.Frames.{IsFrame};
@@ -20,6 +21,7 @@ pub struct Tap<P: Port> {
 
 impl<P: Port> Model for Tap<P> {
     ghost use Rattle.std.specs.Prelude.{◌≤◌};
+    ghost use Rattle.lx_base.specs.declared.TheConstants.{UNIVERSES};
     ghost use Rattle.lx_gate.specs.Frames.{IsFrame};
     ghost use Rattle.lx_gate.specs.Readings.{Tapped, newest};
 
@@ -27,7 +29,7 @@ impl<P: Port> Model for Tap<P> {
 
     ghost view = { λ t. record { universe = t.universe; told = P.told t.port } };
 
-    ghost invariant = { λ t. (1 ≤ t.universe) × (t.universe ≤ 16)
+    ghost invariant = { λ t. (1 ≤ t.universe) × (t.universe ≤ UNIVERSES)
         × IsFrame P.show (newest (P.told t.port)) t.universe t.slots t.stamp };
 }
 
@@ -35,7 +37,7 @@ impl<P: Port> Tap<P> {
     /// A tap that has taken and learnt nothing.
     pub fn new(port: P, universe: u8) -> Tap<P>
         requires low { 1 ≤ universe }
-        requires high { universe ≤ 16 }
+        requires high { universe ≤ UNIVERSES }
         requires told { P.told port ≡ record { seen = []; learnt = []; reads = 0; misses = 0 } }
         requires opening { IsFrame P.show [] universe (replicate 512 0) (record { count = 0; moment = 0 }) }
         ensures { result ≡ record { universe = universe; told = P.told port } }
@@ -51,11 +53,11 @@ impl<P: Port> Tap<P> {
         }
     }
 
-    /// The universe, from 1 to 16.
+    /// The universe, from 1 to `UNIVERSES`.
     pub fn universe(&self) -> u8
         ensures value { result ≡ self.now.universe }
         ensures low { 1 ≤ result }
-        ensures high { result ≤ 16 }
+        ensures high { result ≤ UNIVERSES }
     {
         self.universe
     }
@@ -97,7 +99,7 @@ impl<P: Port> Tap<P> {
 /// The slots and the stamp of a note, where its list is longer than that of the slots and the stamp that are kept.
 fn keep_later(note: &Note, universe: u8, stamp: Stamp, slots: &mut [u8; 512]) -> Stamp
     requires low { 1 ≤ universe }
-    requires high { universe ≤ 16 }
+    requires high { universe ≤ UNIVERSES }
     ensures { KeepsLater note.now universe slots.old stamp slots.new result }
 {
     if stamp.count < note.count {

@@ -15,7 +15,9 @@
 --     returns-in_err-f g c = Puts-stops _ c.in_err-f.ensures c.from_residual.ensures
 --     returns-in_err-h g c = Puts-then c.in_ok-f.ensures (Puts-stops _ c.in_err-h.ensures c.from_residual-in_err-h.ensures)
 --     returns g c = Puts-is (Puts-then (Puts-then c.in_ok-f.ensures c.in_ok-h.ensures) c.k.ensures) (simp append_assoc)
-use Rattle.std.proofs.Common.{◌≡◌, ℕ, ◌+◌, ◌-◌, ◌<◌, ◌≤◌, List, [], ◌∷◌, ◌++◌, length, take, drop, get_or, Result, Ok, Err, Some, None, refl, sym, ap, ◌∙◌, append_assoc, append-nil, arith, length-append, length-take, add-one, drop-cons, take-append-drop}
+use Rattle.std.proofs.Common.{◌≡◌, ℕ, ◌+◌, ◌-◌, ◌<◌, ◌≤◌, List, [], ◌∷◌, ◌++◌, length, take, drop, get_or, Result, Ok, Err, Some, None}
+use Rattle.std.proofs.Common.{refl, sym, ap, ◌∙◌, append_assoc, append-nil, arith, length-append, length-take, add-one, drop-cons}
+use Rattle.std.proofs.Common.{take-append-drop}
 use Rattle.std.specs.Prelude.{Bool, flat_map, filter}
 use Rattle.std.proofs.lemmas.List.Elements.{filter-append}
 use Rattle.std.specs.Result.{IsErr, IsErrAnd}
@@ -40,7 +42,8 @@ append_from_left xs ys zs = sym (append_assoc xs ys zs)
 pub append_one : (xs : List ℕ) (y : ℕ) (ys : List ℕ) → xs ++ (y ∷ ys) ≡ (xs ++ y ∷ []) ++ ys
 append_one xs y ys = sym (append_assoc xs (y ∷ []) ys)
 
--- a text with a piece for each element, split at an element. `grind` takes a lemma up at the first call of its conclusion that shows all its variables: hence the first part
+-- a text with a piece for each element, split at an element. `grind` takes a lemma up at the first call of its conclusion that
+-- shows all its variables: hence the first part
 pub flat_map_split : {X : Type 0} (f : X → List ℕ) (xs : List X) (i : ℕ)
     → (flat_map f (take i xs) ≡ flat_map f (take i xs)) × (flat_map f xs ≡ flat_map f (take i xs) ++ flat_map f (drop i xs))
 flat_map_split f xs i = (refl, ap (flat_map f) (sym (take-append-drop i xs)) ∙ flat_map-append f (take i xs) (drop i xs))
@@ -54,14 +57,26 @@ pub drop_here : {X : Type 0} (xs : List X) (i : ℕ) (d : X) → i < length xs
 drop_here xs i d within = (refl, rw add-one (drop-cons xs i d within))
 
 -- what a row of calls needs
-pub ruleset puts = (front_along, append_from_left, append_one, append-nil, length-append, flat_map-append, flat_map_split, filter_split, drop_here)
+pub ruleset puts = (
+  front_along,
+  append_from_left,
+  append_one,
+  append-nil,
+  length-append,
+  flat_map-append,
+  flat_map_split,
+  filter_split,
+  drop_here,
+)
 
 -- the empty text needs no call
-pub Puts-nothing : {S T : Type 0} (holds : S → Option (List ℕ)) (faults wants : S → ℕ) (s : S) (t : T) → Puts holds faults wants s s (Ok t) []
+pub Puts-nothing : {S T : Type 0} (holds : S → Option (List ℕ)) (faults wants : S → ℕ) (s : S) (t : T)
+    → Puts holds faults wants s s (Ok t) []
 Puts-nothing holds faults wants s t = grind (arith, puts)
 
 -- a text was put, and then another one
-pub Puts-then : {S T U : Type 0} {holds : S → Option (List ℕ)} {faults wants : S → ℕ} {a b c : S} {t : T} {r : Result U SinkFault} {xs ys : List ℕ}
+pub Puts-then : {S T U : Type 0} {holds : S → Option (List ℕ)} {faults wants : S → ℕ} {a b c : S} {t : T} {r : Result U SinkFault}
+    {xs ys : List ℕ}
     → Puts holds faults wants a b (Ok t) xs → Puts holds faults wants b c r ys → Puts holds faults wants a c r (xs ++ ys)
 Puts-then p q = grind (arith, puts)
 
@@ -71,7 +86,8 @@ pub Puts-fails : {S T U : Type 0} {holds : S → Option (List ℕ)} {faults want
 Puts-fails ys p = grind (arith, puts)
 
 -- the same, where the fault goes through a `?`
-pub Puts-stops : {S T U : Type 0} {holds : S → Option (List ℕ)} {faults wants : S → ℕ} {a b : S} {e : SinkFault} {r : Result U SinkFault} {xs : List ℕ} (ys : List ℕ)
+pub Puts-stops : {S T U : Type 0} {holds : S → Option (List ℕ)} {faults wants : S → ℕ} {a b : S} {e : SinkFault} {r : Result U SinkFault}
+    {xs : List ℕ} (ys : List ℕ)
     → Puts {T = T} holds faults wants a b (Err e) xs → IsErr r × IsErrAnd r (λ y. y ≡ e) → Puts {T = U} holds faults wants a b r (xs ++ ys)
 Puts-stops ys p is = grind (arith, puts)
 
@@ -98,7 +114,8 @@ pub AppendsFront-from : (old new : Option (List ℕ)) (text : List ℕ) (n : ℕ
 AppendsFront-from None new text n p = tt
 AppendsFront-from (Some xs) None text n p = absurd p
 AppendsFront-from (Some xs) (Some ys) text n p =
-    let all : xs ++ text ≡ ys ++ drop n text = ap (λ v. xs ++ v) (sym (take-append-drop n text)) ∙ sym (append_assoc xs (take n text) (drop n text)) ∙ ap (λ v. v ++ drop n text) (sym p) in (
+    let all : xs ++ text ≡ ys ++ drop n text = ap (λ v. xs ++ v) (sym (take-append-drop n text))
+    ∙ sym (append_assoc xs (take n text) (drop n text)) ∙ ap (λ v. v ++ drop n text) (sym p) in (
       omega (arith, ap length p, length-append xs (take n text)),
       ap (take (length ys)) all ∙ take-append-le (length ys) ys (drop n text) (omega arith) ∙ take_all (length ys) ys (omega arith),
     )

@@ -1,5 +1,6 @@
 -- A run that is added to levels which stood for the playback before it.
-use Rattle.std.specs.Prelude.{◌≡◌, ℕ, ◌+◌, ◌-◌, ◌*◌, ◌/◌, ◌<◌, ◌≤◌, nat_lt, nat_le, Bool, true, false, cond, Some, List, [], ◌∷◌, length, reverse, refl}
+use Rattle.std.specs.Prelude.{◌≡◌, ℕ, ◌+◌, ◌-◌, ◌*◌, ◌/◌, ◌<◌, ◌≤◌, nat_lt, nat_le, Bool, true, false, cond, Some, List, [], ◌∷◌, length}
+use Rattle.std.specs.Prelude.{reverse, refl}
 use Rattle.std.proofs.lemmas.List.{get_or-reverse, length-reverse}
 use Rattle.std.proofs.Common.{arith, get_or, ◌∙◌, ap, sym, subst, inl, inr}
 use Rattle.std.proofs.lemmas.Bool.{cases_eq}
@@ -21,11 +22,14 @@ heads : {A : Type 0} (x y : A) (xs ys : List A) → x ∷ xs ≡ y ∷ ys → x 
 heads x y xs ys same = cc
 
 -- the run that starts now is the last one
-pub starts_now : (show : Show) (p : Playback) (kept : Kept) (last : Run) (older : List Run) → StandsBefore show p kept → p.live ≡ last ∷ older → last.start ≡ p.moment
-starts_now show p kept last older before is = ap (λ (r : Run). r.start) (heads last before.last older before.older (sym is ∙ before.live_is)) ∙ before.now
+pub starts_now : (show : Show) (p : Playback) (kept : Kept) (last : Run) (older : List Run) → StandsBefore show p kept
+    → p.live ≡ last ∷ older → last.start ≡ p.moment
+starts_now show p kept last older before is =
+    ap (λ (r : Run). r.start) (heads last before.last older before.older (sym is ∙ before.live_is)) ∙ before.now
 
 -- none is added yet
-pub none_added : (show : Show) (p : Playback) (kept : Kept) (last : Run) (older : List Run) → StandsBefore show p kept → p.live ≡ last ∷ older → IsAdded show p older 0 kept
+pub none_added : (show : Show) (p : Playback) (kept : Kept) (last : Run) (older : List Run) → StandsBefore show p kept
+    → p.live ≡ last ∷ older → IsAdded show p older 0 kept
 none_added show p kept last older before is =
     let same : before.older ≡ older = tails before.last last before.older older (sym before.live_is ∙ is) in
     subst (λ (runs : List Run). IsAdded show p runs 0 kept) same (record {
@@ -36,7 +40,8 @@ none_added show p kept last older before is =
     })
 
 -- all are
-pub all_added : (show : Show) (p : Playback) (kept : Kept) (last : Run) (older : List Run) (n : ℕ) → show.channels ≤ n → IsAdded show p older n kept → LevelsStandFor show p kept
+pub all_added : (show : Show) (p : Playback) (kept : Kept) (last : Run) (older : List Run) (n : ℕ) → show.channels ≤ n
+    → IsAdded show p older n kept → LevelsStandFor show p kept
 all_added show p kept last older n enough is = record { moment = is.moment; reach = is.reach; each = λ k within. is.done k (omega arith) }
 
 live_count : (p : Playback) (last : Run) (older : List Run) → p.live ≡ last ∷ older → length p.live ≡ length older + 1
@@ -51,11 +56,17 @@ passed_by false v w is = refl
 passed_by true v w is = absurd cc
 
 -- the level over one more run, on which it acts, and on which it doesn't
-level_added : (show : Show) (p : Playback) (last : Run) (older : List Run) (c x : ℕ) → p.live ≡ last ∷ older → acts show (last_cue p.base older) last c ≡ true → level show p.base p.live c x ≡ run_over show (level show p.base older c) last c x
-level_added show p last older c x is acts_on = ap (λ (runs : List Run). level show p.base runs c x) is ∙ chosen (acts show (last_cue p.base older) last c) (run_over show (level show p.base older c) last c x) (level show p.base older c x) acts_on
+level_added : (show : Show) (p : Playback) (last : Run) (older : List Run) (c x : ℕ) → p.live ≡ last ∷ older
+    → acts show (last_cue p.base older) last c ≡ true → level show p.base p.live c x ≡ run_over show (level show p.base older c) last c x
+level_added show p last older c x is acts_on = ap (λ (runs : List Run). level show p.base runs c x) is
+    ∙ chosen (acts show (last_cue p.base older) last c) (run_over show (level show p.base older c) last c x) (level show p.base older c x)
+    acts_on
 
-level_passed : (show : Show) (p : Playback) (last : Run) (older : List Run) (c x : ℕ) → p.live ≡ last ∷ older → acts show (last_cue p.base older) last c ≡ false → level show p.base p.live c x ≡ level show p.base older c x
-level_passed show p last older c x is not_on = ap (λ (runs : List Run). level show p.base runs c x) is ∙ passed_by (acts show (last_cue p.base older) last c) (run_over show (level show p.base older c) last c x) (level show p.base older c x) not_on
+level_passed : (show : Show) (p : Playback) (last : Run) (older : List Run) (c x : ℕ) → p.live ≡ last ∷ older
+    → acts show (last_cue p.base older) last c ≡ false → level show p.base p.live c x ≡ level show p.base older c x
+level_passed show p last older c x is not_on = ap (λ (runs : List Run). level show p.base runs c x) is
+    ∙ passed_by (acts show (last_cue p.base older) last c) (run_over show (level show p.base older c) last c x)
+    (level show p.base older c x) not_on
 
 at_place : (show : Show) (p : Playback) (k i : ℕ) (kept : Kept) → i ≡ k → StandsAt show p kept k → StandsAt show p kept i
 at_place show p k i kept same stands = subst (StandsAt show p kept) (sym same) stands
@@ -63,7 +74,8 @@ at_place show p k i kept same stands = subst (StandsAt show p kept) (sym same) s
 -- the channel at the next place, where the run acts on it
 pub next_added : (show : Show) (p : Playback) (last : Run) (older : List Run) (k : ℕ) (before after : Kept)
     → p.live ≡ last ∷ older → last.start ≡ p.moment → acts show (last_cue p.base older) last (k + 1) ≡ true → k < show.channels
-    → ((x : ℕ) → p.moment ≤ x → level_in (stack_of after k) x ≡ run_over show (level_in (stack_of before k)) last (k + 1) x) → length (stack_of after k).fades ≤ length (stack_of before k).fades + 1
+    → ((x : ℕ) → p.moment ≤ x → level_in (stack_of after k) x ≡ run_over show (level_in (stack_of before k)) last (k + 1) x)
+    → length (stack_of after k).fades ≤ length (stack_of before k).fades + 1
     → IsElsewhere k before after → IsAdded show p older k before → IsAdded show p older (k + 1) after
 next_added show p last older k before after is starts acts_on within gives few elsewhere added = record {
   moment = elsewhere.moment ∙ added.moment;
@@ -72,7 +84,8 @@ next_added show p last older k before after is starts acts_on within gives few e
     | inl same ↦ at_place show p k i after same here
     | inr other ↦ same_stack show p i before after (elsewhere.others i other) (added.done i (omega (arith, other)))
   ];
-  left = λ i past in_show. same_stack show (record p { live = older }) i before after (elsewhere.others i (λ same. absurd (omega (arith, same, past)))) (added.left i (omega arith) in_show);
+  left = λ i past in_show. same_stack show (record p { live = older }) i before after
+      (elsewhere.others i (λ same. absurd (omega (arith, same, past)))) (added.left i (omega arith) in_show);
 } where
   old : StandsAt show (record p { live = older }) before k
   old = added.left k (omega arith) within
@@ -81,14 +94,16 @@ next_added show p last older k before after is starts acts_on within gives few e
   here = record {
     later = λ x from.
         gives x from
-        ∙ same_run show (level_in (stack_of before k)) (level show p.base older (k + 1)) last (k + 1) p.moment x old.later (omega (arith, starts)) from
+        ∙ same_run show (level_in (stack_of before k)) (level show p.base older (k + 1)) last (k + 1) p.moment x old.later
+        (omega (arith, starts)) from
         ∙ sym (level_added show p last older (k + 1) x is acts_on);
     few = omega (arith, few, old.few, live_count p last older is);
   }
 
 -- and where it doesn't
 pub next_passed : (show : Show) (p : Playback) (last : Run) (older : List Run) (k : ℕ) (kept : Kept)
-    → p.live ≡ last ∷ older → acts show (last_cue p.base older) last (k + 1) ≡ false → k < show.channels → IsAdded show p older k kept → IsAdded show p older (k + 1) kept
+    → p.live ≡ last ∷ older → acts show (last_cue p.base older) last (k + 1) ≡ false → k < show.channels → IsAdded show p older k kept
+    → IsAdded show p older (k + 1) kept
 next_passed show p last older k kept is not_on within added = record {
   moment = added.moment;
   reach = added.reach;
@@ -109,32 +124,39 @@ next_passed show p last older k kept is not_on within added = record {
 
 -- a channel that stays at a level does so over a run to that level
 faded_nowhere : (v gone time : ℕ) → faded v v gone time ≡ v
-faded_nowhere v gone time = elim (nat_le time gone) as (λ b. cond b v (moved_towards v v gone time) ≡ v) [ true ↦ refl | false ↦ moved ] where
-  moved : moved_towards v v gone time ≡ v
-  moved = elim (nat_le v v) as (λ b. cond b (v - (v - v) * gone / time) (v + (v - v) * gone / time) ≡ v) [ true ↦ less | false ↦ more ] where
-    none : (v - v) * gone / time ≡ 0
-    none = ap (λ d. d * gone / time) (let e : v - v ≡ 0 = omega arith in e) ∙ grind arith
+faded_nowhere v gone time = elim (nat_le time gone) as (λ b. cond b v (moved_towards v v gone time) ≡ v) [ true ↦ refl | false ↦ moved ]
+  where
+    moved : moved_towards v v gone time ≡ v
+    moved = elim (nat_le v v) as (λ b. cond b (v - (v - v) * gone / time) (v + (v - v) * gone / time) ≡ v) [ true ↦ less | false ↦ more ]
+      where
+        none : (v - v) * gone / time ≡ 0
+        none = ap (λ d. d * gone / time) (let e : v - v ≡ 0 = omega arith in e) ∙ grind arith
 
-    less : v - (v - v) * gone / time ≡ v
-    less = omega (arith, none)
+        less : v - (v - v) * gone / time ≡ v
+        less = omega (arith, none)
 
-    more : v + (v - v) * gone / time ≡ v
-    more = omega (arith, none)
+        more : v + (v - v) * gone / time ≡ v
+        more = omega (arith, none)
 
-run_nowhere : (show : Show) (before : ℕ → ℕ) (run : Run) (c from x v : ℕ) → ((y : ℕ) → from ≤ y → before y ≡ v) → from ≤ run.start → from ≤ x → tracked show run.cue c ≡ v → run_over show before run c x ≡ v
+run_nowhere : (show : Show) (before : ℕ → ℕ) (run : Run) (c from x v : ℕ) → ((y : ℕ) → from ≤ y → before y ≡ v) → from ≤ run.start
+    → from ≤ x → tracked show run.cue c ≡ v → run_over show before run c x ≡ v
 run_nowhere show before run c from x v still starts late target = over (rises_to show before run c) where
   over : (b : Bool) → fade_over before (run.start + delay_of show run c b) (time_of show run c b) (tracked show run.cue c) x ≡ v
   over b =
       ap (λ (t : ℕ). fade_over before (run.start + delay_of show run c b) (time_of show run c b) t x) target
-      ∙ elim (nat_lt x (run.start + delay_of show run c b)) as (λ t. cond t (before x) (faded (before (run.start + delay_of show run c b)) v (x - (run.start + delay_of show run c b)) (time_of show run c b)) ≡ v) [
+      ∙ elim (nat_lt x (run.start + delay_of show run c b)) as
+      (λ t. cond t (before x) (faded (before (run.start + delay_of show run c b)) v (x - (run.start + delay_of show run c b))
+      (time_of show run c b)) ≡ v) [
         | true ↦ still x late
         | false ↦
-            ap (λ l. faded l v (x - (run.start + delay_of show run c b)) (time_of show run c b)) (still (run.start + delay_of show run c b) (omega arith))
+            ap (λ l. faded l v (x - (run.start + delay_of show run c b)) (time_of show run c b))
+            (still (run.start + delay_of show run c b) (omega arith))
             ∙ faded_nowhere v (x - (run.start + delay_of show run c b)) (time_of show run c b)
       ]
 
 pub still_added : (show : Show) (p : Playback) (last : Run) (older : List Run) (k v : ℕ) (kept : Kept)
-    → p.live ≡ last ∷ older → last.start ≡ p.moment → k < show.channels → tracked show last.cue (k + 1) ≡ v → IsStill p.moment (stack_of kept k) v
+    → p.live ≡ last ∷ older → last.start ≡ p.moment → k < show.channels → tracked show last.cue (k + 1) ≡ v
+    → IsStill p.moment (stack_of kept k) v
     → IsAdded show p older k kept → IsAdded show p older (k + 1) kept
 still_added show p last older k v kept is starts within target still added = record {
   moment = added.moment;
@@ -156,20 +178,26 @@ still_added show p last older k v kept is starts within target still added = rec
     later = λ x from.
         still x from
         ∙ sym (ap (λ (runs : List Run). level show p.base runs (k + 1) x) is
-        ∙ (elim (acts show (last_cue p.base older) last (k + 1)) as (λ b. cond b (run_over show (level show p.base older (k + 1)) last (k + 1) x) (level show p.base older (k + 1) x) ≡ v) [
-          | true ↦ run_nowhere show (level show p.base older (k + 1)) last (k + 1) p.moment x v level_stays (omega (arith, starts)) from target
+        ∙ (elim (acts show (last_cue p.base older) last (k + 1)) as
+        (λ b. cond b (run_over show (level show p.base older (k + 1)) last (k + 1) x) (level show p.base older (k + 1) x) ≡ v) [
+          | true ↦ run_nowhere show (level show p.base older (k + 1)) last (k + 1) p.moment x v level_stays (omega (arith, starts)) from
+              target
           | false ↦ level_stays x from
         ]));
     few = omega (arith, old.few, live_count p last older is);
   }
 
 Given : (show : Show) (before after : Kept) (from place c : ℕ) (run : Run) → Type 0
-Given show before after from place c run = ((x : ℕ) → from ≤ x → level_in (stack_of after place) x ≡ run_over show (level_in (stack_of before place)) run c x) × (length (stack_of after place).fades ≤ length (stack_of before place).fades + 1) × IsElsewhere place before after
+Given show before after from place c run =
+    ((x : ℕ) → from ≤ x → level_in (stack_of after place) x ≡ run_over show (level_in (stack_of before place)) run c x)
+    × (length (stack_of after place).fades ≤ length (stack_of before place).fades + 1) × IsElsewhere place before after
 
 -- the same of a run and a channel that are named otherwise
 pub channel_added : (show : Show) (p : Playback) (last run : Run) (older : List Run) (k c : ℕ) (before after : Kept)
-    → p.live ≡ last ∷ older → last.start ≡ p.moment → c ≡ k + 1 → run ≡ last → acts show (last_cue p.base older) run c ≡ true → k < show.channels
-    → ((x : ℕ) → p.moment ≤ x → level_in (stack_of after (c - 1)) x ≡ run_over show (level_in (stack_of before (c - 1))) run c x) → length (stack_of after (c - 1)).fades ≤ length (stack_of before (c - 1)).fades + 1
+    → p.live ≡ last ∷ older → last.start ≡ p.moment → c ≡ k + 1 → run ≡ last → acts show (last_cue p.base older) run c ≡ true
+    → k < show.channels
+    → ((x : ℕ) → p.moment ≤ x → level_in (stack_of after (c - 1)) x ≡ run_over show (level_in (stack_of before (c - 1))) run c x)
+    → length (stack_of after (c - 1)).fades ≤ length (stack_of before (c - 1)).fades + 1
     → IsElsewhere (c - 1) before after → IsAdded show p older k before → IsAdded show p older (k + 1) after
 unfolding Given
 channel_added show p last run older k c before after is starts c_is run_is acts_on within gives few elsewhere added =
@@ -178,21 +206,27 @@ channel_added show p last run older k c before after is starts c_is run_is acts_
     let at_channel = subst (λ n. Given show before after p.moment k n run) c_is at_place in
     let at_run = subst (Given show before after p.moment k (k + 1)) run_is at_channel in
     let acts_here = subst (λ n. acts show (last_cue p.base older) run n ≡ true) c_is acts_on in
-    next_added show p last older k before after is starts (subst (λ (r : Run). acts show (last_cue p.base older) r (k + 1) ≡ true) run_is acts_here) within at_run.0 at_run.1 at_run.2 added
+    next_added show p last older k before after is starts
+    (subst (λ (r : Run). acts show (last_cue p.base older) r (k + 1) ≡ true) run_is acts_here) within at_run.0 at_run.1 at_run.2 added
 
 pub channel_passed : (show : Show) (p : Playback) (last run : Run) (older : List Run) (k c : ℕ) (kept : Kept)
-    → p.live ≡ last ∷ older → c ≡ k + 1 → run ≡ last → acts show (last_cue p.base older) run c ≡ false → k < show.channels → IsAdded show p older k kept → IsAdded show p older (k + 1) kept
+    → p.live ≡ last ∷ older → c ≡ k + 1 → run ≡ last → acts show (last_cue p.base older) run c ≡ false → k < show.channels
+    → IsAdded show p older k kept → IsAdded show p older (k + 1) kept
 channel_passed show p last run older k c kept is c_is run_is not_on within added =
     let not_here = subst (λ n. acts show (last_cue p.base older) run n ≡ false) c_is not_on in
-    next_passed show p last older k kept is (subst (λ (r : Run). acts show (last_cue p.base older) r (k + 1) ≡ false) run_is not_here) within added
+    next_passed show p last older k kept is (subst (λ (r : Run). acts show (last_cue p.base older) r (k + 1) ≡ false) run_is not_here)
+    within added
 
 pub same_run_copied : (run last : Run) → Some run ≡ Some last → run ≡ last
 same_run_copied run last same = cc
 
 -- the cue of the last run but one, or the base
-pub cue_before : (base : ℕ) (runs older : List Run) (last run : Run) → reverse runs ≡ last ∷ older → 2 ≤ length runs → run ≡ get_or runs (length runs - 2) run → run.cue ≡ last_cue base older
-cue_before base runs [] last run is two read = let n : length (reverse runs) ≡ 1 = ap length is in absurd (omega (arith, length-reverse runs, n))
+pub cue_before : (base : ℕ) (runs older : List Run) (last run : Run) → reverse runs ≡ last ∷ older → 2 ≤ length runs
+    → run ≡ get_or runs (length runs - 2) run → run.cue ≡ last_cue base older
+cue_before base runs [] last run is two read = let n : length (reverse runs) ≡ 1 =
+    ap length is in absurd (omega (arith, length-reverse runs, n))
 cue_before base runs (r ∷ older) last run is two read =
     let back : length runs - 2 ≡ length runs - 1 - 1 = omega arith in
-    let here : run ≡ r = read ∙ ap (λ n. get_or runs n run) back ∙ sym (get_or-reverse runs 1 run (omega arith)) ∙ ap (λ (xs : List Run). get_or xs 1 run) is in
+    let here : run ≡ r = read ∙ ap (λ n. get_or runs n run) back ∙ sym (get_or-reverse runs 1 run (omega arith))
+    ∙ ap (λ (xs : List Run). get_or xs 1 run) is in
     ap (λ (x : Run). x.cue) here

@@ -8,7 +8,8 @@ use Rattle.lx_fade.specs.Fades.{Fade, stack_at, begun_by, pushed}
 use Rattle.lx_spec.proofs.Lists.{all_reverse}
 use Rattle.lx_playback.proofs.Backwards.{All-backwards}
 
-kept_step : (P : Fade → Type 0) (b : Bool) (fade : Fade) (older kept : List Fade) → AllByRecursion P (fade ∷ older) → AllByRecursion P kept → AllByRecursion P (cond b kept (fade ∷ older))
+kept_step : (P : Fade → Type 0) (b : Bool) (fade : Fade) (older kept : List Fade) → AllByRecursion P (fade ∷ older) → AllByRecursion P kept
+    → AllByRecursion P (cond b kept (fade ∷ older))
 kept_step P true fade older kept all rest = rest
 kept_step P false fade older kept all rest = all
 
@@ -17,9 +18,12 @@ kept P s [] all = tt
 kept P s (fade ∷ older) all = kept_step P (nat_lt s fade.start) fade older (begun_by s older) all (kept P s older all.1)
 
 -- of rows with the newest fade last
-pub All-pushed : (P : Fade → Type 0) (base : ℕ) (row after : List Fade) (s time target : ℕ) → All P row → P (record { start = s; time = time; from = stack_at base (reverse row) s; target = target }) → reverse after ≡ pushed base (reverse row) s time target → All P after
+pub All-pushed : (P : Fade → Type 0) (base : ℕ) (row after : List Fade) (s time target : ℕ) → All P row
+    → P (record { start = s; time = time; from = stack_at base (reverse row) s; target = target })
+    → reverse after ≡ pushed base (reverse row) s time target → All P after
 All-pushed P base row after s time target all one is =
-    All-backwards P after (subst (AllByRecursion P) (sym is) (one, kept P s (reverse row) (all_reverse P row (recursion_from_All P row all))))
+    All-backwards P after (subst (AllByRecursion P) (sym is)
+    (one, kept P s (reverse row) (all_reverse P row (recursion_from_All P row all))))
 
 -- a row written over the whole of a longer one, and its first entries
 pub written : {A : Type 0} (n : ℕ) (xs ys : List A) → length xs ≡ n → take n (xs ++ drop (length xs) ys) ≡ xs

@@ -10,7 +10,8 @@ at_index P [] at d all within = absurd (omega arith)
 at_index P (x ∷ xs) zero d all within = all.0
 at_index P (x ∷ xs) (suc at) d all within = at_index P xs at d all.1 (omega arith)
 
-pub entry_there : {A : Type 0} (key : A → ℕ) (n : ℕ) (xs : List A) (at : ℕ) (d : A) → IsStrictlySorted key xs → at < length xs → key (get_or xs at d) ≡ n → entry_at key n xs ≡ Some (get_or xs at d)
+pub entry_there : {A : Type 0} (key : A → ℕ) (n : ℕ) (xs : List A) (at : ℕ) (d : A) → IsStrictlySorted key xs → at < length xs
+    → key (get_or xs at d) ≡ n → entry_at key n xs ≡ Some (get_or xs at d)
 entry_there key n [] at d sorted within is = absurd (omega arith)
 entry_there key n (x ∷ xs) zero d sorted within is = rw (eq_true (key x) n is) refl
 entry_there key n (x ∷ xs) (suc at) d sorted within is =

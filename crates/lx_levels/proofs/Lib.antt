@@ -6,3 +6,4 @@ pub mod Added
 pub mod Recalled
 pub mod Stands
 pub mod Found
+pub mod Followed

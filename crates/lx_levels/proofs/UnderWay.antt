@@ -24,18 +24,24 @@ pub lt_true : (q n : ℕ) → q < n → nat_lt q n ≡ true
 lt_true q n h = grind (arith, nat_tests)
 
 -- what is told at a moment is told at a later one
-pub told_later : (m n : ℕ) (on : Places) (stacks : List Stack) (currents : List Current) (levels : List ℕ) (k : ℕ) → m ≤ n → IsTold m on stacks currents levels k → IsTold n on stacks currents levels k
+pub told_later : (m n : ℕ) (on : Places) (stacks : List Stack) (currents : List Current) (levels : List ℕ) (k : ℕ) → m ≤ n
+    → IsTold m on stacks currents levels k → IsTold n on stacks currents levels k
 told_later m n on stacks currents levels k le told = record {
-  moves = λ is. let g = told.moves is in record { begun = omega (arith, g.begun); gives = λ x from until. g.gives x (omega arith) until };
+  moves = λ is. let g = told.moves is in record
+      { begun = omega (arith, g.begun); ready = g.ready; gives = λ x from until. g.gives x (omega arith) until };
   still = λ is x from. told.still is x (omega arith);
 }
 
 -- the channel at the next place of the list has a fade that governs
-pub governs_next : (m j k : ℕ) (on : Places) (stacks : List Stack) (before currents : List Current) (levels_before levels : List ℕ) → IsAdvanced m j on stacks before currents levels_before levels → k < length on.order → get_or on.places k 0 ≡ j → j < on.count → IsTold m on stacks before levels_before k → Governs m (get_or stacks k no_stack) (get_or currents k no_current)
+pub governs_next : (m j k : ℕ) (on : Places) (stacks : List Stack) (before currents : List Current) (levels_before levels : List ℕ)
+    → IsAdvanced m j on stacks before currents levels_before levels → k < length on.order → get_or on.places k 0 ≡ j → j < on.count
+    → IsTold m on stacks before levels_before k → Governs m (get_or stacks k no_stack) (get_or currents k no_current)
 governs_next m j k on stacks before currents levels_before levels is within here below told =
-    subst (Governs m (get_or stacks k no_stack)) (sym (is.left k within (omega (arith, here)))) (told.moves (lt_true (get_or on.places k 0) on.count (omega (arith, here))))
+    subst (Governs m (get_or stacks k no_stack)) (sym (is.left k within (omega (arith, here))))
+    (told.moves (lt_true (get_or on.places k 0) on.count (omega (arith, here))))
 
-pub advanced_start : (m : ℕ) (on : Places) (stacks : List Stack) (currents : List Current) (levels : List ℕ) → IsAdvanced m 0 on stacks currents currents levels levels
+pub advanced_start : (m : ℕ) (on : Places) (stacks : List Stack) (currents : List Current) (levels : List ℕ)
+    → IsAdvanced m 0 on stacks currents currents levels levels
 advanced_start m on stacks currents levels = record {
   currents_reach = refl;
   levels_reach = refl;
@@ -45,8 +51,10 @@ advanced_start m on stacks currents levels = record {
   left_levels = λ k within past. refl;
 }
 
-pub advanced_next : (m j k : ℕ) (on : Places) (stacks : List Stack) (before currents : List Current) (levels_before levels : List ℕ) (current : Current) (level : ℕ)
-    → IsAdvanced m j on stacks before currents levels_before levels → k < length on.order → get_or on.places k 0 ≡ j → ((i : ℕ) → i < length on.order → get_or on.places i 0 ≡ j → i ≡ k)
+pub advanced_next : (m j k : ℕ) (on : Places) (stacks : List Stack) (before currents : List Current) (levels_before levels : List ℕ)
+    (current : Current) (level : ℕ)
+    → IsAdvanced m j on stacks before currents levels_before levels → k < length on.order → get_or on.places k 0 ≡ j
+    → ((i : ℕ) → i < length on.order → get_or on.places i 0 ≡ j → i ≡ k)
     → length before ≡ length on.order → length levels_before ≡ length on.order
     → Governs m (get_or stacks k no_stack) current → level ≡ level_in (get_or stacks k no_stack) m
     → IsAdvanced m (j + 1) on stacks before (set currents k current) levels_before (set levels k level)
@@ -57,8 +65,10 @@ advanced_next m j k on stacks before currents levels_before levels current level
       currents_reach = length-set currents k current ∙ is.currents_reach;
       levels_reach = length-set levels k level ∙ is.levels_reach;
       done = λ i li below. elim (cases_eq i k) [
-        | inl same ↦ subst (Governs m (get_or stacks i no_stack)) (sym (get_or-set_at currents k i current no_current same room)) (subst (λ n. Governs m (get_or stacks n no_stack) current) (sym same) governs)
-        | inr other ↦ subst (Governs m (get_or stacks i no_stack)) (sym (get_or-set_other currents k i current no_current other)) (is.done i li (earlier i li other below))
+        | inl same ↦ subst (Governs m (get_or stacks i no_stack)) (sym (get_or-set_at currents k i current no_current same room))
+            (subst (λ n. Governs m (get_or stacks n no_stack) current) (sym same) governs)
+        | inr other ↦ subst (Governs m (get_or stacks i no_stack)) (sym (get_or-set_other currents k i current no_current other))
+            (is.done i li (earlier i li other below))
       ];
       now = λ i li below. elim (cases_eq i k) [
         | inl same ↦ get_or-set_at levels k i level 0 same levels_room ∙ now ∙ ap (λ n. level_in (get_or stacks n no_stack) m) (sym same)
@@ -74,31 +84,48 @@ advanced_next m j k on stacks before currents levels_before levels current level
       ]
 
       apart : (i : ℕ) → j + 1 ≤ get_or on.places i 0 → i ≢ k
-      apart i past same = let e : get_or on.places i 0 ≡ get_or on.places k 0 = ap (λ n. get_or on.places n 0) same in omega (arith, e, here, past)
+      apart i past same = let e : get_or on.places i 0 ≡ get_or on.places k 0 =
+          ap (λ n. get_or on.places n 0) same in omega (arith, e, here, past)
 
 pub advanced_end : (m : ℕ) (on : Places) (stacks : List Stack) (before currents : List Current) (levels_before levels : List ℕ)
     → IsAdvanced m on.count on stacks before currents levels_before levels → Reaches on stacks before levels_before → m < NEVER
     → ((k : ℕ) → k < length on.order → IsTold m on stacks before levels_before k) → IsRight m on stacks currents levels
 advanced_end m on stacks before currents levels_before levels is reaches begun told = record {
-  reaches = record { few = reaches.few; of_stacks = reaches.of_stacks; of_currents = is.currents_reach ∙ reaches.of_currents; of_levels = is.levels_reach ∙ reaches.of_levels };
+  reaches = record {
+    few = reaches.few;
+    of_stacks = reaches.of_stacks;
+    of_currents = is.currents_reach ∙ reaches.of_currents;
+    of_levels =
+        is.levels_reach ∙ reaches.of_levels;
+  };
   begun = begun;
   told = λ k within. record {
     moves = λ is_on. is.done k within (lt_from (get_or on.places k 0) on.count is_on);
-    still = λ off. subst (IsStill m (get_or stacks k no_stack)) (sym (is.left_levels k within (lt_not (get_or on.places k 0) on.count off))) ((told k within).still off);
+    still = λ off. subst (IsStill m (get_or stacks k no_stack)) (sym (is.left_levels k within (lt_not (get_or on.places k 0) on.count off)))
+        ((told k within).still off);
   };
   now = λ k within. at k within (nat_lt (get_or on.places k 0) on.count) refl;
 } where
   at : (k : ℕ) → k < length on.order → (b : Bool) → is_on on k ≡ b → get_or levels k 0 ≡ level_in (get_or stacks k no_stack) m
   at k within true on_it = is.now k within (lt_from (get_or on.places k 0) on.count on_it)
-  at k within false off = is.left_levels k within (lt_not (get_or on.places k 0) on.count off) ∙ sym ((told k within).still off m (omega arith))
+  at k within false off = is.left_levels k within (lt_not (get_or on.places k 0) on.count off)
+      ∙ sym ((told k within).still off m (omega arith))
 
 -- a channel whose level changes no more leaves the list
-pub right_left : (m k : ℕ) (on after : Places) (stacks : List Stack) (currents : List Current) (levels : List ℕ) → IsRight m on stacks currents levels → k < length on.order
+pub right_left : (m k : ℕ) (on after : Places) (stacks : List Stack) (currents : List Current) (levels : List ℕ)
+    → IsRight m on stacks currents levels → k < length on.order
     → is_on after k ≡ false → ((i : ℕ) → i < length on.order → i ≢ k → is_on after i ≡ is_on on i) → length after.order ≡ length on.order
-    → (Governs m (get_or stacks k no_stack) (get_or currents k no_current) → IsStill m (get_or stacks k no_stack) (fade_at (get_or currents k no_current).fade m))
+    → (Governs m (get_or stacks k no_stack) (get_or currents k no_current)
+    → IsStill m (get_or stacks k no_stack) (fade_at (get_or currents k no_current).fade m))
     → is_on on k ≡ true → IsRight m after stacks currents levels
 right_left m k on after stacks currents levels right within off others reach over was = record {
-  reaches = record { few = omega (arith, reach, right.reaches.few); of_stacks = right.reaches.of_stacks ∙ sym reach; of_currents = right.reaches.of_currents ∙ sym reach; of_levels = right.reaches.of_levels ∙ sym reach };
+  reaches = record {
+    few = omega (arith, reach, right.reaches.few);
+    of_stacks = right.reaches.of_stacks ∙ sym reach;
+    of_currents =
+        right.reaches.of_currents ∙ sym reach;
+    of_levels = right.reaches.of_levels ∙ sym reach;
+  };
   begun = right.begun;
   told = λ i li. told i (omega (arith, reach));
   now = λ i li. right.now i (omega (arith, reach));
@@ -125,7 +152,8 @@ right_left m k on after stacks currents levels right within off others reach ove
     clash h = cc
 
 -- the channel's new stack is taken up
-pub refreshed : (m k : ℕ) (on after : Places) (stacks : List Stack) (currents : List Current) (levels : List ℕ) (stack : Stack) (current : Current) (level : ℕ)
+pub refreshed : (m k : ℕ) (on after : Places) (stacks : List Stack) (currents : List Current) (levels : List ℕ) (stack : Stack)
+    (current : Current) (level : ℕ)
     → slice_index_or stacks k no_stack ≡ stack → IsRightBut m k on stacks currents levels → k < length on.order → m < NEVER
     → Governs m stack current → level ≡ level_in stack m → (is_on after k ≡ true) ⊎ IsStill m stack level
     → ((i : ℕ) → i < length on.order → i ≢ k → is_on after i ≡ is_on on i) → length after.order ≡ length on.order
@@ -134,11 +162,19 @@ refreshed m k on after stacks currents levels stack current level is but within 
     let room : k < length currents = omega (arith, but.reaches.of_currents) in
     let levels_room : k < length levels = omega (arith, but.reaches.of_levels) in
     record {
-      reaches = record { few = omega (arith, reach, but.reaches.few); of_stacks = but.reaches.of_stacks ∙ sym reach; of_currents = length-set currents k current ∙ but.reaches.of_currents ∙ sym reach; of_levels = length-set levels k level ∙ but.reaches.of_levels ∙ sym reach };
+      reaches = record {
+        few = omega (arith, reach, but.reaches.few);
+        of_stacks = but.reaches.of_stacks ∙ sym reach;
+        of_currents =
+            length-set currents k current ∙ but.reaches.of_currents ∙ sym reach;
+        of_levels = length-set levels k level ∙ but.reaches.of_levels
+            ∙ sym reach;
+      };
       begun = begun;
       told = λ i li. told i (omega (arith, reach)) room levels_room;
       now = λ i li. elim (cases_eq i k) [
-        | inl same ↦ get_or-set_at levels k i level 0 same levels_room ∙ now ∙ ap (λ (s : Stack). level_in s m) (sym is) ∙ ap (λ n. level_in (get_or stacks n no_stack) m) (sym same)
+        | inl same ↦ get_or-set_at levels k i level 0 same levels_room ∙ now ∙ ap (λ (s : Stack). level_in s m) (sym is)
+            ∙ ap (λ n. level_in (get_or stacks n no_stack) m) (sym same)
         | inr other ↦ get_or-set_other levels k i level 0 other ∙ but.now i (omega (arith, reach)) other
       ];
     } where
@@ -147,34 +183,49 @@ refreshed m k on after stacks currents levels stack current level is but within 
         clash : true ≡ false → ⊥
         clash h = cc
 
-      told : (i : ℕ) → i < length on.order → k < length currents → k < length levels → IsTold m after stacks (set currents k current) (set levels k level) i
+      told : (i : ℕ) → i < length on.order → k < length currents → k < length levels
+          → IsTold m after stacks (set currents k current) (set levels k level) i
       told i li room levels_room = elim (cases_eq i k) [
         | inl same ↦ subst (IsTold m after stacks (set currents k current) (set levels k level)) (sym same) (record {
-          moves = λ is_on. subst (Governs m (get_or stacks k no_stack)) (sym (get_or-set_at currents k k current no_current refl room)) (subst (λ (s : Stack). Governs m s current) (sym is) governs);
-          still = λ off. subst (IsStill m (get_or stacks k no_stack)) (sym (get_or-set_at levels k k level 0 refl levels_room)) (subst (λ (s : Stack). IsStill m s level) (sym is) (still_here either off));
+          moves = λ is_on. subst (Governs m (get_or stacks k no_stack)) (sym (get_or-set_at currents k k current no_current refl room))
+              (subst (λ (s : Stack). Governs m s current) (sym is) governs);
+          still = λ off. subst (IsStill m (get_or stacks k no_stack)) (sym (get_or-set_at levels k k level 0 refl levels_room))
+              (subst (λ (s : Stack). IsStill m s level) (sym is) (still_here either off));
         })
         | inr other ↦
             let same = others i li other in
             let told = but.told i li other in
             record {
-              moves = λ is_on. subst (Governs m (get_or stacks i no_stack)) (sym (get_or-set_other currents k i current no_current other)) (told.moves (sym same ∙ is_on));
-              still = λ is_off. subst (IsStill m (get_or stacks i no_stack)) (sym (get_or-set_other levels k i level 0 other)) (told.still (sym same ∙ is_off));
+              moves = λ is_on. subst (Governs m (get_or stacks i no_stack)) (sym (get_or-set_other currents k i current no_current other))
+                  (told.moves (sym same ∙ is_on));
+              still = λ is_off. subst (IsStill m (get_or stacks i no_stack)) (sym (get_or-set_other levels k i level 0 other))
+                  (told.still (sym same ∙ is_off));
             }
       ]
 
 -- what is right stays so but for a channel whose stack is changed
-pub right_but : (m k : ℕ) (on : Places) (stacks : List Stack) (currents : List Current) (levels : List ℕ) (stack : Stack) → IsRight m on stacks currents levels → IsRightBut m k on (set stacks k stack) currents levels
+pub right_but : (m k : ℕ) (on : Places) (stacks : List Stack) (currents : List Current) (levels : List ℕ) (stack : Stack)
+    → IsRight m on stacks currents levels → IsRightBut m k on (set stacks k stack) currents levels
 right_but m k on stacks currents levels stack right = record {
-  reaches = record { few = right.reaches.few; of_stacks = length-set stacks k stack ∙ right.reaches.of_stacks; of_currents = right.reaches.of_currents; of_levels = right.reaches.of_levels };
+  reaches = record {
+    few = right.reaches.few;
+    of_stacks = length-set stacks k stack ∙ right.reaches.of_stacks;
+    of_currents =
+        right.reaches.of_currents;
+    of_levels = right.reaches.of_levels;
+  };
   told = λ i li other. record {
-    moves = λ is_on. subst (λ (s : Stack). Governs m s (get_or currents i no_current)) (sym (get_or-set_other stacks k i stack no_stack other)) ((right.told i li).moves is_on);
-    still = λ is_off. subst (λ (s : Stack). IsStill m s (get_or levels i 0)) (sym (get_or-set_other stacks k i stack no_stack other)) ((right.told i li).still is_off);
+    moves = λ is_on. subst (λ (s : Stack). Governs m s (get_or currents i no_current))
+        (sym (get_or-set_other stacks k i stack no_stack other)) ((right.told i li).moves is_on);
+    still = λ is_off. subst (λ (s : Stack). IsStill m s (get_or levels i 0)) (sym (get_or-set_other stacks k i stack no_stack other))
+        ((right.told i li).still is_off);
   };
   now = λ i li other. right.now i li ∙ ap (λ (s : Stack). level_in s m) (sym (get_or-set_other stacks k i stack no_stack other));
 }
 
 -- a level written that was there already
-pub unchanged_next : (n k level : ℕ) (before levels : List ℕ) → k < length levels → get_or levels k 0 ≡ level → ((i : ℕ) → i < n → get_or levels i 0 ≡ get_or before i 0) → (i : ℕ) → i < n → get_or (set levels k level) i 0 ≡ get_or before i 0
+pub unchanged_next : (n k level : ℕ) (before levels : List ℕ) → k < length levels → get_or levels k 0 ≡ level
+    → ((i : ℕ) → i < n → get_or levels i 0 ≡ get_or before i 0) → (i : ℕ) → i < n → get_or (set levels k level) i 0 ≡ get_or before i 0
 unchanged_next n k level before levels room same others i li = elim (cases_eq i k) [
   | inl here ↦ get_or-set_at levels k i level 0 here room ∙ sym same ∙ ap (λ x. get_or levels x 0) (sym here) ∙ others i li
   | inr other ↦ get_or-set_other levels k i level 0 other ∙ others i li
@@ -186,7 +237,8 @@ same_by_test b read level is still = grind (arith, nat_tests)
 
 -- at the opening each channel is still at 0
 pub opened_right : (on : Places) (stacks : List Stack) (currents : List Current) (levels : List ℕ) (n : ℕ)
-    → length on.order ≡ n → n ≤ CHANNELS → on.count ≡ 0 → length stacks ≡ n → length currents ≡ n → levels ≡ replicate n 0 → ((k : ℕ) → get_or stacks k no_stack ≡ no_stack)
+    → length on.order ≡ n → n ≤ CHANNELS → on.count ≡ 0 → length stacks ≡ n → length currents ≡ n → levels ≡ replicate n 0
+    → ((k : ℕ) → get_or stacks k no_stack ≡ no_stack)
     → IsRight 0 on stacks currents levels
 opened_right on stacks currents levels n reach few none of_stacks of_currents zeros empty = record {
   reaches = record {

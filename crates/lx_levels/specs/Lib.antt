@@ -2,3 +2,5 @@ pub mod Places
 pub mod Stacks
 pub mod Moving
 pub mod Standing
+pub mod Timed
+pub mod Following

@@ -2,14 +2,17 @@
 use Rattle.std.specs.Prelude.{◌≡◌, ◌≢◌, ◌⊎◌, ℕ, ◌<◌, ◌≤◌, true, false, List, length, slice_index, slice_index_or}
 use Rattle.lx_base.specs.declared.TheConstants.{CHANNELS, RUNS}
 use Rattle.lx_fade.specs.Fades.{fade_at}
+use Rattle.lx_fade.specs.Slopes.{slope_of}
 use Rattle.lx_levels.specs.declared.current.TheConstants.{NEVER}
 use Rattle.lx_levels.specs.declared.current.Current.{Current}
+use Rattle.lx_levels.specs.declared.hints.Hint.{Hint}
 use Rattle.lx_levels.specs.Places.{Places, is_on}
 use Rattle.lx_levels.specs.Stacks.{Stack, level_in, no_stack}
 
 -- The fade has begun by the moment, and gives the level of the stack from there on until the wake, or for ever where that is NEVER.
 pub record Governs (m : ℕ) (stack : Stack) (current : Current) : Type 0 where
   pub begun : current.fade.start ≤ m
+  pub ready : current.slope ≡ slope_of current.fade
   pub gives : (x : ℕ) → m ≤ x → (x < current.wake) ⊎ (current.wake ≡ NEVER) → level_in stack x ≡ fade_at current.fade x
 
 -- from the moment on the channel stays at the level
@@ -17,7 +20,7 @@ abbrev pub IsStill : ℕ → Stack → ℕ → Type 0
 IsStill m stack level = (x : ℕ) → m ≤ x → level_in stack x ≡ level
 
 abbrev pub no_current : Current
-no_current = record { fade = record { start = 0; time = 0; from = 0; target = 0 }; wake = 0 }
+no_current = record { fade = record { start = 0; time = 0; from = 0; target = 0 }; slope = 0; wake = 0 }
 
 -- at the moment, a channel under way has a fade that governs, another is still at its level
 pub record IsTold (m : ℕ) (on : Places) (stacks : List Stack) (currents : List Current) (levels : List ℕ) (k : ℕ) : Type 0 where
@@ -39,7 +42,8 @@ pub record IsRight (m : ℕ) (on : Places) (stacks : List Stack) (currents : Lis
   pub now : (k : ℕ) → k < length on.order → slice_index levels k ≡ level_in (slice_index_or stacks k no_stack) m
 
 -- and there is a hint for each run that may be live
-pub record IsReady (m : ℕ) (on : Places) (stacks : List Stack) (currents : List Current) (levels : List ℕ) (hints : List ℕ) : Type 0 where
+pub record IsReady (m : ℕ) (on : Places) (stacks : List Stack) (currents : List Current) (levels : List ℕ)
+    (hints : List Hint) : Type 0 where
   pub right : IsRight m on stacks currents levels
   pub room : length hints ≡ RUNS
 

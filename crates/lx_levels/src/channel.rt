@@ -6,16 +6,18 @@ ghost use Rattle.lx_base.specs.declared.TheConstants.{RUNS, TICK_END};
 ghost use Rattle.lx_spec.specs.TrackedLevel.{tracked};
 ghost use Rattle.lx_spec.specs.Run.{entry_for, entry_extent};
 ghost use Rattle.lx_spec.specs.Level.{last_cue, level, run_over};
-ghost use Rattle.lx_sheet.specs.Standing.{StandsFor as RowsStandFor};
-ghost use Rattle.lx_playback.specs.Valid.{ValidRun};
+ghost use Rattle.lx_sheet.specs.Standing.{RowsStandFor};
+ghost use Rattle.lx_playback.specs.Valid.{ValidRun, ValidTimes};
 ghost use Rattle.lx_levels.specs.Stacks.{level_in};
+ghost use Rattle.lx_levels.specs.Timed.{timed_over};
 
-use crate::hints::acts_by_hint;
+use crate::hints::{Hint, acts};
+use crate::replay::{ground_of, replay};
 use crate::runs::{delay_of, entry_for, extent_of, time_of};
 use crate::stack::Stack;
 use lx_base::{Chan, CueNo, Level, Moment};
 use lx_fade::Fade;
-use lx_playback::Run;
+use lx_playback::{PartTimes, Run};
 use lx_sheet::Sheet;
 use lx_show::Show;
 
@@ -30,7 +32,7 @@ pub(crate) fn fill_stack(
     live: &[Run],
     from: Moment,
     c: Chan,
-    hints: &mut [u16],
+    hints: &mut [Hint],
 )
     requires rows { RowsStandFor show.now sheet.now }
     requires few { length live.now ≤ RUNS }
@@ -39,11 +41,16 @@ pub(crate) fn fill_stack(
     ensures level { (m : ℕ) → from ≤ m → level_in stack.new m ≡ level show.now base (reverse live.now) c m }
     ensures few { length stack.new.fades ≤ length live.now }
 {
-    let target = sheet.level_at(last_cue(base, live), c);
-    fill_from(stack, show, sheet, base, live, target, from, c, hints);
+    match ground_of(show, sheet, base, live, from, c, hints) {
+        Some(oldest) => replay(stack, show, sheet, base, live, from, c, hints, oldest),
+        None => {
+            let target = level_there(show, sheet, base, live, c, hints);
+            fill_from(stack, show, sheet, base, live, target, from, c, hints);
+        }
+    }
 }
 
-/// The same, where the channel's tracked level at the position is known.
+/// The same in whatever order the runs started, where the channel's tracked level at the position is known.
 fn fill_from(
     stack: &mut Stack,
     show: &Show,
@@ -53,7 +60,7 @@ fn fill_from(
     target: Level,
     from: Moment,
     c: Chan,
-    hints: &mut [u16],
+    hints: &mut [Hint],
 )
     requires rows { RowsStandFor show.now sheet.now }
     requires few { length live.now ≤ RUNS }
@@ -67,40 +74,65 @@ fn fill_from(
         stack.restart(target);
         return;
     };
-    let looks = sheet.level_at(last_cue(base, older), c);
-    if !acts_by_hint(show, run, c, looks, target, &mut hints[older.len()]) {
+    let looks = level_there(show, sheet, base, older, c, hints);
+    if !acts(show, run, c, looks, target, &mut hints[older.len()]) {
         fill_from(stack, show, sheet, base, older, looks, from, c, hints);
-    } else if is_over(show, run, c, from) {
+        return;
+    }
+    let entry = times_for(show, run, c);
+    if is_over(run.start, &entry, from) {
         stack.restart(target);
     } else {
         let earlier = from.min(run.start);
         fill_from(stack, show, sheet, base, older, looks, earlier, c, hints);
-        push_run(stack, show, run, c, target, from);
+        push_timed(stack, run.start, &entry, target, from);
     }
 }
 
-/// The cue of the newest run, or the base.
-pub(crate) fn last_cue(base: CueNo, live: &[Run]) -> CueNo
-    ensures { result ≡ last_cue base (reverse live.now) }
+/// The channel's tracked level at the cue of the newest run, or at the base.
+#[inline(always)]
+pub(crate) fn level_there(
+    show: &Show,
+    sheet: &Sheet,
+    base: CueNo,
+    live: &[Run],
+    c: Chan,
+    hints: &mut [Hint],
+) -> Level
+    requires rows { RowsStandFor show.now sheet.now }
+    requires few { length live.now ≤ RUNS }
+    requires hints { length hints.old ≡ RUNS }
+    ensures { result ≡ tracked show.now (last_cue base (reverse live.now)) c }
 {
+    let _ = show.channels();
     match live.last() {
-        Some(run) => run.cue,
-        None => base,
+        Some(run) => sheet.level_near(run.cue, c, &mut hints[live.len() - 1].cue),
+        None => sheet.level_at(base, c),
     }
 }
 
-/// A run that acts on the channel has brought it to its target by the moment, whichever way it goes.
-fn is_over(show: &Show, run: &Run, c: Chan, m: Moment) -> bool
+/// The entry whose times the run takes for the channel.
+#[inline(always)]
+pub(crate) fn times_for(show: &Show, run: &Run, c: Chan) -> PartTimes
     requires run { ValidRun TICK_END run.now }
-    ensures { result ≡ true → run.now.start + entry_extent (entry_for show.now run.now c) ≤ m }
+    ensures entry { result ≡ entry_for show.now run.now c }
+    ensures times { ValidTimes result }
 {
-    let entry = entry_for(show, run, c);
-    run.start + extent_of(&entry) <= m
+    entry_for(show, run, c)
 }
 
-/// Pushes the fade of a run that acts on the channel. It begins when the delay is over, at the level
-/// that the channel has then over the older runs; of those nothing is kept where it begins at once.
-/// The levels are right from a moment on.
+/// A run that acts on the channel with these times has brought it to its target by the moment, whichever way
+/// it goes.
+#[inline(always)]
+pub(crate) fn is_over(start: Moment, entry: &PartTimes, m: Moment) -> bool
+    requires start { start ≤ TICK_END }
+    requires times { ValidTimes entry.now }
+    ensures { result ≡ true → start + entry_extent entry.now ≤ m }
+{
+    start + extent_of(entry) <= m
+}
+
+/// Pushes the fade of a run that acts on the channel. The levels are right from a moment on.
 pub(crate) fn push_run(
     stack: &mut Stack,
     show: &Show,
@@ -115,19 +147,39 @@ pub(crate) fn push_run(
     ensures level { (m : ℕ) → from ≤ m → level_in stack.new m ≡ run_over show.now (level_in stack.old) run.now c m }
     ensures few { length stack.new.fades ≤ length stack.old.fades + 1 }
 {
-    let entry = entry_for(show, run, c);
-    let before = stack.value(run.start);
+    let entry = times_for(show, run, c);
+    push_timed(stack, run.start, &entry, target, from);
+}
+
+/// Pushes a fade to the target with the times of an entry. It begins when the delay is over, at the level that
+/// the channel has then over the older fades; of those nothing is kept where it begins at once. The levels are
+/// right from a moment on.
+#[inline(always)]
+pub(crate) fn push_timed(
+    stack: &mut Stack,
+    start: Moment,
+    entry: &PartTimes,
+    target: Level,
+    from: Moment,
+)
+    requires room { length stack.old.fades < RUNS }
+    requires start { start ≤ TICK_END }
+    requires times { ValidTimes entry.now }
+    ensures level { (m : ℕ) → from ≤ m → level_in stack.new m ≡ timed_over entry.now (level_in stack.old) start target m }
+    ensures few { length stack.new.fades ≤ length stack.old.fades + 1 }
+{
+    let before = stack.value(start);
     let rising = before <= target;
-    let delay = delay_of(&entry, rising);
-    let time = time_of(&entry, rising);
-    if delay == 0 && run.start <= from {
+    let delay = delay_of(entry, rising);
+    let time = time_of(entry, rising);
+    if delay == 0 && start <= from {
         stack.begin(Fade {
-            start: run.start,
+            start,
             time,
             from: before,
             target,
         });
     } else {
-        stack.push(run.start + delay, time, target);
+        stack.push(start + delay, time, target);
     }
 }

@@ -1,48 +1,91 @@
-//! A cue found again where it was found last.
+//! A cue and a move found again where they were found last.
 
-ghost use Rattle.std.specs.Prelude.{◌≡◌, ℕ, true};
-ghost use Rattle.lx_spec.specs.TrackedLevel.{tracked, move_of};
+ghost use Rattle.std.specs.Prelude.{◌≡◌, ◌||◌, ℕ, true, is_some};
+ghost use Rattle.std.specs.Option.{option_copied};
+ghost use Rattle.lx_spec.specs.SortedList.{IsStrictlySorted, entry_at};
+ghost use Rattle.lx_spec.specs.TrackedLevel.{tracked, asserts, cue_of, move_of};
 ghost use Rattle.lx_spec.specs.Run.{acts};
 
 use lx_base::{Chan, CueNo, Level};
 use lx_playback::Run;
-use lx_show::sorted::index_of;
+use lx_show::sorted::{find_next, index_of};
 use lx_show::{Cue, Move, Show};
 
-/// The run acts on the channel, as `acts` says; the hint is where its cue was found last.
-pub(crate) fn acts_by_hint(
+/// Where the cue of a run was found last among the cues, and where the move of a channel would come next among
+/// its moves. Neither needs to be right.
+#[derive(Clone, Copy, PartialEq, Eq, Debug)]
+pub(crate) struct Hint {
+    pub(crate) cue: usize,
+    pub(crate) entry: usize,
+}
+
+/// Nothing was found yet.
+pub(crate) const NO_HINT: Hint = Hint { cue: 0, entry: 0 };
+
+/// The run acts on the channel: it is whole, or the channel is to come to another level, or its cue is asserted
+/// in the show as it is now, or moves the channel. `looks` is the tracked level at the position that the run comes
+/// from, `target` the one at the run's cue.
+pub(crate) fn acts(
     show: &Show,
     run: &Run,
     c: Chan,
     looks: Level,
     target: Level,
-    hint: &mut u16,
+    hint: &mut Hint,
 ) -> bool
     requires { target ≡ tracked show.now run.now.cue c }
     ensures { (from : ℕ) → looks ≡ tracked show.now from c → result ≡ acts show.now from run.now c }
 {
-    run.whole || looks != target || move_by_hint(show, run.cue, c, hint).is_some()
+    run.whole || looks != target || asserts_or_moves(show, run.cue, c, hint)
 }
 
-/// The channel's move in the cue. It is looked for at the place of the hint first, which needn't be right.
-fn move_by_hint(show: &Show, n: CueNo, c: Chan, hint: &mut u16) -> Option<Move>
-    ensures { result ≡ move_of show.now n c }
+/// The cue is asserted, or moves the channel. The cue is looked for once, where the hint says first.
+fn asserts_or_moves(show: &Show, n: CueNo, c: Chan, hint: &mut Hint) -> bool
+    ensures { result ≡ (asserts show.now n || is_some (move_of show.now n c)) }
+{
+    match cue_near(show, n, &mut hint.cue) {
+        Some(cue) => {
+            cue.asserted || move_near(cue.moves.as_slice(), c, &mut hint.entry).is_some()
+        }
+        None => false,
+    }
+}
+
+/// The cue of the number, looked for at this place first. `None` exactly where there is none.
+fn cue_near<'a>(show: &'a Show, n: CueNo, near: &mut usize) -> Option<&'a Cue>
+    ensures { option_copied result ≡ cue_of show.now n }
 {
     let cues = show.cues();
-    let at = *hint as usize;
+    let at = *near;
     if at < cues.len() {
         let cue = &cues[at];
         if is_of(cue, n) {
-            return cue.move_of(c);
+            return Some(cue);
         }
     }
     match index_of(cues, n.get()) {
         Ok(at) => {
-            *hint = at as u16;
-            let cue = &cues[at];
-            cue.move_of(c)
+            *near = at;
+            Some(&cues[at])
         }
         Err(_) => None,
+    }
+}
+
+/// The channel's move among these, looked for at `next` first, where the channel after it would stand.
+fn move_near(moves: &[Move], c: Chan, next: &mut usize) -> Option<Move>
+    requires { IsStrictlySorted (λ m. m.chan) moves.now }
+    ensures { result ≡ entry_at (λ m. m.chan) c moves.now }
+{
+    match find_next(moves, *next, c.get()) {
+        Ok(at) => {
+            *next = at + 1;
+            Some(moves[at])
+        }
+        Err(at) => {
+            *next = at;
+            None
+        }
     }
 }
 

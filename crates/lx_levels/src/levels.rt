@@ -9,7 +9,7 @@ ghost use Rattle.lx_spec.specs.TrackedLevel.{tracked};
 ghost use Rattle.lx_spec.specs.Run.{Run as RunData};
 ghost use Rattle.lx_spec.specs.Level.{level, last_cue, run_over};
 ghost use Rattle.lx_spec.specs.Playback.{Playback as PlaybackData, at_opening};
-ghost use Rattle.lx_sheet.specs.Standing.{StandsFor as RowsStandFor};
+ghost use Rattle.lx_sheet.specs.Standing.{RowsStandFor};
 ghost use Rattle.lx_mixer.specs.Table.{IsTable};
 ghost use Rattle.lx_playback.specs.Valid.{ValidRun};
 ghost use Rattle.lx_levels.specs.declared.current.TheConstants.{NEVER};
@@ -19,9 +19,9 @@ ghost use Rattle.lx_levels.specs.Standing.{LevelsStandFor, StandsAt, StandsBefor
 
 use crate::channel::{fill_stack, push_run};
 use crate::current::{Current, NEVER};
+use crate::hints::{Hint, NO_HINT, acts};
 use crate::motion::{advance, refresh, retire};
 use crate::roster::Roster;
-use crate::runs::acts;
 use crate::stack::Stack;
 use lx_base::{CHANNELS, Chan, CueNo, Level, Moment, RUNS};
 use lx_playback::{Playback, Run};
@@ -44,8 +44,8 @@ pub struct Levels {
     levels: Vec<Level>,
     /// The channels that are under way: their level changes yet, or a fade waits.
     roster: Roster,
-    /// Where the cue of each live run was found last among the cues.
-    hints: Vec<u16>,
+    /// Where the cue of each live run, and a channel's move in it, was found last.
+    hints: Vec<Hint>,
 }
 
 impl Model for Levels {
@@ -76,7 +76,7 @@ impl Levels {
             currents: vec![in alloc; Current::still(0, NEVER); channels]?,
             levels: vec![in alloc; 0; channels]?,
             roster: Roster::open(alloc, channels)?,
-            hints: vec![in alloc; 0; RUNS]?,
+            hints: vec![in alloc; NO_HINT; RUNS]?,
         })
     }
 
@@ -101,13 +101,16 @@ impl Levels {
             return;
         };
         let from = before_last(playback);
+        let mut hint = NO_HINT;
+        let mut near = 0;
         for k in 0..show.channels() as usize {
             let c = channel_at(k);
-            let target = sheet.level_at(run.cue, c);
+            let target = sheet.level_near(run.cue, c, &mut hint.cue);
             if self.stays_at(k, target) {
                 continue;
             }
-            if acts(show, run, c, sheet.level_at(from, c), target) {
+            let looks = sheet.level_near(from, c, &mut near);
+            if acts(show, run, c, looks, target, &mut hint) {
                 self.add_run(show, run, c, target);
             }
         }
@@ -121,8 +124,9 @@ impl Levels {
             → LevelsStandFor show playback.now self.new }
     {
         let base = playback.base();
+        let mut near = 0;
         for k in 0..self.levels.len() {
-            self.restart(k, sheet.level_at(base, channel_at(k)));
+            self.restart(k, sheet.level_near(base, channel_at(k), &mut near));
         }
     }
 

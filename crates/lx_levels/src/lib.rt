@@ -6,6 +6,7 @@ mod current;
 mod hints;
 mod levels;
 mod motion;
+mod replay;
 mod roster;
 mod runs;
 mod stack;

@@ -10,7 +10,6 @@ use crate::current::{Current, NEVER};
 use crate::roster::Roster;
 use crate::stack::Stack;
 use lx_base::{Level, Moment};
-use lx_fade::value_at;
 
 /// What came of a step to another moment.
 #[derive(Clone, Copy, PartialEq, Eq, Debug)]
@@ -40,27 +39,26 @@ pub(crate) fn advance(
     let mut arrived = false;
     for j in 0..roster.len() {
         let k = roster.at(j);
-        let current = current_at(&currents[k], &stacks[k], m);
-        let level = value_at(&current.fade, m);
-        changed = changed || levels[k] != level;
+        wake(&mut currents[k], &stacks[k], m);
+        let current = &currents[k];
+        let level = current.level(m);
         arrived = arrived || current.is_over(m);
-        currents[k] = current;
+        changed = changed || levels[k] != level;
         levels[k] = level;
     }
     Step { changed, arrived }
 }
 
-/// The fade that governs at the moment, where the one given did so up to there.
-fn current_at(current: &Current, stack: &Stack, m: Moment) -> Current
+/// Takes up the fade that governs at the moment, where the one before did so up to there.
+#[inline(always)]
+fn wake(current: &mut Current, stack: &Stack, m: Moment)
     requires moment { m < NEVER }
-    requires governs { Governs m stack.now current.now }
-    ensures governs { Governs m stack.now result }
-    ensures now { level_in stack.now m ≡ fade_at result.fade m }
+    requires governs { Governs m stack.now current.old }
+    ensures governs { Governs m stack.now current.new }
+    ensures now { level_in stack.now m ≡ fade_at current.new.fade m }
 {
-    if m < current.wake {
-        *current
-    } else {
-        stack.governing(m)
+    if current.wake <= m {
+        *current = stack.governing(m);
     }
 }
 
@@ -99,7 +97,7 @@ pub(crate) fn refresh(
 {
     let current = stack.governing(m);
     currents[k] = current;
-    levels[k] = value_at(&current.fade, m);
+    levels[k] = current.level(m);
     if current.is_over(m) {
         roster.remove(k);
     } else {

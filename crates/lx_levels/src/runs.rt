@@ -1,30 +1,21 @@
-//! What a run is to one channel: whether it acts on it, and with which times.
+//! With which times a run acts on a channel.
 
 ghost use Rattle.std.specs.Prelude.{◌≡◌, ℕ, ◌*◌, ◌≤◌, ◌==◌, option_and_then, if◌then◌else◌};
 ghost use Rattle.lx_base.specs.declared.TheConstants.{TIME_MAX};
 ghost use Rattle.std.specs.Option.{option_copied};
 ghost use Rattle.lx_spec.specs.SortedList.{entry_at};
 ghost use Rattle.lx_spec.specs.Show.{IsTime};
-ghost use Rattle.lx_spec.specs.TrackedLevel.{tracked, move_of};
-ghost use Rattle.lx_spec.specs.Run.{acts, entry_for, entry_extent, first_entry};
+ghost use Rattle.lx_spec.specs.TrackedLevel.{move_of};
+ghost use Rattle.lx_spec.specs.Run.{entry_for, entry_extent, first_entry};
 ghost use Rattle.lx_playback.specs.Valid.{ValidTimes};
 
-use lx_base::{Chan, Cs, Level, PartNo};
+use lx_base::{Chan, Cs, PartNo};
 use lx_playback::{PartTimes, Run};
 use lx_show::Show;
 
-/// The run acts on the channel: it is whole, or its cue moves the channel, or the channel is to come
-/// to another level. `looks` is the tracked level at the position that the run comes from, `target`
-/// the one at the run's cue.
-pub(crate) fn acts(show: &Show, run: &Run, c: Chan, looks: Level, target: Level) -> bool
-    requires { target ≡ tracked show.now run.now.cue c }
-    ensures { (from : ℕ) → looks ≡ tracked show.now from c → result ≡ acts show.now from run.now c }
-{
-    run.whole || show.move_of(run.cue, c).is_some() || looks != target
-}
-
 /// The entry whose times the run takes for the channel: the one that it captured of the part of its
 /// cue's move, or else its first. Of a run of one part no move is looked up.
+#[inline(always)]
 pub(crate) fn entry_for(show: &Show, run: &Run, c: Chan) -> PartTimes
     ensures { result ≡ entry_for show.now run.now c }
 {

@@ -113,7 +113,7 @@ fn governing_in(fades: &[Fade], bottom: Level, m: Moment) -> Current
     while left > 0 {
         let fade = fades[left - 1];
         if fade.start <= m {
-            return Current { fade, wake };
+            return Current::of(fade, wake);
         }
         wake = wake.min(fade.start);
         left -= 1;

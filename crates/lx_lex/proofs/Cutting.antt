@@ -1,5 +1,6 @@
 -- How a line is cut into tokens, whatever the tests for separators and for the comment are.
-use Rattle.std.proofs.Common.{◌≡◌, ℕ, suc, ◌-◌, ◌≤◌, Bool, true, false, not, ◌||◌, ◌==◌, List, [], ◌∷◌, length, take, filter, refl, sym, ap, ◌∙◌, inl, inr, arith}
+use Rattle.std.proofs.Common.{◌≡◌, ℕ, suc, ◌-◌, ◌≤◌, Bool, true, false, not, ◌||◌, ◌==◌, List, [], ◌∷◌, length, take, filter, refl, sym, ap}
+use Rattle.std.proofs.Common.{◌∙◌, inl, inr, arith}
 use Rattle.std.specs.List.{before_first, onto_first, slice_split, take_while, position_or_len}
 use Rattle.std.proofs.lemmas.Bool.{cases_Bool}
 use Rattle.std.proofs.lemmas.List.{length-take}
@@ -37,7 +38,8 @@ module _ (p : ℕ → Bool) where
   pub take-after_all : (l : List ℕ) → take (length l - length (after_all p l)) l ≡ take_while p l
   take-after_all [] = refl
   take-after_all (b ∷ l) = elim (cases_Bool (p b)) [
-    | inl so ↦ let e : length (b ∷ l) - length (after_all p l) ≡ suc (length l - length (after_all p l)) = omega (arith, length-after_all l) in rw (after_all-yes b l so, take_while-yes b l so, e) (ap (λ t. b ∷ t) (take-after_all l))
+    | inl so ↦ let e : length (b ∷ l) - length (after_all p l) ≡ suc (length l - length (after_all p l)) =
+        omega (arith, length-after_all l) in rw (after_all-yes b l so, take_while-yes b l so, e) (ap (λ t. b ∷ t) (take-after_all l))
     | inr odd ↦ rw (after_all-no b l odd, take_while-no b l odd) (grind (arith, common_steps))
   ]
 
@@ -64,7 +66,8 @@ module _ (sep mark : ℕ → Bool) where
   module _ (apart : (b : ℕ) → sep b ≡ true → mark b ≡ false) where
     pub tokens_by-separator : (b : ℕ) (l : List ℕ) → sep b ≡ true → tokens_by (b ∷ l) ≡ tokens_by l
     tokens_by-separator b l e =
-        ap (λ t. filter is_filled (slice_split sep t)) (before_first-no mark b l (apart b e)) ∙ ap (λ t. filter is_filled t) (slice_split-cons_yes sep b (before_first mark l) e)
+        ap (λ t. filter is_filled (slice_split sep t)) (before_first-no mark b l (apart b e))
+        ∙ ap (λ t. filter is_filled t) (slice_split-cons_yes sep b (before_first mark l) e)
 
     -- separators at the front make no token
     pub tokens_by-skip : (l : List ℕ) → tokens_by l ≡ tokens_by (after_all sep l)
@@ -104,14 +107,23 @@ module _ (sep mark : ℕ → Bool) where
     part-separator : (b : ℕ) (l : List ℕ) → sep b ≡ true → FirstPart (b ∷ l)
     part-separator b l s = record {
       others = slice_split sep (before_first mark l);
-      cut = rw (before_first-no mark b l (apart b s), slice_split-cons_yes sep b (before_first mark l) s, take_while-no goes b l (goes-separator b s)) refl;
+      cut = rw (
+        before_first-no mark b l (apart b s),
+        slice_split-cons_yes sep b (before_first mark l) s,
+        take_while-no goes b l (goes-separator b s),
+      ) refl;
       rest = rw (after_all-no goes b l (goes-separator b s)) (sym (tokens_by-separator apart b l s));
     }
 
     part-more : (b : ℕ) (l : List ℕ) → sep b ≡ false → mark b ≡ false → FirstPart l → FirstPart (b ∷ l)
     part-more b l s e h = record {
       others = h.others;
-      cut = rw (before_first-no mark b l e, slice_split-cons_no sep b (before_first mark l) s, h.cut, take_while-yes goes b l (goes-yes b s e)) refl;
+      cut = rw (
+        before_first-no mark b l e,
+        slice_split-cons_no sep b (before_first mark l) s,
+        h.cut,
+        take_while-yes goes b l (goes-yes b s e),
+      ) refl;
       rest = rw (after_all-yes goes b l (goes-yes b s e)) h.rest;
     }
 
@@ -137,7 +149,8 @@ module _ (sep mark : ℕ → Bool) where
       next-comment b t e so = begins ∙ ap tokens_by e ∙ tokens_by-comment b t so
 
       -- r follows the token that begins with b
-      pub next-token : (b : ℕ) (t r : List ℕ) → l ≡ b ∷ t → mark b ≡ false → r ≡ after_all goes t → (tokens_by m ≡ take (length l - length r) l ∷ tokens_by r) × (r ≡ after_all goes l)
+      pub next-token : (b : ℕ) (t r : List ℕ) → l ≡ b ∷ t → mark b ≡ false → r ≡ after_all goes t
+          → (tokens_by m ≡ take (length l - length r) l ∷ tokens_by r) × (r ≡ after_all goes l)
       next-token b t r e odd read =
           let s : sep b ≡ false = after_all-first sep m b t (sym e ∙ skipped) in
           let g : goes b ≡ true = goes-yes b s odd in
@@ -147,7 +160,8 @@ module _ (sep mark : ℕ → Bool) where
           let h = part l in
           (rw (front, after) (begins ∙ (rw (h.cut, filled, h.rest) refl)), after)
 
-  length-onto_first : (b : ℕ) (parts : List (List ℕ)) → length (filter is_filled (onto_first b parts)) ≤ suc (length (filter is_filled parts))
+  length-onto_first : (b : ℕ) (parts : List (List ℕ))
+      → length (filter is_filled (onto_first b parts)) ≤ suc (length (filter is_filled parts))
   length-onto_first b [] = omega arith
   length-onto_first b ([] ∷ parts) = omega arith
   length-onto_first b ((d ∷ part) ∷ parts) = omega arith

@@ -1,5 +1,6 @@
 -- The bytes of the first lines.
-use Rattle.std.proofs.Common.{◌≡◌, inl, inr, ℕ, zero, suc, ◌+◌, ◌≤◌, Bool, true, false, List, [], ◌∷◌, ◌++◌, length, refl, sym, ap, ◌∙◌, arith, zero-add}
+use Rattle.std.proofs.Common.{◌≡◌, inl, inr, ℕ, zero, suc, ◌+◌, ◌≤◌, Bool, true, false, List, [], ◌∷◌, ◌++◌, length, refl, sym, ap, ◌∙◌}
+use Rattle.std.proofs.Common.{arith, zero-add}
 use Rattle.std.proofs.lemmas.Bool.{ne_eqb, cases_eq, eq-eqb}
 use Rattle.lx_spec.specs.CutInput.{HasNoFeed, first_lines}
 use Rattle.lx_spec.specs.Text.{cut_lines}
@@ -59,7 +60,8 @@ first_lines-last [] h = refl
 first_lines-last (b ∷ raw) h = rw (ne_eqb b 10 h.0) (ap (λ v. b ∷ v) (first_lines-last raw h.1))
 
 -- a front of a line
-pub first_lines-front : (raw rest : List ℕ) (fed : Bool) → HasNoFeed raw → length (raw ++ feed_of fed) ≤ length (first_lines 1 ((raw ++ feed_of fed) ++ rest))
+pub first_lines-front : (raw rest : List ℕ) (fed : Bool) → HasNoFeed raw
+    → length (raw ++ feed_of fed) ≤ length (first_lines 1 ((raw ++ feed_of fed) ++ rest))
 first_lines-front [] rest true h = omega arith
 first_lines-front [] rest false h = omega arith
 first_lines-front (b ∷ raw) rest fed h = rw (ne_eqb b 10 h.0) (omega (arith, first_lines-front raw rest fed h.1))

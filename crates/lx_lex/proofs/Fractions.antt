@@ -3,7 +3,8 @@ use Rattle.std.proofs.Common.{◌≡◌, ℕ, zero, suc, ◌+◌, ◌-◌, ◌*�
 use Rattle.std.proofs.lemmas.Nat.{pow-add}
 use Rattle.std.proofs.lemmas.Bool.{cases_lt}
 use Rattle.std.proofs.lemmas.Bool.Decides.{nat_tests}
-use Rattle.std.proofs.Math.Nat.{pow-succ', div-div-eq-div-mul, mul-div_cancel, mul-div-mul_right, div-eq_of_lt, mul-le-mul_right, le-div_iff_mul-le}
+use Rattle.std.proofs.Math.Nat.{pow-succ', div-div-eq-div-mul, mul-div_cancel, mul-div-mul_right, div-eq_of_lt, mul-le-mul_right}
+use Rattle.std.proofs.Math.Nat.{le-div_iff_mul-le}
 
 pub ten_pos : (i : ℕ) → 0 < 10 ^ i
 ten_pos zero = omega arith
@@ -43,7 +44,8 @@ step-more u i = div-div-eq-div-mul u (10 ^ i) 10 ∙ ap (λ q. u / q) (omega (ar
 -- one decimal more
 pub fraction-more : (u p i n d : ℕ) → u ≡ 10 ^ p → d ≤ 9 → n * u / 10 ^ i + d * (u / 10 ^ i / 10) ≡ (10 * n + d) * u / 10 ^ (i + 1)
 fraction-more u p i n d e nine = rw (step-more u i, ten-more i) (elim (cases_lt i p) [
-  | inl lt ↦ fine u (10 ^ (p - suc i)) (10 ^ i) n d (ten_pos i) (e ∙ ten-split p (p - suc i) (suc i) (omega arith) ∙ ap (λ x. 10 ^ (p - suc i) * x) (pow-succ' 10 i))
+  | inl lt ↦ fine u (10 ^ (p - suc i)) (10 ^ i) n d (ten_pos i)
+      (e ∙ ten-split p (p - suc i) (suc i) (omega arith) ∙ ap (λ x. 10 ^ (p - suc i) * x) (pow-succ' 10 i))
   | inr le ↦ coarse u (10 ^ (i - p)) (10 ^ i) n d (rw e (ten_pos p)) nine (ten_pos (i - p)) (rw e (ten-split i (i - p) p (omega arith)))
 ])
 

@@ -3,7 +3,7 @@ use Rattle.std.proofs.Common.{◌≡◌, ℕ, ◌+◌, ◌≤◌, true, IsTrue, 
 use Rattle.std.specs.declared.option.Option.{Option}
 use Rattle.lx_lex.specs.declared.lines.Lines.{Lines}
 use Rattle.lx_lex.specs.Handed.{HandedOut}
-use Rattle.lx_lex.specs.Lines.{TookLine}
+use Rattle.lx_lex.specs.Lines.{LineBetween}
 use Rattle.lx_lex.specs.Unread.{unread}
 use Rattle.lx_lex.proofs.TakenLines.{no_line, one_line, then_lines}
 
@@ -19,7 +19,7 @@ handed_none left faults a going = record {
 
 -- the line of one step
 pub handed_one : {S : Type 0} (left : S → Option (List ℕ)) (faults : S → ℕ) (a b : Lines S) (raw : List ℕ)
-    → TookLine (unread left a) (unread left b) a.taken b.taken raw → b.number ≡ a.number + 1 → b.going ≡ true
+    → LineBetween (unread left a) (unread left b) a.taken b.taken raw → b.number ≡ a.number + 1 → b.going ≡ true
     → b.source.ghost_name ≡ a.source.ghost_name → faults a.source.now ≤ faults b.source.now → HandedOut left faults a b (raw ∷ [])
 handed_one left faults a b raw took number going same later = record {
   took = one_line (unread left a) (unread left b) a.taken b.taken raw took;

@@ -20,9 +20,12 @@ module _ (f g : ℕ → ℕ) (undone : (b : ℕ) → f (g b) ≡ f b) where
   same-by s t e = sym (map-undone s) ∙ ap (λ l. map f l) e ∙ map-undone t
 
 -- equal in lower case is equal in upper case
-pub same_letters : (s t : List ℕ) (r : Bool) → IsTrue r ↔ (map to_ascii_lowercase s ≡ map to_ascii_lowercase t) → r ≡ bytes_eq (map to_ascii_uppercase s) (map to_ascii_uppercase t)
+pub same_letters : (s t : List ℕ) (r : Bool) → IsTrue r ↔ (map to_ascii_lowercase s ≡ map to_ascii_lowercase t)
+    → r ≡ bytes_eq (map to_ascii_uppercase s) (map to_ascii_uppercase t)
 same_letters s t r h =
     let d = bytes_eq-Decides (map to_ascii_uppercase s) (map to_ascii_uppercase t) in
-    let to : r ≡ true → map to_ascii_uppercase s ≡ map to_ascii_uppercase t = λ e. same-by to_ascii_uppercase to_ascii_lowercase upper-lower s t (h.0 e) in
-    let from : map to_ascii_uppercase s ≡ map to_ascii_uppercase t → r ≡ true = λ e. h.1 (same-by to_ascii_lowercase to_ascii_uppercase lower-upper s t e) in
+    let to : r ≡ true → map to_ascii_uppercase s ≡ map to_ascii_uppercase t =
+    λ e. same-by to_ascii_uppercase to_ascii_lowercase upper-lower s t (h.0 e) in
+    let from : map to_ascii_uppercase s ≡ map to_ascii_uppercase t → r ≡ true =
+    λ e. h.1 (same-by to_ascii_lowercase to_ascii_uppercase lower-upper s t e) in
     same_from_decides r _ (to, from) d

@@ -1,19 +1,21 @@
 -- Numbers of digits alone, as they are read where they stand.
-use Rattle.std.proofs.Common.{◌≡◌, ℕ, ◌+◌, ◌-◌, ◌*◌, ◌<◌, ◌≤◌, true, false, List, [], ◌∷◌, ◌++◌, length, take, drop, get_or, refl, sym, ap, ◌∙◌, append_assoc, arith, length-append}
+use Rattle.std.proofs.Common.{◌≡◌, ℕ, ◌+◌, ◌-◌, ◌*◌, ◌<◌, ◌≤◌, true, false, List, [], ◌∷◌, ◌++◌, length, take, drop, get_or, refl, sym, ap}
+use Rattle.std.proofs.Common.{◌∙◌, append_assoc, arith, length-append, subst}
 use Rattle.std.specs.List.{list_all}
 use Rattle.std.proofs.lemmas.Bool.Decides.{nat_tests}
 use Rattle.std.proofs.lemmas.Grind.{fold-append}
 use Rattle.std.proofs.Math.Seq.{take-append_seam}
-use Rattle.std.proofs.lemmas.List.{take_all}
+use Rattle.std.proofs.lemmas.List.{take_all, drop_more, length-drop}
 use Rattle.std.proofs.lemmas.List.Folds.{list_all-append}
 use Rattle.lx_spec.specs.Numerals.{is_digit, is_number}
 use Rattle.lx_spec.specs.Text.{is_separator, begins_comment, after_all, tokens}
-use Rattle.lx_lex.specs.PlainNumber.{BeginsWithDigits, FirstIsNumber}
+use Rattle.lx_lex.specs.PlainNumber.{BeginsWithDigits, EndsToken, FirstIsNumber}
 use Rattle.lx_lex.proofs.Separators.{apart}
 use Rattle.lx_lex.proofs.Cutting.{goes, after_all-yes, next-token}
 
 -- a digit more
-pub digits_more : (text : List ℕ) (n b : ℕ) (rest : List ℕ) → BeginsWithDigits text n (b ∷ rest) → is_digit b ≡ true → BeginsWithDigits text (10 * n + (b - 48)) rest
+pub digits_more : (text : List ℕ) (n b : ℕ) (rest : List ℕ) → BeginsWithDigits text n (b ∷ rest) → is_digit b ≡ true
+    → BeginsWithDigits text (10 * n + (b - 48)) rest
 digits_more text n b rest so digit = record {
   digits = so.digits ++ b ∷ [];
   are_digits = list_all-append is_digit so.digits (b ∷ []) ∙ rw (so.are_digits, digit) refl;
@@ -22,12 +24,32 @@ digits_more text n b rest so digit = record {
 }
 
 -- the same, as the loop takes it
-pub digit_taken : (text : List ℕ) (n d : ℕ) (rest : List ℕ) → BeginsWithDigits text n rest → 1 ≤ length rest → is_digit (get_or rest 0 0) ≡ true → d ≡ get_or rest 0 0 - 48
+pub digit_taken : (text : List ℕ) (n d : ℕ) (rest : List ℕ) → BeginsWithDigits text n rest → 1 ≤ length rest
+    → is_digit (get_or rest 0 0) ≡ true → d ≡ get_or rest 0 0 - 48
     → BeginsWithDigits text (10 * n + d) (take (length rest - 1) (drop 1 rest))
 digit_taken text n d [] so some digit is = absurd (omega arith)
 digit_taken text n d (b ∷ rest) so some digit is =
     let all : take (length (b ∷ rest) - 1) (drop 1 (b ∷ rest)) ≡ rest = take_all (length (b ∷ rest) - 1) rest (omega arith) in
     rw (is, all) (digits_more text n b rest so digit)
+
+-- the digit at an index, behind those before it
+pub digit_at : (text : List ℕ) (n d k : ℕ) → BeginsWithDigits text n (drop k text) → k < length text → is_digit (get_or text k 0) ≡ true
+    → d ≡ get_or text k 0 - 48 → BeginsWithDigits text (10 * n + d) (drop (k + 1) text)
+digit_at text n d k so within digit is =
+    rw is (digits_more text n (get_or text k 0) (drop (k + 1) text) (subst (BeginsWithDigits text n) (drop_more text k 0 within) so) digit)
+
+pub first_at : (text : List ℕ) (d : ℕ) → 0 < length text → is_digit (get_or text 0 0) ≡ true → d ≡ get_or text 0 0 - 48
+    → BeginsWithDigits text d (drop 1 text)
+first_at text d some digit is =
+    let none : BeginsWithDigits text 0 (drop 0 text) = record { digits = []; are_digits = refl; number = refl; is_text = refl } in
+    let same : 10 * 0 + d ≡ d = omega arith in
+    subst (λ n. BeginsWithDigits text n (drop 1 text)) same (digit_at text 0 d 0 none some digit is)
+
+-- the rest as a slice has it
+pub rest_of : (text : List ℕ) (n k : ℕ) → k ≤ length text → BeginsWithDigits text n (drop k text)
+    → BeginsWithDigits text n (take (length text - k) (drop k text))
+rest_of text n k within so =
+    subst (BeginsWithDigits text n) (sym (take_all (length text - k) (drop k text) (rw length-drop (omega arith)))) so
 
 digit_goes : (b : ℕ) → is_digit b ≡ true → goes is_separator begins_comment b ≡ true
 digit_goes b e = grind (arith, nat_tests)
@@ -39,7 +61,8 @@ first_of : (b : ℕ) (ds : List ℕ) → list_all is_digit (b ∷ ds) ≡ true �
 first_of b ds e = grind (arith, nat_tests)
 
 -- digits are of the token
-past_digits : (ds rest : List ℕ) → list_all is_digit ds ≡ true → after_all (goes is_separator begins_comment) (ds ++ rest) ≡ after_all (goes is_separator begins_comment) rest
+past_digits : (ds rest : List ℕ) → list_all is_digit ds ≡ true
+    → after_all (goes is_separator begins_comment) (ds ++ rest) ≡ after_all (goes is_separator begins_comment) rest
 past_digits [] rest e = refl
 past_digits (b ∷ ds) rest e =
     let h = first_of b ds e in
@@ -50,20 +73,30 @@ filled [] some all = absurd (omega arith)
 filled (b ∷ ds) some all = all
 
 -- the digits at the front are the first token, where it ends behind them
-pub number_first : (line start digits rest : List ℕ) → start ≡ after_all is_separator line → start ≡ digits ++ rest → list_all is_digit digits ≡ true → length rest < length start
+pub number_first : (line start digits rest : List ℕ) → start ≡ after_all is_separator line → start ≡ digits ++ rest
+    → list_all is_digit digits ≡ true → length rest < length start
     → after_all (goes is_separator begins_comment) rest ≡ rest → tokens line ≡ digits ∷ tokens rest
 number_first line start [] rest skipped is all some ends = absurd (omega (arith, ap length is))
 number_first line start (b ∷ ds) rest skipped is all some ends =
     let h = first_of b ds all in
     let read : rest ≡ after_all (goes is_separator begins_comment) (ds ++ rest) = sym (past_digits ds rest h.1 ∙ ends) in
     let count : length start - length rest ≡ length (b ∷ ds) = omega (arith, ap length is, length-append (b ∷ ds) rest) in
-    let front : take (length start - length rest) start ≡ b ∷ ds = ap (λ k. take k start) count ∙ ap (take (length (b ∷ ds))) is ∙ take-append_seam (b ∷ ds) rest in
-    (next-token is_separator begins_comment apart line start skipped b (ds ++ rest) rest is (no_mark b h.0) read).0 ∙ ap (λ t. t ∷ tokens rest) front
+    let front : take (length start - length rest) start ≡ b ∷ ds = ap (λ k. take k start) count ∙ ap (take (length (b ∷ ds))) is
+    ∙ take-append_seam (b ∷ ds) rest in
+    (next-token is_separator begins_comment apart line start skipped b (ds ++ rest) rest is (no_mark b h.0) read).0
+    ∙ ap (λ t. t ∷ tokens rest) front
 
-pub number_is_first : (line start rest : List ℕ) (n : ℕ) → start ≡ after_all is_separator line → BeginsWithDigits start n rest → length rest < length start → after_all (goes is_separator begins_comment) rest ≡ rest → FirstIsNumber (tokens line) n (tokens rest)
+number_is_first : (line start rest : List ℕ) (n : ℕ) → start ≡ after_all is_separator line → BeginsWithDigits start n rest
+    → length rest < length start → after_all (goes is_separator begins_comment) rest ≡ rest → FirstIsNumber (tokens line) n (tokens rest)
 number_is_first line start rest n skipped so some ends = record {
   token = so.digits;
   is_plain = filled so.digits (omega (arith, some, ap length so.is_text, length-append so.digits rest)) so.are_digits;
   number = so.number;
   first = number_first line start so.digits rest skipped so.is_text so.are_digits some ends;
 }
+
+-- the same, and then what follows the separator behind the token
+pub number_and_others : (line start rest others : List ℕ) (n : ℕ) → start ≡ after_all is_separator line → BeginsWithDigits start n rest
+    → length rest < length start → EndsToken rest others → FirstIsNumber (tokens line) n (tokens others)
+number_and_others line start rest others n skipped so some ends =
+    subst (FirstIsNumber (tokens line) n) ends.same (number_is_first line start rest n skipped so some ends.ends)

@@ -1,30 +1,83 @@
 //! Numbers of digits alone, read in one pass over their bytes.
 
-ghost use Rattle.std.specs.Prelude.{◌≡◌, ◌<◌, ◌||◌, true, not, length, IfSome};
-ghost use Rattle.lx_spec.specs.Text.{is_separator, begins_comment, after_all, tokens};
-ghost use Rattle.lx_lex.specs.PlainNumber.{BeginsWithDigits, FirstIsNumber};
+ghost use Rattle.std.specs.Prelude.{◌≡◌, ◌<◌, length, IfSome};
+ghost use Rattle.lx_spec.specs.Text.{is_separator, after_all, tokens};
+ghost use Rattle.lx_lex.specs.PlainNumber.{BeginsWithDigits, EndsToken, FirstIsLevel, FirstIsNumber};
 
 use crate::digits::digit;
+use crate::read::hex_value;
 use crate::scan::{is_separator, past_separators};
+use lx_base::Level;
 
 /// A number from here on isn't read any further: it is far above every limit.
 const FAR: u32 = 100_000_000;
 
-/// The number that the first token is and what follows the token. None where it isn't digits alone, or the number is
-/// far above every limit.
+/// The number that the first token is, and what follows it and the separator that ends it. None where it isn't digits
+/// alone, or has more digits than any number within its limit, but for zeros before it.
+#[inline(always)]
 pub(crate) fn first_number(line: &[u8]) -> Option<(u32, &[u8])>
     ensures { IfSome result (λ p. FirstIsNumber (tokens line.now) p.0 (tokens p.1.now)) }
 {
-    let (number, rest) = first_digits(past_separators(line))?;
-    if ends_token(rest) {
-        Some((number, rest))
-    } else {
-        None
+    let (number, rest) = front_digits(token_start(line))?;
+    let others = past_end(rest)?;
+    Some((number, others))
+}
+
+/// The level that the first token is where it is `H` and two hexadecimal digits, and what follows it and the separator that
+/// ends it. None where the token isn't that, or stands behind a separator.
+#[inline(always)]
+pub(crate) fn first_hex(line: &[u8]) -> Option<(Level, &[u8])>
+    ensures { IfSome result (λ p. FirstIsLevel (tokens line.now) p.0 (tokens p.1.now)) }
+{
+    let [first, high, low, rest @ ..] = line else {
+        return None;
+    };
+    if *first != b'H' {
+        return None;
+    }
+    let high = hex_value(*high)?;
+    let low = hex_value(*low)?;
+    let others = past_end(rest)?;
+    Some((16 * high + low, others))
+}
+
+/// What follows the separators at the front. Most often a digit stands there at once.
+#[inline(always)]
+fn token_start(line: &[u8]) -> &[u8]
+    ensures { result.now ≡ after_all is_separator line.now }
+{
+    match line {
+        [b'0'..=b'9', ..] => line,
+        _ => past_separators(line),
     }
 }
 
+/// The number that the digits at the front spell, where four bytes are left the first four of them, and what follows
+/// these. None where no digit stands there.
+#[inline(always)]
+fn front_digits(text: &[u8]) -> Option<(u32, &[u8])>
+    ensures digits { IfSome result (λ p. BeginsWithDigits text.now p.0 p.1.now) }
+    ensures some { IfSome result (λ p. length p.1.now < length text.now) }
+{
+    if text.len() < 4 {
+        return first_digits(text);
+    }
+    let one = u32::from(digit(text[0])?);
+    let Some(second) = digit(text[1]) else {
+        return Some((one, &text[1..]));
+    };
+    let two = 10 * one + u32::from(second);
+    let Some(third) = digit(text[2]) else {
+        return Some((two, &text[2..]));
+    };
+    let three = 10 * two + u32::from(third);
+    let Some(fourth) = digit(text[3]) else {
+        return Some((three, &text[3..]));
+    };
+    Some((10 * three + u32::from(fourth), &text[4..]))
+}
+
 /// The number that the digits at the front spell and what follows them. None where no digit stands there.
-#[inline]
 fn first_digits(text: &[u8]) -> Option<(u32, &[u8])>
     ensures digits { IfSome result (λ p. BeginsWithDigits text.now p.0 p.1.now) }
     ensures some { IfSome result (λ p. length p.1.now < length text.now) }
@@ -48,13 +101,15 @@ fn first_digits(text: &[u8]) -> Option<(u32, &[u8])>
     }
 }
 
-/// A token before this text ends here: nothing follows, or a separator or the comment does.
-#[inline]
-fn ends_token(rest: &[u8]) -> bool
-    ensures { result ≡ true → after_all (λ b. not (is_separator b || begins_comment b)) rest.now ≡ rest.now }
+/// What follows the separator before which a token ends; all of the text where the comment or nothing is there. None
+/// where the token goes on.
+#[inline(always)]
+fn past_end(rest: &[u8]) -> Option<&[u8]>
+    ensures { IfSome result (λ others. EndsToken rest.now others.now) }
 {
     match rest {
-        [] => true,
-        [b, ..] => is_separator(*b) || *b == b'!',
+        [] | [b'!', ..] => Some(rest),
+        [b, others @ ..] if is_separator(*b) => Some(others),
+        _ => None,
     }
 }

@@ -89,7 +89,7 @@ fn read_hex(token: &[u8]) -> Result<Level, Bad>
 }
 
 /// The value of a hexadecimal digit.
-fn hex_value(b: u8) -> Option<u8>
+pub(crate) fn hex_value(b: u8) -> Option<u8>
     ensures value { result ≡ hex_value b }
 {
     match b {

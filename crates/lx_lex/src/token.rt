@@ -1,7 +1,8 @@
 //! An iterator over the tokens of a line.
 
-use crate::plain::first_number;
+use crate::plain::{first_hex, first_number};
 use crate::scan::first_token;
+use lx_base::Level;
 
 /// The tokens of a line that are left, each a slice of the line, in order.
 ///
@@ -16,7 +17,7 @@ impl<'a> Tokens<'a> {
     ghost use Rattle.std.specs.Prelude.{◌≡◌, length, MatchOption};
     ghost use Rattle.lx_spec.specs.Text.{tokens};
     ghost use Rattle.lx_lex.specs.Left.{left};
-    ghost use Rattle.lx_lex.specs.PlainNumber.{FirstIsNumber};
+    ghost use Rattle.lx_lex.specs.PlainNumber.{FirstIsLevel, FirstIsNumber};
 
     /// All tokens of a line.
     pub(crate) fn of(line: &'a [u8]) -> Tokens<'a>
@@ -32,15 +33,26 @@ impl<'a> Tokens<'a> {
         (*self).count()
     }
 
-    /// Takes the next token where it is a number of digits alone, which isn't far above every limit, and answers the
-    /// number. Else it takes none, and answers None: this is the short way for tokens of the usual form.
-    #[inline]
+    /// Takes the next token where it is a number of digits alone, of no more digits than any number within its limit has,
+    /// and answers the number. Else it takes none, and answers None: this is the short way for tokens of the usual form.
+    #[inline(always)]
     pub fn take_number(&mut self) -> Option<u32>
         ensures { MatchOption result (self.new ≡ self.old) (λ n. FirstIsNumber (left self.old) n (left self.new)) }
     {
         let (number, rest) = first_number(self.rest)?;
         self.rest = rest;
         Some(number)
+    }
+
+    /// Takes the next token where it is `H` and two hexadecimal digits, and answers the level. Else it takes none, and
+    /// answers None; so it may also do where a separator stands before the token.
+    #[inline(always)]
+    pub fn take_hex(&mut self) -> Option<Level>
+        ensures { MatchOption result (self.new ≡ self.old) (λ level. FirstIsLevel (left self.old) level (left self.new)) }
+    {
+        let (level, rest) = first_hex(self.rest)?;
+        self.rest = rest;
+        Some(level)
     }
 }
 

@@ -11,7 +11,8 @@ chosen a b = elim (cases_lt a b) [
   | inr more ↦ cond-false _ _ _ (le-ltb a b more) ∙ omega arith
 ]
 
-pub greater_lanes : (xs ys : List ℕ) → length xs ≡ 32 → length ys ≡ 32 → HasLanes (sel_l (map (top 7) (zip2 (λ a b. cond (ltb a b) 255 0) xs ys)) ys xs) (λ k. max (get_or xs k 0) (get_or ys k 0))
+pub greater_lanes : (xs ys : List ℕ) → length xs ≡ 32 → length ys ≡ 32
+    → HasLanes (sel_l (map (top 7) (zip2 (λ a b. cond (ltb a b) 255 0) xs ys)) ys xs) (λ k. max (get_or xs k 0) (get_or ys k 0))
 greater_lanes xs ys long long' =
     let tops : map (top 7) (zip2 (λ a b. cond (ltb a b) 255 0) xs ys) ≡ zip2 ltb xs ys = tops_compared w8 ltb xs ys in
     let reach : length (zip2 ltb xs ys) ≡ 32 = length-zip2 ltb xs ys (long ∙ sym long') ∙ long in

@@ -12,14 +12,16 @@ pub told : (n : ℕ) (value : ℕ → ℕ) (values : List ℕ) (c : ℕ) → IsT
 told n value values c table least most = let is : c - 1 + 1 ≡ c = omega arith in table.each (c - 1) (omega arith) ∙ ap value is
 
 -- a table of one function is that of another with the same values
-pub table_of_same : (n : ℕ) (one other : ℕ → ℕ) (values : List ℕ) → ((c : ℕ) → 1 ≤ c → c ≤ n → one c ≡ other c) → IsTable n one values → IsTable n other values
+pub table_of_same : (n : ℕ) (one other : ℕ → ℕ) (values : List ℕ) → ((c : ℕ) → 1 ≤ c → c ≤ n → one c ≡ other c) → IsTable n one values
+    → IsTable n other values
 table_of_same n one other values same table = record {
   reach = table.reach;
   each = λ k within. table.each k within ∙ same (k + 1) (omega arith) (omega arith);
 }
 
 -- a table with the value of one number changed
-pub table-set : (n e x : ℕ) (before after : ℕ → ℕ) (values : List ℕ) → IsTable n before values → 1 ≤ e → e ≤ n → after e ≡ x → ((c : ℕ) → (c ≡ e → ⊥) → after c ≡ before c) → IsTable n after (set values (e - 1) x)
+pub table-set : (n e x : ℕ) (before after : ℕ → ℕ) (values : List ℕ) → IsTable n before values → 1 ≤ e → e ≤ n → after e ≡ x
+    → ((c : ℕ) → (c ≡ e → ⊥) → after c ≡ before c) → IsTable n after (set values (e - 1) x)
 table-set n e x before after values table least most here_is others = record {
   reach = length-set values (e - 1) x ∙ table.reach;
   each = λ k within. elim (cases_order (k + 1) e) [
@@ -31,7 +33,9 @@ table-set n e x before after values table least most here_is others = record {
 }
 
 -- a mix of tables is the table of the mix
-pub mixed : (n master : ℕ) (level contribution : ℕ → ℕ) (levels given outs : List ℕ) → length outs ≡ n → IsTable n level levels → IsTable n contribution given → EachIndex outs (λ k. get_or outs k 0 ≡ scaled (max (get_or levels k 0) (get_or given k 0)) master) → IsTable n (λ c. scaled (max (level c) (contribution c)) master) outs
+pub mixed : (n master : ℕ) (level contribution : ℕ → ℕ) (levels given outs : List ℕ) → length outs ≡ n → IsTable n level levels
+    → IsTable n contribution given → EachIndex outs (λ k. get_or outs k 0 ≡ scaled (max (get_or levels k 0) (get_or given k 0)) master)
+    → IsTable n (λ c. scaled (max (level c) (contribution c)) master) outs
 mixed n master level contribution levels given outs reach of_levels of_given each = record {
   reach = reach;
   each = λ k within.

@@ -1,11 +1,11 @@
 //! The greatest of two rows of levels, under a master.
 
-ghost use Rattle.std.specs.Prelude.{◌≡◌, ◌≤◌, ◌<◌, ◌+◌, ℕ, max, length, slice_index, EachIndex};
+ghost use Rattle.std.specs.Prelude.{◌≡◌, ◌≤◌, ◌<◌, ◌+◌, ◌*◌, ◌/◌, ◌^◌, ℕ, max, length, slice_index, EachIndex};
 ghost use Rattle.lx_base.specs.Numbers.{scaled};
 ghost use Rattle.lx_base.specs.Rows.{HasLanes};
-ghost use Rattle.lx_mixer.specs.Mix.{IsMixed};
+ghost use Rattle.lx_mixer.specs.Mix.{IsMixed, HasWords};
 
-use lx_base::{LANES, Level, scale, scale_lanes};
+use lx_base::{LANES, Level, scale};
 use std::simd::prelude::*;
 
 /// Mixes by the greatest, as consoles do: each channel's output is the greater of the level that the
@@ -33,7 +33,33 @@ fn mix_block(playback: &[Level], subs: &[Level], master: Level, out: &mut [Level
 {
     let playback = u8x32::from_slice(&playback[at..]);
     let subs = u8x32::from_slice(&subs[at..]);
-    scale_lanes(greater(playback, subs), u8x32::splat(master)).copy_to_slice(&mut out[at..]);
+    under(greater(playback, subs), master).copy_to_slice(&mut out[at..]);
+}
+
+/// Each level in proportion to the master. Two neighbours are a word, whose halves are multiplied apart: a
+/// level times 257 and the master, and once more, has its 255th part in the upper half of 32 bits.
+#[inline(always)]
+fn under(levels: u8x32, master: Level) -> u8x32
+    ensures { HasLanes result (λ k. scaled (slice_index levels k) master) }
+{
+    if master == Level::MAX {
+        return levels;
+    }
+    let by = 257 * master as u16 + 1;
+    let bytes = u16x16::splat(256);
+    let words = u16x16::from_le_bytes(levels);
+    let low = upper_half(words % bytes, by);
+    let high = upper_half(words / bytes * bytes, by);
+    (low + high / bytes * bytes).to_le_bytes()
+}
+
+/// The upper half of each word's product.
+#[inline(always)]
+fn upper_half(words: u16x16, by: u16) -> u16x16
+    ensures { HasWords result (λ k. slice_index words k * by / 2 ^ 16) }
+{
+    let products = words.cast::<u32>() * u16x16::splat(by).cast::<u32>();
+    (products >> u32x16::splat(16)).cast::<u16>()
 }
 
 /// The greater of the two levels in each lane.

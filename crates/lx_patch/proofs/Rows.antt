@@ -30,14 +30,21 @@ wired_none places levels places_are levels_are = record {
 }
 
 -- a row is placed
-pub stands_placed : (rows : List PatchRow) (row : PatchRow) (places levels : List ℕ) (at chan : ℕ) → StandsForPatch rows (record { places = places; levels = levels }) → at ≡ row.dimmer → chan ≡ row.chan → 1 ≤ at → at ≤ SLOTS → StandsForPatch (placed (λ x. x.dimmer) row rows) (record { places = set places (at - 1) (chan - 1); levels = set levels (at - 1) row.level })
+pub stands_placed : (rows : List PatchRow) (row : PatchRow) (places levels : List ℕ) (at chan : ℕ)
+    → StandsForPatch rows (record { places = places; levels = levels }) → at ≡ row.dimmer → chan ≡ row.chan → 1 ≤ at → at ≤ SLOTS
+    → StandsForPatch (placed (λ x. x.dimmer) row rows)
+    (record { places = set places (at - 1) (chan - 1); levels = set levels (at - 1) row.level })
 stands_placed rows row places levels at chan stands is chan_is least most = record {
   places = table-set SLOTS at (chan - 1) (place_of rows) (place_of (placed (λ x. x.dimmer) row rows)) places stands.places least most
-      (ap (λ (o : Option PatchRow). option_map_or (λ r. r.chan - 1) o 0) (entry_at-placed_here (λ x. x.dimmer) at row rows (sym is)) ∙ ap (λ n. n - 1) (sym chan_is))
-      (λ c other. ap (λ (o : Option PatchRow). option_map_or (λ r. r.chan - 1) o 0) (entry_at-placed_other (λ x. x.dimmer) c row rows (λ same. other (sym same ∙ sym is))));
-  levels = table-set SLOTS at row.level (proportion_of rows) (proportion_of (placed (λ x. x.dimmer) row rows)) levels stands.levels least most
+      (ap (λ (o : Option PatchRow). option_map_or (λ r. r.chan - 1) o 0) (entry_at-placed_here (λ x. x.dimmer) at row rows (sym is))
+      ∙ ap (λ n. n - 1) (sym chan_is))
+      (λ c other. ap (λ (o : Option PatchRow). option_map_or (λ r. r.chan - 1) o 0)
+      (entry_at-placed_other (λ x. x.dimmer) c row rows (λ same. other (sym same ∙ sym is))));
+  levels = table-set SLOTS at row.level (proportion_of rows) (proportion_of (placed (λ x. x.dimmer) row rows)) levels stands.levels least
+      most
       (ap (λ (o : Option PatchRow). option_map_or (λ r. r.level) o 0) (entry_at-placed_here (λ x. x.dimmer) at row rows (sym is)))
-      (λ c other. ap (λ (o : Option PatchRow). option_map_or (λ r. r.level) o 0) (entry_at-placed_other (λ x. x.dimmer) c row rows (λ same. other (sym same ∙ sym is))));
+      (λ c other. ap (λ (o : Option PatchRow). option_map_or (λ r. r.level) o 0)
+      (entry_at-placed_other (λ x. x.dimmer) c row rows (λ same. other (sym same ∙ sym is))));
 }
 
 number_apart : (a n : ℕ) → not (a == n) ≡ true → (a == n) ≡ false
@@ -51,30 +58,38 @@ pub gone : (n : ℕ) (rows : List PatchRow) → entry_at (λ x. x.dimmer) n (tak
 gone n rows = find_none _ _ (each _ _ _ (λ row h. number_apart row.dimmer n h) (passes (λ row. not (row.dimmer == n)) rows))
 
 -- the others are found as before
-pub others_stay : (n m : ℕ) (rows : List PatchRow) → (m ≡ n → ⊥) → entry_at (λ x. x.dimmer) m (taken_out (λ x. x.dimmer) n rows) ≡ entry_at (λ x. x.dimmer) m rows
+pub others_stay : (n m : ℕ) (rows : List PatchRow) → (m ≡ n → ⊥)
+    → entry_at (λ x. x.dimmer) m (taken_out (λ x. x.dimmer) n rows) ≡ entry_at (λ x. x.dimmer) m rows
 others_stay n m rows other =
-    let same : (λ (row : PatchRow). not (row.dimmer == n) && (row.dimmer == m)) ≡ (λ row. row.dimmer == m) = λ i row. and_known (not (row.dimmer == n)) (row.dimmer == m) (apart_from row.dimmer n m other) i in
+    let same : (λ (row : PatchRow). not (row.dimmer == n) && (row.dimmer == m)) ≡ (λ row. row.dimmer == m) =
+    λ i row. and_known (not (row.dimmer == n)) (row.dimmer == m) (apart_from row.dimmer n m other) i in
     find_both (λ row. not (row.dimmer == n)) (λ row. row.dimmer == m) rows ∙ ap (λ (t : PatchRow → Bool). find t rows) same
 
 -- a row is taken out
-pub stands_without : (rows : List PatchRow) (places levels : List ℕ) (at n : ℕ) → StandsForPatch rows (record { places = places; levels = levels }) → at ≡ n → 1 ≤ at → at ≤ SLOTS → StandsForPatch (taken_out (λ x. x.dimmer) n rows) (record { places = set places (at - 1) 0; levels = set levels (at - 1) 0 })
+pub stands_without : (rows : List PatchRow) (places levels : List ℕ) (at n : ℕ)
+    → StandsForPatch rows (record { places = places; levels = levels }) → at ≡ n → 1 ≤ at → at ≤ SLOTS
+    → StandsForPatch (taken_out (λ x. x.dimmer) n rows) (record { places = set places (at - 1) 0; levels = set levels (at - 1) 0 })
 stands_without rows places levels at n stands is least most = record {
   places = table-set SLOTS at 0 (place_of rows) (place_of (taken_out (λ x. x.dimmer) n rows)) places stands.places least most
-      (ap (λ e. place_of (taken_out (λ x. x.dimmer) n rows) e) is ∙ ap (λ (o : Option PatchRow). option_map_or (λ r. r.chan - 1) o 0) (gone n rows))
+      (ap (λ e. place_of (taken_out (λ x. x.dimmer) n rows) e) is
+      ∙ ap (λ (o : Option PatchRow). option_map_or (λ r. r.chan - 1) o 0) (gone n rows))
       (λ c other. ap (λ (o : Option PatchRow). option_map_or (λ r. r.chan - 1) o 0) (others_stay n c rows (λ same. other (same ∙ sym is))));
   levels = table-set SLOTS at 0 (proportion_of rows) (proportion_of (taken_out (λ x. x.dimmer) n rows)) levels stands.levels least most
-      (ap (λ e. proportion_of (taken_out (λ x. x.dimmer) n rows) e) is ∙ ap (λ (o : Option PatchRow). option_map_or (λ r. r.level) o 0) (gone n rows))
+      (ap (λ e. proportion_of (taken_out (λ x. x.dimmer) n rows) e) is
+      ∙ ap (λ (o : Option PatchRow). option_map_or (λ r. r.level) o 0) (gone n rows))
       (λ c other. ap (λ (o : Option PatchRow). option_map_or (λ r. r.level) o 0) (others_stay n c rows (λ same. other (same ∙ sym is))));
 }
 
 -- the rows from a place on are the row there and those after it
-pub drop_before : (rows : List PatchRow) (i : ℕ) (row : PatchRow) → 0 < i → i ≤ length rows → row ≡ get_or rows (i - 1) row → drop (i - 1) rows ≡ row ∷ drop i rows
+pub drop_before : (rows : List PatchRow) (i : ℕ) (row : PatchRow) → 0 < i → i ≤ length rows → row ≡ get_or rows (i - 1) row
+    → drop (i - 1) rows ≡ row ∷ drop i rows
 drop_before rows i row some within is =
     let next : suc (i - 1) ≡ i = omega arith in
     drop-cons rows (i - 1) row (omega arith) ∙ ap (λ x. x ∷ drop (suc (i - 1)) rows) (sym is) ∙ ap (λ k. row ∷ drop k rows) next
 
 -- a row placed is found as one set before the others
-placed_first : (row : PatchRow) (rows : List PatchRow) (e : ℕ) → entry_at (λ x. x.dimmer) e (placed (λ x. x.dimmer) row rows) ≡ entry_at (λ x. x.dimmer) e (row ∷ rows)
+placed_first : (row : PatchRow) (rows : List PatchRow) (e : ℕ)
+    → entry_at (λ x. x.dimmer) e (placed (λ x. x.dimmer) row rows) ≡ entry_at (λ x. x.dimmer) e (row ∷ rows)
 placed_first row rows e = elim (cases_order row.dimmer e) [
   | inl here ↦ rw (eq_true row.dimmer e here) (entry_at-placed_here (λ x. x.dimmer) e row rows here)
   | inr apart ↦
@@ -83,11 +98,15 @@ placed_first row rows e = elim (cases_order row.dimmer e) [
 ]
 
 -- a table stands for all rows that are found alike
-pub stands_alike : (one other : List PatchRow) (table : DimmerTable) → ((e : ℕ) → entry_at (λ x. x.dimmer) e one ≡ entry_at (λ x. x.dimmer) e other) → StandsForPatch one table → StandsForPatch other table
+pub stands_alike : (one other : List PatchRow) (table : DimmerTable)
+    → ((e : ℕ) → entry_at (λ x. x.dimmer) e one ≡ entry_at (λ x. x.dimmer) e other) → StandsForPatch one table → StandsForPatch other table
 stands_alike one other table alike stands = record {
-  places = table_of_same SLOTS (place_of one) (place_of other) table.places (λ e least most. ap (λ (o : Option PatchRow). option_map_or (λ r. r.chan - 1) o 0) (alike e)) stands.places;
-  levels = table_of_same SLOTS (proportion_of one) (proportion_of other) table.levels (λ e least most. ap (λ (o : Option PatchRow). option_map_or (λ r. r.level) o 0) (alike e)) stands.levels;
+  places = table_of_same SLOTS (place_of one) (place_of other) table.places
+      (λ e least most. ap (λ (o : Option PatchRow). option_map_or (λ r. r.chan - 1) o 0) (alike e)) stands.places;
+  levels = table_of_same SLOTS (proportion_of one) (proportion_of other) table.levels
+      (λ e least most. ap (λ (o : Option PatchRow). option_map_or (λ r. r.level) o 0) (alike e)) stands.levels;
 }
 
-pub stands_first : (row : PatchRow) (rows : List PatchRow) (table : DimmerTable) → StandsForPatch (placed (λ x. x.dimmer) row rows) table → StandsForPatch (row ∷ rows) table
+pub stands_first : (row : PatchRow) (rows : List PatchRow) (table : DimmerTable) → StandsForPatch (placed (λ x. x.dimmer) row rows) table
+    → StandsForPatch (row ∷ rows) table
 stands_first row rows table stands = stands_alike (placed (λ x. x.dimmer) row rows) (row ∷ rows) table (placed_first row rows) stands

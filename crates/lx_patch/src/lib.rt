@@ -4,8 +4,6 @@
 mod followers;
 mod slots;
 mod table;
-#[cfg(test)]
-mod tests;
 mod wiring;
 
 pub use table::PatchTable;

@@ -11,5 +11,6 @@ All-backwards {X} P xs all = λ k d h.
     let same_length : length (reverse xs) ≡ length xs = length-reverse xs in
     let here : k < length (reverse xs) = omega arith in
     let there : back < length (reverse xs) = omega arith in
-    let is : get_or xs k d ≡ get_or (reverse xs) back d = ap (λ (ys : List X). get_or ys k d) (sym (reverse-reverse xs)) ∙ get_or-reverse (reverse xs) k d here in
+    let is : get_or xs k d ≡ get_or (reverse xs) back d = ap (λ (ys : List X). get_or ys k d) (sym (reverse-reverse xs))
+    ∙ get_or-reverse (reverse xs) k d here in
     subst P (sym is) (All-from_recursion P (reverse xs) all back d there)

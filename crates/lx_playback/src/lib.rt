@@ -11,6 +11,3 @@ pub use lx_spec::PartTimes;
 pub use playback::Playback;
 pub use run::Run;
 pub use ticks::Ticked;
-
-#[cfg(test)]
-mod tests;

@@ -1,8 +1,10 @@
 //! The playback's state: the moment, the base, the live runs and the pending follow.
 
-ghost use Rattle.std.specs.Prelude.{◌≡◌, ◌+◌, ◌<◌, ◌≤◌, ◌==◌, ◌∷◌, None, not, reverse, length, IfOk, IsTrue, IsFalse};
+ghost use Rattle.std.specs.Prelude.{◌≡◌, ℕ, ◌+◌, ◌-◌, ◌/◌, ◌<◌, ◌≤◌, ◌==◌, [], ◌∷◌, None, min, not, reverse, length, IfOk, IsTrue, IsFalse};
 ghost use Rattle.std.specs.List.{All};
 ghost use Rattle.lx_spec.specs.Playback.{at_opening, position_of, has_room, is_over, is_due, at_rest};
+ghost use Rattle.lx_base.specs.declared.TheConstants.{TICK_END, TICK_STEP};
+ghost use Rattle.lx_playback.specs.Passed.{later, TicksPass, IsStillAt};
 ghost use Rattle.lx_playback.specs.Valid.{ValidPlayback, ValidRun};
 
 use crate::run::Run;
@@ -158,6 +160,41 @@ impl Playback {
         self.moment += TICK_STEP;
         true
     }
+
+    /// Lets ticks pass that change nothing but the moment: no follow is due at them, and the playback doesn't
+    /// come to rest. It answers how many there were, at most so many; at rest all up to the last moment.
+    pub fn pass(&mut self, most: u32) -> u32
+        ensures most { result ≤ most }
+        ensures state { self.new ≡ later self.old result }
+        ensures ticks { TicksPass self.old result }
+        ensures rest { self.old.live ≡ [] → self.old.pending ≡ None
+            → result ≡ min most ((TICK_END - self.old.moment) / TICK_STEP) }
+    {
+        let left = self.still_until().saturating_sub(self.moment) / TICK_STEP;
+        let ticks = most.min(left);
+        self.moment += ticks * TICK_STEP;
+        ticks
+    }
+
+    /// A moment up to which, after the present one, no follow is due and the playback doesn't come to rest.
+    fn still_until(&self) -> Moment
+        ensures end { result ≤ TICK_END }
+        ensures still { (m : ℕ) → self.now.moment < m → m ≤ result → IsStillAt self.now m }
+        ensures rest { self.now.live ≡ [] → self.now.pending ≡ None → result ≡ TICK_END }
+    {
+        match self.pending {
+            Some(due) => before(due),
+            None if self.live.is_empty() => TICK_END,
+            None => before(self.over_at),
+        }
+    }
+}
+
+/// The moment before this one, or the last moment if that is before it.
+fn before(moment: Moment) -> Moment
+    ensures { result ≡ min (moment - 1) TICK_END }
+{
+    moment.saturating_sub(1).min(TICK_END)
 }
 
 /// The cue number before the first cue.

@@ -14,7 +14,8 @@ use Rattle.lx_reader.proofs.Cues.{parts_named, parts_named-more, HasPart}
 use Rattle.lx_reader.proofs.Shows.{begun-more, IsRootedBy, IsRooted, IsBegunBy, IsBegun}
 
 -- what is absent among more numbers was absent among fewer
-absent_before : (n : ℕ) (more ns all : List ℕ) → all ≡ fold (λ ys x. placed (λ k. k) x ys) ns more → has_entry (λ m. m) n all ≡ false → has_entry (λ m. m) n ns ≡ false
+absent_before : (n : ℕ) (more ns all : List ℕ) → all ≡ fold (λ ys x. placed (λ k. k) x ys) ns more → has_entry (λ m. m) n all ≡ false
+    → has_entry (λ m. m) n ns ≡ false
 absent_before n more ns all is absent =
     let at : (b : Bool) → has_entry (λ m. m) n ns ≡ b → b ≡ false = λ b. elim b as (λ b. has_entry (λ m. m) n ns ≡ b → b ≡ false) [
       | true ↦ λ e. sym (has-all_placed n more ns e) ∙ ap (has_entry (λ m. m) n) (sym is) ∙ absent
@@ -22,21 +23,29 @@ absent_before n more ns all is absent =
     ] in
     at (has_entry (λ m. m) n ns) refl
 
-rooted_by : (number : Section → Option ℕ) (all : List PlacedEntry) (s : PlacedEntry) → IsRootedBy number all → IsBegunBy number all s.section → IsRootedBy number (all ++ s ∷ [])
+rooted_by : (number : Section → Option ℕ) (all : List PlacedEntry) (s : PlacedEntry) → IsRootedBy number all
+    → IsBegunBy number all s.section → IsRootedBy number (all ++ s ∷ [])
 rooted_by number all s rooted begun n absent =
-    let before : has_entry (λ m. m) n (numbers_begun number all) ≡ false = absent_before n (cons_option (number_begun number s.entry) []) (numbers_begun number all) (numbers_begun number (all ++ s ∷ [])) (begun-more number all s) absent in
+    let before : has_entry (λ m. m) n (numbers_begun number all) ≡ false =
+    absent_before n (cons_option (number_begun number s.entry) []) (numbers_begun number all) (numbers_begun number (all ++ s ∷ []))
+    (begun-more number all s) absent in
     let at : (b : Bool) → stands_in number n s ≡ b → b ≡ false = λ b. elim b as (λ b. stands_in number n s ≡ b → b ≡ false) [
       | true ↦ λ e. sym (begun n e) ∙ before
       | false ↦ λ e. refl
     ] in
     filter-more (stands_in number n) all s ∙ (λ j. rooted n before j ++ cond (at (stands_in number n s) refl j) (s ∷ []) [])
 
-none_in_part : (about : List PlacedEntry) (s : PlacedEntry) (q : ℕ) (b : Bool) → (has_entry (λ m. m) q (parts_named about) ≡ false → filter (λ z. z.part == q) about ≡ []) → (b ≡ true → HasPart about s.part)
-    → has_entry (λ m. m) q (parts_named (about ++ cond b (s ∷ []) [])) ≡ false → filter (λ z. z.part == q) (about ++ cond b (s ∷ []) []) ≡ []
+none_in_part : (about : List PlacedEntry) (s : PlacedEntry) (q : ℕ) (b : Bool)
+    → (has_entry (λ m. m) q (parts_named about) ≡ false → filter (λ z. z.part == q) about ≡ []) → (b ≡ true → HasPart about s.part)
+    → has_entry (λ m. m) q (parts_named (about ++ cond b (s ∷ []) [])) ≡ false
+    → filter (λ z. z.part == q) (about ++ cond b (s ∷ []) []) ≡ []
 none_in_part about s q false rooted there absent =
-    ap (filter (λ z. z.part == q)) (append-nil about) ∙ rooted (ap (λ v. has_entry (λ m. m) q (parts_named v)) (sym (append-nil about)) ∙ absent)
+    ap (filter (λ z. z.part == q)) (append-nil about)
+    ∙ rooted (ap (λ v. has_entry (λ m. m) q (parts_named v)) (sym (append-nil about)) ∙ absent)
 none_in_part about s q true rooted there absent =
-    let before : has_entry (λ m. m) q (parts_named about) ≡ false = absent_before q (cons_option (part_named s.entry) []) (parts_named about) (parts_named (about ++ s ∷ [])) (parts_named-more about s) absent in
+    let before : has_entry (λ m. m) q (parts_named about) ≡ false =
+    absent_before q (cons_option (part_named s.entry) []) (parts_named about) (parts_named (about ++ s ∷ [])) (parts_named-more about s)
+    absent in
     let at : (b : Bool) → (s.part == q) ≡ b → b ≡ false = λ b. elim b as (λ b. (s.part == q) ≡ b → b ≡ false) [
       | true ↦ λ e. sym (there refl) ∙ ap (λ k. has_entry (λ m. m) k (parts_named about)) (eqb-true s.part q e) ∙ before
       | false ↦ λ e. refl

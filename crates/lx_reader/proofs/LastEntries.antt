@@ -16,7 +16,8 @@ last_or-option : {A : Type 0} (o x : Option A) → last_or o (cons_option x []) 
 last_or-option o None = refl
 last_or-option o (Some x) = refl
 
-pub last_in-more : {A : Type 0} (of : Entry → Option A) (all : List PlacedEntry) (s : PlacedEntry) → last_in of (all ++ s ∷ []) ≡ later (of s.entry) (last_in of all)
+pub last_in-more : {A : Type 0} (of : Entry → Option A) (all : List PlacedEntry) (s : PlacedEntry)
+    → last_in of (all ++ s ∷ []) ≡ later (of s.entry) (last_in of all)
 last_in-more of all s =
     ap (λ v. last_or None v) (filter_map-append (λ z. of z.entry) all (s ∷ []))
     ∙ last_or-append None (filter_map (λ z. of z.entry) all) (cons_option (of s.entry) [])
@@ -36,5 +37,6 @@ unwrap-later None o d = refl
 unwrap-later (Some x) o d = refl
 
 -- the entries that pass a test, with one more
-pub filter-more : {A : Type 0} (test : A → Bool) (xs : List A) (x : A) → filter test (xs ++ x ∷ []) ≡ filter test xs ++ cond (test x) (x ∷ []) []
+pub filter-more : {A : Type 0} (test : A → Bool) (xs : List A) (x : A)
+    → filter test (xs ++ x ∷ []) ≡ filter test xs ++ cond (test x) (x ∷ []) []
 filter-more test xs x = filter-append test xs (x ∷ [])

@@ -1,5 +1,6 @@
 -- A pass over the lines of a show text, by a reader.
-use Rattle.std.proofs.Common.{◌≡◌, ℕ, ◌+◌, ◌<◌, ◌≤◌, true, false, List, [], ◌∷◌, length, Option, None, Result, Ok, Err, refl, ap, ◌∙◌, sym, subst, inl, inr}
+use Rattle.std.proofs.Common.{◌≡◌, ℕ, ◌+◌, ◌<◌, ◌≤◌, true, false, List, [], ◌∷◌, length, Option, None, Result, Ok, Err, refl, ap, ◌∙◌, sym}
+use Rattle.std.proofs.Common.{subst, inl, inr}
 use Rattle.std.specs.Prelude.{IfSome}
 use Rattle.std.specs.Result.{IsOkAnd, IsErrAnd}
 use Rattle.std.specs.Io.KnownBytes.{IsAtEnd}
@@ -31,7 +32,8 @@ use Rattle.lx_reader.specs.HandedLines.{MeansShow, MeansFault, IsPastLimit}
 use Rattle.lx_reader.specs.LineFaults.{show_fault, told_fault}
 use Rattle.lx_reader.specs.Answer.{reading_of, HasRead, IsLoaded, OfText, CutShort, AnswerOf, FaultOf, TurnOf}
 use Rattle.lx_reader.proofs.ReadLines.{long_entry}
-use Rattle.lx_reader.proofs.PassedLines.{PassedLines, lines_none, lines_sound, lines_more, lines_ended, lines_refused, lines_open, lines_past_limit, lines_cut}
+use Rattle.lx_reader.proofs.PassedLines.{PassedLines, lines_none, lines_sound, lines_more, lines_ended, lines_refused, lines_open}
+use Rattle.lx_reader.proofs.PassedLines.{lines_past_limit, lines_cut}
 
 -- what holds of a text's fault holds of it as it is told
 pub told : (P : TextFault → Type 0) (long cut : Type 0) (fault : TextFault) → P fault → OfText P long cut (show_fault fault)
@@ -43,7 +45,8 @@ told P long cut (LineTooLong i) is = is
 told P long cut (ShortList i) is = is
 told P long cut (NoEndData i) is = is
 
-of_text : (P Q : TextFault → Type 0) (long longer cut shorter : Type 0) → ((fault : TextFault) → P fault → Q fault) → (long → longer) → (cut → shorter) → (fault : ShowFault) → OfText P long cut fault → OfText Q longer shorter fault
+of_text : (P Q : TextFault → Type 0) (long longer cut shorter : Type 0) → ((fault : TextFault) → P fault → Q fault) → (long → longer)
+    → (cut → shorter) → (fault : ShowFault) → OfText P long cut fault → OfText Q longer shorter fault
 of_text P Q long longer cut shorter each past short (faults.NoIdent i) is = each (NoIdent i) is
 of_text P Q long longer cut shorter each past short (faults.BadNumber i) is = each (BadNumber i) is
 of_text P Q long longer cut shorter each past short (faults.OutOfRange i) is = each (OutOfRange i) is
@@ -61,21 +64,32 @@ answer_told (Ok done) = Ok done
 answer_told (Err stop) = Err (told_fault stop)
 
 -- A line that was handed out and given to the reader.
-pub line_turn : {S : Type 0} (left : S → Option (List ℕ)) (rises : S → ℕ) (l l' : Lines S) (r q : Reader) (result : Result (Unit {0}) LineFault) (raw line : List ℕ) (i : ℕ) → HandedOut left rises l l' (raw ∷ []) → line ≡ without_cr raw → i ≡ l.number + 1
+pub line_turn : {S : Type 0} (left : S → Option (List ℕ)) (rises : S → ℕ) (l l' : Lines S) (r q : Reader)
+    (result : Result (Unit {0}) LineFault) (raw line : List ℕ) (i : ℕ) → HandedOut left rises l l' (raw ∷ []) → line ≡ without_cr raw
+    → i ≡ l.number + 1
     → Outcome r q i result (entry_of (facts_of r i) line) → TurnOf left rises l l' r q (answer_told result)
-line_turn left rises l l' r q (Ok done) raw line i handed is number took =
-    (raw, handed, subst (λ k. Outcome r q k (Ok done) (entry_of (facts_of r k) (without_cr raw))) number (subst (λ v. Outcome r q i (Ok done) (entry_of (facts_of r i) v)) is took))
+line_turn left rises l l' r q (Ok done) raw line i handed is number took = (
+  raw,
+  handed,
+  subst (λ k. Outcome r q k (Ok done) (entry_of (facts_of r k) (without_cr raw))) number
+      (subst (λ v. Outcome r q i (Ok done) (entry_of (facts_of r i) v)) is took),
+)
 line_turn left rises l l' r q (Err stops.Memory) raw line i handed is number took = tt
 line_turn left rises l l' r q (Err (stops.Text fault)) raw line i handed is number took =
-    told (FaultOf left rises l l' r) (StepOf steps.InputTooLong (unread left l) (unread left l') l.taken l'.taken (line_of l')) (NotTaken left l l') fault
+    told (FaultOf left rises l l' r) (StepOf steps.InputTooLong (unread left l) (unread left l') l.taken l'.taken (line_of l'))
+    (NotTaken left l l') fault
     (inl (raw, handed, (λ j. entry_of (facts_of r (sym number j)) (sym is j)) ∙ took))
 
 -- A line that is too long.
-pub long_turn : {S : Type 0} (left : S → Option (List ℕ)) (rises : S → ℕ) (l l' : Lines S) (r q : Reader) (raw : List ℕ) (i : ℕ) → HandedOut left rises l l' (raw ∷ []) → LINE_BYTES < length (without_cr raw) → i ≡ l.number + 1 → TurnOf left rises l l' r q (Err (faults.LineTooLong i))
-long_turn left rises l l' r q raw i handed long number = inl (raw, handed, long_entry (facts_of r (l.number + 1)) (without_cr raw) long ∙ ap (λ k. Err (LineTooLong k)) (sym number))
+pub long_turn : {S : Type 0} (left : S → Option (List ℕ)) (rises : S → ℕ) (l l' : Lines S) (r q : Reader) (raw : List ℕ) (i : ℕ)
+    → HandedOut left rises l l' (raw ∷ []) → LINE_BYTES < length (without_cr raw) → i ≡ l.number + 1
+    → TurnOf left rises l l' r q (Err (faults.LineTooLong i))
+long_turn left rises l l' r q raw i handed long number =
+    inl (raw, handed, long_entry (facts_of r (l.number + 1)) (without_cr raw) long ∙ ap (λ k. Err (LineTooLong k)) (sym number))
 
 -- No line is left.
-pub end_turn : {S : Type 0} (left : S → Option (List ℕ)) (rises : S → ℕ) (l l' : Lines S) (r q : Reader) (i : ℕ) → IsAtEnd (unread left l) → i ≡ l.number + 1 → TurnOf left rises l l' r q (Err (faults.NoEndData i))
+pub end_turn : {S : Type 0} (left : S → Option (List ℕ)) (rises : S → ℕ) (l l' : Lines S) (r q : Reader) (i : ℕ) → IsAtEnd (unread left l)
+    → i ≡ l.number + 1 → TurnOf left rises l l' r q (Err (faults.NoEndData i))
 end_turn left rises l l' r q i end number = inr (end, ap NoEndData number)
 
 -- The pass over the lines.
@@ -83,74 +97,115 @@ pub record Passage {S : Type 0} (left : S → Option (List ℕ)) (rises : S → 
   pub past : PassedLines left rises old l (state_of r)
   pub going : r.ended ≡ false
 
-pub passage_none : {S : Type 0} (left : S → Option (List ℕ)) (rises : S → ℕ) (l : Lines S) (r : Reader) → l.going ≡ true → r.show ≡ first_state.show → r.channels_set ≡ None → r.skipped ≡ 0 → r.first_skipped ≡ 0 → r.identified ≡ false → r.section ≡ NoRecord → r.part ≡ 1 → r.ended ≡ false → Passage left rises l l r
+pub passage_none : {S : Type 0} (left : S → Option (List ℕ)) (rises : S → ℕ) (l : Lines S) (r : Reader) → l.going ≡ true
+    → r.show ≡ first_state.show → r.channels_set ≡ None → r.skipped ≡ 0 → r.first_skipped ≡ 0 → r.identified ≡ false → r.section ≡ NoRecord
+    → r.part ≡ 1 → r.ended ≡ false → Passage left rises l l r
 passage_none left rises l r going show set skipped first identified section part ended =
-    let state : state_of r ≡ first_state = λ j. record { show = show j; channels_set = set j; skipped = skipped j; first_skipped = first j; identified = identified j; section = section j; part = part j } in
+    let state : state_of r ≡ first_state = λ j. record {
+      show = show j;
+      channels_set = set j;
+      skipped = skipped j;
+      first_skipped = first j;
+      identified = identified j;
+      section = section j;
+      part = part j;
+    } in
     record { past = subst (PassedLines left rises l l) (sym state) (lines_none left rises l going); going = ended }
 
 -- the reader is ready for the next line
-pub passage_ready : {S : Type 0} (left : S → Option (List ℕ)) (rises : S → ℕ) (old l : Lines S) (r : Reader) → old.number ≡ 0 → Passage left rises old l r → IsReady r (l.number + 1)
+pub passage_ready : {S : Type 0} (left : S → Option (List ℕ)) (rises : S → ℕ) (old l : Lines S) (r : Reader) → old.number ≡ 0
+    → Passage left rises old l r → IsReady r (l.number + 1)
 passage_ready left rises old l r first passage =
     let sound = lines_sound left rises old l (state_of r) first passage.past in
     record { open_section = sound.open_section; few = sound.few; going = passage.going }
 
-more_by : {S : Type 0} (left : S → Option (List ℕ)) (rises : S → ℕ) (old l l' : Lines S) (r q : Reader) (raw : List ℕ) (x : Result Entry TextFault) → old.number ≡ 0 → Passage left rises old l r → HandedOut left rises l l' (raw ∷ [])
-    → entry_of (facts_of r (l.number + 1)) (without_cr raw) ≡ x → IsOkAnd x (IsStep r q (l.number + 1)) → q.ended ≡ false → Passage left rises old l' q
+more_by : {S : Type 0} (left : S → Option (List ℕ)) (rises : S → ℕ) (old l l' : Lines S) (r q : Reader) (raw : List ℕ)
+    (x : Result Entry TextFault) → old.number ≡ 0 → Passage left rises old l r → HandedOut left rises l l' (raw ∷ [])
+    → entry_of (facts_of r (l.number + 1)) (without_cr raw) ≡ x → IsOkAnd x (IsStep r q (l.number + 1)) → q.ended ≡ false
+    → Passage left rises old l' q
 more_by left rises old l l' r q raw (Err fault) first passage handed says took going = absurd took
 more_by left rises old l l' r q raw (Ok e) first passage handed says took going = record {
-  past = subst (PassedLines left rises old l') (sym took.state) (lines_more left rises old l l' (state_of r) raw e first passage.past handed says (sym took.ended ∙ going));
+  past = subst (PassedLines left rises old l') (sym took.state)
+      (lines_more left rises old l l' (state_of r) raw e first passage.past handed says (sym took.ended ∙ going));
   going = going;
 }
 
 -- one more line
-pub passage_more : {S : Type 0} (left : S → Option (List ℕ)) (rises : S → ℕ) (old l l' : Lines S) (r q : Reader) (done : Unit {0}) → old.number ≡ 0 → Passage left rises old l r → TurnOf left rises l l' r q (Ok done) → q.ended ≡ false → Passage left rises old l' q
-passage_more left rises old l l' r q done first passage turn going = more_by left rises old l l' r q turn.0 (entry_of (facts_of r (l.number + 1)) (without_cr turn.0)) first passage turn.1 refl turn.2 going
+pub passage_more : {S : Type 0} (left : S → Option (List ℕ)) (rises : S → ℕ) (old l l' : Lines S) (r q : Reader) (done : Unit {0})
+    → old.number ≡ 0 → Passage left rises old l r → TurnOf left rises l l' r q (Ok done) → q.ended ≡ false → Passage left rises old l' q
+passage_more left rises old l l' r q done first passage turn going =
+    more_by left rises old l l' r q turn.0 (entry_of (facts_of r (l.number + 1)) (without_cr turn.0)) first passage turn.1 refl turn.2 going
 
 -- ENDDATA adds nothing
 end_adds : (i : ℕ) (r : Reader) (e : Entry) → is_end e ≡ true → step i e (state_of r) ≡ state_of r
 end_adds i r e = elim e as (λ e. is_end e ≡ true → step i e (state_of r) ≡ state_of r) [ Ends ↦ λ is. refl | _ ↦ λ is. cc ]
 
-ended_by : {S : Type 0} (left : S → Option (List ℕ)) (rises : S → ℕ) (old l l' : Lines S) (form : Form) (r q : Reader) (loaded : Loaded) (raw : List ℕ) (x : Result Entry TextFault) → old.number ≡ 0 → Passage left rises old l r → HandedOut left rises l l' (raw ∷ [])
-    → entry_of (facts_of r (l.number + 1)) (without_cr raw) ≡ x → IsOkAnd x (IsStep r q (l.number + 1)) → q.ended ≡ true → IfSome q.channels_set (λ n. 1 ≤ n) → reading_of loaded ≡ final_reading form (state_of q) → Valid loaded.show → HasRead left rises old l' form loaded
+ended_by : {S : Type 0} (left : S → Option (List ℕ)) (rises : S → ℕ) (old l l' : Lines S) (form : Form) (r q : Reader) (loaded : Loaded)
+    (raw : List ℕ) (x : Result Entry TextFault) → old.number ≡ 0 → Passage left rises old l r → HandedOut left rises l l' (raw ∷ [])
+    → entry_of (facts_of r (l.number + 1)) (without_cr raw) ≡ x → IsOkAnd x (IsStep r q (l.number + 1)) → q.ended ≡ true
+    → IfSome q.channels_set (λ n. 1 ≤ n) → reading_of loaded ≡ final_reading form (state_of q) → Valid loaded.show
+    → HasRead left rises old l' form loaded
 ended_by left rises old l l' form r q loaded raw (Err fault) first passage handed says took ended least reading valid = absurd took
 ended_by left rises old l l' form r q loaded raw (Ok e) first passage handed says took ended least reading valid =
     let end : is_end e ≡ true = sym took.ended ∙ ended in
     let same : state_of q ≡ state_of r = took.state ∙ end_adds (l.number + 1) r e end in
     let final : final_reading form (state_of r) ≡ reading_of loaded = ap (final_reading form) (sym same) ∙ sym reading in
     record {
-      means = subst (MeansShow left rises old l' form) final (lines_ended left rises old l l' form (state_of r) raw e first passage.past (subst (λ t. IfSome t.channels_set (λ n. 1 ≤ n)) same least) handed says end);
+      means = subst (MeansShow left rises old l' form) final
+          (lines_ended left rises old l l' form (state_of r) raw e first passage.past
+          (subst (λ t. IfSome t.channels_set (λ n. 1 ≤ n)) same least) handed says end);
       valid = valid;
     }
 
 -- the line was ENDDATA
-pub passage_ended : {S : Type 0} (left : S → Option (List ℕ)) (rises : S → ℕ) (old l l' : Lines S) (form : Form) (r q : Reader) (loaded : Loaded) (done : Unit {0}) → old.number ≡ 0 → Passage left rises old l r → TurnOf left rises l l' r q (Ok done) → q.ended ≡ true → IfSome q.channels_set (λ n. 1 ≤ n)
+pub passage_ended : {S : Type 0} (left : S → Option (List ℕ)) (rises : S → ℕ) (old l l' : Lines S) (form : Form) (r q : Reader)
+    (loaded : Loaded) (done : Unit {0}) → old.number ≡ 0 → Passage left rises old l r → TurnOf left rises l l' r q (Ok done)
+    → q.ended ≡ true → IfSome q.channels_set (λ n. 1 ≤ n)
     → reading_of loaded ≡ final_reading form (state_of q) → Valid loaded.show → AnswerOf left rises old l' form (Ok loaded)
 passage_ended left rises old l l' form r q loaded done first passage turn ended least reading valid =
-    ended_by left rises old l l' form r q loaded turn.0 (entry_of (facts_of r (l.number + 1)) (without_cr turn.0)) first passage turn.1 refl turn.2 ended least reading valid
+    ended_by left rises old l l' form r q loaded turn.0 (entry_of (facts_of r (l.number + 1)) (without_cr turn.0)) first passage turn.1 refl
+    turn.2 ended least reading valid
 
-pub passage_loaded : {S : Type 0} (left : S → Option (List ℕ)) (rises : S → ℕ) (old l l' : Lines S) (form : Form) (r q : Reader) (result : Result Loaded ShowFault) (done : Unit {0}) → old.number ≡ 0 → Passage left rises old l r → TurnOf left rises l l' r q (Ok done) → q.ended ≡ true
+pub passage_loaded : {S : Type 0} (left : S → Option (List ℕ)) (rises : S → ℕ) (old l l' : Lines S) (form : Form) (r q : Reader)
+    (result : Result Loaded ShowFault) (done : Unit {0}) → old.number ≡ 0 → Passage left rises old l r
+    → TurnOf left rises l l' r q (Ok done) → q.ended ≡ true
     → IsLoaded form q result → AnswerOf left rises old l' form result
-passage_loaded left rises old l l' form r q (Ok loaded) done first passage turn ended is = passage_ended left rises old l l' form r q loaded done first passage turn ended is.least is.reading is.valid
-passage_loaded left rises old l l' form r q (Err fault) done first passage turn ended is = subst (λ f. AnswerOf left rises old l' form (Err f)) (sym is) tt
+passage_loaded left rises old l l' form r q (Ok loaded) done first passage turn ended is =
+    passage_ended left rises old l l' form r q loaded done first passage turn ended is.least is.reading is.valid
+passage_loaded left rises old l l' form r q (Err fault) done first passage turn ended is =
+    subst (λ f. AnswerOf left rises old l' form (Err f)) (sym is) tt
 
 -- want of memory is no failed read
-pub loaded_read : {P : Type 0} (form : Form) (q : Reader) (result : Result Loaded ShowFault) → IsLoaded form q result → result ≡ Err faults.ReadFault → P
+pub loaded_read : {P : Type 0} (form : Form) (q : Reader) (result : Result Loaded ShowFault) → IsLoaded form q result
+    → result ≡ Err faults.ReadFault → P
 loaded_read form q (Ok loaded) is read = cc
 loaded_read form q (Err fault) is read = cc
 
 -- a fault ends the reading
-fault_of_text : {S : Type 0} (left : S → Option (List ℕ)) (rises : S → ℕ) (old l l' : Lines S) (form : Form) (r : Reader) → old.number ≡ 0 → Passage left rises old l r → (fault : TextFault) → FaultOf left rises l l' r fault → MeansFault left old form fault
-fault_of_text left rises old l l' form r first passage fault (inl line) = lines_refused left rises old l l' form (state_of r) line.0 fault first passage.past line.1 line.2
-fault_of_text left rises old l l' form r first passage fault (inr end) = subst (MeansFault left old form) (sym end.1) (lines_open left rises old l form (state_of r) first passage.past end.0)
+fault_of_text : {S : Type 0} (left : S → Option (List ℕ)) (rises : S → ℕ) (old l l' : Lines S) (form : Form) (r : Reader) → old.number ≡ 0
+    → Passage left rises old l r → (fault : TextFault) → FaultOf left rises l l' r fault → MeansFault left old form fault
+fault_of_text left rises old l l' form r first passage fault (inl line) =
+    lines_refused left rises old l l' form (state_of r) line.0 fault first passage.past line.1 line.2
+fault_of_text left rises old l l' form r first passage fault (inr end) =
+    subst (MeansFault left old form) (sym end.1) (lines_open left rises old l form (state_of r) first passage.past end.0)
 
-pub passage_fault : {S : Type 0} (left : S → Option (List ℕ)) (rises : S → ℕ) (old l l' : Lines S) (form : Form) (r q : Reader) (fault : ShowFault) → old.number ≡ 0 → Passage left rises old l r → TurnOf left rises l l' r q (Err fault) → AnswerOf left rises old l' form (Err fault)
+pub passage_fault : {S : Type 0} (left : S → Option (List ℕ)) (rises : S → ℕ) (old l l' : Lines S) (form : Form) (r q : Reader)
+    (fault : ShowFault) → old.number ≡ 0 → Passage left rises old l r → TurnOf left rises l l' r q (Err fault)
+    → AnswerOf left rises old l' form (Err fault)
 passage_fault left rises old l l' form r q fault first passage turn =
-    of_text (FaultOf left rises l l' r) (MeansFault left old form) (StepOf steps.InputTooLong (unread left l) (unread left l') l.taken l'.taken (line_of l')) (IfSome (unread left old) (IsPastLimit old.taken) × CutShort left old l') (NotTaken left l l') (CutShort left old l')
+    of_text (FaultOf left rises l l' r) (MeansFault left old form)
+    (StepOf steps.InputTooLong (unread left l) (unread left l') l.taken l'.taken (line_of l'))
+    (IfSome (unread left old) (IsPastLimit old.taken) × CutShort left old l') (NotTaken left l l') (CutShort left old l')
     (fault_of_text left rises old l l' form r first passage)
-    (λ step. (lines_past_limit left rises old l l' (state_of r) passage.past step, lines_cut left rises old l l' (state_of r) passage.past (too_long left l l' step)))
+    (λ step. (
+      lines_past_limit left rises old l l' (state_of r) passage.past step,
+      lines_cut left rises old l l' (state_of r) passage.past (too_long left l l' step),
+    ))
     (lines_cut left rises old l l' (state_of r) passage.past) fault turn
 
 -- a fault that is handed on
-pub handed_on : {S : Type 0} (left : S → Option (List ℕ)) (rises : S → ℕ) (old l : Lines S) (form : Form) (result : Result Loaded ShowFault) (fault : ShowFault) → IsErrAnd result (λ told_fault. told_fault ≡ fault) → AnswerOf left rises old l form (Err fault) → AnswerOf left rises old l form result
+pub handed_on : {S : Type 0} (left : S → Option (List ℕ)) (rises : S → ℕ) (old l : Lines S) (form : Form) (result : Result Loaded ShowFault)
+    (fault : ShowFault) → IsErrAnd result (λ told_fault. told_fault ≡ fault) → AnswerOf left rises old l form (Err fault)
+    → AnswerOf left rises old l form result
 handed_on left rises old l form (Ok loaded) fault is answer = absurd is
 handed_on left rises old l form (Err other) fault is answer = subst (λ f. AnswerOf left rises old l form (Err f)) (sym is) answer

@@ -1,5 +1,6 @@
 -- What one line makes of the reader.
-use Rattle.std.proofs.Common.{◌≡◌, ℕ, ◌+◌, length, arith, Bool, true, false, cond, List, [], ◌∷◌, map, Option, Some, None, Result, Ok, Err, refl, ap, ◌∙◌, sym, subst}
+use Rattle.std.proofs.Common.{◌≡◌, ℕ, ◌+◌, length, arith, Bool, true, false, cond, List, [], ◌∷◌, map, Option, Some, None, Result, Ok, Err}
+use Rattle.std.proofs.Common.{refl, ap, ◌∙◌, sym, subst}
 use Rattle.std.specs.Prelude.{◌&&◌, ◌||◌, ◌==◌, not, nat_lt, IfOk, IfErr, OnOk, is_ok, is_some, is_none}
 use Rattle.std.specs.Option.{option_map_or}
 use Rattle.std.specs.List.{list_any}
@@ -21,10 +22,12 @@ use Rattle.lx_spec.specs.FirstRefusal.{◌>>=◌}
 use Rattle.lx_spec.specs.Show.{IsTime, Cue, Show, Valid}
 use Rattle.lx_spec.specs.declared.Section.{Section}
 use Rattle.lx_spec.specs.declared.Section.TheVariants.{NoRecord, InCue, Skipping}
-use Rattle.lx_spec.specs.Entry.{Entry, Nothing, Skipped, Identifies, Begins, ClearsAll, HasChannels, Patches, HasLevels, NamesPart, Ends, part_named, is_end}
+use Rattle.lx_spec.specs.Entry.{Entry, Nothing, Skipped, Identifies, Begins, ClearsAll, HasChannels, Patches, HasLevels, NamesPart, Ends}
+use Rattle.lx_spec.specs.Entry.{part_named, is_end}
 use Rattle.lx_spec.specs.Fields.{times, number, delay_at, levels, is_page_one, record_entry}
 use Rattle.lx_spec.specs.LineRules.{if_few, entry_by_word}
 use Rattle.lx_spec.proofs.ValidLines.{time_in_range}
+use Rattle.lx_reader.specs.declared.gathered.Gathered.{Gathered}
 use Rattle.lx_reader.specs.declared.reader.Reader.{Reader}
 use Rattle.lx_reader.specs.declared.line_fault.LineFault.{LineFault}
 use Rattle.lx_reader.specs.declared.line_fault.LineFault.TheVariants.{Text, Memory}
@@ -39,12 +42,14 @@ pub time_within : (r : Result ℕ Bad) (t : ℕ) (token : List ℕ) → r ≡ re
 time_within r t token is ok = subst (λ v. IfOk v IsTime) (sym is ∙ ok) (time_in_range token)
 
 -- a fault ends the reading
-pub stops : (old new : Reader) (i : ℕ) (r : Result (Unit {0}) LineFault) (entry : Result Entry TextFault) (fault : TextFault) → IsErrAnd r (λ stop. stop ≡ Text fault) → entry ≡ Err fault → Outcome old new i r entry
+pub stops : (old new : Reader) (i : ℕ) (r : Result (Unit {0}) LineFault) (entry : Result Entry TextFault) (fault : TextFault)
+    → IsErrAnd r (λ stop. stop ≡ Text fault) → entry ≡ Err fault → Outcome old new i r entry
 stops old new i (Ok done) entry fault stop is = absurd stop
 stops old new i (Err stop) entry fault stopped is = subst (λ s. Outcome old new i (Err s) entry) (sym stopped) is
 
 -- the line says this, and the reader went on
-took : (old new : Reader) (i : ℕ) (r : Result Entry TextFault) (entry : Entry) → r ≡ Ok entry → IsStep old new i entry → IsOkAnd r (IsStep old new i)
+took : (old new : Reader) (i : ℕ) (r : Result Entry TextFault) (entry : Entry) → r ≡ Ok entry → IsStep old new i entry
+    → IsOkAnd r (IsStep old new i)
 took old new i r entry is up = subst (λ v. IsOkAnd v (IsStep old new i)) (sym is) up
 
 -- the two times of a line
@@ -52,11 +57,14 @@ abbrev pub said_with : (ℕ → ℕ → Entry) → Result (ℕ × ℕ) TextFault
 said_with entry (Ok t) = Ok (entry t.0 t.1)
 said_with entry (Err fault) = Err fault
 
-delay_next : (i : ℕ) (entry : ℕ → ℕ → Entry) (time : ℕ) (d : Result ℕ TextFault) → (d >>= (λ delay. Ok (entry time delay))) ≡ said_with entry (d >>= (λ delay. let both : ℕ × ℕ = (time, delay) in Ok both))
+delay_next : (i : ℕ) (entry : ℕ → ℕ → Entry) (time : ℕ) (d : Result ℕ TextFault)
+    → (d >>= (λ delay. Ok (entry time delay))) ≡ said_with entry (d >>= (λ delay. let both : ℕ × ℕ = (time, delay) in Ok both))
 delay_next i entry time (Ok delay) = refl
 delay_next i entry time (Err fault) = refl
 
-times_from : (i : ℕ) (entry : ℕ → ℕ → Entry) (t d : Result ℕ TextFault) → (t >>= (λ time. d >>= (λ delay. Ok (entry time delay)))) ≡ said_with entry (t >>= (λ time. d >>= (λ delay. let both : ℕ × ℕ = (time, delay) in Ok both)))
+times_from : (i : ℕ) (entry : ℕ → ℕ → Entry) (t d : Result ℕ TextFault)
+    → (t >>= (λ time. d >>= (λ delay. Ok (entry time delay))))
+    ≡ said_with entry (t >>= (λ time. d >>= (λ delay. let both : ℕ × ℕ = (time, delay) in Ok both)))
 times_from i entry (Ok time) d = delay_next i entry time d
 times_from i entry (Err fault) d = refl
 
@@ -64,10 +72,12 @@ pub times-next : (i : ℕ) (entry : ℕ → ℕ → Entry) (rest : List (List �
 times-next i entry [] = refl
 times-next i entry (token ∷ rest) = times_from i entry (number i (read_time token)) (delay_at i rest)
 
-pub times_fault : (i : ℕ) (entry : ℕ → ℕ → Entry) (rest : List (List ℕ)) (fault : TextFault) → Err fault ≡ next_times i rest → times i entry rest ≡ Err fault
+pub times_fault : (i : ℕ) (entry : ℕ → ℕ → Entry) (rest : List (List ℕ)) (fault : TextFault) → Err fault ≡ next_times i rest
+    → times i entry rest ≡ Err fault
 times_fault i entry rest fault is = times-next i entry rest ∙ ap (said_with entry) (sym is)
 
-pub times_ok : (i : ℕ) (entry : ℕ → ℕ → Entry) (rest : List (List ℕ)) (times_read : ℕ × ℕ) → Ok times_read ≡ next_times i rest → times i entry rest ≡ Ok (entry times_read.0 times_read.1)
+pub times_ok : (i : ℕ) (entry : ℕ → ℕ → Entry) (rest : List (List ℕ)) (times_read : ℕ × ℕ) → Ok times_read ≡ next_times i rest
+    → times i entry rest ≡ Ok (entry times_read.0 times_read.1)
 times_ok i entry rest times_read is = times-next i entry rest ∙ ap (said_with entry) (sym is)
 
 -- an entry that adds to the show alone
@@ -91,84 +101,119 @@ step_adds i e t = elim e as (λ e. adds e ≡ true → step i e t ≡ record t {
 adds_on : (e : Entry) → adds e ≡ true → is_end e ≡ false
 adds_on e = elim e as (λ e. adds e ≡ true → is_end e ≡ false) [ Ends ↦ λ is. cc | _ ↦ λ is. refl ]
 
-added : (old : Reader) (show : Show) (i : ℕ) (entry : Entry) → old.ended ≡ false → adds entry ≡ true → show ≡ show_with (placed_at old entry) old.show → IsStep old (record old { show = show }) i entry
-added old show i entry going alone is = record {
-  state = (λ j. record (state_of old) { show = is j }) ∙ sym (step_adds i entry (state_of old) alone);
-  ended = going ∙ sym (adds_on entry alone);
+added_to : (old new : Reader) (show : Show) (i : ℕ) (entry : Entry) → old.ended ≡ false → adds entry ≡ true
+    → show ≡ show_with (placed_at old entry) old.show → state_of new ≡ record (state_of old) { show = show } → new.ended ≡ old.ended
+    → IsStep old new i entry
+added_to old new show i entry going alone is state ended = record {
+  state = state ∙ (λ j. record (state_of old) { show = is j }) ∙ sym (step_adds i entry (state_of old) alone);
+  ended = ended ∙ going ∙ sym (adds_on entry alone);
 }
 
+added : (old : Reader) (show : Show) (i : ℕ) (entry : Entry) → old.ended ≡ false → adds entry ≡ true
+    → show ≡ show_with (placed_at old entry) old.show → IsStep old (record old { show = show }) i entry
+added old show i entry going alone is = added_to old (record old { show = show }) show i entry going alone is refl refl
+
 -- what was said in a cue
-in_cue_said : (old : Reader) (n : ℕ) (entry : Entry) → old.section ≡ InCue n → show_with (record { section = InCue n; part = old.part; entry = entry }) old.show ≡ show_with (placed_at old entry) old.show
+in_cue_said : (old : Reader) (n : ℕ) (entry : Entry) → old.section ≡ InCue n
+    → show_with (record { section = InCue n; part = old.part; entry = entry }) old.show ≡ show_with (placed_at old entry) old.show
 in_cue_said old n entry inside = λ j. show_with (record { section = sym inside j; part = old.part; entry = entry }) old.show
 
 -- times in a cue
-pub times_took : (old : Reader) (show : Show) (i n : ℕ) (rest : List (List ℕ)) (entry : ℕ → ℕ → Entry) (t : ℕ × ℕ) → old.ended ≡ false → old.section ≡ InCue n → adds (entry t.0 t.1) ≡ true
-    → Ok t ≡ next_times i rest → show ≡ show_with (record { section = InCue n; part = old.part; entry = entry t.0 t.1 }) old.show → IsOkAnd (times i entry rest) (IsStep old (record old { show = show }) i)
+pub times_took : (old : Reader) (show : Show) (i n : ℕ) (rest : List (List ℕ)) (entry : ℕ → ℕ → Entry) (t : ℕ × ℕ) → old.ended ≡ false
+    → old.section ≡ InCue n → adds (entry t.0 t.1) ≡ true
+    → Ok t ≡ next_times i rest → show ≡ show_with (record { section = InCue n; part = old.part; entry = entry t.0 t.1 }) old.show
+    → IsOkAnd (times i entry rest) (IsStep old (record old { show = show }) i)
 times_took old show i n rest entry t going inside alone numbers is =
-    took old (record old { show = show }) i (times i entry rest) (entry t.0 t.1) (times_ok i entry rest t numbers) (added old show i (entry t.0 t.1) going alone (is ∙ in_cue_said old n (entry t.0 t.1) inside))
+    took old (record old { show = show }) i (times i entry rest) (entry t.0 t.1) (times_ok i entry rest t numbers)
+    (added old show i (entry t.0 t.1) going alone (is ∙ in_cue_said old n (entry t.0 t.1) inside))
 
 -- Levels in a section.
-levels_from : (i : ℕ) (rest : List (List ℕ)) (r : Result (List Member) TextFault) → all_pairs i rest ≡ r → levels desk_limits i rest ≡ (r >>= (λ members. Ok (HasLevels members)))
+levels_from : (i : ℕ) (rest : List (List ℕ)) (r : Result (List Member) TextFault) → all_pairs i rest ≡ r
+    → levels desk_limits i rest ≡ (r >>= (λ members. Ok (HasLevels members)))
 levels_from i rest r is = ap (λ v. v >>= (λ members. Ok (HasLevels members))) is
 
-levels_ok : (old : Reader) (show : Show) (i : ℕ) (rest : List (List ℕ)) (r : Result (List Member) TextFault) → old.ended ≡ false → all_pairs i rest ≡ r → IsOkAnd r (λ members. show ≡ with_members old.section old.part members old.show)
-    → IsOkAnd (levels desk_limits i rest) (IsStep old (record old { show = show }) i)
-levels_ok old show i rest (Err fault) going list is = absurd is
-levels_ok old show i rest (Ok members) going list is = took old (record old { show = show }) i (levels desk_limits i rest) (HasLevels members) (levels_from i rest (Ok members) list) (added old show i (HasLevels members) going refl is)
+levels_ok : (old : Reader) (show : Show) (room : Gathered) (i : ℕ) (rest : List (List ℕ)) (r : Result (List Member) TextFault)
+    → old.ended ≡ false → all_pairs i rest ≡ r → IsOkAnd r (λ members. show ≡ with_members old.section old.part members old.show)
+    → IsOkAnd (levels desk_limits i rest) (IsStep old (record old { show = show; gathered = room }) i)
+levels_ok old show room i rest (Err fault) going list is = absurd is
+levels_ok old show room i rest (Ok members) going list is =
+    let new : Reader = record old { show = show; gathered = room } in
+    took old new i (levels desk_limits i rest) (HasLevels members) (levels_from i rest (Ok members) list)
+    (added_to old new show i (HasLevels members) going refl is refl refl)
 
-levels_stop : (stop : LineFault) (i : ℕ) (rest : List (List ℕ)) → IsFaultOf stop (all_pairs i rest) → IsFaultOf stop (levels desk_limits i rest)
+levels_stop : (stop : LineFault) (i : ℕ) (rest : List (List ℕ)) → IsFaultOf stop (all_pairs i rest)
+    → IsFaultOf stop (levels desk_limits i rest)
 levels_stop (Text fault) i rest is = levels_from i rest (Err fault) is
 levels_stop Memory i rest is = tt
 
-pub levels_took : (old : Reader) (show : Show) (i : ℕ) (rest : List (List ℕ)) (result : Result (Unit {0}) LineFault) → old.ended ≡ false → OnOk result (IsOkAnd (all_pairs i rest) (λ members. show ≡ with_members old.section old.part members old.show))
-    → IfErr result (λ stop. IsFaultOf stop (all_pairs i rest)) → Outcome old (record old { show = show }) i result (levels desk_limits i rest)
-levels_took old show i rest (Ok done) going is stop = levels_ok old show i rest (all_pairs i rest) going refl is
-levels_took old show i rest (Err stop) going is stopped = levels_stop stop i rest stopped
+pub levels_took : (old : Reader) (show : Show) (room : Gathered) (i : ℕ) (rest : List (List ℕ)) (result : Result (Unit {0}) LineFault)
+    → old.ended ≡ false
+    → OnOk result (IsOkAnd (all_pairs i rest) (λ members. show ≡ with_members old.section old.part members old.show))
+    → IfErr result (λ stop. IsFaultOf stop (all_pairs i rest))
+    → Outcome old (record old { show = show; gathered = room }) i result (levels desk_limits i rest)
+levels_took old show room i rest (Ok done) going is stop = levels_ok old show room i rest (all_pairs i rest) going refl is
+levels_took old show room i rest (Err stop) going is stopped = levels_stop stop i rest stopped
 
 -- A line that is no fault once IDENT was read.
 identified_says : (b : Bool) (r : Result Entry TextFault) (fault : TextFault) → b ≡ true → cond (not b) (Err fault) r ≡ r
 identified_says b r fault is = ap (λ b. cond (not b) (Err fault) r) is
 
 -- Rows of the patch.
-rows_from : (i : ℕ) (rest : List (List ℕ)) (r : Result (List PatchRow) TextFault) → all_triples i rest ≡ r → (all_triples i rest >>= (λ rows. Ok (Patches rows))) ≡ (r >>= (λ rows. Ok (Patches rows)))
+rows_from : (i : ℕ) (rest : List (List ℕ)) (r : Result (List PatchRow) TextFault) → all_triples i rest ≡ r
+    → (all_triples i rest >>= (λ rows. Ok (Patches rows))) ≡ (r >>= (λ rows. Ok (Patches rows)))
 rows_from i rest r is = ap (λ v. v >>= (λ rows. Ok (Patches rows))) is
 
-patch_says : (old : Reader) (i : ℕ) (page : List ℕ) (rest : List (List ℕ)) → old.identified ≡ true → is_ok (read_whole 1 1 page) ≡ true → entry_by_word (facts_of old i) [] words.Patch (page ∷ rest) ≡ (all_triples i rest >>= (λ rows. Ok (Patches rows)))
+patch_says : (old : Reader) (i : ℕ) (page : List ℕ) (rest : List (List ℕ)) → old.identified ≡ true → is_ok (read_whole 1 1 page) ≡ true
+    → entry_by_word (facts_of old i) [] words.Patch (page ∷ rest) ≡ (all_triples i rest >>= (λ rows. Ok (Patches rows)))
 patch_says old i page rest identified one =
-    (λ j. cond (not (identified j)) (Err (NoIdent i)) (cond (one j) (all_triples i rest >>= (λ rows. Ok (Patches rows))) (Ok (Skipped (Some NoRecord)))))
+    (λ j. cond (not (identified j)) (Err (NoIdent i))
+    (cond (one j) (all_triples i rest >>= (λ rows. Ok (Patches rows))) (Ok (Skipped (Some NoRecord)))))
 
 abbrev pub patched : Reader → Show → Reader
 patched old show = record old { show = show; section = NoRecord; part = 1 }
 
-rows_ok : (old : Reader) (show : Show) (i : ℕ) (page : List ℕ) (rest : List (List ℕ)) (r : Result (List PatchRow) TextFault) → old.ended ≡ false → old.identified ≡ true → is_ok (read_whole 1 1 page) ≡ true → all_triples i rest ≡ r → IsOkAnd r (λ rows. show ≡ with_rows rows old.show)
+rows_ok : (old : Reader) (show : Show) (i : ℕ) (page : List ℕ) (rest : List (List ℕ)) (r : Result (List PatchRow) TextFault)
+    → old.ended ≡ false → old.identified ≡ true → is_ok (read_whole 1 1 page) ≡ true → all_triples i rest ≡ r
+    → IsOkAnd r (λ rows. show ≡ with_rows rows old.show)
     → IsOkAnd (entry_by_word (facts_of old i) [] words.Patch (page ∷ rest)) (IsStep old (patched old show) i)
 rows_ok old show i page rest (Err fault) going identified one list is = absurd is
 rows_ok old show i page rest (Ok rows) going identified one list is =
-    took old (patched old show) i (entry_by_word (facts_of old i) [] words.Patch (page ∷ rest)) (Patches rows) (patch_says old i page rest identified one ∙ rows_from i rest (Ok rows) list)
+    took old (patched old show) i (entry_by_word (facts_of old i) [] words.Patch (page ∷ rest)) (Patches rows)
+    (patch_says old i page rest identified one ∙ rows_from i rest (Ok rows) list)
     (record { state = λ j. record (state_of (patched old show)) { show = is j }; ended = going })
 
-rows_stop : (stop : LineFault) (old : Reader) (i : ℕ) (page : List ℕ) (rest : List (List ℕ)) → old.identified ≡ true → is_ok (read_whole 1 1 page) ≡ true → IsFaultOf stop (all_triples i rest) → IsFaultOf stop (entry_by_word (facts_of old i) [] words.Patch (page ∷ rest))
+rows_stop : (stop : LineFault) (old : Reader) (i : ℕ) (page : List ℕ) (rest : List (List ℕ)) → old.identified ≡ true
+    → is_ok (read_whole 1 1 page) ≡ true → IsFaultOf stop (all_triples i rest)
+    → IsFaultOf stop (entry_by_word (facts_of old i) [] words.Patch (page ∷ rest))
 rows_stop (Text fault) old i page rest identified one is = patch_says old i page rest identified one ∙ rows_from i rest (Err fault) is
 rows_stop Memory old i page rest identified one is = tt
 
-pub rows_took : (old : Reader) (show : Show) (i : ℕ) (page : List ℕ) (tokens rest : List (List ℕ)) (result : Result (Unit {0}) LineFault) → tokens ≡ page ∷ rest → old.ended ≡ false → old.identified ≡ true → is_ok (read_whole 1 1 page) ≡ true
-    → OnOk result (IsOkAnd (all_triples i rest) (λ rows. show ≡ with_rows rows old.show)) → IfErr result (λ stop. IsFaultOf stop (all_triples i rest))
+pub rows_took : (old : Reader) (show : Show) (i : ℕ) (page : List ℕ) (tokens rest : List (List ℕ)) (result : Result (Unit {0}) LineFault)
+    → tokens ≡ page ∷ rest → old.ended ≡ false → old.identified ≡ true → is_ok (read_whole 1 1 page) ≡ true
+    → OnOk result (IsOkAnd (all_triples i rest) (λ rows. show ≡ with_rows rows old.show))
+    → IfErr result (λ stop. IsFaultOf stop (all_triples i rest))
     → Outcome old (patched old show) i result (entry_by_word (facts_of old i) [] words.Patch tokens)
 rows_took old show i page tokens rest (Ok done) cut going identified one is stop =
-    subst (λ v. Outcome old (patched old show) i (Ok done) (entry_by_word (facts_of old i) [] words.Patch v)) (sym cut) (rows_ok old show i page rest (all_triples i rest) going identified one refl is)
+    subst (λ v. Outcome old (patched old show) i (Ok done) (entry_by_word (facts_of old i) [] words.Patch v)) (sym cut)
+    (rows_ok old show i page rest (all_triples i rest) going identified one refl is)
 rows_took old show i page tokens rest (Err stop) cut going identified one is stopped =
-    subst (λ v. IsFaultOf stop (entry_by_word (facts_of old i) [] words.Patch v)) (sym cut) (rows_stop stop old i page rest identified one stopped)
+    subst (λ v. IsFaultOf stop (entry_by_word (facts_of old i) [] words.Patch v)) (sym cut)
+    (rows_stop stop old i page rest identified one stopped)
 
 -- A part that is there.
-part_kept : (n p : ℕ) (show : Show) (o : Option Cue) → cue_of show n ≡ o → option_map_or (λ cue. has_entry (λ q. q.number) p cue.parts) o false ≡ true → Valid show → show ≡ show_with (record { section = InCue n; part = p; entry = NamesPart p }) show
+part_kept : (n p : ℕ) (show : Show) (o : Option Cue) → cue_of show n ≡ o
+    → option_map_or (λ cue. has_entry (λ q. q.number) p cue.parts) o false ≡ true → Valid show
+    → show ≡ show_with (record { section = InCue n; part = p; entry = NamesPart p }) show
 part_kept n p show None is there valid = cc
 part_kept n p show (Some cue) is there valid =
     let parts : with_part p cue.parts ≡ cue.parts = ap (λ b. cond b cue.parts (placed (λ q. q.number) (new_part p) cue.parts)) there in
     let cues : changed (λ z. z.number) n (λ z. record z { parts = with_part p z.parts }) show.cues ≡ show.cues
-    = changed-alike (λ z. z.number) n (λ z. record z { parts = with_part p z.parts }) (λ z. z) show.cues cue is (λ j. record cue { parts = parts j }) ∙ changed-not (λ z. z.number) n show.cues valid.cues_sorted in
+    = changed-alike (λ z. z.number) n (λ z. record z { parts = with_part p z.parts }) (λ z. z) show.cues cue is
+    (λ j. record cue { parts = parts j }) ∙ changed-not (λ z. z.number) n show.cues valid.cues_sorted in
     λ j. record show { cues = sym cues j }
 
-pub part_there : (n p : ℕ) (show : Show) → true ≡ option_map_or (λ cue. has_entry (λ q. q.number) p cue.parts) (cue_of show n) false → Valid show → show ≡ show_with (record { section = InCue n; part = p; entry = NamesPart p }) show
+pub part_there : (n p : ℕ) (show : Show) → true ≡ option_map_or (λ cue. has_entry (λ q. q.number) p cue.parts) (cue_of show n) false
+    → Valid show → show ≡ show_with (record { section = InCue n; part = p; entry = NamesPart p }) show
 part_there n p show there valid = part_kept n p show (cue_of show n) refl (sym there) valid
 
 -- The first line of a cue.
@@ -177,58 +222,85 @@ record_said section (Ok (Some n)) = Ok (Begins (section n))
 record_said section (Ok None) = Ok (Skipped (Some Skipping))
 record_said section (Err fault) = Err fault
 
-number_said : (section : ℕ → Section) (r : Result ℕ TextFault) → (r >>= (λ n. Ok (Begins (section n)))) ≡ record_said section (r >>= (λ n. Ok (Some n)))
+number_said : (section : ℕ → Section) (r : Result ℕ TextFault)
+    → (r >>= (λ n. Ok (Begins (section n)))) ≡ record_said section (r >>= (λ n. Ok (Some n)))
 number_said section (Ok n) = refl
 number_said section (Err fault) = refl
 
-record_from : (section : ℕ → Section) (r : Result ℕ TextFault) (one : Bool) → cond one (r >>= (λ n. Ok (Begins (section n)))) (Ok (Skipped (Some Skipping))) ≡ record_said section (cond one (r >>= (λ n. Ok (Some n))) (Ok None))
+record_from : (section : ℕ → Section) (r : Result ℕ TextFault) (one : Bool)
+    → cond one (r >>= (λ n. Ok (Begins (section n)))) (Ok (Skipped (Some Skipping)))
+    ≡ record_said section (cond one (r >>= (λ n. Ok (Some n))) (Ok None))
 record_from section r true = number_said section r
 record_from section r false = refl
 
-pub record-said : (i : ℕ) (section : ℕ → Section) (read : List ℕ → Result ℕ Bad) (rest : List (List ℕ)) → record_entry i section read rest ≡ record_said section (record_number i read rest)
+pub record-said : (i : ℕ) (section : ℕ → Section) (read : List ℕ → Result ℕ Bad) (rest : List (List ℕ))
+    → record_entry i section read rest ≡ record_said section (record_number i read rest)
 record-said i section read [] = refl
 record-said i section read (token ∷ page) = record_from section (number i (read token)) (is_page_one page)
 
-cue_says : (old : Reader) (i : ℕ) (rest : List (List ℕ)) (r : Result (Option ℕ) TextFault) → old.identified ≡ true → r ≡ record_number i (read_cue_no desk_limits) rest
+cue_says : (old : Reader) (i : ℕ) (rest : List (List ℕ)) (r : Result (Option ℕ) TextFault) → old.identified ≡ true
+    → r ≡ record_number i (read_cue_no desk_limits) rest
     → entry_by_word (facts_of old i) [] words.Cue rest ≡ (record_said InCue r >>= if_few (facts_of old i))
 cue_says old i rest r identified is =
     identified_says old.identified (record_entry i InCue (read_cue_no desk_limits) rest >>= if_few (facts_of old i)) (NoIdent i) identified
     ∙ ap (λ v. v >>= if_few (facts_of old i)) (record-said i InCue (read_cue_no desk_limits) rest ∙ ap (record_said InCue) (sym is))
 
-pub cue_fault : (old : Reader) (i : ℕ) (rest : List (List ℕ)) (fault : TextFault) → old.identified ≡ true → Err fault ≡ record_number i (read_cue_no desk_limits) rest → entry_by_word (facts_of old i) [] words.Cue rest ≡ Err fault
+pub cue_fault : (old : Reader) (i : ℕ) (rest : List (List ℕ)) (fault : TextFault) → old.identified ≡ true
+    → Err fault ≡ record_number i (read_cue_no desk_limits) rest → entry_by_word (facts_of old i) [] words.Cue rest ≡ Err fault
 cue_fault old i rest fault identified is = cue_says old i rest (Err fault) identified is
 
-pub cue_other_page : (old new : Reader) (i : ℕ) (rest : List (List ℕ)) (o : Option ℕ) → Ok o ≡ record_number i (read_cue_no desk_limits) rest → o ≡ None → old.identified ≡ true → old.ended ≡ false
-    → new ≡ record old { section = Skipping; part = 1; skipped = old.skipped + 1; first_skipped = cond (old.skipped == 0) i old.first_skipped }
+pub cue_other_page : (old new : Reader) (i : ℕ) (rest : List (List ℕ)) (o : Option ℕ)
+    → Ok o ≡ record_number i (read_cue_no desk_limits) rest → o ≡ None → old.identified ≡ true → old.ended ≡ false
+    → new ≡ record old {
+      section = Skipping;
+      part = 1;
+      skipped = old.skipped + 1;
+      first_skipped =
+          cond (old.skipped == 0) i old.first_skipped;
+    }
     → IsOkAnd (entry_by_word (facts_of old i) [] words.Cue rest) (IsStep old new i)
 cue_other_page old new i rest o numbered none identified going is =
-    took old new i (entry_by_word (facts_of old i) [] words.Cue rest) (Skipped (Some Skipping)) (cue_says old i rest (Ok o) identified numbered ∙ ap (λ v. record_said InCue (Ok v) >>= if_few (facts_of old i)) none)
+    took old new i (entry_by_word (facts_of old i) [] words.Cue rest) (Skipped (Some Skipping))
+    (cue_says old i rest (Ok o) identified numbered ∙ ap (λ v. record_said InCue (Ok v) >>= if_few (facts_of old i)) none)
     (record { state = ap state_of is; ended = ap (λ r. r.ended) is ∙ going })
 
 -- the numbers of the cues
 any_numbers : (n : ℕ) (cues : List Cue) → list_any (λ m. m == n) (map (λ cue. cue.number) cues) ≡ has_entry (λ cue. cue.number) n cues
 any_numbers n [] = refl
-any_numbers n (cue ∷ cues) = elim (cue.number == n) as (λ b. (b || list_any (λ m. m == n) (map (λ z. z.number) cues)) ≡ is_some (cond b (Some cue) (entry_at (λ z. z.number) n cues))) [ true ↦ refl | false ↦ any_numbers n cues ]
+any_numbers n (cue ∷ cues) = elim (cue.number == n) as
+    (λ b. (b || list_any (λ m. m == n) (map (λ z. z.number) cues)) ≡ is_some (cond b (Some cue) (entry_at (λ z. z.number) n cues)))
+    [ true ↦ refl | false ↦ any_numbers n cues ]
 
 length_numbers : (cues : List Cue) → length (map (λ cue. cue.number) cues) ≡ length cues
 length_numbers [] = refl
 length_numbers (cue ∷ cues) = omega (arith, length_numbers cues)
 
-cue_said : (old : Reader) (i n : ℕ) (rest : List (List ℕ)) (o : Option ℕ) (room : Bool) → Ok o ≡ record_number i (read_cue_no desk_limits) rest → o ≡ Some n → old.identified ≡ true → room ≡ (has_entry (λ cue. cue.number) n old.show.cues || nat_lt (length old.show.cues) CUES)
+cue_said : (old : Reader) (i n : ℕ) (rest : List (List ℕ)) (o : Option ℕ) (room : Bool)
+    → Ok o ≡ record_number i (read_cue_no desk_limits) rest → o ≡ Some n → old.identified ≡ true
+    → room ≡ (has_entry (λ cue. cue.number) n old.show.cues || nat_lt (length old.show.cues) CUES)
     → entry_by_word (facts_of old i) [] words.Cue rest ≡ cond room (Ok (Begins (InCue n))) (Err (OutOfRange i))
 cue_said old i n rest o room numbered some identified is =
     cue_says old i rest (Ok o) identified numbered
     ∙ ap (λ v. record_said InCue (Ok v) >>= if_few (facts_of old i)) some
-    ∙ (λ j. cond (any_numbers n old.show.cues j || nat_lt (length_numbers old.show.cues j) CUES) (Ok (Begins (InCue n))) (Err (OutOfRange i)))
+    ∙ (λ j. cond (any_numbers n old.show.cues j || nat_lt (length_numbers old.show.cues j) CUES) (Ok (Begins (InCue n)))
+    (Err (OutOfRange i)))
     ∙ sym (ap (λ b. cond b (Ok (Begins (InCue n))) (Err (OutOfRange i))) is)
 
-pub cue_full : (old : Reader) (i n : ℕ) (rest : List (List ℕ)) (o : Option ℕ) → Ok o ≡ record_number i (read_cue_no desk_limits) rest → o ≡ Some n → old.identified ≡ true → false ≡ (has_entry (λ cue. cue.number) n old.show.cues || nat_lt (length old.show.cues) CUES)
+pub cue_full : (old : Reader) (i n : ℕ) (rest : List (List ℕ)) (o : Option ℕ) → Ok o ≡ record_number i (read_cue_no desk_limits) rest
+    → o ≡ Some n → old.identified ≡ true → false ≡ (has_entry (λ cue. cue.number) n old.show.cues || nat_lt (length old.show.cues) CUES)
     → entry_by_word (facts_of old i) [] words.Cue rest ≡ Err (OutOfRange i)
 cue_full old i n rest o numbered some identified full = cue_said old i n rest o false numbered some identified full
 
-pub cue_took : (old new : Reader) (show : Show) (i n : ℕ) (rest : List (List ℕ)) (o : Option ℕ) → Ok o ≡ record_number i (read_cue_no desk_limits) rest → o ≡ Some n → old.identified ≡ true → old.ended ≡ false
-    → true ≡ (has_entry (λ cue. cue.number) n old.show.cues || nat_lt (length old.show.cues) CUES) → show ≡ record old.show { cues = with_cue n old.show.cues } → new ≡ record old { show = show; section = InCue n; part = 1 }
+pub cue_took : (old new : Reader) (show : Show) (i n : ℕ) (rest : List (List ℕ)) (o : Option ℕ)
+    → Ok o ≡ record_number i (read_cue_no desk_limits) rest → o ≡ Some n → old.identified ≡ true → old.ended ≡ false
+    → true ≡ (has_entry (λ cue. cue.number) n old.show.cues || nat_lt (length old.show.cues) CUES)
+    → show ≡ record old.show { cues = with_cue n old.show.cues } → new ≡ record old { show = show; section = InCue n; part = 1 }
     → IsOkAnd (entry_by_word (facts_of old i) [] words.Cue rest) (IsStep old new i)
 cue_took old new show i n rest o numbered some identified going room shows is =
-    took old new i (entry_by_word (facts_of old i) [] words.Cue rest) (Begins (InCue n)) (cue_said old i n rest o true numbered some identified room)
-    (record { state = ap state_of is ∙ (λ j. record (state_of (record old { show = show; section = InCue n; part = 1 })) { show = shows j }); ended = ap (λ r. r.ended) is ∙ going })
+    took old new i (entry_by_word (facts_of old i) [] words.Cue rest) (Begins (InCue n))
+    (cue_said old i n rest o true numbered some identified room)
+    (record {
+      state = ap state_of is ∙ (λ j. record (state_of (record old { show = show; section = InCue n; part = 1 }))
+          { show = shows j });
+      ended = ap (λ r. r.ended) is ∙ going;
+    })

@@ -1,5 +1,7 @@
 -- The moves of a look, channel by channel, and the cues whose looks become moves, from the last one on.
-use Rattle.std.proofs.Common.{◌≡◌, ℕ, suc, zero, ◌+◌, ◌<◌, ◌≤◌, Bool, true, false, cond, List, [], ◌∷◌, ◌++◌, map, length, take, drop, get_or, Option, Some, None, refl, ap, ◌∙◌, sym, subst, arith, add-one, append-nil, append_assoc, IsTrue, take_all}
+use Rattle.std.proofs.Common.{◌≡◌, ℕ, suc, zero, ◌+◌, ◌<◌, ◌≤◌, Bool, true, false, cond, List, [], ◌∷◌, ◌++◌, map, length, take, drop}
+use Rattle.std.proofs.Common.{get_or, Option, Some, None, refl, ap, ◌∙◌, sym, subst, arith, add-one, append-nil, append_assoc, IsTrue}
+use Rattle.std.proofs.Common.{take_all}
 use Rattle.std.specs.Prelude.{filter, not, ◌==◌, ◌-◌, IfSome}
 use Rattle.std.specs.Option.{option_map_or, IsSomeAnd}
 use Rattle.std.specs.List.{AllByRecursion, range_with_len}
@@ -18,7 +20,8 @@ use Rattle.lx_spec.proofs.Lists.{kept_by, find_has}
 use Rattle.lx_spec.proofs.SortedLists.{seam, goes_between, stands_between, all_at_seam, below_seam, above_seam}
 use Rattle.lx_reader.specs.LookMoves.{last_look, is_changed, look_move, moves_up_to, with_look}
 
-all_map : {A B : Type 0} (P : A → Type 0) (Q : B → Type 0) (f : A → B) (xs : List A) → ((x : A) → P x → Q (f x)) → AllByRecursion P xs → AllByRecursion Q (map f xs)
+all_map : {A B : Type 0} (P : A → Type 0) (Q : B → Type 0) (f : A → B) (xs : List A) → ((x : A) → P x → Q (f x)) → AllByRecursion P xs
+    → AllByRecursion Q (map f xs)
 all_map P Q f [] each all = tt
 all_map P Q f (x ∷ xs) each all = (each x all.0, all_map P Q f xs each all.1)
 
@@ -32,7 +35,8 @@ range_in a (suc n) top least within = (record { least = least; most = omega arit
 
 range_end : (a n : ℕ) → range_with_len a (suc n) ≡ range_with_len a n ++ (a + n) ∷ []
 range_end a zero = let same : a ≡ a + 0 = omega arith in ap (λ k. k ∷ []) same
-range_end a (suc n) = let same : a + 1 + n ≡ a + suc n = omega arith in ap (λ xs. a ∷ xs) (range_end (a + 1) n ∙ ap (λ k. range_with_len (a + 1) n ++ k ∷ []) same)
+range_end a (suc n) = let same : a + 1 + n ≡ a + suc n =
+    omega arith in ap (λ xs. a ∷ xs) (range_end (a + 1) n ∙ ap (λ k. range_with_len (a + 1) n ++ k ∷ []) same)
 
 -- an entry above all others goes to the end
 placed_last : {A : Type 0} (key : A → ℕ) (x : A) (xs : List A) → AllByRecursion (λ y. key y < key x) xs → placed key x xs ≡ xs ++ x ∷ []
@@ -43,13 +47,18 @@ placed_last key x xs below =
     let high : entries_above key (key x) xs ≡ [] = ap (entries_above key (key x)) (sym nil) ∙ cut.2 in
     λ i. low i ++ x ∷ high i
 
-one_more : (before : ℕ → ℕ) (cue : Cue) (n : ℕ) (b : Bool) → cond b (placed (λ m. m.chan) (look_move cue (suc n)) (moves_up_to before cue n)) (moves_up_to before cue n) ≡ moves_up_to before cue n ++ map (look_move cue) (cond b (suc n ∷ []) [])
+one_more : (before : ℕ → ℕ) (cue : Cue) (n : ℕ) (b : Bool)
+    → cond b (placed (λ m. m.chan) (look_move cue (suc n)) (moves_up_to before cue n)) (moves_up_to before cue n)
+    ≡ moves_up_to before cue n ++ map (look_move cue) (cond b (suc n ∷ []) [])
 one_more before cue n true =
     placed_last (λ m. m.chan) (look_move cue (suc n)) (moves_up_to before cue n)
-    (all_map (λ c. c < suc n) (λ m. m.chan < suc n) (look_move cue) (filter (is_changed before cue) (range_with_len 1 n)) (λ c h. h) (kept_by (λ c. c < suc n) (is_changed before cue) (range_with_len 1 n) (range_below 1 n (suc n) (omega arith))))
+    (all_map (λ c. c < suc n) (λ m. m.chan < suc n) (look_move cue) (filter (is_changed before cue) (range_with_len 1 n)) (λ c h. h)
+    (kept_by (λ c. c < suc n) (is_changed before cue) (range_with_len 1 n) (range_below 1 n (suc n) (omega arith))))
 one_more before cue n false = sym (append-nil (moves_up_to before cue n))
 
-moves_suc : (before : ℕ → ℕ) (cue : Cue) (n : ℕ) → cond (is_changed before cue (suc n)) (placed (λ m. m.chan) (look_move cue (suc n)) (moves_up_to before cue n)) (moves_up_to before cue n) ≡ moves_up_to before cue (suc n)
+moves_suc : (before : ℕ → ℕ) (cue : Cue) (n : ℕ)
+    → cond (is_changed before cue (suc n)) (placed (λ m. m.chan) (look_move cue (suc n)) (moves_up_to before cue n))
+    (moves_up_to before cue n) ≡ moves_up_to before cue (suc n)
 moves_suc before cue n =
     let p = is_changed before cue in
     let k : 1 + n ≡ suc n = omega arith in
@@ -59,20 +68,27 @@ moves_suc before cue n =
     ∙ sym (ap (λ xs. map (look_move cue) (filter p xs)) (range_end 1 n ∙ ap (λ c. range_with_len 1 n ++ c ∷ []) k))
 
 -- the moves of one channel more
-pub moves_next : (before : ℕ → ℕ) (cue : Cue) (n : ℕ) → cond (is_changed before cue (n + 1)) (placed (λ m. m.chan) (look_move cue (n + 1)) (moves_up_to before cue n)) (moves_up_to before cue n) ≡ moves_up_to before cue (n + 1)
-moves_next before cue n = subst (λ k. cond (is_changed before cue k) (placed (λ m. m.chan) (look_move cue k) (moves_up_to before cue n)) (moves_up_to before cue n) ≡ moves_up_to before cue k) (sym (add-one n)) (moves_suc before cue n)
+pub moves_next : (before : ℕ → ℕ) (cue : Cue) (n : ℕ)
+    → cond (is_changed before cue (n + 1)) (placed (λ m. m.chan) (look_move cue (n + 1)) (moves_up_to before cue n))
+    (moves_up_to before cue n) ≡ moves_up_to before cue (n + 1)
+moves_next before cue n = subst (λ k. cond (is_changed before cue k) (placed (λ m. m.chan) (look_move cue k) (moves_up_to before cue n))
+    (moves_up_to before cue n) ≡ moves_up_to before cue k) (sym (add-one n)) (moves_suc before cue n)
 
 -- the moves of a valid cue's look are valid
-look_valid : (channels c : ℕ) (parts : List Part) (o : Option Move) → InRange channels c → IsTrue (has_entry (λ p. p.number) 1 parts) → IfSome o (ValidMove channels parts)
+look_valid : (channels c : ℕ) (parts : List Part) (o : Option Move) → InRange channels c → IsTrue (has_entry (λ p. p.number) 1 parts)
+    → IfSome o (ValidMove channels parts)
     → ValidMove channels parts (record { chan = c; part = option_map_or (λ m. m.part) o 1; level = option_map_or (λ m. m.level) o 0 })
 look_valid channels c parts None within first valid = record { chan = within; part = first; level = omega arith }
 look_valid channels c parts (Some m) within first valid = record { chan = within; part = valid.part; level = valid.level }
 
-moves_valid : (before : ℕ → ℕ) (cue : Cue) (channels : ℕ) → ValidCue channels cue → AllByRecursion (ValidMove channels cue.parts) (moves_up_to before cue channels)
+moves_valid : (before : ℕ → ℕ) (cue : Cue) (channels : ℕ) → ValidCue channels cue
+    → AllByRecursion (ValidMove channels cue.parts) (moves_up_to before cue channels)
 moves_valid before cue channels valid =
     all_map (InRange channels) (ValidMove channels cue.parts) (look_move cue) (filter (is_changed before cue) (range_with_len 1 channels))
-    (λ c within. look_valid channels c cue.parts (move_in cue c) within valid.first_part (find_has (ValidMove channels cue.parts) (λ m. m.chan == c) cue.moves valid.moves))
-    (kept_by (InRange channels) (is_changed before cue) (range_with_len 1 channels) (range_in 1 channels channels (omega arith) (omega arith)))
+    (λ c within. look_valid channels c cue.parts (move_in cue c) within valid.first_part
+    (find_has (ValidMove channels cue.parts) (λ m. m.chan == c) cue.moves valid.moves))
+    (kept_by (InRange channels) (is_changed before cue) (range_with_len 1 channels)
+    (range_in 1 channels channels (omega arith) (omega arith)))
 
 -- the look of the last cue
 pub last_look-append : (xs : List Cue) (cue : Cue) (c : ℕ) → last_look (xs ++ cue ∷ []) c ≡ level_in cue c
@@ -88,28 +104,41 @@ last_look-at (x ∷ y ∷ ys) d c some =
     last_look-at (y ∷ ys) d c (omega arith) ∙ sym (ap (λ k. level_in (get_or (x ∷ y ∷ ys) k d) c) place)
 
 -- a cue that is changed where it stands
-cut_there : (front : List Cue) (cue : Cue) (back : List Cue) → IsStrictlySorted (λ x. x.number) (front ++ cue ∷ back) → (entries_below (λ x. x.number) cue.number (front ++ cue ∷ back) ≡ front) × (entry_at (λ x. x.number) cue.number (front ++ cue ∷ back) ≡ Some cue) × (entries_above (λ x. x.number) cue.number (front ++ cue ∷ back) ≡ back)
-cut_there front cue back sorted = stands_between (λ x. x.number) cue.number front back cue (below_seam (λ x. x.number) front back cue sorted) refl (above_seam (λ x. x.number) front back cue sorted)
+cut_there : (front : List Cue) (cue : Cue) (back : List Cue) → IsStrictlySorted (λ x. x.number) (front ++ cue ∷ back)
+    → (entries_below (λ x. x.number) cue.number (front ++ cue ∷ back) ≡ front)
+    × (entry_at (λ x. x.number) cue.number (front ++ cue ∷ back) ≡ Some cue)
+    × (entries_above (λ x. x.number) cue.number (front ++ cue ∷ back) ≡ back)
+cut_there front cue back sorted = stands_between (λ x. x.number) cue.number front back cue
+    (below_seam (λ x. x.number) front back cue sorted) refl (above_seam (λ x. x.number) front back cue sorted)
 
-changed_there : (front : List Cue) (cue : Cue) (back : List Cue) (moves : List Move) → IsStrictlySorted (λ x. x.number) (front ++ cue ∷ back) → changed (λ x. x.number) cue.number (λ z. record z { moves = moves }) (front ++ cue ∷ back) ≡ front ++ record cue { moves = moves } ∷ back
+changed_there : (front : List Cue) (cue : Cue) (back : List Cue) (moves : List Move)
+    → IsStrictlySorted (λ x. x.number) (front ++ cue ∷ back)
+    → changed (λ x. x.number) cue.number (λ z. record z { moves = moves }) (front ++ cue ∷ back)
+    ≡ front ++ record cue { moves = moves } ∷ back
 changed_there front cue back moves sorted =
     let cut = cut_there front cue back sorted in
     ap (λ o. option_map_or (λ z. placed (λ x. x.number) (record z { moves = moves }) (front ++ cue ∷ back)) o (front ++ cue ∷ back)) cut.1
     ∙ (λ i. cut.0 i ++ record cue { moves = moves } ∷ cut.2 i)
 
 -- what may be put into a cue where it stands
-pub moves_fit : (show : Show) (front : List Cue) (cue : Cue) (back : List Cue) (moves : List Move) → show.cues ≡ front ++ cue ∷ back → Valid show → moves ≡ moves_up_to (last_look front) cue show.channels
+pub moves_fit : (show : Show) (front : List Cue) (cue : Cue) (back : List Cue) (moves : List Move) → show.cues ≡ front ++ cue ∷ back
+    → Valid show → moves ≡ moves_up_to (last_look front) cue show.channels
     → IsSomeAnd (cue_of show cue.number) (λ z. AllByRecursion (ValidMove show.channels z.parts) moves)
 moves_fit show front cue back moves is valid made =
-    let found : cue_of show cue.number ≡ Some cue = ap (entry_at (λ x. x.number) cue.number) is ∙ (cut_there front cue back (subst (IsStrictlySorted (λ x. x.number)) is valid.cues_sorted)).1 in
-    let fits : ValidCue show.channels cue = all_at_seam (ValidCue show.channels) front back cue (subst (AllByRecursion (ValidCue show.channels)) is valid.cues) in
+    let found : cue_of show cue.number ≡ Some cue = ap (entry_at (λ x. x.number) cue.number) is
+    ∙ (cut_there front cue back (subst (IsStrictlySorted (λ x. x.number)) is valid.cues_sorted)).1 in
+    let fits : ValidCue show.channels cue = all_at_seam (ValidCue show.channels) front back cue
+    (subst (AllByRecursion (ValidCue show.channels)) is valid.cues) in
     subst (λ o. IsSomeAnd o (λ z. AllByRecursion (ValidMove show.channels z.parts) moves)) (sym found)
     (subst (AllByRecursion (ValidMove show.channels cue.parts)) (sym made) (moves_valid (last_look front) cue show.channels fits))
 
-pub cue_changed : (show new : Show) (front : List Cue) (cue : Cue) (back : List Cue) (moves : List Move) → show.cues ≡ front ++ cue ∷ back → Valid show → moves ≡ moves_up_to (last_look front) cue show.channels
-    → new ≡ record show { cues = changed (λ x. x.number) cue.number (λ z. record z { moves = moves }) show.cues } → new ≡ record show { cues = front ++ with_look show front cue ∷ back }
+pub cue_changed : (show new : Show) (front : List Cue) (cue : Cue) (back : List Cue) (moves : List Move) → show.cues ≡ front ++ cue ∷ back
+    → Valid show → moves ≡ moves_up_to (last_look front) cue show.channels
+    → new ≡ record show { cues = changed (λ x. x.number) cue.number (λ z. record z { moves = moves }) show.cues }
+    → new ≡ record show { cues = front ++ with_look show front cue ∷ back }
 cue_changed show new front cue back moves is valid made changes =
-    let cues = ap (changed (λ x. x.number) cue.number (λ z. record z { moves = moves })) is ∙ changed_there front cue back moves (subst (IsStrictlySorted (λ x. x.number)) is valid.cues_sorted)
+    let cues = ap (changed (λ x. x.number) cue.number (λ z. record z { moves = moves })) is
+    ∙ changed_there front cue back moves (subst (IsStrictlySorted (λ x. x.number)) is valid.cues_sorted)
     ∙ ap (λ ms. front ++ record cue { moves = ms } ∷ back) made in
     changes ∙ (λ j. record show { cues = cues j })
 
@@ -131,35 +160,56 @@ split_at [] at within = absurd (omega (arith, within))
 split_at (x ∷ xs) zero within = record { cue = x; rest = xs; from = refl; past = refl; front = refl; count = refl }
 split_at (x ∷ xs) (suc at) within =
     let rest = split_at xs at (omega arith) in
-    record { cue = rest.cue; rest = rest.rest; from = rest.from; past = rest.past; front = ap (λ ys. x ∷ ys) rest.front; count = ap suc rest.count }
+    record {
+      cue = rest.cue;
+      rest = rest.rest;
+      from = rest.from;
+      past = rest.past;
+      front = ap (λ ys. x ∷ ys) rest.front;
+      count =
+          ap suc rest.count;
+    }
 
 pub record IsLooked (at : ℕ) (old new : Show) : Type 0 where
   pub within : at ≤ length old.cues
   pub show : new ≡ record old { cues = from_place at old }
 
-all_looks : (cues : List Cue) (f : (ℕ → ℕ) → List Cue → List Cue) → ((before : ℕ → ℕ) → f before [] ≡ []) → take (length cues) cues ++ f (last_look (take (length cues) cues)) (drop (length cues) cues) ≡ cues
+all_looks : (cues : List Cue) (f : (ℕ → ℕ) → List Cue → List Cue) → ((before : ℕ → ℕ) → f before [] ≡ [])
+    → take (length cues) cues ++ f (last_look (take (length cues) cues)) (drop (length cues) cues) ≡ cues
 all_looks cues f none =
-    (λ i. take_all (length cues) cues (omega arith) i ++ f (last_look (take (length cues) cues)) (drop_all (length cues) cues (omega arith) i)) ∙ (λ i. cues ++ none (last_look (take (length cues) cues)) i) ∙ append-nil cues
+    (λ i. take_all (length cues) cues (omega arith) i ++ f (last_look (take (length cues) cues))
+    (drop_all (length cues) cues (omega arith) i)) ∙ (λ i. cues ++ none (last_look (take (length cues) cues)) i) ∙ append-nil cues
 
 pub looked_none : (show : Show) → IsLooked (length show.cues) show show
-looked_none show = record { within = omega arith; show = λ j. record show { cues = sym (all_looks show.cues (from_looks show) (λ before. refl)) j } }
+looked_none show = record {
+  within = omega arith;
+  show =
+      λ j. record show { cues = sym (all_looks show.cues (from_looks show) (λ before. refl)) j };
+}
 
-pub looked_next : (old mid new : Show) (at : ℕ) → IsLooked (suc at) old mid → ((front : List Cue) (cue : Cue) (back : List Cue) → length front ≡ at → mid.cues ≡ front ++ cue ∷ back → new ≡ record mid { cues = front ++ with_look mid front cue ∷ back }) → IsLooked at old new
+pub looked_next : (old mid new : Show) (at : ℕ) → IsLooked (suc at) old mid
+    → ((front : List Cue) (cue : Cue) (back : List Cue) → length front ≡ at → mid.cues ≡ front ++ cue ∷ back
+    → new ≡ record mid { cues = front ++ with_look mid front cue ∷ back }) → IsLooked at old new
 looked_next old mid new at looked change =
     let cut : Split old.cues at = split_at old.cues at (omega (arith, looked.within)) in
     let front : List Cue = take at old.cues in
     let tail : List Cue = from_looks old (level_in cut.cue) cut.rest in
-    let last : last_look (take (suc at) old.cues) ≡ level_in cut.cue = ap last_look cut.front ∙ (λ j c. last_look-append front cut.cue c j) in
-    let cues : from_place (suc at) old ≡ front ++ cut.cue ∷ tail = (λ j. cut.front j ++ from_looks old (last j) (cut.past j)) ∙ append_assoc front (cut.cue ∷ []) tail in
+    let last : last_look (take (suc at) old.cues) ≡ level_in cut.cue = ap last_look cut.front
+    ∙ (λ j c. last_look-append front cut.cue c j) in
+    let cues : from_place (suc at) old ≡ front ++ cut.cue ∷ tail = (λ j. cut.front j ++ from_looks old (last j) (cut.past j))
+    ∙ append_assoc front (cut.cue ∷ []) tail in
     let there : mid.cues ≡ front ++ cut.cue ∷ tail = ap (λ s. s.cues) looked.show ∙ cues in
     let changed_show = change front cut.cue tail cut.count there in
-    let made : from_place at old ≡ front ++ with_look old front cut.cue ∷ tail = ap (λ xs. front ++ from_looks old (last_look front) xs) cut.from in
+    let made : from_place at old ≡ front ++ with_look old front cut.cue ∷ tail =
+    ap (λ xs. front ++ from_looks old (last_look front) xs) cut.from in
     record {
       within = omega (arith, looked.within);
-      show = changed_show ∙ (λ j. let s : Show = looked.show j in record s { cues = front ++ with_look s front cut.cue ∷ tail }) ∙ (λ j. record old { cues = sym made j });
+      show = changed_show ∙ (λ j. let s : Show = looked.show j in record s { cues = front ++ with_look s front cut.cue ∷ tail })
+          ∙ (λ j. record old { cues = sym made j });
     }
 
-first_place : (show : Show) (cues : List Cue) → take 0 cues ++ from_looks show (last_look (take 0 cues)) (drop 0 cues) ≡ from_looks show (λ c. 0) cues
+first_place : (show : Show) (cues : List Cue)
+    → take 0 cues ++ from_looks show (last_look (take 0 cues)) (drop 0 cues) ≡ from_looks show (λ c. 0) cues
 first_place show [] = refl
 first_place show (cue ∷ cues) = refl
 
@@ -167,12 +217,15 @@ pub looked_all : (old new : Show) → IsLooked 0 old new → new ≡ by_form Sta
 looked_all old new looked = looked.show ∙ (λ j. record old { cues = first_place old old.cues j })
 
 -- the moves with those of the channel that comes next
-pub put_next : (before : ℕ → ℕ) (cue : Cue) (n chan level : ℕ) (old new : List Move) → chan ≡ n + 1 → level ≡ before chan → old ≡ moves_up_to before cue n
-    → new ≡ cond (not (level_in cue chan == cond cue.block 0 level)) (placed (λ m. m.chan) (look_move cue chan) old) old → new ≡ moves_up_to before cue (n + 1)
+pub put_next : (before : ℕ → ℕ) (cue : Cue) (n chan level : ℕ) (old new : List Move) → chan ≡ n + 1 → level ≡ before chan
+    → old ≡ moves_up_to before cue n
+    → new ≡ cond (not (level_in cue chan == cond cue.block 0 level)) (placed (λ m. m.chan) (look_move cue chan) old) old
+    → new ≡ moves_up_to before cue (n + 1)
 put_next before cue n chan level old new number is olds news =
     let levels : level ≡ before (n + 1) = is ∙ ap before number in
     news
-    ∙ (λ j. cond (not (level_in cue (number j) == cond cue.block 0 (levels j))) (placed (λ m. m.chan) (look_move cue (number j)) (olds j)) (olds j))
+    ∙ (λ j. cond (not (level_in cue (number j) == cond cue.block 0 (levels j))) (placed (λ m. m.chan) (look_move cue (number j)) (olds j))
+    (olds j))
     ∙ moves_next before cue n
 
 get_seam : (front : List Cue) (cue : Cue) (back : List Cue) (d : Cue) → get_or (front ++ cue ∷ back) (length front) d ≡ cue
@@ -180,21 +233,29 @@ get_seam [] cue back d = refl
 get_seam (x ∷ front) cue back d = get_seam front cue back d
 
 -- the cue at a place, and the moves that it gets
-pub fit_at : (show : Show) (xs given : List Cue) (at channels n : ℕ) (cue : Cue) (moves : List Move) → xs ≡ show.cues → at < length show.cues → cue ≡ get_or xs at cue → given ≡ take at xs → channels ≡ show.channels → n ≡ cue.number → Valid show
-    → moves ≡ moves_up_to (last_look given) cue channels → IsSomeAnd (cue_of show n) (λ z. AllByRecursion (ValidMove show.channels z.parts) moves)
+pub fit_at : (show : Show) (xs given : List Cue) (at channels n : ℕ) (cue : Cue) (moves : List Move) → xs ≡ show.cues
+    → at < length show.cues → cue ≡ get_or xs at cue → given ≡ take at xs → channels ≡ show.channels → n ≡ cue.number → Valid show
+    → moves ≡ moves_up_to (last_look given) cue channels
+    → IsSomeAnd (cue_of show n) (λ z. AllByRecursion (ValidMove show.channels z.parts) moves)
 fit_at show xs given at channels n cue moves are within here front count number valid made =
     let here' : cue ≡ get_or show.cues at cue = here ∙ ap (λ v. get_or v at cue) are in
     let front' : given ≡ take at show.cues = front ∙ ap (take at) are in
     subst (λ k. IsSomeAnd (cue_of show k) (λ z. AllByRecursion (ValidMove show.channels z.parts) moves)) (sym number)
-    (moves_fit show (take at show.cues) cue (drop (at + 1) show.cues) moves (seam show.cues at cue within here') valid (made ∙ (λ j. moves_up_to (last_look (front' j)) cue (count j))))
+    (moves_fit show (take at show.cues) cue (drop (at + 1) show.cues) moves (seam show.cues at cue within here') valid
+    (made ∙ (λ j. moves_up_to (last_look (front' j)) cue (count j))))
 
-pub changed_at : (show new : Show) (xs given : List Cue) (at channels n : ℕ) (item : Cue) (moves : List Move) → xs ≡ show.cues → item ≡ get_or xs at item → given ≡ take at xs → channels ≡ show.channels → n ≡ item.number → Valid show
-    → moves ≡ moves_up_to (last_look given) item channels → new ≡ record show { cues = changed (λ x. x.number) n (λ z. record z { moves = moves }) show.cues }
-    → (front : List Cue) (cue : Cue) (back : List Cue) → length front ≡ at → show.cues ≡ front ++ cue ∷ back → new ≡ record show { cues = front ++ with_look show front cue ∷ back }
+pub changed_at : (show new : Show) (xs given : List Cue) (at channels n : ℕ) (item : Cue) (moves : List Move) → xs ≡ show.cues
+    → item ≡ get_or xs at item → given ≡ take at xs → channels ≡ show.channels → n ≡ item.number → Valid show
+    → moves ≡ moves_up_to (last_look given) item channels
+    → new ≡ record show { cues = changed (λ x. x.number) n (λ z. record z { moves = moves }) show.cues }
+    → (front : List Cue) (cue : Cue) (back : List Cue) → length front ≡ at → show.cues ≡ front ++ cue ∷ back
+    → new ≡ record show { cues = front ++ with_look show front cue ∷ back }
 changed_at show new xs given at channels n item moves are here before count number valid made changes front cue back place is =
     let whole : xs ≡ front ++ cue ∷ back = are ∙ is in
     let same : item ≡ cue = here ∙ (λ j. get_or (whole j) (sym place j) item) ∙ get_seam front cue back item in
     let given_is : given ≡ front = before ∙ (λ j. take (sym place j) (whole j)) ∙ take-append_seam front (cue ∷ back) in
-    let made' : moves ≡ moves_up_to (last_look front) cue show.channels = made ∙ (λ j. moves_up_to (last_look (given_is j)) (same j) (count j)) in
+    let made' : moves ≡ moves_up_to (last_look front) cue show.channels = made
+    ∙ (λ j. moves_up_to (last_look (given_is j)) (same j) (count j)) in
     let number' : n ≡ cue.number = number ∙ ap (λ z. z.number) same in
-    cue_changed show new front cue back moves is valid made' (changes ∙ (λ j. record show { cues = changed (λ x. x.number) (number' j) (λ z. record z { moves = moves }) show.cues }))
+    cue_changed show new front cue back moves is valid made'
+    (changes ∙ (λ j. record show { cues = changed (λ x. x.number) (number' j) (λ z. record z { moves = moves }) show.cues }))

@@ -20,52 +20,74 @@ use Rattle.lx_reader.proofs.Cues.{part_of, parts_named, parts_named-more, HasPar
 use Rattle.lx_reader.proofs.Shows.{begun-more, made, show_so_far, IsBegunBy, IsBegun}
 
 -- What was begun is there.
-part_there : (all : List PlacedEntry) (m p : ℕ) → has_entry (λ k. k) m (numbers_begun cue_in all) ≡ true → HasPart (filter (stands_in cue_in m) all) p → HasPartIn (show_so_far all) m p
+part_there : (all : List PlacedEntry) (m p : ℕ) → has_entry (λ k. k) m (numbers_begun cue_in all) ≡ true
+    → HasPart (filter (stands_in cue_in m) all) p → HasPartIn (show_so_far all) m p
 part_there all m p begun part =
-    let found : cue_of (show_so_far all) m ≡ Some (made cue_in cue_from all m) = entry_made (λ cue. cue.number) (made cue_in cue_from all) (λ k. refl) m (numbers_begun cue_in all) ∙ ap (λ b. cond b (Some (made cue_in cue_from all m)) None) begun in
-    subst (λ o. IsSomeAnd o (λ cue. IsTrue (has_entry (λ part. part.number) p cue.parts))) (sym found) (has_made (λ part. part.number) (part_of (filter (stands_in cue_in m) all)) (λ k. refl) p (parts_named (filter (stands_in cue_in m) all)) ∙ part)
+    let found : cue_of (show_so_far all) m ≡ Some (made cue_in cue_from all m) =
+    entry_made (λ cue. cue.number) (made cue_in cue_from all) (λ k. refl) m (numbers_begun cue_in all)
+    ∙ ap (λ b. cond b (Some (made cue_in cue_from all m)) None) begun in
+    subst (λ o. IsSomeAnd o (λ cue. IsTrue (has_entry (λ part. part.number) p cue.parts))) (sym found)
+    (has_made (λ part. part.number) (part_of (filter (stands_in cue_in m) all)) (λ k. refl) p
+    (parts_named (filter (stands_in cue_in m) all)) ∙ part)
 
 pub begun_open : (all : List PlacedEntry) (section : Section) (p : ℕ) → IsBegun all section p → IsOpen (show_so_far all) section p
 begun_open all (InCue m) p begun = part_there all m p (begun.cue m (eq-here m)) (begun.part m (eq-here m))
-begun_open all (InGroup m) p begun = has_made (λ group. group.number) (made group_in group_from all) (λ k. refl) m (numbers_begun group_in all) ∙ begun.group m (eq-here m)
-begun_open all (InSub m) p begun = has_made (λ sub. sub.number) (made sub_in sub_from all) (λ k. refl) m (numbers_begun sub_in all) ∙ begun.sub m (eq-here m)
+begun_open all (InGroup m) p begun = has_made (λ group. group.number) (made group_in group_from all) (λ k. refl) m
+    (numbers_begun group_in all) ∙ begun.group m (eq-here m)
+begun_open all (InSub m) p begun = has_made (λ sub. sub.number) (made sub_in sub_from all) (λ k. refl) m (numbers_begun sub_in all)
+    ∙ begun.sub m (eq-here m)
 begun_open all NoRecord p begun = tt
 begun_open all Skipping p begun = tt
 
 -- One more line.
-still_begun : (number : Section → Option ℕ) (all : List PlacedEntry) (s : PlacedEntry) (n : ℕ) → has_entry (λ k. k) n (numbers_begun number all) ≡ true → has_entry (λ k. k) n (numbers_begun number (all ++ s ∷ [])) ≡ true
-still_begun number all s n there = ap (has_entry (λ k. k) n) (begun-more number all s) ∙ has-all_placed n (cons_option (number_begun number s.entry) []) (numbers_begun number all) there
+still_begun : (number : Section → Option ℕ) (all : List PlacedEntry) (s : PlacedEntry) (n : ℕ)
+    → has_entry (λ k. k) n (numbers_begun number all) ≡ true → has_entry (λ k. k) n (numbers_begun number (all ++ s ∷ [])) ≡ true
+still_begun number all s n there = ap (has_entry (λ k. k) n) (begun-more number all s)
+    ∙ has-all_placed n (cons_option (number_begun number s.entry) []) (numbers_begun number all) there
 
 -- the record whose number the section has is begun now
-now_begun : (number : Section → Option ℕ) (all : List PlacedEntry) (s : PlacedEntry) (o : Option ℕ) (n : ℕ) → number_begun number s.entry ≡ o → is_at n o ≡ true → has_entry (λ k. k) n (numbers_begun number (all ++ s ∷ [])) ≡ true
+now_begun : (number : Section → Option ℕ) (all : List PlacedEntry) (s : PlacedEntry) (o : Option ℕ) (n : ℕ)
+    → number_begun number s.entry ≡ o → is_at n o ≡ true → has_entry (λ k. k) n (numbers_begun number (all ++ s ∷ [])) ≡ true
 now_begun number all s None n begins is = cc
 now_begun number all s (Some m) n begins is =
     let here : has_entry (λ k. k) m (numbers_begun number (all ++ s ∷ [])) ≡ true =
-    ap (has_entry (λ k. k) m) (begun-more number all s) ∙ ap (λ o. has_entry (λ k. k) m (fold (λ ys x. placed (λ k. k) x ys) (numbers_begun number all) (cons_option o []))) begins ∙ has-here m (numbers_begun number all) in
+    ap (has_entry (λ k. k) m) (begun-more number all s)
+    ∙ ap (λ o. has_entry (λ k. k) m (fold (λ ys x. placed (λ k. k) x ys) (numbers_begun number all) (cons_option o []))) begins
+    ∙ has-here m (numbers_begun number all) in
     subst (λ k. has_entry (λ j. j) k (numbers_begun number (all ++ s ∷ [])) ≡ true) (eqb-true m n is) here
 
-begun_by : (number : Section → Option ℕ) (all : List PlacedEntry) (s : PlacedEntry) (o : Option Section) → section_begun s.entry ≡ o → IsBegunBy number all s.section → IsBegunBy number (all ++ s ∷ []) (unwrap_or o s.section)
+begun_by : (number : Section → Option ℕ) (all : List PlacedEntry) (s : PlacedEntry) (o : Option Section) → section_begun s.entry ≡ o
+    → IsBegunBy number all s.section → IsBegunBy number (all ++ s ∷ []) (unwrap_or o s.section)
 begun_by number all s None begins before n is = still_begun number all s n (before n is)
 begun_by number all s (Some section) begins before n is = now_begun number all s (number section) n (ap (option_and_then number) begins) is
 
 first_part : (about : List PlacedEntry) → HasPart about 1
 first_part about = has-all_placed 1 (filter_map (λ s. part_named s.entry) about) (1 ∷ []) (has-here 1 [])
 
-part_more : (about : List PlacedEntry) (s : PlacedEntry) (named : Option ℕ) (p : ℕ) → part_named s.entry ≡ named → HasPart about p → HasPart (about ++ s ∷ []) (unwrap_or named p)
+part_more : (about : List PlacedEntry) (s : PlacedEntry) (named : Option ℕ) (p : ℕ) → part_named s.entry ≡ named → HasPart about p
+    → HasPart (about ++ s ∷ []) (unwrap_or named p)
 part_more about s None p names there =
     ap (has_entry (λ k. k) p) (parts_named-more about s) ∙ has-all_placed p (cons_option (part_named s.entry) []) (parts_named about) there
 part_more about s (Some q) p names there =
-    ap (has_entry (λ k. k) q) (parts_named-more about s) ∙ ap (λ o. has_entry (λ k. k) q (fold (λ ys x. placed (λ k. k) x ys) (parts_named about) (cons_option o []))) names ∙ has-here q (parts_named about)
+    ap (has_entry (λ k. k) q) (parts_named-more about s)
+    ∙ ap (λ o. has_entry (λ k. k) q (fold (λ ys x. placed (λ k. k) x ys) (parts_named about) (cons_option o []))) names
+    ∙ has-here q (parts_named about)
 
 -- the cue in whose section the entry stands has the part that is open then
-part_by : (all : List PlacedEntry) (s : PlacedEntry) (p : ℕ) (o : Option Section) → ((n : ℕ) → is_at n (cue_in s.section) ≡ true → HasPart (filter (stands_in cue_in n) all) p) → (n : ℕ) → is_at n (cue_in (unwrap_or o s.section)) ≡ true
+part_by : (all : List PlacedEntry) (s : PlacedEntry) (p : ℕ) (o : Option Section)
+    → ((n : ℕ) → is_at n (cue_in s.section) ≡ true → HasPart (filter (stands_in cue_in n) all) p) → (n : ℕ)
+    → is_at n (cue_in (unwrap_or o s.section)) ≡ true
     → HasPart (filter (stands_in cue_in n) (all ++ s ∷ [])) (cond (is_some o) 1 (unwrap_or (part_named s.entry) p))
 part_by all s p None before n is =
-    let about : filter (stands_in cue_in n) (all ++ s ∷ []) ≡ filter (stands_in cue_in n) all ++ s ∷ [] = filter-more (stands_in cue_in n) all s ∙ ap (λ b. filter (stands_in cue_in n) all ++ cond b (s ∷ []) []) is in
-    subst (λ v. HasPart v (unwrap_or (part_named s.entry) p)) (sym about) (part_more (filter (stands_in cue_in n) all) s (part_named s.entry) p refl (before n is))
+    let about : filter (stands_in cue_in n) (all ++ s ∷ []) ≡ filter (stands_in cue_in n) all ++ s ∷ [] =
+    filter-more (stands_in cue_in n) all s ∙ ap (λ b. filter (stands_in cue_in n) all ++ cond b (s ∷ []) []) is in
+    subst (λ v. HasPart v (unwrap_or (part_named s.entry) p)) (sym about)
+    (part_more (filter (stands_in cue_in n) all) s (part_named s.entry) p refl (before n is))
 part_by all s p (Some section) before n is = first_part (filter (stands_in cue_in n) (all ++ s ∷ []))
 
-pub begun_next : (all : List PlacedEntry) (s : PlacedEntry) (p : ℕ) → IsBegun all s.section p → IsBegun (all ++ s ∷ []) (unwrap_or (section_begun s.entry) s.section) (cond (is_some (section_begun s.entry)) 1 (unwrap_or (part_named s.entry) p))
+pub begun_next : (all : List PlacedEntry) (s : PlacedEntry) (p : ℕ) → IsBegun all s.section p
+    → IsBegun (all ++ s ∷ []) (unwrap_or (section_begun s.entry) s.section)
+    (cond (is_some (section_begun s.entry)) 1 (unwrap_or (part_named s.entry) p))
 begun_next all s p before = record {
   cue = begun_by cue_in all s (section_begun s.entry) refl before.cue;
   group = begun_by group_in all s (section_begun s.entry) refl before.group;
@@ -78,9 +100,14 @@ pub begun_none : (all : List PlacedEntry) (p : ℕ) → IsBegun all NoRecord p
 begun_none all p = record { cue = λ n is. cc; group = λ n is. cc; sub = λ n is. cc; part = λ n is. cc }
 
 -- the cues that are known
-pub cues_next : (all : List PlacedEntry) (s : PlacedEntry) (o : Option ℕ) (cues : List ℕ) → number_begun cue_in s.entry ≡ o → cues ≡ numbers_begun cue_in all → with_cue_named o cues ≡ numbers_begun cue_in (all ++ s ∷ [])
-cues_next all s None cues begins are = are ∙ ap (λ o. fold (λ ys x. placed (λ k. k) x ys) (numbers_begun cue_in all) (cons_option o [])) (sym begins) ∙ sym (begun-more cue_in all s)
-cues_next all s (Some n) cues begins are = ap (placed (λ m. m) n) are ∙ ap (λ o. fold (λ ys x. placed (λ k. k) x ys) (numbers_begun cue_in all) (cons_option o [])) (sym begins) ∙ sym (begun-more cue_in all s)
+pub cues_next : (all : List PlacedEntry) (s : PlacedEntry) (o : Option ℕ) (cues : List ℕ) → number_begun cue_in s.entry ≡ o
+    → cues ≡ numbers_begun cue_in all → with_cue_named o cues ≡ numbers_begun cue_in (all ++ s ∷ [])
+cues_next all s None cues begins are = are
+    ∙ ap (λ o. fold (λ ys x. placed (λ k. k) x ys) (numbers_begun cue_in all) (cons_option o [])) (sym begins)
+    ∙ sym (begun-more cue_in all s)
+cues_next all s (Some n) cues begins are = ap (placed (λ m. m) n) are
+    ∙ ap (λ o. fold (λ ys x. placed (λ k. k) x ys) (numbers_begun cue_in all) (cons_option o [])) (sym begins)
+    ∙ sym (begun-more cue_in all s)
 
 numbers_made : (all : List PlacedEntry) (ns : List ℕ) → map (λ cue. cue.number) (map (made cue_in cue_from all) ns) ≡ ns
 numbers_made all [] = refl

@@ -22,30 +22,42 @@ onto_one : {A E : Type 0} (x : A) (r : Result (List A) E) → (r >>= (λ more. O
 onto_one x (Ok more) = refl
 onto_one x (Err e) = refl
 
-onto_if : {A : Type 0} (i : ℕ) (xs : List A) (b : Bool) (r : Result (List A) TextFault) → cond b (onto xs r) (Err (ShortList i)) ≡ onto xs (cond b r (Err (ShortList i)))
+onto_if : {A : Type 0} (i : ℕ) (xs : List A) (b : Bool) (r : Result (List A) TextFault)
+    → cond b (onto xs r) (Err (ShortList i)) ≡ onto xs (cond b r (Err (ShortList i)))
 onto_if i xs true r = refl
 onto_if i xs false r = refl
 
-pairs_first : (i : ℕ) (c l : List ℕ) (rest : List (List ℕ)) (m : Member) → read_whole 1 CHANNELS c ≡ Ok m.chan → read_level l ≡ Ok m.level → pairs desk_limits i (c ∷ l ∷ rest) ≡ onto (m ∷ []) (pairs desk_limits i rest)
+pairs_first : (i : ℕ) (c l : List ℕ) (rest : List (List ℕ)) (m : Member) → read_whole 1 CHANNELS c ≡ Ok m.chan → read_level l ≡ Ok m.level
+    → pairs desk_limits i (c ∷ l ∷ rest) ≡ onto (m ∷ []) (pairs desk_limits i rest)
 pairs_first i c l rest m chan level =
-    (λ j. number i (chan j) >>= (λ x. number i (read_level l) >>= (λ y. pairs desk_limits i rest >>= (λ more. Ok (record { chan = x; level = y } ∷ more)))))
+    (λ j. number i (chan j) >>= (λ x. number i (read_level l)
+    >>= (λ y. pairs desk_limits i rest >>= (λ more. Ok (record { chan = x; level = y } ∷ more)))))
     ∙ (λ j. number i (level j) >>= (λ y. pairs desk_limits i rest >>= (λ more. Ok (record { chan = m.chan; level = y } ∷ more))))
     ∙ onto_one m (pairs desk_limits i rest)
 
-pub all_pairs-first : (i : ℕ) (c l : List ℕ) (rest : List (List ℕ)) (m : Member) → read_whole 1 CHANNELS c ≡ Ok m.chan → read_level l ≡ Ok m.level → all_pairs i (c ∷ l ∷ rest) ≡ onto (m ∷ []) (all_pairs i rest)
+pub all_pairs-first : (i : ℕ) (c l : List ℕ) (rest : List (List ℕ)) (m : Member) → read_whole 1 CHANNELS c ≡ Ok m.chan
+    → read_level l ≡ Ok m.level → all_pairs i (c ∷ l ∷ rest) ≡ onto (m ∷ []) (all_pairs i rest)
 all_pairs-first i c l rest m chan level =
     ap (λ k. cond (k == 0) (pairs desk_limits i (c ∷ l ∷ rest)) (Err (ShortList i))) (two_more (length rest))
     ∙ ap (λ r. cond (length rest % 2 == 0) r (Err (ShortList i))) (pairs_first i c l rest m chan level)
     ∙ onto_if i (m ∷ []) (length rest % 2 == 0) (pairs desk_limits i rest)
 
-triples_first : (i : ℕ) (c e l : List ℕ) (rest : List (List ℕ)) (row : PatchRow) → read_whole 1 CHANNELS c ≡ Ok row.chan → read_whole 1 DIMMERS e ≡ Ok row.dimmer → read_level l ≡ Ok row.level → triples desk_limits i (c ∷ e ∷ l ∷ rest) ≡ onto (row ∷ []) (triples desk_limits i rest)
+triples_first : (i : ℕ) (c e l : List ℕ) (rest : List (List ℕ)) (row : PatchRow) → read_whole 1 CHANNELS c ≡ Ok row.chan
+    → read_whole 1 DIMMERS e ≡ Ok row.dimmer → read_level l ≡ Ok row.level
+    → triples desk_limits i (c ∷ e ∷ l ∷ rest) ≡ onto (row ∷ []) (triples desk_limits i rest)
 triples_first i c e l rest row chan dimmer level =
-    (λ j. number i (chan j) >>= (λ x. number i (read_whole 1 DIMMERS e) >>= (λ z. number i (read_level l) >>= (λ y. triples desk_limits i rest >>= (λ more. Ok (record { dimmer = z; chan = x; level = y } ∷ more))))))
-    ∙ (λ j. number i (dimmer j) >>= (λ z. number i (read_level l) >>= (λ y. triples desk_limits i rest >>= (λ more. Ok (record { dimmer = z; chan = row.chan; level = y } ∷ more)))))
-    ∙ (λ j. number i (level j) >>= (λ y. triples desk_limits i rest >>= (λ more. Ok (record { dimmer = row.dimmer; chan = row.chan; level = y } ∷ more))))
+    (λ j. number i (chan j) >>= (λ x. number i (read_whole 1 DIMMERS e)
+    >>= (λ z. number i (read_level l) >>= (λ y. triples desk_limits i rest
+    >>= (λ more. Ok (record { dimmer = z; chan = x; level = y } ∷ more))))))
+    ∙ (λ j. number i (dimmer j) >>= (λ z. number i (read_level l)
+    >>= (λ y. triples desk_limits i rest >>= (λ more. Ok (record { dimmer = z; chan = row.chan; level = y } ∷ more)))))
+    ∙ (λ j. number i (level j) >>= (λ y. triples desk_limits i rest
+    >>= (λ more. Ok (record { dimmer = row.dimmer; chan = row.chan; level = y } ∷ more))))
     ∙ onto_one row (triples desk_limits i rest)
 
-pub all_triples-first : (i : ℕ) (c e l : List ℕ) (rest : List (List ℕ)) (row : PatchRow) → read_whole 1 CHANNELS c ≡ Ok row.chan → read_whole 1 DIMMERS e ≡ Ok row.dimmer → read_level l ≡ Ok row.level → all_triples i (c ∷ e ∷ l ∷ rest) ≡ onto (row ∷ []) (all_triples i rest)
+pub all_triples-first : (i : ℕ) (c e l : List ℕ) (rest : List (List ℕ)) (row : PatchRow) → read_whole 1 CHANNELS c ≡ Ok row.chan
+    → read_whole 1 DIMMERS e ≡ Ok row.dimmer → read_level l ≡ Ok row.level
+    → all_triples i (c ∷ e ∷ l ∷ rest) ≡ onto (row ∷ []) (all_triples i rest)
 all_triples-first i c e l rest row chan dimmer level =
     ap (λ k. cond (k == 0) (triples desk_limits i (c ∷ e ∷ l ∷ rest)) (Err (ShortList i))) (three_more (length rest))
     ∙ ap (λ r. cond (length rest % 3 == 0) r (Err (ShortList i))) (triples_first i c e l rest row chan dimmer level)

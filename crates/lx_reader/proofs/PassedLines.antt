@@ -1,5 +1,6 @@
 -- Lines that were handed out, and the state that they come to.
-use Rattle.std.proofs.Common.{◌≡◌, ℕ, ◌<◌, ◌≤◌, ◌+◌, true, false, List, [], ◌∷◌, ◌++◌, map, length, take, Option, Some, None, Ok, Err, refl, ap, ◌∙◌, sym, subst, inl, inr, arith, append_assoc, length-append}
+use Rattle.std.proofs.Common.{◌≡◌, ℕ, ◌<◌, ◌≤◌, ◌+◌, true, false, List, [], ◌∷◌, ◌++◌, map, length, take, Option, Some, None, Ok, Err, refl}
+use Rattle.std.proofs.Common.{ap, ◌∙◌, sym, subst, inl, inr, arith, append_assoc, length-append}
 use Rattle.std.specs.Prelude.{drop, IfSome}
 use Rattle.std.specs.Io.KnownBytes.{IsAtEnd}
 use Rattle.std.proofs.Math.Seq.{take-append_seam}
@@ -17,7 +18,7 @@ use Rattle.lx_spec.specs.CutInput.{CutOff, first_lines}
 use Rattle.lx_spec.specs.Reading.{reads_lines, lines_read, script_of}
 use Rattle.lx_lex.specs.declared.lines.Lines.{Lines}
 use Rattle.lx_lex.specs.declared.lines.Step.TheVariants as steps
-use Rattle.lx_lex.specs.Lines.{StepOf, TookLines}
+use Rattle.lx_lex.specs.Lines.{StepOf, LinesBetween}
 use Rattle.lx_lex.specs.CutOff.{NotTaken}
 use Rattle.lx_lex.specs.Handed.{HandedOut}
 use Rattle.lx_lex.specs.Unread.{unread, line_of}
@@ -28,7 +29,8 @@ use Rattle.lx_reader.specs.OpenRecord.{IsOpen}
 use Rattle.lx_reader.specs.ReadingState.{ReadingState, first_state, step, facts_in, final_reading}
 use Rattle.lx_reader.specs.HandedLines.{MeansShow, MeansFault, IsPastLimit, IsCutShort}
 use Rattle.lx_reader.proofs.ReadingStates.{state_open, skipped_few}
-use Rattle.lx_reader.proofs.ReadLines.{ReadSoFar, Ended, Refused, read_none, read_more, read_refused, read_ended, read_open, wanted_more, wanted_one}
+use Rattle.lx_reader.proofs.ReadLines.{ReadSoFar, Ended, Refused, read_none, read_more, read_refused, read_ended, read_open, wanted_more}
+use Rattle.lx_reader.proofs.ReadLines.{wanted_one}
 
 -- The lines that were handed out and taken up.
 pub record PassedLines {S : Type 0} (left : S → Option (List ℕ)) (rises : S → ℕ) (old new : Lines S) (t : ReadingState) : Type 0 where
@@ -36,17 +38,20 @@ pub record PassedLines {S : Type 0} (left : S → Option (List ℕ)) (rises : S 
   pub handed : HandedOut left rises old new raws
   pub so_far : ReadSoFar (map without_cr raws) t
 
-pub lines_none : {S : Type 0} (left : S → Option (List ℕ)) (rises : S → ℕ) (l : Lines S) → l.going ≡ true → PassedLines left rises l l first_state
+pub lines_none : {S : Type 0} (left : S → Option (List ℕ)) (rises : S → ℕ) (l : Lines S) → l.going ≡ true
+    → PassedLines left rises l l first_state
 lines_none left rises l going = record { raws = []; handed = handed_none left rises l going; so_far = read_none }
 
 texts_more : (raws : List (List ℕ)) (raw : List ℕ) → map without_cr (raws ++ raw ∷ []) ≡ map without_cr raws ++ without_cr raw ∷ []
 texts_more raws raw = map-append without_cr raws (raw ∷ [])
 
-texts_then : (raws : List (List ℕ)) (raw : List ℕ) (more : List (List ℕ)) → map without_cr (raws ++ raw ∷ []) ++ more ≡ map without_cr raws ++ without_cr raw ∷ more
+texts_then : (raws : List (List ℕ)) (raw : List ℕ) (more : List (List ℕ))
+    → map without_cr (raws ++ raw ∷ []) ++ more ≡ map without_cr raws ++ without_cr raw ∷ more
 texts_then raws raw more = ap (λ v. v ++ more) (texts_more raws raw) ∙ append_assoc (map without_cr raws) (without_cr raw ∷ []) more
 
 -- the line that is read next, by its number
-next_number : {S : Type 0} (left : S → Option (List ℕ)) (rises : S → ℕ) (old l : Lines S) (t : ReadingState) (past : PassedLines left rises old l t) → old.number ≡ 0 → l.number + 1 ≡ length (map without_cr past.raws) + 1
+next_number : {S : Type 0} (left : S → Option (List ℕ)) (rises : S → ℕ) (old l : Lines S) (t : ReadingState)
+    (past : PassedLines left rises old l t) → old.number ≡ 0 → l.number + 1 ≡ length (map without_cr past.raws) + 1
 next_number left rises old l t past first = omega (arith, past.handed.number, length-map past.raws without_cr)
 
 -- the section is open, and few lines were skipped
@@ -54,7 +59,8 @@ pub record IsSound (i : ℕ) (t : ReadingState) : Type 0 where
   pub open_section : IsOpen t.show t.section t.part
   pub few : t.skipped < i
 
-pub lines_sound : {S : Type 0} (left : S → Option (List ℕ)) (rises : S → ℕ) (old l : Lines S) (t : ReadingState) → old.number ≡ 0 → PassedLines left rises old l t → IsSound (l.number + 1) t
+pub lines_sound : {S : Type 0} (left : S → Option (List ℕ)) (rises : S → ℕ) (old l : Lines S) (t : ReadingState) → old.number ≡ 0
+    → PassedLines left rises old l t → IsSound (l.number + 1) t
 lines_sound left rises old l t first past =
     let so_far = past.so_far in
     record {
@@ -63,36 +69,47 @@ lines_sound left rises old l t first past =
     }
 
 -- one more line, after which the reading goes on
-pub lines_more : {S : Type 0} (left : S → Option (List ℕ)) (rises : S → ℕ) (old l l' : Lines S) (t : ReadingState) (raw : List ℕ) (e : Entry) → old.number ≡ 0 → PassedLines left rises old l t → HandedOut left rises l l' (raw ∷ [])
-    → entry_of (facts_in t (l.number + 1)) (without_cr raw) ≡ Ok e → is_end e ≡ false → PassedLines left rises old l' (step (l.number + 1) e t)
+pub lines_more : {S : Type 0} (left : S → Option (List ℕ)) (rises : S → ℕ) (old l l' : Lines S) (t : ReadingState) (raw : List ℕ)
+    (e : Entry) → old.number ≡ 0 → PassedLines left rises old l t → HandedOut left rises l l' (raw ∷ [])
+    → entry_of (facts_in t (l.number + 1)) (without_cr raw) ≡ Ok e → is_end e ≡ false
+    → PassedLines left rises old l' (step (l.number + 1) e t)
 lines_more left rises old l l' t raw e first past handed says goes_on = record {
   raws = past.raws ++ raw ∷ [];
   handed = handed_then left rises old l l' past.raws (raw ∷ []) past.handed handed;
   so_far = subst (λ v. ReadSoFar v (step (l.number + 1) e t)) (sym (texts_more past.raws raw))
-      (read_more (map without_cr past.raws) t (without_cr raw) e (l.number + 1) past.so_far (next_number left rises old l t past first) says goes_on);
+      (read_more (map without_cr past.raws) t (without_cr raw) e (l.number + 1) past.so_far (next_number left rises old l t past first) says
+      goes_on);
 }
 
 -- what holds of each list of lines that begins with these holds of the text
-text_with : (a b : Option (List ℕ)) (i j : ℕ) (raws : List (List ℕ)) (P : List (List ℕ) → Type 0) → TookLines a b i j raws → ((more : List (List ℕ)) → P (map without_cr raws ++ more)) → IfSome a (λ bytes. P (lines_of bytes))
+text_with : (a b : Option (List ℕ)) (i j : ℕ) (raws : List (List ℕ)) (P : List (List ℕ) → Type 0) → LinesBetween a b i j raws
+    → ((more : List (List ℕ)) → P (map without_cr raws ++ more)) → IfSome a (λ bytes. P (lines_of bytes))
 text_with None b i j raws P took all = tt
 text_with (Some x) None i j raws P took all = absurd took.took
 text_with (Some x) (Some y) i j raws P took all = subst P (sym (texts (Some x) (Some y) i j raws took)) (all (lines_of y))
 
-text_whole : (a b : Option (List ℕ)) (i j : ℕ) (raws : List (List ℕ)) (P : List (List ℕ) → Type 0) → TookLines a b i j raws → IsAtEnd b → P (map without_cr raws) → IfSome a (λ bytes. P (lines_of bytes))
+text_whole : (a b : Option (List ℕ)) (i j : ℕ) (raws : List (List ℕ)) (P : List (List ℕ) → Type 0) → LinesBetween a b i j raws → IsAtEnd b
+    → P (map without_cr raws) → IfSome a (λ bytes. P (lines_of bytes))
 text_whole None b i j raws P took end all = tt
 text_whole (Some x) b i j raws P took end all = subst P (sym (all_texts (Some x) b i j raws took end)) all
 
-script_with : (a b : Option (List ℕ)) (i j : ℕ) (raws : List (List ℕ)) → TookLines a b i j raws → ((more : List (List ℕ)) → drop (lines_read (map without_cr raws ++ more)) (map without_cr raws ++ more) ≡ more) → IfSome a (λ bytes. IfSome b (λ rest. script_of bytes ≡ lines_of rest))
+script_with : (a b : Option (List ℕ)) (i j : ℕ) (raws : List (List ℕ)) → LinesBetween a b i j raws
+    → ((more : List (List ℕ)) → drop (lines_read (map without_cr raws ++ more)) (map without_cr raws ++ more) ≡ more)
+    → IfSome a (λ bytes. IfSome b (λ rest. script_of bytes ≡ lines_of rest))
 script_with None b i j raws took all = tt
 script_with (Some x) None i j raws took all = tt
 script_with (Some x) (Some y) i j raws took all = ap (λ v. drop (lines_read v) v) (texts (Some x) (Some y) i j raws took) ∙ all (lines_of y)
 
 -- The next line is ENDDATA.
-pub lines_ended : {S : Type 0} (left : S → Option (List ℕ)) (rises : S → ℕ) (old l l' : Lines S) (form : Form) (t : ReadingState) (raw : List ℕ) (e : Entry) → old.number ≡ 0 → PassedLines left rises old l t → IfSome t.channels_set (λ n. 1 ≤ n) → HandedOut left rises l l' (raw ∷ [])
-    → entry_of (facts_in t (l.number + 1)) (without_cr raw) ≡ Ok e → is_end e ≡ true → MeansShow left rises old l' form (final_reading form t)
+pub lines_ended : {S : Type 0} (left : S → Option (List ℕ)) (rises : S → ℕ) (old l l' : Lines S) (form : Form) (t : ReadingState)
+    (raw : List ℕ) (e : Entry) → old.number ≡ 0 → PassedLines left rises old l t → IfSome t.channels_set (λ n. 1 ≤ n)
+    → HandedOut left rises l l' (raw ∷ [])
+    → entry_of (facts_in t (l.number + 1)) (without_cr raw) ≡ Ok e → is_end e ≡ true
+    → MeansShow left rises old l' form (final_reading form t)
 lines_ended left rises old l l' form t raw e first past least handed says end =
     let front : List (List ℕ) = map without_cr past.raws in
-    let all : (more : List (List ℕ)) → Ended form front (without_cr raw) t more = read_ended form front t (without_cr raw) e (l.number + 1) past.so_far least (next_number left rises old l t past first) says end in
+    let all : (more : List (List ℕ)) → Ended form front (without_cr raw) t more =
+    read_ended form front t (without_cr raw) e (l.number + 1) past.so_far least (next_number left rises old l t past first) says end in
     let whole = handed_then left rises old l l' past.raws (raw ∷ []) past.handed handed in
     let count : length front + 1 ≡ length past.raws + 1 = omega (arith, length-map past.raws without_cr) in
     record {
@@ -100,17 +117,24 @@ lines_ended left rises old l l' form t raw e first past least handed says end =
       last = raw;
       handed = whole;
       lines = ap (reads_lines desk_limits form) (texts_more past.raws raw) ∙ (all []).reading;
-      text = text_with (unread left old) (unread left l') old.taken l'.taken (past.raws ++ raw ∷ []) (λ v. reads_lines desk_limits form v ≡ Ok (final_reading form t)) whole.took (λ more. ap (reads_lines desk_limits form) (texts_then past.raws raw more) ∙ (all more).reading);
-      wanted = text_with (unread left old) (unread left l') old.taken l'.taken (past.raws ++ raw ∷ []) (λ v. lines_read v ≡ length past.raws + 1) whole.took (λ more. ap lines_read (texts_then past.raws raw more) ∙ (all more).wanted ∙ count);
-      script = script_with (unread left old) (unread left l') old.taken l'.taken (past.raws ++ raw ∷ []) whole.took (λ more. ap (λ v. drop (lines_read v) v) (texts_then past.raws raw more) ∙ (all more).after);
+      text = text_with (unread left old) (unread left l') old.taken l'.taken (past.raws ++ raw ∷ [])
+          (λ v. reads_lines desk_limits form v ≡ Ok (final_reading form t)) whole.took
+          (λ more. ap (reads_lines desk_limits form) (texts_then past.raws raw more) ∙ (all more).reading);
+      wanted = text_with (unread left old) (unread left l') old.taken l'.taken (past.raws ++ raw ∷ [])
+          (λ v. lines_read v ≡ length past.raws + 1) whole.took
+          (λ more. ap lines_read (texts_then past.raws raw more) ∙ (all more).wanted ∙ count);
+      script = script_with (unread left old) (unread left l') old.taken l'.taken (past.raws ++ raw ∷ []) whole.took
+          (λ more. ap (λ v. drop (lines_read v) v) (texts_then past.raws raw more) ∙ (all more).after);
     }
 
 -- The next line has a fault.
-pub lines_refused : {S : Type 0} (left : S → Option (List ℕ)) (rises : S → ℕ) (old l l' : Lines S) (form : Form) (t : ReadingState) (raw : List ℕ) (fault : TextFault) → old.number ≡ 0 → PassedLines left rises old l t → HandedOut left rises l l' (raw ∷ [])
+pub lines_refused : {S : Type 0} (left : S → Option (List ℕ)) (rises : S → ℕ) (old l l' : Lines S) (form : Form) (t : ReadingState)
+    (raw : List ℕ) (fault : TextFault) → old.number ≡ 0 → PassedLines left rises old l t → HandedOut left rises l l' (raw ∷ [])
     → entry_of (facts_in t (l.number + 1)) (without_cr raw) ≡ Err fault → MeansFault left old form fault
 lines_refused left rises old l l' form t raw fault first past handed says =
     let front : List (List ℕ) = map without_cr past.raws in
-    let all : (more : List (List ℕ)) → Refused form front (without_cr raw) fault more = read_refused form front t (without_cr raw) fault (l.number + 1) past.so_far (next_number left rises old l t past first) says in
+    let all : (more : List (List ℕ)) → Refused form front (without_cr raw) fault more =
+    read_refused form front t (without_cr raw) fault (l.number + 1) past.so_far (next_number left rises old l t past first) says in
     let whole = handed_then left rises old l l' past.raws (raw ∷ []) past.handed handed in
     let count : length front + 1 ≡ length past.raws + 1 = omega (arith, length-map past.raws without_cr) in
     record {
@@ -121,16 +145,22 @@ lines_refused left rises old l l' form t raw fault first past handed says =
       count = length past.raws + 1;
       whole = inl (length-append past.raws (raw ∷ []));
       lines = ap (reads_lines desk_limits form) (texts_more past.raws raw) ∙ (all []).reading;
-      text = text_with (unread left old) (unread left l') old.taken l'.taken (past.raws ++ raw ∷ []) (λ v. reads_lines desk_limits form v ≡ Err fault) whole.took (λ more. ap (reads_lines desk_limits form) (texts_then past.raws raw more) ∙ (all more).reading);
-      wanted = text_with (unread left old) (unread left l') old.taken l'.taken (past.raws ++ raw ∷ []) (λ v. lines_read v ≡ length past.raws + 1) whole.took (λ more. ap lines_read (texts_then past.raws raw more) ∙ (all more).wanted ∙ count);
+      text = text_with (unread left old) (unread left l') old.taken l'.taken (past.raws ++ raw ∷ [])
+          (λ v. reads_lines desk_limits form v ≡ Err fault) whole.took
+          (λ more. ap (reads_lines desk_limits form) (texts_then past.raws raw more) ∙ (all more).reading);
+      wanted = text_with (unread left old) (unread left l') old.taken l'.taken (past.raws ++ raw ∷ [])
+          (λ v. lines_read v ≡ length past.raws + 1) whole.took
+          (λ more. ap lines_read (texts_then past.raws raw more) ∙ (all more).wanted ∙ count);
     }
 
 -- No line is left.
-pub lines_open : {S : Type 0} (left : S → Option (List ℕ)) (rises : S → ℕ) (old l : Lines S) (form : Form) (t : ReadingState) → old.number ≡ 0 → PassedLines left rises old l t → IsAtEnd (unread left l) → MeansFault left old form (NoEndData (l.number + 1))
+pub lines_open : {S : Type 0} (left : S → Option (List ℕ)) (rises : S → ℕ) (old l : Lines S) (form : Form) (t : ReadingState)
+    → old.number ≡ 0 → PassedLines left rises old l t → IsAtEnd (unread left l) → MeansFault left old form (NoEndData (l.number + 1))
 lines_open left rises old l form t first past end =
     let front : List (List ℕ) = map without_cr past.raws in
     let number = next_number left rises old l t past first in
-    let meant : reads_lines desk_limits form front ≡ Err (NoEndData (l.number + 1)) = read_open form front t past.so_far ∙ ap (λ n. Err (NoEndData n)) (sym number) in
+    let meant : reads_lines desk_limits form front ≡ Err (NoEndData (l.number + 1)) = read_open form front t past.so_far
+    ∙ ap (λ n. Err (NoEndData n)) (sym number) in
     let wanted : lines_read front ≡ l.number + 1 = wanted_one front t past.so_far ∙ sym number in
     record {
       raws = past.raws;
@@ -140,36 +170,54 @@ lines_open left rises old l form t first past end =
       count = l.number + 1;
       whole = inr end;
       lines = meant;
-      text = text_whole (unread left old) (unread left l) old.taken l.taken past.raws (λ v. reads_lines desk_limits form v ≡ Err (NoEndData (l.number + 1))) past.handed.took end meant;
-      wanted = text_whole (unread left old) (unread left l) old.taken l.taken past.raws (λ v. lines_read v ≡ l.number + 1) past.handed.took end wanted;
+      text = text_whole (unread left old) (unread left l) old.taken l.taken past.raws
+          (λ v. reads_lines desk_limits form v ≡ Err (NoEndData (l.number + 1))) past.handed.took end meant;
+      wanted = text_whole (unread left old) (unread left l) old.taken l.taken past.raws (λ v. lines_read v ≡ l.number + 1) past.handed.took
+          end wanted;
     }
 
 -- The next line is past the limit of the input.
 first_texts : (raws more : List (List ℕ)) → take (length raws) (map without_cr raws ++ more) ≡ map without_cr raws
-first_texts raws more = ap (λ n. take n (map without_cr raws ++ more)) (sym (length-map raws without_cr)) ∙ take-append_seam (map without_cr raws) more
+first_texts raws more = ap (λ n. take n (map without_cr raws ++ more)) (sym (length-map raws without_cr))
+    ∙ take-append_seam (map without_cr raws) more
 
-past_limit : (o : Option (List ℕ)) (taken n : ℕ) → IfSome o (λ bytes. reads_lines desk_limits Moves (take n (lines_of bytes)) ≡ Err (NoEndData (n + 1))) → IfSome o (λ bytes. n < lines_read (lines_of bytes)) → IfSome o (λ bytes. INPUT_BYTES < taken + length (first_lines (n + 1) bytes)) → IfSome o (IsPastLimit taken)
+past_limit : (o : Option (List ℕ)) (taken n : ℕ)
+    → IfSome o (λ bytes. reads_lines desk_limits Moves (take n (lines_of bytes)) ≡ Err (NoEndData (n + 1)))
+    → IfSome o (λ bytes. n < lines_read (lines_of bytes)) → IfSome o (λ bytes. INPUT_BYTES < taken + length (first_lines (n + 1) bytes))
+    → IfSome o (IsPastLimit taken)
 past_limit None taken n open_text wanted long = tt
 past_limit (Some bytes) taken n open_text wanted long = record { n = n; no_end = open_text; wanted = wanted; long = long }
 
-pub lines_past_limit : {S : Type 0} (left : S → Option (List ℕ)) (rises : S → ℕ) (old l l' : Lines S) (t : ReadingState) → PassedLines left rises old l t → StepOf steps.InputTooLong (unread left l) (unread left l') l.taken l'.taken (line_of l') → IfSome (unread left old) (IsPastLimit old.taken)
+pub lines_past_limit : {S : Type 0} (left : S → Option (List ℕ)) (rises : S → ℕ) (old l l' : Lines S) (t : ReadingState)
+    → PassedLines left rises old l t → StepOf steps.InputTooLong (unread left l) (unread left l') l.taken l'.taken (line_of l')
+    → IfSome (unread left old) (IsPastLimit old.taken)
 lines_past_limit left rises old l l' t past step =
     let front : List (List ℕ) = map without_cr past.raws in
     let n : ℕ = length past.raws in
     let count = length-map past.raws without_cr in
-    let meant : reads_lines desk_limits Moves front ≡ Err (NoEndData (n + 1)) = read_open Moves front t past.so_far ∙ ap (λ k. Err (NoEndData (k + 1))) count in
+    let meant : reads_lines desk_limits Moves front ≡ Err (NoEndData (n + 1)) = read_open Moves front t past.so_far
+    ∙ ap (λ k. Err (NoEndData (k + 1))) count in
     past_limit (unread left old) old.taken n
-    (text_with (unread left old) (unread left l) old.taken l.taken past.raws (λ v. reads_lines desk_limits Moves (take n v) ≡ Err (NoEndData (n + 1))) past.handed.took (λ more. ap (reads_lines desk_limits Moves) (first_texts past.raws more) ∙ meant))
-    (text_with (unread left old) (unread left l) old.taken l.taken past.raws (λ v. n < lines_read v) past.handed.took (λ more. omega (arith, wanted_more front t past.so_far more, count)))
-    (next_too_long (unread left old) (unread left l) (unread left l') old.taken l.taken l'.taken past.raws (line_of l') (n + 1) past.handed.took step refl)
+    (text_with (unread left old) (unread left l) old.taken l.taken past.raws
+    (λ v. reads_lines desk_limits Moves (take n v) ≡ Err (NoEndData (n + 1))) past.handed.took
+    (λ more. ap (reads_lines desk_limits Moves) (first_texts past.raws more) ∙ meant))
+    (text_with (unread left old) (unread left l) old.taken l.taken past.raws (λ v. n < lines_read v) past.handed.took
+    (λ more. omega (arith, wanted_more front t past.so_far more, count)))
+    (next_too_long (unread left old) (unread left l) (unread left l') old.taken l.taken l'.taken past.raws (line_of l') (n + 1)
+    past.handed.took step refl)
 
 -- The next line wasn't taken.
-cut_short : (o left : Option (List ℕ)) (taken n : ℕ) → IfSome o (λ bytes. (cut : CutOff taken bytes left) × (cut.lines ≡ n)) → IfSome o (λ bytes. n < lines_read (lines_of bytes)) → IfSome o (λ bytes. IsCutShort taken bytes left)
+cut_short : (o left : Option (List ℕ)) (taken n : ℕ) → IfSome o (λ bytes. (cut : CutOff taken bytes left) × (cut.lines ≡ n))
+    → IfSome o (λ bytes. n < lines_read (lines_of bytes)) → IfSome o (λ bytes. IsCutShort taken bytes left)
 cut_short None left taken n cut wanted = tt
-cut_short (Some bytes) left taken n cut wanted = record { cut = cut.0; wanted = subst (λ k. k < lines_read (lines_of bytes)) (sym cut.1) wanted }
+cut_short (Some bytes) left taken n cut wanted =
+    record { cut = cut.0; wanted = subst (λ k. k < lines_read (lines_of bytes)) (sym cut.1) wanted }
 
-pub lines_cut : {S : Type 0} (left : S → Option (List ℕ)) (rises : S → ℕ) (old l l' : Lines S) (t : ReadingState) → PassedLines left rises old l t → NotTaken left l l' → IfSome (unread left old) (λ bytes. IsCutShort old.taken bytes (left l'.source.now))
+pub lines_cut : {S : Type 0} (left : S → Option (List ℕ)) (rises : S → ℕ) (old l l' : Lines S) (t : ReadingState)
+    → PassedLines left rises old l t → NotTaken left l l'
+    → IfSome (unread left old) (λ bytes. IsCutShort old.taken bytes (left l'.source.now))
 lines_cut left rises old l l' t past not =
     let count = length-map past.raws without_cr in
     cut_short (unread left old) (left l'.source.now) old.taken (length past.raws) (cut_off left old l l' past.raws past.handed.took not)
-    (text_with (unread left old) (unread left l) old.taken l.taken past.raws (λ v. length past.raws < lines_read v) past.handed.took (λ more. omega (arith, wanted_more (map without_cr past.raws) t past.so_far more, count)))
+    (text_with (unread left old) (unread left l) old.taken l.taken past.raws (λ v. length past.raws < lines_read v) past.handed.took
+    (λ more. omega (arith, wanted_more (map without_cr past.raws) t past.so_far more, count)))

@@ -1,5 +1,6 @@
 -- The states of a reading: each comes to the last of its entries for each thing.
-use Rattle.std.proofs.Common.{◌≡◌, ℕ, ◌+◌, ◌-◌, ◌<◌, ◌≤◌, Bool, true, false, cond, List, [], ◌∷◌, ◌++◌, map, length, drop, Option, Some, None, refl, ap, ◌∙◌, sym, subst, arith}
+use Rattle.std.proofs.Common.{◌≡◌, ℕ, ◌+◌, ◌-◌, ◌<◌, ◌≤◌, Bool, true, false, cond, List, [], ◌∷◌, ◌++◌, map, length, drop, Option, Some}
+use Rattle.std.proofs.Common.{None, refl, ap, ◌∙◌, sym, subst, arith}
 use Rattle.std.specs.Prelude.{◌&&◌, ◌==◌, is_some, not, max, fold, flat_map, unwrap_or, count_by, position, IfSome}
 use Rattle.std.specs.Option.{option_map_or}
 use Rattle.std.specs.List.{after_last, suffix_len, prefix_len, position_or_len}
@@ -19,7 +20,8 @@ use Rattle.lx_spec.specs.Facts.{facts_after, with_cue_named}
 use Rattle.lx_spec.specs.Reading.{reading_from, numbers_begun, channels_named, last_in}
 use Rattle.lx_spec.specs.Entry.{cue_in}
 use Rattle.lx_reader.specs.OpenRecord.{IsOpen}
-use Rattle.lx_reader.specs.ReadingState.{ReadingState, later, first_state, step, placed_in, facts_in, final_reading, show_with, number_begun}
+use Rattle.lx_reader.specs.ReadingState.{ReadingState, later, first_state, step, placed_in, facts_in, final_reading, show_with}
+use Rattle.lx_reader.specs.ReadingState.{number_begun}
 use Rattle.lx_reader.proofs.LastEntries.{last_in-more}
 use Rattle.lx_reader.proofs.Shows.{show_so_far, show-more, greatest-from, IsRooted, IsBegun}
 use Rattle.lx_reader.proofs.EntryRoots.{rooted-none, rooted-more}
@@ -30,19 +32,24 @@ abbrev pub since_cleared : List PlacedEntry → List PlacedEntry
 since_cleared all = after_last (λ e. clears_all e.entry) all
 
 -- What stands after the last that passes, with one more.
-suffix_push : {A : Type 0} (test : A → Bool) (xs : List A) (x : A) → suffix_len test (xs ++ x ∷ []) ≡ cond (test x) (1 + suffix_len test xs) 0
+suffix_push : {A : Type 0} (test : A → Bool) (xs : List A) (x : A)
+    → suffix_len test (xs ++ x ∷ []) ≡ cond (test x) (1 + suffix_len test xs) 0
 suffix_push test xs x = ap (prefix_len test) (reverse-append xs (x ∷ []))
 
-after_push : {A : Type 0} (test : A → Bool) (xs : List A) (x : A) (b : Bool) → test x ≡ b → after_last test (xs ++ x ∷ []) ≡ cond b [] (after_last test xs ++ x ∷ [])
+after_push : {A : Type 0} (test : A → Bool) (xs : List A) (x : A) (b : Bool) → test x ≡ b
+    → after_last test (xs ++ x ∷ []) ≡ cond b [] (after_last test xs ++ x ∷ [])
 after_push test xs x true is =
     let none : suffix_len (λ z. not (test z)) (xs ++ x ∷ []) ≡ 0 = suffix_push (λ z. not (test z)) xs x ∙ rw is refl in
     drop_all (length (xs ++ x ∷ []) - suffix_len (λ z. not (test z)) (xs ++ x ∷ [])) (xs ++ x ∷ []) (omega (arith, none))
 after_push test xs x false is =
-    let one : suffix_len (λ z. not (test z)) (xs ++ x ∷ []) ≡ 1 + suffix_len (λ z. not (test z)) xs = suffix_push (λ z. not (test z)) xs x ∙ rw is refl in
-    let place : length (xs ++ x ∷ []) - suffix_len (λ z. not (test z)) (xs ++ x ∷ []) ≡ length xs - suffix_len (λ z. not (test z)) xs = omega (arith, one, length-append xs (x ∷ [])) in
+    let one : suffix_len (λ z. not (test z)) (xs ++ x ∷ []) ≡ 1 + suffix_len (λ z. not (test z)) xs = suffix_push (λ z. not (test z)) xs x
+    ∙ rw is refl in
+    let place : length (xs ++ x ∷ []) - suffix_len (λ z. not (test z)) (xs ++ x ∷ []) ≡ length xs - suffix_len (λ z. not (test z)) xs =
+    omega (arith, one, length-append xs (x ∷ [])) in
     ap (λ n. drop n (xs ++ x ∷ [])) place ∙ drop-append-le (length xs - suffix_len (λ z. not (test z)) xs) xs (x ∷ []) (omega arith)
 
-pub since_more : (all : List PlacedEntry) (s : PlacedEntry) (b : Bool) → clears_all s.entry ≡ b → since_cleared (all ++ s ∷ []) ≡ cond b [] (since_cleared all ++ s ∷ [])
+pub since_more : (all : List PlacedEntry) (s : PlacedEntry) (b : Bool) → clears_all s.entry ≡ b
+    → since_cleared (all ++ s ∷ []) ≡ cond b [] (since_cleared all ++ s ∷ [])
 since_more all s b is = after_push (λ z. clears_all z.entry) all s b is
 
 -- The count of those that pass, and the first of them, with one more.
@@ -90,31 +97,41 @@ first_place test (x ∷ xs) = first_cons test x xs (test x) refl (first_place te
 abbrev first_number : {A : Type 0} → (A → Bool) → List A → ℕ
 first_number test xs = option_map_or (λ i. i + 1) (position test xs) 0
 
-first_below : {A : Type 0} (test : A → Bool) (xs : List A) → position_or_len test xs < length xs → first_number test xs ≡ position_or_len test xs + 1
-first_below test xs below = ap (λ b. option_map_or (λ i. i + 1) (cond b (Some (position_or_len test xs)) None) 0) (lt_true (position_or_len test xs) (length xs) below)
+first_below : {A : Type 0} (test : A → Bool) (xs : List A) → position_or_len test xs < length xs
+    → first_number test xs ≡ position_or_len test xs + 1
+first_below test xs below = ap (λ b. option_map_or (λ i. i + 1) (cond b (Some (position_or_len test xs)) None) 0)
+    (lt_true (position_or_len test xs) (length xs) below)
 
 first_none : {A : Type 0} (test : A → Bool) (xs : List A) → length xs ≤ position_or_len test xs → first_number test xs ≡ 0
-first_none test xs none = ap (λ b. option_map_or (λ i. i + 1) (cond b (Some (position_or_len test xs)) None) 0) (lt_false (position_or_len test xs) (length xs) none)
+first_none test xs none = ap (λ b. option_map_or (λ i. i + 1) (cond b (Some (position_or_len test xs)) None) 0)
+    (lt_false (position_or_len test xs) (length xs) none)
 
-place_push : {A : Type 0} (test : A → Bool) (xs : List A) (x : A) (b : Bool) → (position_or_len test xs == length xs) ≡ b → position_or_len test (xs ++ x ∷ []) ≡ cond b (length xs + none_if (test x)) (position_or_len test xs)
+place_push : {A : Type 0} (test : A → Bool) (xs : List A) (x : A) (b : Bool) → (position_or_len test xs == length xs) ≡ b
+    → position_or_len test (xs ++ x ∷ []) ≡ cond b (length xs + none_if (test x)) (position_or_len test xs)
 place_push test xs x b is = position_or_len_push test xs x ∙ ap (λ b. cond b (length xs + none_if (test x)) (position_or_len test xs)) is
 
-first_push : {A : Type 0} (test : A → Bool) (xs : List A) (x : A) (b c : Bool) → test x ≡ b → (count_by test xs == 0) ≡ c → first_number test (xs ++ x ∷ []) ≡ cond (b && c) (length xs + 1) (first_number test xs)
+first_push : {A : Type 0} (test : A → Bool) (xs : List A) (x : A) (b c : Bool) → test x ≡ b → (count_by test xs == 0) ≡ c
+    → first_number test (xs ++ x ∷ []) ≡ cond (b && c) (length xs + 1) (first_number test xs)
 first_push test xs x b false is count =
     let below : position_or_len test xs < length xs = (first_place test xs).some (not_zero (count_by test xs) count) in
-    let place : position_or_len test (xs ++ x ∷ []) ≡ position_or_len test xs = place_push test xs x false (eq_below (position_or_len test xs) (length xs) below) in
+    let place : position_or_len test (xs ++ x ∷ []) ≡ position_or_len test xs =
+    place_push test xs x false (eq_below (position_or_len test xs) (length xs) below) in
     let same : first_number test (xs ++ x ∷ []) ≡ first_number test xs =
-    first_below test (xs ++ x ∷ []) (omega (arith, place, length-append xs (x ∷ []))) ∙ ap (λ n. n + 1) place ∙ sym (first_below test xs below) in
-    elim b as (λ b. first_number test (xs ++ x ∷ []) ≡ cond (b && false) (length xs + 1) (first_number test xs)) [ true ↦ same | false ↦ same ]
+    first_below test (xs ++ x ∷ []) (omega (arith, place, length-append xs (x ∷ []))) ∙ ap (λ n. n + 1) place
+    ∙ sym (first_below test xs below) in
+    elim b as (λ b. first_number test (xs ++ x ∷ []) ≡ cond (b && false) (length xs + 1) (first_number test xs))
+    [ true ↦ same | false ↦ same ]
 first_push test xs x true true is count =
     let end : position_or_len test xs ≡ length xs = (first_place test xs).none (eqb-true (count_by test xs) 0 count) in
     let here : none_if (test x) ≡ 0 = rw is refl in
-    let place : position_or_len test (xs ++ x ∷ []) ≡ length xs + none_if (test x) = place_push test xs x true (eq_true (position_or_len test xs) (length xs) end) in
+    let place : position_or_len test (xs ++ x ∷ []) ≡ length xs + none_if (test x) =
+    place_push test xs x true (eq_true (position_or_len test xs) (length xs) end) in
     first_below test (xs ++ x ∷ []) (omega (arith, place, here, length-append xs (x ∷ []))) ∙ omega (arith, place, here)
 first_push test xs x false true is count =
     let end : position_or_len test xs ≡ length xs = (first_place test xs).none (eqb-true (count_by test xs) 0 count) in
     let here : none_if (test x) ≡ 1 = rw is refl in
-    let place : position_or_len test (xs ++ x ∷ []) ≡ length xs + none_if (test x) = place_push test xs x true (eq_true (position_or_len test xs) (length xs) end) in
+    let place : position_or_len test (xs ++ x ∷ []) ≡ length xs + none_if (test x) =
+    place_push test xs x true (eq_true (position_or_len test xs) (length xs) end) in
     first_none test (xs ++ x ∷ []) (omega (arith, place, here, length-append xs (x ∷ []))) ∙ sym (first_none test xs (omega (arith, end)))
 
 -- what the entries come to, and what is open was begun
@@ -127,14 +144,24 @@ pub record IsStateOf (all : List PlacedEntry) (t : ReadingState) : Type 0 where
   pub first_skipped : t.first_skipped ≡ first_number (λ s. is_skipped s.entry) all
 
 pub state_none : IsStateOf [] first_state
-state_none = record { rooted = rooted-none; begun = begun_none [] 1; show = refl; channels_set = refl; skipped = refl; first_skipped = refl }
+state_none = record {
+  rooted = rooted-none;
+  begun = begun_none [] 1;
+  show = refl;
+  channels_set = refl;
+  skipped = refl;
+  first_skipped =
+      refl;
+}
 
 -- what the section is of is there
 pub state_open : (all : List PlacedEntry) (t : ReadingState) → IsStateOf all t → IsOpen t.show t.section t.part
-state_open all t state = subst (λ z. IsOpen z t.section t.part) (sym state.show) (begun_open (since_cleared all) t.section t.part state.begun)
+state_open all t state = subst (λ z. IsOpen z t.section t.part) (sym state.show)
+    (begun_open (since_cleared all) t.section t.part state.begun)
 
 -- the cues that are known are those of the show
-pub state_cues : (all : List PlacedEntry) (t : ReadingState) → IsStateOf all t → map (λ cue. cue.number) t.show.cues ≡ numbers_begun cue_in (since_cleared all)
+pub state_cues : (all : List PlacedEntry) (t : ReadingState) → IsStateOf all t
+    → map (λ cue. cue.number) t.show.cues ≡ numbers_begun cue_in (since_cleared all)
 state_cues all t state = ap (λ z. map (λ cue. cue.number) z.cues) state.show ∙ cue_numbers (since_cleared all)
 
 -- One more entry.
@@ -147,13 +174,15 @@ record Cleared (all : List PlacedEntry) (t next : ReadingState) : Type 0 where
 clear_begins : (e : Entry) → clears_all e ≡ true → section_begun e ≡ Some NoRecord
 clear_begins e = elim e as (λ e. clears_all e ≡ true → section_begun e ≡ Some NoRecord) [ ClearsAll ↦ λ is. refl | _ ↦ λ is. cc ]
 
-cleared_by : (all : List PlacedEntry) (t : ReadingState) (e : Entry) (i : ℕ) (b : Bool) → clears_all e ≡ b → IsStateOf all t → Cleared (all ++ placed_in t e ∷ []) t (step i e t)
+cleared_by : (all : List PlacedEntry) (t : ReadingState) (e : Entry) (i : ℕ) (b : Bool) → clears_all e ≡ b → IsStateOf all t
+    → Cleared (all ++ placed_in t e ∷ []) t (step i e t)
 cleared_by all t e i true clears state =
     let none : since_cleared (all ++ placed_in t e ∷ []) ≡ [] = after_push (λ z. clears_all z.entry) all (placed_in t e) true clears in
     let begins : section_begun e ≡ Some NoRecord = clear_begins e clears in
     record {
       rooted = subst IsRooted (sym none) rooted-none;
-      begun = subst (λ o. IsBegun (since_cleared (all ++ placed_in t e ∷ [])) (unwrap_or o t.section) (cond (is_some o) 1 (unwrap_or (part_named e) t.part))) (sym begins) (begun_none (since_cleared (all ++ placed_in t e ∷ [])) 1);
+      begun = subst (λ o. IsBegun (since_cleared (all ++ placed_in t e ∷ [])) (unwrap_or o t.section)
+          (cond (is_some o) 1 (unwrap_or (part_named e) t.part))) (sym begins) (begun_none (since_cleared (all ++ placed_in t e ∷ [])) 1);
       show = ap (λ b. cond b first_state.show (show_with (placed_in t e) t.show)) clears ∙ sym (ap show_so_far none);
       channels_set = ap (λ b. cond b None (later (channels_set e) t.channels_set)) clears ∙ sym (ap (last_in channels_set) none);
     }
@@ -163,16 +192,20 @@ cleared_by all t e i false clears state =
     let more : since_cleared (all ++ s ∷ []) ≡ about ++ s ∷ [] = after_push (λ z. clears_all z.entry) all s false clears in
     record {
       rooted = subst IsRooted (sym more) (rooted-more about s state.rooted state.begun);
-      begun = subst (λ v. IsBegun v (unwrap_or (section_begun e) t.section) (cond (is_some (section_begun e)) 1 (unwrap_or (part_named e) t.part))) (sym more) (begun_next about s t.part state.begun);
-      show = ap (λ b. cond b first_state.show (show_with s t.show)) clears ∙ ap (show_with s) state.show ∙ sym (show-more about s state.rooted state.begun) ∙ sym (ap show_so_far more);
-      channels_set = ap (λ b. cond b None (later (channels_set e) t.channels_set)) clears ∙ ap (later (channels_set e)) state.channels_set ∙ sym (last_in-more channels_set about s) ∙ sym (ap (last_in channels_set) more);
+      begun = subst (λ v. IsBegun v (unwrap_or (section_begun e) t.section)
+          (cond (is_some (section_begun e)) 1 (unwrap_or (part_named e) t.part))) (sym more) (begun_next about s t.part state.begun);
+      show = ap (λ b. cond b first_state.show (show_with s t.show)) clears ∙ ap (show_with s) state.show
+          ∙ sym (show-more about s state.rooted state.begun) ∙ sym (ap show_so_far more);
+      channels_set = ap (λ b. cond b None (later (channels_set e) t.channels_set)) clears ∙ ap (later (channels_set e)) state.channels_set
+          ∙ sym (last_in-more channels_set about s) ∙ sym (ap (last_in channels_set) more);
     }
 
 skipped_by : (n : ℕ) (b : Bool) → cond b (n + 1) n ≡ n + one_if b
 skipped_by n true = refl
 skipped_by n false = omega arith
 
-pub state_more : (all : List PlacedEntry) (t : ReadingState) (e : Entry) → IsStateOf all t → IsStateOf (all ++ placed_in t e ∷ []) (step (length all + 1) e t)
+pub state_more : (all : List PlacedEntry) (t : ReadingState) (e : Entry) → IsStateOf all t
+    → IsStateOf (all ++ placed_in t e ∷ []) (step (length all + 1) e t)
 state_more all t e state =
     let each = cleared_by all t e (length all + 1) (clears_all e) refl state in
     record {
@@ -180,15 +213,20 @@ state_more all t e state =
       begun = each.begun;
       show = each.show;
       channels_set = each.channels_set;
-      skipped = skipped_by t.skipped (is_skipped e) ∙ ap (λ n. n + one_if (is_skipped e)) state.skipped ∙ sym (count_push (λ z. is_skipped z.entry) all (placed_in t e));
+      skipped = skipped_by t.skipped (is_skipped e) ∙ ap (λ n. n + one_if (is_skipped e)) state.skipped
+          ∙ sym (count_push (λ z. is_skipped z.entry) all (placed_in t e));
       first_skipped =
           (λ i. cond (is_skipped e && state.skipped i == 0) (length all + 1) (state.first_skipped i))
-          ∙ sym (first_push (λ z. is_skipped z.entry) all (placed_in t e) (is_skipped e) (count_by (λ z. is_skipped z.entry) all == 0) refl refl);
+          ∙ sym (first_push (λ z. is_skipped z.entry) all (placed_in t e) (is_skipped e) (count_by (λ z. is_skipped z.entry) all == 0) refl
+          refl);
     }
 
 -- the facts of the state after it are those after the entry
-cues_after : (all : List PlacedEntry) (t : ReadingState) (e : Entry) (b : Bool) → clears_all e ≡ b → IsStateOf all t → map (λ cue. cue.number) (step (length all + 1) e t).show.cues ≡ cond b [] (with_cue_named (number_begun cue_in e) (map (λ cue. cue.number) t.show.cues))
-cues_after all t e true clears state = ap (λ b. map (λ cue. cue.number) (cond b first_state.show (show_with (placed_in t e) t.show)).cues) clears
+cues_after : (all : List PlacedEntry) (t : ReadingState) (e : Entry) (b : Bool) → clears_all e ≡ b → IsStateOf all t
+    → map (λ cue. cue.number) (step (length all + 1) e t).show.cues
+    ≡ cond b [] (with_cue_named (number_begun cue_in e) (map (λ cue. cue.number) t.show.cues))
+cues_after all t e true clears state = ap (λ b. map (λ cue. cue.number) (cond b first_state.show (show_with (placed_in t e) t.show)).cues)
+    clears
 cues_after all t e false clears state =
     let s : PlacedEntry = placed_in t e in
     let more : since_cleared (all ++ s ∷ []) ≡ since_cleared all ++ s ∷ [] = after_push (λ z. clears_all z.entry) all s false clears in
@@ -196,7 +234,8 @@ cues_after all t e false clears state =
     ∙ ap (numbers_begun cue_in) more
     ∙ sym (cues_next (since_cleared all) s (number_begun cue_in e) (map (λ cue. cue.number) t.show.cues) refl (state_cues all t state))
 
-pub state_facts : (all : List PlacedEntry) (t : ReadingState) (e : Entry) → IsStateOf all t → facts_after (facts_in t (length all + 1)) e ≡ facts_in (step (length all + 1) e t) (length all + 1 + 1)
+pub state_facts : (all : List PlacedEntry) (t : ReadingState) (e : Entry) → IsStateOf all t
+    → facts_after (facts_in t (length all + 1)) e ≡ facts_in (step (length all + 1) e t) (length all + 1 + 1)
 state_facts all t e state =
     let cues = cues_after all t e (clears_all e) refl state in
     λ j. record (facts_after (facts_in t (length all + 1)) e) { cues = sym cues j }
@@ -218,11 +257,18 @@ max_order a b = omega arith
 counted : (named : List ℕ) (n : ℕ) → 1 ≤ n → max (fold max 1 named) n ≡ fold max n named
 counted named n least = max_order (fold max 1 named) n ∙ sym (greatest-from n 1 named) ∙ ap (λ k. fold max k named) (max_one n least)
 
-pub state_reading : (form : Form) (all : List PlacedEntry) (t : ReadingState) → IsStateOf all t → IfSome t.channels_set (λ n. 1 ≤ n) → reading_from form all ≡ final_reading form t
+pub state_reading : (form : Form) (all : List PlacedEntry) (t : ReadingState) → IsStateOf all t → IfSome t.channels_set (λ n. 1 ≤ n)
+    → reading_from form all ≡ final_reading form t
 state_reading form all t state least =
     let named : List ℕ = flat_map (λ s. channels_named s.entry) (since_cleared all) in
-    let channels : max t.show.channels (unwrap_or t.channels_set DEFAULT_CHANNELS) ≡ fold max (unwrap_or (last_in channels_set (since_cleared all)) DEFAULT_CHANNELS) named
+    let channels : max t.show.channels (unwrap_or t.channels_set DEFAULT_CHANNELS)
+    ≡ fold max (unwrap_or (last_in channels_set (since_cleared all)) DEFAULT_CHANNELS) named
     = (λ i. max (state.show i).channels (unwrap_or t.channels_set DEFAULT_CHANNELS))
     ∙ counted named (unwrap_or t.channels_set DEFAULT_CHANNELS) (set_or_default t.channels_set least)
     ∙ ap (λ o. fold max (unwrap_or o DEFAULT_CHANNELS) named) state.channels_set in
-    λ i. let z : Show = sym state.show i in record { show = by_form form (record z { channels = sym channels i }); skipped = sym state.skipped i; first_skipped = sym state.first_skipped i }
+    λ i. let z : Show = sym state.show i in record {
+      show = by_form form (record z { channels = sym channels i });
+      skipped = sym state.skipped i;
+      first_skipped =
+          sym state.first_skipped i;
+    }

@@ -1,5 +1,6 @@
 -- The show of the entries, with one more.
-use Rattle.std.proofs.Common.{◌≡◌, ℕ, Bool, true, false, cond, List, [], ◌∷◌, ◌++◌, map, Option, Some, None, refl, ap, ◌∙◌, append-nil, arith}
+use Rattle.std.proofs.Common.{◌≡◌, ℕ, Bool, true, false, cond, List, [], ◌∷◌, ◌++◌, map, Option, Some, None, refl, ap, ◌∙◌, append-nil}
+use Rattle.std.proofs.Common.{arith}
 use Rattle.std.specs.Prelude.{◌==◌, filter, fold, flat_map, filter_map, option_and_then, max, IfSome}
 use Rattle.std.specs.List.{cons_option}
 use Rattle.std.proofs.lemmas.Grind.{flat_map-append}
@@ -9,8 +10,10 @@ use Rattle.lx_spec.specs.Show.{Show}
 use Rattle.lx_spec.specs.SortedList.{placed, has_entry}
 use Rattle.lx_spec.specs.declared.Section.{Section}
 use Rattle.lx_spec.specs.declared.Section.TheVariants.{NoRecord}
-use Rattle.lx_spec.specs.Entry.{Entry, Skipped, Identifies, Begins, ClearsAll, HasChannels, Patches, PlacedEntry, part_named, cue_in, group_in, sub_in, rows_in}
-use Rattle.lx_spec.specs.Reading.{last_of_each, numbers_begun, stands_in, each_record, cue_from, group_from, sub_from, channels_named, show_from}
+use Rattle.lx_spec.specs.Entry.{Entry, Skipped, Identifies, Begins, ClearsAll, HasChannels, Patches, PlacedEntry, part_named, cue_in}
+use Rattle.lx_spec.specs.Entry.{group_in, sub_in, rows_in}
+use Rattle.lx_spec.specs.Reading.{last_of_each, numbers_begun, stands_in, each_record, cue_from, group_from, sub_from, channels_named}
+use Rattle.lx_spec.specs.Reading.{show_from}
 use Rattle.lx_spec.specs.EditedShow.{new_cue}
 use Rattle.lx_reader.specs.ReadingState.{with_named, changed_in, cue_with, set_with, change_by, number_begun, speaks, new_set, show_with}
 use Rattle.lx_spec.specs.SortedList.{all_placed}
@@ -21,10 +24,13 @@ use Rattle.lx_reader.proofs.Cues.{parts_named, HasPart, IsFresh, part_of-none, c
 use Rattle.lx_reader.proofs.Groups.{set_from-with}
 
 -- the numbers that entries begin, with one entry more
-pub begun-more : (number : Section → Option ℕ) (all : List PlacedEntry) (s : PlacedEntry) → numbers_begun number (all ++ s ∷ []) ≡ fold (λ ys x. placed (λ n. n) x ys) (numbers_begun number all) (cons_option (number_begun number s.entry) [])
+pub begun-more : (number : Section → Option ℕ) (all : List PlacedEntry) (s : PlacedEntry)
+    → numbers_begun number (all ++ s ∷ []) ≡ fold (λ ys x. placed (λ n. n) x ys) (numbers_begun number all)
+    (cons_option (number_begun number s.entry) [])
 begun-more number all s =
     ap (last_of_each (λ n. n)) (filter_map-append (λ z. number_begun number z.entry) all (s ∷ []))
-    ∙ fold-append (λ ys x. placed (λ n. n) x ys) [] (filter_map (λ z. number_begun number z.entry) all) (cons_option (number_begun number s.entry) [])
+    ∙ fold-append (λ ys x. placed (λ n. n) x ys) [] (filter_map (λ z. number_begun number z.entry) all)
+    (cons_option (number_begun number s.entry) [])
 
 -- of what was not begun nothing was said
 abbrev pub IsRootedBy : (Section → Option ℕ) → List PlacedEntry → Type 0
@@ -34,7 +40,8 @@ pub record IsRooted (all : List PlacedEntry) : Type 0 where
   pub cues : IsRootedBy cue_in all
   pub groups : IsRootedBy group_in all
   pub subs : IsRootedBy sub_in all
-  pub parts : (n q : ℕ) → has_entry (λ m. m) q (parts_named (filter (stands_in cue_in n) all)) ≡ false → filter (λ s. s.part == q) (filter (stands_in cue_in n) all) ≡ []
+  pub parts : (n q : ℕ) → has_entry (λ m. m) q (parts_named (filter (stands_in cue_in n) all)) ≡ false
+      → filter (λ s. s.part == q) (filter (stands_in cue_in n) all) ≡ []
 
 -- what the section and the part are of was begun
 abbrev pub IsBegunBy : (Section → Option ℕ) → List PlacedEntry → Section → Type 0
@@ -51,7 +58,8 @@ some_so None P p = tt
 some_so (Some x) P p = p
 
 -- an entry that begins a record changes none
-alone : {A : Type 0} (number : Section → Option ℕ) (with_it : Entry → A → A) (entry : Entry) → IfSome (number_begun number entry) (λ n. change_by with_it entry ≡ None)
+alone : {A : Type 0} (number : Section → Option ℕ) (with_it : Entry → A → A) (entry : Entry)
+    → IfSome (number_begun number entry) (λ n. change_by with_it entry ≡ None)
 alone {A} number with_it entry = elim entry as (λ e. IfSome (number_begun number e) (λ n. change_by with_it e ≡ None)) [
   | Skipped section ↦ some_so (option_and_then number section) (None ≡ None) refl
   | Identifies ↦ some_so (number NoRecord) (None ≡ None) refl
@@ -63,7 +71,8 @@ alone {A} number with_it entry = elim entry as (λ e. IfSome (number_begun numbe
 ]
 
 -- a change keeps the number
-keeps : {A : Type 0} (key : A → ℕ) (with_it : A → A) (b : Bool) (x : A) → key (with_it x) ≡ key x → key (after_change (cond b (Some with_it) None) x) ≡ key x
+keeps : {A : Type 0} (key : A → ℕ) (with_it : A → A) (b : Bool) (x : A) → key (with_it x) ≡ key x
+    → key (after_change (cond b (Some with_it) None) x) ≡ key x
 keeps key with_it true x same = same
 keeps key with_it false x same = refl
 
@@ -71,28 +80,42 @@ keeps key with_it false x same = refl
 abbrev pub made : {A : Type 0} → (Section → Option ℕ) → (List PlacedEntry → ℕ → A) → List PlacedEntry → ℕ → A
 made number from all n = from (filter (stands_in number n) all) n
 
-pub each_record-more : {A : Type 0} (key : A → ℕ) (new : ℕ → A) (number : Section → Option ℕ) (from : List PlacedEntry → ℕ → A) (with_it : Entry → A → A) (all : List PlacedEntry) (s : PlacedEntry)
-    → ((x : A) → key (with_it s.entry x) ≡ key x) → ((about : List PlacedEntry) (n : ℕ) → key (from about n) ≡ n) → ((n : ℕ) → from [] n ≡ new n)
-    → ((n : ℕ) (b : Bool) → stands_in number n s ≡ b → from (filter (stands_in number n) all ++ cond b (s ∷ []) []) n ≡ cond b (after_change (change_by with_it s.entry) (made number from all n)) (made number from all n))
+pub each_record-more : {A : Type 0} (key : A → ℕ) (new : ℕ → A) (number : Section → Option ℕ) (from : List PlacedEntry → ℕ → A)
+    (with_it : Entry → A → A) (all : List PlacedEntry) (s : PlacedEntry)
+    → ((x : A) → key (with_it s.entry x) ≡ key x) → ((about : List PlacedEntry) (n : ℕ) → key (from about n) ≡ n)
+    → ((n : ℕ) → from [] n ≡ new n)
+    → ((n : ℕ) (b : Bool) → stands_in number n s ≡ b
+    → from (filter (stands_in number n) all ++ cond b (s ∷ []) []) n
+    ≡ cond b (after_change (change_by with_it s.entry) (made number from all n)) (made number from all n))
     → IsRootedBy number all → IsBegunBy number all s.section
-    → each_record number from (all ++ s ∷ []) ≡ changed_in key (change_by with_it s.entry) (number s.section) (with_named key new (number_begun number s.entry) (each_record number from all))
+    → each_record number from (all ++ s ∷ [])
+    ≡ changed_in key (change_by with_it s.entry) (number s.section)
+    (with_named key new (number_begun number s.entry) (each_record number from all))
 each_record-more {A} key new number from with_it all s keys numbered fresh more rooted begun =
     (λ i. map (made number from (all ++ s ∷ [])) (begun-more number all s i))
-    ∙ listed-more key new (number_begun number s.entry) (change_by with_it s.entry) (number s.section) (made number from all) (made number from (all ++ s ∷ [])) (numbers_begun number all)
-    (alone number with_it s.entry) (λ x. keeps key (with_it s.entry) (speaks s.entry) x (keys x)) (λ n. numbered (filter (stands_in number n) all) n)
-    (IsStrictlySorted-numbers (filter_map (λ z. number_begun number z.entry) all)) begun (λ n absent. ap (λ v. from v n) (rooted n absent) ∙ fresh n)
+    ∙ listed-more key new (number_begun number s.entry) (change_by with_it s.entry) (number s.section) (made number from all)
+    (made number from (all ++ s ∷ [])) (numbers_begun number all)
+    (alone number with_it s.entry) (λ x. keeps key (with_it s.entry) (speaks s.entry) x (keys x))
+    (λ n. numbered (filter (stands_in number n) all) n)
+    (IsStrictlySorted-numbers (filter_map (λ z. number_begun number z.entry) all)) begun
+    (λ n absent. ap (λ v. from v n) (rooted n absent) ∙ fresh n)
     (λ n. ap (λ v. from v n) (filter-more (stands_in number n) all s) ∙ more n (stands_in number n s) refl)
 
-fresh_part : (about : List PlacedEntry) (o : Option ℕ) → ((q : ℕ) → has_entry (λ m. m) q (parts_named about) ≡ false → filter (λ s. s.part == q) about ≡ []) → IsFresh about o
+fresh_part : (about : List PlacedEntry) (o : Option ℕ)
+    → ((q : ℕ) → has_entry (λ m. m) q (parts_named about) ≡ false → filter (λ s. s.part == q) about ≡ []) → IsFresh about o
 fresh_part about None rooted = tt
 fresh_part about (Some q) rooted = λ absent. part_of-none about q (rooted q absent)
 
-cue_some : (about : List PlacedEntry) (s : PlacedEntry) (n : ℕ) (b : Bool) → (b ≡ true → HasPart about s.part) → IsFresh about (part_named s.entry)
-    → cue_from (about ++ cond b (s ∷ []) []) n ≡ cond b (after_change (change_by (cue_with s.part) s.entry) (cue_from about n)) (cue_from about n)
+cue_some : (about : List PlacedEntry) (s : PlacedEntry) (n : ℕ) (b : Bool) → (b ≡ true → HasPart about s.part)
+    → IsFresh about (part_named s.entry)
+    → cue_from (about ++ cond b (s ∷ []) []) n
+    ≡ cond b (after_change (change_by (cue_with s.part) s.entry) (cue_from about n)) (cue_from about n)
 cue_some about s n true part fresh = cue_from-with about s.section s.part s.entry n (part refl) fresh
 cue_some about s n false part fresh = ap (λ v. cue_from v n) (append-nil about)
 
-set_some : (about : List PlacedEntry) (s : PlacedEntry) (g : ℕ) (b : Bool) → group_from (about ++ cond b (s ∷ []) []) g ≡ cond b (after_change (change_by set_with s.entry) (group_from about g)) (group_from about g)
+set_some : (about : List PlacedEntry) (s : PlacedEntry) (g : ℕ) (b : Bool)
+    → group_from (about ++ cond b (s ∷ []) []) g
+    ≡ cond b (after_change (change_by set_with s.entry) (group_from about g)) (group_from about g)
 set_some about s g true = set_from-with about s g
 set_some about s g false = ap (λ v. group_from v g) (append-nil about)
 
@@ -100,23 +123,34 @@ set_some about s g false = ap (λ v. group_from v g) (append-nil about)
 abbrev pub show_so_far : List PlacedEntry → Show
 show_so_far all = record (show_from all) { channels = fold max 1 (flat_map (λ s. channels_named s.entry) all) }
 
-channels-more : (all : List PlacedEntry) (s : PlacedEntry) → fold max 1 (flat_map (λ z. channels_named z.entry) (all ++ s ∷ [])) ≡ fold max (fold max 1 (flat_map (λ z. channels_named z.entry) all)) (channels_named s.entry)
+channels-more : (all : List PlacedEntry) (s : PlacedEntry)
+    → fold max 1 (flat_map (λ z. channels_named z.entry) (all ++ s ∷ []))
+    ≡ fold max (fold max 1 (flat_map (λ z. channels_named z.entry) all)) (channels_named s.entry)
 channels-more all s =
-    ap (fold max 1) (flat_map-append (λ z. channels_named z.entry) all (s ∷ []) ∙ ap (λ v. flat_map (λ z. channels_named z.entry) all ++ v) (append-nil (channels_named s.entry)))
+    ap (fold max 1) (flat_map-append (λ z. channels_named z.entry) all (s ∷ [])
+    ∙ ap (λ v. flat_map (λ z. channels_named z.entry) all ++ v) (append-nil (channels_named s.entry)))
     ∙ fold-append max 1 (flat_map (λ z. channels_named z.entry) all) (channels_named s.entry)
 
-patch-more : (all : List PlacedEntry) (s : PlacedEntry) → last_of_each (λ row. row.dimmer) (flat_map (λ z. rows_in z.entry) (all ++ s ∷ [])) ≡ all_placed (λ row. row.dimmer) (rows_in s.entry) (last_of_each (λ row. row.dimmer) (flat_map (λ z. rows_in z.entry) all))
+patch-more : (all : List PlacedEntry) (s : PlacedEntry)
+    → last_of_each (λ row. row.dimmer) (flat_map (λ z. rows_in z.entry) (all ++ s ∷ []))
+    ≡ all_placed (λ row. row.dimmer) (rows_in s.entry) (last_of_each (λ row. row.dimmer) (flat_map (λ z. rows_in z.entry) all))
 patch-more all s =
-    ap (last_of_each (λ row. row.dimmer)) (flat_map-append (λ z. rows_in z.entry) all (s ∷ []) ∙ ap (λ v. flat_map (λ z. rows_in z.entry) all ++ v) (append-nil (rows_in s.entry)))
+    ap (last_of_each (λ row. row.dimmer)) (flat_map-append (λ z. rows_in z.entry) all (s ∷ [])
+    ∙ ap (λ v. flat_map (λ z. rows_in z.entry) all ++ v) (append-nil (rows_in s.entry)))
     ∙ fold-append (λ ys x. placed (λ row. row.dimmer) x ys) [] (flat_map (λ z. rows_in z.entry) all) (rows_in s.entry)
 
-pub show-more : (all : List PlacedEntry) (s : PlacedEntry) → IsRooted all → IsBegun all s.section s.part → show_so_far (all ++ s ∷ []) ≡ show_with s (show_so_far all)
+pub show-more : (all : List PlacedEntry) (s : PlacedEntry) → IsRooted all → IsBegun all s.section s.part
+    → show_so_far (all ++ s ∷ []) ≡ show_with s (show_so_far all)
 show-more all s rooted begun =
     let in_cue = λ (n : ℕ). filter (stands_in cue_in n) all in
-    let cues = each_record-more (λ cue. cue.number) new_cue cue_in cue_from (cue_with s.part) all s (λ x. refl) (λ about n. refl) (λ n. refl)
-    (λ n b is. cue_some (in_cue n) s n b (λ t. begun.part n (is ∙ t)) (fresh_part (in_cue n) (part_named s.entry) (rooted.parts n))) rooted.cues begun.cue in
-    let groups = each_record-more (λ group. group.number) new_set group_in group_from set_with all s (λ x. refl) (λ about n. refl) (λ n. refl) (λ n b is. set_some (filter (stands_in group_in n) all) s n b) rooted.groups begun.group in
-    let subs = each_record-more (λ sub. sub.number) new_set sub_in sub_from set_with all s (λ x. refl) (λ about n. refl) (λ n. refl) (λ n b is. set_some (filter (stands_in sub_in n) all) s n b) rooted.subs begun.sub in
+    let cues = each_record-more (λ cue. cue.number) new_cue cue_in cue_from (cue_with s.part) all s (λ x. refl) (λ about n. refl)
+    (λ n. refl)
+    (λ n b is. cue_some (in_cue n) s n b (λ t. begun.part n (is ∙ t)) (fresh_part (in_cue n) (part_named s.entry) (rooted.parts n)))
+    rooted.cues begun.cue in
+    let groups = each_record-more (λ group. group.number) new_set group_in group_from set_with all s (λ x. refl) (λ about n. refl)
+    (λ n. refl) (λ n b is. set_some (filter (stands_in group_in n) all) s n b) rooted.groups begun.group in
+    let subs = each_record-more (λ sub. sub.number) new_set sub_in sub_from set_with all s (λ x. refl) (λ about n. refl) (λ n. refl)
+    (λ n b is. set_some (filter (stands_in sub_in n) all) s n b) rooted.subs begun.sub in
     let channels = channels-more all s in
     let patch = patch-more all s in
     λ i. record { channels = channels i; cues = cues i; groups = groups i; subs = subs i; patch = patch i }

@@ -12,5 +12,7 @@ or_else f None other = refl
 or_else f (Some x) other = refl
 
 -- the word that the table has, or that of the dollars
-pub word_is_found : (token : List ℕ) (found : Option Word) → looked_up spellings token ≡ found → word_of token ≡ unwrap_or found (dollar_word token)
-word_is_found token found is = or_else (λ (e : List ℕ × Word). e.1) (find (λ (e : List ℕ × Word). is_word e.0 token) spellings) (dollar_word token) ∙ ap (λ o. unwrap_or o (dollar_word token)) is
+pub word_is_found : (token : List ℕ) (found : Option Word) → looked_up spellings token ≡ found
+    → word_of token ≡ unwrap_or found (dollar_word token)
+word_is_found token found is = or_else (λ (e : List ℕ × Word). e.1) (find (λ (e : List ℕ × Word). is_word e.0 token) spellings)
+    (dollar_word token) ∙ ap (λ o. unwrap_or o (dollar_word token)) is

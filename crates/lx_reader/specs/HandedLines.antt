@@ -12,7 +12,7 @@ use Rattle.lx_spec.specs.Text.{without_cr, lines_of}
 use Rattle.lx_spec.specs.CutInput.{CutOff, first_lines}
 use Rattle.lx_spec.specs.Reading.{Reading, reads, reads_lines, lines_read, script_of}
 use Rattle.lx_lex.specs.declared.lines.Lines.{Lines}
-use Rattle.lx_lex.specs.Lines.{TookLines}
+use Rattle.lx_lex.specs.Lines.{LinesBetween}
 use Rattle.lx_lex.specs.Handed.{HandedOut}
 use Rattle.lx_lex.specs.Unread.{unread}
 
@@ -34,7 +34,7 @@ pub record MeansFault {S : Type 0} (left : S → Option (List ℕ)) (old : Lines
   pub raws : List (List ℕ)
   pub unread_then : Option (List ℕ)
   pub taken_then : ℕ
-  pub took : TookLines (unread left old) unread_then old.taken taken_then raws
+  pub took : LinesBetween (unread left old) unread_then old.taken taken_then raws
   pub count : ℕ
   pub whole : (length raws ≡ count) ⊎ IsAtEnd unread_then
   pub lines : reads_lines desk_limits form (map without_cr raws) ≡ Err fault

@@ -56,4 +56,5 @@ needs_ident words.OneDollar = false
 needs_ident words.TwoDollars = false
 needs_ident words.Unknown = false
 needs_ident words.Block = false
+needs_ident words.Assert = false
 needs_ident other = true

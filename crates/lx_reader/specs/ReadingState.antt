@@ -15,7 +15,8 @@ use Rattle.lx_spec.specs.declared.Section.{Section}
 use Rattle.lx_spec.specs.declared.Section.TheVariants.{NoRecord}
 use Rattle.lx_spec.specs.Entry.{Entry, Nothing, Skipped, Identifies, Begins, ClearsAll, HasChannels, Patches, HasLevels, HasUp, HasDown}
 use Rattle.lx_spec.specs.Entry.{NamesPart, Ends, PlacedEntry, section_begun, part_named, identifies, cue_in, group_in, sub_in}
-use Rattle.lx_spec.specs.Entry.{channels_set, rows_in, levels_in, follow_in, link_in, label_in, blocks, is_skipped, clears_all}
+use Rattle.lx_spec.specs.Entry.{channels_set, rows_in, levels_in, follow_in, link_in, label_in, blocks, is_assert, is_skipped}
+use Rattle.lx_spec.specs.Entry.{clears_all}
 use Rattle.lx_spec.specs.Facts.{Facts}
 use Rattle.lx_spec.specs.Limits.{desk_limits}
 use Rattle.lx_spec.specs.Looks.{by_form}
@@ -79,6 +80,7 @@ abbrev pub cue_with : ℕ → Entry → Cue → Cue
 cue_with p entry cue = record {
   number = cue.number;
   block = if blocks entry then true else cue.block;
+  asserted = if is_assert entry then true else cue.asserted;
   follow = later (follow_in entry) cue.follow;
   link = later (link_in entry) cue.link;
   label = unwrap_or (label_in entry) cue.label;

@@ -71,6 +71,25 @@ impl Reader {
         }
     }
 
+    /// `$$ASSERT`, which is a manufacturer's own line outside of cues.
+    pub(crate) fn assert_line(&mut self, i: u32) -> Result<(), LineFault>
+        requires { IsReady self.old i }
+        ensures { Outcome self.old self.new i result (entry_by_word (facts_of self.old i) [] words.Assert []) }
+    {
+        let section = self.section;
+        match section {
+            Section::InCue(n) if self.identified => {
+                self.show.set_asserted(n, true);
+                Ok(())
+            }
+            Section::InCue(_) => Err(LineFault::Text(TextFault::NoIdent(i))),
+            _ => {
+                self.skip(i);
+                Ok(())
+            }
+        }
+    }
+
     /// Such a line outside of any record.
     fn stray_line(&mut self, i: u32, word: Word, rest: Tokens) -> Result<(), LineFault>
         requires ready { IsReady self.old i }
@@ -139,6 +158,10 @@ impl Reader {
                 self.show.set_block(n, true);
                 Ok(())
             }
+            Word::Assert => {
+                self.show.set_asserted(n, true);
+                Ok(())
+            }
             _ => {
                 self.skip(i);
                 Ok(())
@@ -151,7 +174,14 @@ impl Reader {
         requires { IsReady self.old i }
         ensures { Outcome self.old self.new i result (levels desk_limits i (left tokens.entry)) }
     {
-        put_members(&mut self.show, &self.section, self.part, i, tokens)
+        put_members(
+            &mut self.show,
+            &self.section,
+            self.part,
+            i,
+            tokens,
+            &mut self.gathered,
+        )
     }
 
     /// `TEXT` with a label

@@ -1,17 +1,23 @@
 //! The levels of a line are put into the cue, group or submaster in whose section it stands, its rows into the
 //! patch.
 
-ghost use Rattle.std.specs.Prelude.{◌≡◌, ◌≤◌, ◌∷◌, [], max, OnOk, IfErr};
+ghost use Rattle.std.specs.Prelude.{◌≡◌, ◌≤◌, ◌∷◌, [], fold, map, max, OnOk, IfErr};
+ghost use Rattle.std.specs.List.{AllByRecursion};
+ghost use Rattle.lx_base.specs.declared.TheConstants.{CHANNELS};
+ghost use Rattle.lx_spec.specs.Show.{ValidMember};
+ghost use Rattle.lx_spec.specs.SortedList.{all_placed};
+ghost use Rattle.lx_show.specs.Changed.{changed};
 ghost use Rattle.std.specs.Result.{IsOkAnd};
 ghost use Rattle.lx_lex.specs.Left.{left};
 ghost use Rattle.lx_reader.specs.FieldLists.{all_pairs, all_triples};
 ghost use Rattle.lx_reader.specs.LineFaults.{IsFaultOf};
-ghost use Rattle.lx_reader.specs.OpenRecord.{IsOpen};
-ghost use Rattle.lx_reader.specs.ReadingState.{with_members, with_rows};
+ghost use Rattle.lx_reader.specs.OpenRecord.{HasPartIn, IsOpen};
+ghost use Rattle.lx_reader.specs.ReadingState.{moves_of, with_members, with_rows};
 
+use crate::gathered::{Gathered, fill_moves, gather};
 use crate::line_fault::LineFault;
-use crate::lists::{next_member, next_row};
-use lx_base::{Chan, PartNo};
+use crate::lists::next_row;
+use lx_base::{Chan, CueNo, PartNo};
 use lx_lex::Tokens;
 use lx_show::Show;
 use lx_spec::{Member, Move, PatchRow, Section};
@@ -26,29 +32,55 @@ fn widen(show: &mut Show, chan: Chan)
     show.widen(channels);
 }
 
-/// Puts a level into the section, and in a cue into this part.
-fn put_member(
+/// The show has the channels, of which this is the greatest, or it has more.
+fn widen_for(show: &mut Show, members: &[Member], greatest: u32)
+    requires each { AllByRecursion (ValidMember CHANNELS) members.now }
+    requires greatest { greatest ≡ fold max show.old.channels (map (λ m. m.chan) members.now) }
+    ensures show { show.new ≡ record show.old { channels = fold max show.old.channels (map (λ m. m.chan) members.now) } }
+    ensures each { AllByRecursion (ValidMember show.new.channels) members.now }
+{
+    let _ = show.channels();
+    show.widen(greatest);
+}
+
+/// Puts levels into a part of the cue, as moves.
+fn put_moves(
+    show: &mut Show,
+    n: CueNo,
+    part: PartNo,
+    members: &[Member],
+    moves: &mut Vec<Move>,
+) -> Result<(), AllocError>
+    requires part { HasPartIn show.old n part }
+    requires each { AllByRecursion (ValidMember show.old.channels) members.now }
+    ensures { OnOk result (show.new ≡ record show.old {
+      cues = changed (λ cue. cue.number) n
+          (λ cue. record cue { moves = all_placed (λ m. m.chan) (moves_of part members.now) cue.moves }) show.old.cues;
+    }) }
+{
+    fill_moves(members, part, moves)?;
+    show.put_moves_in(n, moves.as_slice())
+}
+
+/// Puts levels into the section, and in a cue into this part.
+fn put_levels(
     show: &mut Show,
     section: &Section,
     part: PartNo,
-    member: Member,
+    members: &[Member],
+    greatest: u32,
+    moves: &mut Vec<Move>,
 ) -> Result<(), AllocError>
-    requires { IsOpen show.old section.now part }
-    ensures show { OnOk result (show.new ≡ with_members section.now part (member ∷ []) show.old) }
-    ensures open { OnOk result (IsOpen show.new section.now part) }
+    requires open { IsOpen show.old section.now part }
+    requires each { AllByRecursion (ValidMember CHANNELS) members.now }
+    requires greatest { greatest ≡ fold max show.old.channels (map (λ m. m.chan) members.now) }
+    ensures { OnOk result (show.new ≡ with_members section.now part members.now show.old) }
 {
-    widen(show, member.chan);
+    widen_for(show, members, greatest);
     match *section {
-        Section::InCue(n) => show.put_move_in(
-            n,
-            Move {
-                chan: member.chan,
-                part,
-                level: member.level,
-            },
-        ),
-        Section::InGroup(g) => show.put_member_in_group(g, member),
-        Section::InSub(s) => show.put_member_in_sub(s, member),
+        Section::InCue(n) => put_moves(show, n, part, members, moves),
+        Section::InGroup(g) => show.put_members_in_group(g, members),
+        Section::InSub(s) => show.put_members_in_sub(s, members),
         Section::NoRecord => Ok(()),
         Section::Skipping => Ok(()),
     }
@@ -60,24 +92,20 @@ pub(crate) fn put_members(
     section: &Section,
     part: PartNo,
     i: u32,
-    mut tokens: Tokens,
+    tokens: Tokens,
+    gathered: &mut Gathered,
 ) -> Result<(), LineFault>
     requires { IsOpen show.old section.now part }
     ensures show { OnOk result (IsOkAnd (all_pairs i (left tokens.entry))
         (λ members. show.new ≡ with_members section.now part members show.old)) }
     ensures stop { IfErr result (λ stop. IsFaultOf stop (all_pairs i (left tokens.entry))) }
 {
-    let _ = show.channels();
-    loop {
-        match next_member(i, &mut tokens) {
-            Ok(Some(member)) => {
-                if put_member(show, section, part, member).is_err() {
-                    return Err(LineFault::Memory);
-                }
-            }
-            Ok(None) => return Ok(()),
-            Err(fault) => return Err(LineFault::Text(fault)),
-        }
+    let greatest = gather(i, tokens, show.channels(), &mut gathered.members)?;
+    let members = gathered.members.as_slice();
+    let moves = &mut gathered.moves;
+    match put_levels(show, section, part, members, greatest, moves) {
+        Ok(()) => Ok(()),
+        Err(_) => Err(LineFault::Memory),
     }
 }
 

@@ -2,6 +2,7 @@
 #![tactic(auto)]
 
 mod fault;
+mod gathered;
 mod inner_line;
 mod levels;
 mod line_fault;
@@ -13,8 +14,6 @@ mod outer_line;
 mod pass;
 mod presence;
 mod reader;
-#[cfg(test)]
-mod tests;
 mod times;
 mod word;
 

@@ -2,7 +2,9 @@
 
 ghost use Rattle.std.specs.Prelude.{◌≡◌, ◌∷◌, [], Ok, Err, ◌<◌, ◌≤◌, length, IfOk, IfSome, MatchOption, MatchResult};
 ghost use Rattle.lx_base.specs.Numbers.{percent as percent_level};
+ghost use Rattle.lx_spec.specs.Numerals.{read_level};
 ghost use Rattle.lx_lex.specs.Left.{left};
+ghost use Rattle.lx_lex.specs.PlainNumber.{FirstIsLevel};
 ghost use Rattle.lx_reader.specs.FieldLists.{FirstIsMember, fault_in, all_pairs, all_triples, onto};
 
 use crate::numbers::fault_of;
@@ -35,21 +37,45 @@ pub(crate) fn next_member(i: u32, tokens: &mut Tokens) -> Result<Option<Member>,
     }
 }
 
-/// The next channel and level where both are numbers of digits alone, as most are, and within their ranges. Else no
-/// token is taken.
-#[inline]
+/// The next channel and level where the channel is a number of digits alone, as most are, and both are within their
+/// ranges. Else no token is taken.
+#[inline(always)]
 fn plain_member(tokens: &mut Tokens) -> Option<Member>
     ensures { MatchOption result (tokens.new ≡ tokens.old) (λ m. FirstIsMember (left tokens.old) m (left tokens.new)) }
 {
     let mut rest = *tokens;
     let chan = Chan::new(rest.take_number()?)?;
-    let level = plain_level(rest.take_number()?)?;
+    let level = next_level(&mut rest)?;
     *tokens = rest;
     Some(Member { chan, level })
 }
 
+/// The level that comes next. None where no token is left, or the token isn't a level.
+#[inline(always)]
+fn next_level(tokens: &mut Tokens) -> Option<Level>
+    ensures { IfSome result (λ level. FirstIsLevel (left tokens.old) level (left tokens.new)) }
+{
+    if let Some(level) = tokens.take_hex() {
+        return Some(level);
+    }
+    match tokens.take_number() {
+        Some(percent) => plain_level(percent),
+        None => level_of(tokens.next()?),
+    }
+}
+
+/// The level that a token is, in whatever form.
+fn level_of(token: &[u8]) -> Option<Level>
+    ensures { IfSome result (λ level. read_level token.now ≡ Ok level) }
+{
+    match read_level(token) {
+        Ok(level) => Some(level),
+        Err(_) => None,
+    }
+}
+
 /// The level of so many percent; none above 100.
-#[inline]
+#[inline(always)]
 fn plain_level(percent: u32) -> Option<Level>
     ensures { IfSome result (λ level. (percent ≤ 100) × (level ≡ percent_level percent)) }
 {

@@ -36,7 +36,7 @@ pub fn read_show<S: Source>(
     ensures read { result ≡ Err ShowFault.ReadFault → Rose (S.faults lines.old.source.now) (S.faults lines.new.source.now) }
 {
     let mut reader = match Show::new(alloc, 1) {
-        Ok(show) => Reader::new(show),
+        Ok(show) => Reader::new(alloc, show),
         Err(_) => return Err(ShowFault::Memory),
     };
     loop {

@@ -16,7 +16,7 @@ use lx_show::{Cue, Group, Show, Sub, new_part};
 use lx_spec::{Label, Section};
 use std::alloc::Global;
 
-/// The cue is there. It was, or there were fewer than 2,000 cues.
+/// The cue is there. It was, or there were fewer than `CUES` cues.
 pub(crate) fn ensure_cue(alloc: Global, show: &mut Show, n: CueNo)
     requires number { n ≢ 0 }
     requires room { IsTrue (has_entry (λ cue. cue.number) n show.old.cues || nat_lt (length show.old.cues) CUES) }

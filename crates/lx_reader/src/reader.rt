@@ -1,12 +1,14 @@
 //! What the lines so far say, and what is known of the next one.
 
-ghost use Rattle.std.specs.Prelude.{◌≡◌, ◌==◌, ◌≤◌, ◌<◌, ◌+◌, None, false, true, length, if◌then◌else◌};
+ghost use Rattle.std.specs.Prelude.{◌≡◌, ◌==◌, ◌≤◌, ◌<◌, ◌+◌, ◌∷◌, None, false, true, codes, length, IfSome, if◌then◌else◌};
+ghost use Rattle.lx_spec.specs.Text.{tokens};
 ghost use Rattle.lx_base.specs.declared.TheConstants.{LINE_BYTES};
 ghost use Rattle.lx_spec.specs.declared.Section.TheVariants.{NoRecord};
 ghost use Rattle.lx_spec.specs.declared.Word.TheVariants as words;
 ghost use Rattle.lx_spec.specs.LineRules.{entry_of, entry_by_word};
 ghost use Rattle.lx_lex.specs.Left.{left};
 
+use crate::gathered::Gathered;
 use crate::line_fault::LineFault;
 use crate::word::word_of;
 use lx_base::{Chan, PartNo};
@@ -34,13 +36,15 @@ pub(crate) struct Reader {
     pub(crate) part: PartNo,
     /// ENDDATA was read.
     pub(crate) ended: bool,
+    /// Room for the levels of a line.
+    pub(crate) gathered: Gathered,
 }
 
 impl Reader {
     ghost use Rattle.lx_reader.specs.LineOutcome.{IsReady, facts_of, Outcome, needs_ident};
 
     /// Nothing was read yet.
-    pub(crate) fn new(show: Show) -> Reader
+    pub(crate) fn new(alloc: Global, show: Show) -> Reader
         ensures show { result.show ≡ show }
         ensures channels_set { result.channels_set ≡ None }
         ensures skipped { (result.skipped ≡ 0) × (result.first_skipped ≡ 0) }
@@ -56,6 +60,7 @@ impl Reader {
             section: Section::NoRecord,
             part: PartNo::BASE,
             ended: false,
+            gathered: Gathered::new(alloc),
         }
     }
 
@@ -87,6 +92,9 @@ impl Reader {
         requires ready { IsReady self.old i }
         ensures { Outcome self.old self.new i result (entry_of (facts_of self.old i) line.now) }
     {
+        if let Some(levels) = levels_of(line) {
+            return self.line_of_word(alloc, i, line, Word::Chan, levels);
+        }
         let mut tokens = tokens(line);
         let Some(first) = tokens.next() else {
             return Ok(());
@@ -112,6 +120,7 @@ impl Reader {
                 Ok(())
             }
             Word::Block => self.block_line(i),
+            Word::Assert => self.assert_line(i),
             Word::OneDollar => {
                 self.skip_record(i);
                 Ok(())
@@ -160,5 +169,16 @@ impl Reader {
             }
             inner => self.inner_line(i, line, inner, tokens),
         }
+    }
+}
+
+/// The tokens behind the first one where that is CHAN in capitals and a space follows at once, as in most lines.
+#[inline]
+fn levels_of(line: &[u8]) -> Option<Tokens<'_>>
+    ensures { IfSome result (λ levels. tokens line.now ≡ codes "CHAN" ∷ left levels) }
+{
+    match line {
+        [b'C', b'H', b'A', b'N', b' ', levels @ ..] => Some(tokens(levels)),
+        _ => None,
     }
 }

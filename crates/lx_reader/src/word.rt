@@ -7,7 +7,7 @@ use lx_lex::find_word;
 use lx_spec::Word;
 
 /// How the words are spelled, in capitals.
-static SPELLINGS: [(&[u8], Word); 18] = [
+static SPELLINGS: [(&[u8], Word); 19] = [
     (b"IDENT", Word::Ident),
     (b"MANUFACTURER", Word::Maker),
     (b"CONSOLE", Word::Maker),
@@ -26,6 +26,7 @@ static SPELLINGS: [(&[u8], Word); 18] = [
     (b"LINK", Word::Link),
     (b"TEXT", Word::Text),
     (b"$$BLOCK", Word::Block),
+    (b"$$ASSERT", Word::Assert),
 ];
 
 /// The word that a token is, whatever the case of its letters.

@@ -6,7 +6,7 @@ ghost use Rattle.lx_io.specs.Puts.{Puts};
 ghost use Rattle.lx_spec.specs.SheetOutput.{cue_line, cue_lines};
 ghost use Rattle.lx_spec.specs.Replies.{row_of, row_text};
 ghost use Rattle.lx_spec.specs.TrackedLevel.{cue_of};
-ghost use Rattle.lx_sheet.specs.Standing.{StandsFor};
+ghost use Rattle.lx_sheet.specs.Standing.{RowsStandFor};
 
 use crate::cue_line::put_cue_line;
 use crate::row::put_row;
@@ -19,7 +19,7 @@ use lx_show::{Cue, Show};
 /// `block` or `track`, P the number of its parts and M that of its moves, and then its row line. The sheet
 /// stands for the show. A fault is the sink's own, and then a prefix of the list was appended.
 pub fn put_cue_list<K: Sink>(show: &Show, sheet: &Sheet, sink: &mut K) -> Result<(), SinkFault>
-    requires { StandsFor show.now sheet.now }
+    requires { RowsStandFor show.now sheet.now }
     ensures { Puts K.holds K.faults K.wants sink.old sink.new result (flat_map (cue_lines show.now) show.now.cues) }
 {
     for cue in show.cues() {
@@ -38,7 +38,7 @@ fn put_cue<K: Sink>(cue: &Cue, row: &[Level], sink: &mut K) -> Result<(), SinkFa
 
 /// The row of one of the show's cues.
 fn row_in<'a>(show: &Show, sheet: &'a Sheet, cue: &Cue) -> &'a [Level]
-    requires stands { StandsFor show.now sheet.now }
+    requires stands { RowsStandFor show.now sheet.now }
     requires there { cue_of show.now cue.now.number ≡ Some cue.now }
     ensures { result.now ≡ row_of show.now cue.now.number }
 {

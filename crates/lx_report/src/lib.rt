@@ -4,8 +4,6 @@
 mod cue_line;
 mod cue_list;
 mod row;
-#[cfg(test)]
-mod tests;
 
 pub use cue_list::put_cue_list;
 pub use row::put_row;

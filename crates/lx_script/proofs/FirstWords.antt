@@ -20,7 +20,9 @@ abbrev with_word : List ℕ → Option FirstWord → Tokens → Option Line
 with_word line found rest = option_and_then (λ w. sentence_of line w rest) found
 
 sentence_found : (line first : List ℕ) (rest : Tokens) (table : List (List ℕ × FirstWord))
-    → option_map_or (λ (s : List ℕ × (Tokens → Option Line)). s.1 rest) (find (λ (s : List ℕ × (Tokens → Option Line)). is_word s.0 first) (sentences_by line table)) None ≡ with_word line (looked_up table first) rest
+    → option_map_or (λ (s : List ℕ × (Tokens → Option Line)). s.1 rest)
+    (find (λ (s : List ℕ × (Tokens → Option Line)). is_word s.0 first) (sentences_by line table)) None
+    ≡ with_word line (looked_up table first) rest
 sentence_found line first rest [] = refl
 sentence_found line first rest (e ∷ table) = elim (cases_Bool (is_word e.0 first)) [
   | inl is ↦ rw is refl

@@ -2,3 +2,4 @@ pub mod Texts
 pub mod Ready
 pub mod FirstWords
 pub mod Phrases
+pub mod EditLines

@@ -1,20 +1,20 @@
 -- The rows of the tables of ready texts.
-use Rattle.std.proofs.Common.{◌≡◌, ℕ, ◌+◌, ◌-◌, ◌/◌, ◌%◌, ◌<◌, ◌≤◌, List, [], ◌∷◌, ◌++◌, length, get_or, map, take, drop, decimal, refl, ap, sym, ◌∙◌, arith, length-take, cond, inl, inr, ◌⊎◌}
+use Rattle.std.proofs.Common.{◌≡◌, ℕ, ◌+◌, ◌-◌, ◌/◌, ◌%◌, ◌<◌, ◌≤◌, List, [], ◌∷◌, ◌++◌, length, get_or, map, drop, decimal, refl, ap}
+use Rattle.std.proofs.Common.{sym, ◌∙◌, arith, cond, inl, inr, ◌⊎◌}
 use Rattle.std.specs.List.{range_with_len}
 use Rattle.std.proofs.lemmas.List.FromFn.{get_or-map-range_with_len}
-use borrow.Rule.Slice.PartMut.{put_mid}
-use Rattle.std.proofs.Math.Seq.{drop-append-add}
-use Rattle.std.proofs.lemmas.List.{drop-append-le, drop-drop}
 use Rattle.itoa.proofs.Decimal.{pair, decimal_pair, decimal_two, length_one, length_two}
 use Rattle.std.proofs.lemmas.Fmt.{decimal_digit}
 use Rattle.std.specs.Prelude.{nat_lt}
 use Rattle.std.proofs.lemmas.Bool.{cases_Bool}
 use Rattle.lx_spec.proofs.Comparisons.{le_from, lt_false, lt_from, lt_true}
-use Rattle.lx_script.specs.declared.rows.TheConstants.{DIGITS, LEVELS, NUMBERS}
+use Rattle.lx_script.specs.declared.rows.TheConstants.{DIGITS, LEVELS, NUMBERS, PAIRS}
 
 -- a byte and a number of at most three digits, at the end of four bytes
 abbrev pub ready : ℕ → ℕ → List ℕ
-ready before n = cond (nat_lt n 10) (32 ∷ 32 ∷ before ∷ (48 + n) ∷ []) (cond (nat_lt n 100) (32 ∷ before ∷ (48 + n / 10) ∷ (48 + n % 10) ∷ []) (before ∷ (48 + n / 100) ∷ (48 + n % 100 / 10) ∷ (48 + n % 100 % 10) ∷ []))
+ready before n = cond (nat_lt n 10) (32 ∷ 32 ∷ before ∷ (48 + n) ∷ [])
+    (cond (nat_lt n 100) (32 ∷ before ∷ (48 + n / 10) ∷ (48 + n % 10) ∷ [])
+    (before ∷ (48 + n / 100) ∷ (48 + n % 100 / 10) ∷ (48 + n % 100 % 10) ∷ []))
 
 levels_are : LEVELS ≡ map (ready 61) (range_with_len 0 256)
 levels_are = refl
@@ -24,6 +24,12 @@ numbers_are = refl
 
 digits_are : DIGITS ≡ map (λ n. cond (nat_lt n 10) 1 (cond (nat_lt n 100) 2 3)) (range_with_len 0 1000)
 digits_are = refl
+
+pairs_are : PAIRS ≡ map pair (range_with_len 0 100)
+pairs_are = refl
+
+pub pair_row : (n : ℕ) (d : List ℕ) → n < 100 → get_or PAIRS n d ≡ pair n
+pair_row n d lt = ap (λ rows. get_or rows n d) pairs_are ∙ get_or-map-range_with_len pair 0 100 n n d lt (omega arith)
 
 pub level_row : (v : ℕ) (d : List ℕ) → v < 256 → get_or LEVELS v d ≡ ready 61 v
 level_row v d lt = ap (λ rows. get_or rows v d) levels_are ∙ get_or-map-range_with_len (ready 61) 0 256 v v d lt (omega arith)
@@ -56,26 +62,38 @@ ready_end before n count lt is =
 pub digits_at : (n : ℕ) → n < 1000 → (get_or DIGITS n 0 ≤ 3) × (get_or DIGITS n 0 ≡ length (decimal n))
 digits_at n lt =
     let is : get_or DIGITS n 0 ≡ cond (nat_lt n 10) 1 (cond (nat_lt n 100) 2 3)
-    = ap (λ ds. get_or ds n 0) digits_are ∙ get_or-map-range_with_len (λ n. cond (nat_lt n 10) 1 (cond (nat_lt n 100) 2 3)) 0 1000 n n 0 lt (omega arith) in
+    = ap (λ ds. get_or ds n 0) digits_are ∙ get_or-map-range_with_len (λ n. cond (nat_lt n 10) 1 (cond (nat_lt n 100) 2 3)) 0 1000 n n 0 lt
+    (omega arith) in
     elim (below_or_from n 10) [
       | inl low ↦ let one : get_or DIGITS n 0 ≡ 1 = rw (is, lt_true n 10 low) refl in (omega arith, one ∙ sym (length_one n low))
       | inr from ↦ elim (below_or_from n 100) [
-        | inl low ↦ let two : get_or DIGITS n 0 ≡ 2 = rw (is, lt_false n 10 from, lt_true n 100 low) refl in (omega arith, two ∙ sym (length_two n from low))
-        | inr more ↦ let three : get_or DIGITS n 0 ≡ 3 = rw (is, lt_false n 10 from, lt_false n 100 more) refl in (omega arith, three ∙ sym (ap length (three_digits n more lt)))
+        | inl low ↦ let two : get_or DIGITS n 0 ≡ 2 =
+            rw (is, lt_false n 10 from, lt_true n 100 low) refl in (omega arith, two ∙ sym (length_two n from low))
+        | inr more ↦ let three : get_or DIGITS n 0 ≡ 3 =
+            rw (is, lt_false n 10 from, lt_false n 100 more) refl in (omega arith, three ∙ sym (ap length (three_digits n more lt)))
       ]
     ]
 
--- a row at the end of what is written so far
-pub row_put : (text row new : List ℕ) (end count : ℕ) → new ≡ row → length row ≡ 4 → 4 ≤ end → end ≤ length text → count ≤ 4
-    → drop (end - count) (put_mid (end - 4) (end - (end - 4)) text new) ≡ drop (4 - count) row ++ drop end text
-row_put text row new end count same four room within few =
-    let front : List ℕ = take (end - 4) text in
-    let post : List ℕ = drop (end - (end - 4)) (drop (end - 4) text) in
-    let here : end - count ≡ length front + (4 - count) = omega (arith, length-take (end - 4) text) in
-    let end_is : end - 4 + (end - (end - 4)) ≡ end = omega arith in
-    let le : 4 - count ≤ length row = omega arith in
-    ap (λ n. drop (end - count) (front ++ (n ++ post))) same
-    ∙ ap (λ k. drop k (front ++ (row ++ post))) here
-    ∙ drop-append-add front (row ++ post) (4 - count)
-    ∙ drop-append-le (4 - count) row post le
-    ∙ ap (λ p. drop (4 - count) row ++ p) (drop-drop (end - (end - 4)) (end - 4) text ∙ ap (λ k. drop k text) end_is)
+length_three : (n : ℕ) → 100 ≤ n → n < 1000 → length (decimal n) ≡ 3
+length_three n lo hi = ap length (three_digits n lo hi)
+
+not_one : (n : ℕ) → 10 ≤ n → n < 1000 → length (decimal n) ≡ 1 → ⊥
+not_one n lo hi is = elim (below_or_from n 100) [
+  | inl low ↦ omega (arith, is, length_two n lo low)
+  | inr more ↦ omega (arith, is, length_three n more hi)
+]
+
+-- a number between two that have as many digits
+pub digits_between : (a n b : ℕ) → a ≤ n → n ≤ b → b < 1000 → length (decimal b) ≡ length (decimal a)
+    → length (decimal n) ≡ length (decimal a)
+digits_between a n b from to most same =
+    elim (below_or_from n 10) [
+      | inl low ↦ length_one n low ∙ sym (length_one a (omega arith))
+      | inr tens ↦ elim (below_or_from n 100) [
+        | inl low ↦ elim (below_or_from a 10) [
+          | inl one ↦ absurd (not_one b (omega arith) most (same ∙ length_one a one))
+          | inr two ↦ length_two n tens low ∙ sym (length_two a two (omega arith))
+        ]
+        | inr more ↦ length_three n more (omega arith) ∙ sym (length_three b (omega arith) most) ∙ same
+      ]
+    ]

@@ -1,5 +1,6 @@
 -- Words with spaces between them, and the cells of levels, as they are put one after another.
-use Rattle.std.proofs.Common.{◌≡◌, ◌≢◌, ℕ, ◌+◌, ◌-◌, ◌<◌, ◌≤◌, List, [], ◌∷◌, ◌++◌, length, take, drop, get_or, refl, sym, ap, ◌∙◌, append-nil, append_assoc, take-append-drop, arith, add-one, drop-cons, length-take}
+use Rattle.std.proofs.Common.{◌≡◌, ◌≢◌, ℕ, ◌+◌, ◌-◌, ◌<◌, ◌≤◌, List, [], ◌∷◌, ◌++◌, length, take, drop, get_or, refl, sym, ap, ◌∙◌}
+use Rattle.std.proofs.Common.{append-nil, append_assoc, take-append-drop, arith, add-one, drop-cons, length-take}
 use Rattle.std.proofs.Math.Seq.{take-add}
 use Rattle.std.specs.Prelude.{Bool, true, false, suc, ◌==◌, flat_map, codes, decimal, slice_range, if◌then◌else◌}
 use Rattle.std.specs.List.{enumerate_from}
@@ -7,7 +8,9 @@ use Rattle.lx_script.specs.Cells.{cells_from}
 use Rattle.std.proofs.lemmas.Grind.{flat_map-append}
 use Rattle.std.proofs.lemmas.Bool.{ne_eqb}
 use Rattle.lx_spec.specs.declared.Refusal.{Refusal}
-use Rattle.lx_spec.specs.declared.Refusal.TheVariants.{AbsentCue, AbsentPart, AbsentChannel, AbsentMove, AbsentGroup, AbsentSub, AbsentDimmer, CueLimit, BasePart, NoCueAfter, NoCueBefore, PlaybackFull, TickLimit, Memory}
+use Rattle.lx_spec.specs.declared.Refusal.TheVariants.{AbsentCue, AbsentPart, AbsentChannel, AbsentMove, AbsentGroup, AbsentSub}
+use Rattle.lx_spec.specs.declared.Refusal.TheVariants.{AbsentDimmer, CueLimit, BasePart, NoCueAfter, NoCueBefore, PlaybackFull, TickLimit}
+use Rattle.lx_spec.specs.declared.Refusal.TheVariants.{Memory}
 use Rattle.lx_spec.specs.ShowText.{spaced}
 use Rattle.lx_spec.specs.Replies.{refusal_words, cells, frame_text}
 
@@ -50,13 +53,16 @@ one_word : (none : Bool) (word : List ℕ) → behind_spaces (if none then [] el
 one_word true word = refl
 one_word false word = append-nil (32 ∷ word)
 
-cells_from-first : (number level : ℕ) (levels : List ℕ) → cells_from number (level ∷ levels) ≡ cell number level ++ cells_from (number + 1) levels
+cells_from-first : (number level : ℕ) (levels : List ℕ)
+    → cells_from number (level ∷ levels) ≡ cell number level ++ cells_from (number + 1) levels
 cells_from-first number level levels =
     let word : List ℕ = decimal number ++ 61 ∷ decimal level in
-    flat_map-append (λ w. 32 ∷ w) (if level == 0 then [] else word ∷ []) (flat_map (λ e. if e.1 == 0 then [] else (decimal e.0 ++ 61 ∷ decimal e.1) ∷ []) (enumerate_from (number + 1) levels))
+    flat_map-append (λ w. 32 ∷ w) (if level == 0 then [] else word ∷ [])
+    (flat_map (λ e. if e.1 == 0 then [] else (decimal e.0 ++ 61 ∷ decimal e.1) ∷ []) (enumerate_from (number + 1) levels))
     ∙ ap (λ text. text ++ cells_from (number + 1) levels) (one_word (level == 0) word)
 
-cells_from-append : (number : ℕ) (xs ys : List ℕ) → cells_from number (xs ++ ys) ≡ cells_from number xs ++ cells_from (number + length xs) ys
+cells_from-append : (number : ℕ) (xs ys : List ℕ)
+    → cells_from number (xs ++ ys) ≡ cells_from number xs ++ cells_from (number + length xs) ys
 cells_from-append number [] ys = let same : number ≡ number + 0 = omega arith in ap (λ n. cells_from n ys) same
 cells_from-append number (x ∷ xs) ys =
     let same : number + 1 + length xs ≡ number + suc (length xs) = omega arith in
@@ -77,7 +83,8 @@ cells_split levels from within =
 
 -- a piece more
 pub cells_more : (levels : List ℕ) (from end : ℕ) → from ≤ end → end ≤ length levels
-    → behind_spaces (cells (take end levels)) ≡ behind_spaces (cells (take from levels)) ++ cells_from (from + 1) (slice_range levels from end)
+    → behind_spaces (cells (take end levels))
+    ≡ behind_spaces (cells (take from levels)) ++ cells_from (from + 1) (slice_range levels from end)
 cells_more levels from end before within =
     let number : 1 + length (take from levels) ≡ from + 1 = omega (arith, length-take from levels) in
     let same : end ≡ from + (end - from) = omega arith in
@@ -88,7 +95,8 @@ cells_more levels from end before within =
 
 -- a level more, before those that are written
 pub cells_before : (number left : ℕ) (levels : List ℕ) → left < length levels
-    → cells_from (number + left) (drop left levels) ≡ cell (number + left) (get_or levels left 0) ++ cells_from (number + (left + 1)) (drop (left + 1) levels)
+    → cells_from (number + left) (drop left levels)
+    ≡ cell (number + left) (get_or levels left 0) ++ cells_from (number + (left + 1)) (drop (left + 1) levels)
 cells_before number left levels lt =
     let here : drop left levels ≡ get_or levels left 0 ∷ drop (left + 1) levels = rw add-one (drop-cons levels left 0 lt) in
     let next : number + left + 1 ≡ number + (left + 1) = omega arith in
@@ -100,8 +108,14 @@ cells_before number left levels lt =
 abbrev pub head : List (List ℕ) → ℕ → ℕ → List ℕ
 head count m u = codes "frame" ++ (behind_spaces count ++ (32 ∷ decimal m ++ 32 ∷ decimal u))
 
+-- the same, as they are put
+pub head_is : (count : List (List ℕ)) (m u : ℕ)
+    → (codes "frame" ++ (behind_spaces count ++ 32 ∷ [])) ++ ((decimal m ++ 32 ∷ []) ++ decimal u) ≡ head count m u
+head_is count m u = simp append_assoc
+
 -- these words, the slots, and the end of the line
-pub frame_is : (count : List (List ℕ)) (m u : ℕ) (slots : List ℕ) → frame_text count m u slots ≡ head count m u ++ (behind_spaces (cells slots) ++ 10 ∷ [])
+pub frame_is : (count : List (List ℕ)) (m u : ℕ) (slots : List ℕ)
+    → frame_text count m u slots ≡ head count m u ++ (behind_spaces (cells slots) ++ 10 ∷ [])
 frame_is count m u slots =
     ap (λ text. text ++ 10 ∷ []) (spaced_more (codes "frame") (count ++ decimal m ∷ decimal u ∷ cells slots))
     ∙ ap (λ text. (codes "frame" ++ text) ++ 10 ∷ []) (flat_map-append (λ w. 32 ∷ w) count (decimal m ∷ decimal u ∷ cells slots))

@@ -1,5 +1,5 @@
 -- The first words of script lines, and what a line may be after each.
-use Rattle.std.specs.Prelude.{ℕ, Option, List, [], ◌∷◌, codes}
+use Rattle.std.specs.Prelude.{ℕ, true, false, Option, List, [], ◌∷◌, codes}
 use Rattle.lx_spec.specs.declared.Edit.TheVariants.{MakeCue, AddPart, DeletePart}
 use Rattle.lx_spec.specs.declared.Edit.TheVariants as edits
 use Rattle.lx_spec.specs.declared.PlayKey.TheVariants as keys
@@ -13,8 +13,8 @@ use Rattle.lx_spec.specs.Script.{time_line, part_edit, follow_line, label_line, 
 use Rattle.lx_spec.specs.Script.{frame_line, sheet_line}
 use Rattle.lx_script.specs.declared.first_word.FirstWord.{FirstWord}
 use Rattle.lx_script.specs.declared.first_word.FirstWord.TheVariants.{Go, Back, Goto, Settle, Fader, Master, Tick, Cue, Delete, Set}
-use Rattle.lx_script.specs.declared.first_word.FirstWord.TheVariants.{Release, Time, Part, Unpart, Block, Unblock, Follow, Label, Group}
-use Rattle.lx_script.specs.declared.first_word.FirstWord.TheVariants.{Sub, Patch, Unpatch, Frame, Sheet, Save, Quit}
+use Rattle.lx_script.specs.declared.first_word.FirstWord.TheVariants.{Release, Time, Part, Unpart, Block, Unblock, Assert, Unassert, Follow}
+use Rattle.lx_script.specs.declared.first_word.FirstWord.TheVariants.{Label, Group, Sub, Patch, Unpatch, Frame, Sheet, Save, Quit}
 
 -- how they are spelled
 abbrev pub first_words : List (List ℕ × FirstWord)
@@ -23,6 +23,7 @@ first_words =
     ∷ (codes "FADER", Fader) ∷ (codes "MASTER", Master) ∷ (codes "TICK", Tick) ∷ (codes "CUE", Cue)
     ∷ (codes "DELETE", Delete) ∷ (codes "SET", Set) ∷ (codes "RELEASE", Release) ∷ (codes "TIME", Time)
     ∷ (codes "PART", Part) ∷ (codes "UNPART", Unpart) ∷ (codes "BLOCK", Block) ∷ (codes "UNBLOCK", Unblock)
+    ∷ (codes "ASSERT", Assert) ∷ (codes "UNASSERT", Unassert)
     ∷ (codes "FOLLOW", Follow) ∷ (codes "LABEL", Label) ∷ (codes "GROUP", Group) ∷ (codes "SUB", Sub)
     ∷ (codes "PATCH", Patch) ∷ (codes "UNPATCH", Unpatch) ∷ (codes "FRAME", Frame) ∷ (codes "SHEET", Sheet)
     ∷ (codes "SAVE", Save) ∷ (codes "QUIT", Quit) ∷ []
@@ -45,6 +46,8 @@ sentence_of line Part = part_edit AddPart
 sentence_of line Unpart = part_edit DeletePart
 sentence_of line Block = cue_edit edits.Block
 sentence_of line Unblock = cue_edit edits.Unblock
+sentence_of line Assert = cue_edit (λ n. edits.Asserted n true)
+sentence_of line Unassert = cue_edit (λ n. edits.Asserted n false)
 sentence_of line Follow = follow_line
 sentence_of line Label = label_line line
 sentence_of line Group = group_line

@@ -1,3 +1,4 @@
 pub mod Cells
 pub mod ReplyTexts
 pub mod FirstWords
+pub mod Briefs

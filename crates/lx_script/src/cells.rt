@@ -1,12 +1,12 @@
 //! Words for levels that aren't 0, each behind a space.
 #![tactic(auto, using(lx_io::proofs::Chain::puts))]
 
-ghost use Rattle.std.specs.Prelude.{◌≡◌, ◌+◌, ◌-◌, ◌*◌, ◌<◌, ◌≤◌, ◌^◌, ◌≢◌, ◌++◌, ◌∷◌, length, drop, decimal, flat_map};
+ghost use Rattle.std.specs.Prelude.{◌≡◌, ℕ, ◌+◌, ◌-◌, ◌*◌, ◌<◌, ◌≤◌, ◌^◌, ◌≢◌, ◌++◌, ◌∷◌, length, drop, decimal, flat_map};
 ghost use Rattle.lx_io.specs.Puts.{Puts};
 ghost use Rattle.lx_spec.specs.Replies.{cells};
 ghost use Rattle.lx_script.specs.Cells.{cells_from};
 
-use crate::rows::{DIGITS, LEVELS, NUMBERS};
+use crate::rows::{DIGITS, LEVELS, NUMBERS, PAIRS};
 use itoa::write_digits;
 use lx_base::Level;
 use lx_io::{Sink, SinkFault, put_all};
@@ -15,10 +15,10 @@ use lx_io::{Sink, SinkFault, put_all};
 const CELL_BYTES: usize = 25;
 
 /// The most levels whose cells are one piece.
-const PIECE_CELLS: usize = 64;
+const PIECE_CELLS: usize = 128;
 
 /// The most bytes of a piece.
-const PIECE_BYTES: usize = 1600;
+const PIECE_BYTES: usize = 3200;
 
 /// Appends ` number=level` in decimal for each level that isn't 0, rising, the first level's number being 1. A fault is
 /// the sink's own, and then a prefix of the text was appended.
@@ -28,11 +28,30 @@ pub fn put_cells<K: Sink>(levels: &[Level], sink: &mut K) -> Result<(), SinkFaul
     let mut text = [0; PIECE_BYTES];
     let mut from = 0;
     while from < levels.len() {
-        let end = (from + PIECE_CELLS).min(levels.len());
+        let end = piece_end(from, levels.len());
         put_piece(from as u64 + 1, &levels[from..end], &mut text, sink)?;
         from = end;
     }
     Ok(())
+}
+
+/// Where a piece ends that begins at a place: the numbers get another digit there, or it is full, or no level is left.
+fn piece_end(from: usize, end: usize) -> usize
+    requires { from < end }
+    ensures more { from < result }
+    ensures within { result ≤ end }
+    ensures few { result ≤ from + PIECE_CELLS }
+{
+    let most = if from < 9 {
+        9
+    } else if from < 99 {
+        99
+    } else if from < 999 {
+        999
+    } else {
+        end
+    };
+    from + (most.min(end) - from).min(PIECE_CELLS)
 }
 
 /// Appends the cells of some levels, as one piece that is written into `text`.
@@ -46,8 +65,89 @@ fn put_piece<K: Sink>(
     requires numbers { number + length levels.now < 2 ^ 64 }
     ensures { Puts K.holds K.faults K.wants sink.old sink.new result (cells_from number levels.now) }
 {
-    let start = write_cells(number, levels, text);
+    let start = write_piece(number, levels, text);
     put_all(sink, &text[start..])
+}
+
+/// Writes the cells of some levels so that they end where the text does, and says where they begin. Numbers of at
+/// most three digits that have as many each are written the short way.
+fn write_piece(number: u64, levels: &[Level], text: &mut [u8; PIECE_BYTES]) -> usize
+    requires few { length levels.now ≤ PIECE_CELLS }
+    requires numbers { number + length levels.now < 2 ^ 64 }
+    ensures start { result ≤ PIECE_BYTES }
+    ensures text { drop result text.new ≡ cells_from number levels.now }
+{
+    let next = number + levels.len() as u64;
+    if number < next && next <= 1000 {
+        let count = digits(number);
+        if digits(next - 1) == count {
+            return write_short_cells(number, levels, count + 1, text);
+        }
+    }
+    write_cells(number, levels, text)
+}
+
+/// The same for numbers below 1,000, each of which has one digit less than `width`.
+fn write_short_cells(
+    number: u64,
+    levels: &[Level],
+    width: usize,
+    text: &mut [u8; PIECE_BYTES],
+) -> usize
+    requires few { length levels.now ≤ PIECE_CELLS }
+    requires numbers { number + length levels.now ≤ 1000 }
+    requires width { width ≤ 4 }
+    requires digits { (n : ℕ) → number ≤ n → n < number + length levels.now → width ≡ length (decimal n) + 1 }
+    ensures start { result ≤ PIECE_BYTES }
+    ensures text { drop result text.new ≡ cells_from number levels.now }
+{
+    let mut start = PIECE_BYTES;
+    let mut left = levels.len();
+    while left > 0 {
+        left -= 1;
+        let level = levels[left];
+        if level != 0 {
+            start = write_short_cell(number + left as u64, width, level, text, start);
+        }
+    }
+    start
+}
+
+/// Writes ` number=level` so that it ends at a place, and says where it begins. The number has one digit less than
+/// `width`.
+#[inline(always)]
+fn write_short_cell(
+    number: u64,
+    width: usize,
+    level: Level,
+    text: &mut [u8; PIECE_BYTES],
+    end: usize,
+) -> usize
+    requires number { number < 1000 }
+    requires width { width ≡ length (decimal number) + 1 }
+    requires most { width ≤ 4 }
+    requires room { CELL_BYTES ≤ end }
+    requires within { end ≤ PIECE_BYTES }
+    ensures start { end ≤ result + CELL_BYTES }
+    ensures before { result ≤ end }
+    ensures text { drop result text.new ≡ (32 ∷ (decimal number ++ 61 ∷ decimal level)) ++ drop end text.old }
+{
+    let start = write_level(level, text, end);
+    write_short_number(number, width, text, start)
+}
+
+/// Writes a space and a number so that they end at a place, and says where they begin. They are of so many bytes.
+#[inline(always)]
+fn write_short_number(number: u64, width: usize, text: &mut [u8; PIECE_BYTES], end: usize) -> usize
+    requires number { number < 1000 }
+    requires width { width ≡ length (decimal number) + 1 }
+    requires most { width ≤ 4 }
+    requires room { 4 ≤ end }
+    requires within { end ≤ PIECE_BYTES }
+    ensures start { result + length (decimal number) + 1 ≡ end }
+    ensures text { drop result text.new ≡ 32 ∷ (decimal number ++ drop end text.old) }
+{
+    write_row(&NUMBERS[number as usize], width, text, end)
 }
 
 /// Writes the cells of some levels so that they end where the text does, and says where they begin.
@@ -102,7 +202,11 @@ fn write_number(number: u64, text: &mut [u8; PIECE_BYTES], end: usize) -> usize
     ensures text { drop result text.new ≡ 32 ∷ (decimal number ++ drop end text.old) }
 {
     if number < 1000 {
-        write_row(&NUMBERS[number as usize], digits(number) + 1, text, end)
+        write_short_number(number, digits(number) + 1, text, end)
+    } else if number < 100_000 {
+        let front = number / 100;
+        let end = write_pair(&PAIRS[(number % 100) as usize], text, end);
+        write_short_number(front, digits(front) + 1, text, end)
     } else {
         write_word(number, b' ', text, end)
     }
@@ -127,8 +231,25 @@ fn write_row(row: &[u8; 4], count: usize, text: &mut [u8; PIECE_BYTES], end: usi
     ensures start { result + count ≡ end }
     ensures text { drop result text.new ≡ drop (4 - count) row.now ++ drop end text.old }
 {
-    text[end - 4..end].copy_from_slice(row);
+    // Byte by byte, which is one store of four bytes.
+    text[end - 4] = row[0];
+    text[end - 3] = row[1];
+    text[end - 2] = row[2];
+    text[end - 1] = row[3];
     end - count
+}
+
+/// Writes two bytes so that they end at a place, and says where they begin.
+#[inline(always)]
+fn write_pair(pair: &[u8; 2], text: &mut [u8; PIECE_BYTES], end: usize) -> usize
+    requires room { 2 ≤ end }
+    requires within { end ≤ PIECE_BYTES }
+    ensures start { result + 2 ≡ end }
+    ensures text { drop result text.new ≡ pair.now ++ drop end text.old }
+{
+    text[end - 2] = pair[0];
+    text[end - 1] = pair[1];
+    end - 2
 }
 
 /// Writes a byte and a whole number so that they end at a place, and says where they begin.

@@ -1,6 +1,6 @@
 //! Lines that edit cues: what follows their first word.
 
-ghost use Rattle.std.specs.Prelude.{◌≡◌};
+ghost use Rattle.std.specs.Prelude.{◌≡◌, true, false};
 ghost use Rattle.lx_spec.specs.Script.{edit, cue_edit, part_edit, delete_line, set_line, set_channels, set_group, release_line, time_line};
 ghost use Rattle.lx_spec.specs.Script.{time_edit, follow_line, label_line};
 ghost use Rattle.lx_lex.specs.Left.{left};
@@ -154,6 +154,22 @@ pub(crate) fn unblock(mut rest: Tokens) -> Option<Line>
 {
     let cue = cue_number(&mut rest)?;
     ended(rest, edit(Edit::Unblock { cue }))
+}
+
+/// `assert n`
+pub(crate) fn assert(mut rest: Tokens) -> Option<Line>
+    ensures { result ≡ cue_edit (λ n. Edit.Asserted n true) (left rest.entry) }
+{
+    let cue = cue_number(&mut rest)?;
+    ended(rest, edit(Edit::Asserted { cue, on: true }))
+}
+
+/// `unassert n`
+pub(crate) fn unassert(mut rest: Tokens) -> Option<Line>
+    ensures { result ≡ cue_edit (λ n. Edit.Asserted n false) (left rest.entry) }
+{
+    let cue = cue_number(&mut rest)?;
+    ended(rest, edit(Edit::Asserted { cue, on: false }))
 }
 
 /// `follow n t` or `follow n off`

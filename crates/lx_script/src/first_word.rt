@@ -25,6 +25,8 @@ pub(crate) enum FirstWord {
     Unpart,
     Block,
     Unblock,
+    Assert,
+    Unassert,
     Follow,
     Label,
     Group,
@@ -38,7 +40,7 @@ pub(crate) enum FirstWord {
 }
 
 /// How the first words are spelled, in capitals.
-static SPELLINGS: [(&[u8], FirstWord); 26] = [
+static SPELLINGS: [(&[u8], FirstWord); 28] = [
     (b"GO", FirstWord::Go),
     (b"BACK", FirstWord::Back),
     (b"GOTO", FirstWord::Goto),
@@ -55,6 +57,8 @@ static SPELLINGS: [(&[u8], FirstWord); 26] = [
     (b"UNPART", FirstWord::Unpart),
     (b"BLOCK", FirstWord::Block),
     (b"UNBLOCK", FirstWord::Unblock),
+    (b"ASSERT", FirstWord::Assert),
+    (b"UNASSERT", FirstWord::Unassert),
     (b"FOLLOW", FirstWord::Follow),
     (b"LABEL", FirstWord::Label),
     (b"GROUP", FirstWord::Group),

@@ -9,7 +9,7 @@ ghost use Rattle.lx_script.specs.ReplyTexts.{count_words};
 use crate::cells::put_cells;
 use lx_base::{Level, Moment, UNIVERSE_SLOTS};
 use lx_io::{Sink, SinkFault, put_all};
-use lx_lex::put_count;
+use lx_lex::{put_count, put_count_and};
 
 /// Appends the line of a frame: `frame`, the count where there is one, the moment in hundredths of a second, the
 /// universe, and for each of its 512 slots that isn't 0, rising, `slot=value`. A fault is the sink's own, and then a
@@ -39,26 +39,19 @@ fn put_head<K: Sink>(
     ensures { Puts K.holds K.faults K.wants sink.old sink.new result
         (codes "frame" ++ (flat_map (λ word. 32 ∷ word) (count_words count) ++ (32 ∷ decimal m ++ 32 ∷ decimal universe))) }
 {
-    put_all(sink, b"frame")?;
-    put_count_before(count, sink)?;
-    put_number(m as u64, sink)?;
-    put_number(universe as u64, sink)
+    put_start(count, sink)?;
+    put_count_and(m as u64, b' ', sink)?;
+    put_count(universe as u64, sink)
 }
 
-/// Appends a space and the count, where there is one.
-fn put_count_before<K: Sink>(count: Option<u64>, sink: &mut K) -> Result<(), SinkFault>
-    ensures { Puts K.holds K.faults K.wants sink.old sink.new result (flat_map (λ word. 32 ∷ word) (count_words count)) }
+/// Appends `frame`, the count where there is one, and a space behind each.
+fn put_start<K: Sink>(count: Option<u64>, sink: &mut K) -> Result<(), SinkFault>
+    ensures { Puts K.holds K.faults K.wants sink.old sink.new result
+        (codes "frame" ++ (flat_map (λ word. 32 ∷ word) (count_words count) ++ 32 ∷ [])) }
 {
+    put_all(sink, b"frame ")?;
     match count {
-        Some(count) => put_number(count, sink),
+        Some(count) => put_count_and(count, b' ', sink),
         None => Ok(()),
     }
-}
-
-/// Appends a space and a whole number.
-fn put_number<K: Sink>(number: u64, sink: &mut K) -> Result<(), SinkFault>
-    ensures { Puts K.holds K.faults K.wants sink.old sink.new result (32 ∷ decimal number) }
-{
-    put_all(sink, b" ")?;
-    put_count(number, sink)
 }

@@ -1,6 +1,7 @@
 //! Lines of a script as they are read, and the lines that answer them.
 #![tactic(auto)]
 
+mod brief;
 mod cells;
 mod command;
 mod edits;
@@ -12,9 +13,8 @@ mod phrase;
 mod reply;
 mod rows;
 mod sentence;
-#[cfg(test)]
-mod tests;
 
+pub use brief::{Brief, Reading, read_brief};
 pub use cells::put_cells;
 pub use command::read_command;
 pub use frame::put_frame;

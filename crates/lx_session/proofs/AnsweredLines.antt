@@ -1,5 +1,6 @@
 -- A line that was attempted and replied to was answered.
-use Rattle.std.proofs.Common.{◌≡◌, ◌≤◌, ◌&&◌, ◌==◌, IsOk, ℕ, Bool, true, false, Option, Some, None, Result, Ok, Err, OnOk, List, ◌++◌, refl, sym, ap, ◌∙◌, subst, arith}
+use Rattle.std.proofs.Common.{◌≡◌, ◌≤◌, ◌&&◌, ◌==◌, IsOk, ℕ, Bool, true, false, Option, Some, None, Result, Ok, Err, OnOk, List, ◌++◌, refl}
+use Rattle.std.proofs.Common.{sym, ap, ◌∙◌, subst, arith}
 use Rattle.std.specs.Prelude.{is_some}
 use Rattle.lx_io.specs.declared.sink.SinkFault.{SinkFault}
 use Rattle.lx_io.specs.Puts.{Puts}
@@ -26,7 +27,13 @@ edit_of_line d d' None same w = let e = w.is in cc
 edit_of_line d d' (Some (lines.Command c)) same w =
     let is = w.is in
     let command : w.wanted ≡ c = cc in
-    record { command = w.wanted; means = ap (λ v. Some (lines.Command v)) (sym command); edit = w.edit; accepted = subst (λ v. IsOk (step v w.wanted)) same w.accepted }
+    record {
+      command = w.wanted;
+      means = ap (λ v. Some (lines.Command v)) (sym command);
+      edit = w.edit;
+      accepted =
+          subst (λ v. IsOk (step v w.wanted)) same w.accepted;
+    }
 edit_of_line d d' (Some (lines.Ticks k)) same w =
     let is = w.is in
     let tick : w.wanted ≡ commands.Tick = cc in
@@ -56,7 +63,8 @@ refused_then : (r : Option Refusal) (b : Bool) → (r ≡ None → b ≡ false) 
 refused_then None b none is = let no : b ≡ false = none refl in cc
 refused_then (Some x) b none is = refl
 
-goes_on : (all : Bool) (heard : List Command → Type 0) (s : Session) (meaning : Option Line) (turn : LineState) (console : Kept) (t : LineProgress all heard s (unattempted meaning) turn console) → next_of turn ≡ None
+goes_on : (all : Bool) (heard : List Command → Type 0) (s : Session) (meaning : Option Line) (turn : LineState) (console : Kept)
+    (t : LineProgress all heard s (unattempted meaning) turn console) → next_of turn ≡ None
     → GoesOn all heard s (after_attempts meaning (record { session = t.now; refusal = turn.refusal })) meaning t.wants
 goes_on all heard s meaning turn console t done =
     let r = finished t.now meaning turn.refusal in
@@ -65,11 +73,13 @@ goes_on all heard s meaning turn console t done =
       some = λ is. let lt = t.some is in let same = r.attempts in omega (arith, lt, same);
       by = λ places w.
           let same : command_of meaning ≡ command_of turn.meaning = ap command_of (sym t.meaning) in
-          let tried = t.by places (λ n above within. let is = r.attempts in w n above (omega (arith, is, within)) ∙ ap (λ m. t.wants && n == m) r.attempts) in
+          let tried = t.by places (λ n above within. let is = r.attempts in w n above (omega (arith, is, within))
+          ∙ ap (λ m. t.wants && n == m) r.attempts) in
           ap (after_attempts meaning) (tried ∙ ap (λ c. resumed places c turn.left turn.refusal t.now) same ∙ over places turn t.now done);
       at_edit = λ is every.
           let w = t.at_edit is every in
-          edit_of_line s.desk t.now.desk meaning (t.still (one_attempt t.now.desk meaning w) (refused_then turn.refusal t.wants t.not_yet is)) w;
+          edit_of_line s.desk t.now.desk meaning (t.still (one_attempt t.now.desk meaning w)
+          (refused_then turn.refusal t.wants t.not_yet is)) w;
       commands = t.commands;
       accepted = r.accepted ∙ t.accepted;
       desk = r.desk ∙ t.desk;
@@ -81,14 +91,19 @@ pub over_ok : {T E : Type 0} (r : Result T E) (P Q : Type 0) → (P → Q) → O
 over_ok (Ok x) P Q f p = f p
 over_ok (Err e) P Q f p = tt
 
-counts_are : (s t next : Session) (meaning meaning' : Option Line) (refusal : Option Refusal) (before after : Counts) → IsReplied t meaning refusal next → meaning' ≡ meaning → t.counts ≡ s.counts → s.counts ≡ before
+counts_are : (s t next : Session) (meaning meaning' : Option Line) (refusal : Option Refusal) (before after : Counts)
+    → IsReplied t meaning refusal next → meaning' ≡ meaning → t.counts ≡ s.counts → s.counts ≡ before
     → after ≡ counts_after t.desk before meaning' refusal → next.counts ≡ after
 counts_are s t next meaning meaning' refusal before after r same kept counted e =
-    let here : counts_after t.desk t.counts meaning refusal ≡ counts_after t.desk before meaning refusal = ap (λ (c : Counts). counts_after t.desk c meaning refusal) (kept ∙ counted) in
-    let there : counts_after t.desk before meaning' refusal ≡ counts_after t.desk before meaning refusal = ap (λ (m : Option Line). counts_after t.desk before m refusal) same in
+    let here : counts_after t.desk t.counts meaning refusal ≡ counts_after t.desk before meaning refusal =
+    ap (λ (c : Counts). counts_after t.desk c meaning refusal) (kept ∙ counted) in
+    let there : counts_after t.desk before meaning' refusal ≡ counts_after t.desk before meaning refusal =
+    ap (λ (m : Option Line). counts_after t.desk before m refusal) same in
     r.counts ∙ here ∙ sym (e ∙ there)
 
-pub answered : {K T : Type 0} (all : Bool) (heard : List Command → Type 0) (holds : K → Option (List ℕ)) (faults wants : K → ℕ) (sink sink' : K) (result : Result T SinkFault) (s : Session) (meaning : Option Line) (turn : LineState) (console : Kept) (before after : Tally)
+pub answered : {K T : Type 0} (all : Bool) (heard : List Command → Type 0) (holds : K → Option (List ℕ)) (faults wants : K → ℕ)
+    (sink sink' : K) (result : Result T SinkFault) (s : Session) (meaning : Option Line) (turn : LineState) (console : Kept)
+    (before after : Tally)
     → LineProgress all heard s (unattempted meaning) turn console → next_of turn ≡ None → s.counts ≡ counts_in before
     → ((d : Desk) → StandsFor d console → Puts holds faults wants sink sink' result (reply_to d turn.meaning turn.refusal))
     → ((d : Desk) → StandsFor d console → OnOk result (counts_in after ≡ counts_after d (counts_in before) turn.meaning turn.refusal))
@@ -104,5 +119,6 @@ answered all heard holds faults wants sink sink' result s meaning turn console b
       reply = reply_to t.now.desk meaning turn.refusal;
       text = r.text ∙ ap (λ v. v ++ reply_to t.now.desk meaning turn.refusal) t.text;
       puts = subst (λ m. Puts holds faults wants sink sink' result (reply_to t.now.desk m turn.refusal)) same (puts t.now.desk t.stands);
-      counts = over_ok result _ _ (λ e. counts_are s t.now (after_attempts meaning (record { session = t.now; refusal = turn.refusal })) meaning turn.meaning turn.refusal (counts_in before) (counts_in after) r same t.counts counted e) (counts t.now.desk t.stands);
+      counts = over_ok result _ _ (λ e. counts_are s t.now (after_attempts meaning (record { session = t.now; refusal = turn.refusal }))
+          meaning turn.meaning turn.refusal (counts_in before) (counts_in after) r same t.counts counted e) (counts t.now.desk t.stands);
     }

@@ -1,5 +1,6 @@
 -- The attempts of a session in order, and which of them want of memory refused.
-use Rattle.std.proofs.Common.{◌≡◌, ◌≢◌, ◌≤◌, ◌<◌, ℕ, zero, suc, ◌+◌, Bool, true, false, cond, ◌&&◌, ◌||◌, ◌==◌, Option, Some, None, Result, Ok, Err, List, [], ◌∷◌, ◌++◌, refl, sym, ap, ◌∙◌, subst, arith, append_assoc, append-nil}
+use Rattle.std.proofs.Common.{◌≡◌, ◌≢◌, ◌≤◌, ◌<◌, ℕ, zero, suc, ◌+◌, Bool, true, false, cond, ◌&&◌, ◌||◌, ◌==◌, Option, Some, None, Result}
+use Rattle.std.proofs.Common.{Ok, Err, List, [], ◌∷◌, ◌++◌, refl, sym, ap, ◌∙◌, subst, arith, append_assoc, append-nil}
 use Rattle.std.specs.Prelude.{fold}
 use Rattle.std.specs.List.{list_any}
 use Rattle.std.specs.Option.{option_map_or}
@@ -10,7 +11,8 @@ use Rattle.lx_spec.specs.declared.Line.{Line}
 use Rattle.lx_spec.specs.declared.Refusal.{Refusal}
 use Rattle.lx_spec.specs.declared.Refusal.TheVariants.{Memory}
 use Rattle.lx_spec.specs.Desk.{Desk, step}
-use Rattle.lx_spec.specs.Session.{Session, Attempt, answered, attempt, and_then, after_meaning, after_line, after_lines, command_of, count_of, attempts_of, attempts_for}
+use Rattle.lx_spec.specs.Session.{Session, Attempt, answered, attempt, and_then, after_meaning, after_line, after_lines, command_of}
+use Rattle.lx_spec.specs.Session.{count_of, attempts_of, attempts_for}
 use Rattle.lx_spec.specs.Script.{line_of}
 use Rattle.lx_spec.specs.RefusedPlaces.{MayWant, WantsAtEdits}
 use Rattle.lx_session.specs.Attempts.{WantsLast}
@@ -36,14 +38,18 @@ either false P f g = g refl
 pub has-append : (xs ys : List ℕ) (n : ℕ) → has_place (xs ++ ys) n ≡ (has_place xs n || has_place ys n)
 has-append [] ys n = refl
 has-append (x ∷ xs) ys n =
-    let at : (b : Bool) → (b || has_place (xs ++ ys) n) ≡ ((b || has_place xs n) || has_place ys n) = λ b. elim b as (λ b. (b || has_place (xs ++ ys) n) ≡ ((b || has_place xs n) || has_place ys n)) [ true ↦ refl | false ↦ has-append xs ys n ] in
+    let at : (b : Bool) → (b || has_place (xs ++ ys) n) ≡ ((b || has_place xs n) || has_place ys n) =
+    λ b. elim b as (λ b. (b || has_place (xs ++ ys) n) ≡ ((b || has_place xs n) || has_place ys n))
+    [ true ↦ refl | false ↦ has-append xs ys n ] in
     at (x == n)
 
 not_within : (m n : ℕ) (places : List ℕ) → AreWithin m places → m < n → has_place places n ≡ false
-not_within m n places within above = either (has_place places n) (has_place places n ≡ false) (λ on. let le = within n on in absurd (omega (arith, le, above))) (λ off. off)
+not_within m n places within above = either (has_place places n) (has_place places n ≡ false)
+    (λ on. let le = within n on in absurd (omega (arith, le, above))) (λ off. off)
 
 not_above : (m n : ℕ) (places : List ℕ) → AreAbove m places → n ≤ m → has_place places n ≡ false
-not_above m n places above le = either (has_place places n) (has_place places n ≡ false) (λ on. let lt = above n on in absurd (omega (arith, lt, le))) (λ off. off)
+not_above m n places above le = either (has_place places n) (has_place places n ≡ false)
+    (λ on. let lt = above n on in absurd (omega (arith, lt, le))) (λ off. off)
 
 -- the place of a line's last attempt, where want of memory refused it
 abbrev pub own_place : Bool → ℕ → List ℕ
@@ -58,7 +64,8 @@ own-has true to n =
 own-has false to n = refl
 
 -- places before a line, its own, and later ones: of its attempts want of memory refuses its own
-pub wants_own : (places more : List ℕ) (from to : ℕ) (wanted : Bool) → AreWithin from places → AreAbove to more → WantsLast ((places ++ own_place wanted to) ++ more) from to wanted
+pub wants_own : (places more : List ℕ) (from to : ℕ) (wanted : Bool) → AreWithin from places → AreAbove to more
+    → WantsLast ((places ++ own_place wanted to) ++ more) from to wanted
 wants_own places more from to wanted within above n lower upper =
     let a = not_within from n places within lower in
     let b = not_above to n more above upper in
@@ -75,25 +82,30 @@ own_is from to true n some own = let lt = some refl in let same : n ≡ to = gri
 own_is from to false n some own = cc
 
 -- the own place and later ones are above what was before
-pub own_above : (from to : ℕ) (wanted : Bool) (more : List ℕ) → from ≤ to → (wanted ≡ true → from < to) → AreAbove to more → AreAbove from (own_place wanted to ++ more)
+pub own_above : (from to : ℕ) (wanted : Bool) (more : List ℕ) → from ≤ to → (wanted ≡ true → from < to) → AreAbove to more
+    → AreAbove from (own_place wanted to ++ more)
 own_above from to wanted more le some above n has =
     either (has_place more n) (from < n)
     (λ on. let lt = above n on in omega (arith, le, lt))
     (λ off.
     let or_false : (x : Bool) → (x || false) ≡ x = λ x. elim x as (λ x. (x || false) ≡ x) [ true ↦ refl | false ↦ refl ] in
-    let own : (wanted && n == to) ≡ true = sym (has-append (own_place wanted to) more n ∙ ap (λ v. has_place (own_place wanted to) n || v) off ∙ or_false (has_place (own_place wanted to) n) ∙ own-has wanted to n) ∙ has in
+    let own : (wanted && n == to) ≡ true = sym
+    (has-append (own_place wanted to) more n ∙ ap (λ v. has_place (own_place wanted to) n || v) off
+    ∙ or_false (has_place (own_place wanted to) n) ∙ own-has wanted to n) ∙ has in
     own_is from to wanted n some own)
 
 own_upto : (to : ℕ) (wanted : Bool) (n : ℕ) → (wanted && n == to) ≡ true → n ≤ to
 own_upto to true n own = let same : n ≡ to = grind (arith, nat_tests, own) in omega (arith, same)
 own_upto to false n own = cc
 
-pub own_within : (from to : ℕ) (wanted : Bool) (places : List ℕ) → from ≤ to → AreWithin from places → AreWithin to (places ++ own_place wanted to)
+pub own_within : (from to : ℕ) (wanted : Bool) (places : List ℕ) → from ≤ to → AreWithin from places
+    → AreWithin to (places ++ own_place wanted to)
 own_within from to wanted places le within n has =
     either (has_place places n) (n ≤ to)
     (λ on. let up = within n on in omega (arith, le, up))
     (λ off.
-    let own : (wanted && n == to) ≡ true = sym (has-append places (own_place wanted to) n ∙ ap (λ v. v || has_place (own_place wanted to) n) off ∙ own-has wanted to n) ∙ has in
+    let own : (wanted && n == to) ≡ true = sym
+    (has-append places (own_place wanted to) n ∙ ap (λ v. v || has_place (own_place wanted to) n) off ∙ own-has wanted to n) ∙ has in
     own_upto to wanted n own)
 
 first : (a b : Bool) → (a && b) ≡ true → a ≡ true
@@ -101,7 +113,8 @@ first true b e = refl
 first false b e = cc
 
 -- what a line may want, by how the session went on by it
-pub may_want : (all : Bool) (heard : List Command → Type 0) (P : List ℕ) (s next : Session) (meaning : Option Line) (wanted : Bool) → all ≡ true → GoesOn all heard s next meaning wanted → WantsLast P s.attempts next.attempts wanted → MayWant P s meaning
+pub may_want : (all : Bool) (heard : List Command → Type 0) (P : List ℕ) (s next : Session) (meaning : Option Line) (wanted : Bool)
+    → all ≡ true → GoesOn all heard s next meaning wanted → WantsLast P s.attempts next.attempts wanted → MayWant P s meaning
 may_want all heard P s next meaning wanted every g w n lower upper has =
     let is = ap (λ t. t.attempts) (g.by P w) in
     let here : (wanted && n == next.attempts) ≡ true = sym (w n lower (omega (arith, upper, is))) ∙ has in
@@ -119,17 +132,21 @@ later_answer s c (Err e) = record { attempts = omega arith; text = refl }
 later_attempt : (places : List ℕ) (s : Session) (c : Command) → Later s (attempt places s c)
 later_attempt places s c = later_answer s c (cond (has_place places (s.attempts + 1)) (Err Memory) (step s.desk c))
 
-later_then : (s : Session) (tried : Attempt) (next : Session → Attempt) → Later s tried → ((t : Session) → Later t (next t)) → Later s (and_then tried next)
+later_then : (s : Session) (tried : Attempt) (next : Session → Attempt) → Later s tried → ((t : Session) → Later t (next t))
+    → Later s (and_then tried next)
 later_then s tried next l more =
-    let at : (r : Option Refusal) → Later s (option_map_or (λ refusal. tried) r (next tried.session)) = λ r. elim r as (λ r. Later s (option_map_or (λ refusal. tried) r (next tried.session))) [
-      | None ↦ let m = more tried.session in record { attempts = let a = l.attempts in let b = m.attempts in omega (arith, a, b); text = m.text ∙ l.text }
+    let at : (r : Option Refusal) → Later s (option_map_or (λ refusal. tried) r (next tried.session)) =
+    λ r. elim r as (λ r. Later s (option_map_or (λ refusal. tried) r (next tried.session))) [
+      | None ↦ let m = more tried.session in record
+          { attempts = let a = l.attempts in let b = m.attempts in omega (arith, a, b); text = m.text ∙ l.text }
       | Some e ↦ l
     ] in
     at tried.refusal
 
 later_attempts : (places : List ℕ) (c : Command) (n : ℕ) (s : Session) → Later s (attempts_of places c n s)
 later_attempts places c zero s = record { attempts = omega arith; text = refl }
-later_attempts places c (suc n) s = later_then s (attempt places s c) (attempts_of places c n) (later_attempt places s c) (later_attempts places c n)
+later_attempts places c (suc n) s = later_then s (attempt places s c) (attempts_of places c n) (later_attempt places s c)
+    (later_attempts places c n)
 
 later_for : (places : List ℕ) (c : Option Command) (n : ℕ) (s : Session) → Later s (attempts_for places c n s)
 later_for places None n s = record { attempts = omega arith; text = refl }
@@ -173,9 +190,11 @@ wants_nothing places s (line ∷ script) within =
     )
 
 -- and what lines one after another want
-pub wants-append : (places : List ℕ) (s : Session) (xs ys : List (List ℕ)) → WantsAtEdits places s xs → WantsAtEdits places (after_lines places s xs) ys → WantsAtEdits places s (xs ++ ys)
+pub wants-append : (places : List ℕ) (s : Session) (xs ys : List (List ℕ)) → WantsAtEdits places s xs
+    → WantsAtEdits places (after_lines places s xs) ys → WantsAtEdits places s (xs ++ ys)
 wants-append places s [] ys a b = b
 wants-append places s (x ∷ xs) ys a b = (a.0, wants-append places (after_line places s x) xs ys a.1 b)
 
-pub lines-append : (places : List ℕ) (s : Session) (xs ys : List (List ℕ)) → after_lines places s (xs ++ ys) ≡ after_lines places (after_lines places s xs) ys
+pub lines-append : (places : List ℕ) (s : Session) (xs ys : List (List ℕ))
+    → after_lines places s (xs ++ ys) ≡ after_lines places (after_lines places s xs) ys
 lines-append places s xs ys = fold-append (after_line places) s xs ys

@@ -1,5 +1,7 @@
 -- What a line's answer comes to, by how it ended.
-use Rattle.std.proofs.Common.{◌≡◌, ◌⊎◌, inl, inr, ℕ, zero, suc, ◌+◌, Bool, true, false, not, Option, Some, None, Result, Ok, Err, IfOk, OnOk, OnErr, IsErr, List, [], ◌∷◌, ◌++◌, length, refl, sym, ap, ◌∙◌, subst, arith, append-nil, length-append, take}
+use Rattle.std.proofs.Common.{◌≡◌, ◌⊎◌, inl, inr, ℕ, zero, suc, ◌+◌, Bool, true, false, not, Option, Some, None, Result, Ok, Err, IfOk}
+use Rattle.std.proofs.Common.{OnOk, OnErr, IsErr, List, [], ◌∷◌, ◌++◌, length, refl, sym, ap, ◌∙◌, subst, arith, append-nil, length-append}
+use Rattle.std.proofs.Common.{take}
 use Rattle.std.specs.Result.{IsErrAnd}
 use Rattle.std.specs.Io.KnownBytes.{Appends, Keeps}
 use Rattle.std.proofs.KnownBytes.{Keeps-trans}
@@ -26,12 +28,14 @@ not_yes : (b : Bool) → false ≡ not b → b ≡ true
 not_yes true e = refl
 not_yes false e = cc
 
-goes_on_by : (result : Result Bool SinkFault) (meaning : Option Line) (b : Bool) → result ≡ Ok b → b ≡ true → IfOk result (λ more. more ≡ not (is_quit meaning)) → is_quit meaning ≡ false
+goes_on_by : (result : Result Bool SinkFault) (meaning : Option Line) (b : Bool) → result ≡ Ok b → b ≡ true
+    → IfOk result (λ more. more ≡ not (is_quit meaning)) → is_quit meaning ≡ false
 goes_on_by result meaning b is on quit =
     let more : b ≡ not (is_quit meaning) = subst (λ (r : Result Bool SinkFault). IfOk r (λ more. more ≡ not (is_quit meaning))) is quit in
     not_not (is_quit meaning) (sym on ∙ more)
 
-is_quit_by : (result : Result Bool SinkFault) (meaning : Option Line) (b : Bool) → result ≡ Ok b → b ≡ false → IfOk result (λ more. more ≡ not (is_quit meaning)) → is_quit meaning ≡ true
+is_quit_by : (result : Result Bool SinkFault) (meaning : Option Line) (b : Bool) → result ≡ Ok b → b ≡ false
+    → IfOk result (λ more. more ≡ not (is_quit meaning)) → is_quit meaning ≡ true
 is_quit_by result meaning b is off quit =
     let more : b ≡ not (is_quit meaning) = subst (λ (r : Result Bool SinkFault). IfOk r (λ more. more ≡ not (is_quit meaning))) is quit in
     not_yes (is_quit meaning) (sym off ∙ more)
@@ -47,7 +51,8 @@ quit_is (Some (lines.SheetOf n)) q = cc
 quit_is (Some lines.Quit) q = refl
 quit_is (Some lines.Blank) q = cc
 
-quit_stays : (all : Bool) (heard : List Command → Type 0) (s next : Session) (meaning : Option Line) (wants : Bool) → GoesOn all heard s next meaning wants → is_quit meaning ≡ true → s ≡ next
+quit_stays : (all : Bool) (heard : List Command → Type 0) (s next : Session) (meaning : Option Line) (wants : Bool)
+    → GoesOn all heard s next meaning wants → is_quit meaning ≡ true → s ≡ next
 quit_stays all heard s next meaning wants g q =
     let places = own_place wants next.attempts in
     ap (after_meaning places s) (sym (quit_is meaning q)) ∙ g.by places (λ n above within. own-has wants next.attempts n)
@@ -72,8 +77,10 @@ record QuitAnswer (heard : List Command → Type 0) (s : Session) (console : Kep
   listened : heard []
   none : reply ≡ []
 
-quit_answer : {K : Type 0} (all : Bool) (heard : List Command → Type 0) (holds : K → Option (List ℕ)) (faults wants : K → ℕ) (sink sink' : K) (result : Result Bool SinkFault) (s : Session) (meaning : Option Line) (console : Kept) (tally : Tally)
-    → is_quit meaning ≡ true → (a : LineAnswer all heard holds faults wants sink sink' result s meaning console tally) → QuitAnswer heard s console a.reply
+quit_answer : {K : Type 0} (all : Bool) (heard : List Command → Type 0) (holds : K → Option (List ℕ)) (faults wants : K → ℕ)
+    (sink sink' : K) (result : Result Bool SinkFault) (s : Session) (meaning : Option Line) (console : Kept) (tally : Tally)
+    → is_quit meaning ≡ true → (a : LineAnswer all heard holds faults wants sink sink' result s meaning console tally)
+    → QuitAnswer heard s console a.reply
 quit_answer all heard holds faults wants sink sink' result s meaning console tally q a =
     let same = quit_stays all heard s a.next meaning a.wanted a.goes_on q in
     let nothing : a.goes_on.commands ≡ [] = same_after s.accepted a.goes_on.commands (ap (λ t. t.accepted) same ∙ a.goes_on.accepted) in
@@ -83,31 +90,40 @@ quit_answer all heard holds faults wants sink sink' result s meaning console tal
       none = same_after s.text a.reply (ap (λ t. t.text) same ∙ a.text);
     }
 
-quit_counts : {K : Type 0} (all : Bool) (heard : List Command → Type 0) (holds : K → Option (List ℕ)) (faults wants : K → ℕ) (sink sink' : K) (result : Result Bool SinkFault) (s : Session) (meaning : Option Line) (console : Kept) (tally : Tally) (b : Bool)
-    → result ≡ Ok b → is_quit meaning ≡ true → LineAnswer all heard holds faults wants sink sink' result s meaning console tally → s.counts ≡ counts_in tally
+quit_counts : {K : Type 0} (all : Bool) (heard : List Command → Type 0) (holds : K → Option (List ℕ)) (faults wants : K → ℕ)
+    (sink sink' : K) (result : Result Bool SinkFault) (s : Session) (meaning : Option Line) (console : Kept) (tally : Tally) (b : Bool)
+    → result ≡ Ok b → is_quit meaning ≡ true → LineAnswer all heard holds faults wants sink sink' result s meaning console tally
+    → s.counts ≡ counts_in tally
 quit_counts all heard holds faults wants sink sink' result s meaning console tally b is q a =
     ap (λ t. t.counts) (quit_stays all heard s a.next meaning a.wanted a.goes_on q)
     ∙ subst (λ (r : Result Bool SinkFault). OnOk r (a.next.counts ≡ counts_in tally)) is a.counts
 
-quit_keeps : {K : Type 0} (all : Bool) (heard : List Command → Type 0) (holds : K → Option (List ℕ)) (faults wants : K → ℕ) (sink sink' : K) (result : Result Bool SinkFault) (s : Session) (meaning : Option Line) (console : Kept) (tally : Tally) (b : Bool)
-    → result ≡ Ok b → is_quit meaning ≡ true → LineAnswer all heard holds faults wants sink sink' result s meaning console tally → Keeps (holds sink) (holds sink')
+quit_keeps : {K : Type 0} (all : Bool) (heard : List Command → Type 0) (holds : K → Option (List ℕ)) (faults wants : K → ℕ) (sink sink' : K)
+    (result : Result Bool SinkFault) (s : Session) (meaning : Option Line) (console : Kept) (tally : Tally) (b : Bool)
+    → result ≡ Ok b → is_quit meaning ≡ true → LineAnswer all heard holds faults wants sink sink' result s meaning console tally
+    → Keeps (holds sink) (holds sink')
 quit_keeps all heard holds faults wants sink sink' result s meaning console tally b is q a =
     let none = (quit_answer all heard holds faults wants sink sink' result s meaning console tally q a).none in
     let whole = subst (λ (r : Result Bool SinkFault). OnOk r (Appends (holds sink) (holds sink') a.reply)) is a.puts.whole in
     keeps_at (holds sink) (holds sink') (subst (λ (t : List ℕ). Appends (holds sink) (holds sink') t) none whole)
 
 -- and where the sink failed at it, nothing was written either
-quit_fails : {K : Type 0} (all : Bool) (heard : List Command → Type 0) (holds : K → Option (List ℕ)) (faults wants : K → ℕ) (sink sink' : K) (result : Result Bool SinkFault) (s : Session) (meaning : Option Line) (console : Kept) (tally : Tally) (fault : SinkFault)
-    → result ≡ Err fault → is_quit meaning ≡ true → LineAnswer all heard holds faults wants sink sink' result s meaning console tally → Keeps (holds sink) (holds sink')
+quit_fails : {K : Type 0} (all : Bool) (heard : List Command → Type 0) (holds : K → Option (List ℕ)) (faults wants : K → ℕ) (sink sink' : K)
+    (result : Result Bool SinkFault) (s : Session) (meaning : Option Line) (console : Kept) (tally : Tally) (fault : SinkFault)
+    → result ≡ Err fault → is_quit meaning ≡ true → LineAnswer all heard holds faults wants sink sink' result s meaning console tally
+    → Keeps (holds sink) (holds sink')
 quit_fails all heard holds faults wants sink sink' result s meaning console tally fault is q a =
     let none = (quit_answer all heard holds faults wants sink sink' result s meaning console tally q a).none in
     let part = subst (λ (r : Result Bool SinkFault). OnErr r (AppendsFront (holds sink) (holds sink') a.reply)) is a.puts.part in
-    let front = AppendsFront-is (holds sink) (holds sink') [] (subst (λ (t : List ℕ). AppendsFront (holds sink) (holds sink') t) none part) in
+    let front = AppendsFront-is (holds sink) (holds sink') []
+    (subst (λ (t : List ℕ). AppendsFront (holds sink) (holds sink') t) none part) in
     keeps_at (holds sink) (holds sink') (subst (λ (t : List ℕ). Appends (holds sink) (holds sink') t) (front_at front.0) front.1)
 
 -- the line was answered, and more is to come
-pub replied : {K : Type 0} (all : Bool) (heard : List Command → Type 0) (holds : K → Option (List ℕ)) (faults wants : K → ℕ) (sink sink' : K) (result : Result Bool SinkFault) (before console : Kept) (counted tally : Tally) (meaning : Option Line) (b : Bool)
-    → result ≡ Ok b → b ≡ true → IfOk result (λ more. more ≡ not (is_quit meaning)) → FromSession before counted (λ s. LineAnswer all heard holds faults wants sink sink' result s meaning console tally)
+pub replied : {K : Type 0} (all : Bool) (heard : List Command → Type 0) (holds : K → Option (List ℕ)) (faults wants : K → ℕ)
+    (sink sink' : K) (result : Result Bool SinkFault) (before console : Kept) (counted tally : Tally) (meaning : Option Line) (b : Bool)
+    → result ≡ Ok b → b ≡ true → IfOk result (λ more. more ≡ not (is_quit meaning))
+    → FromSession before counted (λ s. LineAnswer all heard holds faults wants sink sink' result s meaning console tally)
     → ReplyOutcome all heard (holds sink) (holds sink') before console counted tally meaning (Ok true)
 replied all heard holds faults wants sink sink' result before console counted tally meaning b is on quit answer =
     let more = goes_on_by result meaning b is on quit in (
@@ -123,8 +139,12 @@ replied all heard holds faults wants sink sink' result before console counted ta
     )
 
 -- the line is `quit`, and the sink was flushed
-pub ended : {K : Type 0} (all : Bool) (heard : List Command → Type 0) (holds : K → Option (List ℕ)) (faults wants : K → ℕ) (sink sink' : K) (held : Option (List ℕ)) (result : Result Bool SinkFault) (before console : Kept) (counted tally : Tally) (meaning : Option Line) (b : Bool)
-    → result ≡ Ok b → b ≡ false → IfOk result (λ more. more ≡ not (is_quit meaning)) → FromSession before counted (λ s. LineAnswer all heard holds faults wants sink sink' result s meaning console tally) → Keeps (holds sink') held
+pub ended : {K : Type 0} (all : Bool) (heard : List Command → Type 0) (holds : K → Option (List ℕ)) (faults wants : K → ℕ) (sink sink' : K)
+    (held : Option (List ℕ)) (result : Result Bool SinkFault) (before console : Kept) (counted tally : Tally) (meaning : Option Line)
+    (b : Bool)
+    → result ≡ Ok b → b ≡ false → IfOk result (λ more. more ≡ not (is_quit meaning))
+    → FromSession before counted (λ s. LineAnswer all heard holds faults wants sink sink' result s meaning console tally)
+    → Keeps (holds sink') held
     → ReplyOutcome all heard (holds sink) held before console counted tally meaning (Ok false)
 ended all heard holds faults wants sink sink' held result before console counted tally meaning b is off quit answer kept =
     let q = is_quit_by result meaning b is off quit in (
@@ -134,7 +154,8 @@ ended all heard holds faults wants sink sink' held result before console counted
           let e = quit_answer all heard holds faults wants sink sink' result s meaning console tally q a in
           record {
             same = record {
-              kept = Keeps-trans (holds sink) (holds sink') held (quit_keeps all heard holds faults wants sink sink' result s meaning console tally b is q a) kept;
+              kept = Keeps-trans (holds sink) (holds sink') held
+                  (quit_keeps all heard holds faults wants sink sink' result s meaning console tally b is q a) kept;
               stands = e.stands;
               listened = e.listened;
             };
@@ -143,8 +164,12 @@ ended all heard holds faults wants sink sink' held result before console counted
     )
 
 -- or the flush failed
-pub ended_unflushed : {K : Type 0} (all : Bool) (heard : List Command → Type 0) (holds : K → Option (List ℕ)) (faults wants : K → ℕ) (sink sink' : K) (held : Option (List ℕ)) (result : Result Bool SinkFault) (before console : Kept) (counted tally : Tally) (meaning : Option Line) (b : Bool) (fault : SinkFault)
-    → result ≡ Ok b → b ≡ false → IfOk result (λ more. more ≡ not (is_quit meaning)) → FromSession before counted (λ s. LineAnswer all heard holds faults wants sink sink' result s meaning console tally) → Keeps (holds sink') held
+pub ended_unflushed : {K : Type 0} (all : Bool) (heard : List Command → Type 0) (holds : K → Option (List ℕ)) (faults wants : K → ℕ)
+    (sink sink' : K) (held : Option (List ℕ)) (result : Result Bool SinkFault) (before console : Kept) (counted tally : Tally)
+    (meaning : Option Line) (b : Bool) (fault : SinkFault)
+    → result ≡ Ok b → b ≡ false → IfOk result (λ more. more ≡ not (is_quit meaning))
+    → FromSession before counted (λ s. LineAnswer all heard holds faults wants sink sink' result s meaning console tally)
+    → Keeps (holds sink') held
     → ReplyOutcome all heard (holds sink) held before console counted tally meaning (Err fault)
 ended_unflushed all heard holds faults wants sink sink' held result before console counted tally meaning b fault is off quit answer kept =
     let q = is_quit_by result meaning b is off quit in
@@ -156,15 +181,26 @@ bool_or true P f g = f refl
 bool_or false P f g = g refl
 
 -- the sink failed within the reply
-pub unwritten : {K : Type 0} (all : Bool) (heard : List Command → Type 0) (holds : K → Option (List ℕ)) (faults wants : K → ℕ) (sink sink' : K) (result : Result Bool SinkFault) (before console : Kept) (counted tally : Tally) (meaning : Option Line) (fault : SinkFault)
-    → result ≡ Err fault → FromSession before counted (λ s. LineAnswer all heard holds faults wants sink sink' result s meaning console tally)
+pub unwritten : {K : Type 0} (all : Bool) (heard : List Command → Type 0) (holds : K → Option (List ℕ)) (faults wants : K → ℕ)
+    (sink sink' : K) (result : Result Bool SinkFault) (before console : Kept) (counted tally : Tally) (meaning : Option Line)
+    (fault : SinkFault)
+    → result ≡ Err fault → FromSession before counted
+    (λ s. LineAnswer all heard holds faults wants sink sink' result s meaning console tally)
     → ReplyOutcome all heard (holds sink) (holds sink') before console counted tally meaning (Err fault)
 unwritten all heard holds faults wants sink sink' result before console counted tally meaning fault is answer s stands counts =
     let a = answer s stands counts in
-    bool_or (is_quit meaning) ((Untouched heard (holds sink) (holds sink') s console × (is_quit meaning ≡ true)) ⊎ ReplyPrefix all heard (holds sink) (holds sink') s meaning console)
+    bool_or (is_quit meaning) ((Untouched heard (holds sink) (holds sink') s console × (is_quit meaning ≡ true))
+    ⊎ ReplyPrefix all heard (holds sink) (holds sink') s meaning console)
     (λ on.
     let e = quit_answer all heard holds faults wants sink sink' result s meaning console tally on a in
-    inl (record { kept = quit_fails all heard holds faults wants sink sink' result s meaning console tally fault is on a; stands = e.stands; listened = e.listened }, on))
+    inl (
+      record {
+        kept = quit_fails all heard holds faults wants sink sink' result s meaning console tally fault is on a;
+        stands = e.stands;
+        listened = e.listened;
+      },
+      on,
+    ))
     (λ off. inr (record {
       reply = a.reply;
       line = record { more = off; next = a.next; wanted = a.wanted; goes_on = a.goes_on; stands = a.stands; text = a.text };
@@ -172,6 +208,7 @@ unwritten all heard holds faults wants sink sink' result before console counted 
     }))
 
 -- what holds of a fault holds of the answer that `?` makes of it
-pub through : {T : Type 0} (P : Result T SinkFault → Type 0) (r : Result T SinkFault) (fault : SinkFault) → IsErr r × IsErrAnd r (λ own. own ≡ fault) → P (Err fault) → P r
+pub through : {T : Type 0} (P : Result T SinkFault → Type 0) (r : Result T SinkFault) (fault : SinkFault) → IsErr r
+    × IsErrAnd r (λ own. own ≡ fault) → P (Err fault) → P r
 through P (Ok x) fault is p = absurd is.1
 through P (Err own) fault is p = subst (λ v. P (Err v)) (sym is.1) p

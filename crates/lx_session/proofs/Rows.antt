@@ -19,17 +19,25 @@ absent None show n e = refl
 absent (Some cue) show n e = absurd cc
 
 reply_at : (d : Desk) (n : ℕ) (refusal : Option Refusal) (b : Bool) → is_some (cue_of d.show n) ≡ b
-    → reply_to d (Some (lines.SheetOf n)) refusal ≡ (if b then with_text (tried_at d (record { ok = 0; refused = 0; bad = 0 }) refusal).session (row_text n (row_of d.show n)) else refused_reply (tried_at d (record { ok = 0; refused = 0; bad = 0 }) refusal).session (AbsentCue n)).text
-reply_at d n refusal b is = ap (λ b. (if b then with_text (tried_at d (record { ok = 0; refused = 0; bad = 0 }) refusal).session (row_text n (row_of d.show n)) else refused_reply (tried_at d (record { ok = 0; refused = 0; bad = 0 }) refusal).session (AbsentCue n)).text) is
+    → reply_to d (Some (lines.SheetOf n)) refusal
+    ≡ (if b then with_text (tried_at d (record { ok = 0; refused = 0; bad = 0 }) refusal).session (row_text n (row_of d.show n)) else
+    refused_reply (tried_at d (record { ok = 0; refused = 0; bad = 0 }) refusal).session (AbsentCue n)).text
+reply_at d n refusal b is = ap (λ b. (if b then with_text (tried_at d (record { ok = 0; refused = 0; bad = 0 }) refusal).session
+    (row_text n (row_of d.show n)) else refused_reply (tried_at d (record { ok = 0; refused = 0; bad = 0 }) refusal).session
+    (AbsentCue n)).text) is
 
 -- the console's show is the desk's
 same_show : (d : Desk) (console : Kept) → StandsFor d console → console.show ≡ d.show
 same_show d console stands = ap (λ k. k.show) stands.same
 
-at_desk : (d : Desk) (console : Kept) (n : ℕ) (o : Option (List ℕ)) → StandsFor d console → o ≡ option_map (λ (cue : Cue). row_of console.show n) (cue_of console.show n) → o ≡ option_map (λ (cue : Cue). row_of d.show n) (cue_of d.show n)
-at_desk d console n o stands is = is ∙ ap (λ (show : Show). option_map (λ (cue : Cue). row_of show n) (cue_of show n)) (same_show d console stands)
+at_desk : (d : Desk) (console : Kept) (n : ℕ) (o : Option (List ℕ)) → StandsFor d console
+    → o ≡ option_map (λ (cue : Cue). row_of console.show n) (cue_of console.show n)
+    → o ≡ option_map (λ (cue : Cue). row_of d.show n) (cue_of d.show n)
+at_desk d console n o stands is = is ∙ ap (λ (show : Show). option_map (λ (cue : Cue). row_of show n) (cue_of show n))
+    (same_show d console stands)
 
-pub absent_reply : (d : Desk) (console : Kept) (n : ℕ) (o : Option (List ℕ)) (refusal : Option Refusal) → StandsFor d console → o ≡ option_map (λ (cue : Cue). row_of console.show n) (cue_of console.show n) → o ≡ None
+pub absent_reply : (d : Desk) (console : Kept) (n : ℕ) (o : Option (List ℕ)) (refusal : Option Refusal) → StandsFor d console
+    → o ≡ option_map (λ (cue : Cue). row_of console.show n) (cue_of console.show n) → o ≡ None
     → refused_text (AbsentCue n) ≡ reply_to d (Some (lines.SheetOf n)) refusal
 absent_reply d console n o refusal stands is none =
     let off = absent (cue_of d.show n) d.show n (sym none ∙ at_desk d console n o stands is) in

@@ -8,7 +8,8 @@ use Rattle.lx_spec.specs.ShowText.{show_text}
 use Rattle.lx_spec.specs.Kept.{Kept}
 use Rattle.lx_console.specs.Standing.{StandsFor}
 
-pub frame_shown : (d : Desk) (console : Kept) (m u : ℕ) (slots : List ℕ) → StandsFor d console → m ≡ console.playback.moment → slots ≡ frame d u → frame_text [] m u slots ≡ frame_text [] d.playback.moment u (frame d u)
+pub frame_shown : (d : Desk) (console : Kept) (m u : ℕ) (slots : List ℕ) → StandsFor d console → m ≡ console.playback.moment
+    → slots ≡ frame d u → frame_text [] m u slots ≡ frame_text [] d.playback.moment u (frame d u)
 frame_shown d console m u slots stands at is =
     ap (λ n. frame_text [] n u slots) (at ∙ ap (λ k. k.playback.moment) stands.same) ∙ ap (frame_text [] d.playback.moment u) is
 

@@ -1,3 +1,4 @@
+pub mod Known
 pub mod LineState
 pub mod Attempts
 pub mod LineProgress
@@ -6,3 +7,4 @@ pub mod LineAnswer
 pub mod LineOutcome
 pub mod SessionFaults
 pub mod SessionOutcome
+pub mod Meanings

@@ -1,14 +1,16 @@
 -- How far the attempts at a line's command have come.
-use Rattle.std.specs.Prelude.{◌≡◌, ◌≤◌, ◌<◌, ℕ, Bool, true, false, Option, Some, None, List, ◌++◌, IsOk, is_some}
+use Rattle.std.specs.Prelude.{◌≡◌, ◌≤◌, ◌<◌, ◌-◌, ℕ, Bool, true, false, Option, Some, None, List, [], ◌∷◌, ◌++◌, IsOk, IsOkAnd, is_some}
 use Rattle.std.specs.Option.{option_map_or}
 use Rattle.lx_spec.specs.declared.Command.{Command}
+use Rattle.lx_spec.specs.declared.Command.TheVariants as commands
 use Rattle.lx_spec.specs.declared.Refusal.{Refusal}
 use Rattle.lx_spec.specs.Desk.{Desk, step}
 use Rattle.lx_spec.specs.Kept.{Kept}
 use Rattle.lx_spec.specs.Session.{Session, Attempt, attempts_for, command_of}
 use Rattle.lx_spec.specs.RefusedPlaces.{is_edit}
 use Rattle.lx_console.specs.Standing.{StandsFor}
-use Rattle.lx_session.specs.LineState.{LineState}
+use Rattle.lx_console.specs.Ticks.{after_ticks}
+use Rattle.lx_session.specs.LineState.{LineState, next_of}
 use Rattle.lx_session.specs.Attempts.{WantsLast, after_commands}
 
 -- the attempts that are left, unless one was refused
@@ -45,3 +47,12 @@ pub record LineProgress (all : Bool) (heard : List Command → Type 0) (s : Sess
   pub fresh : turn.left ≡ old.left → now.desk ≡ s.desk
   pub at_edit : wants ≡ true → all ≡ true → IsWanted now.desk (command_of old.meaning)
   pub still : old.left ≤ 1 → is_some turn.refusal ≡ true → now.desk ≡ s.desk
+
+-- Some attempts at ticks were made at once and accepted, if any; each may be taken as heard of.
+pub record HasPassed (heard : List Command → Type 0) (before after : LineState) (old new : Kept) : Type 0 where
+  pub ticks : ℕ
+  pub within : ticks ≤ before.left
+  pub tick : 0 < ticks → next_of before ≡ Some commands.Tick
+  pub listened : 0 < ticks → heard (commands.Tick ∷ [])
+  pub turn : after ≡ record before { left = before.left - ticks }
+  pub stands : (d : Desk) → StandsFor d old → IsOkAnd (after_ticks ticks d) (λ next. StandsFor next new)

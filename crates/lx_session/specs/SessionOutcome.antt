@@ -1,5 +1,5 @@
 -- What a session over the lines of a script comes to.
-use Rattle.std.specs.Prelude.{◌≡◌, ◌≤◌, ◌<◌, ℕ, ◌+◌, Bool, true, Option, IfSome, IfErr, Result, Ok, Err, List, ◌++◌, length}
+use Rattle.std.specs.Prelude.{◌≡◌, ◌≤◌, ◌<◌, ℕ, ◌+◌, Bool, true, IfSome, IfErr, Result, Ok, Err, List, ◌++◌, length}
 use Rattle.std.specs.Io.KnownBytes.{Appends}
 use Rattle.lx_base.specs.declared.TheConstants.{INPUT_BYTES}
 use Rattle.lx_io.specs.Causes.{Rose}
@@ -15,6 +15,7 @@ use Rattle.lx_spec.specs.Session.{replies, accepted, tallied, after_first, bytes
 use Rattle.lx_spec.specs.RefusedPlaces.{PlacesAreEdits}
 use Rattle.lx_console.specs.Standing.{StandsFor}
 use Rattle.lx_session.specs.Attempts.{after_commands}
+use Rattle.lx_session.specs.Known.{Known}
 use Rattle.lx_session.specs.declared.fault.SessionFault.{SessionFault}
 use Rattle.lx_session.specs.declared.fault.SessionFault.TheVariants.{ReadFault, WriteFault, InputTooLong, Memory}
 use Rattle.lx_session.specs.declared.tally.Tally.{Tally}
@@ -33,7 +34,7 @@ pub record HasDone (heard : List Command → Type 0) (d : Desk) (commands : List
 
 -- The whole script was answered from a desk on. Where all commands are admitted, want of memory refused nothing but edits that the desk
 -- accepts.
-pub record WholeScript (all : Bool) (heard : List Command → Type 0) (d : Desk) (script : List (List ℕ)) (held held' : Option (List ℕ))
+pub record WholeScript (all : Bool) (heard : List Command → Type 0) (d : Desk) (script : List (List ℕ)) (held held' : Known)
     (console : Kept) (tally : Tally) : Type 0 where
   pub places : List ℕ
   pub wants : all ≡ true → PlacesAreEdits d script places
@@ -42,7 +43,7 @@ pub record WholeScript (all : Bool) (heard : List Command → Type 0) (d : Desk)
   pub done : HasDone heard d (accepted d script places) console
 
 -- So many lines were handed out and done, and a prefix of the text that answers them was written.
-pub record ScriptPrefix (all : Bool) (heard : List Command → Type 0) (d : Desk) (bytes : List ℕ) (unread held held' : Option (List ℕ))
+pub record ScriptPrefix (all : Bool) (heard : List Command → Type 0) (d : Desk) (bytes : List ℕ) (unread held held' : Known)
     (console : Kept) : Type 0 where
   pub places : List ℕ
   pub wants : all ≡ true → PlacesAreEdits d (lines_of bytes) places
@@ -53,7 +54,7 @@ pub record ScriptPrefix (all : Bool) (heard : List Command → Type 0) (d : Desk
 
 -- The lines that were taken whole, within the limit of the input, were done and wholly answered. `left` is what the source has left.
 pub record TakenScript (all : Bool) (heard : List Command → Type 0) (d : Desk) (before : ℕ) (bytes : List ℕ)
-    (left held held' : Option (List ℕ)) (console : Kept) : Type 0 where
+    (left held held' : Known) (console : Kept) : Type 0 where
   pub places : List ℕ
   pub wants : all ≡ true → PlacesAreEdits d (lines_of bytes) places
   pub cut : CutOff before bytes left
@@ -61,8 +62,8 @@ pub record TakenScript (all : Bool) (heard : List Command → Type 0) (d : Desk)
   pub done : HasDone heard d (after_first d (lines_of bytes) places cut.lines).accepted console
 
 -- how a session ended by a fault: the sink's, or the script couldn't be read on
-abbrev pub FaultySession : Bool → (List Command → Type 0) → Desk → ℕ → List ℕ → Option (List ℕ) → Option (List ℕ) → Option (List ℕ)
-    → Option (List ℕ) → Kept → SessionFault → Type 0
+abbrev pub FaultySession : Bool → (List Command → Type 0) → Desk → ℕ → List ℕ → (unread left held held' : Known) → Kept
+    → SessionFault → Type 0
 FaultySession all heard d before bytes unread left held held' console ReadFault =
     TakenScript all heard d before bytes left held held' console
 FaultySession all heard d before bytes unread left held held' console InputTooLong =
@@ -72,8 +73,8 @@ FaultySession all heard d before bytes unread left held held' console Memory = S
 
 -- Of a script of these bytes, before which so many bytes of the input were taken. `unread` are the bytes that weren't handed out, and
 -- `left` those that the source has left.
-abbrev pub SessionOutcome : Bool → (List Command → Type 0) → Desk → ℕ → List ℕ → Option (List ℕ) → Option (List ℕ) → Option (List ℕ)
-    → Option (List ℕ) → Kept → Result Tally SessionFault → Type 0
+abbrev pub SessionOutcome : Bool → (List Command → Type 0) → Desk → ℕ → List ℕ → (unread left held held' : Known) → Kept
+    → Result Tally SessionFault → Type 0
 SessionOutcome all heard d before bytes unread left held held' console (Ok tally) =
     WholeScript all heard d (lines_of bytes) held held' console tally
 SessionOutcome all heard d before bytes unread left held held' console (Err fault) =

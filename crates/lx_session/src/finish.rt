@@ -10,11 +10,11 @@ ghost use Rattle.lx_spec.specs.ShowText.{show_text};
 ghost use Rattle.lx_script.specs.ReplyTexts.{reply_text};
 ghost use Rattle.lx_console.specs.Slots.{universe as universe_in};
 ghost use Rattle.lx_console.specs.Standing.{StandsFor};
-ghost use Rattle.lx_spec.specs.ValidEdit.{ValidLine};
 ghost use Rattle.lx_spec.specs.Session.{is_quit};
 ghost use Rattle.lx_session.specs.LineState.{next_of};
 ghost use Rattle.lx_session.specs.LineReply.{reply_to, reply_for, counts_after, counts_in, counted, HasRoom, HasOneMore};
 
+use crate::meaning::{Asked, Meaning};
 use crate::tally::Tally;
 use crate::turn::Turn;
 use lx_base::{CueNo, Level, UNIVERSE_SLOTS};
@@ -32,54 +32,51 @@ impl Turn {
     /// A fault comes only where the sink answered it in this call, and then a prefix of the reply was
     /// appended.
     pub fn finish<K: Sink>(
-        self,
+        &self,
         console: &Console,
         sink: &mut K,
         tally: &mut Tally,
     ) -> Result<bool, SinkFault>
-        requires over { next_of self ≡ None }
+        requires over { next_of self.now ≡ None }
         requires room { HasRoom tally.old }
         ensures cause { HasSinkCause K.faults K.wants sink.old sink.new result }
         ensures text { (d : Desk) → StandsFor d console.now
-            → Puts K.holds K.faults K.wants sink.old sink.new result (reply_to d self.meaning self.refusal) }
+            → Puts K.holds K.faults K.wants sink.old sink.new result (reply_to d self.now.meaning self.now.refusal) }
         ensures counts { (d : Desk) → StandsFor d console.now
-            → OnOk result (counts_in tally.new ≡ counts_after d (counts_in tally.old) self.meaning self.refusal) }
-        ensures quit { IfOk result (λ more. more ≡ not (is_quit self.meaning)) }
+            → OnOk result (counts_in tally.new ≡ counts_after d (counts_in tally.old) self.now.meaning self.now.refusal) }
+        ensures quit { IfOk result (λ more. more ≡ not (is_quit self.now.meaning)) }
         ensures counted { HasOneMore tally.old tally.new }
     {
-        match &self.meaning {
-            None => give(Reply::Bad, sink, tally),
-            Some(line) => reply_to_line(line, self.refusal, console, sink, tally),
-        }
+        reply_to_line(&self.meaning, self.refusal, console, sink, tally)
     }
 }
 
-/// Appends the reply to a line that has a meaning, and counts it.
+/// Appends the reply to a line of this meaning, and counts it.
 fn reply_to_line<K: Sink>(
-    line: &Line,
+    meaning: &Meaning,
     refusal: Option<Refusal>,
     console: &Console,
     sink: &mut K,
     tally: &mut Tally,
 ) -> Result<bool, SinkFault>
-    requires valid { ValidLine line.now }
     requires room { HasRoom tally.old }
     ensures cause { HasSinkCause K.faults K.wants sink.old sink.new result }
     ensures text { (d : Desk) → StandsFor d console.now
-        → Puts K.holds K.faults K.wants sink.old sink.new result (reply_to d (Some line.now) refusal) }
+        → Puts K.holds K.faults K.wants sink.old sink.new result (reply_to d meaning.now refusal) }
     ensures counts { (d : Desk) → StandsFor d console.now
-        → OnOk result (counts_in tally.new ≡ counts_after d (counts_in tally.old) (Some line.now) refusal) }
-    ensures quit { IfOk result (λ more. more ≡ not (is_quit (Some line.now))) }
+        → OnOk result (counts_in tally.new ≡ counts_after d (counts_in tally.old) meaning.now refusal) }
+    ensures quit { IfOk result (λ more. more ≡ not (is_quit meaning.now)) }
     ensures counted { HasOneMore tally.old tally.new }
 {
-    match line {
-        Line::Command(_) => give(reply_of(refusal), sink, tally),
-        Line::Ticks(_) => give(reply_of(refusal), sink, tally),
-        Line::Frame(universe) => put_universe(*universe, console, sink),
-        Line::Save => put_show(console, sink),
-        Line::SheetOf(n) => put_sheet(*n, refusal, console, sink, tally),
-        Line::Quit => Ok(false),
-        Line::Blank => Ok(true),
+    match meaning.asked() {
+        Asked::Bad => give(Reply::Bad, sink, tally),
+        Asked::Command => give(reply_of(refusal), sink, tally),
+        Asked::Ticks(_) => give(reply_of(refusal), sink, tally),
+        Asked::Frame(universe) => put_universe(*universe, console, sink),
+        Asked::Save => put_show(console, sink),
+        Asked::SheetOf(n) => put_sheet(*n, refusal, console, sink, tally),
+        Asked::Quit => Ok(false),
+        Asked::Blank => Ok(true),
     }
 }
 

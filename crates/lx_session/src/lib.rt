@@ -5,11 +5,10 @@ mod fault;
 mod finish;
 mod line;
 mod listener;
+mod meaning;
 mod script;
 mod take;
 mod tally;
-#[cfg(test)]
-mod tests;
 mod turn;
 
 pub use fault::SessionFault;

@@ -8,7 +8,7 @@ ghost use Rattle.lx_spec.specs.Session.{Session};
 ghost use Rattle.lx_console.specs.Standing.{StandsFor};
 ghost use Rattle.lx_session.specs.Attempts.{ListenedAttempt, heard_of};
 ghost use Rattle.lx_session.specs.LineState.{meaning_of, next_of};
-ghost use Rattle.lx_session.specs.LineProgress.{LineProgress};
+ghost use Rattle.lx_session.specs.LineProgress.{HasPassed, LineProgress};
 ghost use Rattle.lx_session.specs.LineReply.{HasRoom, HasOneMore};
 ghost use Rattle.lx_session.specs.LineAnswer.{LineAnswer};
 ghost use Rattle.lx_session.specs.LineOutcome.{FromSession};
@@ -57,10 +57,24 @@ fn attempt_all<L: Listener>(listener: &mut L, turn: &mut Turn, console: &mut Con
     ensures tried { (s : Session) → StandsFor s.desk console.old
         → LineProgress L.admits_all (L.heard listener.old listener.new) s turn.old turn.new console.new }
 {
+    pass_ticks(listener, turn, console);
     'commands: while let Some(command) = turn.next() {
         let command = command.copy();
         attempt_one(listener, turn, &command, console);
+        pass_ticks(listener, turn, console);
     }
+}
+
+/// Makes attempts at ticks at once, where nothing starts or ends at them and the listener isn't to hear of each.
+fn pass_ticks<L: Listener>(listener: &L, turn: &mut Turn, console: &mut Console)
+    requires keeps { L.keeps listener.now console.old }
+    ensures keeps { L.keeps listener.now console.new }
+    ensures passed { HasPassed (L.heard listener.now listener.now) turn.old turn.new console.old console.new }
+{
+    if listener.hears_ticks() {
+        return;
+    }
+    turn.pass_ticks(console);
 }
 
 /// Attempts the next command of a line, which is this one.

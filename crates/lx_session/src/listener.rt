@@ -1,6 +1,6 @@
 //! What listens to a session: it may refuse to admit a command, and hears of each that is accepted.
 
-ghost use Rattle.std.specs.Prelude.{◌≡◌, ◌++◌, ◌∷◌, [], Bool, true, List};
+ghost use Rattle.std.specs.Prelude.{◌≡◌, ◌++◌, ◌∷◌, [], Bool, true, false, List};
 ghost use Rattle.lx_spec.specs.declared.Command.{Command};
 ghost use Rattle.lx_spec.specs.Kept.{Kept};
 ghost use Rattle.lx_session.specs.Attempts.{AcceptedStep};
@@ -40,6 +40,12 @@ pub trait Listener {
         ensures keeps { keeps self.new console.now }
         ensures heard { heard self.old self.new (command.now ∷ []) };
 
+    /// Whether it is asked about each tick, and hears of it. If not, ticks may pass it by: what it keeps doesn't
+    /// depend on the console.
+    fn hears_ticks(&self) -> bool
+        ensures heard { result ≡ false → heard self.now self.now (Command.Tick ∷ []) }
+        ensures keeps { result ≡ false → (before after : Kept) → keeps self.now before → keeps self.now after };
+
     ghost nothing: { (state : Self) → heard state state [] };
 
     ghost both: { (first middle last : Self) (before after : List Command) → heard first middle before → heard middle last after
@@ -68,4 +74,8 @@ impl Listener for NoListener {
     }
 
     fn hear(&mut self, _command: &Command, _console: &Console) {}
+
+    fn hears_ticks(&self) -> bool {
+        false
+    }
 }

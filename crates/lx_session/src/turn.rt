@@ -1,40 +1,35 @@
 //! One script line on its way: its commands are attempted one after another.
 
-ghost use Rattle.std.specs.Prelude.{◌≡◌, ◌-◌, true, false, is_some, is_none, not, map, option_map, option_copied, IsTrue, IfSome};
+ghost use Rattle.std.specs.Prelude.{◌≡◌, ◌-◌, ◌<◌, ◌≤◌, true, false, Some, is_some, is_none, option_copied, IsOkAnd, IsTrue, IfSome};
 ghost use Rattle.lx_spec.specs.Desk.{Desk};
 ghost use Rattle.lx_spec.specs.ValidEdit.{ValidCommand};
-ghost use Rattle.lx_spec.specs.Session.{count_of, command_of};
 ghost use Rattle.lx_console.specs.Standing.{StandsFor};
+ghost use Rattle.lx_console.specs.Ticks.{after_ticks};
 ghost use Rattle.lx_session.specs.LineState.{unattempted, meaning_of, next_of};
 ghost use Rattle.lx_session.specs.Attempts.{Attempted};
 
+use crate::meaning::Meaning;
 use lx_console::Console;
-use lx_script::read_command;
-use lx_spec::{Command, Line, Refusal};
+use lx_spec::{Command, Refusal};
 use std::marker::Model;
 
 /// A script line on its way. It holds what the line means, how many of its commands are still to be
 /// attempted, and the refusal that ended them, if one did.
 #[derive(Drop)]
 pub struct Turn {
-    /// None where the line is bad.
-    pub(crate) meaning: Option<Line>,
+    pub(crate) meaning: Meaning,
     pub(crate) left: u32,
     pub(crate) refusal: Option<Refusal>,
-    /// The command of a line `tick k`.
-    tick: Command,
 }
 
 impl Model for Turn {
-    ghost use Rattle.std.specs.Prelude.{◌≡◌};
-    ghost use Rattle.lx_spec.specs.declared.Command.TheVariants as commands;
     ghost use Rattle.lx_session.specs.LineState.{LineState, IsLineState};
 
     ghost Value = { LineState };
 
     ghost view = { λ t. record { meaning = t.meaning; left = t.left; refusal = t.refusal } };
 
-    ghost invariant = { λ t. IsLineState (record { meaning = t.meaning; left = t.left; refusal = t.refusal }) × (t.tick ≡ commands.Tick) };
+    ghost invariant = { λ t. IsLineState (record { meaning = t.meaning; left = t.left; refusal = t.refusal }) };
 }
 
 impl Turn {
@@ -42,16 +37,12 @@ impl Turn {
     pub fn begin(line: Option<&[u8]>) -> Turn
         ensures { result ≡ unattempted (meaning_of (option_copied line.entry)) }
     {
-        let meaning = match line {
-            Some(line) => read_command(line),
-            None => None,
-        };
-        let left = count_of(&meaning);
+        let meaning = Meaning::of(line);
+        let left = meaning.count();
         Turn {
             meaning,
             left,
             refusal: None,
-            tick: Command::Tick,
         }
     }
 
@@ -63,7 +54,7 @@ impl Turn {
         if self.refusal.is_some() || self.left == 0 {
             return None;
         }
-        command_of(&self.meaning, &self.tick)
+        self.meaning.command()
     }
 
     /// Attempts the next command. It says whether the command was accepted.
@@ -87,6 +78,21 @@ impl Turn {
         self.refusal = refusal;
         self.refusal.is_none()
     }
+
+    /// Makes as many attempts of a line `tick k` at once as `Console::pass` lets pass, and says how many.
+    pub(crate) fn pass_ticks(&mut self, console: &mut Console) -> u32
+        ensures within { result ≤ self.old.left }
+        ensures tick { 0 < result → next_of self.old ≡ Some Command.Tick }
+        ensures turn { self.new ≡ record self.old { left = self.old.left - result } }
+        ensures stands { (d : Desk) → StandsFor d console.old → IsOkAnd (after_ticks result d) (λ next. StandsFor next console.new) }
+    {
+        if self.refusal.is_some() || !self.meaning.is_ticks() {
+            return 0;
+        }
+        let ticks = console.pass(self.left);
+        self.left -= ticks;
+        ticks
+    }
 }
 
 /// The refusal of a command, if it is refused.
@@ -100,27 +106,4 @@ fn try_command(command: &Command, console: &mut Console, admitted: bool) -> Opti
         return Some(Refusal::Memory);
     }
     console.command(command).err()
-}
-
-/// How many commands a line has.
-fn count_of(meaning: &Option<Line>) -> u32
-    ensures { result ≡ count_of meaning.now }
-{
-    match meaning {
-        Some(Line::Command(_)) => 1,
-        Some(Line::Ticks(count)) => *count,
-        _ => 0,
-    }
-}
-
-/// The command of a line.
-fn command_of<'a>(meaning: &'a Option<Line>, tick: &'a Command) -> Option<&'a Command>
-    requires { tick.now ≡ Command.Tick }
-    ensures { option_copied result ≡ command_of meaning.now }
-{
-    match meaning {
-        Some(Line::Command(command)) => Some(command),
-        Some(Line::Ticks(_)) => Some(tick),
-        _ => None,
-    }
 }

@@ -1,5 +1,6 @@
 -- Levels at their places in a row and in the block.
-use Rattle.std.proofs.Common.{◌≡◌, ◌≢◌, ℕ, zero, suc, ◌+◌, ◌-◌, ◌*◌, ◌<◌, ◌≤◌, List, ◌∷◌, length, get_or, set, take, drop, refl, ◌∙◌, sym, ap, subst, inl, inr, arith}
+use Rattle.std.proofs.Common.{◌≡◌, ◌≢◌, ℕ, zero, suc, ◌+◌, ◌-◌, ◌*◌, ◌<◌, ◌≤◌, List, ◌∷◌, length, get_or, set, take, drop, refl, ◌∙◌, sym}
+use Rattle.std.proofs.Common.{ap, subst, inl, inr, arith}
 use Rattle.std.proofs.Math.Nat.{mul-le-mul_right}
 use borrow.Rule.Slice.PartMut.{put_mid}
 use Rattle.std.proofs.lemmas.Bool.{cases_lt, cases_order}
@@ -16,25 +17,32 @@ pub level_in_look_is : (levels : List ℕ) (c : ℕ) → 1 ≤ c → level_in_lo
 level_in_look_is levels c least = subst (λ (n : ℕ). get_or (0 ∷ levels) n 0 ≡ get_or levels (c - 1) 0) (one_below c least) refl
 
 -- a level written
-pub level_in_look-set : (levels : List ℕ) (chan c level : ℕ) → 1 ≤ chan → chan ≤ length levels → c ≡ chan → level_in_look (set levels (chan - 1) level) c ≡ level
+pub level_in_look-set : (levels : List ℕ) (chan c level : ℕ) → 1 ≤ chan → chan ≤ length levels → c ≡ chan
+    → level_in_look (set levels (chan - 1) level) c ≡ level
 level_in_look-set levels chan c level least most same =
-    level_in_look_is (set levels (chan - 1) level) c (omega arith) ∙ ap (λ n. get_or (set levels (chan - 1) level) (n - 1) 0) same ∙ get_or-set_same levels (chan - 1) level 0 (omega arith)
+    level_in_look_is (set levels (chan - 1) level) c (omega arith) ∙ ap (λ n. get_or (set levels (chan - 1) level) (n - 1) 0) same
+    ∙ get_or-set_same levels (chan - 1) level 0 (omega arith)
 
-pub level_in_look-other : (levels : List ℕ) (chan c level : ℕ) → 1 ≤ chan → c ≢ chan → level_in_look (set levels (chan - 1) level) c ≡ level_in_look levels c
+pub level_in_look-other : (levels : List ℕ) (chan c level : ℕ) → 1 ≤ chan → c ≢ chan
+    → level_in_look (set levels (chan - 1) level) c ≡ level_in_look levels c
 level_in_look-other levels chan zero level least other = refl
 level_in_look-other levels chan (suc c) level least other = get_or-set_other levels (chan - 1) c level 0 (λ same. other (omega arith))
 
 -- the level in a row stands in the block
-pub cell_is : (channels : ℕ) (levels : List ℕ) (k c : ℕ) → 1 ≤ c → c ≤ channels → cell channels levels k c ≡ get_or levels (k * channels + (c - 1)) 0
+pub cell_is : (channels : ℕ) (levels : List ℕ) (k c : ℕ) → 1 ≤ c → c ≤ channels
+    → cell channels levels k c ≡ get_or levels (k * channels + (c - 1)) 0
 unfolding cell
 cell_is channels levels k c least most =
-    level_in_look_is (take channels (drop (k * channels) levels)) c least ∙ get_or-take channels (drop (k * channels) levels) (c - 1) 0 (omega arith) ∙ get_or-drop (k * channels) levels (c - 1) 0
+    level_in_look_is (take channels (drop (k * channels) levels)) c least
+    ∙ get_or-take channels (drop (k * channels) levels) (c - 1) 0 (omega arith) ∙ get_or-drop (k * channels) levels (c - 1) 0
 
 -- what is no channel is at 0
 pub cell_past : (channels : ℕ) (levels : List ℕ) (k c : ℕ) → channels < c → cell channels levels k c ≡ 0
 unfolding cell
 cell_past channels levels k c more =
-    level_in_look_is (take channels (drop (k * channels) levels)) c (omega arith) ∙ get_or_past (take channels (drop (k * channels) levels)) (c - 1) 0 (omega (arith, length-take channels (drop (k * channels) levels)))
+    level_in_look_is (take channels (drop (k * channels) levels)) c (omega arith)
+    ∙ get_or_past (take channels (drop (k * channels) levels)) (c - 1) 0
+    (omega (arith, length-take channels (drop (k * channels) levels)))
 
 pub cell_zero : (channels : ℕ) (levels : List ℕ) (k : ℕ) → cell channels levels k 0 ≡ 0
 unfolding cell
@@ -49,7 +57,11 @@ apart_rows channels i k a b less within within' same =
 pub places_apart : (channels i k a b : ℕ) → a < channels → b < channels → i * channels + a ≡ k * channels + b → (i ≡ k) × (a ≡ b)
 places_apart channels i k a b within within' same =
     elim (cases_order i k) [
-      | inl here ↦ (here, let e : k * channels + a ≡ k * channels + b = subst (λ n. n * channels + a ≡ k * channels + b) here same in omega arith)
+      | inl here ↦ (
+        here,
+        let e : k * channels + a ≡ k * channels + b =
+            subst (λ n. n * channels + a ≡ k * channels + b) here same in omega arith,
+      )
       | inr other ↦ elim other [
         | inl less ↦ absurd (apart_rows channels i k a b less within within' same)
         | inr more ↦ absurd (apart_rows channels k i b a more within' within (sym same))
@@ -57,42 +69,59 @@ places_apart channels i k a b within within' same =
     ]
 
 -- a level written into the block
-pub cell-set_here : (channels : ℕ) (levels : List ℕ) (k c level : ℕ) → 1 ≤ c → c ≤ channels → k * channels + (c - 1) < length levels → cell channels (set levels (k * channels + (c - 1)) level) k c ≡ level
-cell-set_here channels levels k c level least most within = cell_is channels (set levels (k * channels + (c - 1)) level) k c least most ∙ get_or-set_same levels (k * channels + (c - 1)) level 0 within
+pub cell-set_here : (channels : ℕ) (levels : List ℕ) (k c level : ℕ) → 1 ≤ c → c ≤ channels → k * channels + (c - 1) < length levels
+    → cell channels (set levels (k * channels + (c - 1)) level) k c ≡ level
+cell-set_here channels levels k c level least most within = cell_is channels (set levels (k * channels + (c - 1)) level) k c least most
+    ∙ get_or-set_same levels (k * channels + (c - 1)) level 0 within
 
-pub cell-set_other : (channels : ℕ) (levels : List ℕ) (k i chan c level : ℕ) → 1 ≤ chan → chan ≤ channels → (i ≡ k → c ≡ chan → ⊥) → cell channels (set levels (k * channels + (chan - 1)) level) i c ≡ cell channels levels i c
-cell-set_other channels levels k i chan zero level least most other = cell_zero channels (set levels (k * channels + (chan - 1)) level) i ∙ sym (cell_zero channels levels i)
+pub cell-set_other : (channels : ℕ) (levels : List ℕ) (k i chan c level : ℕ) → 1 ≤ chan → chan ≤ channels → (i ≡ k → c ≡ chan → ⊥)
+    → cell channels (set levels (k * channels + (chan - 1)) level) i c ≡ cell channels levels i c
+cell-set_other channels levels k i chan zero level least most other = cell_zero channels (set levels (k * channels + (chan - 1)) level) i
+    ∙ sym (cell_zero channels levels i)
 cell-set_other channels levels k i chan (suc c) level least most other =
     elim (cases_lt channels (suc c)) [
-      | inl past ↦ cell_past channels (set levels (k * channels + (chan - 1)) level) i (suc c) past ∙ sym (cell_past channels levels i (suc c) past)
+      | inl past ↦ cell_past channels (set levels (k * channels + (chan - 1)) level) i (suc c) past
+          ∙ sym (cell_past channels levels i (suc c) past)
       | inr within ↦
-          let apart : i * channels + (suc c - 1) ≢ k * channels + (chan - 1) = λ same. let both = places_apart channels i k (suc c - 1) (chan - 1) (omega arith) (omega arith) same in other both.0 (omega (arith, both.1)) in
-          cell_is channels (set levels (k * channels + (chan - 1)) level) i (suc c) (omega arith) within ∙ get_or-set_other levels (k * channels + (chan - 1)) (i * channels + (suc c - 1)) level 0 apart ∙ sym (cell_is channels levels i (suc c) (omega arith) within)
+          let apart : i * channels + (suc c - 1) ≢ k * channels + (chan - 1) = λ same. let both =
+          places_apart channels i k (suc c - 1) (chan - 1) (omega arith) (omega arith) same in other both.0 (omega (arith, both.1)) in
+          cell_is channels (set levels (k * channels + (chan - 1)) level) i (suc c) (omega arith) within
+          ∙ get_or-set_other levels (k * channels + (chan - 1)) (i * channels + (suc c - 1)) level 0 apart
+          ∙ sym (cell_is channels levels i (suc c) (omega arith) within)
     ]
 
 row_end : (channels k : ℕ) → suc k * channels ≡ k * channels + channels
 row_end channels k = omega arith
 
 -- a row written into the block
-pub row_here : (channels : ℕ) (levels look : List ℕ) (place end : ℕ) → end ≡ place * channels + channels → place * channels ≤ length levels → length look ≡ channels → take channels (drop (place * channels) (put_mid (place * channels) (end - place * channels) levels look)) ≡ look
+pub row_here : (channels : ℕ) (levels look : List ℕ) (place end : ℕ) → end ≡ place * channels + channels → place * channels ≤ length levels
+    → length look ≡ channels → take channels (drop (place * channels) (put_mid (place * channels) (end - place * channels) levels look))
+    ≡ look
 row_here channels levels look place end is within long =
     let width : end - place * channels ≡ channels = omega arith in
     let P : ℕ → Type 0 = λ n. take n (drop (place * channels) (put_mid (place * channels) (end - place * channels) levels look)) ≡ look in
     subst P width (between-put_mid (place * channels) (end - place * channels) levels look end within (omega arith))
 
-pub row_other : (channels : ℕ) (levels look : List ℕ) (k place end : ℕ) → end ≡ place * channels + channels → place * channels ≤ length levels → length look ≡ channels → k ≢ place → take channels (drop (k * channels) (put_mid (place * channels) (end - place * channels) levels look)) ≡ take channels (drop (k * channels) levels)
+pub row_other : (channels : ℕ) (levels look : List ℕ) (k place end : ℕ) → end ≡ place * channels + channels
+    → place * channels ≤ length levels → length look ≡ channels → k ≢ place
+    → take channels (drop (k * channels) (put_mid (place * channels) (end - place * channels) levels look))
+    ≡ take channels (drop (k * channels) levels)
 row_other channels levels look k place end is within long other =
     elim (cases_order k place) [
       | inl here ↦ absurd (other here)
       | inr apart ↦ elim apart [
         | inl less ↦
-            let below : k * channels + channels ≤ place * channels = let m = mul-le-mul_right {m = suc k} {n = place} channels (omega arith) in omega (arith, m) in
+            let below : k * channels + channels ≤ place * channels = let m =
+            mul-le-mul_right {m = suc k} {n = place} channels (omega arith) in omega (arith, m) in
             sym (drop-take (k * channels) channels (put_mid (place * channels) (end - place * channels) levels look))
-            ∙ ap (drop (k * channels)) (take-put_mid_below (place * channels) (end - place * channels) levels look (k * channels + channels) below within)
+            ∙ ap (drop (k * channels)) (take-put_mid_below (place * channels) (end - place * channels) levels look (k * channels + channels)
+            below within)
             ∙ drop-take (k * channels) channels levels
         | inr more ↦
-            let above : place * channels + channels ≤ k * channels = let m = mul-le-mul_right {m = suc place} {n = k} channels (omega arith) in omega (arith, m) in
-            ap (take channels) (drop-put_mid (place * channels) (end - place * channels) levels look (k * channels) (omega arith) within (omega arith))
+            let above : place * channels + channels ≤ k * channels = let m =
+            mul-le-mul_right {m = suc place} {n = k} channels (omega arith) in omega (arith, m) in
+            ap (take channels) (drop-put_mid (place * channels) (end - place * channels) levels look (k * channels) (omega arith) within
+            (omega arith))
       ]
     ]
 

@@ -1,5 +1,6 @@
 -- The row of a number, as it stands in the block, and what it is where the sheet stands for a show.
-use Rattle.std.proofs.Common.{◌≡◌, ℕ, zero, suc, ◌+◌, ◌*◌, ◌<◌, ◌≤◌, true, false, cond, List, [], ◌∷◌, length, get_or, take, drop, map, Some, None, refl, ◌∙◌, sym, ap, arith}
+use Rattle.std.proofs.Common.{◌≡◌, ℕ, zero, suc, ◌+◌, ◌*◌, ◌<◌, ◌≤◌, true, false, cond, List, [], ◌∷◌, length, get_or, take, drop, map}
+use Rattle.std.proofs.Common.{Some, None, refl, ◌∙◌, sym, ap, arith}
 use Rattle.std.specs.Prelude.{Option, is_some, option_map, slice_get, ◌==◌, ◌||◌}
 use Rattle.std.specs.List.{list_any}
 use Rattle.std.proofs.lemmas.Bool.{false≢true}
@@ -18,7 +19,7 @@ use Rattle.lx_show.proofs.Indexes.{up_to_there}
 use Rattle.lx_sheet.specs.declared.sheet.Place.{Place}
 use Rattle.lx_sheet.specs.Rows.{Row, row_at, numbers_of}
 use Rattle.lx_sheet.specs.Block.{AreApart, own_rows, row_at_place, rows_of, cell, cue_level, last_value}
-use Rattle.lx_sheet.specs.Standing.{StandsFor, cue_numbers}
+use Rattle.lx_sheet.specs.Standing.{RowsStandFor, cue_numbers}
 use Rattle.lx_sheet.proofs.Rows.{count_up_to, count_up_to-map, sheet_of, level_of_block, row_of_place, numbers-rows_of}
 use Rattle.lx_sheet.proofs.RowPool.{row_is, row_within}
 use Rattle.lx_spec.proofs.Comparisons.{eq_below, eq_true}
@@ -27,10 +28,13 @@ use Rattle.lx_spec.proofs.SortedLists.{found_number}
 -- a number is there as an entry's number
 has_number : {A : Type 0} (key : A → ℕ) (n : ℕ) (xs : List A) → is_some (entry_at key n xs) ≡ list_any (λ m. m == n) (map key xs)
 has_number key n [] = refl
-has_number {A} key n (x ∷ xs) = elim (key x == n) as (λ b. is_some (cond b (Some x) (entry_at key n xs)) ≡ (b || list_any (λ m. m == n) (map key xs))) [ true ↦ refl | false ↦ has_number key n xs ]
+has_number {A} key n (x ∷ xs) = elim (key x == n) as
+    (λ b. is_some (cond b (Some x) (entry_at key n xs)) ≡ (b || list_any (λ m. m == n) (map key xs)))
+    [ true ↦ refl | false ↦ has_number key n xs ]
 
 -- two lists with the same numbers have the same ones
-pub same_numbers : {A B : Type 0} (key : A → ℕ) (other : B → ℕ) (n : ℕ) (xs : List A) (ys : List B) → map key xs ≡ map other ys → is_some (entry_at key n xs) ≡ is_some (entry_at other n ys)
+pub same_numbers : {A B : Type 0} (key : A → ℕ) (other : B → ℕ) (n : ℕ) (xs : List A) (ys : List B) → map key xs ≡ map other ys
+    → is_some (entry_at key n xs) ≡ is_some (entry_at other n ys)
 same_numbers key other n xs ys same = has_number key n xs ∙ ap (list_any (λ m. m == n)) same ∙ sym (has_number other n ys)
 
 there : {A B : Type 0} (o : Option A) (v : B) → is_some o ≡ true → Some v ≡ option_map (λ x. v) o
@@ -42,7 +46,8 @@ not_there None f none = refl
 not_there (Some x) f none = absurd (false≢true (sym none))
 
 -- the row of a number, at the place of its cue
-row_of_number : (channels : ℕ) (order : List Place) (levels : List ℕ) (n k : ℕ) (d : Place) → IsStrictlySorted (λ p. p.cue) order → k < length order → (get_or order k d).cue ≡ n
+row_of_number : (channels : ℕ) (order : List Place) (levels : List ℕ) (n k : ℕ) (d : Place) → IsStrictlySorted (λ p. p.cue) order
+    → k < length order → (get_or order k d).cue ≡ n
     → entry_at (λ (r : Row). r.number) n (rows_of channels order levels) ≡ slice_get (rows_of channels order levels) k
 row_of_number channels [] levels n k d sorted within here = absurd (omega arith)
 row_of_number channels (p ∷ order) levels n zero d sorted within here = rw (eq_true p.cue n here) refl
@@ -55,47 +60,71 @@ pub stands_number : (order : List Place) (n at : ℕ) (d : Place) → StandsAt (
 stands_number order n at d stands =
     sym (found_number (λ (p : Place). p.cue) n order (get_or order at d) (stands.here ∙ slice_get-get_or order at d stands.within))
 
-pub row_found : (channels : ℕ) (order : List Place) (levels : List ℕ) (n at : ℕ) → IsStrictlySorted (λ x. x.cue) order → StandsAt (λ x. x.cue) n order at
-    → Some (take channels (drop (row_at_place order at * channels) levels)) ≡ option_map (λ r. r.levels) (row_at (sheet_of channels order levels) n)
+pub row_found : (channels : ℕ) (order : List Place) (levels : List ℕ) (n at : ℕ) → IsStrictlySorted (λ x. x.cue) order
+    → StandsAt (λ x. x.cue) n order at
+    → Some (take channels (drop (row_at_place order at * channels) levels))
+    ≡ option_map (λ r. r.levels) (row_at (sheet_of channels order levels) n)
 row_found channels order levels n at sorted stands =
     let d : Place = record { cue = 0; row = 0 } in
     let p : Place = get_or order at d in
     let is : p ≡ get_or order at p = get_or_default order at d p stands.within in
     ap (λ r. Some (take channels (drop (r * channels) levels))) (row_is order at p stands.within is)
-    ∙ sym (ap (option_map (λ (r : Row). r.levels)) (row_of_number channels order levels n at d sorted stands.within (stands_number order n at d stands) ∙ row_of_place channels order levels at p stands.within is))
+    ∙ sym (ap (option_map (λ (r : Row). r.levels))
+    (row_of_number channels order levels n at d sorted stands.within (stands_number order n at d stands)
+    ∙ row_of_place channels order levels at p stands.within is))
 
-pub row_absent : (channels : ℕ) (order : List Place) (levels : List ℕ) (n : ℕ) → entry_at (λ p. p.cue) n order ≡ None → None ≡ option_map (λ r. r.levels) (row_at (sheet_of channels order levels) n)
+pub row_absent : (channels : ℕ) (order : List Place) (levels : List ℕ) (n : ℕ) → entry_at (λ p. p.cue) n order ≡ None
+    → None ≡ option_map (λ r. r.levels) (row_at (sheet_of channels order levels) n)
 row_absent channels order levels n absent =
-    not_there (row_at (sheet_of channels order levels) n) (λ r. r.levels) (same_numbers (λ (r : Row). r.number) (λ (p : Place). p.cue) n (rows_of channels order levels) order (numbers-rows_of channels order levels) ∙ ap is_some absent)
+    not_there (row_at (sheet_of channels order levels) n) (λ r. r.levels)
+    (same_numbers (λ (r : Row). r.number) (λ (p : Place). p.cue) n (rows_of channels order levels) order
+    (numbers-rows_of channels order levels) ∙ ap is_some absent)
 
-pub cue_absent : {B : Type 0} (show : Show) (channels : ℕ) (order : List Place) (levels : List ℕ) (n : ℕ) (f : Cue → B) → numbers_of (sheet_of channels order levels) ≡ cue_numbers show → entry_at (λ p. p.cue) n order ≡ None → None ≡ option_map f (cue_of show n)
+pub cue_absent : {B : Type 0} (show : Show) (channels : ℕ) (order : List Place) (levels : List ℕ) (n : ℕ) (f : Cue → B)
+    → numbers_of (sheet_of channels order levels) ≡ cue_numbers show → entry_at (λ p. p.cue) n order ≡ None
+    → None ≡ option_map f (cue_of show n)
 cue_absent show channels order levels n f numbers absent =
-    not_there (cue_of show n) f (sym (same_numbers (λ (p : Place). p.cue) (λ (cue : Cue). cue.number) n order show.cues (sym (numbers-rows_of channels order levels) ∙ numbers)) ∙ ap is_some absent)
+    not_there (cue_of show n) f (sym (same_numbers (λ (p : Place). p.cue) (λ (cue : Cue). cue.number) n order show.cues
+    (sym (numbers-rows_of channels order levels) ∙ numbers)) ∙ ap is_some absent)
 
 -- the row of a sheet that stands for a show
-pub row_right : (show : Show) (channels : ℕ) (order : List Place) (levels : List ℕ) (n at : ℕ) → length levels ≡ CUES * channels → AreApart (own_rows order) → IsStrictlySorted (λ p. p.cue) order
-    → StandsAt (λ p. p.cue) n order at → StandsFor show (sheet_of channels order levels) → take channels (drop (row_at_place order at * channels) levels) ≡ row_of show n
+pub row_right : (show : Show) (channels : ℕ) (order : List Place) (levels : List ℕ) (n at : ℕ) → length levels ≡ CUES * channels
+    → AreApart (own_rows order) → IsStrictlySorted (λ p. p.cue) order
+    → StandsAt (λ p. p.cue) n order at → RowsStandFor show (sheet_of channels order levels)
+    → take channels (drop (row_at_place order at * channels) levels) ≡ row_of show n
 unfolding cell
 row_right show channels order levels n at room rows sorted place stands =
     let row : ℕ = row_at_place order at in
-    let most : suc row * channels ≤ CUES * channels = mul-le-mul_right {m = suc row} {n = CUES} channels (omega (arith, row_within order at rows place.within)) in
-    let width : length (take channels (drop (row * channels) levels)) ≡ channels = omega (arith, length-take channels (drop (row * channels) levels), length-drop (row * channels) levels) in
+    let most : suc row * channels ≤ CUES * channels =
+    mul-le-mul_right {m = suc row} {n = CUES} channels (omega (arith, row_within order at rows place.within)) in
+    let width : length (take channels (drop (row * channels) levels)) ≡ channels =
+    omega (arith, length-take channels (drop (row * channels) levels), length-drop (row * channels) levels) in
     let count : count_up_to n (map (λ (p : Place). p.cue) order) ≡ suc at =
-    omega (arith, count_up_to-map (λ (p : Place). p.cue) n order, ap length (up_to_there (λ (p : Place). p.cue) n order at sorted place), length-take (at + 1) order, place.within) in
+    omega (
+      arith,
+      count_up_to-map (λ (p : Place). p.cue) n order,
+      ap length (up_to_there (λ (p : Place). p.cue) n order at sorted place),
+      length-take (at + 1) order,
+      place.within,
+    ) in
     let cells : (c : ℕ) → cell channels levels row c ≡ tracked show n c = λ c.
-    sym (level_of_block channels order levels n c sorted ∙ ap (λ k. last_value k (λ i. cue_level channels order levels i c)) count) ∙ stands.columns c n in
+    sym (level_of_block channels order levels n c sorted ∙ ap (λ k. last_value k (λ i. cue_level channels order levels i c)) count)
+    ∙ stands.columns c n in
     same_lists (take channels (drop (row * channels) levels)) (row_of show n)
     (width ∙ stands.channels ∙ sym (length-map-range_with_len (tracked show n) 1 show.channels))
     (λ k d less.
     get_or_default (take channels (drop (row * channels) levels)) k d 0 less
     ∙ cells (suc k)
-    ∙ sym (get_or-map-range_with_len (tracked show n) 1 show.channels k (suc k) d (omega (arith, less, width, stands.channels)) (omega arith)))
+    ∙ sym (get_or-map-range_with_len (tracked show n) 1 show.channels k (suc k) d (omega (arith, less, width, stands.channels))
+    (omega arith)))
 
-pub cue_found : (show : Show) (channels : ℕ) (order : List Place) (levels : List ℕ) (n at : ℕ) → length levels ≡ CUES * channels → AreApart (own_rows order) → IsStrictlySorted (λ x. x.cue) order
-    → StandsAt (λ x. x.cue) n order at → StandsFor show (sheet_of channels order levels)
+pub cue_found : (show : Show) (channels : ℕ) (order : List Place) (levels : List ℕ) (n at : ℕ) → length levels ≡ CUES * channels
+    → AreApart (own_rows order) → IsStrictlySorted (λ x. x.cue) order
+    → StandsAt (λ x. x.cue) n order at → RowsStandFor show (sheet_of channels order levels)
     → Some (take channels (drop (row_at_place order at * channels) levels)) ≡ option_map (λ cue. row_of show n) (cue_of show n)
 cue_found show channels order levels n at room rows sorted place stands =
     let some : is_some (cue_of show n) ≡ true =
-    sym (same_numbers (λ (x : Place). x.cue) (λ (cue : Cue). cue.number) n order show.cues (sym (numbers-rows_of channels order levels) ∙ stands.numbers))
+    sym (same_numbers (λ (x : Place). x.cue) (λ (cue : Cue). cue.number) n order show.cues
+    (sym (numbers-rows_of channels order levels) ∙ stands.numbers))
     ∙ ap is_some (place.here ∙ slice_get-get_or order at (record { cue = 0; row = 0 }) place.within) in
     ap Some (row_right show channels order levels n at room rows sorted place stands) ∙ there (cue_of show n) (row_of show n) some

@@ -1,5 +1,6 @@
 -- Rows that hold the levels after the cues up to theirs, and the columns of a sheet that stands for a show.
-use Rattle.std.proofs.Common.{◌≡◌, ℕ, zero, suc, ◌+◌, ◌<◌, ◌≤◌, Bool, true, false, cond, List, [], ◌∷◌, length, get_or, take, map, refl, ◌∙◌, sym, ap, subst, arith, inl, inr}
+use Rattle.std.proofs.Common.{◌≡◌, ℕ, zero, suc, ◌+◌, ◌<◌, ◌≤◌, Bool, true, false, cond, List, [], ◌∷◌, length, get_or, take, map, refl}
+use Rattle.std.proofs.Common.{◌∙◌, sym, ap, subst, arith, inl, inr}
 use Rattle.std.specs.Prelude.{Option, Some, None, IfSome, filter, find, reverse, nat_le, nat_lt, ◌&&◌}
 use Rattle.std.specs.Option.{option_map_or}
 use Rattle.std.specs.List.{AllByRecursion}
@@ -16,7 +17,7 @@ use Rattle.lx_sheet.specs.declared.sheet.Place.{Place}
 use Rattle.lx_sheet.specs.Rows.{level_of}
 use Rattle.lx_sheet.specs.Block.{cue_level, last_value, count_under}
 use Rattle.lx_sheet.specs.After.{level_after, IsRight, Follows}
-use Rattle.lx_sheet.specs.Standing.{StandsFor, cue_numbers}
+use Rattle.lx_sheet.specs.Standing.{RowsStandFor, cue_numbers}
 use Rattle.lx_sheet.proofs.Rows.{count_up_to, count_within, up_to_is_front, sheet_of, level_of_block, numbers-rows_of}
 use Rattle.lx_sheet.proofs.LevelsAfter.{level_after-nil}
 
@@ -27,14 +28,16 @@ unfolding level_after
 tracked_is show n c sorted =
     let p : Cue → Bool = λ cue. nat_le cue.number n in
     let q : Cue → Bool = λ cue. decides cue c in
-    let found : find (λ cue. p cue && q cue) (reverse show.cues) ≡ find q (reverse (filter p show.cues)) = sym (find_both_last p q show.cues) in
+    let found : find (λ cue. p cue && q cue) (reverse show.cues) ≡ find q (reverse (filter p show.cues)) =
+    sym (find_both_last p q show.cues) in
     ap (λ (o : Option Cue). option_map_or (λ cue. level_in cue c) o 0)
     (found ∙ ap (λ (xs : List Cue). find q (reverse xs)) (up_to_is_front (λ (cue : Cue). cue.number) n show.cues sorted))
 
 pub count_under-map : {A : Type 0} (key : A → ℕ) (n : ℕ) (xs : List A) → length (entries_below key n xs) ≡ count_under n (map key xs)
 count_under-map key n [] = refl
 count_under-map {A} key n (x ∷ xs) =
-    elim (nat_lt (key x) n) as (λ b. length (cond b (x ∷ entries_below key n xs) (entries_below key n xs)) ≡ length (cond b (key x ∷ entries_below (λ m. m) n (map key xs)) (entries_below (λ m. m) n (map key xs)))) [
+    elim (nat_lt (key x) n) as (λ b. length (cond b (x ∷ entries_below key n xs) (entries_below key n xs))
+    ≡ length (cond b (key x ∷ entries_below (λ m. m) n (map key xs)) (entries_below (λ m. m) n (map key xs)))) [
       | true ↦ ap suc (count_under-map key n xs)
       | false ↦ count_under-map key n xs
     ]
@@ -43,7 +46,8 @@ pub count_under_within : (n : ℕ) (numbers : List ℕ) → count_under n number
 count_under_within n numbers = shorter (λ m. nat_lt m n) numbers
 
 -- up to the number at a place there are that many and one
-count_at : (numbers : List ℕ) (k : ℕ) → IsStrictlySorted (λ n. n) numbers → k < length numbers → count_up_to (get_or numbers k 0) numbers ≡ suc k
+count_at : (numbers : List ℕ) (k : ℕ) → IsStrictlySorted (λ n. n) numbers → k < length numbers
+    → count_up_to (get_or numbers k 0) numbers ≡ suc k
 count_at [] k sorted within = absurd (omega arith)
 count_at (m ∷ ms) zero sorted within =
     let none : entries_up_to (λ x. x) m ms ≡ [] = filter_none _ ms (each _ _ ms (λ y h. le_false y m h) sorted.0) in
@@ -53,7 +57,8 @@ count_at (m ∷ ms) (suc k) sorted within =
     rw (le_true m (get_or ms k 0) (omega (arith, above))) (ap suc (count_at ms k sorted.1 (omega arith)))
 
 -- from the place on that so many below it leave, the numbers aren't below it
-reached : (end : ℕ) (numbers : List ℕ) (k : ℕ) → IsStrictlySorted (λ n. n) numbers → count_under end numbers ≤ k → k < length numbers → end ≤ get_or numbers k 0
+reached : (end : ℕ) (numbers : List ℕ) (k : ℕ) → IsStrictlySorted (λ n. n) numbers → count_under end numbers ≤ k → k < length numbers
+    → end ≤ get_or numbers k 0
 reached end [] k sorted least within = absurd (omega arith)
 reached end (m ∷ ms) zero sorted least within =
     elim (cases_lt m end) [
@@ -62,7 +67,8 @@ reached end (m ∷ ms) zero sorted least within =
     ]
 reached end (m ∷ ms) (suc k) sorted least within =
     elim (cases_lt m end) [
-      | inl low ↦ reached end ms k sorted.1 (let less : suc (count_under end ms) ≤ suc k = rw (lt_true m end low) at least in omega (arith, less)) (omega arith)
+      | inl low ↦ reached end ms k sorted.1 (let less : suc (count_under end ms) ≤ suc k =
+          rw (lt_true m end low) at least in omega (arith, less)) (omega arith)
       | inr high ↦ omega (arith, high, All-from_recursion (λ y. m < y) ms sorted.0 k 0 (omega arith))
     ]
 
@@ -70,20 +76,25 @@ reached end (m ∷ ms) (suc k) sorted least within =
 none_left : (end m : ℕ) (ms : List ℕ) → IsStrictlySorted (λ n. n) (m ∷ ms) → end ≤ m → count_under end ms ≡ 0
 none_left end m ms sorted high = ap length (filter_none _ ms (each _ _ ms (λ y h. lt_false y end (omega arith)) sorted.0))
 
-not_reached : (end : ℕ) (numbers : List ℕ) (k : ℕ) → IsStrictlySorted (λ n. n) numbers → k < count_under end numbers → get_or numbers k 0 < end
+not_reached : (end : ℕ) (numbers : List ℕ) (k : ℕ) → IsStrictlySorted (λ n. n) numbers → k < count_under end numbers
+    → get_or numbers k 0 < end
 not_reached end [] k sorted less = absurd (omega arith)
 not_reached end (m ∷ ms) zero sorted less =
     elim (cases_lt m end) [
       | inl low ↦ low
-      | inr high ↦ absurd (let few : 0 < count_under end ms = rw (lt_false m end high) at less in omega (arith, few, none_left end m ms sorted high))
+      | inr high ↦ absurd (let few : 0 < count_under end ms =
+          rw (lt_false m end high) at less in omega (arith, few, none_left end m ms sorted high))
     ]
 not_reached end (m ∷ ms) (suc k) sorted less =
     elim (cases_lt m end) [
-      | inl low ↦ not_reached end ms k sorted.1 (let rest : suc k < suc (count_under end ms) = rw (lt_true m end low) at less in omega (arith, rest))
-      | inr high ↦ absurd (let few : suc k < count_under end ms = rw (lt_false m end high) at less in omega (arith, few, none_left end m ms sorted high))
+      | inl low ↦ not_reached end ms k sorted.1
+          (let rest : suc k < suc (count_under end ms) = rw (lt_true m end low) at less in omega (arith, rest))
+      | inr high ↦ absurd (let few : suc k < count_under end ms =
+          rw (lt_false m end high) at less in omega (arith, few, none_left end m ms sorted high))
     ]
 
-all_numbers : {A : Type 0} (key : A → ℕ) (n : ℕ) (xs : List A) → AllByRecursion (λ x. n < key x) xs → AllByRecursion (λ m. n < m) (map key xs)
+all_numbers : {A : Type 0} (key : A → ℕ) (n : ℕ) (xs : List A) → AllByRecursion (λ x. n < key x) xs
+    → AllByRecursion (λ m. n < m) (map key xs)
 all_numbers key n [] all = tt
 all_numbers key n (x ∷ xs) all = (all.0, all_numbers key n xs all.1)
 
@@ -100,7 +111,8 @@ sorted_keys key [] sorted = tt
 sorted_keys key (x ∷ xs) sorted = (all_keys key (key x) xs sorted.0, sorted_keys key xs sorted.1)
 
 -- lists with the same numbers are sorted alike
-pub sorted_alike : {A B : Type 0} (key : A → ℕ) (other : B → ℕ) (xs : List A) (ys : List B) → map key xs ≡ map other ys → IsStrictlySorted key xs → IsStrictlySorted other ys
+pub sorted_alike : {A B : Type 0} (key : A → ℕ) (other : B → ℕ) (xs : List A) (ys : List B) → map key xs ≡ map other ys
+    → IsStrictlySorted key xs → IsStrictlySorted other ys
 sorted_alike key other xs ys same sorted = sorted_keys other ys (subst (IsStrictlySorted (λ n. n)) same (sorted_numbers key xs sorted))
 
 -- an order of a show's cues
@@ -121,7 +133,8 @@ right_at show channels order levels c k is within right =
     let all : List ℕ = cue_numbers show in
     let long : length all ≡ length show.cues = length-map show.cues (λ (cue : Cue). cue.number) in
     let n : ℕ = get_or all k 0 in
-    let count : count_up_to n all ≡ suc k = count_at all k (sorted_numbers (λ (cue : Cue). cue.number) show.cues is.cues_sorted) (omega (arith, long, within)) in
+    let count : count_up_to n all ≡ suc k = count_at all k (sorted_numbers (λ (cue : Cue). cue.number) show.cues is.cues_sorted)
+    (omega (arith, long, within)) in
     let next : suc k ≡ k + 1 = omega arith in
     ap (λ j. last_value j (λ i. cue_level channels order levels i c)) (sym count)
     ∙ ap (λ (ns : List ℕ). last_value (count_up_to n ns) (λ i. cue_level channels order levels i c)) (sym is.numbers)
@@ -137,7 +150,8 @@ pub right_below : (show : Show) (from channels : ℕ) (order : List Place) (leve
 right_below show from channels order levels c k is right less =
     let long : length (cue_numbers show) ≡ length show.cues = length-map show.cues (λ (cue : Cue). cue.number) in
     right_at show channels order levels c k is (omega (arith, long, less, count_under_within from (cue_numbers show)))
-    (right (get_or (cue_numbers show) k 0) (not_reached from (cue_numbers show) k (sorted_numbers (λ (cue : Cue). cue.number) show.cues is.cues_sorted) less))
+    (right (get_or (cue_numbers show) k 0) (not_reached from (cue_numbers show) k
+    (sorted_numbers (λ (cue : Cue). cue.number) show.cues is.cues_sorted) less))
 
 -- and where it stands for the show from a number on
 pub right_from : (show : Show) (end channels : ℕ) (order : List Place) (levels : List ℕ) (c k : ℕ) → IsOrderOf show order
@@ -146,7 +160,8 @@ pub right_from : (show : Show) (end channels : ℕ) (order : List Place) (levels
 right_from show end channels order levels c k is right least within =
     let long : length (cue_numbers show) ≡ length show.cues = length-map show.cues (λ (cue : Cue). cue.number) in
     right_at show channels order levels c k is within
-    (right (get_or (cue_numbers show) k 0) (reached end (cue_numbers show) k (sorted_numbers (λ (cue : Cue). cue.number) show.cues is.cues_sorted) least (omega (arith, long, within))))
+    (right (get_or (cue_numbers show) k 0) (reached end (cue_numbers show) k
+    (sorted_numbers (λ (cue : Cue). cue.number) show.cues is.cues_sorted) least (omega (arith, long, within))))
 
 -- how many cues are below the number, or all
 abbrev pub until : Option ℕ → List Cue → ℕ
@@ -154,7 +169,8 @@ until to cues = option_map_or (λ end. count_under end (map (λ cue. cue.number)
 
 pub last_within : (to : Option ℕ) (cues : List Cue) (last : ℕ) → last ≡ until to cues → last ≤ length cues
 last_within None cues last is = omega (arith, is)
-last_within (Some end) cues last is = omega (arith, is, count_under_within end (map (λ (cue : Cue). cue.number) cues), length-map cues (λ (cue : Cue). cue.number))
+last_within (Some end) cues last is = omega
+    (arith, is, count_under_within end (map (λ (cue : Cue). cue.number) cues), length-map cues (λ (cue : Cue). cue.number))
 
 -- the rows that aren't filled in are right
 pub right_past : (show : Show) (to : Option ℕ) (last channels : ℕ) (order : List Place) (levels : List ℕ) (c k : ℕ) → IsOrderOf show order
@@ -179,14 +195,16 @@ pub column_right : (show : Show) (channels : ℕ) (order : List Place) (levels :
     → (n : ℕ) → level_of (sheet_of channels order levels) n c ≡ tracked show n c
 column_right show channels order levels c is right n =
     let numbers : List ℕ = cue_numbers show in
-    let within : count_up_to n numbers ≤ length show.cues = omega (arith, count_within n numbers, length-map show.cues (λ (cue : Cue). cue.number)) in
+    let within : count_up_to n numbers ≤ length show.cues =
+    omega (arith, count_within n numbers, length-map show.cues (λ (cue : Cue). cue.number)) in
     level_of_block channels order levels n c is.sorted
     ∙ ap (λ (ns : List ℕ). last_value (count_up_to n ns) (λ k. cue_level channels order levels k c)) is.numbers
     ∙ last_right channels order show.cues levels c (count_up_to n numbers) (λ k less. right k (omega (arith, within, less)))
     ∙ sym (tracked_is show n c is.cues_sorted)
 
 -- from a row that is right on, rows that follow are
-pub right_on : (channels : ℕ) (order : List Place) (cues : List Cue) (levels : List ℕ) (from at c : ℕ) → Follows channels order cues levels from → from ≤ at
+pub right_on : (channels : ℕ) (order : List Place) (cues : List Cue) (levels : List ℕ) (from at c : ℕ)
+    → Follows channels order cues levels from → from ≤ at
     → IsRight channels order cues levels at c → (j : ℕ) → at + j < length cues → IsRight channels order cues levels (at + j) c
 right_on channels order cues levels from at c follows least right zero within =
     let none : at ≡ at + 0 = omega arith in
@@ -198,7 +216,7 @@ right_on channels order cues levels from at c follows least right (suc j) within
 
 -- and the sheet for it
 pub filled_stands : (show : Show) (channels : ℕ) (order : List Place) (levels : List ℕ) → channels ≡ show.channels → IsOrderOf show order
-    → ((k c : ℕ) → k < length show.cues → IsRight channels order show.cues levels k c) → StandsFor show (sheet_of channels order levels)
+    → ((k c : ℕ) → k < length show.cues → IsRight channels order show.cues levels k c) → RowsStandFor show (sheet_of channels order levels)
 filled_stands show channels order levels same is right = record {
   channels = same;
   numbers = numbers-rows_of channels order levels ∙ is.numbers;
@@ -206,12 +224,19 @@ filled_stands show channels order levels same is right = record {
 }
 
 -- a sheet that stands for a show has its cues in order, and its rows right
-pub order_of : (show : Show) (channels : ℕ) (order : List Place) (levels : List ℕ) → IsStrictlySorted (λ p. p.cue) order → StandsFor show (sheet_of channels order levels) → IsOrderOf show order
+pub order_of : (show : Show) (channels : ℕ) (order : List Place) (levels : List ℕ) → IsStrictlySorted (λ p. p.cue) order
+    → RowsStandFor show (sheet_of channels order levels) → IsOrderOf show order
 order_of show channels order levels sorted stands =
     let numbers : map (λ (p : Place). p.cue) order ≡ cue_numbers show = sym (numbers-rows_of channels order levels) ∙ stands.numbers in
-    record { sorted = sorted; cues_sorted = sorted_alike (λ (p : Place). p.cue) (λ (cue : Cue). cue.number) order show.cues numbers sorted; numbers = numbers }
+    record {
+      sorted = sorted;
+      cues_sorted = sorted_alike (λ (p : Place). p.cue) (λ (cue : Cue). cue.number) order show.cues numbers sorted;
+      numbers = numbers;
+    }
 
-pub rows_right : (show : Show) (channels : ℕ) (order : List Place) (levels : List ℕ) → IsStrictlySorted (λ p. p.cue) order → StandsFor show (sheet_of channels order levels)
+pub rows_right : (show : Show) (channels : ℕ) (order : List Place) (levels : List ℕ) → IsStrictlySorted (λ p. p.cue) order
+    → RowsStandFor show (sheet_of channels order levels)
     → (k c : ℕ) → k < length show.cues → IsRight channels order show.cues levels k c
 rows_right show channels order levels sorted stands k c within =
-    right_at show channels order levels c k (order_of show channels order levels sorted stands) within (stands.columns c (get_or (cue_numbers show) k 0))
+    right_at show channels order levels c k (order_of show channels order levels sorted stands) within
+    (stands.columns c (get_or (cue_numbers show) k 0))

@@ -1,5 +1,6 @@
 -- The cues' own rows and the free ones: apart, and together all rows of the block, whatever comes or goes.
-use Rattle.std.proofs.Common.{◌≡◌, ◌≢◌, ℕ, zero, suc, ◌+◌, ◌<◌, ◌≤◌, false, List, [], ◌∷◌, ◌++◌, length, get_or, take, drop, refl, ◌∙◌, sym, ap, subst, inl, inr, arith}
+use Rattle.std.proofs.Common.{◌≡◌, ◌≢◌, ℕ, zero, suc, ◌+◌, ◌<◌, ◌≤◌, false, List, [], ◌∷◌, ◌++◌, length, get_or, take, drop, refl, ◌∙◌, sym}
+use Rattle.std.proofs.Common.{ap, subst, inl, inr, arith}
 use Rattle.std.specs.Prelude.{insert, remove, ◌==◌}
 use Rattle.std.specs.List.{range_with_len}
 use Rattle.std.specs.List.Sorted.{IsPermutation}
@@ -7,7 +8,8 @@ use Rattle.std.proofs.lemmas.Bool.{cases_order, false≢true}
 use Rattle.std.proofs.lemmas.Bool.Decides.{nat_tests}
 use Rattle.std.proofs.lemmas.List.{append_assoc, map-append, take-map, drop-map, length-map, length-append, get_or-map, get_or_append_left}
 use Rattle.std.proofs.lemmas.List.FromFn.{length-range_with_len, get_or-range_with_len}
-use Rattle.std.proofs.lemmas.List.Sorted.{IsPermutation-sym, IsPermutation-trans, IsPermutation-to_front, IsPermutation-append_left, IsPermutation-insert, IsPermutation-remove, All-permutation, length_permutation}
+use Rattle.std.proofs.lemmas.List.Sorted.{IsPermutation-sym, IsPermutation-trans, IsPermutation-to_front, IsPermutation-append_left}
+use Rattle.std.proofs.lemmas.List.Sorted.{IsPermutation-insert, IsPermutation-remove, All-permutation, length_permutation}
 use Rattle.std.proofs.lemmas.Map.Keys.{apart_from_distinct, IsDistinct-from_apart, IsDistinct-IsPermutation}
 use Rattle.lx_base.specs.declared.TheConstants.{CUES}
 use Rattle.lx_spec.specs.Show.{Cue}
@@ -25,9 +27,11 @@ row_within order k rows within = rows.within k 0 (omega (arith, length-map order
 -- two places have two rows
 differ : (rows : List ℕ) (i k : ℕ) → AreApart rows → i < k → k < length rows → get_or rows i 0 ≢ get_or rows k 0
 differ rows i k apart less within same =
-    false≢true (sym (apart_from_distinct (λ a b. a == b) rows i k 0 apart.distinct less within) ∙ eq_true (get_or rows i 0) (get_or rows k 0) same)
+    false≢true (sym (apart_from_distinct (λ a b. a == b) rows i k 0 apart.distinct less within)
+    ∙ eq_true (get_or rows i 0) (get_or rows k 0) same)
 
-pub rows_differ : (order : List Place) (i k : ℕ) → AreApart (own_rows order) → i < length order → k < length order → i ≢ k → row_at_place order i ≢ row_at_place order k
+pub rows_differ : (order : List Place) (i k : ℕ) → AreApart (own_rows order) → i < length order → k < length order → i ≢ k
+    → row_at_place order i ≢ row_at_place order k
 rows_differ order i k apart low high other same =
     let long : length (own_rows order) ≡ length order = length-map order (λ (p : Place). p.row) in
     elim (cases_order i k) [
@@ -44,8 +48,10 @@ front_apart xs ys apart =
     let long : length (xs ++ ys) ≡ length xs + length ys = length-append xs ys in
     record {
       distinct = IsDistinct-from_apart (λ a b. a == b) xs (λ i j d less within.
-          let all : (get_or (xs ++ ys) i d == get_or (xs ++ ys) j d) ≡ false = apart_from_distinct (λ a b. a == b) (xs ++ ys) i j d apart.distinct less (omega (arith, long)) in
-          ap (λ a. a == get_or xs j d) (sym (get_or_append_left xs ys d i (omega arith))) ∙ ap (λ b. get_or (xs ++ ys) i d == b) (sym (get_or_append_left xs ys d j within)) ∙ all);
+          let all : (get_or (xs ++ ys) i d == get_or (xs ++ ys) j d) ≡ false =
+          apart_from_distinct (λ a b. a == b) (xs ++ ys) i j d apart.distinct less (omega (arith, long)) in
+          ap (λ a. a == get_or xs j d) (sym (get_or_append_left xs ys d i (omega arith)))
+          ∙ ap (λ b. get_or (xs ++ ys) i d == b) (sym (get_or_append_left xs ys d j within)) ∙ all);
       within = λ k d within. subst (λ r. r < CUES) (get_or_append_left xs ys d k within) (apart.within k d (omega (arith, long)));
     }
 
@@ -62,7 +68,8 @@ moved xs ys same apart = record {
   within = All-permutation (λ r. r < CUES) xs ys same apart.within;
 }
 
-pub pool_moved : (old new : List Place) (free spare : List ℕ) → IsPermutation (own_rows old ++ free) (own_rows new ++ spare) → IsPool old free → IsPool new spare
+pub pool_moved : (old new : List Place) (free spare : List ℕ) → IsPermutation (own_rows old ++ free) (own_rows new ++ spare)
+    → IsPool old free → IsPool new spare
 pool_moved old new free spare same pool = record {
   apart = moved (own_rows old ++ free) (own_rows new ++ spare) same pool.apart;
   all = length_permutation (own_rows old ++ free) (own_rows new ++ spare) same ∙ pool.all;
@@ -88,22 +95,28 @@ rows_taken rows free at row =
     (IsPermutation-to_front (rows ++ free) row)
     (IsPermutation-append_left free (row ∷ rows) (insert rows at row) (IsPermutation-insert rows at row)))
 
-pub pool_taken : (order : List Place) (free : List ℕ) (at : ℕ) (p : Place) → IsPool order (free ++ p.row ∷ []) → IsPool (insert order at p) free
+pub pool_taken : (order : List Place) (free : List ℕ) (at : ℕ) (p : Place) → IsPool order (free ++ p.row ∷ [])
+    → IsPool (insert order at p) free
 pool_taken order free at p pool =
     pool_moved order (insert order at p) (free ++ p.row ∷ []) free
-    (subst (λ (xs : List ℕ). IsPermutation (own_rows order ++ (free ++ p.row ∷ [])) (xs ++ free)) (sym (own-insert order at p)) (rows_taken (own_rows order) free at p.row)) pool
+    (subst (λ (xs : List ℕ). IsPermutation (own_rows order ++ (free ++ p.row ∷ [])) (xs ++ free)) (sym (own-insert order at p))
+    (rows_taken (own_rows order) free at p.row)) pool
 
 -- a cue's own row becomes the last free one
-rows_freed : (rows free : List ℕ) (at row : ℕ) → at < length rows → row ≡ get_or rows at row → IsPermutation (rows ++ free) (remove rows at ++ (free ++ row ∷ []))
+rows_freed : (rows free : List ℕ) (at row : ℕ) → at < length rows → row ≡ get_or rows at row
+    → IsPermutation (rows ++ free) (remove rows at ++ (free ++ row ∷ []))
 rows_freed rows free at row within is =
     subst (λ (xs : List ℕ). IsPermutation (rows ++ free) xs) (append_assoc (remove rows at) free (row ∷ []))
     (IsPermutation-trans (rows ++ free) (row ∷ (remove rows at ++ free)) ((remove rows at ++ free) ++ row ∷ [])
     (IsPermutation-append_left free rows (row ∷ remove rows at) (IsPermutation-remove rows at row within is))
-    (IsPermutation-sym ((remove rows at ++ free) ++ row ∷ []) (row ∷ (remove rows at ++ free)) (IsPermutation-to_front (remove rows at ++ free) row)))
+    (IsPermutation-sym ((remove rows at ++ free) ++ row ∷ []) (row ∷ (remove rows at ++ free))
+    (IsPermutation-to_front (remove rows at ++ free) row)))
 
-pub pool_freed : (order : List Place) (free : List ℕ) (at : ℕ) (p : Place) → at < length order → p ≡ get_or order at p → IsPool order free → IsPool (remove order at) (free ++ p.row ∷ [])
+pub pool_freed : (order : List Place) (free : List ℕ) (at : ℕ) (p : Place) → at < length order → p ≡ get_or order at p → IsPool order free
+    → IsPool (remove order at) (free ++ p.row ∷ [])
 pool_freed order free at p within is pool =
-    let here : p.row ≡ get_or (own_rows order) at p.row = sym (get_or-map (λ (x : Place). x.row) order at p p.row within ∙ ap (λ (x : Place). x.row) (sym is)) in
+    let here : p.row ≡ get_or (own_rows order) at p.row =
+    sym (get_or-map (λ (x : Place). x.row) order at p p.row within ∙ ap (λ (x : Place). x.row) (sym is)) in
     pool_moved order (remove order at) free (free ++ p.row ∷ [])
     (subst (λ (xs : List ℕ). IsPermutation (own_rows order ++ free) (xs ++ (free ++ p.row ∷ []))) (sym (own-remove order at))
     (rows_freed (own_rows order) free at p.row (omega (arith, length-map order (λ (x : Place). x.row))) here)) pool
@@ -124,7 +137,8 @@ range_append a zero n =
 range_append a (suc m) n =
     let e : a + suc m ≡ a + 1 + m = omega arith in
     let f : suc m + n ≡ suc (m + n) = omega arith in
-    ap (λ k. a ∷ (range_with_len (a + 1) m ++ range_with_len k n)) e ∙ ap (λ xs. a ∷ xs) (range_append (a + 1) m n) ∙ ap (range_with_len a) (sym f)
+    ap (λ k. a ∷ (range_with_len (a + 1) m ++ range_with_len k n)) e ∙ ap (λ xs. a ∷ xs) (range_append (a + 1) m n)
+    ∙ ap (range_with_len a) (sym f)
 
 range_apart : (n : ℕ) → n ≤ CUES → AreApart (range_with_len 0 n)
 range_apart n few = record {
@@ -162,6 +176,8 @@ whole_pool cues n all =
     }
 
 -- the cues listed, and the rows above theirs freed
-pub listed_pool : (order : List Place) (free : List ℕ) (cues : List Cue) (n : ℕ) → order ≡ placed_from 0 cues → free ≡ range_with_len (length cues) n → length cues + n ≡ CUES → IsPool order free
+pub listed_pool : (order : List Place) (free : List ℕ) (cues : List Cue) (n : ℕ) → order ≡ placed_from 0 cues
+    → free ≡ range_with_len (length cues) n → length cues + n ≡ CUES → IsPool order free
 listed_pool order free cues n listed freed all =
-    subst (λ (xs : List Place). IsPool xs free) (sym listed) (subst (λ (xs : List ℕ). IsPool (placed_from 0 cues) xs) (sym freed) (whole_pool cues n all))
+    subst (λ (xs : List Place). IsPool xs free) (sym listed)
+    (subst (λ (xs : List ℕ). IsPool (placed_from 0 cues) xs) (sym freed) (whole_pool cues n all))

@@ -1,5 +1,6 @@
 -- The rows of cues, by their places in the order, and the level that they give at a number.
-use Rattle.std.proofs.Common.{◌≡◌, ℕ, zero, suc, ◌-◌, ◌*◌, ◌<◌, ◌≤◌, true, false, cond, List, [], ◌∷◌, length, get_or, take, drop, map, Some, refl, ◌∙◌, sym, ap, arith, inl, inr}
+use Rattle.std.proofs.Common.{◌≡◌, ℕ, zero, suc, ◌-◌, ◌*◌, ◌<◌, ◌≤◌, true, false, cond, List, [], ◌∷◌, length, get_or, take, drop, map}
+use Rattle.std.proofs.Common.{Some, refl, ◌∙◌, sym, ap, arith, inl, inr}
 use Rattle.std.specs.Prelude.{Option, find, reverse, nat_le, slice_get}
 use Rattle.std.specs.Option.{option_map_or}
 use Rattle.std.specs.List.{AllByRecursion}
@@ -20,13 +21,15 @@ count_up_to n numbers = length (entries_up_to (λ m. m) n numbers)
 pub count_up_to-map : {A : Type 0} (key : A → ℕ) (n : ℕ) (xs : List A) → length (entries_up_to key n xs) ≡ count_up_to n (map key xs)
 count_up_to-map key n [] = refl
 count_up_to-map {A} key n (x ∷ xs) =
-    elim (nat_le (key x) n) as (λ b. length (cond b (x ∷ entries_up_to key n xs) (entries_up_to key n xs)) ≡ length (cond b (key x ∷ entries_up_to (λ m. m) n (map key xs)) (entries_up_to (λ m. m) n (map key xs)))) [
+    elim (nat_le (key x) n) as (λ b. length (cond b (x ∷ entries_up_to key n xs) (entries_up_to key n xs))
+    ≡ length (cond b (key x ∷ entries_up_to (λ m. m) n (map key xs)) (entries_up_to (λ m. m) n (map key xs)))) [
       | true ↦ ap suc (count_up_to-map key n xs)
       | false ↦ count_up_to-map key n xs
     ]
 
 -- those up to a number stand in front
-pub up_to_is_front : {A : Type 0} (key : A → ℕ) (n : ℕ) (xs : List A) → IsStrictlySorted key xs → entries_up_to key n xs ≡ take (count_up_to n (map key xs)) xs
+pub up_to_is_front : {A : Type 0} (key : A → ℕ) (n : ℕ) (xs : List A) → IsStrictlySorted key xs
+    → entries_up_to key n xs ≡ take (count_up_to n (map key xs)) xs
 up_to_is_front key n [] sorted = refl
 up_to_is_front {A} key n (x ∷ xs) sorted =
     elim (cases_lt n (key x)) [
@@ -43,24 +46,31 @@ slice_get-take [] k (suc n) less = refl
 slice_get-take (x ∷ xs) zero (suc n) less = refl
 slice_get-take (x ∷ xs) (suc k) (suc n) less = slice_get-take xs k n (omega arith)
 
-last_of_front : {A : Type 0} (f : A → ℕ) (xs : List A) (j : ℕ) → option_map_or f (slice_get (take j xs) (j - 1)) 0 ≡ last_value j (λ k. option_map_or f (slice_get xs k) 0)
+last_of_front : {A : Type 0} (f : A → ℕ) (xs : List A) (j : ℕ)
+    → option_map_or f (slice_get (take j xs) (j - 1)) 0 ≡ last_value j (λ k. option_map_or f (slice_get xs k) 0)
 last_of_front f xs zero = refl
 last_of_front {A} f xs (suc k) =
     let e : suc k - 1 ≡ k = omega arith in
     ap (λ (o : Option A). option_map_or f o 0) (ap (slice_get (take (suc k) xs)) e ∙ slice_get-take xs k (suc k) (omega arith))
 
 -- the last entry up to a number, by its place
-pub last_up_to : {A : Type 0} (key f : A → ℕ) (n : ℕ) (xs : List A) → IsStrictlySorted key xs → option_map_or f (find (λ x. nat_le (key x) n) (reverse xs)) 0 ≡ last_value (count_up_to n (map key xs)) (λ k. option_map_or f (slice_get xs k) 0)
+pub last_up_to : {A : Type 0} (key f : A → ℕ) (n : ℕ) (xs : List A) → IsStrictlySorted key xs
+    → option_map_or f (find (λ x. nat_le (key x) n) (reverse xs)) 0
+    ≡ last_value (count_up_to n (map key xs)) (λ k. option_map_or f (slice_get xs k) 0)
 last_up_to {A} key f n xs sorted =
-    let found : find (λ x. nat_le (key x) n) (reverse xs) ≡ slice_get (entries_up_to key n xs) (length (entries_up_to key n xs) - 1) = sym (find_last (λ x. nat_le (key x) n) xs) in
-    let front : slice_get (entries_up_to key n xs) (length (entries_up_to key n xs) - 1) ≡ slice_get (take (count_up_to n (map key xs)) xs) (count_up_to n (map key xs) - 1) =
-    ap (λ k. slice_get (entries_up_to key n xs) (k - 1)) (count_up_to-map key n xs) ∙ ap (λ (ys : List A). slice_get ys (count_up_to n (map key xs) - 1)) (up_to_is_front key n xs sorted) in
+    let found : find (λ x. nat_le (key x) n) (reverse xs) ≡ slice_get (entries_up_to key n xs) (length (entries_up_to key n xs) - 1) =
+    sym (find_last (λ x. nat_le (key x) n) xs) in
+    let front : slice_get (entries_up_to key n xs) (length (entries_up_to key n xs) - 1)
+    ≡ slice_get (take (count_up_to n (map key xs)) xs) (count_up_to n (map key xs) - 1) =
+    ap (λ k. slice_get (entries_up_to key n xs) (k - 1)) (count_up_to-map key n xs)
+    ∙ ap (λ (ys : List A). slice_get ys (count_up_to n (map key xs) - 1)) (up_to_is_front key n xs sorted) in
     ap (λ (o : Option A). option_map_or f o 0) (found ∙ front) ∙ last_of_front f xs (count_up_to n (map key xs))
 
 pub count_within : (n : ℕ) (numbers : List ℕ) → count_up_to n numbers ≤ length numbers
 count_within n numbers = shorter (λ m. nat_le m n) numbers
 
-pub numbers-rows_of : (channels : ℕ) (order : List Place) (levels : List ℕ) → map (λ r. r.number) (rows_of channels order levels) ≡ map (λ p. p.cue) order
+pub numbers-rows_of : (channels : ℕ) (order : List Place) (levels : List ℕ)
+    → map (λ r. r.number) (rows_of channels order levels) ≡ map (λ p. p.cue) order
 numbers-rows_of channels [] levels = refl
 numbers-rows_of channels (p ∷ order) levels = ap (λ ns. p.cue ∷ ns) (numbers-rows_of channels order levels)
 
@@ -77,7 +87,8 @@ IsStrictlySorted-rows_of channels (p ∷ order) levels sorted =
 
 -- the row of the cue at a place
 pub row_of_place : (channels : ℕ) (order : List Place) (levels : List ℕ) (k : ℕ) (p : Place) → k < length order → p ≡ get_or order k p
-    → slice_get (rows_of channels order levels) k ≡ Some (record { number = p.cue; levels = take channels (drop (p.row * channels) levels) })
+    → slice_get (rows_of channels order levels) k
+    ≡ Some (record { number = p.cue; levels = take channels (drop (p.row * channels) levels) })
 row_of_place channels [] levels k p within is = absurd (omega arith)
 row_of_place channels (q ∷ order) levels zero p within is =
     ap (λ (x : Place). Some (record { number = x.cue; levels = take channels (drop (x.row * channels) levels) })) (sym is)
@@ -102,12 +113,14 @@ sheet_of channels order levels = record { channels = channels; rows = rows_of ch
 
 -- the level at a number stands in the row of the last cue up to it
 pub level_of_block : (channels : ℕ) (order : List Place) (levels : List ℕ) (n c : ℕ) → IsStrictlySorted (λ p. p.cue) order
-    → level_of (sheet_of channels order levels) n c ≡ last_value (count_up_to n (map (λ p. p.cue) order)) (λ k. cue_level channels order levels k c)
+    → level_of (sheet_of channels order levels) n c
+    ≡ last_value (count_up_to n (map (λ p. p.cue) order)) (λ k. cue_level channels order levels k c)
 unfolding level_of
 level_of_block channels order levels n c sorted =
     let numbers : List ℕ = map (λ (p : Place). p.cue) order in
     let within : count_up_to n numbers ≤ length order = omega (arith, count_within n numbers, length-map order (λ (p : Place). p.cue)) in
     let at : ℕ → ℕ = λ k. option_map_or (λ (r : Row). level_in_row r c) (slice_get (rows_of channels order levels) k) 0 in
-    last_up_to (λ (r : Row). r.number) (λ (r : Row). level_in_row r c) n (rows_of channels order levels) (IsStrictlySorted-rows_of channels order levels sorted)
+    last_up_to (λ (r : Row). r.number) (λ (r : Row). level_in_row r c) n (rows_of channels order levels)
+    (IsStrictlySorted-rows_of channels order levels sorted)
     ∙ ap (λ (ns : List ℕ). last_value (count_up_to n ns) at) (numbers-rows_of channels order levels)
     ∙ last_value_same (count_up_to n numbers) _ _ (λ k less. level_at_place channels order levels k c (omega (arith, within, less)))

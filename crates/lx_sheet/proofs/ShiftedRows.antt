@@ -1,8 +1,10 @@
 -- Rows whose cues stand at other places of the order once a cue came or went: they follow from one another as before.
-use Rattle.std.proofs.Common.{◌≡◌, ℕ, suc, ◌+◌, ◌-◌, ◌<◌, ◌≤◌, true, false, List, [], ◌∷◌, ◌++◌, length, get_or, take, drop, map, Some, None, refl, ◌∙◌, sym, ap, subst, inl, inr, arith}
+use Rattle.std.proofs.Common.{◌≡◌, ℕ, suc, ◌+◌, ◌-◌, ◌<◌, ◌≤◌, true, false, List, [], ◌∷◌, ◌++◌, length, get_or, take, drop, map, Some}
+use Rattle.std.proofs.Common.{None, refl, ◌∙◌, sym, ap, subst, inl, inr, arith}
 use Rattle.std.specs.Prelude.{Option, insert, remove, is_some}
 use Rattle.std.proofs.lemmas.Bool.{cases_eq, cases_lt, false≢true}
-use Rattle.std.proofs.lemmas.List.{get_or-drop, get_or-take, get_or_default, take-take, take-map, drop-map, length-drop, length-append, length-map, length-take-le, map-append, take_at, drop_at, drop-drop}
+use Rattle.std.proofs.lemmas.List.{get_or-drop, get_or-take, get_or_default, take-take, take-map, drop-map, length-drop, length-append}
+use Rattle.std.proofs.lemmas.List.{length-map, length-take-le, map-append, take_at, drop_at, drop-drop}
 use Rattle.std.proofs.lemmas.Option.{slice_get-get_or}
 use Rattle.lx_spec.specs.Show.{Cue, Show}
 use Rattle.lx_spec.specs.SortedList.{IsStrictlySorted, entry_at, entries_below, entries_above, taken_out}
@@ -10,12 +12,12 @@ use Rattle.lx_spec.specs.EditedShow.{new_cue, with_cue, without_cue}
 use Rattle.lx_spec.specs.TrackedLevel.{cue_of}
 use Rattle.lx_spec.proofs.Comparisons.{eq_true, eq_other}
 use Rattle.lx_spec.proofs.Lists.{none_differs}
-use Rattle.lx_spec.proofs.SortedLists.{below_and_above, split_there}
+use Rattle.lx_spec.proofs.SortedLists.{below_and_above, found_number, split_there}
 use Rattle.lx_show.specs.Indexes.{StandsAt, GoesAt}
 use Rattle.lx_sheet.specs.declared.sheet.Place.{Place}
 use Rattle.lx_sheet.specs.Block.{own_rows, row_at_place, cell}
 use Rattle.lx_sheet.specs.After.{level_after, tracked_on, IsRight, Follows, IsFilled}
-use Rattle.lx_sheet.specs.Standing.{StandsFor, cue_numbers}
+use Rattle.lx_sheet.specs.Standing.{RowsStandFor, cue_numbers}
 use Rattle.lx_sheet.proofs.EditedShows.{below-map, above-map}
 use Rattle.lx_sheet.proofs.Found.{same_numbers}
 use Rattle.lx_sheet.proofs.LevelsAfter.{level_after-take}
@@ -26,14 +28,16 @@ use Rattle.lx_sheet.proofs.Rows.{sheet_of}
 row_shifted : (old new : List Place) (a b i : ℕ) → drop a old ≡ drop b new → row_at_place new (b + i) ≡ row_at_place old (a + i)
 row_shifted old new a b i same =
     sym (get_or-drop b (own_rows new) i 0)
-    ∙ ap (λ (xs : List ℕ). get_or xs i 0) (drop-map (λ (p : Place). p.row) b new ∙ sym (ap own_rows same) ∙ sym (drop-map (λ (p : Place). p.row) a old))
+    ∙ ap (λ (xs : List ℕ). get_or xs i 0) (drop-map (λ (p : Place). p.row) b new ∙ sym (ap own_rows same)
+    ∙ sym (drop-map (λ (p : Place). p.row) a old))
     ∙ get_or-drop a (own_rows old) i 0
 
 cue_shifted : (before cues : List Cue) (a b i : ℕ) (d : Cue) → drop a before ≡ drop b cues → get_or before (a + i) d ≡ get_or cues (b + i) d
 cue_shifted before cues a b i d same = sym (get_or-drop a before i d) ∙ ap (λ (xs : List Cue). get_or xs i d) same ∙ get_or-drop b cues i d
 
 -- one row on, where each was right before
-follows_step : (channels : ℕ) (old new : List Place) (before cues : List Cue) (levels : List ℕ) (a b i c : ℕ) → drop a old ≡ drop b new → drop a before ≡ drop b cues
+follows_step : (channels : ℕ) (old new : List Place) (before cues : List Cue) (levels : List ℕ) (a b i c : ℕ) → drop a old ≡ drop b new
+    → drop a before ≡ drop b cues
     → a + i + 1 < length before → b + i + 1 < length cues
     → ((k : ℕ) → k < length before → IsRight channels old before levels k c)
     → IsRight channels new cues levels (b + i) c → IsRight channels new cues levels (b + i + 1) c
@@ -56,7 +60,8 @@ follows_step channels old new before cues levels a b i c rows same within within
     ∙ ap (tracked_on cue c) level
     ∙ sym (level_after-take cues (b + i + 1) cue c within' is')
 
-pub follows_on : (channels : ℕ) (old new : List Place) (before cues : List Cue) (levels : List ℕ) (a b : ℕ) → drop a old ≡ drop b new → drop a before ≡ drop b cues
+pub follows_on : (channels : ℕ) (old new : List Place) (before cues : List Cue) (levels : List ℕ) (a b : ℕ) → drop a old ≡ drop b new
+    → drop a before ≡ drop b cues
     → a ≤ length before → b ≤ length cues
     → ((k c : ℕ) → k < length before → IsRight channels old before levels k c)
     → Follows channels new cues levels b
@@ -69,12 +74,14 @@ follows_on channels old new before cues levels a b rows same in_before in_cues r
     (subst (λ n. IsRight channels new cues levels n c) (sym k_is) here))
 
 -- before that place nothing was changed
-pub right_front : (channels : ℕ) (old new : List Place) (before cues : List Cue) (levels : List ℕ) (at k c : ℕ) → take at old ≡ take at new → take at before ≡ take at cues
+pub right_front : (channels : ℕ) (old new : List Place) (before cues : List Cue) (levels : List ℕ) (at k c : ℕ) → take at old ≡ take at new
+    → take at before ≡ take at cues
     → k < at → IsRight channels old before levels k c → IsRight channels new cues levels k c
 right_front channels old new before cues levels at k c rows same less right =
     let row : row_at_place new k ≡ row_at_place old k =
     sym (get_or-take at (own_rows new) k 0 less)
-    ∙ ap (λ (xs : List ℕ). get_or xs k 0) (take-map (λ (p : Place). p.row) at new ∙ sym (ap own_rows rows) ∙ sym (take-map (λ (p : Place). p.row) at old))
+    ∙ ap (λ (xs : List ℕ). get_or xs k 0) (take-map (λ (p : Place). p.row) at new ∙ sym (ap own_rows rows)
+    ∙ sym (take-map (λ (p : Place). p.row) at old))
     ∙ get_or-take at (own_rows old) k 0 less in
     let front : take (k + 1) before ≡ take (k + 1) cues =
     sym (take-take (k + 1) at before (omega arith)) ∙ ap (take (k + 1)) same ∙ take-take (k + 1) at cues (omega arith) in
@@ -89,14 +96,17 @@ taken_absent {A} key n (x ∷ xs) absent =
       | inr other ↦ rw (eq_other (key x) n other) (ap (λ ys. x ∷ ys) (taken_absent key n xs (rw (eq_other (key x) n other) at absent)))
     ]
 
-pub split_absent : {A : Type 0} (key : A → ℕ) (n : ℕ) (xs : List A) → IsStrictlySorted key xs → entry_at key n xs ≡ None → xs ≡ entries_below key n xs ++ entries_above key n xs
+pub split_absent : {A : Type 0} (key : A → ℕ) (n : ℕ) (xs : List A) → IsStrictlySorted key xs → entry_at key n xs ≡ None
+    → xs ≡ entries_below key n xs ++ entries_above key n xs
 split_absent key n xs sorted absent = sym (below_and_above key n xs sorted ∙ taken_absent key n xs absent)
 
 -- as many stand below a number in lists with the same numbers
-pub numbers_below : {A B : Type 0} (key : A → ℕ) (other : B → ℕ) (n : ℕ) (xs : List A) (ys : List B) → map key xs ≡ map other ys → map key (entries_below key n xs) ≡ map other (entries_below other n ys)
+pub numbers_below : {A B : Type 0} (key : A → ℕ) (other : B → ℕ) (n : ℕ) (xs : List A) (ys : List B) → map key xs ≡ map other ys
+    → map key (entries_below key n xs) ≡ map other (entries_below other n ys)
 numbers_below key other n xs ys same = sym (below-map key n xs) ∙ ap (entries_below (λ m. m) n) same ∙ below-map other n ys
 
-pub numbers_above : {A B : Type 0} (key : A → ℕ) (other : B → ℕ) (n : ℕ) (xs : List A) (ys : List B) → map key xs ≡ map other ys → map key (entries_above key n xs) ≡ map other (entries_above other n ys)
+pub numbers_above : {A B : Type 0} (key : A → ℕ) (other : B → ℕ) (n : ℕ) (xs : List A) (ys : List B) → map key xs ≡ map other ys
+    → map key (entries_above key n xs) ≡ map other (entries_above other n ys)
 numbers_above key other n xs ys same = sym (above-map key n xs) ∙ ap (entries_above (λ m. m) n) same ∙ above-map other n ys
 
 -- behind an entry that stands at a place
@@ -107,7 +117,8 @@ with_some : {A R : Type 0} (o : Option A) → is_some o ≡ true → ((x : A) �
 with_some None some f = absurd (false≢true some)
 with_some (Some x) some f = f x refl
 
--- The orders and cues before and after a cue came or went: the same stands in front of its place, and the same behind, from one place or another.
+-- The orders and cues before and after a cue came or went: the same stands in front of its place, and the same behind, from one
+-- place or another.
 pub record IsShifted (old new : List Place) (before cues : List Cue) (at a b : ℕ) : Type 0 where
   pub front_rows : take at old ≡ take at new
   pub front_cues : take at before ≡ take at cues
@@ -130,14 +141,16 @@ same_front n at old before same front within =
     ∙ length-take-le at old within
 
 pub inserted : (before : Show) (cue : Cue) (n at : ℕ) (old new : List Place) (p : Place) → IsStrictlySorted (λ x. x.number) before.cues
-    → map (λ x. x.cue) old ≡ cue_numbers before → cue.number ≡ n → cue_of before n ≡ None → GoesAt (λ x. x.cue) n old at → p.cue ≡ n → new ≡ insert old at p
+    → map (λ x. x.cue) old ≡ cue_numbers before → cue.number ≡ n → cue_of before n ≡ None → GoesAt (λ x. x.cue) n old at → p.cue ≡ n
+    → new ≡ insert old at p
     → IsShifted old new before.cues (with_cue before cue).cues at at (at + 1)
 inserted before cue n at old new p sorted same number absent goes here is =
     let B : List Cue = before.cues in
     let F : List Cue = entries_below (λ x. x.number) n B in
     let A : List Cue = entries_above (λ x. x.number) n B in
     let was : B ≡ F ++ A = split_absent (λ (x : Cue). x.number) n B sorted absent in
-    let now : (with_cue before cue).cues ≡ F ++ cue ∷ A = ap (λ m. entries_below (λ (x : Cue). x.number) m B ++ cue ∷ entries_above (λ x. x.number) m B) number in
+    let now : (with_cue before cue).cues ≡ F ++ cue ∷ A =
+    ap (λ m. entries_below (λ (x : Cue). x.number) m B ++ cue ∷ entries_above (λ x. x.number) m B) number in
     let long : length F ≡ at = same_front n at old B same goes.before goes.within in
     let width : length (take at old) ≡ at = length-take-le at old goes.within in
     record {
@@ -152,8 +165,10 @@ inserted before cue n at old new p sorted same number absent goes here is =
       numbers =
           ap (map (λ (x : Place). x.cue)) is
           ∙ map-append (λ (x : Place). x.cue) (take at old) (p ∷ drop at old)
-          ∙ ap (λ (xs : List ℕ). xs ++ p.cue ∷ map (λ (x : Place). x.cue) (drop at old)) (ap (map (λ (x : Place). x.cue)) goes.before ∙ numbers_below (λ (x : Place). x.cue) (λ (x : Cue). x.number) n old B same)
-          ∙ ap (λ (xs : List ℕ). map (λ (x : Cue). x.number) F ++ p.cue ∷ xs) (ap (map (λ (x : Place). x.cue)) goes.after ∙ numbers_above (λ (x : Place). x.cue) (λ (x : Cue). x.number) n old B same)
+          ∙ ap (λ (xs : List ℕ). xs ++ p.cue ∷ map (λ (x : Place). x.cue) (drop at old))
+          (ap (map (λ (x : Place). x.cue)) goes.before ∙ numbers_below (λ (x : Place). x.cue) (λ (x : Cue). x.number) n old B same)
+          ∙ ap (λ (xs : List ℕ). map (λ (x : Cue). x.number) F ++ p.cue ∷ xs)
+          (ap (map (λ (x : Place). x.cue)) goes.after ∙ numbers_above (λ (x : Place). x.cue) (λ (x : Cue). x.number) n old B same)
           ∙ ap (λ (m : ℕ). map (λ (x : Cue). x.number) F ++ m ∷ map (λ (x : Cue). x.number) A) (here ∙ sym number)
           ∙ sym (map-append (λ (x : Cue). x.number) F (cue ∷ A))
           ∙ sym (ap (map (λ (x : Cue). x.number)) now);
@@ -167,7 +182,8 @@ removed before n at old new sorted same stands is =
     let F : List Cue = entries_below (λ x. x.number) n B in
     let A : List Cue = entries_above (λ x. x.number) n B in
     let some : is_some (cue_of before n) ≡ true =
-    sym (same_numbers (λ (p : Place). p.cue) (λ (cue : Cue). cue.number) n old B same) ∙ ap is_some (stands.here ∙ slice_get-get_or old at (record { cue = 0; row = 0 }) stands.within) in
+    sym (same_numbers (λ (p : Place). p.cue) (λ (cue : Cue). cue.number) n old B same)
+    ∙ ap is_some (stands.here ∙ slice_get-get_or old at (record { cue = 0; row = 0 }) stands.within) in
     with_some (cue_of before n) some (λ x found.
     let was : B ≡ F ++ x ∷ A = split_there (λ (c : Cue). c.number) n x B sorted found in
     let now : (without_cue before n).cues ≡ F ++ A = sym (below_and_above (λ (c : Cue). c.number) n B sorted) in
@@ -186,9 +202,46 @@ removed before n at old new sorted same stands is =
       numbers =
           ap (map (λ (c : Place). c.cue)) is
           ∙ map-append (λ (c : Place). c.cue) (take at old) (drop (suc at) old)
-          ∙ ap (λ (xs : List ℕ). xs ++ map (λ (c : Place). c.cue) (drop (suc at) old)) (ap (map (λ (c : Place). c.cue)) stands.before ∙ numbers_below (λ (c : Place). c.cue) (λ (c : Cue). c.number) n old B same)
-          ∙ ap (λ (xs : List ℕ). map (λ (c : Cue). c.number) F ++ xs) (ap (λ m. map (λ (c : Place). c.cue) (drop m old)) next ∙ ap (map (λ (c : Place). c.cue)) stands.after ∙ numbers_above (λ (c : Place). c.cue) (λ (c : Cue). c.number) n old B same)
+          ∙ ap (λ (xs : List ℕ). xs ++ map (λ (c : Place). c.cue) (drop (suc at) old))
+          (ap (map (λ (c : Place). c.cue)) stands.before ∙ numbers_below (λ (c : Place). c.cue) (λ (c : Cue). c.number) n old B same)
+          ∙ ap (λ (xs : List ℕ). map (λ (c : Cue). c.number) F ++ xs)
+          (ap (λ m. map (λ (c : Place). c.cue) (drop m old)) next ∙ ap (map (λ (c : Place). c.cue)) stands.after
+          ∙ numbers_above (λ (c : Place). c.cue) (λ (c : Cue). c.number) n old B same)
           ∙ sym (map-append (λ (c : Cue). c.number) F A)
+          ∙ sym (ap (map (λ (c : Cue). c.number)) now);
+    })
+
+pub replaced : (before : Show) (cue : Cue) (n at : ℕ) (old : List Place) → IsStrictlySorted (λ x. x.number) before.cues
+    → map (λ x. x.cue) old ≡ cue_numbers before → cue.number ≡ n → StandsAt (λ x. x.cue) n old at
+    → IsShifted old old before.cues (with_cue before cue).cues at (at + 1) (at + 1)
+replaced before cue n at old sorted same number stands =
+    let B : List Cue = before.cues in
+    let F : List Cue = entries_below (λ x. x.number) n B in
+    let A : List Cue = entries_above (λ x. x.number) n B in
+    let some : is_some (cue_of before n) ≡ true =
+    sym (same_numbers (λ (p : Place). p.cue) (λ (cue : Cue). cue.number) n old B same)
+    ∙ ap is_some (stands.here ∙ slice_get-get_or old at (record { cue = 0; row = 0 }) stands.within) in
+    with_some (cue_of before n) some (λ x found.
+    let was : B ≡ F ++ x ∷ A = split_there (λ (c : Cue). c.number) n x B sorted found in
+    let now : (with_cue before cue).cues ≡ F ++ cue ∷ A =
+    ap (λ m. entries_below (λ (x : Cue). x.number) m B ++ cue ∷ entries_above (λ x. x.number) m B) number in
+    let here : x.number ≡ n = sym (found_number (λ (c : Cue). c.number) n B x found) in
+    let long : length F ≡ at = same_front n at old B same stands.before (omega (arith, stands.within)) in
+    record {
+      front_rows = refl;
+      front_cues = ap (take at) was ∙ take_at F (x ∷ A) at long ∙ sym (ap (take at) now ∙ take_at F (cue ∷ A) at long);
+      back_rows = refl;
+      back_cues = ap (drop (at + 1)) was ∙ past_middle F A x at long ∙ sym (ap (drop (at + 1)) now ∙ past_middle F A cue at long);
+      order = omega arith;
+      old_within = omega (arith, ap length was, length-append F (x ∷ A), long);
+      new_within = omega (arith, ap length now, length-append F (cue ∷ A), long);
+      new_least = omega arith;
+      numbers =
+          same
+          ∙ ap (map (λ (c : Cue). c.number)) was
+          ∙ map-append (λ (c : Cue). c.number) F (x ∷ A)
+          ∙ ap (λ (m : ℕ). map (λ (c : Cue). c.number) F ++ m ∷ map (λ (c : Cue). c.number) A) (here ∙ sym number)
+          ∙ sym (map-append (λ (c : Cue). c.number) F (cue ∷ A))
           ∙ sym (ap (map (λ (c : Cue). c.number)) now);
     })
 
@@ -197,18 +250,26 @@ none_of : {A : Type 0} (o : Option A) → is_some o ≡ false → o ≡ None
 none_of None none = refl
 none_of (Some x) none = absurd (false≢true (sym none))
 
-pub absent_alike : {A B : Type 0} (key : A → ℕ) (other : B → ℕ) (n : ℕ) (xs : List A) (ys : List B) → map key xs ≡ map other ys → entry_at key n xs ≡ None → entry_at other n ys ≡ None
+pub absent_alike : {A B : Type 0} (key : A → ℕ) (other : B → ℕ) (n : ℕ) (xs : List A) (ys : List B) → map key xs ≡ map other ys
+    → entry_at key n xs ≡ None → entry_at other n ys ≡ None
 absent_alike key other n xs ys same absent = none_of (entry_at other n ys) (sym (same_numbers key other n xs ys same) ∙ ap is_some absent)
 
 -- a cue that comes makes one more
-pub one_more : (before : Show) (cue : Cue) → IsStrictlySorted (λ x. x.number) before.cues → cue_of before cue.number ≡ None → length (with_cue before cue).cues ≡ length before.cues + 1
+pub one_more : (before : Show) (cue : Cue) → IsStrictlySorted (λ x. x.number) before.cues → cue_of before cue.number ≡ None
+    → length (with_cue before cue).cues ≡ length before.cues + 1
 one_more before cue sorted absent =
     let F : List Cue = entries_below (λ x. x.number) cue.number before.cues in
     let A : List Cue = entries_above (λ x. x.number) cue.number before.cues in
-    omega (arith, length-append F (cue ∷ A), length-append F A, ap length (split_absent (λ (x : Cue). x.number) cue.number before.cues sorted absent))
+    omega (
+      arith,
+      length-append F (cue ∷ A),
+      length-append F A,
+      ap length (split_absent (λ (x : Cue). x.number) cue.number before.cues sorted absent),
+    )
 
 -- what was filled in, told of the same values
-pub filled_as : (n m : ℕ) (lent order : List Place) (given cues : List Cue) (was levels filled : List ℕ) (from sure : ℕ) → n ≡ m → lent ≡ order → given ≡ cues → was ≡ levels
+pub filled_as : (n m : ℕ) (lent order : List Place) (given cues : List Cue) (was levels filled : List ℕ) (from sure : ℕ) → n ≡ m
+    → lent ≡ order → given ≡ cues → was ≡ levels
     → IsFilled n lent given was filled from sure → IsFilled m order cues levels filled from sure
 filled_as n m lent order given cues was levels filled from sure width rows same before is =
     subst (λ k. IsFilled k order cues levels filled from sure) width
@@ -217,27 +278,34 @@ filled_as n m lent order given cues was levels filled from sure width rows same 
     (subst (λ (xs : List ℕ). IsFilled n lent given xs filled from sure) before is)))
 
 -- Once the rows from the place on are filled in, each row is right.
-pub all_right : (channels : ℕ) (old new : List Place) (before cues : List Cue) (levels filled : List ℕ) (at a b : ℕ) → IsShifted old new before cues at a b
+pub all_right : (channels : ℕ) (old new : List Place) (before cues : List Cue) (levels filled : List ℕ) (at a b : ℕ)
+    → IsShifted old new before cues at a b
     → ((k c : ℕ) → k < length before → IsRight channels old before levels k c)
     → IsFilled channels new cues levels filled at b
     → (k c : ℕ) → k < length cues → IsRight channels new cues filled k c
 all_right channels old new before cues levels filled at a b shifted right is k c within =
-    let long : length new ≡ length cues = sym (length-map new (λ (p : Place). p.cue)) ∙ ap length shifted.numbers ∙ length-map cues (λ (cue : Cue). cue.number) in
+    let long : length new ≡ length cues = sym (length-map new (λ (p : Place). p.cue)) ∙ ap length shifted.numbers
+    ∙ length-map cues (λ (cue : Cue). cue.number) in
     let in_before : at ≤ length before = omega (arith, shifted.order, shifted.old_within) in
     let front : (i x : ℕ) → i < at → IsRight channels new cues levels i x =
-    λ i x less. right_front channels old new before cues levels at i x shifted.front_rows shifted.front_cues less (right i x (omega (arith, in_before, less))) in
+    λ i x less. right_front channels old new before cues levels at i x shifted.front_rows shifted.front_cues less
+    (right i x (omega (arith, in_before, less))) in
     elim (cases_lt k at) [
       | inl less ↦ is.front k c less (omega (arith, long, within)) ∙ front k c less
       | inr more ↦
           is.rows (λ x. last_right channels new cues levels x at (λ i less. front i x less))
-          (follows_on channels old new before cues levels a b shifted.back_rows shifted.back_cues shifted.old_within shifted.new_within right)
+          (follows_on channels old new before cues levels a b shifted.back_rows shifted.back_cues shifted.old_within shifted.new_within
+          right)
           k c more within
     ]
 
 -- a sheet that stood for the show before stands for the one after
-pub shifted_stands : (before show : Show) (channels : ℕ) (old new : List Place) (levels filled : List ℕ) (at a b : ℕ) → IsStrictlySorted (λ p. p.cue) old → IsStrictlySorted (λ p. p.cue) new
-    → IsStrictlySorted (λ x. x.number) show.cues → channels ≡ show.channels → StandsFor before (sheet_of channels old levels)
-    → IsShifted old new before.cues show.cues at a b → IsFilled channels new show.cues levels filled at b → StandsFor show (sheet_of channels new filled)
+pub shifted_stands : (before show : Show) (channels : ℕ) (old new : List Place) (levels filled : List ℕ) (at a b : ℕ)
+    → IsStrictlySorted (λ p. p.cue) old → IsStrictlySorted (λ p. p.cue) new
+    → IsStrictlySorted (λ x. x.number) show.cues → channels ≡ show.channels → RowsStandFor before (sheet_of channels old levels)
+    → IsShifted old new before.cues show.cues at a b → IsFilled channels new show.cues levels filled at b
+    → RowsStandFor show (sheet_of channels new filled)
 shifted_stands before show channels old new levels filled at a b old_sorted new_sorted sorted same stands shifted is =
     filled_stands show channels new filled same (record { sorted = new_sorted; cues_sorted = sorted; numbers = shifted.numbers })
-    (all_right channels old new before.cues show.cues levels filled at a b shifted (rows_right before channels old levels old_sorted stands) is)
+    (all_right channels old new before.cues show.cues levels filled at a b shifted (rows_right before channels old levels old_sorted stands)
+    is)

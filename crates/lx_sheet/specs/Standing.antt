@@ -12,7 +12,7 @@ abbrev pub StandsIn : Show → ℕ → Sheet → Type 0
 StandsIn show c sheet = (n : ℕ) → level_of sheet n c ≡ tracked show n c
 
 -- The sheet stands for the show: it has the show's channel count and a row for each of its cues, and stands for it in each column.
-pub record StandsFor (show : Show) (sheet : Sheet) : Type 0 where
+pub record RowsStandFor (show : Show) (sheet : Sheet) : Type 0 where
   pub channels : sheet.channels ≡ show.channels
   pub numbers : numbers_of sheet ≡ cue_numbers show
   pub columns : (c : ℕ) → StandsIn show c sheet

@@ -1,6 +1,6 @@
 //! A sheet follows the edits of its show. No call takes memory.
 
-ghost use Rattle.std.specs.Prelude.{◌≡◌, ◌≢◌, ℕ, ◌<◌, ◌≤◌, None, IfSome, length, map};
+ghost use Rattle.std.specs.Prelude.{◌≡◌, ◌≢◌, ℕ, ◌<◌, ◌≤◌, true, None, IfSome, is_some, length, map};
 ghost use Rattle.std.specs.Option.{option_map_or};
 ghost use Rattle.lx_spec.specs.SortedList.{IsStrictlySorted};
 ghost use Rattle.lx_spec.specs.Show.{Show as ShowData, Cue as CueData};
@@ -8,13 +8,14 @@ ghost use Rattle.lx_spec.specs.TrackedLevel.{cue_of, tracked};
 ghost use Rattle.lx_spec.specs.EditedShow.{with_cue, without_cue};
 ghost use Rattle.lx_sheet.specs.Rows.{numbers_of, level_of};
 ghost use Rattle.lx_sheet.specs.Block.{count_under};
-ghost use Rattle.lx_sheet.specs.Standing.{StandsFor, StandsIn, cue_numbers};
+ghost use Rattle.lx_sheet.specs.Standing.{RowsStandFor, StandsIn, cue_numbers};
 
 use crate::block::{fill_column, fill_from};
 use crate::pool::{add_place, drop_place, list_cues, list_free};
 use crate::sheet::Sheet;
 use lx_base::{Chan, CueNo};
 use lx_show::around::below;
+use lx_show::sorted::index_of;
 use lx_show::{Cue, Show};
 
 impl Sheet {
@@ -65,8 +66,8 @@ impl Sheet {
     /// The cue was added: a sheet that stood for the show without it stands for the show. No other row is moved.
     pub fn insert_row(&mut self, show: &Show, n: CueNo)
         requires { self.old.channels ≡ show.now.channels }
-        ensures { (before : ShowData) (cue : CueData) → StandsFor before self.old → cue.number ≡ n → cue_of before n ≡ None
-            → show.now ≡ with_cue before cue → StandsFor show.now self.new }
+        ensures { (before : ShowData) (cue : CueData) → RowsStandFor before self.old → cue.number ≡ n → cue_of before n ≡ None
+            → show.now ≡ with_cue before cue → RowsStandFor show.now self.new }
     {
         let cues = show.cues();
         if let Some(at) = add_place(&mut self.order, &mut self.free, n) {
@@ -86,7 +87,7 @@ impl Sheet {
     /// The cue was taken out: a sheet that stood for the show with it stands for the show. No other row is moved.
     pub fn remove_row(&mut self, show: &Show, n: CueNo)
         requires { self.old.channels ≡ show.now.channels }
-        ensures { (before : ShowData) → StandsFor before self.old → show.now ≡ without_cue before n → StandsFor show.now self.new }
+        ensures { (before : ShowData) → RowsStandFor before self.old → show.now ≡ without_cue before n → RowsStandFor show.now self.new }
     {
         let cues = show.cues();
         if let Some(at) = drop_place(&mut self.order, &mut self.free, n) {
@@ -96,10 +97,32 @@ impl Sheet {
         }
     }
 
+    /// The cue was put in the place of the one of its number: a sheet that stood for the show before stands for the
+    /// show. Rows are filled in from it on, up to the first that holds its levels already.
+    pub fn replace_row(&mut self, show: &Show, n: CueNo)
+        requires { self.old.channels ≡ show.now.channels }
+        ensures { (before : ShowData) (cue : CueData) → RowsStandFor before self.old → cue.number ≡ n → is_some (cue_of before n) ≡ true
+            → show.now ≡ with_cue before cue → RowsStandFor show.now self.new }
+    {
+        let cues = show.cues();
+        if let Ok(place) = index_of(self.order.as_slice(), n.get()) {
+            if self.order.len() == cues.len() {
+                fill_from(
+                    &mut self.levels,
+                    &mut self.look,
+                    &self.order,
+                    cues,
+                    place,
+                    place + 1,
+                );
+            }
+        }
+    }
+
     /// Fills in every row anew: the sheet stands for the show, which has its channel count.
     pub fn refill(&mut self, show: &Show)
         requires { self.old.channels ≡ show.now.channels }
-        ensures { StandsFor show.now self.new }
+        ensures { RowsStandFor show.now self.new }
     {
         let cues = show.cues();
         list_cues(&mut self.order, cues);

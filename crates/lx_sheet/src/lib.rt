@@ -7,7 +7,5 @@ mod edits;
 mod look;
 mod pool;
 mod sheet;
-#[cfg(test)]
-mod tests;
 
 pub use sheet::Sheet;

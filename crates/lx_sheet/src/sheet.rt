@@ -1,18 +1,19 @@
 //! A sheet, and what it tells.
 
-ghost use Rattle.std.specs.Prelude.{◌≡◌, IfOk, option_map};
+ghost use Rattle.std.specs.Prelude.{◌≡◌, IfOk, length, option_map};
 ghost use Rattle.std.specs.Option.{option_copied};
+ghost use Rattle.lx_spec.specs.SortedList.{IsStrictlySorted};
 ghost use Rattle.lx_spec.specs.Show.{Show as ShowData};
 ghost use Rattle.lx_spec.specs.TrackedLevel.{cue_of, tracked};
 ghost use Rattle.lx_spec.specs.Replies.{row_of};
+ghost use Rattle.lx_show.specs.Around.{entries_up_to};
 ghost use Rattle.lx_sheet.specs.Rows.{row_at, level_of};
-ghost use Rattle.lx_sheet.specs.Standing.{StandsFor};
+ghost use Rattle.lx_sheet.specs.Standing.{RowsStandFor};
 
 use crate::block::{level_before, own_row};
 use crate::pool::list_free;
 use lx_base::{CUES, Chan, CueNo, Level};
 use lx_show::Show;
-use lx_show::around::up_to;
 use lx_show::sorted::{Keyed, index_of};
 use std::alloc::{AllocError, Global};
 use std::marker::Model;
@@ -61,10 +62,10 @@ impl Model for Sheet {
 }
 
 impl Sheet {
-    /// A sheet that stands for the show. It takes the memory for 2,000 rows of the show's channels; an
+    /// A sheet that stands for the show. It takes the memory for `CUES` rows of the show's channels; an
     /// error comes where that is wanting.
     pub fn open(alloc: Global, show: &Show) -> Result<Sheet, AllocError>
-        ensures { IfOk result (StandsFor show.now) }
+        ensures { IfOk result (RowsStandFor show.now) }
     {
         let channels = show.channels() as usize;
         let mut free = Vec::with_capacity(alloc, CUES)?;
@@ -84,7 +85,7 @@ impl Sheet {
     /// the number.
     pub fn row(&self, n: CueNo) -> Option<&[Level]>
         ensures row { option_copied result ≡ option_map (λ row. row.levels) (row_at self.now n) }
-        ensures stands { (show : ShowData) → StandsFor show self.now
+        ensures stands { (show : ShowData) → RowsStandFor show self.now
             → option_copied result ≡ option_map (λ cue. row_of show n) (cue_of show n) }
     {
         let order = self.order.as_slice();
@@ -101,14 +102,42 @@ impl Sheet {
     /// it, and 0 where there is none or the channel is above the count.
     pub fn level_at(&self, n: CueNo, c: Chan) -> Level
         ensures level { result ≡ level_of self.now n c }
-        ensures stands { (show : ShowData) → StandsFor show self.now → result ≡ tracked show n c }
+        ensures stands { (show : ShowData) → RowsStandFor show self.now → result ≡ tracked show n c }
+    {
+        let mut near = 0;
+        self.level_near(n, c, &mut near)
+    }
+
+    /// The same, for a number that is most often that of the row which was found last: its place among the
+    /// rows is kept in `near`.
+    pub fn level_near(&self, n: CueNo, c: Chan, near: &mut usize) -> Level
+        ensures level { result ≡ level_of self.now n c }
+        ensures stands { (show : ShowData) → RowsStandFor show self.now → result ≡ tracked show n c }
     {
         let at = c.get() as usize - 1;
         if at >= self.channels {
             return 0;
         }
         let order = self.order.as_slice();
-        let cues = up_to(order, n.get()).len();
+        let cues = count_near(order, n, near);
         level_before(self.levels.as_slice(), self.channels, order, cues, at)
+    }
+}
+
+/// How many of the places are up to the number. It is looked for first at the place that was found last.
+fn count_near(order: &[Place], n: CueNo, near: &mut usize) -> usize
+    requires { IsStrictlySorted (λ p. p.cue) order.now }
+    ensures { result ≡ length (entries_up_to (λ p. p.cue) n order.now) }
+{
+    let before = *near;
+    if before < order.len() && order[before].cue.get() == n.get() {
+        return before + 1;
+    }
+    match index_of(order, n.get()) {
+        Ok(at) => {
+            *near = at;
+            at + 1
+        }
+        Err(at) => at,
     }
 }

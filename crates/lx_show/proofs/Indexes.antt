@@ -1,11 +1,13 @@
 -- The index of an entry in a sorted list.
-use Rattle.std.proofs.Common.{◌≡◌, ℕ, zero, suc, ◌+◌, ◌-◌, ◌<◌, ◌≤◌, true, false, List, [], ◌∷◌, ◌++◌, length, get_or, set, take, drop, Some, refl, ◌∙◌, sym, ap, subst, inl, inr, arith, add-one, add-zero}
+use Rattle.std.proofs.Common.{◌≡◌, ℕ, zero, suc, ◌+◌, ◌-◌, ◌<◌, ◌≤◌, true, false, List, [], ◌∷◌, ◌++◌, length, get_or, set, take, drop}
+use Rattle.std.proofs.Common.{Some, refl, ◌∙◌, sym, ap, subst, inl, inr, arith, add-one, add-zero}
 use Rattle.std.specs.Prelude.{Option, filter, insert, remove, nat_lt, option_to_list, slice_get}
 use Rattle.std.specs.Option.{option_map_or}
 use Rattle.std.specs.List.{AllByRecursion}
 use Rattle.std.specs.List.Sorted.{IsPartitionPoint}
 use Rattle.std.proofs.lemmas.Bool.{cases_order}
-use Rattle.std.proofs.lemmas.List.{set_split, take-append-drop, get_or-take, get_or-drop, get_or_default, append-nil, length-take, length-drop, take_all, drop_all}
+use Rattle.std.proofs.lemmas.List.{set_split, take-append-drop, get_or-take, get_or-drop, get_or_default, append-nil, length-take}
+use Rattle.std.proofs.lemmas.List.{length-drop, take_all, drop_all}
 use Rattle.std.proofs.lemmas.List.Elements.{recursion_from_All}
 use Rattle.std.proofs.lemmas.Option.{slice_get-get_or}
 use Rattle.lx_spec.specs.Show.{InRange}
@@ -15,22 +17,32 @@ use Rattle.lx_show.specs.Around.{entries_up_to}
 use Rattle.lx_show.specs.Changed.{changed}
 use Rattle.lx_spec.proofs.Comparisons.{eq_above, eq_below, eq_true, le_false, le_from, le_true, lt_false, lt_from, lt_true}
 use Rattle.lx_spec.proofs.Lists.{all_append, each, filter_all, filter_none, find_none, kept_by, passes, take_with}
-use Rattle.lx_spec.proofs.SortedLists.{IsStrictlySorted-drop, IsStrictlySorted-filter, IsStrictlySorted-placed, above_seam, below_and_above, below_seam, few, found_number, goes_between, in_order, low_end, none_below, seam, stands_between, strictly_above}
+use Rattle.lx_spec.proofs.SortedLists.{IsStrictlySorted-drop, IsStrictlySorted-filter, IsStrictlySorted-placed, above_seam, below_and_above}
+use Rattle.lx_spec.proofs.SortedLists.{below_seam, few, found_number, goes_between, in_order, low_end, none_below, seam, stands_between}
+use Rattle.lx_spec.proofs.SortedLists.{strictly_above}
 
 -- the first entries of a list cut at a point are below the number, and the others not
-below_cut : {A : Type 0} (key : A → ℕ) (n : ℕ) (xs : List A) (at : ℕ) → at ≤ length xs → IsPartitionPoint (λ x. nat_lt (key x) n ≡ true) (λ x. nat_lt (key x) n ≡ false) xs at → AllByRecursion (λ y. key y < n) (take at xs)
-below_cut key n xs at within cut = recursion_from_All _ (take at xs) (λ k d lt. rw (get_or-take at xs k d (omega (arith, length-take at xs))) (lt_from _ _ (cut.0 k d (omega arith) (omega (arith, length-take at xs)))))
+below_cut : {A : Type 0} (key : A → ℕ) (n : ℕ) (xs : List A) (at : ℕ) → at ≤ length xs
+    → IsPartitionPoint (λ x. nat_lt (key x) n ≡ true) (λ x. nat_lt (key x) n ≡ false) xs at → AllByRecursion (λ y. key y < n) (take at xs)
+below_cut key n xs at within cut = recursion_from_All _ (take at xs)
+    (λ k d lt. rw (get_or-take at xs k d (omega (arith, length-take at xs)))
+    (lt_from _ _ (cut.0 k d (omega arith) (omega (arith, length-take at xs)))))
 
-not_below_cut : {A : Type 0} (key : A → ℕ) (n : ℕ) (xs : List A) (at : ℕ) → at ≤ length xs → IsPartitionPoint (λ x. nat_lt (key x) n ≡ true) (λ x. nat_lt (key x) n ≡ false) xs at → AllByRecursion (λ y. n ≤ key y) (drop at xs)
-not_below_cut key n xs at within cut = recursion_from_All _ (drop at xs) (λ k d lt. rw (get_or-drop at xs k d) (le_from _ _ (cut.1 (at + k) d (omega arith) (omega (arith, length-drop at xs)))))
+not_below_cut : {A : Type 0} (key : A → ℕ) (n : ℕ) (xs : List A) (at : ℕ) → at ≤ length xs
+    → IsPartitionPoint (λ x. nat_lt (key x) n ≡ true) (λ x. nat_lt (key x) n ≡ false) xs at → AllByRecursion (λ y. n ≤ key y) (drop at xs)
+not_below_cut key n xs at within cut = recursion_from_All _ (drop at xs)
+    (λ k d lt. rw (get_or-drop at xs k d) (le_from _ _ (cut.1 (at + k) d (omega arith) (omega (arith, length-drop at xs)))))
 
 -- an entry stands at the place of its number
-pub stands_where : {A : Type 0} (key : A → ℕ) (n : ℕ) (xs : List A) (at : ℕ) (x : A) → IsStrictlySorted key xs → at < length xs → x ≡ get_or xs at x → key x ≡ n → StandsAt key n xs at
+pub stands_where : {A : Type 0} (key : A → ℕ) (n : ℕ) (xs : List A) (at : ℕ) (x : A) → IsStrictlySorted key xs → at < length xs
+    → x ≡ get_or xs at x → key x ≡ n → StandsAt key n xs at
 stands_where key n xs at x sorted within is here =
     let back = drop (at + 1) xs in
     let whole : xs ≡ take at xs ++ (x ∷ back) = seam xs at x within is in
     let rising : IsStrictlySorted key (take at xs ++ (x ∷ back)) = subst (IsStrictlySorted key) whole sorted in
-    let all = stands_between key n (take at xs) back x (each _ _ (take at xs) (λ y h. omega (arith, here)) (below_seam key (take at xs) back x rising)) here (each _ _ back (λ y h. omega (arith, here)) (above_seam key (take at xs) back x rising)) in
+    let all = stands_between key n (take at xs) back x
+    (each _ _ (take at xs) (λ y h. omega (arith, here)) (below_seam key (take at xs) back x rising)) here
+    (each _ _ back (λ y h. omega (arith, here)) (above_seam key (take at xs) back x rising)) in
     record {
       within = within;
       before = sym (ap (entries_below key n) whole ∙ all.0);
@@ -39,9 +51,13 @@ stands_where key n xs at x sorted within is here =
     }
 
 -- no entry has the number
-pub goes_at : {A : Type 0} (key : A → ℕ) (n : ℕ) (xs : List A) (at : ℕ) → IsStrictlySorted key xs → at ≤ length xs → IsPartitionPoint (λ y. nat_lt (key y) n ≡ true) (λ y. nat_lt (key y) n ≡ false) xs at → ((x : A) → at < length xs → x ≡ get_or xs at x → key x ≡ n → ⊥) → GoesAt key n xs at
+pub goes_at : {A : Type 0} (key : A → ℕ) (n : ℕ) (xs : List A) (at : ℕ) → IsStrictlySorted key xs → at ≤ length xs
+    → IsPartitionPoint (λ y. nat_lt (key y) n ≡ true) (λ y. nat_lt (key y) n ≡ false) xs at
+    → ((x : A) → at < length xs → x ≡ get_or xs at x → key x ≡ n → ⊥) → GoesAt key n xs at
 goes_at key n xs at sorted within cut other =
-    let above = strictly_above key n (drop at xs) (not_below_cut key n xs at within cut) (IsStrictlySorted-drop key at xs sorted) (λ y ys is. other y (omega (arith, length-drop at xs, ap length is)) (sym (ap (λ zs. get_or zs 0 y) is) ∙ get_or-drop at xs 0 y ∙ ap (λ k. get_or xs k y) (add-zero at))) in
+    let above = strictly_above key n (drop at xs) (not_below_cut key n xs at within cut) (IsStrictlySorted-drop key at xs sorted)
+    (λ y ys is. other y (omega (arith, length-drop at xs, ap length is))
+    (sym (ap (λ zs. get_or zs 0 y) is) ∙ get_or-drop at xs 0 y ∙ ap (λ k. get_or xs k y) (add-zero at))) in
     let whole : xs ≡ take at xs ++ drop at xs = sym (take-append-drop at xs) in
     let all = goes_between key n (take at xs) (drop at xs) (below_cut key n xs at within cut) above in
     record {
@@ -52,21 +68,29 @@ goes_at key n xs at sorted within cut other =
     }
 
 -- a number between those of two neighbours goes between them
-pub goes_here : {A : Type 0} (key : A → ℕ) (n : ℕ) (xs : List A) (at : ℕ) (x y : A) → IsStrictlySorted key xs → 0 < at → at < length xs → x ≡ get_or xs (at - 1) x → key x < n → y ≡ get_or xs at y → n < key y → GoesAt key n xs at
+pub goes_here : {A : Type 0} (key : A → ℕ) (n : ℕ) (xs : List A) (at : ℕ) (x y : A) → IsStrictlySorted key xs → 0 < at → at < length xs
+    → x ≡ get_or xs (at - 1) x → key x < n → y ≡ get_or xs at y → n < key y → GoesAt key n xs at
 goes_here key n xs at x y sorted some within before low here high =
     goes_at key n xs at sorted (omega arith) (
-      λ k d from to. lt_true _ n (let le = in_order key xs sorted k (at - 1) d (omega arith) (omega arith) in let same = ap key (get_or_default xs (at - 1) d x (omega arith) ∙ sym before) in omega (arith, le, same, low)),
-      λ k d from to. lt_false _ n (let le = in_order key xs sorted at k d (omega arith) (omega arith) in let same = ap key (get_or_default xs at d y within ∙ sym here) in omega (arith, le, same, high)),
+      λ k d from to. lt_true _ n (let le = in_order key xs sorted k (at - 1) d (omega arith) (omega arith) in let same =
+          ap key (get_or_default xs (at - 1) d x (omega arith) ∙ sym before) in omega (arith, le, same, low)),
+      λ k d from to. lt_false _ n (let le = in_order key xs sorted at k d (omega arith) (omega arith) in let same =
+          ap key (get_or_default xs at d y within ∙ sym here) in omega (arith, le, same, high)),
     ) (λ z lt is same. let at_key = ap key (is ∙ get_or_default xs at z y within ∙ sym here) in omega (arith, at_key, same, high))
 
 -- a number above that of the last entry goes to the end
-pub goes_last : {A : Type 0} (key : A → ℕ) (n : ℕ) (xs : List A) (x : A) → IsStrictlySorted key xs → 0 < length xs → x ≡ get_or xs (length xs - 1) x → key x < n → GoesAt key n xs (length xs)
+pub goes_last : {A : Type 0} (key : A → ℕ) (n : ℕ) (xs : List A) (x : A) → IsStrictlySorted key xs → 0 < length xs
+    → x ≡ get_or xs (length xs - 1) x → key x < n → GoesAt key n xs (length xs)
 goes_last key n xs x sorted some is low =
     let at = length xs - 1 in
     let whole : xs ≡ take at xs ++ (x ∷ drop (at + 1) xs) = seam xs at x (omega arith) is in
     let last : drop (at + 1) xs ≡ [] = drop_all (at + 1) xs (omega arith) in
-    let front : AllByRecursion (λ y. key y < n) (take at xs) = each _ _ (take at xs) (λ y h. omega (arith, low)) (below_seam key (take at xs) (drop (at + 1) xs) x (subst (IsStrictlySorted key) whole sorted)) in
-    let all : AllByRecursion (λ y. key y < n) xs = subst (AllByRecursion (λ y. key y < n)) (sym (whole ∙ ap (λ ys. take at xs ++ (x ∷ ys)) last)) (all_append _ (take at xs) (x ∷ []) front (low, tt)) in
+    let front : AllByRecursion (λ y. key y < n) (take at xs) =
+    each _ _ (take at xs) (λ y h. omega (arith, low))
+    (below_seam key (take at xs) (drop (at + 1) xs) x (subst (IsStrictlySorted key) whole sorted)) in
+    let all : AllByRecursion (λ y. key y < n) xs =
+    subst (AllByRecursion (λ y. key y < n)) (sym (whole ∙ ap (λ ys. take at xs ++ (x ∷ ys)) last))
+    (all_append _ (take at xs) (x ∷ []) front (low, tt)) in
     record {
       within = omega arith;
       before = take_all (length xs) xs (omega arith) ∙ sym (filter_all _ xs (each _ _ xs (λ y h. lt_true (key y) n h) all));
@@ -75,20 +99,24 @@ goes_last key n xs x sorted some is low =
     }
 
 -- an entry in the place of the one of its number
-pub replaced : {A : Type 0} (key : A → ℕ) (n : ℕ) (ys xs : List A) (x : A) (at : ℕ) → n ≡ key x → ys ≡ xs → StandsAt key n ys at → set xs at x ≡ placed key x xs
+pub replaced : {A : Type 0} (key : A → ℕ) (n : ℕ) (ys xs : List A) (x : A) (at : ℕ) → n ≡ key x → ys ≡ xs → StandsAt key n ys at
+    → set xs at x ≡ placed key x xs
 replaced key n ys xs x at is same stands =
     let within : at < length xs = omega (arith, ap length same, stands.within) in
     set_split xs at x within ∙ subst (λ m. take at xs ++ (x ∷ drop (suc at) xs) ≡ entries_below key m xs ++ (x ∷ entries_above key m xs)) is
-    (subst (λ zs. take at zs ++ (x ∷ drop (suc at) zs) ≡ entries_below key n zs ++ (x ∷ entries_above key n zs)) same (rw (stands.before, ← add-one, stands.after) refl))
+    (subst (λ zs. take at zs ++ (x ∷ drop (suc at) zs) ≡ entries_below key n zs ++ (x ∷ entries_above key n zs)) same
+    (rw (stands.before, ← add-one, stands.after) refl))
 
 -- a new entry in its place
-pub added : {A : Type 0} (key : A → ℕ) (n : ℕ) (ys xs : List A) (x : A) (at : ℕ) → n ≡ key x → ys ≡ xs → GoesAt key n ys at → insert xs at x ≡ placed key x xs
+pub added : {A : Type 0} (key : A → ℕ) (n : ℕ) (ys xs : List A) (x : A) (at : ℕ) → n ≡ key x → ys ≡ xs → GoesAt key n ys at
+    → insert xs at x ≡ placed key x xs
 added key n ys xs x at is same goes =
     subst (λ m. insert xs at x ≡ entries_below key m xs ++ (x ∷ entries_above key m xs)) is
     (subst (λ zs. insert zs at x ≡ entries_below key n zs ++ (x ∷ entries_above key n zs)) same (rw (goes.before, goes.after) refl))
 
 -- those up to a number are those below it, and the one of it
-up_to : {A : Type 0} (key : A → ℕ) (n : ℕ) (xs : List A) → IsStrictlySorted key xs → entries_up_to key n xs ≡ entries_below key n xs ++ option_to_list (entry_at key n xs)
+up_to : {A : Type 0} (key : A → ℕ) (n : ℕ) (xs : List A) → IsStrictlySorted key xs
+    → entries_up_to key n xs ≡ entries_below key n xs ++ option_to_list (entry_at key n xs)
 up_to key n [] sorted = refl
 up_to {A} key n (x ∷ xs) sorted =
     let rest : entries_up_to key n xs ≡ entries_below key n xs ++ option_to_list (entry_at key n xs) = up_to key n xs sorted.1 in
@@ -104,45 +132,64 @@ up_to {A} key n (x ∷ xs) sorted =
       ]
     ]
 
-pub up_to_there : {A : Type 0} (key : A → ℕ) (n : ℕ) (xs : List A) (at : ℕ) → IsStrictlySorted key xs → StandsAt key n xs at → take (at + 1) xs ≡ entries_up_to key n xs
-up_to_there key n xs at sorted stands = rw add-one (take_with xs at stands.within) ∙ ap (λ ys. ys ++ option_to_list (slice_get xs at)) stands.before ∙ ap (λ o. entries_below key n xs ++ option_to_list o) (sym stands.here) ∙ sym (up_to key n xs sorted)
+pub up_to_there : {A : Type 0} (key : A → ℕ) (n : ℕ) (xs : List A) (at : ℕ) → IsStrictlySorted key xs → StandsAt key n xs at
+    → take (at + 1) xs ≡ entries_up_to key n xs
+up_to_there key n xs at sorted stands = rw add-one (take_with xs at stands.within)
+    ∙ ap (λ ys. ys ++ option_to_list (slice_get xs at)) stands.before
+    ∙ ap (λ o. entries_below key n xs ++ option_to_list o) (sym stands.here) ∙ sym (up_to key n xs sorted)
 
-pub up_to_absent : {A : Type 0} (key : A → ℕ) (n : ℕ) (xs : List A) (at : ℕ) → IsStrictlySorted key xs → GoesAt key n xs at → take at xs ≡ entries_up_to key n xs
-up_to_absent key n xs at sorted goes = goes.before ∙ sym (append-nil (entries_below key n xs)) ∙ ap (λ o. entries_below key n xs ++ option_to_list o) (sym goes.absent) ∙ sym (up_to key n xs sorted)
+pub up_to_absent : {A : Type 0} (key : A → ℕ) (n : ℕ) (xs : List A) (at : ℕ) → IsStrictlySorted key xs → GoesAt key n xs at
+    → take at xs ≡ entries_up_to key n xs
+up_to_absent key n xs at sorted goes = goes.before ∙ sym (append-nil (entries_below key n xs))
+    ∙ ap (λ o. entries_below key n xs ++ option_to_list o) (sym goes.absent) ∙ sym (up_to key n xs sorted)
 
-pub without : {A : Type 0} (key : A → ℕ) (n : ℕ) (ys xs : List A) (at : ℕ) → IsStrictlySorted key xs → ys ≡ xs → StandsAt key n ys at → remove xs at ≡ taken_out key n xs
+pub without : {A : Type 0} (key : A → ℕ) (n : ℕ) (ys xs : List A) (at : ℕ) → IsStrictlySorted key xs → ys ≡ xs → StandsAt key n ys at
+    → remove xs at ≡ taken_out key n xs
 without key n ys xs at sorted same stands =
-    subst (λ zs. remove zs at ≡ entries_below key n zs ++ entries_above key n zs) same (rw (stands.before, ← add-one, stands.after) refl) ∙ below_and_above key n xs sorted
+    subst (λ zs. remove zs at ≡ entries_below key n zs ++ entries_above key n zs) same (rw (stands.before, ← add-one, stands.after) refl)
+    ∙ below_and_above key n xs sorted
 
-pub none_to_take : {A : Type 0} (key : A → ℕ) (n : ℕ) (ys xs : List A) (at : ℕ) → IsStrictlySorted key xs → ys ≡ xs → GoesAt key n ys at → xs ≡ taken_out key n xs
+pub none_to_take : {A : Type 0} (key : A → ℕ) (n : ℕ) (ys xs : List A) (at : ℕ) → IsStrictlySorted key xs → ys ≡ xs → GoesAt key n ys at
+    → xs ≡ taken_out key n xs
 none_to_take key n ys xs at sorted same goes =
-    subst (λ zs. zs ≡ entries_below key n zs ++ entries_above key n zs) same (sym (take-append-drop at ys) ∙ rw (goes.before, goes.after) refl) ∙ below_and_above key n xs sorted
+    subst (λ zs. zs ≡ entries_below key n zs ++ entries_above key n zs) same
+    (sym (take-append-drop at ys) ∙ rw (goes.before, goes.after) refl) ∙ below_and_above key n xs sorted
 
-pub sorted_replaced : {A : Type 0} (key : A → ℕ) (n : ℕ) (ys xs : List A) (x : A) (at : ℕ) → n ≡ key x → ys ≡ xs → StandsAt key n ys at → IsStrictlySorted key xs → IsStrictlySorted key (set xs at x)
-sorted_replaced key n ys xs x at is same stands sorted = subst (IsStrictlySorted key) (sym (replaced key n ys xs x at is same stands)) (IsStrictlySorted-placed key x xs sorted)
+pub sorted_replaced : {A : Type 0} (key : A → ℕ) (n : ℕ) (ys xs : List A) (x : A) (at : ℕ) → n ≡ key x → ys ≡ xs → StandsAt key n ys at
+    → IsStrictlySorted key xs → IsStrictlySorted key (set xs at x)
+sorted_replaced key n ys xs x at is same stands sorted =
+    subst (IsStrictlySorted key) (sym (replaced key n ys xs x at is same stands)) (IsStrictlySorted-placed key x xs sorted)
 
-pub sorted_added : {A : Type 0} (key : A → ℕ) (n : ℕ) (ys xs : List A) (x : A) (at : ℕ) → n ≡ key x → ys ≡ xs → GoesAt key n ys at → IsStrictlySorted key xs → IsStrictlySorted key (insert xs at x)
-sorted_added key n ys xs x at is same goes sorted = subst (IsStrictlySorted key) (sym (added key n ys xs x at is same goes)) (IsStrictlySorted-placed key x xs sorted)
+pub sorted_added : {A : Type 0} (key : A → ℕ) (n : ℕ) (ys xs : List A) (x : A) (at : ℕ) → n ≡ key x → ys ≡ xs → GoesAt key n ys at
+    → IsStrictlySorted key xs → IsStrictlySorted key (insert xs at x)
+sorted_added key n ys xs x at is same goes sorted =
+    subst (IsStrictlySorted key) (sym (added key n ys xs x at is same goes)) (IsStrictlySorted-placed key x xs sorted)
 
 -- where a number has no entry, there is room for one
-pub room_for : {A : Type 0} (key : A → ℕ) (n high at : ℕ) (xs : List A) → GoesAt key n xs at → IsStrictlySorted key xs → AllByRecursion (λ y. InRange high (key y)) xs → InRange high n → length xs < high
+pub room_for : {A : Type 0} (key : A → ℕ) (n high at : ℕ) (xs : List A) → GoesAt key n xs at → IsStrictlySorted key xs
+    → AllByRecursion (λ y. InRange high (key y)) xs → InRange high n → length xs < high
 room_for key n high at xs goes sorted all range =
     let least : 1 ≤ n = range.least in
     let most : n ≤ high = range.most in
     let below : length (entries_below key n xs) + 0 ≤ n - 1 =
-    few key 0 (n - 1) (entries_below key n xs) (omega arith) (IsStrictlySorted-filter key _ xs sorted) (kept_by _ _ xs (each _ _ xs (λ y h. h.least) all)) (each _ _ _ (λ y h. low_end (key y) n (lt_from _ _ h)) (passes (λ y. nat_lt (key y) n) xs)) in
+    few key 0 (n - 1) (entries_below key n xs) (omega arith) (IsStrictlySorted-filter key _ xs sorted)
+    (kept_by _ _ xs (each _ _ xs (λ y h. h.least) all))
+    (each _ _ _ (λ y h. low_end (key y) n (lt_from _ _ h)) (passes (λ y. nat_lt (key y) n) xs)) in
     let above : length (entries_above key n xs) + n ≤ high =
-    few key n high (entries_above key n xs) most (IsStrictlySorted-filter key _ xs sorted) (each _ _ _ (λ y h. lt_from _ _ h) (passes (λ y. nat_lt n (key y)) xs)) (kept_by _ _ xs (each _ _ xs (λ y h. h.most) all)) in
+    few key n high (entries_above key n xs) most (IsStrictlySorted-filter key _ xs sorted)
+    (each _ _ _ (λ y h. lt_from _ _ h) (passes (λ y. nat_lt n (key y)) xs)) (kept_by _ _ xs (each _ _ xs (λ y h. h.most) all)) in
     omega (arith, ap length goes.before, ap length goes.after, length-take at xs, length-drop at xs, goes.within)
 
 -- what stands at the place of a number is the entry of the number
-pub stands_entry : {A : Type 0} (key : A → ℕ) (n at : ℕ) (ys xs : List A) (x : A) → ys ≡ xs → StandsAt key n ys at → x ≡ get_or xs at x → entry_at key n xs ≡ Some x
+pub stands_entry : {A : Type 0} (key : A → ℕ) (n at : ℕ) (ys xs : List A) (x : A) → ys ≡ xs → StandsAt key n ys at → x ≡ get_or xs at x
+    → entry_at key n xs ≡ Some x
 stands_entry {A} key n at ys xs x same stands is =
     let within : at < length xs = omega (arith, ap length same, stands.within) in
     subst (λ (zs : List A). entry_at key n zs ≡ slice_get zs at) same stands.here ∙ slice_get-get_or xs at x within ∙ ap Some (sym is)
 
 -- an entry changed in its place
-pub changed_there : {A : Type 0} (key : A → ℕ) (n at : ℕ) (ys xs : List A) (x : A) (change : A → A) → ys ≡ xs → StandsAt key n ys at → x ≡ get_or xs at x → key (change x) ≡ key x → set xs at (change x) ≡ changed key n change xs
+pub changed_there : {A : Type 0} (key : A → ℕ) (n at : ℕ) (ys xs : List A) (x : A) (change : A → A) → ys ≡ xs → StandsAt key n ys at
+    → x ≡ get_or xs at x → key (change x) ≡ key x → set xs at (change x) ≡ changed key n change xs
 changed_there {A} key n at ys xs x change same stands is kept =
     let here : entry_at key n xs ≡ Some x = stands_entry key n at ys xs x same stands is in
     replaced key n ys xs (change x) at (found_number key n xs x here ∙ sym kept) same stands

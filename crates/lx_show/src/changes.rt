@@ -4,8 +4,8 @@
 ghost use Rattle.std.specs.Prelude.{◌≡◌, ◌≤◌, IfSome, IsTrue, OnOk, OnErr};
 ghost use Rattle.std.specs.Option.{IsSomeAnd};
 ghost use Rattle.std.specs.List.{AllByRecursion};
-ghost use Rattle.lx_spec.specs.SortedList.{has_entry, entry_at, placed};
-ghost use Rattle.lx_spec.specs.Show.{IsTime, ValidMove, ValidPart};
+ghost use Rattle.lx_spec.specs.SortedList.{has_entry, all_placed, entry_at, placed};
+ghost use Rattle.lx_spec.specs.Show.{IsTime, ValidMember, ValidMove, ValidPart};
 ghost use Rattle.lx_spec.specs.TrackedLevel.{cue_of};
 ghost use Rattle.lx_show.specs.Changed.{changed};
 
@@ -28,6 +28,18 @@ impl Show {
         let at = find_near(self.cues.as_slice(), &mut self.recent, n.get());
         let cue = &mut self.cues[at];
         cue.block = block;
+    }
+
+    /// Makes the cue an asserted cue, or no longer one.
+    pub fn set_asserted(&mut self, n: CueNo, asserted: bool)
+        requires { IsTrue (has_entry (λ x. x.number) n self.old.cues) }
+        ensures { self.new ≡ record self.old {
+          cues = changed (λ x. x.number) n (λ cue. record cue { asserted = asserted }) self.old.cues;
+        } }
+    {
+        let at = find_near(self.cues.as_slice(), &mut self.recent, n.get());
+        let cue = &mut self.cues[at];
+        cue.asserted = asserted;
     }
 
     /// Sets the cue's follow time, at most `TIME_MAX`, or that it has none.
@@ -96,6 +108,21 @@ impl Show {
         cue.moves.put(entry)
     }
 
+    /// Places each of the moves in the cue in turn, in place of the one of its channel. Their channels are within the
+    /// count, and their parts are the cue's. An error comes where memory is wanting, and leaves the show as it was.
+    pub fn put_moves_in(&mut self, n: CueNo, entries: &[Move]) -> Result<(), AllocError>
+        requires { IsSomeAnd (cue_of self.old n) (λ cue. AllByRecursion (ValidMove self.old.channels cue.parts) entries.now) }
+        ensures ok { OnOk result (self.new ≡ record self.old {
+          cues = changed (λ x. x.number) n
+              (λ cue. record cue { moves = all_placed (λ m. m.chan) entries.now cue.moves }) self.old.cues;
+        }) }
+        ensures err { OnErr result (self.new ≡ self.old) }
+    {
+        let at = find_near(self.cues.as_slice(), &mut self.recent, n.get());
+        let cue = &mut self.cues[at];
+        cue.moves.put_each(entries)
+    }
+
     /// Gives the cue these moves, and answers those that it had. Their channels are within the count, and
     /// their parts are the cue's.
     pub fn replace_moves(&mut self, n: CueNo, moves: MoveList) -> MoveList
@@ -145,6 +172,22 @@ impl Show {
         let group = &mut self.groups[at];
         group.members.put(entry)
     }
+
+    /// Places each of the members in the group in turn, in place of the one of its channel. Their channels are within the
+    /// count. An error comes where memory is wanting, and leaves the show as it was.
+    pub fn put_members_in_group(&mut self, g: GroupNo, entries: &[Member]) -> Result<(), AllocError>
+        requires there { IsTrue (has_entry (λ x. x.number) g self.old.groups) }
+        requires each { AllByRecursion (ValidMember self.old.channels) entries.now }
+        ensures ok { OnOk result (self.new ≡ record self.old {
+          groups = changed (λ x. x.number) g
+              (λ group. record group { members = all_placed (λ m. m.chan) entries.now group.members }) self.old.groups;
+        }) }
+        ensures err { OnErr result (self.new ≡ self.old) }
+    {
+        let at = find_near(self.groups.as_slice(), &mut self.recent, g.get());
+        let group = &mut self.groups[at];
+        group.members.put_each(entries)
+    }
 }
 
 impl Show {
@@ -174,5 +217,21 @@ impl Show {
         let at = find_near(self.subs.as_slice(), &mut self.recent, s.get());
         let sub = &mut self.subs[at];
         sub.members.put(entry)
+    }
+
+    /// Places each of the members in the submaster in turn, in place of the one of its channel. Their channels are within the
+    /// count. An error comes where memory is wanting, and leaves the show as it was.
+    pub fn put_members_in_sub(&mut self, s: SubNo, entries: &[Member]) -> Result<(), AllocError>
+        requires there { IsTrue (has_entry (λ x. x.number) s self.old.subs) }
+        requires each { AllByRecursion (ValidMember self.old.channels) entries.now }
+        ensures ok { OnOk result (self.new ≡ record self.old {
+          subs = changed (λ x. x.number) s
+              (λ sub. record sub { members = all_placed (λ m. m.chan) entries.now sub.members }) self.old.subs;
+        }) }
+        ensures err { OnErr result (self.new ≡ self.old) }
+    {
+        let at = find_near(self.subs.as_slice(), &mut self.recent, s.get());
+        let sub = &mut self.subs[at];
+        sub.members.put_each(entries)
     }
 }

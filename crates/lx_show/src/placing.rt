@@ -14,7 +14,7 @@ use lx_base::{CUES, CueNo, Dimmer};
 use lx_spec::PatchRow;
 
 impl Show {
-    /// A cue of the number may be placed: it is there, or there are fewer than 2,000 cues.
+    /// A cue of the number may be placed: it is there, or there are fewer than `CUES` cues.
     pub fn has_room_for(&self, n: CueNo) -> bool
         ensures { result ≡ (has_entry (λ x. x.number) n self.now.cues || nat_lt (length self.now.cues) CUES) }
     {
@@ -22,7 +22,7 @@ impl Show {
     }
 
     /// Places the cue, in place of the one of its number. Either that is there, or there are fewer than
-    /// 2,000 cues.
+    /// `CUES` cues.
     pub fn put_cue(&mut self, cue: Cue)
         requires valid { ValidCue self.old.channels cue }
         requires room { IsTrue (has_entry (λ x. x.number) cue.number self.old.cues || nat_lt (length self.old.cues) CUES) }

@@ -113,7 +113,8 @@ unfolding digits
 group_skips = refl
 
 -- CLEAR ALL forgets cues and channels, and not how many lines were skipped
-cleared : checked (codes "SET CHANNELS 24" ∷ codes "FLY" ∷ codes "CUE 1" ∷ codes "CHAN 900@5" ∷ codes "CLEAR ALL" ∷ codes "CUE 2" ∷ codes "ENDDATA" ∷ [])
+cleared : checked (codes "SET CHANNELS 24" ∷ codes "FLY" ∷ codes "CUE 1" ∷ codes "CHAN 900@5" ∷ codes "CLEAR ALL" ∷ codes "CUE 2" ∷ codes
+    "ENDDATA" ∷ [])
     ≡ text (codes "show cues 1 channels 512 skipped 1 first 3" ∷ [])
 unfolding digits
 cleared = refl
@@ -125,7 +126,10 @@ unfolding digits
 named_channels = refl
 
 -- a label takes the rest of its line, without one separator and then blanks; elsewhere a comment is left out
-comments_in_labels : sheet_output Moves (text (codes "IDENT 3:0" ∷ codes "CUE 1" ∷ codes "TEXT !x" ∷ codes "CHAN 1@50 ! warm" ∷ codes "CUE 2" ∷ codes "TEXT@ ,a  b ! c " ∷ codes "CUE 3" ∷ codes "TEXT a" ∷ codes "TEXT  " ∷ codes "ENDDATA" ∷ []))
-    ≡ text (codes "cue 1 track 1 1 !x" ∷ codes "row 1 1=128" ∷ codes "cue 2 track 1 0 ,a  b ! c " ∷ codes "row 2 1=128" ∷ codes "cue 3 track 1 0" ∷ codes "row 3 1=128" ∷ [])
+comments_in_labels : sheet_output Moves (text
+    (codes "IDENT 3:0" ∷ codes "CUE 1" ∷ codes "TEXT !x" ∷ codes "CHAN 1@50 ! warm" ∷ codes "CUE 2" ∷ codes "TEXT@ ,a  b ! c " ∷ codes
+    "CUE 3" ∷ codes "TEXT a" ∷ codes "TEXT  " ∷ codes "ENDDATA" ∷ []))
+    ≡ text (codes "cue 1 track 1 1 !x" ∷ codes "row 1 1=128" ∷ codes "cue 2 track 1 0 ,a  b ! c " ∷ codes "row 2 1=128" ∷ codes
+    "cue 3 track 1 0" ∷ codes "row 3 1=128" ∷ [])
 unfolding digits
 comments_in_labels = refl

@@ -1,5 +1,7 @@
--- Law of cue only, on one channel: the cues below the edited one are as they were, and the first above it comes to the level that it had there.
-use Rattle.std.proofs.Common.{◌≡◌, ◌≢◌, ℕ, ◌<◌, ◌≤◌, Bool, true, false, cond, not, List, [], ◌∷◌, ◌++◌, Some, None, refl, ◌∙◌, sym, ap, inl, inr, arith, append_assoc}
+-- Law of cue only, on one channel: the cues below the edited one are as they were, and the first above it comes to the level that
+-- it had there.
+use Rattle.std.proofs.Common.{◌≡◌, ◌≢◌, ℕ, ◌<◌, ◌≤◌, Bool, true, false, cond, not, List, [], ◌∷◌, ◌++◌, Some, None, refl, ◌∙◌, sym, ap, inl}
+use Rattle.std.proofs.Common.{inr, arith, append_assoc}
 use Rattle.std.specs.Prelude.{Option, IsTrue, find, filter, is_some, nat_lt, ◌==◌}
 use Rattle.std.specs.List.{AllByRecursion}
 use Rattle.std.specs.Option.{option_or, option_map_or}
@@ -18,17 +20,22 @@ use Rattle.lx_spec.proofs.Comparisons.{eq_other, lt_false, lt_true}
 use Rattle.lx_spec.proofs.Lists.{all_append, each, filter_all, filter_none, find_none}
 
 -- an entry placed between those below and above its number
-placed_between : {A : Type 0} (key : A → ℕ) (front back : List A) (x y : A) → key y ≡ key x → AllByRecursion (λ z. key z < key x) front → AllByRecursion (λ z. key x < key z) back → placed key y (front ++ (x ∷ back)) ≡ front ++ (y ∷ back)
+placed_between : {A : Type 0} (key : A → ℕ) (front back : List A) (x y : A) → key y ≡ key x → AllByRecursion (λ z. key z < key x) front
+    → AllByRecursion (λ z. key x < key z) back → placed key y (front ++ (x ∷ back)) ≡ front ++ (y ∷ back)
 placed_between {A} key front back x y same below above =
     let low : entries_below key (key y) (front ++ (x ∷ back)) ≡ front =
     filter-append (λ z. nat_lt (key z) (key y)) front (x ∷ back)
-    ∙ ap (λ zs. zs ++ filter (λ z. nat_lt (key z) (key y)) (x ∷ back)) (filter_all _ front (each _ _ front (λ z h. lt_true (key z) (key y) (omega (arith, h, same))) below))
-    ∙ ap (λ zs. front ++ zs) (filter_none (λ z. nat_lt (key z) (key y)) (x ∷ back) (lt_false (key x) (key y) (omega (arith, same)), each _ _ back (λ z h. lt_false (key z) (key y) (omega (arith, h, same))) above))
+    ∙ ap (λ zs. zs ++ filter (λ z. nat_lt (key z) (key y)) (x ∷ back))
+    (filter_all _ front (each _ _ front (λ z h. lt_true (key z) (key y) (omega (arith, h, same))) below))
+    ∙ ap (λ zs. front ++ zs) (filter_none (λ z. nat_lt (key z) (key y)) (x ∷ back)
+    (lt_false (key x) (key y) (omega (arith, same)), each _ _ back (λ z h. lt_false (key z) (key y) (omega (arith, h, same))) above))
     ∙ append-nil front in
     let high : entries_above key (key y) (front ++ (x ∷ back)) ≡ back =
     filter-append (λ z. nat_lt (key y) (key z)) front (x ∷ back)
-    ∙ ap (λ zs. zs ++ filter (λ z. nat_lt (key y) (key z)) (x ∷ back)) (filter_none _ front (each _ _ front (λ z h. lt_false (key y) (key z) (omega (arith, h, same))) below))
-    ∙ ap (λ b. cond b (x ∷ filter (λ z. nat_lt (key y) (key z)) back) (filter (λ z. nat_lt (key y) (key z)) back)) (lt_false (key y) (key x) (omega (arith, same)))
+    ∙ ap (λ zs. zs ++ filter (λ z. nat_lt (key y) (key z)) (x ∷ back))
+    (filter_none _ front (each _ _ front (λ z h. lt_false (key y) (key z) (omega (arith, h, same))) below))
+    ∙ ap (λ b. cond b (x ∷ filter (λ z. nat_lt (key y) (key z)) back) (filter (λ z. nat_lt (key y) (key z)) back))
+    (lt_false (key y) (key x) (omega (arith, same)))
     ∙ filter_all _ back (each _ _ back (λ z h. lt_true (key y) (key z) (omega (arith, h, same))) above) in
     rw (low, high) refl
 
@@ -41,14 +48,18 @@ pub record IsAround (n : ℕ) (cues below here above : List Cue) : Type 0 where
   pub sorted : IsStrictlySorted (λ cue. cue.number) above
 
 -- below the number nothing above counts
-pub tracked_low : (show : Show) (n k c : ℕ) (below here above : List Cue) → IsAround n show.cues below here above → k < n → tracked show k c ≡ along k c 0 below
+pub tracked_low : (show : Show) (n k c : ℕ) (below here above : List Cue) → IsAround n show.cues below here above → k < n
+    → tracked show k c ≡ along k c 0 below
 tracked_low show n k c below here above around less =
     let rest : AllByRecursion (λ cue. k < cue.number) (here ++ above) =
-    all_append (λ (cue : Cue). k < cue.number) here above (each _ _ here (λ x h. omega (arith, h)) around.at) (each _ _ above (λ x h. omega (arith, h)) around.high) in
-    tracked-along show k c ∙ ap (along k c 0) around.is ∙ along-append k c 0 below (here ++ above) ∙ along-past k c (along k c 0 below) (here ++ above) rest
+    all_append (λ (cue : Cue). k < cue.number) here above (each _ _ here (λ x h. omega (arith, h)) around.at)
+    (each _ _ above (λ x h. omega (arith, h)) around.high) in
+    tracked-along show k c ∙ ap (along k c 0) around.is ∙ along-append k c 0 below (here ++ above)
+    ∙ along-past k c (along k c 0 below) (here ++ above) rest
 
 -- from the first cue above the number on, all that stands up to the number counts
-tracked_high : (show : Show) (n k c : ℕ) (below here above : List Cue) (x : Cue) → IsAround n show.cues below here (x ∷ above) → x.number ≤ k → tracked show k c ≡ along k c (tracked_on c x (along k c 0 (below ++ here))) above
+tracked_high : (show : Show) (n k c : ℕ) (below here above : List Cue) (x : Cue) → IsAround n show.cues below here (x ∷ above)
+    → x.number ≤ k → tracked show k c ≡ along k c (tracked_on c x (along k c 0 (below ++ here))) above
 tracked_high show n k c below here above x around le =
     tracked-along show k c
     ∙ ap (along k c 0) (around.is ∙ sym (append_assoc below here (x ∷ above)))
@@ -56,10 +67,12 @@ tracked_high show n k c below here above x around le =
     ∙ ap (λ l. along k c l above) (step_in k c (along k c 0 (below ++ here)) x le)
 
 -- at that cue itself
-tracked_first : (show : Show) (n k c : ℕ) (below here above : List Cue) (x : Cue) → IsAround n show.cues below here (x ∷ above) → x.number ≤ k → tracked show x.number c ≡ tracked_on c x (along k c 0 (below ++ here))
+pub tracked_first : (show : Show) (n k c : ℕ) (below here above : List Cue) (x : Cue) → IsAround n show.cues below here (x ∷ above)
+    → x.number ≤ k → tracked show x.number c ≡ tracked_on c x (along k c 0 (below ++ here))
 tracked_first show n k c below here above x around le =
     let up_to : (m : ℕ) → n < m → AllByRecursion (λ cue. cue.number ≤ m) (below ++ here) = λ m less.
-    all_append (λ (cue : Cue). cue.number ≤ m) below here (each _ _ below (λ y h. omega (arith, h)) around.low) (each _ _ here (λ y h. omega (arith, h)) around.at) in
+    all_append (λ (cue : Cue). cue.number ≤ m) below here (each _ _ below (λ y h. omega (arith, h)) around.low)
+    (each _ _ here (λ y h. omega (arith, h)) around.at) in
     let first : n < x.number = around.high.0 in
     tracked_high show n x.number c below here above x around (omega arith)
     ∙ along-past x.number c (tracked_on c x (along x.number c 0 (below ++ here))) above around.sorted.0
@@ -69,34 +82,46 @@ equal_is : (a b : ℕ) → not (a == b) ≡ false → a ≡ b
 equal_is a b same = grind (arith, nat_tests)
 
 -- the cue above the number is the first of those above it
-above_is : (show : Show) (n : ℕ) (below here above : List Cue) → IsAround n show.cues below here above → cue_above show n ≡ find (λ cue. nat_lt n cue.number) above
+pub above_is : (show : Show) (n : ℕ) (below here above : List Cue) → IsAround n show.cues below here above
+    → cue_above show n ≡ find (λ cue. nat_lt n cue.number) above
 above_is show n below here above around =
     let none : find (λ cue. nat_lt n cue.number) (below ++ here) ≡ None =
-    find_none (λ (cue : Cue). nat_lt n cue.number) (below ++ here) (all_append (λ (cue : Cue). nat_lt n cue.number ≡ false) below here (each _ _ below (λ y h. lt_false n y.number (omega (arith, h))) around.low) (each _ _ here (λ y h. lt_false n y.number (omega (arith, h))) around.at)) in
+    find_none (λ (cue : Cue). nat_lt n cue.number) (below ++ here)
+    (all_append (λ (cue : Cue). nat_lt n cue.number ≡ false) below here
+    (each _ _ below (λ y h. lt_false n y.number (omega (arith, h))) around.low)
+    (each _ _ here (λ y h. lt_false n y.number (omega (arith, h))) around.at)) in
     ap (find (λ cue. nat_lt n cue.number)) (around.is ∙ sym (append_assoc below here above))
     ∙ find-append (λ (cue : Cue). nat_lt n cue.number) (below ++ here) above
     ∙ ap (λ (o : Option Cue). option_or o (find (λ cue. nat_lt n cue.number) above)) none
 
 -- the first cue above, with the levels that it had
-abbrev kept : Show → Show → Cue → Cue
-kept before after x = with_moves x (moves_for before (λ c. not (tracked before x.number c == tracked after x.number c)) (λ c. tracked before x.number c))
+abbrev pub kept : Show → Show → Cue → Cue
+kept before after x = with_moves x (moves_for before (λ c. not (tracked before x.number c == tracked after x.number c))
+    (λ c. tracked before x.number c))
 
 -- the cue above keeps its level, over whatever stands before it now
-keeps_level : (before after : Show) (n k c : ℕ) (below here other above : List Cue) (x : Cue) → InRange before.channels c → IsAround n before.cues below here (x ∷ above) → IsAround n after.cues below other (x ∷ above) → x.number ≤ k → tracked_on c (kept before after x) (along k c 0 (below ++ other)) ≡ tracked_on c x (along k c 0 (below ++ here))
+keeps_level : (before after : Show) (n k c : ℕ) (below here other above : List Cue) (x : Cue) → InRange before.channels c
+    → IsAround n before.cues below here (x ∷ above) → IsAround n after.cues below other (x ∷ above) → x.number ≤ k
+    → tracked_on c (kept before after x) (along k c 0 (below ++ other)) ≡ tracked_on c x (along k c 0 (below ++ here))
 keeps_level before after n k c below here other above x range around now le =
     let test : ℕ → Bool = λ d. not (tracked before x.number d == tracked after x.number d) in
-    let first : tracked before x.number c ≡ tracked_on c x (along k c 0 (below ++ here)) = tracked_first before n k c below here above x around le in
-    let first_now : tracked after x.number c ≡ tracked_on c x (along k c 0 (below ++ other)) = tracked_first after n k c below other above x now le in
+    let first : tracked before x.number c ≡ tracked_on c x (along k c 0 (below ++ here)) =
+    tracked_first before n k c below here above x around le in
+    let first_now : tracked after x.number c ≡ tracked_on c x (along k c 0 (below ++ other)) =
+    tracked_first after n k c below other above x now le in
     elim (cases_Bool (test c)) [
       | inl differs ↦ on_passing before x test (λ d. tracked before x.number d) c (along k c 0 (below ++ other)) range differs ∙ first
-      | inr same ↦ on_other before x test (λ d. tracked before x.number d) c (along k c 0 (below ++ other)) range same ∙ sym first_now ∙ sym (equal_is (tracked before x.number c) (tracked after x.number c) same) ∙ first
+      | inr same ↦ on_other before x test (λ d. tracked before x.number d) c (along k c 0 (below ++ other)) range same ∙ sym first_now
+          ∙ sym (equal_is (tracked before x.number c) (tracked after x.number c) same) ∙ first
     ]
 
 -- the show after the edit alone, and the show in which the cue above keeps its levels
-kept_around : (before after : Show) (n : ℕ) (below other above : List Cue) (x : Cue) → IsAround n after.cues below other (x ∷ above) → IsAround n (with_cue after (kept before after x)).cues below other (kept before after x ∷ above)
+pub kept_around : (before after : Show) (n : ℕ) (below other above : List Cue) (x : Cue) → IsAround n after.cues below other (x ∷ above)
+    → IsAround n (with_cue after (kept before after x)).cues below other (kept before after x ∷ above)
 kept_around before after n below other above x now =
     let front : AllByRecursion (λ cue. cue.number < x.number) (below ++ other) =
-    all_append (λ (cue : Cue). cue.number < x.number) below other (each _ _ below (λ y h. omega (arith, h, now.high.0)) now.low) (each _ _ other (λ y h. omega (arith, h, now.high.0)) now.at) in
+    all_append (λ (cue : Cue). cue.number < x.number) below other (each _ _ below (λ y h. omega (arith, h, now.high.0)) now.low)
+    (each _ _ other (λ y h. omega (arith, h, now.high.0)) now.at) in
     record {
       is = ap (placed (λ (cue : Cue). cue.number) (kept before after x)) (now.is ∙ sym (append_assoc below other (x ∷ above)))
           ∙ placed_between (λ (cue : Cue). cue.number) (below ++ other) above x (kept before after x) refl front now.sorted.0
@@ -111,46 +136,63 @@ some_differs : {A : Type 0} (x : A) → Some x ≡ None → ⊥
 some_differs x is = cc
 
 -- a cue above the number is one of those above
-is_above : (show : Show) (n k : ℕ) (below here above : List Cue) → IsAround n show.cues below here above → n < k → cue_of show k ≡ entry_at (λ cue. cue.number) k above
+is_above : (show : Show) (n k : ℕ) (below here above : List Cue) → IsAround n show.cues below here above → n < k
+    → cue_of show k ≡ entry_at (λ cue. cue.number) k above
 is_above show n k below here above around less =
     let none : entry_at (λ cue. cue.number) k (below ++ here) ≡ None =
-    find_none (λ (cue : Cue). cue.number == k) (below ++ here) (all_append (λ (cue : Cue). (cue.number == k) ≡ false) below here (each _ _ below (λ y h. eq_other y.number k (λ same. omega (arith, h))) around.low) (each _ _ here (λ y h. eq_other y.number k (λ same. omega (arith, h))) around.at)) in
+    find_none (λ (cue : Cue). cue.number == k) (below ++ here)
+    (all_append (λ (cue : Cue). (cue.number == k) ≡ false) below here
+    (each _ _ below (λ y h. eq_other y.number k (λ same. omega (arith, h))) around.low)
+    (each _ _ here (λ y h. eq_other y.number k (λ same. omega (arith, h))) around.at)) in
     ap (entry_at (λ cue. cue.number) k) (around.is ∙ sym (append_assoc below here above))
     ∙ find-append (λ (cue : Cue). cue.number == k) (below ++ here) above
     ∙ ap (λ (o : Option Cue). option_or o (entry_at (λ cue. cue.number) k above)) none
 
 -- a cue of a sorted list is no lower than its first
-not_lower : (x : Cue) (above : List Cue) (k : ℕ) → IsStrictlySorted (λ cue. cue.number) (x ∷ above) → IsTrue (is_some (entry_at (λ cue. cue.number) k (x ∷ above))) → x.number ≤ k
+not_lower : (x : Cue) (above : List Cue) (k : ℕ) → IsStrictlySorted (λ cue. cue.number) (x ∷ above)
+    → IsTrue (is_some (entry_at (λ cue. cue.number) k (x ∷ above))) → x.number ≤ k
 not_lower x above k sorted there =
     elim (cases_lt k x.number) [
       | inl lower ↦
           let none : entry_at (λ cue. cue.number) k (x ∷ above) ≡ None =
-          find_none (λ (cue : Cue). cue.number == k) (x ∷ above) (eq_other x.number k (λ same. omega arith), each _ _ above (λ y h. eq_other y.number k (λ same. omega (arith, h))) sorted.0) in
+          find_none (λ (cue : Cue). cue.number == k) (x ∷ above) (
+            eq_other x.number k (λ same. omega arith),
+            each _ _ above (λ y h. eq_other y.number k (λ same. omega (arith, h))) sorted.0,
+          ) in
           absurd (false≢true (sym (ap is_some none) ∙ there))
       | inr le ↦ le
     ]
 
 -- an edit of one cue alone, by what stands around it
-pub kept_alone : (before after : Show) (n k c : ℕ) (below here other above : List Cue) → IsAround n before.cues below here above → IsAround n after.cues below other above → InRange before.channels c → k ≢ n → IsTrue (is_some (cue_of before k)) → tracked (cue_only true before n after) k c ≡ tracked before k c
+pub kept_alone : (before after : Show) (n k c : ℕ) (below here other above : List Cue) → IsAround n before.cues below here above
+    → IsAround n after.cues below other above → InRange before.channels c → k ≢ n → IsTrue (is_some (cue_of before k))
+    → tracked (cue_only true before n after) k c ≡ tracked before k c
 kept_alone before after n k c below here other [] around now range apart there =
-    let to : cue_only true before n after ≡ after = ap (λ (o : Option Cue). option_map_or (kept_above before after) o after) (above_is after n below other [] now) in
+    let to : cue_only true before n after ≡ after =
+    ap (λ (o : Option Cue). option_map_or (kept_above before after) o after) (above_is after n below other [] now) in
     elim (cases_order k n) [
       | inl same ↦ absurd (apart same)
       | inr other_side ↦ elim other_side [
-        | inl less ↦ ap (λ (s : Show). tracked s k c) to ∙ tracked_low after n k c below other [] now less ∙ sym (tracked_low before n k c below here [] around less)
+        | inl less ↦ ap (λ (s : Show). tracked s k c) to ∙ tracked_low after n k c below other [] now less
+            ∙ sym (tracked_low before n k c below here [] around less)
         | inr more ↦ absurd (false≢true (sym (ap is_some (is_above before n k below here [] around more)) ∙ there))
       ]
     ]
 kept_alone before after n k c below here other (x ∷ above) around now range apart there =
-    let found : cue_above after n ≡ Some x = above_is after n below other (x ∷ above) now ∙ ap (λ b. cond b (Some x) (find (λ cue. nat_lt n cue.number) above)) (lt_true n x.number now.high.0) in
-    let to : cue_only true before n after ≡ with_cue after (kept before after x) = ap (λ (o : Option Cue). option_map_or (kept_above before after) o after) found in
+    let found : cue_above after n ≡ Some x = above_is after n below other (x ∷ above) now
+    ∙ ap (λ b. cond b (Some x) (find (λ cue. nat_lt n cue.number) above)) (lt_true n x.number now.high.0) in
+    let to : cue_only true before n after ≡ with_cue after (kept before after x) =
+    ap (λ (o : Option Cue). option_map_or (kept_above before after) o after) found in
     let then = kept_around before after n below other above x now in
     elim (cases_order k n) [
       | inl same ↦ absurd (apart same)
       | inr other_side ↦ elim other_side [
-        | inl less ↦ ap (λ (s : Show). tracked s k c) to ∙ tracked_low (with_cue after (kept before after x)) n k c below other (kept before after x ∷ above) then less ∙ sym (tracked_low before n k c below here (x ∷ above) around less)
+        | inl less ↦ ap (λ (s : Show). tracked s k c) to
+            ∙ tracked_low (with_cue after (kept before after x)) n k c below other (kept before after x ∷ above) then less
+            ∙ sym (tracked_low before n k c below here (x ∷ above) around less)
         | inr more ↦
-            let le : x.number ≤ k = not_lower x above k around.sorted (sym (ap is_some (is_above before n k below here (x ∷ above) around more)) ∙ there) in
+            let le : x.number ≤ k = not_lower x above k around.sorted
+            (sym (ap is_some (is_above before n k below here (x ∷ above) around more)) ∙ there) in
             ap (λ (s : Show). tracked s k c) to
             ∙ tracked_high (with_cue after (kept before after x)) n k c below other above (kept before after x) then le
             ∙ ap (λ l. along k c l above) (keeps_level before after n k c below here other above x range around now le)

@@ -8,9 +8,11 @@ use Rattle.lx_spec.proofs.ScriptTexts.{text, crlf_text}
 
 abbrev uncut : List (List ℕ)
 uncut =
-    codes "IDENT 3:0" ∷ codes "MANUFACTURER EXAMPLE" ∷ codes "CONSOLE DESK" ∷ codes "CLEAR ALL" ∷ codes "SET CHANNELS 24" ∷ codes "! front of house" ∷ codes "PATCH 1 1<1@100 2<2@100 3<3@50"
+    codes "IDENT 3:0" ∷ codes "MANUFACTURER EXAMPLE" ∷ codes "CONSOLE DESK" ∷ codes "CLEAR ALL" ∷ codes "SET CHANNELS 24" ∷ codes
+    "! front of house" ∷ codes "PATCH 1 1<1@100 2<2@100 3<3@50"
     ∷ codes "$SPECIAL 7" ∷ codes "CHAN 1@30" ∷ codes "CUE 1" ∷ codes "TEXT Preset" ∷ codes "UP 3" ∷ codes "DOWN 3" ∷ codes "$$SNAP 1"
-    ∷ codes "CHAN 1@50 2@100" ∷ codes "CUE 2" ∷ codes "UP 5" ∷ codes "DOWN 5 1" ∷ codes "CHAN 1@50 3@FL" ∷ codes "CUE 3" ∷ codes "CHAN 2@100" ∷ []
+    ∷ codes "CHAN 1@50 2@100" ∷ codes "CUE 2" ∷ codes "UP 5" ∷ codes "DOWN 5 1" ∷ codes "CHAN 1@50 3@FL" ∷ codes "CUE 3" ∷ codes
+    "CHAN 2@100" ∷ []
 
 abbrev file : List (List ℕ)
 file = uncut ++ codes "ENDDATA" ∷ []
@@ -41,7 +43,10 @@ as_looks = refl
 
 -- the moves that make these looks
 moves_of_looks : render_output States (text (file ++ codes "save" ∷ [])) []
-    ≡ text (codes "IDENT 3:0" ∷ codes "SET CHANNELS 24" ∷ codes "PATCH 1 1<1@HFF" ∷ codes "PATCH 1 2<2@HFF" ∷ codes "PATCH 1 3<3@H80" ∷ codes "CUE 1" ∷ codes "TEXT Preset" ∷ codes "PART 1" ∷ codes "UP 3 0" ∷ codes "DOWN 3 0" ∷ codes "CHAN 1@H80" ∷ codes "CHAN 2@HFF" ∷ codes "CUE 2" ∷ codes "PART 1" ∷ codes "UP 5 0" ∷ codes "DOWN 5 1" ∷ codes "CHAN 2@H00" ∷ codes "CHAN 3@HFF" ∷ codes "CUE 3" ∷ codes "PART 1" ∷ codes "UP 5 0" ∷ codes "DOWN 5 0" ∷ codes "CHAN 1@H00" ∷ codes "CHAN 2@HFF" ∷ codes "CHAN 3@H00" ∷ codes "ENDDATA" ∷ [])
+    ≡ text (codes "IDENT 3:0" ∷ codes "SET CHANNELS 24" ∷ codes "PATCH 1 1<1@HFF" ∷ codes "PATCH 1 2<2@HFF" ∷ codes "PATCH 1 3<3@H80" ∷
+    codes "CUE 1" ∷ codes "TEXT Preset" ∷ codes "PART 1" ∷ codes "UP 3 0" ∷ codes "DOWN 3 0" ∷ codes "CHAN 1@H80" ∷ codes "CHAN 2@HFF" ∷
+    codes "CUE 2" ∷ codes "PART 1" ∷ codes "UP 5 0" ∷ codes "DOWN 5 1" ∷ codes "CHAN 2@H00" ∷ codes "CHAN 3@HFF" ∷ codes "CUE 3" ∷ codes
+    "PART 1" ∷ codes "UP 5 0" ∷ codes "DOWN 5 0" ∷ codes "CHAN 1@H00" ∷ codes "CHAN 2@HFF" ∷ codes "CHAN 3@H00" ∷ codes "ENDDATA" ∷ [])
 unfolding digits
 moves_of_looks = refl
 
@@ -53,7 +58,8 @@ without_its_end = refl
 
 abbrev front : List (List ℕ)
 front =
-    codes "IDENT 3:0" ∷ codes "MANUFACTURER EXAMPLE" ∷ codes "CONSOLE DESK" ∷ codes "CLEAR ALL" ∷ codes "SET CHANNELS 24" ∷ codes "! front of house" ∷ codes "PATCH 1 1<1@100 2<2@100 3<3@50"
+    codes "IDENT 3:0" ∷ codes "MANUFACTURER EXAMPLE" ∷ codes "CONSOLE DESK" ∷ codes "CLEAR ALL" ∷ codes "SET CHANNELS 24" ∷ codes
+    "! front of house" ∷ codes "PATCH 1 1<1@100 2<2@100 3<3@50"
     ∷ codes "$SPECIAL 7" ∷ codes "CHAN 1@30" ∷ codes "CUE 1" ∷ codes "TEXT Preset" ∷ codes "UP 3" ∷ codes "DOWN 3" ∷ codes "$$SNAP 1"
     ∷ codes "CHAN 1@50 2@100" ∷ codes "CUE 2" ∷ codes "UP 5" ∷ codes "DOWN 5 1" ∷ codes "CHAN 1@50 3@FL" ∷ codes "CUE 3" ∷ []
 

@@ -1,5 +1,6 @@
 -- What lists come to: all entries with a property, the entries that pass a test, the first or last of them, and maps.
-use Rattle.std.proofs.Common.{◌≡◌, ℕ, zero, suc, ◌-◌, ◌<◌, ◌≤◌, Bool, true, false, cond, List, [], ◌∷◌, ◌++◌, length, get_or, take, drop, Some, None, refl, ◌∙◌, sym, ap, subst, inl, inr, arith}
+use Rattle.std.proofs.Common.{◌≡◌, ℕ, zero, suc, ◌-◌, ◌<◌, ◌≤◌, Bool, true, false, cond, List, [], ◌∷◌, ◌++◌, length, get_or, take, drop}
+use Rattle.std.proofs.Common.{Some, None, refl, ◌∙◌, sym, ap, subst, inl, inr, arith}
 use denote.Ref.{Bor}
 use Rattle.std.specs.Prelude.{Option, IfSome, filter, find, map, reverse, option_to_list, option_map, option_and_then, slice_get, ◌&&◌}
 use Rattle.std.specs.Option.{option_copied, option_map_or, option_or}
@@ -27,9 +28,11 @@ all_reverse P (x ∷ xs) all = rw (reverse-cons x xs) (all_append P (reverse xs)
 -- what all entries have, those that pass a test have
 pub kept_by : {A : Type 0} (P : A → Type 0) (p : A → Bool) (xs : List A) → AllByRecursion P xs → AllByRecursion P (filter p xs)
 kept_by P p [] all = tt
-kept_by P p (x ∷ xs) all = elim (p x) as (λ b. AllByRecursion P (cond b (x ∷ filter p xs) (filter p xs))) [ true ↦ (all.0, kept_by P p xs all.1) | false ↦ kept_by P p xs all.1 ]
+kept_by P p (x ∷ xs) all = elim (p x) as (λ b. AllByRecursion P (cond b (x ∷ filter p xs) (filter p xs)))
+    [ true ↦ (all.0, kept_by P p xs all.1) | false ↦ kept_by P p xs all.1 ]
 
-pub passes_step : {A : Type 0} (p : A → Bool) (x : A) (xs : List A) (b : Bool) → p x ≡ b → AllByRecursion (λ y. p y ≡ true) (filter p xs) → AllByRecursion (λ y. p y ≡ true) (cond b (x ∷ filter p xs) (filter p xs))
+pub passes_step : {A : Type 0} (p : A → Bool) (x : A) (xs : List A) (b : Bool) → p x ≡ b → AllByRecursion (λ y. p y ≡ true) (filter p xs)
+    → AllByRecursion (λ y. p y ≡ true) (cond b (x ∷ filter p xs) (filter p xs))
 passes_step p x xs true is rest = (is, rest)
 passes_step p x xs false is rest = rest
 
@@ -51,27 +54,34 @@ pub find_none : {A : Type 0} (p : A → Bool) (xs : List A) → AllByRecursion (
 find_none p [] all = refl
 find_none p (x ∷ xs) all = rw all.0 (find_none p xs all.1)
 
-pub find_after : {A : Type 0} (p : A → Bool) (front back : List A) → AllByRecursion (λ x. p x ≡ false) front → find p (front ++ back) ≡ find p back
+pub find_after : {A : Type 0} (p : A → Bool) (front back : List A) → AllByRecursion (λ x. p x ≡ false) front
+    → find p (front ++ back) ≡ find p back
 find_after p [] back all = refl
 find_after p (x ∷ xs) back all = rw all.0 (find_after p xs back all.1)
 
 -- the first that passes is the first of those that pass
 pub find_first : {A : Type 0} (p : A → Bool) (xs : List A) → slice_get (filter p xs) 0 ≡ find p xs
 find_first p [] = refl
-find_first p (x ∷ xs) = elim (p x) as (λ b. slice_get (cond b (x ∷ filter p xs) (filter p xs)) 0 ≡ cond b (Some x) (find p xs)) [ true ↦ refl | false ↦ find_first p xs ]
+find_first p (x ∷ xs) = elim (p x) as (λ b. slice_get (cond b (x ∷ filter p xs) (filter p xs)) 0 ≡ cond b (Some x) (find p xs))
+    [ true ↦ refl | false ↦ find_first p xs ]
 
 -- two tests, one after the other
 pub find_both : {A : Type 0} (p q : A → Bool) (xs : List A) → find q (filter p xs) ≡ find (λ x. p x && q x) xs
 find_both p q [] = refl
-find_both p q (x ∷ xs) = elim (p x) as (λ b. find q (cond b (x ∷ filter p xs) (filter p xs)) ≡ cond (b && q x) (Some x) (find (λ y. p y && q y) xs)) [
-  | true ↦ elim (q x) as (λ b. cond b (Some x) (find q (filter p xs)) ≡ cond b (Some x) (find (λ y. p y && q y) xs)) [ true ↦ refl | false ↦ find_both p q xs ]
-  | false ↦ find_both p q xs
-]
+find_both p q (x ∷ xs) = elim (p x) as (λ b. find q (cond b (x ∷ filter p xs) (filter p xs))
+    ≡ cond (b && q x) (Some x) (find (λ y. p y && q y) xs)) [
+      | true ↦ elim (q x) as (λ b. cond b (Some x) (find q (filter p xs)) ≡ cond b (Some x) (find (λ y. p y && q y) xs))
+          [ true ↦ refl | false ↦ find_both p q xs ]
+      | false ↦ find_both p q xs
+    ]
 
 -- a filter keeps the order, from either end
 pub filter-reverse : {A : Type 0} (p : A → Bool) (xs : List A) → filter p (reverse xs) ≡ reverse (filter p xs)
 filter-reverse p [] = refl
-filter-reverse p (x ∷ xs) = ap (filter p) (reverse-cons x xs) ∙ filter-append p (reverse xs) (x ∷ []) ∙ ap (λ ys. ys ++ filter p (x ∷ [])) (filter-reverse p xs) ∙ elim (p x) as (λ b. reverse (filter p xs) ++ cond b (x ∷ []) [] ≡ reverse (cond b (x ∷ filter p xs) (filter p xs))) [ true ↦ sym (reverse-cons x (filter p xs)) | false ↦ append-nil (reverse (filter p xs)) ]
+filter-reverse p (x ∷ xs) = ap (filter p) (reverse-cons x xs) ∙ filter-append p (reverse xs) (x ∷ [])
+    ∙ ap (λ ys. ys ++ filter p (x ∷ [])) (filter-reverse p xs)
+    ∙ elim (p x) as (λ b. reverse (filter p xs) ++ cond b (x ∷ []) [] ≡ reverse (cond b (x ∷ filter p xs) (filter p xs)))
+    [ true ↦ sym (reverse-cons x (filter p xs)) | false ↦ append-nil (reverse (filter p xs)) ]
 
 pub sub-zero : (n : ℕ) → n - 0 ≡ n
 sub-zero n = omega arith
@@ -80,7 +90,9 @@ pub first_of_reverse : {A : Type 0} (xs : List A) → slice_get (reverse xs) 0 �
 first_of_reverse [] = refl
 first_of_reverse (x ∷ xs) =
     let there : 0 < length (reverse (x ∷ xs)) = omega (arith, length-reverse (x ∷ xs)) in
-    slice_get-get_or (reverse (x ∷ xs)) 0 x there ∙ ap Some (get_or-reverse (x ∷ xs) 0 x (omega arith) ∙ ap (λ i. get_or (x ∷ xs) i x) (sub-zero (length (x ∷ xs) - 1))) ∙ sym (slice_get-get_or (x ∷ xs) (length (x ∷ xs) - 1) x (omega arith))
+    slice_get-get_or (reverse (x ∷ xs)) 0 x there
+    ∙ ap Some (get_or-reverse (x ∷ xs) 0 x (omega arith) ∙ ap (λ i. get_or (x ∷ xs) i x) (sub-zero (length (x ∷ xs) - 1)))
+    ∙ sym (slice_get-get_or (x ∷ xs) (length (x ∷ xs) - 1) x (omega arith))
 
 -- the last that passes is the last of those that pass
 pub find_last : {A : Type 0} (p : A → Bool) (xs : List A) → slice_get (filter p xs) (length (filter p xs) - 1) ≡ find p (reverse xs)
@@ -97,7 +109,8 @@ pub first_is : {A : Type 0} (y x : A) (b : Bool) (rest : Option A) → b ≡ tru
 first_is y x true rest test found = cc
 first_is y x false rest test found = absurd (false≢true test)
 
-pub found_step : {A : Type 0} (p : A → Bool) (y : A) (ys : List A) (x : A) (b : Bool) → p y ≡ b → cond b (Some y) (find p ys) ≡ Some x → (find p ys ≡ Some x → p x ≡ true) → p x ≡ true
+pub found_step : {A : Type 0} (p : A → Bool) (y : A) (ys : List A) (x : A) (b : Bool) → p y ≡ b → cond b (Some y) (find p ys) ≡ Some x
+    → (find p ys ≡ Some x → p x ≡ true) → p x ≡ true
 found_step p y ys x true test is rest = cc
 found_step p y ys x false test is rest = rest is
 
@@ -115,13 +128,16 @@ find_in_filter {A} p q xs keeps =
 -- what all entries have, the one that is found has
 pub find_has : {A : Type 0} (P : A → Type 0) (test : A → Bool) (xs : List A) → AllByRecursion P xs → IfSome (find test xs) P
 find_has P test [] all = tt
-find_has P test (x ∷ xs) all = elim (test x) as (λ b. IfSome (cond b (Some x) (find test xs)) P) [ true ↦ all.0 | false ↦ find_has P test xs all.1 ]
+find_has P test (x ∷ xs) all = elim (test x) as (λ b. IfSome (cond b (Some x) (find test xs)) P)
+    [ true ↦ all.0 | false ↦ find_has P test xs all.1 ]
 
-pub lent_has : {A : Type 0} (P : A → Type 0) (test : A → Bool) (xs : List A) (found : Option (Bor A)) → option_copied found ≡ find test xs → AllByRecursion P xs → IfSome found (λ x. P x.now)
+pub lent_has : {A : Type 0} (P : A → Type 0) (test : A → Bool) (xs : List A) (found : Option (Bor A)) → option_copied found ≡ find test xs
+    → AllByRecursion P xs → IfSome found (λ x. P x.now)
 lent_has P test xs None is all = tt
 lent_has {A} P test xs (Some x) is all = subst (λ (o : Option A). IfSome o P) (sym is) (find_has P test xs all)
 
-pub found_has : {A : Type 0} (P : A → Type 0) (test : A → Bool) (xs : List A) (found : Option A) → found ≡ find test xs → AllByRecursion P xs → IfSome found P
+pub found_has : {A : Type 0} (P : A → Type 0) (test : A → Bool) (xs : List A) (found : Option A) → found ≡ find test xs
+    → AllByRecursion P xs → IfSome found P
 found_has {A} P test xs found is all = subst (λ (o : Option A). IfSome o P) (sym is) (find_has P test xs all)
 
 pub find_mapped : {X Y : Type 0} (f : X → Y) (p : Y → Bool) (xs : List X) → find p (map f xs) ≡ option_map f (find (λ x. p (f x)) xs)
@@ -137,17 +153,20 @@ map_reversed f (x ∷ xs) =
     reverse-append (f x ∷ []) (map f xs) ∙ ap (λ ys. ys ++ (f x ∷ [])) (map_reversed f xs)
     ∙ sym (ap (map f) (reverse-append (x ∷ []) xs) ∙ map-append f (reverse xs) (x ∷ []))
 
-pub and_then_mapped : {X Y Z : Type 0} (f : X → Y) (g : Y → Option Z) (o : Option X) → option_and_then g (option_map f o) ≡ option_and_then (λ x. g (f x)) o
+pub and_then_mapped : {X Y Z : Type 0} (f : X → Y) (g : Y → Option Z) (o : Option X)
+    → option_and_then g (option_map f o) ≡ option_and_then (λ x. g (f x)) o
 and_then_mapped f g None = refl
 and_then_mapped f g (Some x) = refl
 
-pub map_or_mapped : {X Y Z : Type 0} (f : X → Y) (g : Y → Z) (o : Option X) (z : Z) → option_map_or g (option_map f o) z ≡ option_map_or (λ x. g (f x)) o z
+pub map_or_mapped : {X Y Z : Type 0} (f : X → Y) (g : Y → Z) (o : Option X) (z : Z)
+    → option_map_or g (option_map f o) z ≡ option_map_or (λ x. g (f x)) o z
 map_or_mapped f g None z = refl
 map_or_mapped f g (Some x) z = refl
 
 pub shorter : {A : Type 0} (p : A → Bool) (xs : List A) → length (filter p xs) ≤ length xs
 shorter p [] = omega arith
-shorter p (x ∷ xs) = elim (p x) as (λ b. length (cond b (x ∷ filter p xs) (filter p xs)) ≤ length (x ∷ xs)) [ true ↦ omega (arith, shorter p xs) | false ↦ omega (arith, shorter p xs) ]
+shorter p (x ∷ xs) = elim (p x) as (λ b. length (cond b (x ∷ filter p xs) (filter p xs)) ≤ length (x ∷ xs))
+    [ true ↦ omega (arith, shorter p xs) | false ↦ omega (arith, shorter p xs) ]
 
 pub or_none : {A : Type 0} (o : Option A) → option_or o None ≡ o
 or_none None = refl

@@ -37,8 +37,11 @@ leading_zeros = refl
 small_cue : read_cue_no desk_limits (codes ".05") ≡ Ok (CUE_UNIT / 20)
 small_cue = refl
 
-fine_cue : read_cue_no desk_limits (codes "2.555") ≡ Err Shape
+fine_cue : read_cue_no desk_limits (codes "2.555") ≡ Ok 2555
 fine_cue = refl
+
+too_fine_cue : read_cue_no desk_limits (codes "2.5555") ≡ Err Shape
+too_fine_cue = refl
 
 cue_zero : read_cue_no desk_limits (codes "0") ≡ Err Range
 cue_zero = refl

@@ -6,7 +6,8 @@ use Rattle.lx_spec.specs.declared.Command.TheVariants as commands
 use Rattle.lx_spec.specs.declared.Edit.TheVariants as edits
 use Rattle.lx_spec.specs.Script.{line_of}
 
-set_line : line_of (codes "set 2.5 chan 1 thru 3 at 50 part 2 only") ≡ Some (lines.Command (commands.Edit (edits.Set (CUE_UNIT * 5 / 2) (Some 2) (record { first = 1; last = 3 }) 128 true)))
+set_line : line_of (codes "set 2.5 chan 1 thru 3 at 50 part 2 only")
+    ≡ Some (lines.Command (commands.Edit (edits.Set (CUE_UNIT * 5 / 2) (Some 2) (record { first = 1; last = 3 }) 128 true)))
 set_line = refl
 
 label_line : line_of (codes "Label 1 ! the rest") ≡ Some (lines.Command (commands.Edit (edits.Name CUE_UNIT (codes "! the rest"))))

@@ -35,7 +35,8 @@ abbrev patched : Show
 patched = record { channels = 1; cues = []; groups = []; subs = []; patch = record { dimmer = 600; chan = 1; level = 255 } ∷ [] }
 
 -- the frame line of a version has its count before the moment
-counted_frames : versions_text patched 2 ([] ∷ (commands.Edit (SubMember 1 (record { first = 1; last = 1 }) 200) ∷ commands.Key (Fader 1 255) ∷ commands.Tick ∷ []) ∷ [])
+counted_frames : versions_text patched 2
+    ([] ∷ (commands.Edit (SubMember 1 (record { first = 1; last = 1 }) 200) ∷ commands.Key (Fader 1 255) ∷ commands.Tick ∷ []) ∷ [])
     ≡ barred (codes "frame 0 0 2|frame 3 2 2 88=200")
 unfolding digits
 counted_frames = refl

@@ -22,6 +22,7 @@ pub data Entry : Type 0 where
   Links : ℕ → Entry
   IsLabelled : List ℕ → Entry
   Blocks : Entry
+  Asserts : Entry
   Ends : Entry
 
 pub record PlacedEntry : Type 0 where
@@ -78,6 +79,10 @@ label_in other = None
 abbrev pub blocks : Entry → Bool
 blocks Blocks = true
 blocks other = false
+
+abbrev pub is_assert : Entry → Bool
+is_assert Asserts = true
+is_assert other = false
 
 abbrev pub is_skipped : Entry → Bool
 is_skipped (Skipped section) = true

@@ -12,7 +12,7 @@ spellings =
     ∷ (codes "SET", words.Set) ∷ (codes "PATCH", words.Patch) ∷ (codes "CUE", words.Cue) ∷ (codes "GROUP", words.Group)
     ∷ (codes "SUB", words.Sub) ∷ (codes "ENDDATA", words.EndData) ∷ (codes "CHAN", words.Chan) ∷ (codes "PART", words.Part)
     ∷ (codes "UP", words.Up) ∷ (codes "DOWN", words.Down) ∷ (codes "FOLLOWON", words.FollowOn) ∷ (codes "LINK", words.Link)
-    ∷ (codes "TEXT", words.Text) ∷ (codes "$$BLOCK", words.Block) ∷ []
+    ∷ (codes "TEXT", words.Text) ∷ (codes "$$BLOCK", words.Block) ∷ (codes "$$ASSERT", words.Assert) ∷ []
 
 abbrev pub is_dollar : ℕ → Bool
 is_dollar b = b == 36
@@ -36,4 +36,5 @@ is_inner words.FollowOn = true
 is_inner words.Link = true
 is_inner words.Text = true
 is_inner words.Block = true
+is_inner words.Assert = true
 is_inner other = false

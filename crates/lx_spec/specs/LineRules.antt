@@ -14,17 +14,18 @@ use Rattle.lx_spec.specs.FirstWord.{word_of, is_inner}
 use Rattle.lx_spec.specs.Facts.{Facts}
 use Rattle.lx_spec.specs.Fields.{numbered, times, levels, patch_entry, channels_entry, record_entry}
 use Rattle.lx_spec.specs.Entry.{Section, NoRecord, InCue, InGroup, InSub, Skipping, cue_in, Entry, Nothing, Skipped, Identifies, Begins}
-use Rattle.lx_spec.specs.Entry.{ClearsAll, NamesPart, HasUp, HasDown, Follows, Links, IsLabelled, Blocks, Ends}
+use Rattle.lx_spec.specs.Entry.{ClearsAll, NamesPart, HasUp, HasDown, Follows, Links, IsLabelled, Blocks, Asserts, Ends}
 
 -- 1. A line that is too long is a fault.
 abbrev pub is_too_long : List ℕ → Bool
 is_too_long line = nat_lt LINE_BYTES (length line)
 
 -- 2. A blank line, which has no token, says nothing. The other rules go by the first word.
--- 3. A manufacturer's own line, which begins with two dollars, is skipped; in a cue `$$BLOCK` isn't one.
+-- 3. A manufacturer's own line, which begins with two dollars, is skipped; in a cue `$$BLOCK` and `$$ASSERT` aren't such lines.
 abbrev pub is_makers_line : Section → Word → Bool
 is_makers_line section words.TwoDollars = true
 is_makers_line section words.Block = is_none (cue_in section)
+is_makers_line section words.Assert = is_none (cue_in section)
 is_makers_line section other = false
 
 -- 4. A manufacturer's own record, which begins with one dollar, is skipped.
@@ -84,6 +85,7 @@ cue_entry facts line words.FollowOn rest = numbered facts.number Follows read_ti
 cue_entry facts line words.Link rest = numbered facts.number Links (read_cue_no facts.limits) rest
 cue_entry facts line words.Text rest = Ok (IsLabelled (label_of (rest_after line 1)))
 cue_entry facts line words.Block rest = Ok Blocks
+cue_entry facts line words.Assert rest = Ok Asserts
 cue_entry facts line other rest = Ok (Skipped None)
 
 -- in a group or submaster

@@ -5,7 +5,7 @@ use Rattle.std.specs.Option.{option_to_list}
 use Rattle.lx_base.specs.declared.TheConstants.{CUE_MAX, TICKS, UNIVERSES}
 use Rattle.lx_spec.specs.declared.Edit.{Edit}
 use Rattle.lx_spec.specs.declared.Edit.TheVariants.{MakeCue, DeleteCue, Set, SetGroup, Release, Time, AddPart, DeletePart, Block, Unblock}
-use Rattle.lx_spec.specs.declared.Edit.TheVariants.{Follow, Name}
+use Rattle.lx_spec.specs.declared.Edit.TheVariants.{Asserted, Follow, Name}
 use Rattle.lx_spec.specs.declared.Command.{Command}
 use Rattle.lx_spec.specs.declared.Command.TheVariants as commands
 use Rattle.lx_spec.specs.declared.Line.{Line}
@@ -24,6 +24,7 @@ cue_edited (AddPart n p) = Some n
 cue_edited (DeletePart n p) = Some n
 cue_edited (Block n) = Some n
 cue_edited (Unblock n) = Some n
+cue_edited (Asserted n on) = Some n
 cue_edited (Follow n after) = Some n
 cue_edited (Name n label) = Some n
 cue_edited other = None

@@ -1,5 +1,6 @@
 -- Times, cue numbers and levels that are written read back.
-use Rattle.std.specs.Prelude.{◌≡◌, ℕ, zero, suc, ◌+◌, ◌*◌, ◌/◌, ◌%◌, ◌^◌, ◌<◌, ◌≤◌, Bool, true, false, cond, not, ◌&&◌, ◌||◌, ◌==◌, nat_le, Result, Ok, Err, List, [], ◌∷◌, ◌++◌, length, decimal, refl, if◌then◌else◌}
+use Rattle.std.specs.Prelude.{◌≡◌, ℕ, zero, suc, ◌+◌, ◌*◌, ◌/◌, ◌%◌, ◌^◌, ◌<◌, ◌≤◌, Bool, true, false, cond, not, ◌&&◌, ◌||◌, ◌==◌, nat_le}
+use Rattle.std.specs.Prelude.{Result, Ok, Err, List, [], ◌∷◌, ◌++◌, length, decimal, refl, if◌then◌else◌}
 use Rattle.std.specs.List.{list_all, list_any, before_first, after_first}
 use Rattle.std.proofs.Common.{arith, ap, ◌∙◌, sym, subst}
 use Rattle.std.proofs.lemmas.Bool.{and_parts}
@@ -12,7 +13,9 @@ use Rattle.lx_spec.specs.declared.Bad.{Bad}
 use Rattle.lx_spec.specs.declared.Bad.TheVariants.{Shape}
 use Rattle.lx_spec.specs.Limits.{desk_limits}
 use Rattle.lx_spec.specs.Text.{is_filled}
-use Rattle.lx_spec.specs.Numerals.{is_digit, is_number, number_of, is_point, is_colon, whole_part, has_point, decimals, is_decimal, decimal_value, ranged, read_minutes, read_seconds, read_time, read_cue_no, read_level, decimals_of, decimal_text, time_text, level_text}
+use Rattle.lx_spec.specs.Numerals.{is_digit, is_number, number_of, is_point, is_colon, whole_part, has_point, decimals, is_decimal}
+use Rattle.lx_spec.specs.Numerals.{decimal_value, ranged, read_minutes, read_seconds, read_time, read_cue_no, read_level, decimals_of}
+use Rattle.lx_spec.specs.Numerals.{decimal_text, time_text, level_text}
 use Rattle.lx_spec.specs.ShowText.{cue_number_text}
 use Rattle.lx_text_laws.proofs.Tokens.{is_plain, stays, all-append, all-weaker}
 use Rattle.lx_text_laws.proofs.Digits.{decimal-digits, decimal-filled, decimal-number, decimal-value, ranged-within}
@@ -43,7 +46,8 @@ is_mark b = is_digit b || is_point b
 abbrev pub gives : ℕ → ℕ → Bool
 gives unit r =
     let ds = decimals_of 3 unit r in
-    (r == 0 || (is_number ds && (nat_le (10 ^ length ds) unit && number_of ds * unit / 10 ^ length ds == r))) && (list_all is_mark (tail unit r) && nat_le (length (tail unit r)) 4)
+    (r == 0 || (is_number ds && (nat_le (10 ^ length ds) unit && number_of ds * unit / 10 ^ length ds == r))) &&
+    (list_all is_mark (tail unit r) && nat_le (length (tail unit r)) 4)
 
 pub hundredths : all_to (gives 100) 100 ≡ true
 hundredths = refl
@@ -110,46 +114,58 @@ none_left unit = grind arith
 no_rest : (unit q : ℕ) → q < 2 ^ 64 → 1 ≤ unit → ReadsDecimal unit (unit * q) (decimal q)
 no_rest unit q small some =
     let all = decimal-digits q small in
-    let none : has_point (decimal q) ≡ false = any-none is_point (decimal q) (all-weaker is_digit (λ b. not (is_point b)) (decimal q) (λ b is. ap not (no_point b is)) all) in
+    let none : has_point (decimal q) ≡ false =
+    any-none is_point (decimal q) (all-weaker is_digit (λ b. not (is_point b)) (decimal q) (λ b is. ap not (no_point b is)) all) in
     let after = after-none (decimal q) all in
     let before = before-none (decimal q) all in
     record {
-      form = ap (λ b. cond b (list_all is_digit (whole_part (decimal q)) && is_number (decimals (decimal q))) (is_number (decimal q))) none ∙ decimal-number q small;
+      form = ap (λ b. cond b (list_all is_digit (whole_part (decimal q)) && is_number (decimals (decimal q))) (is_number (decimal q))) none
+          ∙ decimal-number q small;
       fine = ap (λ ds. nat_le (10 ^ length ds) unit) after ∙ grind (arith, nat_tests, some);
-      value = (λ j. unit * number_of (before j) + number_of (after j) * unit / 10 ^ length (after j)) ∙ (λ j. unit * decimal-value q small j + none_left unit j) ∙ omega arith;
+      value = (λ j. unit * number_of (before j) + number_of (after j) * unit / 10 ^ length (after j))
+          ∙ (λ j. unit * decimal-value q small j + none_left unit j) ∙ omega arith;
     }
 
-with_rest : (unit q r : ℕ) (ds : List ℕ) → q < 2 ^ 64 → is_number ds ≡ true → nat_le (10 ^ length ds) unit ≡ true → number_of ds * unit / 10 ^ length ds ≡ r → ReadsDecimal unit (unit * q + r) (decimal q ++ 46 ∷ ds)
+with_rest : (unit q r : ℕ) (ds : List ℕ) → q < 2 ^ 64 → is_number ds ≡ true → nat_le (10 ^ length ds) unit ≡ true
+    → number_of ds * unit / 10 ^ length ds ≡ r → ReadsDecimal unit (unit * q + r) (decimal q ++ 46 ∷ ds)
 with_rest unit q r ds small number fine is =
     let all = decimal-digits q small in
     let there = point_there (decimal q) ds all in
     let before = before-point (decimal q) ds all in
     let after = after-point (decimal q) ds all in
     record {
-      form = (λ j. cond (there j) (list_all is_digit (before j) && is_number (after j)) (is_number (decimal q ++ 46 ∷ ds))) ∙ (λ j. all j && number j);
+      form = (λ j. cond (there j) (list_all is_digit (before j) && is_number (after j)) (is_number (decimal q ++ 46 ∷ ds)))
+          ∙ (λ j. all j && number j);
       fine = ap (λ v. nat_le (10 ^ length v) unit) after ∙ fine;
-      value = (λ j. unit * number_of (before j) + number_of (after j) * unit / 10 ^ length (after j)) ∙ (λ j. unit * decimal-value q small j + is j);
+      value = (λ j. unit * number_of (before j) + number_of (after j) * unit / 10 ^ length (after j))
+          ∙ (λ j. unit * decimal-value q small j + is j);
     }
 
-reads_rest : (unit q r : ℕ) (b : Bool) → q < 2 ^ 64 → 1 ≤ unit → (r == 0) ≡ b → gives unit r ≡ true → ReadsDecimal unit (unit * q + r) (decimal q ++ cond b [] (46 ∷ decimals_of 3 unit r))
+reads_rest : (unit q r : ℕ) (b : Bool) → q < 2 ^ 64 → 1 ≤ unit → (r == 0) ≡ b → gives unit r ≡ true
+    → ReadsDecimal unit (unit * q + r) (decimal q ++ cond b [] (46 ∷ decimals_of 3 unit r))
 reads_rest unit q r true small some is ok =
     let none : r ≡ 0 = grind (arith, nat_tests, is) in
     let same : unit * q ≡ unit * q + r = omega (arith, none) in
-    subst (λ t. ReadsDecimal unit (unit * q + r) t) (sym (append-nil (decimal q))) (subst (λ n. ReadsDecimal unit n (decimal q)) same (no_rest unit q small some))
+    subst (λ t. ReadsDecimal unit (unit * q + r) t) (sym (append-nil (decimal q)))
+    (subst (λ n. ReadsDecimal unit n (decimal q)) same (no_rest unit q small some))
 reads_rest unit q r false small some is ok =
     let ds = decimals_of 3 unit r in
-    let first = (and_parts (r == 0 || (is_number ds && (nat_le (10 ^ length ds) unit && number_of ds * unit / 10 ^ length ds == r))) (list_all is_mark (tail unit r) && nat_le (length (tail unit r)) 4) ok).0 in
-    let rest : (is_number ds && (nat_le (10 ^ length ds) unit && number_of ds * unit / 10 ^ length ds == r)) ≡ true = ap (λ v. v || (is_number ds && (nat_le (10 ^ length ds) unit && number_of ds * unit / 10 ^ length ds == r))) (sym is) ∙ first in
+    let first = (and_parts (r == 0 || (is_number ds && (nat_le (10 ^ length ds) unit && number_of ds * unit / 10 ^ length ds == r)))
+    (list_all is_mark (tail unit r) && nat_le (length (tail unit r)) 4) ok).0 in
+    let rest : (is_number ds && (nat_le (10 ^ length ds) unit && number_of ds * unit / 10 ^ length ds == r)) ≡ true =
+    ap (λ v. v || (is_number ds && (nat_le (10 ^ length ds) unit && number_of ds * unit / 10 ^ length ds == r))) (sym is) ∙ first in
     let parts = and_parts (is_number ds) (nat_le (10 ^ length ds) unit && number_of ds * unit / 10 ^ length ds == r) rest in
     let more = and_parts (nat_le (10 ^ length ds) unit) (number_of ds * unit / 10 ^ length ds == r) parts.1 in
     let value : number_of ds * unit / 10 ^ length ds ≡ r = grind (arith, nat_tests, more.1) in
     with_rest unit q r ds small parts.0 more.0 value
 
-pub reads_decimal : (unit n : ℕ) → all_to (gives unit) unit ≡ true → 1 ≤ unit → n / unit < 2 ^ 64 → ReadsDecimal unit n (decimal_text unit n)
+pub reads_decimal : (unit n : ℕ) → all_to (gives unit) unit ≡ true → 1 ≤ unit → n / unit < 2 ^ 64
+    → ReadsDecimal unit n (decimal_text unit n)
 reads_decimal unit n all some small =
     let low : n % unit < unit = omega (arith, some) in
     let whole : unit * (n / unit) + n % unit ≡ n = omega (arith, some) in
-    subst (λ m. ReadsDecimal unit m (decimal_text unit n)) whole (reads_rest unit (n / unit) (n % unit) (n % unit == 0) small some refl (below-all_to (gives unit) unit (n % unit) all low))
+    subst (λ m. ReadsDecimal unit m (decimal_text unit n)) whole
+    (reads_rest unit (n / unit) (n % unit) (n % unit == 0) small some refl (below-all_to (gives unit) unit (n % unit) all low))
 
 -- A text of digits and points, of few bytes.
 pub record IsNumberText (text : List ℕ) : Type 0 where
@@ -192,14 +208,20 @@ decimals_text unit n all some small =
     let r = n % unit in
     let ds = decimals_of 3 unit r in
     let low : r < unit = omega (arith, some) in
-    let last = (and_parts (r == 0 || (is_number ds && (nat_le (10 ^ length ds) unit && number_of ds * unit / 10 ^ length ds == r))) (list_all is_mark (tail unit r) && nat_le (length (tail unit r)) 4) (below-all_to (gives unit) unit r all low)).1 in
+    let last = (and_parts (r == 0 || (is_number ds && (nat_le (10 ^ length ds) unit && number_of ds * unit / 10 ^ length ds == r)))
+    (list_all is_mark (tail unit r) && nat_le (length (tail unit r)) 4) (below-all_to (gives unit) unit r all low)).1 in
     let parts = and_parts (list_all is_mark (tail unit r)) (nat_le (length (tail unit r)) 4) last in
     let four : length (tail unit r) ≤ 4 = grind (arith, nat_tests, parts.1) in
     let whole = whole_text q small in
     record {
       marks = all-append is_mark (decimal q) (tail unit r) whole.marks parts.0;
       filled = filled-append (decimal q) (tail unit r) whole.filled;
-      short = omega (arith, length-append (decimal q) (tail unit r), four, length-decimal-le 20 q (omega arith) (omega (arith, small)) small);
+      short = omega (
+        arith,
+        length-append (decimal q) (tail unit r),
+        four,
+        length-decimal-le 20 q (omega arith) (omega (arith, small)) small,
+      );
     }
 
 -- times
@@ -213,7 +235,8 @@ pub read_time-written : (t : ℕ) → t ≤ TIME_MAX → read_time (time_text t)
 read_time-written t low =
     let text = time_text t in
     let reads = reads_decimal 100 t hundredths (omega arith) (few_minutes t low) in
-    let no_colon : list_any is_colon text ≡ false = any-none is_colon text (all-weaker is_mark (λ b. not (is_colon b)) text mark_no_colon (time_is_text t low).marks) in
+    let no_colon : list_any is_colon text ≡ false =
+    any-none is_colon text (all-weaker is_mark (λ b. not (is_colon b)) text mark_no_colon (time_is_text t low).marks) in
     ap (λ b. cond b (read_minutes (before_first is_colon text) (after_first is_colon text)) (read_seconds text)) no_colon
     ∙ (λ j. cond (reads.form j) (ranged 0 TIME_MAX (reads.value j)) (Err Shape))
     ∙ ranged-within 0 TIME_MAX t (omega arith) low
@@ -249,10 +272,13 @@ level_parts : (l : ℕ) → l ≤ 255 → level_reads l ≡ true
 level_parts l low = below-all_to level_reads 256 l every_level (omega (arith, low))
 
 pub read_level-written : (l : ℕ) → l ≤ 255 → read_level (level_text l) ≡ Ok l
-read_level-written l low = reads_as-ok (read_level (level_text l)) l (and_parts (reads_as (read_level (level_text l)) l) (list_all is_plain (level_text l) && list_all stays (level_text l)) (level_parts l low)).0
+read_level-written l low = reads_as-ok (read_level (level_text l)) l
+    (and_parts (reads_as (read_level (level_text l)) l) (list_all is_plain (level_text l) && list_all stays (level_text l))
+    (level_parts l low)).0
 
 level_bytes : (l : ℕ) → l ≤ 255 → (list_all is_plain (level_text l) && list_all stays (level_text l)) ≡ true
-level_bytes l low = (and_parts (reads_as (read_level (level_text l)) l) (list_all is_plain (level_text l) && list_all stays (level_text l)) (level_parts l low)).1
+level_bytes l low = (and_parts (reads_as (read_level (level_text l)) l) (list_all is_plain (level_text l) && list_all stays (level_text l))
+    (level_parts l low)).1
 
 pub level_plain : (l : ℕ) → l ≤ 255 → list_all is_plain (level_text l) ≡ true
 level_plain l low = (and_parts (list_all is_plain (level_text l)) (list_all stays (level_text l)) (level_bytes l low)).0

@@ -1,5 +1,6 @@
 -- Numbers that are written in decimal digits read back.
-use Rattle.std.specs.Prelude.{◌≡◌, ℕ, ◌+◌, ◌-◌, ◌*◌, ◌^◌, ◌<◌, ◌≤◌, true, cond, ◌&&◌, nat_le, Ok, Err, List, [], ◌∷◌, length, fold, decimal, refl}
+use Rattle.std.specs.Prelude.{◌≡◌, ℕ, ◌+◌, ◌-◌, ◌*◌, ◌^◌, ◌<◌, ◌≤◌, true, cond, ◌&&◌, nat_le, Ok, Err, List, [], ◌∷◌, length, fold, decimal}
+use Rattle.std.specs.Prelude.{refl}
 use Rattle.std.specs.List.{list_all}
 use Rattle.std.specs.Str.Parse.{AllDigits, digits_value_after}
 use Rattle.std.specs.Char.{digit_value}

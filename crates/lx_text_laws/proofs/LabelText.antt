@@ -10,16 +10,19 @@ use Rattle.lx_text_laws.proofs.Tokens.{stays}
 
 filter_fewer : (test : ℕ → Bool) (xs : List ℕ) → length (filter test xs) ≤ length xs
 filter_fewer test [] = omega arith
-filter_fewer test (x ∷ xs) = elim (test x) as (λ b. length (cond b (x ∷ filter test xs) (filter test xs)) ≤ length (x ∷ xs)) [ true ↦ omega (arith, filter_fewer test xs) | false ↦ omega (arith, filter_fewer test xs) ]
+filter_fewer test (x ∷ xs) = elim (test x) as (λ b. length (cond b (x ∷ filter test xs) (filter test xs)) ≤ length (x ∷ xs))
+    [ true ↦ omega (arith, filter_fewer test xs) | false ↦ omega (arith, filter_fewer test xs) ]
 
 after_fewer : (test : ℕ → Bool) (xs : List ℕ) → length (after_all test xs) ≤ length xs
 after_fewer test [] = omega arith
-after_fewer test (x ∷ xs) = elim (test x) as (λ b. length (cond b (after_all test xs) (x ∷ xs)) ≤ length (x ∷ xs)) [ true ↦ omega (arith, after_fewer test xs) | false ↦ omega arith ]
+after_fewer test (x ∷ xs) = elim (test x) as (λ b. length (cond b (after_all test xs) (x ∷ xs)) ≤ length (x ∷ xs))
+    [ true ↦ omega (arith, after_fewer test xs) | false ↦ omega arith ]
 
 filter_all : (test : ℕ → Bool) (xs : List ℕ) → length xs ≤ length (filter test xs) → list_all test xs ≡ true
 filter_all test [] full = refl
 filter_all test (x ∷ xs) full =
-    let split : (b : Bool) → length (x ∷ xs) ≤ length (cond b (x ∷ filter test xs) (filter test xs)) → (b && list_all test xs) ≡ true = λ b. elim b as (λ v. length (x ∷ xs) ≤ length (cond v (x ∷ filter test xs) (filter test xs)) → (v && list_all test xs) ≡ true) [
+    let split : (b : Bool) → length (x ∷ xs) ≤ length (cond b (x ∷ filter test xs) (filter test xs)) → (b && list_all test xs) ≡ true =
+    λ b. elim b as (λ v. length (x ∷ xs) ≤ length (cond v (x ∷ filter test xs) (filter test xs)) → (v && list_all test xs) ≡ true) [
       | true ↦ λ h. filter_all test xs (omega (arith, h))
       | false ↦ λ h. absurd (omega (arith, h, filter_fewer test xs))
     ] in
@@ -28,7 +31,8 @@ filter_all test (x ∷ xs) full =
 after_none : (test : ℕ → Bool) (xs : List ℕ) → length xs ≤ length (after_all test xs) → after_all test xs ≡ xs
 after_none test [] full = refl
 after_none test (x ∷ xs) full =
-    let split : (b : Bool) → length (x ∷ xs) ≤ length (cond b (after_all test xs) (x ∷ xs)) → cond b (after_all test xs) (x ∷ xs) ≡ x ∷ xs = λ b. elim b as (λ v. length (x ∷ xs) ≤ length (cond v (after_all test xs) (x ∷ xs)) → cond v (after_all test xs) (x ∷ xs) ≡ x ∷ xs) [
+    let split : (b : Bool) → length (x ∷ xs) ≤ length (cond b (after_all test xs) (x ∷ xs)) → cond b (after_all test xs) (x ∷ xs) ≡ x ∷ xs =
+    λ b. elim b as (λ v. length (x ∷ xs) ≤ length (cond v (after_all test xs) (x ∷ xs)) → cond v (after_all test xs) (x ∷ xs) ≡ x ∷ xs) [
       | true ↦ λ h. absurd (omega (arith, h, after_fewer test xs))
       | false ↦ λ h. refl
     ] in
@@ -37,7 +41,8 @@ after_none test (x ∷ xs) full =
 filter_kept : (test : ℕ → Bool) (xs : List ℕ) → list_all test xs ≡ true → filter test xs ≡ xs
 filter_kept test [] all = refl
 filter_kept test (x ∷ xs) all =
-    let split : (b : Bool) → (b && list_all test xs) ≡ true → cond b (x ∷ filter test xs) (filter test xs) ≡ x ∷ xs = λ b. elim b as (λ v. (v && list_all test xs) ≡ true → cond v (x ∷ filter test xs) (filter test xs) ≡ x ∷ xs) [
+    let split : (b : Bool) → (b && list_all test xs) ≡ true → cond b (x ∷ filter test xs) (filter test xs) ≡ x ∷ xs =
+    λ b. elim b as (λ v. (v && list_all test xs) ≡ true → cond v (x ∷ filter test xs) (filter test xs) ≡ x ∷ xs) [
       | true ↦ λ h. ap (λ v. x ∷ v) (filter_kept test xs h)
       | false ↦ λ h. cc
     ] in

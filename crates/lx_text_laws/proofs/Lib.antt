@@ -12,4 +12,9 @@ pub mod ShowBack
 pub mod RecordsBack
 pub mod WholeText
 pub mod LookLevels
+pub mod FinerLists
+pub mod FinerFields
+pub mod FinerLines
+pub mod FinerShow
+pub mod OldTexts
 mod ReadBack

@@ -1,5 +1,6 @@
 -- A text that is read as looks has the levels of its looks.
-use Rattle.std.specs.Prelude.{◌≡◌, ℕ, zero, suc, ◌+◌, ◌<◌, ◌≤◌, Bool, true, false, cond, not, ◌||◌, ◌&&◌, ◌==◌, nat_le, Option, Some, None, Result, Ok, Err, List, [], ◌∷◌, map, filter, fold, filter_map, is_some, option_and_then, refl, if◌then◌else◌}
+use Rattle.std.specs.Prelude.{◌≡◌, ℕ, zero, suc, ◌+◌, ◌<◌, ◌≤◌, Bool, true, false, cond, not, ◌||◌, ◌&&◌, ◌==◌, nat_le, Option, Some, None}
+use Rattle.std.specs.Prelude.{Result, Ok, Err, List, [], ◌∷◌, map, filter, fold, filter_map, is_some, option_and_then, refl, if◌then◌else◌}
 use Rattle.std.specs.List.{AllByRecursion, list_any, range_with_len, after_last}
 use Rattle.std.specs.Option.{option_map_or}
 use Rattle.std.proofs.Common.{arith, ap, ◌∙◌, sym, subst}
@@ -35,13 +36,19 @@ any_passing test c [] = and_none (test c)
 any_passing test c (d ∷ cs) =
     let more = any_passing test c cs in
     let any : Bool = list_any (λ d. d == c) cs in
-    let split : (a b : Bool) → test d ≡ a → (d == c) ≡ b → list_any (λ d. d == c) (cond a (d ∷ filter test cs) (filter test cs)) ≡ (test c && (b || any)) = λ a b. elim a as (λ a. test d ≡ a → (d == c) ≡ b → list_any (λ d. d == c) (cond a (d ∷ filter test cs) (filter test cs)) ≡ (test c && (b || any))) [
-      | true ↦ elim b as (λ b. test d ≡ true → (d == c) ≡ b → ((d == c) || list_any (λ d. d == c) (filter test cs)) ≡ (test c && (b || any))) [
-        | true ↦ λ is same. ap (λ v. v || list_any (λ d. d == c) (filter test cs)) same ∙ sym (ap (λ v. v && true) (ap test (sym (eqb-true d c same)) ∙ is))
-        | false ↦ λ is other. ap (λ v. v || list_any (λ d. d == c) (filter test cs)) other ∙ more
-      ]
+    let split : (a b : Bool) → test d ≡ a → (d == c) ≡ b
+    → list_any (λ d. d == c) (cond a (d ∷ filter test cs) (filter test cs)) ≡ (test c && (b || any)) =
+    λ a b. elim a as (λ a. test d ≡ a → (d == c) ≡ b
+    → list_any (λ d. d == c) (cond a (d ∷ filter test cs) (filter test cs)) ≡ (test c && (b || any))) [
+      | true ↦ elim b as (λ b. test d ≡ true → (d == c) ≡ b
+          → ((d == c) || list_any (λ d. d == c) (filter test cs)) ≡ (test c && (b || any))) [
+            | true ↦ λ is same. ap (λ v. v || list_any (λ d. d == c) (filter test cs)) same
+                ∙ sym (ap (λ v. v && true) (ap test (sym (eqb-true d c same)) ∙ is))
+            | false ↦ λ is other. ap (λ v. v || list_any (λ d. d == c) (filter test cs)) other ∙ more
+          ]
       | false ↦ elim b as (λ b. test d ≡ false → (d == c) ≡ b → list_any (λ d. d == c) (filter test cs) ≡ (test c && (b || any))) [
-        | true ↦ λ is same. let no : test c ≡ false = ap test (sym (eqb-true d c same)) ∙ is in more ∙ ap (λ v. v && any) no ∙ sym (ap (λ v. v && true) no)
+        | true ↦ λ is same. let no : test c ≡ false = ap test (sym (eqb-true d c same)) ∙ is in more ∙ ap (λ v. v && any) no
+            ∙ sym (ap (λ v. v && true) no)
         | false ↦ λ is other. more
       ]
     ] in
@@ -50,18 +57,23 @@ any_passing test c (d ∷ cs) =
 any_in_range : (a n c : ℕ) → a ≤ c → c < a + n → list_any (λ d. d == c) (range_with_len a n) ≡ true
 any_in_range a zero c low high = absurd (omega (arith, low, high))
 any_in_range a (suc n) c low high =
-    let split : (b : Bool) → (a == c) ≡ b → (b || list_any (λ d. d == c) (range_with_len (a + 1) n)) ≡ true = λ b. elim b as (λ b. (a == c) ≡ b → (b || list_any (λ d. d == c) (range_with_len (a + 1) n)) ≡ true) [
+    let split : (b : Bool) → (a == c) ≡ b → (b || list_any (λ d. d == c) (range_with_len (a + 1) n)) ≡ true =
+    λ b. elim b as (λ b. (a == c) ≡ b → (b || list_any (λ d. d == c) (range_with_len (a + 1) n)) ≡ true) [
       | true ↦ λ is. refl
       | false ↦ λ is. let above : a + 1 ≤ c = grind (arith, nat_tests, is, low) in any_in_range (a + 1) n c above (omega (arith, high))
     ] in
     split (a == c) refl
 
-move_found : (make : ℕ → Move) (cs : List ℕ) (c : ℕ) → ((d : ℕ) → (make d).chan ≡ d) → entry_at (λ m. m.chan) c (map make cs) ≡ cond (list_any (λ d. d == c) cs) (Some (make c)) None
+move_found : (make : ℕ → Move) (cs : List ℕ) (c : ℕ) → ((d : ℕ) → (make d).chan ≡ d)
+    → entry_at (λ m. m.chan) c (map make cs) ≡ cond (list_any (λ d. d == c) cs) (Some (make c)) None
 move_found make [] c own = refl
 move_found make (d ∷ cs) c own =
     let more = move_found make cs c own in
     let any : Bool = list_any (λ d. d == c) cs in
-    let split : (b : Bool) → (d == c) ≡ b → cond b (Some (make d)) (entry_at (λ m. m.chan) c (map make cs)) ≡ cond (b || any) (Some (make c)) None = λ b. elim b as (λ b. (d == c) ≡ b → cond b (Some (make d)) (entry_at (λ m. m.chan) c (map make cs)) ≡ cond (b || any) (Some (make c)) None) [
+    let split : (b : Bool) → (d == c) ≡ b → cond b (Some (make d)) (entry_at (λ m. m.chan) c (map make cs))
+    ≡ cond (b || any) (Some (make c)) None =
+    λ b. elim b as (λ b. (d == c) ≡ b → cond b (Some (make d)) (entry_at (λ m. m.chan) c (map make cs))
+    ≡ cond (b || any) (Some (make c)) None) [
       | true ↦ λ is. ap (λ k. Some (make k)) (eqb-true d c is)
       | false ↦ λ is. more
     ] in
@@ -81,11 +93,15 @@ and_true : (a b : Bool) → b ≡ true → (a && b) ≡ a
 and_true true b is = is
 and_true false b is = refl
 
-look_move : (show : Show) (before : ℕ → ℕ) (cue : Cue) (c : ℕ) → InRange show.channels c → move_in (look_of show before cue) c ≡ cond (not (level_in cue c == kept before cue c)) (Some (made cue c)) None
+look_move : (show : Show) (before : ℕ → ℕ) (cue : Cue) (c : ℕ) → InRange show.channels c
+    → move_in (look_of show before cue) c ≡ cond (not (level_in cue c == kept before cue c)) (Some (made cue c)) None
 look_move show before cue c range =
     let changed = λ (d : ℕ). not (level_in cue d == kept before cue d) in
     move_found (made cue) (filter changed (channels_of show)) c (λ d. refl)
-    ∙ ap (λ b. cond b (Some (made cue c)) None) (any_passing changed c (channels_of show) ∙ and_true (changed c) (list_any (λ d. d == c) (channels_of show)) (any_in_range 1 show.channels c range.least (omega (arith, range.most))))
+    ∙ ap (λ b. cond b (Some (made cue c)) None)
+    (any_passing changed c (channels_of show)
+    ∙ and_true (changed c) (list_any (λ d. d == c) (channels_of show))
+    (any_in_range 1 show.channels c range.least (omega (arith, range.most))))
 
 or_true : (b : Bool) → (b || true) ≡ true
 or_true true = refl
@@ -99,46 +115,56 @@ kept_level true l before is = sym (eqb-true l 0 is)
 kept_level false l before is = sym (eqb-true l before is)
 
 -- a look gives its level, whatever it was before
-look_level : (show : Show) (before : ℕ → ℕ) (cue : Cue) (c level : ℕ) → InRange show.channels c → level ≡ before c → tracked_on c (look_of show before cue) level ≡ level_in cue c
+look_level : (show : Show) (before : ℕ → ℕ) (cue : Cue) (c level : ℕ) → InRange show.channels c → level ≡ before c
+    → tracked_on c (look_of show before cue) level ≡ level_in cue c
 look_level show before cue c level range was =
     let l : ℕ = level_in cue c in
-    let split : (b : Bool) → (l == kept before cue c) ≡ b → by_move cue.block (cond (not b) (Some (made cue c)) None) (before c) ≡ l = λ b. elim b as (λ b. (l == kept before cue c) ≡ b → by_move cue.block (cond (not b) (Some (made cue c)) None) (before c) ≡ l) [
+    let split : (b : Bool) → (l == kept before cue c) ≡ b → by_move cue.block (cond (not b) (Some (made cue c)) None) (before c) ≡ l =
+    λ b. elim b as (λ b. (l == kept before cue c) ≡ b → by_move cue.block (cond (not b) (Some (made cue c)) None) (before c) ≡ l) [
       | true ↦ λ is. kept_level cue.block l (before c) is
       | false ↦ λ is. ap (λ v. cond v l (before c)) (or_true cue.block)
     ] in
     (λ j. by_move cue.block (look_move show before cue c range j) (was j)) ∙ split (l == kept before cue c) refl
 
 -- Along the cues.
-above_kept : (show : Show) (n : ℕ) (before : ℕ → ℕ) (cues : List Cue) → AllByRecursion (λ x. n < x.number) cues → AllByRecursion (λ x. n < x.number) (from_looks show before cues)
+above_kept : (show : Show) (n : ℕ) (before : ℕ → ℕ) (cues : List Cue) → AllByRecursion (λ x. n < x.number) cues
+    → AllByRecursion (λ x. n < x.number) (from_looks show before cues)
 above_kept show n before [] all = tt
 above_kept show n before (x ∷ cues) all = (all.0, above_kept show n (level_in x) cues all.1)
 
-found_above : (m n : ℕ) (cues : List Cue) (cue : Cue) → AllByRecursion (λ x. m < x.number) cues → entry_at (λ x. x.number) n cues ≡ Some cue → m < n
+found_above : (m n : ℕ) (cues : List Cue) (cue : Cue) → AllByRecursion (λ x. m < x.number) cues → entry_at (λ x. x.number) n cues ≡ Some cue
+    → m < n
 found_above m n [] cue all is = cc
 found_above m n (x ∷ cues) cue all is =
-    let split : (b : Bool) → (x.number == n) ≡ b → cond b (Some x) (entry_at (λ x. x.number) n cues) ≡ Some cue → m < n = λ b. elim b as (λ b. (x.number == n) ≡ b → cond b (Some x) (entry_at (λ x. x.number) n cues) ≡ Some cue → m < n) [
+    let split : (b : Bool) → (x.number == n) ≡ b → cond b (Some x) (entry_at (λ x. x.number) n cues) ≡ Some cue → m < n =
+    λ b. elim b as (λ b. (x.number == n) ≡ b → cond b (Some x) (entry_at (λ x. x.number) n cues) ≡ Some cue → m < n) [
       | true ↦ λ same found. subst (λ k. m < k) (eqb-true x.number n same) all.0
       | false ↦ λ other found. found_above m n cues cue all.1 found
     ] in
     split (x.number == n) refl is
 
-looks_along : (show : Show) (before : ℕ → ℕ) (cues : List Cue) (cue : Cue) (n c level : ℕ) → InRange show.channels c → IsStrictlySorted (λ x. x.number) cues → level ≡ before c → entry_at (λ x. x.number) n cues ≡ Some cue
+looks_along : (show : Show) (before : ℕ → ℕ) (cues : List Cue) (cue : Cue) (n c level : ℕ) → InRange show.channels c
+    → IsStrictlySorted (λ x. x.number) cues → level ≡ before c → entry_at (λ x. x.number) n cues ≡ Some cue
     → along n c level (from_looks show before cues) ≡ level_in cue c
 looks_along show before [] cue n c level range sorted was is = cc
 looks_along show before (x ∷ cues) cue n c level range sorted was is =
     let first : Cue = look_of show before x in
     let rest : List Cue = from_looks show (level_in x) cues in
     let now = look_level show before x c level range was in
-    let split : (b : Bool) → (x.number == n) ≡ b → cond b (Some x) (entry_at (λ x. x.number) n cues) ≡ Some cue → along n c (cond (nat_le x.number n) (tracked_on c first level) level) rest ≡ level_in cue c
-    = λ b. elim b as (λ b. (x.number == n) ≡ b → cond b (Some x) (entry_at (λ x. x.number) n cues) ≡ Some cue → along n c (cond (nat_le x.number n) (tracked_on c first level) level) rest ≡ level_in cue c) [
+    let split : (b : Bool) → (x.number == n) ≡ b → cond b (Some x) (entry_at (λ x. x.number) n cues) ≡ Some cue
+    → along n c (cond (nat_le x.number n) (tracked_on c first level) level) rest ≡ level_in cue c
+    = λ b. elim b as (λ b. (x.number == n) ≡ b → cond b (Some x) (entry_at (λ x. x.number) n cues) ≡ Some cue
+    → along n c (cond (nat_le x.number n) (tracked_on c first level) level) rest ≡ level_in cue c) [
       | true ↦ λ same found.
           let number : x.number ≡ n = eqb-true x.number n same in
           let it : x ≡ cue = cc in
           let above = subst (λ k. AllByRecursion (λ y. k < y.number) cues) number sorted.0 in
-          ap (λ v. along n c v rest) (step_in n c level first (omega (arith, number)) ∙ now) ∙ along-past n c (level_in x c) rest (above_kept show n (level_in x) cues above) ∙ ap (λ y. level_in y c) it
+          ap (λ v. along n c v rest) (step_in n c level first (omega (arith, number)) ∙ now)
+          ∙ along-past n c (level_in x c) rest (above_kept show n (level_in x) cues above) ∙ ap (λ y. level_in y c) it
       | false ↦ λ other found.
           let low = found_above x.number n cues cue sorted.0 found in
-          looks_along show (level_in x) cues cue n c (cond (nat_le x.number n) (tracked_on c first level) level) range sorted.1 (step_in n c level first (omega (arith, low)) ∙ now) found
+          looks_along show (level_in x) cues cue n c (cond (nat_le x.number n) (tracked_on c first level) level) range sorted.1
+          (step_in n c level first (omega (arith, low)) ∙ now) found
     ] in
     split (x.number == n) refl is
 
@@ -147,14 +173,19 @@ sorted-fold : (ns more : List ℕ) → IsStrictlySorted (λ m. m) ns → IsStric
 sorted-fold ns [] sorted = sorted
 sorted-fold ns (n ∷ more) sorted = sorted-fold (placed (λ m. m) n ns) more (IsStrictlySorted-placed (λ m. m) n ns sorted)
 
-sorted-made : (make : ℕ → Cue) (ns : List ℕ) → ((n : ℕ) → (make n).number ≡ n) → IsStrictlySorted (λ m. m) ns → IsStrictlySorted (λ x. x.number) (map make ns)
+sorted-made : (make : ℕ → Cue) (ns : List ℕ) → ((n : ℕ) → (make n).number ≡ n) → IsStrictlySorted (λ m. m) ns
+    → IsStrictlySorted (λ x. x.number) (map make ns)
 sorted-made make [] own sorted = tt
-sorted-made make (n ∷ ns) own sorted =
-    (All-map (λ x. (make n).number < x.number) make ns (each (λ m. n < m) (λ m. (make n).number < (make m).number) ns (λ m up. omega (arith, own n, own m, up)) sorted.0), sorted-made make ns own sorted.1)
+sorted-made make (n ∷ ns) own sorted = (
+  All-map (λ x. (make n).number < x.number) make ns
+      (each (λ m. n < m) (λ m. (make n).number < (make m).number) ns (λ m up. omega (arith, own n, own m, up)) sorted.0),
+  sorted-made make ns own sorted.1,
+)
 
 cues_sorted : (all : List PlacedEntry) → IsStrictlySorted (λ x. x.number) (show_from all).cues
 cues_sorted all =
-    sorted-made (λ n. cue_from (filter (stands_in cue_in n) all) n) (numbers_begun cue_in all) (λ n. refl) (sorted-fold [] (filter_map (λ e. option_and_then cue_in (section_of e)) all) tt)
+    sorted-made (λ n. cue_from (filter (stands_in cue_in n) all) n) (numbers_begun cue_in all) (λ n. refl)
+    (sorted-fold [] (filter_map (λ e. option_and_then cue_in (section_of e)) all) tt)
   where
     section_of : PlacedEntry → Option Section
     section_of e = section_begun e.entry
@@ -164,7 +195,8 @@ pub record BothForms (named looks : Reading) : Type 0 where
   pub same : looks.show ≡ by_form States named.show
   pub sorted : IsStrictlySorted (λ x. x.number) named.show.cues
 
-both_forms : (r : Result (List PlacedEntry) TextFault) (named looks : Reading) → (r >>= (λ all. Ok (reading_from Moves all))) ≡ Ok named → (r >>= (λ all. Ok (reading_from States all))) ≡ Ok looks → BothForms named looks
+both_forms : (r : Result (List PlacedEntry) TextFault) (named looks : Reading) → (r >>= (λ all. Ok (reading_from Moves all))) ≡ Ok named
+    → (r >>= (λ all. Ok (reading_from States all))) ≡ Ok looks → BothForms named looks
 both_forms (Ok all) named looks one other =
     let first : reading_from Moves all ≡ named = cc in
     let second : reading_from States all ≡ looks = cc in
@@ -174,7 +206,8 @@ both_forms (Ok all) named looks one other =
     }
 both_forms (Err fault) named looks one other = cc
 
-pub look_levels : (bytes : List ℕ) (named looks : Reading) (cue : Cue) (n c : ℕ) → reads Moves bytes ≡ Ok named → reads States bytes ≡ Ok looks → cue_of named.show n ≡ Some cue → InRange named.show.channels c
+pub look_levels : (bytes : List ℕ) (named looks : Reading) (cue : Cue) (n c : ℕ) → reads Moves bytes ≡ Ok named
+    → reads States bytes ≡ Ok looks → cue_of named.show n ≡ Some cue → InRange named.show.channels c
     → tracked looks.show n c ≡ level_in cue c
 look_levels bytes named looks cue n c one other there range =
     let both = both_forms (entries (first_facts desk_limits) (lines_of bytes)) named looks one other in

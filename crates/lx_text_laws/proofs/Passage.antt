@@ -37,12 +37,20 @@ onto-onto a b (Ok es) = ap Ok (sym (append_assoc a b es))
 onto-onto a b (Err fault) = refl
 
 pub no_passage : (f : Facts) → Passage f f [] []
-no_passage f = record { lines = 0; says = λ rest. onto-nothing (entries f (lines_of rest)); counts = λ rest. omega arith; has = λ rest. omega arith }
+no_passage f = record {
+  lines = 0;
+  says = λ rest. onto-nothing (entries f (lines_of rest));
+  counts = λ rest. omega arith;
+  has =
+      λ rest. omega arith;
+}
 
-pub then : (f g h : Facts) (a b : List ℕ) (es more : List PlacedEntry) → Passage f g a es → Passage g h b more → Passage f h (a ++ b) (es ++ more)
+pub then : (f g h : Facts) (a b : List ℕ) (es more : List PlacedEntry) → Passage f g a es → Passage g h b more
+    → Passage f h (a ++ b) (es ++ more)
 then f g h a b es more one other = record {
   lines = one.lines + other.lines;
-  says = λ rest. ap (λ v. entries f (lines_of v)) (append_assoc a b rest) ∙ one.says (b ++ rest) ∙ ap (onto es) (other.says rest) ∙ onto-onto es more (entries h (lines_of rest));
+  says = λ rest. ap (λ v. entries f (lines_of v)) (append_assoc a b rest) ∙ one.says (b ++ rest) ∙ ap (onto es) (other.says rest)
+      ∙ onto-onto es more (entries h (lines_of rest));
   counts = λ rest. ap (λ v. count_read f (lines_of v)) (append_assoc a b rest) ∙ one.counts (b ++ rest) ∙ omega (arith, other.counts rest);
   has = λ rest. ap (λ v. length (lines_of v)) (append_assoc a b rest) ∙ one.has (b ++ rest) ∙ omega (arith, other.has rest);
 }
@@ -59,13 +67,18 @@ abbrev counted : Facts → List (List ℕ) → Result Entry TextFault → ℕ
 counted f lines (Ok e) = cond (is_end e) 1 (count_read (facts_after f e) lines + 1)
 counted f lines (Err fault) = 1
 
-count_counted : (f : Facts) (line : List ℕ) (lines : List (List ℕ)) (r : Result Entry TextFault) → entry_of f line ≡ r → count_read f (line ∷ lines) ≡ counted f lines r
-count_counted f line lines (Ok e) is = (λ j. elim (is j) as (λ _. ℕ) [ Ok entry ↦ cond (is_end entry) 1 (count_read (facts_after f entry) lines + 1) | Err fault ↦ 1 ])
-count_counted f line lines (Err fault) is = (λ j. elim (is j) as (λ _. ℕ) [ Ok entry ↦ cond (is_end entry) 1 (count_read (facts_after f entry) lines + 1) | Err fault ↦ 1 ])
+count_counted : (f : Facts) (line : List ℕ) (lines : List (List ℕ)) (r : Result Entry TextFault) → entry_of f line ≡ r
+    → count_read f (line ∷ lines) ≡ counted f lines r
+count_counted f line lines (Ok e) is = (λ j. elim (is j) as (λ _. ℕ)
+    [ Ok entry ↦ cond (is_end entry) 1 (count_read (facts_after f entry) lines + 1) | Err fault ↦ 1 ])
+count_counted f line lines (Err fault) is =
+    (λ j. elim (is j) as (λ _. ℕ) [ Ok entry ↦ cond (is_end entry) 1 (count_read (facts_after f entry) lines + 1) | Err fault ↦ 1 ])
 
-pub line_passage : (f : Facts) (body : List ℕ) (e : Entry) → list_all stays body ≡ true → entry_of f body ≡ Ok e → is_end e ≡ false → Passage f (facts_after f e) (body ++ 10 ∷ []) (here f.section f.part e ∷ [])
+pub line_passage : (f : Facts) (body : List ℕ) (e : Entry) → list_all stays body ≡ true → entry_of f body ≡ Ok e → is_end e ≡ false
+    → Passage f (facts_after f e) (body ++ 10 ∷ []) (here f.section f.part e ∷ [])
 line_passage f body e all is goes =
-    let cut : (rest : List ℕ) → lines_of ((body ++ 10 ∷ []) ++ rest) ≡ body ∷ lines_of rest = λ rest. ap lines_of (append_assoc body (10 ∷ []) rest) ∙ lines_of-line body rest all in
+    let cut : (rest : List ℕ) → lines_of ((body ++ 10 ∷ []) ++ rest) ≡ body ∷ lines_of rest =
+    λ rest. ap lines_of (append_assoc body (10 ∷ []) rest) ∙ lines_of-line body rest all in
     record {
       lines = 1;
       says = λ rest.
@@ -73,7 +86,8 @@ line_passage f body e all is goes =
           ∙ ap (λ r. r >>= goes_on f (lines_of rest)) is
           ∙ ap (λ b. cond b (Ok []) (entries (facts_after f e) (lines_of rest) >>= (λ more. Ok (here f.section f.part e ∷ more)))) goes
           ∙ with_first (here f.section f.part e) (entries (facts_after f e) (lines_of rest));
-      counts = λ rest. ap (count_read f) (cut rest) ∙ count_counted f body (lines_of rest) (Ok e) is ∙ ap (λ b. cond b 1 (count_read (facts_after f e) (lines_of rest) + 1)) goes;
+      counts = λ rest. ap (count_read f) (cut rest) ∙ count_counted f body (lines_of rest) (Ok e) is
+          ∙ ap (λ b. cond b 1 (count_read (facts_after f e) (lines_of rest) + 1)) goes;
       has = λ rest. ap length (cut rest) ∙ omega arith;
     }
 
@@ -95,7 +109,8 @@ Reads s p text es s' p' new = (i : ℕ) (cs : List ℕ) → length cs + new ≤ 
 pub reads_none : (s : Section) (p : ℕ) → Reads s p [] [] s p 0
 reads_none s p i cs room = record { number = i; cues = cs; few = omega arith; passage = no_passage (at i s p cs) }
 
-pub reads_then : (s s' s'' : Section) (p p' p'' n m : ℕ) (a b : List ℕ) (es more : List PlacedEntry) → Reads s p a es s' p' n → Reads s' p' b more s'' p'' m → Reads s p (a ++ b) (es ++ more) s'' p'' (n + m)
+pub reads_then : (s s' s'' : Section) (p p' p'' n m : ℕ) (a b : List ℕ) (es more : List PlacedEntry) → Reads s p a es s' p' n
+    → Reads s' p' b more s'' p'' m → Reads s p (a ++ b) (es ++ more) s'' p'' (n + m)
 reads_then s s' s'' p p' p'' n m a b es more one other i cs room =
     let first = one i cs (omega (arith, room)) in
     let second = other first.number first.cues (omega (arith, room, first.few)) in
@@ -103,15 +118,19 @@ reads_then s s' s'' p p' p'' n m a b es more one other i cs room =
       number = second.number;
       cues = second.cues;
       few = omega (arith, first.few, second.few);
-      passage = then (at i s p cs) (at first.number s' p' first.cues) (at second.number s'' p'' second.cues) a b es more first.passage second.passage;
+      passage = then (at i s p cs) (at first.number s' p' first.cues) (at second.number s'' p'' second.cues) a b es more first.passage
+          second.passage;
     }
 
 -- a line after which the cues are the same
-pub reads_line : (s s' : Section) (p p' : ℕ) (body : List ℕ) (e : Entry) → list_all stays body ≡ true → ((i : ℕ) (cs : List ℕ) → entry_of (at i s p cs) body ≡ Ok e) → is_end e ≡ false → ((i : ℕ) (cs : List ℕ) → facts_after (at i s p cs) e ≡ at (i + 1) s' p' cs)
+pub reads_line : (s s' : Section) (p p' : ℕ) (body : List ℕ) (e : Entry) → list_all stays body ≡ true
+    → ((i : ℕ) (cs : List ℕ) → entry_of (at i s p cs) body ≡ Ok e) → is_end e ≡ false
+    → ((i : ℕ) (cs : List ℕ) → facts_after (at i s p cs) e ≡ at (i + 1) s' p' cs)
     → Reads s p (body ++ 10 ∷ []) (here s p e ∷ []) s' p' 0
 reads_line s s' p p' body e all is goes next i cs room = record {
   number = i + 1;
   cues = cs;
   few = omega arith;
-  passage = subst (λ g. Passage (at i s p cs) g (body ++ 10 ∷ []) (here s p e ∷ [])) (next i cs) (line_passage (at i s p cs) body e all (is i cs) goes);
+  passage = subst (λ g. Passage (at i s p cs) g (body ++ 10 ∷ []) (here s p e ∷ [])) (next i cs)
+      (line_passage (at i s p cs) body e all (is i cs) goes);
 }

@@ -29,9 +29,11 @@ not_true false e = refl
 cut-plain : (b : ℕ) (l : List ℕ) → is_plain b ≡ true → cut (b ∷ l) ≡ onto_first b (cut l)
 cut-plain b l plain =
     let parts = and_parts (not (is_separator b)) (not (begins_comment b)) plain in
-    ap (slice_split is_separator) (before-no b l (not_true (begins_comment b) parts.1)) ∙ slice_split-cons_no is_separator b (before_first begins_comment l) (not_true (is_separator b) parts.0)
+    ap (slice_split is_separator) (before-no b l (not_true (begins_comment b) parts.1))
+    ∙ slice_split-cons_no is_separator b (before_first begins_comment l) (not_true (is_separator b) parts.0)
 
-cut-word : (w l : List ℕ) (more : List (List ℕ)) (r : List ℕ) → list_all is_plain w ≡ true → cut l ≡ r ∷ more → cut (w ++ l) ≡ (w ++ r) ∷ more
+cut-word : (w l : List ℕ) (more : List (List ℕ)) (r : List ℕ) → list_all is_plain w ≡ true → cut l ≡ r ∷ more
+    → cut (w ++ l) ≡ (w ++ r) ∷ more
 cut-word [] l more r plain is = is
 cut-word (b ∷ w) l more r plain is =
     let parts = and_parts (is_plain b) (list_all is_plain w) plain in
@@ -41,13 +43,16 @@ append-none : (w : List ℕ) → w ++ [] ≡ w
 append-none [] = refl
 append-none (b ∷ w) = ap (λ v. b ∷ v) (append-none w)
 
-cut-at : (w : List ℕ) (s : ℕ) (l : List ℕ) → list_all is_plain w ≡ true → is_separator s ≡ true → begins_comment s ≡ false → cut (w ++ s ∷ l) ≡ w ∷ cut l
+cut-at : (w : List ℕ) (s : ℕ) (l : List ℕ) → list_all is_plain w ≡ true → is_separator s ≡ true → begins_comment s ≡ false
+    → cut (w ++ s ∷ l) ≡ w ∷ cut l
 cut-at w s l plain sep mark =
-    cut-word w (s ∷ l) (cut l) [] plain (ap (slice_split is_separator) (before-no s l mark) ∙ slice_split-cons_yes is_separator s (before_first begins_comment l) sep)
+    cut-word w (s ∷ l) (cut l) [] plain (ap (slice_split is_separator) (before-no s l mark)
+    ∙ slice_split-cons_yes is_separator s (before_first begins_comment l) sep)
     ∙ ap (λ v. v ∷ cut l) (append-none w)
 
 -- a word and what follows it after a separator
-pub tokens-at : (w : List ℕ) (s : ℕ) (l : List ℕ) → list_all is_plain w ≡ true → is_filled w ≡ true → is_separator s ≡ true → begins_comment s ≡ false → tokens (w ++ s ∷ l) ≡ w ∷ tokens l
+pub tokens-at : (w : List ℕ) (s : ℕ) (l : List ℕ) → list_all is_plain w ≡ true → is_filled w ≡ true → is_separator s ≡ true
+    → begins_comment s ≡ false → tokens (w ++ s ∷ l) ≡ w ∷ tokens l
 tokens-at w s l plain filled sep mark =
     ap (filter is_filled) (cut-at w s l plain sep mark) ∙ ap (λ b. cond b (w ∷ filter is_filled (cut l)) (filter is_filled (cut l))) filled
 
@@ -64,7 +69,8 @@ cut_lines-line [] rest all = refl
 cut_lines-line (b ∷ body) rest all =
     let parts = and_parts (stays b) (list_all stays body) all in
     let odd : (b == 10) ≡ false = grind (arith, nat_tests, parts.0) in
-    ap (λ c. cond c ([] ∷ cut_lines (body ++ 10 ∷ rest)) (onto_first b (cut_lines (body ++ 10 ∷ rest)))) odd ∙ ap (onto_first b) (cut_lines-line body rest parts.1)
+    ap (λ c. cond c ([] ∷ cut_lines (body ++ 10 ∷ rest)) (onto_first b (cut_lines (body ++ 10 ∷ rest)))) odd
+    ∙ ap (onto_first b) (cut_lines-line body rest parts.1)
 
 without_cr-line : (body : List ℕ) → list_all stays body ≡ true → without_cr body ≡ body
 without_cr-line [] all = refl
@@ -74,7 +80,8 @@ without_cr-line (b ∷ body) all =
     ap (λ c. cond (not c) (b ∷ without_cr body) (without_cr body)) odd ∙ ap (λ v. b ∷ v) (without_cr-line body parts.1)
 
 pub lines_of-line : (body rest : List ℕ) → list_all stays body ≡ true → lines_of (body ++ 10 ∷ rest) ≡ body ∷ lines_of rest
-lines_of-line body rest all = (λ j. map without_cr (cut_lines-line body rest all j)) ∙ ap (λ v. v ∷ lines_of rest) (without_cr-line body all)
+lines_of-line body rest all = (λ j. map without_cr (cut_lines-line body rest all j))
+    ∙ ap (λ v. v ∷ lines_of rest) (without_cr-line body all)
 
 -- a test of all bytes, over joined texts
 pub all-append : (test : ℕ → Bool) (a b : List ℕ) → list_all test a ≡ true → list_all test b ≡ true → list_all test (a ++ b) ≡ true
@@ -83,7 +90,8 @@ all-append test (x ∷ a) b one other =
     let parts = and_parts (test x) (list_all test a) one in
     ap (λ v. v && list_all test (a ++ b)) parts.0 ∙ all-append test a b parts.1 other
 
-pub all-weaker : (test other : ℕ → Bool) (a : List ℕ) → ((b : ℕ) → test b ≡ true → other b ≡ true) → list_all test a ≡ true → list_all other a ≡ true
+pub all-weaker : (test other : ℕ → Bool) (a : List ℕ) → ((b : ℕ) → test b ≡ true → other b ≡ true) → list_all test a ≡ true
+    → list_all other a ≡ true
 all-weaker test other [] weaker all = refl
 all-weaker test other (x ∷ a) weaker all =
     let parts = and_parts (test x) (list_all test a) all in

@@ -1,2 +1,3 @@
 pub mod RoundTrip
 pub mod LookLevels
+pub mod OldTexts

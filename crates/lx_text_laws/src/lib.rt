@@ -1,12 +1,16 @@
 //! Laws of show texts, each the contract of a function with nothing to do: what is written of a show reads back as that
-//! show, and a text of looks gives the levels of its looks. `read_back` carries the first to the writer and the reader.
+//! show, a text of looks gives the levels of its looks, and a text from before cue numbers became finer keeps its meaning.
+//! `read_back` carries the first to the writer and the reader, and `read_text` the last to the reader.
 #![tactic(auto)]
 
 ghost use Rattle.lx_text_laws.specs.RoundTrip.{LawOfRoundTrip};
 ghost use Rattle.lx_text_laws.specs.LookLevels.{LawOfLooks};
+ghost use Rattle.lx_text_laws.specs.OldTexts.{LawOfOldTexts};
 
+mod memory;
 mod written;
 
+pub use memory::read_text;
 pub use written::read_back;
 
 /// The canonical text of a valid show reads back as that show, with no skipped line.
@@ -18,4 +22,10 @@ pub fn round_trip()
 /// cue, or 0.
 pub fn looks()
     ensures { LawOfLooks }
+{}
+
+/// A text that could be read under limits with one decimal less to a cue number is read as the same show, each cue number
+/// and each link ten times as fine, with the same counts of skipped lines; and its show ends at the same line.
+pub fn old_texts()
+    ensures { LawOfOldTexts }
 {}

@@ -5,16 +5,13 @@ ghost use Rattle.lx_base.specs.declared.TheConstants.{INPUT_BYTES};
 ghost use Rattle.lx_spec.specs.ShowText.{show_text};
 ghost use Rattle.lx_reader.specs.Answer.{reading_of};
 
-use lx_io::{PlainSink, PlainSource};
-use lx_lex::Lines;
-use lx_reader::{Loaded, ShowFault, read_show};
+use crate::memory::read_text;
+use lx_io::PlainSink;
+use lx_reader::{Loaded, ShowFault};
 use lx_show::Show;
 use lx_spec::Form;
 use lx_writer::write_show;
 use std::alloc::Global;
-
-/// How many bytes are read at a time.
-const PIECE: usize = 65_536;
 
 /// Writes a show's canonical text, and reads it back: what comes is the show, with no skipped line. `InputTooLong` comes
 /// only where the text is longer than the limit of an input, and `Memory` where memory was wanted in vain.
@@ -29,7 +26,5 @@ pub fn read_back(alloc: Global, show: &Show) -> Result<Loaded, ShowFault>
     let Ok(()) = write_show(show, &mut sink) else {
         return Err(ShowFault::Memory);
     };
-    let mut source = PlainSource::new(sink.into_bytes(), PIECE);
-    let mut lines = Lines::new(&mut source);
-    read_show(alloc, &mut lines, Form::Moves)
+    read_text(alloc, sink.into_bytes(), Form::Moves)
 }

@@ -3,6 +3,7 @@ use Rattle.std.proofs.Common.{◌≡◌, ℕ, List, [], ◌∷◌, length, Optio
 use Rattle.std.specs.Prelude.{is_some}
 use Rattle.std.specs.Io.KnownBytes.{Appends}
 use mathlib.Core.List.{IsPrefix}
+use Rattle.lx_io.specs.declared.sink.SinkFault.{SinkFault}
 use Rattle.lx_spec.specs.declared.Command.{Command}
 use Rattle.lx_spec.specs.Show.{Show}
 use Rattle.lx_gate.specs.CommandLists.{IsChained}
@@ -12,34 +13,49 @@ use Rattle.lx_workers.specs.declared.worker.Served.{Served}
 use Rattle.lx_spec.specs.Versions.{outlet_text, Falling}
 use Rattle.lx_workers.specs.Lines.{last_of, HasWritten, HasWrittenPart}
 use Rattle.lx_workers.specs.Works.{HasServed, HasStepped, HasAll, HasPart, Delivered}
-use Rattle.lx_workers.proofs.WrittenLines.{goes_on, falls_on}
+use Rattle.lx_workers.proofs.WrittenLines.{goes_on, part_on}
 use Rattle.lx_workers.proofs.TapSteps.{learnt_begins, count_on}
 
-all_at : (show : Show) (u : ℕ) (before after : Option (List ℕ)) (list top : List Command) (lists : List (List Command)) → Appends before after (outlet_text show u lists) → Falling top lists
+all_at : (show : Show) (u : ℕ) (before after : Option (List ℕ)) (list top : List Command) (lists : List (List Command))
+    → Appends before after (outlet_text show u lists) → Falling top lists
     → Some (length top) ≡ last_of lists → IsPrefix list top → HasAll show u before after list
 all_at show u before after list top [] text chain e p = cc
 all_at show u before after list top (newest ∷ earlier) text chain e p =
     let same_length : length top ≡ length newest = cc in
     let same : newest ≡ top = prefix_whole newest top chain.0 (omega (arith, same_length)) in
-    record { top = newest; earlier = earlier; begins = subst (λ (w : List Command). IsPrefix list w) (sym same) p; chain = chain.1; text = text }
+    record {
+      top = newest;
+      earlier = earlier;
+      begins = subst (λ (w : List Command). IsPrefix list w) (sym same) p;
+      chain = chain.1;
+      text =
+          text;
+    }
 
 -- where the last line is that of the newest list, the outlet has all
-pub has_all : (show : Show) (u : ℕ) (before after : Option (List ℕ)) (list top : List Command) (taken : ℕ) (last : Option ℕ) → HasWritten show u before after top taken last
+pub has_all : (show : Show) (u : ℕ) (before after : Option (List ℕ)) (list top : List Command) (taken : ℕ) (last : Option ℕ)
+    → HasWritten show u before after top taken last
     → last ≡ Some (length top) → IsPrefix list top → HasAll show u before after list
 has_all show u before after list top taken last h e p = all_at show u before after list top h.lists h.text h.chain (sym e ∙ h.last_is) p
 
-pub has_part : (show : Show) (u : ℕ) (before after : Option (List ℕ)) (list top top' : List Command) → HasWrittenPart show u before after top → IsPrefix top top' → IsPrefix list top' → HasPart show u before after list
-has_part show u before after list top top' h q p = record { top = top'; lists = h.lists; begins = p; chain = falls_on top top' q h.lists h.chain; text = h.text }
+pub has_part : {K : Type 0} (holds : K → Option (List ℕ)) (faults wants : K → ℕ) (show : Show) (u : ℕ) (from sink : K)
+    (list top top' : List Command) (fault : SinkFault) → HasWrittenPart holds faults wants show u from sink top fault
+    → IsPrefix top top' → IsPrefix list top' → HasPart holds faults wants show u from sink list fault
+has_part holds faults wants show u from sink list top top' fault h q p =
+    record { top = top'; begins = p; part = part_on holds faults wants show u from sink top top' fault q h }
 
 -- a note was learnt
-pub served_learnt : {K : Type 0} (holds : K → Option (List ℕ)) (faults wants : K → ℕ) (show : Show) (start tap tap' : Tapped) (from sink : K) (served : Served) (list : List Command)
-    → HasServed holds faults wants show start tap from sink served → HasLearnt tap.told tap'.told list → IsChained tap'.told.seen tap'.told.learnt → tap'.universe ≡ tap.universe
+pub served_learnt : {K : Type 0} (holds : K → Option (List ℕ)) (faults wants : K → ℕ) (show : Show) (start tap tap' : Tapped)
+    (from sink : K) (served : Served) (list : List Command)
+    → HasServed holds faults wants show start tap from sink served → HasLearnt tap.told tap'.told list
+    → IsChained tap'.told.seen tap'.told.learnt → tap'.universe ≡ tap.universe
     → HasServed holds faults wants show start tap' from sink served
 served_learnt holds faults wants show start tap tap' from sink served list h l chained u =
     let p : IsPrefix (newest tap.told) (newest tap'.told) = learnt_begins tap.told tap'.told list l chained in
     record {
-      written = λ e. goes_on show start.universe (holds from) (holds sink) (newest tap.told) (newest tap'.told) served.taken served.last p (h.written e);
-      part = λ f e. let w = h.part f e in record { lists = w.lists; text = w.text; chain = falls_on (newest tap.told) (newest tap'.told) p w.lists w.chain };
+      written = λ e. goes_on show start.universe (holds from) (holds sink) (newest tap.told) (newest tap'.told) served.taken served.last p
+          (h.written e);
+      part = λ f e. part_on holds faults wants show start.universe from sink (newest tap.told) (newest tap'.told) f p (h.part f e);
       cause = h.cause;
       goes_on = prefix_trans (newest start.told) (newest tap.told) (newest tap'.told) h.goes_on p;
       same_universe = u ∙ h.same_universe;
@@ -48,24 +64,30 @@ served_learnt holds faults wants show start tap tap' from sink served list h l c
     }
 
 -- the outlet had failed before
-pub delivered_part : {K : Type 0} (holds : K → Option (List ℕ)) (faults wants : K → ℕ) (show : Show) (start tap : Tapped) (from sink : K) (served : Served) (list : List Command)
+pub delivered_part : {K : Type 0} (holds : K → Option (List ℕ)) (faults wants : K → ℕ) (show : Show) (start tap : Tapped) (from sink : K)
+    (served : Served) (list : List Command)
     → HasServed holds faults wants show start tap from sink served → is_some served.fault ≡ true → IsPrefix list (newest tap.told)
     → Delivered holds faults wants show start.universe from sink list served.fault
 delivered_part holds faults wants show start tap from sink served list h some p = record {
   whole = λ e. cc;
-  part = λ f e. has_part show start.universe (holds from) (holds sink) list (newest tap.told) (newest tap.told) (h.part f e) (prefix_self (newest tap.told)) p;
+  part = λ f e. has_part holds faults wants show start.universe from sink list (newest tap.told) (newest tap.told) f (h.part f e)
+      (prefix_self (newest tap.told)) p;
   cause = h.cause;
 }
 
 -- it hadn't, and the tap took once more
-pub delivered_step : {K : Type 0} (holds : K → Option (List ℕ)) (faults wants : K → ℕ) (show : Show) (start tap tap' : Tapped) (from sink sink' : K) (served served' : Served) (list : List Command)
-    → HasServed holds faults wants show start tap from sink served → HasStepped holds faults wants show tap tap' sink sink' served served' → IsPrefix list (newest tap.told)
+pub delivered_step : {K : Type 0} (holds : K → Option (List ℕ)) (faults wants : K → ℕ) (show : Show) (start tap tap' : Tapped)
+    (from sink sink' : K) (served served' : Served) (list : List Command)
+    → HasServed holds faults wants show start tap from sink served → HasStepped holds faults wants show tap tap' sink sink' served served'
+    → IsPrefix list (newest tap.told)
     → Delivered holds faults wants show start.universe from sink' list served'.fault
 delivered_step holds faults wants show start tap tap' from sink sink' served served' list h s p =
     let after : HasServed holds faults wants show start tap' from sink' served' = s.serves start from h in
     let q : IsPrefix list (newest tap'.told) = prefix_trans list (newest tap.told) (newest tap'.told) p s.goes_on in
     record {
-      whole = λ e. has_all show start.universe (holds from) (holds sink') list (newest tap'.told) served'.taken served'.last (after.written e) (s.last start from h e) q;
-      part = λ f e. has_part show start.universe (holds from) (holds sink') list (newest tap'.told) (newest tap'.told) (after.part f e) (prefix_self (newest tap'.told)) q;
+      whole = λ e. has_all show start.universe (holds from) (holds sink') list (newest tap'.told) served'.taken served'.last
+          (after.written e) (s.last start from h e) q;
+      part = λ f e. has_part holds faults wants show start.universe from sink' list (newest tap'.told) (newest tap'.told) f (after.part f e)
+          (prefix_self (newest tap'.told)) q;
       cause = after.cause;
     }

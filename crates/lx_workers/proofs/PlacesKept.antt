@@ -1,5 +1,6 @@
 -- Places, and what stands in them.
-use Rattle.std.proofs.Common.{◌≡◌, ◌≢◌, ◌⊎◌, inl, inr, ℕ, zero, suc, ◌+◌, ◌-◌, ◌<◌, ◌≤◌, List, [], ◌∷◌, ◌++◌, length, replicate, Some, None, set, slice_get, IsSome, IsSomeAnd, refl, sym, ap, ◌∙◌, subst, arith, append_assoc, length-append}
+use Rattle.std.proofs.Common.{◌≡◌, ◌≢◌, ◌⊎◌, inl, inr, ℕ, zero, suc, ◌+◌, ◌-◌, ◌<◌, ◌≤◌, List, [], ◌∷◌, ◌++◌, length, replicate, Some, None}
+use Rattle.std.proofs.Common.{set, slice_get, IsSome, IsSomeAnd, refl, sym, ap, ◌∙◌, subst, arith, append_assoc, length-append}
 use Rattle.std.specs.declared.option.Option.{Option}
 use Rattle.std.specs.List.{AllZip}
 use Rattle.std.proofs.lemmas.Option.{slice_get_within, same_Some}
@@ -27,7 +28,8 @@ get-set_other (x ∷ xs) (suc i) zero w h = refl
 get-set_other (x ∷ xs) (suc i) (suc j) w h = get-set_other xs i j w (λ e. h (ap suc e))
 
 -- each place has a sink
-pub full_at : {K : Type 0} (outlets : List (Option K)) → IsFull outlets → (place : ℕ) → place < length outlets → IsSomeAnd (slice_get outlets place) IsSome
+pub full_at : {K : Type 0} (outlets : List (Option K)) → IsFull outlets → (place : ℕ) → place < length outlets
+    → IsSomeAnd (slice_get outlets place) IsSome
 full_at [] full place lt = absurd (omega arith)
 full_at (outlet ∷ outlets) full zero lt = full.0
 full_at (outlet ∷ outlets) full (suc place) lt = full_at outlets full.1 place (omega arith)
@@ -84,14 +86,18 @@ pub back_more : {X : Type 0} (all : List X) (Q Q' : ℕ → X → Type 0) (n len
     → ((k : ℕ) (x : X) → slice_get all k ≡ Some x → len + 1 ≤ k → Q (n - 1 - k) x)
     → (k : ℕ) (x : X) → slice_get all k ≡ Some x → len ≤ k → Q' (n - 1 - k) x
 back_more all Q Q' n len lane whole here keep new before k x is le = elim (split_at len k le) [
-  | inl e ↦ let same : lane ≡ x = same_Some lane x (sym here ∙ (ap (slice_get all) (sym e) ∙ is)) in subst (λ (z : _). Q' (n - 1 - k) z) same (subst (λ (j : ℕ). Q' (n - 1 - j) lane) (sym e) new)
+  | inl e ↦ let same : lane ≡ x = same_Some lane x (sym here ∙ (ap (slice_get all) (sym e) ∙ is)) in subst (λ (z : _). Q' (n - 1 - k) z)
+      same (subst (λ (j : ℕ). Q' (n - 1 - j) lane) (sym e) new)
   | inr lt ↦ keep k x (let w = slice_get_within all k x is in omega (arith, w, whole)) lt (before k x is (omega (arith, lt)))
 ]
 
 -- what stands elsewhere stays
-pub given_on : {K : Type 0} (holds : K → Option (List ℕ)) (faults wants : K → ℕ) (show : Show) (outlets outlets' : List (Option K)) (results results' : List (Option SinkFault)) (published : List Command) (place at : ℕ) (o : Option K) (f : Option SinkFault) (tap : Tapped) (sink : K) (served : Served)
+pub given_on : {K : Type 0} (holds : K → Option (List ℕ)) (faults wants : K → ℕ) (show : Show) (outlets outlets' : List (Option K))
+    (results results' : List (Option SinkFault)) (published : List Command) (place at : ℕ) (o : Option K) (f : Option SinkFault)
+    (tap : Tapped) (sink : K) (served : Served)
     → outlets' ≡ set outlets at o → results' ≡ set results at f → place ≢ at
-    → IsGiven holds faults wants show outlets results published place tap sink served → IsGiven holds faults wants show outlets' results' published place tap sink served
+    → IsGiven holds faults wants show outlets results published place tap sink served
+    → IsGiven holds faults wants show outlets' results' published place tap sink served
 given_on holds faults wants show outlets outlets' results results' published place at o f tap sink served is is' other g = record {
   new = g.new;
   fault = g.fault;
@@ -101,7 +107,8 @@ given_on holds faults wants show outlets outlets' results results' published pla
 }
 
 -- the works' promises, one after another
-pub zip_at : {X Y : Type 0} (R : X → Y → Type 0) (xs : List X) (ys : List Y) (k : ℕ) (y : Y) → AllZip R xs ys → slice_get ys k ≡ Some y → (x : X) × (slice_get xs k ≡ Some x) × R x y
+pub zip_at : {X Y : Type 0} (R : X → Y → Type 0) (xs : List X) (ys : List Y) (k : ℕ) (y : Y) → AllZip R xs ys → slice_get ys k ≡ Some y
+    → (x : X) × (slice_get xs k ≡ Some x) × R x y
 zip_at R [] [] k y h is = absurd cc
 zip_at R [] (z ∷ ys) k y h is = absurd h
 zip_at R (x ∷ xs) [] k y h is = absurd h
@@ -117,20 +124,26 @@ pub length_snoc : {X : Type 0} (all xs : List X) (x : X) → all ≡ xs ++ x ∷
 length_snoc all xs x e = let n = length-append xs (x ∷ []) in omega (arith, ap length e, n)
 
 -- the sink of a place came out of it, was served and came back
-pub is_back : {K : Type 0} (holds : K → Option (List ℕ)) (faults wants : K → ℕ) (show : Show) (outlets outlets' : List (Option K)) (results : List (Option SinkFault)) (published : List Command) (place k n m : ℕ) (start : K) (tap tap' : Tapped) (sink sink' : K) (served : Served)
+pub is_back : {K : Type 0} (holds : K → Option (List ℕ)) (faults wants : K → ℕ) (show : Show) (outlets outlets' : List (Option K))
+    (results : List (Option SinkFault)) (published : List Command) (place k n m : ℕ) (start : K) (tap tap' : Tapped) (sink sink' : K)
+    (served : Served)
     → slice_get outlets place ≡ Some (Some start) → place < n → k ≡ n - 1 - place → m ≡ n → IsTaken outlets n k tap sink
-    → HasServed holds faults wants show tap tap' sink sink' served → IsGiven holds faults wants show outlets' results published (m - 1 - k) tap' sink' served
+    → HasServed holds faults wants show tap tap' sink sink' served
+    → IsGiven holds faults wants show outlets' results published (m - 1 - k) tap' sink' served
     → IsBack holds faults wants show outlets' results published place start
-is_back {K = K} holds faults wants show outlets outlets' results published place k n m start tap tap' sink sink' served is within at same t h g =
+is_back {K = K} holds faults wants show outlets outlets' results published place k n m start tap tap' sink sink' served is within at same t
+    h g =
     let here : m - 1 - k ≡ place = omega (arith, within, at, same) in
     let universe : tap.universe ≡ place + 1 = omega (arith, t.universe_is, within, at) in
     let from : tap.universe - 1 ≡ place = omega (arith, universe) in
-    let mine : sink ≡ start = same_Some sink start (same_Some (Some sink) (Some start) (sym t.place ∙ (ap (slice_get outlets) from ∙ is))) in
+    let mine : sink ≡ start = same_Some sink start
+    (same_Some (Some sink) (Some start) (sym t.place ∙ (ap (slice_get outlets) from ∙ is))) in
     let told = g.delivered tap sink h in
     record {
       new = g.new;
       fault = g.fault;
       place_is = ap (slice_get outlets') (sym here) ∙ g.place_is;
       fault_is = ap (slice_get results) (sym here) ∙ g.fault_is;
-      delivered = subst (λ (w : K). Delivered holds faults wants show (place + 1) w g.new published g.fault) mine (subst (λ (v : ℕ). Delivered holds faults wants show v sink g.new published g.fault) universe told);
+      delivered = subst (λ (w : K). Delivered holds faults wants show (place + 1) w g.new published g.fault) mine
+          (subst (λ (v : ℕ). Delivered holds faults wants show v sink g.new published g.fault) universe told);
     }

@@ -47,15 +47,20 @@ taken before now (inr h) = record {
 }
 
 -- a reading or a miss after earlier ones
-pub looked_on : (start before now : Told) → RoseOrSame start.reads before.reads → RoseOrSame start.misses before.misses → HasLooked before now → HasLooked start now
+pub looked_on : (start before now : Told) → RoseOrSame start.reads before.reads → RoseOrSame start.misses before.misses
+    → HasLooked before now → HasLooked start now
 looked_on start before now r m (inl h) = inl (rose_on start.reads before.reads now.reads r h)
 looked_on start before now r m (inr h) = inr (rose_on start.misses before.misses now.misses m h)
 
 -- what is kept grows with what is learnt
-pub learnt_begins : (before now : Told) (list : List Command) → HasLearnt before now list → IsChained now.seen now.learnt → IsPrefix (newest before) (newest now)
+pub learnt_begins : (before now : Told) (list : List Command) → HasLearnt before now list → IsChained now.seen now.learnt
+    → IsPrefix (newest before) (newest now)
 learnt_begins before now list h chained =
     let seen : now.seen ≡ before.seen = ap (λ (t : Told). t.seen) h.rest in
-    longest_begins before.seen before.learnt (newest now) (rw (← seen) chained.first) (prefix_trans before.learnt now.learnt (newest now) h.earlier chained.second)
+    longest_begins before.seen before.learnt (newest now) (rw (← seen) chained.first)
+    (prefix_trans before.learnt now.learnt (newest now) h.earlier chained.second)
 
-pub note_begins : (before now : Told) (list top : List Command) → HasLearnt before now list → IsChained now.seen now.learnt → IsPrefix (newest now) top → IsPrefix list top
-note_begins before now list top h chained q = prefix_trans list now.learnt top h.note (prefix_trans now.learnt (newest now) top chained.second q)
+pub note_begins : (before now : Told) (list top : List Command) → HasLearnt before now list → IsChained now.seen now.learnt
+    → IsPrefix (newest now) top → IsPrefix list top
+note_begins before now list top h chained q =
+    prefix_trans list now.learnt top h.note (prefix_trans now.learnt (newest now) top chained.second q)

@@ -1,10 +1,11 @@
 -- A step of a worker: one take, and perhaps a line.
-use Rattle.std.proofs.Common.{◌≡◌, ℕ, ◌<◌, ◌≤◌, ◌+◌, ◌-◌, ◌^◌, min, List, length, Option, Some, None, Result, Err, IfSome, IsSomeAnd, inl, refl, sym, ap, ◌∙◌, subst, arith}
+use Rattle.std.proofs.Common.{◌≡◌, ℕ, ◌<◌, ◌≤◌, ◌+◌, ◌-◌, ◌^◌, min, List, length, Option, Some, None, Err, IfSome, IsSomeAnd, inl, refl}
+use Rattle.std.proofs.Common.{sym, ap, ◌∙◌, subst, arith}
 use mathlib.Core.List.{IsPrefix}
 use Rattle.std.specs.Io.KnownBytes.{Appends}
 use Rattle.lx_io.specs.declared.sink.SinkFault.{SinkFault}
 use Rattle.lx_io.specs.declared.sink.SinkFault.TheVariants.{Failed, Memory}
-use Rattle.lx_io.specs.Puts.{AppendsFront, HasSinkCause}
+use Rattle.lx_io.specs.Puts.{HasSinkCause, Puts}
 use Rattle.std.proofs.lemmas.Option.{same_Some}
 use Rattle.lx_spec.specs.Show.{Show}
 use Rattle.lx_gate.specs.declared.stamp.Stamp.{Stamp}
@@ -12,17 +13,20 @@ use Rattle.lx_gate.specs.Frames.{IsFrame}
 use Rattle.lx_gate.specs.Readings.{Tapped, newest}
 use Rattle.lx_gate.proofs.Prefixes.{prefix_self, prefix_trans}
 use Rattle.lx_workers.specs.declared.worker.Served.{Served}
-use Rattle.lx_workers.specs.Lines.{line, HasFault}
+use Rattle.lx_workers.specs.Lines.{line, HasFault, HasWrittenPart}
 use Rattle.lx_workers.specs.Works.{HasServed, HasStepped}
 use Rattle.lx_workers.proofs.WrittenLines.{goes_on, adds_line, adds_part, last_stays, none_written}
 use Rattle.lx_workers.proofs.TapSteps.{HasTaken, count_on}
 
 -- no fault behind none
-pub fault_none : {S : Type 0} (faults wants : S → ℕ) (a b c : S) → HasFault faults wants a b None → faults b ≤ faults c → wants b ≤ wants c → HasFault faults wants a c None
-fault_none faults wants a b c h l w = record { later = omega (arith, h.later, l); wants_later = omega (arith, h.wants_later, w); failed = λ e. cc; memory = λ e. cc }
+pub fault_none : {S : Type 0} (faults wants : S → ℕ) (a b c : S) → HasFault faults wants a b None → faults b ≤ faults c → wants b ≤ wants c
+    → HasFault faults wants a c None
+fault_none faults wants a b c h l w = record
+    { later = omega (arith, h.later, l); wants_later = omega (arith, h.wants_later, w); failed = λ e. cc; memory = λ e. cc }
 
 -- a fault behind none
-pub fault_then : {S : Type 0} (faults wants : S → ℕ) (a b c : S) (fault : Option SinkFault) → HasFault faults wants a b None → HasFault faults wants b c fault → HasFault faults wants a c fault
+pub fault_then : {S : Type 0} (faults wants : S → ℕ) (a b c : S) (fault : Option SinkFault) → HasFault faults wants a b None
+    → HasFault faults wants b c fault → HasFault faults wants a c fault
 fault_then faults wants a b c fault h k = record {
   later = omega (arith, h.later, k.later);
   wants_later = omega (arith, h.wants_later, k.wants_later);
@@ -31,11 +35,14 @@ fault_then faults wants a b c fault h k = record {
 }
 
 -- the sink's own fault
-pub fault_is : {S T : Type 0} (faults wants : S → ℕ) (a b : S) (result : Result T SinkFault) (fault : SinkFault) → result ≡ Err fault → HasSinkCause faults wants a b result
+fault_is : {S : Type 0} (faults wants : S → ℕ) (a b : S) (fault : SinkFault) → HasSinkCause {T = Unit {0}} faults wants a b (Err fault)
     → HasFault faults wants a b (Some fault)
-fault_is faults wants a b result fault is h =
-    let k = subst (λ r. HasSinkCause faults wants a b r) is h in
-    record { later = k.later; wants_later = k.wants_later; failed = λ e. k.failed (same_Some fault Failed e); memory = λ e. k.memory (same_Some fault Memory e) }
+fault_is faults wants a b fault k = record {
+  later = k.later;
+  wants_later = k.wants_later;
+  failed = λ e. k.failed (same_Some fault Failed e);
+  memory = λ e. k.memory (same_Some fault Memory e);
+}
 
 -- before the first take
 pub served_none : {K : Type 0} (holds : K → Option (List ℕ)) (faults wants : K → ℕ) (show : Show) (tap : Tapped) (sink : K)
@@ -51,12 +58,15 @@ served_none holds faults wants show tap sink = record {
 }
 
 -- nothing newer was taken
-pub stepped_none : {K : Type 0} (holds : K → Option (List ℕ)) (faults wants : K → ℕ) (show : Show) (tap tap' : Tapped) (sink : K) (served : Served) (count : ℕ)
+pub stepped_none : {K : Type 0} (holds : K → Option (List ℕ)) (faults wants : K → ℕ) (show : Show) (tap tap' : Tapped) (sink : K)
+    (served : Served) (count : ℕ)
     → served.fault ≡ None → tap'.universe ≡ tap.universe → IsPrefix (newest tap.told) (newest tap'.told) → HasTaken tap.told tap'.told
-    → count ≡ length (newest tap'.told) → IsSomeAnd served.last (λ n. count ≤ n) → HasStepped holds faults wants show tap tap' sink sink served served
+    → count ≡ length (newest tap'.told) → IsSomeAnd served.last (λ n. count ≤ n)
+    → HasStepped holds faults wants show tap tap' sink sink served served
 stepped_none holds faults wants show tap tap' sink served count none u p t is stale = record {
   serves = λ start from h. record {
-    written = λ e. goes_on show start.universe (holds from) (holds sink) (newest tap.told) (newest tap'.told) served.taken served.last p (h.written e);
+    written = λ e. goes_on show start.universe (holds from) (holds sink) (newest tap.told) (newest tap'.told) served.taken served.last p
+        (h.written e);
     part = λ f e. cc;
     cause = h.cause;
     goes_on = prefix_trans (newest start.told) (newest tap.told) (newest tap'.told) h.goes_on p;
@@ -66,22 +76,28 @@ stepped_none holds faults wants show tap tap' sink served count none u p t is st
   };
   goes_on = p;
   same_learnt = t.learnt;
-  last = λ start from h e. last_stays show start.universe (holds from) (holds sink) (newest tap.told) (newest tap'.told) served.taken served.last count p is stale (h.written none);
+  last = λ start from h e. last_stays show start.universe (holds from) (holds sink) (newest tap.told) (newest tap'.told) served.taken
+      served.last count p is stale (h.written none);
 }
 
 -- a newer version was taken, and its line was written
-pub stepped_line : {K : Type 0} (holds : K → Option (List ℕ)) (faults wants : K → ℕ) (show : Show) (tap tap' : Tapped) (sink sink' : K) (served : Served) (slots : List ℕ) (stamp : Stamp)
+pub stepped_line : {K : Type 0} (holds : K → Option (List ℕ)) (faults wants : K → ℕ) (show : Show) (tap tap' : Tapped) (sink sink' : K)
+    (served : Served) (slots : List ℕ) (stamp : Stamp)
     → served.fault ≡ None → tap'.universe ≡ tap.universe → IsPrefix (newest tap.told) (newest tap'.told) → HasTaken tap.told tap'.told
     → IsFrame show (newest tap'.told) tap.universe slots stamp → IfSome served.last (λ n. n < stamp.count)
     → Appends (holds sink) (holds sink') (line tap.universe slots stamp) → faults sink ≤ faults sink' → wants sink ≤ wants sink'
-    → HasStepped holds faults wants show tap tap' sink sink' served (record served { taken = min (served.taken + 1) (2 ^ 64 - 1); last = Some stamp.count })
+    → HasStepped holds faults wants show tap tap' sink sink' served
+    (record served { taken = min (served.taken + 1) (2 ^ 64 - 1); last = Some stamp.count })
 stepped_line holds faults wants show tap tap' sink sink' served slots stamp none u p t frame fresh text later wants_later = record {
   serves = λ start from h. record {
-    written = λ e. adds_line show start.universe (holds from) (holds sink) (holds sink') (newest tap.told) (newest tap'.told) served.taken served.last slots stamp p
-        (subst (λ (n : ℕ). IsFrame show (newest tap'.told) n slots stamp) h.same_universe frame) (subst (λ (n : ℕ). Appends (holds sink) (holds sink') (line n slots stamp)) h.same_universe text) fresh (h.written none);
+    written = λ e. adds_line show start.universe (holds from) (holds sink) (holds sink') (newest tap.told) (newest tap'.told) served.taken
+        served.last slots stamp p
+        (subst (λ (n : ℕ). IsFrame show (newest tap'.told) n slots stamp) h.same_universe frame)
+        (subst (λ (n : ℕ). Appends (holds sink) (holds sink') (line n slots stamp)) h.same_universe text) fresh (h.written none);
     part = λ f e. cc;
     cause = subst (λ (o : Option SinkFault). HasFault faults wants from sink' o) (sym none)
-        (fault_none faults wants from sink sink' (subst (λ (o : Option SinkFault). HasFault faults wants from sink o) none h.cause) later wants_later);
+        (fault_none faults wants from sink sink' (subst (λ (o : Option SinkFault). HasFault faults wants from sink o) none h.cause) later
+        wants_later);
     goes_on = prefix_trans (newest start.told) (newest tap.told) (newest tap'.told) h.goes_on p;
     same_universe = u ∙ h.same_universe;
     reads = count_on start.told.reads tap.told.reads tap'.told.reads h.reads t.reads;
@@ -93,17 +109,25 @@ stepped_line holds faults wants show tap tap' sink sink' served slots stamp none
 }
 
 -- a newer version was taken, and the sink failed in its line
-pub stepped_fault : {K : Type 0} (holds : K → Option (List ℕ)) (faults wants : K → ℕ) (show : Show) (tap tap' : Tapped) (sink sink' : K) (served : Served) (slots : List ℕ) (stamp : Stamp) (fault : SinkFault)
+pub stepped_fault : {K : Type 0} (holds : K → Option (List ℕ)) (faults wants : K → ℕ) (show : Show) (tap tap' : Tapped) (sink sink' : K)
+    (served : Served) (slots : List ℕ) (stamp : Stamp) (fault : SinkFault)
     → served.fault ≡ None → tap'.universe ≡ tap.universe → IsPrefix (newest tap.told) (newest tap'.told) → HasTaken tap.told tap'.told
     → IsFrame show (newest tap'.told) tap.universe slots stamp → IfSome served.last (λ n. n < stamp.count)
-    → AppendsFront (holds sink) (holds sink') (line tap.universe slots stamp) → HasFault faults wants sink sink' (Some fault)
+    → Puts {T = Unit {0}} holds faults wants sink sink' (Err fault) (line tap.universe slots stamp)
     → HasStepped holds faults wants show tap tap' sink sink' served (record served { fault = Some fault })
-stepped_fault holds faults wants show tap tap' sink sink' served slots stamp fault none u p t frame fresh text cause = record {
+stepped_fault holds faults wants show tap tap' sink sink' served slots stamp fault none u p t frame fresh puts = record {
   serves = λ start from h. record {
     written = λ e. cc;
-    part = λ f e. adds_part show start.universe (holds from) (holds sink) (holds sink') (newest tap.told) (newest tap'.told) served.taken served.last slots stamp p
-        (subst (λ (n : ℕ). IsFrame show (newest tap'.told) n slots stamp) h.same_universe frame) (subst (λ (n : ℕ). AppendsFront (holds sink) (holds sink') (line n slots stamp)) h.same_universe text) fresh (h.written none);
-    cause = fault_then faults wants from sink sink' (Some fault) (subst (λ (o : Option SinkFault). HasFault faults wants from sink o) none h.cause) cause;
+    part = λ f e. subst (λ (g : SinkFault). HasWrittenPart holds faults wants show start.universe from sink' (newest tap'.told) g)
+        (same_Some fault f e)
+        (adds_part holds faults wants show start.universe from sink sink' (newest tap.told) (newest tap'.told) served.taken served.last
+        slots stamp fault p
+        (subst (λ (n : ℕ). IsFrame show (newest tap'.told) n slots stamp) h.same_universe frame)
+        (subst (λ (n : ℕ). Puts {T = Unit {0}} holds faults wants sink sink' (Err fault) (line n slots stamp)) h.same_universe puts) fresh
+        (h.written none));
+    cause = fault_then faults wants from sink sink' (Some fault)
+        (subst (λ (o : Option SinkFault). HasFault faults wants from sink o) none h.cause)
+        (fault_is faults wants sink sink' fault puts.cause);
     goes_on = prefix_trans (newest start.told) (newest tap.told) (newest tap'.told) h.goes_on p;
     same_universe = u ∙ h.same_universe;
     reads = count_on start.told.reads tap.told.reads tap'.told.reads h.reads t.reads;

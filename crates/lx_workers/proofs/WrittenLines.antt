@@ -1,12 +1,14 @@
 -- Lines that are added to those of rising lists.
-use Rattle.std.proofs.Common.{◌≡◌, ℕ, ◌<◌, ◌+◌, ◌-◌, ◌^◌, min, List, [], ◌∷◌, ◌++◌, length, take, Option, Some, None, IfSome, IsSomeAnd, ◌≤◌, refl, sym, ap, ◌∙◌, subst, append-nil, arith}
+use Rattle.std.proofs.Common.{◌≡◌, ℕ, ◌<◌, ◌+◌, ◌-◌, ◌^◌, min, List, [], ◌∷◌, ◌++◌, length, take, Option, Some, None, Err, IfSome}
+use Rattle.std.proofs.Common.{IsSomeAnd, ◌≤◌, refl, sym, ap, ◌∙◌, subst, append-nil, arith}
 use Rattle.std.specs.Prelude.{reverse}
 use mathlib.Core.List.{IsPrefix, reverse-cons}
 use Rattle.std.specs.Io.KnownBytes.{Appends}
 use Rattle.std.proofs.KnownBytes.{Appends-nil, Appends-trans}
 use Rattle.std.proofs.Math.Seq.{take-append-add}
 use Rattle.std.proofs.lemmas.Grind.{flat_map-append}
-use Rattle.lx_io.specs.Puts.{AppendsFront}
+use Rattle.lx_io.specs.declared.sink.SinkFault.{SinkFault}
+use Rattle.lx_io.specs.Puts.{AppendsFront, Puts}
 use Rattle.lx_io.proofs.Chain.{AppendsFront-is, AppendsFront-from}
 use Rattle.lx_spec.specs.Show.{Show}
 use Rattle.lx_spec.specs.declared.Command.{Command}
@@ -17,16 +19,21 @@ use Rattle.lx_gate.proofs.Prefixes.{prefix_self, prefix_trans, prefix_length}
 use Rattle.lx_spec.specs.Versions.{outlet_text, Older, Falling}
 use Rattle.lx_workers.specs.Lines.{line, last_of, HasWritten, HasWrittenPart}
 
-versions-append : (show : Show) (u : ℕ) (xs ys : List (List Command)) → versions_text show u (xs ++ ys) ≡ versions_text show u xs ++ versions_text show u ys
+versions-append : (show : Show) (u : ℕ) (xs ys : List (List Command))
+    → versions_text show u (xs ++ ys) ≡ versions_text show u xs ++ versions_text show u ys
 versions-append show u xs ys = flat_map-append (version_text show u) xs ys
 
 -- the line of the newest comes last
-lines-newest : (show : Show) (u : ℕ) (list : List Command) (lists : List (List Command)) → outlet_text show u (list ∷ lists) ≡ outlet_text show u lists ++ version_text show u list
+lines-newest : (show : Show) (u : ℕ) (list : List Command) (lists : List (List Command))
+    → outlet_text show u (list ∷ lists) ≡ outlet_text show u lists ++ version_text show u list
 unfolding outlet_text
-lines-newest show u list lists = ap (versions_text show u) (reverse-cons list lists) ∙ (versions-append show u (reverse lists) (list ∷ []) ∙ ap (λ w. versions_text show u (reverse lists) ++ w) (append-nil (version_text show u list)))
+lines-newest show u list lists = ap (versions_text show u) (reverse-cons list lists)
+    ∙ (versions-append show u (reverse lists) (list ∷ [])
+    ∙ ap (λ w. versions_text show u (reverse lists) ++ w) (append-nil (version_text show u list)))
 
 -- the line of a version
-line_is : (show : Show) (u : ℕ) (list : List Command) (slots : List ℕ) (stamp : Stamp) → IsFrame show list u slots stamp → line u slots stamp ≡ version_text show u list
+line_is : (show : Show) (u : ℕ) (list : List Command) (slots : List ℕ) (stamp : Stamp) → IsFrame show list u slots stamp
+    → line u slots stamp ≡ version_text show u list
 unfolding line frame_after moment_after
 line_is show u list slots stamp frame = rw (frame.slots_are, frame.count_is, frame.moment_is) refl
 
@@ -35,54 +42,95 @@ falls_on top top' p [] h = tt
 falls_on top top' p (list ∷ lists) h = (prefix_trans list top top' h.0 p, h.1)
 
 -- no line was added
-pub goes_on : (show : Show) (u : ℕ) (before after : Option (List ℕ)) (top top' : List Command) (taken : ℕ) (last : Option ℕ) → IsPrefix top top'
+pub goes_on : (show : Show) (u : ℕ) (before after : Option (List ℕ)) (top top' : List Command) (taken : ℕ) (last : Option ℕ)
+    → IsPrefix top top'
     → HasWritten show u before after top taken last → HasWritten show u before after top' taken last
-goes_on show u before after top top' taken last p h = record { lists = h.lists; text = h.text; chain = falls_on top top' p h.lists h.chain; taken_is = h.taken_is; last_is = h.last_is }
+goes_on show u before after top top' taken last p h =
+    record { lists = h.lists; text = h.text; chain = falls_on top top' p h.lists h.chain; taken_is = h.taken_is; last_is = h.last_is }
 
-newer : (top top' : List Command) (last : Option ℕ) (lists : List (List Command)) → IsPrefix top top' → Falling top lists → last ≡ last_of lists → IfSome last (λ n. n < length top') → Older top' lists
+newer : (top top' : List Command) (last : Option ℕ) (lists : List (List Command)) → IsPrefix top top' → Falling top lists
+    → last ≡ last_of lists → IfSome last (λ n. n < length top') → Older top' lists
 newer top top' last [] p h e f = tt
 newer top top' last (list ∷ lists) p h e f =
     let g : IfSome (last_of (list ∷ lists)) (λ n. n < length top') = subst (λ (o : Option ℕ). IfSome o (λ n. n < length top')) e f in
     (prefix_trans list top top' h.0 p, g, h.1)
 
-chain_on : (show : Show) (u : ℕ) (before after : Option (List ℕ)) (top top' : List Command) (taken : ℕ) (last : Option ℕ) (count : ℕ) → IsPrefix top top'
-    → count ≡ length top' → IfSome last (λ n. n < count) → (h : HasWritten show u before after top taken last) → Falling top' (top' ∷ h.lists)
-chain_on show u before after top top' taken last count p is fresh h = (prefix_self top', newer top top' last h.lists p h.chain h.last_is (subst (λ (n : ℕ). IfSome last (λ m. m < n)) is fresh))
+chain_on : (show : Show) (u : ℕ) (before after : Option (List ℕ)) (top top' : List Command) (taken : ℕ) (last : Option ℕ) (count : ℕ)
+    → IsPrefix top top'
+    → count ≡ length top' → IfSome last (λ n. n < count) → (h : HasWritten show u before after top taken last)
+    → Falling top' (top' ∷ h.lists)
+chain_on show u before after top top' taken last count p is fresh h =
+    (prefix_self top', newer top top' last h.lists p h.chain h.last_is (subst (λ (n : ℕ). IfSome last (λ m. m < n)) is fresh))
 
 -- the line of a longer list was added
-pub adds_line : (show : Show) (u : ℕ) (before after after' : Option (List ℕ)) (top top' : List Command) (taken : ℕ) (last : Option ℕ) (slots : List ℕ) (stamp : Stamp) → IsPrefix top top'
+pub adds_line : (show : Show) (u : ℕ) (before after after' : Option (List ℕ)) (top top' : List Command) (taken : ℕ) (last : Option ℕ)
+    (slots : List ℕ) (stamp : Stamp) → IsPrefix top top'
     → IsFrame show top' u slots stamp → Appends after after' (line u slots stamp) → IfSome last (λ n. n < stamp.count)
     → HasWritten show u before after top taken last → HasWritten show u before after' top' (min (taken + 1) (2 ^ 64 - 1)) (Some stamp.count)
 adds_line show u before after after' top top' taken last slots stamp p frame is fresh h =
-    let added : Appends after after' (version_text show u top') = subst (λ (w : List ℕ). Appends after after' w) (line_is show u top' slots stamp frame) is in
+    let added : Appends after after' (version_text show u top') =
+    subst (λ (w : List ℕ). Appends after after' w) (line_is show u top' slots stamp frame) is in
     record {
       lists = top' ∷ h.lists;
-      text = subst (λ (w : List ℕ). Appends before after' w) (sym (lines-newest show u top' h.lists)) (Appends-trans before after after' (outlet_text show u h.lists) (version_text show u top') h.text added);
+      text = subst (λ (w : List ℕ). Appends before after' w) (sym (lines-newest show u top' h.lists))
+          (Appends-trans before after after' (outlet_text show u h.lists) (version_text show u top') h.text added);
       chain = chain_on show u before after top top' taken last stamp.count p frame.count_is fresh h;
       taken_is = omega (arith, h.taken_is);
       last_is = ap (λ (n : ℕ). Some n) frame.count_is;
     }
 
--- a prefix of the line was added
-pub adds_part : (show : Show) (u : ℕ) (before after after' : Option (List ℕ)) (top top' : List Command) (taken : ℕ) (last : Option ℕ) (slots : List ℕ) (stamp : Stamp) → IsPrefix top top'
-    → IsFrame show top' u slots stamp → AppendsFront after after' (line u slots stamp) → IfSome last (λ n. n < stamp.count)
-    → HasWritten show u before after top taken last → HasWrittenPart show u before after' top'
-adds_part show u before after after' top top' taken last slots stamp p frame is fresh h =
-    let front = AppendsFront-is after after' (version_text show u top') (subst (λ (w : List ℕ). AppendsFront after after' w) (line_is show u top' slots stamp frame) is) in
-    let lines = outlet_text show u h.lists in
-    let text : Appends before after' (lines ++ take front.0 (version_text show u top')) = Appends-trans before after after' lines (take front.0 (version_text show u top')) h.text front.1 in
+-- the text up to a part of the line
+front_of : (show : Show) (u : ℕ) (before after after' : Option (List ℕ)) (list : List Command) (lists : List (List Command))
+    → Appends before after (outlet_text show u lists) → AppendsFront after after' (version_text show u list)
+    → AppendsFront before after' (outlet_text show u (list ∷ lists))
+front_of show u before after after' list lists h k =
+    let front = AppendsFront-is after after' (version_text show u list) k in
+    let lines = outlet_text show u lists in
+    let text : Appends before after' (lines ++ take front.0 (version_text show u list)) =
+    Appends-trans before after after' lines (take front.0 (version_text show u list)) h front.1 in
+    subst (λ (w : List ℕ). AppendsFront before after' w) (sym (lines-newest show u list lists))
+    (AppendsFront-from before after' (lines ++ version_text show u list) (length lines + front.0)
+    (subst (λ (w : List ℕ). Appends before after' w) (sym (take-append-add lines (version_text show u list) front.0)) text))
+
+-- a part of the line was added, and then the sink had a fault
+pub adds_part : {K : Type 0} (holds : K → Option (List ℕ)) (faults wants : K → ℕ) (show : Show) (u : ℕ) (from sink sink' : K)
+    (top top' : List Command) (taken : ℕ) (last : Option ℕ) (slots : List ℕ) (stamp : Stamp) (fault : SinkFault)
+    → IsPrefix top top' → IsFrame show top' u slots stamp
+    → Puts {T = Unit {0}} holds faults wants sink sink' (Err fault) (line u slots stamp) → IfSome last (λ n. n < stamp.count)
+    → HasWritten show u (holds from) (holds sink) top taken last → HasWrittenPart holds faults wants show u from sink' top' fault
+adds_part {K = K} holds faults wants show u from sink sink' top top' taken last slots stamp fault p frame is fresh h =
+    let stopped : Puts {T = Unit {0}} holds faults wants sink sink' (Err fault) (version_text show u top') =
+    subst (λ (w : List ℕ). Puts {T = Unit {0}} holds faults wants sink sink' (Err fault) w) (line_is show u top' slots stamp frame) is in
     record {
-      lists = top' ∷ h.lists;
-      text = subst (λ (w : List ℕ). AppendsFront before after' w) (sym (lines-newest show u top' h.lists))
-          (AppendsFront-from before after' (lines ++ version_text show u top') (length lines + front.0) (subst (λ (w : List ℕ). Appends before after' w) (sym (take-append-add lines (version_text show u top') front.0)) text));
-      chain = chain_on show u before after top top' taken last stamp.count p frame.count_is fresh h;
+      newest = top';
+      earlier = h.lists;
+      chain = chain_on show u (holds from) (holds sink) top top' taken last stamp.count p frame.count_is fresh h;
+      text = front_of show u (holds from) (holds sink) (holds sink') top' h.lists h.text stopped.part;
+      last = sink;
+      whole = h.text;
+      stopped = stopped;
     }
+
+-- nothing more was written, and the list that the lines lead up to went on
+pub part_on : {K : Type 0} (holds : K → Option (List ℕ)) (faults wants : K → ℕ) (show : Show) (u : ℕ) (from sink : K)
+    (top top' : List Command) (fault : SinkFault) → IsPrefix top top'
+    → HasWrittenPart holds faults wants show u from sink top fault → HasWrittenPart holds faults wants show u from sink top' fault
+part_on holds faults wants show u from sink top top' fault p h = record {
+  newest = h.newest;
+  earlier = h.earlier;
+  chain = falls_on top top' p (h.newest ∷ h.earlier) h.chain;
+  text = h.text;
+  last = h.last;
+  whole = h.whole;
+  stopped = h.stopped;
+}
 
 pub none_written : (show : Show) (u : ℕ) (before : Option (List ℕ)) (top : List Command) → HasWritten show u before before top 0 None
 unfolding outlet_text
 none_written show u before top = record { lists = []; text = Appends-nil before; chain = tt; taken_is = refl; last_is = refl }
 
-whole : (top top' : List Command) (last : Option ℕ) (lists : List (List Command)) (count : ℕ) → IsPrefix top top' → Falling top lists → last ≡ last_of lists → count ≡ length top'
+whole : (top top' : List Command) (last : Option ℕ) (lists : List (List Command)) (count : ℕ) → IsPrefix top top' → Falling top lists
+    → last ≡ last_of lists → count ≡ length top'
     → IsSomeAnd last (λ n. count ≤ n) → last ≡ Some (length top')
 whole top top' last [] count p h e c k = absurd (subst (λ (o : Option ℕ). IsSomeAnd o (λ n. count ≤ n)) e k)
 whole top top' last (list ∷ lists) count p h e c k =
@@ -92,6 +140,7 @@ whole top top' last (list ∷ lists) count p h e c k =
     e ∙ ap (λ (n : ℕ). Some n) same
 
 -- where nothing newer was taken, the last line is that of the newest list
-pub last_stays : (show : Show) (u : ℕ) (before after : Option (List ℕ)) (top top' : List Command) (taken : ℕ) (last : Option ℕ) (count : ℕ) → IsPrefix top top' → count ≡ length top'
+pub last_stays : (show : Show) (u : ℕ) (before after : Option (List ℕ)) (top top' : List Command) (taken : ℕ) (last : Option ℕ) (count : ℕ)
+    → IsPrefix top top' → count ≡ length top'
     → IsSomeAnd last (λ n. count ≤ n) → HasWritten show u before after top taken last → last ≡ Some (length top')
 last_stays show u before after top top' taken last count p c k h = whole top top' last h.lists count p h.chain h.last_is c k

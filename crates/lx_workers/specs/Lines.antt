@@ -1,15 +1,15 @@
 -- The lines of an outlet.
-use Rattle.std.specs.Prelude.{◌≡◌, ℕ, ◌≤◌, List, [], ◌∷◌, length, decimal, min, ◌-◌, ◌^◌, Some, None}
+use Rattle.std.specs.Prelude.{◌≡◌, ℕ, ◌≤◌, List, [], ◌∷◌, length, decimal, min, ◌-◌, ◌^◌, Some, None, Err}
 use Rattle.std.specs.declared.option.Option.{Option}
 use Rattle.std.specs.Io.KnownBytes.{Appends}
 use Rattle.lx_io.specs.declared.sink.SinkFault.{SinkFault}
 use Rattle.lx_io.specs.declared.sink.SinkFault.TheVariants.{Failed, Memory}
 use Rattle.lx_io.specs.Causes.{Rose}
-use Rattle.lx_io.specs.Puts.{AppendsFront}
+use Rattle.lx_io.specs.Puts.{AppendsFront, Puts}
 use Rattle.lx_spec.specs.declared.Command.{Command}
 use Rattle.lx_spec.specs.Show.{Show}
 use Rattle.lx_spec.specs.Replies.{frame_text}
-use Rattle.lx_spec.specs.Versions.{outlet_text, Falling}
+use Rattle.lx_spec.specs.Versions.{outlet_text, version_text, Falling}
 use Rattle.lx_gate.specs.declared.stamp.Stamp.{Stamp}
 
 -- the line of these slots under this stamp
@@ -30,11 +30,16 @@ pub record HasWritten (show : Show) (universe : ℕ) (before after : Option (Lis
   pub taken_is : taken ≡ min (length lists) (2 ^ 64 - 1)
   pub last_is : last ≡ last_of lists
 
--- a prefix of such lines was appended
-pub record HasWrittenPart (show : Show) (universe : ℕ) (before after : Option (List ℕ)) (top : List Command) : Type 0 where
-  pub lists : List (List Command)
-  pub text : AppendsFront before after (outlet_text show universe lists)
-  pub chain : Falling top lists
+-- the lines of rising lists were appended, and then a part of one more, in which the sink answered the fault; nothing came after that
+pub record HasWrittenPart {K : Type 0} (holds : K → Option (List ℕ)) (faults wants : K → ℕ) (show : Show) (universe : ℕ)
+    (sink sink' : K) (top : List Command) (fault : SinkFault) : Type 0 where
+  pub newest : List Command
+  pub earlier : List (List Command)
+  pub chain : Falling top (newest ∷ earlier)
+  pub text : AppendsFront (holds sink) (holds sink') (outlet_text show universe (newest ∷ earlier))
+  pub last : K
+  pub whole : Appends (holds sink) (holds last) (outlet_text show universe earlier)
+  pub stopped : Puts {T = Unit {0}} holds faults wants last sink' (Err fault) (version_text show universe newest)
 
 -- neither count of a sink has fallen, and a fault comes only where its own count rose
 pub record HasFault {S : Type 0} (faults wants : S → ℕ) (old new : S) (fault : Option SinkFault) : Type 0 where

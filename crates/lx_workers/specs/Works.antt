@@ -5,12 +5,11 @@ use Rattle.std.specs.Io.KnownBytes.{Appends}
 use mathlib.Core.List.{IsPrefix}
 use Rattle.lx_io.specs.declared.sink.SinkFault.{SinkFault}
 use Rattle.lx_io.specs.Causes.{Rose}
-use Rattle.lx_io.specs.Puts.{AppendsFront}
 use Rattle.lx_spec.specs.declared.Command.{Command}
 use Rattle.lx_spec.specs.Show.{Show}
 use Rattle.lx_gate.specs.Readings.{Tapped, Told, newest}
 use Rattle.lx_workers.specs.declared.worker.Served.{Served}
-use Rattle.lx_spec.specs.Versions.{outlet_text, Older, Falling}
+use Rattle.lx_spec.specs.Versions.{outlet_text, Older}
 use Rattle.lx_workers.specs.Lines.{HasWritten, HasWrittenPart, HasFault}
 
 -- a count rose, or is as before
@@ -21,7 +20,8 @@ RoseOrSame before now = (now ≡ before) ⊎ Rose before now
 pub record HasServed {K : Type 0} (holds : K → Option (List ℕ)) (faults wants : K → ℕ) (show : Show)
     (tap tap' : Tapped) (sink sink' : K) (served : Served) : Type 0 where
   pub written : served.fault ≡ None → HasWritten show tap.universe (holds sink) (holds sink') (newest tap'.told) served.taken served.last
-  pub part : (f : SinkFault) → served.fault ≡ Some f → HasWrittenPart show tap.universe (holds sink) (holds sink') (newest tap'.told)
+  pub part : (f : SinkFault) → served.fault ≡ Some f
+      → HasWrittenPart holds faults wants show tap.universe sink sink' (newest tap'.told) f
   pub cause : HasFault faults wants sink sink' served.fault
   pub goes_on : IsPrefix (newest tap.told) (newest tap'.told)
   pub same_universe : tap'.universe ≡ tap.universe
@@ -50,17 +50,16 @@ pub record HasAll (show : Show) (universe : ℕ) (before after : Option (List �
   pub chain : Older top earlier
   pub text : Appends before after (outlet_text show universe (top ∷ earlier))
 
--- where it failed, a prefix of lines of rising lists, all prefixes of one that begins with what was published
-pub record HasPart (show : Show) (universe : ℕ) (before after : Option (List ℕ)) (published : List Command) : Type 0 where
+-- where it failed, such lines and a part of one more; they are of prefixes of a list that begins with what was published
+pub record HasPart {K : Type 0} (holds : K → Option (List ℕ)) (faults wants : K → ℕ) (show : Show) (universe : ℕ)
+    (sink sink' : K) (published : List Command) (fault : SinkFault) : Type 0 where
   pub top : List Command
-  pub lists : List (List Command)
   pub begins : IsPrefix published top
-  pub chain : Falling top lists
-  pub text : AppendsFront before after (outlet_text show universe lists)
+  pub part : HasWrittenPart holds faults wants show universe sink sink' top fault
 
 -- what an outlet got, and its fault
 pub record Delivered {K : Type 0} (holds : K → Option (List ℕ)) (faults wants : K → ℕ) (show : Show) (universe : ℕ)
     (sink sink' : K) (published : List Command) (fault : Option SinkFault) : Type 0 where
   pub whole : fault ≡ None → HasAll show universe (holds sink) (holds sink') published
-  pub part : (f : SinkFault) → fault ≡ Some f → HasPart show universe (holds sink) (holds sink') published
+  pub part : (f : SinkFault) → fault ≡ Some f → HasPart holds faults wants show universe sink sink' published f
   pub cause : HasFault faults wants sink sink' fault

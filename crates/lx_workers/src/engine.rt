@@ -3,6 +3,7 @@ ghost use Rattle.std.specs.Prelude.{◌≡◌, ◌+◌, ◌-◌, ◌<◌, ◌^�
 ghost use Rattle.lx_gate.specs.Desks.{IsInStep};
 ghost use Rattle.lx_workers.specs.Engines.{HasAccepted, HasRoom};
 
+use crate::Stop;
 use lx_console::Console;
 use lx_gate::{Gate, GateWriter, Origin, Unsent, Window};
 use lx_io::Pace;
@@ -13,16 +14,18 @@ use std::sync::Wait;
 /// Published and unsent commands stay below this number each.
 const MOST: u64 = 1 << 62;
 
-/// Listens to the session of a live run. It keeps the pace, takes room for a command before it is attempted, and publishes
-/// what was accepted with the console's frames. Commands that a publish leaves for want of memory wait for a later one.
-pub struct Publisher<'r, 'p, R: Wait, G: Origin, W: Window, C: Pace> {
+/// Listens to the session of a live run. It keeps the pace, takes room for a command before it is attempted, publishes what
+/// was accepted with the console's frames, and tells the workers. Commands that a publish leaves for want of memory wait for
+/// a later one.
+pub struct Publisher<'r, 't, 'p, R: Wait, G: Origin, W: Window, C: Pace> {
     pub rt: &'r R,
     pub gate: Gate<G, W>,
     pub unsent: Unsent,
+    pub stop: &'t Stop,
     pub pace: &'p C,
 }
 
-impl<R: Wait, G: Origin, C: Pace> Listener for Publisher<'_, '_, R, G, GateWriter<G>, C> {
+impl<R: Wait, G: Origin, C: Pace> Listener for Publisher<'_, '_, '_, R, G, GateWriter<G>, C> {
     ghost use Rattle.lx_workers.specs.Engines.{accepted_nothing, accepted_both};
 
     ghost keeps = { λ x console. IsInStep G.show x.gate x.unsent.commands.items console };
@@ -48,6 +51,11 @@ impl<R: Wait, G: Origin, C: Pace> Listener for Publisher<'_, '_, R, G, GateWrite
     fn hear(&mut self, command: &Command, console: &Console) {
         self.unsent.push(command.copy());
         publish(self.rt, &mut self.gate, &mut self.unsent, console);
+        self.stop.tell_news();
+    }
+
+    fn hears_ticks(&self) -> bool {
+        true
     }
 }
 

@@ -1,8 +1,8 @@
-//! The stop of a live run: it is set once, and each worker sees it.
+//! The stop of a live run, which is set once, and the news of it; each worker sees both.
 ghost use Rattle.std.specs.Prelude.{◌≡◌, Bool, true, false};
 
-use std::sync::atomic::AtomicBool;
 use std::sync::atomic::Ordering::SeqCst;
+use std::sync::atomic::{AtomicBool, AtomicU64};
 
 /// What a worker asks whether to end.
 pub trait Halt {
@@ -13,18 +13,24 @@ pub trait Halt {
     fn is_set(&mut self) -> bool
         ensures answer { result ≡ known self.new }
         ensures stays { known self.old ≡ true → known self.new ≡ true };
+
+    /// Whether there may be something new to take since it was asked last. It is a hint, of which nothing is claimed.
+    fn has_news(&mut self) -> bool
+        ensures { known self.new ≡ known self.old };
 }
 
-/// A word that is set once.
+/// A word that is set once, and how often there was news.
 #[derive(Drop)]
 pub struct Stop {
     word: AtomicBool,
+    news: AtomicU64,
 }
 
 impl Stop {
     pub fn new() -> Stop {
         Stop {
             word: AtomicBool::new(false),
+            news: AtomicU64::new(1),
         }
     }
 
@@ -33,13 +39,19 @@ impl Stop {
         self.word.store(true, SeqCst);
     }
 
-    /// A view of the stop for one worker, which knows nothing yet.
+    /// Tells all that watch it that something was published.
+    pub fn tell_news(&self) {
+        self.news.fetch_add(1, SeqCst);
+    }
+
+    /// A view of the stop for one worker, which knows nothing yet, and to which all is news.
     pub fn watch(&self) -> Watch<'_>
         ensures { result.known ≡ false }
     {
         Watch {
             stop: self,
             known: false,
+            heard: 0,
         }
     }
 }
@@ -49,6 +61,7 @@ impl Stop {
 pub struct Watch<'a> {
     stop: &'a Stop,
     pub known: bool,
+    heard: u64,
 }
 
 impl Halt for Watch<'_> {
@@ -59,5 +72,12 @@ impl Halt for Watch<'_> {
             self.known = self.stop.word.load(SeqCst);
         }
         self.known
+    }
+
+    fn has_news(&mut self) -> bool {
+        let news = self.stop.news.load(SeqCst);
+        let is_new = news != self.heard;
+        self.heard = news;
+        is_new
     }
 }

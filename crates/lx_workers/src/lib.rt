@@ -13,6 +13,6 @@ mod worker;
 
 pub use halt::{Halt, Stop, Watch};
 pub use lane::Lane;
-pub use playing::{Played, play};
+pub use playing::{OUTLETS, Played, play};
 pub use work::{Job, run_all, run_beside};
 pub use worker::{Served, serve};

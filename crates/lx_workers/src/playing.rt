@@ -3,6 +3,7 @@ ghost use Rattle.std.specs.Prelude.{◌≡◌, ◌+◌, ◌-◌, ◌<◌, ◌≤
 ghost use Rattle.std.specs.Prelude.{Some, None, slice_get, slice_set, List};
 ghost use Rattle.std.specs.List.{AllZip};
 ghost use Rattle.lx_base.specs.declared.TheConstants.{INPUT_BYTES};
+ghost use Rattle.lx_workers.specs.declared.playing.TheConstants.{OUTLETS};
 ghost use Rattle.lx_lex.specs.Unread.{CanAdvance, SameSource, bytes_taken, unread};
 ghost use Rattle.lx_spec.specs.Desk.{opened};
 ghost use Rattle.lx_console.specs.Standing.{StandsFor};
@@ -19,6 +20,7 @@ ghost use Rattle.lx_workers.specs.Playing.{HasPlayed};
 
 use crate::script::Engine;
 use crate::{Lane, Served, Stop, run_beside};
+use lx_base::UNIVERSES;
 use lx_console::Console;
 use lx_gate::{EmptyHistory, Gate, GatePort, GateWriter, Origin, Tap, Unsent};
 use lx_io::{Pace, Sink, SinkFault, Source};
@@ -29,13 +31,16 @@ use std::marker::Brand;
 use std::sync::Wait;
 use std::thread::Threads;
 
+/// The most outlets of a live run: one a universe.
+pub const OUTLETS: usize = UNIVERSES as usize;
+
 /// How a live run ended.
 #[derive(Drop)]
 pub struct Played {
     /// How the session ended.
     pub session: Result<Tally, SessionFault>,
     /// The fault of the outlet of universe u, at place u - 1, where it had one.
-    pub outlets: [Option<SinkFault>; 16],
+    pub outlets: [Option<SinkFault>; OUTLETS],
     /// How many accepted commands, the last ones, weren't published, for want of memory.
     pub unsent: usize,
 }
@@ -66,7 +71,7 @@ pub fn play<
     requires going { CanAdvance lines.old }
     requires within { bytes_taken lines.old ≤ INPUT_BYTES }
     requires some { 1 ≤ length outlets.old }
-    requires most { length outlets.old ≤ 16 }
+    requires most { length outlets.old ≤ OUTLETS }
     requires full { IsFull outlets.old }
     ensures err { OnErr result ((console.new ≡ console.old)
         × ((lines.new ≡ lines.old) × ((output.new ≡ output.old) × (outlets.new ≡ outlets.old)))) }
@@ -112,7 +117,7 @@ fn play_over<
     requires going { CanAdvance lines.old }
     requires within { bytes_taken lines.old ≤ INPUT_BYTES }
     requires some { 1 ≤ length outlets.old }
-    requires most { length outlets.old ≤ 16 }
+    requires most { length outlets.old ≤ OUTLETS }
     requires full { IsFull outlets.old }
     ensures err { OnErr result ((console.new ≡ console.old)
         × ((lines.new ≡ lines.old) × ((output.new ≡ output.old) × (outlets.new ≡ outlets.old)))) }
@@ -213,7 +218,7 @@ fn fill_lanes<'a, G: Origin, K: Sink + Drop, C: Pace>(
     mut lanes: Vec<Lane<'a, GatePort<G>, K, C>>,
 ) -> Vec<Lane<'a, GatePort<G>, K, C>>
     requires full { (place : ℕ) → place < length outlets.old → IsSomeAnd (slice_get outlets.old place) IsSome }
-    requires most { length outlets.old ≤ 16 }
+    requires most { length outlets.old ≤ OUTLETS }
     requires taps { EachAt IsNewTap taps.items }
     requires count { vec_len taps ≡ length outlets.old }
     requires none { lanes.items ≡ [] }
@@ -241,16 +246,16 @@ fn give_back<G: Origin, K: Sink + Drop, C: Pace>(
     gate: &Gate<G, GateWriter<G>>,
     mut lanes: Vec<Lane<'_, GatePort<G>, K, C>>,
     outlets: &mut [Option<K>],
-) -> [Option<SinkFault>; 16]
+) -> [Option<SinkFault>; OUTLETS]
     requires count { vec_len lanes ≡ length outlets.old }
-    requires most { length outlets.old ≤ 16 }
+    requires most { length outlets.old ≤ OUTLETS }
     ensures same { length outlets.new ≡ length outlets.old }
     ensures back { EachAt (λ k x. IsGiven K.holds K.faults K.wants G.show outlets.new result gate.now.published
         (length outlets.old - 1 - k) x.tap x.sink x.served) lanes.entry.items }
     ensures others { (place : ℕ) (fault : SinkFault) → slice_get result place ≡ Some (Some fault) → place < length outlets.old }
 {
     let count = outlets.len();
-    let mut faults = [None; 16];
+    let mut faults = [None; OUTLETS];
     while let Some(mut lane) = lanes.pop() {
         lane.finish(gate.note());
         let Lane {

@@ -51,6 +51,7 @@ impl<G: Origin, S: Source, K: Sink, C: Pace> Job
             self.output,
             self.gate,
             self.unsent,
+            self.stop,
             self.pace,
         );
         self.stop.set();
@@ -66,6 +67,7 @@ fn run_script<G: Origin, R: Wait, S: Source, K: Sink, C: Pace>(
     output: &mut K,
     gate: &mut Option<Gate<G, GateWriter<G>>>,
     unsent: &mut Unsent,
+    stop: &Stop,
     pace: &C,
 ) -> Result<Tally, SessionFault>
     requires in_step { IsSomeAnd gate.old (λ held. IsInStep G.show held [] console.old) }
@@ -81,6 +83,7 @@ fn run_script<G: Origin, R: Wait, S: Source, K: Sink, C: Pace>(
         rt,
         gate: held,
         unsent: Unsent::new(alloc),
+        stop,
         pace,
     };
     let session = answer_script(&mut publisher, console, lines, output);
@@ -88,6 +91,7 @@ fn run_script<G: Origin, R: Wait, S: Source, K: Sink, C: Pace>(
         rt: _,
         gate: held,
         unsent: left,
+        stop: _,
         pace: _,
     } = publisher;
     *unsent = left;
@@ -100,7 +104,7 @@ fn run_script<G: Origin, R: Wait, S: Source, K: Sink, C: Pace>(
 /// Answers the script lines that are left, and publishes what they accept. At the end what is still unsent is published once
 /// more.
 fn answer_script<R: Wait, G: Origin, S: Source, K: Sink, C: Pace>(
-    publisher: &mut Publisher<'_, '_, R, G, GateWriter<G>, C>,
+    publisher: &mut Publisher<'_, '_, '_, R, G, GateWriter<G>, C>,
     console: &mut Console,
     lines: &mut Lines<S>,
     output: &mut K,

@@ -1,10 +1,15 @@
 //! What may go to another thread.
 use crate::Lane;
-use lx_gate::{GatePort, Origin};
+use crate::script::Engine;
+use lx_gate::{GatePort, GateWriter, Origin};
 
 fn is_send<T: Send>(_value: &T) {}
 
-/// A lane may go to another thread.
-pub fn may_be_sent<G: Origin + Send + Sync, K: Send, C: Sync>(lane: &Lane<'_, GatePort<G>, K, C>) {
+/// A lane and an engine may each go to another thread.
+pub fn may_be_sent<G: Origin + Send + Sync, S: Send, O: Send, K: Send, C: Sync>(
+    lane: &Lane<'_, GatePort<G>, K, C>,
+    engine: &Engine<'_, '_, '_, '_, '_, '_, '_, '_, G, GateWriter<G>, S, O, C>,
+) {
     is_send(lane);
+    is_send(engine);
 }

@@ -60,7 +60,7 @@ fn run_both<R: Threads + Wait + Sync, W: Job + Send>(rt: &R, left: &mut [W], rig
     );
 }
 
-/// Runs one work and a list of works at the same time.
+/// Runs a list of works and, in this thread, one that they may wait for. Where no thread can be made for them they are run after it.
 pub fn run_beside<R: Threads + Wait + Sync, E: Job + Send, W: Job + Send>(
     rt: &R,
     engine: &mut E,
@@ -75,13 +75,13 @@ pub fn run_beside<R: Threads + Wait + Sync, E: Job + Send, W: Job + Send>(
         rt,
         &mut || -> ()
             requires sync { IsSync R.row }
-            requires ready { E.ready engine.now }
-            ensures { E.done engine.entry.now engine.exit.now }
-        { engine.run(rt) },
-        &mut || -> ()
-            requires sync { IsSync R.row }
             requires ready { All W.ready works.now }
             ensures { AllZip W.done works.entry.now works.exit.now }
         { run_all(rt, works) },
+        &mut || -> ()
+            requires sync { IsSync R.row }
+            requires ready { E.ready engine.now }
+            ensures { E.done engine.entry.now engine.exit.now }
+        { engine.run(rt) },
     );
 }

@@ -32,8 +32,8 @@ impl Served {
     }
 }
 
-/// Takes again and again until a stop was known before a take, or the sink had a fault. It writes the line of the first
-/// take and of each that is newer than the last line.
+/// Takes whenever there is news, until a stop was known before a take, or the sink had a fault. It writes the line of the
+/// first take and of each that is newer than the last line.
 pub fn serve<R: Wait, P: Port, K: Sink, C: Pace, H: Halt>(
     rt: &R,
     tap: &mut Tap<P>,
@@ -49,9 +49,16 @@ pub fn serve<R: Wait, P: Port, K: Sink, C: Pace, H: Halt>(
 {
     let mut served = Served::none();
     for _ in rt.forever() {
-        let halted = halt.is_set();
+        if halt.is_set() {
+            step(tap, sink, pace, &mut served);
+            return served;
+        }
+        if !halt.has_news() {
+            pace.pause();
+            continue;
+        }
         step(tap, sink, pace, &mut served);
-        if halted || served.fault.is_some() {
+        if served.fault.is_some() {
             return served;
         }
     }

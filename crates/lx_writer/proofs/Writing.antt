@@ -1,5 +1,6 @@
 -- Texts with a piece for each element, or for each that passes a test.
-use Rattle.std.proofs.Common.{◌≡◌, ℕ, ◌+◌, ◌-◌, ◌/◌, ◌%◌, ◌<◌, ◌≤◌, Bool, List, [], ◌∷◌, ◌++◌, length, get_or, take, drop, take-append-drop, length-take, refl, sym, ap, ◌∙◌, append_assoc, append-nil, cond, arith}
+use Rattle.std.proofs.Common.{◌≡◌, ℕ, ◌+◌, ◌-◌, ◌/◌, ◌%◌, ◌<◌, ◌≤◌, Bool, List, [], ◌∷◌, ◌++◌, length, get_or, take, drop, take-append-drop}
+use Rattle.std.proofs.Common.{length-take, refl, sym, ap, ◌∙◌, append_assoc, append-nil, cond, arith}
 use Rattle.std.specs.Prelude.{filter, flat_map, codes, decimal, slice_range}
 use Rattle.std.proofs.lemmas.Grind.{flat_map-append}
 use Rattle.std.proofs.lemmas.List.Elements.{filter-append}
@@ -8,21 +9,27 @@ use Rattle.std.proofs.Math.Seq.{take-add, drop-append-add}
 use borrow.Rule.Slice.PartMut.{put_mid}
 use Rattle.itoa.proofs.Decimal.{pair, decimal_pair}
 use Rattle.lx_io.proofs.Chain.{drop_here}
+use Rattle.lx_base.specs.declared.TheConstants.{CHANNELS}
 use Rattle.lx_spec.specs.declared.PatchRow.{PatchRow}
 use Rattle.lx_spec.specs.Numerals.{level_text}
 use Rattle.lx_spec.specs.ShowText.{line, at_text, patch_text}
 
 -- one piece more, and the pieces around it
-pub pieces_more : {A : Type 0} (f : A → List ℕ) (xs : List A) (i : ℕ) (x : A) → i < length xs → x ≡ get_or xs i x → flat_map f (take i xs) ++ f x ≡ flat_map f (take (i + 1) xs)
+pub pieces_more : {A : Type 0} (f : A → List ℕ) (xs : List A) (i : ℕ) (x : A) → i < length xs → x ≡ get_or xs i x
+    → flat_map f (take i xs) ++ f x ≡ flat_map f (take (i + 1) xs)
 pieces_more {A} f xs i x within is =
-    sym (ap (flat_map f) (take_more xs i x within ∙ ap (λ (y : A). take i xs ++ y ∷ []) (sym is)) ∙ flat_map-append f (take i xs) (x ∷ []) ∙ ap (λ text. flat_map f (take i xs) ++ text) (append-nil (f x)))
+    sym (ap (flat_map f) (take_more xs i x within ∙ ap (λ (y : A). take i xs ++ y ∷ []) (sym is)) ∙ flat_map-append f (take i xs) (x ∷ [])
+    ∙ ap (λ text. flat_map f (take i xs) ++ text) (append-nil (f x)))
 
-pub pieces_around : {A : Type 0} (f : A → List ℕ) (xs : List A) (i : ℕ) (x : A) → i < length xs → x ≡ get_or xs i x → flat_map f xs ≡ (flat_map f (take i xs) ++ f x) ++ flat_map f (drop (i + 1) xs)
+pub pieces_around : {A : Type 0} (f : A → List ℕ) (xs : List A) (i : ℕ) (x : A) → i < length xs → x ≡ get_or xs i x
+    → flat_map f xs ≡ (flat_map f (take i xs) ++ f x) ++ flat_map f (drop (i + 1) xs)
 pieces_around f xs i x within is =
-    ap (flat_map f) (sym (take-append-drop (i + 1) xs)) ∙ flat_map-append f (take (i + 1) xs) (drop (i + 1) xs) ∙ ap (λ text. text ++ flat_map f (drop (i + 1) xs)) (sym (pieces_more f xs i x within is))
+    ap (flat_map f) (sym (take-append-drop (i + 1) xs)) ∙ flat_map-append f (take (i + 1) xs) (drop (i + 1) xs)
+    ∙ ap (λ text. text ++ flat_map f (drop (i + 1) xs)) (sym (pieces_more f xs i x within is))
 
 -- a patch row as it is put
-pub patch_is : (row : PatchRow) → ((codes "PATCH 1 " ++ decimal row.chan ++ 60 ∷ []) ++ at_text row.dimmer row.level) ++ 10 ∷ [] ≡ patch_text row
+pub patch_is : (row : PatchRow) → ((codes "PATCH 1 " ++ decimal row.chan ++ 60 ∷ []) ++ at_text row.dimmer row.level) ++ 10 ∷ []
+    ≡ patch_text row
 patch_is row = ap (λ text. text ++ 10 ∷ []) (append_assoc (codes "PATCH 1 " ++ decimal row.chan) (60 ∷ []) (at_text row.dimmer row.level))
 
 -- the pieces of those that pass, split at a place, and one range more
@@ -67,11 +74,15 @@ pub put_before : (text bytes new : List ℕ) (end : ℕ) → new ≡ bytes → l
     → drop (end - length bytes) (put_mid (end - length bytes) (end - (end - length bytes)) text new) ≡ bytes ++ drop end text
 put_before text bytes new end same room within =
     let none : length bytes - length bytes ≡ 0 = omega arith in
-    put_end text bytes new end (length bytes) (length bytes) same refl (omega arith) room within ∙ ap (λ k. drop k bytes ++ drop end text) none
+    put_end text bytes new end (length bytes) (length bytes) same refl (omega arith) room within
+    ∙ ap (λ k. drop k bytes ++ drop end text) none
 
 -- a line of a channel and its level, as its parts are written
-pub line_is : (n level : ℕ) (rest : List ℕ) → (codes "CHAN " ++ (decimal n ++ 64 ∷ [])) ++ ((level_text level ++ 10 ∷ []) ++ rest) ≡ line (codes "CHAN" ∷ at_text n level ∷ []) ++ rest
+pub line_is : (n level : ℕ) (rest : List ℕ)
+    → (codes "CHAN " ++ (decimal n ++ 64 ∷ [])) ++ ((level_text level ++ 10 ∷ []) ++ rest)
+    ≡ line (codes "CHAN" ∷ at_text n level ∷ []) ++ rest
 line_is n level rest = simp append_assoc
 
-pub channel_is : (n : ℕ) (rest : List ℕ) → 100 ≤ n → n ≤ 2048 → (codes "CHAN " ++ decimal (n / 100)) ++ ((pair (n % 100) ++ 64 ∷ []) ++ rest) ≡ (codes "CHAN " ++ (decimal n ++ 64 ∷ [])) ++ rest
+pub channel_is : (n : ℕ) (rest : List ℕ) → 100 ≤ n → n ≤ CHANNELS
+    → (codes "CHAN " ++ decimal (n / 100)) ++ ((pair (n % 100) ++ 64 ∷ []) ++ rest) ≡ (codes "CHAN " ++ (decimal n ++ 64 ∷ [])) ++ rest
 channel_is n rest from most = rw (decimal_pair n from (omega arith)) (simp append_assoc)

@@ -4,14 +4,14 @@
 ghost use Rattle.std.specs.Prelude.{[], ◌++◌, ◌∷◌, codes};
 ghost use Rattle.lx_io.specs.Puts.{Puts};
 ghost use Rattle.lx_spec.specs.Numerals.{time_text};
-ghost use Rattle.lx_spec.specs.ShowText.{line, cue_number_text, block_text, label_text, follow_text, link_text};
+ghost use Rattle.lx_spec.specs.ShowText.{line, cue_number_text, block_text, assert_text, label_text, follow_text, link_text};
 
 use crate::part::put_parts;
 use crate::pieces::Written;
 use crate::record::put_label;
 use lx_base::{Cs, CueNo};
 use lx_io::{Sink, SinkFault, put_all};
-use lx_lex::{put_cue_no, put_hundredths};
+use lx_lex::{put_cue_no_and, put_hundredths_and};
 use lx_show::Cue;
 
 impl Written for Cue {
@@ -23,6 +23,7 @@ impl Written for Cue {
     fn write<K: Sink>(&self, sink: &mut K) -> Result<(), SinkFault> {
         put_cue_number(b"CUE ", self.number, sink)?;
         put_block(self.block, sink)?;
+        put_assert(self.asserted, sink)?;
         put_label(self.label.as_slice(), sink)?;
         put_follow(self.follow, sink)?;
         put_link(self.link, sink)?;
@@ -36,6 +37,17 @@ fn put_block<K: Sink>(block: bool, sink: &mut K) -> Result<(), SinkFault>
 {
     if block {
         put_all(sink, b"$$BLOCK\n")
+    } else {
+        Ok(())
+    }
+}
+
+/// Appends the line that makes an asserted cue, where it is one.
+fn put_assert<K: Sink>(asserted: bool, sink: &mut K) -> Result<(), SinkFault>
+    ensures { Puts K.holds K.faults K.wants sink.old sink.new result (assert_text asserted) }
+{
+    if asserted {
+        put_all(sink, b"$$ASSERT\n")
     } else {
         Ok(())
     }
@@ -56,8 +68,7 @@ fn put_follow_time<K: Sink>(time: Cs, sink: &mut K) -> Result<(), SinkFault>
     ensures { Puts K.holds K.faults K.wants sink.old sink.new result (line (codes "FOLLOWON" ∷ time_text time ∷ [])) }
 {
     put_all(sink, b"FOLLOWON ")?;
-    put_hundredths(time, sink)?;
-    put_all(sink, b"\n")
+    put_hundredths_and(time, b'\n', sink)
 }
 
 /// Appends the line of the link, where there is one.
@@ -75,6 +86,5 @@ fn put_cue_number<K: Sink>(start: &[u8], number: CueNo, sink: &mut K) -> Result<
     ensures { Puts K.holds K.faults K.wants sink.old sink.new result (start.now ++ cue_number_text number ++ 10 ∷ []) }
 {
     put_all(sink, start)?;
-    put_cue_no(number, sink)?;
-    put_all(sink, b"\n")
+    put_cue_no_and(number, b'\n', sink)
 }

@@ -8,7 +8,5 @@ mod pieces;
 mod record;
 mod rows;
 mod show;
-#[cfg(test)]
-mod tests;
 
 pub use show::write_show;

@@ -2,7 +2,7 @@
 //! sink as one piece.
 #![tactic(auto, using(lx_io::proofs::Chain::puts))]
 
-ghost use Rattle.std.specs.Prelude.{◌≡◌, ◌==◌, ◌+◌, ◌≤◌, [], ◌++◌, ◌∷◌, codes, decimal, drop, filter, flat_map, length};
+ghost use Rattle.std.specs.Prelude.{◌≡◌, ◌==◌, ◌+◌, ◌-◌, ◌≤◌, [], ◌++◌, ◌∷◌, codes, decimal, drop, filter, flat_map, length};
 ghost use Rattle.lx_io.specs.Puts.{Puts};
 ghost use Rattle.lx_base.specs.declared.TheConstants.{CHANNELS};
 ghost use Rattle.lx_spec.specs.ShowText.{line, at_text, move_text};
@@ -90,7 +90,7 @@ fn write_line(chan: Chan, level: Level, text: &mut [u8; PIECE_BYTES], end: usize
     ensures before { result ≤ end }
     ensures text { drop result text.new ≡ line (codes "CHAN" ∷ at_text chan level ∷ []) ++ drop end text.old }
 {
-    let end = write_before(&LEVELS[level as usize], text, end);
+    let end = write_row(&LEVELS[level as usize], 4, text, end);
     write_channel(chan.get(), text, end)
 }
 
@@ -109,7 +109,7 @@ fn write_channel(number: u32, text: &mut [u8; PIECE_BYTES], end: usize) -> usize
         let end = write_digits(number as u64, text, end);
         write_before(b"CHAN ", text, end)
     } else {
-        let end = write_before(&TENS[(number % 100) as usize], text, end);
+        let end = write_row(&TENS[(number % 100) as usize], 3, text, end);
         write_front(number / 100, text, end)
     }
 }
@@ -117,16 +117,33 @@ fn write_channel(number: u32, text: &mut [u8; PIECE_BYTES], end: usize) -> usize
 /// Writes `CHAN ` and the hundreds of a channel's number so that they end at a place, and says where they begin.
 #[inline(always)]
 fn write_front(hundreds: u32, text: &mut [u8; PIECE_BYTES], end: usize) -> usize
-    requires few { hundreds ≤ 20 }
+    requires few { hundreds ≤ 40 }
     requires room { 8 ≤ end }
     requires within { end ≤ PIECE_BYTES }
     ensures start { end ≤ result + 8 }
     ensures before { result ≤ end }
     ensures text { drop result text.new ≡ (codes "CHAN " ++ decimal hundreds) ++ drop end text.old }
 {
-    let front = &FRONTS[hundreds as usize];
-    let count = if hundreds < 10 { 6 } else { 7 };
-    text[end - 8..end].copy_from_slice(front);
+    let [word, number] = &FRONTS[hundreds as usize];
+    let count = if hundreds < 10 { 2 } else { 3 };
+    let end = write_row(number, 4, text, end);
+    write_row(word, count, text, end)
+}
+
+/// Writes the last bytes of a row so that they end at a place, and says where they begin.
+#[inline(always)]
+fn write_row(row: &[u8; 4], count: usize, text: &mut [u8; PIECE_BYTES], end: usize) -> usize
+    requires count { count ≤ 4 }
+    requires room { 4 ≤ end }
+    requires within { end ≤ PIECE_BYTES }
+    ensures start { result + count ≡ end }
+    ensures text { drop result text.new ≡ drop (4 - count) row.now ++ drop end text.old }
+{
+    // Byte by byte, which is one store of four bytes.
+    text[end - 4] = row[0];
+    text[end - 3] = row[1];
+    text[end - 2] = row[2];
+    text[end - 1] = row[3];
     end - count
 }
 

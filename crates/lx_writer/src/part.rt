@@ -10,7 +10,7 @@ use crate::lines::put_moves;
 use crate::record::put_between;
 use lx_base::{Cs, PartNo};
 use lx_io::{Sink, SinkFault, put_all};
-use lx_lex::put_hundredths;
+use lx_lex::put_hundredths_and;
 use lx_show::{Move, Part};
 
 /// Appends the parts of a cue that has these moves.
@@ -41,7 +41,7 @@ fn put_part<K: Sink>(moves: &[Move], part: &Part, sink: &mut K) -> Result<(), Si
 fn put_number<K: Sink>(number: PartNo, sink: &mut K) -> Result<(), SinkFault>
     ensures { Puts K.holds K.faults K.wants sink.old sink.new result (line (codes "PART" ∷ decimal number ∷ [])) }
 {
-    put_between(b"PART ", number.get(), b"\n", sink)
+    put_between(b"PART ", number.get(), b'\n', sink)
 }
 
 /// Appends the line of a time and a delay: `start` is its word and a space.
@@ -49,8 +49,6 @@ fn put_time<K: Sink>(start: &[u8], time: Cs, delay: Cs, sink: &mut K) -> Result<
     ensures { Puts K.holds K.faults K.wants sink.old sink.new result ((start.now ++ (time_text time ++ 32 ∷ time_text delay)) ++ 10 ∷ []) }
 {
     put_all(sink, start)?;
-    put_hundredths(time, sink)?;
-    put_all(sink, b" ")?;
-    put_hundredths(delay, sink)?;
-    put_all(sink, b"\n")
+    put_hundredths_and(time, b' ', sink)?;
+    put_hundredths_and(delay, b'\n', sink)
 }

@@ -8,7 +8,7 @@ ghost use Rattle.lx_spec.specs.ShowText.{line, at_text, label_text, member_text}
 use crate::pieces::{Written, write_each};
 use lx_base::{Chan, Level};
 use lx_io::{Sink, SinkFault, put_all};
-use lx_lex::{put_level, put_whole};
+use lx_lex::{put_count_and, put_level};
 use lx_show::{Group, Member, Sub};
 
 impl Written for Group {
@@ -18,7 +18,7 @@ impl Written for Group {
 
     /// Appends a group: its number, its label and its members.
     fn write<K: Sink>(&self, sink: &mut K) -> Result<(), SinkFault> {
-        put_between(b"GROUP ", self.number.get(), b"\n", sink)?;
+        put_between(b"GROUP ", self.number.get(), b'\n', sink)?;
         put_members(self.label.as_slice(), self.members.as_slice(), sink)
     }
 }
@@ -30,7 +30,7 @@ impl Written for Sub {
 
     /// Appends a submaster: its number, its label and its members.
     fn write<K: Sink>(&self, sink: &mut K) -> Result<(), SinkFault> {
-        put_between(b"SUB ", self.number.get(), b"\n", sink)?;
+        put_between(b"SUB ", self.number.get(), b'\n', sink)?;
         put_members(self.label.as_slice(), self.members.as_slice(), sink)
     }
 }
@@ -57,14 +57,13 @@ impl Written for Member {
 pub(crate) fn put_between<K: Sink>(
     before: &[u8],
     number: u32,
-    behind: &[u8],
+    behind: u8,
     sink: &mut K,
 ) -> Result<(), SinkFault>
-    ensures { Puts K.holds K.faults K.wants sink.old sink.new result (before.now ++ decimal number ++ behind.now) }
+    ensures { Puts K.holds K.faults K.wants sink.old sink.new result (before.now ++ decimal number ++ behind ∷ []) }
 {
     put_all(sink, before)?;
-    put_whole(number, sink)?;
-    put_all(sink, behind)
+    put_count_and(u64::from(number), behind, sink)
 }
 
 /// Appends the line of a label, where there is one.
@@ -96,7 +95,6 @@ pub(crate) fn put_at_level<K: Sink>(
 ) -> Result<(), SinkFault>
     ensures { Puts K.holds K.faults K.wants sink.old sink.new result (at_text number level) }
 {
-    put_whole(number, sink)?;
-    put_all(sink, b"@")?;
+    put_count_and(u64::from(number), b'@', sink)?;
     put_level(level, sink)
 }

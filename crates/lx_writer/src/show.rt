@@ -29,7 +29,7 @@ fn put_head<K: Sink>(channels: u32, sink: &mut K) -> Result<(), SinkFault>
     ensures { Puts K.holds K.faults K.wants sink.old sink.new result
         (line (codes "IDENT" ∷ codes "3:0" ∷ []) ++ line (codes "SET" ∷ codes "CHANNELS" ∷ decimal channels ∷ [])) }
 {
-    put_between(b"IDENT 3:0\nSET CHANNELS ", channels, b"\n", sink)
+    put_between(b"IDENT 3:0\nSET CHANNELS ", channels, b'\n', sink)
 }
 
 impl Written for PatchRow {
@@ -39,7 +39,7 @@ impl Written for PatchRow {
 
     /// Appends the line of a patch row: the channel, and the dimmer at its level.
     fn write<K: Sink>(&self, sink: &mut K) -> Result<(), SinkFault> {
-        put_between(b"PATCH 1 ", self.chan.get(), b"<", sink)?;
+        put_between(b"PATCH 1 ", self.chan.get(), b'<', sink)?;
         put_at_level(self.dimmer.get(), self.level, sink)?;
         put_all(sink, b"\n")
     }

@@ -12,10 +12,13 @@ returns-in-Ok-clause-works g c = told_ends c.tell.result status.Ok tt c.tell.ens
 
 pub returns-in-Ok-clause-ended : goal.returns-in-Ok-clause-ended
 returns-in-Ok-clause-ended g c =
-    told_ended c.args.form _ _ _ _ c.in-Ok.loaded (Check c.args.form) check_text (check_tells c.args.form) _ _ _ _ c.tell.result c.new-lines.ensures.unread c.new-lines.ensures.taken c.in-Ok.ensures.answer c.tell.ensures.kinds c.tell.ensures.ok c.tell.ensures.prefix
+    told_ended c.args.form _ _ _ _ c.in-Ok.loaded (Check c.args.form) check_text (check_tells c.args.form) _ _ _ _ c.tell.result
+    c.new-lines.ensures.unread c.new-lines.ensures.taken c.in-Ok.ensures.answer c.tell.ensures.kinds c.tell.ensures.ok
+    c.tell.ensures.prefix
 
 pub returns-in-Ok-clause-prefix : goal.returns-in-Ok-clause-prefix
-returns-in-Ok-clause-prefix g c = told_prefix c.args.form _ _ _ _ c.in-Ok.loaded (Check c.args.form) check_text (check_tells c.args.form) _ _ _ c.new-lines.ensures.unread c.in-Ok.ensures.answer c.tell.ensures.prefix
+returns-in-Ok-clause-prefix g c = told_prefix c.args.form _ _ _ _ c.in-Ok.loaded (Check c.args.form) check_text (check_tells c.args.form) _
+    _ _ c.new-lines.ensures.unread c.in-Ok.ensures.answer c.tell.ensures.prefix
 
 pub returns-in-Err-clause-works : goal.returns-in-Err-clause-works
 returns-in-Err-clause-works g c = refusal_ends _ _ c.in-Err.fault c.refuse.result c.refuse.ensures.refused
@@ -23,8 +26,13 @@ returns-in-Err-clause-works g c = refusal_ends _ _ c.in-Err.fault c.refuse.resul
 pub returns-in-Err-clause-ended : goal.returns-in-Err-clause-ended
 returns-in-Err-clause-ended g c =
     let same = c.input-1.given.1 (sym (c.in-Err.ensures.same_reference ∙ c.new-lines.ensures.same_reference)) in
-    subst (λ v. IfSome (g.S.Source.left c.args.input.now) (λ bytes. HasEnded c.refuse.result (Check c.args.form) bytes (g.S.Source.left v) (g.K.Sink.holds c.args.output.now) (g.K.Sink.holds c.refuse.new.output))) (sym same)
-    (refusal_ended c.args.form (Check c.args.form) ((check_tells c.args.form).over) _ c.new-lines.result c.read_show.new.lines _ _ _ c.in-Err.fault c.refuse.result c.new-lines.ensures.unread c.new-lines.ensures.taken c.in-Err.ensures.answer c.refuse.ensures.refused)
+    subst (λ v. IfSome (g.S.Source.left c.args.input.now)
+    (λ bytes. HasEnded c.refuse.result (Check c.args.form) bytes (g.S.Source.left v) (g.K.Sink.holds c.args.output.now)
+    (g.K.Sink.holds c.refuse.new.output))) (sym same)
+    (refusal_ended c.args.form (Check c.args.form) ((check_tells c.args.form).over) _ c.new-lines.result c.read_show.new.lines _ _ _
+    c.in-Err.fault c.refuse.result c.new-lines.ensures.unread c.new-lines.ensures.taken c.in-Err.ensures.answer
+    c.refuse.ensures.refused)
 
 pub returns-in-Err-clause-prefix : goal.returns-in-Err-clause-prefix
-returns-in-Err-clause-prefix g c = refusal_front c.args.form (Check c.args.form) ((check_tells c.args.form).over) _ c.new-lines.result c.read_show.new.lines _ _ _ c.in-Err.fault _ c.new-lines.ensures.unread c.in-Err.ensures.answer c.refuse.ensures.refused
+returns-in-Err-clause-prefix g c = refusal_front c.args.form (Check c.args.form) ((check_tells c.args.form).over) _ c.new-lines.result
+    c.read_show.new.lines _ _ _ c.in-Err.fault _ c.new-lines.ensures.unread c.in-Err.ensures.answer c.refuse.ensures.refused

@@ -19,5 +19,6 @@ pub returns-in_err-put_cue-clause-text : goal.returns-in_err-put_cue-clause-text
 returns-in_err-put_cue-clause-text g c =
     let k : ℕ = c.loop-before.before in
     let is = ap (cue_text (k + 1)) c.cue.ensures.cue ∙ cue_is c.args.cues k _ c.loop-before.invariant.1 in
-    Puts-is (Puts-stops (flat_map (made_cue c.args.cues) (range_with_len (1 + (k + 1)) (c.args.cues - (k + 1)))) (Puts-then c.loop-before.invariant.0 c.in_err-put_cue.ensures) c.from_residual.ensures)
+    Puts-is (Puts-stops (flat_map (made_cue c.args.cues) (range_with_len (1 + (k + 1)) (c.args.cues - (k + 1))))
+    (Puts-then c.loop-before.invariant.0 c.in_err-put_cue.ensures) c.from_residual.ensures)
     (range_around (made_cue c.args.cues) k c.args.cues _ c.loop-before-test.true is)

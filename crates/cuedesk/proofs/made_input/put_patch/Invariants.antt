@@ -6,4 +6,5 @@ use Rattle.lx_spec.specs.MakeOutput.{made_patch}
 use Rattle.cuedesk.proofs.made_input.put_patch.Given as goal
 
 abbrev pub invariant-loop-before : goal.invariant-loop-before
-invariant-loop-before g l = Puts {T = Unit {0}} g.K.Sink.holds g.K.Sink.faults g.K.Sink.wants l.initial.sink l.sink (Ok tt) (flat_map made_patch (range_with_len 1 l.before))
+invariant-loop-before g l = Puts {T = Unit {0}} g.K.Sink.holds g.K.Sink.faults g.K.Sink.wants l.initial.sink l.sink (Ok tt)
+    (flat_map made_patch (range_with_len 1 l.before))

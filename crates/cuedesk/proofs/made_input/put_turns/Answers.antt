@@ -19,5 +19,6 @@ pub returns-in_err-put_turn : goal.returns-in_err-put_turn
 returns-in_err-put_turn g c =
     let k : ℕ = c.loop-before.before in
     let is = ap (turn_text (k + 1)) c.turn.ensures.turn ∙ turn_is c.args.cues k _ c.loop-before.invariant.1 in
-    Puts-is (Puts-stops (flat_map (made_turn c.args.cues) (range_with_len (1 + (k + 1)) (c.args.cues - (k + 1)))) (Puts-then c.loop-before.invariant.0 c.in_err-put_turn.ensures) c.from_residual.ensures)
+    Puts-is (Puts-stops (flat_map (made_turn c.args.cues) (range_with_len (1 + (k + 1)) (c.args.cues - (k + 1))))
+    (Puts-then c.loop-before.invariant.0 c.in_err-put_turn.ensures) c.from_residual.ensures)
     (range_around (made_turn c.args.cues) k c.args.cues _ c.loop-before-test.true is)

@@ -17,13 +17,18 @@ returns-clause-works g c = subst EndsScript (sym c.status_of.ensures) (ends_scri
 
 pub returns-clause-ended : goal.returns-clause-ended
 returns-clause-ended g c =
-    subst (λ s. IfSome (unread g.S.Source.left c.args.lines.now) (λ bytes. HasPlayed s (opened c.args.show) c.args.lines.now.taken bytes (g.S.Source.left c.session.new.lines.source.now) (g.K.Sink.holds c.args.output.now) (g.K.Sink.holds c.session.new.sink))) (sym c.status_of.ensures)
-    (has_played _ _ _ _ _ _ (opened c.args.show) _ _ c.session.result (c.session.ensures.outcome (opened c.args.show) c.in-Ok.ensures) c.session.ensures.limit)
+    subst (λ s. IfSome (unread g.S.Source.left c.args.lines.now)
+    (λ bytes. HasPlayed s (opened c.args.show) c.args.lines.now.taken bytes (g.S.Source.left c.session.new.lines.source.now)
+    (g.K.Sink.holds c.args.output.now) (g.K.Sink.holds c.session.new.sink))) (sym c.status_of.ensures)
+    (has_played _ _ _ _ _ _ (opened c.args.show) _ _ c.session.result (c.session.ensures.outcome (opened c.args.show) c.in-Ok.ensures)
+    c.session.ensures.limit)
 
 pub returns-clause-front : goal.returns-clause-front
-returns-clause-front g c = answered_front _ _ _ _ _ _ (opened c.args.show) _ _ c.session.result (c.session.ensures.outcome (opened c.args.show) c.in-Ok.ensures)
+returns-clause-front g c = answered_front _ _ _ _ _ _ (opened c.args.show) _ _ c.session.result
+    (c.session.ensures.outcome (opened c.args.show) c.in-Ok.ensures)
 
 pub returns-clause-cause : goal.returns-clause-cause
 returns-clause-cause g c =
-    subst (λ s. HasCauseOf s (g.S.Source.faults c.args.lines.now.source.now) (g.S.Source.faults c.session.new.lines.source.now) (g.K.Sink.faults c.args.output.now) (g.K.Sink.faults c.session.new.sink)) (sym c.status_of.ensures)
+    subst (λ s. HasCauseOf s (g.S.Source.faults c.args.lines.now.source.now) (g.S.Source.faults c.session.new.lines.source.now)
+    (g.K.Sink.faults c.args.output.now) (g.K.Sink.faults c.session.new.sink)) (sym c.status_of.ensures)
     (has_cause g.S.Source.faults g.K.Sink.faults g.K.Sink.wants _ _ _ _ c.session.result c.session.ensures.cause)

@@ -3,7 +3,9 @@ use Rattle.lx_console.proofs.TakenRows.{row_set, row_cleared}
 use Rattle.lx_console.proofs.stage.mend_row.Goals as goal
 
 pub returns-in-Some : goal.returns-in-Some
-returns-in-Some c = row_set c.args.show.now.patch c.requires.before c.args.dimmer c.in-Some.row c.set.new.self (sym c.in-Some.ensures.row) c.requires.others (c.set.ensures c.requires.before c.requires.stands)
+returns-in-Some c = row_set c.args.show.now.patch c.requires.before c.args.dimmer c.in-Some.row c.set.new.self (sym c.in-Some.ensures.row)
+    c.requires.others (c.set.ensures c.requires.before c.requires.stands)
 
 pub returns-in-None : goal.returns-in-None
-returns-in-None c = row_cleared c.args.show.now.patch c.requires.before c.args.dimmer c.clear.new.self (sym c.in-None.ensures.row) c.requires.others (c.clear.ensures c.requires.before c.requires.stands)
+returns-in-None c = row_cleared c.args.show.now.patch c.requires.before c.args.dimmer c.clear.new.self (sym c.in-None.ensures.row)
+    c.requires.others (c.clear.ensures c.requires.before c.requires.stands)

@@ -12,4 +12,5 @@ changed_until-requires-clause-above c =
     let sheet = c.args.sheet.now in
     let chan = c.args.c in
     subst (λ (to : Option ℕ). IfSome to (λ end. (m : ℕ) → end ≤ m → level_of sheet m chan ≡ tracked show m chan)) (sym c.column_end.ensures)
-    (from_there (column_end c.args.to.now show c.args.from chan) (λ m. level_of sheet m chan ≡ tracked show m chan) (λ m past. c.requires.later chan m past))
+    (from_there (column_end c.args.to.now show c.args.from chan) (λ m. level_of sheet m chan ≡ tracked show m chan)
+    (λ m past. c.requires.later chan m past))

@@ -10,7 +10,8 @@ pub mend-requires-clause-numbers : goal.mend-requires-clause-numbers
 mend-requires-clause-numbers c =
     let then : Valid (with_cue c.args.show.now c.args.cue) = subst Valid c.put_cue.ensures c.channels-2.ensures.valid in
     c.requires.sheet.numbers
-    ∙ sym (ap cue_numbers (c.put_cue-2.ensures ∙ ap (λ (s : Show). with_cue s c.args.above) c.put_cue.ensures) ∙ alone_numbers c.args.show.now c.args.cue c.args.above c.channels.ensures.valid then c.requires.keeps)
+    ∙ sym (ap cue_numbers (c.put_cue-2.ensures ∙ ap (λ (s : Show). with_cue s c.args.above) c.put_cue.ensures)
+    ∙ alone_numbers c.args.show.now c.args.cue c.args.above c.channels.ensures.valid then c.requires.keeps)
 
 pub mend-requires-clause-below : goal.mend-requires-clause-below
 mend-requires-clause-below c =
@@ -21,20 +22,28 @@ mend-requires-clause-below c =
 
 pub mend-requires-clause-later : goal.mend-requires-clause-later
 mend-requires-clause-later c =
-    let after : c.put_cue-2.new.self ≡ with_cue (with_cue c.args.show.now c.args.cue) c.args.above = c.put_cue-2.ensures ∙ ap (λ (s : Show). with_cue s c.args.above) c.put_cue.ensures in
+    let after : c.put_cue-2.new.self ≡ with_cue (with_cue c.args.show.now c.args.cue) c.args.above = c.put_cue-2.ensures
+    ∙ ap (λ (s : Show). with_cue s c.args.above) c.put_cue.ensures in
     let end : c.above.inside.number ≡ c.args.above.number = ap (λ (q : Cue). q.number) c.above.view_is in
     λ x m past. c.requires.sheet.columns x m
     ∙ sym (ap (λ (s : Show). tracked s m x) after
-    ∙ alone_later c.args.show.now c.args.cue c.args.above m x c.channels.ensures.valid (subst Valid after c.channels-3.ensures.valid) c.requires.keeps (subst (λ (k : ℕ). k ≤ m) end past))
+    ∙ alone_later c.args.show.now c.args.cue c.args.above m x c.channels.ensures.valid (subst Valid after c.channels-3.ensures.valid)
+    c.requires.keeps (subst (λ (k : ℕ). k ≤ m) end past))
 
 pub mend-requires-clause-others : goal.mend-requires-clause-others
 mend-requires-clause-others c = λ x out m.
-    c.requires.sheet.columns x m ∙ (others_alone c.args.show.now c.put_cue-2.new.self c.args.cue c.args.above c.cue.inside.number c.above.inside.number c.mark_change.new.chans c.mark_change-2.new.chans
-    c.channels.ensures.valid c.channels-3.ensures.valid (c.put_cue-2.ensures ∙ ap (λ (s : Show). with_cue s c.args.above) c.put_cue.ensures) (ap (λ (q : Cue). q.number) c.cue.view_is) (ap (λ (q : Cue). q.number) c.above.view_is)
-    c.requires.ready.valid.number.least c.requires.keeps c.mark_change-2.ensures.grows c.mark_change.ensures.same c.mark_change-2.ensures.same x out).levels m
+    c.requires.sheet.columns x m ∙ (others_alone c.args.show.now c.put_cue-2.new.self c.args.cue c.args.above c.cue.inside.number
+    c.above.inside.number c.mark_change.new.chans c.mark_change-2.new.chans
+    c.channels.ensures.valid c.channels-3.ensures.valid (c.put_cue-2.ensures ∙ ap (λ (s : Show). with_cue s c.args.above) c.put_cue.ensures)
+    (ap (λ (q : Cue). q.number) c.cue.view_is) (ap (λ (q : Cue). q.number) c.above.view_is)
+    c.requires.ready.valid.number.least c.requires.keeps c.mark_change-2.ensures.grows c.mark_change.ensures.same
+    c.mark_change-2.ensures.same x out).levels m
 
 pub returns-clause-others : goal.returns-clause-others
 returns-clause-others c =
-    others_alone c.args.show.now c.put_cue-2.new.self c.args.cue c.args.above c.cue.inside.number c.above.inside.number c.mark_change.new.chans c.mark_change-2.new.chans
-    c.channels.ensures.valid c.channels-3.ensures.valid (c.put_cue-2.ensures ∙ ap (λ (s : Show). with_cue s c.args.above) c.put_cue.ensures) (ap (λ (q : Cue). q.number) c.cue.view_is) (ap (λ (q : Cue). q.number) c.above.view_is)
-    c.requires.ready.valid.number.least c.requires.keeps c.mark_change-2.ensures.grows c.mark_change.ensures.same c.mark_change-2.ensures.same
+    others_alone c.args.show.now c.put_cue-2.new.self c.args.cue c.args.above c.cue.inside.number c.above.inside.number
+    c.mark_change.new.chans c.mark_change-2.new.chans
+    c.channels.ensures.valid c.channels-3.ensures.valid (c.put_cue-2.ensures ∙ ap (λ (s : Show). with_cue s c.args.above) c.put_cue.ensures)
+    (ap (λ (q : Cue). q.number) c.cue.view_is) (ap (λ (q : Cue). q.number) c.above.view_is)
+    c.requires.ready.valid.number.least c.requires.keeps c.mark_change-2.ensures.grows c.mark_change.ensures.same
+    c.mark_change-2.ensures.same

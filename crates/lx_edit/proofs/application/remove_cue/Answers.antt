@@ -1,9 +1,10 @@
 use Rattle.std.proofs.Common.{sym, subst}
 use Rattle.lx_spec.specs.Show.{Show}
-use Rattle.lx_spec.specs.Laws.{SameColumn}
+use Rattle.lx_edit.specs.Changing.{SameLevels}
 use Rattle.lx_edit.proofs.ChangedColumns.{column_without}
 use Rattle.lx_edit.proofs.application.remove_cue.Goals as goal
 
 pub returns-clause-others : goal.returns-clause-others
 returns-clause-others c = λ x out.
-    subst (λ (s : Show). SameColumn c.args.show.now s x) (sym c.take_cue.ensures.others) (column_without c.args.show.now c.args.n x c.channels.ensures.valid c.requires.number (c.mark_change.ensures.same x out))
+    subst (λ (s : Show). SameLevels c.args.show.now s x) (sym c.take_cue.ensures.others)
+    (column_without c.args.show.now c.args.n x c.channels.ensures.valid c.requires.number (c.mark_change.ensures.same x out))

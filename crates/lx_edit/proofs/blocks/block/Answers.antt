@@ -12,5 +12,7 @@ with_moves-requires-clause-fits c =
     let show = c.args.show.now in
     let old = c.in_ok-old.old.now in
     subst (λ (k : ℕ). AllByRecursion (Fits k c.cue.inside.parts.items) c.as_slice.result.now) (sym c.channels.ensures.channels)
-    (subst (λ (ps : List Part). AllByRecursion (Fits show.channels ps) c.as_slice.result.now) (sym (ap (λ (q : Cue). q.parts) c.cue.view_is ∙ ap (λ (q : Cue). q.parts) c.in_ok-cue.ensures))
-    (subst (λ (ms : List Move). AllByRecursion (Fits show.channels old.parts) ms) (sym (c.as_slice.ensures.value ∙ c.in_ok-moves.ensures)) (chosen_fit show old.parts _ _ c.in_ok-old.ensures.valid.first_part)))
+    (subst (λ (ps : List Part). AllByRecursion (Fits show.channels ps) c.as_slice.result.now)
+    (sym (ap (λ (q : Cue). q.parts) c.cue.view_is ∙ ap (λ (q : Cue). q.parts) c.in_ok-cue.ensures))
+    (subst (λ (ms : List Move). AllByRecursion (Fits show.channels old.parts) ms) (sym (c.as_slice.ensures.value ∙ c.in_ok-moves.ensures))
+    (chosen_fit show old.parts _ _ c.in_ok-old.ensures.valid.first_part)))

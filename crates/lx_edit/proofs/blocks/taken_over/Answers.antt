@@ -7,4 +7,6 @@ pub loop-k-preserved : goal.loop-k-preserved
 loop-k-preserved c =
     let show = c.args.show.now in
     let cue = c.args.cue.now in
-    chosen_next (λ x. is_none (move_in cue x) && not (tracked show cue.number x == 0)) (λ x. tracked show cue.number x) c.loop-k.k c.channel-c.result c.loop-k.moves.items c.add.new.moves.items c.level_taken_over-level.result c.loop-k.auto.k c.loop-k.invariant c.channel-c.ensures c.level_taken_over-level.ensures c.in_ok-add.ensures
+    chosen_next (λ x. is_none (move_in cue x) && not (tracked show cue.number x == 0)) (λ x. tracked show cue.number x) c.loop-k.k
+    c.channel-c.result c.loop-k.moves.items c.add.new.moves.items c.level_taken_over-level.result c.loop-k.auto.k c.loop-k.invariant
+    c.channel-c.ensures c.level_taken_over-level.ensures c.in_ok-add.ensures

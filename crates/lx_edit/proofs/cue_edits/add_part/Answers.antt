@@ -18,9 +18,13 @@ returns c =
     let old = c.in_ok-old.old.now in
     let here = c.in_ok-old.ensures in
     let part = new_part c.args.p in
-    let is : c.put_part.new.self ≡ with_part old part = c.put_part.ensures ∙ ap (λ (q : Cue). with_part q c.new_part.result) c.in_ok-cue.ensures ∙ ap (λ (x : Part). with_part old x) c.new_part.ensures in
-    let absent : has_entry (λ (x : Part). x.number) c.args.p old.parts ≡ false = ap is_some (sym c.part.ensures) ∙ sym c.is_some.ensures ∙ c.if-is_some.false in
+    let is : c.put_part.new.self ≡ with_part old part = c.put_part.ensures
+    ∙ ap (λ (q : Cue). with_part q c.new_part.result) c.in_ok-cue.ensures ∙ ap (λ (x : Part). with_part old x) c.new_part.ensures in
+    let absent : has_entry (λ (x : Part). x.number) c.args.p old.parts ≡ false = ap is_some (sym c.part.ensures) ∙ sym c.is_some.ensures
+    ∙ c.if-is_some.false in
     let made : edited show (AddPart c.args.n c.args.p) ≡ Ok (with_cue show (with_part old part)) = rw (here.found, absent) refl in
     let least : 1 ≤ c.args.p = subst (λ (k : ℕ). 1 ≤ k) c.get.ensures.value c.get.ensures.least in
     let most : c.args.p ≤ PARTS = subst (λ (k : ℕ). k ≤ PARTS) c.get.ensures.value c.get.ensures.most in
-    subst (λ (x : Cue). IsPlan show (AddPart c.args.n c.args.p) (PlaceCue x None)) (sym is) (places show _ c.args.n old (with_part old part) here refl (with_placed_part show.channels old part here.valid (valid_new_part c.args.p least most)) made refl refl)
+    subst (λ (x : Cue). IsPlan show (AddPart c.args.n c.args.p) (PlaceCue x None)) (sym is)
+    (places show _ c.args.n old (with_part old part) here refl
+    (with_placed_part show.channels old part here.valid (valid_new_part c.args.p least most)) made refl refl)

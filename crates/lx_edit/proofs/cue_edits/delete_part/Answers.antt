@@ -14,8 +14,12 @@ returns c =
     let show = c.args.show.now in
     let old = c.in_ok-old.old.now in
     let here = c.in_ok-old.ensures in
-    let is : c.drop_part.new.self ≡ without_part old c.args.p = c.drop_part.ensures.cue ∙ ap (λ (q : Cue). without_part q c.args.p) c.in_ok-cue.ensures in
+    let is : c.drop_part.new.self ≡ without_part old c.args.p = c.drop_part.ensures.cue
+    ∙ ap (λ (q : Cue). without_part q c.args.p) c.in_ok-cue.ensures in
     let other : 1 ≡ c.args.p → ⊥ = λ same. c.if-get-eq1.false (c.get.ensures.value ∙ sym same) in
     let not_base : (c.args.p == 1) ≡ false = grind (arith, nat_tests) in
-    let made : edited show (DeletePart c.args.n c.args.p) ≡ Ok (with_cue show (without_part old c.args.p)) = rw (here.found, c.in_ok-the_part.ensures, not_base) refl in
-    subst (λ (x : Cue). IsPlan show (DeletePart c.args.n c.args.p) (PlaceCue x None)) (sym is) (places show _ c.args.n old (without_part old c.args.p) here refl (valid_without_part show.channels c.args.p old other here.valid) made refl refl)
+    let made : edited show (DeletePart c.args.n c.args.p) ≡ Ok (with_cue show (without_part old c.args.p)) =
+    rw (here.found, c.in_ok-the_part.ensures, not_base) refl in
+    subst (λ (x : Cue). IsPlan show (DeletePart c.args.n c.args.p) (PlaceCue x None)) (sym is)
+    (places show _ c.args.n old (without_part old c.args.p) here refl (valid_without_part show.channels c.args.p old other here.valid)
+    made refl refl)

@@ -12,4 +12,5 @@ with_moves-requires-clause-fits c =
     let above = c.args.above.now in
     subst (λ (k : ℕ). AllByRecursion (Fits k c.in_ok-copy.field-0.parts) c.as_slice.result.now) (sym c.channels.ensures.channels)
     (subst (λ (q : Cue). AllByRecursion (Fits show.channels q.parts) c.as_slice.result.now) (sym c.in_ok-copy.ensures)
-    (subst (λ (ms : List Move). AllByRecursion (Fits show.channels above.parts) ms) (sym (c.as_slice.ensures.value ∙ c.in_ok-moves.ensures)) (chosen_fit show above.parts _ _ c.requires.valid.first_part)))
+    (subst (λ (ms : List Move). AllByRecursion (Fits show.channels above.parts) ms) (sym (c.as_slice.ensures.value ∙ c.in_ok-moves.ensures))
+    (chosen_fit show above.parts _ _ c.requires.valid.first_part)))

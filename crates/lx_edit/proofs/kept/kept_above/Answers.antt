@@ -13,21 +13,30 @@ pub returns-in-None-clause-above : goal.returns-in-None-clause-above
 returns-in-None-clause-above c =
     let show = c.args.show.now in
     let after = changed_show show c.args.n (option_copied c.args.new) in
-    let none : cue_above after c.args.n ≡ None = cue_above-changed show c.args.n (option_copied c.args.new) (lent_number c.args.n c.args.new c.requires.number) ∙ sym c.in-None.ensures.above in
+    let none : cue_above after c.args.n ≡ None =
+    cue_above-changed show c.args.n (option_copied c.args.new) (lent_number c.args.n c.args.new c.requires.number)
+    ∙ sym c.in-None.ensures.above in
     let only : c.args.only ≡ true = search rules in
-    sym (ap (λ (o : Option Cue). option_map_or (kept_above show after) o after) none) ∙ ap (λ (b : Bool). cue_only b show c.args.n after) (sym only)
+    sym (ap (λ (o : Option Cue). option_map_or (kept_above show after) o after) none)
+    ∙ ap (λ (b : Bool). cue_only b show c.args.n after) (sym only)
 
 pub returns-in_ok-keeping-in-Some-clause-above : goal.returns-in_ok-keeping-in-Some-clause-above
 returns-in_ok-keeping-in-Some-clause-above c =
     let show = c.args.show.now in
     let after = changed_show show c.args.n (option_copied c.args.new) in
-    let there : cue_above after c.args.n ≡ Some c.in-Some.above.now = cue_above-changed show c.args.n (option_copied c.args.new) (lent_number c.args.n c.args.new c.requires.number) ∙ sym c.in-Some.ensures.above in
+    let there : cue_above after c.args.n ≡ Some c.in-Some.above.now =
+    cue_above-changed show c.args.n (option_copied c.args.new) (lent_number c.args.n c.args.new c.requires.number)
+    ∙ sym c.in-Some.ensures.above in
     let only : c.args.only ≡ true = search rules in
-    ap (λ (cue : Cue). with_cue after cue) c.in_ok-keeping-in-Some.ensures.kept ∙ sym (ap (λ (o : Option Cue). option_map_or (kept_above show after) o after) there) ∙ ap (λ (b : Bool). cue_only b show c.args.n after) (sym only)
+    ap (λ (cue : Cue). with_cue after cue) c.in_ok-keeping-in-Some.ensures.kept
+    ∙ sym (ap (λ (o : Option Cue). option_map_or (kept_above show after) o after) there)
+    ∙ ap (λ (b : Bool). cue_only b show c.args.n after) (sym only)
 
 pub returns-in_ok-keeping-in-Some-clause-valid : goal.returns-in_ok-keeping-in-Some-clause-valid
 returns-in_ok-keeping-in-Some-clause-valid c =
-    above_fits c.args.show.now c.args.n (option_copied c.args.new) c.in-Some.above.now _ (lent_number c.args.n c.args.new c.requires.number) (sym c.in-Some.ensures.above) (ap (λ (cue : Cue). cue.number) c.in_ok-keeping-in-Some.ensures.kept) c.in_ok-keeping-in-Some.ensures.valid
+    above_fits c.args.show.now c.args.n (option_copied c.args.new) c.in-Some.above.now _ (lent_number c.args.n c.args.new c.requires.number)
+    (sym c.in-Some.ensures.above) (ap (λ (cue : Cue). cue.number) c.in_ok-keeping-in-Some.ensures.kept)
+    c.in_ok-keeping-in-Some.ensures.valid
 
 pub returns-in_ok-keeping-in-Some-clause-keeps : goal.returns-in_ok-keeping-in-Some-clause-keeps
 returns-in_ok-keeping-in-Some-clause-keeps c =
@@ -35,7 +44,10 @@ returns-in_ok-keeping-in-Some-clause-keeps c =
     let new = option_copied c.args.new in
     let after = changed_show show c.args.n new in
     let number = lent_number c.args.n c.args.new c.requires.number in
-    let there : cue_above after c.args.n ≡ Some c.in-Some.above.now = cue_above-changed show c.args.n new number ∙ sym c.in-Some.ensures.above in
+    let there : cue_above after c.args.n ≡ Some c.in-Some.above.now = cue_above-changed show c.args.n new number
+    ∙ sym c.in-Some.ensures.above in
     keeps_above show c.args.n new c.args.old.now c.in-Some.above.now c.in_ok-keeping-in-Some.field-0 c.channels.ensures.valid.cues_sorted
-    (cue_least show c.args.n c.args.old.now c.requires.there) c.requires.there number (sym c.in-Some.ensures.above) (ap (λ (cue : Cue). cue.number) c.in_ok-keeping-in-Some.ensures.kept)
-    (ap (λ (cue : Cue). with_cue after cue) c.in_ok-keeping-in-Some.ensures.kept ∙ sym (ap (λ (o : Option Cue). option_map_or (kept_above show after) o after) there))
+    (cue_least show c.args.n c.args.old.now c.requires.there) c.requires.there number (sym c.in-Some.ensures.above)
+    (ap (λ (cue : Cue). cue.number) c.in_ok-keeping-in-Some.ensures.kept)
+    (ap (λ (cue : Cue). with_cue after cue) c.in_ok-keeping-in-Some.ensures.kept
+    ∙ sym (ap (λ (o : Option Cue). option_map_or (kept_above show after) o after) there))

@@ -4,4 +4,5 @@ use Rattle.lx_edit.proofs.CueLevels.{valid_without_moves}
 use Rattle.lx_edit.proofs.levels.release.Goals as goal
 
 pub place-requires-clause-valid : goal.place-requires-clause-valid
-place-requires-clause-valid c = subst (ValidCue c.args.show.now.channels) (sym c.in_ok-cue.ensures) (valid_without_moves c.args.show.now.channels c.in_ok-old.old.now c.args.range c.in_ok-old.ensures.valid)
+place-requires-clause-valid c = subst (ValidCue c.args.show.now.channels) (sym c.in_ok-cue.ensures)
+    (valid_without_moves c.args.show.now.channels c.in_ok-old.old.now c.args.range c.in_ok-old.ensures.valid)

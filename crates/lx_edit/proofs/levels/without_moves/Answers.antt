@@ -7,7 +7,8 @@ use Rattle.lx_edit.proofs.CueLevels.{none_left_out, one_left_out}
 use Rattle.lx_edit.proofs.levels.without_moves.Goals as goal
 
 pub loop-n-init : goal.loop-n-init
-loop-n-init c = c.in_ok-changed.ensures ∙ ap (λ (ms : List Move). record c.args.cue.now { moves = ms }) (none_left_out c.get-first.result c.get-first.result c.args.cue.now.moves refl)
+loop-n-init c = c.in_ok-changed.ensures ∙ ap (λ (ms : List Move). record c.args.cue.now { moves = ms })
+    (none_left_out c.get-first.result c.get-first.result c.args.cue.now.moves refl)
 
 pub loop-n-preserved : goal.loop-n-preserved
 loop-n-preserved c =
@@ -15,7 +16,8 @@ loop-n-preserved c =
     let n = c.loop-n.n in
     let cue = c.args.cue.now in
     let left : ℕ → List Move = λ k. filter (λ m. not (nat_le first m.chan && nat_lt m.chan k)) cue.moves in
-    let dropped : c.drop_move.new.self ≡ record c.loop-n.changed { moves = taken_out (λ (m : Move). m.chan) c.channel.result c.loop-n.changed.moves } = c.drop_move.ensures.others in
+    let dropped : c.drop_move.new.self ≡ record c.loop-n.changed
+    { moves = taken_out (λ (m : Move). m.chan) c.channel.result c.loop-n.changed.moves } = c.drop_move.ensures.others in
     let before : c.loop-n.changed ≡ record cue { moves = left n } = c.loop-n.invariant in
     dropped
     ∙ ap (λ (q : Cue). record q { moves = taken_out (λ (m : Move). m.chan) c.channel.result q.moves }) before

@@ -15,10 +15,12 @@ returns-then-get c =
     c.index-moves-next-then-get.is ∙ get_or_default moves next entry c.index-moves-next.result within ∙ sym c.index-moves-next.is in
     let here : entry.chan ≡ c.args.c = omega (arith, ap (λ (m : Move). m.chan) same, ap (λ (m : Move). m.chan) c.index-moves-next.is) in
     sym (stands_entry (λ (m : Move). m.chan) c.args.c next moves moves entry refl
-    (stands_where (λ (m : Move). m.chan) c.args.c moves next entry c.requires within c.index-moves-next-then-get.is here) c.index-moves-next-then-get.is)
+    (stands_where (λ (m : Move). m.chan) c.args.c moves next entry c.requires within c.index-moves-next-then-get.is here)
+    c.index-moves-next-then-get.is)
 
 pub returns-in-Ok : goal.returns-in-Ok
 returns-in-Ok c =
     let moves : List Move = c.args.moves.now in
     sym (ap (λ k. entry_at (λ (m : Move). m.chan) k moves) (sym c.get-2.ensures.value)
-    ∙ stands_entry (λ (m : Move). m.chan) c.get-2.result c.in-Ok.at moves moves c.index-moves-at.result refl c.in-Ok.ensures.stands c.index-moves-at.is)
+    ∙ stands_entry (λ (m : Move). m.chan) c.get-2.result c.in-Ok.at moves moves c.index-moves-at.result refl c.in-Ok.ensures.stands
+    c.index-moves-at.is)

@@ -16,6 +16,10 @@ returns-then-is_block-clause-same c =
     λ x out.
     let second = c.mark_tracked.ensures.grows x out in
     let first = c.mark_moves-2.ensures.grows x second in
-    let moves : move_by old x ≡ move_by new x = same_both_ways (move_by old x) (move_by new x) (c.mark_moves.ensures.marked x first) (c.mark_moves-2.ensures.marked x second) in
-    let none : move_by new x ≡ None → tracked show (n - 1) x ≡ 0 = λ absent. nothing_tracks show (n - 1) x c.channels.ensures.valid (λ least most. sym (c.requires.columns x (n - 1)) ∙ c.mark_tracked.ensures.marked x least most out absent) in
-    subst (λ (o : Option Cue). SameEntry o new x (tracked show (n - 1) x)) c.cue-old.ensures.cue (same_entry old new x (tracked show (n - 1) x) moves none)
+    let moves : move_by old x ≡ move_by new x =
+    same_both_ways (move_by old x) (move_by new x) (c.mark_moves.ensures.marked x first) (c.mark_moves-2.ensures.marked x second) in
+    let none : move_by new x ≡ None → tracked show (n - 1) x ≡ 0 =
+    λ absent. nothing_tracks show (n - 1) x c.channels.ensures.valid
+    (λ least most. sym (c.requires.columns x (n - 1)) ∙ c.mark_tracked.ensures.marked x least most out absent) in
+    subst (λ (o : Option Cue). SameEntry o new x (tracked show (n - 1) x)) c.cue-old.ensures.cue
+    (same_entry old new x (tracked show (n - 1) x) moves none)

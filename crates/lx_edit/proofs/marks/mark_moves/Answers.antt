@@ -16,5 +16,7 @@ returns-in-Some-clause-marked c =
     let chans = c.mark_all.new.chans in
     let there : option_copied c.args.cue ≡ Some cue = search rules in
     let moves : c.as_slice.result.now ≡ cue.moves = c.as_slice.ensures.entries ∙ ap (λ (q : Cue). q.moves) c.cue.view_is in
-    let all = subst (λ (ms : List Move). AllByRecursion (λ (m : Move). has_chan chans m.chan ≡ false → move_by other m.chan ≡ Some m) ms) moves c.mark_all.ensures.marked in
-    λ x out. subst (λ (o : Option Cue). IfSome (move_by o x) (λ m. move_by other x ≡ Some m)) (sym there) (found_marked chans cue other x out all)
+    let all = subst (λ (ms : List Move). AllByRecursion (λ (m : Move). has_chan chans m.chan ≡ false → move_by other m.chan ≡ Some m) ms)
+    moves c.mark_all.ensures.marked in
+    λ x out. subst (λ (o : Option Cue). IfSome (move_by o x) (λ m. move_by other x ≡ Some m)) (sym there)
+    (found_marked chans cue other x out all)

@@ -14,4 +14,6 @@ put_members-requires-clause-within c =
     let order : first ≤ last = within.order in
     let most : last ≤ channels = within.most in
     subst (λ (n : ℕ). AllByRecursion (λ (m : Member). m.chan ≤ n) c.as_slice.result.now) (sym c.channels.ensures.channels)
-    (subst (λ (ms : List Member). AllByRecursion (λ (m : Member). m.chan ≤ channels) ms) (sym (c.as_slice.ensures.value ∙ c.in_ok-members.ensures)) (levels_within c.args.level first (last + 1 - first) channels (omega (arith, order, most))))
+    (subst (λ (ms : List Member). AllByRecursion (λ (m : Member). m.chan ≤ channels) ms)
+    (sym (c.as_slice.ensures.value ∙ c.in_ok-members.ensures))
+    (levels_within c.args.level first (last + 1 - first) channels (omega (arith, order, most))))

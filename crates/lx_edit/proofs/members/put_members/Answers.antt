@@ -17,11 +17,14 @@ loop-member-preserved c =
     let member = c.member-item.result in
     let i = c.loop-member.member-index in
     let put = λ (ms : List Member) (m : Member). placed (λ (x : Member). x.chan) m ms in
-    let within : member.chan ≤ channels = subst (λ (m : Member). m.chan ≤ channels) (sym c.member-item.is) (All-from_recursion (λ (m : Member). m.chan ≤ channels) members c.requires.within i member c.loop-member-test.true) in
+    let within : member.chan ≤ channels = subst (λ (m : Member). m.chan ≤ channels) (sym c.member-item.is)
+    (All-from_recursion (λ (m : Member). m.chan ≤ channels) members c.requires.within i member c.loop-member-test.true) in
     record {
       is = c.in_ok-put.ensures.ok
           ∙ ap (λ (ms : List Member). put ms member) c.loop-member.invariant.is
           ∙ ap (λ (m : Member). put (with_members start (take i members)) m) c.member-item.is
           ∙ sym (fold_more put start members i member c.loop-member-test.true);
-      valid = subst (ValidMembers channels) (sym c.in_ok-put.ensures.ok) (with_member channels member c.loop-member.list c.loop-member.invariant.valid (record { chan = record { least = c.of_member.ensures.chan.least; most = within }; level = c.of_member.ensures.level }));
+      valid = subst (ValidMembers channels) (sym c.in_ok-put.ensures.ok)
+          (with_member channels member c.loop-member.list c.loop-member.invariant.valid
+          (record { chan = record { least = c.of_member.ensures.chan.least; most = within }; level = c.of_member.ensures.level }));
     }

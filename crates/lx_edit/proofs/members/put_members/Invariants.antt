@@ -4,4 +4,7 @@ use Rattle.lx_spec.specs.EditedShow.{with_members}
 use Rattle.lx_edit.proofs.members.put_members.Given as goal
 
 abbrev pub invariant-loop-member : goal.invariant-loop-member
-invariant-loop-member l = record { is : l.list ≡ with_members l.initial.list (take l.member-index l.members); valid : ValidMembers l.channels l.list }
+invariant-loop-member l = record {
+  is : l.list ≡ with_members l.initial.list (take l.member-index l.members);
+  valid : ValidMembers l.channels l.list;
+}

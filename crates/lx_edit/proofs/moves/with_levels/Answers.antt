@@ -10,4 +10,5 @@ pub with_moves-requires-clause-fits : goal.with_moves-requires-clause-fits
 with_moves-requires-clause-fits c =
     let cue = c.args.cue.now in
     subst (λ (q : Cue). AllByRecursion (Fits c.args.channels q.parts) c.as_slice.result.now) (sym c.in_ok-copy.ensures)
-    (subst (λ (ms : List Move). AllByRecursion (Fits c.args.channels cue.parts) ms) (sym (c.as_slice.ensures.value ∙ c.in_ok-moves.ensures)) (moves_fit c.args.channels cue c.args.part c.args.members.now c.requires.valid c.requires.part c.requires.channels))
+    (subst (λ (ms : List Move). AllByRecursion (Fits c.args.channels cue.parts) ms) (sym (c.as_slice.ensures.value ∙ c.in_ok-moves.ensures))
+    (moves_fit c.args.channels cue c.args.part c.args.members.now c.requires.valid c.requires.part c.requires.channels))

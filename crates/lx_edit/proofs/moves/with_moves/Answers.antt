@@ -19,12 +19,22 @@ loop-entry-preserved c =
     let i = c.loop-entry.entry-index in
     let put = λ (ms : List Move) (m : Move). placed (λ (x : Move). x.chan) m ms in
     let same_parts : c.loop-entry.changed.parts ≡ cue.parts = ap (λ (q : Cue). q.parts) c.loop-entry.invariant.is in
-    let fits : Fits channels cue.parts entry = subst (Fits channels cue.parts) (sym c.entry-item.is) (All-from_recursion (Fits channels cue.parts) moves c.requires.fits i entry c.loop-entry-test.true) in
-    let valid_move : ValidMove channels c.loop-entry.changed.parts entry = subst (λ (ps : List Part). ValidMove channels ps entry) (sym same_parts) (record { chan = record { least = c.of_move.ensures.chan.least; most = fits.chan }; part = fits.part; level = c.of_move.ensures.level }) in
+    let fits : Fits channels cue.parts entry =
+    subst (Fits channels cue.parts) (sym c.entry-item.is)
+    (All-from_recursion (Fits channels cue.parts) moves c.requires.fits i entry c.loop-entry-test.true) in
+    let valid_move : ValidMove channels c.loop-entry.changed.parts entry =
+    subst (λ (ps : List Part). ValidMove channels ps entry) (sym same_parts)
+    (record {
+      chan = record { least = c.of_move.ensures.chan.least; most = fits.chan };
+      part = fits.part;
+      level =
+          c.of_move.ensures.level;
+    }) in
     record {
       is = c.in_ok-put_move.ensures.ok
           ∙ ap (λ (q : Cue). record q { moves = put q.moves entry }) c.loop-entry.invariant.is
           ∙ ap (λ (m : Move). record cue { moves = put (with_moves cue (take i moves)).moves m }) c.entry-item.is
           ∙ ap (λ (ms : List Move). record cue { moves = ms }) (sym (fold_more put cue.moves moves i entry c.loop-entry-test.true));
-      valid = subst (ValidCue channels) (sym c.in_ok-put_move.ensures.ok) (with_move channels c.loop-entry.changed entry c.loop-entry.invariant.valid valid_move);
+      valid = subst (ValidCue channels) (sym c.in_ok-put_move.ensures.ok)
+          (with_move channels c.loop-entry.changed entry c.loop-entry.invariant.valid valid_move);
     }

@@ -6,4 +6,7 @@ use Rattle.lx_gate.proofs.tap.keep_later.Goals as goal
 
 pub returns-then-stamp-note : goal.returns-then-stamp-note
 returns-then-stamp-note c = λ show list v f.
-    rw (longest_second list (list_of c.args.note.now) (omega (arith, v.count_is, f.count_is, c.if-stamp-note.true)), c.copy_from_slice.ensures.after) (frame_from _ _ _ _ _ _ _ c.requires.low c.requires.high (omega (arith, c.requires.low)) v)
+    rw (
+      longest_second list (list_of c.args.note.now) (omega (arith, v.count_is, f.count_is, c.if-stamp-note.true)),
+      c.copy_from_slice.ensures.after,
+    ) (frame_from _ _ _ _ _ _ _ c.requires.low c.requires.high (omega (arith, c.requires.low)) v)

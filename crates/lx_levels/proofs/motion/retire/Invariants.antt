@@ -7,7 +7,8 @@ abbrev pub invariant-loop-j : goal.invariant-loop-j
 invariant-loop-j l = record {
   count : l.j ≤ l.roster.count;
   reach : length l.roster.order ≡ length l.fn.roster.order;
-  right : (stacks : List Stack) (levels : List ℕ) → IsRight l.m l.fn.roster stacks l.currents levels → IsRight l.m l.roster stacks l.currents levels;
+  right : (stacks : List Stack) (levels : List ℕ) → IsRight l.m l.fn.roster stacks l.currents levels
+      → IsRight l.m l.roster stacks l.currents levels;
 }
 
 abbrev pub decreases-loop-j : goal.decreases-loop-j

@@ -8,7 +8,8 @@ invariant-loop-left l = record {
   within : l.left ≤ length l.fades;
   wake : l.m < l.wake;
   most : l.wake ≤ NEVER;
-  same : (x : ℕ) → l.m ≤ x → (x < l.wake) ⊎ (l.wake ≡ NEVER) → stack_at l.bottom (reverse l.fades) x ≡ stack_at l.bottom (reverse (take l.left l.fades)) x;
+  same : (x : ℕ) → l.m ≤ x → (x < l.wake) ⊎ (l.wake ≡ NEVER)
+      → stack_at l.bottom (reverse l.fades) x ≡ stack_at l.bottom (reverse (take l.left l.fades)) x;
 }
 
 abbrev pub decreases-loop-left : goal.decreases-loop-left

@@ -11,5 +11,6 @@ returns-in_err-place c =
 pub returns : goal.returns
 returns c =
     let h = position-some (λ b. b == c.args.mark) c.args.text.now c.in_ok-place.place (sym c.place_of.ensures ∙ c.in_ok-place.was) in
-    let e = take_all (length c.args.text.now - (c.in_ok-place.place + 1)) (drop (c.in_ok-place.place + 1) c.args.text.now) (rw length-drop (omega arith)) in
+    let e = take_all (length c.args.text.now - (c.in_ok-place.place + 1)) (drop (c.in_ok-place.place + 1) c.args.text.now)
+    (rw length-drop (omega arith)) in
     (h.0, ap (λ k. take k c.args.text.now) (sym h.1), e ∙ ap (λ k. drop (k + 1) c.args.text.now) (sym h.1))

@@ -21,11 +21,13 @@ returns-in_default c =
 pub returns-then-b-eq33 : goal.returns-then-b-eq33
 returns-then-b-eq33 c =
     let e = c.if-b-eq33.true in
-    next-comment is_separator begins_comment apart c.args.line.now _ c.past_separators-start.ensures _ _ (first _ c.in-len1-up.len_at_least) (rw e refl)
+    next-comment is_separator begins_comment apart c.args.line.now _ c.past_separators-start.ensures _ _ (first _ c.in-len1-up.len_at_least)
+    (rw e refl)
 
 pub returns : goal.returns
 returns c =
     let e = c.if-b-eq33.false in
     let odd : begins_comment (get_or c.past_separators-start.result.now 0 0) ≡ false = grind (arith, nat_tests) in
-    let h = next-token is_separator begins_comment apart c.args.line.now _ c.past_separators-start.ensures _ _ c.past_token-rest.result.now (first _ c.in-len1-up.len_at_least) odd c.past_token-rest.ensures.rest in
+    let h = next-token is_separator begins_comment apart c.args.line.now _ c.past_separators-start.ensures _ _ c.past_token-rest.result.now
+    (first _ c.in-len1-up.len_at_least) odd c.past_token-rest.ensures.rest in
     (h.0, h.1 ∙ ap (after_all (goes is_separator begins_comment)) c.past_separators-start.ensures)

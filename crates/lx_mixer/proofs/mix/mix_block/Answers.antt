@@ -1,11 +1,10 @@
 use Rattle.std.proofs.Common.{ℕ, ◌-◌, max, ◌∙◌, arith}
-use Rattle.std.proofs.lemmas.Simd.{get_or-replicate}
 use Rattle.lx_base.specs.Numbers.{scaled}
 use Rattle.lx_base.proofs.Lanes.{stored_below, stored_at, loaded}
 use Rattle.lx_mixer.proofs.mix.mix_block.Goals as goal
 
 pub returns-clause-before : goal.returns-clause-before
-returns-clause-before c = λ k less. stored_below c.args.out.now c.scale_lanes.result c.args.at k less
+returns-clause-before c = λ k less. stored_below c.args.out.now c.under.result c.args.at k less
 
 pub returns-clause-block : goal.returns-clause-block
 returns-clause-block c = λ k least less.
@@ -13,6 +12,6 @@ returns-clause-block c = λ k least less.
     let playback = c.args.playback.now in
     let subs = c.args.subs.now in
     let place : ℕ = k - at in
-    stored_at c.args.out.now c.scale_lanes.result _ at k c.requires.out c.scale_lanes.ensures least less
-    ∙ (λ i. scaled (c.greater.ensures.each place (omega arith) i) (get_or-replicate 32 place c.args.master 0 (omega arith) i))
+    stored_at c.args.out.now c.under.result _ at k c.requires.out c.under.ensures least less
+    ∙ (λ i. scaled (c.greater.ensures.each place (omega arith) i) c.args.master)
     ∙ (λ i. scaled (max (loaded playback at k least less i) (loaded subs at k least less i)) c.args.master)

@@ -1,6 +1,5 @@
 use Rattle.std.proofs.Common.{ℕ, ◌-◌, ◌+◌, ◌≡◌, get_or, ◌∙◌, ap, arith}
-use Rattle.std.proofs.lemmas.Simd.{get_or-chunk, get_or-put_chunk_above}
-use lib.Lanes.{chunk}
+use Rattle.std.proofs.lemmas.Simd.{get_or-put_chunk_above}
 use Rattle.lx_base.specs.Numbers.{scaled}
 use Rattle.lx_base.proofs.Lanes.{stored_below, stored_at, loaded}
 use Rattle.lx_patch.proofs.slots.fill_block.Goals as goal
@@ -13,14 +12,13 @@ returns-clause-block c = λ k least less.
     let at = c.args.at in
     let places = c.args.places.now in
     let outs = c.args.outs.now in
-    let gathered = c.gather-gathered.result in
     let place : ℕ = k - at in
-    let first : 0 + place ≡ place = omega arith in
     let back : at + place ≡ k = omega arith in
-    let output : get_or (chunk 0 32 gathered) place 0 ≡ get_or outs (get_or places k 0) 0 =
-    get_or-chunk 0 32 gathered place 0 (omega arith) ∙ ap (λ n. get_or gathered n 0) first ∙ c.gather-gathered.ensures place (omega arith) ∙ ap (λ n. get_or outs (get_or places n 0) 0) back in
+    let output : get_or c.gather-outs.result place 0 ≡ get_or outs (get_or places k 0) 0 =
+    c.gather-outs.ensures.each place (omega arith) ∙ ap (λ n. get_or outs (get_or places n 0) 0) back in
     stored_at c.args.slots.now c.scale_lanes.result _ at k c.requires.slots c.scale_lanes.ensures least less
     ∙ (λ i. scaled (output i) (loaded c.args.levels.now at k least less i))
 
 pub returns-clause-after : goal.returns-clause-after
-returns-clause-after c = λ k past. get_or-put_chunk_above c.args.at c.args.slots.now c.scale_lanes.result k 0 (omega (arith, c.scale_lanes.ensures.long))
+returns-clause-after c = λ k past. get_or-put_chunk_above c.args.at c.args.slots.now c.scale_lanes.result k 0
+    (omega (arith, c.scale_lanes.ensures.long))

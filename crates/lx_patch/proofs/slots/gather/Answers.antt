@@ -1,16 +1,17 @@
-use Rattle.std.proofs.Common.{◌+◌, ℕ, get_or, get_or-set_other, ap, sym, ◌∙◌, inl, inr, arith}
-use Rattle.std.proofs.Math.ListN.{length-set}
-use Rattle.std.proofs.lemmas.Bool.{cases_eq}
-use Rattle.std.proofs.lemmas.Grind.{get_or-set_at}
+use Rattle.std.proofs.Common.{arith, rules}
+use Rattle.lx_patch.proofs.PlaceRows.{run_lanes, own_lanes}
+use Rattle.lx_patch.proofs.slots.gather.Goals.{then-first-outs+then-is_run, else-first-outs}
 use Rattle.lx_patch.proofs.slots.gather.Goals as goal
 
-pub loop-k-preserved : goal.loop-k-preserved
-loop-k-preserved c =
-    let output : ℕ = get_or c.args.outs.now (get_or c.args.places.now (c.args.at + c.loop-k.k) 0) 0 in
-    record {
-      long = length-set c.loop-k.gathered c.loop-k.k output ∙ c.loop-k.invariant.long;
-      each = λ k less. elim (cases_eq k c.loop-k.k) [
-        | inl here ↦ get_or-set_at c.loop-k.gathered c.loop-k.k k output 0 here (omega (arith, c.loop-k.invariant.long)) ∙ ap (λ n. get_or c.args.outs.now (get_or c.args.places.now (c.args.at + n) 0) 0) (sym here)
-        | inr other ↦ get_or-set_other c.loop-k.gathered c.loop-k.k k output 0 other ∙ c.loop-k.invariant.each k (omega arith)
-      ];
-    }
+pub returns : goal.returns
+returns c =
+    let places = c.args.places.now in
+    let outs = c.args.outs.now in
+    elim c.if-first-outs.branch [
+      | then-first-outs+then-is_run w ↦
+          run_lanes places outs c.if-first-outs.result c.args.at (omega (arith, w.if-first-outs.true))
+          (w.is_run.ensures w.if-is_run.true) w.result-is
+      | else-first-outs w ↦
+          own_lanes places outs c.if-first-outs.result c.args.at w.gather_by_one-gathered.result (search rules)
+          w.gather_by_one-gathered.ensures w.result-is
+    ]

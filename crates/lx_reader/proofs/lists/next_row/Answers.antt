@@ -8,5 +8,8 @@ returns-in-Ok-read_level-clause-list c =
     let first = c.in-Some.ensures in
     let second = c.in-Some-next.ensures in
     let third = c.in-Some-next-2.ensures in
-    ap (all_triples c.args.i) (first.steps ∙ ap (λ v. c.in-Some.first.now ∷ v) (second.steps ∙ ap (λ v. c.in-Some-next.second.now ∷ v) third.steps))
-    ∙ all_triples-first c.args.i c.in-Some.first.now c.in-Some-next.second.now c.in-Some-next-2.third.now _ (record { dimmer = c.in-Ok-read_dimmer.dimmer; chan = c.in-Ok.chan; level = c.in-Ok-read_level.level }) (sym (c.in-Ok.ensures)) (sym (c.in-Ok-read_dimmer.ensures)) (sym (c.in-Ok-read_level.ensures))
+    ap (all_triples c.args.i) (first.steps ∙ ap (λ v. c.in-Some.first.now ∷ v)
+    (second.steps ∙ ap (λ v. c.in-Some-next.second.now ∷ v) third.steps))
+    ∙ all_triples-first c.args.i c.in-Some.first.now c.in-Some-next.second.now c.in-Some-next-2.third.now _
+    (record { dimmer = c.in-Ok-read_dimmer.dimmer; chan = c.in-Ok.chan; level = c.in-Ok-read_level.level }) (sym (c.in-Ok.ensures))
+    (sym (c.in-Ok-read_dimmer.ensures)) (sym (c.in-Ok-read_level.ensures))

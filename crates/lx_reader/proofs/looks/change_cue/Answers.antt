@@ -6,12 +6,16 @@ pub replace_moves-requires : goal.replace_moves-requires
 replace_moves-requires c =
     let xs = c.cues-cues.result.now in
     let number : c.cue.inside.number ≡ c.index-cues-at.result.number = cc in
-    fit_at c.args.show.now xs (take c.args.at xs) c.args.at c.channels-channels.result c.cue.inside.number c.index-cues-at.result c.in_ok-moves.moves
-    c.cues-cues.ensures.cues c.requires c.index-cues-at.is refl c.channels-channels.ensures.channels number c.cues-cues.ensures.valid c.in_ok-moves.ensures
+    fit_at c.args.show.now xs (take c.args.at xs) c.args.at c.channels-channels.result c.cue.inside.number c.index-cues-at.result
+    c.in_ok-moves.moves
+    c.cues-cues.ensures.cues c.requires c.index-cues-at.is refl c.channels-channels.ensures.channels number c.cues-cues.ensures.valid
+    c.in_ok-moves.ensures
 
 pub returns : goal.returns
 returns c =
     let xs = c.cues-cues.result.now in
     let number : c.cue.inside.number ≡ c.index-cues-at.result.number = cc in
-    changed_at c.args.show.now c.replace_moves.new.self xs (take c.args.at xs) c.args.at c.channels-channels.result c.cue.inside.number c.index-cues-at.result c.in_ok-moves.moves
-    c.cues-cues.ensures.cues c.index-cues-at.is refl c.channels-channels.ensures.channels number c.cues-cues.ensures.valid c.in_ok-moves.ensures c.replace_moves.ensures.after
+    changed_at c.args.show.now c.replace_moves.new.self xs (take c.args.at xs) c.args.at c.channels-channels.result c.cue.inside.number
+    c.index-cues-at.result c.in_ok-moves.moves
+    c.cues-cues.ensures.cues c.index-cues-at.is refl c.channels-channels.ensures.channels number c.cues-cues.ensures.valid
+    c.in_ok-moves.ensures c.replace_moves.ensures.after

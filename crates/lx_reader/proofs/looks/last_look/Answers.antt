@@ -5,4 +5,5 @@ use Rattle.lx_reader.proofs.looks.last_look.Goals as goal
 
 pub returns-in-len1-up : goal.returns-in-len1-up
 returns-in-len1-up c =
-    c.level_of.ensures ∙ ap (λ z. level_in z c.args.chan) c.last-item.is ∙ sym (last_look-at c.args.front.now c.last-item.result c.args.chan (omega arith))
+    c.level_of.ensures ∙ ap (λ z. level_in z c.args.chan) c.last-item.is
+    ∙ sym (last_look-at c.args.front.now c.last-item.result c.args.chan (omega arith))

@@ -8,21 +8,29 @@ use Rattle.lx_reader.proofs.pass.read_line.Goals as goal
 pub returns-in-Ok-clause-turn : goal.returns-in-Ok-clause-turn
 returns-in-Ok-clause-turn g c =
     let e = c.in-Line.ensures in
-    line_turn g.S.Source.left g.S.Source.faults c.args.lines.now c.advance.new.self c.args.reader.now c.step.new.self (Ok c.in-Ok.field-0) e.step.0 c.line.result.now c.number.result
-    (handed_one g.S.Source.left g.S.Source.faults c.args.lines.now c.advance.new.self e.step.0 e.step.1 e.number e.going e.same_reference e.later) (c.line.ensures.line ∙ e.step.2) (c.number.ensures ∙ e.number) c.in-Ok.ensures
+    line_turn g.S.Source.left g.S.Source.faults c.args.lines.now c.advance.new.self c.args.reader.now c.step.new.self (Ok c.in-Ok.field-0)
+    e.step.0 c.line.result.now c.number.result
+    (handed_one g.S.Source.left g.S.Source.faults c.args.lines.now c.advance.new.self e.step.0 e.step.1 e.number e.going e.same_reference
+    e.later) (c.line.ensures.line ∙ e.step.2) (c.number.ensures ∙ e.number) c.in-Ok.ensures
 
 pub returns-in-Err-clause-turn : goal.returns-in-Err-clause-turn
 returns-in-Err-clause-turn g c =
     let e = c.in-Line.ensures in
-    subst (λ fault. TurnOf g.S.Source.left g.S.Source.faults c.args.lines.now c.advance.new.self c.args.reader.now c.step.new.self (Err fault)) (sym c.from.ensures)
-    (line_turn g.S.Source.left g.S.Source.faults c.args.lines.now c.advance.new.self c.args.reader.now c.step.new.self (Err c.in-Err.fault) e.step.0 c.line.result.now c.number.result
-    (handed_one g.S.Source.left g.S.Source.faults c.args.lines.now c.advance.new.self e.step.0 e.step.1 e.number e.going e.same_reference e.later) (c.line.ensures.line ∙ e.step.2) (c.number.ensures ∙ e.number) c.in-Err.ensures)
+    subst (λ fault. TurnOf g.S.Source.left g.S.Source.faults c.args.lines.now c.advance.new.self c.args.reader.now c.step.new.self
+    (Err fault)) (sym c.from.ensures)
+    (line_turn g.S.Source.left g.S.Source.faults c.args.lines.now c.advance.new.self c.args.reader.now c.step.new.self (Err c.in-Err.fault)
+    e.step.0 c.line.result.now c.number.result
+    (handed_one g.S.Source.left g.S.Source.faults c.args.lines.now c.advance.new.self e.step.0 e.step.1 e.number e.going e.same_reference
+    e.later) (c.line.ensures.line ∙ e.step.2) (c.number.ensures ∙ e.number) c.in-Err.ensures)
 
 pub returns-in-LongLine-clause-turn : goal.returns-in-LongLine-clause-turn
 returns-in-LongLine-clause-turn g c =
     let e = c.in-LongLine.ensures in
-    long_turn g.S.Source.left g.S.Source.faults c.args.lines.now c.advance.new.self c.args.reader.now c.args.reader.now e.step.0 c.number-in-LongLine.result
-    (handed_one g.S.Source.left g.S.Source.faults c.args.lines.now c.advance.new.self e.step.0 e.step.1 e.number e.going e.same_reference e.later) e.step.3 (c.number-in-LongLine.ensures ∙ e.number)
+    long_turn g.S.Source.left g.S.Source.faults c.args.lines.now c.advance.new.self c.args.reader.now c.args.reader.now e.step.0
+    c.number-in-LongLine.result
+    (handed_one g.S.Source.left g.S.Source.faults c.args.lines.now c.advance.new.self e.step.0 e.step.1 e.number e.going e.same_reference
+    e.later) e.step.3 (c.number-in-LongLine.ensures ∙ e.number)
 
 pub returns-in-ReadFault-clause-turn : goal.returns-in-ReadFault-clause-turn
-returns-in-ReadFault-clause-turn g c = let e = c.in-ReadFault.ensures in not_read g.S.Source.left c.args.lines.now c.advance.new.self e.step (e.none_held refl)
+returns-in-ReadFault-clause-turn g c = let e =
+    c.in-ReadFault.ensures in not_read g.S.Source.left c.args.lines.now c.advance.new.self e.step (e.none_held refl)

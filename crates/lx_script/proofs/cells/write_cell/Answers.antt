@@ -4,9 +4,11 @@ use Rattle.lx_script.proofs.cells.write_cell.Goals as goal
 
 pub write_number-requires-clause-room : goal.write_number-requires-clause-room
 write_number-requires-clause-room c =
-    let value : length (decimal c.args.level) ≤ 3 = length-decimal-le 3 c.args.level (omega arith) (omega arith) (omega arith) in omega arith
+    let value : length (decimal c.args.level) ≤ 3 =
+    length-decimal-le 3 c.args.level (omega arith) (omega arith) (omega arith) in omega arith
 
 pub returns-clause-start : goal.returns-clause-start
 returns-clause-start c =
     let value : length (decimal c.args.level) ≤ 3 = length-decimal-le 3 c.args.level (omega arith) (omega arith) (omega arith) in
-    let number : length (decimal c.args.number) ≤ 20 = length-decimal-le 20 c.args.number (omega arith) (omega arith) (omega arith) in omega arith
+    let number : length (decimal c.args.number) ≤ 20 =
+    length-decimal-le 20 c.args.number (omega arith) (omega arith) (omega arith) in omega arith

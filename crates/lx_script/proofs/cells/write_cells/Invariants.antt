@@ -6,7 +6,7 @@ abbrev pub invariant-loop-left : goal.invariant-loop-left
 invariant-loop-left l = record {
   within : l.left ≤ length l.levels;
   room : 25 * l.left ≤ l.start;
-  start : l.start ≤ 1600;
+  start : l.start ≤ 3200;
   text : drop l.start l.text ≡ cells_from (l.number + l.left) (drop l.left l.levels);
 }
 

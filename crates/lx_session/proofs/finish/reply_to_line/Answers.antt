@@ -1,23 +1,37 @@
-use Rattle.std.proofs.Common.{Some, ap, sym}
+use Rattle.std.proofs.Common.{ap, sym, subst}
 use Rattle.lx_session.specs.LineReply.{reply_to, counts_in}
+use Rattle.lx_session.specs.Meanings.{Asks}
 use Rattle.lx_io.proofs.Chain.{Puts-is}
 use Rattle.lx_session.proofs.Replies.{frame_reply, frame_counts, save_reply, save_counts, on_ok, sheet_counts}
 use Rattle.lx_session.proofs.finish.reply_to_line.Goals as goal
 
 pub returns-in-Frame-clause-text : goal.returns-in-Frame-clause-text
-returns-in-Frame-clause-text g c = λ d stands. Puts-is (c.put_universe.ensures.text d stands) (frame_reply d _ _ _ c.in-Frame.is)
+returns-in-Frame-clause-text g c =
+    let asks = subst (λ a. Asks a c.args.meaning.now) c.in-Frame.is c.asked.ensures in
+    λ d stands. Puts-is (c.put_universe.ensures.text d stands) (frame_reply d _ _ _ asks.0)
 
 pub returns-in-Frame-clause-counts : goal.returns-in-Frame-clause-counts
-returns-in-Frame-clause-counts g c = λ d stands. on_ok _ _ (frame_counts d _ _ _ _ c.in-Frame.is)
+returns-in-Frame-clause-counts g c =
+    let asks = subst (λ a. Asks a c.args.meaning.now) c.in-Frame.is c.asked.ensures in
+    λ d stands. on_ok _ _ (frame_counts d _ _ _ _ asks.0)
 
 pub returns-in-Save-clause-text : goal.returns-in-Save-clause-text
-returns-in-Save-clause-text g c = λ d stands. Puts-is (c.put_show.ensures.text d stands) (save_reply d _ _ c.in-Save.is)
+returns-in-Save-clause-text g c =
+    let asks = subst (λ a. Asks a c.args.meaning.now) c.in-Save.is c.asked.ensures in
+    λ d stands. Puts-is (c.put_show.ensures.text d stands) (save_reply d _ _ asks)
 
 pub returns-in-Save-clause-counts : goal.returns-in-Save-clause-counts
-returns-in-Save-clause-counts g c = λ d stands. on_ok _ _ (save_counts d _ _ _ c.in-Save.is)
+returns-in-Save-clause-counts g c =
+    let asks = subst (λ a. Asks a c.args.meaning.now) c.in-Save.is c.asked.ensures in
+    λ d stands. on_ok _ _ (save_counts d _ _ _ asks)
 
 pub returns-in-SheetOf-clause-text : goal.returns-in-SheetOf-clause-text
-returns-in-SheetOf-clause-text g c = λ d stands. Puts-is (c.put_sheet.ensures.text d stands) (ap (λ line. reply_to d (Some line) c.args.refusal) (sym c.in-SheetOf.is))
+returns-in-SheetOf-clause-text g c =
+    let asks = subst (λ a. Asks a c.args.meaning.now) c.in-SheetOf.is c.asked.ensures in
+    λ d stands. Puts-is (c.put_sheet.ensures.text d stands) (ap (λ meaning. reply_to d meaning c.args.refusal) (sym asks))
 
 pub returns-in-SheetOf-clause-counts : goal.returns-in-SheetOf-clause-counts
-returns-in-SheetOf-clause-counts g c = λ d stands. sheet_counts d c.args.line.now c.in-SheetOf.n c.args.refusal (counts_in c.args.tally.now) (counts_in c.put_sheet.new.tally) c.put_sheet.result c.in-SheetOf.is (c.put_sheet.ensures.counts d stands)
+returns-in-SheetOf-clause-counts g c =
+    let asks = subst (λ a. Asks a c.args.meaning.now) c.in-SheetOf.is c.asked.ensures in
+    λ d stands. sheet_counts d c.args.meaning.now c.in-SheetOf.n c.args.refusal (counts_in c.args.tally.now)
+    (counts_in c.put_sheet.new.tally) c.put_sheet.result asks (c.put_sheet.ensures.counts d stands)

@@ -1,18 +1,44 @@
-use Rattle.std.proofs.Common.{◌≡◌, ◌∙◌, ap, sym, Some}
+use Rattle.std.proofs.Common.{◌≡◌, ◌∙◌, ap, sym, Some, [], ◌∷◌}
+use Rattle.lx_spec.specs.declared.Command.TheVariants as commands
 use Rattle.lx_session.specs.Attempts.{heard_of}
 use Rattle.lx_session.specs.LineState.{next_of}
-use Rattle.lx_session.proofs.AttemptSteps.{attempted}
+use Rattle.lx_session.proofs.AttemptSteps.{begun, attempted, passed}
 use Rattle.lx_session.proofs.line.attempt_all.Goals as goal
+
+pub commands-init : goal.commands-init
+commands-init g c =
+    let here = c.args.listener.now in
+    let heard = g.L.Listener.heard here here in
+    record {
+      keeps = c.pass_ticks.ensures.keeps;
+      meaning = ap (λ t. t.meaning) c.pass_ticks.ensures.passed.turn;
+      progress = λ s stands.
+          passed g.L.Listener.admits_all heard heard s c.args.turn.now c.args.turn.now c.pass_ticks.new.turn c.args.console.now
+          c.pass_ticks.new.console
+          (begun g.L.Listener.admits_all heard s c.args.console.now stands c.args.turn.now c.requires.start
+          (g.met.L.Listener.nothing here)) c.pass_ticks.ensures.passed
+          (λ done h one. g.met.L.Listener.both here here here done (commands.Tick ∷ []) h one);
+    }
 
 pub commands-preserved : goal.commands-preserved
 commands-preserved g c =
     let command = c.copy-command.result in
     let next : next_of c.commands.turn ≡ Some command = sym c.in-Some.ensures ∙ ap Some (sym c.copy-command.ensures) in
+    let first = c.args.listener.now in
+    let here = c.attempt_one.new.listener in
     record {
-      keeps = c.attempt_one.ensures.keeps;
-      meaning = ap (λ t. t.meaning) c.attempt_one.ensures.turn ∙ c.commands.invariant.meaning;
+      keeps = c.pass_ticks-in-Some.ensures.keeps;
+      meaning = ap (λ t. t.meaning) c.pass_ticks-in-Some.ensures.passed.turn ∙ ap (λ t. t.meaning) c.attempt_one.ensures.turn
+          ∙ c.commands.invariant.meaning;
       progress = λ s stands.
-          attempted g.L.Listener.admits_all (g.L.Listener.heard c.args.listener.now c.commands.listener) (g.L.Listener.heard c.args.listener.now c.attempt_one.new.listener) s c.args.turn.now c.commands.turn c.attempt_one.new.turn command c.commands.console c.attempt_one.new.console
+          passed g.L.Listener.admits_all (g.L.Listener.heard first here) (g.L.Listener.heard here here) s c.args.turn.now
+          c.attempt_one.new.turn c.pass_ticks-in-Some.new.turn c.attempt_one.new.console c.pass_ticks-in-Some.new.console
+          (
+          attempted g.L.Listener.admits_all (g.L.Listener.heard first c.commands.listener) (g.L.Listener.heard first here) s
+          c.args.turn.now c.commands.turn c.attempt_one.new.turn command c.commands.console c.attempt_one.new.console
           (c.commands.invariant.progress s stands) next c.attempt_one.ensures.attempted
-          (λ commands h. g.met.L.Listener.both c.args.listener.now c.commands.listener c.attempt_one.new.listener commands (heard_of command c.attempt_one.new.turn.refusal) h c.attempt_one.ensures.heard) c.attempt_one.ensures.turn;
+          (λ commands h. g.met.L.Listener.both first c.commands.listener here commands
+          (heard_of command c.attempt_one.new.turn.refusal) h c.attempt_one.ensures.heard) c.attempt_one.ensures.turn
+          ) c.pass_ticks-in-Some.ensures.passed
+          (λ done h one. g.met.L.Listener.both first here here done (commands.Tick ∷ []) h one);
     }

@@ -7,8 +7,9 @@ use Rattle.lx_session.proofs.line.attempt_all.Given as goal
 abbrev pub invariant-commands : goal.invariant-commands
 invariant-commands g l = record {
   keeps : g.L.Listener.keeps l.listener l.console;
-  meaning : l.turn.meaning ≡ l.initial.turn.meaning;
-  progress : (s : Session) → StandsFor s.desk l.initial.console → LineProgress g.L.Listener.admits_all (g.L.Listener.heard l.initial.listener l.listener) s l.initial.turn l.turn l.console;
+  meaning : l.turn.meaning ≡ l.fn.turn.meaning;
+  progress : (s : Session) → StandsFor s.desk l.fn.console
+      → LineProgress g.L.Listener.admits_all (g.L.Listener.heard l.fn.listener l.listener) s l.fn.turn l.turn l.console;
 }
 
 abbrev pub decreases-commands : goal.decreases-commands

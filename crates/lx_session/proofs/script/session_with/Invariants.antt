@@ -10,7 +10,9 @@ abbrev pub invariant-script : goal.invariant-script
 invariant-script g l = record {
   keeps : g.L.Listener.keeps l.listener l.console;
   passed : Passed g.S.Source.left g.S.Source.faults l.fn.lines l.lines;
-  so_far : (d : Desk) → StandsFor d l.fn.console → SoFar g.L.Listener.admits_all (g.L.Listener.heard l.fn.listener l.listener) g.S.Source.left g.S.Source.faults l.fn.lines l.lines d l.console l.tally (g.K.Sink.holds l.fn.sink) (g.K.Sink.holds l.sink);
+  so_far : (d : Desk) → StandsFor d l.fn.console
+      → SoFar g.L.Listener.admits_all (g.L.Listener.heard l.fn.listener l.listener) g.S.Source.left g.S.Source.faults l.fn.lines l.lines d
+      l.console l.tally (g.K.Sink.holds l.fn.sink) (g.K.Sink.holds l.sink);
   few : IsUpTo l.lines.number l.tally;
   sink_later : g.K.Sink.faults l.fn.sink ≤ g.K.Sink.faults l.sink;
   wants_later : g.K.Sink.wants l.fn.sink ≤ g.K.Sink.wants l.sink;

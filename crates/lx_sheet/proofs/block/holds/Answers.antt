@@ -1,4 +1,5 @@
-use Rattle.std.proofs.Common.{◌≡◌, ◌≤◌, Bool, ◌+◌, ◌-◌, ◌*◌, List, ℕ, true, Some, None, length, take, drop, ap, ◌∙◌, sym, subst, refl, arith}
+use Rattle.std.proofs.Common.{◌≡◌, ◌≤◌, Bool, ◌+◌, ◌-◌, ◌*◌, List, ℕ, true, Some, None, length, take, drop, ap, ◌∙◌, sym, subst, refl}
+use Rattle.std.proofs.Common.{arith}
 use Rattle.std.specs.Prelude.{Option, is_some, not}
 use Rattle.std.proofs.Math.Nat.{mul-le-mul_right}
 use Rattle.std.proofs.lemmas.Bool.{false≢true}
@@ -19,6 +20,12 @@ returns c = λ same chan.
     let len : ℕ = length c.args.look.now in
     let row : List ℕ = take len (drop (c.args.row * len) c.args.levels.now) in
     let most : (c.args.row + 1) * len ≤ CUES * len = mul-le-mul_right {m = c.args.row + 1} {n = CUES} len (omega arith) in
-    let long : length row ≡ len = omega (arith, length-take len (drop (c.args.row * len) c.args.levels.now), length-drop (c.args.row * len) c.args.levels.now) in
-    let part : take ((c.args.row + 1) * len - c.args.row * len) (drop (c.args.row * len) c.args.levels.now) ≡ row = ap (λ n. take n (drop (c.args.row * len) c.args.levels.now)) (width_of c.args.row len) in
-    same_look row c.args.look.now long (subst (λ (xs : List ℕ). Agree xs c.args.look.now 0 (length xs)) part (c.next_change.ensures.none (none_from c.next_change.result c.is_none.result c.is_none.ensures same))) chan
+    let long : length row ≡ len = omega (
+      arith,
+      length-take len (drop (c.args.row * len) c.args.levels.now),
+      length-drop (c.args.row * len) c.args.levels.now,
+    ) in
+    let part : take ((c.args.row + 1) * len - c.args.row * len) (drop (c.args.row * len) c.args.levels.now) ≡ row =
+    ap (λ n. take n (drop (c.args.row * len) c.args.levels.now)) (width_of c.args.row len) in
+    same_look row c.args.look.now long (subst (λ (xs : List ℕ). Agree xs c.args.look.now 0 (length xs)) part
+    (c.next_change.ensures.none (none_from c.next_change.result c.is_none.result c.is_none.ensures same))) chan

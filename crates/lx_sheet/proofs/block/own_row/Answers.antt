@@ -7,4 +7,5 @@ use Rattle.lx_sheet.proofs.block.own_row.Goals as goal
 
 pub returns-clause-within : goal.returns-clause-within
 returns-clause-within c =
-    subst (λ r. r < CUES) (get_or-map (λ (p : Place). p.row) c.args.order.now c.args.place c.index-order-place.result 0 c.requires.place) (row_within c.args.order.now c.args.place c.requires.rows c.requires.place)
+    subst (λ r. r < CUES) (get_or-map (λ (p : Place). p.row) c.args.order.now c.args.place c.index-order-place.result 0 c.requires.place)
+    (row_within c.args.order.now c.args.place c.requires.rows c.requires.place)

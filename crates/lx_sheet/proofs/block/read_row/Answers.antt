@@ -7,4 +7,5 @@ pub returns : goal.returns
 unfolding cell
 returns c = λ chan.
     let len : ℕ = length c.args.look.now in
-    ap (λ (xs : List ℕ). level_in_look xs chan) (c.copy_from_slice.ensures.after ∙ ap (λ n. take n (drop (c.args.row * len) c.args.levels.now)) (width_of c.args.row len))
+    ap (λ (xs : List ℕ). level_in_look xs chan)
+    (c.copy_from_slice.ensures.after ∙ ap (λ n. take n (drop (c.args.row * len) c.args.levels.now)) (width_of c.args.row len))

@@ -9,14 +9,18 @@ pub returns-clause-here : goal.returns-clause-here
 unfolding cell
 returns-clause-here c = λ chan.
     let len : ℕ = length c.args.look.now in
-    let within : c.args.row * len ≤ length c.args.levels.now = omega (arith, mul-le-mul_right {m = c.args.row} {n = CUES} len (omega arith)) in
+    let within : c.args.row * len ≤ length c.args.levels.now =
+    omega (arith, mul-le-mul_right {m = c.args.row} {n = CUES} len (omega arith)) in
     ap (λ (xs : List ℕ). level_in_look xs chan)
-    (row_here len c.args.levels.now c.copy_from_slice.new.self c.args.row ((c.args.row + 1) * len) (omega arith) within (omega (arith, ap length c.copy_from_slice.ensures.after)) ∙ c.copy_from_slice.ensures.after)
+    (row_here len c.args.levels.now c.copy_from_slice.new.self c.args.row ((c.args.row + 1) * len) (omega arith) within
+    (omega (arith, ap length c.copy_from_slice.ensures.after)) ∙ c.copy_from_slice.ensures.after)
 
 pub returns-clause-others : goal.returns-clause-others
 unfolding cell
 returns-clause-others c = λ k chan other.
     let len : ℕ = length c.args.look.now in
-    let within : c.args.row * len ≤ length c.args.levels.now = omega (arith, mul-le-mul_right {m = c.args.row} {n = CUES} len (omega arith)) in
+    let within : c.args.row * len ≤ length c.args.levels.now =
+    omega (arith, mul-le-mul_right {m = c.args.row} {n = CUES} len (omega arith)) in
     ap (λ (xs : List ℕ). level_in_look xs chan)
-    (row_other len c.args.levels.now c.copy_from_slice.new.self k c.args.row ((c.args.row + 1) * len) (omega arith) within (omega (arith, ap length c.copy_from_slice.ensures.after)) other)
+    (row_other len c.args.levels.now c.copy_from_slice.new.self k c.args.row ((c.args.row + 1) * len) (omega arith) within
+    (omega (arith, ap length c.copy_from_slice.ensures.after)) other)

@@ -9,4 +9,5 @@ pub returns-in-Some : goal.returns-in-Some
 returns-in-Some c =
     let there : c.args.to ≡ Some c.in-Some.end = search rules in
     subst (λ (o : Option ℕ). length c.below.result.now ≡ until o c.args.cues.now) (sym there)
-    (ap length c.below.ensures ∙ count_under-map (λ (cue : Cue). cue.number) c.get.result c.args.cues.now ∙ ap (λ (n : ℕ). count_under n (map (λ (cue : Cue). cue.number) c.args.cues.now)) c.get.ensures.value)
+    (ap length c.below.ensures ∙ count_under-map (λ (cue : Cue). cue.number) c.get.result c.args.cues.now
+    ∙ ap (λ (n : ℕ). count_under n (map (λ (cue : Cue). cue.number) c.args.cues.now)) c.get.ensures.value)

@@ -5,5 +5,8 @@ use Rattle.lx_sheet.proofs.look.place_moves.Goals as goal
 
 pub loop-i-preserved : goal.loop-i-preserved
 loop-i-preserved c =
-    let most : c.index-moves-i.result.chan ≤ length c.args.look.now = subst (λ (m : Move). m.chan ≤ length c.args.look.now) (sym c.index-moves-i.is) (c.requires (c.loop-i.i - 1) c.index-moves-i.result (omega arith)) in
-    move_placed c.args.moves.now c.loop-i.look c.args.look.now c.loop-i.i c.get.result c.index-moves-i.result c.loop-i-test.true c.loop-i.auto.i c.index-moves-i.is c.get.ensures.value c.get.ensures.least (omega (arith, most)) c.loop-i.invariant
+    let most : c.index-moves-i.result.chan ≤ length c.args.look.now =
+    subst (λ (m : Move). m.chan ≤ length c.args.look.now) (sym c.index-moves-i.is)
+    (c.requires (c.loop-i.i - 1) c.index-moves-i.result (omega arith)) in
+    move_placed c.args.moves.now c.loop-i.look c.args.look.now c.loop-i.i c.get.result c.index-moves-i.result c.loop-i-test.true
+    c.loop-i.auto.i c.index-moves-i.is c.get.ensures.value c.get.ensures.least (omega (arith, most)) c.loop-i.invariant

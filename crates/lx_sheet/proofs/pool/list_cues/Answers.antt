@@ -10,7 +10,13 @@ use Rattle.lx_sheet.proofs.pool.list_cues.Goals as goal
 pub push_reserved-requires : goal.push_reserved-requires
 push_reserved-requires c =
     let row : ℕ = c.loop-row.row in
-    omega (arith, c.loop-row.order.ok, ap length c.loop-row.invariant.order, length-placed_from 0 (take row c.args.cues.now), length-take row c.args.cues.now)
+    omega (
+      arith,
+      c.loop-row.order.ok,
+      ap length c.loop-row.invariant.order,
+      length-placed_from 0 (take row c.args.cues.now),
+      length-take row c.args.cues.now,
+    )
 
 pub loop-row-preserved : goal.loop-row-preserved
 loop-row-preserved c =
@@ -19,7 +25,8 @@ loop-row-preserved c =
     let cue : Cue = c.index-cues-row.result in
     let number : c.cue.inside.number ≡ cue.number = ap (λ (q : Cue). q.number) c.cue.view_is in
     let at : row ≡ 0 + length (take row cues) = omega (arith, length-take row cues) in
-    let more : take (row + 1) cues ≡ take row cues ++ cue ∷ [] = take_more cues row cue c.loop-row-test.true ∙ ap (λ (x : Cue). take row cues ++ x ∷ []) (sym c.index-cues-row.is) in
+    let more : take (row + 1) cues ≡ take row cues ++ cue ∷ [] = take_more cues row cue c.loop-row-test.true
+    ∙ ap (λ (x : Cue). take row cues ++ x ∷ []) (sym c.index-cues-row.is) in
     record {
       order =
           c.push_reserved.ensures.items

@@ -7,7 +7,10 @@ pub returns-in-Ok-clause-ok : goal.returns-in-Ok-clause-ok
 returns-in-Ok-clause-ok g c = replaced _ _ _ _ c.args.x c.in-Ok.at c.key.ensures c.as_slice.ensures.value c.in-Ok.ensures.stands
 
 pub returns-in-Ok-clause-sorted : goal.returns-in-Ok-clause-sorted
-returns-in-Ok-clause-sorted g c = sorted_replaced _ _ _ _ c.args.x c.in-Ok.at c.key.ensures c.as_slice.ensures.value c.in-Ok.ensures.stands c.requires
+returns-in-Ok-clause-sorted g c = sorted_replaced _ _ _ _ c.args.x c.in-Ok.at c.key.ensures c.as_slice.ensures.value c.in-Ok.ensures.stands
+    c.requires
 
 pub returns-in_ok-insert-in-Err-clause-sorted : goal.returns-in_ok-insert-in-Err-clause-sorted
-returns-in_ok-insert-in-Err-clause-sorted g c = subst (IsStrictlySorted g.T.Keyed.key) (sym c.in_ok-insert-in-Err.ensures.items) (sorted_added _ _ _ _ c.args.x c.in-Err.at c.key.ensures c.as_slice.ensures.value c.in-Err.ensures.goes c.requires)
+returns-in_ok-insert-in-Err-clause-sorted g c =
+    subst (IsStrictlySorted g.T.Keyed.key) (sym c.in_ok-insert-in-Err.ensures.items)
+    (sorted_added _ _ _ _ c.args.x c.in-Err.at c.key.ensures c.as_slice.ensures.value c.in-Err.ensures.goes c.requires)

@@ -7,7 +7,10 @@ pub returns-in-Ok-clause-items : goal.returns-in-Ok-clause-items
 returns-in-Ok-clause-items g c = replaced _ _ _ _ c.args.x c.in-Ok.at c.key.ensures c.as_slice.ensures.value c.in-Ok.ensures.stands
 
 pub returns-in-Ok-clause-sorted : goal.returns-in-Ok-clause-sorted
-returns-in-Ok-clause-sorted g c = sorted_replaced _ _ _ _ c.args.x c.in-Ok.at c.key.ensures c.as_slice.ensures.value c.in-Ok.ensures.stands c.requires.sorted
+returns-in-Ok-clause-sorted g c = sorted_replaced _ _ _ _ c.args.x c.in-Ok.at c.key.ensures c.as_slice.ensures.value c.in-Ok.ensures.stands
+    c.requires.sorted
 
 pub returns-in-Ok-insert-clause-sorted : goal.returns-in-Ok-insert-clause-sorted
-returns-in-Ok-insert-clause-sorted g c = subst (IsStrictlySorted g.T.Keyed.key) (sym c.in-Ok-insert.ensures.items) (sorted_added _ _ _ _ c.args.x c.in-Err.at c.key.ensures c.as_slice.ensures.value c.in-Err.ensures.goes c.requires.sorted)
+returns-in-Ok-insert-clause-sorted g c =
+    subst (IsStrictlySorted g.T.Keyed.key) (sym c.in-Ok-insert.ensures.items)
+    (sorted_added _ _ _ _ c.args.x c.in-Err.at c.key.ensures c.as_slice.ensures.value c.in-Err.ensures.goes c.requires.sorted)

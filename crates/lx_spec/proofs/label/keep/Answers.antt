@@ -7,10 +7,13 @@ use Rattle.lx_spec.proofs.label.keep.Goals.{else-is_empty-via-then-is_empty+else
 use Rattle.lx_spec.proofs.label.keep.Goals as goal
 
 pub returns-then-is_full : goal.returns-then-is_full
-returns-then-is_full c = λ front from. one_more front c.args.kept.now.items c.args.kept.now.items c.args.byte (with_full c.args.kept.now.items c.args.byte (sym c.if-is_full.ensures.value)) from
+returns-then-is_full c = λ front from. one_more front c.args.kept.now.items c.args.kept.now.items c.args.byte
+    (with_full c.args.kept.now.items c.args.byte (sym c.if-is_full.ensures.value)) from
 
 pub returns-then-is_blank : goal.returns-then-is_blank
-returns-then-is_blank c = λ front from. one_more front c.args.kept.now.items c.args.kept.now.items c.args.byte (with_first_blank c.args.kept.now.items c.args.byte (sym c.if-is_line_end.ensures) (sym c.if-is_empty.ensures) (sym c.if-is_blank.ensures)) from
+returns-then-is_blank c = λ front from. one_more front c.args.kept.now.items c.args.kept.now.items c.args.byte
+    (with_first_blank c.args.kept.now.items c.args.byte (sym c.if-is_line_end.ensures) (sym c.if-is_empty.ensures)
+    (sym c.if-is_blank.ensures)) from
 
 pub returns : goal.returns
 returns c = λ front from.
@@ -22,4 +25,5 @@ returns c = λ front from.
       | else-is_empty-via-then-is_empty+else-is_blank w ↦ grind (arith, w.if-is_blank.ensures)
       | else-is_empty-via-else-is_empty w ↦ grind (arith, w.if-is_empty.ensures)
     ] in
-    one_more front kept c.push.new.self.items c.args.byte (c.push.ensures.items ∙ with_other kept c.args.byte (sym c.if-is_line_end.ensures) few begins) from
+    one_more front kept c.push.new.self.items c.args.byte
+    (c.push.ensures.items ∙ with_other kept c.args.byte (sym c.if-is_line_end.ensures) few begins) from

@@ -1,7 +1,9 @@
-use Rattle.std.proofs.Common.{rules, ◌≡◌, ◌≢◌, inl, inr, ◌+◌, ◌-◌, ◌<◌, length, vec_len, length-set, refl, sym, ap, ◌∙◌, arith, set, slice_get}
+use Rattle.std.proofs.Common.{rules, ◌≡◌, ◌≢◌, inl, inr, ◌+◌, ◌-◌, ◌<◌, length, vec_len, length-set, refl, sym, ap, ◌∙◌, arith, set}
+use Rattle.std.proofs.Common.{slice_get}
 use Rattle.std.proofs.lemmas.Option.{slice_get_within}
 use Rattle.lx_gate.proofs.Prefixes.{prefix_self}
 use Rattle.lx_workers.specs.Places.{IsGiven}
+use Rattle.lx_workers.specs.declared.playing.TheConstants.{OUTLETS}
 use Rattle.lx_workers.proofs.PlacesKept.{length_snoc, prefix_less, at_last, back_more, given_on, get-set_same, get-set_cases, none_at}
 use Rattle.lx_workers.proofs.playing.give_back.Goals as goal
 
@@ -13,8 +15,8 @@ loop-lane-init g c =
       few = omega (arith, c.requires.count);
       lanes_len = items;
       same = refl;
-      sixteen = refl;
-      others = λ p fault is. none_at 16 p fault is;
+      outlets = refl;
+      others = λ p fault is. none_at OUTLETS p fault is;
       lanes = prefix_self c.args.lanes.items;
       back = λ k x is le. absurd (let w = slice_get_within c.args.lanes.items k x is in omega (arith, w, le, items));
     }
@@ -26,14 +28,20 @@ loop-lane-preserved g c =
     let items = c.in-Some.ensures.items in
     let lanes_len : vec_len c.pop.new.self ≡ length c.pop.new.self.items = omega (arith, n, length_snoc _ _ _ items, h.lanes_len) in
     let at : c.len.result ≡ vec_len c.pop.new.self = c.len.ensures in
-    let whole : length c.args.lanes.items ≡ length c.args.outlets.now = (let e : vec_len c.args.lanes ≡ length c.args.lanes.items = search rules in sym e ∙ c.requires.count) in
+    let whole : length c.args.lanes.items ≡ length c.args.outlets.now =
+    (let e : vec_len c.args.lanes ≡ length c.args.lanes.items = search rules in sym e ∙ c.requires.count) in
     let place = length c.args.outlets.now - 1 - c.len.result in
     let within : place < length c.args.outlets.now = omega (arith, n, h.few, at) in
-    let new : IsGiven g.K.Sink.holds g.K.Sink.faults g.K.Sink.wants g.G.Origin.show c.put_sink.new.outlets (set c.loop-lane.faults place c.finish.new.self.served.fault) c.args.gate.now.published (length c.args.outlets.now - 1 - vec_len c.pop.new.self) c.in-Some.lane.tap c.in-Some.lane.sink c.in-Some.lane.served = record {
+    let new : IsGiven g.K.Sink.holds g.K.Sink.faults g.K.Sink.wants g.G.Origin.show c.put_sink.new.outlets
+    (set c.loop-lane.faults place c.finish.new.self.served.fault) c.args.gate.now.published
+    (length c.args.outlets.now - 1 - vec_len c.pop.new.self) c.in-Some.lane.tap c.in-Some.lane.sink c.in-Some.lane.served = record {
       new = c.finish.new.self.sink;
       fault = c.finish.new.self.served.fault;
-      place_is = ap (λ j. slice_get c.put_sink.new.outlets (length c.args.outlets.now - 1 - j)) (sym at) ∙ (ap (λ l. slice_get l place) c.put_sink.ensures.after ∙ get-set_same c.loop-lane.outlets place _ (omega (arith, within, h.same)));
-      fault_is = ap (λ j. slice_get (set c.loop-lane.faults place c.finish.new.self.served.fault) (length c.args.outlets.now - 1 - j)) (sym at) ∙ get-set_same c.loop-lane.faults place _ (omega (arith, within, h.sixteen, c.requires.most));
+      place_is = ap (λ j. slice_get c.put_sink.new.outlets (length c.args.outlets.now - 1 - j)) (sym at)
+          ∙ (ap (λ l. slice_get l place) c.put_sink.ensures.after
+          ∙ get-set_same c.loop-lane.outlets place _ (omega (arith, within, h.same)));
+      fault_is = ap (λ j. slice_get (set c.loop-lane.faults place c.finish.new.self.served.fault) (length c.args.outlets.now - 1 - j))
+          (sym at) ∙ get-set_same c.loop-lane.faults place _ (omega (arith, within, h.outlets, c.requires.most));
       delivered = λ start from served. rw c.note.ensures.list at (c.finish.ensures.delivered start from served);
     } in
     record {
@@ -41,14 +49,23 @@ loop-lane-preserved g c =
       few = omega (arith, n, h.few);
       lanes_len = lanes_len;
       same = ap length c.put_sink.ensures.after ∙ length-set c.loop-lane.outlets _ _ ∙ h.same;
-      sixteen = length-set c.loop-lane.faults _ _ ∙ h.sixteen;
-      others = λ p fault is. elim (get-set_cases c.loop-lane.faults place p _ _ is) [ inl e ↦ omega (arith, e, within) | inr e ↦ h.others p fault e ];
+      outlets = length-set c.loop-lane.faults _ _ ∙ h.outlets;
+      others = λ p fault is. elim (get-set_cases c.loop-lane.faults place p _ _ is)
+          [ inl e ↦ omega (arith, e, within) | inr e ↦ h.others p fault e ];
       lanes = prefix_less _ _ _ _ items h.lanes;
-      back = back_more c.args.lanes.items (λ p x. IsGiven g.K.Sink.holds g.K.Sink.faults g.K.Sink.wants g.G.Origin.show c.loop-lane.outlets c.loop-lane.faults c.args.gate.now.published p x.tap x.sink x.served) (λ p x. IsGiven g.K.Sink.holds g.K.Sink.faults g.K.Sink.wants g.G.Origin.show c.put_sink.new.outlets (set c.loop-lane.faults place c.finish.new.self.served.fault) c.args.gate.now.published p x.tap x.sink x.served) (length c.args.outlets.now) (vec_len c.pop.new.self) c.in-Some.lane whole (ap (λ j. slice_get c.args.lanes.items j) lanes_len ∙ at_last _ _ _ _ items h.lanes)
-          (λ k x lt above before. given_on _ _ _ _ _ _ _ _ _ _ _ _ _ _ _ _ c.put_sink.ensures.after refl (let o : length c.args.outlets.now - 1 - k ≢ place = λ (e : length c.args.outlets.now - 1 - k ≡ place). absurd (omega (arith, e, lt, above, at)) in o) before)
+      back = back_more c.args.lanes.items (λ p x. IsGiven g.K.Sink.holds g.K.Sink.faults g.K.Sink.wants g.G.Origin.show c.loop-lane.outlets
+          c.loop-lane.faults c.args.gate.now.published p x.tap x.sink x.served)
+          (λ p x. IsGiven g.K.Sink.holds g.K.Sink.faults g.K.Sink.wants g.G.Origin.show c.put_sink.new.outlets
+          (set c.loop-lane.faults place c.finish.new.self.served.fault) c.args.gate.now.published p x.tap x.sink x.served)
+          (length c.args.outlets.now) (vec_len c.pop.new.self) c.in-Some.lane whole
+          (ap (λ j. slice_get c.args.lanes.items j) lanes_len ∙ at_last _ _ _ _ items h.lanes)
+          (λ k x lt above before. given_on _ _ _ _ _ _ _ _ _ _ _ _ _ _ _ _ c.put_sink.ensures.after refl
+          (let o : length c.args.outlets.now - 1 - k ≢ place =
+          λ (e : length c.args.outlets.now - 1 - k ≡ place). absurd (omega (arith, e, lt, above, at)) in o) before)
           new
           (λ k x is le. h.back k x is (omega (arith, le, n)));
     }
 
 pub returns-clause-back : goal.returns-clause-back
-returns-clause-back g c = λ k x is. c.loop-lane.invariant.back k x is (let z : vec_len c.loop-lane.lanes ≡ 0 = c.in_default.ensures.cases.0 in omega (arith, z))
+returns-clause-back g c = λ k x is. c.loop-lane.invariant.back k x is
+    (let z : vec_len c.loop-lane.lanes ≡ 0 = c.in_default.ensures.cases.0 in omega (arith, z))

@@ -1,6 +1,7 @@
 use Rattle.std.proofs.Common.{◌≡◌, ◌≤◌, ◌<◌, ◌-◌, ℕ, length, vec_len, slice_get, Some}
 use Rattle.lx_io.specs.declared.sink.SinkFault.{SinkFault}
 use mathlib.Core.List.{IsPrefix}
+use Rattle.lx_workers.specs.declared.playing.TheConstants.{OUTLETS}
 use Rattle.lx_workers.specs.Places.{IsGiven}
 use Rattle.lx_workers.proofs.playing.give_back.Given as goal
 
@@ -10,10 +11,12 @@ invariant-loop-lane g l = record {
   few : vec_len l.lanes ≤ length l.initial.outlets;
   lanes_len : vec_len l.lanes ≡ length l.lanes.items;
   same : length l.outlets ≡ length l.initial.outlets;
-  sixteen : length l.faults ≡ 16;
+  outlets : length l.faults ≡ OUTLETS;
   others : (place : ℕ) (fault : SinkFault) → slice_get l.faults place ≡ Some (Some fault) → place < length l.initial.outlets;
   lanes : IsPrefix l.lanes.items l.initial.lanes.items;
-  back : (k : ℕ) (x : _) → slice_get l.initial.lanes.items k ≡ Some x → vec_len l.lanes ≤ k → IsGiven g.K.Sink.holds g.K.Sink.faults g.K.Sink.wants g.G.Origin.show l.outlets l.faults l.gate.published (length l.initial.outlets - 1 - k) x.tap x.sink x.served;
+  back : (k : ℕ) (x : _) → slice_get l.initial.lanes.items k ≡ Some x → vec_len l.lanes ≤ k
+      → IsGiven g.K.Sink.holds g.K.Sink.faults g.K.Sink.wants g.G.Origin.show l.outlets l.faults l.gate.published
+      (length l.initial.outlets - 1 - k) x.tap x.sink x.served;
 }
 
 abbrev pub decreases-loop-lane : goal.decreases-loop-lane

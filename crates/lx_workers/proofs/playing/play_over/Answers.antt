@@ -14,7 +14,9 @@ perform-lanes-requires-clause-in_step g c = λ κs bounds. in_step_at _ _ _ _ c.
 pub returns-clause-played : goal.returns-clause-played
 returns-clause-played g c =
     let run = held_in c.perform-lanes.new.gate c.in-Some.gate
-    (λ held. HasRun g.S.Source.left g.S.Source.faults g.O.Sink.holds g.O.Sink.faults g.O.Sink.wants g.G.Origin.show c.in_ok-gate.gate [] c.args.console.now c.args.lines.now c.args.output.now held c.perform-lanes.new.unsent.commands.items c.perform-lanes.new.console c.perform-lanes.new.lines c.perform-lanes.new.output c.perform-lanes.result.1)
+    (λ held. HasRun g.S.Source.left g.S.Source.faults g.O.Sink.holds g.O.Sink.faults g.O.Sink.wants g.G.Origin.show c.in_ok-gate.gate []
+    c.args.console.now c.args.lines.now c.args.output.now held c.perform-lanes.new.unsent.commands.items c.perform-lanes.new.console
+    c.perform-lanes.new.lines c.perform-lanes.new.output c.perform-lanes.result.1)
     c.in-Some.is c.perform-lanes.ensures.engine in
     record {
       published = c.in-Some.gate.published;
@@ -26,11 +28,14 @@ returns-clause-played g c =
         same_places = c.give_back-faults.ensures.same ∙ c.fill_lanes-lanes.ensures.same;
         each = λ place start is.
             let within : place < length c.args.outlets.now = slice_get_within c.args.outlets.now place (Some start) is in
-            let count : vec_len c.perform-lanes.result.0 ≡ length c.args.outlets.now = c.perform-lanes.ensures.count ∙ c.fill_lanes-lanes.ensures.count in
+            let count : vec_len c.perform-lanes.result.0 ≡ length c.args.outlets.now = c.perform-lanes.ensures.count
+            ∙ c.fill_lanes-lanes.ensures.count in
             let items : vec_len c.perform-lanes.result.0 ≡ length c.perform-lanes.result.0.items = search rules in
-            let y = get_within c.perform-lanes.result.0.items (length c.args.outlets.now - 1 - place) (omega (arith, within, count, items)) in
+            let y = get_within c.perform-lanes.result.0.items (length c.args.outlets.now - 1 - place)
+            (omega (arith, within, count, items)) in
             let x = zip_at _ _ _ _ y.0 c.perform-lanes.ensures.lanes y.1 in
-            is_back _ _ _ _ c.args.outlets.now _ _ _ place (length c.args.outlets.now - 1 - place) (length c.args.outlets.now) _ start _ _ _ _ _ is within refl c.fill_lanes-lanes.ensures.same
+            is_back _ _ _ _ c.args.outlets.now _ _ _ place (length c.args.outlets.now - 1 - place) (length c.args.outlets.now) _ start _ _ _
+            _ _ is within refl c.fill_lanes-lanes.ensures.same
             (c.fill_lanes-lanes.ensures.lanes (length c.args.outlets.now - 1 - place) x.0 x.1) x.2
             (c.give_back-faults.ensures.back (length c.args.outlets.now - 1 - place) y.0 y.1);
         others = λ place fault is. rw (sym c.fill_lanes-lanes.ensures.same) (c.give_back-faults.ensures.others place fault is);

@@ -15,7 +15,7 @@ pub loop-preserved : goal.loop-preserved
 loop-preserved g c = record {
   can = tt;
   finite = tt;
-  served = c.step.ensures.stepped.serves c.args.tap.now c.args.sink.now c.loop.invariant.served;
-  learnt = c.step.ensures.stepped.same_learnt ∙ c.loop.invariant.learnt;
+  served = c.step-in-loop.ensures.stepped.serves c.args.tap.now c.args.sink.now c.loop.invariant.served;
+  learnt = c.step-in-loop.ensures.stepped.same_learnt ∙ c.loop.invariant.learnt;
   none = search rules;
 }

@@ -1,25 +1,32 @@
 use Rattle.std.proofs.Common.{rules, ◌∙◌}
 use Rattle.lx_gate.specs.Readings.{newest}
 use Rattle.lx_workers.proofs.TapSteps.{longest_begins, taken}
-use Rattle.lx_workers.proofs.WorkerSteps.{stepped_none, stepped_line, stepped_fault, fault_is}
+use Rattle.lx_workers.proofs.WorkerSteps.{stepped_none, stepped_line, stepped_fault}
 use Rattle.lx_workers.proofs.worker.step.Goals as goal
 
 pub returns-then-not-is_newer-clause-stepped : goal.returns-then-not-is_newer-clause-stepped
 returns-then-not-is_newer-clause-stepped g c =
     let t = c.take-stamp.ensures in
-    stepped_none _ _ _ _ c.args.tap.now c.take-stamp.new.self c.args.sink.now c.args.served.now c.take-stamp.result.count c.requires t.universe
-    (longest_begins c.args.tap.now.told.seen c.args.tap.now.told.learnt (newest c.take-stamp.new.self.told) t.seen t.heard) (taken _ _ t.reading) t.version.count_is (search rules)
+    stepped_none _ _ _ _ c.args.tap.now c.take-stamp.new.self c.args.sink.now c.args.served.now c.take-stamp.result.count c.requires
+    t.universe
+    (longest_begins c.args.tap.now.told.seen c.args.tap.now.told.learnt (newest c.take-stamp.new.self.told) t.seen t.heard)
+    (taken _ _ t.reading) t.version.count_is (search rules)
 
 pub returns-in-Ok-clause-stepped : goal.returns-in-Ok-clause-stepped
 returns-in-Ok-clause-stepped g c =
     let t = c.take-stamp.ensures in
-    rw c.saturating_add-served.ensures (stepped_line _ _ _ _ c.args.tap.now c.take-stamp.new.self c.args.sink.now c.put_line.new.sink c.args.served.now c.take-stamp.new.out c.take-stamp.result c.requires t.universe
-    (longest_begins c.args.tap.now.told.seen c.args.tap.now.told.learnt (newest c.take-stamp.new.self.told) t.seen t.heard) (taken _ _ t.reading) t.version (search rules)
-    (rw (c.universe.ensures.value ∙ t.universe) at c.in-Ok.ensures.whole) c.put_line.ensures.cause.later c.put_line.ensures.cause.wants_later)
+    rw c.saturating_add-served.ensures (stepped_line _ _ _ _ c.args.tap.now c.take-stamp.new.self c.args.sink.now c.put_line.new.sink
+    c.args.served.now c.take-stamp.new.out c.take-stamp.result c.requires t.universe
+    (longest_begins c.args.tap.now.told.seen c.args.tap.now.told.learnt (newest c.take-stamp.new.self.told) t.seen t.heard)
+    (taken _ _ t.reading) t.version (search rules)
+    (rw (c.universe.ensures.value ∙ t.universe) at c.in-Ok.ensures.whole) c.put_line.ensures.cause.later
+    c.put_line.ensures.cause.wants_later)
 
 pub returns-in-Err-clause-stepped : goal.returns-in-Err-clause-stepped
 returns-in-Err-clause-stepped g c =
     let t = c.take-stamp.ensures in
-    stepped_fault _ _ _ _ c.args.tap.now c.take-stamp.new.self c.args.sink.now c.put_line.new.sink c.args.served.now c.take-stamp.new.out c.take-stamp.result c.in-Err.fault c.requires t.universe
-    (longest_begins c.args.tap.now.told.seen c.args.tap.now.told.learnt (newest c.take-stamp.new.self.told) t.seen t.heard) (taken _ _ t.reading) t.version (search rules)
-    (rw (c.universe.ensures.value ∙ t.universe) at c.in-Err.ensures.part) (fault_is _ _ _ _ c.put_line.result c.in-Err.fault c.in-Err.is c.put_line.ensures.cause)
+    stepped_fault _ _ _ _ c.args.tap.now c.take-stamp.new.self c.args.sink.now c.put_line.new.sink c.args.served.now c.take-stamp.new.out
+    c.take-stamp.result c.in-Err.fault c.requires t.universe
+    (longest_begins c.args.tap.now.told.seen c.args.tap.now.told.learnt (newest c.take-stamp.new.self.told) t.seen t.heard)
+    (taken _ _ t.reading) t.version (search rules)
+    (rw (c.universe.ensures.value ∙ t.universe, c.in-Err.is) at c.put_line.ensures)

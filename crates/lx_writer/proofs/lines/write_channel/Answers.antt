@@ -19,5 +19,7 @@ returns-then-number-lt100-clause-start c = let digits = two_digits c.args.number
 pub returns-else-number-lt100-clause-text : goal.returns-else-number-lt100-clause-text
 returns-else-number-lt100-clause-text c =
     let rest = drop c.args.end c.args.text.now in
-    let tens = c.write_before-end-else-number-lt100.ensures.text ∙ ap (λ row. row ++ rest) (tens_row (c.args.number % 100) [] (omega arith)) in
-    c.write_front.ensures.text ∙ ap (λ text. (codes "CHAN " ++ decimal (c.args.number / 100)) ++ text) tens ∙ channel_is c.args.number rest c.if-number-lt100.false c.requires.most
+    let tens = c.write_row-end.ensures.text
+    ∙ ap (λ row. drop 1 row ++ rest) (tens_row (c.args.number % 100) [] (omega arith)) in
+    c.write_front.ensures.text ∙ ap (λ text. (codes "CHAN " ++ decimal (c.args.number / 100)) ++ text) tens
+    ∙ channel_is c.args.number rest c.if-number-lt100.false c.requires.most

@@ -8,25 +8,39 @@ use Rattle.lx_writer.proofs.show.write_show.Goals as goal
 
 pub returns-in_err-put_head : goal.returns-in_err-put_head
 returns-in_err-put_head g c =
-    Puts-stops _ (Puts-fails {U = Unit {0}} _ (Puts-fails {U = Unit {0}} _ (Puts-fails {U = Unit {0}} _ (Puts-fails {U = Unit {0}} _ (Puts-is c.in_err-put_head.ensures (ap (λ n. line (codes "IDENT" ∷ codes "3:0" ∷ []) ++ line (codes "SET" ∷ codes "CHANNELS" ∷ decimal n ∷ [])) c.channels.ensures.channels))))))
+    Puts-stops _ (Puts-fails {U = Unit {0}} _
+    (Puts-fails {U = Unit {0}} _ (Puts-fails {U = Unit {0}} _
+    (Puts-fails {U = Unit {0}} _ (Puts-is c.in_err-put_head.ensures
+    (ap (λ n. line (codes "IDENT" ∷ codes "3:0" ∷ []) ++ line (codes "SET" ∷ codes "CHANNELS" ∷ decimal n ∷ []))
+    c.channels.ensures.channels))))))
     c.from_residual.ensures
 
 pub returns-in_err-write_each : goal.returns-in_err-write_each
 returns-in_err-write_each g c =
-    Puts-stops _ (Puts-fails {U = Unit {0}} _ (Puts-fails {U = Unit {0}} _ (Puts-fails {U = Unit {0}} _ (Puts-then (Puts-is c.in_ok-put_head.ensures (ap (λ n. line (codes "IDENT" ∷ codes "3:0" ∷ []) ++ line (codes "SET" ∷ codes "CHANNELS" ∷ decimal n ∷ [])) c.channels.ensures.channels))
+    Puts-stops _ (Puts-fails {U = Unit {0}} _
+    (Puts-fails {U = Unit {0}} _ (Puts-fails {U = Unit {0}} _
+    (Puts-then (Puts-is c.in_ok-put_head.ensures
+    (ap (λ n. line (codes "IDENT" ∷ codes "3:0" ∷ []) ++ line (codes "SET" ∷ codes "CHANNELS" ∷ decimal n ∷ []))
+    c.channels.ensures.channels))
     (Puts-is c.in_err-write_each.ensures (ap (λ (rows : List PatchRow). flat_map patch_text rows) c.patch.ensures.patch))))))
     c.from_residual-in_err-write_each.ensures
 
 pub returns-in_err-write_each-2 : goal.returns-in_err-write_each-2
 returns-in_err-write_each-2 g c =
-    Puts-stops _ (Puts-fails {U = Unit {0}} _ (Puts-fails {U = Unit {0}} _ (Puts-then (Puts-then (Puts-is c.in_ok-put_head.ensures (ap (λ n. line (codes "IDENT" ∷ codes "3:0" ∷ []) ++ line (codes "SET" ∷ codes "CHANNELS" ∷ decimal n ∷ [])) c.channels.ensures.channels))
+    Puts-stops _ (Puts-fails {U = Unit {0}} _
+    (Puts-fails {U = Unit {0}} _ (Puts-then (Puts-then
+    (Puts-is c.in_ok-put_head.ensures (ap (λ n. line (codes "IDENT" ∷ codes "3:0" ∷ []) ++ line
+    (codes "SET" ∷ codes "CHANNELS" ∷ decimal n ∷ [])) c.channels.ensures.channels))
     (Puts-is c.in_ok-write_each.ensures (ap (λ (rows : List PatchRow). flat_map patch_text rows) c.patch.ensures.patch)))
     (Puts-is c.in_err-write_each-2.ensures (ap (λ (groups : List Group). flat_map group_text groups) c.groups.ensures.groups)))))
     c.from_residual-in_err-write_each-2.ensures
 
 pub returns-in_err-write_each-3 : goal.returns-in_err-write_each-3
 returns-in_err-write_each-3 g c =
-    Puts-stops _ (Puts-fails {U = Unit {0}} _ (Puts-then (Puts-then (Puts-then (Puts-is c.in_ok-put_head.ensures (ap (λ n. line (codes "IDENT" ∷ codes "3:0" ∷ []) ++ line (codes "SET" ∷ codes "CHANNELS" ∷ decimal n ∷ [])) c.channels.ensures.channels))
+    Puts-stops _ (Puts-fails {U = Unit {0}} _
+    (Puts-then (Puts-then (Puts-then (Puts-is c.in_ok-put_head.ensures
+    (ap (λ n. line (codes "IDENT" ∷ codes "3:0" ∷ []) ++ line (codes "SET" ∷ codes "CHANNELS" ∷ decimal n ∷ []))
+    c.channels.ensures.channels))
     (Puts-is c.in_ok-write_each.ensures (ap (λ (rows : List PatchRow). flat_map patch_text rows) c.patch.ensures.patch)))
     (Puts-is c.in_ok-write_each-2.ensures (ap (λ (groups : List Group). flat_map group_text groups) c.groups.ensures.groups)))
     (Puts-is c.in_err-write_each-3.ensures (ap (λ (subs : List Sub). flat_map sub_text subs) c.subs.ensures.subs))))
@@ -34,7 +48,10 @@ returns-in_err-write_each-3 g c =
 
 pub returns-in_err-write_each-4 : goal.returns-in_err-write_each-4
 returns-in_err-write_each-4 g c =
-    Puts-stops _ (Puts-then (Puts-then (Puts-then (Puts-then (Puts-is c.in_ok-put_head.ensures (ap (λ n. line (codes "IDENT" ∷ codes "3:0" ∷ []) ++ line (codes "SET" ∷ codes "CHANNELS" ∷ decimal n ∷ [])) c.channels.ensures.channels))
+    Puts-stops _ (Puts-then (Puts-then (Puts-then
+    (Puts-then (Puts-is c.in_ok-put_head.ensures
+    (ap (λ n. line (codes "IDENT" ∷ codes "3:0" ∷ []) ++ line (codes "SET" ∷ codes "CHANNELS" ∷ decimal n ∷ []))
+    c.channels.ensures.channels))
     (Puts-is c.in_ok-write_each.ensures (ap (λ (rows : List PatchRow). flat_map patch_text rows) c.patch.ensures.patch)))
     (Puts-is c.in_ok-write_each-2.ensures (ap (λ (groups : List Group). flat_map group_text groups) c.groups.ensures.groups)))
     (Puts-is c.in_ok-write_each-3.ensures (ap (λ (subs : List Sub). flat_map sub_text subs) c.subs.ensures.subs)))
@@ -43,7 +60,10 @@ returns-in_err-write_each-4 g c =
 
 pub returns : goal.returns
 returns g c =
-    Puts-then (Puts-then (Puts-then (Puts-then (Puts-then (Puts-is c.in_ok-put_head.ensures (ap (λ n. line (codes "IDENT" ∷ codes "3:0" ∷ []) ++ line (codes "SET" ∷ codes "CHANNELS" ∷ decimal n ∷ [])) c.channels.ensures.channels))
+    Puts-then (Puts-then (Puts-then (Puts-then
+    (Puts-then (Puts-is c.in_ok-put_head.ensures
+    (ap (λ n. line (codes "IDENT" ∷ codes "3:0" ∷ []) ++ line (codes "SET" ∷ codes "CHANNELS" ∷ decimal n ∷ []))
+    c.channels.ensures.channels))
     (Puts-is c.in_ok-write_each.ensures (ap (λ (rows : List PatchRow). flat_map patch_text rows) c.patch.ensures.patch)))
     (Puts-is c.in_ok-write_each-2.ensures (ap (λ (groups : List Group). flat_map group_text groups) c.groups.ensures.groups)))
     (Puts-is c.in_ok-write_each-3.ensures (ap (λ (subs : List Sub). flat_map sub_text subs) c.subs.ensures.subs)))

@@ -10,7 +10,9 @@ returns-in-Edit-clause-answers c = λ d stands.
     (answers_edit d _ c.edit.result c.args.self.now c.edit.new.self stands c.edit.ensures.ok c.edit.ensures.err)
 
 pub returns-in-Key-clause-answers : goal.returns-in-Key-clause-answers
-returns-in-Key-clause-answers c = λ d stands. subst (λ (command : Command). Answers d command c.press.result c.press.new.self) (sym c.in-Key.is) (answers d _ c.press.result _ (c.press.ensures.obeys d stands))
+returns-in-Key-clause-answers c = λ d stands. subst (λ (command : Command). Answers d command c.press.result c.press.new.self)
+    (sym c.in-Key.is) (answers d _ c.press.result _ (c.press.ensures.obeys d stands))
 
 pub returns-in-Tick-clause-answers : goal.returns-in-Tick-clause-answers
-returns-in-Tick-clause-answers c = λ d stands. subst (λ (command : Command). Answers d command c.tick.result c.tick.new.self) (sym c.in-Tick.is) (answers d _ c.tick.result _ (c.tick.ensures.obeys d stands))
+returns-in-Tick-clause-answers c = λ d stands. subst (λ (command : Command). Answers d command c.tick.result c.tick.new.self)
+    (sym c.in-Tick.is) (answers d _ c.tick.result _ (c.tick.ensures.obeys d stands))

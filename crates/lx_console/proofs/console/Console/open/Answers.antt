@@ -9,6 +9,7 @@ returns c =
     let faders = c.in_ok-rack.ensures.faders in
     let playback = c.in_ok-playback.ensures in
     record {
-      same = ap (λ (levers : List ℕ). record { show = c.args.show; playback = c.in_ok-playback.playback; faders = levers; master = 255 }) faders ∙ ap (λ (p : Playback). record { show = c.args.show; playback = p; faders = replicate SUBS 0; master = 255 }) playback;
+      same = ap (λ (levers : List ℕ). record { show = c.args.show; playback = c.in_ok-playback.playback; faders = levers; master = 255 })
+          faders ∙ ap (λ (p : Playback). record { show = c.args.show; playback = p; faders = replicate SUBS 0; master = 255 }) playback;
       rest = kept-opened c.args.show;
     }

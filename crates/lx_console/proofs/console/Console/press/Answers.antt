@@ -15,10 +15,12 @@ returns-in-Play-clause-obeys c = λ d stands.
 pub returns-in-Fader-clause-obeys : goal.returns-in-Fader-clause-obeys
 returns-in-Fader-clause-obeys c = λ d stands.
     subst (λ (key : Key). Obeys d (commands.Key key) c.set_fader.result c.set_fader.new.self) (sym c.in-Fader.is)
-    (obeys_fader d c.in-Fader.sub c.in-Fader.level c.set_fader.result c.args.self.now c.set_fader.new.self stands c.set_fader.ensures.ok c.set_fader.ensures.state c.set_fader.ensures.err c.set_fader.ensures.absent)
+    (obeys_fader d c.in-Fader.sub c.in-Fader.level c.set_fader.result c.args.self.now c.set_fader.new.self stands c.set_fader.ensures.ok
+    c.set_fader.ensures.state c.set_fader.ensures.err c.set_fader.ensures.absent)
 
 pub returns-in-Master-clause-obeys : goal.returns-in-Master-clause-obeys
 returns-in-Master-clause-obeys c = λ d stands. record {
-  ok = subst (λ (key : Key). IsOkAnd (step d (commands.Key key)) (λ next. StandsFor next c.set_master.new.self)) (sym c.in-Master.is) (obeys_master d c.in-Master.level c.args.self.now c.set_master.new.self stands c.set_master.ensures);
+  ok = subst (λ (key : Key). IsOkAnd (step d (commands.Key key)) (λ next. StandsFor next c.set_master.new.self)) (sym c.in-Master.is)
+      (obeys_master d c.in-Master.level c.args.self.now c.set_master.new.self stands c.set_master.ensures);
   err = tt;
 }

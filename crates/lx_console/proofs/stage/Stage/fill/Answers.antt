@@ -17,17 +17,24 @@ returns c =
     let rows = c.args.show.now.patch in
     let outs = c.args.self.now.outs in
     let slots = c.args.self.now.slots in
-    let outs_are : take outs.len (c.mix_into.new.out ++ drop (length c.mix_into.new.out) outs.items) ≡ c.mix_into.new.out = written outs.len c.mix_into.new.out outs.items (omega (arith, c.mix_into.auto.out, c.deref_mut.ensures.len)) in
-    let slots_are : take slots.len (c.frame_into.new.slots ++ drop (length c.frame_into.new.slots) slots.items) ≡ c.frame_into.new.slots = written slots.len c.frame_into.new.slots slots.items (omega (arith, c.frame_into.auto.slots, c.deref_mut-2.ensures.len)) in
+    let outs_are : take outs.len (c.mix_into.new.out ++ drop (length c.mix_into.new.out) outs.items) ≡ c.mix_into.new.out =
+    written outs.len c.mix_into.new.out outs.items (omega (arith, c.mix_into.auto.out, c.deref_mut.ensures.len)) in
+    let slots_are : take slots.len (c.frame_into.new.slots ++ drop (length c.frame_into.new.slots) slots.items) ≡ c.frame_into.new.slots =
+    written slots.len c.frame_into.new.slots slots.items (omega (arith, c.frame_into.auto.slots, c.deref_mut-2.ensures.len)) in
     let mixed = c.mix_into.ensures in
     record {
       reaches = record {
         outs_reach = ap length outs_are ∙ c.mix_into.auto.out ∙ ap length c.deref_mut.ensures.value ∙ c.requires.reaches.outs_reach;
         mixed_reach = c.requires.reaches.mixed_reach;
-        slots_reach = ap length slots_are ∙ c.frame_into.auto.slots ∙ ap length c.deref_mut-2.ensures.value ∙ c.requires.reaches.slots_reach;
+        slots_reach = ap length slots_are ∙ c.frame_into.auto.slots ∙ ap length c.deref_mut-2.ensures.value
+            ∙ c.requires.reaches.slots_reach;
       };
       patch_stands = c.requires.patch;
-      outs = λ k within. ap (λ (xs : List ℕ). get_or xs k 0) outs_are ∙ mixed k (omega (arith, within, ap length outs_are)) ∙ ap (λ (xs : List ℕ). scaled (max (get_or c.args.levels.now k 0) (get_or xs k 0)) c.args.master) c.contribution.ensures.given;
-      slots_stand = subst (λ (xs : List ℕ). IsTable SLOTS (dimmer_value rows (λ n. get_or (take outs.len (c.mix_into.new.out ++ drop (length c.mix_into.new.out) outs.items)) (n - 1) 0)) xs) (sym slots_are)
-          (subst (λ (xs : List ℕ). IsTable SLOTS (dimmer_value rows (λ n. get_or xs (n - 1) 0)) c.frame_into.new.slots) c.deref.ensures.value (c.frame_into.ensures rows c.requires.patch));
+      outs = λ k within. ap (λ (xs : List ℕ). get_or xs k 0) outs_are ∙ mixed k (omega (arith, within, ap length outs_are))
+          ∙ ap (λ (xs : List ℕ). scaled (max (get_or c.args.levels.now k 0) (get_or xs k 0)) c.args.master) c.contribution.ensures.given;
+      slots_stand = subst (λ (xs : List ℕ). IsTable SLOTS
+          (dimmer_value rows (λ n. get_or (take outs.len (c.mix_into.new.out ++ drop (length c.mix_into.new.out) outs.items)) (n - 1) 0))
+          xs) (sym slots_are)
+          (subst (λ (xs : List ℕ). IsTable SLOTS (dimmer_value rows (λ n. get_or xs (n - 1) 0)) c.frame_into.new.slots)
+          c.deref.ensures.value (c.frame_into.ensures rows c.requires.patch));
     }

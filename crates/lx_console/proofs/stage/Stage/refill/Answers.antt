@@ -13,7 +13,8 @@ Slots rows outs slots = IsTable SLOTS (dimmer_value rows (λ n. get_or outs (n -
 
 pub follow-requires-clause-reach : goal.follow-requires-clause-reach
 follow-requires-clause-reach c =
-    let enough : c.args.show.now.channels ≤ length c.deref-2.result.now = omega (arith, c.deref-2.ensures.len, c.requires.reaches.mixed_reach) in
+    let enough : c.args.show.now.channels ≤ length c.deref-2.result.now =
+    omega (arith, c.deref-2.ensures.len, c.requires.reaches.mixed_reach) in
     reaches c.args.show.now c.args.self.now.table (length c.deref-2.result.now) c.channels.ensures.valid enough c.requires.patch
 
 pub returns : goal.returns
@@ -22,11 +23,15 @@ returns c =
     let outs = c.args.self.now.outs in
     let mixed = c.args.self.now.mixed in
     let slots = c.args.self.now.slots in
-    let mixed_are : take mixed.len (c.mix_into.new.out ++ drop (length c.mix_into.new.out) mixed.items) ≡ c.mix_into.new.out = written mixed.len c.mix_into.new.out mixed.items (omega (arith, c.mix_into.auto.out, c.deref_mut.ensures.len)) in
-    let slots_are : take slots.len (c.follow.new.slots ++ drop (length c.follow.new.slots) slots.items) ≡ c.follow.new.slots = written slots.len c.follow.new.slots slots.items (omega (arith, c.follow.auto.slots, c.deref_mut-2.ensures.len)) in
+    let mixed_are : take mixed.len (c.mix_into.new.out ++ drop (length c.mix_into.new.out) mixed.items) ≡ c.mix_into.new.out =
+    written mixed.len c.mix_into.new.out mixed.items (omega (arith, c.mix_into.auto.out, c.deref_mut.ensures.len)) in
+    let slots_are : take slots.len (c.follow.new.slots ++ drop (length c.follow.new.slots) slots.items) ≡ c.follow.new.slots =
+    written slots.len c.follow.new.slots slots.items (omega (arith, c.follow.auto.slots, c.deref_mut-2.ensures.len)) in
     let outs_are : c.swap.new.x.items ≡ c.mix_into.new.out = ap (λ v. v.items) c.swap.ensures.x_after ∙ mixed_are in
-    let old = subst (λ (xs : List ℕ). Slots rows c.deref.result.now xs) (sym c.deref_mut-2.ensures.value) (subst (λ (xs : List ℕ). Slots rows xs slots.items) (sym c.deref.ensures.value) c.requires.slots) in
-    let new = subst (λ (xs : List ℕ). Slots rows xs c.follow.new.slots) (c.deref-2.ensures.value ∙ mixed_are ∙ sym outs_are) (c.follow.ensures rows c.requires.patch old) in
+    let old = subst (λ (xs : List ℕ). Slots rows c.deref.result.now xs) (sym c.deref_mut-2.ensures.value)
+    (subst (λ (xs : List ℕ). Slots rows xs slots.items) (sym c.deref.ensures.value) c.requires.slots) in
+    let new = subst (λ (xs : List ℕ). Slots rows xs c.follow.new.slots) (c.deref-2.ensures.value ∙ mixed_are ∙ sym outs_are)
+    (c.follow.ensures rows c.requires.patch old) in
     record {
       reaches = record {
         outs_reach = ap length outs_are ∙ c.mix_into.auto.out ∙ ap length c.deref_mut.ensures.value ∙ c.requires.reaches.mixed_reach;
@@ -34,6 +39,7 @@ returns c =
         slots_reach = ap length slots_are ∙ c.follow.auto.slots ∙ ap length c.deref_mut-2.ensures.value ∙ c.requires.reaches.slots_reach;
       };
       patch_stands = c.requires.patch;
-      outs = λ k within. ap (λ (xs : List ℕ). get_or xs k 0) outs_are ∙ c.mix_into.ensures k (omega (arith, within, ap length outs_are)) ∙ ap (λ (xs : List ℕ). scaled (max (get_or c.args.levels.now k 0) (get_or xs k 0)) c.args.master) c.contribution.ensures.given;
+      outs = λ k within. ap (λ (xs : List ℕ). get_or xs k 0) outs_are ∙ c.mix_into.ensures k (omega (arith, within, ap length outs_are))
+          ∙ ap (λ (xs : List ℕ). scaled (max (get_or c.args.levels.now k 0) (get_or xs k 0)) c.args.master) c.contribution.ensures.given;
       slots_stand = subst (λ (xs : List ℕ). Slots rows c.swap.new.x.items xs) (sym slots_are) new;
     }

@@ -1,5 +1,6 @@
+use Rattle.lx_edit.specs.declared.chan_set.TheConstants.{WORDS}
 use Rattle.lx_edit.proofs.ChanBits.{has_chan-empty}
 use Rattle.lx_edit.proofs.chan_set.ChanSet.empty.Goals as goal
 
 pub returns : goal.returns
-returns c = λ x. has_chan-empty x
+returns c = λ x. has_chan-empty WORDS x

@@ -10,12 +10,15 @@ compare_exchange-found-requires g c =
     let offer = c.plain-offer.ensures in
     let pen = c.no_pen-pen.ensures in
     let again = c.again-seen.ensures in
-    let len : length (flat c.again-seen.result.log) ≡ c.self.inside.count = ap (λ s. length (flat s.log)) again ∙ sym c.self.invariant.0 in (
+    let len : length (flat c.again-seen.result.log) ≡ c.self.inside.count = ap (λ s. length (flat s.log)) again
+    ∙ sym c.self.invariant.0 in (
       ap (λ w. w.tracked) h,
       ap (λ s. s.book) again ∙ (c.self.invariant.1 ∙ sym (ap (λ w. w.book) h)),
       pen.0 ∙ (ap (λ s. s.book) again ∙ (c.self.invariant.1 ∙ sym (ap (λ w. w.book) h))),
       offer.0,
-      rw (ap (λ w. w.key) h, pen.1, offer.1, offer.3) (adds_moves c.again-seen.result.log c.args.commands.now c.self.inside.count (c.self.inside.count + length c.args.commands.now) len refl),
+      rw (ap (λ w. w.key) h, pen.1, offer.1, offer.3)
+          (adds_moves c.again-seen.result.log c.args.commands.now c.self.inside.count (c.self.inside.count + length c.args.commands.now) len
+          refl),
     )
 
 pub returns-then-found-count : goal.returns-then-found-count
@@ -25,5 +28,7 @@ returns-then-found-count g c =
     let old : flat c.again-seen.result.log ≡ c.args.self.now = ap (λ s. flat s.log) again ∙ c.self.view_is in
     let found = c.compare_exchange-found in
     let longer : IsLonger (flat c.again-seen.result.log) (flat found.new.seen.log) =
-    adds_longer c.again-seen.result.log found.new.seen.log c.plain-offer.result.ask c.self.inside.count found.result c.if-found-count.true len found.ensures.6 found.ensures.7 in
-    subst (λ (w : List Command). IsLonger c.args.self.now w) (sym (c.drop.view_is ∙ c.of_parts.ensures)) (subst (λ (w : List Command). IsLonger w (flat found.new.seen.log)) old longer)
+    adds_longer c.again-seen.result.log found.new.seen.log c.plain-offer.result.ask c.self.inside.count found.result c.if-found-count.true
+    len found.ensures.6 found.ensures.7 in
+    subst (λ (w : List Command). IsLonger c.args.self.now w) (sym (c.drop.view_is ∙ c.of_parts.ensures))
+    (subst (λ (w : List Command). IsLonger w (flat found.new.seen.log)) old longer)

@@ -13,6 +13,7 @@ invariant_of-self c =
     record {
       right =
           c.refresh.ensures.right (set stacks k c.push_run.new.stack) (get_or-set_at stacks k k c.push_run.new.stack no_stack refl room)
-          (right_but c.self.inside.moment k c.self.inside.roster stacks c.self.inside.currents.items c.self.inside.levels.items c.push_run.new.stack c.self.invariant.right);
+          (right_but c.self.inside.moment k c.self.inside.roster stacks c.self.inside.currents.items c.self.inside.levels.items
+          c.push_run.new.stack c.self.invariant.right);
       room = c.self.invariant.room;
     }

@@ -10,7 +10,9 @@ invariant_of-self c =
     let room = subst (λ (v : Kept). c.args.k < length v.stacks) (sym c.self.view_is) c.requires in
     record {
       right =
-          c.refresh.ensures.right (set stacks c.args.k c.restart.new.self) (get_or-set_at stacks c.args.k c.args.k c.restart.new.self no_stack refl room)
-          (right_but c.self.inside.moment c.args.k c.self.inside.roster stacks c.self.inside.currents.items c.self.inside.levels.items c.restart.new.self c.self.invariant.right);
+          c.refresh.ensures.right (set stacks c.args.k c.restart.new.self)
+          (get_or-set_at stacks c.args.k c.args.k c.restart.new.self no_stack refl room)
+          (right_but c.self.inside.moment c.args.k c.self.inside.roster stacks c.self.inside.currents.items c.self.inside.levels.items
+          c.restart.new.self c.self.invariant.right);
       room = c.self.invariant.room;
     }

@@ -15,15 +15,20 @@ loop-k-preserved c = λ last older is.
     let p = c.args.playback.now in
     let run_is : c.in-Some.run'.now ≡ last = same_run_copied c.in-Some.run'.now last (c.in-Some.ensures.last last older is) in
     let within : c.loop-k.k < show.channels = omega (arith, c.loop-k-test.true, c.channels-k-end.ensures.channels) in
-    let looks = c.level_at.ensures.stands show c.requires.rows in
+    let looks = c.level_near-looks.ensures.stands show c.requires.rows in
     let acts_is : c.acts.result ≡ acts show (last_cue p.base older) c.in-Some.run'.now c.channel_at-c.result =
-    c.acts.ensures c.before_last-from.result looks ∙ ap (λ n. acts show n c.in-Some.run'.now c.channel_at-c.result) (c.before_last-from.ensures last older is) in
+    c.acts.ensures c.before_last-from.result looks
+    ∙ ap (λ n. acts show n c.in-Some.run'.now c.channel_at-c.result) (c.before_last-from.ensures last older is) in
     elim c.if-acts.branch [
       | then-acts w ↦ subst (IsAdded show p older (c.loop-k.k + 1)) (sym w.self-is)
-          (channel_added show p last c.in-Some.run'.now older c.loop-k.k c.channel_at-c.result c.loop-k.self w.add_run.new.self is (starts_now show p c.args.self.now last older c.requires.stood is) c.channel_at-c.ensures run_is (sym acts_is ∙ w.if-acts.true) within
-          (λ x from. w.add_run.ensures.level x (omega (arith, from, (c.loop-k.invariant last older is).moment))) w.add_run.ensures.few w.add_run.ensures.others (c.loop-k.invariant last older is))
+          (channel_added show p last c.in-Some.run'.now older c.loop-k.k c.channel_at-c.result c.loop-k.self w.add_run.new.self is
+          (starts_now show p c.args.self.now last older c.requires.stood is) c.channel_at-c.ensures run_is
+          (sym acts_is ∙ w.if-acts.true) within
+          (λ x from. w.add_run.ensures.level x (omega (arith, from, (c.loop-k.invariant last older is).moment))) w.add_run.ensures.few
+          w.add_run.ensures.others (c.loop-k.invariant last older is))
       | else-acts w ↦ subst (IsAdded show p older (c.loop-k.k + 1)) (sym w.self-is)
-          (channel_passed show p last c.in-Some.run'.now older c.loop-k.k c.channel_at-c.result c.loop-k.self is c.channel_at-c.ensures run_is (sym acts_is ∙ w.if-acts.false) within (c.loop-k.invariant last older is))
+          (channel_passed show p last c.in-Some.run'.now older c.loop-k.k c.channel_at-c.result c.loop-k.self is c.channel_at-c.ensures
+          run_is (sym acts_is ∙ w.if-acts.false) within (c.loop-k.invariant last older is))
     ]
 
 pub loop-k-preserved-then-stays_at : goal.loop-k-preserved-then-stays_at
@@ -34,7 +39,11 @@ loop-k-preserved-then-stays_at c = λ last older is.
     let added = c.loop-k.invariant last older is in
     let run_is : c.in-Some.run'.now ≡ last = same_run_copied c.in-Some.run'.now last (c.in-Some.ensures.last last older is) in
     let within : k < show.channels = omega (arith, c.loop-k-test.true, c.channels-k-end.ensures.channels) in
-    let target : tracked show last.cue (k + 1) ≡ c.level_at-target.result =
-    ap (λ n. tracked show last.cue n) (sym c.channel_at-c.ensures) ∙ ap (λ (r : Run). tracked show r.cue c.channel_at-c.result) (sym run_is ∙ sym c.run.view_is) ∙ sym (c.level_at-target.ensures.stands show c.requires.rows) in
-    let still = subst (λ m. IsStill m (stack_of c.loop-k.self k) c.level_at-target.result) added.moment (c.stays_at.ensures c.if-stays_at.true) in
-    still_added show p last older k c.level_at-target.result c.loop-k.self is (starts_now show p c.args.self.now last older c.requires.stood is) within target still added
+    let target : tracked show last.cue (k + 1) ≡ c.level_near-target.result =
+    ap (λ n. tracked show last.cue n) (sym c.channel_at-c.ensures)
+    ∙ ap (λ (r : Run). tracked show r.cue c.channel_at-c.result) (sym run_is ∙ sym c.run.view_is)
+    ∙ sym (c.level_near-target.ensures.stands show c.requires.rows) in
+    let still = subst (λ m. IsStill m (stack_of c.loop-k.self k) c.level_near-target.result) added.moment
+    (c.stays_at.ensures c.if-stays_at.true) in
+    still_added show p last older k c.level_near-target.result c.loop-k.self is
+    (starts_now show p c.args.self.now last older c.requires.stood is) within target still added

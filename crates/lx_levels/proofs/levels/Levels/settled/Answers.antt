@@ -2,4 +2,10 @@ use Rattle.std.proofs.Common.{arith}
 use Rattle.lx_levels.proofs.levels.Levels.settled.Goals as goal
 
 pub channel_at-requires : goal.channel_at-requires
-channel_at-requires c = omega (arith, c.loop-k-test.true, c.len-k-end.ensures, c.self.invariant.right.reaches.of_levels, c.self.invariant.right.reaches.few)
+channel_at-requires c = omega (
+  arith,
+  c.loop-k-test.true,
+  c.len-k-end.ensures,
+  c.self.invariant.right.reaches.of_levels,
+  c.self.invariant.right.reaches.few,
+)

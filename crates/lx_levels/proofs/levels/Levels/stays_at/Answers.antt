@@ -14,6 +14,8 @@ returns-then-index-level c = λ off.
     let within : k < length c.self.inside.stacks.items = subst (λ (v : Kept). k < length v.stacks) (sym c.self.view_is) c.requires in
     let reach : k < length c.self.inside.roster.order = omega (arith, within, c.self.invariant.right.reaches.of_stacks) in
     let still = (c.self.invariant.right.told k reach).still (sym c.has.ensures ∙ off_of c.has.result off) in
-    let read : c.index.result.now ≡ get_or levels k 0 = get_or_read levels k c.index.result.now (omega (arith, reach, c.self.invariant.right.reaches.of_levels)) c.index.ensures 0 in
-    let level : get_or levels k 0 ≡ c.args.level = sym read ∙ (let e : c.index.result.now ≡ c.args.level = omega (arith, c.if-index-level.true) in e) in
+    let read : c.index.result.now ≡ get_or levels k 0 =
+    get_or_read levels k c.index.result.now (omega (arith, reach, c.self.invariant.right.reaches.of_levels)) c.index.ensures 0 in
+    let level : get_or levels k 0 ≡ c.args.level = sym read
+    ∙ (let e : c.index.result.now ≡ c.args.level = omega (arith, c.if-index-level.true) in e) in
     subst (λ (v : Kept). IsStill v.moment (stack_of v k) c.args.level) c.self.view_is (λ x from. still x from ∙ level)

@@ -14,7 +14,9 @@ loop-e-preserved-then-levels-e-gt0 c =
       within = omega (arith, c.loop-e.invariant.within);
       top = c.loop-e.invariant.top;
       top_most = c.loop-e.invariant.top_most;
-      chained = chained_lit c.args.places.now c.args.levels.now first c.loop-e.self.next.items c.loop-e.e e k c.index.result.now c.loop-e.invariant.chained (omega (arith, c.loop-e-test.true)) c.loop-e.invariant.within refl within (omega (arith, c.if-levels-e-gt0.true))
+      chained = chained_lit c.args.places.now c.args.levels.now first c.loop-e.self.next.items c.loop-e.e e k c.index.result.now
+          c.loop-e.invariant.chained (omega (arith, c.loop-e-test.true)) c.loop-e.invariant.within refl within
+          (omega (arith, c.if-levels-e-gt0.true))
           (get_or_read first k c.index.result.now (omega (arith, within, c.loop-e.invariant.chained.first_reach)) c.index.ensures 0);
     }
 
@@ -23,5 +25,6 @@ loop-e-preserved c = record {
   within = omega (arith, c.loop-e.invariant.within);
   top = c.loop-e.invariant.top;
   top_most = c.loop-e.invariant.top_most;
-  chained = chained_dark c.args.places.now c.args.levels.now c.loop-e.self.first.items c.loop-e.self.next.items c.loop-e.e (c.loop-e.e - 1) c.loop-e.invariant.chained (omega (arith, c.loop-e-test.true)) (omega (arith, c.if-levels-e-gt0.false));
+  chained = chained_dark c.args.places.now c.args.levels.now c.loop-e.self.first.items c.loop-e.self.next.items c.loop-e.e (c.loop-e.e - 1)
+      c.loop-e.invariant.chained (omega (arith, c.loop-e-test.true)) (omega (arith, c.if-levels-e-gt0.false));
 }

@@ -8,7 +8,8 @@ pub loop-i-preserved : goal.loop-i-preserved
 loop-i-preserved c =
     let rows = c.patch-rows.result.now in
     let here = drop_before rows c.loop-i.i c.index-rows-i.result c.loop-i-test.true c.loop-i.auto.i c.index-rows-i.is in
-    subst (λ (xs : List PatchRow). StandsForPatch xs c.set.new.self) (sym here) (stands_first c.index-rows-i.result _ c.set.new.self (c.set.ensures _ c.loop-i.invariant))
+    subst (λ (xs : List PatchRow). StandsForPatch xs c.set.new.self) (sym here)
+    (stands_first c.index-rows-i.result _ c.set.new.self (c.set.ensures _ c.loop-i.invariant))
 
 pub returns : goal.returns
 returns c =

@@ -8,5 +8,8 @@ use Rattle.lx_playback.proofs.playback.Playback.live.Goals as goal
 
 pub returns-clause-each : goal.returns-clause-each
 returns-clause-each c =
-    let all : AllByRecursion (ValidRun c.args.self.now.moment) c.args.self.now.live = subst (λ (p : Playback). AllByRecursion (ValidRun p.moment) p.live) c.self.view_is c.self.invariant.valid.live in
-    All-backwards (ValidRun c.args.self.now.moment) c.as_slice.result.now (subst (λ (runs : List Run). AllByRecursion (ValidRun c.args.self.now.moment) runs) (sym (ap reverse c.as_slice.ensures.value ∙ ap (λ (p : Playback). p.live) c.self.view_is)) all)
+    let all : AllByRecursion (ValidRun c.args.self.now.moment) c.args.self.now.live =
+    subst (λ (p : Playback). AllByRecursion (ValidRun p.moment) p.live) c.self.view_is c.self.invariant.valid.live in
+    All-backwards (ValidRun c.args.self.now.moment) c.as_slice.result.now
+    (subst (λ (runs : List Run). AllByRecursion (ValidRun c.args.self.now.moment) runs)
+    (sym (ap reverse c.as_slice.ensures.value ∙ ap (λ (p : Playback). p.live) c.self.view_is)) all)

@@ -1,9 +1,8 @@
-use Rattle.std.proofs.Common.{ap, sym, ◌∙◌}
+use Rattle.std.proofs.Common.{ap}
 use Rattle.lx_io.proofs.Chain.{Puts-is}
 use Rattle.lx_session.specs.LineReply.{reply_to}
 use Rattle.lx_session.proofs.turn.Turn.finish.Goals as goal
 
-pub returns-in-Some-clause-text : goal.returns-in-Some-clause-text
-returns-in-Some-clause-text g c = λ d stands.
-    Puts-is (c.reply_to_line.ensures.text d stands)
-    (ap (λ m. reply_to d m c.self.inside.refusal) (sym c.in-Some.is) ∙ ap (λ t. reply_to d t.meaning t.refusal) c.self.view_is)
+pub returns-clause-text : goal.returns-clause-text
+returns-clause-text g c = λ d stands.
+    Puts-is (c.reply_to_line.ensures.text d stands) (ap (λ t. reply_to d t.meaning t.refusal) c.self.view_is)

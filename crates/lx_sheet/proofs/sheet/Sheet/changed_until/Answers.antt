@@ -10,7 +10,8 @@ use Rattle.lx_sheet.specs.Block.{AreApart, own_rows, cell, cue_level, row_at_pla
 use Rattle.lx_sheet.specs.After.{level_after, IsRight}
 use Rattle.lx_sheet.specs.Standing.{cue_numbers}
 use Rattle.lx_sheet.specs.Block.{count_under}
-use Rattle.lx_sheet.proofs.RightRows.{IsOrderOf, order_length, count_under-map, count_under_within, right_below, right_past, last_right, column_right, last_within, until}
+use Rattle.lx_sheet.proofs.RightRows.{IsOrderOf, order_length, count_under-map, count_under_within, right_below, right_past, last_right}
+use Rattle.lx_sheet.proofs.RightRows.{column_right, last_within, until}
 use Rattle.lx_sheet.proofs.Past.{level_of_past, tracked_past}
 use Rattle.lx_sheet.proofs.RowPool.{own_apart}
 use Rattle.lx_sheet.proofs.Rows.{last_value_same, sheet_of, level_of_block, count_up_to, numbers-rows_of}
@@ -18,11 +19,18 @@ use Rattle.lx_sheet.proofs.sheet.Sheet.changed_until.Goals as goal
 
 pub fill_column-requires-clause-from : goal.fill_column-requires-clause-from
 fill_column-requires-clause-from c =
-    omega (arith, ap length c.below-first.ensures, count_under-map (λ (cue : Cue). cue.number) c.get-then-get-self.result c.cues-cues.result.now, count_under_within c.get-then-get-self.result (map (λ (cue : Cue). cue.number) c.cues-cues.result.now), length-map c.cues-cues.result.now (λ (cue : Cue). cue.number))
+    omega (
+      arith,
+      ap length c.below-first.ensures,
+      count_under-map (λ (cue : Cue). cue.number) c.get-then-get-self.result c.cues-cues.result.now,
+      count_under_within c.get-then-get-self.result (map (λ (cue : Cue). cue.number) c.cues-cues.result.now),
+      length-map c.cues-cues.result.now (λ (cue : Cue). cue.number),
+    )
 
 pub fill_column-requires-clause-rows : goal.fill_column-requires-clause-rows
 fill_column-requires-clause-rows c =
-    subst (λ (xs : List Place). AreApart (own_rows xs)) (sym c.deref.ensures.value) (own_apart c.self.inside.order.items c.self.inside.free.items c.self.invariant.pool)
+    subst (λ (xs : List Place). AreApart (own_rows xs)) (sym c.deref.ensures.value)
+    (own_apart c.self.inside.order.items c.self.inside.free.items c.self.invariant.pool)
 
 pub fill_column-requires-clause-to : goal.fill_column-requires-clause-to
 fill_column-requires-clause-to c = last_within c.args.to c.cues-cues.result.now c.count_below-last.result c.count_below-last.ensures
@@ -43,21 +51,36 @@ returns-then-get-self-clause-column c =
     let of_cues : cues ≡ show.cues = c.cues-cues.ensures.cues in
     let of_first : first ≡ count_under from (cue_numbers show) =
     ap length c.below-first.ensures ∙ count_under-map (λ (cue : Cue). cue.number) c.get-then-get-self.result cues
-    ∙ ap (λ n. count_under n (map (λ (cue : Cue). cue.number) cues)) c.get-then-get-self.ensures.value ∙ ap (λ (xs : List Cue). count_under from (map (λ cue. cue.number) xs)) of_cues in
+    ∙ ap (λ n. count_under n (map (λ (cue : Cue). cue.number) cues)) c.get-then-get-self.ensures.value
+    ∙ ap (λ (xs : List Cue). count_under from (map (λ cue. cue.number) xs)) of_cues in
     let written = with_items_is c.self.inside.levels new (omega arith) in
-    let numbers : map (λ (p : Place). p.cue) order ≡ cue_numbers show = sym (numbers-rows_of channels order old) ∙ ap numbers_of c.self.view_is ∙ c.requires.numbers in
-    let is : IsOrderOf show order = record { sorted = c.self.invariant.sorted; cues_sorted = c.cues-cues.ensures.valid.cues_sorted; numbers = numbers } in
+    let numbers : map (λ (p : Place). p.cue) order ≡ cue_numbers show = sym (numbers-rows_of channels order old)
+    ∙ ap numbers_of c.self.view_is ∙ c.requires.numbers in
+    let is : IsOrderOf show order = record {
+      sorted = c.self.invariant.sorted;
+      cues_sorted = c.cues-cues.ensures.valid.cues_sorted;
+      numbers = numbers;
+    } in
     let long : length order ≡ length show.cues = order_length show order is in
-    let below : (n : ℕ) → n < from → level_of (sheet_of channels order old) n chan ≡ tracked show n chan = λ n less. ap (λ (s : Sheet). level_of s n chan) c.self.view_is ∙ c.requires.below n less in
-    let front : (k : ℕ) → k < first → IsRight channels order show.cues old k chan = λ k less. right_below show from channels order old chan k is below (omega (arith, of_first, less)) in
-    let start : last_value first (λ k. cue_level channels c.deref.result.now c.deref_mut.result.now k chan) ≡ level_after (take first cues) chan =
+    let below : (n : ℕ) → n < from → level_of (sheet_of channels order old) n chan ≡ tracked show n chan =
+    λ n less. ap (λ (s : Sheet). level_of s n chan) c.self.view_is ∙ c.requires.below n less in
+    let front : (k : ℕ) → k < first → IsRight channels order show.cues old k chan =
+    λ k less. right_below show from channels order old chan k is below (omega (arith, of_first, less)) in
+    let start : last_value first (λ k. cue_level channels c.deref.result.now c.deref_mut.result.now k chan)
+    ≡ level_after (take first cues) chan =
     ap (λ (xs : List Place). last_value first (λ k. cue_level channels xs c.deref_mut.result.now k chan)) of_order
     ∙ ap (λ (xs : List ℕ). last_value first (λ k. cue_level channels order xs k chan)) of_old
     ∙ last_right channels order show.cues old chan first front
     ∙ sym (ap (λ (xs : List Cue). level_after (take first xs) chan) of_cues) in
-    let stays : (k : ℕ) → cue_level channels c.deref.result.now new k chan ≡ cue_level channels c.deref.result.now c.deref_mut.result.now k chan → cue_level channels order new k chan ≡ cue_level channels order old k chan =
-    λ k same. ap (λ (xs : List Place). cue_level channels xs new k chan) (sym of_order) ∙ same ∙ ap (λ (xs : List Place). cue_level channels xs c.deref_mut.result.now k chan) of_order ∙ ap (λ (xs : List ℕ). cue_level channels order xs k chan) of_old in
-    let right_above : IfSome c.args.to (λ end. (n : ℕ) → end ≤ n → level_of (sheet_of channels order old) n chan ≡ tracked show n chan) = subst (λ (s : Sheet). IfSome c.args.to (λ end. (n : ℕ) → end ≤ n → level_of s n chan ≡ tracked show n chan)) (sym c.self.view_is) c.requires.above in
+    let stays : (k : ℕ) → cue_level channels c.deref.result.now new k chan
+    ≡ cue_level channels c.deref.result.now c.deref_mut.result.now k chan
+    → cue_level channels order new k chan ≡ cue_level channels order old k chan =
+    λ k same. ap (λ (xs : List Place). cue_level channels xs new k chan) (sym of_order) ∙ same
+    ∙ ap (λ (xs : List Place). cue_level channels xs c.deref_mut.result.now k chan) of_order
+    ∙ ap (λ (xs : List ℕ). cue_level channels order xs k chan) of_old in
+    let right_above : IfSome c.args.to (λ end. (n : ℕ) → end ≤ n → level_of (sheet_of channels order old) n chan ≡ tracked show n chan) =
+    subst (λ (s : Sheet). IfSome c.args.to (λ end. (n : ℕ) → end ≤ n → level_of s n chan ≡ tracked show n chan)) (sym c.self.view_is)
+    c.requires.above in
     subst (λ (xs : List ℕ). (n : ℕ) → level_of (sheet_of channels order xs) n chan ≡ tracked show n chan) (sym written)
     (column_right show channels order new chan is (λ k within. elim (cases_lt k first) [
       | inl less ↦ stays k (c.fill_column.ensures.front k less) ∙ front k less
@@ -82,16 +105,22 @@ returns-then-get-self-clause-others c = λ n chan other.
     let written = with_items_is c.self.inside.levels new (omega arith) in
     ap (λ (xs : List ℕ). level_of (sheet_of channels order xs) n chan) written
     ∙ level_of_block channels order new n chan c.self.invariant.sorted
-    ∙ last_value_same (count_up_to n (map (λ (p : Place). p.cue) order)) _ _ (λ k less. c.fill_column.ensures.others (row_at_place order k) chan other ∙ ap (λ (xs : List ℕ). cell channels xs (row_at_place order k) chan) c.deref_mut.ensures.value)
+    ∙ last_value_same (count_up_to n (map (λ (p : Place). p.cue) order)) _ _
+    (λ k less. c.fill_column.ensures.others (row_at_place order k) chan other
+    ∙ ap (λ (xs : List ℕ). cell channels xs (row_at_place order k) chan) c.deref_mut.ensures.value)
     ∙ sym (level_of_block channels order old n chan c.self.invariant.sorted)
     ∙ ap (λ (s : Sheet). level_of s n chan) c.self.view_is
 
 pub returns-then-get-self-clause-numbers : goal.returns-then-get-self-clause-numbers
-returns-then-get-self-clause-numbers c = numbers-rows_of c.self.inside.channels c.self.inside.order.items _ ∙ sym (numbers-rows_of c.self.inside.channels c.self.inside.order.items c.self.inside.levels.items) ∙ ap numbers_of c.self.view_is
+returns-then-get-self-clause-numbers c = numbers-rows_of c.self.inside.channels c.self.inside.order.items _
+    ∙ sym (numbers-rows_of c.self.inside.channels c.self.inside.order.items c.self.inside.levels.items) ∙ ap numbers_of c.self.view_is
 
 pub returns-else-get-self-clause-column : goal.returns-else-get-self-clause-column
 returns-else-get-self-clause-column c = λ n.
     let past : c.self.inside.channels < c.args.chan = omega (arith, c.get.ensures.value) in
-    let channels : c.self.inside.channels ≡ c.args.show.now.channels = ap (λ (s : Sheet). s.channels) c.self.view_is ∙ c.requires.channels in
-    sym (ap (λ (s : Sheet). level_of s n c.args.chan) c.self.view_is) ∙ level_of_past c.self.inside.channels c.self.inside.order.items c.self.inside.levels.items n c.args.chan c.self.invariant.sorted past
+    let channels : c.self.inside.channels ≡ c.args.show.now.channels = ap (λ (s : Sheet). s.channels) c.self.view_is
+    ∙ c.requires.channels in
+    sym (ap (λ (s : Sheet). level_of s n c.args.chan) c.self.view_is)
+    ∙ level_of_past c.self.inside.channels c.self.inside.order.items c.self.inside.levels.items n c.args.chan c.self.invariant.sorted
+    past
     ∙ sym (tracked_past c.args.show.now n c.args.chan c.cues-cues.ensures.valid (omega (arith, channels, past)))

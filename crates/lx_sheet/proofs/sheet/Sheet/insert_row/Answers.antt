@@ -11,7 +11,7 @@ use Rattle.lx_spec.specs.TrackedLevel.{cue_of}
 use Rattle.lx_sheet.specs.declared.sheet.Place.{Place}
 use Rattle.lx_sheet.specs.Block.{AreApart, own_rows}
 use Rattle.lx_sheet.specs.After.{IsFilled}
-use Rattle.lx_sheet.specs.Standing.{StandsFor}
+use Rattle.lx_sheet.specs.Standing.{RowsStandFor}
 use Rattle.lx_sheet.proofs.RightRows.{order_of, order_length}
 use Rattle.lx_sheet.proofs.RowPool.{own_apart}
 use Rattle.lx_sheet.proofs.Rows.{sheet_of}
@@ -20,7 +20,8 @@ use Rattle.lx_sheet.proofs.sheet.Sheet.insert_row.Goals as goal
 
 pub fill_from-requires-clause-rows : goal.fill_from-requires-clause-rows
 fill_from-requires-clause-rows c =
-    subst (λ (xs : List Place). AreApart (own_rows xs)) (sym c.deref.ensures.value) (own_apart c.add_place.new.order.items c.add_place.new.free.items c.add_place.ensures.pool)
+    subst (λ (xs : List Place). AreApart (own_rows xs)) (sym c.deref.ensures.value)
+    (own_apart c.add_place.new.order.items c.add_place.new.free.items c.add_place.ensures.pool)
 
 pub returns-then-len-cues : goal.returns-then-len-cues
 returns-then-len-cues c = λ before cue stands number absent now.
@@ -32,36 +33,55 @@ returns-then-len-cues c = λ before cue stands number absent now.
     let new : List Place = c.add_place.new.order.items in
     let levels : List ℕ = c.self.inside.levels.items in
     let filled : List ℕ = c.fill_from.new.levels in
-    let was : StandsFor before (sheet_of channels old levels) = subst (StandsFor before) (sym c.self.view_is) stands in
+    let was : RowsStandFor before (sheet_of channels old levels) = subst (RowsStandFor before) (sym c.self.view_is) stands in
     let order = order_of before channels old levels c.self.invariant.sorted was in
     let of_cues : c.cues-cues.result.now ≡ show.cues = c.cues-cues.ensures.cues ∙ ap (λ (s : Show). s.cues) now in
-    let width : length c.deref_mut-then-len-cues.result.now ≡ channels = omega (arith, ap length c.deref_mut-then-len-cues.ensures.value, c.self.invariant.look_room) in
+    let width : length c.deref_mut-then-len-cues.result.now ≡ channels =
+    omega (arith, ap length c.deref_mut-then-len-cues.ensures.value, c.self.invariant.look_room) in
     let is : IsFilled channels new show.cues levels filled at (at + 1) =
-    filled_as _ channels _ new _ show.cues _ levels filled at (at + 1) width c.deref.ensures.value of_cues c.deref_mut.ensures.value c.fill_from.ensures in
-    subst (λ (s : Show). StandsFor s (sheet_of channels new (with_items c.self.inside.levels filled).items)) (sym now)
-    (subst (λ (xs : List ℕ). StandsFor show (sheet_of channels new xs)) (sym (with_items_is c.self.inside.levels filled (omega arith)))
+    filled_as _ channels _ new _ show.cues _ levels filled at (at + 1) width c.deref.ensures.value of_cues c.deref_mut.ensures.value
+    c.fill_from.ensures in
+    subst (λ (s : Show). RowsStandFor s (sheet_of channels new (with_items c.self.inside.levels filled).items)) (sym now)
+    (subst (λ (xs : List ℕ). RowsStandFor show (sheet_of channels new xs)) (sym (with_items_is c.self.inside.levels filled (omega arith)))
     (shifted_stands before show channels old new levels filled at at (at + 1) c.self.invariant.sorted c.add_place.ensures.sorted
     (subst (λ (s : Show). IsStrictlySorted (λ x. x.number) s.cues) now c.cues-cues.ensures.valid.cues_sorted) was.channels was
-    (inserted before cue n at old new _ order.cues_sorted order.numbers number absent c.in-Some.ensures.goes refl c.in-Some.ensures.added) is))
+    (inserted before cue n at old new _ order.cues_sorted order.numbers number absent c.in-Some.ensures.goes refl c.in-Some.ensures.added)
+    is))
 
 -- the order has a place for each cue of the show
-as_long : (before : Show) (cue : Cue) (n : ℕ) (old : List Place) → IsStrictlySorted (λ p. p.cue) old → IsStrictlySorted (λ x. x.number) before.cues → cue.number ≡ n → cue_of before n ≡ None → length old ≡ length before.cues → length (with_cue before cue).cues ≡ length old + 1
-as_long before cue n old sorted cues_sorted number absent same = one_more before cue cues_sorted (ap (cue_of before) number ∙ absent) ∙ ap (λ k. k + 1) (sym same)
+as_long : (before : Show) (cue : Cue) (n : ℕ) (old : List Place) → IsStrictlySorted (λ p. p.cue) old
+    → IsStrictlySorted (λ x. x.number) before.cues → cue.number ≡ n → cue_of before n ≡ None → length old ≡ length before.cues
+    → length (with_cue before cue).cues ≡ length old + 1
+as_long before cue n old sorted cues_sorted number absent same = one_more before cue cues_sorted (ap (cue_of before) number ∙ absent)
+    ∙ ap (λ k. k + 1) (sym same)
 
 pub returns-else-len-cues : goal.returns-else-len-cues
 returns-else-len-cues c = λ before cue stands number absent now.
     let old : List Place = c.self.inside.order.items in
-    let was : StandsFor before (sheet_of c.self.inside.channels old c.self.inside.levels.items) = subst (StandsFor before) (sym c.self.view_is) stands in
+    let was : RowsStandFor before (sheet_of c.self.inside.channels old c.self.inside.levels.items) =
+    subst (RowsStandFor before) (sym c.self.view_is) stands in
     let order = order_of before c.self.inside.channels old c.self.inside.levels.items c.self.invariant.sorted was in
-    let more : length (with_cue before cue).cues ≡ length old + 1 = as_long before cue c.args.n old c.self.invariant.sorted order.cues_sorted number absent (order_length before old order) in
-    let longer : length c.add_place.new.order.items ≡ length old + 1 = ap length c.in-Some.ensures.added ∙ length-insert old c.in-Some.at _ c.in-Some.ensures.goes.within in
-    absurd (c.if-len-cues.false (omega (arith, c.add_place.new.order.ok, more, longer, ap length c.cues-cues.ensures.cues, ap (λ (s : Show). length s.cues) now)))
+    let more : length (with_cue before cue).cues ≡ length old + 1 =
+    as_long before cue c.args.n old c.self.invariant.sorted order.cues_sorted number absent (order_length before old order) in
+    let longer : length c.add_place.new.order.items ≡ length old + 1 = ap length c.in-Some.ensures.added
+    ∙ length-insert old c.in-Some.at _ c.in-Some.ensures.goes.within in
+    absurd (c.if-len-cues.false (omega (
+      arith,
+      c.add_place.new.order.ok,
+      more,
+      longer,
+      ap length c.cues-cues.ensures.cues,
+      ap (λ (s : Show). length s.cues) now,
+    )))
 
 pub returns-in_default : goal.returns-in_default
 returns-in_default c = λ before cue stands number absent now.
     let old : List Place = c.self.inside.order.items in
-    let was : StandsFor before (sheet_of c.self.inside.channels old c.self.inside.levels.items) = subst (StandsFor before) (sym c.self.view_is) stands in
+    let was : RowsStandFor before (sheet_of c.self.inside.channels old c.self.inside.levels.items) =
+    subst (RowsStandFor before) (sym c.self.view_is) stands in
     let order = order_of before c.self.inside.channels old c.self.inside.levels.items c.self.invariant.sorted was in
-    let more : length (with_cue before cue).cues ≡ length old + 1 = as_long before cue c.args.n old c.self.invariant.sorted order.cues_sorted number absent (order_length before old order) in
-    let full : CUES ≤ length old = c.add_place.ensures.none c.in_default.is (absent_alike (λ (x : Cue). x.number) (λ (p : Place). p.cue) c.args.n before.cues old (sym order.numbers) absent) in
+    let more : length (with_cue before cue).cues ≡ length old + 1 =
+    as_long before cue c.args.n old c.self.invariant.sorted order.cues_sorted number absent (order_length before old order) in
+    let full : CUES ≤ length old = c.add_place.ensures.none c.in_default.is
+    (absent_alike (λ (x : Cue). x.number) (λ (p : Place). p.cue) c.args.n before.cues old (sym order.numbers) absent) in
     absurd (omega (arith, full, more, c.cues-cues.ensures.valid.few_cues, ap (λ (s : Show). length s.cues) now))

@@ -7,7 +7,7 @@ use Rattle.lx_spec.specs.EditedShow.{without_cue}
 use Rattle.lx_sheet.specs.declared.sheet.Place.{Place}
 use Rattle.lx_sheet.specs.Block.{AreApart, own_rows}
 use Rattle.lx_sheet.specs.After.{IsFilled}
-use Rattle.lx_sheet.specs.Standing.{StandsFor}
+use Rattle.lx_sheet.specs.Standing.{RowsStandFor}
 use Rattle.lx_sheet.proofs.RightRows.{order_of}
 use Rattle.lx_sheet.proofs.RowPool.{own_apart}
 use Rattle.lx_sheet.proofs.Rows.{sheet_of}
@@ -16,7 +16,8 @@ use Rattle.lx_sheet.proofs.sheet.Sheet.remove_row.Goals as goal
 
 pub fill_from-requires-clause-rows : goal.fill_from-requires-clause-rows
 fill_from-requires-clause-rows c =
-    subst (λ (xs : List Place). AreApart (own_rows xs)) (sym c.deref.ensures.value) (own_apart c.drop_place.new.order.items c.drop_place.new.free.items c.drop_place.ensures.pool)
+    subst (λ (xs : List Place). AreApart (own_rows xs)) (sym c.deref.ensures.value)
+    (own_apart c.drop_place.new.order.items c.drop_place.new.free.items c.drop_place.ensures.pool)
 
 pub returns-then-len-cues : goal.returns-then-len-cues
 returns-then-len-cues c = λ before stands now.
@@ -28,14 +29,16 @@ returns-then-len-cues c = λ before stands now.
     let new : List Place = c.drop_place.new.order.items in
     let levels : List ℕ = c.self.inside.levels.items in
     let filled : List ℕ = c.fill_from.new.levels in
-    let was : StandsFor before (sheet_of channels old levels) = subst (StandsFor before) (sym c.self.view_is) stands in
+    let was : RowsStandFor before (sheet_of channels old levels) = subst (RowsStandFor before) (sym c.self.view_is) stands in
     let order = order_of before channels old levels c.self.invariant.sorted was in
     let of_cues : c.cues-cues.result.now ≡ show.cues = c.cues-cues.ensures.cues ∙ ap (λ (s : Show). s.cues) now in
-    let width : length c.deref_mut-then-len-cues.result.now ≡ channels = omega (arith, ap length c.deref_mut-then-len-cues.ensures.value, c.self.invariant.look_room) in
+    let width : length c.deref_mut-then-len-cues.result.now ≡ channels =
+    omega (arith, ap length c.deref_mut-then-len-cues.ensures.value, c.self.invariant.look_room) in
     let is : IsFilled channels new show.cues levels filled at at =
-    filled_as _ channels _ new _ show.cues _ levels filled at at width c.deref.ensures.value of_cues c.deref_mut.ensures.value c.fill_from.ensures in
-    subst (λ (s : Show). StandsFor s (sheet_of channels new (with_items c.self.inside.levels filled).items)) (sym now)
-    (subst (λ (xs : List ℕ). StandsFor show (sheet_of channels new xs)) (sym (with_items_is c.self.inside.levels filled (omega arith)))
+    filled_as _ channels _ new _ show.cues _ levels filled at at width c.deref.ensures.value of_cues c.deref_mut.ensures.value
+    c.fill_from.ensures in
+    subst (λ (s : Show). RowsStandFor s (sheet_of channels new (with_items c.self.inside.levels filled).items)) (sym now)
+    (subst (λ (xs : List ℕ). RowsStandFor show (sheet_of channels new xs)) (sym (with_items_is c.self.inside.levels filled (omega arith)))
     (shifted_stands before show channels old new levels filled at (at + 1) at c.self.invariant.sorted c.drop_place.ensures.sorted
     (subst (λ (s : Show). IsStrictlySorted (λ x. x.number) s.cues) now c.cues-cues.ensures.valid.cues_sorted) was.channels was
     (removed before n at old new order.cues_sorted order.numbers c.in-Some.ensures.stands c.in-Some.ensures.dropped) is))
@@ -43,22 +46,34 @@ returns-then-len-cues c = λ before stands now.
 pub returns-else-len-cues : goal.returns-else-len-cues
 returns-else-len-cues c = λ before stands now.
     let old : List Place = c.self.inside.order.items in
-    let was : StandsFor before (sheet_of c.self.inside.channels old c.self.inside.levels.items) = subst (StandsFor before) (sym c.self.view_is) stands in
+    let was : RowsStandFor before (sheet_of c.self.inside.channels old c.self.inside.levels.items) =
+    subst (RowsStandFor before) (sym c.self.view_is) stands in
     let order = order_of before c.self.inside.channels old c.self.inside.levels.items c.self.invariant.sorted was in
     let new : List Place = c.drop_place.new.order.items in
-    let shifted = removed before c.args.n c.in-Some.at old new order.cues_sorted order.numbers c.in-Some.ensures.stands c.in-Some.ensures.dropped in
+    let shifted = removed before c.args.n c.in-Some.at old new order.cues_sorted order.numbers c.in-Some.ensures.stands
+    c.in-Some.ensures.dropped in
     let long : length new ≡ length (without_cue before c.args.n).cues =
-    sym (length-map new (λ (p : Place). p.cue)) ∙ ap length shifted.numbers ∙ length-map (without_cue before c.args.n).cues (λ (x : Cue). x.number) in
-    absurd (c.if-len-cues.false (omega (arith, c.drop_place.new.order.ok, long, ap length c.cues-cues.ensures.cues, ap (λ (s : Show). length s.cues) now)))
+    sym (length-map new (λ (p : Place). p.cue)) ∙ ap length shifted.numbers
+    ∙ length-map (without_cue before c.args.n).cues (λ (x : Cue). x.number) in
+    absurd (c.if-len-cues.false (omega (
+      arith,
+      c.drop_place.new.order.ok,
+      long,
+      ap length c.cues-cues.ensures.cues,
+      ap (λ (s : Show). length s.cues) now,
+    )))
 
 pub returns-in_default : goal.returns-in_default
 returns-in_default c = λ before stands now.
     let old : List Place = c.self.inside.order.items in
     let channels : ℕ = c.self.inside.channels in
     let levels : List ℕ = c.self.inside.levels.items in
-    let was : StandsFor before (sheet_of channels old levels) = subst (StandsFor before) (sym c.self.view_is) stands in
+    let was : RowsStandFor before (sheet_of channels old levels) = subst (RowsStandFor before) (sym c.self.view_is) stands in
     let order = order_of before channels old levels c.self.invariant.sorted was in
-    let absent = absent_alike (λ (p : Place). p.cue) (λ (x : Cue). x.number) c.args.n old before.cues order.numbers (c.drop_place.ensures.absent c.in_default.is) in
-    subst (λ (s : Show). StandsFor s (sheet_of channels c.drop_place.new.order.items levels)) (sym now)
-    (subst (λ (xs : List Place). StandsFor (without_cue before c.args.n) (sheet_of channels xs levels)) (sym (c.drop_place.ensures.none c.in_default.is))
-    (subst (λ (cues : List Cue). StandsFor (record before { cues = cues }) (sheet_of channels old levels)) (sym (taken_absent (λ (x : Cue). x.number) c.args.n before.cues absent)) was))
+    let absent = absent_alike (λ (p : Place). p.cue) (λ (x : Cue). x.number) c.args.n old before.cues order.numbers
+    (c.drop_place.ensures.absent c.in_default.is) in
+    subst (λ (s : Show). RowsStandFor s (sheet_of channels c.drop_place.new.order.items levels)) (sym now)
+    (subst (λ (xs : List Place). RowsStandFor (without_cue before c.args.n) (sheet_of channels xs levels))
+    (sym (c.drop_place.ensures.none c.in_default.is))
+    (subst (λ (cues : List Cue). RowsStandFor (record before { cues = cues }) (sheet_of channels old levels))
+    (sym (taken_absent (λ (x : Cue). x.number) c.args.n before.cues absent)) was))

@@ -5,7 +5,7 @@ use Rattle.lx_show.specs.Indexes.{StandsAt}
 use Rattle.lx_spec.specs.Replies.{row_of}
 use Rattle.lx_sheet.specs.declared.sheet.Place.{Place}
 use Rattle.lx_sheet.specs.Rows.{Sheet, row_at, numbers_of}
-use Rattle.lx_sheet.specs.Standing.{StandsFor}
+use Rattle.lx_sheet.specs.Standing.{RowsStandFor}
 use Rattle.lx_sheet.specs.Block.{row_at_place, AreApart, own_rows}
 use Rattle.lx_sheet.proofs.Cells.{width_of}
 use Rattle.lx_sheet.proofs.Found.{row_found, row_absent, cue_found, cue_absent}
@@ -16,25 +16,34 @@ use Rattle.lx_sheet.proofs.sheet.Sheet.row.Goals as goal
 part : (channels row own : ℕ) (lent levels : List ℕ) → lent ≡ levels → row ≡ own
     → take ((row + 1) * channels - row * channels) (drop (row * channels) lent) ≡ take channels (drop (own * channels) levels)
 part channels row own lent levels same is =
-    ap (λ n. take n (drop (row * channels) lent)) (width_of row channels) ∙ ap (λ (xs : List ℕ). take channels (drop (row * channels) xs)) same ∙ ap (λ r. take channels (drop (r * channels) levels)) is
+    ap (λ n. take n (drop (row * channels) lent)) (width_of row channels)
+    ∙ ap (λ (xs : List ℕ). take channels (drop (row * channels) xs)) same ∙ ap (λ r. take channels (drop (r * channels) levels)) is
 
-place_is : (n m at : ℕ) (lent order : List Place) → m ≡ n → lent ≡ order → StandsAt (λ p. p.cue) m lent at → StandsAt (λ p. p.cue) n order at
-place_is n m at lent order number same stands = subst (λ (k : ℕ). StandsAt (λ p. p.cue) k order at) number (subst (λ (xs : List Place). StandsAt (λ p. p.cue) m xs at) same stands)
+place_is : (n m at : ℕ) (lent order : List Place) → m ≡ n → lent ≡ order → StandsAt (λ p. p.cue) m lent at
+    → StandsAt (λ p. p.cue) n order at
+place_is n m at lent order number same stands =
+    subst (λ (k : ℕ). StandsAt (λ p. p.cue) k order at) number (subst (λ (xs : List Place). StandsAt (λ p. p.cue) m xs at) same stands)
 
-absent_is : (n m : ℕ) (lent order : List Place) → m ≡ n → lent ≡ order → entry_at (λ p. p.cue) m lent ≡ None → entry_at (λ p. p.cue) n order ≡ None
-absent_is n m lent order number same absent = subst (λ (k : ℕ). entry_at (λ p. p.cue) k order ≡ None) number (subst (λ (xs : List Place). entry_at (λ p. p.cue) m xs ≡ None) same absent)
+absent_is : (n m : ℕ) (lent order : List Place) → m ≡ n → lent ≡ order → entry_at (λ p. p.cue) m lent ≡ None
+    → entry_at (λ p. p.cue) n order ≡ None
+absent_is n m lent order number same absent =
+    subst (λ (k : ℕ). entry_at (λ p. p.cue) k order ≡ None) number
+    (subst (λ (xs : List Place). entry_at (λ p. p.cue) m xs ≡ None) same absent)
 
 pub own_row-row-requires-clause-rows : goal.own_row-row-requires-clause-rows
 own_row-row-requires-clause-rows c =
-    subst (λ (xs : List Place). AreApart (own_rows xs)) (sym c.as_slice-order.ensures.value) (own_apart c.self.inside.order.items c.self.inside.free.items c.self.invariant.pool)
+    subst (λ (xs : List Place). AreApart (own_rows xs)) (sym c.as_slice-order.ensures.value)
+    (own_apart c.self.inside.order.items c.self.inside.free.items c.self.invariant.pool)
 
 pub returns-in-Ok-clause-row : goal.returns-in-Ok-clause-row
 returns-in-Ok-clause-row c =
     let order : List Place = c.self.inside.order.items in
     let levels : List ℕ = c.self.inside.levels.items in
     let channels : ℕ = c.self.inside.channels in
-    let place = place_is c.args.n c.get.result c.in-Ok.at c.as_slice-order.result.now order c.get.ensures.value c.as_slice-order.ensures.value c.in-Ok.ensures.stands in
-    ap Some (part channels c.own_row-row.result (row_at_place order c.in-Ok.at) c.deref.result.now levels c.deref.ensures.value (c.own_row-row.ensures.row ∙ ap (λ (xs : List Place). row_at_place xs c.in-Ok.at) c.as_slice-order.ensures.value))
+    let place = place_is c.args.n c.get.result c.in-Ok.at c.as_slice-order.result.now order c.get.ensures.value
+    c.as_slice-order.ensures.value c.in-Ok.ensures.stands in
+    ap Some (part channels c.own_row-row.result (row_at_place order c.in-Ok.at) c.deref.result.now levels c.deref.ensures.value
+    (c.own_row-row.ensures.row ∙ ap (λ (xs : List Place). row_at_place xs c.in-Ok.at) c.as_slice-order.ensures.value))
     ∙ row_found channels order levels c.args.n c.in-Ok.at c.self.invariant.sorted place
     ∙ ap (λ (s : Sheet). option_map (λ row. row.levels) (row_at s c.args.n)) c.self.view_is
 
@@ -43,9 +52,13 @@ returns-in-Ok-clause-stands c = λ show stands.
     let order : List Place = c.self.inside.order.items in
     let levels : List ℕ = c.self.inside.levels.items in
     let channels : ℕ = c.self.inside.channels in
-    let place = place_is c.args.n c.get.result c.in-Ok.at c.as_slice-order.result.now order c.get.ensures.value c.as_slice-order.ensures.value c.in-Ok.ensures.stands in
-    ap Some (part channels c.own_row-row.result (row_at_place order c.in-Ok.at) c.deref.result.now levels c.deref.ensures.value (c.own_row-row.ensures.row ∙ ap (λ (xs : List Place). row_at_place xs c.in-Ok.at) c.as_slice-order.ensures.value))
-    ∙ cue_found show channels order levels c.args.n c.in-Ok.at c.self.invariant.level_room (own_apart order c.self.inside.free.items c.self.invariant.pool) c.self.invariant.sorted place (subst (StandsFor show) (sym c.self.view_is) stands)
+    let place = place_is c.args.n c.get.result c.in-Ok.at c.as_slice-order.result.now order c.get.ensures.value
+    c.as_slice-order.ensures.value c.in-Ok.ensures.stands in
+    ap Some (part channels c.own_row-row.result (row_at_place order c.in-Ok.at) c.deref.result.now levels c.deref.ensures.value
+    (c.own_row-row.ensures.row ∙ ap (λ (xs : List Place). row_at_place xs c.in-Ok.at) c.as_slice-order.ensures.value))
+    ∙ cue_found show channels order levels c.args.n c.in-Ok.at c.self.invariant.level_room
+    (own_apart order c.self.inside.free.items c.self.invariant.pool) c.self.invariant.sorted place
+    (subst (RowsStandFor show) (sym c.self.view_is) stands)
 
 pub returns-in-Err-clause-row : goal.returns-in-Err-clause-row
 returns-in-Err-clause-row c =
@@ -53,7 +66,8 @@ returns-in-Err-clause-row c =
     let levels : List ℕ = c.self.inside.levels.items in
     let channels : ℕ = c.self.inside.channels in
     let goes = c.in-Err.ensures.goes in
-    row_absent channels order levels c.args.n (absent_is c.args.n c.get.result c.as_slice-order.result.now order c.get.ensures.value c.as_slice-order.ensures.value goes.absent)
+    row_absent channels order levels c.args.n
+    (absent_is c.args.n c.get.result c.as_slice-order.result.now order c.get.ensures.value c.as_slice-order.ensures.value goes.absent)
     ∙ ap (λ (s : Sheet). option_map (λ row. row.levels) (row_at s c.args.n)) c.self.view_is
 
 pub returns-in-Err-clause-stands : goal.returns-in-Err-clause-stands
@@ -62,4 +76,5 @@ returns-in-Err-clause-stands c = λ show stands.
     let levels : List ℕ = c.self.inside.levels.items in
     let channels : ℕ = c.self.inside.channels in
     let goes = c.in-Err.ensures.goes in
-    cue_absent show channels order levels c.args.n (λ cue. row_of show c.args.n) (ap numbers_of c.self.view_is ∙ stands.numbers) (absent_is c.args.n c.get.result c.as_slice-order.result.now order c.get.ensures.value c.as_slice-order.ensures.value goes.absent)
+    cue_absent show channels order levels c.args.n (λ cue. row_of show c.args.n) (ap numbers_of c.self.view_is ∙ stands.numbers)
+    (absent_is c.args.n c.get.result c.as_slice-order.result.now order c.get.ensures.value c.as_slice-order.ensures.value goes.absent)

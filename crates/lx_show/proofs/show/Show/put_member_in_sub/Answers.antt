@@ -10,12 +10,18 @@ use Rattle.lx_show.proofs.show.Show.put_member_in_sub.Goals as goal
 
 pub invariant_of-self : goal.invariant_of-self
 invariant_of-self c =
-    let here = sub_stands _ _ _ _ _ _ _ _ _ _ c.self.invariant c.as_slice.ensures.value c.find_near-at.ensures c.sub.view_is c.index_mut-sub.ensures.value in
-    let within : c.args.entry.chan ≤ c.self.inside.channels = subst (λ (s : Show). c.args.entry.chan ≤ s.channels) (sym c.self.view_is) c.requires.channel in
-    let member : ValidMember c.self.inside.channels c.args.entry = record { chan = record { least = c.of_member.ensures.chan.least; most = within }; level = c.of_member.ensures.level } in
-    stored_changed_sub _ _ _ _ _ _ _ _ _ c.self.invariant c.as_slice.ensures.value c.find_near-at.ensures here.number (sub_after_put c.put.result _ _ c.args.entry _ here.valid member c.put.ensures.ok c.put.ensures.err)
+    let here = sub_stands _ _ _ _ _ _ _ _ _ _ c.self.invariant c.as_slice.ensures.value c.find_near-at.ensures c.sub.view_is
+    c.index_mut-sub.ensures.value in
+    let within : c.args.entry.chan ≤ c.self.inside.channels =
+    subst (λ (s : Show). c.args.entry.chan ≤ s.channels) (sym c.self.view_is) c.requires.channel in
+    let member : ValidMember c.self.inside.channels c.args.entry =
+    record { chan = record { least = c.of_member.ensures.chan.least; most = within }; level = c.of_member.ensures.level } in
+    stored_changed_sub _ _ _ _ _ _ _ _ _ c.self.invariant c.as_slice.ensures.value c.find_near-at.ensures here.number
+    (sub_after_put c.put.result _ _ c.args.entry _ here.valid member c.put.ensures.ok c.put.ensures.err)
 
 pub returns-clause-ok : goal.returns-clause-ok
 returns-clause-ok c =
-    let here = sub_stands _ _ _ _ _ _ _ _ _ _ c.self.invariant c.as_slice.ensures.value c.find_near-at.ensures c.sub.view_is c.index_mut-sub.ensures.value in
-    on_ok_weaker c.put.result (sub_members_changed _ _ _ _ _ _ _ _ (λ (members : List Member). placed (λ m. m.chan) c.args.entry members) c.self.view_is c.get.ensures.value c.as_slice.ensures.value c.find_near-at.ensures here.at_place) c.put.ensures.ok
+    let here = sub_stands _ _ _ _ _ _ _ _ _ _ c.self.invariant c.as_slice.ensures.value c.find_near-at.ensures c.sub.view_is
+    c.index_mut-sub.ensures.value in
+    on_ok_weaker c.put.result (sub_members_changed _ _ _ _ _ _ _ _ (λ (members : List Member). placed (λ m. m.chan) c.args.entry members)
+    c.self.view_is c.get.ensures.value c.as_slice.ensures.value c.find_near-at.ensures here.at_place) c.put.ensures.ok

@@ -7,10 +7,15 @@ use Rattle.lx_show.proofs.show.Show.set_link.Goals as goal
 
 pub invariant_of-self : goal.invariant_of-self
 invariant_of-self c =
-    let here = cue_stands _ _ _ _ _ _ _ _ _ _ c.self.invariant c.as_slice.ensures.value c.find_near-at.ensures c.cue.view_is c.index_mut-cue.ensures.value in
-    stored_changed_cue _ _ _ _ _ _ _ _ _ c.self.invariant c.as_slice.ensures.value c.find_near-at.ensures here.number (with_settings _ _ _ _ (Some c.args.link) _ here.valid here.valid.follow (record { least = c.requires.number; most = omega (arith, c.get.ensures.range, c.get.ensures.value) }) here.valid.label)
+    let here = cue_stands _ _ _ _ _ _ _ _ _ _ c.self.invariant c.as_slice.ensures.value c.find_near-at.ensures c.cue.view_is
+    c.index_mut-cue.ensures.value in
+    stored_changed_cue _ _ _ _ _ _ _ _ _ c.self.invariant c.as_slice.ensures.value c.find_near-at.ensures here.number
+    (with_settings _ _ _ _ _ (Some c.args.link) _ here.valid here.valid.follow
+    (record { least = c.requires.number; most = omega (arith, c.get.ensures.range, c.get.ensures.value) }) here.valid.label)
 
 pub returns : goal.returns
 returns c =
-    let here = cue_stands _ _ _ _ _ _ _ _ _ _ c.self.invariant c.as_slice.ensures.value c.find_near-at.ensures c.cue.view_is c.index_mut-cue.ensures.value in
-    cue_changed _ _ _ _ _ _ _ (λ (cue : Cue). record cue { link = Some c.args.link }) c.self.view_is c.get-2.ensures.value c.as_slice.ensures.value c.find_near-at.ensures here.at_place refl
+    let here = cue_stands _ _ _ _ _ _ _ _ _ _ c.self.invariant c.as_slice.ensures.value c.find_near-at.ensures c.cue.view_is
+    c.index_mut-cue.ensures.value in
+    cue_changed _ _ _ _ _ _ _ (λ (cue : Cue). record cue { link = Some c.args.link }) c.self.view_is c.get-2.ensures.value
+    c.as_slice.ensures.value c.find_near-at.ensures here.at_place refl

@@ -6,10 +6,14 @@ use Rattle.lx_show.proofs.show.Show.set_sub_label.Goals as goal
 
 pub invariant_of-self : goal.invariant_of-self
 invariant_of-self c =
-    let here = sub_stands _ _ _ _ _ _ _ _ _ _ c.self.invariant c.as_slice.ensures.value c.find_near-at.ensures c.sub.view_is c.index_mut-sub.ensures.value in
-    stored_changed_sub _ _ _ _ _ _ _ _ _ c.self.invariant c.as_slice.ensures.value c.find_near-at.ensures here.number (record { number = here.valid.number; label = c.of_label.ensures; members = here.valid.members })
+    let here = sub_stands _ _ _ _ _ _ _ _ _ _ c.self.invariant c.as_slice.ensures.value c.find_near-at.ensures c.sub.view_is
+    c.index_mut-sub.ensures.value in
+    stored_changed_sub _ _ _ _ _ _ _ _ _ c.self.invariant c.as_slice.ensures.value c.find_near-at.ensures here.number
+    (record { number = here.valid.number; label = c.of_label.ensures; members = here.valid.members })
 
 pub returns : goal.returns
 returns c =
-    let here = sub_stands _ _ _ _ _ _ _ _ _ _ c.self.invariant c.as_slice.ensures.value c.find_near-at.ensures c.sub.view_is c.index_mut-sub.ensures.value in
-    sub_changed _ _ _ _ _ _ _ (λ (sub : Sub). record sub { label = c.args.label }) c.self.view_is c.get.ensures.value c.as_slice.ensures.value c.find_near-at.ensures here.at_place refl
+    let here = sub_stands _ _ _ _ _ _ _ _ _ _ c.self.invariant c.as_slice.ensures.value c.find_near-at.ensures c.sub.view_is
+    c.index_mut-sub.ensures.value in
+    sub_changed _ _ _ _ _ _ _ (λ (sub : Sub). record sub { label = c.args.label }) c.self.view_is c.get.ensures.value
+    c.as_slice.ensures.value c.find_near-at.ensures here.at_place refl

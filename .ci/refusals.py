@@ -1,0 +1,194 @@
+#!/usr/bin/env python3
+"""Runs the built program while one call of the C library fails: each allocation in turn, each read of the standard input and each write.
+
+    refusals.py PROGRAM
+
+The call is refused by a library of a few lines of C that is loaded before the C library (`LD_PRELOAD`), so that the program is the very
+one that was proved. `program.py` calls it. Prints what went wrong, and last 'N runs, M wrong'.
+"""
+import os
+import subprocess
+import sys
+import tempfile
+
+import plain_desk
+
+TIME_LIMIT = 20
+# Counts the calls of one kind, answers the one of a number with an error, and says at the end how many there were.
+SHIM = r"""
+#define _GNU_SOURCE
+#include <dlfcn.h>
+#include <errno.h>
+#include <fcntl.h>
+#include <stdlib.h>
+#include <string.h>
+#include <sys/mman.h>
+#include <unistd.h>
+
+static long unseen, *calls = &unseen;
+
+/* The count stands in a file, since the program may end without a word to its libraries. */
+__attribute__((constructor)) static void begin(void)
+{
+    const char *path = getenv("REFUSED_TOLD");
+    int file = path ? open(path, O_RDWR) : -1;
+    if (file < 0) return;
+    void *shared = mmap(NULL, sizeof *calls, PROT_READ | PROT_WRITE, MAP_SHARED, file, 0);
+    if (shared != MAP_FAILED) calls = shared;
+    close(file);
+}
+
+static int refuses(const char *kind)
+{
+    const char *wanted = getenv("REFUSED"), *at = getenv("REFUSED_AT");
+    return wanted && at && !strcmp(wanted, kind) && __sync_add_and_fetch(calls, 1) == atol(at);
+}
+
+#define NEXT(name) ((__typeof__(&name))dlsym(RTLD_NEXT, #name))
+
+void *malloc(size_t size)
+{
+    static __typeof__(&malloc) next;
+    if (!next) next = NEXT(malloc);
+    if (refuses("allocation")) { errno = ENOMEM; return NULL; }
+    return next(size);
+}
+
+void *realloc(void *old, size_t size)
+{
+    static __typeof__(&realloc) next;
+    if (!next) next = NEXT(realloc);
+    if (refuses("allocation")) { errno = ENOMEM; return NULL; }
+    return next(old, size);
+}
+
+ssize_t read(int file, void *to, size_t most)
+{
+    static __typeof__(&read) next;
+    if (!next) next = NEXT(read);
+    if (file == 0 && refuses("read")) { errno = EIO; return -1; }
+    return next(file, to, most);
+}
+
+ssize_t write(int file, const void *from, size_t count)
+{
+    static __typeof__(&write) next;
+    if (!next) next = NEXT(write);
+    if (file != 2 && refuses("write")) { errno = EIO; return -1; }
+    return next(file, from, count);
+}
+
+ssize_t __read(int file, void *to, size_t most) { return read(file, to, most); }
+ssize_t __write(int file, const void *from, size_t count) { return write(file, from, count); }
+"""
+SHOW = ("IDENT 3:0\nSET CHANNELS 24\nPATCH 1 1<1@FL 2<2@50 3<513@FL\nGROUP 4\nCHAN 1@50 2@FL\nSUB 2\nCHAN 2@FL\nCUE 1\nTEXT Preset\nUP 2\nCHAN 1@FL\nPART 2\n"
+        "UP 1\nCHAN 2@H64\nCUE 2\nUP 0\nDOWN 0\nCHAN 1@0\nENDDATA\n")
+SCRIPT = ["go", "tick 4", "frame", "set 1 chan 2 at H32", "cue 3", "set 3 chan 1 thru 20 at FL", "label 3 the third", "sheet 3", "fly", "set 9 chan 1 at 5",
+          "patch 700 chan 3 at 50", "part 3 2", "time 3 up 1", "block 3", "group 7 chan 1 at FL", "sub 2 chan 3 at 50", "sub 2 at FL", "delete 2 only", "sheet 1",
+          "save", "go", "tick", "frame", "frame 2", "quit"]
+WHOLE = (SHOW + "\n".join(SCRIPT) + "\n").encode()
+LOOKS = SHOW.encode() + b"sheet 1\nsheet 2\n"
+MADE = b"cues 1\nmoment 174\nok 3\nrefused 0\nsum 127\n"
+JOBS = [(("render",), WHOLE), (("render", "states"), LOOKS), (("check",), WHOLE), (("check", "states"), WHOLE), (("sheet",), WHOLE),
+        (("sheet", "states"), WHOLE), (("make", "1"), b""), (("run", "2"), WHOLE), (("run", "2", "states"), LOOKS)]
+
+
+class Refuser:
+    """The program beside the library that refuses."""
+
+    def __init__(self, program, folder):
+        self.program, self.folder, self.library = program, folder, os.path.join(folder, "refuse.so")
+        source = os.path.join(folder, "refuse.c")
+        with open(source, "w") as file:
+            file.write(SHIM)
+        subprocess.run(["cc", "-shared", "-fPIC", "-O1", "-o", self.library, source, "-ldl"], check=True)
+
+    def run(self, words, data, kind, at):
+        """Status, output, standard error, the outlets' files, and how many such calls there were."""
+        told = os.path.join(self.folder, "told")
+        with open(told, "wb") as file:
+            file.write(bytes(8))
+        with tempfile.TemporaryDirectory(dir=self.folder) as place:
+            env = dict(os.environ, LD_PRELOAD=self.library, REFUSED=kind, REFUSED_AT=str(at), REFUSED_TOLD=told)
+            run = subprocess.run([self.program, *words], input=data, stdout=subprocess.PIPE, stderr=subprocess.PIPE, env=env, cwd=place, timeout=TIME_LIMIT)
+            files = {}
+            for name in os.listdir(place):
+                with open(os.path.join(place, name), "rb") as file:
+                    files[name] = file.read()
+        with open(told, "rb") as file:
+            return run.returncode, run.stdout, run.stderr, files, int.from_bytes(file.read(), sys.byteorder)
+
+
+def without_refused(words, data, output):
+    """What the rules give where the edits that wanted memory in vain were never asked for, with their answers in place."""
+    if words[0] == "make":
+        # (an edit that wanted memory in vain is counted, and nothing more is told of it)
+        return MADE if b"refused 0" in output or not output.endswith(b"\n") else output
+    if words[0] not in ("render", "run") or b"refused Memory\n" not in output:
+        return plain_desk.output(words, data)[1]
+    replies = output.split(b"\n")
+    lines = data[data.index(b"ENDDATA\n") + 8:].split(b"\n")
+    show, kept, refused, at = data[:data.index(b"ENDDATA\n") + 8], [], [], 0
+    for line in lines:
+        wanted = plain_desk.output(words, show + b"\n".join(kept + [line]) + b"\n")[1]
+        before = plain_desk.output(words, show + b"\n".join(kept) + b"\n")[1]
+        if replies[at:at + 1] == [b"refused Memory"]:
+            refused.append(at)
+            at += 1
+        else:
+            kept.append(line)
+            at += wanted.count(b"\n") - before.count(b"\n")
+    rest = plain_desk.output(words, show + b"\n".join(kept) + b"\n")[1].split(b"\n")
+    for place in refused:
+        rest.insert(place, b"refused Memory")
+    return b"\n".join(rest)
+
+
+def wrong_with(refuser, words, data, kind, at, statuses):
+    """How many such calls a run had, and what went wrong in it."""
+    label = f"{' '.join(words)}, {kind} {at}"
+    try:
+        status, output, error, files, calls = refuser.run(words, data, kind, at)
+    except subprocess.TimeoutExpired:
+        return at, [f"{label}: no end within {TIME_LIMIT} seconds"]
+    whole = without_refused(words, data, output)
+    wrong = []
+    if status not in statuses or (at > calls and status != 0):
+        wrong.append(f"{label}: status {status}")
+    if error:
+        wrong.append(f"{label}: standard error {error[:100]!r}")
+    if not whole.startswith(output) or (status == 0 and output != whole):
+        wrong.append(f"{label}: status {status}, output {output[-100:]!r}")
+    for name, text in files.items():
+        universe = int(name.removeprefix("universe-").removesuffix(".txt"))
+        if status == 0 and b"refused Memory" not in output:
+            versions = plain_desk.versions(data, universe) if len(words) < 3 else None
+            lines = text.splitlines(keepends=True)
+            if versions is not None and (not set(lines) <= set(versions) or lines[-1:] != versions[-1:]):
+                wrong.append(f"{label}: {name} {text[-100:]!r}")
+    return calls, wrong
+
+
+def refusals(program):
+    """How many runs there were, and what went wrong in them."""
+    runs, wrong = 0, []
+    with tempfile.TemporaryDirectory() as folder:
+        refuser = Refuser(program, folder)
+        for words, data in JOBS:
+            for kind, statuses in (("allocation", (0, 5)), ("read", (0, 3)), ("write", (0, 4))):
+                at, calls = 0, 0
+                while at <= calls:
+                    at += 1
+                    calls, said = wrong_with(refuser, words, data, kind, at, statuses)
+                    runs, wrong = runs + 1, wrong + said
+    return runs, wrong
+
+
+def main():
+    runs, wrong = refusals(os.path.abspath(sys.argv[1]))
+    print(*wrong, f"{runs} runs, {len(wrong)} wrong", sep="\n")
+    return 1 if wrong else 0
+
+
+if __name__ == "__main__":
+    sys.exit(main())

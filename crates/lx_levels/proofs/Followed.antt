@@ -1,0 +1,226 @@
+-- Runs that are followed one after another.
+use Rattle.std.specs.Prelude.{◌≡◌, ℕ, ◌+◌, ◌<◌, ◌≤◌, Bool, true, false, cond, List, [], ◌∷◌, ◌++◌, length, take, drop, reverse}
+use Rattle.std.proofs.Common.{arith, get_or, ap, sym, subst, ◌∙◌, drop-cons, add-one}
+use Rattle.std.proofs.Math.Seq.{take-suc}
+use Rattle.std.proofs.lemmas.Grind.{common_steps}
+use Rattle.lx_spec.specs.Show.{Show}
+use Rattle.lx_spec.specs.declared.PartTimes.{PartTimes}
+use Rattle.lx_spec.specs.TrackedLevel.{tracked}
+use Rattle.lx_spec.specs.Run.{Run, acts, entry_for, entry_extent}
+use Rattle.lx_spec.specs.Level.{level, last_cue}
+use Rattle.lx_levels.specs.Stacks.{Stack, level_in}
+use Rattle.lx_levels.specs.Timed.{timed_over}
+use Rattle.lx_levels.specs.Following.{Follow, IsGround, IsReplayed, IsSeen}
+use Rattle.lx_levels.proofs.Recalled.{level_hidden, level_passed, level_pushed}
+
+-- one run more, the newest first
+reverse-end : (xs : List Run) (run : Run) → reverse (xs ++ run ∷ []) ≡ run ∷ reverse xs
+reverse-end xs run = grind (arith, common_steps)
+
+pub reverse_more : (live : List Run) (i : ℕ) (run : Run) → i < length live → run ≡ get_or live i run
+    → reverse (take (i + 1) live) ≡ run ∷ reverse (take i live)
+reverse_more live i run lt is =
+    (rw add-one (ap reverse (take-suc live i run lt))) ∙ reverse-end (take i live) (get_or live i run)
+    ∙ ap (λ r. r ∷ reverse (take i live)) (sym is)
+
+pub drop_more : (live : List Run) (i : ℕ) (run : Run) → i < length live → run ≡ get_or live i run
+    → drop i live ≡ run ∷ drop (i + 1) live
+drop_more live i run lt is =
+    (rw add-one (drop-cons live i run lt)) ∙ ap (λ r. r ∷ drop (i + 1) live) (sym is)
+
+lowered : (show : Show) (cue c from start low lower : ℕ) (newer : List Run) (b : Bool)
+    → (Follow show cue c low from newer → Follow show cue c lower from newer)
+    → Follow show cue c (cond b start low) from newer → Follow show cue c (cond b start lower) from newer
+lowered show cue c from start low lower newer true step rest = rest
+lowered show cue c from start low lower newer false step rest = step rest
+
+pub earlier : (show : Show) (before c low lower from : ℕ) (runs : List Run) → lower ≤ low → Follow show before c low from runs
+    → Follow show before c lower from runs
+earlier show before c low lower from [] le is = omega (arith, is, le)
+earlier show before c low lower from (run ∷ newer) le is = (
+  λ on. (let first : low ≤ run.start = is.0 on in omega (arith, first, le)),
+  lowered show run.cue c from run.start low lower newer (acts show before run c)
+      (λ rest. earlier show run.cue c low lower from newer le rest) is.1,
+)
+
+low_on : (show : Show) (cue c from start low : ℕ) (newer : List Run) (b : Bool) → b ≡ true → Follow show cue c start from newer
+    → Follow show cue c (cond b start low) from newer
+low_on show cue c from start low newer true is rest = rest
+low_on show cue c from start low newer false is rest = absurd cc
+
+low_off : (show : Show) (cue c from start low : ℕ) (newer : List Run) (b : Bool) → b ≡ false → Follow show cue c low from newer
+    → Follow show cue c (cond b start low) from newer
+low_off show cue c from start low newer false is rest = rest
+low_off show cue c from start low newer true is rest = absurd cc
+
+-- an older run that acts, and one that doesn't
+pub older_on : (show : Show) (before c since from : ℕ) (run : Run) (newer : List Run) → acts show before run c ≡ true → run.start ≤ since
+    → Follow show run.cue c since from newer → Follow show before c run.start from (run ∷ newer)
+older_on show before c since from run newer on le rest = (
+  λ _. (let same : run.start ≤ run.start = omega arith in same),
+  low_on show run.cue c from run.start run.start newer (acts show before run c) on
+      (earlier show run.cue c since run.start from newer le rest),
+)
+
+different : (b : Bool) → b ≡ false → b ≡ true → ⊥
+different b off on = cc
+
+pub older_off : (show : Show) (before c since from : ℕ) (run : Run) (newer : List Run) → acts show before run c ≡ false
+    → Follow show run.cue c since from newer → Follow show before c since from (run ∷ newer)
+older_off show before c since from run newer off rest = (
+  λ on. absurd (different (acts show before run c) off on),
+  low_off show run.cue c from run.start since newer (acts show before run c) off rest,
+)
+
+-- the first of the runs that follow acts, or doesn't
+rest_on : (show : Show) (cue c from start low : ℕ) (newer : List Run) (b : Bool) → b ≡ true
+    → Follow show cue c (cond b start low) from newer → Follow show cue c start from newer
+rest_on show cue c from start low newer true is rest = rest
+rest_on show cue c from start low newer false is rest = absurd cc
+
+rest_off : (show : Show) (cue c from start low : ℕ) (newer : List Run) (b : Bool) → b ≡ false
+    → Follow show cue c (cond b start low) from newer → Follow show cue c low from newer
+rest_off show cue c from start low newer false is rest = rest
+rest_off show cue c from start low newer true is rest = absurd cc
+
+pub next_on : (show : Show) (before c since from : ℕ) (run : Run) (newer : List Run) → acts show before run c ≡ true
+    → Follow show before c since from (run ∷ newer) → (since ≤ run.start) × Follow show run.cue c run.start from newer
+next_on show before c since from run newer on is =
+    (is.0 on, rest_on show run.cue c from run.start since newer (acts show before run c) on is.1)
+
+pub next_off : (show : Show) (before c since from : ℕ) (run : Run) (newer : List Run) → acts show before run c ≡ false
+    → Follow show before c since from (run ∷ newer) → Follow show run.cue c since from newer
+next_off show before c since from run newer off is =
+    rest_off show run.cue c from run.start since newer (acts show before run c) off is.1
+
+take_whole : {A : Type 0} (xs : List A) (n : ℕ) → n ≡ length xs → take n xs ≡ xs
+take_whole xs n is = grind (arith, common_steps)
+
+drop_whole : {A : Type 0} (xs : List A) (n : ℕ) → n ≡ length xs → drop n xs ≡ []
+drop_whole xs n is = grind (arith, common_steps)
+
+-- no run was looked at yet
+pub seen_none : (show : Show) (base : ℕ) (live : List Run) (c from n target : ℕ) → n ≡ length live
+    → target ≡ tracked show (last_cue base (reverse live)) c → IsSeen show base live c from n from target
+seen_none show base live c from n target is at = record {
+  within = omega (arith, is);
+  at = at ∙ ap (λ runs. tracked show (last_cue base (reverse runs)) c) (sym (take_whole live n is));
+  follows = subst (Follow show (last_cue base (reverse (take n live))) c from from) (sym (drop_whole live n is))
+      (let same : from ≤ from = omega arith in same);
+}
+
+module _ (show : Show) (base : ℕ) (live : List Run) (c from i : ℕ) (run : Run) (lt : i < length live) (is : run ≡ get_or live i run) where
+  abbrev older : List Run
+  older = reverse (take i live)
+
+  -- the place before which the run is the newest
+  more : reverse (take (i + 1) live) ≡ run ∷ older
+  more = reverse_more live i run lt is
+
+  rest : (since : ℕ) → Follow show (last_cue base (reverse (take (i + 1) live))) c since from (drop (i + 1) live)
+      → Follow show run.cue c since from (drop (i + 1) live)
+  rest since follows = subst (λ (runs : List Run). Follow show (last_cue base runs) c since from (drop (i + 1) live)) more follows
+
+  -- and back
+  onto : (since : ℕ) → Follow show run.cue c since from (drop (i + 1) live)
+      → Follow show (last_cue base (reverse (take (i + 1) live))) c since from (drop (i + 1) live)
+  onto since follows = subst (λ (runs : List Run). Follow show (last_cue base runs) c since from (drop (i + 1) live)) (sym more) follows
+
+  here : (since : ℕ) → Follow show (last_cue base older) c since from (drop i live)
+      → Follow show (last_cue base older) c since from (run ∷ drop (i + 1) live)
+  here since follows = subst (Follow show (last_cue base older) c since from) (drop_more live i run lt is) follows
+
+  back : (since : ℕ) → Follow show (last_cue base older) c since from (run ∷ drop (i + 1) live)
+      → Follow show (last_cue base older) c since from (drop i live)
+  back since follows = subst (Follow show (last_cue base older) c since from) (sym (drop_more live i run lt is)) follows
+
+  pub target_of : (since target : ℕ) → IsSeen show base live c from (i + 1) since target → target ≡ tracked show run.cue c
+  target_of since target seen = seen.at ∙ ap (λ (runs : List Run). tracked show (last_cue base runs) c) more
+
+  pub seen_on : (since target looks : ℕ) → IsSeen show base live c from (i + 1) since target
+      → looks ≡ tracked show (last_cue base older) c → acts show (last_cue base older) run c ≡ true → run.start ≤ since
+      → IsSeen show base live c from i run.start looks
+  seen_on since target looks seen at on le = record {
+    within = omega (arith, lt);
+    at = at;
+    follows = back run.start (older_on show (last_cue base older) c since from run (drop (i + 1) live) on le (rest since seen.follows));
+  }
+
+  pub seen_off : (since target looks : ℕ) → IsSeen show base live c from (i + 1) since target
+      → looks ≡ tracked show (last_cue base older) c → acts show (last_cue base older) run c ≡ false
+      → IsSeen show base live c from i since looks
+  seen_off since target looks seen at off = record {
+    within = omega (arith, lt);
+    at = at;
+    follows = back since (older_off show (last_cue base older) c since from run (drop (i + 1) live) off (rest since seen.follows));
+  }
+
+  pub ground_hidden : (since target : ℕ) → IsSeen show base live c from (i + 1) since target
+      → acts show (last_cue base older) run c ≡ true → run.start + entry_extent (entry_for show run c) ≤ since
+      → IsGround show base live c from (i + 1) target since
+  ground_hidden since target seen on over = record {
+    within = seen.within;
+    at = sym seen.at;
+    stays = λ m late. ap (λ (runs : List Run). level show base runs c m) more
+        ∙ level_hidden show base run older c m on (omega (arith, over, late)) ∙ sym (target_of since target seen);
+    follows = seen.follows;
+  }
+
+  pub replayed_on : (since looks target : ℕ) (stack after : Stack) (entry : PartTimes)
+      → IsReplayed show base live c from i since looks stack
+      → acts show (last_cue base older) run c ≡ true → entry ≡ entry_for show run c → target ≡ tracked show run.cue c
+      → ((m : ℕ) → run.start ≤ m → level_in after m ≡ timed_over entry (level_in stack) run.start target m)
+      → length after.fades ≤ length stack.fades + 1
+      → IsReplayed show base live c from (i + 1) run.start target after
+  replayed_on since looks target stack after entry so_far on entry_is target_is pushed few =
+      let next = next_on show (last_cue base older) c since from run (drop (i + 1) live) on (here since so_far.follows) in
+      record {
+        within = omega (arith, lt);
+        at = target_is ∙ ap (λ (runs : List Run). tracked show (last_cue base runs) c) (sym more);
+        gives = λ m late. pushed m late
+            ∙ ap (λ e. timed_over e (level_in stack) run.start target m) entry_is
+            ∙ ap (λ t. timed_over (entry_for show run c) (level_in stack) run.start t m) target_is
+            ∙ level_pushed show base run older c since m (level_in stack) on so_far.gives next.0 (omega (arith, late, next.0))
+            ∙ ap (λ (runs : List Run). level show base runs c m) (sym more);
+        follows = onto run.start next.1;
+        few = omega (arith, few, so_far.few);
+      }
+
+  pub replayed_off : (since looks target : ℕ) (stack : Stack) → IsReplayed show base live c from i since looks stack
+      → acts show (last_cue base older) run c ≡ false → target ≡ tracked show run.cue c
+      → IsReplayed show base live c from (i + 1) since target stack
+  replayed_off since looks target stack so_far off target_is = record {
+    within = omega (arith, lt);
+    at = target_is ∙ ap (λ (runs : List Run). tracked show (last_cue base runs) c) (sym more);
+    gives = λ m late. so_far.gives m late ∙ sym (level_passed show base run older c m off)
+        ∙ ap (λ (runs : List Run). level show base runs c m) (sym more);
+    follows = onto since (next_off show (last_cue base older) c since from run (drop (i + 1) live) off (here since so_far.follows));
+    few = omega (arith, so_far.few);
+  }
+
+-- all runs were looked at
+pub ground_base : (show : Show) (base : ℕ) (live : List Run) (c from left since target : ℕ) → left ≡ 0
+    → IsSeen show base live c from left since target → IsGround show base live c from 0 target since
+ground_base show base live c from left since target none seen =
+    let first = subst (λ n. IsSeen show base live c from n since target) none seen in
+    record { within = first.within; at = sym first.at; stays = λ m late. sym first.at; follows = first.follows }
+
+pub replayed_none : (show : Show) (base : ℕ) (live : List Run) (c from first ground since : ℕ) (stack : Stack)
+    → IsGround show base live c from first ground since → stack ≡ record { bottom = ground; fades = [] }
+    → IsReplayed show base live c from first since ground stack
+replayed_none show base live c from first ground since stack is empty =
+    subst (IsReplayed show base live c from first since ground) (sym empty) (record {
+      within = is.within;
+      at = sym is.at;
+      gives = λ m late. sym (is.stays m late);
+      follows = is.follows;
+      few = omega arith;
+    })
+
+pub replayed_all : (show : Show) (base : ℕ) (live : List Run) (c from i since looks m : ℕ) (stack : Stack)
+    → IsReplayed show base live c from i since looks stack → length live ≤ i → from ≤ m
+    → level_in stack m ≡ level show base (reverse live) c m
+replayed_all show base live c from i since looks m stack is end late =
+    let all : i ≡ length live = omega (arith, is.within, end) in
+    let done : since ≤ from = subst (Follow show (last_cue base (reverse (take i live))) c since from) (drop_whole live i all) is.follows in
+    is.gives m (omega (arith, done, late)) ∙ ap (λ (runs : List Run). level show base (reverse runs) c m) (take_whole live i all)

@@ -1,0 +1,8 @@
+use Rattle.std.proofs.Common.{subst, sym}
+use Rattle.lx_playback.specs.Valid.{ValidTimes}
+use Rattle.lx_levels.proofs.Entries.{entry_holds}
+use Rattle.lx_levels.proofs.channel.times_for.Goals as goal
+
+pub returns-clause-times : goal.returns-clause-times
+returns-clause-times c = subst ValidTimes (sym c.entry_for.ensures)
+    (entry_holds ValidTimes c.args.show.now c.args.run.now c.args.c c.requires.run.entry c.requires.run.times)

@@ -1,0 +1,8 @@
+use Rattle.lx_levels.specs.Following.{IsSeen}
+use Rattle.lx_levels.proofs.replay.ground_of.Given as goal
+
+abbrev pub invariant-loop-left : goal.invariant-loop-left
+invariant-loop-left l = IsSeen l.show l.base l.live l.c l.from l.left l.since l.target
+
+abbrev pub decreases-loop-left : goal.decreases-loop-left
+decreases-loop-left l = l.left

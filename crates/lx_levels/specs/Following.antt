@@ -1,0 +1,36 @@
+-- Runs that are followed from the oldest that is seen on a channel.
+use Rattle.std.specs.Prelude.{◌≡◌, ℕ, ◌≤◌, true, List, [], ◌∷◌, length, take, drop, reverse, if◌then◌else◌}
+use Rattle.lx_spec.specs.Show.{Show}
+use Rattle.lx_spec.specs.TrackedLevel.{tracked}
+use Rattle.lx_spec.specs.Run.{Run, acts}
+use Rattle.lx_spec.specs.Level.{level, last_cue}
+use Rattle.lx_levels.specs.Stacks.{Stack, level_in}
+
+-- runs over a position, the oldest first: of those that act on the channel each starts no earlier than the one before, the first no earlier
+-- than low, and none after from
+abbrev pub Follow : Show → ℕ → ℕ → ℕ → ℕ → List Run → Type 0
+Follow show before c low from [] = low ≤ from
+Follow show before c low from (run ∷ newer) =
+    (acts show before run c ≡ true → low ≤ run.start)
+    × Follow show run.cue c (if acts show before run c then run.start else low) from newer
+
+-- so many of the oldest runs leave the channel at a level since a moment, and the others follow
+pub record IsGround (show : Show) (base : ℕ) (live : List Run) (c from first bottom since : ℕ) : Type 0 where
+  pub within : first ≤ length live
+  pub at : tracked show (last_cue base (reverse (take first live))) c ≡ bottom
+  pub stays : (m : ℕ) → since ≤ m → level show base (reverse (take first live)) c m ≡ bottom
+  pub follows : Follow show (last_cue base (reverse (take first live))) c since from (drop first live)
+
+-- the runs from a place on follow since a moment, and target is the tracked level before them
+pub record IsSeen (show : Show) (base : ℕ) (live : List Run) (c from left since target : ℕ) : Type 0 where
+  pub within : left ≤ length live
+  pub at : target ≡ tracked show (last_cue base (reverse (take left live))) c
+  pub follows : Follow show (last_cue base (reverse (take left live))) c since from (drop left live)
+
+-- a stack gives the level over the runs before a place since a moment, and the others follow
+pub record IsReplayed (show : Show) (base : ℕ) (live : List Run) (c from i since looks : ℕ) (stack : Stack) : Type 0 where
+  pub within : i ≤ length live
+  pub at : looks ≡ tracked show (last_cue base (reverse (take i live))) c
+  pub gives : (m : ℕ) → since ≤ m → level_in stack m ≡ level show base (reverse (take i live)) c m
+  pub follows : Follow show (last_cue base (reverse (take i live))) c since from (drop i live)
+  pub few : length stack.fades ≤ i

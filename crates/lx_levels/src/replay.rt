@@ -1,0 +1,111 @@
+//! The fades of one channel over runs that started one after another.
+
+ghost use Rattle.std.specs.Prelude.{◌≡◌, ℕ, ◌+◌, ◌<◌, ◌≤◌, true, length, reverse, IfSome};
+ghost use Rattle.std.specs.List.{All};
+ghost use Rattle.lx_base.specs.declared.TheConstants.{RUNS, TICK_END};
+ghost use Rattle.lx_spec.specs.Level.{level};
+ghost use Rattle.lx_sheet.specs.Standing.{RowsStandFor};
+ghost use Rattle.lx_playback.specs.Valid.{ValidRun};
+ghost use Rattle.lx_levels.specs.Stacks.{level_in};
+ghost use Rattle.lx_levels.specs.Following.{IsGround};
+
+use crate::channel::{is_over, level_there, push_timed, times_for};
+use crate::hints::{Hint, acts};
+use crate::stack::Stack;
+use lx_base::{Chan, CueNo, Level, Moment};
+use lx_playback::Run;
+use lx_sheet::Sheet;
+use lx_show::Show;
+
+/// What the oldest runs leave on a channel: its level from a moment on, whatever was before.
+#[derive(Clone, Copy, PartialEq, Eq, Debug)]
+pub(crate) struct Ground {
+    /// How many of the oldest runs.
+    pub(crate) first: usize,
+    pub(crate) level: Level,
+    pub(crate) since: Moment,
+}
+
+/// The newest runs over which the channel's level has to be followed, for the moments from the one given on, and
+/// what the others leave. `None` where a run that acts on the channel started after a newer one.
+pub(crate) fn ground_of(
+    show: &Show,
+    sheet: &Sheet,
+    base: CueNo,
+    live: &[Run],
+    from: Moment,
+    c: Chan,
+    hints: &mut [Hint],
+) -> Option<Ground>
+    requires rows { RowsStandFor show.now sheet.now }
+    requires few { length live.now ≤ RUNS }
+    requires runs { All (ValidRun TICK_END) live.now }
+    requires hints { length hints.old ≡ RUNS }
+    ensures { IfSome result (λ g. IsGround show.now base live.now c from g.first g.level g.since) }
+{
+    let mut since = from;
+    let mut target = level_there(show, sheet, base, live, c, hints);
+    let mut left = live.len();
+    while left > 0 {
+        let run = &live[left - 1];
+        let looks = level_there(show, sheet, base, &live[..left - 1], c, hints);
+        if acts(show, run, c, looks, target, &mut hints[left - 1]) {
+            let entry = times_for(show, run, c);
+            if is_over(run.start, &entry, since) {
+                return Some(Ground {
+                    first: left,
+                    level: target,
+                    since,
+                });
+            }
+            if run.start > since {
+                return None;
+            }
+            since = run.start;
+        }
+        target = looks;
+        left -= 1;
+    }
+    Some(Ground {
+        first: 0,
+        level: target,
+        since,
+    })
+}
+
+/// Fills in the fades of the runs that are left over what the oldest ones leave.
+pub(crate) fn replay(
+    stack: &mut Stack,
+    show: &Show,
+    sheet: &Sheet,
+    base: CueNo,
+    live: &[Run],
+    from: Moment,
+    c: Chan,
+    hints: &mut [Hint],
+    oldest: Ground,
+)
+    requires rows { RowsStandFor show.now sheet.now }
+    requires few { length live.now ≤ RUNS }
+    requires runs { All (ValidRun TICK_END) live.now }
+    requires hints { length hints.old ≡ RUNS }
+    requires oldest { IsGround show.now base live.now c from oldest.first oldest.level oldest.since }
+    ensures level { (m : ℕ) → from ≤ m → level_in stack.new m ≡ level show.now base (reverse live.now) c m }
+    ensures few { length stack.new.fades ≤ length live.now }
+{
+    stack.restart(oldest.level);
+    let mut looks = oldest.level;
+    let mut since = oldest.since;
+    let mut i = oldest.first;
+    while i < live.len() {
+        let run = &live[i];
+        let target = sheet.level_near(run.cue, c, &mut hints[i].cue);
+        if acts(show, run, c, looks, target, &mut hints[i]) {
+            let entry = times_for(show, run, c);
+            push_timed(stack, run.start, &entry, target, run.start);
+            since = run.start;
+        }
+        looks = target;
+        i += 1;
+    }
+}

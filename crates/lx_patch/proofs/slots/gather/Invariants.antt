@@ -1,8 +1,0 @@
-use Rattle.std.proofs.Common.{◌≡◌, ℕ, ◌<◌, ◌+◌, length, slice_index}
-use Rattle.lx_patch.proofs.slots.gather.Given as goal
-
-abbrev pub invariant-loop-k : goal.invariant-loop-k
-invariant-loop-k l = record {
-  long : length l.gathered ≡ 32;
-  each : (k : ℕ) → k < l.k → slice_index l.gathered k ≡ slice_index l.outs (slice_index l.places (l.at + k));
-}

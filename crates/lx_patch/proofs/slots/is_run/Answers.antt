@@ -1,0 +1,8 @@
+use Rattle.std.proofs.Common.{refl, arith, get_or}
+use Rattle.std.proofs.lemmas.Bool.{eqb-true}
+use Rattle.lx_patch.proofs.PlaceRows.{row_is}
+use Rattle.lx_patch.proofs.slots.is_run.Goals as goal
+
+pub returns : goal.returns
+returns c = λ same. row_is c.args.places.now c.args.at (get_or c.args.places.now c.args.at 0) c.requires refl
+    (omega (arith, c.if-first-gt-LAST_START.false)) (eqb-true _ _ same)

@@ -1,0 +1,12 @@
+use Rattle.std.proofs.Common.{subst}
+use Rattle.std.specs.Prelude.{Result}
+use Rattle.lx_spec.specs.declared.Refusal.{Refusal}
+use Rattle.lx_spec.specs.Show.{Show}
+use Rattle.lx_record.specs.Records.{Records}
+use Rattle.lx_record.proofs.Answering.{of_stage}
+use Rattle.lx_record.proofs.record.recorded.Goals as goal
+
+pub returns : goal.returns
+returns c = λ d stands.
+    subst (λ (r : Result Show Refusal). Records r c.recorded_now.result)
+    (of_stage d c.args.console.now c.args.n c.args.only stands) c.recorded_now.ensures

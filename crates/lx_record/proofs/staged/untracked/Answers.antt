@@ -1,0 +1,12 @@
+use Rattle.std.specs.Prelude.{not, ◌==◌}
+use Rattle.lx_spec.specs.TrackedLevel.{tracked}
+use Rattle.lx_console.specs.Standing.{level_now}
+use Rattle.lx_record.proofs.Chosen.{member_next}
+use Rattle.lx_record.proofs.staged.untracked.Goals as goal
+
+pub loop-k-preserved : goal.loop-k-preserved
+loop-k-preserved c =
+    let console = c.args.console.now in
+    member_next (λ x. not (level_now console x == tracked console.show c.args.n x)) (level_now console) c.loop-k.k
+    c.channel-c.result c.loop-k.members.items c.add_untracked.new.members.items c.loop-k.auto.k c.loop-k.invariant
+    c.channel-c.ensures c.in_ok-add_untracked.ensures

@@ -1,0 +1,3 @@
+pub mod Cues
+pub mod Laws
+pub mod Records

@@ -1,0 +1,125 @@
+//! What a script line means that is no edit, by value.
+
+ghost use Rattle.std.specs.Prelude.{◌≡◌, option_map};
+ghost use Rattle.lx_spec.specs.Text.{tokens};
+ghost use Rattle.lx_spec.specs.Script.{line_of, meaning};
+ghost use Rattle.lx_lex.specs.Left.{left};
+ghost use Rattle.lx_script.specs.Briefs.{brief_line, IsReadAs};
+ghost use Rattle.lx_script.specs.FirstWords.{sentence_of};
+
+use crate::first_word::{FirstWord, first_word};
+use crate::keys;
+use lx_base::{CueNo, LINE_BYTES};
+use lx_lex::{Tokens, tokens};
+use lx_spec::{Command, Key, Line, PlayKey};
+
+/// What a line means that is no edit.
+#[derive(Clone, Copy, Debug, PartialEq, Eq)]
+pub enum Brief {
+    /// A key or a fader.
+    Key(Key),
+    /// So many ticks, 1 to `TICKS`.
+    Ticks(u32),
+    /// The frame of this universe, 1 to `UNIVERSES`, is written.
+    Frame(u8),
+    /// The canonical text of the show is written.
+    Save,
+    /// The tracked levels of this cue are written.
+    SheetOf(CueNo),
+    /// The session ends.
+    Quit,
+    /// Nothing.
+    Blank,
+}
+
+/// What a line is, as far as it can be told by value.
+#[derive(Clone, Copy, Debug, PartialEq, Eq)]
+pub enum Reading {
+    /// It means nothing.
+    Bad,
+    /// It is no edit, and means this.
+    Brief(Brief),
+    /// It is an edit, or bad, since its first word is that of an edit: `read_command` says what it means.
+    Edit,
+}
+
+/// What a script line is, without its LF. A command has room for a label, and this has none: most lines of a script are
+/// no edits.
+pub fn read_brief(line: &[u8]) -> Reading
+    ensures { IsReadAs result (line_of line.now) }
+{
+    if line.len() > LINE_BYTES {
+        return Reading::Bad;
+    }
+    any_line(line)
+}
+
+/// What a line of any length is.
+#[tactic(auto, using(crate::proofs::FirstWords::meaning_is))]
+fn any_line(line: &[u8]) -> Reading
+    ensures { IsReadAs result (meaning line.now (tokens line.now)) }
+{
+    let mut rest = tokens(line);
+    let Some(first) = rest.next() else {
+        return Reading::Brief(Brief::Blank);
+    };
+    match first_word(first) {
+        Some(word) => by_word(word, line, rest),
+        None => Reading::Bad,
+    }
+}
+
+/// What a line with this first word and these further tokens is.
+fn by_word(word: FirstWord, line: &[u8], rest: Tokens) -> Reading
+    ensures { IsReadAs result (sentence_of line.now word (left rest.entry)) }
+{
+    match word {
+        FirstWord::Go => reading_of(keys::play(PlayKey::Go, rest)),
+        FirstWord::Back => reading_of(keys::play(PlayKey::Back, rest)),
+        FirstWord::Goto => reading_of(keys::goto(rest)),
+        FirstWord::Settle => reading_of(keys::play(PlayKey::Settle, rest)),
+        FirstWord::Fader => reading_of(keys::fader(rest)),
+        FirstWord::Master => reading_of(keys::master(rest)),
+        FirstWord::Tick => reading_of(keys::ticks(rest)),
+        FirstWord::Frame => reading_of(keys::frame(rest)),
+        FirstWord::Sheet => reading_of(keys::sheet(rest)),
+        FirstWord::Save => reading_of(keys::alone(Brief::Save, rest)),
+        FirstWord::Quit => reading_of(keys::alone(Brief::Quit, rest)),
+        _ => Reading::Edit,
+    }
+}
+
+/// A line that is no edit, by what it means.
+fn reading_of(brief: Option<Brief>) -> Reading
+    ensures { IsReadAs result (option_map brief_line brief) }
+{
+    match brief {
+        Some(brief) => Reading::Brief(brief),
+        None => Reading::Bad,
+    }
+}
+
+/// What a line means that is no edit.
+pub(crate) fn line_of_brief(brief: Option<Brief>) -> Option<Line>
+    ensures { result ≡ option_map brief_line brief }
+{
+    match brief {
+        Some(brief) => Some(line_from(&brief)),
+        None => None,
+    }
+}
+
+/// The line that it stands for.
+fn line_from(brief: &Brief) -> Line
+    ensures { result ≡ brief_line brief.now }
+{
+    match brief {
+        Brief::Key(key) => Line::Command(Command::Key(*key)),
+        Brief::Ticks(count) => Line::Ticks(*count),
+        Brief::Frame(universe) => Line::Frame(*universe),
+        Brief::Save => Line::Save,
+        Brief::SheetOf(cue) => Line::SheetOf(*cue),
+        Brief::Quit => Line::Quit,
+        Brief::Blank => Line::Blank,
+    }
+}

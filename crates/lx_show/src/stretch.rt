@@ -1,0 +1,113 @@
+//! Several entries put into a list that is sorted by number, in turn. Those that rise and go between the same two
+//! neighbours are put there in one shift.
+
+ghost use Rattle.std.specs.Prelude.{◌≡◌, ◌<◌, ◌≤◌, ◌+◌, ◌-◌, ◌++◌, Some, length, take, drop, slice_get, vec_capacity, OnOk, OnErr};
+ghost use Rattle.std.specs.Option.{option_map};
+ghost use Rattle.std.specs.List.{AllByRecursion};
+ghost use Rattle.lx_spec.specs.SortedList.{IsStrictlySorted, all_placed};
+ghost use Rattle.lx_show.specs.Stretch.{IsStretch};
+
+use crate::sorted::{Keyed, find_next};
+use std::alloc::AllocError;
+
+/// Places each of the entries in turn, in place of the one of its number. They are looked for first at the index after
+/// the entry that was placed last, which is kept in `next`. The room for all of them is taken before.
+pub fn put_each<T: Keyed + Copy + Drop>(
+    xs: &mut Vec<T>,
+    next: &mut usize,
+    more: &[T],
+) -> Result<(), AllocError>
+    requires { IsStrictlySorted T.key xs.old.items }
+    ensures ok { OnOk result (xs.new.items ≡ all_placed T.key more.now xs.old.items) }
+    ensures sorted { IsStrictlySorted T.key xs.new.items }
+    ensures err { OnErr result (xs.new.items ≡ xs.old.items) }
+{
+    xs.reserve(more.len())?;
+    let mut rest = more;
+    while !rest.is_empty() {
+        let count = put_front(xs, next, rest);
+        rest = &rest[count..];
+    }
+    Ok(())
+}
+
+/// Places the first of the entries, and with it those that rise behind it and go to the same place. It says how many.
+fn put_front<T: Keyed + Copy + Drop>(xs: &mut Vec<T>, next: &mut usize, more: &[T]) -> usize
+    requires some { 0 < length more.now }
+    requires sorted { IsStrictlySorted T.key xs.old.items }
+    requires room { length xs.old.items + length more.now ≤ vec_capacity xs.old }
+    ensures some { 0 < result }
+    ensures most { result ≤ length more.now }
+    ensures items { xs.new.items ≡ all_placed T.key (take result more.now) xs.old.items }
+    ensures sorted { IsStrictlySorted T.key xs.new.items }
+    ensures room { length xs.new.items + (length more.now - result) ≤ vec_capacity xs.new }
+{
+    let first = more[0];
+    let number = first.key();
+    match find_next(xs.as_slice(), *next, number) {
+        Ok(at) => {
+            xs[at] = first;
+            *next = at.saturating_add(1);
+            1
+        }
+        Err(at) => {
+            let end = end_of_gap(xs.as_slice(), at, number);
+            let count = stretch(more, number, end);
+            insert_all(xs, at, &more[..count]);
+            *next = at.saturating_add(count);
+            count
+        }
+    }
+}
+
+/// The number of the entry at the index, or 2^32 where there is none.
+fn end_of_gap<T: Keyed>(xs: &[T], at: usize, n: u32) -> u64
+    requires sorted { IsStrictlySorted T.key xs.now }
+    requires above { AllByRecursion (λ y. n < T.key y) (drop at xs.now) }
+    ensures above { n < result }
+    ensures rest { AllByRecursion (λ y. result ≤ T.key y) (drop at xs.now) }
+{
+    if at < xs.len() {
+        u64::from(xs[at].key())
+    } else {
+        0x1_0000_0000
+    }
+}
+
+/// How many entries at the front rise, from the first one on, and stay below a number.
+fn stretch<T: Keyed>(more: &[T], first: u32, end: u64) -> usize
+    requires first { option_map T.key (slice_get more.now 0) ≡ Some first }
+    requires below { first < end }
+    ensures some { 0 < result }
+    ensures most { result ≤ length more.now }
+    ensures rises { IsStretch T.key first end (take result more.now) }
+{
+    let mut least = u64::from(first) + 1;
+    let mut count = 1;
+    while count < more.len() {
+        let number = u64::from(more[count].key());
+        if number < least || end <= number {
+            break;
+        }
+        least = number + 1;
+        count += 1;
+    }
+    count
+}
+
+/// Puts the entries in at the index, in one shift. There is room for them.
+fn insert_all<T: Copy + Drop>(xs: &mut Vec<T>, at: usize, more: &[T])
+    requires within { at ≤ length xs.old.items }
+    requires room { length xs.old.items + length more.now ≤ vec_capacity xs.old }
+    ensures items { xs.new.items ≡ take at xs.old.items ++ (more.now ++ drop at xs.old.items) }
+    ensures capacity { vec_capacity xs.old ≤ vec_capacity xs.new }
+{
+    match xs.extend_from_slice(more) {
+        Ok(()) => {}
+        Err(_) => unreachable!(),
+    }
+    let end = xs.len() - more.len();
+    xs.copy_within(at..end, at + more.len());
+    let gap = &mut xs[at..at + more.len()];
+    gap.copy_from_slice(more);
+}

@@ -1,0 +1,197 @@
+-- What a line's numbers and lists say under wider limits, where they could be read before.
+use Rattle.std.specs.Prelude.{◌≡◌, ℕ, zero, suc, ◌+◌, ◌*◌, ◌/◌, ◌%◌, ◌^◌, ◌<◌, ◌≤◌, Bool, true, false, cond, ◌&&◌, ◌==◌, nat_le, Some}
+use Rattle.std.specs.Prelude.{Result, Ok, Err, List, [], ◌∷◌, length, option_map, codes, IfOk, refl}
+use Rattle.std.proofs.Common.{arith, ap, ◌∙◌, sym, subst}
+use Rattle.std.proofs.lemmas.Bool.{and_parts}
+use Rattle.std.proofs.lemmas.Bool.Decides.{nat_tests}
+use Rattle.std.proofs.Math.Nat.{pow-succ', one-le-pow, mul-div_cancel}
+use Rattle.lx_spec.specs.declared.Bad.{Bad}
+use Rattle.lx_spec.specs.declared.Bad.TheVariants.{Shape, Range}
+use Rattle.lx_spec.specs.declared.TextFault.{TextFault}
+use Rattle.lx_spec.specs.declared.TextFault.TheVariants.{ShortList}
+use Rattle.lx_spec.specs.FirstRefusal.{◌>>=◌}
+use Rattle.lx_spec.specs.Limits.{Limits}
+use Rattle.lx_spec.specs.Text.{is_word}
+use Rattle.lx_spec.specs.Numerals.{is_number, number_of, whole_part, decimals, is_decimal, decimal_value, ranged, read_whole, read_level}
+use Rattle.lx_spec.specs.Numerals.{read_time, read_cue_no}
+use Rattle.lx_spec.specs.Fields.{number, numbered, delay_at, times, pairs, levels, triples, is_page_one, patch_entry, channels_entry}
+use Rattle.lx_spec.specs.Fields.{record_entry}
+use Rattle.lx_spec.specs.declared.Section.{Section}
+use Rattle.lx_spec.specs.declared.Section.TheVariants.{NoRecord, InCue, Skipping}
+use Rattle.lx_spec.specs.Entry.{Entry, Skipped, Begins, Links, HasChannels}
+use Rattle.lx_spec.specs.Finer.{HasOneDecimalMore}
+
+-- What could be read is read as what f makes of it.
+abbrev pub Kept : {A B E : Type 0} → (A → B) → Result A E → Result B E → Type 0
+Kept f r s = IfOk r (λ x. s ≡ Ok (f x))
+
+pub kept-same : {A E : Type 0} (r : Result A E) → Kept (λ x. x) r r
+kept-same (Ok x) = refl
+kept-same (Err e) = tt
+
+pub kept-then : {A B C D E : Type 0} (f : A → B) (g : C → D) (r : Result A E) (s : Result B E) (next : A → Result C E)
+    (then : B → Result D E) → Kept f r s → ((x : A) → Kept g (next x) (then (f x))) → Kept g (r >>= next) (s >>= then)
+kept-then {A} {B} {C} {D} {E} f g (Ok x) s next then is more = subst (λ (v : Result B E). Kept g (next x) (v >>= then)) (sym is) (more x)
+kept-then f g (Err e) s next then is more = tt
+
+pub kept-either : {A B E : Type 0} (f : A → B) (b : Bool) (one other : Result A E) (first second : Result B E) → Kept f one first
+    → Kept f other second → Kept f (cond b one other) (cond b first second)
+kept-either f true one other first second is more = is
+kept-either f false one other first second is more = more
+
+pub kept-where : {A B E : Type 0} (f : A → B) (b c : Bool) (r : Result A E) (s : Result B E) (e : E) → (b ≡ true → c ≡ true)
+    → (b ≡ true → Kept f r s) → Kept f (cond b r (Err e)) (cond c s (Err e))
+kept-where {A} {B} {E} f true c r s e test is = subst (λ v. Kept f r (cond v s (Err e))) (sym (test refl)) (is refl)
+kept-where f false c r s e test is = tt
+
+-- Numbers.
+pub number-kept : (i : ℕ) (f : ℕ → ℕ) (r s : Result ℕ Bad) → Kept f r s → Kept f (number i r) (number i s)
+number-kept i f (Ok n) s is = ap (number i) is
+number-kept i f (Err Shape) s is = tt
+number-kept i f (Err Range) s is = tt
+
+whole-kept : (most now : ℕ) (token : List ℕ) → most ≤ now → Kept (λ n. n) (read_whole 1 most token) (read_whole 1 now token)
+whole-kept most now token wider =
+    let n = number_of token in
+    kept-where (λ n. n) (is_number token) (is_number token) (ranged 1 most n) (ranged 1 now n) Shape (λ is. is)
+    (λ is. kept-where (λ n. n) (nat_le 1 n && nat_le n most) (nat_le 1 n && nat_le n now) (Ok n) (Ok n) Range
+    (λ within. grind (arith, nat_tests, within, wider)) (λ within. refl))
+
+-- a power of ten that is no greater than another divides it
+pub record Divides (a b : ℕ) : Type 0 where
+  pub times : ℕ
+  pub is : b ≡ times * a
+
+power_divides : (d k : ℕ) → 10 ^ d ≤ 10 ^ k → Divides (10 ^ d) (10 ^ k)
+power_divides zero k le = record { times = 10 ^ k; is = omega arith }
+power_divides (suc d) zero le = absurd (omega (arith, le, pow-succ' 10 d, one-le-pow d 10 (omega arith)))
+power_divides (suc d) (suc k) le =
+    let rest = power_divides d k (omega (arith, le, pow-succ' 10 d, pow-succ' 10 k)) in
+    let up : 10 * (rest.times * 10 ^ d) ≡ rest.times * (10 * 10 ^ d) = omega arith in
+    record { times = rest.times; is = pow-succ' 10 k ∙ ap (λ n. 10 * n) rest.is ∙ up ∙ ap (λ n. rest.times * n) (sym (pow-succ' 10 d)) }
+
+-- the decimals that there are have ten times as many of the finer steps
+finer_value : (unit q w v : ℕ) → 0 < q → Divides q unit → 10 * unit * w + v * (10 * unit) / q ≡ 10 * (unit * w + v * unit / q)
+finer_value unit q w v some divides =
+    let c = divides.times in
+    let fine : v * (10 * unit) ≡ 10 * v * c * q = rw divides.is (omega arith) in
+    let coarse : v * unit ≡ v * c * q = rw divides.is (omega arith) in
+    let finer : v * (10 * unit) / q ≡ 10 * v * c = ap (λ n. n / q) fine ∙ mul-div_cancel (10 * v * c) some in
+    let coarser : v * unit / q ≡ v * c = ap (λ n. n / q) coarse ∙ mul-div_cancel (v * c) some in
+    rw (finer, coarser) (omega arith)
+
+module _ (now before : Limits) (more : HasOneDecimalMore now before) where
+  finer_number : (token : List ℕ) → nat_le (10 ^ length (decimals token)) before.cue_unit ≡ true
+      → decimal_value now.cue_unit token ≡ 10 * decimal_value before.cue_unit token
+  finer_number token fits =
+      let d = length (decimals token) in
+      let le : 10 ^ d ≤ 10 ^ more.decimals = grind (arith, nat_tests, fits, more.unit_before) in
+      let divides = subst (λ u. Divides (10 ^ d) u) (sym more.unit_before) (power_divides d more.decimals le) in
+      ap (λ u. decimal_value u token) more.unit
+      ∙ finer_value before.cue_unit (10 ^ d) (number_of (whole_part token)) (number_of (decimals token))
+      (one-le-pow d 10 (omega arith)) divides
+
+  pub cue_no-kept : (token : List ℕ) → Kept (λ n. 10 * n) (read_cue_no before token) (read_cue_no now token)
+  cue_no-kept token =
+      let q = 10 ^ length (decimals token) in
+      let n = decimal_value before.cue_unit token in
+      kept-where (λ n. 10 * n) (is_decimal token && nat_le q before.cue_unit) (is_decimal token && nat_le q now.cue_unit)
+      (ranged 1 before.cue_most n) (ranged 1 now.cue_most (decimal_value now.cue_unit token)) Shape
+      (λ is. let parts = and_parts (is_decimal token) (nat_le q before.cue_unit) is in
+      let wider : nat_le q now.cue_unit ≡ true = grind (arith, nat_tests, parts.1, more.unit) in
+      (λ j. parts.0 j && wider j))
+      (λ is. let parts = and_parts (is_decimal token) (nat_le q before.cue_unit) is in
+      subst (λ m. Kept (λ n. 10 * n) (ranged 1 before.cue_most n) (ranged 1 now.cue_most m)) (sym (finer_number token parts.1))
+      (kept-where (λ n. 10 * n) (nat_le 1 n && nat_le n before.cue_most) (nat_le 1 (10 * n) && nat_le (10 * n) now.cue_most)
+      (Ok n) (Ok (10 * n)) Range (λ within. grind (arith, nat_tests, within, more.cue_most)) (λ within. refl)))
+
+-- A section, and what a line says, with cue numbers in the finer steps.
+abbrev pub finer_section : Section → Section
+finer_section (InCue n) = InCue (10 * n)
+finer_section other = other
+
+abbrev pub finer_entry : Entry → Entry
+finer_entry (Begins section) = Begins (finer_section section)
+finer_entry (Skipped section) = Skipped (option_map finer_section section)
+finer_entry (Links n) = Links (10 * n)
+finer_entry other = other
+
+pub numbered-kept : (i : ℕ) (f : ℕ → ℕ) (entry : ℕ → Entry) (read now : List ℕ → Result ℕ Bad) (rest : List (List ℕ))
+    → ((n : ℕ) → entry (f n) ≡ finer_entry (entry n)) → ((token : List ℕ) → Kept f (read token) (now token))
+    → Kept finer_entry (numbered i entry read rest) (numbered i entry now rest)
+numbered-kept i f entry read now [] says reads = tt
+numbered-kept i f entry read now (token ∷ rest) says reads =
+    kept-then f finer_entry (number i (read token)) (number i (now token)) (λ n. Ok (entry n)) (λ n. Ok (entry n))
+    (number-kept i f (read token) (now token) (reads token)) (λ n. ap Ok (says n))
+
+-- a time is read without limits of the text
+pub times-kept : (i : ℕ) (entry : ℕ → ℕ → Entry) (rest : List (List ℕ)) → ((t d : ℕ) → entry t d ≡ finer_entry (entry t d))
+    → Kept finer_entry (times i entry rest) (times i entry rest)
+times-kept i entry [] says = tt
+times-kept i entry (token ∷ rest) says =
+    let with_delay = λ (t : ℕ). delay_at i rest >>= (λ d. Ok (entry t d)) in
+    let time : Result ℕ TextFault = number i (read_time token) in
+    kept-then (λ t. t) finer_entry time time with_delay with_delay (kept-same time)
+    (λ t. kept-then (λ d. d) finer_entry (delay_at i rest) (delay_at i rest) (λ d. Ok (entry t d)) (λ d. Ok (entry t d))
+    (kept-same (delay_at i rest)) (λ d. ap Ok (says t d)))
+
+-- the cue, group or submaster of a number
+pub record_entry-kept : (i : ℕ) (f : ℕ → ℕ) (section : ℕ → Section) (read now : List ℕ → Result ℕ Bad) (rest : List (List ℕ))
+    → ((n : ℕ) → section (f n) ≡ finer_section (section n)) → ((token : List ℕ) → Kept f (read token) (now token))
+    → Kept finer_entry (record_entry i section read rest) (record_entry i section now rest)
+record_entry-kept i f section read now [] says reads = tt
+record_entry-kept i f section read now (token ∷ page) says reads =
+    kept-either finer_entry (is_page_one page) (numbered i (λ n. Begins (section n)) read (token ∷ [])) (Ok (Skipped (Some Skipping)))
+    (numbered i (λ n. Begins (section n)) now (token ∷ [])) (Ok (Skipped (Some Skipping)))
+    (numbered-kept i f (λ n. Begins (section n)) read now (token ∷ []) (λ n. ap Begins (says n)) reads) refl
+
+module _ (now before : Limits) (more : HasOneDecimalMore now before) (i : ℕ) where
+  channel-kept : (token : List ℕ)
+      → Kept (λ n. n) (number i (read_whole 1 before.channels token)) (number i (read_whole 1 now.channels token))
+  channel-kept token = number-kept i (λ n. n) (read_whole 1 before.channels token) (read_whole 1 now.channels token)
+      (whole-kept before.channels now.channels token more.channels)
+
+  dimmer-kept : (token : List ℕ)
+      → Kept (λ n. n) (number i (read_whole 1 before.dimmers token)) (number i (read_whole 1 now.dimmers token))
+  dimmer-kept token = number-kept i (λ n. n) (read_whole 1 before.dimmers token) (read_whole 1 now.dimmers token)
+      (whole-kept before.dimmers now.dimmers token more.dimmers)
+
+  pairs-kept : (rest : List (List ℕ)) → Kept (λ ms. ms) (pairs before i rest) (pairs now i rest)
+  pairs-kept [] = refl
+  pairs-kept (c ∷ []) = tt
+  pairs-kept (c ∷ l ∷ rest) =
+      let level : Result ℕ TextFault = number i (read_level l) in
+      kept-then (λ n. n) (λ ms. ms) _ _ _ _ (channel-kept c) (λ chan. kept-then (λ n. n) (λ ms. ms) level level _ _ (kept-same level)
+      (λ at. kept-then (λ ms. ms) (λ ms. ms) _ _ _ _ (pairs-kept rest) (λ ms. refl)))
+
+  pub levels-kept : (rest : List (List ℕ)) → Kept finer_entry (levels before i rest) (levels now i rest)
+  levels-kept rest =
+      kept-then (λ ms. ms) finer_entry _ _ _ _
+      (kept-where (λ ms. ms) (length rest % 2 == 0) (length rest % 2 == 0) (pairs before i rest) (pairs now i rest) (ShortList i) (λ is. is)
+      (λ is. pairs-kept rest)) (λ ms. refl)
+
+  triples-kept : (rest : List (List ℕ)) → Kept (λ rows. rows) (triples before i rest) (triples now i rest)
+  triples-kept [] = refl
+  triples-kept (c ∷ []) = tt
+  triples-kept (c ∷ e ∷ []) = tt
+  triples-kept (c ∷ e ∷ l ∷ rest) =
+      let level : Result ℕ TextFault = number i (read_level l) in
+      kept-then (λ n. n) (λ rows. rows) _ _ _ _ (channel-kept c) (λ chan. kept-then (λ n. n) (λ rows. rows) _ _ _ _ (dimmer-kept e)
+      (λ dimmer. kept-then (λ n. n) (λ rows. rows) level level _ _ (kept-same level)
+      (λ at. kept-then (λ rows. rows) (λ rows. rows) _ _ _ _ (triples-kept rest) (λ rows. refl))))
+
+  pub patch_entry-kept : (rest : List (List ℕ)) → Kept finer_entry (patch_entry before i rest) (patch_entry now i rest)
+  patch_entry-kept [] = tt
+  patch_entry-kept (page ∷ rest) =
+      kept-either finer_entry (is_page_one (page ∷ [])) _ (Ok (Skipped (Some NoRecord))) _ (Ok (Skipped (Some NoRecord)))
+      (kept-then (λ rows. rows) finer_entry _ _ _ _
+      (kept-where (λ rows. rows) (length rest % 3 == 0) (length rest % 3 == 0) (triples before i rest) (triples now i rest) (ShortList i)
+      (λ is. is) (λ is. triples-kept rest)) (λ rows. refl)) refl
+
+  pub channels_entry-kept : (rest : List (List ℕ)) → Kept finer_entry (channels_entry before i rest) (channels_entry now i rest)
+  channels_entry-kept [] = refl
+  channels_entry-kept (what ∷ rest) =
+      kept-either finer_entry (is_word (codes "CHANNELS") what) (numbered i HasChannels (read_whole 1 before.channels) rest)
+      (Ok (Skipped (Some NoRecord))) (numbered i HasChannels (read_whole 1 now.channels) rest) (Ok (Skipped (Some NoRecord)))
+      (numbered-kept i (λ n. n) HasChannels (read_whole 1 before.channels) (read_whole 1 now.channels) rest (λ n. refl)
+      (λ token. whole-kept before.channels now.channels token more.channels)) refl

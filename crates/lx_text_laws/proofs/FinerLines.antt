@@ -1,0 +1,233 @@
+-- What the lines of a text say under limits with a decimal more.
+use Rattle.std.specs.Prelude.{◌≡◌, ℕ, ◌+◌, ◌*◌, IfOk, Bool, true, false, cond, ◌||◌, ◌==◌, nat_lt, Some, None, Result, Ok, Err, List, []}
+use Rattle.std.specs.Prelude.{◌∷◌, length, map, codes, refl, if◌then◌else◌}
+use Rattle.std.specs.List.{list_any}
+use Rattle.std.proofs.Common.{arith, ap, ◌∙◌, sym, subst}
+use Rattle.std.proofs.lemmas.Bool.Decides.{nat_tests}
+use Rattle.std.proofs.lemmas.List.{length-map}
+use Rattle.lx_base.specs.declared.TheConstants.{PARTS, GROUPS, SUBS}
+use Rattle.lx_spec.specs.declared.Word.{Word}
+use Rattle.lx_spec.specs.declared.Word.TheVariants as words
+use Rattle.lx_spec.specs.declared.TextFault.{TextFault}
+use Rattle.lx_spec.specs.declared.TextFault.TheVariants.{NoIdent, OutOfRange, LineTooLong}
+use Rattle.lx_spec.specs.FirstRefusal.{◌>>=◌}
+use Rattle.lx_spec.specs.Limits.{Limits}
+use Rattle.lx_spec.specs.Text.{tokens}
+use Rattle.lx_spec.specs.Numerals.{read_whole, read_time, read_cue_no}
+use Rattle.lx_spec.specs.FirstWord.{word_of, is_inner}
+use Rattle.lx_spec.specs.Facts.{Facts, facts_after, with_cue_named}
+use Rattle.lx_spec.specs.Fields.{record_entry}
+use Rattle.lx_spec.specs.declared.Section.{Section}
+use Rattle.lx_spec.specs.declared.Section.TheVariants.{NoRecord, InCue, InGroup, InSub, Skipping}
+use Rattle.lx_spec.specs.Entry.{Entry, PlacedEntry, Begins, Skipped, Links, NamesPart, HasUp, HasDown, Follows, Identifies, ClearsAll}
+use Rattle.lx_spec.specs.Entry.{cue_in, is_end}
+use Rattle.lx_spec.specs.LineRules.{is_too_long, is_makers_line, is_makers_record, is_unknown, is_unidentified, is_passed_over, if_few}
+use Rattle.lx_spec.specs.LineRules.{is_next, outer_entry, cue_entry, members_entry, stray_entry, inner_entry, entry_by_word}
+use Rattle.lx_spec.specs.LineRules.{entry_by_tokens, entry_of}
+use Rattle.lx_spec.specs.Reading.{entries, count_read}
+use Rattle.lx_spec.specs.Finer.{HasOneDecimalMore}
+use Rattle.lx_text_laws.proofs.FinerLists.{any-mapped, tenfold-eq, placed-tenfold}
+use Rattle.lx_text_laws.proofs.FinerFields.{Kept, kept-same, kept-then, kept-either, kept-where, cue_no-kept, finer_section, finer_entry}
+use Rattle.lx_text_laws.proofs.FinerFields.{numbered-kept, times-kept, record_entry-kept, levels-kept, patch_entry-kept}
+use Rattle.lx_text_laws.proofs.FinerFields.{channels_entry-kept}
+
+-- what is known of a line, in the finer steps
+abbrev pub finer_facts : Limits → Facts → Facts
+finer_facts now f = record f { limits = now; section = finer_section f.section; cues = map (λ n. 10 * n) f.cues }
+
+abbrev pub finer_placed : PlacedEntry → PlacedEntry
+finer_placed e = record e { section = finer_section e.section; entry = finer_entry e.entry }
+
+makers-same : (s : Section) (word : Word) → is_makers_line (finer_section s) word ≡ is_makers_line s word
+makers-same (InCue n) word = refl
+makers-same other word = refl
+
+passed-same : (s : Section) (word : Word) → is_passed_over (finer_section s) word ≡ is_passed_over s word
+passed-same (InCue n) word = refl
+passed-same other word = refl
+
+pub end-same : (e : Entry) → is_end (finer_entry e) ≡ is_end e
+end-same (Links n) = refl
+end-same other = refl
+
+or_true : (a b c : Bool) → (b ≡ true → c ≡ true) → (a || b) ≡ true → (a || c) ≡ true
+or_true true b c more is = refl
+or_true false b c more is = more is
+
+module _ (now : Limits) (f : Facts) (more : HasOneDecimalMore now f.limits) where
+  abbrev Reads : Result Entry TextFault → Result Entry TextFault → Type 0
+  Reads r s = Kept finer_entry r s
+
+  few-kept : (entry : Entry) → Reads (if_few f entry) (if_few (finer_facts now f) (finer_entry entry))
+  few-kept (Begins (InCue n)) =
+      let there : list_any (λ m. m == 10 * n) (map (λ m. 10 * m) f.cues) ≡ list_any (λ m. m == n) f.cues =
+      any-mapped (λ m. 10 * m) (λ m. m == 10 * n) f.cues ∙ (λ j. list_any (λ m. tenfold-eq m n j) f.cues) in
+      kept-where finer_entry (list_any (λ m. m == n) f.cues || nat_lt (length f.cues) f.limits.cues)
+      (list_any (λ m. m == 10 * n) (map (λ m. 10 * m) f.cues) || nat_lt (length (map (λ m. 10 * m) f.cues)) now.cues)
+      (Ok (Begins (InCue n))) (Ok (Begins (InCue (10 * n)))) (OutOfRange f.number)
+      (λ is. ap (λ b. b || nat_lt (length (map (λ m. 10 * m) f.cues)) now.cues) there
+      ∙ or_true (list_any (λ m. m == n) f.cues) (nat_lt (length f.cues) f.limits.cues) (nat_lt (length (map (λ m. 10 * m) f.cues)) now.cues)
+      (λ low. grind (arith, nat_tests, low, more.cues, length-map f.cues (λ m. 10 * m))) is)
+      (λ is. refl)
+  few-kept (Begins other) = refl
+  few-kept (Skipped s) = refl
+  few-kept (Links n) = refl
+  few-kept other = refl
+
+  outer-kept : (word : Word) (rest : List (List ℕ)) → Reads (outer_entry f word rest) (outer_entry (finer_facts now f) word rest)
+  outer-kept words.Ident rest = elim (is_next (codes "3:0") rest) as (λ b. Reads (cond b (Ok Identifies) (Err (NoIdent f.number)))
+      (cond b (Ok Identifies) (Err (NoIdent f.number)))) [ true ↦ refl | false ↦ tt ]
+  outer-kept words.Maker rest = refl
+  outer-kept words.Clear rest = elim (is_next (codes "ALL") rest) as (λ b. Reads (Ok (cond b ClearsAll (Skipped (Some NoRecord))))
+      (Ok (cond b ClearsAll (Skipped (Some NoRecord))))) [ true ↦ refl | false ↦ refl ]
+  outer-kept words.Set rest = channels_entry-kept now f.limits more f.number rest
+  outer-kept words.Patch rest = patch_entry-kept now f.limits more f.number rest
+  outer-kept words.Cue rest =
+      kept-then finer_entry finer_entry (record_entry f.number InCue (read_cue_no f.limits) rest)
+      (record_entry f.number InCue (read_cue_no now) rest) (if_few f) (if_few (finer_facts now f))
+      (record_entry-kept f.number (λ n. 10 * n) InCue (read_cue_no f.limits) (read_cue_no now) rest (λ n. refl)
+      (cue_no-kept now f.limits more)) few-kept
+  outer-kept words.Group rest = record_entry-kept f.number (λ n. n) InGroup (read_whole 1 GROUPS) (read_whole 1 GROUPS) rest (λ n. refl)
+      (λ token. kept-same (read_whole 1 GROUPS token))
+  outer-kept words.Sub rest = record_entry-kept f.number (λ n. n) InSub (read_whole 1 SUBS) (read_whole 1 SUBS) rest (λ n. refl)
+      (λ token. kept-same (read_whole 1 SUBS token))
+  outer-kept words.EndData rest = refl
+  outer-kept other rest = refl
+
+  cue-kept : (line : List ℕ) (word : Word) (rest : List (List ℕ))
+      → Reads (cue_entry f line word rest) (cue_entry (finer_facts now f) line word rest)
+  cue-kept line words.Chan rest = levels-kept now f.limits more f.number rest
+  cue-kept line words.Part rest = numbered-kept f.number (λ n. n) NamesPart (read_whole 1 PARTS) (read_whole 1 PARTS) rest (λ n. refl)
+      (λ token. kept-same (read_whole 1 PARTS token))
+  cue-kept line words.Up rest = times-kept f.number HasUp rest (λ t d. refl)
+  cue-kept line words.Down rest = times-kept f.number HasDown rest (λ t d. refl)
+  cue-kept line words.FollowOn rest = numbered-kept f.number (λ n. n) Follows read_time read_time rest (λ n. refl)
+      (λ token. kept-same (read_time token))
+  cue-kept line words.Link rest = numbered-kept f.number (λ n. 10 * n) Links (read_cue_no f.limits) (read_cue_no now) rest (λ n. refl)
+      (cue_no-kept now f.limits more)
+  cue-kept line words.Text rest = refl
+  cue-kept line words.Block rest = refl
+  cue-kept line words.Assert rest = refl
+  cue-kept line other rest = refl
+
+  members-kept : (line : List ℕ) (word : Word) (rest : List (List ℕ))
+      → Reads (members_entry f line word rest) (members_entry (finer_facts now f) line word rest)
+  members-kept line words.Chan rest = levels-kept now f.limits more f.number rest
+  members-kept line words.Text rest = refl
+  members-kept line other rest = refl
+
+  stray-kept : (word : Word) → Reads (stray_entry f word) (stray_entry (finer_facts now f) word)
+  stray-kept words.Text = refl
+  stray-kept other = tt
+
+  inner-kept : (s : Section) (line : List ℕ) (word : Word) (rest : List (List ℕ))
+      → Reads (inner_entry s f line word rest) (inner_entry (finer_section s) (finer_facts now f) line word rest)
+  inner-kept (InCue n) line word rest = cue-kept line word rest
+  inner-kept (InGroup n) line word rest = members-kept line word rest
+  inner-kept (InSub n) line word rest = members-kept line word rest
+  inner-kept NoRecord line word rest = stray-kept word
+  inner-kept Skipping line word rest = refl
+
+  -- by the tests that a word is put to
+  abbrev tested : Facts → List ℕ → Word → List (List ℕ) → Bool → Bool → Result Entry TextFault
+  tested k line word rest makers passed =
+      if makers then Ok (Skipped None)
+      else if is_makers_record word then Ok (Skipped (Some Skipping))
+      else if is_unknown word then Ok (Skipped None)
+      else if is_unidentified k.identified word then Err (NoIdent k.number)
+      else if passed then Ok (Skipped None)
+      else if is_inner word then inner_entry k.section k line word rest
+      else outer_entry k word rest
+
+  word-kept : (line : List ℕ) (word : Word) (rest : List (List ℕ))
+      → Reads (entry_by_word f line word rest) (entry_by_word (finer_facts now f) line word rest)
+  word-kept line word rest =
+      subst (λ s. Reads (entry_by_word f line word rest) s)
+      (λ j. tested (finer_facts now f) line word rest (sym (makers-same f.section word) j) (sym (passed-same f.section word) j))
+      (kept-either finer_entry (is_makers_line f.section word) (Ok (Skipped None)) _ (Ok (Skipped None)) _ refl
+      (kept-either finer_entry (is_makers_record word) (Ok (Skipped (Some Skipping))) _ (Ok (Skipped (Some Skipping))) _ refl
+      (kept-either finer_entry (is_unknown word) (Ok (Skipped None)) _ (Ok (Skipped None)) _ refl
+      (kept-either finer_entry (is_unidentified f.identified word) (Err (NoIdent f.number)) _ (Err (NoIdent f.number)) _ tt
+      (kept-either finer_entry (is_passed_over f.section word) (Ok (Skipped None)) _ (Ok (Skipped None)) _ refl
+      (kept-either finer_entry (is_inner word) (inner_entry f.section f line word rest) (outer_entry f word rest)
+      (inner_entry (finer_section f.section) (finer_facts now f) line word rest) (outer_entry (finer_facts now f) word rest)
+      (inner-kept f.section line word rest) (outer-kept word rest)))))))
+
+  tokens-kept : (line : List ℕ) (ts : List (List ℕ)) → Reads (entry_by_tokens f line ts) (entry_by_tokens (finer_facts now f) line ts)
+  tokens-kept line [] = refl
+  tokens-kept line (first ∷ rest) = word-kept line (word_of first) rest
+
+  pub entry_of-kept : (line : List ℕ) → Reads (entry_of f line) (entry_of (finer_facts now f) line)
+  entry_of-kept line = kept-either finer_entry (is_too_long line) (Err (LineTooLong f.number)) (entry_by_tokens f line (tokens line))
+      (Err (LineTooLong f.number)) (entry_by_tokens (finer_facts now f) line (tokens line)) tt (tokens-kept line (tokens line))
+
+named-tenfold : (s : Section) (ns : List ℕ)
+    → with_cue_named (cue_in (finer_section s)) (map (λ n. 10 * n) ns) ≡ map (λ n. 10 * n) (with_cue_named (cue_in s) ns)
+named-tenfold (InCue n) ns = placed-tenfold n ns
+named-tenfold other ns = refl
+
+-- what is known of the next line
+pub after-finer : (now : Limits) (f : Facts) (e : Entry)
+    → facts_after (finer_facts now f) (finer_entry e) ≡ finer_facts now (facts_after f e)
+after-finer now f (Begins s) = λ j. record (finer_facts now (facts_after f (Begins s))) { cues = named-tenfold s f.cues j }
+after-finer now f (Skipped (Some s)) = λ j. record (finer_facts now (facts_after f (Skipped (Some s)))) { cues = named-tenfold s f.cues j }
+after-finer now f (Skipped None) = refl
+after-finer now f (Links n) = refl
+after-finer now f other = refl
+
+-- a line's entry with where it stands
+abbrev here : Facts → Entry → PlacedEntry
+here f entry = record { section = f.section; part = f.part; entry = entry }
+
+abbrev goes_on : Facts → List (List ℕ) → Entry → Result (List PlacedEntry) TextFault
+goes_on f lines entry = cond (is_end entry) (Ok []) (entries (facts_after f entry) lines >>= (λ all. Ok (here f entry ∷ all)))
+
+pub entries-kept : (now : Limits) (f : Facts) (lines : List (List ℕ)) → HasOneDecimalMore now f.limits
+    → Kept (map finer_placed) (entries f lines) (entries (finer_facts now f) lines)
+entries-kept now f [] more = tt
+entries-kept now f (line ∷ lines) more =
+    kept-then finer_entry (map finer_placed) (entry_of f line) (entry_of (finer_facts now f) line) (goes_on f lines)
+    (goes_on (finer_facts now f) lines) (entry_of-kept now f more line)
+    (λ entry. subst (λ (s : Result (List PlacedEntry) TextFault). Kept (map finer_placed) (goes_on f lines entry) s)
+    (λ j. cond (sym (end-same entry) j) (Ok [])
+    (entries (sym (after-finer now f entry) j) lines >>= (λ all. Ok (finer_placed (here f entry) ∷ all))))
+    (kept-either (map finer_placed) (is_end entry) (Ok []) _ (Ok []) _ refl
+    (kept-then (map finer_placed) (map finer_placed) (entries (facts_after f entry) lines)
+    (entries (finer_facts now (facts_after f entry)) lines) (λ all. Ok (here f entry ∷ all))
+    (λ all. Ok (finer_placed (here f entry) ∷ all)) (entries-kept now (facts_after f entry) lines more) (λ all. refl))))
+
+-- How many lines are read.
+abbrev counted : Facts → List (List ℕ) → Result Entry TextFault → ℕ
+counted f lines (Ok entry) = cond (is_end entry) 1 (count_read (facts_after f entry) lines + 1)
+counted f lines (Err fault) = 1
+
+one_more : (x : PlacedEntry) (m n : ℕ) (r : Result (List PlacedEntry) TextFault) → IfOk r (λ all. m ≡ n)
+    → IfOk (r >>= (λ all. Ok (x ∷ all))) (λ all. m + 1 ≡ n + 1)
+one_more x m n (Ok all) same = ap (λ k. k + 1) same
+one_more x m n (Err fault) same = tt
+
+unless_ended : (b : Bool) (r : Result (List PlacedEntry) TextFault) (m n : ℕ) → IfOk r (λ all. m ≡ n)
+    → IfOk (cond b (Ok []) r) (λ all. cond b 1 m ≡ cond b 1 n)
+unless_ended true r m n same = refl
+unless_ended false r m n same = same
+
+count-step : (now : Limits) (f : Facts) (lines : List (List ℕ)) (r s : Result Entry TextFault) → Kept finer_entry r s
+    → ((e : Entry) → IfOk (entries (facts_after f e) lines)
+    (λ all. count_read (finer_facts now (facts_after f e)) lines ≡ count_read (facts_after f e) lines))
+    → IfOk (r >>= goes_on f lines) (λ all. counted (finer_facts now f) lines s ≡ counted f lines r)
+count-step now f lines (Ok entry) s is rest =
+    let m = count_read (finer_facts now (facts_after f entry)) lines in
+    let n = count_read (facts_after f entry) lines in
+    let it : counted (finer_facts now f) lines s ≡ cond (is_end entry) 1 (m + 1) =
+    ap (counted (finer_facts now f) lines) is ∙ (λ j. cond (end-same entry j) 1 (count_read (after-finer now f entry j) lines + 1)) in
+    subst (λ k. IfOk (goes_on f lines entry) (λ all. k ≡ cond (is_end entry) 1 (n + 1))) (sym it)
+    (unless_ended (is_end entry) (entries (facts_after f entry) lines >>= (λ all. Ok (here f entry ∷ all))) (m + 1) (n + 1)
+    (one_more (here f entry) m n (entries (facts_after f entry) lines) (rest entry)))
+count-step now f lines (Err fault) s is rest = tt
+
+pub count-kept : (now : Limits) (f : Facts) (lines : List (List ℕ)) → HasOneDecimalMore now f.limits
+    → IfOk (entries f lines) (λ all. count_read (finer_facts now f) lines ≡ count_read f lines)
+count-kept now f [] more = tt
+count-kept now f (line ∷ lines) more =
+    count-step now f lines (entry_of f line) (entry_of (finer_facts now f) line) (entry_of-kept now f more line)
+    (λ e. count-kept now (facts_after f e) lines more)

@@ -1,0 +1,221 @@
+-- The show of entries in finer steps is the show in finer steps.
+use Rattle.std.specs.Prelude.{◌≡◌, ℕ, ◌+◌, ◌*◌, max, Bool, false, ◌==◌, Option, Some, None, List, [], ◌∷◌, map, filter, fold, flat_map}
+use Rattle.std.specs.Prelude.{filter_map, option_map, option_and_then, unwrap_or, position, count_by, refl}
+use Rattle.std.specs.Option.{option_map_or}
+use Rattle.std.specs.List.{list_any, after_last, last_or}
+use Rattle.std.proofs.Common.{ap, ◌∙◌, sym}
+use Rattle.lx_base.specs.declared.TheConstants.{DEFAULT_CHANNELS, DEFAULT_TIME}
+use Rattle.lx_spec.specs.declared.Form.{Form}
+use Rattle.lx_spec.specs.declared.Form.TheVariants.{Moves, States}
+use Rattle.lx_spec.specs.declared.Section.{Section}
+use Rattle.lx_spec.specs.declared.Section.TheVariants.{InCue}
+use Rattle.lx_spec.specs.Show.{Cue, MemberSet, Show}
+use Rattle.lx_spec.specs.TrackedLevel.{level_in}
+use Rattle.lx_spec.specs.Looks.{look_moves, from_looks, by_form}
+use Rattle.lx_spec.specs.Entry.{Entry, PlacedEntry, Begins, Skipped, Links, section_begun, channels_set, rows_in, levels_in, part_named}
+use Rattle.lx_spec.specs.Entry.{up_in, down_in, follow_in, link_in, label_in, blocks, is_assert, is_skipped, clears_all, cue_in, group_in}
+use Rattle.lx_spec.specs.Entry.{sub_in}
+use Rattle.lx_spec.specs.Reading.{last_of_each, last_in, numbers_begun, stands_in, each_record, label_from, part_from, moves_in, parts_from}
+use Rattle.lx_spec.specs.Reading.{cue_from, members_from, group_from, sub_from, channels_named, show_from, reading_from}
+use Rattle.lx_spec.specs.Finer.{finer_cue, finer}
+use Rattle.lx_text_laws.proofs.FinerLists.{filter-mapped, filter_map-mapped, flat_map-mapped, any-mapped, count-mapped, position-mapped}
+use Rattle.lx_text_laws.proofs.FinerLists.{after_last-mapped, last-mapped, filter_map-then, tenfold-eq, last_of_each-tenfold}
+use Rattle.lx_text_laws.proofs.FinerFields.{finer_section, finer_entry}
+use Rattle.lx_text_laws.proofs.FinerLines.{finer_placed}
+
+-- What doesn't look at cue numbers is the same of an entry in finer steps.
+abbrev Same : {A : Type 0} → (Entry → A) → Type 0
+Same look = (e : Entry) → look (finer_entry e) ≡ look e
+
+alike : {A : Type 0} (look : Entry → A) → ((s : Section) → look (Begins (finer_section s)) ≡ look (Begins s))
+    → ((s : Option Section) → look (Skipped (option_map finer_section s)) ≡ look (Skipped s))
+    → ((n : ℕ) → look (Links (10 * n)) ≡ look (Links n)) → Same look
+alike look begun skipped linked (Begins s) = begun s
+alike look begun skipped linked (Skipped s) = skipped s
+alike look begun skipped linked (Links n) = linked n
+alike look begun skipped linked other = refl
+
+module _ {A : Type 0} where
+  all-same : (look : Entry → List A) → Same look → (es : List PlacedEntry)
+      → flat_map (λ e. look e.entry) (map finer_placed es) ≡ flat_map (λ e. look e.entry) es
+  all-same look is es = flat_map-mapped finer_placed (λ e. look e.entry) es ∙ (λ j. flat_map (λ e. is e.entry j) es)
+
+  some-same : (look : Entry → Option A) → Same look → (es : List PlacedEntry)
+      → filter_map (λ e. look e.entry) (map finer_placed es) ≡ filter_map (λ e. look e.entry) es
+  some-same look is es = filter_map-mapped finer_placed (λ e. look e.entry) es ∙ (λ j. filter_map (λ e. is e.entry j) es)
+
+  last-same : (look : Entry → Option A) → Same look → (es : List PlacedEntry) → last_in look (map finer_placed es) ≡ last_in look es
+  last-same look is es = ap (last_or None) (some-same look is es)
+
+any-same : (look : Entry → Bool) → Same look → (es : List PlacedEntry)
+    → list_any (λ e. look e.entry) (map finer_placed es) ≡ list_any (λ e. look e.entry) es
+any-same look is es = any-mapped finer_placed (λ e. look e.entry) es ∙ (λ j. list_any (λ e. is e.entry j) es)
+
+levels-alike : Same levels_in
+levels-alike = alike levels_in (λ s. refl) (λ s. refl) (λ n. refl)
+
+label-same : (es : List PlacedEntry) → label_from (map finer_placed es) ≡ label_from es
+label-same es = ap (λ o. unwrap_or o []) (last-same label_in (alike label_in (λ s. refl) (λ s. refl) (λ n. refl)) es)
+
+-- A cue of its entries.
+part-same : (es : List PlacedEntry) (p : ℕ) → part_from (map finer_placed es) p ≡ part_from es p
+part-same es p =
+    let ups = last-same up_in (alike up_in (λ s. refl) (λ s. refl) (λ n. refl)) es in
+    let downs = last-same down_in (alike down_in (λ s. refl) (λ s. refl) (λ n. refl)) es in
+    (λ j. let up = unwrap_or (ups j) (DEFAULT_TIME, 0) in
+    let down = unwrap_or (downs j) (DEFAULT_TIME, 0) in
+    record { number = p; up = up.0; up_delay = up.1; down = down.0; down_delay = down.1 })
+
+parts-same : (es : List PlacedEntry) → parts_from (map finer_placed es) ≡ parts_from es
+parts-same es =
+    let numbers : List ℕ → List ℕ = λ ns. last_of_each (λ n. n) (1 ∷ ns) in
+    let in_part = λ (p : ℕ). ap (λ about. part_from about p) (filter-mapped finer_placed (λ e. e.part == p) es)
+    ∙ part-same (filter (λ e. e.part == p) es) p in
+    (λ j. map (λ p. in_part p j)
+    (numbers (some-same part_named (alike part_named (λ s. refl) (λ s. refl) (λ n. refl)) es j)))
+
+moves-same : (es : List PlacedEntry) → flat_map moves_in (map finer_placed es) ≡ flat_map moves_in es
+moves-same es = flat_map-mapped finer_placed moves_in es
+    ∙ (λ j. flat_map (λ e. map (λ m. record { chan = m.chan; part = e.part; level = m.level }) (levels-alike e.entry j)) es)
+
+link-finer : (e : Entry) → link_in (finer_entry e) ≡ option_map (λ n. 10 * n) (link_in e)
+link-finer (Links n) = refl
+link-finer (Begins s) = refl
+link-finer (Skipped s) = refl
+link-finer other = refl
+
+links-finer : (es : List PlacedEntry) → last_in link_in (map finer_placed es) ≡ option_map (λ n. 10 * n) (last_in link_in es)
+links-finer es =
+    ap (last_or None)
+    (filter_map-mapped finer_placed (λ e. link_in e.entry) es ∙ (λ j. filter_map (λ e. link-finer e.entry j) es)
+    ∙ filter_map-then (λ n. 10 * n) (λ e. link_in e.entry) es)
+    ∙ last-mapped (λ n. 10 * n) None (filter_map (λ e. link_in e.entry) es)
+
+cue-finer : (es : List PlacedEntry) (n : ℕ) → cue_from (map finer_placed es) (10 * n) ≡ finer_cue (cue_from es n)
+cue-finer es n = λ j. record {
+  number = 10 * n;
+  block = any-same blocks (alike blocks (λ s. refl) (λ s. refl) (λ n. refl)) es j;
+  asserted = any-same is_assert (alike is_assert (λ s. refl) (λ s. refl) (λ n. refl)) es j;
+  follow = last-same follow_in (alike follow_in (λ s. refl) (λ s. refl) (λ n. refl)) es j;
+  link = links-finer es j;
+  label = label-same es j;
+  parts = parts-same es j;
+  moves = last_of_each (λ m. m.chan) (moves-same es j);
+}
+
+begun-finer : (e : Entry)
+    → option_and_then cue_in (section_begun (finer_entry e)) ≡ option_map (λ n. 10 * n) (option_and_then cue_in (section_begun e))
+begun-finer (Begins (InCue n)) = refl
+begun-finer (Begins other) = refl
+begun-finer (Skipped None) = refl
+begun-finer (Skipped (Some (InCue n))) = refl
+begun-finer (Skipped (Some other)) = refl
+begun-finer (Links n) = refl
+begun-finer other = refl
+
+stands-finer : (n : ℕ) (s : Section) → option_map_or (λ m. m == 10 * n) (cue_in (finer_section s)) false
+    ≡ option_map_or (λ m. m == n) (cue_in s) false
+stands-finer n (InCue m) = tenfold-eq m n
+stands-finer n other = refl
+
+cues-finer : (es : List PlacedEntry) → each_record cue_in cue_from (map finer_placed es) ≡ map finer_cue (each_record cue_in cue_from es)
+cues-finer es =
+    let begun = filter_map-mapped finer_placed (λ e. option_and_then cue_in (section_begun e.entry)) es
+    ∙ (λ j. filter_map (λ e. begun-finer e.entry j) es)
+    ∙ filter_map-then (λ n. 10 * n) (λ e. option_and_then cue_in (section_begun e.entry)) es in
+    let numbers : numbers_begun cue_in (map finer_placed es) ≡ map (λ n. 10 * n) (numbers_begun cue_in es) =
+    ap (last_of_each (λ n. n)) begun
+    ∙ last_of_each-tenfold (filter_map (λ e. option_and_then cue_in (section_begun e.entry)) es) in
+    let one = λ (n : ℕ). ap (λ about. cue_from about (10 * n))
+    (filter-mapped finer_placed (stands_in cue_in (10 * n)) es ∙ (λ j. map finer_placed (filter (λ e. stands-finer n e.section j) es)))
+    ∙ cue-finer (filter (stands_in cue_in n) es) n in
+    ap (map (λ n. cue_from (filter (stands_in cue_in n) (map finer_placed es)) n)) numbers
+    ∙ map-twice (λ n. 10 * n) (λ n. cue_from (filter (stands_in cue_in n) (map finer_placed es)) n) (numbers_begun cue_in es)
+    ∙ (λ j. map (λ n. one n j) (numbers_begun cue_in es))
+    ∙ sym (map-twice (λ n. cue_from (filter (stands_in cue_in n) es) n) finer_cue (numbers_begun cue_in es))
+  where
+    map-twice : {A B C : Type 0} (f : A → B) (g : B → C) (xs : List A) → map g (map f xs) ≡ map (λ x. g (f x)) xs
+    map-twice f g [] = refl
+    map-twice f g (x ∷ xs) = ap (λ ys. g (f x) ∷ ys) (map-twice f g xs)
+
+-- Groups and submasters have numbers of their own.
+module _ (number : Section → Option ℕ) (own : (s : Section) → number (finer_section s) ≡ number s) where
+  sets-same : (from : List PlacedEntry → ℕ → MemberSet) (es : List PlacedEntry)
+      → ((about : List PlacedEntry) (n : ℕ) → from (map finer_placed about) n ≡ from about n)
+      → Same (λ e. option_and_then number (section_begun e))
+      → each_record number from (map finer_placed es) ≡ each_record number from es
+  sets-same from es each is =
+      let one = λ (n : ℕ). ap (λ about. from about n)
+      (filter-mapped finer_placed (stands_in number n) es
+      ∙ (λ j. map finer_placed (filter (λ e. option_map_or (λ m. m == n) (own e.section j) false) es)))
+      ∙ each (filter (stands_in number n) es) n in
+      (λ j. map (λ n. one n j) (last_of_each (λ n. n) (some-same (λ e. option_and_then number (section_begun e)) is es j)))
+
+members-same : (es : List PlacedEntry) → members_from (map finer_placed es) ≡ members_from es
+members-same es = ap (last_of_each (λ m. m.chan)) (all-same levels_in levels-alike es)
+
+group-own : (s : Section) → group_in (finer_section s) ≡ group_in s
+group-own (InCue n) = refl
+group-own other = refl
+
+group-begun : (s : Option Section) → option_and_then group_in (option_map finer_section s) ≡ option_and_then group_in s
+group-begun None = refl
+group-begun (Some s) = group-own s
+
+groups-same : (es : List PlacedEntry) → each_record group_in group_from (map finer_placed es) ≡ each_record group_in group_from es
+groups-same es = sets-same group_in group-own group_from es
+    (λ about g. (λ j. record { number = g; label = label-same about j; members = members-same about j }))
+    (alike (λ e. option_and_then group_in (section_begun e)) group-own group-begun (λ n. refl))
+
+sub-own : (s : Section) → sub_in (finer_section s) ≡ sub_in s
+sub-own (InCue n) = refl
+sub-own other = refl
+
+sub-begun : (s : Option Section) → option_and_then sub_in (option_map finer_section s) ≡ option_and_then sub_in s
+sub-begun None = refl
+sub-begun (Some s) = sub-own s
+
+subs-same : (es : List PlacedEntry) → each_record sub_in sub_from (map finer_placed es) ≡ each_record sub_in sub_from es
+subs-same es = sets-same sub_in sub-own sub_from es
+    (λ about s. (λ j. record { number = s; label = label-same about j; members = members-same about j }))
+    (alike (λ e. option_and_then sub_in (section_begun e)) sub-own sub-begun (λ n. refl))
+
+-- The show, and the reading.
+abbrev finer_show : Show → Show
+finer_show show = record show { cues = map finer_cue show.cues }
+
+show-finer : (es : List PlacedEntry) → show_from (map finer_placed es) ≡ finer_show (show_from es)
+show-finer es = λ j. record {
+  channels = fold max
+      (unwrap_or (last-same channels_set (alike channels_set (λ s. refl) (λ s. refl) (λ n. refl)) es j) DEFAULT_CHANNELS)
+      (all-same channels_named (alike channels_named (λ s. refl) (λ s. refl) (λ n. refl)) es j);
+  cues = cues-finer es j;
+  groups = groups-same es j;
+  subs = subs-same es j;
+  patch = last_of_each (λ row. row.dimmer) (all-same rows_in (alike rows_in (λ s. refl) (λ s. refl) (λ n. refl)) es j);
+}
+
+looks-finer : (show : Show) (before : ℕ → ℕ) (cues : List Cue)
+    → from_looks (finer_show show) before (map finer_cue cues) ≡ map finer_cue (from_looks show before cues)
+looks-finer show before [] = refl
+looks-finer show before (cue ∷ cues) =
+    ap (λ rest. record (finer_cue cue) { moves = look_moves show before cue } ∷ rest) (looks-finer show (λ c. level_in cue c) cues)
+
+form-finer : (form : Form) (show : Show) → by_form form (finer_show show) ≡ finer_show (by_form form show)
+form-finer Moves show = refl
+form-finer States show = λ j. record show { cues = looks-finer show (λ c. 0) show.cues j }
+
+pub reading-finer : (form : Form) (es : List PlacedEntry) → reading_from form (map finer_placed es) ≡ finer (reading_from form es)
+reading-finer form es =
+    let clears : Same clears_all = alike clears_all (λ s. refl) (λ s. refl) (λ n. refl) in
+    let skips : Same is_skipped = alike is_skipped (λ s. refl) (λ s. refl) (λ n. refl) in
+    let kept = after_last-mapped finer_placed (λ e. clears_all e.entry) es
+    ∙ (λ j. map finer_placed (after_last (λ e. clears e.entry j) es)) in
+    let counted = count-mapped finer_placed (λ e. is_skipped e.entry) es
+    ∙ (λ j. count_by (λ e. skips e.entry j) es) in
+    let first = position-mapped finer_placed (λ e. is_skipped e.entry) es
+    ∙ (λ j. position (λ e. skips e.entry j) es) in
+    let show = ap (λ all. by_form form (show_from all)) kept
+    ∙ ap (by_form form) (show-finer (after_last (λ e. clears_all e.entry) es))
+    ∙ form-finer form (show_from (after_last (λ e. clears_all e.entry) es)) in
+    (λ j. record { show = show j; skipped = counted j; first_skipped = option_map_or (λ i. i + 1) (first j) 0 })

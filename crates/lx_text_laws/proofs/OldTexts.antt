@@ -1,0 +1,31 @@
+-- An old text is read as the same show in finer cue numbers.
+use Rattle.std.specs.Prelude.{◌≡◌, ℕ, Result, Ok, Err, List, map, IfOk}
+use Rattle.std.proofs.Common.{ap, ◌∙◌}
+use Rattle.lx_spec.specs.declared.Form.{Form}
+use Rattle.lx_spec.specs.declared.TextFault.{TextFault}
+use Rattle.lx_spec.specs.FirstRefusal.{◌>>=◌}
+use Rattle.lx_spec.specs.Limits.{Limits}
+use Rattle.lx_spec.specs.Text.{lines_of}
+use Rattle.lx_spec.specs.Entry.{PlacedEntry}
+use Rattle.lx_spec.specs.Facts.{first_facts}
+use Rattle.lx_spec.specs.Reading.{reading_from, entries, reads_under, count_read}
+use Rattle.lx_spec.specs.Finer.{HasOneDecimalMore}
+use Rattle.lx_text_laws.specs.OldTexts.{ReadsFiner}
+use Rattle.lx_text_laws.proofs.FinerFields.{Kept}
+use Rattle.lx_text_laws.proofs.FinerLines.{finer_placed, entries-kept, count-kept}
+use Rattle.lx_text_laws.proofs.FinerShow.{reading-finer}
+
+pub old_texts : (now before : Limits) (form : Form) (bytes : List ℕ) → HasOneDecimalMore now before
+    → IfOk (reads_under before form bytes) (ReadsFiner now before form bytes)
+old_texts now before form bytes more =
+    of_entries (entries (first_facts before) (lines_of bytes)) (entries-kept now (first_facts before) (lines_of bytes) more)
+    (count-kept now (first_facts before) (lines_of bytes) more)
+  where
+    of_entries : (r : Result (List PlacedEntry) TextFault) → Kept (map finer_placed) r (entries (first_facts now) (lines_of bytes))
+        → IfOk r (λ all. count_read (first_facts now) (lines_of bytes) ≡ count_read (first_facts before) (lines_of bytes))
+        → IfOk (r >>= (λ all. Ok (reading_from form all))) (ReadsFiner now before form bytes)
+    of_entries (Ok all) is count = record {
+      reading_now = ap (λ r. r >>= (λ all. Ok (reading_from form all))) is ∙ ap Ok (reading-finer form all);
+      lines = count;
+    }
+    of_entries (Err fault) is count = tt

@@ -1,0 +1,39 @@
+-- What a desk with a history stands for, and how it answers.
+use Rattle.std.specs.Prelude.{◌≡◌, ◌⊎◌, ℕ, Bool, true, Result, Err, List, OnOk, IfErr, IsOk}
+use Rattle.std.specs.Result.{IsOkAnd}
+use Rattle.lx_spec.specs.declared.Refusal.{Refusal}
+use Rattle.lx_spec.specs.declared.Refusal.TheVariants.{Memory}
+use Rattle.lx_spec.specs.Show.{Show}
+use Rattle.lx_spec.specs.Kept.{Kept}
+use Rattle.lx_spec.specs.Undo.{UndoState}
+use Rattle.lx_console.specs.Standing.{StandsFor}
+
+-- what is kept of the state: all but the list of all runs
+pub record UndoKept : Type 0 where
+  pub console : Kept
+  pub back : List Show
+  pub forth : List Show
+  pub depth : ℕ
+
+-- the console stands for the desk, and the shows are those of the state
+pub record UndoStands (s : UndoState) (u : UndoKept) : Type 0 where
+  pub desk : StandsFor s.desk u.console
+  pub back : u.back ≡ s.back
+  pub forth : u.forth ≡ s.forth
+  pub depth : u.depth ≡ s.depth
+
+-- The answer to a step: Ok where it isn't refused, and then what is kept stands for the state after it. A refusal is the step's own.
+pub record Steps {A E : Type 0} (step : Result UndoState E) (answer : Result A E) (u : UndoKept) : Type 0 where
+  pub ok : OnOk answer (IsOkAnd step (λ next. UndoStands next u))
+  pub err : IfErr answer (λ fault. step ≡ Err fault)
+
+-- memory was wanting at a step that takes some, and isn't refused
+pub record WantsMemory (takes : Bool) (step : Result UndoState Refusal) (refusal : Refusal) : Type 0 where
+  pub takes_some : takes ≡ true
+  pub memory : refusal ≡ Memory
+  pub accepted : IsOk step
+
+-- As `Steps`, but that want of memory may refuse a step that takes some.
+pub record TakesStep {A : Type 0} (takes : Bool) (step : Result UndoState Refusal) (answer : Result A Refusal) (u : UndoKept) : Type 0 where
+  pub ok : OnOk answer (IsOkAnd step (λ next. UndoStands next u))
+  pub err : IfErr answer (λ refusal. (step ≡ Err refusal) ⊎ WantsMemory takes step refusal)

@@ -1,0 +1,10 @@
+//! Undo and redo: a desk with the shows that edits and records replaced. To bring one back leaves the playback, the
+//! faders and the master as they are.
+#![tactic(auto)]
+
+mod desk;
+mod history;
+pub mod laws;
+
+pub use desk::UndoDesk;
+pub use lx_spec::UndoFault;
