@@ -14,6 +14,7 @@ import resource
 import subprocess
 import sys
 import tempfile
+import time
 
 import plain_desk
 import refusals
@@ -354,18 +355,30 @@ def closed_output(program):
     return [] if (run.returncode, run.stderr) == (4, b"") else [f"status {run.returncode}, standard error {run.stderr[:200]!r}"]
 
 
+def waits(run):
+    """Whether the program sleeps in a call."""
+    with open(f"/proc/{run.pid}/stat") as stat:
+        return stat.read().rpartition(")")[2].split()[0] == "S"
+
+
 def terminal_goes_away(program):
-    """A terminal that is closed in the middle of a line: the read or the write fails, and nothing else is said."""
+    """A terminal that is closed in the middle of a line, while the program waits for the rest: nothing is said of it. The read fails, or the
+    system tells the end of the input where the read came after the closing."""
     master, terminal = os.openpty()
     with subprocess.Popen([program, "render"], stdin=terminal, stdout=terminal, stderr=subprocess.PIPE, start_new_session=True) as run:
         os.close(terminal)
         os.write(master, ONE_CUE.encode() + b"go\n")
-        os.read(master, 4096)
+        said = b""
+        while b"ok\r\n" not in said:
+            said += os.read(master, 4096)
         os.write(master, b"fra")
+        until = time.monotonic() + TIME_LIMIT
+        while not waits(run) and time.monotonic() < until:
+            time.sleep(0.01)
         os.close(master)
         error = run.stderr.read()
         status = run.wait(TIME_LIMIT)
-    return [] if status in (3, 4) and error == b"" else [f"status {status}, standard error {error[:200]!r}"]
+    return [] if status in (0, 3, 4) and error == b"" else [f"status {status}, standard error {error[:200]!r}"]
 
 
 # A rig of all channels, and edits that want more and more memory, with keys and frames among them; every line has one line of reply.
