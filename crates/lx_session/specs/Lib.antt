@@ -3,6 +3,8 @@ pub mod LineState
 pub mod Attempts
 pub mod LineProgress
 pub mod LineReply
+pub mod OneAnswer
+pub mod ScriptAnswered
 pub mod LineAnswer
 pub mod LineOutcome
 pub mod SessionFaults

@@ -2,6 +2,7 @@
 use Rattle.std.specs.Prelude.{◌≡◌, ℕ, ◌<◌, ◌==◌, true, Option, Some, None, IfSome, is_some, List, if◌then◌else◌}
 use Rattle.lx_spec.specs.declared.Command.{Command}
 use Rattle.lx_spec.specs.declared.Line.{Line}
+use Rattle.lx_spec.specs.declared.Line.TheVariants.{Frame}
 use Rattle.lx_spec.specs.declared.Refusal.{Refusal}
 use Rattle.lx_spec.specs.ValidEdit.{ValidLine}
 use Rattle.lx_spec.specs.Script.{line_of}
@@ -24,6 +25,11 @@ meaning_of (Some line) = line_of line
 -- the command to attempt now
 abbrev pub next_of : LineState → Option Command
 next_of turn = if is_some turn.refusal then None else (if turn.left == 0 then None else command_of turn.meaning)
+
+-- the universe whose frame a line asks for
+abbrev pub frame_of : Option Line → Option ℕ
+frame_of (Some (Frame u)) = Some u
+frame_of other = None
 
 -- what always holds of a line on its way
 pub record IsLineState (turn : LineState) : Type 0 where

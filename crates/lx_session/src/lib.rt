@@ -1,6 +1,7 @@
 //! A session: the lines of a script, each taken through its commands on a console and answered.
 #![tactic(auto)]
 
+mod answers;
 mod fault;
 mod finish;
 mod line;
@@ -11,6 +12,7 @@ mod take;
 mod tally;
 mod turn;
 
+pub use answers::Answers;
 pub use fault::SessionFault;
 pub use listener::{Listener, NoListener};
 pub use script::{session, session_with};

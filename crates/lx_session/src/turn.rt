@@ -5,10 +5,10 @@ ghost use Rattle.lx_spec.specs.Desk.{Desk};
 ghost use Rattle.lx_spec.specs.ValidEdit.{ValidCommand};
 ghost use Rattle.lx_console.specs.Standing.{StandsFor};
 ghost use Rattle.lx_console.specs.Ticks.{after_ticks};
-ghost use Rattle.lx_session.specs.LineState.{unattempted, meaning_of, next_of};
+ghost use Rattle.lx_session.specs.LineState.{unattempted, meaning_of, next_of, frame_of};
 ghost use Rattle.lx_session.specs.Attempts.{Attempted};
 
-use crate::meaning::Meaning;
+use crate::meaning::{Asked, Meaning};
 use lx_console::Console;
 use lx_spec::{Command, Refusal};
 use std::marker::Model;
@@ -77,6 +77,27 @@ impl Turn {
         self.left -= 1;
         self.refusal = refusal;
         self.refusal.is_none()
+    }
+
+    /// Says that the next command was attempted elsewhere, and how it was refused, if it was.
+    pub fn attempted(&mut self, refusal: Option<Refusal>)
+        requires { IsTrue (is_some (next_of self.old)) }
+        ensures { self.new ≡ record self.old { left = self.old.left - 1; refusal = refusal } }
+    {
+        // For its proof alone: an attempt is left.
+        let _ = self.next();
+        self.left -= 1;
+        self.refusal = refusal;
+    }
+
+    /// The universe whose frame the line asks for, if it does.
+    pub fn frame_universe(&self) -> Option<u8>
+        ensures { result ≡ frame_of self.now.meaning }
+    {
+        match self.meaning.asked() {
+            Asked::Frame(universe) => Some(*universe),
+            _ => None,
+        }
     }
 
     /// Makes as many attempts of a line `tick k` at once as `Console::pass` lets pass, and says how many.

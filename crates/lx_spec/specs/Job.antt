@@ -1,21 +1,26 @@
 -- The jobs of the program: the words that name each, what it is given, and what it writes.
 use Rattle.std.specs.Prelude.{ℕ, ◌==◌, Bool, false, Option, Some, None, Result, List, [], ◌∷◌, option_and_then, option_map, codes, bytes_eq}
 use Rattle.std.specs.Prelude.{if◌then◌else◌}
-use Rattle.lx_base.specs.declared.TheConstants.{CUES, UNIVERSES}
+use Rattle.lx_base.specs.declared.TheConstants.{CUES, UNIVERSES, UNDO_DEPTH}
 use Rattle.lx_spec.specs.declared.Form.{Form}
 use Rattle.lx_spec.specs.declared.Form.TheVariants.{Moves, States}
 use Rattle.lx_spec.specs.declared.Job.{Job}
-use Rattle.lx_spec.specs.declared.Job.TheVariants.{Check, Render, Sheet, Make, Run}
+use Rattle.lx_spec.specs.declared.Job.TheVariants.{Check, Render, Sheet, Make, Run, Undo, Two}
 use Rattle.lx_spec.specs.declared.TextFault.{TextFault}
 use Rattle.lx_spec.specs.Text.{lines_of}
 use Rattle.lx_spec.specs.Numerals.{read_whole}
 use Rattle.lx_spec.specs.Phrase.{ended, read_as}
-use Rattle.lx_spec.specs.Reading.{Reading, reads, lines_read}
+use Rattle.lx_spec.specs.Reading.{Reading, reads, lines_read, script_of}
 use Rattle.lx_spec.specs.CutInput.{first_lines}
 use Rattle.lx_spec.specs.CheckOutput.{check_output}
 use Rattle.lx_spec.specs.SheetOutput.{sheet_output}
-use Rattle.lx_spec.specs.RenderOutput.{render_output, input_wanted, OutputPlacesAreEdits}
+use Rattle.lx_spec.specs.RenderOutput.{render_output, input_wanted, first_replies, OutputPlacesAreEdits}
 use Rattle.lx_spec.specs.MakeOutput.{made_input, make_output}
+use Rattle.lx_spec.specs.SessionOutput.{session_output, session_replies, SessionWants}
+use Rattle.lx_spec.specs.Show.{Show}
+use Rattle.lx_spec.specs.Undo.{UndoState, opened_with}
+use Rattle.lx_spec.specs.UndoSession.{undo_answer, UndoMayWant}
+use Rattle.lx_spec.specs.TwoLists.{opened_two, two_answer, TwoMayWant}
 
 -- the form that the last words of a job name
 abbrev pub form_of : List (List ℕ) → Option Form
@@ -49,6 +54,8 @@ job_of (name ∷ rest) =
     else if bytes_eq name (codes "sheet") then option_map Sheet (form_of rest)
     else if bytes_eq name (codes "make") then option_map Make (number_alone CUES rest)
     else if bytes_eq name (codes "run") then run_of rest
+    else if bytes_eq name (codes "undo") then option_map Undo (form_of rest)
+    else if bytes_eq name (codes "two") then option_map Two (form_of rest)
     else None
 
 -- the bytes that a job is given, where its source tells what it has left: `make` is given none
@@ -58,6 +65,8 @@ given_to (Render form) left = left
 given_to (Sheet form) left = left
 given_to (Make n) left = Some []
 given_to (Run universes form) left = left
+given_to (Undo form) left = left
+given_to (Two form) left = left
 
 -- the show that a job is about
 abbrev pub show_of : Job → List ℕ → Result Reading TextFault
@@ -66,6 +75,12 @@ show_of (Render form) bytes = reads form bytes
 show_of (Sheet form) bytes = reads form bytes
 show_of (Make n) bytes = reads Moves (made_input n)
 show_of (Run universes form) bytes = reads form bytes
+show_of (Undo form) bytes = reads form bytes
+show_of (Two form) bytes = reads form bytes
+
+-- the state of undo, as it is opened over a show
+abbrev pub opened_undo : Show → UndoState
+opened_undo show = opened_with show UNDO_DEPTH
 
 -- what a job writes, where want of memory refuses the edits at these places
 abbrev pub output_of : Job → List ℕ → List ℕ → List ℕ
@@ -74,6 +89,18 @@ output_of (Render form) bytes places = render_output form bytes places
 output_of (Sheet form) bytes places = sheet_output form bytes
 output_of (Make n) bytes places = make_output n places
 output_of (Run universes form) bytes places = render_output form bytes places
+output_of (Undo form) bytes places = session_output undo_answer opened_undo form bytes places
+output_of (Two form) bytes places = session_output two_answer opened_two form bytes places
+
+-- the replies of a job to the first so many lines of its script; none where it has no script, or the show is refused
+abbrev pub replies_of : Job → List ℕ → List ℕ → ℕ → List ℕ
+replies_of (Check form) bytes places lines = []
+replies_of (Render form) bytes places lines = first_replies (reads form bytes) (script_of bytes) places lines
+replies_of (Sheet form) bytes places lines = []
+replies_of (Make n) bytes places lines = []
+replies_of (Run universes form) bytes places lines = first_replies (reads form bytes) (script_of bytes) places lines
+replies_of (Undo form) bytes places lines = session_replies undo_answer opened_undo (reads form bytes) (script_of bytes) places lines
+replies_of (Two form) bytes places lines = session_replies two_answer opened_two (reads form bytes) (script_of bytes) places lines
 
 -- want of memory refuses nothing but edits that the desk accepts; live, any attempt may be refused where there is no memory to hand it on
 abbrev pub WantsEdits : Job → List ℕ → List ℕ → Type 0
@@ -82,6 +109,8 @@ WantsEdits (Render form) bytes places = OutputPlacesAreEdits bytes places (reads
 WantsEdits (Sheet form) bytes places = Unit {0}
 WantsEdits (Make n) bytes places = OutputPlacesAreEdits (made_input n) places (reads Moves (made_input n))
 WantsEdits (Run universes form) bytes places = Unit {0}
+WantsEdits (Undo form) bytes places = SessionWants undo_answer UndoMayWant opened_undo bytes places (reads form bytes)
+WantsEdits (Two form) bytes places = SessionWants two_answer TwoMayWant opened_two bytes places (reads form bytes)
 
 -- the bytes of an input that a show text wants
 abbrev pub show_wanted : List ℕ → List ℕ
@@ -94,3 +123,5 @@ wanted_of (Render form) bytes = input_wanted form bytes
 wanted_of (Sheet form) bytes = show_wanted bytes
 wanted_of (Make n) bytes = input_wanted Moves (made_input n)
 wanted_of (Run universes form) bytes = input_wanted form bytes
+wanted_of (Undo form) bytes = input_wanted form bytes
+wanted_of (Two form) bytes = input_wanted form bytes

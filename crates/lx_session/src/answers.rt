@@ -1,0 +1,52 @@
+//! What answers the lines of a script.
+
+ghost use Rattle.std.specs.Prelude.{◌≡◌, List, ℕ, IfOk, not, option_copied};
+ghost use Rattle.lx_io.specs.Puts.{HasSinkCause};
+ghost use Rattle.lx_spec.specs.Session.{ends_script};
+ghost use Rattle.lx_spec.specs.SessionOf.{SessionOf, Answer};
+ghost use Rattle.lx_session.specs.LineReply.{HasRoom, HasOneMore, counts_in};
+ghost use Rattle.lx_session.specs.OneAnswer.{IsLine, ExtendsSession, OneAnswer};
+
+use crate::tally::Tally;
+use lx_io::{Sink, SinkFault};
+
+/// What answers the lines of a script, one after another: a desk of any kind.
+///
+/// It has five meanings for contracts: the states that it stands at (`State`, `stands`), the session after a line
+/// (`answer_of`), at which lines want of memory may refuse an attempt (`may_want`), and that a line only adds to a
+/// session's attempts and text (`extends`).
+pub trait Answers {
+    /// What it stands at.
+    ghost State: { Type 0 };
+
+    /// It stands for the state.
+    ghost stands: { State → Self → Type 0 };
+
+    /// The session after a line.
+    ghost answer_of: { Answer State };
+
+    /// Where want of memory may refuse an attempt of the line.
+    ghost may_want: { State → List ℕ → Type 0 };
+
+    ghost extends: { (places : List ℕ) (s : SessionOf State) (line : List ℕ) → ExtendsSession s (answer_of places s line) };
+
+    /// Does what a line asks for, then appends its replies and counts them. None stands for a line that is too
+    /// long, which is bad. It answers false exactly for `quit`.
+    ///
+    /// A fault comes only where the sink answered it in this call; then a prefix of the replies was appended, and
+    /// the line was done.
+    fn answer<K: Sink>(
+        &mut self,
+        line: Option<&[u8]>,
+        sink: &mut K,
+        tally: &mut Tally,
+    ) -> Result<bool, SinkFault>
+        requires room { HasRoom tally.old }
+        ensures answered { (s : SessionOf State) (text : List ℕ) → stands s.state self.old → s.counts ≡ counts_in tally.old
+            → IsLine (option_copied line.entry) text
+            → OneAnswer answer_of may_want K.holds K.faults K.wants sink.old sink.new result s text (λ state. stands state self.new)
+            tally.new }
+        ensures quit { IfOk result (λ more. (text : List ℕ) → IsLine (option_copied line.entry) text → more ≡ not (ends_script text)) }
+        ensures cause { HasSinkCause K.faults K.wants sink.old sink.new result }
+        ensures more { HasOneMore tally.old tally.new };
+}
