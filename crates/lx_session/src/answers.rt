@@ -1,6 +1,6 @@
 //! What answers the lines of a script.
 
-ghost use Rattle.std.specs.Prelude.{◌≡◌, List, ℕ, IfOk, not, option_copied};
+ghost use Rattle.std.specs.Prelude.{◌≡◌, List, ℕ, IfOk, not, true, option_copied};
 ghost use Rattle.lx_io.specs.Puts.{HasSinkCause};
 ghost use Rattle.lx_spec.specs.Session.{ends_script};
 ghost use Rattle.lx_spec.specs.SessionOf.{SessionOf, Answer};
@@ -12,9 +12,10 @@ use lx_io::{Sink, SinkFault};
 
 /// What answers the lines of a script, one after another: a desk of any kind.
 ///
-/// It has five meanings for contracts: the states that it stands at (`State`, `stands`), the session after a line
-/// (`answer_of`), at which lines want of memory may refuse an attempt (`may_want`), and that a line only adds to a
-/// session's attempts and text (`extends`).
+/// It has four meanings for contracts: the states that it stands at (`State`, `stands`), the session after a line
+/// (`answer_of`), and at which lines want of memory may refuse an attempt (`may_want`). Two laws hold of them: a line
+/// only adds to a session's attempts and text (`extends`), and one that ends the script leaves a session as it was
+/// (`ends`).
 pub trait Answers {
     /// What it stands at.
     ghost State: { Type 0 };
@@ -27,8 +28,6 @@ pub trait Answers {
 
     /// Where want of memory may refuse an attempt of the line.
     ghost may_want: { State → List ℕ → Type 0 };
-
-    ghost extends: { (places : List ℕ) (s : SessionOf State) (line : List ℕ) → ExtendsSession s (answer_of places s line) };
 
     /// Does what a line asks for, then appends its replies and counts them. None stands for a line that is too
     /// long, which is bad. It answers false exactly for `quit`.
@@ -49,4 +48,8 @@ pub trait Answers {
         ensures quit { IfOk result (λ more. (text : List ℕ) → IsLine (option_copied line.entry) text → more ≡ not (ends_script text)) }
         ensures cause { HasSinkCause K.faults K.wants sink.old sink.new result }
         ensures more { HasOneMore tally.old tally.new };
+
+    ghost extends: { (places : List ℕ) (s : SessionOf State) (line : List ℕ) → ExtendsSession s (answer_of places s line) };
+
+    ghost ends: { (places : List ℕ) (s : SessionOf State) (line : List ℕ) → ends_script line ≡ true → answer_of places s line ≡ s };
 }

@@ -2,6 +2,7 @@
 #![tactic(auto)]
 
 mod answers;
+mod beside;
 mod fault;
 mod finish;
 mod line;
