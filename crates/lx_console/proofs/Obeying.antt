@@ -20,7 +20,8 @@ use Rattle.lx_spec.specs.Kept.{Kept, kept}
 use Rattle.lx_spec.specs.Laws.{KeepsRest}
 use Rattle.lx_spec.specs.Show.{Show}
 use Rattle.lx_spec.proofs.RestKept.{kept-step, kept-replay}
-use Rattle.lx_edit.specs.Planned.{IsRefusal}
+use Rattle.lx_edit.specs.declared.plans.Plan.{Plan}
+use Rattle.lx_edit.specs.Planned.{IsRefusal, planned}
 use Rattle.lx_console.specs.Standing.{StandsFor, Obeys, Answers, Refuses}
 
 -- a console that is all of a replayed desk but its list of runs stands for it
@@ -154,6 +155,14 @@ stands_over d show before stands = record {
     begun = stands.rest.begun;
   };
 }
+
+-- the desk with the show that a plan makes
+pub stands_planned : (d : Desk) (plan : Plan) (before seen now : Kept) → before ≡ seen
+    → now ≡ record before { show = planned before.show plan } → StandsFor d seen
+    → StandsFor (record d { show = planned seen.show plan }) now
+stands_planned d plan before seen now same is stands =
+    subst (StandsFor (record d { show = planned seen.show plan })) (sym (is ∙ ap (λ (k : Kept). record k { show = planned k.show plan }) same))
+    (stands_over d (planned seen.show plan) seen stands)
 
 edited_ok : (d : Desk) (r : Result Show Refusal) (now : Kept) → IfOk (r >>= (λ show. Ok (record d { show = show }))) KeepsRest
     → IsOkAnd r (λ show. now ≡ record (kept d) { show = show })

@@ -9,7 +9,8 @@ use Rattle.lx_spec.specs.Output.{contribution}
 use Rattle.lx_spec.specs.Kept.{Kept}
 use Rattle.lx_spec.proofs.Columns.{level-columns}
 use Rattle.lx_edit.specs.declared.plans.Plan.{Plan}
-use Rattle.lx_edit.specs.declared.plans.Plan.TheVariants.{Nothing, PlaceCue, RemoveCue, PlaceGroup, PlaceSub, PlaceRow, RemoveRow}
+use Rattle.lx_edit.specs.declared.plans.Plan.TheVariants.{Nothing, PlaceCue, PlaceCues, RemoveCue, PlaceGroup, RemoveGroup}
+use Rattle.lx_edit.specs.declared.plans.Plan.TheVariants.{PlaceSub, RemoveSub, PlaceRow, RemoveRow}
 use Rattle.lx_edit.specs.declared.dirty.Dirty.{Dirty}
 use Rattle.lx_edit.specs.Changing.{KeepsOthers}
 use Rattle.lx_edit.specs.Planned.{planned, dimmer_planned, plans_sub}
@@ -31,10 +32,14 @@ pub same_channels : (show : Show) (plan : Plan) → (planned show plan).channels
 same_channels show Nothing = refl
 same_channels show (PlaceCue cue None) = refl
 same_channels show (PlaceCue cue (Some above)) = refl
+same_channels show (PlaceCues cue None) = refl
+same_channels show (PlaceCues cue (Some above)) = refl
 same_channels show (RemoveCue n None) = refl
 same_channels show (RemoveCue n (Some above)) = refl
 same_channels show (PlaceGroup group) = refl
+same_channels show (RemoveGroup g) = refl
 same_channels show (PlaceSub sub) = refl
+same_channels show (RemoveSub s) = refl
 same_channels show (PlaceRow row) = refl
 same_channels show (RemoveRow e) = refl
 
@@ -43,10 +48,14 @@ same_subs : (show : Show) (plan : Plan) → plans_sub plan ≡ false → (planne
 same_subs show Nothing clean = refl
 same_subs show (PlaceCue cue None) clean = refl
 same_subs show (PlaceCue cue (Some above)) clean = refl
+same_subs show (PlaceCues cue None) clean = refl
+same_subs show (PlaceCues cue (Some above)) clean = refl
 same_subs show (RemoveCue n None) clean = refl
 same_subs show (RemoveCue n (Some above)) clean = refl
 same_subs show (PlaceGroup group) clean = refl
+same_subs show (RemoveGroup g) clean = refl
 same_subs show (PlaceSub sub) clean = cc
+same_subs show (RemoveSub s) clean = cc
 same_subs show (PlaceRow row) clean = refl
 same_subs show (RemoveRow e) clean = refl
 
@@ -55,10 +64,14 @@ same_patch : (show : Show) (plan : Plan) → dimmer_planned plan ≡ None → (p
 same_patch show Nothing clean = refl
 same_patch show (PlaceCue cue None) clean = refl
 same_patch show (PlaceCue cue (Some above)) clean = refl
+same_patch show (PlaceCues cue None) clean = refl
+same_patch show (PlaceCues cue (Some above)) clean = refl
 same_patch show (RemoveCue n None) clean = refl
 same_patch show (RemoveCue n (Some above)) clean = refl
 same_patch show (PlaceGroup group) clean = refl
+same_patch show (RemoveGroup g) clean = refl
 same_patch show (PlaceSub sub) clean = refl
+same_patch show (RemoveSub s) clean = refl
 same_patch show (PlaceRow row) clean = cc
 same_patch show (RemoveRow e) clean = cc
 
@@ -68,10 +81,14 @@ other_rows : (show : Show) (plan : Plan) (e : ℕ) → dimmer_planned plan ≢ S
 other_rows show Nothing e other = refl
 other_rows show (PlaceCue cue None) e other = refl
 other_rows show (PlaceCue cue (Some above)) e other = refl
+other_rows show (PlaceCues cue None) e other = refl
+other_rows show (PlaceCues cue (Some above)) e other = refl
 other_rows show (RemoveCue n None) e other = refl
 other_rows show (RemoveCue n (Some above)) e other = refl
 other_rows show (PlaceGroup group) e other = refl
+other_rows show (RemoveGroup g) e other = refl
 other_rows show (PlaceSub sub) e other = refl
+other_rows show (RemoveSub s) e other = refl
 other_rows show (PlaceRow row) e other = entry_at-placed_other (λ x. x.dimmer) e row show.patch (λ same. other (ap Some same))
 other_rows show (RemoveRow n) e other = others_stay n e show.patch (λ same. other (ap Some (sym same)))
 

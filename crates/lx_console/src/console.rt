@@ -13,17 +13,19 @@ ghost use Rattle.lx_spec.specs.EditedShow.{edited};
 ghost use Rattle.lx_spec.specs.ValidEdit.{ValidEdit, ValidCommand};
 ghost use Rattle.lx_spec.specs.Output.{dimmer_value, fader, frame};
 ghost use Rattle.lx_spec.specs.Desk.{Desk, opened};
-ghost use Rattle.lx_edit.specs.Planned.{IsRefusal};
+ghost use Rattle.lx_edit.specs.Planned.{IsReady, IsRefusal, planned};
+ghost use Rattle.lx_edit.specs.Undone.{TakesBack};
 ghost use Rattle.lx_mixer.specs.Table.{IsTable};
 ghost use Rattle.lx_console.specs.Slots.{universe};
 ghost use Rattle.lx_console.specs.Standing.{StandsFor, Obeys, Answers, level_now, out_now};
 ghost use Rattle.lx_console.specs.Ticks.{after_ticks};
 
-use crate::levels::{recompute_all, recompute_touched};
+use crate::levels::recompute_touched;
 use crate::stage::{Stage, mend_subs, reaches_stage};
 use crate::ticks::{pass_ticks, press_key, tick_of};
 use lx_base::{Chan, CueNo, Level, Moment, SLOTS, SubNo, UNIVERSES};
 use lx_edit::planning::plan;
+use lx_edit::{Exchanged, Plan};
 use lx_levels::Levels;
 use lx_playback::Playback;
 use lx_sheet::Sheet;
@@ -242,35 +244,16 @@ impl Console {
         }
     }
 
-    /// Exchanges the show for one of as many channels, and answers the one that was there. All else stays:
-    /// the runs go on over the cues of the show that is given. It takes no memory.
-    pub fn replace_show(&mut self, show: Show) -> Show
-        requires { show.channels ≡ self.old.show.channels }
-        ensures before { result ≡ self.old.show }
-        ensures now { self.new ≡ record self.old { show = show } }
-        ensures stands { (d : Desk) → StandsFor d self.old → StandsFor (record d { show = show }) self.new }
+    /// Applies a plan that was made for the show, and answers the plan that makes the show before of the one
+    /// after. All else stays: the runs go on over the cues of the show that the plan makes. Rows, levels and
+    /// slots are then those of that show; what the plan didn't touch isn't looked at. It takes no memory.
+    pub fn apply(&mut self, plan: Plan) -> Plan
+        requires { IsReady self.old.show plan }
+        ensures now { self.new ≡ record self.old { show = planned self.old.show plan } }
+        ensures undo { TakesBack self.old.show self.new.show result }
+        ensures stands { (d : Desk) → StandsFor d self.old → StandsFor (record d { show = planned self.old.show plan }) self.new }
     {
-        let before = std::mem::replace(&mut self.show, show);
-        self.sheet.refill(&self.show);
-        self.rack.changed(&self.show);
-        self.stage.take_patch(&self.show);
-        recompute_all(&mut self.levels, &self.show, &self.sheet, &self.playback);
-        self.stage
-            .fill(self.levels.row(), &self.show, &self.rack, self.master);
-        before
-    }
-}
-
-impl Console {
-    /// An edit, planned whole and applied whole.
-    fn edit(&mut self, edit: &Edit) -> Result<(), Refusal>
-        requires { ValidEdit edit.now }
-        ensures ok { OnOk result (IsOkAnd (edited self.old.show edit.now) (λ show. self.new ≡ record self.old { show = show })) }
-        ensures err { IfErr result (IsRefusal self.old.show edit.now) }
-        ensures unchanged { OnErr result (self.new ≡ self.old) }
-    {
-        let plan = plan(self.alloc, &self.show, edit)?;
-        let dirty = plan.apply(&mut self.show, &mut self.sheet);
+        let Exchanged { dirty, undo } = plan.exchange(&mut self.show, &mut self.sheet);
         if reaches_stage(&dirty) {
             recompute_touched(
                 &mut self.levels,
@@ -288,6 +271,20 @@ impl Console {
                 dirty.dimmer,
             );
         }
+        undo
+    }
+}
+
+impl Console {
+    /// An edit, planned whole and applied whole.
+    fn edit(&mut self, edit: &Edit) -> Result<(), Refusal>
+        requires { ValidEdit edit.now }
+        ensures ok { OnOk result (IsOkAnd (edited self.old.show edit.now) (λ show. self.new ≡ record self.old { show = show })) }
+        ensures err { IfErr result (IsRefusal self.old.show edit.now) }
+        ensures unchanged { OnErr result (self.new ≡ self.old) }
+    {
+        let plan = plan(self.alloc, &self.show, edit)?;
+        let _ = self.apply(plan);
         Ok(())
     }
 

@@ -85,18 +85,6 @@ pub(crate) fn recompute_touched(
     }
 }
 
-/// Makes every channel anew from the live runs.
-pub(crate) fn recompute_all(levels: &mut Levels, show: &Show, sheet: &Sheet, playback: &Playback)
-    requires rows { RowsStandFor show.now sheet.now }
-    requires moment { levels.old.moment ≡ playback.now.moment }
-    requires reach { length levels.old.stacks ≡ show.now.channels }
-    ensures { LevelsStandFor show.now playback.now levels.new }
-{
-    for k in 0..show.channels() as usize {
-        levels.recompute(show, sheet, playback, channel_at(k));
-    }
-}
-
 /// The channel whose value stands at the place.
 fn channel_at(place: usize) -> Chan
     requires { place < CHANNELS }

@@ -65,15 +65,6 @@ impl Stage {
         }
     }
 
-    /// Takes up the show's patch.
-    pub(crate) fn take_patch(&mut self, show: &Show)
-        requires { Reaches show.now.channels self.old }
-        ensures reaches { Reaches show.now.channels self.new }
-        ensures patch { StandsForPatch show.now.patch self.new.table }
-    {
-        self.table.refresh(show);
-    }
-
     /// Fills in the outputs and the slots, from the levels and what the submasters give.
     pub(crate) fn fill(&mut self, levels: &[Level], show: &Show, rack: &SubRack, master: Level)
         requires levels { length levels.now ≡ show.now.channels }

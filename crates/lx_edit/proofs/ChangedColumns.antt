@@ -182,7 +182,7 @@ others_with show new cue n chans valid is number least entry = λ x out.
 not_here : (a n : ℕ) → a ≡ n → not (a == n) ≡ false
 not_here a n is = grind (arith, nat_tests)
 
-gone : {A : Type 0} (key : A → ℕ) (n : ℕ) (xs : List A) → entry_at key n (taken_out key n xs) ≡ None
+pub gone : {A : Type 0} (key : A → ℕ) (n : ℕ) (xs : List A) → entry_at key n (taken_out key n xs) ≡ None
 gone key n [] = refl
 gone key n (x ∷ xs) = elim (cases_eq (key x) n) [
   | inl here ↦ rw (not_here (key x) n here) (gone key n xs)
@@ -198,9 +198,11 @@ other_stays a k n other is = grind (arith, nat_tests)
 pub cue_gone : (show : Show) (n : ℕ) → cue_of (without_cue show n) n ≡ None
 cue_gone show n = gone (λ (x : Cue). x.number) n show.cues
 
+pub stays : {A : Type 0} (key : A → ℕ) (n k : ℕ) (xs : List A) → (k ≡ n → ⊥) → entry_at key k (taken_out key n xs) ≡ entry_at key k xs
+stays key n k xs other = find_in_filter (λ x. key x == k) (λ x. not (key x == n)) xs (λ x h. other_stays (key x) k n other h)
+
 pub cue_stays : (show : Show) (n k : ℕ) → (k ≡ n → ⊥) → cue_of (without_cue show n) k ≡ cue_of show k
-cue_stays show n k other =
-    find_in_filter (λ (x : Cue). x.number == k) (λ (x : Cue). not (x.number == n)) show.cues (λ x h. other_stays x.number k n other h)
+cue_stays show n k other = stays (λ (x : Cue). x.number) n k show.cues other
 
 move_without : (show : Show) (n c k : ℕ) → move_by (cue_of show n) c ≡ None → move_of show k c ≡ move_of (without_cue show n) k c
 move_without show n c k none = elim (cases_eq k n) [

@@ -13,7 +13,7 @@ use Rattle.lx_spec.specs.EditedShow.{with_cue}
 use Rattle.lx_show.specs.Around.{entries_up_to}
 use Rattle.lx_edit.specs.Found.{FoundCue}
 use Rattle.lx_edit.specs.Kept.{changed_show, decided, decided_by}
-use Rattle.lx_edit.specs.Planned.{CanPlace}
+use Rattle.lx_edit.specs.Planned.{CanPlace, IsAbove}
 use Rattle.lx_edit.proofs.Walks.{through, walked, tracked-with_cue, tracked-without_cue, up_to_first}
 use Rattle.lx_spec.proofs.Comparisons.{lt_from}
 use Rattle.lx_spec.proofs.Lists.{each, filter_all, filter_none, find_first, find_in_filter, find_passes, none_differs, passes}
@@ -143,6 +143,17 @@ above_fits show n new above kept number is same valid =
     }
 
 -- the number of a changed cue that is lent
+-- a cue of the number of the cue above is one above
+pub above_is : (show : Show) (n : ℕ) (above kept : Cue) → kept.number ≡ above.number → cue_above show n ≡ Some above → IsAbove show n kept
+above_is show n above kept same is =
+    let there : IsTrue (has_entry (λ (x : Cue). x.number) above.number show.cues) =
+    found_there (λ (x : Cue). nat_lt n x.number) (λ (x : Cue). x.number) above show.cues is in
+    let higher : n < above.number = above_higher show n above is in
+    record {
+      there = subst (λ k. IsTrue (has_entry (λ (x : Cue). x.number) k show.cues)) (sym same) there;
+      higher = omega (arith, same, higher);
+    }
+
 pub lent_number : (n : ℕ) (new : Option (Bor Cue)) → IfSome new (λ cue. cue.now.number ≡ n)
     → IfSome (option_copied new) (λ cue. cue.number ≡ n)
 lent_number n None number = number

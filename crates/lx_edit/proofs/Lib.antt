@@ -7,3 +7,5 @@ pub mod KeptLevels
 pub mod ChangedColumns
 pub mod KeptRows
 pub mod Asserted
+pub mod SameLists
+pub mod TakenBack

@@ -3,3 +3,4 @@ pub mod Planned
 pub mod Kept
 pub mod ChanSet
 pub mod Changing
+pub mod Undone

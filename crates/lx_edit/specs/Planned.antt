@@ -11,7 +11,8 @@ use Rattle.lx_spec.specs.TrackedLevel.{tracked}
 use Rattle.lx_spec.specs.Show.{Cue, Show, InRange, ValidCue, ValidGroup, ValidSub}
 use Rattle.lx_spec.specs.EditedShow.{edited, with_cue, without_cue}
 use Rattle.lx_edit.specs.declared.plans.Plan.{Plan}
-use Rattle.lx_edit.specs.declared.plans.Plan.TheVariants.{Nothing, PlaceCue, RemoveCue, PlaceGroup, PlaceSub, PlaceRow, RemoveRow}
+use Rattle.lx_edit.specs.declared.plans.Plan.TheVariants.{Nothing, PlaceCue, PlaceCues, RemoveCue, PlaceGroup, RemoveGroup}
+use Rattle.lx_edit.specs.declared.plans.Plan.TheVariants.{PlaceSub, RemoveSub, PlaceRow, RemoveRow}
 
 -- the show with this cue too, where there is one
 abbrev pub with_above : Option Cue → Show → Show
@@ -22,9 +23,12 @@ with_above (Some cue) show = with_cue show cue
 abbrev pub planned : Show → Plan → Show
 planned show Nothing = show
 planned show (PlaceCue cue above) = with_above above (with_cue show cue)
+planned show (PlaceCues cue above) = with_above above (with_cue show cue)
 planned show (RemoveCue n above) = with_above above (without_cue show n)
 planned show (PlaceGroup group) = record show { groups = placed (λ x. x.number) group show.groups }
+planned show (RemoveGroup g) = record show { groups = taken_out (λ x. x.number) g show.groups }
 planned show (PlaceSub sub) = record show { subs = placed (λ x. x.number) sub show.subs }
+planned show (RemoveSub s) = record show { subs = taken_out (λ x. x.number) s show.subs }
 planned show (PlaceRow row) = record show { patch = placed (λ x. x.dimmer) row show.patch }
 planned show (RemoveRow e) = record show { patch = taken_out (λ x. x.dimmer) e show.patch }
 
@@ -41,14 +45,23 @@ pub record KeepsAbove (show after : Show) (n : ℕ) (kept : Cue) : Type 0 where
   pub higher : n < kept.number
   pub levels : (m c : ℕ) → InRange show.channels c → kept.number ≤ m → tracked (with_cue after kept) m c ≡ tracked show m c
 
+-- this cue is one of the show's, above the number
+pub record IsAbove (show : Show) (n : ℕ) (kept : Cue) : Type 0 where
+  pub there : IsTrue (has_entry (λ x. x.number) kept.number show.cues)
+  pub higher : n < kept.number
+
 -- the plan may be applied to the show
 abbrev pub IsReady : Show → Plan → Type 0
 IsReady show Nothing = ⊤
 IsReady show (PlaceCue cue above) =
     CanPlace show cue × IfSome above (λ kept. CanPlace (with_cue show cue) kept × KeepsAbove show (with_cue show cue) cue.number kept)
-IsReady show (RemoveCue n above) = (1 ≤ n) × IfSome above (CanPlace (without_cue show n))
+IsReady show (PlaceCues cue above) =
+    CanPlace show cue × IfSome above (CanPlace (with_cue show cue)) × IfSome above (IsAbove show cue.number)
+IsReady show (RemoveCue n above) = (1 ≤ n) × IfSome above (CanPlace (without_cue show n)) × IfSome above (IsAbove show n)
 IsReady show (PlaceGroup group) = ValidGroup show.channels group
+IsReady show (RemoveGroup g) = ⊤
 IsReady show (PlaceSub sub) = ValidSub show.channels sub
+IsReady show (RemoveSub s) = ⊤
 IsReady show (PlaceRow row) = row.chan ≤ show.channels
 IsReady show (RemoveRow e) = ⊤
 
@@ -70,6 +83,7 @@ edits_sub other = false
 
 abbrev pub plans_sub : Plan → Bool
 plans_sub (PlaceSub sub) = true
+plans_sub (RemoveSub s) = true
 plans_sub other = false
 
 -- the plan makes the edited show, may be applied, and changes the row of a dimmer or a submaster exactly where the edit does

@@ -1,28 +1,39 @@
-//! A plan applied: the show becomes the edited one, and the sheet follows. No call takes memory.
+//! A plan applied: the show becomes the edited one, the sheet follows, and the plan that takes it back is made of
+//! what was replaced. No call takes memory.
 
-ghost use Rattle.std.specs.Prelude.{◌≡◌, ◌≢◌, ◌<◌, ◌≤◌, ℕ, false, IfSome};
-ghost use Rattle.lx_spec.specs.TrackedLevel.{tracked};
+ghost use Rattle.std.specs.Prelude.{◌≡◌, ◌≢◌, ◌<◌, ◌≤◌, ℕ, false, None, IfSome};
+ghost use Rattle.lx_spec.specs.Show.{ValidGroup, ValidSub};
+ghost use Rattle.lx_spec.specs.TrackedLevel.{cue_of, tracked};
 ghost use Rattle.lx_spec.specs.EditedShow.{with_cue, without_cue};
 ghost use Rattle.lx_sheet.specs.Rows.{level_of, numbers_of};
 ghost use Rattle.lx_sheet.specs.Standing.{RowsStandFor, StandsIn, cue_numbers};
 ghost use Rattle.lx_edit.specs.ChanSet.{has_chan};
 ghost use Rattle.lx_edit.specs.Changing.{Grows, KeepsLevels, KeepsOthers, IsPast, column_end, next_decision};
 ghost use Rattle.lx_edit.specs.Planned.{planned, with_above, CanPlace, KeepsAbove, IsReady, dimmer_planned, plans_sub};
+ghost use Rattle.lx_edit.specs.Undone.{TakesBack, cue_instead};
 
 use crate::absent::channel;
 use crate::chan_set::ChanSet;
 use crate::dirty::Dirty;
 use crate::marks::{changes_asserts, mark_change};
 use crate::plans::Plan;
-use lx_base::{CHANNELS, Chan, CueNo};
+use crate::undone::{cue_back, group_back, kept_back, row_back, sub_back};
+use lx_base::{CHANNELS, Chan, CueNo, Dimmer, GroupNo, SubNo};
 use lx_sheet::Sheet;
 use lx_show::around::above;
-use lx_show::{Cue, Show};
+use lx_show::{Cue, Group, PatchRow, Show, Sub};
+
+/// A plan that was applied: what it touched, and the plan that takes it back.
+#[derive(Drop)]
+pub struct Exchanged {
+    /// What it touched.
+    pub dirty: Dirty,
+    /// The plan that takes it back. What was replaced is moved into it.
+    pub undo: Plan,
+}
 
 impl Plan {
-    /// Applies the plan to the show for which it was made: the show becomes the edited one, and the sheet
-    /// stands for it. It answers what was touched: all channels where a cue is asserted, or is so no longer,
-    /// since each run of it acts on other channels then. It takes no memory.
+    /// Applies the plan to the show for which it was made, as `exchange` does, and answers what was touched.
     pub fn apply(self, show: &mut Show, sheet: &mut Sheet) -> Dirty
         requires ready { IsReady show.old self }
         requires sheet { RowsStandFor show.old sheet.old }
@@ -33,69 +44,169 @@ impl Plan {
         ensures dimmer { result.dimmer ≡ dimmer_planned self }
         ensures subs { result.subs ≡ plans_sub self }
     {
-        let _ = show.channels();
-        let reaches_all = changes_asserts(show, &self);
-        let dirty = self.applied(show, sheet);
-        if reaches_all { dirty.with_all() } else { dirty }
+        self.exchange(show, sheet).dirty
     }
 
-    /// The same, where the channels are those alone whose moves or tracked levels are changed.
-    fn applied(self, show: &mut Show, sheet: &mut Sheet) -> Dirty
+    /// Applies the plan to the show for which it was made: the show becomes the edited one, and the sheet
+    /// stands for it. It answers what was touched: all channels where a cue is asserted, or is so no longer,
+    /// since each run of it acts on other channels then. And it answers the plan that makes the show before of
+    /// the one after. It takes no memory.
+    pub fn exchange(self, show: &mut Show, sheet: &mut Sheet) -> Exchanged
         requires ready { IsReady show.old self }
         requires sheet { RowsStandFor show.old sheet.old }
         ensures show { show.new ≡ planned show.old self }
         ensures sheet { RowsStandFor show.new sheet.new }
-        ensures others { KeepsLevels show.old show.new result.chans }
-        ensures dimmer { result.dimmer ≡ dimmer_planned self }
-        ensures subs { result.subs ≡ plans_sub self }
+        ensures levels { KeepsLevels show.old show.new result.dirty.chans }
+        ensures others { KeepsOthers show.old show.new result.dirty.chans }
+        ensures dimmer { result.dirty.dimmer ≡ dimmer_planned self }
+        ensures subs { result.dirty.subs ≡ plans_sub self }
+        ensures undo { TakesBack show.old show.new result.undo }
+    {
+        let _ = show.channels();
+        let reaches_all = changes_asserts(show, &self);
+        let Exchanged { dirty, undo } = self.exchanged(show, sheet);
+        let dirty = if reaches_all { dirty.with_all() } else { dirty };
+        Exchanged { dirty, undo }
+    }
+
+    /// The same, where the channels are those alone whose moves or tracked levels are changed.
+    fn exchanged(self, show: &mut Show, sheet: &mut Sheet) -> Exchanged
+        requires ready { IsReady show.old self }
+        requires sheet { RowsStandFor show.old sheet.old }
+        ensures show { show.new ≡ planned show.old self }
+        ensures sheet { RowsStandFor show.new sheet.new }
+        ensures others { KeepsLevels show.old show.new result.dirty.chans }
+        ensures dimmer { result.dirty.dimmer ≡ dimmer_planned self }
+        ensures subs { result.dirty.subs ≡ plans_sub self }
+        ensures undo { TakesBack show.old show.new result.undo }
     {
         match self {
-            Plan::Nothing => Dirty::nothing(),
-            Plan::PlaceCue { cue, above } => Dirty::of_cues(place_cues(show, sheet, cue, above)),
-            Plan::RemoveCue { cue, above } => {
-                Dirty::of_cues(exchange_cues(show, sheet, cue, above))
-            }
-            Plan::PlaceGroup(group) => {
-                show.put_group(group);
-                Dirty::nothing()
-            }
-            Plan::PlaceSub(sub) => {
-                show.put_sub(sub);
-                Dirty::of_sub()
-            }
-            Plan::PlaceRow(row) => {
-                let dimmer = row.dimmer;
-                show.put_patch(row);
-                Dirty::of_dimmer(dimmer)
-            }
-            Plan::RemoveRow(dimmer) => {
-                let _ = show.take_patch(dimmer);
-                Dirty::of_dimmer(dimmer)
-            }
+            Plan::Nothing => Exchanged {
+                dirty: Dirty::nothing(),
+                undo: Plan::Nothing,
+            },
+            Plan::PlaceCue { cue, above } => place_kept(show, sheet, cue, above),
+            Plan::PlaceCues { cue, above } => place_cues(show, sheet, cue, above),
+            Plan::RemoveCue { cue, above } => exchange_cues(show, sheet, cue, above),
+            Plan::PlaceGroup(group) => Exchanged {
+                dirty: Dirty::nothing(),
+                undo: place_group(show, group),
+            },
+            Plan::RemoveGroup(g) => Exchanged {
+                dirty: Dirty::nothing(),
+                undo: remove_group(show, g),
+            },
+            Plan::PlaceSub(sub) => Exchanged {
+                dirty: Dirty::of_sub(),
+                undo: place_sub(show, sub),
+            },
+            Plan::RemoveSub(s) => Exchanged {
+                dirty: Dirty::of_sub(),
+                undo: remove_sub(show, s),
+            },
+            Plan::PlaceRow(row) => Exchanged {
+                dirty: Dirty::of_dimmer(row.dimmer),
+                undo: place_row(show, row),
+            },
+            Plan::RemoveRow(dimmer) => Exchanged {
+                dirty: Dirty::of_dimmer(dimmer),
+                undo: remove_row(show, dimmer),
+            },
         }
     }
 }
 
-/// Places the cue, and the one above it where it is changed too. It answers the channels that see a
-/// difference.
-fn place_cues(show: &mut Show, sheet: &mut Sheet, cue: Cue, above: Option<Cue>) -> ChanSet
+/// Places the group, and answers what takes that back.
+fn place_group(show: &mut Show, group: Group) -> Plan
+    requires { ValidGroup show.old.channels group }
+    ensures show { show.new ≡ planned show.old (Plan.PlaceGroup group) }
+    ensures undo { TakesBack show.old show.new result }
+{
+    let _ = show.channels();
+    let g = group.number;
+    group_back(g, show.exchange_group(group))
+}
+
+/// Takes the group out, and answers what takes that back.
+fn remove_group(show: &mut Show, g: GroupNo) -> Plan
+    ensures show { show.new ≡ planned show.old (Plan.RemoveGroup g) }
+    ensures undo { TakesBack show.old show.new result }
+{
+    let _ = show.channels();
+    group_back(g, show.take_group(g))
+}
+
+/// Places the submaster, and answers what takes that back.
+fn place_sub(show: &mut Show, sub: Sub) -> Plan
+    requires { ValidSub show.old.channels sub }
+    ensures show { show.new ≡ planned show.old (Plan.PlaceSub sub) }
+    ensures undo { TakesBack show.old show.new result }
+{
+    let _ = show.channels();
+    let s = sub.number;
+    sub_back(s, show.exchange_sub(sub))
+}
+
+/// Takes the submaster out, and answers what takes that back.
+fn remove_sub(show: &mut Show, s: SubNo) -> Plan
+    ensures show { show.new ≡ planned show.old (Plan.RemoveSub s) }
+    ensures undo { TakesBack show.old show.new result }
+{
+    let _ = show.channels();
+    sub_back(s, show.take_sub(s))
+}
+
+/// Places the row, and answers what takes that back.
+fn place_row(show: &mut Show, row: PatchRow) -> Plan
+    requires { row.chan ≤ show.old.channels }
+    ensures show { show.new ≡ planned show.old (Plan.PlaceRow row) }
+    ensures undo { TakesBack show.old show.new result }
+{
+    let _ = show.channels();
+    let dimmer = row.dimmer;
+    row_back(dimmer, show.exchange_patch(row))
+}
+
+/// Takes the dimmer's row out, and answers what takes that back.
+fn remove_row(show: &mut Show, dimmer: Dimmer) -> Plan
+    ensures show { show.new ≡ planned show.old (Plan.RemoveRow dimmer) }
+    ensures undo { TakesBack show.old show.new result }
+{
+    let _ = show.channels();
+    row_back(dimmer, show.take_patch(dimmer))
+}
+
+/// Places the cue, and the one above it where it is changed too to keep its levels.
+fn place_kept(show: &mut Show, sheet: &mut Sheet, cue: Cue, above: Option<Cue>) -> Exchanged
     requires ready { IsReady show.old (Plan.PlaceCue cue above) }
     requires sheet { RowsStandFor show.old sheet.old }
     ensures show { show.new ≡ planned show.old (Plan.PlaceCue cue above) }
     ensures sheet { RowsStandFor show.new sheet.new }
-    ensures others { KeepsLevels show.old show.new result }
+    ensures others { KeepsLevels show.old show.new result.dirty.chans }
+    ensures dimmer { result.dirty.dimmer ≡ None }
+    ensures subs { result.dirty.subs ≡ false }
+    ensures undo { TakesBack show.old show.new result.undo }
 {
-    let mut chans = ChanSet::empty();
     match above {
-        Some(above) => place_alone(show, sheet, &mut chans, cue, above),
-        None => place_cue(show, sheet, &mut chans, cue),
+        Some(above) => {
+            let mut chans = ChanSet::empty();
+            let undo = place_alone(show, sheet, &mut chans, cue, above);
+            let dirty = Dirty::of_cues(chans);
+            Exchanged { dirty, undo }
+        }
+        None => place_cues(show, sheet, cue, None),
     }
-    chans
 }
 
 /// Cue only: places the cue, and the one above it, which keeps its levels. It adds the channels that see a
-/// difference. The rows from the cue above on are as they were.
-fn place_alone(show: &mut Show, sheet: &mut Sheet, chans: &mut ChanSet, cue: Cue, above: Cue)
+/// difference, and answers what takes it back. The rows from the cue above on are as they were.
+fn place_alone(
+    show: &mut Show,
+    sheet: &mut Sheet,
+    chans: &mut ChanSet,
+    cue: Cue,
+    above: Cue,
+) -> Plan
     requires ready { CanPlace show.old cue }
     requires above { CanPlace (with_cue show.old cue) above }
     requires keeps { KeepsAbove show.old (with_cue show.old cue) cue.number above }
@@ -103,52 +214,94 @@ fn place_alone(show: &mut Show, sheet: &mut Sheet, chans: &mut ChanSet, cue: Cue
     ensures show { show.new ≡ with_cue (with_cue show.old cue) above }
     ensures sheet { RowsStandFor show.new sheet.new }
     ensures others { KeepsLevels show.old show.new chans.new }
+    ensures undo { TakesBack show.old show.new result }
 {
     let _ = show.channels();
     let n = cue.number;
     let end = above.number;
     mark_change(chans, show, sheet, n, Some(&cue));
     mark_change(chans, show, sheet, end, Some(&above));
-    show.put_cue(cue);
+    let old = show.exchange_cue(cue);
     let _ = show.channels();
-    show.put_cue(above);
+    let old_above = show.exchange_cue(above);
     let _ = show.channels();
     mend(sheet, show, n, Some(end), chans);
+    kept_back(n, old, old_above)
 }
 
-/// Takes the cue out, and places the one above it where it is changed. It answers the channels that see a
-/// difference.
-fn exchange_cues(show: &mut Show, sheet: &mut Sheet, n: CueNo, above: Option<Cue>) -> ChanSet
+/// Places the cue, and then the one above it where that is given.
+fn place_cues(show: &mut Show, sheet: &mut Sheet, cue: Cue, above: Option<Cue>) -> Exchanged
+    requires ready { IsReady show.old (Plan.PlaceCues cue above) }
+    requires sheet { RowsStandFor show.old sheet.old }
+    ensures show { show.new ≡ planned show.old (Plan.PlaceCues cue above) }
+    ensures sheet { RowsStandFor show.new sheet.new }
+    ensures others { KeepsLevels show.old show.new result.dirty.chans }
+    ensures dimmer { result.dirty.dimmer ≡ None }
+    ensures subs { result.dirty.subs ≡ false }
+    ensures undo { TakesBack show.old show.new result.undo }
+{
+    let _ = show.channels();
+    let n = cue.number;
+    let mut chans = ChanSet::empty();
+    let old = place_cue(show, sheet, &mut chans, cue);
+    let old_above = place_above(show, sheet, &mut chans, above);
+    let _ = show.channels();
+    Exchanged {
+        dirty: Dirty::of_cues(chans),
+        undo: cue_back(n, old, old_above),
+    }
+}
+
+/// Takes the cue out, and places the one above it where it is changed.
+fn exchange_cues(show: &mut Show, sheet: &mut Sheet, n: CueNo, above: Option<Cue>) -> Exchanged
     requires ready { IsReady show.old (Plan.RemoveCue n above) }
     requires sheet { RowsStandFor show.old sheet.old }
     ensures show { show.new ≡ planned show.old (Plan.RemoveCue n above) }
     ensures sheet { RowsStandFor show.new sheet.new }
-    ensures others { KeepsLevels show.old show.new result }
+    ensures others { KeepsLevels show.old show.new result.dirty.chans }
+    ensures dimmer { result.dirty.dimmer ≡ None }
+    ensures subs { result.dirty.subs ≡ false }
+    ensures undo { TakesBack show.old show.new result.undo }
 {
+    let _ = show.channels();
     let mut chans = ChanSet::empty();
-    remove_cue(show, sheet, &mut chans, n);
-    place_above(show, sheet, &mut chans, above);
-    chans
+    let old = remove_cue(show, sheet, &mut chans, n);
+    let old_above = place_above(show, sheet, &mut chans, above);
+    let _ = show.channels();
+    Exchanged {
+        dirty: Dirty::of_cues(chans),
+        undo: cue_back(n, old, old_above),
+    }
 }
 
 /// Places the cue above the edited one too, where it is changed, and adds the channels that see a difference.
-fn place_above(show: &mut Show, sheet: &mut Sheet, chans: &mut ChanSet, above: Option<Cue>)
+/// It answers the cue that was there instead.
+fn place_above(
+    show: &mut Show,
+    sheet: &mut Sheet,
+    chans: &mut ChanSet,
+    above: Option<Cue>,
+) -> Option<Cue>
     requires ready { IfSome above (CanPlace show.old) }
     requires sheet { RowsStandFor show.old sheet.old }
+    ensures replaced { result ≡ cue_instead show.old above }
     ensures show { show.new ≡ with_above above show.old }
     ensures sheet { RowsStandFor show.new sheet.new }
     ensures grows { Grows chans.old chans.new }
     ensures others { KeepsLevels show.old show.new chans.new }
 {
-    if let Some(above) = above {
-        place_cue(show, sheet, chans, above);
+    match above {
+        Some(above) => place_cue(show, sheet, chans, above),
+        None => None,
     }
 }
 
-/// Places the cue, in place of the one of its number, and adds the channels that see a difference.
-fn place_cue(show: &mut Show, sheet: &mut Sheet, chans: &mut ChanSet, cue: Cue)
+/// Places the cue, in place of the one of its number, which it answers, and adds the channels that see a
+/// difference.
+fn place_cue(show: &mut Show, sheet: &mut Sheet, chans: &mut ChanSet, cue: Cue) -> Option<Cue>
     requires ready { CanPlace show.old cue }
     requires sheet { RowsStandFor show.old sheet.old }
+    ensures replaced { result ≡ cue_of show.old cue.number }
     ensures show { show.new ≡ with_cue show.old cue }
     ensures sheet { RowsStandFor show.new sheet.new }
     ensures grows { Grows chans.old chans.new }
@@ -156,22 +309,23 @@ fn place_cue(show: &mut Show, sheet: &mut Sheet, chans: &mut ChanSet, cue: Cue)
 {
     let _ = show.channels();
     let n = cue.number;
-    let there = show.cue(n).is_some();
     mark_change(chans, show, sheet, n, Some(&cue));
-    show.put_cue(cue);
-    if !there {
+    let old = show.exchange_cue(cue);
+    if old.is_none() {
         sheet.insert_row(show, n);
     } else if chans.is_large() {
         sheet.replace_row(show, n);
     } else {
         mend_columns(sheet, show, n, &None, chans);
     }
+    old
 }
 
-/// Takes the cue out, and adds the channels that see a difference.
-fn remove_cue(show: &mut Show, sheet: &mut Sheet, chans: &mut ChanSet, n: CueNo)
+/// Takes the cue out and answers it, and adds the channels that see a difference.
+fn remove_cue(show: &mut Show, sheet: &mut Sheet, chans: &mut ChanSet, n: CueNo) -> Option<Cue>
     requires number { 1 ≤ n }
     requires sheet { RowsStandFor show.old sheet.old }
+    ensures removed { result ≡ cue_of show.old n }
     ensures show { show.new ≡ without_cue show.old n }
     ensures sheet { RowsStandFor show.new sheet.new }
     ensures grows { Grows chans.old chans.new }
@@ -179,8 +333,9 @@ fn remove_cue(show: &mut Show, sheet: &mut Sheet, chans: &mut ChanSet, n: CueNo)
 {
     let _ = show.channels();
     mark_change(chans, show, sheet, n, None);
-    let _ = show.take_cue(n);
+    let old = show.take_cue(n);
     sheet.remove_row(show, n);
+    old
 }
 
 /// A cue was changed in its place: the columns of these channels are filled in anew from it on, up to the

@@ -6,7 +6,7 @@ ghost use Rattle.lx_spec.specs.Show.{ValidCue};
 ghost use Rattle.lx_spec.specs.TrackedLevel.{tracked, cue_above, decides};
 ghost use Rattle.lx_spec.specs.EditedShow.{cue_only, with_cue, with_moves, moves_for};
 ghost use Rattle.lx_edit.specs.Found.{FoundCue};
-ghost use Rattle.lx_edit.specs.Planned.{Plans, PlansCues, CanPlace, KeepsAbove, with_above};
+ghost use Rattle.lx_edit.specs.Planned.{Plans, PlansCues, CanPlace, IsAbove, KeepsAbove, with_above};
 ghost use Rattle.lx_edit.specs.Kept.{changed_show, decided, decided_by};
 
 use crate::absent::{channel, the_cue};
@@ -61,6 +61,7 @@ fn kept_above(
     ensures above { IfOk result (λ above. with_above above (changed_show show.now n (option_copied new.entry))
         ≡ cue_only only show.now n (changed_show show.now n (option_copied new.entry))) }
     ensures valid { IfOk result (λ above. IfSome above (CanPlace (changed_show show.now n (option_copied new.entry)))) }
+    ensures higher { IfOk result (λ above. IfSome above (IsAbove show.now n)) }
     ensures keeps { IfOk result (λ above. IfSome above (KeepsAbove show.now (changed_show show.now n (option_copied new.entry)) n)) }
 {
     let _ = show.channels();

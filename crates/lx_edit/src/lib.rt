@@ -17,8 +17,10 @@ mod moves;
 mod patch_edits;
 pub mod planning;
 mod plans;
+mod undone;
 
 pub use absent::channel;
+pub use application::Exchanged;
 pub use chan_set::ChanSet;
 pub use dirty::Dirty;
 pub use moves::{add, with_levels, with_moves};

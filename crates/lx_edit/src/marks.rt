@@ -141,6 +141,7 @@ pub(crate) fn changes_asserts(show: &Show, plan: &Plan) -> bool
 {
     match plan {
         Plan::PlaceCue { cue, above } => changes_assert(show, cue) || changes_above(show, above),
+        Plan::PlaceCues { cue, above } => changes_assert(show, cue) || changes_above(show, above),
         Plan::RemoveCue { cue, above } => asserts(show, *cue) || changes_above(show, above),
         _ => false,
     }

@@ -1,6 +1,6 @@
 -- What a record answers, from what it places.
 use Rattle.std.proofs.Common.{◌≡◌, ℕ, Bool, true, false, Some, None, Ok, Err, refl, ◌∙◌, sym, ap, subst, inr}
-use Rattle.std.specs.Prelude.{Option, Result, IfSome, IsOk, IsTrue, is_some, ◌||◌, nat_lt, length, option_map}
+use Rattle.std.specs.Prelude.{Option, Result, IfSome, IsOk, IsTrue, MatchResult, is_some, ◌||◌, nat_lt, length, option_map}
 use Rattle.std.specs.Option.{option_map_or}
 use Rattle.std.specs.Result.{IsErrAnd}
 use Rattle.lx_base.specs.declared.TheConstants.{CUES}
@@ -13,12 +13,12 @@ use Rattle.lx_spec.specs.EditedShow.{with_cue}
 use Rattle.lx_spec.specs.Recorded.{recorded, with_recorded}
 use Rattle.lx_spec.specs.Desk.{Desk}
 use Rattle.lx_spec.specs.Kept.{Kept, kept}
-use Rattle.lx_edit.specs.Planned.{CanPlace, with_above}
-use Rattle.lx_edit.proofs.KeptLevels.{above_fits}
+use Rattle.lx_edit.specs.Planned.{CanPlace, IsAbove, with_above}
+use Rattle.lx_edit.proofs.KeptLevels.{above_fits, above_is}
 use Rattle.lx_console.specs.Standing.{StandsFor, level_now}
 use Rattle.lx_console.proofs.AllRuns.{over_all}
 use Rattle.lx_record.specs.Cues.{kept_cue}
-use Rattle.lx_record.specs.Records.{Records}
+use Rattle.lx_record.specs.Records.{IsRefused}
 use Rattle.lx_record.proofs.RecordedCues.{recorded_cue, recorded_is, number_of}
 use Rattle.lx_record.proofs.KeptCues.{above_kept, only_is}
 
@@ -52,9 +52,23 @@ above_may levels show n true cue (Some kept) number is valid =
     kept_fits levels show n cue kept (cue_above show n) number refl is valid
 above_may levels show n false cue (Some kept) number is valid = cc
 
+kept_stands : (levels : ℕ → ℕ) (show : Show) (n : ℕ) (cue kept : Cue) (o : Option Cue) → cue.number ≡ n → cue_above show n ≡ o
+    → Some kept ≡ option_map (kept_cue levels show) o → IsAbove show cue.number kept
+kept_stands levels show n cue kept None number above is = cc
+kept_stands levels show n cue kept (Some x) number above is =
+    subst (λ (k : ℕ). IsAbove show k kept) (sym number)
+    (above_is show n x kept (ap (λ (y : Cue). y.number) (some_is kept (kept_cue levels show x) is)) above)
+
+-- and stands above the recorded one
+pub above_stands : (levels : ℕ → ℕ) (show : Show) (n : ℕ) (only : Bool) (cue : Cue) (above : Option Cue) → cue.number ≡ n
+    → above ≡ above_kept levels show n only → IfSome above (IsAbove show cue.number)
+above_stands levels show n only cue None number is = tt
+above_stands levels show n true cue (Some kept) number is = kept_stands levels show n cue kept (cue_above show n) number refl is
+above_stands levels show n false cue (Some kept) number is = cc
+
 -- memory was wanting
 pub wants_memory : (meant : Result Show Refusal) (show : Show) (refusal : Refusal) → meant ≡ Ok show → refusal ≡ Memory
-    → Records meant (Err refusal)
+    → IsRefused meant refusal
 wants_memory meant show refusal is memory =
     inr (memory, subst (λ (r : Result Show Refusal). IsOk r) (sym is) refl)
 
@@ -74,10 +88,10 @@ accepted levels show before n only fits same valid asked room =
     ≡ Ok (with_above (above_kept levels s n only) (with_cue s (recorded_cue levels s n)))) same
     (record_placed levels before n only valid.cues_sorted (sym asked ∙ room))
 
-pub wants : (meant answer : Result Show Refusal) (show : Show) → meant ≡ Ok show → IsErrAnd answer (λ refusal. refusal ≡ Memory)
-    → Records meant answer
-wants meant (Ok x) show is memory = absurd memory
-wants meant (Err refusal) show is memory = wants_memory meant show refusal is memory
+pub wants : {A : Type 0} (meant : Result Show Refusal) (P : A → Type 0) (answer : Result A Refusal) (show : Show) → meant ≡ Ok show
+    → IsErrAnd answer (λ refusal. refusal ≡ Memory) → MatchResult answer P (IsRefused meant)
+wants meant P (Ok x) show is memory = absurd memory
+wants meant P (Err refusal) show is memory = wants_memory meant show refusal is memory
 
 -- the cue may be placed
 pub cue_may : (show : Show) (n : ℕ) (cue : Cue) (fits : Bool) → cue.number ≡ n → ValidCue show.channels cue

@@ -7,4 +7,4 @@ pub mod laws;
 mod record;
 mod staged;
 
-pub use record::recorded;
+pub use record::{plan_record, recorded};

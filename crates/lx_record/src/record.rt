@@ -1,17 +1,18 @@
 //! The record of the stage as a cue.
 
-ghost use Rattle.std.specs.Prelude.{◌≡◌, ◌≢◌, IfSome};
+ghost use Rattle.std.specs.Prelude.{◌≡◌, ◌≢◌, IfOk, IfSome, MatchResult, Ok};
 ghost use Rattle.lx_spec.specs.EditedShow.{with_cue};
 ghost use Rattle.lx_spec.specs.Recorded.{recorded, with_recorded};
 ghost use Rattle.lx_spec.specs.Desk.{Desk};
 ghost use Rattle.lx_console.specs.Standing.{StandsFor, level_now};
-ghost use Rattle.lx_edit.specs.Planned.{CanPlace, with_above};
-ghost use Rattle.lx_record.specs.Records.{Records};
+ghost use Rattle.lx_edit.specs.Planned.{CanPlace, IsReady, with_above};
+ghost use Rattle.lx_record.specs.Records.{Records, PlansRecord, IsRefused};
 
 use crate::kept::kept_above;
 use crate::staged::staged;
 use lx_base::CueNo;
 use lx_console::Console;
+use lx_edit::Plan;
 use lx_show::{Cue, Refusal, Show};
 
 /// The show after a record of the stage as cue `n`, which is made where it is absent: each channel whose level on
@@ -28,10 +29,41 @@ pub fn recorded(console: &Console, n: CueNo, only: bool) -> Result<Show, Refusal
     recorded_now(console, n, only)
 }
 
-/// The same, of the levels over the live runs.
+/// The plan of that record: it makes the show that `recorded` answers, without a copy of the show.
+pub fn plan_record(console: &Console, n: CueNo, only: bool) -> Result<Plan, Refusal>
+    requires { n ≢ 0 }
+    ensures ready { IfOk result (IsReady console.now.show) }
+    ensures plans { (d : Desk) → StandsFor d console.now → PlansRecord console.now.show (recorded d n only) result }
+{
+    let cues = recorded_cues(console, n, only)?;
+    Ok(plan_of(cues))
+}
+
+/// The same show, of the levels over the live runs.
 fn recorded_now(console: &Console, n: CueNo, only: bool) -> Result<Show, Refusal>
     requires { n ≢ 0 }
     ensures { Records (with_recorded (level_now console.now) console.now.show n only) result }
+{
+    let cues = recorded_cues(console, n, only)?;
+    Ok(placed(console.show().copy()?, cues))
+}
+
+/// The cues that a record places.
+#[derive(Drop)]
+struct RecordedCues {
+    /// The recorded one.
+    cue: Cue,
+    /// The one above it, where that is to keep its levels.
+    above: Option<Cue>,
+}
+
+/// The cues that the record of the levels over the live runs places.
+fn recorded_cues(console: &Console, n: CueNo, only: bool) -> Result<RecordedCues, Refusal>
+    requires { n ≢ 0 }
+    ensures ready { IfOk result (λ cues. IsReady console.now.show (Plan.PlaceCues cues.cue cues.above)) }
+    ensures records { MatchResult result
+        (λ cues. with_recorded (level_now console.now) console.now.show n only ≡ Ok (with_above cues.above (with_cue console.now.show cues.cue)))
+        (IsRefused (with_recorded (level_now console.now) console.now.show n only)) }
 {
     let before = console.show();
     // For its proof alone: the show is valid.
@@ -41,15 +73,24 @@ fn recorded_now(console: &Console, n: CueNo, only: bool) -> Result<Show, Refusal
     }
     let cue = staged(console, n)?;
     let above = kept_above(console, n, only)?;
-    Ok(placed(before.copy()?, cue, above))
+    Ok(RecordedCues { cue, above })
 }
 
-/// The show with the cue, and with the one above it where it is given. There is room for the cue.
-fn placed(show: Show, cue: Cue, above: Option<Cue>) -> Show
-    requires cue { CanPlace show cue }
-    requires above { IfSome above (CanPlace (with_cue show cue)) }
-    ensures { result ≡ with_above above (with_cue show cue) }
+/// The plan that places the cues.
+fn plan_of(cues: RecordedCues) -> Plan
+    ensures { result ≡ Plan.PlaceCues cues.cue cues.above }
 {
+    let RecordedCues { cue, above } = cues;
+    Plan::PlaceCues { cue, above }
+}
+
+/// The show with the cues. There is room for them.
+fn placed(show: Show, cues: RecordedCues) -> Show
+    requires cue { CanPlace show cues.cue }
+    requires above { IfSome cues.above (CanPlace (with_cue show cues.cue)) }
+    ensures { result ≡ with_above cues.above (with_cue show cues.cue) }
+{
+    let RecordedCues { cue, above } = cues;
     let mut after = show;
     after.put_cue(cue);
     if let Some(above) = above {

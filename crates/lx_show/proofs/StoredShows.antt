@@ -172,6 +172,18 @@ stored_take_cue show n new a b c d e stored same taken sorted =
     stored_cues show new a b c d e stored same
     (subst (AllByRecursion (ValidCue show.channels)) (sym taken) (kept_by _ _ show.cues stored.valid.cues)) sorted few
 
+pub stored_take_group : (show : Show) (n : ℕ) (new : List Group) (a b c d e : ℕ) → IsStored show a b c d → e ≡ b
+    → new ≡ taken_out (λ x. x.number) n show.groups → IsStrictlySorted (λ x. x.number) new → IsStored (record show { groups = new }) a e c d
+stored_take_group show n new a b c d e stored same taken sorted =
+    stored_groups show new a b c d e stored same
+    (subst (AllByRecursion (ValidGroup show.channels)) (sym taken) (kept_by _ _ show.groups stored.valid.groups)) sorted
+
+pub stored_take_sub : (show : Show) (n : ℕ) (new : List Sub) (a b c d e : ℕ) → IsStored show a b c d → e ≡ c
+    → new ≡ taken_out (λ x. x.number) n show.subs → IsStrictlySorted (λ x. x.number) new → IsStored (record show { subs = new }) a b e d
+stored_take_sub show n new a b c d e stored same taken sorted =
+    stored_subs show new a b c d e stored same
+    (subst (AllByRecursion (ValidSub show.channels)) (sym taken) (kept_by _ _ show.subs stored.valid.subs)) sorted
+
 pub stored_take_row : (show : Show) (n : ℕ) (new : List PatchRow) (a b c d e : ℕ) → IsStored show a b c d → e ≡ d
     → new ≡ taken_out (λ x. x.dimmer) n show.patch → IsStrictlySorted (λ x. x.dimmer) new → IsStored (record show { patch = new }) a b c e
 stored_take_row show n new a b c d e stored same taken sorted =

@@ -1,6 +1,6 @@
 -- Keys and ticks leave the history, and are the desk's own steps.
 use Rattle.std.proofs.Common.{◌≡◌, Bool, false, Ok, Err, refl, ◌∙◌, sym, ap, subst, inl, inr}
-use Rattle.std.specs.Prelude.{Result, ◌⊎◌, if◌then◌else◌}
+use Rattle.std.specs.Prelude.{Result, OnErr, ◌⊎◌, if◌then◌else◌}
 use Rattle.std.specs.Result.{IsOkAnd}
 use Rattle.std.proofs.lemmas.Bool.{true≢false}
 use Rattle.lx_spec.specs.declared.Edit.{Edit}
@@ -9,10 +9,12 @@ use Rattle.lx_spec.specs.declared.Command.TheVariants as commands
 use Rattle.lx_spec.specs.declared.Refusal.{Refusal}
 use Rattle.lx_spec.specs.FirstRefusal.{◌>>=◌}
 use Rattle.lx_spec.specs.Desk.{Desk, step}
+use Rattle.lx_spec.specs.Kept.{Kept}
 use Rattle.lx_spec.specs.RefusedPlaces.{is_edit}
 use Rattle.lx_spec.specs.Undo.{UndoState, replaced, undo_step}
 use Rattle.lx_console.specs.Standing.{StandsFor, Answers, Refuses}
-use Rattle.lx_undo.specs.Standing.{UndoKept, UndoStands, TakesStep, WantsMemory}
+use Rattle.lx_undo.specs.Shows.{KeptPlans}
+use Rattle.lx_undo.specs.Standing.{UndoKept, UndoStands, TakesStep, WantsMemory, seen}
 
 -- the same shows are kept
 pub record SameShows (before now : UndoKept) : Type 0 where
@@ -51,3 +53,8 @@ takes_key s command (Ok x) before now other stands same answers = record {
 }
 takes_key s command (Err refusal) before now other stands same answers =
     record { ok = tt; err = refused s command refusal other answers.err }
+
+pub unchanged_with : (answer : Result (Unit {0}) Refusal) (k now : Kept) (plans : KeptPlans) (old : UndoKept) → OnErr answer (now ≡ k)
+    → seen k plans ≡ old → OnErr answer (seen now plans ≡ old)
+unchanged_with (Ok x) k now plans old same is = tt
+unchanged_with (Err refusal) k now plans old same is = ap (λ (q : Kept). seen q plans) same ∙ is

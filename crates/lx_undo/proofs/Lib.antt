@@ -1,5 +1,4 @@
 pub mod Histories
-pub mod Channels
 pub mod SomeDesk
 pub mod Answering
-pub mod SameChannels
+pub mod Turns

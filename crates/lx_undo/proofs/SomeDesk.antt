@@ -1,16 +1,22 @@
 -- Whatever a console keeps, it stands for some desk: one where the base was come to by a run without times.
 use Rattle.std.proofs.Common.{◌≡◌, ℕ, ◌≤◌, List, [], ◌∷◌, ◌++◌, Ok, Err, refl, ◌∙◌, ap, arith}
-use Rattle.std.specs.Prelude.{true, Result, OnErr, IfOk, IsOkAnd}
+use Rattle.std.specs.Prelude.{Bool, true, false, Result, OnErr, IfOk, IsOkAnd, if◌then◌else◌}
 use Rattle.std.specs.List.{AllByRecursion}
 use Rattle.lx_spec.specs.declared.Command.{Command}
+use Rattle.lx_spec.specs.declared.Command.TheVariants as commands
+use Rattle.lx_spec.specs.declared.Key.TheVariants.{Play, Fader, Master}
 use Rattle.lx_spec.specs.declared.Refusal.{Refusal}
+use Rattle.lx_spec.specs.FirstRefusal.{◌>>=◌}
+use Rattle.lx_spec.specs.RefusedPlaces.{is_edit}
+use Rattle.lx_spec.specs.Show.{Show}
+use Rattle.lx_spec.specs.SortedList.{has_entry}
+use Rattle.lx_spec.specs.Playback.{press, tick}
 use Rattle.lx_spec.specs.Run.{Run, no_times}
 use Rattle.lx_spec.specs.Desk.{Desk, step}
 use Rattle.lx_spec.specs.Kept.{Kept}
 use Rattle.lx_spec.specs.Laws.{IsInstant}
 use Rattle.lx_spec.proofs.Instant.{level-instant}
 use Rattle.lx_console.specs.Standing.{StandsFor, Answers}
-use Rattle.lx_undo.proofs.Channels.{step_keeps}
 
 abbrev past : ℕ → Run
 past base = record { start = 0; cue = base; parts = no_times ∷ []; whole = true }
@@ -45,16 +51,32 @@ stands_some k = record {
   };
 }
 
-step_and : (r : Result Desk Refusal) (channels : ℕ) (now : Kept) → IfOk r (λ d. d.show.channels ≡ channels)
-    → IsOkAnd r (λ next. StandsFor next now) → now.show.channels ≡ channels
-step_and (Ok next) channels now keeps stands = ap (λ (k : Kept). k.show.channels) stands.same ∙ keeps
-step_and (Err refusal) channels now keeps stands = absurd stands
+on_playback : {A : Type 0} (show : Show) (r : Result A Refusal) (next : A → Desk) → ((x : A) → (next x).show ≡ show)
+    → IfOk (r >>= (λ x. Ok (next x))) (λ d. d.show ≡ show)
+on_playback show (Ok x) next same = same x
+on_playback show (Err refusal) next same = tt
 
--- a command that is answered leaves the channel count
-pub answered_keeps : {A : Type 0} (before now : Kept) (command : Command) (answer : Result A Refusal)
-    → ((d : Desk) → StandsFor d before → Answers d command answer now) → OnErr answer (now ≡ before)
-    → now.show.channels ≡ before.show.channels
-answered_keeps before now command (Ok x) answers same =
-    step_and (step (some_desk before) command) before.show.channels now (step_keeps (some_desk before) command)
+either : (b : Bool) (d : Desk) (refusal : Refusal) (show : Show) → d.show ≡ show → IfOk (if b then Ok d else Err refusal) (λ x. x.show ≡ show)
+either true d refusal show same = same
+either false d refusal show same = tt
+
+-- keys and ticks leave the show
+step_leaves : (d : Desk) (command : Command) → is_edit command ≡ false → IfOk (step d command) (λ next. next.show ≡ d.show)
+step_leaves d (commands.Edit edit) other = cc
+step_leaves d (commands.Key (Play key)) other = on_playback d.show (press d.show d.playback key) _ (λ played. refl)
+step_leaves d (commands.Key (Fader s level)) other = either (has_entry (λ x. x.number) s d.show.subs) _ _ d.show refl
+step_leaves d (commands.Key (Master level)) other = refl
+step_leaves d commands.Tick other = on_playback d.show (tick d.show d.playback) _ (λ played. refl)
+
+step_and : (r : Result Desk Refusal) (show : Show) (now : Kept) → IfOk r (λ d. d.show ≡ show) → IsOkAnd r (λ next. StandsFor next now)
+    → now.show ≡ show
+step_and (Ok next) show now leaves stands = ap (λ (k : Kept). k.show) stands.same ∙ leaves
+step_and (Err refusal) show now leaves stands = absurd stands
+
+-- a command that is answered and is no edit leaves the show
+pub answered_leaves : {A : Type 0} (before now : Kept) (command : Command) (answer : Result A Refusal) → is_edit command ≡ false
+    → ((d : Desk) → StandsFor d before → Answers d command answer now) → OnErr answer (now ≡ before) → now.show ≡ before.show
+answered_leaves before now command (Ok x) other answers same =
+    step_and (step (some_desk before) command) before.show now (step_leaves (some_desk before) command other)
     (answers (some_desk before) (stands_some before)).ok
-answered_keeps before now command (Err refusal) answers same = ap (λ (k : Kept). k.show.channels) same
+answered_leaves before now command (Err refusal) other answers same = ap (λ (k : Kept). k.show) same

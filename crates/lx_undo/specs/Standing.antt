@@ -7,6 +7,7 @@ use Rattle.lx_spec.specs.Show.{Show}
 use Rattle.lx_spec.specs.Kept.{Kept}
 use Rattle.lx_spec.specs.Undo.{UndoState}
 use Rattle.lx_console.specs.Standing.{StandsFor}
+use Rattle.lx_undo.specs.Shows.{KeptPlans, shows_before, shows_after}
 
 -- what is kept of the state: all but the list of all runs
 pub record UndoKept : Type 0 where
@@ -14,6 +15,15 @@ pub record UndoKept : Type 0 where
   pub back : List Show
   pub forth : List Show
   pub depth : ℕ
+
+-- the shows are those that the plans make in turn, from the console's own
+abbrev pub seen : Kept → KeptPlans → UndoKept
+seen k plans = record {
+  console = k;
+  back = shows_before k.show plans.back;
+  forth = shows_after k.show plans.forth;
+  depth = plans.depth;
+}
 
 -- the console stands for the desk, and the shows are those of the state
 pub record UndoStands (s : UndoState) (u : UndoKept) : Type 0 where

@@ -1,24 +1,26 @@
 //! The desk with its history.
 
-ghost use Rattle.std.specs.Prelude.{◌≡◌, ◌≢◌, true, IfOk, IfErr, OnErr};
+ghost use Rattle.std.specs.Prelude.{◌≡◌, ◌≢◌, true, IfOk, OnErr};
 ghost use Rattle.lx_spec.specs.ValidEdit.{ValidCommand, ValidEdit};
 ghost use Rattle.lx_spec.specs.RefusedPlaces.{is_edit};
-ghost use Rattle.lx_spec.specs.Undo.{UndoState, opened_with, undo_step, record_step, undo, redo};
-ghost use Rattle.lx_edit.specs.Planned.{IsRefusal};
+ghost use Rattle.lx_spec.specs.Undo.{UndoState, opened_with, with_show, replaced, undo_step, record_step, undo, redo};
+ghost use Rattle.lx_edit.specs.Planned.{IsReady, planned};
 ghost use Rattle.lx_undo.specs.Standing.{UndoStands, Steps, TakesStep};
 
 use crate::history::History;
 use lx_base::CueNo;
 use lx_console::Console;
+use lx_edit::Plan;
 use lx_edit::planning::plan;
-use lx_record::recorded;
+use lx_record::plan_record;
 use lx_show::{Command, Edit, Refusal, Show};
 use lx_spec::UndoFault;
 use std::alloc::{AllocError, Global};
 use std::marker::Model;
 
-/// A desk whose edits and records can be undone and redone, as many as the depth that it was opened with. An edit takes
-/// a copy of the show before it, and a record makes its show of a copy; undo, redo, keys and ticks take no memory.
+/// A desk whose edits and records can be undone and redone, as many as the depth that it was opened with. Each hands
+/// back the plan that takes it back, into which what it replaced is moved, so that no show is copied and an undo costs
+/// what an edit does. Undo, redo, keys and ticks take no memory.
 #[derive(Drop)]
 pub struct UndoDesk {
     console: Console,
@@ -26,14 +28,14 @@ pub struct UndoDesk {
 }
 
 impl Model for UndoDesk {
-    ghost use Rattle.lx_undo.specs.Standing.{UndoKept};
-    ghost use Rattle.lx_undo.specs.Shows.{AllHaveChannels};
+    ghost use Rattle.lx_undo.specs.Standing.{UndoKept, seen};
+    ghost use Rattle.lx_undo.specs.Shows.{AllReady};
 
     ghost Value = { UndoKept };
 
-    ghost view = { λ u. record { console = u.console; back = u.history.back; forth = u.history.forth; depth = u.history.depth } };
+    ghost view = { λ u. seen u.console u.history };
 
-    ghost invariant = { λ u. AllHaveChannels u.console.show.channels u.history };
+    ghost invariant = { λ u. AllReady u.console.show u.history };
 }
 
 impl UndoDesk {
@@ -66,22 +68,30 @@ impl UndoDesk {
         ensures unchanged { OnErr result (self.new ≡ self.old) }
     {
         match command {
-            Command::Edit(edit) => self.edit(command, edit),
+            Command::Edit(edit) => self.edit(edit),
             _ => self.console.command(command),
         }
     }
 
-    /// An edit: what it replaces is copied before.
-    fn edit(&mut self, command: &Command, edit: &Edit) -> Result<(), Refusal>
-        requires valid { ValidEdit edit.now }
-        requires same { command.now ≡ Command.Edit edit.now }
-        ensures steps { (s : UndoState) → UndoStands s self.old → TakesStep true (undo_step s command.now) result self.new }
+    /// An edit, planned whole and applied whole.
+    fn edit(&mut self, edit: &Edit) -> Result<(), Refusal>
+        requires { ValidEdit edit.now }
+        ensures steps { (s : UndoState) → UndoStands s self.old → TakesStep true (undo_step s (Command.Edit edit.now)) result self.new }
         ensures unchanged { OnErr result (self.new ≡ self.old) }
     {
-        let before = copy_for(&self.console, edit)?;
-        self.console.command(command)?;
-        self.history.keep(before);
+        let plan = plan(self.console.allocator(), self.console.show(), edit)?;
+        self.apply(plan);
         Ok(())
+    }
+
+    /// Applies a plan that was made for the show, and keeps the one that takes it back.
+    fn apply(&mut self, plan: Plan)
+        requires { IsReady self.old.console.show plan }
+        ensures { (s : UndoState) → UndoStands s self.old
+            → UndoStands (replaced s (with_show s.desk (planned self.old.console.show plan))) self.new }
+    {
+        let undo = self.console.apply(plan);
+        self.history.keep(undo);
     }
 
     /// Records the stage as cue `n`, as `recorded` does; this can then be undone. With `only` the next cue keeps the
@@ -94,9 +104,8 @@ impl UndoDesk {
         ensures steps { (s : UndoState) → UndoStands s self.old → TakesStep true (record_step s n only) result self.new }
         ensures unchanged { OnErr result (self.new ≡ self.old) }
     {
-        let show = recorded(&self.console, n, only)?;
-        let replaced = self.console.replace_show(show);
-        self.history.keep(replaced);
+        let plan = plan_record(&self.console, n, only)?;
+        self.apply(plan);
         Ok(())
     }
 
@@ -109,9 +118,9 @@ impl UndoDesk {
         ensures unchanged { OnErr result (self.new ≡ self.old) }
     {
         match self.history.take_back() {
-            Some(show) => {
-                let now = self.console.replace_show(show);
-                self.history.put_forth(now);
+            Some(plan) => {
+                let again = self.console.apply(plan);
+                self.history.put_forth(again);
                 Ok(())
             }
             None => Err(UndoFault::NothingToUndo),
@@ -127,36 +136,12 @@ impl UndoDesk {
         ensures unchanged { OnErr result (self.new ≡ self.old) }
     {
         match self.history.take_forth() {
-            Some(show) => {
-                let now = self.console.replace_show(show);
-                self.history.put_back(now);
+            Some(plan) => {
+                let undo = self.console.apply(plan);
+                self.history.put_back(undo);
                 Ok(())
             }
             None => Err(UndoFault::NothingToRedo),
         }
-    }
-}
-
-/// A copy of the show that the edit is to replace. Where memory is wanting it is the edit's own refusal, or `Memory`
-/// where it has none.
-fn copy_for(console: &Console, edit: &Edit) -> Result<Show, Refusal>
-    requires { ValidEdit edit.now }
-    ensures ok { IfOk result (λ show. show ≡ console.now.show) }
-    ensures err { IfErr result (IsRefusal console.now.show edit.now) }
-{
-    match console.show().copy() {
-        Ok(before) => Ok(before),
-        Err(_) => Err(refusal_of(console, edit)),
-    }
-}
-
-/// Why the edit is refused where memory is wanting.
-fn refusal_of(console: &Console, edit: &Edit) -> Refusal
-    requires { ValidEdit edit.now }
-    ensures { IsRefusal console.now.show edit.now result }
-{
-    match plan(console.allocator(), console.show(), edit) {
-        Ok(_planned) => Refusal::Memory,
-        Err(refusal) => refusal,
     }
 }

@@ -1,4 +1,4 @@
-//! Undo and redo: a desk with the shows that edits and records replaced. To bring one back leaves the playback, the
+//! Undo and redo: a desk with the plans that take its edits and records back. To take one back leaves the playback, the
 //! faders and the master as they are.
 #![tactic(auto)]
 

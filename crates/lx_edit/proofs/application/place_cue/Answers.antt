@@ -12,14 +12,14 @@ pub mend_columns-requires-clause-numbers : goal.mend_columns-requires-clause-num
 mend_columns-requires-clause-numbers c =
     let show = c.args.show.now in
     let there : IsTrue (is_some (cue_of show c.args.cue.number)) = search rules in
-    c.requires.sheet.numbers ∙ sym (ap cue_numbers c.put_cue.ensures ∙ numbers_with show c.args.cue c.channels.ensures.valid there)
+    c.requires.sheet.numbers ∙ sym (ap cue_numbers c.exchange_cue-old.ensures.show ∙ numbers_with show c.args.cue c.channels.ensures.valid there)
 
 pub mend_columns-requires-clause-below : goal.mend_columns-requires-clause-below
 mend_columns-requires-clause-below c =
     let show = c.args.show.now in
     let number : c.cue.inside.number ≡ c.args.cue.number = ap (λ (q : Cue). q.number) c.cue.view_is in
     λ x m less. c.requires.sheet.columns x m
-    ∙ sym (ap (λ (s : Show). tracked s m x) c.put_cue.ensures
+    ∙ sym (ap (λ (s : Show). tracked s m x) c.exchange_cue-old.ensures.show
     ∙ tracked_below-with_cue show c.args.cue m x (subst (λ (k : ℕ). m < k) number less))
 
 pub mend_columns-requires-clause-later : goal.mend_columns-requires-clause-later
@@ -30,31 +30,31 @@ mend_columns-requires-clause-later c =
     c.requires.sheet.columns x m
     ∙ alike_past show c.args.cue c.cue.inside.number m x c.channels.ensures.valid (sym number)
     (subst (λ (k : ℕ). 1 ≤ k) (sym number) c.requires.ready.valid.number.least)
-    (subst (λ (s : Show). IsPast None s c.cue.inside.number x m) c.put_cue.ensures past)
-    ∙ sym (ap (λ (s : Show). tracked s m x) c.put_cue.ensures)
+    (subst (λ (s : Show). IsPast None s c.cue.inside.number x m) c.exchange_cue-old.ensures.show past)
+    ∙ sym (ap (λ (s : Show). tracked s m x) c.exchange_cue-old.ensures.show)
 
 pub mend_columns-requires-clause-others : goal.mend_columns-requires-clause-others
 mend_columns-requires-clause-others c =
     let show = c.args.show.now in
     let number : c.cue.inside.number ≡ c.args.cue.number = ap (λ (q : Cue). q.number) c.cue.view_is in
-    λ x out m. c.requires.sheet.columns x m ∙ (others_with show c.put_cue.new.self c.args.cue c.cue.inside.number c.mark_change.new.chans
-    c.channels.ensures.valid c.put_cue.ensures (sym number) c.requires.ready.valid.number.least c.mark_change.ensures.same x out).levels
+    λ x out m. c.requires.sheet.columns x m ∙ (others_with show c.exchange_cue-old.new.self c.args.cue c.cue.inside.number c.mark_change.new.chans
+    c.channels.ensures.valid c.exchange_cue-old.ensures.show (sym number) c.requires.ready.valid.number.least c.mark_change.ensures.same x out).levels
     m
 
-pub returns-then-not-there-clause-others : goal.returns-then-not-there-clause-others
-returns-then-not-there-clause-others c =
+pub returns-then-is_none-clause-others : goal.returns-then-is_none-clause-others
+returns-then-is_none-clause-others c =
     let number : c.cue.inside.number ≡ c.args.cue.number = ap (λ (q : Cue). q.number) c.cue.view_is in
-    others_with c.args.show.now c.put_cue.new.self c.args.cue c.cue.inside.number c.mark_change.new.chans c.channels.ensures.valid
-    c.put_cue.ensures (sym number) c.requires.ready.valid.number.least c.mark_change.ensures.same
+    others_with c.args.show.now c.exchange_cue-old.new.self c.args.cue c.cue.inside.number c.mark_change.new.chans c.channels.ensures.valid
+    c.exchange_cue-old.ensures.show (sym number) c.requires.ready.valid.number.least c.mark_change.ensures.same
 
 pub returns-then-is_large-clause-others : goal.returns-then-is_large-clause-others
 returns-then-is_large-clause-others c =
     let number : c.cue.inside.number ≡ c.args.cue.number = ap (λ (q : Cue). q.number) c.cue.view_is in
-    others_with c.args.show.now c.put_cue.new.self c.args.cue c.cue.inside.number c.mark_change.new.chans c.channels.ensures.valid
-    c.put_cue.ensures (sym number) c.requires.ready.valid.number.least c.mark_change.ensures.same
+    others_with c.args.show.now c.exchange_cue-old.new.self c.args.cue c.cue.inside.number c.mark_change.new.chans c.channels.ensures.valid
+    c.exchange_cue-old.ensures.show (sym number) c.requires.ready.valid.number.least c.mark_change.ensures.same
 
 pub returns-else-is_large-clause-others : goal.returns-else-is_large-clause-others
 returns-else-is_large-clause-others c =
     let number : c.cue.inside.number ≡ c.args.cue.number = ap (λ (q : Cue). q.number) c.cue.view_is in
-    others_with c.args.show.now c.put_cue.new.self c.args.cue c.cue.inside.number c.mark_change.new.chans c.channels.ensures.valid
-    c.put_cue.ensures (sym number) c.requires.ready.valid.number.least c.mark_change.ensures.same
+    others_with c.args.show.now c.exchange_cue-old.new.self c.args.cue c.cue.inside.number c.mark_change.new.chans c.channels.ensures.valid
+    c.exchange_cue-old.ensures.show (sym number) c.requires.ready.valid.number.least c.mark_change.ensures.same

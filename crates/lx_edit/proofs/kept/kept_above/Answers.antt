@@ -5,7 +5,7 @@ use Rattle.lx_spec.specs.Show.{Cue}
 use Rattle.lx_spec.specs.TrackedLevel.{cue_above}
 use Rattle.lx_spec.specs.EditedShow.{cue_only, kept_above, with_cue}
 use Rattle.lx_edit.specs.Kept.{changed_show}
-use Rattle.lx_edit.proofs.KeptLevels.{cue_above-changed, above_fits, cue_least, lent_number}
+use Rattle.lx_edit.proofs.KeptLevels.{cue_above-changed, above_fits, above_is, cue_least, lent_number}
 use Rattle.lx_edit.proofs.KeptRows.{keeps_above}
 use Rattle.lx_edit.proofs.kept.kept_above.Goals as goal
 
@@ -51,3 +51,11 @@ returns-in_ok-keeping-in-Some-clause-keeps c =
     (ap (λ (cue : Cue). cue.number) c.in_ok-keeping-in-Some.ensures.kept)
     (ap (λ (cue : Cue). with_cue after cue) c.in_ok-keeping-in-Some.ensures.kept
     ∙ sym (ap (λ (o : Option Cue). option_map_or (kept_above show after) o after) there))
+
+pub returns-in_ok-keeping-in-Some-clause-higher : goal.returns-in_ok-keeping-in-Some-clause-higher
+returns-in_ok-keeping-in-Some-clause-higher c =
+    let show = c.args.show.now in
+    let above = c.in-Some.above.now in
+    let same : c.in_ok-keeping-in-Some.field-0.number ≡ above.number =
+    ap (λ (cue : Cue). cue.number) c.in_ok-keeping-in-Some.ensures.kept in
+    above_is show c.args.n above c.in_ok-keeping-in-Some.field-0 same (sym c.in-Some.ensures.above)

@@ -13,6 +13,14 @@ returns-else-changes_assert c = λ same n.
     (asserts_above show _ c.in-PlaceCue.above n
     (λ k. asserts_with show cue k (c.changes_assert.ensures c.if-changes_assert.false)) (c.changes_above.ensures same))
 
+pub returns-else-changes_assert-2 : goal.returns-else-changes_assert-2
+returns-else-changes_assert-2 c = λ same n.
+    let show = c.args.show.now in
+    let cue = c.in-PlaceCues.cue in
+    subst (λ (p : Plan). asserts show n ≡ asserts (planned show p) n) (sym c.in-PlaceCues.is)
+    (asserts_above show _ c.in-PlaceCues.above n
+    (λ k. asserts_with show cue k (c.changes_assert-in-PlaceCues.ensures c.if-changes_assert-2.false)) (c.changes_above-else-changes_assert-2.ensures same))
+
 pub returns-else-asserts : goal.returns-else-asserts
 returns-else-asserts c = λ same n.
     let show = c.args.show.now in

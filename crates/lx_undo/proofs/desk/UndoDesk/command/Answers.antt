@@ -1,26 +1,34 @@
-use Rattle.std.proofs.Common.{sym, subst, refl, ℕ}
-use Rattle.lx_undo.specs.Shows.{AllHaveChannels}
-use Rattle.lx_undo.specs.Standing.{UndoStands}
-use Rattle.lx_undo.proofs.Answering.{takes_key, no_edit}
-use Rattle.lx_undo.proofs.SameChannels.{with_history, unchanged_with}
-use Rattle.lx_undo.proofs.SomeDesk.{answered_keeps}
+use Rattle.std.proofs.Common.{◌≡◌, ap, sym, subst, refl}
+use Rattle.lx_spec.specs.Show.{Show}
+use Rattle.lx_undo.specs.Shows.{AllReady, shows_before, shows_after}
+use Rattle.lx_undo.specs.Standing.{UndoStands, seen}
+use Rattle.lx_undo.proofs.Answering.{takes_key, no_edit, unchanged_with}
+use Rattle.lx_undo.proofs.SomeDesk.{answered_leaves}
 use Rattle.lx_undo.proofs.desk.UndoDesk.command.Goals as goal
 
 pub invariant_of-self : goal.invariant_of-self
 invariant_of-self c =
-    subst (λ (n : ℕ). AllHaveChannels n c.self.inside.history)
-    (sym (answered_keeps c.self.inside.console c.command.new.self c.args.command.now c.command.result c.command.ensures.answers
-    c.command.ensures.unchanged)) c.self.invariant
+    subst (λ (show : Show). AllReady show c.self.inside.history)
+    (sym (answered_leaves c.self.inside.console c.command.new.self c.args.command.now c.command.result
+    (no_edit c.args.command.now c.in_default.not-Edit) c.command.ensures.answers c.command.ensures.unchanged)) c.self.invariant
 
 pub returns-in_default : goal.returns-in_default
 returns-in_default c =
-    let before = with_history c.self.inside.console c.self.inside.history in
-    let now = with_history c.command.new.self c.self.inside.history in
+    let plans = c.self.inside.history in
+    let before = seen c.self.inside.console plans in
+    let now = seen c.command.new.self plans in
+    let same : c.command.new.self.show ≡ c.self.inside.console.show =
+    answered_leaves c.self.inside.console c.command.new.self c.args.command.now c.command.result
+    (no_edit c.args.command.now c.in_default.not-Edit) c.command.ensures.answers c.command.ensures.unchanged in
     record {
       steps = λ s stands.
           let stood = subst (UndoStands s) (sym c.self.view_is) stands in
           takes_key s c.args.command.now c.command.result before now (no_edit c.args.command.now c.in_default.not-Edit) stood
-          (record { back = refl; forth = refl; depth = refl }) (c.command.ensures.answers s.desk stood.desk);
-      unchanged = unchanged_with c.command.result c.self.inside.console c.command.new.self c.self.inside.history c.args.self.now
+          (record {
+            back = ap (λ (show : Show). shows_before show plans.back) same;
+            forth = ap (λ (show : Show). shows_after show plans.forth) same;
+            depth = refl;
+          }) (c.command.ensures.answers s.desk stood.desk);
+      unchanged = unchanged_with c.command.result c.self.inside.console c.command.new.self plans c.args.self.now
           c.command.ensures.unchanged c.self.view_is;
     }

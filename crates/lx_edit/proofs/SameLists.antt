@@ -1,0 +1,118 @@
+-- Two sorted lists with the same entry of each number are the same list. So an entry changed and changed back leaves its list.
+use Rattle.std.proofs.Common.{◌≡◌, ℕ, ◌<◌, List, [], ◌∷◌, Some, None, refl, ◌∙◌, sym, ap, subst, inl, inr, arith}
+use Rattle.std.specs.Prelude.{Option, IfSome, find, not, ◌==◌}
+use Rattle.std.specs.List.{AllByRecursion}
+use Rattle.std.proofs.lemmas.Bool.{cases_eq, cases_order}
+use Rattle.lx_spec.specs.SortedList.{IsStrictlySorted, entry_at, placed, taken_out}
+use Rattle.lx_spec.proofs.Comparisons.{eq_true, eq_other, eq_above}
+use Rattle.lx_spec.proofs.Lists.{each, find_none, none_differs}
+use Rattle.lx_spec.proofs.SortedLists.{IsStrictlySorted-filter, IsStrictlySorted-placed, entry_at-placed_here, entry_at-placed_other, found_number}
+use Rattle.lx_edit.proofs.ChangedColumns.{gone, stays}
+
+none_low : {A : Type 0} (key : A → ℕ) (n : ℕ) (xs : List A) → AllByRecursion (λ y. n < key y) xs → entry_at key n xs ≡ None
+none_low key n xs all = find_none _ xs (each _ _ xs (λ y h. eq_above (key y) n h) all)
+
+first_here : {A : Type 0} (key : A → ℕ) (n : ℕ) (x : A) (xs : List A) → key x ≡ n → entry_at key n (x ∷ xs) ≡ Some x
+first_here key n x xs is = rw (eq_true (key x) n is) refl
+
+first_other : {A : Type 0} (key : A → ℕ) (n : ℕ) (x : A) (xs : List A) → (key x ≡ n → ⊥) → entry_at key n (x ∷ xs) ≡ entry_at key n xs
+first_other key n x xs other = rw (eq_other (key x) n other) refl
+
+none_lower : {A : Type 0} (key : A → ℕ) (n : ℕ) (y : A) (ys : List A) → n < key y → AllByRecursion (λ z. key y < key z) ys
+    → entry_at key n (y ∷ ys) ≡ None
+none_lower key n y ys low all =
+    none_low key n (y ∷ ys) (low, each (λ z. key y < key z) (λ z. n < key z) ys (λ z h. omega (arith, h, low)) all)
+
+some_same : {A : Type 0} (x y : A) → ◌≡◌ {A = Option A} (Some x) (Some y) → x ≡ y
+some_same x y is = cc
+
+pub same_lists : {A : Type 0} (key : A → ℕ) (xs ys : List A) → IsStrictlySorted key xs → IsStrictlySorted key ys
+    → ((n : ℕ) → entry_at key n xs ≡ entry_at key n ys) → xs ≡ ys
+same_lists key [] [] one other same = refl
+same_lists key [] (y ∷ ys) one other same = absurd (none_differs y (same (key y) ∙ first_here key (key y) y ys refl))
+same_lists key (x ∷ xs) [] one other same = absurd (none_differs x (sym (same (key x)) ∙ first_here key (key x) x xs refl))
+same_lists {A} key (x ∷ xs) (y ∷ ys) one other same =
+    elim (cases_order (key x) (key y)) [
+      | inl here ↦
+          let first : x ≡ y = some_same x y
+          (sym (first_here key (key y) x xs here) ∙ same (key y) ∙ first_here key (key y) y ys refl) in
+          let rest : xs ≡ ys = same_lists key xs ys one.1 other.1 (λ n. elim (cases_eq n (key x)) [
+            | inl is ↦ subst (λ k. entry_at key k xs ≡ entry_at key k ys) (sym is)
+                (none_low key (key x) xs one.0
+                ∙ sym (subst (λ k. entry_at key k ys ≡ None) (sym here) (none_low key (key y) ys other.0)))
+            | inr apart ↦ sym (first_other key n x xs (λ is. apart (sym is))) ∙ same n
+                ∙ first_other key n y ys (λ is. apart (sym is ∙ sym here))
+          ]) in
+          ap (λ z. z ∷ xs) first ∙ ap (λ zs. y ∷ zs) rest
+      | inr apart ↦ elim apart [
+        | inl low ↦ absurd (none_differs x
+            (sym (none_lower key (key x) y ys low other.0) ∙ sym (same (key x)) ∙ first_here key (key x) x xs refl))
+        | inr high ↦ absurd (none_differs y
+            (sym (none_lower key (key y) x xs high one.0) ∙ same (key y) ∙ first_here key (key y) y ys refl))
+      ]
+    ]
+
+-- the entry of the number becomes this one, or goes
+abbrev pub exchanged : {A : Type 0} → (A → ℕ) → ℕ → Option A → List A → List A
+exchanged key n None xs = taken_out key n xs
+exchanged key n (Some x) xs = placed key x xs
+
+pub sorted_exchanged : {A : Type 0} (key : A → ℕ) (n : ℕ) (new : Option A) (xs : List A) → IsStrictlySorted key xs
+    → IsStrictlySorted key (exchanged key n new xs)
+sorted_exchanged key n None xs sorted = IsStrictlySorted-filter key _ xs sorted
+sorted_exchanged key n (Some x) xs sorted = IsStrictlySorted-placed key x xs sorted
+
+pub exchanged_here : {A : Type 0} (key : A → ℕ) (n : ℕ) (new : Option A) (xs : List A) → IfSome new (λ x. key x ≡ n)
+    → entry_at key n (exchanged key n new xs) ≡ new
+exchanged_here key n None xs number = gone key n xs
+exchanged_here key n (Some x) xs number = entry_at-placed_here key n x xs number
+
+pub exchanged_other : {A : Type 0} (key : A → ℕ) (n k : ℕ) (new : Option A) (xs : List A) → IfSome new (λ x. key x ≡ n) → (k ≡ n → ⊥)
+    → entry_at key k (exchanged key n new xs) ≡ entry_at key k xs
+exchanged_other key n k None xs number other = stays key n k xs other
+exchanged_other key n k (Some x) xs number other = entry_at-placed_other key k x xs (λ is. other (sym is ∙ number))
+
+found_step : {A : Type 0} (key : A → ℕ) (n : ℕ) (xs : List A) (o : Option A) → entry_at key n xs ≡ o → IfSome o (λ x. key x ≡ n)
+found_step key n xs None is = tt
+found_step key n xs (Some x) is = sym (found_number key n xs x is)
+
+pub found_here : {A : Type 0} (key : A → ℕ) (n : ℕ) (xs : List A) → IfSome (entry_at key n xs) (λ x. key x ≡ n)
+found_here key n xs = found_step key n xs (entry_at key n xs) refl
+
+-- an entry changed and changed back
+pub exchanged_back : {A : Type 0} (key : A → ℕ) (n : ℕ) (new : Option A) (xs : List A) → IsStrictlySorted key xs
+    → IfSome new (λ x. key x ≡ n) → exchanged key n (entry_at key n xs) (exchanged key n new xs) ≡ xs
+exchanged_back key n new xs sorted number =
+    let old = entry_at key n xs in
+    let was = found_here key n xs in
+    same_lists key (exchanged key n old (exchanged key n new xs)) xs
+    (sorted_exchanged key n old _ (sorted_exchanged key n new xs sorted)) sorted
+    (λ k. elim (cases_eq k n) [
+      | inl here ↦ subst (λ j. entry_at key j (exchanged key n old (exchanged key n new xs)) ≡ entry_at key j xs) (sym here)
+          (exchanged_here key n old (exchanged key n new xs) was)
+      | inr apart ↦ exchanged_other key n k old (exchanged key n new xs) was apart ∙ exchanged_other key n k new xs number apart
+    ])
+
+-- an entry changed, then another, and then both back in the same order
+pub both_back : {A : Type 0} (key : A → ℕ) (n : ℕ) (new : Option A) (above old : A) (xs : List A) → IsStrictlySorted key xs
+    → IfSome new (λ x. key x ≡ n) → (key above ≡ n → ⊥) → entry_at key (key above) xs ≡ Some old
+    → placed key old (exchanged key n (entry_at key n xs) (placed key above (exchanged key n new xs))) ≡ xs
+both_back {A} key n new above old xs sorted number apart is =
+    let first = entry_at key n xs in
+    let was = found_here key n xs in
+    let changed : List A = exchanged key n new xs in
+    let both : List A = placed key above changed in
+    let one : List A = exchanged key n first both in
+    let same : key above ≡ key old = found_number key (key above) xs old is in
+    same_lists key (placed key old one) xs
+    (IsStrictlySorted-placed key old one (sorted_exchanged key n first both
+    (IsStrictlySorted-placed key above changed (sorted_exchanged key n new xs sorted)))) sorted
+    (λ k. elim (cases_eq k (key above)) [
+      | inl here ↦ subst (λ j. entry_at key j (placed key old one) ≡ entry_at key j xs) (sym here)
+          (entry_at-placed_here key (key above) old one (sym same) ∙ sym is)
+      | inr other ↦ entry_at-placed_other key k old one (λ h. other (sym h ∙ sym same)) ∙ elim (cases_eq k n) [
+        | inl here ↦ subst (λ j. entry_at key j one ≡ entry_at key j xs) (sym here) (exchanged_here key n first both was)
+        | inr far ↦ exchanged_other key n k first both was far ∙ entry_at-placed_other key k above changed (λ h. other (sym h))
+            ∙ exchanged_other key n k new xs number far
+      ]
+    ])

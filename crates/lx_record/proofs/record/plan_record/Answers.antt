@@ -1,0 +1,17 @@
+use Rattle.std.proofs.Common.{◌∙◌, Ok, ap, sym}
+use Rattle.std.specs.Prelude.{Result}
+use Rattle.lx_spec.specs.declared.Refusal.{Refusal}
+use Rattle.lx_spec.specs.Show.{Show}
+use Rattle.lx_edit.specs.declared.plans.Plan.{Plan}
+use Rattle.lx_edit.specs.Planned.{planned}
+use Rattle.lx_record.proofs.Answering.{of_stage}
+use Rattle.lx_record.proofs.record.plan_record.Goals as goal
+
+abbrev ok_show : Show → Result Show Refusal
+ok_show show = Ok show
+
+pub returns-clause-plans : goal.returns-clause-plans
+returns-clause-plans c = λ d stands.
+    let show = c.args.console.now.show in
+    sym (of_stage d c.args.console.now c.args.n c.args.only stands) ∙ c.in_ok-cues.ensures.records
+    ∙ ap (λ (p : Plan). ok_show (planned show p)) (sym c.plan_of.ensures)
