@@ -17,7 +17,6 @@ use Rattle.lx_spec.specs.Script.{line_of}
 use Rattle.lx_spec.specs.RefusedPlaces.{MayWant, WantsAtEdits}
 use Rattle.lx_session.specs.Attempts.{WantsLast}
 use Rattle.lx_session.specs.LineReply.{reply_to}
-use Rattle.lx_session.specs.LineAnswer.{GoesOn}
 use Rattle.lx_session.proofs.RepliedLines.{finished}
 
 -- the attempt is one that want of memory refuses
@@ -108,17 +107,9 @@ own_within from to wanted places le within n has =
     (has-append places (own_place wanted to) n ∙ ap (λ v. v || has_place (own_place wanted to) n) off ∙ own-has wanted to n) ∙ has in
     own_upto to wanted n own)
 
-first : (a b : Bool) → (a && b) ≡ true → a ≡ true
+pub first : (a b : Bool) → (a && b) ≡ true → a ≡ true
 first true b e = refl
 first false b e = cc
-
--- what a line may want, by how the session went on by it
-pub may_want : (all : Bool) (heard : List Command → Type 0) (P : List ℕ) (s next : Session) (meaning : Option Line) (wanted : Bool)
-    → all ≡ true → GoesOn all heard s next meaning wanted → WantsLast P s.attempts next.attempts wanted → MayWant P s meaning
-may_want all heard P s next meaning wanted every g w n lower upper has =
-    let is = ap (λ t. t.attempts) (g.by P w) in
-    let here : (wanted && n == next.attempts) ≡ true = sym (w n lower (omega (arith, upper, is))) ∙ has in
-    g.at_edit (first wanted (n == next.attempts) here) every
 
 -- attempts add to their number, and leave the text
 record Later (s : Session) (tried : Attempt) : Type 0 where
