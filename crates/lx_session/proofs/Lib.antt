@@ -10,6 +10,6 @@ pub mod HeardLines
 pub mod ReplyOutcomes
 pub mod LineOutcomes
 pub mod SoFar
+pub mod ScriptEnds
 pub mod Ends
-pub mod HeardScripts
 pub mod Rows

@@ -160,17 +160,6 @@ extends_line places s meaning =
       text = f.text ∙ ap (λ v. v ++ reply_to tried.session.desk meaning tried.refusal) l.text;
     }
 
-pub extends_lines : (places : List ℕ) (s : Session) (script : List (List ℕ)) → Extends s (after_lines places s script)
-extends_lines places s [] = record { attempts = omega arith; more = []; text = sym (append-nil s.text) }
-extends_lines places s (line ∷ script) =
-    let a = extends_line places s (line_of line) in
-    let b = extends_lines places (after_line places s line) script in
-    record {
-      attempts = let x = a.attempts in let y = b.attempts in omega (arith, x, y);
-      more = a.more ++ b.more;
-      text = b.text ∙ ap (λ v. v ++ b.more) a.text ∙ append_assoc s.text a.more b.more;
-    }
-
 -- lines after the last place want nothing
 pub wants_nothing : (places : List ℕ) (s : Session) (script : List (List ℕ)) → AreWithin s.attempts places → WantsAtEdits places s script
 wants_nothing places s [] within = tt
@@ -179,13 +168,3 @@ wants_nothing places s (line ∷ script) within =
       λ n lower upper has. let le = within n has in absurd (omega (arith, le, lower)),
       wants_nothing places (after_line places s line) script (λ n has. let le = within n has in let x = a.attempts in omega (arith, le, x)),
     )
-
--- and what lines one after another want
-pub wants-append : (places : List ℕ) (s : Session) (xs ys : List (List ℕ)) → WantsAtEdits places s xs
-    → WantsAtEdits places (after_lines places s xs) ys → WantsAtEdits places s (xs ++ ys)
-wants-append places s [] ys a b = b
-wants-append places s (x ∷ xs) ys a b = (a.0, wants-append places (after_line places s x) xs ys a.1 b)
-
-pub lines-append : (places : List ℕ) (s : Session) (xs ys : List (List ℕ))
-    → after_lines places s (xs ++ ys) ≡ after_lines places (after_lines places s xs) ys
-lines-append places s xs ys = fold-append (after_line places) s xs ys

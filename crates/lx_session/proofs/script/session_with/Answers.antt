@@ -2,7 +2,7 @@ use Rattle.std.proofs.Common.{refl}
 use Rattle.lx_lex.specs.Unread.{unread}
 use Rattle.lx_session.specs.HeardDesk.{unheard}
 use Rattle.lx_session.proofs.SoFar.{over}
-use Rattle.lx_session.proofs.HeardScripts.{answered_plain}
+use Rattle.lx_session.proofs.Ends.{answered_plain}
 use Rattle.lx_session.proofs.script.session_with.Goals as goal
 
 pub returns-clause-outcome : goal.returns-clause-outcome
