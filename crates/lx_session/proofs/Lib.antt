@@ -5,8 +5,11 @@ pub mod RepliedLines
 pub mod Commands
 pub mod AnsweredLines
 pub mod Places
+pub mod AnsweredPlaces
+pub mod HeardLines
 pub mod ReplyOutcomes
 pub mod LineOutcomes
 pub mod SoFar
+pub mod ScriptEnds
 pub mod Ends
 pub mod Rows

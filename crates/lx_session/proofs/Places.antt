@@ -17,7 +17,6 @@ use Rattle.lx_spec.specs.Script.{line_of}
 use Rattle.lx_spec.specs.RefusedPlaces.{MayWant, WantsAtEdits}
 use Rattle.lx_session.specs.Attempts.{WantsLast}
 use Rattle.lx_session.specs.LineReply.{reply_to}
-use Rattle.lx_session.specs.LineAnswer.{GoesOn}
 use Rattle.lx_session.proofs.RepliedLines.{finished}
 
 -- the attempt is one that want of memory refuses
@@ -108,17 +107,9 @@ own_within from to wanted places le within n has =
     (has-append places (own_place wanted to) n ∙ ap (λ v. v || has_place (own_place wanted to) n) off ∙ own-has wanted to n) ∙ has in
     own_upto to wanted n own)
 
-first : (a b : Bool) → (a && b) ≡ true → a ≡ true
+pub first : (a b : Bool) → (a && b) ≡ true → a ≡ true
 first true b e = refl
 first false b e = cc
-
--- what a line may want, by how the session went on by it
-pub may_want : (all : Bool) (heard : List Command → Type 0) (P : List ℕ) (s next : Session) (meaning : Option Line) (wanted : Bool)
-    → all ≡ true → GoesOn all heard s next meaning wanted → WantsLast P s.attempts next.attempts wanted → MayWant P s meaning
-may_want all heard P s next meaning wanted every g w n lower upper has =
-    let is = ap (λ t. t.attempts) (g.by P w) in
-    let here : (wanted && n == next.attempts) ≡ true = sym (w n lower (omega (arith, upper, is))) ∙ has in
-    g.at_edit (first wanted (n == next.attempts) here) every
 
 -- attempts add to their number, and leave the text
 record Later (s : Session) (tried : Attempt) : Type 0 where
@@ -169,17 +160,6 @@ extends_line places s meaning =
       text = f.text ∙ ap (λ v. v ++ reply_to tried.session.desk meaning tried.refusal) l.text;
     }
 
-pub extends_lines : (places : List ℕ) (s : Session) (script : List (List ℕ)) → Extends s (after_lines places s script)
-extends_lines places s [] = record { attempts = omega arith; more = []; text = sym (append-nil s.text) }
-extends_lines places s (line ∷ script) =
-    let a = extends_line places s (line_of line) in
-    let b = extends_lines places (after_line places s line) script in
-    record {
-      attempts = let x = a.attempts in let y = b.attempts in omega (arith, x, y);
-      more = a.more ++ b.more;
-      text = b.text ∙ ap (λ v. v ++ b.more) a.text ∙ append_assoc s.text a.more b.more;
-    }
-
 -- lines after the last place want nothing
 pub wants_nothing : (places : List ℕ) (s : Session) (script : List (List ℕ)) → AreWithin s.attempts places → WantsAtEdits places s script
 wants_nothing places s [] within = tt
@@ -188,13 +168,3 @@ wants_nothing places s (line ∷ script) within =
       λ n lower upper has. let le = within n has in absurd (omega (arith, le, lower)),
       wants_nothing places (after_line places s line) script (λ n has. let le = within n has in let x = a.attempts in omega (arith, le, x)),
     )
-
--- and what lines one after another want
-pub wants-append : (places : List ℕ) (s : Session) (xs ys : List (List ℕ)) → WantsAtEdits places s xs
-    → WantsAtEdits places (after_lines places s xs) ys → WantsAtEdits places s (xs ++ ys)
-wants-append places s [] ys a b = b
-wants-append places s (x ∷ xs) ys a b = (a.0, wants-append places (after_line places s x) xs ys a.1 b)
-
-pub lines-append : (places : List ℕ) (s : Session) (xs ys : List (List ℕ))
-    → after_lines places s (xs ++ ys) ≡ after_lines places (after_lines places s xs) ys
-lines-append places s xs ys = fold-append (after_line places) s xs ys

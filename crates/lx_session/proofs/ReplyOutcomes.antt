@@ -1,4 +1,4 @@
--- What a line's answer comes to, by how it ended.
+-- What the answer to a line comes to, by how it ended.
 use Rattle.std.proofs.Common.{◌≡◌, ◌⊎◌, inl, inr, ℕ, zero, suc, ◌+◌, Bool, true, false, not, Option, Some, None, Result, Ok, Err, IfOk}
 use Rattle.std.proofs.Common.{OnOk, OnErr, IsErr, List, [], ◌∷◌, ◌++◌, length, refl, sym, ap, ◌∙◌, subst, arith, append-nil, length-append}
 use Rattle.std.proofs.Common.{take}
@@ -8,16 +8,13 @@ use Rattle.std.proofs.KnownBytes.{Keeps-trans}
 use Rattle.lx_io.specs.declared.sink.SinkFault.{SinkFault}
 use Rattle.lx_io.specs.Puts.{Puts, AppendsFront}
 use Rattle.lx_io.proofs.Chain.{AppendsFront-is}
-use Rattle.lx_spec.specs.declared.Command.{Command}
-use Rattle.lx_spec.specs.declared.Line.{Line}
-use Rattle.lx_spec.specs.declared.Line.TheVariants as lines
-use Rattle.lx_spec.specs.Kept.{Kept}
-use Rattle.lx_spec.specs.Session.{Session, is_quit, after_meaning}
-use Rattle.lx_console.specs.Standing.{StandsFor}
+use Rattle.lx_spec.specs.Session.{ends_script}
+use Rattle.lx_spec.specs.SessionOf.{SessionOf, Answer}
 use Rattle.lx_session.specs.declared.tally.Tally.{Tally}
+use Rattle.lx_session.specs.Known.{Known}
 use Rattle.lx_session.specs.LineReply.{counts_in}
-use Rattle.lx_session.specs.LineAnswer.{GoesOn, LineAnswer, WholeReply, ReplyPrefix}
-use Rattle.lx_session.specs.LineOutcome.{Untouched, ScriptEnd, FromSession, ReplyOutcome}
+use Rattle.lx_session.specs.OneAnswer.{IsLine, IsLawful, GoesOnBy, OneAnswer}
+use Rattle.lx_session.specs.LineOutcome.{Untouched, ReplyPrefix, FromSession, ReplyOutcome}
 use Rattle.lx_session.proofs.Places.{own_place, own-has}
 
 not_not : (b : Bool) → true ≡ not b → b ≡ false
@@ -28,34 +25,32 @@ not_yes : (b : Bool) → false ≡ not b → b ≡ true
 not_yes true e = refl
 not_yes false e = cc
 
-goes_on_by : (result : Result Bool SinkFault) (meaning : Option Line) (b : Bool) → result ≡ Ok b → b ≡ true
-    → IfOk result (λ more. more ≡ not (is_quit meaning)) → is_quit meaning ≡ false
-goes_on_by result meaning b is on quit =
-    let more : b ≡ not (is_quit meaning) = subst (λ (r : Result Bool SinkFault). IfOk r (λ more. more ≡ not (is_quit meaning))) is quit in
-    not_not (is_quit meaning) (sym on ∙ more)
+-- more is to come exactly where the line doesn't end the script
+abbrev pub TellsMore : Result Bool SinkFault → List ℕ → Type 0
+TellsMore result line = IfOk result (λ more. more ≡ not (ends_script line))
 
-is_quit_by : (result : Result Bool SinkFault) (meaning : Option Line) (b : Bool) → result ≡ Ok b → b ≡ false
-    → IfOk result (λ more. more ≡ not (is_quit meaning)) → is_quit meaning ≡ true
-is_quit_by result meaning b is off quit =
-    let more : b ≡ not (is_quit meaning) = subst (λ (r : Result Bool SinkFault). IfOk r (λ more. more ≡ not (is_quit meaning))) is quit in
-    not_yes (is_quit meaning) (sym off ∙ more)
+pub tells_more : (result : Result Bool SinkFault) (given : Option (List ℕ)) (line : List ℕ) → IsLine given line
+    → IfOk result (λ more. (text : List ℕ) → IsLine given text → more ≡ not (ends_script text)) → TellsMore result line
+tells_more (Ok more) given line is told = told line is
+tells_more (Err fault) given line is told = tt
 
--- quit attempts nothing
-quit_is : (meaning : Option Line) → is_quit meaning ≡ true → meaning ≡ Some lines.Quit
-quit_is None q = cc
-quit_is (Some (lines.Command c)) q = cc
-quit_is (Some (lines.Ticks k)) q = cc
-quit_is (Some (lines.Frame u)) q = cc
-quit_is (Some lines.Save) q = cc
-quit_is (Some (lines.SheetOf n)) q = cc
-quit_is (Some lines.Quit) q = refl
-quit_is (Some lines.Blank) q = cc
+goes_on_by : (result : Result Bool SinkFault) (line : List ℕ) (b : Bool) → result ≡ Ok b → b ≡ true → TellsMore result line
+    → ends_script line ≡ false
+goes_on_by result line b is on more =
+    let told : b ≡ not (ends_script line) = subst (λ (r : Result Bool SinkFault). TellsMore r line) is more in
+    not_not (ends_script line) (sym on ∙ told)
 
-quit_stays : (all : Bool) (heard : List Command → Type 0) (s next : Session) (meaning : Option Line) (wants : Bool)
-    → GoesOn all heard s next meaning wants → is_quit meaning ≡ true → s ≡ next
-quit_stays all heard s next meaning wants g q =
+is_quit_by : (result : Result Bool SinkFault) (line : List ℕ) (b : Bool) → result ≡ Ok b → b ≡ false → TellsMore result line
+    → ends_script line ≡ true
+is_quit_by result line b is off more =
+    let told : b ≡ not (ends_script line) = subst (λ (r : Result Bool SinkFault). TellsMore r line) is more in
+    not_yes (ends_script line) (sym off ∙ told)
+
+quit_stays : {State : Type 0} (answer : Answer State) (MayWant : State → List ℕ → Type 0) → IsLawful answer → (s next : SessionOf State)
+    (line : List ℕ) (wants : Bool) → GoesOnBy answer MayWant s next line wants → ends_script line ≡ true → s ≡ next
+quit_stays answer MayWant lawful s next line wants g q =
     let places = own_place wants next.attempts in
-    ap (after_meaning places s) (sym (quit_is meaning q)) ∙ g.by places (λ n above within. own-has wants next.attempts n)
+    sym (lawful.ends places s line q) ∙ g.by places (λ n above within. own-has wants next.attempts n)
 
 same_after : {A : Type 0} (xs ys : List A) → xs ≡ xs ++ ys → ys ≡ []
 same_after xs [] e = refl
@@ -72,138 +67,120 @@ front_at zero = refl
 front_at (suc n) = refl
 
 -- `quit` leaves the session as it was, whatever the sink answers
-record QuitAnswer (heard : List Command → Type 0) (s : Session) (console : Kept) (reply : List ℕ) : Type 0 where
-  stands : StandsFor s.desk console
-  listened : heard []
+record QuitAnswer {State : Type 0} (Stands : State → Type 0) (s next : SessionOf State) (reply : List ℕ) : Type 0 where
+  stays : s ≡ next
+  stands : Stands s.state
   none : reply ≡ []
 
-quit_answer : {K : Type 0} (all : Bool) (heard : List Command → Type 0) (holds : K → Option (List ℕ)) (faults wants : K → ℕ)
-    (sink sink' : K) (result : Result Bool SinkFault) (s : Session) (meaning : Option Line) (console : Kept) (tally : Tally)
-    → is_quit meaning ≡ true → (a : LineAnswer all heard holds faults wants sink sink' result s meaning console tally)
-    → QuitAnswer heard s console a.reply
-quit_answer all heard holds faults wants sink sink' result s meaning console tally q a =
-    let same = quit_stays all heard s a.next meaning a.wanted a.goes_on q in
-    let nothing : a.goes_on.commands ≡ [] = same_after s.accepted a.goes_on.commands (ap (λ t. t.accepted) same ∙ a.goes_on.accepted) in
+quit_answer : {K State : Type 0} (answer : Answer State) (MayWant : State → List ℕ → Type 0) (Stands : State → Type 0) → IsLawful answer → (holds : K → Known)
+    (faults wants : K → ℕ) (sink sink' : K) (result : Result Bool SinkFault) (s : SessionOf State) (line : List ℕ) (tally : Tally)
+    → ends_script line ≡ true → (a : OneAnswer answer MayWant holds faults wants sink sink' result s line Stands tally)
+    → QuitAnswer Stands s a.next a.reply
+quit_answer answer MayWant Stands lawful holds faults wants sink sink' result s line tally q a =
+    let same = quit_stays answer MayWant lawful s a.next line a.wanted a.goes_on q in
     record {
-      stands = subst (λ (t : Session). StandsFor t.desk console) (sym same) a.stands;
-      listened = subst heard nothing a.goes_on.listened;
+      stays = same;
+      stands = subst (λ (t : SessionOf _). Stands t.state) (sym same) a.stands;
       none = same_after s.text a.reply (ap (λ t. t.text) same ∙ a.text);
     }
 
-quit_counts : {K : Type 0} (all : Bool) (heard : List Command → Type 0) (holds : K → Option (List ℕ)) (faults wants : K → ℕ)
-    (sink sink' : K) (result : Result Bool SinkFault) (s : Session) (meaning : Option Line) (console : Kept) (tally : Tally) (b : Bool)
-    → result ≡ Ok b → is_quit meaning ≡ true → LineAnswer all heard holds faults wants sink sink' result s meaning console tally
-    → s.counts ≡ counts_in tally
-quit_counts all heard holds faults wants sink sink' result s meaning console tally b is q a =
-    ap (λ t. t.counts) (quit_stays all heard s a.next meaning a.wanted a.goes_on q)
-    ∙ subst (λ (r : Result Bool SinkFault). OnOk r (a.next.counts ≡ counts_in tally)) is a.counts
-
-quit_keeps : {K : Type 0} (all : Bool) (heard : List Command → Type 0) (holds : K → Option (List ℕ)) (faults wants : K → ℕ) (sink sink' : K)
-    (result : Result Bool SinkFault) (s : Session) (meaning : Option Line) (console : Kept) (tally : Tally) (b : Bool)
-    → result ≡ Ok b → is_quit meaning ≡ true → LineAnswer all heard holds faults wants sink sink' result s meaning console tally
-    → Keeps (holds sink) (holds sink')
-quit_keeps all heard holds faults wants sink sink' result s meaning console tally b is q a =
-    let none = (quit_answer all heard holds faults wants sink sink' result s meaning console tally q a).none in
-    let whole = subst (λ (r : Result Bool SinkFault). OnOk r (Appends (holds sink) (holds sink') a.reply)) is a.puts.whole in
+quit_keeps : {K : Type 0} (holds : K → Known) (faults wants : K → ℕ) (sink sink' : K) (result : Result Bool SinkFault) (b : Bool)
+    (reply : List ℕ) → result ≡ Ok b → reply ≡ [] → Puts holds faults wants sink sink' result reply → Keeps (holds sink) (holds sink')
+quit_keeps holds faults wants sink sink' result b reply is none puts =
+    let whole = subst (λ (r : Result Bool SinkFault). OnOk r (Appends (holds sink) (holds sink') reply)) is puts.whole in
     keeps_at (holds sink) (holds sink') (subst (λ (t : List ℕ). Appends (holds sink) (holds sink') t) none whole)
 
 -- and where the sink failed at it, nothing was written either
-quit_fails : {K : Type 0} (all : Bool) (heard : List Command → Type 0) (holds : K → Option (List ℕ)) (faults wants : K → ℕ) (sink sink' : K)
-    (result : Result Bool SinkFault) (s : Session) (meaning : Option Line) (console : Kept) (tally : Tally) (fault : SinkFault)
-    → result ≡ Err fault → is_quit meaning ≡ true → LineAnswer all heard holds faults wants sink sink' result s meaning console tally
+quit_fails : {K : Type 0} (holds : K → Known) (faults wants : K → ℕ) (sink sink' : K) (result : Result Bool SinkFault) (fault : SinkFault)
+    (reply : List ℕ) → result ≡ Err fault → reply ≡ [] → Puts holds faults wants sink sink' result reply
     → Keeps (holds sink) (holds sink')
-quit_fails all heard holds faults wants sink sink' result s meaning console tally fault is q a =
-    let none = (quit_answer all heard holds faults wants sink sink' result s meaning console tally q a).none in
-    let part = subst (λ (r : Result Bool SinkFault). OnErr r (AppendsFront (holds sink) (holds sink') a.reply)) is a.puts.part in
+quit_fails holds faults wants sink sink' result fault reply is none puts =
+    let part = subst (λ (r : Result Bool SinkFault). OnErr r (AppendsFront (holds sink) (holds sink') reply)) is puts.part in
     let front = AppendsFront-is (holds sink) (holds sink') []
     (subst (λ (t : List ℕ). AppendsFront (holds sink) (holds sink') t) none part) in
     keeps_at (holds sink) (holds sink') (subst (λ (t : List ℕ). Appends (holds sink) (holds sink') t) (front_at front.0) front.1)
 
 -- the line was answered, and more is to come
-pub replied : {K : Type 0} (all : Bool) (heard : List Command → Type 0) (holds : K → Option (List ℕ)) (faults wants : K → ℕ)
-    (sink sink' : K) (result : Result Bool SinkFault) (before console : Kept) (counted tally : Tally) (meaning : Option Line) (b : Bool)
-    → result ≡ Ok b → b ≡ true → IfOk result (λ more. more ≡ not (is_quit meaning))
-    → FromSession before counted (λ s. LineAnswer all heard holds faults wants sink sink' result s meaning console tally)
-    → ReplyOutcome all heard (holds sink) (holds sink') before console counted tally meaning (Ok true)
-replied all heard holds faults wants sink sink' result before console counted tally meaning b is on quit answer =
-    let more = goes_on_by result meaning b is on quit in (
-      more,
+pub replied : {K State : Type 0} (answer : Answer State) (MayWant : State → List ℕ → Type 0) (Stood Stands : State → Type 0) → IsLawful answer → (holds : K → Known)
+    (faults wants : K → ℕ) (sink sink' : K) (result : Result Bool SinkFault) (counted tally : Tally) (line : List ℕ) (b : Bool)
+    → result ≡ Ok b → b ≡ true → TellsMore result line
+    → FromSession Stood counted (λ s. OneAnswer answer MayWant holds faults wants sink sink' result s line Stands tally)
+    → ReplyOutcome answer MayWant Stood Stands (holds sink) (holds sink') counted tally line (Ok true)
+replied answer MayWant Stood Stands lawful holds faults wants sink sink' result counted tally line b is on more answered =
+    let goes_on = goes_on_by result line b is on more in (
+      goes_on,
       λ s stands counts.
-          let a = answer s stands counts in
+          let a = answered s stands counts in
           record {
             reply = a.reply;
-            line = record { more = more; next = a.next; wanted = a.wanted; goes_on = a.goes_on; stands = a.stands; text = a.text };
+            done = record { more = goes_on; lawful = lawful; next = a.next; wanted = a.wanted; goes_on = a.goes_on; stands = a.stands; text = a.text };
             appended = subst (λ (r : Result Bool SinkFault). OnOk r (Appends (holds sink) (holds sink') a.reply)) is a.puts.whole;
             counts = subst (λ (r : Result Bool SinkFault). OnOk r (a.next.counts ≡ counts_in tally)) is a.counts;
           },
     )
 
 -- the line is `quit`, and the sink was flushed
-pub ended : {K : Type 0} (all : Bool) (heard : List Command → Type 0) (holds : K → Option (List ℕ)) (faults wants : K → ℕ) (sink sink' : K)
-    (held : Option (List ℕ)) (result : Result Bool SinkFault) (before console : Kept) (counted tally : Tally) (meaning : Option Line)
+pub ended : {K State : Type 0} (answer : Answer State) (MayWant : State → List ℕ → Type 0) (Stood Stands : State → Type 0) → IsLawful answer → (holds : K → Known)
+    (faults wants : K → ℕ) (sink sink' : K) (held : Known) (result : Result Bool SinkFault) (counted tally : Tally) (line : List ℕ)
     (b : Bool)
-    → result ≡ Ok b → b ≡ false → IfOk result (λ more. more ≡ not (is_quit meaning))
-    → FromSession before counted (λ s. LineAnswer all heard holds faults wants sink sink' result s meaning console tally)
+    → result ≡ Ok b → b ≡ false → TellsMore result line
+    → FromSession Stood counted (λ s. OneAnswer answer MayWant holds faults wants sink sink' result s line Stands tally)
     → Keeps (holds sink') held
-    → ReplyOutcome all heard (holds sink) held before console counted tally meaning (Ok false)
-ended all heard holds faults wants sink sink' held result before console counted tally meaning b is off quit answer kept =
-    let q = is_quit_by result meaning b is off quit in (
+    → ReplyOutcome answer MayWant Stood Stands (holds sink) held counted tally line (Ok false)
+ended answer MayWant Stood Stands lawful holds faults wants sink sink' held result counted tally line b is off more answered kept =
+    let q = is_quit_by result line b is off more in (
       q,
       λ s stands counts.
-          let a = answer s stands counts in
-          let e = quit_answer all heard holds faults wants sink sink' result s meaning console tally q a in
+          let a = answered s stands counts in
+          let e = quit_answer answer MayWant Stands lawful holds faults wants sink sink' result s line tally q a in
           record {
             same = record {
               kept = Keeps-trans (holds sink) (holds sink') held
-                  (quit_keeps all heard holds faults wants sink sink' result s meaning console tally b is q a) kept;
+                  (quit_keeps holds faults wants sink sink' result b a.reply is e.none a.puts) kept;
               stands = e.stands;
-              listened = e.listened;
             };
-            counts = quit_counts all heard holds faults wants sink sink' result s meaning console tally b is q a;
+            counts = ap (λ t. t.counts) e.stays
+                ∙ subst (λ (r : Result Bool SinkFault). OnOk r (a.next.counts ≡ counts_in tally)) is a.counts;
           },
     )
 
 -- or the flush failed
-pub ended_unflushed : {K : Type 0} (all : Bool) (heard : List Command → Type 0) (holds : K → Option (List ℕ)) (faults wants : K → ℕ)
-    (sink sink' : K) (held : Option (List ℕ)) (result : Result Bool SinkFault) (before console : Kept) (counted tally : Tally)
-    (meaning : Option Line) (b : Bool) (fault : SinkFault)
-    → result ≡ Ok b → b ≡ false → IfOk result (λ more. more ≡ not (is_quit meaning))
-    → FromSession before counted (λ s. LineAnswer all heard holds faults wants sink sink' result s meaning console tally)
+pub ended_unflushed : {K State : Type 0} (answer : Answer State) (MayWant : State → List ℕ → Type 0) (Stood Stands : State → Type 0) → IsLawful answer
+    → (holds : K → Known) (faults wants : K → ℕ) (sink sink' : K) (held : Known) (result : Result Bool SinkFault) (counted tally : Tally)
+    (line : List ℕ) (b : Bool) (fault : SinkFault)
+    → result ≡ Ok b → b ≡ false → TellsMore result line
+    → FromSession Stood counted (λ s. OneAnswer answer MayWant holds faults wants sink sink' result s line Stands tally)
     → Keeps (holds sink') held
-    → ReplyOutcome all heard (holds sink) held before console counted tally meaning (Err fault)
-ended_unflushed all heard holds faults wants sink sink' held result before console counted tally meaning b fault is off quit answer kept =
-    let q = is_quit_by result meaning b is off quit in
-    let e = (ended all heard holds faults wants sink sink' held result before console counted tally meaning b is off quit answer kept).1 in
-    λ s stands counts. inl ((e s stands counts).same, q)
+    → ReplyOutcome answer MayWant Stood Stands (holds sink) held counted tally line (Err fault)
+ended_unflushed answer MayWant Stood Stands lawful holds faults wants sink sink' held result counted tally line b fault is off more answered
+    kept =
+    let e = ended answer MayWant Stood Stands lawful holds faults wants sink sink' held result counted tally line b is off more answered
+    kept in
+    λ s stands counts. inl ((e.1 s stands counts).same, e.0)
 
 bool_or : (b : Bool) (P : Type 0) → (b ≡ true → P) → (b ≡ false → P) → P
 bool_or true P f g = f refl
 bool_or false P f g = g refl
 
 -- the sink failed within the reply
-pub unwritten : {K : Type 0} (all : Bool) (heard : List Command → Type 0) (holds : K → Option (List ℕ)) (faults wants : K → ℕ)
-    (sink sink' : K) (result : Result Bool SinkFault) (before console : Kept) (counted tally : Tally) (meaning : Option Line)
-    (fault : SinkFault)
-    → result ≡ Err fault → FromSession before counted
-    (λ s. LineAnswer all heard holds faults wants sink sink' result s meaning console tally)
-    → ReplyOutcome all heard (holds sink) (holds sink') before console counted tally meaning (Err fault)
-unwritten all heard holds faults wants sink sink' result before console counted tally meaning fault is answer s stands counts =
-    let a = answer s stands counts in
-    bool_or (is_quit meaning) ((Untouched heard (holds sink) (holds sink') s console × (is_quit meaning ≡ true))
-    ⊎ ReplyPrefix all heard (holds sink) (holds sink') s meaning console)
+pub unwritten : {K State : Type 0} (answer : Answer State) (MayWant : State → List ℕ → Type 0) (Stood Stands : State → Type 0) → IsLawful answer → (holds : K → Known)
+    (faults wants : K → ℕ) (sink sink' : K) (result : Result Bool SinkFault) (counted tally : Tally) (line : List ℕ) (fault : SinkFault)
+    → result ≡ Err fault
+    → FromSession Stood counted (λ s. OneAnswer answer MayWant holds faults wants sink sink' result s line Stands tally)
+    → ReplyOutcome answer MayWant Stood Stands (holds sink) (holds sink') counted tally line (Err fault)
+unwritten answer MayWant Stood Stands lawful holds faults wants sink sink' result counted tally line fault is answered s stands counts =
+    let a = answered s stands counts in
+    bool_or (ends_script line) ((Untouched Stands (holds sink) (holds sink') s × (ends_script line ≡ true))
+    ⊎ ReplyPrefix answer MayWant Stands (holds sink) (holds sink') s line)
     (λ on.
-    let e = quit_answer all heard holds faults wants sink sink' result s meaning console tally on a in
+    let e = quit_answer answer MayWant Stands lawful holds faults wants sink sink' result s line tally on a in
     inl (
-      record {
-        kept = quit_fails all heard holds faults wants sink sink' result s meaning console tally fault is on a;
-        stands = e.stands;
-        listened = e.listened;
-      },
+      record { kept = quit_fails holds faults wants sink sink' result fault a.reply is e.none a.puts; stands = e.stands },
       on,
     ))
     (λ off. inr (record {
       reply = a.reply;
-      line = record { more = off; next = a.next; wanted = a.wanted; goes_on = a.goes_on; stands = a.stands; text = a.text };
+      done = record { more = off; lawful = lawful; next = a.next; wanted = a.wanted; goes_on = a.goes_on; stands = a.stands; text = a.text };
       front = subst (λ (r : Result Bool SinkFault). OnErr r (AppendsFront (holds sink) (holds sink') a.reply)) is a.puts.part;
     }))
 

@@ -1,4 +1,4 @@
--- How far a session has come.
+-- How far a session of any kind has come.
 use Rattle.std.proofs.Common.{◌≡◌, ◌⊎◌, inl, inr, ℕ, zero, suc, ◌+◌, ◌≤◌, ◌<◌, Bool, true, false, cond, not, eqb, Result, Ok, Err, OnOk}
 use Rattle.std.proofs.Common.{OnErr, IfErr, IfOk, Option, Some, None, IfSome, IsTrue, List, [], ◌∷◌, ◌++◌, map, length, take, drop}
 use Rattle.std.proofs.Common.{take-append-drop, refl, sym, ap, ◌∙◌, subst, append-nil, append_assoc, length-append, arith}
@@ -19,58 +19,61 @@ use Rattle.lx_lex.specs.Lines.{LinesBetween, StepOf}
 use Rattle.lx_lex.proofs.TakenLines.{texts, all_texts, lines_within, next_too_long}
 use Rattle.lx_lex.proofs.FirstLines.{first_lines-longer}
 use Rattle.lx_spec.specs.Text.{without_cr, lines_of}
-use Rattle.std.proofs.lemmas.List.Sums.{fold-append}
-use Rattle.lx_spec.specs.declared.Command.{Command}
-use Rattle.lx_spec.specs.Desk.{Desk, after_command}
-use Rattle.lx_spec.specs.Kept.{Kept}
 use Rattle.lx_spec.specs.CutInput.{first_lines}
-use Rattle.lx_spec.specs.Session.{Session, begin_at, ends_script, after_lines, lines_wanted, bytes_wanted}
-use Rattle.lx_spec.specs.Script.{line_of as meant_by}
-use Rattle.lx_spec.specs.RefusedPlaces.{WantsAtEdits}
-use Rattle.lx_console.specs.Standing.{StandsFor}
-use Rattle.lx_session.specs.Attempts.{after_commands}
+use Rattle.lx_spec.specs.Session.{ends_script, lines_wanted, bytes_wanted}
+use Rattle.lx_spec.specs.SessionOf.{SessionOf, Answer, begin_with, after_each, WantsAtEach}
 use Rattle.lx_session.specs.declared.tally.Tally.{Tally}
-use Rattle.lx_session.specs.LineAnswer.{DoneLine}
-use Rattle.lx_session.specs.LineOutcome.{PassedLine, QuitLine, AnsweredLine}
+use Rattle.lx_session.specs.Known.{Known}
+use Rattle.lx_session.specs.LineOutcome.{DoneLine, PassedLine, QuitLine, AnsweredLine}
 use Rattle.lx_session.specs.LineReply.{counts_in}
-use Rattle.lx_session.proofs.Places.{AreAbove, AreWithin, own_place, wants_own, own_above, own_within, may_want, extends_lines}
-use Rattle.lx_session.proofs.Places.{wants_nothing, wants-append, lines-append}
+use Rattle.lx_session.proofs.Places.{AreAbove, AreWithin, own_place, wants_own, own_above, own_within}
+use Rattle.lx_session.proofs.AnsweredPlaces.{may_want, wants_at_none, wants_none, each_wants-append, each-append}
 
 -- no line ends the script
 abbrev pub GoOn : List (List ℕ) → Type 0
 GoOn script = AllByRecursion (λ line. ends_script line ≡ false) script
 
--- The lines are done from a desk on, and the session has come so far; more attempts that want of memory refuses later change nothing of it.
-pub record Done (all : Bool) (d : Desk) (script : List (List ℕ)) (places : List ℕ) (now : Session) : Type 0 where
+-- The lines are done from a state on, and the session has come so far; more attempts that want of memory refuses later change nothing of
+-- it, and those that it refused are none of later lines.
+pub record Done {State : Type 0} (answer : Answer State) (MayWant : State → List ℕ → Type 0) (state : State) (script : List (List ℕ))
+    (places : List ℕ) (now : SessionOf State) : Type 0 where
   pub go_on : GoOn script
   pub within : AreWithin now.attempts places
-  pub is : (more : List ℕ) → AreAbove now.attempts more → after_lines (places ++ more) (begin_at d) script ≡ now
-  pub wants : all ≡ true → (more : List ℕ) → AreAbove now.attempts more → WantsAtEdits (places ++ more) (begin_at d) script
+  pub is : (more : List ℕ) → AreAbove now.attempts more → after_each answer (places ++ more) (begin_with state) script ≡ now
+  pub wants : (more : List ℕ) → AreAbove now.attempts more → WantsAtEach answer MayWant (places ++ more) (begin_with state) script
+  pub rest : (later : List (List ℕ)) → WantsAtEach answer MayWant places now later
 
 pub no_place : (m n : ℕ) (P : Type 0) → false ≡ true → P
 no_place m n P e = absurd cc
 
-pub done_none : (all : Bool) (d : Desk) → Done all d [] [] (begin_at d)
-done_none all d = record { go_on = tt; within = λ n has. no_place 0 n (n ≤ 0) has; is = λ more above. refl; wants = λ every more above. tt }
+pub done_none : {State : Type 0} (answer : Answer State) (MayWant : State → List ℕ → Type 0) (state : State)
+    → Done answer MayWant state [] [] (begin_with state)
+done_none answer MayWant state = record {
+  go_on = tt;
+  within = λ n has. no_place 0 n (n ≤ 0) has;
+  is = λ more above. refl;
+  wants = λ more above. tt;
+  rest = wants_at_none answer MayWant (begin_with state);
+}
 
 go_on_append : (xs : List (List ℕ)) (l : List ℕ) → GoOn xs → ends_script l ≡ false → GoOn (xs ++ l ∷ [])
 go_on_append [] l all more = (more, tt)
 go_on_append (x ∷ xs) l all more = (all.0, go_on_append xs l all.1 more)
 
 -- one more line
-pub done_more : (all : Bool) (heard : List Command → Type 0) (d : Desk) (script : List (List ℕ)) (places : List ℕ) (now : Session)
-    (line : List ℕ) (console : Kept) (reply : List ℕ) → Done all d script places now
-    → (w : DoneLine all heard now (meant_by line) console reply)
-    → Done all d (script ++ line ∷ []) (places ++ own_place w.wanted w.next.attempts) w.next
-done_more all heard d script places now line console reply done w =
+pub done_more : {State : Type 0} (answer : Answer State) (MayWant : State → List ℕ → Type 0) (Stands : State → Type 0) (state : State)
+    (script : List (List ℕ)) (places : List ℕ) (now : SessionOf State) (line reply : List ℕ)
+    → Done answer MayWant state script places now → (w : DoneLine answer MayWant Stands now line reply)
+    → Done answer MayWant state (script ++ line ∷ []) (places ++ own_place w.wanted w.next.attempts) w.next
+done_more answer MayWant Stands state script places now line reply done w =
     let later = w.goes_on.later in
     let before : (more : List ℕ) → AreAbove w.next.attempts more → AreAbove now.attempts (own_place w.wanted w.next.attempts ++ more) =
     λ more above. own_above now.attempts w.next.attempts w.wanted more later w.goes_on.some above in
     let P : List ℕ → List ℕ = λ more. (places ++ own_place w.wanted w.next.attempts) ++ more in
     let same : (more : List ℕ) → P more ≡ places ++ (own_place w.wanted w.next.attempts ++ more) =
     λ more. append_assoc places (own_place w.wanted w.next.attempts) more in
-    let here : (more : List ℕ) → AreAbove w.next.attempts more → after_lines (P more) (begin_at d) script ≡ now =
-    λ more above. ap (λ ps. after_lines ps (begin_at d) script) (same more)
+    let here : (more : List ℕ) → AreAbove w.next.attempts more → after_each answer (P more) (begin_with state) script ≡ now =
+    λ more above. ap (λ ps. after_each answer ps (begin_with state) script) (same more)
     ∙ done.is (own_place w.wanted w.next.attempts ++ more) (before more above) in
     let last = λ (more : List ℕ) (above : AreAbove w.next.attempts more). wants_own places more now.attempts w.next.attempts w.wanted
     done.within above in
@@ -78,79 +81,60 @@ done_more all heard d script places now line console reply done w =
       go_on = go_on_append script line done.go_on w.more;
       within = own_within now.attempts w.next.attempts w.wanted places later done.within;
       is = λ more above.
-          lines-append (P more) (begin_at d) script (line ∷ []) ∙ ap (λ s. after_lines (P more) s (line ∷ [])) (here more above)
-          ∙ w.goes_on.by (P more) (last more above);
-      wants = λ every more above.
-          wants-append (P more) (begin_at d) script (line ∷ [])
-          (subst (λ ps. WantsAtEdits ps (begin_at d) script) (sym (same more))
-          (done.wants every (own_place w.wanted w.next.attempts ++ more) (before more above)))
-          (subst (λ s. WantsAtEdits (P more) s (line ∷ [])) (sym (here more above))
-          (may_want all heard (P more) now w.next _ w.wanted every w.goes_on (last more above), tt));
+          each-append answer (P more) (begin_with state) script (line ∷ [])
+          ∙ ap (λ s. after_each answer (P more) s (line ∷ [])) (here more above) ∙ w.goes_on.by (P more) (last more above);
+      wants = λ more above.
+          each_wants-append answer MayWant (P more) (begin_with state) script (line ∷ [])
+          (subst (λ ps. WantsAtEach answer MayWant ps (begin_with state) script) (sym (same more))
+          (done.wants (own_place w.wanted w.next.attempts ++ more) (before more above)))
+          (subst (λ s. WantsAtEach answer MayWant (P more) s (line ∷ [])) (sym (here more above))
+          (may_want (P more) now w.next line w.wanted w.goes_on (last more above), tt));
+      rest = λ later_lines. wants_none answer MayWant w.lawful (places ++ own_place w.wanted w.next.attempts) w.next later_lines
+          (own_within now.attempts w.next.attempts w.wanted places later done.within);
     }
 
--- The lines that were handed out from a to b are done and answered, the console stands for the desk after them, and the commands that
--- were accepted were heard of.
-pub record SoFar {S : Type 0} (all : Bool) (heard : List Command → Type 0) (left : S → Option (List ℕ)) (faults : S → ℕ) (a b : Lines S)
-    (d : Desk) (console : Kept) (tally : Tally) (h h' : Option (List ℕ)) : Type 0 where
+-- The lines that were handed out from a to b are done and answered, and what answers stands for the state after them.
+pub record SoFar {S State : Type 0} (answer : Answer State) (MayWant : State → List ℕ → Type 0) (Stands : State → Type 0)
+    (left : S → Known) (faults : S → ℕ) (a b : Lines S) (state : State) (tally : Tally) (h h' : Known) : Type 0 where
   pub raws : List (List ℕ)
   pub handed : HandedOut left faults a b raws
   pub places : List ℕ
-  pub now : Session
-  pub done : Done all d (map without_cr raws) places now
-  pub desk : now.desk ≡ after_commands d now.accepted
-  pub listened : heard now.accepted
-  pub stands : StandsFor now.desk console
+  pub now : SessionOf State
+  pub done : Done answer MayWant state (map without_cr raws) places now
+  pub stands : Stands now.state
   pub appended : Appends h h' now.text
   pub counts : now.counts ≡ counts_in tally
 
-pub so_far_none : {S : Type 0} (all : Bool) (heard : List Command → Type 0) (left : S → Option (List ℕ)) (faults : S → ℕ) (a : Lines S)
-    (d : Desk) (console : Kept) (tally : Tally) (h : Option (List ℕ)) → IsTrue a.going → heard [] → StandsFor d console
+pub so_far_none : {S State : Type 0} (answer : Answer State) (MayWant : State → List ℕ → Type 0) (Stands : State → Type 0)
+    (left : S → Known) (faults : S → ℕ) (a : Lines S) (state : State) (tally : Tally) (h : Known) → IsTrue a.going → Stands state
     → counts_in tally ≡ record { ok = 0; refused = 0; bad = 0 }
-    → SoFar all heard left faults a a d console tally h h
-so_far_none all heard left faults a d console tally h going nothing stands counts = record {
+    → SoFar answer MayWant Stands left faults a a state tally h h
+so_far_none answer MayWant Stands left faults a state tally h going stands counts = record {
   raws = [];
   handed = handed_none left faults a going;
   places = [];
-  now = begin_at d;
-  done = done_none all d;
-  desk = refl;
-  listened = nothing;
+  now = begin_with state;
+  done = done_none answer MayWant state;
   stands = stands;
   appended = Appends-nil h;
   counts = sym counts;
 }
 
--- what was heard of goes on
-abbrev pub Joined : (List Command → Type 0) → (List Command → Type 0) → (List Command → Type 0) → Type 0
-Joined heard next heard' = (before after : List Command) → heard before → next after → heard' (before ++ after)
-
-pub joined_none : (heard next heard' : List Command → Type 0) → Joined heard next heard' → (commands : List Command) → heard commands
-    → next [] → heard' commands
-joined_none heard next heard' joined commands h n = subst heard' (append-nil commands) (joined commands [] h n)
-
--- the desk after all commands that were accepted, and after more
-pub more_accepted : (d now next : Desk) (done more done' : List Command) → now ≡ after_commands d done → next ≡ after_commands now more
-    → done' ≡ done ++ more → next ≡ after_commands d done'
-more_accepted d now next done more done' is then all = then ∙ ap (λ e. after_commands e more) is
-    ∙ sym (fold-append after_command d done more) ∙ ap (after_commands d) (sym all)
-
-pub so_far_more : {S : Type 0} (all : Bool) (heard next heard' : List Command → Type 0) (left : S → Option (List ℕ)) (faults : S → ℕ)
-    (a b c : Lines S) (d : Desk) (console console' : Kept) (tally tally' : Tally) (h h' h'' : Option (List ℕ))
-    → Joined heard next heard' → (s : SoFar all heard left faults a b d console tally h h')
-    → AnsweredLine all next left faults b c h' h'' s.now console' tally' → SoFar all heard' left faults a c d console' tally' h h''
-so_far_more all heard next heard' left faults a b c d console console' tally tally' h h' h'' joined s t =
-    let w = t.whole.line in
+pub so_far_more : {S State : Type 0} (answer : Answer State) (MayWant : State → List ℕ → Type 0) (Stood Stands : State → Type 0)
+    (left : S → Known) (faults : S → ℕ) (a b c : Lines S) (state : State) (tally tally' : Tally) (h h' h'' : Known)
+    → (s : SoFar answer MayWant Stood left faults a b state tally h h')
+    → AnsweredLine answer MayWant Stands left faults b c h' h'' s.now tally'
+    → SoFar answer MayWant Stands left faults a c state tally' h h''
+so_far_more answer MayWant Stood Stands left faults a b c state tally tally' h h' h'' s t =
+    let w = t.whole.done in
     record {
       raws = s.raws ++ t.raw ∷ [];
       handed = handed_then left faults a b c s.raws (t.raw ∷ []) s.handed t.handed;
       places = s.places ++ own_place w.wanted w.next.attempts;
       now = w.next;
-      done = subst (λ ls. Done all d ls (s.places ++ own_place w.wanted w.next.attempts) w.next)
+      done = subst (λ ls. Done answer MayWant state ls (s.places ++ own_place w.wanted w.next.attempts) w.next)
           (sym (map-append without_cr s.raws (t.raw ∷ [])))
-          (done_more all next d (map without_cr s.raws) s.places s.now (without_cr t.raw) console' t.whole.reply s.done w);
-      desk = more_accepted d s.now.desk w.next.desk s.now.accepted w.goes_on.commands w.next.accepted s.desk w.goes_on.desk
-          w.goes_on.accepted;
-      listened = subst heard' (sym w.goes_on.accepted) (joined s.now.accepted w.goes_on.commands s.listened w.goes_on.listened);
+          (done_more answer MayWant Stands state (map without_cr s.raws) s.places s.now (without_cr t.raw) t.whole.reply s.done w);
       stands = w.stands;
       appended = subst (λ (x : List ℕ). Appends h h'' x) (sym w.text)
           (Appends-trans h h' h'' s.now.text t.whole.reply s.appended t.whole.appended);

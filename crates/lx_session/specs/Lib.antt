@@ -6,6 +6,7 @@ pub mod LineReply
 pub mod OneAnswer
 pub mod ScriptAnswered
 pub mod LineAnswer
+pub mod HeardDesk
 pub mod LineOutcome
 pub mod SessionFaults
 pub mod SessionOutcome

@@ -1,12 +1,11 @@
--- A line that was done and answered.
-use Rattle.std.specs.Prelude.{◌≡◌, ℕ, ◌≤◌, ◌<◌, Bool, true, false, Option, Result, List, ◌++◌, OnOk}
-use Rattle.std.specs.Io.KnownBytes.{Appends}
+-- A line that was done and answered on a console, beside what listens.
+use Rattle.std.specs.Prelude.{◌≡◌, ℕ, ◌≤◌, ◌<◌, Bool, true, Option, Result, List, ◌++◌, OnOk}
 use Rattle.lx_io.specs.declared.sink.SinkFault.{SinkFault}
-use Rattle.lx_io.specs.Puts.{Puts, AppendsFront}
+use Rattle.lx_io.specs.Puts.{Puts}
 use Rattle.lx_spec.specs.declared.Command.{Command}
 use Rattle.lx_spec.specs.declared.Line.{Line}
 use Rattle.lx_spec.specs.Kept.{Kept}
-use Rattle.lx_spec.specs.Session.{Session, after_meaning, is_quit}
+use Rattle.lx_spec.specs.Session.{Session, after_meaning}
 use Rattle.lx_spec.specs.RefusedPlaces.{IsAcceptedEdit}
 use Rattle.lx_console.specs.Standing.{StandsFor}
 use Rattle.lx_session.specs.declared.tally.Tally.{Tally}
@@ -37,27 +36,6 @@ pub record LineAnswer {K T : Type 0} (all : Bool) (heard : List Command → Type
   pub puts : Puts holds faults wants sink sink' result reply
   pub counts : OnOk result (next.counts ≡ counts_in tally)
 
--- The session went on by a line of this meaning, for which the console stands, with this reply.
-pub record DoneLine (all : Bool) (heard : List Command → Type 0) (s : Session) (meaning : Option Line) (console : Kept) (reply : List ℕ)
-    : Type 0 where
-  pub more : is_quit meaning ≡ false
-  pub next : Session
-  pub wanted : Bool
-  pub goes_on : GoesOn all heard s next meaning wanted
-  pub stands : StandsFor next.desk console
-  pub text : next.text ≡ s.text ++ reply
-
--- the whole reply was written
-pub record WholeReply (all : Bool) (heard : List Command → Type 0) (held held' : Option (List ℕ)) (s : Session) (meaning : Option Line)
-    (console : Kept) (tally : Tally) : Type 0 where
-  pub reply : List ℕ
-  pub line : DoneLine all heard s meaning console reply
-  pub appended : Appends held held' reply
-  pub counts : line.next.counts ≡ counts_in tally
-
--- a prefix of the reply was written
-pub record ReplyPrefix (all : Bool) (heard : List Command → Type 0) (held held' : Option (List ℕ)) (s : Session) (meaning : Option Line)
-    (console : Kept) : Type 0 where
-  pub reply : List ℕ
-  pub line : DoneLine all heard s meaning console reply
-  pub front : AppendsFront held held' reply
+-- what holds of a session for whose desk the console stood, and which had counted so many
+abbrev pub FromDesk : Kept → Tally → (Session → Type 0) → Type 0
+FromDesk console tally P = (s : Session) → StandsFor s.desk console → s.counts ≡ counts_in tally → P s

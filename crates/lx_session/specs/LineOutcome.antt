@@ -1,26 +1,49 @@
--- What taking a line from a source and answering it comes to.
-use Rattle.std.specs.Prelude.{◌≡◌, ◌⊎◌, ℕ, Bool, true, false, Option, IfSome, Result, Ok, Err, List, [], ◌∷◌}
-use Rattle.std.specs.Io.KnownBytes.{Keeps, IsAtEnd}
+-- What taking a line from a source and answering it comes to, in a session of any kind.
+use Rattle.std.specs.Prelude.{◌≡◌, ◌⊎◌, ℕ, Bool, true, false, Option, IfSome, Result, Ok, Err, List, [], ◌∷◌, ◌++◌}
+use Rattle.std.specs.Io.KnownBytes.{Appends, Keeps, IsAtEnd}
 use Rattle.lx_io.specs.declared.sink.SinkFault.{SinkFault}
+use Rattle.lx_io.specs.Puts.{AppendsFront}
 use Rattle.lx_lex.specs.declared.lines.Lines.{Lines}
 use Rattle.lx_lex.specs.declared.lines.Step.TheVariants as steps
 use Rattle.lx_lex.specs.CutOff.{NotTaken}
 use Rattle.lx_lex.specs.Handed.{HandedOut}
 use Rattle.lx_lex.specs.Lines.{StepOf}
 use Rattle.lx_lex.specs.Unread.{unread, line_of}
-use Rattle.lx_spec.specs.declared.Command.{Command}
 use Rattle.lx_spec.specs.Text.{without_cr}
-use Rattle.lx_spec.specs.Script.{line_of as meant_by}
-use Rattle.lx_spec.specs.Kept.{Kept}
-use Rattle.lx_spec.specs.declared.Line.{Line}
-use Rattle.lx_spec.specs.Session.{Session, ends_script, is_quit}
-use Rattle.lx_console.specs.Standing.{StandsFor}
+use Rattle.lx_spec.specs.Session.{ends_script}
+use Rattle.lx_spec.specs.SessionOf.{SessionOf, Answer}
 use Rattle.lx_session.specs.declared.fault.SessionFault.{SessionFault}
 use Rattle.lx_session.specs.declared.fault.SessionFault.TheVariants.{ReadFault, WriteFault, InputTooLong, Memory}
 use Rattle.lx_session.specs.declared.tally.Tally.{Tally}
 use Rattle.lx_session.specs.Known.{Known}
-use Rattle.lx_session.specs.LineAnswer.{WholeReply, ReplyPrefix}
 use Rattle.lx_session.specs.LineReply.{counts_in}
+use Rattle.lx_session.specs.OneAnswer.{IsLawful, GoesOnBy}
+
+-- The session went on by a line, and what answers stands for the state after it, with this reply.
+pub record DoneLine {State : Type 0} (answer : Answer State) (MayWant : State → List ℕ → Type 0) (Stands : State → Type 0)
+    (s : SessionOf State) (line reply : List ℕ) : Type 0 where
+  pub more : ends_script line ≡ false
+  pub lawful : IsLawful answer
+  pub next : SessionOf State
+  pub wanted : Bool
+  pub goes_on : GoesOnBy answer MayWant s next line wanted
+  pub stands : Stands next.state
+  pub text : next.text ≡ s.text ++ reply
+
+-- the whole reply was written
+pub record WholeReply {State : Type 0} (answer : Answer State) (MayWant : State → List ℕ → Type 0) (Stands : State → Type 0)
+    (held held' : Known) (s : SessionOf State) (line : List ℕ) (tally : Tally) : Type 0 where
+  pub reply : List ℕ
+  pub done : DoneLine answer MayWant Stands s line reply
+  pub appended : Appends held held' reply
+  pub counts : done.next.counts ≡ counts_in tally
+
+-- a prefix of the reply was written
+pub record ReplyPrefix {State : Type 0} (answer : Answer State) (MayWant : State → List ℕ → Type 0) (Stands : State → Type 0)
+    (held held' : Known) (s : SessionOf State) (line : List ℕ) : Type 0 where
+  pub reply : List ℕ
+  pub done : DoneLine answer MayWant Stands s line reply
+  pub front : AppendsFront held held' reply
 
 -- one line was handed out, which doesn't end the script
 pub record PassedLine {S : Type 0} (left : S → Known) (faults : S → ℕ) (old new : Lines S) : Type 0 where
@@ -35,82 +58,81 @@ pub record QuitLine {S : Type 0} (left : S → Known) (faults : S → ℕ) (old 
   pub quits : ends_script (without_cr raw) ≡ true
 
 -- one line was handed out and done, and its whole reply was written
-pub record AnsweredLine {S : Type 0} (all : Bool) (heard : List Command → Type 0) (left : S → Known) (faults : S → ℕ)
-    (old new : Lines S) (held held' : Known) (s : Session) (console : Kept) (tally : Tally) : Type 0 where
+pub record AnsweredLine {S State : Type 0} (answer : Answer State) (MayWant : State → List ℕ → Type 0) (Stands : State → Type 0)
+    (left : S → Known) (faults : S → ℕ) (old new : Lines S) (held held' : Known) (s : SessionOf State) (tally : Tally) : Type 0 where
   pub raw : List ℕ
   pub handed : HandedOut left faults old new (raw ∷ [])
-  pub whole : WholeReply all heard held held' s (meant_by (without_cr raw)) console tally
+  pub whole : WholeReply answer MayWant Stands held held' s (without_cr raw) tally
 
 -- one line was handed out and done, and a prefix of its reply was written
-pub record HalfAnsweredLine {S : Type 0} (all : Bool) (heard : List Command → Type 0) (left : S → Known) (faults : S → ℕ)
-    (old new : Lines S) (held held' : Known) (s : Session) (console : Kept) : Type 0 where
+pub record HalfAnsweredLine {S State : Type 0} (answer : Answer State) (MayWant : State → List ℕ → Type 0) (Stands : State → Type 0)
+    (left : S → Known) (faults : S → ℕ) (old new : Lines S) (held held' : Known) (s : SessionOf State) : Type 0 where
   pub raw : List ℕ
   pub handed : HandedOut left faults old new (raw ∷ [])
-  pub part : ReplyPrefix all heard held held' s (meant_by (without_cr raw)) console
+  pub part : ReplyPrefix answer MayWant Stands held held' s (without_cr raw)
 
--- no command was done and nothing was written
-pub record Untouched (heard : List Command → Type 0) (held held' : Known) (s : Session) (console : Kept) : Type 0 where
+-- no line was done and nothing was written
+pub record Untouched {State : Type 0} (Stands : State → Type 0) (held held' : Known) (s : SessionOf State) : Type 0 where
   pub kept : Keeps held held'
-  pub stands : StandsFor s.desk console
-  pub listened : heard []
+  pub stands : Stands s.state
 
 -- and the counts are as they were
-pub record ScriptEnd (heard : List Command → Type 0) (held held' : Known) (s : Session) (console : Kept) (tally : Tally)
-    : Type 0 where
-  pub same : Untouched heard held held' s console
+pub record ScriptEnd {State : Type 0} (Stands : State → Type 0) (held held' : Known) (s : SessionOf State) (tally : Tally) : Type 0 where
+  pub same : Untouched Stands held held' s
   pub counts : s.counts ≡ counts_in tally
 
 -- no line more was taken, or the one that ends the script
 abbrev pub NoLineMore : {S : Type 0} → (S → Known) → (S → ℕ) → (old new : Lines S) → Type 0
 NoLineMore left faults old new = IfSome (unread left old) (λ xs. IfSome (unread left new) (λ ys. xs ≡ ys)) ⊎ QuitLine left faults old new
 
--- the sink failed: no command was done and nothing more written, or a line was done and a prefix of its reply written
-abbrev pub SinkStop : {S : Type 0} → Bool → (List Command → Type 0) → (S → Known) → (S → ℕ) → (old new : Lines S)
-    → (held held' : Known) → Session → Kept → Type 0
-SinkStop all heard left faults old new held held' s console =
-    (Untouched heard held held' s console × NoLineMore left faults old new)
-    ⊎ HalfAnsweredLine all heard left faults old new held held' s console
+-- the sink failed: no line was done and nothing more written, or a line was done and a prefix of its reply written
+abbrev pub SinkStop : {S State : Type 0} → Answer State → (State → List ℕ → Type 0) → (State → Type 0) → (S → Known) → (S → ℕ)
+    → (old new : Lines S) → (held held' : Known) → SessionOf State → Type 0
+SinkStop answer MayWant Stands left faults old new held held' s =
+    (Untouched Stands held held' s × NoLineMore left faults old new)
+    ⊎ HalfAnsweredLine answer MayWant Stands left faults old new held held' s
 
--- what holds of a session for which the console stood, and which had counted so many
-abbrev pub FromSession : Kept → Tally → (Session → Type 0) → Type 0
-FromSession console tally P = (s : Session) → StandsFor s.desk console → s.counts ≡ counts_in tally → P s
+-- what holds of a session at whose state what answers stood, and which had counted so many
+abbrev pub FromSession : {State : Type 0} → (State → Type 0) → Tally → (SessionOf State → Type 0) → Type 0
+FromSession {State} Stood tally P = (s : SessionOf State) → Stood s.state → s.counts ≡ counts_in tally → P s
 
 -- Ok(true): the whole reply was written, and more is to come. Ok(false): the line is `quit`.
-abbrev pub ReplyOutcome : Bool → (List Command → Type 0) → (held held' : Known) → (before console : Kept) → (counted tally : Tally)
-    → Option Line → Result Bool SinkFault → Type 0
-ReplyOutcome all heard held held' before console counted tally meaning (Ok true) =
-    (is_quit meaning ≡ false) × FromSession before counted (λ s. WholeReply all heard held held' s meaning console tally)
-ReplyOutcome all heard held held' before console counted tally meaning (Ok false) =
-    (is_quit meaning ≡ true) × FromSession before counted (λ s. ScriptEnd heard held held' s console tally)
-ReplyOutcome all heard held held' before console counted tally meaning (Err fault) =
-    FromSession before counted
-    (λ s. (Untouched heard held held' s console × (is_quit meaning ≡ true)) ⊎ ReplyPrefix all heard held held' s meaning console)
+abbrev pub ReplyOutcome : {State : Type 0} → Answer State → (State → List ℕ → Type 0) → (Stood Stands : State → Type 0)
+    → (held held' : Known) → (counted tally : Tally) → List ℕ → Result Bool SinkFault → Type 0
+ReplyOutcome answer MayWant Stood Stands held held' counted tally line (Ok true) =
+    (ends_script line ≡ false) × FromSession Stood counted (λ s. WholeReply answer MayWant Stands held held' s line tally)
+ReplyOutcome answer MayWant Stood Stands held held' counted tally line (Ok false) =
+    (ends_script line ≡ true) × FromSession Stood counted (λ s. ScriptEnd Stands held held' s tally)
+ReplyOutcome answer MayWant Stood Stands held held' counted tally line (Err fault) =
+    FromSession Stood counted
+    (λ s. (Untouched Stands held held' s × (ends_script line ≡ true)) ⊎ ReplyPrefix answer MayWant Stands held held' s line)
 
 -- the script couldn't be read on
-pub record UnreadLine {S : Type 0} (heard : List Command → Type 0) (left : S → Known) (old new : Lines S)
-    (held held' : Known) (before console : Kept) (counted : Tally) : Type 0 where
+pub record UnreadLine {S State : Type 0} (Stood Stands : State → Type 0) (left : S → Known) (old new : Lines S) (held held' : Known)
+    (counted : Tally) : Type 0 where
   pub cut : NotTaken left old new
-  pub same : FromSession before counted (λ s. Untouched heard held held' s console)
+  pub same : FromSession Stood counted (Untouched Stands held held')
 
-abbrev pub FaultOutcome : {S : Type 0} → Bool → (List Command → Type 0) → (S → Known) → (S → ℕ) → (old new : Lines S)
-    → (held held' : Known) → (before console : Kept) → Tally → SessionFault → Type 0
-FaultOutcome all heard left faults old new held held' before console counted ReadFault =
-    UnreadLine heard left old new held held' before console counted
-FaultOutcome all heard left faults old new held held' before console counted InputTooLong =
-    UnreadLine heard left old new held held' before console counted
+abbrev pub FaultOutcome : {S State : Type 0} → Answer State → (State → List ℕ → Type 0) → (Stood Stands : State → Type 0) → (S → Known)
+    → (S → ℕ) → (old new : Lines S) → (held held' : Known) → Tally → SessionFault → Type 0
+FaultOutcome answer MayWant Stood Stands left faults old new held held' counted ReadFault =
+    UnreadLine Stood Stands left old new held held' counted
+FaultOutcome answer MayWant Stood Stands left faults old new held held' counted InputTooLong =
+    UnreadLine Stood Stands left old new held held' counted
     × StepOf steps.InputTooLong (unread left old) (unread left new) old.taken new.taken (line_of new)
-FaultOutcome all heard left faults old new held held' before console counted WriteFault =
-    FromSession before counted (λ s. SinkStop all heard left faults old new held held' s console)
-FaultOutcome all heard left faults old new held held' before console counted Memory =
-    FromSession before counted (λ s. SinkStop all heard left faults old new held held' s console)
+FaultOutcome answer MayWant Stood Stands left faults old new held held' counted WriteFault =
+    FromSession Stood counted (SinkStop answer MayWant Stands left faults old new held held')
+FaultOutcome answer MayWant Stood Stands left faults old new held held' counted Memory =
+    FromSession Stood counted (SinkStop answer MayWant Stands left faults old new held held')
 
 -- Ok(true): a line was answered, and the session goes on. Ok(false): the script has ended.
-abbrev pub LineOutcome : {S : Type 0} → Bool → (List Command → Type 0) → (S → Known) → (S → ℕ) → (old new : Lines S)
-    → (held held' : Known) → (before console : Kept) → (counted tally : Tally) → Result Bool SessionFault → Type 0
-LineOutcome all heard left faults old new held held' before console counted tally (Ok true) =
-    PassedLine left faults old new × FromSession before counted (λ s. AnsweredLine all heard left faults old new held held' s console tally)
-LineOutcome all heard left faults old new held held' before console counted tally (Ok false) =
+abbrev pub LineOutcome : {S State : Type 0} → Answer State → (State → List ℕ → Type 0) → (Stood Stands : State → Type 0) → (S → Known)
+    → (S → ℕ) → (old new : Lines S) → (held held' : Known) → (counted tally : Tally) → Result Bool SessionFault → Type 0
+LineOutcome answer MayWant Stood Stands left faults old new held held' counted tally (Ok true) =
+    PassedLine left faults old new
+    × FromSession Stood counted (λ s. AnsweredLine answer MayWant Stands left faults old new held held' s tally)
+LineOutcome answer MayWant Stood Stands left faults old new held held' counted tally (Ok false) =
     (IsAtEnd (unread left old) ⊎ QuitLine left faults old new)
-    × FromSession before counted (λ s. ScriptEnd heard held held' s console tally)
-LineOutcome all heard left faults old new held held' before console counted tally (Err fault) =
-    FaultOutcome all heard left faults old new held held' before console counted fault
+    × FromSession Stood counted (λ s. ScriptEnd Stands held held' s tally)
+LineOutcome answer MayWant Stood Stands left faults old new held held' counted tally (Err fault) =
+    FaultOutcome answer MayWant Stood Stands left faults old new held held' counted fault

@@ -3,6 +3,7 @@ use Rattle.std.specs.Prelude.{◌≡◌, ℕ, ◌≤◌, ◌<◌, Bool, true, Op
 use Rattle.lx_base.specs.declared.TheConstants.{LINE_BYTES}
 use Rattle.lx_io.specs.declared.sink.SinkFault.{SinkFault}
 use Rattle.lx_io.specs.Puts.{Puts}
+use Rattle.lx_spec.specs.Session.{ends_script}
 use Rattle.lx_spec.specs.SessionOf.{SessionOf, Answer}
 use Rattle.lx_session.specs.declared.tally.Tally.{Tally}
 use Rattle.lx_session.specs.Attempts.{WantsLast}
@@ -18,6 +19,11 @@ pub record ExtendsSession {S : Type 0} (s next : SessionOf S) : Type 0 where
   pub attempts : s.attempts ≤ next.attempts
   pub more : List ℕ
   pub text : next.text ≡ s.text ++ more
+
+-- What holds of the answers to all lines: each only adds to a session, and to the line that ends the script it leaves it as it was.
+pub record IsLawful {State : Type 0} (answer : Answer State) : Type 0 where
+  pub extends : (places : List ℕ) (s : SessionOf State) (line : List ℕ) → ExtendsSession s (answer places s line)
+  pub ends : (places : List ℕ) (s : SessionOf State) (line : List ℕ) → ends_script line ≡ true → answer places s line ≡ s
 
 -- The session goes on so by a line, whatever want of memory refuses before it and after it. It refuses an attempt only where it may.
 pub record GoesOnBy {S : Type 0} (answer : Answer S) (MayWant : S → List ℕ → Type 0) (s next : SessionOf S) (line : List ℕ) (wants : Bool)

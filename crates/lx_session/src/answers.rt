@@ -1,11 +1,11 @@
 //! What answers the lines of a script.
 
-ghost use Rattle.std.specs.Prelude.{◌≡◌, List, ℕ, IfOk, not, true, option_copied};
+ghost use Rattle.std.specs.Prelude.{◌≡◌, List, ℕ, IfOk, not, option_copied};
 ghost use Rattle.lx_io.specs.Puts.{HasSinkCause};
 ghost use Rattle.lx_spec.specs.Session.{ends_script};
 ghost use Rattle.lx_spec.specs.SessionOf.{SessionOf, Answer};
 ghost use Rattle.lx_session.specs.LineReply.{HasRoom, HasOneMore, counts_in};
-ghost use Rattle.lx_session.specs.OneAnswer.{IsLine, ExtendsSession, OneAnswer};
+ghost use Rattle.lx_session.specs.OneAnswer.{IsLine, IsLawful, OneAnswer};
 
 use crate::tally::Tally;
 use lx_io::{Sink, SinkFault};
@@ -13,9 +13,7 @@ use lx_io::{Sink, SinkFault};
 /// What answers the lines of a script, one after another: a desk of any kind.
 ///
 /// It has four meanings for contracts: the states that it stands at (`State`, `stands`), the session after a line
-/// (`answer_of`), and at which lines want of memory may refuse an attempt (`may_want`). Two laws hold of them: a line
-/// only adds to a session's attempts and text (`extends`), and one that ends the script leaves a session as it was
-/// (`ends`).
+/// (`answer_of`), and at which lines want of memory may refuse an attempt (`may_want`).
 pub trait Answers {
     /// What it stands at.
     ghost State: { Type 0 };
@@ -47,9 +45,6 @@ pub trait Answers {
             tally.new }
         ensures quit { IfOk result (λ more. (text : List ℕ) → IsLine (option_copied line.entry) text → more ≡ not (ends_script text)) }
         ensures cause { HasSinkCause K.faults K.wants sink.old sink.new result }
-        ensures more { HasOneMore tally.old tally.new };
-
-    ghost extends: { (places : List ℕ) (s : SessionOf State) (line : List ℕ) → ExtendsSession s (answer_of places s line) };
-
-    ghost ends: { (places : List ℕ) (s : SessionOf State) (line : List ℕ) → ends_script line ≡ true → answer_of places s line ≡ s };
+        ensures more { HasOneMore tally.old tally.new }
+        ensures lawful { IsLawful answer_of };
 }

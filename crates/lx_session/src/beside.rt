@@ -1,14 +1,17 @@
 //! What answers the lines of a script beside something that is lent to it.
 
-ghost use Rattle.std.specs.Prelude.{◌≡◌, List, ℕ, IfOk, not, true, option_copied};
+ghost use Rattle.std.specs.Prelude.{◌≡◌, List, ℕ, IfOk, not, option_copied};
 ghost use Rattle.lx_io.specs.Puts.{HasSinkCause};
 ghost use Rattle.lx_spec.specs.Session.{ends_script};
 ghost use Rattle.lx_spec.specs.SessionOf.{SessionOf, Answer};
 ghost use Rattle.lx_session.specs.LineReply.{HasRoom, HasOneMore, counts_in};
-ghost use Rattle.lx_session.specs.OneAnswer.{IsLine, ExtendsSession, OneAnswer};
+ghost use Rattle.lx_session.specs.OneAnswer.{IsLine, IsLawful, OneAnswer};
 
 use crate::answers::Answers;
+use crate::line::answer;
+use crate::listener::Listener;
 use crate::tally::Tally;
+use lx_console::Console;
 use lx_io::{Sink, SinkFault};
 
 /// What answers the lines of a script beside something that is lent to it, `D`: a listener beside its console, or a desk
@@ -46,11 +49,8 @@ pub(crate) trait AnswersBeside<D> {
             tally.new }
         ensures quit { IfOk result (λ more. (text : List ℕ) → IsLine (option_copied line.entry) text → more ≡ not (ends_script text)) }
         ensures cause { HasSinkCause K.faults K.wants sink.old sink.new result }
-        ensures more { HasOneMore tally.old tally.new };
-
-    ghost extends: { (places : List ℕ) (s : SessionOf State) (line : List ℕ) → ExtendsSession s (answer_of places s line) };
-
-    ghost ends: { (places : List ℕ) (s : SessionOf State) (line : List ℕ) → ends_script line ≡ true → answer_of places s line ≡ s };
+        ensures more { HasOneMore tally.old tally.new }
+        ensures lawful { IsLawful answer_of };
 }
 
 impl<A: Answers> AnswersBeside<()> for A {
@@ -64,10 +64,6 @@ impl<A: Answers> AnswersBeside<()> for A {
 
     ghost may_want = { A.may_want };
 
-    ghost extends = { A.extends };
-
-    ghost ends = { A.ends };
-
     fn answer_beside<K: Sink>(
         &mut self,
         _lent: &mut (),
@@ -76,5 +72,29 @@ impl<A: Answers> AnswersBeside<()> for A {
         tally: &mut Tally,
     ) -> Result<bool, SinkFault> {
         self.answer(line, sink, tally)
+    }
+}
+
+impl<L: Listener> AnswersBeside<Console> for L {
+    ghost use Rattle.lx_session.specs.HeardDesk.{HeardDesk, heard_answer, HeardMayWant, HasHeard};
+
+    ghost keeps = { L.keeps };
+
+    ghost State = { HeardDesk L };
+
+    ghost stands = { λ state listener console. HasHeard L.heard listener console state };
+
+    ghost answer_of = { heard_answer };
+
+    ghost may_want = { HeardMayWant L.admits_all };
+
+    fn answer_beside<K: Sink>(
+        &mut self,
+        lent: &mut Console,
+        line: Option<&[u8]>,
+        sink: &mut K,
+        tally: &mut Tally,
+    ) -> Result<bool, SinkFault> {
+        answer(self, lent, line, sink, tally)
     }
 }

@@ -16,6 +16,6 @@ mod turn;
 pub use answers::Answers;
 pub use fault::SessionFault;
 pub use listener::{Listener, NoListener};
-pub use script::{session, session_with};
+pub use script::{answer_lines, session, session_with};
 pub use tally::Tally;
 pub use turn::Turn;

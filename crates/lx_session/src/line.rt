@@ -10,8 +10,7 @@ ghost use Rattle.lx_session.specs.Attempts.{ListenedAttempt, heard_of};
 ghost use Rattle.lx_session.specs.LineState.{meaning_of, next_of};
 ghost use Rattle.lx_session.specs.LineProgress.{HasPassed, LineProgress};
 ghost use Rattle.lx_session.specs.LineReply.{HasRoom, HasOneMore};
-ghost use Rattle.lx_session.specs.LineAnswer.{LineAnswer};
-ghost use Rattle.lx_session.specs.LineOutcome.{FromSession};
+ghost use Rattle.lx_session.specs.LineAnswer.{LineAnswer, FromDesk};
 
 use crate::listener::Listener;
 use crate::tally::Tally;
@@ -35,7 +34,7 @@ pub(crate) fn answer<L: Listener, K: Sink>(
     requires room { HasRoom tally.old }
     requires keeps { L.keeps listener.old console.old }
     ensures keeps { L.keeps listener.new console.new }
-    ensures answered { FromSession console.old tally.old
+    ensures answered { FromDesk console.old tally.old
         (λ s. LineAnswer L.admits_all (L.heard listener.old listener.new) K.holds K.faults K.wants sink.old sink.new result s
         (meaning_of (option_copied line.entry)) console.new tally.new) }
     ensures quit { IfOk result (λ more. more ≡ not (is_quit (meaning_of (option_copied line.entry)))) }

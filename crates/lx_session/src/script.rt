@@ -5,8 +5,11 @@ ghost use Rattle.lx_base.specs.declared.TheConstants.{INPUT_BYTES};
 ghost use Rattle.lx_lex.specs.Unread.{CanAdvance, SameSource, bytes_taken, source_left, unread};
 ghost use Rattle.lx_spec.specs.Desk.{Desk};
 ghost use Rattle.lx_console.specs.Standing.{StandsFor};
+ghost use Rattle.lx_session.specs.ScriptAnswered.{ScriptAnswered};
 ghost use Rattle.lx_session.specs.SessionOutcome.{SessionOutcome, HasSessionCause, KeepsLimit};
 
+use crate::answers::Answers;
+use crate::beside::AnswersBeside;
 use crate::fault::SessionFault;
 use crate::listener::{Listener, NoListener};
 use crate::take::take_line;
@@ -60,7 +63,54 @@ pub fn session_with<L: Listener, S: Source, K: Sink>(
     ensures limit { IfSome (unread S.left lines.old) (λ bytes. KeepsLimit (bytes_taken lines.old) bytes result) }
     ensures cause { HasSessionCause S.faults K.faults K.wants lines.old lines.new sink.old sink.new result }
 {
+    answer_each(listener, console, lines, sink)
+}
+
+/// Answers the script lines that are left, up to `quit` or the end. Each line is done and its replies appended
+/// before the next is awaited.
+///
+/// `ReadFault` comes only where the source failed, `InputTooLong` exactly where a wanted line has a byte
+/// past the limit of the input; the lines before it are then wholly answered. `WriteFault` and `Memory`
+/// come only where the sink answered them; what was written is then a prefix of the whole text. However it
+/// ends, what answers stands for the state after the lines that were done.
+pub fn answer_lines<A: Answers, S: Source, K: Sink>(
+    answerer: &mut A,
+    lines: &mut Lines<S>,
+    sink: &mut K,
+) -> Result<Tally, SessionFault>
+    requires going { CanAdvance lines.old }
+    requires within { bytes_taken lines.old ≤ INPUT_BYTES }
+    ensures same_source { SameSource lines.old lines.new }
+    ensures outcome { (state : A.State) → A.stands state answerer.old
+        → IfSome (unread S.left lines.old)
+        (λ bytes. ScriptAnswered A.answer_of A.may_want (λ s. A.stands s answerer.new) state (bytes_taken lines.old) bytes
+        (unread S.left lines.new) (source_left S.left lines.new) (K.holds sink.old) (K.holds sink.new) result) }
+    ensures limit { IfSome (unread S.left lines.old) (λ bytes. KeepsLimit (bytes_taken lines.old) bytes result) }
+    ensures cause { HasSessionCause S.faults K.faults K.wants lines.old lines.new sink.old sink.new result }
+{
+    answer_each(answerer, &mut (), lines, sink)
+}
+
+/// As `answer_lines`, beside what is lent.
+fn answer_each<D, A: AnswersBeside<D>, S: Source, K: Sink>(
+    answerer: &mut A,
+    lent: &mut D,
+    lines: &mut Lines<S>,
+    sink: &mut K,
+) -> Result<Tally, SessionFault>
+    requires going { CanAdvance lines.old }
+    requires within { bytes_taken lines.old ≤ INPUT_BYTES }
+    requires keeps { A.keeps answerer.old lent.old }
+    ensures same_source { SameSource lines.old lines.new }
+    ensures keeps { A.keeps answerer.new lent.new }
+    ensures outcome { (state : A.State) → A.stands state answerer.old lent.old
+        → IfSome (unread S.left lines.old)
+        (λ bytes. ScriptAnswered A.answer_of A.may_want (λ s. A.stands s answerer.new lent.new) state (bytes_taken lines.old) bytes
+        (unread S.left lines.new) (source_left S.left lines.new) (K.holds sink.old) (K.holds sink.new) result) }
+    ensures limit { IfSome (unread S.left lines.old) (λ bytes. KeepsLimit (bytes_taken lines.old) bytes result) }
+    ensures cause { HasSessionCause S.faults K.faults K.wants lines.old lines.new sink.old sink.new result }
+{
     let mut tally = Tally::new();
-    'script: while take_line(listener, console, lines, sink, &mut tally)? {}
+    'script: while take_line(answerer, lent, lines, sink, &mut tally)? {}
     Ok(tally)
 }

@@ -1,46 +1,44 @@
 //! One line of a session: it is taken from the source and answered.
 
-ghost use Rattle.std.specs.Prelude.{◌≡◌, ◌⊎◌, true, false, Some, None, IfOk, OnErr, not, option_copied};
+ghost use Rattle.std.specs.Prelude.{◌≡◌, ◌⊎◌, List, ℕ, true, false, Some, None, IfOk, OnErr, not, option_copied};
 ghost use Rattle.std.specs.Io.KnownBytes.{Keeps};
 ghost use Rattle.lx_io.specs.Puts.{HasSinkCause};
 ghost use Rattle.lx_lex.specs.Unread.{CanAdvance, SameSource, lines_handed};
-ghost use Rattle.lx_spec.specs.Session.{is_quit};
-ghost use Rattle.lx_session.specs.LineState.{meaning_of};
 ghost use Rattle.lx_session.specs.LineReply.{HasRoom, HasOneMore, IsUpTo};
 ghost use Rattle.lx_session.specs.LineOutcome.{LineOutcome, ReplyOutcome};
+ghost use Rattle.lx_session.specs.OneAnswer.{IsLine};
 ghost use Rattle.lx_session.specs.SessionOutcome.{HasSessionCause};
 
+use crate::beside::AnswersBeside;
 use crate::fault::SessionFault;
-use crate::line::answer;
-use crate::listener::Listener;
 use crate::tally::Tally;
-use lx_console::Console;
 use lx_io::{Sink, SinkFault, Source};
 use lx_lex::{Lines, Step};
 
 /// Takes the next line and answers it. Before a read that may wait, what was written is flushed. It answers
 /// false where the script has ended.
-pub(crate) fn take_line<L: Listener, S: Source, K: Sink>(
-    listener: &mut L,
-    console: &mut Console,
+pub(crate) fn take_line<D, A: AnswersBeside<D>, S: Source, K: Sink>(
+    answerer: &mut A,
+    lent: &mut D,
     lines: &mut Lines<S>,
     sink: &mut K,
     tally: &mut Tally,
 ) -> Result<bool, SessionFault>
     requires going { CanAdvance lines.old }
     requires few { IsUpTo (lines_handed lines.old) tally.old }
-    requires keeps { L.keeps listener.old console.old }
+    requires keeps { A.keeps answerer.old lent.old }
     ensures same_source { SameSource lines.old lines.new }
-    ensures keeps { L.keeps listener.new console.new }
-    ensures outcome { LineOutcome L.admits_all (L.heard listener.old listener.new) S.left S.faults lines.old lines.new (K.holds sink.old)
-        (K.holds sink.new) console.old console.new tally.old tally.new result }
+    ensures keeps { A.keeps answerer.new lent.new }
+    ensures outcome { LineOutcome A.answer_of A.may_want (λ state. A.stands state answerer.old lent.old)
+        (λ state. A.stands state answerer.new lent.new) S.left S.faults lines.old lines.new (K.holds sink.old) (K.holds sink.new) tally.old
+        tally.new result }
     ensures cause { HasSessionCause S.faults K.faults K.wants lines.old lines.new sink.old sink.new result }
     ensures more { HasOneMore tally.old tally.new }
 {
     flush_before_wait(lines, sink)?;
     match lines.advance() {
-        Step::Line => Ok(give_reply(listener, console, Some(lines.line()), sink, tally)?),
-        Step::LongLine => Ok(give_reply(listener, console, None, sink, tally)?),
+        Step::Line => Ok(give_reply(answerer, lent, Some(lines.line()), sink, tally)?),
+        Step::LongLine => Ok(give_reply(answerer, lent, None, sink, tally)?),
         Step::End => {
             sink.flush()?;
             Ok(false)
@@ -63,22 +61,23 @@ fn flush_before_wait<S: Source, K: Sink>(lines: &Lines<S>, sink: &mut K) -> Resu
 }
 
 /// Answers a line, and flushes the sink where it ends the script.
-fn give_reply<L: Listener, K: Sink>(
-    listener: &mut L,
-    console: &mut Console,
+fn give_reply<D, A: AnswersBeside<D>, K: Sink>(
+    answerer: &mut A,
+    lent: &mut D,
     line: Option<&[u8]>,
     sink: &mut K,
     tally: &mut Tally,
 ) -> Result<bool, SinkFault>
     requires room { HasRoom tally.old }
-    requires keeps { L.keeps listener.old console.old }
-    ensures keeps { L.keeps listener.new console.new }
-    ensures outcome { ReplyOutcome L.admits_all (L.heard listener.old listener.new) (K.holds sink.old)
-        (K.holds sink.new) console.old console.new tally.old tally.new (meaning_of (option_copied line.entry)) result }
+    requires keeps { A.keeps answerer.old lent.old }
+    ensures keeps { A.keeps answerer.new lent.new }
+    ensures outcome { (text : List ℕ) → IsLine (option_copied line.entry) text
+        → ReplyOutcome A.answer_of A.may_want (λ state. A.stands state answerer.old lent.old) (λ state. A.stands state answerer.new lent.new)
+        (K.holds sink.old) (K.holds sink.new) tally.old tally.new text result }
     ensures cause { HasSinkCause K.faults K.wants sink.old sink.new result }
     ensures more { HasOneMore tally.old tally.new }
 {
-    if answer(listener, console, line, sink, tally)? {
+    if answerer.answer_beside(lent, line, sink, tally)? {
         return Ok(true);
     }
     sink.flush()?;

@@ -1,99 +1,16 @@
-use Rattle.std.proofs.Common.{◌≡◌, ◌≤◌, ℕ, Ok, IfSome, ap, refl, subst, arith}
+use Rattle.std.proofs.Common.{refl}
 use Rattle.lx_lex.specs.Unread.{unread}
-use Rattle.lx_session.specs.LineOutcome.{LineOutcome}
-use Rattle.lx_session.specs.SessionOutcome.{SessionOutcome, KeepsLimit}
-use Rattle.lx_session.proofs.SoFar.{so_far_none, so_far_more, passed_none, passed_more, fits}
-use Rattle.lx_session.proofs.Ends.{so_far_ends, so_far_fails, fails_by_limit, through}
+use Rattle.lx_session.specs.HeardDesk.{unheard}
+use Rattle.lx_session.proofs.SoFar.{over}
+use Rattle.lx_session.proofs.Ends.{answered_plain}
 use Rattle.lx_session.proofs.script.session_with.Goals as goal
-
-pub script-init : goal.script-init
-script-init g c = record {
-  keeps = c.requires.keeps;
-  passed = passed_none _ _ _ c.requires.going;
-  so_far = λ d stands. so_far_none _ _ _ _ _ d _ _ _ c.requires.going (g.met.L.Listener.nothing c.args.listener.now) stands
-      c.new-tally.ensures;
-  few = record {
-    ok = let e = ap (λ t. t.ok) c.new-tally.ensures in omega (arith, e);
-    refused = let e = ap (λ t. t.refused) c.new-tally.ensures in omega (arith, e);
-    bad = let e = ap (λ t. t.bad) c.new-tally.ensures in omega (arith, e);
-  };
-  sink_later = omega arith;
-  wants_later = omega arith;
-}
-
-pub script-preserved : goal.script-preserved
-script-preserved g c =
-    let i = c.script.invariant in
-    let e = c.take_line.ensures in
-    let o = subst (λ b. LineOutcome g.L.Listener.admits_all (g.L.Listener.heard c.script.listener c.take_line.new.listener) g.S.Source.left
-    g.S.Source.faults c.script.lines c.take_line.new.lines (g.K.Sink.holds c.script.sink) (g.K.Sink.holds c.take_line.new.sink)
-    c.script.console c.take_line.new.console c.script.tally c.take_line.new.tally (Ok b)) c.if-branch.true
-    c.in_ok-take_line.ensures.outcome in
-    let number = o.0.handed.number in
-    record {
-      keeps = e.keeps;
-      passed = passed_more g.S.Source.left g.S.Source.faults c.args.lines.now c.script.lines c.take_line.new.lines i.passed o.0;
-      so_far = λ d stands.
-          let s = i.so_far d stands in
-          so_far_more g.L.Listener.admits_all (g.L.Listener.heard c.args.listener.now c.script.listener)
-          (g.L.Listener.heard c.script.listener c.take_line.new.listener)
-          (g.L.Listener.heard c.args.listener.now c.take_line.new.listener) g.S.Source.left g.S.Source.faults c.args.lines.now
-          c.script.lines c.take_line.new.lines d c.script.console c.take_line.new.console c.script.tally c.take_line.new.tally
-          (g.K.Sink.holds c.args.sink.now) (g.K.Sink.holds c.script.sink) (g.K.Sink.holds c.take_line.new.sink)
-          (λ before after one two. g.met.L.Listener.both c.args.listener.now c.script.listener c.take_line.new.listener before after one
-          two) s (o.1 s.now s.stands s.counts);
-      few = record {
-        ok = omega (arith, number, i.few.ok, e.more.ok);
-        refused = omega (arith, number, i.few.refused, e.more.refused);
-        bad = omega (arith, number, i.few.bad, e.more.bad);
-      };
-      sink_later = omega (arith, e.cause.sink_later, i.sink_later);
-      wants_later = omega (arith, e.cause.wants_later, i.wants_later);
-    }
-
-pub returns-in_err-take_line-clause-outcome : goal.returns-in_err-take_line-clause-outcome
-returns-in_err-take_line-clause-outcome g c = λ d stands.
-    through (λ r. IfSome (unread g.S.Source.left c.args.lines.now)
-    (λ bytes. SessionOutcome g.L.Listener.admits_all (g.L.Listener.heard c.args.listener.now c.take_line.new.listener) d
-    c.args.lines.now.taken bytes (unread g.S.Source.left c.take_line.new.lines) (g.S.Source.left c.take_line.new.lines.source.now)
-    (g.K.Sink.holds c.args.sink.now) (g.K.Sink.holds c.take_line.new.sink) c.take_line.new.console r)) c.from_residual.result
-    c.in_err-take_line.field-0.0 c.from_residual.ensures
-    (so_far_fails g.L.Listener.admits_all (g.L.Listener.heard c.args.listener.now c.script.listener)
-    (g.L.Listener.heard c.script.listener c.take_line.new.listener) (g.L.Listener.heard c.args.listener.now c.take_line.new.listener)
-    g.S.Source.left g.S.Source.faults c.args.lines.now c.script.lines c.take_line.new.lines d c.script.console c.take_line.new.console
-    c.script.tally c.take_line.new.tally (g.K.Sink.holds c.args.sink.now) (g.K.Sink.holds c.script.sink)
-    (g.K.Sink.holds c.take_line.new.sink) c.in_err-take_line.field-0.0
-    (λ before after one two. g.met.L.Listener.both c.args.listener.now c.script.listener c.take_line.new.listener before after one two)
-    (c.script.invariant.so_far d stands) c.in_err-take_line.ensures.outcome)
-
-pub returns-in_err-take_line-clause-limit : goal.returns-in_err-take_line-clause-limit
-returns-in_err-take_line-clause-limit g c =
-    through (λ r. IfSome (unread g.S.Source.left c.args.lines.now) (λ bytes. KeepsLimit c.args.lines.now.taken bytes r))
-    c.from_residual.result c.in_err-take_line.field-0.0 c.from_residual.ensures
-    (fails_by_limit g.L.Listener.admits_all (g.L.Listener.heard c.script.listener c.take_line.new.listener) g.S.Source.left
-    g.S.Source.faults c.args.lines.now c.script.lines c.take_line.new.lines c.script.console c.take_line.new.console c.script.tally
-    c.take_line.new.tally (g.K.Sink.holds c.script.sink) (g.K.Sink.holds c.take_line.new.sink) c.in_err-take_line.field-0.0
-    c.script.invariant.passed c.in_err-take_line.ensures.outcome)
 
 pub returns-clause-outcome : goal.returns-clause-outcome
 returns-clause-outcome g c = λ d stands.
-    let o = subst (λ b. LineOutcome g.L.Listener.admits_all (g.L.Listener.heard c.script.listener c.take_line.new.listener) g.S.Source.left
-    g.S.Source.faults c.script.lines c.take_line.new.lines (g.K.Sink.holds c.script.sink) (g.K.Sink.holds c.take_line.new.sink)
-    c.script.console c.take_line.new.console c.script.tally c.take_line.new.tally (Ok b)) c.if-branch.false
-    c.in_ok-take_line.ensures.outcome in
-    let s = c.script.invariant.so_far d stands in
-    so_far_ends g.L.Listener.admits_all (g.L.Listener.heard c.args.listener.now c.script.listener)
-    (g.L.Listener.heard c.script.listener c.take_line.new.listener) (g.L.Listener.heard c.args.listener.now c.take_line.new.listener)
-    g.S.Source.left g.S.Source.faults c.args.lines.now c.script.lines c.take_line.new.lines d c.script.console c.take_line.new.console
-    c.script.tally c.take_line.new.tally (g.K.Sink.holds c.args.sink.now) (g.K.Sink.holds c.script.sink)
-    (g.K.Sink.holds c.take_line.new.sink)
-    (λ before after one two. g.met.L.Listener.both c.args.listener.now c.script.listener c.take_line.new.listener before after one two) s
-    (o.1 s.now s.stands s.counts) o.0
-
-pub returns-clause-limit : goal.returns-clause-limit
-returns-clause-limit g c =
-    let o = subst (λ b. LineOutcome g.L.Listener.admits_all (g.L.Listener.heard c.script.listener c.take_line.new.listener) g.S.Source.left
-    g.S.Source.faults c.script.lines c.take_line.new.lines (g.K.Sink.holds c.script.sink) (g.K.Sink.holds c.take_line.new.sink)
-    c.script.console c.take_line.new.console c.script.tally c.take_line.new.tally (Ok b)) c.if-branch.false
-    c.in_ok-take_line.ensures.outcome in
-    fits g.S.Source.left g.S.Source.faults c.args.lines.now c.script.lines c.take_line.new.lines c.script.invariant.passed o.0
+    let first = c.args.listener.now in
+    over (unread g.S.Source.left c.args.lines.now) _ _
+    (c.answer_each.ensures.outcome (unheard first d)
+    (record { stands = stands; desk = refl; listened = g.met.L.Listener.nothing first }))
+    (λ bytes answered. answered_plain g.L.Listener.admits_all g.L.Listener.heard first c.answer_each.new.answerer d c.args.lines.now.taken
+    bytes (unread g.S.Source.left c.answer_each.new.lines) (g.S.Source.left c.answer_each.new.lines.source.now)
+    (g.K.Sink.holds c.args.sink.now) (g.K.Sink.holds c.answer_each.new.sink) c.answer_each.new.lent c.answer_each.result answered)

@@ -1,18 +1,16 @@
 use Rattle.std.proofs.Common.{◌≤◌, ◌-◌}
 use Rattle.lx_base.specs.declared.TheConstants.{INPUT_BYTES}
-use Rattle.lx_spec.specs.Desk.{Desk}
-use Rattle.lx_console.specs.Standing.{StandsFor}
 use Rattle.lx_session.specs.LineReply.{IsUpTo}
 use Rattle.lx_session.proofs.SoFar.{SoFar, Passed}
-use Rattle.lx_session.proofs.script.session_with.Given as goal
+use Rattle.lx_session.proofs.script.answer_each.Given as goal
 
 abbrev pub invariant-script : goal.invariant-script
 invariant-script g l = record {
-  keeps : g.L.Listener.keeps l.listener l.console;
+  keeps : g.A.AnswersBeside.keeps l.answerer l.lent;
   passed : Passed g.S.Source.left g.S.Source.faults l.fn.lines l.lines;
-  so_far : (d : Desk) → StandsFor d l.fn.console
-      → SoFar g.L.Listener.admits_all (g.L.Listener.heard l.fn.listener l.listener) g.S.Source.left g.S.Source.faults l.fn.lines l.lines d
-      l.console l.tally (g.K.Sink.holds l.fn.sink) (g.K.Sink.holds l.sink);
+  so_far : (state : g.A.AnswersBeside.State) → g.A.AnswersBeside.stands state l.fn.answerer l.fn.lent
+      → SoFar g.A.AnswersBeside.answer_of g.A.AnswersBeside.may_want (λ s. g.A.AnswersBeside.stands s l.answerer l.lent) g.S.Source.left
+      g.S.Source.faults l.fn.lines l.lines state l.tally (g.K.Sink.holds l.fn.sink) (g.K.Sink.holds l.sink);
   few : IsUpTo l.lines.number l.tally;
   sink_later : g.K.Sink.faults l.fn.sink ≤ g.K.Sink.faults l.sink;
   wants_later : g.K.Sink.wants l.fn.sink ≤ g.K.Sink.wants l.sink;

@@ -1,0 +1,91 @@
+-- A line on a console beside a listener is a line of its session.
+use Rattle.std.proofs.Common.{◌≡◌, ◌<◌, Bool, true, cond, Option, Some, None, Result, List, ◌++◌, length, ℕ, ◌∙◌, ap, sym, refl, subst, arith}
+use Rattle.std.specs.Prelude.{nat_lt}
+use Rattle.std.proofs.lemmas.Bool.Decides.{nat_tests}
+use Rattle.std.proofs.lemmas.List.Sums.{fold-append}
+use Rattle.lx_base.specs.declared.TheConstants.{LINE_BYTES}
+use Rattle.lx_io.specs.declared.sink.SinkFault.{SinkFault}
+use Rattle.lx_spec.specs.declared.Command.{Command}
+use Rattle.lx_spec.specs.declared.Line.{Line}
+use Rattle.lx_spec.specs.declared.Line.TheVariants as lines
+use Rattle.lx_spec.specs.Kept.{Kept}
+use Rattle.lx_spec.specs.Desk.{Desk, after_command}
+use Rattle.lx_spec.specs.Text.{tokens}
+use Rattle.lx_spec.specs.Script.{line_of, meaning}
+use Rattle.lx_spec.specs.Session.{Session, is_quit, after_meaning}
+use Rattle.lx_spec.specs.SessionOf.{SessionOf}
+use Rattle.lx_session.specs.declared.tally.Tally.{Tally}
+use Rattle.lx_session.specs.Attempts.{after_commands}
+use Rattle.lx_session.specs.Known.{Known}
+use Rattle.lx_session.specs.LineState.{meaning_of}
+use Rattle.lx_session.specs.OneAnswer.{IsLine, IsLawful, OneAnswer}
+use Rattle.lx_session.specs.LineAnswer.{GoesOn, LineAnswer}
+use Rattle.lx_session.specs.HeardDesk.{HeardDesk, HasHeard, HeardMayWant, heard_answer, plain, with_plain}
+use Rattle.lx_session.proofs.Places.{extends_line}
+
+-- a line that is too long has no meaning
+too_long : (line : List ℕ) → LINE_BYTES < length line → None ≡ line_of line
+too_long line long =
+    let e : nat_lt LINE_BYTES (length line) ≡ true = grind (arith, nat_tests) in
+    sym (ap (λ b. cond b None (meaning line (tokens line))) e)
+
+pub meaning_is : (given : Option (List ℕ)) (text : List ℕ) → IsLine given text → meaning_of given ≡ line_of text
+meaning_is (Some line) text is = ap line_of is
+meaning_is None text long = too_long text long
+
+-- quit attempts nothing
+quit_is : (meaning : Option Line) → is_quit meaning ≡ true → meaning ≡ Some lines.Quit
+quit_is None q = cc
+quit_is (Some (lines.Command c)) q = cc
+quit_is (Some (lines.Ticks k)) q = cc
+quit_is (Some (lines.Frame u)) q = cc
+quit_is (Some lines.Save) q = cc
+quit_is (Some (lines.SheetOf n)) q = cc
+quit_is (Some lines.Quit) q = refl
+quit_is (Some lines.Blank) q = cc
+
+pub quit_same : (places : List ℕ) (s : Session) (meaning : Option Line) → is_quit meaning ≡ true → after_meaning places s meaning ≡ s
+quit_same places s meaning q = ap (after_meaning places s) (quit_is meaning q)
+
+pub heard_lawful : {L : Type 0} → IsLawful {State = HeardDesk L} heard_answer
+heard_lawful = record {
+  extends = λ places s line.
+      let e = extends_line places (plain s) (line_of line) in record { attempts = e.attempts; more = e.more; text = e.text };
+  ends = λ places s line q. ap (with_plain s.state) (quit_same places (plain s) (line_of line) q);
+}
+
+-- the desk after all commands that were accepted, and after more
+more_accepted : (d now next : Desk) (done more done' : List Command) → now ≡ after_commands d done → next ≡ after_commands now more
+    → done' ≡ done ++ more → next ≡ after_commands d done'
+more_accepted d now next done more done' is then all = then ∙ ap (λ e. after_commands e more) is
+    ∙ sym (fold-append after_command d done more) ∙ ap (after_commands d) (sym all)
+
+-- a line that was answered on the console was answered for the state
+pub answered_heard : {K T L : Type 0} (all : Bool) (heard : L → L → List Command → Type 0) (first now : L) (holds : K → Known)
+    (faults wants : K → ℕ) (sink sink' : K) (result : Result T SinkFault) (s : SessionOf (HeardDesk L)) (text : List ℕ)
+    (before console : Kept) (tally : Tally)
+    → ((last : L) (done more : List Command) → heard last first done → heard first now more → heard last now (done ++ more))
+    → HasHeard heard first before s.state
+    → LineAnswer all (heard first now) holds faults wants sink sink' result (plain s) (line_of text) console tally
+    → OneAnswer heard_answer (HeardMayWant all) holds faults wants sink sink' result s text (HasHeard heard now console) tally
+answered_heard all heard first now holds faults wants sink sink' result s text before console tally both h a = record {
+  next = with_plain s.state a.next;
+  wanted = a.wanted;
+  goes_on = record {
+    later = a.goes_on.later;
+    some = a.goes_on.some;
+    by = λ places wanted. ap (with_plain s.state) (a.goes_on.by places wanted);
+    allowed = a.goes_on.at_edit;
+  };
+  stands = record {
+    stands = a.stands;
+    desk = more_accepted s.state.opened s.state.desk a.next.desk s.state.accepted a.goes_on.commands a.next.accepted h.desk a.goes_on.desk
+        a.goes_on.accepted;
+    listened = subst (heard s.state.first now) (sym a.goes_on.accepted)
+        (both s.state.first s.state.accepted a.goes_on.commands h.listened a.goes_on.listened);
+  };
+  reply = a.reply;
+  text = a.text;
+  puts = a.puts;
+  counts = a.counts;
+}
