@@ -100,3 +100,20 @@ pub number_and_others : (line start rest others : List ℕ) (n : ℕ) → start 
     → length rest < length start → EndsToken rest others → FirstIsNumber (tokens line) n (tokens others)
 number_and_others line start rest others n skipped so some ends =
     subst (FirstIsNumber (tokens line) n) ends.same (number_is_first line start rest n skipped so some ends.ends)
+
+no_separator : (b : ℕ) → is_digit b ≡ true → is_separator b ≡ false
+no_separator b e = grind (arith, nat_tests)
+
+digits_stand : (digits rest : List ℕ) → 0 < length digits → list_all is_digit digits ≡ true
+    → digits ++ rest ≡ after_all is_separator (digits ++ rest)
+digits_stand [] rest some all = absurd (omega arith)
+digits_stand (b ∷ ds) rest some all = let h = first_of b ds all in rw (no_separator b h.0) refl
+
+-- digits at the front stand behind no separator
+pub number_at_once : (line rest others : List ℕ) (n : ℕ) → BeginsWithDigits line n rest → length rest < length line → EndsToken rest others
+    → FirstIsNumber (tokens line) n (tokens others)
+number_at_once line rest others n so some ends =
+    let filled : 0 < length so.digits = omega (arith, some, ap length so.is_text, length-append so.digits rest) in
+    let stands : line ≡ after_all is_separator line = so.is_text ∙ digits_stand so.digits rest filled so.are_digits
+    ∙ ap (after_all is_separator) (sym so.is_text) in
+    number_and_others line line rest others n stands so some ends

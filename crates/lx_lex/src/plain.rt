@@ -5,7 +5,7 @@ ghost use Rattle.lx_spec.specs.Text.{is_separator, after_all, tokens};
 ghost use Rattle.lx_lex.specs.PlainNumber.{BeginsWithDigits, EndsToken, FirstIsLevel, FirstIsNumber};
 
 use crate::digits::digit;
-use crate::read::hex_value;
+use crate::hex::hex_value;
 use crate::scan::{is_separator, past_separators};
 use lx_base::Level;
 
@@ -18,7 +18,11 @@ const FAR: u32 = 100_000_000;
 pub(crate) fn first_number(line: &[u8]) -> Option<(u32, &[u8])>
     ensures { IfSome result (λ p. FirstIsNumber (tokens line.now) p.0 (tokens p.1.now)) }
 {
-    let (number, rest) = front_digits(token_start(line))?;
+    if let Some((number, rest)) = front_digits(line) {
+        let others = past_end(rest)?;
+        return Some((number, others));
+    }
+    let (number, rest) = first_digits(past_separators(line))?;
     let others = past_end(rest)?;
     Some((number, others))
 }
@@ -39,17 +43,6 @@ pub(crate) fn first_hex(line: &[u8]) -> Option<(Level, &[u8])>
     let low = hex_value(*low)?;
     let others = past_end(rest)?;
     Some((16 * high + low, others))
-}
-
-/// What follows the separators at the front. Most often a digit stands there at once.
-#[inline(always)]
-fn token_start(line: &[u8]) -> &[u8]
-    ensures { result.now ≡ after_all is_separator line.now }
-{
-    match line {
-        [b'0'..=b'9', ..] => line,
-        _ => past_separators(line),
-    }
 }
 
 /// The number that the digits at the front spell, where four bytes are left the first four of them, and what follows

@@ -10,6 +10,7 @@ ghost use Rattle.lx_spec.specs.Numerals.{read_whole};
 
 use crate::decimal::Decimal;
 use crate::digits::{cut_at, whole};
+use crate::hex::hex_value;
 use crate::word::word_is;
 use lx_base::{CUE_MAX, CUE_UNIT, Cs, CueNo, Level, TIME_MAX, of_percent};
 use lx_spec::Bad;
@@ -85,18 +86,6 @@ fn read_hex(token: &[u8]) -> Result<Level, Bad>
             _ => Err(Bad::Shape),
         },
         _ => Err(Bad::Shape),
-    }
-}
-
-/// The value of a hexadecimal digit.
-pub(crate) fn hex_value(b: u8) -> Option<u8>
-    ensures value { result ≡ hex_value b }
-{
-    match b {
-        b'0'..=b'9' => Some(b - b'0'),
-        b'A'..=b'F' => Some(b - b'A' + 10),
-        b'a'..=b'f' => Some(b - b'a' + 10),
-        _ => None,
     }
 }
 

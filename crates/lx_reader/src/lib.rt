@@ -12,6 +12,7 @@ mod looks;
 mod numbers;
 mod outer_line;
 mod pass;
+mod percents;
 mod presence;
 mod reader;
 mod times;

@@ -8,7 +8,8 @@ ghost use Rattle.lx_lex.specs.PlainNumber.{FirstIsLevel};
 ghost use Rattle.lx_reader.specs.FieldLists.{FirstIsMember, fault_in, all_pairs, all_triples, onto};
 
 use crate::numbers::fault_of;
-use lx_base::{Chan, Level, of_percent};
+use crate::percents::PERCENTS;
+use lx_base::{Chan, Level};
 use lx_lex::{Bad, Tokens, read_channel, read_dimmer, read_level};
 use lx_spec::{Member, PatchRow, TextFault};
 
@@ -55,13 +56,13 @@ fn plain_member(tokens: &mut Tokens) -> Option<Member>
 fn next_level(tokens: &mut Tokens) -> Option<Level>
     ensures { IfSome result (λ level. FirstIsLevel (left tokens.old) level (left tokens.new)) }
 {
+    if let Some(percent) = tokens.take_number() {
+        return plain_level(percent);
+    }
     if let Some(level) = tokens.take_hex() {
         return Some(level);
     }
-    match tokens.take_number() {
-        Some(percent) => plain_level(percent),
-        None => level_of(tokens.next()?),
-    }
+    level_of(tokens.next()?)
 }
 
 /// The level that a token is, in whatever form.
@@ -80,7 +81,7 @@ fn plain_level(percent: u32) -> Option<Level>
     ensures { IfSome result (λ level. (percent ≤ 100) × (level ≡ percent_level percent)) }
 {
     if percent <= 100 {
-        Some(of_percent(percent as u8))
+        Some(PERCENTS[percent as usize])
     } else {
         None
     }

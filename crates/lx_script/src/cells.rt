@@ -103,14 +103,45 @@ fn write_short_cells(
 {
     let mut start = PIECE_BYTES;
     let mut left = levels.len();
-    while left > 0 {
-        left -= 1;
-        let level = levels[left];
-        if level != 0 {
-            start = write_short_cell(number + left as u64, width, level, text, start);
-        }
+    while left > 1 {
+        start = write_cell_at(number, levels, left - 1, width, text, start);
+        start = write_cell_at(number, levels, left - 2, width, text, start);
+        left -= 2;
     }
-    start
+    if left > 0 {
+        write_cell_at(number, levels, 0, width, text, start)
+    } else {
+        start
+    }
+}
+
+/// Writes the cell of the level at an index, where it isn't 0, before the cells of those behind it, which begin at `end`, and says where
+/// they begin then.
+#[inline(always)]
+fn write_cell_at(
+    number: u64,
+    levels: &[Level],
+    at: usize,
+    width: usize,
+    text: &mut [u8; PIECE_BYTES],
+    end: usize,
+) -> usize
+    requires within { at < length levels.now }
+    requires number { number + at < 1000 }
+    requires width { width ≡ length (decimal (number + at)) + 1 }
+    requires most { width ≤ 4 }
+    requires room { CELL_BYTES ≤ end }
+    requires end { end ≤ PIECE_BYTES }
+    requires text { drop end text.old ≡ cells_from (number + (at + 1)) (drop (at + 1) levels.now) }
+    ensures start { end ≤ result + CELL_BYTES }
+    ensures before { result ≤ end }
+    ensures text { drop result text.new ≡ cells_from (number + at) (drop at levels.now) }
+{
+    let level = levels[at];
+    if level == 0 {
+        return end;
+    }
+    write_short_cell(number + at as u64, width, level, text, end)
 }
 
 /// Writes ` number=level` so that it ends at a place, and says where it begins. The number has one digit less than

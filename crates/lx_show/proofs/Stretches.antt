@@ -1,10 +1,10 @@
 -- Several entries placed into a sorted list.
-use Rattle.std.proofs.Common.{◌≡◌, ℕ, ◌+◌, ◌-◌, ◌<◌, ◌≤◌, List, [], ◌∷◌, ◌++◌, length, get_or, take, drop, Some, refl, ◌∙◌}
+use Rattle.std.proofs.Common.{◌≡◌, ℕ, zero, suc, ◌+◌, ◌-◌, ◌<◌, ◌≤◌, List, [], ◌∷◌, ◌++◌, length, get_or, take, drop, Some, refl, ◌∙◌}
 use Rattle.std.proofs.Common.{sym, ap, subst, append_assoc, arith, add-one}
 use Rattle.std.specs.Prelude.{Option, slice_get, option_to_list, unwrap_or}
 use Rattle.std.specs.Option.{option_map}
 use Rattle.std.specs.List.{AllByRecursion}
-use Rattle.std.proofs.lemmas.List.{take-append-drop, drop_more, take_all, length-drop}
+use Rattle.std.proofs.lemmas.List.{take-append-drop, drop_more, take_all, length-drop, length-take}
 use Rattle.std.proofs.lemmas.List.Sums.{fold-append}
 use Rattle.std.proofs.lemmas.Option.{slice_get-get_or}
 use Rattle.lx_spec.specs.SortedList.{IsStrictlySorted, all_placed, placed}
@@ -136,3 +136,24 @@ pub above_gap : {A : Type 0} (key : A → ℕ) (n at : ℕ) (ys zs : List A) →
     → AllByRecursion (λ y. n < key y) (drop at zs)
 above_gap {A} key n at ys zs same goes = subst (λ (xs : List A). AllByRecursion (λ y. n < key y) (drop at xs)) same
     (subst (AllByRecursion (λ y. n < key y)) (sym goes.after) (all_above key n ys))
+
+drop_first : {A : Type 0} (xs ys : List A) → 0 < length xs → drop 1 (xs ++ ys) ≡ drop 1 xs ++ ys
+drop_first [] ys some = absurd (omega arith)
+drop_first (x ∷ xs) ys some = refl
+
+-- an entry more behind the first
+pub over_more : {A : Type 0} (key : A → ℕ) (k : ℕ) (more xs ys : List A) (x : A) → 0 < k → k < length more → x ≡ get_or more k x
+    → ys ≡ all_placed key (drop 1 (take k more)) xs → placed key x ys ≡ all_placed key (drop 1 (take (k + 1) more)) xs
+over_more key k more xs ys x some within is so_far =
+    let front : drop 1 (take (k + 1) more) ≡ drop 1 (take k more) ++ (x ∷ []) = ap (drop 1) (one_more more k x within is)
+    ∙ drop_first (take k more) (x ∷ []) (omega (arith, length-take k more)) in
+    ap (placed key x) so_far ∙ sym (fold-append (λ zs y. placed key y zs) xs (drop 1 (take k more)) (x ∷ []))
+    ∙ ap (λ zs. all_placed key zs xs) (sym front)
+
+-- the first entry, and then those behind it
+pub first_then : {A : Type 0} (key : A → ℕ) (k : ℕ) (more xs ys : List A) (x : A) → 0 < k → 0 < length more → x ≡ get_or more 0 x
+    → ys ≡ placed key x xs → all_placed key (drop 1 (take k more)) ys ≡ all_placed key (take k more) xs
+first_then key zero more xs ys x some filled is first = absurd (omega arith)
+first_then key (suc k) [] xs ys x some filled is first = absurd (omega arith)
+first_then key (suc k) (y ∷ more) xs ys x some filled is first =
+    ap (all_placed key (take k more)) (first ∙ ap (λ z. placed key z xs) is)

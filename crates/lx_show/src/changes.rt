@@ -120,7 +120,8 @@ impl Show {
     {
         let at = find_near(self.cues.as_slice(), &mut self.recent, n.get());
         let cue = &mut self.cues[at];
-        cue.moves.put_each(entries)
+        self.marks.turn_to(at);
+        cue.moves.put_each_near(&mut self.marks, entries)
     }
 
     /// Gives the cue these moves, and answers those that it had. Their channels are within the count, and

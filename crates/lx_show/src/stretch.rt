@@ -1,10 +1,11 @@
 //! Several entries put into a list that is sorted by number, in turn. Those that rise and go between the same two
 //! neighbours are put there in one shift.
 
-ghost use Rattle.std.specs.Prelude.{◌≡◌, ◌<◌, ◌≤◌, ◌+◌, ◌-◌, ◌++◌, Some, length, take, drop, slice_get, vec_capacity, OnOk, OnErr};
+ghost use Rattle.std.specs.Prelude.{◌≡◌, ◌<◌, true, ◌≤◌, ◌+◌, ◌-◌, ◌++◌, Some, length, take, drop, slice_get, vec_capacity, OnOk, OnErr};
 ghost use Rattle.std.specs.Option.{option_map};
 ghost use Rattle.std.specs.List.{AllByRecursion};
 ghost use Rattle.lx_spec.specs.SortedList.{IsStrictlySorted, all_placed};
+ghost use Rattle.lx_show.specs.Indexes.{StandsAt};
 ghost use Rattle.lx_show.specs.Stretch.{IsStretch};
 
 use crate::sorted::{Keyed, find_next};
@@ -47,8 +48,9 @@ fn put_front<T: Keyed + Copy + Drop>(xs: &mut Vec<T>, next: &mut usize, more: &[
     match find_next(xs.as_slice(), *next, number) {
         Ok(at) => {
             xs[at] = first;
-            *next = at.saturating_add(1);
-            1
+            let count = put_over(xs, at, more);
+            *next = at.saturating_add(count);
+            count
         }
         Err(at) => {
             let end = end_of_gap(xs.as_slice(), at, number);
@@ -58,6 +60,41 @@ fn put_front<T: Keyed + Copy + Drop>(xs: &mut Vec<T>, next: &mut usize, more: &[
             count
         }
     }
+}
+
+/// Puts the entries behind the first of them in place of those behind the index, as long as the numbers are the same. It
+/// says how many there are with the first.
+fn put_over<T: Keyed + Copy + Drop>(xs: &mut Vec<T>, at: usize, more: &[T]) -> usize
+    requires some { 0 < length more.now }
+    requires sorted { IsStrictlySorted T.key xs.old.items }
+    ensures some { 0 < result }
+    ensures most { result ≤ length more.now }
+    ensures items { xs.new.items ≡ all_placed T.key (drop 1 (take result more.now)) xs.old.items }
+    ensures sorted { IsStrictlySorted T.key xs.new.items }
+    ensures same { length xs.new.items ≡ length xs.old.items }
+    ensures capacity { vec_capacity xs.new ≡ vec_capacity xs.old }
+{
+    let mut count = 1;
+    let mut place = at.wrapping_add(1);
+    while count < more.len() {
+        let entry = more[count];
+        if stands_at(xs.as_slice(), place, entry.key()) {
+            xs[place] = entry;
+            count += 1;
+            place = place.wrapping_add(1);
+        } else {
+            break;
+        }
+    }
+    count
+}
+
+/// Whether the entry of the number stands at the index.
+fn stands_at<T: Keyed>(xs: &[T], at: usize, n: u32) -> bool
+    requires { IsStrictlySorted T.key xs.now }
+    ensures { result ≡ true → StandsAt T.key n xs.now at }
+{
+    at < xs.len() && xs[at].key() == n
 }
 
 /// The number of the entry at the index, or 2^32 where there is none.

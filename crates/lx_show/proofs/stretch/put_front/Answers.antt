@@ -2,20 +2,22 @@ use Rattle.std.proofs.Common.{◌≤◌, ◌∙◌, drop, take, subst, sym}
 use Rattle.std.specs.List.{AllByRecursion}
 use Rattle.lx_spec.specs.SortedList.{IsStrictlySorted}
 use Rattle.lx_show.proofs.Indexes.{replaced, sorted_replaced}
-use Rattle.lx_show.proofs.Stretches.{IsStrictlySorted-all_placed, above_gap, placed_first, stretch_added}
+use Rattle.lx_show.proofs.Stretches.{IsStrictlySorted-all_placed, above_gap, first_then, stretch_added}
 use Rattle.lx_show.proofs.stretch.put_front.Goals as goal
 
 pub end_of_gap-end-requires-clause-above : goal.end_of_gap-end-requires-clause-above
 end_of_gap-end-requires-clause-above g c = above_gap g.T.Keyed.key c.key-number.result c.in-Err.at _ _
     (c.as_slice.ensures.value ∙ sym c.as_slice-in-Err.ensures.value) c.in-Err.ensures.goes
 
-pub returns-in-Ok-clause-items : goal.returns-in-Ok-clause-items
-returns-in-Ok-clause-items g c = replaced _ _ _ _ c.index-more-0.result c.in-Ok.at c.key-number.ensures c.as_slice.ensures.value
-    c.in-Ok.ensures.stands ∙ sym (placed_first g.T.Keyed.key c.args.more.now c.args.xs.now.items _ c.requires.some c.index-more-0.is)
+pub put_over-count-requires-clause-sorted : goal.put_over-count-requires-clause-sorted
+put_over-count-requires-clause-sorted g c = sorted_replaced _ _ _ _ c.index-more-0.result c.in-Ok.at c.key-number.ensures
+    c.as_slice.ensures.value c.in-Ok.ensures.stands c.requires.sorted
 
-pub returns-in-Ok-clause-sorted : goal.returns-in-Ok-clause-sorted
-returns-in-Ok-clause-sorted g c = sorted_replaced _ _ _ _ c.index-more-0.result c.in-Ok.at c.key-number.ensures c.as_slice.ensures.value
-    c.in-Ok.ensures.stands c.requires.sorted
+pub returns-in-Ok-clause-items : goal.returns-in-Ok-clause-items
+returns-in-Ok-clause-items g c = c.put_over-count.ensures.items
+    ∙ first_then g.T.Keyed.key c.put_over-count.result c.args.more.now c.args.xs.now.items _ c.index-more-0.result
+    c.put_over-count.ensures.some c.requires.some c.index-more-0.is
+    (replaced _ _ _ _ c.index-more-0.result c.in-Ok.at c.key-number.ensures c.as_slice.ensures.value c.in-Ok.ensures.stands)
 
 pub returns-in-Err-clause-items : goal.returns-in-Err-clause-items
 returns-in-Err-clause-items g c = c.insert_all.ensures.items

@@ -19,12 +19,12 @@ invariant_of-self c =
     let each : AllByRecursion (ValidMove c.self.inside.channels c.cue.inside.parts.items) c.args.entries.now =
     subst (λ (s : Show). AllByRecursion (ValidMove s.channels c.cue.inside.parts.items) c.args.entries.now) (sym c.self.view_is) all in
     stored_changed_cue _ _ _ _ _ _ _ _ _ c.self.invariant c.as_slice.ensures.value c.find_near-at.ensures here.number
-    (cue_after_each c.put_each.result _ _ c.args.entries.now _ here.valid each c.put_each.ensures.ok c.put_each.ensures.err)
+    (cue_after_each c.put_each_near.result _ _ c.args.entries.now _ here.valid each c.put_each_near.ensures.ok c.put_each_near.ensures.err)
 
 pub returns-clause-ok : goal.returns-clause-ok
 returns-clause-ok c =
     let here = cue_stands _ _ _ _ _ _ _ _ _ _ c.self.invariant c.as_slice.ensures.value c.find_near-at.ensures c.cue.view_is
     c.index_mut-cue.ensures.value in
-    on_ok_weaker c.put_each.result (cue_moves_changed _ _ _ _ _ _ _ _
+    on_ok_weaker c.put_each_near.result (cue_moves_changed _ _ _ _ _ _ _ _
     (λ (moves : List Move). all_placed (λ m. m.chan) c.args.entries.now moves) c.self.view_is c.get.ensures.value c.as_slice.ensures.value
-    c.find_near-at.ensures here.at_place) c.put_each.ensures.ok
+    c.find_near-at.ensures here.at_place) c.put_each_near.ensures.ok

@@ -1,0 +1,43 @@
+-- The table of hexadecimal digits.
+use Rattle.std.proofs.Common.{◌≡◌, ℕ, ◌<◌, ◌≤◌, Some, None, refl, ap, sym, ◌∙◌, inl, inr, arith, map, get_or}
+use Rattle.std.specs.Prelude.{Option, unwrap_or, ◌&&◌, nat_le}
+use Rattle.std.specs.List.{range_with_len}
+use Rattle.std.proofs.lemmas.Bool.{cases_Bool}
+use Rattle.std.proofs.lemmas.Bool.Decides.{nat_tests}
+use Rattle.std.proofs.lemmas.List.FromFn.{get_or-map-range_with_len}
+use Rattle.lx_spec.specs.Numerals.{is_digit, hex_value}
+use Rattle.lx_lex.specs.declared.hex.TheConstants.{VALUES}
+
+values_are : VALUES ≡ map (λ b. unwrap_or (hex_value b) 16) (range_with_len 0 256)
+values_are = refl
+
+value_at : (b : ℕ) → b < 256 → get_or VALUES b 0 ≡ unwrap_or (hex_value b) 16
+value_at b lt = ap (λ vs. get_or vs b 0) values_are
+    ∙ get_or-map-range_with_len (λ b. unwrap_or (hex_value b) 16) 0 256 b b 0 lt (omega arith)
+
+below_16 : (b v : ℕ) → hex_value b ≡ Some v → v < 16
+below_16 b v e = elim (cases_Bool (is_digit b)) [
+  | inl so ↦ grind (arith, nat_tests)
+  | inr odd ↦ elim (cases_Bool (nat_le 65 b && nat_le b 70)) [
+    | inl so ↦ grind (arith, nat_tests)
+    | inr none ↦ elim (cases_Bool (nat_le 97 b && nat_le b 102)) [
+      | inl so ↦ grind (arith, nat_tests)
+      | inr other ↦ absurd (let h = rw (odd, none, other) at e in cc)
+    ]
+  ]
+]
+
+some_of : (o : Option ℕ) (v : ℕ) → v ≡ unwrap_or o 16 → v < 16 → o ≡ Some v
+some_of (Some x) v is low = ap Some (sym is)
+some_of None v is low = absurd (omega (arith, is))
+
+none_of : (o : Option ℕ) (v : ℕ) → ((x : ℕ) → o ≡ Some x → x < 16) → v ≡ unwrap_or o 16 → 16 ≤ v → o ≡ None
+none_of (Some x) v low is high = let under : x < 16 = low x refl in absurd (omega (arith, is))
+none_of None v low is high = refl
+
+-- a value below 16 in the table is that of the digit
+pub digit_value : (b v : ℕ) → b < 256 → v ≡ get_or VALUES b 0 → v < 16 → Some v ≡ hex_value b
+digit_value b v lt is low = sym (some_of (hex_value b) v (is ∙ value_at b lt) low)
+
+pub no_value : (b v : ℕ) → b < 256 → v ≡ get_or VALUES b 0 → 16 ≤ v → None ≡ hex_value b
+no_value b v lt is high = sym (none_of (hex_value b) v (below_16 b) (is ∙ value_at b lt) high)
