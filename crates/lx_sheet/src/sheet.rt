@@ -42,7 +42,8 @@ pub struct Sheet {
     pub(crate) order: Vec<Place>,
     /// The rows of the block that are no cue's.
     pub(crate) free: Vec<usize>,
-    /// The block of rows, each as long as there are channels. A row stays in its place as long as its cue is there.
+    /// The block of rows, each as long as there are channels, up to the last one that was a cue's. A row stays in
+    /// its place as long as its cue is there.
     pub(crate) levels: Vec<Level>,
     /// The levels of the cue that is being filled in.
     pub(crate) look: Vec<Level>,
@@ -58,7 +59,7 @@ impl Model for Sheet {
     ghost view = { λ s. record { channels = s.channels; rows = rows_of s.channels s.order.items s.levels.items } };
 
     ghost invariant = { λ s. IsKept s.channels s.order.items (vec_capacity s.order) s.free.items
-        (vec_capacity s.free) s.levels.items s.look.items };
+        (vec_capacity s.free) s.levels.items (vec_capacity s.levels) s.look.items };
 }
 
 impl Sheet {
@@ -74,7 +75,7 @@ impl Sheet {
             channels,
             order: Vec::with_capacity(alloc, CUES)?,
             free,
-            levels: vec![in alloc; 0; CUES * channels]?,
+            levels: Vec::with_capacity(alloc, CUES * channels)?,
             look: vec![in alloc; 0; channels]?,
         };
         sheet.refill(show);
