@@ -1,5 +1,5 @@
 -- The row of a number, as it stands in the block, and what it is where the sheet stands for a show.
-use Rattle.std.proofs.Common.{◌≡◌, ℕ, zero, suc, ◌+◌, ◌*◌, ◌<◌, ◌≤◌, true, false, cond, List, [], ◌∷◌, length, get_or, take, drop, map}
+use Rattle.std.proofs.Common.{◌≡◌, ◌≢◌, ℕ, zero, suc, ◌+◌, ◌-◌, ◌*◌, ◌<◌, ◌≤◌, true, false, cond, List, [], ◌∷◌, length, get_or, take, drop, map}
 use Rattle.std.proofs.Common.{Some, None, refl, ◌∙◌, sym, ap, arith}
 use Rattle.std.specs.Prelude.{Option, is_some, option_map, slice_get, ◌==◌, ◌||◌}
 use Rattle.std.specs.List.{list_any}
@@ -15,10 +15,11 @@ use Rattle.lx_spec.specs.TrackedLevel.{cue_of, tracked}
 use Rattle.lx_spec.specs.Replies.{row_of}
 use Rattle.lx_show.proofs.Indexes.{up_to_there}
 use Rattle.lx_sheet.specs.declared.sheet.Place.{Place}
-use Rattle.lx_sheet.specs.Rows.{Row, row_at, numbers_of}
+use Rattle.lx_sheet.specs.Rows.{Row, row_at, numbers_of, level_of}
 use Rattle.lx_sheet.specs.Block.{Covers, row_at_place, rows_of, cell, cue_level, last_value}
 use Rattle.lx_sheet.specs.Standing.{RowsStandFor, cue_numbers}
 use Rattle.lx_sheet.proofs.Rows.{count_up_to, count_up_to-map, sheet_of, level_of_block, row_of_place, numbers-rows_of}
+use Rattle.lx_sheet.proofs.Cells.{last_value_some}
 use Rattle.lx_sheet.proofs.Covered.{covered_at}
 use Rattle.lx_sheet.proofs.RowPool.{row_is}
 use Rattle.lx_spec.proofs.Comparisons.{eq_below, eq_true}
@@ -126,3 +127,20 @@ cue_found show channels order levels n at room sorted place stands =
     (sym (numbers-rows_of channels order levels) ∙ stands.numbers))
     ∙ ap is_some (place.here ∙ slice_get-get_or order at (record { cue = 0; row = 0 }) place.within) in
     ap Some (row_right show channels order levels n at room sorted place stands) ∙ there (cue_of show n) (row_of show n) some
+
+-- the levels at a number stand in the row of the last cue up to it
+pub look_found : (channels : ℕ) (order : List Place) (levels : List ℕ) (n k : ℕ) → IsStrictlySorted (λ p. p.cue) order → k < channels
+    → count_up_to n (map (λ p. p.cue) order) ≢ 0
+    → get_or (take channels (drop (row_at_place order (count_up_to n (map (λ p. p.cue) order) - 1) * channels) levels)) k 0
+    ≡ level_of (sheet_of channels order levels) n (k + 1)
+unfolding cell
+look_found channels order levels n k sorted less some =
+    let next : suc k ≡ k + 1 = omega arith in
+    sym (last_value_some (count_up_to n (map (λ (p : Place). p.cue) order)) (λ i. cue_level channels order levels i (suc k)) some)
+    ∙ sym (level_of_block channels order levels n (suc k) sorted)
+    ∙ ap (λ c. level_of (sheet_of channels order levels) n c) next
+
+pub look_none : (channels : ℕ) (order : List Place) (levels : List ℕ) (n c : ℕ) → IsStrictlySorted (λ p. p.cue) order
+    → count_up_to n (map (λ p. p.cue) order) ≡ 0 → level_of (sheet_of channels order levels) n c ≡ 0
+look_none channels order levels n c sorted none =
+    level_of_block channels order levels n c sorted ∙ ap (λ j. last_value j (λ k. cue_level channels order levels k c)) none

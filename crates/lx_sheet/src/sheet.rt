@@ -1,6 +1,6 @@
 //! A sheet, and what it tells.
 
-ghost use Rattle.std.specs.Prelude.{◌≡◌, IfOk, length, option_map};
+ghost use Rattle.std.specs.Prelude.{◌≡◌, ℕ, ◌+◌, ◌<◌, None, IfOk, IfSome, length, option_map, slice_index};
 ghost use Rattle.std.specs.Option.{option_copied};
 ghost use Rattle.lx_spec.specs.SortedList.{IsStrictlySorted};
 ghost use Rattle.lx_spec.specs.Show.{Show as ShowData};
@@ -97,6 +97,23 @@ impl Sheet {
             }
             Err(_) => None,
         }
+    }
+
+    /// The levels at the number, which need not be a cue's: the last row up to it, the level of channel c at place
+    /// c - 1. `None` where there is none: each channel is at 0.
+    pub fn look_at(&self, n: CueNo) -> Option<&[Level]>
+        ensures reach { IfSome result (λ row. length row.now ≡ self.now.channels) }
+        ensures levels { IfSome result (λ row. (k : ℕ) → k < self.now.channels → slice_index row.now k ≡ level_of self.now n (k + 1)) }
+        ensures none { result ≡ None → (c : ℕ) → level_of self.now n c ≡ 0 }
+    {
+        let order = self.order.as_slice();
+        let mut near = 0;
+        let cues = count_near(order, n, &mut near);
+        if cues == 0 {
+            return None;
+        }
+        let last = own_row(order, cues - 1);
+        Some(&self.levels[last * self.channels..(last + 1) * self.channels])
     }
 
     /// The channel's tracked level at the number, which need not be a cue's: that in the last row up to
