@@ -1,5 +1,4 @@
 pub mod Entries
-pub mod Exchanged
 pub mod UnderWay
 pub mod Begun
 pub mod Added

@@ -1,4 +1,3 @@
-pub mod Places
 pub mod Stacks
 pub mod Moving
 pub mod Standing

@@ -12,18 +12,17 @@ ghost use Rattle.lx_spec.specs.Playback.{Playback as PlaybackData, at_opening};
 ghost use Rattle.lx_sheet.specs.Standing.{RowsStandFor};
 ghost use Rattle.lx_mixer.specs.Table.{IsTable};
 ghost use Rattle.lx_playback.specs.Valid.{ValidRun};
-ghost use Rattle.lx_levels.specs.declared.current.TheConstants.{NEVER};
 ghost use Rattle.lx_levels.specs.Stacks.{level_in, level_at, stack_of};
 ghost use Rattle.lx_levels.specs.Moving.{IsStill};
 ghost use Rattle.lx_levels.specs.Standing.{LevelsStandFor, StandsAt, StandsBefore, IsElsewhere};
 
 use crate::channel::{fill_stack, push_run};
-use crate::current::{Current, NEVER};
+use crate::current::Current;
 use crate::hints::{Hint, NO_HINT, acts};
-use crate::motion::{advance, refresh, retire};
-use crate::roster::Roster;
+use crate::motion::{advance, refresh};
 use crate::stack::Stack;
 use lx_base::{CHANNELS, Chan, CueNo, Level, Moment, RUNS};
+use lx_fade::NEVER;
 use lx_playback::{Playback, Run};
 use lx_sheet::Sheet;
 use lx_show::Show;
@@ -31,7 +30,7 @@ use std::alloc::{AllocError, Global};
 use std::marker::Model;
 
 /// The level of each channel at a moment, and what is needed to follow it: a stack of fades for each
-/// channel, and of those that are under way the fade that governs. All memory is taken by `open`.
+/// channel, the fade of it that governs, and the moment up to which the level stays. All memory is taken by `open`.
 ///
 /// Contracts see the moment and the stacks.
 #[derive(Drop)]
@@ -39,11 +38,13 @@ pub struct Levels {
     moment: Moment,
     /// The fades of each channel.
     stacks: Vec<Stack>,
-    /// The fade that governs each channel under way.
+    /// The fade that governs each channel, where its level changes yet.
     currents: Vec<Current>,
     levels: Vec<Level>,
-    /// The channels that are under way: their level changes yet, or a fade waits.
-    roster: Roster,
+    /// The moment up to which each level stays: `NEVER` where it changes no more.
+    holds: Vec<Moment>,
+    /// No level changes before this moment.
+    due: Moment,
     /// Where the cue of each live run, and a channel's move in it, was found last.
     hints: Vec<Hint>,
 }
@@ -56,7 +57,7 @@ impl Model for Levels {
 
     ghost view = { λ l. record { moment = l.moment; stacks = l.stacks.items } };
 
-    ghost invariant = { λ l. IsReady l.moment l.roster l.stacks.items l.currents.items l.levels.items l.hints.items };
+    ghost invariant = { λ l. IsReady l.moment l.due l.stacks.items l.currents.items l.levels.items l.holds.items l.hints.items };
 }
 
 impl Levels {
@@ -75,7 +76,8 @@ impl Levels {
             stacks,
             currents: vec![in alloc; Current::still(0, NEVER); channels]?,
             levels: vec![in alloc; 0; channels]?,
-            roster: Roster::open(alloc, channels)?,
+            holds: vec![in alloc; NEVER; channels]?,
+            due: NEVER,
             hints: vec![in alloc; NO_HINT; RUNS]?,
         })
     }
@@ -130,8 +132,8 @@ impl Levels {
         }
     }
 
-    /// The levels at a later moment; answers whether one changed. It looks at the channels alone that are
-    /// under way.
+    /// The levels at a later moment; answers whether one changed. Up to the moment at which the next one does it
+    /// looks at no channel, and then at each level that has stayed as long as it was to.
     pub fn to_moment(&mut self, m: Moment) -> bool
         requires later { self.old.moment ≤ m }
         requires end { m ≤ TICK_END }
@@ -140,16 +142,17 @@ impl Levels {
         ensures unchanged { result ≡ false → (k : ℕ) → k < length self.old.stacks → level_at self.new k ≡ level_at self.old k }
     {
         self.moment = m;
+        if m < self.due {
+            return false;
+        }
         let step = advance(
             m,
-            &self.roster,
             &self.stacks,
             &mut self.currents,
             &mut self.levels,
+            &mut self.holds,
         );
-        if step.arrived {
-            retire(m, &mut self.roster, &self.currents);
-        }
+        self.due = step.due;
         step.changed
     }
 
@@ -180,19 +183,19 @@ impl Levels {
             stack,
             &mut self.currents,
             &mut self.levels,
-            &mut self.roster,
+            &mut self.holds,
+            &mut self.due,
         );
     }
 }
 
 impl Levels {
-    /// The channel at the place is at the level, and nothing is under way there: whatever times a run to that
-    /// level has, it stays.
+    /// The channel at the place is at the level for ever, as it is: whatever times a run to that level has, it stays.
     fn stays_at(&self, k: usize, level: Level) -> bool
         requires { k < length self.now.stacks }
         ensures { result ≡ true → IsStill self.now.moment (stack_of self.now k) level }
     {
-        self.levels[k] == level && !self.roster.has(k)
+        self.levels[k] == level && self.holds[k] == NEVER
     }
 
     /// The fade of the run on the channel, on which it acts.
@@ -215,7 +218,8 @@ impl Levels {
             stack,
             &mut self.currents,
             &mut self.levels,
-            &mut self.roster,
+            &mut self.holds,
+            &mut self.due,
         );
     }
 
@@ -232,7 +236,8 @@ impl Levels {
             stack,
             &mut self.currents,
             &mut self.levels,
-            &mut self.roster,
+            &mut self.holds,
+            &mut self.due,
         );
     }
 }

@@ -7,7 +7,6 @@ mod hints;
 mod levels;
 mod motion;
 mod replay;
-mod roster;
 mod runs;
 mod stack;
 

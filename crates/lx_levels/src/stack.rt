@@ -2,15 +2,15 @@
 
 ghost use Rattle.std.specs.Prelude.{◌≡◌, ℕ, ◌+◌, ◌<◌, ◌≤◌, [], ◌∷◌, ◌++◌, length, reverse, vec_len, vec_capacity, IfOk};
 ghost use Rattle.std.specs.List.{All};
-ghost use Rattle.lx_levels.specs.declared.current.TheConstants.{NEVER};
+ghost use Rattle.lx_fade.specs.declared.held.TheConstants.{NEVER};
 ghost use Rattle.lx_base.specs.declared.TheConstants.{RUNS, TIME_MAX};
 ghost use Rattle.lx_spec.specs.Level.{fade_over};
 ghost use Rattle.lx_levels.specs.Stacks.{level_in};
 ghost use Rattle.lx_levels.specs.Moving.{Governs};
 
-use crate::current::{Current, NEVER};
+use crate::current::Current;
 use lx_base::{Cs, Level, Moment, RUNS};
-use lx_fade::{Fade, push_fade, value};
+use lx_fade::{Fade, NEVER, push_fade, value};
 use std::alloc::{AllocError, Global};
 use std::marker::Model;
 
@@ -113,7 +113,7 @@ fn governing_in(fades: &[Fade], bottom: Level, m: Moment) -> Current
     while left > 0 {
         let fade = fades[left - 1];
         if fade.start <= m {
-            return Current::of(fade, wake);
+            return Current { fade, wake };
         }
         wake = wake.min(fade.start);
         left -= 1;

@@ -1,6 +1,6 @@
 use Rattle.std.proofs.Common.{◌≡◌, ◌⊎◌, ℕ, ◌<◌, ◌≤◌, length, reverse, take}
 use Rattle.lx_fade.specs.Fades.{stack_at}
-use Rattle.lx_levels.specs.declared.current.TheConstants.{NEVER}
+use Rattle.lx_fade.specs.declared.held.TheConstants.{NEVER}
 use Rattle.lx_levels.proofs.stack.governing_in.Given as goal
 
 abbrev pub invariant-loop-left : goal.invariant-loop-left

@@ -13,7 +13,8 @@ invariant_of-self c =
     record {
       right =
           c.refresh.ensures.right (set stacks k c.push_run.new.stack) (get_or-set_at stacks k k c.push_run.new.stack no_stack refl room)
-          (right_but c.self.inside.moment k c.self.inside.roster stacks c.self.inside.currents.items c.self.inside.levels.items
+          (right_but c.self.inside.moment k stacks c.self.inside.currents.items c.self.inside.levels.items c.self.inside.holds.items
           c.push_run.new.stack c.self.invariant.right);
+      due_is = c.refresh.ensures.due c.self.invariant.due_is;
       room = c.self.invariant.room;
     }

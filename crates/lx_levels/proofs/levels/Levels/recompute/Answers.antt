@@ -14,8 +14,9 @@ invariant_of-self c =
     record {
       right =
           c.refresh.ensures.right (set stacks k c.fill_stack.new.stack) (get_or-set_at stacks k k c.fill_stack.new.stack no_stack refl room)
-          (right_but c.self.inside.moment k c.self.inside.roster stacks c.self.inside.currents.items c.self.inside.levels.items
+          (right_but c.self.inside.moment k stacks c.self.inside.currents.items c.self.inside.levels.items c.self.inside.holds.items
           c.fill_stack.new.stack c.self.invariant.right);
+      due_is = c.refresh.ensures.due c.self.invariant.due_is;
       room = ap length (written c.self.inside.hints.len c.fill_stack.new.hints c.self.inside.hints.items
           (omega (arith, c.fill_stack.auto.hints, c.deref_mut.ensures.len))) ∙ c.fill_stack.auto.hints ∙ ap length c.deref_mut.ensures.value
           ∙ c.self.invariant.room;

@@ -12,7 +12,8 @@ invariant_of-self c =
       right =
           c.refresh.ensures.right (set stacks c.args.k c.restart.new.self)
           (get_or-set_at stacks c.args.k c.args.k c.restart.new.self no_stack refl room)
-          (right_but c.self.inside.moment c.args.k c.self.inside.roster stacks c.self.inside.currents.items c.self.inside.levels.items
+          (right_but c.self.inside.moment c.args.k stacks c.self.inside.currents.items c.self.inside.levels.items c.self.inside.holds.items
           c.restart.new.self c.self.invariant.right);
+      due_is = c.refresh.ensures.due c.self.invariant.due_is;
       room = c.self.invariant.room;
     }
