@@ -2,7 +2,7 @@
 
 ghost use Rattle.std.specs.Prelude.{◌≡◌, ◌≢◌, ℕ, ◌+◌, ◌-◌, ◌<◌, ◌≤◌, [], ◌∷◌, true, false, List, length, slice_index, slice_set, IfOk};
 ghost use Rattle.std.specs.Prelude.{IfSome};
-ghost use Rattle.std.specs.Option.{option_copied};
+ghost use Rattle.std.specs.Option.{option_copied, option_map_or};
 ghost use Rattle.lx_base.specs.declared.TheConstants.{RUNS, CHANNELS, TICK_END};
 ghost use Rattle.lx_spec.specs.Show.{Show as ShowData};
 ghost use Rattle.lx_spec.specs.TrackedLevel.{tracked};
@@ -102,17 +102,16 @@ impl Levels {
         let Some(run) = last_run(playback) else {
             return;
         };
-        let from = before_last(playback);
+        let from = sheet.look_at(before_last(playback));
+        let to = sheet.look_at(run.cue);
         let mut hint = NO_HINT;
-        let mut near = 0;
         for k in 0..show.channels() as usize {
-            let c = channel_at(k);
-            let target = sheet.level_near(run.cue, c, &mut hint.cue);
+            let target = level_on(to, k);
             if self.stays_at(k, target) {
                 continue;
             }
-            let looks = sheet.level_near(from, c, &mut near);
-            if acts(show, run, c, looks, target, &mut hint) {
+            let c = channel_at(k);
+            if acts(show, run, c, level_on(from, k), target, &mut hint) {
                 self.add_run(show, run, c, target);
             }
         }
@@ -239,6 +238,18 @@ impl Levels {
             &mut self.holds,
             &mut self.due,
         );
+    }
+}
+
+/// The level at a place of a look: 0 where there is none.
+#[inline(always)]
+fn level_on(look: Option<&[Level]>, k: usize) -> Level
+    requires { IfSome look (λ row. k < length row.now) }
+    ensures { result ≡ option_map_or (λ row. slice_index row.now k) look.entry 0 }
+{
+    match look {
+        Some(row) => row[k],
+        None => 0,
     }
 }
 
