@@ -3,6 +3,7 @@ pub mod UnderWay
 pub mod Begun
 pub mod Added
 pub mod Recalled
+pub mod Columns
 pub mod Looks
 pub mod Stands
 pub mod Found

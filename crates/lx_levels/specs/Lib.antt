@@ -1,4 +1,5 @@
 pub mod Stacks
+pub mod Columns
 pub mod Moving
 pub mod Standing
 pub mod Timed

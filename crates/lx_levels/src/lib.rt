@@ -6,6 +6,7 @@ mod current;
 mod hints;
 mod levels;
 mod motion;
+mod racks;
 mod replay;
 mod runs;
 mod stack;
