@@ -1,19 +1,21 @@
 -- Stacks laid out plane by plane.
-use Rattle.std.specs.Prelude.{◌≡◌, ◌≢◌, ◌⊎◌, ℕ, zero, suc, ◌+◌, ◌-◌, ◌*◌, ◌<◌, ◌≤◌, true, false, cond, nat_lt, List, [], ◌∷◌, drop, length, min}
-use Rattle.std.proofs.Common.{arith, get_or, set, map, replicate, refl, ◌∙◌, ap, sym, subst, inl, inr}
-use Rattle.std.specs.List.{All, range_with_len}
+use Rattle.std.specs.Prelude.{◌≡◌, ◌≢◌, ◌⊎◌, ℕ, zero, suc, ◌+◌, ◌-◌, ◌*◌, ◌<◌, ◌≤◌, List, [], ◌∷◌, ◌++◌, drop, length, min, reverse, take}
+use Rattle.std.proofs.Common.{arith, get_or, set, replicate, refl, ◌∙◌, ap, sym, subst, inl, inr}
+use Rattle.std.specs.List.{All}
 use Rattle.std.proofs.Math.ListN.{length-set}
 use Rattle.std.proofs.Math.Nat.{mul-le-mul_right}
-use Rattle.std.proofs.lemmas.Bool.{cases_eq}
-use Rattle.std.proofs.lemmas.Bool.Decides.{nat_tests}
+use Rattle.std.proofs.lemmas.Bool.{cases_eq, cases_lt}
 use Rattle.std.proofs.lemmas.Grind.{get_or-set_at}
-use Rattle.std.proofs.lemmas.List.{get_or-set_other, get_or_default, same_lists}
+use Rattle.std.proofs.lemmas.List.{get_or-set_other, get_or_default, same_lists, get_or_past, get_or-replicate, length-drop, length-reverse}
+use Rattle.std.proofs.lemmas.List.{length-take-le, take_more, reverse-append, set-set}
 use Rattle.std.proofs.lemmas.List.FromFn.{length-map-range_with_len, get_or-map-range_with_len}
 use Rattle.lx_fade.specs.Fades.{Fade, fade_at, stack_at, begun_by}
+use Rattle.lx_fade.proofs.Pushed.{stack_at-pushed}
+use Rattle.lx_spec.specs.Level.{fade_over}
 use Rattle.lx_fade.specs.declared.held.TheConstants.{NEVER}
 use Rattle.lx_spec.proofs.Comparisons.{lt_false, lt_true}
 use Rattle.lx_sheet.proofs.Cells.{places_apart}
-use Rattle.lx_levels.specs.Stacks.{Stack, no_stack}
+use Rattle.lx_levels.specs.Stacks.{Stack, level_in, no_stack}
 use Rattle.lx_levels.specs.Columns.{column, no_fade, stack_at_place, stacks_of}
 
 -- the newest fade of a column, and the others
@@ -179,3 +181,87 @@ stack_read channels bottoms counts block lent racks k bottom count is within bot
     ∙ ap (λ b. record { bottom = b; fades = column block channels k (get_or counts k 0) }) (sym bottom_is)
     ∙ ap (λ n. record { bottom = bottom; fades = column block channels k n }) (sym count_is)
     ∙ ap (λ (bs : List Fade). record { bottom = bottom; fades = column bs channels k count }) (sym same)
+
+-- none of the channels has a fade, over level 0
+pub opened_empty : (channels : ℕ) (bottoms counts : List ℕ) (block : List Fade) → bottoms ≡ replicate channels 0
+    → counts ≡ replicate channels 0 → (k : ℕ) → get_or (stacks_of channels bottoms counts block) k no_stack ≡ no_stack
+opened_empty channels bottoms counts block dark none k =
+    elim (cases_lt k channels) [
+      | inl within ↦
+          stack_is channels bottoms counts block k within
+          ∙ ap (λ n. record { bottom = get_or bottoms k 0; fades = column block channels k n })
+          (ap (λ (ns : List ℕ). get_or ns k 0) none ∙ get_or-replicate {A = ℕ} channels k 0 0 within)
+          ∙ ap (λ b. record { bottom = b; fades = [] })
+          (ap (λ (bs : List ℕ). get_or bs k 0) dark ∙ get_or-replicate {A = ℕ} channels k 0 0 within)
+      | inr past ↦ get_or_past (stacks_of channels bottoms counts block) k no_stack
+          (omega (arith, past, length-stacks_of channels bottoms counts block))
+    ]
+
+-- a fade pushed on those that have begun by its start gives the level of one over the stack
+pub pushed_level : (old new : List Stack) (k kept s time target from m : ℕ) → k < length old
+    → new ≡ set old k (record (get_or old k no_stack) {
+      fades = record { start = s; time = time; from = from; target = target }
+          ∷ drop (length (get_or old k no_stack).fades - kept) (get_or old k no_stack).fades;
+    })
+    → drop (length (get_or old k no_stack).fades - kept) (get_or old k no_stack).fades ≡ begun_by s (get_or old k no_stack).fades
+    → from ≡ level_in (get_or old k no_stack) s
+    → level_in (get_or new k no_stack) m ≡ fade_over (level_in (get_or old k no_stack)) s time target m
+pushed_level old new k kept s time target from m within is stays from_is =
+    let was : Stack = get_or old k no_stack in
+    let here : get_or new k no_stack ≡ record was {
+      fades = record { start = s; time = time; from = from; target = target }
+          ∷ drop (length was.fades - kept) was.fades;
+    } =
+    ap (λ (ss : List Stack). get_or ss k no_stack) is ∙ get_or-set_at old k k _ no_stack refl within in
+    ap (λ (stack : Stack). level_in stack m) here
+    ∙ ap (λ (fs : List Fade). stack_at was.bottom (record { start = s; time = time; from = from; target = target } ∷ fs) m) stays
+    ∙ ap (λ f. stack_at was.bottom (record { start = s; time = time; from = f; target = target } ∷ begun_by s was.fades) m) from_is
+    ∙ stack_at-pushed was.bottom was.fades s time target m
+
+-- what was written at a place is there
+pub set_is_there : (old new : List Stack) (k : ℕ) (stack : Stack) → k < length old → new ≡ set old k stack
+    → (get_or new k no_stack ≡ stack) × (new ≡ set old k (get_or new k no_stack))
+set_is_there old new k stack within is =
+    let here : get_or new k no_stack ≡ stack =
+    ap (λ (ss : List Stack). get_or ss k no_stack) is ∙ get_or-set_at old k k stack no_stack refl within in
+    (here, is ∙ ap (set old k) (sym here))
+
+length-put : (kept : ℕ) (fade : Fade) (fades : List Fade) → kept ≤ length fades → length (fade ∷ drop (length fades - kept) fades) ≡ kept + 1
+length-put kept fade fades le = omega (arith, length-drop (length fades - kept) fades)
+
+pub pushed_few : (old new : List Stack) (k kept : ℕ) (fade : Fade) → k < length old → kept ≤ length (get_or old k no_stack).fades
+    → new ≡ set old k (record (get_or old k no_stack) {
+      fades = fade ∷ drop (length (get_or old k no_stack).fades - kept)
+          (get_or old k no_stack).fades;
+    })
+    → length (get_or new k no_stack).fades ≡ kept + 1
+pushed_few old new k kept fade within le is =
+    ap (λ (s : Stack). length s.fades) (set_is_there old new k _ within is).0 ∙ length-put kept fade (get_or old k no_stack).fades le
+
+-- so many of the oldest fades of a stack were put on another after another
+pub stored_next : (old now next : List Stack) (k j bottom : ℕ) (fades : List Fade) (fade : Fade) → k < length old → j < length fades
+    → now ≡ set old k (record { bottom = bottom; fades = reverse (take j fades) })
+    → fade ≡ get_or fades j fade
+    → next ≡ set now k (record (get_or now k no_stack) {
+      fades = fade ∷ drop (length (get_or now k no_stack).fades - j)
+          (get_or now k no_stack).fades;
+    })
+    → next ≡ set old k (record { bottom = bottom; fades = reverse (take (j + 1) fades) })
+stored_next old now next k j bottom fades fade within less is read put =
+    let part : Stack = record { bottom = bottom; fades = reverse (take j fades) } in
+    let here : get_or now k no_stack ≡ part = (set_is_there old now k part within is).0 in
+    let long : length (reverse (take j fades)) ≡ j = length-reverse (take j fades) ∙ length-take-le j fades (omega arith) in
+    let none : length (reverse (take j fades)) - j ≡ 0 = omega (arith, long) in
+    put
+    ∙ ap (λ (s : Stack). set now k (record s { fades = fade ∷ drop (length s.fades - j) s.fades })) here
+    ∙ ap (λ n. set now k (record { bottom = bottom; fades = fade ∷ drop n (reverse (take j fades)) })) none
+    ∙ ap (λ (fs : List Fade). set now k (record { bottom = bottom; fades = fs }))
+    (sym (ap reverse (take_more fades j fade less ∙ ap (λ f. take j fades ++ f ∷ []) (sym read)) ∙ reverse-append (take j fades) (fade ∷ [])))
+    ∙ ap (λ (ss : List Stack). set ss k (record { bottom = bottom; fades = reverse (take (j + 1) fades) })) is
+    ∙ set-set old k part (record { bottom = bottom; fades = reverse (take (j + 1) fades) })
+
+pub stored_length : (old now : List Stack) (k j bottom : ℕ) (fades : List Fade) → k < length old → j ≤ length fades
+    → now ≡ set old k (record { bottom = bottom; fades = reverse (take j fades) })
+    → length (get_or now k no_stack).fades ≡ j
+stored_length old now k j bottom fades within le is =
+    ap (λ (s : Stack). length s.fades) (set_is_there old now k _ within is).0 ∙ length-reverse (take j fades) ∙ length-take-le j fades le

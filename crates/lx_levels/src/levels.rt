@@ -20,6 +20,7 @@ use crate::channel::{fill_stack, push_run};
 use crate::current::Current;
 use crate::hints::{Hint, NO_HINT, acts};
 use crate::motion::{advance, refresh};
+use crate::racks::Racks;
 use crate::stack::Stack;
 use lx_base::{CHANNELS, Chan, CueNo, Level, Moment, RUNS};
 use lx_fade::NEVER;
@@ -37,7 +38,9 @@ use std::marker::Model;
 pub struct Levels {
     moment: Moment,
     /// The fades of each channel.
-    stacks: Vec<Stack>,
+    stacks: Racks,
+    /// The fades of a channel that is being made anew.
+    scratch: Stack,
     /// The fade that governs each channel, where its level changes yet.
     currents: Vec<Current>,
     levels: Vec<Level>,
@@ -55,9 +58,9 @@ impl Model for Levels {
 
     ghost Value = { Kept };
 
-    ghost view = { λ l. record { moment = l.moment; stacks = l.stacks.items } };
+    ghost view = { λ l. record { moment = l.moment; stacks = l.stacks } };
 
-    ghost invariant = { λ l. IsReady l.moment l.due l.stacks.items l.currents.items l.levels.items l.holds.items l.hints.items };
+    ghost invariant = { λ l. IsReady l.moment l.due l.stacks l.currents.items l.levels.items l.holds.items l.hints.items };
 }
 
 impl Levels {
@@ -67,13 +70,10 @@ impl Levels {
         ensures reach { IfOk result (λ levels. length levels.stacks ≡ show.now.channels) }
     {
         let channels = show.channels() as usize;
-        let mut stacks = Vec::with_capacity(alloc, channels)?;
-        for _ in 0..channels {
-            stacks.push(Stack::open(alloc)?)?;
-        }
         Ok(Levels {
             moment: 0,
-            stacks,
+            stacks: Racks::open(alloc, channels)?,
+            scratch: Stack::open(alloc)?,
             currents: vec![in alloc; Current::still(0, NEVER); channels]?,
             levels: vec![in alloc; 0; channels]?,
             holds: vec![in alloc; NEVER; channels]?,
@@ -165,9 +165,8 @@ impl Levels {
         ensures others { IsElsewhere (chan - 1) self.old self.new }
     {
         let k = chan.get() as usize - 1;
-        let stack = &mut self.stacks[k];
         fill_stack(
-            stack,
+            &mut self.scratch,
             show,
             sheet,
             playback.base(),
@@ -176,10 +175,11 @@ impl Levels {
             chan,
             &mut self.hints,
         );
+        self.stacks.store(k, &self.scratch);
         refresh(
             k,
             self.moment,
-            stack,
+            &self.stacks,
             &mut self.currents,
             &mut self.levels,
             &mut self.holds,
@@ -209,12 +209,11 @@ impl Levels {
         ensures others { IsElsewhere (c - 1) self.old self.new }
     {
         let k = c.get() as usize - 1;
-        let stack = &mut self.stacks[k];
-        push_run(stack, show, run, c, target, self.moment);
+        push_run(&mut self.stacks, k, show, run, c, target, self.moment);
         refresh(
             k,
             self.moment,
-            stack,
+            &self.stacks,
             &mut self.currents,
             &mut self.levels,
             &mut self.holds,
@@ -227,12 +226,11 @@ impl Levels {
         requires { k < length self.old.stacks }
         ensures { self.new ≡ record self.old { stacks = slice_set self.old.stacks k (record { bottom = bottom; fades = [] }) } }
     {
-        let stack = &mut self.stacks[k];
-        stack.restart(bottom);
+        self.stacks.restart(k, bottom);
         refresh(
             k,
             self.moment,
-            stack,
+            &self.stacks,
             &mut self.currents,
             &mut self.levels,
             &mut self.holds,

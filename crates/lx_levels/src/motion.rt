@@ -1,13 +1,12 @@
 //! Levels brought to another moment, each looked at where it may change.
 
 ghost use Rattle.std.specs.Prelude.{◌≡◌, ℕ, ◌+◌, ◌<◌, ◌≤◌, false, List, length, slice_index, slice_index_or};
-ghost use Rattle.lx_fade.specs.Fades.{fade_at};
 ghost use Rattle.lx_fade.specs.declared.held.TheConstants.{NEVER};
-ghost use Rattle.lx_levels.specs.Stacks.{Stack as StackData, level_in, no_stack};
+ghost use Rattle.lx_levels.specs.Stacks.{no_stack};
 ghost use Rattle.lx_levels.specs.Moving.{Governs, Reaches, AreHeld, IsHeld, IsTold, IsRight, IsRightBut, IsWritten};
 
 use crate::current::Current;
-use crate::stack::Stack;
+use crate::racks::Racks;
 use lx_base::{Level, Moment};
 use lx_fade::NEVER;
 
@@ -23,7 +22,7 @@ pub(crate) struct Step {
 /// Brings the channels to the moment: those that are held until later are there already.
 pub(crate) fn advance(
     m: Moment,
-    stacks: &[Stack],
+    stacks: &Racks,
     currents: &mut Vec<Current>,
     levels: &mut Vec<Level>,
     holds: &mut Vec<Moment>,
@@ -50,7 +49,7 @@ pub(crate) fn advance(
 fn bring(
     k: usize,
     m: Moment,
-    stacks: &[Stack],
+    stacks: &Racks,
     currents: &mut Vec<Current>,
     levels: &mut Vec<Level>,
     holds: &mut Vec<Moment>,
@@ -73,7 +72,7 @@ fn bring(
 fn bring_on(
     k: usize,
     m: Moment,
-    stacks: &[Stack],
+    stacks: &Racks,
     currents: &mut Vec<Current>,
     levels: &mut Vec<Level>,
     holds: &mut Vec<Moment>,
@@ -88,7 +87,7 @@ fn bring_on(
     ensures unchanged { result ≡ false → slice_index levels.new.items k ≡ slice_index levels.old.items k }
 {
     let current = &mut currents[k];
-    wake(current, &stacks[k], m);
+    wake(current, stacks, k, m);
     let held = current.held(m);
     let changed = levels[k] != held.level;
     levels[k] = held.level;
@@ -98,14 +97,15 @@ fn bring_on(
 
 /// Takes up the fade that governs at the moment, where the one before did so up to there.
 #[inline(always)]
-fn wake(current: &mut Current, stack: &Stack, m: Moment)
+fn wake(current: &mut Current, stacks: &Racks, k: usize, m: Moment)
     requires moment { m + 1 < NEVER }
-    requires governs { Governs m stack.now current.old }
-    ensures governs { Governs m stack.now current.new }
+    requires within { k < length stacks.now }
+    requires governs { Governs m (slice_index_or stacks.now k no_stack) current.old }
+    ensures governs { Governs m (slice_index_or stacks.now k no_stack) current.new }
     ensures waits { m < current.new.wake }
 {
     if current.wake <= m {
-        *current = stack.governing(m);
+        *current = stacks.governing(k, m);
     }
 }
 
@@ -113,22 +113,22 @@ fn wake(current: &mut Current, stack: &Stack, m: Moment)
 pub(crate) fn refresh(
     k: usize,
     m: Moment,
-    stack: &Stack,
+    stacks: &Racks,
     currents: &mut Vec<Current>,
     levels: &mut Vec<Level>,
     holds: &mut Vec<Moment>,
     due: &mut Moment,
 )
     requires moment { m + 1 < NEVER }
+    requires within { k < length stacks.now }
     requires currents { k < length currents.old.items }
     requires levels { k < length levels.old.items }
     requires holds { k < length holds.old.items }
-    ensures right { (stacks : List StackData) → slice_index_or stacks k no_stack ≡ stack.now
-        → IsRightBut m k stacks currents.old.items levels.old.items holds.old.items
-        → IsRight m stacks currents.new.items levels.new.items holds.new.items }
+    ensures right { IsRightBut m k stacks.now currents.old.items levels.old.items holds.old.items
+        → IsRight m stacks.now currents.new.items levels.new.items holds.new.items }
     ensures due { AreHeld due.old holds.old.items → AreHeld due.new holds.new.items }
 {
-    let current = stack.governing(m);
+    let current = stacks.governing(k, m);
     let held = current.held(m);
     currents[k] = current;
     levels[k] = held.level;

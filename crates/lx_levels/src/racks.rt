@@ -1,7 +1,7 @@
 //! The stacks of all channels.
 
 ghost use Rattle.std.specs.Prelude.{◌≡◌, ◌≢◌, ℕ, ◌+◌, ◌-◌, ◌*◌, ◌<◌, ◌≤◌, [], ◌∷◌, List, drop, length, slice_index_or, slice_set, vec_capacity};
-ghost use Rattle.std.specs.Prelude.{replicate, IfOk};
+ghost use Rattle.std.specs.Prelude.{IfOk};
 ghost use Rattle.std.specs.List.{All};
 ghost use Rattle.lx_base.specs.declared.TheConstants.{CHANNELS, RUNS, TIME_MAX};
 ghost use Rattle.lx_spec.specs.Level.{fade_over};
@@ -55,13 +55,17 @@ impl Racks {
     /// No fade on any of so many channels, over level 0.
     pub(crate) fn open(alloc: Global, channels: usize) -> Result<Racks, AllocError>
         requires { channels ≤ CHANNELS }
-        ensures { IfOk result (λ racks. racks ≡ replicate channels no_stack) }
+        ensures reach { IfOk result (λ racks. length racks ≡ channels) }
+        ensures empty { IfOk result (λ racks. (k : ℕ) → slice_index_or racks k no_stack ≡ no_stack) }
     {
+        let bottoms = vec![in alloc; 0; channels]?;
+        let counts = vec![in alloc; 0; channels]?;
+        let fades = Vec::with_capacity(alloc, RUNS * channels)?;
         Ok(Racks {
             channels,
-            bottoms: vec![in alloc; 0; channels]?,
-            counts: vec![in alloc; 0; channels]?,
-            fades: Vec::with_capacity(alloc, RUNS * channels)?,
+            bottoms,
+            counts,
+            fades,
         })
     }
 
@@ -104,7 +108,49 @@ impl Racks {
         ensures stack { drop (length (slice_index_or self.now k no_stack).fades - result) (slice_index_or self.now k no_stack).fades
             ≡ begun_by start (slice_index_or self.now k no_stack).fades }
     {
-        kept_in(&self.fades, self.channels, k, self.counts[k] as usize, start)
+        kept_in(
+            &self.fades,
+            self.channels,
+            k,
+            self.counts[k] as usize,
+            start,
+        )
+    }
+
+    /// Pushes a fade to the target that begins at `start` from the level there: the fades that would begin later are
+    /// dropped.
+    pub(crate) fn push(&mut self, k: usize, start: Moment, time: Cs, target: Level)
+        requires within { k < length self.old }
+        requires room { length (slice_index_or self.old k no_stack).fades < RUNS }
+        requires start { start < NEVER }
+        requires time { time ≤ TIME_MAX }
+        ensures level { (m : ℕ) → level_in (slice_index_or self.new k no_stack) m
+            ≡ fade_over (level_in (slice_index_or self.old k no_stack)) start time target m }
+        ensures few { length (slice_index_or self.new k no_stack).fades ≤ length (slice_index_or self.old k no_stack).fades + 1 }
+        ensures others { self.new ≡ slice_set self.old k (slice_index_or self.new k no_stack) }
+    {
+        let from = self.value(k, start);
+        let kept = self.kept(k, start);
+        let fade = Fade {
+            start,
+            time,
+            from,
+            target,
+        };
+        self.put(k, kept, fade);
+    }
+
+    /// The channel's stack becomes this one.
+    pub(crate) fn store(&mut self, k: usize, stack: &Stack)
+        requires within { k < length self.old }
+        requires few { length stack.now.fades ≤ RUNS }
+        ensures { self.new ≡ slice_set self.old k stack.now }
+    {
+        self.restart(k, stack.bottom());
+        let fades = stack.fades();
+        for j in 0..fades.len() {
+            self.put(k, j, fades[j]);
+        }
     }
 
     /// The fade that gives the channel's level from the moment on, until a later one begins.
@@ -180,11 +226,11 @@ fn governing_in(
     let mut wake = NEVER;
     let mut left = count;
     while left > 0 {
-        let fade = block[(left - 1) * channels + k];
-        if fade.start <= m {
-            return Current { fade, wake };
+        let newest = block[(left - 1) * channels + k];
+        if newest.start <= m {
+            return Current { fade: newest, wake };
         }
-        wake = wake.min(fade.start);
+        wake = wake.min(newest.start);
         left -= 1;
     }
     Current::still(bottom, wake)

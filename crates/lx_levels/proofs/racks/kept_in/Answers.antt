@@ -1,4 +1,4 @@
-use Rattle.std.proofs.Common.{◌≡◌, ◌∙◌, sym, ap, arith}
+use Rattle.std.proofs.Common.{◌∙◌, sym, ap, arith}
 use Rattle.lx_fade.specs.Fades.{Fade}
 use Rattle.lx_levels.proofs.Columns.{newest_kept, newest_left, read_is}
 use Rattle.lx_levels.proofs.racks.kept_in.Goals as goal

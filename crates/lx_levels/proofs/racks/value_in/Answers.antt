@@ -1,4 +1,4 @@
-use Rattle.std.proofs.Common.{◌≡◌, ◌∙◌, sym, ap, arith}
+use Rattle.std.proofs.Common.{◌∙◌, sym, ap, arith}
 use Rattle.lx_fade.specs.Fades.{Fade}
 use Rattle.lx_levels.proofs.Columns.{newest_begun, newest_waits, read_is}
 use Rattle.lx_levels.proofs.racks.value_in.Goals as goal

@@ -1,4 +1,4 @@
-use Rattle.std.proofs.Common.{◌≡◌, ◌+◌, ◌*◌, ◌<◌, ℕ, List, length, set, suc, ap, ◌∙◌, sym, arith}
+use Rattle.std.proofs.Common.{◌≡◌, ◌+◌, ◌*◌, ◌<◌, length, set, suc, ap, ◌∙◌, arith}
 use Rattle.lx_levels.specs.Columns.{column}
 use Rattle.lx_levels.proofs.Columns.{written_here, written_other}
 use Rattle.lx_levels.proofs.racks.write.Goals as goal

@@ -10,15 +10,15 @@ invariant_of-result c =
     let n = c.channels-channels.result in
     let never : c.in_ok-vec-3.field-0.items ≡ replicate n NEVER = c.in_ok-vec-3.ensures.items_if_clones_equal (λ y is. is) in
     record {
-      right = opened_right c.loop.stacks.items c.in_ok-vec.field-0.items c.in_ok-vec-2.field-0.items c.in_ok-vec-3.field-0.items n
+      right = opened_right c.in_ok-open.field-0 c.in_ok-vec.field-0.items c.in_ok-vec-2.field-0.items c.in_ok-vec-3.field-0.items n
           (omega (
             arith,
             c.channels-channels.ensures.channels,
             c.channels-channels.ensures.valid.channels.most,
           ))
-          (omega (arith, c.loop.invariant.count, c.loop-test.false, c.loop.auto.counter-end))
+          c.in_ok-open.ensures.reach
           (omega (arith, c.in_ok-vec.ensures.len, c.in_ok-vec.field-0.ok.0))
-          (c.in_ok-vec-2.ensures.items_if_clones_equal (λ y is. is)) never c.loop.invariant.empty;
+          (c.in_ok-vec-2.ensures.items_if_clones_equal (λ y is. is)) never c.in_ok-open.ensures.empty;
       due_is = λ k within.
           let long : length c.in_ok-vec-3.field-0.items ≡ n = ap length never ∙ length-replicate {A = ℕ} n NEVER in
           omega (

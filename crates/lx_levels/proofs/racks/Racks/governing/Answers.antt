@@ -1,20 +1,15 @@
-use Rattle.std.proofs.Common.{◌≡◌, ◌+◌, ◌-◌, ◌<◌, ◌≤◌, ◌*◌, ◌∙◌, ℕ, sym, ap, subst, length, get_or, drop, set, suc, arith}
-use Rattle.std.proofs.lemmas.List.{get_or_read, get_or-set_other}
-use Rattle.std.proofs.lemmas.Grind.{get_or-set_at}
-use Rattle.std.proofs.Math.ListN.{length-set}
-use Rattle.std.proofs.Math.Nat.{mul-le-mul_right}
-use Rattle.lx_fade.specs.Fades.{Fade, begun_by}
-use Rattle.lx_levels.specs.Stacks.{Stack, level_in, no_stack}
+use Rattle.std.proofs.Common.{◌≡◌, ◌<◌, ◌≤◌, ◌*◌, sym, ap, subst, length, get_or, arith}
+use Rattle.std.proofs.lemmas.List.{get_or_read}
+use Rattle.lx_levels.specs.Stacks.{Stack}
 use Rattle.lx_levels.specs.Moving.{Governs}
-use Rattle.lx_levels.specs.Columns.{column}
-use Rattle.lx_levels.proofs.Columns.{drop-column, length-column, place_within, stack_read, stacks_set, stack_is}
+use Rattle.lx_levels.proofs.Columns.{place_within, stack_read}
 use Rattle.lx_levels.proofs.racks.Racks.governing.Goals as goal
 
 pub index-requires : goal.index-requires
 index-requires c = omega (
   arith,
   place_within c.self.inside.channels c.self.inside.bottoms.items c.self.inside.counts.items c.self.inside.fades.items c.args.self.now
-  c.args.k c.self.view_is c.requires.within,
+      c.args.k c.self.view_is c.requires.within,
   c.self.invariant.of_counts,
   c.self.inside.counts.ok,
 )
@@ -23,7 +18,7 @@ pub index-requires-2 : goal.index-requires-2
 index-requires-2 c = omega (
   arith,
   place_within c.self.inside.channels c.self.inside.bottoms.items c.self.inside.counts.items c.self.inside.fades.items c.args.self.now
-  c.args.k c.self.view_is c.requires.within,
+      c.args.k c.self.view_is c.requires.within,
   c.self.invariant.of_bottoms,
   c.self.inside.bottoms.ok,
 )

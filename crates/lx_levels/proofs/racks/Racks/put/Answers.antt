@@ -1,13 +1,12 @@
 use Rattle.std.proofs.Common.{◌≡◌, ◌+◌, ◌-◌, ◌<◌, ◌≤◌, ◌*◌, ◌∙◌, ◌≢◌, ℕ, List, ◌∷◌, sym, ap, subst, length, get_or, drop, set, refl, inl, inr, arith}
 use Rattle.std.proofs.lemmas.Bool.{cases_eq}
-use Rattle.std.proofs.lemmas.List.{get_or_read, get_or-set_other}
+use Rattle.std.proofs.lemmas.List.{get_or-set_other}
 use Rattle.std.proofs.lemmas.Grind.{get_or-set_at}
 use Rattle.std.proofs.Math.ListN.{length-set}
-use Rattle.std.proofs.Math.Nat.{mul-le-mul_right}
-use Rattle.lx_fade.specs.Fades.{Fade, begun_by}
-use Rattle.lx_levels.specs.Stacks.{Stack, level_in, no_stack}
+use Rattle.lx_fade.specs.Fades.{Fade}
+use Rattle.lx_levels.specs.Stacks.{Stack, no_stack}
 use Rattle.lx_levels.specs.Columns.{column}
-use Rattle.lx_levels.proofs.Columns.{drop-column, length-column, place_within, stack_read, stacks_set, stack_is}
+use Rattle.lx_levels.proofs.Columns.{drop-column, length-column, place_within, stack_read, stacks_set}
 use Rattle.lx_levels.proofs.racks.Racks.put.Goals as goal
 
 pub write-requires-clause-within : goal.write-requires-clause-within
@@ -18,7 +17,7 @@ pub index_mut-requires : goal.index_mut-requires
 index_mut-requires c = omega (
   arith,
   place_within c.self.inside.channels c.self.inside.bottoms.items c.self.inside.counts.items c.self.inside.fades.items
-    c.args.self.now c.args.k c.self.view_is c.requires.within,
+      c.args.self.now c.args.k c.self.view_is c.requires.within,
   c.self.invariant.of_counts,
   c.self.inside.counts.ok,
 )
@@ -75,11 +74,16 @@ returns c =
     (get_or-set_at counts k k (c.args.kept + 1) 0 refl room)
     ∙ ap (λ (fs : List Fade). record { bottom = get_or bottoms k 0; fades = fs })
     (c.write.ensures.here ∙ ap (λ (fs : List Fade). c.args.fade ∷ fs) kept)
-    ∙ ap (λ b. record { bottom = b; fades = c.args.fade ∷ drop (length (get_or now k no_stack).fades - c.args.kept)
-    (get_or now k no_stack).fades }) (sym (ap (λ (s : Stack). s.bottom) stack)))
+    ∙ ap (λ b. record {
+      bottom = b;
+      fades = c.args.fade ∷ drop (length (get_or now k no_stack).fades - c.args.kept)
+          (get_or now k no_stack).fades;
+    }) (sym (ap (λ (s : Stack). s.bottom) stack)))
     (λ i less apart.
     ap (λ n. record { bottom = get_or bottoms i 0; fades = column new channels i n })
     (get_or-set_other counts k i (c.args.kept + 1) 0 apart)
     ∙ ap (λ (fs : List Fade). record { bottom = get_or bottoms i 0; fades = fs }) (c.write.ensures.others i (get_or counts i 0) less apart))
-    ∙ ap (λ (ss : List Stack). set ss k (record { bottom = (get_or now k no_stack).bottom;
-    fades = c.args.fade ∷ drop (length (get_or now k no_stack).fades - c.args.kept) (get_or now k no_stack).fades })) c.self.view_is
+    ∙ ap (λ (ss : List Stack). set ss k (record {
+      bottom = (get_or now k no_stack).bottom;
+      fades = c.args.fade ∷ drop (length (get_or now k no_stack).fades - c.args.kept) (get_or now k no_stack).fades;
+    })) c.self.view_is

@@ -1,20 +1,17 @@
-use Rattle.std.proofs.Common.{◌≡◌, ◌+◌, ◌-◌, ◌<◌, ◌≤◌, ◌*◌, ◌∙◌, ◌≢◌, ℕ, List, [], ◌∷◌, sym, ap, subst, length, get_or, drop, set, refl, inl, inr, arith}
-use Rattle.std.proofs.lemmas.Bool.{cases_eq}
-use Rattle.std.proofs.lemmas.List.{get_or_read, get_or-set_other}
+use Rattle.std.proofs.Common.{◌<◌, ◌∙◌, ℕ, List, [], ap, get_or, set, refl, arith}
+use Rattle.std.proofs.lemmas.List.{get_or-set_other}
 use Rattle.std.proofs.lemmas.Grind.{get_or-set_at}
-use Rattle.std.proofs.Math.ListN.{length-set}
-use Rattle.std.proofs.Math.Nat.{mul-le-mul_right}
-use Rattle.lx_fade.specs.Fades.{Fade, begun_by}
-use Rattle.lx_levels.specs.Stacks.{Stack, level_in, no_stack}
+use Rattle.lx_fade.specs.Fades.{Fade}
+use Rattle.lx_levels.specs.Stacks.{Stack}
 use Rattle.lx_levels.specs.Columns.{column}
-use Rattle.lx_levels.proofs.Columns.{drop-column, length-column, place_within, stack_read, stacks_set, stack_is}
+use Rattle.lx_levels.proofs.Columns.{place_within, stacks_set}
 use Rattle.lx_levels.proofs.racks.Racks.restart.Goals as goal
 
 pub index_mut-requires : goal.index_mut-requires
 index_mut-requires c = omega (
   arith,
   place_within c.self.inside.channels c.self.inside.bottoms.items c.self.inside.counts.items c.self.inside.fades.items
-    c.args.self.now c.args.k c.self.view_is c.requires,
+      c.args.self.now c.args.k c.self.view_is c.requires,
   c.self.invariant.of_bottoms,
   c.self.inside.bottoms.ok,
 )
@@ -23,7 +20,7 @@ pub index_mut-requires-2 : goal.index_mut-requires-2
 index_mut-requires-2 c = omega (
   arith,
   place_within c.self.inside.channels c.self.inside.bottoms.items c.self.inside.counts.items c.self.inside.fades.items
-    c.args.self.now c.args.k c.self.view_is c.requires,
+      c.args.self.now c.args.k c.self.view_is c.requires,
   c.self.invariant.of_counts,
   c.self.inside.counts.ok,
 )
