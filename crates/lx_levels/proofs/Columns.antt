@@ -37,7 +37,8 @@ pub column_same : (new old : List Fade) (channels k n : ℕ)
 column_same new old channels k zero same = refl
 column_same new old channels k (suc n) same =
     ap (λ f. f ∷ column new channels k n) (same n (omega arith))
-    ∙ ap (λ (fs : List Fade). get_or old (n * channels + k) no_fade ∷ fs) (column_same new old channels k n (λ j less. same j (omega arith)))
+    ∙ ap (λ (fs : List Fade). get_or old (n * channels + k) no_fade ∷ fs) (column_same new old channels k n (λ j less. same j
+    (omega arith)))
 
 -- without the newest
 pub drop-column : (block : List Fade) (channels k n m : ℕ) → m ≤ n → drop (n - m) (column block channels k n) ≡ column block channels k m
@@ -226,7 +227,8 @@ set_is_there old new k stack within is =
     ap (λ (ss : List Stack). get_or ss k no_stack) is ∙ get_or-set_at old k k stack no_stack refl within in
     (here, is ∙ ap (set old k) (sym here))
 
-length-put : (kept : ℕ) (fade : Fade) (fades : List Fade) → kept ≤ length fades → length (fade ∷ drop (length fades - kept) fades) ≡ kept + 1
+length-put : (kept : ℕ) (fade : Fade) (fades : List Fade) → kept ≤ length fades → length (fade ∷ drop
+    (length fades - kept) fades) ≡ kept + 1
 length-put kept fade fades le = omega (arith, length-drop (length fades - kept) fades)
 
 pub pushed_few : (old new : List Stack) (k kept : ℕ) (fade : Fade) → k < length old → kept ≤ length (get_or old k no_stack).fades
@@ -256,7 +258,8 @@ stored_next old now next k j bottom fades fade within less is read put =
     ∙ ap (λ (s : Stack). set now k (record s { fades = fade ∷ drop (length s.fades - j) s.fades })) here
     ∙ ap (λ n. set now k (record { bottom = bottom; fades = fade ∷ drop n (reverse (take j fades)) })) none
     ∙ ap (λ (fs : List Fade). set now k (record { bottom = bottom; fades = fs }))
-    (sym (ap reverse (take_more fades j fade less ∙ ap (λ f. take j fades ++ f ∷ []) (sym read)) ∙ reverse-append (take j fades) (fade ∷ [])))
+    (sym (ap reverse (take_more fades j fade less ∙ ap (λ f. take j fades ++ f ∷ []) (sym read)) ∙ reverse-append (take j fades)
+    (fade ∷ [])))
     ∙ ap (λ (ss : List Stack). set ss k (record { bottom = bottom; fades = reverse (take (j + 1) fades) })) is
     ∙ set-set old k part (record { bottom = bottom; fades = reverse (take (j + 1) fades) })
 

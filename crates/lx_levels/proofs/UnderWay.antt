@@ -15,7 +15,11 @@ use Rattle.lx_levels.specs.Moving.{Governs, StaysUntil, no_current, IsHeld, IsTo
 pub held_later : (m n : ℕ) (stacks : List Stack) (currents : List Current) (levels holds : List ℕ) (k : ℕ) → m ≤ n
     → IsHeld m stacks currents levels holds k → IsHeld n stacks currents levels holds k
 held_later m n stacks currents levels holds k le held = record {
-  governs = λ some. let g = held.governs some in record { begun = omega (arith, g.begun); gives = λ x from until. g.gives x (omega arith) until };
+  governs = λ some. let g = held.governs some in record {
+    begun = omega (arith, g.begun);
+    gives = λ x from until. g.gives x
+        (omega arith) until;
+  };
   stays = λ x from until. held.stays x (omega arith) until;
 }
 
@@ -110,7 +114,8 @@ advanced_next m k stacks before currents levels_before holds_before levels holds
     | inr other ↦ told_other m k i stacks before currents levels_before holds_before levels holds is other
         (advanced.done i (omega (arith, other)))
   ];
-  left = λ i past within. held_other m k i stacks before currents levels_before holds_before levels holds is (λ same. omega (arith, same, past))
+  left = λ i past within. held_other m k i stacks before currents levels_before holds_before levels holds is (λ same. omega
+      (arith, same, past))
       (advanced.left i (omega arith) within);
 }
 
@@ -219,4 +224,5 @@ opened_right stacks currents levels holds n few of_stacks of_currents zeros neve
 -- and it is so at a later moment up to which it stays
 pub same_level : (m n k : ℕ) (stacks : List Stack) (currents : List Current) (levels holds : List ℕ) → m ≤ n → n < get_or holds k 0
     → IsTold m stacks currents levels holds k → level_in (get_or stacks k no_stack) n ≡ level_in (get_or stacks k no_stack) m
-same_level m n k stacks currents levels holds le waits told = told.held.stays n le (inl waits) ∙ level_now m k stacks currents levels holds told
+same_level m n k stacks currents levels holds le waits told = told.held.stays n le (inl waits)
+    ∙ level_now m k stacks currents levels holds told

@@ -1,5 +1,6 @@
 -- The row of a number, as it stands in the block, and what it is where the sheet stands for a show.
-use Rattle.std.proofs.Common.{◌≡◌, ◌≢◌, ℕ, zero, suc, ◌+◌, ◌-◌, ◌*◌, ◌<◌, ◌≤◌, true, false, cond, List, [], ◌∷◌, length, get_or, take, drop, map}
+use Rattle.std.proofs.Common.{◌≡◌, ◌≢◌, ℕ, zero, suc, ◌+◌, ◌-◌, ◌*◌, ◌<◌, ◌≤◌, true, false, cond, List, [], ◌∷◌, length, get_or, take}
+use Rattle.std.proofs.Common.{drop, map}
 use Rattle.std.proofs.Common.{Some, None, refl, ◌∙◌, sym, ap, arith}
 use Rattle.std.specs.Prelude.{Option, is_some, option_map, slice_get, ◌==◌, ◌||◌}
 use Rattle.std.specs.List.{list_any}

@@ -31,7 +31,8 @@ loop-left-preserved c =
       wake = omega (arith, c.loop-left.invariant.wake, c.if-newest-m.false, c.min-wake.ensures, start);
       most = omega (arith, c.loop-left.invariant.most, c.min-wake.ensures);
       same = λ x from until.
-          let both = before_lesser x c.loop-left.wake c.newest.inside.start c.min-wake.result c.min-wake.ensures (omega (arith, comes, start))
+          let both = before_lesser x c.loop-left.wake c.newest.inside.start c.min-wake.result c.min-wake.ensures (omega
+          (arith, comes, start))
           until in
           c.loop-left.invariant.same x from both.0
           ∙ newest_waits c.args.block.now c.args.channels c.args.k c.loop-left.left c.index-block-left.result c.loop-left-test.true is

@@ -18,5 +18,6 @@ returns-clause-stands c = λ show p stands.
     let reach : length c.self.inside.stacks ≡ show.channels = ap (λ (v : Kept). length v.stacks) c.self.view_is ∙ stands.reach in
     record {
       reach = ap length c.as_slice.ensures.value ∙ c.self.invariant.right.reaches.of_levels ∙ reach;
-      each = λ k within. returns-clause-levels c k (omega (arith, within, stands.reach)) ∙ kept_level show p c.args.self.now k stands within;
+      each = λ k within. returns-clause-levels c k (omega (arith, within, stands.reach))
+          ∙ kept_level show p c.args.self.now k stands within;
     }

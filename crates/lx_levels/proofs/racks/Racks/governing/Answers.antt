@@ -33,7 +33,8 @@ governing_in-requires-clause-reach c =
     place_within c.self.inside.channels c.self.inside.bottoms.items c.self.inside.counts.items c.self.inside.fades.items c.args.self.now
     c.args.k c.self.view_is c.requires.within in
     let count : c.index.result.now ≡ get_or c.self.inside.counts.items c.args.k 0 =
-    get_or_read c.self.inside.counts.items c.args.k c.index.result.now (omega (arith, within, c.self.invariant.of_counts)) c.index.ensures 0 in
+    get_or_read c.self.inside.counts.items c.args.k c.index.result.now (omega
+    (arith, within, c.self.invariant.of_counts)) c.index.ensures 0 in
     subst (λ n. n * c.self.inside.channels ≤ length c.deref.result.now) (sym count)
     (omega (arith, c.self.invariant.reach c.args.k within, ap length c.deref.ensures.value))
 
@@ -46,6 +47,7 @@ returns-clause-governs c =
     c.deref.result.now c.args.self.now c.args.k c.index-2.result.now c.index.result.now c.self.view_is within
     (get_or_read c.self.inside.bottoms.items c.args.k c.index-2.result.now (omega (arith, within, c.self.invariant.of_bottoms))
     c.index-2.ensures 0)
-    (get_or_read c.self.inside.counts.items c.args.k c.index.result.now (omega (arith, within, c.self.invariant.of_counts)) c.index.ensures 0)
+    (get_or_read c.self.inside.counts.items c.args.k c.index.result.now (omega
+    (arith, within, c.self.invariant.of_counts)) c.index.ensures 0)
     c.deref.ensures.value in
     subst (λ (s : Stack). Governs c.args.m s c.governing_in.result) (sym stack) c.governing_in.ensures.governs

@@ -25,7 +25,8 @@ kept_in-requires-clause-reach c =
     place_within c.self.inside.channels c.self.inside.bottoms.items c.self.inside.counts.items c.self.inside.fades.items c.args.self.now
     c.args.k c.self.view_is c.requires in
     let count : c.index.result.now ≡ get_or c.self.inside.counts.items c.args.k 0 =
-    get_or_read c.self.inside.counts.items c.args.k c.index.result.now (omega (arith, within, c.self.invariant.of_counts)) c.index.ensures 0 in
+    get_or_read c.self.inside.counts.items c.args.k c.index.result.now (omega
+    (arith, within, c.self.invariant.of_counts)) c.index.ensures 0 in
     subst (λ n. n * c.self.inside.channels ≤ length c.deref.result.now) (sym count)
     (omega (arith, c.self.invariant.reach c.args.k within, ap length c.deref.ensures.value))
 
@@ -35,10 +36,13 @@ returns-clause-count c =
     place_within c.self.inside.channels c.self.inside.bottoms.items c.self.inside.counts.items c.self.inside.fades.items c.args.self.now
     c.args.k c.self.view_is c.requires in
     let stack = stack_read c.self.inside.channels c.self.inside.bottoms.items c.self.inside.counts.items c.self.inside.fades.items
-    c.deref.result.now c.args.self.now c.args.k (get_or c.self.inside.bottoms.items c.args.k 0) c.index.result.now c.self.view_is within refl
-    (get_or_read c.self.inside.counts.items c.args.k c.index.result.now (omega (arith, within, c.self.invariant.of_counts)) c.index.ensures 0)
+    c.deref.result.now c.args.self.now c.args.k (get_or c.self.inside.bottoms.items c.args.k 0) c.index.result.now c.self.view_is within
+    refl
+    (get_or_read c.self.inside.counts.items c.args.k c.index.result.now (omega
+    (arith, within, c.self.invariant.of_counts)) c.index.ensures 0)
     c.deref.ensures.value in
-    let fades : (get_or c.args.self.now c.args.k no_stack).fades ≡ column c.deref.result.now c.self.inside.channels c.args.k c.index.result.now =
+    let fades : (get_or c.args.self.now c.args.k no_stack).fades ≡ column c.deref.result.now c.self.inside.channels c.args.k
+    c.index.result.now =
     ap (λ (s : Stack). s.fades) stack in
     let long : length (get_or c.args.self.now c.args.k no_stack).fades ≡ c.index.result.now = ap length fades
     ∙ length-column c.deref.result.now c.self.inside.channels c.args.k c.index.result.now in
@@ -50,10 +54,13 @@ returns-clause-stack c =
     place_within c.self.inside.channels c.self.inside.bottoms.items c.self.inside.counts.items c.self.inside.fades.items c.args.self.now
     c.args.k c.self.view_is c.requires in
     let stack = stack_read c.self.inside.channels c.self.inside.bottoms.items c.self.inside.counts.items c.self.inside.fades.items
-    c.deref.result.now c.args.self.now c.args.k (get_or c.self.inside.bottoms.items c.args.k 0) c.index.result.now c.self.view_is within refl
-    (get_or_read c.self.inside.counts.items c.args.k c.index.result.now (omega (arith, within, c.self.invariant.of_counts)) c.index.ensures 0)
+    c.deref.result.now c.args.self.now c.args.k (get_or c.self.inside.bottoms.items c.args.k 0) c.index.result.now c.self.view_is within
+    refl
+    (get_or_read c.self.inside.counts.items c.args.k c.index.result.now (omega
+    (arith, within, c.self.invariant.of_counts)) c.index.ensures 0)
     c.deref.ensures.value in
-    let fades : (get_or c.args.self.now c.args.k no_stack).fades ≡ column c.deref.result.now c.self.inside.channels c.args.k c.index.result.now =
+    let fades : (get_or c.args.self.now c.args.k no_stack).fades ≡ column c.deref.result.now c.self.inside.channels c.args.k
+    c.index.result.now =
     ap (λ (s : Stack). s.fades) stack in
     let long : length (get_or c.args.self.now c.args.k no_stack).fades ≡ c.index.result.now = ap length fades
     ∙ length-column c.deref.result.now c.self.inside.channels c.args.k c.index.result.now in

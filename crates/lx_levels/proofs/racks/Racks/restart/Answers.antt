@@ -32,9 +32,11 @@ returns c =
     let channels : ℕ = c.self.inside.channels in
     let k : ℕ = c.args.k in
     let block : List Fade = c.self.inside.fades.items in
-    let within : k < channels = place_within c.self.inside.channels c.self.inside.bottoms.items c.self.inside.counts.items c.self.inside.fades.items
+    let within : k < channels = place_within c.self.inside.channels c.self.inside.bottoms.items c.self.inside.counts.items
+    c.self.inside.fades.items
     c.args.self.now c.args.k c.self.view_is c.requires in
-    stacks_set channels bottoms counts (set bottoms k c.args.bottom) (set counts k 0) block block k (record { bottom = c.args.bottom; fades = [] })
+    stacks_set channels bottoms counts (set bottoms k c.args.bottom) (set counts k 0) block block k
+    (record { bottom = c.args.bottom; fades = [] })
     within
     (ap (λ n. record { bottom = get_or (set bottoms k c.args.bottom) k 0; fades = column block channels k n })
     (get_or-set_at counts k k 0 0 refl (omega (arith, within, c.self.invariant.of_counts)))

@@ -32,7 +32,8 @@ value_in-requires-clause-reach c =
     place_within c.self.inside.channels c.self.inside.bottoms.items c.self.inside.counts.items c.self.inside.fades.items c.args.self.now
     c.args.k c.self.view_is c.requires in
     let count : c.index.result.now ≡ get_or c.self.inside.counts.items c.args.k 0 =
-    get_or_read c.self.inside.counts.items c.args.k c.index.result.now (omega (arith, within, c.self.invariant.of_counts)) c.index.ensures 0 in
+    get_or_read c.self.inside.counts.items c.args.k c.index.result.now (omega
+    (arith, within, c.self.invariant.of_counts)) c.index.ensures 0 in
     subst (λ n. n * c.self.inside.channels ≤ length c.deref.result.now) (sym count)
     (omega (arith, c.self.invariant.reach c.args.k within, ap length c.deref.ensures.value))
 
@@ -45,6 +46,7 @@ returns c =
     c.deref.result.now c.args.self.now c.args.k c.index-2.result.now c.index.result.now c.self.view_is within
     (get_or_read c.self.inside.bottoms.items c.args.k c.index-2.result.now (omega (arith, within, c.self.invariant.of_bottoms))
     c.index-2.ensures 0)
-    (get_or_read c.self.inside.counts.items c.args.k c.index.result.now (omega (arith, within, c.self.invariant.of_counts)) c.index.ensures 0)
+    (get_or_read c.self.inside.counts.items c.args.k c.index.result.now (omega
+    (arith, within, c.self.invariant.of_counts)) c.index.ensures 0)
     c.deref.ensures.value in
     c.value_in.ensures ∙ sym (ap (λ (s : Stack). level_in s c.args.m) stack)

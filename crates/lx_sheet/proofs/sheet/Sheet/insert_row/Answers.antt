@@ -28,7 +28,8 @@ reached : (channels : ℕ) (levels grown : List ℕ) (old new lent : List Place)
 reached channels levels grown old new lent at n row covers longer here added same is =
     let own : row ≡ row_at_place new at = is ∙ ap (λ (xs : List Place). row_at_place xs at) same in
     subst (Covers channels grown) (sym added)
-    (covers_inserted channels grown old at (record { cue = n; row = row_at_place new at }) (covers_longer channels levels grown old longer covers)
+    (covers_inserted channels grown old at (record { cue = n; row = row_at_place new at })
+    (covers_longer channels levels grown old longer covers)
     (subst (λ r. (r + 1) * channels ≤ length grown) own here))
 
 pub own_row-row-requires-clause-rows : goal.own_row-row-requires-clause-rows
@@ -59,7 +60,8 @@ returns-then-len-cues c = λ before cue stands number absent now.
     let width : length c.deref_mut-then-len-cues.result.now ≡ channels =
     omega (arith, ap length c.deref_mut-then-len-cues.ensures.value, c.self.invariant.look_room) in
     let is : IsFilled channels new show.cues levels filled at (at + 1) =
-    filled_as _ channels _ new _ show.cues _ levels filled at (at + 1) width c.deref-then-len-cues.ensures.value of_cues c.deref_mut.ensures.value
+    filled_as _ channels _ new _ show.cues _ levels filled at (at + 1) width c.deref-then-len-cues.ensures.value of_cues
+    c.deref_mut.ensures.value
     c.fill_from.ensures in
     subst (λ (s : Show). RowsStandFor s (sheet_of channels new (with_items c.reach.new.levels filled).items)) (sym now)
     (subst (λ (xs : List ℕ). RowsStandFor show (sheet_of channels new xs)) (sym (with_items_is c.reach.new.levels filled (omega arith)))
@@ -112,7 +114,8 @@ fill_from-requires-clause-room c =
     (omega (arith, ap length c.deref_mut-then-len-cues.ensures.value, c.self.invariant.look_room)) c.deref-then-len-cues.ensures.value
     (ap length c.deref_mut.ensures.value)
     (reached c.self.inside.channels c.self.inside.levels.items c.reach.new.levels.items c.self.inside.order.items
-    c.add_place.new.order.items c.deref.result.now c.in-Some.at c.args.n c.own_row-row.result c.self.invariant.covered c.reach.ensures.longer
+    c.add_place.new.order.items c.deref.result.now c.in-Some.at c.args.n c.own_row-row.result c.self.invariant.covered
+    c.reach.ensures.longer
     c.reach.ensures.reach c.in-Some.ensures.added c.deref.ensures.value c.own_row-row.ensures.row)
 
 pub invariant_of-self : goal.invariant_of-self

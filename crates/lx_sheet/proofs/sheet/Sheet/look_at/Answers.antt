@@ -23,7 +23,8 @@ returns-then-cues-eq0-clause-none c = λ none chan.
     let order : List Place = c.self.inside.order.items in
     sym (ap (λ (s : Sheet). level_of s c.args.n chan) c.self.view_is)
     ∙ look_none c.self.inside.channels order c.self.inside.levels.items c.args.n chan c.self.invariant.sorted
-    (sym (counted c.args.n c.count_near-cues.result c.as_slice-order.result.now order c.count_near-cues.ensures c.as_slice-order.ensures.value)
+    (sym (counted c.args.n c.count_near-cues.result c.as_slice-order.result.now order c.count_near-cues.ensures
+    c.as_slice-order.ensures.value)
     ∙ c.if-cues-eq0.true)
 
 pub own_row-last-requires-clause-place : goal.own_row-last-requires-clause-place
