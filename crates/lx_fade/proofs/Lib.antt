@@ -1,4 +1,3 @@
 pub mod Pushed
 pub mod RunStacks
-pub mod Slopes
 pub mod Stacks

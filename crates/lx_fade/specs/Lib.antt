@@ -1,4 +1,3 @@
 pub mod Fades
 pub mod RunStack
 pub mod Row
-pub mod Slopes

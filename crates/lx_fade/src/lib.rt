@@ -3,10 +3,10 @@
 #![tactic(auto)]
 
 mod fade;
+mod held;
 pub mod laws;
-mod slope;
 mod stack;
 
 pub use fade::{Fade, value_at};
-pub use slope::{slope_of, value_by_slope};
+pub use held::{Held, NEVER, held_at};
 pub use stack::{push_fade, value};

@@ -1,9 +1,10 @@
 pub mod Entries
-pub mod Exchanged
 pub mod UnderWay
 pub mod Begun
 pub mod Added
 pub mod Recalled
+pub mod Columns
+pub mod Looks
 pub mod Stands
 pub mod Found
 pub mod Followed

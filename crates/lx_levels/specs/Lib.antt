@@ -1,5 +1,5 @@
-pub mod Places
 pub mod Stacks
+pub mod Columns
 pub mod Moving
 pub mod Standing
 pub mod Timed

@@ -2,7 +2,7 @@
 use Rattle.std.specs.Prelude.{ℕ, ◌<◌, ◌≤◌, List, [], slice_index_or}
 use Rattle.std.specs.List.{All}
 use Rattle.lx_base.specs.declared.TheConstants.{RUNS}
-use Rattle.lx_levels.specs.declared.current.TheConstants.{NEVER}
+use Rattle.lx_fade.specs.declared.held.TheConstants.{NEVER}
 use Rattle.lx_fade.specs.Fades.{Fade, stack_at}
 
 -- fades, the newest first, over the level at which the channel is until one has begun

@@ -1,6 +1,7 @@
 //! The fades of one channel over runs.
 
-ghost use Rattle.std.specs.Prelude.{◌≡◌, ℕ, ◌+◌, ◌<◌, ◌≤◌, true, length, reverse};
+ghost use Rattle.std.specs.Prelude.{◌≡◌, ℕ, ◌+◌, ◌<◌, ◌≤◌, true, length, nat_le, reverse, slice_index_or, slice_set, if◌then◌else◌};
+ghost use Rattle.lx_spec.specs.Show.{IsTime};
 ghost use Rattle.std.specs.List.{All};
 ghost use Rattle.lx_base.specs.declared.TheConstants.{RUNS, TICK_END};
 ghost use Rattle.lx_spec.specs.TrackedLevel.{tracked};
@@ -8,14 +9,15 @@ ghost use Rattle.lx_spec.specs.Run.{entry_for, entry_extent};
 ghost use Rattle.lx_spec.specs.Level.{last_cue, level, run_over};
 ghost use Rattle.lx_sheet.specs.Standing.{RowsStandFor};
 ghost use Rattle.lx_playback.specs.Valid.{ValidRun, ValidTimes};
-ghost use Rattle.lx_levels.specs.Stacks.{level_in};
+ghost use Rattle.lx_levels.specs.Stacks.{level_in, no_stack};
 ghost use Rattle.lx_levels.specs.Timed.{timed_over};
 
 use crate::hints::{Hint, acts};
+use crate::racks::Racks;
 use crate::replay::{ground_of, replay};
 use crate::runs::{delay_of, entry_for, extent_of, time_of};
 use crate::stack::Stack;
-use lx_base::{Chan, CueNo, Level, Moment};
+use lx_base::{Chan, Cs, CueNo, Level, Moment};
 use lx_fade::Fade;
 use lx_playback::{PartTimes, Run};
 use lx_sheet::Sheet;
@@ -132,23 +134,62 @@ pub(crate) fn is_over(start: Moment, entry: &PartTimes, m: Moment) -> bool
     start + extent_of(entry) <= m
 }
 
-/// Pushes the fade of a run that acts on the channel. The levels are right from a moment on.
+/// Pushes the fade of a run that acts on the channel, whose stack stands at a place. The levels are right from a
+/// moment on.
 pub(crate) fn push_run(
-    stack: &mut Stack,
+    stacks: &mut Racks,
+    k: usize,
     show: &Show,
     run: &Run,
     c: Chan,
     target: Level,
     from: Moment,
 )
+    requires within { k < length stacks.old }
     requires target { target ≡ tracked show.now run.now.cue c }
-    requires room { length stack.old.fades < RUNS }
+    requires room { length (slice_index_or stacks.old k no_stack).fades < RUNS }
     requires run { ValidRun TICK_END run.now }
-    ensures level { (m : ℕ) → from ≤ m → level_in stack.new m ≡ run_over show.now (level_in stack.old) run.now c m }
-    ensures few { length stack.new.fades ≤ length stack.old.fades + 1 }
+    ensures level { (m : ℕ) → from ≤ m → level_in (slice_index_or stacks.new k no_stack) m
+        ≡ run_over show.now (level_in (slice_index_or stacks.old k no_stack)) run.now c m }
+    ensures few { length (slice_index_or stacks.new k no_stack).fades ≤ length (slice_index_or stacks.old k no_stack).fades + 1 }
+    ensures others { stacks.new ≡ slice_set stacks.old k (slice_index_or stacks.new k no_stack) }
 {
     let entry = times_for(show, run, c);
-    push_timed(stack, run.start, &entry, target, from);
+    push_timed_at(stacks, k, run.start, &entry, target, from);
+}
+
+/// As `push_timed`, on the stack at a place.
+#[inline(always)]
+fn push_timed_at(
+    stacks: &mut Racks,
+    k: usize,
+    start: Moment,
+    entry: &PartTimes,
+    target: Level,
+    from: Moment,
+)
+    requires within { k < length stacks.old }
+    requires room { length (slice_index_or stacks.old k no_stack).fades < RUNS }
+    requires start { start ≤ TICK_END }
+    requires times { ValidTimes entry.now }
+    ensures level { (m : ℕ) → from ≤ m → level_in (slice_index_or stacks.new k no_stack) m
+        ≡ timed_over entry.now (level_in (slice_index_or stacks.old k no_stack)) start target m }
+    ensures few { length (slice_index_or stacks.new k no_stack).fades ≤ length (slice_index_or stacks.old k no_stack).fades + 1 }
+    ensures others { stacks.new ≡ slice_set stacks.old k (slice_index_or stacks.new k no_stack) }
+{
+    let before = stacks.value(k, start);
+    let times = fade_times(before, entry, target);
+    if times.delay == 0 && start <= from {
+        let fade = Fade {
+            start,
+            time: times.time,
+            from: before,
+            target,
+        };
+        stacks.put(k, 0, fade);
+    } else {
+        stacks.push(k, start + times.delay, times.time, target);
+    }
 }
 
 /// Pushes a fade to the target with the times of an entry. It begins when the delay is over, at the level that
@@ -169,17 +210,38 @@ pub(crate) fn push_timed(
     ensures few { length stack.new.fades ≤ length stack.old.fades + 1 }
 {
     let before = stack.value(start);
-    let rising = before <= target;
-    let delay = delay_of(entry, rising);
-    let time = time_of(entry, rising);
-    if delay == 0 && start <= from {
+    let times = fade_times(before, entry, target);
+    if times.delay == 0 && start <= from {
         stack.begin(Fade {
             start,
-            time,
+            time: times.time,
             from: before,
             target,
         });
     } else {
-        stack.push(start + delay, time, target);
+        stack.push(start + times.delay, times.time, target);
+    }
+}
+
+/// How long a channel waits for its fade, and how long that takes.
+#[derive(Clone, Copy, PartialEq, Eq, Debug)]
+struct FadeTimes {
+    delay: Cs,
+    time: Cs,
+}
+
+/// The times that a channel takes at a level, to come to the target.
+#[inline(always)]
+fn fade_times(before: Level, entry: &PartTimes, target: Level) -> FadeTimes
+    requires { ValidTimes entry.now }
+    ensures delay { result.delay ≡ (if nat_le before target then entry.now.up_delay else entry.now.down_delay) }
+    ensures time { result.time ≡ (if nat_le before target then entry.now.up else entry.now.down) }
+    ensures delay_most { IsTime result.delay }
+    ensures time_most { IsTime result.time }
+{
+    let rising = before <= target;
+    FadeTimes {
+        delay: delay_of(entry, rising),
+        time: time_of(entry, rising),
     }
 }

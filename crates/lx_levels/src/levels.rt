@@ -2,7 +2,7 @@
 
 ghost use Rattle.std.specs.Prelude.{◌≡◌, ◌≢◌, ℕ, ◌+◌, ◌-◌, ◌<◌, ◌≤◌, [], ◌∷◌, true, false, List, length, slice_index, slice_set, IfOk};
 ghost use Rattle.std.specs.Prelude.{IfSome};
-ghost use Rattle.std.specs.Option.{option_copied};
+ghost use Rattle.std.specs.Option.{option_copied, option_map_or};
 ghost use Rattle.lx_base.specs.declared.TheConstants.{RUNS, CHANNELS, TICK_END};
 ghost use Rattle.lx_spec.specs.Show.{Show as ShowData};
 ghost use Rattle.lx_spec.specs.TrackedLevel.{tracked};
@@ -12,18 +12,18 @@ ghost use Rattle.lx_spec.specs.Playback.{Playback as PlaybackData, at_opening};
 ghost use Rattle.lx_sheet.specs.Standing.{RowsStandFor};
 ghost use Rattle.lx_mixer.specs.Table.{IsTable};
 ghost use Rattle.lx_playback.specs.Valid.{ValidRun};
-ghost use Rattle.lx_levels.specs.declared.current.TheConstants.{NEVER};
 ghost use Rattle.lx_levels.specs.Stacks.{level_in, level_at, stack_of};
 ghost use Rattle.lx_levels.specs.Moving.{IsStill};
 ghost use Rattle.lx_levels.specs.Standing.{LevelsStandFor, StandsAt, StandsBefore, IsElsewhere};
 
 use crate::channel::{fill_stack, push_run};
-use crate::current::{Current, NEVER};
+use crate::current::Current;
 use crate::hints::{Hint, NO_HINT, acts};
-use crate::motion::{advance, refresh, retire};
-use crate::roster::Roster;
+use crate::motion::{advance, refresh};
+use crate::racks::Racks;
 use crate::stack::Stack;
 use lx_base::{CHANNELS, Chan, CueNo, Level, Moment, RUNS};
+use lx_fade::NEVER;
 use lx_playback::{Playback, Run};
 use lx_sheet::Sheet;
 use lx_show::Show;
@@ -31,19 +31,23 @@ use std::alloc::{AllocError, Global};
 use std::marker::Model;
 
 /// The level of each channel at a moment, and what is needed to follow it: a stack of fades for each
-/// channel, and of those that are under way the fade that governs. All memory is taken by `open`.
+/// channel, the fade of it that governs, and the moment up to which the level stays. All memory is taken by `open`.
 ///
 /// Contracts see the moment and the stacks.
 #[derive(Drop)]
 pub struct Levels {
     moment: Moment,
     /// The fades of each channel.
-    stacks: Vec<Stack>,
-    /// The fade that governs each channel under way.
+    stacks: Racks,
+    /// The fades of a channel that is being made anew.
+    scratch: Stack,
+    /// The fade that governs each channel, where its level changes yet.
     currents: Vec<Current>,
     levels: Vec<Level>,
-    /// The channels that are under way: their level changes yet, or a fade waits.
-    roster: Roster,
+    /// The moment up to which each level stays: `NEVER` where it changes no more.
+    holds: Vec<Moment>,
+    /// No level changes before this moment.
+    due: Moment,
     /// Where the cue of each live run, and a channel's move in it, was found last.
     hints: Vec<Hint>,
 }
@@ -54,9 +58,9 @@ impl Model for Levels {
 
     ghost Value = { Kept };
 
-    ghost view = { λ l. record { moment = l.moment; stacks = l.stacks.items } };
+    ghost view = { λ l. record { moment = l.moment; stacks = l.stacks } };
 
-    ghost invariant = { λ l. IsReady l.moment l.roster l.stacks.items l.currents.items l.levels.items l.hints.items };
+    ghost invariant = { λ l. IsReady l.moment l.due l.stacks l.currents.items l.levels.items l.holds.items l.hints.items };
 }
 
 impl Levels {
@@ -66,16 +70,14 @@ impl Levels {
         ensures reach { IfOk result (λ levels. length levels.stacks ≡ show.now.channels) }
     {
         let channels = show.channels() as usize;
-        let mut stacks = Vec::with_capacity(alloc, channels)?;
-        for _ in 0..channels {
-            stacks.push(Stack::open(alloc)?)?;
-        }
         Ok(Levels {
             moment: 0,
-            stacks,
+            stacks: Racks::open(alloc, channels)?,
+            scratch: Stack::open(alloc)?,
             currents: vec![in alloc; Current::still(0, NEVER); channels]?,
             levels: vec![in alloc; 0; channels]?,
-            roster: Roster::open(alloc, channels)?,
+            holds: vec![in alloc; NEVER; channels]?,
+            due: NEVER,
             hints: vec![in alloc; NO_HINT; RUNS]?,
         })
     }
@@ -100,17 +102,16 @@ impl Levels {
         let Some(run) = last_run(playback) else {
             return;
         };
-        let from = before_last(playback);
+        let from = sheet.look_at(before_last(playback));
+        let to = sheet.look_at(run.cue);
         let mut hint = NO_HINT;
-        let mut near = 0;
         for k in 0..show.channels() as usize {
-            let c = channel_at(k);
-            let target = sheet.level_near(run.cue, c, &mut hint.cue);
+            let target = level_on(to, k);
             if self.stays_at(k, target) {
                 continue;
             }
-            let looks = sheet.level_near(from, c, &mut near);
-            if acts(show, run, c, looks, target, &mut hint) {
+            let c = channel_at(k);
+            if acts(show, run, c, level_on(from, k), target, &mut hint) {
                 self.add_run(show, run, c, target);
             }
         }
@@ -130,8 +131,8 @@ impl Levels {
         }
     }
 
-    /// The levels at a later moment; answers whether one changed. It looks at the channels alone that are
-    /// under way.
+    /// The levels at a later moment; answers whether one changed. Up to the moment at which the next one does it
+    /// looks at no channel, and then at each level that has stayed as long as it was to.
     pub fn to_moment(&mut self, m: Moment) -> bool
         requires later { self.old.moment ≤ m }
         requires end { m ≤ TICK_END }
@@ -140,16 +141,17 @@ impl Levels {
         ensures unchanged { result ≡ false → (k : ℕ) → k < length self.old.stacks → level_at self.new k ≡ level_at self.old k }
     {
         self.moment = m;
+        if m < self.due {
+            return false;
+        }
         let step = advance(
             m,
-            &self.roster,
             &self.stacks,
             &mut self.currents,
             &mut self.levels,
+            &mut self.holds,
         );
-        if step.arrived {
-            retire(m, &mut self.roster, &self.currents);
-        }
+        self.due = step.due;
         step.changed
     }
 
@@ -163,9 +165,8 @@ impl Levels {
         ensures others { IsElsewhere (chan - 1) self.old self.new }
     {
         let k = chan.get() as usize - 1;
-        let stack = &mut self.stacks[k];
         fill_stack(
-            stack,
+            &mut self.scratch,
             show,
             sheet,
             playback.base(),
@@ -174,25 +175,26 @@ impl Levels {
             chan,
             &mut self.hints,
         );
+        self.stacks.store(k, &self.scratch);
         refresh(
             k,
             self.moment,
-            stack,
+            &self.stacks,
             &mut self.currents,
             &mut self.levels,
-            &mut self.roster,
+            &mut self.holds,
+            &mut self.due,
         );
     }
 }
 
 impl Levels {
-    /// The channel at the place is at the level, and nothing is under way there: whatever times a run to that
-    /// level has, it stays.
+    /// The channel at the place is at the level for ever, as it is: whatever times a run to that level has, it stays.
     fn stays_at(&self, k: usize, level: Level) -> bool
         requires { k < length self.now.stacks }
         ensures { result ≡ true → IsStill self.now.moment (stack_of self.now k) level }
     {
-        self.levels[k] == level && !self.roster.has(k)
+        self.levels[k] == level && self.holds[k] == NEVER
     }
 
     /// The fade of the run on the channel, on which it acts.
@@ -207,15 +209,15 @@ impl Levels {
         ensures others { IsElsewhere (c - 1) self.old self.new }
     {
         let k = c.get() as usize - 1;
-        let stack = &mut self.stacks[k];
-        push_run(stack, show, run, c, target, self.moment);
+        push_run(&mut self.stacks, k, show, run, c, target, self.moment);
         refresh(
             k,
             self.moment,
-            stack,
+            &self.stacks,
             &mut self.currents,
             &mut self.levels,
-            &mut self.roster,
+            &mut self.holds,
+            &mut self.due,
         );
     }
 
@@ -224,16 +226,28 @@ impl Levels {
         requires { k < length self.old.stacks }
         ensures { self.new ≡ record self.old { stacks = slice_set self.old.stacks k (record { bottom = bottom; fades = [] }) } }
     {
-        let stack = &mut self.stacks[k];
-        stack.restart(bottom);
+        self.stacks.restart(k, bottom);
         refresh(
             k,
             self.moment,
-            stack,
+            &self.stacks,
             &mut self.currents,
             &mut self.levels,
-            &mut self.roster,
+            &mut self.holds,
+            &mut self.due,
         );
+    }
+}
+
+/// The level at a place of a look: 0 where there is none.
+#[inline(always)]
+fn level_on(look: Option<&[Level]>, k: usize) -> Level
+    requires { IfSome look (λ row. k < length row.now) }
+    ensures { result ≡ option_map_or (λ row. slice_index row.now k) look.entry 0 }
+{
+    match look {
+        Some(row) => row[k],
+        None => 0,
     }
 }
 

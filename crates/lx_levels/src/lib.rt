@@ -6,8 +6,8 @@ mod current;
 mod hints;
 mod levels;
 mod motion;
+mod racks;
 mod replay;
-mod roster;
 mod runs;
 mod stack;
 

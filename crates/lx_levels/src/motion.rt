@@ -1,80 +1,111 @@
-//! Levels brought to another moment, and channels that move or no longer do.
+//! Levels brought to another moment, each looked at where it may change.
 
-ghost use Rattle.std.specs.Prelude.{◌≡◌, ℕ, ◌<◌, ◌≤◌, false, List, length, slice_index_or};
-ghost use Rattle.lx_fade.specs.Fades.{fade_at};
-ghost use Rattle.lx_levels.specs.declared.current.TheConstants.{NEVER};
-ghost use Rattle.lx_levels.specs.Stacks.{Stack as StackData, level_in, no_stack};
-ghost use Rattle.lx_levels.specs.Moving.{Governs, Reaches, IsTold, IsRight, IsRightBut};
+ghost use Rattle.std.specs.Prelude.{◌≡◌, ℕ, ◌+◌, ◌<◌, ◌≤◌, false, List, length, slice_index, slice_index_or};
+ghost use Rattle.lx_fade.specs.declared.held.TheConstants.{NEVER};
+ghost use Rattle.lx_levels.specs.Stacks.{no_stack};
+ghost use Rattle.lx_levels.specs.Moving.{Governs, Reaches, AreHeld, IsHeld, IsTold, IsRight, IsRightBut, IsWritten};
 
-use crate::current::{Current, NEVER};
-use crate::roster::Roster;
-use crate::stack::Stack;
+use crate::current::Current;
+use crate::racks::Racks;
 use lx_base::{Level, Moment};
+use lx_fade::NEVER;
 
 /// What came of a step to another moment.
 #[derive(Clone, Copy, PartialEq, Eq, Debug)]
 pub(crate) struct Step {
     /// Some level changed.
     pub(crate) changed: bool,
-    /// Some channel is under way no more.
-    pub(crate) arrived: bool,
+    /// No channel's level changes before this moment.
+    pub(crate) due: Moment,
 }
 
-/// Brings the channels under way to the moment; the others are there already.
+/// Brings the channels to the moment: those that are held until later are there already.
 pub(crate) fn advance(
     m: Moment,
-    roster: &Roster,
-    stacks: &[Stack],
+    stacks: &Racks,
     currents: &mut Vec<Current>,
     levels: &mut Vec<Level>,
+    holds: &mut Vec<Moment>,
 ) -> Step
-    requires reaches { Reaches roster.now stacks.now currents.old.items levels.old.items }
-    requires moment { m < NEVER }
-    requires told { (k : ℕ) → k < length roster.now.order → IsTold m roster.now stacks.now currents.old.items levels.old.items k }
-    ensures right { IsRight m roster.now stacks.now currents.new.items levels.new.items }
-    ensures unchanged { result.changed ≡ false → (k : ℕ) → k < length roster.now.order
-        → slice_index_or levels.new.items k 0 ≡ slice_index_or levels.old.items k 0 }
+    requires reaches { Reaches stacks.now currents.old.items levels.old.items holds.old.items }
+    requires moment { m + 1 < NEVER }
+    requires held { (k : ℕ) → k < length stacks.now → IsHeld m stacks.now currents.old.items levels.old.items holds.old.items k }
+    ensures right { IsRight m stacks.now currents.new.items levels.new.items holds.new.items }
+    ensures due { AreHeld result.due holds.new.items }
+    ensures unchanged { result.changed ≡ false → (k : ℕ) → k < length stacks.now
+        → slice_index levels.new.items k ≡ slice_index levels.old.items k }
 {
     let mut changed = false;
-    let mut arrived = false;
-    for j in 0..roster.len() {
-        let k = roster.at(j);
-        wake(&mut currents[k], &stacks[k], m);
-        let current = &currents[k];
-        let level = current.level(m);
-        arrived = arrived || current.is_over(m);
-        changed = changed || levels[k] != level;
-        levels[k] = level;
+    let mut due = NEVER;
+    for k in 0..holds.len() {
+        changed |= bring(k, m, stacks, currents, levels, holds);
+        due = due.min(holds[k]);
     }
-    Step { changed, arrived }
+    Step { changed, due }
+}
+
+/// Brings a channel to the moment; answers whether its level changed. One that is held until later is there already.
+#[inline(always)]
+fn bring(
+    k: usize,
+    m: Moment,
+    stacks: &Racks,
+    currents: &mut Vec<Current>,
+    levels: &mut Vec<Level>,
+    holds: &mut Vec<Moment>,
+) -> bool
+    requires moment { m + 1 < NEVER }
+    requires within { k < length stacks.now }
+    requires reaches { Reaches stacks.now currents.old.items levels.old.items holds.old.items }
+    requires held { IsHeld m stacks.now currents.old.items levels.old.items holds.old.items k }
+    ensures told { IsTold m stacks.now currents.new.items levels.new.items holds.new.items k }
+    ensures others { IsWritten k currents.old.items levels.old.items holds.old.items currents.new.items levels.new.items holds.new.items }
+    ensures unchanged { result ≡ false → slice_index levels.new.items k ≡ slice_index levels.old.items k }
+{
+    if m < holds[k] {
+        return false;
+    }
+    bring_on(k, m, stacks, currents, levels, holds)
+}
+
+/// The same at the moment up to which it was held, or a later one.
+fn bring_on(
+    k: usize,
+    m: Moment,
+    stacks: &Racks,
+    currents: &mut Vec<Current>,
+    levels: &mut Vec<Level>,
+    holds: &mut Vec<Moment>,
+) -> bool
+    requires moment { m + 1 < NEVER }
+    requires within { k < length stacks.now }
+    requires reaches { Reaches stacks.now currents.old.items levels.old.items holds.old.items }
+    requires due { slice_index holds.old.items k ≤ m }
+    requires held { IsHeld m stacks.now currents.old.items levels.old.items holds.old.items k }
+    ensures told { IsTold m stacks.now currents.new.items levels.new.items holds.new.items k }
+    ensures others { IsWritten k currents.old.items levels.old.items holds.old.items currents.new.items levels.new.items holds.new.items }
+    ensures unchanged { result ≡ false → slice_index levels.new.items k ≡ slice_index levels.old.items k }
+{
+    let current = &mut currents[k];
+    wake(current, stacks, k, m);
+    let held = current.held(m);
+    let changed = levels[k] != held.level;
+    levels[k] = held.level;
+    holds[k] = held.until;
+    changed
 }
 
 /// Takes up the fade that governs at the moment, where the one before did so up to there.
 #[inline(always)]
-fn wake(current: &mut Current, stack: &Stack, m: Moment)
-    requires moment { m < NEVER }
-    requires governs { Governs m stack.now current.old }
-    ensures governs { Governs m stack.now current.new }
-    ensures now { level_in stack.now m ≡ fade_at current.new.fade m }
+fn wake(current: &mut Current, stacks: &Racks, k: usize, m: Moment)
+    requires moment { m + 1 < NEVER }
+    requires within { k < length stacks.now }
+    requires governs { Governs m (slice_index_or stacks.now k no_stack) current.old }
+    ensures governs { Governs m (slice_index_or stacks.now k no_stack) current.new }
+    ensures waits { m < current.new.wake }
 {
     if current.wake <= m {
-        *current = stack.governing(m);
-    }
-}
-
-/// Takes the channels off the list whose level changes no more.
-pub(crate) fn retire(m: Moment, roster: &mut Roster, currents: &[Current])
-    requires { length currents.now ≡ length roster.old.order }
-    ensures right { (stacks : List StackData) (levels : List ℕ) → IsRight m roster.old stacks currents.now levels
-        → IsRight m roster.new stacks currents.now levels }
-{
-    let mut j = roster.len();
-    while j > 0 {
-        j -= 1;
-        let k = roster.at(j);
-        if currents[k].is_over(m) {
-            roster.remove(k);
-        }
+        *current = stacks.governing(k, m);
     }
 }
 
@@ -82,25 +113,25 @@ pub(crate) fn retire(m: Moment, roster: &mut Roster, currents: &[Current])
 pub(crate) fn refresh(
     k: usize,
     m: Moment,
-    stack: &Stack,
+    stacks: &Racks,
     currents: &mut Vec<Current>,
     levels: &mut Vec<Level>,
-    roster: &mut Roster,
+    holds: &mut Vec<Moment>,
+    due: &mut Moment,
 )
-    requires moment { m < NEVER }
-    requires within { k < length roster.old.order }
-    requires currents { length currents.old.items ≡ length roster.old.order }
-    requires levels { length levels.old.items ≡ length roster.old.order }
-    ensures right { (stacks : List StackData) → slice_index_or stacks k no_stack ≡ stack.now
-        → IsRightBut m k roster.old stacks currents.old.items levels.old.items
-        → IsRight m roster.new stacks currents.new.items levels.new.items }
+    requires moment { m + 1 < NEVER }
+    requires within { k < length stacks.now }
+    requires currents { k < length currents.old.items }
+    requires levels { k < length levels.old.items }
+    requires holds { k < length holds.old.items }
+    ensures right { IsRightBut m k stacks.now currents.old.items levels.old.items holds.old.items
+        → IsRight m stacks.now currents.new.items levels.new.items holds.new.items }
+    ensures due { AreHeld due.old holds.old.items → AreHeld due.new holds.new.items }
 {
-    let current = stack.governing(m);
+    let current = stacks.governing(k, m);
+    let held = current.held(m);
     currents[k] = current;
-    levels[k] = current.level(m);
-    if current.is_over(m) {
-        roster.remove(k);
-    } else {
-        roster.insert(k);
-    }
+    levels[k] = held.level;
+    holds[k] = held.until;
+    *due = (*due).min(held.until);
 }

@@ -2,15 +2,13 @@
 
 ghost use Rattle.std.specs.Prelude.{◌≡◌, ℕ, ◌+◌, ◌<◌, ◌≤◌, [], ◌∷◌, ◌++◌, length, reverse, vec_len, vec_capacity, IfOk};
 ghost use Rattle.std.specs.List.{All};
-ghost use Rattle.lx_levels.specs.declared.current.TheConstants.{NEVER};
+ghost use Rattle.lx_fade.specs.declared.held.TheConstants.{NEVER};
 ghost use Rattle.lx_base.specs.declared.TheConstants.{RUNS, TIME_MAX};
 ghost use Rattle.lx_spec.specs.Level.{fade_over};
 ghost use Rattle.lx_levels.specs.Stacks.{level_in};
-ghost use Rattle.lx_levels.specs.Moving.{Governs};
 
-use crate::current::{Current, NEVER};
 use lx_base::{Cs, Level, Moment, RUNS};
-use lx_fade::{Fade, push_fade, value};
+use lx_fade::{Fade, NEVER, push_fade, value};
 use std::alloc::{AllocError, Global};
 use std::marker::Model;
 
@@ -91,34 +89,20 @@ impl Stack {
         self.fades.truncate(used);
     }
 
-    /// The fade that gives the level from the moment on, until a later one begins.
-    pub(crate) fn governing(&self, m: Moment) -> Current
-        requires { m < NEVER }
-        ensures governs { Governs m self.now result }
-        ensures wake { m < result.wake }
+    /// The level below the fades.
+    pub(crate) fn bottom(&self) -> Level
+        ensures { result ≡ self.now.bottom }
     {
-        governing_in(&self.fades, self.bottom, m)
+        self.bottom
     }
-}
 
-/// The same among fades, the newest last, over a level.
-fn governing_in(fades: &[Fade], bottom: Level, m: Moment) -> Current
-    requires moment { m < NEVER }
-    requires begin { All (λ f. f.start < NEVER) fades.now }
-    ensures governs { Governs m (record { bottom = bottom; fades = reverse fades.now }) result }
-    ensures wake { m < result.wake }
-{
-    let mut wake = NEVER;
-    let mut left = fades.len();
-    while left > 0 {
-        let fade = fades[left - 1];
-        if fade.start <= m {
-            return Current::of(fade, wake);
-        }
-        wake = wake.min(fade.start);
-        left -= 1;
+    /// The fades, the newest last.
+    pub(crate) fn fades(&self) -> &[Fade]
+        ensures fades { self.now.fades ≡ reverse result.now }
+        ensures begin { All (λ f. f.start < NEVER) result.now }
+    {
+        self.fades.as_slice()
     }
-    Current::still(bottom, wake)
 }
 
 /// Appends a fade, where there is room for it.

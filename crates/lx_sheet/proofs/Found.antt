@@ -1,5 +1,6 @@
 -- The row of a number, as it stands in the block, and what it is where the sheet stands for a show.
-use Rattle.std.proofs.Common.{◌≡◌, ℕ, zero, suc, ◌+◌, ◌*◌, ◌<◌, ◌≤◌, true, false, cond, List, [], ◌∷◌, length, get_or, take, drop, map}
+use Rattle.std.proofs.Common.{◌≡◌, ◌≢◌, ℕ, zero, suc, ◌+◌, ◌-◌, ◌*◌, ◌<◌, ◌≤◌, true, false, cond, List, [], ◌∷◌, length, get_or, take}
+use Rattle.std.proofs.Common.{drop, map}
 use Rattle.std.proofs.Common.{Some, None, refl, ◌∙◌, sym, ap, arith}
 use Rattle.std.specs.Prelude.{Option, is_some, option_map, slice_get, ◌==◌, ◌||◌}
 use Rattle.std.specs.List.{list_any}
@@ -8,8 +9,6 @@ use Rattle.std.proofs.lemmas.List.{length-take, length-drop, same_lists, get_or_
 use Rattle.std.proofs.lemmas.List.FromFn.{length-map-range_with_len, get_or-map-range_with_len}
 use Rattle.std.proofs.lemmas.List.Elements.{All-from_recursion}
 use Rattle.std.proofs.lemmas.Option.{slice_get-get_or}
-use Rattle.std.proofs.Math.Nat.{mul-le-mul_right}
-use Rattle.lx_base.specs.declared.TheConstants.{CUES}
 use Rattle.lx_spec.specs.SortedList.{IsStrictlySorted, entry_at}
 use Rattle.lx_show.specs.Indexes.{StandsAt}
 use Rattle.lx_spec.specs.Show.{Cue, Show}
@@ -17,11 +16,13 @@ use Rattle.lx_spec.specs.TrackedLevel.{cue_of, tracked}
 use Rattle.lx_spec.specs.Replies.{row_of}
 use Rattle.lx_show.proofs.Indexes.{up_to_there}
 use Rattle.lx_sheet.specs.declared.sheet.Place.{Place}
-use Rattle.lx_sheet.specs.Rows.{Row, row_at, numbers_of}
-use Rattle.lx_sheet.specs.Block.{AreApart, own_rows, row_at_place, rows_of, cell, cue_level, last_value}
+use Rattle.lx_sheet.specs.Rows.{Row, row_at, numbers_of, level_of}
+use Rattle.lx_sheet.specs.Block.{Covers, row_at_place, rows_of, cell, cue_level, last_value}
 use Rattle.lx_sheet.specs.Standing.{RowsStandFor, cue_numbers}
 use Rattle.lx_sheet.proofs.Rows.{count_up_to, count_up_to-map, sheet_of, level_of_block, row_of_place, numbers-rows_of}
-use Rattle.lx_sheet.proofs.RowPool.{row_is, row_within}
+use Rattle.lx_sheet.proofs.Cells.{last_value_some}
+use Rattle.lx_sheet.proofs.Covered.{covered_at}
+use Rattle.lx_sheet.proofs.RowPool.{row_is}
 use Rattle.lx_spec.proofs.Comparisons.{eq_below, eq_true}
 use Rattle.lx_spec.proofs.SortedLists.{found_number}
 
@@ -88,15 +89,14 @@ cue_absent show channels order levels n f numbers absent =
     (sym (numbers-rows_of channels order levels) ∙ numbers)) ∙ ap is_some absent)
 
 -- the row of a sheet that stands for a show
-pub row_right : (show : Show) (channels : ℕ) (order : List Place) (levels : List ℕ) (n at : ℕ) → length levels ≡ CUES * channels
-    → AreApart (own_rows order) → IsStrictlySorted (λ p. p.cue) order
+pub row_right : (show : Show) (channels : ℕ) (order : List Place) (levels : List ℕ) (n at : ℕ) → Covers channels levels order
+    → IsStrictlySorted (λ p. p.cue) order
     → StandsAt (λ p. p.cue) n order at → RowsStandFor show (sheet_of channels order levels)
     → take channels (drop (row_at_place order at * channels) levels) ≡ row_of show n
 unfolding cell
-row_right show channels order levels n at room rows sorted place stands =
+row_right show channels order levels n at room sorted place stands =
     let row : ℕ = row_at_place order at in
-    let most : suc row * channels ≤ CUES * channels =
-    mul-le-mul_right {m = suc row} {n = CUES} channels (omega (arith, row_within order at rows place.within)) in
+    let most : (row + 1) * channels ≤ length levels = covered_at channels levels order at room place.within in
     let width : length (take channels (drop (row * channels) levels)) ≡ channels =
     omega (arith, length-take channels (drop (row * channels) levels), length-drop (row * channels) levels) in
     let count : count_up_to n (map (λ (p : Place). p.cue) order) ≡ suc at =
@@ -118,13 +118,30 @@ row_right show channels order levels n at room rows sorted place stands =
     ∙ sym (get_or-map-range_with_len (tracked show n) 1 show.channels k (suc k) d (omega (arith, less, width, stands.channels))
     (omega arith)))
 
-pub cue_found : (show : Show) (channels : ℕ) (order : List Place) (levels : List ℕ) (n at : ℕ) → length levels ≡ CUES * channels
-    → AreApart (own_rows order) → IsStrictlySorted (λ x. x.cue) order
+pub cue_found : (show : Show) (channels : ℕ) (order : List Place) (levels : List ℕ) (n at : ℕ) → Covers channels levels order
+    → IsStrictlySorted (λ x. x.cue) order
     → StandsAt (λ x. x.cue) n order at → RowsStandFor show (sheet_of channels order levels)
     → Some (take channels (drop (row_at_place order at * channels) levels)) ≡ option_map (λ cue. row_of show n) (cue_of show n)
-cue_found show channels order levels n at room rows sorted place stands =
+cue_found show channels order levels n at room sorted place stands =
     let some : is_some (cue_of show n) ≡ true =
     sym (same_numbers (λ (x : Place). x.cue) (λ (cue : Cue). cue.number) n order show.cues
     (sym (numbers-rows_of channels order levels) ∙ stands.numbers))
     ∙ ap is_some (place.here ∙ slice_get-get_or order at (record { cue = 0; row = 0 }) place.within) in
-    ap Some (row_right show channels order levels n at room rows sorted place stands) ∙ there (cue_of show n) (row_of show n) some
+    ap Some (row_right show channels order levels n at room sorted place stands) ∙ there (cue_of show n) (row_of show n) some
+
+-- the levels at a number stand in the row of the last cue up to it
+pub look_found : (channels : ℕ) (order : List Place) (levels : List ℕ) (n k : ℕ) → IsStrictlySorted (λ p. p.cue) order → k < channels
+    → count_up_to n (map (λ p. p.cue) order) ≢ 0
+    → get_or (take channels (drop (row_at_place order (count_up_to n (map (λ p. p.cue) order) - 1) * channels) levels)) k 0
+    ≡ level_of (sheet_of channels order levels) n (k + 1)
+unfolding cell
+look_found channels order levels n k sorted less some =
+    let next : suc k ≡ k + 1 = omega arith in
+    sym (last_value_some (count_up_to n (map (λ (p : Place). p.cue) order)) (λ i. cue_level channels order levels i (suc k)) some)
+    ∙ sym (level_of_block channels order levels n (suc k) sorted)
+    ∙ ap (λ c. level_of (sheet_of channels order levels) n c) next
+
+pub look_none : (channels : ℕ) (order : List Place) (levels : List ℕ) (n c : ℕ) → IsStrictlySorted (λ p. p.cue) order
+    → count_up_to n (map (λ p. p.cue) order) ≡ 0 → level_of (sheet_of channels order levels) n c ≡ 0
+look_none channels order levels n c sorted none =
+    level_of_block channels order levels n c sorted ∙ ap (λ j. last_value j (λ k. cue_level channels order levels k c)) none

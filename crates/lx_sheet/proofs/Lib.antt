@@ -1,4 +1,5 @@
 pub mod Cells
+pub mod Covered
 pub mod EditedShows
 pub mod Found
 pub mod KeptNumbers

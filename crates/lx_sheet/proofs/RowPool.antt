@@ -1,7 +1,7 @@
 -- The cues' own rows and the free ones: apart, and together all rows of the block, whatever comes or goes.
 use Rattle.std.proofs.Common.{◌≡◌, ◌≢◌, ℕ, zero, suc, ◌+◌, ◌<◌, ◌≤◌, false, List, [], ◌∷◌, ◌++◌, length, get_or, take, drop, refl, ◌∙◌, sym}
 use Rattle.std.proofs.Common.{ap, subst, inl, inr, arith}
-use Rattle.std.specs.Prelude.{insert, remove, ◌==◌}
+use Rattle.std.specs.Prelude.{insert, remove, reverse, ◌==◌}
 use Rattle.std.specs.List.{range_with_len}
 use Rattle.std.specs.List.Sorted.{IsPermutation}
 use Rattle.std.proofs.lemmas.Bool.{cases_order, false≢true}
@@ -9,6 +9,7 @@ use Rattle.std.proofs.lemmas.Bool.Decides.{nat_tests}
 use Rattle.std.proofs.lemmas.List.{append_assoc, map-append, take-map, drop-map, length-map, length-append, get_or-map, get_or_append_left}
 use Rattle.std.proofs.lemmas.List.FromFn.{length-range_with_len, get_or-range_with_len}
 use Rattle.std.proofs.lemmas.List.Sorted.{IsPermutation-sym, IsPermutation-trans, IsPermutation-to_front, IsPermutation-append_left}
+use Rattle.std.proofs.lemmas.List.Sorted.{IsPermutation-append_right, IsPermutation-reverse}
 use Rattle.std.proofs.lemmas.List.Sorted.{IsPermutation-insert, IsPermutation-remove, All-permutation, length_permutation}
 use Rattle.std.proofs.lemmas.Map.Keys.{apart_from_distinct, IsDistinct-from_apart, IsDistinct-IsPermutation}
 use Rattle.lx_base.specs.declared.TheConstants.{CUES}
@@ -75,13 +76,13 @@ pool_moved old new free spare same pool = record {
   all = length_permutation (own_rows old ++ free) (own_rows new ++ spare) same ∙ pool.all;
 }
 
-own-insert : (order : List Place) (at : ℕ) (p : Place) → own_rows (insert order at p) ≡ insert (own_rows order) at p.row
+pub own-insert : (order : List Place) (at : ℕ) (p : Place) → own_rows (insert order at p) ≡ insert (own_rows order) at p.row
 own-insert order at p =
     map-append (λ (x : Place). x.row) (take at order) (p ∷ drop at order)
     ∙ ap (λ (xs : List ℕ). xs ++ p.row ∷ own_rows (drop at order)) (sym (take-map (λ (x : Place). x.row) at order))
     ∙ ap (λ (ys : List ℕ). take at (own_rows order) ++ p.row ∷ ys) (sym (drop-map (λ (x : Place). x.row) at order))
 
-own-remove : (order : List Place) (at : ℕ) → own_rows (remove order at) ≡ remove (own_rows order) at
+pub own-remove : (order : List Place) (at : ℕ) → own_rows (remove order at) ≡ remove (own_rows order) at
 own-remove order at =
     map-append (λ (x : Place). x.row) (take at order) (drop (suc at) order)
     ∙ ap (λ (xs : List ℕ). xs ++ own_rows (drop (suc at) order)) (sym (take-map (λ (x : Place). x.row) at order))
@@ -153,7 +154,7 @@ range_apart n few = record {
       omega arith;
 }
 
-own-placed_from : (a : ℕ) (cues : List Cue) → own_rows (placed_from a cues) ≡ range_with_len a (length cues)
+pub own-placed_from : (a : ℕ) (cues : List Cue) → own_rows (placed_from a cues) ≡ range_with_len a (length cues)
 own-placed_from a [] = refl
 own-placed_from a (cue ∷ cues) =
     let e : suc a ≡ a + 1 = omega arith in
@@ -177,7 +178,10 @@ whole_pool cues n all =
 
 -- the cues listed, and the rows above theirs freed
 pub listed_pool : (order : List Place) (free : List ℕ) (cues : List Cue) (n : ℕ) → order ≡ placed_from 0 cues
-    → free ≡ range_with_len (length cues) n → length cues + n ≡ CUES → IsPool order free
+    → free ≡ reverse (range_with_len (length cues) n) → length cues + n ≡ CUES → IsPool order free
 listed_pool order free cues n listed freed all =
     subst (λ (xs : List Place). IsPool xs free) (sym listed)
-    (subst (λ (xs : List ℕ). IsPool (placed_from 0 cues) xs) (sym freed) (whole_pool cues n all))
+    (subst (λ (xs : List ℕ). IsPool (placed_from 0 cues) xs) (sym freed)
+    (pool_moved (placed_from 0 cues) (placed_from 0 cues) (range_with_len (length cues) n) (reverse (range_with_len (length cues) n))
+    (IsPermutation-append_right (own_rows (placed_from 0 cues)) (range_with_len (length cues) n) (reverse (range_with_len (length cues) n))
+    (IsPermutation-reverse (range_with_len (length cues) n))) (whole_pool cues n all)))

@@ -1,5 +1,5 @@
 -- How the rows are kept: a block of levels by row, and the cues in order, each with the row of the block that is its own.
-use Rattle.std.specs.Prelude.{◌≡◌, ℕ, zero, suc, ◌*◌, ◌≤◌, ◌<◌, ◌==◌, List, [], ◌∷◌, ◌++◌, length, map, take, drop, slice_index}
+use Rattle.std.specs.Prelude.{◌≡◌, ℕ, zero, suc, ◌+◌, ◌*◌, ◌≤◌, ◌<◌, ◌==◌, List, [], ◌∷◌, ◌++◌, length, map, take, drop, slice_index}
 use Rattle.std.specs.List.{All, IsDistinct}
 use Rattle.lx_base.specs.declared.TheConstants.{CUES, CHANNELS}
 use Rattle.lx_spec.specs.SortedList.{IsStrictlySorted, entries_below}
@@ -25,14 +25,21 @@ pub record IsPool (order : List Place) (free : List ℕ) : Type 0 where
   pub apart : AreApart (own_rows order ++ free)
   pub all : length (own_rows order ++ free) ≡ CUES
 
--- the cues are sorted by number, and their rows a pool; there is room for the greatest number of rows, and for the levels of one cue
-pub record IsKept (channels : ℕ) (order : List Place) (room : ℕ) (free : List ℕ) (spare : ℕ) (levels look : List ℕ) : Type 0 where
+-- the block, which grows as rows are needed, reaches over each cue's own row
+abbrev pub Covers : ℕ → List ℕ → List Place → Type 0
+Covers channels levels order = All (λ r. (r + 1) * channels ≤ length levels) (own_rows order)
+
+-- the cues are sorted by number, and their rows a pool that the block covers; there is room for the greatest number of rows, and for the
+-- levels of one cue
+pub record IsKept (channels : ℕ) (order : List Place) (room : ℕ) (free : List ℕ) (spare : ℕ) (levels : List ℕ) (block : ℕ)
+    (look : List ℕ) : Type 0 where
   pub few : channels ≤ CHANNELS
   pub sorted : IsStrictlySorted (λ p. p.cue) order
   pub pool : IsPool order free
   pub row_room : CUES ≤ room
   pub free_room : CUES ≤ spare
-  pub level_room : length levels ≡ CUES * channels
+  pub level_room : CUES * channels ≤ block
+  pub covered : Covers channels levels order
   pub look_room : length look ≡ channels
 
 -- a channel's level among those of the channels from 1 on

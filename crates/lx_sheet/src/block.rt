@@ -1,10 +1,10 @@
 //! The block of rows: rows written and read, and columns mended.
 
-ghost use Rattle.std.specs.Prelude.{◌≡◌, ◌≢◌, ℕ, true, ◌+◌, ◌*◌, ◌<◌, ◌≤◌, length, take};
+ghost use Rattle.std.specs.Prelude.{◌≡◌, ◌≢◌, ℕ, true, ◌+◌, ◌*◌, ◌<◌, ◌≤◌, length, take, vec_capacity};
 ghost use Rattle.std.specs.List.{AllByRecursion};
 ghost use Rattle.lx_base.specs.declared.TheConstants.{CUES, CHANNELS};
 ghost use Rattle.lx_spec.specs.Show.{ValidCue};
-ghost use Rattle.lx_sheet.specs.Block.{AreApart, own_rows, row_at_place, cell, cue_level, last_value, level_in_look};
+ghost use Rattle.lx_sheet.specs.Block.{AreApart, Covers, own_rows, row_at_place, cell, cue_level, last_value, level_in_look};
 ghost use Rattle.lx_sheet.specs.After.{level_after, tracked_on, IsRight, Follows, IsFilled};
 
 use crate::look::track;
@@ -23,7 +23,7 @@ pub(crate) fn fill_from(
     sure: usize,
 )
     requires few { length look.old ≤ CHANNELS }
-    requires room { length levels.old ≡ CUES * length look.old }
+    requires room { Covers (length look.old) levels.old order.now }
     requires order { length order.now ≡ length cues.now }
     requires rows { AreApart (own_rows order.now) }
     requires valid { AllByRecursion (ValidCue (length look.old)) cues.now }
@@ -34,10 +34,29 @@ pub(crate) fn fill_from(
     fill_rows(levels, look, order, cues, from, sure);
 }
 
+/// Makes the block reach over so many rows, in the room that is there. A row that is new is at 0.
+pub(crate) fn reach(levels: &mut Vec<Level>, channels: usize, rows: usize)
+    requires few { channels ≤ CHANNELS }
+    requires rows { rows ≤ CUES }
+    requires room { CUES * channels ≤ vec_capacity levels.old }
+    ensures reach { rows * channels ≤ length levels.new.items }
+    ensures longer { length levels.old.items ≤ length levels.new.items }
+    ensures same { (r c : ℕ) → cell channels levels.new.items r c ≡ cell channels levels.old.items r c }
+    ensures room { vec_capacity levels.old ≤ vec_capacity levels.new }
+{
+    let end = rows * channels;
+    if levels.len() < end {
+        match levels.resize(end, 0) {
+            Ok(()) => {}
+            Err(_) => unreachable!(),
+        }
+    }
+}
+
 /// Takes up the levels of the last of so many cues, or 0 where there is none.
 fn recall(look: &mut [Level], levels: &[Level], order: &[Place], cues: usize)
     requires few { length look.old ≤ CHANNELS }
-    requires room { length levels.now ≡ CUES * length look.old }
+    requires room { Covers (length look.old) levels.now order.now }
     requires cues { cues ≤ length order.now }
     requires rows { AreApart (own_rows order.now) }
     ensures { (c : ℕ) → level_in_look look.new c ≡ last_value cues (λ k. cue_level (length look.old) order.now levels.now k c) }
@@ -52,8 +71,8 @@ fn recall(look: &mut [Level], levels: &[Level], order: &[Place], cues: usize)
 /// Takes up the levels of the row.
 fn read_row(look: &mut [Level], levels: &[Level], row: usize)
     requires few { length look.old ≤ CHANNELS }
-    requires room { length levels.now ≡ CUES * length look.old }
     requires row { row < CUES }
+    requires room { (row + 1) * length look.old ≤ length levels.now }
     ensures { (c : ℕ) → level_in_look look.new c ≡ cell (length look.old) levels.now row c }
 {
     let len = look.len();
@@ -63,8 +82,8 @@ fn read_row(look: &mut [Level], levels: &[Level], row: usize)
 /// Writes the levels as the row.
 fn write_row(levels: &mut [Level], look: &[Level], row: usize)
     requires few { length look.now ≤ CHANNELS }
-    requires room { length levels.old ≡ CUES * length look.now }
     requires row { row < CUES }
+    requires room { (row + 1) * length look.now ≤ length levels.old }
     ensures here { (c : ℕ) → cell (length look.now) levels.new row c ≡ level_in_look look.now c }
     ensures others { (r c : ℕ) → r ≢ row → cell (length look.now) levels.new r c ≡ cell (length look.now) levels.old r c }
 {
@@ -75,8 +94,8 @@ fn write_row(levels: &mut [Level], look: &[Level], row: usize)
 /// The row holds these levels.
 fn holds(levels: &[Level], look: &[Level], row: usize) -> bool
     requires few { length look.now ≤ CHANNELS }
-    requires room { length levels.now ≡ CUES * length look.now }
     requires row { row < CUES }
+    requires room { (row + 1) * length look.now ≤ length levels.now }
     ensures { result ≡ true → (c : ℕ) → cell (length look.now) levels.now row c ≡ level_in_look look.now c }
 {
     let len = look.len();
@@ -93,7 +112,7 @@ fn fill_rows(
     sure: usize,
 )
     requires few { length look.old ≤ CHANNELS }
-    requires room { length levels.old ≡ CUES * length look.old }
+    requires room { Covers (length look.old) levels.old order.now }
     requires order { length order.now ≡ length cues.now }
     requires rows { AreApart (own_rows order.now) }
     requires valid { AllByRecursion (ValidCue (length look.old)) cues.now }
@@ -124,7 +143,7 @@ pub(crate) fn fill_column(
     chan: Chan,
 )
     requires few { channels ≤ CHANNELS }
-    requires room { length levels.old ≡ CUES * channels }
+    requires room { Covers channels levels.old order.now }
     requires order { length order.now ≡ length cues.now }
     requires rows { AreApart (own_rows order.now) }
     requires from { from ≤ length cues.now }
@@ -155,7 +174,7 @@ pub(crate) fn level_before(
     at: usize,
 ) -> Level
     requires few { channels ≤ CHANNELS }
-    requires room { length levels.now ≡ CUES * channels }
+    requires room { Covers channels levels.now order.now }
     requires cues { cues ≤ length order.now }
     requires rows { AreApart (own_rows order.now) }
     requires within { at < channels }

@@ -10,7 +10,7 @@ ghost use Rattle.lx_sheet.specs.Rows.{numbers_of, level_of};
 ghost use Rattle.lx_sheet.specs.Block.{count_under};
 ghost use Rattle.lx_sheet.specs.Standing.{RowsStandFor, StandsIn, cue_numbers};
 
-use crate::block::{fill_column, fill_from};
+use crate::block::{fill_column, fill_from, own_row, reach};
 use crate::pool::{add_place, drop_place, list_cues, list_free};
 use crate::sheet::Sheet;
 use lx_base::{Chan, CueNo};
@@ -71,6 +71,8 @@ impl Sheet {
     {
         let cues = show.cues();
         if let Some(at) = add_place(&mut self.order, &mut self.free, n) {
+            let row = own_row(&self.order, at);
+            reach(&mut self.levels, self.channels, row + 1);
             if self.order.len() == cues.len() {
                 fill_from(
                     &mut self.levels,
@@ -127,6 +129,7 @@ impl Sheet {
         let cues = show.cues();
         list_cues(&mut self.order, cues);
         list_free(&mut self.free, cues.len());
+        reach(&mut self.levels, self.channels, cues.len());
         fill_from(
             &mut self.levels,
             &mut self.look,

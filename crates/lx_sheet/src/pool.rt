@@ -1,6 +1,6 @@
 //! The order of the cues, each with the row that is its own, and the rows that are free. No call takes memory.
 
-ghost use Rattle.std.specs.Prelude.{◌≡◌, ◌≤◌, ◌-◌, ℕ, None, IfSome, length, map, insert, remove, vec_capacity};
+ghost use Rattle.std.specs.Prelude.{◌≡◌, ◌≤◌, ◌-◌, ℕ, None, IfSome, length, map, insert, remove, reverse, vec_capacity};
 ghost use Rattle.std.specs.List.{range_with_len};
 ghost use Rattle.lx_base.specs.declared.TheConstants.{CUES};
 ghost use Rattle.lx_spec.specs.SortedList.{IsStrictlySorted, entry_at};
@@ -25,6 +25,7 @@ pub(crate) fn add_place(order: &mut Vec<Place>, free: &mut Vec<usize>, n: CueNo)
     ensures added { IfSome result (λ at. order.new.items
         ≡ insert order.old.items at (record { cue = n; row = row_at_place order.new.items at })) }
     ensures none { result ≡ None → entry_at (λ p. p.cue) n order.old.items ≡ None → CUES ≤ length order.old.items }
+    ensures same { result ≡ None → order.new.items ≡ order.old.items }
 {
     match index_of(order.as_slice(), n.get()) {
         Ok(_) => None,
@@ -77,15 +78,16 @@ pub(crate) fn list_cues(order: &mut Vec<Place>, cues: &[Cue])
     }
 }
 
-/// Frees the rows from this one on, in the room that is there.
+/// Frees the rows from this one on, in the room that is there: the first of them is taken next.
 pub(crate) fn list_free(free: &mut Vec<usize>, from: usize)
     requires room { CUES ≤ vec_capacity free.old }
     requires from { from ≤ CUES }
-    ensures free { free.new.items ≡ range_with_len from (CUES - from) }
+    ensures free { free.new.items ≡ reverse (range_with_len from (CUES - from)) }
     ensures room { vec_capacity free.new ≡ vec_capacity free.old }
 {
     free.clear();
     for row in from..CUES {
         free.push_reserved(row);
     }
+    free.reverse();
 }

@@ -1,6 +1,6 @@
 //! A sheet, and what it tells.
 
-ghost use Rattle.std.specs.Prelude.{◌≡◌, IfOk, length, option_map};
+ghost use Rattle.std.specs.Prelude.{◌≡◌, ℕ, ◌+◌, ◌<◌, None, IfOk, IfSome, length, option_map, slice_index};
 ghost use Rattle.std.specs.Option.{option_copied};
 ghost use Rattle.lx_spec.specs.SortedList.{IsStrictlySorted};
 ghost use Rattle.lx_spec.specs.Show.{Show as ShowData};
@@ -42,7 +42,8 @@ pub struct Sheet {
     pub(crate) order: Vec<Place>,
     /// The rows of the block that are no cue's.
     pub(crate) free: Vec<usize>,
-    /// The block of rows, each as long as there are channels. A row stays in its place as long as its cue is there.
+    /// The block of rows, each as long as there are channels, up to the last one that was a cue's. A row stays in
+    /// its place as long as its cue is there.
     pub(crate) levels: Vec<Level>,
     /// The levels of the cue that is being filled in.
     pub(crate) look: Vec<Level>,
@@ -58,7 +59,7 @@ impl Model for Sheet {
     ghost view = { λ s. record { channels = s.channels; rows = rows_of s.channels s.order.items s.levels.items } };
 
     ghost invariant = { λ s. IsKept s.channels s.order.items (vec_capacity s.order) s.free.items
-        (vec_capacity s.free) s.levels.items s.look.items };
+        (vec_capacity s.free) s.levels.items (vec_capacity s.levels) s.look.items };
 }
 
 impl Sheet {
@@ -74,7 +75,7 @@ impl Sheet {
             channels,
             order: Vec::with_capacity(alloc, CUES)?,
             free,
-            levels: vec![in alloc; 0; CUES * channels]?,
+            levels: Vec::with_capacity(alloc, CUES * channels)?,
             look: vec![in alloc; 0; channels]?,
         };
         sheet.refill(show);
@@ -96,6 +97,23 @@ impl Sheet {
             }
             Err(_) => None,
         }
+    }
+
+    /// The levels at the number, which need not be a cue's: the last row up to it, the level of channel c at place
+    /// c - 1. `None` where there is none: each channel is at 0.
+    pub fn look_at(&self, n: CueNo) -> Option<&[Level]>
+        ensures reach { IfSome result (λ row. length row.now ≡ self.now.channels) }
+        ensures levels { IfSome result (λ row. (k : ℕ) → k < self.now.channels → slice_index row.now k ≡ level_of self.now n (k + 1)) }
+        ensures none { result ≡ None → (c : ℕ) → level_of self.now n c ≡ 0 }
+    {
+        let order = self.order.as_slice();
+        let mut near = 0;
+        let cues = count_near(order, n, &mut near);
+        if cues == 0 {
+            return None;
+        }
+        let last = own_row(order, cues - 1);
+        Some(&self.levels[last * self.channels..(last + 1) * self.channels])
     }
 
     /// The channel's tracked level at the number, which need not be a cue's: that in the last row up to

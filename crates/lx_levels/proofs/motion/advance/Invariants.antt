@@ -1,9 +1,12 @@
-use Rattle.std.proofs.Common.{◌≡◌, ℕ, ◌<◌, false, get_or, length}
+use Rattle.std.proofs.Common.{◌≡◌, ℕ, ◌<◌, ◌≤◌, false, get_or, length}
+use Rattle.lx_fade.specs.declared.held.TheConstants.{NEVER}
 use Rattle.lx_levels.specs.Moving.{IsAdvanced}
 use Rattle.lx_levels.proofs.motion.advance.Given as goal
 
-abbrev pub invariant-loop-j : goal.invariant-loop-j
-invariant-loop-j l = record {
-  advanced : IsAdvanced l.m l.j l.roster l.stacks l.fn.currents.items l.currents.items l.fn.levels.items l.levels.items;
-  unchanged : l.changed ≡ false → (k : ℕ) → k < length l.roster.order → get_or l.levels.items k 0 ≡ get_or l.fn.levels.items k 0;
+abbrev pub invariant-loop-k : goal.invariant-loop-k
+invariant-loop-k l = record {
+  advanced : IsAdvanced l.m l.k l.stacks l.currents.items l.levels.items l.holds.items;
+  most : l.due ≤ NEVER;
+  held : (i : ℕ) → i < l.k → l.due ≤ get_or l.holds.items i 0;
+  unchanged : l.changed ≡ false → (i : ℕ) → i < length l.stacks → get_or l.levels.items i 0 ≡ get_or l.fn.levels.items i 0;
 }

@@ -1,12 +1,11 @@
 use Rattle.std.proofs.Common.{◌≡◌, ◌≢◌, ℕ, ◌+◌, ◌*◌, ◌-◌, ◌<◌, ◌≤◌, List, length, take, set, ap, sym, ◌∙◌, subst, refl, inl, inr, arith}
 use Rattle.std.proofs.lemmas.Bool.{cases_eq}
-use Rattle.lx_base.specs.declared.TheConstants.{CUES}
-use Rattle.std.proofs.Math.Nat.{mul-le-mul_right}
 use Rattle.lx_spec.specs.Show.{Cue}
 use Rattle.lx_sheet.specs.declared.sheet.Place.{Place}
 use Rattle.lx_sheet.specs.Block.{cell, cue_level, row_at_place, last_value}
 use Rattle.lx_sheet.specs.After.{level_after, tracked_on}
 use Rattle.lx_sheet.proofs.Cells.{cell-set_here, cell-set_other}
+use Rattle.lx_sheet.proofs.Covered.{covered_at}
 use Rattle.lx_sheet.proofs.LevelsAfter.{level_after-take}
 use Rattle.lx_sheet.proofs.RowPool.{rows_differ}
 use Rattle.lx_sheet.proofs.block.fill_column.Goals as goal
@@ -36,7 +35,8 @@ loop-place-preserved c =
     let most : c.get.result ≤ n = omega (arith, c.requires.within) in
     let there : place < length order = omega arith in
     let end : row * n + n ≤ length c.loop-place.levels =
-    omega (arith, mul-le-mul_right {m = row + 1} {n = CUES} n (omega (arith, c.own_row.ensures.within))) in
+    subst (λ r. r * n + n ≤ length c.loop-place.levels) (sym of_row)
+    (omega (arith, covered_at n c.args.levels.now order place c.requires.room there)) in
     let new = set c.loop-place.levels (row * n + (c.get.result - 1)) c.level_on-level.result in
     let here : cue_level n order new place c.args.chan ≡ c.level_on-level.result =
     ap (λ r. cell n new r c.args.chan) (sym of_row)

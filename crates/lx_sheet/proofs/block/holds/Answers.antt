@@ -1,10 +1,8 @@
 use Rattle.std.proofs.Common.{◌≡◌, ◌≤◌, Bool, ◌+◌, ◌-◌, ◌*◌, List, ℕ, true, Some, None, length, take, drop, ap, ◌∙◌, sym, subst, refl}
 use Rattle.std.proofs.Common.{arith}
 use Rattle.std.specs.Prelude.{Option, is_some, not}
-use Rattle.std.proofs.Math.Nat.{mul-le-mul_right}
 use Rattle.std.proofs.lemmas.Bool.{false≢true}
 use Rattle.std.proofs.lemmas.List.{length-take, length-drop}
-use Rattle.lx_base.specs.declared.TheConstants.{CUES}
 use Rattle.lx_base.specs.Rows.{Agree}
 use Rattle.lx_sheet.specs.Block.{cell}
 use Rattle.lx_sheet.proofs.Cells.{width_of, same_look}
@@ -19,7 +17,7 @@ unfolding cell
 returns c = λ same chan.
     let len : ℕ = length c.args.look.now in
     let row : List ℕ = take len (drop (c.args.row * len) c.args.levels.now) in
-    let most : (c.args.row + 1) * len ≤ CUES * len = mul-le-mul_right {m = c.args.row + 1} {n = CUES} len (omega arith) in
+    let most : (c.args.row + 1) * len ≤ length c.args.levels.now = c.requires.room in
     let long : length row ≡ len = omega (
       arith,
       length-take len (drop (c.args.row * len) c.args.levels.now),

@@ -1,6 +1,4 @@
 use Rattle.std.proofs.Common.{◌+◌, ◌*◌, ◌≤◌, List, ℕ, length, ap, ◌∙◌, arith}
-use Rattle.lx_base.specs.declared.TheConstants.{CUES}
-use Rattle.std.proofs.Math.Nat.{mul-le-mul_right}
 use Rattle.lx_sheet.specs.Block.{cell, level_in_look}
 use Rattle.lx_sheet.proofs.Cells.{row_here, row_other}
 use Rattle.lx_sheet.proofs.block.write_row.Goals as goal
@@ -9,8 +7,7 @@ pub returns-clause-here : goal.returns-clause-here
 unfolding cell
 returns-clause-here c = λ chan.
     let len : ℕ = length c.args.look.now in
-    let within : c.args.row * len ≤ length c.args.levels.now =
-    omega (arith, mul-le-mul_right {m = c.args.row} {n = CUES} len (omega arith)) in
+    let within : c.args.row * len ≤ length c.args.levels.now = omega (arith, c.requires.room) in
     ap (λ (xs : List ℕ). level_in_look xs chan)
     (row_here len c.args.levels.now c.copy_from_slice.new.self c.args.row ((c.args.row + 1) * len) (omega arith) within
     (omega (arith, ap length c.copy_from_slice.ensures.after)) ∙ c.copy_from_slice.ensures.after)
@@ -19,8 +16,7 @@ pub returns-clause-others : goal.returns-clause-others
 unfolding cell
 returns-clause-others c = λ k chan other.
     let len : ℕ = length c.args.look.now in
-    let within : c.args.row * len ≤ length c.args.levels.now =
-    omega (arith, mul-le-mul_right {m = c.args.row} {n = CUES} len (omega arith)) in
+    let within : c.args.row * len ≤ length c.args.levels.now = omega (arith, c.requires.room) in
     ap (λ (xs : List ℕ). level_in_look xs chan)
     (row_other len c.args.levels.now c.copy_from_slice.new.self k c.args.row ((c.args.row + 1) * len) (omega arith) within
     (omega (arith, ap length c.copy_from_slice.ensures.after)) other)

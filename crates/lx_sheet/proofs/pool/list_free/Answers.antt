@@ -1,4 +1,5 @@
 use Rattle.std.proofs.Common.{◌≡◌, ◌+◌, ◌-◌, ◌∷◌, [], ◌++◌, ℕ, List, length, ap, ◌∙◌, arith}
+use Rattle.std.specs.Prelude.{reverse}
 use Rattle.std.specs.List.{range_with_len}
 use Rattle.std.proofs.lemmas.List.FromFn.{length-range_with_len}
 use Rattle.lx_base.specs.declared.TheConstants.{CUES}
@@ -28,4 +29,4 @@ loop-row-preserved c =
 pub returns-clause-free : goal.returns-clause-free
 returns-clause-free c =
     let all : c.loop-row.row - c.args.from ≡ CUES - c.args.from = omega arith in
-    c.loop-row.invariant.free ∙ ap (range_with_len c.args.from) all
+    c.reverse.ensures.items ∙ ap reverse (c.loop-row.invariant.free ∙ ap (range_with_len c.args.from) all)

@@ -1,21 +1,30 @@
-use Rattle.std.proofs.Common.{ℕ, length, ap, ◌∙◌, arith}
-use Rattle.std.proofs.lemmas.List.{length-replicate}
+use Rattle.std.proofs.Common.{◌≡◌, ℕ, List, length, replicate, get_or, ap, ◌∙◌, arith}
+use Rattle.std.proofs.lemmas.List.{length-replicate, get_or-replicate}
 use Rattle.lx_base.specs.declared.TheConstants.{RUNS}
+use Rattle.lx_fade.specs.declared.held.TheConstants.{NEVER}
 use Rattle.lx_levels.proofs.UnderWay.{opened_right}
 use Rattle.lx_levels.proofs.levels.Levels.open.Goals as goal
 
 pub invariant_of-result : goal.invariant_of-result
 invariant_of-result c =
     let n = c.channels-channels.result in
+    let never : c.in_ok-vec-3.field-0.items ≡ replicate n NEVER = c.in_ok-vec-3.ensures.items_if_clones_equal (λ y is. is) in
     record {
-      right = opened_right c.in_ok-open-2.field-0 c.loop.stacks.items c.in_ok-vec.field-0.items c.in_ok-vec-2.field-0.items n
-          c.in_ok-open-2.ensures.reach (omega (
+      right = opened_right c.in_ok-open.field-0 c.in_ok-vec.field-0.items c.in_ok-vec-2.field-0.items c.in_ok-vec-3.field-0.items n
+          (omega (
             arith,
             c.channels-channels.ensures.channels,
             c.channels-channels.ensures.valid.channels.most,
-          )) c.in_ok-open-2.ensures.empty
-          (omega (arith, c.loop.invariant.count, c.loop-test.false, c.loop.auto.counter-end))
+          ))
+          c.in_ok-open.ensures.reach
           (omega (arith, c.in_ok-vec.ensures.len, c.in_ok-vec.field-0.ok.0))
-          (c.in_ok-vec-2.ensures.items_if_clones_equal (λ y is. is)) c.loop.invariant.empty;
-      room = ap length (c.in_ok-vec-3.ensures.items_if_clones_equal (λ y is. is)) ∙ length-replicate {A = ℕ} RUNS 0;
+          (c.in_ok-vec-2.ensures.items_if_clones_equal (λ y is. is)) never c.in_ok-open.ensures.empty;
+      due_is = λ k within.
+          let long : length c.in_ok-vec-3.field-0.items ≡ n = ap length never ∙ length-replicate {A = ℕ} n NEVER in
+          omega (
+            arith,
+            ap (λ (xs : List ℕ). get_or xs k 0) never,
+            get_or-replicate {A = ℕ} n k NEVER 0 (omega (arith, within, long)),
+          );
+      room = ap length (c.in_ok-vec-4.ensures.items_if_clones_equal (λ y is. is)) ∙ length-replicate {A = ℕ} RUNS 0;
     }

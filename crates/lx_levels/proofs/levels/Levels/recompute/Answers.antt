@@ -1,21 +1,19 @@
-use Rattle.std.proofs.Common.{◌-◌, ◌<◌, ◌≤◌, ◌∙◌, ap, arith, length, refl, set, subst, sym}
-use Rattle.std.proofs.lemmas.Grind.{get_or-set_at}
-use Rattle.lx_levels.specs.Stacks.{Kept, no_stack}
+use Rattle.std.proofs.Common.{◌-◌, ◌∙◌, List, ap, arith, length, sym, subst}
+use Rattle.lx_levels.specs.Stacks.{Stack}
+use Rattle.lx_levels.specs.Moving.{IsRightBut}
 use Rattle.lx_levels.proofs.Begun.{written}
 use Rattle.lx_levels.proofs.UnderWay.{right_but}
 use Rattle.lx_levels.proofs.levels.Levels.recompute.Goals as goal
 
 pub invariant_of-self : goal.invariant_of-self
 invariant_of-self c =
-    let stacks = c.self.inside.stacks.items in
     let k = c.get.result - 1 in
-    let within = subst (λ (v : Kept). c.args.chan ≤ length v.stacks) (sym c.self.view_is) c.requires.chan in
-    let room : k < length stacks = omega (arith, within, c.get.ensures.value, c.get.ensures.least) in
     record {
-      right =
-          c.refresh.ensures.right (set stacks k c.fill_stack.new.stack) (get_or-set_at stacks k k c.fill_stack.new.stack no_stack refl room)
-          (right_but c.self.inside.moment k c.self.inside.roster stacks c.self.inside.currents.items c.self.inside.levels.items
-          c.fill_stack.new.stack c.self.invariant.right);
+      right = c.refresh.ensures.right (subst (λ (ss : List Stack). IsRightBut c.self.inside.moment k ss c.self.inside.currents.items
+          c.self.inside.levels.items c.self.inside.holds.items) (sym c.store.ensures)
+          (right_but c.self.inside.moment k c.self.inside.stacks c.self.inside.currents.items c.self.inside.levels.items
+          c.self.inside.holds.items c.fill_stack.new.stack c.self.invariant.right));
+      due_is = c.refresh.ensures.due c.self.invariant.due_is;
       room = ap length (written c.self.inside.hints.len c.fill_stack.new.hints c.self.inside.hints.items
           (omega (arith, c.fill_stack.auto.hints, c.deref_mut.ensures.len))) ∙ c.fill_stack.auto.hints ∙ ap length c.deref_mut.ensures.value
           ∙ c.self.invariant.room;

@@ -1,6 +1,6 @@
 use Rattle.std.proofs.Common.{◌≡◌, ◌+◌, ◌<◌, ◌++◌, length-append, [], ◌∷◌, length, take, drop, reverse, List, ◌∙◌, ap, arith}
 use Rattle.lx_fade.specs.Fades.{Fade, pushed}
-use Rattle.lx_levels.specs.declared.current.TheConstants.{NEVER}
+use Rattle.lx_fade.specs.declared.held.TheConstants.{NEVER}
 use Rattle.lx_levels.proofs.Begun.{All-pushed, written, first_part}
 use Rattle.lx_levels.proofs.stack.Stack.push.Goals as goal
 

@@ -2,6 +2,7 @@ use Rattle.std.proofs.Common.{◌≡◌, ◌-◌, List, [], sym, subst, arith, r
 use Rattle.lx_base.specs.declared.TheConstants.{CUES}
 use Rattle.lx_spec.specs.SortedList.{IsStrictlySorted}
 use Rattle.lx_sheet.specs.declared.sheet.Place.{Place}
+use Rattle.lx_sheet.specs.Block.{Covers}
 use Rattle.lx_sheet.proofs.RowPool.{listed_pool}
 use Rattle.lx_sheet.proofs.sheet.Sheet.open.Goals as goal
 
@@ -16,5 +17,6 @@ invariant_of-sheet c =
       row_room = search rules;
       free_room = search rules;
       level_room = search rules;
+      covered = subst (Covers c.channels-channels.result _) (sym none) (λ k d within. absurd (omega arith));
       look_room = search rules;
     }

@@ -8,6 +8,7 @@ use Rattle.lx_sheet.specs.Rows.{Sheet}
 use Rattle.lx_sheet.specs.Block.{placed_from, AreApart, own_rows}
 use Rattle.lx_sheet.specs.After.{IsFilled}
 use Rattle.lx_sheet.specs.Standing.{RowsStandFor}
+use Rattle.lx_sheet.proofs.Covered.{covers_lent, covers_listed}
 use Rattle.lx_sheet.proofs.EditedShows.{IsStrictlySorted-placed_from, numbers-placed_from}
 use Rattle.lx_sheet.proofs.LevelsAfter.{level_after-nil}
 use Rattle.lx_sheet.proofs.RightRows.{filled_stands}
@@ -29,6 +30,14 @@ fill_from-requires-clause-rows c =
     (listed_pool c.list_cues.new.order.items c.list_free.new.free.items c.cues-cues.result.now (CUES - length c.cues-cues.result.now)
     c.list_cues.ensures.order c.list_free.ensures.free (omega arith)))
 
+pub fill_from-requires-clause-room : goal.fill_from-requires-clause-room
+fill_from-requires-clause-room c =
+    covers_lent c.self.inside.channels _ c.reach.new.levels.items _ c.list_cues.new.order.items _
+    (omega (arith, ap length c.deref_mut-2.ensures.value, c.self.invariant.look_room)) c.deref.ensures.value
+    (ap length c.deref_mut.ensures.value)
+    (covers_listed c.self.inside.channels c.reach.new.levels.items c.list_cues.new.order.items c.cues-cues.result.now
+    c.list_cues.ensures.order c.reach.ensures.reach)
+
 pub invariant_of-self : goal.invariant_of-self
 invariant_of-self c =
     let few : length c.cues-cues.result.now ≤ CUES =
@@ -42,7 +51,9 @@ invariant_of-self c =
           (CUES - length c.cues-cues.result.now) c.list_cues.ensures.order c.list_free.ensures.free (omega arith);
       row_room = omega (arith, c.list_cues.ensures.room, c.self.invariant.row_room);
       free_room = omega (arith, c.list_free.ensures.room, c.self.invariant.free_room);
-      level_room = omega (arith, ap length (with_items_is c.self.inside.levels c.fill_from.new.levels (omega arith)));
+      level_room = omega (arith, c.reach.ensures.room, c.self.invariant.level_room);
+      covered = covers_listed c.self.inside.channels _ c.list_cues.new.order.items c.cues-cues.result.now c.list_cues.ensures.order
+          (omega (arith, c.reach.ensures.reach, ap length (with_items_is c.reach.new.levels c.fill_from.new.levels (omega arith))));
       look_room = omega (arith, length_refill c.self.inside.look.len c.self.inside.look.items c.fill_from.new.look (omega arith));
     }
 
@@ -57,10 +68,10 @@ returns c =
     let sorted = c.cues-cues.ensures.valid.cues_sorted in
     let width : length c.deref_mut-2.result.now ≡ channels =
     omega (arith, ap length c.deref_mut-2.ensures.value, c.self.invariant.look_room) in
-    let is : IsFilled channels order show.cues c.self.inside.levels.items filled 0 (length c.cues-cues.result.now) =
-    filled_as _ channels _ order _ show.cues _ c.self.inside.levels.items filled 0 (length c.cues-cues.result.now) width
+    let is : IsFilled channels order show.cues c.reach.new.levels.items filled 0 (length c.cues-cues.result.now) =
+    filled_as _ channels _ order _ show.cues _ c.reach.new.levels.items filled 0 (length c.cues-cues.result.now) width
     c.deref.ensures.value of_cues c.deref_mut.ensures.value c.fill_from.ensures in
-    subst (λ (xs : List ℕ). RowsStandFor show (sheet_of channels order xs)) (sym (with_items_is c.self.inside.levels filled (omega arith)))
+    subst (λ (xs : List ℕ). RowsStandFor show (sheet_of channels order xs)) (sym (with_items_is c.reach.new.levels filled (omega arith)))
     (filled_stands show channels order filled (ap (λ (s : Sheet). s.channels) c.self.view_is ∙ c.requires)
     (record {
       sorted = subst (IsStrictlySorted (λ (p : Place). p.cue)) (sym listed) (IsStrictlySorted-placed_from 0 show.cues sorted);

@@ -1,18 +1,27 @@
-use Rattle.std.proofs.Common.{◌≡◌, ◌+◌, ℕ, List, length, ap, sym, ◌∙◌, subst, arith}
+use Rattle.std.proofs.Common.{◌≡◌, ◌+◌, ◌<◌, refl, ℕ, List, length, ap, sym, ◌∙◌, subst, arith}
+use Rattle.std.specs.Prelude.{remove}
+use Rattle.std.specs.List.{length_refill}
 use Rattle.std.specs.Vec.{with_items}
 use Rattle.std.proofs.lemmas.List.{length-map, with_items_is}
 use Rattle.lx_spec.specs.SortedList.{IsStrictlySorted}
 use Rattle.lx_spec.specs.Show.{Cue, Show}
 use Rattle.lx_spec.specs.EditedShow.{without_cue}
 use Rattle.lx_sheet.specs.declared.sheet.Place.{Place}
-use Rattle.lx_sheet.specs.Block.{AreApart, own_rows}
+use Rattle.lx_sheet.specs.Block.{AreApart, Covers, own_rows}
 use Rattle.lx_sheet.specs.After.{IsFilled}
 use Rattle.lx_sheet.specs.Standing.{RowsStandFor}
+use Rattle.lx_sheet.proofs.Covered.{covers_lent, covers_removed}
 use Rattle.lx_sheet.proofs.RightRows.{order_of}
 use Rattle.lx_sheet.proofs.RowPool.{own_apart}
 use Rattle.lx_sheet.proofs.Rows.{sheet_of}
 use Rattle.lx_sheet.proofs.ShiftedRows.{absent_alike, filled_as, removed, shifted_stands, taken_absent}
 use Rattle.lx_sheet.proofs.sheet.Sheet.remove_row.Goals as goal
+
+-- the block covers the rows that are left
+left : (channels : ℕ) (levels : List ℕ) (old new : List Place) (at : ℕ) → at < length old → Covers channels levels old
+    → new ≡ remove old at → Covers channels levels new
+left channels levels old new at within covers dropped =
+    subst (Covers channels levels) (sym dropped) (covers_removed channels levels old at within covers)
 
 pub fill_from-requires-clause-rows : goal.fill_from-requires-clause-rows
 fill_from-requires-clause-rows c =
@@ -77,3 +86,39 @@ returns-in_default c = λ before stands now.
     (sym (c.drop_place.ensures.none c.in_default.is))
     (subst (λ (cues : List Cue). RowsStandFor (record before { cues = cues }) (sheet_of channels old levels))
     (sym (taken_absent (λ (x : Cue). x.number) c.args.n before.cues absent)) was))
+
+pub fill_from-requires-clause-room : goal.fill_from-requires-clause-room
+fill_from-requires-clause-room c =
+    covers_lent c.self.inside.channels _ c.self.inside.levels.items _ c.drop_place.new.order.items _
+    (omega (arith, ap length c.deref_mut-then-len-cues.ensures.value, c.self.invariant.look_room)) c.deref.ensures.value
+    (ap length c.deref_mut.ensures.value)
+    (left c.self.inside.channels c.self.inside.levels.items c.self.inside.order.items c.drop_place.new.order.items c.in-Some.at
+    c.in-Some.ensures.stands.within c.self.invariant.covered c.in-Some.ensures.dropped)
+
+pub invariant_of-self : goal.invariant_of-self
+invariant_of-self c = record {
+  few = c.self.invariant.few;
+  sorted = c.drop_place.ensures.sorted;
+  pool = c.drop_place.ensures.pool;
+  row_room = omega (arith, c.drop_place.ensures.room, c.self.invariant.row_room);
+  free_room = omega (arith, c.drop_place.ensures.free_room, c.self.invariant.free_room);
+  level_room = c.self.invariant.level_room;
+  covered = covers_lent c.self.inside.channels _ c.self.inside.levels.items _ c.drop_place.new.order.items _ refl refl
+      (ap length (with_items_is c.self.inside.levels c.fill_from.new.levels (omega arith)) ∙ omega arith)
+      (left c.self.inside.channels c.self.inside.levels.items c.self.inside.order.items c.drop_place.new.order.items c.in-Some.at
+      c.in-Some.ensures.stands.within c.self.invariant.covered c.in-Some.ensures.dropped);
+  look_room = omega (arith, length_refill c.self.inside.look.len c.self.inside.look.items c.fill_from.new.look (omega arith));
+}
+
+pub invariant_of-self-else-len-cues : goal.invariant_of-self-else-len-cues
+invariant_of-self-else-len-cues c = record {
+  few = c.self.invariant.few;
+  sorted = c.drop_place.ensures.sorted;
+  pool = c.drop_place.ensures.pool;
+  row_room = omega (arith, c.drop_place.ensures.room, c.self.invariant.row_room);
+  free_room = omega (arith, c.drop_place.ensures.free_room, c.self.invariant.free_room);
+  level_room = c.self.invariant.level_room;
+  covered = left c.self.inside.channels c.self.inside.levels.items c.self.inside.order.items c.drop_place.new.order.items c.in-Some.at
+      c.in-Some.ensures.stands.within c.self.invariant.covered c.in-Some.ensures.dropped;
+  look_room = c.self.invariant.look_room;
+}

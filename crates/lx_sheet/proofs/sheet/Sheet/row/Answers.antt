@@ -56,8 +56,7 @@ returns-in-Ok-clause-stands c = λ show stands.
     c.as_slice-order.ensures.value c.in-Ok.ensures.stands in
     ap Some (part channels c.own_row-row.result (row_at_place order c.in-Ok.at) c.deref.result.now levels c.deref.ensures.value
     (c.own_row-row.ensures.row ∙ ap (λ (xs : List Place). row_at_place xs c.in-Ok.at) c.as_slice-order.ensures.value))
-    ∙ cue_found show channels order levels c.args.n c.in-Ok.at c.self.invariant.level_room
-    (own_apart order c.self.inside.free.items c.self.invariant.pool) c.self.invariant.sorted place
+    ∙ cue_found show channels order levels c.args.n c.in-Ok.at c.self.invariant.covered c.self.invariant.sorted place
     (subst (RowsStandFor show) (sym c.self.view_is) stands)
 
 pub returns-in-Err-clause-row : goal.returns-in-Err-clause-row

@@ -1,0 +1,270 @@
+-- Stacks laid out plane by plane.
+use Rattle.std.specs.Prelude.{◌≡◌, ◌≢◌, ◌⊎◌, ℕ, zero, suc, ◌+◌, ◌-◌, ◌*◌, ◌<◌, ◌≤◌, List, [], ◌∷◌, ◌++◌, drop, length, min, reverse, take}
+use Rattle.std.proofs.Common.{arith, get_or, set, replicate, refl, ◌∙◌, ap, sym, subst, inl, inr}
+use Rattle.std.specs.List.{All}
+use Rattle.std.proofs.Math.ListN.{length-set}
+use Rattle.std.proofs.Math.Nat.{mul-le-mul_right}
+use Rattle.std.proofs.lemmas.Bool.{cases_eq, cases_lt}
+use Rattle.std.proofs.lemmas.Grind.{get_or-set_at}
+use Rattle.std.proofs.lemmas.List.{get_or-set_other, get_or_default, same_lists, get_or_past, get_or-replicate, length-drop, length-reverse}
+use Rattle.std.proofs.lemmas.List.{length-take-le, take_more, reverse-append, set-set}
+use Rattle.std.proofs.lemmas.List.FromFn.{length-map-range_with_len, get_or-map-range_with_len}
+use Rattle.lx_fade.specs.Fades.{Fade, fade_at, stack_at, begun_by}
+use Rattle.lx_fade.proofs.Pushed.{stack_at-pushed}
+use Rattle.lx_spec.specs.Level.{fade_over}
+use Rattle.lx_fade.specs.declared.held.TheConstants.{NEVER}
+use Rattle.lx_spec.proofs.Comparisons.{lt_false, lt_true}
+use Rattle.lx_sheet.proofs.Cells.{places_apart}
+use Rattle.lx_levels.specs.Stacks.{Stack, level_in, no_stack}
+use Rattle.lx_levels.specs.Columns.{column, no_fade, stack_at_place, stacks_of}
+
+-- the newest fade of a column, and the others
+pub column_step : (block : List Fade) (channels k left : ℕ) → 0 < left
+    → column block channels k left ≡ get_or block ((left - 1) * channels + k) no_fade ∷ column block channels k (left - 1)
+column_step block channels k zero some = absurd (omega arith)
+column_step block channels k (suc j) some =
+    let e : j ≡ suc j - 1 = omega arith in
+    ap (λ i. get_or block (i * channels + k) no_fade ∷ column block channels k i) e
+
+pub length-column : (block : List Fade) (channels k n : ℕ) → length (column block channels k n) ≡ n
+length-column block channels k zero = refl
+length-column block channels k (suc n) = ap suc (length-column block channels k n)
+
+-- of two blocks that agree at its places
+pub column_same : (new old : List Fade) (channels k n : ℕ)
+    → ((j : ℕ) → j < n → get_or new (j * channels + k) no_fade ≡ get_or old (j * channels + k) no_fade)
+    → column new channels k n ≡ column old channels k n
+column_same new old channels k zero same = refl
+column_same new old channels k (suc n) same =
+    ap (λ f. f ∷ column new channels k n) (same n (omega arith))
+    ∙ ap (λ (fs : List Fade). get_or old (n * channels + k) no_fade ∷ fs) (column_same new old channels k n (λ j less. same j
+    (omega arith)))
+
+-- without the newest
+pub drop-column : (block : List Fade) (channels k n m : ℕ) → m ≤ n → drop (n - m) (column block channels k n) ≡ column block channels k m
+drop-column block channels k zero m le =
+    let e : m ≡ 0 = omega arith in
+    let d : zero - m ≡ 0 = omega arith in
+    ap (λ i. drop i (column block channels k zero)) d ∙ ap (column block channels k) (sym e)
+drop-column block channels k (suc n) m le =
+    elim (cases_eq m (suc n)) [
+      | inl same ↦
+          let d : suc n - m ≡ 0 = omega (arith, same) in
+          ap (λ i. drop i (column block channels k (suc n))) d ∙ ap (column block channels k) (sym same)
+      | inr other ↦
+          let d : suc n - m ≡ suc (n - m) = omega (arith, other) in
+          ap (λ i. drop i (column block channels k (suc n))) d ∙ drop-column block channels k n m (omega (arith, other))
+    ]
+
+-- a fade written at the head of a column, in a block whose entries are those of the one before
+module _ (old grown : List Fade) (channels k kept : ℕ) (fade : Fade) (within : k < channels)
+    (same : (i : ℕ) → get_or grown i no_fade ≡ get_or old i no_fade) (room : kept * channels + k < length grown) where
+  pub written_here : column (set grown (kept * channels + k) fade) channels k (suc kept) ≡ fade ∷ column old channels k kept
+  written_here =
+      ap (λ f. f ∷ column (set grown (kept * channels + k) fade) channels k kept)
+      (get_or-set_at grown (kept * channels + k) (kept * channels + k) fade no_fade refl room)
+      ∙ ap (λ (fs : List Fade). fade ∷ fs) (column_same (set grown (kept * channels + k) fade) old channels k kept
+      (λ j less. get_or-set_other grown (kept * channels + k) (j * channels + k) fade no_fade
+      (λ e. let both = places_apart channels j kept k k within within e in omega (arith, both.0, less))
+      ∙ same (j * channels + k)))
+
+  pub written_other : (i n : ℕ) → i < channels → i ≢ k
+      → column (set grown (kept * channels + k) fade) channels i n ≡ column old channels i n
+  written_other i n less other = column_same (set grown (kept * channels + k) fade) old channels i n
+      (λ j below. get_or-set_other grown (kept * channels + k) (j * channels + i) fade no_fade
+      (λ e. let both = places_apart channels j kept i k less within e in other both.1)
+      ∙ same (j * channels + i))
+
+-- the stack at a place
+pub stack_is : (channels : ℕ) (bottoms counts : List ℕ) (block : List Fade) (k : ℕ) → k < channels
+    → get_or (stacks_of channels bottoms counts block) k no_stack ≡ stack_at_place channels bottoms counts block k
+stack_is channels bottoms counts block k within =
+    get_or-map-range_with_len (stack_at_place channels bottoms counts block) 0 channels k k no_stack within (omega arith)
+
+pub length-stacks_of : (channels : ℕ) (bottoms counts : List ℕ) (block : List Fade)
+    → length (stacks_of channels bottoms counts block) ≡ channels
+length-stacks_of channels bottoms counts block = length-map-range_with_len (stack_at_place channels bottoms counts block) 0 channels
+
+-- one channel's stack was changed
+pub stacks_set : (channels : ℕ) (bottoms counts after_bottoms after_counts : List ℕ) (block after : List Fade) (k : ℕ) (stack : Stack)
+    → k < channels → stack_at_place channels after_bottoms after_counts after k ≡ stack
+    → ((i : ℕ) → i < channels → i ≢ k
+    → stack_at_place channels after_bottoms after_counts after i ≡ stack_at_place channels bottoms counts block i)
+    → stacks_of channels after_bottoms after_counts after ≡ set (stacks_of channels bottoms counts block) k stack
+stacks_set channels bottoms counts after_bottoms after_counts block after k stack within here others =
+    let old : List Stack = stacks_of channels bottoms counts block in
+    let new : List Stack = stacks_of channels after_bottoms after_counts after in
+    let long : length new ≡ channels = length-stacks_of channels after_bottoms after_counts after in
+    let was : length old ≡ channels = length-stacks_of channels bottoms counts block in
+    same_lists new (set old k stack) (long ∙ sym was ∙ sym (length-set old k stack)) (λ i d less.
+    let place : i < channels = omega (arith, long, less) in
+    get_or-map-range_with_len (stack_at_place channels after_bottoms after_counts after) 0 channels i i d place (omega arith)
+    ∙ elim (cases_eq i k) [
+      | inl same ↦ ap (stack_at_place channels after_bottoms after_counts after) same ∙ here
+          ∙ sym (get_or-set_at old k i stack d same (omega (arith, was, within)))
+      | inr other ↦ others i place other
+          ∙ sym (get_or-map-range_with_len (stack_at_place channels bottoms counts block) 0 channels i i d place (omega arith))
+          ∙ sym (get_or-set_other old k i stack d other)
+    ])
+
+-- the newest fade of a column has begun, or waits
+begun_head : (bottom m : ℕ) (fade : Fade) (older : List Fade) → fade.start ≤ m → stack_at bottom (fade ∷ older) m ≡ fade_at fade m
+begun_head bottom m fade older begun = rw (lt_false m fade.start begun) refl
+
+waits_head : (bottom m : ℕ) (fade : Fade) (older : List Fade) → m < fade.start → stack_at bottom (fade ∷ older) m ≡ stack_at bottom older m
+waits_head bottom m fade older waits = rw (lt_true m fade.start waits) refl
+
+kept_head : (s : ℕ) (fade : Fade) (older : List Fade) → fade.start ≤ s → begun_by s (fade ∷ older) ≡ fade ∷ older
+kept_head s fade older begun = rw (lt_false s fade.start begun) refl
+
+left_head : (s : ℕ) (fade : Fade) (older : List Fade) → s < fade.start → begun_by s (fade ∷ older) ≡ begun_by s older
+left_head s fade older waits = rw (lt_true s fade.start waits) refl
+
+module _ (block : List Fade) (channels k left : ℕ) (fade : Fade) (some : 0 < left)
+    (is : fade ≡ get_or block ((left - 1) * channels + k) no_fade) where
+  newest : column block channels k left ≡ fade ∷ column block channels k (left - 1)
+  newest = column_step block channels k left some ∙ ap (λ f. f ∷ column block channels k (left - 1)) (sym is)
+
+  pub newest_begun : (bottom m : ℕ) → fade.start ≤ m → stack_at bottom (column block channels k left) m ≡ fade_at fade m
+  newest_begun bottom m begun = ap (λ (fs : List Fade). stack_at bottom fs m) newest
+      ∙ begun_head bottom m fade (column block channels k (left - 1)) begun
+
+  pub newest_waits : (bottom m : ℕ) → m < fade.start
+      → stack_at bottom (column block channels k left) m ≡ stack_at bottom (column block channels k (left - 1)) m
+  newest_waits bottom m waits = ap (λ (fs : List Fade). stack_at bottom fs m) newest
+      ∙ waits_head bottom m fade (column block channels k (left - 1)) waits
+
+  pub newest_kept : (s : ℕ) → fade.start ≤ s → begun_by s (column block channels k left) ≡ column block channels k left
+  newest_kept s begun = ap (begun_by s) newest ∙ kept_head s fade (column block channels k (left - 1)) begun ∙ sym newest
+
+  pub newest_left : (s : ℕ) → s < fade.start
+      → begun_by s (column block channels k left) ≡ begun_by s (column block channels k (left - 1))
+  newest_left s waits = ap (begun_by s) newest ∙ left_head s fade (column block channels k (left - 1)) waits
+
+-- what is read in a column stands in the block
+pub in_block : (channels k count left : ℕ) (block : List Fade) → k < channels → count * channels ≤ length block → left ≤ count → 0 < left
+    → (left - 1) * channels + k < length block
+in_block channels k count left block within reach most some =
+    let end : (left - 1 + 1) * channels ≤ count * channels = mul-le-mul_right channels (omega arith) in omega (arith, end, reach, within)
+
+pub read_is : (channels k count left : ℕ) (block : List Fade) (fade : Fade) → k < channels → count * channels ≤ length block → left ≤ count
+    → 0 < left → fade ≡ get_or block ((left - 1) * channels + k) fade → fade ≡ get_or block ((left - 1) * channels + k) no_fade
+read_is channels k count left block fade within reach most some is =
+    is ∙ sym (get_or_default block ((left - 1) * channels + k) no_fade fade (in_block channels k count left block within reach most some))
+
+-- before the lesser of a wake and a start that comes
+pub before_lesser : (x wake start lesser : ℕ) → lesser ≡ min wake start → start < NEVER → (x < lesser) ⊎ (lesser ≡ NEVER)
+    → ((x < wake) ⊎ (wake ≡ NEVER)) × (x < start)
+before_lesser x wake start lesser is comes until = elim until [
+  | inl before ↦ (inl (omega (arith, is, before)), omega (arith, is, before))
+  | inr never ↦ absurd (omega (arith, is, never, comes))
+]
+
+pub start_comes : (channels k count left : ℕ) (block : List Fade) (fade : Fade) → k < channels → count * channels ≤ length block
+    → left ≤ count → 0 < left → All (λ f. f.start < NEVER) block → fade ≡ get_or block ((left - 1) * channels + k) fade → fade.start < NEVER
+start_comes channels k count left block fade within reach most some all is =
+    subst (λ (f : Fade). f.start < NEVER) (sym is)
+    (all ((left - 1) * channels + k) fade (in_block channels k count left block within reach most some))
+
+-- a place of the stacks is one of a channel
+pub place_within : (channels : ℕ) (bottoms counts : List ℕ) (block : List Fade) (racks : List Stack) (k : ℕ)
+    → stacks_of channels bottoms counts block ≡ racks → k < length racks → k < channels
+place_within channels bottoms counts block racks k is within =
+    omega (arith, within, ap length is, length-stacks_of channels bottoms counts block)
+
+-- the stack that is read there
+pub stack_read : (channels : ℕ) (bottoms counts : List ℕ) (block lent : List Fade) (racks : List Stack) (k bottom count : ℕ)
+    → stacks_of channels bottoms counts block ≡ racks → k < channels → bottom ≡ get_or bottoms k 0 → count ≡ get_or counts k 0
+    → lent ≡ block → get_or racks k no_stack ≡ record { bottom = bottom; fades = column lent channels k count }
+stack_read channels bottoms counts block lent racks k bottom count is within bottom_is count_is same =
+    ap (λ (ss : List Stack). get_or ss k no_stack) (sym is)
+    ∙ stack_is channels bottoms counts block k within
+    ∙ ap (λ b. record { bottom = b; fades = column block channels k (get_or counts k 0) }) (sym bottom_is)
+    ∙ ap (λ n. record { bottom = bottom; fades = column block channels k n }) (sym count_is)
+    ∙ ap (λ (bs : List Fade). record { bottom = bottom; fades = column bs channels k count }) (sym same)
+
+-- none of the channels has a fade, over level 0
+pub opened_empty : (channels : ℕ) (bottoms counts : List ℕ) (block : List Fade) → bottoms ≡ replicate channels 0
+    → counts ≡ replicate channels 0 → (k : ℕ) → get_or (stacks_of channels bottoms counts block) k no_stack ≡ no_stack
+opened_empty channels bottoms counts block dark none k =
+    elim (cases_lt k channels) [
+      | inl within ↦
+          stack_is channels bottoms counts block k within
+          ∙ ap (λ n. record { bottom = get_or bottoms k 0; fades = column block channels k n })
+          (ap (λ (ns : List ℕ). get_or ns k 0) none ∙ get_or-replicate {A = ℕ} channels k 0 0 within)
+          ∙ ap (λ b. record { bottom = b; fades = [] })
+          (ap (λ (bs : List ℕ). get_or bs k 0) dark ∙ get_or-replicate {A = ℕ} channels k 0 0 within)
+      | inr past ↦ get_or_past (stacks_of channels bottoms counts block) k no_stack
+          (omega (arith, past, length-stacks_of channels bottoms counts block))
+    ]
+
+-- a fade pushed on those that have begun by its start gives the level of one over the stack
+pub pushed_level : (old new : List Stack) (k kept s time target from m : ℕ) → k < length old
+    → new ≡ set old k (record (get_or old k no_stack) {
+      fades = record { start = s; time = time; from = from; target = target }
+          ∷ drop (length (get_or old k no_stack).fades - kept) (get_or old k no_stack).fades;
+    })
+    → drop (length (get_or old k no_stack).fades - kept) (get_or old k no_stack).fades ≡ begun_by s (get_or old k no_stack).fades
+    → from ≡ level_in (get_or old k no_stack) s
+    → level_in (get_or new k no_stack) m ≡ fade_over (level_in (get_or old k no_stack)) s time target m
+pushed_level old new k kept s time target from m within is stays from_is =
+    let was : Stack = get_or old k no_stack in
+    let here : get_or new k no_stack ≡ record was {
+      fades = record { start = s; time = time; from = from; target = target }
+          ∷ drop (length was.fades - kept) was.fades;
+    } =
+    ap (λ (ss : List Stack). get_or ss k no_stack) is ∙ get_or-set_at old k k _ no_stack refl within in
+    ap (λ (stack : Stack). level_in stack m) here
+    ∙ ap (λ (fs : List Fade). stack_at was.bottom (record { start = s; time = time; from = from; target = target } ∷ fs) m) stays
+    ∙ ap (λ f. stack_at was.bottom (record { start = s; time = time; from = f; target = target } ∷ begun_by s was.fades) m) from_is
+    ∙ stack_at-pushed was.bottom was.fades s time target m
+
+-- what was written at a place is there
+pub set_is_there : (old new : List Stack) (k : ℕ) (stack : Stack) → k < length old → new ≡ set old k stack
+    → (get_or new k no_stack ≡ stack) × (new ≡ set old k (get_or new k no_stack))
+set_is_there old new k stack within is =
+    let here : get_or new k no_stack ≡ stack =
+    ap (λ (ss : List Stack). get_or ss k no_stack) is ∙ get_or-set_at old k k stack no_stack refl within in
+    (here, is ∙ ap (set old k) (sym here))
+
+length-put : (kept : ℕ) (fade : Fade) (fades : List Fade) → kept ≤ length fades → length (fade ∷ drop
+    (length fades - kept) fades) ≡ kept + 1
+length-put kept fade fades le = omega (arith, length-drop (length fades - kept) fades)
+
+pub pushed_few : (old new : List Stack) (k kept : ℕ) (fade : Fade) → k < length old → kept ≤ length (get_or old k no_stack).fades
+    → new ≡ set old k (record (get_or old k no_stack) {
+      fades = fade ∷ drop (length (get_or old k no_stack).fades - kept)
+          (get_or old k no_stack).fades;
+    })
+    → length (get_or new k no_stack).fades ≡ kept + 1
+pushed_few old new k kept fade within le is =
+    ap (λ (s : Stack). length s.fades) (set_is_there old new k _ within is).0 ∙ length-put kept fade (get_or old k no_stack).fades le
+
+-- so many of the oldest fades of a stack were put on another after another
+pub stored_next : (old now next : List Stack) (k j bottom : ℕ) (fades : List Fade) (fade : Fade) → k < length old → j < length fades
+    → now ≡ set old k (record { bottom = bottom; fades = reverse (take j fades) })
+    → fade ≡ get_or fades j fade
+    → next ≡ set now k (record (get_or now k no_stack) {
+      fades = fade ∷ drop (length (get_or now k no_stack).fades - j)
+          (get_or now k no_stack).fades;
+    })
+    → next ≡ set old k (record { bottom = bottom; fades = reverse (take (j + 1) fades) })
+stored_next old now next k j bottom fades fade within less is read put =
+    let part : Stack = record { bottom = bottom; fades = reverse (take j fades) } in
+    let here : get_or now k no_stack ≡ part = (set_is_there old now k part within is).0 in
+    let long : length (reverse (take j fades)) ≡ j = length-reverse (take j fades) ∙ length-take-le j fades (omega arith) in
+    let none : length (reverse (take j fades)) - j ≡ 0 = omega (arith, long) in
+    put
+    ∙ ap (λ (s : Stack). set now k (record s { fades = fade ∷ drop (length s.fades - j) s.fades })) here
+    ∙ ap (λ n. set now k (record { bottom = bottom; fades = fade ∷ drop n (reverse (take j fades)) })) none
+    ∙ ap (λ (fs : List Fade). set now k (record { bottom = bottom; fades = fs }))
+    (sym (ap reverse (take_more fades j fade less ∙ ap (λ f. take j fades ++ f ∷ []) (sym read)) ∙ reverse-append (take j fades)
+    (fade ∷ [])))
+    ∙ ap (λ (ss : List Stack). set ss k (record { bottom = bottom; fades = reverse (take (j + 1) fades) })) is
+    ∙ set-set old k part (record { bottom = bottom; fades = reverse (take (j + 1) fades) })
+
+pub stored_length : (old now : List Stack) (k j bottom : ℕ) (fades : List Fade) → k < length old → j ≤ length fades
+    → now ≡ set old k (record { bottom = bottom; fades = reverse (take j fades) })
+    → length (get_or now k no_stack).fades ≡ j
+stored_length old now k j bottom fades within le is =
+    ap (λ (s : Stack). length s.fades) (set_is_there old now k _ within is).0 ∙ length-reverse (take j fades) ∙ length-take-le j fades le

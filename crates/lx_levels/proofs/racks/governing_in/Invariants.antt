@@ -1,0 +1,17 @@
+use Rattle.std.proofs.Common.{◌≡◌, ◌⊎◌, ℕ, ◌<◌, ◌≤◌}
+use Rattle.lx_fade.specs.Fades.{stack_at}
+use Rattle.lx_fade.specs.declared.held.TheConstants.{NEVER}
+use Rattle.lx_levels.specs.Columns.{column}
+use Rattle.lx_levels.proofs.racks.governing_in.Given as goal
+
+abbrev pub invariant-loop-left : goal.invariant-loop-left
+invariant-loop-left l = record {
+  within : l.left ≤ l.count;
+  wake : l.m < l.wake;
+  most : l.wake ≤ NEVER;
+  same : (x : ℕ) → l.m ≤ x → (x < l.wake) ⊎ (l.wake ≡ NEVER)
+      → stack_at l.bottom (column l.block l.channels l.k l.count) x ≡ stack_at l.bottom (column l.block l.channels l.k l.left) x;
+}
+
+abbrev pub decreases-loop-left : goal.decreases-loop-left
+decreases-loop-left l = l.left

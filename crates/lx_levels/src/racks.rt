@@ -1,0 +1,275 @@
+//! The stacks of all channels.
+
+ghost use Rattle.std.specs.Prelude.{◌≡◌, ◌≢◌, ℕ, ◌+◌, ◌-◌, ◌*◌, ◌<◌, ◌≤◌, [], ◌∷◌, List, drop, length, slice_index_or, slice_set};
+ghost use Rattle.std.specs.Prelude.{vec_capacity};
+ghost use Rattle.std.specs.Prelude.{IfOk};
+ghost use Rattle.std.specs.List.{All};
+ghost use Rattle.lx_base.specs.declared.TheConstants.{CHANNELS, RUNS, TIME_MAX};
+ghost use Rattle.lx_spec.specs.Level.{fade_over};
+ghost use Rattle.lx_fade.specs.Fades.{stack_at, begun_by};
+ghost use Rattle.lx_fade.specs.declared.held.TheConstants.{NEVER};
+ghost use Rattle.lx_levels.specs.Stacks.{level_in, no_stack};
+ghost use Rattle.lx_levels.specs.Moving.{Governs};
+ghost use Rattle.lx_levels.specs.Columns.{column};
+
+use crate::current::Current;
+use crate::stack::Stack;
+use lx_base::{Cs, Level, Moment, RUNS};
+use lx_fade::{Fade, NEVER, value_at};
+use std::alloc::{AllocError, Global};
+use std::marker::Model;
+
+/// The fades of each channel, over the level at which it is until one of them has begun. There is room for as many
+/// a channel as runs may be live; of that only what is used is written.
+#[derive(Drop)]
+pub(crate) struct Racks {
+    channels: usize,
+    /// The level below the fades of each channel.
+    bottoms: Vec<Level>,
+    /// How many fades each channel has.
+    counts: Vec<u16>,
+    /// Fade j of the channel at place k stands at j * channels + k.
+    fades: Vec<Fade>,
+}
+
+impl Model for Racks {
+    ghost use Rattle.std.specs.Prelude.{List, vec_capacity};
+    ghost use Rattle.lx_levels.specs.Stacks.{Stack as StackData};
+    ghost use Rattle.lx_levels.specs.Columns.{stacks_of, IsLaidOut};
+
+    ghost Value = { List StackData };
+
+    ghost view = { λ r. stacks_of r.channels r.bottoms.items r.counts.items r.fades.items };
+
+    ghost invariant = { λ r. IsLaidOut r.channels r.bottoms.items r.counts.items r.fades.items (vec_capacity r.fades) };
+}
+
+/// A fade of no use, in whose place another is written.
+const NO_FADE: Fade = Fade {
+    start: 0,
+    time: 0,
+    from: 0,
+    target: 0,
+};
+
+impl Racks {
+    /// No fade on any of so many channels, over level 0.
+    pub(crate) fn open(alloc: Global, channels: usize) -> Result<Racks, AllocError>
+        requires { channels ≤ CHANNELS }
+        ensures reach { IfOk result (λ racks. length racks ≡ channels) }
+        ensures empty { IfOk result (λ racks. (k : ℕ) → slice_index_or racks k no_stack ≡ no_stack) }
+    {
+        let bottoms = vec![in alloc; 0; channels]?;
+        let counts = vec![in alloc; 0; channels]?;
+        let fades = Vec::with_capacity(alloc, RUNS * channels)?;
+        Ok(Racks {
+            channels,
+            bottoms,
+            counts,
+            fades,
+        })
+    }
+
+    /// No fade on the channel, over the level.
+    pub(crate) fn restart(&mut self, k: usize, bottom: Level)
+        requires { k < length self.old }
+        ensures { self.new ≡ slice_set self.old k (record { bottom = bottom; fades = [] }) }
+    {
+        self.bottoms[k] = bottom;
+        self.counts[k] = 0;
+    }
+
+    /// The fade on so many of the channel's oldest ones, which are kept.
+    pub(crate) fn put(&mut self, k: usize, kept: usize, fade: Fade)
+        requires within { k < length self.old }
+        requires kept { kept ≤ length (slice_index_or self.old k no_stack).fades }
+        requires room { kept < RUNS }
+        requires start { fade.start < NEVER }
+        ensures { self.new ≡ slice_set self.old k (record (slice_index_or self.old k no_stack)
+            { fades = fade ∷ drop (length (slice_index_or self.old k no_stack).fades - kept) (slice_index_or self.old k no_stack).fades }) }
+    {
+        write(&mut self.fades, self.channels, k, kept, fade);
+        self.counts[k] = kept as u16 + 1;
+    }
+
+    /// The channel's level at a moment.
+    pub(crate) fn value(&self, k: usize, m: Moment) -> Level
+        requires { k < length self.now }
+        ensures { result ≡ level_in (slice_index_or self.now k no_stack) m }
+    {
+        let count = self.counts[k] as usize;
+        value_in(&self.fades, self.channels, k, count, self.bottoms[k], m)
+    }
+
+    /// How many of the channel's oldest fades stay where one is pushed that begins at the moment: all but the newest
+    /// ones that would begin later.
+    fn kept(&self, k: usize, start: Moment) -> usize
+        requires { k < length self.now }
+        ensures count { result ≤ length (slice_index_or self.now k no_stack).fades }
+        ensures stack { drop (length (slice_index_or self.now k no_stack).fades - result) (slice_index_or self.now k no_stack).fades
+            ≡ begun_by start (slice_index_or self.now k no_stack).fades }
+    {
+        kept_in(
+            &self.fades,
+            self.channels,
+            k,
+            self.counts[k] as usize,
+            start,
+        )
+    }
+
+    /// Pushes a fade to the target that begins at `start` from the level there: the fades that would begin later are
+    /// dropped.
+    pub(crate) fn push(&mut self, k: usize, start: Moment, time: Cs, target: Level)
+        requires within { k < length self.old }
+        requires room { length (slice_index_or self.old k no_stack).fades < RUNS }
+        requires start { start < NEVER }
+        requires time { time ≤ TIME_MAX }
+        ensures level { (m : ℕ) → level_in (slice_index_or self.new k no_stack) m
+            ≡ fade_over (level_in (slice_index_or self.old k no_stack)) start time target m }
+        ensures few { length (slice_index_or self.new k no_stack).fades ≤ length (slice_index_or self.old k no_stack).fades + 1 }
+        ensures others { self.new ≡ slice_set self.old k (slice_index_or self.new k no_stack) }
+    {
+        let from = self.value(k, start);
+        let kept = self.kept(k, start);
+        let fade = Fade {
+            start,
+            time,
+            from,
+            target,
+        };
+        self.put(k, kept, fade);
+    }
+
+    /// The channel's stack becomes this one.
+    pub(crate) fn store(&mut self, k: usize, stack: &Stack)
+        requires within { k < length self.old }
+        requires few { length stack.now.fades ≤ RUNS }
+        ensures { self.new ≡ slice_set self.old k stack.now }
+    {
+        self.restart(k, stack.bottom());
+        let fades = stack.fades();
+        for j in 0..fades.len() {
+            self.put(k, j, fades[j]);
+        }
+    }
+
+    /// The fade that gives the channel's level from the moment on, until a later one begins.
+    pub(crate) fn governing(&self, k: usize, m: Moment) -> Current
+        requires within { k < length self.now }
+        requires moment { m < NEVER }
+        ensures governs { Governs m (slice_index_or self.now k no_stack) result }
+        ensures wake { m < result.wake }
+    {
+        let count = self.counts[k] as usize;
+        governing_in(&self.fades, self.channels, k, count, self.bottoms[k], m)
+    }
+}
+
+/// The level at a moment over so many fades of a column.
+fn value_in(
+    block: &[Fade],
+    channels: usize,
+    k: usize,
+    count: usize,
+    bottom: Level,
+    m: Moment,
+) -> Level
+    requires within { k < channels }
+    requires reach { count * channels ≤ length block.now }
+    ensures { result ≡ stack_at bottom (column block.now channels k count) m }
+{
+    let mut left = count;
+    while left > 0 {
+        let fade = block[(left - 1) * channels + k];
+        if fade.start <= m {
+            return value_at(&fade, m);
+        }
+        left -= 1;
+    }
+    bottom
+}
+
+/// How many of so many fades of a column stay where one is pushed that begins at the moment.
+fn kept_in(block: &[Fade], channels: usize, k: usize, count: usize, start: Moment) -> usize
+    requires within { k < channels }
+    requires reach { count * channels ≤ length block.now }
+    ensures count { result ≤ count }
+    ensures stack { column block.now channels k result ≡ begun_by start (column block.now channels k count) }
+{
+    let mut kept = count;
+    while kept > 0 {
+        let fade = block[(kept - 1) * channels + k];
+        if fade.start <= start {
+            return kept;
+        }
+        kept -= 1;
+    }
+    kept
+}
+
+/// The fade of so many in a column that gives the level from the moment on, until a later one begins.
+fn governing_in(
+    block: &[Fade],
+    channels: usize,
+    k: usize,
+    count: usize,
+    bottom: Level,
+    m: Moment,
+) -> Current
+    requires moment { m < NEVER }
+    requires within { k < channels }
+    requires reach { count * channels ≤ length block.now }
+    requires begin { All (λ f. f.start < NEVER) block.now }
+    ensures governs { Governs m (record { bottom = bottom; fades = column block.now channels k count }) result }
+    ensures wake { m < result.wake }
+{
+    let mut wake = NEVER;
+    let mut left = count;
+    while left > 0 {
+        let newest = block[(left - 1) * channels + k];
+        if newest.start <= m {
+            return Current { fade: newest, wake };
+        }
+        wake = wake.min(newest.start);
+        left -= 1;
+    }
+    Current::still(bottom, wake)
+}
+
+/// Writes the fade into a column on so many that are there. The block grows by a plane where it is too short.
+fn write(block: &mut Vec<Fade>, channels: usize, k: usize, kept: usize, fade: Fade)
+    requires few { channels ≤ CHANNELS }
+    requires within { k < channels }
+    requires kept { kept < RUNS }
+    requires room { RUNS * channels ≤ vec_capacity block.old }
+    requires start { fade.start < NEVER }
+    ensures here { column block.new.items channels k (kept + 1) ≡ fade ∷ column block.old.items channels k kept }
+    ensures others { (i n : ℕ) → i < channels → i ≢ k → column block.new.items channels i n ≡ column block.old.items channels i n }
+    ensures reach { (kept + 1) * channels ≤ length block.new.items }
+    ensures longer { length block.old.items ≤ length block.new.items }
+    ensures begin { All (λ f. f.start < NEVER) block.old.items → All (λ f. f.start < NEVER) block.new.items }
+    ensures room { vec_capacity block.old ≤ vec_capacity block.new }
+{
+    let end = (kept + 1) * channels;
+    grow(block, end);
+    block[kept * channels + k] = fade;
+}
+
+/// Makes the block so long at least, in the room that is there.
+fn grow(block: &mut Vec<Fade>, end: usize)
+    requires room { end ≤ vec_capacity block.old }
+    ensures longer { length block.old.items ≤ length block.new.items }
+    ensures end { end ≤ length block.new.items }
+    ensures same { (i : ℕ) → slice_index_or block.new.items i (record { start = 0; time = 0; from = 0; target = 0 })
+        ≡ slice_index_or block.old.items i (record { start = 0; time = 0; from = 0; target = 0 }) }
+    ensures begin { All (λ f. f.start < NEVER) block.old.items → All (λ f. f.start < NEVER) block.new.items }
+    ensures room { vec_capacity block.old ≤ vec_capacity block.new }
+{
+    if block.len() < end {
+        match block.resize(end, NO_FADE) {
+            Ok(()) => {}
+            Err(_) => unreachable!(),
+        }
+    }
+}
