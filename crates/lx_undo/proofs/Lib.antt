@@ -3,3 +3,7 @@ pub mod Channels
 pub mod SomeDesk
 pub mod Answering
 pub mod SameChannels
+pub mod Reaching
+pub mod Lines
+pub mod Answered
+pub mod Lawful
