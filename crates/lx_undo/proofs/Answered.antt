@@ -1,7 +1,7 @@
 -- A line that was done, and whose reply was put, was answered.
 use Rattle.std.proofs.Common.{◌≡◌, ℕ, ◌+◌, ◌≤◌, ◌<◌, Bool, true, false, ◌==◌, Option, Some, None, Result, Ok, Err, OnOk, List, [], ◌∷◌, ◌++◌}
 use Rattle.std.proofs.Common.{refl, sym, ap, ◌∙◌, subst, inl, inr, arith}
-use Rattle.std.specs.Prelude.{◌⊎◌, if◌then◌else◌}
+use Rattle.std.specs.Prelude.{◌⊎◌, ◌-◌, IfOk, not, if◌then◌else◌}
 use Rattle.std.specs.Option.{option_map_or}
 use Rattle.std.specs.Result.{IsOkAnd}
 use Rattle.std.specs.List.{list_any}
@@ -9,26 +9,34 @@ use Rattle.std.proofs.lemmas.Bool.{cases_Bool}
 use Rattle.lx_io.specs.declared.sink.SinkFault.{SinkFault}
 use Rattle.lx_io.specs.Puts.{Puts}
 use Rattle.lx_spec.specs.declared.Command.{Command}
+use Rattle.lx_spec.specs.declared.Line.{Line}
 use Rattle.lx_spec.specs.declared.Refusal.TheVariants.{Memory}
 use Rattle.lx_spec.specs.declared.UndoLine.{UndoLine}
 use Rattle.lx_spec.specs.Desk.{Desk}
+use Rattle.lx_spec.specs.Kept.{Kept}
 use Rattle.lx_spec.specs.RefusedPlaces.{is_edit}
 use Rattle.lx_spec.specs.Replies.{ok_text, refused_text}
 use Rattle.lx_spec.specs.Script.{line_of}
-use Rattle.lx_spec.specs.Session.{Session, Counts, ends_script, after_line}
+use Rattle.lx_spec.specs.Session.{Session, Counts, ends_script, is_quit, after_line}
 use Rattle.lx_spec.specs.SessionOf.{SessionOf, at_desk, with_state, attempted}
 use Rattle.lx_spec.specs.Undo.{UndoState, replaced}
 use Rattle.lx_spec.specs.UndoSession.{undo_line_of, undo_answer, asked, after_asking, after_plain, UndoMayWant, MayWantOf, MayWantAsked}
 use Rattle.lx_session.specs.declared.tally.Tally.{Tally}
 use Rattle.lx_session.specs.Attempts.{WantsLast, after_commands}
 use Rattle.lx_session.specs.LineAnswer.{LineAnswer}
-use Rattle.lx_session.specs.LineReply.{counts_in}
-use Rattle.lx_session.specs.OneAnswer.{OneAnswer}
+use Rattle.lx_session.specs.LineProgress.{LineProgress}
+use Rattle.lx_session.specs.LineReply.{reply_to, counts_after, counts_in}
+use Rattle.lx_session.specs.LineState.{LineState, meaning_of, next_of, unattempted}
+use Rattle.lx_session.specs.OneAnswer.{IsLine, OneAnswer}
+use Rattle.lx_console.specs.Standing.{StandsFor}
+use Rattle.lx_session.proofs.AnsweredLines.{answered}
 use Rattle.lx_session.proofs.AttemptSteps.{last}
+use Rattle.lx_session.proofs.HeardLines.{meaning_is}
 use Rattle.lx_undo.specs.declared.asked.Denial.{Denial}
 use Rattle.lx_undo.specs.Asked.{HasAsked, WantsAsked, denial_text, answer_text, counted}
 use Rattle.lx_undo.specs.Reached.{reached, HasReached}
 use Rattle.lx_undo.specs.Standing.{UndoKept, UndoStands}
+use Rattle.lx_undo.proofs.Lines.{goes_on}
 
 -- the plain session's state, with the history
 plain_is : (s : UndoState) (t : Session) (done : List Command) → t.accepted ≡ done → t.desk ≡ after_commands s.desk done
@@ -148,3 +156,39 @@ module _ {K T : Type 0} (holds : K → Option (List ℕ)) (faults wants : K → 
     | inl own ↦ refused denial false own (λ e. cc) did.0 counts puts
     | inr want ↦ refused denial true (ap Err (sym want.memory)) (λ e. want.may) did.0 counts puts
   ]
+
+-- The same, from the attempts of the line and the reply that was put.
+pub answered_line : {K T : Type 0} (holds : K → Option (List ℕ)) (faults wants : K → ℕ) (sink sink' : K) (result : Result T SinkFault)
+    (s : SessionOf UndoState) (text : List ℕ) (given : Option (List ℕ)) (start turn : LineState) (u : UndoKept) (console : Kept)
+    (before after : Tally) → start ≡ unattempted (meaning_of given) → console ≡ u.console → IsLine given text → undo_line_of text ≡ None
+    → s.counts ≡ counts_in before
+    → LineProgress true (HasReached s.state u (start.left - turn.left)) (at_desk s.state.desk s) start turn u.console
+    → next_of turn ≡ None
+    → ((d : Desk) → StandsFor d console → Puts holds faults wants sink sink' result (reply_to d turn.meaning turn.refusal))
+    → ((d : Desk) → StandsFor d console → OnOk result (counts_in after ≡ counts_after d (counts_in before) turn.meaning turn.refusal))
+    → OneAnswer undo_answer UndoMayWant holds faults wants sink sink' result s text (λ (state : UndoState). UndoStands state u) after
+answered_line holds faults wants sink sink' result s text given start turn u console before after begun same is none counted_so t over puts
+    counts =
+    let heard : List Command → Type 0 = HasReached s.state u (start.left - turn.left) in
+    let progress = subst (λ (from : LineState). LineProgress true heard (at_desk s.state.desk s) from turn u.console) begun t in
+    answered_plain holds faults wants sink sink' result s text u (start.left - turn.left) after none
+    (subst (λ (m : Option Line). LineAnswer true heard holds faults wants sink sink' result (at_desk s.state.desk s) m u.console after)
+    (meaning_is given text is)
+    (answered true heard holds faults wants sink sink' result (at_desk s.state.desk s) (meaning_of given) turn u.console before after
+    progress over counted_so (λ d stands. puts d (subst (StandsFor d) (sym same) stands))
+    (λ d stands. counts d (subst (StandsFor d) (sym same) stands))))
+
+-- whether more is to come
+pub more_by : (result : Result Bool SinkFault) (given : Option (List ℕ)) (meaning : Option Line) → meaning ≡ meaning_of given
+    → IfOk result (λ more. more ≡ not (is_quit meaning))
+    → IfOk result (λ more. (text : List ℕ) → IsLine given text → more ≡ not (ends_script text))
+more_by (Ok more) given meaning same is = λ text line.
+    is ∙ ap (λ (m : Option Line). not (is_quit m)) (same ∙ meaning_is given text line)
+more_by (Err fault) given meaning same is = tt
+
+pub more_asked : (result : Result Bool SinkFault) (given : Option (List ℕ)) (asks : Option UndoLine) (what : UndoLine) → asks ≡ Some what
+    → ((text : List ℕ) → IsLine given text → asks ≡ undo_line_of text) → IfOk result (λ more. more ≡ true)
+    → IfOk result (λ more. (text : List ℕ) → IsLine given text → more ≡ not (ends_script text))
+more_asked (Ok more) given asks what some reads is = λ text line.
+    is ∙ sym (ap not (goes_on text what (sym (reads text line) ∙ some)))
+more_asked (Err fault) given asks what some reads is = tt

@@ -1,16 +1,15 @@
 -- A line only adds to a session, and the line that ends the script leaves it as it was.
 use Rattle.std.proofs.Common.{◌≡◌, ℕ, ◌+◌, true, Option, Some, None, Result, Ok, Err, List, ◌++◌, refl, ap, ◌∙◌, arith}
 use Rattle.std.specs.Option.{option_map_or}
-use Rattle.lx_spec.specs.declared.Line.{Line}
-use Rattle.lx_spec.specs.declared.Line.TheVariants as lines
 use Rattle.lx_spec.specs.declared.UndoLine.{UndoLine}
 use Rattle.lx_spec.specs.Replies.{ok_text}
 use Rattle.lx_spec.specs.Script.{line_of}
-use Rattle.lx_spec.specs.Session.{Session, ends_script, is_quit, after_line, after_meaning}
+use Rattle.lx_spec.specs.Session.{Session, ends_script, after_line}
 use Rattle.lx_spec.specs.SessionOf.{SessionOf, at_desk, with_state, attempted}
 use Rattle.lx_spec.specs.Undo.{UndoState}
 use Rattle.lx_spec.specs.UndoSession.{undo_line_of, undo_answer, asked, after_plain}
-use Rattle.lx_session.specs.OneAnswer.{ExtendsSession}
+use Rattle.lx_session.specs.OneAnswer.{ExtendsSession, IsLawful}
+use Rattle.lx_session.proofs.HeardLines.{quit_same}
 use Rattle.lx_session.proofs.Places.{extends_line}
 use Rattle.lx_undo.proofs.Lines.{quit_asks_nothing}
 use Rattle.lx_undo.proofs.Answered.{plain_answer}
@@ -27,22 +26,14 @@ extends_by places s line None =
     let e = extends_line places (at_desk s.state.desk s) (line_of line) in
     record { attempts = e.attempts; more = e.more; text = e.text }
 
-pub undo_extends : (places : List ℕ) (s : SessionOf UndoState) (line : List ℕ) → ExtendsSession s (undo_answer places s line)
+undo_extends : (places : List ℕ) (s : SessionOf UndoState) (line : List ℕ) → ExtendsSession s (undo_answer places s line)
 undo_extends places s line = extends_by places s line (undo_line_of line)
 
--- quit attempts nothing
-quit_is : (meaning : Option Line) → is_quit meaning ≡ true → meaning ≡ Some lines.Quit
-quit_is None quit = cc
-quit_is (Some (lines.Command c)) quit = cc
-quit_is (Some (lines.Ticks k)) quit = cc
-quit_is (Some (lines.Frame u)) quit = cc
-quit_is (Some lines.Save) quit = cc
-quit_is (Some (lines.SheetOf n)) quit = cc
-quit_is (Some lines.Quit) quit = refl
-quit_is (Some lines.Blank) quit = cc
-
-pub undo_ends : (places : List ℕ) (s : SessionOf UndoState) (line : List ℕ) → ends_script line ≡ true → undo_answer places s line ≡ s
+undo_ends : (places : List ℕ) (s : SessionOf UndoState) (line : List ℕ) → ends_script line ≡ true → undo_answer places s line ≡ s
 undo_ends places s line quit =
     let same : after_line places (at_desk s.state.desk s) line ≡ at_desk s.state.desk s =
-    ap (after_meaning places (at_desk s.state.desk s)) (quit_is (line_of line) quit) in
+    quit_same places (at_desk s.state.desk s) (line_of line) quit in
     plain_answer places s line (quit_asks_nothing line quit) ∙ ap (λ (t : Session). with_state (after_plain s.state t) t) same
+
+pub undo_lawful : IsLawful undo_answer
+undo_lawful = record { extends = undo_extends; ends = undo_ends }

@@ -1,6 +1,6 @@
 -- Which lines ask something of the history: such a line means nothing else, and a line that ends the script is none.
-use Rattle.std.proofs.Common.{◌≡◌, ℕ, ◌<◌, Bool, true, false, Option, Some, None, List, [], ◌∷◌, refl, sym, ap, ◌∙◌, inl, inr, arith}
-use Rattle.std.specs.Prelude.{nat_lt, length, codes, find, map, not}
+use Rattle.std.proofs.Common.{◌≡◌, ℕ, ◌<◌, Bool, true, false, Option, Some, None, List, [], ◌∷◌, refl, sym, ap, subst, ◌∙◌, inl, inr, arith}
+use Rattle.std.specs.Prelude.{nat_lt, length, codes, find, map, IfSome}
 use Rattle.std.specs.Option.{option_map_or}
 use Rattle.std.specs.Str.{str_to_ascii_uppercase, bytes_eq}
 use Rattle.std.proofs.lemmas.Bool.{cases_Bool}
@@ -14,8 +14,9 @@ use Rattle.lx_spec.specs.Phrase.{Tokens}
 use Rattle.lx_spec.specs.Script.{line_of, meaning, sentences}
 use Rattle.lx_spec.specs.Session.{ends_script, is_quit}
 use Rattle.lx_spec.specs.UndoSession.{undo_line_of, undo_meaning}
+use Rattle.lx_spec.specs.ValidEdit.{ValidLine}
+use Rattle.lx_spec.proofs.ValidLines.{line_of-valid}
 use Rattle.lx_session.specs.LineState.{meaning_of}
-use Rattle.lx_session.specs.OneAnswer.{IsLine}
 
 -- what a line means by its first token in capitals
 abbrev by_capitals : List ℕ → Tokens → List ℕ → Option Line
@@ -66,11 +67,11 @@ quit_asks_nothing line quit = no_asking (undo_line_of line) (ends_script line) (
 too_long : (line : List ℕ) → LINE_BYTES < length line → nat_lt LINE_BYTES (length line) ≡ true
 too_long line long = grind (arith, nat_tests)
 
--- what is meant by a line that is given or, being too long, isn't
-pub meant : (o : Option (List ℕ)) (text : List ℕ) → IsLine o text → meaning_of o ≡ line_of text
-meant (Some line) text is = ap line_of is
-meant None text long = rw (too_long text long) refl
-
--- and what it asks
+-- a line that is too long asks nothing
 pub asked_nothing : (text : List ℕ) → LINE_BYTES < length text → None ≡ undo_line_of text
 asked_nothing text long = rw (too_long text long) refl
+
+-- the numbers of a line are in their range
+pub valid_meaning : (given : Option (List ℕ)) (meaning : Option Line) → meaning ≡ meaning_of given → IfSome meaning ValidLine
+valid_meaning (Some line) meaning is = subst (λ (m : Option Line). IfSome m ValidLine) (sym is) (line_of-valid line)
+valid_meaning None meaning is = subst (λ (m : Option Line). IfSome m ValidLine) (sym is) tt

@@ -10,3 +10,4 @@ mod session;
 
 pub use desk::UndoDesk;
 pub use lx_spec::UndoFault;
+pub use session::undo_session;

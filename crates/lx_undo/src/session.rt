@@ -1,7 +1,9 @@
 //! Sessions of a desk with its history.
 
-ghost use Rattle.std.specs.Prelude.{◌≡◌, ◌-◌, List, ℕ, IfOk, IfSome, None, Some, not, true, false, option_copied};
+ghost use Rattle.std.specs.Prelude.{◌≡◌, ◌≤◌, ◌-◌, List, ℕ, IfOk, IfSome, None, Some, not, true, false, option_copied};
+ghost use Rattle.lx_base.specs.declared.TheConstants.{INPUT_BYTES};
 ghost use Rattle.lx_io.specs.Puts.{HasSinkCause};
+ghost use Rattle.lx_lex.specs.Unread.{CanAdvance, SameSource, bytes_taken, source_left, unread};
 ghost use Rattle.lx_spec.specs.Session.{ends_script};
 ghost use Rattle.lx_spec.specs.SessionOf.{SessionOf, at_desk};
 ghost use Rattle.lx_spec.specs.Undo.{UndoState};
@@ -11,22 +13,49 @@ ghost use Rattle.lx_session.specs.LineState.{next_of, unattempted};
 ghost use Rattle.lx_session.specs.LineProgress.{LineProgress};
 ghost use Rattle.lx_session.specs.LineReply.{HasRoom, HasOneMore, counts_in};
 ghost use Rattle.lx_session.specs.OneAnswer.{IsLine, OneAnswer};
+ghost use Rattle.lx_session.specs.ScriptAnswered.{ScriptAnswered};
+ghost use Rattle.lx_session.specs.SessionOutcome.{HasSessionCause, KeepsLimit};
 ghost use Rattle.lx_script.specs.UndoLines.{NamesCue};
 ghost use Rattle.lx_undo.specs.Standing.{UndoStands};
 ghost use Rattle.lx_undo.specs.Reached.{HasReached};
 
 use crate::asked::{ask, give};
 use crate::desk::UndoDesk;
-use lx_io::{Sink, SinkFault};
+use lx_io::{Sink, SinkFault, Source};
+use lx_lex::Lines;
 use lx_script::read_undo_line;
-use lx_session::{Answers, Tally, Turn};
+use lx_session::{Answers, SessionFault, Tally, Turn, answer_lines};
 use lx_spec::UndoLine;
+
+/// Answers the script lines that are left, up to `quit` or the end, on a desk with its history: those of a session, and
+/// `undo`, `redo` and `record n [only]`. Each line is done and its replies appended before the next is awaited.
+///
+/// `ReadFault` comes only where the source failed, `InputTooLong` exactly where a wanted line has a byte past the limit
+/// of the input; the lines before it are then wholly answered. `WriteFault` and `Memory` come only where the sink
+/// answered them; what was written is then a prefix of the whole text. However it ends, the desk stands for the state
+/// after the lines that were done. Want of memory refuses only edits and records that nothing else refuses.
+pub fn undo_session<S: Source, K: Sink>(
+    desk: &mut UndoDesk,
+    lines: &mut Lines<S>,
+    sink: &mut K,
+) -> Result<Tally, SessionFault>
+    requires going { CanAdvance lines.old }
+    requires within { bytes_taken lines.old ≤ INPUT_BYTES }
+    ensures same_source { SameSource lines.old lines.new }
+    ensures outcome { (state : UndoState) → UndoStands state desk.old
+        → IfSome (unread S.left lines.old)
+        (λ bytes. ScriptAnswered undo_answer UndoMayWant (λ s. UndoStands s desk.new) state (bytes_taken lines.old) bytes
+        (unread S.left lines.new) (source_left S.left lines.new) (K.holds sink.old) (K.holds sink.new) result) }
+    ensures limit { IfSome (unread S.left lines.old) (λ bytes. KeepsLimit (bytes_taken lines.old) bytes result) }
+    ensures cause { HasSessionCause S.faults K.faults K.wants lines.old lines.new sink.old sink.new result }
+{
+    answer_lines(desk, lines, sink)
+}
 
 impl Answers for UndoDesk {
     ghost use Rattle.lx_spec.specs.Undo.{UndoState};
     ghost use Rattle.lx_spec.specs.UndoSession.{undo_answer, UndoMayWant};
     ghost use Rattle.lx_undo.specs.Standing.{UndoStands};
-    ghost use Rattle.lx_undo.proofs.Lawful.{undo_extends, undo_ends};
 
     ghost State = { UndoState };
 
@@ -47,10 +76,6 @@ impl Answers for UndoDesk {
             None => answer_plain(self, line, sink, tally),
         }
     }
-
-    ghost extends = { undo_extends };
-
-    ghost ends = { undo_ends };
 }
 
 /// What a line asks of the history. None stands for a line that is too long, which asks nothing.
