@@ -1,13 +1,16 @@
 -- A line only adds to a session, and the line that ends the script leaves it as it was.
-use Rattle.std.proofs.Common.{◌≡◌, ℕ, ◌+◌, true, Option, Some, None, Result, Ok, Err, List, ◌++◌, refl, ap, ◌∙◌, arith}
+use Rattle.std.proofs.Common.{◌≡◌, ℕ, ◌+◌, ◌==◌, true, Option, Some, None, Result, Ok, Err, List, ◌++◌, refl, ap, ◌∙◌, arith}
+use Rattle.std.specs.Prelude.{if◌then◌else◌}
+use Rattle.std.specs.List.{list_any}
 use Rattle.std.specs.Option.{option_map_or}
+use Rattle.lx_spec.specs.declared.Refusal.TheVariants.{Memory}
 use Rattle.lx_spec.specs.declared.UndoLine.{UndoLine}
-use Rattle.lx_spec.specs.Replies.{ok_text}
+use Rattle.lx_spec.specs.Replies.{ok_text, refused_text}
 use Rattle.lx_spec.specs.Script.{line_of}
 use Rattle.lx_spec.specs.Session.{Session, ends_script, after_line}
 use Rattle.lx_spec.specs.SessionOf.{SessionOf, at_desk, with_state, attempted}
 use Rattle.lx_spec.specs.Undo.{UndoState}
-use Rattle.lx_spec.specs.UndoSession.{undo_line_of, undo_answer, asked, after_plain}
+use Rattle.lx_spec.specs.UndoSession.{undo_line_of, undo_answer, asked, after_asking, after_plain}
 use Rattle.lx_session.specs.OneAnswer.{ExtendsSession, IsLawful}
 use Rattle.lx_session.proofs.HeardLines.{quit_same}
 use Rattle.lx_session.proofs.Places.{extends_line}
@@ -21,7 +24,9 @@ extends_attempt s (Err text) = record { attempts = omega arith; more = text; tex
 extends_by : (places : List ℕ) (s : SessionOf UndoState) (line : List ℕ) (o : Option UndoLine)
     → ExtendsSession s (option_map_or (asked places s) o
     (with_state (after_plain s.state (after_line places (at_desk s.state.desk s) line)) (after_line places (at_desk s.state.desk s) line)))
-extends_by places s line (Some what) = extends_attempt s _
+extends_by places s line (Some what) =
+    extends_attempt s
+    (if list_any (λ place. place == s.attempts + 1) places then Err (refused_text Memory) else after_asking s.state what)
 extends_by places s line None =
     let e = extends_line places (at_desk s.state.desk s) (line_of line) in
     record { attempts = e.attempts; more = e.more; text = e.text }
