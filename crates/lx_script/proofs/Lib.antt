@@ -3,3 +3,4 @@ pub mod Ready
 pub mod FirstWords
 pub mod Phrases
 pub mod EditLines
+pub mod UndoLines

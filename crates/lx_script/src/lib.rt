@@ -13,6 +13,8 @@ mod phrase;
 mod reply;
 mod rows;
 mod sentence;
+mod undo_line;
+mod undo_reply;
 
 pub use brief::{Brief, Reading, read_brief};
 pub use cells::put_cells;
@@ -20,3 +22,5 @@ pub use command::read_command;
 pub use frame::put_frame;
 pub use lx_spec::Line;
 pub use reply::{Reply, put_reply};
+pub use undo_line::read_undo_line;
+pub use undo_reply::put_undo_fault;

@@ -48,10 +48,10 @@ begun all heard s console stands turn none nothing = record {
 }
 
 -- what it says that a command is to be attempted
-record IsNext (turn : LineState) (c : Command) : Type 0 where
-  none : turn.refusal ≡ None
-  some : 0 < turn.left
-  command : command_of turn.meaning ≡ Some c
+pub record IsNext (turn : LineState) (c : Command) : Type 0 where
+  pub none : turn.refusal ≡ None
+  pub some : 0 < turn.left
+  pub command : command_of turn.meaning ≡ Some c
 
 next_at : (meaning : Option Line) (left : ℕ) (refusal : Option Refusal) (c : Command)
     → next_of (record { meaning = meaning; left = left; refusal = refusal }) ≡ Some c
@@ -62,7 +62,7 @@ next_at meaning (suc n) None c e =
     let more : (suc n == 0) ≡ false = grind (arith, nat_tests) in
     record { none = refl; some = omega arith; command = sym (ap (λ b. cond b None (command_of meaning)) more) ∙ e }
 
-next_is : (turn : LineState) (c : Command) → next_of turn ≡ Some c → IsNext turn c
+pub next_is : (turn : LineState) (c : Command) → next_of turn ≡ Some c → IsNext turn c
 next_is turn c e = next_at turn.meaning turn.left turn.refusal c e
 
 -- the session after an attempt that was accepted, and after one that was refused
@@ -114,7 +114,7 @@ before places from to wants w = λ n above within.
     e ∙ ap (λ b. wants && b) other ∙ and_no wants
 
 -- and at the last
-last : (places : List ℕ) (from to : ℕ) (wants : Bool) → from ≤ to → WantsLast places from (to + 1) wants
+pub last : (places : List ℕ) (from to : ℕ) (wants : Bool) → from ≤ to → WantsLast places from (to + 1) wants
     → list_any (λ place. place == to + 1) places ≡ wants
 last places from to wants le w =
     let same : (to + 1 == to + 1) ≡ true = grind (arith, nat_tests) in
@@ -221,7 +221,7 @@ refused all heard heard' s old turn c before_it after_it refusal wants t next is
     }
 
 -- One more attempt.
-attempted_at : (all : Bool) (heard heard' : List Command → Type 0) (s : Session) (old turn : LineState) (c : Command)
+pub attempted_at : (all : Bool) (heard heard' : List Command → Type 0) (s : Session) (old turn : LineState) (c : Command)
     (before_it after_it : Kept) (refusal : Option Refusal) (admitted : Bool) (t : LineProgress all heard s old turn before_it)
     → IsNext turn c
     → (all ≡ true → admitted ≡ true) → Attempted admitted t.now.desk c refusal after_it → Joins heard heard' (heard_of c refusal)

@@ -1,3 +1,5 @@
 pub mod Shows
 pub mod Standing
+pub mod Asked
+pub mod Reached
 pub mod Laws

@@ -2,9 +2,12 @@
 //! faders and the master as they are.
 #![tactic(auto)]
 
+mod asked;
 mod desk;
 mod history;
 pub mod laws;
+mod session;
 
 pub use desk::UndoDesk;
 pub use lx_spec::UndoFault;
+pub use session::undo_session;

@@ -1,0 +1,214 @@
+-- Commands of one line, one after another, bring a desk with its history to the state after them.
+use Rattle.std.proofs.Common.{◌≡◌, ℕ, zero, suc, ◌+◌, ◌-◌, ◌≤◌, ◌<◌, Bool, true, false, ◌||◌, Option, Some, None, Result, Ok, Err, List, [], ◌∷◌}
+use Rattle.std.proofs.Common.{◌++◌, length, refl, sym, ap, ◌∙◌, subst, arith, inl, inr, IsOkAnd, length-append, append-nil}
+use Rattle.std.specs.Prelude.{◌⊎◌, OnErr, IsOk, IfSome, if◌then◌else◌}
+use Rattle.std.specs.List.{list_any}
+use Rattle.std.specs.Result.{result_err, result_unwrap_or}
+use Rattle.std.proofs.lemmas.Bool.{cases_Bool}
+use Rattle.std.proofs.lemmas.List.Sums.{fold-append}
+use Rattle.lx_spec.specs.declared.Command.{Command}
+use Rattle.lx_spec.specs.declared.Command.TheVariants as commands
+use Rattle.lx_spec.specs.declared.Line.{Line}
+use Rattle.lx_spec.specs.declared.Line.TheVariants as lines
+use Rattle.lx_spec.specs.declared.Refusal.{Refusal}
+use Rattle.lx_spec.specs.FirstRefusal.{◌>>=◌}
+use Rattle.lx_spec.specs.Desk.{Desk, step, after_command}
+use Rattle.lx_spec.specs.RefusedPlaces.{is_edit}
+use Rattle.lx_spec.specs.Session.{command_of, count_of}
+use Rattle.lx_spec.specs.SessionOf.{SessionOf, at_desk}
+use Rattle.lx_spec.specs.Undo.{UndoState, replaced, undo_step}
+use Rattle.lx_spec.specs.ValidEdit.{ValidCommand, ValidLine}
+use Rattle.lx_console.specs.Standing.{StandsFor, Refuses}
+use Rattle.lx_session.specs.Attempts.{Attempted, after_commands, heard_of}
+use Rattle.lx_session.specs.LineState.{LineState, next_of, unattempted}
+use Rattle.lx_session.specs.LineProgress.{LineProgress}
+use Rattle.lx_session.proofs.AttemptSteps.{begun, next_is, attempted_at}
+use Rattle.lx_undo.specs.Standing.{UndoKept, UndoStands, TakesStep, WantsMemory}
+use Rattle.lx_undo.specs.Reached.{reached, HasReached}
+
+-- an edit is the one command of its line
+one_edit : (meaning : Option Line) (c : Command) → command_of meaning ≡ Some c → is_edit c ≡ true → count_of meaning ≤ 1
+one_edit None c is edit = cc
+one_edit (Some (lines.Command command)) c is edit = omega arith
+one_edit (Some (lines.Ticks k)) c is edit =
+    let tick : c ≡ commands.Tick = cc in
+    let none : is_edit commands.Tick ≡ true = ap is_edit (sym tick) ∙ edit in cc
+one_edit (Some (lines.Frame u)) c is edit = cc
+one_edit (Some lines.Save) c is edit = cc
+one_edit (Some (lines.SheetOf n)) c is edit = cc
+one_edit (Some lines.Quit) c is edit = cc
+one_edit (Some lines.Blank) c is edit = cc
+
+no_more : (commands : List Command) → length commands ≤ 0 → commands ≡ []
+no_more [] few = refl
+no_more (c ∷ commands) few = absurd (omega (arith, few))
+
+-- the desk after one more that it accepts
+after_more : (d after : Desk) (done : List Command) (c : Command) → step (after_commands d done) c ≡ Ok after
+    → after_commands d (done ++ c ∷ []) ≡ after
+after_more d after done c is =
+    fold-append after_command d done (c ∷ []) ∙ ap (λ (r : Result Desk Refusal). result_unwrap_or r (after_commands d done)) is
+
+any_more : (done : List Command) (c : Command) → is_edit c ≡ false → list_any is_edit (done ++ c ∷ []) ≡ list_any is_edit done
+any_more [] c other = rw other refl
+any_more (first ∷ done) c other = ap (λ (b : Bool). is_edit first || b) (any_more done c other)
+
+-- the state after one more
+abbrev then_at : UndoState → Command → Desk → UndoState
+then_at s c d = if is_edit c then replaced s d else record s { desk = d }
+
+edit_first : (s : UndoState) (done : List Command) (c : Command) (d : Desk) → is_edit c ≡ true → done ≡ []
+    → step (after_commands s.desk done) c ≡ Ok d → then_at (reached s done) c d ≡ reached s (done ++ c ∷ [])
+edit_first s [] c d edit none is = rw (edit, is) refl
+edit_first s (first ∷ done) c d edit none is = cc
+
+other_next : (s : UndoState) (done : List Command) (c : Command) (d : Desk) → is_edit c ≡ false
+    → step (after_commands s.desk done) c ≡ Ok d → then_at (reached s done) c d ≡ reached s (done ++ c ∷ [])
+other_next s done c d other is = rw (other, any_more done c other, after_more s.desk d done c is) refl
+
+reaches : (s : UndoState) (done : List Command) (c : Command) (d : Desk) → (is_edit c ≡ true → done ≡ [])
+    → step (after_commands s.desk done) c ≡ Ok d → then_at (reached s done) c d ≡ reached s (done ++ c ∷ [])
+reaches s done c d alone is = elim (cases_Bool (is_edit c)) [
+  | inl edit ↦ edit_first s done c d edit (alone edit) is
+  | inr other ↦ other_next s done c d other is
+]
+
+-- a command that was accepted
+record Accepted (s : UndoState) (done : List Command) (c : Command) (u : UndoKept) : Type 0 where
+  after : Desk
+  is : step (after_commands s.desk done) c ≡ Ok after
+  stands : UndoStands (reached s (done ++ c ∷ [])) u
+
+accepted_by : (s : UndoState) (done : List Command) (c : Command) (u : UndoKept) (r : Result Desk Refusal)
+    → step (after_commands s.desk done) c ≡ r → (is_edit c ≡ true → done ≡ [])
+    → IsOkAnd (r >>= (λ d. Ok (then_at (reached s done) c d))) (λ next. UndoStands next u) → Accepted s done c u
+accepted_by s done c u (Ok d) is alone stands =
+    record { after = d; is = is; stands = subst (λ (x : UndoState). UndoStands x u) (reaches s done c d alone is) stands }
+accepted_by s done c u (Err refusal) is alone stands = absurd stands
+
+accepted : (s : UndoState) (done : List Command) (c : Command) (u : UndoKept) → (is_edit c ≡ true → done ≡ [])
+    → IsOkAnd (undo_step (reached s done) c) (λ next. UndoStands next u) → Accepted s done c u
+accepted s done c u alone stands = accepted_by s done c u (step (after_commands s.desk done) c) refl alone stands
+
+-- a refusal of the state's step is the desk's own
+refused_by : (next : Desk → UndoState) (r : Result Desk Refusal) (refusal : Refusal) → r >>= (λ d. Ok (next d)) ≡ Err refusal
+    → r ≡ Err refusal
+refused_by next (Ok d) refusal is = cc
+refused_by next (Err own) refusal is = let same : own ≡ refusal = cc in ap Err same
+
+accepts_by : (next : Desk → UndoState) (r : Result Desk Refusal) → IsOk (r >>= (λ d. Ok (next d))) → IsOk r
+accepts_by next (Ok d) ok = ok
+accepts_by next (Err own) ok = ok
+
+refuses : (s : UndoState) (c : Command) (refusal : Refusal)
+    → (undo_step s c ≡ Err refusal) ⊎ WantsMemory (is_edit c) (undo_step s c) refusal → Refuses s.desk c refusal
+refuses s c refusal refused = elim refused [
+  | inl own ↦ inl (refused_by (then_at s c) (step s.desk c) refusal own)
+  | inr want ↦ inr (record { edit = want.takes_some; memory = want.memory; accepted = accepts_by (then_at s c) (step s.desk c) want.accepted })
+]
+
+-- as many commands as there were attempts
+one_fewer : (old left n : ℕ) → n ≤ old - left → 0 < left → left ≤ old → n + 1 ≤ old - (left - 1)
+one_fewer old left n few some fewer = omega (arith, few, some, fewer)
+
+-- an edit is attempted before any other command
+alone : (s : UndoState) (old turn : LineState) (c : Command) (done : List Command) → old ≡ unattempted old.meaning
+    → command_of old.meaning ≡ Some c → 0 < turn.left → length done ≤ old.left - turn.left → is_edit c ≡ true → done ≡ []
+alone s old turn c done start command some few edit =
+    let one = one_edit old.meaning c command edit in
+    let all : old.left ≡ count_of old.meaning = ap (λ (t : LineState). t.left) start in
+    no_more done (omega (arith, one, all, some, few))
+
+-- one attempt more, which was accepted
+one_accepted : (s : SessionOf UndoState) (old turn : LineState) (c : Command) (before now : UndoKept)
+    → old ≡ unattempted old.meaning → next_of turn ≡ Some c
+    → ((x : UndoState) → UndoStands x before → IsOkAnd (undo_step x c) (λ next. UndoStands next now))
+    → LineProgress true (HasReached s.state before (old.left - turn.left)) (at_desk s.state.desk s) old turn before.console
+    → LineProgress true (HasReached s.state now (old.left - (turn.left - 1))) (at_desk s.state.desk s) old
+    (record { meaning = turn.meaning; left = turn.left - 1; refusal = None }) now.console
+one_accepted s old turn c before now start some steps t =
+    let next = next_is turn c some in
+    let command : command_of old.meaning ≡ Some c = ap command_of (sym t.meaning) ∙ next.command in
+    let by : (done : List Command) → HasReached s.state before (old.left - turn.left) done → Accepted s.state done c now =
+    λ done h. accepted s.state done c now (alone s.state old turn c done start command next.some h.few)
+    (steps (reached s.state done) h.stands) in
+    let here = by t.commands t.listened in
+    let is : step t.now.desk c ≡ Ok here.after = ap (λ (d : Desk). step d c) t.desk ∙ here.is in
+    let stands : StandsFor here.after now.console =
+    subst (λ (d : Desk). StandsFor d now.console) (after_more s.state.desk here.after t.commands c here.is) here.stands.desk in
+    attempted_at true (HasReached s.state before (old.left - turn.left)) (HasReached s.state now (old.left - (turn.left - 1)))
+    (at_desk s.state.desk s) old turn c before.console now.console None true t next (λ every. refl)
+    (subst (λ (r : Result Desk Refusal). IsOkAnd r (λ (d : Desk). StandsFor d now.console)) (sym is) stands)
+    (λ done h. record {
+      few = let more : length (done ++ c ∷ []) ≡ length done + 1 = length-append done (c ∷ []) in
+          let few = one_fewer old.left turn.left (length done) h.few next.some t.fewer in omega (arith, more, few);
+      stands = (by done h).stands;
+    })
+
+-- and one that was refused
+one_refused : (s : SessionOf UndoState) (old turn : LineState) (c : Command) (before now : UndoKept) (refusal : Refusal)
+    → next_of turn ≡ Some c → now ≡ before
+    → ((x : UndoState) → UndoStands x before → (undo_step x c ≡ Err refusal) ⊎ WantsMemory (is_edit c) (undo_step x c) refusal)
+    → LineProgress true (HasReached s.state before (old.left - turn.left)) (at_desk s.state.desk s) old turn before.console
+    → LineProgress true (HasReached s.state now (old.left - (turn.left - 1))) (at_desk s.state.desk s) old
+    (record { meaning = turn.meaning; left = turn.left - 1; refusal = Some refusal }) now.console
+one_refused s old turn c before now refusal some same steps t =
+    let next = next_is turn c some in
+    attempted_at true (HasReached s.state before (old.left - turn.left)) (HasReached s.state now (old.left - (turn.left - 1)))
+    (at_desk s.state.desk s) old turn c before.console now.console (Some refusal) true t next (λ every. refl)
+    (
+      subst (λ (u : UndoKept). StandsFor t.now.desk u.console) (sym same) t.stands,
+      subst (λ (d : Desk). Refuses d c refusal) (sym t.desk)
+      (refuses (reached s.state t.commands) c refusal (steps (reached s.state t.commands) t.listened.stands)),
+    )
+    (λ done h. record {
+      few = let same_length : length (done ++ []) ≡ length done = ap length (append-nil done) in
+          let few = one_fewer old.left turn.left (length done) h.few next.some t.fewer in omega (arith, same_length, few);
+      stands = subst (λ (cs : List Command). UndoStands (reached s.state cs) now) (sym (append-nil done))
+          (subst (UndoStands (reached s.state done)) (sym same) h.stands);
+    })
+
+one_by : (s : SessionOf UndoState) (old turn : LineState) (c : Command) (before now : UndoKept) (answer : Result (Unit {0}) Refusal)
+    → old ≡ unattempted old.meaning → next_of turn ≡ Some c
+    → ((x : UndoState) → UndoStands x before → TakesStep (is_edit c) (undo_step x c) answer now) → OnErr answer (now ≡ before)
+    → LineProgress true (HasReached s.state before (old.left - turn.left)) (at_desk s.state.desk s) old turn before.console
+    → LineProgress true (HasReached s.state now (old.left - (turn.left - 1))) (at_desk s.state.desk s) old
+    (record { meaning = turn.meaning; left = turn.left - 1; refusal = result_err answer }) now.console
+one_by s old turn c before now (Ok x) start some steps same t =
+    one_accepted s old turn c before now start some (λ x stands. (steps x stands).ok) t
+one_by s old turn c before now (Err refusal) start some steps same t =
+    one_refused s old turn c before now refusal some same (λ x stands. (steps x stands).err) t
+
+-- One attempt more.
+pub one_more : (s : SessionOf UndoState) (old turn turn' : LineState) (c : Command) (before now : UndoKept)
+    (answer : Result (Unit {0}) Refusal) → old ≡ unattempted old.meaning → next_of turn ≡ Some c
+    → ((x : UndoState) → UndoStands x before → TakesStep (is_edit c) (undo_step x c) answer now) → OnErr answer (now ≡ before)
+    → turn' ≡ record turn { left = turn.left - 1; refusal = result_err answer }
+    → LineProgress true (HasReached s.state before (old.left - turn.left)) (at_desk s.state.desk s) old turn before.console
+    → LineProgress true (HasReached s.state now (old.left - turn'.left)) (at_desk s.state.desk s) old turn' now.console
+one_more s old turn turn' c before now answer start some steps same is t =
+    subst (λ (v : LineState). LineProgress true (HasReached s.state now (old.left - v.left)) (at_desk s.state.desk s) old v now.console)
+    (sym is) (one_by s old turn c before now answer start some steps same t)
+
+-- Nothing was attempted yet.
+pub none_yet : (s : SessionOf UndoState) (turn : LineState) (u : UndoKept) → turn ≡ unattempted turn.meaning → UndoStands s.state u
+    → LineProgress true (HasReached s.state u (turn.left - turn.left)) (at_desk s.state.desk s) turn turn u.console
+none_yet s turn u start stands =
+    begun true (HasReached s.state u (turn.left - turn.left)) (at_desk s.state.desk s) u.console stands.desk turn
+    (ap (λ (t : LineState). t.refusal) start) (record { few = omega arith; stands = stands })
+
+-- the command of a line whose numbers are in their range
+valid_of : (meaning : Option Line) (c : Command) → IfSome meaning ValidLine → command_of meaning ≡ Some c → ValidCommand c
+valid_of None c valid is = cc
+valid_of (Some (lines.Command command)) c valid is = let same : command ≡ c = cc in subst ValidCommand same valid
+valid_of (Some (lines.Ticks k)) c valid is = let tick : commands.Tick ≡ c = cc in subst ValidCommand tick tt
+valid_of (Some (lines.Frame u)) c valid is = cc
+valid_of (Some lines.Save) c valid is = cc
+valid_of (Some (lines.SheetOf n)) c valid is = cc
+valid_of (Some lines.Quit) c valid is = cc
+valid_of (Some lines.Blank) c valid is = cc
+
+pub valid_next : (old turn : LineState) (c : Command) → IfSome old.meaning ValidLine → turn.meaning ≡ old.meaning → next_of turn ≡ Some c
+    → ValidCommand c
+valid_next old turn c valid same some =
+    valid_of turn.meaning c (subst (λ (m : Option Line). IfSome m ValidLine) (sym same) valid) (next_is turn c some).command

@@ -1,0 +1,27 @@
+use Rattle.std.proofs.Common.{◌≡◌, ◌∙◌, Option, List, ℕ, ap, sym, subst}
+use Rattle.std.specs.Prelude.{IfSome, option_copied}
+use Rattle.lx_spec.specs.declared.Line.{Line}
+use Rattle.lx_session.specs.LineState.{LineState, meaning_of, unattempted}
+use Rattle.lx_undo.proofs.Answered.{answered_line, more_by}
+use Rattle.lx_undo.proofs.Lines.{valid_meaning}
+use Rattle.lx_undo.proofs.session.answer_plain.Goals as goal
+
+pub attempt_all-requires-clause-start : goal.attempt_all-requires-clause-start
+attempt_all-requires-clause-start g c =
+    c.begin-turn.ensures ∙ ap unattempted (sym (ap (λ (t : LineState). t.meaning) c.begin-turn.ensures))
+
+pub attempt_all-requires-clause-valid : goal.attempt_all-requires-clause-valid
+attempt_all-requires-clause-valid g c =
+    valid_meaning (option_copied c.args.line) c.begin-turn.result.meaning (ap (λ (t : LineState). t.meaning) c.begin-turn.ensures)
+
+pub returns-clause-answered : goal.returns-clause-answered
+returns-clause-answered g c = λ s text stands counted is none.
+    answered_line g.K.Sink.holds g.K.Sink.faults g.K.Sink.wants c.args.sink.now c.finish.new.sink c.finish.result s text
+    (option_copied c.args.line) c.begin-turn.result c.attempt_all.new.turn c.attempt_all.new.desk c.console.result.now c.args.tally.now
+    c.finish.new.tally c.begin-turn.ensures c.console.ensures is none counted (c.attempt_all.ensures.tried s stands)
+    c.attempt_all.ensures.over c.finish.ensures.text c.finish.ensures.counts
+
+pub returns-clause-quit : goal.returns-clause-quit
+returns-clause-quit g c =
+    more_by c.finish.result (option_copied c.args.line) c.attempt_all.new.turn.meaning
+    (c.attempt_all.ensures.meaning ∙ ap (λ (t : LineState). t.meaning) c.begin-turn.ensures) c.finish.ensures.quit

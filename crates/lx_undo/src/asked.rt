@@ -1,0 +1,76 @@
+//! Lines that ask something of the history, done and answered.
+
+ghost use Rattle.std.specs.Prelude.{◌≡◌, true, IfOk};
+ghost use Rattle.lx_io.specs.Puts.{Puts};
+ghost use Rattle.lx_spec.specs.Undo.{UndoState};
+ghost use Rattle.lx_session.specs.LineReply.{HasRoom, HasOneMore, counts_in};
+ghost use Rattle.lx_script.specs.UndoLines.{NamesCue};
+ghost use Rattle.lx_undo.specs.Standing.{UndoStands};
+ghost use Rattle.lx_undo.specs.Asked.{HasAsked, answer_text, counted};
+
+use crate::desk::UndoDesk;
+use lx_io::{Sink, SinkFault};
+use lx_script::{Reply, put_reply, put_undo_fault};
+use lx_session::Tally;
+use lx_spec::{Refusal, UndoFault, UndoLine};
+
+/// Why a line that asks something of the history was refused.
+#[derive(Clone, Copy)]
+pub(crate) enum Denial {
+    /// Nothing can be undone, or redone.
+    History(UndoFault),
+    /// The record was refused.
+    Desk(Refusal),
+}
+
+/// Does what a line asks. It answers why not, where it was refused; then the desk is as before.
+pub(crate) fn ask(desk: &mut UndoDesk, what: UndoLine) -> Option<Denial>
+    requires { NamesCue what }
+    ensures { (s : UndoState) → UndoStands s desk.old → HasAsked s what result desk.new }
+{
+    match what {
+        UndoLine::Undo => match desk.undo() {
+            Ok(()) => None,
+            Err(fault) => Some(Denial::History(fault)),
+        },
+        UndoLine::Redo => match desk.redo() {
+            Ok(()) => None,
+            Err(fault) => Some(Denial::History(fault)),
+        },
+        UndoLine::Record { cue, only } => match desk.record(cue, only) {
+            Ok(()) => None,
+            Err(refusal) => Some(Denial::Desk(refusal)),
+        },
+    }
+}
+
+/// Appends the reply to what was done or denied, and counts it. It answers true: the session goes on.
+pub(crate) fn give<K: Sink>(
+    denial: Option<Denial>,
+    sink: &mut K,
+    tally: &mut Tally,
+) -> Result<bool, SinkFault>
+    requires room { HasRoom tally.old }
+    ensures text { Puts K.holds K.faults K.wants sink.old sink.new result (answer_text denial) }
+    ensures counts { counts_in tally.new ≡ counted denial (counts_in tally.old) }
+    ensures counted { HasOneMore tally.old tally.new }
+    ensures more { IfOk result (λ more. more ≡ true) }
+{
+    match denial {
+        None => tally.ok += 1,
+        Some(_) => tally.refused += 1,
+    }
+    put_answer(denial, sink)?;
+    Ok(true)
+}
+
+/// Appends the reply to what was done or denied.
+fn put_answer<K: Sink>(denial: Option<Denial>, sink: &mut K) -> Result<(), SinkFault>
+    ensures { Puts K.holds K.faults K.wants sink.old sink.new result (answer_text denial) }
+{
+    match denial {
+        None => put_reply(&Reply::Ok, sink),
+        Some(Denial::History(fault)) => put_undo_fault(fault, sink),
+        Some(Denial::Desk(refusal)) => put_reply(&Reply::Refused(refusal), sink),
+    }
+}

@@ -1,0 +1,149 @@
+//! Sessions of a desk with its history.
+
+ghost use Rattle.std.specs.Prelude.{◌≡◌, ◌≤◌, ◌-◌, List, ℕ, IfOk, IfSome, None, Some, not, true, false, option_copied};
+ghost use Rattle.lx_base.specs.declared.TheConstants.{INPUT_BYTES};
+ghost use Rattle.lx_io.specs.Puts.{HasSinkCause};
+ghost use Rattle.lx_lex.specs.Unread.{CanAdvance, SameSource, bytes_taken, source_left, unread};
+ghost use Rattle.lx_spec.specs.Session.{ends_script};
+ghost use Rattle.lx_spec.specs.SessionOf.{SessionOf, at_desk};
+ghost use Rattle.lx_spec.specs.Undo.{UndoState};
+ghost use Rattle.lx_spec.specs.UndoSession.{undo_line_of, undo_answer, UndoMayWant};
+ghost use Rattle.lx_spec.specs.ValidEdit.{ValidLine};
+ghost use Rattle.lx_session.specs.LineState.{next_of, unattempted};
+ghost use Rattle.lx_session.specs.LineProgress.{LineProgress};
+ghost use Rattle.lx_session.specs.LineReply.{HasRoom, HasOneMore, counts_in};
+ghost use Rattle.lx_session.specs.OneAnswer.{IsLine, OneAnswer};
+ghost use Rattle.lx_session.specs.ScriptAnswered.{ScriptAnswered};
+ghost use Rattle.lx_session.specs.SessionOutcome.{HasSessionCause, KeepsLimit};
+ghost use Rattle.lx_script.specs.UndoLines.{NamesCue};
+ghost use Rattle.lx_undo.specs.Standing.{UndoStands};
+ghost use Rattle.lx_undo.specs.Reached.{HasReached};
+
+use crate::asked::{ask, give};
+use crate::desk::UndoDesk;
+use lx_io::{Sink, SinkFault, Source};
+use lx_lex::Lines;
+use lx_script::read_undo_line;
+use lx_session::{Answers, SessionFault, Tally, Turn, answer_lines};
+use lx_spec::UndoLine;
+
+/// Answers the script lines that are left, up to `quit` or the end, on a desk with its history: those of a session, and
+/// `undo`, `redo` and `record n [only]`. Each line is done and its replies appended before the next is awaited.
+///
+/// `ReadFault` comes only where the source failed, `InputTooLong` exactly where a wanted line has a byte past the limit
+/// of the input; the lines before it are then wholly answered. `WriteFault` and `Memory` come only where the sink
+/// answered them; what was written is then a prefix of the whole text. However it ends, the desk stands for the state
+/// after the lines that were done. Want of memory refuses only edits and records that nothing else refuses.
+pub fn undo_session<S: Source, K: Sink>(
+    desk: &mut UndoDesk,
+    lines: &mut Lines<S>,
+    sink: &mut K,
+) -> Result<Tally, SessionFault>
+    requires going { CanAdvance lines.old }
+    requires within { bytes_taken lines.old ≤ INPUT_BYTES }
+    ensures same_source { SameSource lines.old lines.new }
+    ensures outcome { (state : UndoState) → UndoStands state desk.old
+        → IfSome (unread S.left lines.old)
+        (λ bytes. ScriptAnswered undo_answer UndoMayWant (λ s. UndoStands s desk.new) state (bytes_taken lines.old) bytes
+        (unread S.left lines.new) (source_left S.left lines.new) (K.holds sink.old) (K.holds sink.new) result) }
+    ensures limit { IfSome (unread S.left lines.old) (λ bytes. KeepsLimit (bytes_taken lines.old) bytes result) }
+    ensures cause { HasSessionCause S.faults K.faults K.wants lines.old lines.new sink.old sink.new result }
+{
+    answer_lines(desk, lines, sink)
+}
+
+impl Answers for UndoDesk {
+    ghost use Rattle.lx_spec.specs.Undo.{UndoState};
+    ghost use Rattle.lx_spec.specs.UndoSession.{undo_answer, UndoMayWant};
+    ghost use Rattle.lx_undo.specs.Standing.{UndoStands};
+
+    ghost State = { UndoState };
+
+    ghost stands = { UndoStands };
+
+    ghost answer_of = { undo_answer };
+
+    ghost may_want = { UndoMayWant };
+
+    fn answer<K: Sink>(
+        &mut self,
+        line: Option<&[u8]>,
+        sink: &mut K,
+        tally: &mut Tally,
+    ) -> Result<bool, SinkFault> {
+        match asked_by(line) {
+            Some(what) => answer_asked(self, what, sink, tally),
+            None => answer_plain(self, line, sink, tally),
+        }
+    }
+}
+
+/// What a line asks of the history. None stands for a line that is too long, which asks nothing.
+fn asked_by(line: Option<&[u8]>) -> Option<UndoLine>
+    ensures meaning { (text : List ℕ) → IsLine (option_copied line.entry) text → result ≡ undo_line_of text }
+    ensures cue { IfSome result NamesCue }
+{
+    match line {
+        Some(line) => read_undo_line(line),
+        None => None,
+    }
+}
+
+/// Does what a line asks of the history, then appends its reply and counts it. It answers true: the session goes on.
+fn answer_asked<K: Sink>(
+    desk: &mut UndoDesk,
+    what: UndoLine,
+    sink: &mut K,
+    tally: &mut Tally,
+) -> Result<bool, SinkFault>
+    requires cue { NamesCue what }
+    requires room { HasRoom tally.old }
+    ensures answered { (s : SessionOf UndoState) (text : List ℕ) → UndoStands s.state desk.old → s.counts ≡ counts_in tally.old
+        → undo_line_of text ≡ Some what
+        → OneAnswer undo_answer UndoMayWant K.holds K.faults K.wants sink.old sink.new result s text
+        (λ state. UndoStands state desk.new) tally.new }
+    ensures more { IfOk result (λ more. more ≡ true) }
+    ensures cause { HasSinkCause K.faults K.wants sink.old sink.new result }
+    ensures counted { HasOneMore tally.old tally.new }
+{
+    let denial = ask(desk, what);
+    give(denial, sink, tally)
+}
+
+/// Does what any other line asks for, then appends its replies and counts them. None stands for a line that is too
+/// long, which is bad. It answers false exactly for `quit`.
+fn answer_plain<K: Sink>(
+    desk: &mut UndoDesk,
+    line: Option<&[u8]>,
+    sink: &mut K,
+    tally: &mut Tally,
+) -> Result<bool, SinkFault>
+    requires room { HasRoom tally.old }
+    ensures answered { (s : SessionOf UndoState) (text : List ℕ) → UndoStands s.state desk.old → s.counts ≡ counts_in tally.old
+        → IsLine (option_copied line.entry) text → undo_line_of text ≡ None
+        → OneAnswer undo_answer UndoMayWant K.holds K.faults K.wants sink.old sink.new result s text
+        (λ state. UndoStands state desk.new) tally.new }
+    ensures quit { IfOk result (λ more. (text : List ℕ) → IsLine (option_copied line.entry) text → more ≡ not (ends_script text)) }
+    ensures cause { HasSinkCause K.faults K.wants sink.old sink.new result }
+    ensures counted { HasOneMore tally.old tally.new }
+{
+    let mut turn = Turn::begin(line);
+    attempt_all(desk, &mut turn);
+    turn.finish(desk.console(), sink, tally)
+}
+
+/// Attempts the commands of a line that asks nothing of the history.
+fn attempt_all(desk: &mut UndoDesk, turn: &mut Turn)
+    requires start { turn.old ≡ unattempted turn.old.meaning }
+    requires valid { IfSome turn.old.meaning ValidLine }
+    ensures over { next_of turn.new ≡ None }
+    ensures meaning { turn.new.meaning ≡ turn.old.meaning }
+    ensures tried { (s : SessionOf UndoState) → UndoStands s.state desk.old
+        → LineProgress true (HasReached s.state desk.new (turn.old.left - turn.new.left)) (at_desk s.state.desk s) turn.old turn.new
+        desk.new.console }
+{
+    'commands: while let Some(command) = turn.next() {
+        let refusal = desk.command(command).err();
+        turn.attempted(refusal);
+    }
+}
