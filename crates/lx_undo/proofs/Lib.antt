@@ -2,7 +2,6 @@ pub mod Histories
 pub mod SomeDesk
 pub mod Answering
 pub mod Turns
-pub mod SameChannels
 pub mod Reaching
 pub mod Lines
 pub mod Answered
