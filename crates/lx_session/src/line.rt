@@ -41,7 +41,8 @@ pub(crate) fn answer<L: Listener, K: Sink>(
     ensures cause { HasSinkCause K.faults K.wants sink.old sink.new result }
     ensures more { HasOneMore tally.old tally.new }
 {
-    let mut turn = Turn::begin(line);
+    let mut turn = Turn::new();
+    turn.begin_again(line);
     attempt_all(listener, &mut turn, console);
     turn.finish(console, sink, tally)
 }

@@ -56,95 +56,99 @@ impl Model for Meaning {
 }
 
 impl Meaning {
-    /// What a line means. None stands for a line that is too long, which is bad.
-    pub(crate) fn of(line: Option<&[u8]>) -> Meaning
-        ensures meaning { result ≡ meaning_of (option_copied line.entry) }
-        ensures valid { IfSome result ValidLine }
-    {
-        match line {
-            Some(line) => Meaning::of_line(line),
-            None => Meaning::bad(),
-        }
-    }
-
-    /// What a line means whose bytes are these.
-    fn of_line(line: &[u8]) -> Meaning
-        ensures meaning { result ≡ line_of line.now }
-        ensures valid { IfSome result ValidLine }
-    {
-        match read_brief(line) {
-            Reading::Bad => Meaning::bad(),
-            Reading::Brief(brief) => Meaning::of_brief(&brief),
-            Reading::Edit => Meaning::of_edit(line),
-        }
-    }
-
-    /// What a line means that may be an edit. It stands apart, since a call pays for the room of its large values.
-    #[inline(never)]
-    fn of_edit(line: &[u8]) -> Meaning
-        ensures meaning { result ≡ line_of line.now }
-        ensures valid { IfSome result ValidLine }
-    {
-        Meaning::copy_of(&read_command(line))
-    }
-
-    /// A bad line.
-    fn bad() -> Meaning
+    /// Of no line.
+    pub(crate) fn new() -> Meaning
         ensures { result ≡ None }
     {
-        Meaning::without_command(Asked::Bad)
-    }
-
-    /// A line that asks for this, and has no command but ticks.
-    fn without_command(asked: Asked) -> Meaning
-        requires { IsMeaning (meaning_by asked Command.Tick) Command.Tick }
-        ensures { result ≡ meaning_by asked Command.Tick }
-    {
         Meaning {
-            asked,
+            asked: Asked::Bad,
             command: Command::Tick,
         }
     }
 
-    /// A line that is no edit.
-    fn of_brief(brief: &Brief) -> Meaning
-        requires { ValidLine (brief_line brief.now) }
-        ensures meaning { result ≡ Some (brief_line brief.now) }
-        ensures valid { IfSome result ValidLine }
+    /// Reads what a line means. None stands for a line that is too long, which is bad.
+    pub(crate) fn read(&mut self, line: Option<&[u8]>)
+        ensures meaning { self.new ≡ meaning_of (option_copied line.entry) }
+        ensures valid { IfSome self.new ValidLine }
     {
-        match brief {
-            Brief::Key(key) => Meaning {
-                asked: Asked::Command,
-                command: Command::Key(*key),
-            },
-            Brief::Ticks(count) => Meaning::without_command(Asked::Ticks(*count)),
-            Brief::Frame(universe) => Meaning::without_command(Asked::Frame(*universe)),
-            Brief::Save => Meaning::without_command(Asked::Save),
-            Brief::SheetOf(cue) => Meaning::without_command(Asked::SheetOf(*cue)),
-            Brief::Quit => Meaning::without_command(Asked::Quit),
-            Brief::Blank => Meaning::without_command(Asked::Blank),
+        match line {
+            Some(line) => self.read_line(line),
+            None => self.asked = Asked::Bad,
         }
     }
 
-    /// A line of this meaning.
-    fn copy_of(meaning: &Option<Line>) -> Meaning
+    /// Reads what a line means whose bytes are these.
+    fn read_line(&mut self, line: &[u8])
+        ensures meaning { self.new ≡ line_of line.now }
+        ensures valid { IfSome self.new ValidLine }
+    {
+        match read_brief(line) {
+            Reading::Bad => self.asked = Asked::Bad,
+            Reading::Brief(brief) => self.take_brief(&brief),
+            Reading::Edit => self.read_edit(line),
+        }
+    }
+
+    /// Reads what a line means that may be an edit. It stands apart, since a call pays for the room of its large values.
+    #[inline(never)]
+    fn read_edit(&mut self, line: &[u8])
+        ensures meaning { self.new ≡ line_of line.now }
+        ensures valid { IfSome self.new ValidLine }
+    {
+        self.take(&read_command(line))
+    }
+
+    /// Takes what a line means that is no edit.
+    fn take_brief(&mut self, brief: &Brief)
+        requires { ValidLine (brief_line brief.now) }
+        ensures meaning { self.new ≡ Some (brief_line brief.now) }
+        ensures valid { IfSome self.new ValidLine }
+    {
+        match brief {
+            Brief::Key(key) => self.take_command(Command::Key(*key)),
+            Brief::Ticks(count) => self.take_ticks(*count),
+            Brief::Frame(universe) => self.asked = Asked::Frame(*universe),
+            Brief::Save => self.asked = Asked::Save,
+            Brief::SheetOf(cue) => self.asked = Asked::SheetOf(*cue),
+            Brief::Quit => self.asked = Asked::Quit,
+            Brief::Blank => self.asked = Asked::Blank,
+        }
+    }
+
+    /// Takes what a line means.
+    fn take(&mut self, meaning: &Option<Line>)
         requires { IfSome meaning.now ValidLine }
-        ensures meaning { result ≡ meaning.now }
-        ensures valid { IfSome result ValidLine }
+        ensures meaning { self.new ≡ meaning.now }
+        ensures valid { IfSome self.new ValidLine }
     {
         match meaning {
-            None => Meaning::bad(),
-            Some(Line::Command(command)) => Meaning {
-                asked: Asked::Command,
-                command: command.copy(),
-            },
-            Some(Line::Ticks(count)) => Meaning::without_command(Asked::Ticks(*count)),
-            Some(Line::Frame(universe)) => Meaning::without_command(Asked::Frame(*universe)),
-            Some(Line::Save) => Meaning::without_command(Asked::Save),
-            Some(Line::SheetOf(cue)) => Meaning::without_command(Asked::SheetOf(*cue)),
-            Some(Line::Quit) => Meaning::without_command(Asked::Quit),
-            Some(Line::Blank) => Meaning::without_command(Asked::Blank),
+            None => self.asked = Asked::Bad,
+            Some(Line::Command(command)) => self.take_command(command.copy()),
+            Some(Line::Ticks(count)) => self.take_ticks(*count),
+            Some(Line::Frame(universe)) => self.asked = Asked::Frame(*universe),
+            Some(Line::Save) => self.asked = Asked::Save,
+            Some(Line::SheetOf(cue)) => self.asked = Asked::SheetOf(*cue),
+            Some(Line::Quit) => self.asked = Asked::Quit,
+            Some(Line::Blank) => self.asked = Asked::Blank,
         }
+    }
+
+    /// Takes a command.
+    fn take_command(&mut self, command: Command)
+        requires { ValidLine (Line.Command command) }
+        ensures { self.new ≡ Some (Line.Command command) }
+    {
+        self.asked = Asked::Command;
+        self.command = command;
+    }
+
+    /// Takes so many ticks.
+    fn take_ticks(&mut self, count: u32)
+        requires { ValidLine (Line.Ticks count) }
+        ensures { self.new ≡ Some (Line.Ticks count) }
+    {
+        self.asked = Asked::Ticks(count);
+        self.command = Command::Tick;
     }
 
     /// What the line asks for.

@@ -33,17 +33,34 @@ impl Model for Turn {
 }
 
 impl Turn {
+    /// Of no line: nothing is to be attempted. It takes up one line after another by `begin_again`.
+    pub fn new() -> Turn
+        ensures { result ≡ unattempted None }
+    {
+        Turn {
+            meaning: Meaning::new(),
+            left: 0,
+            refusal: None,
+        }
+    }
+
     /// Takes up a line. None stands for a line that is too long, which is bad.
     pub fn begin(line: Option<&[u8]>) -> Turn
         ensures { result ≡ unattempted (meaning_of (option_copied line.entry)) }
     {
-        let meaning = Meaning::of(line);
-        let left = meaning.count();
-        Turn {
-            meaning,
-            left,
-            refusal: None,
-        }
+        let mut turn = Turn::new();
+        turn.begin_again(line);
+        turn
+    }
+
+    /// Takes up another line in the place of the last, as `begin` does.
+    pub fn begin_again(&mut self, line: Option<&[u8]>)
+        ensures { self.new ≡ unattempted (meaning_of (option_copied line.entry)) }
+    {
+        self.left = 0;
+        self.refusal = None;
+        self.meaning.read(line);
+        self.left = self.meaning.count();
     }
 
     /// The command to attempt now: none where the line names no command, an attempt was refused, or all

@@ -10,6 +10,6 @@ returns-clause-answered g c = λ s stands counted.
     let heard = g.L.Listener.heard c.args.listener.now c.attempt_all.new.listener in
     answered g.L.Listener.admits_all heard g.K.Sink.holds g.K.Sink.faults g.K.Sink.wants c.args.sink.now c.finish.new.sink c.finish.result s
     (meaning_of (option_copied c.args.line)) c.attempt_all.new.turn c.attempt_all.new.console c.args.tally.now c.finish.new.tally
-    (subst (λ t. LineProgress g.L.Listener.admits_all heard s t c.attempt_all.new.turn c.attempt_all.new.console) c.begin-turn.ensures
+    (subst (λ t. LineProgress g.L.Listener.admits_all heard s t c.attempt_all.new.turn c.attempt_all.new.console) c.begin_again.ensures
     (c.attempt_all.ensures.tried s stands))
     c.attempt_all.ensures.over counted c.finish.ensures.text c.finish.ensures.counts
