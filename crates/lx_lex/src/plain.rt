@@ -22,6 +22,14 @@ pub(crate) fn first_number(line: &[u8]) -> Option<(u32, &[u8])>
         let others = past_end(rest)?;
         return Some((number, others));
     }
+    number_behind(line)
+}
+
+/// The same where the token stands behind separators, or isn't a number.
+#[inline(never)]
+fn number_behind(line: &[u8]) -> Option<(u32, &[u8])>
+    ensures { IfSome result (λ p. FirstIsNumber (tokens line.now) p.0 (tokens p.1.now)) }
+{
     let (number, rest) = first_digits(past_separators(line))?;
     let others = past_end(rest)?;
     Some((number, others))
@@ -71,6 +79,7 @@ fn front_digits(text: &[u8]) -> Option<(u32, &[u8])>
 }
 
 /// The number that the digits at the front spell and what follows them. None where no digit stands there.
+#[inline(never)]
 fn first_digits(text: &[u8]) -> Option<(u32, &[u8])>
     ensures digits { IfSome result (λ p. BeginsWithDigits text.now p.0 p.1.now) }
     ensures some { IfSome result (λ p. length p.1.now < length text.now) }

@@ -1,11 +1,6 @@
-use Rattle.lx_lex.proofs.PlainNumbers.{number_and_others, number_at_once}
+use Rattle.lx_lex.proofs.PlainNumbers.{number_at_once}
 use Rattle.lx_lex.proofs.plain.first_number.Goals as goal
 
 pub returns-in-Some : goal.returns-in-Some
 returns-in-Some c = number_at_once c.args.line.now c.in-Some.rest.now c.in_ok-others.others.now c.in-Some.number c.in-Some.ensures.digits
     c.in-Some.ensures.some c.in_ok-others.ensures
-
-pub returns : goal.returns
-returns c =
-    number_and_others c.args.line.now c.past_separators.result.now c.in_ok-number.rest.now c.in_ok-others-2.others.now c.in_ok-number.number
-    c.past_separators.ensures c.in_ok-number.ensures.digits c.in_ok-number.ensures.some c.in_ok-others-2.ensures
