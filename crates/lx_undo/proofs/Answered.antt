@@ -1,7 +1,7 @@
 -- A line that was done, and whose reply was put, was answered.
-use Rattle.std.proofs.Common.{◌≡◌, ℕ, ◌+◌, ◌≤◌, ◌<◌, Bool, true, false, ◌==◌, Option, Some, None, Result, Ok, Err, OnOk, List, [], ◌∷◌, ◌++◌}
+use Rattle.std.proofs.Common.{◌≡◌, ℕ, ◌+◌, Bool, true, false, ◌==◌, Option, Some, None, Result, Ok, Err, OnOk, List}
 use Rattle.std.proofs.Common.{refl, sym, ap, ◌∙◌, subst, inl, inr, arith}
-use Rattle.std.specs.Prelude.{◌⊎◌, ◌-◌, IfOk, not, if◌then◌else◌}
+use Rattle.std.specs.Prelude.{◌-◌, IfOk, not, if◌then◌else◌}
 use Rattle.std.specs.Option.{option_map_or}
 use Rattle.std.specs.Result.{IsOkAnd}
 use Rattle.std.specs.List.{list_any}
@@ -17,9 +17,9 @@ use Rattle.lx_spec.specs.Kept.{Kept}
 use Rattle.lx_spec.specs.RefusedPlaces.{is_edit}
 use Rattle.lx_spec.specs.Replies.{ok_text, refused_text}
 use Rattle.lx_spec.specs.Script.{line_of}
-use Rattle.lx_spec.specs.Session.{Session, Counts, ends_script, is_quit, after_line}
+use Rattle.lx_spec.specs.Session.{Session, ends_script, is_quit, after_line}
 use Rattle.lx_spec.specs.SessionOf.{SessionOf, at_desk, with_state, attempted}
-use Rattle.lx_spec.specs.Undo.{UndoState, replaced}
+use Rattle.lx_spec.specs.Undo.{UndoState}
 use Rattle.lx_spec.specs.UndoSession.{undo_line_of, undo_answer, asked, after_asking, after_plain, UndoMayWant, MayWantOf, MayWantAsked}
 use Rattle.lx_session.specs.declared.tally.Tally.{Tally}
 use Rattle.lx_session.specs.Attempts.{WantsLast, after_commands}
@@ -33,10 +33,9 @@ use Rattle.lx_session.proofs.AnsweredLines.{answered}
 use Rattle.lx_session.proofs.AttemptSteps.{last}
 use Rattle.lx_session.proofs.HeardLines.{meaning_is}
 use Rattle.lx_undo.specs.declared.asked.Denial.{Denial}
-use Rattle.lx_undo.specs.Asked.{HasAsked, WantsAsked, denial_text, answer_text, counted}
+use Rattle.lx_undo.specs.Asked.{HasAsked, denial_text, answer_text, counted}
 use Rattle.lx_undo.specs.Reached.{reached, HasReached}
 use Rattle.lx_undo.specs.Standing.{UndoKept, UndoStands}
-use Rattle.lx_undo.proofs.Lines.{goes_on}
 
 -- the plain session's state, with the history
 plain_is : (s : UndoState) (t : Session) (done : List Command) → t.accepted ≡ done → t.desk ≡ after_commands s.desk done
@@ -185,10 +184,3 @@ pub more_by : (result : Result Bool SinkFault) (given : Option (List ℕ)) (mean
 more_by (Ok more) given meaning same is = λ text line.
     is ∙ ap (λ (m : Option Line). not (is_quit m)) (same ∙ meaning_is given text line)
 more_by (Err fault) given meaning same is = tt
-
-pub more_asked : (result : Result Bool SinkFault) (given : Option (List ℕ)) (asks : Option UndoLine) (what : UndoLine) → asks ≡ Some what
-    → ((text : List ℕ) → IsLine given text → asks ≡ undo_line_of text) → IfOk result (λ more. more ≡ true)
-    → IfOk result (λ more. (text : List ℕ) → IsLine given text → more ≡ not (ends_script text))
-more_asked (Ok more) given asks what some reads is = λ text line.
-    is ∙ sym (ap not (goes_on text what (sym (reads text line) ∙ some)))
-more_asked (Err fault) given asks what some reads is = tt

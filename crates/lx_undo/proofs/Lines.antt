@@ -1,10 +1,9 @@
 -- Which lines ask something of the history: such a line means nothing else, and a line that ends the script is none.
-use Rattle.std.proofs.Common.{◌≡◌, ℕ, ◌<◌, Bool, true, false, Option, Some, None, List, [], ◌∷◌, refl, sym, ap, subst, ◌∙◌, inl, inr, arith}
-use Rattle.std.specs.Prelude.{nat_lt, length, codes, find, map, IfSome}
+use Rattle.std.proofs.Common.{◌≡◌, ℕ, Bool, true, false, Option, Some, None, List, [], ◌∷◌, refl, sym, ap, subst, ◌∙◌, inl, inr}
+use Rattle.std.specs.Prelude.{nat_lt, length, codes, find, IfSome}
 use Rattle.std.specs.Option.{option_map_or}
 use Rattle.std.specs.Str.{str_to_ascii_uppercase, bytes_eq}
 use Rattle.std.proofs.lemmas.Bool.{cases_Bool}
-use Rattle.std.proofs.lemmas.Bool.Decides.{nat_tests}
 use Rattle.std.proofs.lemmas.Slice.Eq.{bytes_eq-Decides}
 use Rattle.lx_base.specs.declared.TheConstants.{LINE_BYTES}
 use Rattle.lx_spec.specs.declared.Line.{Line}
@@ -63,13 +62,6 @@ no_asking (Some what) b others is = let other : b ≡ false = others what refl i
 
 pub quit_asks_nothing : (line : List ℕ) → ends_script line ≡ true → undo_line_of line ≡ None
 quit_asks_nothing line quit = no_asking (undo_line_of line) (ends_script line) (goes_on line) quit
-
-too_long : (line : List ℕ) → LINE_BYTES < length line → nat_lt LINE_BYTES (length line) ≡ true
-too_long line long = grind (arith, nat_tests)
-
--- a line that is too long asks nothing
-pub asked_nothing : (text : List ℕ) → LINE_BYTES < length text → None ≡ undo_line_of text
-asked_nothing text long = rw (too_long text long) refl
 
 -- the numbers of a line are in their range
 pub valid_meaning : (given : Option (List ℕ)) (meaning : Option Line) → meaning ≡ meaning_of given → IfSome meaning ValidLine

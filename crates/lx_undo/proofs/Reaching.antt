@@ -1,5 +1,5 @@
 -- Commands of one line, one after another, bring a desk with its history to the state after them.
-use Rattle.std.proofs.Common.{◌≡◌, ℕ, zero, suc, ◌+◌, ◌-◌, ◌≤◌, ◌<◌, Bool, true, false, ◌||◌, Option, Some, None, Result, Ok, Err, List, [], ◌∷◌}
+use Rattle.std.proofs.Common.{◌≡◌, ℕ, ◌+◌, ◌-◌, ◌≤◌, ◌<◌, Bool, true, false, ◌||◌, Option, Some, None, Result, Ok, Err, List, [], ◌∷◌}
 use Rattle.std.proofs.Common.{◌++◌, length, refl, sym, ap, ◌∙◌, subst, arith, inl, inr, IsOkAnd, length-append, append-nil}
 use Rattle.std.specs.Prelude.{◌⊎◌, OnErr, IsOk, IfSome, if◌then◌else◌}
 use Rattle.std.specs.List.{list_any}
@@ -19,7 +19,7 @@ use Rattle.lx_spec.specs.SessionOf.{SessionOf, at_desk}
 use Rattle.lx_spec.specs.Undo.{UndoState, replaced, undo_step}
 use Rattle.lx_spec.specs.ValidEdit.{ValidCommand, ValidLine}
 use Rattle.lx_console.specs.Standing.{StandsFor, Refuses}
-use Rattle.lx_session.specs.Attempts.{Attempted, after_commands, heard_of}
+use Rattle.lx_session.specs.Attempts.{after_commands}
 use Rattle.lx_session.specs.LineState.{LineState, next_of, unattempted}
 use Rattle.lx_session.specs.LineProgress.{LineProgress}
 use Rattle.lx_session.proofs.AttemptSteps.{begun, next_is, attempted_at}
@@ -155,11 +155,10 @@ one_refused : (s : SessionOf UndoState) (old turn : LineState) (c : Command) (be
 one_refused s old turn c before now refusal some same steps t =
     let next = next_is turn c some in
     attempted_at true (HasReached s.state before (old.left - turn.left)) (HasReached s.state now (old.left - (turn.left - 1)))
-    (at_desk s.state.desk s) old turn c before.console now.console (Some refusal) true t next (λ every. refl)
-    (
+    (at_desk s.state.desk s) old turn c before.console now.console (Some refusal) true t next (λ every. refl) (
       subst (λ (u : UndoKept). StandsFor t.now.desk u.console) (sym same) t.stands,
       subst (λ (d : Desk). Refuses d c refusal) (sym t.desk)
-      (refuses (reached s.state t.commands) c refusal (steps (reached s.state t.commands) t.listened.stands)),
+          (refuses (reached s.state t.commands) c refusal (steps (reached s.state t.commands) t.listened.stands)),
     )
     (λ done h. record {
       few = let same_length : length (done ++ []) ≡ length done = ap length (append-nil done) in

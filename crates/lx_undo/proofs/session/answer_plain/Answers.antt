@@ -1,7 +1,6 @@
-use Rattle.std.proofs.Common.{◌≡◌, ◌∙◌, Option, List, ℕ, ap, sym, subst}
-use Rattle.std.specs.Prelude.{IfSome, option_copied}
-use Rattle.lx_spec.specs.declared.Line.{Line}
-use Rattle.lx_session.specs.LineState.{LineState, meaning_of, unattempted}
+use Rattle.std.proofs.Common.{◌∙◌, ap, sym}
+use Rattle.std.specs.Prelude.{option_copied}
+use Rattle.lx_session.specs.LineState.{LineState, unattempted}
 use Rattle.lx_undo.proofs.Answered.{answered_line, more_by}
 use Rattle.lx_undo.proofs.Lines.{valid_meaning}
 use Rattle.lx_undo.proofs.session.answer_plain.Goals as goal
