@@ -83,5 +83,7 @@ fn run<S: Source, K: Sink>(alloc: Global, job: Job, input: &mut S, output: &mut 
         Job::Sheet(form) => sheet(alloc, form, input, output),
         Job::Make(cues) => make(alloc, cues, output),
         Job::Run(..) => Status::Live,
+        Job::Undo(form) => render(alloc, form, input, output),
+        Job::Two(form) => render(alloc, form, input, output),
     }
 }

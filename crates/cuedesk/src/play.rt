@@ -5,6 +5,7 @@ ghost use Rattle.lx_base.specs.declared.TheConstants.{INPUT_BYTES};
 ghost use Rattle.lx_lex.specs.Unread.{unread};
 ghost use Rattle.lx_spec.specs.Text.{lines_of};
 ghost use Rattle.lx_spec.specs.Desk.{opened};
+ghost use Rattle.cuedesk.specs.Answering.{by_desk};
 ghost use Rattle.cuedesk.specs.Faults.{status_for};
 ghost use Rattle.cuedesk.specs.Output.{AnswersInFront};
 ghost use Rattle.cuedesk.specs.Endings.{EndsScript, HasPlayed, HasCauseOf};
@@ -29,10 +30,10 @@ pub(crate) fn play<S: Source, K: Sink>(
     ensures same_reference { lines.new.source.ghost_name ≡ lines.old.source.ghost_name }
     ensures works { EndsScript result }
     ensures ended { IfSome (unread S.left lines.old)
-        (λ bytes. HasPlayed result (opened show) lines.old.taken bytes (S.left lines.new.source.now) (K.holds output.old)
+        (λ bytes. HasPlayed result (by_desk (opened show)) lines.old.taken bytes (S.left lines.new.source.now) (K.holds output.old)
         (K.holds output.new)) }
     ensures front { IfSome (unread S.left lines.old)
-        (λ bytes. AnswersInFront (opened show) (lines_of bytes) (K.holds output.old) (K.holds output.new)) }
+        (λ bytes. AnswersInFront (by_desk (opened show)) (lines_of bytes) (K.holds output.old) (K.holds output.new)) }
     ensures later { S.faults lines.old.source.now ≤ S.faults lines.new.source.now }
     ensures cause { HasCauseOf result (S.faults lines.old.source.now) (S.faults lines.new.source.now) (K.faults output.old)
         (K.faults output.new) }
