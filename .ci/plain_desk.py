@@ -2,8 +2,8 @@
 scratch when somebody looks. `program.py` compares the built program with it; docs/FORMATS.md and docs/DEFINITIONS.md say the
 rules. It is slow, and reads no clock, file or stream.
 
-    output(words, data) -> (status, bytes)      what the program must answer for `render`, `undo`, `two`, `check` or `sheet`, each also with
-                                                `states`, and on standard output for `run`
+    output(words, data) -> (status, bytes)      what the program must answer for `render`, `undo`, `two`, `check` or `sheet`, each also
+                                                with `states`, and on standard output for `run`
     versions(data, universe) -> [bytes]         the lines that an outlet of a live run may have
 """
 import copy
@@ -550,7 +550,8 @@ class UndoScript(Script):
 
 class TwoScript(Script):
     """A line that begins with `2` is for the second list, which has the cues from 5000 on."""
-    SECOND = ("go back settle goto sheet save cue delete set release time part unpart block unblock assert unassert follow label group").split()
+    SECOND = ("go back settle goto sheet save cue delete set release time part unpart block unblock assert unassert follow label"
+              " group").split()
 
     def __init__(self, show):
         first, second = copy.deepcopy(show), copy.deepcopy(show)
