@@ -4,7 +4,6 @@ use Rattle.lx_spec.specs.declared.Form.{Form}
 use Rattle.lx_spec.specs.declared.Job.TheVariants.{Render, Run, Undo, Two}
 use Rattle.lx_spec.specs.declared.TextFault.{TextFault}
 use Rattle.lx_spec.specs.Show.{Show}
-use Rattle.lx_spec.specs.Desk.{opened}
 use Rattle.lx_spec.specs.Reading.{Reading, reads, script_of}
 use Rattle.lx_spec.specs.RenderOutput.{first_replies, OutputPlacesAreEdits}
 use Rattle.lx_spec.specs.SessionOf.{Answer}
@@ -12,17 +11,8 @@ use Rattle.lx_spec.specs.SessionOutput.{session_replies, SessionWants}
 use Rattle.lx_spec.specs.UndoSession.{undo_answer, UndoMayWant}
 use Rattle.lx_spec.specs.TwoLists.{opened_two, two_answer, TwoMayWant}
 use Rattle.lx_spec.specs.Job.{opened_undo}
-use Rattle.cuedesk.specs.Answering.{Answering, by_desk, by_session}
+use Rattle.cuedesk.specs.Answering.{render_by, undo_by, two_by}
 use Rattle.cuedesk.proofs.Inputs.{IsOfScript, IsOverShow, script_over, nothing_wanted, nothing_of_session}
-
-pub render_by : Show → Answering
-render_by show = by_desk (opened show)
-
-pub undo_by : Show → Answering
-undo_by show = by_session undo_answer UndoMayWant (opened_undo show)
-
-pub two_by : Show → Answering
-two_by show = by_session two_answer TwoMayWant (opened_two show)
 
 -- none of the replies are those to no line
 none_replied : (r : Result Reading TextFault) (script : List (List ℕ)) → first_replies r script [] 0 ≡ []

@@ -9,6 +9,7 @@ use crate::check::check;
 use crate::make::make;
 use crate::render::render;
 use crate::sheet::sheet;
+use crate::undo::undo;
 use crate::words::{WordsFault, words_of};
 use lx_io::{Sink, Source};
 use lx_spec::Job;
@@ -83,7 +84,7 @@ fn run<S: Source, K: Sink>(alloc: Global, job: Job, input: &mut S, output: &mut 
         Job::Sheet(form) => sheet(alloc, form, input, output),
         Job::Make(cues) => make(alloc, cues, output),
         Job::Run(..) => Status::Live,
-        Job::Undo(form) => render(alloc, form, input, output),
+        Job::Undo(form) => undo(alloc, form, input, output),
         Job::Two(form) => render(alloc, form, input, output),
     }
 }

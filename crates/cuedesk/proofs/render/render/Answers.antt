@@ -2,7 +2,8 @@ use Rattle.std.proofs.Common.{sym, ◌∙◌, subst, IfSome}
 use Rattle.lx_spec.specs.declared.Job.TheVariants.{Render}
 use Rattle.cuedesk.specs.Endings.{HasEnded}
 use Rattle.cuedesk.proofs.Inputs.{session_front, refusal_front}
-use Rattle.cuedesk.proofs.ScriptJobs.{render_by, render_script, render_over}
+use Rattle.cuedesk.specs.Answering.{render_by}
+use Rattle.cuedesk.proofs.ScriptJobs.{render_script, render_over}
 use Rattle.cuedesk.proofs.Endings.{script_job, script_ended, refusal_ends, refusal_ended}
 use Rattle.cuedesk.proofs.render.render.Goals as goal
 
