@@ -22,7 +22,7 @@ use Rattle.lx_spec.specs.Show.{Show}
 use Rattle.lx_spec.specs.Reading.{Reading, reads, script_of, lines_read}
 use Rattle.lx_spec.specs.CutInput.{HasNoFeed, first_lines}
 use Rattle.lx_spec.specs.RenderOutput.{input_lines_wanted, input_wanted, OutputPlacesAreEdits}
-use Rattle.lx_spec.specs.SessionOf.{Answer, SessionOf, begin_with, WantsAtEach, PlacesAreAllowed}
+use Rattle.lx_spec.specs.SessionOf.{Answer, begin_with, PlacesAreAllowed}
 use Rattle.lx_spec.specs.SessionOutput.{SessionWants}
 use Rattle.lx_spec.specs.FaultLine.{over_show, fault_text}
 use Rattle.lx_spec.specs.Session.{begin_at, ends_script, lines_wanted, bytes_wanted}
@@ -33,6 +33,7 @@ use Rattle.lx_reader.specs.LineFaults.{show_fault}
 use Rattle.lx_reader.specs.HandedLines.{MeansFault, IsPastLimit, IsCutShort}
 use Rattle.lx_reader.specs.Answer.{reading_of, HasRead, OfText, CutShort}
 use Rattle.lx_session.proofs.Places.{wants_nothing}
+use Rattle.lx_session.proofs.AnsweredPlaces.{wants_at_none}
 use Rattle.cuedesk.specs.declared.desk.Status.{Status}
 use Rattle.cuedesk.specs.declared.desk.Status.TheVariants as status
 use Rattle.lx_spec.specs.declared.Job.{Job}
@@ -60,15 +61,10 @@ nothing_wanted bytes (Ok reading) = wants_nothing [] (begin_at (opened reading.s
     (λ n has. no_place n 0 has)
 nothing_wanted bytes (Err fault) = tt
 
--- nothing is wanted of a session where no place is given
-none_wanted_at : {S : Type 0} (answer : Answer S) (MayWant : S → List ℕ → Type 0) (s : SessionOf S) (script : List (List ℕ))
-    → WantsAtEach answer MayWant [] s script
-none_wanted_at answer MayWant s [] = tt
-none_wanted_at answer MayWant s (line ∷ script) = (λ n some most has. absurd cc, none_wanted_at answer MayWant (answer [] s line) script)
-
+-- a session of which nothing is wanted
 pub none_allowed : {S : Type 0} (answer : Answer S) (MayWant : S → List ℕ → Type 0) (state : S) (script : List (List ℕ))
     → PlacesAreAllowed answer MayWant state script []
-none_allowed answer MayWant state script = none_wanted_at answer MayWant (begin_with state) (before_first ends_script script)
+none_allowed answer MayWant state script = wants_at_none answer MayWant (begin_with state) (before_first ends_script script)
 
 pub nothing_of_session : {S : Type 0} (answer : Answer S) (MayWant : S → List ℕ → Type 0) (opening : Show → S) (bytes : List ℕ)
     (r : Result Reading TextFault) → SessionWants answer MayWant opening bytes [] r

@@ -1,21 +1,14 @@
 -- What the status says of a session of any kind.
-use Rattle.std.proofs.Common.{◌≡◌, ℕ, Result, Ok, Err, Option, Some, None, IfSome, List, [], ◌∷◌, ◌++◌, length, take, drop, refl}
-use Rattle.std.proofs.Common.{take-append-drop, sym, ap, ◌∙◌, subst, append-nil, append_assoc}
-use Rattle.std.specs.List.{before_first}
-use Rattle.std.specs.Io.KnownBytes.{Appends}
-use Rattle.std.proofs.lemmas.List.Sums.{fold-append}
-use Rattle.lx_io.specs.Puts.{AppendsFront}
-use Rattle.lx_io.proofs.Chain.{AppendsFront-is, AppendsFront-from}
-use Rattle.std.proofs.Math.Seq.{take-append_seam}
+use Rattle.std.proofs.Common.{ℕ, Result, Ok, Err, Option, IfSome, List}
 use Rattle.lx_spec.specs.Text.{lines_of}
-use Rattle.lx_spec.specs.Session.{ends_script}
-use Rattle.lx_spec.specs.SessionOf.{SessionOf, Answer, begin_with, after_each, whole_session, session_after}
-use Rattle.lx_session.specs.OneAnswer.{ExtendsSession}
+use Rattle.lx_spec.specs.SessionOf.{Answer}
+use Rattle.lx_session.specs.OneAnswer.{IsLawful}
 use Rattle.lx_session.specs.declared.fault.SessionFault.{SessionFault}
 use Rattle.lx_session.specs.declared.fault.SessionFault.TheVariants as faults
 use Rattle.lx_session.specs.declared.tally.Tally.{Tally}
 use Rattle.lx_session.specs.SessionOutcome.{KeepsLimit}
 use Rattle.lx_session.specs.ScriptAnswered.{AnsweredPrefix, AnsweredTaken, ScriptAnswered}
+use Rattle.lx_session.proofs.ScriptEnds.{front_of_whole, first_of_whole}
 use Rattle.cuedesk.specs.Answering.{by_session}
 use Rattle.cuedesk.specs.Faults.{status_for}
 use Rattle.cuedesk.specs.Output.{AnswersInFront, AnswersTaken}
@@ -23,57 +16,26 @@ use Rattle.cuedesk.specs.Endings.{HasPlayed}
 use Rattle.cuedesk.proofs.Inputs.{whole_front}
 use Rattle.cuedesk.proofs.Endings.{if_known, both_known}
 
--- a front of a text is one of a longer text
-front_longer : (h h' : Option (List ℕ)) (text more longer : List ℕ) → longer ≡ text ++ more → AppendsFront h h' text
-    → AppendsFront h h' longer
-front_longer h h' text more longer is p =
-    let part = AppendsFront-is h h' text p in
-    let front = take part.0 text in
-    let all : longer ≡ front ++ (drop part.0 text ++ more) = is ∙ ap (λ v. v ++ more) (sym (take-append-drop part.0 text))
-    ∙ append_assoc front (drop part.0 text) more in
-    AppendsFront-from h h' longer (length front)
-    (subst (λ (v : List ℕ). Appends h h' v) (sym (ap (take (length front)) all ∙ take-append_seam front (drop part.0 text ++ more))) part.1)
-
--- Of what answers a line so, where a line only adds to the text.
-module _ {S : Type 0} (answer : Answer S) (MayWant : S → List ℕ → Type 0)
-    (extends : (places : List ℕ) (s : SessionOf S) (line : List ℕ) → ExtendsSession s (answer places s line)) where
-  -- The replies to the first lines are a front of the replies to all.
-  text_grows : (places : List ℕ) (s : SessionOf S) (script : List (List ℕ)) → (more : List ℕ)
-      × ((after_each answer places s script).text ≡ s.text ++ more)
-  text_grows places s [] = ([], sym (append-nil s.text))
-  text_grows places s (line ∷ script) =
-      let next = extends places s line in
-      let rest = text_grows places (answer places s line) script in
-      (next.more ++ rest.0, rest.1 ∙ ap (λ v. v ++ rest.0) next.text ∙ append_assoc s.text next.more rest.0)
-
-  more_replies : (state : S) (script : List (List ℕ)) (places : List ℕ) (n : ℕ) → (more : List ℕ)
-      × ((whole_session answer state script places).text ≡ (session_after answer state script places n).text ++ more)
-  more_replies state script places n =
-      let lines = before_first ends_script script in
-      let later = text_grows places (session_after answer state script places n) (drop n lines) in (
-        later.0,
-        ap (λ ls. (after_each answer places (begin_with state) ls).text) (sym (take-append-drop n lines))
-            ∙ ap (λ (s : SessionOf S). s.text) (fold-append (answer places) (begin_with state) (take n lines) (drop n lines)) ∙ later.1,
-      )
-
-  -- How a session answered, however it ended.
+-- Of what answers a line so.
+module _ {S : Type 0} (answer : Answer S) (MayWant : S → List ℕ → Type 0) (lawful : IsLawful answer) where
+  -- However it ended, it answered by a prefix.
   front_by : (Stands : S → Type 0) (state : S) (bytes : List ℕ) (unread h h' : Option (List ℕ))
       → AnsweredPrefix answer MayWant Stands state bytes unread h h'
       → AnswersInFront (by_session answer MayWant state) (lines_of bytes) h h'
-  front_by Stands state bytes unread h h' a =
-      let more = more_replies state (lines_of bytes) a.places a.lines in
-      record { places = a.places; wants = a.wants; text = front_longer h h' _ more.0 _ more.1 a.text }
+  front_by Stands state bytes unread h h' a = record {
+    places = a.places;
+    wants = a.wants;
+    text = front_of_whole answer lawful state (lines_of bytes) a.places a.lines h h' a.text;
+  }
 
   taken_front : (Stands : S → Type 0) (state : S) (before : ℕ) (bytes : List ℕ) (left h h' : Option (List ℕ))
       → AnsweredTaken answer MayWant Stands state before bytes left h h'
       → AnswersInFront (by_session answer MayWant state) (lines_of bytes) h h'
-  taken_front Stands state before bytes left h h' a =
-      let more = more_replies state (lines_of bytes) a.places a.cut.lines in
-      record {
-        places = a.places;
-        wants = a.wants;
-        text = front_longer h h' _ more.0 _ more.1 (whole_front h h' _ a.text);
-      }
+  taken_front Stands state before bytes left h h' a = record {
+    places = a.places;
+    wants = a.wants;
+    text = first_of_whole answer lawful state (lines_of bytes) a.places a.cut.lines h h' a.text;
+  }
 
   pub answered_front_by : (Stands : S → Type 0) (state : S) (before : ℕ) (o unread left h h' : Option (List ℕ))
       (r : Result Tally SessionFault)

@@ -1,14 +1,11 @@
 //! The script over a show that was read.
 
-ghost use Rattle.std.specs.Prelude.{◌≡◌, ◌≤◌, ℕ, IfSome, IsTrue, List};
+ghost use Rattle.std.specs.Prelude.{◌≡◌, ◌≤◌, IfSome, IsTrue};
 ghost use Rattle.lx_base.specs.declared.TheConstants.{INPUT_BYTES};
 ghost use Rattle.lx_lex.specs.Unread.{CanAdvance, SameSource, bytes_taken, source_faults, source_left, unread};
 ghost use Rattle.lx_spec.specs.Text.{lines_of};
 ghost use Rattle.lx_spec.specs.Desk.{opened};
-ghost use Rattle.lx_spec.specs.SessionOf.{SessionOf};
-ghost use Rattle.lx_session.specs.OneAnswer.{ExtendsSession};
-ghost use Rattle.lx_session.specs.ScriptAnswered.{ScriptAnswered};
-ghost use Rattle.lx_session.specs.SessionOutcome.{HasSessionCause, KeepsLimit};
+ghost use Rattle.lx_session.specs.OneAnswer.{IsLawful};
 ghost use Rattle.cuedesk.specs.Answering.{by_desk, by_session};
 ghost use Rattle.cuedesk.specs.Faults.{status_for};
 ghost use Rattle.cuedesk.specs.Output.{AnswersInFront};
@@ -18,7 +15,7 @@ use crate::desk::Status;
 use lx_console::Console;
 use lx_io::{Sink, Source};
 use lx_lex::Lines;
-use lx_session::{Answers, SessionFault, Tally, session};
+use lx_session::{Answers, SessionFault, Tally, answer_lines, session};
 use lx_show::Show;
 use std::alloc::Global;
 
@@ -56,7 +53,7 @@ pub(crate) fn play_by<A: Answers, S: Source, K: Sink>(
 ) -> Status
     requires going { CanAdvance lines.old }
     requires within { bytes_taken lines.old ≤ INPUT_BYTES }
-    requires lawful { (places : List ℕ) (s : SessionOf A.State) (line : List ℕ) → ExtendsSession s (A.answer_of places s line) }
+    requires lawful { IsLawful A.answer_of }
     ensures same_source { SameSource lines.old lines.new }
     ensures works { EndsScript result }
     ensures ended { (state : A.State) → A.stands state answerer.old
@@ -84,25 +81,4 @@ pub(crate) fn status_of(ended: Result<Tally, SessionFault>) -> Status
         Err(SessionFault::InputTooLong) => Status::InputTooLong,
         Err(SessionFault::Memory) => Status::Memory,
     }
-}
-
-/// STUB
-fn answer_lines<A: Answers, S: Source, K: Sink>(
-    answerer: &mut A,
-    lines: &mut Lines<S>,
-    sink: &mut K,
-) -> Result<Tally, SessionFault>
-    requires going { CanAdvance lines.old }
-    requires within { bytes_taken lines.old ≤ INPUT_BYTES }
-    ensures same_source { SameSource lines.old lines.new }
-    ensures outcome { (state : A.State) → A.stands state answerer.old → IfSome (unread S.left lines.old)
-        (λ bytes. ScriptAnswered A.answer_of A.may_want (λ s. A.stands s answerer.new) state (bytes_taken lines.old) bytes
-        (unread S.left lines.new) (source_left S.left lines.new) (K.holds sink.old) (K.holds sink.new) result) }
-    ensures limit { IfSome (unread S.left lines.old) (λ bytes. KeepsLimit (bytes_taken lines.old) bytes result) }
-    ensures cause { HasSessionCause S.faults K.faults K.wants lines.old lines.new sink.old sink.new result }
-{
-    let _ = answerer;
-    let _ = lines.advance();
-    let _ = sink.flush();
-    Err(SessionFault::Memory)
 }
