@@ -10,11 +10,14 @@ ghost use Rattle.cuedesk.specs.Output.{WritesPrefix, AnswersInFront};
 ghost use Rattle.cuedesk.specs.Endings.{EndsJob, EndsScript, HasEnded, HasPlayed, HasCauseOf};
 
 use crate::desk::Status;
+use crate::play::play_by;
 use crate::refuse::refuse;
+use lx_base::UNDO_DEPTH;
 use lx_io::{Sink, Source};
 use lx_lex::Lines;
 use lx_reader::read_show;
 use lx_show::{Form, Show};
+use lx_undo::UndoDesk;
 use std::alloc::Global;
 
 /// Reads a show and then a script, and answers the script over the show. What the last edits and records replaced can be brought back.
@@ -57,6 +60,8 @@ fn play_with_undo<S: Source, K: Sink>(
     ensures cause { HasCauseOf result (source_faults S.faults lines.old) (source_faults S.faults lines.new) (K.faults output.old)
         (K.faults output.new) }
 {
-    let _ = (alloc, show, lines.advance(), output.flush());
-    Status::Memory
+    let Ok(mut desk) = UndoDesk::open(alloc, show, UNDO_DEPTH) else {
+        return Status::Memory;
+    };
+    play_by(&mut desk, lines, output)
 }
