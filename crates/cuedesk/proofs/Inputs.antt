@@ -345,8 +345,11 @@ module _ (form : Form) where
         of.output x [] ∙ ap (λ r. over_show r (λ reading. (by reading.show).whole (script_of x) [])) text;
     wanted = λ x fault text. of.bytes x ∙ ap (λ k. first_lines k x) (ap (input_lines_wanted x) text);
     longer = λ x n h.
-        omega (arith, ap length (of.bytes x),
-        first_lines-longer (n + 1) (input_lines_wanted x (reads form x)) x (more_wanted x n (reads form x) h));
+        omega (
+          arith,
+          ap length (of.bytes x),
+          first_lines-longer (n + 1) (input_lines_wanted x (reads form x)) x (more_wanted x n (reads form x) h),
+        );
     cut = λ x left h i none short. of.taken x left h h (cut_within job by of x left h i none short);
   }
 
