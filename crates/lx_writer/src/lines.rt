@@ -65,8 +65,8 @@ fn write_lines(moves: &[Move], part: PartNo, text: &mut [u8; PIECE_BYTES]) -> us
     let mut left = moves.len();
     while left > 0 {
         left -= 1;
-        let entry = &moves[left];
-        if stands_in(entry, part) {
+        let entry = moves[left];
+        if stands_in(&entry, part) {
             start = write_line(entry.chan, entry.level, text, start);
         }
     }
