@@ -104,7 +104,9 @@ refuses : (s : UndoState) (c : Command) (refusal : Refusal)
     → (undo_step s c ≡ Err refusal) ⊎ WantsMemory (is_edit c) (undo_step s c) refusal → Refuses s.desk c refusal
 refuses s c refusal refused = elim refused [
   | inl own ↦ inl (refused_by (then_at s c) (step s.desk c) refusal own)
-  | inr want ↦ inr (record { edit = want.takes_some; memory = want.memory; accepted = accepts_by (then_at s c) (step s.desk c) want.accepted })
+  | inr want ↦
+      let takes : IsOk (step s.desk c) = accepts_by (then_at s c) (step s.desk c) want.accepted in
+      inr (record { edit = want.takes_some; memory = want.memory; accepted = takes })
 ]
 
 -- as many commands as there were attempts
