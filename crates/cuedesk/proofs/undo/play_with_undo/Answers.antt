@@ -14,7 +14,7 @@ returns-in_default-clause-front g c = nothing_answered_by (undo_by c.args.show)
     (none_allowed undo_answer UndoMayWant (opened_undo c.args.show)) _ _
 
 pub play_by-requires-clause-lawful : goal.play_by-requires-clause-lawful
-play_by-requires-clause-lawful g c = λ κs bounds. undo_lawful
+play_by-requires-clause-lawful g c = undo_lawful
 
 pub returns-clause-ended : goal.returns-clause-ended
 returns-clause-ended g c = c.play_by.ensures.ended (opened_undo c.args.show) c.in-Ok.ensures
