@@ -2,8 +2,8 @@
 scratch when somebody looks. `program.py` compares the built program with it; docs/FORMATS.md and docs/DEFINITIONS.md say the
 rules. It is slow, and reads no clock, file or stream.
 
-    output(words, data) -> (status, bytes)      what the program must answer for `render`, `check` or `sheet`, each also with `states`,
-                                                and on standard output for `run`
+    output(words, data) -> (status, bytes)      what the program must answer for `render`, `undo`, `two`, `check` or `sheet`, each also
+                                                with `states`, and on standard output for `run`
     versions(data, universe) -> [bytes]         the lines that an outlet of a live run may have
 """
 import copy
@@ -73,13 +73,17 @@ class Desk:
 
         return value
 
+    def on_stage(self, channel):
+        """What plays on a channel, before submasters and master."""
+        return self.level(channel)
+
     def slots(self, universe):
         outs = {}
 
         def out(channel):
             if channel not in outs:
                 given = [members.get(channel, 0) * self.faders.get(s, 0) // 255 for s, (_, members) in self.show.subs.items()]
-                outs[channel] = max([self.level(channel)] + given) * self.master // 255
+                outs[channel] = max([self.on_stage(channel)] + given) * self.master // 255
             return outs[channel]
 
         slots = [0] * 512
@@ -161,6 +165,60 @@ class Desk:
         self.show = after
 
 
+class UndoDesk(Desk):
+    """A desk that keeps the shows which its edits and records replaced: the last 16 of them, and those that were taken back."""
+    DEPTH = 16
+
+    def __init__(self, show):
+        super().__init__(show)
+        self.back, self.forth = [], []
+
+    def edit(self, change, number=None, only=False):
+        before = self.show
+        super().edit(change, number, only)
+        self.back, self.forth = (self.back + [before])[-self.DEPTH:], []
+
+    def record(self, n, only):
+        """The cue takes the levels on stage, where tracking gives others."""
+        if n not in self.show.cues and len(self.show.cues) == CUES:
+            raise Refused("CueLimit")
+        levels = {c: self.on_stage(c) for c in range(1, self.show.channels + 1)}
+
+        def change(show):
+            cue = show.cues.setdefault(n, Cue())
+            for c, to in {c: to for c, to in levels.items() if show.tracked(n, c) != to}.items():
+                cue.moves[c] = (cue.moves.get(c, (1, 0))[0], to)
+
+        self.edit(change, n, only)
+
+    def undo(self):
+        if not self.back:
+            raise Refused("NothingToUndo")
+        self.forth.insert(0, self.show)
+        self.show = self.back.pop()
+
+    def redo(self):
+        if not self.forth:
+            raise Refused("NothingToRedo")
+        self.back.append(self.show)
+        self.show = self.forth.pop(0)
+
+
+class FirstList(Desk):
+    """The first of two cue lists: what the second plays counts beside it, and a tick is of both."""
+
+    def __init__(self, show, second):
+        super().__init__(show)
+        self.second = second
+
+    def on_stage(self, channel):
+        return max(self.level(channel), self.second.level(channel))
+
+    def tick(self):
+        super().tick()
+        self.second.tick()
+
+
 # ---------------------------------------------------------------------------------------------------------------------
 # The script.
 
@@ -221,10 +279,10 @@ class Words:
 
 
 class Script:
-    """Answers a script over a show."""
+    """Answers a script on a desk."""
 
-    def __init__(self, show):
-        self.desk = Desk(show)
+    def __init__(self, desk):
+        self.desk = desk
 
     def answer(self, lines):
         out = b""
@@ -477,6 +535,46 @@ class Script:
         self.desk.edit(change)
 
 
+class UndoScript(Script):
+    """Three lines more are known."""
+
+    def line(self, word, words, line):
+        if word in ("undo", "redo"):
+            words.end()
+            return self.desk.undo() if word == "undo" else self.desk.redo()
+        if word == "record":
+            n = words.next(cue_number)
+            return self.desk.record(n, words.only())
+        return super().line(word, words, line)
+
+
+class TwoScript(Script):
+    """A line that begins with `2` is for the second list, which has the cues from 5000 on."""
+    SECOND = ("go back settle goto sheet save cue delete set release time part unpart block unblock assert unassert follow label"
+              " group").split()
+
+    def __init__(self, show):
+        first, second = copy.deepcopy(show), copy.deepcopy(show)
+        first.cues = {n: cue for n, cue in first.cues.items() if n < 5_000_000}
+        second.cues = {n: cue for n, cue in second.cues.items() if n >= 5_000_000}
+        self.second = Script(Desk(second))
+        super().__init__(FirstList(first, self.second.desk))
+
+    def line(self, word, words, line):
+        if word != "2":
+            return super().line(word, words, line)
+        rest = rest_after(line, 1)
+        tokens = tokens_of(rest)
+        word = tokens[0].lower().decode("latin-1") if tokens else ""
+        if word not in self.SECOND:
+            raise Bad
+        return self.second.line(word, Words(tokens[1:]), rest)
+
+
+def script_for(job, show):
+    return UndoScript(UndoDesk(show)) if job == "undo" else TwoScript(show) if job == "two" else Script(Desk(show))
+
+
 # ---------------------------------------------------------------------------------------------------------------------
 
 
@@ -484,7 +582,7 @@ def versions(data, universe):
     """The line of each version of a universe in a live run: after no command, after the first that is accepted, and so on."""
     lines, reader = lines_of(data), Reader()
     read = reader.read(lines, "moves")
-    script, out = Script(reader.show), []
+    script, out = Script(Desk(reader.show)), []
 
     def version():
         desk = script.desk
@@ -512,4 +610,4 @@ def output(words, data):
         return 0, text.encode()
     if words[0] == "sheet":
         return 0, sheet_text(reader.show)
-    return 0, Script(reader.show).answer(lines[read:])
+    return 0, script_for(words[0], reader.show).answer(lines[read:])

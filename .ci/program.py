@@ -67,7 +67,8 @@ def job_cases():
     """The words of `make` and `run`. What the greater numbers come to was worked out by a desk that was written apart, from the same rules."""
     wrong = [("make",), ("make", "0"), ("make", "4001"), ("make", "01"), ("make", "1", "2"), ("make", "+1"), ("make", "-1"),
              ("make", "1x"), ("make", ""), ("make", "4294967297"), ("make", "1", "states"), ("run",), ("run", "0"), ("run", "33"),
-             ("run", "01"), ("run", "1", "moves"), ("run", "states"), ("render", "-"), ("check", "--"), ("-h",), ("help",), ("--version",)]
+             ("run", "01"), ("run", "1", "moves"), ("run", "states"), ("undo", "moves"), ("undo", "1"), ("Undo",),
+             ("undo", "states", "states"), ("render", "-"), ("check", "--"), ("-h",), ("help",), ("--version",)]
     return [made(words, "", status=2, error=USAGE) for words in wrong] + [
         made(("make", "1"), "cues 1\nmoment 174\nok 3\nrefused 0\nsum 127\n"),
         made(("make", "30"), "cues 30\nmoment 3308\nok 90\nrefused 0\nsum 16319\n"),
@@ -87,9 +88,11 @@ def edge_cases():
         Case("status 4 where the output is a full device", ONE_CUE + "go\n", "", status=4, full=True),
         Case("status 4 where a refused show's line can't be written", "CUE 1\n", "", status=4, full=True),
         *[Case(f"status 4 of {' '.join(words)} on a full device", ONE_CUE + "go\n", "", status=4, words=words, full=True)
-          for words in (("check",), ("check", "states"), ("sheet",), ("sheet", "states"), ("make", "1"), ("render", "states"), ("run", "1"))],
+          for words in (("check",), ("check", "states"), ("sheet",), ("sheet", "states"), ("make", "1"), ("render", "states"), ("run", "1"),
+                        ("undo",), ("undo", "states"))],
         *[Case(f"status 3 of {' '.join(words)} on a folder", b"", "", status=3, words=words, folder=True)
-          for words in (("check",), ("check", "states"), ("sheet",), ("sheet", "states"), ("render", "states"), ("run", "1"), ("run", "1", "states"))],
+          for words in (("check",), ("check", "states"), ("sheet",), ("sheet", "states"), ("render", "states"), ("run", "1"),
+                        ("run", "1", "states"), ("undo",), ("undo", "states"))],
         Case("status 5 for lack of memory", "IDENT 3:0\nSET CHANNELS 4096\nENDDATA\ngo\n", "", status=5, memory=3 << 20),
         Case("status 6 for an input that is too long", b"\n" * INPUT_BYTES + b"X", "", status=6),
         Case("status 6 for a script that is too long", (ONE_CUE + "go\n").encode() + b"!" * INPUT_BYTES, "ok\n", status=6),
@@ -240,6 +243,41 @@ def assert_cases():
         Case("$$ASSERT is saved behind $$BLOCK, and skipped outside of a cue",
              "$$ASSERT\nIDENT 3:0\nSUB 1\n$$ASSERT\nCUE 1\n$$assert\n$$BLOCK\nTEXT x\nENDDATA\nsave\n",
              "IDENT 3:0\nSET CHANNELS 512\nSUB 1\nCUE 1\n$$BLOCK\n$$ASSERT\nTEXT x\nPART 1\nUP 5 0\nDOWN 5 0\nENDDATA\n"),
+    ]
+
+
+def undo_cases():
+    """Cue 1 brings channel 1 to full in 10 seconds, and is half way there after 250 ticks."""
+    def over(name, script, replies, cues="", text=None, **special):
+        before = show("CUE 1\nUP 10\nCHAN 1@FL\n" + cues) if text is None else text
+        return Case(f"undo: {name}", before + script.replace("|", "\n") + "\n", replies.replace("|", "\n") + "\n", words=("undo",), **special)
+
+    wrong = ["undo 1", "redo all", "record", "record 0", "record x", "record 1 2", "record 1 chan 1", "record only", "record 1 only only",
+             "undo x" + " " * 4096]
+    full = "IDENT 3:0\n" + "".join(f"CUE {n}\n" for n in range(1, 4001)) + "ENDDATA\n"
+    first = "IDENT 3:0|SET CHANNELS 512|PATCH 1 1<1@HFF|CUE 1|TEXT 0|PART 1|UP 10 0|DOWN 5 0|CHAN 1@HFF|ENDDATA"
+    return [
+        over("what was recorded goes back and forth",
+             "undo|go|tick 250|record 2|sheet 2|undo|sheet 2|redo|sheet 2|set 1 chan 1 at 0|frame|undo|frame|redo|redo",
+             "refused NothingToUndo|ok|ok|ok|row 2 1=127|ok|refused AbsentCue 2|ok|row 2 1=127|ok|frame 500 1|ok|frame 500 1 1=127|ok"
+             "|refused NothingToRedo"),
+        over("sixteen shows are kept, and no seventeenth", "".join(f"label 1 {n}|" for n in range(17)) + "undo|" * 17 + "save",
+             "ok|" * 33 + "refused NothingToUndo|" + first),
+        over("a refused edit is none to undo, and an accepted one ends redo", "set 9 chan 1 at 5|undo|label 1 x|undo|cue 1|redo|undo|undo",
+             "refused AbsentCue 9|refused NothingToUndo|ok|ok|ok|refused NothingToRedo|ok|refused NothingToUndo"),
+        over("keys, ticks and faders are none to undo", "go|tick 250|master at 50|undo|frame", "ok|ok|ok|refused NothingToUndo|frame 500 1 1=63"),
+        over("the playback goes on while shows come back", "label 1 x|go|tick 100|undo|tick 150|frame", "ok|ok|ok|ok|ok|frame 500 1 1=127"),
+        over("a record may leave the next cue's look", "go|tick 250|record 2 only|sheet 2|sheet 3|undo|record 2|sheet 3",
+             "ok|ok|ok|row 2 1=127|row 3 1=255|ok|ok|row 3 1=127", cues="CUE 3\n"),
+        over("a record of the 4,001st cue", "record 5000|record 4000|undo|undo", "refused CueLimit|ok|ok|refused NothingToUndo", text=full),
+        over("lines that are bad", "|".join(wrong), "|".join(["bad"] * len(wrong))),
+        over("words in either case", "UNDO|Redo|RECORD 2 ONLY|undo ! once", "refused NothingToUndo|refused NothingToRedo|ok|ok"),
+        over("a show that is refused", "undo", "show NotInRecord 2", text="IDENT 3:0\nCHAN 1@50\nENDDATA\n", status=1),
+        Case("undo states", "IDENT 3:0\nCUE 1\nCHAN 1@FL\nCUE 2\nCHAN 2@FL\nENDDATA\nsheet 2\nset 2 chan 2 at 0\nsheet 2\nundo\nsheet 2\n",
+             "row 2 2=255\nok\nrow 2\nok\nrow 2 2=255\n", words=("undo", "states")),
+        Case("undo: status 6 for a script that is too long", (ONE_CUE + "undo\n").encode() + b"!" * INPUT_BYTES, "refused NothingToUndo\n",
+             status=6, words=("undo",)),
+        Case("by render the lines of undo are bad", ONE_CUE + "cue 2\nundo\nredo\nrecord 1\nsheet 2\n", "ok\nbad\nbad\nbad\nrow 2 1=128\n"),
     ]
 
 
@@ -570,7 +608,7 @@ def main():
     parser.add_argument("--only", default="")
     given = parser.parse_args()
     program = os.path.abspath(given.program or built_program())
-    cases = edge_cases() + limit_cases() + great_cases() + kept_cases() + assert_cases() + reading_cases()
+    cases = edge_cases() + limit_cases() + great_cases() + kept_cases() + assert_cases() + undo_cases() + reading_cases()
     runs = [(case.name, lambda case=case: wrong_in(program, case)) for case in cases]
     runs += [(each.__name__.replace("_", " "), lambda each=each: each(program)) for each in TALKS]
     runs += [(name, lambda inputs=inputs: walks.wrong_in_table(program, inputs)[1]) for name, inputs in walks.tables(WALKS, 1)]

@@ -7,7 +7,7 @@ use Rattle.std.proofs.lemmas.Bool.Decides.{nat_tests}
 use Rattle.lx_base.specs.declared.TheConstants.{CUES, UNIVERSES}
 use Rattle.lx_spec.specs.declared.Form.TheVariants.{States}
 use Rattle.lx_spec.specs.declared.Job.{Job}
-use Rattle.lx_spec.specs.declared.Job.TheVariants.{Check, Render, Sheet, Make, Run}
+use Rattle.lx_spec.specs.declared.Job.TheVariants.{Check, Render, Sheet, Make, Run, Undo, Two}
 use Rattle.lx_spec.specs.Phrase.{ended}
 use Rattle.lx_spec.specs.Job.{job_of, form_of, plain_number, number_alone, run_of}
 use Rattle.cuedesk.specs.Words.{begins_with_dash}
@@ -76,10 +76,14 @@ no_job (w ∷ ws) e = first_or_more (job_of (w ∷ ws) ≡ None) w ws e
     (skip (bytes_eq w (codes "render")) _ _ (isnt w 114 _ first refl)
     (skip (bytes_eq w (codes "sheet")) _ _ (isnt w 115 _ first refl)
     (skip (bytes_eq w (codes "make")) _ _ (isnt w 109 _ first refl)
-    (skip (bytes_eq w (codes "run")) _ None (isnt w 114 _ first refl) refl)))))
+    (skip (bytes_eq w (codes "run")) _ _ (isnt w 114 _ first refl)
+    (skip (bytes_eq w (codes "undo")) _ _ (isnt w 117 _ first refl)
+    (skip (bytes_eq w (codes "two")) _ None (isnt w 116 _ first refl) refl)))))))
     (λ more.
     neither (bytes_eq w (codes "check")) _ _ (ap (option_map Check) (no_form ws more))
     (neither (bytes_eq w (codes "render")) _ _ (ap (option_map Render) (no_form ws more))
     (neither (bytes_eq w (codes "sheet")) _ _ (ap (option_map Sheet) (no_form ws more))
     (neither (bytes_eq w (codes "make")) _ _ (ap (option_map Make) (no_alone CUES ws more))
-    (neither (bytes_eq w (codes "run")) _ None (no_run ws more) refl)))))
+    (neither (bytes_eq w (codes "run")) _ _ (no_run ws more)
+    (neither (bytes_eq w (codes "undo")) _ _ (ap (option_map Undo) (no_form ws more))
+    (neither (bytes_eq w (codes "two")) _ None (ap (option_map Two) (no_form ws more)) refl)))))))

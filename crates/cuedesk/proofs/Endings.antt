@@ -1,13 +1,12 @@
 -- What holds where a job ended, from what holds at each status.
-use Rattle.std.proofs.Common.{◌≡◌, ◌⊎◌, inl, inr, Option, Some, None, IfSome, List, ℕ, refl, sym, subst}
+use Rattle.std.proofs.Common.{◌≡◌, ◌⊎◌, inl, inr, Option, Some, None, IfSome, List, ℕ, length, refl, sym, ap, subst, arith}
 use Rattle.lx_io.specs.Puts.{AppendsFront}
 use Rattle.std.specs.Io.KnownBytes.{Appends}
 use Rattle.lx_lex.specs.declared.lines.Lines.{Lines}
 use Rattle.lx_lex.specs.Unread.{unread}
 use Rattle.lx_spec.specs.declared.Form.{Form}
 use Rattle.lx_spec.specs.declared.Job.{Job}
-use Rattle.lx_spec.specs.declared.Job.TheVariants.{Render}
-use Rattle.lx_spec.specs.Desk.{opened}
+use Rattle.lx_spec.specs.Show.{Show}
 use Rattle.lx_spec.specs.Reading.{Reading}
 use Rattle.lx_reader.specs.declared.loaded.Loaded.{Loaded}
 use Rattle.lx_reader.specs.declared.fault.ShowFault.{ShowFault}
@@ -15,9 +14,10 @@ use Rattle.lx_reader.specs.declared.fault.ShowFault.TheVariants as faults
 use Rattle.lx_reader.specs.Answer.{reading_of, HasRead}
 use Rattle.cuedesk.specs.declared.desk.Status.{Status}
 use Rattle.cuedesk.specs.declared.desk.Status.TheVariants as status
+use Rattle.cuedesk.specs.Answering.{Answering}
 use Rattle.cuedesk.specs.Refused.{RefusedBy, status_kept}
 use Rattle.cuedesk.specs.Endings.{EndsJob, EndsScript, HasEnded, HasPlayed}
-use Rattle.cuedesk.proofs.Inputs.{Says, IsOverShow, IsOfShow, told_text, told_prefix, told_fits, session_text, session_front, session_long}
+use Rattle.cuedesk.proofs.Inputs.{Says, IsOverShow, IsOfShow, IsOfScript, told_text, told_prefix, told_fits, session_text, session_front, session_long}
 use Rattle.cuedesk.proofs.Inputs.{session_fits, session_cut, refusal_cut, refusal_text, refusal_front, refusal_fits, refusal_long}
 use Rattle.cuedesk.proofs.Inputs.{refusal_isnt_ok}
 
@@ -104,25 +104,27 @@ refusal_ended form job over left a b o h h' fault status.InputTooLong is none sa
 refusal_ended form job over left a b o h h' fault status.Live is none says by = absurd (refusal_ends h h' fault status.Live by)
 
 -- a script over a show that was read
-pub script_ended : (form : Form) {S : Type 0} (left : S → Option (List ℕ)) (faults : S → ℕ) (a b : Lines S) (loaded : Loaded)
+pub script_ended : (form : Form) (job : Job) (by : Show → Answering) → IsOfScript form job by
+    → {S : Type 0} (left : S → Option (List ℕ)) (faults : S → ℕ) (a b : Lines S) (loaded : Loaded)
     (o rest h h' : Option (List ℕ)) (s : Status)
     → unread left a ≡ o → a.taken ≡ 0 → HasRead left faults a b form loaded → EndsScript s
-    → IfSome (unread left b) (λ y. HasPlayed s (opened loaded.show) b.taken y rest h h')
-    → IfSome o (λ x. HasEnded s (Render form) x rest h h')
-script_ended form left faults a b loaded o rest h h' status.Ok is none r ends p =
-    both_known o _ _ _ (session_text form left faults a b loaded o h h' is r (if_known (unread left b) _ _ p (λ y q. q.0)))
+    → IfSome (unread left b) (λ y. HasPlayed s (by loaded.show) b.taken y rest h h')
+    → IfSome o (λ x. HasEnded s job x rest h h')
+script_ended form job by of left faults a b loaded o rest h h' status.Ok is none r ends p =
+    both_known o _ _ _ (session_text form job by of left faults a b loaded o h h' is r (if_known (unread left b) _ _ p (λ y q. q.0)))
     (session_fits form left faults a b loaded o is none r (if_known (unread left b) _ _ p (λ y q. q.1)))
-    (λ x text fits. (record { text = text.0; within = fits }, text.1))
-script_ended form left faults a b loaded o rest h h' status.ShowRefused is none r ends p = absurd ends
-script_ended form left faults a b loaded o rest h h' status.Usage is none r ends p = absurd ends
-script_ended form left faults a b loaded o rest h h' status.ReadFault is none r ends p =
-    session_cut form left faults a b loaded o rest h h' is none r p
-script_ended form left faults a b loaded o rest h h' status.WriteFault is none r ends p =
-    session_front form left faults a b loaded o h h' is r p
-script_ended form left faults a b loaded o rest h h' status.Memory is none r ends p =
-    session_front form left faults a b loaded o h h' is r p
-script_ended form left faults a b loaded o rest h h' status.InputTooLong is none r ends p =
-    both_known o _ _ _ (session_cut form left faults a b loaded o rest h h' is none r (if_known (unread left b) _ _ p (λ y q. q.0)))
+    (λ x text fits. (record { text = text.0; within = omega (arith, ap length (of.bytes x), fits) }, text.1))
+script_ended form job by of left faults a b loaded o rest h h' status.ShowRefused is none r ends p = absurd ends
+script_ended form job by of left faults a b loaded o rest h h' status.Usage is none r ends p = absurd ends
+script_ended form job by of left faults a b loaded o rest h h' status.ReadFault is none r ends p =
+    session_cut form job by of left faults a b loaded o rest h h' is none r p
+script_ended form job by of left faults a b loaded o rest h h' status.WriteFault is none r ends p =
+    session_front form job by of left faults a b loaded o h h' is r p
+script_ended form job by of left faults a b loaded o rest h h' status.Memory is none r ends p =
+    session_front form job by of left faults a b loaded o h h' is r p
+script_ended form job by of left faults a b loaded o rest h h' status.InputTooLong is none r ends p =
+    both_known o _ _ _
+    (session_cut form job by of left faults a b loaded o rest h h' is none r (if_known (unread left b) _ _ p (λ y q. q.0)))
     (session_long form left faults a b loaded o is none r (if_known (unread left b) _ _ p (λ y q. q.1)))
-    (λ x cut long. (cut, long))
-script_ended form left faults a b loaded o rest h h' status.Live is none r ends p = absurd ends
+    (λ x cut long. (cut, omega (arith, ap length (of.bytes x), long)))
+script_ended form job by of left faults a b loaded o rest h h' status.Live is none r ends p = absurd ends

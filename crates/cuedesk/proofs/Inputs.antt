@@ -18,12 +18,14 @@ use Rattle.lx_spec.specs.declared.TextFault.{TextFault}
 use Rattle.lx_spec.specs.declared.TextFault.TheVariants as texts_of
 use Rattle.lx_spec.specs.Text.{lines_of}
 use Rattle.lx_spec.specs.Desk.{Desk, opened}
+use Rattle.lx_spec.specs.Show.{Show}
 use Rattle.lx_spec.specs.Reading.{Reading, reads, script_of, lines_read}
 use Rattle.lx_spec.specs.CutInput.{HasNoFeed, first_lines}
-use Rattle.lx_spec.specs.RenderOutput.{first_replies, input_lines_wanted, input_wanted, OutputPlacesAreEdits}
+use Rattle.lx_spec.specs.RenderOutput.{input_lines_wanted, input_wanted, OutputPlacesAreEdits}
+use Rattle.lx_spec.specs.SessionOf.{Answer, begin_with, PlacesAreAllowed}
+use Rattle.lx_spec.specs.SessionOutput.{SessionWants}
 use Rattle.lx_spec.specs.FaultLine.{over_show, fault_text}
-use Rattle.lx_spec.specs.Session.{begin_at, ends_script, replies, lines_wanted, bytes_wanted, after_first}
-use Rattle.lx_spec.specs.RefusedPlaces.{PlacesAreEdits}
+use Rattle.lx_spec.specs.Session.{begin_at, ends_script, lines_wanted, bytes_wanted}
 use Rattle.lx_reader.specs.declared.loaded.Loaded.{Loaded}
 use Rattle.lx_reader.specs.declared.fault.ShowFault.{ShowFault}
 use Rattle.lx_reader.specs.declared.fault.ShowFault.TheVariants as faults
@@ -31,13 +33,15 @@ use Rattle.lx_reader.specs.LineFaults.{show_fault}
 use Rattle.lx_reader.specs.HandedLines.{MeansFault, IsPastLimit, IsCutShort}
 use Rattle.lx_reader.specs.Answer.{reading_of, HasRead, OfText, CutShort}
 use Rattle.lx_session.proofs.Places.{wants_nothing}
+use Rattle.lx_session.proofs.AnsweredPlaces.{wants_at_none}
 use Rattle.cuedesk.specs.declared.desk.Status.{Status}
 use Rattle.cuedesk.specs.declared.desk.Status.TheVariants as status
 use Rattle.lx_spec.specs.declared.Job.{Job}
-use Rattle.lx_spec.specs.declared.Job.TheVariants.{Check, Render, Sheet}
+use Rattle.lx_spec.specs.declared.Job.TheVariants.{Check, Sheet}
 use Rattle.lx_spec.specs.CheckOutput.{check_text}
 use Rattle.lx_spec.specs.SheetOutput.{sheet_text}
-use Rattle.lx_spec.specs.Job.{show_of, output_of, WantsEdits, wanted_of, show_wanted}
+use Rattle.lx_spec.specs.Job.{show_of, output_of, replies_of, WantsEdits, wanted_of, show_wanted}
+use Rattle.cuedesk.specs.Answering.{Answering, by_desk}
 use Rattle.cuedesk.specs.Output.{WritesAll, WritesPrefix, WritesTaken, RepliesToTaken, AnswersScript, AnswersInFront, AnswersTaken}
 use Rattle.cuedesk.specs.Refused.{RefusedBy, status_kept}
 
@@ -57,14 +61,29 @@ nothing_wanted bytes (Ok reading) = wants_nothing [] (begin_at (opened reading.s
     (λ n has. no_place n 0 has)
 nothing_wanted bytes (Err fault) = tt
 
-pub nothing_answered : (o a : Option (List ℕ)) (d : Desk) → IfSome o (λ bytes. AnswersInFront d (lines_of bytes) a a)
-nothing_answered None a d = tt
-nothing_answered (Some bytes) a d = record {
+-- a session of which nothing is wanted
+pub none_allowed : {S : Type 0} (answer : Answer S) (MayWant : S → List ℕ → Type 0) (state : S) (script : List (List ℕ))
+    → PlacesAreAllowed answer MayWant state script []
+none_allowed answer MayWant state script = wants_at_none answer MayWant (begin_with state) (before_first ends_script script)
+
+pub nothing_of_session : {S : Type 0} (answer : Answer S) (MayWant : S → List ℕ → Type 0) (opening : Show → S) (bytes : List ℕ)
+    (r : Result Reading TextFault) → SessionWants answer MayWant opening bytes [] r
+nothing_of_session answer MayWant opening bytes (Ok reading) = none_allowed answer MayWant (opening reading.show) (script_of bytes)
+nothing_of_session answer MayWant opening bytes (Err fault) = tt
+
+-- where nothing was written, a prefix of the replies was
+pub nothing_answered_by : (by : Answering) → ((script : List (List ℕ)) → by.Allows script []) → (o a : Option (List ℕ))
+    → IfSome o (λ bytes. AnswersInFront by (lines_of bytes) a a)
+nothing_answered_by by allows None a = tt
+nothing_answered_by by allows (Some bytes) a = record {
   places = [];
-  wants = wants_nothing [] (begin_at d) (before_first ends_script (lines_of bytes)) (λ n has. no_place n 0 has);
-  text =
-      front_nothing a (replies d (lines_of bytes) []);
+  wants = allows (lines_of bytes);
+  text = front_nothing a (by.whole (lines_of bytes) []);
 }
+
+pub nothing_answered : (o a : Option (List ℕ)) (d : Desk) → IfSome o (λ bytes. AnswersInFront (by_desk d) (lines_of bytes) a a)
+nothing_answered o a d = nothing_answered_by (by_desk d)
+    (λ script. wants_nothing [] (begin_at d) (before_first ends_script script) (λ n has. no_place n 0 has)) o a
 
 -- a fault that isn't one of the text is told as want of memory only where it is one
 pub memory_kept : (fault : ShowFault) (s : Status) → status_kept fault s → s ≡ status.Memory → fault ≡ faults.Memory
@@ -100,32 +119,51 @@ refusal_isnt_ok h h' fault s P by is = elim by [ inl text ↦ kinds_ok s P text.
 
 -- Of a show whose levels are read in this form.
 module _ (form : Form) where
-  -- what the session answered is what the program writes
-  answer_at : (bytes left : List ℕ) (reading : Reading) (h h' : Option (List ℕ)) → reads form bytes ≡ Ok reading
-      → script_of bytes ≡ lines_of left → AnswersScript (opened reading.show) (lines_of left) h h'
-      → WritesAll (Render form) bytes h h' × IsOk (reads form bytes)
-  answer_at bytes left reading h h' read script a = (
-    record {
-      places = a.places;
-      wants = subst (λ r. OutputPlacesAreEdits bytes a.places r) (sym read)
-          (subst (λ ls. PlacesAreEdits (opened reading.show) ls a.places) (sym script) a.wants);
-      text = subst (λ (t : List ℕ). Appends h h' t)
-          (sym (ap (λ r. over_show r (λ x. replies (opened x.show) (script_of bytes) a.places)) read
-          ∙ ap (λ ls. replies (opened reading.show) ls a.places) script)) a.text;
-    },
-    subst (λ (r : Result Reading TextFault). IsOk r) (sym read) refl,
-  )
+  -- A job that answers the script behind the show so.
+  pub record IsOfScript (job : Job) (by : Show → Answering) : Type 0 where
+    pub show : (x : List ℕ) → show_of job x ≡ reads form x
+    pub nothing : (x : List ℕ) → WantsEdits job x []
+    pub wants : (x places : List ℕ) (reading : Reading) → reads form x ≡ Ok reading → (by reading.show).Allows (script_of x) places
+        → WantsEdits job x places
+    pub output : (x places : List ℕ) → output_of job x places
+        ≡ over_show (reads form x) (λ reading. (by reading.show).whole (script_of x) places)
+    pub first : (x places : List ℕ) (lines : ℕ) (reading : Reading) → reads form x ≡ Ok reading
+        → replies_of job x places lines ≡ (by reading.show).first (script_of x) places lines
+    pub none : (x : List ℕ) → replies_of job x [] 0 ≡ []
+    pub bytes : (x : List ℕ) → wanted_of job x ≡ input_wanted form x
+    pub taken : (x : List ℕ) (left h h' : Option (List ℕ)) → RepliesToTaken job x left h h' → WritesTaken job x left h h'
 
-  front_at : (bytes left : List ℕ) (reading : Reading) (h h' : Option (List ℕ)) → reads form bytes ≡ Ok reading
-      → script_of bytes ≡ lines_of left → AnswersInFront (opened reading.show) (lines_of left) h h' → WritesPrefix (Render form) bytes h h'
-  front_at bytes left reading h h' read script a = record {
-    places = a.places;
-    wants = subst (λ r. OutputPlacesAreEdits bytes a.places r) (sym read)
-        (subst (λ ls. PlacesAreEdits (opened reading.show) ls a.places) (sym script) a.wants);
-    text = subst (λ (t : List ℕ). AppendsFront h h' t)
-        (sym (ap (λ r. over_show r (λ x. replies (opened x.show) (script_of bytes) a.places)) read
-        ∙ ap (λ ls. replies (opened reading.show) ls a.places) script)) a.text;
-  }
+  output_at : (job : Job) (by : Show → Answering) → IsOfScript job by → (x places : List ℕ) (reading : Reading) → reads form x ≡ Ok reading
+      → output_of job x places ≡ (by reading.show).whole (script_of x) places
+  output_at job by is x places reading read =
+      is.output x places ∙ ap (λ r. over_show r (λ reading. (by reading.show).whole (script_of x) places)) read
+
+  -- what the session answered is what the program writes
+  answer_at : (job : Job) (by : Show → Answering) → IsOfScript job by → (x y : List ℕ) (reading : Reading) (h h' : Option (List ℕ))
+      → reads form x ≡ Ok reading → script_of x ≡ lines_of y → AnswersScript (by reading.show) (lines_of y) h h'
+      → WritesAll job x h h' × IsOk (show_of job x)
+  answer_at job by is x y reading h h' read script answered =
+      let a : AnswersScript (by reading.show) (script_of x) h h' =
+      subst (λ ls. AnswersScript (by reading.show) ls h h') (sym script) answered in (
+        record {
+          places = a.places;
+          wants = is.wants x a.places reading read a.wants;
+          text = subst (λ (t : List ℕ). Appends h h' t) (sym (output_at job by is x a.places reading read)) a.text;
+        },
+        subst (λ (r : Result Reading TextFault). IsOk r) (sym (is.show x ∙ read)) refl,
+      )
+
+  front_at : (job : Job) (by : Show → Answering) → IsOfScript job by → (x y : List ℕ) (reading : Reading) (h h' : Option (List ℕ))
+      → reads form x ≡ Ok reading → script_of x ≡ lines_of y → AnswersInFront (by reading.show) (lines_of y) h h'
+      → WritesPrefix job x h h'
+  front_at job by is x y reading h h' read script answered =
+      let a : AnswersInFront (by reading.show) (script_of x) h h' =
+      subst (λ ls. AnswersInFront (by reading.show) ls h h') (sym script) answered in
+      record {
+        places = a.places;
+        wants = is.wants x a.places reading read a.wants;
+        text = subst (λ (t : List ℕ). AppendsFront h h' t) (sym (output_at job by is x a.places reading read)) a.text;
+      }
 
   pub over_read : (a b : Option (List ℕ)) (i j : ℕ) (raws : List (List ℕ)) (P Q : List ℕ → Type 0) (R : List ℕ → List ℕ → Type 0)
       → LinesBetween a b i j raws → IfSome a P → IfSome a (λ x. IfSome b (R x)) → IfSome b Q → (S : List ℕ → Type 0)
@@ -134,23 +172,25 @@ module _ (form : Form) where
   over_read (Some x) None i j raws P Q R took p r q S f = absurd took.took
   over_read (Some x) (Some y) i j raws P Q R took p r q S f = f x y p r q
 
-  pub session_text : {S : Type 0} (left : S → Option (List ℕ)) (faults : S → ℕ) (a b : Lines S) (loaded : Loaded) (o h h' : Option (List ℕ))
+  pub session_text : (job : Job) (by : Show → Answering) → IsOfScript job by
+      → {S : Type 0} (left : S → Option (List ℕ)) (faults : S → ℕ) (a b : Lines S) (loaded : Loaded) (o h h' : Option (List ℕ))
       → unread left a ≡ o → HasRead left faults a b form loaded
-      → IfSome (unread left b) (λ bytes. AnswersScript (opened loaded.show) (lines_of bytes) h h')
-      → IfSome o (λ bytes. WritesAll (Render form) bytes h h' × IsOk (reads form bytes))
-  session_text left faults a b loaded o h h' is r answers =
-      subst (λ (v : Option (List ℕ)). IfSome v (λ bytes. WritesAll (Render form) bytes h h' × IsOk (reads form bytes))) is
+      → IfSome (unread left b) (λ bytes. AnswersScript (by loaded.show) (lines_of bytes) h h')
+      → IfSome o (λ bytes. WritesAll job bytes h h' × IsOk (show_of job bytes))
+  session_text job by of left faults a b loaded o h h' is r answers =
+      subst (λ (v : Option (List ℕ)). IfSome v (λ bytes. WritesAll job bytes h h' × IsOk (show_of job bytes))) is
       (over_read (unread left a) (unread left b) a.taken b.taken _ _ _ _ r.means.handed.took r.means.text r.means.script answers _
-      (λ x y read script answer. answer_at x y (reading_of loaded) h h' read script answer))
+      (λ x y read script answer. answer_at job by of x y (reading_of loaded) h h' read script answer))
 
-  pub session_front : {S : Type 0} (left : S → Option (List ℕ)) (faults : S → ℕ) (a b : Lines S) (loaded : Loaded)
+  pub session_front : (job : Job) (by : Show → Answering) → IsOfScript job by
+      → {S : Type 0} (left : S → Option (List ℕ)) (faults : S → ℕ) (a b : Lines S) (loaded : Loaded)
       (o h h' : Option (List ℕ)) → unread left a ≡ o → HasRead left faults a b form loaded
-      → IfSome (unread left b) (λ bytes. AnswersInFront (opened loaded.show) (lines_of bytes) h h')
-      → IfSome o (λ bytes. WritesPrefix (Render form) bytes h h')
-  session_front left faults a b loaded o h h' is r answers =
-      subst (λ (v : Option (List ℕ)). IfSome v (λ bytes. WritesPrefix (Render form) bytes h h')) is
+      → IfSome (unread left b) (λ bytes. AnswersInFront (by loaded.show) (lines_of bytes) h h')
+      → IfSome o (λ bytes. WritesPrefix job bytes h h')
+  session_front job by of left faults a b loaded o h h' is r answers =
+      subst (λ (v : Option (List ℕ)). IfSome v (λ bytes. WritesPrefix job bytes h h')) is
       (over_read (unread left a) (unread left b) a.taken b.taken _ _ _ _ r.means.handed.took r.means.text r.means.script answers _
-      (λ x y read script answer. front_at x y (reading_of loaded) h h' read script answer))
+      (λ x y read script answer. front_at job by of x y (reading_of loaded) h h' read script answer))
 
   -- of a show that is read the lines that were handed out are wanted, and then those of the script
   wanted_read : (x y : List ℕ) (i j : ℕ) (raws : List (List ℕ)) (reading : Reading) → i ≡ 0 → LinesBetween (Some x) (Some y) i j raws
@@ -204,11 +244,11 @@ module _ (form : Form) where
   if_known None P Q p f = tt
   if_known (Some xs) P Q p f = f xs p
 
-  cut_behind : (x y : List ℕ) (left h h' : Option (List ℕ)) (i j : ℕ) (raws : List (List ℕ)) (reading : Reading) → i ≡ 0
-      → LinesBetween (Some x) (Some y) i j raws
+  cut_behind : (job : Job) (by : Show → Answering) → IsOfScript job by → (x y : List ℕ) (left h h' : Option (List ℕ)) (i j : ℕ)
+      (raws : List (List ℕ)) (reading : Reading) → i ≡ 0 → LinesBetween (Some x) (Some y) i j raws
       → lines_read (lines_of x) ≡ length raws → reads form x ≡ Ok reading → script_of x ≡ lines_of y
-      → AnswersTaken (opened reading.show) j y left h h' → RepliesToTaken (Render form) form x left h h'
-  cut_behind x y left h h' i j raws reading none took shown text script a =
+      → AnswersTaken (by reading.show) j y left h h' → RepliesToTaken job x left h h'
+  cut_behind job by of x y left h h' i j raws reading none took shown text script a =
       let n = a.cut.lines in
       let mine : took.bytes ≡ first_lines (length raws) (took.bytes ++ y) = took.front ∙ ap (first_lines (length raws)) took.took in
       let first : first_lines (length raws + n) x ≡ took.bytes ++ first_lines n y = ap (first_lines (length raws + n)) took.took
@@ -218,8 +258,8 @@ module _ (form : Form) where
       let done : length raws + n - lines_read (lines_of x) ≡ n = omega (arith, shown) in
       record {
         places = a.places;
-        wants = subst (λ r. OutputPlacesAreEdits x a.places r) (sym text)
-            (subst (λ ls. PlacesAreEdits (opened reading.show) ls a.places) (sym script) a.wants);
+        wants = of.wants x a.places reading text
+            (subst (λ ls. (by reading.show).Allows ls a.places) (sym script) a.wants);
         cut = record {
           lines = length raws + n;
           next = a.cut.next;
@@ -230,43 +270,43 @@ module _ (form : Form) where
           no_feed = subst (λ k. HasNoFeed (take (INPUT_BYTES - k) a.cut.next)) count a.cut.no_feed;
         };
         text = subst (λ (t : List ℕ). Appends h h' t)
-            (sym (ap (λ r. first_replies r (script_of x) a.places (length raws + n - lines_read (lines_of x))) text
-            ∙ ap (λ k. (after_first (opened reading.show) (script_of x) a.places k).text) done
-            ∙ ap (λ ls. (after_first (opened reading.show) ls a.places n).text) script)) a.text;
+            (sym (of.first x a.places (length raws + n - lines_read (lines_of x)) reading text
+            ∙ ap ((by reading.show).first (script_of x) a.places) done
+            ∙ ap (λ ls. (by reading.show).first ls a.places n) script)) a.text;
       }
 
-  over_cut : (a b left h h' : Option (List ℕ)) (i j n : ℕ) (raws : List (List ℕ)) (reading : Reading) → i ≡ 0 → LinesBetween a b i j raws
-      → n ≡ length raws
+  over_cut : (job : Job) (by : Show → Answering) → IsOfScript job by → (a b left h h' : Option (List ℕ)) (i j n : ℕ)
+      (raws : List (List ℕ)) (reading : Reading) → i ≡ 0 → LinesBetween a b i j raws → n ≡ length raws
       → IfSome a (λ x. lines_read (lines_of x) ≡ n) → IfSome a (λ x. reads form x ≡ Ok reading)
       → IfSome a (λ x. IfSome b (λ y. script_of x ≡ lines_of y))
-      → IfSome b (λ y. AnswersTaken (opened reading.show) j y left h h') → IfSome a (λ x. RepliesToTaken (Render form) form x left h h')
-  over_cut None b left h h' i j n raws reading none took count shown text script p = tt
-  over_cut (Some x) None left h h' i j n raws reading none took count shown text script p = absurd took.took
-  over_cut (Some x) (Some y) left h h' i j n raws reading none took count shown text script p =
-      cut_behind x y left h h' i j raws reading none took (shown ∙ count) text script p
+      → IfSome b (λ y. AnswersTaken (by reading.show) j y left h h') → IfSome a (λ x. RepliesToTaken job x left h h')
+  over_cut job by of None b left h h' i j n raws reading none took count shown text script p = tt
+  over_cut job by of (Some x) None left h h' i j n raws reading none took count shown text script p = absurd took.took
+  over_cut job by of (Some x) (Some y) left h h' i j n raws reading none took count shown text script p =
+      cut_behind job by of x y left h h' i j raws reading none took (shown ∙ count) text script p
 
-  pub session_cut : {S : Type 0} (left : S → Option (List ℕ)) (faults : S → ℕ) (a b : Lines S) (loaded : Loaded)
+  pub session_cut : (job : Job) (by : Show → Answering) → IsOfScript job by
+      → {S : Type 0} (left : S → Option (List ℕ)) (faults : S → ℕ) (a b : Lines S) (loaded : Loaded)
       (o rest h h' : Option (List ℕ)) → unread left a ≡ o → a.taken ≡ 0 → HasRead left faults a b form loaded
-      → IfSome (unread left b) (λ y. AnswersTaken (opened loaded.show) b.taken y rest h h')
-      → IfSome o (λ x. RepliesToTaken (Render form) form x rest h h')
-  session_cut left faults a b loaded o rest h h' is none r answers =
+      → IfSome (unread left b) (λ y. AnswersTaken (by loaded.show) b.taken y rest h h')
+      → IfSome o (λ x. WritesTaken job x rest h h')
+  session_cut job by of left faults a b loaded o rest h h' is none r answers =
       let m = r.means in
-      subst (λ (v : Option (List ℕ)). IfSome v (λ x. RepliesToTaken (Render form) form x rest h h')) is
-      (over_cut (unread left a) (unread left b) rest h h' a.taken b.taken (length m.front + 1) (m.front ++ m.last ∷ []) (reading_of loaded)
-      none m.handed.took (one_more m.front m.last) m.wanted m.text m.script answers)
+      subst (λ (v : Option (List ℕ)). IfSome v (λ x. WritesTaken job x rest h h')) is
+      (if_known (unread left a) _ _
+      (over_cut job by of (unread left a) (unread left b) rest h h' a.taken b.taken (length m.front + 1) (m.front ++ m.last ∷ [])
+      (reading_of loaded) none m.handed.took (one_more m.front m.last) m.wanted m.text m.script answers)
+      (λ x replied. of.taken x rest h h' replied))
 
   -- The input was cut off within the show.
-  none_replied : (r : Result Reading TextFault) (script : List (List ℕ)) (places : List ℕ) → first_replies r script places 0 ≡ []
-  none_replied (Ok reading) script places = refl
-  none_replied (Err fault) script places = refl
-
-  cut_within : (x : List ℕ) (left h : Option (List ℕ)) (i : ℕ) → i ≡ 0 → IsCutShort i x left → RepliesToTaken (Render form) form x left h h
-  cut_within x left h i none short =
+  cut_within : (job : Job) (by : Show → Answering) → IsOfScript job by → (x : List ℕ) (left h : Option (List ℕ)) (i : ℕ) → i ≡ 0
+      → IsCutShort i x left → RepliesToTaken job x left h h
+  cut_within job by of x left h i none short =
       let cut = short.cut in
       let few : cut.lines - lines_read (lines_of x) ≡ 0 = let lt = short.wanted in omega (arith, lt) in
       record {
         places = [];
-        wants = nothing_wanted x (reads form x);
+        wants = of.nothing x;
         cut = record {
           lines = cut.lines;
           next = cut.next;
@@ -274,8 +314,7 @@ module _ (form : Form) where
           within = let w = cut.within in omega (arith, none, w);
           no_feed = subst (λ k. HasNoFeed (take (INPUT_BYTES - (k + length (first_lines cut.lines x))) cut.next)) none cut.no_feed;
         };
-        text = subst (λ (t : List ℕ). Appends h h t)
-            (sym (ap (first_replies (reads form x) (script_of x) []) few ∙ none_replied (reads form x) (script_of x) [])) (Appends-nil h);
+        text = subst (λ (t : List ℕ). Appends h h t) (sym (ap (replies_of job x []) few ∙ of.none x)) (Appends-nil h);
       }
 
   -- A job over the show that its input begins with.
@@ -297,14 +336,21 @@ module _ (form : Form) where
   more_wanted x n (Ok reading) h = omega (arith, h)
   more_wanted x n (Err i) h = h
 
-  pub render_over : IsOverShow (Render form)
-  render_over = record {
-    show = λ x. refl;
-    nothing = λ x. nothing_wanted x (reads form x);
-    refusal = λ x fault text. ap (λ r. over_show r (λ reading. replies (opened reading.show) (script_of x) [])) text;
-    wanted = λ x fault text. ap (λ k. first_lines k x) (ap (input_lines_wanted x) text);
-    longer = λ x n h. first_lines-longer (n + 1) (input_lines_wanted x (reads form x)) x (more_wanted x n (reads form x) h);
-    cut = cut_within;
+  -- a job that answers the script is one over the show
+  pub script_over : (job : Job) (by : Show → Answering) → IsOfScript job by → IsOverShow job
+  script_over job by of = record {
+    show = of.show;
+    nothing = of.nothing;
+    refusal = λ x fault text.
+        of.output x [] ∙ ap (λ r. over_show r (λ reading. (by reading.show).whole (script_of x) [])) text;
+    wanted = λ x fault text. of.bytes x ∙ ap (λ k. first_lines k x) (ap (input_lines_wanted x) text);
+    longer = λ x n h.
+        omega (
+          arith,
+          ap length (of.bytes x),
+          first_lines-longer (n + 1) (input_lines_wanted x (reads form x)) x (more_wanted x n (reads form x) h),
+        );
+    cut = λ x left h i none short. of.taken x left h h (cut_within job by of x left h i none short);
   }
 
   pub check_tells : IsOfShow (Check form) check_text

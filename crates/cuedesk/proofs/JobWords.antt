@@ -2,12 +2,14 @@
 use Rattle.std.proofs.Common.{◌≡◌, Option, Some, None, IfSome, List, ℕ, [], sym, subst}
 use Rattle.lx_spec.specs.declared.Form.TheVariants.{Moves}
 use Rattle.lx_spec.specs.declared.Job.{Job}
-use Rattle.lx_spec.specs.declared.Job.TheVariants.{Check, Render, Sheet, Make, Run}
+use Rattle.lx_spec.specs.declared.Job.TheVariants.{Check, Render, Sheet, Make, Run, Undo, Two}
 use Rattle.lx_spec.specs.Reading.{reads}
 use Rattle.lx_spec.specs.MakeOutput.{made_input}
-use Rattle.lx_spec.specs.Job.{job_of, given_to, output_of, WantsEdits}
+use Rattle.lx_spec.specs.UndoSession.{undo_answer, UndoMayWant}
+use Rattle.lx_spec.specs.TwoLists.{opened_two, two_answer, TwoMayWant}
+use Rattle.lx_spec.specs.Job.{job_of, given_to, output_of, opened_undo, WantsEdits}
 use Rattle.cuedesk.specs.Output.{OfJob, WritesPrefix}
-use Rattle.cuedesk.proofs.Inputs.{front_nothing, nothing_wanted}
+use Rattle.cuedesk.proofs.Inputs.{front_nothing, nothing_wanted, nothing_of_session}
 
 pub of_job : (ws : List (List ℕ)) (left : Option (List ℕ)) (P : Job → List ℕ → Type 0) (job : Job) → job_of ws ≡ Some job
     → IfSome (given_to job left) (P job) → OfJob ws left P
@@ -28,6 +30,8 @@ no_wants (Render form) bytes = nothing_wanted bytes (reads form bytes)
 no_wants (Sheet form) bytes = tt
 no_wants (Make n) bytes = nothing_wanted (made_input n) (reads Moves (made_input n))
 no_wants (Run universes form) bytes = tt
+no_wants (Undo form) bytes = nothing_of_session undo_answer UndoMayWant opened_undo bytes (reads form bytes)
+no_wants (Two form) bytes = nothing_of_session two_answer TwoMayWant opened_two bytes (reads form bytes)
 
 -- where nothing was written, a prefix was
 pub untouched : (ws : List (List ℕ)) (left h : Option (List ℕ)) → OfJob ws left (λ job bytes. WritesPrefix job bytes h h)

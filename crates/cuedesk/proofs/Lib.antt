@@ -2,6 +2,8 @@ mod CheckLine
 mod Endings
 mod Generated
 mod Inputs
+mod ScriptJobs
+mod SessionFronts
 mod JobWords
 mod MadeEndings
 mod Sessions

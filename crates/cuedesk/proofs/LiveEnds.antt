@@ -12,7 +12,7 @@ use Rattle.lx_spec.specs.declared.Form.{Form}
 use Rattle.lx_spec.specs.declared.TextFault.{TextFault}
 use Rattle.lx_session.proofs.Ends.{front_of_all}
 use Rattle.lx_spec.specs.declared.Job.{Job}
-use Rattle.lx_spec.specs.declared.Job.TheVariants.{Check, Render, Sheet, Make, Run}
+use Rattle.lx_spec.specs.declared.Job.TheVariants.{Check, Render, Sheet, Make, Run, Undo, Two}
 use Rattle.lx_spec.specs.Text.{lines_of}
 use Rattle.lx_spec.specs.Desk.{opened}
 use Rattle.lx_spec.specs.CutInput.{HasNoFeed, first_lines}
@@ -31,7 +31,8 @@ use Rattle.cuedesk.specs.Endings.{EndsJob, HasEnded}
 use Rattle.cuedesk.specs.Live.{HaveVersions, PlaysScript, AreServed, PlaysInFront, PlaysTaken, HasPlayedLive, PlaysWhole, LivesInFront}
 use Rattle.cuedesk.specs.Live.{LivesTaken}
 use Rattle.cuedesk.specs.Live.{OfRun, HasLived}
-use Rattle.cuedesk.proofs.Inputs.{Says, means_of, IsOverShow, render_over, session_long, session_fits, refusal_isnt_ok, front_nothing}
+use Rattle.cuedesk.proofs.Inputs.{Says, means_of, session_long, session_fits, refusal_isnt_ok, front_nothing}
+use Rattle.cuedesk.proofs.ScriptJobs.{run_over}
 use Rattle.cuedesk.proofs.Endings.{if_known, both_known, refusal_ends, refusal_ended}
 
 -- Of a show whose levels are read in this form, for so many universes.
@@ -106,7 +107,7 @@ module _ (form : Form) (universes : ℕ) where
   -- the same, as it is told of a job
   as_taken : {K : Type 0} (holds : K → Option (List ℕ)) (failures wants : K → ℕ) (x : List ℕ) (left h h' : Option (List ℕ))
       (outlets outlets' : List (Option K))
-      → LivesTaken holds failures wants universes form x left h h' outlets outlets' → RepliesToTaken (Run universes form) form x left h h'
+      → LivesTaken holds failures wants universes form x left h h' outlets outlets' → RepliesToTaken (Run universes form) x left h h'
   as_taken holds failures wants x left h h' outlets outlets' a = record {
     places = a.places;
     wants = tt;
@@ -195,20 +196,6 @@ module _ (form : Form) (universes : ℕ) where
   live_ended left faults holds failures wants a b loaded o rest h h' outlets outlets' status.Live is none r p =
       over_loaded left faults a b loaded o (λ y. ⊥) _ is r p (λ x y raws took shown text script q. absurd q)
 
-  -- as a job over a show
-  run_over : IsOverShow form (Run universes form)
-  run_over =
-      let render = render_over form in
-      record {
-        show = λ x. refl;
-        nothing = λ x. tt;
-        refusal = render.refusal;
-        wanted = render.wanted;
-        longer = render.longer;
-        cut = λ x left h i none short. let c = render.cut x left h i none short in record
-            { places = c.places; wants = tt; cut = c.cut; text = c.text };
-      }
-
   refused_at : {K : Type 0} (holds : K → Option (List ℕ)) (failures wants : K → ℕ) (x : List ℕ) (rest h h' : Option (List ℕ))
       (outlets : List (Option K)) (fault : ShowFault) (s : Status)
       → RefusedBy h h' fault s → HasEnded s (Run universes form) x rest h h' → (IsOk (reads form x) → h' ≡ h)
@@ -245,7 +232,7 @@ module _ (form : Form) (universes : ℕ) where
       → unread left a ≡ o → a.taken ≡ 0 → Says form left a b fault → RefusedBy h h' fault s
       → IfSome o (λ x. HasLived s holds failures wants universes form x (left b.source.now) h h' outlets outlets)
   refused_lived left holds failures wants a b o h h' outlets fault s is none says by =
-      both_known o _ _ _ (refusal_ended form (Run universes form) run_over left a b o h h' fault s is none says by)
+      both_known o _ _ _ (refusal_ended form (Run universes form) (run_over form universes) left a b o h h' fault s is none says by)
       (unanswered left a b o h h' fault s is says by)
       (λ x e unread. refused_at holds failures wants x (left b.source.now) h h' outlets fault s by e unread)
 
@@ -258,6 +245,8 @@ none_lived holds failures wants (Some (Check form)) left rest h outlets = tt
 none_lived holds failures wants (Some (Render form)) left rest h outlets = tt
 none_lived holds failures wants (Some (Sheet form)) left rest h outlets = tt
 none_lived holds failures wants (Some (Make n)) left rest h outlets = tt
+none_lived holds failures wants (Some (Undo form)) left rest h outlets = tt
+none_lived holds failures wants (Some (Two form)) left rest h outlets = tt
 none_lived holds failures wants (Some (Run universes form)) None rest h outlets = tt
 none_lived holds failures wants (Some (Run universes form)) (Some bytes) rest h outlets =
     (nothing_lived form universes bytes h h refl, inl (refl, λ ok. refl))

@@ -42,8 +42,9 @@ use Rattle.cuedesk.specs.Output.{WritesAll, WritesPrefix}
 use Rattle.cuedesk.specs.Refused.{RefusedBy, RefusesText, status_kept}
 use Rattle.cuedesk.specs.Endings.{EndsScript, HasEnded, HasCauseOf, WritesWhole}
 use Rattle.cuedesk.specs.Made.{HasTold, TellsSession, TellsInFront, report_of, report_text}
-use Rattle.cuedesk.proofs.Inputs.{Says, means_of, no_place, nothing_wanted, front_nothing, over_read, render_over, refusal_fits}
+use Rattle.cuedesk.proofs.Inputs.{Says, means_of, no_place, nothing_wanted, front_nothing, over_read, refusal_fits}
 use Rattle.cuedesk.proofs.Inputs.{refusal_long, session_long, session_fits}
+use Rattle.cuedesk.proofs.ScriptJobs.{render_over}
 use Rattle.cuedesk.proofs.Endings.{if_known, both_known}
 use Rattle.cuedesk.proofs.Sessions.{desk_of_session}
 

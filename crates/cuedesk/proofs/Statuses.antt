@@ -11,6 +11,7 @@ use Rattle.lx_session.specs.declared.fault.SessionFault.TheVariants as faults
 use Rattle.lx_session.specs.declared.tally.Tally.{Tally}
 use Rattle.lx_session.specs.SessionOutcome.{ScriptPrefix, TakenScript, SessionOutcome, KeepsLimit, HasSessionCause}
 use Rattle.lx_session.proofs.Ends.{front_of_all, whole_of_all}
+use Rattle.cuedesk.specs.Answering.{by_desk}
 use Rattle.cuedesk.specs.Faults.{status_for}
 use Rattle.cuedesk.specs.Output.{AnswersInFront, AnswersTaken}
 use Rattle.cuedesk.specs.Endings.{EndsScript, HasPlayed, HasCauseOf}
@@ -22,19 +23,19 @@ over (Some xs) P Q p f = f xs p
 
 -- However it ended, it answered by a prefix.
 front_of : (heard : List Command → Type 0) (d : Desk) (bytes : List ℕ) (left h h' : Option (List ℕ)) (console : Kept)
-    → ScriptPrefix true heard d bytes left h h' console → AnswersInFront d (lines_of bytes) h h'
+    → ScriptPrefix true heard d bytes left h h' console → AnswersInFront (by_desk d) (lines_of bytes) h h'
 front_of heard d bytes left h h' console a =
     record { places = a.places; wants = a.wants refl; text = front_of_all d (lines_of bytes) a.places a.lines h h' a.text }
 
 taken_front : (heard : List Command → Type 0) (d : Desk) (before : ℕ) (bytes : List ℕ) (left h h' : Option (List ℕ)) (console : Kept)
-    → TakenScript true heard d before bytes left h h' console → AnswersInFront d (lines_of bytes) h h'
+    → TakenScript true heard d before bytes left h h' console → AnswersInFront (by_desk d) (lines_of bytes) h h'
 taken_front heard d before bytes left h h' console a =
     record { places = a.places; wants = a.wants refl; text = whole_of_all d (lines_of bytes) a.places a.cut.lines h h' a.text }
 
 pub answered_front : (heard : List Command → Type 0) (o unread left h h' : Option (List ℕ)) (d : Desk) (taken : ℕ) (console : Kept)
     (r : Result Tally SessionFault)
     → IfSome o (λ bytes. SessionOutcome true heard d taken bytes unread left h h' console r)
-    → IfSome o (λ bytes. AnswersInFront d (lines_of bytes) h h')
+    → IfSome o (λ bytes. AnswersInFront (by_desk d) (lines_of bytes) h h')
 answered_front heard o unread left h h' d taken console (Ok tally) p =
     over o _ _ p (λ xs a. record {
       places = a.places;
@@ -53,7 +54,7 @@ answered_front heard o unread left h h' d taken console (Err faults.Memory) p =
 
 -- Where the script couldn't be read on, it answered what was taken of it.
 taken_of : (heard : List Command → Type 0) (d : Desk) (before : ℕ) (bytes : List ℕ) (left h h' : Option (List ℕ)) (console : Kept)
-    → TakenScript true heard d before bytes left h h' console → AnswersTaken d before bytes left h h'
+    → TakenScript true heard d before bytes left h h' console → AnswersTaken (by_desk d) before bytes left h h'
 taken_of heard d before bytes left h h' console a = record { places = a.places; wants = a.wants refl; cut = a.cut; text = a.text }
 
 both : (o : Option (List ℕ)) (P Q R : List ℕ → Type 0) → IfSome o P → IfSome o Q → ((xs : List ℕ) → P xs → Q xs → R xs) → IfSome o R
@@ -64,7 +65,7 @@ both (Some xs) P Q R p q f = f xs p q
 pub has_played : (heard : List Command → Type 0) (o unread left h h' : Option (List ℕ)) (d : Desk) (taken : ℕ) (console : Kept)
     (r : Result Tally SessionFault)
     → IfSome o (λ bytes. SessionOutcome true heard d taken bytes unread left h h' console r) → IfSome o (λ bytes. KeepsLimit taken bytes r)
-    → IfSome o (λ bytes. HasPlayed (status_for r) d taken bytes left h h')
+    → IfSome o (λ bytes. HasPlayed (status_for r) (by_desk d) taken bytes left h h')
 has_played heard o unread left h h' d taken console (Ok tally) p limit =
     both o _ _ _ p limit (λ xs a fits. (record { places = a.places; wants = a.wants refl; text = a.text }, fits))
 has_played heard o unread left h h' d taken console (Err faults.ReadFault) p limit =

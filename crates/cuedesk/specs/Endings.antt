@@ -3,11 +3,11 @@ use Rattle.std.specs.Prelude.{◌≡◌, ◌⊎◌, ℕ, ◌+◌, ◌<◌, ◌�
 use Rattle.lx_base.specs.declared.TheConstants.{INPUT_BYTES}
 use Rattle.lx_io.specs.Causes.{Rose}
 use Rattle.lx_spec.specs.declared.Job.{Job}
-use Rattle.lx_spec.specs.declared.Job.TheVariants.{Check, Render, Sheet, Make, Run}
+use Rattle.lx_spec.specs.declared.Job.TheVariants.{Check, Render, Sheet, Make, Run, Undo, Two}
 use Rattle.lx_spec.specs.Text.{lines_of}
-use Rattle.lx_spec.specs.Desk.{Desk}
 use Rattle.lx_spec.specs.Session.{bytes_wanted}
 use Rattle.lx_spec.specs.Job.{show_of, wanted_of}
+use Rattle.cuedesk.specs.Answering.{Answering}
 use Rattle.cuedesk.specs.Output.{WritesAll, WritesPrefix, WritesTaken, AnswersScript, AnswersInFront, AnswersTaken}
 use Rattle.cuedesk.specs.declared.desk.Status.{Status}
 use Rattle.cuedesk.specs.declared.desk.Status.TheVariants as status
@@ -20,6 +20,8 @@ at_once (Some (Render form)) = None
 at_once (Some (Sheet form)) = None
 at_once (Some (Make n)) = None
 at_once (Some (Run universes form)) = Some status.Live
+at_once (Some (Undo form)) = None
+at_once (Some (Two form)) = None
 
 -- Words that have such a status are answered with it, unless memory was wanted in vain, and then nothing is read or written; no other
 -- words are.
@@ -64,13 +66,13 @@ HasCauseOf status.ReadFault reads reads' writes writes' = Rose reads reads'
 HasCauseOf status.WriteFault reads reads' writes writes' = Rose writes writes'
 HasCauseOf other reads reads' writes writes' = Unit {0}
 
--- The same of a script over a desk, before which so many bytes of the input were taken.
-abbrev pub HasPlayed : Status → Desk → ℕ → List ℕ → Option (List ℕ) → Option (List ℕ) → Option (List ℕ) → Type 0
-HasPlayed status.Ok d before bytes left held held' =
-    AnswersScript d (lines_of bytes) held held' × (before + length (bytes_wanted bytes) ≤ INPUT_BYTES)
-HasPlayed status.ReadFault d before bytes left held held' = AnswersTaken d before bytes left held held'
-HasPlayed status.InputTooLong d before bytes left held held' =
-    AnswersTaken d before bytes left held held' × (INPUT_BYTES < before + length (bytes_wanted bytes))
-HasPlayed status.WriteFault d before bytes left held held' = AnswersInFront d (lines_of bytes) held held'
-HasPlayed status.Memory d before bytes left held held' = AnswersInFront d (lines_of bytes) held held'
-HasPlayed other d before bytes left held held' = ⊥
+-- The same of a script that is answered so, before which so many bytes of the input were taken.
+abbrev pub HasPlayed : Status → Answering → ℕ → List ℕ → Option (List ℕ) → Option (List ℕ) → Option (List ℕ) → Type 0
+HasPlayed status.Ok by before bytes left held held' =
+    AnswersScript by (lines_of bytes) held held' × (before + length (bytes_wanted bytes) ≤ INPUT_BYTES)
+HasPlayed status.ReadFault by before bytes left held held' = AnswersTaken by before bytes left held held'
+HasPlayed status.InputTooLong by before bytes left held held' =
+    AnswersTaken by before bytes left held held' × (INPUT_BYTES < before + length (bytes_wanted bytes))
+HasPlayed status.WriteFault by before bytes left held held' = AnswersInFront by (lines_of bytes) held held'
+HasPlayed status.Memory by before bytes left held held' = AnswersInFront by (lines_of bytes) held held'
+HasPlayed other by before bytes left held held' = ⊥

@@ -3,17 +3,13 @@ use Rattle.std.specs.Prelude.{◌≡◌, ◌≤◌, ℕ, ◌-◌, Option, IfSome
 use Rattle.std.specs.Io.KnownBytes.{Appends}
 use Rattle.lx_io.specs.Puts.{AppendsFront}
 use Rattle.lx_base.specs.declared.TheConstants.{UNIVERSES}
-use Rattle.lx_spec.specs.declared.Form.{Form}
 use Rattle.lx_spec.specs.declared.Job.{Job}
-use Rattle.lx_spec.specs.declared.Job.TheVariants.{Check, Render, Sheet, Make, Run}
+use Rattle.lx_spec.specs.declared.Job.TheVariants.{Check, Render, Sheet, Make, Run, Undo, Two}
 use Rattle.lx_spec.specs.Text.{lines_of}
-use Rattle.lx_spec.specs.Desk.{Desk}
-use Rattle.lx_spec.specs.Reading.{reads, script_of, lines_read}
+use Rattle.lx_spec.specs.Reading.{lines_read}
 use Rattle.lx_spec.specs.CutInput.{CutOff}
-use Rattle.lx_spec.specs.Session.{replies, after_first}
-use Rattle.lx_spec.specs.RefusedPlaces.{PlacesAreEdits}
-use Rattle.lx_spec.specs.RenderOutput.{first_replies}
-use Rattle.lx_spec.specs.Job.{job_of, given_to, output_of, WantsEdits}
+use Rattle.lx_spec.specs.Job.{job_of, given_to, output_of, replies_of, WantsEdits}
+use Rattle.cuedesk.specs.Answering.{Answering}
 
 -- Of the job that the words name, and of the bytes that it is given.
 abbrev pub OfJob : List (List ℕ) → Option (List ℕ) → (Job → List ℕ → Type 0) → Type 0
@@ -32,19 +28,21 @@ pub record WritesPrefix (job : Job) (bytes : List ℕ) (held held' : Option (Lis
   pub text : AppendsFront held held' (output_of job bytes places)
 
 -- The input was cut off: the replies to the script lines that were taken whole, within its limit, were written.
-pub record RepliesToTaken (job : Job) (form : Form) (bytes : List ℕ) (left held held' : Option (List ℕ)) : Type 0 where
+pub record RepliesToTaken (job : Job) (bytes : List ℕ) (left held held' : Option (List ℕ)) : Type 0 where
   pub places : List ℕ
   pub wants : WantsEdits job bytes places
   pub cut : CutOff 0 bytes left
-  pub text : Appends held held' (first_replies (reads form bytes) (script_of bytes) places (cut.lines - lines_read (lines_of bytes)))
+  pub text : Appends held held' (replies_of job bytes places (cut.lines - lines_read (lines_of bytes)))
 
 -- By the jobs that answer a script they are, and by every other job nothing is.
 abbrev pub WritesTaken : Job → List ℕ → Option (List ℕ) → Option (List ℕ) → Option (List ℕ) → Type 0
 WritesTaken (Check form) bytes left held held' = held' ≡ held
-WritesTaken (Render form) bytes left held held' = RepliesToTaken (Render form) form bytes left held held'
+WritesTaken (Render form) bytes left held held' = RepliesToTaken (Render form) bytes left held held'
 WritesTaken (Sheet form) bytes left held held' = held' ≡ held
 WritesTaken (Make n) bytes left held held' = held' ≡ held
-WritesTaken (Run universes form) bytes left held held' = RepliesToTaken (Run universes form) form bytes left held held'
+WritesTaken (Run universes form) bytes left held held' = RepliesToTaken (Run universes form) bytes left held held'
+WritesTaken (Undo form) bytes left held held' = RepliesToTaken (Undo form) bytes left held held'
+WritesTaken (Two form) bytes left held held' = RepliesToTaken (Two form) bytes left held held'
 
 -- what plays live plays 1 to all universes
 abbrev pub HasUniverses : Job → Type 0
@@ -53,21 +51,23 @@ HasUniverses (Render form) = Unit {0}
 HasUniverses (Sheet form) = Unit {0}
 HasUniverses (Make n) = Unit {0}
 HasUniverses (Run universes form) = (1 ≤ universes) × (universes ≤ UNIVERSES)
+HasUniverses (Undo form) = Unit {0}
+HasUniverses (Two form) = Unit {0}
 
--- A script was answered from a desk on, wholly or by a prefix of the replies.
-pub record AnswersScript (d : Desk) (script : List (List ℕ)) (held held' : Option (List ℕ)) : Type 0 where
+-- A script was answered, wholly or by a prefix of the replies.
+pub record AnswersScript (by : Answering) (script : List (List ℕ)) (held held' : Option (List ℕ)) : Type 0 where
   pub places : List ℕ
-  pub wants : PlacesAreEdits d script places
-  pub text : Appends held held' (replies d script places)
+  pub wants : by.Allows script places
+  pub text : Appends held held' (by.whole script places)
 
-pub record AnswersInFront (d : Desk) (script : List (List ℕ)) (held held' : Option (List ℕ)) : Type 0 where
+pub record AnswersInFront (by : Answering) (script : List (List ℕ)) (held held' : Option (List ℕ)) : Type 0 where
   pub places : List ℕ
-  pub wants : PlacesAreEdits d script places
-  pub text : AppendsFront held held' (replies d script places)
+  pub wants : by.Allows script places
+  pub text : AppendsFront held held' (by.whole script places)
 
--- The lines of a script that were taken whole were answered from a desk on, and wholly.
-pub record AnswersTaken (d : Desk) (before : ℕ) (bytes : List ℕ) (left held held' : Option (List ℕ)) : Type 0 where
+-- The lines of a script that were taken whole were answered, and wholly.
+pub record AnswersTaken (by : Answering) (before : ℕ) (bytes : List ℕ) (left held held' : Option (List ℕ)) : Type 0 where
   pub places : List ℕ
-  pub wants : PlacesAreEdits d (lines_of bytes) places
+  pub wants : by.Allows (lines_of bytes) places
   pub cut : CutOff before bytes left
-  pub text : Appends held held' (after_first d (lines_of bytes) places cut.lines).text
+  pub text : Appends held held' (by.first (lines_of bytes) places cut.lines)

@@ -9,6 +9,7 @@ use crate::check::check;
 use crate::make::make;
 use crate::render::render;
 use crate::sheet::sheet;
+use crate::undo::undo;
 use crate::words::{WordsFault, words_of};
 use lx_io::{Sink, Source};
 use lx_spec::Job;
@@ -17,7 +18,7 @@ use std::alloc::Global;
 /// How the program ended. `main` makes an exit status of it.
 #[derive(Clone, Copy, Debug, PartialEq, Eq)]
 pub enum Status {
-    /// The job was done: `render` read its script to `quit` or to the end, and answered it.
+    /// The job was done: a script was read to `quit` or to the end, and answered.
     Ok,
     /// The show was refused, and one line says why and where.
     ShowRefused,
@@ -40,7 +41,7 @@ pub enum Status {
 /// For the bytes that the input had left, the text that is written is what the definitions give for the job: the line of a
 /// refused show, the line or the cue list of a show, or the replies to a script, in which each command is done or refused
 /// as the desk does it and each frame is evaluated over the whole show as it then is and the whole list of runs since the
-/// opening. Want of memory refuses nothing but edits.
+/// opening; by `undo` edits and records are undone and redone besides. Want of memory refuses nothing but edits and records.
 pub fn desk<S: Source, K: Sink>(
     alloc: Global,
     words: &[String],
@@ -83,5 +84,7 @@ fn run<S: Source, K: Sink>(alloc: Global, job: Job, input: &mut S, output: &mut 
         Job::Sheet(form) => sheet(alloc, form, input, output),
         Job::Make(cues) => make(alloc, cues, output),
         Job::Run(..) => Status::Live,
+        Job::Undo(form) => undo(alloc, form, input, output),
+        Job::Two(form) => render(alloc, form, input, output),
     }
 }

@@ -27,8 +27,8 @@ pub enum WordsFault {
     Memory,
 }
 
-/// The job that the words name: `check`, `render` or `sheet`, or one of them and `states`; `make` and a number of cues; or
-/// `run` and a number of universes, or these and `states`. `Usage` comes exactly where they are none of these.
+/// The job that the words name: `check`, `render`, `sheet`, `undo` or `two`, or one of them and `states`; `make` and a number of
+/// cues; or `run` and a number of universes, or these and `states`. `Usage` comes exactly where they are none of these.
 pub fn words_of(alloc: Global, words: &[String]) -> Result<Job, WordsFault>
     ensures job { IfOk result (λ job. job_of (map string_bytes words.now) ≡ Some job) }
     ensures universes { IfOk result HasUniverses }
@@ -97,6 +97,8 @@ fn job_in(words: &[&str]) -> Option<Job>
         "sheet" => form_in(rest).map(Job::Sheet),
         "make" => number_alone(CUES as u32, rest).map(Job::Make),
         "run" => run_in(rest),
+        "undo" => form_in(rest).map(Job::Undo),
+        "two" => form_in(rest).map(Job::Two),
         _ => None,
     }
 }

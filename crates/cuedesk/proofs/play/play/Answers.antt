@@ -1,6 +1,7 @@
 use Rattle.std.proofs.Common.{sym, subst, IfSome}
 use Rattle.lx_spec.specs.Desk.{opened}
 use Rattle.lx_lex.specs.Unread.{unread}
+use Rattle.cuedesk.specs.Answering.{by_desk}
 use Rattle.cuedesk.specs.Endings.{EndsScript, HasPlayed, HasCauseOf}
 use Rattle.cuedesk.proofs.Inputs.{nothing_answered}
 use Rattle.cuedesk.proofs.Statuses.{answered_front, has_played, ends_script, has_cause}
@@ -18,7 +19,7 @@ returns-clause-works g c = subst EndsScript (sym c.status_of.ensures) (ends_scri
 pub returns-clause-ended : goal.returns-clause-ended
 returns-clause-ended g c =
     subst (λ s. IfSome (unread g.S.Source.left c.args.lines.now)
-    (λ bytes. HasPlayed s (opened c.args.show) c.args.lines.now.taken bytes (g.S.Source.left c.session.new.lines.source.now)
+    (λ bytes. HasPlayed s (by_desk (opened c.args.show)) c.args.lines.now.taken bytes (g.S.Source.left c.session.new.lines.source.now)
     (g.K.Sink.holds c.args.output.now) (g.K.Sink.holds c.session.new.sink))) (sym c.status_of.ensures)
     (has_played _ _ _ _ _ _ (opened c.args.show) _ _ c.session.result (c.session.ensures.outcome (opened c.args.show) c.in-Ok.ensures)
     c.session.ensures.limit)

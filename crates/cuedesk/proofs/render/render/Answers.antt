@@ -1,7 +1,9 @@
 use Rattle.std.proofs.Common.{sym, ◌∙◌, subst, IfSome}
 use Rattle.lx_spec.specs.declared.Job.TheVariants.{Render}
 use Rattle.cuedesk.specs.Endings.{HasEnded}
-use Rattle.cuedesk.proofs.Inputs.{session_front, refusal_front, render_over}
+use Rattle.cuedesk.proofs.Inputs.{session_front, refusal_front}
+use Rattle.cuedesk.specs.Answering.{render_by}
+use Rattle.cuedesk.proofs.ScriptJobs.{render_script, render_over}
 use Rattle.cuedesk.proofs.Endings.{script_job, script_ended, refusal_ends, refusal_ended}
 use Rattle.cuedesk.proofs.render.render.Goals as goal
 
@@ -15,11 +17,12 @@ returns-in-Ok-clause-ended g c =
     subst (λ v. IfSome (g.S.Source.left c.args.input.now)
     (λ bytes. HasEnded c.play.result (Render c.args.form) bytes (g.S.Source.left v) (g.K.Sink.holds c.args.output.now)
     (g.K.Sink.holds c.play.new.output))) (sym same)
-    (script_ended c.args.form _ _ _ _ c.in-Ok.loaded _ _ _ _ c.play.result c.new-lines.ensures.unread c.new-lines.ensures.taken
+    (script_ended c.args.form (Render c.args.form) render_by (render_script c.args.form) _ _ _ _ c.in-Ok.loaded _ _ _ _ c.play.result c.new-lines.ensures.unread c.new-lines.ensures.taken
     c.in-Ok.ensures.answer c.play.ensures.works c.play.ensures.ended)
 
 pub returns-in-Ok-clause-prefix : goal.returns-in-Ok-clause-prefix
-returns-in-Ok-clause-prefix g c = session_front c.args.form _ _ _ _ c.in-Ok.loaded _ _ _ c.new-lines.ensures.unread c.in-Ok.ensures.answer
+returns-in-Ok-clause-prefix g c = session_front c.args.form (Render c.args.form) render_by (render_script c.args.form) _ _ _ _
+    c.in-Ok.loaded _ _ _ c.new-lines.ensures.unread c.in-Ok.ensures.answer
     c.play.ensures.front
 
 pub returns-in-Err-clause-works : goal.returns-in-Err-clause-works
