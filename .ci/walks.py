@@ -91,6 +91,7 @@ class Walk:
     def __init__(self, seed):
         self.random = random.Random(seed)
         self.channels = self.pick(3, 6, 12, 40, 513)
+        self.words = self.pick(("render",), ("render",), ("render",), ("undo",), ("undo", "states"), *JOBS)
 
     def pick(self, *among):
         return self.random.choice(among)
@@ -165,6 +166,8 @@ class Walk:
         return self.pick("go", "go", "go", "back", f"goto {self.cue()}", "settle", f"fader {self.below(3)} at {self.level()}", f"master at {self.level()}")
 
     def line(self):
+        if self.words[0] == "undo" and self.often(.2):
+            return self.pick("undo", "undo", "redo", f"record {self.cue()}", f"record {self.cue()} only")
         chance = self.random.random()
         if chance < .25:
             return self.key()
@@ -180,14 +183,11 @@ class Walk:
         script = [self.line() for _ in range(self.random.randrange(5, 120))]
         return "\n".join([*self.show(), *script, "frame", "frame 2", "save", ""]).encode()
 
-    def words(self):
-        return self.pick(("render",), ("render",), ("render",), *JOBS)
-
 
 def walk_inputs(count, seed):
     for k in range(count):
         walk = Walk(1_000_000 * seed + k)
-        yield walk.words(), walk.input()
+        yield walk.words, walk.input()
 
 
 # ---------------------------------------------------------------------------------------------------------------------
