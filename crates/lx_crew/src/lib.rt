@@ -1,0 +1,8 @@
+//! A crew: several operators send the lines of their scripts at the same time, through one queue, to an engine that answers each.
+#![tactic(auto)]
+
+mod entry;
+mod rule;
+
+pub use entry::{Entry, LineText, Sent};
+pub use rule::{Enters, Gets, Law, Leaves, Queue, Sends, Total, View};
