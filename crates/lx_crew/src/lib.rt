@@ -3,6 +3,8 @@
 
 mod entry;
 mod rule;
+mod steps;
 
 pub use entry::{Entry, LineText, Sent};
 pub use rule::{Enters, Gets, Law, Leaves, Queue, Sends, Total, View};
+pub use steps::{open_queue, try_send, try_take};
