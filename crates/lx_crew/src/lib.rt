@@ -7,4 +7,4 @@ mod steps;
 
 pub use entry::{Entry, LineText, Sent};
 pub use rule::{Enters, Gets, Law, Leaves, Queue, Sends, Total, View};
-pub use steps::{open_queue, try_send, try_take};
+pub use steps::{enter, learn_total, open_queue, take_in, try_send, try_take};
