@@ -1,0 +1,58 @@
+-- Lists of entries.
+use Rattle.std.proofs.Common.{◌≡◌, ◌≢◌, ℕ, zero, suc, ◌+◌, ◌==◌, ◌||◌, Bool, true, false, true≢false, List, [], ◌∷◌, ◌++◌, length, sym, refl, ap, ◌∙◌, subst, append-nil, append_assoc, eq-eqb, ne_eqb, arith}
+use Rattle.std.specs.List.{filter, AllByRecursion}
+use Rattle.std.proofs.lemmas.List.Elements.{filter-append}
+use Rattle.lx_crew.specs.declared.entry.Entry.{Entry}
+use Rattle.lx_crew.specs.Entries.{of_place, Numbered, is_last, has_last}
+
+pub all_map : {X : Type 0} (P Q : X → Type 0) (xs : List X) → ((x : X) → P x → Q x) → AllByRecursion P xs → AllByRecursion Q xs
+all_map P Q [] f h = tt
+all_map P Q (x ∷ xs) f h = (f x h.0, all_map P Q xs f h.1)
+
+pub of_mine : (k : ℕ) (xs : List Entry) (e : Entry) → e.place ≡ k → of_place k (xs ++ e ∷ []) ≡ of_place k xs ++ e ∷ []
+of_mine k xs e h = rw (filter-append (λ (x : Entry). x.place == k) xs (e ∷ []), eq-eqb e.place k h) refl
+
+pub of_other : (k : ℕ) (xs : List Entry) (e : Entry) → e.place ≢ k → of_place k (xs ++ e ∷ []) ≡ of_place k xs
+of_other k xs e h = rw (filter-append (λ (x : Entry). x.place == k) xs (e ∷ []), ne_eqb e.place k h) (append-nil (of_place k xs))
+
+pub numbered_snoc : (n : ℕ) (xs : List Entry) (e : Entry) → Numbered n xs → e.number ≡ n + length xs → Numbered n (xs ++ e ∷ [])
+numbered_snoc n [] e h is = (omega (arith, is), tt)
+numbered_snoc n (x ∷ xs) e h is = (h.0, numbered_snoc (n + 1) xs e h.1 (omega (arith, is)))
+
+or_longer : (a b b' : Bool) → (b ≡ true → b' ≡ true) → (a || b) ≡ true → (a || b') ≡ true
+or_longer true b b' f e = refl
+or_longer false b b' f e = f e
+
+or_true : (a : Bool) → (a || true) ≡ true
+or_true true = refl
+or_true false = refl
+
+or_none : (a b : Bool) → a ≡ false → (a || b) ≡ true → b ≡ true
+or_none a b none e = let t : (false || b) ≡ true = subst (λ (c : Bool). (c || b) ≡ true) none e in t
+
+abbrev head_last : List Entry → Bool
+head_last [] = false
+head_last (x ∷ xs) = is_last x.sent
+
+abbrev tail_of : List Entry → List Entry
+tail_of [] = []
+tail_of (x ∷ xs) = xs
+
+none_behind : (xs ys : List Entry) → xs ++ ys ≡ [] → ys ≡ []
+none_behind [] ys e = e
+none_behind (x ∷ xs) ys e = absurd cc
+
+pub last_longer : (xs ys : List Entry) → has_last xs ≡ true → has_last (xs ++ ys) ≡ true
+last_longer [] ys e = absurd (true≢false (sym e))
+last_longer (x ∷ xs) ys e = or_longer (is_last x.sent) (has_last xs) (has_last (xs ++ ys)) (λ h. last_longer xs ys h) e
+
+pub last_snoc : (xs : List Entry) (e : Entry) → is_last e.sent ≡ true → has_last (xs ++ e ∷ []) ≡ true
+last_snoc [] e is = rw is refl
+last_snoc (x ∷ xs) e is = rw (last_snoc xs e is) (or_true (is_last x.sent))
+
+-- an end of operator k stays, also behind one more entry
+pub last_on : (k : ℕ) (xs : List Entry) (e : Entry) → has_last (of_place k xs) ≡ true → has_last (of_place k (xs ++ e ∷ [])) ≡ true
+last_on k xs e h = rw (filter-append (λ (x : Entry). x.place == k) xs (e ∷ [])) (last_longer (of_place k xs) (of_place k (e ∷ [])) h)
+
+pub last_here : (k : ℕ) (xs : List Entry) (e : Entry) → e.place ≡ k → is_last e.sent ≡ true → has_last (of_place k (xs ++ e ∷ [])) ≡ true
+last_here k xs e own last = rw (of_mine k xs e own) (last_snoc (of_place k xs) e last)

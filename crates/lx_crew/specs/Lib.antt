@@ -1,0 +1,3 @@
+-- What the contracts of the crew speak of.
+pub mod Entries
+pub mod Rule
