@@ -250,7 +250,8 @@ def undo_cases():
     """Cue 1 brings channel 1 to full in 10 seconds, and is half way there after 250 ticks."""
     def over(name, script, replies, cues="", text=None, **special):
         before = show("CUE 1\nUP 10\nCHAN 1@FL\n" + cues) if text is None else text
-        return Case(f"undo: {name}", before + script.replace("|", "\n") + "\n", replies.replace("|", "\n") + "\n", words=("undo",), **special)
+        return Case(f"undo: {name}", before + script.replace("|", "\n") + "\n", replies.replace("|", "\n") + "\n", words=("undo",),
+                    **special)
 
     wrong = ["undo 1", "redo all", "record", "record 0", "record x", "record 1 2", "record 1 chan 1", "record only", "record 1 only only",
              "undo x" + " " * 4096]
@@ -265,7 +266,8 @@ def undo_cases():
              "ok|" * 33 + "refused NothingToUndo|" + first),
         over("a refused edit is none to undo, and an accepted one ends redo", "set 9 chan 1 at 5|undo|label 1 x|undo|cue 1|redo|undo|undo",
              "refused AbsentCue 9|refused NothingToUndo|ok|ok|ok|refused NothingToRedo|ok|refused NothingToUndo"),
-        over("keys, ticks and faders are none to undo", "go|tick 250|master at 50|undo|frame", "ok|ok|ok|refused NothingToUndo|frame 500 1 1=63"),
+        over("keys, ticks and faders are none to undo", "go|tick 250|master at 50|undo|frame",
+             "ok|ok|ok|refused NothingToUndo|frame 500 1 1=63"),
         over("the playback goes on while shows come back", "label 1 x|go|tick 100|undo|tick 150|frame", "ok|ok|ok|ok|ok|frame 500 1 1=127"),
         over("a record may leave the next cue's look", "go|tick 250|record 2 only|sheet 2|sheet 3|undo|record 2|sheet 3",
              "ok|ok|ok|row 2 1=127|row 3 1=255|ok|ok|row 3 1=127", cues="CUE 3\n"),
