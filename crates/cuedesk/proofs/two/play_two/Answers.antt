@@ -13,7 +13,7 @@ returns-in_default-clause-front g c = nothing_answered_by (two_by c.args.show)
     (none_allowed two_answer TwoMayWant (opened_two c.args.show)) _ _
 
 pub play_by-requires-clause-lawful : goal.play_by-requires-clause-lawful
-play_by-requires-clause-lawful g c = λ κs bounds. two_lawful
+play_by-requires-clause-lawful g c = two_lawful
 
 pub returns-clause-ended : goal.returns-clause-ended
 returns-clause-ended g c = c.play_by.ensures.ended (opened_two c.args.show) c.in-Ok.ensures
