@@ -68,7 +68,8 @@ def job_cases():
     wrong = [("make",), ("make", "0"), ("make", "4001"), ("make", "01"), ("make", "1", "2"), ("make", "+1"), ("make", "-1"),
              ("make", "1x"), ("make", ""), ("make", "4294967297"), ("make", "1", "states"), ("run",), ("run", "0"), ("run", "33"),
              ("run", "01"), ("run", "1", "moves"), ("run", "states"), ("undo", "moves"), ("undo", "1"), ("Undo",),
-             ("undo", "states", "states"), ("two", "moves"), ("two", "2"), ("TWO",), ("render", "-"), ("check", "--"), ("-h",), ("help",), ("--version",)]
+             ("undo", "states", "states"), ("two", "moves"), ("two", "2"), ("TWO",), ("render", "-"), ("check", "--"), ("-h",),
+             ("help",), ("--version",)]
     return [made(words, "", status=2, error=USAGE) for words in wrong] + [
         made(("make", "1"), "cues 1\nmoment 174\nok 3\nrefused 0\nsum 127\n"),
         made(("make", "30"), "cues 30\nmoment 3308\nok 90\nrefused 0\nsum 16319\n"),
@@ -288,15 +289,17 @@ def two_cases():
     lists = "CUE 1\n" + AT_ONCE + "CHAN 1@H64\nCUE 5000\n" + AT_ONCE + "CHAN 1@HC8\n"
 
     def over(name, script, replies, cues=lists, words=("two",), **special):
-        return Case(f"two: {name}", show(cues) + script.replace("|", "\n") + "\n", replies.replace("|", "\n") + "\n", words=words, **special)
+        return Case(f"two: {name}", show(cues) + script.replace("|", "\n") + "\n", replies.replace("|", "\n") + "\n", words=words,
+                    **special)
 
-    wrong = ["2", "2 ! go", "2 frame", "2 tick", "2 tick 5", "2 fader 1 at 5", "2 master at 5", "2 sub 1 chan 1 at 5", "2 patch 1 chan 1 at 5",
-             "2 unpatch 1", "2 quit", "2 2 go", "2 go now", "2 set 5000", "2 undo", "undo", "redo", "record 1", "02 go", "2. go",
+    wrong = ["2", "2 ! go", "2 frame", "2 tick", "2 tick 5", "2 fader 1 at 5", "2 master at 5", "2 sub 1 chan 1 at 5",
+             "2 patch 1 chan 1 at 5", "2 unpatch 1", "2 quit", "2 2 go", "2 go now", "2 set 5000", "2 undo", "undo", "redo", "record 1", "02 go", "2. go",
              "2 label 5000 " + "x" * 4096]
     saved = "IDENT 3:0|SET CHANNELS 512|PATCH 1 1<1@HFF|CUE {}|{}PART 1|UP 0 0|DOWN 0 0|CHAN 1@H{}|ENDDATA"
     return [
         over("the greater of both governs", "go|frame|2 go|frame|go|2 back|2 frame|2 set 5000 chan 1 at 0|frame|sheet 5000",
-             "ok|frame 0 1 1=100|ok|frame 0 1 1=200|refused NoCueAfter 1|refused NoCueBefore 5000|bad|ok|frame 0 1 1=100|refused AbsentCue 5000"),
+             "ok|frame 0 1 1=100|ok|frame 0 1 1=200|refused NoCueAfter 1|refused NoCueBefore 5000|bad|ok|frame 0 1 1=100"
+             "|refused AbsentCue 5000"),
         over("lines for the second list that are bad", "|".join(wrong) + "|2 go", "|".join(["bad"] * len(wrong)) + "|ok"),
         over("a tick is for both", "go|2 go|tick 250|frame", "ok|ok|ok|frame 500 1 1=127",
              cues="CUE 1\nUP 10\nCHAN 1@FL\nCUE 5000\nUP 20\nCHAN 1@FL\n"),
@@ -308,9 +311,12 @@ def two_cases():
              "ok|" + saved.format(1, "", 64) + "|" + saved.format(5000, "TEXT The house ! open|", "C8")),
         over("an edit of one list leaves the other", "cue 6000|2 cue 2|sheet 6000|2 sheet 6000|2 sheet 2|sheet 2|2 sheet 5000",
              "ok|ok|row 6000 1=100|refused AbsentCue 6000|row 2|refused AbsentCue 2|row 5000 1=200"),
-        over("the lists meet at 5000", "go|go|2 go|2 back", "ok|refused NoCueAfter 4999.999|ok|refused NoCueBefore 5000", cues="CUE 4999.999\nCUE 5000\n"),
-        over("a key of one list leaves the other", "2 go|goto 1|2 settle|2 goto 1|2 goto 5000|frame", "ok|ok|ok|refused AbsentCue 1|ok|frame 0 1 1=200"),
-        over("looks", "sheet 1|2 sheet 5000", "row 1 1=255|row 5000 2=255", cues="CUE 1\nCHAN 1@FL\nCUE 5000\nCHAN 2@FL\n", words=("two", "states")),
+        over("the lists meet at 5000", "go|go|2 go|2 back", "ok|refused NoCueAfter 4999.999|ok|refused NoCueBefore 5000",
+             cues="CUE 4999.999\nCUE 5000\n"),
+        over("a key of one list leaves the other", "2 go|goto 1|2 settle|2 goto 1|2 goto 5000|frame",
+             "ok|ok|ok|refused AbsentCue 1|ok|frame 0 1 1=200"),
+        over("looks", "sheet 1|2 sheet 5000", "row 1 1=255|row 5000 2=255", cues="CUE 1\nCHAN 1@FL\nCUE 5000\nCHAN 2@FL\n",
+             words=("two", "states")),
         over("a show that is refused", "2 go", "show OutOfRange 4", cues="CUE 5000\nCHAN 1@101\n", status=1),
         Case("two: status 6 for a script that is too long", (ONE_CUE + "2 go\n").encode() + b"!" * INPUT_BYTES, "refused NoCueAfter 0\n",
              status=6, words=("two",)),

@@ -92,8 +92,8 @@ UNDONE = (SHOW + "\n".join(["go", "tick 4", "set 1 chan 2 at H32", "undo", "fram
                             "undo", "save", "frame", "quit"]) + "\n").encode()
 LISTS = (SHOW.replace("ENDDATA", "CUE 5000\nUP 0\nCHAN 1@H40 3@FL\nENDDATA") + "\n".join(
     ["go", "2 go", "tick 4", "frame", "2 set 5000 chan 2 at H32", "2 cue 6000", "cue 3", "2 label 6000 the last", "2 sheet 6000", "2 frame",
-     "patch 700 chan 3 at 50", "sub 2 chan 3 at 50", "sub 2 chan 1 at FL", "fader 2 at 50", "frame 2", "2 delete 5000 only", "2 sub 2 chan 3 at 5",
-     "2 save", "save", "2 go", "tick", "frame", "quit"]) + "\n").encode()
+     "patch 700 chan 3 at 50", "sub 2 chan 3 at 50", "sub 2 chan 1 at FL", "fader 2 at 50", "frame 2", "2 delete 5000 only",
+     "2 sub 2 chan 3 at 5", "2 save", "save", "2 go", "tick", "frame", "quit"]) + "\n").encode()
 LOOKS = SHOW.encode() + b"sheet 1\nsheet 2\n"
 MADE = b"cues 1\nmoment 174\nok 3\nrefused 0\nsum 127\n"
 JOBS = [(("render",), WHOLE), (("render", "states"), LOOKS), (("check",), WHOLE), (("check", "states"), WHOLE), (("sheet",), WHOLE),
