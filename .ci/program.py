@@ -68,7 +68,8 @@ def job_cases():
     wrong = [("make",), ("make", "0"), ("make", "4001"), ("make", "01"), ("make", "1", "2"), ("make", "+1"), ("make", "-1"),
              ("make", "1x"), ("make", ""), ("make", "4294967297"), ("make", "1", "states"), ("run",), ("run", "0"), ("run", "33"),
              ("run", "01"), ("run", "1", "moves"), ("run", "states"), ("undo", "moves"), ("undo", "1"), ("Undo",),
-             ("undo", "states", "states"), ("render", "-"), ("check", "--"), ("-h",), ("help",), ("--version",)]
+             ("undo", "states", "states"), ("two", "moves"), ("two", "2"), ("TWO",), ("render", "-"), ("check", "--"), ("-h",),
+             ("help",), ("--version",)]
     return [made(words, "", status=2, error=USAGE) for words in wrong] + [
         made(("make", "1"), "cues 1\nmoment 174\nok 3\nrefused 0\nsum 127\n"),
         made(("make", "30"), "cues 30\nmoment 3308\nok 90\nrefused 0\nsum 16319\n"),
@@ -89,10 +90,10 @@ def edge_cases():
         Case("status 4 where a refused show's line can't be written", "CUE 1\n", "", status=4, full=True),
         *[Case(f"status 4 of {' '.join(words)} on a full device", ONE_CUE + "go\n", "", status=4, words=words, full=True)
           for words in (("check",), ("check", "states"), ("sheet",), ("sheet", "states"), ("make", "1"), ("render", "states"), ("run", "1"),
-                        ("undo",), ("undo", "states"))],
+                        ("undo",), ("undo", "states"), ("two",), ("two", "states"))],
         *[Case(f"status 3 of {' '.join(words)} on a folder", b"", "", status=3, words=words, folder=True)
           for words in (("check",), ("check", "states"), ("sheet",), ("sheet", "states"), ("render", "states"), ("run", "1"),
-                        ("run", "1", "states"), ("undo",), ("undo", "states"))],
+                        ("run", "1", "states"), ("undo",), ("undo", "states"), ("two",), ("two", "states"))],
         Case("status 5 for lack of memory", "IDENT 3:0\nSET CHANNELS 4096\nENDDATA\ngo\n", "", status=5, memory=3 << 20),
         Case("status 6 for an input that is too long", b"\n" * INPUT_BYTES + b"X", "", status=6),
         Case("status 6 for a script that is too long", (ONE_CUE + "go\n").encode() + b"!" * INPUT_BYTES, "ok\n", status=6),
@@ -250,7 +251,8 @@ def undo_cases():
     """Cue 1 brings channel 1 to full in 10 seconds, and is half way there after 250 ticks."""
     def over(name, script, replies, cues="", text=None, **special):
         before = show("CUE 1\nUP 10\nCHAN 1@FL\n" + cues) if text is None else text
-        return Case(f"undo: {name}", before + script.replace("|", "\n") + "\n", replies.replace("|", "\n") + "\n", words=("undo",), **special)
+        return Case(f"undo: {name}", before + script.replace("|", "\n") + "\n", replies.replace("|", "\n") + "\n", words=("undo",),
+                    **special)
 
     wrong = ["undo 1", "redo all", "record", "record 0", "record x", "record 1 2", "record 1 chan 1", "record only", "record 1 only only",
              "undo x" + " " * 4096]
@@ -265,7 +267,8 @@ def undo_cases():
              "ok|" * 33 + "refused NothingToUndo|" + first),
         over("a refused edit is none to undo, and an accepted one ends redo", "set 9 chan 1 at 5|undo|label 1 x|undo|cue 1|redo|undo|undo",
              "refused AbsentCue 9|refused NothingToUndo|ok|ok|ok|refused NothingToRedo|ok|refused NothingToUndo"),
-        over("keys, ticks and faders are none to undo", "go|tick 250|master at 50|undo|frame", "ok|ok|ok|refused NothingToUndo|frame 500 1 1=63"),
+        over("keys, ticks and faders are none to undo", "go|tick 250|master at 50|undo|frame",
+             "ok|ok|ok|refused NothingToUndo|frame 500 1 1=63"),
         over("the playback goes on while shows come back", "label 1 x|go|tick 100|undo|tick 150|frame", "ok|ok|ok|ok|ok|frame 500 1 1=127"),
         over("a record may leave the next cue's look", "go|tick 250|record 2 only|sheet 2|sheet 3|undo|record 2|sheet 3",
              "ok|ok|ok|row 2 1=127|row 3 1=255|ok|ok|row 3 1=127", cues="CUE 3\n"),
@@ -278,6 +281,47 @@ def undo_cases():
         Case("undo: status 6 for a script that is too long", (ONE_CUE + "undo\n").encode() + b"!" * INPUT_BYTES, "refused NothingToUndo\n",
              status=6, words=("undo",)),
         Case("by render the lines of undo are bad", ONE_CUE + "cue 2\nundo\nredo\nrecord 1\nsheet 2\n", "ok\nbad\nbad\nbad\nrow 2 1=128\n"),
+    ]
+
+
+def two_cases():
+    """Cue 1 of the first list brings channel 1 to 100, and cue 5000 of the second to 200, both at once."""
+    lists = "CUE 1\n" + AT_ONCE + "CHAN 1@H64\nCUE 5000\n" + AT_ONCE + "CHAN 1@HC8\n"
+
+    def over(name, script, replies, cues=lists, words=("two",), **special):
+        return Case(f"two: {name}", show(cues) + script.replace("|", "\n") + "\n", replies.replace("|", "\n") + "\n", words=words,
+                    **special)
+
+    wrong = ["2", "2 ! go", "2 frame", "2 tick", "2 tick 5", "2 fader 1 at 5", "2 master at 5", "2 sub 1 chan 1 at 5",
+             "2 patch 1 chan 1 at 5", "2 unpatch 1", "2 quit", "2 2 go", "2 go now", "2 set 5000", "2 undo", "undo", "redo", "record 1", "02 go", "2. go",
+             "2 label 5000 " + "x" * 4096]
+    saved = "IDENT 3:0|SET CHANNELS 512|PATCH 1 1<1@HFF|CUE {}|{}PART 1|UP 0 0|DOWN 0 0|CHAN 1@H{}|ENDDATA"
+    return [
+        over("the greater of both governs", "go|frame|2 go|frame|go|2 back|2 frame|2 set 5000 chan 1 at 0|frame|sheet 5000",
+             "ok|frame 0 1 1=100|ok|frame 0 1 1=200|refused NoCueAfter 1|refused NoCueBefore 5000|bad|ok|frame 0 1 1=100"
+             "|refused AbsentCue 5000"),
+        over("lines for the second list that are bad", "|".join(wrong) + "|2 go", "|".join(["bad"] * len(wrong)) + "|ok"),
+        over("a tick is for both", "go|2 go|tick 250|frame", "ok|ok|ok|frame 500 1 1=127",
+             cues="CUE 1\nUP 10\nCHAN 1@FL\nCUE 5000\nUP 20\nCHAN 1@FL\n"),
+        over("the last tick is for both", "tick 100000000|2 go|tick|frame", "ok|ok|refused TickLimit 200000000|frame 200000000 1 1=200"),
+        over("the first list's submasters and master govern", "2 go|master at 50|frame|sub 1 chan 1 at FL|fader 1 at FL|frame",
+             "ok|ok|frame 0 1 1=100|ok|ok|frame 0 1 1=128"),
+        over("the first list's patch governs", "2 go|unpatch 1|frame|patch 513 chan 1 at FL|frame 2", "ok|ok|frame 0 1|ok|frame 0 2 1=200"),
+        over("each list saves its own show", "2 label 5000 The house ! open|save|2 save",
+             "ok|" + saved.format(1, "", 64) + "|" + saved.format(5000, "TEXT The house ! open|", "C8")),
+        over("an edit of one list leaves the other", "cue 6000|2 cue 2|sheet 6000|2 sheet 6000|2 sheet 2|sheet 2|2 sheet 5000",
+             "ok|ok|row 6000 1=100|refused AbsentCue 6000|row 2|refused AbsentCue 2|row 5000 1=200"),
+        over("the lists meet at 5000", "go|go|2 go|2 back", "ok|refused NoCueAfter 4999.999|ok|refused NoCueBefore 5000",
+             cues="CUE 4999.999\nCUE 5000\n"),
+        over("a key of one list leaves the other", "2 go|goto 1|2 settle|2 goto 1|2 goto 5000|frame",
+             "ok|ok|ok|refused AbsentCue 1|ok|frame 0 1 1=200"),
+        over("looks", "sheet 1|2 sheet 5000", "row 1 1=255|row 5000 2=255", cues="CUE 1\nCHAN 1@FL\nCUE 5000\nCHAN 2@FL\n",
+             words=("two", "states")),
+        over("a show that is refused", "2 go", "show OutOfRange 4", cues="CUE 5000\nCHAN 1@101\n", status=1),
+        Case("two: status 6 for a script that is too long", (ONE_CUE + "2 go\n").encode() + b"!" * INPUT_BYTES, "refused NoCueAfter 0\n",
+             status=6, words=("two",)),
+        Case("by render a line for a second list is bad", ONE_CUE + "2 go\n2 cue 1\n", "bad\nbad\n"),
+        Case("by undo a line for a second list is bad", ONE_CUE + "2 go\n2 undo\n", "bad\nbad\n", words=("undo",)),
     ]
 
 
@@ -608,7 +652,7 @@ def main():
     parser.add_argument("--only", default="")
     given = parser.parse_args()
     program = os.path.abspath(given.program or built_program())
-    cases = edge_cases() + limit_cases() + great_cases() + kept_cases() + assert_cases() + undo_cases() + reading_cases()
+    cases = edge_cases() + limit_cases() + great_cases() + kept_cases() + assert_cases() + undo_cases() + two_cases() + reading_cases()
     runs = [(case.name, lambda case=case: wrong_in(program, case)) for case in cases]
     runs += [(each.__name__.replace("_", " "), lambda each=each: each(program)) for each in TALKS]
     runs += [(name, lambda inputs=inputs: walks.wrong_in_table(program, inputs)[1]) for name, inputs in walks.tables(WALKS, 1)]

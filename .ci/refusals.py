@@ -90,11 +90,16 @@ WHOLE = (SHOW + "\n".join(SCRIPT) + "\n").encode()
 UNDONE = (SHOW + "\n".join(["go", "tick 4", "set 1 chan 2 at H32", "undo", "frame", "redo", "record 1.5", "cue 3", "label 3 the third",
                             "undo", "undo", "sheet 1.5", "redo", "sheet 1.5", "record 3 only", "redo", "undo 1", "set 9 chan 1 at 5",
                             "undo", "save", "frame", "quit"]) + "\n").encode()
+LISTS = (SHOW.replace("ENDDATA", "CUE 5000\nUP 0\nCHAN 1@H40 3@FL\nENDDATA") + "\n".join(
+    ["go", "2 go", "tick 4", "frame", "2 set 5000 chan 2 at H32", "2 cue 6000", "cue 3", "2 label 6000 the last", "2 sheet 6000", "2 frame",
+     "patch 700 chan 3 at 50", "sub 2 chan 3 at 50", "sub 2 chan 1 at FL", "fader 2 at 50", "frame 2", "2 delete 5000 only",
+     "2 sub 2 chan 3 at 5", "2 save", "save", "2 go", "tick", "frame", "quit"]) + "\n").encode()
 LOOKS = SHOW.encode() + b"sheet 1\nsheet 2\n"
 MADE = b"cues 1\nmoment 174\nok 3\nrefused 0\nsum 127\n"
 JOBS = [(("render",), WHOLE), (("render", "states"), LOOKS), (("check",), WHOLE), (("check", "states"), WHOLE), (("sheet",), WHOLE),
         (("sheet", "states"), WHOLE), (("make", "1"), b""), (("run", "2"), WHOLE), (("run", "2", "states"), LOOKS),
-        (("undo",), UNDONE), (("undo", "states"), LOOKS + b"cue 3\nundo\nundo\n")]
+        (("undo",), UNDONE), (("undo", "states"), LOOKS + b"cue 3\nundo\nundo\n"),
+        (("two",), LISTS), (("two", "states"), LOOKS + b"2 cue 3\n2 sheet 3\n")]
 
 
 class Refuser:
@@ -128,7 +133,7 @@ def without_refused(words, data, output):
     if words[0] == "make":
         # (an edit that wanted memory in vain is counted, and nothing more is told of it)
         return MADE if b"refused 0" in output or not output.endswith(b"\n") else output
-    if words[0] not in ("render", "run", "undo") or b"refused Memory\n" not in output:
+    if words[0] not in ("render", "run", "undo", "two") or b"refused Memory\n" not in output:
         return plain_desk.output(words, data)[1]
     replies = output.split(b"\n")
     lines = data[data.index(b"ENDDATA\n") + 8:].split(b"\n")

@@ -91,7 +91,7 @@ class Walk:
     def __init__(self, seed):
         self.random = random.Random(seed)
         self.channels = self.pick(3, 6, 12, 40, 513)
-        self.words = self.pick(("render",), ("render",), ("render",), ("undo",), ("undo", "states"), *JOBS)
+        self.words = self.pick(("render",), ("render",), ("render",), ("undo",), ("undo", "states"), ("two",), ("two", "states"), *JOBS)
 
     def pick(self, *among):
         return self.random.choice(among)
@@ -109,6 +109,8 @@ class Walk:
         return self.pick("0", "0.01", "0.02", "0.1", "0.5", "1", "2.5", "3", "5")
 
     def cue(self):
+        if self.words[0] == "two" and self.often(.4):
+            return self.pick("4999.999", "5000", "5000.5", "5001", "6000")
         return self.pick("0.5", "1", "2", "2.5", "3", "3.25", "3.255", "4", "5", "6", "7", "8")
 
     def levels(self):
@@ -166,6 +168,9 @@ class Walk:
         return self.pick("go", "go", "go", "back", f"goto {self.cue()}", "settle", f"fader {self.below(3)} at {self.level()}", f"master at {self.level()}")
 
     def line(self):
+        return "2 " * (self.words[0] == "two" and self.often(.4)) + self.plain_line()
+
+    def plain_line(self):
         if self.words[0] == "undo" and self.often(.2):
             return self.pick("undo", "undo", "redo", f"record {self.cue()}", f"record {self.cue()} only")
         chance = self.random.random()

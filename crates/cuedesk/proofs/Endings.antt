@@ -17,7 +17,8 @@ use Rattle.cuedesk.specs.declared.desk.Status.TheVariants as status
 use Rattle.cuedesk.specs.Answering.{Answering}
 use Rattle.cuedesk.specs.Refused.{RefusedBy, status_kept}
 use Rattle.cuedesk.specs.Endings.{EndsJob, EndsScript, HasEnded, HasPlayed}
-use Rattle.cuedesk.proofs.Inputs.{Says, IsOverShow, IsOfShow, IsOfScript, told_text, told_prefix, told_fits, session_text, session_front, session_long}
+use Rattle.cuedesk.proofs.Inputs.{Says, IsOverShow, IsOfShow, IsOfScript, told_text, told_prefix, told_fits, session_text, session_front}
+use Rattle.cuedesk.proofs.Inputs.{session_long}
 use Rattle.cuedesk.proofs.Inputs.{session_fits, session_cut, refusal_cut, refusal_text, refusal_front, refusal_fits, refusal_long}
 use Rattle.cuedesk.proofs.Inputs.{refusal_isnt_ok}
 

@@ -9,6 +9,7 @@ use crate::check::check;
 use crate::make::make;
 use crate::render::render;
 use crate::sheet::sheet;
+use crate::two::two;
 use crate::undo::undo;
 use crate::words::{WordsFault, words_of};
 use lx_io::{Sink, Source};
@@ -41,7 +42,8 @@ pub enum Status {
 /// For the bytes that the input had left, the text that is written is what the definitions give for the job: the line of a
 /// refused show, the line or the cue list of a show, or the replies to a script, in which each command is done or refused
 /// as the desk does it and each frame is evaluated over the whole show as it then is and the whole list of runs since the
-/// opening; by `undo` edits and records are undone and redone besides. Want of memory refuses nothing but edits and records.
+/// opening; by `undo` edits and records are undone and redone besides, and by `two` it is
+/// so of two desks beside each other. Want of memory refuses nothing but edits and records.
 pub fn desk<S: Source, K: Sink>(
     alloc: Global,
     words: &[String],
@@ -85,6 +87,6 @@ fn run<S: Source, K: Sink>(alloc: Global, job: Job, input: &mut S, output: &mut 
         Job::Make(cues) => make(alloc, cues, output),
         Job::Run(..) => Status::Live,
         Job::Undo(form) => undo(alloc, form, input, output),
-        Job::Two(form) => render(alloc, form, input, output),
+        Job::Two(form) => two(alloc, form, input, output),
     }
 }

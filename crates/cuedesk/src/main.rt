@@ -16,6 +16,7 @@ mod play;
 mod refuse;
 mod render;
 mod sheet;
+mod two;
 mod undo;
 mod universes;
 mod words;

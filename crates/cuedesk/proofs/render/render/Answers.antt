@@ -17,8 +17,8 @@ returns-in-Ok-clause-ended g c =
     subst (λ v. IfSome (g.S.Source.left c.args.input.now)
     (λ bytes. HasEnded c.play.result (Render c.args.form) bytes (g.S.Source.left v) (g.K.Sink.holds c.args.output.now)
     (g.K.Sink.holds c.play.new.output))) (sym same)
-    (script_ended c.args.form (Render c.args.form) render_by (render_script c.args.form) _ _ _ _ c.in-Ok.loaded _ _ _ _ c.play.result c.new-lines.ensures.unread c.new-lines.ensures.taken
-    c.in-Ok.ensures.answer c.play.ensures.works c.play.ensures.ended)
+    (script_ended c.args.form (Render c.args.form) render_by (render_script c.args.form) _ _ _ _ c.in-Ok.loaded _ _ _ _ c.play.result
+    c.new-lines.ensures.unread c.new-lines.ensures.taken c.in-Ok.ensures.answer c.play.ensures.works c.play.ensures.ended)
 
 pub returns-in-Ok-clause-prefix : goal.returns-in-Ok-clause-prefix
 returns-in-Ok-clause-prefix g c = session_front c.args.form (Render c.args.form) render_by (render_script c.args.form) _ _ _ _
