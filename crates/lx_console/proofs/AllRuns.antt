@@ -42,7 +42,7 @@ slots_of_all d console slots stands table =
     (subst (λ (k : Kept). IsTable SLOTS (dimmer_value k.show.patch (out_now k)) slots) stands.same table)
 
 -- a part of a table
-part : (n a m : ℕ) (value : ℕ → ℕ) (values : List ℕ) → IsTable n value values → a + m ≤ n
+pub part : (n a m : ℕ) (value : ℕ → ℕ) (values : List ℕ) → IsTable n value values → a + m ≤ n
     → take m (drop a values) ≡ map value (range_with_len (a + 1) m)
 part n a m value values table within =
     let reach : length values ≡ n = table.reach in

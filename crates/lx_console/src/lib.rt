@@ -8,3 +8,4 @@ mod stage;
 mod ticks;
 
 pub use console::Console;
+pub use stage::Stage;

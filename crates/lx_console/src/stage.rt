@@ -15,7 +15,7 @@ use std::alloc::{AllocError, Global};
 
 /// The outputs of the channels, and the patch and the slots of the dimmers.
 #[derive(Drop)]
-pub(crate) struct Stage {
+pub struct Stage {
     /// What each channel puts out.
     pub(crate) outs: Vec<Level>,
     /// Where outputs are mixed, to be compared with those before.
@@ -28,7 +28,7 @@ pub(crate) struct Stage {
 
 impl Stage {
     /// A stage for the show, whose patch alone is filled in yet. An error comes where memory is wanting.
-    pub(crate) fn open(alloc: Global, show: &Show) -> Result<Stage, AllocError>
+    pub fn open(alloc: Global, show: &Show) -> Result<Stage, AllocError>
         ensures reaches { IfOk result (Reaches show.now.channels) }
         ensures patch { IfOk result (λ stage. StandsForPatch show.now.patch stage.table) }
     {
@@ -66,7 +66,7 @@ impl Stage {
     }
 
     /// Takes up the show's patch.
-    pub(crate) fn take_patch(&mut self, show: &Show)
+    pub fn take_patch(&mut self, show: &Show)
         requires { Reaches show.now.channels self.old }
         ensures reaches { Reaches show.now.channels self.new }
         ensures patch { StandsForPatch show.now.patch self.new.table }
@@ -75,7 +75,7 @@ impl Stage {
     }
 
     /// Fills in the outputs and the slots, from the levels and what the submasters give.
-    pub(crate) fn fill(&mut self, levels: &[Level], show: &Show, rack: &SubRack, master: Level)
+    pub fn fill(&mut self, levels: &[Level], show: &Show, rack: &SubRack, master: Level)
         requires levels { length levels.now ≡ show.now.channels }
         requires subs { length rack.now.given ≡ show.now.channels }
         requires reaches { Reaches show.now.channels self.old }
@@ -88,7 +88,7 @@ impl Stage {
     }
 
     /// Fills in the outputs, and the slots of those that changed: the slots were those of the outputs before.
-    pub(crate) fn refill(&mut self, levels: &[Level], show: &Show, rack: &SubRack, master: Level)
+    pub fn refill(&mut self, levels: &[Level], show: &Show, rack: &SubRack, master: Level)
         requires levels { length levels.now ≡ show.now.channels }
         requires subs { length rack.now.given ≡ show.now.channels }
         requires reaches { Reaches show.now.channels self.old }
@@ -100,6 +100,12 @@ impl Stage {
         mix_into(levels, rack.contribution(), master, &mut self.mixed);
         self.table.follow(&self.outs, &self.mixed, &mut self.slots);
         std::mem::swap(&mut self.outs, &mut self.mixed);
+    }
+    /// The slots of all dimmers, 512 for each universe.
+    pub fn slots(&self) -> &[Level]
+        ensures { result.now ≡ self.now.slots.items }
+    {
+        self.slots.as_slice()
     }
 }
 

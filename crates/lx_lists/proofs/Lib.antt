@@ -1,0 +1,5 @@
+pub mod ListCues
+pub mod AfterEdits
+pub mod AfterCommands
+pub mod TwoFrames
+pub mod KeptLists

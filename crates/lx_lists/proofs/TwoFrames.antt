@@ -1,0 +1,28 @@
+-- The slots of two lists are the frames of the two desks.
+use Rattle.std.proofs.Common.{◌≡◌, ℕ, ◌-◌, ◌*◌, ◌≤◌, max, List, arith, ◌∙◌, subst}
+use Rattle.lx_base.specs.declared.TheConstants.{SLOTS, UNIVERSES, UNIVERSE_SLOTS}
+use Rattle.lx_base.specs.Numbers.{scaled}
+use Rattle.lx_spec.specs.Output.{contribution, dimmer_value}
+use Rattle.lx_spec.specs.Kept.{Kept, kept}
+use Rattle.lx_spec.specs.TwoLists.{TwoDesks, out_of_two, frame_of_two}
+use Rattle.lx_mixer.specs.Table.{IsTable}
+use Rattle.lx_console.specs.Slots.{universe}
+use Rattle.lx_console.proofs.AllRuns.{over_all, part}
+use Rattle.lx_lists.specs.Standing.{TwoKept, TwoStand, out_of_both}
+
+outputs : (s : TwoDesks) (t : TwoKept) → TwoStand s t → out_of_both t ≡ out_of_two s
+outputs s t stand =
+    let kept_ones : out_of_both t ≡ out_of_both (record { first = kept s.first; second = kept s.second }) =
+    λ i. out_of_both (record { first = stand.first.same i; second = stand.second.same i }) in
+    let all : out_of_both (record { first = kept s.first; second = kept s.second }) ≡ out_of_two s =
+    λ i c. scaled (max (max (over_all s.first stand.first.rest c i) (over_all s.second stand.second.rest c i))
+    (contribution s.first.show s.first.faders c)) s.first.master in
+    kept_ones ∙ all
+
+pub frame_of_both : (s : TwoDesks) (t : TwoKept) (slots : List ℕ) (u : ℕ) → TwoStand s t
+    → IsTable SLOTS (dimmer_value t.first.show.patch (out_of_both t)) slots → 1 ≤ u → u ≤ UNIVERSES → universe u slots ≡ frame_of_two s u
+frame_of_both s t slots u stand table least most =
+    let of_first : IsTable SLOTS (dimmer_value s.first.show.patch (out_of_both t)) slots =
+    subst (λ (k : Kept). IsTable SLOTS (dimmer_value k.show.patch (out_of_both t)) slots) stand.first.same table in
+    part SLOTS (UNIVERSE_SLOTS * (u - 1)) UNIVERSE_SLOTS (dimmer_value s.first.show.patch (out_of_two s)) slots
+    (subst (λ (outs : ℕ → ℕ). IsTable SLOTS (dimmer_value s.first.show.patch outs) slots) (outputs s t stand) of_first) (omega arith)

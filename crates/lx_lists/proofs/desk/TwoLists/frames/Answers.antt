@@ -1,0 +1,28 @@
+use Rattle.std.proofs.Common.{ℕ, List, sym, subst}
+use Rattle.lx_base.specs.declared.TheConstants.{SLOTS}
+use Rattle.lx_spec.specs.Show.{Show, Valid}
+use Rattle.lx_spec.specs.Output.{dimmer_value}
+use Rattle.lx_mixer.specs.Table.{IsTable}
+use Rattle.lx_patch.proofs.Frames.{patched}
+use Rattle.lx_lists.specs.Standing.{TwoKept, out_of_both}
+use Rattle.lx_lists.proofs.TwoFrames.{frame_of_both}
+use Rattle.lx_lists.proofs.KeptLists.{both}
+use Rattle.lx_lists.proofs.desk.TwoLists.frames.Goals as goal
+
+slots : (c : goal.After-slots)
+    → IsTable SLOTS (dimmer_value c.args.self.now.first.show.patch (out_of_both c.args.self.now)) c.slots.result.now
+slots c =
+    let t : TwoKept = both c.self.inside.first c.self.inside.second in
+    let stage = c.self.inside.output.stage in
+    let filled = c.self.invariant.filled in
+    subst (λ (xs : List ℕ). IsTable SLOTS (dimmer_value c.args.self.now.first.show.patch (out_of_both c.args.self.now)) xs)
+    (sym c.slots.ensures)
+    (subst (λ (t : TwoKept). IsTable SLOTS (dimmer_value t.first.show.patch (out_of_both t)) stage.slots.items) c.self.view_is
+    (patched t.first.show (out_of_both t) stage.outs.items stage.slots.items
+    (subst (λ (show : Show). Valid show) c.show.ensures c.channels.ensures.valid) filled.outs filled.slots))
+
+pub returns-clause-slots : goal.returns-clause-slots
+returns-clause-slots c = slots c
+
+pub returns-clause-frames : goal.returns-clause-frames
+returns-clause-frames c = λ s u stand least most. frame_of_both s c.args.self.now c.slots.result.now u stand (slots c) least most

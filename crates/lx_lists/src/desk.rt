@@ -1,0 +1,174 @@
+//! Two cue lists beside each other.
+
+ghost use Rattle.std.specs.Prelude.{◌≡◌, ℕ, ◌≤◌, false, length, IfOk, IsTrue, OnErr};
+ghost use Rattle.lx_base.specs.declared.TheConstants.{SLOTS, UNIVERSES};
+ghost use Rattle.lx_spec.specs.ValidEdit.{ValidCommand};
+ghost use Rattle.lx_spec.specs.RefusedPlaces.{is_edit};
+ghost use Rattle.lx_spec.specs.Output.{dimmer_value};
+ghost use Rattle.lx_spec.specs.TwoLists.{TwoDesks, opened_two, first_step, second_step, tick_step, is_tick, commands_second, frame_of_two};
+ghost use Rattle.lx_mixer.specs.Table.{IsTable};
+ghost use Rattle.lx_subs.specs.Faders.{StandsForSubs};
+ghost use Rattle.lx_console.specs.Slots.{universe};
+ghost use Rattle.lx_lists.specs.Standing.{TwoStand, Steps, TakesStep, list_of, out_of_both};
+ghost use Rattle.lx_lists.specs.Commands.{edits_subs, edits_patch, faders_after};
+
+use crate::output::Output;
+use crate::split::{leave_first, second_of};
+use lx_base::{Level, Moment};
+use lx_console::Console;
+use lx_show::{Command, Edit, Key, Refusal, Show};
+use lx_subs::SubRack;
+use std::alloc::{AllocError, Global};
+use std::marker::Model;
+
+/// Two cue lists that play beside each other, each as a console plays its own: the first has the cues below
+/// `SECOND_LIST`, the second those from it on. A channel puts out the greatest of both playbacks and of the first
+/// list's submasters, under the first list's master, and its patch says which dimmers follow. Ticks are of both, so
+/// that both are always at the same moment.
+#[derive(Drop)]
+pub struct TwoLists {
+    first: Console,
+    second: Console,
+    /// The faders of the first list's submasters, and what they give.
+    rack: SubRack,
+    output: Output,
+}
+
+impl Model for TwoLists {
+    ghost use Rattle.lx_lists.specs.Standing.{TwoKept};
+    ghost use Rattle.lx_lists.specs.Filled.{IsKept};
+
+    ghost Value = { TwoKept };
+
+    ghost view = { λ t. record { first = t.first; second = t.second } };
+
+    ghost invariant = { λ t. IsKept (record { first = t.first; second = t.second }) t.rack t.output };
+}
+
+impl TwoLists {
+    /// Both lists as at the opening: the cues of the show are in one of them, and all else of the show is in both. It
+    /// takes the memory that keys and ticks need; where that is wanting the show is lost.
+    pub fn open(alloc: Global, show: Show) -> Result<TwoLists, AllocError>
+        ensures { IfOk result (TwoStand (opened_two show)) }
+    {
+        let second = Console::open(alloc, second_of(&show)?)?;
+        let mut show = show;
+        leave_first(&mut show);
+        let rack = SubRack::open(alloc, &show)?;
+        let mut output = Output::open(alloc, &show)?;
+        let first = Console::open(alloc, show)?;
+        output.fill(&first, &second, &rack);
+        Ok(TwoLists {
+            first,
+            second,
+            rack,
+            output,
+        })
+    }
+
+    /// The first list, or the second.
+    pub fn list(&self, second: bool) -> &Console
+        ensures { result.now ≡ list_of self.now second }
+    {
+        if second { &self.second } else { &self.first }
+    }
+
+    /// The present moment of both, in hundredths of a second since the opening.
+    pub fn moment(&self) -> Moment
+        ensures first { result ≡ self.now.first.playback.moment }
+        ensures second { result ≡ self.now.second.playback.moment }
+    {
+        self.first.moment()
+    }
+
+    /// The slots of all dimmers at the present moment, 512 for each universe: the greatest of both lists goes out.
+    pub fn frames(&self) -> &[Level]
+        ensures slots { IsTable SLOTS (dimmer_value self.now.first.show.patch (out_of_both self.now)) result.now }
+        ensures frames { (s : TwoDesks) (u : ℕ) → TwoStand s self.now → 1 ≤ u → u ≤ UNIVERSES
+            → universe u result.now ≡ frame_of_two s u }
+    {
+        let _ = self.first.show().channels();
+        self.output.stage.slots()
+    }
+}
+
+impl TwoLists {
+    /// A command of the first list that is no tick: the other list stays as it was.
+    ///
+    /// Refused as by a desk; an edit with `Memory` only where memory is wanting and nothing else refuses it. A refusal
+    /// changes nothing.
+    pub fn first(&mut self, command: &Command) -> Result<(), Refusal>
+        requires valid { ValidCommand command.now }
+        requires taken { is_tick command.now ≡ false }
+        ensures steps { (s : TwoDesks) → TwoStand s self.old
+            → TakesStep (is_edit command.now) (first_step s command.now) result self.new }
+        ensures unchanged { OnErr result (self.new ≡ self.old) }
+        ensures other { self.new.second ≡ self.old.second }
+    {
+        self.first.command(command)?;
+        follow_faders(&mut self.rack, command, self.first.show());
+        if is_of_patch(command) {
+            self.output.fill(&self.first, &self.second, &self.rack);
+        } else {
+            self.output.refill(&self.first, &self.second, &self.rack);
+        }
+        Ok(())
+    }
+
+    /// A command of the second list: a key of the playback, or an edit, but for those of submasters and the patch. The
+    /// other list stays as it was.
+    ///
+    /// Refused as by a desk; an edit with `Memory` only where memory is wanting and nothing else refuses it. A refusal
+    /// changes nothing.
+    pub fn second(&mut self, command: &Command) -> Result<(), Refusal>
+        requires valid { ValidCommand command.now }
+        requires taken { IsTrue (commands_second command.now) }
+        ensures steps { (s : TwoDesks) → TwoStand s self.old
+            → TakesStep (is_edit command.now) (second_step s command.now) result self.new }
+        ensures unchanged { OnErr result (self.new ≡ self.old) }
+        ensures other { self.new.first ≡ self.old.first }
+    {
+        self.second.command(command)?;
+        self.output.refill(&self.first, &self.second, &self.rack);
+        Ok(())
+    }
+
+    /// A tick of both lists.
+    ///
+    /// Refused with `TickLimit`, and neither list changes, exactly where the moment is `TICK_END`.
+    pub fn tick(&mut self) -> Result<(), Refusal>
+        ensures steps { (s : TwoDesks) → TwoStand s self.old → Steps (tick_step s) result self.new }
+        ensures unchanged { OnErr result (self.new ≡ self.old) }
+    {
+        self.first.tick()?;
+        match self.second.tick() {
+            Ok(()) => self.output.refill(&self.first, &self.second, &self.rack),
+            Err(_) => unreachable!(),
+        }
+        Ok(())
+    }
+}
+
+/// Takes up what the command made of the submasters and their faders. Where it touched none, the rack stands already.
+fn follow_faders(rack: &mut SubRack, command: &Command, show: &Show)
+    requires reach { length rack.old.given ≡ show.now.channels }
+    requires stands { edits_subs command.now ≡ false → StandsForSubs show.now rack.old }
+    ensures stands { StandsForSubs show.now rack.new }
+    ensures faders { rack.new.faders ≡ faders_after command.now rack.old.faders }
+{
+    match command {
+        Command::Key(Key::Fader { sub, level }) => rack.set_fader(show, *sub, *level),
+        Command::Edit(Edit::SubMember { .. }) => rack.changed(show),
+        _ => {}
+    }
+}
+
+/// The command is an edit of the patch.
+fn is_of_patch(command: &Command) -> bool
+    ensures { result ≡ edits_patch command.now }
+{
+    matches!(
+        command,
+        Command::Edit(Edit::Patch { .. } | Edit::Unpatch { .. })
+    )
+}
