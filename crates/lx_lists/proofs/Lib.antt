@@ -3,3 +3,4 @@ pub mod AfterEdits
 pub mod AfterCommands
 pub mod TwoFrames
 pub mod KeptLists
+pub mod OpenedLists

@@ -61,9 +61,10 @@ fn highest_of_second(show: &Show) -> Option<CueNo>
     let Some(cue) = show.cues().last() else {
         return None;
     };
-    if cue.number.get() < SECOND_LIST {
+    let number = cue.number;
+    if number.get() < SECOND_LIST {
         None
     } else {
-        Some(cue.number)
+        Some(number)
     }
 }
