@@ -1,5 +1,5 @@
 -- What a command leaves of what is kept of a desk.
-use Rattle.std.proofs.Common.{◌≡◌, ℕ, ◌+◌, Bool, true, false, cond, Some, None, Ok, Err, refl, sym, ap, subst, ◌∙◌, List}
+use Rattle.std.proofs.Common.{◌≡◌, ℕ, ◌+◌, Bool, true, false, cond, Some, None, Ok, Err, refl, sym, subst, ◌∙◌}
 use Rattle.std.specs.Prelude.{Option, Result, IfOk, OnOk, IsTrue, ◌==◌, if◌then◌else◌, slice_set, ◌-◌}
 use Rattle.std.specs.Option.{option_map_or}
 use Rattle.std.specs.Result.{IsOkAnd}
@@ -18,7 +18,7 @@ use Rattle.lx_spec.specs.Show.{Cue, Show}
 use Rattle.lx_spec.specs.TrackedLevel.{cue_above, cue_below}
 use Rattle.lx_spec.specs.Run.{Run}
 use Rattle.lx_spec.specs.EditedShow.{edited, the_cue}
-use Rattle.lx_spec.specs.Playback.{Playback, Played, press, tick, ticked, followed, start_above, rested, at_rest, is_over, is_due, has_room}
+use Rattle.lx_spec.specs.Playback.{Playback, Played, press, tick, ticked, followed, start_above, at_rest, is_over, is_due, has_room}
 use Rattle.lx_spec.specs.Playback.{appended, if_room, no_run, run_of, run_whole, follow_of, position_of}
 use Rattle.lx_spec.specs.Desk.{Desk, step, after_play}
 use Rattle.lx_spec.specs.Kept.{Kept, kept}

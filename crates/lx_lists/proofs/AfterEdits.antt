@@ -1,5 +1,5 @@
 -- What an edit leaves of a show: the channel count, and the submasters and the patch where it isn't of them.
-use Rattle.std.proofs.Common.{◌≡◌, ℕ, Bool, true, false, Some, None, Ok, Err, refl, map, List}
+use Rattle.std.proofs.Common.{◌≡◌, ℕ, Bool, true, false, Some, None, Ok, Err, refl, List}
 use Rattle.std.specs.Prelude.{Option, Result, IfOk, is_some, nat_lt, ◌==◌, length, if◌then◌else◌}
 use Rattle.std.specs.Option.{option_map_or}
 use Rattle.lx_base.specs.declared.TheConstants.{CUES}

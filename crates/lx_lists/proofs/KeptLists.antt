@@ -21,7 +21,7 @@ use Rattle.lx_console.specs.Standing.{StandsFor, Obeys, Answers}
 use Rattle.lx_console.proofs.Obeying.{answers}
 use Rattle.lx_console.proofs.Touched.{given_by}
 use Rattle.lx_lists.specs.declared.output.Output.{Output}
-use Rattle.lx_lists.specs.Standing.{TwoKept, TwoStand}
+use Rattle.lx_lists.specs.Standing.{TwoKept}
 use Rattle.lx_lists.specs.Commands.{edits_subs, edits_patch, faders_after}
 use Rattle.lx_lists.specs.Filled.{HasRoom, IsReady, IsFilled, IsKept}
 use Rattle.lx_lists.proofs.AfterCommands.{IsAfter, IsNext, accepted_next, no_tick, second_no_tick}

@@ -1,5 +1,5 @@
 -- Both lists as they are opened.
-use Rattle.std.proofs.Common.{◌≡◌, ℕ, replicate, sym, ap, subst, ◌∙◌, List}
+use Rattle.std.proofs.Common.{◌≡◌, replicate, sym, ap, subst, ◌∙◌}
 use Rattle.lx_base.specs.declared.TheConstants.{SUBS}
 use Rattle.lx_spec.specs.Show.{Show}
 use Rattle.lx_spec.specs.Kept.{Kept}

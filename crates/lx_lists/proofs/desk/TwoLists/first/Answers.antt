@@ -1,4 +1,4 @@
-use Rattle.std.proofs.Common.{Ok, sym, subst, ◌∙◌, ap}
+use Rattle.std.proofs.Common.{sym, subst, ◌∙◌, ap}
 use Rattle.lx_spec.specs.Show.{Show}
 use Rattle.lx_subs.specs.Faders.{StandsForSubs}
 use Rattle.lx_lists.proofs.KeptLists.{next_first, same_given, same_reach, same_patch, same_slots, ready_first, first_kept}
