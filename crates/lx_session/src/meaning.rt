@@ -1,7 +1,9 @@
 //! What a script line means, with its command in one place.
 
-ghost use Rattle.std.specs.Prelude.{◌≡◌, true, Some, None, IfSome, option_copied};
+ghost use Rattle.std.specs.Prelude.{◌≡◌, true, false, Some, None, IfSome, option_copied};
+ghost use Rattle.std.specs.Option.{option_map_or};
 ghost use Rattle.lx_spec.specs.Script.{line_of};
+ghost use Rattle.lx_spec.specs.TwoLists.{where_of_second, is_of_second, commands_second};
 ghost use Rattle.lx_spec.specs.ValidEdit.{ValidLine};
 ghost use Rattle.lx_spec.specs.Session.{count_of, command_of};
 ghost use Rattle.lx_script.specs.Briefs.{brief_line};
@@ -10,7 +12,7 @@ ghost use Rattle.lx_session.specs.Meanings.{Asks, IsMeaning, meaning_by};
 
 use lx_base::CueNo;
 use lx_script::{Brief, Reading, read_brief, read_command};
-use lx_spec::{Command, Line};
+use lx_spec::{Command, Edit, Key, Line};
 use std::marker::Model;
 
 /// What a line asks for.
@@ -86,6 +88,30 @@ impl Meaning {
         ensures valid { IfSome result ValidLine }
     {
         Meaning::copy_of(&read_command(line))
+    }
+
+    /// What the rest of a line means that is for a second cue list: bad, where such a list doesn't take it.
+    pub(crate) fn of_second(rest: &[u8]) -> Meaning
+        ensures meaning { result ≡ where_of_second (line_of rest.now) }
+        ensures valid { IfSome result ValidLine }
+    {
+        let meaning = Meaning::of_line(rest);
+        if meaning.is_of_second() {
+            meaning
+        } else {
+            Meaning::bad()
+        }
+    }
+
+    /// A second cue list takes the line.
+    fn is_of_second(&self) -> bool
+        ensures { result ≡ option_map_or is_of_second self.now false }
+    {
+        match &self.asked {
+            Asked::Command => is_of_second(&self.command),
+            Asked::Save | Asked::SheetOf(_) => true,
+            _ => false,
+        }
     }
 
     /// A bad line.
@@ -184,5 +210,19 @@ impl Meaning {
             Asked::Ticks(_) => true,
             _ => false,
         }
+    }
+}
+
+/// A second cue list takes the command.
+fn is_of_second(command: &Command) -> bool
+    ensures { result ≡ commands_second command.now }
+{
+    match command {
+        Command::Edit(edit) => !matches!(
+            edit,
+            Edit::SubMember { .. } | Edit::Patch { .. } | Edit::Unpatch { .. }
+        ),
+        Command::Key(key) => matches!(key, Key::Play(_)),
+        Command::Tick => false,
     }
 }

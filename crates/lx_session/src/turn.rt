@@ -2,6 +2,8 @@
 
 ghost use Rattle.std.specs.Prelude.{◌≡◌, ◌-◌, ◌<◌, ◌≤◌, true, false, Some, is_some, is_none, option_copied, IsOkAnd, IsTrue, IfSome};
 ghost use Rattle.lx_spec.specs.Desk.{Desk};
+ghost use Rattle.lx_spec.specs.Script.{line_of};
+ghost use Rattle.lx_spec.specs.TwoLists.{where_of_second};
 ghost use Rattle.lx_spec.specs.ValidEdit.{ValidCommand};
 ghost use Rattle.lx_console.specs.Standing.{StandsFor};
 ghost use Rattle.lx_console.specs.Ticks.{after_ticks};
@@ -38,6 +40,20 @@ impl Turn {
         ensures { result ≡ unattempted (meaning_of (option_copied line.entry)) }
     {
         let meaning = Meaning::of(line);
+        let left = meaning.count();
+        Turn {
+            meaning,
+            left,
+            refusal: None,
+        }
+    }
+
+    /// Takes up the rest of a line that is for a second cue list. What such a list doesn't take is bad: it takes keys of
+    /// the playback, edits but those of submasters and the patch, and lines `save` and `sheet n`.
+    pub fn begin_second(rest: &[u8]) -> Turn
+        ensures { result ≡ unattempted (where_of_second (line_of rest.now)) }
+    {
+        let meaning = Meaning::of_second(rest);
         let left = meaning.count();
         Turn {
             meaning,
