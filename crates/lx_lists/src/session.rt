@@ -94,7 +94,7 @@ fn leads_with_two(line: &[u8]) -> bool
         return false;
     }
     match tokens(line).next() {
-        Some(token) => token == b"2",
+        Some(token) => token == b"2".as_slice(),
         None => false,
     }
 }
