@@ -196,3 +196,18 @@ pub valid_next : (old turn : LineState) (c : Command) → IfSome old.meaning Val
     → ValidCommand c
 valid_next old turn c valid same some =
     valid_of turn.meaning c (subst (λ (m : Option Line). IfSome m ValidLine) (sym same) valid) (command_next turn c some)
+
+pub other_tick : (c : Command) → (c ≡ commands.Tick → ⊥) → is_tick c ≡ false
+other_tick (commands.Edit edit) other = refl
+other_tick (commands.Key key) other = refl
+other_tick commands.Tick other = absurd (other refl)
+
+pub one_same : {A : Type 0} (answer : Result A Refusal) (before now : TwoKept) → OnErr answer (now ≡ before)
+    → OnErr answer (now.first ≡ before.first)
+one_same (Ok x) before now same = tt
+one_same (Err refusal) before now same = ap (λ (t : TwoKept). t.first) same
+
+pub second_same : {A : Type 0} (answer : Result A Refusal) (before now : TwoKept) → OnErr answer (now ≡ before)
+    → OnErr answer (now.second ≡ before.second)
+second_same (Ok x) before now same = tt
+second_same (Err refusal) before now same = ap (λ (t : TwoKept). t.second) same
