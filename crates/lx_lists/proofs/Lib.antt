@@ -7,3 +7,4 @@ pub mod OpenedLists
 pub mod SecondLines
 pub mod TwoAnswers
 pub mod Ticking
+pub mod LineAnswers

@@ -1,0 +1,48 @@
+-- What a turn of a line means for its attempts.
+use Rattle.std.proofs.Common.{◌≡◌, ℕ, true, false, Option, Some, None, List, refl, sym, ap, subst, ◌∙◌}
+use Rattle.std.specs.Prelude.{IfSome, IsTrue, Bool, if◌then◌else◌}
+use Rattle.lx_spec.specs.declared.Command.{Command}
+use Rattle.lx_spec.specs.declared.Line.{Line}
+use Rattle.lx_spec.specs.declared.Line.TheVariants as lines
+use Rattle.lx_spec.specs.Script.{line_of}
+use Rattle.lx_spec.specs.Session.{command_of}
+use Rattle.lx_spec.specs.TwoLists.{where_of_second, is_of_second, commands_second}
+use Rattle.lx_spec.specs.ValidEdit.{ValidLine}
+use Rattle.lx_spec.proofs.ValidLines.{line_of-valid}
+use Rattle.lx_session.specs.LineState.{LineState, unattempted}
+
+pub second_start : (turn : LineState) (meaning : Option Line) → turn ≡ unattempted meaning → turn ≡ unattempted turn.meaning
+second_start turn meaning is = is ∙ ap unattempted (sym (ap (λ (t : LineState). t.meaning) is))
+
+valid_by : (meaning : Line) (b : Bool) → ValidLine meaning → IfSome (if b then Some meaning else None) ValidLine
+valid_by meaning true valid = valid
+valid_by meaning false valid = tt
+
+valid_where : (meaning : Option Line) → IfSome meaning ValidLine → IfSome (where_of_second meaning) ValidLine
+valid_where None valid = tt
+valid_where (Some meaning) valid = valid_by meaning (is_of_second meaning) valid
+
+pub second_valid : (rest : List ℕ) (turn : LineState) → turn ≡ unattempted (where_of_second (line_of rest)) → IfSome turn.meaning ValidLine
+second_valid rest turn is = subst (λ (m : Option Line). IfSome m ValidLine) (sym (ap (λ (t : LineState). t.meaning) is))
+    (valid_where (line_of rest) (line_of-valid rest))
+
+abbrev Taken : Option Line → Type 0
+Taken meaning = IfSome (command_of meaning) (λ c. IsTrue (commands_second c))
+
+taken_by : (meaning : Line) (b : Bool) → is_of_second meaning ≡ b → Taken (if b then Some meaning else None)
+taken_by (lines.Command c) true is = is
+taken_by (lines.Ticks k) true is = cc
+taken_by (lines.Frame u) true is = cc
+taken_by lines.Save true is = tt
+taken_by (lines.SheetOf n) true is = tt
+taken_by lines.Quit true is = cc
+taken_by lines.Blank true is = cc
+taken_by meaning false is = tt
+
+taken_where : (meaning : Option Line) → Taken (where_of_second meaning)
+taken_where None = tt
+taken_where (Some meaning) = taken_by meaning (is_of_second meaning) refl
+
+pub second_taken : (rest : List ℕ) (turn : LineState) → turn ≡ unattempted (where_of_second (line_of rest))
+    → IfSome (command_of turn.meaning) (λ c. IsTrue (commands_second c))
+second_taken rest turn is = subst Taken (sym (ap (λ (t : LineState). t.meaning) is)) (taken_where (line_of rest))
