@@ -1,11 +1,12 @@
 -- What a turn of a line means for its attempts.
 use Rattle.std.proofs.Common.{◌≡◌, ℕ, true, false, Option, Some, None, List, refl, sym, ap, subst, ◌∙◌}
-use Rattle.std.specs.Prelude.{IfSome, IsTrue, Bool, if◌then◌else◌}
+use Rattle.std.specs.Prelude.{IfOk, IfSome, IsTrue, Bool, Result, Ok, Err, not, if◌then◌else◌}
+use Rattle.lx_io.specs.declared.sink.SinkFault.{SinkFault}
 use Rattle.lx_spec.specs.declared.Command.{Command}
 use Rattle.lx_spec.specs.declared.Line.{Line}
 use Rattle.lx_spec.specs.declared.Line.TheVariants as lines
 use Rattle.lx_spec.specs.Script.{line_of}
-use Rattle.lx_spec.specs.Session.{command_of}
+use Rattle.lx_spec.specs.Session.{command_of, is_quit}
 use Rattle.lx_spec.specs.TwoLists.{where_of_second, is_of_second, commands_second}
 use Rattle.lx_spec.specs.ValidEdit.{ValidLine}
 use Rattle.lx_spec.proofs.ValidLines.{line_of-valid}
@@ -46,3 +47,23 @@ taken_where (Some meaning) = taken_by meaning (is_of_second meaning) refl
 pub second_taken : (rest : List ℕ) (turn : LineState) → turn ≡ unattempted (where_of_second (line_of rest))
     → IfSome (command_of turn.meaning) (λ c. IsTrue (commands_second c))
 second_taken rest turn is = subst Taken (sym (ap (λ (t : LineState). t.meaning) is)) (taken_where (line_of rest))
+
+no_quit_by : (meaning : Line) (b : Bool) → is_of_second meaning ≡ b → is_quit (if b then Some meaning else None) ≡ false
+no_quit_by (lines.Command c) true is = refl
+no_quit_by (lines.Ticks k) true is = refl
+no_quit_by (lines.Frame u) true is = refl
+no_quit_by lines.Save true is = refl
+no_quit_by (lines.SheetOf n) true is = refl
+no_quit_by lines.Quit true is = cc
+no_quit_by lines.Blank true is = refl
+no_quit_by meaning false is = refl
+
+no_quit : (meaning : Option Line) → is_quit (where_of_second meaning) ≡ false
+no_quit None = refl
+no_quit (Some meaning) = no_quit_by meaning (is_of_second meaning) refl
+
+-- the session goes on after a line of the second list
+pub second_more : (result : Result Bool SinkFault) (rest : List ℕ) (meaning : Option Line) → meaning ≡ where_of_second (line_of rest)
+    → IfOk result (λ more. more ≡ not (is_quit meaning)) → IfOk result (λ more. more ≡ true)
+second_more (Ok more) rest meaning same is = is ∙ ap (λ (m : Option Line). not (is_quit m)) same ∙ ap not (no_quit (line_of rest))
+second_more (Err fault) rest meaning same is = tt

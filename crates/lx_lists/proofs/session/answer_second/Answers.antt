@@ -1,4 +1,4 @@
-use Rattle.std.proofs.Common.{ℕ, true, Option, List, sym, ap, subst}
+use Rattle.std.proofs.Common.{ℕ, ◌∙◌, true, Option, List, sym, ap, subst}
 use Rattle.lx_spec.specs.declared.Command.{Command}
 use Rattle.lx_spec.specs.declared.Line.{Line}
 use Rattle.lx_spec.specs.Script.{line_of}
@@ -12,7 +12,7 @@ use Rattle.lx_session.proofs.AnsweredLines.{answered}
 use Rattle.lx_lists.specs.Standing.{TwoKept}
 use Rattle.lx_lists.specs.Ticked.{Stays}
 use Rattle.lx_lists.proofs.TwoAnswers.{answered_second}
-use Rattle.lx_lists.proofs.LineAnswers.{second_start, second_valid, second_taken}
+use Rattle.lx_lists.proofs.LineAnswers.{second_start, second_valid, second_taken, second_more}
 use Rattle.lx_lists.proofs.session.answer_second.Goals as goal
 
 pub attempt_second-requires-clause-start : goal.attempt_second-requires-clause-start
@@ -42,4 +42,5 @@ returns-clause-answered g c = λ s text stands counted is.
     (ap (λ (rest : List ℕ). where_of_second (line_of rest)) is.is) line)
 
 pub returns-clause-more : goal.returns-clause-more
-returns-clause-more g c = ?
+returns-clause-more g c = second_more c.finish.result c.args.rest.now c.attempt_second.new.turn.meaning
+    (c.attempt_second.ensures.meaning ∙ ap (λ (t : LineState). t.meaning) c.begin_second-turn.ensures) c.finish.ensures.quit
