@@ -6,11 +6,15 @@ use Rattle.lx_spec.specs.declared.Command.{Command}
 use Rattle.lx_spec.specs.declared.Line.{Line}
 use Rattle.lx_spec.specs.declared.Line.TheVariants as lines
 use Rattle.lx_spec.specs.Script.{line_of}
-use Rattle.lx_spec.specs.Session.{command_of, is_quit}
+use Rattle.lx_spec.specs.Session.{command_of, ends_script, is_quit}
 use Rattle.lx_spec.specs.TwoLists.{where_of_second, is_of_second, commands_second}
 use Rattle.lx_spec.specs.ValidEdit.{ValidLine}
 use Rattle.lx_spec.proofs.ValidLines.{line_of-valid}
-use Rattle.lx_session.specs.LineState.{LineState, unattempted}
+use Rattle.lx_session.specs.LineState.{LineState, frame_of, meaning_of, unattempted}
+use Rattle.lx_session.specs.OneAnswer.{IsLine}
+use Rattle.lx_session.proofs.HeardLines.{meaning_is}
+use Rattle.lx_lists.specs.SecondLines.{IsRestFor}
+use Rattle.lx_lists.proofs.SecondLines.{goes_on}
 
 pub second_start : (turn : LineState) (meaning : Option Line) → turn ≡ unattempted meaning → turn ≡ unattempted turn.meaning
 second_start turn meaning is = is ∙ ap unattempted (sym (ap (λ (t : LineState). t.meaning) is))
@@ -67,3 +71,25 @@ pub second_more : (result : Result Bool SinkFault) (rest : List ℕ) (meaning : 
     → IfOk result (λ more. more ≡ not (is_quit meaning)) → IfOk result (λ more. more ≡ true)
 second_more (Ok more) rest meaning same is = is ∙ ap (λ (m : Option Line). not (is_quit m)) same ∙ ap not (no_quit (line_of rest))
 second_more (Err fault) rest meaning same is = tt
+
+-- and none of its lines ends the script
+pub second_quits : (result : Result Bool SinkFault) (given : Option (List ℕ)) (rest : List ℕ) → IfOk result (λ more. more ≡ true)
+    → ((text : List ℕ) → IsLine given text → IsRestFor text rest)
+    → IfOk result (λ more. (text : List ℕ) → IsLine given text → more ≡ not (ends_script text))
+second_quits (Ok more) given rest is rests = λ text line. is ∙ sym (ap not (goes_on text (rests text line).second))
+second_quits (Err fault) given rest is rests = tt
+
+-- what a line means that was taken up
+pub meant_by : (given : Option (List ℕ)) (turn : LineState) (text : List ℕ) → turn ≡ unattempted (meaning_of given) → IsLine given text
+    → turn.meaning ≡ line_of text
+meant_by given turn text begun is = ap (λ (t : LineState). t.meaning) begun ∙ meaning_is given text is
+
+pub frame_is : (meaning : Option Line) (u : ℕ) → frame_of meaning ≡ Some u → meaning ≡ Some (lines.Frame u)
+frame_is None u is = cc
+frame_is (Some (lines.Command c)) u is = cc
+frame_is (Some (lines.Ticks k)) u is = cc
+frame_is (Some (lines.Frame v)) u is = cc
+frame_is (Some lines.Save) u is = cc
+frame_is (Some (lines.SheetOf n)) u is = cc
+frame_is (Some lines.Quit) u is = cc
+frame_is (Some lines.Blank) u is = cc

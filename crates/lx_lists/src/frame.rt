@@ -2,7 +2,7 @@
 
 ghost use Rattle.std.specs.Prelude.{◌≡◌, ◌≤◌, [], length, true, IfOk};
 ghost use Rattle.lx_base.specs.declared.TheConstants.{SLOTS, UNIVERSES, UNIVERSE_SLOTS};
-ghost use Rattle.lx_io.specs.Puts.{Puts};
+ghost use Rattle.lx_io.specs.Puts.{Puts, HasSinkCause};
 ghost use Rattle.lx_spec.specs.Replies.{frame_text};
 ghost use Rattle.lx_spec.specs.TwoLists.{TwoDesks, frame_of_two};
 ghost use Rattle.lx_console.specs.Slots.{universe as universe_in};
@@ -24,6 +24,7 @@ pub(crate) fn put_universe<K: Sink>(
     ensures text { (s : TwoDesks) → TwoStand s desk.now
         → Puts K.holds K.faults K.wants sink.old sink.new result (frame_text [] s.first.playback.moment universe (frame_of_two s universe)) }
     ensures more { IfOk result (λ more. more ≡ true) }
+    ensures cause { HasSinkCause K.faults K.wants sink.old sink.new result }
 {
     let slots = slots_of(universe, desk.frames());
     put_frame(None, desk.moment(), universe, slots, sink)?;
