@@ -1,11 +1,10 @@
 -- One attempt more of a line, and what it makes of the other list.
-use Rattle.std.proofs.Common.{◌≡◌, ℕ, zero, ◌+◌, ◌-◌, ◌≤◌, ◌<◌, Bool, true, false, cond, Option, Some, None, Result, Ok, Err, List, [], ◌∷◌, ◌++◌}
-use Rattle.std.proofs.Common.{refl, sym, ap, ◌∙◌, subst, arith, inl, inr, IsOkAnd, append-nil}
-use Rattle.std.specs.Prelude.{◌⊎◌, ◌==◌, OnErr, OnOk, IfErr, IfSome, IsOk, IsTrue, filter, fold, if◌then◌else◌}
+use Rattle.std.proofs.Common.{◌≡◌, ◌-◌, ◌≤◌, Bool, true, false, Option, Some, None, Result, Ok, Err, List, [], ◌++◌}
+use Rattle.std.proofs.Common.{refl, sym, ap, subst, arith, inl, inr, IsOkAnd}
+use Rattle.std.specs.Prelude.{◌⊎◌, OnErr, IfSome, IsOk, IsTrue, filter, fold, if◌then◌else◌}
 use Rattle.std.specs.Result.{result_err, result_unwrap_or}
 use Rattle.std.proofs.lemmas.List.Sums.{fold-append}
 use Rattle.std.proofs.lemmas.List.Elements.{filter-append}
-use Rattle.lx_base.specs.declared.TheConstants.{TICK_END}
 use Rattle.lx_spec.specs.declared.Command.{Command}
 use Rattle.lx_spec.specs.declared.Command.TheVariants as commands
 use Rattle.lx_spec.specs.declared.Line.{Line}
@@ -17,14 +16,14 @@ use Rattle.lx_spec.specs.Kept.{Kept}
 use Rattle.lx_spec.specs.RefusedPlaces.{is_edit}
 use Rattle.lx_spec.specs.Session.{command_of, count_of}
 use Rattle.lx_spec.specs.SessionOf.{SessionOf, at_desk}
-use Rattle.lx_spec.specs.TwoLists.{TwoDesks, is_tick, commands_second, first_step, second_step, tick_step}
+use Rattle.lx_spec.specs.TwoLists.{TwoDesks, is_tick, commands_second, first_step, second_step}
 use Rattle.lx_spec.specs.ValidEdit.{ValidCommand, ValidLine}
 use Rattle.lx_console.specs.Standing.{StandsFor, Obeys, Refuses}
-use Rattle.lx_session.specs.Attempts.{Attempted, ListenedAttempt, heard_of}
+use Rattle.lx_session.specs.Attempts.{Attempted, heard_of}
 use Rattle.lx_session.specs.LineState.{LineState, next_of, unattempted}
 use Rattle.lx_session.specs.LineProgress.{LineProgress}
 use Rattle.lx_session.proofs.AttemptSteps.{begun, attempted}
-use Rattle.lx_lists.specs.Standing.{TwoKept, TwoStand, Steps, TakesStep, WantsMemory}
+use Rattle.lx_lists.specs.Standing.{TwoKept, TwoStand, TakesStep, WantsMemory}
 use Rattle.lx_lists.specs.Ticked.{TicksReach, Stays}
 
 -- A command that is answered so was attempted.

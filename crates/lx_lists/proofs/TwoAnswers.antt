@@ -1,9 +1,8 @@
 -- A line that was done on one of the lists was answered for both.
-use Rattle.std.proofs.Common.{◌≡◌, ℕ, Bool, true, false, Option, Some, None, Result, Ok, Err, List, [], ◌++◌, refl, sym, ap, ◌∙◌, subst, arith, OnOk}
+use Rattle.std.proofs.Common.{◌≡◌, ℕ, Bool, true, false, Option, Some, None, Result, Ok, Err, List, [], refl, sym, ap, ◌∙◌, subst, arith, OnOk}
 use Rattle.std.specs.Prelude.{filter, fold, if◌then◌else◌}
 use Rattle.lx_io.specs.declared.sink.SinkFault.{SinkFault}
 use Rattle.lx_io.specs.Puts.{Puts}
-use Rattle.lx_spec.specs.declared.Command.{Command}
 use Rattle.lx_spec.specs.declared.Line.{Line}
 use Rattle.lx_spec.specs.declared.Line.TheVariants as lines
 use Rattle.lx_spec.specs.Desk.{after_command}
