@@ -4,3 +4,7 @@ pub mod AfterCommands
 pub mod TwoFrames
 pub mod KeptLists
 pub mod OpenedLists
+pub mod SecondLines
+pub mod TwoAnswers
+pub mod Ticking
+pub mod LineAnswers

@@ -1,10 +1,11 @@
 -- The slots of two lists are the frames of the two desks.
-use Rattle.std.proofs.Common.{◌≡◌, ℕ, ◌-◌, ◌*◌, ◌≤◌, max, List, arith, ◌∙◌, subst}
+use Rattle.std.proofs.Common.{◌≡◌, ℕ, ◌-◌, ◌*◌, ◌≤◌, max, List, [], ap, arith, ◌∙◌, subst}
 use Rattle.lx_base.specs.declared.TheConstants.{SLOTS, UNIVERSES, UNIVERSE_SLOTS}
 use Rattle.lx_base.specs.Numbers.{scaled}
 use Rattle.lx_spec.specs.Output.{contribution, dimmer_value}
 use Rattle.lx_spec.specs.Kept.{Kept, kept}
 use Rattle.lx_spec.specs.TwoLists.{TwoDesks, out_of_two, frame_of_two}
+use Rattle.lx_spec.specs.Replies.{frame_text}
 use Rattle.lx_mixer.specs.Table.{IsTable}
 use Rattle.lx_console.specs.Slots.{universe}
 use Rattle.lx_console.proofs.AllRuns.{over_all, part}
@@ -26,3 +27,10 @@ frame_of_both s t slots u stand table least most =
     subst (λ (k : Kept). IsTable SLOTS (dimmer_value k.show.patch (out_of_both t)) slots) stand.first.same table in
     part SLOTS (UNIVERSE_SLOTS * (u - 1)) UNIVERSE_SLOTS (dimmer_value s.first.show.patch (out_of_two s)) slots
     (subst (λ (outs : ℕ → ℕ). IsTable SLOTS (dimmer_value s.first.show.patch outs) slots) (outputs s t stand) of_first) (omega arith)
+
+-- the line of a frame of both
+pub frame_shown : (s : TwoDesks) (t : TwoKept) (m u : ℕ) (slots : List ℕ) → TwoStand s t → m ≡ t.first.playback.moment
+    → slots ≡ frame_of_two s u → frame_text [] m u slots ≡ frame_text [] s.first.playback.moment u (frame_of_two s u)
+frame_shown s t m u slots stand moment shown =
+    ap (λ (n : ℕ). frame_text [] n u slots) (moment ∙ ap (λ (k : Kept). k.playback.moment) stand.first.same)
+    ∙ ap (frame_text [] s.first.playback.moment u) shown

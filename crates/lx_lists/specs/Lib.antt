@@ -1,3 +1,5 @@
 pub mod Standing
 pub mod Commands
 pub mod Filled
+pub mod Ticked
+pub mod SecondLines

@@ -4,11 +4,13 @@ ghost use Rattle.std.specs.Prelude.{◌≡◌, ℕ, ◌≤◌, false, length, If
 ghost use Rattle.lx_base.specs.declared.TheConstants.{SLOTS, UNIVERSES};
 ghost use Rattle.lx_spec.specs.ValidEdit.{ValidCommand};
 ghost use Rattle.lx_spec.specs.RefusedPlaces.{is_edit};
+ghost use Rattle.lx_spec.specs.Desk.{Desk};
 ghost use Rattle.lx_spec.specs.Output.{dimmer_value};
 ghost use Rattle.lx_spec.specs.TwoLists.{TwoDesks, opened_two, first_step, second_step, tick_step, is_tick, commands_second, frame_of_two};
 ghost use Rattle.lx_mixer.specs.Table.{IsTable};
 ghost use Rattle.lx_subs.specs.Faders.{StandsForSubs};
 ghost use Rattle.lx_console.specs.Slots.{universe};
+ghost use Rattle.lx_console.specs.Standing.{StandsFor, Obeys};
 ghost use Rattle.lx_lists.specs.Standing.{TwoStand, Steps, TakesStep, list_of, out_of_both};
 ghost use Rattle.lx_lists.specs.Commands.{edits_subs, edits_patch, faders_after};
 
@@ -133,11 +135,13 @@ impl TwoLists {
         Ok(())
     }
 
-    /// A tick of both lists.
+    /// A tick of both lists, as it is of each.
     ///
     /// Refused with `TickLimit`, and neither list changes, exactly where the moment is `TICK_END`.
     pub fn tick(&mut self) -> Result<(), Refusal>
         ensures steps { (s : TwoDesks) → TwoStand s self.old → Steps (tick_step s) result self.new }
+        ensures first { (d : Desk) → StandsFor d self.old.first → Obeys d Command.Tick result self.new.first }
+        ensures second { (d : Desk) → StandsFor d self.old.second → Obeys d Command.Tick result self.new.second }
         ensures unchanged { OnErr result (self.new ≡ self.old) }
     {
         self.first.tick()?;

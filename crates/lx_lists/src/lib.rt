@@ -2,8 +2,12 @@
 //! under the first list's patch, submasters and master.
 #![tactic(auto)]
 
+mod attempts;
 mod desk;
+mod frame;
 mod output;
+mod session;
 mod split;
 
 pub use desk::TwoLists;
+pub use session::two_session;

@@ -1,0 +1,94 @@
+-- What a turn of a line means for its attempts.
+use Rattle.std.proofs.Common.{◌≡◌, ℕ, true, false, Option, Some, None, List, refl, sym, ap, subst, ◌∙◌}
+use Rattle.std.specs.Prelude.{IfOk, IfSome, IsTrue, Bool, Result, Ok, Err, not, if◌then◌else◌}
+use Rattle.lx_io.specs.declared.sink.SinkFault.{SinkFault}
+use Rattle.lx_spec.specs.declared.Line.{Line}
+use Rattle.lx_spec.specs.declared.Line.TheVariants as lines
+use Rattle.lx_spec.specs.Script.{line_of}
+use Rattle.lx_spec.specs.Session.{command_of, ends_script, is_quit}
+use Rattle.lx_spec.specs.TwoLists.{where_of_second, is_of_second, commands_second}
+use Rattle.lx_spec.specs.ValidEdit.{ValidLine}
+use Rattle.lx_spec.proofs.ValidLines.{line_of-valid}
+use Rattle.lx_session.specs.LineState.{LineState, frame_of, meaning_of, unattempted}
+use Rattle.lx_session.specs.OneAnswer.{IsLine}
+use Rattle.lx_session.proofs.HeardLines.{meaning_is}
+use Rattle.lx_lists.specs.SecondLines.{IsRestFor}
+use Rattle.lx_lists.proofs.SecondLines.{goes_on}
+
+pub second_start : (turn : LineState) (meaning : Option Line) → turn ≡ unattempted meaning → turn ≡ unattempted turn.meaning
+second_start turn meaning is = is ∙ ap unattempted (sym (ap (λ (t : LineState). t.meaning) is))
+
+valid_by : (meaning : Line) (b : Bool) → ValidLine meaning → IfSome (if b then Some meaning else None) ValidLine
+valid_by meaning true valid = valid
+valid_by meaning false valid = tt
+
+valid_where : (meaning : Option Line) → IfSome meaning ValidLine → IfSome (where_of_second meaning) ValidLine
+valid_where None valid = tt
+valid_where (Some meaning) valid = valid_by meaning (is_of_second meaning) valid
+
+pub second_valid : (rest : List ℕ) (turn : LineState) → turn ≡ unattempted (where_of_second (line_of rest)) → IfSome turn.meaning ValidLine
+second_valid rest turn is = subst (λ (m : Option Line). IfSome m ValidLine) (sym (ap (λ (t : LineState). t.meaning) is))
+    (valid_where (line_of rest) (line_of-valid rest))
+
+abbrev Taken : Option Line → Type 0
+Taken meaning = IfSome (command_of meaning) (λ c. IsTrue (commands_second c))
+
+taken_by : (meaning : Line) (b : Bool) → is_of_second meaning ≡ b → Taken (if b then Some meaning else None)
+taken_by (lines.Command c) true is = is
+taken_by (lines.Ticks k) true is = cc
+taken_by (lines.Frame u) true is = cc
+taken_by lines.Save true is = tt
+taken_by (lines.SheetOf n) true is = tt
+taken_by lines.Quit true is = cc
+taken_by lines.Blank true is = cc
+taken_by meaning false is = tt
+
+taken_where : (meaning : Option Line) → Taken (where_of_second meaning)
+taken_where None = tt
+taken_where (Some meaning) = taken_by meaning (is_of_second meaning) refl
+
+pub second_taken : (rest : List ℕ) (turn : LineState) → turn ≡ unattempted (where_of_second (line_of rest))
+    → IfSome (command_of turn.meaning) (λ c. IsTrue (commands_second c))
+second_taken rest turn is = subst Taken (sym (ap (λ (t : LineState). t.meaning) is)) (taken_where (line_of rest))
+
+no_quit_by : (meaning : Line) (b : Bool) → is_of_second meaning ≡ b → is_quit (if b then Some meaning else None) ≡ false
+no_quit_by (lines.Command c) true is = refl
+no_quit_by (lines.Ticks k) true is = refl
+no_quit_by (lines.Frame u) true is = refl
+no_quit_by lines.Save true is = refl
+no_quit_by (lines.SheetOf n) true is = refl
+no_quit_by lines.Quit true is = cc
+no_quit_by lines.Blank true is = refl
+no_quit_by meaning false is = refl
+
+no_quit : (meaning : Option Line) → is_quit (where_of_second meaning) ≡ false
+no_quit None = refl
+no_quit (Some meaning) = no_quit_by meaning (is_of_second meaning) refl
+
+-- the session goes on after a line of the second list
+pub second_more : (result : Result Bool SinkFault) (rest : List ℕ) (meaning : Option Line) → meaning ≡ where_of_second (line_of rest)
+    → IfOk result (λ more. more ≡ not (is_quit meaning)) → IfOk result (λ more. more ≡ true)
+second_more (Ok more) rest meaning same is = is ∙ ap (λ (m : Option Line). not (is_quit m)) same ∙ ap not (no_quit (line_of rest))
+second_more (Err fault) rest meaning same is = tt
+
+-- and none of its lines ends the script
+pub second_quits : (result : Result Bool SinkFault) (given : Option (List ℕ)) (rest : List ℕ) → IfOk result (λ more. more ≡ true)
+    → ((text : List ℕ) → IsLine given text → IsRestFor text rest)
+    → IfOk result (λ more. (text : List ℕ) → IsLine given text → more ≡ not (ends_script text))
+second_quits (Ok more) given rest is rests = λ text line. is ∙ sym (ap not (goes_on text (rests text line).second))
+second_quits (Err fault) given rest is rests = tt
+
+-- what a line means that was taken up
+pub meant_by : (given : Option (List ℕ)) (turn : LineState) (text : List ℕ) → turn ≡ unattempted (meaning_of given) → IsLine given text
+    → turn.meaning ≡ line_of text
+meant_by given turn text begun is = ap (λ (t : LineState). t.meaning) begun ∙ meaning_is given text is
+
+pub frame_is : (meaning : Option Line) (u : ℕ) → frame_of meaning ≡ Some u → meaning ≡ Some (lines.Frame u)
+frame_is None u is = cc
+frame_is (Some (lines.Command c)) u is = cc
+frame_is (Some (lines.Ticks k)) u is = cc
+frame_is (Some (lines.Frame v)) u is = cc
+frame_is (Some lines.Save) u is = cc
+frame_is (Some (lines.SheetOf n)) u is = cc
+frame_is (Some lines.Quit) u is = cc
+frame_is (Some lines.Blank) u is = cc

@@ -1,0 +1,23 @@
+use Rattle.std.proofs.Common.{◌∙◌, refl, sym, ap}
+use Rattle.lx_session.specs.LineState.{LineState}
+use Rattle.lx_lists.proofs.Ticking.{none_yet, one_more, valid_next}
+use Rattle.lx_lists.proofs.attempts.attempt_all.Goals as goal
+
+pub commands-init : goal.commands-init
+commands-init c = record {
+  meaning = refl;
+  progress = λ s stands. none_yet s c.args.turn.now c.args.desk.now c.requires.start stands;
+}
+
+pub attempt-refusal-requires : goal.attempt-refusal-requires
+attempt-refusal-requires c =
+    valid_next c.args.turn.now c.commands.turn c.in-Some.command.now c.requires.valid c.commands.invariant.meaning (sym c.in-Some.ensures)
+
+pub commands-preserved : goal.commands-preserved
+commands-preserved c = record {
+  meaning = ap (λ (t : LineState). t.meaning) c.attempted.ensures ∙ c.commands.invariant.meaning;
+  progress = λ s stands.
+      one_more s c.args.turn.now c.commands.turn c.attempted.new.self c.in-Some.command.now c.attempt-refusal.result c.commands.desk
+      c.attempt-refusal.new.desk (sym c.in-Some.ensures) c.attempt-refusal.ensures.first c.attempt-refusal.ensures.second
+      c.attempted.ensures (c.commands.invariant.progress s stands);
+}

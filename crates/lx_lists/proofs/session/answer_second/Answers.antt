@@ -1,0 +1,46 @@
+use Rattle.std.proofs.Common.{ℕ, ◌∙◌, true, Option, List, sym, ap, subst}
+use Rattle.lx_spec.specs.declared.Command.{Command}
+use Rattle.lx_spec.specs.declared.Line.{Line}
+use Rattle.lx_spec.specs.Script.{line_of}
+use Rattle.lx_spec.specs.SessionOf.{at_desk}
+use Rattle.lx_spec.specs.TwoLists.{where_of_second}
+use Rattle.lx_console.specs.Standing.{StandsFor}
+use Rattle.lx_session.specs.LineAnswer.{LineAnswer}
+use Rattle.lx_session.specs.LineProgress.{LineProgress}
+use Rattle.lx_session.specs.LineState.{LineState}
+use Rattle.lx_session.proofs.AnsweredLines.{answered}
+use Rattle.lx_lists.specs.Standing.{TwoKept}
+use Rattle.lx_lists.specs.Ticked.{Stays}
+use Rattle.lx_lists.proofs.TwoAnswers.{answered_second}
+use Rattle.lx_lists.proofs.LineAnswers.{second_start, second_valid, second_taken, second_more}
+use Rattle.lx_lists.proofs.session.answer_second.Goals as goal
+
+pub attempt_second-requires-clause-start : goal.attempt_second-requires-clause-start
+attempt_second-requires-clause-start g c = second_start c.begin_second-turn.result _ c.begin_second-turn.ensures
+
+pub attempt_second-requires-clause-valid : goal.attempt_second-requires-clause-valid
+attempt_second-requires-clause-valid g c = second_valid c.args.rest.now c.begin_second-turn.result c.begin_second-turn.ensures
+
+pub attempt_second-requires-clause-taken : goal.attempt_second-requires-clause-taken
+attempt_second-requires-clause-taken g c = second_taken c.args.rest.now c.begin_second-turn.result c.begin_second-turn.ensures
+
+pub returns-clause-answered : goal.returns-clause-answered
+returns-clause-answered g c = λ s text stands counted is.
+    let desk : TwoKept = c.attempt_second.new.desk in
+    let heard : List Command → Type 0 = Stays s.state.first desk.first in
+    let line = answered true heard g.K.Sink.holds g.K.Sink.faults g.K.Sink.wants c.args.sink.now c.finish.new.sink c.finish.result
+    (at_desk s.state.second s) (where_of_second (line_of c.args.rest.now)) c.attempt_second.new.turn desk.second c.args.tally.now
+    c.finish.new.tally
+    (subst (λ (from : LineState). LineProgress true heard (at_desk s.state.second s) from c.attempt_second.new.turn desk.second)
+    c.begin_second-turn.ensures (c.attempt_second.ensures.tried s stands)) c.attempt_second.ensures.over counted
+    (λ d stood. c.finish.ensures.text d (subst (StandsFor d) (sym c.list.ensures) stood))
+    (λ d stood. c.finish.ensures.counts d (subst (StandsFor d) (sym c.list.ensures) stood)) in
+    answered_second g.K.Sink.holds g.K.Sink.faults g.K.Sink.wants c.args.sink.now c.finish.new.sink c.finish.result s text desk
+    c.finish.new.tally is.second
+    (subst (λ (m : Option Line). LineAnswer true heard g.K.Sink.holds g.K.Sink.faults g.K.Sink.wants c.args.sink.now c.finish.new.sink
+    c.finish.result (at_desk s.state.second s) m desk.second c.finish.new.tally)
+    (ap (λ (rest : List ℕ). where_of_second (line_of rest)) is.is) line)
+
+pub returns-clause-more : goal.returns-clause-more
+returns-clause-more g c = second_more c.finish.result c.args.rest.now c.attempt_second.new.turn.meaning
+    (c.attempt_second.ensures.meaning ∙ ap (λ (t : LineState). t.meaning) c.begin_second-turn.ensures) c.finish.ensures.quit

@@ -1,0 +1,60 @@
+//! The commands of a line, attempted on the list that they are for.
+
+ghost use Rattle.std.specs.Prelude.{◌≡◌, None, IfSome, IsTrue, true};
+ghost use Rattle.lx_spec.specs.Session.{command_of};
+ghost use Rattle.lx_spec.specs.SessionOf.{SessionOf, at_desk};
+ghost use Rattle.lx_spec.specs.TwoLists.{TwoDesks, commands_second};
+ghost use Rattle.lx_spec.specs.ValidEdit.{ValidCommand, ValidLine};
+ghost use Rattle.lx_session.specs.Attempts.{Attempted, heard_of};
+ghost use Rattle.lx_session.specs.LineProgress.{LineProgress};
+ghost use Rattle.lx_session.specs.LineState.{next_of, unattempted};
+ghost use Rattle.lx_lists.specs.Standing.{TwoStand};
+ghost use Rattle.lx_lists.specs.Ticked.{TicksReach, Stays};
+
+use crate::desk::TwoLists;
+use lx_session::Turn;
+use lx_show::{Command, Refusal};
+
+/// Attempts the commands of a line of the first list; its ticks are of both.
+pub(crate) fn attempt_all(desk: &mut TwoLists, turn: &mut Turn)
+    requires start { turn.old ≡ unattempted turn.old.meaning }
+    requires valid { IfSome turn.old.meaning ValidLine }
+    ensures over { next_of turn.new ≡ None }
+    ensures meaning { turn.new.meaning ≡ turn.old.meaning }
+    ensures tried { (s : SessionOf TwoDesks) → TwoStand s.state desk.old
+        → LineProgress true (TicksReach s.state.second desk.new.second) (at_desk s.state.first s) turn.old turn.new desk.new.first }
+{
+    'commands: while let Some(command) = turn.next() {
+        let refusal = attempt(desk, command);
+        turn.attempted(refusal);
+    }
+}
+
+/// Attempts a command of the first list, or a tick of both.
+fn attempt(desk: &mut TwoLists, command: &Command) -> Option<Refusal>
+    requires { ValidCommand command.now }
+    ensures first { (s : TwoDesks) → TwoStand s desk.old → Attempted true s.first command.now result desk.new.first }
+    ensures second { (s : TwoDesks) → TwoStand s desk.old
+        → TicksReach s.second desk.new.second (heard_of command.now result) }
+{
+    match command {
+        Command::Tick => desk.tick().err(),
+        _ => desk.first(command).err(),
+    }
+}
+
+/// Attempts the command of a line of the second list, if it has one.
+pub(crate) fn attempt_second(desk: &mut TwoLists, turn: &mut Turn)
+    requires start { turn.old ≡ unattempted turn.old.meaning }
+    requires valid { IfSome turn.old.meaning ValidLine }
+    requires taken { IfSome (command_of turn.old.meaning) (λ command. IsTrue (commands_second command)) }
+    ensures over { next_of turn.new ≡ None }
+    ensures meaning { turn.new.meaning ≡ turn.old.meaning }
+    ensures tried { (s : SessionOf TwoDesks) → TwoStand s.state desk.old
+        → LineProgress true (Stays s.state.first desk.new.first) (at_desk s.state.second s) turn.old turn.new desk.new.second }
+{
+    if let Some(command) = turn.next() {
+        let refusal = desk.second(command).err();
+        turn.attempted(refusal);
+    }
+}

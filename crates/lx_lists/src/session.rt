@@ -1,0 +1,149 @@
+//! Sessions of two lists: a line whose first token is 2 is for the second one.
+
+ghost use Rattle.std.specs.Prelude.{◌≡◌, ◌≤◌, List, ℕ, IfOk, IfSome, None, not, true, false, option_copied};
+ghost use Rattle.lx_base.specs.declared.TheConstants.{INPUT_BYTES};
+ghost use Rattle.lx_io.specs.Puts.{HasSinkCause};
+ghost use Rattle.lx_lex.specs.Unread.{CanAdvance, SameSource, bytes_taken, source_left, unread};
+ghost use Rattle.lx_spec.specs.Session.{ends_script};
+ghost use Rattle.lx_spec.specs.SessionOf.{SessionOf};
+ghost use Rattle.lx_spec.specs.TwoLists.{TwoDesks, two_answer, TwoMayWant, is_for_second};
+ghost use Rattle.lx_session.specs.LineReply.{HasRoom, HasOneMore, counts_in};
+ghost use Rattle.lx_session.specs.OneAnswer.{IsLine, OneAnswer};
+ghost use Rattle.lx_session.specs.ScriptAnswered.{ScriptAnswered};
+ghost use Rattle.lx_session.specs.SessionOutcome.{HasSessionCause, KeepsLimit};
+ghost use Rattle.lx_lists.specs.Standing.{TwoStand};
+ghost use Rattle.lx_lists.specs.SecondLines.{IsRestFor};
+
+use crate::attempts::{attempt_all, attempt_second};
+use crate::desk::TwoLists;
+use crate::frame::put_universe;
+use lx_base::LINE_BYTES;
+use lx_io::{Sink, SinkFault, Source};
+use lx_lex::{Lines, rest_after, tokens};
+use lx_session::{Answers, SessionFault, Tally, Turn, answer_lines};
+
+/// Answers the script lines that are left, up to `quit` or the end, on two lists. A line whose first token is `2` is
+/// for the second list, its rest is read as a line; any other line is for the first list, but that a tick is of both,
+/// and that a frame is what both put out. Each line is done and its replies appended before the next is awaited.
+///
+/// `ReadFault` comes only where the source failed, `InputTooLong` exactly where a wanted line has a byte past the limit
+/// of the input; the lines before it are then wholly answered. `WriteFault` and `Memory` come only where the sink
+/// answered them; what was written is then a prefix of the whole text. However it ends, the lists stand for the state
+/// after the lines that were done. Want of memory refuses only edits that nothing else refuses.
+pub fn two_session<S: Source, K: Sink>(
+    desk: &mut TwoLists,
+    lines: &mut Lines<S>,
+    sink: &mut K,
+) -> Result<Tally, SessionFault>
+    requires going { CanAdvance lines.old }
+    requires within { bytes_taken lines.old ≤ INPUT_BYTES }
+    ensures same_source { SameSource lines.old lines.new }
+    ensures outcome { (state : TwoDesks) → TwoStand state desk.old
+        → IfSome (unread S.left lines.old)
+        (λ bytes. ScriptAnswered two_answer TwoMayWant (λ s. TwoStand s desk.new) state (bytes_taken lines.old) bytes
+        (unread S.left lines.new) (source_left S.left lines.new) (K.holds sink.old) (K.holds sink.new) result) }
+    ensures limit { IfSome (unread S.left lines.old) (λ bytes. KeepsLimit (bytes_taken lines.old) bytes result) }
+    ensures cause { HasSessionCause S.faults K.faults K.wants lines.old lines.new sink.old sink.new result }
+{
+    answer_lines(desk, lines, sink)
+}
+
+impl Answers for TwoLists {
+    ghost use Rattle.lx_spec.specs.TwoLists.{TwoDesks, two_answer, TwoMayWant};
+    ghost use Rattle.lx_lists.specs.Standing.{TwoStand};
+
+    ghost State = { TwoDesks };
+
+    ghost stands = { TwoStand };
+
+    ghost answer_of = { two_answer };
+
+    ghost may_want = { TwoMayWant };
+
+    fn answer<K: Sink>(
+        &mut self,
+        line: Option<&[u8]>,
+        sink: &mut K,
+        tally: &mut Tally,
+    ) -> Result<bool, SinkFault> {
+        match rest_for_second(line) {
+            Some(rest) => answer_second(self, rest, sink, tally),
+            None => answer_first(self, line, sink, tally),
+        }
+    }
+}
+
+/// The rest of a line that is for the second list. None stands for a line that is too long, which is for the first.
+fn rest_for_second(line: Option<&[u8]>) -> Option<&[u8]>
+    ensures second { IfSome result (λ rest. (text : List ℕ) → IsLine (option_copied line.entry) text → IsRestFor text rest.now) }
+    ensures first { result ≡ None → (text : List ℕ) → IsLine (option_copied line.entry) text → is_for_second text ≡ false }
+{
+    let line = line?;
+    if leads_with_two(line) {
+        Some(rest_after(line, 1))
+    } else {
+        None
+    }
+}
+
+/// The line is for the second list.
+fn leads_with_two(line: &[u8]) -> bool
+    ensures { result ≡ is_for_second line.now }
+{
+    if line.len() > LINE_BYTES {
+        return false;
+    }
+    match tokens(line).next() {
+        Some(token) => token == b"2".as_slice(),
+        None => false,
+    }
+}
+
+/// Does what the rest of a line asks of the second list, then appends its reply and counts it. It answers true: the
+/// session goes on.
+fn answer_second<K: Sink>(
+    desk: &mut TwoLists,
+    rest: &[u8],
+    sink: &mut K,
+    tally: &mut Tally,
+) -> Result<bool, SinkFault>
+    requires room { HasRoom tally.old }
+    ensures answered { (s : SessionOf TwoDesks) (text : List ℕ) → TwoStand s.state desk.old → s.counts ≡ counts_in tally.old
+        → IsRestFor text rest.now
+        → OneAnswer two_answer TwoMayWant K.holds K.faults K.wants sink.old sink.new result s text (λ state. TwoStand state desk.new)
+        tally.new }
+    ensures more { IfOk result (λ more. more ≡ true) }
+    ensures cause { HasSinkCause K.faults K.wants sink.old sink.new result }
+    ensures counted { HasOneMore tally.old tally.new }
+{
+    let mut turn = Turn::begin_second(rest);
+    attempt_second(desk, &mut turn);
+    turn.finish(desk.list(true), sink, tally)
+}
+
+/// Does what a line asks of the first list or of both, then appends its replies and counts them. None stands for a
+/// line that is too long, which is bad. It answers false exactly for `quit`.
+fn answer_first<K: Sink>(
+    desk: &mut TwoLists,
+    line: Option<&[u8]>,
+    sink: &mut K,
+    tally: &mut Tally,
+) -> Result<bool, SinkFault>
+    requires room { HasRoom tally.old }
+    ensures answered { (s : SessionOf TwoDesks) (text : List ℕ) → TwoStand s.state desk.old → s.counts ≡ counts_in tally.old
+        → IsLine (option_copied line.entry) text → is_for_second text ≡ false
+        → OneAnswer two_answer TwoMayWant K.holds K.faults K.wants sink.old sink.new result s text (λ state. TwoStand state desk.new)
+        tally.new }
+    ensures quit { IfOk result (λ more. (text : List ℕ) → IsLine (option_copied line.entry) text → more ≡ not (ends_script text)) }
+    ensures cause { HasSinkCause K.faults K.wants sink.old sink.new result }
+    ensures counted { HasOneMore tally.old tally.new }
+{
+    let mut turn = Turn::begin(line);
+    match turn.frame_universe() {
+        Some(universe) => put_universe(desk, universe, sink),
+        None => {
+            attempt_all(desk, &mut turn);
+            turn.finish(desk.list(false), sink, tally)
+        }
+    }
+}
