@@ -1,5 +1,5 @@
 use Rattle.lx_spec.specs.TwoLists.{opened_two, two_answer, TwoMayWant}
-use Rattle.lx_lists.proofs.Lawful.{two_lawful}
+use Rattle.lx_lists.proofs.TwoAnswers.{two_lawful}
 use Rattle.cuedesk.specs.Answering.{two_by}
 use Rattle.cuedesk.proofs.Inputs.{nothing_answered_by, none_allowed}
 use Rattle.cuedesk.proofs.two.play_two.Goals as goal
