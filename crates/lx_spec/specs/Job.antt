@@ -1,17 +1,18 @@
 -- The jobs of the program: the words that name each, what it is given, and what it writes.
 use Rattle.std.specs.Prelude.{ℕ, ◌==◌, Bool, false, Option, Some, None, Result, List, [], ◌∷◌, option_and_then, option_map, codes, bytes_eq}
 use Rattle.std.specs.Prelude.{if◌then◌else◌}
-use Rattle.lx_base.specs.declared.TheConstants.{CUES, UNIVERSES, UNDO_DEPTH}
+use Rattle.lx_base.specs.declared.TheConstants.{CUES, UNIVERSES, UNDO_DEPTH, OPERATORS}
 use Rattle.lx_spec.specs.declared.Form.{Form}
 use Rattle.lx_spec.specs.declared.Form.TheVariants.{Moves, States}
 use Rattle.lx_spec.specs.declared.Job.{Job}
-use Rattle.lx_spec.specs.declared.Job.TheVariants.{Check, Render, Sheet, Make, Run, Undo, Two}
+use Rattle.lx_spec.specs.declared.Job.TheVariants.{Check, Render, Sheet, Make, Run, Undo, Two, Crew}
 use Rattle.lx_spec.specs.declared.TextFault.{TextFault}
 use Rattle.lx_spec.specs.Text.{lines_of}
 use Rattle.lx_spec.specs.Numerals.{read_whole}
 use Rattle.lx_spec.specs.Phrase.{ended, read_as}
 use Rattle.lx_spec.specs.Reading.{Reading, reads, lines_read, script_of}
 use Rattle.lx_spec.specs.CutInput.{first_lines}
+use Rattle.lx_spec.specs.FaultLine.{over_show}
 use Rattle.lx_spec.specs.CheckOutput.{check_output}
 use Rattle.lx_spec.specs.SheetOutput.{sheet_output}
 use Rattle.lx_spec.specs.RenderOutput.{render_output, input_wanted, first_replies, OutputPlacesAreEdits}
@@ -45,6 +46,11 @@ abbrev pub run_of : List (List ℕ) → Option Job
 run_of [] = None
 run_of (word ∷ rest) = option_and_then (λ universes. option_map (Run universes) (form_of rest)) (plain_number UNIVERSES word)
 
+-- the operators and the form that the words behind `crew` name
+abbrev pub crew_of : List (List ℕ) → Option Job
+crew_of [] = None
+crew_of (word ∷ rest) = option_and_then (λ operators. option_map (Crew operators) (form_of rest)) (plain_number OPERATORS word)
+
 -- the job that a list of words names, if they are one of the forms
 abbrev pub job_of : List (List ℕ) → Option Job
 job_of [] = None
@@ -56,6 +62,7 @@ job_of (name ∷ rest) =
     else if bytes_eq name (codes "run") then run_of rest
     else if bytes_eq name (codes "undo") then option_map Undo (form_of rest)
     else if bytes_eq name (codes "two") then option_map Two (form_of rest)
+    else if bytes_eq name (codes "crew") then crew_of rest
     else None
 
 -- the bytes that a job is given, where its source tells what it has left: `make` is given none
@@ -67,6 +74,7 @@ given_to (Make n) left = Some []
 given_to (Run universes form) left = left
 given_to (Undo form) left = left
 given_to (Two form) left = left
+given_to (Crew operators form) left = left
 
 -- the show that a job is about
 abbrev pub show_of : Job → List ℕ → Result Reading TextFault
@@ -77,12 +85,14 @@ show_of (Make n) bytes = reads Moves (made_input n)
 show_of (Run universes form) bytes = reads form bytes
 show_of (Undo form) bytes = reads form bytes
 show_of (Two form) bytes = reads form bytes
+show_of (Crew operators form) bytes = reads form bytes
 
 -- the state of undo, as it is opened over a show
 abbrev pub opened_undo : Show → UndoState
 opened_undo show = opened_with show UNDO_DEPTH
 
--- what a job writes, where want of memory refuses the edits at these places
+-- What a job writes, where want of memory refuses the edits at these places. Of a crew it is the line of a refused show: what is
+-- written over a show that is read depends on the operators' scripts besides.
 abbrev pub output_of : Job → List ℕ → List ℕ → List ℕ
 output_of (Check form) bytes places = check_output form bytes
 output_of (Render form) bytes places = render_output form bytes places
@@ -91,6 +101,7 @@ output_of (Make n) bytes places = make_output n places
 output_of (Run universes form) bytes places = render_output form bytes places
 output_of (Undo form) bytes places = session_output undo_answer opened_undo form bytes places
 output_of (Two form) bytes places = session_output two_answer opened_two form bytes places
+output_of (Crew operators form) bytes places = over_show (reads form bytes) (λ reading. [])
 
 -- the replies of a job to the first so many lines of its script; none where it has no script, or the show is refused
 abbrev pub replies_of : Job → List ℕ → List ℕ → ℕ → List ℕ
@@ -101,6 +112,7 @@ replies_of (Make n) bytes places lines = []
 replies_of (Run universes form) bytes places lines = first_replies (reads form bytes) (script_of bytes) places lines
 replies_of (Undo form) bytes places lines = session_replies undo_answer opened_undo (reads form bytes) (script_of bytes) places lines
 replies_of (Two form) bytes places lines = session_replies two_answer opened_two (reads form bytes) (script_of bytes) places lines
+replies_of (Crew operators form) bytes places lines = []
 
 -- want of memory refuses nothing but edits that the desk accepts; live, any attempt may be refused where there is no memory to hand it on
 abbrev pub WantsEdits : Job → List ℕ → List ℕ → Type 0
@@ -111,6 +123,7 @@ WantsEdits (Make n) bytes places = OutputPlacesAreEdits (made_input n) places (r
 WantsEdits (Run universes form) bytes places = Unit {0}
 WantsEdits (Undo form) bytes places = SessionWants undo_answer UndoMayWant opened_undo bytes places (reads form bytes)
 WantsEdits (Two form) bytes places = SessionWants two_answer TwoMayWant opened_two bytes places (reads form bytes)
+WantsEdits (Crew operators form) bytes places = Unit {0}
 
 -- the bytes of an input that a show text wants
 abbrev pub show_wanted : List ℕ → List ℕ
@@ -125,3 +138,4 @@ wanted_of (Make n) bytes = input_wanted Moves (made_input n)
 wanted_of (Run universes form) bytes = input_wanted form bytes
 wanted_of (Undo form) bytes = input_wanted form bytes
 wanted_of (Two form) bytes = input_wanted form bytes
+wanted_of (Crew operators form) bytes = show_wanted bytes
