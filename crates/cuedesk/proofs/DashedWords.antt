@@ -4,12 +4,12 @@ use Rattle.std.specs.Prelude.{◌&&◌, ◌||◌, codes, option_map, option_and_
 use Rattle.std.specs.List.{list_any}
 use Rattle.std.specs.Str.{bytes_eq}
 use Rattle.std.proofs.lemmas.Bool.Decides.{nat_tests}
-use Rattle.lx_base.specs.declared.TheConstants.{CUES, UNIVERSES}
+use Rattle.lx_base.specs.declared.TheConstants.{CUES, UNIVERSES, OPERATORS}
 use Rattle.lx_spec.specs.declared.Form.TheVariants.{States}
 use Rattle.lx_spec.specs.declared.Job.{Job}
-use Rattle.lx_spec.specs.declared.Job.TheVariants.{Check, Render, Sheet, Make, Run, Undo, Two}
+use Rattle.lx_spec.specs.declared.Job.TheVariants.{Check, Render, Sheet, Make, Run, Undo, Two, Crew}
 use Rattle.lx_spec.specs.Phrase.{ended}
-use Rattle.lx_spec.specs.Job.{job_of, form_of, plain_number, number_alone, run_of}
+use Rattle.lx_spec.specs.Job.{job_of, form_of, plain_number, number_alone, run_of, crew_of}
 use Rattle.cuedesk.specs.Words.{begins_with_dash}
 
 abbrev HasDash : List (List ℕ) → Type 0
@@ -68,6 +68,13 @@ no_run (w ∷ ws) e = first_or_more (run_of (w ∷ ws) ≡ None) w ws e
     (λ more. after_number (plain_number UNIVERSES w) (λ u. option_map (Run u) (form_of ws))
     (λ u. ap (option_map (Run u)) (no_form ws more)))
 
+no_crew : (ws : List (List ℕ)) → HasDash ws → crew_of ws ≡ None
+no_crew [] e = absurd cc
+no_crew (w ∷ ws) e = first_or_more (crew_of (w ∷ ws) ≡ None) w ws e
+    (λ first. ap (option_and_then (λ n. option_map (Crew n) (form_of ws))) (no_number OPERATORS w first))
+    (λ more. after_number (plain_number OPERATORS w) (λ n. option_map (Crew n) (form_of ws))
+    (λ n. ap (option_map (Crew n)) (no_form ws more)))
+
 pub no_job : (ws : List (List ℕ)) → HasDash ws → job_of ws ≡ None
 no_job [] e = absurd cc
 no_job (w ∷ ws) e = first_or_more (job_of (w ∷ ws) ≡ None) w ws e
@@ -78,7 +85,8 @@ no_job (w ∷ ws) e = first_or_more (job_of (w ∷ ws) ≡ None) w ws e
     (skip (bytes_eq w (codes "make")) _ _ (isnt w 109 _ first refl)
     (skip (bytes_eq w (codes "run")) _ _ (isnt w 114 _ first refl)
     (skip (bytes_eq w (codes "undo")) _ _ (isnt w 117 _ first refl)
-    (skip (bytes_eq w (codes "two")) _ None (isnt w 116 _ first refl) refl)))))))
+    (skip (bytes_eq w (codes "two")) _ _ (isnt w 116 _ first refl)
+    (skip (bytes_eq w (codes "crew")) _ None (isnt w 99 _ first refl) refl))))))))
     (λ more.
     neither (bytes_eq w (codes "check")) _ _ (ap (option_map Check) (no_form ws more))
     (neither (bytes_eq w (codes "render")) _ _ (ap (option_map Render) (no_form ws more))
@@ -86,4 +94,5 @@ no_job (w ∷ ws) e = first_or_more (job_of (w ∷ ws) ≡ None) w ws e
     (neither (bytes_eq w (codes "make")) _ _ (ap (option_map Make) (no_alone CUES ws more))
     (neither (bytes_eq w (codes "run")) _ _ (no_run ws more)
     (neither (bytes_eq w (codes "undo")) _ _ (ap (option_map Undo) (no_form ws more))
-    (neither (bytes_eq w (codes "two")) _ None (ap (option_map Two) (no_form ws more)) refl)))))))
+    (neither (bytes_eq w (codes "two")) _ _ (ap (option_map Two) (no_form ws more))
+    (neither (bytes_eq w (codes "crew")) _ None (no_crew ws more) refl))))))))

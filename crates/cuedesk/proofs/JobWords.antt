@@ -2,7 +2,7 @@
 use Rattle.std.proofs.Common.{◌≡◌, Option, Some, None, IfSome, List, ℕ, [], sym, subst}
 use Rattle.lx_spec.specs.declared.Form.TheVariants.{Moves}
 use Rattle.lx_spec.specs.declared.Job.{Job}
-use Rattle.lx_spec.specs.declared.Job.TheVariants.{Check, Render, Sheet, Make, Run, Undo, Two}
+use Rattle.lx_spec.specs.declared.Job.TheVariants.{Check, Render, Sheet, Make, Run, Undo, Two, Crew}
 use Rattle.lx_spec.specs.Reading.{reads}
 use Rattle.lx_spec.specs.MakeOutput.{made_input}
 use Rattle.lx_spec.specs.UndoSession.{undo_answer, UndoMayWant}
@@ -32,6 +32,7 @@ no_wants (Make n) bytes = nothing_wanted (made_input n) (reads Moves (made_input
 no_wants (Run universes form) bytes = tt
 no_wants (Undo form) bytes = nothing_of_session undo_answer UndoMayWant opened_undo bytes (reads form bytes)
 no_wants (Two form) bytes = nothing_of_session two_answer TwoMayWant opened_two bytes (reads form bytes)
+no_wants (Crew operators form) bytes = tt
 
 -- where nothing was written, a prefix was
 pub untouched : (ws : List (List ℕ)) (left h : Option (List ℕ)) → OfJob ws left (λ job bytes. WritesPrefix job bytes h h)

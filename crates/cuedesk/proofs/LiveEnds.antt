@@ -12,7 +12,7 @@ use Rattle.lx_spec.specs.declared.Form.{Form}
 use Rattle.lx_spec.specs.declared.TextFault.{TextFault}
 use Rattle.lx_session.proofs.Ends.{front_of_all}
 use Rattle.lx_spec.specs.declared.Job.{Job}
-use Rattle.lx_spec.specs.declared.Job.TheVariants.{Check, Render, Sheet, Make, Run, Undo, Two}
+use Rattle.lx_spec.specs.declared.Job.TheVariants.{Check, Render, Sheet, Make, Run, Undo, Two, Crew}
 use Rattle.lx_spec.specs.Text.{lines_of}
 use Rattle.lx_spec.specs.Desk.{opened}
 use Rattle.lx_spec.specs.CutInput.{HasNoFeed, first_lines}
@@ -247,6 +247,7 @@ none_lived holds failures wants (Some (Sheet form)) left rest h outlets = tt
 none_lived holds failures wants (Some (Make n)) left rest h outlets = tt
 none_lived holds failures wants (Some (Undo form)) left rest h outlets = tt
 none_lived holds failures wants (Some (Two form)) left rest h outlets = tt
+none_lived holds failures wants (Some (Crew operators form)) left rest h outlets = tt
 none_lived holds failures wants (Some (Run universes form)) None rest h outlets = tt
 none_lived holds failures wants (Some (Run universes form)) (Some bytes) rest h outlets =
     (nothing_lived form universes bytes h h refl, inl (refl, λ ok. refl))

@@ -3,7 +3,7 @@ use Rattle.std.specs.Prelude.{◌≡◌, ◌⊎◌, ℕ, ◌+◌, ◌<◌, ◌�
 use Rattle.lx_base.specs.declared.TheConstants.{INPUT_BYTES}
 use Rattle.lx_io.specs.Causes.{Rose}
 use Rattle.lx_spec.specs.declared.Job.{Job}
-use Rattle.lx_spec.specs.declared.Job.TheVariants.{Check, Render, Sheet, Make, Run, Undo, Two}
+use Rattle.lx_spec.specs.declared.Job.TheVariants.{Check, Render, Sheet, Make, Run, Undo, Two, Crew}
 use Rattle.lx_spec.specs.Text.{lines_of}
 use Rattle.lx_spec.specs.Session.{bytes_wanted}
 use Rattle.lx_spec.specs.Job.{show_of, wanted_of}
@@ -12,7 +12,7 @@ use Rattle.cuedesk.specs.Output.{WritesAll, WritesPrefix, WritesTaken, AnswersSc
 use Rattle.cuedesk.specs.declared.desk.Status.{Status}
 use Rattle.cuedesk.specs.declared.desk.Status.TheVariants as status
 
--- the status of words by which nothing is read: of those that name no job, and of those of the job that plays live
+-- the status of words by which nothing is read: of those that name no job, and of those of the jobs that run beside threads
 abbrev pub at_once : Option Job → Option Status
 at_once None = Some status.Usage
 at_once (Some (Check form)) = None
@@ -22,6 +22,7 @@ at_once (Some (Make n)) = None
 at_once (Some (Run universes form)) = Some status.Live
 at_once (Some (Undo form)) = None
 at_once (Some (Two form)) = None
+at_once (Some (Crew operators form)) = Some status.Live
 
 -- Words that have such a status are answered with it, unless memory was wanted in vain, and then nothing is read or written; no other
 -- words are.

@@ -2,9 +2,9 @@
 use Rattle.std.specs.Prelude.{◌≡◌, ◌≤◌, ℕ, ◌-◌, Option, IfSome, List}
 use Rattle.std.specs.Io.KnownBytes.{Appends}
 use Rattle.lx_io.specs.Puts.{AppendsFront}
-use Rattle.lx_base.specs.declared.TheConstants.{UNIVERSES}
+use Rattle.lx_base.specs.declared.TheConstants.{UNIVERSES, OPERATORS}
 use Rattle.lx_spec.specs.declared.Job.{Job}
-use Rattle.lx_spec.specs.declared.Job.TheVariants.{Check, Render, Sheet, Make, Run, Undo, Two}
+use Rattle.lx_spec.specs.declared.Job.TheVariants.{Check, Render, Sheet, Make, Run, Undo, Two, Crew}
 use Rattle.lx_spec.specs.Text.{lines_of}
 use Rattle.lx_spec.specs.Reading.{lines_read}
 use Rattle.lx_spec.specs.CutInput.{CutOff}
@@ -43,16 +43,18 @@ WritesTaken (Make n) bytes left held held' = held' ≡ held
 WritesTaken (Run universes form) bytes left held held' = RepliesToTaken (Run universes form) bytes left held held'
 WritesTaken (Undo form) bytes left held held' = RepliesToTaken (Undo form) bytes left held held'
 WritesTaken (Two form) bytes left held held' = RepliesToTaken (Two form) bytes left held held'
+WritesTaken (Crew operators form) bytes left held held' = held' ≡ held
 
--- what plays live plays 1 to all universes
-abbrev pub HasUniverses : Job → Type 0
-HasUniverses (Check form) = Unit {0}
-HasUniverses (Render form) = Unit {0}
-HasUniverses (Sheet form) = Unit {0}
-HasUniverses (Make n) = Unit {0}
-HasUniverses (Run universes form) = (1 ≤ universes) × (universes ≤ UNIVERSES)
-HasUniverses (Undo form) = Unit {0}
-HasUniverses (Two form) = Unit {0}
+-- what plays live plays 1 to all universes, and a crew has 1 to all operators
+abbrev pub InRange : Job → Type 0
+InRange (Check form) = Unit {0}
+InRange (Render form) = Unit {0}
+InRange (Sheet form) = Unit {0}
+InRange (Make n) = Unit {0}
+InRange (Run universes form) = (1 ≤ universes) × (universes ≤ UNIVERSES)
+InRange (Undo form) = Unit {0}
+InRange (Two form) = Unit {0}
+InRange (Crew operators form) = (1 ≤ operators) × (operators ≤ OPERATORS)
 
 -- A script was answered, wholly or by a prefix of the replies.
 pub record AnswersScript (by : Answering) (script : List (List ℕ)) (held held' : Option (List ℕ)) : Type 0 where

@@ -33,7 +33,7 @@ pub enum Status {
     Memory,
     /// The input is longer than 67,108,864 bytes.
     InputTooLong,
-    /// The words name the job that plays live, which isn't done here.
+    /// The words name a job that runs beside threads, which isn't done here.
     Live,
 }
 
@@ -50,7 +50,7 @@ pub fn desk<S: Source, K: Sink>(
     input: &mut S,
     output: &mut K,
 ) -> Status
-    // Usage exactly where the words name no job, and Live where they name the one that plays live, unless memory was wanted in
+    // Usage exactly where the words name no job, and Live where they name `run` or `crew`, unless memory was wanted in
     // vain; and then nothing is read or written.
     ensures words { AnswersWords (job_of (map string_bytes words.now)) result input.old input.new output.old output.new }
 
@@ -85,7 +85,7 @@ fn run<S: Source, K: Sink>(alloc: Global, job: Job, input: &mut S, output: &mut 
         Job::Render(form) => render(alloc, form, input, output),
         Job::Sheet(form) => sheet(alloc, form, input, output),
         Job::Make(cues) => make(alloc, cues, output),
-        Job::Run(..) => Status::Live,
+        Job::Run(..) | Job::Crew(..) => Status::Live,
         Job::Undo(form) => undo(alloc, form, input, output),
         Job::Two(form) => two(alloc, form, input, output),
     }

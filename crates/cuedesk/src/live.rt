@@ -71,7 +71,7 @@ pub fn desk_live<
             run_live(rt, alloc, universes, form, input, output, outlets, pace)
         }
         Ok(Job::Check(_) | Job::Render(_) | Job::Sheet(_) | Job::Make(_)) => Status::Usage,
-        Ok(Job::Undo(_) | Job::Two(_)) => Status::Usage,
+        Ok(Job::Undo(_) | Job::Two(_) | Job::Crew(..)) => Status::Usage,
         Err(WordsFault::Usage) => Status::Usage,
         Err(WordsFault::Memory) => Status::Memory,
     }

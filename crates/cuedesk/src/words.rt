@@ -3,14 +3,14 @@
 ghost use Rattle.std.specs.Prelude.{◌≡◌, ◌≤◌, false, None, Some, Err, map, string_bytes, IfOk, IfErr, IfSome};
 ghost use Rattle.std.specs.List.{list_any};
 ghost use Rattle.clap.specs.Words.{kind_of};
-ghost use Rattle.lx_spec.specs.Job.{job_of, form_of, number_alone, plain_number, run_of};
+ghost use Rattle.lx_spec.specs.Job.{job_of, form_of, number_alone, plain_number, run_of, crew_of};
 ghost use Rattle.lx_spec.specs.Phrase.{ended};
-ghost use Rattle.cuedesk.specs.Output.{HasUniverses};
+ghost use Rattle.cuedesk.specs.Output.{InRange};
 ghost use Rattle.cuedesk.specs.Words.{begins_with_dash, values_of};
 
 use clap::error::ErrorKind;
 use clap::{Arg, ArgAction, ArgMatches, Command, Error};
-use lx_base::{CUES, UNIVERSES};
+use lx_base::{CUES, OPERATORS, UNIVERSES};
 use lx_lex::read_whole;
 use lx_spec::{Form, Job};
 use std::alloc::Global;
@@ -28,10 +28,11 @@ pub enum WordsFault {
 }
 
 /// The job that the words name: `check`, `render`, `sheet`, `undo` or `two`, or one of them and `states`; `make` and a number of
-/// cues; or `run` and a number of universes, or these and `states`. `Usage` comes exactly where they are none of these.
+/// cues; `run` and a number of universes or `crew` and a number of operators, or these and `states`. `Usage` comes exactly where
+/// they are none of these.
 pub fn words_of(alloc: Global, words: &[String]) -> Result<Job, WordsFault>
     ensures job { IfOk result (λ job. job_of (map string_bytes words.now) ≡ Some job) }
-    ensures universes { IfOk result HasUniverses }
+    ensures range { IfOk result InRange }
     ensures usage { result ≡ Err WordsFault.Usage → job_of (map string_bytes words.now) ≡ None }
 {
     if has_dash(words) {
@@ -88,7 +89,7 @@ fn matches_of<'a>(alloc: Global, words: &'a [String]) -> Result<ArgMatches<'a>, 
 /// The job that the words name.
 fn job_in(words: &[&str]) -> Option<Job>
     ensures job { result ≡ job_of (map (λ word. word.now) words.now) }
-    ensures universes { IfSome result HasUniverses }
+    ensures range { IfSome result InRange }
 {
     let (name, rest) = words.split_first()?;
     match *name {
@@ -99,6 +100,7 @@ fn job_in(words: &[&str]) -> Option<Job>
         "run" => run_in(rest),
         "undo" => form_in(rest).map(Job::Undo),
         "two" => form_in(rest).map(Job::Two),
+        "crew" => crew_in(rest),
         _ => None,
     }
 }
@@ -106,12 +108,23 @@ fn job_in(words: &[&str]) -> Option<Job>
 /// How many universes are played live, and how the levels are read.
 fn run_in(words: &[&str]) -> Option<Job>
     ensures job { result ≡ run_of (map (λ word. word.now) words.now) }
-    ensures universes { IfSome result HasUniverses }
+    ensures range { IfSome result InRange }
 {
     let (word, rest) = words.split_first()?;
     let universes = plain_number(u32::from(UNIVERSES), word)?;
     let form = form_in(rest)?;
     Some(Job::Run(universes as u8, form))
+}
+
+/// How many operators there are, and how the levels are read.
+fn crew_in(words: &[&str]) -> Option<Job>
+    ensures job { result ≡ crew_of (map (λ word. word.now) words.now) }
+    ensures range { IfSome result InRange }
+{
+    let (word, rest) = words.split_first()?;
+    let operators = plain_number(u32::from(OPERATORS), word)?;
+    let form = form_in(rest)?;
+    Some(Job::Crew(operators as u8, form))
 }
 
 /// The number, where no further word is given.
