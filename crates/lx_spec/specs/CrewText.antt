@@ -1,9 +1,11 @@
 -- The transcript of a crew: lines of several operators in the order in which they were taken, each named and then answered.
-use Rattle.std.specs.Prelude.{ℕ, List, [], ◌∷◌, fold, codes, decimal}
+use Rattle.std.specs.Prelude.{◌≡◌, ℕ, ◌+◌, ◌==◌, List, [], ◌∷◌, fold, take, codes, decimal}
+use Rattle.std.specs.List.{filter}
 use Rattle.lx_spec.specs.ShowText.{line}
+use Rattle.lx_spec.specs.Text.{lines_of}
 use Rattle.lx_spec.specs.Script.{line_of}
 use Rattle.lx_spec.specs.Desk.{Desk}
-use Rattle.lx_spec.specs.Session.{Session, begin_at, with_text, after_line}
+use Rattle.lx_spec.specs.Session.{Session, begin_at, with_text, after_line, lines_wanted}
 use Rattle.lx_spec.specs.RefusedPlaces.{MayWant}
 
 -- a line, by its operator and its number among that operator's lines, from 1
@@ -11,6 +13,27 @@ pub record CrewEntry : Type 0 where
   pub operator : ℕ
   pub number : ℕ
   pub line : List ℕ
+
+-- the lines of a script of these bytes, up to `quit` or the end
+abbrev pub lines_up_to_quit : List ℕ → List (List ℕ)
+lines_up_to_quit bytes = take (lines_wanted (lines_of bytes)) (lines_of bytes)
+
+-- an operator's entries, in order
+abbrev pub of_operator : ℕ → List CrewEntry → List CrewEntry
+of_operator operator entries = filter (λ (e : CrewEntry). e.operator == operator) entries
+
+-- lines of an operator, numbered from n
+abbrev pub numbered_from : ℕ → ℕ → List (List ℕ) → List CrewEntry
+numbered_from operator n [] = []
+numbered_from operator n (line ∷ lines) = record { operator = operator; number = n; line = line } ∷ numbered_from operator (n + 1) lines
+
+-- the entries are the lines of each operator, each once, in its order, and no others
+abbrev pub Merged : (ℕ → List (List ℕ)) → List CrewEntry → Type 0
+Merged lines entries = (operator : ℕ) → of_operator operator entries ≡ numbered_from operator 1 (lines operator)
+
+-- or the first lines of each operator
+abbrev pub MergedSoFar : (ℕ → List (List ℕ)) → List CrewEntry → Type 0
+MergedSoFar lines entries = (operator : ℕ) → (n : ℕ) × (of_operator operator entries ≡ numbered_from operator 1 (take n (lines operator)))
 
 -- op K N
 abbrev pub op_text : CrewEntry → List ℕ
