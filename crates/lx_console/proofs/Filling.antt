@@ -1,46 +1,62 @@
--- A stage is filled in when its outputs and slots are mixed from the levels and from what the submasters give.
+-- A stage shows a player when its outputs are mixed from the player's levels, and does so while nothing that goes out changes.
 use Rattle.std.specs.Prelude.{◌≡◌, ℕ, ◌+◌, ◌<◌, max, List, length, take, drop, ◌++◌}
-use Rattle.std.proofs.Common.{arith, ap, ◌∙◌, sym}
+use Rattle.std.proofs.Common.{arith, ap, ◌∙◌, sym, subst}
 use Rattle.std.proofs.lemmas.Grind.{common_steps}
 use Rattle.lx_base.specs.Numbers.{scaled}
-use Rattle.lx_spec.specs.Playback.{Playback}
+use Rattle.lx_spec.specs.declared.PatchRow.{PatchRow}
 use Rattle.lx_spec.specs.Output.{contribution}
 use Rattle.lx_spec.specs.Kept.{Kept}
 use Rattle.lx_mixer.specs.Table.{IsTable}
-use Rattle.lx_mixer.proofs.Tables.{mixed}
-use Rattle.lx_levels.specs.Stacks.{Kept as Levels, level_at}
-use Rattle.lx_levels.specs.Standing.{LevelsStandFor}
-use Rattle.lx_levels.proofs.Stands.{kept_level}
+use Rattle.lx_patch.specs.DimmerTable.{StandsForPatch}
 use Rattle.lx_console.specs.declared.stage.Stage.{Stage}
-use Rattle.lx_console.specs.Standing.{level_now}
-use Rattle.lx_console.specs.Filled.{IsFilled, IsMixed}
+use Rattle.lx_console.specs.Changes.{SamePatch, SameOutputs}
+use Rattle.lx_console.specs.Standing.{level_now, out_now}
+use Rattle.lx_console.specs.Filled.{Reaches, SlotsStand, IsFilled, IsMixed}
 
 -- a list written over the whole of another is itself
 pub written : (n : ℕ) (xs ys : List ℕ) → length xs ≡ n → take n (xs ++ drop (length xs) ys) ≡ xs
 written n xs ys is = grind (arith, common_steps)
 
-pub filled : (k : Kept) (levels given : List ℕ) (stage : Stage) → IsTable k.show.channels (level_now k) levels
-    → IsTable k.show.channels (contribution k.show k.faders) given → IsMixed levels k.show given k.master stage → IsFilled k stage
-filled k levels given stage of_levels of_given is = record {
-  reaches = is.reaches;
-  patch_stands = is.patch_stands;
-  outs_stand = mixed k.show.channels k.master (level_now k) (contribution k.show k.faders) levels given stage.outs.items
-      is.reaches.outs_reach of_levels of_given is.outs;
-  slots_stand = is.slots_stand;
-}
-
--- where no level changes, no output does
-pub filled_still : (k : Kept) (p : Playback) (before after : Levels) (stage : Stage) → IsFilled k stage
-    → LevelsStandFor k.show k.playback before → LevelsStandFor k.show p after
-    → ((i : ℕ) → i < k.show.channels → level_at after i ≡ level_at before i) → IsFilled (record k { playback = p }) stage
-filled_still k p before after stage is old new same = record {
+pub filled : (k : Kept) (levels : List ℕ) (stage : Stage) → IsTable k.show.channels (level_now k) levels → IsMixed levels k stage
+    → IsFilled k stage
+filled k levels stage of_levels is = record {
   reaches = is.reaches;
   patch_stands = is.patch_stands;
   outs_stand = record {
-    reach = is.outs_stand.reach;
-    each = λ i within. is.outs_stand.each i within
-        ∙ ap (λ l. scaled (max l (contribution k.show k.faders (i + 1))) k.master)
-        (sym (kept_level k.show k.playback before i old within) ∙ sym (same i within) ∙ kept_level k.show p after i new within);
+    reach = is.reaches.outs_reach;
+    each = λ i within. is.outs i (omega (arith, is.reaches.outs_reach))
+        ∙ ap (λ l. scaled (max l (contribution k.show k.faders (i + 1))) k.master) (of_levels.each i within);
   };
   slots_stand = is.slots_stand;
+}
+
+-- places, table and slots stay for the same channels and rows
+pub same_reaches : (before after : ℕ) (stage : Stage) → after ≡ before → Reaches before stage → Reaches after stage
+same_reaches before after stage same reaches = subst (λ n. Reaches n stage) (sym same) reaches
+
+pub same_table : (before after : Kept) (stage : Stage) → SamePatch before after → StandsForPatch before.show.patch stage.table
+    → StandsForPatch after.show.patch stage.table
+same_table before after stage same stands = subst (λ (rows : List PatchRow). StandsForPatch rows stage.table) (sym same.patch) stands
+
+pub same_slots : (before after : Kept) (stage : Stage) → SamePatch before after → SlotsStand before.show.patch stage
+    → SlotsStand after.show.patch stage
+same_slots before after stage same stand = subst (λ (rows : List PatchRow). SlotsStand rows stage) (sym same.patch) stand
+
+same_out : (before after : Kept) (i : ℕ) → SameOutputs before after → i < before.show.channels → out_now before (i + 1) ≡ out_now after (i + 1)
+same_out before after i same within =
+    ap (λ l. scaled (max l (contribution before.show before.faders (i + 1))) before.master) (sym (same.levels i within))
+    ∙ ap (λ g. scaled (max (level_now after (i + 1)) g) before.master) (sym (same.given i within))
+    ∙ ap (λ m. scaled (max (level_now after (i + 1)) (contribution after.show after.faders (i + 1))) m) (sym same.master)
+
+pub filled_still : (before after : Kept) (stage : Stage) → IsFilled before stage → SameOutputs before after → IsFilled after stage
+filled_still before after stage is same = record {
+  reaches = same_reaches before.show.channels after.show.channels stage same.rows.channels is.reaches;
+  patch_stands = same_table before after stage same.rows is.patch_stands;
+  outs_stand = record {
+    reach = is.outs_stand.reach ∙ sym same.rows.channels;
+    each = λ i within.
+        let there : i < before.show.channels = omega (arith, same.rows.channels) in
+        is.outs_stand.each i there ∙ same_out before after i same there;
+  };
+  slots_stand = same_slots before after stage same.rows is.slots_stand;
 }

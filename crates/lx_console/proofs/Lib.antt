@@ -1,5 +1,6 @@
 pub mod Filling
 pub mod Touched
+pub mod Changed
 pub mod TakenRows
 pub mod AllRuns
 pub mod Obeying

@@ -8,11 +8,8 @@ use Rattle.lx_patch.specs.DimmerTable.{DimmerTable, StandsForPatch}
 use Rattle.lx_patch.proofs.Rows.{gone, others_stay, stands_alike}
 use Rattle.lx_spec.proofs.SortedLists.{entry_at-placed_here, entry_at-placed_other, found_number}
 
-same_dimmer : (d e : ℕ) → Some d ≡ Some e → d ≡ e
-same_dimmer d e same = cc
-
 pub row_set : (rows before : List PatchRow) (d : ℕ) (row : PatchRow) (table : DimmerTable) → entry_at (λ x. x.dimmer) d rows ≡ Some row
-    → ((e : ℕ) → Some d ≢ Some e → entry_at (λ x. x.dimmer) e rows ≡ entry_at (λ x. x.dimmer) e before)
+    → ((e : ℕ) → e ≢ d → entry_at (λ x. x.dimmer) e rows ≡ entry_at (λ x. x.dimmer) e before)
     → StandsForPatch (placed (λ x. x.dimmer) row before) table → StandsForPatch rows table
 row_set rows before d row table found others stands =
     let own : d ≡ row.dimmer = found_number (λ x. x.dimmer) d rows row found in
@@ -21,11 +18,11 @@ row_set rows before d row table found others stands =
           ∙ sym (ap (λ n. entry_at (λ x. x.dimmer) n rows) (sym (own ∙ here)) ∙ found)
       | inr apart ↦
           let other : row.dimmer ≢ e = λ same. elim apart [ inl low ↦ omega arith | inr high ↦ omega arith ] in
-          entry_at-placed_other (λ x. x.dimmer) e row before other ∙ sym (others e (λ same. other (sym own ∙ same_dimmer d e same)))
+          entry_at-placed_other (λ x. x.dimmer) e row before other ∙ sym (others e (λ same. other (sym own ∙ sym same)))
     ]) stands
 
 pub row_cleared : (rows before : List PatchRow) (d : ℕ) (table : DimmerTable) → entry_at (λ x. x.dimmer) d rows ≡ None
-    → ((e : ℕ) → Some d ≢ Some e → entry_at (λ x. x.dimmer) e rows ≡ entry_at (λ x. x.dimmer) e before)
+    → ((e : ℕ) → e ≢ d → entry_at (λ x. x.dimmer) e rows ≡ entry_at (λ x. x.dimmer) e before)
     → StandsForPatch (taken_out (λ x. x.dimmer) d before) table → StandsForPatch rows table
 row_cleared rows before d table none others stands =
     stands_alike (taken_out (λ x. x.dimmer) d before) rows table (λ e. elim (cases_order d e) [
@@ -33,5 +30,5 @@ row_cleared rows before d table none others stands =
           ∙ sym (ap (λ n. entry_at (λ x. x.dimmer) n rows) (sym here) ∙ none)
       | inr apart ↦
           let other : d ≢ e = λ same. elim apart [ inl low ↦ omega arith | inr high ↦ omega arith ] in
-          others_stay d e before (λ same. other (sym same)) ∙ sym (others e (λ same. other (same_dimmer d e same)))
+          others_stay d e before (λ same. other (sym same)) ∙ sym (others e (λ same. other (sym same)))
     ]) stands

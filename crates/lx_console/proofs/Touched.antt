@@ -1,8 +1,6 @@
--- What an edit leaves of a stage as it was.
-use Rattle.std.specs.Prelude.{◌≡◌, ◌≢◌, ℕ, ◌+◌, ◌<◌, max, refl, Bool, false, Option, Some, None, List, length}
+-- What an edit leaves as it was.
+use Rattle.std.specs.Prelude.{◌≡◌, ◌≢◌, ℕ, ◌+◌, ◌<◌, refl, Bool, false, Some, None, List, length}
 use Rattle.std.proofs.Common.{arith, ap, sym, subst, ◌∙◌}
-use Rattle.lx_base.specs.Numbers.{scaled}
-use Rattle.lx_spec.specs.declared.PatchRow.{PatchRow}
 use Rattle.lx_spec.specs.SortedList.{entry_at}
 use Rattle.lx_spec.specs.Show.{Show, Sub, InRange}
 use Rattle.lx_spec.specs.Output.{contribution}
@@ -11,7 +9,6 @@ use Rattle.lx_spec.proofs.Columns.{level-columns}
 use Rattle.lx_edit.specs.declared.plans.Plan.{Plan}
 use Rattle.lx_edit.specs.declared.plans.Plan.TheVariants.{Nothing, PlaceCue, PlaceCues, RemoveCue, PlaceGroup, RemoveGroup}
 use Rattle.lx_edit.specs.declared.plans.Plan.TheVariants.{PlaceSub, RemoveSub, PlaceRow, RemoveRow}
-use Rattle.lx_edit.specs.declared.dirty.Dirty.{Dirty}
 use Rattle.lx_edit.specs.Changing.{KeepsOthers}
 use Rattle.lx_edit.specs.Planned.{planned, dimmer_planned, plans_sub}
 use Rattle.lx_edit.specs.declared.chan_set.ChanSet.{ChanSet}
@@ -19,12 +16,8 @@ use Rattle.lx_edit.specs.ChanSet.{has_chan}
 use Rattle.lx_levels.specs.Stacks.{Kept as Levels}
 use Rattle.lx_levels.specs.Standing.{LevelsStandFor, StandsAt}
 use Rattle.lx_spec.specs.Playback.{Playback}
-use Rattle.lx_console.specs.declared.stage.Stage.{Stage}
 use Rattle.lx_mixer.specs.Table.{IsTable}
-use Rattle.lx_patch.specs.DimmerTable.{StandsForPatch}
 use Rattle.lx_patch.proofs.Rows.{others_stay}
-use Rattle.lx_console.specs.Standing.{level_now, out_now}
-use Rattle.lx_console.specs.Filled.{Reaches, SlotsStand, IsFilled, IsPatchedBut, IsClean}
 use Rattle.lx_spec.proofs.SortedLists.{entry_at-placed_other}
 
 -- a plan leaves the channel count
@@ -44,7 +37,7 @@ same_channels show (PlaceRow row) = refl
 same_channels show (RemoveRow e) = refl
 
 -- a plan that changes no submaster leaves them
-same_subs : (show : Show) (plan : Plan) → plans_sub plan ≡ false → (planned show plan).subs ≡ show.subs
+pub same_subs : (show : Show) (plan : Plan) → plans_sub plan ≡ false → (planned show plan).subs ≡ show.subs
 same_subs show Nothing clean = refl
 same_subs show (PlaceCue cue None) clean = refl
 same_subs show (PlaceCue cue (Some above)) clean = refl
@@ -60,7 +53,7 @@ same_subs show (PlaceRow row) clean = refl
 same_subs show (RemoveRow e) clean = refl
 
 -- a plan that changes no patch row leaves them
-same_patch : (show : Show) (plan : Plan) → dimmer_planned plan ≡ None → (planned show plan).patch ≡ show.patch
+pub same_patch : (show : Show) (plan : Plan) → dimmer_planned plan ≡ None → (planned show plan).patch ≡ show.patch
 same_patch show Nothing clean = refl
 same_patch show (PlaceCue cue None) clean = refl
 same_patch show (PlaceCue cue (Some above)) clean = refl
@@ -76,7 +69,7 @@ same_patch show (PlaceRow row) clean = cc
 same_patch show (RemoveRow e) clean = cc
 
 -- a plan leaves the rows of the dimmers but the one that it names
-other_rows : (show : Show) (plan : Plan) (e : ℕ) → dimmer_planned plan ≢ Some e
+pub other_rows : (show : Show) (plan : Plan) (e : ℕ) → dimmer_planned plan ≢ Some e
     → entry_at (λ row. row.dimmer) e (planned show plan).patch ≡ entry_at (λ row. row.dimmer) e show.patch
 other_rows show Nothing e other = refl
 other_rows show (PlaceCue cue None) e other = refl
@@ -115,7 +108,7 @@ pub same_reach : (show after : Show) (plan : Plan) (faders given : List ℕ) →
 same_reach show after plan faders given is table = table.reach ∙ sym (ap (λ (s : Show). s.channels) is ∙ same_channels show plan)
 
 -- the channel of a place
-in_show : (channels k : ℕ) → k < channels → InRange channels (k + 1)
+pub in_show : (channels k : ℕ) → k < channels → InRange channels (k + 1)
 in_show channels k within = record { least = omega arith; most = omega arith }
 
 -- a channel that isn't touched keeps what its levels stand for
@@ -129,56 +122,3 @@ untouched_levels show after p chans levels stands channels others k within clean
           ∙ level-columns show after p.base p.live (k + 1) x (others (k + 1) (in_show show.channels k (omega (arith, channels))) clean);
       few = old.few;
     }
-
--- and all do where none is touched
-pub same_levels : (show after : Show) (p : Playback) (chans : ChanSet) (levels : Levels) → LevelsStandFor show p levels
-    → after.channels ≡ show.channels → KeepsOthers show after chans → ((c : ℕ) → has_chan chans c ≡ false) → LevelsStandFor after p levels
-same_levels show after p chans levels stands channels others clean = record {
-  moment = stands.moment;
-  reach = stands.reach ∙ sym channels;
-  each = λ k within. untouched_levels show after p chans levels stands channels others k within (clean (k + 1));
-}
-
--- a table that stood for the patch does so but for the row that the plan touched
-pub touched_patch : (show after : Show) (plan : Plan) (dimmer : Option ℕ) (stage : Stage) → StandsForPatch show.patch stage.table
-    → after ≡ planned show plan → dimmer ≡ dimmer_planned plan → IsPatchedBut after.patch dimmer stage.table
-touched_patch show after plan dimmer stage stands is names = record {
-  before = show.patch;
-  stands = stands;
-  others = λ e other. ap (λ (s : Show). entry_at (λ row. row.dimmer) e s.patch) is ∙ other_rows show plan e (λ same. other (names ∙ same));
-}
-
--- where it touched none, the slots are those of its outputs still
-pub same_slots : (show after : Show) (plan : Plan) (dimmer : Option ℕ) (stage : Stage) → SlotsStand show.patch stage
-    → after ≡ planned show plan → dimmer ≡ dimmer_planned plan → dimmer ≡ None → SlotsStand after.patch stage
-same_slots show after plan dimmer stage stand is names none =
-    subst (λ (rows : List PatchRow). SlotsStand rows stage) (sym (ap (λ (s : Show). s.patch) is ∙ same_patch show plan (sym names ∙ none)))
-    stand
-
--- a stage that was filled in is so still, where the plan touched nothing that it depends on
-pub untouched : (k : Kept) (after : Show) (plan : Plan) (dirty : Dirty) (stage : Stage) → IsFilled k stage → after ≡ planned k.show plan
-    → KeepsOthers k.show after dirty.chans → dirty.dimmer ≡ dimmer_planned plan → dirty.subs ≡ plans_sub plan → IsClean dirty
-    → IsFilled (record k { show = after }) stage
-untouched k after plan dirty stage filled is others dimmer subs clean =
-    let channels : k.show.channels ≡ after.channels = sym (ap (λ (s : Show). s.channels) is ∙ same_channels k.show plan) in
-    let patch : k.show.patch ≡ after.patch = sym (ap (λ (s : Show). s.patch) is ∙ same_patch k.show plan (sym dimmer ∙ clean.dimmer)) in
-    let same_sub : k.show.subs ≡ after.subs = sym (ap (λ (s : Show). s.subs) is ∙ same_subs k.show plan (sym subs ∙ clean.subs)) in
-    let given : contribution k.show k.faders ≡ contribution after k.faders =
-    ap (λ (s : List Sub). contribution (record k.show { subs = s }) k.faders) same_sub in
-    record {
-      reaches = subst (λ n. Reaches n stage) channels filled.reaches;
-      patch_stands = subst (λ (rows : List PatchRow). StandsForPatch rows stage.table) patch filled.patch_stands;
-      outs_stand = record {
-        reach = filled.outs_stand.reach ∙ channels;
-        each = λ i within. filled.outs_stand.each i (omega (arith, channels)) ∙ same_out given i (omega (arith, channels));
-      };
-      slots_stand = subst (λ (rows : List PatchRow). SlotsStand rows stage) patch filled.slots_stand;
-    } where
-      same_out : contribution k.show k.faders ≡ contribution after k.faders → (i : ℕ) → i < k.show.channels
-          → out_now k (i + 1) ≡ out_now (record k { show = after }) (i + 1)
-      same_out given i within =
-          let level : level_now k (i + 1) ≡ level_now (record k { show = after }) (i + 1) =
-          level-columns k.show after k.playback.base k.playback.live (i + 1) k.playback.moment
-          (others (i + 1) (in_show k.show.channels i within) (clean.chans (i + 1))) in
-          ap (λ l. scaled (max l (contribution k.show k.faders (i + 1))) k.master) level
-          ∙ ap (λ (f : ℕ → ℕ). scaled (max (level_now (record k { show = after }) (i + 1)) (f (i + 1))) k.master) given

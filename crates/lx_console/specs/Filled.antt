@@ -1,11 +1,10 @@
 -- What a console keeps is filled in: it is what the show, the playback, the faders and the master give.
-use Rattle.std.specs.Prelude.{◌≡◌, ◌≢◌, ℕ, ◌-◌, ◌<◌, max, false, Option, Some, None, List, length, slice_index}
+use Rattle.std.specs.Prelude.{◌≡◌, ◌≢◌, ℕ, ◌+◌, ◌-◌, ◌<◌, max, false, Some, None, List, length, slice_index}
 use Rattle.lx_base.specs.declared.TheConstants.{SLOTS}
 use Rattle.lx_base.specs.Numbers.{scaled}
 use Rattle.lx_spec.specs.declared.PatchRow.{PatchRow}
 use Rattle.lx_spec.specs.SortedList.{entry_at}
-use Rattle.lx_spec.specs.Show.{Show}
-use Rattle.lx_spec.specs.Output.{dimmer_value}
+use Rattle.lx_spec.specs.Output.{contribution, dimmer_value}
 use Rattle.lx_spec.specs.Kept.{Kept}
 use Rattle.lx_sheet.specs.Rows.{Sheet}
 use Rattle.lx_sheet.specs.Standing.{RowsStandFor}
@@ -16,7 +15,10 @@ use Rattle.lx_patch.specs.DimmerTable.{DimmerTable, StandsForPatch}
 use Rattle.lx_levels.specs.Stacks.{Kept as Levels}
 use Rattle.lx_levels.specs.Standing.{LevelsStandFor}
 use Rattle.lx_subs.specs.Faders.{Faders, StandsForSubs}
+use Rattle.lx_console.specs.declared.change.Change.{Change}
+use Rattle.lx_console.specs.declared.change.Change.TheVariants.{Nothing, Levels as Leveled, Row}
 use Rattle.lx_console.specs.declared.stage.Stage.{Stage}
+use Rattle.lx_console.specs.Changes.{Changes}
 use Rattle.lx_console.specs.Standing.{out_now}
 
 -- a place for each channel and for each dimmer
@@ -30,35 +32,46 @@ abbrev pub SlotsStand : List PatchRow → Stage → Type 0
 SlotsStand patch stage = IsTable SLOTS (dimmer_value patch (λ c. slice_index stage.outs.items (c - 1))) stage.slots.items
 
 -- the outputs are mixed from the levels and from what the submasters give, and the slots are those of the outputs
-pub record IsMixed (levels : List ℕ) (show : Show) (given : List ℕ) (master : ℕ) (stage : Stage) : Type 0 where
-  pub reaches : Reaches show.channels stage
-  pub patch_stands : StandsForPatch show.patch stage.table
+pub record IsMixed (levels : List ℕ) (player : Kept) (stage : Stage) : Type 0 where
+  pub reaches : Reaches player.show.channels stage
+  pub patch_stands : StandsForPatch player.show.patch stage.table
   pub outs : (k : ℕ) → k < length stage.outs.items
-      → slice_index stage.outs.items k ≡ scaled (max (slice_index levels k) (slice_index given k)) master
-  pub slots_stand : SlotsStand show.patch stage
+      → slice_index stage.outs.items k ≡ scaled (max (slice_index levels k) (contribution player.show player.faders (k + 1))) player.master
+  pub slots_stand : SlotsStand player.show.patch stage
 
--- the stage is filled in
-pub record IsFilled (console : Kept) (stage : Stage) : Type 0 where
-  pub reaches : Reaches console.show.channels stage
-  pub patch_stands : StandsForPatch console.show.patch stage.table
-  pub outs_stand : IsTable console.show.channels (out_now console) stage.outs.items
-  pub slots_stand : SlotsStand console.show.patch stage
+-- the stage shows the player
+pub record IsFilled (player : Kept) (stage : Stage) : Type 0 where
+  pub reaches : Reaches player.show.channels stage
+  pub patch_stands : StandsForPatch player.show.patch stage.table
+  pub outs_stand : IsTable player.show.channels (out_now player) stage.outs.items
+  pub slots_stand : SlotsStand player.show.patch stage
 
--- the table stands for these rows but for that of the dimmer, if there is one
-pub record IsPatchedBut (rows : List PatchRow) (dimmer : Option ℕ) (table : DimmerTable) : Type 0 where
+-- the stage showed the player before it changed so
+pub record WasFilled (change : Change) (player : Kept) (stage : Stage) : Type 0 where
+  pub before : Kept
+  pub filled : IsFilled before stage
+  pub changes : Changes change before player
+
+-- the table stands for these rows but for that of the dimmer
+pub record IsPatchedBut (rows : List PatchRow) (dimmer : ℕ) (table : DimmerTable) : Type 0 where
   pub before : List PatchRow
   pub stands : StandsForPatch before table
-  pub others : (e : ℕ) → dimmer ≢ Some e → entry_at (λ row. row.dimmer) e rows ≡ entry_at (λ row. row.dimmer) e before
+  pub others : (e : ℕ) → e ≢ dimmer → entry_at (λ row. row.dimmer) e rows ≡ entry_at (λ row. row.dimmer) e before
 
--- an edit touched nothing that the stage depends on
+-- an edit touched nothing that goes out
 pub record IsClean (dirty : Dirty) : Type 0 where
   pub chans : (c : ℕ) → has_chan dirty.chans c ≡ false
   pub dimmer : dirty.dimmer ≡ None
   pub subs : dirty.subs ≡ false
 
--- the rows, the rack and the levels stand for the show and the playback, and the stage is filled in
-pub record IsKept (console : Kept) (sheet : Sheet) (rack : Faders) (levels : Levels) (stage : Stage) : Type 0 where
-  pub rows : RowsStandFor console.show sheet
-  pub subs : StandsForSubs console.show rack
-  pub levels_stand : LevelsStandFor console.show console.playback levels
-  pub filled : IsFilled console stage
+-- the change that an edit makes which touched this
+abbrev pub IsChangeOf : Dirty → Change → Type 0
+IsChangeOf dirty Nothing = IsClean dirty
+IsChangeOf dirty Leveled = dirty.dimmer ≡ None
+IsChangeOf dirty (Row e) = dirty.dimmer ≡ Some e
+
+-- the rows, the rack and the levels stand for the show and the playback
+pub record IsKept (player : Kept) (sheet : Sheet) (rack : Faders) (levels : Levels) : Type 0 where
+  pub rows : RowsStandFor player.show sheet
+  pub subs : StandsForSubs player.show rack
+  pub levels_stand : LevelsStandFor player.show player.playback levels

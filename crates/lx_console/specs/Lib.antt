@@ -1,5 +1,6 @@
 pub mod Slots
 pub mod Standing
+pub mod Changes
 pub mod Filled
 pub mod Laws
 pub mod Played

@@ -1,36 +1,28 @@
-//! The console: a desk's state, with the levels and slots that it gives.
+//! The console: a player, and the stage that shows it.
 
-ghost use Rattle.std.specs.Prelude.{◌≡◌, ℕ, ◌-◌, ◌/◌, ◌≤◌, [], None, min, option_map, slice_set};
-ghost use Rattle.std.specs.Prelude.{OnOk, OnErr, IfOk, IfErr, IsOkAnd, IsTrue, IsFalse};
+ghost use Rattle.std.specs.Prelude.{◌≡◌, ℕ, ◌-◌, ◌/◌, ◌≤◌, [], None, min, option_map};
+ghost use Rattle.std.specs.Prelude.{OnErr, IfOk, IsOkAnd};
 ghost use Rattle.std.specs.Option.{option_copied};
 ghost use Rattle.lx_base.specs.declared.TheConstants.{SLOTS, TICK_END, TICK_STEP, UNIVERSES};
-ghost use Rattle.lx_spec.specs.SortedList.{has_entry};
 ghost use Rattle.lx_spec.specs.Level.{level};
-ghost use Rattle.lx_spec.specs.Playback.{position_of, press, tick};
+ghost use Rattle.lx_spec.specs.Playback.{position_of};
 ghost use Rattle.lx_spec.specs.TrackedLevel.{cue_of, tracked};
 ghost use Rattle.lx_spec.specs.Replies.{row_of};
-ghost use Rattle.lx_spec.specs.EditedShow.{edited};
-ghost use Rattle.lx_spec.specs.ValidEdit.{ValidEdit, ValidCommand};
+ghost use Rattle.lx_spec.specs.ValidEdit.{ValidCommand};
 ghost use Rattle.lx_spec.specs.Output.{dimmer_value, fader, frame};
 ghost use Rattle.lx_spec.specs.Desk.{Desk, opened};
-ghost use Rattle.lx_edit.specs.Planned.{IsReady, IsRefusal, planned};
+ghost use Rattle.lx_edit.specs.Planned.{IsReady, planned};
 ghost use Rattle.lx_edit.specs.Undone.{TakesBack};
 ghost use Rattle.lx_mixer.specs.Table.{IsTable};
 ghost use Rattle.lx_console.specs.Slots.{universe};
 ghost use Rattle.lx_console.specs.Standing.{StandsFor, Obeys, Answers, level_now, out_now};
 ghost use Rattle.lx_console.specs.Ticks.{after_ticks};
 
-use crate::levels::recompute_touched;
-use crate::stage::{Stage, mend_subs, reaches_stage};
-use crate::ticks::{pass_ticks, press_key, tick_of};
-use lx_base::{Chan, CueNo, Level, Moment, SLOTS, SubNo, UNIVERSES};
-use lx_edit::planning::plan;
-use lx_edit::{Exchanged, Plan};
-use lx_levels::Levels;
-use lx_playback::Playback;
-use lx_sheet::Sheet;
-use lx_show::{Command, Edit, Key, PlayKey, Refusal, Show};
-use lx_subs::SubRack;
+use crate::player::{Applied, Player};
+use crate::stage::Stage;
+use lx_base::{Chan, CueNo, Level, Moment, SubNo};
+use lx_edit::Plan;
+use lx_show::{Command, Key, Refusal, Show};
 use std::alloc::{AllocError, Global};
 use std::marker::Model;
 
@@ -40,34 +32,24 @@ use std::marker::Model;
 ///
 /// A console stands for a desk that also has the list of all runs since its opening: edits, keys and ticks
 /// are accepted, or refused, as that desk does, and the rows are those of its show, the levels and slots
-/// those over all its runs. How levels follow from runs is our own rule; that the greatest of playback and
-/// submasters goes out, under the master, is console practice.
+/// those over all its runs. It stands where its player does, and its stage shows the player. How levels follow
+/// from runs is our own rule; that the greatest of playback and submasters goes out, under the master, is console
+/// practice.
 #[derive(Drop)]
 pub struct Console {
-    /// Where edits take their memory.
-    alloc: Global,
-    show: Show,
-    /// The tracked row of each cue.
-    sheet: Sheet,
-    playback: Playback,
-    /// The faders of the submasters, and what they give.
-    rack: SubRack,
-    master: Level,
-    /// The level of each channel.
-    levels: Levels,
+    player: Player,
     stage: Stage,
 }
 
 impl Model for Console {
     ghost use Rattle.lx_spec.specs.Kept.{Kept};
-    ghost use Rattle.lx_console.specs.Filled.{IsKept};
+    ghost use Rattle.lx_console.specs.Filled.{IsFilled};
 
     ghost Value = { Kept };
 
-    ghost view = { λ c. record { show = c.show; playback = c.playback; faders = c.rack.faders; master = c.master } };
+    ghost view = { λ c. c.player };
 
-    ghost invariant = { λ c. IsKept (record { show = c.show; playback = c.playback; faders = c.rack.faders; master = c.master })
-        c.sheet c.rack c.levels c.stage };
+    ghost invariant = { λ c. IsFilled c.player c.stage };
 }
 
 impl Console {
@@ -77,40 +59,33 @@ impl Console {
     pub fn open(alloc: Global, show: Show) -> Result<Console, AllocError>
         ensures { IfOk result (StandsFor (opened show)) }
     {
-        let sheet = Sheet::open(alloc, &show)?;
-        let playback = Playback::open(alloc)?;
-        let rack = SubRack::open(alloc, &show)?;
-        let master = 255;
-        let mut levels = Levels::open(alloc, &show)?;
-        levels.settled(&sheet, &playback);
-        let mut stage = Stage::open(alloc, &show)?;
-        stage.fill(levels.row(), &show, &rack, master);
-        Ok(Console {
-            alloc,
-            show,
-            sheet,
-            playback,
-            rack,
-            master,
-            levels,
-            stage,
-        })
+        let player = Player::open(alloc, show)?;
+        let mut stage = Stage::open(alloc, player.show())?;
+        stage.fill(player.levels(), &player);
+        Ok(Console { player, stage })
     }
 }
 
 impl Console {
+    /// What plays: all of the console but what goes out.
+    pub fn player(&self) -> &Player
+        ensures { result.now ≡ self.now }
+    {
+        &self.player
+    }
+
     /// The show.
     pub fn show(&self) -> &Show
         ensures { result.now ≡ self.now.show }
     {
-        &self.show
+        self.player.show()
     }
 
     /// The present moment, in hundredths of a second since the opening.
     pub fn moment(&self) -> Moment
         ensures { result ≡ self.now.playback.moment }
     {
-        self.playback.moment()
+        self.player.moment()
     }
 
     /// The cue of the newest live run, or the position at the last rest where none is live; 0 is before
@@ -118,21 +93,21 @@ impl Console {
     pub fn position(&self) -> CueNo
         ensures { result ≡ position_of self.now.playback }
     {
-        self.playback.position()
+        self.player.position()
     }
 
     /// The master, 0 to 255.
     pub fn master(&self) -> Level
         ensures { result ≡ self.now.master }
     {
-        self.master
+        self.player.master()
     }
 
     /// The fader of the submaster, 0 to 255.
     pub fn fader(&self, sub: SubNo) -> Level
         ensures { result ≡ fader self.now.faders sub }
     {
-        self.rack.fader(sub)
+        self.player.fader(sub)
     }
 
     /// The tracked row of the cue: the tracked level of channel c at place c - 1. `None` exactly where there
@@ -140,7 +115,7 @@ impl Console {
     pub fn tracked_row(&self, n: CueNo) -> Option<&[Level]>
         ensures { option_copied result ≡ option_map (λ cue. row_of self.now.show n) (cue_of self.now.show n) }
     {
-        self.sheet.row(n)
+        self.player.tracked_row(n)
     }
 
     /// The channel's tracked level at the number, which need not be a cue's: as by the show, but read from the row
@@ -148,12 +123,12 @@ impl Console {
     pub fn tracked(&self, n: CueNo, c: Chan) -> Level
         ensures { result ≡ tracked self.now.show n c }
     {
-        self.sheet.level_at(n, c)
+        self.player.tracked(n, c)
     }
 
     /// Where edits take their memory.
     pub fn allocator(&self) -> Global {
-        self.alloc
+        self.player.allocator()
     }
 
     /// The level of each channel at the present moment, before submasters and master: that of channel c
@@ -163,7 +138,7 @@ impl Console {
         ensures all { (d : Desk) → StandsFor d self.now
             → IsTable d.show.channels (λ c. level d.show 0 d.all c d.playback.moment) result.now }
     {
-        self.levels.row()
+        self.player.levels()
     }
 
     /// The slots of all dimmers at the present moment, 512 for each universe: those of the desk's
@@ -172,8 +147,8 @@ impl Console {
         ensures slots { IsTable SLOTS (dimmer_value self.now.show.patch (out_now self.now)) result.now }
         ensures frames { (d : Desk) (u : ℕ) → StandsFor d self.now → 1 ≤ u → u ≤ UNIVERSES → universe u result.now ≡ frame d u }
     {
-        let _ = self.show.channels();
-        self.stage.slots.as_slice()
+        let _ = self.player.show().channels();
+        self.stage.slots()
     }
 }
 
@@ -188,14 +163,9 @@ impl Console {
         ensures obeys { (d : Desk) → StandsFor d self.old → Obeys d (Command.Key key) result self.new }
         ensures unchanged { OnErr result (self.new ≡ self.old) }
     {
-        match key {
-            Key::Play(key) => self.play(key),
-            Key::Fader { sub, level } => self.set_fader(sub, level),
-            Key::Master { level } => {
-                self.set_master(level);
-                Ok(())
-            }
-        }
+        let change = self.player.press(key)?;
+        self.stage.follow(change, &self.player);
+        Ok(())
     }
 
     /// The moment grows by 2 hundredths of a second; a follow that is due starts the next cue, and where
@@ -206,7 +176,9 @@ impl Console {
         ensures obeys { (d : Desk) → StandsFor d self.old → Obeys d Command.Tick result self.new }
         ensures unchanged { OnErr result (self.new ≡ self.old) }
     {
-        self.advance()
+        let change = self.player.tick()?;
+        self.stage.follow(change, &self.player);
+        Ok(())
     }
 
     /// Lets ticks pass at which nothing starts or ends, all at once: no follow is due, and the playback doesn't
@@ -219,11 +191,8 @@ impl Console {
         ensures rest { self.old.playback.live ≡ [] → self.old.playback.pending ≡ None
             → result ≡ min most ((TICK_END - self.old.playback.moment) / TICK_STEP) }
     {
-        let passed = pass_ticks(&mut self.playback, &mut self.levels, most);
-        if passed.changed {
-            self.stage
-                .refill(self.levels.row(), &self.show, &self.rack, self.master);
-        }
+        let passed = self.player.pass(most);
+        self.stage.follow(passed.change, &self.player);
         passed.ticks
     }
 
@@ -237,11 +206,9 @@ impl Console {
         ensures answers { (d : Desk) → StandsFor d self.old → Answers d command.now result self.new }
         ensures unchanged { OnErr result (self.new ≡ self.old) }
     {
-        match command {
-            Command::Edit(edit) => self.edit(edit),
-            Command::Key(key) => self.press(*key),
-            Command::Tick => self.tick(),
-        }
+        let change = self.player.command(command)?;
+        self.stage.follow(change, &self.player);
+        Ok(())
     }
 
     /// Applies a plan that was made for the show, and answers the plan that makes the show before of the one
@@ -253,102 +220,8 @@ impl Console {
         ensures undo { TakesBack self.old.show self.new.show result }
         ensures stands { (d : Desk) → StandsFor d self.old → StandsFor (record d { show = planned self.old.show plan }) self.new }
     {
-        let Exchanged { dirty, undo } = plan.exchange(&mut self.show, &mut self.sheet);
-        if reaches_stage(&dirty) {
-            recompute_touched(
-                &mut self.levels,
-                &self.show,
-                &self.sheet,
-                &self.playback,
-                &dirty.chans,
-            );
-            mend_subs(&mut self.rack, &self.show, dirty.subs);
-            self.stage.mend(
-                self.levels.row(),
-                &self.show,
-                &self.rack,
-                self.master,
-                dirty.dimmer,
-            );
-        }
+        let Applied { change, undo } = self.player.apply(plan);
+        self.stage.follow(change, &self.player);
         undo
-    }
-}
-
-impl Console {
-    /// An edit, planned whole and applied whole.
-    fn edit(&mut self, edit: &Edit) -> Result<(), Refusal>
-        requires { ValidEdit edit.now }
-        ensures ok { OnOk result (IsOkAnd (edited self.old.show edit.now) (λ show. self.new ≡ record self.old { show = show })) }
-        ensures err { IfErr result (IsRefusal self.old.show edit.now) }
-        ensures unchanged { OnErr result (self.new ≡ self.old) }
-    {
-        let plan = plan(self.alloc, &self.show, edit)?;
-        let _ = self.apply(plan);
-        Ok(())
-    }
-
-    /// A tick of the playback.
-    fn advance(&mut self) -> Result<(), Refusal>
-        ensures ok { OnOk result (IsOkAnd (tick self.old.show self.old.playback)
-            (λ played. self.new ≡ record self.old { playback = played.playback })) }
-        ensures err { IfErr result (λ refusal. tick self.old.show self.old.playback ≡ Err refusal) }
-        ensures unchanged { OnErr result (self.new ≡ self.old) }
-    {
-        if tick_of(
-            &mut self.playback,
-            &mut self.levels,
-            &self.show,
-            &self.sheet,
-        )? {
-            self.stage
-                .refill(self.levels.row(), &self.show, &self.rack, self.master);
-        }
-        Ok(())
-    }
-
-    /// A key of the playback.
-    fn play(&mut self, key: PlayKey) -> Result<(), Refusal>
-        ensures ok { OnOk result (IsOkAnd (press self.old.show self.old.playback key)
-            (λ played. self.new ≡ record self.old { playback = played.playback })) }
-        ensures err { IfErr result (λ refusal. press self.old.show self.old.playback key ≡ Err refusal) }
-        ensures unchanged { OnErr result (self.new ≡ self.old) }
-    {
-        press_key(
-            &mut self.playback,
-            &mut self.levels,
-            &self.show,
-            &self.sheet,
-            key,
-        )?;
-        self.stage
-            .refill(self.levels.row(), &self.show, &self.rack, self.master);
-        Ok(())
-    }
-
-    /// A submaster's fader.
-    fn set_fader(&mut self, sub: SubNo, level: Level) -> Result<(), Refusal>
-        ensures ok { OnOk result (IsTrue (has_entry (λ x. x.number) sub self.old.show.subs)) }
-        ensures state { OnOk result (self.new ≡ record self.old { faders = slice_set self.old.faders (sub - 1) level }) }
-        ensures err { IfErr result (λ refusal. refusal ≡ Refusal.AbsentSub sub) }
-        ensures absent { OnErr result (IsFalse (has_entry (λ x. x.number) sub self.old.show.subs)) }
-        ensures unchanged { OnErr result (self.new ≡ self.old) }
-    {
-        if self.show.sub(sub).is_none() {
-            return Err(Refusal::AbsentSub(sub));
-        }
-        self.rack.set_fader(&self.show, sub, level);
-        self.stage
-            .refill(self.levels.row(), &self.show, &self.rack, self.master);
-        Ok(())
-    }
-
-    /// The master.
-    fn set_master(&mut self, level: Level)
-        ensures { self.new ≡ record self.old { master = level } }
-    {
-        self.master = level;
-        self.stage
-            .refill(self.levels.row(), &self.show, &self.rack, self.master);
     }
 }

@@ -77,6 +77,9 @@ pub(crate) fn recompute_touched(
     requires others { (k : ℕ) → k < show.now.channels → has_chan chans.now (k + 1) ≡ false → StandsAt show.now playback.now levels.old k }
     ensures { LevelsStandFor show.now playback.now levels.new }
 {
+    if *chans == ChanSet::empty() {
+        return;
+    }
     for k in 0..show.channels() as usize {
         let c = channel_at(k);
         if chans.contains(c) {

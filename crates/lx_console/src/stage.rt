@@ -1,19 +1,19 @@
-//! What a console keeps filled in for its channels and dimmers.
+//! What goes out: the outputs of the channels, and the slots of the dimmers.
 
-ghost use Rattle.std.specs.Prelude.{◌≡◌, Some, None, false, length, IfOk};
+ghost use Rattle.std.specs.Prelude.{◌≡◌, length, IfOk};
 ghost use Rattle.lx_patch.specs.DimmerTable.{StandsForPatch};
-ghost use Rattle.lx_subs.specs.Faders.{StandsForSubs};
-ghost use Rattle.lx_console.specs.Filled.{Reaches, SlotsStand, IsMixed, IsPatchedBut, IsClean};
+ghost use Rattle.lx_console.specs.Filled.{Reaches, SlotsStand, IsMixed, IsFilled, WasFilled, IsPatchedBut};
 
+use crate::change::Change;
+use crate::player::Player;
 use lx_base::{Dimmer, Level, SLOTS};
-use lx_edit::{ChanSet, Dirty};
 use lx_mixer::mix_into;
 use lx_patch::PatchTable;
 use lx_show::Show;
-use lx_subs::SubRack;
 use std::alloc::{AllocError, Global};
 
-/// The outputs of the channels, and the patch and the slots of the dimmers.
+/// What goes out of levels: the outputs of the channels, mixed with a player's submasters under its master, and the
+/// slots of the dimmers, by the player's patch.
 #[derive(Drop)]
 pub struct Stage {
     /// What each channel puts out.
@@ -41,66 +41,66 @@ impl Stage {
         })
     }
 
-    /// Fills in what an edit touched: all slots where it was a dimmer, and else those whose outputs changed.
-    pub(crate) fn mend(
-        &mut self,
-        levels: &[Level],
-        show: &Show,
-        rack: &SubRack,
-        master: Level,
-        dimmer: Option<Dimmer>,
-    )
-        requires levels { length levels.now ≡ show.now.channels }
-        requires subs { length rack.now.given ≡ show.now.channels }
-        requires reaches { Reaches show.now.channels self.old }
-        requires patch { IsPatchedBut show.now.patch dimmer self.old.table }
-        requires slots { dimmer ≡ None → SlotsStand show.now.patch self.old }
-        ensures { IsMixed levels.now show.now rack.now.given master self.new }
+    /// Fills in the outputs and the slots, from the levels and from what the player's submasters and master make of
+    /// them.
+    pub fn fill(&mut self, levels: &[Level], player: &Player)
+        requires levels { length levels.now ≡ player.now.show.channels }
+        requires reaches { Reaches player.now.show.channels self.old }
+        requires patch { StandsForPatch player.now.show.patch self.old.table }
+        ensures { IsMixed levels.now player.now self.new }
     {
-        if let Some(dimmer) = dimmer {
-            mend_row(&mut self.table, show, dimmer);
-            self.fill(levels, show, rack, master);
-        } else {
-            self.refill(levels, show, rack, master);
-        }
-    }
-
-    /// Takes up the show's patch.
-    pub fn take_patch(&mut self, show: &Show)
-        requires { Reaches show.now.channels self.old }
-        ensures reaches { Reaches show.now.channels self.new }
-        ensures patch { StandsForPatch show.now.patch self.new.table }
-    {
-        self.table.refresh(show);
-    }
-
-    /// Fills in the outputs and the slots, from the levels and what the submasters give.
-    pub fn fill(&mut self, levels: &[Level], show: &Show, rack: &SubRack, master: Level)
-        requires levels { length levels.now ≡ show.now.channels }
-        requires subs { length rack.now.given ≡ show.now.channels }
-        requires reaches { Reaches show.now.channels self.old }
-        requires patch { StandsForPatch show.now.patch self.old.table }
-        ensures { IsMixed levels.now show.now rack.now.given master self.new }
-    {
-        let _ = show.channels();
-        mix_into(levels, rack.contribution(), master, &mut self.outs);
+        let _ = player.show().channels();
+        mix_into(
+            levels,
+            player.contribution(),
+            player.master(),
+            &mut self.outs,
+        );
         self.table.frame_into(&self.outs, &mut self.slots);
     }
 
     /// Fills in the outputs, and the slots of those that changed: the slots were those of the outputs before.
-    pub fn refill(&mut self, levels: &[Level], show: &Show, rack: &SubRack, master: Level)
-        requires levels { length levels.now ≡ show.now.channels }
-        requires subs { length rack.now.given ≡ show.now.channels }
-        requires reaches { Reaches show.now.channels self.old }
-        requires patch { StandsForPatch show.now.patch self.old.table }
-        requires slots { SlotsStand show.now.patch self.old }
-        ensures { IsMixed levels.now show.now rack.now.given master self.new }
+    pub fn refill(&mut self, levels: &[Level], player: &Player)
+        requires levels { length levels.now ≡ player.now.show.channels }
+        requires reaches { Reaches player.now.show.channels self.old }
+        requires patch { StandsForPatch player.now.show.patch self.old.table }
+        requires slots { SlotsStand player.now.show.patch self.old }
+        ensures { IsMixed levels.now player.now self.new }
     {
-        let _ = show.channels();
-        mix_into(levels, rack.contribution(), master, &mut self.mixed);
+        let _ = player.show().channels();
+        mix_into(
+            levels,
+            player.contribution(),
+            player.master(),
+            &mut self.mixed,
+        );
         self.table.follow(&self.outs, &self.mixed, &mut self.slots);
         std::mem::swap(&mut self.outs, &mut self.mixed);
     }
+
+    /// Takes up the dimmer's row of the patch, then fills in the outputs and the slots.
+    pub fn repatch(&mut self, levels: &[Level], player: &Player, dimmer: Dimmer)
+        requires levels { length levels.now ≡ player.now.show.channels }
+        requires reaches { Reaches player.now.show.channels self.old }
+        requires patch { IsPatchedBut player.now.show.patch dimmer self.old.table }
+        ensures { IsMixed levels.now player.now self.new }
+    {
+        mend_row(&mut self.table, player.show(), dimmer);
+        self.fill(levels, player);
+    }
+
+    /// Shows the player after a change; before it the stage showed the player as it was.
+    pub(crate) fn follow(&mut self, change: Change, player: &Player)
+        requires { WasFilled change player.now self.old }
+        ensures { IsFilled player.now self.new }
+    {
+        match change {
+            Change::Nothing => {}
+            Change::Levels => self.refill(player.levels(), player),
+            Change::Row(dimmer) => self.repatch(player.levels(), player, dimmer),
+        }
+    }
+
     /// The slots of all dimmers, 512 for each universe.
     pub fn slots(&self) -> &[Level]
         ensures { result.now ≡ self.now.slots.items }
@@ -111,30 +111,11 @@ impl Stage {
 
 /// Takes up the row of the dimmer.
 fn mend_row(table: &mut PatchTable, show: &Show, dimmer: Dimmer)
-    requires { IsPatchedBut show.now.patch (Some dimmer) table.old }
+    requires { IsPatchedBut show.now.patch dimmer table.old }
     ensures { StandsForPatch show.now.patch table.new }
 {
     match show.patch_of(dimmer) {
         Some(row) => table.set(row),
         None => table.clear(dimmer),
     }
-}
-
-/// Takes up the show's submasters, where one was changed: the faders stay.
-pub(crate) fn mend_subs(rack: &mut SubRack, show: &Show, stale: bool)
-    requires reach { length rack.old.given ≡ show.now.channels }
-    requires given { stale ≡ false → StandsForSubs show.now rack.old }
-    ensures stands { StandsForSubs show.now rack.new }
-    ensures faders { rack.new.faders ≡ rack.old.faders }
-{
-    if stale {
-        rack.changed(show);
-    }
-}
-
-/// Something that the stage depends on was touched: a channel's level, a submaster, or a dimmer's row.
-pub(crate) fn reaches_stage(dirty: &Dirty) -> bool
-    ensures { result ≡ false → IsClean dirty.now }
-{
-    dirty.subs || dirty.dimmer.is_some() || dirty.chans != ChanSet::empty()
 }

@@ -1,10 +1,8 @@
 //! Keys and ticks of the playback, with the levels.
 
-ghost use Rattle.std.specs.Prelude.{◌≡◌, ℕ, ◌-◌, ◌/◌, ◌<◌, ◌≤◌, [], None, false, length, min, OnOk, OnErr, IfOk, IfErr, IsOkAnd};
-ghost use Rattle.lx_base.specs.declared.TheConstants.{TICK_END, TICK_STEP};
-ghost use Rattle.lx_spec.specs.Show.{Show as ShowData};
+ghost use Rattle.std.specs.Prelude.{◌≡◌, ℕ, ◌+◌, ◌<◌, false, OnOk, OnErr, IfOk, IfErr, IsOkAnd};
+ghost use Rattle.lx_base.specs.declared.TheConstants.{TICK_STEP};
 ghost use Rattle.lx_spec.specs.Playback.{press, tick};
-ghost use Rattle.lx_playback.specs.Passed.{later, TicksPass};
 ghost use Rattle.lx_sheet.specs.Standing.{RowsStandFor};
 ghost use Rattle.lx_levels.specs.Stacks.{level_at};
 ghost use Rattle.lx_levels.specs.Standing.{LevelsStandFor};
@@ -27,6 +25,7 @@ pub(crate) fn press_key(
     requires levels { LevelsStandFor show.now playback.old levels.old }
     ensures ok { OnOk result (IsOkAnd (press show.now playback.old key) (λ played. played.playback ≡ playback.new)) }
     ensures levels { OnOk result (LevelsStandFor show.now playback.new levels.new) }
+    ensures moment { playback.new.moment ≡ playback.old.moment }
     ensures err { IfErr result (λ refusal. press show.now playback.old key ≡ Err refusal) }
     ensures unchanged { OnErr result (playback.new ≡ playback.old) }
     ensures kept { OnErr result (levels.new ≡ levels.old) }
@@ -49,34 +48,11 @@ pub(crate) fn tick_of(
     ensures levels { OnOk result (LevelsStandFor show.now playback.new levels.new) }
     ensures same { IfOk result (λ changed. changed ≡ false → (k : ℕ) → k < show.now.channels
         → level_at levels.new k ≡ level_at levels.old k) }
+    ensures moment { OnOk result (playback.new.moment ≡ playback.old.moment + TICK_STEP) }
     ensures err { IfErr result (λ refusal. tick show.now playback.old ≡ Err refusal) }
     ensures unchanged { OnErr result (playback.new ≡ playback.old) }
     ensures kept { OnErr result (levels.new ≡ levels.old) }
 {
     let ticked = playback.tick(show)?;
     Ok(after_tick(levels, show, sheet, playback, &ticked))
-}
-
-/// How many ticks passed, and whether a level may have changed by them.
-#[derive(Drop)]
-pub(crate) struct Passed {
-    pub(crate) ticks: u32,
-    pub(crate) changed: bool,
-}
-
-/// Ticks at which no follow is due and the playback doesn't come to rest, at most so many: the levels are
-/// brought to the last of their moments at once.
-pub(crate) fn pass_ticks(playback: &mut Playback, levels: &mut Levels, most: u32) -> Passed
-    requires moment { levels.old.moment ≡ playback.old.moment }
-    ensures most { result.ticks ≤ most }
-    ensures state { playback.new ≡ later playback.old result.ticks }
-    ensures ticks { TicksPass playback.old result.ticks }
-    ensures rest { playback.old.live ≡ [] → playback.old.pending ≡ None
-        → result.ticks ≡ min most ((TICK_END - playback.old.moment) / TICK_STEP) }
-    ensures levels { (show : ShowData) → LevelsStandFor show playback.old levels.old → LevelsStandFor show playback.new levels.new }
-    ensures same { result.changed ≡ false → (k : ℕ) → k < length levels.old.stacks → level_at levels.new k ≡ level_at levels.old k }
-{
-    let ticks = playback.pass(most);
-    let changed = levels.to_moment(playback.moment());
-    Passed { ticks, changed }
 }

@@ -1,7 +1,8 @@
-use Rattle.std.proofs.Common.{◌≡◌, ◌-◌, ◌≤◌, ◌++◌, max, take, drop, List, ℕ, arith, length, get_or, subst, sym, ap, ◌∙◌}
+use Rattle.std.proofs.Common.{◌≡◌, ◌+◌, ◌-◌, ◌≤◌, ◌++◌, max, take, drop, List, ℕ, arith, length, get_or, subst, sym, ap, ◌∙◌}
 use Rattle.lx_base.specs.declared.TheConstants.{SLOTS}
 use Rattle.lx_base.specs.Numbers.{scaled}
-use Rattle.lx_spec.specs.Output.{dimmer_value}
+use Rattle.lx_spec.specs.Show.{Show, Valid}
+use Rattle.lx_spec.specs.Output.{contribution, dimmer_value}
 use Rattle.lx_mixer.specs.Table.{IsTable}
 use Rattle.lx_patch.proofs.Frames.{reaches}
 use Rattle.lx_console.proofs.Filling.{written}
@@ -9,12 +10,12 @@ use Rattle.lx_console.proofs.stage.Stage.fill.Goals as goal
 
 pub frame_into-requires-clause-reach : goal.frame_into-requires-clause-reach
 frame_into-requires-clause-reach c =
-    let enough : c.args.show.now.channels ≤ length c.deref.result.now = omega (arith, c.deref.ensures.len, c.requires.reaches.outs_reach) in
-    reaches c.args.show.now c.args.self.now.table (length c.deref.result.now) c.channels.ensures.valid enough c.requires.patch
+    let enough : c.args.player.now.show.channels ≤ length c.deref.result.now = omega (arith, c.deref.ensures.len, c.requires.reaches.outs_reach) in
+    reaches c.args.player.now.show c.args.self.now.table (length c.deref.result.now) (subst (λ (show : Show). Valid show) c.show.ensures c.channels.ensures.valid) enough c.requires.patch
 
 pub returns : goal.returns
 returns c =
-    let rows = c.args.show.now.patch in
+    let rows = c.args.player.now.show.patch in
     let outs = c.args.self.now.outs in
     let slots = c.args.self.now.slots in
     let outs_are : take outs.len (c.mix_into.new.out ++ drop (length c.mix_into.new.out) outs.items) ≡ c.mix_into.new.out =
@@ -31,7 +32,10 @@ returns c =
       };
       patch_stands = c.requires.patch;
       outs = λ k within. ap (λ (xs : List ℕ). get_or xs k 0) outs_are ∙ mixed k (omega (arith, within, ap length outs_are))
-          ∙ ap (λ (xs : List ℕ). scaled (max (get_or c.args.levels.now k 0) (get_or xs k 0)) c.args.master) c.contribution.ensures.given;
+          ∙ ap (λ g. scaled (max (get_or c.args.levels.now k 0) g) c.master.result)
+          (c.contribution.ensures.each k (omega (arith, within, ap length outs_are, c.mix_into.auto.out, c.deref_mut.ensures.len, c.requires.reaches.outs_reach)))
+          ∙ ap (λ m. scaled (max (get_or c.args.levels.now k 0) (contribution c.args.player.now.show c.args.player.now.faders (k + 1))) m)
+          c.master.ensures;
       slots_stand = subst (λ (xs : List ℕ). IsTable SLOTS
           (dimmer_value rows (λ n. get_or (take outs.len (c.mix_into.new.out ++ drop (length c.mix_into.new.out) outs.items)) (n - 1) 0))
           xs) (sym slots_are)

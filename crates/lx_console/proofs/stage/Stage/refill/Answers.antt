@@ -1,8 +1,9 @@
-use Rattle.std.proofs.Common.{◌≡◌, ◌-◌, ◌≤◌, ◌++◌, max, take, drop, List, ℕ, arith, length, get_or, subst, sym, ap, ◌∙◌}
+use Rattle.std.proofs.Common.{◌≡◌, ◌+◌, ◌-◌, ◌≤◌, ◌++◌, max, take, drop, List, ℕ, arith, length, get_or, subst, sym, ap, ◌∙◌}
 use Rattle.lx_base.specs.declared.TheConstants.{SLOTS}
 use Rattle.lx_base.specs.Numbers.{scaled}
 use Rattle.lx_spec.specs.declared.PatchRow.{PatchRow}
-use Rattle.lx_spec.specs.Output.{dimmer_value}
+use Rattle.lx_spec.specs.Show.{Show, Valid}
+use Rattle.lx_spec.specs.Output.{contribution, dimmer_value}
 use Rattle.lx_mixer.specs.Table.{IsTable}
 use Rattle.lx_patch.proofs.Frames.{reaches}
 use Rattle.lx_console.proofs.Filling.{written}
@@ -13,13 +14,13 @@ Slots rows outs slots = IsTable SLOTS (dimmer_value rows (λ n. get_or outs (n -
 
 pub follow-requires-clause-reach : goal.follow-requires-clause-reach
 follow-requires-clause-reach c =
-    let enough : c.args.show.now.channels ≤ length c.deref-2.result.now =
+    let enough : c.args.player.now.show.channels ≤ length c.deref-2.result.now =
     omega (arith, c.deref-2.ensures.len, c.requires.reaches.mixed_reach) in
-    reaches c.args.show.now c.args.self.now.table (length c.deref-2.result.now) c.channels.ensures.valid enough c.requires.patch
+    reaches c.args.player.now.show c.args.self.now.table (length c.deref-2.result.now) (subst (λ (show : Show). Valid show) c.show.ensures c.channels.ensures.valid) enough c.requires.patch
 
 pub returns : goal.returns
 returns c =
-    let rows = c.args.show.now.patch in
+    let rows = c.args.player.now.show.patch in
     let outs = c.args.self.now.outs in
     let mixed = c.args.self.now.mixed in
     let slots = c.args.self.now.slots in
@@ -40,6 +41,9 @@ returns c =
       };
       patch_stands = c.requires.patch;
       outs = λ k within. ap (λ (xs : List ℕ). get_or xs k 0) outs_are ∙ c.mix_into.ensures k (omega (arith, within, ap length outs_are))
-          ∙ ap (λ (xs : List ℕ). scaled (max (get_or c.args.levels.now k 0) (get_or xs k 0)) c.args.master) c.contribution.ensures.given;
+          ∙ ap (λ g. scaled (max (get_or c.args.levels.now k 0) g) c.master.result)
+          (c.contribution.ensures.each k (omega (arith, within, ap length outs_are, c.mix_into.auto.out, c.deref_mut.ensures.len, c.requires.reaches.mixed_reach)))
+          ∙ ap (λ m. scaled (max (get_or c.args.levels.now k 0) (contribution c.args.player.now.show c.args.player.now.faders (k + 1))) m)
+          c.master.ensures;
       slots_stand = subst (λ (xs : List ℕ). Slots rows c.swap.new.x.items xs) (sym slots_are) new;
     }

@@ -1,11 +1,12 @@
-use Rattle.std.proofs.Common.{subst, sym}
+use Rattle.std.proofs.Common.{ap, subst, sym}
 use Rattle.std.specs.Prelude.{IsOkAnd}
 use Rattle.lx_spec.specs.declared.Key.{Key}
 use Rattle.lx_spec.specs.declared.Command.TheVariants as commands
 use Rattle.lx_spec.specs.Desk.{step}
+use Rattle.lx_spec.specs.Kept.{Kept}
 use Rattle.lx_console.specs.Standing.{StandsFor, Obeys}
 use Rattle.lx_console.proofs.Obeying.{obeys_play, obeys_fader, obeys_master}
-use Rattle.lx_console.proofs.console.Console.press.Goals as goal
+use Rattle.lx_console.proofs.player.Player.press.Goals as goal
 
 pub returns-in-Play-clause-obeys : goal.returns-in-Play-clause-obeys
 returns-in-Play-clause-obeys c = λ d stands.
@@ -19,8 +20,16 @@ returns-in-Fader-clause-obeys c = λ d stands.
     c.set_fader.ensures.state c.set_fader.ensures.err c.set_fader.ensures.absent)
 
 pub returns-in-Master-clause-obeys : goal.returns-in-Master-clause-obeys
-returns-in-Master-clause-obeys c = λ d stands. record {
-  ok = subst (λ (key : Key). IsOkAnd (step d (commands.Key key)) (λ next. StandsFor next c.set_master.new.self)) (sym c.in-Master.is)
-      (obeys_master d c.in-Master.level c.args.self.now c.set_master.new.self stands c.set_master.ensures);
-  err = tt;
-}
+returns-in-Master-clause-obeys c = λ d stands.
+    let now : Kept = record {
+      show = c.self.inside.show;
+      playback = c.self.inside.playback;
+      faders = c.self.inside.rack.faders;
+      master = c.in-Master.level;
+    } in
+    record {
+      ok = subst (λ (key : Key). IsOkAnd (step d (commands.Key key)) (λ next. StandsFor next now)) (sym c.in-Master.is)
+          (obeys_master d c.in-Master.level c.args.self.now now stands
+          (ap (λ (k : Kept). record k { master = c.in-Master.level }) c.self.view_is));
+      err = tt;
+    }

@@ -1,0 +1,67 @@
+-- What commands change of what goes out.
+use Rattle.std.specs.Prelude.{◌≡◌, ℕ, ◌+◌, ◌<◌, refl, Bool, true, false, Some, None, List}
+use Rattle.std.proofs.Common.{arith, ap, sym, subst, ◌∙◌}
+use Rattle.lx_spec.specs.SortedList.{entry_at}
+use Rattle.lx_spec.specs.Show.{Show, Sub}
+use Rattle.lx_spec.specs.Output.{contribution}
+use Rattle.lx_spec.specs.Playback.{Playback}
+use Rattle.lx_spec.specs.Kept.{Kept}
+use Rattle.lx_spec.proofs.Columns.{level-columns}
+use Rattle.lx_edit.specs.declared.plans.Plan.{Plan}
+use Rattle.lx_edit.specs.declared.dirty.Dirty.{Dirty}
+use Rattle.lx_edit.specs.Changing.{KeepsOthers}
+use Rattle.lx_edit.specs.Planned.{planned, dimmer_planned, plans_sub}
+use Rattle.lx_levels.specs.Stacks.{Kept as Levels, level_at}
+use Rattle.lx_levels.specs.Standing.{LevelsStandFor}
+use Rattle.lx_levels.proofs.Stands.{kept_level}
+use Rattle.lx_console.specs.declared.change.Change.{Change}
+use Rattle.lx_console.specs.declared.change.Change.TheVariants as changes
+use Rattle.lx_console.specs.Changes.{SamePatch, Changes, of_levels}
+use Rattle.lx_console.specs.Filled.{IsChangeOf}
+use Rattle.lx_console.proofs.Touched.{same_channels, same_subs, same_patch, other_rows, in_show}
+
+-- the same show has the same channels and rows
+pub same_show : (before after : Kept) → after.show ≡ before.show → SamePatch before after
+same_show before after same = record {
+  channels = ap (λ (s : Show). s.channels) same;
+  patch = ap (λ (s : Show). s.patch) same;
+}
+
+-- a playback that moved on, and whether a level changed
+pub played_changes : (k : Kept) (p : Playback) (before after : Levels) (changed : Bool) → LevelsStandFor k.show k.playback before
+    → LevelsStandFor k.show p after → (changed ≡ false → (i : ℕ) → i < k.show.channels → level_at after i ≡ level_at before i)
+    → Changes (of_levels changed) k (record k { playback = p })
+played_changes k p before after true old new same = record { channels = refl; patch = refl }
+played_changes k p before after false old new same = record {
+  rows = record { channels = refl; patch = refl };
+  levels = λ i within. sym (kept_level k.show p after i new within) ∙ same refl i within ∙ kept_level k.show k.playback before i old within;
+  given = λ i within. refl;
+  master = refl;
+}
+
+-- a plan, by what it touched
+pub planned_changes : (k : Kept) (after : Show) (plan : Plan) (dirty : Dirty) (change : Change) → after ≡ planned k.show plan
+    → KeepsOthers k.show after dirty.chans → dirty.dimmer ≡ dimmer_planned plan → dirty.subs ≡ plans_sub plan → IsChangeOf dirty change
+    → Changes change k (record k { show = after })
+planned_changes k after plan dirty changes.Nothing is others dimmer subs none = record {
+  rows = record {
+    channels = ap (λ (s : Show). s.channels) is ∙ same_channels k.show plan;
+    patch = ap (λ (s : Show). s.patch) is ∙ same_patch k.show plan (sym dimmer ∙ none.dimmer);
+  };
+  levels = λ i within. sym (level-columns k.show after k.playback.base k.playback.live (i + 1) k.playback.moment
+      (others (i + 1) (in_show k.show.channels i within) (none.chans (i + 1))));
+  given = λ i within. ap (λ (s : List Sub). contribution (record k.show { subs = s }) k.faders (i + 1))
+      (ap (λ (s : Show). s.subs) is ∙ same_subs k.show plan (sym subs ∙ none.subs));
+  master = refl;
+}
+planned_changes k after plan dirty changes.Levels is others dimmer subs none = record {
+  channels = ap (λ (s : Show). s.channels) is ∙ same_channels k.show plan;
+  patch = ap (λ (s : Show). s.patch) is ∙ same_patch k.show plan (sym dimmer ∙ none);
+}
+planned_changes k after plan dirty (changes.Row e) is others dimmer subs names = record {
+  channels = ap (λ (s : Show). s.channels) is ∙ same_channels k.show plan;
+  rows = λ f other. ap (λ (s : Show). entry_at (λ row. row.dimmer) f s.patch) is
+      ∙ other_rows k.show plan f (λ same. other (same_dimmer f e (sym same ∙ sym dimmer ∙ names)));
+} where
+  same_dimmer : (f e : ℕ) → Some f ≡ Some e → f ≡ e
+  same_dimmer f e same = cc

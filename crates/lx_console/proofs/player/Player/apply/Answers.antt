@@ -1,0 +1,56 @@
+use Rattle.std.proofs.Common.{ℕ, List, sym, ap, subst, ◌∙◌}
+use Rattle.lx_spec.specs.Show.{Show}
+use Rattle.lx_spec.specs.Kept.{Kept}
+use Rattle.lx_edit.specs.Planned.{planned}
+use Rattle.lx_console.specs.Changes.{Changes}
+use Rattle.lx_console.proofs.Touched.{untouched_levels, same_given, same_reach, same_channels}
+use Rattle.lx_console.proofs.Changed.{planned_changes}
+use Rattle.lx_console.proofs.Obeying.{stands_planned}
+use Rattle.lx_console.proofs.player.Player.apply.Goals as goal
+
+pub recompute_touched-requires-clause-others : goal.recompute_touched-requires-clause-others
+recompute_touched-requires-clause-others c =
+    untouched_levels c.self.inside.show c.exchange-dirty.new.show c.self.inside.playback c.exchange-dirty.result.dirty.chans c.self.inside.levels
+    c.self.invariant.levels_stand
+    (ap (λ (s : Show). s.channels) c.exchange-dirty.ensures.show ∙ same_channels c.self.inside.show c.args.plan)
+    c.exchange-dirty.ensures.others
+
+pub recompute_touched-requires-clause-reach : goal.recompute_touched-requires-clause-reach
+recompute_touched-requires-clause-reach c = c.self.invariant.levels_stand.reach
+    ∙ sym (ap (λ (s : Show). s.channels) c.exchange-dirty.ensures.show ∙ same_channels c.self.inside.show c.args.plan)
+
+pub mend_subs-requires-clause-reach : goal.mend_subs-requires-clause-reach
+mend_subs-requires-clause-reach c = same_reach c.self.inside.show c.exchange-dirty.new.show c.args.plan c.self.inside.rack.faders
+    c.self.inside.rack.given c.exchange-dirty.ensures.show c.self.invariant.subs
+
+pub mend_subs-requires-clause-given : goal.mend_subs-requires-clause-given
+mend_subs-requires-clause-given c = same_given c.self.inside.show c.exchange-dirty.new.show c.args.plan c.exchange-dirty.result.dirty.subs
+    c.self.inside.rack.faders c.self.inside.rack.given c.exchange-dirty.ensures.show c.exchange-dirty.ensures.subs c.self.invariant.subs
+
+pub returns-clause-stands : goal.returns-clause-stands
+returns-clause-stands c = λ d stands.
+    let before : Kept = record {
+      show = c.self.inside.show;
+      playback = c.self.inside.playback;
+      faders = c.self.inside.rack.faders;
+      master = c.self.inside.master;
+    } in
+    stands_planned d c.args.plan before c.args.self.now
+    (record before { show = c.exchange-dirty.new.show; faders = c.mend_subs.new.rack.faders }) c.self.view_is
+    (ap (λ (s : Show). record before { show = s; faders = c.mend_subs.new.rack.faders }) c.exchange-dirty.ensures.show
+    ∙ ap (λ (f : List ℕ). record before { show = planned before.show c.args.plan; faders = f }) c.mend_subs.ensures.faders) stands
+
+pub returns-clause-changes : goal.returns-clause-changes
+returns-clause-changes c =
+    let before : Kept = record {
+      show = c.self.inside.show;
+      playback = c.self.inside.playback;
+      faders = c.self.inside.rack.faders;
+      master = c.self.inside.master;
+    } in
+    let after : Show = c.exchange-dirty.new.show in
+    let of_exchange = c.exchange-dirty.ensures in
+    subst (λ (k : Kept). Changes c.of_edit.result k (record before { show = after; faders = c.mend_subs.new.rack.faders })) c.self.view_is
+    (subst (λ (f : List ℕ). Changes c.of_edit.result before (record before { show = after; faders = f })) (sym c.mend_subs.ensures.faders)
+    (planned_changes before after c.args.plan c.exchange-dirty.result.dirty c.of_edit.result of_exchange.show of_exchange.others
+    of_exchange.dimmer of_exchange.subs c.of_edit.ensures))

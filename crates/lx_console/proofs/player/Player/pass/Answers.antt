@@ -1,0 +1,56 @@
+use Rattle.std.proofs.Common.{ℕ, ◌<◌, ◌≡◌, ap, sym, subst, ◌∙◌}
+use Rattle.lx_spec.specs.Playback.{Playback}
+use Rattle.lx_spec.specs.Kept.{Kept}
+use Rattle.lx_playback.specs.Passed.{later}
+use Rattle.lx_levels.specs.Stacks.{level_at}
+use Rattle.lx_levels.specs.Standing.{LevelsStandFor}
+use Rattle.lx_console.specs.declared.change.Change.{Change}
+use Rattle.lx_console.specs.Changes.{Changes, of_levels}
+use Rattle.lx_console.specs.Standing.{StandsFor}
+use Rattle.lx_console.proofs.Changed.{played_changes}
+use Rattle.lx_console.proofs.PassedTicks.{ticks_passed}
+use Rattle.lx_console.proofs.player.Player.pass.Goals as goal
+
+-- the levels stand for the playback that passed the ticks
+stands : (c : goal.After-of_levels)
+    → LevelsStandFor c.self.inside.show c.pass-ticks.new.self c.to_moment-changed.new.self
+stands c =
+    let show = c.self.inside.show in
+    let p : Playback = c.self.inside.playback in
+    let moment : c.moment.result ≡ (later p c.pass-ticks.result).moment =
+    c.moment.ensures.moment ∙ ap (λ (q : Playback). q.moment) c.pass-ticks.ensures.state in
+    subst (λ (q : Playback). LevelsStandFor show q c.to_moment-changed.new.self) (sym c.pass-ticks.ensures.state)
+    (subst (λ m. LevelsStandFor show (record p { moment = m }) c.to_moment-changed.new.self) moment
+    (c.to_moment-changed.ensures.stands show p c.self.invariant.levels_stand))
+
+pub invariant_of-self : goal.invariant_of-self
+invariant_of-self c = record { rows = c.self.invariant.rows; subs = c.self.invariant.subs; levels_stand = stands c }
+
+pub returns-clause-ticks : goal.returns-clause-ticks
+returns-clause-ticks c = λ d stands.
+    let k : Kept = record {
+      show = c.self.inside.show;
+      playback = c.self.inside.playback;
+      faders = c.self.inside.rack.faders;
+      master = c.self.inside.master;
+    } in
+    ticks_passed c.pass-ticks.result d k (record k { playback = c.pass-ticks.new.self })
+    (subst (StandsFor d) (sym c.self.view_is) stands) c.pass-ticks.ensures.ticks
+    (ap (λ (p : Playback). record k { playback = p }) c.pass-ticks.ensures.state)
+
+pub returns-clause-changes : goal.returns-clause-changes
+returns-clause-changes c =
+    let k : Kept = record {
+      show = c.self.inside.show;
+      playback = c.self.inside.playback;
+      faders = c.self.inside.rack.faders;
+      master = c.self.inside.master;
+    } in
+    let now : Kept = record k { playback = c.pass-ticks.new.self } in
+    let changed = c.to_moment-changed.result in
+    subst (λ (change : Change). Changes change c.args.self.now now) (sym c.of_levels.ensures)
+    (subst (λ (before : Kept). Changes (of_levels changed) before now) c.self.view_is
+    (played_changes k c.pass-ticks.new.self c.self.inside.levels c.to_moment-changed.new.self changed
+    c.self.invariant.levels_stand (stands c) (λ still.
+    subst (λ n. (i : ℕ) → i < n → level_at c.to_moment-changed.new.self i ≡ level_at c.self.inside.levels i)
+    c.self.invariant.levels_stand.reach (c.to_moment-changed.ensures.unchanged still))))
