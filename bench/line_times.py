@@ -1,11 +1,13 @@
 """What one line of a script takes: the processor time of many lines, without that of as many bad lines.
 
-line_times.py mixing|editing [LINES [PROGRAM]]
+line_times.py mixing|editing|lists [LINES [PROGRAM]]
 
 mixing   A line sets the master, which mixes all channels and, since all outputs change, fills all slots up to the last lit dimmer. Without
          a dimmer it only mixes; what the dimmers add is the slots.
 editing  An edit of each kind in a show of 2,000 cues that each move all of 2,048 channels. The new cue has no moves, and goes with the
          next line.
+lists    A tick in fades of a minute, over 2,048 channels and 16 universes: by `render`, by `two` where the first list alone fades, and by
+         `two` where both do; and a tick at rest. Without a dimmer it is the lists' own ticks and a mix; what the dimmers add is the slots.
 """
 import os
 import resource
@@ -16,25 +18,25 @@ import tempfile
 TOP = os.path.dirname(os.path.dirname(os.path.abspath(__file__)))
 
 
-def spent(program, text):
-    """The least processor time of three runs over the text."""
+def spent(program, text, job='render'):
+    """The least processor time of three runs of the job over the text."""
     with tempfile.NamedTemporaryFile('w') as out:
         out.write(text)
         out.flush()
         best = None
         for _ in range(3):
             before = resource.getrusage(resource.RUSAGE_CHILDREN)
-            subprocess.run([program, 'render'], stdin=open(out.name), stdout=subprocess.DEVNULL, check=True)
+            subprocess.run([program, job], stdin=open(out.name), stdout=subprocess.DEVNULL, check=True)
             after = resource.getrusage(resource.RUSAGE_CHILDREN)
             took = after.ru_utime + after.ru_stime - before.ru_utime - before.ru_stime
             best = took if best is None else min(best, took)
         return best
 
 
-def line_time(program, show, lines, bad):
+def line_time(program, show, lines, bad, job='render'):
     """Seconds for one of the lines."""
     text = show + '\n'.join(lines) + '\n'
-    return (spent(program, text) - spent(program, show + '\n'.join(bad) + '\n')) / len(lines)
+    return (spent(program, text, job) - spent(program, show + '\n'.join(bad) + '\n', job)) / len(lines)
 
 
 def lit_show(channels, dimmers):
@@ -70,11 +72,37 @@ def editing(program, count):
         print('%s: %.1f microseconds of processor time a line' % (name, took * 1e6))
 
 
+def fading_show(dimmers):
+    """Two cues in each list, between which every channel fades for a minute."""
+    text = ['IDENT 3:0', 'SET CHANNELS 2048']
+    text += ['PATCH 1 ' + ' '.join('%d<%d@FL' % (1 + (d - 1) % 2048, d) for d in range(at, at + 64)) for at in range(1, dimmers + 1, 64)]
+    for cue, level in ((1, 100), (2, 0), (5000, 90), (5001, 5)):
+        text += ['CUE %d' % cue, 'UP 60', 'DOWN 60']
+        text += ['CHAN ' + ' '.join('%d@%d' % (c, abs(level - c % 5)) for c in range(at, at + 64)) for at in range(1, 2049, 64)]
+    return '\n'.join(text + ['ENDDATA']) + '\n'
+
+
+def moved(key, turn):
+    """The key, to its cue or to the one after."""
+    word, cue = key.rsplit(' ', 1)
+    return '%s %d' % (word, int(cue) + turn % 2)
+
+
+def lists(program, count):
+    bad = ['tock'] * count
+    for name, job, keys in (('render', 'render', ['goto 1']), ('two, the first list fades', 'two', ['goto 1']),
+                            ('two, both lists fade', 'two', ['goto 1', '2 goto 5000']), ('render at rest', 'render', []),
+                            ('two at rest', 'two', [])):
+        lines = [moved(keys[i % 3000], i // 3000) if i % 3000 < len(keys) else 'tick' for i in range(count)]
+        mix, whole = (line_time(program, fading_show(dimmers), lines, bad, job) * 1e9 for dimmers in (0, 8192))
+        print('%s: %.0f ns of processor time a tick without dimmers; 8192 slots: %.0f ns' % (name, mix, whole - mix))
+
+
 def main():
     kind, *rest = sys.argv[1:]
-    count = int(rest[0]) if rest else {'mixing': 200000, 'editing': 20000}[kind]
+    count = int(rest[0]) if rest else {'mixing': 200000, 'editing': 20000, 'lists': 30000}[kind]
     program = rest[1] if len(rest) > 1 else os.path.join(TOP, 'crates', 'cuedesk', 'out', 'cuedesk')
-    {'mixing': mixing, 'editing': editing}[kind](program, count)
+    {'mixing': mixing, 'editing': editing, 'lists': lists}[kind](program, count)
 
 
 main()

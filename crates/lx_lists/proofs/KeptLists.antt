@@ -1,30 +1,29 @@
 -- What two lists keep stays filled in.
-use Rattle.std.proofs.Common.{◌≡◌, ℕ, ◌+◌, Bool, false, true, cond, length, Ok, Err, refl, sym, ap, subst, ◌∙◌, List}
-use Rattle.std.specs.Prelude.{Result, IsTrue, ◌==◌}
+use Rattle.std.proofs.Common.{◌≡◌, ℕ, ◌+◌, ◌<◌, Bool, false, true, cond, Ok, Err, refl, sym, ap, subst, ◌∙◌, arith}
+use Rattle.std.specs.Prelude.{Result, IsTrue, ◌==◌, max}
 use Rattle.std.specs.Result.{IsOkAnd}
 use Rattle.lx_base.specs.declared.TheConstants.{TICK_STEP, TICK_END}
+use Rattle.lx_base.specs.Numbers.{scaled}
 use Rattle.lx_spec.specs.declared.Command.{Command}
 use Rattle.lx_spec.specs.declared.Command.TheVariants as commands
-use Rattle.lx_spec.specs.declared.PatchRow.{PatchRow}
 use Rattle.lx_spec.specs.declared.Refusal.{Refusal}
 use Rattle.lx_spec.specs.declared.Refusal.TheVariants.{TickLimit}
 use Rattle.lx_spec.specs.FirstRefusal.{◌>>=◌}
 use Rattle.lx_spec.specs.Show.{Show}
 use Rattle.lx_spec.specs.Kept.{Kept}
+use Rattle.lx_spec.specs.Output.{contribution}
 use Rattle.lx_spec.specs.Playback.{ticked}
 use Rattle.lx_spec.specs.Desk.{Desk, step, after_play}
 use Rattle.lx_spec.specs.TwoLists.{is_tick, commands_second}
-use Rattle.lx_patch.specs.DimmerTable.{StandsForPatch}
-use Rattle.lx_subs.specs.Faders.{Faders, StandsForSubs}
-use Rattle.lx_console.specs.Filled.{Reaches, SlotsStand}
-use Rattle.lx_console.specs.Standing.{StandsFor, Obeys, Answers}
-use Rattle.lx_console.proofs.Obeying.{answers}
-use Rattle.lx_console.proofs.Touched.{given_by}
+use Rattle.lx_console.specs.declared.change.Change.{Change}
+use Rattle.lx_console.specs.declared.change.Change.TheVariants as changes
+use Rattle.lx_console.specs.Changes.{Changes, SameOutputs, is_nothing}
+use Rattle.lx_console.specs.Filled.{Reaches}
+use Rattle.lx_console.specs.Standing.{StandsFor, Obeys, Answers, level_now}
+use Rattle.lx_console.proofs.Filling.{same_table, same_slots}
 use Rattle.lx_lists.specs.declared.output.Output.{Output}
 use Rattle.lx_lists.specs.Standing.{TwoKept}
-use Rattle.lx_lists.specs.Commands.{edits_subs, edits_patch, faders_after}
-use Rattle.lx_lists.specs.Filled.{HasRoom, IsReady, IsFilled, IsKept}
-use Rattle.lx_lists.proofs.AfterCommands.{IsAfter, IsNext, accepted_next, no_tick, second_no_tick}
+use Rattle.lx_lists.specs.Filled.{HasRoom, IsFilled, IsKept}
 
 abbrev pub both : Kept → Kept → TwoKept
 both first second = record { first = first; second = second }
@@ -35,117 +34,115 @@ same_room one other output same room = record {
   stage = subst (λ (n : ℕ). Reaches n output.stage) (sym same) room.stage;
 }
 
--- the rack still stands for the submasters, where the command is none of them
-pub same_given : (command : Command) (before now : Kept) (rack : Faders) → StandsForSubs before.show rack → IsAfter command before now
-    → edits_subs command ≡ false → StandsForSubs now.show rack
-same_given command before now rack stands after other =
-    given_by before.show now.show rack.faders rack.given (after.subs other) after.channels stands
+-- whatever changes, the channels don't
+pub same_channels : (change : Change) (before after : Kept) → Changes change before after → after.show.channels ≡ before.show.channels
+same_channels changes.Nothing before after same = same.rows.channels
+same_channels changes.Levels before after same = same.channels
+same_channels (changes.Row e) before after same = same.channels
 
-pub same_reach : (command : Command) (before now : Kept) (rack : Faders) → StandsForSubs before.show rack → IsAfter command before now
-    → length rack.given ≡ now.show.channels
-same_reach command before now rack stands after = stands.reach ∙ sym after.channels
+-- a change that is none
+pub same_outputs : (change : Change) (before after : Kept) → is_nothing change ≡ true → Changes change before after
+    → SameOutputs before after
+same_outputs changes.Nothing before after is same = same
+same_outputs changes.Levels before after is same = absurd cc
+same_outputs (changes.Row e) before after is same = absurd cc
+
+pub as_before : (k : Kept) → SameOutputs k k
+as_before k = record {
+  rows = record { channels = refl; patch = refl };
+  levels = λ i within. refl;
+  given = λ i within. refl;
+  master = refl;
+}
+
+-- where nothing that goes out changed of either list, both are shown still
+pub filled_still : (first second first' second' : Kept) (output : Output) → second.show.channels ≡ first.show.channels
+    → IsFilled (both first second) output → SameOutputs first first' → SameOutputs second second' → IsFilled (both first' second') output
+filled_still first second first' second' output channels filled same same' = record {
+  room = same_room first.show first'.show output same.rows.channels filled.room;
+  patch = same_table first first' output.stage same.rows filled.patch;
+  outs = record {
+    reach = filled.outs.reach ∙ sym same.rows.channels;
+    each = λ i within.
+        let there : i < first.show.channels = omega (arith, same.rows.channels) in
+        let there' : i < second.show.channels = omega (arith, same.rows.channels, channels) in
+        filled.outs.each i there
+        ∙ ap (λ l. scaled (max (max l (level_now second (i + 1))) (contribution first.show first.faders (i + 1))) first.master)
+        (sym (same.levels i there))
+        ∙ ap (λ l. scaled (max (max (level_now first' (i + 1)) l) (contribution first.show first.faders (i + 1))) first.master)
+        (sym (same'.levels i there'))
+        ∙ ap (λ g. scaled (max (max (level_now first' (i + 1)) (level_now second' (i + 1))) g) first.master) (sym (same.given i there))
+        ∙ ap (λ m. scaled (max (max (level_now first' (i + 1)) (level_now second' (i + 1)))
+        (contribution first'.show first'.faders (i + 1))) m) (sym same.master);
+  };
+  slots = same_slots first first' output.stage same.rows filled.slots;
+}
+
+-- a player stands for some desk
+record Stood (now : Kept) : Type 0 where
+  desk : Desk
+  stands : StandsFor desk now
+
+stood : (r : Result Desk Refusal) (now : Kept) → IsOkAnd r (λ next. StandsFor next now) → Stood now
+stood (Ok next) now ok = record { desk = next; stands = ok }
+stood (Err refusal) now ok = absurd ok
 
 -- after a command of the first list
-pub ready_first : (command : Command) (before now second : Kept) (rack rack' : Faders) (output : Output)
-    → IsReady (both before second) rack output → IsAfter command before now → StandsForSubs now.show rack'
-    → rack'.faders ≡ faders_after command rack.faders → IsReady (both now second) rack' output
-ready_first command before now second rack rack' output ready after stands faders = record {
-  channels = ready.channels ∙ sym after.channels;
-  subs = stands;
-  faders = faders ∙ ap (faders_after command) ready.faders ∙ sym after.faders;
-  room = same_room before.show now.show output after.channels ready.room;
-}
-
--- and of the second
-pub ready_second : (command : Command) (first before now : Kept) (rack : Faders) (output : Output)
-    → IsReady (both first before) rack output → IsAfter command before now → IsReady (both first now) rack output
-ready_second command first before now rack output ready after = record {
-  channels = after.channels ∙ ready.channels;
-  subs = ready.subs;
-  faders = ready.faders;
-  room = ready.room;
-}
-
--- the patch and the slots, where the command is none of the patch
-pub same_patch : (command : Command) (before now : Kept) (output : Output) → StandsForPatch before.show.patch output.stage.table
-    → IsAfter command before now → edits_patch command ≡ false → StandsForPatch now.show.patch output.stage.table
-same_patch command before now output stands after other =
-    subst (λ (rows : List PatchRow). StandsForPatch rows output.stage.table) (sym (after.patch other)) stands
-
-pub same_slots : (command : Command) (before now : Kept) (output : Output) → SlotsStand before.show.patch output.stage
-    → IsAfter command before now → edits_patch command ≡ false → SlotsStand now.show.patch output.stage
-same_slots command before now output stand after other =
-    subst (λ (rows : List PatchRow). SlotsStand rows output.stage) (sym (after.patch other)) stand
-
--- a list that accepted a command
-pub next_first : {A : Type 0} (command : Command) (x : A) (first second now : Kept) (rack : Faders) (output : Output)
-    → IsKept (both first second) rack output → ((d : Desk) → StandsFor d first → Answers d command (Ok x) now) → IsNext command first now
-next_first command x first second now rack output kept answers =
-    accepted_next kept.desks.first command (Ok x) first now kept.stand.first answers
-
-pub next_second : {A : Type 0} (command : Command) (x : A) (first second now : Kept) (rack : Faders) (output : Output)
-    → IsKept (both first second) rack output → ((d : Desk) → StandsFor d second → Answers d command (Ok x) now) → IsNext command second now
-next_second command x first second now rack output kept answers =
-    accepted_next kept.desks.second command (Ok x) second now kept.stand.second answers
-
-pub ticked_first : {A : Type 0} (x : A) (first second now : Kept) (rack : Faders) (output : Output)
-    → IsKept (both first second) rack output → ((d : Desk) → StandsFor d first → Obeys d commands.Tick (Ok x) now)
-    → IsNext commands.Tick first now
-ticked_first x first second now rack output kept obeys = next_first commands.Tick x first second now rack output kept
-    (λ d stands. answers d commands.Tick (Ok x) now (obeys d stands))
-
-pub ticked_second : {A : Type 0} (x : A) (first second now : Kept) (rack : Faders) (output : Output)
-    → IsKept (both first second) rack output → ((d : Desk) → StandsFor d second → Obeys d commands.Tick (Ok x) now)
-    → IsNext commands.Tick second now
-ticked_second x first second now rack output kept obeys = next_second commands.Tick x first second now rack output kept
-    (λ d stands. answers d commands.Tick (Ok x) now (obeys d stands))
-
-pub first_kept : (command : Command) (first second now : Kept) (rack rack' : Faders) (output output' : Output)
-    → IsKept (both first second) rack output → IsNext command first now → is_tick command ≡ false → StandsForSubs now.show rack'
-    → rack'.faders ≡ faders_after command rack.faders → IsFilled (both now second) output' → IsKept (both now second) rack' output'
-first_kept command first second now rack rack' output output' kept next taken stands faders filled =
-    let ready = ready_first command first now second rack rack' output kept.ready next.after stands faders in
+pub first_kept : {A : Type 0} (command : Command) (x : A) (change : Change) (first second now : Kept) (output output' : Output)
+    → IsKept (both first second) output → ((d : Desk) → StandsFor d first → Answers d command (Ok x) now) → Changes change first now
+    → now.playback.moment ≡ first.playback.moment → IsFilled (both now second) output' → IsKept (both now second) output'
+first_kept command x change first second now output output' kept answers changed moment filled =
+    let next = stood (step kept.desks.first command) now (answers kept.desks.first kept.stand.first).ok in
     record {
       desks = record { first = next.desk; second = kept.desks.second };
       stand = record { first = next.stands; second = kept.stand.second };
-      moments = kept.moments ∙ sym (next.after.moment ∙ no_tick command first.playback.moment taken);
-      ready = record { channels = ready.channels; subs = ready.subs; faders = ready.faders; room = filled.room };
+      moments = kept.moments ∙ sym moment;
+      channels = kept.channels ∙ sym (same_channels change first now changed);
       filled = filled;
     }
 
-pub second_kept : (command : Command) (first second now : Kept) (rack : Faders) (output output' : Output)
-    → IsKept (both first second) rack output → IsNext command second now → IsTrue (commands_second command)
-    → IsFilled (both first now) output' → IsKept (both first now) rack output'
-second_kept command first second now rack output output' kept next taken filled =
-    let ready = ready_second command first second now rack output kept.ready next.after in
+-- and of the second
+pub second_kept : {A : Type 0} (command : Command) (x : A) (change : Change) (first second now : Kept) (output output' : Output)
+    → IsKept (both first second) output → ((d : Desk) → StandsFor d second → Answers d command (Ok x) now) → Changes change second now
+    → now.playback.moment ≡ second.playback.moment → IsFilled (both first now) output' → IsKept (both first now) output'
+second_kept command x change first second now output output' kept answers changed moment filled =
+    let next = stood (step kept.desks.second command) now (answers kept.desks.second kept.stand.second).ok in
     record {
       desks = record { first = kept.desks.first; second = next.desk };
       stand = record { first = kept.stand.first; second = next.stands };
-      moments = next.after.moment ∙ no_tick command second.playback.moment (second_no_tick command taken) ∙ kept.moments;
-      ready = record { channels = ready.channels; subs = ready.subs; faders = ready.faders; room = filled.room };
+      moments = moment ∙ kept.moments;
+      channels = same_channels change second now changed ∙ kept.channels;
       filled = filled;
     }
 
--- after a tick of both
-pub ready_ticked : (first second first' second' : Kept) (rack : Faders) (output : Output) → IsReady (both first second) rack output
-    → IsAfter commands.Tick first first' → IsAfter commands.Tick second second' → IsReady (both first' second') rack output
-ready_ticked first second first' second' rack output ready after after' =
-    ready_second commands.Tick first' second second' rack output
-    (ready_first commands.Tick first first' second rack rack output ready after
-    (same_given commands.Tick first first' rack ready.subs after refl) refl) after'
+-- the channels of both stay the same
+pub both_channels : (first second first' second' : Kept) → second.show.channels ≡ first.show.channels → first'.show ≡ first.show
+    → second'.show ≡ second.show → second'.show.channels ≡ first'.show.channels
+both_channels first second first' second' same show show' = ap (λ (s : Show). s.channels) show' ∙ same
+    ∙ sym (ap (λ (s : Show). s.channels) show)
 
-pub ticked_kept : (first second first' second' : Kept) (rack : Faders) (output output' : Output) → IsKept (both first second) rack output
-    → IsNext commands.Tick first first' → IsNext commands.Tick second second' → IsFilled (both first' second') output'
-    → IsKept (both first' second') rack output'
-ticked_kept first second first' second' rack output output' kept next next' filled =
-    let ready = ready_ticked first second first' second' rack output kept.ready next.after next'.after in
+-- and after a tick of both
+pub ticked_kept : {A : Type 0} (x y : A) (first second first' second' : Kept) (output output' : Output) → IsKept (both first second) output
+    → ((d : Desk) → StandsFor d first → Obeys d commands.Tick (Ok x) first')
+    → ((d : Desk) → StandsFor d second → Obeys d commands.Tick (Ok y) second')
+    → first'.show ≡ first.show → second'.show ≡ second.show
+    → first'.playback.moment ≡ first.playback.moment + TICK_STEP → second'.playback.moment ≡ second.playback.moment + TICK_STEP
+    → IsFilled (both first' second') output' → IsKept (both first' second') output'
+ticked_kept x y first second first' second' output output' kept obeys obeys' show show' moment moment' filled =
+    let next = stood (step kept.desks.first commands.Tick) first' (obeys kept.desks.first kept.stand.first).ok in
+    let next' = stood (step kept.desks.second commands.Tick) second' (obeys' kept.desks.second kept.stand.second).ok in
     record {
       desks = record { first = next.desk; second = next'.desk };
       stand = record { first = next.stands; second = next'.stands };
-      moments = next'.after.moment ∙ ap (λ (m : ℕ). m + TICK_STEP) kept.moments ∙ sym next.after.moment;
-      ready = record { channels = ready.channels; subs = ready.subs; faders = ready.faders; room = filled.room };
+      moments = moment' ∙ ap (λ (m : ℕ). m + TICK_STEP) kept.moments ∙ sym moment;
+      channels = both_channels first second first' second' kept.channels show show';
       filled = filled;
     }
+
+pub second_no_tick : (command : Command) → IsTrue (commands_second command) → is_tick command ≡ false
+second_no_tick (commands.Edit edit) taken = refl
+second_no_tick (commands.Key key) taken = refl
+second_no_tick commands.Tick taken = absurd cc
 
 abbrev Ticks : Desk → Bool → Result Desk Refusal
 Ticks d b = cond b (Err (TickLimit TICK_END)) (Ok (ticked d.show d.playback)) >>= (λ played. Ok (after_play d played))

@@ -65,6 +65,24 @@ no_quit : (meaning : Option Line) → is_quit (where_of_second meaning) ≡ fals
 no_quit None = refl
 no_quit (Some meaning) = no_quit_by meaning (is_of_second meaning) refl
 
+no_frame_by : (meaning : Line) (b : Bool) → is_of_second meaning ≡ b → frame_of (if b then Some meaning else None) ≡ None
+no_frame_by (lines.Command c) true is = refl
+no_frame_by (lines.Ticks k) true is = refl
+no_frame_by (lines.Frame u) true is = cc
+no_frame_by lines.Save true is = refl
+no_frame_by (lines.SheetOf n) true is = refl
+no_frame_by lines.Quit true is = refl
+no_frame_by lines.Blank true is = refl
+no_frame_by meaning false is = refl
+
+no_frame : (meaning : Option Line) → frame_of (where_of_second meaning) ≡ None
+no_frame None = refl
+no_frame (Some meaning) = no_frame_by meaning (is_of_second meaning) refl
+
+-- no line of the second list asks for a frame
+pub second_no_frame : (rest : List ℕ) (meaning : Option Line) → meaning ≡ where_of_second (line_of rest) → frame_of meaning ≡ None
+second_no_frame rest meaning is = ap frame_of is ∙ no_frame (line_of rest)
+
 -- the session goes on after a line of the second list
 pub second_more : (result : Result Bool SinkFault) (rest : List ℕ) (meaning : Option Line) → meaning ≡ where_of_second (line_of rest)
     → IfOk result (λ more. more ≡ not (is_quit meaning)) → IfOk result (λ more. more ≡ true)
@@ -82,13 +100,3 @@ second_quits (Err fault) given rest is rests = tt
 pub meant_by : (given : Option (List ℕ)) (turn : LineState) (text : List ℕ) → turn ≡ unattempted (meaning_of given) → IsLine given text
     → turn.meaning ≡ line_of text
 meant_by given turn text begun is = ap (λ (t : LineState). t.meaning) begun ∙ meaning_is given text is
-
-pub frame_is : (meaning : Option Line) (u : ℕ) → frame_of meaning ≡ Some u → meaning ≡ Some (lines.Frame u)
-frame_is None u is = cc
-frame_is (Some (lines.Command c)) u is = cc
-frame_is (Some (lines.Ticks k)) u is = cc
-frame_is (Some (lines.Frame v)) u is = cc
-frame_is (Some lines.Save) u is = cc
-frame_is (Some (lines.SheetOf n)) u is = cc
-frame_is (Some lines.Quit) u is = cc
-frame_is (Some lines.Blank) u is = cc

@@ -17,7 +17,6 @@ use Rattle.lx_spec.specs.RefusedPlaces.{is_edit}
 use Rattle.lx_spec.specs.Session.{command_of, count_of}
 use Rattle.lx_spec.specs.SessionOf.{SessionOf, at_desk}
 use Rattle.lx_spec.specs.TwoLists.{TwoDesks, is_tick, commands_second, first_step, second_step}
-use Rattle.lx_spec.specs.ValidEdit.{ValidCommand, ValidLine}
 use Rattle.lx_console.specs.Standing.{StandsFor, Obeys, Refuses}
 use Rattle.lx_session.specs.Attempts.{Attempted, heard_of}
 use Rattle.lx_session.specs.LineState.{LineState, next_of, unattempted}
@@ -170,31 +169,6 @@ one_at_most (Some lines.Save) taken = omega arith
 one_at_most (Some (lines.SheetOf n)) taken = omega arith
 one_at_most (Some lines.Quit) taken = omega arith
 one_at_most (Some lines.Blank) taken = omega arith
-
--- the command of a line whose numbers are in their range
-valid_of : (meaning : Option Line) (c : Command) → IfSome meaning ValidLine → command_of meaning ≡ Some c → ValidCommand c
-valid_of None c valid is = cc
-valid_of (Some (lines.Command command)) c valid is = let same : command ≡ c = cc in subst ValidCommand same valid
-valid_of (Some (lines.Ticks k)) c valid is = let tick : commands.Tick ≡ c = cc in subst ValidCommand tick tt
-valid_of (Some (lines.Frame u)) c valid is = cc
-valid_of (Some lines.Save) c valid is = cc
-valid_of (Some (lines.SheetOf n)) c valid is = cc
-valid_of (Some lines.Quit) c valid is = cc
-valid_of (Some lines.Blank) c valid is = cc
-
-next_by : (turn : LineState) (c : Command) (b d : Bool) → (if b then None else (if d then None else command_of turn.meaning)) ≡ Some c
-    → command_of turn.meaning ≡ Some c
-next_by turn c true d is = cc
-next_by turn c false true is = cc
-next_by turn c false false is = is
-
-pub command_next : (turn : LineState) (c : Command) → next_of turn ≡ Some c → command_of turn.meaning ≡ Some c
-command_next turn c is = next_by turn c _ _ is
-
-pub valid_next : (old turn : LineState) (c : Command) → IfSome old.meaning ValidLine → turn.meaning ≡ old.meaning → next_of turn ≡ Some c
-    → ValidCommand c
-valid_next old turn c valid same some =
-    valid_of turn.meaning c (subst (λ (m : Option Line). IfSome m ValidLine) (sym same) valid) (command_next turn c some)
 
 pub other_tick : (c : Command) → (c ≡ commands.Tick → ⊥) → is_tick c ≡ false
 other_tick (commands.Edit edit) other = refl

@@ -1,10 +1,12 @@
 -- What two lists keep is filled in: it is what both of them give.
 use Rattle.std.specs.Prelude.{◌≡◌, length}
 use Rattle.lx_spec.specs.Show.{Show}
+use Rattle.lx_spec.specs.Kept.{Kept}
 use Rattle.lx_spec.specs.TwoLists.{TwoDesks}
 use Rattle.lx_mixer.specs.Table.{IsTable}
 use Rattle.lx_patch.specs.DimmerTable.{StandsForPatch}
-use Rattle.lx_subs.specs.Faders.{Faders, StandsForSubs}
+use Rattle.lx_console.specs.declared.change.Change.{Change}
+use Rattle.lx_console.specs.Changes.{Changes}
 use Rattle.lx_console.specs.Filled.{Reaches, SlotsStand}
 use Rattle.lx_lists.specs.declared.output.Output.{Output}
 use Rattle.lx_lists.specs.Standing.{TwoKept, TwoStand, out_of_both}
@@ -14,13 +16,6 @@ pub record HasRoom (show : Show) (output : Output) : Type 0 where
   pub greatest : length output.greatest.items ≡ show.channels
   pub stage : Reaches show.channels output.stage
 
--- both lists have the same channels, and the rack is that of the first
-pub record IsReady (t : TwoKept) (rack : Faders) (output : Output) : Type 0 where
-  pub channels : t.second.show.channels ≡ t.first.show.channels
-  pub subs : StandsForSubs t.first.show rack
-  pub faders : rack.faders ≡ t.first.faders
-  pub room : HasRoom t.first.show output
-
 -- the outputs are those of both lists, and the slots those of the outputs
 pub record IsFilled (t : TwoKept) (output : Output) : Type 0 where
   pub room : HasRoom t.first.show output
@@ -28,11 +23,17 @@ pub record IsFilled (t : TwoKept) (output : Output) : Type 0 where
   pub outs : IsTable t.first.show.channels (out_of_both t) output.stage.outs.items
   pub slots : SlotsStand t.first.show.patch output.stage
 
--- The consoles stand for two desks at the same moment, over shows of the same channels; the rack is that of the first, and the output is
--- filled in.
-pub record IsKept (t : TwoKept) (rack : Faders) (output : Output) : Type 0 where
+-- the output was filled in before the first list changed so
+pub record WasFilled (change : Change) (t : TwoKept) (output : Output) : Type 0 where
+  pub before : Kept
+  pub channels : t.second.show.channels ≡ before.show.channels
+  pub filled : IsFilled (record { first = before; second = t.second }) output
+  pub changes : Changes change before t.first
+
+-- The players stand for two desks at the same moment, over shows of the same channels, and the output is filled in.
+pub record IsKept (t : TwoKept) (output : Output) : Type 0 where
   pub desks : TwoDesks
   pub stand : TwoStand desks t
   pub moments : t.second.playback.moment ≡ t.first.playback.moment
-  pub ready : IsReady t rack output
+  pub channels : t.second.show.channels ≡ t.first.show.channels
   pub filled : IsFilled t output

@@ -1,5 +1,4 @@
 pub mod Standing
-pub mod Commands
 pub mod Filled
 pub mod Ticked
 pub mod SecondLines

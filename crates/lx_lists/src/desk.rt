@@ -1,6 +1,6 @@
 //! Two cue lists beside each other.
 
-ghost use Rattle.std.specs.Prelude.{◌≡◌, ℕ, ◌≤◌, false, length, IfOk, IsTrue, OnErr};
+ghost use Rattle.std.specs.Prelude.{◌≡◌, ℕ, ◌≤◌, false, IfOk, IsTrue, OnErr};
 ghost use Rattle.lx_base.specs.declared.TheConstants.{SLOTS, UNIVERSES};
 ghost use Rattle.lx_spec.specs.ValidEdit.{ValidCommand};
 ghost use Rattle.lx_spec.specs.RefusedPlaces.{is_edit};
@@ -8,31 +8,26 @@ ghost use Rattle.lx_spec.specs.Desk.{Desk};
 ghost use Rattle.lx_spec.specs.Output.{dimmer_value};
 ghost use Rattle.lx_spec.specs.TwoLists.{TwoDesks, opened_two, first_step, second_step, tick_step, is_tick, commands_second, frame_of_two};
 ghost use Rattle.lx_mixer.specs.Table.{IsTable};
-ghost use Rattle.lx_subs.specs.Faders.{StandsForSubs};
 ghost use Rattle.lx_console.specs.Slots.{universe};
 ghost use Rattle.lx_console.specs.Standing.{StandsFor, Obeys};
 ghost use Rattle.lx_lists.specs.Standing.{TwoStand, Steps, TakesStep, list_of, out_of_both};
-ghost use Rattle.lx_lists.specs.Commands.{edits_subs, edits_patch, faders_after};
 
 use crate::output::Output;
 use crate::split::{leave_first, second_of};
 use lx_base::{Level, Moment};
-use lx_console::Console;
-use lx_show::{Command, Edit, Key, Refusal, Show};
-use lx_subs::SubRack;
+use lx_console::Player;
+use lx_show::{Command, Refusal, Show};
 use std::alloc::{AllocError, Global};
 use std::marker::Model;
 
-/// Two cue lists that play beside each other, each as a console plays its own: the first has the cues below
+/// Two cue lists that play beside each other, each by a player of its own: the first has the cues below
 /// `SECOND_LIST`, the second those from it on. A channel puts out the greatest of both playbacks and of the first
 /// list's submasters, under the first list's master, and its patch says which dimmers follow. Ticks are of both, so
 /// that both are always at the same moment.
 #[derive(Drop)]
 pub struct TwoLists {
-    first: Console,
-    second: Console,
-    /// The faders of the first list's submasters, and what they give.
-    rack: SubRack,
+    first: Player,
+    second: Player,
     output: Output,
 }
 
@@ -44,7 +39,7 @@ impl Model for TwoLists {
 
     ghost view = { λ t. record { first = t.first; second = t.second } };
 
-    ghost invariant = { λ t. IsKept (record { first = t.first; second = t.second }) t.rack t.output };
+    ghost invariant = { λ t. IsKept (record { first = t.first; second = t.second }) t.output };
 }
 
 impl TwoLists {
@@ -53,23 +48,21 @@ impl TwoLists {
     pub fn open(alloc: Global, show: Show) -> Result<TwoLists, AllocError>
         ensures { IfOk result (TwoStand (opened_two show)) }
     {
-        let second = Console::open(alloc, second_of(&show)?)?;
+        let second = Player::open(alloc, second_of(&show)?)?;
         let mut show = show;
         leave_first(&mut show);
-        let rack = SubRack::open(alloc, &show)?;
         let mut output = Output::open(alloc, &show)?;
-        let first = Console::open(alloc, show)?;
-        output.fill(&first, &second, &rack);
+        let first = Player::open(alloc, show)?;
+        output.fill(&first, &second);
         Ok(TwoLists {
             first,
             second,
-            rack,
             output,
         })
     }
 
     /// The first list, or the second.
-    pub fn list(&self, second: bool) -> &Console
+    pub fn list(&self, second: bool) -> &Player
         ensures { result.now ≡ list_of self.now second }
     {
         if second { &self.second } else { &self.first }
@@ -107,13 +100,8 @@ impl TwoLists {
         ensures unchanged { OnErr result (self.new ≡ self.old) }
         ensures other { self.new.second ≡ self.old.second }
     {
-        self.first.command(command)?;
-        follow_faders(&mut self.rack, command, self.first.show());
-        if is_of_patch(command) {
-            self.output.fill(&self.first, &self.second, &self.rack);
-        } else {
-            self.output.refill(&self.first, &self.second, &self.rack);
-        }
+        let change = self.first.command(command)?;
+        self.output.follow(change, &self.first, &self.second);
         Ok(())
     }
 
@@ -130,8 +118,10 @@ impl TwoLists {
         ensures unchanged { OnErr result (self.new ≡ self.old) }
         ensures other { self.new.first ≡ self.old.first }
     {
-        self.second.command(command)?;
-        self.output.refill(&self.first, &self.second, &self.rack);
+        let change = self.second.command(command)?;
+        if !change.is_nothing() {
+            self.output.refill(&self.first, &self.second);
+        }
         Ok(())
     }
 
@@ -144,35 +134,13 @@ impl TwoLists {
         ensures second { (d : Desk) → StandsFor d self.old.second → Obeys d Command.Tick result self.new.second }
         ensures unchanged { OnErr result (self.new ≡ self.old) }
     {
-        self.first.tick()?;
-        match self.second.tick() {
-            Ok(()) => self.output.refill(&self.first, &self.second, &self.rack),
-            Err(_) => unreachable!(),
+        let first = self.first.tick()?;
+        let Ok(second) = self.second.tick() else {
+            unreachable!()
+        };
+        if !first.is_nothing() || !second.is_nothing() {
+            self.output.refill(&self.first, &self.second);
         }
         Ok(())
     }
-}
-
-/// Takes up what the command made of the submasters and their faders. Where it touched none, the rack stands already.
-fn follow_faders(rack: &mut SubRack, command: &Command, show: &Show)
-    requires reach { length rack.old.given ≡ show.now.channels }
-    requires stands { edits_subs command.now ≡ false → StandsForSubs show.now rack.old }
-    ensures stands { StandsForSubs show.now rack.new }
-    ensures faders { rack.new.faders ≡ faders_after command.now rack.old.faders }
-{
-    match command {
-        Command::Key(Key::Fader { sub, level }) => rack.set_fader(show, *sub, *level),
-        Command::Edit(Edit::SubMember { .. }) => rack.changed(show),
-        _ => {}
-    }
-}
-
-/// The command is an edit of the patch.
-fn is_of_patch(command: &Command) -> bool
-    ensures { result ≡ edits_patch command.now }
-{
-    matches!(
-        command,
-        Command::Edit(Edit::Patch { .. } | Edit::Unpatch { .. })
-    )
 }

@@ -2,15 +2,13 @@
 
 ghost use Rattle.std.specs.Prelude.{◌≡◌, max, length, slice_index, EachIndex, IfOk};
 ghost use Rattle.lx_patch.specs.DimmerTable.{StandsForPatch};
-ghost use Rattle.lx_console.specs.Filled.{SlotsStand};
-ghost use Rattle.lx_lists.specs.Standing.{TwoKept};
-ghost use Rattle.lx_lists.specs.Filled.{HasRoom, IsReady, IsFilled};
+ghost use Rattle.lx_console.specs.Filled.{IsPatchedBut, SlotsStand};
+ghost use Rattle.lx_lists.specs.Filled.{HasRoom, IsFilled, WasFilled};
 
-use lx_base::Level;
-use lx_console::{Console, Stage};
+use lx_base::{Dimmer, Level};
+use lx_console::{Change, Player, Stage};
 use lx_mixer::mix_into;
 use lx_show::Show;
-use lx_subs::SubRack;
 use std::alloc::{AllocError, Global};
 
 /// The outputs of the channels and the slots of the dimmers, from both lists.
@@ -24,7 +22,8 @@ pub(crate) struct Output {
 impl Output {
     /// An output for the show, whose patch alone is filled in yet. An error comes where memory is wanting.
     pub(crate) fn open(alloc: Global, show: &Show) -> Result<Output, AllocError>
-        ensures { IfOk result (HasRoom show.now) }
+        ensures room { IfOk result (HasRoom show.now) }
+        ensures patch { IfOk result (λ output. StandsForPatch show.now.patch output.stage.table) }
     {
         let channels = show.channels() as usize;
         Ok(Output {
@@ -33,27 +32,50 @@ impl Output {
         })
     }
 
-    /// Fills in the outputs and the slots by the first list's patch, which is taken up.
-    pub(crate) fn fill(&mut self, first: &Console, second: &Console, rack: &SubRack)
-        requires ready { IsReady (record { first = first.now; second = second.now }) rack.now self.old }
+    /// Fills in the outputs and the slots.
+    pub(crate) fn fill(&mut self, first: &Player, second: &Player)
+        requires channels { second.now.show.channels ≡ first.now.show.channels }
+        requires room { HasRoom first.now.show self.old }
+        requires patch { StandsForPatch first.now.show.patch self.old.stage.table }
         ensures { IsFilled (record { first = first.now; second = second.now }) self.new }
     {
         raise(first.levels(), second.levels(), &mut self.greatest);
-        self.stage.take_patch(first.show());
-        self.stage
-            .fill(&self.greatest, first.show(), rack, first.master());
+        self.stage.fill(&self.greatest, first);
     }
 
     /// Fills in the outputs, and the slots of those that changed: the slots were those of the outputs before.
-    pub(crate) fn refill(&mut self, first: &Console, second: &Console, rack: &SubRack)
-        requires ready { IsReady (record { first = first.now; second = second.now }) rack.now self.old }
+    pub(crate) fn refill(&mut self, first: &Player, second: &Player)
+        requires channels { second.now.show.channels ≡ first.now.show.channels }
+        requires room { HasRoom first.now.show self.old }
         requires patch { StandsForPatch first.now.show.patch self.old.stage.table }
         requires slots { SlotsStand first.now.show.patch self.old.stage }
         ensures { IsFilled (record { first = first.now; second = second.now }) self.new }
     {
         raise(first.levels(), second.levels(), &mut self.greatest);
-        self.stage
-            .refill(&self.greatest, first.show(), rack, first.master());
+        self.stage.refill(&self.greatest, first);
+    }
+
+    /// Takes up the dimmer's row of the first list's patch, then fills in the outputs and the slots.
+    fn repatch(&mut self, first: &Player, second: &Player, dimmer: Dimmer)
+        requires channels { second.now.show.channels ≡ first.now.show.channels }
+        requires room { HasRoom first.now.show self.old }
+        requires patch { IsPatchedBut first.now.show.patch dimmer self.old.stage.table }
+        ensures { IsFilled (record { first = first.now; second = second.now }) self.new }
+    {
+        raise(first.levels(), second.levels(), &mut self.greatest);
+        self.stage.repatch(&self.greatest, first, dimmer);
+    }
+
+    /// Shows both lists after a change of the first; before it both were shown as they were.
+    pub(crate) fn follow(&mut self, change: Change, first: &Player, second: &Player)
+        requires { WasFilled change (record { first = first.now; second = second.now }) self.old }
+        ensures { IsFilled (record { first = first.now; second = second.now }) self.new }
+    {
+        match change {
+            Change::Nothing => {}
+            Change::Levels => self.refill(first, second),
+            Change::Row(dimmer) => self.repatch(first, second, dimmer),
+        }
     }
 }
 

@@ -118,7 +118,7 @@ fn answer_second<K: Sink>(
 {
     let mut turn = Turn::begin_second(rest);
     attempt_second(desk, &mut turn);
-    turn.finish(desk.list(true), sink, tally)
+    turn.finish_without_frame(desk.list(true), sink, tally)
 }
 
 /// Does what a line asks of the first list or of both, then appends its replies and counts them. None stands for a
@@ -143,7 +143,7 @@ fn answer_first<K: Sink>(
         Some(universe) => put_universe(desk, universe, sink),
         None => {
             attempt_all(desk, &mut turn);
-            turn.finish(desk.list(false), sink, tally)
+            turn.finish_without_frame(desk.list(false), sink, tally)
         }
     }
 }

@@ -1,14 +1,36 @@
 -- The replies of lines, as the code gives them.
-use Rattle.std.proofs.Common.{◌≡◌, ℕ, Option, Some, Result, Ok, Err, OnOk, [], sym, ap, ◌∙◌}
+use Rattle.std.proofs.Common.{◌≡◌, ℕ, Bool, true, Option, Some, None, Result, Ok, Err, OnOk, [], sym, ap, ◌∙◌}
+use Rattle.std.specs.Prelude.{IfOk, not}
+use Rattle.lx_io.specs.declared.sink.SinkFault.{SinkFault}
 use Rattle.lx_spec.specs.declared.Line.{Line}
 use Rattle.lx_spec.specs.declared.Line.TheVariants as lines
 use Rattle.lx_spec.specs.declared.Refusal.{Refusal}
 use Rattle.lx_spec.specs.Desk.{Desk}
 use Rattle.lx_spec.specs.Output.{frame}
 use Rattle.lx_spec.specs.Replies.{frame_text}
-use Rattle.lx_spec.specs.Session.{Counts}
+use Rattle.lx_spec.specs.Session.{Counts, is_quit}
 use Rattle.lx_spec.specs.ShowText.{show_text}
 use Rattle.lx_session.specs.LineReply.{reply_to, counts_after}
+use Rattle.lx_session.specs.LineState.{frame_of}
+
+-- a line that asks for a frame
+pub frame_is : (meaning : Option Line) (u : ℕ) → frame_of meaning ≡ Some u → meaning ≡ Some (lines.Frame u)
+frame_is None u is = cc
+frame_is (Some (lines.Command c)) u is = cc
+frame_is (Some (lines.Ticks k)) u is = cc
+frame_is (Some (lines.Frame v)) u is = cc
+frame_is (Some lines.Save) u is = cc
+frame_is (Some (lines.SheetOf n)) u is = cc
+frame_is (Some lines.Quit) u is = cc
+frame_is (Some lines.Blank) u is = cc
+
+pub no_frame : (meaning : Option Line) (u : ℕ) → meaning ≡ Some (lines.Frame u) → frame_of meaning ≡ None → ⊥
+no_frame meaning u is none = let both : Some u ≡ None = sym (ap frame_of is) ∙ none in cc
+
+pub frame_goes_on : (meaning : Option Line) (u : ℕ) (r : Result Bool SinkFault) → meaning ≡ Some (lines.Frame u)
+    → IfOk r (λ more. more ≡ true) → IfOk r (λ more. more ≡ not (is_quit meaning))
+frame_goes_on meaning u (Ok more) is goes = goes ∙ sym (ap (λ (m : Option Line). not (is_quit m)) is)
+frame_goes_on meaning u (Err fault) is goes = tt
 
 pub frame_reply : (d : Desk) (meaning : Option Line) (u : ℕ) (r : Option Refusal) → meaning ≡ Some (lines.Frame u)
     → frame_text [] d.playback.moment u (frame d u) ≡ reply_to d meaning r

@@ -11,14 +11,14 @@ ghost use Rattle.lx_script.specs.ReplyTexts.{reply_text};
 ghost use Rattle.lx_console.specs.Slots.{universe as universe_in};
 ghost use Rattle.lx_console.specs.Standing.{StandsFor};
 ghost use Rattle.lx_spec.specs.Session.{is_quit};
-ghost use Rattle.lx_session.specs.LineState.{next_of};
+ghost use Rattle.lx_session.specs.LineState.{next_of, frame_of};
 ghost use Rattle.lx_session.specs.LineReply.{reply_to, reply_for, counts_after, counts_in, counted, HasRoom, HasOneMore};
 
 use crate::meaning::{Asked, Meaning};
 use crate::tally::Tally;
 use crate::turn::Turn;
 use lx_base::{CueNo, Level, UNIVERSE_SLOTS};
-use lx_console::Console;
+use lx_console::{Console, Player};
 use lx_io::{Sink, SinkFault};
 use lx_report::put_row;
 use lx_script::{Reply, put_frame, put_reply};
@@ -47,23 +47,48 @@ impl Turn {
         ensures quit { IfOk result (λ more. more ≡ not (is_quit self.now.meaning)) }
         ensures counted { HasOneMore tally.old tally.new }
     {
-        reply_to_line(&self.meaning, self.refusal, console, sink, tally)
+        match self.frame_universe() {
+            Some(universe) => put_universe(universe, console, sink),
+            None => self.finish_without_frame(console.player(), sink, tally),
+        }
+    }
+
+    /// As `finish`, of a line that asks for no frame: a player puts none out.
+    pub fn finish_without_frame<K: Sink>(
+        &self,
+        player: &Player,
+        sink: &mut K,
+        tally: &mut Tally,
+    ) -> Result<bool, SinkFault>
+        requires over { next_of self.now ≡ None }
+        requires no_frame { frame_of self.now.meaning ≡ None }
+        requires room { HasRoom tally.old }
+        ensures cause { HasSinkCause K.faults K.wants sink.old sink.new result }
+        ensures text { (d : Desk) → StandsFor d player.now
+            → Puts K.holds K.faults K.wants sink.old sink.new result (reply_to d self.now.meaning self.now.refusal) }
+        ensures counts { (d : Desk) → StandsFor d player.now
+            → OnOk result (counts_in tally.new ≡ counts_after d (counts_in tally.old) self.now.meaning self.now.refusal) }
+        ensures quit { IfOk result (λ more. more ≡ not (is_quit self.now.meaning)) }
+        ensures counted { HasOneMore tally.old tally.new }
+    {
+        reply_to_line(&self.meaning, self.refusal, player, sink, tally)
     }
 }
 
-/// Appends the reply to a line of this meaning, and counts it.
+/// Appends the reply to a line of this meaning, which asks for no frame, and counts it.
 fn reply_to_line<K: Sink>(
     meaning: &Meaning,
     refusal: Option<Refusal>,
-    console: &Console,
+    player: &Player,
     sink: &mut K,
     tally: &mut Tally,
 ) -> Result<bool, SinkFault>
+    requires no_frame { frame_of meaning.now ≡ None }
     requires room { HasRoom tally.old }
     ensures cause { HasSinkCause K.faults K.wants sink.old sink.new result }
-    ensures text { (d : Desk) → StandsFor d console.now
+    ensures text { (d : Desk) → StandsFor d player.now
         → Puts K.holds K.faults K.wants sink.old sink.new result (reply_to d meaning.now refusal) }
-    ensures counts { (d : Desk) → StandsFor d console.now
+    ensures counts { (d : Desk) → StandsFor d player.now
         → OnOk result (counts_in tally.new ≡ counts_after d (counts_in tally.old) meaning.now refusal) }
     ensures quit { IfOk result (λ more. more ≡ not (is_quit meaning.now)) }
     ensures counted { HasOneMore tally.old tally.new }
@@ -72,9 +97,9 @@ fn reply_to_line<K: Sink>(
         Asked::Bad => give(Reply::Bad, sink, tally),
         Asked::Command => give(reply_of(refusal), sink, tally),
         Asked::Ticks(_) => give(reply_of(refusal), sink, tally),
-        Asked::Frame(universe) => put_universe(*universe, console, sink),
-        Asked::Save => put_show(console, sink),
-        Asked::SheetOf(n) => put_sheet(*n, refusal, console, sink, tally),
+        Asked::Frame(_) => unreachable!(),
+        Asked::Save => put_show(player, sink),
+        Asked::SheetOf(n) => put_sheet(*n, refusal, player, sink, tally),
         Asked::Quit => Ok(false),
         Asked::Blank => Ok(true),
     }
@@ -111,20 +136,20 @@ fn give<K: Sink>(reply: Reply, sink: &mut K, tally: &mut Tally) -> Result<bool, 
 fn put_sheet<K: Sink>(
     n: CueNo,
     refusal: Option<Refusal>,
-    console: &Console,
+    player: &Player,
     sink: &mut K,
     tally: &mut Tally,
 ) -> Result<bool, SinkFault>
     requires room { HasRoom tally.old }
     ensures cause { HasSinkCause K.faults K.wants sink.old sink.new result }
-    ensures text { (d : Desk) → StandsFor d console.now
+    ensures text { (d : Desk) → StandsFor d player.now
         → Puts K.holds K.faults K.wants sink.old sink.new result (reply_to d (Some (Line.SheetOf n)) refusal) }
-    ensures counts { (d : Desk) → StandsFor d console.now
+    ensures counts { (d : Desk) → StandsFor d player.now
         → OnOk result (counts_in tally.new ≡ counts_after d (counts_in tally.old) (Some (Line.SheetOf n)) refusal) }
     ensures more { IfOk result (λ more. more ≡ true) }
     ensures counted { HasOneMore tally.old tally.new }
 {
-    match console.tracked_row(n) {
+    match player.tracked_row(n) {
         Some(row) => give_row(n, row, sink),
         None => give(Reply::Refused(Refusal::AbsentCue(n)), sink, tally),
     }
@@ -140,12 +165,12 @@ fn give_row<K: Sink>(n: CueNo, row: &[Level], sink: &mut K) -> Result<bool, Sink
 }
 
 /// Appends the canonical text of the show.
-fn put_show<K: Sink>(console: &Console, sink: &mut K) -> Result<bool, SinkFault>
+fn put_show<K: Sink>(player: &Player, sink: &mut K) -> Result<bool, SinkFault>
     ensures cause { HasSinkCause K.faults K.wants sink.old sink.new result }
-    ensures text { (d : Desk) → StandsFor d console.now → Puts K.holds K.faults K.wants sink.old sink.new result (show_text d.show) }
+    ensures text { (d : Desk) → StandsFor d player.now → Puts K.holds K.faults K.wants sink.old sink.new result (show_text d.show) }
     ensures more { IfOk result (λ more. more ≡ true) }
 {
-    write_show(console.show(), sink)?;
+    write_show(player.show(), sink)?;
     Ok(true)
 }
 

@@ -1,8 +1,10 @@
 //! One script line on its way: its commands are attempted one after another.
 
 ghost use Rattle.std.specs.Prelude.{◌≡◌, ◌-◌, ◌<◌, ◌≤◌, true, false, Some, is_some, is_none, option_copied, IsOkAnd, IsTrue, IfSome};
+ghost use Rattle.lx_base.specs.declared.TheConstants.{UNIVERSES};
 ghost use Rattle.lx_spec.specs.Desk.{Desk};
 ghost use Rattle.lx_spec.specs.Script.{line_of};
+ghost use Rattle.lx_spec.specs.Show.{InRange};
 ghost use Rattle.lx_spec.specs.TwoLists.{where_of_second};
 ghost use Rattle.lx_spec.specs.ValidEdit.{ValidCommand};
 ghost use Rattle.lx_console.specs.Standing.{StandsFor};
@@ -122,7 +124,8 @@ impl Turn {
 
     /// The universe whose frame the line asks for, if it does.
     pub fn frame_universe(&self) -> Option<u8>
-        ensures { result ≡ frame_of self.now.meaning }
+        ensures universe { result ≡ frame_of self.now.meaning }
+        ensures valid { IfSome result (InRange UNIVERSES) }
     {
         match self.meaning.asked() {
             Asked::Frame(universe) => Some(*universe),

@@ -17,7 +17,6 @@ use Rattle.lx_spec.specs.RefusedPlaces.{is_edit}
 use Rattle.lx_spec.specs.Session.{command_of, count_of}
 use Rattle.lx_spec.specs.SessionOf.{SessionOf, at_desk}
 use Rattle.lx_spec.specs.Undo.{UndoState, replaced, undo_step}
-use Rattle.lx_spec.specs.ValidEdit.{ValidCommand, ValidLine}
 use Rattle.lx_console.specs.Standing.{StandsFor, Refuses}
 use Rattle.lx_session.specs.Attempts.{after_commands}
 use Rattle.lx_session.specs.LineState.{LineState, next_of, unattempted}
@@ -197,19 +196,3 @@ pub none_yet : (s : SessionOf UndoState) (turn : LineState) (u : UndoKept) → t
 none_yet s turn u start stands =
     begun true (HasReached s.state u (turn.left - turn.left)) (at_desk s.state.desk s) u.console stands.desk turn
     (ap (λ (t : LineState). t.refusal) start) (record { few = omega arith; stands = stands })
-
--- the command of a line whose numbers are in their range
-valid_of : (meaning : Option Line) (c : Command) → IfSome meaning ValidLine → command_of meaning ≡ Some c → ValidCommand c
-valid_of None c valid is = cc
-valid_of (Some (lines.Command command)) c valid is = let same : command ≡ c = cc in subst ValidCommand same valid
-valid_of (Some (lines.Ticks k)) c valid is = let tick : commands.Tick ≡ c = cc in subst ValidCommand tick tt
-valid_of (Some (lines.Frame u)) c valid is = cc
-valid_of (Some lines.Save) c valid is = cc
-valid_of (Some (lines.SheetOf n)) c valid is = cc
-valid_of (Some lines.Quit) c valid is = cc
-valid_of (Some lines.Blank) c valid is = cc
-
-pub valid_next : (old turn : LineState) (c : Command) → IfSome old.meaning ValidLine → turn.meaning ≡ old.meaning → next_of turn ≡ Some c
-    → ValidCommand c
-valid_next old turn c valid same some =
-    valid_of turn.meaning c (subst (λ (m : Option Line). IfSome m ValidLine) (sym same) valid) (next_is turn c some).command

@@ -12,7 +12,7 @@ use Rattle.lx_session.proofs.AnsweredLines.{answered}
 use Rattle.lx_lists.specs.Standing.{TwoKept}
 use Rattle.lx_lists.specs.Ticked.{Stays}
 use Rattle.lx_lists.proofs.TwoAnswers.{answered_second}
-use Rattle.lx_lists.proofs.LineAnswers.{second_start, second_valid, second_taken, second_more}
+use Rattle.lx_lists.proofs.LineAnswers.{second_start, second_valid, second_taken, second_more, second_no_frame}
 use Rattle.lx_lists.proofs.session.answer_second.Goals as goal
 
 pub attempt_second-requires-clause-start : goal.attempt_second-requires-clause-start
@@ -24,23 +24,27 @@ attempt_second-requires-clause-valid g c = second_valid c.args.rest.now c.begin_
 pub attempt_second-requires-clause-taken : goal.attempt_second-requires-clause-taken
 attempt_second-requires-clause-taken g c = second_taken c.args.rest.now c.begin_second-turn.result c.begin_second-turn.ensures
 
+pub finish_without_frame-requires-clause-no_frame : goal.finish_without_frame-requires-clause-no_frame
+finish_without_frame-requires-clause-no_frame g c = second_no_frame c.args.rest.now c.attempt_second.new.turn.meaning
+    (c.attempt_second.ensures.meaning ∙ ap (λ (t : LineState). t.meaning) c.begin_second-turn.ensures)
+
 pub returns-clause-answered : goal.returns-clause-answered
 returns-clause-answered g c = λ s text stands counted is.
     let desk : TwoKept = c.attempt_second.new.desk in
     let heard : List Command → Type 0 = Stays s.state.first desk.first in
-    let line = answered true heard g.K.Sink.holds g.K.Sink.faults g.K.Sink.wants c.args.sink.now c.finish.new.sink c.finish.result
+    let line = answered true heard g.K.Sink.holds g.K.Sink.faults g.K.Sink.wants c.args.sink.now c.finish_without_frame.new.sink c.finish_without_frame.result
     (at_desk s.state.second s) (where_of_second (line_of c.args.rest.now)) c.attempt_second.new.turn desk.second c.args.tally.now
-    c.finish.new.tally
+    c.finish_without_frame.new.tally
     (subst (λ (from : LineState). LineProgress true heard (at_desk s.state.second s) from c.attempt_second.new.turn desk.second)
     c.begin_second-turn.ensures (c.attempt_second.ensures.tried s stands)) c.attempt_second.ensures.over counted
-    (λ d stood. c.finish.ensures.text d (subst (StandsFor d) (sym c.list.ensures) stood))
-    (λ d stood. c.finish.ensures.counts d (subst (StandsFor d) (sym c.list.ensures) stood)) in
-    answered_second g.K.Sink.holds g.K.Sink.faults g.K.Sink.wants c.args.sink.now c.finish.new.sink c.finish.result s text desk
-    c.finish.new.tally is.second
-    (subst (λ (m : Option Line). LineAnswer true heard g.K.Sink.holds g.K.Sink.faults g.K.Sink.wants c.args.sink.now c.finish.new.sink
-    c.finish.result (at_desk s.state.second s) m desk.second c.finish.new.tally)
+    (λ d stood. c.finish_without_frame.ensures.text d (subst (StandsFor d) (sym c.list.ensures) stood))
+    (λ d stood. c.finish_without_frame.ensures.counts d (subst (StandsFor d) (sym c.list.ensures) stood)) in
+    answered_second g.K.Sink.holds g.K.Sink.faults g.K.Sink.wants c.args.sink.now c.finish_without_frame.new.sink c.finish_without_frame.result s text desk
+    c.finish_without_frame.new.tally is.second
+    (subst (λ (m : Option Line). LineAnswer true heard g.K.Sink.holds g.K.Sink.faults g.K.Sink.wants c.args.sink.now c.finish_without_frame.new.sink
+    c.finish_without_frame.result (at_desk s.state.second s) m desk.second c.finish_without_frame.new.tally)
     (ap (λ (rest : List ℕ). where_of_second (line_of rest)) is.is) line)
 
 pub returns-clause-more : goal.returns-clause-more
-returns-clause-more g c = second_more c.finish.result c.args.rest.now c.attempt_second.new.turn.meaning
-    (c.attempt_second.ensures.meaning ∙ ap (λ (t : LineState). t.meaning) c.begin_second-turn.ensures) c.finish.ensures.quit
+returns-clause-more g c = second_more c.finish_without_frame.result c.args.rest.now c.attempt_second.new.turn.meaning
+    (c.attempt_second.ensures.meaning ∙ ap (λ (t : LineState). t.meaning) c.begin_second-turn.ensures) c.finish_without_frame.ensures.quit

@@ -2,18 +2,13 @@ use Rattle.std.proofs.Common.{ap, sym, subst}
 use Rattle.lx_session.specs.LineReply.{reply_to, counts_in}
 use Rattle.lx_session.specs.Meanings.{Asks}
 use Rattle.lx_io.proofs.Chain.{Puts-is}
-use Rattle.lx_session.proofs.Replies.{frame_reply, frame_counts, save_reply, save_counts, on_ok, sheet_counts}
+use Rattle.lx_session.proofs.Replies.{no_frame, save_reply, save_counts, on_ok, sheet_counts}
 use Rattle.lx_session.proofs.finish.reply_to_line.Goals as goal
 
-pub returns-in-Frame-clause-text : goal.returns-in-Frame-clause-text
-returns-in-Frame-clause-text g c =
+pub unreachable-requires : goal.unreachable-requires
+unreachable-requires g c =
     let asks = subst (λ a. Asks a c.args.meaning.now) c.in-Frame.is c.asked.ensures in
-    λ d stands. Puts-is (c.put_universe.ensures.text d stands) (frame_reply d _ _ _ asks.0)
-
-pub returns-in-Frame-clause-counts : goal.returns-in-Frame-clause-counts
-returns-in-Frame-clause-counts g c =
-    let asks = subst (λ a. Asks a c.args.meaning.now) c.in-Frame.is c.asked.ensures in
-    λ d stands. on_ok _ _ (frame_counts d _ _ _ _ asks.0)
+    no_frame c.args.meaning.now _ asks.0 c.requires.no_frame
 
 pub returns-in-Save-clause-text : goal.returns-in-Save-clause-text
 returns-in-Save-clause-text g c =

@@ -1,7 +1,24 @@
-use Rattle.lx_lists.proofs.OpenedLists.{opened_kept}
+use Rattle.std.proofs.Common.{ap, sym, subst}
+use Rattle.lx_spec.specs.Show.{Show}
+use Rattle.lx_spec.specs.Kept.{Kept}
+use Rattle.lx_patch.specs.DimmerTable.{StandsForPatch}
+use Rattle.lx_lists.specs.Filled.{HasRoom}
+use Rattle.lx_lists.proofs.OpenedLists.{opened_channels, opened_kept}
 use Rattle.lx_lists.proofs.desk.TwoLists.open.Goals as goal
 
+pub fill-requires-clause-channels : goal.fill-requires-clause-channels
+fill-requires-clause-channels c = opened_channels c.args.show c.leave_first.new.show c.in_ok-second_of.field-0 c.in_ok-first.first
+    c.in_ok-second.second c.leave_first.ensures c.in_ok-second_of.ensures c.in_ok-first.ensures c.in_ok-second.ensures
+
+pub fill-requires-clause-room : goal.fill-requires-clause-room
+fill-requires-clause-room c = subst (λ (s : Show). HasRoom s c.in_ok-output.output)
+    (sym (ap (λ (k : Kept). k.show) c.in_ok-first.ensures.same)) c.in_ok-output.ensures.room
+
+pub fill-requires-clause-patch : goal.fill-requires-clause-patch
+fill-requires-clause-patch c = subst (λ (s : Show). StandsForPatch s.patch c.in_ok-output.output.stage.table)
+    (sym (ap (λ (k : Kept). k.show) c.in_ok-first.ensures.same)) c.in_ok-output.ensures.patch
+
 pub invariant_of-result : goal.invariant_of-result
-invariant_of-result c = opened_kept c.args.show c.leave_first.new.show c.in_ok-second_of.field-0 c.in_ok-first.first c.in_ok-second.second
-    c.in_ok-rack.rack c.in_ok-output.output c.fill.new.self c.leave_first.ensures c.in_ok-second_of.ensures c.in_ok-first.ensures
-    c.in_ok-second.ensures c.in_ok-rack.ensures.stands c.in_ok-rack.ensures.faders c.in_ok-output.ensures c.fill.ensures
+invariant_of-result c = opened_kept c.args.show c.leave_first.new.show c.in_ok-second_of.field-0 c.in_ok-first.first
+    c.in_ok-second.second c.fill.new.self c.leave_first.ensures c.in_ok-second_of.ensures c.in_ok-first.ensures c.in_ok-second.ensures
+    c.fill.ensures

@@ -1,16 +1,20 @@
-use Rattle.lx_lists.proofs.KeptLists.{next_second, ready_second, second_kept}
+use Rattle.std.proofs.Common.{◌∙◌}
+use Rattle.lx_lists.proofs.KeptLists.{same_channels, same_outputs, as_before, filled_still, second_kept, second_no_tick}
 use Rattle.lx_lists.proofs.desk.TwoLists.second.Goals as goal
 
-pub refill-requires-clause-ready : goal.refill-requires-clause-ready
-refill-requires-clause-ready c =
-    let next = next_second c.args.command.now c.in_ok-command.field-0 c.self.inside.first c.self.inside.second c.command.new.self
-    c.self.inside.rack c.self.inside.output c.self.invariant c.in_ok-command.ensures.answers in
-    ready_second c.args.command.now c.self.inside.first c.self.inside.second c.command.new.self c.self.inside.rack c.self.inside.output
-    c.self.invariant.ready next.after
+pub refill-requires-clause-channels : goal.refill-requires-clause-channels
+refill-requires-clause-channels c =
+    same_channels c.in_ok-change.change c.self.inside.second c.command.new.self c.in_ok-change.ensures.changes ∙ c.self.invariant.channels
 
 pub invariant_of-self-2 : goal.invariant_of-self-2
-invariant_of-self-2 c =
-    let next = next_second c.args.command.now c.in_ok-command.field-0 c.self.inside.first c.self.inside.second c.command.new.self
-    c.self.inside.rack c.self.inside.output c.self.invariant c.in_ok-command.ensures.answers in
-    second_kept c.args.command.now c.self.inside.first c.self.inside.second c.command.new.self c.self.inside.rack c.self.inside.output
-    c.refill.new.self c.self.invariant next c.requires.taken c.refill.ensures
+invariant_of-self-2 c = second_kept c.args.command.now c.in_ok-change.change c.in_ok-change.change c.self.inside.first c.self.inside.second
+    c.command.new.self c.self.inside.output c.refill.new.self c.self.invariant c.in_ok-change.ensures.answers
+    c.in_ok-change.ensures.changes (c.in_ok-change.ensures.moment (second_no_tick c.args.command.now c.requires.taken)) c.refill.ensures
+
+pub invariant_of-self-else-not : goal.invariant_of-self-else-not
+invariant_of-self-else-not c = second_kept c.args.command.now c.in_ok-change.change c.in_ok-change.change c.self.inside.first
+    c.self.inside.second c.command.new.self c.self.inside.output c.self.inside.output c.self.invariant c.in_ok-change.ensures.answers
+    c.in_ok-change.ensures.changes (c.in_ok-change.ensures.moment (second_no_tick c.args.command.now c.requires.taken))
+    (filled_still c.self.inside.first c.self.inside.second c.self.inside.first c.command.new.self c.self.inside.output
+    c.self.invariant.channels c.self.invariant.filled (as_before c.self.inside.first)
+    (same_outputs c.in_ok-change.change c.self.inside.second c.command.new.self ? c.in_ok-change.ensures.changes))

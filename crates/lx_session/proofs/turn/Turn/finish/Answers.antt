@@ -1,8 +1,34 @@
-use Rattle.std.proofs.Common.{ap}
+use Rattle.std.proofs.Common.{ℕ, Option, sym, subst, ◌∙◌}
+use Rattle.std.specs.Prelude.{IfSome}
+use Rattle.lx_base.specs.declared.TheConstants.{UNIVERSES}
+use Rattle.lx_spec.specs.Show.{InRange}
 use Rattle.lx_io.proofs.Chain.{Puts-is}
-use Rattle.lx_session.specs.LineReply.{reply_to}
+use Rattle.lx_console.specs.Standing.{StandsFor}
+use Rattle.lx_session.proofs.Replies.{frame_is, frame_reply, frame_counts, frame_goes_on, on_ok}
 use Rattle.lx_session.proofs.turn.Turn.finish.Goals as goal
 
-pub returns-clause-text : goal.returns-clause-text
-returns-clause-text g c = λ d stands.
-    Puts-is (c.reply_to_line.ensures.text d stands) (ap (λ t. reply_to d t.meaning t.refusal) c.self.view_is)
+pub put_universe-requires-clause-least : goal.put_universe-requires-clause-least
+put_universe-requires-clause-least g c =
+    (subst (λ (o : Option ℕ). IfSome o (InRange UNIVERSES)) c.in-Some.is c.frame_universe.ensures.valid).least
+
+pub put_universe-requires-clause-most : goal.put_universe-requires-clause-most
+put_universe-requires-clause-most g c =
+    (subst (λ (o : Option ℕ). IfSome o (InRange UNIVERSES)) c.in-Some.is c.frame_universe.ensures.valid).most
+
+pub returns-in-Some-clause-text : goal.returns-in-Some-clause-text
+returns-in-Some-clause-text g c = λ d stands. Puts-is (c.put_universe.ensures.text d stands)
+    (frame_reply d _ _ _ (frame_is _ _ (sym c.frame_universe.ensures.universe ∙ c.in-Some.is)))
+
+pub returns-in-Some-clause-counts : goal.returns-in-Some-clause-counts
+returns-in-Some-clause-counts g c = λ d stands. on_ok _ _
+    (frame_counts d _ _ _ _ (frame_is _ _ (sym c.frame_universe.ensures.universe ∙ c.in-Some.is)))
+
+pub returns-in-Some-clause-quit : goal.returns-in-Some-clause-quit
+returns-in-Some-clause-quit g c = frame_goes_on c.args.self.now.meaning c.in-Some.universe c.put_universe.result
+    (frame_is _ _ (sym c.frame_universe.ensures.universe ∙ c.in-Some.is)) c.put_universe.ensures.more
+
+pub returns-in-None-clause-text : goal.returns-in-None-clause-text
+returns-in-None-clause-text g c = λ d stands. c.finish_without_frame.ensures.text d (subst (StandsFor d) (sym c.player.ensures) stands)
+
+pub returns-in-None-clause-counts : goal.returns-in-None-clause-counts
+returns-in-None-clause-counts g c = λ d stands. c.finish_without_frame.ensures.counts d (subst (StandsFor d) (sym c.player.ensures) stands)
