@@ -159,17 +159,6 @@ none_second s turn t start stand =
     begun true (Stays s.state.first t.first) (at_desk s.state.second s) t.second stand.second turn
     (ap (λ (u : LineState). u.refusal) start) stand.first
 
--- a line of the second list has one command at most
-pub one_at_most : (meaning : Option Line) → IfSome (command_of meaning) (λ c. IsTrue (commands_second c)) → count_of meaning ≤ 1
-one_at_most None taken = omega arith
-one_at_most (Some (lines.Command c)) taken = omega arith
-one_at_most (Some (lines.Ticks k)) taken = absurd cc
-one_at_most (Some (lines.Frame u)) taken = omega arith
-one_at_most (Some lines.Save) taken = omega arith
-one_at_most (Some (lines.SheetOf n)) taken = omega arith
-one_at_most (Some lines.Quit) taken = omega arith
-one_at_most (Some lines.Blank) taken = omega arith
-
 pub other_tick : (c : Command) → (c ≡ commands.Tick → ⊥) → is_tick c ≡ false
 other_tick (commands.Edit edit) other = refl
 other_tick (commands.Key key) other = refl
