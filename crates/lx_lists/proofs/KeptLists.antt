@@ -165,19 +165,3 @@ both_tick d e first second now refusal stands stands' moments ok refused =
     let before_end : (d.playback.moment == TICK_END) ≡ false =
     early d (λ next. StandsFor next now) (d.playback.moment == TICK_END) ok in
     no_refusal e (e.playback.moment == TICK_END) refusal (ap (λ (m : ℕ). m == TICK_END) of_desks ∙ before_end) refused
-
-late : (d : Desk) (b : Bool) (refusal : Refusal) → Ticks d b ≡ Err refusal → (b ≡ true) × (TickLimit TICK_END ≡ refusal)
-late d true refusal is = (refl, cc)
-late d false refusal is = absurd cc
-
-refused_late : (d : Desk) (b : Bool) (refusal : Refusal) → b ≡ true → TickLimit TICK_END ≡ refusal → Ticks d b ≡ Err refusal
-refused_late d true refusal is same = ap Err same
-refused_late d false refusal is same = absurd cc
-
-pub both_refuse : (d e : Desk) (first second : Kept) (refusal : Refusal) → StandsFor d first → StandsFor e second
-    → second.playback.moment ≡ first.playback.moment → step d commands.Tick ≡ Err refusal → step e commands.Tick ≡ Err refusal
-both_refuse d e first second refusal stands stands' moments refused =
-    let of_desks : e.playback.moment ≡ d.playback.moment = sym (ap (λ (k : Kept). k.playback.moment) stands'.same) ∙ moments
-    ∙ ap (λ (k : Kept). k.playback.moment) stands.same in
-    let end = late d (d.playback.moment == TICK_END) refusal refused in
-    refused_late e (e.playback.moment == TICK_END) refusal (ap (λ (m : ℕ). m == TICK_END) of_desks ∙ end.0) end.1

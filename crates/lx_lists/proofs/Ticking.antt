@@ -1,22 +1,19 @@
 -- One attempt more of a line, and what it makes of the other list.
-use Rattle.std.proofs.Common.{◌≡◌, ◌-◌, ◌≤◌, Bool, true, false, Option, Some, None, Result, Ok, Err, List, [], ◌++◌}
-use Rattle.std.proofs.Common.{refl, sym, ap, subst, arith, inl, inr, IsOkAnd}
-use Rattle.std.specs.Prelude.{◌⊎◌, OnErr, IfSome, IsOk, IsTrue, filter, fold, if◌then◌else◌}
+use Rattle.std.proofs.Common.{◌≡◌, ◌-◌, true, false, Option, Some, None, Result, Ok, Err, List, [], ◌++◌}
+use Rattle.std.proofs.Common.{refl, sym, ap, subst, inl, inr, IsOkAnd}
+use Rattle.std.specs.Prelude.{◌⊎◌, OnErr, IsOk, filter, fold}
 use Rattle.std.specs.Result.{result_err, result_unwrap_or}
 use Rattle.std.proofs.lemmas.List.Sums.{fold-append}
 use Rattle.std.proofs.lemmas.List.Elements.{filter-append}
 use Rattle.lx_spec.specs.declared.Command.{Command}
 use Rattle.lx_spec.specs.declared.Command.TheVariants as commands
-use Rattle.lx_spec.specs.declared.Line.{Line}
-use Rattle.lx_spec.specs.declared.Line.TheVariants as lines
 use Rattle.lx_spec.specs.declared.Refusal.{Refusal}
 use Rattle.lx_spec.specs.FirstRefusal.{◌>>=◌}
 use Rattle.lx_spec.specs.Desk.{Desk, step, after_command}
 use Rattle.lx_spec.specs.Kept.{Kept}
 use Rattle.lx_spec.specs.RefusedPlaces.{is_edit}
-use Rattle.lx_spec.specs.Session.{command_of, count_of}
 use Rattle.lx_spec.specs.SessionOf.{SessionOf, at_desk}
-use Rattle.lx_spec.specs.TwoLists.{TwoDesks, is_tick, commands_second, first_step, second_step}
+use Rattle.lx_spec.specs.TwoLists.{TwoDesks, is_tick, first_step, second_step}
 use Rattle.lx_console.specs.Standing.{StandsFor, Obeys, Refuses}
 use Rattle.lx_session.specs.Attempts.{Attempted, heard_of}
 use Rattle.lx_session.specs.LineState.{LineState, next_of, unattempted}
