@@ -261,16 +261,24 @@ attempted_at all heard heard' s old turn c before_it after_it (Some refusal) fal
     (λ places is. attempt-wanted places t.now c is ∙ ap (λ r. record { session = refused_by t.now; refusal = Some r }) (sym a.1))
     (λ e all. let no : false ≡ true = every all in absurd cc) a.0 joins
 
+pub attempted_so : (all : Bool) (heard heard' : List Command → Type 0) (s : Session) (old turn turn' : LineState) (c : Command)
+    (refusal : Option Refusal) (before_it after_it : Kept) → LineProgress all heard s old turn before_it → next_of turn ≡ Some c
+    → ((d : Desk) → StandsFor d before_it → ListenedAttempt all d c refusal after_it) → Joins heard heard' (heard_of c refusal)
+    → turn' ≡ record turn { left = turn.left - 1; refusal = refusal }
+    → LineProgress all heard' s old turn' after_it
+attempted_so all heard heard' s old turn turn' c refusal before_it after_it t some a joins is =
+    let one = a t.now.desk t.stands in
+    subst (λ v. LineProgress all heard' s old v after_it) (sym is)
+    (attempted_at all heard heard' s old turn c before_it after_it refusal one.admitted t (next_is turn c some) one.is_all
+    one.attempted joins)
+
 pub attempted : (all : Bool) (heard heard' : List Command → Type 0) (s : Session) (old turn turn' : LineState) (c : Command)
     (before_it after_it : Kept) → LineProgress all heard s old turn before_it → next_of turn ≡ Some c
     → ((d : Desk) → StandsFor d before_it → ListenedAttempt all d c turn'.refusal after_it) → Joins heard heard' (heard_of c turn'.refusal)
     → turn' ≡ record turn { left = turn.left - 1; refusal = turn'.refusal }
     → LineProgress all heard' s old turn' after_it
 attempted all heard heard' s old turn turn' c before_it after_it t some a joins is =
-    let one = a t.now.desk t.stands in
-    subst (λ v. LineProgress all heard' s old v after_it) (sym is)
-    (attempted_at all heard heard' s old turn c before_it after_it turn'.refusal one.admitted t (next_is turn c some) one.is_all
-    one.attempted joins)
+    attempted_so all heard heard' s old turn turn' c turn'.refusal before_it after_it t some a joins is
 
 -- the console is another that stands for the same desk
 elsewhere : (all : Bool) (heard : List Command → Type 0) (s : Session) (old turn : LineState) (before_it after_it : Kept)
@@ -351,21 +359,6 @@ passed all heard one s old turn turn' before_it after_it t p joins =
     (some_ticks p.ticks all heard s old turn before_it after_it t p.tick p.within
     (λ some done h. joins done h (p.listened some)) (p.stands t.now.desk t.stands))
 
--- what one attempt at the next command comes to, of a listener's answer
-over_some : (o : Option Command) (c : Command) (P : Command → Type 0) → o ≡ Some c → IfSome o P → P c
-over_some None c P e p = cc
-over_some (Some x) c P e p = let same : x ≡ c = cc in subst P same p
-
-pub listened : (all admitted : Bool) (turn : LineState) (c : Command) (refusal : Option Refusal) (before_it after_it : Kept)
-    → next_of turn ≡ Some c → (all ≡ true → admitted ≡ true)
-    → ((d : Desk) → StandsFor d before_it → IfSome (next_of turn) (λ command. Attempted admitted d command refusal after_it)) → (d : Desk)
-    → StandsFor d before_it → ListenedAttempt all d c refusal after_it
-listened all admitted turn c refusal before_it after_it next every a d stands = record {
-  admitted = admitted;
-  is_all = every;
-  attempted = over_some (next_of turn) c (λ command. Attempted admitted d command refusal after_it) next (a d stands);
-}
-
 -- the step of an attempt that was accepted
 step_of : (admitted : Bool) (d : Desk) (c : Command) (refusal : Option Refusal) (console : Kept) → is_none refusal ≡ true
     → Attempted admitted d c refusal console → IsOkAnd (step d c) (λ next. StandsFor next console)
@@ -373,13 +366,9 @@ step_of true d c None console none a = a
 step_of false d c None console none a = absurd a
 step_of admitted d c (Some refusal) console none a = cc
 
-pub accepted_step : (admitted : Bool) (turn : LineState) (c : Command) (refusal : Option Refusal) (before_it after_it : Kept)
-    → next_of turn ≡ Some c → is_none refusal ≡ true
-    → ((d : Desk) → StandsFor d before_it → IfSome (next_of turn) (λ command. Attempted admitted d command refusal after_it))
-    → AcceptedStep before_it c after_it
-accepted_step admitted turn c refusal before_it after_it next none a d stands =
-    step_of admitted d c refusal after_it none
-    (over_some (next_of turn) c (λ command. Attempted admitted d command refusal after_it) next (a d stands))
+pub accepted_step : (admitted : Bool) (c : Command) (refusal : Option Refusal) (before_it after_it : Kept) → is_none refusal ≡ true
+    → ((d : Desk) → StandsFor d before_it → Attempted admitted d c refusal after_it) → AcceptedStep before_it c after_it
+accepted_step admitted c refusal before_it after_it none a d stands = step_of admitted d c refusal after_it none (a d stands)
 
 -- what was heard of, by whether the attempt was accepted
 pub heard_accepted : (heard : List Command → Type 0) (c : Command) (refusal : Option Refusal) → is_none refusal ≡ true → heard (c ∷ [])

@@ -1,4 +1,5 @@
 pub mod AttemptSteps
+pub mod ValidNext
 pub mod ShownDesk
 pub mod Replies
 pub mod RepliedLines

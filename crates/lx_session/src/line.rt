@@ -1,10 +1,10 @@
 //! One line, from its bytes to its reply.
 
-ghost use Rattle.std.specs.Prelude.{◌≡◌, ◌-◌, ◌++◌, IfOk, None, Some, not, true, option_copied};
+ghost use Rattle.std.specs.Prelude.{◌≡◌, ◌++◌, IfOk, IfSome, None, Some, not, true, option_copied};
 ghost use Rattle.lx_io.specs.Puts.{HasSinkCause};
 ghost use Rattle.lx_spec.specs.Desk.{Desk};
-ghost use Rattle.lx_spec.specs.Session.{is_quit};
-ghost use Rattle.lx_spec.specs.Session.{Session};
+ghost use Rattle.lx_spec.specs.Session.{Session, is_quit};
+ghost use Rattle.lx_spec.specs.ValidEdit.{ValidCommand, ValidLine};
 ghost use Rattle.lx_console.specs.Standing.{StandsFor};
 ghost use Rattle.lx_session.specs.Attempts.{ListenedAttempt, heard_of};
 ghost use Rattle.lx_session.specs.LineState.{meaning_of, next_of};
@@ -14,10 +14,10 @@ ghost use Rattle.lx_session.specs.LineAnswer.{LineAnswer, FromDesk};
 
 use crate::listener::Listener;
 use crate::tally::Tally;
-use crate::turn::Turn;
+use crate::turn::{Turn, try_command};
 use lx_console::Console;
 use lx_io::{Sink, SinkFault};
-use lx_spec::Command;
+use lx_spec::{Command, Refusal};
 
 /// Does what a line asks for, then appends its replies and counts them. None stands for a line that is too
 /// long, which is bad. It answers false exactly for `quit`.
@@ -50,6 +50,7 @@ pub(crate) fn answer<L: Listener, K: Sink>(
 /// Attempts the commands of a line.
 fn attempt_all<L: Listener>(listener: &mut L, turn: &mut Turn, console: &mut Console)
     requires start { turn.old.refusal ≡ None }
+    requires valid { IfSome turn.old.meaning ValidLine }
     requires keeps { L.keeps listener.old console.old }
     ensures keeps { L.keeps listener.new console.new }
     ensures meaning { turn.new.meaning ≡ turn.old.meaning }
@@ -59,8 +60,8 @@ fn attempt_all<L: Listener>(listener: &mut L, turn: &mut Turn, console: &mut Con
 {
     pass_ticks(listener, turn, console);
     'commands: while let Some(command) = turn.next() {
-        let command = command.copy();
-        attempt_one(listener, turn, &command, console);
+        let refusal = attempt_one(listener, command, console);
+        turn.attempted(refusal);
         pass_ticks(listener, turn, console);
     }
 }
@@ -77,23 +78,23 @@ fn pass_ticks<L: Listener>(listener: &L, turn: &mut Turn, console: &mut Console)
     turn.pass_ticks(console);
 }
 
-/// Attempts the next command of a line, which is this one.
+/// Attempts a command that the listener is asked to admit, and hears of where it is accepted. It says the refusal, if it is
+/// refused.
 fn attempt_one<L: Listener>(
     listener: &mut L,
-    turn: &mut Turn,
     command: &Command,
     console: &mut Console,
-)
-    requires next { next_of turn.old ≡ Some command.now }
+) -> Option<Refusal>
+    requires valid { ValidCommand command.now }
     requires keeps { L.keeps listener.old console.old }
     ensures keeps { L.keeps listener.new console.new }
-    ensures attempted { (d : Desk) → StandsFor d console.old → ListenedAttempt L.admits_all d command.now turn.new.refusal console.new }
-    ensures heard { L.heard listener.old listener.new (heard_of command.now turn.new.refusal) }
-    ensures turn { turn.new ≡ record turn.old { left = turn.old.left - 1; refusal = turn.new.refusal } }
+    ensures attempted { (d : Desk) → StandsFor d console.old → ListenedAttempt L.admits_all d command.now result console.new }
+    ensures heard { L.heard listener.old listener.new (heard_of command.now result) }
 {
     let admitted = listener.admit(command);
-    if !turn.attempt(console, admitted) {
-        return;
+    let refusal = try_command(command, console, admitted);
+    if refusal.is_none() {
+        listener.hear(command, console);
     }
-    listener.hear(command, console);
+    refusal
 }

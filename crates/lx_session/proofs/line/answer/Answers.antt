@@ -1,9 +1,14 @@
-use Rattle.std.proofs.Common.{subst}
+use Rattle.std.proofs.Common.{ap, subst}
 use Rattle.std.specs.Prelude.{option_copied}
-use Rattle.lx_session.specs.LineState.{meaning_of}
+use Rattle.lx_session.specs.LineState.{LineState, meaning_of}
 use Rattle.lx_session.specs.LineProgress.{LineProgress}
 use Rattle.lx_session.proofs.AnsweredLines.{answered}
+use Rattle.lx_session.proofs.ValidNext.{valid_meaning}
 use Rattle.lx_session.proofs.line.answer.Goals as goal
+
+pub attempt_all-requires-clause-valid : goal.attempt_all-requires-clause-valid
+attempt_all-requires-clause-valid g c =
+    valid_meaning (option_copied c.args.line) c.begin_again.new.self.meaning (ap (λ (t : LineState). t.meaning) c.begin_again.ensures)
 
 pub returns-clause-answered : goal.returns-clause-answered
 returns-clause-answered g c = λ s stands counted.

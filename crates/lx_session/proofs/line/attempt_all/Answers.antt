@@ -2,7 +2,8 @@ use Rattle.std.proofs.Common.{◌≡◌, ◌∙◌, ap, sym, Some, [], ◌∷◌
 use Rattle.lx_spec.specs.declared.Command.TheVariants as commands
 use Rattle.lx_session.specs.Attempts.{heard_of}
 use Rattle.lx_session.specs.LineState.{next_of}
-use Rattle.lx_session.proofs.AttemptSteps.{begun, attempted, passed}
+use Rattle.lx_session.proofs.AttemptSteps.{begun, attempted_so, passed}
+use Rattle.lx_session.proofs.ValidNext.{valid_next}
 use Rattle.lx_session.proofs.line.attempt_all.Goals as goal
 
 pub commands-init : goal.commands-init
@@ -22,23 +23,27 @@ commands-init g c =
 
 pub commands-preserved : goal.commands-preserved
 commands-preserved g c =
-    let command = c.copy-command.result in
-    let next : next_of c.commands.turn ≡ Some command = sym c.in-Some.ensures ∙ ap Some (sym c.copy-command.ensures) in
+    let command = c.in-Some.command.now in
+    let next : next_of c.commands.turn ≡ Some command = sym c.in-Some.ensures in
     let first = c.args.listener.now in
-    let here = c.attempt_one.new.listener in
+    let here = c.attempt_one-refusal.new.listener in
     record {
       keeps = c.pass_ticks-in-Some.ensures.keeps;
-      meaning = ap (λ t. t.meaning) c.pass_ticks-in-Some.ensures.passed.turn ∙ ap (λ t. t.meaning) c.attempt_one.ensures.turn
+      meaning = ap (λ t. t.meaning) c.pass_ticks-in-Some.ensures.passed.turn ∙ ap (λ t. t.meaning) c.attempted.ensures
           ∙ c.commands.invariant.meaning;
       progress = λ s stands.
           passed g.L.Listener.admits_all (g.L.Listener.heard first here) (g.L.Listener.heard here here) s c.args.turn.now
-          c.attempt_one.new.turn c.pass_ticks-in-Some.new.turn c.attempt_one.new.console c.pass_ticks-in-Some.new.console
+          c.attempted.new.self c.pass_ticks-in-Some.new.turn c.attempt_one-refusal.new.console c.pass_ticks-in-Some.new.console
           (
-          attempted g.L.Listener.admits_all (g.L.Listener.heard first c.commands.listener) (g.L.Listener.heard first here) s
-          c.args.turn.now c.commands.turn c.attempt_one.new.turn command c.commands.console c.attempt_one.new.console
-          (c.commands.invariant.progress s stands) next c.attempt_one.ensures.attempted
+          attempted_so g.L.Listener.admits_all (g.L.Listener.heard first c.commands.listener) (g.L.Listener.heard first here) s
+          c.args.turn.now c.commands.turn c.attempted.new.self command c.attempt_one-refusal.result c.commands.console c.attempt_one-refusal.new.console
+          (c.commands.invariant.progress s stands) next c.attempt_one-refusal.ensures.attempted
           (λ commands h. g.met.L.Listener.both first c.commands.listener here commands
-          (heard_of command c.attempt_one.new.turn.refusal) h c.attempt_one.ensures.heard) c.attempt_one.ensures.turn
+          (heard_of command c.attempt_one-refusal.result) h c.attempt_one-refusal.ensures.heard) c.attempted.ensures
           ) c.pass_ticks-in-Some.ensures.passed
           (λ done h one. g.met.L.Listener.both first here here done (commands.Tick ∷ []) h one);
     }
+
+pub attempt_one-refusal-requires-clause-valid : goal.attempt_one-refusal-requires-clause-valid
+attempt_one-refusal-requires-clause-valid g c =
+    valid_next c.args.turn.now c.commands.turn c.in-Some.command.now c.requires.valid c.commands.invariant.meaning (sym c.in-Some.ensures)
