@@ -5,3 +5,4 @@ pub mod AllRuns
 pub mod Obeying
 pub mod Played
 pub mod PassedTicks
+pub mod Apart

@@ -115,7 +115,7 @@ pub same_reach : (show after : Show) (plan : Plan) (faders given : List ℕ) →
 same_reach show after plan faders given is table = table.reach ∙ sym (ap (λ (s : Show). s.channels) is ∙ same_channels show plan)
 
 -- the channel of a place
-in_show : (channels k : ℕ) → k < channels → InRange channels (k + 1)
+pub in_show : (channels k : ℕ) → k < channels → InRange channels (k + 1)
 in_show channels k within = record { least = omega arith; most = omega arith }
 
 -- a channel that isn't touched keeps what its levels stand for

@@ -23,6 +23,7 @@ ghost use Rattle.lx_console.specs.Ticks.{after_ticks};
 use crate::levels::recompute_touched;
 use crate::stage::{Stage, mend_subs, reaches_stage};
 use crate::ticks::{pass_ticks, press_key, tick_of};
+use crate::unseen::{placed_alone, seen};
 use lx_base::{Chan, CueNo, Level, Moment, SLOTS, SubNo, UNIVERSES};
 use lx_edit::planning::plan;
 use lx_edit::{Exchanged, Plan};
@@ -253,14 +254,17 @@ impl Console {
         ensures undo { TakesBack self.old.show self.new.show result }
         ensures stands { (d : Desk) → StandsFor d self.old → StandsFor (record d { show = planned self.old.show plan }) self.new }
     {
+        let placed = placed_alone(&plan);
+        let _ = self.show.channels();
         let Exchanged { dirty, undo } = plan.exchange(&mut self.show, &mut self.sheet);
         if reaches_stage(&dirty) {
+            let seen = seen(&self.show, &self.playback, placed, &dirty.chans);
             recompute_touched(
                 &mut self.levels,
                 &self.show,
                 &self.sheet,
                 &self.playback,
-                &dirty.chans,
+                &seen,
             );
             mend_subs(&mut self.rack, &self.show, dirty.subs);
             self.stage.mend(

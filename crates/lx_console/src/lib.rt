@@ -6,6 +6,7 @@ pub mod laws;
 mod levels;
 mod stage;
 mod ticks;
+mod unseen;
 
 pub use console::Console;
 pub use stage::Stage;
