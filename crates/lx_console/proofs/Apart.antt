@@ -1,6 +1,7 @@
 -- Edited channels at which the playback doesn't look.
 use Rattle.std.proofs.Common.{◌≡◌, ℕ, ◌+◌, ◌<◌, ◌≤◌, inl, inr, Bool, true, false, cond, List, [], ◌∷◌, refl, ◌∙◌, sym, ap, subst, arith}
-use Rattle.std.specs.Prelude.{slice_index_or, Option, Some, None, IfSome, find, take, zero, suc, nat_lt, option_map, option_and_then, is_some, not, unwrap_or, ◌||◌, ◌==◌, if◌then◌else◌}
+use Rattle.std.specs.Prelude.{Option, Some, None, IfSome, option_map, option_and_then, is_some, unwrap_or, find, take, slice_index_or}
+use Rattle.std.specs.Prelude.{zero, suc, nat_lt, not, ◌||◌, ◌==◌, if◌then◌else◌}
 use Rattle.std.specs.Option.{option_map_or, IsSomeAnd}
 use Rattle.std.specs.List.{All}
 use Rattle.lx_spec.specs.declared.Move.{Move}
