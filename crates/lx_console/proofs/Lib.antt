@@ -6,3 +6,4 @@ pub mod AllRuns
 pub mod Obeying
 pub mod Played
 pub mod PassedTicks
+pub mod Apart

@@ -5,3 +5,4 @@ pub mod Filled
 pub mod Laws
 pub mod Played
 pub mod Ticks
+pub mod Unseen

@@ -89,7 +89,7 @@ pub(crate) fn recompute_touched(
 }
 
 /// The channel whose value stands at the place.
-fn channel_at(place: usize) -> Chan
+pub(crate) fn channel_at(place: usize) -> Chan
     requires { place < CHANNELS }
     ensures { result ≡ place + 1 }
 {

@@ -8,6 +8,7 @@ mod levels;
 mod player;
 mod stage;
 mod ticks;
+mod unseen;
 
 pub use change::Change;
 pub use console::Console;

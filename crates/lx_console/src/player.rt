@@ -25,6 +25,7 @@ ghost use Rattle.lx_console.specs.Ticks.{after_ticks};
 use crate::change::Change;
 use crate::levels::recompute_touched;
 use crate::ticks::{press_key, tick_of};
+use crate::unseen::{placed_alone, seen};
 use lx_base::{Chan, CueNo, Level, Moment, SubNo};
 use lx_edit::planning::plan;
 use lx_edit::{Exchanged, Plan};
@@ -269,13 +270,16 @@ impl Player {
         ensures stands { (d : Desk) → StandsFor d self.old → StandsFor (record d { show = planned self.old.show plan }) self.new }
         ensures changes { Changes result.change self.old self.new }
     {
+        let placed = placed_alone(&plan);
+        let _ = self.show.channels();
         let Exchanged { dirty, undo } = plan.exchange(&mut self.show, &mut self.sheet);
+        let seen = seen(&self.show, &self.playback, placed, &dirty.chans);
         recompute_touched(
             &mut self.levels,
             &self.show,
             &self.sheet,
             &self.playback,
-            &dirty.chans,
+            &seen,
         );
         mend_subs(&mut self.rack, &self.show, dirty.subs);
         Applied {

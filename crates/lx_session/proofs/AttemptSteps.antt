@@ -10,14 +10,12 @@ use Rattle.std.proofs.lemmas.Bool.Decides.{nat_tests}
 use Rattle.lx_spec.specs.declared.Command.{Command}
 use Rattle.lx_spec.specs.declared.Command.TheVariants as commands
 use Rattle.lx_spec.specs.declared.Line.{Line}
-use Rattle.lx_spec.specs.declared.Line.TheVariants as lines
 use Rattle.lx_spec.specs.declared.Refusal.{Refusal}
 use Rattle.lx_spec.specs.declared.Refusal.TheVariants.{Memory}
 use Rattle.lx_spec.specs.Desk.{Desk, step, after_command}
 use Rattle.lx_spec.specs.FirstRefusal.{◌>>=◌}
 use Rattle.lx_spec.specs.Kept.{Kept, kept}
 use Rattle.lx_spec.specs.Session.{Session, Attempt, answered, attempt, and_then, command_of, attempts_of, attempts_for}
-use Rattle.lx_spec.specs.ValidEdit.{ValidCommand, ValidLine}
 use Rattle.lx_console.specs.Standing.{StandsFor}
 use Rattle.lx_console.specs.Ticks.{after_ticks}
 use Rattle.lx_console.proofs.PassedTicks.{rest_after}
@@ -66,22 +64,6 @@ next_at meaning (suc n) None c e =
 
 pub next_is : (turn : LineState) (c : Command) → next_of turn ≡ Some c → IsNext turn c
 next_is turn c e = next_at turn.meaning turn.left turn.refusal c e
-
--- the command of a line whose numbers are in their range
-valid_of : (meaning : Option Line) (c : Command) → IfSome meaning ValidLine → command_of meaning ≡ Some c → ValidCommand c
-valid_of None c valid is = cc
-valid_of (Some (lines.Command command)) c valid is = let same : command ≡ c = cc in subst ValidCommand same valid
-valid_of (Some (lines.Ticks k)) c valid is = let tick : commands.Tick ≡ c = cc in subst ValidCommand tick tt
-valid_of (Some (lines.Frame u)) c valid is = cc
-valid_of (Some lines.Save) c valid is = cc
-valid_of (Some (lines.SheetOf n)) c valid is = cc
-valid_of (Some lines.Quit) c valid is = cc
-valid_of (Some lines.Blank) c valid is = cc
-
-pub valid_next : (old turn : LineState) (c : Command) → IfSome old.meaning ValidLine → turn.meaning ≡ old.meaning → next_of turn ≡ Some c
-    → ValidCommand c
-valid_next old turn c valid same some =
-    valid_of turn.meaning c (subst (λ (m : Option Line). IfSome m ValidLine) (sym same) valid) (next_is turn c some).command
 
 -- the session after an attempt that was accepted, and after one that was refused
 abbrev accepted_by : Session → Command → Desk → Session

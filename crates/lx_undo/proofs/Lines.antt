@@ -62,8 +62,3 @@ no_asking (Some what) b others is = let other : b ≡ false = others what refl i
 
 pub quit_asks_nothing : (line : List ℕ) → ends_script line ≡ true → undo_line_of line ≡ None
 quit_asks_nothing line quit = no_asking (undo_line_of line) (ends_script line) (goes_on line) quit
-
--- the numbers of a line are in their range
-pub valid_meaning : (given : Option (List ℕ)) (meaning : Option Line) → meaning ≡ meaning_of given → IfSome meaning ValidLine
-valid_meaning (Some line) meaning is = subst (λ (m : Option Line). IfSome m ValidLine) (sym is) (line_of-valid line)
-valid_meaning None meaning is = subst (λ (m : Option Line). IfSome m ValidLine) (sym is) tt

@@ -1,7 +1,7 @@
 use Rattle.std.proofs.Common.{◌-◌, ◌∙◌, Option, refl, sym, ap}
 use Rattle.lx_spec.specs.declared.Refusal.{Refusal}
 use Rattle.lx_session.specs.LineState.{LineState}
-use Rattle.lx_session.proofs.AttemptSteps.{valid_next}
+use Rattle.lx_session.proofs.ValidNext.{valid_next}
 use Rattle.lx_undo.proofs.Reaching.{none_yet, one_more}
 use Rattle.lx_undo.proofs.session.attempt_all.Goals as goal
 

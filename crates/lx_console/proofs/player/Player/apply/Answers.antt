@@ -1,19 +1,31 @@
-use Rattle.std.proofs.Common.{ℕ, List, sym, ap, subst, ◌∙◌}
+use Rattle.std.proofs.Common.{◌≡◌, ℕ, ◌+◌, List, inl, inr, arith, sym, ap, subst, rules, ◌∙◌}
 use Rattle.lx_spec.specs.Show.{Show}
 use Rattle.lx_spec.specs.Kept.{Kept}
 use Rattle.lx_edit.specs.Planned.{planned}
+use Rattle.lx_levels.specs.Standing.{StandsAt}
+use Rattle.lx_console.proofs.Apart.{placed_stands}
 use Rattle.lx_console.specs.Changes.{Changes}
-use Rattle.lx_console.proofs.Touched.{untouched_levels, same_given, same_reach, same_channels}
+use Rattle.lx_console.proofs.Touched.{in_show, untouched_levels, same_given, same_reach, same_channels}
 use Rattle.lx_console.proofs.Changed.{planned_changes}
 use Rattle.lx_console.proofs.Obeying.{stands_planned}
 use Rattle.lx_console.proofs.player.Player.apply.Goals as goal
 
 pub recompute_touched-requires-clause-others : goal.recompute_touched-requires-clause-others
-recompute_touched-requires-clause-others c =
-    untouched_levels c.self.inside.show c.exchange-dirty.new.show c.self.inside.playback c.exchange-dirty.result.dirty.chans c.self.inside.levels
-    c.self.invariant.levels_stand
-    (ap (λ (s : Show). s.channels) c.exchange-dirty.ensures.show ∙ same_channels c.self.inside.show c.args.plan)
-    c.exchange-dirty.ensures.others
+recompute_touched-requires-clause-others c = λ k within out.
+    let show : Show = c.self.inside.show in
+    let after : Show = c.exchange-dirty.new.show in
+    let channels : after.channels ≡ show.channels =
+    ap (λ (s : Show). s.channels) c.exchange-dirty.ensures.show ∙ same_channels show c.args.plan in
+    elim (c.seen-seen.ensures (k + 1) (in_show after.channels k within) out) as
+    (λ e. StandsAt after c.self.inside.playback c.self.inside.levels k) [
+      | inl clean ↦
+          untouched_levels show after c.self.inside.playback c.exchange-dirty.result.dirty.chans c.self.inside.levels
+          c.self.invariant.levels_stand channels c.exchange-dirty.ensures.others k within clean
+      | inr unseen ↦
+          placed_stands show after c.self.inside.playback c.args.plan c.placed_alone-placed.result k c.self.inside.levels
+          c.channels.ensures.valid c.self.invariant.levels_stand (omega (arith, channels, within)) (search rules) c.exchange-dirty.ensures.show
+          c.placed_alone-placed.ensures unseen
+    ]
 
 pub recompute_touched-requires-clause-reach : goal.recompute_touched-requires-clause-reach
 recompute_touched-requires-clause-reach c = c.self.invariant.levels_stand.reach

@@ -1,0 +1,115 @@
+//! Which of the channels that an edit touched the playback looks at.
+
+ghost use Rattle.std.specs.Prelude.{◌≡◌, ℕ, ◌≤◌, ◌<◌, ◌⊎◌, true, false, find, length, reverse, option_map, IfSome};
+ghost use Rattle.std.specs.Option.{IsSomeAnd};
+ghost use Rattle.std.specs.List.{All};
+ghost use Rattle.lx_spec.specs.Show.{Show as ShowData, InRange};
+ghost use Rattle.lx_spec.specs.TrackedLevel.{decides};
+ghost use Rattle.lx_edit.specs.ChanSet.{has_chan};
+ghost use Rattle.lx_edit.specs.Planned.{IsReady, planned};
+ghost use Rattle.lx_console.specs.Unseen.{IsUnseen, IsFrom, PlacesCue, decided_by};
+
+use crate::levels::channel_at;
+use lx_base::{Chan, CueNo};
+use lx_edit::{ChanSet, Plan};
+use lx_playback::Playback;
+use lx_show::around::above;
+use lx_show::{Cue, Show};
+
+/// So many cues above an edited one are asked whether they decide a channel.
+const NEAR: usize = 16;
+
+/// The cue that the plan places, where it changes no other one.
+pub(crate) fn placed_alone(plan: &Plan) -> Option<CueNo>
+    ensures { IfSome result (λ n. (show : ShowData) → IsReady show plan.now → PlacesCue show (planned show plan.now) n) }
+{
+    match plan {
+        Plan::PlaceCue { cue, above: None } => Some(cue.number),
+        Plan::PlaceCues { cue, above: None } => Some(cue.number),
+        _ => None,
+    }
+}
+
+/// Of the channels that an edit touched, those at which the playback may look. Where one cue was placed, the edited
+/// levels of a channel end at the next cue that decides it; so it stays as it was where the playback stands below
+/// the placed cue, or from that next one on, and so does each live run.
+pub(crate) fn seen(
+    show: &Show,
+    playback: &Playback,
+    placed: Option<CueNo>,
+    chans: &ChanSet,
+) -> ChanSet
+    ensures { (c : ℕ) → InRange show.now.channels c → has_chan result c ≡ false
+        → (has_chan chans.now c ≡ false) ⊎ IsSomeAnd placed (λ n. IsUnseen show.now playback.now n c) }
+{
+    let Some(n) = placed else {
+        return *chans;
+    };
+    let Some(first) = first_from(playback, n) else {
+        return ChanSet::empty();
+    };
+    let later = above(show.cues(), n.get());
+    let near = &later[..later.len().min(NEAR)];
+    undecided(show, near, first, chans)
+}
+
+/// Those of the channels that none of the cues decides up to the number.
+fn undecided(show: &Show, near: &[Cue], first: CueNo, chans: &ChanSet) -> ChanSet
+    ensures { (c : ℕ) → InRange show.now.channels c → has_chan result c ≡ false
+        → (has_chan chans.now c ≡ false) ⊎ (decided_by near.now first c) }
+{
+    let mut left = ChanSet::empty();
+    for k in 0..show.channels() as usize {
+        let c = channel_at(k);
+        if chans.contains(c) && !is_decided(near, first, c) {
+            left.insert(c);
+        }
+    }
+    left
+}
+
+/// The first of the cues that decides the channel comes up to the number.
+fn is_decided(near: &[Cue], first: CueNo, c: Chan) -> bool
+    ensures { result ≡ true → decided_by near.now first c }
+{
+    match first_decision(near, c) {
+        Some(end) => end.get() <= first.get(),
+        None => false,
+    }
+}
+
+/// The first of the cues that decides the channel.
+fn first_decision(near: &[Cue], c: Chan) -> Option<CueNo>
+    ensures { result ≡ option_map (λ cue. cue.number) (find (λ cue. decides cue c) near.now) }
+{
+    let cue = near.iter().find(|cue| cue.decides(c))?;
+    Some(cue.number)
+}
+
+/// The least number from this one on at which the playback stood before its live runs, or to which one of them goes.
+fn first_from(playback: &Playback, n: CueNo) -> Option<CueNo>
+    ensures base { IsFrom result n playback.now.base }
+    ensures runs { All (λ run. IsFrom result n run.cue) playback.now.live }
+{
+    let live = playback.live();
+    let mut first = nearer(None, playback.base(), n);
+    for k in 0..live.len() {
+        let run = &live[k];
+        first = nearer(first, run.cue, n);
+    }
+    first
+}
+
+/// The lesser of the two, where the second is no less than this number.
+fn nearer(first: Option<CueNo>, m: CueNo, n: CueNo) -> Option<CueNo>
+    ensures here { IsFrom result n m }
+    ensures others { (x : ℕ) → IsFrom first n x → IsFrom result n x }
+{
+    if m.get() < n.get() {
+        return first;
+    }
+    match first {
+        Some(before) if before.get() <= m.get() => first,
+        _ => Some(m),
+    }
+}
