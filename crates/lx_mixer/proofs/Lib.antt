@@ -1,4 +1,4 @@
 pub mod Greatest
 pub mod Tables
 pub mod Words
-pub mod Pairs
+pub mod Proportions

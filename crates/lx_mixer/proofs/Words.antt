@@ -1,5 +1,5 @@
--- Rows of levels by words, each of two levels that stand beside one another.
-use Rattle.std.proofs.Common.{◌≡◌, ℕ, ◌*◌, ◌/◌, ◌%◌, ◌^◌, ◌<◌, ◌≤◌, List, [], ◌∷◌, map, length, get_or, replicate, Fits, w16}
+-- The upper halves of levels' products.
+use Rattle.std.proofs.Common.{◌≡◌, ℕ, ◌*◌, ◌/◌, ◌%◌, ◌^◌, ◌<◌, ◌≤◌, List, [], ◌∷◌, map, length, get_or, replicate, Fits, w8, w16}
 use Rattle.std.proofs.Common.{ap, ◌∙◌, arith}
 use Rattle.std.proofs.Math.Nat.{mul-le-mul}
 use Rattle.std.proofs.Math.ListN.{get_or-map}
@@ -8,33 +8,33 @@ use Rattle.std.proofs.lemmas.Simd.{Each1-get_or, get_or-replicate, length-zip2, 
 use lib.Lanes.{Each1, zip2}
 use Rattle.lx_mixer.specs.Mix.{HasWords}
 
-product_fits : (a by : ℕ) → Fits w16 a → by < 65536 → a * by ≤ 4294836225
-product_fits a by fits less = mul-le-mul {n₁ = a} {m₁ = by} {n₂ = 65535} {m₂ = 65535} (omega (arith, fits.fits)) (omega arith)
+product_fits : (a by : ℕ) → Fits w8 a → by < 65536 → a * by ≤ 16711425
+product_fits a by fits less = mul-le-mul {n₁ = a} {m₁ = by} {n₂ = 255} {m₂ = 65535} (omega (arith, fits.fits)) (omega arith)
 
-pub whole_product : (a by : ℕ) → Fits w16 a → by < 65536 → a * by % 4294967296 / 65536 ≡ a * by / 65536
+whole_product : (a by : ℕ) → Fits w8 a → by < 65536 → a * by % 4294967296 / 65536 ≡ a * by / 65536
 whole_product a by fits less =
-    let most : a * by ≤ 4294836225 = product_fits a by fits less in
+    let most : a * by ≤ 16711425 = product_fits a by fits less in
     let whole : a * by % 4294967296 ≡ a * by = omega (arith, most) in
     ap (λ n. n / 65536) whole
 
 -- the upper halves of products fit a word
-pub halves_fit : (by : ℕ) → by < 65536 → (words : List ℕ) → Each1 (Fits w16) words
-    → Each1 (λ a. Fits w16 (a * by % 4294967296 / 65536)) (map (λ x. x) words)
+pub halves_fit : (by : ℕ) → by < 65536 → (levels : List ℕ) → Each1 (Fits w8) levels
+    → Each1 (λ a. Fits w16 (a * by % 4294967296 / 65536)) (map (λ x. x) levels)
 halves_fit by less [] fits = tt
-halves_fit by less (a ∷ words) fits =
-    let most : a * by ≤ 4294836225 = product_fits a by fits.0 less in
+halves_fit by less (a ∷ levels) fits =
+    let most : a * by ≤ 16711425 = product_fits a by fits.0 less in
     let half : a * by % 4294967296 / 65536 ≡ a * by / 65536 = whole_product a by fits.0 less in
-    (record { fits = omega (arith, most, half) }, halves_fit by less words fits.1)
+    (record { fits = omega (arith, most, half) }, halves_fit by less levels fits.1)
 
--- the upper halves of the products of sixteen words
-pub upper_halves : (by : ℕ) → by < 65536 → (words : List ℕ) → length words ≡ 16 → Each1 (Fits w16) words
-    → HasWords (map (λ x. x) (zip2 (λ a b. a / 2 ^ b) (zip2 (λ a b. a * b % 4294967296) (map (λ x. x) words) (replicate 16 by))
+-- the upper halves of the products of sixteen levels
+pub upper_halves : (by : ℕ) → by < 65536 → (levels : List ℕ) → length levels ≡ 16 → Each1 (Fits w8) levels
+    → HasWords (map (λ x. x) (zip2 (λ a b. a / 2 ^ b) (zip2 (λ a b. a * b % 4294967296) (map (λ x. x) levels) (replicate 16 by))
     (replicate 16 16)))
-    (λ k. get_or words k 0 * by / 65536)
-upper_halves by less words long fits =
-    let products : List ℕ = zip2 (λ a b. a * b % 4294967296) (map (λ x. x) words) (replicate 16 by) in
-    let wide = length-map words (λ (x : ℕ). x) in
-    let reach : length products ≡ 16 = length-zip2 (λ a b. a * b % 4294967296) (map (λ x. x) words) (replicate 16 by) (wide ∙ long)
+    (λ k. get_or levels k 0 * by / 65536)
+upper_halves by less levels long fits =
+    let products : List ℕ = zip2 (λ a b. a * b % 4294967296) (map (λ x. x) levels) (replicate 16 by) in
+    let wide = length-map levels (λ (x : ℕ). x) in
+    let reach : length products ≡ 16 = length-zip2 (λ a b. a * b % 4294967296) (map (λ x. x) levels) (replicate 16 by) (wide ∙ long)
     ∙ wide ∙ long in
     record {
       long = length-map (zip2 (λ a b. a / 2 ^ b) products (replicate 16 16)) (λ (x : ℕ). x)
@@ -42,8 +42,8 @@ upper_halves by less words long fits =
       each = λ k within.
           get_or-map (λ x. x) (zip2 (λ a b. a / 2 ^ b) products (replicate 16 16)) k 0
           ∙ get_or-zip2 (λ a b. a / 2 ^ b) products (replicate 16 16) k 0 0 0 (omega arith) within
-          ∙ (λ i. (get_or-zip2 (λ a b. a * b % 4294967296) (map (λ x. x) words) (replicate 16 by) k 0 0 0 (omega arith) within i) /
+          ∙ (λ i. (get_or-zip2 (λ a b. a * b % 4294967296) (map (λ x. x) levels) (replicate 16 by) k 0 0 0 (omega arith) within i) /
           2 ^ (get_or-replicate 16 k 16 0 within i))
-          ∙ (λ i. (get_or-map (λ x. x) words k 0 i) * (get_or-replicate 16 k by 0 within i) % 4294967296 / 65536)
-          ∙ whole_product (get_or words k 0) by (Each1-get_or (Fits w16) words k 0 (omega arith) fits) less;
+          ∙ (λ i. (get_or-map (λ x. x) levels k 0 i) * (get_or-replicate 16 k by 0 within i) % 4294967296 / 65536)
+          ∙ whole_product (get_or levels k 0) by (Each1-get_or (Fits w8) levels k 0 (omega arith) fits) less;
     }

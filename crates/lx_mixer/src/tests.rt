@@ -50,10 +50,10 @@ fn the_greatest_goes_out(rt: HostRuntime) {
     assert!(rt; out == [0; 5]);
 }
 
-/// Rows that end before 32 channels, with them and past them: each channel is mixed.
+/// Rows that end before 32 or 128 channels, with them and past them: each channel is mixed.
 #[test]
 fn rows_of_any_length_are_mixed_to_their_end(rt: HostRuntime) -> Result<(), Fail> {
-    for length in [0, 1, 31, 32, 33, 4_096, 16_384] {
+    for length in [0, 1, 31, 32, 33, 127, 128, 161, 4_096, 16_384] {
         let playback = vec![in rt.alloc(); 100; length]?;
         let subs = vec![in rt.alloc(); 200; length]?;
         let mut out = vec![in rt.alloc(); 7; length]?;

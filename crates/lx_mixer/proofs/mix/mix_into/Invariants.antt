@@ -3,4 +3,4 @@ use Rattle.lx_mixer.specs.Mix.{IsMixed}
 use Rattle.lx_mixer.proofs.mix.mix_into.Given as goal
 
 abbrev pub invariant-loop-i : goal.invariant-loop-i
-invariant-loop-i l = IsMixed l.playback l.subs l.master l.out 0 (32 * l.i)
+invariant-loop-i l = IsMixed l.playback l.subs l.master l.out 0 (128 * l.i)
