@@ -1,2 +1,7 @@
+pub mod Answered
 pub mod Lists
+pub mod Merging
 pub mod Rules
+pub mod SentLines
+pub mod Works
+pub mod Zip
