@@ -14,7 +14,7 @@ use Rattle.lx_crew.specs.declared.entry.Sent.{Sent}
 use Rattle.lx_crew.specs.declared.entry.Sent.TheVariants.{Line, LongLine, End, ReadFault, InputTooLong}
 use Rattle.lx_crew.specs.Answering.{long_line, named_line, said_by, said}
 use Rattle.lx_crew.specs.Entries.{of_place, is_last, HasText, HaveLines, text_in}
-use Rattle.lx_crew.specs.Transcripts.{of_operator, numbered_from}
+use Rattle.lx_spec.specs.CrewText.{of_operator, numbered_from}
 use Rattle.lx_crew.proofs.Answered.{long_means}
 
 -- the line of this number of the operator at a place

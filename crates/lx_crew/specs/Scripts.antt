@@ -5,13 +5,10 @@ use Rattle.lx_base.specs.declared.TheConstants.{INPUT_BYTES}
 use Rattle.lx_io.specs.Causes.{Rose}
 use Rattle.lx_spec.specs.Text.{lines_of}
 use Rattle.lx_spec.specs.CutInput.{CutOff}
-use Rattle.lx_spec.specs.Session.{ends_script, lines_wanted, bytes_wanted}
+use Rattle.lx_spec.specs.CrewText.{lines_up_to_quit}
+use Rattle.lx_spec.specs.Session.{ends_script, bytes_wanted}
 use Rattle.lx_crew.specs.declared.fault.OperatorFault.{OperatorFault}
 use Rattle.lx_crew.specs.declared.fault.OperatorFault.TheVariants.{ReadFault, InputTooLong}
-
--- the lines of a source with these bytes, up to `quit` or the end
-abbrev pub lines_up_to_quit : List ℕ → List (List ℕ)
-lines_up_to_quit bytes = take (lines_wanted (lines_of bytes)) (lines_of bytes)
 
 -- These are all lines that are wanted, and they are within the limit of the input.
 pub record AllLines (bytes : List ℕ) (lines : List (List ℕ)) : Type 0 where

@@ -1,31 +1,13 @@
 -- The transcript of a crew: each operator's lines, numbered from 1, in some order with those of the others.
-use Rattle.std.specs.Prelude.{◌≡◌, ℕ, ◌+◌, ◌==◌, List, [], ◌∷◌, take, Option}
-use Rattle.std.specs.List.{filter}
+use Rattle.std.specs.Prelude.{◌≡◌, ℕ, List, Option}
 use Rattle.std.specs.Io.KnownBytes.{Appends}
 use Rattle.lx_io.specs.Puts.{AppendsFront}
-use Rattle.lx_spec.specs.CrewText.{CrewEntry, crew_session, crew_text, CrewPlacesAreEdits}
+use Rattle.lx_spec.specs.CrewText.{CrewEntry, Merged, MergedSoFar, crew_session, crew_text, CrewPlacesAreEdits}
 use Rattle.lx_spec.specs.Desk.{Desk}
 use Rattle.lx_spec.specs.Kept.{Kept}
 use Rattle.lx_console.specs.Standing.{StandsFor}
 use Rattle.lx_session.specs.declared.tally.Tally.{Tally}
 use Rattle.lx_session.specs.LineReply.{counts_in}
-
--- an operator's entries, in order
-abbrev pub of_operator : ℕ → List CrewEntry → List CrewEntry
-of_operator operator entries = filter (λ (e : CrewEntry). e.operator == operator) entries
-
--- lines of an operator, numbered from n
-abbrev pub numbered_from : ℕ → ℕ → List (List ℕ) → List CrewEntry
-numbered_from operator n [] = []
-numbered_from operator n (line ∷ lines) = record { operator = operator; number = n; line = line } ∷ numbered_from operator (n + 1) lines
-
--- the entries are the lines of each operator, each once, in its order, and no others
-abbrev pub Merged : (ℕ → List (List ℕ)) → List CrewEntry → Type 0
-Merged lines entries = (operator : ℕ) → of_operator operator entries ≡ numbered_from operator 1 (lines operator)
-
--- or the first lines of each operator
-abbrev pub MergedSoFar : (ℕ → List (List ℕ)) → List CrewEntry → Type 0
-MergedSoFar lines entries = (operator : ℕ) → (n : ℕ) × (of_operator operator entries ≡ numbered_from operator 1 (take n (lines operator)))
 
 -- The whole transcript was written, and the console stands for the desk after it. Want of memory refused nothing but edits.
 pub record WholeTranscript (d : Desk) (lines : ℕ → List (List ℕ)) (held held' : Option (List ℕ)) (console : Kept) (tally : Tally) : Type 0 where

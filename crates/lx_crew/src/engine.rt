@@ -13,13 +13,14 @@ use crate::rule::{Gets, Queue, View};
 use crate::work::Job;
 use crossbeam_queue::Pass;
 use crossbeam_utils::sync::Parker;
+use lx_base::OPERATORS;
 use lx_console::Console;
 use lx_io::{Sink, SinkFault};
 use lx_session::Tally;
 use std::sync::Wait;
 
-/// The most operators.
-pub const OPERATORS: usize = 4;
+/// A place for each operator.
+pub(crate) const PLACES: usize = OPERATORS as usize;
 
 /// What the engine is lent, and what came of it.
 #[derive(Drop)]
@@ -81,7 +82,7 @@ fn serve<R: Wait, K: Sink>(
     ensures queue { IsSamePass pass.old pass.new }
     ensures served { HasServed K.holds K.faults K.wants operators (view pass.new) sink.old sink.new console.old console.new tally.new result }
 {
-    let mut ended = [false; OPERATORS];
+    let mut ended = [false; PLACES];
     let mut output = None;
     for _ in rt.forever() {
         if all_of(&ended, operators) {
@@ -112,7 +113,7 @@ fn take_one<K: Sink>(
     sink: &mut K,
     tally: &mut Tally,
     output: &mut Option<SinkFault>,
-    ended: &mut [bool; OPERATORS],
+    ended: &mut [bool; PLACES],
 ) -> bool
     requires queue { IsPassOf queue.now pass.old }
     requires pops { (view pass.old).pops ≡ true }
@@ -134,7 +135,7 @@ fn take_one<K: Sink>(
 }
 
 /// Whether each of the first places is set.
-fn all_of(ended: &[bool; OPERATORS], count: usize) -> bool
+fn all_of(ended: &[bool; PLACES], count: usize) -> bool
     requires { count ≤ 4 }
     ensures { result ≡ true → (k : ℕ) → k < count → slice_get ended.now k ≡ Some true }
 {
@@ -147,14 +148,14 @@ fn all_of(ended: &[bool; OPERATORS], count: usize) -> bool
 }
 
 /// Sets the place of an operator that ended.
-fn mark(ended: &mut [bool; OPERATORS], entry: &Entry)
+fn mark(ended: &mut [bool; PLACES], entry: &Entry)
     ensures { Marked entry.now ended.old ended.new }
 {
     if !is_last(&entry.sent) {
         return;
     }
     let place = usize::from(entry.place);
-    if place < OPERATORS {
+    if place < PLACES {
         ended[place] = true;
     }
 }

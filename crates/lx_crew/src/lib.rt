@@ -11,7 +11,7 @@ mod rule;
 mod running;
 mod work;
 
-pub use engine::{Engine, OPERATORS};
+pub use engine::Engine;
 pub use entry::{Entry, LineText, Sent};
 pub use fault::OperatorFault;
 pub use follows::Follows;

@@ -4,13 +4,13 @@ ghost use Rattle.std.specs.Prelude.{◌≡◌, ◌+◌, ◌<◌, ◌≤◌, ℕ,
 ghost use Rattle.crossbeam_queue.specs.Passes.{view, IsPassOf, IsSamePass};
 ghost use Rattle.lx_spec.specs.Desk.{Desk};
 ghost use Rattle.lx_console.specs.Standing.{StandsFor};
-ghost use Rattle.lx_crew.specs.declared.engine.TheConstants.{OPERATORS};
+ghost use Rattle.lx_base.specs.declared.TheConstants.{OPERATORS};
 ghost use Rattle.lx_crew.specs.Rule.{engine_view};
 ghost use Rattle.lx_crew.specs.Answering.{OutputCause};
 ghost use Rattle.lx_crew.specs.Crewed.{HasCrewed};
 ghost use Rattle.lx_crew.specs.Hired.{EachAt, Hired, Works, owned};
 
-use crate::engine::{Engine, OPERATORS};
+use crate::engine::{Engine, PLACES};
 use crate::entry::Entry;
 use crate::fault::OperatorFault;
 use crate::operator::Operator;
@@ -36,7 +36,7 @@ pub struct Crewed {
     /// The fault of the output, if it had one.
     pub output: Option<SinkFault>,
     /// The fault of operator k, at place k - 1, where it had one.
-    pub operators: [Option<OperatorFault>; OPERATORS],
+    pub operators: [Option<OperatorFault>; PLACES],
 }
 
 /// Answers the lines of one to four operators, each up to `quit` or the end of its own source, over a console, and writes
@@ -139,7 +139,7 @@ fn release<S: Source + Drop>(
     pass: &mut Pass<Entry, View>,
     operators: &mut [Option<S>],
     works: Vec<Operator<'_, S>>,
-) -> [Option<OperatorFault>; OPERATORS]
+) -> [Option<OperatorFault>; PLACES]
     requires queue { IsPassOf queue.now pass.old }
     requires pops { (view pass.old).pops ≡ true }
     requires pushes { (view pass.old).pushes ≡ false }
@@ -154,7 +154,7 @@ fn release<S: Source + Drop>(
     ensures others { (place : ℕ) (fault : _) → slice_get result place ≡ Some (Some fault) → place < length operators.old }
 {
     let mut works = works;
-    let mut faults = [None; OPERATORS];
+    let mut faults = [None; PLACES];
     while let Some(work) = works.pop() {
         let Operator {
             queue: _,
