@@ -1,7 +1,8 @@
 -- What is answered so far, and with one more entry.
-use Rattle.std.proofs.Common.{◌≡◌, ◌⊎◌, inl, inr, ℕ, zero, suc, ◌+◌, ◌≤◌, ◌<◌, ◌==◌, Bool, true, false, Option, Some, None, Result, Ok, Err, IsErr}
+use Rattle.std.proofs.Common.{◌≡◌, ◌⊎◌, inl, inr, ℕ, zero, suc, ◌+◌, ◌≤◌, ◌<◌, ◌==◌, ◌&&◌, Bool, true, false, true≢false, Option, Some, None, Result, Ok, Err, IsErr}
 use Rattle.std.proofs.Common.{List, [], ◌∷◌, ◌++◌, length, take, drop, take-append-drop, refl, sym, ap, ◌∙◌, subst, append-nil, append_assoc, arith}
-use Rattle.std.specs.Prelude.{fold, flat_map, replicate}
+use Rattle.std.specs.Prelude.{fold, flat_map, is_some, replicate}
+use Rattle.std.specs.Result.{result_err}
 use Rattle.std.specs.Io.KnownBytes.{Appends, Keeps}
 use Rattle.std.proofs.KnownBytes.{Appends-nil, Appends-trans, Appends-kept}
 use Rattle.std.proofs.Math.Seq.{take-append_seam}
@@ -15,28 +16,38 @@ use Rattle.lx_io.proofs.Chain.{AppendsFront-is, AppendsFront-from}
 use Rattle.lx_spec.specs.declared.Command.{Command}
 use Rattle.lx_spec.specs.declared.Line.{Line as Meant}
 use Rattle.lx_spec.specs.CrewText.{CrewEntry, op_text, named, after_entry, crew_session, crew_text, EntriesWantAtEdits, CrewPlacesAreEdits}
+use Rattle.lx_spec.specs.RefusedPlaces.{MayWant}
 use Rattle.lx_spec.specs.Desk.{Desk}
 use Rattle.lx_spec.specs.Kept.{Kept}
 use Rattle.lx_spec.specs.Script.{line_of}
 use Rattle.lx_spec.specs.Session.{Session, begin_at, with_text}
 use Rattle.lx_console.specs.Standing.{StandsFor}
 use Rattle.lx_session.specs.declared.tally.Tally.{Tally}
-use Rattle.lx_session.specs.LineAnswer.{GoesOn, LineAnswer}
+use Rattle.lx_session.specs.Attempts.{WantsLast}
+use Rattle.lx_session.specs.LineAnswer.{GoesOn, LineAnswer, FromDesk}
 use Rattle.lx_session.specs.LineReply.{counts_in}
-use Rattle.lx_session.proofs.LineOutcomes.{too_long as long_is_bad}
-use Rattle.lx_session.proofs.Places.{own_place, wants_own, own_above, own_within, may_want, extends_line}
+use Rattle.lx_session.specs.LineState.{meaning_of}
+use Rattle.lx_session.proofs.HeardLines.{meaning_is}
+use Rattle.lx_session.proofs.Places.{first, own_place, wants_own, own_above, own_within, extends_line}
 use Rattle.lx_session.proofs.SoFar.{no_place}
 use Rattle.lx_crew.specs.declared.entry.Entry.{Entry}
+use Rattle.lx_crew.specs.declared.entry.LineText.{LineText}
 use Rattle.lx_crew.specs.declared.entry.Sent.{Sent}
+use Rattle.lx_crew.specs.declared.entry.Sent.TheVariants.{Line, LongLine}
+use Rattle.lx_crew.specs.Entries.{text_in}
 use Rattle.lx_crew.specs.Answering.{long_line, named_line, said_by, said, NamedAnswer, AnswersNamed, AreAbove, AreWithin, IsDone, AnsweredAll}
 use Rattle.lx_crew.specs.Answering.{AnsweredPart, HasAnswered}
 
 abbrev quiet : List Command → Type 0
 quiet commands = Unit {0}
 
--- a line that is too long is bad, whatever its text
-pub long_means : line_of long_line ≡ None
-long_means = sym (long_is_bad long_line (omega (arith, length-replicate {A = ℕ} (LINE_BYTES + 1) 0)))
+-- what a line may want, by how the session went on by it
+may_want : (places : List ℕ) (s next : Session) (meaning : Option Meant) (wanted : Bool) → GoesOn true quiet s next meaning wanted
+    → WantsLast places s.attempts next.attempts wanted → MayWant places s meaning
+may_want places s next meaning wanted g w n lower upper has =
+    let is = ap (λ t. t.attempts) (g.by places w) in
+    let here : (wanted && n == next.attempts) ≡ true = sym (w n lower (omega (arith, upper, is))) ∙ has in
+    g.at_edit (first wanted (n == next.attempts) here) refl
 
 pub wants-append : (places : List ℕ) (s : Session) (xs ys : List CrewEntry) → EntriesWantAtEdits places s xs
     → EntriesWantAtEdits places (fold (after_entry places) s xs) ys → EntriesWantAtEdits places s (xs ++ ys)
@@ -71,7 +82,7 @@ done_more d entries places now next e wanted done g =
           wants-append (P more) (begin_at d) entries (e ∷ [])
           (subst (λ ps. CrewPlacesAreEdits d entries ps) (sym (same more)) (done.edits (own ++ more) (before more above)))
           (subst (λ s. EntriesWantAtEdits (P more) s (e ∷ [])) (sym (here more above))
-          (may_want true quiet (P more) (named now e) next (line_of e.line) wanted refl g (last more above), tt));
+          (may_want (P more) (named now e) next (line_of e.line) wanted g (last more above), tt));
     }
 
 -- with the places that there are
@@ -231,3 +242,74 @@ answered_so_far d popped start h console tally a = record {
   text = front_of start h a.now.text [] (crew_text d (said popped) a.places)
       (ap (λ s. s.text) (done_is d (said popped) a.places a.now a.done) ∙ sym (append-nil a.now.text)) a.text;
 }
+
+-- An entry has a line, which is given or, being too long, isn't.
+pub record IsSaid (entry : Entry) (given : Option (List ℕ)) : Type 0 where
+  pub line : List ℕ
+  pub said : said_by entry.place entry.number entry.sent ≡ named_line entry.place entry.number line ∷ []
+  pub means : meaning_of given ≡ line_of line
+
+pub said_text : (entry : Entry) (l : LineText) (given : Option (List ℕ)) → entry.sent ≡ Line l → given ≡ Some (text_in l)
+    → IsSaid entry given
+said_text entry l given is text = record {
+  line = text_in l;
+  said = ap (said_by entry.place entry.number) is;
+  means = ap meaning_of text;
+}
+
+pub said_long : (entry : Entry) (given : Option (List ℕ)) → entry.sent ≡ LongLine → given ≡ None → IsSaid entry given
+said_long entry given is none = record {
+  line = long_line;
+  said = ap (said_by entry.place entry.number) is;
+  means = ap meaning_of none ∙ meaning_is None long_line (omega (arith, length-replicate {A = ℕ} (LINE_BYTES + 1) 0));
+}
+
+answered_by : {K : Type 0} (holds : K → Option (List ℕ)) (faults wants : K → ℕ) (sink sink' : K) (result : Result Bool SinkFault)
+    (d : Desk) (popped : List Entry) (start : Option (List ℕ)) (console console' : Kept) (tally tally' : Tally) (entry : Entry)
+    (e : CrewEntry) → (a : AnsweredAll d popped start (holds sink) console tally)
+    → said_by entry.place entry.number entry.sent ≡ e ∷ []
+    → AnswersNamed holds faults wants sink sink' result a.now (op_text e) (line_of e.line) console' tally'
+    → HasAnswered d (popped ++ entry ∷ []) start (holds sink') console' tally' (result_err result)
+answered_by holds faults wants sink sink' (Ok b) d popped start console console' tally tally' entry e a is (inl cut) =
+    absurd (true≢false (sym cut.0))
+answered_by holds faults wants sink sink' (Ok b) d popped start console console' tally tally' entry e a is (inr m) =
+    answered_line holds faults wants sink sink' b d popped start console console' tally tally' entry e a is m
+answered_by holds faults wants sink sink' (Err f) d popped start console console' tally tally' entry e a is (inl cut) =
+    answered_name d popped start (holds sink) (holds sink') console tally entry e a is cut.1
+answered_by holds faults wants sink sink' (Err f) d popped start console console' tally tally' entry e a is (inr m) =
+    answered_front holds faults wants sink sink' f d popped start console console' tally tally' entry e a is m
+
+-- one more entry was answered, where the output had no fault before
+pub answered_entry : {K : Type 0} (holds : K → Option (List ℕ)) (faults wants : K → ℕ) (sink sink' : K) (result : Result Bool SinkFault)
+    (d : Desk) (popped : List Entry) (start : Option (List ℕ)) (console console' : Kept) (tally tally' : Tally) (entry : Entry)
+    (given : Option (List ℕ)) (output output' : Option SinkFault) → IsSaid entry given → output ≡ None → output' ≡ result_err result
+    → FromDesk console tally (λ s. AnswersNamed holds faults wants sink sink' result s (op_text (named_line entry.place entry.number []))
+    (meaning_of given) console' tally')
+    → HasAnswered d popped start (holds sink) console tally output
+    → HasAnswered d (popped ++ entry ∷ []) start (holds sink') console' tally' output'
+answered_entry holds faults wants sink sink' result d popped start console console' tally tally' entry given output output' said none is done so_far =
+    let a : AnsweredAll d popped start (holds sink) console tally =
+    subst (λ o. HasAnswered d popped start (holds sink) console tally o) none so_far in
+    let e = named_line entry.place entry.number said.line in
+    subst (λ o. HasAnswered d (popped ++ entry ∷ []) start (holds sink') console' tally' o) (sym is)
+    (answered_by holds faults wants sink sink' result d popped start console console' tally tally' entry e a said.said
+    (subst (λ m. AnswersNamed holds faults wants sink sink' result a.now (op_text e) m console' tally') said.means
+    (done a.now a.stands a.counts)))
+
+pub none_is : (output : Option SinkFault) → false ≡ is_some output → output ≡ None
+none_is None e = refl
+none_is (Some fault) e = cc
+
+flushed_by : {T : Type 0} (result : Result T SinkFault) (d : Desk) (popped : List Entry) (start h : Option (List ℕ)) (console : Kept)
+    (tally : Tally) → AnsweredAll d popped start h console tally → HasAnswered d popped start h console tally (result_err result)
+flushed_by (Ok x) d popped start h console tally a = a
+flushed_by (Err f) d popped start h console tally a = answered_so_far d popped start h console tally a
+
+-- a flush, where the output had no fault before
+pub answered_flush : {T : Type 0} (result : Result T SinkFault) (d : Desk) (popped : List Entry) (start h h' : Option (List ℕ))
+    (console : Kept) (tally : Tally) (output output' : Option SinkFault) → output ≡ None → output' ≡ result_err result → Keeps h h'
+    → HasAnswered d popped start h console tally output → HasAnswered d popped start h' console tally output'
+answered_flush result d popped start h h' console tally output output' none is kept so_far =
+    let a : AnsweredAll d popped start h console tally = subst (λ o. HasAnswered d popped start h console tally o) none so_far in
+    subst (λ o. HasAnswered d popped start h' console tally o) (sym is)
+    (flushed_by result d popped start h' console tally (answered_kept d popped start h h' console tally a kept))

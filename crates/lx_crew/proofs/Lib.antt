@@ -3,5 +3,6 @@ pub mod Lists
 pub mod Merging
 pub mod Rules
 pub mod SentLines
+pub mod Served
 pub mod Works
 pub mod Zip

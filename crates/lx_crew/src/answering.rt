@@ -7,7 +7,7 @@ ghost use Rattle.lx_spec.specs.CrewText.{op_text};
 ghost use Rattle.lx_spec.specs.Desk.{Desk};
 ghost use Rattle.lx_session.specs.LineState.{meaning_of};
 ghost use Rattle.lx_session.specs.LineReply.{HasRoom, HasOneMore};
-ghost use Rattle.lx_session.specs.LineOutcome.{FromSession};
+ghost use Rattle.lx_session.specs.LineAnswer.{FromDesk};
 ghost use Rattle.lx_crew.specs.declared.entry.Entry.{Entry as AnEntry};
 ghost use Rattle.lx_crew.specs.Answering.{AnswersNamed, HasAnswered, OutputCause, named_line};
 
@@ -37,7 +37,7 @@ fn answer_line<K: Sink>(
     tally: &mut Tally,
 ) -> Result<bool, SinkFault>
     requires room { HasRoom tally.old }
-    ensures answered { FromSession console.old tally.old (λ s. AnswersNamed K.holds K.faults K.wants sink.old sink.new result s
+    ensures answered { FromDesk console.old tally.old (λ s. AnswersNamed K.holds K.faults K.wants sink.old sink.new result s
         (op_text (named_line place number [])) (meaning_of (option_copied line.entry)) console.new tally.new) }
     ensures cause { HasSinkCause K.faults K.wants sink.old sink.new result }
     ensures more { HasOneMore tally.old tally.new }
@@ -68,9 +68,7 @@ pub(crate) fn answer_entry<K: Sink>(
         Sent::LongLine => None,
         _ => return,
     };
-    if let Err(fault) = answer_line(console, entry.place, entry.number, line, sink, tally) {
-        *output = Some(fault);
-    }
+    *output = answer_line(console, entry.place, entry.number, line, sink, tally).err();
 }
 
 /// Hands on what the output keeps back, unless it had a fault.
@@ -83,7 +81,5 @@ pub(crate) fn flush<K: Sink>(sink: &mut K, output: &mut Option<SinkFault>)
     if output.is_some() {
         return;
     }
-    if let Err(fault) = sink.flush() {
-        *output = Some(fault);
-    }
+    *output = sink.flush().err();
 }
