@@ -1,13 +1,16 @@
 -- What the engine came to, with one more entry.
-use Rattle.std.proofs.Common.{◌≡◌, ◌⊎◌, inl, inr, ⊎_elim, ℕ, ◌≤◌, Bool, true, Option, Some, None, List, [], ◌∷◌, ◌++◌, slice_get, refl, ap, ◌∙◌, arith}
+use Rattle.std.proofs.Common.{◌≡◌, ◌⊎◌, inl, inr, ⊎_elim, ℕ, ◌≤◌, Bool, true, Option, Some, None, List, [], ◌∷◌, ◌++◌, slice_get, ap, sym, subst, ◌∙◌, arith}
 use Rattle.lx_io.specs.declared.sink.SinkFault.{SinkFault}
 use Rattle.lx_io.specs.declared.sink.SinkFault.TheVariants.{Failed, Memory}
 use Rattle.lx_io.specs.Causes.{Rose}
+use Rattle.lx_spec.specs.Desk.{Desk}
+use Rattle.lx_spec.specs.Kept.{Kept}
+use Rattle.lx_session.specs.declared.tally.Tally.{Tally}
 use Rattle.lx_crew.specs.declared.entry.Entry.{Entry}
 use Rattle.lx_crew.specs.declared.rule.View.{View}
 use Rattle.lx_crew.specs.Entries.{of_place, is_last, has_last}
 use Rattle.lx_crew.specs.Rule.{engine_view, Takes}
-use Rattle.lx_crew.specs.Answering.{Marked, OutputCause}
+use Rattle.lx_crew.specs.Answering.{HasAnswered, Marked, OutputCause}
 use Rattle.lx_crew.proofs.Lists.{last_on, last_here}
 
 pub takes_on : (v w : View) (n : ℕ) (popped : List Entry) (e : Entry) → v ≡ engine_view n popped [] → Takes v e w
@@ -55,3 +58,12 @@ cause_then faults wants a b c x y z p q =
       memory = λ is. either_rose (wants a) (wants b) (wants c) (x ≡ Some Memory) (y ≡ Some Memory) wants_later wants_then p.memory
           (q.memory is);
     }
+
+-- nothing was answered, and nothing was written
+pub answered_same : {K : Type 0} (holds : K → Option (List ℕ)) (sink sink' : K) (d : Desk) (popped : List Entry) (start : Option (List ℕ))
+    (console console' : Kept) (tally tally' : Tally) (output output' : Option SinkFault) → sink' ≡ sink → console' ≡ console
+    → tally' ≡ tally → output' ≡ output → HasAnswered d popped start (holds sink) console tally output
+    → HasAnswered d popped start (holds sink') console' tally' output'
+answered_same {K} holds sink sink' d popped start console console' tally tally' output output' s c t o so_far =
+    subst (λ (x : K × Kept × Tally × Option SinkFault). HasAnswered d popped start (holds x.0) x.1 x.2 x.3)
+    (λ i. (sym s i, sym c i, sym t i, sym o i)) so_far
