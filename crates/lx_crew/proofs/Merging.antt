@@ -8,7 +8,7 @@ use Rattle.lx_spec.specs.CrewText.{CrewEntry, named, after_entry, crew_session, 
 use Rattle.lx_spec.specs.Script.{line_of}
 use Rattle.lx_spec.specs.RefusedPlaces.{MayWant}
 use Rattle.lx_spec.specs.Session.{Session, after_meaning}
-use Rattle.lx_session.proofs.LineOutcomes.{too_long as long_is_bad}
+use Rattle.lx_session.proofs.HeardLines.{meaning_is}
 use Rattle.lx_crew.specs.declared.entry.Entry.{Entry}
 use Rattle.lx_crew.specs.declared.entry.Sent.{Sent}
 use Rattle.lx_crew.specs.declared.entry.Sent.TheVariants.{Line, LongLine, End, ReadFault, InputTooLong}
@@ -51,7 +51,7 @@ same_by lines places s place number (Line l) rest rest' t h =
     ∙ h (after_entry places s (named_line place number (line_at lines place number)))
 same_by lines places s place number LongLine rest rest' t h =
     ap (λ u. fold (after_entry places) u rest)
-    (same_text long_line (line_at lines place number) places s place number (long_means ∙ long_is_bad (line_at lines place number) (t refl)))
+    (same_text long_line (line_at lines place number) places s place number (long_means ∙ meaning_is None (line_at lines place number) (t refl)))
     ∙ h (after_entry places s (named_line place number (line_at lines place number)))
 same_by lines places s place number End rest rest' t h = h s
 same_by lines places s place number ReadFault rest rest' t h = h s
@@ -72,7 +72,7 @@ edits_by lines places s place number (Line l) rest rest' t h w =
     (u.0, h (after_entry places s (named_line place number (line_at lines place number))) u.1)
 edits_by lines places s place number LongLine rest rest' t h w =
     let text = line_at lines place number in
-    let bad : line_of long_line ≡ line_of text = long_means ∙ long_is_bad text (t refl) in (
+    let bad : line_of long_line ≡ line_of text = long_means ∙ meaning_is None text (t refl) in (
       subst (λ m. MayWant places (named s (named_line place number long_line)) m) bad w.0,
       h (after_entry places s (named_line place number text))
           (subst (λ u. EntriesWantAtEdits places u rest) (same_text long_line text places s place number bad) w.1),
@@ -149,8 +149,8 @@ true_lines lines k m [] (l ∷ ls) h is = absurd h
 true_lines lines k m (e ∷ es) [] h is = absurd h
 true_lines lines k m (e ∷ es) (l ∷ ls) h is =
     let a = at_drop (lines k) m l ls is in
-    one_true lines k m e.place e.number e.sent l h.0 h.1 h.2.0 a.0 (true_entries lines es)
-    ∙ ap (λ (x : List CrewEntry). named_line k (m + 1) l ∷ x) (true_lines lines k (m + 1) es ls h.2.1 a.1)
+    one_true lines k m e.place e.number e.sent l h.0 h.1.0 h.1.1.0 a.0 (true_entries lines es)
+    ∙ ap (λ (x : List CrewEntry). named_line k (m + 1) l ∷ x) (true_lines lines k (m + 1) es ls h.1.1.1 a.1)
 
 one_true : (lines : ℕ → List (List ℕ)) (k m place number : ℕ) (sent : Sent) (l : List ℕ) → place ≡ k → number ≡ m + 1 → HasText sent l
     → get_or (lines k) m [] ≡ l → (rest : List CrewEntry) → true_by lines place number sent ++ rest ≡ named_line k (m + 1) l ∷ rest

@@ -20,8 +20,8 @@ use Rattle.lx_spec.specs.Text.{without_cr, lines_of}
 use Rattle.lx_spec.specs.CutInput.{CutOff}
 use Rattle.lx_spec.specs.Session.{ends_script, lines_wanted, bytes_wanted, is_quit}
 use Rattle.lx_session.specs.LineOutcome.{PassedLine, QuitLine}
-use Rattle.lx_session.proofs.LineOutcomes.{too_long as long_is_bad}
-use Rattle.lx_session.proofs.SoFar.{GoOn, Passed, passed_none, passed_more, begins, begins_more, ends_after, ends_here, fits, too_long, with_both, over}
+use Rattle.lx_session.proofs.HeardLines.{meaning_is}
+use Rattle.lx_session.proofs.SoFar.{GoOn, Passed, go_on_append, begins, begins_more, ends_after, ends_here, fits, too_long, with_both, over}
 use Rattle.lx_crew.specs.declared.entry.Entry.{Entry}
 use Rattle.lx_crew.specs.declared.entry.Sent.{Sent}
 use Rattle.lx_crew.specs.declared.entry.Sent.TheVariants.{Line, LongLine, End, ReadFault, InputTooLong}
@@ -60,7 +60,7 @@ goes_on left faults b c (Line l) t is = record {
   text = t.text;
 }
 goes_on left faults b c LongLine t is = record {
-  line = record { raw = t.raw; handed = t.handed; more = ap is_quit (sym (long_is_bad (without_cr t.raw) t.text)) };
+  line = record { raw = t.raw; handed = t.handed; more = ap is_quit (sym (meaning_is None (without_cr t.raw) t.text)) };
   text = t.text;
 }
 goes_on left faults b c End t is = absurd cc
@@ -108,7 +108,7 @@ pub have_length : (place n : ℕ) (es : List Entry) (ls : List (List ℕ)) → H
 have_length place n [] [] h = refl
 have_length place n [] (l ∷ ls) h = absurd h
 have_length place n (e ∷ es) [] h = absurd h
-have_length place n (e ∷ es) (l ∷ ls) h = ap suc (have_length place (n + 1) es ls h.2.1)
+have_length place n (e ∷ es) (l ∷ ls) h = ap suc (have_length place (n + 1) es ls h.1.1.1)
 
 pub have_more : (place n : ℕ) (es : List Entry) (ls : List (List ℕ)) (e : Entry) (l : List ℕ) → HaveLines place n es ls → e.place ≡ place
     → e.number ≡ n + length ls → HasText e.sent l → HaveLines place n (es ++ e ∷ []) (ls ++ l ∷ [])
@@ -116,7 +116,7 @@ have_more place n [] [] e l h own is text = (own, (omega (arith, is), (text, tt)
 have_more place n [] (k ∷ ls) e l h own is text = absurd h
 have_more place n (x ∷ es) [] e l h own is text = absurd h
 have_more place n (x ∷ es) (k ∷ ls) e l h own is text =
-    (h.0, (h.1, (h.2.0, have_more place (n + 1) es ls e l h.2.1 own (omega (arith, is)) text)))
+    (h.0, (h.1.0, (h.1.1.0, have_more place (n + 1) es ls e l h.1.1.1 own (omega (arith, is)) text)))
 
 -- So many lines were handed out from a to b and sent.
 pub record SentSoFar {S : Type 0} (left : S → Option (List ℕ)) (faults : S → ℕ) (place : ℕ) (a b : Lines S) (v : View) : Type 0 where
@@ -127,7 +127,12 @@ pub record SentSoFar {S : Type 0} (left : S → Option (List ℕ)) (faults : S �
 
 pub sent_none : {S : Type 0} (left : S → Option (List ℕ)) (faults : S → ℕ) (place : ℕ) (a : Lines S) (v : View) → IsTrue a.going
     → v ≡ operator_view place [] → SentSoFar left faults place a a v
-sent_none left faults place a v going is = record { passed = passed_none left faults a going; entries = []; view = is; have = tt }
+sent_none left faults place a v going is = record {
+  passed = record { raws = []; handed = handed_none left faults a going; go_on = tt };
+  entries = [];
+  view = is;
+  have = tt;
+}
 
 -- the next entry's number
 pub next_number : {S : Type 0} (left : S → Option (List ℕ)) (faults : S → ℕ) (place : ℕ) (a b : Lines S) (v : View)
@@ -149,10 +154,16 @@ pub sent_more : {S : Type 0} (left : S → Option (List ℕ)) (faults : S → �
     → w ≡ record v { pushed = v.pushed ++ e ∷ [] } → SentSoFar left faults place a c w
 sent_more left faults place a b c v w e s t own is more =
     let raws = s.passed.raws in
+    let raw = t.line.raw in
     let l = have_length place 1 s.entries (map without_cr raws) s.have in
     let p : length v.pushed ≡ length s.entries = ap (λ (u : View). length u.pushed) s.view in
     record {
-      passed = passed_more left faults a b c s.passed t.line;
+      passed = record {
+        raws = raws ++ raw ∷ [];
+        handed = handed_then left faults a b c raws (raw ∷ []) s.passed.handed t.line.handed;
+        go_on = subst GoOn (sym (map-append without_cr raws (raw ∷ [])))
+            (go_on_append (map without_cr raws) (without_cr raw) s.passed.go_on t.line.more);
+      };
       entries = s.entries ++ e ∷ [];
       view = pushed_on v w place s.entries e s.view more;
       have = subst (HaveLines place 1 (s.entries ++ e ∷ [])) (sym (map-append without_cr raws (t.line.raw ∷ [])))
@@ -216,7 +227,7 @@ cut_lines_are left faults a b c s n =
 pub record Began {S : Type 0} (left : S → Option (List ℕ)) (source : S) (a : Lines S) : Type 0 where
   pub unread : unread left a ≡ left source
   pub taken : a.taken ≡ 0
-  pub source : a.source.now ≡ source
+  pub now : a.source.now ≡ source
 
 from_start : {S : Type 0} (left : S → Option (List ℕ)) (source : S) (a : Lines S) (P : ℕ → List ℕ → Type 0) → Began left source a
     → IfSome (unread left a) (P a.taken) → IfSome (left source) (P 0)
@@ -231,7 +242,7 @@ pub ended_by_quit : {S : Type 0} (left : S → Option (List ℕ)) (faults : S �
 ended_by_quit left faults source a b c began s q = record {
   are = over (left source) _ _ (from_start left source a (λ n. all_are n (map without_cr s.raws ++ without_cr q.raw ∷ [])) began
       (quit_lines left faults a b c s q)) (λ xs e. record { are = e.0; within = e.1 });
-  later = let x = s.handed.later in let y = q.handed.later in let z = ap faults began.source in omega (arith, x, y, z);
+  later = let x = s.handed.later in let y = q.handed.later in let z = ap faults began.now in omega (arith, x, y, z);
   failed = λ e. absurd (no_fault ends.ReadFault e);
 }
 
@@ -264,10 +275,10 @@ pub ended_so : {S : Type 0} (left : S → Option (List ℕ)) (faults : S → ℕ
     → HasEnded left faults source c.source.now fault (map without_cr s.raws)
 ended_so left faults source a b c fault began s later t = record {
   are = last_are left faults source a b c fault began s t;
-  later = let x = s.handed.later in let z = ap faults began.source in omega (arith, x, later, z);
+  later = let x = s.handed.later in let z = ap faults began.now in omega (arith, x, later, z);
   failed = λ e.
       let x = s.handed.later in
-      let z = ap faults began.source in
+      let z = ap faults began.now in
       rose_after (faults source) (faults b.source.now) (faults c.source.now) (omega (arith, x, z)) (last_failed left faults b c fault t e);
 }
 

@@ -1,6 +1,7 @@
 -- Lists of works and of places.
-use Rattle.std.proofs.Common.{true≢false, ◌==◌, true, ◌≡◌, ◌≢◌, ℕ, zero, suc, ◌+◌, ◌<◌, ◌≤◌, List, [], ◌∷◌, ◌++◌, length, map, set, get_or, slice_get, Option, Some, None, IsSome, sym, refl, ap, ◌∙◌, subst, inl, inr, ⊎_elim, ◌⊎◌, take, drop, drop_of_length-le, append-nil, arith}
+use Rattle.std.proofs.Common.{true≢false, ◌==◌, true, false, ◌≡◌, ◌≢◌, ℕ, zero, suc, ◌+◌, ◌<◌, ◌≤◌, List, [], ◌∷◌, ◌++◌, length, map, set, get_or, slice_get, Option, Some, None, IsSome, sym, refl, ap, ◌∙◌, subst, inl, inr, ⊎_elim, ◌⊎◌, take, drop, drop_of_length-le, append-nil, arith}
 use Rattle.std.specs.List.{AllByRecursion, AllZip, All}
+use native.Mathlib.Decide.{ℕ_discrete}
 use Rattle.std.proofs.lemmas.Option.{slice_get_read, slice_get_within, slice_get-get_or}
 use Rattle.std.proofs.lemmas.Slice.Zip.{AllZip-long}
 use Rattle.std.proofs.Math.Seq.{take-length}
@@ -82,18 +83,39 @@ set_cases (x ∷ xs) zero (suc k) a b e = inr ((λ h. omega arith), e)
 set_cases (x ∷ xs) (suc i) zero a b e = inr ((λ h. omega arith), e)
 set_cases (x ∷ xs) (suc i) (suc k) a b e = ⊎_elim (λ t. inl (ap suc t.0, t.1)) (λ t. let n = t.0 in inr ((λ h. n (omega arith)), t.1)) (set_cases xs i k a b e)
 
-pub back_on : {S : Type 0} (ops : List (Option S)) (n m i : ℕ) (new : Option S) → IsSome new → EachAt (λ k p. m ≤ k → IsSome p) ops → m ≡ n + 1 → i ≡ n → EachAt (λ k p. n ≤ k → IsSome p) (set ops i new)
-back_on ops n m i new some h more here k p is after =
-    ⊎_elim (λ (t : (k ≡ i) × (new ≡ p)). subst (λ (o : Option _). IsSome o) t.1 some) (λ (t : (k ≢ i) × (slice_get ops k ≡ Some p)). h k p t.1 (let n' = t.0 in omega (arith, after, more, here, n'))) (set_cases ops i k new p is)
+pub get_here : {A : Type 0} (l : List A) (i : ℕ) (a : A) → i < length l → slice_get (set l i a) i ≡ Some a
+get_here [] i a lt = absurd (omega (arith, lt))
+get_here (x ∷ xs) zero a lt = refl
+get_here (x ∷ xs) (suc i) a lt = get_here xs i a (omega (arith, lt))
 
-pub some_is : {S : Type 0} (o : Option S) (s : S) → o ≡ Some s → IsSome o
-some_is o s e = subst (λ (p : Option _). IsSome p) (sym e) refl
+told_one : {A B : Type 0} (f : A → B) (all : List A) (told : List B) (n m i : ℕ) (x : A) (new : B) → new ≡ f x → slice_get all n ≡ Some x
+    → n < length told → m ≡ n + 1 → i ≡ n → EachAt (λ k y. m ≤ k → slice_get told k ≡ Some (f y)) all → (k : ℕ) (y : A)
+    → slice_get all k ≡ Some y → n ≤ k → Dec (k ≡ n) → slice_get (set told i new) k ≡ Some (f y)
+told_one f all told n m i x new is at within more here h k y its after (yes same) =
+    let e : slice_get all k ≡ Some x = ap (slice_get all) same ∙ at in
+    let one : x ≡ y = cc in
+    let j : k ≡ i = same ∙ sym here in
+    subst (λ j. slice_get (set told i new) j ≡ Some (f y)) (sym j)
+    (get_here told i new (omega (arith, within, here)) ∙ ap (λ (z : _). Some z) (is ∙ ap f one))
+told_one f all told n m i x new is at within more here h k y its after (no other) =
+    get_else told i k new (λ e. other (e ∙ here)) ∙ h k y its (omega (arith, more, after, other))
+
+-- one more of what is told of each of a list, from its end on
+pub told_more : {A B : Type 0} (f : A → B) (all : List A) (told : List B) (n m i : ℕ) (x : A) (new : B) → new ≡ f x
+    → slice_get all n ≡ Some x → n < length told → m ≡ n + 1 → i ≡ n → EachAt (λ k y. m ≤ k → slice_get told k ≡ Some (f y)) all
+    → EachAt (λ k y. n ≤ k → slice_get (set told i new) k ≡ Some (f y)) all
+told_more f all told n m i x new is at within more here h k y its after =
+    told_one f all told n m i x new is at within more here h k y its after (ℕ_discrete k n)
+
+-- a fault is told of no place that is past a number
+pub none_more : {A : Type 0} (told : List (Option A)) (n i : ℕ) (new : Option A) → i < n
+    → ((k : ℕ) (x : A) → slice_get told k ≡ Some (Some x) → k < n) → (k : ℕ) (x : A) → slice_get (set told i new) k ≡ Some (Some x) → k < n
+none_more told n i new within h k x is =
+    ⊎_elim (λ (t : (k ≡ i) × (new ≡ Some x)). omega (arith, within, t.0)) (λ (t : (k ≢ i) × (slice_get told k ≡ Some (Some x))). h k x t.1)
+    (set_cases told i k new (Some x) is)
 
 pub take_same : {A : Type 0} (xs ys : List A) (n : ℕ) → n ≡ length xs → length ys ≡ length xs → take n (xs ++ drop (length xs) ys) ≡ xs
 take_same xs ys n is same = ap (λ (l : List _). take n (xs ++ l)) (drop_of_length-le ys {i = length xs} (omega (arith, same))) ∙ (ap (λ (l : List _). take n l) (append-nil xs) ∙ (ap (λ (m : ℕ). take m xs) is ∙ take-length xs))
-
-pub none_past : {S : Type 0} (ops : List (Option S)) (n : ℕ) → n ≡ length ops → EachAt (λ k p. n ≤ k → IsSome p) ops
-none_past ops n is k p at after = absurd (let t = slice_get_within ops k p at in omega (arith, t, after, is))
 
 get_at : {A : Type 0} (xs : List A) (k : ℕ) → k < length xs → (x : A) × (slice_get xs k ≡ Some x)
 get_at [] k lt = absurd (omega (arith, lt))
@@ -132,7 +154,7 @@ whole place n es ls last [] ys h e is = absurd (true≢false (sym is))
 whole place n [] ls last (x ∷ xs) ys h e is = none_behind xs ys (ap tail_of e)
 whole place n (k ∷ es) [] last (x ∷ xs) ys h e is = absurd h
 whole place n (k ∷ es) (l ∷ ls) last (x ∷ xs) ys h e is =
-    whole place (n + 1) es ls last xs ys h.2.1 (ap tail_of e) (or_none (is_last x.sent) (has_last xs) (ap (λ (l : List Entry). head_last l) e ∙ text_not_last k.sent l h.2.0) is)
+    whole place (n + 1) es ls last xs ys h.1.1.1 (ap tail_of e) (or_none (is_last x.sent) (has_last xs) (ap (λ (l : List Entry). head_last l) e ∙ text_not_last k.sent l h.1.1.0) is)
 
 -- each operator's entries among what was popped are all that it pushed
 pub complete : {S : Type 0} (left : S → Option (List ℕ)) (faults : S → ℕ) (Its : Pass Entry View → Type 0) (places : List (Option S)) (ys : List (Operator S)) (popped items : List Entry) (n : ℕ)

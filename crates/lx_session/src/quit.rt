@@ -3,14 +3,11 @@
 ghost use Rattle.std.specs.Prelude.{◌≡◌};
 ghost use Rattle.lx_spec.specs.Session.{ends_script};
 
-use crate::meaning::{Asked, Meaning};
+use lx_script::{Brief, Reading, read_brief};
 
 /// Whether the line is `quit`, which ends its script.
 pub fn is_quit(line: &[u8]) -> bool
     ensures { result ≡ ends_script line.now }
 {
-    match Meaning::of(Some(line)).asked() {
-        Asked::Quit => true,
-        _ => false,
-    }
+    matches!(read_brief(line), Reading::Brief(Brief::Quit))
 }
