@@ -1,7 +1,7 @@
 -- What is answered so far, and with one more entry.
-use Rattle.std.proofs.Common.{◌≡◌, ◌⊎◌, inl, inr, ℕ, zero, suc, ◌+◌, ◌≤◌, ◌<◌, ◌==◌, ◌&&◌, Bool, true, false, true≢false, Option, Some, None, Result, Ok, Err, IsErr}
+use Rattle.std.proofs.Common.{◌≡◌, inl, inr, ℕ, ◌+◌, ◌≤◌, ◌<◌, ◌==◌, ◌&&◌, Bool, true, false, true≢false, Option, Some, None, Result, Ok, Err}
 use Rattle.std.proofs.Common.{List, [], ◌∷◌, ◌++◌, length, take, drop, take-append-drop, refl, sym, ap, ◌∙◌, subst, append-nil, append_assoc, arith}
-use Rattle.std.specs.Prelude.{fold, flat_map, is_some, replicate}
+use Rattle.std.specs.Prelude.{fold, is_some}
 use Rattle.std.specs.Result.{result_err}
 use Rattle.std.specs.Io.KnownBytes.{Appends, Keeps}
 use Rattle.std.proofs.KnownBytes.{Appends-nil, Appends-trans, Appends-kept}
@@ -20,11 +20,11 @@ use Rattle.lx_spec.specs.RefusedPlaces.{MayWant}
 use Rattle.lx_spec.specs.Desk.{Desk}
 use Rattle.lx_spec.specs.Kept.{Kept}
 use Rattle.lx_spec.specs.Script.{line_of}
-use Rattle.lx_spec.specs.Session.{Session, begin_at, with_text}
+use Rattle.lx_spec.specs.Session.{Session, begin_at}
 use Rattle.lx_console.specs.Standing.{StandsFor}
 use Rattle.lx_session.specs.declared.tally.Tally.{Tally}
 use Rattle.lx_session.specs.Attempts.{WantsLast}
-use Rattle.lx_session.specs.LineAnswer.{GoesOn, LineAnswer, FromDesk}
+use Rattle.lx_session.specs.LineAnswer.{GoesOn, FromDesk}
 use Rattle.lx_session.specs.LineReply.{counts_in}
 use Rattle.lx_session.specs.LineState.{meaning_of}
 use Rattle.lx_session.proofs.HeardLines.{meaning_is}
@@ -32,10 +32,9 @@ use Rattle.lx_session.proofs.Places.{first, own_place, wants_own, own_above, own
 use Rattle.lx_session.proofs.SoFar.{no_place}
 use Rattle.lx_crew.specs.declared.entry.Entry.{Entry}
 use Rattle.lx_crew.specs.declared.entry.LineText.{LineText}
-use Rattle.lx_crew.specs.declared.entry.Sent.{Sent}
 use Rattle.lx_crew.specs.declared.entry.Sent.TheVariants.{Line, LongLine}
 use Rattle.lx_crew.specs.Entries.{text_in}
-use Rattle.lx_crew.specs.Answering.{long_line, named_line, said_by, said, NamedAnswer, AnswersNamed, AreAbove, AreWithin, IsDone, AnsweredAll}
+use Rattle.lx_crew.specs.Answering.{long_line, named_line, said_by, said, NamedAnswer, AnswersNamed, AreAbove, IsDone, AnsweredAll}
 use Rattle.lx_crew.specs.Answering.{AnsweredPart, HasAnswered}
 
 abbrev quiet : List Command → Type 0
@@ -53,7 +52,7 @@ may_want places s next meaning wanted g w n lower upper has =
 pub long_means : line_of long_line ≡ None
 long_means = sym (meaning_is None long_line (omega (arith, length-replicate {A = ℕ} (LINE_BYTES + 1) 0)))
 
-pub wants-append : (places : List ℕ) (s : Session) (xs ys : List CrewEntry) → EntriesWantAtEdits places s xs
+wants-append : (places : List ℕ) (s : Session) (xs ys : List CrewEntry) → EntriesWantAtEdits places s xs
     → EntriesWantAtEdits places (fold (after_entry places) s xs) ys → EntriesWantAtEdits places s (xs ++ ys)
 wants-append places s [] ys a b = b
 wants-append places s (x ∷ xs) ys a b = (a.0, wants-append places (after_entry places s x) xs ys a.1 b)
@@ -61,10 +60,10 @@ wants-append places s (x ∷ xs) ys a b = (a.0, wants-append places (after_entry
 nothing_above : (m : ℕ) → AreAbove m []
 nothing_above m n has = no_place m n (m < n) has
 
-pub done_none : (d : Desk) → IsDone d [] [] (begin_at d)
+done_none : (d : Desk) → IsDone d [] [] (begin_at d)
 done_none d = record { within = λ n has. no_place 0 n (n ≤ 0) has; is = λ more above. refl; edits = λ more above. tt }
 
-pub done_more : (d : Desk) (entries : List CrewEntry) (places : List ℕ) (now next : Session) (e : CrewEntry) (wanted : Bool)
+done_more : (d : Desk) (entries : List CrewEntry) (places : List ℕ) (now next : Session) (e : CrewEntry) (wanted : Bool)
     → IsDone d entries places now → GoesOn true quiet (named now e) next (line_of e.line) wanted
     → IsDone d (entries ++ e ∷ []) (places ++ own_place wanted next.attempts) next
 done_more d entries places now next e wanted done g =
@@ -90,18 +89,18 @@ done_more d entries places now next e wanted done g =
     }
 
 -- with the places that there are
-pub done_is : (d : Desk) (entries : List CrewEntry) (places : List ℕ) (now : Session) → IsDone d entries places now
+done_is : (d : Desk) (entries : List CrewEntry) (places : List ℕ) (now : Session) → IsDone d entries places now
     → crew_session d entries places ≡ now
 done_is d entries places now done =
     ap (λ ps. crew_session d entries ps) (sym (append-nil places)) ∙ done.is [] (nothing_above now.attempts)
 
-pub done_edits : (d : Desk) (entries : List CrewEntry) (places : List ℕ) (now : Session) → IsDone d entries places now
+done_edits : (d : Desk) (entries : List CrewEntry) (places : List ℕ) (now : Session) → IsDone d entries places now
     → CrewPlacesAreEdits d entries places
 done_edits d entries places now done =
     subst (λ ps. CrewPlacesAreEdits d entries ps) (append-nil places) (done.edits [] (nothing_above now.attempts))
 
 -- What is said of one more.
-pub said_more : (popped : List Entry) (e : Entry) (more : List CrewEntry) → said_by e.place e.number e.sent ≡ more
+said_more : (popped : List Entry) (e : Entry) (more : List CrewEntry) → said_by e.place e.number e.sent ≡ more
     → said (popped ++ e ∷ []) ≡ said popped ++ more
 said_more popped e more is =
     flat_map-append (λ (x : Entry). said_by x.place x.number x.sent) popped (e ∷ [])
@@ -117,7 +116,7 @@ front_of a b front rest text is p = AppendsFront-from a b text (length front)
     (subst (λ (v : List ℕ). Appends a b v) (sym (ap (take (length front)) is ∙ take-append_seam front rest)) p)
 
 -- one more line was answered
-pub answered_line : {K : Type 0} (holds : K → Option (List ℕ)) (faults wants : K → ℕ) (sink sink' : K) (b : Bool) (d : Desk)
+answered_line : {K : Type 0} (holds : K → Option (List ℕ)) (faults wants : K → ℕ) (sink sink' : K) (b : Bool) (d : Desk)
     (popped : List Entry) (start : Option (List ℕ)) (console console' : Kept) (tally tally' : Tally) (entry : Entry) (e : CrewEntry)
     → (a : AnsweredAll d popped start (holds sink) console tally) → said_by entry.place entry.number entry.sent ≡ e ∷ []
     → NamedAnswer holds faults wants sink sink' (Ok b) a.now (op_text e) (line_of e.line) console' tally'
@@ -138,7 +137,7 @@ answered_line holds faults wants sink sink' b d popped start console console' ta
     }
 
 -- or a prefix of its reply was written
-pub answered_front : {K : Type 0} (holds : K → Option (List ℕ)) (faults wants : K → ℕ) (sink sink' : K) (f : SinkFault) (d : Desk)
+answered_front : {K : Type 0} (holds : K → Option (List ℕ)) (faults wants : K → ℕ) (sink sink' : K) (f : SinkFault) (d : Desk)
     (popped : List Entry) (start : Option (List ℕ)) (console console' : Kept) (tally tally' : Tally) (entry : Entry) (e : CrewEntry)
     → (a : AnsweredAll d popped start (holds sink) console tally) → said_by entry.place entry.number entry.sent ≡ e ∷ []
     → NamedAnswer holds faults wants sink sink' (Err f) a.now (op_text e) (line_of e.line) console' tally'
@@ -167,7 +166,7 @@ answered_front holds faults wants sink sink' f d popped start console console' t
     }
 
 -- or a prefix of its name
-pub answered_name : (d : Desk) (popped : List Entry) (start h h' : Option (List ℕ)) (console : Kept) (tally : Tally) (entry : Entry)
+answered_name : (d : Desk) (popped : List Entry) (start h h' : Option (List ℕ)) (console : Kept) (tally : Tally) (entry : Entry)
     (e : CrewEntry) → AnsweredAll d popped start h console tally → said_by entry.place entry.number entry.sent ≡ e ∷ []
     → AppendsFront h h' (op_text e) → AnsweredPart d (popped ++ entry ∷ []) start h'
 answered_name d popped start h h' console tally entry e a is name =
@@ -199,7 +198,7 @@ answered_name d popped start h h' console tally entry e a is name =
     }
 
 -- a flush leaves what is written
-pub answered_kept : (d : Desk) (popped : List Entry) (start h h' : Option (List ℕ)) (console : Kept) (tally : Tally)
+answered_kept : (d : Desk) (popped : List Entry) (start h h' : Option (List ℕ)) (console : Kept) (tally : Tally)
     → AnsweredAll d popped start h console tally → Keeps h h' → AnsweredAll d popped start h' console tally
 answered_kept d popped start h h' console tally a kept = record {
   places = a.places;
@@ -210,7 +209,7 @@ answered_kept d popped start h h' console tally a kept = record {
   stands = a.stands;
 }
 
-pub answered_so_far : (d : Desk) (popped : List Entry) (start h : Option (List ℕ)) (console : Kept) (tally : Tally)
+answered_so_far : (d : Desk) (popped : List Entry) (start h : Option (List ℕ)) (console : Kept) (tally : Tally)
     → AnsweredAll d popped start h console tally → AnsweredPart d popped start h
 answered_so_far d popped start h console tally a = record {
   first = popped;
@@ -266,13 +265,14 @@ pub answered_entry : {K : Type 0} (holds : K → Option (List ℕ)) (faults want
     (meaning_of given) console' tally')
     → HasAnswered d popped start (holds sink) console tally output
     → HasAnswered d (popped ++ entry ∷ []) start (holds sink') console' tally' output'
-answered_entry holds faults wants sink sink' result d popped start console console' tally tally' entry given output output' said none is done so_far =
+answered_entry holds faults wants sink sink' result d popped start console console' tally tally' entry given output output' has none is
+done so_far =
     let a : AnsweredAll d popped start (holds sink) console tally =
     subst (λ o. HasAnswered d popped start (holds sink) console tally o) none so_far in
-    let e = named_line entry.place entry.number said.line in
+    let e = named_line entry.place entry.number has.line in
     subst (λ o. HasAnswered d (popped ++ entry ∷ []) start (holds sink') console' tally' o) (sym is)
-    (answered_by holds faults wants sink sink' result d popped start console console' tally tally' entry e a said.said
-    (subst (λ m. AnswersNamed holds faults wants sink sink' result a.now (op_text e) m console' tally') said.means
+    (answered_by holds faults wants sink sink' result d popped start console console' tally tally' entry e a has.said
+    (subst (λ m. AnswersNamed holds faults wants sink sink' result a.now (op_text e) m console' tally') has.means
     (done a.now a.stands a.counts)))
 
 pub none_is : (output : Option SinkFault) → false ≡ is_some output → output ≡ None

@@ -1,5 +1,5 @@
 -- What the engine came to, with one more entry.
-use Rattle.std.proofs.Common.{◌≡◌, ◌⊎◌, inl, inr, ⊎_elim, ℕ, ◌≤◌, Bool, true, Option, Some, None, List, [], ◌∷◌, ◌++◌, slice_get, ap, sym, subst, ◌∙◌, arith}
+use Rattle.std.proofs.Common.{◌≡◌, ◌⊎◌, inl, inr, ⊎_elim, ℕ, ◌≤◌, Bool, true, Option, Some, List, [], ◌∷◌, ◌++◌, slice_get, ap, sym, subst, ◌∙◌, arith}
 use Rattle.lx_io.specs.declared.sink.SinkFault.{SinkFault}
 use Rattle.lx_io.specs.declared.sink.SinkFault.TheVariants.{Failed, Memory}
 use Rattle.lx_io.specs.Causes.{Rose}

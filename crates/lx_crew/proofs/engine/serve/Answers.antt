@@ -1,6 +1,5 @@
-use Rattle.std.proofs.Common.{rules, ◌≡◌, ℕ, List, [], ◌∷◌, ◌++◌, true, Some, slice_get, refl, ap, sym, ◌∙◌, arith}
+use Rattle.std.proofs.Common.{rules, [], ◌∷◌, ◌++◌, slice_get, ap, sym, ◌∙◌, arith}
 use Rattle.lx_spec.specs.Session.{Counts}
-use Rattle.lx_session.specs.LineReply.{counts_in}
 use Rattle.lx_crew.proofs.Answered.{answered_none}
 use Rattle.lx_crew.proofs.Served.{takes_on, ended_on, cause_none, cause_then, answered_same}
 use Rattle.lx_crew.proofs.engine.serve.Goals as goal

@@ -1,4 +1,4 @@
-use Rattle.std.proofs.Common.{◌≡◌, ◌≤◌, ◌+◌, ◌-◌, ◌^◌, ◌<◌, ℕ, List, [], true, None, slice_get, Some}
+use Rattle.std.proofs.Common.{◌≡◌, ◌≤◌, ◌+◌, ◌-◌, ◌^◌, ℕ, List, [], true, None, slice_get, Some}
 use Rattle.crossbeam_queue.specs.Passes.{view, IsSamePass}
 use Rattle.lx_spec.specs.Desk.{Desk}
 use Rattle.lx_console.specs.Standing.{StandsFor}
