@@ -122,7 +122,7 @@ back_at : {S : Type 0} (left : S → Option (List ℕ)) (faults : S → ℕ) (It
     → EachAt (λ k y. slice_get told k ≡ Some y.fault) ys → (place : ℕ) (start : S) → slice_get places place ≡ Some (Some start)
     → IsBack left faults places' told place start (by_number (lines_of left faults Its places ys h) (place + 1))
 back_at left faults Its places places' told ys h len back says place start at =
-    let within = slice_get_within places place at in
+    let within = slice_get_within places place (Some start) at in
     let y = get_at ys place (omega (arith, len, within)) in
     let t = told_at (Retired left faults Its places) (λ k y r. r.sent.lines) ys h place y.0 y.1 in
     let r = t.0 in

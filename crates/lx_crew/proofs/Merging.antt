@@ -16,8 +16,13 @@ use Rattle.lx_crew.specs.declared.entry.Sent.TheVariants.{Line, LongLine, End, R
 use Rattle.lx_crew.specs.Answering.{long_line, named_line, said_by, said}
 use Rattle.lx_crew.specs.Entries.{of_place, is_last, HasText, HaveLines, text_in}
 use Rattle.lx_spec.specs.CrewText.{of_operator, numbered_from, Merged, MergedSoFar}
-use Rattle.lx_crew.proofs.Answered.{long_means}
+use Rattle.std.proofs.lemmas.List.{length-replicate}
+use Rattle.lx_base.specs.declared.TheConstants.{LINE_BYTES}
 use Rattle.lx_crew.proofs.Lists.{none_front, tail_of}
+
+-- the text that stands for those of lines that are too long is bad
+long_means : line_of long_line ≡ None
+long_means = sym (meaning_is None long_line (omega (arith, length-replicate {A = ℕ} (LINE_BYTES + 1) 0)))
 
 -- the line of this number of the operator at a place
 abbrev pub line_at : (ℕ → List (List ℕ)) → ℕ → ℕ → List ℕ
@@ -102,15 +107,6 @@ all_of_all P (e ∷ es) h =
     (mine.0, all_of_all P es (λ place. behind P e (of_place place es) (e.place == place) (h place)))
 
 -- An operator's entries of the transcript are those of its place.
-true_here : (lines : ℕ → List (List ℕ)) (k place number : ℕ) (sent : Sent) (rest : List CrewEntry) (more : List Entry) (e : Entry)
-    → e.place ≡ place → e.number ≡ number → e.sent ≡ sent → of_operator (k + 1) rest ≡ true_entries lines more → (b : Bool) → (place == k) ≡ b
-    → of_operator (k + 1) (true_by lines place number sent ++ rest) ≡ true_entries lines (cond b (e ∷ more) more)
-true_here lines k place number sent rest more e own num is h true b =
-    let p : place ≡ k = grind (arith, nat_tests, b) in
-    true_sent lines k place number sent rest more p h ∙ ap (λ (x : ℕ × (ℕ × Sent)). true_by lines x.0 x.1.0 x.1.1 ++ true_entries lines more)
-    (sym (λ i. (own i, (num i, is i))))
-true_here lines k place number sent rest more e own num is h false b = true_other lines k place number sent rest b ∙ h
-
 true_sent : (lines : ℕ → List (List ℕ)) (k place number : ℕ) (sent : Sent) (rest : List CrewEntry) (more : List Entry) → place ≡ k
     → of_operator (k + 1) rest ≡ true_entries lines more
     → of_operator (k + 1) (true_by lines place number sent ++ rest) ≡ true_by lines place number sent ++ true_entries lines more
@@ -124,13 +120,22 @@ true_sent lines k place number InputTooLong rest more own h = h
 
 true_other : (lines : ℕ → List (List ℕ)) (k place number : ℕ) (sent : Sent) (rest : List CrewEntry) → (place == k) ≡ false
     → of_operator (k + 1) (true_by lines place number sent ++ rest) ≡ of_operator (k + 1) rest
-true_other lines k place number (Line l) rest no =
-    let other : (place + 1 == k + 1) ≡ false = grind (arith, nat_tests, no) in rw other refl
-true_other lines k place number LongLine rest no =
-    let other : (place + 1 == k + 1) ≡ false = grind (arith, nat_tests, no) in rw other refl
-true_other lines k place number End rest no = refl
-true_other lines k place number ReadFault rest no = refl
-true_other lines k place number InputTooLong rest no = refl
+true_other lines k place number (Line l) rest other =
+    let away : (place + 1 == k + 1) ≡ false = grind (arith, nat_tests, other) in rw away refl
+true_other lines k place number LongLine rest other =
+    let away : (place + 1 == k + 1) ≡ false = grind (arith, nat_tests, other) in rw away refl
+true_other lines k place number End rest other = refl
+true_other lines k place number ReadFault rest other = refl
+true_other lines k place number InputTooLong rest other = refl
+
+true_here : (lines : ℕ → List (List ℕ)) (k place number : ℕ) (sent : Sent) (rest : List CrewEntry) (more : List Entry) (e : Entry)
+    → e.place ≡ place → e.number ≡ number → e.sent ≡ sent → of_operator (k + 1) rest ≡ true_entries lines more → (b : Bool) → (place == k) ≡ b
+    → of_operator (k + 1) (true_by lines place number sent ++ rest) ≡ true_entries lines (cond b (e ∷ more) more)
+true_here lines k place number sent rest more e own num is h true b =
+    let p : place ≡ k = grind (arith, nat_tests, b) in
+    true_sent lines k place number sent rest more p h ∙ ap (λ (x : ℕ × (ℕ × Sent)). true_by lines x.0 x.1.0 x.1.1 ++ true_entries lines more)
+    (sym (λ i. (own i, (num i, is i))))
+true_here lines k place number sent rest more e own num is h false b = true_other lines k place number sent rest b ∙ h
 
 pub operator_true : (lines : ℕ → List (List ℕ)) (k : ℕ) (es : List Entry) → of_operator (k + 1) (true_entries lines es) ≡ true_entries lines (of_place k es)
 operator_true lines k [] = refl
@@ -142,7 +147,10 @@ at_drop : (xs : List (List ℕ)) (m : ℕ) (l : List ℕ) (ls : List (List ℕ))
 at_drop [] zero l ls e = absurd cc
 at_drop [] (suc m) l ls e = absurd cc
 at_drop (x ∷ xs) zero l ls e = (cc, cc)
-at_drop (x ∷ xs) (suc m) l ls e = at_drop xs m l ls e
+at_drop (x ∷ xs) (suc m) l ls e =
+    let r = at_drop xs m l ls e in
+    let next : suc m + 1 ≡ suc (m + 1) = omega arith in
+    (r.0, ap (λ n. drop n (x ∷ xs)) next ∙ r.1)
 
 own_line : (lines : ℕ → List (List ℕ)) (k m place number : ℕ) (l : List ℕ) → place ≡ k → number ≡ m + 1 → get_or (lines k) m [] ≡ l
     → line_at lines place number ≡ l
