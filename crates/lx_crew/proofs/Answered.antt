@@ -49,6 +49,10 @@ may_want places s next meaning wanted g w n lower upper has =
     let here : (wanted && n == next.attempts) ≡ true = sym (w n lower (omega (arith, upper, is))) ∙ has in
     g.at_edit (first wanted (n == next.attempts) here) refl
 
+-- a line that is too long is bad, whatever its text
+pub long_means : line_of long_line ≡ None
+long_means = sym (meaning_is None long_line (omega (arith, length-replicate {A = ℕ} (LINE_BYTES + 1) 0)))
+
 pub wants-append : (places : List ℕ) (s : Session) (xs ys : List CrewEntry) → EntriesWantAtEdits places s xs
     → EntriesWantAtEdits places (fold (after_entry places) s xs) ys → EntriesWantAtEdits places s (xs ++ ys)
 wants-append places s [] ys a b = b
@@ -194,31 +198,6 @@ answered_name d popped start h h' console tally entry e a is name =
           (Appends-trans start h h' a.now.text (take part.0 (op_text e)) a.text part.1);
     }
 
--- an entry that is no line says nothing
-pub answered_last : (d : Desk) (popped : List Entry) (start h : Option (List ℕ)) (console : Kept) (tally : Tally) (entry : Entry)
-    → AnsweredAll d popped start h console tally → said_by entry.place entry.number entry.sent ≡ []
-    → AnsweredAll d (popped ++ entry ∷ []) start h console tally
-answered_last d popped start h console tally entry a is = record {
-  places = a.places;
-  now = a.now;
-  done = subst (λ es. IsDone d es a.places a.now) (sym (said_more popped entry [] is ∙ append-nil (said popped))) a.done;
-  text = a.text;
-  counts = a.counts;
-  stands = a.stands;
-}
-
--- after a fault of the output entries are thrown away
-pub thrown_away : (d : Desk) (popped : List Entry) (start h : Option (List ℕ)) (entry : Entry) → AnsweredPart d popped start h
-    → AnsweredPart d (popped ++ entry ∷ []) start h
-thrown_away d popped start h entry p = record {
-  first = p.first;
-  rest = p.rest ++ entry ∷ [];
-  are = ap (λ (l : List Entry). l ++ entry ∷ []) p.are ∙ append_assoc p.first p.rest (entry ∷ []);
-  places = p.places;
-  edits = p.edits;
-  text = p.text;
-}
-
 -- a flush leaves what is written
 pub answered_kept : (d : Desk) (popped : List Entry) (start h h' : Option (List ℕ)) (console : Kept) (tally : Tally)
     → AnsweredAll d popped start h console tally → Keeps h h' → AnsweredAll d popped start h' console tally
@@ -261,7 +240,7 @@ pub said_long : (entry : Entry) (given : Option (List ℕ)) → entry.sent ≡ L
 said_long entry given is none = record {
   line = long_line;
   said = ap (said_by entry.place entry.number) is;
-  means = ap meaning_of none ∙ meaning_is None long_line (omega (arith, length-replicate {A = ℕ} (LINE_BYTES + 1) 0));
+  means = ap meaning_of none ∙ sym long_means;
 }
 
 answered_by : {K : Type 0} (holds : K → Option (List ℕ)) (faults wants : K → ℕ) (sink sink' : K) (result : Result Bool SinkFault)
