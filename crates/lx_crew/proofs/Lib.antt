@@ -1,4 +1,5 @@
 pub mod Answered
+pub mod Crews
 pub mod Lists
 pub mod Merging
 pub mod Rules

@@ -42,6 +42,10 @@ pub none_behind : (xs ys : List Entry) → xs ++ ys ≡ [] → ys ≡ []
 none_behind [] ys e = e
 none_behind (x ∷ xs) ys e = absurd cc
 
+pub none_front : (xs ys : List Entry) → xs ++ ys ≡ [] → xs ≡ []
+none_front [] ys e = refl
+none_front (x ∷ xs) ys e = absurd cc
+
 pub last_longer : (xs ys : List Entry) → has_last xs ≡ true → has_last (xs ++ ys) ≡ true
 last_longer [] ys e = absurd (true≢false (sym e))
 last_longer (x ∷ xs) ys e = or_longer (is_last x.sent) (has_last xs) (has_last (xs ++ ys)) (λ h. last_longer xs ys h) e

@@ -241,7 +241,7 @@ pub ended_by_quit : {S : Type 0} (left : S → Option (List ℕ)) (faults : S �
     → HasEnded left faults source c.source.now None (map without_cr s.raws ++ without_cr q.raw ∷ [])
 ended_by_quit left faults source a b c began s q = record {
   are = over (left source) _ _ (from_start left source a (λ n. all_are n (map without_cr s.raws ++ without_cr q.raw ∷ [])) began
-      (quit_lines left faults a b c s q)) (λ xs e. record { are = e.0; within = e.1 });
+      (quit_lines left faults a b c s q)) (λ xs e. record { are = e.0; within = omega (arith, e.1) });
   later = let x = s.handed.later in let y = q.handed.later in let z = ap faults began.now in omega (arith, x, y, z);
   failed = λ e. absurd (no_fault ends.ReadFault e);
 }
@@ -251,7 +251,7 @@ last_are : {S : Type 0} (left : S → Option (List ℕ)) (faults : S → ℕ) (s
     → IfSome (left source) (λ bytes. AreLines fault bytes (left c.source.now) (map without_cr s.raws))
 last_are left faults source a b c None began s t =
     over (left source) _ _ (from_start left source a (λ n. all_are n (map without_cr s.raws)) began (end_lines left faults a b c s t))
-    (λ xs e. record { are = e.0; within = e.1 })
+    (λ xs e. record { are = e.0; within = omega (arith, e.1) })
 last_are left faults source a b c (Some ends.ReadFault) began s t =
     over (left source) _ _ (from_start left source a (λ n. cut_are n (left c.source.now) (map without_cr s.raws)) began
     (cut_lines_are left faults a b c s t.0)) (λ xs e. record { cut = e.0; are = e.1; go_on = s.go_on })
@@ -259,7 +259,7 @@ last_are left faults source a b c (Some ends.InputTooLong) began s t =
     with_both (left source) _ _ _ (from_start left source a (λ n. cut_are n (left c.source.now) (map without_cr s.raws)) began
     (cut_lines_are left faults a b c s t.0))
     (from_start left source a (λ n bytes. INPUT_BYTES < n + length (bytes_wanted bytes)) began (too_long left faults a b c s t.1))
-    (λ xs e f. (record { cut = e.0; are = e.1; go_on = s.go_on }, f))
+    (λ xs e f. (record { cut = e.0; are = e.1; go_on = s.go_on }, omega (arith, f)))
 
 rose_after : (x y z : ℕ) → x ≤ y → Rose y z → Rose x z
 rose_after x y z le rose = omega (arith, le, rose)

@@ -117,7 +117,7 @@ none_more told n i new within h k x is =
 pub take_same : {A : Type 0} (xs ys : List A) (n : ℕ) → n ≡ length xs → length ys ≡ length xs → take n (xs ++ drop (length xs) ys) ≡ xs
 take_same xs ys n is same = ap (λ (l : List _). take n (xs ++ l)) (drop_of_length-le ys {i = length xs} (omega (arith, same))) ∙ (ap (λ (l : List _). take n l) (append-nil xs) ∙ (ap (λ (m : ℕ). take m xs) is ∙ take-length xs))
 
-get_at : {A : Type 0} (xs : List A) (k : ℕ) → k < length xs → (x : A) × (slice_get xs k ≡ Some x)
+pub get_at : {A : Type 0} (xs : List A) (k : ℕ) → k < length xs → (x : A) × (slice_get xs k ≡ Some x)
 get_at [] k lt = absurd (omega (arith, lt))
 get_at (x ∷ xs) zero lt = (x, refl)
 get_at (x ∷ xs) (suc k) lt = get_at xs k (omega (arith, lt))
@@ -156,17 +156,20 @@ whole place n (k ∷ es) [] last (x ∷ xs) ys h e is = absurd h
 whole place n (k ∷ es) (l ∷ ls) last (x ∷ xs) ys h e is =
     whole place (n + 1) es ls last xs ys h.1.1.1 (ap tail_of e) (or_none (is_last x.sent) (has_last xs) (ap (λ (l : List Entry). head_last l) e ∙ text_not_last k.sent l h.1.1.0) is)
 
--- each operator's entries among what was popped are all that it pushed
-pub complete : {S : Type 0} (left : S → Option (List ℕ)) (faults : S → ℕ) (Its : Pass Entry View → Type 0) (places : List (Option S)) (ys : List (Operator S)) (popped items : List Entry) (n : ℕ)
-    → (h : EachAt (Retired left faults Its places) ys) → length ys ≡ n
-    → AllByRecursion (λ (p : ℕ × List Entry). p.1 ≡ of_place p.0 (popped ++ items)) (map owned ys ++ []) → ((k : ℕ) → k < n → has_last (of_place k popped) ≡ true)
-    → (k : ℕ) (y : Operator S) (is : slice_get ys k ≡ Some y) → k < n → of_place k popped ≡ (h k y is).sent.entries ++ (h k y is).sent.last ∷ []
-complete left faults Its places ys popped items n h len kept ended k y is lt =
-    let s = (h k y is).sent in
-    let own : (view y.pass).pushed ≡ of_place (view y.pass).place (popped ++ items) = map_at (λ (p : ℕ × List Entry). p.1 ≡ of_place p.0 (popped ++ items)) owned ys [] kept k y is in
-    let mine : s.entries ++ s.last ∷ [] ≡ of_place k (popped ++ items) = sym (ap (λ (v : View). v.pushed) s.view) ∙ (own ∙ ap (λ (v : View). of_place v.place (popped ++ items)) s.view) in
-    let both : of_place k popped ++ of_place k items ≡ s.entries ++ s.last ∷ [] = sym (filter-append (λ (x : Entry). x.place == k) popped items) ∙ sym mine in
-    let none : of_place k items ≡ [] = whole k 1 s.entries s.lines s.last (of_place k popped) (of_place k items) s.have both (ended k lt) in
+-- an operator's entries among what was popped are all that it pushed
+pub complete : {S : Type 0} (left : S → Option (List ℕ)) (faults : S → ℕ) (Its : Pass Entry View → Type 0) (places : List (Option S))
+    (ys : List (Operator S)) (popped items : List Entry) → AllByRecursion (λ (p : ℕ × List Entry). p.1 ≡ of_place p.0 (popped ++ items))
+    (map owned ys ++ []) → (k : ℕ) (y : Operator S) → slice_get ys k ≡ Some y → (r : Retired left faults Its places k y)
+    → has_last (of_place k popped) ≡ true → of_place k popped ≡ r.sent.entries ++ r.sent.last ∷ []
+complete left faults Its places ys popped items kept k y is r ended =
+    let s = r.sent in
+    let own : (view y.pass).pushed ≡ of_place (view y.pass).place (popped ++ items) =
+        map_at (λ (p : ℕ × List Entry). p.1 ≡ of_place p.0 (popped ++ items)) owned ys [] kept k y is in
+    let mine : s.entries ++ s.last ∷ [] ≡ of_place k (popped ++ items) =
+        sym (ap (λ (v : View). v.pushed) s.view) ∙ (own ∙ ap (λ (v : View). of_place v.place (popped ++ items)) s.view) in
+    let both : of_place k popped ++ of_place k items ≡ s.entries ++ s.last ∷ [] =
+        sym (filter-append (λ (x : Entry). x.place == k) popped items) ∙ sym mine in
+    let none : of_place k items ≡ [] = whole k 1 s.entries s.lines s.last (of_place k popped) (of_place k items) s.have both ended in
     sym (append-nil (of_place k popped)) ∙ (ap (λ (l : List Entry). of_place k popped ++ l) (sym none) ∙ both)
 
 pub ready_all : {S : Type 0} (Its : Pass Entry View → Type 0) (places : List (Option S)) (xs : List (Operator S)) → EachAt (Hired Its places) xs

@@ -20,10 +20,10 @@ use std::sync::Wait;
 
 /// What an operator owns while it runs, and how it ended.
 #[derive(Drop)]
-pub struct Operator<'q, S> {
+pub struct Operator<'q, 'e, S> {
     pub queue: &'q Queue,
     /// Wakes the engine.
-    pub engine: &'q Unparker,
+    pub engine: &'e Unparker,
     pub pass: Pass<Entry, View>,
     pub source: S,
     /// Its place, from 0.
@@ -31,7 +31,7 @@ pub struct Operator<'q, S> {
     pub fault: Option<OperatorFault>,
 }
 
-impl<S: Source> Job for Operator<'_, S> {
+impl<S: Source> Job for Operator<'_, '_, S> {
     ghost ready = { λ x. IsPassOf x.queue.now x.pass × (view x.pass ≡ operator_view x.place []) };
 
     ghost done = { λ x y. IsSamePass x.pass y.pass × HasSent S.left S.faults x.place x.source y.source (view y.pass) y.fault };

@@ -97,12 +97,12 @@ pub fn crew<R: Threads + Wait + Sync, S: Source + Send + Drop, K: Sink + Send>(
 }
 
 /// Moves each source into a work, beside a pass of its own.
-fn hire<'q, S: Source>(
+fn hire<'q, 'e, S: Source>(
     queue: &'q Queue,
-    waker: &'q Unparker,
+    waker: &'e Unparker,
     pass: &mut Pass<Entry, View>,
     operators: &mut [Option<S>],
-    works: &mut Vec<Operator<'q, S>>,
+    works: &mut Vec<Operator<'q, 'e, S>>,
 )
     requires queue { IsPassOf queue.now pass.old }
     requires view { view pass.old ≡ engine_view 0 [] [] }
@@ -138,7 +138,7 @@ fn release<S: Source + Drop>(
     queue: &Queue,
     pass: &mut Pass<Entry, View>,
     operators: &mut [Option<S>],
-    works: Vec<Operator<'_, S>>,
+    works: Vec<Operator<'_, '_, S>>,
 ) -> [Option<OperatorFault>; PLACES]
     requires queue { IsPassOf queue.now pass.old }
     requires pops { (view pass.old).pops ≡ true }
