@@ -1,6 +1,7 @@
 -- What is answered so far, and with one more entry.
-use Rattle.std.proofs.Common.{◌≡◌, inl, inr, ℕ, ◌+◌, ◌≤◌, ◌<◌, ◌==◌, ◌&&◌, Bool, true, false, true≢false, Option, Some, None, Result, Ok, Err}
-use Rattle.std.proofs.Common.{List, [], ◌∷◌, ◌++◌, length, take, drop, take-append-drop, refl, sym, ap, ◌∙◌, subst, append-nil, append_assoc, arith}
+use Rattle.std.proofs.Common.{◌≡◌, inl, inr, ℕ, ◌+◌, ◌≤◌, ◌<◌, ◌==◌, ◌&&◌, Bool, true, false, true≢false, Option, Some, None, Result, Ok}
+use Rattle.std.proofs.Common.{Err, List, [], ◌∷◌, ◌++◌, length, take, drop, take-append-drop, refl, sym, ap, ◌∙◌, subst, append-nil}
+use Rattle.std.proofs.Common.{append_assoc, arith}
 use Rattle.std.specs.Prelude.{fold, is_some}
 use Rattle.std.specs.Result.{result_err}
 use Rattle.std.specs.Io.KnownBytes.{Appends, Keeps}
@@ -266,7 +267,7 @@ pub answered_entry : {K : Type 0} (holds : K → Option (List ℕ)) (faults want
     → HasAnswered d popped start (holds sink) console tally output
     → HasAnswered d (popped ++ entry ∷ []) start (holds sink') console' tally' output'
 answered_entry holds faults wants sink sink' result d popped start console console' tally tally' entry given output output' has none is
-done so_far =
+    done so_far =
     let a : AnsweredAll d popped start (holds sink) console tally =
     subst (λ o. HasAnswered d popped start (holds sink) console tally o) none so_far in
     let e = named_line entry.place entry.number has.line in
@@ -275,6 +276,7 @@ done so_far =
     (subst (λ m. AnswersNamed holds faults wants sink sink' result a.now (op_text e) m console' tally') has.means
     (done a.now a.stands a.counts)))
 
+-- an output without a fault
 pub none_is : (output : Option SinkFault) → false ≡ is_some output → output ≡ None
 none_is None e = refl
 none_is (Some fault) e = cc

@@ -1,5 +1,6 @@
 -- What the engine came to, with one more entry.
-use Rattle.std.proofs.Common.{◌≡◌, ◌⊎◌, inl, inr, ⊎_elim, ℕ, ◌≤◌, Bool, true, Option, Some, List, [], ◌∷◌, ◌++◌, slice_get, ap, sym, subst, ◌∙◌, arith}
+use Rattle.std.proofs.Common.{◌≡◌, ◌⊎◌, inl, inr, ⊎_elim, ℕ, ◌≤◌, Bool, true, Option, Some, List, [], ◌∷◌, ◌++◌, slice_get, ap, sym}
+use Rattle.std.proofs.Common.{subst, ◌∙◌, arith}
 use Rattle.lx_io.specs.declared.sink.SinkFault.{SinkFault}
 use Rattle.lx_io.specs.declared.sink.SinkFault.TheVariants.{Failed, Memory}
 use Rattle.lx_io.specs.Causes.{Rose}
@@ -23,7 +24,8 @@ pub ended_on : (before after : List Bool) (popped : List Entry) (e : Entry) → 
 ended_on before after popped e m h k is =
     ⊎_elim (λ b. last_on k popped e (h k b)) (λ (b : (e.place ≡ k) × (is_last e.sent ≡ true)). last_here k popped e b.0 b.1) (m k is)
 
-pub cause_none : {K : Type 0} (faults wants : K → ℕ) (sink : K) (output : Option SinkFault) → OutputCause faults wants sink sink output output
+pub cause_none : {K : Type 0} (faults wants : K → ℕ) (sink : K) (output : Option SinkFault)
+    → OutputCause faults wants sink sink output output
 cause_none faults wants sink output = record {
   later = omega arith;
   wants_later = omega arith;

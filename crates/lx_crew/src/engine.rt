@@ -47,7 +47,8 @@ impl<K: Sink> Job for Engine<'_, '_, '_, K> {
     ghost done = { λ x y. IsSamePass x.pass y.pass
         × ((y.console.ghost_name ≡ x.console.ghost_name)
         × ((y.sink.ghost_name ≡ x.sink.ghost_name)
-        × HasServed K.holds K.faults K.wants x.operators (view y.pass) x.sink.now y.sink.now x.console.now y.console.now y.tally y.output)) };
+        × HasServed K.holds K.faults K.wants x.operators (view y.pass) x.sink.now y.sink.now x.console.now y.console.now y.tally
+        y.output)) };
 
     fn run<R: Wait>(&mut self, rt: &R) {
         self.tally = Tally::new();
@@ -80,7 +81,8 @@ fn serve<R: Wait, K: Sink>(
     requires few { operators ≤ 4 }
     requires none { counts_in tally.old ≡ record { ok = 0; refused = 0; bad = 0 } }
     ensures queue { IsSamePass pass.old pass.new }
-    ensures served { HasServed K.holds K.faults K.wants operators (view pass.new) sink.old sink.new console.old console.new tally.new result }
+    ensures served { HasServed K.holds K.faults K.wants operators (view pass.new) sink.old sink.new console.old console.new tally.new
+        result }
 {
     let mut ended = [false; PLACES];
     let mut output = None;
@@ -89,15 +91,7 @@ fn serve<R: Wait, K: Sink>(
             flush(sink, &mut output);
             return output;
         }
-        if !take_one(
-            queue,
-            pass,
-            console,
-            sink,
-            tally,
-            &mut output,
-            &mut ended,
-        ) {
+        if !take_one(queue, pass, console, sink, tally, &mut output, &mut ended) {
             flush(sink, &mut output);
             parker.park(rt);
         }
