@@ -13,7 +13,7 @@ use Rattle.lx_crew.specs.declared.entry.Sent.{Sent}
 use Rattle.lx_crew.specs.declared.entry.Sent.TheVariants.{Line, LongLine, End, ReadFault, InputTooLong}
 use Rattle.lx_crew.specs.Rule.{engine_view, operator_view, Kept}
 use Rattle.lx_crew.specs.Sending.{HasSent}
-use Rattle.lx_crew.specs.Hired.{EachAt, Hired, Works, Retired, owned}
+use Rattle.lx_crew.specs.Hired.{EachAt, HasRun, Hired, IsReady, Works, Retired, owned}
 use Rattle.std.proofs.lemmas.List.Elements.{filter-append}
 use Rattle.lx_crew.proofs.Lists.{or_none, none_behind, tail_of, head_last}
 use Rattle.crossbeam_queue.specs.Passes.{view, Pass, IsSamePass, IsPassOf}
@@ -122,10 +122,6 @@ get_at [] k lt = absurd (omega (arith, lt))
 get_at (x ∷ xs) zero lt = (x, refl)
 get_at (x ∷ xs) (suc k) lt = get_at xs k (omega (arith, lt))
 
--- what an operator's work does
-abbrev pub HasRun : {S : Type 0} → (S → Option (List ℕ)) → (S → ℕ) → Operator S → Operator S → Type 0
-HasRun left faults x y = IsSamePass x.pass y.pass × HasSent left faults x.place x.source y.source (view y.pass) y.fault
-
 pub retired : {S : Type 0} (left : S → Option (List ℕ)) (faults : S → ℕ) (Its : Pass Entry View → Type 0) (carry : (p q : Pass Entry View) → IsSamePass p q → Its p → Its q)
     (places : List (Option S)) (xs ys : List (Operator S)) → AllZip (HasRun left faults) xs ys → EachAt (Hired Its places) xs → EachAt (Retired left faults Its places) ys
 retired left faults Its carry places xs ys z h = each_zip (HasRun left faults) (Hired Its places) (Retired left faults Its places) xs ys z h
@@ -173,8 +169,9 @@ complete left faults Its places ys popped items kept k y is r ended =
     sym (append-nil (of_place k popped)) ∙ (ap (λ (l : List Entry). of_place k popped ++ l) (sym none) ∙ both)
 
 pub ready_all : {S : Type 0} (Its : Pass Entry View → Type 0) (places : List (Option S)) (xs : List (Operator S)) → EachAt (Hired Its places) xs
-    → All (λ (w : Operator S). IsPassOf w.queue.now w.pass × (view w.pass ≡ operator_view w.place [])) xs
-ready_all Its places xs h = all_at (λ (w : Operator _). IsPassOf w.queue.now w.pass × (view w.pass ≡ operator_view w.place [])) (Hired Its places) xs h (λ k w t. (t.own_queue, t.fresh ∙ ap (λ (n : ℕ). operator_view n []) (sym t.place)))
+    → All (λ (w : Operator S). IsReady w) xs
+ready_all Its places xs h = all_at (λ (w : Operator _). IsReady w) (Hired Its places) xs h
+    (λ k w t. (t.own_queue, t.fresh ∙ ap (λ (n : ℕ). operator_view n []) (sym t.place)))
 
 pub works_back : {A : Type 0} (R : A → A → Type 0) (xs ys : List A) (n : ℕ) → n ≡ length xs → AllZip R xs ys → take n (ys ++ drop (length ys) xs) ≡ ys
 works_back R xs ys n is z = let l = AllZip-long R xs ys z in take_same ys xs n (omega (arith, is, l)) (omega (arith, l))

@@ -1,6 +1,6 @@
 -- The works of the operators.
 use Rattle.std.specs.Prelude.{◌≡◌, ℕ, ◌<◌, true, List, [], Option, Some, None, slice_get}
-use Rattle.crossbeam_queue.specs.Passes.{view, IsPassOf, Pass}
+use Rattle.crossbeam_queue.specs.Passes.{view, IsPassOf, IsSamePass, Pass}
 use Rattle.lx_crew.specs.declared.entry.Entry.{Entry}
 use Rattle.lx_crew.specs.declared.fault.OperatorFault.{OperatorFault}
 use Rattle.lx_crew.specs.declared.rule.View.{View}
@@ -19,6 +19,14 @@ pub record Hired {S : Type 0} (Its : Pass Entry View → Type 0) (places : List 
   pub fresh : view w.pass ≡ operator_view k []
   pub place : w.place ≡ k
   pub source : slice_get places k ≡ Some (Some w.source)
+
+-- it may run: its pass has pushed nothing
+abbrev pub IsReady : {S : Type 0} → Operator S → Type 0
+IsReady w = IsPassOf w.queue.now w.pass × (view w.pass ≡ operator_view w.place [])
+
+-- what a work does: it pushed its lines
+abbrev pub HasRun : {S : Type 0} → (S → Option (List ℕ)) → (S → ℕ) → Operator S → Operator S → Type 0
+HasRun left faults x y = IsSamePass x.pass y.pass × HasSent left faults x.place x.source y.source (view y.pass) y.fault
 
 -- what its pass pushed
 abbrev pub owned : {S : Type 0} → Operator S → ℕ × List Entry

@@ -24,11 +24,11 @@ pub(crate) const PLACES: usize = OPERATORS as usize;
 
 /// What the engine is lent, and what came of it.
 #[derive(Drop)]
-pub struct Engine<'q, 'c, 'k, K> {
+pub struct Engine<'q, 'p, 'w, 'c, 'k, K> {
     pub queue: &'q Queue,
-    pub pass: Pass<Entry, View>,
+    pub pass: &'p mut Pass<Entry, View>,
     /// It waits here while there is nothing to take.
-    pub parker: Parker,
+    pub parker: &'w mut Parker,
     pub console: &'c mut Console,
     pub sink: &'k mut K,
     pub operators: usize,
@@ -36,27 +36,28 @@ pub struct Engine<'q, 'c, 'k, K> {
     pub output: Option<SinkFault>,
 }
 
-impl<K: Sink> Job for Engine<'_, '_, '_, K> {
+impl<K: Sink> Job for Engine<'_, '_, '_, '_, '_, K> {
     ghost use Rattle.std.specs.Prelude.{◌≡◌, ◌≤◌, [], None};
     ghost use Rattle.crossbeam_queue.specs.Passes.{view, IsPassOf, IsSamePass};
     ghost use Rattle.lx_crew.specs.Rule.{engine_view};
     ghost use Rattle.lx_crew.specs.Answering.{HasServed};
 
-    ghost ready = { λ x. IsPassOf x.queue.now x.pass × ((view x.pass ≡ engine_view x.operators [] []) × (x.operators ≤ 4)) };
+    ghost ready = { λ x. IsPassOf x.queue.now x.pass.now × ((view x.pass.now ≡ engine_view x.operators [] []) × (x.operators ≤ 4)) };
 
-    ghost done = { λ x y. IsSamePass x.pass y.pass
+    ghost done = { λ x y. (y.pass.ghost_name ≡ x.pass.ghost_name)
         × ((y.console.ghost_name ≡ x.console.ghost_name)
         × ((y.sink.ghost_name ≡ x.sink.ghost_name)
-        × HasServed K.holds K.faults K.wants x.operators (view y.pass) x.sink.now y.sink.now x.console.now y.console.now y.tally
-        y.output)) };
+        × (IsSamePass x.pass.now y.pass.now
+        × HasServed K.holds K.faults K.wants x.operators (view y.pass.now) x.sink.now y.sink.now x.console.now y.console.now y.tally
+        y.output))) };
 
     fn run<R: Wait>(&mut self, rt: &R) {
         self.tally = Tally::new();
         self.output = serve(
             rt,
             self.queue,
-            &mut self.pass,
-            &self.parker,
+            self.pass,
+            self.parker,
             self.console,
             self.sink,
             self.operators,

@@ -1,14 +1,15 @@
 //! A crew: the engine and the operators at the same time.
 
 ghost use Rattle.std.specs.Prelude.{◌≡◌, ◌+◌, ◌<◌, ◌≤◌, ℕ, List, [], ◌++◌, ◌∷◌, length, map, true, false, slice_get, Some, None, IfOk, OnErr, IsSome, vec_len, vec_capacity};
+ghost use Rattle.std.specs.List.{All, AllZip};
 ghost use Rattle.crossbeam_queue.specs.Passes.{view, IsPassOf, IsSamePass};
 ghost use Rattle.lx_spec.specs.Desk.{Desk};
 ghost use Rattle.lx_console.specs.Standing.{StandsFor};
 ghost use Rattle.lx_base.specs.declared.TheConstants.{OPERATORS};
 ghost use Rattle.lx_crew.specs.Rule.{engine_view};
-ghost use Rattle.lx_crew.specs.Answering.{OutputCause};
+ghost use Rattle.lx_crew.specs.Answering.{HasServed, OutputCause};
 ghost use Rattle.lx_crew.specs.Crewed.{HasCrewed};
-ghost use Rattle.lx_crew.specs.Hired.{EachAt, Hired, Works, owned};
+ghost use Rattle.lx_crew.specs.Hired.{EachAt, HasRun, Hired, IsReady, Works, owned};
 
 use crate::engine::{Engine, PLACES};
 use crate::entry::Entry;
@@ -61,32 +62,20 @@ pub fn crew<R: Threads + Wait + Sync, S: Source + Send + Drop, K: Sink + Send>(
     ensures cause { IfOk result (λ c. OutputCause K.faults K.wants sink.old sink.new None c.output) }
 {
     let count = operators.len();
-    let parker = Parker::new(alloc)?;
+    let mut parker = Parker::new(alloc)?;
     let waker = parker.unparker().clone()?;
     let (queue, mut pass) = Queue::ruled(alloc, QUEUE_PLACES)?;
     let mut works = Vec::with_capacity(alloc, count)?;
     hire(&queue, &waker, &mut pass, operators, &mut works);
-    let mut engine = Engine {
-        queue: &queue,
-        pass,
-        parker,
-        console: &mut *console,
-        sink: &mut *sink,
-        operators: count,
-        tally: Tally::new(),
-        output: None,
-    };
-    run_beside(rt, &mut engine, works.as_mut_slice());
-    let Engine {
-        queue: _,
-        mut pass,
-        parker: _,
-        console: _,
-        sink: _,
-        operators: _,
-        tally,
-        output,
-    } = engine;
+    let (tally, output) = perform(
+        rt,
+        &queue,
+        &mut pass,
+        &mut parker,
+        console,
+        sink,
+        works.as_mut_slice(),
+    );
     let faults = release(&queue, &mut pass, operators, works);
     queue.learn_as::<Total>(&mut pass);
     Ok(Crewed {
@@ -94,6 +83,39 @@ pub fn crew<R: Threads + Wait + Sync, S: Source + Send + Drop, K: Sink + Send>(
         output,
         operators: faults,
     })
+}
+
+/// Runs the engine and the operators at the same time.
+fn perform<'q, 'e, R: Threads + Wait + Sync, S: Source + Send, K: Sink + Send>(
+    rt: &R,
+    queue: &Queue,
+    pass: &mut Pass<Entry, View>,
+    parker: &mut Parker,
+    console: &mut Console,
+    sink: &mut K,
+    works: &mut [Operator<'q, 'e, S>],
+) -> (Tally, Option<SinkFault>)
+    requires queue { IsPassOf queue.now pass.old }
+    requires view { view pass.old ≡ engine_view (length works.old) [] [] }
+    requires few { length works.old ≤ 4 }
+    requires ready { All IsReady works.old }
+    ensures queue { IsSamePass pass.old pass.new }
+    ensures served { HasServed K.holds K.faults K.wants (length works.old) (view pass.new) sink.old sink.new console.old console.new
+        result.0 result.1 }
+    ensures ran { AllZip (HasRun S.left S.faults) works.old works.new }
+{
+    let mut engine = Engine {
+        queue,
+        pass: &mut *pass,
+        parker: &mut *parker,
+        console: &mut *console,
+        sink: &mut *sink,
+        operators: works.len(),
+        tally: Tally::new(),
+        output: None,
+    };
+    run_beside(rt, &mut engine, works);
+    (engine.tally, engine.output)
 }
 
 /// Moves each source into a work, beside a pass of its own.
