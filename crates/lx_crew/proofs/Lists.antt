@@ -27,20 +27,24 @@ or_true : (a : Bool) → (a || true) ≡ true
 or_true true = refl
 or_true false = refl
 
-or_none : (a b : Bool) → a ≡ false → (a || b) ≡ true → b ≡ true
+pub or_none : (a b : Bool) → a ≡ false → (a || b) ≡ true → b ≡ true
 or_none a b none e = let t : (false || b) ≡ true = subst (λ (c : Bool). (c || b) ≡ true) none e in t
 
-abbrev head_last : List Entry → Bool
+abbrev pub head_last : List Entry → Bool
 head_last [] = false
 head_last (x ∷ xs) = is_last x.sent
 
-abbrev tail_of : List Entry → List Entry
+abbrev pub tail_of : List Entry → List Entry
 tail_of [] = []
 tail_of (x ∷ xs) = xs
 
-none_behind : (xs ys : List Entry) → xs ++ ys ≡ [] → ys ≡ []
+pub none_behind : (xs ys : List Entry) → xs ++ ys ≡ [] → ys ≡ []
 none_behind [] ys e = e
 none_behind (x ∷ xs) ys e = absurd cc
+
+pub none_front : (xs ys : List Entry) → xs ++ ys ≡ [] → xs ≡ []
+none_front [] ys e = refl
+none_front (x ∷ xs) ys e = absurd cc
 
 pub last_longer : (xs ys : List Entry) → has_last xs ≡ true → has_last (xs ++ ys) ≡ true
 last_longer [] ys e = absurd (true≢false (sym e))

@@ -153,19 +153,20 @@ forks pass v may none items views h at =
     let seat : ℕ → ℕ = reseat h.seat v.made (new + 1) in
     let away : (k : ℕ) → k ≢ v.made → seat k ≡ h.seat k = λ k other. reseat_else h.seat v.made (new + 1) k other in
     let Old : ℕ → View → Type 0 = λ j u. (u.pushes ≡ true → FitsOperator seat h.log j u) × (u.pops ≡ true → FitsEngine h.reader seat h.popped h.log j u) in
-    let old : All Old vs = all_set Old views pass l (
-      (λ p. never (sym none ∙ p)),
-      λ p. record {
-        reads = mine.reads;
-        got = mine.got;
-        later = λ k after. let k' : v.made ≤ k = omega (arith, after) in let other : k ≢ v.made = λ is. omega (arith, after, is) in (away k other ∙ (mine.later k k').0, (mine.later k k').1);
-        lists = all_map _ _ v.kept (λ p q. (omega (arith, q.0), away p.0 (λ is. omega (arith, q.0, is)) ∙ q.1, q.2)) mine.lists;
-      },
-    )
-    (λ j u other is. (
-      (λ p. let f = (h.each j u is).operator p in (away u.place (λ same. let t : h.seat u.place ≡ 0 = ap h.seat same ∙ free.0 in omega (arith, t, f.0)) ∙ f.0, f.1)),
-      λ p. absurd (other (((h.each j u is).engine p).reads ∙ sym mine.reads)),
-    )) in record {
+    let old : All Old vs = all_set Old views pass l
+        (
+          (λ p. never (sym none ∙ p)),
+          λ p. record {
+            reads = mine.reads;
+            got = mine.got;
+            later = λ k after. let k' : v.made ≤ k = omega (arith, after) in let other : k ≢ v.made = λ is. omega (arith, after, is) in (away k other ∙ (mine.later k k').0, (mine.later k k').1);
+            lists = all_map _ _ v.kept (λ p q. (omega (arith, q.0), away p.0 (λ is. omega (arith, q.0, is)) ∙ q.1, q.2)) mine.lists;
+          },
+        )
+        (λ j u other is. (
+          (λ p. let f = (h.each j u is).operator p in (away u.place (λ same. let t : h.seat u.place ≡ 0 = ap h.seat same ∙ free.0 in omega (arith, t, f.0)) ∙ f.0, f.1)),
+          λ p. absurd (other (((h.each j u is).engine p).reads ∙ sym mine.reads)),
+        )) in record {
       reader = h.reader;
       seat = seat;
       popped = h.popped;
@@ -192,20 +193,20 @@ merges pass v other u may none sent items views h at apart at' =
     let made : u.place < v.made = made_before h.seat v.made u.place other theirs.0 (λ x. (mine.later u.place x).0) (dec_le v.made u.place) in
     let Now : ℕ → View → Type 0 = λ j y. j ≢ other → Fits h.reader seat h.popped h.log j y in
     let now : All Now vs = all_set Now views pass both
-    (λ _. record {
-      operator = λ p. never (sym none ∙ p);
-      engine = λ p. record {
-        reads = mine.reads;
-        got = mine.got;
-        later = λ k after. (gone k (mine.later k after).0, (mine.later k after).1);
-        lists = ((made, reseat_here h.seat u.place 0, theirs.1), all_map _ _ v.kept (λ p q. (q.0, gone p.0 q.1, q.2)) mine.lists);
-      };
-    })
-    (λ j y different is away_from. record {
-      operator = λ p. let f = (h.each j y is).operator p in
-          (away y.place (λ same. away_from (let t : h.seat u.place ≡ j + 1 = subst (λ (k : ℕ). h.seat k ≡ j + 1) same f.0 in omega (arith, t, theirs.0))) ∙ f.0, f.1);
-      engine = λ p. absurd (different (((h.each j y is).engine p).reads ∙ sym mine.reads));
-    }) in record {
+        (λ _. record {
+          operator = λ p. never (sym none ∙ p);
+          engine = λ p. record {
+            reads = mine.reads;
+            got = mine.got;
+            later = λ k after. (gone k (mine.later k after).0, (mine.later k after).1);
+            lists = ((made, reseat_here h.seat u.place 0, theirs.1), all_map _ _ v.kept (λ p q. (q.0, gone p.0 q.1, q.2)) mine.lists);
+          };
+        })
+        (λ j y different is away_from. record {
+          operator = λ p. let f = (h.each j y is).operator p in
+              (away y.place (λ same. away_from (let t : h.seat u.place ≡ j + 1 = subst (λ (k : ℕ). h.seat k ≡ j + 1) same f.0 in omega (arith, t, theirs.0))) ∙ f.0, f.1);
+          engine = λ p. absurd (different (((h.each j y is).engine p).reads ∙ sym mine.reads));
+        }) in record {
       reader = h.reader;
       seat = seat;
       popped = h.popped;
@@ -219,4 +220,7 @@ pub totals : (pass : ℕ) (v : View) → v.pops ≡ true → Learns KeepsOrder p
 totals pass v may items views h at =
     let mine = (h.each pass v at).engine may in
     let all : h.log ≡ v.popped ++ items = h.in_order ∙ ap (λ (l : List Entry). l ++ items) (sym mine.got) in
-    all_map _ _ v.kept (λ p q. q.2 ∙ ap (λ (l : List Entry). of_place p.0 l) all) mine.lists
+    record {
+      lists = all_map _ _ v.kept (λ p q. q.2 ∙ ap (λ (l : List Entry). of_place p.0 l) all) mine.lists;
+      others = λ k h. ap (λ (l : List Entry). of_place k l) (sym all) ∙ (mine.later k h).1;
+    }

@@ -48,6 +48,7 @@ Adds v e w = w ≡ record v { pushed = v.pushed ++ e ∷ [] }
 abbrev pub Takes : View → Entry → View → Type 0
 Takes v e w = w ≡ record v { popped = v.popped ++ e ∷ [] }
 
--- what each operator that was taken in pushed is what was popped of it, and then what the queue holds of it
-abbrev pub Kept : View → List Entry → Type 0
-Kept v items = AllByRecursion (λ (p : ℕ × List Entry). p.1 ≡ of_place p.0 (v.popped ++ items)) v.kept
+-- what each operator that was taken in pushed is what was popped of it, and then what the queue holds of it; no others pushed anything
+pub record Kept (v : View) (items : List Entry) : Type 0 where
+  pub lists : AllByRecursion (λ (p : ℕ × List Entry). p.1 ≡ of_place p.0 (v.popped ++ items)) v.kept
+  pub others : (k : ℕ) → v.made ≤ k → of_place k (v.popped ++ items) ≡ []

@@ -1,10 +1,21 @@
 //! A crew: several operators send the lines of their scripts at the same time, through one queue, to an engine that answers each.
 #![tactic(auto)]
 
+mod answering;
+mod engine;
 mod entry;
+mod fault;
+mod follows;
+mod operator;
 mod rule;
-mod steps;
+mod running;
+mod work;
 
+pub use engine::Engine;
 pub use entry::{Entry, LineText, Sent};
+pub use fault::OperatorFault;
+pub use follows::Follows;
+pub use operator::Operator;
 pub use rule::{Enters, Gets, Law, Leaves, Queue, Sends, Total, View};
-pub use steps::{enter, learn_total, open_queue, take_in, try_send, try_take};
+pub use running::{Crewed, crew};
+pub use work::{Job, run_all, run_beside};

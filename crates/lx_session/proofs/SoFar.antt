@@ -56,7 +56,7 @@ done_none answer MayWant state = record {
   rest = wants_at_none answer MayWant (begin_with state);
 }
 
-go_on_append : (xs : List (List ℕ)) (l : List ℕ) → GoOn xs → ends_script l ≡ false → GoOn (xs ++ l ∷ [])
+pub go_on_append : (xs : List (List ℕ)) (l : List ℕ) → GoOn xs → ends_script l ≡ false → GoOn (xs ++ l ∷ [])
 go_on_append [] l all more = (more, tt)
 go_on_append (x ∷ xs) l all more = (all.0, go_on_append xs l all.1 more)
 

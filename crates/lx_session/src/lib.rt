@@ -8,6 +8,7 @@ mod finish;
 mod line;
 mod listener;
 mod meaning;
+mod quit;
 mod script;
 mod take;
 mod tally;
@@ -15,7 +16,9 @@ mod turn;
 
 pub use answers::Answers;
 pub use fault::SessionFault;
+pub use line::answer;
 pub use listener::{Listener, NoListener};
+pub use quit::is_quit;
 pub use script::{answer_lines, session, session_with};
 pub use tally::Tally;
 pub use turn::Turn;

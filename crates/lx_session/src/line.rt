@@ -24,7 +24,7 @@ use lx_spec::{Command, Refusal};
 ///
 /// A fault comes only where the sink answered it in this call; then a prefix of the replies was appended, and
 /// the line's commands were applied.
-pub(crate) fn answer<L: Listener, K: Sink>(
+pub fn answer<L: Listener, K: Sink>(
     listener: &mut L,
     console: &mut Console,
     line: Option<&[u8]>,

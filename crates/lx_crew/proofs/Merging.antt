@@ -1,0 +1,317 @@
+-- The transcript's entries with the true texts of lines that are too long.
+use Rattle.std.proofs.Common.{◌≡◌, ◌≢◌, ℕ, zero, suc, ◌+◌, ◌-◌, ◌<◌, ◌≤◌, ◌==◌, Bool, true, false, cond, not, List, [], ◌∷◌, ◌++◌, length, take, drop, refl, sym, ap, ◌∙◌}
+use Rattle.std.proofs.Common.{◌⊎◌, ⊎_elim, None, true≢false, add-one, subst, append-nil, append_assoc, length-append, eq-eqb, ne_eqb, get_or, arith}
+use Rattle.std.specs.Prelude.{fold}
+use Rattle.std.specs.List.{filter, AllByRecursion}
+use Rattle.std.proofs.lemmas.Bool.Decides.{nat_tests}
+use Rattle.std.proofs.lemmas.List.Elements.{filter-append}
+use Rattle.lx_spec.specs.CrewText.{CrewEntry, named, after_entry, crew_session, EntriesWantAtEdits}
+use Rattle.lx_spec.specs.Script.{line_of}
+use Rattle.lx_spec.specs.RefusedPlaces.{MayWant}
+use Rattle.lx_spec.specs.Session.{Session, after_meaning}
+use Rattle.lx_session.proofs.HeardLines.{meaning_is}
+use Rattle.lx_crew.specs.declared.entry.Entry.{Entry}
+use Rattle.lx_crew.specs.declared.entry.Sent.{Sent}
+use Rattle.lx_crew.specs.declared.entry.Sent.TheVariants.{Line, LongLine, End, ReadFault, InputTooLong}
+use Rattle.lx_crew.specs.Answering.{long_line, named_line, said_by, said}
+use Rattle.lx_crew.specs.Entries.{of_place, is_last, HasText, HaveLines, text_in}
+use Rattle.lx_spec.specs.CrewText.{of_operator, numbered_from, Merged, MergedSoFar}
+use Rattle.std.proofs.lemmas.List.{length-replicate}
+use Rattle.lx_base.specs.declared.TheConstants.{LINE_BYTES}
+use Rattle.lx_crew.proofs.Lists.{none_front, tail_of}
+
+-- the text that stands for those of lines that are too long is bad
+long_means : line_of long_line ≡ None
+long_means = sym (meaning_is None long_line (omega (arith, length-replicate {A = ℕ} (LINE_BYTES + 1) 0)))
+
+-- the line of this number of the operator at a place
+abbrev pub line_at : (ℕ → List (List ℕ)) → ℕ → ℕ → List ℕ
+line_at lines place number = get_or (lines place) (number - 1) []
+
+abbrev pub true_by : (ℕ → List (List ℕ)) → ℕ → ℕ → Sent → List CrewEntry
+true_by lines place number (Line l) = named_line place number (line_at lines place number) ∷ []
+true_by lines place number LongLine = named_line place number (line_at lines place number) ∷ []
+true_by lines place number End = []
+true_by lines place number ReadFault = []
+true_by lines place number InputTooLong = []
+
+-- the entries of the transcript, each with its own text
+abbrev pub true_entries : (ℕ → List (List ℕ)) → List Entry → List CrewEntry
+true_entries lines [] = []
+true_entries lines (e ∷ es) = true_by lines e.place e.number e.sent ++ true_entries lines es
+
+-- an entry has its own text, or is a last one
+abbrev pub IsTrueTo : (ℕ → List (List ℕ)) → Entry → Type 0
+IsTrueTo lines e = is_last e.sent ≡ false → HasText e.sent (line_at lines e.place e.number)
+
+-- The sessions are the same: only the texts of lines that are too long differ, which are bad.
+same_text : (text other : List ℕ) (places : List ℕ) (s : Session) (place number : ℕ) → line_of text ≡ line_of other
+    → after_entry places s (named_line place number text) ≡ after_entry places s (named_line place number other)
+same_text text other places s place number is = ap (after_meaning places (named s (named_line place number text))) is
+
+same_by : (lines : ℕ → List (List ℕ)) (places : List ℕ) (s : Session) (place number : ℕ) (sent : Sent) (rest rest' : List CrewEntry)
+    → (is_last sent ≡ false → HasText sent (line_at lines place number))
+    → ((t : Session) → fold (after_entry places) t rest ≡ fold (after_entry places) t rest')
+    → fold (after_entry places) s (said_by place number sent ++ rest) ≡ fold (after_entry places) s (true_by lines place number sent ++ rest')
+same_by lines places s place number (Line l) rest rest' t h =
+    ap (λ text. fold (after_entry places) (after_entry places s (named_line place number text)) rest) (t refl)
+    ∙ h (after_entry places s (named_line place number (line_at lines place number)))
+same_by lines places s place number LongLine rest rest' t h =
+    ap (λ u. fold (after_entry places) u rest)
+    (same_text long_line (line_at lines place number) places s place number (long_means ∙ meaning_is None (line_at lines place number) (t refl)))
+    ∙ h (after_entry places s (named_line place number (line_at lines place number)))
+same_by lines places s place number End rest rest' t h = h s
+same_by lines places s place number ReadFault rest rest' t h = h s
+same_by lines places s place number InputTooLong rest rest' t h = h s
+
+pub same_session : (lines : ℕ → List (List ℕ)) (places : List ℕ) (es : List Entry) (s : Session) → AllByRecursion (IsTrueTo lines) es
+    → fold (after_entry places) s (said es) ≡ fold (after_entry places) s (true_entries lines es)
+same_session lines places [] s all = refl
+same_session lines places (e ∷ es) s all =
+    same_by lines places s e.place e.number e.sent (said es) (true_entries lines es) all.0 (λ t. same_session lines places es t all.1)
+
+edits_by : (lines : ℕ → List (List ℕ)) (places : List ℕ) (s : Session) (place number : ℕ) (sent : Sent) (rest rest' : List CrewEntry)
+    → (is_last sent ≡ false → HasText sent (line_at lines place number))
+    → ((t : Session) → EntriesWantAtEdits places t rest → EntriesWantAtEdits places t rest')
+    → EntriesWantAtEdits places s (said_by place number sent ++ rest) → EntriesWantAtEdits places s (true_by lines place number sent ++ rest')
+edits_by lines places s place number (Line l) rest rest' t h w =
+    let u = subst (λ text. EntriesWantAtEdits places s (named_line place number text ∷ rest)) (t refl) w in
+    (u.0, h (after_entry places s (named_line place number (line_at lines place number))) u.1)
+edits_by lines places s place number LongLine rest rest' t h w =
+    let text = line_at lines place number in
+    let bad : line_of long_line ≡ line_of text = long_means ∙ meaning_is None text (t refl) in (
+      subst (λ m. MayWant places (named s (named_line place number long_line)) m) bad w.0,
+      h (after_entry places s (named_line place number text))
+          (subst (λ u. EntriesWantAtEdits places u rest) (same_text long_line text places s place number bad) w.1),
+    )
+edits_by lines places s place number End rest rest' t h w = h s w
+edits_by lines places s place number ReadFault rest rest' t h w = h s w
+edits_by lines places s place number InputTooLong rest rest' t h w = h s w
+
+pub same_edits : (lines : ℕ → List (List ℕ)) (places : List ℕ) (es : List Entry) (s : Session) → AllByRecursion (IsTrueTo lines) es
+    → EntriesWantAtEdits places s (said es) → EntriesWantAtEdits places s (true_entries lines es)
+same_edits lines places [] s all w = w
+same_edits lines places (e ∷ es) s all w =
+    edits_by lines places s e.place e.number e.sent (said es) (true_entries lines es) all.0 (λ t v. same_edits lines places es t all.1 v) w
+
+-- What holds of each operator's entries holds of all.
+behind : (P : Entry → Type 0) (e : Entry) (rest : List Entry) (b : Bool) → AllByRecursion P (cond b (e ∷ rest) rest) → AllByRecursion P rest
+behind P e rest true h = h.1
+behind P e rest false h = h
+
+pub all_of_all : (P : Entry → Type 0) (es : List Entry) → ((place : ℕ) → AllByRecursion P (of_place place es)) → AllByRecursion P es
+all_of_all P [] h = tt
+all_of_all P (e ∷ es) h =
+    let here : AllByRecursion P (cond (e.place == e.place) (e ∷ of_place e.place es) (of_place e.place es)) = h e.place in
+    let mine = subst (λ b. AllByRecursion P (cond b (e ∷ of_place e.place es) (of_place e.place es))) (eq-eqb e.place e.place refl) here in
+    (mine.0, all_of_all P es (λ place. behind P e (of_place place es) (e.place == place) (h place)))
+
+-- An operator's entries of the transcript are those of its place.
+true_sent : (lines : ℕ → List (List ℕ)) (k place number : ℕ) (sent : Sent) (rest : List CrewEntry) (more : List Entry) → place ≡ k
+    → of_operator (k + 1) rest ≡ true_entries lines more
+    → of_operator (k + 1) (true_by lines place number sent ++ rest) ≡ true_by lines place number sent ++ true_entries lines more
+true_sent lines k place number (Line l) rest more own h =
+    let same : (place + 1 == k + 1) ≡ true = eq-eqb (place + 1) (k + 1) (omega (arith, own)) in rw same (ap (λ (l : List CrewEntry). named_line place number (line_at lines place number) ∷ l) h)
+true_sent lines k place number LongLine rest more own h =
+    let same : (place + 1 == k + 1) ≡ true = eq-eqb (place + 1) (k + 1) (omega (arith, own)) in rw same (ap (λ (l : List CrewEntry). named_line place number (line_at lines place number) ∷ l) h)
+true_sent lines k place number End rest more own h = h
+true_sent lines k place number ReadFault rest more own h = h
+true_sent lines k place number InputTooLong rest more own h = h
+
+true_other : (lines : ℕ → List (List ℕ)) (k place number : ℕ) (sent : Sent) (rest : List CrewEntry) → (place == k) ≡ false
+    → of_operator (k + 1) (true_by lines place number sent ++ rest) ≡ of_operator (k + 1) rest
+true_other lines k place number (Line l) rest other =
+    let away : (place + 1 == k + 1) ≡ false = grind (arith, nat_tests, other) in rw away refl
+true_other lines k place number LongLine rest other =
+    let away : (place + 1 == k + 1) ≡ false = grind (arith, nat_tests, other) in rw away refl
+true_other lines k place number End rest other = refl
+true_other lines k place number ReadFault rest other = refl
+true_other lines k place number InputTooLong rest other = refl
+
+true_here : (lines : ℕ → List (List ℕ)) (k place number : ℕ) (sent : Sent) (rest : List CrewEntry) (more : List Entry) (e : Entry)
+    → e.place ≡ place → e.number ≡ number → e.sent ≡ sent → of_operator (k + 1) rest ≡ true_entries lines more → (b : Bool) → (place == k) ≡ b
+    → of_operator (k + 1) (true_by lines place number sent ++ rest) ≡ true_entries lines (cond b (e ∷ more) more)
+true_here lines k place number sent rest more e own num is h true b =
+    let p : place ≡ k = grind (arith, nat_tests, b) in
+    true_sent lines k place number sent rest more p h ∙ ap (λ (x : ℕ × (ℕ × Sent)). true_by lines x.0 x.1.0 x.1.1 ++ true_entries lines more)
+    (sym (λ i. (own i, (num i, is i))))
+true_here lines k place number sent rest more e own num is h false b = true_other lines k place number sent rest b ∙ h
+
+pub operator_true : (lines : ℕ → List (List ℕ)) (k : ℕ) (es : List Entry) → of_operator (k + 1) (true_entries lines es) ≡ true_entries lines (of_place k es)
+operator_true lines k [] = refl
+operator_true lines k (e ∷ es) =
+    true_here lines k e.place e.number e.sent (true_entries lines es) (of_place k es) e refl refl refl (operator_true lines k es) (e.place == k) refl
+
+-- An operator's entries with its lines, from one on.
+at_drop : (xs : List (List ℕ)) (m : ℕ) (l : List ℕ) (ls : List (List ℕ)) → drop m xs ≡ l ∷ ls → (get_or xs m [] ≡ l) × (drop (m + 1) xs ≡ ls)
+at_drop [] zero l ls e = absurd cc
+at_drop [] (suc m) l ls e = absurd cc
+at_drop (x ∷ xs) zero l ls e = (cc, cc)
+at_drop (x ∷ xs) (suc m) l ls e =
+    let r = at_drop xs m l ls e in
+    let next : suc m + 1 ≡ suc (m + 1) = omega arith in
+    (r.0, ap (λ n. drop n (x ∷ xs)) next ∙ r.1)
+
+own_line : (lines : ℕ → List (List ℕ)) (k m place number : ℕ) (l : List ℕ) → place ≡ k → number ≡ m + 1 → get_or (lines k) m [] ≡ l
+    → line_at lines place number ≡ l
+own_line lines k m place number l own num is =
+    let n : number - 1 ≡ m = omega (arith, num) in
+    ap (λ p. get_or (lines p) (number - 1) []) own ∙ (ap (λ i. get_or (lines k) i []) n ∙ is)
+
+one_named : (lines : ℕ → List (List ℕ)) (k m place number : ℕ) (l : List ℕ) → place ≡ k → number ≡ m + 1 → get_or (lines k) m [] ≡ l
+    → (rest : List CrewEntry) → named_line place number (line_at lines place number) ∷ rest ≡ named_line k (m + 1) l ∷ rest
+one_named lines k m place number l own num is rest =
+    let same = own_line lines k m place number l own num is in
+    ap (λ p. named_line p number (line_at lines place number) ∷ rest) own
+    ∙ (ap (λ n. named_line k n (line_at lines place number) ∷ rest) num ∙ ap (λ u. named_line k (m + 1) u ∷ rest) same)
+
+one_true : (lines : ℕ → List (List ℕ)) (k m place number : ℕ) (sent : Sent) (l : List ℕ) → place ≡ k → number ≡ m + 1 → HasText sent l
+    → get_or (lines k) m [] ≡ l → (rest : List CrewEntry) → true_by lines place number sent ++ rest ≡ named_line k (m + 1) l ∷ rest
+one_true lines k m place number (Line t) l own num text is rest = one_named lines k m place number l own num is rest
+one_true lines k m place number LongLine l own num text is rest = one_named lines k m place number l own num is rest
+one_true lines k m place number End l own num text is rest = absurd text
+one_true lines k m place number ReadFault l own num text is rest = absurd text
+one_true lines k m place number InputTooLong l own num text is rest = absurd text
+
+pub true_lines : (lines : ℕ → List (List ℕ)) (k m : ℕ) (es : List Entry) (ls : List (List ℕ)) → HaveLines k (m + 1) es ls
+    → drop m (lines k) ≡ ls → true_entries lines es ≡ numbered_from (k + 1) (m + 1) ls
+true_lines lines k m [] [] h is = refl
+true_lines lines k m [] (l ∷ ls) h is = absurd h
+true_lines lines k m (e ∷ es) [] h is = absurd h
+true_lines lines k m (e ∷ es) (l ∷ ls) h is =
+    let a = at_drop (lines k) m l ls is in
+    one_true lines k m e.place e.number e.sent l h.0 h.1.0 h.1.1.0 a.0 (true_entries lines es)
+    ∙ ap (λ (x : List CrewEntry). named_line k (m + 1) l ∷ x) (true_lines lines k (m + 1) es ls h.1.1.1 a.1)
+
+-- each entry of an operator has its own text
+true_to : (lines : ℕ → List (List ℕ)) (k m : ℕ) (es : List Entry) (ls : List (List ℕ)) → HaveLines k (m + 1) es ls → drop m (lines k) ≡ ls
+    → AllByRecursion (IsTrueTo lines) es
+true_to lines k m [] [] h is = tt
+true_to lines k m [] (l ∷ ls) h is = absurd h
+true_to lines k m (e ∷ es) [] h is = absurd h
+true_to lines k m (e ∷ es) (l ∷ ls) h is =
+    let a = at_drop (lines k) m l ls is in (
+      (λ line. subst (HasText e.sent) (sym (own_line lines k m e.place e.number l h.0 h.1.0 a.0)) h.1.1.0),
+      true_to lines k (m + 1) es ls h.1.1.1 a.1,
+    )
+
+-- The entries of the operator at a place are those of all its lines, and then its last, which has none.
+pub record AllSent (k : ℕ) (es : List Entry) (ls : List (List ℕ)) : Type 0 where
+  pub front : List Entry
+  pub last : Entry
+  pub are : es ≡ front ++ last ∷ []
+  pub have : HaveLines k 1 front ls
+  pub ends : is_last last.sent ≡ true
+
+-- or it has no entries and no lines
+abbrev pub SentAt : (ℕ → List (List ℕ)) → ℕ → List Entry → Type 0
+SentAt lines k es = AllSent k es (lines k) ⊎ ((es ≡ []) × (lines k ≡ []))
+
+no_line : {A : Type 0} (sent : Sent) → is_last sent ≡ true → is_last sent ≡ false → A
+no_line sent is isnt = absurd (true≢false (sym is ∙ isnt))
+
+true_last : (lines : ℕ → List (List ℕ)) (place number : ℕ) (sent : Sent) → is_last sent ≡ true → true_by lines place number sent ≡ []
+true_last lines place number (Line l) is = no_line (Line l) is refl
+true_last lines place number LongLine is = no_line LongLine is refl
+true_last lines place number End is = refl
+true_last lines place number ReadFault is = refl
+true_last lines place number InputTooLong is = refl
+
+true_snoc : (lines : ℕ → List (List ℕ)) (es : List Entry) (last : Entry) → is_last last.sent ≡ true
+    → true_entries lines (es ++ last ∷ []) ≡ true_entries lines es
+true_snoc lines [] last end = ap (λ (u : List CrewEntry). u ++ []) (true_last lines last.place last.number last.sent end)
+true_snoc lines (e ∷ es) last end = ap (λ (u : List CrewEntry). true_by lines e.place e.number e.sent ++ u) (true_snoc lines es last end)
+
+all_snoc : (P : Entry → Type 0) (es : List Entry) (e : Entry) → AllByRecursion P es → P e → AllByRecursion P (es ++ e ∷ [])
+all_snoc P [] e all one = (one, tt)
+all_snoc P (x ∷ es) e all one = (all.0, all_snoc P es e all.1 one)
+
+pub all_front : (P : Entry → Type 0) (es rest : List Entry) → AllByRecursion P (es ++ rest) → AllByRecursion P es
+all_front P [] rest all = tt
+all_front P (e ∷ es) rest all = (all.0, all_front P es rest all.1)
+
+true_at : (lines : ℕ → List (List ℕ)) (k : ℕ) (es : List Entry) → SentAt lines k es → AllByRecursion (IsTrueTo lines) es
+true_at lines k es s =
+    ⊎_elim (λ (a : AllSent k es (lines k)). subst (AllByRecursion (IsTrueTo lines)) (sym a.are)
+    (all_snoc (IsTrueTo lines) a.front a.last (true_to lines k 0 a.front (lines k) a.have refl) (λ line. no_line a.last.sent a.ends line)))
+    (λ (n : (es ≡ []) × (lines k ≡ [])). subst (AllByRecursion (IsTrueTo lines)) (sym n.0) tt) s
+
+pub all_true : (lines : ℕ → List (List ℕ)) (es : List Entry) → ((k : ℕ) → SentAt lines k (of_place k es)) → AllByRecursion (IsTrueTo lines) es
+all_true lines es sent = all_of_all (IsTrueTo lines) es (λ k. true_at lines k (of_place k es) (sent k))
+
+-- All entries of an operator stand for all its lines.
+whole_at : (lines : ℕ → List (List ℕ)) (k : ℕ) (es : List Entry) → SentAt lines k es → true_entries lines es ≡ numbered_from (k + 1) 1 (lines k)
+whole_at lines k es s =
+    ⊎_elim (λ (a : AllSent k es (lines k)). ap (true_entries lines) a.are
+    ∙ (true_snoc lines a.front a.last a.ends ∙ true_lines lines k 0 a.front (lines k) a.have refl))
+    (λ (n : (es ≡ []) × (lines k ≡ [])). ap (true_entries lines) n.0 ∙ ap (numbered_from (k + 1) 1) (sym n.1)) s
+
+-- Its first entries stand for its first lines.
+first_lines : (lines : ℕ → List (List ℕ)) (k m : ℕ) (es : List Entry) (ls : List (List ℕ)) (last : Entry) (xs ys : List Entry)
+    → HaveLines k (m + 1) es ls → drop m (lines k) ≡ ls → is_last last.sent ≡ true → xs ++ ys ≡ es ++ last ∷ []
+    → (n : ℕ) × (true_entries lines xs ≡ numbered_from (k + 1) (m + 1) (take n ls))
+first_lines lines k m es ls last [] ys h is end e = (0, refl)
+first_lines lines k m [] [] last (x ∷ xs) ys h is end e =
+    let same : x ≡ last = cc in
+    let none : xs ≡ [] = none_front xs ys (ap tail_of e) in (
+      0,
+      ap (λ (z : Entry). true_by lines z.place z.number z.sent ++ true_entries lines xs) same
+          ∙ (ap (λ zs. true_by lines last.place last.number last.sent ++ true_entries lines zs) none
+          ∙ ap (λ (u : List CrewEntry). u ++ []) (true_last lines last.place last.number last.sent end)),
+    )
+first_lines lines k m [] (l ∷ ls) last (x ∷ xs) ys h is end e = absurd h
+first_lines lines k m (e ∷ es) [] last (x ∷ xs) ys h is end e' = absurd h
+first_lines lines k m (e ∷ es) (l ∷ ls) last (x ∷ xs) ys h is end e' =
+    let a = at_drop (lines k) m l ls is in
+    let same : x ≡ e = cc in
+    let r = first_lines lines k (m + 1) es ls last xs ys h.1.1.1 a.1 end (ap tail_of e') in (
+      suc r.0,
+      ap (λ (z : Entry). true_by lines z.place z.number z.sent ++ true_entries lines xs) same
+          ∙ (one_true lines k m e.place e.number e.sent l h.0 h.1.0 h.1.1.0 a.0 (true_entries lines xs)
+          ∙ ap (λ (u : List CrewEntry). named_line k (m + 1) l ∷ u) r.1),
+    )
+
+first_at : (lines : ℕ → List (List ℕ)) (k : ℕ) (es xs ys : List Entry) → SentAt lines k es → es ≡ xs ++ ys
+    → (n : ℕ) × (true_entries lines xs ≡ numbered_from (k + 1) 1 (take n (lines k)))
+first_at lines k es xs ys s are =
+    ⊎_elim (λ (a : AllSent k es (lines k)). first_lines lines k 0 a.front (lines k) a.last xs ys a.have refl a.ends (sym are ∙ a.are))
+    (λ (n : (es ≡ []) × (lines k ≡ [])). (
+      0,
+      ap (true_entries lines) (none_front xs ys (sym are ∙ n.0)),
+    )) s
+
+-- Operators are numbered from 1.
+abbrev pub by_number : (ℕ → List (List ℕ)) → ℕ → List (List ℕ)
+by_number lines zero = []
+by_number lines (suc k) = lines k
+
+none_by : (lines : ℕ → List (List ℕ)) (place number : ℕ) (sent : Sent) (rest : List CrewEntry)
+    → of_operator 0 (true_by lines place number sent ++ rest) ≡ of_operator 0 rest
+none_by lines place number (Line l) rest = let other : (place + 1 == 0) ≡ false = grind (arith, nat_tests) in rw other refl
+none_by lines place number LongLine rest = let other : (place + 1 == 0) ≡ false = grind (arith, nat_tests) in rw other refl
+none_by lines place number End rest = refl
+none_by lines place number ReadFault rest = refl
+none_by lines place number InputTooLong rest = refl
+
+none_of_0 : (lines : ℕ → List (List ℕ)) (es : List Entry) → of_operator 0 (true_entries lines es) ≡ []
+none_of_0 lines [] = refl
+none_of_0 lines (e ∷ es) = none_by lines e.place e.number e.sent (true_entries lines es) ∙ none_of_0 lines es
+
+pub merged : (lines : ℕ → List (List ℕ)) (es : List Entry) → ((k : ℕ) → SentAt lines k (of_place k es))
+    → Merged (by_number lines) (true_entries lines es)
+merged lines es sent zero = none_of_0 lines es
+merged lines es sent (suc k) =
+    subst (λ o. of_operator o (true_entries lines es) ≡ numbered_from o 1 (lines k)) (add-one k)
+    (operator_true lines k es ∙ whole_at lines k (of_place k es) (sent k))
+
+pub merged_so_far : (lines : ℕ → List (List ℕ)) (es first rest : List Entry) → ((k : ℕ) → SentAt lines k (of_place k es)) → es ≡ first ++ rest
+    → MergedSoFar (by_number lines) (true_entries lines first)
+merged_so_far lines es first rest sent are zero = (0, none_of_0 lines first)
+merged_so_far lines es first rest sent are (suc k) =
+    let split : of_place k es ≡ of_place k first ++ of_place k rest =
+        ap (of_place k) are ∙ filter-append (λ (x : Entry). x.place == k) first rest in
+    let r = first_at lines k (of_place k es) (of_place k first) (of_place k rest) (sent k) split in (
+      r.0,
+      subst (λ o. of_operator o (true_entries lines first) ≡ numbered_from o 1 (take r.0 (lines k))) (add-one k)
+          (operator_true lines k first ∙ r.1),
+    )

@@ -1,0 +1,71 @@
+-- What the engine came to, with one more entry.
+use Rattle.std.proofs.Common.{◌≡◌, ◌⊎◌, inl, inr, ⊎_elim, ℕ, ◌≤◌, Bool, true, Option, Some, List, [], ◌∷◌, ◌++◌, slice_get, ap, sym}
+use Rattle.std.proofs.Common.{subst, ◌∙◌, arith}
+use Rattle.lx_io.specs.declared.sink.SinkFault.{SinkFault}
+use Rattle.lx_io.specs.declared.sink.SinkFault.TheVariants.{Failed, Memory}
+use Rattle.lx_io.specs.Causes.{Rose}
+use Rattle.lx_spec.specs.Desk.{Desk}
+use Rattle.lx_spec.specs.Kept.{Kept}
+use Rattle.lx_session.specs.declared.tally.Tally.{Tally}
+use Rattle.lx_crew.specs.declared.entry.Entry.{Entry}
+use Rattle.lx_crew.specs.declared.rule.View.{View}
+use Rattle.lx_crew.specs.Entries.{of_place, is_last, has_last}
+use Rattle.lx_crew.specs.Rule.{engine_view, Takes}
+use Rattle.lx_crew.specs.Answering.{HasAnswered, Marked, OutputCause}
+use Rattle.lx_crew.proofs.Lists.{last_on, last_here}
+
+pub takes_on : (v w : View) (n : ℕ) (popped : List Entry) (e : Entry) → v ≡ engine_view n popped [] → Takes v e w
+    → w ≡ engine_view n (popped ++ e ∷ []) []
+takes_on v w n popped e h i = i ∙ ap (λ (u : View). record u { popped = u.popped ++ e ∷ [] }) h
+
+pub ended_on : (before after : List Bool) (popped : List Entry) (e : Entry) → Marked e before after
+    → ((k : ℕ) → slice_get before k ≡ Some true → has_last (of_place k popped) ≡ true)
+    → (k : ℕ) → slice_get after k ≡ Some true → has_last (of_place k (popped ++ e ∷ [])) ≡ true
+ended_on before after popped e m h k is =
+    ⊎_elim (λ b. last_on k popped e (h k b)) (λ (b : (e.place ≡ k) × (is_last e.sent ≡ true)). last_here k popped e b.0 b.1) (m k is)
+
+pub cause_none : {K : Type 0} (faults wants : K → ℕ) (sink : K) (output : Option SinkFault)
+    → OutputCause faults wants sink sink output output
+cause_none faults wants sink output = record {
+  later = omega arith;
+  wants_later = omega arith;
+  failed = λ is. inl is;
+  memory = λ is. inl is;
+}
+
+rose_on : (m n o : ℕ) → Rose m n → n ≤ o → Rose m o
+rose_on m n o rose le = omega (arith, rose, le)
+
+rose_from : (m n o : ℕ) → m ≤ n → Rose n o → Rose m o
+rose_from m n o le rose = omega (arith, rose, le)
+
+-- the fault was there before, or its count rose in one of two steps
+either_rose : (m n o : ℕ) (P Q : Type 0) → m ≤ n → n ≤ o → (Q → P ⊎ Rose m n) → Q ⊎ Rose n o → P ⊎ Rose m o
+either_rose m n o P Q one two first second =
+    ⊎_elim (λ q. ⊎_elim (λ p. inl p) (λ (rose : Rose m n). inr (rose_on m n o rose two)) (first q))
+    (λ (rose : Rose n o). inr (rose_from m n o one rose)) second
+
+-- one step, and then another
+pub cause_then : {K : Type 0} (faults wants : K → ℕ) (a b c : K) (x y z : Option SinkFault) → OutputCause faults wants a b x y
+    → OutputCause faults wants b c y z → OutputCause faults wants a c x z
+cause_then faults wants a b c x y z p q =
+    let later = p.later in
+    let then = q.later in
+    let wants_later = p.wants_later in
+    let wants_then = q.wants_later in
+    record {
+      later = omega (arith, later, then);
+      wants_later = omega (arith, wants_later, wants_then);
+      failed = λ is. either_rose (faults a) (faults b) (faults c) (x ≡ Some Failed) (y ≡ Some Failed) later then p.failed (q.failed is);
+      memory = λ is. either_rose (wants a) (wants b) (wants c) (x ≡ Some Memory) (y ≡ Some Memory) wants_later wants_then p.memory
+          (q.memory is);
+    }
+
+-- nothing was answered, and nothing was written
+pub answered_same : {K : Type 0} (holds : K → Option (List ℕ)) (sink sink' : K) (d : Desk) (popped : List Entry) (start : Option (List ℕ))
+    (console console' : Kept) (tally tally' : Tally) (output output' : Option SinkFault) → sink' ≡ sink → console' ≡ console
+    → tally' ≡ tally → output' ≡ output → HasAnswered d popped start (holds sink) console tally output
+    → HasAnswered d popped start (holds sink') console' tally' output'
+answered_same {K} holds sink sink' d popped start console console' tally tally' output output' s c t o so_far =
+    subst (λ (x : K × Kept × Tally × Option SinkFault). HasAnswered d popped start (holds x.0) x.1 x.2 x.3)
+    (λ i. (sym s i, sym c i, sym t i, sym o i)) so_far

@@ -1,0 +1,17 @@
+use Rattle.std.proofs.Common.{Some, ap, ◌∙◌}
+use Rattle.std.specs.Prelude.{option_copied}
+use Rattle.lx_crew.proofs.Answered.{IsSaid, said_text, said_long, none_is, answered_entry}
+use Rattle.lx_crew.proofs.answering.answer_entry.Goals as goal
+use Rattle.lx_crew.proofs.answering.answer_entry.Goals.{in-Line, in-LongLine}
+
+pub returns-clause-answered : goal.returns-clause-answered
+returns-clause-answered g c =
+    let said : IsSaid c.args.entry.now (option_copied c.match-entry.line) =
+    elim c.match-entry.branch [
+      | in-Line w ↦ said_text c.args.entry.now w.in-Line.line _ w.in-Line.is (ap option_copied w.line-is ∙ ap Some w.bytes.ensures.text)
+      | in-LongLine w ↦ said_long c.args.entry.now _ w.in-LongLine.is (ap option_copied w.line-is)
+    ] in
+    λ d popped start so_far.
+    answered_entry g.K.Sink.holds g.K.Sink.faults g.K.Sink.wants c.args.sink.now c.answer_line.new.sink c.answer_line.result d popped start
+    _ _ c.args.tally.now c.answer_line.new.tally c.args.entry.now (option_copied c.match-entry.line) c.args.output.now _ said
+    (none_is c.args.output.now c.if-is_some.ensures) c.err.ensures.value c.answer_line.ensures.answered so_far

@@ -1,0 +1,67 @@
+use Rattle.std.proofs.Common.{rules, [], ◌∷◌, ◌++◌, slice_get, ap, sym, ◌∙◌, arith}
+use Rattle.lx_spec.specs.Session.{Counts}
+use Rattle.lx_crew.proofs.Answered.{answered_none}
+use Rattle.lx_crew.proofs.Served.{takes_on, ended_on, cause_none, cause_then, answered_same}
+use Rattle.lx_crew.proofs.engine.serve.Goals as goal
+
+pub loop-init : goal.loop-init
+loop-init g c =
+    let none = c.requires.none in record {
+      can = tt;
+      finite = tt;
+      same = search rules;
+      popped = [];
+      view = c.requires.view;
+      ended = search rules;
+      answered = λ d stands. answered_none d _ _ c.args.tally.now stands none;
+      cause = cause_none _ _ _ _;
+      ok = omega (arith, ap (λ (n : Counts). n.ok) none);
+      refused = omega (arith, ap (λ (n : Counts). n.refused) none);
+      bad = omega (arith, ap (λ (n : Counts). n.bad) none);
+    }
+
+pub returns-then-all_of-clause-served : goal.returns-then-all_of-clause-served
+returns-then-all_of-clause-served g c =
+    let i = c.loop.invariant in record {
+      popped = i.popped;
+      view = i.view;
+      ended = λ k below. i.ended k (c.all_of.ensures c.if-all_of.true k below);
+      answered = λ d stands. c.flush.ensures.answered d i.popped _ _ _ (i.answered d stands);
+      cause = cause_then _ _ _ _ _ _ _ _ i.cause c.flush.ensures.cause;
+    }
+
+pub loop-preserved-then-not-take_one : goal.loop-preserved-then-not-take_one
+loop-preserved-then-not-take_one g c =
+    let i = c.loop.invariant in
+    let n = c.take_one.ensures.none c.if-not-take_one.true in record {
+      can = tt;
+      finite = tt;
+      same = search rules;
+      popped = i.popped;
+      view = n.0 ∙ i.view;
+      ended = λ k is. i.ended k (ap (λ marks. slice_get marks k) (sym n.1.1.1.1.1) ∙ is);
+      answered = λ d stands. c.flush-then-not-take_one.ensures.answered d i.popped _ _ _
+          (answered_same g.K.Sink.holds _ _ d i.popped _ _ _ _ _ _ _ n.1.0 n.1.1.0 n.1.1.1.0 n.1.1.1.1.0 (i.answered d stands));
+      cause = cause_then _ _ _ _ _ _ _ _ (cause_then _ _ _ _ _ _ _ _ i.cause c.take_one.ensures.cause)
+          c.flush-then-not-take_one.ensures.cause;
+      ok = search rules;
+      refused = search rules;
+      bad = search rules;
+    }
+
+pub loop-preserved : goal.loop-preserved
+loop-preserved g c =
+    let i = c.loop.invariant in
+    let t = c.take_one.ensures.some c.if-not-take_one.false in record {
+      can = tt;
+      finite = tt;
+      same = search rules;
+      popped = i.popped ++ t.entry ∷ [];
+      view = takes_on _ _ _ _ _ i.view t.takes;
+      ended = ended_on _ _ _ _ t.marked i.ended;
+      answered = λ d stands. t.answered d i.popped _ (i.answered d stands);
+      cause = cause_then _ _ _ _ _ _ _ _ i.cause c.take_one.ensures.cause;
+      ok = search rules;
+      refused = search rules;
+      bad = search rules;
+    }

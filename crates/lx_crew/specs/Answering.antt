@@ -1,0 +1,122 @@
+-- What the engine answers.
+use Rattle.std.specs.Prelude.{◌≡◌, ◌⊎◌, ◌≤◌, ◌<◌, ℕ, ◌+◌, ◌==◌, Bool, true, Option, Some, None, Result, IsErr, List, [], ◌∷◌, ◌++◌, replicate, flat_map}
+use Rattle.std.specs.List.{list_any}
+use Rattle.std.specs.Io.KnownBytes.{Appends}
+use Rattle.lx_base.specs.declared.TheConstants.{LINE_BYTES}
+use Rattle.lx_io.specs.declared.sink.SinkFault.{SinkFault}
+use Rattle.lx_io.specs.declared.sink.SinkFault.TheVariants.{Failed, Memory}
+use Rattle.lx_io.specs.Causes.{Rose}
+use Rattle.lx_io.specs.Puts.{AppendsFront}
+use Rattle.lx_spec.specs.declared.Line.{Line as Meant}
+use Rattle.lx_spec.specs.CrewText.{CrewEntry, crew_session, crew_text, CrewPlacesAreEdits, op_text}
+use Rattle.lx_spec.specs.Desk.{Desk}
+use Rattle.lx_spec.specs.Kept.{Kept}
+use Rattle.lx_spec.specs.Session.{Session, with_text}
+use Rattle.lx_console.specs.Standing.{StandsFor}
+use Rattle.lx_session.specs.declared.tally.Tally.{Tally}
+use Rattle.lx_session.specs.LineAnswer.{LineAnswer}
+use Rattle.lx_session.specs.LineReply.{counts_in}
+use Rattle.lx_crew.specs.declared.entry.Entry.{Entry}
+use Rattle.lx_crew.specs.declared.entry.Sent.{Sent}
+use Rattle.lx_crew.specs.declared.entry.Sent.TheVariants.{Line, LongLine, End, ReadFault, InputTooLong}
+use Rattle.lx_crew.specs.declared.rule.View.{View}
+use Rattle.lx_crew.specs.Entries.{text_in, of_place, is_last, has_last}
+use Rattle.lx_crew.specs.Rule.{engine_view, Takes}
+use Rattle.std.specs.Prelude.{slice_get}
+
+-- Stands for the text of any line of more than 4,096 bytes: each is bad.
+abbrev pub long_line : List ℕ
+long_line = replicate (LINE_BYTES + 1) 0
+
+-- the entry of the transcript: the operator is numbered from 1
+abbrev pub named_line : ℕ → ℕ → List ℕ → CrewEntry
+named_line place number text = record { operator = place + 1; number = number; line = text }
+
+abbrev pub said_by : ℕ → ℕ → Sent → List CrewEntry
+said_by place number (Line l) = named_line place number (text_in l) ∷ []
+said_by place number LongLine = named_line place number long_line ∷ []
+said_by place number End = []
+said_by place number ReadFault = []
+said_by place number InputTooLong = []
+
+-- the entries of the transcript
+abbrev pub said : List Entry → List CrewEntry
+said entries = flat_map (λ (e : Entry). said_by e.place e.number e.sent) entries
+
+-- The name of a line was written and the line done and answered, or a prefix of the name was written.
+pub record NamedAnswer {K : Type 0} (holds : K → Option (List ℕ)) (faults wants : K → ℕ) (sink sink' : K) (result : Result Bool SinkFault)
+    (s : Session) (name : List ℕ) (meaning : Option Meant) (console : Kept) (tally : Tally) : Type 0 where
+  pub between : K
+  pub named : Appends (holds sink) (holds between) name
+  pub answer : LineAnswer true (λ commands. Unit {0}) holds faults wants between sink' result (with_text s name) meaning console tally
+
+abbrev pub AnswersNamed : {K : Type 0} → (K → Option (List ℕ)) → (K → ℕ) → (K → ℕ) → (sink sink' : K) → Result Bool SinkFault
+    → Session → List ℕ → Option Meant → Kept → Tally → Type 0
+AnswersNamed holds faults wants sink sink' result s name meaning console tally =
+    (IsErr result × AppendsFront (holds sink) (holds sink') name)
+    ⊎ NamedAnswer holds faults wants sink sink' result s name meaning console tally
+
+-- the attempts that want of memory refused are all above a number, or within it
+abbrev pub AreAbove : ℕ → List ℕ → Type 0
+AreAbove m places = (n : ℕ) → list_any (λ place. place == n) places ≡ true → m < n
+
+abbrev pub AreWithin : ℕ → List ℕ → Type 0
+AreWithin m places = (n : ℕ) → list_any (λ place. place == n) places ≡ true → n ≤ m
+
+-- The entries are done from a desk on, and the session has come so far; attempts that want of memory refuses later change nothing of it.
+pub record IsDone (d : Desk) (entries : List CrewEntry) (places : List ℕ) (now : Session) : Type 0 where
+  pub within : AreWithin now.attempts places
+  pub is : (more : List ℕ) → AreAbove now.attempts more → crew_session d entries (places ++ more) ≡ now
+  pub edits : (more : List ℕ) → AreAbove now.attempts more → CrewPlacesAreEdits d entries (places ++ more)
+
+-- What was popped is answered, and its whole transcript was written.
+pub record AnsweredAll (d : Desk) (popped : List Entry) (held held' : Option (List ℕ)) (console : Kept) (tally : Tally) : Type 0 where
+  pub places : List ℕ
+  pub now : Session
+  pub done : IsDone d (said popped) places now
+  pub text : Appends held held' now.text
+  pub counts : now.counts ≡ counts_in tally
+  pub stands : StandsFor now.desk console
+
+-- A prefix of the transcript of the first of it was written.
+pub record AnsweredPart (d : Desk) (popped : List Entry) (held held' : Option (List ℕ)) : Type 0 where
+  pub first : List Entry
+  pub rest : List Entry
+  pub are : popped ≡ first ++ rest
+  pub places : List ℕ
+  pub edits : CrewPlacesAreEdits d (said first) places
+  pub text : AppendsFront held held' (crew_text d (said first) places)
+
+-- by the fault of the output
+abbrev pub HasAnswered : Desk → List Entry → (held held' : Option (List ℕ)) → Kept → Tally → Option SinkFault → Type 0
+HasAnswered d popped held held' console tally None = AnsweredAll d popped held held' console tally
+HasAnswered d popped held held' console tally (Some fault) = AnsweredPart d popped held held'
+
+-- neither count of the output has fallen, and a fault that is new comes only where its own count rose
+pub record OutputCause {K : Type 0} (faults wants : K → ℕ) (old new : K) (before after : Option SinkFault) : Type 0 where
+  pub later : faults old ≤ faults new
+  pub wants_later : wants old ≤ wants new
+  pub failed : after ≡ Some Failed → (before ≡ Some Failed) ⊎ Rose (faults old) (faults new)
+  pub memory : after ≡ Some Memory → (before ≡ Some Memory) ⊎ Rose (wants old) (wants new)
+
+-- a place that is set now was set before, or the entry is the last of that operator
+abbrev pub Marked : Entry → List Bool → List Bool → Type 0
+Marked e before after = (k : ℕ) → slice_get after k ≡ Some true → (slice_get before k ≡ Some true) ⊎ ((e.place ≡ k) × (is_last e.sent ≡ true))
+
+-- one entry was popped and answered
+pub record TookOne (v w : View) (held held' : Option (List ℕ)) (console console' : Kept) (tally tally' : Tally)
+    (output output' : Option SinkFault) (ended ended' : List Bool) : Type 0 where
+  pub entry : Entry
+  pub takes : Takes v entry w
+  pub marked : Marked entry ended ended'
+  pub answered : (d : Desk) (popped : List Entry) (start : Option (List ℕ)) → HasAnswered d popped start held console tally output
+      → HasAnswered d (popped ++ entry ∷ []) start held' console' tally' output'
+
+-- the engine took entries to the last of each operator and answered them
+pub record HasServed {K : Type 0} (holds : K → Option (List ℕ)) (faults wants : K → ℕ) (operators : ℕ) (v : View) (sink sink' : K)
+    (console console' : Kept) (tally : Tally) (output : Option SinkFault) : Type 0 where
+  pub popped : List Entry
+  pub view : v ≡ engine_view operators popped []
+  pub ended : (k : ℕ) → k < operators → has_last (of_place k popped) ≡ true
+  pub answered : (d : Desk) → StandsFor d console → HasAnswered d popped (holds sink) (holds sink') console' tally output
+  pub cause : OutputCause faults wants sink sink' None output

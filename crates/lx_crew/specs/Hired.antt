@@ -1,0 +1,45 @@
+-- The works of the operators.
+use Rattle.std.specs.Prelude.{◌≡◌, ℕ, ◌<◌, true, List, [], Option, Some, None, slice_get}
+use Rattle.crossbeam_queue.specs.Passes.{view, IsPassOf, IsSamePass, Pass}
+use Rattle.lx_crew.specs.declared.entry.Entry.{Entry}
+use Rattle.lx_crew.specs.declared.fault.OperatorFault.{OperatorFault}
+use Rattle.lx_crew.specs.declared.rule.View.{View}
+use Rattle.lx_crew.specs.declared.operator.Operator.{Operator}
+use Rattle.lx_crew.specs.Rule.{operator_view}
+use Rattle.lx_crew.specs.Sending.{HasSent}
+
+-- the elements of a list, each at its place
+abbrev pub EachAt : {A : Type 0} → (ℕ → A → Type 0) → List A → Type 0
+EachAt {A} P xs = (k : ℕ) (x : A) → slice_get xs k ≡ Some x → P k x
+
+-- the work at place k is that of the operator there, over the source of that place, and has pushed nothing
+pub record Hired {S : Type 0} (Its : Pass Entry View → Type 0) (places : List (Option S)) (k : ℕ) (w : Operator S) : Type 0 where
+  pub its : Its w.pass
+  pub own_queue : IsPassOf w.queue.now w.pass
+  pub fresh : view w.pass ≡ operator_view k []
+  pub place : w.place ≡ k
+  pub source : slice_get places k ≡ Some (Some w.source)
+
+-- it may run: its pass has pushed nothing
+abbrev pub IsReady : {S : Type 0} → Operator S → Type 0
+IsReady w = IsPassOf w.queue.now w.pass × (view w.pass ≡ operator_view w.place [])
+
+-- what a work does: it pushed its lines
+abbrev pub HasRun : {S : Type 0} → (S → Option (List ℕ)) → (S → ℕ) → Operator S → Operator S → Type 0
+HasRun left faults x y = IsSamePass x.pass y.pass × HasSent left faults x.place x.source y.source (view y.pass) y.fault
+
+-- what its pass pushed
+abbrev pub owned : {S : Type 0} → Operator S → ℕ × List Entry
+owned w = ((view w.pass).place, (view w.pass).pushed)
+
+-- it has the pass of an operator
+abbrev pub Works : {S : Type 0} → (Pass Entry View → Type 0) → ℕ → Operator S → Type 0
+Works Its k w = Its w.pass × ((view w.pass).pushes ≡ true)
+
+-- it pushed all its lines and its last entry, from its source before on
+pub record Retired {S : Type 0} (left : S → Option (List ℕ)) (faults : S → ℕ) (Its : Pass Entry View → Type 0) (places : List (Option S))
+    (k : ℕ) (w : Operator S) : Type 0 where
+  pub its : Its w.pass
+  pub start : S
+  pub source : slice_get places k ≡ Some (Some start)
+  pub sent : HasSent left faults k start w.source (view w.pass) w.fault

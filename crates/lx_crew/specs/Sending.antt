@@ -1,0 +1,64 @@
+-- What an operator sends.
+use Rattle.std.specs.Prelude.{◌≡◌, ◌≤◌, ◌++◌, ◌∷◌, ℕ, ◌+◌, true, false, Option, Some, None, List, [], length, if◌then◌else◌}
+use Rattle.std.specs.Io.KnownBytes.{IsAtEnd}
+use Rattle.lx_io.specs.Causes.{Rose}
+use Rattle.lx_lex.specs.declared.lines.Lines.{Lines}
+use Rattle.lx_lex.specs.declared.lines.Step.TheVariants as steps
+use Rattle.lx_lex.specs.CutOff.{NotTaken}
+use Rattle.lx_lex.specs.Handed.{HandedOut}
+use Rattle.lx_lex.specs.Lines.{StepOf}
+use Rattle.lx_lex.specs.Unread.{unread, line_of}
+use Rattle.lx_spec.specs.Text.{without_cr}
+use Rattle.lx_spec.specs.Session.{ends_script}
+use Rattle.lx_crew.specs.declared.entry.Entry.{Entry}
+use Rattle.lx_crew.specs.declared.entry.Sent.{Sent}
+use Rattle.lx_crew.specs.declared.entry.Sent.TheVariants.{Line, LongLine, End, ReadFault, InputTooLong}
+use Rattle.lx_crew.specs.declared.fault.OperatorFault.{OperatorFault}
+use Rattle.lx_crew.specs.declared.fault.OperatorFault.TheVariants as ends
+use Rattle.lx_crew.specs.declared.follows.Follows.{Follows}
+use Rattle.lx_crew.specs.declared.follows.Follows.TheVariants as after
+use Rattle.lx_crew.specs.declared.rule.View.{View}
+use Rattle.lx_crew.specs.Entries.{HasText, HaveLines, text_in}
+use Rattle.lx_crew.specs.Rule.{operator_view}
+use Rattle.lx_crew.specs.Scripts.{HasEnded}
+
+-- one line was handed out, and it is to be sent
+pub record TookLine {S : Type 0} (left : S → Option (List ℕ)) (faults : S → ℕ) (old new : Lines S) (sent : Sent) : Type 0 where
+  pub raw : List ℕ
+  pub handed : HandedOut left faults old new (raw ∷ [])
+  pub text : HasText sent (without_cr raw)
+
+-- what is to be sent, by what was taken
+abbrev pub TookNext : {S : Type 0} → (S → Option (List ℕ)) → (S → ℕ) → (old new : Lines S) → Sent → Type 0
+TookNext left faults old new (Line l) = TookLine left faults old new (Line l)
+TookNext left faults old new LongLine = TookLine left faults old new LongLine
+TookNext left faults old new End = IsAtEnd (unread left old)
+TookNext left faults old new ReadFault = NotTaken left old new × Rose (faults old.source.now) (faults new.source.now)
+TookNext left faults old new InputTooLong =
+    NotTaken left old new × StepOf steps.InputTooLong (unread left old) (unread left new) old.taken new.taken (line_of new)
+
+-- what comes after it
+abbrev pub follows : Sent → Follows
+follows (Line l) = if ends_script (text_in l) then after.End else after.Lines
+follows LongLine = after.Lines
+follows End = after.Nothing None
+follows ReadFault = after.Nothing (Some ends.ReadFault)
+follows InputTooLong = after.Nothing (Some ends.InputTooLong)
+
+-- the last entry of an operator, by its fault
+abbrev pub last_of : Option OperatorFault → Sent
+last_of None = End
+last_of (Some ends.ReadFault) = ReadFault
+last_of (Some ends.InputTooLong) = InputTooLong
+
+-- From its source before to its source after the operator's pass pushed its lines, numbered from 1, and then how they ended.
+pub record HasSent {S : Type 0} (left : S → Option (List ℕ)) (faults : S → ℕ) (place : ℕ) (source source' : S) (v : View)
+    (fault : Option OperatorFault) : Type 0 where
+  pub lines : List (List ℕ)
+  pub entries : List Entry
+  pub last : Entry
+  pub view : v ≡ operator_view place (entries ++ last ∷ [])
+  pub have : HaveLines place 1 entries lines
+  pub own : last.place ≡ place
+  pub ends : last.sent ≡ last_of fault
+  pub ended : HasEnded left faults source source' fault lines

@@ -1,0 +1,28 @@
+-- The transcript of a crew: each operator's lines, numbered from 1, in some order with those of the others.
+use Rattle.std.specs.Prelude.{◌≡◌, ℕ, List, Option}
+use Rattle.std.specs.Io.KnownBytes.{Appends}
+use Rattle.lx_io.specs.Puts.{AppendsFront}
+use Rattle.lx_spec.specs.CrewText.{CrewEntry, Merged, MergedSoFar, crew_session, crew_text, CrewPlacesAreEdits}
+use Rattle.lx_spec.specs.Desk.{Desk}
+use Rattle.lx_spec.specs.Kept.{Kept}
+use Rattle.lx_console.specs.Standing.{StandsFor}
+use Rattle.lx_session.specs.declared.tally.Tally.{Tally}
+use Rattle.lx_session.specs.LineReply.{counts_in}
+
+-- The whole transcript was written, and the console stands for the desk after it. Want of memory refused nothing but edits.
+pub record WholeTranscript (d : Desk) (lines : ℕ → List (List ℕ)) (held held' : Option (List ℕ)) (console : Kept) (tally : Tally) : Type 0 where
+  pub entries : List CrewEntry
+  pub merged : Merged lines entries
+  pub places : List ℕ
+  pub edits : CrewPlacesAreEdits d entries places
+  pub text : Appends held held' (crew_text d entries places)
+  pub counts : counts_in tally ≡ (crew_session d entries places).counts
+  pub stands : StandsFor (crew_session d entries places).desk console
+
+-- A prefix of the transcript of first lines was written.
+pub record TranscriptPrefix (d : Desk) (lines : ℕ → List (List ℕ)) (held held' : Option (List ℕ)) : Type 0 where
+  pub entries : List CrewEntry
+  pub merged : MergedSoFar lines entries
+  pub places : List ℕ
+  pub edits : CrewPlacesAreEdits d entries places
+  pub text : AppendsFront held held' (crew_text d entries places)

@@ -1,0 +1,85 @@
+//! The answer to one entry.
+#![tactic(auto, using(lx_io::proofs::Chain::puts))]
+
+ghost use Rattle.std.specs.Prelude.{◌≡◌, ◌+◌, None, Some, List, ℕ, ◌++◌, ◌∷◌, [], option_copied};
+ghost use Rattle.lx_io.specs.Puts.{Puts, HasSinkCause};
+ghost use Rattle.lx_spec.specs.CrewText.{op_text};
+ghost use Rattle.lx_spec.specs.Desk.{Desk};
+ghost use Rattle.lx_session.specs.LineState.{meaning_of};
+ghost use Rattle.lx_session.specs.LineReply.{HasRoom, HasOneMore};
+ghost use Rattle.lx_session.specs.LineAnswer.{FromDesk};
+ghost use Rattle.lx_crew.specs.declared.entry.Entry.{Entry as AnEntry};
+ghost use Rattle.lx_crew.specs.Answering.{AnswersNamed, HasAnswered, OutputCause, named_line};
+
+use crate::entry::{Entry, Sent};
+use lx_console::Console;
+use lx_io::{Sink, SinkFault, put_all};
+use lx_lex::put_count_and;
+use lx_session::{NoListener, Tally, answer};
+
+/// Appends the name of a line: `op`, its operator from 1, and its number among that operator's lines.
+fn put_name<K: Sink>(place: u8, number: u32, sink: &mut K) -> Result<(), SinkFault>
+    ensures { Puts K.holds K.faults K.wants sink.old sink.new result (op_text (named_line place number [])) }
+{
+    put_all(sink, b"op ")?;
+    put_count_and(u64::from(place) + 1, b' ', sink)?;
+    put_count_and(u64::from(number), b'\n', sink)
+}
+
+/// Appends the name of a line, does the line and appends its replies, and counts them. None stands for a line that is too
+/// long, which is bad. It answers false exactly for `quit`.
+fn answer_line<K: Sink>(
+    console: &mut Console,
+    place: u8,
+    number: u32,
+    line: Option<&[u8]>,
+    sink: &mut K,
+    tally: &mut Tally,
+) -> Result<bool, SinkFault>
+    requires room { HasRoom tally.old }
+    ensures answered { FromDesk console.old tally.old (λ s. AnswersNamed K.holds K.faults K.wants sink.old sink.new result s
+        (op_text (named_line place number [])) (meaning_of (option_copied line.entry)) console.new tally.new) }
+    ensures cause { HasSinkCause K.faults K.wants sink.old sink.new result }
+    ensures more { HasOneMore tally.old tally.new }
+{
+    put_name(place, number, sink)?;
+    answer(&mut NoListener, console, line, sink, tally)
+}
+
+/// Answers an entry, unless the output had a fault. Then it is thrown away.
+pub(crate) fn answer_entry<K: Sink>(
+    console: &mut Console,
+    entry: &Entry,
+    sink: &mut K,
+    tally: &mut Tally,
+    output: &mut Option<SinkFault>,
+)
+    requires room { HasRoom tally.old }
+    ensures answered { (d : Desk) (popped : List AnEntry) (start : _) → HasAnswered d popped start (K.holds sink.old) console.old tally.old
+        output.old → HasAnswered d (popped ++ entry.now ∷ []) start (K.holds sink.new) console.new tally.new output.new }
+    ensures cause { OutputCause K.faults K.wants sink.old sink.new output.old output.new }
+    ensures more { HasOneMore tally.old tally.new }
+{
+    if output.is_some() {
+        return;
+    }
+    let line = match &entry.sent {
+        Sent::Line(line) => Some(line.bytes()),
+        Sent::LongLine => None,
+        _ => return,
+    };
+    *output = answer_line(console, entry.place, entry.number, line, sink, tally).err();
+}
+
+/// Hands on what the output keeps back, unless it had a fault.
+pub(crate) fn flush<K: Sink>(sink: &mut K, output: &mut Option<SinkFault>)
+    ensures answered { (d : Desk) (popped : List AnEntry) (start : _) (console : _) (tally : _)
+        → HasAnswered d popped start (K.holds sink.old) console tally output.old
+        → HasAnswered d popped start (K.holds sink.new) console tally output.new }
+    ensures cause { OutputCause K.faults K.wants sink.old sink.new output.old output.new }
+{
+    if output.is_some() {
+        return;
+    }
+    *output = sink.flush().err();
+}

@@ -1,0 +1,202 @@
+//! A crew: the engine and the operators at the same time.
+
+ghost use Rattle.std.specs.Prelude.{◌≡◌, ◌+◌, ◌<◌, ◌≤◌, ℕ, List, [], ◌++◌, ◌∷◌, length, map, true, false, slice_get, Some, None, IfOk, OnErr, IsSome, vec_len, vec_capacity};
+ghost use Rattle.std.specs.List.{All, AllZip};
+ghost use Rattle.crossbeam_queue.specs.Passes.{view, IsPassOf, IsSamePass};
+ghost use Rattle.lx_spec.specs.Desk.{Desk};
+ghost use Rattle.lx_console.specs.Standing.{StandsFor};
+ghost use Rattle.lx_base.specs.declared.TheConstants.{OPERATORS};
+ghost use Rattle.lx_crew.specs.Rule.{engine_view};
+ghost use Rattle.lx_crew.specs.Answering.{HasServed, OutputCause};
+ghost use Rattle.lx_crew.specs.Crewed.{HasCrewed};
+ghost use Rattle.lx_crew.specs.Hired.{EachAt, HasRun, Hired, IsReady, Works, owned};
+
+use crate::engine::{Engine, PLACES};
+use crate::entry::Entry;
+use crate::fault::OperatorFault;
+use crate::operator::Operator;
+use crate::rule::{Enters, Leaves, Queue, Total, View};
+use crate::work::run_beside;
+use crossbeam_queue::Pass;
+use crossbeam_utils::sync::{Parker, Unparker};
+use lx_console::Console;
+use lx_io::{Sink, SinkFault, Source};
+use lx_session::Tally;
+use std::alloc::{AllocError, Global};
+use std::sync::Wait;
+use std::thread::Threads;
+
+/// How many entries the queue has room for.
+const QUEUE_PLACES: usize = 64;
+
+/// What a crew came to.
+#[derive(Drop)]
+pub struct Crewed {
+    /// The replies, by kind.
+    pub tally: Tally,
+    /// The fault of the output, if it had one.
+    pub output: Option<SinkFault>,
+    /// The fault of operator k, at place k - 1, where it had one.
+    pub operators: [Option<OperatorFault>; PLACES],
+}
+
+/// Answers the lines of one to four operators, each up to `quit` or the end of its own source, over a console, and writes
+/// their transcript: for each line `op K N`, its operator and its number from 1, and then its replies. Each source is read
+/// in a thread of its own; which operator comes next isn't said.
+///
+/// A fault of an operator costs no line of another. After a fault of the output no line is done any more, and the sources
+/// are read on to their ends. `AllocError` comes only before the first line, and then nothing was read or written.
+pub fn crew<R: Threads + Wait + Sync, S: Source + Send + Drop, K: Sink + Send>(
+    rt: &R,
+    alloc: Global,
+    console: &mut Console,
+    operators: &mut [Option<S>],
+    sink: &mut K,
+) -> Result<Crewed, AllocError>
+    requires some { 1 ≤ length operators.old }
+    requires most { length operators.old ≤ OPERATORS }
+    requires full { EachAt (λ k place. IsSome place) operators.old }
+    ensures err { OnErr result ((console.new ≡ console.old) × ((sink.new ≡ sink.old) × (operators.new ≡ operators.old))) }
+    ensures crewed { IfOk result (λ c. (d : Desk) → StandsFor d console.old → HasCrewed S.left S.faults K.holds d operators.old operators.new
+        sink.old sink.new console.new c.tally c.output c.operators) }
+    ensures cause { IfOk result (λ c. OutputCause K.faults K.wants sink.old sink.new None c.output) }
+{
+    let count = operators.len();
+    let mut parker = Parker::new(alloc)?;
+    let waker = parker.unparker().clone()?;
+    let (queue, mut pass) = Queue::ruled(alloc, QUEUE_PLACES)?;
+    let mut works = Vec::with_capacity(alloc, count)?;
+    hire(&queue, &waker, &mut pass, operators, &mut works);
+    let (tally, output) = perform(
+        rt,
+        &queue,
+        &mut pass,
+        &mut parker,
+        console,
+        sink,
+        works.as_mut_slice(),
+    );
+    let faults = release(&queue, &mut pass, operators, works);
+    queue.learn_as::<Total>(&mut pass);
+    Ok(Crewed {
+        tally,
+        output,
+        operators: faults,
+    })
+}
+
+/// Runs the engine and the operators at the same time.
+fn perform<'q, 'e, R: Threads + Wait + Sync, S: Source + Send, K: Sink + Send>(
+    rt: &R,
+    queue: &Queue,
+    pass: &mut Pass<Entry, View>,
+    parker: &mut Parker,
+    console: &mut Console,
+    sink: &mut K,
+    works: &mut [Operator<'q, 'e, S>],
+) -> (Tally, Option<SinkFault>)
+    requires queue { IsPassOf queue.now pass.old }
+    requires view { view pass.old ≡ engine_view (length works.old) [] [] }
+    requires few { length works.old ≤ 4 }
+    requires ready { All IsReady works.old }
+    ensures queue { IsSamePass pass.old pass.new }
+    ensures served { HasServed K.holds K.faults K.wants (length works.old) (view pass.new) sink.old sink.new console.old console.new
+        result.0 result.1 }
+    ensures ran { AllZip (HasRun S.left S.faults) works.old works.new }
+{
+    let mut engine = Engine {
+        queue,
+        pass: &mut *pass,
+        parker: &mut *parker,
+        console: &mut *console,
+        sink: &mut *sink,
+        operators: works.len(),
+        tally: Tally::new(),
+        output: None,
+    };
+    run_beside(rt, &mut engine, works);
+    (engine.tally, engine.output)
+}
+
+/// Moves each source into a work, beside a pass of its own.
+fn hire<'q, 'e, S: Source>(
+    queue: &'q Queue,
+    waker: &'e Unparker,
+    pass: &mut Pass<Entry, View>,
+    operators: &mut [Option<S>],
+    works: &mut Vec<Operator<'q, 'e, S>>,
+)
+    requires queue { IsPassOf queue.now pass.old }
+    requires view { view pass.old ≡ engine_view 0 [] [] }
+    requires few { length operators.old ≤ 4 }
+    requires all { EachAt (λ k place. IsSome place) operators.old }
+    requires none { works.old.items ≡ [] }
+    requires len { vec_len works.old ≡ 0 }
+    requires room { length operators.old ≤ vec_capacity works.old }
+    ensures queue { IsSamePass pass.old pass.new }
+    ensures view { view pass.new ≡ engine_view (length operators.old) [] [] }
+    ensures works { EachAt (Hired (IsPassOf queue.now) operators.old) works.new.items }
+    ensures count { length works.new.items ≡ length operators.old }
+    ensures same { length operators.new ≡ length operators.old }
+{
+    for place in 0..operators.len() {
+        let Some(source) = operators[place].take() else {
+            unreachable!();
+        };
+        let theirs = queue.another::<Enters>(pass);
+        works.push_reserved(Operator {
+            queue,
+            engine: waker,
+            pass: theirs,
+            source,
+            place: place as u8,
+            fault: None,
+        });
+    }
+}
+
+/// Takes each operator's pass in, and gives each place its source again. It says the faults, each at its operator's place.
+fn release<S: Source + Drop>(
+    queue: &Queue,
+    pass: &mut Pass<Entry, View>,
+    operators: &mut [Option<S>],
+    works: Vec<Operator<'_, '_, S>>,
+) -> [Option<OperatorFault>; PLACES]
+    requires queue { IsPassOf queue.now pass.old }
+    requires pops { (view pass.old).pops ≡ true }
+    requires pushes { (view pass.old).pushes ≡ false }
+    requires works { EachAt (Works (IsPassOf queue.now)) works.items }
+    requires count { length works.items ≡ length operators.old }
+    requires few { length operators.old ≤ 4 }
+    ensures queue { IsSamePass pass.old pass.new }
+    ensures kept { view pass.new ≡ record (view pass.old) { kept = map owned works.entry.items ++ (view pass.old).kept } }
+    ensures same { length operators.new ≡ length operators.old }
+    ensures back { EachAt (λ k work. slice_get operators.new k ≡ Some (Some work.source)) works.entry.items }
+    ensures faults { EachAt (λ k work. slice_get result k ≡ Some work.fault) works.entry.items }
+    ensures others { (place : ℕ) (fault : _) → slice_get result place ≡ Some (Some fault) → place < length operators.old }
+{
+    let mut works = works;
+    let mut faults = [None; PLACES];
+    while let Some(work) = works.pop() {
+        let Operator {
+            queue: _,
+            engine: _,
+            pass: theirs,
+            source,
+            place: _,
+            fault,
+        } = work;
+        queue.absorb::<Leaves>(pass, theirs);
+        let place = works.len();
+        put_back(&mut operators[place], source);
+        faults[place] = fault;
+    }
+    faults
+}
+
+/// Puts a source into its place.
+fn put_back<S: Drop>(place: &mut Option<S>, source: S)
+    ensures { place.new ≡ Some source }
+{
+    *place = Some(source);
+}
