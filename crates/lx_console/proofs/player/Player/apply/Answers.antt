@@ -10,8 +10,8 @@ use Rattle.lx_console.proofs.player.Player.apply.Goals as goal
 
 pub recompute_touched-requires-clause-others : goal.recompute_touched-requires-clause-others
 recompute_touched-requires-clause-others c =
-    untouched_levels c.self.inside.show c.exchange-dirty.new.show c.self.inside.playback c.exchange-dirty.result.dirty.chans c.self.inside.levels
-    c.self.invariant.levels_stand
+    untouched_levels c.self.inside.show c.exchange-dirty.new.show c.self.inside.playback c.exchange-dirty.result.dirty.chans
+    c.self.inside.levels c.self.invariant.levels_stand
     (ap (λ (s : Show). s.channels) c.exchange-dirty.ensures.show ∙ same_channels c.self.inside.show c.args.plan)
     c.exchange-dirty.ensures.others
 
