@@ -1,6 +1,6 @@
 -- What commands change of what goes out.
-use Rattle.std.specs.Prelude.{◌≡◌, ℕ, ◌+◌, ◌<◌, refl, Bool, true, false, Some, None, List}
-use Rattle.std.proofs.Common.{arith, ap, sym, subst, ◌∙◌}
+use Rattle.std.specs.Prelude.{◌≡◌, ℕ, ◌+◌, ◌<◌, refl, Bool, true, false, Some, List}
+use Rattle.std.proofs.Common.{ap, sym, ◌∙◌}
 use Rattle.lx_spec.specs.SortedList.{entry_at}
 use Rattle.lx_spec.specs.Show.{Show, Sub}
 use Rattle.lx_spec.specs.Output.{contribution}

@@ -42,7 +42,8 @@ pub same_slots : (before after : Kept) (stage : Stage) → SamePatch before afte
     → SlotsStand after.show.patch stage
 same_slots before after stage same stand = subst (λ (rows : List PatchRow). SlotsStand rows stage) (sym same.patch) stand
 
-same_out : (before after : Kept) (i : ℕ) → SameOutputs before after → i < before.show.channels → out_now before (i + 1) ≡ out_now after (i + 1)
+same_out : (before after : Kept) (i : ℕ) → SameOutputs before after → i < before.show.channels
+    → out_now before (i + 1) ≡ out_now after (i + 1)
 same_out before after i same within =
     ap (λ l. scaled (max l (contribution before.show before.faders (i + 1))) before.master) (sym (same.levels i within))
     ∙ ap (λ g. scaled (max (level_now after (i + 1)) g) before.master) (sym (same.given i within))

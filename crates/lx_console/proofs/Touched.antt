@@ -1,10 +1,9 @@
 -- What an edit leaves as it was.
 use Rattle.std.specs.Prelude.{◌≡◌, ◌≢◌, ℕ, ◌+◌, ◌<◌, refl, Bool, false, Some, None, List, length}
-use Rattle.std.proofs.Common.{arith, ap, sym, subst, ◌∙◌}
+use Rattle.std.proofs.Common.{arith, ap, sym, ◌∙◌}
 use Rattle.lx_spec.specs.SortedList.{entry_at}
 use Rattle.lx_spec.specs.Show.{Show, Sub, InRange}
 use Rattle.lx_spec.specs.Output.{contribution}
-use Rattle.lx_spec.specs.Kept.{Kept}
 use Rattle.lx_spec.proofs.Columns.{level-columns}
 use Rattle.lx_edit.specs.declared.plans.Plan.{Plan}
 use Rattle.lx_edit.specs.declared.plans.Plan.TheVariants.{Nothing, PlaceCue, PlaceCues, RemoveCue, PlaceGroup, RemoveGroup}

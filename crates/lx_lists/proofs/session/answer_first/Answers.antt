@@ -22,8 +22,8 @@ returns-in-Some-clause-answered g c = λ s text stands counted is first.
     let meant = meant_by (option_copied c.args.line) c.begin-turn.result text c.begin-turn.ensures is in
     answered_frame g.K.Sink.holds g.K.Sink.faults g.K.Sink.wants c.args.sink.now c.put_universe.new.sink c.put_universe.result s text
     c.args.desk.now c.args.tally.now c.in-Some.universe first
-    (frame_is (line_of text) c.in-Some.universe (ap frame_of (sym meant) ∙ sym c.frame_universe.ensures.universe ∙ c.in-Some.is)) stands counted
-    (c.put_universe.ensures.text s.state stands)
+    (frame_is (line_of text) c.in-Some.universe (ap frame_of (sym meant) ∙ sym c.frame_universe.ensures.universe ∙ c.in-Some.is))
+    stands counted (c.put_universe.ensures.text s.state stands)
 
 pub finish_without_frame-requires-clause-no_frame : goal.finish_without_frame-requires-clause-no_frame
 finish_without_frame-requires-clause-no_frame g c =
@@ -34,14 +34,17 @@ returns-in-None-clause-answered g c = λ s text stands counted is first.
     let given : Option (List ℕ) = option_copied c.args.line in
     let desk : TwoKept = c.attempt_all.new.desk in
     let heard : List Command → Type 0 = TicksReach s.state.second desk.second in
-    let line = answered true heard g.K.Sink.holds g.K.Sink.faults g.K.Sink.wants c.args.sink.now c.finish_without_frame.new.sink c.finish_without_frame.result
+    let line = answered true heard g.K.Sink.holds g.K.Sink.faults g.K.Sink.wants c.args.sink.now c.finish_without_frame.new.sink
+    c.finish_without_frame.result
     (at_desk s.state.first s) (meaning_of given) c.attempt_all.new.turn desk.first c.args.tally.now c.finish_without_frame.new.tally
     (subst (λ (from : LineState). LineProgress true heard (at_desk s.state.first s) from c.attempt_all.new.turn desk.first)
     c.begin-turn.ensures (c.attempt_all.ensures.tried s stands)) c.attempt_all.ensures.over counted
     (λ d stood. c.finish_without_frame.ensures.text d (subst (StandsFor d) (sym c.list.ensures) stood))
     (λ d stood. c.finish_without_frame.ensures.counts d (subst (StandsFor d) (sym c.list.ensures) stood)) in
-    answered_first g.K.Sink.holds g.K.Sink.faults g.K.Sink.wants c.args.sink.now c.finish_without_frame.new.sink c.finish_without_frame.result s text desk
-    c.finish_without_frame.new.tally first
-    (ap frame_of (sym (meant_by given c.begin-turn.result text c.begin-turn.ensures is)) ∙ sym c.frame_universe.ensures.universe ∙ c.in-None.is)
-    (subst (λ (m : Option Line). LineAnswer true heard g.K.Sink.holds g.K.Sink.faults g.K.Sink.wants c.args.sink.now c.finish_without_frame.new.sink
-    c.finish_without_frame.result (at_desk s.state.first s) m desk.first c.finish_without_frame.new.tally) (meaning_is given text is) line)
+    answered_first g.K.Sink.holds g.K.Sink.faults g.K.Sink.wants c.args.sink.now c.finish_without_frame.new.sink
+    c.finish_without_frame.result s text desk c.finish_without_frame.new.tally first
+    (ap frame_of (sym (meant_by given c.begin-turn.result text c.begin-turn.ensures is))
+    ∙ sym c.frame_universe.ensures.universe ∙ c.in-None.is)
+    (subst (λ (m : Option Line). LineAnswer true heard g.K.Sink.holds g.K.Sink.faults g.K.Sink.wants c.args.sink.now
+    c.finish_without_frame.new.sink c.finish_without_frame.result (at_desk s.state.first s) m desk.first
+    c.finish_without_frame.new.tally) (meaning_is given text is) line)

@@ -32,16 +32,18 @@ pub returns-clause-answered : goal.returns-clause-answered
 returns-clause-answered g c = λ s text stands counted is.
     let desk : TwoKept = c.attempt_second.new.desk in
     let heard : List Command → Type 0 = Stays s.state.first desk.first in
-    let line = answered true heard g.K.Sink.holds g.K.Sink.faults g.K.Sink.wants c.args.sink.now c.finish_without_frame.new.sink c.finish_without_frame.result
+    let line = answered true heard g.K.Sink.holds g.K.Sink.faults g.K.Sink.wants c.args.sink.now c.finish_without_frame.new.sink
+    c.finish_without_frame.result
     (at_desk s.state.second s) (where_of_second (line_of c.args.rest.now)) c.attempt_second.new.turn desk.second c.args.tally.now
     c.finish_without_frame.new.tally
     (subst (λ (from : LineState). LineProgress true heard (at_desk s.state.second s) from c.attempt_second.new.turn desk.second)
     c.begin_second-turn.ensures (c.attempt_second.ensures.tried s stands)) c.attempt_second.ensures.over counted
     (λ d stood. c.finish_without_frame.ensures.text d (subst (StandsFor d) (sym c.list.ensures) stood))
     (λ d stood. c.finish_without_frame.ensures.counts d (subst (StandsFor d) (sym c.list.ensures) stood)) in
-    answered_second g.K.Sink.holds g.K.Sink.faults g.K.Sink.wants c.args.sink.now c.finish_without_frame.new.sink c.finish_without_frame.result s text desk
-    c.finish_without_frame.new.tally is.second
-    (subst (λ (m : Option Line). LineAnswer true heard g.K.Sink.holds g.K.Sink.faults g.K.Sink.wants c.args.sink.now c.finish_without_frame.new.sink
+    answered_second g.K.Sink.holds g.K.Sink.faults g.K.Sink.wants c.args.sink.now c.finish_without_frame.new.sink
+    c.finish_without_frame.result s text desk c.finish_without_frame.new.tally is.second
+    (subst (λ (m : Option Line). LineAnswer true heard g.K.Sink.holds g.K.Sink.faults g.K.Sink.wants c.args.sink.now
+    c.finish_without_frame.new.sink
     c.finish_without_frame.result (at_desk s.state.second s) m desk.second c.finish_without_frame.new.tally)
     (ap (λ (rest : List ℕ). where_of_second (line_of rest)) is.is) line)
 

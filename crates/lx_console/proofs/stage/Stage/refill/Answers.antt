@@ -16,7 +16,8 @@ pub follow-requires-clause-reach : goal.follow-requires-clause-reach
 follow-requires-clause-reach c =
     let enough : c.args.player.now.show.channels ≤ length c.deref-2.result.now =
     omega (arith, c.deref-2.ensures.len, c.requires.reaches.mixed_reach) in
-    reaches c.args.player.now.show c.args.self.now.table (length c.deref-2.result.now) (subst (λ (show : Show). Valid show) c.show.ensures c.channels.ensures.valid) enough c.requires.patch
+    let valid : Valid c.args.player.now.show = subst (λ (show : Show). Valid show) c.show.ensures c.channels.ensures.valid in
+    reaches c.args.player.now.show c.args.self.now.table (length c.deref-2.result.now) valid enough c.requires.patch
 
 pub returns : goal.returns
 returns c =
@@ -42,7 +43,8 @@ returns c =
       patch_stands = c.requires.patch;
       outs = λ k within. ap (λ (xs : List ℕ). get_or xs k 0) outs_are ∙ c.mix_into.ensures k (omega (arith, within, ap length outs_are))
           ∙ ap (λ g. scaled (max (get_or c.args.levels.now k 0) g) c.master.result)
-          (c.contribution.ensures.each k (omega (arith, within, ap length outs_are, c.mix_into.auto.out, c.deref_mut.ensures.len, c.requires.reaches.mixed_reach)))
+          (c.contribution.ensures.each k
+          (omega (arith, within, ap length outs_are, c.mix_into.auto.out, c.deref_mut.ensures.len, c.requires.reaches.mixed_reach)))
           ∙ ap (λ m. scaled (max (get_or c.args.levels.now k 0) (contribution c.args.player.now.show c.args.player.now.faders (k + 1))) m)
           c.master.ensures;
       slots_stand = subst (λ (xs : List ℕ). Slots rows c.swap.new.x.items xs) (sym slots_are) new;

@@ -19,7 +19,8 @@ unreachable-requires c =
 pub invariant_of-self-then-not-is_nothing : goal.invariant_of-self-then-not-is_nothing
 invariant_of-self-then-not-is_nothing c = ticked_kept c.in_ok-first.first c.in-Ok.second c.self.inside.first c.self.inside.second
     c.tick.new.self c.tick-2.new.self c.self.inside.output c.refill.new.self c.self.invariant c.in_ok-first.ensures.obeys
-    c.in-Ok.ensures.obeys c.in_ok-first.ensures.show c.in-Ok.ensures.show c.in_ok-first.ensures.moment c.in-Ok.ensures.moment c.refill.ensures
+    c.in-Ok.ensures.obeys c.in_ok-first.ensures.show c.in-Ok.ensures.show c.in_ok-first.ensures.moment c.in-Ok.ensures.moment
+    c.refill.ensures
 
 pub invariant_of-self-else-not-is_nothing-2 : goal.invariant_of-self-else-not-is_nothing-2
 invariant_of-self-else-not-is_nothing-2 c = ticked_kept c.in_ok-first.first c.in-Ok.second c.self.inside.first c.self.inside.second
