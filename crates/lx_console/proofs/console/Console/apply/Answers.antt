@@ -1,7 +1,8 @@
 use Rattle.std.proofs.Common.{◌≡◌, ℕ, ◌+◌, List, inl, inr, arith, sym, ap, rules, ◌∙◌}
 use Rattle.lx_spec.specs.Show.{Show}
 use Rattle.lx_spec.specs.Kept.{Kept}
-use Rattle.lx_console.proofs.Touched.{in_show, untouched, untouched_levels, same_levels, touched_patch, same_given, same_reach, same_channels}
+use Rattle.lx_console.proofs.Touched.{in_show, untouched, untouched_levels, same_levels}
+use Rattle.lx_console.proofs.Touched.{touched_patch, same_given, same_reach, same_channels}
 use Rattle.lx_console.proofs.Touched.{same_slots}
 use Rattle.lx_console.proofs.Obeying.{stands_planned}
 use Rattle.lx_levels.specs.Standing.{StandsAt}
@@ -22,7 +23,8 @@ recompute_touched-requires-clause-others c = λ k within out.
           c.self.invariant.levels_stand channels c.exchange-dirty.ensures.others k within clean
       | inr unseen ↦
           placed_stands show after c.self.inside.playback c.args.plan c.placed_alone-placed.result k c.self.inside.levels
-          c.channels.ensures.valid c.self.invariant.levels_stand (omega (arith, channels, within)) (search rules) c.exchange-dirty.ensures.show
+          c.channels.ensures.valid c.self.invariant.levels_stand (omega (arith, channels, within)) (search rules)
+          c.exchange-dirty.ensures.show
           c.placed_alone-placed.ensures unseen
     ]
 
