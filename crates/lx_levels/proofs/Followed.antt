@@ -1,16 +1,19 @@
 -- Runs that are followed one after another.
 use Rattle.std.specs.Prelude.{◌≡◌, ℕ, ◌+◌, ◌<◌, ◌≤◌, Bool, true, false, cond, List, [], ◌∷◌, ◌++◌, length, take, drop, reverse}
-use Rattle.std.proofs.Common.{arith, get_or, ap, sym, subst, ◌∙◌, drop-cons, add-one}
+use Rattle.std.specs.Prelude.{Option, Some, None, IfSome, slice_set}
+use Rattle.std.proofs.Common.{arith, get_or, ap, sym, subst, refl, inl, inr, ◌∙◌, drop-cons, add-one}
+use Rattle.std.proofs.lemmas.Bool.{cases_eq}
+use Rattle.std.proofs.lemmas.List.{get_or_default, get_or-set_other, get_or-set_same}
 use Rattle.std.proofs.Math.Seq.{take-suc}
 use Rattle.std.proofs.lemmas.Grind.{common_steps}
 use Rattle.lx_spec.specs.Show.{Show}
-use Rattle.lx_spec.specs.declared.PartTimes.{PartTimes}
 use Rattle.lx_spec.specs.TrackedLevel.{tracked}
 use Rattle.lx_spec.specs.Run.{Run, acts, entry_for, entry_extent}
 use Rattle.lx_spec.specs.Level.{level, last_cue}
 use Rattle.lx_levels.specs.Stacks.{Stack, level_in}
 use Rattle.lx_levels.specs.Timed.{timed_over}
-use Rattle.lx_levels.specs.Following.{Follow, IsGround, IsReplayed, IsSeen}
+use Rattle.lx_levels.specs.declared.replay.Act.{Act}
+use Rattle.lx_levels.specs.Following.{Follow, IsGround, IsReplayed, IsSeen, IsKnown, AreKnown, IsValid, AreValid}
 use Rattle.lx_levels.proofs.Recalled.{level_hidden, level_passed, level_pushed}
 
 -- one run more, the newest first
@@ -166,37 +169,73 @@ module _ (show : Show) (base : ℕ) (live : List Run) (c from i : ℕ) (run : Ru
     follows = seen.follows;
   }
 
-  pub replayed_on : (since looks target : ℕ) (stack after : Stack) (entry : PartTimes)
-      → IsReplayed show base live c from i since looks stack
-      → acts show (last_cue base older) run c ≡ true → entry ≡ entry_for show run c → target ≡ tracked show run.cue c
-      → ((m : ℕ) → run.start ≤ m → level_in after m ≡ timed_over entry (level_in stack) run.start target m)
-      → length after.fades ≤ length stack.fades + 1
-      → IsReplayed show base live c from (i + 1) run.start target after
-  replayed_on since looks target stack after entry so_far on entry_is target_is pushed few =
-      let next = next_on show (last_cue base older) c since from run (drop (i + 1) live) on (here since so_far.follows) in
+  -- what the run does, where it acts and where it doesn't
+  pub known_on : (a : Act) → acts show (last_cue base older) run c ≡ true → a.start ≡ run.start → a.target ≡ tracked show run.cue c
+      → a.entry ≡ entry_for show run c → IsKnown show (last_cue base older) run c (Some a)
+  known_on a on start target entry = record { off = λ none. cc; on = on; start = start; target = target; entry = entry }
+
+  pub known_off : acts show (last_cue base older) run c ≡ false → IsKnown show (last_cue base older) run c None
+  known_off off = record { off = λ _. off; on = tt; start = tt; target = tt; entry = tt }
+
+  -- what one more run does is written down
+  pub known_more : (known : List (Option Act)) (new : Option Act) → AreKnown show base live c (i + 1) known
+      → IsKnown show (last_cue base older) run c new → i < length known → AreKnown show base live c i (slice_set known i new)
+  known_more known new others this within = λ j d least below. elim (cases_eq j i) [
+    | inl same ↦ subst
+        (λ k. IsKnown show (last_cue base (reverse (take k live))) (get_or live k d) c (get_or (slice_set known i new) k None))
+        (sym same)
+        (subst (λ (r : Run). IsKnown show (last_cue base older) r c (get_or (slice_set known i new) i None))
+        (is ∙ get_or_default live i run d lt)
+        (subst (IsKnown show (last_cue base older) run c) (sym (get_or-set_same known i new None within)) this))
+    | inr other ↦ subst (IsKnown show (last_cue base (reverse (take j live))) (get_or live j d) c)
+        (sym (get_or-set_other known i j new None other)) (others j d (omega (arith, least, other)) below)
+  ]
+
+  pub known_here : (known : List (Option Act)) (first : ℕ) → AreKnown show base live c first known → first ≤ i
+      → IsKnown show (last_cue base older) run c (get_or known i None)
+  known_here known first all least =
+      subst (λ (r : Run). IsKnown show (last_cue base older) r c (get_or known i None)) (sym is) (all i run least lt)
+
+  pub replayed_on : (stack after : Stack) (a : Act) → IsReplayed show base live c from i stack
+      → IsKnown show (last_cue base older) run c (Some a)
+      → ((m : ℕ) → a.start ≤ m → level_in after m ≡ timed_over a.entry (level_in stack) a.start a.target m)
+      → IsReplayed show base live c from (i + 1) after
+  replayed_on stack after a so_far known pushed =
+      let next =
+      next_on show (last_cue base older) c so_far.since from run (drop (i + 1) live) known.on (here so_far.since so_far.follows) in
       record {
+        since = run.start;
         within = omega (arith, lt);
-        at = target_is ∙ ap (λ (runs : List Run). tracked show (last_cue base runs) c) (sym more);
-        gives = λ m late. pushed m late
-            ∙ ap (λ e. timed_over e (level_in stack) run.start target m) entry_is
-            ∙ ap (λ t. timed_over (entry_for show run c) (level_in stack) run.start t m) target_is
-            ∙ level_pushed show base run older c since m (level_in stack) on so_far.gives next.0 (omega (arith, late, next.0))
+        gives = λ m late. pushed m (omega (arith, known.start, late))
+            ∙ ap (λ e. timed_over e (level_in stack) a.start a.target m) known.entry
+            ∙ ap (λ s. timed_over (entry_for show run c) (level_in stack) s a.target m) known.start
+            ∙ ap (λ t. timed_over (entry_for show run c) (level_in stack) run.start t m) known.target
+            ∙ level_pushed show base run older c so_far.since m (level_in stack) known.on so_far.gives next.0 (omega (arith, late, next.0))
             ∙ ap (λ (runs : List Run). level show base runs c m) (sym more);
         follows = onto run.start next.1;
-        few = omega (arith, few, so_far.few);
       }
 
-  pub replayed_off : (since looks target : ℕ) (stack : Stack) → IsReplayed show base live c from i since looks stack
-      → acts show (last_cue base older) run c ≡ false → target ≡ tracked show run.cue c
-      → IsReplayed show base live c from (i + 1) since target stack
-  replayed_off since looks target stack so_far off target_is = record {
-    within = omega (arith, lt);
-    at = target_is ∙ ap (λ (runs : List Run). tracked show (last_cue base runs) c) (sym more);
-    gives = λ m late. so_far.gives m late ∙ sym (level_passed show base run older c m off)
-        ∙ ap (λ (runs : List Run). level show base runs c m) (sym more);
-    follows = onto since (next_off show (last_cue base older) c since from run (drop (i + 1) live) off (here since so_far.follows));
-    few = omega (arith, so_far.few);
-  }
+  pub replayed_off : (stack : Stack) → IsReplayed show base live c from i stack → IsKnown show (last_cue base older) run c None
+      → IsReplayed show base live c from (i + 1) stack
+  replayed_off stack so_far known =
+      let off : acts show (last_cue base older) run c ≡ false = known.off refl in
+      record {
+        since = so_far.since;
+        within = omega (arith, lt);
+        gives = λ m late. so_far.gives m late ∙ sym (level_passed show base run older c m off)
+            ∙ ap (λ (runs : List Run). level show base runs c m) (sym more);
+        follows = onto so_far.since
+            (next_off show (last_cue base older) c so_far.since from run (drop (i + 1) live) off (here so_far.since so_far.follows));
+      }
+
+pub valid_more : (live : List Run) (i : ℕ) (known : List (Option Act)) (new : Option Act) → AreValid live (i + 1) known → IfSome new IsValid
+    → i < length known → AreValid live i (slice_set known i new)
+valid_more live i known new others this within = λ j least below. elim (cases_eq j i) [
+  | inl same ↦ subst (λ k. IfSome (get_or (slice_set known i new) k None) IsValid) (sym same)
+      (subst (λ (o : Option Act). IfSome o IsValid) (sym (get_or-set_same known i new None within)) this)
+  | inr other ↦ subst (λ (o : Option Act). IfSome o IsValid) (sym (get_or-set_other known i j new None other))
+      (others j (omega (arith, least, other)) below)
+]
 
 -- all runs were looked at
 pub ground_base : (show : Show) (base : ℕ) (live : List Run) (c from left since target : ℕ) → left ≡ 0
@@ -207,20 +246,19 @@ ground_base show base live c from left since target none seen =
 
 pub replayed_none : (show : Show) (base : ℕ) (live : List Run) (c from first ground since : ℕ) (stack : Stack)
     → IsGround show base live c from first ground since → stack ≡ record { bottom = ground; fades = [] }
-    → IsReplayed show base live c from first since ground stack
+    → IsReplayed show base live c from first stack
 replayed_none show base live c from first ground since stack is empty =
-    subst (IsReplayed show base live c from first since ground) (sym empty) (record {
+    subst (IsReplayed show base live c from first) (sym empty) (record {
+      since = since;
       within = is.within;
-      at = sym is.at;
       gives = λ m late. sym (is.stays m late);
       follows = is.follows;
-      few = omega arith;
     })
 
-pub replayed_all : (show : Show) (base : ℕ) (live : List Run) (c from i since looks m : ℕ) (stack : Stack)
-    → IsReplayed show base live c from i since looks stack → length live ≤ i → from ≤ m
-    → level_in stack m ≡ level show base (reverse live) c m
-replayed_all show base live c from i since looks m stack is end late =
+pub replayed_all : (show : Show) (base : ℕ) (live : List Run) (c from i m : ℕ) (stack : Stack)
+    → IsReplayed show base live c from i stack → length live ≤ i → from ≤ m → level_in stack m ≡ level show base (reverse live) c m
+replayed_all show base live c from i m stack is end late =
     let all : i ≡ length live = omega (arith, is.within, end) in
-    let done : since ≤ from = subst (Follow show (last_cue base (reverse (take i live))) c since from) (drop_whole live i all) is.follows in
+    let done : is.since ≤ from =
+    subst (Follow show (last_cue base (reverse (take i live))) c is.since from) (drop_whole live i all) is.follows in
     is.gives m (omega (arith, done, late)) ∙ ap (λ (runs : List Run). level show base (reverse runs) c m) (take_whole live i all)

@@ -1,10 +1,11 @@
 -- Which fade gives a channel's level, and how long that stays.
-use Rattle.std.specs.Prelude.{◌≡◌, ◌≢◌, ◌⊎◌, ℕ, ◌+◌, ◌<◌, ◌≤◌, List, length, slice_index, slice_index_or}
+use Rattle.std.specs.Prelude.{◌≡◌, ◌≢◌, ◌⊎◌, ℕ, ◌+◌, ◌<◌, ◌≤◌, Option, List, length, slice_index, slice_index_or}
 use Rattle.lx_base.specs.declared.TheConstants.{CHANNELS, RUNS}
 use Rattle.lx_fade.specs.Fades.{fade_at}
 use Rattle.lx_fade.specs.declared.held.TheConstants.{NEVER}
 use Rattle.lx_levels.specs.declared.current.Current.{Current}
 use Rattle.lx_levels.specs.declared.hints.Hint.{Hint}
+use Rattle.lx_levels.specs.declared.replay.Act.{Act}
 use Rattle.lx_levels.specs.Stacks.{Stack, level_in, no_stack}
 
 -- The fade has begun by the moment, and gives the level of the stack from there on until the wake, or for ever where that is NEVER.
@@ -51,11 +52,13 @@ pub record IsRight (m : ℕ) (stacks : List Stack) (currents : List Current) (le
 abbrev pub AreHeld : ℕ → List ℕ → Type 0
 AreHeld due holds = (k : ℕ) → k < length holds → due ≤ slice_index holds k
 
--- and there is a hint for each run that may be live
-pub record IsReady (m due : ℕ) (stacks : List Stack) (currents : List Current) (levels holds : List ℕ) (hints : List Hint) : Type 0 where
+-- and there are a hint and an act for each run that may be live
+pub record IsReady (m due : ℕ) (stacks : List Stack) (currents : List Current) (levels holds : List ℕ) (hints : List Hint)
+    (acts : List (Option Act)) : Type 0 where
   pub right : IsRight m stacks currents levels holds
   pub due_is : AreHeld due holds
   pub room : length hints ≡ RUNS
+  pub acts_room : length acts ≡ RUNS
 
 -- the same but for the channel at one place
 pub record IsRightBut (m place : ℕ) (stacks : List Stack) (currents : List Current) (levels holds : List ℕ) : Type 0 where

@@ -14,7 +14,7 @@ ghost use Rattle.lx_levels.specs.Timed.{timed_over};
 
 use crate::hints::{Hint, acts};
 use crate::racks::Racks;
-use crate::replay::{ground_of, replay};
+use crate::replay::{Act, ground_of, replay};
 use crate::runs::{delay_of, entry_for, extent_of, time_of};
 use crate::stack::Stack;
 use lx_base::{Chan, Cs, CueNo, Level, Moment};
@@ -25,7 +25,7 @@ use lx_show::Show;
 
 /// Fills in the fades of the channel over the base and the live runs, the newest last, for the moments from
 /// the one given on. What is older than a run whose fade is over by then isn't looked at. The hints are where
-/// the cues of the runs were found last.
+/// the cues of the runs were found last; what each run does is written down for the way forwards.
 pub(crate) fn fill_stack(
     stack: &mut Stack,
     show: &Show,
@@ -35,16 +35,18 @@ pub(crate) fn fill_stack(
     from: Moment,
     c: Chan,
     hints: &mut [Hint],
+    acts_of: &mut [Option<Act>],
 )
     requires rows { RowsStandFor show.now sheet.now }
     requires few { length live.now ≤ RUNS }
     requires runs { All (ValidRun TICK_END) live.now }
     requires hints { length hints.old ≡ RUNS }
+    requires acts { length acts_of.old ≡ RUNS }
     ensures level { (m : ℕ) → from ≤ m → level_in stack.new m ≡ level show.now base (reverse live.now) c m }
     ensures few { length stack.new.fades ≤ length live.now }
 {
-    match ground_of(show, sheet, base, live, from, c, hints) {
-        Some(oldest) => replay(stack, show, sheet, base, live, from, c, hints, oldest),
+    match ground_of(show, sheet, base, live, from, c, hints, acts_of) {
+        Some(oldest) => replay(stack, live, acts_of, oldest),
         None => {
             let target = level_there(show, sheet, base, live, c, hints);
             fill_from(stack, show, sheet, base, live, target, from, c, hints);

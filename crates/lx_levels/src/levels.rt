@@ -21,6 +21,7 @@ use crate::current::Current;
 use crate::hints::{Hint, NO_HINT, acts};
 use crate::motion::{advance, refresh};
 use crate::racks::Racks;
+use crate::replay::Act;
 use crate::stack::Stack;
 use lx_base::{CHANNELS, Chan, CueNo, Level, Moment, RUNS};
 use lx_fade::NEVER;
@@ -50,6 +51,8 @@ pub struct Levels {
     due: Moment,
     /// Where the cue of each live run, and a channel's move in it, was found last.
     hints: Vec<Hint>,
+    /// What each live run does to the channel that is being made anew.
+    acts: Vec<Option<Act>>,
 }
 
 impl Model for Levels {
@@ -60,7 +63,8 @@ impl Model for Levels {
 
     ghost view = { λ l. record { moment = l.moment; stacks = l.stacks } };
 
-    ghost invariant = { λ l. IsReady l.moment l.due l.stacks l.currents.items l.levels.items l.holds.items l.hints.items };
+    ghost invariant = { λ l. IsReady l.moment l.due l.stacks l.currents.items l.levels.items l.holds.items l.hints.items
+        l.acts.items };
 }
 
 impl Levels {
@@ -79,6 +83,7 @@ impl Levels {
             holds: vec![in alloc; NEVER; channels]?,
             due: NEVER,
             hints: vec![in alloc; NO_HINT; RUNS]?,
+            acts: vec![in alloc; None; RUNS]?,
         })
     }
 
@@ -174,6 +179,7 @@ impl Levels {
             self.moment,
             chan,
             &mut self.hints,
+            &mut self.acts,
         );
         self.stacks.store(k, &self.scratch);
         refresh(

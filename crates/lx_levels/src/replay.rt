@@ -3,19 +3,29 @@
 ghost use Rattle.std.specs.Prelude.{◌≡◌, ℕ, ◌+◌, ◌<◌, ◌≤◌, true, length, reverse, IfSome};
 ghost use Rattle.std.specs.List.{All};
 ghost use Rattle.lx_base.specs.declared.TheConstants.{RUNS, TICK_END};
+ghost use Rattle.lx_spec.specs.Show.{Show as ShowData};
 ghost use Rattle.lx_spec.specs.Level.{level};
 ghost use Rattle.lx_sheet.specs.Standing.{RowsStandFor};
 ghost use Rattle.lx_playback.specs.Valid.{ValidRun};
 ghost use Rattle.lx_levels.specs.Stacks.{level_in};
-ghost use Rattle.lx_levels.specs.Following.{IsGround};
+ghost use Rattle.lx_levels.specs.Following.{AreKnown, AreValid, IsGround};
 
 use crate::channel::{is_over, level_there, push_timed, times_for};
 use crate::hints::{Hint, acts};
 use crate::stack::Stack;
 use lx_base::{Chan, CueNo, Level, Moment};
-use lx_playback::Run;
+use lx_playback::{PartTimes, Run};
 use lx_sheet::Sheet;
 use lx_show::Show;
+
+/// What a run does to a channel on which it acts: from its start on it brings it to the target, with the times of an
+/// entry.
+#[derive(Clone, Copy, PartialEq, Eq, Debug)]
+pub(crate) struct Act {
+    pub(crate) start: Moment,
+    pub(crate) target: Level,
+    pub(crate) entry: PartTimes,
+}
 
 /// What the oldest runs leave on a channel: its level from a moment on, whatever was before.
 #[derive(Clone, Copy, PartialEq, Eq, Debug)]
@@ -27,7 +37,8 @@ pub(crate) struct Ground {
 }
 
 /// The newest runs over which the channel's level has to be followed, for the moments from the one given on, and
-/// what the others leave. `None` where a run that acts on the channel started after a newer one.
+/// what the others leave. What each of them does is kept: `None` where it doesn't act. No ground where a run that acts
+/// on the channel started after a newer one.
 pub(crate) fn ground_of(
     show: &Show,
     sheet: &Sheet,
@@ -36,12 +47,16 @@ pub(crate) fn ground_of(
     from: Moment,
     c: Chan,
     hints: &mut [Hint],
+    acts_of: &mut [Option<Act>],
 ) -> Option<Ground>
     requires rows { RowsStandFor show.now sheet.now }
     requires few { length live.now ≤ RUNS }
     requires runs { All (ValidRun TICK_END) live.now }
     requires hints { length hints.old ≡ RUNS }
-    ensures { IfSome result (λ g. IsGround show.now base live.now c from g.first g.level g.since) }
+    requires acts { length acts_of.old ≡ RUNS }
+    ensures ground { IfSome result (λ g. IsGround show.now base live.now c from g.first g.level g.since) }
+    ensures known { IfSome result (λ g. AreKnown show.now base live.now c g.first acts_of.new) }
+    ensures valid { IfSome result (λ g. AreValid live.now g.first acts_of.new) }
 {
     let mut since = from;
     let mut target = level_there(show, sheet, base, live, c, hints);
@@ -62,6 +77,13 @@ pub(crate) fn ground_of(
                 return None;
             }
             since = run.start;
+            acts_of[left - 1] = Some(Act {
+                start: run.start,
+                target,
+                entry,
+            });
+        } else {
+            acts_of[left - 1] = None;
         }
         target = looks;
         left -= 1;
@@ -73,39 +95,21 @@ pub(crate) fn ground_of(
     })
 }
 
-/// Fills in the fades of the runs that are left over what the oldest ones leave.
-pub(crate) fn replay(
-    stack: &mut Stack,
-    show: &Show,
-    sheet: &Sheet,
-    base: CueNo,
-    live: &[Run],
-    from: Moment,
-    c: Chan,
-    hints: &mut [Hint],
-    oldest: Ground,
-)
-    requires rows { RowsStandFor show.now sheet.now }
+/// Fills in the fades of the runs that are left over what the oldest ones leave, by what each of them does.
+pub(crate) fn replay(stack: &mut Stack, live: &[Run], acts_of: &[Option<Act>], oldest: Ground)
     requires few { length live.now ≤ RUNS }
-    requires runs { All (ValidRun TICK_END) live.now }
-    requires hints { length hints.old ≡ RUNS }
-    requires oldest { IsGround show.now base live.now c from oldest.first oldest.level oldest.since }
-    ensures level { (m : ℕ) → from ≤ m → level_in stack.new m ≡ level show.now base (reverse live.now) c m }
+    requires acts { length acts_of.now ≡ RUNS }
+    requires within { oldest.first ≤ length live.now }
+    requires valid { AreValid live.now oldest.first acts_of.now }
+    ensures level { (show : ShowData) (base c from : ℕ) → IsGround show base live.now c from oldest.first oldest.level oldest.since
+        → AreKnown show base live.now c oldest.first acts_of.now
+        → (m : ℕ) → from ≤ m → level_in stack.new m ≡ level show base (reverse live.now) c m }
     ensures few { length stack.new.fades ≤ length live.now }
 {
     stack.restart(oldest.level);
-    let mut looks = oldest.level;
-    let mut since = oldest.since;
-    let mut i = oldest.first;
-    while i < live.len() {
-        let run = &live[i];
-        let target = sheet.level_near(run.cue, c, &mut hints[i].cue);
-        if acts(show, run, c, looks, target, &mut hints[i]) {
-            let entry = times_for(show, run, c);
-            push_timed(stack, run.start, &entry, target, run.start);
-            since = run.start;
+    for i in oldest.first..live.len() {
+        if let Some(act) = &acts_of[i] {
+            push_timed(stack, act.start, &act.entry, act.target, act.start);
         }
-        looks = target;
-        i += 1;
     }
 }

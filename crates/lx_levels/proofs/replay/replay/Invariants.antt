@@ -1,9 +1,12 @@
-use Rattle.std.proofs.Common.{◌-◌, length}
-use Rattle.lx_levels.specs.Following.{IsReplayed}
+use Rattle.std.proofs.Common.{◌≤◌, ℕ, length}
+use Rattle.lx_spec.specs.Show.{Show}
+use Rattle.lx_levels.specs.Following.{AreKnown, IsGround, IsReplayed}
 use Rattle.lx_levels.proofs.replay.replay.Given as goal
 
 abbrev pub invariant-loop-i : goal.invariant-loop-i
-invariant-loop-i l = IsReplayed l.show l.fn.base l.live l.c l.fn.from l.i l.since l.looks l.stack
-
-abbrev pub decreases-loop-i : goal.decreases-loop-i
-decreases-loop-i l = length l.live - l.i
+invariant-loop-i l = record {
+  gives : (show : Show) (base c from : ℕ)
+      → IsGround show base l.live c from l.fn.oldest.first l.fn.oldest.level l.fn.oldest.since
+      → AreKnown show base l.live c l.fn.oldest.first l.acts_of → IsReplayed show base l.live c from l.i l.stack;
+  few : length l.stack.fades ≤ l.i;
+}

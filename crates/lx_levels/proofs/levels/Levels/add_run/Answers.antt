@@ -14,4 +14,5 @@ invariant_of-self c =
           c.self.inside.holds.items (get_or c.push_run.new.stacks k no_stack) c.self.invariant.right));
       due_is = c.refresh.ensures.due c.self.invariant.due_is;
       room = c.self.invariant.room;
+      acts_room = c.self.invariant.acts_room;
     }

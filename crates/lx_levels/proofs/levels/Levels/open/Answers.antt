@@ -27,4 +27,5 @@ invariant_of-result c =
             get_or-replicate {A = ℕ} n k NEVER 0 (omega (arith, within, long)),
           );
       room = ap length (c.in_ok-vec-4.ensures.items_if_clones_equal (λ y is. is)) ∙ length-replicate {A = ℕ} RUNS 0;
+      acts_room = omega (arith, c.in_ok-vec-5.ensures.len, c.in_ok-vec-5.field-0.ok.0);
     }

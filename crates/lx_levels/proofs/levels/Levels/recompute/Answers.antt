@@ -17,4 +17,7 @@ invariant_of-self c =
       room = ap length (written c.self.inside.hints.len c.fill_stack.new.hints c.self.inside.hints.items
           (omega (arith, c.fill_stack.auto.hints, c.deref_mut.ensures.len))) ∙ c.fill_stack.auto.hints ∙ ap length c.deref_mut.ensures.value
           ∙ c.self.invariant.room;
+      acts_room = ap length (written c.self.inside.acts.len c.fill_stack.new.acts_of c.self.inside.acts.items
+          (omega (arith, c.fill_stack.auto.acts_of, c.deref_mut-2.ensures.len))) ∙ c.fill_stack.auto.acts_of
+          ∙ ap length c.deref_mut-2.ensures.value ∙ c.self.invariant.acts_room;
     }

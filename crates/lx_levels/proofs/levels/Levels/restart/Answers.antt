@@ -12,4 +12,5 @@ invariant_of-self c = record {
       c.self.inside.holds.items _ c.self.invariant.right));
   due_is = c.refresh.ensures.due c.self.invariant.due_is;
   room = c.self.invariant.room;
+  acts_room = c.self.invariant.acts_room;
 }
