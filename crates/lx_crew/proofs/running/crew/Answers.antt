@@ -13,7 +13,7 @@ pub ruled-requires-clause-rule : goal.ruled-requires-clause-rule
 ruled-requires-clause-rule g c = begins
 
 pub perform-output-requires-clause-view : goal.perform-output-requires-clause-view
-perform-output-requires-clause-view g c =
+perform-output-requires-clause-view g c κs within =
     let count : length c.as_mut_slice.result.now ≡ length c.args.operators.now =
         ap length c.as_mut_slice.ensures.value ∙ c.hire.ensures.count in
     c.hire.ensures.view ∙ ap (λ n. engine_view n [] []) (sym count)
@@ -25,7 +25,7 @@ perform-output-requires-clause-few g c =
     omega (arith, count, c.requires.most)
 
 pub perform-output-requires-clause-ready : goal.perform-output-requires-clause-ready
-perform-output-requires-clause-ready g c = rw c.as_mut_slice.ensures.value (ready_all _ _ _ c.hire.ensures.works)
+perform-output-requires-clause-ready g c κs within = rw c.as_mut_slice.ensures.value (ready_all _ _ _ c.hire.ensures.works)
 
 pub release-faults-requires-clause-works : goal.release-faults-requires-clause-works
 release-faults-requires-clause-works g c =
