@@ -1,8 +1,7 @@
-use Rattle.std.proofs.Common.{◌≡◌, ◌+◌, ◌<◌, ◌≤◌, ℕ, [], ◌++◌, length, map, slice_get, Some, ap, sym, subst, ◌∙◌, arith}
+use Rattle.std.proofs.Common.{◌≡◌, [], length, slice_get, Some, ap, sym, subst, ◌∙◌, arith}
 use Rattle.std.proofs.lemmas.Slice.Zip.{AllZip-long}
-use Rattle.crossbeam_queue.specs.Passes.{view}
 use Rattle.lx_crew.specs.declared.rule.View.{View}
-use Rattle.lx_crew.specs.Hired.{EachAt, HasRun}
+use Rattle.lx_crew.specs.Hired.{EachAt}
 use Rattle.lx_crew.specs.Rule.{Kept, engine_view}
 use Rattle.lx_crew.proofs.Crews.{crewed}
 use Rattle.lx_crew.proofs.Rules.{begins, totals}
@@ -15,13 +14,13 @@ ruled-requires-clause-rule g c = begins
 pub perform-output-requires-clause-view : goal.perform-output-requires-clause-view
 perform-output-requires-clause-view g c κs within =
     let count : length c.as_mut_slice.result.now ≡ length c.args.operators.now =
-        ap length c.as_mut_slice.ensures.value ∙ c.hire.ensures.count in
+    ap length c.as_mut_slice.ensures.value ∙ c.hire.ensures.count in
     c.hire.ensures.view ∙ ap (λ n. engine_view n [] []) (sym count)
 
 pub perform-output-requires-clause-few : goal.perform-output-requires-clause-few
 perform-output-requires-clause-few g c =
     let count : length c.as_mut_slice.result.now ≡ length c.args.operators.now =
-        ap length c.as_mut_slice.ensures.value ∙ c.hire.ensures.count in
+    ap length c.as_mut_slice.ensures.value ∙ c.hire.ensures.count in
     omega (arith, count, c.requires.most)
 
 pub perform-output-requires-clause-ready : goal.perform-output-requires-clause-ready
@@ -32,7 +31,7 @@ release-faults-requires-clause-works g c =
     let zip = rw c.as_mut_slice.ensures.value at c.perform-output.ensures.ran in
     let ran = retired _ _ _ (carries _) _ _ _ zip c.hire.ensures.works in
     rw (works_back _ c.hire.new.works.items c.perform-output.new.works c.hire.new.works.len (omega (arith, c.hire.new.works.ok.0)) zip)
-        (retired_works _ _ _ _ _ ran)
+    (retired_works _ _ _ _ _ ran)
 
 pub learn_as-requires-clause-rule : goal.learn_as-requires-clause-rule
 learn_as-requires-clause-rule g c =
