@@ -1,5 +1,6 @@
 -- What a crew came to, by what its operators and its engine did.
-use Rattle.std.proofs.Common.{◌≡◌, ◌≢◌, ◌⊎◌, inl, inr, ℕ, zero, suc, ◌+◌, ◌<◌, ◌≤◌, ◌==◌, Bool, true, false, Option, Some, None, List, [], ◌∷◌, ◌++◌, length, map, slice_get, refl, sym, ap, ◌∙◌, subst, add-one, arith}
+use Rattle.std.proofs.Common.{◌≡◌, inl, inr, ℕ, zero, suc, ◌+◌, ◌<◌, ◌≤◌, ◌==◌, true, Option, Some, None, List, []}
+use Rattle.std.proofs.Common.{◌∷◌, ◌++◌, length, map, slice_get, refl, sym, ap, ◌∙◌, subst, add-one, arith}
 use Rattle.std.specs.List.{AllByRecursion}
 use Rattle.std.specs.Io.KnownBytes.{Appends}
 use Rattle.std.proofs.lemmas.Option.{slice_get_within}
@@ -27,7 +28,8 @@ use Rattle.lx_crew.specs.Rule.{engine_view, Kept as Learned}
 use Rattle.lx_crew.specs.Scripts.{HasEnded}
 use Rattle.lx_crew.specs.Sending.{last_of}
 use Rattle.lx_crew.proofs.Lists.{none_front}
-use Rattle.lx_crew.proofs.Merging.{SentAt, AllSent, IsTrueTo, true_entries, by_number, all_true, all_front, merged, merged_so_far, same_session, same_edits}
+use Rattle.lx_crew.proofs.Merging.{SentAt, AllSent, IsTrueTo, true_entries, by_number, all_true, all_front, merged, merged_so_far}
+use Rattle.lx_crew.proofs.Merging.{same_session, same_edits}
 use Rattle.lx_crew.proofs.Works.{complete, get_at}
 
 -- Lines that are told of each of a list, by its place.
@@ -38,7 +40,8 @@ lines_from P lines (x ∷ xs) h zero = lines 0 x (h 0 x refl)
 lines_from P lines (x ∷ xs) h (suc k) =
     lines_from (λ i. P (suc i)) (λ i y p. lines (suc i) y p) xs (λ i y is. h (suc i) y is) k
 
-told_at : {A : Type 0} (P : ℕ → A → Type 0) (lines : (k : ℕ) (x : A) → P k x → List (List ℕ)) (xs : List A) (h : EachAt P xs) (k : ℕ) (x : A)
+told_at : {A : Type 0} (P : ℕ → A → Type 0) (lines : (k : ℕ) (x : A) → P k x → List (List ℕ)) (xs : List A) (h : EachAt P xs) (k : ℕ)
+    (x : A)
     → slice_get xs k ≡ Some x → (p : P k x) × (lines_from P lines xs h k ≡ lines k x p)
 told_at P lines [] h k x is = absurd cc
 told_at P lines (y ∷ ys) h zero x is =
@@ -95,7 +98,7 @@ written d lines popped held held' console tally None sent a =
     let all = all_true lines popped sent in
     let places = a.places ++ [] in
     let same : crew_session d (true_entries lines popped) places ≡ a.now =
-        sym (same_session lines places popped (begin_at d) all) ∙ a.done.is [] (λ n has. absurd cc) in record {
+    sym (same_session lines places popped (begin_at d) all) ∙ a.done.is [] (λ n has. absurd cc) in record {
       entries = true_entries lines popped;
       merged = merged lines popped sent;
       places = places;
@@ -107,7 +110,7 @@ written d lines popped held held' console tally None sent a =
 written d lines popped held held' console tally (Some fault) sent a =
     let all = all_front (IsTrueTo lines) a.first a.rest (subst (AllByRecursion (IsTrueTo lines)) a.are (all_true lines popped sent)) in
     let same : crew_session d (said a.first) a.places ≡ crew_session d (true_entries lines a.first) a.places =
-        same_session lines a.places a.first (begin_at d) all in record {
+    same_session lines a.places a.first (begin_at d) all in record {
       entries = true_entries lines a.first;
       merged = merged_so_far lines popped a.first a.rest sent a.are;
       places = a.places;
@@ -145,17 +148,19 @@ no_more left faults Its places ys h len zero past = refl
 no_more left faults Its places ys h len (suc k) past =
     none_at (Retired left faults Its places) (λ k y r. r.sent.lines) ys h k (omega (arith, len, past))
 
-pub crewed : {S K : Type 0} (left : S → Option (List ℕ)) (faults : S → ℕ) (holds : K → Option (List ℕ)) (Its : Pass Entry View → Type 0) (d : Desk)
+pub crewed : {S K : Type 0} (left : S → Option (List ℕ)) (faults : S → ℕ) (holds : K → Option (List ℕ)) (Its : Pass Entry View → Type 0)
+    (d : Desk)
     (places places' : List (Option S)) (sink sink' : K) (console : Kept) (tally : Tally) (output : Option SinkFault)
     (told : List (Option OperatorFault)) (ys : List (Operator S)) (popped items : List Entry) (n : ℕ)
-    → EachAt (Retired left faults Its places) ys → length ys ≡ n → n ≡ length places → Learned (engine_view n popped (map owned ys ++ [])) items
+    → EachAt (Retired left faults Its places) ys → length ys ≡ n → n ≡ length places → Learned
+    (engine_view n popped (map owned ys ++ [])) items
     → ((k : ℕ) → k < n → has_last (of_place k popped) ≡ true) → length places' ≡ length places
     → EachAt (λ k y. slice_get places' k ≡ Some (Some y.source)) ys → EachAt (λ k y. slice_get told k ≡ Some y.fault) ys
     → ((place : ℕ) (fault : OperatorFault) → slice_get told place ≡ Some (Some fault) → place < length places)
     → HasAnswered d popped (holds sink) (holds sink') console tally output
     → HasCrewed left faults holds d places places' sink sink' console tally output told
 crewed left faults holds Its d places places' sink sink' console tally output told ys popped items n h len all learned ended same back says
-        others answered =
+    others answered =
     let count : length ys ≡ length places = len ∙ all in
     let lines = lines_of left faults Its places ys h in record {
       lines = by_number lines;

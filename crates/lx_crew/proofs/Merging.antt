@@ -1,11 +1,13 @@
 -- The transcript's entries with the true texts of lines that are too long.
-use Rattle.std.proofs.Common.{◌≡◌, ◌≢◌, ℕ, zero, suc, ◌+◌, ◌-◌, ◌<◌, ◌≤◌, ◌==◌, Bool, true, false, cond, not, List, [], ◌∷◌, ◌++◌, length, take, drop, refl, sym, ap, ◌∙◌}
-use Rattle.std.proofs.Common.{◌⊎◌, ⊎_elim, None, true≢false, add-one, subst, append-nil, append_assoc, length-append, eq-eqb, ne_eqb, get_or, arith}
+use Rattle.std.proofs.Common.{◌≡◌, ℕ, zero, suc, ◌+◌, ◌-◌, ◌==◌, Bool, true, false, cond, List, [], ◌∷◌, ◌++◌}
+use Rattle.std.proofs.Common.{take, drop, refl, sym, ap, ◌∙◌}
+use Rattle.std.proofs.Common.{◌⊎◌, ⊎_elim, None, true≢false, add-one, subst, eq-eqb}
+use Rattle.std.proofs.Common.{get_or, arith}
 use Rattle.std.specs.Prelude.{fold}
-use Rattle.std.specs.List.{filter, AllByRecursion}
+use Rattle.std.specs.List.{AllByRecursion}
 use Rattle.std.proofs.lemmas.Bool.Decides.{nat_tests}
 use Rattle.std.proofs.lemmas.List.Elements.{filter-append}
-use Rattle.lx_spec.specs.CrewText.{CrewEntry, named, after_entry, crew_session, EntriesWantAtEdits}
+use Rattle.lx_spec.specs.CrewText.{CrewEntry, named, after_entry, EntriesWantAtEdits}
 use Rattle.lx_spec.specs.Script.{line_of}
 use Rattle.lx_spec.specs.RefusedPlaces.{MayWant}
 use Rattle.lx_spec.specs.Session.{Session, after_meaning}
@@ -14,7 +16,7 @@ use Rattle.lx_crew.specs.declared.entry.Entry.{Entry}
 use Rattle.lx_crew.specs.declared.entry.Sent.{Sent}
 use Rattle.lx_crew.specs.declared.entry.Sent.TheVariants.{Line, LongLine, End, ReadFault, InputTooLong}
 use Rattle.lx_crew.specs.Answering.{long_line, named_line, said_by, said}
-use Rattle.lx_crew.specs.Entries.{of_place, is_last, HasText, HaveLines, text_in}
+use Rattle.lx_crew.specs.Entries.{of_place, is_last, HasText, HaveLines}
 use Rattle.lx_spec.specs.CrewText.{of_operator, numbered_from, Merged, MergedSoFar}
 use Rattle.std.proofs.lemmas.List.{length-replicate}
 use Rattle.lx_base.specs.declared.TheConstants.{LINE_BYTES}
@@ -52,13 +54,15 @@ same_text text other places s place number is = ap (after_meaning places (named 
 same_by : (lines : ℕ → List (List ℕ)) (places : List ℕ) (s : Session) (place number : ℕ) (sent : Sent) (rest rest' : List CrewEntry)
     → (is_last sent ≡ false → HasText sent (line_at lines place number))
     → ((t : Session) → fold (after_entry places) t rest ≡ fold (after_entry places) t rest')
-    → fold (after_entry places) s (said_by place number sent ++ rest) ≡ fold (after_entry places) s (true_by lines place number sent ++ rest')
+    → fold (after_entry places) s (said_by place number sent ++ rest) ≡ fold (after_entry places) s
+    (true_by lines place number sent ++ rest')
 same_by lines places s place number (Line l) rest rest' t h =
     ap (λ text. fold (after_entry places) (after_entry places s (named_line place number text)) rest) (t refl)
     ∙ h (after_entry places s (named_line place number (line_at lines place number)))
 same_by lines places s place number LongLine rest rest' t h =
     ap (λ u. fold (after_entry places) u rest)
-    (same_text long_line (line_at lines place number) places s place number (long_means ∙ meaning_is None (line_at lines place number) (t refl)))
+    (same_text long_line (line_at lines place number) places s place number
+    (long_means ∙ meaning_is None (line_at lines place number) (t refl)))
     ∙ h (after_entry places s (named_line place number (line_at lines place number)))
 same_by lines places s place number End rest rest' t h = h s
 same_by lines places s place number ReadFault rest rest' t h = h s
@@ -73,7 +77,8 @@ same_session lines places (e ∷ es) s all =
 edits_by : (lines : ℕ → List (List ℕ)) (places : List ℕ) (s : Session) (place number : ℕ) (sent : Sent) (rest rest' : List CrewEntry)
     → (is_last sent ≡ false → HasText sent (line_at lines place number))
     → ((t : Session) → EntriesWantAtEdits places t rest → EntriesWantAtEdits places t rest')
-    → EntriesWantAtEdits places s (said_by place number sent ++ rest) → EntriesWantAtEdits places s (true_by lines place number sent ++ rest')
+    → EntriesWantAtEdits places s (said_by place number sent ++ rest) → EntriesWantAtEdits places s
+    (true_by lines place number sent ++ rest')
 edits_by lines places s place number (Line l) rest rest' t h w =
     let u = subst (λ text. EntriesWantAtEdits places s (named_line place number text ∷ rest)) (t refl) w in
     (u.0, h (after_entry places s (named_line place number (line_at lines place number))) u.1)
@@ -111,9 +116,11 @@ true_sent : (lines : ℕ → List (List ℕ)) (k place number : ℕ) (sent : Sen
     → of_operator (k + 1) rest ≡ true_entries lines more
     → of_operator (k + 1) (true_by lines place number sent ++ rest) ≡ true_by lines place number sent ++ true_entries lines more
 true_sent lines k place number (Line l) rest more own h =
-    let same : (place + 1 == k + 1) ≡ true = eq-eqb (place + 1) (k + 1) (omega (arith, own)) in rw same (ap (λ (l : List CrewEntry). named_line place number (line_at lines place number) ∷ l) h)
+    let same : (place + 1 == k + 1) ≡ true = eq-eqb (place + 1) (k + 1) (omega (arith, own)) in rw same
+    (ap (λ (l : List CrewEntry). named_line place number (line_at lines place number) ∷ l) h)
 true_sent lines k place number LongLine rest more own h =
-    let same : (place + 1 == k + 1) ≡ true = eq-eqb (place + 1) (k + 1) (omega (arith, own)) in rw same (ap (λ (l : List CrewEntry). named_line place number (line_at lines place number) ∷ l) h)
+    let same : (place + 1 == k + 1) ≡ true = eq-eqb (place + 1) (k + 1) (omega (arith, own)) in rw same
+    (ap (λ (l : List CrewEntry). named_line place number (line_at lines place number) ∷ l) h)
 true_sent lines k place number End rest more own h = h
 true_sent lines k place number ReadFault rest more own h = h
 true_sent lines k place number InputTooLong rest more own h = h
@@ -129,21 +136,26 @@ true_other lines k place number ReadFault rest other = refl
 true_other lines k place number InputTooLong rest other = refl
 
 true_here : (lines : ℕ → List (List ℕ)) (k place number : ℕ) (sent : Sent) (rest : List CrewEntry) (more : List Entry) (e : Entry)
-    → e.place ≡ place → e.number ≡ number → e.sent ≡ sent → of_operator (k + 1) rest ≡ true_entries lines more → (b : Bool) → (place == k) ≡ b
+    → e.place ≡ place → e.number ≡ number → e.sent ≡ sent → of_operator (k + 1) rest ≡ true_entries lines more → (b : Bool) →
+    (place == k) ≡ b
     → of_operator (k + 1) (true_by lines place number sent ++ rest) ≡ true_entries lines (cond b (e ∷ more) more)
 true_here lines k place number sent rest more e own num is h true b =
     let p : place ≡ k = grind (arith, nat_tests, b) in
-    true_sent lines k place number sent rest more p h ∙ ap (λ (x : ℕ × (ℕ × Sent)). true_by lines x.0 x.1.0 x.1.1 ++ true_entries lines more)
+    true_sent lines k place number sent rest more p h ∙ ap
+    (λ (x : ℕ × (ℕ × Sent)). true_by lines x.0 x.1.0 x.1.1 ++ true_entries lines more)
     (sym (λ i. (own i, (num i, is i))))
 true_here lines k place number sent rest more e own num is h false b = true_other lines k place number sent rest b ∙ h
 
-pub operator_true : (lines : ℕ → List (List ℕ)) (k : ℕ) (es : List Entry) → of_operator (k + 1) (true_entries lines es) ≡ true_entries lines (of_place k es)
+pub operator_true : (lines : ℕ → List (List ℕ)) (k : ℕ) (es : List Entry)
+    → of_operator (k + 1) (true_entries lines es) ≡ true_entries lines (of_place k es)
 operator_true lines k [] = refl
 operator_true lines k (e ∷ es) =
-    true_here lines k e.place e.number e.sent (true_entries lines es) (of_place k es) e refl refl refl (operator_true lines k es) (e.place == k) refl
+    true_here lines k e.place e.number e.sent (true_entries lines es) (of_place k es) e refl refl refl (operator_true lines k es)
+    (e.place == k) refl
 
 -- An operator's entries with its lines, from one on.
-at_drop : (xs : List (List ℕ)) (m : ℕ) (l : List ℕ) (ls : List (List ℕ)) → drop m xs ≡ l ∷ ls → (get_or xs m [] ≡ l) × (drop (m + 1) xs ≡ ls)
+at_drop : (xs : List (List ℕ)) (m : ℕ) (l : List ℕ) (ls : List (List ℕ)) → drop m xs ≡ l ∷ ls
+    → (get_or xs m [] ≡ l) × (drop (m + 1) xs ≡ ls)
 at_drop [] zero l ls e = absurd cc
 at_drop [] (suc m) l ls e = absurd cc
 at_drop (x ∷ xs) zero l ls e = (cc, cc)
@@ -236,11 +248,13 @@ true_at lines k es s =
     (all_snoc (IsTrueTo lines) a.front a.last (true_to lines k 0 a.front (lines k) a.have refl) (λ line. no_line a.last.sent a.ends line)))
     (λ (n : (es ≡ []) × (lines k ≡ [])). subst (AllByRecursion (IsTrueTo lines)) (sym n.0) tt) s
 
-pub all_true : (lines : ℕ → List (List ℕ)) (es : List Entry) → ((k : ℕ) → SentAt lines k (of_place k es)) → AllByRecursion (IsTrueTo lines) es
+pub all_true : (lines : ℕ → List (List ℕ)) (es : List Entry) → ((k : ℕ) → SentAt lines k (of_place k es))
+    → AllByRecursion (IsTrueTo lines) es
 all_true lines es sent = all_of_all (IsTrueTo lines) es (λ k. true_at lines k (of_place k es) (sent k))
 
 -- All entries of an operator stand for all its lines.
-whole_at : (lines : ℕ → List (List ℕ)) (k : ℕ) (es : List Entry) → SentAt lines k es → true_entries lines es ≡ numbered_from (k + 1) 1 (lines k)
+whole_at : (lines : ℕ → List (List ℕ)) (k : ℕ) (es : List Entry) → SentAt lines k es
+    → true_entries lines es ≡ numbered_from (k + 1) 1 (lines k)
 whole_at lines k es s =
     ⊎_elim (λ (a : AllSent k es (lines k)). ap (true_entries lines) a.are
     ∙ (true_snoc lines a.front a.last a.ends ∙ true_lines lines k 0 a.front (lines k) a.have refl))
@@ -304,12 +318,13 @@ merged lines es sent (suc k) =
     subst (λ o. of_operator o (true_entries lines es) ≡ numbered_from o 1 (lines k)) (add-one k)
     (operator_true lines k es ∙ whole_at lines k (of_place k es) (sent k))
 
-pub merged_so_far : (lines : ℕ → List (List ℕ)) (es first rest : List Entry) → ((k : ℕ) → SentAt lines k (of_place k es)) → es ≡ first ++ rest
+pub merged_so_far : (lines : ℕ → List (List ℕ)) (es first rest : List Entry) → ((k : ℕ) → SentAt lines k (of_place k es))
+    → es ≡ first ++ rest
     → MergedSoFar (by_number lines) (true_entries lines first)
 merged_so_far lines es first rest sent are zero = (0, none_of_0 lines first)
 merged_so_far lines es first rest sent are (suc k) =
     let split : of_place k es ≡ of_place k first ++ of_place k rest =
-        ap (of_place k) are ∙ filter-append (λ (x : Entry). x.place == k) first rest in
+    ap (of_place k) are ∙ filter-append (λ (x : Entry). x.place == k) first rest in
     let r = first_at lines k (of_place k es) (of_place k first) (of_place k rest) (sent k) split in (
       r.0,
       subst (λ o. of_operator o (true_entries lines first) ≡ numbered_from o 1 (take r.0 (lines k))) (add-one k)

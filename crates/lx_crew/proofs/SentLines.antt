@@ -1,7 +1,6 @@
 -- What an operator has sent of its lines.
-use Rattle.std.proofs.Common.{◌≡◌, ◌⊎◌, inl, inr, ℕ, zero, suc, ◌+◌, ◌≤◌, ◌<◌, Bool, true, false, cond, Option, Some, None, IfSome, IsTrue}
-use Rattle.std.proofs.Common.{List, [], ◌∷◌, ◌++◌, map, length, take, take_all, refl, sym, ap, ◌∙◌, subst, append-nil, length-append, arith}
-use Rattle.std.specs.List.{position_or_len}
+use Rattle.std.proofs.Common.{◌≡◌, inl, inr, ℕ, suc, ◌+◌, ◌≤◌, ◌<◌, Bool, true, false, cond, Option, Some, None, IfSome, IsTrue}
+use Rattle.std.proofs.Common.{List, [], ◌∷◌, ◌++◌, map, length, take, take_all, refl, sym, ap, ◌∙◌, subst, append-nil, arith}
 use Rattle.std.specs.Io.KnownBytes.{IsAtEnd}
 use Rattle.std.proofs.Math.Seq.{take-append_seam, take-append-add}
 use Rattle.std.proofs.lemmas.List.{map-append, length-map}
@@ -10,7 +9,6 @@ use Rattle.lx_io.specs.Causes.{Rose}
 use Rattle.lx_lex.specs.declared.lines.Lines.{Lines}
 use Rattle.lx_lex.specs.declared.lines.Step.TheVariants as steps
 use Rattle.lx_lex.specs.CutOff.{NotTaken}
-use Rattle.lx_lex.specs.Handed.{HandedOut}
 use Rattle.lx_lex.specs.Lines.{StepOf}
 use Rattle.lx_lex.specs.Unread.{unread, line_of}
 use Rattle.lx_lex.proofs.CuttingOff.{cut_off}
@@ -27,13 +25,12 @@ use Rattle.lx_crew.specs.declared.entry.Sent.{Sent}
 use Rattle.lx_crew.specs.declared.entry.Sent.TheVariants.{Line, LongLine, End, ReadFault, InputTooLong}
 use Rattle.lx_crew.specs.declared.fault.OperatorFault.{OperatorFault}
 use Rattle.lx_crew.specs.declared.fault.OperatorFault.TheVariants as ends
-use Rattle.lx_crew.specs.declared.follows.Follows.{Follows}
 use Rattle.lx_crew.specs.declared.follows.Follows.TheVariants as after
 use Rattle.lx_crew.specs.declared.rule.View.{View}
 use Rattle.lx_crew.specs.Entries.{HasText, HaveLines, text_in}
 use Rattle.lx_crew.specs.Rule.{operator_view}
-use Rattle.lx_crew.specs.Scripts.{AllLines, CutLines, AreLines, HasEnded}
-use Rattle.lx_crew.specs.Sending.{TookLine, TookNext, follows, last_of, HasSent}
+use Rattle.lx_crew.specs.Scripts.{AreLines, HasEnded}
+use Rattle.lx_crew.specs.Sending.{TookNext, follows, last_of, HasSent}
 
 -- A line that was taken goes on, or it is `quit`.
 branch_lines : (b : Bool) → cond b after.End after.Lines ≡ after.Lines → b ≡ false
@@ -187,7 +184,8 @@ wanted_quit xs l rest all quit =
     sym (ap (λ k. take k (xs ++ l ∷ rest)) n ∙ take-append-add xs (l ∷ rest) 1)
 
 abbrev all_are : ℕ → List (List ℕ) → List ℕ → Type 0
-all_are taken lines bytes = (lines ≡ take (lines_wanted (lines_of bytes)) (lines_of bytes)) × (taken + length (bytes_wanted bytes) ≤ INPUT_BYTES)
+all_are taken lines bytes = (lines ≡ take (lines_wanted (lines_of bytes)) (lines_of bytes)) ×
+    (taken + length (bytes_wanted bytes) ≤ INPUT_BYTES)
 
 quit_lines : {S : Type 0} (left : S → Option (List ℕ)) (faults : S → ℕ) (a b c : Lines S) (s : Passed left faults a b)
     (q : QuitLine left faults b c)

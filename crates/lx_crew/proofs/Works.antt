@@ -1,8 +1,10 @@
 -- Lists of works and of places.
-use Rattle.std.proofs.Common.{true≢false, ◌==◌, true, false, ◌≡◌, ◌≢◌, ℕ, zero, suc, ◌+◌, ◌<◌, ◌≤◌, List, [], ◌∷◌, ◌++◌, length, map, set, get_or, slice_get, Option, Some, None, IsSome, sym, refl, ap, ◌∙◌, subst, inl, inr, ⊎_elim, ◌⊎◌, take, drop, drop_of_length-le, append-nil, arith}
+use Rattle.std.proofs.Common.{true≢false, ◌==◌, true, false, ◌≡◌, ◌≢◌, ℕ, zero, suc, ◌+◌, ◌<◌, ◌≤◌, List, [], ◌∷◌, ◌++◌, length, map, set}
+use Rattle.std.proofs.Common.{get_or, slice_get, Option, Some, None, IsSome, sym, refl, ap, ◌∙◌, subst, inl, inr, ⊎_elim, ◌⊎◌, take, drop}
+use Rattle.std.proofs.Common.{drop_of_length-le, append-nil, arith}
 use Rattle.std.specs.List.{AllByRecursion, AllZip, All}
 use native.Mathlib.Decide.{ℕ_discrete}
-use Rattle.std.proofs.lemmas.Option.{slice_get_read, slice_get_within, slice_get-get_or}
+use Rattle.std.proofs.lemmas.Option.{slice_get_read, slice_get-get_or}
 use Rattle.std.proofs.lemmas.Slice.Zip.{AllZip-long}
 use Rattle.std.proofs.Math.Seq.{take-length}
 use Rattle.lx_crew.specs.declared.entry.Entry.{Entry}
@@ -11,26 +13,30 @@ use Rattle.lx_crew.specs.declared.operator.Operator.{Operator}
 use Rattle.lx_crew.specs.Entries.{of_place, is_last, has_last, HasText, HaveLines}
 use Rattle.lx_crew.specs.declared.entry.Sent.{Sent}
 use Rattle.lx_crew.specs.declared.entry.Sent.TheVariants.{Line, LongLine, End, ReadFault, InputTooLong}
-use Rattle.lx_crew.specs.Rule.{engine_view, operator_view, Kept}
+use Rattle.lx_crew.specs.Rule.{engine_view, operator_view}
 use Rattle.lx_crew.specs.Sending.{HasSent}
 use Rattle.lx_crew.specs.Hired.{EachAt, HasRun, Hired, IsReady, Works, Retired, owned}
 use Rattle.std.proofs.lemmas.List.Elements.{filter-append}
 use Rattle.lx_crew.proofs.Lists.{or_none, none_behind, tail_of, head_last}
-use Rattle.crossbeam_queue.specs.Passes.{view, Pass, IsSamePass, IsPassOf}
+use Rattle.crossbeam_queue.specs.Passes.{view, Pass, IsSamePass}
 
-pub each_snoc : {A : Type 0} (P : ℕ → A → Type 0) (xs : List A) (x : A) (n : ℕ) → EachAt P xs → n ≡ length xs → P n x → EachAt P (xs ++ x ∷ [])
+pub each_snoc : {A : Type 0} (P : ℕ → A → Type 0) (xs : List A) (x : A) (n : ℕ) → EachAt P xs → n ≡ length xs → P n x
+    → EachAt P (xs ++ x ∷ [])
 each_snoc P [] x n h e p zero y is = let same : x ≡ y = cc in subst (λ z. P zero z) same (subst (λ k. P k x) e p)
 each_snoc P [] x n h e p (suc k) y is = absurd cc
 each_snoc P (z ∷ xs) x n h e p zero y is = h zero y is
 each_snoc P (z ∷ xs) x n h e p (suc k) y is =
-    each_snoc (λ i. P (suc i)) xs x (length xs) (λ i w q. h (suc i) w q) refl (subst (λ i. P i x) (let t : n ≡ suc (length xs) = omega (arith, e) in t) p) k y is
+    each_snoc (λ i. P (suc i)) xs x (length xs) (λ i w q. h (suc i) w q) refl
+    (subst (λ i. P i x) (let t : n ≡ suc (length xs) = omega (arith, e) in t) p) k y is
 
-pub each_zip : {A B : Type 0} (R : A → B → Type 0) (P : ℕ → A → Type 0) (Q : ℕ → B → Type 0) (xs : List A) (ys : List B) → AllZip R xs ys → EachAt P xs → ((k : ℕ) (x : A) (y : B) → P k x → R x y → Q k y) → EachAt Q ys
+pub each_zip : {A B : Type 0} (R : A → B → Type 0) (P : ℕ → A → Type 0) (Q : ℕ → B → Type 0) (xs : List A) (ys : List B) → AllZip R xs ys
+    → EachAt P xs → ((k : ℕ) (x : A) (y : B) → P k x → R x y → Q k y) → EachAt Q ys
 each_zip R P Q [] [] z h f k y is = absurd cc
 each_zip R P Q [] (y ∷ ys) z h f k w is = absurd z
 each_zip R P Q (x ∷ xs) [] z h f k w is = absurd z
 each_zip R P Q (x ∷ xs) (y ∷ ys) z h f zero w is = let same : y ≡ w = cc in subst (λ v. Q zero v) same (f zero x y (h zero x refl) z.0)
-each_zip R P Q (x ∷ xs) (y ∷ ys) z h f (suc k) w is = each_zip R (λ i. P (suc i)) (λ i. Q (suc i)) xs ys z.1 (λ i v q. h (suc i) v q) (λ i a b p r. f (suc i) a b p r) k w is
+each_zip R P Q (x ∷ xs) (y ∷ ys) z h f (suc k) w is = each_zip R (λ i. P (suc i)) (λ i. Q (suc i)) xs ys z.1 (λ i v q. h (suc i) v q)
+    (λ i a b p r. f (suc i) a b p r) k w is
 
 pub get_else : {A : Type 0} (l : List A) (i j : ℕ) (a : A) → j ≢ i → slice_get (set l i a) j ≡ slice_get l j
 get_else [] i j a n = refl
@@ -42,20 +48,23 @@ get_else (x ∷ xs) (suc i) (suc j) a n = get_else xs i j a (λ e. n (ap suc e))
 pub at_place : {A : Type 0} (l : List A) (i : ℕ) (a : A) → i < length l → a ≡ get_or l i a → slice_get l i ≡ Some a
 at_place l i a lt is = slice_get_read l (length l) i a refl lt is
 
-pub some_there : {S : Type 0} (ops ops' : List (Option S)) (i : ℕ) (x y : Option S) → i < length ops → x ≡ get_or ops i x → slice_get ops i ≡ slice_get ops' i → EachAt (λ k p. IsSome p) ops' → y ≡ get_or ops i x → IsSome y
+pub some_there : {S : Type 0} (ops ops' : List (Option S)) (i : ℕ) (x y : Option S) → i < length ops → x ≡ get_or ops i x
+    → slice_get ops i ≡ slice_get ops' i → EachAt (λ k p. IsSome p) ops' → y ≡ get_or ops i x → IsSome y
 some_there ops ops' i x y lt is rest all e = subst (λ (z : Option _). IsSome z) (is ∙ sym e) (all i x (sym rest ∙ at_place ops i x lt is))
 
 pub not_none : {A : Type 0} (o : Option A) → IsSome o → o ≡ None → ⊥
 not_none o h e = absurd (true≢false (sym (subst (λ (p : Option _). IsSome p) e h)))
 
-pub source_is : {S : Type 0} (ops ops' : List (Option S)) (i : ℕ) (x : Option S) (s : S) → i < length ops → x ≡ get_or ops i x → slice_get ops i ≡ slice_get ops' i → get_or ops i x ≡ Some s → slice_get ops' i ≡ Some (Some s)
+pub source_is : {S : Type 0} (ops ops' : List (Option S)) (i : ℕ) (x : Option S) (s : S) → i < length ops → x ≡ get_or ops i x
+    → slice_get ops i ≡ slice_get ops' i → get_or ops i x ≡ Some s → slice_get ops' i ≡ Some (Some s)
 source_is ops ops' i x s lt is rest e = sym rest ∙ (at_place ops i x lt is ∙ ap (λ (z : Option _). Some z) (is ∙ e))
 
 pub all_at : {A : Type 0} (P : A → Type 0) (Q : ℕ → A → Type 0) (xs : List A) → EachAt Q xs → ((k : ℕ) (x : A) → Q k x → P x) → All P xs
 all_at P Q xs h f k d lt = f k (get_or xs k d) (h k (get_or xs k d) (slice_get-get_or xs k d lt))
 
 -- what holds of each of a mapped list, and more, holds at each place
-pub map_at : {A B : Type 0} (P : B → Type 0) (f : A → B) (xs : List A) (ys : List B) → AllByRecursion P (map f xs ++ ys) → (k : ℕ) (x : A) → slice_get xs k ≡ Some x → P (f x)
+pub map_at : {A B : Type 0} (P : B → Type 0) (f : A → B) (xs : List A) (ys : List B) → AllByRecursion P (map f xs ++ ys) → (k : ℕ) (x : A)
+    → slice_get xs k ≡ Some x → P (f x)
 map_at P f [] ys h k x is = absurd cc
 map_at P f (z ∷ xs) ys h zero x is = let same : z ≡ x = cc in subst (λ w. P (f w)) same h.0
 map_at P f (z ∷ xs) ys h (suc k) x is = map_at P f xs ys h.1 k x is
@@ -76,12 +85,14 @@ pub map_snoc : {A B : Type 0} (f : A → B) (xs : List A) (x : A) (ys : List B) 
 map_snoc f [] x ys = refl
 map_snoc f (z ∷ xs) x ys = ap (λ (l : List _). f z ∷ l) (map_snoc f xs x ys)
 
-set_cases : {A : Type 0} (l : List A) (i k : ℕ) (a b : A) → slice_get (set l i a) k ≡ Some b → ((k ≡ i) × (a ≡ b)) ⊎ ((k ≢ i) × (slice_get l k ≡ Some b))
+set_cases : {A : Type 0} (l : List A) (i k : ℕ) (a b : A) → slice_get (set l i a) k ≡ Some b
+    → ((k ≡ i) × (a ≡ b)) ⊎ ((k ≢ i) × (slice_get l k ≡ Some b))
 set_cases [] i k a b e = absurd cc
 set_cases (x ∷ xs) zero zero a b e = inl (refl, cc)
 set_cases (x ∷ xs) zero (suc k) a b e = inr ((λ h. omega arith), e)
 set_cases (x ∷ xs) (suc i) zero a b e = inr ((λ h. omega arith), e)
-set_cases (x ∷ xs) (suc i) (suc k) a b e = ⊎_elim (λ t. inl (ap suc t.0, t.1)) (λ t. let n = t.0 in inr ((λ h. n (omega arith)), t.1)) (set_cases xs i k a b e)
+set_cases (x ∷ xs) (suc i) (suc k) a b e = ⊎_elim (λ t. inl (ap suc t.0, t.1)) (λ t. let n = t.0 in inr ((λ h. n (omega arith)), t.1))
+    (set_cases xs i k a b e)
 
 pub get_here : {A : Type 0} (l : List A) (i : ℕ) (a : A) → i < length l → slice_get (set l i a) i ≡ Some a
 get_here [] i a lt = absurd (omega (arith, lt))
@@ -115,15 +126,18 @@ none_more told n i new within h k x is =
     (set_cases told i k new (Some x) is)
 
 pub take_same : {A : Type 0} (xs ys : List A) (n : ℕ) → n ≡ length xs → length ys ≡ length xs → take n (xs ++ drop (length xs) ys) ≡ xs
-take_same xs ys n is same = ap (λ (l : List _). take n (xs ++ l)) (drop_of_length-le ys {i = length xs} (omega (arith, same))) ∙ (ap (λ (l : List _). take n l) (append-nil xs) ∙ (ap (λ (m : ℕ). take m xs) is ∙ take-length xs))
+take_same xs ys n is same = ap (λ (l : List _). take n (xs ++ l)) (drop_of_length-le ys {i = length xs} (omega (arith, same))) ∙
+    (ap (λ (l : List _). take n l) (append-nil xs) ∙ (ap (λ (m : ℕ). take m xs) is ∙ take-length xs))
 
 pub get_at : {A : Type 0} (xs : List A) (k : ℕ) → k < length xs → (x : A) × (slice_get xs k ≡ Some x)
 get_at [] k lt = absurd (omega (arith, lt))
 get_at (x ∷ xs) zero lt = (x, refl)
 get_at (x ∷ xs) (suc k) lt = get_at xs k (omega (arith, lt))
 
-pub retired : {S : Type 0} (left : S → Option (List ℕ)) (faults : S → ℕ) (Its : Pass Entry View → Type 0) (carry : (p q : Pass Entry View) → IsSamePass p q → Its p → Its q)
-    (places : List (Option S)) (xs ys : List (Operator S)) → AllZip (HasRun left faults) xs ys → EachAt (Hired Its places) xs → EachAt (Retired left faults Its places) ys
+pub retired : {S : Type 0} (left : S → Option (List ℕ)) (faults : S → ℕ) (Its : Pass Entry View → Type 0)
+    (carry : (p q : Pass Entry View) → IsSamePass p q → Its p → Its q)
+    (places : List (Option S)) (xs ys : List (Operator S)) → AllZip (HasRun left faults) xs ys → EachAt (Hired Its places) xs → EachAt
+    (Retired left faults Its places) ys
 retired left faults Its carry places xs ys z h = each_zip (HasRun left faults) (Hired Its places) (Retired left faults Its places) xs ys z h
     (λ k x y p r. record {
       its = carry x.pass y.pass r.0 p.its;
@@ -132,7 +146,8 @@ retired left faults Its carry places xs ys z h = each_zip (HasRun left faults) (
       sent = subst (λ (n : ℕ). HasSent left faults n x.source y.source (view y.pass) y.fault) p.place r.1;
     })
 
-pub retired_works : {S : Type 0} (left : S → Option (List ℕ)) (faults : S → ℕ) (Its : Pass Entry View → Type 0) (places : List (Option S)) (ys : List (Operator S))
+pub retired_works : {S : Type 0} (left : S → Option (List ℕ)) (faults : S → ℕ) (Its : Pass Entry View → Type 0) (places : List (Option S))
+    (ys : List (Operator S))
     → EachAt (Retired left faults Its places) ys → EachAt (Works Its) ys
 retired_works left faults Its places ys h k y is = let r = h k y is in (r.its, ap (λ (v : View). v.pushes) r.sent.view)
 
@@ -144,13 +159,15 @@ text_not_last ReadFault text h = absurd h
 text_not_last InputTooLong text h = absurd h
 
 -- behind the last entry of an operator nothing comes
-pub whole : (place n : ℕ) (es : List Entry) (ls : List (List ℕ)) (last : Entry) (xs ys : List Entry) → HaveLines place n es ls → xs ++ ys ≡ es ++ last ∷ []
+pub whole : (place n : ℕ) (es : List Entry) (ls : List (List ℕ)) (last : Entry) (xs ys : List Entry) → HaveLines place n es ls
+    → xs ++ ys ≡ es ++ last ∷ []
     → has_last xs ≡ true → ys ≡ []
 whole place n es ls last [] ys h e is = absurd (true≢false (sym is))
 whole place n [] ls last (x ∷ xs) ys h e is = none_behind xs ys (ap tail_of e)
 whole place n (k ∷ es) [] last (x ∷ xs) ys h e is = absurd h
 whole place n (k ∷ es) (l ∷ ls) last (x ∷ xs) ys h e is =
-    whole place (n + 1) es ls last xs ys h.1.1.1 (ap tail_of e) (or_none (is_last x.sent) (has_last xs) (ap (λ (l : List Entry). head_last l) e ∙ text_not_last k.sent l h.1.1.0) is)
+    whole place (n + 1) es ls last xs ys h.1.1.1 (ap tail_of e)
+    (or_none (is_last x.sent) (has_last xs) (ap (λ (l : List Entry). head_last l) e ∙ text_not_last k.sent l h.1.1.0) is)
 
 -- an operator's entries among what was popped are all that it pushed
 pub complete : {S : Type 0} (left : S → Option (List ℕ)) (faults : S → ℕ) (Its : Pass Entry View → Type 0) (places : List (Option S))
@@ -160,24 +177,29 @@ pub complete : {S : Type 0} (left : S → Option (List ℕ)) (faults : S → ℕ
 complete left faults Its places ys popped items kept k y is r ended =
     let s = r.sent in
     let own : (view y.pass).pushed ≡ of_place (view y.pass).place (popped ++ items) =
-        map_at (λ (p : ℕ × List Entry). p.1 ≡ of_place p.0 (popped ++ items)) owned ys [] kept k y is in
+    map_at (λ (p : ℕ × List Entry). p.1 ≡ of_place p.0 (popped ++ items)) owned ys [] kept k y is in
     let mine : s.entries ++ s.last ∷ [] ≡ of_place k (popped ++ items) =
-        sym (ap (λ (v : View). v.pushed) s.view) ∙ (own ∙ ap (λ (v : View). of_place v.place (popped ++ items)) s.view) in
+    sym (ap (λ (v : View). v.pushed) s.view) ∙ (own ∙ ap (λ (v : View). of_place v.place (popped ++ items)) s.view) in
     let both : of_place k popped ++ of_place k items ≡ s.entries ++ s.last ∷ [] =
-        sym (filter-append (λ (x : Entry). x.place == k) popped items) ∙ sym mine in
+    sym (filter-append (λ (x : Entry). x.place == k) popped items) ∙ sym mine in
     let none : of_place k items ≡ [] = whole k 1 s.entries s.lines s.last (of_place k popped) (of_place k items) s.have both ended in
     sym (append-nil (of_place k popped)) ∙ (ap (λ (l : List Entry). of_place k popped ++ l) (sym none) ∙ both)
 
-pub ready_all : {S : Type 0} (Its : Pass Entry View → Type 0) (places : List (Option S)) (xs : List (Operator S)) → EachAt (Hired Its places) xs
+pub ready_all : {S : Type 0} (Its : Pass Entry View → Type 0) (places : List (Option S)) (xs : List (Operator S))
+    → EachAt (Hired Its places) xs
     → All (λ (w : Operator S). IsReady w) xs
 ready_all Its places xs h = all_at (λ (w : Operator _). IsReady w) (Hired Its places) xs h
     (λ k w t. (t.own_queue, t.fresh ∙ ap (λ (n : ℕ). operator_view n []) (sym t.place)))
 
-pub works_back : {A : Type 0} (R : A → A → Type 0) (xs ys : List A) (n : ℕ) → n ≡ length xs → AllZip R xs ys → take n (ys ++ drop (length ys) xs) ≡ ys
+pub works_back : {A : Type 0} (R : A → A → Type 0) (xs ys : List A) (n : ℕ) → n ≡ length xs → AllZip R xs ys
+    → take n (ys ++ drop (length ys) xs) ≡ ys
 works_back R xs ys n is z = let l = AllZip-long R xs ys z in take_same ys xs n (omega (arith, is, l)) (omega (arith, l))
 
-pub after_release : {S : Type 0} (v e : View) (n : ℕ) (popped : List Entry) (ws ys : List (Operator S)) → ws ≡ ys → e ≡ engine_view n popped [] → v ≡ record e { kept = map owned ws ++ e.kept } → v ≡ engine_view n popped (map owned ys ++ [])
-after_release v e n popped ws ys same h is = is ∙ (ap (λ (u : View). record u { kept = map owned ws ++ u.kept }) h ∙ ap (λ (l : List (Operator _)). engine_view n popped (map owned l ++ [])) same)
+pub after_release : {S : Type 0} (v e : View) (n : ℕ) (popped : List Entry) (ws ys : List (Operator S)) → ws ≡ ys
+    → e ≡ engine_view n popped [] → v ≡ record e { kept = map owned ws ++ e.kept } → v ≡ engine_view n popped (map owned ys ++ [])
+after_release v e n popped ws ys same h is = is ∙
+    (ap (λ (u : View). record u { kept = map owned ws ++ u.kept }) h ∙ ap
+    (λ (l : List (Operator _)). engine_view n popped (map owned l ++ [])) same)
 
 pub carries : (q : _) (p p' : Pass Entry View) → IsSamePass p p' → (p.table_id ≡ q) × (p.me.1 ≡ []) → (p'.table_id ≡ q) × (p'.me.1 ≡ [])
 carries q p p' same h = (same.0 ∙ h.0, same.2 ∙ h.1)

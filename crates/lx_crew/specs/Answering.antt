@@ -1,5 +1,6 @@
 -- What the engine answers.
-use Rattle.std.specs.Prelude.{◌≡◌, ◌⊎◌, ◌≤◌, ◌<◌, ℕ, ◌+◌, ◌==◌, Bool, true, Option, Some, None, Result, IsErr, List, [], ◌∷◌, ◌++◌, replicate, flat_map}
+use Rattle.std.specs.Prelude.{◌≡◌, ◌⊎◌, ◌≤◌, ◌<◌, ℕ, ◌+◌, ◌==◌, Bool, true, Option, Some, None, Result, IsErr, List, [], ◌∷◌, ◌++◌}
+use Rattle.std.specs.Prelude.{replicate, flat_map}
 use Rattle.std.specs.List.{list_any}
 use Rattle.std.specs.Io.KnownBytes.{Appends}
 use Rattle.lx_base.specs.declared.TheConstants.{LINE_BYTES}
@@ -8,7 +9,7 @@ use Rattle.lx_io.specs.declared.sink.SinkFault.TheVariants.{Failed, Memory}
 use Rattle.lx_io.specs.Causes.{Rose}
 use Rattle.lx_io.specs.Puts.{AppendsFront}
 use Rattle.lx_spec.specs.declared.Line.{Line as Meant}
-use Rattle.lx_spec.specs.CrewText.{CrewEntry, crew_session, crew_text, CrewPlacesAreEdits, op_text}
+use Rattle.lx_spec.specs.CrewText.{CrewEntry, crew_session, crew_text, CrewPlacesAreEdits}
 use Rattle.lx_spec.specs.Desk.{Desk}
 use Rattle.lx_spec.specs.Kept.{Kept}
 use Rattle.lx_spec.specs.Session.{Session, with_text}
@@ -101,7 +102,8 @@ pub record OutputCause {K : Type 0} (faults wants : K → ℕ) (old new : K) (be
 
 -- a place that is set now was set before, or the entry is the last of that operator
 abbrev pub Marked : Entry → List Bool → List Bool → Type 0
-Marked e before after = (k : ℕ) → slice_get after k ≡ Some true → (slice_get before k ≡ Some true) ⊎ ((e.place ≡ k) × (is_last e.sent ≡ true))
+Marked e before after = (k : ℕ) → slice_get after k ≡ Some true → (slice_get before k ≡ Some true) ⊎
+    ((e.place ≡ k) × (is_last e.sent ≡ true))
 
 -- one entry was popped and answered
 pub record TookOne (v w : View) (held held' : Option (List ℕ)) (console console' : Kept) (tally tally' : Tally)

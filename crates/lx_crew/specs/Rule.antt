@@ -1,5 +1,5 @@
 -- The rule of the queue.
-use Rattle.std.specs.Prelude.{◌≡◌, ℕ, ◌+◌, ◌<◌, ◌≤◌, Bool, true, false, List, [], ◌∷◌, ◌++◌}
+use Rattle.std.specs.Prelude.{◌≡◌, ℕ, ◌+◌, ◌<◌, ◌≤◌, true, false, List, [], ◌∷◌, ◌++◌}
 use Rattle.std.specs.List.{AllByRecursion}
 use mathlib.Core.Option.{some}
 use lib.ListN.{get_elem?}
@@ -16,12 +16,14 @@ operator_view k pushed = record { pushes = true; pops = false; place = k; made =
 abbrev pub spent_view : View
 spent_view = record { pushes = false; pops = false; place = 0; made = 0; pushed = []; popped = []; kept = [] }
 
--- `seat k` is the pass of operator k, counted from 1; 0: it has none (it wasn't made yet, or was taken in). `log` is all that was pushed, in order
+-- `seat k` is the pass of operator k, counted from 1; 0: it has none (it wasn't made yet, or was taken in).
+-- `log` is all that was pushed, in order
 -- the pass of an operator is that operator's, and has the entries that it pushed
 abbrev pub FitsOperator : (ℕ → ℕ) → List Entry → ℕ → View → Type 0
 FitsOperator seat log pass v = (seat v.place ≡ pass + 1) × (v.pushed ≡ of_place v.place log)
 
--- the engine's pass is the one reader, and has what was popped. Later operators have pushed nothing, and the lists of those taken in are what they pushed
+-- the engine's pass is the one reader, and has what was popped.
+-- Later operators have pushed nothing, and the lists of those taken in are what they pushed
 pub record FitsEngine (reader : ℕ) (seat : ℕ → ℕ) (popped log : List Entry) (pass : ℕ) (v : View) : Type 0 where
   pub reads : pass ≡ reader
   pub got : v.popped ≡ popped
@@ -32,7 +34,8 @@ pub record Fits (reader : ℕ) (seat : ℕ → ℕ) (popped log : List Entry) (p
   pub operator : v.pushes ≡ true → FitsOperator seat log pass v
   pub engine : v.pops ≡ true → FitsEngine reader seat popped log pass v
 
--- What was popped, and then what the queue holds, is all that was pushed, in order. Each operator's entries are numbered from 1. Each pass knows its part
+-- What was popped, and then what the queue holds, is all that was pushed, in order. Each operator's entries are numbered from 1.
+-- Each pass knows its part
 pub record KeepsOrder (items : List Entry) (views : List View) : Type 0 where
   pub reader : ℕ
   pub seat : ℕ → ℕ

@@ -1,5 +1,5 @@
 -- What an operator sends.
-use Rattle.std.specs.Prelude.{◌≡◌, ◌≤◌, ◌++◌, ◌∷◌, ℕ, ◌+◌, true, false, Option, Some, None, List, [], length, if◌then◌else◌}
+use Rattle.std.specs.Prelude.{◌≡◌, ◌++◌, ◌∷◌, ℕ, Option, Some, None, List, [], if◌then◌else◌}
 use Rattle.std.specs.Io.KnownBytes.{IsAtEnd}
 use Rattle.lx_io.specs.Causes.{Rose}
 use Rattle.lx_lex.specs.declared.lines.Lines.{Lines}

@@ -10,7 +10,8 @@ use Rattle.lx_session.specs.declared.tally.Tally.{Tally}
 use Rattle.lx_session.specs.LineReply.{counts_in}
 
 -- The whole transcript was written, and the console stands for the desk after it. Want of memory refused nothing but edits.
-pub record WholeTranscript (d : Desk) (lines : ℕ → List (List ℕ)) (held held' : Option (List ℕ)) (console : Kept) (tally : Tally) : Type 0 where
+pub record WholeTranscript (d : Desk) (lines : ℕ → List (List ℕ)) (held held' : Option (List ℕ)) (console : Kept)
+    (tally : Tally) : Type 0 where
   pub entries : List CrewEntry
   pub merged : Merged lines entries
   pub places : List ℕ

@@ -67,7 +67,17 @@ fn send_lines<R: Wait, S: Source>(
         let number = lines.number() + 1;
         let sent = take_next(&mut lines);
         let after = what_follows(&sent);
-        send(rt, queue, engine, pass, Entry { place, number, sent });
+        send(
+            rt,
+            queue,
+            engine,
+            pass,
+            Entry {
+                place,
+                number,
+                sent,
+            },
+        );
         match after {
             Follows::Lines => {}
             Follows::End => {

@@ -1,6 +1,7 @@
 //! A crew: the engine and the operators at the same time.
 
-ghost use Rattle.std.specs.Prelude.{◌≡◌, ◌+◌, ◌<◌, ◌≤◌, ℕ, List, [], ◌++◌, ◌∷◌, length, map, true, false, slice_get, Some, None, IfOk, OnErr, IsSome, vec_len, vec_capacity};
+ghost use Rattle.std.specs.Prelude.{◌≡◌, ◌+◌, ◌<◌, ◌≤◌, ℕ, List, [], ◌++◌, ◌∷◌, length, map, true, false, slice_get, Some, None};
+ghost use Rattle.std.specs.Prelude.{IfOk, OnErr, IsSome, vec_len, vec_capacity};
 ghost use Rattle.std.specs.List.{All, AllZip};
 ghost use Rattle.crossbeam_queue.specs.Passes.{view, IsPassOf, IsSamePass};
 ghost use Rattle.lx_spec.specs.Desk.{Desk};
@@ -57,8 +58,8 @@ pub fn crew<R: Threads + Wait + Sync, S: Source + Send + Drop, K: Sink + Send>(
     requires most { length operators.old ≤ OPERATORS }
     requires full { EachAt (λ k place. IsSome place) operators.old }
     ensures err { OnErr result ((console.new ≡ console.old) × ((sink.new ≡ sink.old) × (operators.new ≡ operators.old))) }
-    ensures crewed { IfOk result (λ c. (d : Desk) → StandsFor d console.old → HasCrewed S.left S.faults K.holds d operators.old operators.new
-        sink.old sink.new console.new c.tally c.output c.operators) }
+    ensures crewed { IfOk result (λ c. (d : Desk) → StandsFor d console.old → HasCrewed S.left S.faults K.holds d operators.old
+        operators.new sink.old sink.new console.new c.tally c.output c.operators) }
     ensures cause { IfOk result (λ c. OutputCause K.faults K.wants sink.old sink.new None c.output) }
 {
     let count = operators.len();

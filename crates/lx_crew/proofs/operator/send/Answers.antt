@@ -1,4 +1,4 @@
-use Rattle.std.proofs.Common.{◌≡◌, ◌+◌, ap, ◌∙◌, sym, length}
+use Rattle.std.proofs.Common.{◌+◌, ap, ◌∙◌, sym, length}
 use Rattle.lx_crew.proofs.Rules.{sends}
 use Rattle.lx_crew.proofs.operator.send.Goals as goal
 
@@ -7,4 +7,4 @@ try_push_as-requires-clause-rule g c =
     let v = c.loop.invariant.view in
     let e = c.loop.invariant.entry in
     sends _ _ _ _ (ap (λ w. w.pushes) v ∙ c.requires.pushes) (ap (λ x. x.place) e ∙ (c.requires.own ∙ ap (λ w. w.place) (sym v)))
-        (ap (λ x. x.number) e ∙ (c.requires.next ∙ ap (λ w. length w.pushed + 1) (sym v)))
+    (ap (λ x. x.number) e ∙ (c.requires.next ∙ ap (λ w. length w.pushed + 1) (sym v)))

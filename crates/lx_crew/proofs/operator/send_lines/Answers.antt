@@ -1,4 +1,4 @@
-use Rattle.std.proofs.Common.{rules, ◌≡◌, ◌+◌, [], ◌∷◌, ◌++◌, length, ap, sym, refl, ◌∙◌, subst, None, arith}
+use Rattle.std.proofs.Common.{rules, ◌≡◌, ◌+◌, length, ap, sym, refl, ◌∙◌, subst, None, arith}
 use Rattle.std.proofs.lemmas.List.{length_push}
 use Rattle.crossbeam_queue.specs.Passes.{view}
 use Rattle.lx_crew.specs.declared.rule.View.{View}
@@ -38,7 +38,7 @@ pub send-requires-in-End-clause-next : goal.send-requires-in-End-clause-next
 send-requires-in-End-clause-next g c =
     let n = next_number _ _ _ _ _ _ c.loop.invariant.so_far c.new-lines.ensures.number in
     let more : length (view c.send.new.pass).pushed ≡ length (view c.loop.pass).pushed + 1 =
-        ap (λ (v : View). length v.pushed) c.send.ensures.view ∙ length_push (view c.loop.pass).pushed _ in
+    ap (λ (v : View). length v.pushed) c.send.ensures.view ∙ length_push (view c.loop.pass).pushed _ in
     omega (arith, n, c.number-number.ensures, more)
 
 pub returns-in-End-clause-sent : goal.returns-in-End-clause-sent
@@ -60,7 +60,8 @@ returns-in-Nothing-clause-sent g c =
     (sym c.what_follows-after.ensures ∙ c.in-Nothing.is) in
     let same = c.in-Nothing.source-in-Nothing-1-own.given.1
     (sym (c.take_next-sent.ensures.same_source ∙ (i.name ∙ c.new-lines.ensures.same_reference))) in
-    subst (λ s. HasSent g.S.Source.left g.S.Source.faults c.args.place c.args.source.now s (view c.send.new.pass) c.in-Nothing.fault) (sym same)
+    subst (λ s. HasSent g.S.Source.left g.S.Source.faults c.args.place c.args.source.now s (view c.send.new.pass) c.in-Nothing.fault)
+    (sym same)
     (sent_all _ _ c.args.place c.args.source.now c.new-lines.result c.loop.lines c.take_next-sent.new.lines (view c.loop.pass)
     (view c.send.new.pass) _ c.in-Nothing.fault
     (record { unread = c.new-lines.ensures.unread; taken = c.new-lines.ensures.taken; now = c.new-lines.ensures.source }) i.so_far

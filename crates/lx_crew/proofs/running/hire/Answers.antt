@@ -1,9 +1,8 @@
-use Rattle.std.proofs.Common.{rules, ◌≡◌, ◌+◌, ◌<◌, ◌≤◌, ◌≢◌, ℕ, List, [], ◌++◌, ◌∷◌, length, Option, Some, None, IsSome, refl, ap, sym, subst, ◌∙◌, length-append, length-set, arith, le_refl}
+use Rattle.std.proofs.Common.{rules, ◌≡◌, ◌+◌, ◌<◌, ℕ, [], length, refl, ap, sym}
+use Rattle.std.proofs.Common.{◌∙◌, length-set, arith}
 use Rattle.std.proofs.lemmas.List.{length_push}
-use Rattle.crossbeam_queue.specs.Passes.{view, IsPassOf, IsSamePass}
 use Rattle.lx_crew.specs.declared.rule.View.{View}
 use Rattle.lx_crew.specs.Rule.{engine_view, operator_view}
-use Rattle.lx_crew.specs.Hired.{EachAt, Hired}
 use Rattle.lx_crew.proofs.Rules.{forks}
 use Rattle.lx_crew.proofs.Works.{each_snoc, get_else, some_there, not_none, source_is}
 use Rattle.lx_crew.proofs.running.hire.Goals as goal
@@ -18,11 +17,13 @@ pub unreachable-requires : goal.unreachable-requires
 unreachable-requires g c =
     let i = c.loop-place.invariant in
     let x = c.index-operators-place in
-    let t = some_there c.loop-place.operators c.args.operators.now c.loop-place.place x.result c.take.result (omega (arith, c.loop-place-test.true, i.all)) x.is (i.rest c.loop-place.place (omega arith)) c.requires.all c.take.ensures.value in
+    let t = some_there c.loop-place.operators c.args.operators.now c.loop-place.place x.result c.take.result
+    (omega (arith, c.loop-place-test.true, i.all)) x.is (i.rest c.loop-place.place (omega arith)) c.requires.all c.take.ensures.value in
     not_none c.take.result t c.in_default.is
 
 pub another-theirs-requires-clause-rule : goal.another-theirs-requires-clause-rule
-another-theirs-requires-clause-rule g c = forks _ _ (ap (λ (v : View). v.pops) c.loop-place.invariant.knows) (ap (λ (v : View). v.pushes) c.loop-place.invariant.knows)
+another-theirs-requires-clause-rule g c = forks _ _ (ap (λ (v : View). v.pops) c.loop-place.invariant.knows)
+    (ap (λ (v : View). v.pushes) c.loop-place.invariant.knows)
 
 pub loop-place-preserved : goal.loop-place-preserved
 loop-place-preserved g c =
@@ -41,7 +42,8 @@ loop-place-preserved g c =
         own_queue = c.another-theirs.ensures.queue.1;
         fresh = fresh_is _ _ _ i.knows c.another-theirs.ensures.rule.1;
         place = refl;
-        source = source_is c.loop-place.operators c.args.operators.now k x.result c.in-Some.source inside x.is (i.rest k (omega arith)) (sym c.take.ensures.value ∙ c.in-Some.is);
+        source = source_is c.loop-place.operators c.args.operators.now k x.result c.in-Some.source inside x.is (i.rest k (omega arith))
+            (sym c.take.ensures.value ∙ c.in-Some.is);
       }));
       rest = λ j after. get_else c.loop-place.operators k j _ (λ e. omega (arith, after, e)) ∙ i.rest j (omega (arith, after));
     }

@@ -1,16 +1,19 @@
-use Rattle.std.proofs.Common.{rules, ◌≡◌, ◌+◌, ◌<◌, ◌≤◌, ◌≢◌, ℕ, zero, suc, List, [], ◌++◌, ◌∷◌, length, map, true, false, Option, Some, None, IsSome, slice_get, refl, ap, sym, subst, ◌∙◌, length-append, length-set, append_assoc, append-nil, arith}
+use Rattle.std.proofs.Common.{rules, ◌≡◌, ◌+◌, ◌≤◌, ℕ, zero, suc, List, [], ◌++◌, ◌∷◌, length, map, Some}
+use Rattle.std.proofs.Common.{None, slice_get, refl, ap, sym, ◌∙◌, length-set}
+use Rattle.std.proofs.Common.{arith}
 use Rattle.std.proofs.lemmas.List.{length_push}
 use Rattle.std.proofs.lemmas.Option.{slice_get_within}
-use Rattle.crossbeam_queue.specs.Passes.{view, IsPassOf, IsSamePass}
+use Rattle.crossbeam_queue.specs.Passes.{view}
 use Rattle.lx_crew.specs.declared.entry.Entry.{Entry}
 use Rattle.lx_crew.specs.declared.operator.Operator.{Operator}
 use Rattle.lx_crew.specs.declared.rule.View.{View}
-use Rattle.lx_crew.specs.Hired.{EachAt, Works, owned}
+use Rattle.lx_crew.specs.Hired.{owned}
 use Rattle.lx_crew.proofs.Rules.{merges}
 use Rattle.lx_crew.proofs.Works.{each_init, map_snoc, told_more, none_more}
 use Rattle.lx_crew.proofs.running.release.Goals as goal
 
-keeps_more : (v w u : View) (kept : List (ℕ × List Entry)) (p : ℕ × List Entry) → v ≡ record u { kept = kept } → w ≡ record v { kept = p ∷ v.kept } → w ≡ record u { kept = p ∷ kept }
+keeps_more : (v w u : View) (kept : List (ℕ × List Entry)) (p : ℕ × List Entry) → v ≡ record u { kept = kept }
+    → w ≡ record v { kept = p ∷ v.kept } → w ≡ record u { kept = p ∷ kept }
 keeps_more v w u kept p h i = i ∙ ap (λ (x : View). record x { kept = p ∷ x.kept }) h
 
 none_past : {A B : Type 0} (xs : List A) (k : ℕ) (x : A) → slice_get xs k ≡ Some x → length xs ≤ k → B
@@ -64,7 +67,8 @@ loop-work-preserved g c =
       same = search rules;
       kept = owned work ∷ i.kept;
       knows = keeps_more _ _ (view c.args.pass.now) i.kept (owned work) i.knows c.absorb.ensures.rule;
-      lists = sym (map_snoc owned items work i.kept) ∙ (ap (λ (ws : List _). map owned ws ++ i.kept) (sym c.in-Some.ensures.items) ∙ i.lists);
+      lists = sym (map_snoc owned items work i.kept) ∙
+          (ap (λ (ws : List _). map owned ws ++ i.kept) (sym c.in-Some.ensures.items) ∙ i.lists);
       works = t.0;
       left = here.0;
       all = length-set c.loop-work.operators _ _ ∙ i.all;

@@ -1,4 +1,4 @@
-use Rattle.std.proofs.Common.{◌≡◌, ◌≤◌, ◌<◌, ℕ, List, ◌++◌, length, map, slice_get, Option, Some, vec_len}
+use Rattle.std.proofs.Common.{◌≡◌, ◌≤◌, ◌<◌, ℕ, List, ◌++◌, length, map, slice_get, Some, vec_len}
 use Rattle.crossbeam_queue.specs.Passes.{view, IsPassOf, IsSamePass}
 use Rattle.lx_crew.specs.declared.entry.Entry.{Entry}
 use Rattle.lx_crew.specs.Hired.{EachAt, Works, owned}
