@@ -1,6 +1,6 @@
 -- A cue with one of its moves replaced, and replaced back.
-use Rattle.std.proofs.Common.{◌≡◌, ℕ, ◌+◌, ◌-◌, ◌≤◌, Bool, false, List, [], ◌∷◌, Some, None, Ok, refl, ◌∙◌, sym, ap, subst, cond, arith, inl, inr}
-use Rattle.std.specs.Prelude.{Option, IsTrue, is_some, IfSome, ◌||◌}
+use Rattle.std.proofs.Common.{◌≡◌, ℕ, ◌+◌, ◌-◌, ◌≤◌, false, List, [], ◌∷◌, Some, None, Ok, refl, ◌∙◌, sym, ap, subst, cond, arith, inl, inr}
+use Rattle.std.specs.Prelude.{Option, IsTrue, is_some, ◌||◌}
 use Rattle.std.specs.Option.{IsSomeAnd, option_map_or}
 use Rattle.std.specs.List.{range_with_len}
 use Rattle.std.proofs.lemmas.Bool.{cases_eq}

@@ -1,8 +1,7 @@
-use Rattle.std.proofs.Common.{◌≡◌, ◌<◌, ◌≤◌, ◌∙◌, ap, sym, subst, ℕ}
+use Rattle.std.proofs.Common.{◌<◌, ◌≤◌, ◌∙◌, ap, sym, subst, ℕ}
 use Rattle.std.specs.Prelude.{None}
 use Rattle.lx_spec.specs.Show.{Show, Cue}
 use Rattle.lx_spec.specs.TrackedLevel.{tracked}
-use Rattle.lx_spec.specs.EditedShow.{with_cue}
 use Rattle.lx_sheet.specs.Standing.{cue_numbers}
 use Rattle.lx_edit.specs.declared.chan_set.ChanSet.{ChanSet}
 use Rattle.lx_edit.specs.Changing.{IsPast, KeepsLevels}
