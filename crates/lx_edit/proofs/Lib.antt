@@ -9,3 +9,4 @@ pub mod KeptRows
 pub mod Asserted
 pub mod SameLists
 pub mod TakenBack
+pub mod PlacedMoves

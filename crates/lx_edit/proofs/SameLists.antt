@@ -1,6 +1,6 @@
 -- Two sorted lists with the same entry of each number are the same list. So an entry changed and changed back leaves its list.
 use Rattle.std.proofs.Common.{◌≡◌, ℕ, ◌<◌, List, [], ◌∷◌, Some, None, refl, ◌∙◌, sym, ap, subst, inl, inr, arith}
-use Rattle.std.specs.Prelude.{Option, IfSome, find, not, ◌==◌}
+use Rattle.std.specs.Prelude.{Option, IfSome}
 use Rattle.std.specs.List.{AllByRecursion}
 use Rattle.std.proofs.lemmas.Bool.{cases_eq, cases_order}
 use Rattle.lx_spec.specs.SortedList.{IsStrictlySorted, entry_at, placed, taken_out}

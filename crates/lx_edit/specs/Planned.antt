@@ -7,11 +7,14 @@ use Rattle.lx_spec.specs.declared.Edit.TheVariants.{SubMember, Patch, Unpatch}
 use Rattle.lx_spec.specs.declared.Refusal.{Refusal}
 use Rattle.lx_spec.specs.declared.Refusal.TheVariants.{Memory}
 use Rattle.lx_spec.specs.SortedList.{has_entry, placed, taken_out}
-use Rattle.lx_spec.specs.TrackedLevel.{tracked}
+use Rattle.std.specs.Option.{IsSomeAnd}
+use Rattle.lx_spec.specs.declared.Move.{Move}
+use Rattle.lx_show.specs.Changed.{changed}
+use Rattle.lx_spec.specs.TrackedLevel.{tracked, cue_of}
 use Rattle.lx_spec.specs.Show.{Cue, Show, InRange, ValidCue, ValidGroup, ValidSub}
 use Rattle.lx_spec.specs.EditedShow.{edited, with_cue, without_cue}
 use Rattle.lx_edit.specs.declared.plans.Plan.{Plan}
-use Rattle.lx_edit.specs.declared.plans.Plan.TheVariants.{Nothing, PlaceCue, PlaceCues, RemoveCue, PlaceGroup, RemoveGroup}
+use Rattle.lx_edit.specs.declared.plans.Plan.TheVariants.{Nothing, PlaceCue, PlaceMove, PlaceCues, RemoveCue, PlaceGroup, RemoveGroup}
 use Rattle.lx_edit.specs.declared.plans.Plan.TheVariants.{PlaceSub, RemoveSub, PlaceRow, RemoveRow}
 
 -- the show with this cue too, where there is one
@@ -19,10 +22,19 @@ abbrev pub with_above : Option Cue → Show → Show
 with_above None show = show
 with_above (Some cue) show = with_cue show cue
 
+-- the cue with this move in the place of the one of its channel
+abbrev pub with_move : Cue → Move → Cue
+with_move cue entry = record cue { moves = placed (λ m. m.chan) entry cue.moves }
+
+-- the show with this move in the cue of the number
+abbrev pub with_move_in : Show → ℕ → Move → Show
+with_move_in show n entry = record show { cues = changed (λ x. x.number) n (λ cue. with_move cue entry) show.cues }
+
 -- the show with the plan applied
 abbrev pub planned : Show → Plan → Show
 planned show Nothing = show
 planned show (PlaceCue cue above) = with_above above (with_cue show cue)
+planned show (PlaceMove n entry) = with_move_in show n entry
 planned show (PlaceCues cue above) = with_above above (with_cue show cue)
 planned show (RemoveCue n above) = with_above above (without_cue show n)
 planned show (PlaceGroup group) = record show { groups = placed (λ x. x.number) group show.groups }
@@ -50,11 +62,18 @@ pub record IsAbove (show : Show) (n : ℕ) (kept : Cue) : Type 0 where
   pub there : IsTrue (has_entry (λ x. x.number) kept.number show.cues)
   pub higher : n < kept.number
 
+-- the move may be placed in the cue of the number: that has one of its channel, and its part
+pub record CanMove (show : Show) (n : ℕ) (entry : Move) : Type 0 where
+  pub chan : entry.chan ≤ show.channels
+  pub part : IsSomeAnd (cue_of show n) (λ cue. IsTrue (has_entry (λ p. p.number) entry.part cue.parts))
+  pub there : IsSomeAnd (cue_of show n) (λ cue. IsTrue (has_entry (λ m. m.chan) entry.chan cue.moves))
+
 -- the plan may be applied to the show
 abbrev pub IsReady : Show → Plan → Type 0
 IsReady show Nothing = ⊤
 IsReady show (PlaceCue cue above) =
     CanPlace show cue × IfSome above (λ kept. CanPlace (with_cue show cue) kept × KeepsAbove show (with_cue show cue) cue.number kept)
+IsReady show (PlaceMove n entry) = CanMove show n entry
 IsReady show (PlaceCues cue above) =
     CanPlace show cue × IfSome above (CanPlace (with_cue show cue)) × IfSome above (IsAbove show cue.number)
 IsReady show (RemoveCue n above) = (1 ≤ n) × IfSome above (CanPlace (without_cue show n)) × IfSome above (IsAbove show n)

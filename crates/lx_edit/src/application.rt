@@ -15,13 +15,13 @@ ghost use Rattle.lx_edit.specs.Undone.{TakesBack, cue_instead};
 use crate::absent::channel;
 use crate::chan_set::ChanSet;
 use crate::dirty::Dirty;
-use crate::marks::{changes_asserts, mark_change};
+use crate::marks::{changes_asserts, mark_change, mark_move};
 use crate::plans::Plan;
 use crate::undone::{cue_back, group_back, kept_back, row_back, sub_back};
 use lx_base::{CHANNELS, Chan, CueNo, Dimmer, GroupNo, SubNo};
 use lx_sheet::Sheet;
 use lx_show::around::above;
-use lx_show::{Cue, Group, PatchRow, Show, Sub};
+use lx_show::{Cue, Group, Move, PatchRow, Show, Sub};
 
 /// A plan that was applied: what it touched, and the plan that takes it back.
 #[derive(Drop)]
@@ -86,6 +86,7 @@ impl Plan {
                 undo: Plan::Nothing,
             },
             Plan::PlaceCue { cue, above } => place_kept(show, sheet, cue, above),
+            Plan::PlaceMove { cue, entry } => place_move(show, sheet, cue, &entry),
             Plan::PlaceCues { cue, above } => place_cues(show, sheet, cue, above),
             Plan::RemoveCue { cue, above } => exchange_cues(show, sheet, cue, above),
             Plan::PlaceGroup(group) => Exchanged {
@@ -227,6 +228,28 @@ fn place_alone(
     let _ = show.channels();
     mend(sheet, show, n, Some(end), chans);
     kept_back(n, old, old_above)
+}
+
+/// Places the move in the cue, in the place of the one of its channel.
+fn place_move(show: &mut Show, sheet: &mut Sheet, n: CueNo, entry: &Move) -> Exchanged
+    requires ready { IsReady show.old (Plan.PlaceMove n entry.now) }
+    requires sheet { RowsStandFor show.old sheet.old }
+    ensures show { show.new ≡ planned show.old (Plan.PlaceMove n entry.now) }
+    ensures sheet { RowsStandFor show.new sheet.new }
+    ensures others { KeepsLevels show.old show.new result.dirty.chans }
+    ensures dimmer { result.dirty.dimmer ≡ None }
+    ensures subs { result.dirty.subs ≡ false }
+    ensures undo { TakesBack show.old show.new result.undo }
+{
+    let _ = show.channels();
+    let old = show.exchange_move_in(n, *entry);
+    let mut chans = ChanSet::empty();
+    mark_move(&mut chans, entry, &old);
+    mend_columns(sheet, show, n, &None, &chans);
+    Exchanged {
+        dirty: Dirty::of_cues(chans),
+        undo: Plan::PlaceMove { cue: n, entry: old },
+    }
 }
 
 /// Places the cue, and then the one above it where that is given.

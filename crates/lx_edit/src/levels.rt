@@ -1,8 +1,9 @@
 //! Edits of a cue's levels: channels set to a level, a group set, and channels released.
 
-ghost use Rattle.std.specs.Prelude.{◌≡◌, ℕ, IfOk};
+ghost use Rattle.std.specs.Prelude.{◌≡◌, ℕ, IfOk, IfSome, IsTrue};
+ghost use Rattle.lx_spec.specs.SortedList.{has_entry};
 ghost use Rattle.lx_spec.specs.Show.{ValidCue};
-ghost use Rattle.lx_spec.specs.EditedShow.{without_moves};
+ghost use Rattle.lx_spec.specs.EditedShow.{part_for, without_moves};
 ghost use Rattle.lx_edit.specs.Planned.{Plans};
 
 use crate::absent::{channel, the_channels, the_cue, the_given_part, the_group, the_moves};
@@ -10,7 +11,7 @@ use crate::kept::place;
 use crate::moves::{all_at, in_proportion, with_levels};
 use crate::plans::Plan;
 use lx_base::{ChanRange, CueNo, GroupNo, Level, PartNo};
-use lx_show::{Cue, Edit, Refusal, Show};
+use lx_show::{Cue, Edit, Move, Refusal, Show};
 use std::alloc::{AllocError, Global};
 
 /// The channels of the range move to the level in the cue.
@@ -28,9 +29,32 @@ pub(crate) fn set(
     let old = the_cue(show, n)?;
     let part = the_given_part(old, part)?;
     the_channels(show, range)?;
+    if !only {
+        if let Some(entry) = other_move(old, part, range, level) {
+            return Ok(Plan::PlaceMove { cue: n, entry });
+        }
+    }
     let members = all_at(alloc, range, level)?;
     let cue = with_levels(alloc, show.channels(), old, part, members.as_slice())?;
     Ok(place(alloc, show, n, old, cue, only)?)
+}
+
+/// The move of the range's one channel to the level, where the range is one channel, of which the cue has a move.
+fn other_move(cue: &Cue, part: Option<PartNo>, range: ChanRange, level: Level) -> Option<Move>
+    ensures one { IfSome result (λ _. range.first ≡ range.last) }
+    ensures entry { IfSome result (λ entry. entry ≡ record { chan = range.first; part = part_for part cue.now range.first; level = level }) }
+    ensures there { IfSome result (λ entry. IsTrue (has_entry (λ m. m.chan) entry.chan cue.now.moves)) }
+{
+    let chan = range.first();
+    if chan.get() != range.last().get() {
+        return None;
+    }
+    let old = cue.move_of(chan)?;
+    Some(Move {
+        chan,
+        part: part.unwrap_or(old.part),
+        level,
+    })
 }
 
 /// The members of the group move to their levels in proportion to this one.

@@ -77,6 +77,14 @@ fn mark(chans: &mut ChanSet, entry: &Move, other: Option<Move>)
     }
 }
 
+/// Adds the channel of the move, unless the old one was the same move.
+pub(crate) fn mark_move(chans: &mut ChanSet, entry: &Move, old: &Move)
+    ensures grows { Grows chans.old chans.new }
+    ensures marked { has_chan chans.new entry.now.chan ≡ false → Some old.now ≡ Some entry.now }
+{
+    mark(chans, entry, Some(*old));
+}
+
 /// The other is the same move.
 fn is_same(entry: &Move, other: Option<Move>) -> bool
     ensures { result ≡ true → other ≡ Some entry.now }
@@ -143,6 +151,7 @@ pub(crate) fn changes_asserts(show: &Show, plan: &Plan) -> bool
         Plan::PlaceCue { cue, above } => changes_assert(show, cue) || changes_above(show, above),
         Plan::PlaceCues { cue, above } => changes_assert(show, cue) || changes_above(show, above),
         Plan::RemoveCue { cue, above } => asserts(show, *cue) || changes_above(show, above),
+        Plan::PlaceMove { .. } => false,
         _ => false,
     }
 }

@@ -1,10 +1,10 @@
 //! What an edit changes of a show, made whole before anything is changed; and what takes it back.
 
 use lx_base::{CueNo, Dimmer, GroupNo, SubNo};
-use lx_show::{Cue, Group, PatchRow, Sub};
+use lx_show::{Cue, Group, Move, PatchRow, Sub};
 
-/// What an edit changes of a show, or what takes that back: whole new cues, a group, a submaster or a patch
-/// row, or what goes. It holds all the memory that the change needs.
+/// What an edit changes of a show, or what takes that back: whole new cues, a move, a group, a submaster or a
+/// patch row, or what goes. It holds all the memory that the change needs.
 #[derive(Drop)]
 pub enum Plan {
     /// The show stays as it is: what the edit makes is there already.
@@ -12,6 +12,8 @@ pub enum Plan {
     /// The cue, in the place of the one of its number. Where the edit is cue only, then also the cue above it,
     /// which keeps its levels.
     PlaceCue { cue: Cue, above: Option<Cue> },
+    /// The move, in the place of the one that the cue has of its channel.
+    PlaceMove { cue: CueNo, entry: Move },
     /// The cue, in the place of the one of its number, and then the cue above it too, where that is given. The
     /// levels of the cue above may change.
     PlaceCues { cue: Cue, above: Option<Cue> },

@@ -1,7 +1,7 @@
 -- The index of an entry in a sorted list.
-use Rattle.std.proofs.Common.{◌≡◌, ℕ, zero, suc, ◌+◌, ◌-◌, ◌<◌, ◌≤◌, true, false, List, [], ◌∷◌, ◌++◌, length, get_or, set, take, drop}
+use Rattle.std.proofs.Common.{◌≡◌, ℕ, suc, ◌+◌, ◌-◌, ◌<◌, ◌≤◌, true, false, List, [], ◌∷◌, ◌++◌, length, get_or, set, take, drop}
 use Rattle.std.proofs.Common.{Some, refl, ◌∙◌, sym, ap, subst, inl, inr, arith, add-one, add-zero}
-use Rattle.std.specs.Prelude.{Option, filter, insert, remove, nat_lt, option_to_list, slice_get}
+use Rattle.std.specs.Prelude.{Option, insert, remove, nat_lt, option_to_list, slice_get}
 use Rattle.std.specs.Option.{option_map_or}
 use Rattle.std.specs.List.{AllByRecursion}
 use Rattle.std.specs.List.Sorted.{IsPartitionPoint}

@@ -1,5 +1,5 @@
 -- What an entry placed into a sorted list leaves: what is found there, its length, and a second placing.
-use Rattle.std.proofs.Common.{◌≡◌, ℕ, List, [], length, Some, None, ◌∙◌, ap}
+use Rattle.std.proofs.Common.{◌≡◌, ℕ, List, Some, None, ◌∙◌, ap}
 use Rattle.std.specs.Prelude.{Option, IsTrue}
 use Rattle.std.specs.Option.{option_map_or}
 use Rattle.lx_spec.specs.SortedList.{entry_at, has_entry, placed}

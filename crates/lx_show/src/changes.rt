@@ -1,12 +1,12 @@
 //! Changes to a cue, group or submaster where it stands in a show, without a copy. It is looked for first
 //! where the last change was, and then by halving.
 
-ghost use Rattle.std.specs.Prelude.{◌≡◌, ◌≤◌, IfSome, IsTrue, OnOk, OnErr};
+ghost use Rattle.std.specs.Prelude.{◌≡◌, ◌≤◌, IfSome, IsTrue, OnOk, OnErr, Some};
 ghost use Rattle.std.specs.Option.{IsSomeAnd};
 ghost use Rattle.std.specs.List.{AllByRecursion};
 ghost use Rattle.lx_spec.specs.SortedList.{has_entry, all_placed, entry_at, placed};
 ghost use Rattle.lx_spec.specs.Show.{IsTime, ValidMember, ValidMove, ValidPart};
-ghost use Rattle.lx_spec.specs.TrackedLevel.{cue_of};
+ghost use Rattle.lx_spec.specs.TrackedLevel.{cue_of, move_in};
 ghost use Rattle.lx_show.specs.Changed.{changed};
 
 use crate::cue::place_part;
@@ -106,6 +106,24 @@ impl Show {
         let at = find_near(self.cues.as_slice(), &mut self.recent, n.get());
         let cue = &mut self.cues[at];
         cue.moves.put(entry)
+    }
+
+    /// Places the move in the cue, in the place of the one of its channel, which is there, and hands that one back. Its
+    /// part is one of the cue's. It takes no memory.
+    pub fn exchange_move_in(&mut self, n: CueNo, entry: Move) -> Move
+        requires channel { entry.chan ≤ self.old.channels }
+        requires part { IsSomeAnd (cue_of self.old n) (λ cue. IsTrue (has_entry (λ p. p.number) entry.part cue.parts)) }
+        requires there { IsSomeAnd (cue_of self.old n) (λ cue. IsTrue (has_entry (λ m. m.chan) entry.chan cue.moves)) }
+        ensures replaced { IsSomeAnd (cue_of self.old n) (λ cue. move_in cue entry.chan ≡ Some result) }
+        ensures show { self.new ≡ record self.old {
+          cues = changed (λ x. x.number) n
+              (λ cue. record cue { moves = placed (λ m. m.chan) entry cue.moves }) self.old.cues;
+        } }
+    {
+        facts::of_move(&entry);
+        let at = find_near(self.cues.as_slice(), &mut self.recent, n.get());
+        let cue = &mut self.cues[at];
+        cue.moves.exchange(entry)
     }
 
     /// Places each of the moves in the cue in turn, in place of the one of its channel. Their channels are within the

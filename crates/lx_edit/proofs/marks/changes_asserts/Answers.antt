@@ -3,6 +3,7 @@ use Rattle.lx_spec.specs.TrackedLevel.{asserts}
 use Rattle.lx_edit.specs.declared.plans.Plan.{Plan}
 use Rattle.lx_edit.specs.Planned.{planned}
 use Rattle.lx_edit.proofs.Asserted.{asserts_with, asserts_without, asserts_above}
+use Rattle.lx_edit.proofs.PlacedMoves.{asserts_moved}
 use Rattle.lx_edit.proofs.marks.changes_asserts.Goals as goal
 
 pub returns-else-changes_assert : goal.returns-else-changes_assert
@@ -28,3 +29,9 @@ returns-else-asserts c = λ same n.
     (asserts_above show _ c.in-RemoveCue.above n
     (λ k. asserts_without show c.in-RemoveCue.cue k (sym c.asserts.ensures ∙ c.if-asserts.false))
     (c.changes_above-else-asserts.ensures same))
+
+pub returns-in-PlaceMove : goal.returns-in-PlaceMove
+returns-in-PlaceMove c = λ same n.
+    let show = c.args.show.now in
+    subst (λ (p : Plan). asserts show n ≡ asserts (planned show p) n) (sym c.in-PlaceMove.is)
+    (asserts_moved show c.in-PlaceMove.cue n c.in-PlaceMove.entry)

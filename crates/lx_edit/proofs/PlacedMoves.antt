@@ -1,0 +1,169 @@
+-- A cue with one of its moves replaced, and replaced back.
+use Rattle.std.proofs.Common.{◌≡◌, ℕ, ◌+◌, ◌-◌, ◌≤◌, false, List, [], ◌∷◌, Some, None, Ok, refl, ◌∙◌, sym, ap, subst, cond, arith, inl, inr}
+use Rattle.std.specs.Prelude.{Option, IsTrue, is_some, ◌||◌}
+use Rattle.std.specs.Option.{IsSomeAnd, option_map_or}
+use Rattle.std.specs.List.{range_with_len}
+use Rattle.std.proofs.lemmas.Bool.{cases_eq}
+use Rattle.lx_base.specs.Numbers.{Span}
+use Rattle.lx_spec.specs.declared.Edit.TheVariants.{Set}
+use Rattle.lx_spec.specs.declared.Move.{Move}
+use Rattle.lx_spec.specs.declared.Part.{Part}
+use Rattle.lx_spec.specs.SortedList.{entry_at, has_entry, placed}
+use Rattle.lx_spec.specs.Show.{Cue, Show, Valid, ValidCue, ValidMove}
+use Rattle.lx_spec.specs.TrackedLevel.{cue_of, move_in, tracked, asserts}
+use Rattle.lx_spec.specs.EditedShow.{with_cue, with_levels, all_at, channels_in, part_for, edited}
+use Rattle.lx_spec.proofs.Comparisons.{le_true}
+use Rattle.lx_spec.proofs.SortedLists.{entry_at-placed_here, entry_at-placed_other, found_number, found_valid}
+use Rattle.lx_edit.specs.declared.chan_set.ChanSet.{ChanSet}
+use Rattle.lx_edit.specs.declared.plans.Plan.TheVariants.{PlaceMove}
+use Rattle.lx_edit.specs.ChanSet.{has_chan}
+use Rattle.lx_edit.specs.Changing.{SameEntry}
+use Rattle.lx_edit.specs.Found.{FoundCue, GivenPart, IsWithin}
+use Rattle.lx_edit.specs.Planned.{with_move, with_move_in, CanMove, IsPlan}
+use Rattle.lx_edit.specs.Undone.{TakesBack}
+use Rattle.lx_edit.proofs.Asserted.{asserts_with}
+use Rattle.lx_edit.proofs.CueLevels.{part_there}
+use Rattle.lx_edit.proofs.SameLists.{exchanged, exchanged_back}
+
+-- the cue of the number, as a plan of a move has it
+pub record Moved (show : Show) (n : ℕ) (entry : Move) : Type 0 where
+  pub cue : Cue
+  pub found : cue_of show n ≡ Some cue
+  pub number : cue.number ≡ n
+  pub least : 1 ≤ cue.number
+  pub stands : IsTrue (is_some (cue_of show cue.number))
+
+moved_step : (show : Show) (n : ℕ) (entry : Move) (o : Option Cue) → Valid show → cue_of show n ≡ o
+    → IsSomeAnd o (λ cue. IsTrue (has_entry (λ m. m.chan) entry.chan cue.moves)) → Moved show n entry
+moved_step show n entry None valid is there = absurd there
+moved_step show n entry (Some cue) valid is there =
+    let number : n ≡ cue.number = found_number (λ (x : Cue). x.number) n show.cues cue is in
+    record {
+      cue = cue;
+      found = is;
+      number = sym number;
+      least = (found_valid (ValidCue show.channels) (λ (x : Cue). x.number) n show.cues cue valid.cues is).number.least;
+      stands = subst (λ k. IsTrue (is_some (cue_of show k))) number (subst (λ (o : Option Cue). IsTrue (is_some o)) (sym is) refl);
+    }
+
+pub moved : (show : Show) (n : ℕ) (entry : Move) → Valid show → CanMove show n entry → Moved show n entry
+moved show n entry valid ready = moved_step show n entry (cue_of show n) valid refl ready.there
+
+-- what the cue had of the channel
+pub was_there : (show : Show) (n : ℕ) (entry old : Move) (cue : Cue) → cue_of show n ≡ Some cue
+    → IsSomeAnd (cue_of show n) (λ x. move_in x entry.chan ≡ Some old) → move_in cue entry.chan ≡ Some old
+was_there show n entry old cue found replaced =
+    subst (λ (o : Option Cue). IsSomeAnd o (λ x. move_in x entry.chan ≡ Some old)) found replaced
+
+-- the show is the one with the changed cue
+pub moved_is : (show : Show) (n : ℕ) (entry : Move) (cue : Cue) → cue_of show n ≡ Some cue
+    → with_move_in show n entry ≡ with_cue show (with_move cue entry)
+moved_is show n entry cue is = ap (λ (o : Option Cue). record show
+    { cues = option_map_or (λ (x : Cue). placed (λ (y : Cue). y.number) (with_move x entry) show.cues) o show.cues }) is
+
+nothing_moved : (show : Show) (n : ℕ) (entry : Move) → cue_of show n ≡ None → with_move_in show n entry ≡ show
+nothing_moved show n entry is = ap (λ (o : Option Cue). record show
+    { cues = option_map_or (λ (x : Cue). placed (λ (y : Cue). y.number) (with_move x entry) show.cues) o show.cues }) is
+
+-- the same cues are asserted
+asserts_step : (show : Show) (n k : ℕ) (entry : Move) (o : Option Cue) → cue_of show n ≡ o
+    → asserts show k ≡ asserts (with_move_in show n entry) k
+asserts_step show n k entry None is = sym (ap (λ (s : Show). asserts s k) (nothing_moved show n entry is))
+asserts_step show n k entry (Some cue) is =
+    let number : n ≡ cue.number = found_number (λ (x : Cue). x.number) n show.cues cue is in
+    let flag : asserts show cue.number ≡ cue.asserted =
+    ap (λ j. asserts show j) (sym number) ∙ ap (λ (o : Option Cue). option_map_or (λ (x : Cue). x.asserted) o false) is in
+    asserts_with show (with_move cue entry) k flag ∙ sym (ap (λ (s : Show). asserts s k) (moved_is show n entry cue is))
+
+pub asserts_moved : (show : Show) (n k : ℕ) (entry : Move) → asserts show k ≡ asserts (with_move_in show n entry) k
+asserts_moved show n k entry = asserts_step show n k entry (cue_of show n) refl
+
+-- the channel of the move is the only one that may see a difference
+same_of : (cue : Cue) (entry : Move) (c base : ℕ) → move_in cue c ≡ move_in (with_move cue entry) c
+    → SameEntry (Some cue) (Some (with_move cue entry)) c base
+same_of cue entry c base same = record {
+  moves = same;
+  level = ap (λ (m : Option Move). cond (cue.block || is_some m) (option_map_or (λ x. x.level) m 0) base) same;
+}
+
+pub sees_moved : (show : Show) (n : ℕ) (entry old : Move) (cue : Cue) (chans : ChanSet) → cue_of show n ≡ Some cue
+    → move_in cue entry.chan ≡ Some old → (has_chan chans entry.chan ≡ false → ◌≡◌ {A = Option Move} (Some old) (Some entry))
+    → (c : ℕ) → has_chan chans c ≡ false → SameEntry (cue_of show n) (Some (with_move cue entry)) c (tracked show (n - 1) c)
+sees_moved show n entry old cue chans found was marked c out =
+    let same : move_in cue c ≡ move_in (with_move cue entry) c = elim (cases_eq c entry.chan) [
+      | inl here ↦ subst (λ k. move_in cue k ≡ move_in (with_move cue entry) k) (sym here)
+          (was ∙ marked (subst (λ k. has_chan chans k ≡ false) here out)
+          ∙ sym (entry_at-placed_here (λ (m : Move). m.chan) entry.chan entry cue.moves refl))
+      | inr other ↦ sym (entry_at-placed_other (λ (m : Move). m.chan) c entry cue.moves (λ is. other (sym is)))
+    ] in
+    subst (λ (o : Option Cue). SameEntry o (Some (with_move cue entry)) c (tracked show (n - 1) c)) (sym found)
+    (same_of cue entry c (tracked show (n - 1) c) same)
+
+-- the move that was there, placed again
+pub move_back : (show after : Show) (n : ℕ) (entry old : Move) (cue : Cue) → Valid show → after ≡ with_move_in show n entry
+    → CanMove show n entry → cue_of show n ≡ Some cue → move_in cue entry.chan ≡ Some old → TakesBack show after (PlaceMove n old)
+move_back show after n entry old cue valid is ready found was =
+    let number : n ≡ cue.number = found_number (λ (x : Cue). x.number) n show.cues cue found in
+    let chan : entry.chan ≡ old.chan = found_number (λ (m : Move). m.chan) entry.chan cue.moves old was in
+    let new : Cue = with_move cue entry in
+    let one : Show = with_cue show new in
+    let here : cue_of one n ≡ Some new = entry_at-placed_here (λ (x : Cue). x.number) n new show.cues (sym number) in
+    let whole : ValidCue show.channels cue =
+    found_valid (ValidCue show.channels) (λ (x : Cue). x.number) n show.cues cue valid.cues found in
+    let fits : ValidMove show.channels cue.parts old =
+    found_valid (ValidMove show.channels cue.parts) (λ (m : Move). m.chan) entry.chan cue.moves old whole.moves was in
+    let moves : placed (λ (m : Move). m.chan) old new.moves ≡ cue.moves =
+    subst (λ (o : Option Move). exchanged (λ (m : Move). m.chan) entry.chan o new.moves ≡ cue.moves) was
+    (exchanged_back (λ (m : Move). m.chan) entry.chan (Some entry) cue.moves whole.moves_sorted refl) in
+    let cues : placed (λ (x : Cue). x.number) cue one.cues ≡ show.cues =
+    subst (λ (o : Option Cue). exchanged (λ (x : Cue). x.number) n o one.cues ≡ show.cues) found
+    (exchanged_back (λ (x : Cue). x.number) n (Some new) show.cues valid.cues_sorted (sym number)) in
+    let placed_here : entry_at (λ (m : Move). m.chan) old.chan new.moves ≡ Some entry =
+    entry_at-placed_here (λ (m : Move). m.chan) old.chan entry cue.moves chan in
+    let all : TakesBack show one (PlaceMove n old) = record {
+      ready = record {
+        chan = fits.chan.most;
+        part = subst (λ (o : Option Cue). IsSomeAnd o (λ x. IsTrue (has_entry (λ p. p.number) old.part x.parts))) (sym here) fits.part;
+        there = subst (λ (o : Option Cue). IsSomeAnd o (λ x. IsTrue (has_entry (λ m. m.chan) old.chan x.moves))) (sym here)
+            (subst (λ (o : Option Move). IsTrue (is_some o)) (sym placed_here) refl);
+      };
+      back = moved_is one n old new here ∙ ap (λ (ms : List Move). with_cue one (record cue { moves = ms })) moves
+          ∙ ap (λ (xs : List Cue). record show { cues = xs }) cues;
+    } in
+    subst (λ (s : Show). TakesBack show s (PlaceMove n old)) (sym (is ∙ moved_is show n entry cue found)) all
+
+one_channel : (first last : ℕ) → first ≡ last → range_with_len first (last + 1 - first) ≡ first ∷ []
+one_channel first last same =
+    let one : last + 1 - first ≡ 1 = omega (arith, same) in
+    ap (range_with_len first) one
+
+-- one channel that the cue moves already, at another level
+pub set_one : (show : Show) (n level : ℕ) (cue : Cue) (given part : Option ℕ) (range : Span) (entry : Move) → FoundCue show n cue
+    → GivenPart cue given part → IsWithin show.channels range → range.first ≡ range.last
+    → entry ≡ record { chan = range.first; part = part_for part cue range.first; level = level }
+    → IsTrue (has_entry (λ m. m.chan) entry.chan cue.moves) → IsPlan show (Set n given range level false) (PlaceMove n entry)
+set_one show n level cue given part range entry here is_part within one is there =
+    let le = le_true range.last show.channels within.most in
+    let meant : Move = record { chan = range.first; part = part_for given cue range.first; level = level } in
+    let made : edited show (Set n given range level false) ≡ Ok (with_cue show (with_levels given cue (all_at level (channels_in range)))) =
+    rw (here.found, is_part.is, le) refl in
+    let entry_is : entry ≡ meant = is
+    ∙ ap (λ (p : Option ℕ). record { chan = range.first; part = part_for p cue range.first; level = level }) is_part.same in
+    let chan : entry.chan ≡ range.first = ap (λ (m : Move). m.chan) is in
+    let has_part : IsTrue (has_entry (λ (p : Part). p.number) entry.part cue.parts) =
+    subst (λ (m : Move). IsTrue (has_entry (λ (p : Part). p.number) m.part cue.parts)) (sym entry_is)
+    (part_there show.channels cue given range.first here.valid is_part.there) in
+    let most : range.last ≤ show.channels = within.most in
+    record {
+      makes = made
+          ∙ ap (λ (cs : List ℕ). Ok (with_cue show (with_levels given cue (all_at level cs)))) (one_channel range.first range.last one)
+          ∙ ap (λ (m : Move). Ok (with_cue show (with_move cue m))) (sym entry_is)
+          ∙ ap Ok (sym (moved_is show n entry cue here.found));
+      ready = record {
+        chan = omega (arith, chan, one, most);
+        part = subst (λ (o : Option Cue). IsSomeAnd o (λ x. IsTrue (has_entry (λ p. p.number) entry.part x.parts))) (sym here.found) has_part;
+        there = subst (λ (o : Option Cue). IsSomeAnd o (λ x. IsTrue (has_entry (λ m. m.chan) entry.chan x.moves))) (sym here.found) there;
+      };
+      dimmer = refl;
+      subs = refl;
+    }
