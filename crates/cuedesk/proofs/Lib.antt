@@ -12,3 +12,5 @@ mod DashedWords
 mod WordsTaken
 mod LiveRuns
 mod LiveEnds
+mod CrewRuns
+mod CrewEnds

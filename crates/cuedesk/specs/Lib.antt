@@ -8,3 +8,4 @@ pub mod Output
 pub mod Refused
 pub mod Words
 pub mod Live
+pub mod Crew
