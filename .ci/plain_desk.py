@@ -598,6 +598,14 @@ def versions(data, universe):
     return out
 
 
+def crew_text(data, entries):
+    """The transcript of a crew over a show. Each entry is an operator, the number of its line and the line."""
+    lines, reader = lines_of(data), Reader()
+    reader.read(lines, "moves")
+    script = Script(Desk(reader.show))
+    return b"".join(f"op {operator} {number}\n".encode() + script.answer([line]) for operator, number, line in entries)
+
+
 def output(words, data):
     """The status and the output of a job over an input that is within its limit."""
     lines, reader = lines_of(data), Reader()

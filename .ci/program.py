@@ -16,6 +16,7 @@ import sys
 import tempfile
 import time
 
+import crews
 import plain_desk
 import refusals
 import walks
@@ -64,11 +65,12 @@ def made(words, output, **special):
 
 
 def job_cases():
-    """The words of `make` and `run`. What the greater numbers come to was worked out by a desk that was written apart, from the same rules."""
+    """Words that name no job, and runs of `make`. What the greater numbers come to was worked out by a desk that was written apart, from the same rules."""
     wrong = [("make",), ("make", "0"), ("make", "4001"), ("make", "01"), ("make", "1", "2"), ("make", "+1"), ("make", "-1"),
              ("make", "1x"), ("make", ""), ("make", "4294967297"), ("make", "1", "states"), ("run",), ("run", "0"), ("run", "33"),
              ("run", "01"), ("run", "1", "moves"), ("run", "states"), ("undo", "moves"), ("undo", "1"), ("Undo",),
-             ("undo", "states", "states"), ("two", "moves"), ("two", "2"), ("TWO",), ("render", "-"), ("check", "--"), ("-h",),
+             ("undo", "states", "states"), ("crew",), ("crew", "0"), ("crew", "5"), ("crew", "01"), ("crew", "1", "moves"), ("crew", "states"),
+             ("Crew", "1"), ("crew", "1", "states", "states"), ("two", "moves"), ("two", "2"), ("TWO",), ("render", "-"), ("check", "--"), ("-h",),
              ("help",), ("--version",)]
     return [made(words, "", status=2, error=USAGE) for words in wrong] + [
         made(("make", "1"), "cues 1\nmoment 174\nok 3\nrefused 0\nsum 127\n"),
@@ -655,6 +657,7 @@ def main():
     cases = edge_cases() + limit_cases() + great_cases() + kept_cases() + assert_cases() + undo_cases() + two_cases() + reading_cases()
     runs = [(case.name, lambda case=case: wrong_in(program, case)) for case in cases]
     runs += [(each.__name__.replace("_", " "), lambda each=each: each(program)) for each in TALKS]
+    runs += [(f"crew: {each.__name__.replace('_', ' ')}", lambda each=each: each(program)) for each in crews.CREWS]
     runs += [(name, lambda inputs=inputs: walks.wrong_in_table(program, inputs)[1]) for name, inputs in walks.tables(WALKS, 1)]
     passed = failed = 0
     for name, run in runs:
