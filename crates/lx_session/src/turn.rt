@@ -150,7 +150,11 @@ impl Turn {
 }
 
 /// The refusal of a command, if it is refused.
-pub(crate) fn try_command(command: &Command, console: &mut Console, admitted: bool) -> Option<Refusal>
+pub(crate) fn try_command(
+    command: &Command,
+    console: &mut Console,
+    admitted: bool,
+) -> Option<Refusal>
     requires { ValidCommand command.now }
     ensures attempted { (d : Desk) → StandsFor d console.old → Attempted admitted d command.now result console.new }
     ensures admitted { is_none result ≡ true → admitted ≡ true }
