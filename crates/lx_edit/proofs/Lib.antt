@@ -9,4 +9,5 @@ pub mod KeptRows
 pub mod Asserted
 pub mod SameLists
 pub mod TakenBack
+pub mod NothingKept
 pub mod PlacedMoves

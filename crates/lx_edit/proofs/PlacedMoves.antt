@@ -1,6 +1,6 @@
 -- A cue with one of its moves replaced, and replaced back.
-use Rattle.std.proofs.Common.{◌≡◌, ℕ, ◌+◌, ◌-◌, ◌≤◌, false, List, [], ◌∷◌, Some, None, Ok, refl, ◌∙◌, sym, ap, subst, cond, arith, inl, inr}
-use Rattle.std.specs.Prelude.{Option, IsTrue, is_some, ◌||◌}
+use Rattle.std.proofs.Common.{◌≡◌, ℕ, ◌+◌, ◌-◌, ◌≤◌, false, List, [], ◌∷◌, Some, None, Ok, refl, ◌∙◌, sym, ap, subst, cond, arith, inl, inr, Bool, true}
+use Rattle.std.specs.Prelude.{Option, IsTrue, IfSome, is_some, ◌||◌}
 use Rattle.std.specs.Option.{IsSomeAnd, option_map_or}
 use Rattle.std.specs.List.{range_with_len}
 use Rattle.std.proofs.lemmas.Bool.{cases_eq}
@@ -10,8 +10,8 @@ use Rattle.lx_spec.specs.declared.Move.{Move}
 use Rattle.lx_spec.specs.declared.Part.{Part}
 use Rattle.lx_spec.specs.SortedList.{entry_at, has_entry, placed}
 use Rattle.lx_spec.specs.Show.{Cue, Show, Valid, ValidCue, ValidMove}
-use Rattle.lx_spec.specs.TrackedLevel.{cue_of, move_in, tracked, asserts}
-use Rattle.lx_spec.specs.EditedShow.{with_cue, with_levels, all_at, channels_in, part_for, edited}
+use Rattle.lx_spec.specs.TrackedLevel.{cue_of, cue_above, decides, move_in, tracked, asserts}
+use Rattle.lx_spec.specs.EditedShow.{with_cue, with_levels, all_at, channels_in, cue_only, part_for, edited}
 use Rattle.lx_spec.proofs.Comparisons.{le_true}
 use Rattle.lx_spec.proofs.SortedLists.{entry_at-placed_here, entry_at-placed_other, found_number, found_valid}
 use Rattle.lx_edit.specs.declared.chan_set.ChanSet.{ChanSet}
@@ -23,6 +23,7 @@ use Rattle.lx_edit.specs.Planned.{with_move, with_move_in, CanMove, IsPlan}
 use Rattle.lx_edit.specs.Undone.{TakesBack}
 use Rattle.lx_edit.proofs.Asserted.{asserts_with}
 use Rattle.lx_edit.proofs.CueLevels.{part_there}
+use Rattle.lx_edit.proofs.NothingKept.{nothing_kept}
 use Rattle.lx_edit.proofs.SameLists.{exchanged, exchanged_back}
 
 -- the cue of the number, as a plan of a move has it
@@ -137,15 +138,24 @@ one_channel first last same =
     let one : last + 1 - first ≡ 1 = omega (arith, same) in
     ap (range_with_len first) one
 
+only_step : (only : Bool) (show : Show) (n : ℕ) (cue : Cue) (entry : Move) → Valid show → FoundCue show n cue
+    → (only ≡ true → IfSome (cue_above show n) (λ above. decides above entry.chan ≡ true))
+    → cue_only only show n (with_cue show (with_move cue entry)) ≡ with_cue show (with_move cue entry)
+only_step true show n cue entry valid here apart = nothing_kept show n cue entry valid here (apart refl)
+only_step false show n cue entry valid here apart = refl
+
 -- one channel that the cue moves already, at another level
-pub set_one : (show : Show) (n level : ℕ) (cue : Cue) (given part : Option ℕ) (range : Span) (entry : Move) → FoundCue show n cue
-    → GivenPart cue given part → IsWithin show.channels range → range.first ≡ range.last
+pub set_one : (show : Show) (n level : ℕ) (cue : Cue) (given part : Option ℕ) (range : Span) (only : Bool) (entry : Move) → Valid show
+    → FoundCue show n cue → GivenPart cue given part → IsWithin show.channels range → range.first ≡ range.last
     → entry ≡ record { chan = range.first; part = part_for part cue range.first; level = level }
-    → IsTrue (has_entry (λ m. m.chan) entry.chan cue.moves) → IsPlan show (Set n given range level false) (PlaceMove n entry)
-set_one show n level cue given part range entry here is_part within one is there =
+    → IsTrue (has_entry (λ m. m.chan) entry.chan cue.moves)
+    → (only ≡ true → IfSome (cue_above show n) (λ above. decides above range.first ≡ true))
+    → IsPlan show (Set n given range level only) (PlaceMove n entry)
+set_one show n level cue given part range only entry valid here is_part within one is there apart =
     let le = le_true range.last show.channels within.most in
     let meant : Move = record { chan = range.first; part = part_for given cue range.first; level = level } in
-    let made : edited show (Set n given range level false) ≡ Ok (with_cue show (with_levels given cue (all_at level (channels_in range)))) =
+    let made : edited show (Set n given range level only)
+    ≡ Ok (cue_only only show n (with_cue show (with_levels given cue (all_at level (channels_in range))))) =
     rw (here.found, is_part.is, le) refl in
     let entry_is : entry ≡ meant = is
     ∙ ap (λ (p : Option ℕ). record { chan = range.first; part = part_for p cue range.first; level = level }) is_part.same in
@@ -156,8 +166,10 @@ set_one show n level cue given part range entry here is_part within one is there
     let most : range.last ≤ show.channels = within.most in
     record {
       makes = made
-          ∙ ap (λ (cs : List ℕ). Ok (with_cue show (with_levels given cue (all_at level cs)))) (one_channel range.first range.last one)
-          ∙ ap (λ (m : Move). Ok (with_cue show (with_move cue m))) (sym entry_is)
+          ∙ ap (λ (cs : List ℕ). Ok (cue_only only show n (with_cue show (with_levels given cue (all_at level cs)))))
+          (one_channel range.first range.last one)
+          ∙ ap (λ (m : Move). Ok (cue_only only show n (with_cue show (with_move cue m)))) (sym entry_is)
+          ∙ ap Ok (only_step only show n cue entry valid here (subst (λ k. only ≡ true → IfSome (cue_above show n) (λ above. decides above k ≡ true)) (sym chan) apart))
           ∙ ap Ok (sym (moved_is show n entry cue here.found));
       ready = record {
         chan = omega (arith, chan, one, most);

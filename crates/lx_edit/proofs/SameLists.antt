@@ -12,10 +12,10 @@ use Rattle.lx_edit.proofs.ChangedColumns.{gone, stays}
 none_low : {A : Type 0} (key : A → ℕ) (n : ℕ) (xs : List A) → AllByRecursion (λ y. n < key y) xs → entry_at key n xs ≡ None
 none_low key n xs all = find_none _ xs (each _ _ xs (λ y h. eq_above (key y) n h) all)
 
-first_here : {A : Type 0} (key : A → ℕ) (n : ℕ) (x : A) (xs : List A) → key x ≡ n → entry_at key n (x ∷ xs) ≡ Some x
+pub first_here : {A : Type 0} (key : A → ℕ) (n : ℕ) (x : A) (xs : List A) → key x ≡ n → entry_at key n (x ∷ xs) ≡ Some x
 first_here key n x xs is = rw (eq_true (key x) n is) refl
 
-first_other : {A : Type 0} (key : A → ℕ) (n : ℕ) (x : A) (xs : List A) → (key x ≡ n → ⊥) → entry_at key n (x ∷ xs) ≡ entry_at key n xs
+pub first_other : {A : Type 0} (key : A → ℕ) (n : ℕ) (x : A) (xs : List A) → (key x ≡ n → ⊥) → entry_at key n (x ∷ xs) ≡ entry_at key n xs
 first_other key n x xs other = rw (eq_other (key x) n other) refl
 
 none_lower : {A : Type 0} (key : A → ℕ) (n : ℕ) (y : A) (ys : List A) → n < key y → AllByRecursion (λ z. key y < key z) ys
@@ -23,7 +23,7 @@ none_lower : {A : Type 0} (key : A → ℕ) (n : ℕ) (y : A) (ys : List A) → 
 none_lower key n y ys low all =
     none_low key n (y ∷ ys) (low, each (λ z. key y < key z) (λ z. n < key z) ys (λ z h. omega (arith, h, low)) all)
 
-some_same : {A : Type 0} (x y : A) → ◌≡◌ {A = Option A} (Some x) (Some y) → x ≡ y
+pub some_same : {A : Type 0} (x y : A) → ◌≡◌ {A = Option A} (Some x) (Some y) → x ≡ y
 some_same x y is = cc
 
 pub same_lists : {A : Type 0} (key : A → ℕ) (xs ys : List A) → IsStrictlySorted key xs → IsStrictlySorted key ys

@@ -1,6 +1,7 @@
 //! Edits of a cue's levels: channels set to a level, a group set, and channels released.
 
-ghost use Rattle.std.specs.Prelude.{◌≡◌, ℕ, IfOk, IfSome, IsTrue};
+ghost use Rattle.std.specs.Prelude.{◌≡◌, ℕ, IfOk, IfSome, IsTrue, true};
+ghost use Rattle.lx_spec.specs.TrackedLevel.{cue_above, decides};
 ghost use Rattle.lx_spec.specs.SortedList.{has_entry};
 ghost use Rattle.lx_spec.specs.Show.{ValidCue};
 ghost use Rattle.lx_spec.specs.EditedShow.{part_for, without_moves};
@@ -10,7 +11,7 @@ use crate::absent::{channel, the_channels, the_cue, the_given_part, the_group, t
 use crate::kept::place;
 use crate::moves::{all_at, in_proportion, with_levels};
 use crate::plans::Plan;
-use lx_base::{ChanRange, CueNo, GroupNo, Level, PartNo};
+use lx_base::{Chan, ChanRange, CueNo, GroupNo, Level, PartNo};
 use lx_show::{Cue, Edit, Move, Refusal, Show};
 use std::alloc::{AllocError, Global};
 
@@ -26,13 +27,12 @@ pub(crate) fn set(
 ) -> Result<Plan, Refusal>
     ensures { Plans show.now (Edit.Set n part range level only) result }
 {
+    let _ = show.channels();
     let old = the_cue(show, n)?;
     let part = the_given_part(old, part)?;
     the_channels(show, range)?;
-    if !only {
-        if let Some(entry) = other_move(old, part, range, level) {
-            return Ok(Plan::PlaceMove { cue: n, entry });
-        }
+    if let Some(entry) = move_alone(show, n, old, part, range, level, only) {
+        return Ok(Plan::PlaceMove { cue: n, entry });
     }
     let members = all_at(alloc, range, level)?;
     let cue = with_levels(alloc, show.channels(), old, part, members.as_slice())?;
@@ -55,6 +55,38 @@ fn other_move(cue: &Cue, part: Option<PartNo>, range: ChanRange, level: Level) -
         part: part.unwrap_or(old.part),
         level,
     })
+}
+
+/// The move that is all that the edit changes: that of the range's one channel, of which the cue has one; and cue only, where
+/// nothing of it is seen at the cue above.
+fn move_alone(
+    show: &Show,
+    n: CueNo,
+    cue: &Cue,
+    part: Option<PartNo>,
+    range: ChanRange,
+    level: Level,
+    only: bool,
+) -> Option<Move>
+    ensures one { IfSome result (λ _. range.first ≡ range.last) }
+    ensures entry { IfSome result (λ entry. entry ≡ record { chan = range.first; part = part_for part cue.now range.first; level = level }) }
+    ensures there { IfSome result (λ entry. IsTrue (has_entry (λ m. m.chan) entry.chan cue.now.moves)) }
+    ensures apart { IfSome result (λ _. only ≡ true → IfSome (cue_above show.now n) (λ above. decides above range.first ≡ true)) }
+{
+    if only && !ends_above(show, n, range.first()) {
+        return None;
+    }
+    other_move(cue, part, range, level)
+}
+
+/// The cue above, where there is one, decides the channel: whatever the cue moves it to ends there.
+fn ends_above(show: &Show, n: CueNo, c: Chan) -> bool
+    ensures { result ≡ true → IfSome (cue_above show.now n) (λ above. decides above c ≡ true) }
+{
+    match show.cue_above(n) {
+        Some(above) => above.decides(c),
+        None => true,
+    }
 }
 
 /// The members of the group move to their levels in proportion to this one.

@@ -1,11 +1,8 @@
-use Rattle.std.proofs.Common.{◌≡◌, ◌∙◌, ◌+◌, ◌-◌, ◌≤◌, sym, subst, ℕ, Bool, false, List, arith, rules}
+use Rattle.std.proofs.Common.{◌≡◌, ◌∙◌, ◌+◌, ◌-◌, ◌≤◌, sym, subst, ℕ, List, arith}
 use Rattle.std.specs.List.{AllByRecursion}
 use Rattle.lx_spec.specs.declared.Member.{Member}
 use Rattle.lx_edit.specs.Found.{IsWithin}
 use Rattle.lx_edit.proofs.CueLevels.{levels_within}
-use Rattle.lx_spec.specs.declared.Edit.TheVariants.{Set}
-use Rattle.lx_edit.specs.declared.plans.Plan.TheVariants.{PlaceMove}
-use Rattle.lx_edit.specs.Planned.{IsPlan}
 use Rattle.lx_edit.proofs.PlacedMoves.{set_one}
 use Rattle.lx_edit.proofs.levels.set.Goals as goal
 
@@ -17,16 +14,13 @@ with_levels-requires-clause-channels c =
     let within : IsWithin channels c.args.range = c.in_ok-the_channels.ensures in
     let order : first ≤ last = within.order in
     let most : last ≤ channels = within.most in
-    subst (λ (n : ℕ). AllByRecursion (λ (m : Member). m.chan ≤ n) c.as_slice.result.now) (sym c.channels.ensures.channels)
+    subst (λ (n : ℕ). AllByRecursion (λ (m : Member). m.chan ≤ n) c.as_slice.result.now) (sym c.channels-2.ensures.channels)
     (subst (λ (ms : List Member). AllByRecursion (λ (m : Member). m.chan ≤ channels) ms)
     (sym (c.as_slice.ensures.value ∙ c.in_ok-members.ensures))
     (levels_within c.args.level first (last + 1 - first) channels (omega (arith, order, most))))
 
 pub returns-in-Some : goal.returns-in-Some
 returns-in-Some c =
-    let always : c.args.only ≡ false = search rules in
-    subst (λ (b : Bool). IsPlan c.args.show.now (Set c.args.n c.args.part c.args.range c.args.level b) (PlaceMove c.args.n c.in-Some.entry))
-    (sym always)
-    (set_one c.args.show.now c.args.n c.args.level c.in_ok-old.old.now c.args.part c.in_ok-part.part c.args.range c.in-Some.entry
-    c.in_ok-old.ensures c.in_ok-part.ensures c.in_ok-the_channels.ensures c.in-Some.ensures.one c.in-Some.ensures.entry
-    c.in-Some.ensures.there)
+    set_one c.args.show.now c.args.n c.args.level c.in_ok-old.old.now c.args.part c.in_ok-part.part c.args.range c.args.only c.in-Some.entry
+    c.channels.ensures.valid c.in_ok-old.ensures c.in_ok-part.ensures c.in_ok-the_channels.ensures c.in-Some.ensures.one
+    c.in-Some.ensures.entry c.in-Some.ensures.there c.in-Some.ensures.apart

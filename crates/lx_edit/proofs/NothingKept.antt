@@ -1,0 +1,94 @@
+-- Cue only, where the cue above decides the one channel that a move changes: nothing has to be kept there.
+use Rattle.std.proofs.Common.{◌≡◌, ℕ, ◌-◌, ◌<◌, ◌≤◌, Bool, true, false, cond, List, [], ◌∷◌, Some, None, Ok, refl, ◌∙◌, sym, ap, subst, arith, inl, inr, map}
+use Rattle.std.specs.Prelude.{Option, IfSome, find, filter, is_some, not, ◌==◌, ◌||◌, unwrap_or, nat_lt}
+use Rattle.std.specs.Option.{option_map_or}
+use Rattle.std.specs.List.{AllByRecursion}
+use Rattle.std.proofs.lemmas.Bool.{cases_eq}
+use Rattle.lx_spec.specs.declared.Move.{Move}
+use Rattle.lx_spec.specs.SortedList.{IsStrictlySorted, entry_at, placed}
+use Rattle.lx_spec.specs.Show.{Cue, Show, Valid}
+use Rattle.lx_spec.specs.TrackedLevel.{cue_of, cue_above, decides, level_in, move_in, tracked}
+use Rattle.lx_spec.specs.EditedShow.{with_cue, with_moves, cue_only, kept_above, channels_of}
+use Rattle.lx_spec.proofs.Lists.{find_has}
+use Rattle.lx_spec.proofs.SortedLists.{IsStrictlySorted-placed, entry_at-placed_other, placed_same}
+use Rattle.lx_edit.specs.Found.{FoundCue}
+use Rattle.lx_edit.specs.Kept.{decided}
+use Rattle.lx_edit.specs.Planned.{with_move}
+use Rattle.lx_edit.proofs.KeptLevels.{above-before, above-changed, above_higher, cue_above-changed, cue_least, none_through, same_through}
+use Rattle.lx_edit.proofs.SameLists.{first_here, first_other, some_same}
+use Rattle.lx_spec.proofs.SortedLists.{entry_at-placed_here}
+
+none_is : {A : Type 0} (x : A) → ◌≡◌ {A = Option A} None (Some x) → ⊥
+none_is x is = cc
+
+found_step : {A : Type 0} (key : A → ℕ) (p : A → Bool) (x y : A) (ys : List A) (b : Bool) → IsStrictlySorted key (y ∷ ys)
+    → cond b (Some y) (find p ys) ≡ Some x → (find p ys ≡ Some x → entry_at key (key x) ys ≡ Some x)
+    → entry_at key (key x) (y ∷ ys) ≡ Some x
+found_step key p x y ys true sorted is rest =
+    subst (λ z. entry_at key (key z) (y ∷ ys) ≡ Some z) (some_same y x is) (first_here key (key y) y ys refl)
+found_step {A} key p x y ys false sorted is rest =
+    let more : key y < key x =
+    subst (λ (o : Option A). IfSome o (λ z. key y < key z)) is (find_has (λ z. key y < key z) p ys sorted.0) in
+    first_other key (key x) y ys (λ same. omega (arith, more, same)) ∙ rest is
+
+-- what is found is the entry of its number
+found_entry : {A : Type 0} (key : A → ℕ) (p : A → Bool) (x : A) (xs : List A) → IsStrictlySorted key xs → find p xs ≡ Some x
+    → entry_at key (key x) xs ≡ Some x
+found_entry key p x [] sorted is = absurd (none_is x is)
+found_entry key p x (y ∷ ys) sorted is = found_step key p x y ys (p y) sorted is (λ h. found_entry key p x ys sorted.1 h)
+
+none_pass : {A : Type 0} (test : A → Bool) → ((x : A) → false ≡ test x) → (xs : List A) → filter test xs ≡ []
+none_pass test all [] = refl
+none_pass {A} test all (x ∷ xs) = ap (λ b. cond b (x ∷ filter test xs) (filter test xs)) (sym (all x)) ∙ none_pass test all xs
+
+-- no channel has another level at the cue above
+same_above : (show : Show) (n : ℕ) (cue above : Cue) (entry : Move) → Valid show → FoundCue show n cue → cue_above show n ≡ Some above
+    → decides above entry.chan ≡ true
+    → (c : ℕ) → false ≡ not (tracked show above.number c == tracked (with_cue show (with_move cue entry)) above.number c)
+same_above show n cue above entry valid here is decided_there c =
+    let new : Cue = with_move cue entry in
+    let base = tracked show (n - 1) c in
+    let least = cue_least show n cue here in
+    let before = above-before show n cue above c valid.cues_sorted least here is in
+    let after = above-changed show n (Some new) above c valid.cues_sorted least here.number is in
+    elim (cases_eq c entry.chan) [
+      | inl at ↦ same_through (decides above c) (level_in above c) _ _ _ _ before after
+          (subst (λ k. decides above k ≡ true) (sym at) decided_there)
+      | inr other ↦
+          let same : move_in new c ≡ move_in cue c =
+          entry_at-placed_other (λ (m : Move). m.chan) c entry cue.moves (λ h. other (sym h)) in
+          let level : decided new c ≡ decided cue c = ap (λ (o : Option Move).
+          cond (cue.block || is_some o) (Some (option_map_or (λ m. m.level) o 0)) None) same in
+          none_through (decides above c) (level_in above c) (unwrap_or (decided cue c) base) _ _ before
+          (after ∙ ap (λ (o : Option ℕ). cond (decides above c) (level_in above c) (unwrap_or o base)) level)
+    ]
+
+kept_step : (show : Show) (n : ℕ) (cue : Cue) (entry : Move) (o : Option Cue) → Valid show → FoundCue show n cue → cue_above show n ≡ o
+    → IfSome o (λ above. decides above entry.chan ≡ true)
+    → cue_only true show n (with_cue show (with_move cue entry)) ≡ with_cue show (with_move cue entry)
+kept_step show n cue entry None valid here is apart =
+    let after : Show = with_cue show (with_move cue entry) in
+    ap (λ (o : Option Cue). option_map_or (kept_above show after) o after)
+    (cue_above-changed show n (Some (with_move cue entry)) here.number ∙ is)
+kept_step show n cue entry (Some above) valid here is apart =
+    let new : Cue = with_move cue entry in
+    let after : Show = with_cue show new in
+    let key : Cue → ℕ = λ x. x.number in
+    let higher : n < above.number = above_higher show n above is in
+    let number : new.number ≡ n = here.number in
+    let there : entry_at key above.number after.cues ≡ Some above =
+    entry_at-placed_other key above.number new show.cues (λ h. omega (arith, h, number, higher))
+    ∙ found_entry key (λ x. nat_lt n x.number) above show.cues valid.cues_sorted is in
+    let none = none_pass (λ c. not (tracked show above.number c == tracked after above.number c))
+    (same_above show n cue above entry valid here is apart) (channels_of show) in
+    ap (λ (o : Option Cue). option_map_or (kept_above show after) o after) (cue_above-changed show n (Some new) number ∙ is)
+    ∙ ap (λ (cs : List ℕ). with_cue after (with_moves above
+    (map (λ c. record { chan = c; part = 1; level = tracked show above.number c }) cs))) none
+    ∙ ap (λ (cues : List Cue). record show { cues = cues })
+    (placed_same key above after.cues (IsStrictlySorted-placed key new show.cues valid.cues_sorted) there)
+
+-- so the edit is the same as without the cue above
+pub nothing_kept : (show : Show) (n : ℕ) (cue : Cue) (entry : Move) → Valid show → FoundCue show n cue
+    → IfSome (cue_above show n) (λ above. decides above entry.chan ≡ true)
+    → cue_only true show n (with_cue show (with_move cue entry)) ≡ with_cue show (with_move cue entry)
+nothing_kept show n cue entry valid here apart = kept_step show n cue entry (cue_above show n) valid here refl apart
