@@ -26,16 +26,12 @@ mod words;
 pub use crew::desk_crew;
 pub use desk::{Status, desk};
 pub use live::desk_live;
-use lx_io::{Sink, Source, StdSink, StdSource};
+use lx_io::{Sink, StdSink, StdSource};
 use lx_spec::Job;
 use operators::scripts;
 use std::alloc::Global;
-use std::fs::File;
 use std::io::BufWriter;
 use std::process::ExitCode;
-use std::rt::{Clock, Files};
-use std::sync::Wait;
-use std::thread::Threads;
 use std::{env, io};
 use universes::{DeskPace, files};
 pub use words::{WordsFault, words_of};
@@ -87,26 +83,9 @@ fn end(rt: &HostRuntime, status: Status) -> ExitCode {
     ExitCode::from(exit_of(status))
 }
 
-/// Does a job that runs beside threads: a crew over the operators' files, or a live run with the universes' files as outlets.
-fn beside_threads<
-    R: Threads + Wait + Clock + Files<File = File> + Sync,
-    S: Source + Send,
-    K: Sink + Send,
->(rt: &R, alloc: Global, words: &[String], input: &mut S, output: &mut K) -> Status {
-    match words_of(alloc, words) {
-        Ok(Job::Crew(..)) => { desk_crew(rt, alloc, words, input, output, &mut scripts(rt, alloc)) }
-        _ => {
-            desk_live(
-                rt,
-                alloc,
-                words,
-                input,
-                output,
-                &mut files(rt, alloc),
-                &DeskPace::new(rt),
-            )
-        }
-    }
+/// Whether the words name a crew.
+fn names_crew(alloc: Global, words: &[String]) -> bool {
+    matches!(words_of(alloc, words), Ok(Job::Crew(..)))
 }
 
 fn main(rt: HostRuntime) -> ExitCode {
@@ -120,7 +99,23 @@ fn main(rt: HostRuntime) -> ExitCode {
     let mut input = StdSource::new(rt.stdin());
     let mut output = StdSink::new(writer);
     let status = match desk(rt.alloc(), &words, &mut input, &mut output) {
-        Status::Live => beside_threads(&rt, rt.alloc(), &words, &mut input, &mut output),
+        Status::Live if names_crew(rt.alloc(), &words) => desk_crew(
+            &rt,
+            rt.alloc(),
+            &words,
+            &mut input,
+            &mut output,
+            &mut scripts(&rt, rt.alloc()),
+        ),
+        Status::Live => desk_live(
+            &rt,
+            rt.alloc(),
+            &words,
+            &mut input,
+            &mut output,
+            &mut files(&rt, rt.alloc()),
+            &DeskPace::new(&rt),
+        ),
         done => done,
     };
     // What was answered before a fault is handed on as far as it can be.
