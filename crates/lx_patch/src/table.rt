@@ -12,10 +12,11 @@ ghost use Rattle.lx_patch.specs.Slots.{IsFilled};
 use crate::followers::Followers;
 use crate::slots::fill;
 use crate::wiring::Wiring;
-use lx_base::{Dimmer, Level, SLOTS, next_change};
+use lx_base::{Dimmer, LANES, Level, SLOTS, next_change};
 use lx_show::{PatchRow, Show};
 use std::alloc::{AllocError, Global};
 use std::marker::Model;
+use std::simd::prelude::*;
 
 /// So many dimmers are filled by lanes in the time in which those of one channel are found.
 const LANES_A_CHANGE: usize = 16;
@@ -111,16 +112,29 @@ impl PatchTable {
     {
         let places = self.wiring.places();
         let levels = self.wiring.levels();
-        let mut left = self.followers.top / LANES_A_CHANGE;
+        let many = count_changes(before, out_levels) > self.followers.top / LANES_A_CHANGE;
         let mut from = 0;
         while let Some(k) = next_change(before, out_levels, from) {
-            if left == 0 {
+            if many {
                 fill(places, levels, out_levels, slots, self.followers.top);
                 return;
             }
-            left -= 1;
             self.followers.fill(places, levels, k, out_levels[k], slots);
             from = k + 1;
         }
     }
+}
+
+/// How many outputs differ from those before, but for the last few that fill no 32 lanes. It only chooses between two ways to the same
+/// slots.
+fn count_changes(before: &[Level], out_levels: &[Level]) -> usize
+    requires { length before.now ≡ length out_levels.now }
+{
+    let mut count = 0usize;
+    for i in 0..before.len() / LANES {
+        let was = u8x32::from_slice(&before[LANES * i..]);
+        let is = u8x32::from_slice(&out_levels[LANES * i..]);
+        count = count.wrapping_add(was.simd_ne(is).to_bitmask().count_ones() as usize);
+    }
+    count
 }

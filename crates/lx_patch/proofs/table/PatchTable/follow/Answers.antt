@@ -4,8 +4,8 @@ use Rattle.lx_patch.specs.Followed.{IsAbove}
 use Rattle.lx_patch.proofs.Following.{table_of_all, table_of_lit}
 use Rattle.lx_patch.proofs.table.PatchTable.follow.Goals as goal
 
-pub returns-then-left-eq0 : goal.returns-then-left-eq0
-returns-then-left-eq0 c = λ rows stands old.
+pub returns-then-many : goal.returns-then-many
+returns-then-many c = λ rows stands old.
     let table : DimmerTable = c.args.self.now in
     let levels_are = c.levels-levels.ensures.levels in
     table_of_lit rows table c.places-places.result.now c.levels-levels.result.now c.args.before.now c.args.out_levels.now c.args.slots.now
