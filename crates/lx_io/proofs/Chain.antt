@@ -69,11 +69,6 @@ pub ruleset puts = (
   drop_here,
 )
 
--- the empty text needs no call
-pub Puts-nothing : {S T : Type 0} (holds : S → Option (List ℕ)) (faults wants : S → ℕ) (s : S) (t : T)
-    → Puts holds faults wants s s (Ok t) []
-Puts-nothing holds faults wants s t = grind (arith, puts)
-
 -- a text was put, and then another one
 pub Puts-then : {S T U : Type 0} {holds : S → Option (List ℕ)} {faults wants : S → ℕ} {a b c : S} {t : T} {r : Result U SinkFault}
     {xs ys : List ℕ}

@@ -11,12 +11,10 @@ use Rattle.lx_spec.specs.Level.{level, last_cue, run_over, fade_over, faded, mov
 use Rattle.lx_spec.specs.Playback.{Playback}
 use Rattle.lx_spec.proofs.Rest.{same_run}
 use Rattle.lx_levels.proofs.Stands.{same_stack}
+use Rattle.lx_levels.proofs.Recalled.{level_acted, level_passed}
 use Rattle.lx_levels.specs.Stacks.{Kept, level_in, stack_of}
 use Rattle.lx_levels.specs.Moving.{IsStill}
-use Rattle.lx_levels.specs.Standing.{LevelsStandFor, StandsAt, StandsBefore, IsElsewhere, IsAdded}
-
-tails : {A : Type 0} (x y : A) (xs ys : List A) → x ∷ xs ≡ y ∷ ys → xs ≡ ys
-tails x y xs ys same = cc
+use Rattle.lx_levels.specs.Standing.{StandsAt, StandsBefore, IsElsewhere, IsAdded}
 
 heads : {A : Type 0} (x y : A) (xs ys : List A) → x ∷ xs ≡ y ∷ ys → x ≡ y
 heads x y xs ys same = cc
@@ -27,49 +25,27 @@ pub starts_now : (show : Show) (p : Playback) (kept : Kept) (last : Run) (older 
 starts_now show p kept last older before is =
     ap (λ (r : Run). r.start) (heads last before.last older before.older (sym is ∙ before.live_is)) ∙ before.now
 
--- none is added yet
-pub none_added : (show : Show) (p : Playback) (kept : Kept) (last : Run) (older : List Run) → StandsBefore show p kept
-    → p.live ≡ last ∷ older → IsAdded show p older 0 kept
-none_added show p kept last older before is =
-    let same : before.older ≡ older = tails before.last last before.older older (sym before.live_is ∙ is) in
-    subst (λ (runs : List Run). IsAdded show p runs 0 kept) same (record {
-      moment = before.stands.moment;
-      reach = before.stands.reach;
-      done = λ k below. absurd (omega arith);
-      left = λ k past within. before.stands.each k within;
-    })
-
--- all are
-pub all_added : (show : Show) (p : Playback) (kept : Kept) (last : Run) (older : List Run) (n : ℕ) → show.channels ≤ n
-    → IsAdded show p older n kept → LevelsStandFor show p kept
-all_added show p kept last older n enough is = record { moment = is.moment; reach = is.reach; each = λ k within. is.done k (omega arith) }
-
 live_count : (p : Playback) (last : Run) (older : List Run) → p.live ≡ last ∷ older → length p.live ≡ length older + 1
 live_count p last older is = ap length is ∙ (let e : length (last ∷ older) ≡ length older + 1 = omega arith in e)
 
-chosen : (b : Bool) (v w : ℕ) → b ≡ true → cond b v w ≡ v
-chosen true v w is = refl
-chosen false v w is = absurd cc
-
-passed_by : (b : Bool) (v w : ℕ) → b ≡ false → cond b v w ≡ w
-passed_by false v w is = refl
-passed_by true v w is = absurd cc
-
--- the level over one more run, on which it acts, and on which it doesn't
+-- the level over one more run that acts
 level_added : (show : Show) (p : Playback) (last : Run) (older : List Run) (c x : ℕ) → p.live ≡ last ∷ older
     → acts show (last_cue p.base older) last c ≡ true → level show p.base p.live c x ≡ run_over show (level show p.base older c) last c x
-level_added show p last older c x is acts_on = ap (λ (runs : List Run). level show p.base runs c x) is
-    ∙ chosen (acts show (last_cue p.base older) last c) (run_over show (level show p.base older c) last c x) (level show p.base older c x)
-    acts_on
+level_added show p last older c x is acts_on =
+    ap (λ (runs : List Run). level show p.base runs c x) is ∙ level_acted show p.base last older c x acts_on
 
-level_passed : (show : Show) (p : Playback) (last : Run) (older : List Run) (c x : ℕ) → p.live ≡ last ∷ older
-    → acts show (last_cue p.base older) last c ≡ false → level show p.base p.live c x ≡ level show p.base older c x
-level_passed show p last older c x is not_on = ap (λ (runs : List Run). level show p.base runs c x) is
-    ∙ passed_by (acts show (last_cue p.base older) last c) (run_over show (level show p.base older c) last c x)
-    (level show p.base older c x) not_on
-
-at_place : (show : Show) (p : Playback) (k i : ℕ) (kept : Kept) → i ≡ k → StandsAt show p kept k → StandsAt show p kept i
-at_place show p k i kept same stands = subst (StandsAt show p kept) (sym same) stands
+-- one channel more stands, and the others are left
+one_more : (show : Show) (p : Playback) (older : List Run) (k : ℕ) (kept : Kept) → StandsAt show p kept k → IsAdded show p older k kept
+    → IsAdded show p older (k + 1) kept
+one_more show p older k kept here added = record {
+  moment = added.moment;
+  reach = added.reach;
+  done = λ i below. elim (cases_eq i k) [
+    | inl same ↦ subst (StandsAt show p kept) (sym same) here
+    | inr other ↦ added.done i (omega (arith, other))
+  ];
+  left = λ i past in_show. added.left i (omega arith) in_show;
+}
 
 -- the channel at the next place, where the run acts on it
 pub next_added : (show : Show) (p : Playback) (last : Run) (older : List Run) (k : ℕ) (before after : Kept)
@@ -81,7 +57,7 @@ next_added show p last older k before after is starts acts_on within gives few e
   moment = elsewhere.moment ∙ added.moment;
   reach = elsewhere.reach ∙ added.reach;
   done = λ i below. elim (cases_eq i k) [
-    | inl same ↦ at_place show p k i after same here
+    | inl same ↦ subst (StandsAt show p after) (sym same) here
     | inr other ↦ same_stack show p i before after (elsewhere.others i other) (added.done i (omega (arith, other)))
   ];
   left = λ i past in_show. same_stack show (record p { live = older }) i before after
@@ -104,21 +80,14 @@ next_added show p last older k before after is starts acts_on within gives few e
 pub next_passed : (show : Show) (p : Playback) (last : Run) (older : List Run) (k : ℕ) (kept : Kept)
     → p.live ≡ last ∷ older → acts show (last_cue p.base older) last (k + 1) ≡ false → k < show.channels → IsAdded show p older k kept
     → IsAdded show p older (k + 1) kept
-next_passed show p last older k kept is not_on within added = record {
-  moment = added.moment;
-  reach = added.reach;
-  done = λ i below. elim (cases_eq i k) [
-    | inl same ↦ at_place show p k i kept same here
-    | inr other ↦ added.done i (omega (arith, other))
-  ];
-  left = λ i past in_show. added.left i (omega arith) in_show;
-} where
+next_passed show p last older k kept is not_on within added = one_more show p older k kept here added where
   old : StandsAt show (record p { live = older }) kept k
   old = added.left k (omega arith) within
 
   here : StandsAt show p kept k
   here = record {
-    later = λ x from. old.later x from ∙ sym (level_passed show p last older (k + 1) x is not_on);
+    later = λ x from. old.later x from
+        ∙ sym (ap (λ (runs : List Run). level show p.base runs (k + 1) x) is ∙ level_passed show p.base last older (k + 1) x not_on);
     few = omega (arith, old.few, live_count p last older is);
   }
 
@@ -158,15 +127,7 @@ pub still_added : (show : Show) (p : Playback) (last : Run) (older : List Run) (
     → p.live ≡ last ∷ older → last.start ≡ p.moment → k < show.channels → tracked show last.cue (k + 1) ≡ v
     → IsStill p.moment (stack_of kept k) v
     → IsAdded show p older k kept → IsAdded show p older (k + 1) kept
-still_added show p last older k v kept is starts within target still added = record {
-  moment = added.moment;
-  reach = added.reach;
-  done = λ i below. elim (cases_eq i k) [
-    | inl same ↦ at_place show p k i kept same here
-    | inr other ↦ added.done i (omega (arith, other))
-  ];
-  left = λ i past in_show. added.left i (omega arith) in_show;
-} where
+still_added show p last older k v kept is starts within target still added = one_more show p older k kept here added where
   old : StandsAt show (record p { live = older }) kept k
   old = added.left k (omega arith) within
 

@@ -96,22 +96,6 @@ pub next_off : (show : Show) (before c since from : ℕ) (run : Run) (newer : Li
 next_off show before c since from run newer off is =
     rest_off show run.cue c from run.start since newer (acts show before run c) off is.1
 
-take_whole : {A : Type 0} (xs : List A) (n : ℕ) → n ≡ length xs → take n xs ≡ xs
-take_whole xs n is = grind (arith, common_steps)
-
-drop_whole : {A : Type 0} (xs : List A) (n : ℕ) → n ≡ length xs → drop n xs ≡ []
-drop_whole xs n is = grind (arith, common_steps)
-
--- no run was looked at yet
-pub seen_none : (show : Show) (base : ℕ) (live : List Run) (c from n target : ℕ) → n ≡ length live
-    → target ≡ tracked show (last_cue base (reverse live)) c → IsSeen show base live c from n from target
-seen_none show base live c from n target is at = record {
-  within = omega (arith, is);
-  at = at ∙ ap (λ runs. tracked show (last_cue base (reverse runs)) c) (sym (take_whole live n is));
-  follows = subst (Follow show (last_cue base (reverse (take n live))) c from from) (sym (drop_whole live n is))
-      (let same : from ≤ from = omega arith in same);
-}
-
 module _ (show : Show) (base : ℕ) (live : List Run) (c from i : ℕ) (run : Run) (lt : i < length live) (is : run ≡ get_or live i run) where
   abbrev older : List Run
   older = reverse (take i live)
@@ -236,29 +220,3 @@ valid_more live i known new others this within = λ j least below. elim (cases_e
   | inr other ↦ subst (λ (o : Option Act). IfSome o IsValid) (sym (get_or-set_other known i j new None other))
       (others j (omega (arith, least, other)) below)
 ]
-
--- all runs were looked at
-pub ground_base : (show : Show) (base : ℕ) (live : List Run) (c from left since target : ℕ) → left ≡ 0
-    → IsSeen show base live c from left since target → IsGround show base live c from 0 target since
-ground_base show base live c from left since target none seen =
-    let first = subst (λ n. IsSeen show base live c from n since target) none seen in
-    record { within = first.within; at = sym first.at; stays = λ m late. sym first.at; follows = first.follows }
-
-pub replayed_none : (show : Show) (base : ℕ) (live : List Run) (c from first ground since : ℕ) (stack : Stack)
-    → IsGround show base live c from first ground since → stack ≡ record { bottom = ground; fades = [] }
-    → IsReplayed show base live c from first stack
-replayed_none show base live c from first ground since stack is empty =
-    subst (IsReplayed show base live c from first) (sym empty) (record {
-      since = since;
-      within = is.within;
-      gives = λ m late. sym (is.stays m late);
-      follows = is.follows;
-    })
-
-pub replayed_all : (show : Show) (base : ℕ) (live : List Run) (c from i m : ℕ) (stack : Stack)
-    → IsReplayed show base live c from i stack → length live ≤ i → from ≤ m → level_in stack m ≡ level show base (reverse live) c m
-replayed_all show base live c from i m stack is end late =
-    let all : i ≡ length live = omega (arith, is.within, end) in
-    let done : is.since ≤ from =
-    subst (Follow show (last_cue base (reverse (take i live))) c is.since from) (drop_whole live i all) is.follows in
-    is.gives m (omega (arith, done, late)) ∙ ap (λ (runs : List Run). level show base (reverse runs) c m) (take_whole live i all)

@@ -36,7 +36,11 @@ passed : (b : Bool) (v w : ℕ) → b ≡ false → cond b v w ≡ w
 passed false v w is = refl
 passed true v w is = absurd cc
 
--- the level over one more run on a channel on which it doesn't act
+-- the level over one more run on a channel on which it acts, and on one on which it doesn't
+pub level_acted : (show : Show) (base : ℕ) (run : Run) (older : List Run) (c m : ℕ) → acts show (last_cue base older) run c ≡ true
+    → level show base (run ∷ older) c m ≡ run_over show (level show base older c) run c m
+level_acted show base run older c m on = acted (acts show (last_cue base older) run c) _ _ on
+
 pub level_passed : (show : Show) (base : ℕ) (run : Run) (older : List Run) (c m : ℕ) → acts show (last_cue base older) run c ≡ false
     → level show base (run ∷ older) c m ≡ level show base older c m
 level_passed show base run older c m not_on = passed (acts show (last_cue base older) run c) _ _ not_on
@@ -44,7 +48,7 @@ level_passed show base run older c m not_on = passed (acts show (last_cue base o
 -- on one on which it acts, whose fade is over
 pub level_hidden : (show : Show) (base : ℕ) (run : Run) (older : List Run) (c m : ℕ) → acts show (last_cue base older) run c ≡ true
     → run.start + entry_extent (entry_for show run c) ≤ m → level show base (run ∷ older) c m ≡ tracked show run.cue c
-level_hidden show base run older c m on over = acted (acts show (last_cue base older) run c) _ _ on
+level_hidden show base run older c m on over = level_acted show base run older c m on
     ∙ run_done show (level show base older c) run c m over
 
 -- and on one on which it acts, over levels that are known from its start on
@@ -53,4 +57,4 @@ pub level_pushed : (show : Show) (base : ℕ) (run : Run) (older : List Run) (c 
     → run_over show before run c m ≡ level show base (run ∷ older) c m
 level_pushed show base run older c low m before on known started late =
     same_run show before (level show base older c) run c low m known started late
-    ∙ sym (acted (acts show (last_cue base older) run c) _ _ on)
+    ∙ sym (level_acted show base run older c m on)

@@ -1,13 +1,12 @@
 -- What levels stand for under other words.
-use Rattle.std.specs.Prelude.{◌≡◌, ℕ, ◌+◌, ◌-◌, ◌<◌, ◌≤◌, List, length}
-use Rattle.std.proofs.Common.{arith, ◌∙◌, ap, sym, subst, inl, inr}
-use Rattle.std.proofs.lemmas.Bool.{cases_eq}
+use Rattle.std.specs.Prelude.{◌≡◌, ℕ, ◌+◌, ◌<◌, ◌≤◌, List, length}
+use Rattle.std.proofs.Common.{arith, ◌∙◌, ap, sym, subst}
 use Rattle.lx_spec.specs.Show.{Show}
 use Rattle.lx_spec.specs.Run.{Run}
 use Rattle.lx_spec.specs.Level.{level}
 use Rattle.lx_spec.specs.Playback.{Playback}
 use Rattle.lx_levels.specs.Stacks.{Kept, Stack, level_in, level_at, stack_of}
-use Rattle.lx_levels.specs.Standing.{LevelsStandFor, StandsAt, IsElsewhere}
+use Rattle.lx_levels.specs.Standing.{LevelsStandFor, StandsAt}
 
 -- the kept level is that of the definition
 pub kept_level : (show : Show) (p : Playback) (kept : Kept) (k : ℕ) → LevelsStandFor show p kept → k < show.channels
@@ -34,11 +33,3 @@ same_stack show p k before after is stands = record {
   later = λ x from. ap (λ (s : Stack). level_in s x) is ∙ stands.later x from;
   few = subst (λ (s : Stack). length s.fades ≤ length p.live) (sym is) stands.few;
 }
-
--- one channel made anew
-pub done_next : (show : Show) (p : Playback) (k c : ℕ) (before after : Kept) → c ≡ k + 1 → StandsAt show p after (c - 1)
-    → IsElsewhere (c - 1) before after → ((i : ℕ) → i < k → StandsAt show p before i) → (i : ℕ) → i < k + 1 → StandsAt show p after i
-done_next show p k c before after c_is here elsewhere done i below = elim (cases_eq i (c - 1)) [
-  | inl same ↦ subst (StandsAt show p after) (sym same) here
-  | inr other ↦ same_stack show p i before after (elsewhere.others i other) (done i (omega (arith, other, c_is)))
-]

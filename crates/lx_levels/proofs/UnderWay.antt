@@ -11,27 +11,6 @@ use Rattle.lx_levels.specs.declared.current.Current.{Current}
 use Rattle.lx_levels.specs.Stacks.{Stack, level_in, no_stack}
 use Rattle.lx_levels.specs.Moving.{Governs, StaysUntil, no_current, IsHeld, IsTold, Reaches, IsRight, IsRightBut, IsWritten, IsAdvanced}
 
--- what is held at a moment is held at a later one
-pub held_later : (m n : ℕ) (stacks : List Stack) (currents : List Current) (levels holds : List ℕ) (k : ℕ) → m ≤ n
-    → IsHeld m stacks currents levels holds k → IsHeld n stacks currents levels holds k
-held_later m n stacks currents levels holds k le held = record {
-  governs = λ some. let g = held.governs some in record {
-    begun = omega (arith, g.begun);
-    gives = λ x from until. g.gives x
-        (omega arith) until;
-  };
-  stays = λ x from until. held.stays x (omega arith) until;
-}
-
--- up to the moment at which one changes no level does
-pub right_later : (m n : ℕ) (stacks : List Stack) (currents : List Current) (levels holds : List ℕ) → m ≤ n → n + 1 < NEVER
-    → ((k : ℕ) → k < length stacks → n < get_or holds k 0) → IsRight m stacks currents levels holds → IsRight n stacks currents levels holds
-right_later m n stacks currents levels holds le begun waits right = record {
-  reaches = right.reaches;
-  begun = begun;
-  told = λ k within. record { held = held_later m n stacks currents levels holds k le (right.told k within).held; later = waits k within };
-}
-
 -- the level that is kept is that of the stack
 pub level_now : (m k : ℕ) (stacks : List Stack) (currents : List Current) (levels holds : List ℕ) → IsTold m stacks currents levels holds k
     → get_or levels k 0 ≡ level_in (get_or stacks k no_stack) m
@@ -96,13 +75,6 @@ reaches_written k stacks before currents levels_before holds_before levels holds
   of_holds = is.of_holds ∙ reaches.of_holds;
 }
 
--- none is brought to the moment yet
-pub advanced_start : (m : ℕ) (stacks : List Stack) (currents : List Current) (levels holds : List ℕ)
-    → Reaches stacks currents levels holds → ((k : ℕ) → k < length stacks → IsHeld m stacks currents levels holds k)
-    → IsAdvanced m 0 stacks currents levels holds
-advanced_start m stacks currents levels holds reaches held =
-    record { reaches = reaches; done = λ k below. absurd (omega arith); left = λ k past within. held k within }
-
 -- the next one is
 pub advanced_next : (m k : ℕ) (stacks : List Stack) (before currents : List Current) (levels_before holds_before levels holds : List ℕ)
     → IsAdvanced m k stacks before levels_before holds_before → IsWritten k before levels_before holds_before currents levels holds
@@ -118,26 +90,6 @@ advanced_next m k stacks before currents levels_before holds_before levels holds
       (arith, same, past))
       (advanced.left i (omega arith) within);
 }
-
--- or is there already
-pub advanced_passed : (m k : ℕ) (stacks : List Stack) (currents : List Current) (levels holds : List ℕ)
-    → IsAdvanced m k stacks currents levels holds → k < length stacks → m < get_or holds k 0
-    → IsAdvanced m (k + 1) stacks currents levels holds
-advanced_passed m k stacks currents levels holds advanced within later = record {
-  reaches = advanced.reaches;
-  done = λ i below. elim (cases_eq i k) [
-    | inl same ↦ subst (IsTold m stacks currents levels holds) (sym same)
-        (record { held = advanced.left k (omega arith) within; later = later })
-    | inr other ↦ advanced.done i (omega (arith, other))
-  ];
-  left = λ i past in_stacks. advanced.left i (omega arith) in_stacks;
-}
-
--- all are
-pub advanced_end : (m k : ℕ) (stacks : List Stack) (currents : List Current) (levels holds : List ℕ)
-    → IsAdvanced m k stacks currents levels holds → length stacks ≤ k → m + 1 < NEVER → IsRight m stacks currents levels holds
-advanced_end m k stacks currents levels holds advanced all begun =
-    record { reaches = advanced.reaches; begun = begun; told = λ i within. advanced.done i (omega arith) }
 
 -- the channel's new stack is taken up
 pub refreshed : (m k : ℕ) (stacks : List Stack) (currents : List Current) (levels holds : List ℕ) (stack : Stack) (current : Current)
@@ -185,14 +137,6 @@ right_but m k stacks currents levels holds stack right =
             later = told.later;
           };
     }
-
--- what was held for at least so long is held for at least the lesser of that and what is new
-pub due_with : (due hold k i : ℕ) (holds : List ℕ) → ((j : ℕ) → j < length holds → due ≤ get_or holds j 0) → k < length holds
-    → i < length (set holds k hold) → ((d : ℕ) → d ≤ due → d ≤ hold → d ≤ get_or (set holds k hold) i 0)
-due_with due hold k i holds held room within d of_due of_hold = elim (cases_eq i k) [
-  | inl here ↦ omega (arith, of_hold, get_or-set_at holds k i hold 0 here room)
-  | inr other ↦ omega (arith, of_due, held i (omega (arith, within, length-set holds k hold)), get_or-set_other holds k i hold 0 other)
-]
 
 -- at the opening each channel is still at 0
 pub opened_right : (stacks : List Stack) (currents : List Current) (levels holds : List ℕ) (n : ℕ)

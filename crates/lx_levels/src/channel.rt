@@ -226,7 +226,7 @@ pub(crate) fn push_timed(
 }
 
 /// How long a channel waits for its fade, and how long that takes.
-#[derive(Clone, Copy, PartialEq, Eq, Debug)]
+#[derive(Clone, Copy)]
 struct FadeTimes {
     delay: Cs,
     time: Cs,

@@ -10,7 +10,7 @@ use lx_base::{Level, Moment};
 use lx_fade::{Fade, Held, held_at};
 
 /// The fade that gives a channel's level, and when the next one begins: `NEVER` where none waits.
-#[derive(Clone, Copy, PartialEq, Eq, Debug)]
+#[derive(Clone, Copy)]
 pub(crate) struct Current {
     pub(crate) fade: Fade,
     pub(crate) wake: Moment,

@@ -13,7 +13,7 @@ use lx_show::{Cue, Move, Show};
 
 /// Where the cue of a run was found last among the cues, and where the move of a channel would come next among
 /// its moves. Neither needs to be right.
-#[derive(Clone, Copy, PartialEq, Eq, Debug)]
+#[derive(Clone, Copy)]
 pub(crate) struct Hint {
     pub(crate) cue: usize,
     pub(crate) entry: usize,

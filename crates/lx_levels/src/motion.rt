@@ -11,7 +11,7 @@ use lx_base::{Level, Moment};
 use lx_fade::NEVER;
 
 /// What came of a step to another moment.
-#[derive(Clone, Copy, PartialEq, Eq, Debug)]
+#[derive(Clone, Copy)]
 pub(crate) struct Step {
     /// Some level changed.
     pub(crate) changed: bool,

@@ -20,7 +20,7 @@ use lx_show::Show;
 
 /// What a run does to a channel on which it acts: from its start on it brings it to the target, with the times of an
 /// entry.
-#[derive(Clone, Copy, PartialEq, Eq, Debug)]
+#[derive(Clone, Copy)]
 pub(crate) struct Act {
     pub(crate) start: Moment,
     pub(crate) target: Level,
@@ -28,7 +28,7 @@ pub(crate) struct Act {
 }
 
 /// What the oldest runs leave on a channel: its level from a moment on, whatever was before.
-#[derive(Clone, Copy, PartialEq, Eq, Debug)]
+#[derive(Clone, Copy)]
 pub(crate) struct Ground {
     /// How many of the oldest runs.
     pub(crate) first: usize,

@@ -33,60 +33,38 @@ second_valid rest turn is = subst (λ (m : Option Line). IfSome m ValidLine) (sy
 abbrev Taken : Option Line → Type 0
 Taken meaning = IfSome (command_of meaning) (λ c. IsTrue (commands_second c))
 
-taken_by : (meaning : Line) (b : Bool) → is_of_second meaning ≡ b → Taken (if b then Some meaning else None)
-taken_by (lines.Command c) true is = is
-taken_by (lines.Ticks k) true is = cc
-taken_by (lines.Frame u) true is = cc
-taken_by lines.Save true is = tt
-taken_by (lines.SheetOf n) true is = tt
-taken_by lines.Quit true is = cc
-taken_by lines.Blank true is = cc
-taken_by meaning false is = tt
+-- what a line that is done on the second list may be
+record IsOfSecond (meaning : Option Line) : Type 0 where
+  taken : Taken meaning
+  quit : is_quit meaning ≡ false
+  frame : frame_of meaning ≡ None
 
-taken_where : (meaning : Option Line) → Taken (where_of_second meaning)
-taken_where None = tt
-taken_where (Some meaning) = taken_by meaning (is_of_second meaning) refl
+of_second_by : (meaning : Line) (b : Bool) → is_of_second meaning ≡ b → IsOfSecond (if b then Some meaning else None)
+of_second_by (lines.Command c) true is = record { taken = is; quit = refl; frame = refl }
+of_second_by (lines.Ticks k) true is = absurd cc
+of_second_by (lines.Frame u) true is = absurd cc
+of_second_by lines.Save true is = record { taken = tt; quit = refl; frame = refl }
+of_second_by (lines.SheetOf n) true is = record { taken = tt; quit = refl; frame = refl }
+of_second_by lines.Quit true is = absurd cc
+of_second_by lines.Blank true is = absurd cc
+of_second_by meaning false is = record { taken = tt; quit = refl; frame = refl }
+
+of_second : (meaning : Option Line) → IsOfSecond (where_of_second meaning)
+of_second None = record { taken = tt; quit = refl; frame = refl }
+of_second (Some meaning) = of_second_by meaning (is_of_second meaning) refl
 
 pub second_taken : (rest : List ℕ) (turn : LineState) → turn ≡ unattempted (where_of_second (line_of rest))
     → IfSome (command_of turn.meaning) (λ c. IsTrue (commands_second c))
-second_taken rest turn is = subst Taken (sym (ap (λ (t : LineState). t.meaning) is)) (taken_where (line_of rest))
-
-no_quit_by : (meaning : Line) (b : Bool) → is_of_second meaning ≡ b → is_quit (if b then Some meaning else None) ≡ false
-no_quit_by (lines.Command c) true is = refl
-no_quit_by (lines.Ticks k) true is = refl
-no_quit_by (lines.Frame u) true is = refl
-no_quit_by lines.Save true is = refl
-no_quit_by (lines.SheetOf n) true is = refl
-no_quit_by lines.Quit true is = cc
-no_quit_by lines.Blank true is = refl
-no_quit_by meaning false is = refl
-
-no_quit : (meaning : Option Line) → is_quit (where_of_second meaning) ≡ false
-no_quit None = refl
-no_quit (Some meaning) = no_quit_by meaning (is_of_second meaning) refl
-
-no_frame_by : (meaning : Line) (b : Bool) → is_of_second meaning ≡ b → frame_of (if b then Some meaning else None) ≡ None
-no_frame_by (lines.Command c) true is = refl
-no_frame_by (lines.Ticks k) true is = refl
-no_frame_by (lines.Frame u) true is = cc
-no_frame_by lines.Save true is = refl
-no_frame_by (lines.SheetOf n) true is = refl
-no_frame_by lines.Quit true is = refl
-no_frame_by lines.Blank true is = refl
-no_frame_by meaning false is = refl
-
-no_frame : (meaning : Option Line) → frame_of (where_of_second meaning) ≡ None
-no_frame None = refl
-no_frame (Some meaning) = no_frame_by meaning (is_of_second meaning) refl
+second_taken rest turn is = subst Taken (sym (ap (λ (t : LineState). t.meaning) is)) (of_second (line_of rest)).taken
 
 -- no line of the second list asks for a frame
 pub second_no_frame : (rest : List ℕ) (meaning : Option Line) → meaning ≡ where_of_second (line_of rest) → frame_of meaning ≡ None
-second_no_frame rest meaning is = ap frame_of is ∙ no_frame (line_of rest)
+second_no_frame rest meaning is = ap frame_of is ∙ (of_second (line_of rest)).frame
 
 -- the session goes on after a line of the second list
 pub second_more : (result : Result Bool SinkFault) (rest : List ℕ) (meaning : Option Line) → meaning ≡ where_of_second (line_of rest)
     → IfOk result (λ more. more ≡ not (is_quit meaning)) → IfOk result (λ more. more ≡ true)
-second_more (Ok more) rest meaning same is = is ∙ ap (λ (m : Option Line). not (is_quit m)) same ∙ ap not (no_quit (line_of rest))
+second_more (Ok more) rest meaning same is = is ∙ ap (λ (m : Option Line). not (is_quit m)) same ∙ ap not (of_second (line_of rest)).quit
 second_more (Err fault) rest meaning same is = tt
 
 -- and none of its lines ends the script

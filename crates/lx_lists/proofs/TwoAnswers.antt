@@ -122,29 +122,25 @@ module _ {K T : Type 0} (holds : K → Option (List ℕ)) (faults wants : K → 
     always (Ok x) p = p
     always (Err e) p = tt
 
+extends_plain : (places : List ℕ) (s : SessionOf TwoDesks) (meaning : Option Line) → frame_of meaning ≡ None
+    → ExtendsSession s (first_answer places s meaning)
+extends_plain places s meaning none =
+    let e = extends_line places (at_desk s.state.first s) meaning in
+    subst (ExtendsSession s) (sym (first_is places s meaning none)) (record { attempts = e.attempts; more = e.more; text = e.text })
+
 extends_first : (places : List ℕ) (s : SessionOf TwoDesks) (meaning : Option Line) → ExtendsSession s (first_answer places s meaning)
-extends_first places s None =
-    let e = extends_line places (at_desk s.state.first s) None in record { attempts = e.attempts; more = e.more; text = e.text }
-extends_first places s (Some (lines.Command c)) =
-    let e = extends_line places (at_desk s.state.first s) (Some (lines.Command c)) in
-    record { attempts = e.attempts; more = e.more; text = e.text }
-extends_first places s (Some (lines.Ticks k)) =
-    let e = extends_line places (at_desk s.state.first s) (Some (lines.Ticks k)) in
-    record { attempts = e.attempts; more = e.more; text = e.text }
+extends_first places s None = extends_plain places s None refl
+extends_first places s (Some (lines.Command c)) = extends_plain places s (Some (lines.Command c)) refl
+extends_first places s (Some (lines.Ticks k)) = extends_plain places s (Some (lines.Ticks k)) refl
 extends_first places s (Some (lines.Frame u)) = record {
   attempts = omega arith;
   more = frame_text [] s.state.first.playback.moment u (frame_of_two s.state u);
   text = refl;
 }
-extends_first places s (Some lines.Save) =
-    let e = extends_line places (at_desk s.state.first s) (Some lines.Save) in record { attempts = e.attempts; more = e.more; text = e.text }
-extends_first places s (Some (lines.SheetOf n)) =
-    let e = extends_line places (at_desk s.state.first s) (Some (lines.SheetOf n)) in
-    record { attempts = e.attempts; more = e.more; text = e.text }
-extends_first places s (Some lines.Quit) =
-    let e = extends_line places (at_desk s.state.first s) (Some lines.Quit) in record { attempts = e.attempts; more = e.more; text = e.text }
-extends_first places s (Some lines.Blank) =
-    let e = extends_line places (at_desk s.state.first s) (Some lines.Blank) in record { attempts = e.attempts; more = e.more; text = e.text }
+extends_first places s (Some lines.Save) = extends_plain places s (Some lines.Save) refl
+extends_first places s (Some (lines.SheetOf n)) = extends_plain places s (Some (lines.SheetOf n)) refl
+extends_first places s (Some lines.Quit) = extends_plain places s (Some lines.Quit) refl
+extends_first places s (Some lines.Blank) = extends_plain places s (Some lines.Blank) refl
 
 extends_by : (places : List ℕ) (s : SessionOf TwoDesks) (line : List ℕ) (b : Bool)
     → ExtendsSession s (if b then second_answer places s (second_meaning line) else first_answer places s (line_of line))

@@ -1,7 +1,7 @@
 -- While no follow is due and the playback doesn't come to rest, a tick changes nothing but the moment.
 use Rattle.std.specs.Prelude.{◌≡◌, ℕ, ◌+◌, ◌-◌, ◌*◌, ◌<◌, ◌≤◌, Bool, true, false, cond, ◌&&◌, ◌==◌, nat_lt, nat_le, Option, Some, None, Ok}
 use Rattle.std.specs.Prelude.{Err}
-use Rattle.std.specs.Prelude.{List, [], length, is_none}
+use Rattle.std.specs.Prelude.{List, length, is_none}
 use Rattle.std.specs.List.{list_all}
 use Rattle.std.specs.Option.{option_map_or}
 use Rattle.std.proofs.Common.{arith, ap, refl, ◌∙◌}
@@ -33,13 +33,6 @@ pending_still p due m is early =
       due = ap (λ o. option_map_or (λ x. nat_le x m) o false) is ∙ not_due;
       over = ap (λ o. over_by m p.live o) is ∙ pending_not _ _;
     }
-
--- no follow is pending, and no run is live
-pub empty_still : (p : Playback) (m : ℕ) → p.pending ≡ None → p.live ≡ [] → IsStillAt p m
-empty_still p m is none = record {
-  due = ap (λ o. option_map_or (λ x. nat_le x m) o false) is;
-  over = ap (λ runs. over_by m runs p.pending) none;
-}
 
 -- before the live runs are over
 pub live_still : (p : Playback) (over_at m : ℕ) → p.pending ≡ None

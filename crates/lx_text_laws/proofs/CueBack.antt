@@ -108,9 +108,6 @@ body_view h cue =
     ∙ ap (λ v. filter_map h label ++ v) (filter_map-append h follow (link ++ parts)
     ∙ ap (λ v. filter_map h follow ++ v) (filter_map-append h link parts))))
 
-no_part : {A : Type 0} → Part → Option A
-no_part part = None
-
 nothing_of_parts : {A : Type 0} (parts : List Part) → flat_map (of_part {A = A} (λ part. None) (λ part. None) (λ part. None)) parts ≡ []
 nothing_of_parts parts = flat_map-none (λ part. []) parts (All-each (λ part. [] ≡ []) parts (λ part. refl))
 

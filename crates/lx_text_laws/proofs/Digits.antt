@@ -12,7 +12,7 @@ use Rattle.std.proofs.lemmas.Str.{digit_value_digit}
 use Rattle.lx_spec.specs.declared.Bad.TheVariants.{Shape, Range}
 use Rattle.lx_spec.specs.Text.{is_filled}
 use Rattle.lx_spec.specs.Numerals.{is_digit, is_number, number_of, ranged, read_whole}
-use Rattle.lx_text_laws.proofs.Tokens.{is_plain, stays}
+use Rattle.lx_text_laws.proofs.Tokens.{is_plain}
 
 pub all_digits : (ds : List ℕ) → AllDigits 10 ds → list_all is_digit ds ≡ true
 all_digits [] all = refl
@@ -43,12 +43,6 @@ decimal-number n small = λ j. decimal-filled n small j && decimal-digits n smal
 
 pub decimal-value : (n : ℕ) → n < 2 ^ 64 → number_of (decimal n) ≡ n
 decimal-value n small = folded 0 (decimal n) (decimal_is_IsNumeral n small).0.1 ∙ (decimal_is_IsNumeral n small).1
-
-digit_plain : (b : ℕ) → is_digit b ≡ true → is_plain b ≡ true
-digit_plain b is = grind (arith, nat_tests, is)
-
-pub digit_stays : (b : ℕ) → is_digit b ≡ true → stays b ≡ true
-digit_stays b is = grind (arith, nat_tests, is)
 
 pub plain_stays : (b : ℕ) → is_plain b ≡ true → is_plain b ≡ true
 plain_stays b is = is

@@ -138,10 +138,6 @@ steps_back s k now plans new plan again stands last is desk takes new_is =
       depth = stands.depth;
     }))
 
--- The next plan forth.
-pub ready_next : (show : Show) (plans : List Plan) (plan : Plan) → slice_get plans 0 ≡ Some plan → ReadyForth show plans → IsReady show plan
-ready_next show plans plan first ready = (subst (ReadyForth show) (sym (with_first plans plan first)) ready).0
-
 pub ready_redone : (show after : Show) (plans new : KeptPlans) (plan again : Plan) → slice_get plans.forth 0 ≡ Some plan
     → AllReady show plans → after ≡ planned show plan → TakesBack show after again
     → new ≡ record plans { back = plans.back ++ again ∷ []; forth = drop 1 plans.forth } → AllReady after new
