@@ -22,6 +22,9 @@ pub(crate) fn first_number(line: &[u8]) -> Option<(u32, &[u8])>
         let others = past_end(rest)?;
         return Some((number, others));
     }
+    if line.is_empty() {
+        return None;
+    }
     number_behind(line)
 }
 
