@@ -1,6 +1,6 @@
 //! Numbers of digits alone, read in one pass over their bytes.
 
-ghost use Rattle.std.specs.Prelude.{◌≡◌, ◌<◌, length, IfSome};
+ghost use Rattle.std.specs.Prelude.{◌≡◌, ◌<◌, ◌≤◌, true, length, IfSome};
 ghost use Rattle.lx_spec.specs.Text.{is_separator, after_all, tokens};
 ghost use Rattle.lx_lex.specs.PlainNumber.{BeginsWithDigits, EndsToken, FirstIsLevel, FirstIsNumber};
 
@@ -22,6 +22,9 @@ pub(crate) fn first_number(line: &[u8]) -> Option<(u32, &[u8])>
         let others = past_end(rest)?;
         return Some((number, others));
     }
+    if line.is_empty() {
+        return None;
+    }
     number_behind(line)
 }
 
@@ -32,6 +35,20 @@ fn number_behind(line: &[u8]) -> Option<(u32, &[u8])>
 {
     let (number, rest) = first_digits(past_separators(line))?;
     let others = past_end(rest)?;
+    Some((number, others))
+}
+
+/// The same where the token is at most four digits at the front of the line, and ends with this separator.
+#[inline(always)]
+pub(crate) fn number_before(line: &[u8], separator: u8) -> Option<(u32, &[u8])>
+    requires { is_separator separator ≡ true }
+    ensures { IfSome result (λ p. FirstIsNumber (tokens line.now) p.0 (tokens p.1.now)) }
+{
+    if line.len() < 5 {
+        return None;
+    }
+    let (number, rest) = four_digits(line)?;
+    let others = past_byte(rest, separator)?;
     Some((number, others))
 }
 
@@ -61,8 +78,20 @@ fn front_digits(text: &[u8]) -> Option<(u32, &[u8])>
     ensures some { IfSome result (λ p. length p.1.now < length text.now) }
 {
     if text.len() < 4 {
-        return first_digits(text);
+        first_digits(text)
+    } else {
+        four_digits(text)
     }
+}
+
+/// The number that the first four bytes spell, up to the first of them that is no digit, and what follows these digits. None
+/// where the first byte is no digit.
+#[inline(always)]
+fn four_digits(text: &[u8]) -> Option<(u32, &[u8])>
+    requires { 4 ≤ length text.now }
+    ensures digits { IfSome result (λ p. BeginsWithDigits text.now p.0 p.1.now) }
+    ensures some { IfSome result (λ p. length p.1.now < length text.now) }
+{
     let one = u32::from(digit(text[0])?);
     let Some(second) = digit(text[1]) else {
         return Some((one, &text[1..]));
@@ -100,6 +129,18 @@ fn first_digits(text: &[u8]) -> Option<(u32, &[u8])>
         Some((number, rest))
     } else {
         None
+    }
+}
+
+/// What follows this separator, before which a token ends. None where another byte or nothing is there.
+#[inline(always)]
+fn past_byte(rest: &[u8], separator: u8) -> Option<&[u8]>
+    requires { is_separator separator ≡ true }
+    ensures { IfSome result (λ others. EndsToken rest.now others.now) }
+{
+    match rest {
+        [b, others @ ..] if *b == separator => Some(others),
+        _ => None,
     }
 }
 

@@ -1,6 +1,6 @@
 //! An iterator over the tokens of a line.
 
-use crate::plain::{first_hex, first_number};
+use crate::plain::{first_hex, first_number, number_before};
 use crate::scan::first_token;
 use lx_base::Level;
 
@@ -14,8 +14,8 @@ pub struct Tokens<'a> {
 }
 
 impl<'a> Tokens<'a> {
-    ghost use Rattle.std.specs.Prelude.{◌≡◌, length, MatchOption};
-    ghost use Rattle.lx_spec.specs.Text.{tokens};
+    ghost use Rattle.std.specs.Prelude.{◌≡◌, true, length, MatchOption};
+    ghost use Rattle.lx_spec.specs.Text.{is_separator, tokens};
     ghost use Rattle.lx_lex.specs.Left.{left};
     ghost use Rattle.lx_lex.specs.PlainNumber.{FirstIsLevel, FirstIsNumber};
 
@@ -40,6 +40,18 @@ impl<'a> Tokens<'a> {
         ensures { MatchOption result (self.new ≡ self.old) (λ n. FirstIsNumber (left self.old) n (left self.new)) }
     {
         let (number, rest) = first_number(self.rest)?;
+        self.rest = rest;
+        Some(number)
+    }
+
+    /// Takes the next token where it is a number of one to four digits, with nothing before it and this separator behind it,
+    /// and answers the number. Else it takes none, and answers None.
+    #[inline(always)]
+    pub fn take_number_before(&mut self, separator: u8) -> Option<u32>
+        requires { is_separator separator ≡ true }
+        ensures { MatchOption result (self.new ≡ self.old) (λ n. FirstIsNumber (left self.old) n (left self.new)) }
+    {
+        let (number, rest) = number_before(self.rest, separator)?;
         self.rest = rest;
         Some(number)
     }

@@ -25,7 +25,47 @@ fn fault_in(i: u32, bad: Bad, whole: bool) -> TextFault
 }
 
 /// The next channel and level of a list of pairs; none at its end. A fault is that of the whole list.
+#[inline(always)]
 pub(crate) fn next_member(i: u32, tokens: &mut Tokens) -> Result<Option<Member>, TextFault>
+    ensures fewer { IfOk result (λ o. IfSome o (λ m. length (left tokens.new) < length (left tokens.old))) }
+    ensures list { MatchResult result
+        (λ o. MatchOption o (left tokens.old ≡ [])
+        (λ m. all_pairs i (left tokens.old) ≡ onto (m ∷ []) (all_pairs i (left tokens.new))))
+        (λ fault. all_pairs i (left tokens.old) ≡ Err fault) }
+{
+    match near_member(tokens) {
+        Some(member) => Ok(Some(member)),
+        None => far_member(i, tokens),
+    }
+}
+
+/// The next channel and level where `@` and a space end them and nothing else stands before them, as in most lists, and
+/// both are within their ranges. Else no token is taken.
+#[inline(always)]
+fn near_member(tokens: &mut Tokens) -> Option<Member>
+    ensures { MatchOption result (tokens.new ≡ tokens.old) (λ m. FirstIsMember (left tokens.old) m (left tokens.new)) }
+{
+    let mut rest = *tokens;
+    let chan = Chan::new(rest.take_number_before(b'@')?)?;
+    let level = near_level(&mut rest)?;
+    *tokens = rest;
+    Some(Member { chan, level })
+}
+
+/// The level that comes next, with nothing before it. None where it isn't a percentage or `H` and two digits.
+#[inline(always)]
+fn near_level(tokens: &mut Tokens) -> Option<Level>
+    ensures { IfSome result (λ level. FirstIsLevel (left tokens.old) level (left tokens.new)) }
+{
+    match tokens.take_number_before(b' ') {
+        Some(percent) => plain_level(percent),
+        None => tokens.take_hex(),
+    }
+}
+
+/// The same as `next_member`, where the tokens stand in another way.
+#[inline(never)]
+fn far_member(i: u32, tokens: &mut Tokens) -> Result<Option<Member>, TextFault>
     ensures fewer { IfOk result (λ o. IfSome o (λ m. length (left tokens.new) < length (left tokens.old))) }
     ensures list { MatchResult result
         (λ o. MatchOption o (left tokens.old ≡ [])

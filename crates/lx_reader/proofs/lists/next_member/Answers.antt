@@ -7,5 +7,5 @@ use Rattle.lx_reader.proofs.lists.next_member.Goals as goal
 pub returns-in-Some-clause-list : goal.returns-in-Some-clause-list
 returns-in-Some-clause-list c =
     let m = c.in-Some.ensures in
-    ap (all_pairs c.args.i) m.first ∙ all_pairs-first c.args.i m.chan_token m.level_token (left c.plain_member.new.tokens) c.in-Some.member
+    ap (all_pairs c.args.i) m.first ∙ all_pairs-first c.args.i m.chan_token m.level_token (left c.near_member.new.tokens) c.in-Some.member
     m.chan m.level

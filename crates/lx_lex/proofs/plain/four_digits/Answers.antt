@@ -1,16 +1,16 @@
 use Rattle.std.proofs.Common.{◌∙◌, arith}
 use Rattle.lx_lex.proofs.PlainNumbers.{digit_at, first_at, rest_of}
-use Rattle.lx_lex.proofs.plain.front_digits.Goals as goal
+use Rattle.lx_lex.proofs.plain.four_digits.Goals as goal
 
 pub returns-in_default-clause-digits : goal.returns-in_default-clause-digits
 returns-in_default-clause-digits c =
-    let long = c.if-text-lt4.false in
+    let long = c.requires in
     let a = c.in_ok-digit.ensures in
     rest_of c.args.text.now _ 1 (omega (arith, long)) (first_at c.args.text.now _ (omega (arith, long)) a.0 (c.from-one.ensures ∙ a.1))
 
 pub returns-in_default-digit-clause-digits : goal.returns-in_default-digit-clause-digits
 returns-in_default-digit-clause-digits c =
-    let long = c.if-text-lt4.false in
+    let long = c.requires in
     let a = c.in_ok-digit.ensures in
     let b = c.in-Some.ensures in
     let one = first_at c.args.text.now _ (omega (arith, long)) a.0 (c.from-one.ensures ∙ a.1) in
@@ -18,7 +18,7 @@ returns-in_default-digit-clause-digits c =
 
 pub returns-in_default-digit-2-clause-digits : goal.returns-in_default-digit-2-clause-digits
 returns-in_default-digit-2-clause-digits c =
-    let long = c.if-text-lt4.false in
+    let long = c.requires in
     let a = c.in_ok-digit.ensures in
     let b = c.in-Some.ensures in
     let d = c.in-Some-digit.ensures in
@@ -28,7 +28,7 @@ returns-in_default-digit-2-clause-digits c =
 
 pub returns-clause-digits : goal.returns-clause-digits
 returns-clause-digits c =
-    let long = c.if-text-lt4.false in
+    let long = c.requires in
     let a = c.in_ok-digit.ensures in
     let b = c.in-Some.ensures in
     let d = c.in-Some-digit.ensures in
