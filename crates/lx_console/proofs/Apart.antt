@@ -125,9 +125,9 @@ unseen_stands show after p n k levels valid stands within places unseen =
 -- as where a plan placed one cue
 pub placed_stands : (show after : Show) (p : Playback) (plan : Plan) (placed : Option ℕ) (k : ℕ) (levels : Levels) → Valid show
     → LevelsStandFor show p levels → k < show.channels → IsReady show plan → after ≡ planned show plan
-    → IfSome placed (λ n. (s : Show) → IsReady s plan → PlacesCue s (planned s plan) n)
+    → IfSome placed (λ n. (s : Show) → Valid s → IsReady s plan → PlacesCue s (planned s plan) n)
     → IsSomeAnd placed (λ n. IsUnseen after p n (k + 1)) → StandsAt after p levels k
 placed_stands show after p plan None k levels valid stands within ready is places unseen = absurd unseen
 placed_stands show after p plan (Some n) k levels valid stands within ready is places unseen =
     unseen_stands show after p n k levels valid stands within
-    (subst (λ (s : Show). PlacesCue show s n) (sym is) (places show ready)) unseen
+    (subst (λ (s : Show). PlacesCue show s n) (sym is) (places show valid ready)) unseen

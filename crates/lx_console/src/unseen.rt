@@ -3,7 +3,7 @@
 ghost use Rattle.std.specs.Prelude.{◌≡◌, ℕ, ◌≤◌, ◌<◌, ◌⊎◌, true, false, find, length, reverse, option_map, IfSome};
 ghost use Rattle.std.specs.Option.{IsSomeAnd};
 ghost use Rattle.std.specs.List.{All};
-ghost use Rattle.lx_spec.specs.Show.{Show as ShowData, InRange};
+ghost use Rattle.lx_spec.specs.Show.{Show as ShowData, Valid, InRange};
 ghost use Rattle.lx_spec.specs.TrackedLevel.{decides};
 ghost use Rattle.lx_edit.specs.ChanSet.{has_chan};
 ghost use Rattle.lx_edit.specs.Planned.{IsReady, planned};
@@ -21,11 +21,12 @@ const NEAR: usize = 16;
 
 /// The cue that the plan places, where it changes no other one.
 pub(crate) fn placed_alone(plan: &Plan) -> Option<CueNo>
-    ensures { IfSome result (λ n. (show : ShowData) → IsReady show plan.now → PlacesCue show (planned show plan.now) n) }
+    ensures { IfSome result (λ n. (show : ShowData) → Valid show → IsReady show plan.now → PlacesCue show (planned show plan.now) n) }
 {
     match plan {
         Plan::PlaceCue { cue, above: None } => Some(cue.number),
         Plan::PlaceCues { cue, above: None } => Some(cue.number),
+        Plan::PlaceMove { cue, .. } => Some(*cue),
         _ => None,
     }
 }

@@ -23,28 +23,7 @@ use Rattle.lx_edit.proofs.Lists.{map_append}
 use Rattle.lx_edit.proofs.Walks.{through, walked, tracked-with_cue, tracked-without_cue, tracked_below-with_cue, tracked_below-without_cue}
 use Rattle.lx_spec.proofs.Comparisons.{le_true}
 use Rattle.lx_spec.proofs.Lists.{all_reverse, each, filter_all, find_in_filter, find_none, found_has}
-use Rattle.lx_spec.proofs.SortedLists.{entry_at-placed_here, entry_at-placed_other, found_number, found_valid, has_placed, placed_same}
-
--- Moves that are marked where they differ.
-found_step : (chans : ChanSet) (moves : List Move) (other : Option Cue) (c : ℕ) (o : Option Move) → entry_at (λ m. m.chan) c moves ≡ o
-    → has_chan chans c ≡ false → AllByRecursion (λ m. has_chan chans m.chan ≡ false → move_by other m.chan ≡ Some m) moves
-    → IfSome o (λ m. move_by other c ≡ Some m)
-found_step chans moves other c None is out all = tt
-found_step chans moves other c (Some m) is out all =
-    let here : c ≡ m.chan = found_number (λ (x : Move). x.chan) c moves m is in
-    let marked : has_chan chans m.chan ≡ false → move_by other m.chan ≡ Some m =
-    found_valid (λ (x : Move). has_chan chans x.chan ≡ false → move_by other x.chan ≡ Some x) (λ (x : Move). x.chan) c moves m all is in
-    subst (λ k. has_chan chans k ≡ false → move_by other k ≡ Some m) (sym here) marked out
-
-pub found_marked : (chans : ChanSet) (cue : Cue) (other : Option Cue) (c : ℕ) → has_chan chans c ≡ false
-    → AllByRecursion (λ m. has_chan chans m.chan ≡ false → move_by other m.chan ≡ Some m) cue.moves
-    → IfSome (move_by (Some cue) c) (λ m. move_by other c ≡ Some m)
-found_marked chans cue other c out all = found_step chans cue.moves other c (move_in cue c) refl out all
-
-pub same_both_ways : (a b : Option Move) → IfSome a (λ m. b ≡ Some m) → IfSome b (λ m. a ≡ Some m) → a ≡ b
-same_both_ways None None there back = refl
-same_both_ways None (Some m) there back = back
-same_both_ways (Some m) b there back = sym there
+use Rattle.lx_spec.proofs.SortedLists.{entry_at-placed_here, entry_at-placed_other, found_number, has_placed, placed_same}
 
 level_step : (one other : Bool) (m : Option Move) (base : ℕ) → (m ≡ None → base ≡ 0)
     → cond (one || is_some m) (option_map_or (λ x. x.level) m 0) base ≡ cond (other || is_some m) (option_map_or (λ x. x.level) m 0) base

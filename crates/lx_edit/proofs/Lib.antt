@@ -4,6 +4,7 @@ pub mod CueLevels
 pub mod ChanBits
 pub mod Walks
 pub mod KeptLevels
+pub mod Marked
 pub mod ChangedColumns
 pub mod KeptRows
 pub mod Asserted

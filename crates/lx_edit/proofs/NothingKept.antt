@@ -1,13 +1,12 @@
 -- Cue only, where the cue above decides the one channel that a move changes: nothing has to be kept there.
-use Rattle.std.proofs.Common.{◌≡◌, ℕ, ◌-◌, ◌<◌, ◌≤◌, Bool, true, false, cond, List, [], ◌∷◌, Some, None, Ok, refl, ◌∙◌, sym, ap, subst, arith, inl, inr, map}
+use Rattle.std.proofs.Common.{◌≡◌, ℕ, ◌-◌, ◌<◌, Bool, true, false, cond, List, [], ◌∷◌, Some, None, refl, ◌∙◌, sym, ap, subst, arith, inl, inr, map}
 use Rattle.std.specs.Prelude.{Option, IfSome, find, filter, is_some, not, ◌==◌, ◌||◌, unwrap_or, nat_lt}
 use Rattle.std.specs.Option.{option_map_or}
-use Rattle.std.specs.List.{AllByRecursion}
 use Rattle.std.proofs.lemmas.Bool.{cases_eq}
 use Rattle.lx_spec.specs.declared.Move.{Move}
-use Rattle.lx_spec.specs.SortedList.{IsStrictlySorted, entry_at, placed}
+use Rattle.lx_spec.specs.SortedList.{IsStrictlySorted, entry_at}
 use Rattle.lx_spec.specs.Show.{Cue, Show, Valid}
-use Rattle.lx_spec.specs.TrackedLevel.{cue_of, cue_above, decides, level_in, move_in, tracked}
+use Rattle.lx_spec.specs.TrackedLevel.{cue_above, decides, level_in, move_in, tracked}
 use Rattle.lx_spec.specs.EditedShow.{with_cue, with_moves, cue_only, kept_above, channels_of}
 use Rattle.lx_spec.proofs.Lists.{find_has}
 use Rattle.lx_spec.proofs.SortedLists.{IsStrictlySorted-placed, entry_at-placed_other, placed_same}
@@ -16,7 +15,6 @@ use Rattle.lx_edit.specs.Kept.{decided}
 use Rattle.lx_edit.specs.Planned.{with_move}
 use Rattle.lx_edit.proofs.KeptLevels.{above-before, above-changed, above_higher, cue_above-changed, cue_least, none_through, same_through}
 use Rattle.lx_edit.proofs.SameLists.{first_here, first_other, some_same}
-use Rattle.lx_spec.proofs.SortedLists.{entry_at-placed_here}
 
 none_is : {A : Type 0} (x : A) → ◌≡◌ {A = Option A} None (Some x) → ⊥
 none_is x is = cc

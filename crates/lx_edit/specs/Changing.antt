@@ -1,9 +1,10 @@
 -- What a channel sees of a cue that is changed, added or taken out.
-use Rattle.std.specs.Prelude.{◌≡◌, ℕ, ◌≤◌, option_map, find, Bool, false, ◌||◌, Option, Some, None, is_some, option_and_then, if◌then◌else◌}
+use Rattle.std.specs.Prelude.{◌≡◌, ℕ, ◌≤◌, List, [], option_map, find, Bool, false, ◌||◌, Option, Some, None, is_some, option_and_then, if◌then◌else◌}
 use Rattle.std.specs.Option.{option_map_or, option_or, IsSomeAnd}
+use Rattle.std.specs.List.{AllByRecursion}
 use Rattle.lx_spec.specs.declared.Move.{Move}
 use Rattle.lx_spec.specs.Show.{Cue, Show, InRange}
-use Rattle.lx_spec.specs.SortedList.{entries_above}
+use Rattle.lx_spec.specs.SortedList.{entries_above, entry_at}
 use Rattle.lx_spec.specs.TrackedLevel.{move_in, move_of, tracked, decides}
 use Rattle.lx_spec.specs.Laws.{SameColumn}
 use Rattle.lx_edit.specs.declared.chan_set.ChanSet.{ChanSet}
@@ -12,6 +13,14 @@ use Rattle.lx_edit.specs.ChanSet.{has_chan}
 -- the channel's move in the cue, where that is there
 abbrev pub move_by : Option Cue → ℕ → Option Move
 move_by cue c = option_and_then (λ x. move_in x c) cue
+
+-- its moves, where it is there
+abbrev pub moves_in : Option Cue → List Move
+moves_in cue = option_map_or (λ x. x.moves) cue []
+
+-- each of these moves whose channel isn't in the set is among the others
+abbrev pub AreAmong : ChanSet → List Move → List Move → Type 0
+AreAmong chans moves others = AllByRecursion (λ m. has_chan chans m.chan ≡ false → entry_at (λ x. x.chan) m.chan others ≡ Some m) moves
 
 -- it is there, and a block cue
 abbrev pub is_block : Option Cue → Bool

@@ -1,8 +1,7 @@
 //! Which channels see a difference where a cue is changed, added or taken out.
 
-ghost use Rattle.std.specs.Prelude.{◌≡◌, ◌≤◌, ◌-◌, ℕ, true, false, Some, None, IfSome, Option, IsTrue};
+ghost use Rattle.std.specs.Prelude.{◌≡◌, ◌≤◌, ◌-◌, ℕ, true, false, Some, None, IfSome, List, length, take};
 ghost use Rattle.std.specs.Option.{option_copied};
-ghost use Rattle.std.specs.List.{AllByRecursion};
 ghost use Rattle.lx_base.specs.declared.TheConstants.{CHANNELS};
 ghost use Rattle.lx_spec.specs.SortedList.{IsStrictlySorted, entry_at};
 ghost use Rattle.lx_spec.specs.TrackedLevel.{cue_of, asserts, tracked};
@@ -10,7 +9,7 @@ ghost use Rattle.lx_sheet.specs.Rows.{level_of};
 ghost use Rattle.lx_sheet.specs.Standing.{RowsStandFor};
 ghost use Rattle.lx_edit.specs.ChanSet.{has_chan};
 ghost use Rattle.lx_edit.specs.Planned.{planned};
-ghost use Rattle.lx_edit.specs.Changing.{move_by, is_block, SameEntry, Grows};
+ghost use Rattle.lx_edit.specs.Changing.{AreAmong, move_by, moves_in, is_block, SameEntry, Grows};
 
 use crate::absent::channel;
 use crate::blocks::below;
@@ -37,42 +36,79 @@ pub(crate) fn mark_change(
 {
     let _ = show.channels();
     let old = show.cue(n);
-    mark_moves(chans, old, new);
-    mark_moves(chans, new, old);
+    mark_moves(chans, moves_of(old), moves_of(new));
     if is_block(old) != is_block(new) {
         mark_tracked(chans, sheet, n, new);
     }
 }
 
-/// Adds the channels whose moves in the one cue the other hasn't.
-fn mark_moves(chans: &mut ChanSet, cue: Option<&Cue>, other: Option<&Cue>)
-    ensures grows { Grows chans.old chans.new }
-    ensures marked { (c : ℕ) → has_chan chans.new c ≡ false
-        → IfSome (move_by (option_copied cue.entry) c) (λ m. move_by (option_copied other.entry) c ≡ Some m) }
+/// The cue's moves, if it is there.
+fn moves_of<'a>(cue: Option<&'a Cue>) -> &'a [Move]
+    ensures moves { result.now ≡ moves_in (option_copied cue.entry) }
+    ensures sorted { IsStrictlySorted (λ m. m.chan) result.now }
 {
-    if let Some(cue) = cue {
-        mark_all(chans, cue.moves.as_slice(), other);
+    match cue {
+        Some(cue) => cue.moves.as_slice(),
+        None => &[],
     }
 }
 
-/// Adds the channels of the moves that the cue hasn't.
-fn mark_all(chans: &mut ChanSet, moves: &[Move], other: Option<&Cue>)
+/// Adds the channels whose moves among the ones are others than among the others. It is one walk through both.
+fn mark_moves(chans: &mut ChanSet, old: &[Move], new: &[Move])
+    requires old { IsStrictlySorted (λ m. m.chan) old.now }
+    requires new { IsStrictlySorted (λ m. m.chan) new.now }
     ensures grows { Grows chans.old chans.new }
-    ensures marked { AllByRecursion (λ m. has_chan chans.new m.chan ≡ false
-        → move_by (option_copied other.entry) m.chan ≡ Some m) moves.now }
+    ensures same { (c : ℕ) → has_chan chans.new c ≡ false → entry_at (λ m. m.chan) c old.now ≡ entry_at (λ m. m.chan) c new.now }
 {
-    let mut near = 0;
-    for entry in moves {
-        mark(chans, entry, move_near(other, &mut near, entry.chan));
+    let mut next = 0;
+    for entry in new {
+        mark_below(chans, old, &mut next, Some(entry.chan));
+        mark_beside(chans, old, &mut next, entry);
+    }
+    mark_below(chans, old, &mut next, None);
+}
+
+/// Adds the channels of the moves from the place on that are below the channel, or of all where none is given. The
+/// place goes on past them.
+fn mark_below(chans: &mut ChanSet, moves: &[Move], next: &mut usize, end: Option<Chan>)
+    requires { next.old ≤ length moves.now }
+    ensures grows { Grows chans.old chans.new }
+    ensures within { next.new ≤ length moves.now }
+    ensures marked { (others : List Move) → AreAmong chans.old (take next.old moves.now) others
+        → AreAmong chans.new (take next.new moves.now) others }
+    ensures all { end ≡ None → next.new ≡ length moves.now }
+{
+    while *next < moves.len() && is_below(&moves[*next], &end) {
+        chans.insert(moves[*next].chan);
+        *next += 1;
     }
 }
 
-/// Adds the channel of the move, unless the other is the same move.
-fn mark(chans: &mut ChanSet, entry: &Move, other: Option<Move>)
-    ensures grows { Grows chans.old chans.new }
-    ensures marked { has_chan chans.new entry.now.chan ≡ false → other ≡ Some entry.now }
+/// The move's channel is below this one, where one is given.
+fn is_below(entry: &Move, end: &Option<Chan>) -> bool
+    ensures { end.now ≡ None → result ≡ true }
 {
-    if !is_same(entry, other) {
+    match end {
+        Some(end) => entry.chan.get() < end.get(),
+        None => true,
+    }
+}
+
+/// Adds the channel of the move, unless the same one stands at the place among the others. The place goes on past
+/// one of its channel.
+fn mark_beside(chans: &mut ChanSet, moves: &[Move], next: &mut usize, entry: &Move)
+    requires sorted { IsStrictlySorted (λ m. m.chan) moves.now }
+    requires within { next.old ≤ length moves.now }
+    ensures grows { Grows chans.old chans.new }
+    ensures within { next.new ≤ length moves.now }
+    ensures here { has_chan chans.new entry.now.chan ≡ false → entry_at (λ m. m.chan) entry.now.chan moves.now ≡ Some entry.now }
+    ensures marked { (others : List Move) → entry_at (λ m. m.chan) entry.now.chan others ≡ Some entry.now
+        → AreAmong chans.old (take next.old moves.now) others → AreAmong chans.new (take next.new moves.now) others }
+{
+    if *next < moves.len() && moves[*next].chan.get() == entry.chan.get() {
+        mark_move(chans, entry, &moves[*next]);
+        *next += 1;
+    } else {
         chans.insert(entry.chan);
     }
 }
@@ -82,32 +118,21 @@ pub(crate) fn mark_move(chans: &mut ChanSet, entry: &Move, old: &Move)
     ensures grows { Grows chans.old chans.new }
     ensures marked { has_chan chans.new entry.now.chan ≡ false → Some old.now ≡ Some entry.now }
 {
-    mark(chans, entry, Some(*old));
-}
-
-/// The other is the same move.
-fn is_same(entry: &Move, other: Option<Move>) -> bool
-    ensures { result ≡ true → other ≡ Some entry.now }
-{
-    match other {
-        Some(other) => {
-            entry.chan.get() == other.chan.get()
-                && entry.part.get() == other.part.get()
-                && entry.level == other.level
-        }
-        None => false,
+    if !is_same(entry, old) {
+        chans.insert(entry.chan);
     }
 }
 
-/// The channel's move in the cue, where that is there. It is looked for first at the place after the one that
-/// was found last.
-fn move_near(cue: Option<&Cue>, near: &mut usize, c: Chan) -> Option<Move>
-    ensures { result ≡ move_by (option_copied cue.entry) c }
+/// They are the same move.
+fn is_same(entry: &Move, other: &Move) -> bool
+    ensures { result ≡ true → other.now ≡ entry.now }
 {
-    entry_near(cue?.moves.as_slice(), near, c)
+    entry.chan.get() == other.chan.get()
+        && entry.part.get() == other.part.get()
+        && entry.level == other.level
 }
 
-/// The channel's move among these, looked for so.
+/// The channel's move among these. It is looked for first at the place after the one that was found last.
 pub(crate) fn entry_near(moves: &[Move], near: &mut usize, c: Chan) -> Option<Move>
     requires { IsStrictlySorted (λ m. m.chan) moves.now }
     ensures { result ≡ entry_at (λ m. m.chan) c moves.now }

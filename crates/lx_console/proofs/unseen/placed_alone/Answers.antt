@@ -1,0 +1,21 @@
+use Rattle.std.proofs.Common.{◌≡◌, ◌≤◌, ℕ, sym, subst}
+use Rattle.lx_edit.specs.declared.plans.Plan.{Plan}
+use Rattle.lx_edit.specs.Planned.{IsReady, planned, with_move}
+use Rattle.lx_edit.proofs.PlacedMoves.{moved, moved_is}
+use Rattle.lx_spec.specs.Show.{Show, Valid}
+use Rattle.lx_console.specs.Unseen.{PlacesCue}
+use Rattle.lx_console.proofs.unseen.placed_alone.Goals as goal
+
+pub returns-in-PlaceMove : goal.returns-in-PlaceMove
+returns-in-PlaceMove c =
+    let n = c.in-PlaceMove.cue in
+    let entry = c.in-PlaceMove.entry in
+    subst (λ (p : Plan). (show : Show) → Valid show → IsReady show p → PlacesCue show (planned show p) n) (sym c.in-PlaceMove.is)
+    (λ show valid ready.
+    let m = moved show n entry valid ready in
+    record {
+      cue = with_move m.cue entry;
+      number = m.number;
+      least = subst (λ (k : ℕ). 1 ≤ k) m.number m.least;
+      after_is = moved_is show n entry m.cue m.found;
+    })
