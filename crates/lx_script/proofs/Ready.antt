@@ -1,19 +1,19 @@
 -- The rows of the tables of ready texts.
-use Rattle.std.proofs.Common.{◌≡◌, ℕ, ◌+◌, ◌-◌, ◌/◌, ◌%◌, ◌<◌, ◌≤◌, List, [], ◌∷◌, ◌++◌, length, get_or, map, drop, decimal, refl, ap}
+use Rattle.std.proofs.Common.{◌≡◌, ℕ, ◌+◌, ◌/◌, ◌%◌, ◌<◌, ◌≤◌, List, [], ◌∷◌, ◌++◌, length, get_or, map, take, decimal, refl, ap}
 use Rattle.std.proofs.Common.{sym, ◌∙◌, arith, cond, inl, inr, ◌⊎◌}
 use Rattle.std.specs.List.{range_with_len}
 use Rattle.std.proofs.lemmas.List.FromFn.{get_or-map-range_with_len}
-use Rattle.itoa.proofs.Decimal.{pair, decimal_pair, decimal_two, length_one, length_two}
-use Rattle.std.proofs.lemmas.Fmt.{decimal_digit}
+use Rattle.itoa.proofs.Decimal.{pair, decimal_pair, decimal_two, length_one, length_pair, length_two}
+use Rattle.std.proofs.lemmas.Fmt.{decimal_digit, length-decimal-le}
 use Rattle.std.specs.Prelude.{nat_lt}
 use Rattle.std.proofs.lemmas.Bool.{cases_Bool}
 use Rattle.lx_spec.proofs.Comparisons.{le_from, lt_false, lt_from, lt_true}
-use Rattle.lx_script.specs.declared.rows.TheConstants.{DIGITS, LEVELS, NUMBERS, PAIRS}
+use Rattle.lx_script.specs.declared.rows.TheConstants.{LENGTHS, LEVELS, NUMBERS, PAIRS}
 
--- a byte and a number of at most three digits, at the end of four bytes
+-- a byte and a number of at most three digits, at the front of four bytes
 abbrev pub ready : ℕ → ℕ → List ℕ
-ready before n = cond (nat_lt n 10) (32 ∷ 32 ∷ before ∷ (48 + n) ∷ [])
-    (cond (nat_lt n 100) (32 ∷ before ∷ (48 + n / 10) ∷ (48 + n % 10) ∷ [])
+ready before n = cond (nat_lt n 10) (before ∷ (48 + n) ∷ 32 ∷ 32 ∷ [])
+    (cond (nat_lt n 100) (before ∷ (48 + n / 10) ∷ (48 + n % 10) ∷ 32 ∷ [])
     (before ∷ (48 + n / 100) ∷ (48 + n % 100 / 10) ∷ (48 + n % 100 % 10) ∷ []))
 
 levels_are : LEVELS ≡ map (ready 61) (range_with_len 0 256)
@@ -22,8 +22,8 @@ levels_are = refl
 numbers_are : NUMBERS ≡ map (ready 32) (range_with_len 0 1000)
 numbers_are = refl
 
-digits_are : DIGITS ≡ map (λ n. cond (nat_lt n 10) 1 (cond (nat_lt n 100) 2 3)) (range_with_len 0 1000)
-digits_are = refl
+lengths_are : LENGTHS ≡ map (λ n. cond (nat_lt n 10) 2 (cond (nat_lt n 100) 3 4)) (range_with_len 0 256)
+lengths_are = refl
 
 pairs_are : PAIRS ≡ map pair (range_with_len 0 100)
 pairs_are = refl
@@ -43,57 +43,66 @@ below_or_from a b = elim (cases_Bool (nat_lt a b)) [ inl is ↦ inl (lt_from a b
 pub three_digits : (n : ℕ) → 100 ≤ n → n < 1000 → decimal n ≡ (48 + n / 100) ∷ (48 + n % 100 / 10) ∷ (48 + n % 100 % 10) ∷ []
 three_digits n lo hi = decimal_pair n lo (omega arith) ∙ ap (λ front. front ++ pair (n % 100)) (decimal_digit (n / 100) (omega arith))
 
-pub ready_end : (before n count : ℕ) → n < 1000 → count ≡ length (decimal n) + 1 → drop (4 - count) (ready before n) ≡ before ∷ decimal n
-ready_end before n count lt is =
+pub length_three : (n : ℕ) → 100 ≤ n → n < 1000 → length (decimal n) ≡ 3
+length_three n lo hi = ap length (three_digits n lo hi)
+
+pub length_four : (n : ℕ) → 1000 ≤ n → n < 10000 → length (decimal n) ≡ 4
+length_four n lo hi = let whole = length_pair n (omega arith) (omega arith) in omega (arith, whole, length_two (n / 100) (omega arith) (omega arith))
+
+pub ready_front : (before n count : ℕ) → n < 1000 → count ≡ length (decimal n) + 1 → take count (ready before n) ≡ before ∷ decimal n
+ready_front before n count lt is =
     elim (below_or_from n 10) [
       | inl low ↦
-          let two : 4 - count ≡ 2 = omega (arith, length_one n low) in
+          let two : count ≡ 2 = omega (arith, length_one n low) in
           rw (lt_true n 10 low, two, decimal_digit n low) refl
       | inr from ↦ elim (below_or_from n 100) [
         | inl low ↦
-            let one : 4 - count ≡ 1 = omega (arith, length_two n from low) in
-            rw (lt_false n 10 from, lt_true n 100 low, one, decimal_two n from low) refl
+            let three : count ≡ 3 = omega (arith, length_two n from low) in
+            rw (lt_false n 10 from, lt_true n 100 low, three, decimal_two n from low) refl
         | inr more ↦
-            let none : 4 - count ≡ 0 = omega (arith, ap length (three_digits n more lt)) in
-            rw (lt_false n 10 from, lt_false n 100 more, none, three_digits n more lt) refl
+            let four : count ≡ 4 = omega (arith, length_three n more lt) in
+            rw (lt_false n 10 from, lt_false n 100 more, four, three_digits n more lt) refl
       ]
     ]
 
-pub digits_at : (n : ℕ) → n < 1000 → (get_or DIGITS n 0 ≤ 3) × (get_or DIGITS n 0 ≡ length (decimal n))
-digits_at n lt =
-    let is : get_or DIGITS n 0 ≡ cond (nat_lt n 10) 1 (cond (nat_lt n 100) 2 3)
-    = ap (λ ds. get_or ds n 0) digits_are ∙ get_or-map-range_with_len (λ n. cond (nat_lt n 10) 1 (cond (nat_lt n 100) 2 3)) 0 1000 n n 0 lt
+pub length_at : (v : ℕ) → v < 256 → (get_or LENGTHS v 0 ≤ 4) × (get_or LENGTHS v 0 ≡ length (decimal v) + 1)
+length_at v lt =
+    let is : get_or LENGTHS v 0 ≡ cond (nat_lt v 10) 2 (cond (nat_lt v 100) 3 4)
+    = ap (λ ls. get_or ls v 0) lengths_are ∙ get_or-map-range_with_len (λ n. cond (nat_lt n 10) 2 (cond (nat_lt n 100) 3 4)) 0 256 v v 0 lt
     (omega arith) in
-    elim (below_or_from n 10) [
-      | inl low ↦ let one : get_or DIGITS n 0 ≡ 1 = rw (is, lt_true n 10 low) refl in (omega arith, one ∙ sym (length_one n low))
-      | inr from ↦ elim (below_or_from n 100) [
-        | inl low ↦ let two : get_or DIGITS n 0 ≡ 2 =
-            rw (is, lt_false n 10 from, lt_true n 100 low) refl in (omega arith, two ∙ sym (length_two n from low))
-        | inr more ↦ let three : get_or DIGITS n 0 ≡ 3 =
-            rw (is, lt_false n 10 from, lt_false n 100 more) refl in (omega arith, three ∙ sym (ap length (three_digits n more lt)))
+    elim (below_or_from v 10) [
+      | inl low ↦ let two : get_or LENGTHS v 0 ≡ 2 = rw (is, lt_true v 10 low) refl in (omega arith, omega (arith, two, length_one v low))
+      | inr from ↦ elim (below_or_from v 100) [
+        | inl low ↦ let three : get_or LENGTHS v 0 ≡ 3 = rw (is, lt_false v 10 from, lt_true v 100 low) refl in
+            (omega arith, omega (arith, three, length_two v from low))
+        | inr more ↦ let four : get_or LENGTHS v 0 ≡ 4 = rw (is, lt_false v 10 from, lt_false v 100 more) refl in
+            (omega arith, omega (arith, four, length_three v more (omega arith)))
       ]
     ]
 
-length_three : (n : ℕ) → 100 ≤ n → n < 1000 → length (decimal n) ≡ 3
-length_three n lo hi = ap length (three_digits n lo hi)
+-- numbers with as many digits
+pub same_digits : (a n most : ℕ) → a < n → n ≤ most
+    → ((most ≡ 9) ⊎ ((9 ≤ a) × (most ≡ 99))) ⊎ (((99 ≤ a) × (most ≡ 999)) ⊎ ((999 ≤ a) × (most ≡ 9999)))
+    → length (decimal n) ≡ length (decimal (a + 1))
+same_digits a n most more within (inl (inl is)) = length_one n (omega arith) ∙ sym (length_one (a + 1) (omega arith))
+same_digits a n most more within (inl (inr is)) =
+    length_two n (omega arith) (omega arith) ∙ sym (length_two (a + 1) (omega arith) (omega arith))
+same_digits a n most more within (inr (inl is)) =
+    length_three n (omega arith) (omega arith) ∙ sym (length_three (a + 1) (omega arith) (omega arith))
+same_digits a n most more within (inr (inr is)) =
+    length_four n (omega arith) (omega arith) ∙ sym (length_four (a + 1) (omega arith) (omega arith))
 
-not_one : (n : ℕ) → 10 ≤ n → n < 1000 → length (decimal n) ≡ 1 → ⊥
-not_one n lo hi is = elim (below_or_from n 100) [
-  | inl low ↦ omega (arith, is, length_two n lo low)
-  | inr more ↦ omega (arith, is, length_three n more hi)
+pub three_at_most : (n : ℕ) → n ≤ 9999 → length (decimal n) + 1 < 5 → n < 1000
+three_at_most n near few = elim (below_or_from n 1000) [
+  | inl low ↦ low
+  | inr from ↦ absurd (omega (arith, length_four n from (omega arith)))
 ]
 
--- a number between two that have as many digits
-pub digits_between : (a n b : ℕ) → a ≤ n → n ≤ b → b < 1000 → length (decimal b) ≡ length (decimal a)
-    → length (decimal n) ≡ length (decimal a)
-digits_between a n b from to most same =
-    elim (below_or_from n 10) [
-      | inl low ↦ length_one n low ∙ sym (length_one a (omega arith))
-      | inr tens ↦ elim (below_or_from n 100) [
-        | inl low ↦ elim (below_or_from a 10) [
-          | inl one ↦ absurd (not_one b (omega arith) most (same ∙ length_one a one))
-          | inr two ↦ length_two n tens low ∙ sym (length_two a two (omega arith))
-        ]
-        | inr more ↦ length_three n more (omega arith) ∙ sym (length_three b (omega arith) most) ∙ same
-      ]
-    ]
+pub four_at_least : (n : ℕ) → n ≤ 9999 → 5 ≤ length (decimal n) + 1 → 1000 ≤ n
+four_at_least n near many = elim (below_or_from n 1000) [
+  | inl low ↦ elim (below_or_from n 100) [
+    | inl two ↦ absurd (omega (arith, length-decimal-le 2 n (omega arith) (omega arith) (omega arith)))
+    | inr three ↦ absurd (omega (arith, length_three n three low))
+  ]
+  | inr from ↦ from
+]

@@ -1,10 +1,11 @@
 -- Words with spaces between them, and the cells of levels, as they are put one after another.
 use Rattle.std.proofs.Common.{◌≡◌, ◌≢◌, ℕ, ◌+◌, ◌-◌, ◌<◌, ◌≤◌, List, [], ◌∷◌, ◌++◌, length, take, drop, get_or, refl, sym, ap, ◌∙◌}
-use Rattle.std.proofs.Common.{append-nil, append_assoc, take-append-drop, arith, add-one, drop-cons, length-take}
-use Rattle.std.proofs.Math.Seq.{take-add}
+use Rattle.std.proofs.Common.{append-nil, append_assoc, take-append-drop, arith, length-take}
+use Rattle.std.proofs.Math.Seq.{take-add, take-append-add}
+use Rattle.std.proofs.lemmas.List.{take-take, take_more}
 use Rattle.std.specs.Prelude.{Bool, true, false, suc, ◌==◌, flat_map, codes, decimal, slice_range, if◌then◌else◌}
 use Rattle.std.specs.List.{enumerate_from}
-use Rattle.lx_script.specs.Cells.{cells_from}
+use Rattle.lx_script.specs.Cells.{cell, cells_from}
 use Rattle.std.proofs.lemmas.Grind.{flat_map-append}
 use Rattle.std.proofs.lemmas.Bool.{ne_eqb}
 use Rattle.lx_spec.specs.declared.Refusal.{Refusal}
@@ -38,10 +39,6 @@ spaced_refusal (NoCueBefore n) = refl
 spaced_refusal PlaybackFull = refl
 spaced_refusal (TickLimit m) = refl
 spaced_refusal Memory = refl
-
--- the text of one cell
-abbrev pub cell : ℕ → ℕ → List ℕ
-cell number level = if level == 0 then [] else 32 ∷ (decimal number ++ 61 ∷ decimal level)
 
 pub cell-some : (number level : ℕ) → level ≢ 0 → cell number level ≡ 32 ∷ (decimal number ++ 61 ∷ decimal level)
 cell-some number level some = rw (ne_eqb level 0 some) refl
@@ -93,16 +90,32 @@ cells_more levels from end before within =
     ∙ cells_from-append 1 (take from levels) (slice_range levels from end)
     ∙ ap (λ n. cells_from 1 (take from levels) ++ cells_from n (slice_range levels from end)) number
 
--- a level more, before those that are written
-pub cells_before : (number left : ℕ) (levels : List ℕ) → left < length levels
-    → cells_from (number + left) (drop left levels)
-    ≡ cell (number + left) (get_or levels left 0) ++ cells_from (number + (left + 1)) (drop (left + 1) levels)
-cells_before number left levels lt =
-    let here : drop left levels ≡ get_or levels left 0 ∷ drop (left + 1) levels = rw add-one (drop-cons levels left 0 lt) in
-    let next : number + left + 1 ≡ number + (left + 1) = omega arith in
-    ap (cells_from (number + left)) here
-    ∙ cells_from-first (number + left) (get_or levels left 0) (drop (left + 1) levels)
-    ∙ ap (λ n. cell (number + left) (get_or levels left 0) ++ cells_from n (drop (left + 1) levels)) next
+-- the cell of a level more
+pub cells_next : (number at : ℕ) (levels : List ℕ) → at < length levels
+    → cells_from number (take (at + 1) levels) ≡ cells_from number (take at levels) ++ cell (number + at) (get_or levels at 0)
+cells_next number at levels lt =
+    let level : ℕ = get_or levels at 0 in
+    let here : take (at + 1) levels ≡ take at levels ++ level ∷ [] = take_more levels at 0 lt in
+    let count : number + length (take at levels) ≡ number + at = omega (arith, length-take at levels) in
+    ap (cells_from number) here ∙ cells_from-append number (take at levels) (level ∷ [])
+    ∙ ap (λ n. cells_from number (take at levels) ++ cells_from n (level ∷ [])) count
+    ∙ ap (λ text. cells_from number (take at levels) ++ text)
+    (cells_from-first (number + at) level [] ∙ append-nil (cell (number + at) level))
+
+-- what was written behind the first bytes, as far as it is wanted
+pub front_of : (end at count : ℕ) (old new row : List ℕ) → at ≤ length old → at + count ≤ end → take end new ≡ take at old ++ row
+    → take (at + count) new ≡ take at old ++ take count row
+front_of end at count old new row within fits is =
+    let same : length (take at old) ≡ at = omega (arith, length-take at old) in
+    sym (take-take (at + count) end new fits) ∙ ap (take (at + count)) is ∙ ap (λ n. take (n + count) (take at old ++ row)) (sym same)
+    ∙ take-append-add (take at old) row count
+
+-- nothing of it
+pub front_kept : (end at : ℕ) (old new row : List ℕ) → at ≤ length old → at ≤ end → take end new ≡ take at old ++ row
+    → take at new ≡ take at old
+front_kept end at old new row within fits is =
+    let none : at ≡ at + 0 = omega arith in
+    ap (λ n. take n new) none ∙ front_of end at 0 old new row within (omega arith) is ∙ append-nil (take at old)
 
 -- the words before the slots
 abbrev pub head : List (List ℕ) → ℕ → ℕ → List ℕ

@@ -7,3 +7,7 @@ abbrev pub cells_from : ℕ → List ℕ → List ℕ
 cells_from number levels =
     flat_map (λ word. 32 ∷ word)
     (flat_map (λ e. if e.1 == 0 then [] else (decimal e.0 ++ 61 ∷ decimal e.1) ∷ []) (enumerate_from number levels))
+
+-- the same of one level
+abbrev pub cell : ℕ → ℕ → List ℕ
+cell number level = if level == 0 then [] else 32 ∷ (decimal number ++ 61 ∷ decimal level)

@@ -1,24 +1,28 @@
 //! Words for levels that aren't 0, each behind a space.
 #![tactic(auto, using(lx_io::proofs::Chain::puts))]
 
-ghost use Rattle.std.specs.Prelude.{◌≡◌, ℕ, ◌+◌, ◌-◌, ◌*◌, ◌<◌, ◌≤◌, ◌^◌, ◌≢◌, ◌++◌, ◌∷◌, length, drop, decimal, flat_map};
+ghost use Rattle.std.specs.Prelude.{◌≡◌, ℕ, ◌+◌, ◌*◌, ◌<◌, ◌≤◌, ◌^◌, ◌++◌, ◌∷◌, length, take, decimal, flat_map};
 ghost use Rattle.lx_io.specs.Puts.{Puts};
 ghost use Rattle.lx_spec.specs.Replies.{cells};
-ghost use Rattle.lx_script.specs.Cells.{cells_from};
+ghost use Rattle.lx_script.specs.Cells.{cell, cells_from};
 
-use crate::rows::{DIGITS, LEVELS, NUMBERS, PAIRS};
-use itoa::write_digits;
+use crate::rows::{LENGTHS, LEVELS, NUMBERS, PAIRS};
 use lx_base::Level;
 use lx_io::{Sink, SinkFault, put_all};
+use lx_lex::{put_count, put_count_and};
 
-/// The most bytes of a cell: a space, a number of up to 20 digits, `=` and a level of up to three.
-const CELL_BYTES: usize = 25;
+/// The most bytes of a cell that is written with others: a space, a number of up to four digits, `=` and a level of up to
+/// three.
+const CELL_BYTES: usize = 9;
 
 /// The most levels whose cells are one piece.
-const PIECE_CELLS: usize = 128;
+const PIECE_CELLS: usize = 512;
 
 /// The most bytes of a piece.
-const PIECE_BYTES: usize = 3200;
+const PIECE_BYTES: usize = 4_608;
+
+/// The greatest number whose cell is written with others.
+const NEAR: usize = 9_999;
 
 /// Appends ` number=level` in decimal for each level that isn't 0, rising, the first level's number being 1. A fault is
 /// the sink's own, and then a prefix of the text was appended.
@@ -36,11 +40,14 @@ pub fn put_cells<K: Sink>(levels: &[Level], sink: &mut K) -> Result<(), SinkFaul
 }
 
 /// Where a piece ends that begins at a place: the numbers get another digit there, or it is full, or no level is left.
+/// Behind the near numbers each piece is one level.
 fn piece_end(from: usize, end: usize) -> usize
     requires { from < end }
     ensures more { from < result }
     ensures within { result ≤ end }
     ensures few { result ≤ from + PIECE_CELLS }
+    ensures near { from < NEAR → (n : ℕ) → from < n → n ≤ result → (n ≤ NEAR) × (length (decimal n) ≡ length (decimal (from + 1))) }
+    ensures far { NEAR ≤ from → result ≡ from + 1 }
 {
     let most = if from < 9 {
         9
@@ -48,249 +55,169 @@ fn piece_end(from: usize, end: usize) -> usize
         99
     } else if from < 999 {
         999
+    } else if from < NEAR {
+        NEAR
     } else {
-        end
+        from + 1
     };
     from + (most.min(end) - from).min(PIECE_CELLS)
 }
 
-/// Appends the cells of some levels, as one piece that is written into `text`.
+/// Appends the cells of some levels, as one piece that is written into `text`; or that of one level, whose number isn't near.
 fn put_piece<K: Sink>(
     number: u64,
     levels: &[Level],
     text: &mut [u8; PIECE_BYTES],
     sink: &mut K,
 ) -> Result<(), SinkFault>
+    requires some { 0 < length levels.now }
     requires few { length levels.now ≤ PIECE_CELLS }
-    requires numbers { number + length levels.now < 2 ^ 64 }
+    requires near { number ≤ NEAR → (n : ℕ) → number ≤ n → n < number + length levels.now
+        → (n ≤ NEAR) × (length (decimal n) ≡ length (decimal number)) }
+    requires far { NEAR < number → length levels.now ≡ 1 }
     ensures { Puts K.holds K.faults K.wants sink.old sink.new result (cells_from number levels.now) }
 {
-    let start = write_piece(number, levels, text);
-    put_all(sink, &text[start..])
+    if number > NEAR as u64 {
+        return put_far(number, levels[0], sink);
+    }
+    let end = write_cells(number, levels, width_of(number), text);
+    put_all(sink, &text[..end])
 }
 
-/// Writes the cells of some levels so that they end where the text does, and says where they begin. Numbers of at
-/// most three digits that have as many each are written the short way.
-fn write_piece(number: u64, levels: &[Level], text: &mut [u8; PIECE_BYTES]) -> usize
-    requires few { length levels.now ≤ PIECE_CELLS }
-    requires numbers { number + length levels.now < 2 ^ 64 }
-    ensures start { result ≤ PIECE_BYTES }
-    ensures text { drop result text.new ≡ cells_from number levels.now }
+/// Appends the cell of a level.
+fn put_far<K: Sink>(number: u64, level: Level, sink: &mut K) -> Result<(), SinkFault>
+    ensures { Puts K.holds K.faults K.wants sink.old sink.new result (cell number level) }
 {
-    let next = number + levels.len() as u64;
-    if number < next && next <= 1000 {
-        let count = digits(number);
-        if digits(next - 1) == count {
-            return write_short_cells(number, levels, count + 1, text);
-        }
-    }
-    write_cells(number, levels, text)
-}
-
-/// The same for numbers below 1,000, each of which has one digit less than `width`.
-fn write_short_cells(
-    number: u64,
-    levels: &[Level],
-    width: usize,
-    text: &mut [u8; PIECE_BYTES],
-) -> usize
-    requires few { length levels.now ≤ PIECE_CELLS }
-    requires numbers { number + length levels.now ≤ 1000 }
-    requires width { width ≤ 4 }
-    requires digits { (n : ℕ) → number ≤ n → n < number + length levels.now → width ≡ length (decimal n) + 1 }
-    ensures start { result ≤ PIECE_BYTES }
-    ensures text { drop result text.new ≡ cells_from number levels.now }
-{
-    let mut start = PIECE_BYTES;
-    let mut left = levels.len();
-    while left > 1 {
-        start = write_cell_at(number, levels, left - 1, width, text, start);
-        start = write_cell_at(number, levels, left - 2, width, text, start);
-        left -= 2;
-    }
-    if left > 0 {
-        write_cell_at(number, levels, 0, width, text, start)
-    } else {
-        start
-    }
-}
-
-/// Writes the cell of the level at an index, where it isn't 0, before the cells of those behind it, which begin at `end`, and says where
-/// they begin then.
-#[inline(always)]
-fn write_cell_at(
-    number: u64,
-    levels: &[Level],
-    at: usize,
-    width: usize,
-    text: &mut [u8; PIECE_BYTES],
-    end: usize,
-) -> usize
-    requires within { at < length levels.now }
-    requires number { number + at < 1000 }
-    requires width { width ≡ length (decimal (number + at)) + 1 }
-    requires most { width ≤ 4 }
-    requires room { CELL_BYTES ≤ end }
-    requires end { end ≤ PIECE_BYTES }
-    requires text { drop end text.old ≡ cells_from (number + (at + 1)) (drop (at + 1) levels.now) }
-    ensures start { end ≤ result + CELL_BYTES }
-    ensures before { result ≤ end }
-    ensures text { drop result text.new ≡ cells_from (number + at) (drop at levels.now) }
-{
-    let level = levels[at];
     if level == 0 {
-        return end;
+        return Ok(());
     }
-    write_short_cell(number + at as u64, width, level, text, end)
+    put_all(sink, b" ")?;
+    put_count_and(number, b'=', sink)?;
+    put_count(u64::from(level), sink)
 }
 
-/// Writes ` number=level` so that it ends at a place, and says where it begins. The number has one digit less than
-/// `width`.
+/// How many bytes a space and a near number have.
+fn width_of(number: u64) -> usize
+    requires { number ≤ NEAR }
+    ensures { result ≡ length (decimal number) + 1 }
+{
+    if number < 10 {
+        2
+    } else if number < 100 {
+        3
+    } else if number < 1000 {
+        4
+    } else {
+        5
+    }
+}
+
+/// Writes the cells of some levels at the front of the text, and says where they end. Each number is near, and has one
+/// digit less than `width`.
+fn write_cells(number: u64, levels: &[Level], width: usize, text: &mut [u8; PIECE_BYTES]) -> usize
+    requires few { length levels.now ≤ PIECE_CELLS }
+    requires near { (n : ℕ) → number ≤ n → n < number + length levels.now → (n ≤ NEAR) × (width ≡ length (decimal n) + 1) }
+    ensures end { result ≤ PIECE_BYTES }
+    ensures text { take result text.new ≡ cells_from number levels.now }
+{
+    let mut end = 0;
+    for (at, level) in levels.iter().enumerate() {
+        end = write_cell(number + at as u64, width, *level, text, end);
+    }
+    end
+}
+
+/// Writes the cell of a level, where it isn't 0, at a place, and says where it ends. The number has one digit less than
+/// `width`. What follows it may be written over.
 #[inline(always)]
-fn write_short_cell(
+fn write_cell(
     number: u64,
     width: usize,
     level: Level,
     text: &mut [u8; PIECE_BYTES],
-    end: usize,
+    at: usize,
 ) -> usize
-    requires number { number < 1000 }
+    requires near { number ≤ NEAR }
     requires width { width ≡ length (decimal number) + 1 }
-    requires most { width ≤ 4 }
-    requires room { CELL_BYTES ≤ end }
-    requires within { end ≤ PIECE_BYTES }
-    ensures start { end ≤ result + CELL_BYTES }
-    ensures before { result ≤ end }
-    ensures text { drop result text.new ≡ (32 ∷ (decimal number ++ 61 ∷ decimal level)) ++ drop end text.old }
+    requires room { at + CELL_BYTES ≤ PIECE_BYTES }
+    ensures end { result ≤ at + CELL_BYTES }
+    ensures text { take result text.new ≡ take at text.old ++ cell number level }
 {
-    let start = write_level(level, text, end);
-    write_short_number(number, width, text, start)
+    let middle = write_number(number, width, text, at);
+    let end = write_level(level, text, middle);
+    if level == 0 { at } else { end }
 }
 
-/// Writes a space and a number so that they end at a place, and says where they begin. They are of so many bytes.
+/// Writes a space and a number at a place, and says where they end. They are of so many bytes.
 #[inline(always)]
-fn write_short_number(number: u64, width: usize, text: &mut [u8; PIECE_BYTES], end: usize) -> usize
-    requires number { number < 1000 }
+fn write_number(number: u64, width: usize, text: &mut [u8; PIECE_BYTES], at: usize) -> usize
+    requires near { number ≤ NEAR }
     requires width { width ≡ length (decimal number) + 1 }
-    requires most { width ≤ 4 }
-    requires room { 4 ≤ end }
-    requires within { end ≤ PIECE_BYTES }
-    ensures start { result + length (decimal number) + 1 ≡ end }
-    ensures text { drop result text.new ≡ 32 ∷ (decimal number ++ drop end text.old) }
+    requires room { at + 5 ≤ PIECE_BYTES }
+    ensures from { at ≤ result }
+    ensures end { result ≤ at + 5 }
+    ensures text { take result text.new ≡ take at text.old ++ 32 ∷ decimal number }
 {
-    write_row(&NUMBERS[number as usize], width, text, end)
-}
-
-/// Writes the cells of some levels so that they end where the text does, and says where they begin.
-fn write_cells(number: u64, levels: &[Level], text: &mut [u8; PIECE_BYTES]) -> usize
-    requires few { length levels.now ≤ PIECE_CELLS }
-    requires numbers { number + length levels.now < 2 ^ 64 }
-    ensures start { result ≤ PIECE_BYTES }
-    ensures text { drop result text.new ≡ cells_from number levels.now }
-{
-    let mut start = PIECE_BYTES;
-    let mut left = levels.len();
-    while left > 0 {
-        left -= 1;
-        let level = levels[left];
-        if level != 0 {
-            start = write_cell(number + left as u64, level, text, start);
-        }
+    if width < 5 {
+        return write_row(&NUMBERS[number as usize], width, text, at);
     }
-    start
+    let middle = write_row(&NUMBERS[(number / 100) as usize], 3, text, at);
+    write_pair(&PAIRS[(number % 100) as usize], text, middle)
 }
 
-/// Writes ` number=level` so that it ends at a place, and says where it begins.
+/// Writes `=level` at a place, and says where it ends.
 #[inline(always)]
-fn write_cell(number: u64, level: Level, text: &mut [u8; PIECE_BYTES], end: usize) -> usize
-    requires room { CELL_BYTES ≤ end }
-    requires within { end ≤ PIECE_BYTES }
-    ensures start { end ≤ result + CELL_BYTES }
-    ensures before { result ≤ end }
-    ensures text { drop result text.new ≡ (32 ∷ (decimal number ++ 61 ∷ decimal level)) ++ drop end text.old }
+fn write_level(level: Level, text: &mut [u8; PIECE_BYTES], at: usize) -> usize
+    requires room { at + 4 ≤ PIECE_BYTES }
+    ensures from { at ≤ result }
+    ensures end { result ≤ at + 4 }
+    ensures text { take result text.new ≡ take at text.old ++ 61 ∷ decimal level }
 {
-    let start = write_level(level, text, end);
-    write_number(number, text, start)
+    write_row(&LEVELS[level as usize], length_of(level), text, at)
 }
 
-/// Writes `=level` so that it ends at a place, and says where it begins.
+/// How many bytes `=` and a level are.
 #[inline(always)]
-fn write_level(level: Level, text: &mut [u8; PIECE_BYTES], end: usize) -> usize
-    requires room { 4 ≤ end }
-    requires within { end ≤ PIECE_BYTES }
-    ensures start { result + length (decimal level) + 1 ≡ end }
-    ensures text { drop result text.new ≡ 61 ∷ (decimal level ++ drop end text.old) }
+fn length_of(level: Level) -> usize
+    ensures few { result ≤ 4 }
+    ensures length { result ≡ length (decimal level) + 1 }
 {
-    write_row(&LEVELS[level as usize], digits(level as u64) + 1, text, end)
+    LENGTHS[level as usize] as usize
 }
 
-/// Writes a space and a number so that they end at a place, and says where they begin.
+/// Writes a row at a place, and says where its first bytes end that are wanted.
 #[inline(always)]
-fn write_number(number: u64, text: &mut [u8; PIECE_BYTES], end: usize) -> usize
-    requires room { 20 < end }
-    requires within { end ≤ PIECE_BYTES }
-    ensures start { result + length (decimal number) + 1 ≡ end }
-    ensures text { drop result text.new ≡ 32 ∷ (decimal number ++ drop end text.old) }
-{
-    if number < 1000 {
-        write_short_number(number, digits(number) + 1, text, end)
-    } else if number < 100_000 {
-        let front = number / 100;
-        let end = write_pair(&PAIRS[(number % 100) as usize], text, end);
-        write_short_number(front, digits(front) + 1, text, end)
-    } else {
-        write_word(number, b' ', text, end)
-    }
-}
-
-/// How many digits a number below 1,000 has.
-#[inline(always)]
-fn digits(number: u64) -> usize
-    requires { number < 1000 }
-    ensures few { result ≤ 3 }
-    ensures digits { result ≡ length (decimal number) }
-{
-    DIGITS[number as usize] as usize
-}
-
-/// Writes the last bytes of a row so that they end at a place, and says where they begin.
-#[inline(always)]
-fn write_row(row: &[u8; 4], count: usize, text: &mut [u8; PIECE_BYTES], end: usize) -> usize
+fn write_row(row: &[u8; 4], count: usize, text: &mut [u8; PIECE_BYTES], at: usize) -> usize
     requires count { count ≤ 4 }
-    requires room { 4 ≤ end }
-    requires within { end ≤ PIECE_BYTES }
-    ensures start { result + count ≡ end }
-    ensures text { drop result text.new ≡ drop (4 - count) row.now ++ drop end text.old }
+    requires room { at + 4 ≤ PIECE_BYTES }
+    ensures end { result ≡ at + count }
+    ensures text { take result text.new ≡ take at text.old ++ take count row.now }
+{
+    write_all(row, text, at);
+    at + count
+}
+
+/// Writes four bytes at a place.
+#[inline(always)]
+fn write_all(row: &[u8; 4], text: &mut [u8; PIECE_BYTES], at: usize)
+    requires { at + 4 ≤ PIECE_BYTES }
+    ensures { take (at + 4) text.new ≡ take at text.old ++ row.now }
 {
     // Byte by byte, which is one store of four bytes.
-    text[end - 4] = row[0];
-    text[end - 3] = row[1];
-    text[end - 2] = row[2];
-    text[end - 1] = row[3];
-    end - count
+    text[at] = row[0];
+    text[at + 1] = row[1];
+    text[at + 2] = row[2];
+    text[at + 3] = row[3];
 }
 
-/// Writes two bytes so that they end at a place, and says where they begin.
+/// Writes two bytes at a place, and says where they end.
 #[inline(always)]
-fn write_pair(pair: &[u8; 2], text: &mut [u8; PIECE_BYTES], end: usize) -> usize
-    requires room { 2 ≤ end }
-    requires within { end ≤ PIECE_BYTES }
-    ensures start { result + 2 ≡ end }
-    ensures text { drop result text.new ≡ pair.now ++ drop end text.old }
+fn write_pair(pair: &[u8; 2], text: &mut [u8; PIECE_BYTES], at: usize) -> usize
+    requires room { at + 2 ≤ PIECE_BYTES }
+    ensures end { result ≡ at + 2 }
+    ensures text { take result text.new ≡ take at text.old ++ pair.now }
 {
-    text[end - 2] = pair[0];
-    text[end - 1] = pair[1];
-    end - 2
-}
-
-/// Writes a byte and a whole number so that they end at a place, and says where they begin.
-fn write_word(number: u64, before: u8, text: &mut [u8; PIECE_BYTES], end: usize) -> usize
-    requires room { length (decimal number) < end }
-    requires within { end ≤ PIECE_BYTES }
-    ensures start { result + length (decimal number) + 1 ≡ end }
-    ensures text { drop result text.new ≡ before ∷ (decimal number ++ drop end text.old) }
-{
-    let start = write_digits(number, text, end) - 1;
-    text[start] = before;
-    start
+    text[at] = pair[0];
+    text[at + 1] = pair[1];
+    at + 2
 }

@@ -1,5 +1,5 @@
 -- A line that was attempted and replied to was answered.
-use Rattle.std.proofs.Common.{◌≡◌, ◌≤◌, ◌&&◌, ◌==◌, IsOk, ℕ, Bool, true, false, Option, Some, None, Result, Ok, Err, OnOk, List, ◌++◌, refl}
+use Rattle.std.proofs.Common.{◌≡◌, ◌≤◌, ◌&&◌, ◌==◌, IsOk, ℕ, Bool, true, false, Option, Some, None, Result, Ok, Err, OnOk, List, [], ◌++◌, refl}
 use Rattle.std.proofs.Common.{sym, ap, ◌∙◌, subst, arith}
 use Rattle.std.specs.Prelude.{is_some}
 use Rattle.lx_io.specs.declared.sink.SinkFault.{SinkFault}
@@ -17,7 +17,12 @@ use Rattle.lx_console.specs.Standing.{StandsFor}
 use Rattle.lx_session.specs.declared.tally.Tally.{Tally}
 use Rattle.lx_session.specs.LineState.{LineState, next_of, unattempted}
 use Rattle.lx_session.specs.LineProgress.{LineProgress, IsWanted, resumed}
-use Rattle.lx_session.specs.LineReply.{reply_to, counts_after, counts_in}
+use Rattle.lx_session.specs.LineReply.{reply_to, reply_for, counts_after, counts_in, counted as counted_in}
+use Rattle.lx_script.specs.declared.reply.Reply.{Reply}
+use Rattle.lx_script.specs.ReplyTexts.{reply_text}
+use Rattle.lx_session.specs.Attempts.{ListenedAttempt, heard_of}
+use Rattle.lx_session.proofs.AttemptSteps.{attempted_so, begun}
+use Rattle.lx_session.proofs.Replies.{on_ok}
 use Rattle.lx_session.specs.LineAnswer.{GoesOn, LineAnswer}
 use Rattle.lx_session.proofs.RepliedLines.{over, finished, IsReplied}
 
@@ -122,3 +127,40 @@ answered all heard holds faults wants sink sink' result s meaning turn console b
       counts = over_ok result _ _ (λ e. counts_are s t.now (after_attempts meaning (record { session = t.now; refusal = turn.refusal }))
           meaning turn.meaning turn.refusal (counts_in before) (counts_in after) r same t.counts counted e) (counts t.now.desk t.stands);
     }
+
+-- the reply to one command, and what it counts
+reply_is : (d : Desk) (command : Command) (refusal : Option Refusal)
+    → reply_text (reply_for refusal) ≡ reply_to d (Some (lines.Command command)) refusal
+reply_is d command None = refl
+reply_is d command (Some r) = refl
+
+counts_is : (d : Desk) (counts : Counts) (command : Command) (refusal : Option Refusal)
+    → counted_in (reply_for refusal) counts ≡ counts_after d counts (Some (lines.Command command)) refusal
+counts_is d counts command None = refl
+counts_is d counts command (Some r) = refl
+
+none_left : (meaning : Option Line) (refusal : Option Refusal)
+    → next_of (record { meaning = meaning; left = 0; refusal = refusal }) ≡ None
+none_left meaning None = refl
+none_left meaning (Some r) = refl
+
+-- A line of one command, which was attempted and replied to.
+pub one_command : {K T : Type 0} (all : Bool) (heard : List Command → Type 0) (holds : K → Option (List ℕ)) (faults wants : K → ℕ)
+    (sink sink' : K) (result : Result T SinkFault) (s : Session) (command : Command) (refusal : Option Refusal)
+    (before_it after_it : Kept) (before after : Tally) → StandsFor s.desk before_it → s.counts ≡ counts_in before
+    → ((d : Desk) → StandsFor d before_it → ListenedAttempt all d command refusal after_it) → heard (heard_of command refusal)
+    → (reply : Reply) → reply ≡ reply_for refusal → Puts holds faults wants sink sink' result (reply_text reply)
+    → counts_in after ≡ counted_in reply (counts_in before)
+    → LineAnswer all heard holds faults wants sink sink' result s (Some (lines.Command command)) after_it after
+one_command all heard holds faults wants sink sink' result s command refusal before_it after_it before after stands counted attempt h
+    reply is puts counts =
+    let meaning : Option Line = Some (lines.Command command) in
+    let old : LineState = unattempted meaning in
+    answered all heard holds faults wants sink sink' result s meaning (record { meaning = meaning; left = 0; refusal = refusal }) after_it
+    before after
+    (attempted_so all (λ done. done ≡ []) heard s old old (record { meaning = meaning; left = 0; refusal = refusal }) command refusal
+    before_it after_it (begun all (λ done. done ≡ []) s before_it stands old refl refl) refl attempt
+    (λ done none. subst (λ first. heard (first ++ heard_of command refusal)) (sym none) h) refl)
+    (none_left meaning refusal) counted
+    (λ d here. subst (Puts holds faults wants sink sink' result) (ap reply_text is ∙ reply_is d command refusal) puts)
+    (λ d here. on_ok result _ (counts ∙ ap (λ r. counted_in r (counts_in before)) is ∙ counts_is d (counts_in before) command refusal))

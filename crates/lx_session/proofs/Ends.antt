@@ -1,5 +1,5 @@
 -- How a session on a console ends, with what listens to it.
-use Rattle.std.proofs.Common.{◌≡◌, ℕ, Bool, true, Result, Ok, Err, IfSome, Option, Some, None, List, [], ◌∷◌, ◌∙◌, ap, sym, refl, subst, take}
+use Rattle.std.proofs.Common.{◌≡◌, ℕ, Bool, true, Result, Ok, Err, List, [], ◌∷◌, ◌∙◌, ap, sym, refl, subst, take}
 use Rattle.std.proofs.lemmas.List.Sums.{fold-append}
 use Rattle.std.specs.List.{before_first}
 use Rattle.std.specs.Io.KnownBytes.{Appends}
@@ -8,9 +8,8 @@ use Rattle.lx_spec.specs.declared.Command.{Command}
 use Rattle.lx_spec.specs.Kept.{Kept}
 use Rattle.lx_spec.specs.Desk.{Desk, opened, after_command}
 use Rattle.lx_spec.specs.Text.{lines_of}
-use Rattle.lx_spec.specs.Script.{line_of}
-use Rattle.lx_spec.specs.Session.{Session, begin_at, after_line, after_lines, session, after_first, ends_script, replies}
-use Rattle.lx_spec.specs.SessionOf.{SessionOf, begin_with, after_each, whole_session, session_after, WantsAtEach}
+use Rattle.lx_spec.specs.Session.{Session, begin_at, after_lines, session, after_first, ends_script, replies}
+use Rattle.lx_spec.specs.SessionOf.{SessionOf, begin_with, after_each, whole_session, WantsAtEach}
 use Rattle.lx_spec.specs.RefusedPlaces.{WantsAtEdits}
 use Rattle.lx_console.specs.Standing.{StandsFor}
 use Rattle.lx_session.specs.declared.fault.SessionFault.{SessionFault}

@@ -19,7 +19,7 @@ use Rattle.lx_session.specs.Attempts.{after_commands}
 use Rattle.lx_session.specs.Known.{Known}
 use Rattle.lx_session.specs.LineState.{meaning_of}
 use Rattle.lx_session.specs.OneAnswer.{IsLine, IsLawful, OneAnswer}
-use Rattle.lx_session.specs.LineAnswer.{GoesOn, LineAnswer}
+use Rattle.lx_session.specs.LineAnswer.{LineAnswer}
 use Rattle.lx_session.specs.HeardDesk.{HeardDesk, HasHeard, HeardMayWant, heard_answer, plain, with_plain}
 use Rattle.lx_session.proofs.Places.{extends_line}
 

@@ -1,6 +1,6 @@
 -- What taking a line comes to, from its parts.
-use Rattle.std.proofs.Common.{◌≡◌, ◌⊎◌, inl, inr, refl, ℕ, ◌<◌, ◌≤◌, Bool, true, false, cond, Option, Some, None, Result, Ok, Err, IsErr}
-use Rattle.std.proofs.Common.{IfSome, List, [], ◌∷◌, ◌++◌, length, ap, ◌∙◌, subst, sym, take, arith}
+use Rattle.std.proofs.Common.{◌≡◌, inl, inr, refl, ℕ, ◌≤◌, Bool, true, false, Option, Some, None, Result, Ok, Err, IsErr}
+use Rattle.std.proofs.Common.{IfSome, List, [], ◌∷◌, ◌++◌, ap, ◌∙◌, subst, sym, take, arith}
 use Rattle.std.specs.Result.{IsErrAnd}
 use Rattle.std.specs.Io.KnownBytes.{Keeps, Appends, IsAtEnd}
 use Rattle.std.proofs.KnownBytes.{Keeps-trans}

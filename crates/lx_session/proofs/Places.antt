@@ -1,20 +1,18 @@
 -- The attempts of a session in order, and which of them want of memory refused.
-use Rattle.std.proofs.Common.{◌≡◌, ◌≢◌, ◌≤◌, ◌<◌, ℕ, zero, suc, ◌+◌, Bool, true, false, cond, ◌&&◌, ◌||◌, ◌==◌, Option, Some, None, Result}
-use Rattle.std.proofs.Common.{Ok, Err, List, [], ◌∷◌, ◌++◌, refl, sym, ap, ◌∙◌, subst, arith, append_assoc, append-nil}
-use Rattle.std.specs.Prelude.{fold}
+use Rattle.std.proofs.Common.{◌≡◌, ◌≤◌, ◌<◌, ℕ, zero, suc, ◌+◌, Bool, true, false, cond, ◌&&◌, ◌||◌, ◌==◌, Option, Some, None, Result}
+use Rattle.std.proofs.Common.{Ok, Err, List, [], ◌∷◌, ◌++◌, refl, sym, ap, ◌∙◌, arith}
 use Rattle.std.specs.List.{list_any}
 use Rattle.std.specs.Option.{option_map_or}
 use Rattle.std.proofs.lemmas.Bool.Decides.{nat_tests}
-use Rattle.std.proofs.lemmas.List.Sums.{fold-append}
 use Rattle.lx_spec.specs.declared.Command.{Command}
 use Rattle.lx_spec.specs.declared.Line.{Line}
 use Rattle.lx_spec.specs.declared.Refusal.{Refusal}
 use Rattle.lx_spec.specs.declared.Refusal.TheVariants.{Memory}
 use Rattle.lx_spec.specs.Desk.{Desk, step}
-use Rattle.lx_spec.specs.Session.{Session, Attempt, answered, attempt, and_then, after_meaning, after_line, after_lines, command_of}
+use Rattle.lx_spec.specs.Session.{Session, Attempt, answered, attempt, and_then, after_meaning, after_line, command_of}
 use Rattle.lx_spec.specs.Session.{count_of, attempts_of, attempts_for}
 use Rattle.lx_spec.specs.Script.{line_of}
-use Rattle.lx_spec.specs.RefusedPlaces.{MayWant, WantsAtEdits}
+use Rattle.lx_spec.specs.RefusedPlaces.{WantsAtEdits}
 use Rattle.lx_session.specs.Attempts.{WantsLast}
 use Rattle.lx_session.specs.LineReply.{reply_to}
 use Rattle.lx_session.proofs.RepliedLines.{finished}

@@ -1,10 +1,10 @@
 -- How a session of any kind ends.
-use Rattle.std.proofs.Common.{◌≡◌, ◌⊎◌, inl, inr, ℕ, zero, suc, ◌+◌, ◌-◌, ◌≤◌, ◌<◌, Bool, true, false, Result, Ok, Err, IsErr, Option, Some}
-use Rattle.std.proofs.Common.{None, IfSome, List, [], ◌∷◌, ◌++◌, map, length, take, drop, take-append-drop, take_all, refl, sym, ap, ◌∙◌}
+use Rattle.std.proofs.Common.{◌≡◌, ◌⊎◌, inl, inr, ℕ, ◌+◌, ◌<◌, true, Result, Ok, Err, IsErr, Option, Some}
+use Rattle.std.proofs.Common.{None, IfSome, List, [], ◌∷◌, ◌++◌, map, length, take, drop, take-append-drop, take_all, sym, ap, ◌∙◌}
 use Rattle.std.proofs.Common.{subst, append-nil, append_assoc, length-append, arith}
 use Rattle.std.specs.List.{position_or_len, before_first}
 use Rattle.std.specs.Result.{IsErrAnd}
-use Rattle.std.specs.Io.KnownBytes.{Appends, Keeps, IsAtEnd}
+use Rattle.std.specs.Io.KnownBytes.{Appends, IsAtEnd}
 use Rattle.std.proofs.KnownBytes.{Appends-trans, Appends-kept}
 use Rattle.std.proofs.Math.Seq.{take-append_seam, take-append-add}
 use Rattle.std.proofs.lemmas.List.{map-append, length-map}

@@ -4,7 +4,7 @@ use Rattle.std.specs.Io.KnownBytes.{Appends}
 use Rattle.lx_io.specs.Puts.{AppendsFront}
 use Rattle.lx_spec.specs.Text.{lines_of}
 use Rattle.lx_spec.specs.CutInput.{first_lines, CutOff}
-use Rattle.lx_spec.specs.SessionOf.{SessionOf, Answer, whole_session, session_after, PlacesAreAllowed}
+use Rattle.lx_spec.specs.SessionOf.{Answer, whole_session, session_after, PlacesAreAllowed}
 use Rattle.lx_session.specs.Known.{Known}
 use Rattle.lx_session.specs.declared.fault.SessionFault.{SessionFault}
 use Rattle.lx_session.specs.declared.fault.SessionFault.TheVariants.{ReadFault, WriteFault, InputTooLong, Memory}

@@ -106,7 +106,7 @@ fn reply_to_line<K: Sink>(
 }
 
 /// The reply to what was accepted or refused.
-fn reply_of(refusal: Option<Refusal>) -> Reply
+pub(crate) fn reply_of(refusal: Option<Refusal>) -> Reply
     ensures { result ≡ reply_for refusal }
 {
     match refusal {
@@ -116,7 +116,11 @@ fn reply_of(refusal: Option<Refusal>) -> Reply
 }
 
 /// Appends a reply, and counts it.
-fn give<K: Sink>(reply: Reply, sink: &mut K, tally: &mut Tally) -> Result<bool, SinkFault>
+pub(crate) fn give<K: Sink>(
+    reply: Reply,
+    sink: &mut K,
+    tally: &mut Tally,
+) -> Result<bool, SinkFault>
     requires room { HasRoom tally.old }
     ensures text { Puts K.holds K.faults K.wants sink.old sink.new result (reply_text reply) }
     ensures counts { counts_in tally.new ≡ counted reply (counts_in tally.old) }

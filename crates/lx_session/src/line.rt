@@ -6,18 +6,22 @@ ghost use Rattle.lx_spec.specs.Desk.{Desk};
 ghost use Rattle.lx_spec.specs.Session.{Session, is_quit};
 ghost use Rattle.lx_spec.specs.ValidEdit.{ValidCommand, ValidLine};
 ghost use Rattle.lx_console.specs.Standing.{StandsFor};
+ghost use Rattle.lx_script.specs.Briefs.{IsReadAs};
 ghost use Rattle.lx_session.specs.Attempts.{ListenedAttempt, heard_of};
 ghost use Rattle.lx_session.specs.LineState.{meaning_of, next_of};
 ghost use Rattle.lx_session.specs.LineProgress.{HasPassed, LineProgress};
 ghost use Rattle.lx_session.specs.LineReply.{HasRoom, HasOneMore};
 ghost use Rattle.lx_session.specs.LineAnswer.{LineAnswer, FromDesk};
 
+use crate::finish::{give, reply_of};
 use crate::listener::Listener;
+use crate::meaning::reading_of;
 use crate::tally::Tally;
 use crate::turn::{Turn, try_command};
 use lx_console::Console;
 use lx_io::{Sink, SinkFault};
-use lx_spec::{Command, Refusal};
+use lx_script::{Brief, Reading};
+use lx_spec::{Command, Key, Line, Refusal};
 
 /// Does what a line asks for, then appends its replies and counts them. None stands for a line that is too
 /// long, which is bad. It answers false exactly for `quit`.
@@ -41,8 +45,57 @@ pub fn answer<L: Listener, K: Sink>(
     ensures cause { HasSinkCause K.faults K.wants sink.old sink.new result }
     ensures more { HasOneMore tally.old tally.new }
 {
+    let reading = reading_of(line);
+    if let Reading::Brief(Brief::Key(key)) = reading {
+        return answer_key(listener, console, key, sink, tally);
+    }
+    answer_read(listener, console, line, &reading, sink, tally)
+}
+
+/// As `answer`, of a line that presses a key or moves a fader: no turn is made for it, since it has one command, by value.
+fn answer_key<L: Listener, K: Sink>(
+    listener: &mut L,
+    console: &mut Console,
+    key: Key,
+    sink: &mut K,
+    tally: &mut Tally,
+) -> Result<bool, SinkFault>
+    requires room { HasRoom tally.old }
+    requires keeps { L.keeps listener.old console.old }
+    ensures keeps { L.keeps listener.new console.new }
+    ensures answered { FromDesk console.old tally.old
+        (λ s. LineAnswer L.admits_all (L.heard listener.old listener.new) K.holds K.faults K.wants sink.old sink.new result s
+        (Some (Line.Command (Command.Key key))) console.new tally.new) }
+    ensures goes_on { IfOk result (λ more. more ≡ true) }
+    ensures cause { HasSinkCause K.faults K.wants sink.old sink.new result }
+    ensures more { HasOneMore tally.old tally.new }
+{
+    let refusal = attempt_one(listener, &Command::Key(key), console);
+    give(reply_of(refusal), sink, tally)
+}
+
+/// As `answer`, of a line that was read so far.
+fn answer_read<L: Listener, K: Sink>(
+    listener: &mut L,
+    console: &mut Console,
+    line: Option<&[u8]>,
+    reading: &Reading,
+    sink: &mut K,
+    tally: &mut Tally,
+) -> Result<bool, SinkFault>
+    requires read { IsReadAs reading.now (meaning_of (option_copied line)) }
+    requires room { HasRoom tally.old }
+    requires keeps { L.keeps listener.old console.old }
+    ensures keeps { L.keeps listener.new console.new }
+    ensures answered { FromDesk console.old tally.old
+        (λ s. LineAnswer L.admits_all (L.heard listener.old listener.new) K.holds K.faults K.wants sink.old sink.new result s
+        (meaning_of (option_copied line.entry)) console.new tally.new) }
+    ensures quit { IfOk result (λ more. more ≡ not (is_quit (meaning_of (option_copied line.entry)))) }
+    ensures cause { HasSinkCause K.faults K.wants sink.old sink.new result }
+    ensures more { HasOneMore tally.old tally.new }
+{
     let mut turn = Turn::new();
-    turn.begin_again(line);
+    turn.begin_read(line, reading);
     attempt_all(listener, &mut turn, console);
     turn.finish(console, sink, tally)
 }

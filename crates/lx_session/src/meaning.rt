@@ -6,7 +6,7 @@ ghost use Rattle.lx_spec.specs.Script.{line_of};
 ghost use Rattle.lx_spec.specs.TwoLists.{where_of_second, is_of_second, commands_second};
 ghost use Rattle.lx_spec.specs.ValidEdit.{ValidLine};
 ghost use Rattle.lx_spec.specs.Session.{count_of, command_of};
-ghost use Rattle.lx_script.specs.Briefs.{brief_line};
+ghost use Rattle.lx_script.specs.Briefs.{IsReadAs, brief_line};
 ghost use Rattle.lx_session.specs.LineState.{meaning_of};
 ghost use Rattle.lx_session.specs.Meanings.{Asks, IsMeaning, meaning_by};
 
@@ -45,6 +45,16 @@ pub(crate) struct Meaning {
     command: Command,
 }
 
+/// What a line is, as far as it can be told by value. None stands for a line that is too long, which is bad.
+pub(crate) fn reading_of(line: Option<&[u8]>) -> Reading
+    ensures { IsReadAs result (meaning_of (option_copied line.entry)) }
+{
+    match line {
+        Some(line) => read_brief(line),
+        None => Reading::Bad,
+    }
+}
+
 impl Model for Meaning {
     ghost use Rattle.std.specs.Prelude.{Option};
     ghost use Rattle.lx_spec.specs.declared.Line.{Line};
@@ -68,26 +78,16 @@ impl Meaning {
         }
     }
 
-    /// Reads what a line means. None stands for a line that is too long, which is bad.
-    pub(crate) fn read(&mut self, line: Option<&[u8]>)
+    /// Takes what a line means that was read so far.
+    pub(crate) fn take_read(&mut self, line: Option<&[u8]>, reading: &Reading)
+        requires { IsReadAs reading.now (meaning_of (option_copied line)) }
         ensures meaning { self.new ≡ meaning_of (option_copied line.entry) }
         ensures valid { IfSome self.new ValidLine }
     {
-        match line {
-            Some(line) => self.read_line(line),
-            None => self.asked = Asked::Bad,
-        }
-    }
-
-    /// Reads what a line means whose bytes are these.
-    fn read_line(&mut self, line: &[u8])
-        ensures meaning { self.new ≡ line_of line.now }
-        ensures valid { IfSome self.new ValidLine }
-    {
-        match read_brief(line) {
-            Reading::Bad => self.asked = Asked::Bad,
-            Reading::Brief(brief) => self.take_brief(&brief),
-            Reading::Edit => self.read_edit(line),
+        match (reading, line) {
+            (Reading::Brief(brief), _) => self.take_brief(brief),
+            (Reading::Edit, Some(line)) => self.read_edit(line),
+            _ => self.asked = Asked::Bad,
         }
     }
 
@@ -96,7 +96,7 @@ impl Meaning {
         ensures meaning { self.new ≡ where_of_second (line_of rest.now) }
         ensures valid { IfSome self.new ValidLine }
     {
-        self.read_line(rest);
+        self.take_read(Some(rest), &read_brief(rest));
         if !self.is_of_second() {
             self.asked = Asked::Bad;
         }

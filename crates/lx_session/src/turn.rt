@@ -8,12 +8,14 @@ ghost use Rattle.lx_spec.specs.Show.{InRange};
 ghost use Rattle.lx_spec.specs.TwoLists.{where_of_second};
 ghost use Rattle.lx_spec.specs.ValidEdit.{ValidCommand};
 ghost use Rattle.lx_console.specs.Standing.{StandsFor};
+ghost use Rattle.lx_script.specs.Briefs.{IsReadAs};
 ghost use Rattle.lx_console.specs.Ticks.{after_ticks};
 ghost use Rattle.lx_session.specs.LineState.{unattempted, meaning_of, next_of, frame_of};
 ghost use Rattle.lx_session.specs.Attempts.{Attempted};
 
-use crate::meaning::{Asked, Meaning};
+use crate::meaning::{Asked, Meaning, reading_of};
 use lx_console::Console;
+use lx_script::Reading;
 use lx_spec::{Command, Refusal};
 use std::marker::Model;
 
@@ -61,9 +63,17 @@ impl Turn {
     pub fn begin_again(&mut self, line: Option<&[u8]>)
         ensures { self.new ≡ unattempted (meaning_of (option_copied line.entry)) }
     {
+        self.begin_read(line, &reading_of(line));
+    }
+
+    /// As `begin_again`, of a line that was read so far.
+    pub(crate) fn begin_read(&mut self, line: Option<&[u8]>, reading: &Reading)
+        requires { IsReadAs reading.now (meaning_of (option_copied line)) }
+        ensures { self.new ≡ unattempted (meaning_of (option_copied line.entry)) }
+    {
         self.left = 0;
         self.refusal = None;
-        self.meaning.read(line);
+        self.meaning.take_read(line, reading);
         self.left = self.meaning.count();
     }
 

@@ -1,4 +1,4 @@
-use Rattle.std.proofs.Common.{◌≡◌, ◌≤◌, ℕ, Ok, IfSome, ap, refl, subst, arith}
+use Rattle.std.proofs.Common.{Ok, IfSome, ap, subst, arith}
 use Rattle.lx_lex.specs.Unread.{unread}
 use Rattle.lx_session.specs.LineOutcome.{LineOutcome}
 use Rattle.lx_session.specs.ScriptAnswered.{ScriptAnswered}

@@ -1,4 +1,4 @@
-use Rattle.std.proofs.Common.{◌∙◌, sym, refl}
+use Rattle.std.proofs.Common.{◌∙◌, refl}
 use Rattle.lx_lex.proofs.HandingOut.{handed_one}
 use Rattle.lx_session.proofs.LineOutcomes.{answered, unwritten, end_unflushed}
 use Rattle.lx_session.proofs.take.take_line.Goals as goal
