@@ -15,6 +15,7 @@ use Rattle.lx_spec.specs.Level.{fade_over}
 use Rattle.lx_fade.specs.declared.held.TheConstants.{NEVER}
 use Rattle.lx_spec.proofs.Comparisons.{lt_false, lt_true}
 use Rattle.lx_sheet.proofs.Cells.{places_apart}
+use Rattle.lx_levels.specs.declared.racks.Racks.TheInside.{Inside}
 use Rattle.lx_levels.specs.Stacks.{Stack, level_in, no_stack}
 use Rattle.lx_levels.specs.Columns.{column, no_fade, stack_at_place, stacks_of}
 
@@ -167,21 +168,22 @@ start_comes channels k count left block fade within reach most some all is =
     (all ((left - 1) * channels + k) fade (in_block channels k count left block within reach most some))
 
 -- a place of the stacks is one of a channel
-pub place_within : (channels : ℕ) (bottoms counts : List ℕ) (block : List Fade) (racks : List Stack) (k : ℕ)
-    → stacks_of channels bottoms counts block ≡ racks → k < length racks → k < channels
-place_within channels bottoms counts block racks k is within =
-    omega (arith, within, ap length is, length-stacks_of channels bottoms counts block)
+pub place_within : (r : Inside) (racks : List Stack) (k : ℕ) → stacks_of r.channels r.bottoms.items r.counts.items r.fades.items ≡ racks
+    → k < length racks → k < r.channels
+place_within r racks k is within =
+    omega (arith, within, ap length is, length-stacks_of r.channels r.bottoms.items r.counts.items r.fades.items)
 
 -- the stack that is read there
-pub stack_read : (channels : ℕ) (bottoms counts : List ℕ) (block lent : List Fade) (racks : List Stack) (k bottom count : ℕ)
-    → stacks_of channels bottoms counts block ≡ racks → k < channels → bottom ≡ get_or bottoms k 0 → count ≡ get_or counts k 0
-    → lent ≡ block → get_or racks k no_stack ≡ record { bottom = bottom; fades = column lent channels k count }
-stack_read channels bottoms counts block lent racks k bottom count is within bottom_is count_is same =
+pub stack_read : (r : Inside) (lent : List Fade) (racks : List Stack) (k bottom count : ℕ)
+    → stacks_of r.channels r.bottoms.items r.counts.items r.fades.items ≡ racks → k < r.channels → bottom ≡ get_or r.bottoms.items k 0
+    → count ≡ get_or r.counts.items k 0 → lent ≡ r.fades.items
+    → get_or racks k no_stack ≡ record { bottom = bottom; fades = column lent r.channels k count }
+stack_read r lent racks k bottom count is within bottom_is count_is same =
     ap (λ (ss : List Stack). get_or ss k no_stack) (sym is)
-    ∙ stack_is channels bottoms counts block k within
-    ∙ ap (λ b. record { bottom = b; fades = column block channels k (get_or counts k 0) }) (sym bottom_is)
-    ∙ ap (λ n. record { bottom = bottom; fades = column block channels k n }) (sym count_is)
-    ∙ ap (λ (bs : List Fade). record { bottom = bottom; fades = column bs channels k count }) (sym same)
+    ∙ stack_is r.channels r.bottoms.items r.counts.items r.fades.items k within
+    ∙ ap (λ b. record { bottom = b; fades = column r.fades.items r.channels k (get_or r.counts.items k 0) }) (sym bottom_is)
+    ∙ ap (λ n. record { bottom = bottom; fades = column r.fades.items r.channels k n }) (sym count_is)
+    ∙ ap (λ (bs : List Fade). record { bottom = bottom; fades = column bs r.channels k count }) (sym same)
 
 -- none of the channels has a fade, over level 0
 pub opened_empty : (channels : ℕ) (bottoms counts : List ℕ) (block : List Fade) → bottoms ≡ replicate channels 0

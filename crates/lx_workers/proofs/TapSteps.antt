@@ -46,12 +46,6 @@ taken before now (inr h) = record {
   looked = inr h.rose;
 }
 
--- a reading or a miss after earlier ones
-pub looked_on : (start before now : Told) → RoseOrSame start.reads before.reads → RoseOrSame start.misses before.misses
-    → HasLooked before now → HasLooked start now
-looked_on start before now r m (inl h) = inl (rose_on start.reads before.reads now.reads r h)
-looked_on start before now r m (inr h) = inr (rose_on start.misses before.misses now.misses m h)
-
 -- what is kept grows with what is learnt
 pub learnt_begins : (before now : Told) (list : List Command) → HasLearnt before now list → IsChained now.seen now.learnt
     → IsPrefix (newest before) (newest now)

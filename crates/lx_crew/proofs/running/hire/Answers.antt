@@ -1,8 +1,10 @@
 use Rattle.std.proofs.Common.{rules, ◌≡◌, ◌+◌, ◌<◌, ℕ, [], length, refl, ap, sym}
 use Rattle.std.proofs.Common.{◌∙◌, length-set, arith}
 use Rattle.std.proofs.lemmas.List.{length_push}
+use Rattle.crossbeam_queue.specs.Passes.{IsPassOf}
 use Rattle.lx_crew.specs.declared.rule.View.{View}
 use Rattle.lx_crew.specs.Rule.{engine_view, operator_view}
+use Rattle.lx_crew.specs.Hired.{Hired}
 use Rattle.lx_crew.proofs.Rules.{forks}
 use Rattle.lx_crew.proofs.Works.{each_snoc, get_else, some_there, not_none, source_is}
 use Rattle.lx_crew.proofs.running.hire.Goals as goal
@@ -37,7 +39,7 @@ loop-place-preserved g c =
       count = ap length c.push_reserved.ensures.items ∙ (length_push c.loop-place.works.items _ ∙ ap (λ (n : ℕ). n + 1) i.count);
       room = omega (arith, c.push_reserved.ensures.capacity, i.room);
       all = length-set c.loop-place.operators k _ ∙ i.all;
-      each = rw c.push_reserved.ensures.items (each_snoc _ c.loop-place.works.items _ k i.each (sym i.count) (record {
+      each = rw c.push_reserved.ensures.items (each_snoc (Hired (IsPassOf c.args.queue.now) c.args.operators.now) c.loop-place.works.items _ k i.each (sym i.count) (record {
         its = c.another-theirs.ensures.queue.1;
         own_queue = c.another-theirs.ensures.queue.1;
         fresh = fresh_is _ _ _ i.knows c.another-theirs.ensures.rule.1;

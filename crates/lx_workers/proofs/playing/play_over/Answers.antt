@@ -23,7 +23,10 @@ returns-clause-played g c =
       held_back = c.perform-lanes.new.unsent.commands.items;
       unsent_is = c.len.ensures;
       stands = run.in_step.stands;
-      session_is = played_of _ _ _ _ _ _ _ _ _ _ _ _ _ _ _ _ _ c.in_ok-gate.ensures.gate refl c.requires.opened run;
+      session_is = played_of g.S.Source.left g.S.Source.faults g.O.Sink.holds g.O.Sink.faults g.O.Sink.wants g.G.Origin.show c.in_ok-gate.gate
+          [] c.args.console.now c.args.lines.now c.args.output.now c.in-Some.gate c.perform-lanes.new.unsent.commands.items
+          c.perform-lanes.new.console c.perform-lanes.new.lines c.perform-lanes.new.output c.perform-lanes.result.1
+          c.in_ok-gate.ensures.gate refl c.requires.opened run;
       outlets_are = record {
         same_places = c.give_back-faults.ensures.same ∙ c.fill_lanes-lanes.ensures.same;
         each = λ place start is.
@@ -33,9 +36,11 @@ returns-clause-played g c =
             let items : vec_len c.perform-lanes.result.0 ≡ length c.perform-lanes.result.0.items = search rules in
             let y = get_within c.perform-lanes.result.0.items (length c.args.outlets.now - 1 - place)
             (omega (arith, within, count, items)) in
-            let x = zip_at _ _ _ _ y.0 c.perform-lanes.ensures.lanes y.1 in
-            is_back _ _ _ _ c.args.outlets.now _ _ _ place (length c.args.outlets.now - 1 - place) (length c.args.outlets.now) _ start _ _ _
-            _ _ is within refl c.fill_lanes-lanes.ensures.same
+            let x = zip_at _ c.fill_lanes-lanes.result.items c.perform-lanes.result.0.items (length c.args.outlets.now - 1 - place) y.0
+            c.perform-lanes.ensures.lanes y.1 in
+            is_back g.K.Sink.holds g.K.Sink.faults g.K.Sink.wants g.G.Origin.show c.args.outlets.now c.give_back-faults.new.outlets
+            c.give_back-faults.result c.in-Some.gate.published place (length c.args.outlets.now - 1 - place) (length c.args.outlets.now)
+            (length c.fill_lanes-lanes.new.outlets) start x.0.tap y.0.tap x.0.sink y.0.sink y.0.served is within refl c.fill_lanes-lanes.ensures.same
             (c.fill_lanes-lanes.ensures.lanes (length c.args.outlets.now - 1 - place) x.0 x.1) x.2
             (c.give_back-faults.ensures.back (length c.args.outlets.now - 1 - place) y.0 y.1);
         others = λ place fault is. rw (sym c.fill_lanes-lanes.ensures.same) (c.give_back-faults.ensures.others place fault is);

@@ -9,34 +9,27 @@ use Rattle.lx_levels.proofs.racks.Racks.kept.Goals as goal
 pub index-requires : goal.index-requires
 index-requires c = omega (
   arith,
-  place_within c.self.inside.channels c.self.inside.bottoms.items c.self.inside.counts.items c.self.inside.fades.items c.args.self.now
-      c.args.k c.self.view_is c.requires,
+  place_within c.self.inside _ _ c.self.view_is c.requires,
   c.self.invariant.of_counts,
   c.self.inside.counts.ok,
 )
 
 pub kept_in-requires-clause-within : goal.kept_in-requires-clause-within
-kept_in-requires-clause-within c = place_within c.self.inside.channels c.self.inside.bottoms.items c.self.inside.counts.items
-    c.self.inside.fades.items c.args.self.now c.args.k c.self.view_is c.requires
+kept_in-requires-clause-within c = place_within c.self.inside _ _ c.self.view_is c.requires
 
 pub kept_in-requires-clause-reach : goal.kept_in-requires-clause-reach
 kept_in-requires-clause-reach c =
-    let within : c.args.k < c.self.inside.channels =
-    place_within c.self.inside.channels c.self.inside.bottoms.items c.self.inside.counts.items c.self.inside.fades.items c.args.self.now
-    c.args.k c.self.view_is c.requires in
+    let within : c.args.k < c.self.inside.channels = place_within c.self.inside _ _ c.self.view_is c.requires in
     let count : c.index.result.now ≡ get_or c.self.inside.counts.items c.args.k 0 =
     get_or_read c.self.inside.counts.items c.args.k c.index.result.now (omega
     (arith, within, c.self.invariant.of_counts)) c.index.ensures 0 in
     subst (λ n. n * c.self.inside.channels ≤ length c.deref.result.now) (sym count)
     (omega (arith, c.self.invariant.reach c.args.k within, ap length c.deref.ensures.value))
 
-pub returns-clause-count : goal.returns-clause-count
-returns-clause-count c =
-    let within : c.args.k < c.self.inside.channels =
-    place_within c.self.inside.channels c.self.inside.bottoms.items c.self.inside.counts.items c.self.inside.fades.items c.args.self.now
-    c.args.k c.self.view_is c.requires in
-    let stack = stack_read c.self.inside.channels c.self.inside.bottoms.items c.self.inside.counts.items c.self.inside.fades.items
-    c.deref.result.now c.args.self.now c.args.k (get_or c.self.inside.bottoms.items c.args.k 0) c.index.result.now c.self.view_is within
+pub returns : goal.returns
+returns c =
+    let within : c.args.k < c.self.inside.channels = place_within c.self.inside _ _ c.self.view_is c.requires in
+    let stack = stack_read c.self.inside _ _ c.args.k (get_or c.self.inside.bottoms.items c.args.k 0) c.index.result.now c.self.view_is within
     refl
     (get_or_read c.self.inside.counts.items c.args.k c.index.result.now (omega
     (arith, within, c.self.invariant.of_counts)) c.index.ensures 0)
@@ -46,25 +39,10 @@ returns-clause-count c =
     ap (λ (s : Stack). s.fades) stack in
     let long : length (get_or c.args.self.now c.args.k no_stack).fades ≡ c.index.result.now = ap length fades
     ∙ length-column c.deref.result.now c.self.inside.channels c.args.k c.index.result.now in
-    omega (arith, c.kept_in.ensures.count, long)
-
-pub returns-clause-stack : goal.returns-clause-stack
-returns-clause-stack c =
-    let within : c.args.k < c.self.inside.channels =
-    place_within c.self.inside.channels c.self.inside.bottoms.items c.self.inside.counts.items c.self.inside.fades.items c.args.self.now
-    c.args.k c.self.view_is c.requires in
-    let stack = stack_read c.self.inside.channels c.self.inside.bottoms.items c.self.inside.counts.items c.self.inside.fades.items
-    c.deref.result.now c.args.self.now c.args.k (get_or c.self.inside.bottoms.items c.args.k 0) c.index.result.now c.self.view_is within
-    refl
-    (get_or_read c.self.inside.counts.items c.args.k c.index.result.now (omega
-    (arith, within, c.self.invariant.of_counts)) c.index.ensures 0)
-    c.deref.ensures.value in
-    let fades : (get_or c.args.self.now c.args.k no_stack).fades ≡ column c.deref.result.now c.self.inside.channels c.args.k
-    c.index.result.now =
-    ap (λ (s : Stack). s.fades) stack in
-    let long : length (get_or c.args.self.now c.args.k no_stack).fades ≡ c.index.result.now = ap length fades
-    ∙ length-column c.deref.result.now c.self.inside.channels c.args.k c.index.result.now in
-    ap (λ n. drop (n - c.kept_in.result) (get_or c.args.self.now c.args.k no_stack).fades) long
-    ∙ ap (drop (c.index.result.now - c.kept_in.result)) fades
-    ∙ drop-column c.deref.result.now c.self.inside.channels c.args.k c.index.result.now c.kept_in.result c.kept_in.ensures.count
-    ∙ c.kept_in.ensures.stack ∙ ap (begun_by c.args.start) (sym fades)
+    record {
+      count = omega (arith, c.kept_in.ensures.count, long);
+      stack = ap (λ n. drop (n - c.kept_in.result) (get_or c.args.self.now c.args.k no_stack).fades) long
+          ∙ ap (drop (c.index.result.now - c.kept_in.result)) fades
+          ∙ drop-column c.deref.result.now c.self.inside.channels c.args.k c.index.result.now c.kept_in.result c.kept_in.ensures.count
+          ∙ c.kept_in.ensures.stack ∙ ap (begun_by c.args.start) (sym fades);
+    }

@@ -11,15 +11,12 @@ use Rattle.lx_levels.proofs.Columns.{drop-column, length-column, place_within, s
 use Rattle.lx_levels.proofs.racks.Racks.put.Goals as goal
 
 pub write-requires-clause-within : goal.write-requires-clause-within
-write-requires-clause-within c = place_within c.self.inside.channels c.self.inside.bottoms.items c.self.inside.counts.items
-    c.self.inside.fades.items
-    c.args.self.now c.args.k c.self.view_is c.requires.within
+write-requires-clause-within c = place_within c.self.inside _ _ c.self.view_is c.requires.within
 
 pub index_mut-requires : goal.index_mut-requires
 index_mut-requires c = omega (
   arith,
-  place_within c.self.inside.channels c.self.inside.bottoms.items c.self.inside.counts.items c.self.inside.fades.items
-      c.args.self.now c.args.k c.self.view_is c.requires.within,
+  place_within c.self.inside _ _ c.self.view_is c.requires.within,
   c.self.invariant.of_counts,
   c.self.inside.counts.ok,
 )
@@ -28,9 +25,7 @@ pub invariant_of-self : goal.invariant_of-self
 invariant_of-self c =
     let counts = c.self.inside.counts.items in
     let channels : ℕ = c.self.inside.channels in
-    let within : c.args.k < channels = place_within c.self.inside.channels c.self.inside.bottoms.items c.self.inside.counts.items
-    c.self.inside.fades.items
-    c.args.self.now c.args.k c.self.view_is c.requires.within in
+    let within : c.args.k < channels = place_within c.self.inside _ _ c.self.view_is c.requires.within in
     let room : c.args.k < length counts = omega (arith, within, c.self.invariant.of_counts) in
     let here : (i : ℕ) → i ≡ c.args.k → get_or (set counts c.args.k (c.args.kept + 1)) i 0 ≡ c.args.kept + 1 =
     λ i same. get_or-set_at counts c.args.k i (c.args.kept + 1) 0 same room in
@@ -62,12 +57,10 @@ returns c =
     let old : List Fade = c.self.inside.fades.items in
     let new : List Fade = c.write.new.block.items in
     let now : List Stack = c.args.self.now in
-    let within : k < channels = place_within c.self.inside.channels c.self.inside.bottoms.items c.self.inside.counts.items
-    c.self.inside.fades.items
-    c.args.self.now c.args.k c.self.view_is c.requires.within in
+    let within : k < channels = place_within c.self.inside _ _ c.self.view_is c.requires.within in
     let room : k < length counts = omega (arith, within, c.self.invariant.of_counts) in
     let stack : get_or now k no_stack ≡ record { bottom = get_or bottoms k 0; fades = column old channels k (get_or counts k 0) } =
-    stack_read channels bottoms counts old old now k (get_or bottoms k 0) (get_or counts k 0) c.self.view_is within refl refl refl in
+    stack_read c.self.inside old now k (get_or bottoms k 0) (get_or counts k 0) c.self.view_is within refl refl refl in
     let fades : (get_or now k no_stack).fades ≡ column old channels k (get_or counts k 0) = ap (λ (s : Stack). s.fades) stack in
     let long : length (get_or now k no_stack).fades ≡ get_or counts k 0 = ap length fades ∙ length-column old channels k
     (get_or counts k 0) in

@@ -10,8 +10,7 @@ use Rattle.lx_levels.proofs.racks.Racks.restart.Goals as goal
 pub index_mut-requires : goal.index_mut-requires
 index_mut-requires c = omega (
   arith,
-  place_within c.self.inside.channels c.self.inside.bottoms.items c.self.inside.counts.items c.self.inside.fades.items
-      c.args.self.now c.args.k c.self.view_is c.requires,
+  place_within c.self.inside _ _ c.self.view_is c.requires,
   c.self.invariant.of_bottoms,
   c.self.inside.bottoms.ok,
 )
@@ -19,8 +18,7 @@ index_mut-requires c = omega (
 pub index_mut-requires-2 : goal.index_mut-requires-2
 index_mut-requires-2 c = omega (
   arith,
-  place_within c.self.inside.channels c.self.inside.bottoms.items c.self.inside.counts.items c.self.inside.fades.items
-      c.args.self.now c.args.k c.self.view_is c.requires,
+  place_within c.self.inside _ _ c.self.view_is c.requires,
   c.self.invariant.of_counts,
   c.self.inside.counts.ok,
 )
@@ -32,9 +30,7 @@ returns c =
     let channels : ℕ = c.self.inside.channels in
     let k : ℕ = c.args.k in
     let block : List Fade = c.self.inside.fades.items in
-    let within : k < channels = place_within c.self.inside.channels c.self.inside.bottoms.items c.self.inside.counts.items
-    c.self.inside.fades.items
-    c.args.self.now c.args.k c.self.view_is c.requires in
+    let within : k < channels = place_within c.self.inside _ _ c.self.view_is c.requires in
     stacks_set channels bottoms counts (set bottoms k c.args.bottom) (set counts k 0) block block k
     (record { bottom = c.args.bottom; fades = [] })
     within
