@@ -6,7 +6,7 @@ ghost use Rattle.lx_spec.specs.Show.{ValidCue};
 ghost use Rattle.lx_spec.specs.TrackedLevel.{tracked, cue_above, decides};
 ghost use Rattle.lx_spec.specs.EditedShow.{cue_only, with_cue, with_moves, moves_for};
 ghost use Rattle.lx_edit.specs.Found.{FoundCue};
-ghost use Rattle.lx_edit.specs.Planned.{Plans, PlansCues, CanPlace, IsAbove, KeepsAbove, with_above};
+ghost use Rattle.lx_edit.specs.Planned.{Plans, PlansCues, CanPlace, IsAbove, KeepsAbove, SameOutside, with_above};
 ghost use Rattle.lx_edit.specs.Kept.{changed_show, decided, decided_by};
 
 use crate::absent::{channel, the_cue};
@@ -14,8 +14,8 @@ use crate::blocks::below;
 use crate::marks::entry_near;
 use crate::moves::{add, with_moves};
 use crate::plans::Plan;
-use lx_base::{Chan, CueNo, Level};
-use lx_show::{Cue, Edit, Move, Refusal, Show};
+use lx_base::{Chan, ChanRange, CueNo, Level};
+use lx_show::{Cue, Edit, Move, MoveList, Refusal, Show};
 use std::alloc::{AllocError, Global};
 
 /// The cue goes.
@@ -27,23 +27,42 @@ pub(crate) fn delete_cue(alloc: Global, show: &Show, n: CueNo, only: bool) -> Re
     Ok(Plan::RemoveCue { cue: n, above })
 }
 
-/// The plan that places the changed cue in the place of the old one and, cue only, the one above it with the
-/// moves that keep its levels. An error comes where memory is wanting.
+/// The plan that gives the cue the moves of the changed one or, where the one above it gets moves that keep its levels, places
+/// both. Outside the range the moves are those of the old one. An error comes where memory is wanting.
 pub(crate) fn place(
     alloc: Global,
     show: &Show,
     n: CueNo,
     old: &Cue,
     cue: Cue,
+    within: ChanRange,
     only: bool,
 ) -> Result<Plan, AllocError>
     requires there { FoundCue show.now n old.now }
     requires number { cue.number ≡ n }
     requires valid { ValidCue show.now.channels cue }
+    requires moves { cue ≡ record old.now { moves = cue.moves } }
+    requires within { SameOutside within old.now.moves cue.moves }
     ensures { IfOk result (PlansCues show.now (cue_only only show.now n (with_cue show.now cue))) }
 {
-    let above = kept_above(alloc, show, n, old, Some(&cue), only)?;
-    Ok(Plan::PlaceCue { cue, above })
+    match kept_above(alloc, show, n, old, Some(&cue), only)? {
+        Some(above) => Ok(Plan::PlaceCue {
+            cue,
+            above: Some(above),
+        }),
+        None => Ok(Plan::PlaceMoves {
+            cue: n,
+            moves: into_moves(cue),
+            within,
+        }),
+    }
+}
+
+/// The moves of the cue, which goes.
+fn into_moves(cue: Cue) -> MoveList
+    ensures { result ≡ cue.moves }
+{
+    cue.moves
 }
 
 /// Cue only, the cue above the edited one, with the moves that keep its levels; none where no cue is above it.

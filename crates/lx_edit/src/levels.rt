@@ -1,6 +1,7 @@
 //! Edits of a cue's levels: channels set to a level, a group set, and channels released.
 
 ghost use Rattle.std.specs.Prelude.{◌≡◌, ℕ, IfOk, IfSome, IsTrue, true};
+ghost use Rattle.lx_base.specs.declared.TheConstants.{CHANNELS};
 ghost use Rattle.lx_spec.specs.TrackedLevel.{cue_above, decides};
 ghost use Rattle.lx_spec.specs.SortedList.{has_entry};
 ghost use Rattle.lx_spec.specs.Show.{ValidCue};
@@ -11,7 +12,7 @@ use crate::absent::{channel, the_channels, the_cue, the_given_part, the_group, t
 use crate::kept::place;
 use crate::moves::{all_at, in_proportion, with_levels};
 use crate::plans::Plan;
-use lx_base::{Chan, ChanRange, CueNo, GroupNo, Level, PartNo};
+use lx_base::{CHANNELS, Chan, ChanRange, CueNo, GroupNo, Level, PartNo};
 use lx_show::{Cue, Edit, Move, Refusal, Show};
 use std::alloc::{AllocError, Global};
 
@@ -36,7 +37,7 @@ pub(crate) fn set(
     }
     let members = all_at(alloc, range, level)?;
     let cue = with_levels(alloc, show.channels(), old, part, members.as_slice())?;
-    Ok(place(alloc, show, n, old, cue, only)?)
+    Ok(place(alloc, show, n, old, cue, range, only)?)
 }
 
 /// The move of the range's one channel to the level, where the range is one channel, of which the cue has a move.
@@ -106,7 +107,17 @@ pub(crate) fn set_group(
     the_group(show, g)?;
     let members = in_proportion(alloc, show, g, level)?;
     let cue = with_levels(alloc, show.channels(), old, given, members.as_slice())?;
-    Ok(place(alloc, show, n, old, cue, only)?)
+    Ok(place(alloc, show, n, old, cue, all_channels(), only)?)
+}
+
+/// All channels.
+fn all_channels() -> ChanRange
+    ensures { result ≡ record { first = 1; last = CHANNELS } }
+{
+    match ChanRange::new(channel(1), channel(CHANNELS)) {
+        Some(range) => range,
+        None => unreachable!(),
+    }
 }
 
 /// The channels of the range have no move in the cue any more.
@@ -123,7 +134,7 @@ pub(crate) fn release(
     the_channels(show, range)?;
     the_moves(old, range)?;
     let cue = without_moves(old, range)?;
-    Ok(place(alloc, show, n, old, cue, only)?)
+    Ok(place(alloc, show, n, old, cue, range, only)?)
 }
 
 /// The cue without moves for the channels of the range. An error comes where memory is wanting.
