@@ -1,7 +1,8 @@
 -- Moves that are marked where they differ.
-use Rattle.std.proofs.Common.{◌≡◌, ℕ, zero, suc, ◌+◌, ◌-◌, ◌<◌, ◌≤◌, Bool, true, false, List, [], ◌∷◌, ◌++◌, length, map, take, get_or, Some, None}
+use Rattle.std.proofs.Common.{◌≡◌, ℕ, zero, suc, ◌+◌, ◌-◌, ◌<◌, ◌≤◌, Bool, true, false, cond, List, [], ◌∷◌, ◌++◌, length, map, take, get_or, Some, None}
 use Rattle.std.proofs.Common.{refl, ◌∙◌, sym, ap, subst, arith}
-use Rattle.std.specs.Prelude.{Option, IfSome, ◌||◌, ◌&&◌, ◌==◌, not, nat_le, nat_lt}
+use Rattle.std.specs.Prelude.{Option, IfSome, is_some, ◌||◌, ◌&&◌, ◌==◌, not, nat_le, nat_lt}
+use Rattle.std.specs.Option.{option_map_or}
 use Rattle.std.specs.List.{AllByRecursion, range_with_len}
 use Rattle.std.proofs.lemmas.Bool.Decides.{nat_tests}
 use Rattle.lx_base.specs.Numbers.{Span}
@@ -20,6 +21,7 @@ use Rattle.lx_spec.proofs.SortedLists.{entry_at-placed_other, found_number, foun
 use Rattle.lx_edit.specs.declared.chan_set.ChanSet.{ChanSet}
 use Rattle.lx_edit.specs.ChanSet.{has_chan}
 use Rattle.lx_edit.specs.Changing.{AreAmong, Grows, move_by, moves_in}
+use Rattle.lx_edit.specs.Kept.{decided}
 use Rattle.lx_edit.specs.Planned.{SameOutside, covers}
 
 not_right : (a b : Bool) → (a || b) ≡ false → b ≡ false
@@ -141,7 +143,7 @@ placed_others c (m ∷ ms) moves all =
     placed_others c ms (placed (λ x. x.chan) m moves) all.1
     ∙ entry_at-placed_other (λ (x : Move). x.chan) c m moves (λ is. all.0 (sym is))
 
-not_covered : (first last c k : ℕ) → (nat_le first c && nat_le c last) ≡ false → first ≤ k → k ≤ last → c ≡ k → ⊥
+pub not_covered : (first last c k : ℕ) → (nat_le first c && nat_le c last) ≡ false → first ≤ k → k ≤ last → c ≡ k → ⊥
 not_covered first last c k out low high is =
     false≢true (sym out ∙ both_true (nat_le first c) (nat_le c last) (le_true first c (omega (arith, low, is)))
     (le_true c last (omega (arith, high, is))))
@@ -174,6 +176,13 @@ pub valid_outside : (channels : ℕ) (old new : Cue) → channels ≤ CHANNELS �
     → SameOutside (record { first = 1; last = CHANNELS }) old.moves new.moves
 valid_outside channels old new few was now = λ c out.
     none_past channels c old.parts old.moves few was.moves out ∙ sym (none_past channels c new.parts new.moves few now.moves out)
+
+-- a channel that has the same move in a cue with other moves is decided the same
+pub decided_alike : (old cue : Cue) (c : ℕ) → cue ≡ record old { moves = cue.moves }
+    → entry_at (λ m. m.chan) c old.moves ≡ entry_at (λ m. m.chan) c cue.moves → decided cue c ≡ decided old c
+decided_alike old cue c is same =
+    ap (λ (q : Cue). decided q c) is
+    ∙ ap (λ (o : Option Move). cond (old.block || is_some o) (Some (option_map_or (λ m. m.level) o 0)) None) (sym same)
 
 -- a cue of which the moves alone are others
 pub moves_alone : (old cue : Cue) (moves : List Move) → cue ≡ record old { moves = moves } → cue ≡ record old { moves = cue.moves }

@@ -1,18 +1,19 @@
 //! Edits of a cue's levels: channels set to a level, a group set, and channels released.
 
 ghost use Rattle.std.specs.Prelude.{◌≡◌, ℕ, IfOk, IfSome, IsTrue, true};
-ghost use Rattle.lx_base.specs.declared.TheConstants.{CHANNELS};
 ghost use Rattle.lx_spec.specs.TrackedLevel.{cue_above, decides};
 ghost use Rattle.lx_spec.specs.SortedList.{has_entry};
 ghost use Rattle.lx_spec.specs.Show.{ValidCue};
 ghost use Rattle.lx_spec.specs.EditedShow.{part_for, without_moves};
 ghost use Rattle.lx_edit.specs.Planned.{Plans};
 
-use crate::absent::{channel, the_channels, the_cue, the_given_part, the_group, the_moves};
+use crate::absent::{
+    all_channels, channel, the_channels, the_cue, the_given_part, the_group, the_moves,
+};
 use crate::kept::place;
 use crate::moves::{all_at, in_proportion, with_levels};
 use crate::plans::Plan;
-use lx_base::{CHANNELS, Chan, ChanRange, CueNo, GroupNo, Level, PartNo};
+use lx_base::{Chan, ChanRange, CueNo, GroupNo, Level, PartNo};
 use lx_show::{Cue, Edit, Move, Refusal, Show};
 use std::alloc::{AllocError, Global};
 
@@ -108,16 +109,6 @@ pub(crate) fn set_group(
     let members = in_proportion(alloc, show, g, level)?;
     let cue = with_levels(alloc, show.channels(), old, given, members.as_slice())?;
     Ok(place(alloc, show, n, old, cue, all_channels(), only)?)
-}
-
-/// All channels.
-fn all_channels() -> ChanRange
-    ensures { result ≡ record { first = 1; last = CHANNELS } }
-{
-    match ChanRange::new(channel(1), channel(CHANNELS)) {
-        Some(range) => range,
-        None => unreachable!(),
-    }
 }
 
 /// The channels of the range have no move in the cue any more.

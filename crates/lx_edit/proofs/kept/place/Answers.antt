@@ -7,6 +7,7 @@ use Rattle.lx_spec.specs.declared.Part.{Part}
 use Rattle.lx_spec.specs.Show.{Cue, ValidMove}
 use Rattle.lx_spec.specs.EditedShow.{with_cue}
 use Rattle.lx_edit.specs.Planned.{SameOutside, with_above}
+use Rattle.lx_edit.proofs.Marked.{decided_alike}
 use Rattle.lx_edit.proofs.PlacedMoves.{changed_is}
 use Rattle.lx_edit.proofs.kept.place.Goals as goal
 
@@ -34,3 +35,7 @@ returns-in-None c =
       dimmer = refl;
       subs = refl;
     }
+
+pub kept_above-requires-clause-within : goal.kept_above-requires-clause-within
+kept_above-requires-clause-within c = λ x range out.
+    decided_alike c.args.old.now c.args.cue x c.requires.moves (c.requires.within x out)
