@@ -6,7 +6,7 @@ use Rattle.lx_spec.specs.Show.{Show, Sub, InRange}
 use Rattle.lx_spec.specs.Output.{contribution}
 use Rattle.lx_spec.proofs.Columns.{level-columns}
 use Rattle.lx_edit.specs.declared.plans.Plan.{Plan}
-use Rattle.lx_edit.specs.declared.plans.Plan.TheVariants.{Nothing, PlaceCue, PlaceMove, PlaceCues, RemoveCue, PlaceGroup, RemoveGroup}
+use Rattle.lx_edit.specs.declared.plans.Plan.TheVariants.{Nothing, PlaceCue, PlaceMove, PlaceMoves, PlaceCues, RemoveCue, PlaceGroup, RemoveGroup}
 use Rattle.lx_edit.specs.declared.plans.Plan.TheVariants.{PlaceSub, RemoveSub, PlaceRow, RemoveRow}
 use Rattle.lx_edit.specs.Changing.{KeepsOthers}
 use Rattle.lx_edit.specs.Planned.{planned, dimmer_planned, plans_sub}
@@ -25,6 +25,7 @@ same_channels show Nothing = refl
 same_channels show (PlaceCue cue None) = refl
 same_channels show (PlaceCue cue (Some above)) = refl
 same_channels show (PlaceMove n entry) = refl
+same_channels show (PlaceMoves n moves within) = refl
 same_channels show (PlaceCues cue None) = refl
 same_channels show (PlaceCues cue (Some above)) = refl
 same_channels show (RemoveCue n None) = refl
@@ -42,6 +43,7 @@ same_subs show Nothing clean = refl
 same_subs show (PlaceCue cue None) clean = refl
 same_subs show (PlaceCue cue (Some above)) clean = refl
 same_subs show (PlaceMove n entry) clean = refl
+same_subs show (PlaceMoves n moves within) clean = refl
 same_subs show (PlaceCues cue None) clean = refl
 same_subs show (PlaceCues cue (Some above)) clean = refl
 same_subs show (RemoveCue n None) clean = refl
@@ -59,6 +61,7 @@ same_patch show Nothing clean = refl
 same_patch show (PlaceCue cue None) clean = refl
 same_patch show (PlaceCue cue (Some above)) clean = refl
 same_patch show (PlaceMove n entry) clean = refl
+same_patch show (PlaceMoves n moves within) clean = refl
 same_patch show (PlaceCues cue None) clean = refl
 same_patch show (PlaceCues cue (Some above)) clean = refl
 same_patch show (RemoveCue n None) clean = refl
@@ -77,6 +80,7 @@ other_rows show Nothing e other = refl
 other_rows show (PlaceCue cue None) e other = refl
 other_rows show (PlaceCue cue (Some above)) e other = refl
 other_rows show (PlaceMove n entry) e other = refl
+other_rows show (PlaceMoves n moves within) e other = refl
 other_rows show (PlaceCues cue None) e other = refl
 other_rows show (PlaceCues cue (Some above)) e other = refl
 other_rows show (RemoveCue n None) e other = refl

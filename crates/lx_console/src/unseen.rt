@@ -27,6 +27,7 @@ pub(crate) fn placed_alone(plan: &Plan) -> Option<CueNo>
         Plan::PlaceCue { cue, above: None } => Some(cue.number),
         Plan::PlaceCues { cue, above: None } => Some(cue.number),
         Plan::PlaceMove { cue, .. } => Some(*cue),
+        Plan::PlaceMoves { cue, .. } => Some(*cue),
         _ => None,
     }
 }

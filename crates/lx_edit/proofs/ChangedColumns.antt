@@ -158,7 +158,7 @@ others_with show new cue n chans valid is number least entry = λ x out.
     subst (λ (s : Show). SameLevels show s x) (sym is)
     (column_with show cue n x valid number (subst (λ k. 1 ≤ k) number least) (entry x out))
 
-not_here : (a n : ℕ) → a ≡ n → not (a == n) ≡ false
+pub not_here : (a n : ℕ) → a ≡ n → not (a == n) ≡ false
 not_here a n is = grind (arith, nat_tests)
 
 pub gone : {A : Type 0} (key : A → ℕ) (n : ℕ) (xs : List A) → entry_at key n (taken_out key n xs) ≡ None

@@ -1,17 +1,28 @@
 -- Moves that are marked where they differ.
-use Rattle.std.proofs.Common.{◌≡◌, ℕ, ◌+◌, ◌<◌, Bool, true, false, List, [], ◌∷◌, ◌++◌, length, take, get_or, Some, None, refl, ◌∙◌, sym, ap, subst}
-use Rattle.std.specs.Prelude.{Option, IfSome, ◌||◌, ◌==◌}
+use Rattle.std.proofs.Common.{◌≡◌, ℕ, zero, suc, ◌+◌, ◌-◌, ◌<◌, ◌≤◌, Bool, true, false, cond, List, [], ◌∷◌, ◌++◌, length, map, take, get_or, Some, None}
+use Rattle.std.proofs.Common.{refl, ◌∙◌, sym, ap, subst, arith}
+use Rattle.std.specs.Prelude.{Option, IfSome, is_some, ◌||◌, ◌&&◌, ◌==◌, not, nat_le, nat_lt}
+use Rattle.std.specs.Option.{option_map_or}
+use Rattle.std.specs.List.{AllByRecursion, range_with_len}
+use Rattle.std.proofs.lemmas.Bool.Decides.{nat_tests}
+use Rattle.lx_base.specs.Numbers.{Span}
+use Rattle.lx_base.specs.declared.TheConstants.{CHANNELS}
+use Rattle.lx_spec.specs.declared.Part.{Part}
 use Rattle.std.proofs.lemmas.Bool.{false≢true, or_left}
 use Rattle.std.proofs.lemmas.List.{take_more}
 use Rattle.lx_spec.specs.declared.Move.{Move}
-use Rattle.lx_spec.specs.SortedList.{entry_at}
-use Rattle.lx_spec.specs.Show.{Cue}
-use Rattle.lx_spec.proofs.Comparisons.{eq_true}
-use Rattle.lx_spec.proofs.Lists.{all_append, each}
-use Rattle.lx_spec.proofs.SortedLists.{found_number, found_valid}
+use Rattle.lx_spec.specs.SortedList.{all_placed, entry_at, entries_above, placed}
+use Rattle.lx_spec.specs.Show.{Cue, ValidCue, ValidMove}
+use Rattle.lx_spec.specs.EditedShow.{all_at, channels_in, part_for, with_levels, without_moves}
+use Rattle.lx_show.specs.Around.{entries_up_to}
+use Rattle.lx_spec.proofs.Comparisons.{eq_from, eq_other, eq_true, le_true, lt_true}
+use Rattle.lx_spec.proofs.Lists.{all_append, each, find_in_filter, find_none}
+use Rattle.lx_spec.proofs.SortedLists.{entry_at-placed_other, found_number, found_valid}
 use Rattle.lx_edit.specs.declared.chan_set.ChanSet.{ChanSet}
 use Rattle.lx_edit.specs.ChanSet.{has_chan}
 use Rattle.lx_edit.specs.Changing.{AreAmong, Grows, move_by, moves_in}
+use Rattle.lx_edit.specs.Kept.{decided}
+use Rattle.lx_edit.specs.Planned.{SameOutside, covers}
 
 not_right : (a b : Bool) → (a || b) ≡ false → b ≡ false
 not_right true b is = absurd (false≢true (sym is))
@@ -65,7 +76,114 @@ same_moves chans old new there back c out =
     same_both_ways (entry_at (λ m. m.chan) c old) (entry_at (λ m. m.chan) c new) (among_found chans old new c _ refl out there)
     (among_found chans new old c _ refl out back)
 
+le_is : (a b : ℕ) → nat_le a b ≡ true → a ≤ b
+le_is a b is = grind (arith, nat_tests)
+
+both_left : (a b : Bool) → (a && b) ≡ true → a ≡ true
+both_left true b is = refl
+both_left false b is = absurd (false≢true is)
+
+both_right : (a b : Bool) → (a && b) ≡ true → b ≡ true
+both_right true b is = is
+both_right false b is = absurd (false≢true is)
+
+both_true : (a b : Bool) → a ≡ true → b ≡ true → (a && b) ≡ true
+both_true a b one other = ap (λ x. x && b) one ∙ other
+
 -- the channel's move of a cue that may be absent is one of its moves
 pub move_by-moves : (cue : Option Cue) (c : ℕ) → move_by cue c ≡ entry_at (λ m. m.chan) c (moves_in cue)
 move_by-moves None c = refl
 move_by-moves (Some cue) c = refl
+
+-- Moves of a range.
+low_passes : (a c first : ℕ) (last : Bool) → (nat_le first c && last) ≡ true → 1 ≤ first → (a == c) ≡ true → nat_lt (first - 1) a ≡ true
+low_passes a c first last within least same =
+    lt_true (first - 1) a (omega (arith, le_is first c (both_left (nat_le first c) last within), eq_from a c same, least))
+
+high_passes : (a c last : ℕ) (first : Bool) → (first && nat_le c last) ≡ true → (a == c) ≡ true → nat_le a last ≡ true
+high_passes a c last first within same =
+    le_true a last (omega (arith, le_is c last (both_right first (nat_le c last) within), eq_from a c same))
+
+-- the moves of a range have that of each channel of it
+pub part_has : (range : Span) (c : ℕ) (moves from part : List Move) (first last : ℕ) → 1 ≤ first → first ≡ range.first → last ≡ range.last
+    → from ≡ entries_above (λ m. m.chan) (first - 1) moves → part ≡ entries_up_to (λ m. m.chan) last from
+    → covers range c ≡ true → entry_at (λ m. m.chan) c part ≡ entry_at (λ m. m.chan) c moves
+part_has range c moves from part first last least first_is last_is from_is part_is within =
+    let inside : (nat_le first c && nat_le c last) ≡ true =
+    ap (λ k. nat_le k c && nat_le c last) first_is ∙ ap (λ k. nat_le range.first c && nat_le c k) last_is ∙ within in
+    ap (λ (ms : List Move). entry_at (λ m. m.chan) c ms) part_is
+    ∙ find_in_filter (λ m. m.chan == c) (λ m. nat_le m.chan last) from (λ m same. high_passes m.chan c last (nat_le first c) inside same)
+    ∙ ap (λ (ms : List Move). entry_at (λ m. m.chan) c ms) from_is
+    ∙ find_in_filter (λ m. m.chan == c) (λ m. nat_lt (first - 1) m.chan) moves
+    (λ m same. low_passes m.chan c first (nat_le c last) inside least same)
+
+within_step : (range : Span) (old new part_old part_new : List Move) (chans : ChanSet) (c : ℕ) (inside : Bool) → covers range c ≡ inside
+    → SameOutside range old new
+    → (covers range c ≡ true → entry_at (λ m. m.chan) c part_old ≡ entry_at (λ m. m.chan) c old)
+    → (covers range c ≡ true → entry_at (λ m. m.chan) c part_new ≡ entry_at (λ m. m.chan) c new)
+    → entry_at (λ m. m.chan) c part_old ≡ entry_at (λ m. m.chan) c part_new
+    → entry_at (λ m. m.chan) c old ≡ entry_at (λ m. m.chan) c new
+within_step range old new part_old part_new chans c true is outside was now same = sym (was is) ∙ same ∙ now is
+within_step range old new part_old part_new chans c false is outside was now same = outside c is
+
+-- where those of the range are compared, and the others are the same
+pub same_within : (range : Span) (old new part_old part_new : List Move) (chans : ChanSet) → SameOutside range old new
+    → ((c : ℕ) → covers range c ≡ true → entry_at (λ m. m.chan) c part_old ≡ entry_at (λ m. m.chan) c old)
+    → ((c : ℕ) → covers range c ≡ true → entry_at (λ m. m.chan) c part_new ≡ entry_at (λ m. m.chan) c new)
+    → ((c : ℕ) → has_chan chans c ≡ false → entry_at (λ m. m.chan) c part_old ≡ entry_at (λ m. m.chan) c part_new)
+    → (c : ℕ) → has_chan chans c ≡ false → entry_at (λ m. m.chan) c old ≡ entry_at (λ m. m.chan) c new
+same_within range old new part_old part_new chans outside was now same c out =
+    within_step range old new part_old part_new chans c (covers range c) refl outside (was c) (now c) (same c out)
+
+-- Moves placed, left out or of a valid cue are the same outside their range.
+placed_others : (c : ℕ) (more moves : List Move) → AllByRecursion (λ m. c ≡ m.chan → ⊥) more
+    → entry_at (λ m. m.chan) c (all_placed (λ m. m.chan) more moves) ≡ entry_at (λ m. m.chan) c moves
+placed_others c [] moves all = refl
+placed_others c (m ∷ ms) moves all =
+    placed_others c ms (placed (λ x. x.chan) m moves) all.1
+    ∙ entry_at-placed_other (λ (x : Move). x.chan) c m moves (λ is. all.0 (sym is))
+
+pub not_covered : (first last c k : ℕ) → (nat_le first c && nat_le c last) ≡ false → first ≤ k → k ≤ last → c ≡ k → ⊥
+not_covered first last c k out low high is =
+    false≢true (sym out ∙ both_true (nat_le first c) (nat_le c last) (le_true first c (omega (arith, low, is)))
+    (le_true c last (omega (arith, high, is))))
+
+range_others : (first last c level a n : ℕ) (part : ℕ → ℕ) → (nat_le first c && nat_le c last) ≡ false → first ≤ a → a + n ≤ last + 1
+    → AllByRecursion (λ (m : Move). c ≡ m.chan → ⊥)
+    (map (λ m. record { chan = m.chan; part = part m.chan; level = m.level }) (all_at level (range_with_len a n)))
+range_others first last c level a zero part out low high = tt
+range_others first last c level a (suc n) part out low high =
+    (not_covered first last c a out low (omega arith), range_others first last c level (a + 1) n part out (omega arith) (omega arith))
+
+pub set_outside : (range : Span) (level : ℕ) (part : Option ℕ) (cue : Cue) → range.first ≤ range.last
+    → SameOutside range cue.moves (with_levels part cue (all_at level (channels_in range))).moves
+set_outside range level part cue order = λ c out.
+    sym (placed_others c _ cue.moves
+    (range_others range.first range.last c level range.first (range.last + 1 - range.first) (part_for part cue) out (omega arith) (omega arith)))
+
+pub released_outside : (range : Span) (cue : Cue) → SameOutside range cue.moves (without_moves cue range).moves
+released_outside range cue = λ c out.
+    sym (find_in_filter (λ m. m.chan == c) (λ m. not (nat_le range.first m.chan && nat_le m.chan range.last)) cue.moves
+    (λ m same. ap (λ k. not (nat_le range.first k && nat_le k range.last)) (sym (eq_from m.chan c same)) ∙ ap not out))
+
+none_past : (channels c : ℕ) (parts : List Part) (moves : List Move) → channels ≤ CHANNELS → AllByRecursion (ValidMove channels parts) moves
+    → (nat_le 1 c && nat_le c CHANNELS) ≡ false → entry_at (λ m. m.chan) c moves ≡ None
+none_past channels c parts moves few valid out = find_none (λ m. m.chan == c) moves
+    (each (ValidMove channels parts) (λ m. (m.chan == c) ≡ false) moves
+    (λ m h. eq_other m.chan c (λ is. not_covered 1 CHANNELS c m.chan out h.chan.least (omega (arith, h.chan.most, few)) (sym is))) valid)
+
+pub valid_outside : (channels : ℕ) (old new : Cue) → channels ≤ CHANNELS → ValidCue channels old → ValidCue channels new
+    → SameOutside (record { first = 1; last = CHANNELS }) old.moves new.moves
+valid_outside channels old new few was now = λ c out.
+    none_past channels c old.parts old.moves few was.moves out ∙ sym (none_past channels c new.parts new.moves few now.moves out)
+
+-- a channel that has the same move in a cue with other moves is decided the same
+pub decided_alike : (old cue : Cue) (c : ℕ) → cue ≡ record old { moves = cue.moves }
+    → entry_at (λ m. m.chan) c old.moves ≡ entry_at (λ m. m.chan) c cue.moves → decided cue c ≡ decided old c
+decided_alike old cue c is same =
+    ap (λ (q : Cue). decided q c) is
+    ∙ ap (λ (o : Option Move). cond (old.block || is_some o) (Some (option_map_or (λ m. m.level) o 0)) None) (sym same)
+
+-- a cue of which the moves alone are others
+pub moves_alone : (old cue : Cue) (moves : List Move) → cue ≡ record old { moves = moves } → cue ≡ record old { moves = cue.moves }
+moves_alone old cue moves is = is ∙ ap (λ (ms : List Move). record old { moves = ms }) (sym (ap (λ (q : Cue). q.moves) is))

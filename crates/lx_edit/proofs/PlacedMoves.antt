@@ -2,7 +2,7 @@
 use Rattle.std.proofs.Common.{◌≡◌, ℕ, ◌+◌, ◌-◌, ◌≤◌, false, List, [], ◌∷◌, Some, None, Ok, refl, ◌∙◌, sym, ap, subst, cond, arith, inl, inr, Bool, true}
 use Rattle.std.specs.Prelude.{Option, IsTrue, IfSome, is_some, ◌||◌}
 use Rattle.std.specs.Option.{IsSomeAnd, option_map_or}
-use Rattle.std.specs.List.{range_with_len}
+use Rattle.std.specs.List.{AllByRecursion, range_with_len}
 use Rattle.std.proofs.lemmas.Bool.{cases_eq}
 use Rattle.lx_base.specs.Numbers.{Span}
 use Rattle.lx_spec.specs.declared.Edit.TheVariants.{Set}
@@ -15,40 +15,42 @@ use Rattle.lx_spec.specs.EditedShow.{with_cue, with_levels, all_at, channels_in,
 use Rattle.lx_spec.proofs.Comparisons.{le_true}
 use Rattle.lx_spec.proofs.SortedLists.{entry_at-placed_here, entry_at-placed_other, found_number, found_valid}
 use Rattle.lx_edit.specs.declared.chan_set.ChanSet.{ChanSet}
-use Rattle.lx_edit.specs.declared.plans.Plan.TheVariants.{PlaceMove}
+use Rattle.lx_edit.specs.declared.plans.Plan.TheVariants.{PlaceMove, PlaceMoves}
 use Rattle.lx_edit.specs.ChanSet.{has_chan}
 use Rattle.lx_edit.specs.Changing.{SameEntry}
 use Rattle.lx_edit.specs.Found.{FoundCue, GivenPart, IsWithin}
-use Rattle.lx_edit.specs.Planned.{with_move, with_move_in, CanMove, IsPlan}
+use Rattle.lx_edit.specs.Planned.{with_move, with_move_in, with_moves_in, CanMove, CanReplace, IsPlan, SameOutside}
 use Rattle.lx_edit.specs.Undone.{TakesBack}
 use Rattle.lx_edit.proofs.Asserted.{asserts_with}
 use Rattle.lx_edit.proofs.CueLevels.{part_there}
 use Rattle.lx_edit.proofs.NothingKept.{nothing_kept}
 use Rattle.lx_edit.proofs.SameLists.{exchanged, exchanged_back}
 
--- the cue of the number, as a plan of a move has it
-pub record Moved (show : Show) (n : ℕ) (entry : Move) : Type 0 where
+-- the cue of the number, as a plan of its moves has it
+pub record Moved (show : Show) (n : ℕ) : Type 0 where
   pub cue : Cue
   pub found : cue_of show n ≡ Some cue
   pub number : cue.number ≡ n
   pub least : 1 ≤ cue.number
-  pub stands : IsTrue (is_some (cue_of show cue.number))
+  pub stands : IsTrue (is_some (cue_of show n))
 
-moved_step : (show : Show) (n : ℕ) (entry : Move) (o : Option Cue) → Valid show → cue_of show n ≡ o
-    → IsSomeAnd o (λ cue. IsTrue (has_entry (λ m. m.chan) entry.chan cue.moves)) → Moved show n entry
-moved_step show n entry None valid is there = absurd there
-moved_step show n entry (Some cue) valid is there =
-    let number : n ≡ cue.number = found_number (λ (x : Cue). x.number) n show.cues cue is in
-    record {
-      cue = cue;
-      found = is;
-      number = sym number;
-      least = (found_valid (ValidCue show.channels) (λ (x : Cue). x.number) n show.cues cue valid.cues is).number.least;
-      stands = subst (λ k. IsTrue (is_some (cue_of show k))) number (subst (λ (o : Option Cue). IsTrue (is_some o)) (sym is) refl);
-    }
+moved_step : (show : Show) (n : ℕ) (P : Cue → Type 0) (o : Option Cue) → Valid show → cue_of show n ≡ o → IsSomeAnd o P → Moved show n
+moved_step show n P None valid is there = absurd there
+moved_step show n P (Some cue) valid is there = record {
+  cue = cue;
+  found = is;
+  number = sym (found_number (λ (x : Cue). x.number) n show.cues cue is);
+  least = (found_valid (ValidCue show.channels) (λ (x : Cue). x.number) n show.cues cue valid.cues is).number.least;
+  stands = subst (λ (o : Option Cue). IsTrue (is_some o)) (sym is) refl;
+}
 
-pub moved : (show : Show) (n : ℕ) (entry : Move) → Valid show → CanMove show n entry → Moved show n entry
-moved show n entry valid ready = moved_step show n entry (cue_of show n) valid refl ready.there
+pub moved : (show : Show) (n : ℕ) (entry : Move) → Valid show → CanMove show n entry → Moved show n
+moved show n entry valid ready =
+    moved_step show n (λ cue. IsTrue (has_entry (λ m. m.chan) entry.chan cue.moves)) (cue_of show n) valid refl ready.there
+
+pub moved_all : (show : Show) (n : ℕ) (moves : List Move) (within : Span) → Valid show → CanReplace show n moves within → Moved show n
+moved_all show n moves within valid ready =
+    moved_step show n (λ cue. SameOutside within cue.moves moves) (cue_of show n) valid refl ready.same
 
 -- what the cue had of the channel
 pub was_there : (show : Show) (n : ℕ) (entry old : Move) (cue : Cue) → cue_of show n ≡ Some cue
@@ -56,36 +58,55 @@ pub was_there : (show : Show) (n : ℕ) (entry old : Move) (cue : Cue) → cue_o
 was_there show n entry old cue found replaced =
     subst (λ (o : Option Cue). IsSomeAnd o (λ x. move_in x entry.chan ≡ Some old)) found replaced
 
+-- the moves that it had
+pub moves_were : (show : Show) (n : ℕ) (old : List Move) (cue : Cue) → cue_of show n ≡ Some cue
+    → IsSomeAnd (cue_of show n) (λ x. old ≡ x.moves) → old ≡ cue.moves
+moves_were show n old cue found before = subst (λ (o : Option Cue). IsSomeAnd o (λ x. old ≡ x.moves)) found before
+
 -- the show is the one with the changed cue
+pub changed_is : (show : Show) (n : ℕ) (change : List Move → List Move) (cue : Cue) → cue_of show n ≡ Some cue
+    → with_moves_in show n change ≡ with_cue show (record cue { moves = change cue.moves })
+changed_is show n change cue is = ap (λ (o : Option Cue). record show
+    { cues = option_map_or (λ (x : Cue). placed (λ (y : Cue). y.number) (record x { moves = change x.moves }) show.cues) o show.cues }) is
+
 pub moved_is : (show : Show) (n : ℕ) (entry : Move) (cue : Cue) → cue_of show n ≡ Some cue
     → with_move_in show n entry ≡ with_cue show (with_move cue entry)
-moved_is show n entry cue is = ap (λ (o : Option Cue). record show
-    { cues = option_map_or (λ (x : Cue). placed (λ (y : Cue). y.number) (with_move x entry) show.cues) o show.cues }) is
+moved_is show n entry cue is = changed_is show n (placed (λ m. m.chan) entry) cue is
 
-nothing_moved : (show : Show) (n : ℕ) (entry : Move) → cue_of show n ≡ None → with_move_in show n entry ≡ show
-nothing_moved show n entry is = ap (λ (o : Option Cue). record show
-    { cues = option_map_or (λ (x : Cue). placed (λ (y : Cue). y.number) (with_move x entry) show.cues) o show.cues }) is
+nothing_changed : (show : Show) (n : ℕ) (change : List Move → List Move) → cue_of show n ≡ None → with_moves_in show n change ≡ show
+nothing_changed show n change is = ap (λ (o : Option Cue). record show
+    { cues = option_map_or (λ (x : Cue). placed (λ (y : Cue). y.number) (record x { moves = change x.moves }) show.cues) o show.cues }) is
 
 -- the same cues are asserted
-asserts_step : (show : Show) (n k : ℕ) (entry : Move) (o : Option Cue) → cue_of show n ≡ o
-    → asserts show k ≡ asserts (with_move_in show n entry) k
-asserts_step show n k entry None is = sym (ap (λ (s : Show). asserts s k) (nothing_moved show n entry is))
-asserts_step show n k entry (Some cue) is =
+asserts_step : (show : Show) (n k : ℕ) (change : List Move → List Move) (o : Option Cue) → cue_of show n ≡ o
+    → asserts show k ≡ asserts (with_moves_in show n change) k
+asserts_step show n k change None is = sym (ap (λ (s : Show). asserts s k) (nothing_changed show n change is))
+asserts_step show n k change (Some cue) is =
     let number : n ≡ cue.number = found_number (λ (x : Cue). x.number) n show.cues cue is in
     let flag : asserts show cue.number ≡ cue.asserted =
     ap (λ j. asserts show j) (sym number) ∙ ap (λ (o : Option Cue). option_map_or (λ (x : Cue). x.asserted) o false) is in
-    asserts_with show (with_move cue entry) k flag ∙ sym (ap (λ (s : Show). asserts s k) (moved_is show n entry cue is))
+    asserts_with show (record cue { moves = change cue.moves }) k flag
+    ∙ sym (ap (λ (s : Show). asserts s k) (changed_is show n change cue is))
 
-pub asserts_moved : (show : Show) (n k : ℕ) (entry : Move) → asserts show k ≡ asserts (with_move_in show n entry) k
-asserts_moved show n k entry = asserts_step show n k entry (cue_of show n) refl
+pub asserts_moved : (show : Show) (n k : ℕ) (change : List Move → List Move) → asserts show k ≡ asserts (with_moves_in show n change) k
+asserts_moved show n k change = asserts_step show n k change (cue_of show n) refl
 
--- the channel of the move is the only one that may see a difference
-same_of : (cue : Cue) (entry : Move) (c base : ℕ) → move_in cue c ≡ move_in (with_move cue entry) c
-    → SameEntry (Some cue) (Some (with_move cue entry)) c base
-same_of cue entry c base same = record {
+-- a channel that has the same move still sees no difference
+same_of : (cue : Cue) (moves : List Move) (c base : ℕ) → move_in cue c ≡ entry_at (λ m. m.chan) c moves
+    → SameEntry (Some cue) (Some (record cue { moves = moves })) c base
+same_of cue moves c base same = record {
   moves = same;
   level = ap (λ (m : Option Move). cond (cue.block || is_some m) (option_map_or (λ x. x.level) m 0) base) same;
 }
+
+pub sees_all : (show : Show) (n : ℕ) (cue : Cue) (slice moves : List Move) (chans : ChanSet) → cue_of show n ≡ Some cue → slice ≡ moves
+    → IsSomeAnd (cue_of show n) (λ x. (c : ℕ) → has_chan chans c ≡ false → move_in x c ≡ entry_at (λ m. m.chan) c slice)
+    → (c : ℕ) → has_chan chans c ≡ false → SameEntry (cue_of show n) (Some (record cue { moves = moves })) c (tracked show (n - 1) c)
+sees_all show n cue slice moves chans found is marked c out =
+    let same : (k : ℕ) → has_chan chans k ≡ false → move_in cue k ≡ entry_at (λ m. m.chan) k slice =
+    subst (λ (o : Option Cue). IsSomeAnd o (λ x. (k : ℕ) → has_chan chans k ≡ false → move_in x k ≡ entry_at (λ m. m.chan) k slice)) found marked in
+    subst (λ (o : Option Cue). SameEntry o (Some (record cue { moves = moves })) c (tracked show (n - 1) c)) (sym found)
+    (same_of cue moves c (tracked show (n - 1) c) (same c out ∙ ap (λ (ms : List Move). entry_at (λ m. m.chan) c ms) is))
 
 pub sees_moved : (show : Show) (n : ℕ) (entry old : Move) (cue : Cue) (chans : ChanSet) → cue_of show n ≡ Some cue
     → move_in cue entry.chan ≡ Some old → (has_chan chans entry.chan ≡ false → ◌≡◌ {A = Option Move} (Some old) (Some entry))
@@ -98,7 +119,38 @@ sees_moved show n entry old cue chans found was marked c out =
       | inr other ↦ sym (entry_at-placed_other (λ (m : Move). m.chan) c entry cue.moves (λ is. other (sym is)))
     ] in
     subst (λ (o : Option Cue). SameEntry o (Some (with_move cue entry)) c (tracked show (n - 1) c)) (sym found)
-    (same_of cue entry c (tracked show (n - 1) c) same)
+    (same_of cue (placed (λ (m : Move). m.chan) entry cue.moves) c (tracked show (n - 1) c) same)
+
+-- a cue placed, and then the one that was there
+cue_again : (show : Show) (n : ℕ) (new cue : Cue) → Valid show → cue_of show n ≡ Some cue → new.number ≡ n
+    → placed (λ (x : Cue). x.number) cue (placed (λ (x : Cue). x.number) new show.cues) ≡ show.cues
+cue_again show n new cue valid found number =
+    subst (λ (o : Option Cue). exchanged (λ (x : Cue). x.number) n o (placed (λ (x : Cue). x.number) new show.cues) ≡ show.cues) found
+    (exchanged_back (λ (x : Cue). x.number) n (Some new) show.cues valid.cues_sorted number)
+
+-- the moves that it had, given back
+pub moves_back : (show after : Show) (n : ℕ) (moves old : List Move) (within : Span) (cue : Cue) → Valid show
+    → after ≡ with_moves_in show n (λ _. moves) → CanReplace show n moves within → cue_of show n ≡ Some cue → old ≡ cue.moves
+    → TakesBack show after (PlaceMoves n old within)
+moves_back show after n moves old within cue valid is ready found was =
+    let number : n ≡ cue.number = found_number (λ (x : Cue). x.number) n show.cues cue found in
+    let new : Cue = record cue { moves = moves } in
+    let one : Show = with_cue show new in
+    let here : cue_of one n ≡ Some new = entry_at-placed_here (λ (x : Cue). x.number) n new show.cues (sym number) in
+    let whole : ValidCue show.channels cue =
+    found_valid (ValidCue show.channels) (λ (x : Cue). x.number) n show.cues cue valid.cues found in
+    let same : SameOutside within cue.moves moves =
+    subst (λ (o : Option Cue). IsSomeAnd o (λ x. SameOutside within x.moves moves)) found ready.same in
+    let all : TakesBack show one (PlaceMoves n cue.moves within) = record {
+      ready = record {
+        valid = subst (λ (o : Option Cue). IsSomeAnd o (λ x. AllByRecursion (ValidMove show.channels x.parts) cue.moves)) (sym here) whole.moves;
+        same = subst (λ (o : Option Cue). IsSomeAnd o (λ x. SameOutside within x.moves cue.moves)) (sym here) (λ c out. sym (same c out));
+      };
+      back = changed_is one n (λ _. cue.moves) new here
+          ∙ ap (λ (xs : List Cue). record show { cues = xs }) (cue_again show n new cue valid found (sym number));
+    } in
+    subst (λ (s : Show). TakesBack show s (PlaceMoves n old within)) (sym (is ∙ changed_is show n (λ _. moves) cue found))
+    (subst (λ (ms : List Move). TakesBack show one (PlaceMoves n ms within)) (sym was) all)
 
 -- the move that was there, placed again
 pub move_back : (show after : Show) (n : ℕ) (entry old : Move) (cue : Cue) → Valid show → after ≡ with_move_in show n entry
@@ -116,9 +168,7 @@ move_back show after n entry old cue valid is ready found was =
     let moves : placed (λ (m : Move). m.chan) old new.moves ≡ cue.moves =
     subst (λ (o : Option Move). exchanged (λ (m : Move). m.chan) entry.chan o new.moves ≡ cue.moves) was
     (exchanged_back (λ (m : Move). m.chan) entry.chan (Some entry) cue.moves whole.moves_sorted refl) in
-    let cues : placed (λ (x : Cue). x.number) cue one.cues ≡ show.cues =
-    subst (λ (o : Option Cue). exchanged (λ (x : Cue). x.number) n o one.cues ≡ show.cues) found
-    (exchanged_back (λ (x : Cue). x.number) n (Some new) show.cues valid.cues_sorted (sym number)) in
+    let cues = cue_again show n new cue valid found (sym number) in
     let placed_here : entry_at (λ (m : Move). m.chan) old.chan new.moves ≡ Some entry =
     entry_at-placed_here (λ (m : Move). m.chan) old.chan entry cue.moves chan in
     let all : TakesBack show one (PlaceMove n old) = record {

@@ -1,11 +1,14 @@
 -- What a channel sees of a cue that is changed, added or taken out.
-use Rattle.std.specs.Prelude.{◌≡◌, ℕ, ◌≤◌, List, [], option_map, find, Bool, false, ◌||◌, Option, Some, None, is_some, option_and_then, if◌then◌else◌}
+use Rattle.std.specs.Prelude.{◌≡◌, ℕ, ◌-◌, ◌≤◌, true, List, [], option_map, find, Bool, false, ◌||◌, Option, Some, None, is_some, option_and_then, if◌then◌else◌}
 use Rattle.std.specs.Option.{option_map_or, option_or, IsSomeAnd}
 use Rattle.std.specs.List.{AllByRecursion}
 use Rattle.lx_spec.specs.declared.Move.{Move}
-use Rattle.lx_spec.specs.Show.{Cue, Show, InRange}
+use Rattle.lx_spec.specs.Show.{Cue, Show, Valid, InRange}
 use Rattle.lx_spec.specs.SortedList.{entries_above, entry_at}
-use Rattle.lx_spec.specs.TrackedLevel.{move_in, move_of, tracked, decides}
+use Rattle.lx_spec.specs.TrackedLevel.{cue_of, move_in, move_of, tracked, decides}
+use Rattle.lx_spec.specs.EditedShow.{with_cue}
+use Rattle.lx_sheet.specs.Rows.{Sheet}
+use Rattle.lx_sheet.specs.Standing.{RowsStandFor}
 use Rattle.lx_spec.specs.Laws.{SameColumn}
 use Rattle.lx_edit.specs.declared.chan_set.ChanSet.{ChanSet}
 use Rattle.lx_edit.specs.ChanSet.{has_chan}
@@ -64,3 +67,16 @@ column_end to show n c = option_or to (next_decision show n c)
 -- a number from there on
 abbrev pub IsPast : Option ℕ → Show → ℕ → ℕ → ℕ → Type 0
 IsPast to show n c m = IsSomeAnd (column_end to show n c) (λ end. end ≤ m)
+
+-- The show came of another, for which the sheet stands, by a cue put in the place of the one of the number. A channel that isn't in the set
+-- sees no difference.
+pub record Replaced (show : Show) (sheet : Sheet) (n : ℕ) (chans : ChanSet) : Type 0 where
+  pub before : Show
+  pub cue : Cue
+  pub valid : Valid before
+  pub stood : RowsStandFor before sheet
+  pub number : cue.number ≡ n
+  pub least : 1 ≤ cue.number
+  pub there : is_some (cue_of before n) ≡ true
+  pub is : show ≡ with_cue before cue
+  pub same : (c : ℕ) → has_chan chans c ≡ false → SameEntry (cue_of before n) (Some cue) c (tracked before (n - 1) c)

@@ -1,9 +1,11 @@
 -- How levels go through a changed cue to the one above it.
-use Rattle.std.specs.Prelude.{ℕ, Option, Some, None, List, [], ◌∷◌, if◌then◌else◌}
+use Rattle.std.specs.Prelude.{◌≡◌, ℕ, false, Option, Some, None, List, [], ◌∷◌, if◌then◌else◌}
+use Rattle.lx_base.specs.Numbers.{Span}
 use Rattle.lx_spec.specs.declared.Move.{Move}
-use Rattle.lx_spec.specs.Show.{Cue, Show}
+use Rattle.lx_spec.specs.Show.{Cue, Show, InRange}
 use Rattle.lx_spec.specs.TrackedLevel.{decides, level_in}
 use Rattle.lx_spec.specs.EditedShow.{with_cue, without_cue}
+use Rattle.lx_edit.specs.Planned.{covers}
 
 -- the show with the changed cue in its place, or without the cue of the number
 abbrev pub changed_show : Show → ℕ → Option Cue → Show
@@ -18,6 +20,10 @@ decided cue c = if decides cue c then Some (level_in cue c) else None
 abbrev pub decided_by : Option Cue → ℕ → Option ℕ
 decided_by None c = None
 decided_by (Some cue) c = decided cue c
+
+-- for the show's channels outside the range the cue that may be absent decides what the other one does
+abbrev pub DecidesOutside : Span → ℕ → Cue → Option Cue → Type 0
+DecidesOutside range channels old new = (c : ℕ) → InRange channels c → covers range c ≡ false → decided_by new c ≡ decided old c
 
 -- a move of the channel in part 1, where there is a level for it
 abbrev pub base_moves : ℕ → Option ℕ → List Move

@@ -1,20 +1,22 @@
 -- What a plan makes of the show that it was made for.
-use Rattle.std.specs.Prelude.{◌≡◌, ℕ, ◌<◌, ◌≤◌, ◌⊎◌, Bool, true, false, ◌||◌, IsTrue, nat_lt, Option, Some, None, IfSome, IsOk, Result, Ok}
-use Rattle.std.specs.Prelude.{Err, length, MatchResult, ⊤}
+use Rattle.std.specs.Prelude.{◌≡◌, ℕ, ◌<◌, ◌≤◌, ◌⊎◌, Bool, true, false, ◌||◌, ◌&&◌, IsTrue, nat_lt, nat_le, Option, Some, None, IfSome, IsOk, Result, Ok}
+use Rattle.std.specs.Prelude.{Err, List, length, MatchResult, ⊤}
+use Rattle.std.specs.List.{AllByRecursion}
+use Rattle.lx_base.specs.Numbers.{Span}
 use Rattle.lx_base.specs.declared.TheConstants.{CUES}
 use Rattle.lx_spec.specs.declared.Edit.{Edit}
 use Rattle.lx_spec.specs.declared.Edit.TheVariants.{SubMember, Patch, Unpatch}
 use Rattle.lx_spec.specs.declared.Refusal.{Refusal}
 use Rattle.lx_spec.specs.declared.Refusal.TheVariants.{Memory}
-use Rattle.lx_spec.specs.SortedList.{has_entry, placed, taken_out}
+use Rattle.lx_spec.specs.SortedList.{entry_at, has_entry, placed, taken_out}
 use Rattle.std.specs.Option.{IsSomeAnd}
 use Rattle.lx_spec.specs.declared.Move.{Move}
 use Rattle.lx_show.specs.Changed.{changed}
 use Rattle.lx_spec.specs.TrackedLevel.{tracked, cue_of}
-use Rattle.lx_spec.specs.Show.{Cue, Show, InRange, ValidCue, ValidGroup, ValidSub}
+use Rattle.lx_spec.specs.Show.{Cue, Show, InRange, ValidCue, ValidGroup, ValidMove, ValidSub}
 use Rattle.lx_spec.specs.EditedShow.{edited, with_cue, without_cue}
 use Rattle.lx_edit.specs.declared.plans.Plan.{Plan}
-use Rattle.lx_edit.specs.declared.plans.Plan.TheVariants.{Nothing, PlaceCue, PlaceMove, PlaceCues, RemoveCue, PlaceGroup, RemoveGroup}
+use Rattle.lx_edit.specs.declared.plans.Plan.TheVariants.{Nothing, PlaceCue, PlaceMove, PlaceMoves, PlaceCues, RemoveCue, PlaceGroup, RemoveGroup}
 use Rattle.lx_edit.specs.declared.plans.Plan.TheVariants.{PlaceSub, RemoveSub, PlaceRow, RemoveRow}
 
 -- the show with this cue too, where there is one
@@ -30,11 +32,24 @@ with_move cue entry = record cue { moves = placed (λ m. m.chan) entry cue.moves
 abbrev pub with_move_in : Show → ℕ → Move → Show
 with_move_in show n entry = record show { cues = changed (λ x. x.number) n (λ cue. with_move cue entry) show.cues }
 
+-- the show with other moves in the cue of the number
+abbrev pub with_moves_in : Show → ℕ → (List Move → List Move) → Show
+with_moves_in show n change = record show { cues = changed (λ x. x.number) n (λ cue. record cue { moves = change cue.moves }) show.cues }
+
+-- the range has the channel
+abbrev pub covers : Span → ℕ → Bool
+covers range c = nat_le range.first c && nat_le c range.last
+
+-- a channel outside the range has the same move in both
+abbrev pub SameOutside : Span → List Move → List Move → Type 0
+SameOutside range old new = (c : ℕ) → covers range c ≡ false → entry_at (λ m. m.chan) c old ≡ entry_at (λ m. m.chan) c new
+
 -- the show with the plan applied
 abbrev pub planned : Show → Plan → Show
 planned show Nothing = show
 planned show (PlaceCue cue above) = with_above above (with_cue show cue)
 planned show (PlaceMove n entry) = with_move_in show n entry
+planned show (PlaceMoves n moves within) = with_moves_in show n (λ _. moves)
 planned show (PlaceCues cue above) = with_above above (with_cue show cue)
 planned show (RemoveCue n above) = with_above above (without_cue show n)
 planned show (PlaceGroup group) = record show { groups = placed (λ x. x.number) group show.groups }
@@ -68,12 +83,18 @@ pub record CanMove (show : Show) (n : ℕ) (entry : Move) : Type 0 where
   pub part : IsSomeAnd (cue_of show n) (λ cue. IsTrue (has_entry (λ p. p.number) entry.part cue.parts))
   pub there : IsSomeAnd (cue_of show n) (λ cue. IsTrue (has_entry (λ m. m.chan) entry.chan cue.moves))
 
+-- the cue of the number may be given these moves: they fit its parts, and outside the range they are its own
+pub record CanReplace (show : Show) (n : ℕ) (moves : List Move) (within : Span) : Type 0 where
+  pub valid : IsSomeAnd (cue_of show n) (λ cue. AllByRecursion (ValidMove show.channels cue.parts) moves)
+  pub same : IsSomeAnd (cue_of show n) (λ cue. SameOutside within cue.moves moves)
+
 -- the plan may be applied to the show
 abbrev pub IsReady : Show → Plan → Type 0
 IsReady show Nothing = ⊤
 IsReady show (PlaceCue cue above) =
     CanPlace show cue × IfSome above (λ kept. CanPlace (with_cue show cue) kept × KeepsAbove show (with_cue show cue) cue.number kept)
 IsReady show (PlaceMove n entry) = CanMove show n entry
+IsReady show (PlaceMoves n moves within) = CanReplace show n moves within
 IsReady show (PlaceCues cue above) =
     CanPlace show cue × IfSome above (CanPlace (with_cue show cue)) × IfSome above (IsAbove show cue.number)
 IsReady show (RemoveCue n above) = (1 ≤ n) × IfSome above (CanPlace (without_cue show n)) × IfSome above (IsAbove show n)

@@ -1,6 +1,7 @@
 //! What an edit names must be there: each is found, or its absence is the refusal.
 
 ghost use Rattle.std.specs.Prelude.{◌≡◌, ℕ, ◌≤◌, Ok, Err, MatchResult, Some, None, find, is_none};
+ghost use Rattle.lx_base.specs.declared.TheConstants.{CHANNELS};
 ghost use Rattle.lx_spec.specs.Show.{ValidGroup};
 ghost use Rattle.lx_spec.specs.SortedList.{entry_at};
 ghost use Rattle.lx_spec.specs.TrackedLevel.{move_in};
@@ -94,6 +95,16 @@ pub fn channel(n: u32) -> Chan
 {
     match Chan::new(n) {
         Some(c) => c,
+        None => unreachable!(),
+    }
+}
+
+/// All channels.
+pub(crate) fn all_channels() -> ChanRange
+    ensures { result ≡ record { first = 1; last = CHANNELS } }
+{
+    match ChanRange::new(channel(1), channel(CHANNELS)) {
+        Some(range) => range,
         None => unreachable!(),
     }
 }

@@ -8,20 +8,20 @@ ghost use Rattle.lx_spec.specs.EditedShow.{with_cue, without_cue};
 ghost use Rattle.lx_sheet.specs.Rows.{level_of, numbers_of};
 ghost use Rattle.lx_sheet.specs.Standing.{RowsStandFor, StandsIn, cue_numbers};
 ghost use Rattle.lx_edit.specs.ChanSet.{has_chan};
-ghost use Rattle.lx_edit.specs.Changing.{Grows, KeepsLevels, KeepsOthers, IsPast, column_end, next_decision};
+ghost use Rattle.lx_edit.specs.Changing.{Grows, KeepsLevels, KeepsOthers, IsPast, Replaced, column_end, next_decision};
 ghost use Rattle.lx_edit.specs.Planned.{planned, with_above, CanPlace, KeepsAbove, IsReady, dimmer_planned, plans_sub};
 ghost use Rattle.lx_edit.specs.Undone.{TakesBack, cue_instead};
 
 use crate::absent::channel;
 use crate::chan_set::ChanSet;
 use crate::dirty::Dirty;
-use crate::marks::{changes_asserts, mark_change, mark_move};
+use crate::marks::{changes_asserts, mark_change, mark_move, mark_within};
 use crate::plans::Plan;
 use crate::undone::{cue_back, group_back, kept_back, row_back, sub_back};
-use lx_base::{CHANNELS, Chan, CueNo, Dimmer, GroupNo, SubNo};
+use lx_base::{CHANNELS, Chan, ChanRange, CueNo, Dimmer, GroupNo, SubNo};
 use lx_sheet::Sheet;
 use lx_show::around::above;
-use lx_show::{Cue, Group, Move, PatchRow, Show, Sub};
+use lx_show::{Cue, Group, Move, MoveList, PatchRow, Show, Sub};
 
 /// A plan that was applied: what it touched, and the plan that takes it back.
 #[derive(Drop)]
@@ -87,6 +87,7 @@ impl Plan {
             },
             Plan::PlaceCue { cue, above } => place_kept(show, sheet, cue, above),
             Plan::PlaceMove { cue, entry } => place_move(show, sheet, cue, &entry),
+            Plan::PlaceMoves { cue, moves, within } => place_moves(show, sheet, cue, moves, within),
             Plan::PlaceCues { cue, above } => place_cues(show, sheet, cue, above),
             Plan::RemoveCue { cue, above } => exchange_cues(show, sheet, cue, above),
             Plan::PlaceGroup(group) => Exchanged {
@@ -245,10 +246,42 @@ fn place_move(show: &mut Show, sheet: &mut Sheet, n: CueNo, entry: &Move) -> Exc
     let old = show.exchange_move_in(n, *entry);
     let mut chans = ChanSet::empty();
     mark_move(&mut chans, entry, &old);
-    mend_columns(sheet, show, n, &None, &chans);
+    mend_cue(sheet, show, n, &chans);
     Exchanged {
         dirty: Dirty::of_cues(chans),
         undo: Plan::PlaceMove { cue: n, entry: old },
+    }
+}
+
+/// Gives the cue these moves. Outside the range they are its own.
+fn place_moves(
+    show: &mut Show,
+    sheet: &mut Sheet,
+    n: CueNo,
+    moves: MoveList,
+    within: ChanRange,
+) -> Exchanged
+    requires ready { IsReady show.old (Plan.PlaceMoves n moves within) }
+    requires sheet { RowsStandFor show.old sheet.old }
+    ensures show { show.new ≡ planned show.old (Plan.PlaceMoves n moves within) }
+    ensures sheet { RowsStandFor show.new sheet.new }
+    ensures others { KeepsLevels show.old show.new result.dirty.chans }
+    ensures dimmer { result.dirty.dimmer ≡ None }
+    ensures subs { result.dirty.subs ≡ false }
+    ensures undo { TakesBack show.old show.new result.undo }
+{
+    let _ = show.channels();
+    let mut chans = ChanSet::empty();
+    mark_within(&mut chans, show, n, moves.as_slice(), within);
+    let old = show.replace_moves(n, moves);
+    mend_cue(sheet, show, n, &chans);
+    Exchanged {
+        dirty: Dirty::of_cues(chans),
+        undo: Plan::PlaceMoves {
+            cue: n,
+            moves: old,
+            within,
+        },
     }
 }
 
@@ -336,10 +369,8 @@ fn place_cue(show: &mut Show, sheet: &mut Sheet, chans: &mut ChanSet, cue: Cue) 
     let old = show.exchange_cue(cue);
     if old.is_none() {
         sheet.insert_row(show, n);
-    } else if chans.is_large() {
-        sheet.replace_row(show, n);
     } else {
-        mend_columns(sheet, show, n, &None, chans);
+        mend_cue(sheet, show, n, chans);
     }
     old
 }
@@ -359,6 +390,19 @@ fn remove_cue(show: &mut Show, sheet: &mut Sheet, chans: &mut ChanSet, n: CueNo)
     let old = show.take_cue(n);
     sheet.remove_row(show, n);
     old
+}
+
+/// A cue was put in the place of the one of its number: the rows follow. The channels that see a difference are among
+/// these.
+fn mend_cue(sheet: &mut Sheet, show: &Show, n: CueNo, chans: &ChanSet)
+    requires { Replaced show.now sheet.old n chans.now }
+    ensures { RowsStandFor show.now sheet.new }
+{
+    if chans.is_large() {
+        sheet.replace_row(show, n);
+    } else {
+        mend_columns(sheet, show, n, &None, chans);
+    }
 }
 
 /// A cue was changed in its place: the columns of these channels are filled in anew from it on, up to the

@@ -1,49 +1,69 @@
 //! Cue only: the cue above the edited one keeps each level that it had. And cues deleted.
 
-ghost use Rattle.std.specs.Prelude.{◌≡◌, ℕ, ◌==◌, not, IfOk, IfSome, Some, None, if◌then◌else◌};
+ghost use Rattle.std.specs.Prelude.{◌≡◌, ℕ, true, false, ◌==◌, not, IfOk, IfSome, Some, None, if◌then◌else◌};
 ghost use Rattle.std.specs.Option.{option_copied};
-ghost use Rattle.lx_spec.specs.Show.{ValidCue};
+ghost use Rattle.lx_spec.specs.Show.{InRange, ValidCue};
 ghost use Rattle.lx_spec.specs.TrackedLevel.{tracked, cue_above, decides};
 ghost use Rattle.lx_spec.specs.EditedShow.{cue_only, with_cue, with_moves, moves_for};
 ghost use Rattle.lx_edit.specs.Found.{FoundCue};
-ghost use Rattle.lx_edit.specs.Planned.{Plans, PlansCues, CanPlace, IsAbove, KeepsAbove, with_above};
-ghost use Rattle.lx_edit.specs.Kept.{changed_show, decided, decided_by};
+ghost use Rattle.lx_edit.specs.Planned.{Plans, PlansCues, CanPlace, IsAbove, KeepsAbove, SameOutside, covers, with_above};
+ghost use Rattle.lx_edit.specs.Kept.{DecidesOutside, changed_show, decided, decided_by};
 
-use crate::absent::{channel, the_cue};
+use crate::absent::{all_channels, channel, the_cue};
 use crate::blocks::below;
 use crate::marks::entry_near;
 use crate::moves::{add, with_moves};
 use crate::plans::Plan;
-use lx_base::{Chan, CueNo, Level};
-use lx_show::{Cue, Edit, Move, Refusal, Show};
+use lx_base::{Chan, ChanRange, CueNo, Level};
+use lx_show::{Cue, Edit, Move, MoveList, Refusal, Show};
 use std::alloc::{AllocError, Global};
 
 /// The cue goes.
 pub(crate) fn delete_cue(alloc: Global, show: &Show, n: CueNo, only: bool) -> Result<Plan, Refusal>
     ensures { Plans show.now (Edit.DeleteCue n only) result }
 {
+    let _ = show.channels();
     let old = the_cue(show, n)?;
-    let above = kept_above(alloc, show, n, old, None, only)?;
+    let above = kept_above(alloc, show, n, old, None, all_channels(), only)?;
     Ok(Plan::RemoveCue { cue: n, above })
 }
 
-/// The plan that places the changed cue in the place of the old one and, cue only, the one above it with the
-/// moves that keep its levels. An error comes where memory is wanting.
+/// The plan that gives the cue the moves of the changed one or, where the one above it gets moves that keep its levels, places
+/// both. Outside the range the moves are those of the old one. An error comes where memory is wanting.
 pub(crate) fn place(
     alloc: Global,
     show: &Show,
     n: CueNo,
     old: &Cue,
     cue: Cue,
+    within: ChanRange,
     only: bool,
 ) -> Result<Plan, AllocError>
     requires there { FoundCue show.now n old.now }
     requires number { cue.number ≡ n }
     requires valid { ValidCue show.now.channels cue }
+    requires moves { cue ≡ record old.now { moves = cue.moves } }
+    requires within { SameOutside within old.now.moves cue.moves }
     ensures { IfOk result (PlansCues show.now (cue_only only show.now n (with_cue show.now cue))) }
 {
-    let above = kept_above(alloc, show, n, old, Some(&cue), only)?;
-    Ok(Plan::PlaceCue { cue, above })
+    match kept_above(alloc, show, n, old, Some(&cue), within, only)? {
+        Some(above) => Ok(Plan::PlaceCue {
+            cue,
+            above: Some(above),
+        }),
+        None => Ok(Plan::PlaceMoves {
+            cue: n,
+            moves: into_moves(cue),
+            within,
+        }),
+    }
+}
+
+/// The moves of the cue, which goes.
+fn into_moves(cue: Cue) -> MoveList
+    ensures { result ≡ cue.moves }
+{
+    cue.moves
 }
 
 /// Cue only, the cue above the edited one, with the moves that keep its levels; none where no cue is above it.
@@ -54,10 +74,12 @@ fn kept_above(
     n: CueNo,
     old: &Cue,
     new: Option<&Cue>,
+    within: ChanRange,
     only: bool,
 ) -> Result<Option<Cue>, AllocError>
     requires there { FoundCue show.now n old.now }
     requires number { IfSome new (λ cue. cue.now.number ≡ n) }
+    requires within { DecidesOutside within show.now.channels old.now (option_copied new) }
     ensures above { IfOk result (λ above. with_above above (changed_show show.now n (option_copied new.entry))
         ≡ cue_only only show.now n (changed_show show.now n (option_copied new.entry))) }
     ensures valid { IfOk result (λ above. IfSome above (CanPlace (changed_show show.now n (option_copied new.entry)))) }
@@ -69,7 +91,7 @@ fn kept_above(
         return Ok(None);
     }
     match show.cue_above(n) {
-        Some(above) => Ok(Some(keeping(alloc, show, n, old, new, above)?)),
+        Some(above) => Ok(Some(keeping(alloc, show, n, old, new, above, within)?)),
         None => Ok(None),
     }
 }
@@ -82,9 +104,11 @@ fn keeping(
     old: &Cue,
     new: Option<&Cue>,
     above: &Cue,
+    within: ChanRange,
 ) -> Result<Cue, AllocError>
     requires there { FoundCue show.now n old.now }
     requires number { IfSome new (λ cue. cue.now.number ≡ n) }
+    requires within { DecidesOutside within show.now.channels old.now (option_copied new) }
     requires above { cue_above show.now n ≡ Some above.now }
     requires valid { ValidCue show.now.channels above.now }
     ensures kept { IfOk result (λ kept. kept ≡ with_moves above.now
@@ -93,7 +117,7 @@ fn keeping(
         (λ c. tracked show.now above.now.number c))) }
     ensures valid { IfOk result (ValidCue show.now.channels) }
 {
-    let moves = kept_moves(alloc, show, n, old, new, above)?;
+    let moves = kept_moves(alloc, show, n, old, new, above, within)?;
     with_moves(show.channels(), above.copy()?, moves.as_slice())
 }
 
@@ -105,9 +129,11 @@ fn kept_moves(
     old: &Cue,
     new: Option<&Cue>,
     above: &Cue,
+    within: ChanRange,
 ) -> Result<Vec<Move>, AllocError>
     requires there { FoundCue show.now n old.now }
     requires number { IfSome new (λ cue. cue.now.number ≡ n) }
+    requires within { DecidesOutside within show.now.channels old.now (option_copied new) }
     requires above { cue_above show.now n ≡ Some above.now }
     ensures { IfOk result (λ moves. moves.items
         ≡ moves_for show.now (λ c. not
@@ -118,35 +144,49 @@ fn kept_moves(
     let mut near = 0;
     for k in 1..show.channels() + 1 {
         let c = channel(k);
-        let level = kept_level(show, n, old, new, above, c, &mut near);
+        let level = kept_level(show, n, old, new, above, within, c, &mut near);
         add(&mut moves, c, level)?;
     }
     Ok(moves)
 }
 
-/// The level that the channel keeps at the cue above, where the edit would change it. The channel's move there
-/// is looked for at `near` first.
+/// The level that the channel keeps at the cue above, where the edit would change it: that is only within the range.
+/// The channel's move there is looked for at `near` first.
 fn kept_level(
     show: &Show,
     n: CueNo,
     old: &Cue,
     new: Option<&Cue>,
     above: &Cue,
+    within: ChanRange,
     c: Chan,
     near: &mut usize,
 ) -> Option<Level>
     requires there { FoundCue show.now n old.now }
     requires number { IfSome new (λ cue. cue.now.number ≡ n) }
+    requires within { DecidesOutside within show.now.channels old.now (option_copied new) }
+    requires channel { InRange show.now.channels c }
     requires above { cue_above show.now n ≡ Some above.now }
     ensures { result ≡ (if not (tracked show.now above.now.number c == tracked
         (changed_show show.now n (option_copied new.entry)) above.now.number c) then Some
         (tracked show.now above.now.number c) else None) }
 {
+    let _ = show.channels();
+    if is_outside(within, c) {
+        return None;
+    }
     if differs(show, n, old, new, above, c, near) {
         Some(show.tracked(above.number, c))
     } else {
         None
     }
+}
+
+/// The channel is not in the range.
+fn is_outside(range: ChanRange, c: Chan) -> bool
+    ensures { result ≡ true → covers range c ≡ false }
+{
+    c.get() < range.first().get() || range.last().get() < c.get()
 }
 
 /// The channel's level at the cue above is changed.

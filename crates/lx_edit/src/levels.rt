@@ -7,7 +7,9 @@ ghost use Rattle.lx_spec.specs.Show.{ValidCue};
 ghost use Rattle.lx_spec.specs.EditedShow.{part_for, without_moves};
 ghost use Rattle.lx_edit.specs.Planned.{Plans};
 
-use crate::absent::{channel, the_channels, the_cue, the_given_part, the_group, the_moves};
+use crate::absent::{
+    all_channels, channel, the_channels, the_cue, the_given_part, the_group, the_moves,
+};
 use crate::kept::place;
 use crate::moves::{all_at, in_proportion, with_levels};
 use crate::plans::Plan;
@@ -36,7 +38,7 @@ pub(crate) fn set(
     }
     let members = all_at(alloc, range, level)?;
     let cue = with_levels(alloc, show.channels(), old, part, members.as_slice())?;
-    Ok(place(alloc, show, n, old, cue, only)?)
+    Ok(place(alloc, show, n, old, cue, range, only)?)
 }
 
 /// The move of the range's one channel to the level, where the range is one channel, of which the cue has a move.
@@ -106,7 +108,7 @@ pub(crate) fn set_group(
     the_group(show, g)?;
     let members = in_proportion(alloc, show, g, level)?;
     let cue = with_levels(alloc, show.channels(), old, given, members.as_slice())?;
-    Ok(place(alloc, show, n, old, cue, only)?)
+    Ok(place(alloc, show, n, old, cue, all_channels(), only)?)
 }
 
 /// The channels of the range have no move in the cue any more.
@@ -123,7 +125,7 @@ pub(crate) fn release(
     the_channels(show, range)?;
     the_moves(old, range)?;
     let cue = without_moves(old, range)?;
-    Ok(place(alloc, show, n, old, cue, only)?)
+    Ok(place(alloc, show, n, old, cue, range, only)?)
 }
 
 /// The cue without moves for the channels of the range. An error comes where memory is wanting.

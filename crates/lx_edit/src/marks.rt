@@ -1,22 +1,23 @@
 //! Which channels see a difference where a cue is changed, added or taken out.
 
 ghost use Rattle.std.specs.Prelude.{◌≡◌, ◌≤◌, ◌-◌, ℕ, true, false, Some, None, IfSome, List, length, take};
-ghost use Rattle.std.specs.Option.{option_copied};
+ghost use Rattle.std.specs.Option.{option_copied, IsSomeAnd};
 ghost use Rattle.lx_base.specs.declared.TheConstants.{CHANNELS};
 ghost use Rattle.lx_spec.specs.SortedList.{IsStrictlySorted, entry_at};
-ghost use Rattle.lx_spec.specs.TrackedLevel.{cue_of, asserts, tracked};
+ghost use Rattle.lx_spec.specs.TrackedLevel.{cue_of, move_in, asserts, tracked};
 ghost use Rattle.lx_sheet.specs.Rows.{level_of};
 ghost use Rattle.lx_sheet.specs.Standing.{RowsStandFor};
 ghost use Rattle.lx_edit.specs.ChanSet.{has_chan};
-ghost use Rattle.lx_edit.specs.Planned.{planned};
+ghost use Rattle.lx_edit.specs.Planned.{planned, covers, SameOutside};
 ghost use Rattle.lx_edit.specs.Changing.{AreAmong, move_by, moves_in, is_block, SameEntry, Grows};
 
 use crate::absent::channel;
 use crate::blocks::below;
 use crate::chan_set::ChanSet;
 use crate::plans::Plan;
-use lx_base::{CHANNELS, Chan, CueNo};
+use lx_base::{CHANNELS, Chan, ChanRange, CueNo};
 use lx_sheet::Sheet;
+use lx_show::around::{above, up_to};
 use lx_show::sorted::index_of;
 use lx_show::{Cue, Move, Show};
 
@@ -40,6 +41,36 @@ pub(crate) fn mark_change(
     if is_block(old) != is_block(new) {
         mark_tracked(chans, sheet, n, new);
     }
+}
+
+/// Adds each channel whose move among these is another than in the show's cue of the number. Outside the range they
+/// are the same.
+pub(crate) fn mark_within(
+    chans: &mut ChanSet,
+    show: &Show,
+    n: CueNo,
+    moves: &[Move],
+    within: ChanRange,
+)
+    requires sorted { IsStrictlySorted (λ m. m.chan) moves.now }
+    requires same { IsSomeAnd (cue_of show.now n) (λ cue. SameOutside within cue.moves moves.now) }
+    ensures { IsSomeAnd (cue_of show.now n) (λ cue. (c : ℕ) → has_chan chans.new c ≡ false
+        → move_in cue c ≡ entry_at (λ m. m.chan) c moves.now) }
+{
+    if let Some(before) = show.cue(n) {
+        let old = part_of(before.moves.as_slice(), within);
+        mark_moves(chans, old, part_of(moves, within));
+    }
+}
+
+/// Those of the moves whose channels are in the range.
+fn part_of(moves: &[Move], within: ChanRange) -> &[Move]
+    requires { IsStrictlySorted (λ m. m.chan) moves.now }
+    ensures sorted { IsStrictlySorted (λ m. m.chan) result.now }
+    ensures part { (c : ℕ) → covers within c ≡ true → entry_at (λ m. m.chan) c result.now ≡ entry_at (λ m. m.chan) c moves.now }
+{
+    let from = above(moves, within.first().get() - 1);
+    up_to(from, within.last().get())
 }
 
 /// The cue's moves, if it is there.
@@ -177,6 +208,7 @@ pub(crate) fn changes_asserts(show: &Show, plan: &Plan) -> bool
         Plan::PlaceCues { cue, above } => changes_assert(show, cue) || changes_above(show, above),
         Plan::RemoveCue { cue, above } => asserts(show, *cue) || changes_above(show, above),
         Plan::PlaceMove { .. } => false,
+        Plan::PlaceMoves { .. } => false,
         _ => false,
     }
 }

@@ -1,7 +1,7 @@
 //! What an edit changes of a show, made whole before anything is changed; and what takes it back.
 
-use lx_base::{CueNo, Dimmer, GroupNo, SubNo};
-use lx_show::{Cue, Group, Move, PatchRow, Sub};
+use lx_base::{ChanRange, CueNo, Dimmer, GroupNo, SubNo};
+use lx_show::{Cue, Group, Move, MoveList, PatchRow, Sub};
 
 /// What an edit changes of a show, or what takes that back: whole new cues, a move, a group, a submaster or a
 /// patch row, or what goes. It holds all the memory that the change needs.
@@ -11,14 +11,32 @@ pub enum Plan {
     Nothing,
     /// The cue, in the place of the one of its number. Where the edit is cue only, then also the cue above it,
     /// which keeps its levels.
-    PlaceCue { cue: Cue, above: Option<Cue> },
+    PlaceCue {
+        cue: Cue,
+        above: Option<Cue>,
+    },
     /// The move, in the place of the one that the cue has of its channel.
-    PlaceMove { cue: CueNo, entry: Move },
+    PlaceMove {
+        cue: CueNo,
+        entry: Move,
+    },
+    /// The moves, in the place of those that the cue has. Channels outside the range have the same in both.
+    PlaceMoves {
+        cue: CueNo,
+        moves: MoveList,
+        within: ChanRange,
+    },
     /// The cue, in the place of the one of its number, and then the cue above it too, where that is given. The
     /// levels of the cue above may change.
-    PlaceCues { cue: Cue, above: Option<Cue> },
+    PlaceCues {
+        cue: Cue,
+        above: Option<Cue>,
+    },
     /// The cue of the number goes. Where the edit is cue only, the cue above it is then placed.
-    RemoveCue { cue: CueNo, above: Option<Cue> },
+    RemoveCue {
+        cue: CueNo,
+        above: Option<Cue>,
+    },
     /// The group, in the place of the one of its number.
     PlaceGroup(Group),
     /// The group of the number goes.

@@ -1,7 +1,8 @@
-use Rattle.std.proofs.Common.{◌≡◌, ◌≤◌, ℕ, sym, subst}
+use Rattle.std.proofs.Common.{◌≤◌, ℕ, List, sym, subst}
+use Rattle.lx_spec.specs.declared.Move.{Move}
 use Rattle.lx_edit.specs.declared.plans.Plan.{Plan}
 use Rattle.lx_edit.specs.Planned.{IsReady, planned, with_move}
-use Rattle.lx_edit.proofs.PlacedMoves.{moved, moved_is}
+use Rattle.lx_edit.proofs.PlacedMoves.{changed_is, moved, moved_all, moved_is}
 use Rattle.lx_spec.specs.Show.{Show, Valid}
 use Rattle.lx_console.specs.Unseen.{PlacesCue}
 use Rattle.lx_console.proofs.unseen.placed_alone.Goals as goal
@@ -18,4 +19,18 @@ returns-in-PlaceMove c =
       number = m.number;
       least = subst (λ (k : ℕ). 1 ≤ k) m.number m.least;
       after_is = moved_is show n entry m.cue m.found;
+    })
+
+pub returns-in-PlaceMoves : goal.returns-in-PlaceMoves
+returns-in-PlaceMoves c =
+    let n = c.in-PlaceMoves.cue in
+    let moves : List Move = c.in-PlaceMoves.moves in
+    subst (λ (p : Plan). (show : Show) → Valid show → IsReady show p → PlacesCue show (planned show p) n) (sym c.in-PlaceMoves.is)
+    (λ show valid ready.
+    let m = moved_all show n moves c.in-PlaceMoves.within valid ready in
+    record {
+      cue = record m.cue { moves = moves };
+      number = m.number;
+      least = subst (λ (k : ℕ). 1 ≤ k) m.number m.least;
+      after_is = changed_is show n (λ _. moves) m.cue m.found;
     })

@@ -1,8 +1,15 @@
 use Rattle.std.proofs.Common.{sym, subst}
-use Rattle.lx_spec.specs.Show.{ValidCue}
+use Rattle.lx_spec.specs.Show.{Cue, ValidCue}
+use Rattle.lx_edit.specs.Planned.{SameOutside}
 use Rattle.lx_edit.proofs.CueLevels.{valid_without_moves}
+use Rattle.lx_edit.proofs.Marked.{released_outside}
 use Rattle.lx_edit.proofs.levels.release.Goals as goal
 
 pub place-requires-clause-valid : goal.place-requires-clause-valid
 place-requires-clause-valid c = subst (ValidCue c.args.show.now.channels) (sym c.in_ok-cue.ensures)
     (valid_without_moves c.args.show.now.channels c.in_ok-old.old.now c.args.range c.in_ok-old.ensures.valid)
+
+pub place-requires-clause-within : goal.place-requires-clause-within
+place-requires-clause-within c =
+    subst (λ (q : Cue). SameOutside c.args.range c.in_ok-old.old.now.moves q.moves) (sym c.in_ok-cue.ensures)
+    (released_outside c.args.range c.in_ok-old.old.now)

@@ -1,8 +1,12 @@
-use Rattle.std.proofs.Common.{◌≡◌, ◌∙◌, ◌+◌, ◌-◌, ◌≤◌, sym, subst, ℕ, List, arith}
+use Rattle.std.proofs.Common.{◌≡◌, ◌∙◌, ◌+◌, ◌-◌, ◌≤◌, ap, sym, subst, ℕ, List, arith}
 use Rattle.std.specs.List.{AllByRecursion}
 use Rattle.lx_spec.specs.declared.Member.{Member}
+use Rattle.lx_spec.specs.Show.{Cue}
+use Rattle.lx_spec.specs.EditedShow.{all_at, channels_in, with_levels}
 use Rattle.lx_edit.specs.Found.{IsWithin}
+use Rattle.lx_edit.specs.Planned.{SameOutside}
 use Rattle.lx_edit.proofs.CueLevels.{levels_within}
+use Rattle.lx_edit.proofs.Marked.{set_outside}
 use Rattle.lx_edit.proofs.PlacedMoves.{set_one}
 use Rattle.lx_edit.proofs.levels.set.Goals as goal
 
@@ -18,6 +22,16 @@ with_levels-requires-clause-channels c =
     (subst (λ (ms : List Member). AllByRecursion (λ (m : Member). m.chan ≤ channels) ms)
     (sym (c.as_slice.ensures.value ∙ c.in_ok-members.ensures))
     (levels_within c.args.level first (last + 1 - first) channels (omega (arith, order, most))))
+
+pub place-requires-clause-within : goal.place-requires-clause-within
+place-requires-clause-within c =
+    let old : Cue = c.in_ok-old.old.now in
+    let within : IsWithin c.args.show.now.channels c.args.range = c.in_ok-the_channels.ensures in
+    let made : c.in_ok-cue.cue ≡ with_levels c.in_ok-part.part old (all_at c.args.level (channels_in c.args.range)) =
+    c.in_ok-cue.ensures.cue
+    ∙ ap (λ (ms : List Member). with_levels c.in_ok-part.part old ms) (c.as_slice.ensures.value ∙ c.in_ok-members.ensures) in
+    subst (λ (q : Cue). SameOutside c.args.range old.moves q.moves) (sym made)
+    (set_outside c.args.range c.args.level c.in_ok-part.part old within.order)
 
 pub returns-in-Some : goal.returns-in-Some
 returns-in-Some c =

@@ -3,9 +3,12 @@ use Rattle.std.specs.Prelude.{Option}
 use Rattle.std.specs.Option.{IsSomeAnd}
 use Rattle.std.specs.List.{AllByRecursion}
 use Rattle.lx_spec.specs.declared.Member.{Member}
-use Rattle.lx_spec.specs.Show.{Group}
+use Rattle.lx_base.specs.Numbers.{Span}
+use Rattle.lx_spec.specs.Show.{Cue, Group, ValidCue}
+use Rattle.lx_edit.specs.Planned.{SameOutside}
 use Rattle.lx_spec.specs.EditedShow.{in_proportion}
 use Rattle.lx_edit.proofs.CueLevels.{proportion_within}
+use Rattle.lx_edit.proofs.Marked.{valid_outside}
 use Rattle.lx_edit.proofs.levels.set_group.Goals as goal
 
 pub with_levels-requires-clause-channels : goal.with_levels-requires-clause-channels
@@ -18,3 +21,12 @@ with_levels-requires-clause-channels c =
     subst (λ (n : ℕ). AllByRecursion (λ (m : Member). m.chan ≤ n) c.as_slice.result.now) (sym c.channels.ensures.channels)
     (subst (λ (ms : List Member). AllByRecursion (λ (m : Member). m.chan ≤ channels) ms) (sym (c.as_slice.ensures.value ∙ scaled))
     (proportion_within c.args.level channels group.members c.in_ok-the_group.ensures.valid.members.each))
+
+pub place-requires-clause-within : goal.place-requires-clause-within
+place-requires-clause-within c =
+    let old : Cue = c.in_ok-old.old.now in
+    let cue : Cue = c.in_ok-cue.cue in
+    let show = c.args.show.now in
+    subst (λ (r : Span). SameOutside r old.moves cue.moves) (sym c.all_channels.ensures)
+    (valid_outside show.channels old cue c.channels.ensures.valid.channels.most c.in_ok-old.ensures.valid
+    (subst (λ (n : ℕ). ValidCue n cue) c.channels.ensures.channels c.in_ok-cue.ensures.valid))

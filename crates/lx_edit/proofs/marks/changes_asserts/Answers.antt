@@ -1,4 +1,6 @@
 use Rattle.std.proofs.Common.{◌≡◌, ◌∙◌, sym, subst}
+use Rattle.lx_spec.specs.declared.Move.{Move}
+use Rattle.lx_spec.specs.SortedList.{placed}
 use Rattle.lx_spec.specs.TrackedLevel.{asserts}
 use Rattle.lx_edit.specs.declared.plans.Plan.{Plan}
 use Rattle.lx_edit.specs.Planned.{planned}
@@ -34,4 +36,10 @@ pub returns-in-PlaceMove : goal.returns-in-PlaceMove
 returns-in-PlaceMove c = λ same n.
     let show = c.args.show.now in
     subst (λ (p : Plan). asserts show n ≡ asserts (planned show p) n) (sym c.in-PlaceMove.is)
-    (asserts_moved show c.in-PlaceMove.cue n c.in-PlaceMove.entry)
+    (asserts_moved show c.in-PlaceMove.cue n (placed (λ (m : Move). m.chan) c.in-PlaceMove.entry))
+
+pub returns-in-PlaceMoves : goal.returns-in-PlaceMoves
+returns-in-PlaceMoves c = λ same n.
+    let show = c.args.show.now in
+    subst (λ (p : Plan). asserts show n ≡ asserts (planned show p) n) (sym c.in-PlaceMoves.is)
+    (asserts_moved show c.in-PlaceMoves.cue n (λ _. c.in-PlaceMoves.moves))

@@ -1,0 +1,41 @@
+use Rattle.std.proofs.Common.{◌≡◌, ◌∙◌, ap, sym, subst, refl, List}
+use Rattle.std.specs.Prelude.{Option}
+use Rattle.std.specs.Option.{IsSomeAnd}
+use Rattle.std.specs.List.{AllByRecursion}
+use Rattle.lx_spec.specs.declared.Move.{Move}
+use Rattle.lx_spec.specs.declared.Part.{Part}
+use Rattle.lx_spec.specs.Show.{Cue, ValidMove}
+use Rattle.lx_spec.specs.EditedShow.{with_cue}
+use Rattle.lx_edit.specs.Planned.{SameOutside, with_above}
+use Rattle.lx_edit.proofs.Marked.{decided_alike}
+use Rattle.lx_edit.proofs.PlacedMoves.{changed_is}
+use Rattle.lx_edit.proofs.kept.place.Goals as goal
+
+pub returns-in-None : goal.returns-in-None
+returns-in-None c =
+    let show = c.args.show.now in
+    let old : Cue = c.args.old.now in
+    let cue : Cue = c.args.cue in
+    let moves : List Move = c.into_moves.result in
+    let same : cue ≡ record old { moves = cue.moves } = c.requires.moves in
+    record {
+      makes = changed_is show c.args.n (λ _. moves) old c.requires.there.found
+          ∙ ap (λ (ms : List Move). with_cue show (record old { moves = ms })) c.into_moves.ensures
+          ∙ ap (with_cue show) (sym same)
+          ∙ ap (λ (o : Option Cue). with_above o (with_cue show cue)) (sym c.in-None.is)
+          ∙ c.in_ok-above.ensures.above;
+      ready = record {
+        valid = subst (λ (o : Option Cue). IsSomeAnd o (λ x. AllByRecursion (ValidMove show.channels x.parts) moves)) (sym c.requires.there.found)
+            (subst (λ (ms : List Move). AllByRecursion (ValidMove show.channels old.parts) ms) (sym c.into_moves.ensures)
+            (subst (λ (ps : List Part). AllByRecursion (ValidMove show.channels ps) cue.moves) (ap (λ (q : Cue). q.parts) same)
+            c.requires.valid.moves));
+        same = subst (λ (o : Option Cue). IsSomeAnd o (λ x. SameOutside c.args.within x.moves moves)) (sym c.requires.there.found)
+            (subst (λ (ms : List Move). SameOutside c.args.within old.moves ms) (sym c.into_moves.ensures) c.requires.within);
+      };
+      dimmer = refl;
+      subs = refl;
+    }
+
+pub kept_above-requires-clause-within : goal.kept_above-requires-clause-within
+kept_above-requires-clause-within c = λ x range out.
+    decided_alike c.args.old.now c.args.cue x c.requires.moves (c.requires.within x out)

@@ -1,0 +1,23 @@
+use Rattle.std.proofs.Common.{◌∙◌, sym, subst}
+use Rattle.lx_spec.specs.declared.Move.{Move}
+use Rattle.lx_spec.specs.SortedList.{IsStrictlySorted}
+use Rattle.lx_spec.proofs.SortedLists.{IsStrictlySorted-filter}
+use Rattle.lx_edit.proofs.Marked.{part_has}
+use Rattle.lx_edit.proofs.marks.part_of.Goals as goal
+
+pub up_to-requires : goal.up_to-requires
+up_to-requires c =
+    subst (IsStrictlySorted (λ (m : Move). m.chan)) (sym c.above-from.ensures)
+    (IsStrictlySorted-filter (λ (m : Move). m.chan) _ c.args.moves.now c.requires)
+
+pub returns-clause-sorted : goal.returns-clause-sorted
+returns-clause-sorted c =
+    subst (IsStrictlySorted (λ (m : Move). m.chan)) (sym c.up_to.ensures)
+    (IsStrictlySorted-filter (λ (m : Move). m.chan) _ c.above-from.result.now
+    (subst (IsStrictlySorted (λ (m : Move). m.chan)) (sym c.above-from.ensures)
+    (IsStrictlySorted-filter (λ (m : Move). m.chan) _ c.args.moves.now c.requires)))
+
+pub returns-clause-part : goal.returns-clause-part
+returns-clause-part c = λ x within.
+    part_has c.args.within x c.args.moves.now c.above-from.result.now c.up_to.result.now c.get.result c.get-2.result
+    c.get.ensures.least (c.get.ensures.value ∙ c.first.ensures.value) (c.get-2.ensures.value ∙ c.last.ensures.value) c.above-from.ensures c.up_to.ensures within
