@@ -121,81 +121,10 @@ fn write_cells(number: u64, levels: &[Level], width: usize, text: &mut [u8; PIEC
     ensures text { take result text.new ≡ cells_from number levels.now }
 {
     let mut end = 0;
-    let mut at = 0;
-    while levels.len() - at >= 4 {
-        end = write_four(number, levels, at, width, text, end);
-        at += 4;
-    }
-    write_rest(number, levels, at, width, text, end)
-}
-
-/// Writes the cells of the levels from an index on behind those before it, which end at `end`, and says where they end.
-fn write_rest(
-    number: u64,
-    levels: &[Level],
-    from: usize,
-    width: usize,
-    text: &mut [u8; PIECE_BYTES],
-    end: usize,
-) -> usize
-    requires within { from ≤ length levels.now }
-    requires few { length levels.now ≤ PIECE_CELLS }
-    requires near { (n : ℕ) → number ≤ n → n < number + length levels.now → (n ≤ NEAR) × (width ≡ length (decimal n) + 1) }
-    requires room { end ≤ CELL_BYTES * from }
-    requires text { take end text.old ≡ cells_from number (take from levels.now) }
-    ensures end { result ≤ PIECE_BYTES }
-    ensures text { take result text.new ≡ cells_from number levels.now }
-{
-    let mut end = end;
-    for at in from..levels.len() {
-        end = write_next(number, levels, at, width, text, end);
+    for (at, level) in levels.iter().enumerate() {
+        end = write_cell(number + at as u64, width, *level, text, end);
     }
     end
-}
-
-/// Writes the cells of four levels behind those before them, and says where they end.
-#[inline(always)]
-fn write_four(
-    number: u64,
-    levels: &[Level],
-    at: usize,
-    width: usize,
-    text: &mut [u8; PIECE_BYTES],
-    end: usize,
-) -> usize
-    requires within { at + 4 ≤ length levels.now }
-    requires few { length levels.now ≤ PIECE_CELLS }
-    requires near { (n : ℕ) → number ≤ n → n < number + length levels.now → (n ≤ NEAR) × (width ≡ length (decimal n) + 1) }
-    requires room { end ≤ CELL_BYTES * at }
-    requires text { take end text.old ≡ cells_from number (take at levels.now) }
-    ensures end { result ≤ CELL_BYTES * (at + 4) }
-    ensures text { take result text.new ≡ cells_from number (take (at + 4) levels.now) }
-{
-    let end = write_next(number, levels, at, width, text, end);
-    let end = write_next(number, levels, at + 1, width, text, end);
-    let end = write_next(number, levels, at + 2, width, text, end);
-    write_next(number, levels, at + 3, width, text, end)
-}
-
-/// Writes the cell of the level at an index behind those before it, and says where it ends.
-#[inline(always)]
-fn write_next(
-    number: u64,
-    levels: &[Level],
-    at: usize,
-    width: usize,
-    text: &mut [u8; PIECE_BYTES],
-    end: usize,
-) -> usize
-    requires within { at < length levels.now }
-    requires few { length levels.now ≤ PIECE_CELLS }
-    requires near { (n : ℕ) → number ≤ n → n < number + length levels.now → (n ≤ NEAR) × (width ≡ length (decimal n) + 1) }
-    requires room { end ≤ CELL_BYTES * at }
-    requires text { take end text.old ≡ cells_from number (take at levels.now) }
-    ensures end { result ≤ CELL_BYTES * (at + 1) }
-    ensures text { take result text.new ≡ cells_from number (take (at + 1) levels.now) }
-{
-    write_cell(number + at as u64, width, levels[at], text, end)
 }
 
 /// Writes the cell of a level, where it isn't 0, at a place, and says where it ends. The number has one digit less than

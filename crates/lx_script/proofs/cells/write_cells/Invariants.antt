@@ -1,13 +1,9 @@
-use Rattle.std.proofs.Common.{◌≡◌, ◌*◌, ◌-◌, ◌≤◌, length, take}
+use Rattle.std.proofs.Common.{◌≡◌, ◌*◌, ◌≤◌, take}
 use Rattle.lx_script.specs.Cells.{cells_from}
 use Rattle.lx_script.proofs.cells.write_cells.Given as goal
 
 abbrev pub invariant-loop-at : goal.invariant-loop-at
 invariant-loop-at l = record {
-  within : l.at ≤ length l.levels;
   room : l.end ≤ 9 * l.at;
   text : take l.end l.text ≡ cells_from l.number (take l.at l.levels);
 }
-
-abbrev pub decreases-loop-at : goal.decreases-loop-at
-decreases-loop-at l = length l.levels - l.at
