@@ -133,7 +133,6 @@ fn pass_ticks<L: Listener>(listener: &L, turn: &mut Turn, console: &mut Console)
 
 /// Attempts a command that the listener is asked to admit, and hears of where it is accepted. It says the refusal, if it is
 /// refused.
-#[inline(always)]
 fn attempt_one<L: Listener>(
     listener: &mut L,
     command: &Command,

@@ -160,7 +160,6 @@ impl Turn {
 }
 
 /// The refusal of a command, if it is refused.
-#[inline(always)]
 pub(crate) fn try_command(
     command: &Command,
     console: &mut Console,
@@ -174,18 +173,5 @@ pub(crate) fn try_command(
     if !admitted {
         return Some(Refusal::Memory);
     }
-    match command {
-        Command::Key(key) => console.press(*key).err(),
-        _ => try_other(command, console),
-    }
-}
-
-/// The refusal of a command, if the console refuses it. It stands apart, since a call pays for the room of an edit's plan.
-#[inline(never)]
-fn try_other(command: &Command, console: &mut Console) -> Option<Refusal>
-    requires { ValidCommand command.now }
-    ensures attempted { (d : Desk) → StandsFor d console.old → Attempted true d command.now result console.new }
-    ensures unchanged { IsTrue (is_some result) → console.new ≡ console.old }
-{
     console.command(command).err()
 }
