@@ -1,5 +1,5 @@
 -- Words with spaces between them, and the cells of levels, as they are put one after another.
-use Rattle.std.proofs.Common.{◌≡◌, ◌≢◌, ℕ, ◌+◌, ◌-◌, ◌<◌, ◌≤◌, List, [], ◌∷◌, ◌++◌, length, take, drop, get_or, refl, sym, ap, ◌∙◌}
+use Rattle.std.proofs.Common.{◌≡◌, ℕ, ◌+◌, ◌-◌, ◌<◌, ◌≤◌, List, [], ◌∷◌, ◌++◌, length, take, drop, get_or, refl, sym, ap, ◌∙◌}
 use Rattle.std.proofs.Common.{append-nil, append_assoc, take-append-drop, arith, length-take}
 use Rattle.std.proofs.Math.Seq.{take-add, take-append-add}
 use Rattle.std.proofs.lemmas.List.{take-take, take_more}
@@ -7,7 +7,6 @@ use Rattle.std.specs.Prelude.{Bool, true, false, suc, ◌==◌, flat_map, codes,
 use Rattle.std.specs.List.{enumerate_from}
 use Rattle.lx_script.specs.Cells.{cell, cells_from}
 use Rattle.std.proofs.lemmas.Grind.{flat_map-append}
-use Rattle.std.proofs.lemmas.Bool.{ne_eqb}
 use Rattle.lx_spec.specs.declared.Refusal.{Refusal}
 use Rattle.lx_spec.specs.declared.Refusal.TheVariants.{AbsentCue, AbsentPart, AbsentChannel, AbsentMove, AbsentGroup, AbsentSub}
 use Rattle.lx_spec.specs.declared.Refusal.TheVariants.{AbsentDimmer, CueLimit, BasePart, NoCueAfter, NoCueBefore, PlaybackFull, TickLimit}
@@ -39,12 +38,6 @@ spaced_refusal (NoCueBefore n) = refl
 spaced_refusal PlaybackFull = refl
 spaced_refusal (TickLimit m) = refl
 spaced_refusal Memory = refl
-
-pub cell-some : (number level : ℕ) → level ≢ 0 → cell number level ≡ 32 ∷ (decimal number ++ 61 ∷ decimal level)
-cell-some number level some = rw (ne_eqb level 0 some) refl
-
-pub cell-none : (number level : ℕ) → level ≡ 0 → cell number level ≡ []
-cell-none number level none = rw none refl
 
 one_word : (none : Bool) (word : List ℕ) → behind_spaces (if none then [] else word ∷ []) ≡ (if none then [] else 32 ∷ word)
 one_word true word = refl

@@ -1,20 +1,18 @@
-//! The lines of a cue's moves: those of many moves are written into one text, from the last to the first, and handed to the
-//! sink as one piece.
+//! The lines of a cue's moves: those of many moves are written into one text and handed to the sink as one piece.
 #![tactic(auto, using(lx_io::proofs::Chain::puts))]
 
-ghost use Rattle.std.specs.Prelude.{◌≡◌, ◌==◌, ◌+◌, ◌-◌, ◌≤◌, [], ◌++◌, ◌∷◌, codes, decimal, drop, filter, flat_map, length};
+ghost use Rattle.std.specs.Prelude.{◌≡◌, ◌==◌, ◌+◌, ◌<◌, ◌≤◌, [], ◌++◌, ◌∷◌, codes, decimal, filter, take, flat_map, length};
 ghost use Rattle.lx_io.specs.Puts.{Puts};
 ghost use Rattle.lx_base.specs.declared.TheConstants.{CHANNELS};
 ghost use Rattle.lx_spec.specs.ShowText.{line, at_text, move_text};
 
 use crate::rows::{FRONTS, LEVELS, TENS};
-use itoa::write_digits;
 use lx_base::{Chan, Level, PartNo};
 use lx_io::{Sink, SinkFault, put_all};
 use lx_show::Move;
 
 /// The most bytes of a line: `CHAN `, a number of up to four digits, `@`, a level of three bytes and the line's end; and a byte
-/// that is written over.
+/// behind it that is written over.
 const LINE_BYTES: usize = 15;
 
 /// The most moves whose lines are one piece.
@@ -51,26 +49,23 @@ fn put_piece<K: Sink>(
     requires { length moves.now ≤ PIECE_MOVES }
     ensures { Puts K.holds K.faults K.wants sink.old sink.new result (flat_map move_text (filter (λ entry. entry.part == part) moves.now)) }
 {
-    let start = write_lines(moves, part, text);
-    put_all(sink, &text[start..])
+    let end = write_lines(moves, part, text);
+    put_all(sink, &text[..end])
 }
 
-/// Writes the lines of some moves so that they end where the text does, and says where they begin.
+/// Writes the lines of some moves at the front of the text, and says where they end.
 fn write_lines(moves: &[Move], part: PartNo, text: &mut [u8; PIECE_BYTES]) -> usize
     requires { length moves.now ≤ PIECE_MOVES }
-    ensures start { result ≤ PIECE_BYTES }
-    ensures text { drop result text.new ≡ flat_map move_text (filter (λ entry. entry.part == part) moves.now) }
+    ensures end { result ≤ PIECE_BYTES }
+    ensures text { take result text.new ≡ flat_map move_text (filter (λ entry. entry.part == part) moves.now) }
 {
-    let mut start = PIECE_BYTES;
-    let mut left = moves.len();
-    while left > 0 {
-        left -= 1;
-        let entry = moves[left];
-        if stands_in(&entry, part) {
-            start = write_line(entry.chan, entry.level, text, start);
+    let mut end = 0;
+    for entry in moves {
+        if stands_in(entry, part) {
+            end = write_line(entry.chan, entry.level, text, end);
         }
     }
-    start
+    end
 }
 
 /// The move stands in the part.
@@ -81,81 +76,56 @@ fn stands_in(entry: &Move, part: PartNo) -> bool
     entry.part.get() == part.get()
 }
 
-/// Writes the line of a channel and its level so that it ends at a place, and says where it begins.
+/// Writes the line of a channel and its level at a place, and says where it ends.
 #[inline(always)]
-fn write_line(chan: Chan, level: Level, text: &mut [u8; PIECE_BYTES], end: usize) -> usize
-    requires room { LINE_BYTES ≤ end }
-    requires within { end ≤ PIECE_BYTES }
-    ensures start { end ≤ result + LINE_BYTES }
-    ensures before { result ≤ end }
-    ensures text { drop result text.new ≡ line (codes "CHAN" ∷ at_text chan level ∷ []) ++ drop end text.old }
+fn write_line(chan: Chan, level: Level, text: &mut [u8; PIECE_BYTES], at: usize) -> usize
+    requires room { at + LINE_BYTES ≤ PIECE_BYTES }
+    ensures end { result ≤ at + LINE_BYTES }
+    ensures text { take result text.new ≡ take at text.old ++ line (codes "CHAN" ∷ at_text chan level ∷ []) }
 {
-    let end = write_row(&LEVELS[level as usize], 4, text, end);
-    write_channel(chan.get(), text, end)
+    let middle = write_channel(chan.get(), text, at);
+    write_row(&LEVELS[level as usize], 3, text, middle)
 }
 
-/// Writes `CHAN `, a channel's number and `@` so that they end at a place, and says where they begin.
+/// Writes `CHAN `, a channel's number and `@H` at a place, and says where they end.
 #[inline(always)]
-fn write_channel(number: u32, text: &mut [u8; PIECE_BYTES], end: usize) -> usize
+fn write_channel(number: u32, text: &mut [u8; PIECE_BYTES], at: usize) -> usize
     requires most { number ≤ CHANNELS }
-    requires room { 11 ≤ end }
-    requires within { end ≤ PIECE_BYTES }
-    ensures start { end ≤ result + 11 }
-    ensures before { result ≤ end }
-    ensures text { drop result text.new ≡ (codes "CHAN " ++ (decimal number ++ 64 ∷ [])) ++ drop end text.old }
+    requires room { at + LINE_BYTES ≤ PIECE_BYTES }
+    ensures from { at ≤ result }
+    ensures end { result ≤ at + 11 }
+    ensures text { take result text.new ≡ take at text.old ++ (codes "CHAN " ++ (decimal number ++ codes "@H")) }
 {
     if number < 100 {
-        let end = write_before(b"@", text, end);
-        let end = write_digits(number as u64, text, end);
-        write_before(b"CHAN ", text, end)
+        let middle = write_front(number, text, at);
+        write_row(b"@H", 2, text, middle)
     } else {
-        let end = write_row(&TENS[(number % 100) as usize], 3, text, end);
-        write_front(number / 100, text, end)
+        let middle = write_front(number / 100, text, at);
+        write_row(&TENS[(number % 100) as usize], 4, text, middle)
     }
 }
 
-/// Writes `CHAN ` and the hundreds of a channel's number so that they end at a place, and says where they begin.
+/// Writes `CHAN ` and a number at a place, and says where they end.
 #[inline(always)]
-fn write_front(hundreds: u32, text: &mut [u8; PIECE_BYTES], end: usize) -> usize
-    requires few { hundreds ≤ 40 }
-    requires room { 8 ≤ end }
-    requires within { end ≤ PIECE_BYTES }
-    ensures start { end ≤ result + 8 }
-    ensures before { result ≤ end }
-    ensures text { drop result text.new ≡ (codes "CHAN " ++ decimal hundreds) ++ drop end text.old }
+fn write_front(number: u32, text: &mut [u8; PIECE_BYTES], at: usize) -> usize
+    requires few { number < 100 }
+    requires room { at + 8 ≤ PIECE_BYTES }
+    ensures from { at ≤ result }
+    ensures end { result ≤ at + 7 }
+    ensures text { take result text.new ≡ take at text.old ++ (codes "CHAN " ++ decimal number) }
 {
-    let [word, number] = &FRONTS[hundreds as usize];
-    let count = if hundreds < 10 { 2 } else { 3 };
-    let end = write_row(number, 4, text, end);
-    write_row(word, count, text, end)
+    let count = if number < 10 { 6 } else { 7 };
+    write_row(&FRONTS[number as usize], count, text, at)
 }
 
-/// Writes the last bytes of a row so that they end at a place, and says where they begin.
+/// Writes a row at a place, and says where its first bytes end that are wanted.
 #[inline(always)]
-fn write_row(row: &[u8; 4], count: usize, text: &mut [u8; PIECE_BYTES], end: usize) -> usize
-    requires count { count ≤ 4 }
-    requires room { 4 ≤ end }
-    requires within { end ≤ PIECE_BYTES }
-    ensures start { result + count ≡ end }
-    ensures text { drop result text.new ≡ drop (4 - count) row.now ++ drop end text.old }
+fn write_row(row: &[u8], count: usize, text: &mut [u8; PIECE_BYTES], at: usize) -> usize
+    requires count { count ≤ length row.now }
+    requires room { at + length row.now ≤ PIECE_BYTES }
+    ensures end { result ≡ at + count }
+    ensures text { take result text.new ≡ take at text.old ++ take count row.now }
 {
-    // Byte by byte, which is one store of four bytes.
-    text[end - 4] = row[0];
-    text[end - 3] = row[1];
-    text[end - 2] = row[2];
-    text[end - 1] = row[3];
-    end - count
-}
-
-/// Writes some bytes so that they end at a place, and says where they begin.
-#[inline(always)]
-fn write_before(bytes: &[u8], text: &mut [u8; PIECE_BYTES], end: usize) -> usize
-    requires room { length bytes.now ≤ end }
-    requires within { end ≤ PIECE_BYTES }
-    ensures start { result + length bytes.now ≡ end }
-    ensures text { drop result text.new ≡ bytes.now ++ drop end text.old }
-{
-    let start = end - bytes.len();
-    text[start..end].copy_from_slice(bytes);
-    start
+    text[at..at + row.len()].copy_from_slice(row);
+    at + count
 }
