@@ -1,16 +1,3 @@
-mod CheckLine
-mod Endings
-mod Generated
-mod Inputs
-mod ScriptJobs
-mod SessionFronts
 mod JobWords
-mod MadeEndings
-mod Sessions
-mod Statuses
 mod DashedWords
 mod WordsTaken
-mod LiveRuns
-mod LiveEnds
-mod CrewRuns
-mod CrewEnds

@@ -1,7 +1,7 @@
 -- The exit status of the program.
 use Rattle.std.specs.Prelude.{ℕ}
-use Rattle.cuedesk.specs.declared.desk.Status.{Status}
-use Rattle.cuedesk.specs.declared.desk.Status.TheVariants as status
+use Rattle.lx_desk.specs.declared.desk.Status.{Status}
+use Rattle.lx_desk.specs.declared.desk.Status.TheVariants as status
 
 abbrev pub exit_status : Status → ℕ
 exit_status status.Ok = 0

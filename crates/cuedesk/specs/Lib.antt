@@ -1,11 +1,3 @@
-pub mod Answering
-pub mod Endings
 pub mod Exits
-pub mod Faults
-pub mod Generator
-pub mod Made
-pub mod Output
-pub mod Refused
+pub mod Named
 pub mod Words
-pub mod Live
-pub mod Crew

@@ -5,27 +5,13 @@
 ghost use Rattle.std.specs.Prelude.{◌≡◌};
 ghost use Rattle.cuedesk.specs.Exits.{exit_status};
 
-mod check;
-mod crew;
 mod desk;
-mod discard;
-mod draws;
-mod live;
-mod made_input;
-mod make;
 mod operators;
-mod play;
-mod refuse;
-mod render;
-mod sheet;
-mod two;
-mod undo;
 mod universes;
 mod words;
 
-pub use crew::desk_crew;
-pub use desk::{Status, desk};
-pub use live::desk_live;
+pub use desk::{desk, desk_crew, desk_live};
+pub use lx_desk::Status;
 use lx_io::{Sink, StdSink, StdSource};
 use lx_spec::Job;
 use operators::scripts;

@@ -5,7 +5,7 @@ ghost use Rattle.std.specs.List.{list_any};
 ghost use Rattle.clap.specs.Words.{kind_of};
 ghost use Rattle.lx_spec.specs.Job.{job_of, form_of, number_alone, plain_number, run_of, crew_of};
 ghost use Rattle.lx_spec.specs.Phrase.{ended};
-ghost use Rattle.cuedesk.specs.Output.{InRange};
+ghost use Rattle.cuedesk.specs.Named.{InRange};
 ghost use Rattle.cuedesk.specs.Words.{begins_with_dash, values_of};
 
 use clap::error::ErrorKind;

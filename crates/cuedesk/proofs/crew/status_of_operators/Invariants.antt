@@ -1,7 +1,0 @@
-use Rattle.std.proofs.Common.{◌≡◌, ◌<◌, ℕ, Option, Some, None, slice_get}
-use Rattle.lx_crew.specs.declared.fault.OperatorFault.{OperatorFault}
-use Rattle.cuedesk.proofs.crew.status_of_operators.Given as goal
-
-abbrev pub invariant-loop-fault : goal.invariant-loop-fault
-invariant-loop-fault l = (lower : ℕ) (other : Option OperatorFault) → lower < l.fault-index → slice_get l.fn.faults lower ≡ Some other
-    → other ≡ None

@@ -1,5 +1,0 @@
-use Rattle.std.proofs.Common.{◌≡◌, ◌≤◌, ◌*◌, sum, take}
-use Rattle.cuedesk.proofs.make.sum_of.Given as goal
-
-abbrev pub invariant-loop-slot : goal.invariant-loop-slot
-invariant-loop-slot l = (l.total ≡ sum (take l.slot-index l.slots)) × (l.total ≤ 255 * l.slot-index)

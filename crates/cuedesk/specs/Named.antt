@@ -1,0 +1,37 @@
+-- What is said of the job that the words name.
+use Rattle.std.specs.Prelude.{ℕ, ◌≤◌, Option, Some, IfSome, List}
+use Rattle.lx_base.specs.declared.TheConstants.{UNIVERSES, OPERATORS}
+use Rattle.lx_spec.specs.declared.Form.{Form}
+use Rattle.lx_spec.specs.declared.Job.{Job}
+use Rattle.lx_spec.specs.declared.Job.TheVariants.{Check, Render, Sheet, Make, Run, Undo, Two, Crew}
+use Rattle.lx_spec.specs.Job.{job_of, given_to}
+
+-- Of the job that the words name, and of the bytes that it is given.
+abbrev pub OfJob : List (List ℕ) → Option (List ℕ) → (Job → List ℕ → Type 0) → Type 0
+OfJob words left P = IfSome (job_of words) (λ job. IfSome (given_to job left) (P job))
+
+-- the same of the words, where they name a live run and the input tells its bytes
+abbrev pub OfRun : Option Job → Option (List ℕ) → (ℕ → Form → List ℕ → Type 0) → Type 0
+OfRun (Some (Run universes form)) left P = IfSome left (P universes form)
+OfRun other left P = Unit {0}
+
+-- of the words, where they name a crew and the input tells its bytes
+abbrev pub OfCrew : Option Job → Option (List ℕ) → (ℕ → Form → List ℕ → Type 0) → Type 0
+OfCrew (Some (Crew count form)) left P = IfSome left (P count form)
+OfCrew other left P = Unit {0}
+
+-- how many operators are in use
+abbrev pub in_use : Option Job → ℕ
+in_use (Some (Crew count form)) = count
+in_use other = 0
+
+-- what plays live plays 1 to all universes, and a crew has 1 to all operators
+abbrev pub InRange : Job → Type 0
+InRange (Check form) = Unit {0}
+InRange (Render form) = Unit {0}
+InRange (Sheet form) = Unit {0}
+InRange (Make n) = Unit {0}
+InRange (Run universes form) = (1 ≤ universes) × (universes ≤ UNIVERSES)
+InRange (Undo form) = Unit {0}
+InRange (Two form) = Unit {0}
+InRange (Crew operators form) = (1 ≤ operators) × (operators ≤ OPERATORS)

@@ -1,0 +1,128 @@
+-- How a run of several operators ended, from its show and its crew.
+use Rattle.std.proofs.Common.{◌≡◌, inl, inr, ℕ, ◌+◌, ◌≤◌, Option, Some, None, Result, Ok, Err, IfSome, List, [], length, refl, sym, ap, ◌∙◌}
+use Rattle.std.proofs.Common.{subst}
+use Rattle.lx_base.specs.declared.TheConstants.{INPUT_BYTES}
+use Rattle.lx_io.specs.Causes.{Rose}
+use Rattle.lx_io.specs.Puts.{AppendsFront}
+use Rattle.lx_lex.specs.declared.lines.Lines.{Lines}
+use Rattle.lx_lex.specs.Unread.{unread}
+use Rattle.lx_lex.proofs.FirstLines.{first_lines-longer}
+use Rattle.lx_spec.specs.declared.Form.{Form}
+use Rattle.lx_spec.specs.declared.Job.TheVariants.{Crew}
+use Rattle.lx_spec.specs.declared.TextFault.{TextFault}
+use Rattle.lx_spec.specs.Text.{lines_of}
+use Rattle.lx_spec.specs.FaultLine.{over_show, fault_text}
+use Rattle.lx_spec.specs.Reading.{Reading, reads, lines_read}
+use Rattle.lx_spec.specs.Job.{show_wanted, output_of}
+use Rattle.lx_reader.specs.declared.loaded.Loaded.{Loaded}
+use Rattle.lx_reader.specs.declared.fault.ShowFault.{ShowFault}
+use Rattle.lx_reader.specs.Answer.{reading_of, HasRead}
+use Rattle.lx_desk.specs.declared.desk.Status.{Status}
+use Rattle.lx_desk.specs.declared.desk.Status.TheVariants as status
+use Rattle.lx_desk.specs.Output.{WritesPrefix}
+use Rattle.lx_desk.specs.Refused.{RefusedBy}
+use Rattle.lx_desk.specs.Endings.{HasEnded}
+use Rattle.lx_desk.specs.Crew.{ServesOrWants, ServesNone, HasCrewEnded, WritesFirstLines, WritesCrewFront}
+use Rattle.lx_desk.specs.Crew.{OperatorFailed, HasCrewCause}
+use Rattle.lx_desk.proofs.Inputs.{Says, IsOfShow, means_of, told_fits, front_nothing, refusal_isnt_ok, if_known, both_known}
+use Rattle.lx_desk.proofs.Endings.{refusal_ended}
+use Rattle.lx_desk.proofs.CrewRuns.{no_lines}
+
+-- Of a show whose levels are read in this form, for so many operators.
+module _ (form : Form) (count : ℕ) where
+  crew_tells : IsOfShow form (Crew count form) (λ reading. [])
+  crew_tells = record {
+    over = record {
+      show = λ x. refl;
+      nothing = λ x. tt;
+      refusal = λ x fault text. ap (λ r. over_show r (λ reading. [])) text;
+      wanted = λ x fault text. refl;
+      longer = λ x n h. first_lines-longer (n + 1) (lines_read (lines_of x)) x h;
+      cut = λ x left h i none short. refl;
+    };
+    output = λ x. refl;
+    bytes = λ x. refl;
+  }
+
+  -- a prefix of the line that a refused show has, where nothing was written
+  nothing_told : (x : List ℕ) (h h' : Option (List ℕ)) → h' ≡ h → WritesPrefix (Crew count form) x h h'
+  nothing_told x h h' kept = subst (λ (v : Option (List ℕ)). WritesPrefix (Crew count form) x h v) (sym kept)
+      (record { places = []; wants = tt; text = front_nothing h (output_of (Crew count form) x []) })
+
+  wanting : {S : Type 0} (x : List ℕ) (rest h h' : Option (List ℕ)) (operators operators' : List (Option S)) (s : Status)
+      → s ≡ status.Memory → h' ≡ h → operators' ≡ operators → ServesNone count form x rest operators operators' h h' s
+  wanting x rest h h' operators operators' s memory kept same = record {
+    isnt_ok = λ ok. let bad : status.Memory ≡ status.Ok = sym memory ∙ ok in absurd cc;
+    ended = subst (λ (t : Status). HasEnded t (Crew count form) x rest h h') (sym memory) (nothing_told x h h' kept);
+    untouched = same;
+  }
+
+  -- a crew over a show that was read
+  pub crew_ended : {I S : Type 0} (inputs : I → Option (List ℕ)) (input_faults : I → ℕ) (left : S → Option (List ℕ)) (faults : S → ℕ)
+      (a b : Lines I) (loaded : Loaded) (o rest h h' : Option (List ℕ)) (operators operators' : List (Option S)) (s : Status)
+      → unread inputs a ≡ o → a.taken ≡ 0 → HasRead inputs input_faults a b form loaded
+      → ServesOrWants left faults loaded.show count operators operators' h h' s
+      → IfSome o (λ x. HasCrewEnded left faults count form x rest operators operators' h h' s)
+  crew_ended inputs input_faults left faults a b loaded o rest h h' operators operators' s is none r served =
+      both_known o (λ x. reads form x ≡ Ok (reading_of loaded)) (λ x. length (show_wanted x) ≤ INPUT_BYTES) _
+      (subst (λ (v : Option (List ℕ)). IfSome v (λ x. reads form x ≡ Ok (reading_of loaded))) is r.means.text)
+      (told_fits form inputs input_faults a b loaded (Crew count form) (λ reading. []) crew_tells o is none r)
+      (λ x read fits. elim served [
+        | inl wants ↦ inl (wanting x rest h h' operators operators' s wants.0 wants.1.0 wants.1.1)
+        | inr answered ↦ inr (record { reading = reading_of loaded; read = read; within = fits; served = answered })
+      ])
+
+  pub crew_front : {I S : Type 0} (inputs : I → Option (List ℕ)) (input_faults : I → ℕ) (left : S → Option (List ℕ)) (a b : Lines I)
+      (loaded : Loaded) (o h h' : Option (List ℕ)) (operators : List (Option S)) → unread inputs a ≡ o
+      → HasRead inputs input_faults a b form loaded
+      → WritesFirstLines left loaded.show count operators h h'
+      → IfSome o (λ x. WritesCrewFront left count operators h h' (reads form x))
+  crew_front inputs input_faults left a b loaded o h h' operators is r front =
+      if_known o (λ x. reads form x ≡ Ok (reading_of loaded)) _
+      (subst (λ (v : Option (List ℕ)). IfSome v (λ x. reads form x ≡ Ok (reading_of loaded))) is r.means.text)
+      (λ x read. subst (λ r. WritesCrewFront left count operators h h' r) (sym read) front)
+
+  -- a show that isn't read
+  pub refused_ended : {I S : Type 0} (inputs : I → Option (List ℕ)) (left : S → Option (List ℕ)) (faults : S → ℕ) (a b : Lines I)
+      (o h h' : Option (List ℕ)) (operators : List (Option S)) (fault : ShowFault) (s : Status)
+      → unread inputs a ≡ o → a.taken ≡ 0 → Says form inputs a b fault → RefusedBy h h' fault s
+      → IfSome o (λ x. HasCrewEnded left faults count form x (inputs b.source.now) operators operators h h' s)
+  refused_ended inputs left faults a b o h h' operators fault s is none says by =
+      if_known o _ _ (refusal_ended form (Crew count form) (crew_tells.over) inputs a b o h h' fault s is none says by)
+      (λ x e. inl (record { isnt_ok = λ ok. refusal_isnt_ok h h' fault s ⊥ by ok; ended = e; untouched = refl }))
+
+  pub nothing_front : {S : Type 0} (left : S → Option (List ℕ)) (h h' : Option (List ℕ)) (operators : List (Option S))
+      (r : Result Reading TextFault) → h' ≡ h → WritesCrewFront left count operators h h' r
+  nothing_front left h h' operators (Ok reading) kept = no_lines left reading.show count operators h h' kept
+  nothing_front left h h' operators (Err fault) kept =
+      subst (λ (v : Option (List ℕ)). AppendsFront h v (fault_text fault)) (sym kept) (front_nothing h (fault_text fault))
+
+  nothing_known : {S : Type 0} (left : S → Option (List ℕ)) (o h h' : Option (List ℕ)) (operators : List (Option S)) → h' ≡ h
+      → IfSome o (λ x. WritesCrewFront left count operators h h' (reads form x))
+  nothing_known left None h h' operators kept = tt
+  nothing_known left (Some x) h h' operators kept = nothing_front left h h' operators (reads form x) kept
+
+  pub refused_front : {I S : Type 0} (inputs : I → Option (List ℕ)) (left : S → Option (List ℕ)) (a b : Lines I)
+      (o h h' : Option (List ℕ)) (operators : List (Option S)) (fault : ShowFault) (s : Status)
+      → unread inputs a ≡ o → Says form inputs a b fault → RefusedBy h h' fault s
+      → IfSome o (λ x. WritesCrewFront left count operators h h' (reads form x))
+  refused_front inputs left a b o h h' operators fault s is says by = elim by [
+    | inl told ↦ subst (λ (v : Option (List ℕ)). IfSome v (λ x. WritesCrewFront left count operators h h' (reads form x))) is
+        (if_known (unread inputs a) _ _ (means_of form inputs a b fault told.text told.told says).text
+        (λ x text. subst (λ r. WritesCrewFront left count operators h h' r) (sym text) told.front))
+    | inr other ↦ nothing_known left o h h' operators other.kept
+  ]
+
+-- each fault of the outside has its cause
+pub served_cause : {S : Type 0} (faults : S → ℕ) (s : Status) (reads reads' writes writes' count : ℕ)
+    (operators operators' : List (Option S))
+    → (s ≡ status.ReadFault → OperatorFailed faults count operators operators') → (s ≡ status.WriteFault → Rose writes writes')
+    → HasCrewCause faults s reads reads' writes writes' count operators operators'
+served_cause faults status.ReadFault reads reads' writes writes' count operators operators' read write = inr (read refl)
+served_cause faults status.WriteFault reads reads' writes writes' count operators operators' read write = write refl
+served_cause faults status.Ok reads reads' writes writes' count operators operators' read write = tt
+served_cause faults status.ShowRefused reads reads' writes writes' count operators operators' read write = tt
+served_cause faults status.Usage reads reads' writes writes' count operators operators' read write = tt
+served_cause faults status.Memory reads reads' writes writes' count operators operators' read write = tt
+served_cause faults status.InputTooLong reads reads' writes writes' count operators operators' read write = tt
+served_cause faults status.Live reads reads' writes writes' count operators operators' read write = tt

@@ -1,0 +1,276 @@
+-- What the status of a crew says of its output and of its operators.
+use Rattle.std.proofs.Common.{◌≡◌, ◌≢◌, inl, inr, ℕ, zero, suc, ◌+◌, ◌<◌, ◌≤◌, true, false, Option, Some, None, IfSome, IsSome}
+use Rattle.std.proofs.Common.{List, [], ◌∷◌, ◌++◌, length, take, drop, slice_get, refl, sym, ap, ◌∙◌, subst, arith, take_all, drop_at}
+use Rattle.std.proofs.Common.{length-append, length-drop, take-append-drop}
+use Rattle.std.specs.List.{AllByRecursion, position_or_len}
+use Rattle.std.proofs.lemmas.Option.{same_Some, slice_get_within}
+use Rattle.lx_io.specs.declared.sink.SinkFault.{SinkFault}
+use Rattle.lx_io.specs.declared.sink.SinkFault.TheVariants as sinks
+use Rattle.lx_io.specs.Causes.{Rose}
+use Rattle.lx_io.specs.Puts.{AppendsFront}
+use Rattle.lx_spec.specs.Text.{lines_of}
+use Rattle.lx_spec.specs.Show.{Show}
+use Rattle.lx_spec.specs.Desk.{opened}
+use Rattle.lx_spec.specs.Kept.{Kept}
+use Rattle.lx_spec.specs.Session.{ends_script, lines_wanted}
+use Rattle.lx_spec.specs.CrewText.{lines_up_to_quit, numbered_from, crew_text}
+use Rattle.lx_session.specs.declared.tally.Tally.{Tally}
+use Rattle.lx_crew.specs.declared.fault.OperatorFault.{OperatorFault}
+use Rattle.lx_crew.specs.declared.fault.OperatorFault.TheVariants as ends
+use Rattle.lx_crew.specs.Hired.{EachAt}
+use Rattle.lx_crew.specs.Scripts.{AreLines, CutLines, HasEnded}
+use Rattle.lx_crew.specs.Crewed.{IsBack, HasWritten, HasCrewed}
+use Rattle.lx_crew.specs.Transcripts.{WholeTranscript, TranscriptPrefix}
+use Rattle.lx_crew.specs.Answering.{OutputCause}
+use Rattle.lx_desk.specs.declared.desk.Status.{Status}
+use Rattle.lx_desk.specs.declared.desk.Status.TheVariants as status
+use Rattle.lx_desk.specs.Crew.{IsLowest, WritesTranscript, WritesLines, Serves, WritesFirstLines, KeepsPlaces, OperatorFailed}
+use Rattle.lx_desk.specs.Crew.{TellsOperators, TellsCrew}
+use Rattle.lx_desk.proofs.Inputs.{whole_front, front_nothing}
+use Rattle.lx_desk.proofs.LiveRuns.{get_take, get_before}
+
+-- a read that failed is that of the lowest operator with a fault
+lowest_failed : (output : Option SinkFault) (told : List (Option OperatorFault)) (s : Status) → TellsCrew output told s
+    → s ≡ status.ReadFault → IsLowest told ends.ReadFault
+lowest_failed None told s tells is = subst (λ (t : Status). TellsOperators told t) is tells
+lowest_failed (Some sinks.Failed) told s tells is = let bad : status.WriteFault ≡ status.ReadFault = sym tells ∙ is in absurd cc
+lowest_failed (Some sinks.Memory) told s tells is = let bad : status.Memory ≡ status.ReadFault = sym tells ∙ is in absurd cc
+
+-- a list of places that all have a source
+pub there : {S : Type 0} (places : List (Option S)) → EachAt (λ k source. IsSome source) places → (place : ℕ) → place < length places
+    → (start : S) × (slice_get places place ≡ Some (Some start))
+there [] full place lt = absurd (omega arith)
+there (None ∷ places) full zero lt = let bad : false ≡ true = full 0 None refl in absurd cc
+there (Some start ∷ places) full zero lt = (start, refl)
+there (x ∷ places) full (suc place) lt = there places (λ k source at. full (suc k) source at) place (omega arith)
+
+full_both : {S : Type 0} (xs ys : List (Option S)) → EachAt (λ k source. IsSome source) xs → EachAt (λ k source. IsSome source) ys
+    → EachAt (λ k source. IsSome source) (xs ++ ys)
+full_both [] ys first second k source at = second k source at
+full_both (x ∷ xs) ys first second zero source at = first zero source at
+full_both (x ∷ xs) ys first second (suc k) source at = full_both xs ys (λ j s is. first (suc j) s is) second k source at
+
+full_drop : {S : Type 0} (n : ℕ) (places : List (Option S)) → EachAt (λ k source. IsSome source) places
+    → EachAt (λ k source. IsSome source) (drop n places)
+full_drop zero places full = full
+full_drop (suc n) [] full = full
+full_drop (suc n) (x ∷ places) full = full_drop n places (λ k source at. full (suc k) source at)
+
+pub full_front : {S : Type 0} (n : ℕ) (places : List (Option S)) → EachAt (λ k source. IsSome source) places
+    → EachAt (λ k source. IsSome source) (take n places)
+full_front zero places full k source at = absurd cc
+full_front (suc n) [] full k source at = absurd cc
+full_front (suc n) (x ∷ places) full zero source at = full zero source at
+full_front (suc n) (x ∷ places) full (suc k) source at = full_front n places (λ j s is. full (suc j) s is) k source at
+
+-- places that are as they were
+pub kept_places : {S : Type 0} (count : ℕ) (operators operators' : List (Option S)) → operators' ≡ operators
+    → EachAt (λ k source. IsSome source) operators → KeepsPlaces count operators operators'
+kept_places count operators operators' same full = record {
+  same_places = ap length same;
+  full = subst (λ l. EachAt (λ k source. IsSome source) l) (sym same) full;
+  others = ap (drop count) same;
+}
+
+pub joined : {S : Type 0} (count : ℕ) (operators used used' rest : List (Option S)) → used' ≡ used → used ≡ take count operators
+    → rest ≡ drop count operators → used' ++ rest ≡ operators
+joined count operators used used' rest same is behind =
+    ap (λ l. l ++ rest) (same ∙ is) ∙ (ap (λ l. take count operators ++ l) behind ∙ take-append-drop count operators)
+
+-- what the crew wrote, by the status
+transcript : (show : Show) (lines : ℕ → List (List ℕ)) (held held' : Option (List ℕ)) (console : Kept) (tally : Tally)
+    → WholeTranscript (opened show) lines held held' console tally → WritesTranscript show lines held held'
+transcript show lines held held' console tally w =
+    record { entries = w.entries; merged = w.merged; places = w.places; edits = w.edits; text = w.text }
+
+written_by : (show : Show) (lines : ℕ → List (List ℕ)) (held held' : Option (List ℕ)) (console : Kept) (tally : Tally)
+    (output : Option SinkFault) (told : List (Option OperatorFault)) (s : Status)
+    → HasWritten (opened show) lines held held' console tally output → TellsCrew output told s → WritesLines s show lines told held held'
+written_by show lines held held' console tally None told status.Ok w tells = (transcript show lines held held' console tally w, tells)
+written_by show lines held held' console tally None told status.ReadFault w tells =
+    (transcript show lines held held' console tally w, tells)
+written_by show lines held held' console tally None told status.InputTooLong w tells =
+    (transcript show lines held held' console tally w, tells)
+written_by show lines held held' console tally None told status.WriteFault w tells = absurd tells
+written_by show lines held held' console tally None told status.Memory w tells = absurd tells
+written_by show lines held held' console tally None told status.ShowRefused w tells = absurd tells
+written_by show lines held held' console tally None told status.Usage w tells = absurd tells
+written_by show lines held held' console tally None told status.Live w tells = absurd tells
+written_by show lines held held' console tally (Some sinks.Failed) told s w tells =
+    subst (λ (t : Status). WritesLines t show lines told held held') (sym tells) w
+written_by show lines held held' console tally (Some sinks.Memory) told s w tells =
+    subst (λ (t : Status). WritesLines t show lines told held held') (sym tells) w
+
+-- an operator whose read failed
+read_rose : {S : Type 0} (left : S → Option (List ℕ)) (reads : S → ℕ) (places : List (Option S)) (told : List (Option OperatorFault))
+    (place : ℕ) (start : S) (lines : List (List ℕ)) (b : IsBack left reads places told place start lines)
+    → slice_get told place ≡ Some (Some ends.ReadFault) → Rose (reads start) (reads b.source)
+read_rose left reads places told place start lines b at = b.ended.failed (same_Some b.fault (Some ends.ReadFault) (sym b.fault_is ∙ at))
+
+-- A crew over the first so many operators.
+module _ {S K : Type 0} (left : S → Option (List ℕ)) (reads : S → ℕ) (holds : K → Option (List ℕ)) (show : Show) (count : ℕ)
+    (operators used used' rest : List (Option S)) (sink sink' : K) (console : Kept) (tally : Tally) (output : Option SinkFault)
+    (told : List (Option OperatorFault)) (is : used ≡ take count operators) (n : length used ≡ count) (behind : rest ≡ drop count operators)
+    (h : HasCrewed left reads holds (opened show) used used' sink sink' console tally output told) where
+  same_count : length used' ≡ count
+  same_count = h.same_places ∙ n
+
+  back : (place : ℕ) (start : S) → place < count → slice_get operators place ≡ Some (Some start)
+      → IsBack left reads (used' ++ rest) told place start (h.lines (place + 1))
+  back place start within at =
+      let b = h.each place start (ap (λ l. slice_get l place) is ∙ (get_take count place operators within ∙ at)) in
+      record {
+        source = b.source;
+        fault = b.fault;
+        place_is = get_before used' rest place (omega (arith, within, same_count)) ∙ b.place_is;
+        fault_is = b.fault_is;
+        ended = b.ended;
+      }
+
+  pub serves : (s : Status) → TellsCrew output told s
+      → Serves left reads show count operators (used' ++ rest) (holds sink) (holds sink') s
+  serves s tells = record {
+    lines = h.lines;
+    told = told;
+    each = back;
+    none = h.none;
+    no_more = λ operator past. h.no_more operator (omega (arith, past, n));
+    written = written_by show h.lines (holds sink) (holds sink') console tally output told s h.written tells;
+  }
+
+  full_used : EachAt (λ k source. IsSome source) used → EachAt (λ k source. IsSome source) used'
+  full_used full k source at =
+      let from = there used full k (omega (arith, slice_get_within used' k source at, h.same_places)) in
+      let b = h.each k from.0 from.1 in
+      subst (λ (o : Option S). IsSome o) (same_Some (Some b.source) source (sym b.place_is ∙ at)) refl
+
+  pub keeps_places : EachAt (λ k source. IsSome source) operators → count ≤ length operators → KeepsPlaces count operators (used' ++ rest)
+  keeps_places full most = record {
+    same_places =
+        omega (arith, most, length-append used' rest, same_count, ap length behind, length-drop count operators);
+    full = full_both used' rest
+        (full_used (subst (λ l. EachAt (λ k source. IsSome source) l) (sym is) (full_front count operators full)))
+        (subst (λ l. EachAt (λ k source. IsSome source) l) (sym behind) (full_drop count operators full));
+    others = drop_at used' rest count same_count ∙ behind;
+  }
+
+  pub operator_failed : EachAt (λ k source. IsSome source) operators → count ≤ length operators → (s : Status) → TellsCrew output told s
+      → s ≡ status.ReadFault → OperatorFailed reads count operators (used' ++ rest)
+  operator_failed full most s tells failed =
+      let lowest = lowest_failed output told s tells failed in
+      let within : lowest.place < count = omega (arith, h.others lowest.place ends.ReadFault lowest.at, n) in
+      let from = there operators full lowest.place (omega (arith, within, most)) in
+      let b = back lowest.place from.0 within from.1 in
+      record {
+        place = lowest.place;
+        within = within;
+        start = from.0;
+        new = b.source;
+        before = from.1;
+        after = b.place_is;
+        rose = read_rose left reads (used' ++ rest) told lowest.place from.0 (h.lines (lowest.place + 1)) b lowest.at;
+      }
+
+-- first lines of a script, of which none ends it, are first lines up to its end
+up_to_quit : (m : ℕ) (script : List (List ℕ)) → AllByRecursion (λ line. ends_script line ≡ false) (take m script)
+    → take m script ≡ take m (take (lines_wanted script) script)
+up_to_quit zero script go_on = refl
+up_to_quit (suc m) [] go_on = refl
+up_to_quit (suc m) (line ∷ script) go_on =
+    let first = go_on.0 in
+    let here : position_or_len ends_script (line ∷ script) ≡ 1 + position_or_len ends_script script = rw first refl in
+    let next : lines_wanted (line ∷ script) ≡ suc (lines_wanted script) = omega (arith, here) in
+    ap (λ l. line ∷ l) (up_to_quit m script go_on.1) ∙ sym (ap (λ k. take (suc m) (take k (line ∷ script))) next)
+
+first_of_first : {A : Type 0} (n m : ℕ) (xs : List A) → (k : ℕ) × (take n (take m xs) ≡ take k xs)
+first_of_first zero m xs = (0, refl)
+first_of_first (suc n) zero xs = (0, refl)
+first_of_first (suc n) (suc m) [] = (0, refl)
+first_of_first (suc n) (suc m) (x ∷ xs) = let less = first_of_first n m xs in (suc less.0, ap (λ l. x ∷ l) less.1)
+
+-- an operator's lines are first lines of its script
+cut_front : (bytes : List ℕ) (left : Option (List ℕ)) (lines : List (List ℕ)) → CutLines bytes left lines
+    → (m : ℕ) × (lines ≡ take m (lines_up_to_quit bytes))
+cut_front bytes left lines c = (
+  c.cut.lines,
+  c.are ∙ up_to_quit c.cut.lines (lines_of bytes) (subst (λ l. AllByRecursion (λ line. ends_script line ≡ false) l) c.are c.go_on),
+)
+
+lines_front : (fault : Option OperatorFault) (bytes : List ℕ) (left : Option (List ℕ)) (lines : List (List ℕ))
+    → AreLines fault bytes left lines → (m : ℕ) × (lines ≡ take m (lines_up_to_quit bytes))
+lines_front None bytes left lines all = (
+  length (lines_up_to_quit bytes),
+  all.are ∙ sym (take_all (length (lines_up_to_quit bytes)) (lines_up_to_quit bytes) (omega arith)),
+)
+lines_front (Some ends.ReadFault) bytes left lines c = cut_front bytes left lines c
+lines_front (Some ends.InputTooLong) bytes left lines c = cut_front bytes left lines c.0
+
+ended_front : {S : Type 0} (left : S → Option (List ℕ)) (reads : S → ℕ) (start source : S) (fault : Option OperatorFault)
+    (lines : List (List ℕ)) (bytes : List ℕ) → HasEnded left reads start source fault lines → left start ≡ Some bytes
+    → (m : ℕ) × (lines ≡ take m (lines_up_to_quit bytes))
+ended_front left reads start source fault lines bytes ended known =
+    lines_front fault bytes (left source) lines
+    (subst (λ (o : Option (List ℕ)). IfSome o (λ b. AreLines fault b (left source) lines)) known ended.are)
+
+-- However a crew ended, it wrote a prefix of the text of first lines.
+module _ {S : Type 0} (left : S → Option (List ℕ)) (reads : S → ℕ) (show : Show) (count : ℕ) (operators operators' : List (Option S))
+    (held held' : Option (List ℕ)) where
+  all_front : (s : Status) → (h : Serves left reads show count operators operators' held held' s)
+      → WritesTranscript show h.lines held held' → WritesFirstLines left show count operators held held'
+  all_front s h w = record {
+    entries = w.entries;
+    each = λ place start bytes within at known.
+        let b = h.each place start within at in
+        let first = ended_front left reads start b.source b.fault (h.lines (place + 1)) bytes b.ended known in
+        (first.0, w.merged (place + 1) ∙ ap (numbered_from (place + 1) 1) first.1);
+    none = w.merged 0 ∙ ap (numbered_from 0 1) h.none;
+    no_more = λ operator past. w.merged operator ∙ ap (numbered_from operator 1) (h.no_more operator past);
+    places = w.places;
+    edits = w.edits;
+    text = whole_front held held' (crew_text (opened show) w.entries w.places) w.text;
+  }
+
+  some_front : (s : Status) → (h : Serves left reads show count operators operators' held held' s)
+      → TranscriptPrefix (opened show) h.lines held held' → WritesFirstLines left show count operators held held'
+  some_front s h w = record {
+    entries = w.entries;
+    each = λ place start bytes within at known.
+        let b = h.each place start within at in
+        let first = ended_front left reads start b.source b.fault (h.lines (place + 1)) bytes b.ended known in
+        let so_far = w.merged (place + 1) in
+        let less = first_of_first so_far.0 first.0 (lines_up_to_quit bytes) in
+        (less.0, so_far.1 ∙ ap (numbered_from (place + 1) 1) (ap (take so_far.0) first.1 ∙ less.1));
+    none = (w.merged 0).1 ∙ ap (numbered_from 0 1) (ap (take (w.merged 0).0) h.none ∙ take_all (w.merged 0).0 [] (omega arith));
+    no_more = λ operator past.
+        (w.merged operator).1
+        ∙ ap (numbered_from operator 1)
+        (ap (take (w.merged operator).0) (h.no_more operator past) ∙ take_all (w.merged operator).0 [] (omega arith));
+    places = w.places;
+    edits = w.edits;
+    text = w.text;
+  }
+
+  pub served_front : (s : Status) → Serves left reads show count operators operators' held held' s
+      → WritesFirstLines left show count operators held held'
+  served_front status.Ok h = all_front status.Ok h h.written.0
+  served_front status.ReadFault h = all_front status.ReadFault h h.written.0
+  served_front status.InputTooLong h = all_front status.InputTooLong h h.written.0
+  served_front status.WriteFault h = some_front status.WriteFault h h.written
+  served_front status.Memory h = some_front status.Memory h h.written
+  served_front status.ShowRefused h = absurd h.written
+  served_front status.Usage h = absurd h.written
+  served_front status.Live h = absurd h.written
+
+-- where nothing was written
+pub no_lines : {S : Type 0} (left : S → Option (List ℕ)) (show : Show) (count : ℕ) (operators : List (Option S))
+    (held held' : Option (List ℕ)) → held' ≡ held → WritesFirstLines left show count operators held held'
+no_lines left show count operators held held' kept = record {
+  entries = [];
+  each = λ place start bytes within at known. (0, refl);
+  none = refl;
+  no_more = λ operator past. refl;
+  places = [];
+  edits = tt;
+  text = subst (λ (v : Option (List ℕ)). AppendsFront held v (crew_text (opened show) [] [])) (sym kept)
+      (front_nothing held (crew_text (opened show) [] []));
+}

@@ -1,0 +1,110 @@
+-- What holds where a job ended, from what holds at each status.
+use Rattle.std.proofs.Common.{◌≡◌, ◌⊎◌, inl, inr, Option, Some, None, IfSome, List, ℕ, length, refl, sym, ap, subst, arith}
+use Rattle.lx_io.specs.Puts.{AppendsFront}
+use Rattle.std.specs.Io.KnownBytes.{Appends}
+use Rattle.lx_lex.specs.declared.lines.Lines.{Lines}
+use Rattle.lx_lex.specs.Unread.{unread}
+use Rattle.lx_spec.specs.declared.Form.{Form}
+use Rattle.lx_spec.specs.declared.Job.{Job}
+use Rattle.lx_spec.specs.Show.{Show}
+use Rattle.lx_spec.specs.Reading.{Reading}
+use Rattle.lx_reader.specs.declared.loaded.Loaded.{Loaded}
+use Rattle.lx_reader.specs.declared.fault.ShowFault.{ShowFault}
+use Rattle.lx_reader.specs.declared.fault.ShowFault.TheVariants as faults
+use Rattle.lx_reader.specs.Answer.{reading_of, HasRead}
+use Rattle.lx_desk.specs.declared.desk.Status.{Status}
+use Rattle.lx_desk.specs.declared.desk.Status.TheVariants as status
+use Rattle.lx_desk.specs.Answering.{Answering}
+use Rattle.lx_desk.specs.Refused.{RefusedBy, status_kept}
+use Rattle.lx_desk.specs.Endings.{EndsJob, EndsScript, HasEnded, HasPlayed}
+use Rattle.lx_desk.proofs.Inputs.{Says, IsOverShow, IsOfShow, IsOfScript, told_text, told_prefix, told_fits, session_text, session_front}
+use Rattle.lx_desk.proofs.Inputs.{session_long}
+use Rattle.lx_desk.proofs.Inputs.{session_fits, session_cut, refusal_cut, refusal_text, refusal_front, refusal_fits, refusal_long}
+use Rattle.lx_desk.proofs.Inputs.{refusal_isnt_ok, kept_is, if_known, both_known}
+
+-- a script's end is that of a job
+pub script_job : (s : Status) → EndsScript s → EndsJob s
+script_job status.Ok ends = tt
+script_job status.ShowRefused ends = tt
+script_job status.Usage ends = ends
+script_job status.ReadFault ends = tt
+script_job status.WriteFault ends = tt
+script_job status.Memory ends = tt
+script_job status.InputTooLong ends = tt
+script_job status.Live ends = ends
+
+pub told_ends : (s good : Status) → EndsJob good → (s ≡ good) ⊎ ((s ≡ status.WriteFault) ⊎ (s ≡ status.Memory)) → EndsJob s
+told_ends s good ends kinds = elim kinds
+    [ inl a ↦ subst EndsJob (sym a) ends | inr b ↦ elim b [ inl x ↦ subst EndsJob (sym x) tt | inr y ↦ subst EndsJob (sym y) tt ] ]
+
+pub refusal_ends : (h h' : Option (List ℕ)) (fault : ShowFault) (s : Status) → RefusedBy h h' fault s → EndsJob s
+refusal_ends h h' fault s by = elim by [ inl text ↦ told_ends s status.ShowRefused tt text.kinds | inr other ↦ kept_is fault s (λ f t. EndsJob t) other.is tt tt tt ]
+
+-- what is told of a show that was read
+pub told_ended : (form : Form) {S : Type 0} (left : S → Option (List ℕ)) (faults : S → ℕ) (a b : Lines S) (loaded : Loaded) (job : Job)
+    (f : Reading → List ℕ) → IsOfShow form job f → (o rest h h' : Option (List ℕ)) (s : Status)
+    → unread left a ≡ o → a.taken ≡ 0 → HasRead left faults a b form loaded → (s ≡ status.Ok)
+    ⊎ ((s ≡ status.WriteFault) ⊎ (s ≡ status.Memory))
+    → (s ≡ status.Ok → Appends h h' (f (reading_of loaded))) → AppendsFront h h' (f (reading_of loaded))
+    → IfSome o (λ x. HasEnded s job x rest h h')
+told_ended form left faults a b loaded job f tells o rest h h' s is none r kinds whole front =
+    let prefix = told_prefix form left faults a b loaded job f tells o h h' is r front in
+    elim kinds [
+      | inl ok ↦ subst (λ t. IfSome o (λ x. HasEnded t job x rest h h')) (sym ok)
+          (both_known o _ _ _ (told_text form left faults a b loaded job f tells o h h' is r (whole ok))
+          (told_fits form left faults a b loaded job f tells o is none r)
+          (λ x text fits. (record { text = text.0; within = fits }, text.1)))
+      | inr fault ↦ elim fault [
+        | inl write ↦ subst (λ t. IfSome o (λ x. HasEnded t job x rest h h')) (sym write) prefix
+        | inr memory ↦ subst (λ t. IfSome o (λ x. HasEnded t job x rest h h')) (sym memory) prefix
+      ]
+    ]
+
+-- a show that isn't read
+pub refusal_ended : (form : Form) (job : Job) → IsOverShow form job
+    → {S : Type 0} (left : S → Option (List ℕ)) (a b : Lines S) (o h h' : Option (List ℕ)) (fault : ShowFault) (s : Status)
+    → unread left a ≡ o → a.taken ≡ 0 → Says form left a b fault → RefusedBy h h' fault s
+    → IfSome o (λ x. HasEnded s job x (left b.source.now) h h')
+refusal_ended form job over left a b o h h' fault status.Ok is none says by = refusal_isnt_ok h h' fault status.Ok _ by refl
+refusal_ended form job over left a b o h h' fault status.ShowRefused is none says by =
+    both_known o _ _ _ (refusal_text form job over left a b o h h' fault status.ShowRefused is says by refl)
+    (refusal_fits form job over left a b o h h' fault status.ShowRefused is none says by refl)
+    (λ x text fits. (record { text = text.0; within = fits }, text.1))
+refusal_ended form job over left a b o h h' fault status.Usage is none says by = absurd (refusal_ends h h' fault status.Usage by)
+refusal_ended form job over left a b o h h' fault status.ReadFault is none says by =
+    refusal_cut form job over left a b o h h' fault status.ReadFault is none says by (inl refl)
+refusal_ended form job over left a b o h h' fault status.WriteFault is none says by =
+    refusal_front form job over left a b o h h' fault status.WriteFault is says by
+refusal_ended form job over left a b o h h' fault status.Memory is none says by =
+    refusal_front form job over left a b o h h' fault status.Memory is says by
+refusal_ended form job over left a b o h h' fault status.InputTooLong is none says by =
+    both_known o _ _ _ (refusal_cut form job over left a b o h h' fault status.InputTooLong is none says by (inr refl))
+    (refusal_long form job over left a b o h h' fault status.InputTooLong is none says by refl)
+    (λ x cut long. (cut, long))
+refusal_ended form job over left a b o h h' fault status.Live is none says by = absurd (refusal_ends h h' fault status.Live by)
+
+-- a script over a show that was read
+pub script_ended : (form : Form) (job : Job) (by : Show → Answering) → IsOfScript form job by
+    → {S : Type 0} (left : S → Option (List ℕ)) (faults : S → ℕ) (a b : Lines S) (loaded : Loaded)
+    (o rest h h' : Option (List ℕ)) (s : Status)
+    → unread left a ≡ o → a.taken ≡ 0 → HasRead left faults a b form loaded → EndsScript s
+    → IfSome (unread left b) (λ y. HasPlayed s (by loaded.show) b.taken y rest h h')
+    → IfSome o (λ x. HasEnded s job x rest h h')
+script_ended form job by of left faults a b loaded o rest h h' status.Ok is none r ends p =
+    both_known o _ _ _ (session_text form job by of left faults a b loaded o h h' is r (if_known (unread left b) _ _ p (λ y q. q.0)))
+    (session_fits form left faults a b loaded o is none r (if_known (unread left b) _ _ p (λ y q. q.1)))
+    (λ x text fits. (record { text = text.0; within = omega (arith, ap length (of.bytes x), fits) }, text.1))
+script_ended form job by of left faults a b loaded o rest h h' status.ShowRefused is none r ends p = absurd ends
+script_ended form job by of left faults a b loaded o rest h h' status.Usage is none r ends p = absurd ends
+script_ended form job by of left faults a b loaded o rest h h' status.ReadFault is none r ends p =
+    session_cut form job by of left faults a b loaded o rest h h' is none r p
+script_ended form job by of left faults a b loaded o rest h h' status.WriteFault is none r ends p =
+    session_front form job by of left faults a b loaded o h h' is r p
+script_ended form job by of left faults a b loaded o rest h h' status.Memory is none r ends p =
+    session_front form job by of left faults a b loaded o h h' is r p
+script_ended form job by of left faults a b loaded o rest h h' status.InputTooLong is none r ends p =
+    both_known o _ _ _
+    (session_cut form job by of left faults a b loaded o rest h h' is none r (if_known (unread left b) _ _ p (λ y q. q.0)))
+    (session_long form left faults a b loaded o is none r (if_known (unread left b) _ _ p (λ y q. q.1)))
+    (λ x cut long. (cut, omega (arith, ap length (of.bytes x), long)))
+script_ended form job by of left faults a b loaded o rest h h' status.Live is none r ends p = absurd ends

@@ -1,0 +1,581 @@
+-- How much of its input the program wants, and what it writes for it, from the reader's answer and the session's.
+use Rattle.std.proofs.Common.{◌≡◌, ◌⊎◌, inl, inr, ℕ, zero, suc, ◌+◌, ◌-◌, ◌<◌, ◌≤◌, false, true, eqb, cond, Option, Some, None, Result, Ok}
+use Rattle.std.proofs.Common.{Err, IfSome, IsErr, IsOk, List, [], ◌∷◌, ◌++◌, length, take, refl, sym, ap, ◌∙◌, subst, arith, length-append}
+use Rattle.std.proofs.Common.{append-nil, append_assoc, take_all}
+use Rattle.std.specs.List.{before_first}
+use Rattle.std.specs.Io.KnownBytes.{Appends, IsAtEnd}
+use Rattle.std.proofs.KnownBytes.{Appends-nil}
+use Rattle.lx_base.specs.declared.TheConstants.{INPUT_BYTES}
+use Rattle.lx_io.specs.Puts.{AppendsFront}
+use Rattle.lx_io.proofs.Chain.{AppendsFront-from}
+use Rattle.lx_lex.specs.declared.lines.Lines.{Lines}
+use Rattle.lx_lex.specs.Lines.{LinesBetween}
+use Rattle.lx_lex.specs.Unread.{unread}
+use Rattle.lx_lex.proofs.TakenLines.{lines_within}
+use Rattle.lx_lex.proofs.FirstLines.{first_lines-more, first_lines-longer}
+use Rattle.lx_spec.specs.declared.Form.{Form}
+use Rattle.lx_spec.specs.declared.TextFault.{TextFault}
+use Rattle.lx_spec.specs.declared.TextFault.TheVariants as texts_of
+use Rattle.lx_spec.specs.Text.{lines_of}
+use Rattle.lx_spec.specs.Desk.{Desk, opened}
+use Rattle.lx_spec.specs.Show.{Show}
+use Rattle.lx_spec.specs.Reading.{Reading, reads, script_of, lines_read}
+use Rattle.lx_spec.specs.CutInput.{HasNoFeed, first_lines}
+use Rattle.lx_spec.specs.RenderOutput.{input_lines_wanted, input_wanted, OutputPlacesAreEdits}
+use Rattle.lx_spec.specs.SessionOf.{Answer, begin_with, PlacesAreAllowed}
+use Rattle.lx_spec.specs.SessionOutput.{SessionWants}
+use Rattle.lx_spec.specs.FaultLine.{over_show, fault_text}
+use Rattle.lx_spec.specs.Session.{begin_at, ends_script, lines_wanted, bytes_wanted}
+use Rattle.lx_reader.specs.declared.loaded.Loaded.{Loaded}
+use Rattle.lx_reader.specs.declared.fault.ShowFault.{ShowFault}
+use Rattle.lx_reader.specs.declared.fault.ShowFault.TheVariants as faults
+use Rattle.lx_reader.specs.LineFaults.{show_fault}
+use Rattle.lx_reader.specs.HandedLines.{MeansFault, IsPastLimit, IsCutShort}
+use Rattle.lx_reader.specs.Answer.{reading_of, HasRead, OfText, CutShort}
+use Rattle.lx_session.proofs.Places.{wants_nothing}
+use Rattle.lx_session.proofs.AnsweredPlaces.{wants_at_none}
+use Rattle.lx_desk.specs.declared.desk.Status.{Status}
+use Rattle.lx_desk.specs.declared.desk.Status.TheVariants as status
+use Rattle.lx_spec.specs.declared.Job.{Job}
+use Rattle.lx_spec.specs.declared.Job.TheVariants.{Check, Sheet}
+use Rattle.lx_spec.specs.CheckOutput.{check_text}
+use Rattle.lx_spec.specs.SheetOutput.{sheet_text}
+use Rattle.lx_spec.specs.Job.{show_of, output_of, replies_of, WantsEdits, wanted_of, show_wanted}
+use Rattle.lx_desk.specs.Answering.{Answering, by_desk}
+use Rattle.lx_desk.specs.Output.{WritesAll, WritesPrefix, WritesTaken, RepliesToTaken, AnswersScript, AnswersInFront, AnswersTaken}
+use Rattle.lx_desk.specs.Refused.{RefusedBy, status_kept}
+
+-- a whole text is a front of itself, and nothing is one of any
+pub whole_front : (a b : Option (List ℕ)) (text : List ℕ) → Appends a b text → AppendsFront a b text
+whole_front a b text p = AppendsFront-from a b text (length text)
+    (subst (λ (v : List ℕ). Appends a b v) (sym (take_all (length text) text (omega arith))) p)
+
+pub front_nothing : (a : Option (List ℕ)) (text : List ℕ) → AppendsFront a a text
+front_nothing a text = AppendsFront-from a a text 0 (Appends-nil a)
+
+pub no_place : (n m : ℕ) → false ≡ true → n ≤ m
+no_place n m e = absurd cc
+
+pub nothing_wanted : (bytes : List ℕ) (r : Result Reading TextFault) → OutputPlacesAreEdits bytes [] r
+nothing_wanted bytes (Ok reading) = wants_nothing [] (begin_at (opened reading.show)) (before_first ends_script (script_of bytes))
+    (λ n has. no_place n 0 has)
+nothing_wanted bytes (Err fault) = tt
+
+-- a session of which nothing is wanted
+pub none_allowed : {S : Type 0} (answer : Answer S) (MayWant : S → List ℕ → Type 0) (state : S) (script : List (List ℕ))
+    → PlacesAreAllowed answer MayWant state script []
+none_allowed answer MayWant state script = wants_at_none answer MayWant (begin_with state) (before_first ends_script script)
+
+pub nothing_of_session : {S : Type 0} (answer : Answer S) (MayWant : S → List ℕ → Type 0) (opening : Show → S) (bytes : List ℕ)
+    (r : Result Reading TextFault) → SessionWants answer MayWant opening bytes [] r
+nothing_of_session answer MayWant opening bytes (Ok reading) = none_allowed answer MayWant (opening reading.show) (script_of bytes)
+nothing_of_session answer MayWant opening bytes (Err fault) = tt
+
+-- where nothing was written, a prefix of the replies was
+pub nothing_answered_by : (by : Answering) → ((script : List (List ℕ)) → by.Allows script []) → (o a : Option (List ℕ))
+    → IfSome o (λ bytes. AnswersInFront by (lines_of bytes) a a)
+nothing_answered_by by allows None a = tt
+nothing_answered_by by allows (Some bytes) a = record {
+  places = [];
+  wants = allows (lines_of bytes);
+  text = front_nothing a (by.whole (lines_of bytes) []);
+}
+
+pub nothing_answered : (o a : Option (List ℕ)) (d : Desk) → IfSome o (λ bytes. AnswersInFront (by_desk d) (lines_of bytes) a a)
+nothing_answered o a d = nothing_answered_by (by_desk d)
+    (λ script. wants_nothing [] (begin_at d) (before_first ends_script script) (λ n has. no_place n 0 has)) o a
+
+-- a fault that isn't one of the text is one of three, and has the status of its name
+pub kept_is : (fault : ShowFault) (s : Status) (P : ShowFault → Status → Type 0) → status_kept fault s
+    → P faults.ReadFault status.ReadFault → P faults.InputTooLong status.InputTooLong → P faults.Memory status.Memory → P fault s
+kept_is (faults.NoIdent i) s P kept read long memory = absurd kept
+kept_is (faults.BadNumber i) s P kept read long memory = absurd kept
+kept_is (faults.OutOfRange i) s P kept read long memory = absurd kept
+kept_is (faults.NotInRecord i) s P kept read long memory = absurd kept
+kept_is (faults.LineTooLong i) s P kept read long memory = absurd kept
+kept_is (faults.ShortList i) s P kept read long memory = absurd kept
+kept_is (faults.NoEndData i) s P kept read long memory = absurd kept
+kept_is faults.ReadFault s P kept read long memory = subst (λ t. P faults.ReadFault t) (sym kept) read
+kept_is faults.InputTooLong s P kept read long memory = subst (λ t. P faults.InputTooLong t) (sym kept) long
+kept_is faults.Memory s P kept read long memory = subst (λ t. P faults.Memory t) (sym kept) memory
+
+pub memory_kept : (fault : ShowFault) (s : Status) → status_kept fault s → s ≡ status.Memory → fault ≡ faults.Memory
+memory_kept fault s kept = kept_is fault s (λ f t. t ≡ status.Memory → f ≡ faults.Memory) kept (λ is. absurd cc) (λ is. absurd cc)
+    (λ is. refl)
+
+other_ok : (fault : ShowFault) (s : Status) (P : Type 0) → status_kept fault s → s ≡ status.Ok → P
+other_ok fault s P kept = kept_is fault s (λ f t. t ≡ status.Ok → P) kept (λ is. absurd cc) (λ is. absurd cc) (λ is. absurd cc)
+
+kinds_ok : (s : Status) (P : Type 0) → (s ≡ status.ShowRefused) ⊎ ((s ≡ status.WriteFault) ⊎ (s ≡ status.Memory)) → s ≡ status.Ok → P
+kinds_ok s P kinds is = elim kinds [ inl a ↦ absurd cc | inr b ↦ elim b [ inl x ↦ absurd cc | inr y ↦ absurd cc ] ]
+
+-- a refusal is never Ok
+pub refusal_isnt_ok : (h h' : Option (List ℕ)) (fault : ShowFault) (s : Status) (P : Type 0) → RefusedBy h h' fault s → s ≡ status.Ok → P
+refusal_isnt_ok h h' fault s P by is = elim by [ inl text ↦ kinds_ok s P text.kinds is | inr other ↦ other_ok fault s P other.is is ]
+
+pub if_known : (o : Option (List ℕ)) (P Q : List ℕ → Type 0) → IfSome o P → ((xs : List ℕ) → P xs → Q xs) → IfSome o Q
+if_known None P Q p f = tt
+if_known (Some xs) P Q p f = f xs p
+
+pub both_known : (o : Option (List ℕ)) (P Q R : List ℕ → Type 0) → IfSome o P → IfSome o Q → ((xs : List ℕ) → P xs → Q xs → R xs)
+    → IfSome o R
+both_known None P Q R p q f = tt
+both_known (Some xs) P Q R p q f = f xs p q
+
+-- Of a show whose levels are read in this form.
+module _ (form : Form) where
+  -- A job that answers the script behind the show so.
+  pub record IsOfScript (job : Job) (by : Show → Answering) : Type 0 where
+    pub show : (x : List ℕ) → show_of job x ≡ reads form x
+    pub nothing : (x : List ℕ) → WantsEdits job x []
+    pub wants : (x places : List ℕ) (reading : Reading) → reads form x ≡ Ok reading → (by reading.show).Allows (script_of x) places
+        → WantsEdits job x places
+    pub output : (x places : List ℕ) → output_of job x places
+        ≡ over_show (reads form x) (λ reading. (by reading.show).whole (script_of x) places)
+    pub first : (x places : List ℕ) (lines : ℕ) (reading : Reading) → reads form x ≡ Ok reading
+        → replies_of job x places lines ≡ (by reading.show).first (script_of x) places lines
+    pub none : (x : List ℕ) → replies_of job x [] 0 ≡ []
+    pub bytes : (x : List ℕ) → wanted_of job x ≡ input_wanted form x
+    pub taken : (x : List ℕ) (left h h' : Option (List ℕ)) → RepliesToTaken job x left h h' → WritesTaken job x left h h'
+
+  output_at : (job : Job) (by : Show → Answering) → IsOfScript job by → (x places : List ℕ) (reading : Reading) → reads form x ≡ Ok reading
+      → output_of job x places ≡ (by reading.show).whole (script_of x) places
+  output_at job by is x places reading read =
+      is.output x places ∙ ap (λ r. over_show r (λ reading. (by reading.show).whole (script_of x) places)) read
+
+  -- what the session answered is what the program writes
+  answer_at : (job : Job) (by : Show → Answering) → IsOfScript job by → (x y : List ℕ) (reading : Reading) (h h' : Option (List ℕ))
+      → reads form x ≡ Ok reading → script_of x ≡ lines_of y → AnswersScript (by reading.show) (lines_of y) h h'
+      → WritesAll job x h h' × IsOk (show_of job x)
+  answer_at job by is x y reading h h' read script answered =
+      let a : AnswersScript (by reading.show) (script_of x) h h' =
+      subst (λ ls. AnswersScript (by reading.show) ls h h') (sym script) answered in (
+        record {
+          places = a.places;
+          wants = is.wants x a.places reading read a.wants;
+          text = subst (λ (t : List ℕ). Appends h h' t) (sym (output_at job by is x a.places reading read)) a.text;
+        },
+        subst (λ (r : Result Reading TextFault). IsOk r) (sym (is.show x ∙ read)) refl,
+      )
+
+  front_at : (job : Job) (by : Show → Answering) → IsOfScript job by → (x y : List ℕ) (reading : Reading) (h h' : Option (List ℕ))
+      → reads form x ≡ Ok reading → script_of x ≡ lines_of y → AnswersInFront (by reading.show) (lines_of y) h h'
+      → WritesPrefix job x h h'
+  front_at job by is x y reading h h' read script answered =
+      let a : AnswersInFront (by reading.show) (script_of x) h h' =
+      subst (λ ls. AnswersInFront (by reading.show) ls h h') (sym script) answered in
+      record {
+        places = a.places;
+        wants = is.wants x a.places reading read a.wants;
+        text = subst (λ (t : List ℕ). AppendsFront h h' t) (sym (output_at job by is x a.places reading read)) a.text;
+      }
+
+  one_more : (front : List (List ℕ)) (last : List ℕ) → length front + 1 ≡ length (front ++ last ∷ [])
+  one_more front last = omega (arith, length-append front (last ∷ []))
+
+  -- from the bytes before the show to those behind it
+  over_show_read : (a b : Option (List ℕ)) (i j n : ℕ) (raws : List (List ℕ)) (reading : Reading) (P : List ℕ → Type 0)
+      (Q : List ℕ → Type 0) → LinesBetween a b i j raws → n ≡ length raws
+      → IfSome a (λ x. lines_read (lines_of x) ≡ n) → IfSome a (λ x. reads form x ≡ Ok reading)
+      → IfSome a (λ x. IfSome b (λ y. script_of x ≡ lines_of y)) → IfSome b P
+      → ((x y : List ℕ) → LinesBetween (Some x) (Some y) i j raws → lines_read (lines_of x) ≡ length raws → reads form x ≡ Ok reading
+      → script_of x ≡ lines_of y → P y → Q x) → IfSome a Q
+  over_show_read None b i j n raws reading P Q took count shown text script p f = tt
+  over_show_read (Some x) None i j n raws reading P Q took count shown text script p f = absurd took.took
+  over_show_read (Some x) (Some y) i j n raws reading P Q took count shown text script p f = f x y took (shown ∙ count) text script p
+
+  pub over_loaded : {S : Type 0} (left : S → Option (List ℕ)) (faults : S → ℕ) (a b : Lines S) (loaded : Loaded) (o : Option (List ℕ))
+      (P Q : List ℕ → Type 0) → unread left a ≡ o → HasRead left faults a b form loaded → IfSome (unread left b) P
+      → ((x y : List ℕ) (raws : List (List ℕ)) → LinesBetween (Some x) (Some y) a.taken b.taken raws → lines_read (lines_of x) ≡ length raws
+      → reads form x ≡ Ok (reading_of loaded) → script_of x ≡ lines_of y → P y → Q x) → IfSome o Q
+  over_loaded left faults a b loaded o P Q is r p f =
+      let m = r.means in
+      subst (λ (v : Option (List ℕ)). IfSome v Q) is
+      (over_show_read (unread left a) (unread left b) a.taken b.taken (length m.front + 1) (m.front ++ m.last ∷ []) (reading_of loaded) P Q
+      m.handed.took (one_more m.front m.last) m.wanted m.text m.script p
+      (λ x y took shown text script q. f x y (m.front ++ m.last ∷ []) took shown text script q))
+
+  pub session_text : (job : Job) (by : Show → Answering) → IsOfScript job by
+      → {S : Type 0} (left : S → Option (List ℕ)) (faults : S → ℕ) (a b : Lines S) (loaded : Loaded) (o h h' : Option (List ℕ))
+      → unread left a ≡ o → HasRead left faults a b form loaded
+      → IfSome (unread left b) (λ bytes. AnswersScript (by loaded.show) (lines_of bytes) h h')
+      → IfSome o (λ bytes. WritesAll job bytes h h' × IsOk (show_of job bytes))
+  session_text job by of left faults a b loaded o h h' is r answers =
+      over_loaded left faults a b loaded o (λ bytes. AnswersScript (by loaded.show) (lines_of bytes) h h') _ is r answers
+      (λ x y raws took shown read script answer. answer_at job by of x y (reading_of loaded) h h' read script answer)
+
+  pub session_front : (job : Job) (by : Show → Answering) → IsOfScript job by
+      → {S : Type 0} (left : S → Option (List ℕ)) (faults : S → ℕ) (a b : Lines S) (loaded : Loaded)
+      (o h h' : Option (List ℕ)) → unread left a ≡ o → HasRead left faults a b form loaded
+      → IfSome (unread left b) (λ bytes. AnswersInFront (by loaded.show) (lines_of bytes) h h')
+      → IfSome o (λ bytes. WritesPrefix job bytes h h')
+  session_front job by of left faults a b loaded o h h' is r answers =
+      over_loaded left faults a b loaded o (λ bytes. AnswersInFront (by loaded.show) (lines_of bytes) h h') _ is r answers
+      (λ x y raws took shown read script answer. front_at job by of x y (reading_of loaded) h h' read script answer)
+
+  -- of a show that is read the lines that were handed out are wanted, and then those of the script
+  wanted_read : (x y : List ℕ) (i j : ℕ) (raws : List (List ℕ)) (reading : Reading) → i ≡ 0 → LinesBetween (Some x) (Some y) i j raws
+      → lines_read (lines_of x) ≡ length raws → reads form x ≡ Ok reading → script_of x ≡ lines_of y
+      → length (input_wanted form x) ≡ j + length (bytes_wanted y)
+  wanted_read x y i j raws reading none took shown text script =
+      let n : input_lines_wanted x (reads form x) ≡ length raws + lines_wanted (lines_of y) = ap (input_lines_wanted x) text
+      ∙ ap (λ m. m + lines_wanted (script_of x)) shown ∙ ap (λ s. length raws + lines_wanted s) script in
+      let mine : took.bytes ≡ first_lines (length raws) (took.bytes ++ y) = took.front ∙ ap (first_lines (length raws)) took.took in
+      let bytes : input_wanted form x ≡ took.bytes ++ bytes_wanted y = ap (λ k. first_lines k x) n
+      ∙ ap (first_lines (length raws + lines_wanted (lines_of y))) took.took
+      ∙ first_lines-more (length raws) (lines_wanted (lines_of y)) took.bytes y mine in
+      omega (arith, ap length bytes, length-append took.bytes (bytes_wanted y), took.count)
+
+  pub session_long : {S : Type 0} (left : S → Option (List ℕ)) (faults : S → ℕ) (a b : Lines S) (loaded : Loaded) (o : Option (List ℕ))
+      → unread left a ≡ o → a.taken ≡ 0 → HasRead left faults a b form loaded
+      → IfSome (unread left b) (λ y. INPUT_BYTES < b.taken + length (bytes_wanted y))
+      → IfSome o (λ x. INPUT_BYTES < length (input_wanted form x))
+  session_long left faults a b loaded o is none r long =
+      over_loaded left faults a b loaded o (λ y. INPUT_BYTES < b.taken + length (bytes_wanted y)) _ is r long
+      (λ x y raws took shown read script past.
+      omega (arith, past, wanted_read x y a.taken b.taken raws (reading_of loaded) none took shown read script))
+
+  pub session_fits : {S : Type 0} (left : S → Option (List ℕ)) (faults : S → ℕ) (a b : Lines S) (loaded : Loaded) (o : Option (List ℕ))
+      → unread left a ≡ o → a.taken ≡ 0 → HasRead left faults a b form loaded
+      → IfSome (unread left b) (λ y. b.taken + length (bytes_wanted y) ≤ INPUT_BYTES)
+      → IfSome o (λ x. length (input_wanted form x) ≤ INPUT_BYTES)
+  session_fits left faults a b loaded o is none r fits =
+      over_loaded left faults a b loaded o (λ y. b.taken + length (bytes_wanted y) ≤ INPUT_BYTES) _ is r fits
+      (λ x y raws took shown read script within.
+      omega (arith, within, wanted_read x y a.taken b.taken raws (reading_of loaded) none took shown read script))
+
+  -- The script was cut off behind a show that was read.
+  cut_behind : (job : Job) (by : Show → Answering) → IsOfScript job by → (x y : List ℕ) (left h h' : Option (List ℕ)) (i j : ℕ)
+      (raws : List (List ℕ)) (reading : Reading) → i ≡ 0 → LinesBetween (Some x) (Some y) i j raws
+      → lines_read (lines_of x) ≡ length raws → reads form x ≡ Ok reading → script_of x ≡ lines_of y
+      → AnswersTaken (by reading.show) j y left h h' → RepliesToTaken job x left h h'
+  cut_behind job by of x y left h h' i j raws reading none took shown text script a =
+      let n = a.cut.lines in
+      let mine : took.bytes ≡ first_lines (length raws) (took.bytes ++ y) = took.front ∙ ap (first_lines (length raws)) took.took in
+      let first : first_lines (length raws + n) x ≡ took.bytes ++ first_lines n y = ap (first_lines (length raws + n)) took.took
+      ∙ first_lines-more (length raws) n took.bytes y mine in
+      let count : j + length (first_lines n y) ≡ 0 + length (first_lines (length raws + n) x) =
+      omega (arith, none, took.count, ap length first, length-append took.bytes (first_lines n y)) in
+      let done : length raws + n - lines_read (lines_of x) ≡ n = omega (arith, shown) in
+      record {
+        places = a.places;
+        wants = of.wants x a.places reading text
+            (subst (λ ls. (by reading.show).Allows ls a.places) (sym script) a.wants);
+        cut = record {
+          lines = length raws + n;
+          next = a.cut.next;
+          taken = if_known left _ _ a.cut.taken (λ rest e.
+              took.took ∙ ap (λ v. took.bytes ++ v) e ∙ sym (append_assoc took.bytes (first_lines n y) (a.cut.next ++ rest))
+              ∙ ap (λ v. v ++ (a.cut.next ++ rest)) (sym first));
+          within = omega (arith, count, a.cut.within);
+          no_feed = subst (λ k. HasNoFeed (take (INPUT_BYTES - k) a.cut.next)) count a.cut.no_feed;
+        };
+        text = subst (λ (t : List ℕ). Appends h h' t)
+            (sym (of.first x a.places (length raws + n - lines_read (lines_of x)) reading text
+            ∙ ap ((by reading.show).first (script_of x) a.places) done
+            ∙ ap (λ ls. (by reading.show).first ls a.places n) script)) a.text;
+      }
+
+  pub session_cut : (job : Job) (by : Show → Answering) → IsOfScript job by
+      → {S : Type 0} (left : S → Option (List ℕ)) (faults : S → ℕ) (a b : Lines S) (loaded : Loaded)
+      (o rest h h' : Option (List ℕ)) → unread left a ≡ o → a.taken ≡ 0 → HasRead left faults a b form loaded
+      → IfSome (unread left b) (λ y. AnswersTaken (by loaded.show) b.taken y rest h h')
+      → IfSome o (λ x. WritesTaken job x rest h h')
+  session_cut job by of left faults a b loaded o rest h h' is none r answers =
+      over_loaded left faults a b loaded o (λ y. AnswersTaken (by loaded.show) b.taken y rest h h') _ is r answers
+      (λ x y raws took shown read script answer. of.taken x rest h h'
+      (cut_behind job by of x y rest h h' a.taken b.taken raws (reading_of loaded) none took shown read script answer))
+
+  -- The input was cut off within the show.
+  cut_within : (job : Job) (by : Show → Answering) → IsOfScript job by → (x : List ℕ) (left h : Option (List ℕ)) (i : ℕ) → i ≡ 0
+      → IsCutShort i x left → RepliesToTaken job x left h h
+  cut_within job by of x left h i none short =
+      let cut = short.cut in
+      let few : cut.lines - lines_read (lines_of x) ≡ 0 = let lt = short.wanted in omega (arith, lt) in
+      record {
+        places = [];
+        wants = of.nothing x;
+        cut = record {
+          lines = cut.lines;
+          next = cut.next;
+          taken = cut.taken;
+          within = let w = cut.within in omega (arith, none, w);
+          no_feed = subst (λ k. HasNoFeed (take (INPUT_BYTES - (k + length (first_lines cut.lines x))) cut.next)) none cut.no_feed;
+        };
+        text = subst (λ (t : List ℕ). Appends h h t) (sym (ap (replies_of job x []) few ∙ of.none x)) (Appends-nil h);
+      }
+
+  -- A job over the show that its input begins with.
+  pub record IsOverShow (job : Job) : Type 0 where
+    pub show : (x : List ℕ) → show_of job x ≡ reads form x
+    pub nothing : (x : List ℕ) → WantsEdits job x []
+    pub refusal : (x : List ℕ) (fault : TextFault) → reads form x ≡ Err fault → output_of job x [] ≡ fault_text fault
+    pub wanted : (x : List ℕ) (fault : TextFault) → reads form x ≡ Err fault → wanted_of job x ≡ show_wanted x
+    pub longer : (x : List ℕ) (n : ℕ) → n + 1 ≤ lines_read (lines_of x) → length (first_lines (n + 1) x) ≤ length (wanted_of job x)
+    pub cut : (x : List ℕ) (left h : Option (List ℕ)) (i : ℕ) → i ≡ 0 → IsCutShort i x left → WritesTaken job x left h h
+
+  -- And a job that tells of the show alone.
+  pub record IsOfShow (job : Job) (f : Reading → List ℕ) : Type 0 where
+    pub over : IsOverShow job
+    pub output : (x : List ℕ) → output_of job x [] ≡ over_show (reads form x) f
+    pub bytes : (x : List ℕ) → wanted_of job x ≡ show_wanted x
+
+  more_wanted : (x : List ℕ) (n : ℕ) (r : Result Reading TextFault) → n + 1 ≤ lines_read (lines_of x) → n + 1 ≤ input_lines_wanted x r
+  more_wanted x n (Ok reading) h = omega (arith, h)
+  more_wanted x n (Err i) h = h
+
+  -- a job that answers the script is one over the show
+  pub script_over : (job : Job) (by : Show → Answering) → IsOfScript job by → IsOverShow job
+  script_over job by of = record {
+    show = of.show;
+    nothing = of.nothing;
+    refusal = λ x fault text.
+        of.output x [] ∙ ap (λ r. over_show r (λ reading. (by reading.show).whole (script_of x) [])) text;
+    wanted = λ x fault text. of.bytes x ∙ ap (λ k. first_lines k x) (ap (input_lines_wanted x) text);
+    longer = λ x n h.
+        omega (
+          arith,
+          ap length (of.bytes x),
+          first_lines-longer (n + 1) (input_lines_wanted x (reads form x)) x (more_wanted x n (reads form x) h),
+        );
+    cut = λ x left h i none short. of.taken x left h h (cut_within job by of x left h i none short);
+  }
+
+  pub check_tells : IsOfShow (Check form) check_text
+  check_tells = record {
+    over = record {
+      show = λ x. refl;
+      nothing = λ x. tt;
+      refusal = λ x fault text. ap (λ r. over_show r check_text) text;
+      wanted = λ x fault text. refl;
+      longer = λ x n h. first_lines-longer (n + 1) (lines_read (lines_of x)) x h;
+      cut = λ x left h i none short. refl;
+    };
+    output = λ x. refl;
+    bytes = λ x. refl;
+  }
+
+  pub sheet_tells : IsOfShow (Sheet form) sheet_text
+  sheet_tells = record {
+    over = record {
+      show = λ x. refl;
+      nothing = λ x. tt;
+      refusal = λ x fault text. ap (λ r. over_show r sheet_text) text;
+      wanted = λ x fault text. refl;
+      longer = λ x n h. first_lines-longer (n + 1) (lines_read (lines_of x)) x h;
+      cut = λ x left h i none short. refl;
+    };
+    output = λ x. refl;
+    bytes = λ x. refl;
+  }
+
+  -- a prefix of nothing was written
+  pub nothing_written : (job : Job) → IsOverShow job → (o a : Option (List ℕ)) → IfSome o (λ bytes. WritesPrefix job bytes a a)
+  nothing_written job over None a = tt
+  nothing_written job over (Some bytes) a =
+      record { places = []; wants = over.nothing bytes; text = front_nothing a (output_of job bytes []) }
+
+  -- What is told of a show that was read.
+  told_at : (job : Job) (f : Reading → List ℕ) → IsOfShow job f → (x : List ℕ) (h h' : Option (List ℕ)) (reading : Reading)
+      → reads form x ≡ Ok reading → Appends h h' (f reading) → WritesAll job x h h' × IsOk (show_of job x)
+  told_at job f tells x h h' reading read text = (
+    record {
+      places = [];
+      wants = tells.over.nothing x;
+      text = subst (λ (t : List ℕ). Appends h h' t) (sym (tells.output x ∙ ap (λ r. over_show r f) read)) text;
+    },
+    subst (λ (r : Result Reading TextFault). IsOk r) (sym (tells.over.show x ∙ read)) refl,
+  )
+
+  told_front_at : (job : Job) (f : Reading → List ℕ) → IsOfShow job f → (x : List ℕ) (h h' : Option (List ℕ)) (reading : Reading)
+      → reads form x ≡ Ok reading → AppendsFront h h' (f reading) → WritesPrefix job x h h'
+  told_front_at job f tells x h h' reading read text = record {
+    places = [];
+    wants = tells.over.nothing x;
+    text = subst (λ (t : List ℕ). AppendsFront h h' t) (sym (tells.output x ∙ ap (λ r. over_show r f) read)) text;
+  }
+
+  pub told_text : {S : Type 0} (left : S → Option (List ℕ)) (faults : S → ℕ) (a b : Lines S) (loaded : Loaded) (job : Job)
+      (f : Reading → List ℕ) → IsOfShow job f → (o h h' : Option (List ℕ)) → unread left a ≡ o → HasRead left faults a b form loaded
+      → Appends h h' (f (reading_of loaded)) → IfSome o (λ x. WritesAll job x h h' × IsOk (show_of job x))
+  told_text left faults a b loaded job f tells o h h' is r text =
+      subst (λ (v : Option (List ℕ)). IfSome v (λ x. WritesAll job x h h' × IsOk (show_of job x))) is
+      (if_known (unread left a) _ _ r.means.text (λ x read. told_at job f tells x h h' (reading_of loaded) read text))
+
+  pub told_prefix : {S : Type 0} (left : S → Option (List ℕ)) (faults : S → ℕ) (a b : Lines S) (loaded : Loaded) (job : Job)
+      (f : Reading → List ℕ) → IsOfShow job f → (o h h' : Option (List ℕ)) → unread left a ≡ o → HasRead left faults a b form loaded
+      → AppendsFront h h' (f (reading_of loaded)) → IfSome o (λ x. WritesPrefix job x h h')
+  told_prefix left faults a b loaded job f tells o h h' is r text =
+      subst (λ (v : Option (List ℕ)). IfSome v (λ x. WritesPrefix job x h h')) is
+      (if_known (unread left a) _ _ r.means.text (λ x read. told_front_at job f tells x h h' (reading_of loaded) read text))
+
+  told_fits_at : (job : Job) (f : Reading → List ℕ) → IsOfShow job f → (x : List ℕ) (i n : ℕ) → i ≡ 0 → lines_read (lines_of x) ≡ n
+      → i + length (first_lines n x) ≤ INPUT_BYTES → length (wanted_of job x) ≤ INPUT_BYTES
+  told_fits_at job f tells x i n none count fits = omega (arith, none, fits, ap length (tells.bytes x ∙ ap (λ k. first_lines k x) count))
+
+  pub told_fits : {S : Type 0} (left : S → Option (List ℕ)) (faults : S → ℕ) (a b : Lines S) (loaded : Loaded) (job : Job)
+      (f : Reading → List ℕ) → IsOfShow job f → (o : Option (List ℕ)) → unread left a ≡ o → a.taken ≡ 0
+      → HasRead left faults a b form loaded
+      → IfSome o (λ x. length (wanted_of job x) ≤ INPUT_BYTES)
+  told_fits left faults a b loaded job f tells o is none r =
+      let m = r.means in
+      let fits : IfSome (unread left a) (λ x. a.taken + length (first_lines (length m.front + 1) x) ≤ INPUT_BYTES) =
+      lines_within (unread left a) (unread left b) a.taken b.taken (m.front ++ m.last ∷ []) (length m.front + 1) m.handed.took
+      (omega (arith, one_more m.front m.last)) in
+      subst (λ (v : Option (List ℕ)). IfSome v (λ x. length (wanted_of job x) ≤ INPUT_BYTES)) is
+      (both_known (unread left a) _ _ _ m.wanted fits
+      (λ x count fit. told_fits_at job f tells x a.taken (length m.front + 1) none count fit))
+
+  first_lines-length : (k : ℕ) (xs : List ℕ) → length (first_lines k xs) ≤ length xs
+  first_lines-length k [] = omega arith
+  first_lines-length zero (x ∷ xs) = omega arith
+  first_lines-length (suc k) (x ∷ xs) = omega (arith, first_lines-length (cond (eqb x 10) k (suc k)) xs)
+
+  -- A show that is refused.
+  refused_fits : (job : Job) → IsOverShow job → (a b : Option (List ℕ)) (i j n : ℕ) (raws : List (List ℕ)) (fault : TextFault) → i ≡ 0
+      → LinesBetween a b i j raws → (length raws ≡ n) ⊎ IsAtEnd b → IfSome a (λ x. reads form x ≡ Err fault)
+      → IfSome a (λ x. lines_read (lines_of x) ≡ n)
+      → IfSome a (λ x. length (wanted_of job x) ≤ INPUT_BYTES)
+  refused_fits job over None b i j n raws fault none took whole text wanted = tt
+  refused_fits job over (Some x) None i j n raws fault none took whole text wanted = absurd took.took
+  refused_fits job over (Some x) (Some y) i j n raws fault none took whole text wanted =
+      let bytes : wanted_of job x ≡ first_lines n x = over.wanted x fault text ∙ ap (λ k. first_lines k x) wanted in
+      elim whole [
+        | inl here ↦ omega (arith, ap length bytes, lines_within (Some x) (Some y) i j raws n took (omega (arith, here)))
+        | inr end ↦
+            let all : x ≡ took.bytes = took.took ∙ ap (λ v. took.bytes ++ v) end ∙ append-nil took.bytes in
+            omega (arith, ap length bytes, first_lines-length n x, ap length all, took.count, took.within)
+      ]
+
+  fault_fits : (job : Job) → IsOverShow job → {S : Type 0} (left : S → Option (List ℕ)) (a : Lines S) (fault : TextFault) → a.taken ≡ 0
+      → MeansFault left a form fault → IfSome (unread left a) (λ x. length (wanted_of job x) ≤ INPUT_BYTES)
+  fault_fits job over left a fault none m =
+      refused_fits job over (unread left a) m.unread_then a.taken m.taken_then m.count m.raws fault none m.took m.whole m.text m.wanted
+
+  -- what the reader says of a fault of the text
+  fault_means : {S : Type 0} (left : S → Option (List ℕ)) (a : Lines S) (P Q : Type 0) (text : TextFault)
+      → OfText (MeansFault left a form) P Q (show_fault text) → MeansFault left a form text
+  fault_means left a P Q (texts_of.NoIdent i) p = p
+  fault_means left a P Q (texts_of.BadNumber i) p = p
+  fault_means left a P Q (texts_of.OutOfRange i) p = p
+  fault_means left a P Q (texts_of.NotInRecord i) p = p
+  fault_means left a P Q (texts_of.LineTooLong i) p = p
+  fault_means left a P Q (texts_of.ShortList i) p = p
+  fault_means left a P Q (texts_of.NoEndData i) p = p
+
+  text_at : (job : Job) → IsOverShow job → (o h h' : Option (List ℕ)) (fault : TextFault) → IfSome o (λ x. reads form x ≡ Err fault)
+      → Appends h h' (fault_text fault) → IfSome o (λ x. WritesAll job x h h' × IsErr (show_of job x))
+  text_at job over None h h' fault text appended = tt
+  text_at job over (Some x) h h' fault text appended = (
+    record {
+      places = [];
+      wants = over.nothing x;
+      text = subst (λ (v : List ℕ). Appends h h' v) (sym (over.refusal x fault text)) appended;
+    },
+    subst (λ (r : Result Reading TextFault). IsErr r) (sym (over.show x ∙ text)) refl,
+  )
+
+  text_front : (job : Job) → IsOverShow job → (o h h' : Option (List ℕ)) (fault : TextFault) → IfSome o (λ x. reads form x ≡ Err fault)
+      → AppendsFront h h' (fault_text fault) → IfSome o (λ x. WritesPrefix job x h h')
+  text_front job over None h h' fault text appended = tt
+  text_front job over (Some x) h h' fault text appended = record {
+    places = [];
+    wants = over.nothing x;
+    text = subst (λ (v : List ℕ). AppendsFront h h' v) (sym (over.refusal x fault text)) appended;
+  }
+
+  -- a show that is too long
+  long_input : (job : Job) → IsOverShow job → (i : ℕ) (o : Option (List ℕ)) → i ≡ 0 → IfSome o (IsPastLimit i)
+      → IfSome o (λ x. INPUT_BYTES < length (wanted_of job x))
+  long_input job over i None none long = tt
+  long_input job over i (Some x) none long =
+      let lt = long.wanted in
+      omega (arith, none, long.long, over.longer x long.n (omega (arith, lt)))
+
+  -- What the reader's fault and the status of its refusal say.
+  abbrev pub Says : {S : Type 0} → (S → Option (List ℕ)) → Lines S → Lines S → ShowFault → Type 0
+  Says left a b fault = OfText (MeansFault left a form) (IfSome (unread left a) (IsPastLimit a.taken) × CutShort left a b)
+      (CutShort left a b) fault
+
+  pub means_of : {S : Type 0} (left : S → Option (List ℕ)) (a b : Lines S) (fault : ShowFault) (text : TextFault) → fault ≡ show_fault text
+      → Says left a b fault → MeansFault left a form text
+  means_of left a b fault text told says =
+      fault_means left a (IfSome (unread left a) (IsPastLimit a.taken) × CutShort left a b) (CutShort left a b) text
+      (subst (λ f. Says left a b f) told says)
+
+  not_refused : (fault : ShowFault) (s : Status) (P : Type 0) → status_kept fault s → s ≡ status.ShowRefused → P
+  not_refused fault s P kept = kept_is fault s (λ f t. t ≡ status.ShowRefused → P) kept (λ is. absurd cc) (λ is. absurd cc)
+      (λ is. absurd cc)
+
+  pub refusal_text : (job : Job) → IsOverShow job
+      → {S : Type 0} (left : S → Option (List ℕ)) (a b : Lines S) (o h h' : Option (List ℕ)) (fault : ShowFault) (s : Status)
+      → unread left a ≡ o → Says left a b fault → RefusedBy h h' fault s → s ≡ status.ShowRefused
+      → IfSome o (λ x. WritesAll job x h h' × IsErr (show_of job x))
+  refusal_text job over left a b o h h' fault s is says by refused = elim by [
+    | inl text ↦ subst (λ (v : Option (List ℕ)). IfSome v (λ x. WritesAll job x h h' × IsErr (show_of job x))) is
+        (text_at job over (unread left a) h h' text.text (means_of left a b fault text.text text.told says).text (text.whole refused))
+    | inr other ↦ not_refused fault s (IfSome o (λ x. WritesAll job x h h' × IsErr (show_of job x))) other.is refused
+  ]
+
+  pub refusal_front : (job : Job) → IsOverShow job
+      → {S : Type 0} (left : S → Option (List ℕ)) (a b : Lines S) (o h h' : Option (List ℕ)) (fault : ShowFault) (s : Status)
+      → unread left a ≡ o → Says left a b fault → RefusedBy h h' fault s → IfSome o (λ x. WritesPrefix job x h h')
+  refusal_front job over left a b o h h' fault s is says by = elim by [
+    | inl text ↦ subst (λ (v : Option (List ℕ)). IfSome v (λ x. WritesPrefix job x h h')) is
+        (text_front job over (unread left a) h h' text.text (means_of left a b fault text.text text.told says).text text.front)
+    | inr other ↦ subst (λ (v : Option (List ℕ)). IfSome o (λ x. WritesPrefix job x h v)) (sym other.kept) (nothing_written job over o h)
+  ]
+
+  pub refusal_fits : (job : Job) → IsOverShow job
+      → {S : Type 0} (left : S → Option (List ℕ)) (a b : Lines S) (o h h' : Option (List ℕ)) (fault : ShowFault) (s : Status)
+      → unread left a ≡ o → a.taken ≡ 0 → Says left a b fault → RefusedBy h h' fault s → s ≡ status.ShowRefused
+      → IfSome o (λ x. length (wanted_of job x) ≤ INPUT_BYTES)
+  refusal_fits job over left a b o h h' fault s is none says by refused = elim by [
+    | inl text ↦ subst (λ (v : Option (List ℕ)). IfSome v (λ x. length (wanted_of job x) ≤ INPUT_BYTES)) is
+        (fault_fits job over left a text.text none (means_of left a b fault text.text text.told says))
+    | inr other ↦ not_refused fault s (IfSome o (λ x. length (wanted_of job x) ≤ INPUT_BYTES)) other.is refused
+  ]
+
+  long_kept : (fault : ShowFault) (s : Status) → status_kept fault s → s ≡ status.InputTooLong → fault ≡ faults.InputTooLong
+  long_kept fault s kept = kept_is fault s (λ f t. t ≡ status.InputTooLong → f ≡ faults.InputTooLong) kept (λ is. absurd cc) (λ is. refl)
+      (λ is. absurd cc)
+
+  kinds_long : (s : Status) (P : Type 0) → (s ≡ status.ShowRefused) ⊎ ((s ≡ status.WriteFault) ⊎ (s ≡ status.Memory))
+      → s ≡ status.InputTooLong → P
+  kinds_long s P kinds is = elim kinds [ inl a ↦ absurd cc | inr b ↦ elim b [ inl x ↦ absurd cc | inr y ↦ absurd cc ] ]
+
+  pub refusal_long : (job : Job) → IsOverShow job
+      → {S : Type 0} (left : S → Option (List ℕ)) (a b : Lines S) (o h h' : Option (List ℕ)) (fault : ShowFault) (s : Status)
+      → unread left a ≡ o → a.taken ≡ 0 → Says left a b fault → RefusedBy h h' fault s → s ≡ status.InputTooLong
+      → IfSome o (λ x. INPUT_BYTES < length (wanted_of job x))
+  refusal_long job over left a b o h h' fault s is none says by long = elim by [
+    | inl text ↦ kinds_long s (IfSome o (λ x. INPUT_BYTES < length (wanted_of job x))) text.kinds long
+    | inr other ↦ subst (λ (v : Option (List ℕ)). IfSome v (λ x. INPUT_BYTES < length (wanted_of job x))) is
+        (long_input job over a.taken (unread left a) none (subst (λ f. Says left a b f) (long_kept fault s other.is long) says).0)
+  ]
+
+  cut_kept : {S : Type 0} (left : S → Option (List ℕ)) (a b : Lines S) (fault : ShowFault) (s : Status) → status_kept fault s
+      → (s ≡ status.ReadFault) ⊎ (s ≡ status.InputTooLong) → Says left a b fault → CutShort left a b
+  cut_kept left a b fault s kept =
+      kept_is fault s (λ f t. (t ≡ status.ReadFault) ⊎ (t ≡ status.InputTooLong) → Says left a b f → CutShort left a b) kept
+      (λ is says. says) (λ is says. says.1) (λ is says. elim is [ inl x ↦ absurd cc | inr y ↦ absurd cc ])
+
+  kinds_cut : (s : Status) (P : Type 0) → (s ≡ status.ShowRefused) ⊎ ((s ≡ status.WriteFault) ⊎ (s ≡ status.Memory))
+      → (s ≡ status.ReadFault) ⊎ (s ≡ status.InputTooLong) → P
+  kinds_cut s P kinds is = elim is [
+    | inl read ↦ elim kinds [ inl a ↦ absurd cc | inr b ↦ elim b [ inl x ↦ absurd cc | inr y ↦ absurd cc ] ]
+    | inr long ↦ kinds_long s P kinds long
+  ]
+
+  pub refusal_cut : (job : Job) → IsOverShow job
+      → {S : Type 0} (left : S → Option (List ℕ)) (a b : Lines S) (o h h' : Option (List ℕ)) (fault : ShowFault) (s : Status)
+      → unread left a ≡ o → a.taken ≡ 0 → Says left a b fault → RefusedBy h h' fault s
+      → (s ≡ status.ReadFault) ⊎ (s ≡ status.InputTooLong) → IfSome o (λ x. WritesTaken job x (left b.source.now) h h')
+  refusal_cut job over left a b o h h' fault s is none says by cut = elim by [
+    | inl text ↦ kinds_cut s (IfSome o (λ x. WritesTaken job x (left b.source.now) h h')) text.kinds cut
+    | inr other ↦
+        subst (λ (v : Option (List ℕ)). IfSome o (λ x. WritesTaken job x (left b.source.now) h v)) (sym other.kept)
+        (subst (λ (v : Option (List ℕ)). IfSome v (λ x. WritesTaken job x (left b.source.now) h h)) is
+        (if_known (unread left a) _ _ (cut_kept left a b fault s other.is cut says)
+        (λ x short. over.cut x (left b.source.now) h a.taken none short)))
+  ]

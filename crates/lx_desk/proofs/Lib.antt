@@ -1,0 +1,13 @@
+mod CheckLine
+mod Endings
+mod Inputs
+mod ScriptJobs
+mod SessionFronts
+mod MadeEndings
+mod Sessions
+mod Statuses
+mod LiveRuns
+mod LiveEnds
+mod CrewRuns
+pub mod CrewEnds
+pub mod Unwritten

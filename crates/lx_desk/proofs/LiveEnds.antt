@@ -1,0 +1,215 @@
+-- How a live run ended, from its show and its script.
+use Rattle.std.proofs.Common.{◌≡◌, ◌≢◌, ◌⊎◌, inl, inr, true, false, ℕ, ◌+◌, ◌-◌, ◌≤◌, Option, Some, None, Ok, Err, IsOk, IfSome, List}
+use Rattle.std.proofs.Common.{[], ◌∷◌, ◌++◌, length, take, refl, sym, ap, ◌∙◌, subst, arith, append_assoc, length-append}
+use Rattle.std.specs.Io.KnownBytes.{Appends}
+use Rattle.lx_base.specs.declared.TheConstants.{INPUT_BYTES}
+use Rattle.lx_io.specs.Puts.{AppendsFront}
+use Rattle.lx_lex.specs.declared.lines.Lines.{Lines}
+use Rattle.lx_lex.specs.Lines.{LinesBetween}
+use Rattle.lx_lex.specs.Unread.{unread}
+use Rattle.lx_lex.proofs.FirstLines.{first_lines-more}
+use Rattle.lx_spec.specs.declared.Form.{Form}
+use Rattle.lx_spec.specs.declared.TextFault.{TextFault}
+use Rattle.lx_session.proofs.Ends.{front_of_all}
+use Rattle.lx_spec.specs.declared.Job.TheVariants.{Run}
+use Rattle.lx_spec.specs.Text.{lines_of}
+use Rattle.lx_spec.specs.Desk.{opened}
+use Rattle.lx_spec.specs.CutInput.{HasNoFeed, first_lines}
+use Rattle.lx_spec.specs.FaultLine.{over_show}
+use Rattle.lx_spec.specs.Reading.{Reading, reads, script_of, lines_read}
+use Rattle.lx_spec.specs.RenderOutput.{first_replies, input_wanted, render_output}
+use Rattle.lx_spec.specs.Session.{accepted, after_first, replies}
+use Rattle.lx_reader.specs.declared.loaded.Loaded.{Loaded}
+use Rattle.lx_reader.specs.declared.fault.ShowFault.{ShowFault}
+use Rattle.lx_reader.specs.Answer.{reading_of, HasRead}
+use Rattle.lx_desk.specs.declared.desk.Status.{Status}
+use Rattle.lx_desk.specs.declared.desk.Status.TheVariants as status
+use Rattle.lx_desk.specs.Output.{WritesPrefix, RepliesToTaken}
+use Rattle.lx_desk.specs.Refused.{RefusedBy}
+use Rattle.lx_desk.specs.Endings.{EndsJob, HasEnded}
+use Rattle.lx_desk.specs.Live.{HaveVersions, PlaysScript, AreServed, PlaysInFront, PlaysTaken, HasPlayedLive, PlaysWhole, LivesInFront}
+use Rattle.lx_desk.specs.Live.{LivesTaken}
+use Rattle.lx_desk.specs.Live.{HasLived}
+use Rattle.lx_desk.proofs.Inputs.{Says, means_of, session_long, session_fits, refusal_isnt_ok, front_nothing, if_known, both_known, over_loaded}
+use Rattle.lx_desk.proofs.ScriptJobs.{run_over}
+use Rattle.lx_desk.proofs.Endings.{refusal_ends, refusal_ended}
+
+-- Of a show whose levels are read in this form, for so many universes.
+module _ (form : Form) (universes : ℕ) where
+  whole_at : {K : Type 0} (holds : K → Option (List ℕ)) (x y : List ℕ) (reading : Reading) (h h' : Option (List ℕ))
+      (outlets outlets' : List (Option K)) → reads form x ≡ Ok reading → script_of x ≡ lines_of y
+      → length (input_wanted form x) ≤ INPUT_BYTES → PlaysScript holds reading.show universes (lines_of y) h h' outlets outlets'
+      → PlaysWhole holds universes form x h h' outlets outlets'
+  whole_at holds x y reading h h' outlets outlets' read script fits a = record {
+    reading = reading;
+    read = read;
+    places = a.places;
+    text = subst (λ (ls : List (List ℕ)). Appends h h' (replies (opened reading.show) ls a.places)) (sym script) a.text;
+    versions = subst (λ (ls : List (List ℕ)). HaveVersions holds reading.show universes outlets outlets'
+        (accepted (opened reading.show) ls a.places)) (sym script) a.versions;
+    within = fits;
+  }
+
+  prefix_at : {K : Type 0} (holds : K → Option (List ℕ)) (failures wants : K → ℕ) (x y : List ℕ) (reading : Reading)
+      (h h' : Option (List ℕ))
+      (outlets outlets' : List (Option K)) → reads form x ≡ Ok reading → script_of x ≡ lines_of y
+      → PlaysInFront holds failures wants reading.show universes (lines_of y) h h' outlets outlets'
+      → WritesPrefix (Run universes form) x h h' × LivesInFront holds failures wants universes form x h h' outlets outlets'
+  prefix_at holds failures wants x y reading h h' outlets outlets' read script a =
+      let plays : PlaysInFront holds failures wants reading.show universes (script_of x) h h' outlets outlets' =
+      subst (λ (ls : List (List ℕ)). PlaysInFront holds failures wants reading.show universes ls h h' outlets outlets') (sym script) a in
+      let front = front_of_all (opened reading.show) (script_of x) plays.places plays.lines h h' plays.text in (
+        record {
+          places = plays.places;
+          wants = tt;
+          text = subst (λ (t : List ℕ). AppendsFront h h' t)
+              (sym (ap (λ r. over_show r (λ z. replies (opened z.show) (script_of x) plays.places)) read)) front;
+        },
+        record { reading = reading; read = read; plays = plays },
+      )
+
+  taken_at : {K : Type 0} (holds : K → Option (List ℕ)) (failures wants : K → ℕ) (x y : List ℕ) (left h h' : Option (List ℕ))
+      (outlets outlets' : List (Option K)) (i j : ℕ) (raws : List (List ℕ)) (reading : Reading) → i ≡ 0
+      → LinesBetween (Some x) (Some y) i j raws
+      → lines_read (lines_of x) ≡ length raws → reads form x ≡ Ok reading → script_of x ≡ lines_of y
+      → PlaysTaken holds failures wants reading.show universes j y left h h' outlets outlets'
+      → LivesTaken holds failures wants universes form x left h h' outlets outlets'
+  taken_at holds failures wants x y left h h' outlets outlets' i j raws reading none took shown text script a =
+      let n = a.cut.lines in
+      let mine : took.bytes ≡ first_lines (length raws) (took.bytes ++ y) = took.front ∙ ap (first_lines (length raws)) took.took in
+      let first : first_lines (length raws + n) x ≡ took.bytes ++ first_lines n y = ap (first_lines (length raws + n)) took.took
+      ∙ first_lines-more (length raws) n took.bytes y mine in
+      let count : j + length (first_lines n y) ≡ 0 + length (first_lines (length raws + n) x) =
+      omega (arith, none, took.count, ap length first, length-append took.bytes (first_lines n y)) in
+      let done : n ≡ length raws + n - lines_read (lines_of x) = omega (arith, shown) in
+      record {
+        reading = reading;
+        read = text;
+        places = a.places;
+        cut = record {
+          lines = length raws + n;
+          next = a.cut.next;
+          taken = if_known left _ _ a.cut.taken (λ rest e.
+              took.took ∙ ap (λ v. took.bytes ++ v) e ∙ sym (append_assoc took.bytes (first_lines n y) (a.cut.next ++ rest))
+              ∙ ap (λ v. v ++ (a.cut.next ++ rest)) (sym first));
+          within = omega (arith, count, a.cut.within);
+          no_feed = subst (λ k. HasNoFeed (take (INPUT_BYTES - k) a.cut.next)) count a.cut.no_feed;
+        };
+        text = subst (λ (k : ℕ). Appends h h' (after_first (opened reading.show) (script_of x) a.places k).text) done
+            (subst (λ (ls : List (List ℕ)). Appends h h' (after_first (opened reading.show) ls a.places n).text) (sym script) a.text);
+        served = subst (λ (k : ℕ). AreServed holds failures wants reading.show universes outlets outlets'
+            (after_first (opened reading.show) (script_of x) a.places k).accepted) done
+            (subst (λ (ls : List (List ℕ)). AreServed holds failures wants reading.show universes outlets outlets'
+            (after_first (opened reading.show) ls a.places n).accepted) (sym script) a.served);
+      }
+
+  -- the same, as it is told of a job
+  as_taken : {K : Type 0} (holds : K → Option (List ℕ)) (failures wants : K → ℕ) (x : List ℕ) (left h h' : Option (List ℕ))
+      (outlets outlets' : List (Option K))
+      → LivesTaken holds failures wants universes form x left h h' outlets outlets' → RepliesToTaken (Run universes form) x left h h'
+  as_taken holds failures wants x left h h' outlets outlets' a = record {
+    places = a.places;
+    wants = tt;
+    cut = a.cut;
+    text = subst (λ (t : List ℕ). Appends h h' t)
+        (sym (ap (λ r. first_replies r (script_of x) a.places (a.cut.lines - lines_read (lines_of x))) a.read)) a.text;
+  }
+
+  -- nothing was written
+  nothing_lived : (x : List ℕ) (h h' : Option (List ℕ)) → h' ≡ h → WritesPrefix (Run universes form) x h h'
+  nothing_lived x h h' kept =
+      subst (λ (v : Option (List ℕ)). WritesPrefix (Run universes form) x h v) (sym kept)
+      (record { places = []; wants = tt; text = front_nothing h (render_output form x []) })
+
+  -- a script over a show that was read
+  pub live_ended : {S K : Type 0} (left : S → Option (List ℕ)) (faults : S → ℕ) (holds : K → Option (List ℕ)) (failures wants : K → ℕ)
+      (a b : Lines S) (loaded : Loaded) (o rest h h' : Option (List ℕ)) (outlets outlets' : List (Option K)) (s : Status)
+      → unread left a ≡ o → a.taken ≡ 0 → HasRead left faults a b form loaded
+      → IfSome (unread left b) (λ y. HasPlayedLive s holds failures wants loaded.show universes b.taken y rest h h' outlets outlets')
+      → IfSome o (λ x. HasLived s holds failures wants universes form x rest h h' outlets outlets')
+  live_ended left faults holds failures wants a b loaded o rest h h' outlets outlets' status.Ok is none r p =
+      both_known o _ _ _ (session_fits form left faults a b loaded o is none r (if_known (unread left b) _ _ p (λ y q. q.1)))
+      (over_loaded form left faults a b loaded o (λ y. PlaysScript holds loaded.show universes (lines_of y) h h' outlets outlets')
+      (λ x. length (input_wanted form x) ≤ INPUT_BYTES → PlaysWhole holds universes form x h h' outlets outlets') is r
+      (if_known (unread left b) _ _ p (λ y q. q.0))
+      (λ x y raws took shown text script q fits. whole_at holds x y (reading_of loaded) h h' outlets outlets' text script fits q))
+      (λ x fits f. f fits)
+  live_ended left faults holds failures wants a b loaded o rest h h' outlets outlets' status.ReadFault is none r p =
+      over_loaded form left faults a b loaded o (λ y. PlaysTaken holds failures wants loaded.show universes b.taken y rest h h' outlets outlets')
+      _ is r p
+      (λ x y raws took shown text script q.
+      let taken = taken_at holds failures wants x y rest h h' outlets outlets' a.taken b.taken raws (reading_of loaded) none took shown text
+      script q in
+      (as_taken holds failures wants x rest h h' outlets outlets' taken, inr taken))
+  live_ended left faults holds failures wants a b loaded o rest h h' outlets outlets' status.InputTooLong is none r p =
+      both_known o _ _ _
+      (over_loaded form left faults a b loaded o (λ y. PlaysTaken holds failures wants loaded.show universes b.taken y rest h h' outlets
+      outlets') (λ x. LivesTaken holds failures wants universes form x rest h h' outlets outlets') is r
+      (if_known (unread left b) _ _ p (λ y q. q.0))
+      (λ x y raws took shown text script q. taken_at holds failures wants x y rest h h' outlets outlets' a.taken b.taken raws
+      (reading_of loaded) none took shown text script q))
+      (session_long form left faults a b loaded o is none r (if_known (unread left b) _ _ p (λ y q. q.1)))
+      (λ x taken long. ((as_taken holds failures wants x rest h h' outlets outlets' taken, long), inr taken))
+  live_ended left faults holds failures wants a b loaded o rest h h' outlets outlets' status.WriteFault is none r p =
+      over_loaded form left faults a b loaded o (λ y. PlaysInFront holds failures wants loaded.show universes (lines_of y) h h' outlets outlets')
+      _ is r p
+      (λ x y raws took shown text script q. let w =
+      prefix_at holds failures wants x y (reading_of loaded) h h' outlets outlets' text script q in (w.0, inr w.1))
+  live_ended left faults holds failures wants a b loaded o rest h h' outlets outlets' status.Memory is none r p =
+      over_loaded form left faults a b loaded o (λ y. ((h' ≡ h) × (outlets' ≡ outlets))
+      ⊎ PlaysInFront holds failures wants loaded.show universes (lines_of y) h h' outlets outlets') _ is r p
+      (λ x y raws took shown text script q. elim q [
+        | inl kept ↦ (nothing_lived x h h' kept.0, inl (kept.1, λ ok. kept.0))
+        | inr plays ↦ let w = prefix_at holds failures wants x y (reading_of loaded) h h' outlets outlets' text script plays in
+            (w.0, inr w.1)
+      ])
+  live_ended left faults holds failures wants a b loaded o rest h h' outlets outlets' status.ShowRefused is none r p =
+      over_loaded form left faults a b loaded o (λ y. ⊥) _ is r p (λ x y raws took shown text script q. absurd q)
+  live_ended left faults holds failures wants a b loaded o rest h h' outlets outlets' status.Usage is none r p =
+      over_loaded form left faults a b loaded o (λ y. ⊥) _ is r p (λ x y raws took shown text script q. absurd q)
+  live_ended left faults holds failures wants a b loaded o rest h h' outlets outlets' status.Live is none r p =
+      over_loaded form left faults a b loaded o (λ y. ⊥) _ is r p (λ x y raws took shown text script q. absurd q)
+
+  refused_at : {K : Type 0} (holds : K → Option (List ℕ)) (failures wants : K → ℕ) (x : List ℕ) (rest h h' : Option (List ℕ))
+      (outlets : List (Option K)) (fault : ShowFault) (s : Status)
+      → RefusedBy h h' fault s → HasEnded s (Run universes form) x rest h h' → (IsOk (reads form x) → h' ≡ h)
+      → HasLived s holds failures wants universes form x rest h h' outlets outlets
+  refused_at holds failures wants x rest h h' outlets fault status.Ok by e none = refusal_isnt_ok h h' fault status.Ok _ by refl
+  refused_at holds failures wants x rest h h' outlets fault status.ShowRefused by e none = (e, refl)
+  refused_at holds failures wants x rest h h' outlets fault status.Usage by e none = absurd e
+  refused_at holds failures wants x rest h h' outlets fault status.ReadFault by e none = (e, inl (refl, none))
+  refused_at holds failures wants x rest h h' outlets fault status.WriteFault by e none = (e, inl (refl, none))
+  refused_at holds failures wants x rest h h' outlets fault status.Memory by e none = (e, inl (refl, none))
+  refused_at holds failures wants x rest h h' outlets fault status.InputTooLong by e none = (e, inl (refl, none))
+  refused_at holds failures wants x rest h h' outlets fault status.Live by e none = absurd (refusal_ends h h' fault status.Live by)
+
+  -- of a show that isn't read, no script line is answered
+  none_answered : (o h h' : Option (List ℕ)) (text : TextFault) → IfSome o (λ x. reads form x ≡ Err text)
+      → IfSome o (λ x. IsOk (reads form x) → h' ≡ h)
+  none_answered o h h' text refused = if_known o _ _ refused (λ x e ok. let bad : false ≡ true = subst (λ r. IsOk r) e ok in absurd cc)
+
+  all_none : (o h h' : Option (List ℕ)) → h' ≡ h → IfSome o (λ x. IsOk (reads form x) → h' ≡ h)
+  all_none None h h' kept = tt
+  all_none (Some x) h h' kept = λ ok. kept
+
+  unanswered : {S : Type 0} (left : S → Option (List ℕ)) (a b : Lines S) (o h h' : Option (List ℕ)) (fault : ShowFault) (s : Status)
+      → unread left a ≡ o → Says form left a b fault → RefusedBy h h' fault s → IfSome o (λ x. IsOk (reads form x) → h' ≡ h)
+  unanswered left a b o h h' fault s is says by = elim by [
+    | inl text ↦ subst (λ (v : Option (List ℕ)). IfSome v (λ x. IsOk (reads form x) → h' ≡ h)) is
+        (none_answered (unread left a) h h' text.text (means_of form left a b fault text.text text.told says).text)
+    | inr other ↦ all_none o h h' other.kept
+  ]
+
+  -- a show that isn't read
+  pub refused_lived : {S K : Type 0} (left : S → Option (List ℕ)) (holds : K → Option (List ℕ)) (failures wants : K → ℕ) (a b : Lines S)
+      (o h h' : Option (List ℕ)) (outlets : List (Option K)) (fault : ShowFault) (s : Status)
+      → unread left a ≡ o → a.taken ≡ 0 → Says form left a b fault → RefusedBy h h' fault s
+      → IfSome o (λ x. HasLived s holds failures wants universes form x (left b.source.now) h h' outlets outlets)
+  refused_lived left holds failures wants a b o h h' outlets fault s is none says by =
+      both_known o _ _ _ (refusal_ended form (Run universes form) (run_over form universes) left a b o h h' fault s is none says by)
+      (unanswered left a b o h h' fault s is says by)
+      (λ x e unread. refused_at holds failures wants x (left b.source.now) h h' outlets fault s by e unread)
+
+-- the status of a refused show isn't that of words
+pub refused_words : (h h' : Option (List ℕ)) (fault : ShowFault) (s : Status) → RefusedBy h h' fault s → s ≢ status.Usage
+refused_words h h' fault s by = λ e. subst (λ (t : Status). EndsJob t) e (refusal_ends h h' fault s by)

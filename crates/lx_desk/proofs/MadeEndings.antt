@@ -1,0 +1,283 @@
+-- What `make` writes, from the reader's answer and the session's.
+use Rattle.std.proofs.Common.{◌≡◌, ◌⊎◌, inl, inr, ℕ, ◌+◌, ◌≤◌, true, Option, Some, None, Result, Ok, Err, IfSome, IsOk, IsErr, List, []}
+use Rattle.std.proofs.Common.{◌∷◌, ◌++◌, length, sum, refl, sym, ap, ◌∙◌, subst, arith}
+use Rattle.std.specs.Prelude.{codes, decimal}
+use Rattle.std.specs.List.{before_first}
+use Rattle.std.specs.Io.KnownBytes.{Appends}
+use Rattle.lx_base.specs.declared.TheConstants.{INPUT_BYTES}
+use Rattle.lx_io.specs.Puts.{AppendsFront}
+use Rattle.lx_lex.specs.declared.lines.Lines.{Lines}
+use Rattle.lx_lex.specs.Unread.{unread}
+use Rattle.lx_spec.specs.declared.Command.{Command}
+use Rattle.lx_spec.specs.declared.Form.TheVariants.{Moves}
+use Rattle.lx_spec.specs.declared.Job.TheVariants.{Render, Make}
+use Rattle.lx_spec.specs.declared.TextFault.{TextFault}
+use Rattle.lx_spec.specs.Text.{lines_of}
+use Rattle.lx_spec.specs.Desk.{Desk, opened}
+use Rattle.lx_spec.specs.Kept.{Kept}
+use Rattle.lx_spec.specs.Output.{frame}
+use Rattle.lx_spec.specs.ShowText.{line}
+use Rattle.lx_spec.specs.Session.{Session, Counts, session, begin_at, ends_script, bytes_wanted}
+use Rattle.lx_spec.specs.RefusedPlaces.{PlacesAreEdits}
+use Rattle.lx_spec.specs.Reading.{Reading, reads, script_of}
+use Rattle.lx_spec.specs.FaultLine.{over_show, fault_text}
+use Rattle.lx_spec.specs.RenderOutput.{rendered, OutputPlacesAreEdits}
+use Rattle.lx_spec.specs.MakeOutput.{made_input, made_text, make_output}
+use Rattle.lx_console.specs.Standing.{StandsFor}
+use Rattle.lx_session.specs.declared.fault.SessionFault.{SessionFault}
+use Rattle.lx_session.specs.declared.fault.SessionFault.TheVariants as session_faults
+use Rattle.lx_session.specs.declared.tally.Tally.{Tally}
+use Rattle.lx_session.specs.LineReply.{counts_in}
+use Rattle.lx_session.specs.SessionOutcome.{WholeScript, KeepsLimit, HasSessionCause}
+use Rattle.lx_session.proofs.Places.{wants_nothing}
+use Rattle.lx_reader.specs.declared.loaded.Loaded.{Loaded}
+use Rattle.lx_reader.specs.declared.fault.ShowFault.{ShowFault}
+use Rattle.lx_reader.specs.declared.fault.ShowFault.TheVariants as faults
+use Rattle.lx_reader.specs.Answer.{reading_of, HasRead}
+use Rattle.lx_desk.specs.declared.desk.Status.{Status}
+use Rattle.lx_desk.specs.declared.desk.Status.TheVariants as status
+use Rattle.lx_desk.specs.declared.make.Report.{Report}
+use Rattle.lx_desk.specs.Faults.{status_for}
+use Rattle.lx_desk.specs.Output.{WritesAll, WritesPrefix}
+use Rattle.lx_desk.specs.Refused.{RefusedBy, RefusesText, status_kept}
+use Rattle.lx_desk.specs.Endings.{EndsScript, HasEnded, HasCauseOf, WritesWhole}
+use Rattle.lx_desk.specs.Made.{HasTold, TellsSession, TellsInFront, report_of, report_text}
+use Rattle.lx_desk.proofs.Inputs.{Says, means_of, no_place, nothing_wanted, front_nothing, over_loaded, refusal_fits, kept_is, if_known}
+use Rattle.lx_desk.proofs.Inputs.{both_known}
+use Rattle.lx_desk.proofs.Inputs.{refusal_long, session_long, session_fits}
+use Rattle.lx_desk.proofs.ScriptJobs.{render_over}
+use Rattle.lx_desk.proofs.Sessions.{desk_of_session}
+
+-- ---- the session
+
+-- the report of the desk at its end
+report_is : (cues : ℕ) (s : Session) (d : Desk) (tally : Tally) (r : Report) → r ≡ report_of cues d tally → d ≡ s.desk
+    → counts_in tally ≡ s.counts → report_text r ≡ made_text cues s
+report_is cues s d tally r is desk counts =
+    ap report_text (is ∙ ap (λ (e : Desk). report_of cues e tally) desk)
+    ∙ ap (λ (c : Counts). line (codes "cues" ∷ decimal cues ∷ []) ++ line (codes "moment" ∷ decimal s.desk.playback.moment ∷ []) ++ line
+    (codes "ok" ∷ decimal c.ok ∷ []) ++ line (codes "refused" ∷ decimal c.refused ∷ []) ++ line
+    (codes "sum" ∷ decimal (sum (frame s.desk 1)) ∷ [])) counts
+
+-- what the report of a console says, where it is said of each desk that the console stands for
+abbrev Reports : ℕ → Kept → Tally → Report → Type 0
+Reports cues console tally r = (d : Desk) → StandsFor d console → r ≡ report_of cues d tally
+
+lines_are : (cues : ℕ) (heard : List Command → Type 0) (d : Desk) (script : List (List ℕ)) (dropped dropped' : Option (List ℕ))
+    (console : Kept) (tally : Tally) (r : Report)
+    → Reports cues console tally r → (w : WholeScript true heard d script dropped dropped' console tally)
+    → report_text r ≡ made_text cues (session d script w.places)
+lines_are cues heard d script dropped dropped' console tally r reports w =
+    report_is cues (session d script w.places) _ tally r (reports _ w.done.stands.now) (sym (desk_of_session d script w.places)) w.counts
+
+told : (cues : ℕ) (heard : List Command → Type 0) (d : Desk) (script : List (List ℕ)) (dropped dropped' h h' : Option (List ℕ))
+    (console : Kept) (tally : Tally) (r : Report)
+    → Reports cues console tally r → Appends h h' (report_text r) → WholeScript true heard d script dropped dropped' console tally
+    → TellsSession cues d script h h'
+told cues heard d script dropped dropped' h h' console tally r reports text w = record {
+  places = w.places;
+  wants = w.wants refl;
+  text = subst (λ (t : List ℕ). Appends h h' t) (lines_are cues heard d script dropped dropped' console tally r reports w) text;
+}
+
+told_front : (cues : ℕ) (heard : List Command → Type 0) (d : Desk) (script : List (List ℕ)) (dropped dropped' h h' : Option (List ℕ))
+    (console : Kept) (tally : Tally) (r : Report)
+    → Reports cues console tally r → AppendsFront h h' (report_text r) → WholeScript true heard d script dropped dropped' console tally
+    → TellsInFront cues d script h h'
+told_front cues heard d script dropped dropped' h h' console tally r reports text w = record {
+  places = w.places;
+  wants = w.wants refl;
+  text = subst (λ (t : List ℕ). AppendsFront h h' t) (lines_are cues heard d script dropped dropped' console tally r reports w) text;
+}
+
+pub session_front_told : (cues : ℕ) (heard : List Command → Type 0) (o : Option (List ℕ)) (d : Desk)
+    (dropped dropped' h h' : Option (List ℕ)) (console : Kept) (tally : Tally) (r : Report)
+    → Reports cues console tally r → AppendsFront h h' (report_text r)
+    → IfSome o (λ bytes. WholeScript true heard d (lines_of bytes) dropped dropped' console tally)
+    → IfSome o (λ bytes. TellsInFront cues d (lines_of bytes) h h')
+session_front_told cues heard o d dropped dropped' h h' console tally r reports text w =
+    if_known o _ _ w (λ x q. told_front cues heard d (lines_of x) dropped dropped' h h' console tally r reports text q)
+
+-- the session ended whole, and its report was written or not
+pub session_told : (cues : ℕ) (heard : List Command → Type 0) (o : Option (List ℕ)) (d : Desk) (taken : ℕ)
+    (dropped dropped' h h' : Option (List ℕ)) (console : Kept) (tally : Tally) (r : Report) (s : Status)
+    → Reports cues console tally r → (s ≡ status.Ok) ⊎ ((s ≡ status.WriteFault) ⊎ (s ≡ status.Memory))
+    → (s ≡ status.Ok → Appends h h' (report_text r)) → AppendsFront h h' (report_text r)
+    → IfSome o (λ bytes. WholeScript true heard d (lines_of bytes) dropped dropped' console tally)
+    → IfSome o (λ bytes. taken + length (bytes_wanted bytes) ≤ INPUT_BYTES)
+    → IfSome o (λ bytes. HasTold s cues d taken bytes h h')
+session_told cues heard o d taken dropped dropped' h h' console tally r s reports kinds whole front w fits =
+    let part = session_front_told cues heard o d dropped dropped' h h' console tally r reports front w in
+    elim kinds [
+      | inl ok ↦ subst (λ t. IfSome o (λ bytes. HasTold t cues d taken bytes h h')) (sym ok)
+          (both_known o _ _ _ w fits (λ x q f. (
+            told cues heard d (lines_of x) dropped dropped' h h' console tally r reports (whole ok) q,
+            f,
+          )))
+      | inr fault ↦ elim fault [
+        | inl write ↦ subst (λ t. IfSome o (λ bytes. HasTold t cues d taken bytes h h')) (sym write) part
+        | inr memory ↦ subst (λ t. IfSome o (λ bytes. HasTold t cues d taken bytes h h')) (sym memory) part
+      ]
+    ]
+
+-- nothing was written about it
+pub nothing_told : (o a : Option (List ℕ)) (cues : ℕ) (d : Desk) → IfSome o (λ bytes. TellsInFront cues d (lines_of bytes) a a)
+nothing_told None a cues d = tt
+nothing_told (Some bytes) a cues d = record {
+  places = [];
+  wants = wants_nothing [] (begin_at d) (before_first ends_script (lines_of bytes)) (λ n has. no_place n 0 has);
+  text = front_nothing a (made_text cues (session d (lines_of bytes) []));
+}
+
+-- a source that never fails
+pub no_read_fault : (s : Status) (reads reads' writes writes' n : ℕ) → reads ≡ 0 → reads' ≡ 0 → HasCauseOf s reads reads' writes writes'
+    → HasCauseOf s n n writes writes'
+no_read_fault status.Ok reads reads' writes writes' n none none' c = tt
+no_read_fault status.ShowRefused reads reads' writes writes' n none none' c = tt
+no_read_fault status.Usage reads reads' writes writes' n none none' c = tt
+no_read_fault status.ReadFault reads reads' writes writes' n none none' c = absurd (omega (arith, none, none', c))
+no_read_fault status.WriteFault reads reads' writes writes' n none none' c = c
+no_read_fault status.Memory reads reads' writes writes' n none none' c = tt
+no_read_fault status.InputTooLong reads reads' writes writes' n none none' c = tt
+no_read_fault status.Live reads reads' writes writes' n none none' c = tt
+
+-- ---- the job
+
+-- nothing was written
+pub nothing_made : (n : ℕ) (h h' : Option (List ℕ)) → h' ≡ h → WritesPrefix (Make n) [] h h'
+nothing_made n h h' kept = subst (λ v. WritesPrefix (Make n) [] h v) (sym kept)
+    (record { places = []; wants = nothing_wanted (made_input n) (reads Moves (made_input n)); text = front_nothing h (make_output n []) })
+
+-- Of the input that is made of a number, over lines that hand it out.
+module _ (n : ℕ) {S : Type 0} (left : S → Option (List ℕ)) (a b : Lines S) (is : unread left a ≡ Some (made_input n)) (none : a.taken ≡ 0)
+  where
+    over_made : (faults : S → ℕ) (loaded : Loaded) (Q : List ℕ → Type 0) (R : Type 0) → HasRead left faults a b Moves loaded
+        → IfSome (unread left b) Q
+        → ((y : List ℕ) → reads Moves (made_input n) ≡ Ok (reading_of loaded) → script_of (made_input n) ≡ lines_of y → Q y → R) → R
+    over_made faults loaded Q R r p f =
+        over_loaded Moves left faults a b loaded (Some (made_input n)) Q (λ x. made_input n ≡ x → R) is r p
+        (λ x y raws took shown read script q e. f y (ap (reads Moves) e ∙ read) (ap script_of e ∙ script) q) refl
+
+    script_places : (y places : List ℕ) (reading : Reading) → reads Moves (made_input n) ≡ Ok reading
+        → script_of (made_input n) ≡ lines_of y
+        → PlacesAreEdits (opened reading.show) (lines_of y) places → OutputPlacesAreEdits (made_input n) places (reads Moves (made_input n))
+    script_places y places reading read script wants =
+        subst (λ r. OutputPlacesAreEdits (made_input n) places r) (sym read)
+        (subst (λ ls. PlacesAreEdits (opened reading.show) ls places) (sym script) wants)
+
+    script_text : (y places : List ℕ) (reading : Reading) → reads Moves (made_input n) ≡ Ok reading
+        → script_of (made_input n) ≡ lines_of y
+        → make_output n places ≡ made_text n (session (opened reading.show) (lines_of y) places)
+    script_text y places reading read script =
+        ap (λ r. over_show r (λ x. made_text n (session (opened x.show) (script_of (made_input n)) places))) read
+        ∙ ap (λ ls. made_text n (session (opened reading.show) ls places)) script
+
+    whole_at : (h h' : Option (List ℕ)) (y : List ℕ) (reading : Reading) → reads Moves (made_input n) ≡ Ok reading
+        → script_of (made_input n) ≡ lines_of y
+        → TellsSession n (opened reading.show) (lines_of y) h h' → WritesAll (Make n) [] h h'
+    whole_at h h' y reading read script t = record {
+      places = t.places;
+      wants = script_places y t.places reading read script t.wants;
+      text = subst (λ (v : List ℕ). Appends h h' v) (sym (script_text y t.places reading read script)) t.text;
+    }
+
+    front_at : (h h' : Option (List ℕ)) (y : List ℕ) (reading : Reading) → reads Moves (made_input n) ≡ Ok reading
+        → script_of (made_input n) ≡ lines_of y
+        → TellsInFront n (opened reading.show) (lines_of y) h h' → WritesPrefix (Make n) [] h h'
+    front_at h h' y reading read script t = record {
+      places = t.places;
+      wants = script_places y t.places reading read script t.wants;
+      text = subst (λ (v : List ℕ). AppendsFront h h' v) (sym (script_text y t.places reading read script)) t.text;
+    }
+
+    pub made_front : (faults : S → ℕ) (loaded : Loaded) (h h' : Option (List ℕ)) → HasRead left faults a b Moves loaded
+        → IfSome (unread left b) (λ y. TellsInFront n (opened loaded.show) (lines_of y) h h') → WritesPrefix (Make n) [] h h'
+    made_front faults loaded h h' r p =
+        over_made faults loaded _ _ r p (λ y read script t. front_at h h' y (reading_of loaded) read script t)
+
+    pub made_ended : (faults : S → ℕ) (loaded : Loaded) (rest h h' : Option (List ℕ)) (s : Status) → HasRead left faults a b Moves loaded
+        → EndsScript s
+        → IfSome (unread left b) (λ y. HasTold s n (opened loaded.show) b.taken y h h') → HasEnded s (Make n) [] rest h h'
+    made_ended faults loaded rest h h' status.Ok r ends p =
+        over_made faults loaded _ _ r p (λ y read script t. (
+          record {
+            text = whole_at h h' y (reading_of loaded) read script t.0;
+            within = session_fits Moves left faults a b loaded (Some (made_input n)) is none r
+                (if_known (unread left b) _ _ p (λ z q. q.1));
+          },
+          subst (λ (v : Result Reading TextFault). IsOk v) (sym read) refl,
+        ))
+    made_ended faults loaded rest h h' status.ShowRefused r ends p = absurd ends
+    made_ended faults loaded rest h h' status.Usage r ends p = absurd ends
+    made_ended faults loaded rest h h' status.ReadFault r ends p = over_made faults loaded _ _ r p (λ y read script t. t)
+    made_ended faults loaded rest h h' status.WriteFault r ends p = made_front faults loaded h h' r p
+    made_ended faults loaded rest h h' status.Memory r ends p = made_front faults loaded h h' r p
+    made_ended faults loaded rest h h' status.InputTooLong r ends p = (
+      over_made faults loaded _ _ r p (λ y read script t. t.0),
+      session_long Moves left faults a b loaded (Some (made_input n)) is none r (if_known (unread left b) _ _ p (λ z q. q.1)),
+    )
+    made_ended faults loaded rest h h' status.Live r ends p = absurd ends
+
+    -- a made show that isn't read
+    fault_is : (fault : ShowFault) (h h' : Option (List ℕ)) (s : Status) → Says Moves left a b fault → (t : RefusesText h h' fault s)
+        → reads Moves (made_input n) ≡ Err t.text
+    fault_is fault h h' s says t = subst (λ (v : Option (List ℕ)). IfSome v (λ x. reads Moves x ≡ Err t.text)) is
+        (means_of Moves left a b fault t.text t.told says).text
+
+    line_is : (fault : TextFault) → reads Moves (made_input n) ≡ Err fault → make_output n [] ≡ fault_text fault
+    line_is fault read = ap (λ r. over_show r (λ x. made_text n (rendered (made_input n) [] x))) read
+
+    refused_front : (fault : ShowFault) (h h' : Option (List ℕ)) (s : Status) → Says Moves left a b fault → RefusesText h h' fault s
+        → WritesPrefix (Make n) [] h h'
+    refused_front fault h h' s says t = record {
+      places = [];
+      wants = nothing_wanted (made_input n) (reads Moves (made_input n));
+      text = subst (λ (v : List ℕ). AppendsFront h h' v) (sym (line_is t.text (fault_is fault h h' s says t))) t.front;
+    }
+
+    refused_whole : (fault : ShowFault) (h h' : Option (List ℕ)) (s : Status) → Says Moves left a b fault → RefusedBy h h' fault s
+        → (t : RefusesText h h' fault s) → s ≡ status.ShowRefused
+        → WritesWhole (Make n) [] h h' × IsErr (reads Moves (made_input n))
+    refused_whole fault h h' s says by t refused =
+        let read = fault_is fault h h' s says t in (
+          record {
+            text = record {
+              places = [];
+              wants = nothing_wanted (made_input n) (reads Moves (made_input n));
+              text = subst (λ (v : List ℕ). Appends h h' v) (sym (line_is t.text read)) (t.whole refused);
+            };
+            within = refusal_fits Moves (Render Moves) (render_over Moves) left a b (Some (made_input n)) h h' fault s is none says by
+                refused;
+          },
+          subst (λ (v : Result Reading TextFault). IsErr v) (sym read) refl,
+        )
+
+    kept_made : (rest h h' : Option (List ℕ)) (fault : ShowFault) (s : Status) → Says Moves left a b fault → RefusedBy h h' fault s → h' ≡ h
+        → status_kept fault s → HasEnded s (Make n) [] rest h h'
+    kept_made rest h h' fault s says by same kept =
+        kept_is fault s (λ f t. Says Moves left a b f → RefusedBy h h' f t → HasEnded t (Make n) [] rest h h') kept
+        (λ said told. same)
+        (λ said told. (
+          same,
+          refusal_long Moves (Render Moves) (render_over Moves) left a b (Some (made_input n)) h h' faults.InputTooLong status.InputTooLong is
+              none said told refl,
+        ))
+        (λ said told. nothing_made n h h' same) says by
+
+    pub made_refused : (rest h h' : Option (List ℕ)) (fault : ShowFault) (s : Status) → Says Moves left a b fault → RefusedBy h h' fault s
+        → HasEnded s (Make n) [] rest h h'
+    made_refused rest h h' fault s says by = elim by [
+      | inl t ↦ elim t.kinds [
+        | inl refused ↦ subst (λ v. HasEnded v (Make n) [] rest h h') (sym refused) (refused_whole fault h h' s says (inl t) t refused)
+        | inr other ↦ elim other [
+          | inl write ↦ subst (λ v. HasEnded v (Make n) [] rest h h') (sym write) (refused_front fault h h' s says t)
+          | inr memory ↦ subst (λ v. HasEnded v (Make n) [] rest h h') (sym memory) (refused_front fault h h' s says t)
+        ]
+      ]
+      | inr other ↦ kept_made rest h h' fault s says (inr other) other.kept other.is
+    ]
+
+    pub made_refused_front : (h h' : Option (List ℕ)) (fault : ShowFault) (s : Status) → Says Moves left a b fault → RefusedBy h h' fault s
+        → WritesPrefix (Make n) [] h h'
+    made_refused_front h h' fault s says by =
+        elim by [ inl t ↦ refused_front fault h h' s says t | inr other ↦ nothing_made n h h' other.kept ]

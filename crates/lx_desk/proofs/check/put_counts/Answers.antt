@@ -1,0 +1,14 @@
+use Rattle.std.proofs.Common.{◌++◌}
+use Rattle.std.specs.Prelude.{codes, decimal}
+use Rattle.lx_io.proofs.Chain.{Puts-then, Puts-stops}
+use Rattle.lx_desk.proofs.check.put_counts.Goals as goal
+
+pub returns-in_err-put_count : goal.returns-in_err-put_count
+returns-in_err-put_count g c =
+    Puts-then c.in_ok-put_all.ensures (Puts-stops (codes " channels " ++ decimal c.args.channels) c.in_err-put_count.ensures
+    c.from_residual-in_err-put_count.ensures)
+
+pub returns-in_err-put_all-2 : goal.returns-in_err-put_all-2
+returns-in_err-put_all-2 g c =
+    Puts-then c.in_ok-put_all.ensures (Puts-then c.in_ok-put_count.ensures
+    (Puts-stops (decimal c.args.channels) c.in_err-put_all-2.ensures c.from_residual-in_err-put_all-2.ensures))

@@ -1,0 +1,37 @@
+use Rattle.std.proofs.Common.{refl, IfSome, sym, ◌∙◌, subst}
+use Rattle.lx_desk.specs.Crew.{HasCrewEnded}
+use Rattle.lx_desk.proofs.CrewRuns.{kept_places}
+use Rattle.lx_desk.proofs.LiveEnds.{refused_words}
+use Rattle.lx_desk.proofs.CrewEnds.{crew_ended, crew_front, refused_ended, refused_front, served_cause}
+use Rattle.lx_desk.proofs.crew.run_crew.Goals as goal
+
+pub returns-in-Ok-clause-ended : goal.returns-in-Ok-clause-ended
+returns-in-Ok-clause-ended g c =
+    crew_ended c.args.form c.args.count _ _ _ _ _ _ c.in-Ok.loaded _ _ _ _ _ _ c.serve.result c.new-lines.ensures.unread
+    c.new-lines.ensures.taken c.in-Ok.ensures.answer c.serve.ensures.served
+
+pub returns-in-Ok-clause-prefix : goal.returns-in-Ok-clause-prefix
+returns-in-Ok-clause-prefix g c =
+    crew_front c.args.form c.args.count _ _ _ _ _ c.in-Ok.loaded _ _ _ _ c.new-lines.ensures.unread c.in-Ok.ensures.answer
+    c.serve.ensures.prefix
+
+pub returns-in-Ok-clause-cause : goal.returns-in-Ok-clause-cause
+returns-in-Ok-clause-cause g c = served_cause _ c.serve.result _ _ _ _ _ _ _ c.serve.ensures.read c.serve.ensures.write
+
+pub returns-in-Err-clause-words : goal.returns-in-Err-clause-words
+returns-in-Err-clause-words g c =
+    (refused_words _ _ c.in-Err.fault c.refuse.result c.refuse.ensures.refused, kept_places _ _ _ refl c.requires.full)
+
+pub returns-in-Err-clause-ended : goal.returns-in-Err-clause-ended
+returns-in-Err-clause-ended g c =
+    let same = c.input-1.given.1 (sym (c.in-Err.ensures.same_reference ∙ c.new-lines.ensures.same_reference)) in
+    subst (λ v. IfSome (g.I.Source.left c.args.input.now)
+    (λ bytes. HasCrewEnded g.S.Source.left g.S.Source.faults c.args.count c.args.form bytes (g.I.Source.left v) c.args.operators.now
+    c.args.operators.now (g.K.Sink.holds c.args.output.now) (g.K.Sink.holds c.refuse.new.output) c.refuse.result)) (sym same)
+    (refused_ended c.args.form c.args.count _ _ _ c.new-lines.result c.read_show.new.lines _ _ _ _ c.in-Err.fault c.refuse.result
+    c.new-lines.ensures.unread c.new-lines.ensures.taken c.in-Err.ensures.answer c.refuse.ensures.refused)
+
+pub returns-in-Err-clause-prefix : goal.returns-in-Err-clause-prefix
+returns-in-Err-clause-prefix g c =
+    refused_front c.args.form c.args.count _ _ c.new-lines.result c.read_show.new.lines _ _ _ _ c.in-Err.fault c.refuse.result
+    c.new-lines.ensures.unread c.in-Err.ensures.answer c.refuse.ensures.refused

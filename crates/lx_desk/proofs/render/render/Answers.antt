@@ -1,0 +1,43 @@
+use Rattle.std.proofs.Common.{sym, ◌∙◌, subst, IfSome}
+use Rattle.lx_spec.specs.declared.Job.TheVariants.{Render}
+use Rattle.lx_desk.specs.Endings.{HasEnded}
+use Rattle.lx_desk.proofs.Inputs.{session_front, refusal_front}
+use Rattle.lx_desk.specs.Answering.{render_by}
+use Rattle.lx_desk.proofs.ScriptJobs.{render_script, render_over}
+use Rattle.lx_desk.proofs.Endings.{script_job, script_ended, refusal_ends, refusal_ended}
+use Rattle.lx_desk.proofs.render.render.Goals as goal
+
+pub returns-in-Ok-clause-works : goal.returns-in-Ok-clause-works
+returns-in-Ok-clause-works g c = script_job c.play.result c.play.ensures.works
+
+pub returns-in-Ok-clause-ended : goal.returns-in-Ok-clause-ended
+returns-in-Ok-clause-ended g c =
+    let same = c.input-1.given.1 (sym (c.play.ensures.same_reference ∙ c.in-Ok.ensures.same_reference
+    ∙ c.new-lines.ensures.same_reference)) in
+    subst (λ v. IfSome (g.S.Source.left c.args.input.now)
+    (λ bytes. HasEnded c.play.result (Render c.args.form) bytes (g.S.Source.left v) (g.K.Sink.holds c.args.output.now)
+    (g.K.Sink.holds c.play.new.output))) (sym same)
+    (script_ended c.args.form (Render c.args.form) render_by (render_script c.args.form) _ _ _ _ c.in-Ok.loaded _ _ _ _ c.play.result
+    c.new-lines.ensures.unread c.new-lines.ensures.taken c.in-Ok.ensures.answer c.play.ensures.works c.play.ensures.ended)
+
+pub returns-in-Ok-clause-prefix : goal.returns-in-Ok-clause-prefix
+returns-in-Ok-clause-prefix g c = session_front c.args.form (Render c.args.form) render_by (render_script c.args.form) _ _ _ _
+    c.in-Ok.loaded _ _ _ c.new-lines.ensures.unread c.in-Ok.ensures.answer
+    c.play.ensures.front
+
+pub returns-in-Err-clause-works : goal.returns-in-Err-clause-works
+returns-in-Err-clause-works g c = refusal_ends _ _ c.in-Err.fault c.refuse.result c.refuse.ensures.refused
+
+pub returns-in-Err-clause-ended : goal.returns-in-Err-clause-ended
+returns-in-Err-clause-ended g c =
+    let same = c.in-Err.input-in-Err-1-own.given.1 (sym (c.in-Err.ensures.same_reference ∙ c.new-lines.ensures.same_reference)) in
+    subst (λ v. IfSome (g.S.Source.left c.args.input.now)
+    (λ bytes. HasEnded c.refuse.result (Render c.args.form) bytes (g.S.Source.left v) (g.K.Sink.holds c.args.output.now)
+    (g.K.Sink.holds c.refuse.new.output))) (sym same)
+    (refusal_ended c.args.form (Render c.args.form) (render_over c.args.form) _ c.new-lines.result c.read_show.new.lines _ _ _
+    c.in-Err.fault c.refuse.result c.new-lines.ensures.unread c.new-lines.ensures.taken c.in-Err.ensures.answer
+    c.refuse.ensures.refused)
+
+pub returns-in-Err-clause-prefix : goal.returns-in-Err-clause-prefix
+returns-in-Err-clause-prefix g c = refusal_front c.args.form (Render c.args.form) (render_over c.args.form) _ c.new-lines.result
+    c.read_show.new.lines _ _ _ c.in-Err.fault _ c.new-lines.ensures.unread c.in-Err.ensures.answer c.refuse.ensures.refused

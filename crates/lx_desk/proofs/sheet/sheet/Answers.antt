@@ -1,0 +1,38 @@
+use Rattle.std.proofs.Common.{sym, ◌∙◌, subst, IfSome}
+use Rattle.lx_spec.specs.declared.Job.TheVariants.{Sheet}
+use Rattle.lx_spec.specs.SheetOutput.{sheet_text}
+use Rattle.lx_desk.specs.declared.desk.Status.TheVariants as status
+use Rattle.lx_desk.specs.Endings.{HasEnded}
+use Rattle.lx_desk.proofs.Inputs.{told_prefix, refusal_front, sheet_tells}
+use Rattle.lx_desk.proofs.Endings.{told_ends, told_ended, refusal_ends, refusal_ended}
+use Rattle.lx_desk.proofs.sheet.sheet.Goals as goal
+
+pub returns-in-Ok-clause-works : goal.returns-in-Ok-clause-works
+returns-in-Ok-clause-works g c = told_ends c.list.result status.Ok tt c.list.ensures.kinds
+
+pub returns-in-Ok-clause-ended : goal.returns-in-Ok-clause-ended
+returns-in-Ok-clause-ended g c =
+    told_ended c.args.form _ _ _ _ c.in-Ok.loaded (Sheet c.args.form) sheet_text (sheet_tells c.args.form) _ _ _ _ c.list.result
+    c.new-lines.ensures.unread c.new-lines.ensures.taken c.in-Ok.ensures.answer c.list.ensures.kinds c.list.ensures.ok
+    c.list.ensures.prefix
+
+pub returns-in-Ok-clause-prefix : goal.returns-in-Ok-clause-prefix
+returns-in-Ok-clause-prefix g c = told_prefix c.args.form _ _ _ _ c.in-Ok.loaded (Sheet c.args.form) sheet_text (sheet_tells c.args.form) _
+    _ _ c.new-lines.ensures.unread c.in-Ok.ensures.answer c.list.ensures.prefix
+
+pub returns-in-Err-clause-works : goal.returns-in-Err-clause-works
+returns-in-Err-clause-works g c = refusal_ends _ _ c.in-Err.fault c.refuse.result c.refuse.ensures.refused
+
+pub returns-in-Err-clause-ended : goal.returns-in-Err-clause-ended
+returns-in-Err-clause-ended g c =
+    let same = c.input-1.given.1 (sym (c.in-Err.ensures.same_reference ∙ c.new-lines.ensures.same_reference)) in
+    subst (λ v. IfSome (g.S.Source.left c.args.input.now)
+    (λ bytes. HasEnded c.refuse.result (Sheet c.args.form) bytes (g.S.Source.left v) (g.K.Sink.holds c.args.output.now)
+    (g.K.Sink.holds c.refuse.new.output))) (sym same)
+    (refusal_ended c.args.form (Sheet c.args.form) ((sheet_tells c.args.form).over) _ c.new-lines.result c.read_show.new.lines _ _ _
+    c.in-Err.fault c.refuse.result c.new-lines.ensures.unread c.new-lines.ensures.taken c.in-Err.ensures.answer
+    c.refuse.ensures.refused)
+
+pub returns-in-Err-clause-prefix : goal.returns-in-Err-clause-prefix
+returns-in-Err-clause-prefix g c = refusal_front c.args.form (Sheet c.args.form) ((sheet_tells c.args.form).over) _ c.new-lines.result
+    c.read_show.new.lines _ _ _ c.in-Err.fault _ c.new-lines.ensures.unread c.in-Err.ensures.answer c.refuse.ensures.refused

@@ -1,0 +1,161 @@
+-- What a run of several operators comes to.
+use Rattle.std.specs.Prelude.{◌≡◌, ◌⊎◌, ◌≢◌, ℕ, ◌+◌, ◌<◌, ◌≤◌, Option, Some, None, IfSome, IsSome, Result, Ok, Err, List, []}
+use Rattle.std.specs.Prelude.{length, take, drop, slice_get}
+use Rattle.std.specs.Io.KnownBytes.{Appends}
+use Rattle.lx_base.specs.declared.TheConstants.{INPUT_BYTES}
+use Rattle.lx_io.specs.declared.sink.SinkFault.{SinkFault}
+use Rattle.lx_io.specs.declared.sink.SinkFault.TheVariants.{Failed, Memory}
+use Rattle.lx_io.specs.Causes.{Rose}
+use Rattle.lx_io.specs.Puts.{AppendsFront}
+use Rattle.lx_spec.specs.declared.Form.{Form}
+use Rattle.lx_spec.specs.declared.Job.{Job}
+use Rattle.lx_spec.specs.declared.Job.TheVariants.{Crew}
+use Rattle.lx_spec.specs.declared.TextFault.{TextFault}
+use Rattle.lx_spec.specs.Show.{Show}
+use Rattle.lx_spec.specs.Desk.{opened}
+use Rattle.lx_spec.specs.Reading.{Reading, reads}
+use Rattle.lx_spec.specs.FaultLine.{fault_text}
+use Rattle.lx_spec.specs.Job.{show_wanted}
+use Rattle.lx_spec.specs.CrewText.{CrewEntry, lines_up_to_quit, of_operator, numbered_from, Merged, crew_text, CrewPlacesAreEdits}
+use Rattle.lx_session.specs.Known.{Known}
+use Rattle.lx_crew.specs.declared.fault.OperatorFault.{OperatorFault}
+use Rattle.lx_crew.specs.declared.fault.OperatorFault.TheVariants as ends
+use Rattle.lx_crew.specs.Hired.{EachAt}
+use Rattle.lx_crew.specs.Crewed.{IsBack}
+use Rattle.lx_crew.specs.Transcripts.{TranscriptPrefix}
+use Rattle.lx_desk.specs.declared.desk.Status.{Status}
+use Rattle.lx_desk.specs.declared.desk.Status.TheVariants as status
+use Rattle.lx_desk.specs.Endings.{HasEnded}
+
+-- no operator has a fault
+abbrev pub NoneTold : List (Option OperatorFault) → Type 0
+NoneTold told = (place : ℕ) (fault : Option OperatorFault) → slice_get told place ≡ Some fault → fault ≡ None
+
+-- this is the fault of the lowest operator that has one
+pub record IsLowest (told : List (Option OperatorFault)) (fault : OperatorFault) : Type 0 where
+  pub place : ℕ
+  pub at : slice_get told place ≡ Some (Some fault)
+  pub below : (lower : ℕ) (other : Option OperatorFault) → lower < place → slice_get told lower ≡ Some other → other ≡ None
+
+-- The whole text of a crew was written: the lines of all operators, each once and in its operator's order, and each with its replies.
+-- Want of memory refused nothing but edits.
+pub record WritesTranscript (show : Show) (lines : ℕ → List (List ℕ)) (held held' : Known) : Type 0 where
+  pub entries : List CrewEntry
+  pub merged : Merged lines entries
+  pub places : List ℕ
+  pub edits : CrewPlacesAreEdits (opened show) entries places
+  pub text : Appends held held' (crew_text (opened show) entries places)
+
+-- What was written of these lines, by the status: the whole text, also after a fault of an operator, of which the lowest operator's is
+-- told; after a fault of the output a prefix of the text of first lines of each operator.
+abbrev pub WritesLines : Status → Show → (ℕ → List (List ℕ)) → List (Option OperatorFault) → (held held' : Known) → Type 0
+WritesLines status.Ok show lines told held held' = WritesTranscript show lines held held' × NoneTold told
+WritesLines status.ReadFault show lines told held held' = WritesTranscript show lines held held' × IsLowest told ends.ReadFault
+WritesLines status.InputTooLong show lines told held held' = WritesTranscript show lines held held' × IsLowest told ends.InputTooLong
+WritesLines status.WriteFault show lines told held held' = TranscriptPrefix (opened show) lines held held'
+WritesLines status.Memory show lines told held held' = TranscriptPrefix (opened show) lines held held'
+WritesLines other show lines told held held' = ⊥
+
+-- The first so many operators were served over a show: each place has its source again, and `lines` has what was taken of it. Without a
+-- fault of its own these are all its lines up to `quit` or the end, and with one those that were taken whole. No others have lines.
+pub record Serves {S : Type 0} (left : S → Known) (faults : S → ℕ) (show : Show) (count : ℕ) (operators operators' : List (Option S))
+    (held held' : Known) (s : Status) : Type 0 where
+  pub lines : ℕ → List (List ℕ)
+  pub told : List (Option OperatorFault)
+  pub each : (place : ℕ) (start : S) → place < count → slice_get operators place ≡ Some (Some start)
+      → IsBack left faults operators' told place start (lines (place + 1))
+  pub none : lines 0 ≡ []
+  pub no_more : (operator : ℕ) → count < operator → lines operator ≡ []
+  pub written : WritesLines s show lines told held held'
+
+-- the same, or memory was wanted in vain before the first line, and then nothing was read or written
+abbrev pub ServesOrWants : {S : Type 0} → (S → Known) → (S → ℕ) → Show → ℕ → (operators operators' : List (Option S))
+    → (held held' : Known) → Status → Type 0
+ServesOrWants left faults show count operators operators' held held' s =
+    ((s ≡ status.Memory) × ((held' ≡ held) × (operators' ≡ operators)))
+    ⊎ Serves left faults show count operators operators' held held' s
+
+-- The show was read, and the operators were served over it.
+pub record ServesShow {S : Type 0} (left : S → Known) (faults : S → ℕ) (count : ℕ) (form : Form) (bytes : List ℕ)
+    (operators operators' : List (Option S)) (held held' : Known) (s : Status) : Type 0 where
+  pub reading : Reading
+  pub read : reads form bytes ≡ Ok reading
+  pub within : length (show_wanted bytes) ≤ INPUT_BYTES
+  pub served : Serves left faults reading.show count operators operators' held held' s
+
+-- It ended as another job, before an operator's line was taken: the show is refused, or there was a fault.
+pub record ServesNone {S : Type 0} (count : ℕ) (form : Form) (bytes : List ℕ) (left : Known) (operators operators' : List (Option S))
+    (held held' : Known) (s : Status) : Type 0 where
+  pub isnt_ok : s ≢ status.Ok
+  pub ended : HasEnded s (Crew count form) bytes left held held'
+  pub untouched : operators' ≡ operators
+
+abbrev pub HasCrewEnded : {S : Type 0} → (S → Known) → (S → ℕ) → ℕ → Form → List ℕ → Known → (operators operators' : List (Option S))
+    → (held held' : Known) → Status → Type 0
+HasCrewEnded lefts faults count form bytes left operators operators' held held' s =
+    ServesNone count form bytes left operators operators' held held' s
+    ⊎ ServesShow lefts faults count form bytes operators operators' held held' s
+
+-- A prefix of the text of a crew was written: of each operator in use first lines up to `quit` or the end, numbered from 1, and of
+-- no other any. Want of memory refused nothing but edits.
+pub record WritesFirstLines {S : Type 0} (left : S → Known) (show : Show) (count : ℕ) (operators : List (Option S)) (held held' : Known)
+    : Type 0 where
+  pub entries : List CrewEntry
+  pub each : (place : ℕ) (start : S) (bytes : List ℕ) → place < count → slice_get operators place ≡ Some (Some start)
+      → left start ≡ Some bytes
+      → (n : ℕ) × (of_operator (place + 1) entries ≡ numbered_from (place + 1) 1 (take n (lines_up_to_quit bytes)))
+  pub none : of_operator 0 entries ≡ []
+  pub no_more : (operator : ℕ) → count < operator → of_operator operator entries ≡ []
+  pub places : List ℕ
+  pub edits : CrewPlacesAreEdits (opened show) entries places
+  pub text : AppendsFront held held' (crew_text (opened show) entries places)
+
+-- the same over the show that was read, or a prefix of the line of one that is refused
+abbrev pub WritesCrewFront : {S : Type 0} → (S → Known) → ℕ → List (Option S) → (held held' : Known) → Result Reading TextFault → Type 0
+WritesCrewFront left count operators held held' (Ok reading) = WritesFirstLines left reading.show count operators held held'
+WritesCrewFront left count operators held held' (Err fault) = AppendsFront held held' (fault_text fault)
+
+-- each place has a source, and those of the operators that aren't in use are as they were
+pub record KeepsPlaces {S : Type 0} (count : ℕ) (operators operators' : List (Option S)) : Type 0 where
+  pub same_places : length operators' ≡ length operators
+  pub full : EachAt (λ place source. IsSome source) operators'
+  pub others : drop count operators' ≡ drop count operators
+
+-- Words that name no crew are answered with Usage, unless memory was wanted in vain, and nothing is read or written.
+abbrev pub KeepsOperators : {I O S : Type 0} → Option Job → Status → (input input' : I) → (output output' : O)
+    → (operators operators' : List (Option S)) → Type 0
+KeepsOperators (Some (Crew count form)) s input input' output output' operators operators' =
+    (s ≢ status.Usage) × KeepsPlaces count operators operators'
+KeepsOperators other s input input' output output' operators operators' =
+    ((s ≡ status.Usage) ⊎ (s ≡ status.Memory)) × ((input' ≡ input) × ((output' ≡ output) × (operators' ≡ operators)))
+
+-- the count of failed reads of one of the operators in use rose
+pub record OperatorFailed {S : Type 0} (faults : S → ℕ) (count : ℕ) (operators operators' : List (Option S)) : Type 0 where
+  pub place : ℕ
+  pub within : place < count
+  pub start : S
+  pub new : S
+  pub before : slice_get operators place ≡ Some (Some start)
+  pub after : slice_get operators' place ≡ Some (Some new)
+  pub rose : Rose (faults start) (faults new)
+
+-- ReadFault comes only where the count of failed reads of the input or of an operator in use rose, and WriteFault only where the
+-- output's of failed writes did.
+abbrev pub HasCrewCause : {S : Type 0} → (S → ℕ) → Status → (reads reads' writes writes' : ℕ) → ℕ → (operators operators' : List (Option S))
+    → Type 0
+HasCrewCause faults status.ReadFault reads reads' writes writes' count operators operators' =
+    Rose reads reads' ⊎ OperatorFailed faults count operators operators'
+HasCrewCause faults status.WriteFault reads reads' writes writes' count operators operators' = Rose writes writes'
+HasCrewCause faults other reads reads' writes writes' count operators operators' = Unit {0}
+
+-- what the status tells: the fault of the output, else that of the lowest operator that has one
+abbrev pub TellsOperators : List (Option OperatorFault) → Status → Type 0
+TellsOperators told status.Ok = NoneTold told
+TellsOperators told status.ReadFault = IsLowest told ends.ReadFault
+TellsOperators told status.InputTooLong = IsLowest told ends.InputTooLong
+TellsOperators told other = ⊥
+
+abbrev pub TellsCrew : Option SinkFault → List (Option OperatorFault) → Status → Type 0
+TellsCrew None told s = TellsOperators told s
+TellsCrew (Some Failed) told s = s ≡ status.WriteFault
+TellsCrew (Some Memory) told s = s ≡ status.Memory

@@ -1,0 +1,79 @@
+-- What holds where a job ended with a status.
+use Rattle.std.specs.Prelude.{◌≡◌, ◌⊎◌, ℕ, ◌+◌, ◌<◌, ◌≤◌, Option, Some, None, IfSome, IsOk, IsErr, List, length}
+use Rattle.lx_base.specs.declared.TheConstants.{INPUT_BYTES}
+use Rattle.lx_io.specs.Causes.{Rose}
+use Rattle.lx_spec.specs.declared.Job.{Job}
+use Rattle.lx_spec.specs.declared.Job.TheVariants.{Check, Render, Sheet, Make, Run, Undo, Two, Crew}
+use Rattle.lx_spec.specs.Text.{lines_of}
+use Rattle.lx_spec.specs.Session.{bytes_wanted}
+use Rattle.lx_spec.specs.Job.{show_of, wanted_of}
+use Rattle.lx_desk.specs.Answering.{Answering}
+use Rattle.lx_desk.specs.Output.{WritesAll, WritesPrefix, WritesTaken, AnswersScript, AnswersInFront, AnswersTaken}
+use Rattle.lx_desk.specs.declared.desk.Status.{Status}
+use Rattle.lx_desk.specs.declared.desk.Status.TheVariants as status
+
+-- the status of words by which nothing is read: of those that name no job, and of those of the jobs that run beside threads
+abbrev pub at_once : Option Job → Option Status
+at_once None = Some status.Usage
+at_once (Some (Check form)) = None
+at_once (Some (Render form)) = None
+at_once (Some (Sheet form)) = None
+at_once (Some (Make n)) = None
+at_once (Some (Run universes form)) = Some status.Live
+at_once (Some (Undo form)) = None
+at_once (Some (Two form)) = None
+at_once (Some (Crew operators form)) = Some status.Live
+
+-- Words that have such a status are answered with it, unless memory was wanted in vain, and then nothing is read or written; no other
+-- words are.
+pub record AnswersWords {I O : Type 0} (job : Option Job) (s : Status) (input input' : I) (output output' : O) : Type 0 where
+  pub at : IfSome (at_once job) (λ answer. ((s ≡ answer) ⊎ (s ≡ status.Memory)) × ((input' ≡ input) × (output' ≡ output)))
+  pub only : (s ≡ status.Usage) ⊎ (s ≡ status.Live) → at_once job ≡ Some s
+
+-- the statuses of a job that is done here, and of a script
+abbrev pub EndsJob : Status → Type 0
+EndsJob status.Usage = ⊥
+EndsJob status.Live = ⊥
+EndsJob other = Unit {0}
+
+abbrev pub EndsScript : Status → Type 0
+EndsScript status.ShowRefused = ⊥
+EndsScript status.Usage = ⊥
+EndsScript status.Live = ⊥
+EndsScript other = Unit {0}
+
+-- The whole text was written, and the input is within its limit.
+pub record WritesWhole (job : Job) (bytes : List ℕ) (held held' : Option (List ℕ)) : Type 0 where
+  pub text : WritesAll job bytes held held'
+  pub within : length (wanted_of job bytes) ≤ INPUT_BYTES
+
+-- Ok and ShowRefused: the whole text was written, of a show that was read or of one that is refused. Where the input couldn't be read on,
+-- what was written is nothing, or the replies to the script lines that were taken whole; the input is told too long only where it is.
+-- After every other status of a job it is a prefix of the whole text.
+abbrev pub HasEnded : Status → Job → List ℕ → Option (List ℕ) → Option (List ℕ) → Option (List ℕ) → Type 0
+HasEnded status.Ok job bytes left held held' = WritesWhole job bytes held held' × IsOk (show_of job bytes)
+HasEnded status.ShowRefused job bytes left held held' = WritesWhole job bytes held held' × IsErr (show_of job bytes)
+HasEnded status.ReadFault job bytes left held held' = WritesTaken job bytes left held held'
+HasEnded status.InputTooLong job bytes left held held' =
+    WritesTaken job bytes left held held' × (INPUT_BYTES < length (wanted_of job bytes))
+HasEnded status.WriteFault job bytes left held held' = WritesPrefix job bytes held held'
+HasEnded status.Memory job bytes left held held' = WritesPrefix job bytes held held'
+HasEnded status.Usage job bytes left held held' = ⊥
+HasEnded status.Live job bytes left held held' = at_once (Some job) ≡ Some status.Live
+
+-- A fault of the outside comes only where its count rose.
+abbrev pub HasCauseOf : Status → (reads reads' writes writes' : ℕ) → Type 0
+HasCauseOf status.ReadFault reads reads' writes writes' = Rose reads reads'
+HasCauseOf status.WriteFault reads reads' writes writes' = Rose writes writes'
+HasCauseOf other reads reads' writes writes' = Unit {0}
+
+-- The same of a script that is answered so, before which so many bytes of the input were taken.
+abbrev pub HasPlayed : Status → Answering → ℕ → List ℕ → Option (List ℕ) → Option (List ℕ) → Option (List ℕ) → Type 0
+HasPlayed status.Ok by before bytes left held held' =
+    AnswersScript by (lines_of bytes) held held' × (before + length (bytes_wanted bytes) ≤ INPUT_BYTES)
+HasPlayed status.ReadFault by before bytes left held held' = AnswersTaken by before bytes left held held'
+HasPlayed status.InputTooLong by before bytes left held held' =
+    AnswersTaken by before bytes left held held' × (INPUT_BYTES < before + length (bytes_wanted bytes))
+HasPlayed status.WriteFault by before bytes left held held' = AnswersInFront by (lines_of bytes) held held'
+HasPlayed status.Memory by before bytes left held held' = AnswersInFront by (lines_of bytes) held held'
+HasPlayed other by before bytes left held held' = ⊥

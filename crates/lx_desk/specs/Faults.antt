@@ -1,0 +1,13 @@
+-- The status of a session that ended, and of a show that couldn't be read.
+use Rattle.std.specs.Prelude.{Result, Ok, Err}
+use Rattle.lx_session.specs.declared.fault.SessionFault.{SessionFault}
+use Rattle.lx_session.specs.declared.fault.SessionFault.TheVariants.{ReadFault, WriteFault, InputTooLong, Memory}
+use Rattle.lx_desk.specs.declared.desk.Status.{Status}
+use Rattle.lx_desk.specs.declared.desk.Status.TheVariants as status
+
+abbrev pub status_for : {A : Type 0} → Result A SessionFault → Status
+status_for (Ok x) = status.Ok
+status_for (Err ReadFault) = status.ReadFault
+status_for (Err WriteFault) = status.WriteFault
+status_for (Err InputTooLong) = status.InputTooLong
+status_for (Err Memory) = status.Memory

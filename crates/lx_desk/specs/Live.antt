@@ -1,0 +1,205 @@
+-- What a live run of the program comes to, and what its outlets have.
+use Rattle.std.specs.Prelude.{◌≡◌, ◌⊎◌, ◌≢◌, ℕ, ◌+◌, ◌-◌, ◌<◌, ◌≤◌, Option, Some, None, IfSome, Result, Ok, Err, IsOk}
+use Rattle.std.specs.Prelude.{List, ◌++◌, length, take, drop, slice_get}
+use Rattle.std.specs.Io.KnownBytes.{Appends}
+use Rattle.lx_base.specs.declared.TheConstants.{INPUT_BYTES}
+use Rattle.lx_io.specs.declared.sink.SinkFault.{SinkFault}
+use Rattle.lx_io.specs.declared.sink.SinkFault.TheVariants.{Failed}
+use Rattle.lx_io.specs.Causes.{Rose}
+use Rattle.lx_io.specs.Puts.{AppendsFront}
+use Rattle.lx_spec.specs.declared.Command.{Command}
+use Rattle.lx_spec.specs.declared.Form.{Form}
+use Rattle.lx_spec.specs.declared.Job.{Job}
+use Rattle.lx_spec.specs.declared.Job.TheVariants.{Run}
+use Rattle.lx_spec.specs.Text.{lines_of}
+use Rattle.lx_spec.specs.Show.{Show}
+use Rattle.lx_spec.specs.Desk.{opened}
+use Rattle.lx_spec.specs.CutInput.{CutOff}
+use Rattle.lx_spec.specs.Session.{replies, accepted, after_first, bytes_wanted}
+use Rattle.lx_spec.specs.Reading.{Reading, reads, script_of, lines_read}
+use Rattle.lx_spec.specs.RenderOutput.{rendered, input_wanted}
+use Rattle.lx_workers.specs.Works.{HasAll}
+use Rattle.lx_workers.specs.Playing.{AreDelivered}
+use Rattle.lx_session.specs.Known.{Known}
+use Rattle.lx_session.specs.declared.fault.SessionFault.{SessionFault}
+use Rattle.lx_session.specs.declared.tally.Tally.{Tally}
+use Rattle.lx_desk.specs.declared.desk.Status.{Status}
+use Rattle.lx_desk.specs.declared.desk.Status.TheVariants as status
+use Rattle.lx_desk.specs.Faults.{status_for}
+use Rattle.lx_desk.specs.Endings.{HasEnded}
+
+-- an outlet has the lines of versions of rising lists of commands, the last of which begins with these
+pub record HasVersions {K : Type 0} (holds : K → Known) (show : Show) (outlets' : List (Option K)) (place : ℕ) (start : K)
+    (list : List Command) : Type 0 where
+  pub new : K
+  pub place_is : slice_get outlets' place ≡ Some (Some new)
+  pub all : HasAll show (place + 1) (holds start) (holds new) list
+
+abbrev pub HaveVersions : {K : Type 0} → (K → Known) → Show → ℕ → List (Option K) → List (Option K) → List Command → Type 0
+HaveVersions {K} holds show universes outlets outlets' list =
+    (place : ℕ) (start : K) → place < universes → slice_get outlets place ≡ Some (Some start)
+    → HasVersions holds show outlets' place start list
+
+-- A script was answered to its end, and each outlet's last line is that of a version after all accepted commands.
+pub record PlaysScript {K : Type 0} (outlet_holds : K → Known) (show : Show) (universes : ℕ) (script : List (List ℕ))
+    (held held' : Known) (outlets outlets' : List (Option K)) : Type 0 where
+  pub places : List ℕ
+  pub text : Appends held held' (replies (opened show) script places)
+  pub versions : HaveVersions outlet_holds show universes outlets outlets' (accepted (opened show) script places)
+
+-- Each outlet in use got what it was to get of these published commands: the lines of versions of rising lists, the last of which begins
+-- with them, or with a fault of its own such lines and a part of one more. The other outlets are as they were.
+pub record HaveGot {K : Type 0} (holds : K → Known) (faults wants : K → ℕ) (show : Show) (universes : ℕ)
+    (outlets outlets' : List (Option K)) (published : List Command) : Type 0 where
+  pub results : List (Option SinkFault)
+  pub delivered : AreDelivered holds faults wants show (take universes outlets) (take universes outlets') results published
+  pub rest : drop universes outlets' ≡ drop universes outlets
+
+-- all but the last so many of these commands were published, and the outlets got what they were to get of these
+pub record AreServed {K : Type 0} (holds : K → Known) (faults wants : K → ℕ) (show : Show) (universes : ℕ)
+    (outlets outlets' : List (Option K)) (commands : List Command) : Type 0 where
+  pub published : List Command
+  pub held_back : List Command
+  pub commands_are : commands ≡ published ++ held_back
+  pub got : HaveGot holds faults wants show universes outlets outlets' published
+
+-- Up to so many lines of a script were answered, by a prefix of the replies, where any attempt may be refused for want of memory, and
+-- the outlets got what was published of the commands that these lines came to.
+pub record PlaysInFront {K : Type 0} (outlet_holds : K → Known) (faults wants : K → ℕ) (show : Show) (universes : ℕ)
+    (script : List (List ℕ)) (held held' : Known) (outlets outlets' : List (Option K)) : Type 0 where
+  pub places : List ℕ
+  pub lines : ℕ
+  pub text : AppendsFront held held' (after_first (opened show) script places lines).text
+  pub served : AreServed outlet_holds faults wants show universes outlets outlets' (after_first (opened show) script places lines).accepted
+
+-- The lines that were taken whole were answered, and the outlets got what was published of the commands that these lines came to.
+pub record PlaysTaken {K : Type 0} (outlet_holds : K → Known) (faults wants : K → ℕ) (show : Show) (universes before : ℕ)
+    (bytes : List ℕ) (left held held' : Known) (outlets outlets' : List (Option K)) : Type 0 where
+  pub places : List ℕ
+  pub cut : CutOff before bytes left
+  pub text : Appends held held' (after_first (opened show) (lines_of bytes) places cut.lines).text
+  pub served : AreServed outlet_holds faults wants show universes outlets outlets'
+      (after_first (opened show) (lines_of bytes) places cut.lines).accepted
+
+-- how a script over a show ended that was played live, before which so many bytes of the input were taken
+abbrev pub HasPlayedLive : {K : Type 0} → Status → (K → Known) → (faults wants : K → ℕ) → Show → (universes before : ℕ) → List ℕ
+    → (left held held' : Known) → (outlets outlets' : List (Option K)) → Type 0
+HasPlayedLive status.Ok holds faults wants show universes before bytes left held held' outlets outlets' =
+    PlaysScript holds show universes (lines_of bytes) held held' outlets outlets'
+    × (before + length (bytes_wanted bytes) ≤ INPUT_BYTES)
+HasPlayedLive status.ReadFault holds faults wants show universes before bytes left held held' outlets outlets' =
+    PlaysTaken holds faults wants show universes before bytes left held held' outlets outlets'
+HasPlayedLive status.InputTooLong holds faults wants show universes before bytes left held held' outlets outlets' =
+    PlaysTaken holds faults wants show universes before bytes left held held' outlets outlets'
+    × (INPUT_BYTES < before + length (bytes_wanted bytes))
+HasPlayedLive status.WriteFault holds faults wants show universes before bytes left held held' outlets outlets' =
+    PlaysInFront holds faults wants show universes (lines_of bytes) held held' outlets outlets'
+HasPlayedLive status.Memory holds faults wants show universes before bytes left held held' outlets outlets' =
+    ((held' ≡ held) × (outlets' ≡ outlets))
+    ⊎ PlaysInFront holds faults wants show universes (lines_of bytes) held held' outlets outlets'
+HasPlayedLive other holds faults wants show universes before bytes left held held' outlets outlets' = ⊥
+
+-- The show was read, the replies to the whole script were written, and each outlet's last line is that of a version after all commands
+-- that were accepted.
+pub record PlaysWhole {K : Type 0} (outlet_holds : K → Known) (universes : ℕ) (form : Form) (bytes : List ℕ)
+    (held held' : Known) (outlets outlets' : List (Option K)) : Type 0 where
+  pub reading : Reading
+  pub read : reads form bytes ≡ Ok reading
+  pub places : List ℕ
+  pub text : Appends held held' (rendered bytes places reading).text
+  pub versions : HaveVersions outlet_holds reading.show universes outlets outlets' (rendered bytes places reading).accepted
+  pub within : length (input_wanted form bytes) ≤ INPUT_BYTES
+
+-- The show was read, up to so many lines of its script were answered, by a prefix of the replies, and the outlets got what was published
+-- of the commands that these lines came to.
+pub record LivesInFront {K : Type 0} (holds : K → Known) (faults wants : K → ℕ) (universes : ℕ) (form : Form)
+    (bytes : List ℕ) (held held' : Known) (outlets outlets' : List (Option K)) : Type 0 where
+  pub reading : Reading
+  pub read : reads form bytes ≡ Ok reading
+  pub plays : PlaysInFront holds faults wants reading.show universes (script_of bytes) held held' outlets outlets'
+
+-- The show was read, the script lines that were taken whole were answered, and the outlets got what was published of the commands that
+-- these lines came to.
+pub record LivesTaken {K : Type 0} (holds : K → Known) (faults wants : K → ℕ) (universes : ℕ) (form : Form)
+    (bytes : List ℕ) (left held held' : Known) (outlets outlets' : List (Option K)) : Type 0 where
+  pub reading : Reading
+  pub read : reads form bytes ≡ Ok reading
+  pub places : List ℕ
+  pub cut : CutOff 0 bytes left
+  pub text : Appends held held'
+      (after_first (opened reading.show) (script_of bytes) places (cut.lines - lines_read (lines_of bytes))).text
+  pub served : AreServed holds faults wants reading.show universes outlets outlets'
+      (after_first (opened reading.show) (script_of bytes) places (cut.lines - lines_read (lines_of bytes))).accepted
+
+-- no line of a script was answered, and no outlet was written
+abbrev pub NoneLived : {K : Type 0} → Form → List ℕ → (held held' : Known) → (outlets outlets' : List (Option K)) → Type 0
+NoneLived form bytes held held' outlets outlets' = (outlets' ≡ outlets) × (IsOk (reads form bytes) → held' ≡ held)
+
+-- How the live run of a form over so many universes ended: with Ok as above; with ShowRefused as another job, and nothing in any outlet;
+-- and else as another job ends with the status, and the outlets got nothing, or what was published of the commands that the lines which
+-- were answered came to.
+abbrev pub HasLived : {K : Type 0} → Status → (K → Known) → (faults wants : K → ℕ) → ℕ → Form → List ℕ
+    → (left held held' : Known) → (outlets outlets' : List (Option K)) → Type 0
+HasLived status.Ok holds faults wants universes form bytes left held held' outlets outlets' =
+    PlaysWhole holds universes form bytes held held' outlets outlets'
+HasLived status.ShowRefused holds faults wants universes form bytes left held held' outlets outlets' =
+    HasEnded status.ShowRefused (Run universes form) bytes left held held' × (outlets' ≡ outlets)
+HasLived status.ReadFault holds faults wants universes form bytes left held held' outlets outlets' =
+    HasEnded status.ReadFault (Run universes form) bytes left held held' × (NoneLived form bytes held held' outlets outlets'
+    ⊎ LivesTaken holds faults wants universes form bytes left held held' outlets outlets')
+HasLived status.InputTooLong holds faults wants universes form bytes left held held' outlets outlets' =
+    HasEnded status.InputTooLong (Run universes form) bytes left held held' × (NoneLived form bytes held held' outlets outlets'
+    ⊎ LivesTaken holds faults wants universes form bytes left held held' outlets outlets')
+HasLived status.WriteFault holds faults wants universes form bytes left held held' outlets outlets' =
+    HasEnded status.WriteFault (Run universes form) bytes left held held' × (NoneLived form bytes held held' outlets outlets'
+    ⊎ LivesInFront holds faults wants universes form bytes held held' outlets outlets')
+HasLived status.Memory holds faults wants universes form bytes left held held' outlets outlets' =
+    HasEnded status.Memory (Run universes form) bytes left held held' × (NoneLived form bytes held held' outlets outlets'
+    ⊎ LivesInFront holds faults wants universes form bytes held held' outlets outlets')
+HasLived other holds faults wants universes form bytes left held held' outlets outlets' = ⊥
+
+-- the outlets got what they were to get of some published commands over one show
+pub record ArePlayed {K : Type 0} (holds : K → Known) (faults wants : K → ℕ) (universes : ℕ)
+    (outlets outlets' : List (Option K)) : Type 0 where
+  pub show : Show
+  pub published : List Command
+  pub got : HaveGot holds faults wants show universes outlets outlets' published
+
+-- Words that name no live run are answered with Usage, unless memory was wanted in vain, and nothing is read or written; in a live run
+-- the outlets are as they were, or were played.
+abbrev pub KeepsOutlets : {I O K : Type 0} → (K → Known) → (faults wants : K → ℕ) → Option Job → Status → (input input' : I)
+    → (output output' : O) → (outlets outlets' : List (Option K)) → Type 0
+KeepsOutlets holds faults wants (Some (Run universes form)) s input input' output output' outlets outlets' =
+    (s ≢ status.Usage) × ((outlets' ≡ outlets) ⊎ ArePlayed holds faults wants universes outlets outlets')
+KeepsOutlets holds faults wants other s input input' output output' outlets outlets' =
+    ((s ≡ status.Usage) ⊎ (s ≡ status.Memory)) × ((input' ≡ input) × ((output' ≡ output) × (outlets' ≡ outlets)))
+
+-- the count of failed writes of one of the outlets rose
+pub record OutletFailed {K : Type 0} (faults : K → ℕ) (outlets outlets' : List (Option K)) : Type 0 where
+  pub place : ℕ
+  pub start : K
+  pub new : K
+  pub before : slice_get outlets place ≡ Some (Some start)
+  pub after : slice_get outlets' place ≡ Some (Some new)
+  pub rose : Rose (faults start) (faults new)
+
+-- ReadFault comes only where the count of failed reads rose, and WriteFault only where the output's or an outlet's of failed writes did.
+abbrev pub HasLiveCause : {K : Type 0} → (K → ℕ) → Status → (reads reads' writes writes' : ℕ) → (outlets outlets' : List (Option K))
+    → Type 0
+HasLiveCause faults status.ReadFault reads reads' writes writes' outlets outlets' = Rose reads reads'
+HasLiveCause faults status.WriteFault reads reads' writes writes' outlets outlets' = Rose writes writes' ⊎ OutletFailed faults outlets
+    outlets'
+HasLiveCause faults other reads reads' writes writes' outlets outlets' = Unit {0}
+
+-- what the status tells of the outlets' faults and of what is unsent: with Ok there was none, and with WriteFault a write failed
+abbrev pub TellsOutlets : List (Option SinkFault) → ℕ → Status → Type 0
+TellsOutlets results unsent status.Ok = (unsent ≡ 0)
+    × ((place : ℕ) (fault : Option SinkFault) → slice_get results place ≡ Some fault → fault ≡ None)
+TellsOutlets results unsent status.WriteFault = (place : ℕ) × (slice_get results place ≡ Some (Some Failed))
+TellsOutlets results unsent status.Memory = Unit {0}
+TellsOutlets results unsent other = ⊥
+
+-- the session's fault decides first, and then the outlets
+abbrev pub TellsRun : Result Tally SessionFault → List (Option SinkFault) → ℕ → Status → Type 0
+TellsRun (Ok tally) results unsent s = TellsOutlets results unsent s
+TellsRun (Err fault) results unsent s = s ≡ status_for {A = Tally} (Err fault)

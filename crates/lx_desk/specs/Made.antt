@@ -1,0 +1,47 @@
+-- What `make` writes about a session, and what holds where it ended.
+use Rattle.std.specs.Prelude.{◌≡◌, ℕ, ◌+◌, ◌<◌, ◌≤◌, Option, List, [], ◌∷◌, ◌++◌, length, sum, codes, decimal}
+use Rattle.std.specs.Io.KnownBytes.{Appends}
+use Rattle.lx_base.specs.declared.TheConstants.{INPUT_BYTES}
+use Rattle.lx_io.specs.Puts.{AppendsFront}
+use Rattle.lx_spec.specs.Text.{lines_of}
+use Rattle.lx_spec.specs.Desk.{Desk}
+use Rattle.lx_spec.specs.Output.{frame}
+use Rattle.lx_spec.specs.ShowText.{line}
+use Rattle.lx_spec.specs.Session.{session, bytes_wanted}
+use Rattle.lx_spec.specs.RefusedPlaces.{PlacesAreEdits}
+use Rattle.lx_spec.specs.MakeOutput.{made_text}
+use Rattle.lx_session.specs.declared.tally.Tally.{Tally}
+use Rattle.lx_desk.specs.declared.desk.Status.{Status}
+use Rattle.lx_desk.specs.declared.desk.Status.TheVariants as status
+use Rattle.lx_desk.specs.declared.make.Report.{Report}
+
+-- the five lines
+abbrev pub report_text : Report → List ℕ
+report_text r =
+    line (codes "cues" ∷ decimal r.cues ∷ []) ++ line (codes "moment" ∷ decimal r.moment ∷ []) ++ line (codes "ok" ∷ decimal r.ok ∷ [])
+    ++ line (codes "refused" ∷ decimal r.refused ∷ []) ++ line (codes "sum" ∷ decimal r.sum ∷ [])
+
+-- what there is to tell of a desk after so many replies
+abbrev pub report_of : ℕ → Desk → Tally → Report
+report_of cues d tally = record { cues = cues; moment = d.playback.moment; ok = tally.ok; refused = tally.refused; sum = sum (frame d 1) }
+
+-- The lines about the session of a script were written, wholly or a prefix of them, where want of memory refused at most these attempts.
+pub record TellsSession (cues : ℕ) (d : Desk) (script : List (List ℕ)) (held held' : Option (List ℕ)) : Type 0 where
+  pub places : List ℕ
+  pub wants : PlacesAreEdits d script places
+  pub text : Appends held held' (made_text cues (session d script places))
+
+pub record TellsInFront (cues : ℕ) (d : Desk) (script : List (List ℕ)) (held held' : Option (List ℕ)) : Type 0 where
+  pub places : List ℕ
+  pub wants : PlacesAreEdits d script places
+  pub text : AppendsFront held held' (made_text cues (session d script places))
+
+-- What was written about a session, by the status: where the script couldn't be read on, nothing.
+abbrev pub HasTold : Status → ℕ → Desk → ℕ → List ℕ → Option (List ℕ) → Option (List ℕ) → Type 0
+HasTold status.Ok cues d before bytes held held' =
+    TellsSession cues d (lines_of bytes) held held' × (before + length (bytes_wanted bytes) ≤ INPUT_BYTES)
+HasTold status.ReadFault cues d before bytes held held' = held' ≡ held
+HasTold status.InputTooLong cues d before bytes held held' = (held' ≡ held) × (INPUT_BYTES < before + length (bytes_wanted bytes))
+HasTold status.WriteFault cues d before bytes held held' = TellsInFront cues d (lines_of bytes) held held'
+HasTold status.Memory cues d before bytes held held' = TellsInFront cues d (lines_of bytes) held held'
+HasTold other cues d before bytes held held' = ⊥

@@ -1,0 +1,94 @@
+//! The job `check`: one line about a show.
+#![tactic(auto, using(lx_io::proofs::Chain::puts))]
+
+ghost use Rattle.std.specs.Prelude.{◌≡◌, ◌⊎◌, ◌++◌, ◌∷◌, [], codes, decimal, IfSome};
+ghost use Rattle.lx_io.specs.Causes.{Rose};
+ghost use Rattle.lx_spec.specs.declared.Job.TheVariants.{Check};
+ghost use Rattle.lx_desk.specs.Output.{WritesPrefix};
+ghost use Rattle.lx_desk.specs.Endings.{EndsJob, HasEnded, HasCauseOf};
+ghost use Rattle.std.specs.Io.KnownBytes.{Appends};
+ghost use Rattle.lx_io.specs.Puts.{AppendsFront, Puts};
+ghost use Rattle.lx_spec.specs.CheckOutput.{check_text};
+ghost use Rattle.lx_reader.specs.Answer.{reading_of};
+
+use crate::desk::Status;
+use crate::refuse::refuse;
+use lx_io::{Sink, SinkFault, Source, put_all};
+use lx_lex::{Lines, put_count, put_whole};
+use lx_reader::{Loaded, read_show};
+use lx_show::Form;
+use std::alloc::Global;
+
+/// Reads a show and writes one line about it: how many cues and channels it has, how many of its lines were skipped, and
+/// which was the first of them.
+pub(crate) fn check<S: Source, K: Sink>(
+    alloc: Global,
+    form: Form,
+    input: &mut S,
+    output: &mut K,
+) -> Status
+    ensures works { EndsJob result }
+    ensures ended { IfSome (S.left input.old) (λ bytes. HasEnded result (Check form) bytes (S.left input.new) (K.holds output.old)
+        (K.holds output.new)) }
+    ensures prefix { IfSome (S.left input.old) (λ bytes. WritesPrefix (Check form) bytes (K.holds output.old) (K.holds output.new)) }
+    ensures cause { HasCauseOf result (S.faults input.old) (S.faults input.new) (K.faults output.old) (K.faults output.new) }
+{
+    let mut lines = Lines::new(input);
+    match read_show(alloc, &mut lines, form) {
+        Ok(loaded) => tell(&loaded, output),
+        Err(fault) => refuse(fault, output),
+    }
+}
+
+/// Writes the line about a show that was read.
+fn tell<K: Sink>(loaded: &Loaded, output: &mut K) -> Status
+    ensures ok { result ≡ Status.Ok → Appends (K.holds output.old) (K.holds output.new) (check_text (reading_of loaded.now)) }
+    ensures prefix { AppendsFront (K.holds output.old) (K.holds output.new) (check_text (reading_of loaded.now)) }
+    ensures kinds { (result ≡ Status.Ok) ⊎ ((result ≡ Status.WriteFault) ⊎ (result ≡ Status.Memory)) }
+    ensures write { result ≡ Status.WriteFault → Rose (K.faults output.old) (K.faults output.new) }
+{
+    match put_and_flush(loaded, output) {
+        Ok(()) => Status::Ok,
+        Err(SinkFault::Failed) => Status::WriteFault,
+        Err(SinkFault::Memory) => Status::Memory,
+    }
+}
+
+/// Appends the line, and flushes.
+fn put_and_flush<K: Sink>(loaded: &Loaded, output: &mut K) -> Result<(), SinkFault>
+    ensures { Puts K.holds K.faults K.wants output.old output.new result (check_text (reading_of loaded.now)) }
+{
+    put_size(loaded, output)?;
+    output.flush()
+}
+
+/// Appends the line `show cues A channels B skipped C first D`.
+fn put_size<K: Sink>(loaded: &Loaded, output: &mut K) -> Result<(), SinkFault>
+    ensures { Puts K.holds K.faults K.wants output.old output.new result (check_text (reading_of loaded.now)) }
+{
+    put_counts(loaded.show.cues().len(), loaded.show.channels(), output)?;
+    put_skipped(loaded.skipped, loaded.first_skipped, output)
+}
+
+/// Appends how many cues and channels there are.
+fn put_counts<K: Sink>(cues: usize, channels: u32, output: &mut K) -> Result<(), SinkFault>
+    ensures { Puts K.holds K.faults K.wants output.old output.new result
+        (codes "show cues " ++ (decimal cues ++ (codes " channels " ++ decimal channels))) }
+{
+    put_all(output, b"show cues ")?;
+    put_count(cues as u64, output)?;
+    put_all(output, b" channels ")?;
+    put_whole(channels, output)
+}
+
+/// Appends how many lines were skipped, and which was the first.
+fn put_skipped<K: Sink>(skipped: u32, first: u32, output: &mut K) -> Result<(), SinkFault>
+    ensures { Puts K.holds K.faults K.wants output.old output.new result
+        (codes " skipped " ++ (decimal skipped ++ (codes " first " ++ (decimal first ++ 10 ∷ [])))) }
+{
+    put_all(output, b" skipped ")?;
+    put_whole(skipped, output)?;
+    put_all(output, b" first ")?;
+    put_whole(first, output)?;
+    put_all(output, b"\n")
+}

@@ -1,0 +1,115 @@
+//! The job `crew`: the scripts of several operators at the same time, over a show.
+
+ghost use Rattle.std.specs.Prelude.{◌≡◌, ◌≢◌, ◌≤◌, IfSome, IsSome, Some, length};
+ghost use Rattle.lx_base.specs.declared.TheConstants.{OPERATORS};
+ghost use Rattle.lx_io.specs.Causes.{Rose};
+ghost use Rattle.lx_spec.specs.declared.Job.TheVariants.{Crew};
+ghost use Rattle.lx_spec.specs.Reading.{reads};
+ghost use Rattle.lx_crew.specs.Hired.{EachAt};
+ghost use Rattle.lx_desk.specs.Crew.{HasCrewCause, HasCrewEnded, KeepsOperators, KeepsPlaces, OperatorFailed, ServesOrWants};
+ghost use Rattle.lx_desk.specs.Crew.{TellsCrew, TellsOperators, WritesCrewFront, WritesFirstLines};
+
+use crate::desk::Status;
+use crate::refuse::refuse;
+use lx_console::Console;
+use lx_crew::{Crewed, OperatorFault, crew};
+use lx_io::{Sink, SinkFault, Source};
+use lx_lex::Lines;
+use lx_reader::read_show;
+use lx_show::Show;
+use lx_spec::Form;
+use std::alloc::Global;
+use std::sync::Wait;
+use std::thread::Threads;
+
+/// Serves the operators 1 to `count` over a show.
+///
+/// The show comes from the input, which is read to `ENDDATA` and no further. The scripts of the operators come from the first
+/// so many sources, each in a thread of its own and up to `quit` or its end. For each line that is taken the output gets `op`, its
+/// operator and its number among that operator's lines, and then its replies. Which operator comes next isn't said.
+///
+/// A fault of an operator costs no line of another. The fault of the output decides the status first, and then that of the
+/// lowest operator that had one.
+pub fn run_crew<R: Threads + Wait + Sync, I: Source, S: Source + Send + Drop, K: Sink + Send>(
+    rt: &R,
+    alloc: Global,
+    count: u8,
+    form: Form,
+    input: &mut I,
+    output: &mut K,
+    operators: &mut [Option<S>],
+) -> Status
+    requires some { 1 ≤ count }
+    requires most { count ≤ OPERATORS }
+    requires all { length operators.old ≡ OPERATORS }
+    requires full { EachAt (λ place source. IsSome source) operators.old }
+    ensures words { KeepsOperators (Some (Crew count form)) result input.old input.new output.old output.new operators.old operators.new }
+    ensures ended { IfSome (I.left input.old)
+        (λ bytes. HasCrewEnded S.left S.faults count form bytes (I.left input.new) operators.old operators.new
+        (K.holds output.old) (K.holds output.new) result) }
+    ensures prefix { IfSome (I.left input.old)
+        (λ bytes. WritesCrewFront S.left count operators.old (K.holds output.old) (K.holds output.new) (reads form bytes)) }
+    ensures cause { HasCrewCause S.faults result (I.faults input.old) (I.faults input.new) (K.faults output.old) (K.faults output.new)
+        count operators.old operators.new }
+{
+    let mut lines = Lines::new(input);
+    match read_show(alloc, &mut lines, form) {
+        Ok(loaded) => serve(rt, alloc, count, loaded.show, output, operators),
+        Err(fault) => refuse(fault, output),
+    }
+}
+
+/// Serves the first operators over a show, from its opening on.
+fn serve<R: Threads + Wait + Sync, S: Source + Send + Drop, K: Sink + Send>(
+    rt: &R,
+    alloc: Global,
+    count: u8,
+    show: Show,
+    output: &mut K,
+    operators: &mut [Option<S>],
+) -> Status
+    requires some { 1 ≤ count }
+    requires most { count ≤ OPERATORS }
+    requires all { length operators.old ≡ OPERATORS }
+    requires full { EachAt (λ place source. IsSome source) operators.old }
+    ensures usage { result ≢ Status.Usage }
+    ensures places { KeepsPlaces count operators.old operators.new }
+    ensures served { ServesOrWants S.left S.faults show count operators.old operators.new (K.holds output.old) (K.holds output.new) result }
+    ensures prefix { WritesFirstLines S.left show count operators.old (K.holds output.old) (K.holds output.new) }
+    ensures read { result ≡ Status.ReadFault → OperatorFailed S.faults count operators.old operators.new }
+    ensures write { result ≡ Status.WriteFault → Rose (K.faults output.old) (K.faults output.new) }
+{
+    let Ok(mut console) = Console::open(alloc, show) else {
+        return Status::Memory;
+    };
+    let (used, _others) = operators.split_at_mut(count as usize);
+    match crew(rt, alloc, &mut console, used, output) {
+        Ok(crewed) => status_of_crew(&crewed),
+        Err(_) => Status::Memory,
+    }
+}
+
+/// The status of a crew: the fault of the output first, then that of the lowest operator that had one.
+fn status_of_crew(crewed: &Crewed) -> Status
+    ensures { TellsCrew crewed.now.output crewed.now.operators result }
+{
+    match crewed.output {
+        Some(SinkFault::Failed) => Status::WriteFault,
+        Some(SinkFault::Memory) => Status::Memory,
+        None => status_of_operators(&crewed.operators),
+    }
+}
+
+/// The status where the output had no fault.
+fn status_of_operators(faults: &[Option<OperatorFault>]) -> Status
+    ensures { TellsOperators faults.now result }
+{
+    for fault in faults {
+        match fault {
+            Some(OperatorFault::ReadFault) => return Status::ReadFault,
+            Some(OperatorFault::InputTooLong) => return Status::InputTooLong,
+            None => {}
+        }
+    }
+    Status::Ok
+}

@@ -1,0 +1,64 @@
+//! The jobs that are done in the caller's thread.
+
+ghost use Rattle.std.specs.Prelude.{IfSome, Some};
+ghost use Rattle.lx_spec.specs.Job.{given_to};
+ghost use Rattle.lx_desk.specs.Output.{WritesPrefix};
+ghost use Rattle.lx_desk.specs.Endings.{AnswersWords, HasEnded, HasCauseOf};
+
+use crate::check::check;
+use crate::make::make;
+use crate::render::render;
+use crate::sheet::sheet;
+use crate::two::two;
+use crate::undo::undo;
+use lx_io::{Sink, Source};
+use lx_spec::Job;
+use std::alloc::Global;
+
+/// How a job ended.
+#[derive(Clone, Copy, Debug, PartialEq, Eq)]
+pub enum Status {
+    /// The job was done: a script was read to `quit` or to the end, and answered.
+    Ok,
+    /// The show was refused, and one line says why and where.
+    ShowRefused,
+    /// The words name no job.
+    Usage,
+    /// A read failed.
+    ReadFault,
+    /// A write failed.
+    WriteFault,
+    /// Memory was wanted in vain.
+    Memory,
+    /// The input is longer than 67,108,864 bytes.
+    InputTooLong,
+    /// The job runs beside threads, and isn't done by this call.
+    Live,
+}
+
+/// Does the job.
+///
+/// For the bytes that the input had left, the text that is written is what the definitions give for the job: the line of a
+/// refused show, the line or the cue list of a show, or the replies to a script, in which each command is done or refused
+/// as the desk does it and each frame is evaluated over the whole show as it then is and the whole list of runs since the
+/// opening; by `undo` edits and records are undone and redone besides, and by `two` it is
+/// so of two desks beside each other. Want of memory refuses nothing but edits and records.
+///
+/// `run` and `crew` run beside threads: the answer is Live, and nothing is read or written. `run_live` and `run_crew` do them.
+pub fn run_job<S: Source, K: Sink>(alloc: Global, job: Job, input: &mut S, output: &mut K) -> Status
+    ensures words { AnswersWords (Some job) result input.old input.new output.old output.new }
+    ensures ended { IfSome (given_to job (S.left input.old))
+        (λ bytes. HasEnded result job bytes (S.left input.new) (K.holds output.old) (K.holds output.new)) }
+    ensures prefix { IfSome (given_to job (S.left input.old)) (λ bytes. WritesPrefix job bytes (K.holds output.old) (K.holds output.new)) }
+    ensures cause { HasCauseOf result (S.faults input.old) (S.faults input.new) (K.faults output.old) (K.faults output.new) }
+{
+    match job {
+        Job::Check(form) => check(alloc, form, input, output),
+        Job::Render(form) => render(alloc, form, input, output),
+        Job::Sheet(form) => sheet(alloc, form, input, output),
+        Job::Make(cues) => make(alloc, cues, output),
+        Job::Run(..) | Job::Crew(..) => Status::Live,
+        Job::Undo(form) => undo(alloc, form, input, output),
+        Job::Two(form) => two(alloc, form, input, output),
+    }
+}

@@ -1,0 +1,20 @@
+//! The jobs of the desk as calls: from the bytes that come in to the bytes that go out, over any sources and sinks. Nothing here names a
+//! file, a word or a clock.
+#![tactic(auto)]
+
+mod check;
+mod crew;
+mod desk;
+mod discard;
+mod live;
+mod make;
+mod play;
+mod refuse;
+mod render;
+mod sheet;
+mod two;
+mod undo;
+
+pub use crew::run_crew;
+pub use desk::{Status, run_job};
+pub use live::run_live;

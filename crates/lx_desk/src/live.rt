@@ -1,0 +1,145 @@
+//! The job `run`: a script over the show that stands before it, played live.
+
+ghost use Rattle.std.specs.Prelude.{◌≡◌, ◌≢◌, ◌≤◌, ◌⊎◌, IfSome, Some, length};
+ghost use Rattle.lx_base.specs.declared.TheConstants.{INPUT_BYTES, UNIVERSES};
+ghost use Rattle.lx_lex.specs.Unread.{CanAdvance, SameSource, bytes_taken, source_faults, source_left, unread};
+ghost use Rattle.lx_spec.specs.declared.Job.TheVariants.{Run};
+ghost use Rattle.lx_workers.specs.Places.{IsFull};
+ghost use Rattle.lx_desk.specs.Live.{HasLived, HasPlayedLive, KeepsOutlets, HasLiveCause};
+ghost use Rattle.lx_desk.specs.Live.{ArePlayed, TellsOutlets, TellsRun};
+
+use crate::desk::Status;
+use crate::play::status_of;
+use crate::refuse::refuse;
+use lx_console::Console;
+use lx_io::{Pace, Sink, SinkFault, Source};
+use lx_lex::Lines;
+use lx_reader::read_show;
+use lx_show::Show;
+use lx_spec::Form;
+use lx_workers::{OUTLETS, Played, play};
+use std::alloc::Global;
+use std::sync::Wait;
+use std::thread::Threads;
+
+/// Reads a show and plays the script that follows it, live.
+///
+/// The script is answered on the output, as by `render`, and each command that is accepted is published
+/// at once. Beside it a worker for each of the universes from 1 on, in a thread of its own, writes to the outlet at the
+/// universe's place the line of each newer version that it meets: `frame`, how many commands led to it, and the frame. No line
+/// is of two versions, and at the end the last one is of all accepted commands. A command may be refused with `Memory` where
+/// there is no room to publish it.
+///
+/// The fault of the session decides the status first, then a write that failed in an outlet, and then want of memory. An outlet
+/// that fails is ended, and no other.
+pub fn run_live<
+    R: Threads + Wait + Sync,
+    S: Source + Send,
+    O: Sink + Send,
+    K: Sink + Send + Drop,
+    C: Pace + Sync,
+>(
+    rt: &R,
+    alloc: Global,
+    universes: u8,
+    form: Form,
+    input: &mut S,
+    output: &mut O,
+    outlets: &mut [Option<K>],
+    pace: &C,
+) -> Status
+    requires some { 1 ≤ universes }
+    requires most { universes ≤ UNIVERSES }
+    requires all { length outlets.old ≡ UNIVERSES }
+    requires full { IsFull outlets.old }
+    ensures outlets { KeepsOutlets K.holds K.faults K.wants (Some (Run universes form)) result input.old input.new output.old output.new
+        outlets.old outlets.new }
+    ensures ended { IfSome (S.left input.old)
+        (λ bytes. HasLived result K.holds K.faults K.wants universes form bytes (S.left input.new) (O.holds output.old)
+        (O.holds output.new) outlets.old outlets.new) }
+    ensures cause { HasLiveCause K.faults result (S.faults input.old) (S.faults input.new) (O.faults output.old) (O.faults output.new)
+        outlets.old outlets.new }
+{
+    let mut lines = Lines::new(input);
+    match read_show(alloc, &mut lines, form) {
+        Ok(loaded) => {
+            play_live(
+                rt,
+                alloc,
+                universes,
+                loaded.show,
+                &mut lines,
+                output,
+                outlets,
+                pace,
+            )
+        }
+        Err(fault) => refuse(fault, output),
+    }
+}
+
+/// Plays the script that is left over a show, from its opening on, with the first outlets.
+fn play_live<
+    R: Threads + Wait + Sync,
+    S: Source + Send,
+    O: Sink + Send,
+    K: Sink + Send + Drop,
+    C: Pace + Sync,
+>(
+    rt: &R,
+    alloc: Global,
+    universes: u8,
+    show: Show,
+    lines: &mut Lines<S>,
+    output: &mut O,
+    outlets: &mut [Option<K>],
+    pace: &C,
+) -> Status
+    requires some { 1 ≤ universes }
+    requires most { universes ≤ UNIVERSES }
+    requires all { length outlets.old ≡ UNIVERSES }
+    requires full { IsFull outlets.old }
+    requires going { CanAdvance lines.old }
+    requires within { bytes_taken lines.old ≤ INPUT_BYTES }
+    ensures same_source { SameSource lines.old lines.new }
+    ensures usage { result ≢ Status.Usage }
+    ensures outlets { (outlets.new ≡ outlets.old) ⊎ ArePlayed K.holds K.faults K.wants universes outlets.old outlets.new }
+    ensures ended { IfSome (unread S.left lines.old)
+        (λ bytes. HasPlayedLive result K.holds K.faults K.wants show universes (bytes_taken lines.old) bytes
+        (source_left S.left lines.new) (O.holds output.old) (O.holds output.new) outlets.old outlets.new) }
+    ensures later { source_faults S.faults lines.old ≤ source_faults S.faults lines.new }
+    ensures cause { HasLiveCause K.faults result (source_faults S.faults lines.old) (source_faults S.faults lines.new)
+        (O.faults output.old) (O.faults output.new) outlets.old outlets.new }
+{
+    let Ok(mut console) = Console::open(alloc, show) else {
+        return Status::Memory;
+    };
+    let (used, _others) = outlets.split_at_mut(universes as usize);
+    match play(rt, alloc, &mut console, lines, output, used, pace) {
+        Ok(played) => status_of_run(&played),
+        Err(_) => Status::Memory,
+    }
+}
+
+/// The status of a live run: the session's fault first, then a write that failed, then want of memory.
+fn status_of_run(played: &Played) -> Status
+    ensures { TellsRun played.now.session played.now.outlets played.now.unsent result }
+{
+    match played.session {
+        Ok(_) => status_of_outlets(&played.outlets, played.unsent),
+        Err(fault) => status_of(Err(fault)),
+    }
+}
+
+/// The status where the session had no fault.
+fn status_of_outlets(faults: &[Option<SinkFault>; OUTLETS], unsent: usize) -> Status
+    ensures { TellsOutlets faults.now unsent result }
+{
+    if faults.contains(&Some(SinkFault::Failed)) {
+        return Status::WriteFault;
+    }
+    if unsent > 0 || faults.contains(&Some(SinkFault::Memory)) {
+        return Status::Memory;
+    }
+    Status::Ok
+}

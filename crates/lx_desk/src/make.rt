@@ -1,0 +1,175 @@
+//! The job `make`: a session over an input that is made of a number, and five lines about it.
+#![tactic(auto, using(lx_io::proofs::Chain::puts))]
+
+ghost use Rattle.std.specs.Prelude.{◌≡◌, ◌≤◌, ◌⊎◌, ◌∷◌, [], ℕ, List, decimal, sum, length, IfSome, IsTrue};
+ghost use Rattle.std.specs.declared.option.Option.{Option};
+ghost use Rattle.std.specs.Io.KnownBytes.{Appends};
+ghost use Rattle.lx_base.specs.declared.TheConstants.{INPUT_BYTES, UNIVERSE_SLOTS};
+ghost use Rattle.lx_io.specs.Causes.{Rose};
+ghost use Rattle.lx_io.specs.Puts.{AppendsFront, Puts};
+ghost use Rattle.lx_lex.specs.Unread.{unread};
+ghost use Rattle.lx_spec.specs.declared.Job.TheVariants as jobs;
+ghost use Rattle.lx_spec.specs.Text.{lines_of};
+ghost use Rattle.lx_spec.specs.ShowText.{line};
+ghost use Rattle.lx_spec.specs.Desk.{Desk, opened};
+ghost use Rattle.lx_spec.specs.Output.{frame};
+ghost use Rattle.lx_console.specs.Slots.{universe};
+ghost use Rattle.lx_console.specs.Standing.{StandsFor};
+ghost use Rattle.lx_desk.specs.Output.{WritesPrefix};
+ghost use Rattle.lx_desk.specs.Endings.{EndsJob, EndsScript, HasEnded, HasCauseOf};
+ghost use Rattle.lx_desk.specs.Made.{HasTold, TellsInFront, report_of, report_text};
+
+use crate::desk::Status;
+use crate::discard::Discard;
+use crate::play::status_of;
+use crate::refuse::refuse;
+use lx_base::{Level, UNIVERSE_SLOTS};
+use lx_console::Console;
+use lx_io::{PlainSource, Sink, SinkFault, Source, put_all};
+use lx_lex::{Lines, put_count};
+use lx_make::made_input;
+use lx_reader::read_show;
+use lx_session::{Tally, session};
+use lx_show::{Form, Show};
+use std::alloc::Global;
+
+/// How many bytes of the input are read at a time.
+const PIECE: usize = 65_536;
+
+/// What a session came to.
+#[derive(Clone, Copy, Debug, PartialEq, Eq)]
+pub(crate) struct Report {
+    /// How many cues were made.
+    pub(crate) cues: u64,
+    /// The last moment, in hundredths of a second.
+    pub(crate) moment: u64,
+    /// How many replies were `ok`.
+    pub(crate) ok: u64,
+    /// How many were `refused`.
+    pub(crate) refused: u64,
+    /// The sum of the slots of universe 1.
+    pub(crate) sum: u64,
+}
+
+/// Makes an input of a number, reads its show and answers its script as `render` does, and writes five lines about the
+/// session in place of the replies.
+pub(crate) fn make<K: Sink>(alloc: Global, cues: u32, output: &mut K) -> Status
+    ensures works { EndsJob result }
+    ensures ended { (left : Option (List ℕ)) → HasEnded result (jobs.Make cues) [] left (K.holds output.old) (K.holds output.new) }
+    ensures prefix { WritesPrefix (jobs.Make cues) [] (K.holds output.old) (K.holds output.new) }
+    ensures cause { (reads : ℕ) → HasCauseOf result reads reads (K.faults output.old) (K.faults output.new) }
+{
+    let Ok(input) = made_input(alloc, cues) else {
+        return Status::Memory;
+    };
+    let mut input = PlainSource::new(input, PIECE);
+    let mut lines = Lines::new(&mut input);
+    match read_show(alloc, &mut lines, Form::Moves) {
+        Ok(loaded) => tell_session(alloc, cues, loaded.show, &mut lines, output),
+        Err(fault) => refuse(fault, output),
+    }
+}
+
+/// Answers the script that is left over a show, drops the replies, and writes the lines about the session.
+fn tell_session<S: Source, K: Sink>(
+    alloc: Global,
+    cues: u32,
+    show: Show,
+    lines: &mut Lines<S>,
+    output: &mut K,
+) -> Status
+    requires going { IsTrue lines.old.going }
+    requires within { lines.old.taken ≤ INPUT_BYTES }
+    ensures works { EndsScript result }
+    ensures ended { IfSome (unread S.left lines.old)
+        (λ bytes. HasTold result cues (opened show) lines.old.taken bytes (K.holds output.old) (K.holds output.new)) }
+    ensures front { IfSome (unread S.left lines.old)
+        (λ bytes. TellsInFront cues (opened show) (lines_of bytes) (K.holds output.old) (K.holds output.new)) }
+    ensures cause { HasCauseOf result (S.faults lines.old.source.now) (S.faults lines.new.source.now) (K.faults output.old)
+        (K.faults output.new) }
+{
+    let Ok(mut console) = Console::open(alloc, show) else {
+        return Status::Memory;
+    };
+    match session(&mut console, lines, &mut Discard) {
+        Ok(tally) => tell(report_on(cues, &console, tally), output),
+        Err(fault) => status_of(Err(fault)),
+    }
+}
+
+/// What there is to tell of a console after so many replies.
+fn report_on(cues: u32, console: &Console, tally: Tally) -> Report
+    ensures { (d : Desk) → StandsFor d console.now → result ≡ report_of cues d tally }
+{
+    Report {
+        cues: cues as u64,
+        moment: console.moment() as u64,
+        ok: tally.ok,
+        refused: tally.refused,
+        sum: sum_of(first_universe(console.frames())),
+    }
+}
+
+/// The slots of universe 1, of those of all dimmers.
+fn first_universe(slots: &[Level]) -> &[Level]
+    requires { UNIVERSE_SLOTS ≤ length slots.now }
+    ensures slots { result.now ≡ universe 1 slots.now }
+    ensures reach { length result.now ≤ UNIVERSE_SLOTS }
+{
+    &slots[..UNIVERSE_SLOTS]
+}
+
+/// The sum of the slots of a universe.
+fn sum_of(slots: &[Level]) -> u64
+    requires { length slots.now ≤ UNIVERSE_SLOTS }
+    ensures { result ≡ sum slots.now }
+{
+    let mut total = 0;
+    for slot in slots {
+        total += *slot as u64;
+    }
+    total
+}
+
+/// Writes the lines about a session.
+fn tell<K: Sink>(report: Report, output: &mut K) -> Status
+    ensures ok { result ≡ Status.Ok → Appends (K.holds output.old) (K.holds output.new) (report_text report) }
+    ensures prefix { AppendsFront (K.holds output.old) (K.holds output.new) (report_text report) }
+    ensures kinds { (result ≡ Status.Ok) ⊎ ((result ≡ Status.WriteFault) ⊎ (result ≡ Status.Memory)) }
+    ensures write { result ≡ Status.WriteFault → Rose (K.faults output.old) (K.faults output.new) }
+{
+    match put_and_flush(report, output) {
+        Ok(()) => Status::Ok,
+        Err(SinkFault::Failed) => Status::WriteFault,
+        Err(SinkFault::Memory) => Status::Memory,
+    }
+}
+
+/// Appends the lines, and flushes.
+fn put_and_flush<K: Sink>(report: Report, output: &mut K) -> Result<(), SinkFault>
+    ensures { Puts K.holds K.faults K.wants output.old output.new result (report_text report) }
+{
+    put_report(report, output)?;
+    output.flush()
+}
+
+/// Appends the lines.
+fn put_report<K: Sink>(report: Report, output: &mut K) -> Result<(), SinkFault>
+    ensures { Puts K.holds K.faults K.wants output.old output.new result (report_text report) }
+{
+    put_line(b"cues", report.cues, output)?;
+    put_line(b"moment", report.moment, output)?;
+    put_line(b"ok", report.ok, output)?;
+    put_line(b"refused", report.refused, output)?;
+    put_line(b"sum", report.sum, output)
+}
+
+/// Appends a line of a word and a number.
+fn put_line<K: Sink>(word: &[u8], number: u64, output: &mut K) -> Result<(), SinkFault>
+    ensures { Puts K.holds K.faults K.wants output.old output.new result (line (word.now ∷ decimal number ∷ [])) }
+{
+    put_all(output, word)?;
+    put_all(output, b" ")?;
+    put_count(number, output)?;
+    put_all(output, b"\n")
+}
