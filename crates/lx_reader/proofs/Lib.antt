@@ -9,6 +9,7 @@ pub mod EntryRoots
 pub mod NamedRecords
 pub mod SectionLevels
 pub mod Members
+pub mod OpenMoves
 pub mod Pairs
 mod PercentLevels
 pub mod ReadingStates

@@ -6,3 +6,4 @@ pub mod HandedLines
 pub mod LineOutcome
 pub mod Answer
 pub mod LookMoves
+pub mod OpenMoves

@@ -10,6 +10,7 @@ mod lists;
 mod loaded;
 mod looks;
 mod numbers;
+mod open_moves;
 mod outer_line;
 mod pass;
 mod percents;
