@@ -10,6 +10,7 @@ pub mod NamedRecords
 pub mod SectionLevels
 pub mod Members
 pub mod OpenMoves
+pub mod Settling
 pub mod Pairs
 mod PercentLevels
 pub mod ReadingStates

@@ -16,6 +16,7 @@ mod pass;
 mod percents;
 mod presence;
 mod reader;
+mod reading;
 mod times;
 mod word;
 

@@ -51,7 +51,7 @@ impl OpenMoves {
     pub(crate) fn clear(&mut self)
         ensures { self.new ≡ [] }
     {
-        self.slots = [None; SLOTS];
+        *self = OpenMoves::new();
     }
 
     /// Places the levels as moves in a part, each in place of the one of its channel.
@@ -66,6 +66,7 @@ impl OpenMoves {
         ensures moves { OnOk result (moves.new.items ≡ self.now) }
         ensures sorted { IsStrictlySorted (λ m. m.chan) self.now }
     {
+        rise(&self.slots);
         write_to(&self.slots, moves)
     }
 }
@@ -91,10 +92,16 @@ fn put(slots: &mut [Option<Slot>; SLOTS], member: Member, part: PartNo)
     });
 }
 
+/// The moves rise: a fact for proofs.
+fn rise(slots: &[Option<Slot>; SLOTS])
+    ensures { IsStrictlySorted (λ m. m.chan) (moves_from 1 slots.now) }
+{
+    let _ = slots;
+}
+
 /// Writes the moves into a list.
 fn write_to(slots: &[Option<Slot>; SLOTS], moves: &mut Vec<Move>) -> Result<(), AllocError>
-    ensures moves { OnOk result (moves.new.items ≡ moves_from 1 slots.now) }
-    ensures sorted { IsStrictlySorted (λ m. m.chan) (moves_from 1 slots.now) }
+    ensures { OnOk result (moves.new.items ≡ moves_from 1 slots.now) }
 {
     moves.clear();
     for index in 0..SLOTS {

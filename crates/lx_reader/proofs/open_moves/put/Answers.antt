@@ -1,4 +1,4 @@
-use Rattle.std.proofs.Common.{arith, refl}
+use Rattle.std.proofs.Common.{◌-◌, arith, refl}
 use Rattle.lx_reader.proofs.OpenMoves.{slot_written}
 use Rattle.lx_reader.proofs.open_moves.put.Goals as goal
 
