@@ -11,6 +11,8 @@ pub mod SectionLevels
 pub mod Members
 pub mod OpenMoves
 pub mod Settling
+pub mod OpenCue
+pub mod QuietLines
 pub mod Pairs
 mod PercentLevels
 pub mod ReadingStates

@@ -1,9 +1,11 @@
 -- A reader whose open cue's moves stand apart.
-use Rattle.std.specs.Prelude.{ℕ, ◌≡◌, Option, Some, None, List, IfSome}
+use Rattle.std.specs.Prelude.{ℕ, ◌≡◌, Bool, true, false, Option, Some, None, List, IfSome}
 use Rattle.std.specs.List.{AllByRecursion}
 use Rattle.std.specs.Option.{IsSomeAnd}
 use Rattle.lx_spec.specs.declared.Move.{Move}
 use Rattle.lx_spec.specs.declared.Section.TheVariants.{InCue}
+use Rattle.lx_spec.specs.declared.Word.{Word}
+use Rattle.lx_spec.specs.declared.Word.TheVariants as words
 use Rattle.lx_spec.specs.Show.{Show, ValidMove}
 use Rattle.lx_spec.specs.TrackedLevel.{cue_of}
 use Rattle.lx_show.specs.Changed.{changed}
@@ -27,3 +29,16 @@ pub record FitsIn (r : Reader) (moves : List Move) (n : ℕ) : Type 0 where
 
 abbrev pub Fits : Reading → Type 0
 Fits g = IfSome g.cue (FitsIn g.reader g.moves)
+
+-- in a cue, a line of the word says nothing of its moves
+abbrev pub keeps_cue : Word → Bool
+keeps_cue words.TwoDollars = true
+keeps_cue words.Part = true
+keeps_cue words.Up = true
+keeps_cue words.Down = true
+keeps_cue words.FollowOn = true
+keeps_cue words.Link = true
+keeps_cue words.Text = true
+keeps_cue words.Block = true
+keeps_cue words.Assert = true
+keeps_cue other = false

@@ -103,7 +103,7 @@ impl Reader {
     }
 
     /// A line of this word, which these tokens follow. The rules are tried in their order.
-    fn line_of_word(
+    pub(crate) fn line_of_word(
         &mut self,
         alloc: Global,
         i: u32,
@@ -174,7 +174,7 @@ impl Reader {
 
 /// The tokens behind the first one where that is CHAN in capitals and a space follows at once, as in most lines.
 #[inline]
-fn levels_of(line: &[u8]) -> Option<Tokens<'_>>
+pub(crate) fn levels_of(line: &[u8]) -> Option<Tokens<'_>>
     ensures { IfSome result (λ levels. tokens line.now ≡ codes "CHAN" ∷ left levels) }
 {
     match line {
