@@ -10,7 +10,7 @@ use Rattle.lx_spec.specs.declared.Section.TheVariants.{NoRecord, InCue, InGroup,
 use Rattle.lx_spec.specs.declared.TextFault.{TextFault}
 use Rattle.lx_spec.specs.declared.Word.{Word}
 use Rattle.lx_spec.specs.declared.Word.TheVariants as words
-use Rattle.lx_spec.specs.Entry.{Entry, Follows, HasDown, HasUp, Links, NamesPart}
+use Rattle.lx_spec.specs.Entry.{Entry, Follows, HasDown, HasUp, Links, NamesPart, clears_all}
 use Rattle.lx_spec.specs.Facts.{Facts}
 use Rattle.lx_spec.specs.LineRules.{entry_by_word}
 use Rattle.lx_spec.specs.Numerals.{read_cue_no, read_time, read_whole}
@@ -23,7 +23,7 @@ use Rattle.lx_reader.specs.declared.reader.Reader.{Reader}
 use Rattle.lx_reader.specs.declared.reading.Reading.{Reading}
 use Rattle.lx_reader.specs.LineOutcome.{IsReady, IsStep, Outcome, facts_of, state_of}
 use Rattle.lx_reader.specs.OpenRecord.{HasPartIn, IsOpen}
-use Rattle.lx_reader.specs.ReadingState.{empty_show, placed_in, show_with, step}
+use Rattle.lx_reader.specs.ReadingState.{ReadingState, empty_show, placed_in, show_with, step}
 use Rattle.lx_reader.specs.Settled.{Fits, FitsIn, keeps_cue, settled, with_open}
 use Rattle.lx_reader.proofs.EntryChanges.{changed-alike, changed-not}
 use Rattle.lx_reader.proofs.OpenCue.{fits_still, held_before, numbers_kept}
@@ -133,3 +133,62 @@ opened_same g n moves none nothing bare rises =
     ap (λ (s : Show). record g.reader { show = s })
     (ap (λ ms. with_open (Some n) ms g.reader.show) nothing ∙ bare_at g.reader.show n (cue_of g.reader.show n) refl bare rises
     ∙ ap (λ o. with_open o g.moves g.reader.show) (sym none))
+
+-- A reader with the moves of its open cue put in.
+abbrev pub with_cue_moves : Reader → Option ℕ → List Move → Reader
+with_cue_moves r o moves = record r { show = with_open o moves r.show }
+
+show_apart : (n p : ℕ) (moves : List Move) (e : Entry) (show : Show) → IsQuiet e
+    → with_open (Some n) moves (show_with (record { section = InCue n; part = p; entry = e }) show)
+    ≡ show_with (record { section = InCue n; part = p; entry = e }) (with_open (Some n) moves show)
+show_apart n p moves e show says =
+    λ j. record (show_with (record { section = InCue n; part = p; entry = e }) show) { cues = quiet_cues n p moves e show.cues says j }
+
+shown_apart : (t : ReadingState) (n i : ℕ) (moves : List Move) (e : Entry) → t.section ≡ InCue n → IsQuiet e
+    → with_open (Some n) moves (step i e t).show ≡ (step i e (record t { show = with_open (Some n) moves t.show })).show
+shown_apart t n i moves e inside says =
+    let to : (show : Show) → cond (clears_all e) empty_show (show_with (placed_in t e) show)
+    ≡ show_with (record { section = InCue n; part = t.part; entry = e }) show
+    = λ show. ap (λ b. cond b empty_show (show_with (placed_in t e) show)) says.clears
+    ∙ ap (λ s. show_with (record { section = s; part = t.part; entry = e }) show) inside in
+    ap (with_open (Some n) moves) (to t.show) ∙ show_apart n t.part moves e t.show says ∙ sym (to (with_open (Some n) moves t.show))
+
+step_apart : (r q : Reader) (o : Option ℕ) (moves : List Move) (i : ℕ) (e : Entry) → IfSome o (λ n. (r.section ≡ InCue n) × IsQuiet e)
+    → IsStep r q i e → IsStep (with_cue_moves r o moves) (with_cue_moves q o moves) i e
+step_apart r q None moves i e says took = took
+step_apart r q (Some n) moves i e says took = record {
+  state = ap (λ (t : ReadingState). record t { show = with_open (Some n) moves t.show }) took.state
+      ∙ (λ j. record (step i e (state_of r)) { show = shown_apart (state_of r) n i moves e says.0 says.1 j });
+  ended = took.ended;
+}
+
+ok_apart : (r q : Reader) (o : Option ℕ) (moves : List Move) (i : ℕ) (x : Result Entry TextFault) → IfSome o (FitsIn r moves)
+    → IfSome o (λ n. IfOk x IsQuiet) → IsOkAnd x (IsStep r q i)
+    → IsOkAnd x (IsStep (with_cue_moves r o moves) (with_cue_moves q o moves) i) × IfSome o (FitsIn q moves)
+ok_apart r q o moves i (Err fault) fits says took = absurd took
+ok_apart r q None moves i (Ok e) fits says took = (took, tt)
+ok_apart r q (Some n) moves i (Ok e) fits says took =
+    (step_apart r q (Some n) moves i e (fits.inside, says) took, fits_still r q moves n i e fits says took.state)
+
+outcome_apart : (r q : Reader) (o : Option ℕ) (moves : List Move) (i : ℕ) (result : Result (Unit {0}) LineFault) (x : Result Entry TextFault)
+    → IfSome o (FitsIn r moves) → IfSome o (λ n. IfOk x IsQuiet) → Outcome r q i result x
+    → Outcome (with_cue_moves r o moves) (with_cue_moves q o moves) i result x × OnOk result (IfSome o (FitsIn q moves))
+outcome_apart r q o moves i (Ok done) x fits says took = ok_apart r q o moves i x fits says took
+outcome_apart r q o moves i (Err fault) x fits says took = (took, tt)
+
+words_quiet : (r : Reader) (o : Option ℕ) (moves : List Move) (i : ℕ) (line : List ℕ) (word : Word) (rest : List (List ℕ))
+    → IfSome o (FitsIn r moves) → keeps_cue word ≡ true → IfSome o (λ n. IfOk (entry_by_word (facts_of r i) line word rest) IsQuiet)
+words_quiet r None moves i line word rest fits is = tt
+words_quiet r (Some n) moves i line word rest fits is = quiet_word (facts_of r i) n line word rest fits.inside is
+
+-- a quiet line, and the moves besides
+pub quiet_took : (g : Reading) (q : Reader) (i : ℕ) (line : List ℕ) (word : Word) (rest : List (List ℕ)) (result : Result (Unit {0}) LineFault)
+    → Fits g → keeps_cue word ≡ true → IsStrictlySorted (λ cue. cue.number) g.reader.show.cues
+    → Outcome g.reader q i result (entry_by_word (facts_of g.reader i) line word rest)
+    → Outcome (settled g) (with_cue_moves q g.cue g.moves) i result (entry_by_word (facts_of (settled g) i) line word rest)
+    × OnOk result (IfSome g.cue (FitsIn q g.moves))
+quiet_took g q i line word rest result fits is rises took =
+    subst (λ facts. Outcome (settled g) (with_cue_moves q g.cue g.moves) i result (entry_by_word facts line word rest)
+    × OnOk result (IfSome g.cue (FitsIn q g.moves))) (sym (facts_apart g i rises))
+    (outcome_apart g.reader q g.cue g.moves i result (entry_by_word (facts_of g.reader i) line word rest) fits
+    (words_quiet g.reader g.cue g.moves i line word rest fits is) took)

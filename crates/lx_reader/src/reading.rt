@@ -3,7 +3,7 @@
 ghost use Rattle.std.specs.Prelude.{◌≡◌, ◌≤◌, None, [], true, length, OnOk};
 ghost use Rattle.std.specs.Option.{IsSomeAnd};
 ghost use Rattle.lx_base.specs.declared.TheConstants.{LINE_BYTES};
-ghost use Rattle.lx_spec.specs.declared.Section.TheVariants.{InCue};
+ghost use Rattle.lx_spec.specs.Entry.{cue_in};
 ghost use Rattle.lx_spec.specs.Limits.{desk_limits};
 ghost use Rattle.lx_spec.specs.Fields.{levels};
 ghost use Rattle.lx_spec.specs.LineRules.{entry_of, entry_by_word};
@@ -64,10 +64,21 @@ impl Reading {
         ensures reader { self.new.reader ≡ self.old.reader }
         ensures cue { result ≡ true → IsSomeAnd self.new.cue (FitsIn self.new.reader self.new.moves) }
     {
-        if let Some(_) = self.cue {
-            return true;
+        match self.cue {
+            Some(_) => true,
+            None => self.begins(),
         }
-        let Section::InCue(n) = self.reader.section else {
+    }
+
+    /// The same, where no moves stand apart.
+    fn begins(&mut self) -> bool
+        requires { self.old.cue ≡ None }
+        ensures same { settled self.new ≡ settled self.old }
+        ensures fits { Fits self.new }
+        ensures reader { self.new.reader ≡ self.old.reader }
+        ensures cue { result ≡ true → IsSomeAnd self.new.cue (FitsIn self.new.reader self.new.moves) }
+    {
+        let Some(n) = cue_in(self.reader.section) else {
             return false;
         };
         if !is_bare(&self.reader.show, n) {
@@ -158,6 +169,16 @@ impl Reading {
         widen_for(&mut self.reader.show, members, greatest);
         self.moves.put_all(members, self.reader.part);
         Ok(())
+    }
+}
+
+/// The cue in whose section a line stands.
+fn cue_in(section: Section) -> Option<CueNo>
+    ensures { result ≡ cue_in section }
+{
+    match section {
+        Section::InCue(n) => Some(n),
+        _ => None,
     }
 }
 
