@@ -192,3 +192,12 @@ quiet_took g q i line word rest result fits is rises took =
     × OnOk result (IfSome g.cue (FitsIn q g.moves))) (sym (facts_apart g i rises))
     (outcome_apart g.reader q g.cue g.moves i result (entry_by_word (facts_of g.reader i) line word rest) fits
     (words_quiet g.reader g.cue g.moves i line word rest fits is) took)
+
+-- a line once the moves were put in
+pub settled_took : (g : Reading) (r q : Reader) (o : Option ℕ) (moves : List Move) (i : ℕ) (line : List ℕ) (word : Word)
+    (rest : List (List ℕ)) (result : Result (Unit {0}) LineFault) → o ≡ None → r ≡ settled g
+    → Outcome r q i result (entry_by_word (facts_of r i) line word rest)
+    → Outcome (settled g) (with_cue_moves q o moves) i result (entry_by_word (facts_of (settled g) i) line word rest)
+settled_took g r q o moves i line word rest result none is took =
+    subst (λ (o : Option ℕ). Outcome (settled g) (with_cue_moves q o moves) i result (entry_by_word (facts_of (settled g) i) line word rest))
+    (sym none) (subst (λ (r : Reader). Outcome r q i result (entry_by_word (facts_of r i) line word rest)) is took)

@@ -187,6 +187,7 @@ fn is_bare(show: &Show, n: CueNo) -> bool
     ensures bare { result ≡ true → IsSomeAnd (cue_of show.now n) (λ cue. cue.moves ≡ []) }
     ensures sorted { IsStrictlySorted (λ cue. cue.number) show.now.cues }
 {
+    let _ = show.channels();
     match show.cue(n) {
         Some(cue) => cue.moves.as_slice().is_empty(),
         None => false,
