@@ -13,6 +13,7 @@ pub mod OpenMoves
 pub mod Settling
 pub mod OpenCue
 pub mod QuietLines
+pub mod OpenLevels
 pub mod Pairs
 mod PercentLevels
 pub mod ReadingStates
