@@ -1,8 +1,9 @@
 //! A reader that keeps the moves of the cue whose levels it reads apart, by channel, until the cue is done.
 
-ghost use Rattle.std.specs.Prelude.{◌≡◌, ◌≤◌, None, [], true, length, OnOk};
+ghost use Rattle.std.specs.Prelude.{◌≡◌, ◌≤◌, None, [], false, true, length, OnOk};
 ghost use Rattle.std.specs.Option.{IsSomeAnd};
 ghost use Rattle.lx_base.specs.declared.TheConstants.{LINE_BYTES};
+ghost use Rattle.lx_spec.specs.declared.Section.TheVariants.{NoRecord};
 ghost use Rattle.lx_spec.specs.Entry.{cue_in};
 ghost use Rattle.lx_spec.specs.Limits.{desk_limits};
 ghost use Rattle.lx_spec.specs.Fields.{levels};
@@ -40,6 +41,23 @@ pub(crate) struct Reading {
 }
 
 impl Reading {
+    /// Nothing was read yet.
+    pub(crate) fn new(alloc: Global, show: Show) -> Reading
+        ensures show { (settled result).show ≡ show }
+        ensures channels_set { (settled result).channels_set ≡ None }
+        ensures skipped { ((settled result).skipped ≡ 0) × ((settled result).first_skipped ≡ 0) }
+        ensures facts { ((settled result).identified ≡ false) × ((settled result).section ≡ NoRecord) × ((settled result).part ≡ 1) }
+        ensures ended { (settled result).ended ≡ false }
+        ensures fits { Fits result }
+    {
+        Reading {
+            reader: Reader::new(alloc, show),
+            cue: None,
+            moves: OpenMoves::new(),
+            list: Vec::new(alloc),
+        }
+    }
+
     /// Puts the moves that stand apart into their cue.
     pub(crate) fn settle(&mut self, alloc: Global) -> Result<(), AllocError>
         requires { Fits self.old }
