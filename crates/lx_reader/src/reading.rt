@@ -1,6 +1,6 @@
 //! A reader that keeps the moves of the cue whose levels it reads apart, by channel, until the cue is done.
 
-ghost use Rattle.std.specs.Prelude.{◌≡◌, ◌≤◌, None, [], false, true, length, OnOk};
+ghost use Rattle.std.specs.Prelude.{◌≡◌, ◌≤◌, ◌∷◌, None, [], false, true, codes, length, OnOk, IfSome};
 ghost use Rattle.std.specs.Option.{IsSomeAnd};
 ghost use Rattle.lx_base.specs.declared.TheConstants.{LINE_BYTES};
 ghost use Rattle.lx_spec.specs.declared.Section.TheVariants.{NoRecord};
@@ -12,6 +12,7 @@ ghost use Rattle.lx_lex.specs.Left.{left};
 ghost use Rattle.lx_reader.specs.LineOutcome.{IsReady, Outcome, facts_of};
 ghost use Rattle.lx_spec.specs.declared.Word.TheVariants as words;
 ghost use Rattle.lx_spec.specs.SortedList.{IsStrictlySorted};
+ghost use Rattle.lx_spec.specs.Text.{tokens};
 ghost use Rattle.lx_spec.specs.TrackedLevel.{cue_of};
 ghost use Rattle.lx_reader.specs.Settled.{Fits, FitsIn, keeps_cue, settled};
 
@@ -19,7 +20,7 @@ use crate::gathered::gather;
 use crate::levels::widen_for;
 use crate::line_fault::LineFault;
 use crate::open_moves::OpenMoves;
-use crate::reader::{Reader, levels_of};
+use crate::reader::Reader;
 use crate::word::word_of;
 use lx_base::CueNo;
 use lx_lex::{Tokens, tokens};
@@ -235,4 +236,15 @@ fn keeps_cue(word: Word) -> bool
             | Word::Block
             | Word::Assert
     )
+}
+
+/// The tokens behind the first one where that is CHAN in capitals and a space follows at once, as in most lines.
+#[inline]
+fn levels_of(line: &[u8]) -> Option<Tokens<'_>>
+    ensures { IfSome result (λ levels. tokens line.now ≡ codes "CHAN" ∷ left levels) }
+{
+    match line {
+        [b'C', b'H', b'A', b'N', b' ', levels @ ..] => Some(tokens(levels)),
+        _ => None,
+    }
 }
