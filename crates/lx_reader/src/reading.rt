@@ -22,11 +22,14 @@ use crate::line_fault::LineFault;
 use crate::open_moves::OpenMoves;
 use crate::reader::Reader;
 use crate::word::word_of;
-use lx_base::CueNo;
+use lx_base::{CUES, CueNo};
 use lx_lex::{Tokens, tokens};
 use lx_show::{MoveList, Show};
 use lx_spec::{Move, Section, Word};
 use std::alloc::{AllocError, Global};
+
+/// How many bytes make a line of levels long.
+const LONG_LINE: usize = 64;
 
 /// A show that is being read, and the moves of the cue that is open, which the show hasn't yet.
 #[derive(Drop)]
@@ -39,6 +42,8 @@ pub(crate) struct Reading {
     moves: OpenMoves,
     /// Room for them as a list.
     list: Vec<Move>,
+    /// How many cues had their moves apart so far.
+    opened: usize,
 }
 
 impl Reading {
@@ -56,6 +61,7 @@ impl Reading {
             cue: None,
             moves: OpenMoves::new(),
             list: Vec::new(alloc),
+            opened: 0,
         }
     }
 
@@ -76,7 +82,7 @@ impl Reading {
     }
 
     /// The moves of the section's cue stand apart from now on, if they can: it is a cue, and they do already or it has none.
-    fn opens(&mut self) -> bool
+    fn opens(&mut self, line: &[u8]) -> bool
         requires { Fits self.old }
         ensures same { settled self.new ≡ settled self.old }
         ensures fits { Fits self.new }
@@ -85,12 +91,13 @@ impl Reading {
     {
         match self.cue {
             Some(_) => true,
-            None => self.begins(),
+            None => self.begins(line),
         }
     }
 
-    /// The same, where no moves stand apart.
-    fn begins(&mut self) -> bool
+    /// The same, where no moves stand apart. To begin and to settle takes a look at every channel: so a cue whose first levels are a short
+    /// line is read the plain way, and so is each one behind as many as a show has, in a text that clears its cues again and again.
+    fn begins(&mut self, line: &[u8]) -> bool
         requires { self.old.cue ≡ None }
         ensures same { settled self.new ≡ settled self.old }
         ensures fits { Fits self.new }
@@ -100,9 +107,10 @@ impl Reading {
         let Some(n) = cue_in(self.reader.section) else {
             return false;
         };
-        if !is_bare(&self.reader.show, n) {
+        if line.len() < LONG_LINE || self.opened >= CUES || !is_bare(&self.reader.show, n) {
             return false;
         }
+        self.opened += 1;
         self.moves.clear();
         self.cue = Some(n);
         true
@@ -141,7 +149,7 @@ impl Reading {
             (entry_by_word (facts_of (settled self.old) i) line.now word (left tokens.entry)) }
         ensures fits { OnOk result (Fits self.new) }
     {
-        if is_levels(word) && self.reader.identified && self.opens() {
+        if is_levels(word) && self.reader.identified && self.opens(line) {
             return self.levels_line(i, tokens);
         }
         if keeps_cue(word) {
@@ -167,11 +175,12 @@ impl Reading {
             (entry_by_word (facts_of (settled self.old) i) line.now word (left tokens.entry)) }
         ensures fits { OnOk result (Fits self.new) }
     {
+        // That the show is valid is a fact for proofs.
         let _ = self.reader.show.channels();
         self.reader.line_of_word(alloc, i, line, word, tokens)
     }
 
-    /// `CHAN` with levels of the open cue
+    /// `CHAN` with levels of the open cue.
     fn levels_line(&mut self, i: u32, tokens: Tokens) -> Result<(), LineFault>
         requires ready { IsReady (settled self.old) i }
         requires open_cue { IsSomeAnd self.old.cue (FitsIn self.old.reader self.old.moves) }
@@ -206,6 +215,7 @@ fn is_bare(show: &Show, n: CueNo) -> bool
     ensures bare { result ≡ true → IsSomeAnd (cue_of show.now n) (λ cue. cue.moves ≡ []) }
     ensures sorted { IsStrictlySorted (λ cue. cue.number) show.now.cues }
 {
+    // That the show is valid is a fact for proofs.
     let _ = show.channels();
     match show.cue(n) {
         Some(cue) => cue.moves.as_slice().is_empty(),
