@@ -9,6 +9,11 @@ pub mod EntryRoots
 pub mod NamedRecords
 pub mod SectionLevels
 pub mod Members
+pub mod OpenMoves
+pub mod Settling
+pub mod OpenCue
+pub mod QuietLines
+pub mod OpenLevels
 pub mod Pairs
 mod PercentLevels
 pub mod ReadingStates

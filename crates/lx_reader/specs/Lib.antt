@@ -6,3 +6,5 @@ pub mod HandedLines
 pub mod LineOutcome
 pub mod Answer
 pub mod LookMoves
+pub mod OpenMoves
+pub mod Settled

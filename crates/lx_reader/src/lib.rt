@@ -10,11 +10,13 @@ mod lists;
 mod loaded;
 mod looks;
 mod numbers;
+mod open_moves;
 mod outer_line;
 mod pass;
 mod percents;
 mod presence;
 mod reader;
+mod reading;
 mod times;
 mod word;
 

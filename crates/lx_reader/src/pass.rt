@@ -1,16 +1,18 @@
 //! The pass over the lines of a show text.
 
-ghost use Rattle.std.specs.Prelude.{◌≡◌, ◌≤◌, ◌+◌, Err, IfSome, IsTrue};
+ghost use Rattle.std.specs.Prelude.{◌≡◌, ◌≤◌, ◌+◌, Err, IfSome, IsTrue, OnOk};
 ghost use Rattle.lx_io.specs.Causes.{Rose};
 ghost use Rattle.lx_spec.specs.Show.{Valid};
 ghost use Rattle.lx_reader.specs.LineOutcome.{IsReady, state_of};
 ghost use Rattle.lx_reader.specs.ReadingState.{final_reading};
+ghost use Rattle.lx_reader.specs.Settled.{Fits, settled};
 ghost use Rattle.lx_reader.specs.Answer.{AnswerOf, IsLoaded, TurnOf, reading_of};
 
 use crate::fault::ShowFault;
 use crate::loaded::Loaded;
 use crate::looks::looks_to_moves;
 use crate::reader::Reader;
+use crate::reading::Reading;
 use lx_base::DEFAULT_CHANNELS;
 use lx_io::Source;
 use lx_lex::{Lines, Step};
@@ -36,12 +38,12 @@ pub fn read_show<S: Source>(
     ensures read { result ≡ Err ShowFault.ReadFault → Rose (S.faults lines.old.source.now) (S.faults lines.new.source.now) }
 {
     let mut reader = match Show::new(alloc, 1) {
-        Ok(show) => Reader::new(alloc, show),
+        Ok(show) => Reading::new(alloc, show),
         Err(_) => return Err(ShowFault::Memory),
     };
     loop {
         read_line(alloc, lines, &mut reader)?;
-        if reader.ended {
+        if reader.reader.ended {
             return loaded_by(alloc, reader, form);
         }
     }
@@ -51,12 +53,14 @@ pub fn read_show<S: Source>(
 fn read_line<S: Source>(
     alloc: Global,
     lines: &mut Lines<S>,
-    reader: &mut Reader,
+    reader: &mut Reading,
 ) -> Result<(), ShowFault>
     requires going { IsTrue lines.old.going }
-    requires ready { IsReady reader.old (lines.old.number + 1) }
+    requires ready { IsReady (settled reader.old) (lines.old.number + 1) }
+    requires fits { Fits reader.old }
     ensures same_reference { lines.new.source.ghost_name ≡ lines.old.source.ghost_name }
-    ensures turn { TurnOf S.left S.faults lines.old lines.new reader.old reader.new result }
+    ensures turn { TurnOf S.left S.faults lines.old lines.new (settled reader.old) (settled reader.new) result }
+    ensures fits { OnOk result (Fits reader.new) }
     ensures later { S.faults lines.old.source.now ≤ S.faults lines.new.source.now }
     ensures read { result ≡ Err ShowFault.ReadFault → Rose (S.faults lines.old.source.now) (S.faults lines.new.source.now) }
 {
@@ -73,7 +77,19 @@ fn read_line<S: Source>(
 }
 
 /// What was read, in the form of the text.
-fn loaded_by(alloc: Global, reader: Reader, form: Form) -> Result<Loaded, ShowFault>
+fn loaded_by(alloc: Global, reading: Reading, form: Form) -> Result<Loaded, ShowFault>
+    requires { Fits reading }
+    ensures { IsLoaded form (settled reading) result }
+{
+    let mut reading = reading;
+    match reading.settle(alloc) {
+        Ok(()) => loaded_in_form(alloc, reading.reader, form),
+        Err(_) => Err(ShowFault::Memory),
+    }
+}
+
+/// The same, once the moves of the last cue were put into it.
+fn loaded_in_form(alloc: Global, reader: Reader, form: Form) -> Result<Loaded, ShowFault>
     ensures { IsLoaded form reader result }
 {
     let mut loaded = loaded(reader);

@@ -1,18 +1,15 @@
 //! What the lines so far say, and what is known of the next one.
 
-ghost use Rattle.std.specs.Prelude.{◌≡◌, ◌==◌, ◌≤◌, ◌<◌, ◌+◌, ◌∷◌, None, false, true, codes, length, IfSome, if◌then◌else◌};
-ghost use Rattle.lx_spec.specs.Text.{tokens};
-ghost use Rattle.lx_base.specs.declared.TheConstants.{LINE_BYTES};
+ghost use Rattle.std.specs.Prelude.{◌≡◌, ◌==◌, ◌<◌, ◌+◌, None, false, true, if◌then◌else◌};
 ghost use Rattle.lx_spec.specs.declared.Section.TheVariants.{NoRecord};
 ghost use Rattle.lx_spec.specs.declared.Word.TheVariants as words;
-ghost use Rattle.lx_spec.specs.LineRules.{entry_of, entry_by_word};
+ghost use Rattle.lx_spec.specs.LineRules.{entry_by_word};
 ghost use Rattle.lx_lex.specs.Left.{left};
 
 use crate::gathered::Gathered;
 use crate::line_fault::LineFault;
-use crate::word::word_of;
 use lx_base::{Chan, PartNo};
-use lx_lex::{Tokens, tokens};
+use lx_lex::Tokens;
 use lx_show::Show;
 use lx_spec::{Section, TextFault, Word};
 use std::alloc::Global;
@@ -86,24 +83,8 @@ impl Reader {
         self.part = PartNo::BASE;
     }
 
-    /// Goes on with line i, which isn't too long.
-    pub(crate) fn step(&mut self, alloc: Global, i: u32, line: &[u8]) -> Result<(), LineFault>
-        requires short { length line.now ≤ LINE_BYTES }
-        requires ready { IsReady self.old i }
-        ensures { Outcome self.old self.new i result (entry_of (facts_of self.old i) line.now) }
-    {
-        if let Some(levels) = levels_of(line) {
-            return self.line_of_word(alloc, i, line, Word::Chan, levels);
-        }
-        let mut tokens = tokens(line);
-        let Some(first) = tokens.next() else {
-            return Ok(());
-        };
-        self.line_of_word(alloc, i, line, word_of(first), tokens)
-    }
-
     /// A line of this word, which these tokens follow. The rules are tried in their order.
-    fn line_of_word(
+    pub(crate) fn line_of_word(
         &mut self,
         alloc: Global,
         i: u32,
@@ -169,16 +150,5 @@ impl Reader {
             }
             inner => self.inner_line(i, line, inner, tokens),
         }
-    }
-}
-
-/// The tokens behind the first one where that is CHAN in capitals and a space follows at once, as in most lines.
-#[inline]
-fn levels_of(line: &[u8]) -> Option<Tokens<'_>>
-    ensures { IfSome result (λ levels. tokens line.now ≡ codes "CHAN" ∷ left levels) }
-{
-    match line {
-        [b'C', b'H', b'A', b'N', b' ', levels @ ..] => Some(tokens(levels)),
-        _ => None,
     }
 }

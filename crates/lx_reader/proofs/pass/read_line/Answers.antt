@@ -2,31 +2,32 @@ use Rattle.std.proofs.Common.{◌∙◌, Ok, Err, refl, sym, subst}
 use Rattle.lx_lex.proofs.CuttingOff.{not_read}
 use Rattle.lx_lex.proofs.HandingOut.{handed_one}
 use Rattle.lx_reader.specs.Answer.{TurnOf}
+use Rattle.lx_reader.specs.Settled.{settled}
 use Rattle.lx_reader.proofs.LinePass.{line_turn, long_turn}
 use Rattle.lx_reader.proofs.pass.read_line.Goals as goal
 
 pub returns-in-Ok-clause-turn : goal.returns-in-Ok-clause-turn
 returns-in-Ok-clause-turn g c =
     let e = c.in-Line.ensures in
-    line_turn g.S.Source.left g.S.Source.faults c.args.lines.now c.advance.new.self c.args.reader.now c.step.new.self (Ok c.in-Ok.field-0)
+    line_turn g.S.Source.left g.S.Source.faults c.args.lines.now c.advance.new.self (settled c.args.reader.now) (settled c.step.new.self) (Ok c.in-Ok.field-0)
     e.step.0 c.line.result.now c.number.result
     (handed_one g.S.Source.left g.S.Source.faults c.args.lines.now c.advance.new.self e.step.0 e.step.1 e.number e.going e.same_reference
-    e.later) (c.line.ensures.line ∙ e.step.2) (c.number.ensures ∙ e.number) c.in-Ok.ensures
+    e.later) (c.line.ensures.line ∙ e.step.2) (c.number.ensures ∙ e.number) c.in-Ok.ensures.outcome
 
 pub returns-in-Err-clause-turn : goal.returns-in-Err-clause-turn
 returns-in-Err-clause-turn g c =
     let e = c.in-Line.ensures in
-    subst (λ fault. TurnOf g.S.Source.left g.S.Source.faults c.args.lines.now c.advance.new.self c.args.reader.now c.step.new.self
+    subst (λ fault. TurnOf g.S.Source.left g.S.Source.faults c.args.lines.now c.advance.new.self (settled c.args.reader.now) (settled c.step.new.self)
     (Err fault)) (sym c.from.ensures)
-    (line_turn g.S.Source.left g.S.Source.faults c.args.lines.now c.advance.new.self c.args.reader.now c.step.new.self (Err c.in-Err.fault)
+    (line_turn g.S.Source.left g.S.Source.faults c.args.lines.now c.advance.new.self (settled c.args.reader.now) (settled c.step.new.self) (Err c.in-Err.fault)
     e.step.0 c.line.result.now c.number.result
     (handed_one g.S.Source.left g.S.Source.faults c.args.lines.now c.advance.new.self e.step.0 e.step.1 e.number e.going e.same_reference
-    e.later) (c.line.ensures.line ∙ e.step.2) (c.number.ensures ∙ e.number) c.in-Err.ensures)
+    e.later) (c.line.ensures.line ∙ e.step.2) (c.number.ensures ∙ e.number) c.in-Err.ensures.outcome)
 
 pub returns-in-LongLine-clause-turn : goal.returns-in-LongLine-clause-turn
 returns-in-LongLine-clause-turn g c =
     let e = c.in-LongLine.ensures in
-    long_turn g.S.Source.left g.S.Source.faults c.args.lines.now c.advance.new.self c.args.reader.now c.args.reader.now e.step.0
+    long_turn g.S.Source.left g.S.Source.faults c.args.lines.now c.advance.new.self (settled c.args.reader.now) (settled c.args.reader.now) e.step.0
     c.number-in-LongLine.result
     (handed_one g.S.Source.left g.S.Source.faults c.args.lines.now c.advance.new.self e.step.0 e.step.1 e.number e.going e.same_reference
     e.later) e.step.3 (c.number-in-LongLine.ensures ∙ e.number)

@@ -1,0 +1,30 @@
+use Rattle.std.proofs.Common.{◌≡◌, [], ap, ◌∙◌, sym, refl, subst}
+use Rattle.std.specs.List.{AllByRecursion}
+use Rattle.std.specs.Option.{IsSomeAnd}
+use Rattle.std.specs.Prelude.{IfSome}
+use Rattle.lx_spec.specs.Show.{ValidMove}
+use Rattle.lx_spec.specs.SortedList.{all_placed}
+use Rattle.lx_spec.specs.TrackedLevel.{cue_of}
+use Rattle.lx_reader.specs.Settled.{FitsIn}
+use Rattle.lx_reader.proofs.Settling.{placed_alone, settled_is}
+use Rattle.lx_reader.proofs.reading.Reading.settle.Goals as goal
+
+pub replace_moves-requires : goal.replace_moves-requires
+replace_moves-requires c =
+    let g = c.args.self.now in
+    let same : c.put_each.new.self ≡ g.moves = c.in_ok-put_each.ensures.ok
+    ∙ ap (λ xs. all_placed (λ m. m.chan) c.as_slice.result.now xs) c.new-moves.ensures
+    ∙ ap (λ ms. all_placed (λ m. m.chan) ms []) (c.as_slice.ensures.value ∙ c.in_ok-write_to.ensures.moves)
+    ∙ placed_alone (λ m. m.chan) g.moves c.write_to.ensures.sorted in
+    let fits : FitsIn g.reader g.moves c.in-Some.n = subst (λ o. IfSome o (FitsIn g.reader g.moves)) c.in-Some.is c.requires in
+    subst (λ ms. IsSomeAnd (cue_of g.reader.show c.in-Some.n) (λ cue. AllByRecursion (ValidMove g.reader.show.channels cue.parts) ms))
+    (sym same) fits.valid
+
+pub returns : goal.returns
+returns c =
+    let g = c.args.self.now in
+    let same : c.put_each.new.self ≡ g.moves = c.in_ok-put_each.ensures.ok
+    ∙ ap (λ xs. all_placed (λ m. m.chan) c.as_slice.result.now xs) c.new-moves.ensures
+    ∙ ap (λ ms. all_placed (λ m. m.chan) ms []) (c.as_slice.ensures.value ∙ c.in_ok-write_to.ensures.moves)
+    ∙ placed_alone (λ m. m.chan) g.moves c.write_to.ensures.sorted in
+    (refl, settled_is g c.in-Some.n c.put_each.new.self c.replace_moves.new.self c.in-Some.is same c.replace_moves.ensures.after)
