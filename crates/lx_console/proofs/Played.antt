@@ -174,27 +174,6 @@ stands_before show p after key made levels is other stands =
       stands = stands_over show p (record after { live = p.live }) levels s.started.base refl s.moment stands;
     }
 
-settled_state : (show : Show) (p after : Playback) (made : Option Run) → press show p Settle ≡ Ok (record { playback = after; run = made })
-    → record (at_rest p) { pending = None } ≡ after
-settled_state show p after made is =
-    let same : (record { playback = record (at_rest p) { pending = None }; run = Some (run_whole p (position_of p) 0) })
-    ≡ (record { playback = after; run = made }) = cc in
-    ap (λ (x : Played). x.playback) same
-
-pub settled_live : (show : Show) (p after : Playback) (key : PlayKey) (made : Option Run)
-    → press show p key ≡ Ok (record { playback = after; run = made }) → key ≡ Settle → after.live ≡ []
-settled_live show p after key made is settles =
-    ap (λ (x : Playback). x.live) (sym (settled_state show p after made
-    (subst (λ k. press show p k ≡ Ok (record { playback = after; run = made })) settles is)))
-
--- no key changes the moment
-pub key_moment : (show : Show) (p after : Playback) (key : PlayKey) (made : Option Run)
-    → press show p key ≡ Ok (record { playback = after; run = made }) → after.moment ≡ p.moment
-key_moment show p after Go made is = (go_key (cue_above show (position_of p)) p after made is).moment
-key_moment show p after Back made is = (back_key (cue_below show (position_of p)) p after made is).moment
-key_moment show p after (Goto n) made is = (goto_key (the_cue show n) p after made is).moment
-key_moment show p after Settle made is = ap (λ (x : Playback). x.moment) (sym (settled_state show p after made is))
-
 -- the levels that stood before the tick, brought to its moment
 pub stands_started : (show : Show) (p before : Playback) (m : ℕ) (levels : Levels) → m ≡ p.moment
     → LevelsStandFor show (record before { moment = m }) levels → IsStarted before p → StandsBefore show p levels

@@ -37,7 +37,7 @@ use std::alloc::Global;
 const PIECE: usize = 65_536;
 
 /// What a session came to.
-#[derive(Clone, Copy, Debug, PartialEq, Eq)]
+#[derive(Clone, Copy)]
 pub(crate) struct Report {
     /// How many cues were made.
     pub(crate) cues: u64,

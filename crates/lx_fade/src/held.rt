@@ -48,7 +48,7 @@ pub fn held_at(fade: &Fade, m: Moment) -> Held
 }
 
 /// How far a level has moved, and when it has moved by one more.
-#[derive(Clone, Copy, PartialEq, Eq, Debug)]
+#[derive(Clone, Copy)]
 struct Step {
     moved: Level,
     next: Cs,

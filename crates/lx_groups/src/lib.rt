@@ -3,8 +3,6 @@
 
 mod group;
 mod scaled;
-#[cfg(test)]
-mod tests;
 
 pub use group::members;
 pub use scaled::Members;

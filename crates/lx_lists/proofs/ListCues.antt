@@ -96,15 +96,7 @@ pub all_second : (show : Show) (cue : Cue) → IsStrictlySorted (λ x. x.number)
     → SECOND_LIST ≤ cue.number → second_show show ≡ show
 all_second show cue sorted is from = with_cues show _ (filter_all _ show.cues (all_from show.cues cue sorted is from))
 
-pub no_second : (show : Show) → slice_get show.cues 0 ≡ None → second_show show ≡ show
-no_second show is = with_cues show _
-    (ap (filter (λ (cue : Cue). nat_le SECOND_LIST cue.number)) (none_there show.cues is) ∙ sym (none_there show.cues is))
-
 -- the highest cue is of the first list, or there is none
 pub all_first : (show : Show) (cue : Cue) → IsStrictlySorted (λ x. x.number) show.cues
     → slice_get show.cues (length show.cues - 1) ≡ Some cue → cue.number < SECOND_LIST → first_show show ≡ show
 all_first show cue sorted is below = with_cues show _ (filter_all _ show.cues (all_below show.cues cue sorted is below))
-
-pub no_first : (show : Show) → slice_get show.cues (length show.cues - 1) ≡ None → first_show show ≡ show
-no_first show is = with_cues show _
-    (ap (filter (λ (cue : Cue). nat_lt cue.number SECOND_LIST)) (none_last show.cues is) ∙ sym (none_last show.cues is))

@@ -13,28 +13,28 @@ const MODULUS: u64 = 2_147_483_648;
 const LOW: u32 = 65_536;
 
 /// A channel and its level in percent.
-#[derive(Clone, Copy, Debug, PartialEq, Eq)]
+#[derive(Clone, Copy)]
 pub(crate) struct Setting {
     pub(crate) channel: u32,
     pub(crate) percent: u32,
 }
 
 /// A cue: its time in seconds, and its channels with their levels.
-#[derive(Clone, Copy, Debug, PartialEq, Eq)]
+#[derive(Clone, Copy)]
 pub(crate) struct Cue {
     pub(crate) up: u32,
     pub(crate) settings: [Setting; 4],
 }
 
 /// A turn of the script: the ticks after its key, and the level that it sets.
-#[derive(Clone, Copy, Debug, PartialEq, Eq)]
+#[derive(Clone, Copy)]
 pub(crate) struct Turn {
     pub(crate) ticks: u32,
     pub(crate) setting: Setting,
 }
 
 /// Numbers that are drawn one after another, each made of the one before.
-#[derive(Debug, PartialEq, Eq, Drop)]
+#[derive(Drop)]
 pub(crate) struct Draws {
     number: u32,
 }

@@ -11,18 +11,20 @@ ghost use Rattle.lx_make.specs.Generator.{chan_text, cue_head, cue_text, go_text
 use crate::draws::{Cue, Draws, Setting, Turn};
 use lx_io::{PlainSink, Sink, SinkFault, put_all};
 use lx_lex::put_whole;
-use std::alloc::Global;
+use std::alloc::{AllocError, Global};
 
 /// How many channels the show is patched to, each to the dimmer of its number.
 const PATCHED: u32 = 512;
 
-/// The input: a show of so many cues, and a script of as many turns. The fault is want of memory.
-pub fn made_input(alloc: Global, cues: u32) -> Result<Vec<u8>, SinkFault>
+/// The input: a show of so many cues, and a script of as many turns. An error comes where memory is wanting.
+pub fn made_input(alloc: Global, cues: u32) -> Result<Vec<u8>, AllocError>
     ensures { IfOk result (λ input. input.items ≡ made_input cues) }
 {
     let mut sink = PlainSink::new(alloc);
-    put_input(cues, &mut sink)?;
-    Ok(sink.into_bytes())
+    match put_input(cues, &mut sink) {
+        Ok(()) => Ok(sink.into_bytes()),
+        Err(_) => Err(AllocError),
+    }
 }
 
 /// Appends the input.

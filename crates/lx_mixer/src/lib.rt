@@ -2,7 +2,5 @@
 #![tactic(auto)]
 
 mod mix;
-#[cfg(test)]
-mod tests;
 
 pub use mix::mix_into;

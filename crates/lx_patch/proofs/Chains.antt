@@ -8,20 +8,6 @@ use Rattle.lx_base.specs.declared.TheConstants.{CHANNELS, SLOTS}
 use Rattle.lx_base.specs.Numbers.{scaled}
 use Rattle.lx_patch.specs.Followed.{Follows, IsChained}
 
--- before the last dimmer no channel has one
-pub chained_none : (places levels first next : List ℕ) → length first ≡ CHANNELS → length next ≡ SLOTS
-    → ((k : ℕ) → k < CHANNELS → get_or first k 0 ≡ SLOTS) → IsChained places levels first next SLOTS
-chained_none places levels first next first_reach next_reach none = record {
-  first_reach = first_reach;
-  next_reach = next_reach;
-  first_low = λ k within. omega (arith, none k within);
-  first_own = λ k within below. absurd (omega (arith, none k within, below));
-  first_all = λ k e within past below follows. absurd (omega arith);
-  next_later = λ e past below lit. absurd (omega arith);
-  next_own = λ e past below lit then. absurd (omega arith);
-  next_all = λ e d past below lit later within follows. absurd (omega arith);
-}
-
 -- a dimmer that is dark follows no channel
 pub chained_dark : (places levels first next : List ℕ) (from e : ℕ) → IsChained places levels first next from → e + 1 ≡ from
     → get_or levels e 0 ≡ 0 → IsChained places levels first next e

@@ -46,34 +46,6 @@ pub table_from_filled : (rows : List PatchRow) (table : DimmerTable) (outs slots
 table_from_filled rows table outs slots stands reach filled =
     record { reach = reach; each = λ e within. filled e (omega arith) within ∙ sym (slot_value rows table outs e stands within) }
 
--- none follows yet
-pub followed_none : (places levels before outs slots : List ℕ) → IsFilled places levels before slots 0 SLOTS
-    → IsFollowed places levels before outs slots SLOTS 0
-followed_none places levels before outs slots filled = record {
-  done = λ e within below. absurd (omega arith);
-  left = λ e within past. filled e (omega arith) within;
-}
-
--- those of the next channel whose output changed
-pub followed_next : (places levels before outs slots after : List ℕ) (from k out : ℕ)
-    → IsFollowed places levels before outs slots SLOTS from → from ≤ k → Agree before outs from k → out ≡ get_or outs k 0
-    → ((e : ℕ) → e < SLOTS → Follows places levels k e → get_or after e 0 ≡ scaled out (get_or levels e 0))
-    → ((e : ℕ) → e < SLOTS → get_or places e 0 ≢ k → get_or after e 0 ≡ get_or slots e 0)
-    → ((e : ℕ) → e < SLOTS → get_or levels e 0 ≡ 0 → get_or after e 0 ≡ get_or slots e 0)
-    → IsFollowed places levels before outs after SLOTS (k + 1)
-followed_next places levels before outs slots after from k out is least agree out_is here others unlit = record {
-  done = λ e within below. elim (cases_eq (get_or places e 0) k) [
-    | inl same ↦ own e within same
-    | inr other ↦ others e within other ∙ passed e within (omega (arith, other))
-  ];
-  left = λ e within past. others e within (λ same. absurd (omega arith)) ∙ is.left e within (omega arith);
-} where
-  passed : (e : ℕ) → e < SLOTS → get_or places e 0 < k → get_or slots e 0 ≡ scaled (get_or outs (get_or places e 0) 0) (get_or levels e 0)
-  passed e within below = elim (cases_lt (get_or places e 0) from) [
-    | inl low ↦ is.done e within low
-    | inr high ↦ is.left e within high ∙ ap (λ n. scaled n (get_or levels e 0)) (agree (get_or places e 0) high below)
-  ]
-
   own : (e : ℕ) → e < SLOTS → get_or places e 0 ≡ k → get_or after e 0 ≡ scaled (get_or outs (get_or places e 0) 0) (get_or levels e 0)
   own e within same = elim (some_or_none (get_or levels e 0)) [
     | inl dark ↦

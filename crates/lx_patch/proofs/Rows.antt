@@ -14,13 +14,6 @@ use Rattle.lx_spec.proofs.Comparisons.{and_known, eq_other, eq_true}
 use Rattle.lx_spec.proofs.Lists.{each, find_both, find_none, passes}
 use Rattle.lx_spec.proofs.SortedLists.{entry_at-placed_here, entry_at-placed_other}
 
--- no dimmer is patched
-pub stands_for_none : StandsForPatch [] (record { places = replicate SLOTS 0; levels = replicate SLOTS 0 })
-stands_for_none = record {
-  places = record { reach = length-replicate {A = ℕ} SLOTS 0; each = λ k within. get_or-replicate {A = ℕ} SLOTS k 0 0 within };
-  levels = record { reach = length-replicate {A = ℕ} SLOTS 0; each = λ k within. get_or-replicate {A = ℕ} SLOTS k 0 0 within };
-}
-
 -- neither is it when every place and level is 0
 pub wired_none : (places levels : List ℕ) → places ≡ replicate SLOTS 0 → levels ≡ replicate SLOTS 0 → IsWired places levels
 wired_none places levels places_are levels_are = record {

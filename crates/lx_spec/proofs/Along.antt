@@ -74,7 +74,3 @@ along-same m n c level [] low high = refl
 along-same m n c level (cue ∷ cues) low high =
     ap (λ l. along m c l cues) (step_in m c level cue low.0 ∙ sym (step_in n c level cue high.0))
     ∙ along-same m n c (cond (nat_le cue.number n) (tracked_on c cue level) level) cues low.1 high.1
-
-above_first : {A : Type 0} (key : A → ℕ) (n : ℕ) (y : A) (ys : List A) → n < key y → AllByRecursion (λ z. key y < key z) ys
-    → AllByRecursion (λ z. n < key z) ys
-above_first key n y ys less all = each (λ z. key y < key z) (λ z. n < key z) ys (λ z h. omega (arith, h)) all

@@ -132,9 +132,6 @@ kept_around before after n below other above x now =
       sorted = now.sorted;
     }
 
-some_differs : {A : Type 0} (x : A) → Some x ≡ None → ⊥
-some_differs x is = cc
-
 -- a cue above the number is one of those above
 is_above : (show : Show) (n k : ℕ) (below here above : List Cue) → IsAround n show.cues below here above → n < k
     → cue_of show k ≡ entry_at (λ cue. cue.number) k above

@@ -34,9 +34,6 @@ with_full label b full =
     elim (kept_byte b) as (λ k. label ≡ (if k && nat_lt (length label) LABEL_BYTES then begun_with is_blank label b else label))
     [ true ↦ rw few refl | false ↦ refl ]
 
-pub with_line_end : (label : List ℕ) (b : ℕ) → (b == 13 || b == 10) ≡ true → label ≡ with_byte label b
-with_line_end label b ends = rw ends refl
-
 pub with_first_blank : (label : List ℕ) (b : ℕ) → (b == 13 || b == 10) ≡ false → (length label == 0) ≡ true → is_blank b ≡ true
     → label ≡ with_byte label b
 with_first_blank [] b ends none blank = rw (ends, blank) refl

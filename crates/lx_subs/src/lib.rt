@@ -3,7 +3,5 @@
 
 mod rack;
 mod raise;
-#[cfg(test)]
-mod tests;
 
 pub use rack::SubRack;
