@@ -6,4 +6,3 @@ pub mod Rules
 pub mod SentLines
 pub mod Served
 pub mod Works
-pub mod Zip

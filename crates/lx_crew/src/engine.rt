@@ -10,13 +10,13 @@ ghost use Rattle.lx_crew.specs.Answering.{HasServed, Marked, OutputCause, TookOn
 use crate::answering::{answer_entry, flush};
 use crate::entry::{Entry, Sent};
 use crate::rule::{Gets, Queue, View};
-use crate::work::Job;
 use crossbeam_queue::Pass;
 use crossbeam_utils::sync::Parker;
 use lx_base::OPERATORS;
 use lx_console::Console;
 use lx_io::{Sink, SinkFault};
 use lx_session::Tally;
+use lx_work::Work;
 use std::sync::Wait;
 
 /// A place for each operator.
@@ -36,7 +36,7 @@ pub struct Engine<'q, 'p, 'w, 'c, 'k, K> {
     pub output: Option<SinkFault>,
 }
 
-impl<K: Sink> Job for Engine<'_, '_, '_, '_, '_, K> {
+impl<K: Sink> Work for Engine<'_, '_, '_, '_, '_, K> {
     ghost use Rattle.std.specs.Prelude.{◌≡◌, ◌≤◌, [], None};
     ghost use Rattle.crossbeam_queue.specs.Passes.{view, IsPassOf, IsSamePass};
     ghost use Rattle.lx_crew.specs.Rule.{engine_view};

@@ -9,7 +9,6 @@ mod follows;
 mod operator;
 mod rule;
 mod running;
-mod work;
 
 pub use engine::Engine;
 pub use entry::{Entry, LineText, Sent};
@@ -18,4 +17,3 @@ pub use follows::Follows;
 pub use operator::Operator;
 pub use rule::{Enters, Gets, Law, Leaves, Queue, Sends, Total, View};
 pub use running::{Crewed, crew};
-pub use work::{Job, run_all, run_beside};

@@ -10,12 +10,12 @@ use crate::entry::{Entry, LineText, Sent};
 use crate::fault::OperatorFault;
 use crate::follows::{Follows, what_follows};
 use crate::rule::{Queue, Sends, View};
-use crate::work::Job;
 use crossbeam_queue::Pass;
 use crossbeam_utils::Backoff;
 use crossbeam_utils::sync::Unparker;
 use lx_io::Source;
 use lx_lex::{Lines, Step};
+use lx_work::Work;
 use std::sync::Wait;
 
 /// What an operator owns while it runs, and how it ended.
@@ -31,7 +31,7 @@ pub struct Operator<'q, 'e, S> {
     pub fault: Option<OperatorFault>,
 }
 
-impl<S: Source> Job for Operator<'_, '_, S> {
+impl<S: Source> Work for Operator<'_, '_, S> {
     ghost ready = { λ x. IsPassOf x.queue.now x.pass × (view x.pass ≡ operator_view x.place []) };
 
     ghost done = { λ x y. IsSamePass x.pass y.pass × HasSent S.left S.faults x.place x.source y.source (view y.pass) y.fault };

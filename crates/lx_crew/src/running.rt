@@ -17,12 +17,12 @@ use crate::entry::Entry;
 use crate::fault::OperatorFault;
 use crate::operator::Operator;
 use crate::rule::{Enters, Leaves, Queue, Total, View};
-use crate::work::run_beside;
 use crossbeam_queue::Pass;
 use crossbeam_utils::sync::{Parker, Unparker};
 use lx_console::Console;
 use lx_io::{Sink, SinkFault, Source};
 use lx_session::Tally;
+use lx_work::run_after;
 use std::alloc::{AllocError, Global};
 use std::sync::Wait;
 use std::thread::Threads;
@@ -115,7 +115,7 @@ fn perform<'q, 'e, R: Threads + Wait + Sync, S: Source + Send, K: Sink + Send>(
         tally: Tally::new(),
         output: None,
     };
-    run_beside(rt, &mut engine, works);
+    run_after(rt, works, &mut engine);
     (engine.tally, engine.output)
 }
 

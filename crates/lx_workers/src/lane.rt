@@ -5,9 +5,10 @@ ghost use Rattle.lx_gate.specs.Readings.{Tapped};
 ghost use Rattle.lx_workers.specs.Works.{HasServed, Delivered};
 
 use crate::worker::step;
-use crate::{Job, Served, Stop, serve};
+use crate::{Served, Stop, serve};
 use lx_gate::{Note, Port, Tap};
 use lx_io::{Pace, Sink};
+use lx_work::Work;
 use std::sync::Wait;
 
 /// One outlet's worker: its tap and its sink, the pace that it keeps, and the stop that it watches.
@@ -20,7 +21,7 @@ pub struct Lane<'a, P: Port, K, C> {
     pub pace: &'a C,
 }
 
-impl<P: Port, K: Sink, C: Pace> Job for Lane<'_, P, K, C> {
+impl<P: Port, K: Sink, C: Pace> Work for Lane<'_, P, K, C> {
     ghost ready = { λ x. Unit {0} };
 
     ghost done = { λ x y. HasServed K.holds K.faults K.wants P.show x.tap y.tap x.sink y.sink y.served };

@@ -8,11 +8,9 @@ mod lane;
 mod playing;
 mod script;
 mod senders;
-mod work;
 mod worker;
 
 pub use halt::{Halt, Stop, Watch};
 pub use lane::Lane;
 pub use playing::{OUTLETS, Played, play};
-pub use work::{Job, run_all, run_beside};
 pub use worker::{Served, serve};

@@ -19,13 +19,14 @@ ghost use Rattle.lx_workers.specs.Places.{IsFull, IsTaken, IsGiven};
 ghost use Rattle.lx_workers.specs.Playing.{HasPlayed};
 
 use crate::script::Engine;
-use crate::{Lane, Served, Stop, run_beside};
+use crate::{Lane, Served, Stop};
 use lx_base::UNIVERSES;
 use lx_console::Console;
 use lx_gate::{EmptyHistory, Gate, GatePort, GateWriter, Origin, Tap, Unsent};
 use lx_io::{Pace, Sink, SinkFault, Source};
 use lx_lex::Lines;
 use lx_session::{SessionFault, Tally};
+use lx_work::run_before;
 use std::alloc::{AllocError, Global};
 use std::marker::Brand;
 use std::sync::Wait;
@@ -204,7 +205,7 @@ fn perform<
         pace,
         session: Ok(Tally::new()),
     };
-    run_beside(rt, &mut engine, lanes.as_mut_slice());
+    run_before(rt, &mut engine, lanes.as_mut_slice());
     let session = engine.session;
     (lanes, session)
 }

@@ -6,12 +6,13 @@ ghost use Rattle.lx_gate.specs.Desks.{IsInStep};
 ghost use Rattle.lx_workers.specs.Engines.{HasRun, HasRunFrom};
 
 use crate::engine::{Publisher, publish};
-use crate::{Job, Stop};
+use crate::Stop;
 use lx_console::Console;
 use lx_gate::{Gate, GateWriter, Origin, Unsent, Window};
 use lx_io::{Pace, Sink, Source};
 use lx_lex::Lines;
 use lx_session::{SessionFault, Tally, session_with};
+use lx_work::Work;
 use std::alloc::Global;
 use std::sync::Wait;
 
@@ -29,7 +30,7 @@ pub struct Engine<'c, 'l, 's, 'k, 'g, 'u, 't, 'p, G: Origin, W: Window, S, K, C>
     pub session: Result<Tally, SessionFault>,
 }
 
-impl<G: Origin, S: Source, K: Sink, C: Pace> Job
+impl<G: Origin, S: Source, K: Sink, C: Pace> Work
     for Engine<'_, '_, '_, '_, '_, '_, '_, '_, G, GateWriter<G>, S, K, C> {
     ghost ready = { λ x. IsSomeAnd x.gate.now (λ held. IsInStep G.show held [] x.console.now)
         × (CanAdvance x.lines.now × (bytes_taken x.lines.now ≤ INPUT_BYTES)) };

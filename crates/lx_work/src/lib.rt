@@ -1,4 +1,6 @@
-//! Works that run at the same time.
+//! Works that run at the same time, each in a thread of its own.
+#![tactic(auto)]
+
 ghost use Rattle.std.specs.Prelude.{ℕ};
 ghost use Rattle.std.specs.List.{AllZip, All};
 ghost use Rattle.std.specs.Thread.{IsSync};
@@ -7,7 +9,7 @@ use std::sync::Wait;
 use std::thread::{Threads, join_mut};
 
 /// A work that is done once. It may wait.
-pub trait Job {
+pub trait Work {
     /// What may be asked before.
     ghost ready: { Self → Type 0 };
 
@@ -20,9 +22,9 @@ pub trait Job {
         ensures { done self.old self.new };
 }
 
-/// Runs each work, in a thread of its own.
+/// Runs each work, in a thread of its own where one can be made.
 #[cycle(works)]
-pub fn run_all<R: Threads + Wait + Sync, W: Job + Send>(rt: &R, works: &mut [W])
+pub fn run_all<R: Threads + Wait + Sync, W: Work + Send>(rt: &R, works: &mut [W])
     requires { All W.ready works.old }
     ensures { AllZip W.done works.old works.new }
 {
@@ -39,7 +41,7 @@ pub fn run_all<R: Threads + Wait + Sync, W: Job + Send>(rt: &R, works: &mut [W])
 
 /// Runs two lists of works at the same time.
 #[cycle(works)]
-fn run_both<R: Threads + Wait + Sync, W: Job + Send>(rt: &R, left: &mut [W], right: &mut [W])
+fn run_both<R: Threads + Wait + Sync, W: Work + Send>(rt: &R, left: &mut [W], right: &mut [W])
     requires left { All W.ready left.old }
     requires right { All W.ready right.old }
     ensures left { AllZip W.done left.old left.new }
@@ -60,24 +62,51 @@ fn run_both<R: Threads + Wait + Sync, W: Job + Send>(rt: &R, left: &mut [W], rig
     );
 }
 
-/// Runs one work and a list of works at the same time. Where no thread can be made, it is run after them.
-pub fn run_beside<R: Threads + Wait + Sync, E: Job + Send, W: Job + Send>(
+/// Runs a list of works and, in this thread, one that they may wait for. Where no thread can be made for them, they run after it; no
+/// clause says so.
+pub fn run_before<R: Threads + Wait + Sync, F: Work + Send, W: Work + Send>(
     rt: &R,
-    engine: &mut E,
+    first: &mut F,
     works: &mut [W],
 )
-    requires engine { E.ready engine.old }
+    requires first { F.ready first.old }
     requires works { All W.ready works.old }
-    ensures engine { E.done engine.old engine.new }
+    ensures first { F.done first.old first.new }
     ensures works { AllZip W.done works.old works.new }
 {
     join_mut(
         rt,
         &mut || -> ()
             requires sync { IsSync R.row }
-            requires ready { E.ready engine.now }
-            ensures { E.done engine.entry.now engine.exit.now }
-        { engine.run(rt) },
+            requires ready { All W.ready works.now }
+            ensures { AllZip W.done works.entry.now works.exit.now }
+        { run_all(rt, works) },
+        &mut || -> ()
+            requires sync { IsSync R.row }
+            requires ready { F.ready first.now }
+            ensures { F.done first.entry.now first.exit.now }
+        { first.run(rt) },
+    );
+}
+
+/// Runs a list of works and one that may wait for them. Where no thread can be made, it runs after them; no clause says so.
+pub fn run_after<R: Threads + Wait + Sync, W: Work + Send, L: Work + Send>(
+    rt: &R,
+    works: &mut [W],
+    last: &mut L,
+)
+    requires works { All W.ready works.old }
+    requires last { L.ready last.old }
+    ensures works { AllZip W.done works.old works.new }
+    ensures last { L.done last.old last.new }
+{
+    join_mut(
+        rt,
+        &mut || -> ()
+            requires sync { IsSync R.row }
+            requires ready { L.ready last.now }
+            ensures { L.done last.entry.now last.exit.now }
+        { last.run(rt) },
         &mut || -> ()
             requires sync { IsSync R.row }
             requires ready { All W.ready works.now }
