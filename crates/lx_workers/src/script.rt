@@ -5,8 +5,8 @@ ghost use Rattle.lx_lex.specs.Unread.{CanAdvance, bytes_taken};
 ghost use Rattle.lx_gate.specs.Desks.{IsInStep};
 ghost use Rattle.lx_workers.specs.Engines.{HasRun, HasRunFrom};
 
-use crate::engine::{Publisher, publish};
 use crate::Stop;
+use crate::engine::{Publisher, publish};
 use lx_console::Console;
 use lx_gate::{Gate, GateWriter, Origin, Unsent, Window};
 use lx_io::{Pace, Sink, Source};
