@@ -46,16 +46,6 @@ pub table_from_filled : (rows : List PatchRow) (table : DimmerTable) (outs slots
 table_from_filled rows table outs slots stands reach filled =
     record { reach = reach; each = λ e within. filled e (omega arith) within ∙ sym (slot_value rows table outs e stands within) }
 
-  own : (e : ℕ) → e < SLOTS → get_or places e 0 ≡ k → get_or after e 0 ≡ scaled (get_or outs (get_or places e 0) 0) (get_or levels e 0)
-  own e within same = elim (some_or_none (get_or levels e 0)) [
-    | inl dark ↦
-        unlit e within dark ∙ is.left e within (omega (arith, same, least))
-        ∙ nothing (get_or before (get_or places e 0) 0) (get_or levels e 0) dark
-        ∙ sym (nothing (get_or outs (get_or places e 0) 0) (get_or levels e 0) dark)
-    | inr lit ↦ here e within (record { channel = same; lit = lit })
-        ∙ ap (λ n. scaled n (get_or levels e 0)) (out_is ∙ ap (λ n. get_or outs n 0) (sym same))
-  ]
-
 -- all that are left agree
 pub followed_all : (table : DimmerTable) (before outs slots : List ℕ) (from : ℕ)
     → IsFollowed table.places table.levels before outs slots SLOTS from → from ≤ length outs → Agree before outs from (length outs)
