@@ -1,6 +1,7 @@
 pub mod Texts
 pub mod Ready
 pub mod FirstWords
+pub mod WordLengths
 pub mod Phrases
 pub mod EditLines
 pub mod UndoLines

@@ -39,41 +39,70 @@ pub(crate) enum FirstWord {
     Quit,
 }
 
-/// How the first words are spelled, in capitals.
-static SPELLINGS: [(&[u8], FirstWord); 28] = [
-    (b"GO", FirstWord::Go),
+/// How the first words of two letters are spelled, in capitals.
+static OF_TWO: [(&[u8], FirstWord); 1] = [(b"GO", FirstWord::Go)];
+
+/// Those of three letters.
+static OF_THREE: [(&[u8], FirstWord); 3] = [
+    (b"CUE", FirstWord::Cue),
+    (b"SET", FirstWord::Set),
+    (b"SUB", FirstWord::Sub),
+];
+
+/// Those of four letters.
+static OF_FOUR: [(&[u8], FirstWord); 7] = [
     (b"BACK", FirstWord::Back),
     (b"GOTO", FirstWord::Goto),
-    (b"SETTLE", FirstWord::Settle),
-    (b"FADER", FirstWord::Fader),
-    (b"MASTER", FirstWord::Master),
     (b"TICK", FirstWord::Tick),
-    (b"CUE", FirstWord::Cue),
-    (b"DELETE", FirstWord::Delete),
-    (b"SET", FirstWord::Set),
-    (b"RELEASE", FirstWord::Release),
     (b"TIME", FirstWord::Time),
     (b"PART", FirstWord::Part),
-    (b"UNPART", FirstWord::Unpart),
-    (b"BLOCK", FirstWord::Block),
-    (b"UNBLOCK", FirstWord::Unblock),
-    (b"ASSERT", FirstWord::Assert),
-    (b"UNASSERT", FirstWord::Unassert),
-    (b"FOLLOW", FirstWord::Follow),
-    (b"LABEL", FirstWord::Label),
-    (b"GROUP", FirstWord::Group),
-    (b"SUB", FirstWord::Sub),
-    (b"PATCH", FirstWord::Patch),
-    (b"UNPATCH", FirstWord::Unpatch),
-    (b"FRAME", FirstWord::Frame),
-    (b"SHEET", FirstWord::Sheet),
     (b"SAVE", FirstWord::Save),
     (b"QUIT", FirstWord::Quit),
 ];
 
-/// The first word that a token is.
+/// Those of five letters.
+static OF_FIVE: [(&[u8], FirstWord); 7] = [
+    (b"FADER", FirstWord::Fader),
+    (b"BLOCK", FirstWord::Block),
+    (b"LABEL", FirstWord::Label),
+    (b"GROUP", FirstWord::Group),
+    (b"PATCH", FirstWord::Patch),
+    (b"FRAME", FirstWord::Frame),
+    (b"SHEET", FirstWord::Sheet),
+];
+
+/// Those of six letters.
+static OF_SIX: [(&[u8], FirstWord); 6] = [
+    (b"SETTLE", FirstWord::Settle),
+    (b"MASTER", FirstWord::Master),
+    (b"DELETE", FirstWord::Delete),
+    (b"UNPART", FirstWord::Unpart),
+    (b"ASSERT", FirstWord::Assert),
+    (b"FOLLOW", FirstWord::Follow),
+];
+
+/// Those of seven letters.
+static OF_SEVEN: [(&[u8], FirstWord); 3] = [
+    (b"RELEASE", FirstWord::Release),
+    (b"UNBLOCK", FirstWord::Unblock),
+    (b"UNPATCH", FirstWord::Unpatch),
+];
+
+/// Those of eight letters.
+static OF_EIGHT: [(&[u8], FirstWord); 1] = [(b"UNASSERT", FirstWord::Unassert)];
+
+/// The first word that a token is. It is compared with those of as many letters.
 pub(crate) fn first_word(token: &[u8]) -> Option<FirstWord>
     ensures { result ≡ looked_up first_words token.now }
 {
-    find_word(&SPELLINGS, token)
+    match token.len() {
+        2 => find_word(&OF_TWO, token),
+        3 => find_word(&OF_THREE, token),
+        4 => find_word(&OF_FOUR, token),
+        5 => find_word(&OF_FIVE, token),
+        6 => find_word(&OF_SIX, token),
+        7 => find_word(&OF_SEVEN, token),
+        8 => find_word(&OF_EIGHT, token),
+        _ => None,
+    }
 }

@@ -1,6 +1,6 @@
 -- A line that was attempted and replied to was answered.
 use Rattle.std.proofs.Common.{◌≡◌, ◌≤◌, ◌&&◌, ◌==◌, IsOk, ℕ, Bool, true, false, Option, Some, None, Result, Ok, Err, OnOk, List, [], ◌++◌, refl}
-use Rattle.std.proofs.Common.{sym, ap, ◌∙◌, subst, arith}
+use Rattle.std.proofs.Common.{sym, ap, ◌∙◌, subst, arith, append-nil}
 use Rattle.std.specs.Prelude.{is_some}
 use Rattle.lx_io.specs.declared.sink.SinkFault.{SinkFault}
 use Rattle.lx_io.specs.Puts.{Puts}
@@ -11,7 +11,7 @@ use Rattle.lx_spec.specs.declared.Line.TheVariants as lines
 use Rattle.lx_spec.specs.declared.Refusal.{Refusal}
 use Rattle.lx_spec.specs.Desk.{Desk, step}
 use Rattle.lx_spec.specs.Kept.{Kept}
-use Rattle.lx_spec.specs.Session.{Session, Counts, command_of, count_of, after_attempts}
+use Rattle.lx_spec.specs.Session.{Session, Counts, command_of, count_of, after_attempts, bad_reply}
 use Rattle.lx_spec.specs.RefusedPlaces.{is_edit, IsAcceptedEdit}
 use Rattle.lx_console.specs.Standing.{StandsFor}
 use Rattle.lx_session.specs.declared.tally.Tally.{Tally}
@@ -19,6 +19,7 @@ use Rattle.lx_session.specs.LineState.{LineState, next_of, unattempted}
 use Rattle.lx_session.specs.LineProgress.{LineProgress, IsWanted, resumed}
 use Rattle.lx_session.specs.LineReply.{reply_to, reply_for, counts_after, counts_in, counted as counted_in}
 use Rattle.lx_script.specs.declared.reply.Reply.{Reply}
+use Rattle.lx_script.specs.declared.reply.Reply.TheVariants as replies
 use Rattle.lx_script.specs.ReplyTexts.{reply_text}
 use Rattle.lx_session.specs.Attempts.{ListenedAttempt, heard_of}
 use Rattle.lx_session.proofs.AttemptSteps.{attempted_so, begun}
@@ -164,3 +165,31 @@ one_command all heard holds faults wants sink sink' result s command refusal bef
     (none_left meaning refusal) counted
     (λ d here. subst (Puts holds faults wants sink sink' result) (ap reply_text is ∙ reply_is d command refusal) puts)
     (λ d here. on_ok result _ (counts ∙ ap (λ r. counted_in r (counts_in before)) is ∙ counts_is d (counts_in before) command refusal))
+
+-- A bad line attempts nothing, and was replied to.
+pub bad_line : {K T : Type 0} (all : Bool) (heard : List Command → Type 0) (holds : K → Option (List ℕ)) (faults wants : K → ℕ)
+    (sink sink' : K) (result : Result T SinkFault) (s : Session) (console : Kept) (before after : Tally) → StandsFor s.desk console
+    → s.counts ≡ counts_in before → heard [] → Puts holds faults wants sink sink' result (reply_text replies.Bad)
+    → counts_in after ≡ counted_in replies.Bad (counts_in before)
+    → LineAnswer all heard holds faults wants sink sink' result s None console after
+bad_line all heard holds faults wants sink sink' result s console before after stands counted h puts counts = record {
+  next = bad_reply s;
+  wanted = false;
+  goes_on =
+      record {
+        later = omega arith;
+        some = λ odd. cc;
+        by = λ places w. refl;
+        at_edit = λ odd every. cc;
+        commands = [];
+        accepted = sym (append-nil s.accepted);
+        desk = refl;
+        listened = h;
+      };
+  stands = stands;
+  reply = reply_text replies.Bad;
+  text = refl;
+  puts = puts;
+  counts =
+      on_ok result _ (ap (counted_in replies.Bad) counted ∙ sym counts);
+}

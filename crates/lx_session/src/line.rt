@@ -20,7 +20,7 @@ use crate::tally::Tally;
 use crate::turn::{Turn, try_command};
 use lx_console::Console;
 use lx_io::{Sink, SinkFault};
-use lx_script::{Brief, Reading};
+use lx_script::{Brief, Reading, Reply};
 use lx_spec::{Command, Key, Line, Refusal};
 
 /// Does what a line asks for, then appends its replies and counts them. None stands for a line that is too
@@ -45,11 +45,11 @@ pub fn answer<L: Listener, K: Sink>(
     ensures cause { HasSinkCause K.faults K.wants sink.old sink.new result }
     ensures more { HasOneMore tally.old tally.new }
 {
-    let reading = reading_of(line);
-    if let Reading::Brief(Brief::Key(key)) = reading {
-        return answer_key(listener, console, key, sink, tally);
+    match reading_of(line) {
+        Reading::Bad => give(Reply::Bad, sink, tally),
+        Reading::Brief(Brief::Key(key)) => answer_key(listener, console, key, sink, tally),
+        reading => answer_read(listener, console, line, &reading, sink, tally),
     }
-    answer_read(listener, console, line, &reading, sink, tally)
 }
 
 /// As `answer`, of a line that presses a key or moves a fader: no turn is made for it, since it has one command, by value.

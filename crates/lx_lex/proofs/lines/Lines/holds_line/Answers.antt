@@ -1,6 +1,8 @@
-use Rattle.std.proofs.Common.{sym, ◌∙◌}
-use Rattle.lx_lex.proofs.Feeds.{has_feed-found}
+use Rattle.std.proofs.Common.{sym, arith}
+use Rattle.lx_lex.proofs.Ranges.{has_feed-range}
 use Rattle.lx_lex.proofs.lines.Lines.holds_line.Goals as goal
 
 pub returns : goal.returns
-returns g c = c.is_some.ensures ∙ sym (has_feed-found _ _ c.memchr.ensures)
+returns g c =
+    let l = c.args.self.now in
+    sym (has_feed-range l.buffer l.start l.feed l.end l.ordered (omega arith) l.held l.unfed l.fed)
