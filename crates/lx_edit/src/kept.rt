@@ -12,7 +12,7 @@ ghost use Rattle.lx_edit.specs.Kept.{DecidesOutside, changed_show, decided, deci
 use crate::absent::{all_channels, channel, the_cue};
 use crate::blocks::below;
 use crate::marks::entry_near;
-use crate::moves::{add, with_moves};
+use crate::moves::{add, copy_with};
 use crate::plans::Plan;
 use lx_base::{Chan, ChanRange, CueNo, Level};
 use lx_show::{Cue, Edit, Move, MoveList, Refusal, Show};
@@ -118,7 +118,7 @@ fn keeping(
     ensures valid { IfOk result (ValidCue show.now.channels) }
 {
     let moves = kept_moves(alloc, show, n, old, new, above, within)?;
-    with_moves(show.channels(), above.copy()?, moves.as_slice())
+    copy_with(show.channels(), above, moves.as_slice())
 }
 
 /// The moves that keep the levels of the cue above.
