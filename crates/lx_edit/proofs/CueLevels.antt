@@ -1,22 +1,23 @@
 -- Cues with moves placed and taken out.
 use Rattle.std.proofs.Common.{◌≡◌, ℕ, zero, suc, ◌+◌, ◌-◌, ◌<◌, ◌≤◌, Bool, true, false, cond, List, [], ◌∷◌, ◌++◌, Some, None, refl, ◌∙◌}
 use Rattle.std.proofs.Common.{sym, ap, map, arith}
-use Rattle.std.specs.Prelude.{Option, IsTrue, IfSome, filter, not, ◌&&◌, nat_le, nat_lt, ◌==◌, if◌then◌else◌}
+use Rattle.std.specs.Prelude.{Option, IsTrue, IfSome, filter, ◌==◌, if◌then◌else◌}
 use Rattle.std.specs.Option.{option_map_or}
 use Rattle.std.specs.List.{AllByRecursion, range_with_len}
-use Rattle.std.proofs.lemmas.Bool.Decides.{nat_tests}
 use Rattle.lx_base.specs.Numbers.{Span}
 use Rattle.lx_spec.specs.declared.Part.{Part}
 use Rattle.lx_spec.specs.declared.Move.{Move}
 use Rattle.lx_spec.specs.declared.Member.{Member}
-use Rattle.lx_spec.specs.SortedList.{has_entry, taken_out}
-use Rattle.lx_spec.specs.Show.{Cue, Show, ValidCue, ValidMove, ValidMember}
+use Rattle.lx_spec.specs.SortedList.{has_entry}
+use Rattle.lx_base.specs.declared.TheConstants.{CHANNELS}
+use Rattle.lx_spec.specs.Show.{Cue, Show, InRange, IsLevel, ValidCue, ValidMove, ValidMember}
 use Rattle.lx_spec.specs.TrackedLevel.{move_in}
-use Rattle.lx_spec.specs.EditedShow.{all_at, in_proportion, part_for, without_moves, moves_for}
+use Rattle.lx_spec.specs.EditedShow.{all_at, in_proportion, part_for, with_moves, without_moves, moves_for}
 use Rattle.lx_show.proofs.ChangedCues.{with_other_moves}
+use Rattle.lx_show.proofs.Stretches.{All-all_placed, IsStrictlySorted-all_placed}
 use Rattle.lx_edit.specs.Found.{Fits}
 use Rattle.lx_edit.specs.Kept.{base_moves}
-use Rattle.lx_edit.proofs.Lists.{filter_both, filter_same, filter_true, chosen_more, range_below}
+use Rattle.lx_edit.proofs.Lists.{chosen_more, range_below}
 use Rattle.lx_spec.proofs.Lists.{found_has, kept_by}
 use Rattle.lx_spec.proofs.SortedLists.{IsStrictlySorted-filter}
 
@@ -47,23 +48,20 @@ valid_without_moves channels cue range valid =
     with_other_moves channels cue _ valid (kept_by (ValidMove channels cue.parts) _ cue.moves valid.moves)
     (IsStrictlySorted-filter (λ (m : Move). m.chan) _ cue.moves valid.moves_sorted)
 
-outside : (first c n : ℕ) → n ≡ first → not (nat_le first c && nat_lt c n) ≡ true
-outside first c n is = grind (arith, nat_tests)
+fitting : (channels : ℕ) (parts : List Part) (moves : List Move) → AllByRecursion (Fits channels parts) moves
+    → AllByRecursion (λ m. InRange CHANNELS m.chan × IsLevel m.level) moves → AllByRecursion (ValidMove channels parts) moves
+fitting channels parts [] fits all = tt
+fitting channels parts (m ∷ ms) fits all = (
+  record { chan = record { least = all.0.0.least; most = fits.0.chan }; part = fits.0.part; level = all.0.1 },
+  fitting channels parts ms fits.1 all.1,
+)
 
-pub none_left_out : (first n : ℕ) (moves : List Move) → n ≡ first → moves ≡ filter (λ m. not (nat_le first m.chan && nat_lt m.chan n)) moves
-none_left_out first n moves is = sym (filter_same (λ (m : Move). not (nat_le first m.chan && nat_lt m.chan n)) (λ m. true) moves
-    (λ m. outside first m.chan n is) ∙ filter_true moves)
-
-one_more : (first c n : ℕ) → first ≤ n → (not (nat_le first c && nat_lt c n) && not (c == n)) ≡ not (nat_le first c && nat_lt c (n + 1))
-one_more first c n le = grind (arith, nat_tests)
-
-pub one_left_out : (first n : ℕ) (moves : List Move) → first ≤ n
-    → taken_out (λ m. m.chan) n (filter (λ m. not (nat_le first m.chan && nat_lt m.chan n)) moves)
-    ≡ filter (λ m. not (nat_le first m.chan && nat_lt m.chan (n + 1))) moves
-one_left_out first n moves le =
-    filter_both (λ (m : Move). not (nat_le first m.chan && nat_lt m.chan n)) (λ (m : Move). not (m.chan == n)) moves
-    ∙ filter_same (λ (m : Move). not (nat_le first m.chan && nat_lt m.chan n) && not (m.chan == n))
-    (λ (m : Move). not (nat_le first m.chan && nat_lt m.chan (n + 1))) moves (λ m. one_more first m.chan n le)
+-- a cue with moves placed
+pub valid_with_moves : (channels : ℕ) (cue : Cue) (moves : List Move) → ValidCue channels cue → AllByRecursion (Fits channels cue.parts) moves
+    → AllByRecursion (λ m. InRange CHANNELS m.chan × IsLevel m.level) moves → ValidCue channels (with_moves cue moves)
+valid_with_moves channels cue moves valid fits all = with_other_moves channels cue _ valid
+    (All-all_placed (ValidMove channels cue.parts) _ moves cue.moves (fitting channels cue.parts moves fits all) valid.moves)
+    (IsStrictlySorted-all_placed (λ (m : Move). m.chan) moves cue.moves valid.moves_sorted)
 
 -- the channels of a range within the show's
 pub levels_within : (level first n top : ℕ) → first + n ≤ top + 1

@@ -13,7 +13,8 @@ use Rattle.lx_spec.specs.EditedShow.{with_cue}
 use Rattle.lx_show.specs.Around.{entries_up_to}
 use Rattle.lx_edit.specs.Found.{FoundCue}
 use Rattle.lx_edit.specs.Kept.{changed_show, decided, decided_by}
-use Rattle.lx_edit.specs.Planned.{CanPlace, IsAbove}
+use Rattle.lx_base.specs.Numbers.{Span}
+use Rattle.lx_edit.specs.Planned.{covers, CanPlace, IsAbove}
 use Rattle.lx_edit.proofs.Walks.{through, walked, tracked-with_cue, tracked-without_cue, up_to_first}
 use Rattle.lx_spec.proofs.Comparisons.{lt_from}
 use Rattle.lx_spec.proofs.Lists.{each, filter_all, filter_none, find_first, find_in_filter, find_passes, none_differs, passes}
@@ -174,3 +175,20 @@ above_both show n old above new c sorted here number is =
       above-before show n old above c sorted least here is,
       above-changed show n (option_copied new) above c sorted least (lent_number n new number) is,
     )
+
+-- a channel for which the same is decided keeps its level there
+pub unchanged : (show : Show) (n : ℕ) (old above : Cue) (new : Option (Bor Cue)) (c : ℕ) → IsStrictlySorted (λ x. x.number) show.cues
+    → FoundCue show n old → IfSome new (λ cue. cue.now.number ≡ n) → cue_above show n ≡ Some above
+    → decided_by (option_copied new) c ≡ decided old c
+    → not (tracked show above.number c == tracked (changed_show show n (option_copied new)) above.number c) ≡ false
+unchanged show n old above new c sorted here number is same =
+    let base = tracked show (n - 1) c in
+    let both = above_both show n old above new c sorted here number is in
+    sym (none_through (decides above c) (level_in above c) (unwrap_or (decided old c) base) _ _ both.0
+    (both.1 ∙ ap (λ (o : Option ℕ). through c (unwrap_or o base) above) same))
+
+pub outside_low : (range : Span) (c : ℕ) → c < range.first → covers range c ≡ false
+outside_low range c low = grind (arith, nat_tests)
+
+pub outside_high : (range : Span) (c : ℕ) → range.last < c → covers range c ≡ false
+outside_high range c high = grind (arith, nat_tests)

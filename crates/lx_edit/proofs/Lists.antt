@@ -68,3 +68,16 @@ chosen_more p f a k j is =
     ∙ ap (map f) (filter-append p (range_with_len a k) (j ∷ []))
     ∙ map_append f (filter p (range_with_len a k)) (filter p (j ∷ []))
     ∙ ap (λ ys. map f (filter p (range_with_len a k)) ++ ys) (chosen_step f j (p j))
+
+-- numbers that fail a test add nothing to those of a range that pass it
+pub none_past : (test : ℕ → Bool) (a k r m : ℕ) → m ≡ k + r → ((c : ℕ) → a + k ≤ c → c < a + m → test c ≡ false)
+    → filter test (range_with_len a m) ≡ filter test (range_with_len a k)
+none_past test a zero zero m is fails = ap (λ j. filter test (range_with_len a j)) is
+none_past test a zero (suc r) m is fails =
+    let more : m ≡ suc r = omega (arith, is) in
+    ap (λ j. filter test (range_with_len a j)) more ∙ rw (fails a (omega arith) (omega (arith, more)))
+    (none_past test (a + 1) zero r r (omega arith) (λ c low high. fails c (omega arith) (omega (arith, more))))
+none_past test a (suc k) r m is fails =
+    let more : m ≡ suc (k + r) = omega (arith, is) in
+    ap (λ j. filter test (range_with_len a j)) more ∙ ap (λ xs. cond (test a) (a ∷ xs) xs)
+    (none_past test (a + 1) k r (k + r) refl (λ c low high. fails c (omega arith) (omega (arith, more))))

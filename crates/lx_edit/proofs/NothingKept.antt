@@ -9,11 +9,11 @@ use Rattle.lx_spec.specs.Show.{Cue, Show, Valid}
 use Rattle.lx_spec.specs.TrackedLevel.{cue_above, decides, level_in, move_in, tracked}
 use Rattle.lx_spec.specs.EditedShow.{with_cue, with_moves, cue_only, kept_above, channels_of}
 use Rattle.lx_spec.proofs.Lists.{find_has}
-use Rattle.lx_spec.proofs.SortedLists.{IsStrictlySorted-placed, entry_at-placed_other, placed_same}
+use Rattle.lx_spec.proofs.SortedLists.{IsStrictlySorted-filter, IsStrictlySorted-placed, entry_at-placed_other, placed_same}
 use Rattle.lx_edit.specs.Found.{FoundCue}
-use Rattle.lx_edit.specs.Kept.{decided}
+use Rattle.lx_edit.specs.Kept.{changed_show, decided}
 use Rattle.lx_edit.specs.Planned.{with_move}
-use Rattle.lx_edit.proofs.KeptLevels.{above-before, above-changed, above_higher, cue_above-changed, cue_least, none_through, same_through}
+use Rattle.lx_edit.proofs.KeptLevels.{above-before, above-changed, cue_above-changed, cue_least, none_through, same_through}
 use Rattle.lx_edit.proofs.SameLists.{first_here, first_other, some_same}
 
 none_is : {A : Type 0} (x : A) → ◌≡◌ {A = Option A} None (Some x) → ⊥
@@ -34,6 +34,21 @@ found_entry : {A : Type 0} (key : A → ℕ) (p : A → Bool) (x : A) (xs : List
     → entry_at key (key x) xs ≡ Some x
 found_entry key p x [] sorted is = absurd (none_is x is)
 found_entry key p x (y ∷ ys) sorted is = found_step key p x y ys (p y) sorted is (λ h. found_entry key p x ys sorted.1 h)
+
+sorted_changed : (show : Show) (n : ℕ) (new : Option Cue) → IsStrictlySorted (λ x. x.number) show.cues
+    → IsStrictlySorted (λ x. x.number) (changed_show show n new).cues
+sorted_changed show n None sorted = IsStrictlySorted-filter (λ (x : Cue). x.number) _ show.cues sorted
+sorted_changed show n (Some cue) sorted = IsStrictlySorted-placed (λ (x : Cue). x.number) cue show.cues sorted
+
+-- the cue above is still there after the change: placed again it leaves the show
+pub above_again : (show : Show) (n : ℕ) (new : Option Cue) (above : Cue) → IsStrictlySorted (λ x. x.number) show.cues
+    → IfSome new (λ cue. cue.number ≡ n) → cue_above show n ≡ Some above → with_cue (changed_show show n new) above ≡ changed_show show n new
+above_again show n new above sorted number is =
+    let key : Cue → ℕ = λ x. x.number in
+    let after : Show = changed_show show n new in
+    let rises = sorted_changed show n new sorted in
+    ap (λ (cues : List Cue). record after { cues = cues }) (placed_same key above after.cues rises
+    (found_entry key (λ x. nat_lt n x.number) above after.cues rises (cue_above-changed show n new number ∙ is)))
 
 none_pass : {A : Type 0} (test : A → Bool) → ((x : A) → false ≡ test x) → (xs : List A) → filter test xs ≡ []
 none_pass test all [] = refl
@@ -71,19 +86,12 @@ kept_step show n cue entry None valid here is apart =
 kept_step show n cue entry (Some above) valid here is apart =
     let new : Cue = with_move cue entry in
     let after : Show = with_cue show new in
-    let key : Cue → ℕ = λ x. x.number in
-    let higher : n < above.number = above_higher show n above is in
-    let number : new.number ≡ n = here.number in
-    let there : entry_at key above.number after.cues ≡ Some above =
-    entry_at-placed_other key above.number new show.cues (λ h. omega (arith, h, number, higher))
-    ∙ found_entry key (λ x. nat_lt n x.number) above show.cues valid.cues_sorted is in
     let none = none_pass (λ c. not (tracked show above.number c == tracked after above.number c))
     (same_above show n cue above entry valid here is apart) (channels_of show) in
-    ap (λ (o : Option Cue). option_map_or (kept_above show after) o after) (cue_above-changed show n (Some new) number ∙ is)
+    ap (λ (o : Option Cue). option_map_or (kept_above show after) o after) (cue_above-changed show n (Some new) here.number ∙ is)
     ∙ ap (λ (cs : List ℕ). with_cue after (with_moves above
     (map (λ c. record { chan = c; part = 1; level = tracked show above.number c }) cs))) none
-    ∙ ap (λ (cues : List Cue). record show { cues = cues })
-    (placed_same key above after.cues (IsStrictlySorted-placed key new show.cues valid.cues_sorted) there)
+    ∙ above_again show n (Some new) above valid.cues_sorted here.number is
 
 -- so the edit is the same as without the cue above
 pub nothing_kept : (show : Show) (n : ℕ) (cue : Cue) (entry : Move) → Valid show → FoundCue show n cue

@@ -2,7 +2,7 @@
 
 ghost use Rattle.std.specs.Prelude.{◌≡◌, ℕ, true, false, ◌==◌, not, IfOk, IfSome, Some, None, if◌then◌else◌};
 ghost use Rattle.std.specs.Option.{option_copied};
-ghost use Rattle.lx_spec.specs.Show.{InRange, ValidCue};
+ghost use Rattle.lx_spec.specs.Show.{ValidCue};
 ghost use Rattle.lx_spec.specs.TrackedLevel.{tracked, cue_above, decides};
 ghost use Rattle.lx_spec.specs.EditedShow.{cue_only, with_cue, with_moves, moves_for};
 ghost use Rattle.lx_edit.specs.Found.{FoundCue};
@@ -12,7 +12,7 @@ ghost use Rattle.lx_edit.specs.Kept.{DecidesOutside, changed_show, decided, deci
 use crate::absent::{all_channels, channel, the_cue};
 use crate::blocks::below;
 use crate::marks::entry_near;
-use crate::moves::{add, with_moves};
+use crate::moves::{add, copy_with};
 use crate::plans::Plan;
 use lx_base::{Chan, ChanRange, CueNo, Level};
 use lx_show::{Cue, Edit, Move, MoveList, Refusal, Show};
@@ -66,8 +66,8 @@ fn into_moves(cue: Cue) -> MoveList
     cue.moves
 }
 
-/// Cue only, the cue above the edited one, with the moves that keep its levels; none where no cue is above it.
-/// An error comes where memory is wanting.
+/// Cue only, the cue above the edited one, with the moves that keep its levels; none where no cue is above it, or it
+/// keeps them as it is. An error comes where memory is wanting.
 fn kept_above(
     alloc: Global,
     show: &Show,
@@ -90,38 +90,18 @@ fn kept_above(
     if !only {
         return Ok(None);
     }
-    match show.cue_above(n) {
-        Some(above) => Ok(Some(keeping(alloc, show, n, old, new, above, within)?)),
-        None => Ok(None),
-    }
-}
-
-/// The cue above the edited one with the moves that keep its levels.
-fn keeping(
-    alloc: Global,
-    show: &Show,
-    n: CueNo,
-    old: &Cue,
-    new: Option<&Cue>,
-    above: &Cue,
-    within: ChanRange,
-) -> Result<Cue, AllocError>
-    requires there { FoundCue show.now n old.now }
-    requires number { IfSome new (λ cue. cue.now.number ≡ n) }
-    requires within { DecidesOutside within show.now.channels old.now (option_copied new) }
-    requires above { cue_above show.now n ≡ Some above.now }
-    requires valid { ValidCue show.now.channels above.now }
-    ensures kept { IfOk result (λ kept. kept ≡ with_moves above.now
-        (moves_for show.now (λ c. not
-        (tracked show.now above.now.number c == tracked (changed_show show.now n (option_copied new.entry)) above.now.number c))
-        (λ c. tracked show.now above.now.number c))) }
-    ensures valid { IfOk result (ValidCue show.now.channels) }
-{
+    let Some(above) = show.cue_above(n) else {
+        return Ok(None);
+    };
     let moves = kept_moves(alloc, show, n, old, new, above, within)?;
-    with_moves(show.channels(), above.copy()?, moves.as_slice())
+    let moves = moves.as_slice();
+    if moves.is_empty() {
+        return Ok(None);
+    }
+    Ok(Some(copy_with(show.channels(), above, moves)?))
 }
 
-/// The moves that keep the levels of the cue above.
+/// The moves that keep the levels of the cue above. They are of channels of the range.
 fn kept_moves(
     alloc: Global,
     show: &Show,
@@ -140,53 +120,42 @@ fn kept_moves(
         (tracked show.now above.now.number c == tracked (changed_show show.now n (option_copied new.entry)) above.now.number c))
         (λ c. tracked show.now above.now.number c)) }
 {
+    let channels = show.channels();
+    let first = within.first().get().min(channels + 1);
+    let last = within.last().get().min(channels);
     let mut moves = Vec::new(alloc);
     let mut near = 0;
-    for k in 1..show.channels() + 1 {
+    for k in first..last + 1 {
         let c = channel(k);
-        let level = kept_level(show, n, old, new, above, within, c, &mut near);
+        let level = kept_level(show, n, old, new, above, c, &mut near);
         add(&mut moves, c, level)?;
     }
     Ok(moves)
 }
 
-/// The level that the channel keeps at the cue above, where the edit would change it: that is only within the range.
-/// The channel's move there is looked for at `near` first.
+/// The level that the channel keeps at the cue above, where the edit would change it. The channel's move there is looked for
+/// at `near` first.
 fn kept_level(
     show: &Show,
     n: CueNo,
     old: &Cue,
     new: Option<&Cue>,
     above: &Cue,
-    within: ChanRange,
     c: Chan,
     near: &mut usize,
 ) -> Option<Level>
     requires there { FoundCue show.now n old.now }
     requires number { IfSome new (λ cue. cue.now.number ≡ n) }
-    requires within { DecidesOutside within show.now.channels old.now (option_copied new) }
-    requires channel { InRange show.now.channels c }
     requires above { cue_above show.now n ≡ Some above.now }
     ensures { result ≡ (if not (tracked show.now above.now.number c == tracked
         (changed_show show.now n (option_copied new.entry)) above.now.number c) then Some
         (tracked show.now above.now.number c) else None) }
 {
-    let _ = show.channels();
-    if is_outside(within, c) {
-        return None;
-    }
     if differs(show, n, old, new, above, c, near) {
         Some(show.tracked(above.number, c))
     } else {
         None
     }
-}
-
-/// The channel is not in the range.
-fn is_outside(range: ChanRange, c: Chan) -> bool
-    ensures { result ≡ true → covers range c ≡ false }
-{
-    c.get() < range.first().get() || range.last().get() < c.get()
 }
 
 /// The channel's level at the cue above is changed.

@@ -7,9 +7,7 @@ ghost use Rattle.lx_spec.specs.Show.{ValidCue};
 ghost use Rattle.lx_spec.specs.EditedShow.{part_for, without_moves};
 ghost use Rattle.lx_edit.specs.Planned.{Plans};
 
-use crate::absent::{
-    all_channels, channel, the_channels, the_cue, the_given_part, the_group, the_moves,
-};
+use crate::absent::{all_channels, the_channels, the_cue, the_given_part, the_group, the_moves};
 use crate::kept::place;
 use crate::moves::{all_at, in_proportion, with_levels};
 use crate::plans::Plan;
@@ -132,11 +130,8 @@ pub(crate) fn release(
 fn without_moves(cue: &Cue, range: ChanRange) -> Result<Cue, AllocError>
     ensures { IfOk result (λ changed. changed ≡ without_moves cue.now range) }
 {
-    let first = range.first().get();
-    let last = range.last().get();
-    let mut changed = cue.copy()?;
-    for n in first..last + 1 {
-        let _ = changed.drop_move(channel(n));
-    }
-    Ok(changed)
+    let moves = cue
+        .moves
+        .copy_without(range.first().get(), range.last().get())?;
+    Ok(cue.with(moves))
 }

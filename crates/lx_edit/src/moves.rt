@@ -65,7 +65,7 @@ pub fn with_levels(
     ensures valid { IfOk result (ValidCue channels) }
 {
     let moves = moves_to(alloc, cue, part, members)?;
-    with_moves(channels, cue.copy()?, moves.as_slice())
+    copy_with(channels, cue, moves.as_slice())
 }
 
 /// The moves of the channels to their levels.
@@ -108,12 +108,18 @@ pub fn with_moves(channels: u32, cue: Cue, moves: &[Move]) -> Result<Cue, AllocE
     ensures cue { IfOk result (λ changed. changed ≡ with_moves cue moves.now) }
     ensures valid { IfOk result (ValidCue channels) }
 {
-    let mut changed = cue;
-    for entry in moves {
-        facts::of_move(entry);
-        changed.put_move(*entry)?;
-    }
-    Ok(changed)
+    copy_with(channels, &cue, moves)
+}
+
+/// A copy of the cue with these moves. Its memory is taken at once.
+pub(crate) fn copy_with(channels: u32, cue: &Cue, moves: &[Move]) -> Result<Cue, AllocError>
+    requires valid { ValidCue channels cue.now }
+    requires fits { AllByRecursion (Fits channels cue.now.parts) moves.now }
+    ensures cue { IfOk result (λ changed. changed ≡ with_moves cue.now moves.now) }
+    ensures valid { IfOk result (ValidCue channels) }
+{
+    facts::of_moves(moves);
+    Ok(cue.with(cue.moves.copy_with(moves)?))
 }
 
 /// Adds a move of the channel in part 1, where there is a level for it.

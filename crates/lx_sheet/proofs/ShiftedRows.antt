@@ -16,7 +16,7 @@ use Rattle.lx_spec.proofs.SortedLists.{below_and_above, found_number, split_ther
 use Rattle.lx_show.specs.Indexes.{StandsAt, GoesAt}
 use Rattle.lx_sheet.specs.declared.sheet.Place.{Place}
 use Rattle.lx_sheet.specs.Block.{own_rows, row_at_place, cell}
-use Rattle.lx_sheet.specs.After.{level_after, tracked_on, IsRight, Follows, IsFilled}
+use Rattle.lx_sheet.specs.After.{level_after, tracked_on, IsRight, Follows, IsFilled, IsPassed, IsLeft}
 use Rattle.lx_sheet.specs.Standing.{RowsStandFor, cue_numbers}
 use Rattle.lx_sheet.proofs.EditedShows.{below-map, above-map}
 use Rattle.lx_sheet.proofs.Found.{same_numbers}
@@ -35,6 +35,20 @@ row_shifted old new a b i same =
 cue_shifted : (before cues : List Cue) (a b i : ℕ) (d : Cue) → drop a before ≡ drop b cues → get_or before (a + i) d ≡ get_or cues (b + i) d
 cue_shifted before cues a b i d same = sym (get_or-drop a before i d) ∙ ap (λ (xs : List Cue). get_or xs i d) same ∙ get_or-drop b cues i d
 
+-- a row that was right is so at its new place, where the levels before it are the same
+right_behind : (channels : ℕ) (old new : List Place) (before cues : List Cue) (levels : List ℕ) (a b i c : ℕ) → drop a old ≡ drop b new
+    → drop a before ≡ drop b cues → a + i < length before → b + i < length cues → IsRight channels old before levels (a + i) c
+    → level_after (take (a + i) before) c ≡ level_after (take (b + i) cues) c → IsRight channels new cues levels (b + i) c
+right_behind channels old new before cues levels a b i c rows same within within' right level =
+    let d : Cue = new_cue 0 in
+    let cue : Cue = get_or before (a + i) d in
+    let is : cue ≡ get_or before (a + i) cue = get_or_default before (a + i) d cue within in
+    ap (λ r. cell channels levels r c) (row_shifted old new a b i rows)
+    ∙ right
+    ∙ level_after-take before (a + i) cue c within is
+    ∙ ap (tracked_on cue c) level
+    ∙ sym (level_after-take cues (b + i) cue c within' (is ∙ cue_shifted before cues a b i cue same))
+
 -- one row on, where each was right before
 follows_step : (channels : ℕ) (old new : List Place) (before cues : List Cue) (levels : List ℕ) (a b i c : ℕ) → drop a old ≡ drop b new
     → drop a before ≡ drop b cues
@@ -42,23 +56,13 @@ follows_step : (channels : ℕ) (old new : List Place) (before cues : List Cue) 
     → ((k : ℕ) → k < length before → IsRight channels old before levels k c)
     → IsRight channels new cues levels (b + i) c → IsRight channels new cues levels (b + i + 1) c
 follows_step channels old new before cues levels a b i c rows same within within' right here =
-    let d : Cue = new_cue 0 in
-    let cue : Cue = get_or before (a + i + 1) d in
     let next : a + (i + 1) ≡ a + i + 1 = omega arith in
     let next' : b + (i + 1) ≡ b + i + 1 = omega arith in
-    let is : cue ≡ get_or before (a + i + 1) cue = get_or_default before (a + i + 1) d cue within in
-    let is' : cue ≡ get_or cues (b + i + 1) cue =
-    is ∙ ap (λ n. get_or before n cue) (sym next) ∙ cue_shifted before cues a b (i + 1) cue same ∙ ap (λ n. get_or cues n cue) next' in
     let row : row_at_place new (b + i) ≡ row_at_place old (a + i) = row_shifted old new a b i rows in
-    let row' : row_at_place new (b + i + 1) ≡ row_at_place old (a + i + 1) =
-    ap (row_at_place new) (sym next') ∙ row_shifted old new a b (i + 1) rows ∙ ap (row_at_place old) next in
-    let level : level_after (take (a + i + 1) before) c ≡ level_after (take (b + i + 1) cues) c =
-    sym (right (a + i) (omega arith)) ∙ ap (λ r. cell channels levels r c) (sym row) ∙ here in
-    ap (λ r. cell channels levels r c) row'
-    ∙ right (a + i + 1) within
-    ∙ level_after-take before (a + i + 1) cue c within is
-    ∙ ap (tracked_on cue c) level
-    ∙ sym (level_after-take cues (b + i + 1) cue c within' is')
+    subst (λ n. IsRight channels new cues levels n c) next'
+    (right_behind channels old new before cues levels a b (i + 1) c rows same (omega arith) (omega arith) (right (a + (i + 1)) (omega arith))
+    (ap (λ n. level_after (take n before) c) next ∙ sym (right (a + i) (omega arith)) ∙ ap (λ r. cell channels levels r c) (sym row) ∙ here
+    ∙ ap (λ n. level_after (take n cues) c) (sym next')))
 
 pub follows_on : (channels : ℕ) (old new : List Place) (before cues : List Cue) (levels : List ℕ) (a b : ℕ) → drop a old ≡ drop b new
     → drop a before ≡ drop b cues
@@ -86,6 +90,18 @@ right_front channels old new before cues levels at k c rows same less right =
     let front : take (k + 1) before ≡ take (k + 1) cues =
     sym (take-take (k + 1) at before (omega arith)) ∙ ap (take (k + 1)) same ∙ take-take (k + 1) at cues (omega arith) in
     ap (λ r. cell channels levels r c) row ∙ right ∙ ap (λ (xs : List Cue). level_after xs c) front
+
+-- where the cues that came or went change no level, the first row behind them is right
+first_behind : (channels : ℕ) (old new : List Place) (before cues : List Cue) (levels : List ℕ) (a b c : ℕ) → drop a old ≡ drop b new
+    → drop a before ≡ drop b cues → a < length before → b < length cues → IsRight channels old before levels a c
+    → level_after (take a before) c ≡ level_after (take b cues) c → IsRight channels new cues levels b c
+first_behind channels old new before cues levels a b c rows same within within' right level =
+    let none : a + 0 ≡ a = omega arith in
+    let none' : b + 0 ≡ b = omega arith in
+    subst (λ n. IsRight channels new cues levels n c) none'
+    (right_behind channels old new before cues levels a b 0 c rows same (omega arith) (omega arith)
+    (subst (λ n. IsRight channels old before levels n c) (sym none) right)
+    (ap (λ n. level_after (take n before) c) none ∙ level ∙ ap (λ n. level_after (take n cues) c) (sym none')))
 
 -- what isn't there needs not be taken out
 pub taken_absent : {A : Type 0} (key : A → ℕ) (n : ℕ) (xs : List A) → entry_at key n xs ≡ None → taken_out key n xs ≡ xs
@@ -268,14 +284,11 @@ one_more before cue sorted absent =
     )
 
 -- what was filled in, told of the same values
-pub filled_as : (n m : ℕ) (lent order : List Place) (given cues : List Cue) (was levels filled : List ℕ) (from sure : ℕ) → n ≡ m
-    → lent ≡ order → given ≡ cues → was ≡ levels
-    → IsFilled n lent given was filled from sure → IsFilled m order cues levels filled from sure
-filled_as n m lent order given cues was levels filled from sure width rows same before is =
-    subst (λ k. IsFilled k order cues levels filled from sure) width
-    (subst (λ (xs : List Place). IsFilled n xs cues levels filled from sure) rows
-    (subst (λ (xs : List Cue). IsFilled n lent xs levels filled from sure) same
-    (subst (λ (xs : List ℕ). IsFilled n lent given xs filled from sure) before is)))
+pub told_as : (P : ℕ → List Place → List Cue → List ℕ → Type 0) (n m : ℕ) (lent order : List Place) (given cues : List Cue)
+    (was levels : List ℕ) → n ≡ m → lent ≡ order → given ≡ cues → was ≡ levels → P n lent given was → P m order cues levels
+told_as P n m lent order given cues was levels width rows same before is =
+    subst (λ k. P k order cues levels) width (subst (λ (xs : List Place). P n xs cues levels) rows
+    (subst (λ (xs : List Cue). P n lent xs levels) same (subst (λ (xs : List ℕ). P n lent given xs) before is)))
 
 -- Once the rows from the place on are filled in, each row is right.
 pub all_right : (channels : ℕ) (old new : List Place) (before cues : List Cue) (levels filled : List ℕ) (at a b : ℕ)
@@ -298,6 +311,25 @@ all_right channels old new before cues levels filled at a b shifted right is k c
           right)
           k c more within
     ]
+
+pub passed : (channels : ℕ) (old new : List Place) (before cues : List Cue) (levels : List ℕ) (at : ℕ)
+    → IsShifted old new before cues at at (at + 1) → ((k c : ℕ) → k < length before → IsRight channels old before levels k c)
+    → IsPassed channels new cues levels at
+passed channels old new before cues levels at shifted right idle c within =
+    let long : length before - at ≡ length cues - (at + 1) =
+    sym (length-drop at before) ∙ ap length shifted.back_cues ∙ length-drop (at + 1) cues in
+    first_behind channels old new before cues levels at (at + 1) c shifted.back_rows shifted.back_cues (omega arith) within
+    (right at c (omega arith)) (ap (λ (xs : List Cue). level_after xs c) shifted.front_cues ∙ sym (idle c))
+
+pub left_behind : (channels : ℕ) (old new : List Place) (before cues : List Cue) (levels : List ℕ) (at row : ℕ)
+    → IsShifted old new before cues at (at + 1) at → row ≡ row_at_place old at
+    → ((k c : ℕ) → k < length before → IsRight channels old before levels k c) → IsLeft channels new cues levels at row
+left_behind channels old new before cues levels at row shifted row_is right same c within =
+    let long : length before - (at + 1) ≡ length cues - at =
+    sym (length-drop (at + 1) before) ∙ ap length shifted.back_cues ∙ length-drop at cues in
+    first_behind channels old new before cues levels (at + 1) at c shifted.back_rows shifted.back_cues (omega arith) within
+    (right (at + 1) c (omega arith))
+    (sym (right at c (omega arith)) ∙ ap (λ r. cell channels levels r c) (sym row_is) ∙ same c)
 
 -- a sheet that stood for the show before stands for the one after
 pub shifted_stands : (before show : Show) (channels : ℕ) (old new : List Place) (levels filled : List ℕ) (at a b : ℕ)

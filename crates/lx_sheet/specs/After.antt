@@ -4,7 +4,7 @@ use Rattle.std.specs.Option.{option_map_or}
 use Rattle.lx_spec.specs.Show.{Cue}
 use Rattle.lx_spec.specs.TrackedLevel.{decides, level_in}
 use Rattle.lx_sheet.specs.declared.sheet.Place.{Place}
-use Rattle.lx_sheet.specs.Block.{cue_level, last_value}
+use Rattle.lx_sheet.specs.Block.{cell, cue_level, last_value}
 
 -- a channel's level after these cues: that of the last one that decides it, or 0
 unfoldable pub level_after : List Cue → ℕ → ℕ
@@ -29,3 +29,15 @@ pub record IsFilled (channels : ℕ) (order : List Place) (cues : List Cue) (lev
   pub front : (k c : ℕ) → k < from → k < length order → cue_level channels order filled k c ≡ cue_level channels order levels k c
   pub rows : ((c : ℕ) → last_value from (λ k. cue_level channels order levels k c) ≡ level_after (take from cues) c)
       → Follows channels order cues levels sure → (k c : ℕ) → from ≤ k → k < length cues → IsRight channels order cues filled k c
+
+-- where the cue at a place changes no level, the row behind it is right
+abbrev pub IsPassed : ℕ → List Place → List Cue → List ℕ → ℕ → Type 0
+IsPassed channels order cues levels at =
+    ((c : ℕ) → level_after (take (at + 1) cues) c ≡ level_after (take at cues) c) → (c : ℕ) → at + 1 < length cues
+    → IsRight channels order cues levels (at + 1) c
+
+-- where the row that is left of a cue holds the levels before its place, the row there is right
+abbrev pub IsLeft : ℕ → List Place → List Cue → List ℕ → ℕ → ℕ → Type 0
+IsLeft channels order cues levels at row =
+    ((c : ℕ) → cell channels levels row c ≡ level_after (take at cues) c) → (c : ℕ) → at < length cues
+    → IsRight channels order cues levels at c

@@ -1,11 +1,12 @@
 //! The block of rows: rows written and read, and columns mended.
 
-ghost use Rattle.std.specs.Prelude.{◌≡◌, ◌≢◌, ℕ, true, ◌+◌, ◌*◌, ◌<◌, ◌≤◌, length, take, vec_capacity};
+ghost use Rattle.std.specs.Prelude.{◌≡◌, ◌≢◌, ℕ, true, false, ◌+◌, ◌*◌, ◌<◌, ◌≤◌, length, take, vec_capacity};
 ghost use Rattle.std.specs.List.{AllByRecursion};
 ghost use Rattle.lx_base.specs.declared.TheConstants.{CUES, CHANNELS};
 ghost use Rattle.lx_spec.specs.Show.{ValidCue};
+ghost use Rattle.lx_spec.specs.TrackedLevel.{decides};
 ghost use Rattle.lx_sheet.specs.Block.{AreApart, Covers, own_rows, row_at_place, cell, cue_level, last_value, level_in_look};
-ghost use Rattle.lx_sheet.specs.After.{level_after, tracked_on, IsRight, Follows, IsFilled};
+ghost use Rattle.lx_sheet.specs.After.{level_after, tracked_on, IsRight, Follows, IsFilled, IsPassed, IsLeft};
 
 use crate::look::track;
 use crate::sheet::Place;
@@ -32,6 +33,66 @@ pub(crate) fn fill_from(
 {
     recall(look, levels, order, from);
     fill_rows(levels, look, order, cues, from, sure);
+}
+
+/// The same where the cue at the place came. Where it decides nothing its row is that of the cue before, and those above it
+/// hold their levels already.
+pub(crate) fn fill_inserted(
+    levels: &mut [Level],
+    look: &mut [Level],
+    order: &[Place],
+    cues: &[Cue],
+    at: usize,
+)
+    requires few { length look.old ≤ CHANNELS }
+    requires room { Covers (length look.old) levels.old order.now }
+    requires order { length order.now ≡ length cues.now }
+    requires rows { AreApart (own_rows order.now) }
+    requires valid { AllByRecursion (ValidCue (length look.old)) cues.now }
+    requires at { at < length cues.now }
+    ensures { IsPassed (length look.old) order.now cues.now levels.old at
+        → IsFilled (length look.old) order.now cues.now levels.old levels.new at (at + 1) }
+{
+    recall(look, levels, order, at);
+    if decides_none(&cues[at]) {
+        write_row(levels, look, own_row(order, at));
+    } else {
+        fill_rows(levels, look, order, cues, at, at + 1);
+    }
+}
+
+/// The same where the cue that was at the place went, of which the row is left. Where that holds the levels of the cue
+/// before, those above it hold theirs already.
+pub(crate) fn fill_removed(
+    levels: &mut [Level],
+    look: &mut [Level],
+    order: &[Place],
+    cues: &[Cue],
+    at: usize,
+    row: usize,
+)
+    requires few { length look.old ≤ CHANNELS }
+    requires room { Covers (length look.old) levels.old order.now }
+    requires order { length order.now ≡ length cues.now }
+    requires rows { AreApart (own_rows order.now) }
+    requires valid { AllByRecursion (ValidCue (length look.old)) cues.now }
+    requires at { at ≤ length cues.now }
+    requires row { row < CUES }
+    requires left { (row + 1) * length look.old ≤ length levels.old }
+    ensures { IsLeft (length look.old) order.now cues.now levels.old at row
+        → IsFilled (length look.old) order.now cues.now levels.old levels.new at at }
+{
+    recall(look, levels, order, at);
+    if !holds(levels, look, row) {
+        fill_rows(levels, look, order, cues, at, at);
+    }
+}
+
+/// The cue decides no channel.
+fn decides_none(cue: &Cue) -> bool
+    ensures { result ≡ true → (c : ℕ) → decides cue.now c ≡ false }
+{
+    !cue.block && cue.moves.as_slice().is_empty()
 }
 
 /// Makes the block reach over so many rows, in the room that is there. A row that is new is at 0.

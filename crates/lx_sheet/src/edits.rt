@@ -10,7 +10,7 @@ ghost use Rattle.lx_sheet.specs.Rows.{numbers_of, level_of};
 ghost use Rattle.lx_sheet.specs.Block.{count_under};
 ghost use Rattle.lx_sheet.specs.Standing.{RowsStandFor, StandsIn, cue_numbers};
 
-use crate::block::{fill_column, fill_from, own_row, reach};
+use crate::block::{fill_column, fill_from, fill_inserted, fill_removed, own_row, reach};
 use crate::pool::{add_place, drop_place, list_cues, list_free};
 use crate::sheet::Sheet;
 use lx_base::{Chan, CueNo};
@@ -74,14 +74,7 @@ impl Sheet {
             let row = own_row(&self.order, at);
             reach(&mut self.levels, self.channels, row + 1);
             if self.order.len() == cues.len() {
-                fill_from(
-                    &mut self.levels,
-                    &mut self.look,
-                    &self.order,
-                    cues,
-                    at,
-                    at + 1,
-                );
+                fill_inserted(&mut self.levels, &mut self.look, &self.order, cues, at);
             }
         }
     }
@@ -92,9 +85,16 @@ impl Sheet {
         ensures { (before : ShowData) → RowsStandFor before self.old → show.now ≡ without_cue before n → RowsStandFor show.now self.new }
     {
         let cues = show.cues();
-        if let Some(at) = drop_place(&mut self.order, &mut self.free, n) {
+        if let Some(freed) = drop_place(&mut self.order, &mut self.free, n) {
             if self.order.len() == cues.len() {
-                fill_from(&mut self.levels, &mut self.look, &self.order, cues, at, at);
+                fill_removed(
+                    &mut self.levels,
+                    &mut self.look,
+                    &self.order,
+                    cues,
+                    freed.at,
+                    freed.row,
+                );
             }
         }
     }

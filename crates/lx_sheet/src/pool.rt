@@ -39,8 +39,15 @@ pub(crate) fn add_place(order: &mut Vec<Place>, free: &mut Vec<usize>, n: CueNo)
     }
 }
 
-/// Frees the row of the cue, and answers the place in the order that it had. `None` where it has no row.
-pub(crate) fn drop_place(order: &mut Vec<Place>, free: &mut Vec<usize>, n: CueNo) -> Option<usize>
+/// The place in the order that a cue had, and the row of the block.
+#[derive(Clone, Copy)]
+pub(crate) struct Freed {
+    pub(crate) at: usize,
+    pub(crate) row: usize,
+}
+
+/// Frees the row of the cue, and answers it. `None` where it has no row.
+pub(crate) fn drop_place(order: &mut Vec<Place>, free: &mut Vec<usize>, n: CueNo) -> Option<Freed>
     requires sorted { IsStrictlySorted (λ p. p.cue) order.old.items }
     requires pool { IsPool order.old.items free.old.items }
     requires free_room { CUES ≤ vec_capacity free.old }
@@ -48,8 +55,9 @@ pub(crate) fn drop_place(order: &mut Vec<Place>, free: &mut Vec<usize>, n: CueNo
     ensures pool { IsPool order.new.items free.new.items }
     ensures room { vec_capacity order.new ≡ vec_capacity order.old }
     ensures free_room { vec_capacity free.new ≡ vec_capacity free.old }
-    ensures stands { IfSome result (StandsAt (λ p. p.cue) n order.old.items) }
-    ensures dropped { IfSome result (λ at. order.new.items ≡ remove order.old.items at) }
+    ensures stands { IfSome result (λ freed. StandsAt (λ p. p.cue) n order.old.items freed.at) }
+    ensures dropped { IfSome result (λ freed. order.new.items ≡ remove order.old.items freed.at) }
+    ensures row { IfSome result (λ freed. freed.row ≡ row_at_place order.old.items freed.at) }
     ensures absent { result ≡ None → entry_at (λ p. p.cue) n order.old.items ≡ None }
     ensures none { result ≡ None → order.new.items ≡ order.old.items }
 {
@@ -57,7 +65,7 @@ pub(crate) fn drop_place(order: &mut Vec<Place>, free: &mut Vec<usize>, n: CueNo
         Ok(at) => {
             let place = order.remove(at);
             free.push_reserved(place.row);
-            Some(at)
+            Some(Freed { at, row: place.row })
         }
         Err(_) => None,
     }

@@ -1,17 +1,19 @@
 -- Several entries placed into a sorted list.
 use Rattle.std.proofs.Common.{◌≡◌, ℕ, zero, suc, ◌+◌, ◌-◌, ◌<◌, ◌≤◌, List, [], ◌∷◌, ◌++◌, length, get_or, take, drop, Some, refl, ◌∙◌}
-use Rattle.std.proofs.Common.{sym, ap, subst, append_assoc, arith, add-one}
-use Rattle.std.specs.Prelude.{Option, slice_get, option_to_list, unwrap_or}
+use Rattle.std.proofs.Common.{sym, ap, subst, append_assoc, arith, add-one, inl, inr}
+use Rattle.std.specs.Prelude.{Option, slice_get, option_to_list, unwrap_or, filter, not, ◌&&◌, nat_le}
 use Rattle.std.specs.Option.{option_map}
 use Rattle.std.specs.List.{AllByRecursion}
+use Rattle.std.proofs.lemmas.Bool.{cases_lt}
+use Rattle.lx_spec.proofs.Comparisons.{lt_true, lt_false, le_true, le_false}
 use Rattle.std.proofs.lemmas.List.{take-append-drop, drop_more, take_all, length-drop, length-take}
 use Rattle.std.proofs.lemmas.List.Sums.{fold-append}
 use Rattle.std.proofs.lemmas.Option.{slice_get-get_or}
-use Rattle.lx_spec.specs.SortedList.{IsStrictlySorted, all_placed, placed}
+use Rattle.lx_spec.specs.SortedList.{IsStrictlySorted, all_placed, placed, entries_below, entries_above}
 use Rattle.lx_show.specs.Indexes.{GoesAt}
 use Rattle.lx_show.specs.Stretch.{IsStretch}
 use Rattle.lx_spec.proofs.Lists.{all_append, each, take_with}
-use Rattle.lx_spec.proofs.SortedLists.{All-placed, IsStrictlySorted-placed, above_seam, all_above, all_below, goes_between, joined, seam}
+use Rattle.lx_spec.proofs.SortedLists.{All-placed, IsStrictlySorted-placed, above_seam, all_above, all_below, goes_between, joined, none_below, seam}
 
 pub IsStrictlySorted-all_placed : {A : Type 0} (key : A → ℕ) (more xs : List A) → IsStrictlySorted key xs
     → IsStrictlySorted key (all_placed key more xs)
@@ -157,3 +159,21 @@ first_then key zero more xs ys x some filled is first = absurd (omega arith)
 first_then key (suc k) [] xs ys x some filled is first = absurd (omega arith)
 first_then key (suc k) (y ∷ more) xs ys x some filled is first =
     ap (all_placed key (take k more)) (first ∙ ap (λ z. placed key z xs) is)
+
+-- the entries below a range of numbers and those above it
+pub around_range : {A : Type 0} (key : A → ℕ) (first last : ℕ) (xs : List A) → first ≤ last → IsStrictlySorted key xs
+    → entries_below key first xs ++ entries_above key last xs ≡ filter (λ x. not (nat_le first (key x) && nat_le (key x) last)) xs
+around_range key first last [] order sorted = refl
+around_range {A} key first last (x ∷ xs) order sorted =
+    let rest = around_range key first last xs order sorted.1 in
+    elim (cases_lt (key x) first) [
+      | inl low ↦ rw (lt_true (key x) first low, lt_false last (key x) (omega arith), le_false first (key x) low) (ap (λ ys. x ∷ ys) rest)
+      | inr high ↦ elim (cases_lt last (key x)) [
+        | inl past ↦
+            let none : entries_below key first xs ≡ [] = none_below key first xs (each _ _ xs (λ y h. omega arith) sorted.0) in
+            rw (lt_false (key x) first high, lt_true last (key x) past, le_true first (key x) high, le_false (key x) last past, none)
+            (ap (λ ys. x ∷ ys) (rw none at rest))
+        | inr within ↦
+            rw (lt_false (key x) first high, lt_false last (key x) within, le_true first (key x) high, le_true (key x) last within) rest
+      ]
+    ]

@@ -1,6 +1,7 @@
 //! What the types of a show's plain data keep, as facts. These calls do nothing, and stand for proofs alone:
 //! a proof about a value that was handed in begins with the facts of its type.
 
+ghost use Rattle.std.specs.List.{AllByRecursion};
 ghost use Rattle.lx_spec.specs.Show.{InRange, IsLabel, IsLevel};
 
 use lx_base::{CHANNELS, DIMMERS};
@@ -13,6 +14,15 @@ pub fn of_move(entry: &Move)
 {
     let _ = entry.chan.get();
     let _level = entry.level;
+}
+
+/// So it is with each of these moves.
+pub fn of_moves(entries: &[Move])
+    ensures { AllByRecursion (λ m. InRange CHANNELS m.chan × IsLevel m.level) entries.now }
+{
+    for entry in entries {
+        of_move(entry);
+    }
 }
 
 /// A member's channel is at least 1, and its level at most 255.

@@ -1,61 +1,87 @@
-use Rattle.std.proofs.Common.{◌≡◌, ◌∙◌, ap, sym, Bool, true, Some, None, rules}
+use Rattle.std.proofs.Common.{◌≡◌, ◌∙◌, ap, sym, subst, Bool, true, Some, List, [], length}
+use Rattle.std.proofs.lemmas.List.{nil_from_length}
+use Rattle.lx_spec.proofs.Comparisons.{eq_from}
 use Rattle.std.specs.Prelude.{Option}
 use Rattle.std.specs.Option.{option_copied, option_map_or}
-use Rattle.lx_spec.specs.Show.{Cue}
+use Rattle.std.specs.List.{AllByRecursion}
+use Rattle.lx_spec.specs.declared.Move.{Move}
+use Rattle.lx_spec.specs.Show.{Cue, ValidCue}
 use Rattle.lx_spec.specs.TrackedLevel.{cue_above}
-use Rattle.lx_spec.specs.EditedShow.{cue_only, kept_above, with_cue}
+use Rattle.lx_spec.specs.EditedShow.{cue_only, kept_above, with_cue, with_moves}
+use Rattle.lx_edit.specs.Found.{Fits}
 use Rattle.lx_edit.specs.Kept.{changed_show}
+use Rattle.lx_edit.proofs.CueLevels.{chosen_fit}
 use Rattle.lx_edit.proofs.KeptLevels.{cue_above-changed, above_fits, above_is, cue_least, lent_number}
 use Rattle.lx_edit.proofs.KeptRows.{keeps_above}
+use Rattle.lx_edit.proofs.NothingKept.{above_again}
 use Rattle.lx_edit.proofs.kept.kept_above.Goals as goal
 
-pub returns-in-None-clause-above : goal.returns-in-None-clause-above
-returns-in-None-clause-above c =
+pub returns-in_default-clause-above : goal.returns-in_default-clause-above
+returns-in_default-clause-above c =
     let show = c.args.show.now in
     let after = changed_show show c.args.n (option_copied c.args.new) in
-    let none : cue_above after c.args.n ≡ None =
-    cue_above-changed show c.args.n (option_copied c.args.new) (lent_number c.args.n c.args.new c.requires.number)
-    ∙ sym c.in-None.ensures.above in
-    let only : c.args.only ≡ true = search rules in
-    sym (ap (λ (o : Option Cue). option_map_or (kept_above show after) o after) none)
-    ∙ ap (λ (b : Bool). cue_only b show c.args.n after) (sym only)
+    sym (ap (λ (b : Bool). cue_only b show c.args.n after) c.if-not-only.false
+    ∙ ap (λ (o : Option Cue). option_map_or (kept_above show after) o after)
+    (cue_above-changed show c.args.n (option_copied c.args.new) (lent_number c.args.n c.args.new c.requires.number)
+    ∙ sym c.in_default.ensures.above))
 
-pub returns-in_ok-keeping-in-Some-clause-above : goal.returns-in_ok-keeping-in-Some-clause-above
-returns-in_ok-keeping-in-Some-clause-above c =
-    let show = c.args.show.now in
-    let after = changed_show show c.args.n (option_copied c.args.new) in
-    let there : cue_above after c.args.n ≡ Some c.in-Some.above.now =
-    cue_above-changed show c.args.n (option_copied c.args.new) (lent_number c.args.n c.args.new c.requires.number)
-    ∙ sym c.in-Some.ensures.above in
-    let only : c.args.only ≡ true = search rules in
-    ap (λ (cue : Cue). with_cue after cue) c.in_ok-keeping-in-Some.ensures.kept
-    ∙ sym (ap (λ (o : Option Cue). option_map_or (kept_above show after) o after) there)
-    ∙ ap (λ (b : Bool). cue_only b show c.args.n after) (sym only)
-
-pub returns-in_ok-keeping-in-Some-clause-valid : goal.returns-in_ok-keeping-in-Some-clause-valid
-returns-in_ok-keeping-in-Some-clause-valid c =
-    above_fits c.args.show.now c.args.n (option_copied c.args.new) c.in-Some.above.now _ (lent_number c.args.n c.args.new c.requires.number)
-    (sym c.in-Some.ensures.above) (ap (λ (cue : Cue). cue.number) c.in_ok-keeping-in-Some.ensures.kept)
-    c.in_ok-keeping-in-Some.ensures.valid
-
-pub returns-in_ok-keeping-in-Some-clause-keeps : goal.returns-in_ok-keeping-in-Some-clause-keeps
-returns-in_ok-keeping-in-Some-clause-keeps c =
+pub returns-then-is_empty-clause-above : goal.returns-then-is_empty-clause-above
+returns-then-is_empty-clause-above c =
     let show = c.args.show.now in
     let new = option_copied c.args.new in
     let after = changed_show show c.args.n new in
+    let above : Cue = c.in-Some.above.now in
     let number = lent_number c.args.n c.args.new c.requires.number in
-    let there : cue_above after c.args.n ≡ Some c.in-Some.above.now = cue_above-changed show c.args.n new number
-    ∙ sym c.in-Some.ensures.above in
-    keeps_above show c.args.n new c.args.old.now c.in-Some.above.now c.in_ok-keeping-in-Some.field-0 c.channels.ensures.valid.cues_sorted
-    (cue_least show c.args.n c.args.old.now c.requires.there) c.requires.there number (sym c.in-Some.ensures.above)
-    (ap (λ (cue : Cue). cue.number) c.in_ok-keeping-in-Some.ensures.kept)
-    (ap (λ (cue : Cue). with_cue after cue) c.in_ok-keeping-in-Some.ensures.kept
-    ∙ sym (ap (λ (o : Option Cue). option_map_or (kept_above show after) o after) there))
+    let is : cue_above show c.args.n ≡ Some above = sym c.in-Some.ensures.above in
+    let none : c.as_slice-moves.result.now ≡ [] = nil_from_length c.as_slice-moves.result.now
+    (sym (eq_from (length c.as_slice-moves.result.now) 0 (sym c.if-is_empty.ensures))) in
+    sym (ap (λ (b : Bool). cue_only b show c.args.n after) c.if-not-only.false
+    ∙ ap (λ (o : Option Cue). option_map_or (kept_above show after) o after) (cue_above-changed show c.args.n new number ∙ is)
+    ∙ ap (λ (ms : List Move). with_cue after (with_moves above ms)) (sym (c.as_slice-moves.ensures.value ∙ c.in_ok-moves.ensures) ∙ none)
+    ∙ above_again show c.args.n new above c.channels.ensures.valid.cues_sorted number is)
 
-pub returns-in_ok-keeping-in-Some-clause-higher : goal.returns-in_ok-keeping-in-Some-clause-higher
-returns-in_ok-keeping-in-Some-clause-higher c =
+pub copy_with-requires-clause-fits : goal.copy_with-requires-clause-fits
+copy_with-requires-clause-fits c =
     let show = c.args.show.now in
-    let above = c.in-Some.above.now in
-    let same : c.in_ok-keeping-in-Some.field-0.number ≡ above.number =
-    ap (λ (cue : Cue). cue.number) c.in_ok-keeping-in-Some.ensures.kept in
-    above_is show c.args.n above c.in_ok-keeping-in-Some.field-0 same (sym c.in-Some.ensures.above)
+    let parts = c.in-Some.above.now.parts in
+    subst (λ k. AllByRecursion (Fits k parts) c.as_slice-moves.result.now) (sym c.channels-2.ensures.channels)
+    (subst (λ (ms : List Move). AllByRecursion (Fits show.channels parts) ms) (sym (c.as_slice-moves.ensures.value ∙ c.in_ok-moves.ensures))
+    (chosen_fit show parts _ _ c.in-Some.ensures.valid.first_part))
+
+pub returns-clause-above : goal.returns-clause-above
+returns-clause-above c =
+    let show = c.args.show.now in
+    let after = changed_show show c.args.n (option_copied c.args.new) in
+    let above : Cue = c.in-Some.above.now in
+    let there : cue_above after c.args.n ≡ Some above =
+    cue_above-changed show c.args.n (option_copied c.args.new) (lent_number c.args.n c.args.new c.requires.number)
+    ∙ sym c.in-Some.ensures.above in
+    ap (with_cue after) (c.in_ok-copy_with.ensures.cue ∙ ap (with_moves above) (c.as_slice-moves.ensures.value ∙ c.in_ok-moves.ensures))
+    ∙ sym (ap (λ (b : Bool). cue_only b show c.args.n after) c.if-not-only.false
+    ∙ ap (λ (o : Option Cue). option_map_or (kept_above show after) o after) there)
+
+pub returns-clause-valid : goal.returns-clause-valid
+returns-clause-valid c =
+    let show = c.args.show.now in
+    above_fits show c.args.n (option_copied c.args.new) c.in-Some.above.now _ (lent_number c.args.n c.args.new c.requires.number)
+    (sym c.in-Some.ensures.above) (ap (λ (cue : Cue). cue.number) c.in_ok-copy_with.ensures.cue)
+    (subst (λ k. ValidCue k c.in_ok-copy_with.field-0) c.channels-2.ensures.channels c.in_ok-copy_with.ensures.valid)
+
+pub returns-clause-higher : goal.returns-clause-higher
+returns-clause-higher c =
+    above_is c.args.show.now c.args.n c.in-Some.above.now c.in_ok-copy_with.field-0
+    (ap (λ (cue : Cue). cue.number) c.in_ok-copy_with.ensures.cue) (sym c.in-Some.ensures.above)
+
+pub returns-clause-keeps : goal.returns-clause-keeps
+returns-clause-keeps c =
+    let show = c.args.show.now in
+    let new = option_copied c.args.new in
+    let after = changed_show show c.args.n new in
+    let above : Cue = c.in-Some.above.now in
+    let number = lent_number c.args.n c.args.new c.requires.number in
+    let is : cue_above show c.args.n ≡ Some above = sym c.in-Some.ensures.above in
+    keeps_above show c.args.n new c.args.old.now above c.in_ok-copy_with.field-0 c.channels.ensures.valid.cues_sorted
+    (cue_least show c.args.n c.args.old.now c.requires.there) c.requires.there number is
+    (ap (λ (cue : Cue). cue.number) c.in_ok-copy_with.ensures.cue)
+    (ap (with_cue after) (c.in_ok-copy_with.ensures.cue ∙ ap (with_moves above) (c.as_slice-moves.ensures.value ∙ c.in_ok-moves.ensures))
+    ∙ sym (ap (λ (o : Option Cue). option_map_or (kept_above show after) o after) (cue_above-changed show c.args.n new number ∙ is)))

@@ -1,15 +1,49 @@
-use Rattle.std.specs.Prelude.{not, ◌==◌}
+use Rattle.std.proofs.Common.{◌≡◌, ◌+◌, ◌-◌, ◌<◌, ◌≤◌, ◌∙◌, ap, sym, ℕ, List, Bool, false, arith, map}
+use Rattle.std.specs.Prelude.{not, ◌==◌, filter}
 use Rattle.std.specs.Option.{option_copied}
+use Rattle.std.specs.List.{range_with_len}
+use Rattle.lx_spec.specs.declared.Move.{Move}
 use Rattle.lx_spec.specs.TrackedLevel.{tracked}
 use Rattle.lx_edit.specs.Kept.{changed_show}
 use Rattle.lx_edit.proofs.CueLevels.{chosen_next}
+use Rattle.lx_edit.proofs.KeptLevels.{outside_high, outside_low, unchanged}
+use Rattle.lx_edit.proofs.Lists.{none_past}
 use Rattle.lx_edit.proofs.kept.kept_moves.Goals as goal
+
+pub loop-k-init : goal.loop-k-init
+loop-k-init c =
+    let show = c.args.show.now in
+    let above = c.args.above.now in
+    let after = changed_show show c.args.n (option_copied c.args.new) in
+    let first = c.min-first.result in
+    let differs : ℕ → Bool = λ x. not (tracked show above.number x == tracked after above.number x) in
+    let at : ℕ → Move = λ x. record { chan = x; part = 1; level = tracked show above.number x } in
+    let fails : (x : ℕ) → 1 + 0 ≤ x → x < 1 + (first - 1) → differs x ≡ false = λ x low high.
+    unchanged show c.args.n c.args.old.now above c.args.new x c.channels-channels.ensures.valid.cues_sorted c.requires.there c.requires.number
+    c.requires.above (c.requires.within x (record { least = omega arith; most = omega arith }) (outside_low c.args.within x (omega arith))) in
+    c.new-moves.ensures.items ∙ sym (ap (λ (xs : List ℕ). map at xs) (none_past differs 1 0 (first - 1) (first - 1) (omega arith) fails))
 
 pub loop-k-preserved : goal.loop-k-preserved
 loop-k-preserved c =
     let show = c.args.show.now in
     let above = c.args.above.now in
     let after = changed_show show c.args.n (option_copied c.args.new) in
+    let low : 1 ≤ c.loop-k.k = omega arith in
     chosen_next (λ x. not (tracked show above.number x == tracked after above.number x)) (λ x. tracked show above.number x) c.loop-k.k
-    c.channel-c.result c.loop-k.moves.items c.add.new.moves.items c.kept_level-level.result c.loop-k.auto.k c.loop-k.invariant
+    c.channel-c.result c.loop-k.moves.items c.add.new.moves.items c.kept_level-level.result low c.loop-k.invariant
     c.channel-c.ensures c.kept_level-level.ensures c.in_ok-add.ensures
+
+pub returns : goal.returns
+returns c =
+    let show = c.args.show.now in
+    let above = c.args.above.now in
+    let after = changed_show show c.args.n (option_copied c.args.new) in
+    let last = c.loop-k.k - 1 in
+    let differs : ℕ → Bool = λ x. not (tracked show above.number x == tracked after above.number x) in
+    let at : ℕ → Move = λ x. record { chan = x; part = 1; level = tracked show above.number x } in
+    let most : last ≤ show.channels = omega arith in
+    let fails : (x : ℕ) → 1 + last ≤ x → x < 1 + show.channels → differs x ≡ false = λ x low high.
+    unchanged show c.args.n c.args.old.now above c.args.new x c.channels-channels.ensures.valid.cues_sorted c.requires.there c.requires.number
+    c.requires.above (c.requires.within x (record { least = omega arith; most = omega arith }) (outside_high c.args.within x (omega arith))) in
+    c.loop-k.invariant
+    ∙ sym (ap (λ (xs : List ℕ). map at xs) (none_past differs 1 last (show.channels - last) show.channels (omega (arith, most)) fails))

@@ -1,14 +1,12 @@
 use Rattle.std.proofs.Common.{◌∙◌, sym, subst, List}
 use Rattle.std.specs.List.{AllByRecursion}
 use Rattle.lx_spec.specs.declared.Move.{Move}
-use Rattle.lx_spec.specs.Show.{Cue}
 use Rattle.lx_edit.specs.Found.{Fits}
 use Rattle.lx_edit.proofs.CueLevels.{moves_fit}
 use Rattle.lx_edit.proofs.moves.with_levels.Goals as goal
 
-pub with_moves-requires-clause-fits : goal.with_moves-requires-clause-fits
-with_moves-requires-clause-fits c =
+pub copy_with-requires-clause-fits : goal.copy_with-requires-clause-fits
+copy_with-requires-clause-fits c =
     let cue = c.args.cue.now in
-    subst (λ (q : Cue). AllByRecursion (Fits c.args.channels q.parts) c.as_slice.result.now) (sym c.in_ok-copy.ensures)
-    (subst (λ (ms : List Move). AllByRecursion (Fits c.args.channels cue.parts) ms) (sym (c.as_slice.ensures.value ∙ c.in_ok-moves.ensures))
-    (moves_fit c.args.channels cue c.args.part c.args.members.now c.requires.valid c.requires.part c.requires.channels))
+    subst (λ (ms : List Move). AllByRecursion (Fits c.args.channels cue.parts) ms) (sym (c.as_slice.ensures.value ∙ c.in_ok-moves.ensures))
+    (moves_fit c.args.channels cue c.args.part c.args.members.now c.requires.valid c.requires.part c.requires.channels)

@@ -11,13 +11,13 @@ use Rattle.lx_spec.specs.EditedShow.{with_cue}
 use Rattle.lx_spec.specs.TrackedLevel.{cue_of}
 use Rattle.lx_sheet.specs.declared.sheet.Place.{Place}
 use Rattle.lx_sheet.specs.Block.{AreApart, Covers, own_rows, row_at_place}
-use Rattle.lx_sheet.specs.After.{IsFilled}
+use Rattle.lx_sheet.specs.After.{IsFilled, IsPassed}
 use Rattle.lx_sheet.specs.Standing.{RowsStandFor}
 use Rattle.lx_sheet.proofs.Covered.{covers_inserted, covers_lent, covers_longer, stands_same}
-use Rattle.lx_sheet.proofs.RightRows.{order_of, order_length}
+use Rattle.lx_sheet.proofs.RightRows.{order_of, order_length, rows_right}
 use Rattle.lx_sheet.proofs.RowPool.{own_apart}
 use Rattle.lx_sheet.proofs.Rows.{sheet_of}
-use Rattle.lx_sheet.proofs.ShiftedRows.{absent_alike, filled_as, inserted, one_more, shifted_stands}
+use Rattle.lx_sheet.proofs.ShiftedRows.{absent_alike, told_as, passed, inserted, one_more, shifted_stands}
 use Rattle.lx_sheet.proofs.sheet.Sheet.insert_row.Goals as goal
 
 -- with the row of the cue that came the block covers the new order
@@ -37,8 +37,8 @@ own_row-row-requires-clause-rows c =
     subst (λ (xs : List Place). AreApart (own_rows xs)) (sym c.deref.ensures.value)
     (own_apart c.add_place.new.order.items c.add_place.new.free.items c.add_place.ensures.pool)
 
-pub fill_from-requires-clause-rows : goal.fill_from-requires-clause-rows
-fill_from-requires-clause-rows c =
+pub fill_inserted-requires-clause-rows : goal.fill_inserted-requires-clause-rows
+fill_inserted-requires-clause-rows c =
     subst (λ (xs : List Place). AreApart (own_rows xs)) (sym c.deref-then-len-cues.ensures.value)
     (own_apart c.add_place.new.order.items c.add_place.new.free.items c.add_place.ensures.pool)
 
@@ -51,7 +51,7 @@ returns-then-len-cues c = λ before cue stands number absent now.
     let old : List Place = c.self.inside.order.items in
     let new : List Place = c.add_place.new.order.items in
     let levels : List ℕ = c.reach.new.levels.items in
-    let filled : List ℕ = c.fill_from.new.levels in
+    let filled : List ℕ = c.fill_inserted.new.levels in
     let was : RowsStandFor before (sheet_of channels old levels) =
     stands_same before channels old c.self.inside.levels.items levels c.self.invariant.sorted c.reach.ensures.same
     (subst (RowsStandFor before) (sym c.self.view_is) stands) in
@@ -59,16 +59,17 @@ returns-then-len-cues c = λ before cue stands number absent now.
     let of_cues : c.cues-cues.result.now ≡ show.cues = c.cues-cues.ensures.cues ∙ ap (λ (s : Show). s.cues) now in
     let width : length c.deref_mut-then-len-cues.result.now ≡ channels =
     omega (arith, ap length c.deref_mut-then-len-cues.ensures.value, c.self.invariant.look_room) in
+    let shifted = inserted before cue n at old new _ order.cues_sorted order.numbers number absent c.in-Some.ensures.goes refl
+    c.in-Some.ensures.added in
     let is : IsFilled channels new show.cues levels filled at (at + 1) =
-    filled_as _ channels _ new _ show.cues _ levels filled at (at + 1) width c.deref-then-len-cues.ensures.value of_cues
-    c.deref_mut.ensures.value
-    c.fill_from.ensures in
+    told_as (λ k xs ys zs. IsPassed k xs ys zs at → IsFilled k xs ys zs filled at (at + 1)) _ channels _ new _ show.cues _ levels width
+    c.deref-then-len-cues.ensures.value of_cues c.deref_mut.ensures.value c.fill_inserted.ensures
+    (passed channels old new before.cues show.cues levels at shifted (rows_right before channels old levels c.self.invariant.sorted was)) in
     subst (λ (s : Show). RowsStandFor s (sheet_of channels new (with_items c.reach.new.levels filled).items)) (sym now)
     (subst (λ (xs : List ℕ). RowsStandFor show (sheet_of channels new xs)) (sym (with_items_is c.reach.new.levels filled (omega arith)))
     (shifted_stands before show channels old new levels filled at at (at + 1) c.self.invariant.sorted c.add_place.ensures.sorted
     (subst (λ (s : Show). IsStrictlySorted (λ x. x.number) s.cues) now c.cues-cues.ensures.valid.cues_sorted) was.channels was
-    (inserted before cue n at old new _ order.cues_sorted order.numbers number absent c.in-Some.ensures.goes refl c.in-Some.ensures.added)
-    is))
+    shifted is))
 
 -- the order has a place for each cue of the show
 as_long : (before : Show) (cue : Cue) (n : ℕ) (old : List Place) → IsStrictlySorted (λ p. p.cue) old
@@ -108,8 +109,8 @@ returns-in_default c = λ before cue stands number absent now.
     (absent_alike (λ (x : Cue). x.number) (λ (p : Place). p.cue) c.args.n before.cues old (sym order.numbers) absent) in
     absurd (omega (arith, full, more, c.cues-cues.ensures.valid.few_cues, ap (λ (s : Show). length s.cues) now))
 
-pub fill_from-requires-clause-room : goal.fill_from-requires-clause-room
-fill_from-requires-clause-room c =
+pub fill_inserted-requires-clause-room : goal.fill_inserted-requires-clause-room
+fill_inserted-requires-clause-room c =
     covers_lent c.self.inside.channels _ c.reach.new.levels.items _ c.add_place.new.order.items _
     (omega (arith, ap length c.deref_mut-then-len-cues.ensures.value, c.self.invariant.look_room)) c.deref-then-len-cues.ensures.value
     (ap length c.deref_mut.ensures.value)
@@ -127,11 +128,11 @@ invariant_of-self c = record {
   free_room = omega (arith, c.add_place.ensures.free_room, c.self.invariant.free_room);
   level_room = omega (arith, c.reach.ensures.room, c.self.invariant.level_room);
   covered = covers_lent c.self.inside.channels _ c.reach.new.levels.items _ c.add_place.new.order.items _ refl refl
-      (ap length (with_items_is c.reach.new.levels c.fill_from.new.levels (omega arith)) ∙ omega arith)
+      (ap length (with_items_is c.reach.new.levels c.fill_inserted.new.levels (omega arith)) ∙ omega arith)
       (reached c.self.inside.channels c.self.inside.levels.items c.reach.new.levels.items c.self.inside.order.items
       c.add_place.new.order.items c.deref.result.now c.in-Some.at c.args.n c.own_row-row.result c.self.invariant.covered
       c.reach.ensures.longer c.reach.ensures.reach c.in-Some.ensures.added c.deref.ensures.value c.own_row-row.ensures.row);
-  look_room = omega (arith, length_refill c.self.inside.look.len c.self.inside.look.items c.fill_from.new.look (omega arith));
+  look_room = omega (arith, length_refill c.self.inside.look.len c.self.inside.look.items c.fill_inserted.new.look (omega arith));
 }
 
 pub invariant_of-self-else-len-cues : goal.invariant_of-self-else-len-cues

@@ -14,7 +14,7 @@ use Rattle.lx_sheet.proofs.LevelsAfter.{level_after-nil}
 use Rattle.lx_sheet.proofs.RightRows.{filled_stands}
 use Rattle.lx_sheet.proofs.RowPool.{length-placed_from, listed_pool, own_apart}
 use Rattle.lx_sheet.proofs.Rows.{sheet_of}
-use Rattle.lx_sheet.proofs.ShiftedRows.{filled_as}
+use Rattle.lx_sheet.proofs.ShiftedRows.{told_as}
 use Rattle.lx_sheet.proofs.sheet.Sheet.refill.Goals as goal
 
 pub fill_from-requires-clause-order : goal.fill_from-requires-clause-order
@@ -69,7 +69,8 @@ returns c =
     let width : length c.deref_mut-2.result.now ≡ channels =
     omega (arith, ap length c.deref_mut-2.ensures.value, c.self.invariant.look_room) in
     let is : IsFilled channels order show.cues c.reach.new.levels.items filled 0 (length c.cues-cues.result.now) =
-    filled_as _ channels _ order _ show.cues _ c.reach.new.levels.items filled 0 (length c.cues-cues.result.now) width
+    told_as (λ k xs ys zs. IsFilled k xs ys zs filled 0 (length c.cues-cues.result.now)) _ channels _ order _ show.cues _
+    c.reach.new.levels.items width
     c.deref.ensures.value of_cues c.deref_mut.ensures.value c.fill_from.ensures in
     subst (λ (xs : List ℕ). RowsStandFor show (sheet_of channels order xs)) (sym (with_items_is c.reach.new.levels filled (omega arith)))
     (filled_stands show channels order filled (ap (λ (s : Sheet). s.channels) c.self.view_is ∙ c.requires)

@@ -1,20 +1,21 @@
-use Rattle.std.proofs.Common.{◌≡◌, ◌+◌, ◌<◌, refl, ℕ, List, length, ap, sym, ◌∙◌, subst, arith}
+use Rattle.std.proofs.Common.{◌≡◌, ◌+◌, ◌*◌, ◌<◌, ◌≤◌, refl, ℕ, List, length, ap, sym, ◌∙◌, subst, arith}
 use Rattle.std.specs.Prelude.{remove}
 use Rattle.std.specs.List.{length_refill}
 use Rattle.std.specs.Vec.{with_items}
 use Rattle.std.proofs.lemmas.List.{length-map, with_items_is}
+use Rattle.lx_base.specs.declared.TheConstants.{CUES}
 use Rattle.lx_spec.specs.SortedList.{IsStrictlySorted}
 use Rattle.lx_spec.specs.Show.{Cue, Show}
 use Rattle.lx_spec.specs.EditedShow.{without_cue}
 use Rattle.lx_sheet.specs.declared.sheet.Place.{Place}
 use Rattle.lx_sheet.specs.Block.{AreApart, Covers, own_rows}
-use Rattle.lx_sheet.specs.After.{IsFilled}
+use Rattle.lx_sheet.specs.After.{IsFilled, IsLeft}
 use Rattle.lx_sheet.specs.Standing.{RowsStandFor}
-use Rattle.lx_sheet.proofs.Covered.{covers_lent, covers_removed}
-use Rattle.lx_sheet.proofs.RightRows.{order_of}
-use Rattle.lx_sheet.proofs.RowPool.{own_apart}
+use Rattle.lx_sheet.proofs.Covered.{covered_at, covers_lent, covers_removed}
+use Rattle.lx_sheet.proofs.RightRows.{order_of, rows_right}
+use Rattle.lx_sheet.proofs.RowPool.{own_apart, row_within}
 use Rattle.lx_sheet.proofs.Rows.{sheet_of}
-use Rattle.lx_sheet.proofs.ShiftedRows.{absent_alike, filled_as, removed, shifted_stands, taken_absent}
+use Rattle.lx_sheet.proofs.ShiftedRows.{absent_alike, left_behind, removed, shifted_stands, taken_absent, told_as}
 use Rattle.lx_sheet.proofs.sheet.Sheet.remove_row.Goals as goal
 
 -- the block covers the rows that are left
@@ -23,8 +24,8 @@ left : (channels : ℕ) (levels : List ℕ) (old new : List Place) (at : ℕ) �
 left channels levels old new at within covers dropped =
     subst (Covers channels levels) (sym dropped) (covers_removed channels levels old at within covers)
 
-pub fill_from-requires-clause-rows : goal.fill_from-requires-clause-rows
-fill_from-requires-clause-rows c =
+pub fill_removed-requires-clause-rows : goal.fill_removed-requires-clause-rows
+fill_removed-requires-clause-rows c =
     subst (λ (xs : List Place). AreApart (own_rows xs)) (sym c.deref.ensures.value)
     (own_apart c.drop_place.new.order.items c.drop_place.new.free.items c.drop_place.ensures.pool)
 
@@ -32,25 +33,29 @@ pub returns-then-len-cues : goal.returns-then-len-cues
 returns-then-len-cues c = λ before stands now.
     let show : Show = without_cue before c.args.n in
     let n : ℕ = c.args.n in
-    let at : ℕ = c.in-Some.at in
+    let at : ℕ = c.in-Some.freed.at in
+    let row : ℕ = c.in-Some.freed.row in
     let channels : ℕ = c.self.inside.channels in
     let old : List Place = c.self.inside.order.items in
     let new : List Place = c.drop_place.new.order.items in
     let levels : List ℕ = c.self.inside.levels.items in
-    let filled : List ℕ = c.fill_from.new.levels in
+    let filled : List ℕ = c.fill_removed.new.levels in
     let was : RowsStandFor before (sheet_of channels old levels) = subst (RowsStandFor before) (sym c.self.view_is) stands in
     let order = order_of before channels old levels c.self.invariant.sorted was in
     let of_cues : c.cues-cues.result.now ≡ show.cues = c.cues-cues.ensures.cues ∙ ap (λ (s : Show). s.cues) now in
     let width : length c.deref_mut-then-len-cues.result.now ≡ channels =
     omega (arith, ap length c.deref_mut-then-len-cues.ensures.value, c.self.invariant.look_room) in
+    let shifted = removed before n at old new order.cues_sorted order.numbers c.in-Some.ensures.stands c.in-Some.ensures.dropped in
     let is : IsFilled channels new show.cues levels filled at at =
-    filled_as _ channels _ new _ show.cues _ levels filled at at width c.deref.ensures.value of_cues c.deref_mut.ensures.value
-    c.fill_from.ensures in
+    told_as (λ k xs ys zs. IsLeft k xs ys zs at row → IsFilled k xs ys zs filled at at) _ channels _ new _ show.cues _ levels width
+    c.deref.ensures.value of_cues c.deref_mut.ensures.value c.fill_removed.ensures
+    (left_behind channels old new before.cues show.cues levels at row shifted c.in-Some.ensures.row
+    (rows_right before channels old levels c.self.invariant.sorted was)) in
     subst (λ (s : Show). RowsStandFor s (sheet_of channels new (with_items c.self.inside.levels filled).items)) (sym now)
     (subst (λ (xs : List ℕ). RowsStandFor show (sheet_of channels new xs)) (sym (with_items_is c.self.inside.levels filled (omega arith)))
     (shifted_stands before show channels old new levels filled at (at + 1) at c.self.invariant.sorted c.drop_place.ensures.sorted
     (subst (λ (s : Show). IsStrictlySorted (λ x. x.number) s.cues) now c.cues-cues.ensures.valid.cues_sorted) was.channels was
-    (removed before n at old new order.cues_sorted order.numbers c.in-Some.ensures.stands c.in-Some.ensures.dropped) is))
+    shifted is))
 
 pub returns-else-len-cues : goal.returns-else-len-cues
 returns-else-len-cues c = λ before stands now.
@@ -59,7 +64,7 @@ returns-else-len-cues c = λ before stands now.
     subst (RowsStandFor before) (sym c.self.view_is) stands in
     let order = order_of before c.self.inside.channels old c.self.inside.levels.items c.self.invariant.sorted was in
     let new : List Place = c.drop_place.new.order.items in
-    let shifted = removed before c.args.n c.in-Some.at old new order.cues_sorted order.numbers c.in-Some.ensures.stands
+    let shifted = removed before c.args.n c.in-Some.freed.at old new order.cues_sorted order.numbers c.in-Some.ensures.stands
     c.in-Some.ensures.dropped in
     let long : length new ≡ length (without_cue before c.args.n).cues =
     sym (length-map new (λ (p : Place). p.cue)) ∙ ap length shifted.numbers
@@ -87,12 +92,12 @@ returns-in_default c = λ before stands now.
     (subst (λ (cues : List Cue). RowsStandFor (record before { cues = cues }) (sheet_of channels old levels))
     (sym (taken_absent (λ (x : Cue). x.number) c.args.n before.cues absent)) was))
 
-pub fill_from-requires-clause-room : goal.fill_from-requires-clause-room
-fill_from-requires-clause-room c =
+pub fill_removed-requires-clause-room : goal.fill_removed-requires-clause-room
+fill_removed-requires-clause-room c =
     covers_lent c.self.inside.channels _ c.self.inside.levels.items _ c.drop_place.new.order.items _
     (omega (arith, ap length c.deref_mut-then-len-cues.ensures.value, c.self.invariant.look_room)) c.deref.ensures.value
     (ap length c.deref_mut.ensures.value)
-    (left c.self.inside.channels c.self.inside.levels.items c.self.inside.order.items c.drop_place.new.order.items c.in-Some.at
+    (left c.self.inside.channels c.self.inside.levels.items c.self.inside.order.items c.drop_place.new.order.items c.in-Some.freed.at
     c.in-Some.ensures.stands.within c.self.invariant.covered c.in-Some.ensures.dropped)
 
 pub invariant_of-self : goal.invariant_of-self
@@ -104,10 +109,10 @@ invariant_of-self c = record {
   free_room = omega (arith, c.drop_place.ensures.free_room, c.self.invariant.free_room);
   level_room = c.self.invariant.level_room;
   covered = covers_lent c.self.inside.channels _ c.self.inside.levels.items _ c.drop_place.new.order.items _ refl refl
-      (ap length (with_items_is c.self.inside.levels c.fill_from.new.levels (omega arith)) ∙ omega arith)
-      (left c.self.inside.channels c.self.inside.levels.items c.self.inside.order.items c.drop_place.new.order.items c.in-Some.at
+      (ap length (with_items_is c.self.inside.levels c.fill_removed.new.levels (omega arith)) ∙ omega arith)
+      (left c.self.inside.channels c.self.inside.levels.items c.self.inside.order.items c.drop_place.new.order.items c.in-Some.freed.at
       c.in-Some.ensures.stands.within c.self.invariant.covered c.in-Some.ensures.dropped);
-  look_room = omega (arith, length_refill c.self.inside.look.len c.self.inside.look.items c.fill_from.new.look (omega arith));
+  look_room = omega (arith, length_refill c.self.inside.look.len c.self.inside.look.items c.fill_removed.new.look (omega arith));
 }
 
 pub invariant_of-self-else-len-cues : goal.invariant_of-self-else-len-cues
@@ -118,7 +123,23 @@ invariant_of-self-else-len-cues c = record {
   row_room = omega (arith, c.drop_place.ensures.room, c.self.invariant.row_room);
   free_room = omega (arith, c.drop_place.ensures.free_room, c.self.invariant.free_room);
   level_room = c.self.invariant.level_room;
-  covered = left c.self.inside.channels c.self.inside.levels.items c.self.inside.order.items c.drop_place.new.order.items c.in-Some.at
+  covered = left c.self.inside.channels c.self.inside.levels.items c.self.inside.order.items c.drop_place.new.order.items c.in-Some.freed.at
       c.in-Some.ensures.stands.within c.self.invariant.covered c.in-Some.ensures.dropped;
   look_room = c.self.invariant.look_room;
 }
+
+pub fill_removed-requires-clause-row : goal.fill_removed-requires-clause-row
+fill_removed-requires-clause-row c =
+    subst (λ r. r < CUES) (sym c.in-Some.ensures.row)
+    (row_within c.self.inside.order.items c.in-Some.freed.at (own_apart c.self.inside.order.items c.self.inside.free.items c.self.invariant.pool)
+    c.in-Some.ensures.stands.within)
+
+pub fill_removed-requires-clause-left : goal.fill_removed-requires-clause-left
+fill_removed-requires-clause-left c =
+    let width : length c.deref_mut-then-len-cues.result.now ≡ c.self.inside.channels =
+    omega (arith, ap length c.deref_mut-then-len-cues.ensures.value, c.self.invariant.look_room) in
+    subst (λ k. (c.in-Some.freed.row + 1) * k ≤ length c.deref_mut.result.now) (sym width)
+    (subst (λ (xs : List ℕ). (c.in-Some.freed.row + 1) * c.self.inside.channels ≤ length xs) (sym c.deref_mut.ensures.value)
+    (subst (λ r. (r + 1) * c.self.inside.channels ≤ length c.self.inside.levels.items) (sym c.in-Some.ensures.row)
+    (covered_at c.self.inside.channels c.self.inside.levels.items c.self.inside.order.items c.in-Some.freed.at c.self.invariant.covered
+    c.in-Some.ensures.stands.within)))

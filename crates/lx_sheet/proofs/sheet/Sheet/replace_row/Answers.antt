@@ -15,7 +15,7 @@ use Rattle.lx_sheet.proofs.Found.{same_numbers}
 use Rattle.lx_sheet.proofs.RightRows.{order_of}
 use Rattle.lx_sheet.proofs.RowPool.{own_apart}
 use Rattle.lx_sheet.proofs.Rows.{sheet_of}
-use Rattle.lx_sheet.proofs.ShiftedRows.{filled_as, replaced, shifted_stands}
+use Rattle.lx_sheet.proofs.ShiftedRows.{replaced, shifted_stands, told_as}
 use Rattle.lx_sheet.proofs.sheet.Sheet.replace_row.Goals as goal
 
 place_is : (n m at : ℕ) (lent order : List Place) → m ≡ n → lent ≡ order → StandsAt (λ p. p.cue) m lent at
@@ -51,7 +51,7 @@ returns-then-len-cues c = λ before cue stands number there now.
     let place = place_is n c.get.result at c.as_slice.result.now order c.get.ensures.value c.as_slice.ensures.value
     c.in-Ok.ensures.stands in
     let is : IsFilled channels order show.cues levels filled at (at + 1) =
-    filled_as _ channels _ order _ show.cues _ levels filled at (at + 1) width c.deref.ensures.value of_cues c.deref_mut.ensures.value
+    told_as (λ k xs ys zs. IsFilled k xs ys zs filled at (at + 1)) _ channels _ order _ show.cues _ levels width c.deref.ensures.value of_cues c.deref_mut.ensures.value
     c.fill_from.ensures in
     subst (λ (s : Show). RowsStandFor s (sheet_of channels order (with_items c.self.inside.levels filled).items)) (sym now)
     (subst (λ (xs : List ℕ). RowsStandFor show (sheet_of channels order xs)) (sym (with_items_is c.self.inside.levels filled (omega arith)))

@@ -1,0 +1,11 @@
+use Rattle.std.proofs.Common.{◌≡◌, sym, subst, rules}
+use Rattle.lx_spec.specs.Show.{ValidCue}
+use Rattle.lx_spec.specs.EditedShow.{with_moves}
+use Rattle.lx_edit.proofs.CueLevels.{valid_with_moves}
+use Rattle.lx_edit.proofs.moves.copy_with.Goals as goal
+
+pub returns-clause-valid : goal.returns-clause-valid
+returns-clause-valid c =
+    let is : c.with.result ≡ with_moves c.args.cue.now c.args.moves.now = search rules in
+    subst (ValidCue c.args.channels) (sym is)
+    (valid_with_moves c.args.channels c.args.cue.now c.args.moves.now c.requires.valid c.requires.fits c.of_moves.ensures)

@@ -1,0 +1,46 @@
+use Rattle.std.proofs.Common.{◌≡◌, ◌≢◌, ◌+◌, ◌-◌, ◌<◌, ℕ, Bool, cond, List, length, take, ap, sym, ◌∙◌, subst, inl, inr, arith}
+use Rattle.std.proofs.lemmas.Bool.{cases_eq}
+use Rattle.lx_spec.specs.Show.{Cue}
+use Rattle.lx_spec.specs.TrackedLevel.{level_in}
+use Rattle.lx_sheet.specs.declared.sheet.Place.{Place}
+use Rattle.lx_sheet.specs.Block.{cell, cue_level, row_at_place, level_in_look}
+use Rattle.lx_sheet.specs.After.{level_after, IsRight}
+use Rattle.lx_sheet.proofs.LevelsAfter.{level_after-take}
+use Rattle.lx_sheet.proofs.RightRows.{right_on}
+use Rattle.lx_sheet.proofs.RowPool.{rows_differ}
+use Rattle.lx_sheet.proofs.block.fill_inserted.Goals as goal
+
+pub returns-then-decides_none : goal.returns-then-decides_none
+returns-then-decides_none c = λ passed.
+    let n : ℕ = length c.args.look.now in
+    let order : List Place = c.args.order.now in
+    let cues : List Cue = c.args.cues.now in
+    let levels : List ℕ = c.args.levels.now in
+    let filled : List ℕ = c.write_row.new.levels in
+    let at : ℕ = c.args.at in
+    let cue : Cue = c.index-cues-at.result in
+    let there : at < length order = omega arith in
+    let same : length c.recall.new.look ≡ n = omega arith in
+    let row : c.own_row.result ≡ row_at_place order at = c.own_row.ensures.row in
+    let here : (x : ℕ) → cue_level n order filled at x ≡ level_in_look c.recall.new.look x = λ x.
+    ap (λ r. cell n filled r x) (sym row)
+    ∙ subst (λ (m : ℕ). cell m filled c.own_row.result x ≡ level_in_look c.recall.new.look x) same (c.write_row.ensures.here x) in
+    let others : (k x : ℕ) → k ≢ at → k < length order → cue_level n order filled k x ≡ cue_level n order levels k x = λ k x other within.
+    subst (λ (m : ℕ). cell m filled (row_at_place order k) x ≡ cell m levels (row_at_place order k) x) same
+    (c.write_row.ensures.others (row_at_place order k) x (λ e. rows_differ order k at c.requires.rows within there other (e ∙ row))) in
+    let idle : (x : ℕ) → level_after (take (at + 1) cues) x ≡ level_after (take at cues) x = λ x.
+    level_after-take cues at cue x c.requires.at c.index-cues-at.is
+    ∙ ap (λ (b : Bool). cond b (level_in cue x) (level_after (take at cues) x)) (c.decides_none.ensures c.if-decides_none.true x) in
+    record {
+      front = λ k x less within. others k x (λ e. omega arith) within;
+      rows = λ start follows k chan least within. elim (cases_eq k at) [
+        | inl e ↦ ap (λ p. cue_level n order filled p chan) e ∙ here chan ∙ c.recall.ensures chan ∙ start chan ∙ sym (idle chan)
+            ∙ ap (λ p. level_after (take (p + 1) cues) chan) (sym e)
+        | inr apart ↦
+            let next : at + 1 + (k - (at + 1)) ≡ k = omega arith in
+            others k chan apart (omega arith)
+            ∙ subst (λ j. IsRight n order cues levels j chan) next
+            (right_on n order cues levels (at + 1) (at + 1) chan follows (omega arith) (passed idle chan (omega arith)) (k - (at + 1))
+            (omega arith))
+      ];
+    }
