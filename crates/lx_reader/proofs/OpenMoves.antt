@@ -10,7 +10,20 @@ use Rattle.lx_spec.proofs.Comparisons.{lt_true, lt_false}
 use Rattle.lx_spec.proofs.Lists.{each}
 use Rattle.lx_spec.proofs.SortedLists.{goes_between, stands_between}
 use Rattle.lx_reader.specs.declared.open_moves.Slot.{Slot}
-use Rattle.lx_reader.specs.OpenMoves.{moves_from, slot_moves}
+use Rattle.lx_reader.specs.OpenMoves.{PutsLevels, moves_from, slot_moves}
+use Rattle.lx_reader.specs.FieldLists.{all_pairs, onto}
+use Rattle.lx_reader.specs.ReadingState.{moves_of}
+use Rattle.lx_reader.proofs.Members.{greatest_more}
+use Rattle.lx_reader.proofs.SectionLevels.{onto_again, onto_nothing}
+use Rattle.lx_base.specs.declared.TheConstants.{CHANNELS}
+use Rattle.lx_spec.specs.declared.Member.{Member}
+use Rattle.lx_spec.specs.Show.{ValidMember}
+use Rattle.lx_spec.proofs.Lists.{all_append}
+use Rattle.std.proofs.Common.{map, subst, Ok, append-nil}
+use Rattle.std.specs.Prelude.{fold, max}
+use Rattle.std.specs.Result.{IsOkAnd}
+use Rattle.std.proofs.lemmas.List.{map-append}
+use Rattle.std.proofs.lemmas.List.Sums.{fold-append}
 
 -- none is of a channel before the first
 from_first : (c : ℕ) (slots : List (Option Slot)) → AllByRecursion (λ m. c ≤ m.chan) (moves_from c slots)
@@ -61,3 +74,38 @@ pub slot_listed : (i : ℕ) (slots : List (Option Slot)) (x : Option Slot) (item
 slot_listed i slots x items whole within is so_far =
     append_assoc items (slot_moves (i + 1) x) (moves_from (i + 1 + 1) (drop (i + 1) slots))
     ∙ ap (λ xs. items ++ moves_from (i + 1) xs) (sym (drop_more slots i x within ∙ ap (λ h. h ∷ drop (i + 1) slots) (sym is))) ∙ so_far
+
+-- the levels of a line that were put into moves so far
+pub record LevelsSoFar (i part least : ℕ) (all rest : List (List ℕ)) (greatest : ℕ) (old now : List Move) : Type 0 where
+  pub done : List Member
+  pub list : all_pairs i all ≡ onto done (all_pairs i rest)
+  pub puts : PutsLevels part least done greatest old now
+
+pub levels_begin : (i part least : ℕ) (all : List (List ℕ)) (old : List Move) → LevelsSoFar i part least all all least old old
+levels_begin i part least all old =
+    record { done = []; list = onto_nothing (all_pairs i all); puts = record { valid = tt; placed = refl; is_greatest = refl } }
+
+pub levels_more : (i part least : ℕ) (all rest rest' : List (List ℕ)) (k k' : ℕ) (old now new : List Move) (m : Member)
+    → LevelsSoFar i part least all rest k old now → all_pairs i rest ≡ onto (m ∷ []) (all_pairs i rest') → ValidMember CHANNELS m
+    → new ≡ placed (λ m. m.chan) (record { chan = m.chan; part = part; level = m.level }) now → k' ≡ max k m.chan
+    → LevelsSoFar i part least all rest' k' old new
+levels_more i part least all rest rest' k k' old now new m so_far next valid put greatest =
+    let done = so_far.done in
+    let add : List Move → Move → List Move = λ ms x. placed (λ m. m.chan) x ms in
+    record {
+      done = done ++ m ∷ [];
+      list = so_far.list ∙ ap (onto done) next ∙ onto_again done (m ∷ []) (all_pairs i rest');
+      puts = record {
+        valid = all_append _ done (m ∷ []) so_far.puts.valid (valid, tt);
+        placed = put ∙ ap (placed (λ m. m.chan) (record { chan = m.chan; part = part; level = m.level })) so_far.puts.placed
+            ∙ sym (fold-append add old (moves_of part done) (moves_of part (m ∷ [])))
+            ∙ ap (fold add old) (sym (map-append _ done (m ∷ [])));
+        is_greatest = greatest ∙ greatest_more least k done m so_far.puts.is_greatest;
+      };
+    }
+
+pub levels_end : (i part least : ℕ) (all rest : List (List ℕ)) (k : ℕ) (old now : List Move) → LevelsSoFar i part least all rest k old now
+    → rest ≡ [] → IsOkAnd (all_pairs i all) (λ members. PutsLevels part least members k old now)
+levels_end i part least all rest k old now so_far none =
+    let list : all_pairs i all ≡ Ok so_far.done = so_far.list ∙ ap (λ v. onto so_far.done (all_pairs i v)) none ∙ ap Ok (append-nil so_far.done) in
+    subst (λ r. IsOkAnd r (λ members. PutsLevels part least members k old now)) (sym list) so_far.puts

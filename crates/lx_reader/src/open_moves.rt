@@ -1,13 +1,18 @@
 //! The moves of the cue whose levels are being read, by channel: a level takes one write, however many the cue has.
 
-ghost use Rattle.std.specs.Prelude.{◌≡◌, ◌<◌, ◌+◌, ◌++◌, [], OnOk};
+ghost use Rattle.std.specs.Prelude.{◌≡◌, ◌<◌, ◌+◌, ◌++◌, [], Err, OnOk, IfOk, IfErr};
+ghost use Rattle.std.specs.Result.{IsOkAnd};
 ghost use Rattle.lx_base.specs.declared.TheConstants.{CHANNELS};
-ghost use Rattle.lx_spec.specs.SortedList.{IsStrictlySorted, all_placed, placed};
-ghost use Rattle.lx_reader.specs.OpenMoves.{moves_from, slot_moves};
-ghost use Rattle.lx_reader.specs.ReadingState.{moves_of};
+ghost use Rattle.lx_spec.specs.SortedList.{IsStrictlySorted, placed};
+ghost use Rattle.lx_lex.specs.Left.{left};
+ghost use Rattle.lx_reader.specs.FieldLists.{all_pairs};
+ghost use Rattle.lx_reader.specs.OpenMoves.{PutsLevels, moves_from, slot_moves};
 
+use crate::lists::next_member;
 use lx_base::{CHANNELS, Chan, Level, PartNo};
-use lx_spec::{Member, Move};
+use lx_lex::Tokens;
+use lx_show::facts;
+use lx_spec::{Member, Move, TextFault};
 use std::alloc::AllocError;
 use std::marker::Model;
 
@@ -54,11 +59,20 @@ impl OpenMoves {
         *self = OpenMoves::new();
     }
 
-    /// Places the levels as moves in a part, each in place of the one of its channel.
-    pub(crate) fn put_all(&mut self, members: &[Member], part: PartNo)
-        ensures { self.new ≡ all_placed (λ m. m.chan) (moves_of part members.now) self.old }
+    /// Places the levels of a line as moves in a part, each in place of the one of its channel, and answers the greatest of
+    /// their channels and this number. A line with a fault leaves those before it here.
+    pub(crate) fn put_line(
+        &mut self,
+        i: u32,
+        tokens: Tokens,
+        part: PartNo,
+        least: u32,
+    ) -> Result<u32, TextFault>
+        ensures levels { IfOk result (λ greatest. IsOkAnd (all_pairs i (left tokens.entry))
+            (λ members. PutsLevels part least members greatest self.old self.new)) }
+        ensures fault { IfErr result (λ fault. all_pairs i (left tokens.entry) ≡ Err fault) }
     {
-        put_all(&mut self.slots, members, part);
+        put_line(&mut self.slots, i, tokens, part, least)
     }
 
     /// Writes the moves into a list, in place of what it has.
@@ -71,12 +85,29 @@ impl OpenMoves {
     }
 }
 
-/// Places the levels as moves in a part.
-fn put_all(slots: &mut [Option<Slot>; SLOTS], members: &[Member], part: PartNo)
-    ensures { moves_from 1 slots.new ≡ all_placed (λ m. m.chan) (moves_of part members.now) (moves_from 1 slots.old) }
+/// Places the levels of a line as moves in a part, and answers the greatest of their channels and this number.
+fn put_line(
+    slots: &mut [Option<Slot>; SLOTS],
+    i: u32,
+    mut tokens: Tokens,
+    part: PartNo,
+    least: u32,
+) -> Result<u32, TextFault>
+    ensures levels { IfOk result (λ greatest. IsOkAnd (all_pairs i (left tokens.entry))
+        (λ members. PutsLevels part least members greatest (moves_from 1 slots.old) (moves_from 1 slots.new))) }
+    ensures fault { IfErr result (λ fault. all_pairs i (left tokens.entry) ≡ Err fault) }
 {
-    for member in members {
-        put(slots, *member, part);
+    let mut greatest = least;
+    loop {
+        match next_member(i, &mut tokens) {
+            Ok(Some(member)) => {
+                facts::of_member(&member);
+                greatest = greatest.max(member.chan.get());
+                put(slots, member, part);
+            }
+            Ok(None) => return Ok(greatest),
+            Err(fault) => return Err(fault),
+        }
     }
 }
 

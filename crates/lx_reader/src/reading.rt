@@ -16,8 +16,6 @@ ghost use Rattle.lx_spec.specs.Text.{tokens};
 ghost use Rattle.lx_spec.specs.TrackedLevel.{cue_of};
 ghost use Rattle.lx_reader.specs.Settled.{Fits, FitsIn, keeps_cue, settled};
 
-use crate::gathered::gather;
-use crate::levels::widen_for;
 use crate::line_fault::LineFault;
 use crate::open_moves::OpenMoves;
 use crate::reader::Reader;
@@ -187,15 +185,11 @@ impl Reading {
         ensures outcome { Outcome (settled self.old) (settled self.new) i result (levels desk_limits i (left tokens.entry)) }
         ensures fits { OnOk result (Fits self.new) }
     {
-        let greatest = gather(
-            i,
-            tokens,
-            self.reader.show.channels(),
-            &mut self.reader.gathered.members,
-        )?;
-        let members = self.reader.gathered.members.as_slice();
-        widen_for(&mut self.reader.show, members, greatest);
-        self.moves.put_all(members, self.reader.part);
+        let channels = self.reader.show.channels();
+        let greatest = self
+            .moves
+            .put_line(i, tokens, self.reader.part, channels)?;
+        self.reader.show.widen(greatest);
         Ok(())
     }
 }
