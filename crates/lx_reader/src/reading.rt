@@ -71,7 +71,8 @@ impl Reading {
         let Some(n) = self.cue else {
             return Ok(());
         };
-        self.moves.write_to(&mut self.list)?;
+        let channels = self.reader.show.channels();
+        self.moves.write_to(channels, &mut self.list)?;
         let mut moves = MoveList::new(alloc);
         moves.put_each(self.list.as_slice())?;
         let _ = self.reader.show.replace_moves(n, moves);

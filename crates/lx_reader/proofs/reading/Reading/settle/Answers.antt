@@ -1,4 +1,4 @@
-use Rattle.std.proofs.Common.{◌≡◌, [], ap, ◌∙◌, sym, refl, subst}
+use Rattle.std.proofs.Common.{◌≡◌, [], ap, arith, ◌∙◌, sym, refl, subst}
 use Rattle.std.specs.List.{AllByRecursion}
 use Rattle.std.specs.Option.{IsSomeAnd}
 use Rattle.std.specs.Prelude.{IfSome}
@@ -6,8 +6,17 @@ use Rattle.lx_spec.specs.Show.{ValidMove}
 use Rattle.lx_spec.specs.SortedList.{all_placed}
 use Rattle.lx_spec.specs.TrackedLevel.{cue_of}
 use Rattle.lx_reader.specs.Settled.{FitsIn}
-use Rattle.lx_reader.proofs.Settling.{placed_alone, settled_is}
+use Rattle.lx_reader.proofs.Settling.{all_within, placed_alone, settled_is}
 use Rattle.lx_reader.proofs.reading.Reading.settle.Goals as goal
+
+pub write_to-requires-clause-most : goal.write_to-requires-clause-most
+write_to-requires-clause-most c = omega (arith, c.channels-channels.ensures.channels, c.channels-channels.ensures.valid.channels.most)
+
+pub write_to-requires-clause-within : goal.write_to-requires-clause-within
+write_to-requires-clause-within c =
+    let g = c.args.self.now in
+    let fits : FitsIn g.reader g.moves c.in-Some.n = subst (λ o. IfSome o (FitsIn g.reader g.moves)) c.in-Some.is c.requires in
+    all_within _ _ g.moves (cue_of g.reader.show c.in-Some.n) c.channels-channels.ensures.channels fits.valid
 
 pub replace_moves-requires : goal.replace_moves-requires
 replace_moves-requires c =
