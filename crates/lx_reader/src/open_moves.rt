@@ -13,7 +13,7 @@ use crate::lists::{far_member, near_member};
 use lx_base::{CHANNELS, Chan, Level, PartNo};
 use lx_lex::Tokens;
 use lx_spec::{Member, Move, TextFault};
-use std::alloc::AllocError;
+use std::alloc::{AllocError, Global};
 use std::marker::Model;
 
 /// How many channels there can be.
@@ -74,15 +74,15 @@ impl OpenMoves {
         put_line(&mut self.slots, i, tokens, part, least)
     }
 
-    /// Writes the moves, none of which is of a channel above this one, into a list, in place of what it has.
-    pub(crate) fn write_to(&self, channels: u32, moves: &mut Vec<Move>) -> Result<(), AllocError>
+    /// The moves as a list. None is of a channel above this one.
+    pub(crate) fn listed(&self, alloc: Global, channels: u32) -> Result<Vec<Move>, AllocError>
         requires most { channels ≤ CHANNELS }
         requires within { AllByRecursion (λ m. m.chan ≤ channels) self.now }
-        ensures moves { OnOk result (moves.new.items ≡ self.now) }
+        ensures moves { IfOk result (λ list. list.items ≡ self.now) }
         ensures sorted { IsStrictlySorted (λ m. m.chan) self.now }
     {
         rise(&self.slots);
-        write_to(&self.slots, channels as usize, moves)
+        listed(alloc, &self.slots, channels as usize)
     }
 }
 
@@ -150,22 +150,21 @@ fn rise(slots: &[Option<Slot>; SLOTS])
     let _ = slots;
 }
 
-/// Writes the moves into a list, in place of what it has: those of the first slots, which are all.
-fn write_to(
+/// The moves as a list: those of the first slots, which are all.
+fn listed(
+    alloc: Global,
     slots: &[Option<Slot>; SLOTS],
     count: usize,
-    moves: &mut Vec<Move>,
-) -> Result<(), AllocError>
+) -> Result<Vec<Move>, AllocError>
     requires most { count ≤ CHANNELS }
     requires within { AllByRecursion (λ m. m.chan ≤ count) (moves_from 1 slots.now) }
-    ensures { OnOk result (moves.new.items ≡ moves_from 1 slots.now) }
+    ensures { IfOk result (λ list. list.items ≡ moves_from 1 slots.now) }
 {
-    moves.clear();
-    moves.reserve(count)?;
+    let mut moves = Vec::with_capacity(alloc, count)?;
     for index in 0..count {
-        keep(slots[index], index, moves);
+        keep(slots[index], index, &mut moves);
     }
-    Ok(())
+    Ok(moves)
 }
 
 /// Appends the move in the slot of an index, if there is one. There is room for it.

@@ -1,7 +1,7 @@
 use Rattle.std.proofs.Common.{◌≤◌, ◌∙◌, arith, drop, subst, sym}
 use Rattle.std.specs.List.{AllByRecursion}
 use Rattle.lx_reader.proofs.OpenMoves.{behind, none_behind}
-use Rattle.lx_reader.proofs.open_moves.write_to.Goals as goal
+use Rattle.lx_reader.proofs.open_moves.listed.Goals as goal
 
 pub returns : goal.returns
 returns c =

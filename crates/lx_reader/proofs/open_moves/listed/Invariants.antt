@@ -1,6 +1,6 @@
 use Rattle.std.proofs.Common.{◌≡◌, ◌+◌, ◌-◌, ◌≤◌, ◌++◌, drop, length, vec_capacity}
 use Rattle.lx_reader.specs.OpenMoves.{moves_from}
-use Rattle.lx_reader.proofs.open_moves.write_to.Given as goal
+use Rattle.lx_reader.proofs.open_moves.listed.Given as goal
 
 abbrev pub invariant-loop-index : goal.invariant-loop-index
 invariant-loop-index l = record {
