@@ -1,5 +1,5 @@
 -- Levels of a line that are put into the moves of the open cue.
-use Rattle.std.proofs.Common.{◌≡◌, ℕ, ◌≤◌, false, List, [], Option, Some, None, Ok, refl, ap, ◌∙◌, sym, subst, arith}
+use Rattle.std.proofs.Common.{◌≡◌, ℕ, ◌≤◌, false, List, [], Option, Some, None, Ok, refl, ap, ◌∙◌, sym, subst, arith, append-nil}
 use Rattle.std.specs.Prelude.{IfSome}
 use Rattle.std.specs.List.{AllByRecursion}
 use Rattle.std.specs.Option.{IsSomeAnd}
@@ -14,86 +14,79 @@ use Rattle.lx_spec.specs.TrackedLevel.{cue_of}
 use Rattle.lx_spec.proofs.Lists.{each}
 use Rattle.lx_show.specs.Changed.{changed}
 use Rattle.lx_show.proofs.Stretches.{All-all_placed}
-use Rattle.lx_reader.specs.declared.gathered.Gathered.{Gathered}
 use Rattle.lx_reader.specs.declared.reader.Reader.{Reader}
 use Rattle.lx_reader.specs.declared.reading.Reading.{Reading}
-use Rattle.lx_reader.specs.FieldLists.{all_pairs}
+use Rattle.lx_reader.specs.OpenMoves.{ReadsLevels}
 use Rattle.lx_reader.specs.LineOutcome.{Outcome}
 use Rattle.lx_reader.specs.OpenRecord.{HasPartIn, IsOpen}
 use Rattle.lx_reader.specs.ReadingState.{moves_of, with_members}
 use Rattle.lx_reader.specs.Settled.{FitsIn, settled, with_open}
 use Rattle.lx_reader.proofs.LineSteps.{levels_took}
-use Rattle.lx_reader.proofs.Members.{cue_members, greatest_least, greatest_of, moves_valid_in, put_whole}
+use Rattle.lx_reader.proofs.Members.{cue_members, greatest_each, greatest_least, greatest_of, moves_valid_in, put_whole}
 use Rattle.lx_reader.proofs.QuietLines.{with_cue_moves}
 use Rattle.lx_reader.proofs.Settling.{changed_twice, with_moves}
 
-levels_shown : (r : Reader) (n : ℕ) (moves new : List Move) (members : List Member) (wide : Show) → r.section ≡ InCue n
-    → wide ≡ record r.show { channels = greatest_of r.show.channels members }
-    → new ≡ all_placed (λ m. m.chan) (moves_of r.part members) moves
-    → with_open (Some n) new wide ≡ with_members r.section r.part members (with_open (Some n) moves r.show)
-levels_shown r n moves new members wide inside widened placed =
+levels_shown : (r : Reader) (n i k : ℕ) (moves new : List Move) (rest : List (List ℕ)) → r.section ≡ InCue n
+    → (read : ReadsLevels i r.part r.show.channels rest [] k moves new)
+    → with_open (Some n) new (record r.show { channels = k })
+    ≡ with_members r.section r.part read.members (with_open (Some n) moves r.show)
+levels_shown r n i k moves new rest inside read =
+    let members = read.members in
     let add : Cue → Cue = λ cue. record cue { moves = all_placed (λ m. m.chan) (moves_of r.part members) cue.moves } in
     let old : Show = with_open (Some n) moves r.show in
-    ap (with_open (Some n) new) widened
-    ∙ ap (λ ms. with_open (Some n) ms (record r.show { channels = greatest_of r.show.channels members })) placed
+    (λ j. with_open (Some n) (read.placed j) (record r.show { channels = read.is_greatest j }))
     ∙ (λ j. record r.show {
       channels = greatest_of r.show.channels members;
       cues = sym (changed_twice (λ cue. cue.number) n add (with_moves moves) r.show.cues (λ cue. refl) (λ cue. refl)) j;
     })
     ∙ cue_members r.section n r.part members old (record old { channels = greatest_of old.channels members }) inside refl
 
-pub levels_apart : (g : Reading) (n i : ℕ) (members : List Member) (wide : Show) (new : List Move) (room : Gathered) (rest : List (List ℕ))
-    → g.cue ≡ Some n → g.reader.section ≡ InCue n → g.reader.ended ≡ false → all_pairs i rest ≡ Ok members
-    → wide ≡ record g.reader.show { channels = greatest_of g.reader.show.channels members }
-    → new ≡ all_placed (λ m. m.chan) (moves_of g.reader.part members) g.moves
-    → Outcome (settled g) (with_cue_moves (record g.reader { show = wide; gathered = room }) g.cue new) i (Ok tt) (levels desk_limits i rest)
-levels_apart g n i members wide new room rest is inside going list widened placed =
+pub levels_apart : (g : Reading) (n i k : ℕ) (wide : Show) (new : List Move) (rest : List (List ℕ)) → g.cue ≡ Some n
+    → g.reader.section ≡ InCue n → g.reader.ended ≡ false → wide ≡ record g.reader.show { channels = k }
+    → ReadsLevels i g.reader.part g.reader.show.channels rest [] k g.moves new
+    → Outcome (settled g) (with_cue_moves (record g.reader { show = wide }) g.cue new) i (Ok tt) (levels desk_limits i rest)
+levels_apart g n i k wide new rest is inside going widened read =
     let r = g.reader in
-    let shown : with_open g.cue new wide ≡ with_members r.section r.part members (settled g).show
-    = ap (λ o. with_open o new wide) is ∙ levels_shown r n g.moves new members wide inside widened placed
-    ∙ ap (λ o. with_members r.section r.part members (with_open o g.moves r.show)) (sym is) in
-    levels_took (settled g) (with_open g.cue new wide) room i rest (Ok tt) going
-    (put_whole i rest members r.section r.part (settled g).show (with_open g.cue new wide) list shown) tt
+    let shown : with_open g.cue new wide ≡ with_members r.section r.part read.members (settled g).show
+    = (λ j. with_open (is j) new (widened j)) ∙ levels_shown r n i k g.moves new rest inside read
+    ∙ ap (λ o. with_members r.section r.part read.members (with_open o g.moves r.show)) (sym is) in
+    levels_took (settled g) (with_open g.cue new wide) r.gathered i rest (Ok tt) going
+    (put_whole i rest read.members r.section r.part (settled g).show (with_open g.cue new wide)
+    (read.list ∙ ap Ok (append-nil read.members)) shown) tt
 
 both : {A : Type 0} (P Q R : A → Type 0) (o : Option A) → ((x : A) → P x → Q x → R x) → IsSomeAnd o P → IsSomeAnd o Q → IsSomeAnd o R
 both P Q R None on p q = absurd p
 both P Q R (Some x) on p q = on x p q
 
-fit_in : (r : Reader) (n : ℕ) (moves : List Move) (members : List Member) (room : Gathered) → FitsIn r moves n → IsOpen r.show r.section r.part
-    → AllByRecursion (ValidMember (greatest_of r.show.channels members)) members
-    → FitsIn (record r { show = record r.show { channels = greatest_of r.show.channels members }; gathered = room })
-    (all_placed (λ m. m.chan) (moves_of r.part members) moves) n
-fit_in r n moves members room fits there valid =
-    let wide : Show = record r.show { channels = greatest_of r.show.channels members } in
+fit_in : (r : Reader) (n i k : ℕ) (moves new : List Move) (rest : List (List ℕ)) → FitsIn r moves n → IsOpen r.show r.section r.part
+    → ReadsLevels i r.part r.show.channels rest [] k moves new → FitsIn (record r { show = record r.show { channels = k } }) new n
+fit_in r n i k moves new rest fits there read =
+    let wide : Show = record r.show { channels = k } in
     let part : HasPartIn wide n r.part = subst (λ s. IsOpen r.show s r.part) fits.inside there in
-    let more : r.show.channels ≤ wide.channels = greatest_least r.show.channels members in
+    let more : r.show.channels ≤ k = omega (arith, read.is_greatest, greatest_least r.show.channels read.members) in
+    let valid : AllByRecursion (ValidMember k) read.members = subst (λ c. AllByRecursion (ValidMember c) read.members) (sym read.is_greatest)
+    (greatest_each r.show.channels read.members read.valid) in
     record {
       inside = fits.inside;
       valid = both (λ cue. AllByRecursion (ValidMove r.show.channels cue.parts) moves)
-          (λ cue. AllByRecursion (ValidMove wide.channels cue.parts) (moves_of r.part members))
-          (λ cue. AllByRecursion (ValidMove wide.channels cue.parts) (all_placed (λ m. m.chan) (moves_of r.part members) moves))
+          (λ cue. AllByRecursion (ValidMove k cue.parts) (moves_of r.part read.members)) (λ cue. AllByRecursion (ValidMove k cue.parts) new)
           (cue_of r.show n)
-          (λ cue old new. All-all_placed (ValidMove wide.channels cue.parts) (λ m. m.chan) (moves_of r.part members) moves new
+          (λ cue old add. subst (AllByRecursion (ValidMove k cue.parts)) (sym read.placed)
+          (All-all_placed (ValidMove k cue.parts) (λ m. m.chan) (moves_of r.part read.members) moves add
           (each _ _ moves (λ m h. record {
             chan = record { least = h.chan.least; most = omega (arith, h.chan.most, more) };
             part = h.part;
             level = h.level;
-          }) old))
-          fits.valid (moves_valid_in wide n r.part members part valid);
+          }) old)))
+          fits.valid (moves_valid_in wide n r.part read.members part valid);
     }
 
-pub levels_fit : (r : Reader) (o : Option ℕ) (moves new : List Move) (members : List Member) (wide : Show) (room : Gathered)
-    → IsSomeAnd o (FitsIn r moves) → IsOpen r.show r.section r.part
-    → wide ≡ record r.show { channels = greatest_of r.show.channels members }
-    → new ≡ all_placed (λ m. m.chan) (moves_of r.part members) moves → AllByRecursion (ValidMember wide.channels) members
-    → IfSome o (FitsIn (record r { show = wide; gathered = room }) new)
-levels_fit r None moves new members wide room fits there widened placed valid = tt
-levels_fit r (Some n) moves new members wide room fits there widened placed valid =
-    let known = subst (λ (s : Show). AllByRecursion (ValidMember s.channels) members) widened valid in
-    subst (λ (s : Show). FitsIn (record r { show = s; gathered = room }) new n) (sym widened)
-    (subst (λ (ms : List Move). FitsIn
-    (record r { show = record r.show { channels = greatest_of r.show.channels members }; gathered = room }) ms n) (sym placed)
-    (fit_in r n moves members room fits there known))
+pub levels_fit : (r : Reader) (o : Option ℕ) (i k : ℕ) (moves new : List Move) (rest : List (List ℕ)) (wide : Show)
+    → IsSomeAnd o (FitsIn r moves) → IsOpen r.show r.section r.part → wide ≡ record r.show { channels = k }
+    → ReadsLevels i r.part r.show.channels rest [] k moves new → IfSome o (FitsIn (record r { show = wide }) new)
+levels_fit r None i k moves new rest wide fits there widened read = tt
+levels_fit r (Some n) i k moves new rest wide fits there widened read =
+    subst (λ (s : Show). FitsIn (record r { show = s }) new n) (sym widened) (fit_in r n i k moves new rest fits there read)
 
 -- the cue that is open
 pub open_one : (r : Reader) (moves : List Move) (o : Option ℕ) → IsSomeAnd o (FitsIn r moves) → (n : ℕ) × ((o ≡ Some n) × FitsIn r moves n)

@@ -33,7 +33,7 @@ fn widen(show: &mut Show, chan: Chan)
 }
 
 /// The show has the channels, of which this is the greatest, or it has more.
-pub(crate) fn widen_for(show: &mut Show, members: &[Member], greatest: u32)
+fn widen_for(show: &mut Show, members: &[Member], greatest: u32)
     requires each { AllByRecursion (ValidMember CHANNELS) members.now }
     requires greatest { greatest ≡ fold max show.old.channels (map (λ m. m.chan) members.now) }
     ensures show { show.new ≡ record show.old { channels = fold max show.old.channels (map (λ m. m.chan) members.now) } }

@@ -16,8 +16,6 @@ ghost use Rattle.lx_spec.specs.Text.{tokens};
 ghost use Rattle.lx_spec.specs.TrackedLevel.{cue_of};
 ghost use Rattle.lx_reader.specs.Settled.{Fits, FitsIn, keeps_cue, settled};
 
-use crate::gathered::gather;
-use crate::levels::widen_for;
 use crate::line_fault::LineFault;
 use crate::open_moves::OpenMoves;
 use crate::reader::Reader;
@@ -25,7 +23,7 @@ use crate::word::word_of;
 use lx_base::{CUES, CueNo};
 use lx_lex::{Tokens, tokens};
 use lx_show::{MoveList, Show};
-use lx_spec::{Move, Section, Word};
+use lx_spec::{Section, Word};
 use std::alloc::{AllocError, Global};
 
 /// How many bytes make a line of levels long.
@@ -40,8 +38,6 @@ pub(crate) struct Reading {
     cue: Option<CueNo>,
     /// All its moves.
     moves: OpenMoves,
-    /// Room for them as a list.
-    list: Vec<Move>,
     /// How many cues had their moves apart so far.
     opened: usize,
 }
@@ -60,7 +56,6 @@ impl Reading {
             reader: Reader::new(alloc, show),
             cue: None,
             moves: OpenMoves::new(),
-            list: Vec::new(alloc),
             opened: 0,
         }
     }
@@ -73,9 +68,10 @@ impl Reading {
         let Some(n) = self.cue else {
             return Ok(());
         };
-        self.moves.write_to(&mut self.list)?;
+        let channels = self.reader.show.channels();
+        let list = self.moves.listed(alloc, channels)?;
         let mut moves = MoveList::new(alloc);
-        moves.put_each(self.list.as_slice())?;
+        moves.put_each(list.as_slice())?;
         let _ = self.reader.show.replace_moves(n, moves);
         self.cue = None;
         Ok(())
@@ -187,15 +183,11 @@ impl Reading {
         ensures outcome { Outcome (settled self.old) (settled self.new) i result (levels desk_limits i (left tokens.entry)) }
         ensures fits { OnOk result (Fits self.new) }
     {
-        let greatest = gather(
-            i,
-            tokens,
-            self.reader.show.channels(),
-            &mut self.reader.gathered.members,
-        )?;
-        let members = self.reader.gathered.members.as_slice();
-        widen_for(&mut self.reader.show, members, greatest);
-        self.moves.put_all(members, self.reader.part);
+        let channels = self.reader.show.channels();
+        let greatest = self
+            .moves
+            .put_line(i, tokens, self.reader.part, channels)?;
+        self.reader.show.widen(greatest);
         Ok(())
     }
 }
