@@ -62,9 +62,6 @@ tracked_none show n valid = no_level_found show.channels _
     (found_has (ValidCue show.channels) (λ cue. nat_le cue.number n && decides cue 0) (reverse show.cues) _ refl
     (all_reverse (ValidCue show.channels) show.cues valid.cues))
 
-zero_or : (c : ℕ) → (1 ≤ c → ⊥) → c ≡ 0
-zero_or c none = omega arith
-
 -- a channel at which nothing tracks in, as far as channels go
 pub nothing_tracks : (show : Show) (n c : ℕ) → Valid show → (1 ≤ c → c ≤ CHANNELS → tracked show n c ≡ 0) → tracked show n c ≡ 0
 nothing_tracks show n c valid within = elim (cases_lt c 1) [

@@ -35,10 +35,6 @@ filter_same {A} p q xs agree =
     let same : p ≡ q = λ i x. agree x i in
     ap (λ (t : A → Bool). filter t xs) same
 
-pub filter_true : {A : Type 0} (xs : List A) → filter (λ x. true) xs ≡ xs
-filter_true [] = refl
-filter_true (x ∷ xs) = ap (λ ys. x ∷ ys) (filter_true xs)
-
 -- the first of a range fails the test
 pub find_next : (p : ℕ → Bool) (n k m : ℕ) → p n ≡ false → k ≡ suc m → find p (range_with_len n k) ≡ find p (range_with_len (n + 1) m)
 find_next p n k m fails is = ap (λ j. find p (range_with_len n j)) is ∙ rw fails refl

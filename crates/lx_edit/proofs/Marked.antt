@@ -183,7 +183,3 @@ pub decided_alike : (old cue : Cue) (c : ℕ) → cue ≡ record old { moves = c
 decided_alike old cue c is same =
     ap (λ (q : Cue). decided q c) is
     ∙ ap (λ (o : Option Move). cond (old.block || is_some o) (Some (option_map_or (λ m. m.level) o 0)) None) (sym same)
-
--- a cue of which the moves alone are others
-pub moves_alone : (old cue : Cue) (moves : List Move) → cue ≡ record old { moves = moves } → cue ≡ record old { moves = cue.moves }
-moves_alone old cue moves is = is ∙ ap (λ (ms : List Move). record old { moves = ms }) (sym (ap (λ (q : Cue). q.moves) is))

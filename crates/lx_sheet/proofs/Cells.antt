@@ -90,9 +90,6 @@ cell-set_other channels levels k i chan (suc c) level least most other =
           ∙ sym (cell_is channels levels i (suc c) (omega arith) within)
     ]
 
-row_end : (channels k : ℕ) → suc k * channels ≡ k * channels + channels
-row_end channels k = omega arith
-
 -- a row written into the block
 pub row_here : (channels : ℕ) (levels look : List ℕ) (place end : ℕ) → end ≡ place * channels + channels → place * channels ≤ length levels
     → length look ≡ channels → take channels (drop (place * channels) (put_mid (place * channels) (end - place * channels) levels look))

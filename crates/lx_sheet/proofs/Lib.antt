@@ -2,7 +2,6 @@ pub mod Cells
 pub mod Covered
 pub mod EditedShows
 pub mod Found
-pub mod KeptNumbers
 pub mod LevelsAfter
 pub mod Moves
 pub mod Past

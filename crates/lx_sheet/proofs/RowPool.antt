@@ -122,10 +122,6 @@ pool_freed order free at p within is pool =
     (subst (λ (xs : List ℕ). IsPermutation (own_rows order ++ free) (xs ++ (free ++ p.row ∷ []))) (sym (own-remove order at))
     (rows_freed (own_rows order) free at p.row (omega (arith, length-map order (λ (x : Place). x.row))) here)) pool
 
--- where no row is free, each is a cue's own
-pub all_taken : (order : List Place) (free : List ℕ) → IsPool order free → length free ≡ 0 → CUES ≤ length order
-all_taken order free pool none = omega (arith, pool.all, length-append (own_rows order) free, length-map order (λ (p : Place). p.row))
-
 pub few_rows : (order : List Place) (free : List ℕ) → IsPool order free → length order + length free ≡ CUES
 few_rows order free pool = omega (arith, pool.all, length-append (own_rows order) free, length-map order (λ (p : Place). p.row))
 

@@ -1,4 +1,4 @@
-use Rattle.std.proofs.Common.{◌≡◌, ◌∙◌, ap, sym, subst, Bool, true, Some, List, [], length}
+use Rattle.std.proofs.Common.{◌≡◌, ◌∙◌, ap, sym, subst, Bool, Some, List, [], length}
 use Rattle.std.proofs.lemmas.List.{nil_from_length}
 use Rattle.lx_spec.proofs.Comparisons.{eq_from}
 use Rattle.std.specs.Prelude.{Option}

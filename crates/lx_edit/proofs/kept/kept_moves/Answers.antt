@@ -1,7 +1,6 @@
 use Rattle.std.proofs.Common.{◌≡◌, ◌+◌, ◌-◌, ◌<◌, ◌≤◌, ◌∙◌, ap, sym, ℕ, List, Bool, false, arith, map}
-use Rattle.std.specs.Prelude.{not, ◌==◌, filter}
+use Rattle.std.specs.Prelude.{not, ◌==◌}
 use Rattle.std.specs.Option.{option_copied}
-use Rattle.std.specs.List.{range_with_len}
 use Rattle.lx_spec.specs.declared.Move.{Move}
 use Rattle.lx_spec.specs.TrackedLevel.{tracked}
 use Rattle.lx_edit.specs.Kept.{changed_show}
