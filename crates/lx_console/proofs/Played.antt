@@ -2,7 +2,7 @@
 use Rattle.std.specs.Prelude.{◌≡◌, ℕ, ◌+◌, Bool, true, false, cond, Option, Some, None, is_some, Result, Ok, Err, List, [], ◌∷◌, ◌==◌, refl}
 use Rattle.std.specs.Prelude.{IsTrue}
 use Rattle.std.specs.Option.{option_map_or}
-use Rattle.std.proofs.Common.{arith, ap, sym, subst, ◌∙◌}
+use Rattle.std.proofs.Common.{arith, ap, sym, ◌∙◌}
 use Rattle.lx_base.specs.declared.TheConstants.{TICK_END, TICK_STEP, BACK_TIME}
 use Rattle.lx_spec.specs.declared.PlayKey.{PlayKey}
 use Rattle.lx_spec.specs.declared.PlayKey.TheVariants.{Go, Back, Goto, Settle}

@@ -1,10 +1,9 @@
 -- Lines that were taken one after another: how a loop over `advance` begins, goes on and ends.
-use Rattle.std.proofs.Common.{◌≡◌, ◌⊎◌, inl, inr, ℕ, ◌+◌, ◌<◌, ◌≤◌, Bool, true, false, List, [], ◌∷◌, ◌++◌, length, take, map, Some, None}
+use Rattle.std.proofs.Common.{◌≡◌, ◌⊎◌, inl, inr, ℕ, ◌+◌, ◌<◌, ◌≤◌, Bool, true, false, List, [], ◌∷◌, ◌++◌, length, map, Some, None}
 use Rattle.std.proofs.Common.{IfSome, refl, sym, ap, ◌∙◌, subst, append-nil, append_assoc, length-append, arith}
 use Rattle.std.specs.declared.option.Option.{Option}
 use Rattle.std.specs.Io.KnownBytes.{IsAtEnd}
 use Rattle.std.proofs.KnownBytes.{Consumes-trans}
-use Rattle.std.proofs.Math.Seq.{take-append_seam}
 use Rattle.std.proofs.lemmas.List.{map-append}
 use Rattle.lx_base.specs.declared.TheConstants.{INPUT_BYTES}
 use Rattle.lx_spec.specs.CutInput.{HasNoFeed, first_lines}
@@ -122,13 +121,6 @@ pub all_lines : (a b : Option (List ℕ)) (i j : ℕ) (raws : List (List ℕ)) �
 all_lines None b i j raws p e = tt
 all_lines (Some x) None i j raws p e = absurd p.took
 all_lines (Some x) (Some y) i j raws p e = p.lines ∙ ap (λ v. raws ++ cut_lines v) e ∙ append-nil raws
-
--- these are the first lines
-pub front_lines : (a b : Option (List ℕ)) (i j : ℕ) (raws : List (List ℕ)) → LinesBetween a b i j raws
-    → IfSome a (λ xs. take (length raws) (cut_lines xs) ≡ raws)
-front_lines None b i j raws p = tt
-front_lines (Some x) None i j raws p = absurd p.took
-front_lines (Some x) (Some y) i j raws p = ap (take (length raws)) p.lines ∙ take-append_seam raws (cut_lines y)
 
 -- the bytes of each of them are within the limit of the input
 pub lines_within : (a b : Option (List ℕ)) (i j : ℕ) (raws : List (List ℕ)) (n : ℕ) → LinesBetween a b i j raws → n ≤ length raws

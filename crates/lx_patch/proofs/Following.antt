@@ -2,7 +2,7 @@
 use Rattle.std.specs.Prelude.{◌≡◌, ◌≢◌, ◌⊎◌, ℕ, ◌+◌, ◌-◌, ◌<◌, ◌≤◌, Option, Some, None, List, length}
 use Rattle.std.specs.Option.{option_map_or}
 use Rattle.std.proofs.Common.{arith, get_or, refl, ◌∙◌, ap, sym, subst, inl, inr}
-use Rattle.std.proofs.lemmas.Bool.{cases_eq, cases_lt}
+use Rattle.std.proofs.lemmas.Bool.{cases_lt}
 use Rattle.lx_base.specs.declared.TheConstants.{SLOTS}
 use Rattle.lx_base.specs.Numbers.{scaled}
 use Rattle.lx_base.specs.Rows.{Agree}
@@ -11,7 +11,7 @@ use Rattle.lx_spec.specs.SortedList.{entry_at}
 use Rattle.lx_spec.specs.Output.{dimmer_value}
 use Rattle.lx_mixer.specs.Table.{IsTable}
 use Rattle.lx_patch.specs.DimmerTable.{DimmerTable, StandsForPatch, Reaches}
-use Rattle.lx_patch.specs.Followed.{Follows, IsAbove}
+use Rattle.lx_patch.specs.Followed.{IsAbove}
 use Rattle.lx_patch.specs.Slots.{IsFilled, IsFollowed}
 
 -- in proportion to 0 everything is 0

@@ -7,12 +7,8 @@ use Rattle.std.specs.Prelude.{Bool, true, false, suc, ◌==◌, flat_map, codes,
 use Rattle.std.specs.List.{enumerate_from}
 use Rattle.lx_script.specs.Cells.{cell, cells_from}
 use Rattle.std.proofs.lemmas.Grind.{flat_map-append}
-use Rattle.lx_spec.specs.declared.Refusal.{Refusal}
-use Rattle.lx_spec.specs.declared.Refusal.TheVariants.{AbsentCue, AbsentPart, AbsentChannel, AbsentMove, AbsentGroup, AbsentSub}
-use Rattle.lx_spec.specs.declared.Refusal.TheVariants.{AbsentDimmer, CueLimit, BasePart, NoCueAfter, NoCueBefore, PlaybackFull, TickLimit}
-use Rattle.lx_spec.specs.declared.Refusal.TheVariants.{Memory}
 use Rattle.lx_spec.specs.ShowText.{spaced}
-use Rattle.lx_spec.specs.Replies.{refusal_words, cells, frame_text}
+use Rattle.lx_spec.specs.Replies.{cells, frame_text}
 
 -- words, each behind a space
 abbrev pub behind_spaces : List (List ℕ) → List ℕ
@@ -21,23 +17,6 @@ behind_spaces words = flat_map (λ word. 32 ∷ word) words
 pub spaced_more : (word : List ℕ) (words : List (List ℕ)) → spaced (word ∷ words) ≡ word ++ behind_spaces words
 spaced_more word [] = sym (append-nil word)
 spaced_more word (next ∷ words) = ap (λ text. word ++ 32 ∷ text) (spaced_more next words)
-
--- a refusal has a name
-pub spaced_refusal : (r : Refusal) → spaced (codes "refused" ∷ refusal_words r) ≡ codes "refused " ++ spaced (refusal_words r)
-spaced_refusal (AbsentCue n) = refl
-spaced_refusal (AbsentPart n p) = refl
-spaced_refusal (AbsentChannel c) = refl
-spaced_refusal (AbsentMove n c) = refl
-spaced_refusal (AbsentGroup g) = refl
-spaced_refusal (AbsentSub s) = refl
-spaced_refusal (AbsentDimmer e) = refl
-spaced_refusal CueLimit = refl
-spaced_refusal BasePart = refl
-spaced_refusal (NoCueAfter n) = refl
-spaced_refusal (NoCueBefore n) = refl
-spaced_refusal PlaybackFull = refl
-spaced_refusal (TickLimit m) = refl
-spaced_refusal Memory = refl
 
 one_word : (none : Bool) (word : List ℕ) → behind_spaces (if none then [] else word ∷ []) ≡ (if none then [] else 32 ∷ word)
 one_word true word = refl

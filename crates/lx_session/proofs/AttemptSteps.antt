@@ -2,7 +2,7 @@
 use Rattle.std.proofs.Common.{◌≡◌, inl, inr, ◌≤◌, ◌<◌, ℕ, zero, suc, ◌+◌, ◌-◌, Bool, true, false, cond, ◌&&◌, ◌==◌, Option, Some, None}
 use Rattle.std.proofs.Common.{Result, Ok, Err, List, [], ◌∷◌, ◌++◌, IsOkAnd, refl, sym, ap, ◌∙◌, subst, arith, append-nil}
 use Rattle.std.proofs.Common.{append_assoc}
-use Rattle.std.specs.Prelude.{is_some, is_none, option_map}
+use Rattle.std.specs.Prelude.{is_none}
 use Rattle.std.specs.List.{list_any}
 use Rattle.std.specs.Result.{result_unwrap_or}
 use Rattle.std.proofs.lemmas.List.Sums.{fold-append}
@@ -75,10 +75,6 @@ refused_by t = record t { attempts = t.attempts + 1 }
 -- whether want of memory refuses the next attempt
 abbrev wants_next : List ℕ → Session → Bool
 wants_next places t = list_any (λ place. place == t.attempts + 1) places
-
--- the attempts from here on, by what the next one comes to
-resume : List ℕ → Command → ℕ → Attempt → Attempt
-resume places c n tried = and_then tried (attempts_of places c n)
 
 one_more : (places : List ℕ) (c : Command) (left : ℕ) (t : Session) → 0 < left
     → attempts_of places c left t ≡ and_then (attempt places t c) (attempts_of places c (left - 1))
@@ -362,7 +358,3 @@ pub heard_refused : (heard : List Command → Type 0) (c : Command) (refusal : O
     → heard (heard_of c refusal)
 heard_refused heard c None some h = cc
 heard_refused heard c (Some r) some h = h
-
-pub some_map : {A B : Type 0} (f : A → B) (o : Option A) → is_some (option_map f o) ≡ is_some o
-some_map f None = refl
-some_map f (Some x) = refl

@@ -1,13 +1,12 @@
 -- What taking a line comes to, from its parts.
-use Rattle.std.proofs.Common.{◌≡◌, inl, inr, refl, ℕ, ◌≤◌, Bool, true, false, Option, Some, None, Result, Ok, Err, IsErr}
-use Rattle.std.proofs.Common.{IfSome, List, [], ◌∷◌, ◌++◌, ap, ◌∙◌, subst, sym, take, arith}
+use Rattle.std.proofs.Common.{◌≡◌, inl, inr, ℕ, ◌≤◌, Bool, true, false, Option, Some, None, Result, Ok, Err, IsErr}
+use Rattle.std.proofs.Common.{IfSome, List, [], ◌∷◌, ◌++◌, ap, ◌∙◌, subst, sym, take}
 use Rattle.std.specs.Result.{IsErrAnd}
 use Rattle.std.specs.Io.KnownBytes.{Keeps, Appends, IsAtEnd}
 use Rattle.std.proofs.KnownBytes.{Keeps-trans}
 use Rattle.lx_io.specs.declared.sink.SinkFault.{SinkFault}
 use Rattle.lx_io.specs.declared.sink.SinkFault.TheVariants as sinks
-use Rattle.lx_io.specs.Causes.{Rose}
-use Rattle.lx_io.specs.Puts.{AppendsFront, HasSinkCause}
+use Rattle.lx_io.specs.Puts.{AppendsFront}
 use Rattle.lx_io.proofs.Chain.{AppendsFront-is, AppendsFront-from}
 use Rattle.lx_lex.specs.declared.lines.Lines.{Lines}
 use Rattle.lx_lex.specs.Handed.{HandedOut}
@@ -19,7 +18,6 @@ use Rattle.lx_session.specs.declared.tally.Tally.{Tally}
 use Rattle.lx_session.specs.Known.{Known}
 use Rattle.lx_session.specs.SessionFaults.{fault_of}
 use Rattle.lx_session.specs.LineOutcome.{Untouched, SinkStop, FromSession, ReplyOutcome, LineOutcome}
-use Rattle.lx_session.specs.SessionOutcome.{HasSessionCause}
 
 -- what is appended after bytes that were kept
 kept_appends : (a b c : Option (List ℕ)) (xs : List ℕ) → Keeps a b → Appends b c xs → Appends a c xs
@@ -92,25 +90,10 @@ unwritten answer MayWant Stood Stands left faults old new h h' h'' counted tally
       })
     ]))
 
--- no line more is there, or none was taken
-same_left : (o : Option (List ℕ)) → IfSome o (λ xs. IfSome o (λ ys. xs ≡ ys))
-same_left None = tt
-same_left (Some x) = refl
-
 none_left : (a b : Option (List ℕ)) → IsAtEnd a → IsAtEnd b → IfSome a (λ xs. IfSome b (λ ys. xs ≡ ys))
 none_left None b p q = tt
 none_left (Some x) None p q = tt
 none_left (Some x) (Some y) p q = p ∙ sym q
-
--- the sink failed before a line was taken
-pub unflushed : {S State : Type 0} (answer : Answer State) (MayWant : State → List ℕ → Type 0) (Stands : State → Type 0) (left : S → Known)
-    (faults : S → ℕ) (old : Lines S) (h h' : Known) (counted tally : Tally) (fault : SinkFault) (result : Result Bool SessionFault)
-    → IsErr result × IsErrAnd result (λ own. own ≡ fault_of fault) → Keeps h h'
-    → LineOutcome answer MayWant Stands Stands left faults old old h h' counted tally result
-unflushed answer MayWant Stands left faults old h h' counted tally fault result err kept =
-    through (LineOutcome answer MayWant Stands Stands left faults old old h h' counted tally) result (fault_of fault) err
-    (of_sink answer MayWant Stands Stands left faults old old h h' counted tally fault
-    (λ s stands counts. inl (record { kept = kept; stands = stands }, inl (same_left (unread left old)))))
 
 -- or at the end of the input
 pub end_unflushed : {S State : Type 0} (answer : Answer State) (MayWant : State → List ℕ → Type 0) (Stands : State → Type 0)
@@ -134,38 +117,3 @@ at_end answer MayWant Stands left faults old new h h' h'' counted kept kept' end
   inl end,
   λ s stands counts. record { same = record { kept = Keeps-trans h h' h'' kept kept'; stands = stands }; counts = counts },
 )
-
--- nothing was done where a line couldn't be taken
-pub not_done : {State : Type 0} (Stands : State → Type 0) (h h' : Known) (counted : Tally) → Keeps h h'
-    → FromSession Stands counted (Untouched Stands h h')
-not_done Stands h h' counted kept s stands counts = record { kept = kept; stands = stands }
-
--- The causes: the sink's own fault, after it hadn't failed before.
-later_rose : (a b c : ℕ) → a ≤ b → Rose b c → Rose a c
-later_rose a b c le rose = omega (arith, le, rose)
-
-sink_fails : {S K T U : Type 0} (reads : S → ℕ) (faults wants : K → ℕ) (old new : Lines S) (sink between sink' : K) (fault : SinkFault)
-    → reads old.source.now ≤ reads new.source.now → faults sink ≤ faults between → wants sink ≤ wants between
-    → HasSinkCause {T = U} faults wants between sink' (Err fault)
-    → HasSessionCause {T = T} reads faults wants old new sink sink' (Err (fault_of fault))
-sink_fails reads faults wants old new sink between sink' sinks.Failed later f w c = record {
-  later = later;
-  sink_later = let more = c.later in omega (arith, f, more);
-  wants_later = let more = c.wants_later in omega (arith, w, more);
-  failed = later_rose (faults sink) (faults between) (faults sink') f (c.failed refl);
-}
-sink_fails reads faults wants old new sink between sink' sinks.Memory later f w c = record {
-  later = later;
-  sink_later = let more = c.later in omega (arith, f, more);
-  wants_later = let more = c.wants_later in omega (arith, w, more);
-  failed = later_rose (wants sink) (wants between) (wants sink') w (c.memory refl);
-}
-
-pub sink_failed : {S K T U : Type 0} (reads : S → ℕ) (faults wants : K → ℕ) (old new : Lines S) (sink between sink' : K) (fault : SinkFault)
-    (result : Result T SessionFault)
-    → IsErr result × IsErrAnd result (λ own. own ≡ fault_of fault) → reads old.source.now ≤ reads new.source.now
-    → faults sink ≤ faults between → wants sink ≤ wants between → HasSinkCause {T = U} faults wants between sink' (Err fault)
-    → HasSessionCause reads faults wants old new sink sink' result
-sink_failed reads faults wants old new sink between sink' fault result err later f w c =
-    through (HasSessionCause reads faults wants old new sink sink') result (fault_of fault) err
-    (sink_fails reads faults wants old new sink between sink' fault later f w c)
