@@ -84,8 +84,34 @@ fn moves_of<'a>(cue: Option<&'a Cue>) -> &'a [Move]
     }
 }
 
-/// Adds the channels whose moves among the ones are others than among the others. It is one walk through both.
+/// Adds the channels whose moves among the ones are others than among the others.
 fn mark_moves(chans: &mut ChanSet, old: &[Move], new: &[Move])
+    requires old { IsStrictlySorted (λ m. m.chan) old.now }
+    requires new { IsStrictlySorted (λ m. m.chan) new.now }
+    ensures grows { Grows chans.old chans.new }
+    ensures same { (c : ℕ) → has_chan chans.new c ≡ false → entry_at (λ m. m.chan) c old.now ≡ entry_at (λ m. m.chan) c new.now }
+{
+    let front = same_front(old, new);
+    mark_rest(chans, &old[front..], &new[front..]);
+}
+
+/// How many moves at the front are the same in both.
+fn same_front(old: &[Move], new: &[Move]) -> usize
+    ensures old { result ≤ length old.now }
+    ensures new { result ≤ length new.now }
+    ensures same { take result old.now ≡ take result new.now }
+{
+    let most = old.len().min(new.len());
+    for at in 0..most {
+        if !is_same(&old[at], &new[at]) {
+            return at;
+        }
+    }
+    most
+}
+
+/// The same as `mark_moves`, in one walk through both.
+fn mark_rest(chans: &mut ChanSet, old: &[Move], new: &[Move])
     requires old { IsStrictlySorted (λ m. m.chan) old.now }
     requires new { IsStrictlySorted (λ m. m.chan) new.now }
     ensures grows { Grows chans.old chans.new }
