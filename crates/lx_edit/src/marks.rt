@@ -1,6 +1,6 @@
 //! Which channels see a difference where a cue is changed, added or taken out.
 
-ghost use Rattle.std.specs.Prelude.{◌≡◌, ◌≤◌, ◌-◌, ℕ, true, false, Some, None, IfSome, List, length, take};
+ghost use Rattle.std.specs.Prelude.{◌≡◌, ◌≤◌, ◌-◌, ℕ, true, false, Some, None, IfSome, List, length, take, drop};
 ghost use Rattle.std.specs.Option.{option_copied, IsSomeAnd};
 ghost use Rattle.lx_base.specs.declared.TheConstants.{CHANNELS};
 ghost use Rattle.lx_spec.specs.SortedList.{IsStrictlySorted, entry_at};
@@ -92,7 +92,17 @@ fn mark_moves(chans: &mut ChanSet, old: &[Move], new: &[Move])
     ensures same { (c : ℕ) → has_chan chans.new c ≡ false → entry_at (λ m. m.chan) c old.now ≡ entry_at (λ m. m.chan) c new.now }
 {
     let front = same_front(old, new);
-    mark_rest(chans, &old[front..], &new[front..]);
+    mark_rest(chans, rest(old, front), rest(new, front));
+}
+
+/// The moves from a place on.
+fn rest(moves: &[Move], from: usize) -> &[Move]
+    requires from { from ≤ length moves.now }
+    requires sorted { IsStrictlySorted (λ m. m.chan) moves.now }
+    ensures rest { result.now ≡ drop from moves.now }
+    ensures sorted { IsStrictlySorted (λ m. m.chan) result.now }
+{
+    &moves[from..]
 }
 
 /// How many moves at the front are the same in both.
