@@ -22,7 +22,7 @@ use Rattle.lx_edit.proofs.KeptLevels.{above_placed}
 use Rattle.lx_edit.proofs.Lists.{map_append}
 use Rattle.lx_edit.proofs.Walks.{through, walked, tracked-with_cue, tracked-without_cue, tracked_below-with_cue, tracked_below-without_cue}
 use Rattle.lx_spec.proofs.Comparisons.{le_true}
-use Rattle.lx_spec.proofs.Lists.{all_reverse, each, filter_all, find_in_filter, find_none, found_has}
+use Rattle.lx_spec.proofs.Lists.{all_reverse, each, filter_all, find_in_filter, find_none, found_has, none_differs}
 use Rattle.lx_spec.proofs.SortedLists.{entry_at-placed_here, entry_at-placed_other, found_number, has_placed, placed_same}
 
 level_step : (one other : Bool) (m : Option Move) (base : ℕ) → (m ≡ None → base ≡ 0)
@@ -228,9 +228,6 @@ numbers_with show cue valid there = numbers_step (λ (x : Cue). x.number) cue sh
 first_is : (d y : Cue) → Some y ≡ Some d → y ≡ d
 first_is d y is = cc
 
-none_is : (d : Cue) → None ≡ Some d → ⊥
-none_is d is = cc
-
 passed : (c base : ℕ) (y : Cue) → decides y c ≡ false → through c base y ≡ base
 passed c base y test = ap (λ (bit : Bool). cond bit (level_in y c) base) test
 
@@ -258,7 +255,7 @@ decided_step c a b m d y ys false test is le rest =
 -- whatever tracks into them, cues of which one decides give the same
 decided_alike : (c a b m : ℕ) (d : Cue) (cues : List Cue) → find (λ cue. decides cue c) cues ≡ Some d → d.number ≤ m
     → walked c a (entries_up_to (λ cue. cue.number) m cues) ≡ walked c b (entries_up_to (λ cue. cue.number) m cues)
-decided_alike c a b m d [] is le = absurd (none_is d is)
+decided_alike c a b m d [] is le = absurd (none_differs d is)
 decided_alike c a b m d (y ∷ ys) is le = decided_step c a b m d y ys (decides y c) refl is le (λ found. decided_alike c a b m d ys found le)
 
 past_step : (c a b m : ℕ) (cues : List Cue) (o : Option Cue) → find (λ cue. decides cue c) cues ≡ o

@@ -89,7 +89,7 @@ pub above-before : (show : Show) (n : ℕ) (old above : Cue) (c : ℕ) → IsStr
 above-before show n old above c sorted least here is = ap (λ (s : Show). tracked s above.number c) (sym here.same)
     ∙ with_at show old above n c sorted least here.number is
 
-same_test : (x : ℕ) → (x == x) ≡ true
+pub same_test : (x : ℕ) → (x == x) ≡ true
 same_test x = grind (arith, nat_tests)
 
 -- levels that go through the same cue differ where it doesn't decide, and they did before
@@ -192,3 +192,16 @@ outside_low range c low = grind (arith, nat_tests)
 
 pub outside_high : (range : Span) (c : ℕ) → range.last < c → covers range c ≡ false
 outside_high range c high = grind (arith, nat_tests)
+
+-- where the cue above doesn't decide, its level is changed where what tracks into it is
+pub differs_as : (show : Show) (n : ℕ) (old above : Cue) (new : Option (Bor Cue)) (c : ℕ) (was is : Option ℕ)
+    → IsStrictlySorted (λ x. x.number) show.cues → FoundCue show n old → IfSome new (λ cue. cue.now.number ≡ n)
+    → cue_above show n ≡ Some above → decides above c ≡ false → decided old c ≡ was → decided_by (option_copied new) c ≡ is
+    → not (unwrap_or was (tracked show (n - 1) c) == unwrap_or is (tracked show (n - 1) c))
+    ≡ not (tracked show above.number c == tracked (changed_show show n (option_copied new)) above.number c)
+differs_as show n old above new c was is sorted here number there leaves_it was_is is_is =
+    let base = tracked show (n - 1) c in
+    let both = above_both show n old above new c sorted here number there in
+    differ_through (decides above c) (level_in above c) _ _ _ _
+    (both.0 ∙ ap (λ (o : Option ℕ). through c (unwrap_or o base) above) was_is)
+    (both.1 ∙ ap (λ (o : Option ℕ). through c (unwrap_or o base) above) is_is) leaves_it

@@ -1,15 +1,16 @@
 -- Moves that are marked where they differ.
-use Rattle.std.proofs.Common.{◌≡◌, ℕ, zero, suc, ◌+◌, ◌-◌, ◌<◌, ◌≤◌, Bool, true, false, cond, List, [], ◌∷◌, ◌++◌, length, map, take, get_or, Some, None}
+use Rattle.std.proofs.lemmas.List.Folds.{find-append}
+use Rattle.std.proofs.Common.{◌≡◌, ℕ, zero, suc, ◌+◌, ◌-◌, ◌<◌, ◌≤◌, Bool, true, false, cond, List, [], ◌∷◌, ◌++◌, length, map, take, get_or, Some, None, drop}
 use Rattle.std.proofs.Common.{refl, ◌∙◌, sym, ap, subst, arith}
 use Rattle.std.specs.Prelude.{Option, IfSome, is_some, ◌||◌, ◌&&◌, ◌==◌, not, nat_le, nat_lt}
-use Rattle.std.specs.Option.{option_map_or}
+use Rattle.std.specs.Option.{option_map_or, option_or}
 use Rattle.std.specs.List.{AllByRecursion, range_with_len}
 use Rattle.std.proofs.lemmas.Bool.Decides.{nat_tests}
 use Rattle.lx_base.specs.Numbers.{Span}
 use Rattle.lx_base.specs.declared.TheConstants.{CHANNELS}
 use Rattle.lx_spec.specs.declared.Part.{Part}
 use Rattle.std.proofs.lemmas.Bool.{false≢true, or_left}
-use Rattle.std.proofs.lemmas.List.{take_more}
+use Rattle.std.proofs.lemmas.List.{take_more, take-append-drop}
 use Rattle.lx_spec.specs.declared.Move.{Move}
 use Rattle.lx_spec.specs.SortedList.{all_placed, entry_at, entries_above, placed}
 use Rattle.lx_spec.specs.Show.{Cue, ValidCue, ValidMove}
@@ -183,3 +184,14 @@ pub decided_alike : (old cue : Cue) (c : ℕ) → cue ≡ record old { moves = c
 decided_alike old cue c is same =
     ap (λ (q : Cue). decided q c) is
     ∙ ap (λ (o : Option Move). cond (old.block || is_some o) (Some (option_map_or (λ m. m.level) o 0)) None) (sym same)
+
+-- lists that begin alike have the same entry of each number where their rests have
+pub rest_same : (front c : ℕ) (old new : List Move) → take front old ≡ take front new
+    → entry_at (λ m. m.chan) c (drop front old) ≡ entry_at (λ m. m.chan) c (drop front new)
+    → entry_at (λ m. m.chan) c old ≡ entry_at (λ m. m.chan) c new
+rest_same front c old new same rest =
+    let split : (ms : List Move) → entry_at (λ m. m.chan) c ms
+    ≡ option_or (entry_at (λ m. m.chan) c (take front ms)) (entry_at (λ m. m.chan) c (drop front ms)) = λ ms.
+    ap (entry_at (λ m. m.chan) c) (sym (take-append-drop front ms)) ∙ find-append (λ m. m.chan == c) (take front ms) (drop front ms) in
+    split old ∙ ap (λ (ms : List Move). option_or (entry_at (λ m. m.chan) c ms) (entry_at (λ m. m.chan) c (drop front old))) same
+    ∙ ap (option_or (entry_at (λ m. m.chan) c (take front new))) rest ∙ sym (split new)

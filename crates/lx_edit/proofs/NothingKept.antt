@@ -8,16 +8,13 @@ use Rattle.lx_spec.specs.SortedList.{IsStrictlySorted, entry_at}
 use Rattle.lx_spec.specs.Show.{Cue, Show, Valid}
 use Rattle.lx_spec.specs.TrackedLevel.{cue_above, decides, level_in, move_in, tracked}
 use Rattle.lx_spec.specs.EditedShow.{with_cue, with_moves, cue_only, kept_above, channels_of}
-use Rattle.lx_spec.proofs.Lists.{find_has}
+use Rattle.lx_spec.proofs.Lists.{find_has, none_differs}
 use Rattle.lx_spec.proofs.SortedLists.{IsStrictlySorted-filter, IsStrictlySorted-placed, entry_at-placed_other, placed_same}
 use Rattle.lx_edit.specs.Found.{FoundCue}
 use Rattle.lx_edit.specs.Kept.{changed_show, decided}
 use Rattle.lx_edit.specs.Planned.{with_move}
 use Rattle.lx_edit.proofs.KeptLevels.{above-before, above-changed, cue_above-changed, cue_least, none_through, same_through}
 use Rattle.lx_edit.proofs.SameLists.{first_here, first_other, some_same}
-
-none_is : {A : Type 0} (x : A) → ◌≡◌ {A = Option A} None (Some x) → ⊥
-none_is x is = cc
 
 found_step : {A : Type 0} (key : A → ℕ) (p : A → Bool) (x y : A) (ys : List A) (b : Bool) → IsStrictlySorted key (y ∷ ys)
     → cond b (Some y) (find p ys) ≡ Some x → (find p ys ≡ Some x → entry_at key (key x) ys ≡ Some x)
@@ -32,7 +29,7 @@ found_step {A} key p x y ys false sorted is rest =
 -- what is found is the entry of its number
 found_entry : {A : Type 0} (key : A → ℕ) (p : A → Bool) (x : A) (xs : List A) → IsStrictlySorted key xs → find p xs ≡ Some x
     → entry_at key (key x) xs ≡ Some x
-found_entry key p x [] sorted is = absurd (none_is x is)
+found_entry key p x [] sorted is = absurd (none_differs x is)
 found_entry key p x (y ∷ ys) sorted is = found_step key p x y ys (p y) sorted is (λ h. found_entry key p x ys sorted.1 h)
 
 sorted_changed : (show : Show) (n : ℕ) (new : Option Cue) → IsStrictlySorted (λ x. x.number) show.cues

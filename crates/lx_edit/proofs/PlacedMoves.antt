@@ -24,7 +24,7 @@ use Rattle.lx_edit.specs.Undone.{TakesBack}
 use Rattle.lx_edit.proofs.Asserted.{asserts_with}
 use Rattle.lx_edit.proofs.CueLevels.{part_there}
 use Rattle.lx_edit.proofs.NothingKept.{nothing_kept}
-use Rattle.lx_edit.proofs.SameLists.{exchanged, exchanged_back}
+use Rattle.lx_edit.proofs.SameLists.{back_from}
 
 -- the cue of the number, as a plan of its moves has it
 pub record Moved (show : Show) (n : ℕ) : Type 0 where
@@ -125,8 +125,7 @@ sees_moved show n entry old cue chans found was marked c out =
 cue_again : (show : Show) (n : ℕ) (new cue : Cue) → Valid show → cue_of show n ≡ Some cue → new.number ≡ n
     → placed (λ (x : Cue). x.number) cue (placed (λ (x : Cue). x.number) new show.cues) ≡ show.cues
 cue_again show n new cue valid found number =
-    subst (λ (o : Option Cue). exchanged (λ (x : Cue). x.number) n o (placed (λ (x : Cue). x.number) new show.cues) ≡ show.cues) found
-    (exchanged_back (λ (x : Cue). x.number) n (Some new) show.cues valid.cues_sorted number)
+    back_from (λ (x : Cue). x.number) n (Some new) show.cues _ found valid.cues_sorted number
 
 -- the moves that it had, given back
 pub moves_back : (show after : Show) (n : ℕ) (moves old : List Move) (within : Span) (cue : Cue) → Valid show
@@ -166,8 +165,7 @@ move_back show after n entry old cue valid is ready found was =
     let fits : ValidMove show.channels cue.parts old =
     found_valid (ValidMove show.channels cue.parts) (λ (m : Move). m.chan) entry.chan cue.moves old whole.moves was in
     let moves : placed (λ (m : Move). m.chan) old new.moves ≡ cue.moves =
-    subst (λ (o : Option Move). exchanged (λ (m : Move). m.chan) entry.chan o new.moves ≡ cue.moves) was
-    (exchanged_back (λ (m : Move). m.chan) entry.chan (Some entry) cue.moves whole.moves_sorted refl) in
+    back_from (λ (m : Move). m.chan) entry.chan (Some entry) cue.moves _ was whole.moves_sorted refl in
     let cues = cue_again show n new cue valid found (sym number) in
     let placed_here : entry_at (λ (m : Move). m.chan) old.chan new.moves ≡ Some entry =
     entry_at-placed_here (λ (m : Move). m.chan) old.chan entry cue.moves chan in

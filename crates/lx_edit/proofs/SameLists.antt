@@ -93,6 +93,11 @@ exchanged_back key n new xs sorted number =
       | inr apart ↦ exchanged_other key n k old (exchanged key n new xs) was apart ∙ exchanged_other key n k new xs number apart
     ])
 
+pub back_from : {A : Type 0} (key : A → ℕ) (n : ℕ) (new : Option A) (xs : List A) (o : Option A) → entry_at key n xs ≡ o
+    → IsStrictlySorted key xs → IfSome new (λ x. key x ≡ n) → exchanged key n o (exchanged key n new xs) ≡ xs
+back_from {A} key n new xs o is sorted number =
+    subst (λ (q : Option A). exchanged key n q (exchanged key n new xs) ≡ xs) is (exchanged_back key n new xs sorted number)
+
 -- an entry changed, then another, and then both back in the same order
 pub both_back : {A : Type 0} (key : A → ℕ) (n : ℕ) (new : Option A) (above old : A) (xs : List A) → IsStrictlySorted key xs
     → IfSome new (λ x. key x ≡ n) → (key above ≡ n → ⊥) → entry_at key (key above) xs ≡ Some old

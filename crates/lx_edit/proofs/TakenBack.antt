@@ -16,7 +16,7 @@ use Rattle.lx_edit.specs.declared.plans.Plan.{Plan}
 use Rattle.lx_edit.specs.Kept.{changed_show}
 use Rattle.lx_edit.specs.Planned.{CanPlace, IsAbove, KeepsAbove, with_above}
 use Rattle.lx_edit.specs.Undone.{TakesBack, cue_instead, cue_back, kept_back, group_back, sub_back, row_back}
-use Rattle.lx_edit.proofs.SameLists.{exchanged, exchanged_back, exchanged_here, exchanged_other, both_back}
+use Rattle.lx_edit.proofs.SameLists.{back_from, exchanged, exchanged_here, exchanged_other, both_back}
 
 or_right : (a b : Bool) → b ≡ true → IsTrue (a || b)
 or_right true b is = refl
@@ -105,14 +105,12 @@ alone_back : (show : Show) (n : ℕ) (new o : Option Cue) → cue_of show n ≡ 
 alone_back show n new None is valid least number = record {
   ready = (least, tt, tt);
   back = ap (λ (cues : List Cue). record show { cues = cues })
-      (subst (λ (o : Option Cue). exchanged (λ (x : Cue). x.number) n o (other_cue show n new).cues ≡ show.cues) is
-      (exchanged_back (λ (x : Cue). x.number) n new show.cues valid.cues_sorted number));
+      (back_from (λ (x : Cue). x.number) n new show.cues _ is valid.cues_sorted number);
 }
 alone_back show n new (Some old) is valid least number = record {
   ready = (found_fits show (other_cue show n new) n old valid is refl (room_alone show n new old valid is number), tt, tt);
   back = ap (λ (cues : List Cue). record show { cues = cues })
-      (subst (λ (o : Option Cue). exchanged (λ (x : Cue). x.number) n o (other_cue show n new).cues ≡ show.cues) is
-      (exchanged_back (λ (x : Cue). x.number) n new show.cues valid.cues_sorted number));
+      (back_from (λ (x : Cue). x.number) n new show.cues _ is valid.cues_sorted number);
 }
 
 with_back : (show : Show) (n : ℕ) (new o : Option Cue) (above old_above : Cue) → cue_of show n ≡ o
@@ -245,14 +243,12 @@ group_step : (show : Show) (g : ℕ) (new o : Option Group) → entry_at (λ x. 
 group_step show g new None is valid number = record {
   ready = tt;
   back = ap (λ (groups : List Group). record show { groups = groups })
-      (subst (λ (o : Option Group). exchanged (λ (x : Group). x.number) g o (exchanged (λ (x : Group). x.number) g new show.groups) ≡ show.groups)
-      is (exchanged_back (λ (x : Group). x.number) g new show.groups valid.groups_sorted number));
+      (back_from (λ (x : Group). x.number) g new show.groups _ is valid.groups_sorted number);
 }
 group_step show g new (Some old) is valid number = record {
   ready = found_valid (ValidGroup show.channels) (λ (x : Group). x.number) g show.groups old valid.groups is;
   back = ap (λ (groups : List Group). record show { groups = groups })
-      (subst (λ (o : Option Group). exchanged (λ (x : Group). x.number) g o (exchanged (λ (x : Group). x.number) g new show.groups) ≡ show.groups)
-      is (exchanged_back (λ (x : Group). x.number) g new show.groups valid.groups_sorted number));
+      (back_from (λ (x : Group). x.number) g new show.groups _ is valid.groups_sorted number);
 }
 
 pub groups_back : (show after : Show) (g m : ℕ) (new old : Option Group) (undo : Plan)
@@ -270,14 +266,12 @@ sub_step : (show : Show) (s : ℕ) (new o : Option Sub) → entry_at (λ x. x.nu
 sub_step show s new None is valid number = record {
   ready = tt;
   back = ap (λ (subs : List Sub). record show { subs = subs })
-      (subst (λ (o : Option Sub). exchanged (λ (x : Sub). x.number) s o (exchanged (λ (x : Sub). x.number) s new show.subs) ≡ show.subs)
-      is (exchanged_back (λ (x : Sub). x.number) s new show.subs valid.subs_sorted number));
+      (back_from (λ (x : Sub). x.number) s new show.subs _ is valid.subs_sorted number);
 }
 sub_step show s new (Some old) is valid number = record {
   ready = found_valid (ValidSub show.channels) (λ (x : Sub). x.number) s show.subs old valid.subs is;
   back = ap (λ (subs : List Sub). record show { subs = subs })
-      (subst (λ (o : Option Sub). exchanged (λ (x : Sub). x.number) s o (exchanged (λ (x : Sub). x.number) s new show.subs) ≡ show.subs)
-      is (exchanged_back (λ (x : Sub). x.number) s new show.subs valid.subs_sorted number));
+      (back_from (λ (x : Sub). x.number) s new show.subs _ is valid.subs_sorted number);
 }
 
 pub subs_back : (show after : Show) (s m : ℕ) (new old : Option Sub) (undo : Plan)
@@ -295,14 +289,12 @@ row_step : (show : Show) (e : ℕ) (new o : Option PatchRow) → entry_at (λ x.
 row_step show e new None is valid number = record {
   ready = tt;
   back = ap (λ (patch : List PatchRow). record show { patch = patch })
-      (subst (λ (o : Option PatchRow). exchanged (λ (x : PatchRow). x.dimmer) e o (exchanged (λ (x : PatchRow). x.dimmer) e new show.patch) ≡ show.patch)
-      is (exchanged_back (λ (x : PatchRow). x.dimmer) e new show.patch valid.patch_sorted number));
+      (back_from (λ (x : PatchRow). x.dimmer) e new show.patch _ is valid.patch_sorted number);
 }
 row_step show e new (Some old) is valid number = record {
   ready = (found_valid (ValidPatchRow show.channels) (λ (x : PatchRow). x.dimmer) e show.patch old valid.patch is).chan.most;
   back = ap (λ (patch : List PatchRow). record show { patch = patch })
-      (subst (λ (o : Option PatchRow). exchanged (λ (x : PatchRow). x.dimmer) e o (exchanged (λ (x : PatchRow). x.dimmer) e new show.patch) ≡ show.patch)
-      is (exchanged_back (λ (x : PatchRow). x.dimmer) e new show.patch valid.patch_sorted number));
+      (back_from (λ (x : PatchRow). x.dimmer) e new show.patch _ is valid.patch_sorted number);
 }
 
 pub rows_back : (show after : Show) (e m : ℕ) (new old : Option PatchRow) (undo : Plan)

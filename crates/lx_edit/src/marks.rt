@@ -1,6 +1,6 @@
 //! Which channels see a difference where a cue is changed, added or taken out.
 
-ghost use Rattle.std.specs.Prelude.{◌≡◌, ◌≤◌, ◌-◌, ℕ, true, false, Some, None, IfSome, List, length, take};
+ghost use Rattle.std.specs.Prelude.{◌≡◌, ◌≤◌, ◌-◌, ℕ, true, false, Some, None, IfSome, List, length, take, drop};
 ghost use Rattle.std.specs.Option.{option_copied, IsSomeAnd};
 ghost use Rattle.lx_base.specs.declared.TheConstants.{CHANNELS};
 ghost use Rattle.lx_spec.specs.SortedList.{IsStrictlySorted, entry_at};
@@ -84,8 +84,44 @@ fn moves_of<'a>(cue: Option<&'a Cue>) -> &'a [Move]
     }
 }
 
-/// Adds the channels whose moves among the ones are others than among the others. It is one walk through both.
+/// Adds the channels whose moves among the ones are others than among the others.
 fn mark_moves(chans: &mut ChanSet, old: &[Move], new: &[Move])
+    requires old { IsStrictlySorted (λ m. m.chan) old.now }
+    requires new { IsStrictlySorted (λ m. m.chan) new.now }
+    ensures grows { Grows chans.old chans.new }
+    ensures same { (c : ℕ) → has_chan chans.new c ≡ false → entry_at (λ m. m.chan) c old.now ≡ entry_at (λ m. m.chan) c new.now }
+{
+    let front = same_front(old, new);
+    mark_rest(chans, rest(old, front), rest(new, front));
+}
+
+/// The moves from a place on.
+fn rest(moves: &[Move], from: usize) -> &[Move]
+    requires from { from ≤ length moves.now }
+    requires sorted { IsStrictlySorted (λ m. m.chan) moves.now }
+    ensures rest { result.now ≡ drop from moves.now }
+    ensures sorted { IsStrictlySorted (λ m. m.chan) result.now }
+{
+    &moves[from..]
+}
+
+/// How many moves at the front are the same in both.
+fn same_front(old: &[Move], new: &[Move]) -> usize
+    ensures old { result ≤ length old.now }
+    ensures new { result ≤ length new.now }
+    ensures same { take result old.now ≡ take result new.now }
+{
+    let most = old.len().min(new.len());
+    for at in 0..most {
+        if !is_same(&old[at], &new[at]) {
+            return at;
+        }
+    }
+    most
+}
+
+/// The same as `mark_moves`, in one walk through both.
+fn mark_rest(chans: &mut ChanSet, old: &[Move], new: &[Move])
     requires old { IsStrictlySorted (λ m. m.chan) old.now }
     requires new { IsStrictlySorted (λ m. m.chan) new.now }
     ensures grows { Grows chans.old chans.new }

@@ -1,38 +1,11 @@
-use Rattle.std.proofs.Common.{List, refl, subst, arith}
-use Rattle.std.proofs.lemmas.List.{take_all}
+use Rattle.std.proofs.Common.{◌∙◌, ap, sym, List}
 use Rattle.lx_spec.specs.declared.Move.{Move}
-use Rattle.lx_show.proofs.Indexes.{stands_entry, stands_where}
-use Rattle.lx_edit.specs.Changing.{AreAmong}
-use Rattle.lx_edit.proofs.Marked.{among_grown, among_more, same_moves}
+use Rattle.lx_spec.specs.SortedList.{entry_at}
+use Rattle.lx_edit.proofs.Marked.{rest_same}
 use Rattle.lx_edit.proofs.marks.mark_moves.Goals as goal
 
-pub loop-entry-preserved : goal.loop-entry-preserved
-loop-entry-preserved c =
-    let old : List Move = c.args.old.now in
-    let new : List Move = c.args.new.now in
-    let inv = c.loop-entry.invariant in
-    let entry : Move = c.entry-item.result in
-    record {
-      grows = λ x out. inv.grows x (c.mark_below.ensures.grows x (c.mark_beside.ensures.grows x out));
-      within = c.mark_beside.ensures.within;
-      old = c.mark_beside.ensures.marked new
-          (stands_entry (λ (m : Move). m.chan) entry.chan c.loop-entry.entry-index new new entry refl
-          (stands_where (λ (m : Move). m.chan) entry.chan new c.loop-entry.entry-index entry c.requires.new c.loop-entry-test.true
-          c.entry-item.is refl) c.entry-item.is)
-          (c.mark_below.ensures.marked new inv.old);
-      new = among_more c.loop-entry.chans c.mark_beside.new.chans new old c.loop-entry.entry-index entry c.loop-entry-test.true
-          c.entry-item.is (λ x out. c.mark_below.ensures.grows x (c.mark_beside.ensures.grows x out)) c.mark_beside.ensures.here inv.new;
-    }
-
 pub returns-clause-same : goal.returns-clause-same
-returns-clause-same c =
-    let old : List Move = c.args.old.now in
-    let new : List Move = c.args.new.now in
-    let inv = c.loop-entry.invariant in
-    let chans = c.mark_below-2.new.chans in
-    same_moves chans old new
-    (subst (λ (ms : List Move). AreAmong chans ms new) (take_all c.mark_below-2.new.next old (omega (arith, c.mark_below-2.ensures.all refl)))
-    (c.mark_below-2.ensures.marked new inv.old))
-    (among_grown c.loop-entry.chans chans new old c.mark_below-2.ensures.grows
-    (subst (λ (ms : List Move). AreAmong c.loop-entry.chans ms old)
-    (take_all c.loop-entry.entry-index new (omega (arith, c.loop-entry-test.false))) inv.new))
+returns-clause-same c = λ x out.
+    rest_same c.same_front-front.result x c.args.old.now c.args.new.now c.same_front-front.ensures.same
+    (sym (ap (λ (ms : List Move). entry_at (λ m. m.chan) x ms) c.rest.ensures.rest) ∙ c.mark_rest.ensures.same x out
+    ∙ ap (λ (ms : List Move). entry_at (λ m. m.chan) x ms) c.rest-2.ensures.rest)

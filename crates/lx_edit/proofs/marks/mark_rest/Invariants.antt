@@ -1,6 +1,6 @@
 use Rattle.std.proofs.Common.{◌≤◌, length, take}
 use Rattle.lx_edit.specs.Changing.{AreAmong, Grows}
-use Rattle.lx_edit.proofs.marks.mark_moves.Given as goal
+use Rattle.lx_edit.proofs.marks.mark_rest.Given as goal
 
 abbrev pub invariant-loop-entry : goal.invariant-loop-entry
 invariant-loop-entry l = record {
