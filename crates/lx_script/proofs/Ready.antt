@@ -1,14 +1,14 @@
 -- The rows of the tables of ready texts.
-use Rattle.std.proofs.Common.{◌≡◌, ℕ, ◌+◌, ◌/◌, ◌%◌, ◌<◌, ◌≤◌, List, [], ◌∷◌, ◌++◌, length, get_or, map, take, decimal, refl, ap}
+use Rattle.std.proofs.Common.{◌≡◌, ℕ, ◌+◌, ◌-◌, ◌/◌, ◌%◌, ◌<◌, ◌≤◌, List, [], ◌∷◌, ◌++◌, length, get_or, map, take, decimal, refl, ap}
 use Rattle.std.proofs.Common.{sym, ◌∙◌, arith, cond, inl, inr, ◌⊎◌}
 use Rattle.std.specs.List.{range_with_len}
 use Rattle.std.proofs.lemmas.List.FromFn.{get_or-map-range_with_len}
 use Rattle.itoa.proofs.Decimal.{pair, decimal_pair, decimal_two, length_one, length_pair, length_two}
 use Rattle.std.proofs.lemmas.Fmt.{decimal_digit, length-decimal-le}
-use Rattle.std.specs.Prelude.{nat_lt}
-use Rattle.std.proofs.lemmas.Bool.{cases_Bool}
-use Rattle.lx_spec.proofs.Comparisons.{le_from, lt_false, lt_from, lt_true}
-use Rattle.lx_script.specs.declared.rows.TheConstants.{LENGTHS, LEVELS, NUMBERS, PAIRS}
+use Rattle.std.specs.Prelude.{nat_lt, ◌==◌}
+use Rattle.std.proofs.lemmas.Bool.{cases_Bool, cases_lt}
+use Rattle.lx_spec.proofs.Comparisons.{lt_false, lt_true}
+use Rattle.lx_script.specs.declared.rows.TheConstants.{COUNTS, LEVELS, NUMBERS, PAIRS}
 
 -- a byte and a number of at most three digits, at the front of four bytes
 abbrev pub ready : ℕ → ℕ → List ℕ
@@ -22,8 +22,12 @@ levels_are = refl
 numbers_are : NUMBERS ≡ map (ready 32) (range_with_len 0 1000)
 numbers_are = refl
 
-lengths_are : LENGTHS ≡ map (λ n. cond (nat_lt n 10) 2 (cond (nat_lt n 100) 3 4)) (range_with_len 0 256)
-lengths_are = refl
+-- how many bytes the cell of a level is, by the number's digits and one
+abbrev count : ℕ → ℕ → ℕ
+count w v = cond (v == 0) 0 (w + cond (nat_lt v 10) 2 (cond (nat_lt v 100) 3 4))
+
+counts_are : COUNTS ≡ map (λ w. map (count w) (range_with_len 0 256)) (range_with_len 2 4)
+counts_are = refl
 
 pairs_are : PAIRS ≡ map pair (range_with_len 0 100)
 pairs_are = refl
@@ -37,9 +41,6 @@ level_row v d lt = ap (λ rows. get_or rows v d) levels_are ∙ get_or-map-range
 pub number_row : (n : ℕ) (d : List ℕ) → n < 1000 → get_or NUMBERS n d ≡ ready 32 n
 number_row n d lt = ap (λ rows. get_or rows n d) numbers_are ∙ get_or-map-range_with_len (ready 32) 0 1000 n n d lt (omega arith)
 
-below_or_from : (a b : ℕ) → (a < b) ⊎ (b ≤ a)
-below_or_from a b = elim (cases_Bool (nat_lt a b)) [ inl is ↦ inl (lt_from a b is) | inr not ↦ inr (le_from a b not) ]
-
 pub three_digits : (n : ℕ) → 100 ≤ n → n < 1000 → decimal n ≡ (48 + n / 100) ∷ (48 + n % 100 / 10) ∷ (48 + n % 100 % 10) ∷ []
 three_digits n lo hi = decimal_pair n lo (omega arith) ∙ ap (λ front. front ++ pair (n % 100)) (decimal_digit (n / 100) (omega arith))
 
@@ -51,11 +52,11 @@ length_four n lo hi = let whole = length_pair n (omega arith) (omega arith) in o
 
 pub ready_front : (before n count : ℕ) → n < 1000 → count ≡ length (decimal n) + 1 → take count (ready before n) ≡ before ∷ decimal n
 ready_front before n count lt is =
-    elim (below_or_from n 10) [
+    elim (cases_lt n 10) [
       | inl low ↦
           let two : count ≡ 2 = omega (arith, length_one n low) in
           rw (lt_true n 10 low, two, decimal_digit n low) refl
-      | inr from ↦ elim (below_or_from n 100) [
+      | inr from ↦ elim (cases_lt n 100) [
         | inl low ↦
             let three : count ≡ 3 = omega (arith, length_two n from low) in
             rw (lt_false n 10 from, lt_true n 100 low, three, decimal_two n from low) refl
@@ -65,20 +66,26 @@ ready_front before n count lt is =
       ]
     ]
 
-pub length_at : (v : ℕ) → v < 256 → (get_or LENGTHS v 0 ≤ 4) × (get_or LENGTHS v 0 ≡ length (decimal v) + 1)
-length_at v lt =
-    let is : get_or LENGTHS v 0 ≡ cond (nat_lt v 10) 2 (cond (nat_lt v 100) 3 4)
-    = ap (λ ls. get_or ls v 0) lengths_are ∙ get_or-map-range_with_len (λ n. cond (nat_lt n 10) 2 (cond (nat_lt n 100) 3 4)) 0 256 v v 0 lt
-    (omega arith) in
-    elim (below_or_from v 10) [
-      | inl low ↦ let two : get_or LENGTHS v 0 ≡ 2 = rw (is, lt_true v 10 low) refl in (omega arith, omega (arith, two, length_one v low))
-      | inr from ↦ elim (below_or_from v 100) [
-        | inl low ↦ let three : get_or LENGTHS v 0 ≡ 3 = rw (is, lt_false v 10 from, lt_true v 100 low) refl in
-            (omega arith, omega (arith, three, length_two v from low))
-        | inr more ↦ let four : get_or LENGTHS v 0 ≡ 4 = rw (is, lt_false v 10 from, lt_false v 100 more) refl in
-            (omega arith, omega (arith, four, length_three v more (omega arith)))
+pub count_at : (w v : ℕ) → 2 ≤ w → w ≤ 5 → v < 256
+    → get_or (get_or COUNTS (w - 2) []) v 0 ≡ cond (v == 0) 0 (w + (length (decimal v) + 1))
+count_at w v least most lt =
+    let row : get_or COUNTS (w - 2) [] ≡ map (count w) (range_with_len 0 256)
+    = ap (λ rows. get_or rows (w - 2) []) counts_are
+    ∙ get_or-map-range_with_len (λ w. map (count w) (range_with_len 0 256)) 2 4 (w - 2) w [] (omega arith) (omega arith) in
+    let is : get_or (get_or COUNTS (w - 2) []) v 0 ≡ count w v
+    = ap (λ counts. get_or counts v 0) row ∙ get_or-map-range_with_len (count w) 0 256 v v 0 lt (omega arith) in
+    elim (cases_lt v 10) [
+      | inl low ↦ rw (is, lt_true v 10 low, length_one v low) refl
+      | inr from ↦ elim (cases_lt v 100) [
+        | inl low ↦ rw (is, lt_false v 10 from, lt_true v 100 low, length_two v from low) refl
+        | inr more ↦ rw (is, lt_false v 10 from, lt_false v 100 more, length_three v more (omega arith)) refl
       ]
     ]
+
+pub few_in_cell : (w v : ℕ) → w ≤ 5 → v < 256 → cond (v == 0) 0 (w + (length (decimal v) + 1)) ≤ 9
+few_in_cell w v most lt =
+    let digits = length-decimal-le 3 v (omega arith) (omega arith) (omega arith) in
+    elim (cases_Bool (v == 0)) [ inl zero ↦ rw zero (omega arith) | inr some ↦ rw some (omega (arith, digits)) ]
 
 -- numbers with as many digits
 pub same_digits : (a n most : ℕ) → a < n → n ≤ most
@@ -93,14 +100,14 @@ same_digits a n most more within (inr (inr is)) =
     length_four n (omega arith) (omega arith) ∙ sym (length_four (a + 1) (omega arith) (omega arith))
 
 pub three_at_most : (n : ℕ) → n ≤ 9999 → length (decimal n) + 1 < 5 → n < 1000
-three_at_most n near few = elim (below_or_from n 1000) [
+three_at_most n near few = elim (cases_lt n 1000) [
   | inl low ↦ low
   | inr from ↦ absurd (omega (arith, length_four n from (omega arith)))
 ]
 
 pub four_at_least : (n : ℕ) → n ≤ 9999 → 5 ≤ length (decimal n) + 1 → 1000 ≤ n
-four_at_least n near many = elim (below_or_from n 1000) [
-  | inl low ↦ elim (below_or_from n 100) [
+four_at_least n near many = elim (cases_lt n 1000) [
+  | inl low ↦ elim (cases_lt n 100) [
     | inl two ↦ absurd (omega (arith, length-decimal-le 2 n (omega arith) (omega arith) (omega arith)))
     | inr three ↦ absurd (omega (arith, length_three n three low))
   ]

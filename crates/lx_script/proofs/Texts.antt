@@ -1,6 +1,8 @@
 -- Words with spaces between them, and the cells of levels, as they are put one after another.
 use Rattle.std.proofs.Common.{◌≡◌, ℕ, ◌+◌, ◌-◌, ◌<◌, ◌≤◌, List, [], ◌∷◌, ◌++◌, length, take, drop, get_or, refl, sym, ap, ◌∙◌}
 use Rattle.std.proofs.Common.{append-nil, append_assoc, take-append-drop, arith, length-take}
+use Rattle.std.proofs.Common.{inl, inr}
+use Rattle.std.proofs.lemmas.Bool.{cases_Bool}
 use Rattle.std.proofs.Math.Seq.{take-add, take-append-add}
 use Rattle.std.proofs.lemmas.List.{take-take, take_more}
 use Rattle.std.specs.Prelude.{Bool, true, false, suc, ◌==◌, flat_map, codes, decimal, slice_range, if◌then◌else◌}
@@ -82,12 +84,23 @@ front_of end at count old new row within fits is =
     sym (take-take (at + count) end new fits) ∙ ap (take (at + count)) is ∙ ap (λ n. take (n + count) (take at old ++ row)) (sym same)
     ∙ take-append-add (take at old) row count
 
--- nothing of it
-pub front_kept : (end at : ℕ) (old new row : List ℕ) → at ≤ length old → at ≤ end → take end new ≡ take at old ++ row
-    → take at new ≡ take at old
-front_kept end at old new row within fits is =
-    let none : at ≡ at + 0 = omega arith in
-    ap (λ n. take n new) none ∙ front_of end at 0 old new row within (omega arith) is ∙ append-nil (take at old)
+-- the cell of a level, of which nothing is wanted where it is 0
+pub cell_is : (number level width at count : ℕ) (old new : List ℕ) → at ≤ length old
+    → take (at + width + (length (decimal level) + 1)) new ≡ take at old ++ (32 ∷ (decimal number ++ 61 ∷ decimal level))
+    → count ≡ (if level == 0 then 0 else width + (length (decimal level) + 1))
+    → take (at + count) new ≡ take at old ++ cell number level
+cell_is number level width at count old new within put is =
+    let end : ℕ = at + width + (length (decimal level) + 1) in
+    let choice : Bool → ℕ = λ b. if b then 0 else width + (length (decimal level) + 1) in
+    elim (cases_Bool (level == 0)) [
+      | inl zero ↦
+          let none : count ≡ 0 = is ∙ ap choice zero in
+          rw (none, zero) (front_of end at 0 old new (32 ∷ (decimal number ++ 61 ∷ decimal level)) within (omega arith) put)
+      | inr some ↦
+          let whole : count ≡ width + (length (decimal level) + 1) = is ∙ ap choice some in
+          let all : at + count ≡ end = omega arith in
+          rw (all, some) put
+    ]
 
 -- the words before the slots
 abbrev pub head : List (List ℕ) → ℕ → ℕ → List ℕ

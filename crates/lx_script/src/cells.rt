@@ -1,12 +1,12 @@
 //! Words for levels that aren't 0, each behind a space.
 #![tactic(auto, using(lx_io::proofs::Chain::puts))]
 
-ghost use Rattle.std.specs.Prelude.{◌≡◌, ℕ, ◌+◌, ◌*◌, ◌<◌, ◌≤◌, ◌^◌, ◌++◌, ◌∷◌, length, take, decimal, flat_map};
+ghost use Rattle.std.specs.Prelude.{◌≡◌, ◌==◌, if◌then◌else◌, ℕ, ◌+◌, ◌*◌, ◌<◌, ◌≤◌, ◌^◌, ◌++◌, ◌∷◌, length, take, decimal, flat_map};
 ghost use Rattle.lx_io.specs.Puts.{Puts};
 ghost use Rattle.lx_spec.specs.Replies.{cells};
 ghost use Rattle.lx_script.specs.Cells.{cell, cells_from};
 
-use crate::rows::{LENGTHS, LEVELS, NUMBERS, PAIRS};
+use crate::rows::{COUNTS, LEVELS, NUMBERS, PAIRS};
 use lx_base::Level;
 use lx_io::{Sink, SinkFault, put_all};
 use lx_lex::{put_count, put_count_and};
@@ -99,7 +99,9 @@ fn put_far<K: Sink>(number: u64, level: Level, sink: &mut K) -> Result<(), SinkF
 /// How many bytes a space and a near number have.
 fn width_of(number: u64) -> usize
     requires { number ≤ NEAR }
-    ensures { result ≡ length (decimal number) + 1 }
+    ensures least { 2 ≤ result }
+    ensures most { result ≤ 5 }
+    ensures width { result ≡ length (decimal number) + 1 }
 {
     if number < 10 {
         2
@@ -115,6 +117,8 @@ fn width_of(number: u64) -> usize
 /// Writes the cells of some levels at the front of the text, and says where they end. Each number is near, and has one
 /// digit less than `width`.
 fn write_cells(number: u64, levels: &[Level], width: usize, text: &mut [u8; PIECE_BYTES]) -> usize
+    requires least { 2 ≤ width }
+    requires most { width ≤ 5 }
     requires few { length levels.now ≤ PIECE_CELLS }
     requires near { (n : ℕ) → number ≤ n → n < number + length levels.now → (n ≤ NEAR) × (width ≡ length (decimal n) + 1) }
     ensures end { result ≤ PIECE_BYTES }
@@ -138,24 +142,38 @@ fn write_cell(
     at: usize,
 ) -> usize
     requires near { number ≤ NEAR }
+    requires least { 2 ≤ width }
+    requires most { width ≤ 5 }
     requires width { width ≡ length (decimal number) + 1 }
     requires room { at + CELL_BYTES ≤ PIECE_BYTES }
     ensures end { result ≤ at + CELL_BYTES }
     ensures text { take result text.new ≡ take at text.old ++ cell number level }
 {
     let middle = write_number(number, width, text, at);
-    let end = write_level(level, text, middle);
-    if level == 0 { at } else { end }
+    write_level(level, text, middle);
+    // From a table, so that the next place waits for one addition alone.
+    at + count_of(width, level)
+}
+
+/// How many bytes the cell of a level is, whose number has one digit less than `width`.
+#[inline(always)]
+fn count_of(width: usize, level: Level) -> usize
+    requires least { 2 ≤ width }
+    requires most { width ≤ 5 }
+    ensures few { result ≤ CELL_BYTES }
+    ensures count { result ≡ (if level == 0 then 0 else width + (length (decimal level) + 1)) }
+{
+    COUNTS[width - 2][level as usize] as usize
 }
 
 /// Writes a space and a number at a place, and says where they end. They are of so many bytes.
 #[inline(always)]
 fn write_number(number: u64, width: usize, text: &mut [u8; PIECE_BYTES], at: usize) -> usize
     requires near { number ≤ NEAR }
+    requires most { width ≤ 5 }
     requires width { width ≡ length (decimal number) + 1 }
     requires room { at + 5 ≤ PIECE_BYTES }
-    ensures from { at ≤ result }
-    ensures end { result ≤ at + 5 }
+    ensures end { result ≡ at + width }
     ensures text { take result text.new ≡ take at text.old ++ 32 ∷ decimal number }
 {
     if width < 5 {
@@ -165,24 +183,13 @@ fn write_number(number: u64, width: usize, text: &mut [u8; PIECE_BYTES], at: usi
     write_pair(&PAIRS[(number % 100) as usize], text, middle)
 }
 
-/// Writes `=level` at a place, and says where it ends.
+/// Writes `=level` at a place. What follows it may be written over.
 #[inline(always)]
-fn write_level(level: Level, text: &mut [u8; PIECE_BYTES], at: usize) -> usize
-    requires room { at + 4 ≤ PIECE_BYTES }
-    ensures from { at ≤ result }
-    ensures end { result ≤ at + 4 }
-    ensures text { take result text.new ≡ take at text.old ++ 61 ∷ decimal level }
+fn write_level(level: Level, text: &mut [u8; PIECE_BYTES], at: usize)
+    requires { at + 4 ≤ PIECE_BYTES }
+    ensures { take (at + (length (decimal level) + 1)) text.new ≡ take at text.old ++ 61 ∷ decimal level }
 {
-    write_row(&LEVELS[level as usize], length_of(level), text, at)
-}
-
-/// How many bytes `=` and a level are.
-#[inline(always)]
-fn length_of(level: Level) -> usize
-    ensures few { result ≤ 4 }
-    ensures length { result ≡ length (decimal level) + 1 }
-{
-    LENGTHS[level as usize] as usize
+    write_all(&LEVELS[level as usize], text, at);
 }
 
 /// Writes a row at a place, and says where its first bytes end that are wanted.

@@ -60,24 +60,13 @@ kept_next {A} p f xs i x within is =
     ∙ flat_map-append f (filter p (take i xs)) (filter p (x ∷ []))
     ∙ ap (λ text. flat_map f (filter p (take i xs)) ++ text) (one (p x) refl)
 
--- the first bytes of a row that is put into a text at a place
-pub put_front : (text row new : List ℕ) (at count : ℕ) → new ≡ row → count ≤ length row → at ≤ length text
-    → take (at + count) (put_mid at (at + length row - at) text new) ≡ take at text ++ take count row
-put_front text row new at count same few within =
-    let front : List ℕ = take at text in
-    let post : List ℕ = drop (at + length row - at) (drop at text) in
-    let here : at + count ≡ length front + count = omega (arith, length-take at text) in
-    ap (λ n. take (at + count) (front ++ (n ++ post))) same
-    ∙ ap (λ k. take k (front ++ (row ++ post))) here
-    ∙ take-append-add front (row ++ post) count
-    ∙ ap (λ r. front ++ r) (take-append-le count row post few)
-
 -- a line of a channel and its level, as its parts are written
-pub line_is : (n level : ℕ) (before : List ℕ)
-    → (before ++ (codes "CHAN " ++ (decimal n ++ codes "@H"))) ++ (drop 1 (level_text level) ++ 10 ∷ [])
+pub short_is : (n level : ℕ) (before : List ℕ)
+    → ((before ++ (codes "CHAN " ++ decimal n)) ++ codes "@H") ++ (drop 1 (level_text level) ++ 10 ∷ [])
     ≡ before ++ line (codes "CHAN" ∷ at_text n level ∷ [])
-line_is n level before = simp append_assoc
+short_is n level before = simp append_assoc
 
-pub channel_is : (n : ℕ) (before : List ℕ) → 100 ≤ n → n ≤ CHANNELS
-    → (before ++ (codes "CHAN " ++ decimal (n / 100))) ++ (pair (n % 100) ++ codes "@H") ≡ before ++ (codes "CHAN " ++ (decimal n ++ codes "@H"))
-channel_is n before from most = rw (decimal_pair n from (omega arith)) (simp append_assoc)
+pub long_is : (n level : ℕ) (before : List ℕ) → 100 ≤ n → n ≤ CHANNELS
+    → ((before ++ (codes "CHAN " ++ decimal (n / 100))) ++ (pair (n % 100) ++ codes "@H")) ++ (drop 1 (level_text level) ++ 10 ∷ [])
+    ≡ before ++ line (codes "CHAN" ∷ at_text n level ∷ [])
+long_is n level before from most = rw (decimal_pair n from (omega arith)) (simp append_assoc)

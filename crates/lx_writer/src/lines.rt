@@ -1,9 +1,10 @@
 //! The lines of a cue's moves: those of many moves are written into one text and handed to the sink as one piece.
 #![tactic(auto, using(lx_io::proofs::Chain::puts))]
 
-ghost use Rattle.std.specs.Prelude.{◌≡◌, ◌==◌, ◌+◌, ◌<◌, ◌≤◌, [], ◌++◌, ◌∷◌, codes, decimal, filter, take, flat_map, length};
+ghost use Rattle.std.specs.Prelude.{◌≡◌, ◌==◌, ◌+◌, ◌<◌, ◌≤◌, [], ◌++◌, ◌∷◌, codes, decimal, drop, filter, take, flat_map, length};
 ghost use Rattle.lx_io.specs.Puts.{Puts};
 ghost use Rattle.lx_base.specs.declared.TheConstants.{CHANNELS};
+ghost use Rattle.lx_spec.specs.Numerals.{level_text};
 ghost use Rattle.lx_spec.specs.ShowText.{line, at_text, move_text};
 
 use crate::rows::{FRONTS, LEVELS, TENS};
@@ -76,33 +77,46 @@ fn stands_in(entry: &Move, part: PartNo) -> bool
     entry.part.get() == part.get()
 }
 
-/// Writes the line of a channel and its level at a place, and says where it ends.
+/// Writes the line of a channel and its level at a place, and says where it ends. What follows it may be written over.
 #[inline(always)]
 fn write_line(chan: Chan, level: Level, text: &mut [u8; PIECE_BYTES], at: usize) -> usize
     requires room { at + LINE_BYTES ≤ PIECE_BYTES }
     ensures end { result ≤ at + LINE_BYTES }
     ensures text { take result text.new ≡ take at text.old ++ line (codes "CHAN" ∷ at_text chan level ∷ []) }
 {
-    let middle = write_channel(chan.get(), text, at);
-    write_row(&LEVELS[level as usize], 3, text, middle)
+    let number = chan.get();
+    if number < 100 {
+        write_short(number, level, text, at)
+    } else {
+        write_long(number, level, text, at)
+    }
 }
 
-/// Writes `CHAN `, a channel's number and `@H` at a place, and says where they end.
+/// Writes the line of a channel whose number has one or two digits.
 #[inline(always)]
-fn write_channel(number: u32, text: &mut [u8; PIECE_BYTES], at: usize) -> usize
+fn write_short(number: u32, level: Level, text: &mut [u8; PIECE_BYTES], at: usize) -> usize
+    requires few { number < 100 }
+    requires room { at + LINE_BYTES ≤ PIECE_BYTES }
+    ensures end { result ≤ at + LINE_BYTES }
+    ensures text { take result text.new ≡ take at text.old ++ line (codes "CHAN" ∷ at_text number level ∷ []) }
+{
+    let middle = write_front(number, text, at);
+    let middle = write_row(b"@H  ", 2, text, middle);
+    write_level(level, text, middle)
+}
+
+/// Writes the line of a channel whose number has three or four digits.
+#[inline(always)]
+fn write_long(number: u32, level: Level, text: &mut [u8; PIECE_BYTES], at: usize) -> usize
+    requires least { 100 ≤ number }
     requires most { number ≤ CHANNELS }
     requires room { at + LINE_BYTES ≤ PIECE_BYTES }
-    ensures from { at ≤ result }
-    ensures end { result ≤ at + 11 }
-    ensures text { take result text.new ≡ take at text.old ++ (codes "CHAN " ++ (decimal number ++ codes "@H")) }
+    ensures end { result ≤ at + LINE_BYTES }
+    ensures text { take result text.new ≡ take at text.old ++ line (codes "CHAN" ∷ at_text number level ∷ []) }
 {
-    if number < 100 {
-        let middle = write_front(number, text, at);
-        write_row(b"@H", 2, text, middle)
-    } else {
-        let middle = write_front(number / 100, text, at);
-        write_row(&TENS[(number % 100) as usize], 4, text, middle)
-    }
+    let middle = write_front(number / 100, text, at);
+    let middle = write_row(&TENS[(number % 100) as usize], 4, text, middle);
+    write_level(level, text, middle)
 }
 
 /// Writes `CHAN ` and a number at a place, and says where they end.
@@ -114,18 +128,43 @@ fn write_front(number: u32, text: &mut [u8; PIECE_BYTES], at: usize) -> usize
     ensures end { result ≤ at + 7 }
     ensures text { take result text.new ≡ take at text.old ++ (codes "CHAN " ++ decimal number) }
 {
-    let count = if number < 10 { 6 } else { 7 };
-    write_row(&FRONTS[number as usize], count, text, at)
+    let [word, spaced] = &FRONTS[number as usize];
+    let count = if number < 10 { 2 } else { 3 };
+    store_row(word, text, at);
+    write_row(spaced, count, text, at + 4)
+}
+
+/// Writes a level's two digits and the line's end at a place, and says where they end.
+#[inline(always)]
+fn write_level(level: Level, text: &mut [u8; PIECE_BYTES], at: usize) -> usize
+    requires room { at + 4 ≤ PIECE_BYTES }
+    ensures end { result ≡ at + 3 }
+    ensures text { take result text.new ≡ take at text.old ++ (drop 1 (level_text level) ++ 10 ∷ []) }
+{
+    write_row(&LEVELS[level as usize], 3, text, at)
 }
 
 /// Writes a row at a place, and says where its first bytes end that are wanted.
 #[inline(always)]
-fn write_row(row: &[u8], count: usize, text: &mut [u8; PIECE_BYTES], at: usize) -> usize
-    requires count { count ≤ length row.now }
-    requires room { at + length row.now ≤ PIECE_BYTES }
+fn write_row(row: &[u8; 4], count: usize, text: &mut [u8; PIECE_BYTES], at: usize) -> usize
+    requires count { count ≤ 4 }
+    requires room { at + 4 ≤ PIECE_BYTES }
     ensures end { result ≡ at + count }
     ensures text { take result text.new ≡ take at text.old ++ take count row.now }
 {
-    text[at..at + row.len()].copy_from_slice(row);
+    store_row(row, text, at);
     at + count
+}
+
+/// Writes a whole row at a place.
+#[inline(always)]
+fn store_row(row: &[u8; 4], text: &mut [u8; PIECE_BYTES], at: usize)
+    requires { at + 4 ≤ PIECE_BYTES }
+    ensures { take (at + 4) text.new ≡ take at text.old ++ row.now }
+{
+    // Byte by byte, which is one store of four bytes: `copy_from_slice` asks at each call whether the two overlap.
+    text[at] = row[0];
+    text[at + 1] = row[1];
+    text[at + 2] = row[2];
+    text[at + 3] = row[3];
 }

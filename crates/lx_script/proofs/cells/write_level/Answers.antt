@@ -1,11 +1,17 @@
-use Rattle.std.proofs.Common.{◌≡◌, ◌∷◌, ◌++◌, ◌∙◌, [], ap, decimal, take, get_or, arith}
+use Rattle.std.proofs.Common.{◌≡◌, ◌+◌, ◌<◌, ◌∷◌, ◌++◌, ◌∙◌, [], ap, decimal, length, refl, take, get_or, arith}
+use Rattle.std.proofs.lemmas.Fmt.{length-decimal-le}
 use Rattle.lx_script.specs.declared.rows.TheConstants.{LEVELS}
 use Rattle.lx_script.proofs.Ready.{level_row, ready_front}
+use Rattle.lx_script.proofs.Texts.{front_of}
 use Rattle.lx_script.proofs.cells.write_level.Goals as goal
 
-pub returns-clause-text : goal.returns-clause-text
-returns-clause-text c =
-    let row : take c.length_of.result (get_or LEVELS c.args.level []) ≡ 61 ∷ decimal c.args.level
-    = ap (take c.length_of.result) (level_row c.args.level [] (omega arith))
-    ∙ ready_front 61 c.args.level c.length_of.result (omega arith) c.length_of.ensures.length in
-    c.write_row.ensures.text ∙ ap (λ r. take c.args.at c.args.text.now ++ r) row
+pub returns : goal.returns
+returns c =
+    let level : c.args.level < 256 = omega arith in
+    let digits = length-decimal-le 3 c.args.level (omega arith) (omega arith) (omega arith) in
+    let count = length (decimal c.args.level) + 1 in
+    let row : take count (get_or LEVELS c.args.level []) ≡ 61 ∷ decimal c.args.level
+    = ap (take count) (level_row c.args.level [] level) ∙ ready_front 61 c.args.level count (omega arith) refl in
+    front_of (c.args.at + 4) c.args.at count c.args.text.now c.write_all.new.text (get_or LEVELS c.args.level []) (omega arith)
+    (omega (arith, digits)) c.write_all.ensures
+    ∙ ap (λ r. take c.args.at c.args.text.now ++ r) row
