@@ -1,14 +1,16 @@
 -- Numbers of digits alone, as they are read where they stand.
 use Rattle.std.proofs.Common.{◌≡◌, ℕ, ◌+◌, ◌-◌, ◌*◌, ◌<◌, ◌≤◌, true, false, List, [], ◌∷◌, ◌++◌, length, take, drop, get_or, refl, sym, ap}
-use Rattle.std.proofs.Common.{◌∙◌, append_assoc, arith, length-append, subst}
+use Rattle.std.proofs.Common.{◌∙◌, append_assoc, append-nil, arith, length-append, subst}
+use Rattle.std.specs.Prelude.{◌==◌}
 use Rattle.std.specs.List.{list_all}
 use Rattle.std.proofs.lemmas.Bool.Decides.{nat_tests}
 use Rattle.std.proofs.lemmas.Grind.{fold-append}
 use Rattle.std.proofs.Math.Seq.{take-append_seam}
 use Rattle.std.proofs.lemmas.List.{take_all, drop_more, length-drop}
 use Rattle.std.proofs.lemmas.List.Folds.{list_all-append}
-use Rattle.lx_spec.specs.Numerals.{is_digit, is_number}
+use Rattle.lx_spec.specs.Numerals.{is_digit, is_number, number_of}
 use Rattle.lx_spec.specs.Text.{is_separator, begins_comment, after_all, tokens}
+use Rattle.lx_spec.proofs.Comparisons.{eq_from}
 use Rattle.lx_lex.specs.PlainNumber.{BeginsWithDigits, EndsToken, FirstIsNumber}
 use Rattle.lx_lex.proofs.Separators.{apart}
 use Rattle.lx_lex.proofs.Cutting.{goes, after_all-yes, next-token}
@@ -117,3 +119,14 @@ number_at_once line rest others n so some ends =
     let stands : line ≡ after_all is_separator line = so.is_text ∙ digits_stand so.digits rest filled so.are_digits
     ∙ ap (after_all is_separator) (sym so.is_text) in
     number_and_others line line rest others n stands so some ends
+
+-- a line of digits alone
+pub digits_alone : (line : List ℕ) (n : ℕ) → is_number line ≡ true → number_of line ≡ n → FirstIsNumber (tokens line) n []
+digits_alone [] n are is = cc
+digits_alone (b ∷ ds) n are is = number_at_once (b ∷ ds) [] [] n
+    (record { digits = b ∷ ds; are_digits = are; number = is; is_text = sym (append-nil (b ∷ ds)) }) (omega arith)
+    (record { ends = refl; same = refl })
+
+pub none_left : (line : List ℕ) → (length line == 0) ≡ true → tokens line ≡ []
+none_left [] none = refl
+none_left (b ∷ line) none = absurd (omega (arith, eq_from (length (b ∷ line)) 0 none))

@@ -10,7 +10,7 @@ use lx_base::Level;
 /// first `!` of the line, which begins a comment (the ASCII text representation 3.0).
 #[derive(Clone, Copy, Debug, Drop)]
 pub struct Tokens<'a> {
-    rest: &'a [u8],
+    pub(crate) rest: &'a [u8],
 }
 
 impl<'a> Tokens<'a> {

@@ -10,18 +10,16 @@ use Rattle.lx_spec.proofs.Comparisons.{lt_true, lt_false}
 use Rattle.lx_spec.proofs.Lists.{each}
 use Rattle.lx_spec.proofs.SortedLists.{goes_between, stands_between}
 use Rattle.lx_reader.specs.declared.open_moves.Slot.{Slot}
-use Rattle.lx_reader.specs.OpenMoves.{PutsLevels, moves_from, slot_moves}
+use Rattle.lx_reader.specs.OpenMoves.{ReadsLevels, moves_from, slot_moves}
 use Rattle.lx_reader.specs.FieldLists.{all_pairs, onto}
 use Rattle.lx_reader.specs.ReadingState.{moves_of}
-use Rattle.lx_reader.proofs.Members.{greatest_more}
 use Rattle.lx_reader.proofs.SectionLevels.{onto_again, onto_nothing}
 use Rattle.lx_base.specs.declared.TheConstants.{CHANNELS}
 use Rattle.lx_spec.specs.declared.Member.{Member}
 use Rattle.lx_spec.specs.Show.{ValidMember}
 use Rattle.lx_spec.proofs.Lists.{all_append}
-use Rattle.std.proofs.Common.{map, subst, Ok, append-nil}
+use Rattle.std.proofs.Common.{map}
 use Rattle.std.specs.Prelude.{fold, max}
-use Rattle.std.specs.Result.{IsOkAnd}
 use Rattle.std.proofs.lemmas.List.{map-append}
 use Rattle.std.proofs.lemmas.List.Sums.{fold-append}
 
@@ -34,7 +32,7 @@ from_first c (Some slot ∷ slots) = (
   each _ _ (moves_from (c + 1) slots) (λ m h. omega arith) (from_first (c + 1) slots),
 )
 
-behind : (c : ℕ) (slots : List (Option Slot)) → AllByRecursion (λ m. c < m.chan) (moves_from (c + 1) slots)
+pub behind : (c : ℕ) (slots : List (Option Slot)) → AllByRecursion (λ m. c < m.chan) (moves_from (c + 1) slots)
 behind c slots = each _ _ (moves_from (c + 1) slots) (λ m h. omega arith) (from_first (c + 1) slots)
 
 pub moves_rise : (c : ℕ) (slots : List (Option Slot)) → IsStrictlySorted (λ m. m.chan) (moves_from c slots)
@@ -67,6 +65,13 @@ slot_written c (suc k) n (Some old ∷ slots) slot m within at is =
     (ap (λ ms. record { chan = c; part = old.part; level = old.level } ∷ ms)
     (slot_written (c + 1) k n slots slot m (omega arith) (omega (arith, at)) is))
 
+-- where no move is above a number, none is behind those up to it
+pub none_behind : (n k : ℕ) (items rest : List Move) → n ≤ k → AllByRecursion (λ m. m.chan ≤ n) (items ++ rest)
+    → AllByRecursion (λ m. k < m.chan) rest → items ≡ items ++ rest
+none_behind n k [] [] past within above = refl
+none_behind n k [] (m ∷ rest) past within above = absurd (omega (arith, within.0, above.0))
+none_behind n k (x ∷ items) rest past within above = ap (λ xs. x ∷ xs) (none_behind n k items rest past within.1 above)
+
 -- one slot more
 pub slot_listed : (i : ℕ) (slots : List (Option Slot)) (x : Option Slot) (items whole : List Move) → i < length slots → x ≡ get_or slots i x
     → items ++ moves_from (i + 1) (drop i slots) ≡ whole
@@ -75,37 +80,31 @@ slot_listed i slots x items whole within is so_far =
     append_assoc items (slot_moves (i + 1) x) (moves_from (i + 1 + 1) (drop (i + 1) slots))
     ∙ ap (λ xs. items ++ moves_from (i + 1) xs) (sym (drop_more slots i x within ∙ ap (λ h. h ∷ drop (i + 1) slots) (sym is))) ∙ so_far
 
--- the levels of a line that were put into moves so far
-pub record LevelsSoFar (i part least : ℕ) (all rest : List (List ℕ)) (greatest : ℕ) (old now : List Move) : Type 0 where
-  pub done : List Member
-  pub list : all_pairs i all ≡ onto done (all_pairs i rest)
-  pub puts : PutsLevels part least done greatest old now
-
-pub levels_begin : (i part least : ℕ) (all : List (List ℕ)) (old : List Move) → LevelsSoFar i part least all all least old old
-levels_begin i part least all old =
-    record { done = []; list = onto_nothing (all_pairs i all); puts = record { valid = tt; placed = refl; is_greatest = refl } }
-
-pub levels_more : (i part least : ℕ) (all rest rest' : List (List ℕ)) (k k' : ℕ) (old now new : List Move) (m : Member)
-    → LevelsSoFar i part least all rest k old now → all_pairs i rest ≡ onto (m ∷ []) (all_pairs i rest') → ValidMember CHANNELS m
-    → new ≡ placed (λ m. m.chan) (record { chan = m.chan; part = part; level = m.level }) now → k' ≡ max k m.chan
-    → LevelsSoFar i part least all rest' k' old new
-levels_more i part least all rest rest' k k' old now new m so_far next valid put greatest =
-    let done = so_far.done in
+-- levels, and then those behind them
+pub levels_then : {i part least k k' : ℕ} {all rest rest' : List (List ℕ)} {old now new : List Move}
+    → ReadsLevels i part least all rest k old now → ReadsLevels i part k rest rest' k' now new
+    → ReadsLevels i part least all rest' k' old new
+levels_then {i} {part} {least} {k} {k'} {all} {rest} {rest'} {old} {now} {new} front back =
+    let xs = front.members in
+    let ys = back.members in
     let add : List Move → Move → List Move = λ ms x. placed (λ m. m.chan) x ms in
     record {
-      done = done ++ m ∷ [];
-      list = so_far.list ∙ ap (onto done) next ∙ onto_again done (m ∷ []) (all_pairs i rest');
-      puts = record {
-        valid = all_append _ done (m ∷ []) so_far.puts.valid (valid, tt);
-        placed = put ∙ ap (placed (λ m. m.chan) (record { chan = m.chan; part = part; level = m.level })) so_far.puts.placed
-            ∙ sym (fold-append add old (moves_of part done) (moves_of part (m ∷ [])))
-            ∙ ap (fold add old) (sym (map-append _ done (m ∷ [])));
-        is_greatest = greatest ∙ greatest_more least k done m so_far.puts.is_greatest;
-      };
+      members = xs ++ ys;
+      list = front.list ∙ ap (onto xs) back.list ∙ onto_again xs ys (all_pairs i rest');
+      valid = all_append _ xs ys front.valid back.valid;
+      placed = back.placed ∙ ap (λ ms. fold add ms (moves_of part ys)) front.placed
+          ∙ sym (fold-append add old (moves_of part xs) (moves_of part ys)) ∙ ap (fold add old) (sym (map-append _ xs ys));
+      is_greatest = back.is_greatest ∙ ap (λ n. fold max n (map (λ m. m.chan) ys)) front.is_greatest
+          ∙ sym (fold-append max least (map (λ m. m.chan) xs) (map (λ m. m.chan) ys)) ∙ ap (fold max least) (sym (map-append _ xs ys));
     }
 
-pub levels_end : (i part least : ℕ) (all rest : List (List ℕ)) (k : ℕ) (old now : List Move) → LevelsSoFar i part least all rest k old now
-    → rest ≡ [] → IsOkAnd (all_pairs i all) (λ members. PutsLevels part least members k old now)
-levels_end i part least all rest k old now so_far none =
-    let list : all_pairs i all ≡ Ok so_far.done = so_far.list ∙ ap (λ v. onto so_far.done (all_pairs i v)) none ∙ ap Ok (append-nil so_far.done) in
-    subst (λ r. IsOkAnd r (λ members. PutsLevels part least members k old now)) (sym list) so_far.puts
+pub levels_none : (i part least : ℕ) (all : List (List ℕ)) (old : List Move) → ReadsLevels i part least all all least old old
+levels_none i part least all old =
+    record { members = []; list = onto_nothing (all_pairs i all); valid = tt; placed = refl; is_greatest = refl }
+
+pub level_alone : {i part k k' : ℕ} {rest rest' : List (List ℕ)} {now new : List Move} {m : Member}
+    → all_pairs i rest ≡ onto (m ∷ []) (all_pairs i rest') → ValidMember CHANNELS m
+    → new ≡ placed (λ m. m.chan) (record { chan = m.chan; part = part; level = m.level }) now → k' ≡ max k m.chan
+    → ReadsLevels i part k rest rest' k' now new
+level_alone {i} {part} {k} {k'} {rest} {rest'} {now} {new} {m} next valid put greatest =
+    record { members = m ∷ []; list = next; valid = (valid, tt); placed = put; is_greatest = greatest }

@@ -10,7 +10,7 @@ use Rattle.lx_spec.specs.Limits.{desk_limits}
 use Rattle.lx_spec.specs.Numerals.{read_whole, read_level}
 use Rattle.lx_spec.specs.Fields.{pairs, triples, number}
 use Rattle.lx_spec.specs.FirstRefusal.{◌>>=◌}
-use Rattle.lx_reader.specs.FieldLists.{all_pairs, all_triples, onto}
+use Rattle.lx_reader.specs.FieldLists.{FirstIsMember, all_pairs, all_triples, onto}
 
 two_more : (n : ℕ) → suc (suc n) % 2 ≡ n % 2
 two_more n = omega arith
@@ -41,6 +41,12 @@ all_pairs-first i c l rest m chan level =
     ap (λ k. cond (k == 0) (pairs desk_limits i (c ∷ l ∷ rest)) (Err (ShortList i))) (two_more (length rest))
     ∙ ap (λ r. cond (length rest % 2 == 0) r (Err (ShortList i))) (pairs_first i c l rest m chan level)
     ∙ onto_if i (m ∷ []) (length rest % 2 == 0) (pairs desk_limits i rest)
+
+-- the same, as the short ways tell it
+pub member_first : (i : ℕ) (all others : List (List ℕ)) (m : Member) → FirstIsMember all m others
+    → all_pairs i all ≡ onto (m ∷ []) (all_pairs i others)
+member_first i all others m is =
+    ap (all_pairs i) is.first ∙ all_pairs-first i is.chan_token is.level_token others m is.chan is.level
 
 triples_first : (i : ℕ) (c e l : List ℕ) (rest : List (List ℕ)) (row : PatchRow) → read_whole 1 CHANNELS c ≡ Ok row.chan
     → read_whole 1 DIMMERS e ≡ Ok row.dimmer → read_level l ≡ Ok row.level

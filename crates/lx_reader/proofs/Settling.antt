@@ -1,9 +1,9 @@
 -- The moves of an open cue, which stand apart from the show that is read.
 use Rattle.std.proofs.Common.{◌≡◌, ℕ, Bool, true, false, cond, List, [], ◌∷◌, ◌++◌, Option, Some, None, Result, Ok, Err, refl, ap, ◌∙◌, sym, subst}
-use Rattle.std.proofs.Common.{◌<◌, append_assoc, append-nil, arith}
+use Rattle.std.proofs.Common.{◌<◌, ◌≤◌, append_assoc, append-nil, arith}
 use Rattle.std.specs.Prelude.{option_and_then, IfOk}
 use Rattle.std.specs.List.{AllByRecursion}
-use Rattle.std.specs.Option.{option_map_or}
+use Rattle.std.specs.Option.{IsSomeAnd, option_map_or}
 use Rattle.lx_spec.specs.declared.Move.{Move}
 use Rattle.lx_spec.specs.declared.Bad.{Bad}
 use Rattle.lx_spec.specs.declared.TextFault.{TextFault}
@@ -13,7 +13,7 @@ use Rattle.lx_spec.specs.Fields.{delay_at, number, numbered, times}
 use Rattle.lx_spec.specs.FirstRefusal.{◌>>=◌}
 use Rattle.lx_spec.specs.Numerals.{read_time}
 use Rattle.lx_spec.specs.SortedList.{IsStrictlySorted, all_placed, entry_at, placed}
-use Rattle.lx_spec.specs.Show.{Cue, Show}
+use Rattle.lx_spec.specs.Show.{Cue, Show, ValidMove}
 use Rattle.lx_spec.proofs.Comparisons.{lt_true, lt_false}
 use Rattle.lx_spec.proofs.Lists.{each, filter_all, filter_none}
 use Rattle.lx_spec.proofs.SortedLists.{below_seam, entry_at-placed_here, entry_number, placed_again}
@@ -47,6 +47,12 @@ pub settled_is : (g : Reading) (n : ℕ) (moves : List Move) (show : Show) → g
 settled_is g n moves show is same put =
     ap (λ (s : Show). record g.reader { show = s })
     (put ∙ ap (λ ms. with_open (Some n) ms g.reader.show) same ∙ ap (λ o. with_open o g.moves g.reader.show) (sym is))
+
+-- moves that fit are of channels of the show
+pub all_within : (k channels : ℕ) (moves : List Move) (o : Option Cue) → k ≡ channels
+    → IsSomeAnd o (λ cue. AllByRecursion (ValidMove channels cue.parts) moves) → AllByRecursion (λ m. m.chan ≤ k) moves
+all_within k channels moves None is valid = absurd valid
+all_within k channels moves (Some cue) is valid = each _ _ moves (λ m h. omega (arith, h.chan.most)) valid
 
 -- an entry changed twice
 changed_at : {A : Type 0} (key : A → ℕ) (n : ℕ) (f g : A → A) (xs : List A) (o : Option A) → ((x : A) → key (g x) ≡ key x)

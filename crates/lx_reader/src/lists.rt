@@ -42,7 +42,7 @@ pub(crate) fn next_member(i: u32, tokens: &mut Tokens) -> Result<Option<Member>,
 /// The next channel and level where `@` and a space end them and nothing else stands before them, as in most lists, and
 /// both are within their ranges. Else no token is taken.
 #[inline(always)]
-fn near_member(tokens: &mut Tokens) -> Option<Member>
+pub(crate) fn near_member(tokens: &mut Tokens) -> Option<Member>
     ensures { MatchOption result (tokens.new ≡ tokens.old) (λ m. FirstIsMember (left tokens.old) m (left tokens.new)) }
 {
     let mut rest = *tokens;
@@ -57,21 +57,27 @@ fn near_member(tokens: &mut Tokens) -> Option<Member>
 fn near_level(tokens: &mut Tokens) -> Option<Level>
     ensures { IfSome result (λ level. FirstIsLevel (left tokens.old) level (left tokens.new)) }
 {
-    match tokens.take_number_before(b' ') {
-        Some(percent) => plain_level(percent),
-        None => tokens.take_hex(),
+    if let Some(percent) = tokens.take_number_before(b' ') {
+        return plain_level(percent);
     }
+    if let Some(level) = tokens.take_hex() {
+        return Some(level);
+    }
+    plain_level(tokens.take_last_number()?)
 }
 
 /// The same as `next_member`, where the tokens stand in another way.
 #[inline(never)]
-fn far_member(i: u32, tokens: &mut Tokens) -> Result<Option<Member>, TextFault>
+pub(crate) fn far_member(i: u32, tokens: &mut Tokens) -> Result<Option<Member>, TextFault>
     ensures fewer { IfOk result (λ o. IfSome o (λ m. length (left tokens.new) < length (left tokens.old))) }
     ensures list { MatchResult result
         (λ o. MatchOption o (left tokens.old ≡ [])
         (λ m. all_pairs i (left tokens.old) ≡ onto (m ∷ []) (all_pairs i (left tokens.new))))
         (λ fault. all_pairs i (left tokens.old) ≡ Err fault) }
 {
+    if tokens.is_at_end() {
+        return Ok(None);
+    }
     match plain_member(tokens) {
         Some(member) => Ok(Some(member)),
         None => any_member(i, tokens),

@@ -1,19 +1,19 @@
 //! The moves of the cue whose levels are being read, by channel: a level takes one write, however many the cue has.
 
-ghost use Rattle.std.specs.Prelude.{◌≡◌, ◌<◌, ◌+◌, ◌++◌, [], Err, OnOk, IfOk, IfErr};
-ghost use Rattle.std.specs.Result.{IsOkAnd};
+ghost use Rattle.std.specs.Prelude.{◌≡◌, ◌≤◌, ℕ, ◌<◌, ◌+◌, ◌++◌, [], Err, length, max, vec_capacity, OnOk, IfOk, IfErr};
+ghost use Rattle.std.specs.List.{AllByRecursion};
 ghost use Rattle.lx_base.specs.declared.TheConstants.{CHANNELS};
+ghost use Rattle.lx_spec.specs.Show.{ValidMember};
 ghost use Rattle.lx_spec.specs.SortedList.{IsStrictlySorted, placed};
 ghost use Rattle.lx_lex.specs.Left.{left};
 ghost use Rattle.lx_reader.specs.FieldLists.{all_pairs};
-ghost use Rattle.lx_reader.specs.OpenMoves.{PutsLevels, moves_from, slot_moves};
+ghost use Rattle.lx_reader.specs.OpenMoves.{ReadsLevels, moves_from, slot_moves};
 
-use crate::lists::next_member;
+use crate::lists::{far_member, near_member};
 use lx_base::{CHANNELS, Chan, Level, PartNo};
 use lx_lex::Tokens;
-use lx_show::facts;
 use lx_spec::{Member, Move, TextFault};
-use std::alloc::AllocError;
+use std::alloc::{AllocError, Global};
 use std::marker::Model;
 
 /// How many channels there can be.
@@ -68,20 +68,21 @@ impl OpenMoves {
         part: PartNo,
         least: u32,
     ) -> Result<u32, TextFault>
-        ensures levels { IfOk result (λ greatest. IsOkAnd (all_pairs i (left tokens.entry))
-            (λ members. PutsLevels part least members greatest self.old self.new)) }
+        ensures levels { IfOk result (λ greatest. ReadsLevels i part least (left tokens.entry) [] greatest self.old self.new) }
         ensures fault { IfErr result (λ fault. all_pairs i (left tokens.entry) ≡ Err fault) }
     {
         put_line(&mut self.slots, i, tokens, part, least)
     }
 
-    /// Writes the moves into a list, in place of what it has.
-    pub(crate) fn write_to(&self, moves: &mut Vec<Move>) -> Result<(), AllocError>
-        ensures moves { OnOk result (moves.new.items ≡ self.now) }
+    /// The moves as a list. None is of a channel above this one.
+    pub(crate) fn listed(&self, alloc: Global, channels: u32) -> Result<Vec<Move>, AllocError>
+        requires most { channels ≤ CHANNELS }
+        requires within { AllByRecursion (λ m. m.chan ≤ channels) self.now }
+        ensures moves { IfOk result (λ list. list.items ≡ self.now) }
         ensures sorted { IsStrictlySorted (λ m. m.chan) self.now }
     {
         rise(&self.slots);
-        write_to(&self.slots, moves)
+        listed(alloc, &self.slots, channels as usize)
     }
 }
 
@@ -93,34 +94,53 @@ fn put_line(
     part: PartNo,
     least: u32,
 ) -> Result<u32, TextFault>
-    ensures levels { IfOk result (λ greatest. IsOkAnd (all_pairs i (left tokens.entry))
-        (λ members. PutsLevels part least members greatest (moves_from 1 slots.old) (moves_from 1 slots.new))) }
+    ensures levels { IfOk result (λ greatest. ReadsLevels i part least (left tokens.entry) [] greatest (moves_from 1 slots.old)
+        (moves_from 1 slots.new)) }
     ensures fault { IfErr result (λ fault. all_pairs i (left tokens.entry) ≡ Err fault) }
 {
     let mut greatest = least;
     loop {
-        match next_member(i, &mut tokens) {
-            Ok(Some(member)) => {
-                facts::of_member(&member);
-                greatest = greatest.max(member.chan.get());
-                put(slots, member, part);
-            }
+        (tokens, greatest) = put_near(slots, tokens, part, greatest);
+        match far_member(i, &mut tokens) {
+            Ok(Some(member)) => greatest = put(slots, member, part, greatest),
             Ok(None) => return Ok(greatest),
             Err(fault) => return Err(fault),
         }
     }
 }
 
-/// Places one level as a move.
-#[inline]
-fn put(slots: &mut [Option<Slot>; SLOTS], member: Member, part: PartNo)
-    ensures { moves_from 1 slots.new ≡ placed (λ m. m.chan) (record { chan = member.chan; part = part; level = member.level }) (moves_from 1 slots.old) }
+/// The same for the levels at the front of a line that stand in the usual form. It answers the tokens that are left, too.
+fn put_near<'a>(
+    slots: &mut [Option<Slot>; SLOTS],
+    mut tokens: Tokens<'a>,
+    part: PartNo,
+    least: u32,
+) -> (Tokens<'a>, u32)
+    ensures levels { (i : ℕ) → ReadsLevels i part least (left tokens.entry) (left result.0) result.1 (moves_from 1 slots.old)
+        (moves_from 1 slots.new) }
+    ensures fewer { length (left result.0) ≤ length (left tokens.entry) }
 {
-    let index = (member.chan.get() - 1) as usize;
-    slots[index] = Some(Slot {
+    let mut greatest = least;
+    while let Some(member) = near_member(&mut tokens) {
+        greatest = put(slots, member, part, greatest);
+    }
+    (tokens, greatest)
+}
+
+/// Places one level as a move, and answers the greater of its channel and this number.
+#[inline(always)]
+fn put(slots: &mut [Option<Slot>; SLOTS], member: Member, part: PartNo, least: u32) -> u32
+    ensures greater { result ≡ max least member.chan }
+    ensures valid { ValidMember CHANNELS member }
+    ensures moves { moves_from 1 slots.new ≡ placed (λ m. m.chan) (record { chan = member.chan; part = part; level = member.level })
+        (moves_from 1 slots.old) }
+{
+    let number = member.chan.get();
+    slots[(number - 1) as usize] = Some(Slot {
         level: member.level,
         part,
     });
+    least.max(number)
 }
 
 /// The moves rise: a fact for proofs.
@@ -130,34 +150,38 @@ fn rise(slots: &[Option<Slot>; SLOTS])
     let _ = slots;
 }
 
-/// Writes the moves into a list.
-fn write_to(slots: &[Option<Slot>; SLOTS], moves: &mut Vec<Move>) -> Result<(), AllocError>
-    ensures { OnOk result (moves.new.items ≡ moves_from 1 slots.now) }
+/// The moves as a list: those of the first slots, which are all.
+fn listed(
+    alloc: Global,
+    slots: &[Option<Slot>; SLOTS],
+    count: usize,
+) -> Result<Vec<Move>, AllocError>
+    requires most { count ≤ CHANNELS }
+    requires within { AllByRecursion (λ m. m.chan ≤ count) (moves_from 1 slots.now) }
+    ensures { IfOk result (λ list. list.items ≡ moves_from 1 slots.now) }
 {
-    moves.clear();
-    for index in 0..SLOTS {
-        keep(slots[index], index, moves)?;
+    let mut moves = Vec::with_capacity(alloc, count)?;
+    for index in 0..count {
+        keep(slots[index], index, &mut moves);
     }
-    Ok(())
+    Ok(moves)
 }
 
-/// Appends the move in the slot of an index, if there is one.
-#[inline]
-fn keep(slot: Option<Slot>, index: usize, moves: &mut Vec<Move>) -> Result<(), AllocError>
-    requires { index < CHANNELS }
-    ensures { OnOk result (moves.new.items ≡ moves.old.items ++ slot_moves (index + 1) slot) }
+/// Appends the move in the slot of an index, if there is one. There is room for it.
+#[inline(always)]
+fn keep(slot: Option<Slot>, index: usize, moves: &mut Vec<Move>)
+    requires index { index < CHANNELS }
+    requires room { length moves.old.items < vec_capacity moves.old }
+    ensures items { moves.new.items ≡ moves.old.items ++ slot_moves (index + 1) slot }
+    ensures room { vec_capacity moves.old ≤ vec_capacity moves.new }
+    ensures most { length moves.new.items ≤ length moves.old.items + 1 }
 {
-    let Some(slot) = slot else {
-        return Ok(());
-    };
-    let entry = Move {
-        chan: channel(index),
-        part: slot.part,
-        level: slot.level,
-    };
-    match moves.push(entry) {
-        Ok(()) => Ok(()),
-        Err(_) => Err(AllocError),
+    if let Some(slot) = slot {
+        moves.push_reserved(Move {
+            chan: channel(index),
+            part: slot.part,
+            level: slot.level,
+        });
     }
 }
 

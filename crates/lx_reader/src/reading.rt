@@ -23,7 +23,7 @@ use crate::word::word_of;
 use lx_base::{CUES, CueNo};
 use lx_lex::{Tokens, tokens};
 use lx_show::{MoveList, Show};
-use lx_spec::{Move, Section, Word};
+use lx_spec::{Section, Word};
 use std::alloc::{AllocError, Global};
 
 /// How many bytes make a line of levels long.
@@ -38,8 +38,6 @@ pub(crate) struct Reading {
     cue: Option<CueNo>,
     /// All its moves.
     moves: OpenMoves,
-    /// Room for them as a list.
-    list: Vec<Move>,
     /// How many cues had their moves apart so far.
     opened: usize,
 }
@@ -58,7 +56,6 @@ impl Reading {
             reader: Reader::new(alloc, show),
             cue: None,
             moves: OpenMoves::new(),
-            list: Vec::new(alloc),
             opened: 0,
         }
     }
@@ -71,9 +68,10 @@ impl Reading {
         let Some(n) = self.cue else {
             return Ok(());
         };
-        self.moves.write_to(&mut self.list)?;
+        let channels = self.reader.show.channels();
+        let list = self.moves.listed(alloc, channels)?;
         let mut moves = MoveList::new(alloc);
-        moves.put_each(self.list.as_slice())?;
+        moves.put_each(list.as_slice())?;
         let _ = self.reader.show.replace_moves(n, moves);
         self.cue = None;
         Ok(())

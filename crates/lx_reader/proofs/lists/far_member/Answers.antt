@@ -1,11 +1,7 @@
-use Rattle.std.proofs.Common.{ap, ◌∙◌}
 use Rattle.lx_lex.specs.Left.{left}
-use Rattle.lx_reader.specs.FieldLists.{all_pairs}
-use Rattle.lx_reader.proofs.Pairs.{all_pairs-first}
+use Rattle.lx_reader.proofs.Pairs.{member_first}
 use Rattle.lx_reader.proofs.lists.far_member.Goals as goal
 
 pub returns-in-Some-clause-list : goal.returns-in-Some-clause-list
 returns-in-Some-clause-list c =
-    let m = c.in-Some.ensures in
-    ap (all_pairs c.args.i) m.first ∙ all_pairs-first c.args.i m.chan_token m.level_token (left c.plain_member.new.tokens) c.in-Some.member
-    m.chan m.level
+    member_first c.args.i (left c.args.tokens.now) (left c.plain_member.new.tokens) c.in-Some.member c.in-Some.ensures

@@ -1,4 +1,4 @@
-use Rattle.std.proofs.Common.{◌≡◌, [], ap, ◌∙◌, sym, refl, subst}
+use Rattle.std.proofs.Common.{◌≡◌, [], ap, arith, ◌∙◌, sym, refl, subst}
 use Rattle.std.specs.List.{AllByRecursion}
 use Rattle.std.specs.Option.{IsSomeAnd}
 use Rattle.std.specs.Prelude.{IfSome}
@@ -6,16 +6,25 @@ use Rattle.lx_spec.specs.Show.{ValidMove}
 use Rattle.lx_spec.specs.SortedList.{all_placed}
 use Rattle.lx_spec.specs.TrackedLevel.{cue_of}
 use Rattle.lx_reader.specs.Settled.{FitsIn}
-use Rattle.lx_reader.proofs.Settling.{placed_alone, settled_is}
+use Rattle.lx_reader.proofs.Settling.{all_within, placed_alone, settled_is}
 use Rattle.lx_reader.proofs.reading.Reading.settle.Goals as goal
+
+pub listed-requires-clause-most : goal.listed-requires-clause-most
+listed-requires-clause-most c = omega (arith, c.channels-channels.ensures.channels, c.channels-channels.ensures.valid.channels.most)
+
+pub listed-requires-clause-within : goal.listed-requires-clause-within
+listed-requires-clause-within c =
+    let g = c.args.self.now in
+    let fits : FitsIn g.reader g.moves c.in-Some.n = subst (λ o. IfSome o (FitsIn g.reader g.moves)) c.in-Some.is c.requires in
+    all_within _ _ g.moves (cue_of g.reader.show c.in-Some.n) c.channels-channels.ensures.channels fits.valid
 
 pub replace_moves-requires : goal.replace_moves-requires
 replace_moves-requires c =
     let g = c.args.self.now in
     let same : c.put_each.new.self ≡ g.moves = c.in_ok-put_each.ensures.ok
     ∙ ap (λ xs. all_placed (λ m. m.chan) c.as_slice.result.now xs) c.new-moves.ensures
-    ∙ ap (λ ms. all_placed (λ m. m.chan) ms []) (c.as_slice.ensures.value ∙ c.in_ok-write_to.ensures.moves)
-    ∙ placed_alone (λ m. m.chan) g.moves c.write_to.ensures.sorted in
+    ∙ ap (λ ms. all_placed (λ m. m.chan) ms []) (c.as_slice.ensures.value ∙ c.in_ok-list.ensures.moves)
+    ∙ placed_alone (λ m. m.chan) g.moves c.listed.ensures.sorted in
     let fits : FitsIn g.reader g.moves c.in-Some.n = subst (λ o. IfSome o (FitsIn g.reader g.moves)) c.in-Some.is c.requires in
     subst (λ ms. IsSomeAnd (cue_of g.reader.show c.in-Some.n) (λ cue. AllByRecursion (ValidMove g.reader.show.channels cue.parts) ms))
     (sym same) fits.valid
@@ -25,6 +34,6 @@ returns c =
     let g = c.args.self.now in
     let same : c.put_each.new.self ≡ g.moves = c.in_ok-put_each.ensures.ok
     ∙ ap (λ xs. all_placed (λ m. m.chan) c.as_slice.result.now xs) c.new-moves.ensures
-    ∙ ap (λ ms. all_placed (λ m. m.chan) ms []) (c.as_slice.ensures.value ∙ c.in_ok-write_to.ensures.moves)
-    ∙ placed_alone (λ m. m.chan) g.moves c.write_to.ensures.sorted in
+    ∙ ap (λ ms. all_placed (λ m. m.chan) ms []) (c.as_slice.ensures.value ∙ c.in_ok-list.ensures.moves)
+    ∙ placed_alone (λ m. m.chan) g.moves c.listed.ensures.sorted in
     (refl, settled_is g c.in-Some.n c.put_each.new.self c.replace_moves.new.self c.in-Some.is same c.replace_moves.ensures.after)

@@ -1,0 +1,22 @@
+use Rattle.std.proofs.Common.{◌≤◌, arith, length, ap}
+use Rattle.lx_lex.specs.Left.{left}
+use Rattle.lx_reader.specs.OpenMoves.{moves_from}
+use Rattle.lx_reader.proofs.OpenMoves.{level_alone, levels_none, levels_then}
+use Rattle.lx_reader.proofs.Pairs.{member_first}
+use Rattle.lx_reader.proofs.open_moves.put_near.Goals as goal
+
+pub loop-member-init : goal.loop-member-init
+loop-member-init c = record {
+  levels = λ i. levels_none i c.args.part c.args.least (left c.args.tokens) (moves_from 1 c.args.slots.now);
+  fewer = omega arith;
+}
+
+pub loop-member-preserved : goal.loop-member-preserved
+loop-member-preserved c =
+    let m = c.in-Some.ensures in
+    let put = c.put-greatest.ensures in
+    record {
+      levels = λ i. levels_then (c.loop-member.invariant.levels i)
+          (level_alone (member_first i _ _ c.in-Some.member m) put.valid put.moves put.greater);
+      fewer = omega (arith, c.loop-member.invariant.fewer, ap length m.first);
+    }

@@ -1,6 +1,0 @@
-use Rattle.std.proofs.Common.{◌≡◌, ◌+◌, ◌++◌, drop}
-use Rattle.lx_reader.specs.OpenMoves.{moves_from}
-use Rattle.lx_reader.proofs.open_moves.write_to.Given as goal
-
-abbrev pub invariant-loop-index : goal.invariant-loop-index
-invariant-loop-index l = l.moves.items ++ moves_from (l.index + 1) (drop l.index l.slots) ≡ moves_from 1 l.slots
