@@ -3,7 +3,6 @@ use Rattle.std.proofs.Common.{◌≡◌, ℕ, ◌+◌, ◌<◌, ◌≤◌, true,
 use Rattle.std.proofs.Common.{subst, inl, inr}
 use Rattle.std.specs.Prelude.{IfSome}
 use Rattle.std.specs.Result.{IsOkAnd, IsErrAnd}
-use Rattle.std.specs.Io.KnownBytes.{IsAtEnd}
 use Rattle.lx_base.specs.declared.TheConstants.{LINE_BYTES}
 use Rattle.lx_spec.specs.declared.Form.{Form}
 use Rattle.lx_spec.specs.declared.Section.TheVariants.{NoRecord}
@@ -86,11 +85,6 @@ pub long_turn : {S : Type 0} (left : S → Option (List ℕ)) (rises : S → ℕ
     → TurnOf left rises l l' r q (Err (faults.LineTooLong i))
 long_turn left rises l l' r q raw i handed long number =
     inl (raw, handed, long_entry (facts_of r (l.number + 1)) (without_cr raw) long ∙ ap (λ k. Err (LineTooLong k)) (sym number))
-
--- No line is left.
-pub end_turn : {S : Type 0} (left : S → Option (List ℕ)) (rises : S → ℕ) (l l' : Lines S) (r q : Reader) (i : ℕ) → IsAtEnd (unread left l)
-    → i ≡ l.number + 1 → TurnOf left rises l l' r q (Err (faults.NoEndData i))
-end_turn left rises l l' r q i end number = inr (end, ap NoEndData number)
 
 -- The pass over the lines.
 pub record Passage {S : Type 0} (left : S → Option (List ℕ)) (rises : S → ℕ) (old l : Lines S) (r : Reader) : Type 0 where

@@ -1,17 +1,15 @@
 -- The moves of a look, channel by channel, and the cues whose looks become moves, from the last one on.
 use Rattle.std.proofs.Common.{◌≡◌, ℕ, suc, zero, ◌+◌, ◌<◌, ◌≤◌, Bool, true, false, cond, List, [], ◌∷◌, ◌++◌, map, length, take, drop}
 use Rattle.std.proofs.Common.{get_or, Option, Some, None, refl, ap, ◌∙◌, sym, subst, arith, add-one, append-nil, append_assoc, IsTrue}
-use Rattle.std.proofs.Common.{take_all}
 use Rattle.std.specs.Prelude.{filter, not, ◌==◌, ◌-◌, IfSome}
 use Rattle.std.specs.Option.{option_map_or, IsSomeAnd}
 use Rattle.std.specs.List.{AllByRecursion, range_with_len}
 use Rattle.std.proofs.Math.Seq.{take-append_seam}
-use Rattle.std.proofs.lemmas.List.{map-append, drop_all}
+use Rattle.std.proofs.lemmas.List.{map-append}
 use Rattle.std.proofs.lemmas.List.Elements.{filter-append}
 use Rattle.lx_spec.specs.declared.Move.{Move}
 use Rattle.lx_spec.specs.declared.Part.{Part}
-use Rattle.lx_spec.specs.declared.Form.TheVariants.{States}
-use Rattle.lx_spec.specs.Looks.{by_form, from_looks}
+use Rattle.lx_spec.specs.Looks.{from_looks}
 use Rattle.lx_spec.specs.SortedList.{IsStrictlySorted, placed, has_entry, entry_at, entries_below, entries_above}
 use Rattle.lx_spec.specs.Show.{Cue, Show, InRange, ValidMove, ValidCue, Valid}
 use Rattle.lx_spec.specs.TrackedLevel.{cue_of, move_in, level_in}
@@ -174,19 +172,6 @@ pub record IsLooked (at : ℕ) (old new : Show) : Type 0 where
   pub within : at ≤ length old.cues
   pub show : new ≡ record old { cues = from_place at old }
 
-all_looks : (cues : List Cue) (f : (ℕ → ℕ) → List Cue → List Cue) → ((before : ℕ → ℕ) → f before [] ≡ [])
-    → take (length cues) cues ++ f (last_look (take (length cues) cues)) (drop (length cues) cues) ≡ cues
-all_looks cues f none =
-    (λ i. take_all (length cues) cues (omega arith) i ++ f (last_look (take (length cues) cues))
-    (drop_all (length cues) cues (omega arith) i)) ∙ (λ i. cues ++ none (last_look (take (length cues) cues)) i) ∙ append-nil cues
-
-pub looked_none : (show : Show) → IsLooked (length show.cues) show show
-looked_none show = record {
-  within = omega arith;
-  show =
-      λ j. record show { cues = sym (all_looks show.cues (from_looks show) (λ before. refl)) j };
-}
-
 pub looked_next : (old mid new : Show) (at : ℕ) → IsLooked (suc at) old mid
     → ((front : List Cue) (cue : Cue) (back : List Cue) → length front ≡ at → mid.cues ≡ front ++ cue ∷ back
     → new ≡ record mid { cues = front ++ with_look mid front cue ∷ back }) → IsLooked at old new
@@ -212,9 +197,6 @@ first_place : (show : Show) (cues : List Cue)
     → take 0 cues ++ from_looks show (last_look (take 0 cues)) (drop 0 cues) ≡ from_looks show (λ c. 0) cues
 first_place show [] = refl
 first_place show (cue ∷ cues) = refl
-
-pub looked_all : (old new : Show) → IsLooked 0 old new → new ≡ by_form States old
-looked_all old new looked = looked.show ∙ (λ j. record old { cues = first_place old old.cues j })
 
 -- the moves with those of the channel that comes next
 pub put_next : (before : ℕ → ℕ) (cue : Cue) (n chan level : ℕ) (old new : List Move) → chan ≡ n + 1 → level ≡ before chan

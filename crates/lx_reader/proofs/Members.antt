@@ -1,5 +1,5 @@
 -- The levels of a line, gathered and then put into a section at once.
-use Rattle.std.proofs.Common.{◌≡◌, ℕ, ◌≤◌, List, [], ◌∷◌, ◌++◌, map, Option, Some, None, Ok, Err, ap, ◌∙◌, sym, subst, append-nil}
+use Rattle.std.proofs.Common.{◌≡◌, ℕ, ◌≤◌, List, [], ◌∷◌, ◌++◌, map, Option, Some, None, Ok, ap, ◌∙◌, sym, subst, append-nil}
 use Rattle.std.proofs.Common.{IsTrue, arith}
 use Rattle.std.specs.Prelude.{fold, max}
 use Rattle.std.specs.Option.{IsSomeAnd}
@@ -10,7 +10,6 @@ use Rattle.lx_spec.specs.declared.Member.{Member}
 use Rattle.lx_spec.specs.declared.Part.{Part}
 use Rattle.lx_spec.specs.declared.Section.{Section}
 use Rattle.lx_spec.specs.declared.Section.TheVariants.{NoRecord, InCue, InGroup, InSub, Skipping}
-use Rattle.lx_spec.specs.declared.TextFault.{TextFault}
 use Rattle.lx_spec.specs.SortedList.{all_placed, has_entry}
 use Rattle.lx_spec.specs.Show.{Cue, Show, ValidMember, ValidMove}
 use Rattle.lx_spec.specs.TrackedLevel.{cue_of}
@@ -35,14 +34,6 @@ gathered_more i all rest rest' done m so_far next valid = record {
   list = so_far.list ∙ ap (onto done) next ∙ onto_again done (m ∷ []) (all_pairs i rest');
   valid = all_append _ done (m ∷ []) so_far.valid (valid, tt);
 }
-
-pub gathered_all : (i : ℕ) (all rest : List (List ℕ)) (done : List Member) → IsGathered i all rest done → rest ≡ []
-    → all_pairs i all ≡ Ok done
-gathered_all i all rest done so_far none = so_far.list ∙ ap (λ v. onto done (all_pairs i v)) none ∙ ap Ok (append-nil done)
-
-pub gathering_fault : (i : ℕ) (all rest : List (List ℕ)) (done : List Member) (fault : TextFault) → IsGathered i all rest done
-    → all_pairs i rest ≡ Err fault → all_pairs i all ≡ Err fault
-gathering_fault i all rest done fault so_far is = so_far.list ∙ ap (onto done) is
 
 pub put_whole : (i : ℕ) (all : List (List ℕ)) (members : List Member) (section : Section) (p : ℕ) (old new : Show)
     → all_pairs i all ≡ Ok members → new ≡ with_members section p members old

@@ -1,5 +1,5 @@
 -- What a change of one cue leaves: the numbers of the cues, and what holds of the cue besides.
-use Rattle.std.proofs.Common.{◌≡◌, ℕ, suc, ◌≤◌, Bool, true, false, cond, List, [], ◌∷◌, ◌++◌, map, Option, Some, None, refl, ap, ◌∙◌, sym, subst}
+use Rattle.std.proofs.Common.{◌≡◌, ℕ, ◌≤◌, Bool, true, false, cond, List, [], ◌∷◌, ◌++◌, map, Option, Some, None, refl, ap, ◌∙◌, sym, subst}
 use Rattle.std.proofs.Common.{IsTrue, arith, inl, inr}
 use Rattle.std.specs.Prelude.{fold, max, option_and_then, unwrap_or}
 use Rattle.std.specs.List.{AllByRecursion}
@@ -10,7 +10,7 @@ use Rattle.lx_spec.specs.declared.Move.{Move}
 use Rattle.lx_spec.specs.declared.Part.{Part}
 use Rattle.lx_spec.specs.declared.Section.TheVariants.{InCue}
 use Rattle.lx_spec.specs.EditedShow.{new_cue, new_part}
-use Rattle.lx_spec.specs.Entry.{Entry, HasDown, HasUp, NamesPart, cue_in, clears_all, levels_in, section_begun}
+use Rattle.lx_spec.specs.Entry.{Entry, HasDown, HasUp, NamesPart, cue_in}
 use Rattle.lx_spec.specs.Reading.{channels_named}
 use Rattle.lx_spec.specs.SortedList.{IsStrictlySorted, entries_above, entries_below, entry_at, has_entry, placed}
 use Rattle.lx_spec.specs.Show.{Cue, Show, ValidMove}

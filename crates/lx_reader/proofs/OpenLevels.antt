@@ -3,7 +3,6 @@ use Rattle.std.proofs.Common.{◌≡◌, ℕ, ◌≤◌, false, List, [], Option
 use Rattle.std.specs.Prelude.{IfSome}
 use Rattle.std.specs.List.{AllByRecursion}
 use Rattle.std.specs.Option.{IsSomeAnd}
-use Rattle.lx_spec.specs.declared.Member.{Member}
 use Rattle.lx_spec.specs.declared.Move.{Move}
 use Rattle.lx_spec.specs.declared.Section.TheVariants.{InCue}
 use Rattle.lx_spec.specs.Fields.{levels}
@@ -12,7 +11,6 @@ use Rattle.lx_spec.specs.Show.{Cue, Show, ValidMember, ValidMove}
 use Rattle.lx_spec.specs.SortedList.{all_placed}
 use Rattle.lx_spec.specs.TrackedLevel.{cue_of}
 use Rattle.lx_spec.proofs.Lists.{each}
-use Rattle.lx_show.specs.Changed.{changed}
 use Rattle.lx_show.proofs.Stretches.{All-all_placed}
 use Rattle.lx_reader.specs.declared.reader.Reader.{Reader}
 use Rattle.lx_reader.specs.declared.reading.Reading.{Reading}

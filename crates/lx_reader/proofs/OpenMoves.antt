@@ -1,16 +1,15 @@
 -- Moves that are kept by channel.
-use Rattle.std.proofs.Common.{◌≡◌, ℕ, zero, suc, ◌+◌, ◌<◌, ◌≤◌, List, [], ◌∷◌, ◌++◌, length, get_or, drop, Option, Some, None, refl, ap, ◌∙◌}
-use Rattle.std.proofs.Common.{sym, arith, append_assoc}
+use Rattle.std.proofs.Common.{◌≡◌, ℕ, zero, suc, ◌+◌, ◌<◌, ◌≤◌, List, [], ◌∷◌, ◌++◌, length, Option, Some, None, refl, ap, ◌∙◌}
+use Rattle.std.proofs.Common.{sym, arith}
 use Rattle.std.specs.Prelude.{slice_set}
 use Rattle.std.specs.List.{AllByRecursion}
-use Rattle.std.proofs.lemmas.List.{drop_more}
 use Rattle.lx_spec.specs.declared.Move.{Move}
 use Rattle.lx_spec.specs.SortedList.{IsStrictlySorted, placed}
 use Rattle.lx_spec.proofs.Comparisons.{lt_true, lt_false}
 use Rattle.lx_spec.proofs.Lists.{each}
 use Rattle.lx_spec.proofs.SortedLists.{goes_between, stands_between}
 use Rattle.lx_reader.specs.declared.open_moves.Slot.{Slot}
-use Rattle.lx_reader.specs.OpenMoves.{ReadsLevels, moves_from, slot_moves}
+use Rattle.lx_reader.specs.OpenMoves.{ReadsLevels, moves_from}
 use Rattle.lx_reader.specs.FieldLists.{all_pairs, onto}
 use Rattle.lx_reader.specs.ReadingState.{moves_of}
 use Rattle.lx_reader.proofs.SectionLevels.{onto_again, onto_nothing}
@@ -71,14 +70,6 @@ pub none_behind : (n k : ℕ) (items rest : List Move) → n ≤ k → AllByRecu
 none_behind n k [] [] past within above = refl
 none_behind n k [] (m ∷ rest) past within above = absurd (omega (arith, within.0, above.0))
 none_behind n k (x ∷ items) rest past within above = ap (λ xs. x ∷ xs) (none_behind n k items rest past within.1 above)
-
--- one slot more
-pub slot_listed : (i : ℕ) (slots : List (Option Slot)) (x : Option Slot) (items whole : List Move) → i < length slots → x ≡ get_or slots i x
-    → items ++ moves_from (i + 1) (drop i slots) ≡ whole
-    → (items ++ slot_moves (i + 1) x) ++ moves_from (i + 1 + 1) (drop (i + 1) slots) ≡ whole
-slot_listed i slots x items whole within is so_far =
-    append_assoc items (slot_moves (i + 1) x) (moves_from (i + 1 + 1) (drop (i + 1) slots))
-    ∙ ap (λ xs. items ++ moves_from (i + 1) xs) (sym (drop_more slots i x within ∙ ap (λ h. h ∷ drop (i + 1) slots) (sym is))) ∙ so_far
 
 -- levels, and then those behind them
 pub levels_then : {i part least k k' : ℕ} {all rest rest' : List (List ℕ)} {old now new : List Move}

@@ -48,10 +48,6 @@ after_push test xs x false is =
     omega (arith, one, length-append xs (x ∷ [])) in
     ap (λ n. drop n (xs ++ x ∷ [])) place ∙ drop-append-le (length xs - suffix_len (λ z. not (test z)) xs) xs (x ∷ []) (omega arith)
 
-pub since_more : (all : List PlacedEntry) (s : PlacedEntry) (b : Bool) → clears_all s.entry ≡ b
-    → since_cleared (all ++ s ∷ []) ≡ cond b [] (since_cleared all ++ s ∷ [])
-since_more all s b is = after_push (λ z. clears_all z.entry) all s b is
-
 -- The count of those that pass, and the first of them, with one more.
 abbrev one_if : Bool → ℕ
 one_if b = cond b 1 0

@@ -18,9 +18,8 @@ use Rattle.lx_spec.proofs.Comparisons.{lt_true, lt_false}
 use Rattle.lx_spec.proofs.Lists.{each, filter_all, filter_none}
 use Rattle.lx_spec.proofs.SortedLists.{below_seam, entry_at-placed_here, entry_number, placed_again}
 use Rattle.lx_show.specs.Changed.{changed}
-use Rattle.lx_reader.specs.declared.reader.Reader.{Reader}
 use Rattle.lx_reader.specs.declared.reading.Reading.{Reading}
-use Rattle.lx_reader.specs.ReadingState.{change_by, changed_in, cue_with, cues_with, moves_of, show_with, with_named}
+use Rattle.lx_reader.specs.ReadingState.{change_by, changed_in, cue_with, cues_with, moves_of, with_named}
 use Rattle.lx_spec.specs.EditedShow.{new_cue}
 use Rattle.lx_reader.specs.Settled.{settled, with_open}
 

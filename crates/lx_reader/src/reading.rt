@@ -184,9 +184,7 @@ impl Reading {
         ensures fits { OnOk result (Fits self.new) }
     {
         let channels = self.reader.show.channels();
-        let greatest = self
-            .moves
-            .put_line(i, tokens, self.reader.part, channels)?;
+        let greatest = self.moves.put_line(i, tokens, self.reader.part, channels)?;
         self.reader.show.widen(greatest);
         Ok(())
     }

@@ -1,4 +1,4 @@
-use Rattle.std.proofs.Common.{◌≤◌, arith, length, ap}
+use Rattle.std.proofs.Common.{arith, length, ap}
 use Rattle.lx_lex.specs.Left.{left}
 use Rattle.lx_reader.specs.OpenMoves.{moves_from}
 use Rattle.lx_reader.proofs.OpenMoves.{level_alone, levels_none, levels_then}

@@ -1,4 +1,4 @@
-use Rattle.std.proofs.Common.{◌≡◌, ◌≤◌, List, [], arith, subst, ℕ}
+use Rattle.std.proofs.Common.{◌≤◌, [], arith, subst}
 use Rattle.lx_base.specs.declared.TheConstants.{CHANNELS}
 use Rattle.lx_lex.specs.Left.{left}
 use Rattle.lx_reader.specs.OpenMoves.{ReadsLevels}
