@@ -9,14 +9,13 @@ use Rattle.lx_base.specs.declared.TheConstants.{DEFAULT_TIME}
 use Rattle.lx_spec.specs.declared.Part.{Part}
 use Rattle.lx_spec.specs.declared.Section.{Section}
 use Rattle.lx_spec.specs.Show.{Cue}
-use Rattle.lx_spec.specs.SortedList.{IsStrictlySorted, placed, has_entry}
+use Rattle.lx_spec.specs.SortedList.{IsStrictlySorted, placed, has_entry, all_placed}
 use Rattle.lx_spec.specs.Entry.{Entry, PlacedEntry, HasUp, HasDown, NamesPart, part_named, follow_in, link_in, label_in, up_in, down_in}
 use Rattle.lx_spec.specs.Entry.{blocks, is_assert}
 use Rattle.lx_spec.specs.Reading.{last_of_each, last_in, moves_in, part_from, parts_from, label_from, cue_from}
 use Rattle.lx_spec.specs.EditedShow.{new_part}
 use Rattle.lx_show.specs.Changed.{changed}
 use Rattle.lx_reader.specs.ReadingState.{with_part, with_up, with_down, parts_with, cue_with, change_by}
-use Rattle.lx_spec.specs.SortedList.{all_placed}
 use Rattle.lx_reader.proofs.LastEntries.{last_in-more, any-more, unwrap-later, filter-more}
 use Rattle.lx_reader.proofs.MadeEntries.{cond_same, after_change}
 use Rattle.lx_reader.proofs.PlacedNumbers.{changed-made, map-placed, placed-there, has_made, eq-sym, eq-here, IsStrictlySorted-numbers}

@@ -4,11 +4,10 @@ use Rattle.std.specs.Prelude.{flat_map}
 use Rattle.std.proofs.lemmas.Grind.{flat_map-append}
 use Rattle.std.proofs.lemmas.List.Sums.{fold-append}
 use Rattle.lx_spec.specs.Show.{MemberSet}
-use Rattle.lx_spec.specs.SortedList.{placed}
+use Rattle.lx_spec.specs.SortedList.{placed, all_placed}
 use Rattle.lx_spec.specs.Entry.{Entry, PlacedEntry, HasLevels, levels_in}
 use Rattle.lx_spec.specs.Reading.{last_of_each, members_from, group_from}
 use Rattle.lx_reader.specs.ReadingState.{set_with, change_by}
-use Rattle.lx_spec.specs.SortedList.{all_placed}
 use Rattle.lx_reader.proofs.Cues.{label-more}
 use Rattle.lx_reader.proofs.MadeEntries.{after_change}
 

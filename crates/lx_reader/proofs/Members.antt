@@ -1,6 +1,5 @@
 -- The levels of a line, gathered and then put into a section at once.
-use Rattle.std.proofs.Common.{◌≡◌, ℕ, ◌≤◌, List, [], ◌∷◌, ◌++◌, map, Option, Some, None, Ok, ap, ◌∙◌, sym, subst, append-nil}
-use Rattle.std.proofs.Common.{IsTrue, arith}
+use Rattle.std.proofs.Common.{◌≡◌, ℕ, ◌≤◌, List, [], ◌∷◌, ◌++◌, map, Option, Some, None, Ok, ap, ◌∙◌, sym, subst, append-nil, IsTrue, arith}
 use Rattle.std.specs.Prelude.{fold, max}
 use Rattle.std.specs.Option.{IsSomeAnd}
 use Rattle.std.specs.Result.{IsOkAnd}

@@ -1,7 +1,7 @@
 -- What a change of one cue leaves: the numbers of the cues, and what holds of the cue besides.
 use Rattle.std.proofs.Common.{◌≡◌, ℕ, ◌≤◌, Bool, true, false, cond, List, [], ◌∷◌, ◌++◌, map, Option, Some, None, refl, ap, ◌∙◌, sym, subst}
 use Rattle.std.proofs.Common.{IsTrue, arith, inl, inr}
-use Rattle.std.specs.Prelude.{fold, max, option_and_then, unwrap_or}
+use Rattle.std.specs.Prelude.{◌||◌, fold, max, option_and_then, unwrap_or}
 use Rattle.std.specs.List.{AllByRecursion}
 use Rattle.std.specs.Option.{IsSomeAnd, option_map_or}
 use Rattle.std.proofs.lemmas.Bool.{cases_eq}
@@ -10,7 +10,7 @@ use Rattle.lx_spec.specs.declared.Move.{Move}
 use Rattle.lx_spec.specs.declared.Part.{Part}
 use Rattle.lx_spec.specs.declared.Section.TheVariants.{InCue}
 use Rattle.lx_spec.specs.EditedShow.{new_cue, new_part}
-use Rattle.lx_spec.specs.Entry.{Entry, HasDown, HasUp, NamesPart, cue_in}
+use Rattle.lx_spec.specs.Entry.{Entry, HasDown, HasUp, NamesPart, cue_in, identifies}
 use Rattle.lx_spec.specs.Reading.{channels_named}
 use Rattle.lx_spec.specs.SortedList.{IsStrictlySorted, entries_above, entries_below, entry_at, has_entry, placed}
 use Rattle.lx_spec.specs.Show.{Cue, Show, ValidMove}
@@ -21,8 +21,8 @@ use Rattle.lx_show.specs.Changed.{changed}
 use Rattle.lx_show.proofs.Placed.{has_changed}
 use Rattle.lx_reader.specs.declared.reader.Reader.{Reader}
 use Rattle.lx_reader.specs.LineOutcome.{state_of}
-use Rattle.lx_reader.specs.ReadingState.{change_by, changed_in, cue_with, cues_with, empty_show, parts_with, placed_in, show_with, speaks, step, with_down}
-use Rattle.lx_reader.specs.ReadingState.{with_named, with_up}
+use Rattle.lx_reader.specs.ReadingState.{change_by, changed_in, cue_with, cues_with, empty_show, parts_with, placed_in, show_with, speaks}
+use Rattle.lx_reader.specs.ReadingState.{step, with_down, with_named, with_up}
 use Rattle.lx_reader.specs.Settled.{FitsIn}
 use Rattle.lx_reader.proofs.Settling.{IsQuiet}
 
@@ -132,6 +132,7 @@ fits_still r q moves n i e fits quiet is =
     let Good : Show → Type 0 = λ s. IsSomeAnd (cue_of s n) (λ cue. AllByRecursion (ValidMove s.channels cue.parts) moves) in
     record {
       inside = section ∙ fits.inside;
+      identified = ap (λ t. t.identified) is ∙ elim (identifies e) as (λ b. (b || r.identified) ≡ true) [ true ↦ refl | false ↦ fits.identified ];
       valid = subst Good (sym show)
           (subst (λ (zs : List Cue). IsSomeAnd (entry_at (λ cue. cue.number) n zs)
           (λ cue. AllByRecursion (ValidMove (fold max r.show.channels (channels_named e)) cue.parts) moves)) (sym cues) valid);

@@ -66,6 +66,7 @@ fit_in r n i k moves new rest fits there read =
     (greatest_each r.show.channels read.members read.valid) in
     record {
       inside = fits.inside;
+      identified = fits.identified;
       valid = both (λ cue. AllByRecursion (ValidMove r.show.channels cue.parts) moves)
           (λ cue. AllByRecursion (ValidMove k cue.parts) (moves_of r.part read.members)) (λ cue. AllByRecursion (ValidMove k cue.parts) new)
           (cue_of r.show n)

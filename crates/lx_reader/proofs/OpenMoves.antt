@@ -1,12 +1,12 @@
 -- Moves that are kept by channel.
-use Rattle.std.proofs.Common.{◌≡◌, ℕ, zero, suc, ◌+◌, ◌<◌, ◌≤◌, List, [], ◌∷◌, ◌++◌, length, Option, Some, None, refl, ap, ◌∙◌}
-use Rattle.std.proofs.Common.{sym, arith}
-use Rattle.std.specs.Prelude.{slice_set}
+use Rattle.std.proofs.Common.{◌≡◌, ℕ, zero, suc, ◌+◌, ◌<◌, ◌≤◌, List, [], ◌∷◌, ◌++◌, length, Option, Some, None, refl, ap, ◌∙◌, sym, arith}
+use Rattle.std.proofs.Common.{map}
+use Rattle.std.specs.Prelude.{slice_set, fold, max}
 use Rattle.std.specs.List.{AllByRecursion}
 use Rattle.lx_spec.specs.declared.Move.{Move}
 use Rattle.lx_spec.specs.SortedList.{IsStrictlySorted, placed}
 use Rattle.lx_spec.proofs.Comparisons.{lt_true, lt_false}
-use Rattle.lx_spec.proofs.Lists.{each}
+use Rattle.lx_spec.proofs.Lists.{each, all_append}
 use Rattle.lx_spec.proofs.SortedLists.{goes_between, stands_between}
 use Rattle.lx_reader.specs.declared.open_moves.Slot.{Slot}
 use Rattle.lx_reader.specs.OpenMoves.{ReadsLevels, moves_from}
@@ -16,9 +16,6 @@ use Rattle.lx_reader.proofs.SectionLevels.{onto_again, onto_nothing}
 use Rattle.lx_base.specs.declared.TheConstants.{CHANNELS}
 use Rattle.lx_spec.specs.declared.Member.{Member}
 use Rattle.lx_spec.specs.Show.{ValidMember}
-use Rattle.lx_spec.proofs.Lists.{all_append}
-use Rattle.std.proofs.Common.{map}
-use Rattle.std.specs.Prelude.{fold, max}
 use Rattle.std.proofs.lemmas.List.{map-append}
 use Rattle.std.proofs.lemmas.List.Sums.{fold-append}
 

@@ -1,5 +1,6 @@
 -- Lines that leave the moves of the open cue as they are.
-use Rattle.std.proofs.Common.{◌≡◌, ℕ, Bool, true, false, List, [], Option, Some, None, Result, Ok, Err, refl, ap, ◌∙◌, sym, subst, cond, map, IsTrue}
+use Rattle.std.proofs.Common.{◌≡◌, ℕ, Bool, true, List, [], Option, Some, None, Result, Ok, Err, refl, ap, ◌∙◌, sym, subst, cond}
+use Rattle.std.proofs.Common.{map, IsTrue}
 use Rattle.std.specs.Prelude.{IfOk, IfSome, OnOk}
 use Rattle.std.specs.Option.{IsSomeAnd}
 use Rattle.std.specs.Result.{IsOkAnd}
@@ -48,32 +49,11 @@ quiet_known facts n line word rest = elim word as
       | _ ↦ λ is. cc
     ]
 
-quiet_unknown : (facts : Facts) (n : ℕ) (line : List ℕ) (word : Word) (rest : List (List ℕ)) → keeps_cue word ≡ true
-    → IfOk (entry_by_word (record facts { identified = false; section = InCue n }) line word rest) IsQuiet
-quiet_unknown facts n line word rest = elim word as
-    (λ w. keeps_cue w ≡ true → IfOk (entry_by_word (record facts { identified = false; section = InCue n }) line w rest) IsQuiet) [
-      | words.TwoDollars ↦ λ is. record { begins = refl; clears = refl; levels = refl }
-      | words.Part ↦ λ is. tt
-      | words.Up ↦ λ is. tt
-      | words.Down ↦ λ is. tt
-      | words.FollowOn ↦ λ is. tt
-      | words.Link ↦ λ is. tt
-      | words.Text ↦ λ is. tt
-      | words.Block ↦ λ is. tt
-      | words.Assert ↦ λ is. tt
-      | _ ↦ λ is. cc
-    ]
-
-quiet_either : (facts : Facts) (b : Bool) (n : ℕ) (line : List ℕ) (word : Word) (rest : List (List ℕ)) → keeps_cue word ≡ true
-    → IfOk (entry_by_word (record facts { identified = b; section = InCue n }) line word rest) IsQuiet
-quiet_either facts true n line word rest is = quiet_known facts n line word rest is
-quiet_either facts false n line word rest is = quiet_unknown facts n line word rest is
-
 pub quiet_word : (facts : Facts) (n : ℕ) (line : List ℕ) (word : Word) (rest : List (List ℕ)) → facts.section ≡ InCue n
-    → keeps_cue word ≡ true → IfOk (entry_by_word facts line word rest) IsQuiet
-quiet_word facts n line word rest inside is =
-    subst (λ s. IfOk (entry_by_word (record facts { section = s }) line word rest) IsQuiet) (sym inside)
-    (quiet_either facts facts.identified n line word rest is)
+    → facts.identified ≡ true → keeps_cue word ≡ true → IfOk (entry_by_word facts line word rest) IsQuiet
+quiet_word facts n line word rest inside known is =
+    let at : Section → Bool → Type 0 = λ s b. IfOk (entry_by_word (record facts { identified = b; section = s }) line word rest) IsQuiet in
+    subst (λ s. at s facts.identified) (sym inside) (subst (at (InCue n)) (sym known) (quiet_known facts n line word rest is))
 
 -- The cue's numbers, and what is open, are the same without the moves.
 pub facts_apart : (g : Reading) (i : ℕ) → IsStrictlySorted (λ cue. cue.number) g.reader.show.cues
@@ -179,7 +159,7 @@ outcome_apart r q o moves i (Err fault) x fits says took = (took, tt)
 words_quiet : (r : Reader) (o : Option ℕ) (moves : List Move) (i : ℕ) (line : List ℕ) (word : Word) (rest : List (List ℕ))
     → IfSome o (FitsIn r moves) → keeps_cue word ≡ true → IfSome o (λ n. IfOk (entry_by_word (facts_of r i) line word rest) IsQuiet)
 words_quiet r None moves i line word rest fits is = tt
-words_quiet r (Some n) moves i line word rest fits is = quiet_word (facts_of r i) n line word rest fits.inside is
+words_quiet r (Some n) moves i line word rest fits is = quiet_word (facts_of r i) n line word rest fits.inside fits.identified is
 
 -- a quiet line, and the moves besides
 pub quiet_took : (g : Reading) (q : Reader) (i : ℕ) (line : List ℕ) (word : Word) (rest : List (List ℕ)) (result : Result (Unit {0}) LineFault)

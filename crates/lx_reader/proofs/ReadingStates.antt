@@ -15,10 +15,9 @@ use Rattle.lx_spec.specs.declared.Form.{Form}
 use Rattle.lx_spec.specs.Show.{Show}
 use Rattle.lx_spec.specs.Looks.{by_form}
 use Rattle.lx_spec.specs.declared.Section.TheVariants.{NoRecord}
-use Rattle.lx_spec.specs.Entry.{Entry, ClearsAll, PlacedEntry, channels_set, clears_all, is_skipped, section_begun, part_named}
+use Rattle.lx_spec.specs.Entry.{Entry, ClearsAll, PlacedEntry, channels_set, clears_all, is_skipped, section_begun, part_named, cue_in}
 use Rattle.lx_spec.specs.Facts.{facts_after, with_cue_named}
 use Rattle.lx_spec.specs.Reading.{reading_from, numbers_begun, channels_named, last_in}
-use Rattle.lx_spec.specs.Entry.{cue_in}
 use Rattle.lx_reader.specs.OpenRecord.{IsOpen}
 use Rattle.lx_reader.specs.ReadingState.{ReadingState, later, first_state, step, placed_in, facts_in, final_reading, show_with}
 use Rattle.lx_reader.specs.ReadingState.{number_begun}

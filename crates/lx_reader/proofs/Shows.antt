@@ -7,7 +7,7 @@ use Rattle.std.proofs.lemmas.Grind.{flat_map-append}
 use Rattle.std.proofs.lemmas.List.Sums.{fold-append}
 use Rattle.std.proofs.lemmas.List.Elements.{filter_map-append}
 use Rattle.lx_spec.specs.Show.{Show}
-use Rattle.lx_spec.specs.SortedList.{placed, has_entry}
+use Rattle.lx_spec.specs.SortedList.{placed, has_entry, all_placed}
 use Rattle.lx_spec.specs.declared.Section.{Section}
 use Rattle.lx_spec.specs.declared.Section.TheVariants.{NoRecord}
 use Rattle.lx_spec.specs.Entry.{Entry, Skipped, Identifies, Begins, ClearsAll, HasChannels, Patches, PlacedEntry, part_named, cue_in}
@@ -16,7 +16,6 @@ use Rattle.lx_spec.specs.Reading.{last_of_each, numbers_begun, stands_in, each_r
 use Rattle.lx_spec.specs.Reading.{show_from}
 use Rattle.lx_spec.specs.EditedShow.{new_cue}
 use Rattle.lx_reader.specs.ReadingState.{with_named, changed_in, cue_with, set_with, change_by, number_begun, speaks, new_set, show_with}
-use Rattle.lx_spec.specs.SortedList.{all_placed}
 use Rattle.lx_reader.proofs.LastEntries.{filter-more}
 use Rattle.lx_reader.proofs.PlacedNumbers.{IsStrictlySorted-numbers}
 use Rattle.lx_reader.proofs.MadeEntries.{is_at, after_change, listed-more}

@@ -25,6 +25,7 @@ settled g = record g.reader { show = with_open g.cue g.moves g.reader.show }
 -- the moves may be put into the cue, in whose section the reader stands
 pub record FitsIn (r : Reader) (moves : List Move) (n : ℕ) : Type 0 where
   pub inside : r.section ≡ InCue n
+  pub identified : r.identified ≡ true
   pub valid : IsSomeAnd (cue_of r.show n) (λ cue. AllByRecursion (ValidMove r.show.channels cue.parts) moves)
 
 abbrev pub Fits : Reading → Type 0

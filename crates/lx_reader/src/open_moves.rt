@@ -12,6 +12,7 @@ ghost use Rattle.lx_reader.specs.OpenMoves.{ReadsLevels, moves_from, slot_moves}
 use crate::lists::{far_member, near_member};
 use lx_base::{CHANNELS, Chan, Level, PartNo};
 use lx_lex::Tokens;
+use lx_show::MoveList;
 use lx_spec::{Member, Move, TextFault};
 use std::alloc::{AllocError, Global};
 use std::marker::Model;
@@ -75,15 +76,25 @@ impl OpenMoves {
     }
 
     /// The moves as a list. None is of a channel above this one.
-    pub(crate) fn listed(&self, alloc: Global, channels: u32) -> Result<Vec<Move>, AllocError>
+    pub(crate) fn listed(&self, alloc: Global, channels: u32) -> Result<MoveList, AllocError>
         requires most { channels ≤ CHANNELS }
         requires within { AllByRecursion (λ m. m.chan ≤ channels) self.now }
-        ensures moves { IfOk result (λ list. list.items ≡ self.now) }
-        ensures sorted { IsStrictlySorted (λ m. m.chan) self.now }
+        ensures { IfOk result (λ list. list ≡ self.now) }
     {
         rise(&self.slots);
-        listed(alloc, &self.slots, channels as usize)
+        let moves = listed(alloc, &self.slots, channels as usize)?;
+        sorted(alloc, moves.as_slice())
     }
+}
+
+/// A list of moves that rise already.
+fn sorted(alloc: Global, moves: &[Move]) -> Result<MoveList, AllocError>
+    requires { IsStrictlySorted (λ m. m.chan) moves.now }
+    ensures { IfOk result (λ list. list ≡ moves.now) }
+{
+    let mut list = MoveList::new(alloc);
+    list.put_each(moves)?;
+    Ok(list)
 }
 
 /// Places the levels of a line as moves in a part, and answers the greatest of their channels and this number.

@@ -22,7 +22,7 @@ use crate::reader::Reader;
 use crate::word::word_of;
 use lx_base::{CUES, CueNo};
 use lx_lex::{Tokens, tokens};
-use lx_show::{MoveList, Show};
+use lx_show::Show;
 use lx_spec::{Section, Word};
 use std::alloc::{AllocError, Global};
 
@@ -69,9 +69,7 @@ impl Reading {
             return Ok(());
         };
         let channels = self.reader.show.channels();
-        let list = self.moves.listed(alloc, channels)?;
-        let mut moves = MoveList::new(alloc);
-        moves.put_each(list.as_slice())?;
+        let moves = self.moves.listed(alloc, channels)?;
         let _ = self.reader.show.replace_moves(n, moves);
         self.cue = None;
         Ok(())
@@ -79,7 +77,8 @@ impl Reading {
 
     /// The moves of the section's cue stand apart from now on, if they can: it is a cue, and they do already or it has none.
     fn opens(&mut self, line: &[u8]) -> bool
-        requires { Fits self.old }
+        requires fits { Fits self.old }
+        requires identified { self.old.reader.identified ≡ true }
         ensures same { settled self.new ≡ settled self.old }
         ensures fits { Fits self.new }
         ensures reader { self.new.reader ≡ self.old.reader }
@@ -94,7 +93,8 @@ impl Reading {
     /// The same, where no moves stand apart. To begin and to settle takes a look at every channel: so a cue whose first levels are a short
     /// line is read the plain way, and so is each one behind as many as a show has, in a text that clears its cues again and again.
     fn begins(&mut self, line: &[u8]) -> bool
-        requires { self.old.cue ≡ None }
+        requires none { self.old.cue ≡ None }
+        requires identified { self.old.reader.identified ≡ true }
         ensures same { settled self.new ≡ settled self.old }
         ensures fits { Fits self.new }
         ensures reader { self.new.reader ≡ self.old.reader }

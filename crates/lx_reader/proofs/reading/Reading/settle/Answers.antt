@@ -1,12 +1,11 @@
-use Rattle.std.proofs.Common.{◌≡◌, [], ap, arith, ◌∙◌, sym, refl, subst}
+use Rattle.std.proofs.Common.{arith, refl, subst, sym}
 use Rattle.std.specs.List.{AllByRecursion}
 use Rattle.std.specs.Option.{IsSomeAnd}
 use Rattle.std.specs.Prelude.{IfSome}
 use Rattle.lx_spec.specs.Show.{ValidMove}
-use Rattle.lx_spec.specs.SortedList.{all_placed}
 use Rattle.lx_spec.specs.TrackedLevel.{cue_of}
 use Rattle.lx_reader.specs.Settled.{FitsIn}
-use Rattle.lx_reader.proofs.Settling.{all_within, placed_alone, settled_is}
+use Rattle.lx_reader.proofs.Settling.{all_within, settled_is}
 use Rattle.lx_reader.proofs.reading.Reading.settle.Goals as goal
 
 pub listed-requires-clause-most : goal.listed-requires-clause-most
@@ -21,19 +20,10 @@ listed-requires-clause-within c =
 pub replace_moves-requires : goal.replace_moves-requires
 replace_moves-requires c =
     let g = c.args.self.now in
-    let same : c.put_each.new.self ≡ g.moves = c.in_ok-put_each.ensures.ok
-    ∙ ap (λ xs. all_placed (λ m. m.chan) c.as_slice.result.now xs) c.new-moves.ensures
-    ∙ ap (λ ms. all_placed (λ m. m.chan) ms []) (c.as_slice.ensures.value ∙ c.in_ok-list.ensures.moves)
-    ∙ placed_alone (λ m. m.chan) g.moves c.listed.ensures.sorted in
     let fits : FitsIn g.reader g.moves c.in-Some.n = subst (λ o. IfSome o (FitsIn g.reader g.moves)) c.in-Some.is c.requires in
     subst (λ ms. IsSomeAnd (cue_of g.reader.show c.in-Some.n) (λ cue. AllByRecursion (ValidMove g.reader.show.channels cue.parts) ms))
-    (sym same) fits.valid
+    (sym c.in_ok-moves.ensures) fits.valid
 
 pub returns : goal.returns
-returns c =
-    let g = c.args.self.now in
-    let same : c.put_each.new.self ≡ g.moves = c.in_ok-put_each.ensures.ok
-    ∙ ap (λ xs. all_placed (λ m. m.chan) c.as_slice.result.now xs) c.new-moves.ensures
-    ∙ ap (λ ms. all_placed (λ m. m.chan) ms []) (c.as_slice.ensures.value ∙ c.in_ok-list.ensures.moves)
-    ∙ placed_alone (λ m. m.chan) g.moves c.listed.ensures.sorted in
-    (refl, settled_is g c.in-Some.n c.put_each.new.self c.replace_moves.new.self c.in-Some.is same c.replace_moves.ensures.after)
+returns c = (refl, settled_is c.args.self.now c.in-Some.n c.in_ok-moves.moves c.replace_moves.new.self c.in-Some.is c.in_ok-moves.ensures
+    c.replace_moves.ensures.after)
