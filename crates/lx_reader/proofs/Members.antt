@@ -8,7 +8,7 @@ use Rattle.lx_base.specs.declared.TheConstants.{CHANNELS}
 use Rattle.lx_spec.specs.declared.Member.{Member}
 use Rattle.lx_spec.specs.declared.Part.{Part}
 use Rattle.lx_spec.specs.declared.Section.{Section}
-use Rattle.lx_spec.specs.declared.Section.TheVariants.{NoRecord, InCue, InGroup, InSub, Skipping}
+use Rattle.lx_spec.specs.declared.Section.TheVariants.{InCue, InGroup, InSub}
 use Rattle.lx_spec.specs.SortedList.{all_placed, has_entry}
 use Rattle.lx_spec.specs.Show.{Cue, Show, ValidMember, ValidMove}
 use Rattle.lx_spec.specs.TrackedLevel.{cue_of}
@@ -49,9 +49,9 @@ pub greatest_more : (n k : ℕ) (members : List Member) (m : Member) → k ≡ g
 greatest_more n k [] m is = ap (λ j. max j m.chan) is
 greatest_more n k (x ∷ members) m is = greatest_more (max n x.chan) k members m is
 
-pub greatest_least : (n : ℕ) (members : List Member) → n ≤ greatest_of n members
+pub greatest_least : (n : ℕ) (chans : List ℕ) → n ≤ fold max n chans
 greatest_least n [] = omega arith
-greatest_least n (m ∷ ms) = let rest : max n m.chan ≤ greatest_of (max n m.chan) ms = greatest_least (max n m.chan) ms in omega arith
+greatest_least n (c ∷ chans) = let rest : max n c ≤ fold max (max n c) chans = greatest_least (max n c) chans in omega arith
 
 pub greatest_most : (n : ℕ) (members : List Member) → n ≤ CHANNELS → AllByRecursion (ValidMember CHANNELS) members
     → greatest_of n members ≤ CHANNELS
@@ -64,7 +64,7 @@ pub greatest_each : (n : ℕ) (members : List Member) → AllByRecursion (ValidM
 greatest_each n [] valid = tt
 greatest_each n (m ∷ ms) valid =
     let least : 1 ≤ m.chan = valid.0.chan.least in
-    let rest : max n m.chan ≤ greatest_of (max n m.chan) ms = greatest_least (max n m.chan) ms in (
+    let rest : max n m.chan ≤ greatest_of (max n m.chan) ms = greatest_least (max n m.chan) (map (λ m. m.chan) ms) in (
       record { chan = record { least = least; most = omega arith }; level = valid.0.level },
       greatest_each (max n m.chan) ms valid.1,
     )
@@ -139,12 +139,10 @@ sub_members section n p members old wide is widened =
     })
     ∙ ap (λ s. with_members s p members old) (sym is)
 
-pub no_record_members : (section : Section) (p : ℕ) (members : List Member) (old wide : Show) → section ≡ NoRecord
-    → wide ≡ record old { channels = greatest_of old.channels members } → wide ≡ with_members section p members old
-no_record_members section p members old wide is widened = widened
-    ∙ (λ j. record old { channels = fold max old.channels (sym (named members) j) }) ∙ ap (λ s. with_members s p members old) (sym is)
-
-pub skipped_members : (section : Section) (p : ℕ) (members : List Member) (old wide : Show) → section ≡ Skipping
-    → wide ≡ record old { channels = greatest_of old.channels members } → wide ≡ with_members section p members old
-skipped_members section p members old wide is widened = widened
-    ∙ (λ j. record old { channels = fold max old.channels (sym (named members) j) }) ∙ ap (λ s. with_members s p members old) (sym is)
+-- the section is of no record, so that the show is only widened
+pub stray_members : (section s : Section) (p : ℕ) (members : List Member) (old wide : Show) → section ≡ s
+    → wide ≡ record old { channels = greatest_of old.channels members }
+    → record old { channels = fold max old.channels (map (λ m. m.chan) members ++ []) } ≡ with_members s p members old
+    → wide ≡ with_members section p members old
+stray_members section s p members old wide is widened same = widened
+    ∙ (λ j. record old { channels = fold max old.channels (sym (named members) j) }) ∙ same ∙ ap (λ s. with_members s p members old) (sym is)

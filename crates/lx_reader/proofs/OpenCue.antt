@@ -1,5 +1,5 @@
 -- What a change of one cue leaves: the numbers of the cues, and what holds of the cue besides.
-use Rattle.std.proofs.Common.{◌≡◌, ℕ, ◌≤◌, Bool, true, false, cond, List, [], ◌∷◌, ◌++◌, map, Option, Some, None, refl, ap, ◌∙◌, sym, subst}
+use Rattle.std.proofs.Common.{◌≡◌, ℕ, ◌≤◌, Bool, true, false, cond, List, ◌∷◌, ◌++◌, map, Option, Some, None, refl, ap, ◌∙◌, sym, subst}
 use Rattle.std.proofs.Common.{IsTrue, arith, inl, inr}
 use Rattle.std.specs.Prelude.{◌||◌, fold, max, option_and_then, unwrap_or}
 use Rattle.std.specs.List.{AllByRecursion}
@@ -24,6 +24,7 @@ use Rattle.lx_reader.specs.LineOutcome.{state_of}
 use Rattle.lx_reader.specs.ReadingState.{change_by, changed_in, cue_with, cues_with, empty_show, parts_with, placed_in, show_with, speaks}
 use Rattle.lx_reader.specs.ReadingState.{step, with_down, with_named, with_up}
 use Rattle.lx_reader.specs.Settled.{FitsIn}
+use Rattle.lx_reader.proofs.Members.{greatest_least}
 use Rattle.lx_reader.proofs.Settling.{IsQuiet}
 
 -- a change that keeps the number
@@ -84,10 +85,6 @@ parts_kept p m e parts there = elim e as (λ e. IsTrue (has_entry (λ q. q.numbe
   | _ ↦ there
 ]
 
-more_named : (n : ℕ) (chans : List ℕ) → n ≤ fold max n chans
-more_named n [] = omega arith
-more_named n (c ∷ chans) = let rest : max n c ≤ fold max (max n c) chans = more_named (max n c) chans in omega arith
-
 moves_kept : (p c d : ℕ) (e : Entry) (moves : List Move) (parts : List Part) → c ≤ d → AllByRecursion (ValidMove c parts) moves
     → AllByRecursion (ValidMove d (parts_with p e parts)) moves
 moves_kept p c d e moves parts more valid = each _ _ moves
@@ -128,7 +125,7 @@ fits_still r q moves n i e fits quiet is =
     = ap (λ o. changed_in (λ cue. cue.number) change (Some n)
     (with_named (λ cue. cue.number) new_cue (option_and_then cue_in o) r.show.cues)) quiet.begins in
     let valid = fit_said n r.part r.show.channels (fold max r.show.channels (channels_named e)) e moves r.show.cues (speaks e)
-    (more_named r.show.channels (channels_named e)) refl fits.valid in
+    (greatest_least r.show.channels (channels_named e)) refl fits.valid in
     let Good : Show → Type 0 = λ s. IsSomeAnd (cue_of s n) (λ cue. AllByRecursion (ValidMove s.channels cue.parts) moves) in
     record {
       inside = section ∙ fits.inside;

@@ -1,5 +1,5 @@
 -- Levels of a line that are put into the moves of the open cue.
-use Rattle.std.proofs.Common.{◌≡◌, ℕ, ◌≤◌, false, List, [], Option, Some, None, Ok, refl, ap, ◌∙◌, sym, subst, arith, append-nil}
+use Rattle.std.proofs.Common.{◌≡◌, ℕ, ◌≤◌, false, List, [], Option, Some, None, Ok, refl, ap, ◌∙◌, sym, subst, arith, append-nil, map}
 use Rattle.std.specs.Prelude.{IfSome}
 use Rattle.std.specs.List.{AllByRecursion}
 use Rattle.std.specs.Option.{IsSomeAnd}
@@ -61,7 +61,7 @@ fit_in : (r : Reader) (n i k : ℕ) (moves new : List Move) (rest : List (List �
 fit_in r n i k moves new rest fits there read =
     let wide : Show = record r.show { channels = k } in
     let part : HasPartIn wide n r.part = subst (λ s. IsOpen r.show s r.part) fits.inside there in
-    let more : r.show.channels ≤ k = omega (arith, read.is_greatest, greatest_least r.show.channels read.members) in
+    let more : r.show.channels ≤ k = omega (arith, read.is_greatest, greatest_least r.show.channels (map (λ m. m.chan) read.members)) in
     let valid : AllByRecursion (ValidMember k) read.members = subst (λ c. AllByRecursion (ValidMember c) read.members) (sym read.is_greatest)
     (greatest_each r.show.channels read.members read.valid) in
     record {

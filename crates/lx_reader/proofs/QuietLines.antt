@@ -71,21 +71,11 @@ part_before show moves None n p there = there
 part_before show moves (Some m) n p there = held_before (λ cue. IsTrue (has_entry (λ part. part.number) p cue.parts)) (λ cue. cue.number) m n
     (with_moves moves) show.cues (λ cue. refl) (λ cue h. h) there
 
-groups_same : (o : Option ℕ) (moves : List Move) (show : Show) → (with_open o moves show).groups ≡ show.groups
-groups_same None moves show = refl
-groups_same (Some n) moves show = refl
-
-subs_same : (o : Option ℕ) (moves : List Move) (show : Show) → (with_open o moves show).subs ≡ show.subs
-subs_same None moves show = refl
-subs_same (Some n) moves show = refl
-
 open_before : (show : Show) (moves : List Move) (o : Option ℕ) (section : Section) (p : ℕ) → IsOpen (with_open o moves show) section p
     → IsOpen show section p
 open_before show moves o (InCue n) p there = part_before show moves o n p there
-open_before show moves o (InGroup g) p there =
-    subst (λ gs. IsTrue (has_entry (λ group. group.number) g gs)) (groups_same o moves show) there
-open_before show moves o (InSub s) p there =
-    subst (λ ss. IsTrue (has_entry (λ sub. sub.number) s ss)) (subs_same o moves show) there
+open_before show moves o (InGroup g) p there = there
+open_before show moves o (InSub s) p there = there
 open_before show moves o NoRecord p there = tt
 open_before show moves o Skipping p there = tt
 

@@ -6,17 +6,19 @@ use Rattle.lx_spec.specs.declared.Move.{Move}
 use Rattle.lx_spec.specs.declared.Section.TheVariants.{InCue}
 use Rattle.lx_spec.specs.declared.Word.{Word}
 use Rattle.lx_spec.specs.declared.Word.TheVariants as words
-use Rattle.lx_spec.specs.Show.{Show, ValidMove}
+use Rattle.lx_spec.specs.Show.{Cue, Show, ValidMove}
 use Rattle.lx_spec.specs.TrackedLevel.{cue_of}
 use Rattle.lx_show.specs.Changed.{changed}
 use Rattle.lx_reader.specs.declared.reader.Reader.{Reader}
 use Rattle.lx_reader.specs.declared.reading.Reading.{Reading}
 
--- the show with these moves in the cue, where one is open
+-- the cues with these moves in the one that is open, if one is
+abbrev pub open_cues : Option ℕ → List Move → List Cue → List Cue
+open_cues None moves cues = cues
+open_cues (Some n) moves cues = changed (λ cue. cue.number) n (λ cue. record cue { moves = moves }) cues
+
 abbrev pub with_open : Option ℕ → List Move → Show → Show
-with_open None moves show = show
-with_open (Some n) moves show =
-    record show { cues = changed (λ cue. cue.number) n (λ cue. record cue { moves = moves }) show.cues }
+with_open o moves show = record show { cues = open_cues o moves show.cues }
 
 -- the reader once the moves were put into the cue
 abbrev pub settled : Reading → Reader

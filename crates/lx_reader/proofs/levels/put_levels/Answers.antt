@@ -1,6 +1,7 @@
-use Rattle.std.proofs.Common.{◌∙◌}
+use Rattle.std.proofs.Common.{◌∙◌, refl}
+use Rattle.lx_spec.specs.declared.Section.TheVariants.{NoRecord, Skipping}
 use Rattle.std.proofs.lemmas.Result.{on_ok_weaker}
-use Rattle.lx_reader.proofs.Members.{cue_members, group_members, sub_members, no_record_members, skipped_members}
+use Rattle.lx_reader.proofs.Members.{cue_members, group_members, stray_members, sub_members}
 use Rattle.lx_reader.proofs.levels.put_levels.Goals as goal
 
 pub returns-in-InCue : goal.returns-in-InCue
@@ -16,9 +17,9 @@ returns-in-InSub c = on_ok_weaker c.put_members_in_sub.result (λ is. is ∙ sub
     c.args.members.now c.args.show.now c.widen_for.new.show c.in-InSub.is c.widen_for.ensures.show) c.put_members_in_sub.ensures.ok
 
 pub returns-in-NoRecord : goal.returns-in-NoRecord
-returns-in-NoRecord c = no_record_members c.args.section.now c.args.part c.args.members.now c.args.show.now c.widen_for.new.show
-    c.in-NoRecord.is c.widen_for.ensures.show
+returns-in-NoRecord c = stray_members c.args.section.now NoRecord c.args.part c.args.members.now c.args.show.now c.widen_for.new.show
+    c.in-NoRecord.is c.widen_for.ensures.show refl
 
 pub returns-in-Skipping : goal.returns-in-Skipping
-returns-in-Skipping c = skipped_members c.args.section.now c.args.part c.args.members.now c.args.show.now c.widen_for.new.show
-    c.in-Skipping.is c.widen_for.ensures.show
+returns-in-Skipping c = stray_members c.args.section.now Skipping c.args.part c.args.members.now c.args.show.now c.widen_for.new.show
+    c.in-Skipping.is c.widen_for.ensures.show refl

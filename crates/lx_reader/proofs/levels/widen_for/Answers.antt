@@ -1,4 +1,4 @@
-use Rattle.std.proofs.Common.{◌≤◌, subst, sym, arith}
+use Rattle.std.proofs.Common.{◌≤◌, map, subst, sym, arith}
 use Rattle.std.specs.List.{AllByRecursion}
 use Rattle.lx_base.specs.declared.TheConstants.{CHANNELS}
 use Rattle.lx_spec.specs.Show.{ValidMember}
@@ -6,7 +6,8 @@ use Rattle.lx_reader.proofs.Members.{greatest_least, greatest_most, greatest_eac
 use Rattle.lx_reader.proofs.levels.widen_for.Goals as goal
 
 pub widen-requires-clause-least : goal.widen-requires-clause-least
-widen-requires-clause-least c = omega (arith, c.requires.greatest, greatest_least c.args.show.now.channels c.args.members.now)
+widen-requires-clause-least c =
+    omega (arith, c.requires.greatest, greatest_least c.args.show.now.channels (map (λ m. m.chan) c.args.members.now))
 
 pub widen-requires-clause-most : goal.widen-requires-clause-most
 widen-requires-clause-most c =

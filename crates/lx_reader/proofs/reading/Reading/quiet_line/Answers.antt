@@ -5,14 +5,8 @@ use Rattle.lx_reader.proofs.reading.Reading.quiet_line.Goals as goal
 pub line_of_word-requires : goal.line_of_word-requires
 line_of_word-requires c = record { ready = ready_apart c.args.self.now c.args.i c.requires.ready }
 
-pub returns-clause-outcome : goal.returns-clause-outcome
-returns-clause-outcome c =
+pub returns : goal.returns
+returns c =
     let took = quiet_took c.args.self.now c.line_of_word.new.self c.args.i c.args.line.now c.args.word (left c.args.tokens)
     c.line_of_word.result c.requires.fits c.requires.quiet c.channels.ensures.valid.cues_sorted c.line_of_word.ensures in
-    took.0
-
-pub returns-clause-fits : goal.returns-clause-fits
-returns-clause-fits c =
-    let took = quiet_took c.args.self.now c.line_of_word.new.self c.args.i c.args.line.now c.args.word (left c.args.tokens)
-    c.line_of_word.result c.requires.fits c.requires.quiet c.channels.ensures.valid.cues_sorted c.line_of_word.ensures in
-    took.1
+    record { outcome = took.0; fits = took.1 }

@@ -25,5 +25,8 @@ replace_moves-requires c =
     (sym c.in_ok-moves.ensures) fits.valid
 
 pub returns : goal.returns
-returns c = (refl, settled_is c.args.self.now c.in-Some.n c.in_ok-moves.moves c.replace_moves.new.self c.in-Some.is c.in_ok-moves.ensures
-    c.replace_moves.ensures.after)
+returns c = (
+  refl,
+  settled_is c.args.self.now c.in-Some.n c.in_ok-moves.moves c.replace_moves.new.self c.in-Some.is c.in_ok-moves.ensures
+      c.replace_moves.ensures.after,
+)
