@@ -1,6 +1,6 @@
 -- The moves of an open cue, which stand apart from the show that is read.
 use Rattle.std.proofs.Common.{◌≡◌, ℕ, Bool, true, false, cond, List, [], ◌∷◌, ◌++◌, Option, Some, None, Result, Ok, Err, refl, ap, ◌∙◌, sym}
-use Rattle.std.proofs.Common.{subst, ◌<◌, ◌≤◌, append_assoc, append-nil, arith}
+use Rattle.std.proofs.Common.{subst, ◌≤◌, append_assoc, append-nil, arith}
 use Rattle.std.specs.Prelude.{option_and_then, IfOk}
 use Rattle.std.specs.List.{AllByRecursion}
 use Rattle.std.specs.Option.{IsSomeAnd, option_map_or}
@@ -14,21 +14,14 @@ use Rattle.lx_spec.specs.FirstRefusal.{◌>>=◌}
 use Rattle.lx_spec.specs.Numerals.{read_time}
 use Rattle.lx_spec.specs.SortedList.{IsStrictlySorted, all_placed, entry_at, placed}
 use Rattle.lx_spec.specs.Show.{Cue, Show, ValidMove}
-use Rattle.lx_spec.proofs.Comparisons.{lt_true, lt_false}
-use Rattle.lx_spec.proofs.Lists.{each, filter_all, filter_none}
+use Rattle.lx_spec.proofs.Lists.{each}
 use Rattle.lx_spec.proofs.SortedLists.{below_seam, entry_at-placed_here, entry_number, placed_again}
 use Rattle.lx_show.specs.Changed.{changed}
 use Rattle.lx_reader.specs.declared.reading.Reading.{Reading}
 use Rattle.lx_reader.specs.ReadingState.{change_by, changed_in, cue_with, cues_with, moves_of, with_named}
 use Rattle.lx_spec.specs.EditedShow.{new_cue}
 use Rattle.lx_reader.specs.Settled.{settled, with_open}
-
-placed_last : {A : Type 0} (key : A → ℕ) (x : A) (front : List A) → AllByRecursion (λ y. key y < key x) front
-    → placed key x front ≡ front ++ x ∷ []
-placed_last {A} key x front low =
-    let below = filter_all _ front (each _ _ front (λ y h. lt_true (key y) (key x) h) low) in
-    let above = filter_none _ front (each _ _ front (λ y h. lt_false (key x) (key y) (omega arith)) low) in
-    λ i. below i ++ x ∷ above i
+use Rattle.lx_reader.proofs.LookMoves.{placed_last}
 
 placed_behind : {A : Type 0} (key : A → ℕ) (run front : List A) → IsStrictlySorted key (front ++ run) → all_placed key run front ≡ front ++ run
 placed_behind key [] front rises = sym (append-nil front)
