@@ -37,7 +37,7 @@ range_end a (suc n) = let same : a + 1 + n ≡ a + suc n =
     omega arith in ap (λ xs. a ∷ xs) (range_end (a + 1) n ∙ ap (λ k. range_with_len (a + 1) n ++ k ∷ []) same)
 
 -- an entry above all others goes to the end
-pub placed_last : {A : Type 0} (key : A → ℕ) (x : A) (xs : List A) → AllByRecursion (λ y. key y < key x) xs → placed key x xs ≡ xs ++ x ∷ []
+placed_last : {A : Type 0} (key : A → ℕ) (x : A) (xs : List A) → AllByRecursion (λ y. key y < key x) xs → placed key x xs ≡ xs ++ x ∷ []
 placed_last key x xs below =
     let cut = goes_between key (key x) xs [] below tt in
     let nil : xs ++ [] ≡ xs = append-nil xs in

@@ -1,6 +1,6 @@
 -- The moves of an open cue, which stand apart from the show that is read.
-use Rattle.std.proofs.Common.{◌≡◌, ℕ, Bool, true, false, cond, List, [], ◌∷◌, ◌++◌, Option, Some, None, Result, Ok, Err, refl, ap, ◌∙◌, sym}
-use Rattle.std.proofs.Common.{subst, ◌≤◌, append_assoc, append-nil, arith}
+use Rattle.std.proofs.Common.{◌≡◌, ℕ, Bool, true, false, cond, List, [], ◌∷◌, Option, Some, None, Result, Ok, Err, refl, ap, ◌∙◌, sym}
+use Rattle.std.proofs.Common.{◌≤◌, arith}
 use Rattle.std.specs.Prelude.{option_and_then, IfOk}
 use Rattle.std.specs.List.{AllByRecursion}
 use Rattle.std.specs.Option.{IsSomeAnd, option_map_or}
@@ -12,27 +12,15 @@ use Rattle.lx_spec.specs.Entry.{Entry, cue_in, clears_all, levels_in, section_be
 use Rattle.lx_spec.specs.Fields.{delay_at, number, numbered, times}
 use Rattle.lx_spec.specs.FirstRefusal.{◌>>=◌}
 use Rattle.lx_spec.specs.Numerals.{read_time}
-use Rattle.lx_spec.specs.SortedList.{IsStrictlySorted, all_placed, entry_at, placed}
+use Rattle.lx_spec.specs.SortedList.{all_placed, entry_at, placed}
 use Rattle.lx_spec.specs.Show.{Cue, Show, ValidMove}
 use Rattle.lx_spec.proofs.Lists.{each}
-use Rattle.lx_spec.proofs.SortedLists.{below_seam, entry_at-placed_here, entry_number, placed_again}
+use Rattle.lx_spec.proofs.SortedLists.{entry_at-placed_here, entry_number, placed_again}
 use Rattle.lx_show.specs.Changed.{changed}
 use Rattle.lx_reader.specs.declared.reading.Reading.{Reading}
 use Rattle.lx_reader.specs.ReadingState.{change_by, changed_in, cue_with, cues_with, moves_of, with_named}
 use Rattle.lx_spec.specs.EditedShow.{new_cue}
 use Rattle.lx_reader.specs.Settled.{settled, with_open}
-use Rattle.lx_reader.proofs.LookMoves.{placed_last}
-
-placed_behind : {A : Type 0} (key : A → ℕ) (run front : List A) → IsStrictlySorted key (front ++ run) → all_placed key run front ≡ front ++ run
-placed_behind key [] front rises = sym (append-nil front)
-placed_behind key (x ∷ run) front rises =
-    ap (all_placed key run) (placed_last key x front (below_seam key front run x rises))
-    ∙ placed_behind key run (front ++ x ∷ []) (subst (IsStrictlySorted key) (sym (append_assoc front (x ∷ []) run)) rises)
-    ∙ append_assoc front (x ∷ []) run
-
--- a sorted list, placed entry by entry
-pub placed_alone : {A : Type 0} (key : A → ℕ) (xs : List A) → IsStrictlySorted key xs → all_placed key xs [] ≡ xs
-placed_alone key xs rises = placed_behind key xs [] rises
 
 pub settled_is : (g : Reading) (n : ℕ) (moves : List Move) (show : Show) → g.cue ≡ Some n → moves ≡ g.moves
     → show ≡ with_open (Some n) moves g.reader.show → record g.reader { show = show } ≡ settled g

@@ -83,18 +83,8 @@ impl OpenMoves {
     {
         rise(&self.slots);
         let moves = listed(alloc, &self.slots, channels as usize)?;
-        sorted(alloc, moves.as_slice())
+        MoveList::of_sorted(alloc, moves.as_slice())
     }
-}
-
-/// A list of moves that rise already.
-fn sorted(alloc: Global, moves: &[Move]) -> Result<MoveList, AllocError>
-    requires { IsStrictlySorted (λ m. m.chan) moves.now }
-    ensures { IfOk result (λ list. list ≡ moves.now) }
-{
-    let mut list = MoveList::new(alloc);
-    list.put_each(moves)?;
-    Ok(list)
 }
 
 /// Places the levels of a line as moves in a part, and answers the greatest of their channels and this number.
