@@ -39,45 +39,45 @@ decimals_of-zero (suc k) unit = refl
 pub decimals_text-some : (unit rest : ℕ) → rest ≢ 0 → decimals_text unit rest ≡ 46 ∷ decimals_of 3 unit rest
 decimals_text-some unit rest ne = rw (ne_eqb rest 0 ne) refl
 
--- from the point, which stands at 10, up to `end` a part of all was written, and the decimals of the rest are missing
+-- from the point, which stands at 32, up to `end` a part of all was written, and the decimals of the rest are missing
 pub record Written (text : List ℕ) (end unit rest : ℕ) (all : List ℕ) : Type 0 where
-  pub from : 11 ≤ end
-  pub within : end ≤ 14
+  pub from : 33 ≤ end
+  pub within : end ≤ 36
   pub small : rest < unit
-  pub is_all : slice_range text 10 end ++ decimals_of (14 - end) unit rest ≡ all
+  pub is_all : slice_range text 32 end ++ decimals_of (36 - end) unit rest ≡ all
 
-pub begun : (text : List ℕ) (unit rest : ℕ) → length text ≡ 15 → rest < unit
-    → Written (set text 10 46) 11 unit rest (46 ∷ decimals_of 3 unit rest)
+pub begun : (text : List ℕ) (unit rest : ℕ) → length text ≡ 37 → rest < unit
+    → Written (set text 32 46) 33 unit rest (46 ∷ decimals_of 3 unit rest)
 begun text unit rest size small = record {
   from = omega arith;
   within = omega arith;
   small = small;
-  is_all = ap (λ v. v ++ decimals_of 3 unit rest) (slice_push text 10 10 46 (omega arith) (omega arith));
+  is_all = ap (λ v. v ++ decimals_of 3 unit rest) (slice_push text 32 32 46 (omega arith) (omega arith));
 }
 
-pub goes_on : (text : List ℕ) (end unit rest : ℕ) (all : List ℕ) → Written text end unit rest all → length text ≡ 15 → rest ≢ 0 → end < 14
+pub goes_on : (text : List ℕ) (end unit rest : ℕ) (all : List ℕ) → Written text end unit rest all → length text ≡ 37 → rest ≢ 0 → end < 36
     → Written (set text end (48 + 10 * rest / unit)) (end + 1) unit (10 * rest % unit) all
 goes_on text end unit rest all w size ne lt = record {
   from = omega (arith, w.from);
   within = omega arith;
   small = mod-lt (10 * rest) (omega (arith, w.small));
   is_all =
-      let missing : decimals_of (14 - end) unit rest ≡ (48 + 10 * rest / unit) ∷ decimals_of (14 - end - 1) unit (10 * rest % unit) =
-      decimals_of-next (14 - end) unit rest (omega arith) ne in
-      let fewer : 14 - (end + 1) ≡ 14 - end - 1 = omega arith in
-      ap (λ v. v ++ decimals_of (14 - (end + 1)) unit (10 * rest % unit))
-      (slice_push text 10 end (48 + 10 * rest / unit) (omega (arith, w.from)) (omega (arith, size)))
-      ∙ append_assoc (slice_range text 10 end) ((48 + 10 * rest / unit) ∷ []) (decimals_of (14 - (end + 1)) unit (10 * rest % unit))
-      ∙ ap (λ k. slice_range text 10 end ++ (48 + 10 * rest / unit) ∷ decimals_of k unit (10 * rest % unit)) fewer
-      ∙ ap (λ v. slice_range text 10 end ++ v) (sym missing)
+      let missing : decimals_of (36 - end) unit rest ≡ (48 + 10 * rest / unit) ∷ decimals_of (36 - end - 1) unit (10 * rest % unit) =
+      decimals_of-next (36 - end) unit rest (omega arith) ne in
+      let fewer : 36 - (end + 1) ≡ 36 - end - 1 = omega arith in
+      ap (λ v. v ++ decimals_of (36 - (end + 1)) unit (10 * rest % unit))
+      (slice_push text 32 end (48 + 10 * rest / unit) (omega (arith, w.from)) (omega (arith, size)))
+      ∙ append_assoc (slice_range text 32 end) ((48 + 10 * rest / unit) ∷ []) (decimals_of (36 - (end + 1)) unit (10 * rest % unit))
+      ∙ ap (λ k. slice_range text 32 end ++ (48 + 10 * rest / unit) ∷ decimals_of k unit (10 * rest % unit)) fewer
+      ∙ ap (λ v. slice_range text 32 end ++ v) (sym missing)
       ∙ w.is_all;
 }
 
-pub ended : (text : List ℕ) (end unit rest : ℕ) (all : List ℕ) → Written text end unit rest all → (rest ≡ 0) ⊎ (14 ≤ end)
-    → slice_range text 10 end ≡ all
+pub ended : (text : List ℕ) (end unit rest : ℕ) (all : List ℕ) → Written text end unit rest all → (rest ≡ 0) ⊎ (36 ≤ end)
+    → slice_range text 32 end ≡ all
 ended text end unit rest all w (inl none) =
-    sym (append-nil (slice_range text 10 end))
-    ∙ ap (λ v. slice_range text 10 end ++ v) (sym (ap (decimals_of (14 - end) unit) none ∙ decimals_of-zero (14 - end) unit)) ∙ w.is_all
+    sym (append-nil (slice_range text 32 end))
+    ∙ ap (λ v. slice_range text 32 end ++ v) (sym (ap (decimals_of (36 - end) unit) none ∙ decimals_of-zero (36 - end) unit)) ∙ w.is_all
 ended text end unit rest all w (inr full) =
-    let none : 14 - end ≡ 0 = omega arith in
-    sym (append-nil (slice_range text 10 end)) ∙ ap (λ k. slice_range text 10 end ++ decimals_of k unit rest) (sym none) ∙ w.is_all
+    let none : 36 - end ≡ 0 = omega arith in
+    sym (append-nil (slice_range text 32 end)) ∙ ap (λ k. slice_range text 32 end ++ decimals_of k unit rest) (sym none) ∙ w.is_all

@@ -1,6 +1,6 @@
 //! Texts of numbers, each handed to a sink as one piece. The answer is the sink's own fault, and then a front of the
 //! text was appended.
-ghost use Rattle.std.specs.Prelude.{◌≡◌, ◌<◌, ◌≤◌, ◌++◌, ◌∷◌, [], decimal, slice_range};
+ghost use Rattle.std.specs.Prelude.{◌≡◌, ◌<◌, ◌≤◌, ◌++◌, ◌∷◌, [], ◌+◌, decimal, drop, length, slice_range};
 ghost use Rattle.lx_io.specs.Puts.{Puts};
 ghost use Rattle.lx_spec.specs.Numerals.{decimal_text, time_text, hex_digit, level_text};
 ghost use Rattle.lx_lex.specs.Texts.{decimals_text};
@@ -9,14 +9,17 @@ use itoa::{Buffer, write_digits};
 use lx_base::{CUE_UNIT, CueNo, Level};
 use lx_io::{Sink, SinkFault, put_all};
 
-/// Where the point of a number with decimals stands: behind up to 10 digits.
-const POINT: usize = 10;
+/// The most bytes of a start that stands before a number.
+const START_BYTES: usize = 22;
+
+/// Where the point of a number with decimals stands: behind a start and up to 10 digits.
+const POINT: usize = 32;
 
 /// Where up to three decimals end.
-const DECIMALS_END: usize = 14;
+const DECIMALS_END: usize = 36;
 
-/// The bytes of a number with up to three decimals, and of one that stands behind it.
-const TEXT_BYTES: usize = 15;
+/// The bytes of a start, a number with up to three decimals, and one that stands behind it.
+const TEXT_BYTES: usize = 37;
 
 /// The most digits of a count.
 const COUNT_DIGITS: usize = 20;
@@ -75,6 +78,37 @@ pub fn put_cue_no_and<K: Sink>(number: CueNo, behind: u8, sink: &mut K) -> Resul
     put_decimal_and(number.get(), CUE_UNIT, behind, sink)
 }
 
+/// Appends a start of up to 22 bytes, a cue number, as by `put_cue_no`, and a byte behind it, as one piece.
+#[inline(always)]
+pub fn put_cue_no_between<K: Sink>(
+    start: &[u8],
+    number: CueNo,
+    behind: u8,
+    sink: &mut K,
+) -> Result<(), SinkFault>
+    requires { length start.now ≤ 22 }
+    ensures { Puts K.holds K.faults K.wants sink.old sink.new result (start.now ++ (decimal_text CUE_UNIT number ++ behind ∷ [])) }
+{
+    let mut text = [0; TEXT_BYTES];
+    let (from, end) = write_decimal(number.get(), CUE_UNIT, &mut text);
+    text[end] = behind;
+    let first = write_start(start, from, &mut text);
+    put_all(sink, &text[first..end + 1])
+}
+
+/// Writes a start right before a place, and says where it begins.
+#[inline(always)]
+fn write_start(start: &[u8], end: usize, text: &mut [u8; TEXT_BYTES]) -> usize
+    requires room { length start.now ≤ end }
+    requires within { end ≤ TEXT_BYTES }
+    ensures start { result + length start.now ≡ end }
+    ensures text { drop result text.new ≡ start.now ++ drop end text.old }
+{
+    let first = end - start.len();
+    text[first..end].copy_from_slice(start);
+    first
+}
+
 /// Appends a level, 0 to 255: `H` and two hexadecimal digits, letters in upper case. 10 is `H0A`. This is the form of
 /// the ASCII text representation 3.0.
 pub fn put_level<K: Sink>(value: Level, sink: &mut K) -> Result<(), SinkFault>
@@ -130,6 +164,7 @@ fn write_decimal(value: u32, unit: u32, text: &mut [u8; TEXT_BYTES]) -> (usize, 
     requires few { unit ≤ 1000 }
     ensures ordered { result.0 ≤ result.1 }
     ensures within { result.1 ≤ DECIMALS_END }
+    ensures room { START_BYTES ≤ result.0 }
     ensures text { slice_range text.new result.0 result.1 ≡ decimal_text unit value }
 {
     let end = write_decimals(value % unit, unit, text);

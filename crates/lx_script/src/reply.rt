@@ -1,7 +1,7 @@
 //! The reply to a script line.
 #![tactic(auto, using(lx_io::proofs::Chain::puts))]
 
-ghost use Rattle.std.specs.Prelude.{◌++◌, ◌∷◌, [], decimal};
+ghost use Rattle.std.specs.Prelude.{◌≤◌, ◌++◌, ◌∷◌, [], decimal, length};
 ghost use Rattle.lx_io.specs.Puts.{Puts};
 ghost use Rattle.lx_spec.specs.ShowText.{cue_number_text};
 ghost use Rattle.lx_spec.specs.Replies.{refused_text};
@@ -9,7 +9,7 @@ ghost use Rattle.lx_script.specs.ReplyTexts.{reply_text};
 
 use lx_base::CueNo;
 use lx_io::{Sink, SinkFault, put_all};
-use lx_lex::{put_count_and, put_cue_no_and};
+use lx_lex::{put_count_and, put_cue_no_and, put_cue_no_between};
 use lx_spec::Refusal;
 
 /// What a command, or a line that is none, is answered.
@@ -35,7 +35,9 @@ pub fn put_reply<K: Sink>(reply: &Reply, sink: &mut K) -> Result<(), SinkFault>
     }
 }
 
-/// Appends the line of a refusal, in as few pieces as there are numbers in it and one more.
+/// Appends the line of a refusal: as one piece where a cue number ends it, and else in as few pieces as there are numbers in
+/// it and one more. It stands apart, so that `ok` and `bad` don't pay for the room of its texts.
+#[inline(never)]
 fn put_refused<K: Sink>(refusal: &Refusal, sink: &mut K) -> Result<(), SinkFault>
     ensures { Puts K.holds K.faults K.wants sink.old sink.new result (refused_text refusal.now) }
 {
@@ -71,12 +73,13 @@ fn put_refused<K: Sink>(refusal: &Refusal, sink: &mut K) -> Result<(), SinkFault
     }
 }
 
-/// Appends the start of a line and the cue number that ends it.
+/// Appends the start of a line and the cue number that ends it, as one piece.
+#[inline(always)]
 fn put_of_cue<K: Sink>(start: &[u8], cue: CueNo, sink: &mut K) -> Result<(), SinkFault>
+    requires { length start.now ≤ 22 }
     ensures { Puts K.holds K.faults K.wants sink.old sink.new result (start.now ++ (cue_number_text cue ++ 10 ∷ [])) }
 {
-    put_all(sink, start)?;
-    put_cue_no_and(cue, b'\n', sink)
+    put_cue_no_between(start, cue, b'\n', sink)
 }
 
 /// Appends the start of a line and the whole number that ends it.

@@ -74,7 +74,8 @@ fn answer_key<L: Listener, K: Sink>(
     give(reply_of(refusal), sink, tally)
 }
 
-/// As `answer`, of a line that was read so far.
+/// As `answer`, of a line that was read so far. It stands apart, so that keys and bad lines don't pay for the room of its turn.
+#[inline(never)]
 fn answer_read<L: Listener, K: Sink>(
     listener: &mut L,
     console: &mut Console,

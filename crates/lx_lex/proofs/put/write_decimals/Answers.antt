@@ -7,7 +7,7 @@ loop-rest-init c = begun c.args.text.now c.args.unit c.args.rest c.told-text c.r
 
 pub loop-rest-preserved : goal.loop-rest-preserved
 loop-rest-preserved c =
-    let size : length c.loop-rest.text ≡ 15 = omega arith in
+    let size : length c.loop-rest.text ≡ 37 = omega arith in
     goes_on c.loop-rest.text c.loop-rest.end c.args.unit c.loop-rest.rest _ c.loop-rest.invariant size c.loop-rest-test.true
     c.if-end-lt-DECIMALS_END.true
 

@@ -7,4 +7,4 @@ abbrev pub invariant-loop-rest : goal.invariant-loop-rest
 invariant-loop-rest l = Written l.text l.end l.unit l.rest (46 ∷ decimals_of 3 l.unit l.fn.rest)
 
 abbrev pub decreases-loop-rest : goal.decreases-loop-rest
-decreases-loop-rest l = 14 - l.end
+decreases-loop-rest l = 36 - l.end
