@@ -3,9 +3,10 @@
 line_times.py mixing|editing|lists [LINES [PROGRAM]]
 
 mixing   A line sets the master, which mixes all channels and, since all outputs change, fills all slots up to the last lit dimmer. Without
-         a dimmer it only mixes; what the dimmers add is the slots.
+         a dimmer it only mixes; what the same line takes in a show of one channel is left out. What the dimmers add is the slots.
 editing  An edit of each kind in a show of 2,000 cues that each move all of 2,048 channels. The new cue has no moves, and goes with the
-         next line.
+         next line. A new channel is one that no cue moved before: so it tracks on up to the next cue that got it, and cue only the cue
+         above gets a move of it.
 lists    A tick in fades of a minute, over 2,048 channels and 16 universes: by `render`, by `two` where the first list alone fades, and by
          `two` where both do; and a tick at rest. Without a dimmer it is the lists' own ticks and a mix; what the dimmers add is the slots.
 """
@@ -41,33 +42,44 @@ def line_time(program, show, lines, bad, job='render'):
 
 def lit_show(channels, dimmers):
     rows = ['PATCH 1 ' + ' '.join('%d<%d@FL' % (1 + (d - 1) % channels, d) for d in range(at, at + 64)) for at in range(1, dimmers + 1, 64)]
-    moves = ['CHAN ' + ' '.join('%d@50' % c for c in range(at, at + 64)) for at in range(1, channels + 1, 64)]
+    moves = ['CHAN ' + ' '.join('%d@50' % c for c in range(at, min(at + 64, channels + 1))) for at in range(1, channels + 1, 64)]
     return '\n'.join(['IDENT 3:0', 'SET CHANNELS %d' % channels] + rows + ['CUE 1', 'UP 0'] + moves + ['ENDDATA', 'go']) + '\n'
 
 
 def mixing(program, count):
     good = ['master at %d' % (i % 101) for i in range(count)]
     bad = ['mister at %d' % (i % 101) for i in range(count)]
+    rest = line_time(program, lit_show(1, 0), good, bad) * 1e9
     for channels, dimmers in ((512, 512), (2048, 8192)):
         mix = line_time(program, lit_show(channels, 0), good, bad) * 1e9
         both = line_time(program, lit_show(channels, dimmers), good, bad) * 1e9
-        print('%d channels mixed: %.0f ns of processor time; %d slots: %.0f ns' % (channels, mix, dimmers, both - mix))
+        print('%d channels mixed: %.0f ns of processor time; %d slots: %.0f ns' % (channels, mix - rest, dimmers, both - mix))
 
 
-def full_show():
+def full_show(lacking=0):
+    """Each cue moves all channels but the first so many."""
     text = ['IDENT 3:0', 'SET CHANNELS 2048']
     for n in range(1, 2000):
         text.append('CUE %d' % n)
-        text += ['CHAN ' + ' '.join('%d@%d' % (c + 1, (n * 7 + c * 11) % 101) for c in range(at, at + 128)) for at in range(0, 2048, 128)]
+        cells = ['%d@%d' % (c + 1, (n * 7 + c * 11) % 101) for c in range(lacking, 2048)]
+        text += ['CHAN ' + ' '.join(cells[at:at + 128]) for at in range(0, len(cells), 128)]
     return '\n'.join(text + ['ENDDATA']) + '\n'
 
 
 def editing(program, count):
-    show = full_show()
+    full, lacking = full_show(), full_show(60)
     cues = [1 + i * 37 % 1999 for i in range(count)]
     sets = ['set %d chan %d at %d' % (n, 1 + i * 13 % 2048, i % 101) for i, n in enumerate(cues)]
+    new = ['set %d chan %d at %d' % (n, 1 + i // 1999 % 60, i % 101) for i, n in enumerate(cues)]
+    nine = ['set %d chan %d thru %d at %d' % (n, 1 + i * 13 % 2040, 9 + i * 13 % 2040, i % 101) for i, n in enumerate(cues)]
+    times = ['time %d up %d' % (n, i % 50) for i, n in enumerate(cues)]
+    gone = ['release %d chan %d' % (n, 61 + i // 1999 * 13 % 1980) for i, n in enumerate(cues)]
     pairs = [('cue %d.5', 'delete %d.5')[i % 2] % cues[i // 2] for i in range(count)]
-    for name, lines in (('set', sets), ('set, cue only', [line + ' only' for line in sets]), ('cue and delete', pairs)):
+    for name, show, lines in (('set', full, sets), ('set, cue only', full, [line + ' only' for line in sets]),
+                              ('set of a new channel, which tracks on', lacking, new),
+                              ('set of a new channel, cue only', lacking, [line + ' only' for line in new]),
+                              ('set of nine channels', full, nine), ('time', full, times), ('release', full, gone),
+                              ('cue and delete', full, pairs)):
         took = line_time(program, show, lines, ['sat 1 chan 1 at 1'] * count)
         print('%s: %.1f microseconds of processor time a line' % (name, took * 1e6))
 
