@@ -3,10 +3,10 @@
 
     tests.py [CRATE..] [--jobs N]
 
-Each folder of `.ci/tests` is a crate's. In a copy of the crates its files NAME.rattle stand as src/NAME.rt of that crate, each as a
-module of tests, and `rt try --test` runs them. A folder CRATE.memory is run beside the crate's own, with one allocation of each test
-refused. Prints a line for each folder, what was said where a test failed, and last 'N passed, M failed'; fails where a test failed, or
-where those of a folder didn't run.
+Each folder of `.ci/tests` is a crate's. A crate of tests stands on a copy of the crates; each file NAME.rattle is a module of it, and
+`rt try --test` runs them all, so that most of the code is compiled once. What a file names of its own crate, as `crate::Show`, is
+public there. A folder CRATE.memory is run beside the crate's own, with one allocation of each test refused. Prints what was said where a
+test failed, a line for each run, and last 'N passed, M failed'; fails where a test failed, or where those of a folder didn't run.
 """
 import argparse
 import concurrent.futures
@@ -22,43 +22,62 @@ TOP = os.path.dirname(os.path.dirname(os.path.abspath(__file__)))
 TESTS = os.path.join(TOP, ".ci", "tests")
 SECONDS = 300
 # What tests need beyond what their crate stands on.
-ALSO = {"lx_workers": "lx_show"}
+ALSO = {"lx_workers": ["lx_show"]}
+# The crate that the tests stand in.
+TRIED = "lx_tried"
 # The test of a folder CRATE.memory that says how many allocations are left after its preparation, where the one of the number LATE is
 # refused; and how many come between the preparation and the one that is refused then (`PADS` of those tests).
 PROBE, LATE, PADS = "preparation_is_over", 50_000, 20
 
 
-def copied(copy, folder):
-    """The crates' sources and definitions, with the folder's tests in their places. Answers the crate's folder."""
-    crate = folder.split(".")[0]
+def modules(text):
+    """The names of the modules of a root file."""
+    return re.findall(r"^mod (\w+);$", text, re.MULTILINE)
+
+
+def copied(copy, folders):
+    """The crates' sources and definitions, and a crate of the folders' tests, whose folder is answered."""
     shutil.copy(os.path.join(TOP, "HANDLES"), copy)
-    with open(os.path.join(TOP, "crates.txt")) as listed, open(os.path.join(copy, "crates.txt"), "w") as out:
+    stands_on = {}
+    with open(os.path.join(TOP, "crates.txt")) as listed:
         for line in listed:
-            name = line.split(":")[0]
-            out.write(line.replace(":", f": {ALSO[name]}", 1) if name in ALSO else line)
-    for each in os.listdir(os.path.join(TOP, "crates")):
+            if not line.startswith("#"):
+                name, below = line.split(":")
+                stands_on[name] = [name, *below.split()]
+    tested = dict.fromkeys(folder.split(".")[0] for folder in folders)
+    needed = dict.fromkeys(it for crate in tested for it in [*stands_on[crate], *ALSO.get(crate, [])])
+    with open(os.path.join(copy, "crates.txt"), "w") as out:
+        for name, below in stands_on.items():
+            out.write(f"{name}: {' '.join(below[1:])}\n")
+        out.write(f"{TRIED}: {' '.join(needed)}\n")
+    for each in stands_on:
         for part in ("src", "specs"):
             if os.path.isdir(os.path.join(TOP, "crates", each, part)):
                 shutil.copytree(os.path.join(TOP, "crates", each, part), os.path.join(copy, "crates", each, part))
-    for tests in dict.fromkeys((crate, folder)):
-        placed(os.path.join(copy, "crates", crate, "src"), os.path.join(TESTS, tests))
-    return os.path.join(copy, "crates", crate)
+    source = os.path.join(copy, "crates", TRIED, "src")
+    os.makedirs(source)
+    with open(os.path.join(source, "lib.rt"), "w") as root:
+        root.write("//! The tests.\n\n#![tactic(auto)]\n\n")
+        for crate in tested:
+            root.write(f"#[cfg(test)]\nmod of_{crate};\n")
+    for crate in tested:
+        placed(source, crate, [folder for folder in (crate, *folders) if folder.split(".")[0] == crate])
+    return os.path.dirname(source)
 
 
-def placed(source, tests):
-    """Each file of tests stands in the crate's source, and its root names each."""
-    root = next(root for root in (os.path.join(source, name) for name in ("lib.rt", "main.rt")) if os.path.exists(root))
-    with open(root) as file:
-        text = file.read()
-    for name in sorted(os.listdir(tests)):
-        module = name.removesuffix(".rattle")
-        if f"\nmod {module};" in text and f"#[cfg(test)]\nmod {module};" not in text:
-            sys.exit(f"{name} would take the place of a module of {root}")
-        shutil.copy(os.path.join(tests, name), os.path.join(source, f"{module}.rt"))
-        if f"\nmod {module};" not in text:
-            text += f"\n#[cfg(test)]\nmod {module};\n"
-    with open(root, "w") as file:
-        file.write(text)
+def placed(source, crate, folders):
+    """Each file of the crate's tests stands as a module of one module; what it names of its own crate is named from outside."""
+    files = {name.removesuffix(".rattle"): os.path.join(TESTS, folder, name) for folder in folders for name in sorted(os.listdir(os.path.join(TESTS, folder)))}
+    os.makedirs(os.path.join(source, f"of_{crate}"))
+    with open(os.path.join(source, f"of_{crate}.rt"), "w") as out:
+        out.write(f"//! The tests of {crate}.\n\n" + "".join(f"mod {name};\n" for name in files))
+    for name, path in files.items():
+        with open(path) as file:
+            text = file.read()
+        inner = lambda found: f"crate::of_{crate}::{found[1]}" if found[1] in files else f"{crate}::{found[1]}"
+        text = re.sub(r"\bcrate::(\w+|\{|\*)", inner, text)
+        with open(os.path.join(source, f"of_{crate}", f"{name}.rt"), "w") as out:
+            out.write(text)
 
 
 def run_tests(crate, *words):
@@ -78,19 +97,31 @@ def run_in_want(crate):
     return {name: end for name, end in ends.items() if PROBE not in name}, said
 
 
-def tried(folder):
-    """How many of the folder's tests passed and failed."""
+def tried(folders):
+    """How many of the folders' tests passed and failed."""
     begin = time.monotonic()
     with tempfile.TemporaryDirectory() as copy:
-        crate = copied(copy, folder)
-        ends, said = run_in_want(crate) if folder.endswith(".memory") else run_tests(crate)
+        crate = copied(copy, folders)
+        ends, said = run_in_want(crate) if folders[0].endswith(".memory") else run_tests(crate)
     passed = sum(end == "ok" for end in ends.values())
     failed = len(ends) - passed
-    if failed or not passed:
+    silent = [it for it in folders if not any(name.startswith(f"of_{it.split('.')[0]}::") for name in ends)]
+    if failed or silent:
         failed = max(failed, 1)
         print(said)
-    print(f"{folder}: {passed} passed, {failed} failed, {time.monotonic() - begin:.0f} s", flush=True)
+    for it in silent:
+        print(f"{it}: its tests didn't run")
+    print(f"{' '.join(folders)}: {passed} passed, {failed} failed, {time.monotonic() - begin:.0f} s", flush=True)
     return passed, failed
+
+
+def runs_of(folders):
+    """The folders, by the runs that try them: those of crates that stand on the console, the others, and each that wants for memory."""
+    with open(os.path.join(TOP, "crates.txt")) as listed:
+        high = {line.split(":")[0] for line in listed if "lx_console" in line or "lx_desk" in line}
+    plain = [it for it in folders if not it.endswith(".memory")]
+    runs = [[it for it in plain if it in high], [it for it in plain if it not in high]]
+    return [run for run in runs if run] + [[it] for it in folders if it.endswith(".memory")]
 
 
 def main():
@@ -99,7 +130,7 @@ def main():
     parser.add_argument("--jobs", type=int, default=os.cpu_count() or 1)
     given = parser.parse_args()
     with concurrent.futures.ThreadPoolExecutor(given.jobs) as pool:
-        counts = list(pool.map(tried, given.crates or sorted(os.listdir(TESTS))))
+        counts = list(pool.map(tried, runs_of(given.crates or sorted(os.listdir(TESTS)))))
     passed, failed = (sum(count) for count in zip(*counts))
     print(f"{passed} passed, {failed} failed")
     return 1 if failed or not passed else 0
