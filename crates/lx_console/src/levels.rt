@@ -77,13 +77,17 @@ pub(crate) fn recompute_touched(
     requires others { (k : ℕ) → k < show.now.channels → has_chan chans.now (k + 1) ≡ false → StandsAt show.now playback.now levels.old k }
     ensures { LevelsStandFor show.now playback.now levels.new }
 {
-    if *chans == ChanSet::empty() {
-        return;
-    }
-    for k in 0..show.channels() as usize {
-        let c = channel_at(k);
-        if chans.contains(c) {
-            levels.recompute(show, sheet, playback, c);
+    let count = show.channels() as usize;
+    let mut k = 0;
+    while k < count {
+        if chans.is_clear_from(k as u32 + 1) {
+            k += 64;
+        } else {
+            let c = channel_at(k);
+            if chans.contains(c) {
+                levels.recompute(show, sheet, playback, c);
+            }
+            k += 1;
         }
     }
 }

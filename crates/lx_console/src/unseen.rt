@@ -60,11 +60,18 @@ fn undecided(show: &Show, near: &[Cue], first: CueNo, chans: &ChanSet) -> ChanSe
     ensures { (c : ℕ) → InRange show.now.channels c → has_chan result c ≡ false
         → (has_chan chans.now c ≡ false) ⊎ (decided_by near.now first c) }
 {
+    let count = show.channels() as usize;
     let mut left = ChanSet::empty();
-    for k in 0..show.channels() as usize {
-        let c = channel_at(k);
-        if chans.contains(c) && !is_decided(near, first, c) {
-            left.insert(c);
+    let mut k = 0;
+    while k < count {
+        if chans.is_clear_from(k as u32 + 1) {
+            k += 64;
+        } else {
+            let c = channel_at(k);
+            if chans.contains(c) && !is_decided(near, first, c) {
+                left.insert(c);
+            }
+            k += 1;
         }
     }
     left

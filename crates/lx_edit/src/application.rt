@@ -1,9 +1,9 @@
 //! A plan applied: the show becomes the edited one, the sheet follows, and the plan that takes it back is made of
 //! what was replaced. No call takes memory.
 
-ghost use Rattle.std.specs.Prelude.{◌≡◌, ◌≢◌, ◌<◌, ◌≤◌, ℕ, false, None, IfSome};
+ghost use Rattle.std.specs.Prelude.{◌≡◌, ◌≢◌, ◌<◌, ◌≤◌, ℕ, false, None, IfSome, find, option_map};
 ghost use Rattle.lx_spec.specs.Show.{ValidGroup, ValidSub};
-ghost use Rattle.lx_spec.specs.TrackedLevel.{cue_of, tracked};
+ghost use Rattle.lx_spec.specs.TrackedLevel.{cue_of, decides, tracked};
 ghost use Rattle.lx_spec.specs.EditedShow.{with_cue, without_cue};
 ghost use Rattle.lx_sheet.specs.Rows.{level_of, numbers_of};
 ghost use Rattle.lx_sheet.specs.Standing.{RowsStandFor, StandsIn, cue_numbers};
@@ -481,8 +481,19 @@ fn column_end(to: &Option<CueNo>, show: &Show, n: CueNo, c: Chan) -> Option<CueN
 fn next_decision(show: &Show, n: CueNo, c: Chan) -> Option<CueNo>
     ensures { result ≡ next_decision show.now n c }
 {
-    let cue = above(show.cues(), n.get())
-        .iter()
-        .find(|cue| cue.decides(c))?;
-    Some(cue.number)
+    first_decision(above(show.cues(), n.get()), c)
+}
+
+/// The first of the cues that decides the channel. Its move is looked for where it stood or would go in the cue before.
+fn first_decision(cues: &[Cue], c: Chan) -> Option<CueNo>
+    ensures { result ≡ option_map (λ cue. cue.number) (find (λ cue. decides cue c) cues.now) }
+{
+    let mut near = 0;
+    for at in 0..cues.len() {
+        let cue = &cues[at];
+        if cue.decides_near(c, &mut near) {
+            return Some(cue.number);
+        }
+    }
+    None
 }

@@ -55,7 +55,7 @@ impl ChanSet {
     }
 
     /// The 64 channels from the number on share a word, and none of them is in the set.
-    pub(crate) fn is_clear_from(&self, k: u32) -> bool
+    pub fn is_clear_from(&self, k: u32) -> bool
         requires least { 1 ≤ k }
         requires most { k ≤ CHANNELS }
         ensures { result ≡ true → (x : ℕ) → k ≤ x → x < k + 64 → has_chan self.now x ≡ false }

@@ -1,5 +1,5 @@
 -- A run that is added to levels which stood for the playback before it.
-use Rattle.std.specs.Prelude.{◌≡◌, ℕ, ◌+◌, ◌-◌, ◌*◌, ◌/◌, ◌<◌, ◌≤◌, nat_lt, nat_le, Bool, true, false, cond, Some, List, [], ◌∷◌, length}
+use Rattle.std.specs.Prelude.{◌≡◌, ℕ, zero, suc, ◌+◌, ◌-◌, ◌*◌, ◌/◌, ◌<◌, ◌≤◌, nat_lt, nat_le, Bool, true, false, cond, Some, List, [], ◌∷◌, length}
 use Rattle.std.specs.Prelude.{reverse, refl}
 use Rattle.std.proofs.lemmas.List.{get_or-reverse, length-reverse}
 use Rattle.std.proofs.Common.{arith, get_or, ◌∙◌, ap, sym, subst, inl, inr}
@@ -147,6 +147,25 @@ still_added show p last older k v kept is starts within target still added = one
         ]));
     few = omega (arith, old.few, live_count p last older is);
   }
+
+-- and so do many in a row
+pub still_up_to : (show : Show) (p : Playback) (last : Run) (older : List Run) (k n : ℕ) (v : ℕ → ℕ) (kept : Kept)
+    → p.live ≡ last ∷ older → last.start ≡ p.moment → k + n ≤ show.channels
+    → ((i : ℕ) → k ≤ i → i < k + n → tracked show last.cue (i + 1) ≡ v i)
+    → ((i : ℕ) → k ≤ i → i < k + n → IsStill p.moment (stack_of kept i) (v i))
+    → IsAdded show p older k kept → IsAdded show p older (k + n) kept
+still_up_to show p last older k zero v kept is starts within targets still added = subst (λ i. IsAdded show p older i kept) here added
+  where
+    here : k ≡ k + zero
+    here = omega arith
+still_up_to show p last older k (suc n) v kept is starts within targets still added = subst (λ i. IsAdded show p older i kept) next
+    (still_added show p last older (k + n) (v (k + n)) kept is starts (omega (arith, within)) (targets (k + n) (omega arith) (omega arith))
+    (still (k + n) (omega arith) (omega arith))
+    (still_up_to show p last older k n v kept is starts (omega (arith, within)) (λ i from below. targets i from (omega (arith, below)))
+    (λ i from below. still i from (omega (arith, below))) added))
+  where
+    next : k + n + 1 ≡ k + suc n
+    next = omega arith
 
 Given : (show : Show) (before after : Kept) (from place c : ℕ) (run : Run) → Type 0
 Given show before after from place c run =

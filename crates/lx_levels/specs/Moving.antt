@@ -17,6 +17,11 @@ pub record Governs (m : ℕ) (stack : Stack) (current : Current) : Type 0 where
 abbrev pub IsStill : ℕ → Stack → ℕ → Type 0
 IsStill m stack level = (x : ℕ) → m ≤ x → level_in stack x ≡ level
 
+-- at the places from one up to another the levels are those of a row, and are held for ever
+abbrev pub AreAt : List ℕ → List ℕ → List ℕ → ℕ → ℕ → Type 0
+AreAt levels holds row from to =
+    (i : ℕ) → from ≤ i → i < to → (slice_index levels i ≡ slice_index row i) × (slice_index holds i ≡ NEVER)
+
 -- until another moment it does, or for ever where that is NEVER
 abbrev pub StaysUntil : ℕ → Stack → ℕ → ℕ → Type 0
 StaysUntil m stack level until = (x : ℕ) → m ≤ x → (x < until) ⊎ (until ≡ NEVER) → level_in stack x ≡ level

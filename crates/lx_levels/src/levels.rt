@@ -3,7 +3,7 @@
 ghost use Rattle.std.specs.Prelude.{◌≡◌, ◌≢◌, ℕ, ◌+◌, ◌-◌, ◌<◌, ◌≤◌, [], ◌∷◌, true, false, List, length, slice_index, slice_set, IfOk};
 ghost use Rattle.std.specs.Prelude.{IfSome};
 ghost use Rattle.std.specs.Option.{option_copied, option_map_or};
-ghost use Rattle.lx_base.specs.declared.TheConstants.{RUNS, CHANNELS, TICK_END};
+ghost use Rattle.lx_base.specs.declared.TheConstants.{RUNS, CHANNELS, LANES, TICK_END};
 ghost use Rattle.lx_spec.specs.Show.{Show as ShowData};
 ghost use Rattle.lx_spec.specs.TrackedLevel.{tracked};
 ghost use Rattle.lx_spec.specs.Run.{Run as RunData};
@@ -13,7 +13,7 @@ ghost use Rattle.lx_sheet.specs.Standing.{RowsStandFor};
 ghost use Rattle.lx_mixer.specs.Table.{IsTable};
 ghost use Rattle.lx_playback.specs.Valid.{ValidRun};
 ghost use Rattle.lx_levels.specs.Stacks.{level_in, level_at, stack_of};
-ghost use Rattle.lx_levels.specs.Moving.{IsStill};
+ghost use Rattle.lx_levels.specs.Moving.{AreAt, IsStill};
 ghost use Rattle.lx_levels.specs.Standing.{LevelsStandFor, StandsAt, StandsBefore, IsElsewhere};
 
 use crate::channel::{fill_stack, push_run};
@@ -23,7 +23,7 @@ use crate::motion::{advance, refresh};
 use crate::racks::Racks;
 use crate::replay::Act;
 use crate::stack::Stack;
-use lx_base::{CHANNELS, Chan, CueNo, Level, Moment, RUNS};
+use lx_base::{CHANNELS, Chan, CueNo, LANES, Level, Moment, RUNS};
 use lx_fade::NEVER;
 use lx_playback::{Playback, Run};
 use lx_sheet::Sheet;
@@ -110,15 +110,20 @@ impl Levels {
         let from = sheet.look_at(before_last(playback));
         let to = sheet.look_at(run.cue);
         let mut hint = NO_HINT;
-        for k in 0..show.channels() as usize {
-            let target = level_on(to, k);
-            if self.stays_at(k, target) {
+        let channels = show.channels() as usize;
+        let mut k = 0;
+        while k < channels {
+            let end = self.still_end(k, to);
+            if end > k {
+                k = end;
                 continue;
             }
+            let target = level_on(to, k);
             let c = channel_at(k);
             if acts(show, run, c, level_on(from, k), target, &mut hint) {
                 self.add_run(show, run, c, target);
             }
+            k += 1;
         }
     }
 
@@ -203,6 +208,43 @@ impl Levels {
         self.levels[k] == level && self.holds[k] == NEVER
     }
 
+    /// The place up to which the channels from this one on are at their level of the look for ever. As many as stand in lanes are
+    /// passed over at once.
+    #[inline(always)]
+    fn still_end(&self, k: usize, look: Option<&[Level]>) -> usize
+        requires within { k < length self.now.stacks }
+        requires reach { IfSome look (λ row. length row.now ≡ length self.now.stacks) }
+        ensures from { k ≤ result }
+        ensures most { result ≤ length self.now.stacks }
+        ensures still { (i : ℕ) → k ≤ i → i < result
+            → IsStill self.now.moment (stack_of self.now i) (option_map_or (λ row. slice_index row.now i) look.entry 0) }
+    {
+        // How many channels there are is a fact for proofs.
+        let _ = self.levels.len();
+        if k % LANES == 0 && self.block_stays(k, look) {
+            k + LANES
+        } else if self.stays_at(k, level_on(look, k)) {
+            k + 1
+        } else {
+            k
+        }
+    }
+
+    /// The channels of a whole block of lanes are at their level of the look for ever.
+    #[inline(always)]
+    fn block_stays(&self, at: usize, look: Option<&[Level]>) -> bool
+        requires within { at < length self.now.stacks }
+        requires reach { IfSome look (λ row. length row.now ≡ length self.now.stacks) }
+        ensures whole { result ≡ true → at + LANES ≤ length self.now.stacks }
+        ensures still { result ≡ true → (i : ℕ) → at ≤ i → i < at + LANES
+            → IsStill self.now.moment (stack_of self.now i) (option_map_or (λ row. slice_index row.now i) look.entry 0) }
+    {
+        match look {
+            Some(row) if at + LANES <= row.len() => block_is_at(&self.levels, &self.holds, row, at),
+            _ => false,
+        }
+    }
+
     /// The fade of the run on the channel, on which it acts.
     fn add_run(&mut self, show: &Show, run: &Run, c: Chan, target: Level)
         requires within { c ≤ length self.old.stacks }
@@ -243,6 +285,21 @@ impl Levels {
             &mut self.due,
         );
     }
+}
+
+/// The levels of a block of lanes are those of a row, and are held for ever. It is no loop that ends early, so that the compiler makes
+/// lanes of it.
+fn block_is_at(levels: &[Level], holds: &[Moment], row: &[Level], at: usize) -> bool
+    requires levels { at + LANES ≤ length levels.now }
+    requires holds { at + LANES ≤ length holds.now }
+    requires row { at + LANES ≤ length row.now }
+    ensures same { result ≡ true → AreAt levels.now holds.now row.now at (at + LANES) }
+{
+    let mut same = true;
+    for i in at..at + LANES {
+        same = same & (levels[i] == row[i]) & (holds[i] == NEVER);
+    }
+    same
 }
 
 /// The level at a place of a look: 0 where there is none.

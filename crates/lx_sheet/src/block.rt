@@ -219,8 +219,9 @@ pub(crate) fn fill_column(
 {
     let at = chan.get() as usize - 1;
     let mut level = level_before(levels, channels, order, from, at);
+    let mut near = 0;
     for place in from..to {
-        level = level_on(&cues[place], chan, level);
+        level = level_on(&cues[place], chan, level, &mut near);
         levels[own_row(order, place) * channels + at] = level;
     }
 }
@@ -258,11 +259,11 @@ pub(crate) fn own_row(order: &[Place], place: usize) -> usize
     order[place].row
 }
 
-/// The channel's level in the cue, from the one before.
-fn level_on(cue: &Cue, chan: Chan, before: Level) -> Level
+/// The channel's level in the cue, from the one before. Where its move stood there, or would go, is kept in `near`.
+fn level_on(cue: &Cue, chan: Chan, before: Level, near: &mut usize) -> Level
     ensures { result ≡ tracked_on cue.now chan before }
 {
-    if cue.decides(chan) {
+    if cue.decides_near(chan, near) {
         cue.level_of(chan)
     } else {
         before

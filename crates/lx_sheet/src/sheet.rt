@@ -12,7 +12,7 @@ ghost use Rattle.lx_sheet.specs.Standing.{RowsStandFor};
 
 use crate::block::{level_before, own_row};
 use crate::pool::list_free;
-use lx_base::{CUES, Chan, CueNo, Level};
+use lx_base::{CUE_UNIT, CUES, Chan, CueNo, Level};
 use lx_show::Show;
 use lx_show::sorted::{Keyed, index_of};
 use std::alloc::{AllocError, Global};
@@ -30,6 +30,10 @@ impl Keyed for Place {
 
     fn key(&self) -> u32 {
         self.cue.get()
+    }
+
+    fn step(&self) -> u32 {
+        CUE_UNIT
     }
 }
 

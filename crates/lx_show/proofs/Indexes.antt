@@ -78,6 +78,16 @@ goes_here key n xs at x y sorted some within before low here high =
           ap key (get_or_default xs at d y within ∙ sym here) in omega (arith, le, same, high)),
     ) (λ z lt is same. let at_key = ap key (is ∙ get_or_default xs at z y within ∙ sym here) in omega (arith, at_key, same, high))
 
+-- a number below that of the first entry goes to the front
+pub goes_first : {A : Type 0} (key : A → ℕ) (n : ℕ) (xs : List A) (x : A) → IsStrictlySorted key xs → 0 < length xs → x ≡ get_or xs 0 x
+    → n < key x → GoesAt key n xs 0
+goes_first key n xs x sorted some here high =
+    goes_at key n xs 0 sorted (omega arith) (
+      λ k d from to. absurd (omega arith),
+      λ k d from to. lt_false _ n (let le = in_order key xs sorted 0 k d (omega arith) (omega arith) in let same =
+          ap key (get_or_default xs 0 d x some ∙ sym here) in omega (arith, le, same, high)),
+    ) (λ z lt is same. let at_key = ap key (is ∙ get_or_default xs 0 z x some ∙ sym here) in omega (arith, at_key, same, high))
+
 -- a number above that of the last entry goes to the end
 pub goes_last : {A : Type 0} (key : A → ℕ) (n : ℕ) (xs : List A) (x : A) → IsStrictlySorted key xs → 0 < length xs
     → x ≡ get_or xs (length xs - 1) x → key x < n → GoesAt key n xs (length xs)

@@ -1,7 +1,13 @@
-use Rattle.std.proofs.Common.{◌≡◌, ◌∷◌, List}
+use Rattle.std.proofs.Common.{◌≡◌, ◌≤◌, ◌-◌, ◌∷◌, List}
 use Rattle.lx_spec.specs.Run.{Run}
 use Rattle.lx_levels.specs.Standing.{IsAdded}
 use Rattle.lx_levels.proofs.levels.Levels.run_added.Given as goal
 
 abbrev pub invariant-loop-k : goal.invariant-loop-k
-invariant-loop-k l = (last : Run) (older : List Run) → l.playback.live ≡ last ∷ older → IsAdded l.show l.playback older l.k l.self
+invariant-loop-k l = record {
+  within : l.k ≤ l.channels;
+  added : (last : Run) (older : List Run) → l.playback.live ≡ last ∷ older → IsAdded l.show l.playback older l.k l.self;
+}
+
+abbrev pub decreases-loop-k : goal.decreases-loop-k
+decreases-loop-k l = l.channels - l.k
