@@ -3,7 +3,7 @@
 ghost use Rattle.std.specs.Prelude.{◌≡◌, ◌≤◌, ℕ, length};
 ghost use Rattle.std.specs.List.{All};
 ghost use Rattle.std.specs.Option.{option_map_or};
-ghost use Rattle.lx_spec.specs.SortedList.{entry_at};
+ghost use Rattle.lx_spec.specs.SortedList.{IsStrictlySorted, entry_at};
 ghost use Rattle.lx_spec.specs.Show.{ValidCue};
 ghost use Rattle.lx_sheet.specs.Block.{level_in_look};
 ghost use Rattle.lx_sheet.specs.After.{tracked_on};
@@ -25,11 +25,12 @@ pub(crate) fn track(look: &mut [Level], cue: &Cue)
 
 /// Each move sets its channel's level.
 fn place_moves(look: &mut [Level], moves: &[Move])
-    requires { All (λ m. m.chan ≤ length look.old) moves.now }
+    requires within { All (λ m. m.chan ≤ length look.old) moves.now }
+    requires sorted { IsStrictlySorted (λ m. m.chan) moves.now }
     ensures { (c : ℕ) → level_in_look look.new c
         ≡ option_map_or (λ m. m.level) (entry_at (λ m. m.chan) c moves.now) (level_in_look look.old c) }
 {
-    for i in (0..moves.len()).rev() {
+    for i in 0..moves.len() {
         let entry = moves[i];
         look[entry.chan.get() as usize - 1] = entry.level;
     }

@@ -7,6 +7,6 @@ pub loop-i-preserved : goal.loop-i-preserved
 loop-i-preserved c =
     let most : c.index-moves-i.result.chan ≤ length c.args.look.now =
     subst (λ (m : Move). m.chan ≤ length c.args.look.now) (sym c.index-moves-i.is)
-    (c.requires (c.loop-i.i - 1) c.index-moves-i.result (omega arith)) in
-    move_placed c.args.moves.now c.loop-i.look c.args.look.now c.loop-i.i c.get.result c.index-moves-i.result c.loop-i-test.true
-    c.loop-i.auto.i c.index-moves-i.is c.get.ensures.value c.get.ensures.least (omega (arith, most)) c.loop-i.invariant
+    (c.requires.within c.loop-i.i c.index-moves-i.result (omega arith)) in
+    move_placed c.args.moves.now c.loop-i.look c.args.look.now c.loop-i.i c.get.result c.index-moves-i.result c.requires.sorted (omega arith)
+    c.index-moves-i.is c.get.ensures.value c.get.ensures.least (omega (arith, most)) c.loop-i.invariant
