@@ -72,7 +72,8 @@ fn lone_word(line: &[u8]) -> Option<Brief>
     }
 }
 
-/// What a line of any length is.
+/// What a line of any length is. It stands apart, so that a lone word doesn't pay for the room of its tokens.
+#[inline(never)]
 #[tactic(auto, using(crate::proofs::FirstWords::meaning_is))]
 fn any_line(line: &[u8]) -> Reading
     ensures { IsReadAs result (meaning line.now (tokens line.now)) }

@@ -112,7 +112,8 @@ fn pass_ticks<L: Listener>(listener: &L, turn: &mut Turn, console: &mut Console)
 }
 
 /// Attempts a command that the listener is asked to admit, and hears of where it is accepted. It says the refusal, if it is
-/// refused.
+/// refused. It stands apart, with the room of an edit's plan.
+#[inline(never)]
 fn attempt_one<L: Listener>(
     listener: &mut L,
     command: &Command,
