@@ -1,6 +1,6 @@
 //! What a script line means that is no edit, by value.
 
-ghost use Rattle.std.specs.Prelude.{◌≡◌, option_map};
+ghost use Rattle.std.specs.Prelude.{◌≡◌, IfSome, Some, option_map};
 ghost use Rattle.lx_spec.specs.Text.{tokens};
 ghost use Rattle.lx_spec.specs.Script.{line_of, meaning};
 ghost use Rattle.lx_lex.specs.Left.{left};
@@ -48,13 +48,32 @@ pub enum Reading {
 pub fn read_brief(line: &[u8]) -> Reading
     ensures { IsReadAs result (line_of line.now) }
 {
+    if let Some(brief) = lone_word(line) {
+        return Reading::Brief(brief);
+    }
     if line.len() > LINE_BYTES {
         return Reading::Bad;
     }
     any_line(line)
 }
 
-/// What a line of any length is.
+/// What a line means that is one of these words in small letters and nothing else, as most lines of one word are. Of any
+/// other line it says nothing.
+#[inline(always)]
+fn lone_word(line: &[u8]) -> Option<Brief>
+    ensures { IfSome result (λ brief. line_of line.now ≡ Some (brief_line brief)) }
+{
+    match line {
+        [b'g', b'o'] => Some(Brief::Key(Key::Play(PlayKey::Go))),
+        [b'b', b'a', b'c', b'k'] => Some(Brief::Key(Key::Play(PlayKey::Back))),
+        [b't', b'i', b'c', b'k'] => Some(Brief::Ticks(1)),
+        [b'f', b'r', b'a', b'm', b'e'] => Some(Brief::Frame(1)),
+        _ => None,
+    }
+}
+
+/// What a line of any length is. It stands apart, so that a lone word doesn't pay for the room of its tokens.
+#[inline(never)]
 #[tactic(auto, using(crate::proofs::FirstWords::meaning_is))]
 fn any_line(line: &[u8]) -> Reading
     ensures { IsReadAs result (meaning line.now (tokens line.now)) }

@@ -25,6 +25,7 @@ pub enum Reply {
 
 /// Appends the line of a reply: `ok`, `bad`, or `refused` and the refusal's name and numbers. A fault is the sink's
 /// own, and then a prefix of the line was appended.
+#[inline(always)]
 pub fn put_reply<K: Sink>(reply: &Reply, sink: &mut K) -> Result<(), SinkFault>
     ensures { Puts K.holds K.faults K.wants sink.old sink.new result (reply_text reply.now) }
 {

@@ -1,11 +1,11 @@
 -- What the console's answer to a command comes to.
-use Rattle.std.proofs.Common.{◌≡◌, Bool, true, Option, Result, Ok, Err, OnErr, sym, subst}
+use Rattle.std.proofs.Common.{◌≡◌, Bool, true, Option, Result, Ok, Err, OnErr, inl, sym, subst}
 use Rattle.std.specs.Result.{result_err}
 use Rattle.lx_spec.specs.declared.Command.{Command}
 use Rattle.lx_spec.specs.declared.Refusal.{Refusal}
 use Rattle.lx_spec.specs.Desk.{Desk}
 use Rattle.lx_spec.specs.Kept.{Kept}
-use Rattle.lx_console.specs.Standing.{StandsFor, Answers}
+use Rattle.lx_console.specs.Standing.{StandsFor, Answers, Obeys}
 use Rattle.lx_session.specs.Attempts.{Attempted}
 
 answered_at : (d : Desk) (c : Command) (r : Result (Unit {0}) Refusal) (before after : Kept) → Answers d c r after → StandsFor d before
@@ -19,3 +19,8 @@ pub answered : (admitted : Bool) (d : Desk) (c : Command) (r : Result (Unit {0})
 answered admitted d c r o before after all a stands same is =
     subst (λ b. Attempted b d c o after) (sym all)
     (subst (λ v. Attempted true d c v after) (sym is) (answered_at d c r before after a stands same))
+
+-- a refusal of the desk's own is one of those that a console may answer
+pub obeyed : (d : Desk) (c : Command) (r : Result (Unit {0}) Refusal) (after : Kept) → Obeys d c r after → Answers d c r after
+obeyed d c (Ok u) after o = record { ok = o.ok; err = tt }
+obeyed d c (Err refusal) after o = record { ok = tt; err = inl o.err }

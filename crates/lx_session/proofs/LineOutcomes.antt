@@ -1,5 +1,5 @@
 -- What taking a line comes to, from its parts.
-use Rattle.std.proofs.Common.{◌≡◌, inl, inr, ℕ, ◌≤◌, Bool, true, false, Option, Some, None, Result, Ok, Err, IsErr}
+use Rattle.std.proofs.Common.{◌≡◌, inl, inr, ℕ, Bool, true, false, Option, Some, None, Result, Ok, Err, IsErr}
 use Rattle.std.proofs.Common.{IfSome, List, [], ◌∷◌, ◌++◌, ap, ◌∙◌, subst, sym, take}
 use Rattle.std.specs.Result.{IsErrAnd}
 use Rattle.std.specs.Io.KnownBytes.{Keeps, Appends, IsAtEnd}

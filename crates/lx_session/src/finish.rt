@@ -115,7 +115,8 @@ pub(crate) fn reply_of(refusal: Option<Refusal>) -> Reply
     }
 }
 
-/// Appends a reply, and counts it.
+/// Appends a reply, and counts it. A caller that knows the kind of the reply pays for that kind alone.
+#[inline(always)]
 pub(crate) fn give<K: Sink>(
     reply: Reply,
     sink: &mut K,

@@ -5,6 +5,7 @@ mod answers;
 mod beside;
 mod fault;
 mod finish;
+mod key;
 mod line;
 mod listener;
 mod meaning;

@@ -13,7 +13,8 @@ ghost use Rattle.lx_session.specs.LineProgress.{HasPassed, LineProgress};
 ghost use Rattle.lx_session.specs.LineReply.{HasRoom, HasOneMore};
 ghost use Rattle.lx_session.specs.LineAnswer.{LineAnswer, FromDesk};
 
-use crate::finish::{give, reply_of};
+use crate::finish::give;
+use crate::key::answer_key;
 use crate::listener::Listener;
 use crate::meaning::reading_of;
 use crate::tally::Tally;
@@ -21,7 +22,7 @@ use crate::turn::{Turn, try_command};
 use lx_console::Console;
 use lx_io::{Sink, SinkFault};
 use lx_script::{Brief, Reading, Reply};
-use lx_spec::{Command, Key, Line, Refusal};
+use lx_spec::{Command, Line, Refusal};
 
 /// Does what a line asks for, then appends its replies and counts them. None stands for a line that is too
 /// long, which is bad. It answers false exactly for `quit`.
@@ -47,31 +48,9 @@ pub fn answer<L: Listener, K: Sink>(
 {
     match reading_of(line) {
         Reading::Bad => give(Reply::Bad, sink, tally),
-        Reading::Brief(Brief::Key(key)) => answer_key(listener, console, key, sink, tally),
+        Reading::Brief(Brief::Key(key)) => answer_key(listener, console, &key, sink, tally),
         reading => answer_read(listener, console, line, &reading, sink, tally),
     }
-}
-
-/// As `answer`, of a line that presses a key or moves a fader: no turn is made for it, since it has one command, by value.
-fn answer_key<L: Listener, K: Sink>(
-    listener: &mut L,
-    console: &mut Console,
-    key: Key,
-    sink: &mut K,
-    tally: &mut Tally,
-) -> Result<bool, SinkFault>
-    requires room { HasRoom tally.old }
-    requires keeps { L.keeps listener.old console.old }
-    ensures keeps { L.keeps listener.new console.new }
-    ensures answered { FromDesk console.old tally.old
-        (λ s. LineAnswer L.admits_all (L.heard listener.old listener.new) K.holds K.faults K.wants sink.old sink.new result s
-        (Some (Line.Command (Command.Key key))) console.new tally.new) }
-    ensures goes_on { IfOk result (λ more. more ≡ true) }
-    ensures cause { HasSinkCause K.faults K.wants sink.old sink.new result }
-    ensures more { HasOneMore tally.old tally.new }
-{
-    let refusal = attempt_one(listener, &Command::Key(key), console);
-    give(reply_of(refusal), sink, tally)
 }
 
 /// As `answer`, of a line that was read so far. It stands apart, so that keys and bad lines don't pay for the room of its turn.
@@ -133,7 +112,8 @@ fn pass_ticks<L: Listener>(listener: &L, turn: &mut Turn, console: &mut Console)
 }
 
 /// Attempts a command that the listener is asked to admit, and hears of where it is accepted. It says the refusal, if it is
-/// refused.
+/// refused. It stands apart, with the room of an edit's plan.
+#[inline(never)]
 fn attempt_one<L: Listener>(
     listener: &mut L,
     command: &Command,

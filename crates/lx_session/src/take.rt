@@ -61,6 +61,7 @@ fn flush_before_wait<S: Source, K: Sink>(lines: &Lines<S>, sink: &mut K) -> Resu
 }
 
 /// Answers a line, and flushes the sink where it ends the script.
+#[inline(always)]
 fn give_reply<D, A: AnswersBeside<D>, K: Sink>(
     answerer: &mut A,
     lent: &mut D,

@@ -1,0 +1,73 @@
+//! A line that presses a key or moves a fader, which is all that it does.
+
+ghost use Rattle.std.specs.Prelude.{◌≡◌, IfOk, IsTrue, Some, is_none, is_some, true};
+ghost use Rattle.lx_io.specs.Puts.{HasSinkCause};
+ghost use Rattle.lx_spec.specs.Desk.{Desk};
+ghost use Rattle.lx_console.specs.Standing.{StandsFor};
+ghost use Rattle.lx_session.specs.Attempts.{Attempted, ListenedAttempt, heard_of};
+ghost use Rattle.lx_session.specs.LineAnswer.{LineAnswer, FromDesk};
+ghost use Rattle.lx_session.specs.LineReply.{HasRoom, HasOneMore};
+
+use crate::finish::{give, reply_of};
+use crate::listener::Listener;
+use crate::tally::Tally;
+use lx_console::Console;
+use lx_io::{Sink, SinkFault};
+use lx_spec::{Command, Key, Line, Refusal};
+
+/// As `answer`, of a line that presses a key or moves a fader: no turn is made for it, since it has one command, by value.
+pub(crate) fn answer_key<L: Listener, K: Sink>(
+    listener: &mut L,
+    console: &mut Console,
+    key: &Key,
+    sink: &mut K,
+    tally: &mut Tally,
+) -> Result<bool, SinkFault>
+    requires room { HasRoom tally.old }
+    requires keeps { L.keeps listener.old console.old }
+    ensures keeps { L.keeps listener.new console.new }
+    ensures answered { FromDesk console.old tally.old
+        (λ s. LineAnswer L.admits_all (L.heard listener.old listener.new) K.holds K.faults K.wants sink.old sink.new result s
+        (Some (Line.Command (Command.Key key.now))) console.new tally.new) }
+    ensures goes_on { IfOk result (λ more. more ≡ true) }
+    ensures cause { HasSinkCause K.faults K.wants sink.old sink.new result }
+    ensures more { HasOneMore tally.old tally.new }
+{
+    let refusal = attempt_key(listener, &Command::Key(*key), key, console);
+    give(reply_of(refusal), sink, tally)
+}
+
+/// Attempts a key, which is this command, that the listener is asked to admit, and hears of where it is accepted. It says the
+/// refusal, if it is refused. The console presses the key by value: so it has no room for the plan of an edit.
+fn attempt_key<L: Listener>(
+    listener: &mut L,
+    command: &Command,
+    key: &Key,
+    console: &mut Console,
+) -> Option<Refusal>
+    requires same { command.now ≡ Command.Key key.now }
+    requires keeps { L.keeps listener.old console.old }
+    ensures keeps { L.keeps listener.new console.new }
+    ensures attempted { (d : Desk) → StandsFor d console.old → ListenedAttempt L.admits_all d command.now result console.new }
+    ensures heard { L.heard listener.old listener.new (heard_of command.now result) }
+{
+    let admitted = listener.admit(command);
+    let refusal = try_key(command, key, console, admitted);
+    if refusal.is_none() {
+        listener.hear(command, console);
+    }
+    refusal
+}
+
+/// The refusal of a key, which is this command, if it is refused.
+fn try_key(command: &Command, key: &Key, console: &mut Console, admitted: bool) -> Option<Refusal>
+    requires { command.now ≡ Command.Key key.now }
+    ensures attempted { (d : Desk) → StandsFor d console.old → Attempted admitted d command.now result console.new }
+    ensures admitted { is_none result ≡ true → admitted ≡ true }
+    ensures unchanged { IsTrue (is_some result) → console.new ≡ console.old }
+{
+    if !admitted {
+        return Some(Refusal::Memory);
+    }
+    console.press(*key).err()
+}
