@@ -23,8 +23,8 @@ const SLOTS: usize = CHANNELS as usize;
 /// What a move says of its channel.
 #[derive(Clone, Copy)]
 pub(crate) struct Slot {
-    level: Level,
     part: PartNo,
+    level: Level,
 }
 
 /// The moves of a cue. Contracts see them as a list sorted by channel.
@@ -138,8 +138,8 @@ fn put(slots: &mut [Option<Slot>; SLOTS], member: Member, part: PartNo, least: u
 {
     let number = member.chan.get();
     slots[(number - 1) as usize] = Some(Slot {
-        level: member.level,
         part,
+        level: member.level,
     });
     least.max(number)
 }

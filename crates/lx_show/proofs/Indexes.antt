@@ -78,6 +78,11 @@ goes_here key n xs at x y sorted some within before low here high =
           ap key (get_or_default xs at d y within ∙ sym here) in omega (arith, le, same, high)),
     ) (λ z lt is same. let at_key = ap key (is ∙ get_or_default xs at z y within ∙ sym here) in omega (arith, at_key, same, high))
 
+-- in a list without entries a number goes to the front
+pub goes_alone : {A : Type 0} (key : A → ℕ) (n : ℕ) (xs : List A) → length xs ≡ 0 → GoesAt key n xs 0
+goes_alone key n [] none = record { within = omega arith; before = refl; absent = refl; after = refl }
+goes_alone key n (x ∷ xs) none = absurd (omega (arith, none))
+
 -- a number below that of the first entry goes to the front
 pub goes_first : {A : Type 0} (key : A → ℕ) (n : ℕ) (xs : List A) (x : A) → IsStrictlySorted key xs → 0 < length xs → x ≡ get_or xs 0 x
     → n < key x → GoesAt key n xs 0

@@ -1,9 +1,12 @@
-use Rattle.std.proofs.Common.{◌<◌, subst}
-use Rattle.lx_show.proofs.Indexes.{goes_first}
+use Rattle.std.proofs.Common.{◌<◌, subst, arith}
+use Rattle.lx_show.proofs.Indexes.{goes_alone, goes_last}
 use Rattle.lx_show.proofs.sorted.index_near.Goals as goal
 
-pub returns-then-n-key-clause-goes : goal.returns-then-n-key-clause-goes
-returns-then-n-key-clause-goes g c =
+pub returns-then-len-eq0-clause-goes : goal.returns-then-len-eq0-clause-goes
+returns-then-len-eq0-clause-goes g c = goes_alone g.T.Keyed.key c.args.n _ (omega (arith, c.if-len-eq0.true))
+
+pub returns-then-key-n-clause-goes : goal.returns-then-key-n-clause-goes
+returns-then-key-n-clause-goes g c =
     let key = g.T.Keyed.key in
-    let high : c.args.n < key c.index-xs-0.result = subst (λ m. c.args.n < m) c.key.ensures c.if-n-key.true in
-    goes_first key c.args.n _ c.index-xs-0.result c.requires c.if-len-gt0.true c.index-xs-0.is high
+    let low : key c.index-xs-len.result < c.args.n = subst (λ m. m < c.args.n) c.key.ensures c.if-key-n.true in
+    goes_last key c.args.n _ c.index-xs-len.result c.requires (omega (arith, c.if-len-eq0.false)) c.index-xs-len.is low
