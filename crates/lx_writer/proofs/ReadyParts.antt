@@ -1,44 +1,91 @@
 -- The rows of the tables of ready parts.
-use Rattle.std.proofs.Common.{◌≡◌, ℕ, ◌+◌, ◌<◌, ◌≤◌, List, [], ◌∷◌, ◌++◌, get_or, map, drop, take, decimal, refl, ap, ◌∙◌, arith, cond}
+use Rattle.std.proofs.Common.{◌≡◌, ℕ, ◌+◌, ◌/◌, ◌%◌, ◌<◌, ◌≤◌, List, [], ◌∷◌, ◌++◌, get_or, length, map, take, decimal, refl, sym, ap, ◌∙◌}
+use Rattle.std.proofs.Common.{arith, cond, inl, inr}
 use Rattle.std.specs.Prelude.{codes, nat_lt}
 use Rattle.std.specs.List.{range_with_len}
+use Rattle.std.proofs.lemmas.Bool.{cases_lt}
 use Rattle.std.proofs.lemmas.Fmt.{decimal_digit}
 use Rattle.std.proofs.lemmas.List.FromFn.{get_or-map-range_with_len}
-use Rattle.itoa.proofs.Decimal.{pair, decimal_two}
+use Rattle.itoa.proofs.Decimal.{pair, decimal_two, decimal_pair}
 use Rattle.lx_spec.specs.Numerals.{level_text}
 use Rattle.lx_spec.proofs.Comparisons.{lt_true, lt_false}
-use Rattle.lx_writer.specs.declared.rows.TheConstants.{FRONTS, TENS, LEVELS}
+use Rattle.lx_writer.specs.declared.names.TheConstants.{NUMBERS, DIGITS}
+use Rattle.lx_writer.specs.declared.rows.TheConstants.{LEVELS}
 
--- `CHAN`, and a space and a number of one or two digits, at the front of twice four bytes
-abbrev front : ℕ → List (List ℕ)
-front n = codes "CHAN" ∷ cond (nat_lt n 10) (32 ∷ (48 + n) ∷ 32 ∷ 32 ∷ []) (32 ∷ (pair n ++ 32 ∷ [])) ∷ []
+-- a number of at most four digits, at the front of four bytes
+abbrev ready : ℕ → List ℕ
+ready n = cond (nat_lt n 10) ((48 + n) ∷ codes "   ")
+    (cond (nat_lt n 100) (pair n ++ codes "  ")
+    (cond (nat_lt n 1000) ((48 + n / 100) ∷ (pair (n % 100) ++ codes " ")) (pair (n / 100) ++ pair (n % 100))))
 
-fronts_are : FRONTS ≡ map front (range_with_len 0 100)
-fronts_are = refl
+numbers_are : NUMBERS ≡ map ready (range_with_len 0 4097)
+numbers_are = refl
 
-tens_are : TENS ≡ map (λ n. pair n ++ codes "@H") (range_with_len 0 100)
-tens_are = refl
+-- how many digits it has
+abbrev digits : ℕ → ℕ
+digits n = cond (nat_lt n 10) 1 (cond (nat_lt n 100) 2 (cond (nat_lt n 1000) 3 4))
 
-levels_are : LEVELS ≡ map (λ l. drop 1 (level_text l) ++ 10 ∷ 32 ∷ []) (range_with_len 0 256)
+digits_are : DIGITS ≡ map digits (range_with_len 0 4097)
+digits_are = refl
+
+abbrev level_word : ℕ → List ℕ
+level_word l = 64 ∷ (level_text l ++ codes "\n   ")
+
+levels_are : LEVELS ≡ map level_word (range_with_len 0 256)
 levels_are = refl
 
-pub tens_row : (n : ℕ) (d : List ℕ) → n < 100 → take 4 (get_or TENS n d) ≡ pair n ++ codes "@H"
-tens_row n d lt = ap (λ rows. take 4 (get_or rows n d)) tens_are
-    ∙ ap (take 4) (get_or-map-range_with_len (λ n. pair n ++ codes "@H") 0 100 n n d lt (omega arith))
+pub level_row : (l : ℕ) (d : List ℕ) → l < 256 → take 5 (get_or LEVELS l d) ≡ 64 ∷ (level_text l ++ 10 ∷ [])
+level_row l d lt = ap (λ rows. take 5 (get_or rows l d)) levels_are
+    ∙ ap (take 5) (get_or-map-range_with_len level_word 0 256 l l d lt (omega arith))
 
-pub level_row : (l : ℕ) (d : List ℕ) → l < 256 → take 3 (get_or LEVELS l d) ≡ drop 1 (level_text l) ++ 10 ∷ []
-level_row l d lt = ap (λ rows. take 3 (get_or rows l d)) levels_are
-    ∙ ap (take 3) (get_or-map-range_with_len (λ l. drop 1 (level_text l) ++ 10 ∷ 32 ∷ []) 0 256 l l d lt (omega arith))
+number_row : (n : ℕ) (d : List ℕ) → n < 4097 → get_or NUMBERS n d ≡ ready n
+number_row n d lt = ap (λ rows. get_or rows n d) numbers_are ∙ get_or-map-range_with_len ready 0 4097 n n d lt (omega arith)
 
-front_row : (n : ℕ) (d : List (List ℕ)) → n < 100 → get_or FRONTS n d ≡ front n
-front_row n d lt = ap (λ rows. get_or rows n d) fronts_are ∙ get_or-map-range_with_len front 0 100 n n d lt (omega arith)
+digits_row : (n d : ℕ) → n < 4097 → get_or DIGITS n d ≡ digits n
+digits_row n d lt = ap (λ rows. get_or rows n d) digits_are ∙ get_or-map-range_with_len digits 0 4097 n n d lt (omega arith)
 
--- the word, and the first bytes of the second row
-abbrev pub front_of : ℕ → List (List ℕ) → List ℕ
-front_of count rows = get_or rows 0 [] ++ take count (get_or rows 1 [])
+abbrev IsReady : ℕ → List ℕ → ℕ → Type 0
+IsReady n row count = (count ≡ length (decimal n)) × ((count ≤ 4) × (take (length (decimal n)) row ≡ decimal n))
 
-pub front_short : (n : ℕ) (d : List (List ℕ)) → n < 10 → front_of 2 (get_or FRONTS n d) ≡ codes "CHAN " ++ decimal n
-front_short n d lt = rw (front_row n d (omega arith), lt_true n 10 lt, decimal_digit n lt) refl
+ready_is : (n : ℕ) → n < 4097 → IsReady n (ready n) (digits n)
+ready_is n lt =
+    elim (cases_lt n 10) [
+      | inl low ↦ rw (lt_true n 10 low, decimal_digit n low) (refl, (omega arith, refl))
+      | inr from ↦ elim (cases_lt n 100) [
+        | inl low ↦ rw (lt_false n 10 from, lt_true n 100 low, decimal_two n from low) (refl, (omega arith, refl))
+        | inr more ↦ elim (cases_lt n 1000) [
+          | inl low ↦
+              rw (
+                lt_false n 10 from,
+                lt_false n 100 more,
+                lt_true n 1000 low,
+                decimal_pair n more (omega arith),
+                decimal_digit (n / 100) (omega arith),
+              )
+              (refl, (omega arith, refl))
+          | inr most ↦
+              rw (
+                lt_false n 10 from,
+                lt_false n 100 more,
+                lt_false n 1000 most,
+                decimal_pair n more (omega arith),
+                decimal_two (n / 100) (omega arith) (omega arith),
+              )
+              (refl, (omega arith, refl))
+        ]
+      ]
+    ]
 
-pub front_long : (n : ℕ) (d : List (List ℕ)) → 10 ≤ n → n < 100 → front_of 3 (get_or FRONTS n d) ≡ codes "CHAN " ++ decimal n
-front_long n d from lt = rw (front_row n d lt, lt_false n 10 from, decimal_two n from lt) refl
+number_is : (n : ℕ) (d : List ℕ) → n < 4097 → take (length (decimal n)) (get_or NUMBERS n d) ≡ decimal n
+number_is n d lt = rw (number_row n d lt) (ready_is n lt).1.1
+
+-- the same, of another word for the number
+pub number_of : (n chan : ℕ) (d : List ℕ) → n < 4097 → n ≡ chan → take (length (decimal chan)) (get_or NUMBERS n d) ≡ decimal chan
+number_of n chan d lt is =
+    ap (λ (k : ℕ). take (length (decimal k)) (get_or NUMBERS n d)) (sym is) ∙ number_is n d lt ∙ ap decimal is
+
+pub digits_is : (n d : ℕ) → n < 4097 → get_or DIGITS n d ≡ length (decimal n)
+digits_is n d lt = digits_row n d lt ∙ (ready_is n lt).0
+
+pub digits_few : (n d : ℕ) → n < 4097 → get_or DIGITS n d ≤ 4
+digits_few n d lt = rw (digits_row n d lt) (ready_is n lt).1.0

@@ -1,14 +1,11 @@
 -- Texts with a piece for each element, or for each that passes a test.
-use Rattle.std.proofs.Common.{◌≡◌, ℕ, ◌+◌, ◌-◌, ◌/◌, ◌%◌, ◌<◌, ◌≤◌, Bool, true, false, List, [], ◌∷◌, ◌++◌, length, get_or, take, drop, take-append-drop}
-use Rattle.std.proofs.Common.{length-take, refl, sym, ap, ◌∙◌, append_assoc, append-nil, cond, arith}
+use Rattle.std.proofs.Common.{◌≡◌, ℕ, ◌+◌, ◌-◌, ◌<◌, ◌≤◌, Bool, true, false, List, [], ◌∷◌, ◌++◌, length, get_or, take, drop, take-append-drop}
+use Rattle.std.proofs.Common.{refl, sym, ap, ◌∙◌, append_assoc, append-nil, cond, arith}
 use Rattle.std.specs.Prelude.{filter, flat_map, codes, decimal, slice_range}
 use Rattle.std.proofs.lemmas.Grind.{flat_map-append}
 use Rattle.std.proofs.lemmas.List.Elements.{filter-append}
-use Rattle.std.proofs.lemmas.List.{take_more, take-append-le}
-use Rattle.std.proofs.Math.Seq.{take-add, take-append-add}
-use borrow.Rule.Slice.PartMut.{put_mid}
-use Rattle.itoa.proofs.Decimal.{pair, decimal_pair}
-use Rattle.lx_base.specs.declared.TheConstants.{CHANNELS}
+use Rattle.std.proofs.lemmas.List.{take_more}
+use Rattle.std.proofs.Math.Seq.{take-add}
 use Rattle.lx_spec.specs.declared.PatchRow.{PatchRow}
 use Rattle.lx_spec.specs.Numerals.{level_text}
 use Rattle.lx_spec.specs.ShowText.{line, at_text, patch_text}
@@ -61,12 +58,7 @@ kept_next {A} p f xs i x within is =
     ∙ ap (λ text. flat_map f (filter p (take i xs)) ++ text) (one (p x) refl)
 
 -- a line of a channel and its level, as its parts are written
-pub short_is : (n level : ℕ) (before : List ℕ)
-    → ((before ++ (codes "CHAN " ++ decimal n)) ++ codes "@H") ++ (drop 1 (level_text level) ++ 10 ∷ [])
+pub line_is : (n level : ℕ) (before : List ℕ)
+    → ((before ++ codes "CHAN ") ++ decimal n) ++ (64 ∷ (level_text level ++ 10 ∷ []))
     ≡ before ++ line (codes "CHAN" ∷ at_text n level ∷ [])
-short_is n level before = simp append_assoc
-
-pub long_is : (n level : ℕ) (before : List ℕ) → 100 ≤ n → n ≤ CHANNELS
-    → ((before ++ (codes "CHAN " ++ decimal (n / 100))) ++ (pair (n % 100) ++ codes "@H")) ++ (drop 1 (level_text level) ++ 10 ∷ [])
-    ≡ before ++ line (codes "CHAN" ∷ at_text n level ∷ [])
-long_is n level before from most = rw (decimal_pair n from (omega arith)) (simp append_assoc)
+line_is n level before = simp append_assoc

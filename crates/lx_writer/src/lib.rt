@@ -3,6 +3,7 @@
 
 mod cue;
 mod lines;
+mod names;
 mod part;
 mod pieces;
 mod record;

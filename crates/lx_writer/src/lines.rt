@@ -1,26 +1,27 @@
 //! The lines of a cue's moves: those of many moves are written into one text and handed to the sink as one piece.
 #![tactic(auto, using(lx_io::proofs::Chain::puts))]
 
-ghost use Rattle.std.specs.Prelude.{◌≡◌, ◌==◌, ◌+◌, ◌<◌, ◌≤◌, [], ◌++◌, ◌∷◌, codes, decimal, drop, filter, take, flat_map, length};
+ghost use Rattle.std.specs.Prelude.{◌≡◌, ◌==◌, ◌+◌, ◌-◌, ◌<◌, ◌≤◌, [], ◌++◌, ◌∷◌, codes, decimal, filter, take, flat_map, length};
 ghost use Rattle.lx_io.specs.Puts.{Puts};
 ghost use Rattle.lx_base.specs.declared.TheConstants.{CHANNELS};
 ghost use Rattle.lx_spec.specs.Numerals.{level_text};
 ghost use Rattle.lx_spec.specs.ShowText.{line, at_text, move_text};
 
-use crate::rows::{FRONTS, LEVELS, TENS};
+use crate::names::{DIGITS, NUMBERS};
+use crate::rows::LEVELS;
 use lx_base::{Chan, Level, PartNo};
 use lx_io::{Sink, SinkFault, put_all};
 use lx_show::Move;
 
-/// The most bytes of a line: `CHAN `, a number of up to four digits, `@`, a level of three bytes and the line's end; and a byte
-/// behind it that is written over.
-const LINE_BYTES: usize = 15;
+/// The most bytes of a line: `CHAN `, a number of up to four digits, `@`, a level of three bytes and the line's end; and three
+/// bytes behind it that are written over.
+const LINE_BYTES: usize = 17;
 
 /// The most moves whose lines are one piece.
 const PIECE_MOVES: usize = 64;
 
 /// The most bytes of a piece.
-const PIECE_BYTES: usize = 960;
+const PIECE_BYTES: usize = 1_088;
 
 /// Appends a line for each move that stands in the part.
 pub(crate) fn put_moves<K: Sink>(
@@ -54,7 +55,9 @@ fn put_piece<K: Sink>(
     put_all(sink, &text[..end])
 }
 
-/// Writes the lines of some moves at the front of the text, and says where they end.
+/// Writes the lines of some moves at the front of the text, and says where they end. It stands apart, so that the loop has the
+/// processor's registers to itself.
+#[inline(never)]
 fn write_lines(moves: &[Move], part: PartNo, text: &mut [u8; PIECE_BYTES]) -> usize
     requires { length moves.now ≤ PIECE_MOVES }
     ensures end { result ≤ PIECE_BYTES }
@@ -84,64 +87,70 @@ fn write_line(chan: Chan, level: Level, text: &mut [u8; PIECE_BYTES], at: usize)
     ensures end { result ≤ at + LINE_BYTES }
     ensures text { take result text.new ≡ take at text.old ++ line (codes "CHAN" ∷ at_text chan level ∷ []) }
 {
-    let number = chan.get();
-    if number < 100 {
-        write_short(number, level, text, at)
-    } else {
-        write_long(number, level, text, at)
-    }
-}
-
-/// Writes the line of a channel whose number has one or two digits.
-#[inline(always)]
-fn write_short(number: u32, level: Level, text: &mut [u8; PIECE_BYTES], at: usize) -> usize
-    requires few { number < 100 }
-    requires room { at + LINE_BYTES ≤ PIECE_BYTES }
-    ensures end { result ≤ at + LINE_BYTES }
-    ensures text { take result text.new ≡ take at text.old ++ line (codes "CHAN" ∷ at_text number level ∷ []) }
-{
-    let middle = write_front(number, text, at);
-    let middle = write_row(b"@H  ", 2, text, middle);
+    let middle = write_word(b"CHAN    ", 5, text, at);
+    let middle = write_number(chan, text, middle);
     write_level(level, text, middle)
 }
 
-/// Writes the line of a channel whose number has three or four digits.
+/// Writes a channel's number at a place, and says where it ends.
 #[inline(always)]
-fn write_long(number: u32, level: Level, text: &mut [u8; PIECE_BYTES], at: usize) -> usize
-    requires least { 100 ≤ number }
-    requires most { number ≤ CHANNELS }
-    requires room { at + LINE_BYTES ≤ PIECE_BYTES }
-    ensures end { result ≤ at + LINE_BYTES }
-    ensures text { take result text.new ≡ take at text.old ++ line (codes "CHAN" ∷ at_text number level ∷ []) }
+fn write_number(chan: Chan, text: &mut [u8; PIECE_BYTES], at: usize) -> usize
+    requires room { at + 4 ≤ PIECE_BYTES }
+    ensures end { result ≤ at + 4 }
+    ensures text { take result text.new ≡ take at text.old ++ decimal chan }
 {
-    let middle = write_front(number / 100, text, at);
-    let middle = write_row(&TENS[(number % 100) as usize], 4, text, middle);
-    write_level(level, text, middle)
+    write_row(ready_number(chan), digits_of(chan), text, at)
 }
 
-/// Writes `CHAN ` and a number at a place, and says where they end.
+/// The row of a channel's number.
 #[inline(always)]
-fn write_front(number: u32, text: &mut [u8; PIECE_BYTES], at: usize) -> usize
-    requires few { number < 100 }
-    requires room { at + 8 ≤ PIECE_BYTES }
-    ensures from { at ≤ result }
-    ensures end { result ≤ at + 7 }
-    ensures text { take result text.new ≡ take at text.old ++ (codes "CHAN " ++ decimal number) }
+fn ready_number(chan: Chan) -> &'static [u8; 4]
+    ensures { take (length (decimal chan)) result.now ≡ decimal chan }
 {
-    let [word, spaced] = &FRONTS[number as usize];
-    let count = if number < 10 { 2 } else { 3 };
-    store_row(word, text, at);
-    write_row(spaced, count, text, at + 4)
+    &NUMBERS[chan.get() as usize]
 }
 
-/// Writes a level's two digits and the line's end at a place, and says where they end.
+/// How many digits a channel's number has.
+#[inline(always)]
+fn digits_of(chan: Chan) -> usize
+    ensures few { result ≤ 4 }
+    ensures digits { result ≡ length (decimal chan) }
+{
+    DIGITS[chan.get() as usize] as usize
+}
+
+/// Writes `@`, a level and the line's end at a place, and says where they end.
 #[inline(always)]
 fn write_level(level: Level, text: &mut [u8; PIECE_BYTES], at: usize) -> usize
-    requires room { at + 4 ≤ PIECE_BYTES }
-    ensures end { result ≡ at + 3 }
-    ensures text { take result text.new ≡ take at text.old ++ (drop 1 (level_text level) ++ 10 ∷ []) }
+    requires room { at + 8 ≤ PIECE_BYTES }
+    ensures end { result ≡ at + 5 }
+    ensures text { take result text.new ≡ take at text.old ++ (64 ∷ (level_text level ++ 10 ∷ [])) }
 {
-    write_row(&LEVELS[level as usize], 3, text, at)
+    write_word(&LEVELS[level as usize], 5, text, at)
+}
+
+/// Writes a word at a place, and says where its first bytes end that are wanted.
+#[inline(always)]
+fn write_word(word: &[u8; 8], count: usize, text: &mut [u8; PIECE_BYTES], at: usize) -> usize
+    requires count { count ≤ 8 }
+    requires room { at + 8 ≤ PIECE_BYTES }
+    ensures end { result ≡ at + count }
+    ensures text { take result text.new ≡ take at text.old ++ take count word.now }
+{
+    store_word(word, text, at);
+    at + count
+}
+
+/// Writes a whole word at a place.
+#[inline(always)]
+fn store_word(word: &[u8; 8], text: &mut [u8; PIECE_BYTES], at: usize)
+    requires { at + 8 ≤ PIECE_BYTES }
+    ensures { take (at + 8) text.new ≡ take at text.old ++ word.now }
+{
+    // Byte by byte, which is one store of eight bytes: `copy_from_slice` asks at each call whether the two overlap.
+    let [a, b, c, d, e, f, g, h] = *word;
+    store_row(&[a, b, c, d], text, at);
+    store_row(&[e, f, g, h], text, at + 4);
 }
 
 /// Writes a row at a place, and says where its first bytes end that are wanted.
@@ -162,7 +171,6 @@ fn store_row(row: &[u8; 4], text: &mut [u8; PIECE_BYTES], at: usize)
     requires { at + 4 ≤ PIECE_BYTES }
     ensures { take (at + 4) text.new ≡ take at text.old ++ row.now }
 {
-    // Byte by byte, which is one store of four bytes: `copy_from_slice` asks at each call whether the two overlap.
     text[at] = row[0];
     text[at + 1] = row[1];
     text[at + 2] = row[2];
