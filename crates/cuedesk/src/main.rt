@@ -5,14 +5,12 @@
 ghost use Rattle.std.specs.Prelude.{◌≡◌};
 ghost use Rattle.cuedesk.specs.Exits.{exit_status};
 
-mod desk;
 mod operators;
 mod universes;
-mod words;
 
-pub use desk::{desk, desk_crew, desk_live};
-pub use lx_desk::Status;
+use lx_desk::Status;
 use lx_io::{Sink, StdSink, StdSource};
+use lx_program::{desk, desk_crew, desk_live, words_of};
 use lx_spec::Job;
 use operators::scripts;
 use std::alloc::Global;
@@ -20,7 +18,6 @@ use std::io::BufWriter;
 use std::process::ExitCode;
 use std::{env, io};
 use universes::{DeskPace, files};
-pub use words::{WordsFault, words_of};
 
 /// The line that says how the program is used.
 const USAGE: &str = "usage: cuedesk check|render|sheet [states] | make N | run U [states]";

@@ -17,4 +17,3 @@ pub mod FinerFields
 pub mod FinerLines
 pub mod FinerShow
 pub mod OldTexts
-mod ReadBack

@@ -1,17 +1,10 @@
 //! Laws of show texts, each the contract of a function with nothing to do: what is written of a show reads back as that
 //! show, a text of looks gives the levels of its looks, and a text from before cue numbers became finer keeps its meaning.
-//! `read_back` carries the first to the writer and the reader, and `read_text` the last to the reader.
 #![tactic(auto)]
 
 ghost use Rattle.lx_text_laws.specs.RoundTrip.{LawOfRoundTrip};
 ghost use Rattle.lx_text_laws.specs.LookLevels.{LawOfLooks};
 ghost use Rattle.lx_text_laws.specs.OldTexts.{LawOfOldTexts};
-
-mod memory;
-mod written;
-
-pub use memory::read_text;
-pub use written::read_back;
 
 /// The canonical text of a valid show reads back as that show, with no skipped line.
 pub fn round_trip()

@@ -1,0 +1,37 @@
+-- What holds of the job that words name holds of the words.
+use Rattle.std.proofs.Common.{◌≡◌, Option, Some, None, IfSome, List, ℕ, sym, subst}
+use Rattle.lx_spec.specs.declared.Form.{Form}
+use Rattle.lx_spec.specs.declared.Job.{Job}
+use Rattle.lx_spec.specs.declared.Job.TheVariants.{Check, Render, Sheet, Make, Run, Undo, Two, Crew}
+use Rattle.lx_spec.specs.Job.{job_of, given_to}
+use Rattle.lx_program.specs.Named.{OfCrew, OfJob}
+
+pub of_job : (ws : List (List ℕ)) (left : Option (List ℕ)) (P : Job → List ℕ → Type 0) (job : Job) → job_of ws ≡ Some job
+    → IfSome (given_to job left) (P job) → OfJob ws left P
+of_job ws left P job named p = subst (λ (o : Option Job). IfSome o (λ j. IfSome (given_to j left) (P j))) (sym named) p
+
+-- and what holds of each job, and of each crew
+each_given : (left : Option (List ℕ)) (P : List ℕ → Type 0) → ((bytes : List ℕ) → P bytes) → IfSome left P
+each_given None P p = tt
+each_given (Some bytes) P p = p bytes
+
+each_job : (o : Option Job) (left : Option (List ℕ)) (P : Job → List ℕ → Type 0) → ((job : Job) (bytes : List ℕ) → P job bytes)
+    → IfSome o (λ job. IfSome (given_to job left) (P job))
+each_job None left P p = tt
+each_job (Some job) left P p = each_given (given_to job left) (P job) (p job)
+
+pub of_each_job : (ws : List (List ℕ)) (left : Option (List ℕ)) (P : Job → List ℕ → Type 0)
+    → ((job : Job) (bytes : List ℕ) → P job bytes) → OfJob ws left P
+of_each_job ws left P p = each_job (job_of ws) left P p
+
+pub of_each_crew : (o : Option Job) (left : Option (List ℕ)) (P : ℕ → Form → List ℕ → Type 0)
+    → ((count : ℕ) (form : Form) (bytes : List ℕ) → P count form bytes) → OfCrew o left P
+of_each_crew None left P p = tt
+of_each_crew (Some (Check form)) left P p = tt
+of_each_crew (Some (Render form)) left P p = tt
+of_each_crew (Some (Sheet form)) left P p = tt
+of_each_crew (Some (Make n)) left P p = tt
+of_each_crew (Some (Run universes form)) left P p = tt
+of_each_crew (Some (Undo form)) left P p = tt
+of_each_crew (Some (Two form)) left P p = tt
+of_each_crew (Some (Crew count form)) left P p = each_given left (P count form) (p count form)

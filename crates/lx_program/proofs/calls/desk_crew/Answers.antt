@@ -1,0 +1,13 @@
+use Rattle.std.proofs.Common.{map, refl}
+use Rattle.std.specs.Prelude.{string_bytes}
+use Rattle.lx_spec.specs.Job.{job_of}
+use Rattle.lx_spec.specs.Reading.{reads}
+use Rattle.lx_desk.proofs.CrewEnds.{nothing_front}
+use Rattle.lx_program.proofs.JobWords.{of_each_crew}
+use Rattle.lx_program.proofs.calls.desk_crew.Goals as goal
+
+pub returns-in-Err-Memory-clause-prefix : goal.returns-in-Err-Memory-clause-prefix
+returns-in-Err-Memory-clause-prefix g c =
+    of_each_crew (job_of (map string_bytes c.args.words.now)) (g.I.Source.left c.args.input.now) _
+    (λ count form bytes. nothing_front form count g.S.Source.left (g.K.Sink.holds c.args.output.now) (g.K.Sink.holds c.args.output.now)
+    c.args.operators.now (reads form bytes) refl)

@@ -1,0 +1,156 @@
+//! The program as calls: from the words and the bytes that come in to the bytes that go out.
+
+ghost use Rattle.std.specs.Prelude.{◌≡◌, IsSome, length, map, string_bytes};
+ghost use Rattle.lx_base.specs.declared.TheConstants.{OPERATORS, UNIVERSES};
+ghost use Rattle.lx_spec.specs.Job.{job_of};
+ghost use Rattle.lx_spec.specs.Reading.{reads};
+ghost use Rattle.lx_crew.specs.Hired.{EachAt};
+ghost use Rattle.lx_workers.specs.Places.{IsFull};
+ghost use Rattle.lx_desk.specs.Crew.{HasCrewCause, HasCrewEnded, KeepsOperators, WritesCrewFront};
+ghost use Rattle.lx_desk.specs.Endings.{AnswersWords, HasCauseOf, HasEnded};
+ghost use Rattle.lx_desk.specs.Live.{HasLiveCause, HasLived, KeepsOutlets};
+ghost use Rattle.lx_desk.specs.Output.{WritesPrefix};
+ghost use Rattle.lx_program.specs.Named.{OfCrew, OfJob, OfRun, in_use};
+
+use crate::words::{WordsFault, words_of};
+use lx_desk::{Status, run_crew, run_job, run_live};
+use lx_io::{Pace, Sink, Source};
+use lx_spec::Job;
+use std::alloc::Global;
+use std::sync::Wait;
+use std::thread::Threads;
+
+/// Does the job that the words name. `words` are those after the program's name.
+///
+/// For the bytes that the input had left, the text that is written is what the definitions give for the job: the line of a
+/// refused show, the line or the cue list of a show, or the replies to a script, in which each command is done or refused
+/// as the desk does it and each frame is evaluated over the whole show as it then is and the whole list of runs since the
+/// opening; by `undo` edits and records are undone and redone besides, and by `two` it is
+/// so of two desks beside each other. Want of memory refuses nothing but edits and records.
+pub fn desk<S: Source, K: Sink>(
+    alloc: Global,
+    words: &[String],
+    input: &mut S,
+    output: &mut K,
+) -> Status
+    // Usage exactly where the words name no job, and Live where they name `run` or `crew`, unless memory was wanted in
+    // vain; and then nothing is read or written.
+    ensures words { AnswersWords (job_of (map string_bytes words.now)) result input.old input.new output.old output.new }
+
+    // What was read and written, by the status: with Ok and ShowRefused the whole text of the job.
+    ensures ended { OfJob (map string_bytes words.now) (S.left input.old)
+        (λ job bytes. HasEnded result job bytes (S.left input.new) (K.holds output.old) (K.holds output.new)) }
+
+    // After every status it is a prefix of the whole text.
+    ensures prefix { OfJob (map string_bytes words.now) (S.left input.old)
+        (λ job bytes. WritesPrefix job bytes (K.holds output.old) (K.holds output.new)) }
+
+    // ReadFault and WriteFault have their causes. Want of memory alone is free.
+    ensures cause { HasCauseOf result (S.faults input.old) (S.faults input.new) (K.faults output.old) (K.faults output.new) }
+{
+    match words_of(alloc, words) {
+        Ok(job) => run_job(alloc, job, input, output),
+        Err(WordsFault::Usage) => Status::Usage,
+        Err(WordsFault::Memory) => Status::Memory,
+    }
+}
+
+/// Does the job of the words, where it is `run U` or `run U states`; for any other words the answer is Usage.
+///
+/// The script that follows the show is answered on the output, as by `render`, and each command that is accepted is published
+/// at once. Beside it a worker for each of the universes 1 to U, in a thread of its own, writes to the outlet at the
+/// universe's place the line of each newer version that it meets: `frame`, how many commands led to it, and the frame. No line
+/// is of two versions, and at the end the last one is of all accepted commands. A command may be refused with `Memory` where
+/// there is no room to publish it.
+///
+/// The fault of the session decides the status first, then a write that failed in an outlet, and then want of memory. An outlet
+/// that fails is ended, and no other.
+pub fn desk_live<
+    R: Threads + Wait + Sync,
+    S: Source + Send,
+    O: Sink + Send,
+    K: Sink + Send + Drop,
+    C: Pace + Sync,
+>(
+    rt: &R,
+    alloc: Global,
+    words: &[String],
+    input: &mut S,
+    output: &mut O,
+    outlets: &mut [Option<K>],
+    pace: &C,
+) -> Status
+    requires all { length outlets.old ≡ UNIVERSES }
+    requires full { IsFull outlets.old }
+    // Usage exactly where the words name no live run, unless memory was wanted in vain, and then nothing is read or written.
+    // The outlets past the universes are never touched.
+    ensures outlets { KeepsOutlets K.holds K.faults K.wants (job_of (map string_bytes words.now)) result input.old input.new output.old
+        output.new outlets.old outlets.new }
+
+    // What was read and written, by the status: with Ok the whole output, and each outlet up to the version of all accepted commands;
+    // after a fault each outlet up to what was published of the commands that the lines which were answered came to.
+    ensures ended { OfRun (job_of (map string_bytes words.now)) (S.left input.old)
+        (λ universes form bytes. HasLived result K.holds K.faults K.wants universes form bytes (S.left input.new) (O.holds output.old)
+        (O.holds output.new) outlets.old outlets.new) }
+
+    // ReadFault and WriteFault have their causes. Want of memory alone is free.
+    ensures cause { HasLiveCause K.faults result (S.faults input.old) (S.faults input.new) (O.faults output.old) (O.faults output.new)
+        outlets.old outlets.new }
+{
+    match words_of(alloc, words) {
+        Ok(Job::Run(universes, form)) => {
+            run_live(rt, alloc, universes, form, input, output, outlets, pace)
+        }
+        Ok(Job::Check(_) | Job::Render(_) | Job::Sheet(_) | Job::Make(_)) => Status::Usage,
+        Ok(Job::Undo(_) | Job::Two(_) | Job::Crew(..)) => Status::Usage,
+        Err(WordsFault::Usage) => Status::Usage,
+        Err(WordsFault::Memory) => Status::Memory,
+    }
+}
+
+/// Does the job of the words, where it is `crew N` or `crew N states`; for any other words the answer is Usage.
+///
+/// The show comes from the input, which is read to `ENDDATA` and no further. The scripts of operators 1 to N come from the first
+/// N sources, each in a thread of its own and up to `quit` or its end. For each line that is taken the output gets `op`, its
+/// operator and its number among that operator's lines, and then its replies. Which operator comes next isn't said.
+///
+/// A fault of an operator costs no line of another. The fault of the output decides the status first, and then that of the
+/// lowest operator that had one.
+pub fn desk_crew<R: Threads + Wait + Sync, I: Source, S: Source + Send + Drop, K: Sink + Send>(
+    rt: &R,
+    alloc: Global,
+    words: &[String],
+    input: &mut I,
+    output: &mut K,
+    operators: &mut [Option<S>],
+) -> Status
+    requires all { length operators.old ≡ OPERATORS }
+    requires full { EachAt (λ place source. IsSome source) operators.old }
+    // Usage exactly where the words name no crew, unless memory was wanted in vain, and then nothing is read or written. Each
+    // place has a source again, and those past the operators in use are as they were.
+    ensures words { KeepsOperators (job_of (map string_bytes words.now)) result input.old input.new output.old output.new operators.old
+        operators.new }
+
+    // What was read and written, by the status: with Ok the text of all lines of each operator in use, each once and in its order; after
+    // a fault of an operator the same with those of its lines that were taken whole; after a fault of the output a prefix of such a text.
+    // A show that is refused, or couldn't be read, ends as another job's, and no operator's source is read.
+    ensures ended { OfCrew (job_of (map string_bytes words.now)) (I.left input.old)
+        (λ count form bytes. HasCrewEnded S.left S.faults count form bytes (I.left input.new) operators.old operators.new
+        (K.holds output.old) (K.holds output.new) result) }
+
+    // After every status it is a prefix of such a text, or of the line of a refused show.
+    ensures prefix { OfCrew (job_of (map string_bytes words.now)) (I.left input.old)
+        (λ count form bytes. WritesCrewFront S.left count operators.old (K.holds output.old) (K.holds output.new) (reads form bytes)) }
+
+    // ReadFault and WriteFault have their causes. Want of memory alone is free.
+    ensures cause { HasCrewCause S.faults result (I.faults input.old) (I.faults input.new) (K.faults output.old) (K.faults output.new)
+        (in_use (job_of (map string_bytes words.now))) operators.old operators.new }
+{
+    match words_of(alloc, words) {
+        Ok(Job::Crew(count, form)) => run_crew(rt, alloc, count, form, input, output, operators),
+        Ok(Job::Check(_) | Job::Render(_) | Job::Sheet(_) | Job::Make(_)) => Status::Usage,
+        Ok(Job::Run(..) | Job::Undo(_) | Job::Two(_)) => Status::Usage,
+        Err(WordsFault::Usage) => Status::Usage,
+        Err(WordsFault::Memory) => Status::Memory,
+    }
+}

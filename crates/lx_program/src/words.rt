@@ -1,0 +1,171 @@
+//! The words of the command line.
+
+ghost use Rattle.std.specs.Prelude.{◌≡◌, ◌≤◌, false, None, Some, Err, map, string_bytes, IfOk, IfErr, IfSome};
+ghost use Rattle.std.specs.List.{list_any};
+ghost use Rattle.clap.specs.Words.{kind_of};
+ghost use Rattle.lx_spec.specs.Job.{job_of, form_of, number_alone, plain_number, run_of, crew_of};
+ghost use Rattle.lx_spec.specs.Phrase.{ended};
+ghost use Rattle.lx_program.specs.Named.{InRange};
+ghost use Rattle.lx_program.specs.Words.{begins_with_dash, values_of};
+
+use clap::error::ErrorKind;
+use clap::{Arg, ArgAction, ArgMatches, Command, Error};
+use lx_base::{CUES, OPERATORS, UNIVERSES};
+use lx_lex::read_whole;
+use lx_spec::{Form, Job};
+use std::alloc::Global;
+
+/// The name of the argument that has the words as its values.
+const WORD: &str = "word";
+
+/// Why a list of words names no job.
+#[derive(Clone, Copy, Debug, PartialEq, Eq)]
+pub enum WordsFault {
+    /// The words aren't one of the forms.
+    Usage,
+    /// Memory was wanted in vain.
+    Memory,
+}
+
+/// The job that the words name: `check`, `render`, `sheet`, `undo` or `two`, or one of them and `states`; `make` and a number of
+/// cues; `run` and a number of universes or `crew` and a number of operators, or these and `states`. `Usage` comes exactly where
+/// they are none of these.
+pub fn words_of(alloc: Global, words: &[String]) -> Result<Job, WordsFault>
+    ensures job { IfOk result (λ job. job_of (map string_bytes words.now) ≡ Some job) }
+    ensures range { IfOk result InRange }
+    ensures usage { result ≡ Err WordsFault.Usage → job_of (map string_bytes words.now) ≡ None }
+{
+    if has_dash(words) {
+        return Err(WordsFault::Usage);
+    }
+    // Every other list is taken, so that nothing but memory can be wanting.
+    let Ok(matches) = matches_of(alloc, words) else {
+        return Err(WordsFault::Memory);
+    };
+    let Some(given) = matches.get_strs(WORD) else {
+        return Err(WordsFault::Usage);
+    };
+    match job_in(given) {
+        Some(job) => Ok(job),
+        None => Err(WordsFault::Usage),
+    }
+}
+
+/// A word begins with a dash.
+fn has_dash(words: &[String]) -> bool
+    ensures { result ≡ list_any begins_with_dash (map string_bytes words.now) }
+{
+    for word in words {
+        if begins_with_dash(word) {
+            return true;
+        }
+    }
+    false
+}
+
+fn begins_with_dash(word: &str) -> bool
+    ensures { result ≡ begins_with_dash word.now }
+{
+    matches!(word.as_bytes(), [b'-', ..])
+}
+
+/// The words as the values of one argument. Want of memory is the one error.
+fn matches_of<'a>(alloc: Global, words: &'a [String]) -> Result<ArgMatches<'a>, Error>
+    requires { list_any begins_with_dash (map string_bytes words.now) ≡ false }
+    ensures values { IfOk result (λ matches. values_of matches ≡ map string_bytes words.now) }
+    ensures memory { IfErr result (λ error. kind_of error ≡ ErrorKind.OutOfMemory) }
+{
+    let count = words.len();
+    prove!(count <= usize::MAX);
+    let word = Arg::new(alloc, WORD)
+        .num_args(1..)
+        .action(ArgAction::Append);
+    let command = Command::new(alloc, "cuedesk")
+        .no_binary_name(true)
+        .arg(word)?;
+    command.try_get_matches_from(words)
+}
+
+/// The job that the words name.
+fn job_in(words: &[&str]) -> Option<Job>
+    ensures job { result ≡ job_of (map (λ word. word.now) words.now) }
+    ensures range { IfSome result InRange }
+{
+    let (name, rest) = words.split_first()?;
+    match *name {
+        "check" => form_in(rest).map(Job::Check),
+        "render" => form_in(rest).map(Job::Render),
+        "sheet" => form_in(rest).map(Job::Sheet),
+        "make" => number_alone(CUES as u32, rest).map(Job::Make),
+        "run" => run_in(rest),
+        "undo" => form_in(rest).map(Job::Undo),
+        "two" => form_in(rest).map(Job::Two),
+        "crew" => crew_in(rest),
+        _ => None,
+    }
+}
+
+/// How many universes are played live, and how the levels are read.
+fn run_in(words: &[&str]) -> Option<Job>
+    ensures job { result ≡ run_of (map (λ word. word.now) words.now) }
+    ensures range { IfSome result InRange }
+{
+    let (word, rest) = words.split_first()?;
+    let universes = plain_number(u32::from(UNIVERSES), word)?;
+    let form = form_in(rest)?;
+    Some(Job::Run(universes as u8, form))
+}
+
+/// How many operators there are, and how the levels are read.
+fn crew_in(words: &[&str]) -> Option<Job>
+    ensures job { result ≡ crew_of (map (λ word. word.now) words.now) }
+    ensures range { IfSome result InRange }
+{
+    let (word, rest) = words.split_first()?;
+    let operators = plain_number(u32::from(OPERATORS), word)?;
+    let form = form_in(rest)?;
+    Some(Job::Crew(operators as u8, form))
+}
+
+/// The number, where no further word is given.
+fn number_alone(most: u32, words: &[&str]) -> Option<u32>
+    ensures { result ≡ number_alone most (map (λ word. word.now) words.now) }
+{
+    let (word, rest) = words.split_first()?;
+    let number = plain_number(most, word)?;
+    ended(rest, number)
+}
+
+/// A number from 1 up to the most: digits without a leading zero.
+fn plain_number(most: u32, word: &str) -> Option<u32>
+    ensures number { result ≡ plain_number most word.now }
+    ensures within { IfSome result (λ n. (1 ≤ n) × (n ≤ most)) }
+{
+    match word.as_bytes() {
+        [b'0', ..] => None,
+        digits => read_whole(digits, 1, most).ok(),
+    }
+}
+
+/// How the levels are read: as moves, or with the word `states` as whole looks.
+fn form_in(words: &[&str]) -> Option<Form>
+    ensures { result ≡ form_of (map (λ word. word.now) words.now) }
+{
+    let Some((word, rest)) = words.split_first() else {
+        return Some(Form::Moves);
+    };
+    match *word {
+        "states" => ended(rest, Form::States),
+        _ => None,
+    }
+}
+
+/// The answer, where no further word is given.
+fn ended<A: Copy>(words: &[&str], answer: A) -> Option<A>
+    ensures { result ≡ ended (map (λ word. word.now) words.now) answer }
+{
+    match words {
+        [] => Some(answer),
+        _ => None,
+    }
+}
