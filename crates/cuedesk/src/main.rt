@@ -2,15 +2,12 @@
 //! and frames, or what there is to tell of the show, to standard output.
 #![tactic(auto)]
 
-ghost use Rattle.std.specs.Prelude.{◌≡◌};
-ghost use Rattle.cuedesk.specs.Exits.{exit_status};
-
 mod operators;
 mod universes;
 
 use lx_desk::Status;
 use lx_io::{Sink, StdSink, StdSource};
-use lx_program::{desk, desk_crew, desk_live, words_of};
+use lx_program::{desk, desk_crew, desk_live, exit_of, words_of};
 use lx_spec::Job;
 use operators::scripts;
 use std::alloc::Global;
@@ -33,21 +30,6 @@ fn words_given(rt: &HostRuntime) -> io::Result<Vec<String>> {
         words.push(word)?;
     }
     Ok(words)
-}
-
-/// The exit status of the program.
-fn exit_of(status: Status) -> u8
-    ensures { result ≡ exit_status status }
-{
-    match status {
-        Status::Ok => 0,
-        Status::ShowRefused => 1,
-        Status::Usage | Status::Live => 2,
-        Status::ReadFault => 3,
-        Status::WriteFault => 4,
-        Status::Memory => 5,
-        Status::InputTooLong => 6,
-    }
 }
 
 /// How the program ends where its words can't be taken: without memory for them, or with one that isn't text, which names no job.

@@ -3,7 +3,9 @@
 #![tactic(auto)]
 
 mod calls;
+mod exit;
 mod words;
 
 pub use calls::{desk, desk_crew, desk_live};
+pub use exit::exit_of;
 pub use words::{WordsFault, words_of};
