@@ -85,12 +85,14 @@ fn kept(alloc: Global) -> Option<PlainSink>
     Some(PlainSink::new(alloc))
 }
 
-/// Sinks for sixteen universes that keep their lines.
-fn outlets(alloc: Global) -> [Option<PlainSink>; 16]
-    ensures count { length result ≡ 16 }
+/// Sinks for all universes that keep their lines.
+fn outlets(alloc: Global) -> [Option<PlainSink>; 32]
+    ensures count { length result ≡ 32 }
     ensures full { IsFull result }
 {
     [
+        kept(alloc), kept(alloc), kept(alloc), kept(alloc), kept(alloc), kept(alloc), kept(alloc), kept(alloc),
+        kept(alloc), kept(alloc), kept(alloc), kept(alloc), kept(alloc), kept(alloc), kept(alloc), kept(alloc),
         kept(alloc), kept(alloc), kept(alloc), kept(alloc), kept(alloc), kept(alloc), kept(alloc), kept(alloc),
         kept(alloc), kept(alloc), kept(alloc), kept(alloc), kept(alloc), kept(alloc), kept(alloc), kept(alloc),
     ]
@@ -133,7 +135,7 @@ fn main(rt: HostRuntime) -> ExitCode {
 ''')
 path = sys.argv[1]
 text = open(path).read()
-text = text.replace('ghost use Rattle.std.specs.Prelude.{◌≡◌};', 'ghost use Rattle.std.specs.Prelude.{◌≡◌, length, IsSome};\nghost use Rattle.lx_workers.specs.Places.{IsFull};')
+text = text.replace('mod operators;', 'ghost use Rattle.std.specs.Prelude.{◌≡◌, length, IsSome};\nghost use Rattle.lx_workers.specs.Places.{IsFull};\n\nmod operators;')
 open(path, 'w').write(text)
 PYTHON
 rt run < /dev/null > "$copy/log" 2>&1 || true
