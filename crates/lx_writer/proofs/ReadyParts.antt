@@ -28,15 +28,18 @@ digits n = cond (nat_lt n 10) 1 (cond (nat_lt n 100) 2 (cond (nat_lt n 1000) 3 4
 digits_are : DIGITS ≡ map digits (range_with_len 0 4097)
 digits_are = refl
 
-abbrev level_word : ℕ → List ℕ
-level_word l = 64 ∷ (level_text l ++ codes "\n   ")
+abbrev level_words : ℕ → List (List ℕ)
+level_words l = (64 ∷ (level_text l ++ codes "\nCHA")) ∷ codes "N       " ∷ []
 
-levels_are : LEVELS ≡ map level_word (range_with_len 0 256)
+levels_are : LEVELS ≡ map level_words (range_with_len 0 256)
 levels_are = refl
 
-pub level_row : (l : ℕ) (d : List ℕ) → l < 256 → take 5 (get_or LEVELS l d) ≡ 64 ∷ (level_text l ++ 10 ∷ [])
-level_row l d lt = ap (λ rows. take 5 (get_or rows l d)) levels_are
-    ∙ ap (take 5) (get_or-map-range_with_len level_word 0 256 l l d lt (omega arith))
+pub level_row : (l : ℕ) (d : List (List ℕ)) → l < 256
+    → take 10 (get_or (get_or LEVELS l d) 0 [] ++ get_or (get_or LEVELS l d) 1 []) ≡ 64 ∷ (level_text l ++ codes "\nCHAN ")
+level_row l d lt =
+    let row : get_or LEVELS l d ≡ level_words l
+    = ap (λ rows. get_or rows l d) levels_are ∙ get_or-map-range_with_len level_words 0 256 l l d lt (omega arith) in
+    ap (λ (words : List (List ℕ)). take 10 (get_or words 0 [] ++ get_or words 1 [])) row
 
 number_row : (n : ℕ) (d : List ℕ) → n < 4097 → get_or NUMBERS n d ≡ ready n
 number_row n d lt = ap (λ rows. get_or rows n d) numbers_are ∙ get_or-map-range_with_len ready 0 4097 n n d lt (omega arith)

@@ -4,8 +4,8 @@ use Rattle.std.proofs.Common.{refl, sym, ap, ◌∙◌, append_assoc, append-nil
 use Rattle.std.specs.Prelude.{filter, flat_map, codes, decimal, slice_range}
 use Rattle.std.proofs.lemmas.Grind.{flat_map-append}
 use Rattle.std.proofs.lemmas.List.Elements.{filter-append}
-use Rattle.std.proofs.lemmas.List.{take_more}
-use Rattle.std.proofs.Math.Seq.{take-add}
+use Rattle.std.proofs.lemmas.List.{take_more, take-take, length-take-le, length-append}
+use Rattle.std.proofs.Math.Seq.{take-add, take-append_seam}
 use Rattle.lx_spec.specs.declared.PatchRow.{PatchRow}
 use Rattle.lx_spec.specs.Numerals.{level_text}
 use Rattle.lx_spec.specs.ShowText.{line, at_text, patch_text}
@@ -57,8 +57,16 @@ kept_next {A} p f xs i x within is =
     ∙ flat_map-append f (filter p (take i xs)) (filter p (x ∷ []))
     ∙ ap (λ text. flat_map f (filter p (take i xs)) ++ text) (one (p x) refl)
 
--- a line of a channel and its level, as its parts are written
-pub line_is : (n level : ℕ) (before : List ℕ)
-    → ((before ++ codes "CHAN ") ++ decimal n) ++ (64 ∷ (level_text level ++ 10 ∷ []))
-    ≡ before ++ line (codes "CHAN" ∷ at_text n level ∷ [])
-line_is n level before = simp append_assoc
+-- a line of a channel and its level, behind its word and with the word of the next, as its parts are written
+pub line_next : (n level : ℕ) (before : List ℕ)
+    → (before ++ codes "CHAN ") ++ (decimal n ++ 64 ∷ (level_text level ++ codes "\nCHAN "))
+    ≡ (before ++ line (codes "CHAN" ∷ at_text n level ∷ [])) ++ codes "CHAN "
+line_next n level before = simp append_assoc
+
+-- a text without the word that stands at its end
+pub without_word : (end : ℕ) (text before : List ℕ) → end ≤ length text → take end text ≡ before ++ codes "CHAN " → take (end - 5) text ≡ before
+without_word end text before within is =
+    let size : end ≡ length before + 5 = sym (length-take-le end text within) ∙ ap length is ∙ length-append before (codes "CHAN ") in
+    let short : end - 5 ≡ length before = omega arith in
+    sym (take-take (end - 5) end text (omega arith)) ∙ ap (take (end - 5)) is ∙ ap (λ n. take n (before ++ codes "CHAN ")) short
+    ∙ take-append_seam before (codes "CHAN ")

@@ -1,7 +1,7 @@
 //! The lines of a cue's moves: those of many moves are written into one text and handed to the sink as one piece.
 #![tactic(auto, using(lx_io::proofs::Chain::puts))]
 
-ghost use Rattle.std.specs.Prelude.{◌≡◌, ◌==◌, ◌+◌, ◌-◌, ◌<◌, ◌≤◌, [], ◌++◌, ◌∷◌, codes, decimal, filter, take, flat_map, length};
+ghost use Rattle.std.specs.Prelude.{◌≡◌, ◌==◌, ◌+◌, ◌-◌, ◌<◌, ◌≤◌, [], ◌++◌, ◌∷◌, codes, decimal, filter, take, flat_map, length, slice_index_or};
 ghost use Rattle.lx_io.specs.Puts.{Puts};
 ghost use Rattle.lx_base.specs.declared.TheConstants.{CHANNELS};
 ghost use Rattle.lx_spec.specs.Numerals.{level_text};
@@ -13,15 +13,20 @@ use lx_base::{Chan, Level, PartNo};
 use lx_io::{Sink, SinkFault, put_all};
 use lx_show::Move;
 
-/// The most bytes of a line: `CHAN `, a number of up to four digits, `@`, a level of three bytes and the line's end; and three
-/// bytes behind it that are written over.
-const LINE_BYTES: usize = 17;
+/// The most bytes of a line: `CHAN `, a number of up to four digits, `@`, a level of three bytes and the line's end.
+const LINE_BYTES: usize = 14;
+
+/// The most bytes that are written for a line: those of its number, and a whole row.
+const WRITTEN_BYTES: usize = 20;
+
+/// The bytes of the word that a line begins with, and a space.
+const WORD_BYTES: usize = 5;
 
 /// The most moves whose lines are one piece.
 const PIECE_MOVES: usize = 64;
 
-/// The most bytes of a piece.
-const PIECE_BYTES: usize = 1_088;
+/// The most bytes of a piece, the word of a line behind it and what is written over.
+const PIECE_BYTES: usize = 912;
 
 /// Appends a line for each move that stands in the part.
 pub(crate) fn put_moves<K: Sink>(
@@ -55,21 +60,29 @@ fn put_piece<K: Sink>(
     put_all(sink, &text[..end])
 }
 
-/// Writes the lines of some moves at the front of the text, and says where they end. It stands apart, so that the loop has the
-/// processor's registers to itself.
+/// Writes the lines of some moves at the front of the text, and says where they end. The first word of a line is written behind the
+/// line before, so that a line is two stores. It stands apart, so that the loop has the processor's registers to itself.
 #[inline(never)]
 fn write_lines(moves: &[Move], part: PartNo, text: &mut [u8; PIECE_BYTES]) -> usize
     requires { length moves.now ≤ PIECE_MOVES }
     ensures end { result ≤ PIECE_BYTES }
     ensures text { take result text.new ≡ flat_map move_text (filter (λ entry. entry.part == part) moves.now) }
 {
-    let mut end = 0;
+    let mut end = begin_line(text);
     for entry in moves {
         if stands_in(entry, part) {
             end = write_line(entry.chan, entry.level, text, end);
         }
     }
-    end
+    end - WORD_BYTES
+}
+
+/// Writes the word of the first line at the front of the text, and says where it ends.
+fn begin_line(text: &mut [u8; PIECE_BYTES]) -> usize
+    ensures end { result ≡ WORD_BYTES }
+    ensures text { take result text.new ≡ codes "CHAN " }
+{
+    write_words(&[*b"CHAN    ", *b"        "], WORD_BYTES, text, 0)
 }
 
 /// The move stands in the part.
@@ -80,15 +93,16 @@ fn stands_in(entry: &Move, part: PartNo) -> bool
     entry.part.get() == part.get()
 }
 
-/// Writes the line of a channel and its level at a place, and says where it ends. What follows it may be written over.
+/// Writes the line of a channel and its level behind its word at a place, and the word of the next; and says where that ends. What
+/// follows it may be written over.
 #[inline(always)]
 fn write_line(chan: Chan, level: Level, text: &mut [u8; PIECE_BYTES], at: usize) -> usize
-    requires room { at + LINE_BYTES ≤ PIECE_BYTES }
+    requires room { at + WRITTEN_BYTES ≤ PIECE_BYTES }
+    ensures more { at ≤ result }
     ensures end { result ≤ at + LINE_BYTES }
-    ensures text { take result text.new ≡ take at text.old ++ line (codes "CHAN" ∷ at_text chan level ∷ []) }
+    ensures text { take result text.new ≡ take at text.old ++ (decimal chan ++ 64 ∷ (level_text level ++ codes "\nCHAN ")) }
 {
-    let middle = write_word(b"CHAN    ", 5, text, at);
-    let middle = write_number(chan, text, middle);
+    let middle = write_number(chan, text, at);
     write_level(level, text, middle)
 }
 
@@ -96,6 +110,7 @@ fn write_line(chan: Chan, level: Level, text: &mut [u8; PIECE_BYTES], at: usize)
 #[inline(always)]
 fn write_number(chan: Chan, text: &mut [u8; PIECE_BYTES], at: usize) -> usize
     requires room { at + 4 ≤ PIECE_BYTES }
+    ensures more { at ≤ result }
     ensures end { result ≤ at + 4 }
     ensures text { take result text.new ≡ take at text.old ++ decimal chan }
 {
@@ -119,26 +134,36 @@ fn digits_of(chan: Chan) -> usize
     DIGITS[chan.get() as usize] as usize
 }
 
-/// Writes `@`, a level and the line's end at a place, and says where they end.
+/// Writes `@`, a level, the line's end and the word of the next line at a place, and says where they end.
 #[inline(always)]
 fn write_level(level: Level, text: &mut [u8; PIECE_BYTES], at: usize) -> usize
-    requires room { at + 8 ≤ PIECE_BYTES }
-    ensures end { result ≡ at + 5 }
-    ensures text { take result text.new ≡ take at text.old ++ (64 ∷ (level_text level ++ 10 ∷ [])) }
+    requires room { at + 16 ≤ PIECE_BYTES }
+    ensures end { result ≡ at + 10 }
+    ensures text { take result text.new ≡ take at text.old ++ 64 ∷ (level_text level ++ codes "\nCHAN ") }
 {
-    write_word(&LEVELS[level as usize], 5, text, at)
+    write_words(&LEVELS[level as usize], 10, text, at)
 }
 
-/// Writes a word at a place, and says where its first bytes end that are wanted.
+/// Writes two words at a place, and says where their first bytes end that are wanted.
 #[inline(always)]
-fn write_word(word: &[u8; 8], count: usize, text: &mut [u8; PIECE_BYTES], at: usize) -> usize
-    requires count { count ≤ 8 }
-    requires room { at + 8 ≤ PIECE_BYTES }
+fn write_words(words: &[[u8; 8]; 2], count: usize, text: &mut [u8; PIECE_BYTES], at: usize) -> usize
+    requires count { count ≤ 16 }
+    requires room { at + 16 ≤ PIECE_BYTES }
     ensures end { result ≡ at + count }
-    ensures text { take result text.new ≡ take at text.old ++ take count word.now }
+    ensures text { take result text.new ≡ take at text.old ++ take count (slice_index_or words.now 0 [] ++ slice_index_or words.now 1 []) }
 {
-    store_word(word, text, at);
+    store_words(words, text, at);
     at + count
+}
+
+/// Writes two whole words at a place.
+#[inline(always)]
+fn store_words(words: &[[u8; 8]; 2], text: &mut [u8; PIECE_BYTES], at: usize)
+    requires { at + 16 ≤ PIECE_BYTES }
+    ensures { take (at + 16) text.new ≡ take at text.old ++ (slice_index_or words.now 0 [] ++ slice_index_or words.now 1 []) }
+{
+    store_word(&words[0], text, at);
+    store_word(&words[1], text, at + 8);
 }
 
 /// Writes a whole word at a place.
