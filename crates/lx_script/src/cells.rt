@@ -115,25 +115,8 @@ fn width_of(number: u64) -> usize
 }
 
 /// Writes the cells of some levels at the front of the text, and says where they end. Each number is near, and has one
-/// digit less than `width`. Most numbers have three digits: with a width that the compiler knows, a cell is one store.
+/// digit less than `width`.
 fn write_cells(number: u64, levels: &[Level], width: usize, text: &mut [u8; PIECE_BYTES]) -> usize
-    requires least { 2 ≤ width }
-    requires most { width ≤ 5 }
-    requires few { length levels.now ≤ PIECE_CELLS }
-    requires near { (n : ℕ) → number ≤ n → n < number + length levels.now → (n ≤ NEAR) × (width ≡ length (decimal n) + 1) }
-    ensures end { result ≤ PIECE_BYTES }
-    ensures text { take result text.new ≡ cells_from number levels.now }
-{
-    if width == 4 {
-        write_each(number, levels, 4, text)
-    } else {
-        write_each(number, levels, width, text)
-    }
-}
-
-/// The same, drawn into its callers.
-#[inline(always)]
-fn write_each(number: u64, levels: &[Level], width: usize, text: &mut [u8; PIECE_BYTES]) -> usize
     requires least { 2 ≤ width }
     requires most { width ≤ 5 }
     requires few { length levels.now ≤ PIECE_CELLS }

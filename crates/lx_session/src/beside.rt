@@ -88,7 +88,6 @@ impl<L: Listener> AnswersBeside<Console> for L {
 
     ghost may_want = { HeardMayWant L.admits_all };
 
-    #[inline(always)]
     fn answer_beside<K: Sink>(
         &mut self,
         lent: &mut Console,

@@ -29,7 +29,6 @@ use lx_spec::{Command, Line, Refusal};
 ///
 /// A fault comes only where the sink answered it in this call; then a prefix of the replies was appended, and
 /// the line's commands were applied.
-#[inline(always)]
 pub fn answer<L: Listener, K: Sink>(
     listener: &mut L,
     console: &mut Console,

@@ -1,7 +1,7 @@
 use Rattle.std.proofs.Common.{◌++◌, ◌+◌, ◌∙◌, ap, sym, get_or, arith}
 use Rattle.lx_script.specs.Cells.{cell}
 use Rattle.lx_script.proofs.Texts.{cells_next}
-use Rattle.lx_script.proofs.cells.write_each.Goals as goal
+use Rattle.lx_script.proofs.cells.write_cells.Goals as goal
 
 pub loop-at-preserved : goal.loop-at-preserved
 loop-at-preserved c = record {
