@@ -1,0 +1,10 @@
+use Rattle.std.proofs.Common.{length, ◌-◌, ◌≤◌, take, Ok}
+use Rattle.lx_io.specs.Puts.{Puts}
+use Rattle.lx_io.proofs.buffered.pass_on.Given as goal
+
+abbrev pub invariant-rest : goal.invariant-rest
+invariant-rest g l = (l.taken ≤ length l.bytes)
+    × Puts {T = Unit {0}} g.K.Sink.holds g.K.Sink.faults g.K.Sink.wants l.initial.sink l.sink (Ok tt) (take l.taken l.bytes)
+
+abbrev pub decreases-rest : goal.decreases-rest
+decreases-rest g l = length l.bytes - l.taken

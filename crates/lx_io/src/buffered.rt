@@ -1,0 +1,159 @@
+//! A sink that keeps bytes back until there are many of them.
+#![tactic(auto, using(crate::proofs::Chain::puts))]
+
+ghost use Rattle.std.specs.Prelude.{◌≡◌, ◌≤◌, ◌+◌, ◌-◌, ◌++◌, [], length, take, slice_range, OnOk};
+ghost use Rattle.std.specs.Io.KnownBytes.{Appends, Keeps};
+ghost use Rattle.lx_io.specs.Kept.{with_kept};
+ghost use Rattle.lx_io.specs.Puts.{HasSinkCause, Puts};
+
+use crate::{Sink, SinkFault, TEXT_ROOM, Text};
+
+/// How many bytes are kept back at most.
+const ROOM: usize = 65_536;
+
+/// A sink that keeps bytes back, at most 65,536, and hands them on together: where there is no room for more, and at a
+/// flush. Bytes that couldn't be handed on stay, so that a later flush tries them again.
+#[derive(Drop)]
+pub struct BufferedSink<K> {
+    sink: K,
+    room: [u8; ROOM],
+    len: usize,
+    ghost within: { len ≤ 65536 },
+}
+
+impl<K: Sink> BufferedSink<K> {
+    /// Keeps back what goes to the sink. Nothing is kept yet.
+    pub fn new(sink: K) -> BufferedSink<K>
+        ensures { ⟦<BufferedSink<K> as Sink>⟧.holds result ≡ with_kept (K.holds sink) [] }
+    {
+        BufferedSink {
+            sink,
+            room: [0; ROOM],
+            len: 0,
+        }
+    }
+
+    /// Hands on what is kept.
+    #[inline(never)]
+    fn hand_on(&mut self) -> Result<(), SinkFault>
+        ensures holds { Keeps (with_kept (K.holds self.old.sink) (take self.old.len self.old.room))
+            (with_kept (K.holds self.new.sink) (take self.new.len self.new.room)) }
+        ensures cause { HasSinkCause K.faults K.wants self.old.sink self.new.sink result }
+        ensures empty { OnOk result (self.new.len ≡ 0) }
+    {
+        let (count, passed) = pass_on(&self.room[..self.len], &mut self.sink);
+        self.keep_from(count);
+        passed
+    }
+
+    /// Goes on keeping what stands behind a place, and no more.
+    fn keep_from(&mut self, from: usize)
+        requires { from ≤ self.old.len }
+        ensures sink { self.new.sink ≡ self.old.sink }
+        ensures len { self.new.len ≡ self.old.len - from }
+        ensures kept { take self.new.len self.new.room ≡ slice_range self.old.room from self.old.len }
+    {
+        self.room.copy_within(from..self.len, 0);
+        self.len -= from;
+    }
+
+    /// Keeps a text back, for which there is room.
+    #[inline(always)]
+    fn keep(&mut self, text: &[u8])
+        requires { self.old.len + length text.now ≤ 65536 }
+        ensures sink { self.new.sink ≡ self.old.sink }
+        ensures len { self.new.len ≡ self.old.len + length text.now }
+        ensures kept { take self.new.len self.new.room ≡ take self.old.len self.old.room ++ text.now }
+    {
+        let end = self.len + text.len();
+        self.room[self.len..end].copy_from_slice(text);
+        self.len = end;
+    }
+
+    /// Appends a text for which there is no room before what is kept is handed on.
+    #[inline(never)]
+    fn put_far(&mut self, text: &[u8]) -> Result<(), SinkFault>
+        ensures { Puts (λ s. with_kept (K.holds s.sink) (take s.len s.room)) (λ s. K.faults s.sink) (λ s. K.wants s.sink) self.old self.new
+            result text.now }
+    {
+        self.hand_on()?;
+        if text.len() > ROOM {
+            return self.sink.put(text);
+        }
+        self.keep(text);
+        Ok(())
+    }
+
+    /// Sees to room for so many bytes, at most as many as are kept back.
+    #[inline(always)]
+    fn ensure_room(&mut self, count: usize) -> Result<(), SinkFault>
+        requires { count ≤ 65536 }
+        ensures holds { Keeps (with_kept (K.holds self.old.sink) (take self.old.len self.old.room))
+            (with_kept (K.holds self.new.sink) (take self.new.len self.new.room)) }
+        ensures cause { HasSinkCause K.faults K.wants self.old.sink self.new.sink result }
+        ensures room { OnOk result (self.new.len + count ≤ 65536) }
+    {
+        if ROOM - self.len < count {
+            return self.hand_on();
+        }
+        Ok(())
+    }
+}
+
+/// Hands bytes on until all of them are taken, or there is a fault. It says how many were taken.
+fn pass_on<K: Sink>(bytes: &[u8], sink: &mut K) -> (usize, Result<(), SinkFault>)
+    ensures within { result.0 ≤ length bytes.now }
+    ensures bytes { Appends (K.holds sink.old) (K.holds sink.new) (take result.0 bytes.now) }
+    ensures whole { OnOk result.1 (result.0 ≡ length bytes.now) }
+    ensures cause { HasSinkCause K.faults K.wants sink.old sink.new result.1 }
+{
+    let mut taken = 0;
+    'rest: while taken < bytes.len() {
+        match sink.write(&bytes[taken..]) {
+            Ok(count) => taken += count,
+            Err(fault) => return (taken, Err(fault)),
+        }
+    }
+    (taken, Ok(()))
+}
+
+impl<K: Sink> Sink for BufferedSink<K> {
+    ghost holds = { λ s. with_kept (K.holds s.sink) (take s.len s.room) };
+
+    ghost faults = { λ s. K.faults s.sink };
+
+    ghost wants = { λ s. K.wants s.sink };
+
+    /// Takes the whole piece, or as much of it as is kept back at most.
+    fn write(&mut self, piece: &[u8]) -> Result<usize, SinkFault> {
+        let count = piece.len().min(ROOM);
+        self.ensure_room(count)?;
+        self.keep(&piece[..count]);
+        Ok(count)
+    }
+
+    /// Hands on what is kept, and has the sink below hand on what it keeps.
+    fn flush(&mut self) -> Result<(), SinkFault> {
+        self.hand_on()?;
+        self.sink.flush()
+    }
+
+    #[inline(always)]
+    fn put(&mut self, text: &[u8]) -> Result<(), SinkFault> {
+        if text.len() > ROOM - self.len {
+            return self.put_far(text);
+        }
+        self.keep(text);
+        Ok(())
+    }
+
+    /// The text writes itself behind what is kept.
+    #[tactic(auto, using(crate::proofs::Chain::puts, crate::proofs::Rooms::take_of_part))]
+    #[inline(always)]
+    fn put_text<T: Text>(&mut self, text: &T) -> Result<(), SinkFault> {
+        self.ensure_room(TEXT_ROOM)?;
+        let count = text.write_into(&mut self.room[self.len..self.len + TEXT_ROOM]);
+        self.len += count;
+        Ok(())
+    }
+}
