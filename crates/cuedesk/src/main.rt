@@ -6,21 +6,17 @@ mod operators;
 mod universes;
 
 use lx_desk::Status;
-use lx_io::{Sink, StdSink, StdSource};
+use lx_io::{BufferedSink, Sink, StdSink, StdSource};
 use lx_program::{desk, desk_crew, desk_live, exit_of, words_of};
 use lx_spec::Job;
 use operators::scripts;
 use std::alloc::Global;
-use std::io::BufWriter;
 use std::process::ExitCode;
 use std::{env, io};
 use universes::{DeskPace, files};
 
 /// The line that says how the program is used.
 const USAGE: &str = "usage: cuedesk check|render|sheet [states] | make N | run U [states]";
-
-/// How many bytes of output are kept before they are handed on, where no read that may wait comes before.
-const OUTPUT_ROOM: usize = 65_536;
 
 /// The words after the program's name.
 fn words_given(rt: &HostRuntime) -> io::Result<Vec<String>> {
@@ -58,11 +54,8 @@ fn main(rt: HostRuntime) -> ExitCode {
         Ok(words) => words,
         Err(error) => return end(&rt, status_without_words(&error)),
     };
-    let Ok(writer) = BufWriter::with_capacity(rt.alloc(), OUTPUT_ROOM, rt.stdout()) else {
-        return end(&rt, Status::Memory);
-    };
     let mut input = StdSource::new(rt.stdin());
-    let mut output = StdSink::new(writer);
+    let mut output = BufferedSink::new(StdSink::new(rt.stdout()));
     let status = match desk(rt.alloc(), &words, &mut input, &mut output) {
         Status::Live if names_crew(rt.alloc(), &words) => desk_crew(
             &rt,

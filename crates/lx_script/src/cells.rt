@@ -3,12 +3,14 @@
 
 ghost use Rattle.std.specs.Prelude.{◌≡◌, ◌==◌, if◌then◌else◌, ℕ, ◌+◌, ◌*◌, ◌<◌, ◌≤◌, ◌^◌, ◌++◌, ◌∷◌, length, take, decimal, flat_map};
 ghost use Rattle.lx_io.specs.Puts.{Puts};
+ghost use Rattle.lx_io.specs.declared.sink.TheConstants.{TEXT_ROOM};
 ghost use Rattle.lx_spec.specs.Replies.{cells};
 ghost use Rattle.lx_script.specs.Cells.{cell, cells_from};
+ghost use Rattle.lx_script.specs.declared.cells.TheConstants.{NEAR, PIECE_CELLS};
 
 use crate::rows::{COUNTS, LEVELS, NUMBERS, PAIRS};
 use lx_base::Level;
-use lx_io::{Sink, SinkFault, put_all};
+use lx_io::{Sink, SinkFault, Text, put_all};
 use lx_lex::{put_count, put_count_and};
 
 /// The most bytes of a cell that is written with others: a space, a number of up to four digits, `=` and a level of up to
@@ -18,9 +20,6 @@ const CELL_BYTES: usize = 9;
 /// The most levels whose cells are one piece.
 const PIECE_CELLS: usize = 512;
 
-/// The most bytes of a piece.
-const PIECE_BYTES: usize = 4_608;
-
 /// The greatest number whose cell is written with others.
 const NEAR: usize = 9_999;
 
@@ -29,11 +28,10 @@ const NEAR: usize = 9_999;
 pub fn put_cells<K: Sink>(levels: &[Level], sink: &mut K) -> Result<(), SinkFault>
     ensures { Puts K.holds K.faults K.wants sink.old sink.new result (flat_map (λ word. 32 ∷ word) (cells levels.now)) }
 {
-    let mut text = [0; PIECE_BYTES];
     let mut from = 0;
     while from < levels.len() {
         let end = piece_end(from, levels.len());
-        put_piece(from as u64 + 1, &levels[from..end], &mut text, sink)?;
+        put_piece(from as u64 + 1, &levels[from..end], sink)?;
         from = end;
     }
     Ok(())
@@ -63,13 +61,26 @@ fn piece_end(from: usize, end: usize) -> usize
     from + (most.min(end) - from).min(PIECE_CELLS)
 }
 
-/// Appends the cells of some levels, as one piece that is written into `text`; or that of one level, whose number isn't near.
-fn put_piece<K: Sink>(
+/// The cells of some levels, the first of which has this number. The numbers are near, and have the same number of digits.
+#[derive(Drop)]
+struct Cells<'a> {
     number: u64,
-    levels: &[Level],
-    text: &mut [u8; PIECE_BYTES],
-    sink: &mut K,
-) -> Result<(), SinkFault>
+    levels: &'a [Level],
+    ghost first: { number ≤ NEAR },
+    ghost few: { length levels.now ≤ PIECE_CELLS },
+    ghost near: { (n : ℕ) → number ≤ n → n < number + length levels.now → (n ≤ NEAR) × (length (decimal n) ≡ length (decimal number)) },
+}
+
+impl Text for Cells<'_> {
+    ghost bytes = { λ piece. cells_from piece.number piece.levels.now };
+
+    fn write_into(&self, room: &mut [u8]) -> usize {
+        write_cells(self.number, self.levels, width_of(self.number), room)
+    }
+}
+
+/// Appends the cells of some levels, as one piece; or that of one level, whose number isn't near.
+fn put_piece<K: Sink>(number: u64, levels: &[Level], sink: &mut K) -> Result<(), SinkFault>
     requires some { 0 < length levels.now }
     requires few { length levels.now ≤ PIECE_CELLS }
     requires near { number ≤ NEAR → (n : ℕ) → number ≤ n → n < number + length levels.now
@@ -80,8 +91,7 @@ fn put_piece<K: Sink>(
     if number > NEAR as u64 {
         return put_far(number, levels[0], sink);
     }
-    let end = write_cells(number, levels, width_of(number), text);
-    put_all(sink, &text[..end])
+    sink.put_text(&Cells { number, levels })
 }
 
 /// Appends the cell of a level.
@@ -116,12 +126,13 @@ fn width_of(number: u64) -> usize
 
 /// Writes the cells of some levels at the front of the text, and says where they end. Each number is near, and has one
 /// digit less than `width`.
-fn write_cells(number: u64, levels: &[Level], width: usize, text: &mut [u8; PIECE_BYTES]) -> usize
+fn write_cells(number: u64, levels: &[Level], width: usize, text: &mut [u8]) -> usize
     requires least { 2 ≤ width }
     requires most { width ≤ 5 }
     requires few { length levels.now ≤ PIECE_CELLS }
     requires near { (n : ℕ) → number ≤ n → n < number + length levels.now → (n ≤ NEAR) × (width ≡ length (decimal n) + 1) }
-    ensures end { result ≤ PIECE_BYTES }
+    requires room { length text.old ≡ TEXT_ROOM }
+    ensures end { result ≤ TEXT_ROOM }
     ensures text { take result text.new ≡ cells_from number levels.now }
 {
     let mut end = 0;
@@ -138,14 +149,14 @@ fn write_cell(
     number: u64,
     width: usize,
     level: Level,
-    text: &mut [u8; PIECE_BYTES],
+    text: &mut [u8],
     at: usize,
 ) -> usize
     requires near { number ≤ NEAR }
     requires least { 2 ≤ width }
     requires most { width ≤ 5 }
     requires width { width ≡ length (decimal number) + 1 }
-    requires room { at + CELL_BYTES ≤ PIECE_BYTES }
+    requires room { at + CELL_BYTES ≤ length text.old }
     ensures end { result ≤ at + CELL_BYTES }
     ensures text { take result text.new ≡ take at text.old ++ cell number level }
 {
@@ -168,11 +179,11 @@ fn count_of(width: usize, level: Level) -> usize
 
 /// Writes a space and a number at a place, and says where they end. They are of so many bytes.
 #[inline(always)]
-fn write_number(number: u64, width: usize, text: &mut [u8; PIECE_BYTES], at: usize) -> usize
+fn write_number(number: u64, width: usize, text: &mut [u8], at: usize) -> usize
     requires near { number ≤ NEAR }
     requires most { width ≤ 5 }
     requires width { width ≡ length (decimal number) + 1 }
-    requires room { at + 5 ≤ PIECE_BYTES }
+    requires room { at + 5 ≤ length text.old }
     ensures end { result ≡ at + width }
     ensures text { take result text.new ≡ take at text.old ++ 32 ∷ decimal number }
 {
@@ -185,8 +196,8 @@ fn write_number(number: u64, width: usize, text: &mut [u8; PIECE_BYTES], at: usi
 
 /// Writes `=level` at a place. What follows it may be written over.
 #[inline(always)]
-fn write_level(level: Level, text: &mut [u8; PIECE_BYTES], at: usize)
-    requires { at + 4 ≤ PIECE_BYTES }
+fn write_level(level: Level, text: &mut [u8], at: usize)
+    requires { at + 4 ≤ length text.old }
     ensures { take (at + (length (decimal level) + 1)) text.new ≡ take at text.old ++ 61 ∷ decimal level }
 {
     write_all(&LEVELS[level as usize], text, at);
@@ -194,9 +205,9 @@ fn write_level(level: Level, text: &mut [u8; PIECE_BYTES], at: usize)
 
 /// Writes a row at a place, and says where its first bytes end that are wanted.
 #[inline(always)]
-fn write_row(row: &[u8; 4], count: usize, text: &mut [u8; PIECE_BYTES], at: usize) -> usize
+fn write_row(row: &[u8; 4], count: usize, text: &mut [u8], at: usize) -> usize
     requires count { count ≤ 4 }
-    requires room { at + 4 ≤ PIECE_BYTES }
+    requires room { at + 4 ≤ length text.old }
     ensures end { result ≡ at + count }
     ensures text { take result text.new ≡ take at text.old ++ take count row.now }
 {
@@ -206,8 +217,8 @@ fn write_row(row: &[u8; 4], count: usize, text: &mut [u8; PIECE_BYTES], at: usiz
 
 /// Writes four bytes at a place.
 #[inline(always)]
-fn write_all(row: &[u8; 4], text: &mut [u8; PIECE_BYTES], at: usize)
-    requires { at + 4 ≤ PIECE_BYTES }
+fn write_all(row: &[u8; 4], text: &mut [u8], at: usize)
+    requires { at + 4 ≤ length text.old }
     ensures { take (at + 4) text.new ≡ take at text.old ++ row.now }
 {
     // Byte by byte, which is one store of four bytes.
@@ -219,8 +230,8 @@ fn write_all(row: &[u8; 4], text: &mut [u8; PIECE_BYTES], at: usize)
 
 /// Writes two bytes at a place, and says where they end.
 #[inline(always)]
-fn write_pair(pair: &[u8; 2], text: &mut [u8; PIECE_BYTES], at: usize) -> usize
-    requires room { at + 2 ≤ PIECE_BYTES }
+fn write_pair(pair: &[u8; 2], text: &mut [u8], at: usize) -> usize
+    requires room { at + 2 ≤ length text.old }
     ensures end { result ≡ at + 2 }
     ensures text { take result text.new ≡ take at text.old ++ pair.now }
 {
