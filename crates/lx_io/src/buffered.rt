@@ -100,6 +100,19 @@ impl<K: Sink> BufferedSink<K> {
     }
 }
 
+/// Has a text write itself into a part of the room, and says where it ends there.
+#[inline(always)]
+fn write_text<T: Text>(text: &T, part: &mut [u8]) -> usize
+    requires { length part.old ≡ TEXT_ROOM }
+    ensures within { result ≤ TEXT_ROOM }
+    ensures text { take result part.new ≡ T.bytes text.now }
+{
+    match part.as_mut_array() {
+        Some(room) => text.write_into(room),
+        None => unreachable!(),
+    }
+}
+
 /// Hands bytes on until all of them are taken, or there is a fault. It says how many were taken.
 fn pass_on<K: Sink>(bytes: &[u8], sink: &mut K) -> (usize, Result<(), SinkFault>)
     ensures within { result.0 ≤ length bytes.now }
@@ -152,7 +165,7 @@ impl<K: Sink> Sink for BufferedSink<K> {
     #[inline(always)]
     fn put_text<T: Text>(&mut self, text: &T) -> Result<(), SinkFault> {
         self.ensure_room(TEXT_ROOM)?;
-        let count = text.write_into(&mut self.room[self.len..self.len + TEXT_ROOM]);
+        let count = write_text(text, &mut self.room[self.len..self.len + TEXT_ROOM]);
         self.len += count;
         Ok(())
     }

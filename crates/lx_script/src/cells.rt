@@ -3,14 +3,13 @@
 
 ghost use Rattle.std.specs.Prelude.{◌≡◌, ◌==◌, if◌then◌else◌, ℕ, ◌+◌, ◌*◌, ◌<◌, ◌≤◌, ◌^◌, ◌++◌, ◌∷◌, length, take, decimal, flat_map};
 ghost use Rattle.lx_io.specs.Puts.{Puts};
-ghost use Rattle.lx_io.specs.declared.sink.TheConstants.{TEXT_ROOM};
 ghost use Rattle.lx_spec.specs.Replies.{cells};
 ghost use Rattle.lx_script.specs.Cells.{cell, cells_from};
 ghost use Rattle.lx_script.specs.declared.cells.TheConstants.{NEAR, PIECE_CELLS};
 
 use crate::rows::{COUNTS, LEVELS, NUMBERS, PAIRS};
 use lx_base::Level;
-use lx_io::{Sink, SinkFault, Text, put_all};
+use lx_io::{Sink, SinkFault, TEXT_ROOM, Text, put_all};
 use lx_lex::{put_count, put_count_and};
 
 /// The most bytes of a cell that is written with others: a space, a number of up to four digits, `=` and a level of up to
@@ -74,7 +73,7 @@ struct Cells<'a> {
 impl Text for Cells<'_> {
     ghost bytes = { λ piece. cells_from piece.number piece.levels.now };
 
-    fn write_into(&self, room: &mut [u8]) -> usize {
+    fn write_into(&self, room: &mut [u8; TEXT_ROOM]) -> usize {
         write_cells(self.number, self.levels, width_of(self.number), room)
     }
 }
@@ -126,12 +125,11 @@ fn width_of(number: u64) -> usize
 
 /// Writes the cells of some levels at the front of the text, and says where they end. Each number is near, and has one
 /// digit less than `width`.
-fn write_cells(number: u64, levels: &[Level], width: usize, text: &mut [u8]) -> usize
+fn write_cells(number: u64, levels: &[Level], width: usize, text: &mut [u8; TEXT_ROOM]) -> usize
     requires least { 2 ≤ width }
     requires most { width ≤ 5 }
     requires few { length levels.now ≤ PIECE_CELLS }
     requires near { (n : ℕ) → number ≤ n → n < number + length levels.now → (n ≤ NEAR) × (width ≡ length (decimal n) + 1) }
-    requires room { length text.old ≡ TEXT_ROOM }
     ensures end { result ≤ TEXT_ROOM }
     ensures text { take result text.new ≡ cells_from number levels.now }
 {
@@ -149,14 +147,14 @@ fn write_cell(
     number: u64,
     width: usize,
     level: Level,
-    text: &mut [u8],
+    text: &mut [u8; TEXT_ROOM],
     at: usize,
 ) -> usize
     requires near { number ≤ NEAR }
     requires least { 2 ≤ width }
     requires most { width ≤ 5 }
     requires width { width ≡ length (decimal number) + 1 }
-    requires room { at + CELL_BYTES ≤ length text.old }
+    requires room { at + CELL_BYTES ≤ TEXT_ROOM }
     ensures end { result ≤ at + CELL_BYTES }
     ensures text { take result text.new ≡ take at text.old ++ cell number level }
 {
@@ -179,11 +177,11 @@ fn count_of(width: usize, level: Level) -> usize
 
 /// Writes a space and a number at a place, and says where they end. They are of so many bytes.
 #[inline(always)]
-fn write_number(number: u64, width: usize, text: &mut [u8], at: usize) -> usize
+fn write_number(number: u64, width: usize, text: &mut [u8; TEXT_ROOM], at: usize) -> usize
     requires near { number ≤ NEAR }
     requires most { width ≤ 5 }
     requires width { width ≡ length (decimal number) + 1 }
-    requires room { at + 5 ≤ length text.old }
+    requires room { at + 5 ≤ TEXT_ROOM }
     ensures end { result ≡ at + width }
     ensures text { take result text.new ≡ take at text.old ++ 32 ∷ decimal number }
 {
@@ -196,8 +194,8 @@ fn write_number(number: u64, width: usize, text: &mut [u8], at: usize) -> usize
 
 /// Writes `=level` at a place. What follows it may be written over.
 #[inline(always)]
-fn write_level(level: Level, text: &mut [u8], at: usize)
-    requires { at + 4 ≤ length text.old }
+fn write_level(level: Level, text: &mut [u8; TEXT_ROOM], at: usize)
+    requires { at + 4 ≤ TEXT_ROOM }
     ensures { take (at + (length (decimal level) + 1)) text.new ≡ take at text.old ++ 61 ∷ decimal level }
 {
     write_all(&LEVELS[level as usize], text, at);
@@ -205,9 +203,9 @@ fn write_level(level: Level, text: &mut [u8], at: usize)
 
 /// Writes a row at a place, and says where its first bytes end that are wanted.
 #[inline(always)]
-fn write_row(row: &[u8; 4], count: usize, text: &mut [u8], at: usize) -> usize
+fn write_row(row: &[u8; 4], count: usize, text: &mut [u8; TEXT_ROOM], at: usize) -> usize
     requires count { count ≤ 4 }
-    requires room { at + 4 ≤ length text.old }
+    requires room { at + 4 ≤ TEXT_ROOM }
     ensures end { result ≡ at + count }
     ensures text { take result text.new ≡ take at text.old ++ take count row.now }
 {
@@ -217,8 +215,8 @@ fn write_row(row: &[u8; 4], count: usize, text: &mut [u8], at: usize) -> usize
 
 /// Writes four bytes at a place.
 #[inline(always)]
-fn write_all(row: &[u8; 4], text: &mut [u8], at: usize)
-    requires { at + 4 ≤ length text.old }
+fn write_all(row: &[u8; 4], text: &mut [u8; TEXT_ROOM], at: usize)
+    requires { at + 4 ≤ TEXT_ROOM }
     ensures { take (at + 4) text.new ≡ take at text.old ++ row.now }
 {
     // Byte by byte, which is one store of four bytes.
@@ -230,8 +228,8 @@ fn write_all(row: &[u8; 4], text: &mut [u8], at: usize)
 
 /// Writes two bytes at a place, and says where they end.
 #[inline(always)]
-fn write_pair(pair: &[u8; 2], text: &mut [u8], at: usize) -> usize
-    requires room { at + 2 ≤ length text.old }
+fn write_pair(pair: &[u8; 2], text: &mut [u8; TEXT_ROOM], at: usize) -> usize
+    requires room { at + 2 ≤ TEXT_ROOM }
     ensures end { result ≡ at + 2 }
     ensures text { take result text.new ≡ take at text.old ++ pair.now }
 {

@@ -3,6 +3,7 @@
 
 ghost use Rattle.std.specs.Prelude.{◌≡◌, ◌==◌, ◌+◌, ◌-◌, ◌<◌, ◌≤◌, [], ◌++◌, ◌∷◌, codes, decimal, filter, take, flat_map, length, slice_index_or};
 ghost use Rattle.lx_io.specs.Puts.{Puts};
+ghost use Rattle.lx_writer.specs.declared.lines.TheConstants.{PIECE_MOVES};
 ghost use Rattle.lx_base.specs.declared.TheConstants.{CHANNELS};
 ghost use Rattle.lx_spec.specs.Numerals.{level_text};
 ghost use Rattle.lx_spec.specs.ShowText.{line, at_text, move_text};
@@ -10,7 +11,7 @@ ghost use Rattle.lx_spec.specs.ShowText.{line, at_text, move_text};
 use crate::names::{DIGITS, NUMBERS};
 use crate::rows::LEVELS;
 use lx_base::{Chan, Level, PartNo};
-use lx_io::{Sink, SinkFault, put_all};
+use lx_io::{Sink, SinkFault, TEXT_ROOM, Text};
 use lx_show::Move;
 
 /// The most bytes of a line: `CHAN `, a number of up to four digits, `@`, a level of three bytes and the line's end.
@@ -22,11 +23,8 @@ const WRITTEN_BYTES: usize = 20;
 /// The bytes of the word that a line begins with, and a space.
 const WORD_BYTES: usize = 5;
 
-/// The most moves whose lines are one piece.
-const PIECE_MOVES: usize = 64;
-
-/// The most bytes of a piece, the word of a line behind it and what is written over.
-const PIECE_BYTES: usize = 912;
+/// The most moves whose lines are one piece, so that there is room for the word of a line behind them and what is written over.
+const PIECE_MOVES: usize = 320;
 
 /// Appends a line for each move that stands in the part.
 pub(crate) fn put_moves<K: Sink>(
@@ -36,36 +34,45 @@ pub(crate) fn put_moves<K: Sink>(
 ) -> Result<(), SinkFault>
     ensures { Puts K.holds K.faults K.wants sink.old sink.new result (flat_map move_text (filter (λ entry. entry.part == part) moves.now)) }
 {
-    let mut text = [0; PIECE_BYTES];
     let mut from = 0;
     while from < moves.len() {
         let end = (from + PIECE_MOVES).min(moves.len());
-        put_piece(&moves[from..end], part, &mut text, sink)?;
+        put_piece(&moves[from..end], part, sink)?;
         from = end;
     }
     Ok(())
 }
 
-/// Appends the lines of some moves, as one piece that is written into `text`.
-fn put_piece<K: Sink>(
-    moves: &[Move],
+/// The lines of some moves, of those that stand in the part.
+#[derive(Drop)]
+struct MoveLines<'a> {
+    moves: &'a [Move],
     part: PartNo,
-    text: &mut [u8; PIECE_BYTES],
-    sink: &mut K,
-) -> Result<(), SinkFault>
+    ghost few: { length moves.now ≤ PIECE_MOVES },
+}
+
+impl Text for MoveLines<'_> {
+    ghost bytes = { λ lines. flat_map move_text (filter (λ entry. entry.part == lines.part) lines.moves.now) };
+
+    fn write_into(&self, room: &mut [u8; TEXT_ROOM]) -> usize {
+        write_lines(self.moves, self.part, room)
+    }
+}
+
+/// Appends the lines of some moves, as one piece.
+fn put_piece<K: Sink>(moves: &[Move], part: PartNo, sink: &mut K) -> Result<(), SinkFault>
     requires { length moves.now ≤ PIECE_MOVES }
     ensures { Puts K.holds K.faults K.wants sink.old sink.new result (flat_map move_text (filter (λ entry. entry.part == part) moves.now)) }
 {
-    let end = write_lines(moves, part, text);
-    put_all(sink, &text[..end])
+    sink.put_text(&MoveLines { moves, part })
 }
 
 /// Writes the lines of some moves at the front of the text, and says where they end. The first word of a line is written behind the
 /// line before, so that a line is two stores. It stands apart, so that the loop has the processor's registers to itself.
 #[inline(never)]
-fn write_lines(moves: &[Move], part: PartNo, text: &mut [u8; PIECE_BYTES]) -> usize
+fn write_lines(moves: &[Move], part: PartNo, text: &mut [u8; TEXT_ROOM]) -> usize
     requires { length moves.now ≤ PIECE_MOVES }
-    ensures end { result ≤ PIECE_BYTES }
+    ensures end { result ≤ TEXT_ROOM }
     ensures text { take result text.new ≡ flat_map move_text (filter (λ entry. entry.part == part) moves.now) }
 {
     let mut end = begin_line(text);
@@ -78,7 +85,7 @@ fn write_lines(moves: &[Move], part: PartNo, text: &mut [u8; PIECE_BYTES]) -> us
 }
 
 /// Writes the word of the first line at the front of the text, and says where it ends.
-fn begin_line(text: &mut [u8; PIECE_BYTES]) -> usize
+fn begin_line(text: &mut [u8; TEXT_ROOM]) -> usize
     ensures end { result ≡ WORD_BYTES }
     ensures text { take result text.new ≡ codes "CHAN " }
 {
@@ -96,8 +103,8 @@ fn stands_in(entry: &Move, part: PartNo) -> bool
 /// Writes the line of a channel and its level behind its word at a place, and the word of the next; and says where that ends. What
 /// follows it may be written over.
 #[inline(always)]
-fn write_line(chan: Chan, level: Level, text: &mut [u8; PIECE_BYTES], at: usize) -> usize
-    requires room { at + WRITTEN_BYTES ≤ PIECE_BYTES }
+fn write_line(chan: Chan, level: Level, text: &mut [u8; TEXT_ROOM], at: usize) -> usize
+    requires room { at + WRITTEN_BYTES ≤ TEXT_ROOM }
     ensures more { at ≤ result }
     ensures end { result ≤ at + LINE_BYTES }
     ensures text { take result text.new ≡ take at text.old ++ (decimal chan ++ 64 ∷ (level_text level ++ codes "\nCHAN ")) }
@@ -108,8 +115,8 @@ fn write_line(chan: Chan, level: Level, text: &mut [u8; PIECE_BYTES], at: usize)
 
 /// Writes a channel's number at a place, and says where it ends.
 #[inline(always)]
-fn write_number(chan: Chan, text: &mut [u8; PIECE_BYTES], at: usize) -> usize
-    requires room { at + 4 ≤ PIECE_BYTES }
+fn write_number(chan: Chan, text: &mut [u8; TEXT_ROOM], at: usize) -> usize
+    requires room { at + 4 ≤ TEXT_ROOM }
     ensures more { at ≤ result }
     ensures end { result ≤ at + 4 }
     ensures text { take result text.new ≡ take at text.old ++ decimal chan }
@@ -136,8 +143,8 @@ fn digits_of(chan: Chan) -> usize
 
 /// Writes `@`, a level, the line's end and the word of the next line at a place, and says where they end.
 #[inline(always)]
-fn write_level(level: Level, text: &mut [u8; PIECE_BYTES], at: usize) -> usize
-    requires room { at + 16 ≤ PIECE_BYTES }
+fn write_level(level: Level, text: &mut [u8; TEXT_ROOM], at: usize) -> usize
+    requires room { at + 16 ≤ TEXT_ROOM }
     ensures end { result ≡ at + 10 }
     ensures text { take result text.new ≡ take at text.old ++ 64 ∷ (level_text level ++ codes "\nCHAN ") }
 {
@@ -146,9 +153,9 @@ fn write_level(level: Level, text: &mut [u8; PIECE_BYTES], at: usize) -> usize
 
 /// Writes two words at a place, and says where their first bytes end that are wanted.
 #[inline(always)]
-fn write_words(words: &[[u8; 8]; 2], count: usize, text: &mut [u8; PIECE_BYTES], at: usize) -> usize
+fn write_words(words: &[[u8; 8]; 2], count: usize, text: &mut [u8; TEXT_ROOM], at: usize) -> usize
     requires count { count ≤ 16 }
-    requires room { at + 16 ≤ PIECE_BYTES }
+    requires room { at + 16 ≤ TEXT_ROOM }
     ensures end { result ≡ at + count }
     ensures text { take result text.new ≡ take at text.old ++ take count (slice_index_or words.now 0 [] ++ slice_index_or words.now 1 []) }
 {
@@ -158,8 +165,8 @@ fn write_words(words: &[[u8; 8]; 2], count: usize, text: &mut [u8; PIECE_BYTES],
 
 /// Writes two whole words at a place.
 #[inline(always)]
-fn store_words(words: &[[u8; 8]; 2], text: &mut [u8; PIECE_BYTES], at: usize)
-    requires { at + 16 ≤ PIECE_BYTES }
+fn store_words(words: &[[u8; 8]; 2], text: &mut [u8; TEXT_ROOM], at: usize)
+    requires { at + 16 ≤ TEXT_ROOM }
     ensures { take (at + 16) text.new ≡ take at text.old ++ (slice_index_or words.now 0 [] ++ slice_index_or words.now 1 []) }
 {
     store_word(&words[0], text, at);
@@ -168,8 +175,8 @@ fn store_words(words: &[[u8; 8]; 2], text: &mut [u8; PIECE_BYTES], at: usize)
 
 /// Writes a whole word at a place.
 #[inline(always)]
-fn store_word(word: &[u8; 8], text: &mut [u8; PIECE_BYTES], at: usize)
-    requires { at + 8 ≤ PIECE_BYTES }
+fn store_word(word: &[u8; 8], text: &mut [u8; TEXT_ROOM], at: usize)
+    requires { at + 8 ≤ TEXT_ROOM }
     ensures { take (at + 8) text.new ≡ take at text.old ++ word.now }
 {
     // Byte by byte, which is one store of eight bytes: `copy_from_slice` asks at each call whether the two overlap.
@@ -180,9 +187,9 @@ fn store_word(word: &[u8; 8], text: &mut [u8; PIECE_BYTES], at: usize)
 
 /// Writes a row at a place, and says where its first bytes end that are wanted.
 #[inline(always)]
-fn write_row(row: &[u8; 4], count: usize, text: &mut [u8; PIECE_BYTES], at: usize) -> usize
+fn write_row(row: &[u8; 4], count: usize, text: &mut [u8; TEXT_ROOM], at: usize) -> usize
     requires count { count ≤ 4 }
-    requires room { at + 4 ≤ PIECE_BYTES }
+    requires room { at + 4 ≤ TEXT_ROOM }
     ensures end { result ≡ at + count }
     ensures text { take result text.new ≡ take at text.old ++ take count row.now }
 {
@@ -192,8 +199,8 @@ fn write_row(row: &[u8; 4], count: usize, text: &mut [u8; PIECE_BYTES], at: usiz
 
 /// Writes a whole row at a place.
 #[inline(always)]
-fn store_row(row: &[u8; 4], text: &mut [u8; PIECE_BYTES], at: usize)
-    requires { at + 4 ≤ PIECE_BYTES }
+fn store_row(row: &[u8; 4], text: &mut [u8; TEXT_ROOM], at: usize)
+    requires { at + 4 ≤ TEXT_ROOM }
     ensures { take (at + 4) text.new ≡ take at text.old ++ row.now }
 {
     text[at] = row[0];

@@ -6,7 +6,7 @@ use Rattle.lx_writer.proofs.lines.write_lines.Given as goal
 
 abbrev pub invariant-loop-entry : goal.invariant-loop-entry
 invariant-loop-entry l = record {
-  long : length l.text ≡ 912;
+  long : length l.text ≡ 4608;
   word : 5 ≤ l.end;
   room : l.end ≤ 14 * l.entry-index + 5;
   text : take l.end l.text ≡ flat_map move_text (filter (λ (entry : Move). entry.part == l.part) (take l.entry-index l.moves)) ++ codes "CHAN ";
