@@ -1,29 +1,19 @@
--- The decimals of a number, written from left to right.
+-- The digits and decimals of a number, written from left to right.
 use Rattle.std.proofs.Common.{◌≡◌, ◌≢◌, ◌⊎◌, inl, inr, ℕ, zero, suc, ◌+◌, ◌-◌, ◌*◌, ◌/◌, ◌%◌, ◌<◌, ◌≤◌, List, [], ◌∷◌, ◌++◌, length, take}
-use Rattle.std.proofs.Common.{drop, set, refl, sym, ap, ◌∙◌, append-nil, append_assoc, length-drop, arith}
-use Rattle.std.specs.Prelude.{slice_range}
+use Rattle.std.proofs.Common.{set, refl, sym, ap, ◌∙◌, append-nil, append_assoc, decimal, arith}
 use Rattle.std.proofs.Math.Nat.{mod-lt}
-use Rattle.std.proofs.Math.Seq.{take-append-add}
 use Rattle.std.proofs.lemmas.Bool.{ne_eqb}
-use Rattle.std.proofs.lemmas.List.{drop-set-add, take_more_set}
+use Rattle.std.proofs.lemmas.List.{take_more_set}
+use Rattle.itoa.proofs.Decimal.{length_one, length_two, length_pair}
 use Rattle.lx_spec.specs.Numerals.{decimals_of}
 use Rattle.lx_lex.specs.Texts.{decimals_text}
 
--- a range that ends with what was written last
-pub slice_push : (xs : List ℕ) (s e v : ℕ) → s ≤ e → e < length xs → slice_range (set xs e v) s (e + 1) ≡ slice_range xs s e ++ v ∷ []
-slice_push xs s e v le lt =
-    let at : e ≡ s + (e - s) = omega arith in
-    let more : e + 1 - s ≡ e - s + 1 = omega arith in
-    let inside : drop s (set xs e v) ≡ set (drop s xs) (e - s) v = ap (λ k. drop s (set xs k v)) at ∙ drop-set-add s xs (e - s) v in
-    let room : e - s < length (drop s xs) = omega (arith, length-drop s xs) in
-    ap (λ m. take m (drop s (set xs e v))) more ∙ ap (take (e - s + 1)) inside ∙ take_more_set (drop s xs) (e - s) v room
+pub length_three : (n : ℕ) → 100 ≤ n → n < 1000 → length (decimal n) ≡ 3
+length_three n least most = omega (arith, length_pair n least (omega arith), length_one (n / 100) (omega arith))
 
--- digits that were written right before a range
-pub slice_behind : (xs ys digits : List ℕ) (s m e : ℕ) → drop s ys ≡ digits ++ drop m xs → s + length digits ≡ m → m ≤ e
-    → slice_range ys s e ≡ digits ++ slice_range xs m e
-slice_behind xs ys digits s m e is at le =
-    let size : e - s ≡ length digits + (e - m) = omega arith in
-    ap (λ n. take n (drop s ys)) size ∙ ap (take (length digits + (e - m))) is ∙ take-append-add digits (drop m xs) (e - m)
+pub length_four : (n : ℕ) → 1000 ≤ n → n < 10000 → length (decimal n) ≡ 4
+length_four n least most =
+    omega (arith, length_pair n (omega arith) (omega arith), length_two (n / 100) (omega arith) (omega arith))
 
 decimals_of-next : (k unit rest : ℕ) → 0 < k → rest ≢ 0
     → decimals_of k unit rest ≡ (48 + 10 * rest / unit) ∷ decimals_of (k - 1) unit (10 * rest % unit)
@@ -39,45 +29,47 @@ decimals_of-zero (suc k) unit = refl
 pub decimals_text-some : (unit rest : ℕ) → rest ≢ 0 → decimals_text unit rest ≡ 46 ∷ decimals_of 3 unit rest
 decimals_text-some unit rest ne = rw (ne_eqb rest 0 ne) refl
 
--- from the point, which stands at 32, up to `end` a part of all was written, and the decimals of the rest are missing
-pub record Written (text : List ℕ) (end unit rest : ℕ) (all : List ℕ) : Type 0 where
-  pub from : 33 ≤ end
-  pub within : end ≤ 36
+-- up to `end` a part of all was written, and the decimals of the rest are missing, which end at `last` at most
+pub record Written (text : List ℕ) (end last unit rest : ℕ) (all : List ℕ) : Type 0 where
+  pub within : end ≤ last
   pub small : rest < unit
-  pub is_all : slice_range text 32 end ++ decimals_of (36 - end) unit rest ≡ all
+  pub is_all : take end text ++ decimals_of (last - end) unit rest ≡ all
 
-pub begun : (text : List ℕ) (unit rest : ℕ) → length text ≡ 37 → rest < unit
-    → Written (set text 32 46) 33 unit rest (46 ∷ decimals_of 3 unit rest)
-begun text unit rest size small = record {
-  from = omega arith;
-  within = omega arith;
-  small = small;
-  is_all = ap (λ v. v ++ decimals_of 3 unit rest) (slice_push text 32 32 46 (omega arith) (omega arith));
-}
+pub begun : (text : List ℕ) (at unit rest : ℕ) → at < length text → rest < unit
+    → Written (set text at 46) (at + 1) (at + 4) unit rest (take at text ++ 46 ∷ decimals_of 3 unit rest)
+begun text at unit rest inside small =
+    let three : at + 4 - (at + 1) ≡ 3 = omega arith in
+    record {
+      within = omega arith;
+      small = small;
+      is_all = ap (λ k. take (at + 1) (set text at 46) ++ decimals_of k unit rest) three
+          ∙ ap (λ v. v ++ decimals_of 3 unit rest) (take_more_set text at 46 inside)
+          ∙ append_assoc (take at text) (46 ∷ []) (decimals_of 3 unit rest);
+    }
 
-pub goes_on : (text : List ℕ) (end unit rest : ℕ) (all : List ℕ) → Written text end unit rest all → length text ≡ 37 → rest ≢ 0 → end < 36
-    → Written (set text end (48 + 10 * rest / unit)) (end + 1) unit (10 * rest % unit) all
-goes_on text end unit rest all w size ne lt = record {
-  from = omega (arith, w.from);
+pub goes_on : (text : List ℕ) (end last unit rest : ℕ) (all : List ℕ) → Written text end last unit rest all → last ≤ length text → rest ≢ 0
+    → end < last → Written (set text end (48 + 10 * rest / unit)) (end + 1) last unit (10 * rest % unit) all
+goes_on text end last unit rest all w size ne lt = record {
   within = omega arith;
   small = mod-lt (10 * rest) (omega (arith, w.small));
   is_all =
-      let missing : decimals_of (36 - end) unit rest ≡ (48 + 10 * rest / unit) ∷ decimals_of (36 - end - 1) unit (10 * rest % unit) =
-      decimals_of-next (36 - end) unit rest (omega arith) ne in
-      let fewer : 36 - (end + 1) ≡ 36 - end - 1 = omega arith in
-      ap (λ v. v ++ decimals_of (36 - (end + 1)) unit (10 * rest % unit))
-      (slice_push text 32 end (48 + 10 * rest / unit) (omega (arith, w.from)) (omega (arith, size)))
-      ∙ append_assoc (slice_range text 32 end) ((48 + 10 * rest / unit) ∷ []) (decimals_of (36 - (end + 1)) unit (10 * rest % unit))
-      ∙ ap (λ k. slice_range text 32 end ++ (48 + 10 * rest / unit) ∷ decimals_of k unit (10 * rest % unit)) fewer
-      ∙ ap (λ v. slice_range text 32 end ++ v) (sym missing)
+      let digit : ℕ = 48 + 10 * rest / unit in
+      let next : ℕ = 10 * rest % unit in
+      let missing : decimals_of (last - end) unit rest ≡ digit ∷ decimals_of (last - end - 1) unit next =
+      decimals_of-next (last - end) unit rest (omega arith) ne in
+      let fewer : last - (end + 1) ≡ last - end - 1 = omega arith in
+      ap (λ v. v ++ decimals_of (last - (end + 1)) unit next) (take_more_set text end digit (omega (arith, size)))
+      ∙ append_assoc (take end text) (digit ∷ []) (decimals_of (last - (end + 1)) unit next)
+      ∙ ap (λ k. take end text ++ digit ∷ decimals_of k unit next) fewer
+      ∙ ap (λ v. take end text ++ v) (sym missing)
       ∙ w.is_all;
 }
 
-pub ended : (text : List ℕ) (end unit rest : ℕ) (all : List ℕ) → Written text end unit rest all → (rest ≡ 0) ⊎ (36 ≤ end)
-    → slice_range text 32 end ≡ all
-ended text end unit rest all w (inl none) =
-    sym (append-nil (slice_range text 32 end))
-    ∙ ap (λ v. slice_range text 32 end ++ v) (sym (ap (decimals_of (36 - end) unit) none ∙ decimals_of-zero (36 - end) unit)) ∙ w.is_all
-ended text end unit rest all w (inr full) =
-    let none : 36 - end ≡ 0 = omega arith in
-    sym (append-nil (slice_range text 32 end)) ∙ ap (λ k. slice_range text 32 end ++ decimals_of k unit rest) (sym none) ∙ w.is_all
+pub ended : (text : List ℕ) (end last unit rest : ℕ) (all : List ℕ) → Written text end last unit rest all → (rest ≡ 0) ⊎ (last ≤ end)
+    → take end text ≡ all
+ended text end last unit rest all w (inl none) =
+    sym (append-nil (take end text))
+    ∙ ap (λ v. take end text ++ v) (sym (ap (decimals_of (last - end) unit) none ∙ decimals_of-zero (last - end) unit)) ∙ w.is_all
+ended text end last unit rest all w (inr full) =
+    let none : last - end ≡ 0 = omega arith in
+    sym (append-nil (take end text)) ∙ ap (λ k. take end text ++ decimals_of k unit rest) (sym none) ∙ w.is_all

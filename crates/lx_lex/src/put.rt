@@ -1,28 +1,25 @@
 //! Texts of numbers, each handed to a sink as one piece. The answer is the sink's own fault, and then a front of the
 //! text was appended.
-ghost use Rattle.std.specs.Prelude.{◌≡◌, ◌<◌, ◌≤◌, ◌++◌, ◌∷◌, [], ◌+◌, decimal, drop, length, slice_range};
+#![tactic(auto, using(lx_io::proofs::Chain::puts))]
+
+ghost use Rattle.std.specs.Prelude.{◌≡◌, ◌<◌, ◌≤◌, ◌++◌, ◌∷◌, [], ◌+◌, decimal, length, take};
 ghost use Rattle.lx_io.specs.Puts.{Puts};
 ghost use Rattle.lx_spec.specs.Numerals.{decimal_text, time_text, hex_digit, level_text};
-ghost use Rattle.lx_lex.specs.Texts.{decimals_text};
+ghost use Rattle.lx_lex.specs.Texts.{behind_text, decimals_text};
+ghost use Rattle.lx_lex.specs.declared.put.TheConstants.{START_BYTES};
 
-use itoa::{Buffer, write_digits};
+use itoa::write_digits;
 use lx_base::{CUE_UNIT, CueNo, Level};
-use lx_io::{Sink, SinkFault, put_all};
+use lx_io::{Sink, SinkFault, TEXT_ROOM, Text, put_all};
 
 /// The most bytes of a start that stands before a number.
 const START_BYTES: usize = 22;
 
-/// Where the point of a number with decimals stands: behind a start and up to 10 digits.
-const POINT: usize = 32;
+/// The most bytes of a point and the decimals behind it.
+const DECIMALS_BYTES: usize = 4;
 
-/// Where up to three decimals end.
-const DECIMALS_END: usize = 36;
-
-/// The bytes of a start, a number with up to three decimals, and one that stands behind it.
-const TEXT_BYTES: usize = 37;
-
-/// The most digits of a count.
-const COUNT_DIGITS: usize = 20;
+/// The most digits of a whole number.
+const WHOLE_DIGITS: usize = 20;
 
 /// Appends a whole number in decimal, without leading zeros.
 pub fn put_whole<K: Sink>(value: u32, sink: &mut K) -> Result<(), SinkFault>
@@ -35,17 +32,26 @@ pub fn put_whole<K: Sink>(value: u32, sink: &mut K) -> Result<(), SinkFault>
 pub fn put_count<K: Sink>(value: u64, sink: &mut K) -> Result<(), SinkFault>
     ensures { Puts K.holds K.faults K.wants sink.old sink.new result (decimal value) }
 {
-    let mut buffer = Buffer::new();
-    put_all(sink, buffer.format(value).as_bytes())
+    sink.put_text(&Numeral {
+        start: b"",
+        whole: value,
+        rest: 0,
+        unit: 1,
+        behind: None,
+    })
 }
 
 /// Appends a count in decimal, without leading zeros, and a byte behind it, as one piece.
 pub fn put_count_and<K: Sink>(value: u64, behind: u8, sink: &mut K) -> Result<(), SinkFault>
     ensures { Puts K.holds K.faults K.wants sink.old sink.new result (decimal value ++ behind ∷ []) }
 {
-    let mut text = [behind; COUNT_DIGITS + 1];
-    let start = write_digits(value, &mut text, COUNT_DIGITS);
-    put_all(sink, &text[start..])
+    sink.put_text(&Numeral {
+        start: b"",
+        whole: value,
+        rest: 0,
+        unit: 1,
+        behind: Some(behind),
+    })
 }
 
 /// Appends a number in hundredths, as a time in hundredths of a second: the whole part and, where they aren't 0, a
@@ -89,24 +95,13 @@ pub fn put_cue_no_between<K: Sink>(
     requires { length start.now ≤ 22 }
     ensures { Puts K.holds K.faults K.wants sink.old sink.new result (start.now ++ (decimal_text CUE_UNIT number ++ behind ∷ [])) }
 {
-    let mut text = [0; TEXT_BYTES];
-    let (from, end) = write_decimal(number.get(), CUE_UNIT, &mut text);
-    text[end] = behind;
-    let first = write_start(start, from, &mut text);
-    put_all(sink, &text[first..end + 1])
-}
-
-/// Writes a start right before a place, and says where it begins.
-#[inline(always)]
-fn write_start(start: &[u8], end: usize, text: &mut [u8; TEXT_BYTES]) -> usize
-    requires room { length start.now ≤ end }
-    requires within { end ≤ TEXT_BYTES }
-    ensures start { result + length start.now ≡ end }
-    ensures text { drop result text.new ≡ start.now ++ drop end text.old }
-{
-    let first = end - start.len();
-    text[first..end].copy_from_slice(start);
-    first
+    sink.put_text(&Numeral {
+        start,
+        whole: u64::from(number.get() / CUE_UNIT),
+        rest: number.get() % CUE_UNIT,
+        unit: CUE_UNIT,
+        behind: Some(behind),
+    })
 }
 
 /// Appends a level, 0 to 255: `H` and two hexadecimal digits, letters in upper case. 10 is `H0A`. This is the form of
@@ -135,9 +130,13 @@ fn put_decimal<K: Sink>(value: u32, unit: u32, sink: &mut K) -> Result<(), SinkF
     requires few { unit ≤ 1000 }
     ensures { Puts K.holds K.faults K.wants sink.old sink.new result (decimal_text unit value) }
 {
-    let mut text = [0; TEXT_BYTES];
-    let (start, end) = write_decimal(value, unit, &mut text);
-    put_all(sink, &text[start..end])
+    sink.put_text(&Numeral {
+        start: b"",
+        whole: u64::from(value / unit),
+        rest: value % unit,
+        unit,
+        behind: None,
+    })
 }
 
 /// The same, and a byte behind it.
@@ -151,46 +150,133 @@ fn put_decimal_and<K: Sink>(
     requires few { unit ≤ 1000 }
     ensures { Puts K.holds K.faults K.wants sink.old sink.new result (decimal_text unit value ++ behind ∷ []) }
 {
-    let mut text = [0; TEXT_BYTES];
-    let (start, end) = write_decimal(value, unit, &mut text);
-    text[end] = behind;
-    put_all(sink, &text[start..end + 1])
+    sink.put_text(&Numeral {
+        start: b"",
+        whole: u64::from(value / unit),
+        rest: value % unit,
+        unit,
+        behind: Some(behind),
+    })
 }
 
-/// Writes a number in parts of a unit, and says where it begins and ends.
-#[inline]
-fn write_decimal(value: u32, unit: u32, text: &mut [u8; TEXT_BYTES]) -> (usize, usize)
-    requires some { 0 < unit }
-    requires few { unit ≤ 1000 }
-    ensures ordered { result.0 ≤ result.1 }
-    ensures within { result.1 ≤ DECIMALS_END }
-    ensures room { START_BYTES ≤ result.0 }
-    ensures text { slice_range text.new result.0 result.1 ≡ decimal_text unit value }
+/// A number behind a start: the whole part, the decimals of a rest of the unit, as far as they aren't 0, and a byte behind it, where
+/// there is one. Each byte is written where it stays, so that no copy waits for it.
+#[derive(Drop)]
+struct Numeral<'a> {
+    start: &'a [u8],
+    whole: u64,
+    rest: u32,
+    unit: u32,
+    behind: Option<u8>,
+    ghost short: { length start.now ≤ START_BYTES },
+    ghost part: { rest < unit },
+    ghost few: { unit ≤ 1000 },
+}
+
+impl Text for Numeral<'_> {
+    ghost bytes = { λ n. n.start.now ++ (decimal n.whole ++ (decimals_text n.unit n.rest ++ behind_text n.behind)) };
+
+    #[inline(always)]
+    fn write_into(&self, room: &mut [u8; TEXT_ROOM]) -> usize {
+        let at = write_start(self.start, room);
+        let point = write_whole(self.whole, room, at);
+        let end = write_decimals(self.rest, self.unit, room, point);
+        write_behind(self.behind, room, end)
+    }
+}
+
+/// Writes a start at the front of the room, and says where it ends.
+#[inline(always)]
+fn write_start(start: &[u8], room: &mut [u8; TEXT_ROOM]) -> usize
+    requires { length start.now ≤ START_BYTES }
+    ensures end { result ≡ length start.now }
+    ensures text { take result room.new ≡ start.now }
 {
-    let end = write_decimals(value % unit, unit, text);
-    let start = write_digits((value / unit) as u64, text, POINT);
-    (start, end)
+    let end = start.len();
+    room[..end].copy_from_slice(start);
+    end
 }
 
-/// Writes the point and the decimals of a rest of the unit, where the rest isn't 0, and says where they end.
+/// Writes a whole number at a place, and says where it ends.
+#[inline(always)]
+fn write_whole(value: u64, room: &mut [u8; TEXT_ROOM], at: usize) -> usize
+    requires { at ≤ START_BYTES }
+    ensures end { result ≤ at + WHOLE_DIGITS }
+    ensures text { take result room.new ≡ take at room.old ++ decimal value }
+{
+    let end = at + digits_of(value);
+    write_digits(value, room, end);
+    end
+}
+
+/// How many digits a whole number has.
 #[inline]
-fn write_decimals(rest: u32, unit: u32, text: &mut [u8; TEXT_BYTES]) -> usize
+fn digits_of(value: u64) -> usize
+    ensures few { result ≤ WHOLE_DIGITS }
+    ensures digits { result ≡ length (decimal value) }
+{
+    let mut rest = value;
+    let mut count = 0;
+    while rest >= 10_000 {
+        rest /= 10_000;
+        count += 4;
+    }
+    count + digits_of_few(rest)
+}
+
+/// How many digits a number below 10,000 has.
+#[inline(always)]
+fn digits_of_few(value: u64) -> usize
+    requires { value < 10000 }
+    ensures { result ≡ length (decimal value) }
+{
+    if value < 10 {
+        1
+    } else if value < 100 {
+        2
+    } else if value < 1000 {
+        3
+    } else {
+        4
+    }
+}
+
+/// Writes the point and the decimals of a rest of the unit at a place, where the rest isn't 0, and says where they end.
+#[inline]
+fn write_decimals(rest: u32, unit: u32, room: &mut [u8; TEXT_ROOM], at: usize) -> usize
     requires rest { rest < unit }
     requires few { unit ≤ 1000 }
-    ensures from { POINT ≤ result }
-    ensures within { result ≤ DECIMALS_END }
-    ensures text { slice_range text.new POINT result ≡ decimals_text unit rest }
+    requires room { at + DECIMALS_BYTES ≤ TEXT_ROOM }
+    ensures end { result ≤ at + DECIMALS_BYTES }
+    ensures text { take result room.new ≡ take at room.old ++ decimals_text unit rest }
 {
     if rest == 0 {
-        return POINT;
+        return at;
     }
-    text[POINT] = b'.';
-    let mut end = POINT + 1;
+    room[at] = b'.';
+    let last = at + DECIMALS_BYTES;
+    let mut end = at + 1;
     let mut rest = rest;
-    while rest != 0 && end < DECIMALS_END {
-        text[end] = b'0' + (10 * rest / unit) as u8;
+    while rest != 0 && end < last {
+        room[end] = b'0' + (10 * rest / unit) as u8;
         rest = 10 * rest % unit;
         end += 1;
     }
     end
+}
+
+/// Writes a byte at a place, where there is one, and says where it ends.
+#[inline(always)]
+fn write_behind(behind: Option<u8>, room: &mut [u8; TEXT_ROOM], at: usize) -> usize
+    requires { at < TEXT_ROOM }
+    ensures end { result ≤ at + 1 }
+    ensures text { take result room.new ≡ take at room.old ++ behind_text behind }
+{
+    match behind {
+        Some(byte) => {
+            room[at] = byte;
+            at + 1
+        }
+        None => at,
+    }
 }

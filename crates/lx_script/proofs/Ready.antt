@@ -3,11 +3,12 @@ use Rattle.std.proofs.Common.{◌≡◌, ℕ, ◌+◌, ◌-◌, ◌/◌, ◌%◌
 use Rattle.std.proofs.Common.{sym, ◌∙◌, arith, cond, inl, inr, ◌⊎◌}
 use Rattle.std.specs.List.{range_with_len}
 use Rattle.std.proofs.lemmas.List.FromFn.{get_or-map-range_with_len}
-use Rattle.itoa.proofs.Decimal.{pair, decimal_pair, decimal_two, length_one, length_pair, length_two}
+use Rattle.itoa.proofs.Decimal.{pair, decimal_pair, decimal_two, length_one, length_two}
 use Rattle.std.proofs.lemmas.Fmt.{decimal_digit, length-decimal-le}
 use Rattle.std.specs.Prelude.{nat_lt, ◌==◌}
 use Rattle.std.proofs.lemmas.Bool.{cases_Bool, cases_lt}
 use Rattle.lx_spec.proofs.Comparisons.{lt_false, lt_true}
+use Rattle.lx_lex.proofs.Decimals.{length_three, length_four}
 use Rattle.lx_script.specs.declared.rows.TheConstants.{COUNTS, LEVELS, NUMBERS, PAIRS}
 
 -- a byte and a number of at most three digits, at the front of four bytes
@@ -43,12 +44,6 @@ number_row n d lt = ap (λ rows. get_or rows n d) numbers_are ∙ get_or-map-ran
 
 pub three_digits : (n : ℕ) → 100 ≤ n → n < 1000 → decimal n ≡ (48 + n / 100) ∷ (48 + n % 100 / 10) ∷ (48 + n % 100 % 10) ∷ []
 three_digits n lo hi = decimal_pair n lo (omega arith) ∙ ap (λ front. front ++ pair (n % 100)) (decimal_digit (n / 100) (omega arith))
-
-pub length_three : (n : ℕ) → 100 ≤ n → n < 1000 → length (decimal n) ≡ 3
-length_three n lo hi = ap length (three_digits n lo hi)
-
-pub length_four : (n : ℕ) → 1000 ≤ n → n < 10000 → length (decimal n) ≡ 4
-length_four n lo hi = let whole = length_pair n (omega arith) (omega arith) in omega (arith, whole, length_two (n / 100) (omega arith) (omega arith))
 
 pub ready_front : (before n count : ℕ) → n < 1000 → count ≡ length (decimal n) + 1 → take count (ready before n) ≡ before ∷ decimal n
 ready_front before n count lt is =
