@@ -3,7 +3,6 @@
 
 ghost use Rattle.std.specs.Prelude.{◌≡◌, ◌≤◌, ◌+◌, ◌-◌, ◌++◌, [], length, take, slice_range, OnOk};
 ghost use Rattle.std.specs.Io.KnownBytes.{Appends, Keeps};
-ghost use Rattle.lx_io.specs.Kept.{with_kept};
 ghost use Rattle.lx_io.specs.Puts.{HasSinkCause, Puts};
 
 use crate::{Sink, SinkFault, TEXT_ROOM, Text};
@@ -22,6 +21,8 @@ pub struct BufferedSink<K> {
 }
 
 impl<K: Sink> BufferedSink<K> {
+    ghost use Rattle.lx_io.specs.Kept.{kept_back, with_kept};
+
     /// Keeps back what goes to the sink. Nothing is kept yet.
     pub fn new(sink: K) -> BufferedSink<K>
         ensures { ⟦<BufferedSink<K> as Sink>⟧.holds result ≡ with_kept (K.holds sink) [] }
@@ -36,8 +37,7 @@ impl<K: Sink> BufferedSink<K> {
     /// Hands on what is kept.
     #[inline(never)]
     fn hand_on(&mut self) -> Result<(), SinkFault>
-        ensures holds { Keeps (with_kept (K.holds self.old.sink) (take self.old.len self.old.room))
-            (with_kept (K.holds self.new.sink) (take self.new.len self.new.room)) }
+        ensures holds { Keeps (with_kept (K.holds self.old.sink) (kept_back self.old)) (with_kept (K.holds self.new.sink) (kept_back self.new)) }
         ensures cause { HasSinkCause K.faults K.wants self.old.sink self.new.sink result }
         ensures empty { OnOk result (self.new.len ≡ 0) }
     {
@@ -51,7 +51,7 @@ impl<K: Sink> BufferedSink<K> {
         requires { from ≤ self.old.len }
         ensures sink { self.new.sink ≡ self.old.sink }
         ensures len { self.new.len ≡ self.old.len - from }
-        ensures kept { take self.new.len self.new.room ≡ slice_range self.old.room from self.old.len }
+        ensures kept { kept_back self.new ≡ slice_range self.old.room from self.old.len }
     {
         self.room.copy_within(from..self.len, 0);
         self.len -= from;
@@ -63,7 +63,7 @@ impl<K: Sink> BufferedSink<K> {
         requires { self.old.len + length text.now ≤ 65536 }
         ensures sink { self.new.sink ≡ self.old.sink }
         ensures len { self.new.len ≡ self.old.len + length text.now }
-        ensures kept { take self.new.len self.new.room ≡ take self.old.len self.old.room ++ text.now }
+        ensures kept { kept_back self.new ≡ kept_back self.old ++ text.now }
     {
         let end = self.len + text.len();
         self.room[self.len..end].copy_from_slice(text);
@@ -73,10 +73,9 @@ impl<K: Sink> BufferedSink<K> {
     /// Appends a text for which there is no room before what is kept is handed on.
     #[inline(never)]
     fn put_far(&mut self, text: &[u8]) -> Result<(), SinkFault>
-        ensures { Puts (λ s. with_kept (K.holds s.sink) (take s.len s.room)) (λ s. K.faults s.sink) (λ s. K.wants s.sink) self.old self.new
-            result text.now }
+        ensures { Puts (λ s. with_kept (K.holds s.sink) (kept_back s)) (λ s. K.faults s.sink) (λ s. K.wants s.sink) self.old self.new result text.now }
     {
-        self.hand_on()?;
+        self.ensure_room(ROOM)?;
         if text.len() > ROOM {
             return self.sink.put(text);
         }
@@ -88,8 +87,7 @@ impl<K: Sink> BufferedSink<K> {
     #[inline(always)]
     fn ensure_room(&mut self, count: usize) -> Result<(), SinkFault>
         requires { count ≤ 65536 }
-        ensures holds { Keeps (with_kept (K.holds self.old.sink) (take self.old.len self.old.room))
-            (with_kept (K.holds self.new.sink) (take self.new.len self.new.room)) }
+        ensures holds { Keeps (with_kept (K.holds self.old.sink) (kept_back self.old)) (with_kept (K.holds self.new.sink) (kept_back self.new)) }
         ensures cause { HasSinkCause K.faults K.wants self.old.sink self.new.sink result }
         ensures room { OnOk result (self.new.len + count ≤ 65536) }
     {
@@ -131,7 +129,9 @@ fn pass_on<K: Sink>(bytes: &[u8], sink: &mut K) -> (usize, Result<(), SinkFault>
 }
 
 impl<K: Sink> Sink for BufferedSink<K> {
-    ghost holds = { λ s. with_kept (K.holds s.sink) (take s.len s.room) };
+    ghost use Rattle.lx_io.specs.Kept.{kept_back, with_kept};
+
+    ghost holds = { λ s. with_kept (K.holds s.sink) (kept_back s) };
 
     ghost faults = { λ s. K.faults s.sink };
 
@@ -145,8 +145,12 @@ impl<K: Sink> Sink for BufferedSink<K> {
         Ok(count)
     }
 
-    /// Hands on what is kept, and has the sink below hand on what it keeps.
-    fn flush(&mut self) -> Result<(), SinkFault> {
+    /// Hands on what is kept, and has the sink below hand on what it keeps. With Ok nothing is kept any more.
+    fn flush(&mut self) -> Result<(), SinkFault>
+        ensures holds { Keeps (with_kept (K.holds self.old.sink) (kept_back self.old)) (with_kept (K.holds self.new.sink) (kept_back self.new)) }
+        ensures cause { HasSinkCause (λ s. K.faults s.sink) (λ s. K.wants s.sink) self.old self.new result }
+        ensures none { OnOk result (kept_back self.new ≡ []) }
+    {
         self.hand_on()?;
         self.sink.flush()
     }
