@@ -341,7 +341,8 @@ impl Player {
         Ok(Change::Levels)
     }
 
-    /// A submaster's fader.
+    /// A submaster's fader. It stands apart, so that other keys don't pay for its loops.
+    #[inline(never)]
     fn set_fader(&mut self, sub: SubNo, level: Level) -> Result<Change, Refusal>
         ensures ok { OnOk result (IsTrue (has_entry (λ x. x.number) sub self.old.show.subs)) }
         ensures state { OnOk result (self.new ≡ record self.old { faders = slice_set self.old.faders (sub - 1) level }) }

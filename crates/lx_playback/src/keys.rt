@@ -106,7 +106,8 @@ impl Playback {
         }
     }
 
-    /// Starts a run back to the cue.
+    /// Starts a run back to the cue. It stands apart, so that a refused key doesn't pay for the room of a run.
+    #[inline(never)]
     fn start_back(&mut self, n: CueNo) -> Run
         requires { length self.old.live < RUNS }
         ensures run { result ≡ run_whole self.old n BACK_TIME }
