@@ -44,7 +44,7 @@ IsLeft channels order cues levels at row =
 
 -- from `sure` on, the cue at the place decides the channel
 pub record IsDecision (cues : List Cue) (chan sure k : ℕ) : Type 0 where
-  pub sure : sure ≤ k
+  pub least : sure ≤ k
   pub decides : IsSomeAnd (slice_get cues k) (λ cue. decides cue chan ≡ true)
 
 -- The channel's column was filled in from a place up to this one: to the given end, or to the first cue from `sure` on that decides it.

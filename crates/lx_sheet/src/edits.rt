@@ -78,20 +78,21 @@ impl Sheet {
         ensures channels { self.new.channels ≡ self.old.channels }
     {
         let cues = show.cues();
-        if chan.get() as usize <= self.channels {
-            let first = below(cues, from.get()).len();
-            let next = up_to(cues, from.get()).len();
-            let _ = fill_column(
-                &mut self.levels,
-                self.channels,
-                &self.order,
-                cues,
-                first,
-                next,
-                cues.len(),
-                chan,
-            );
+        if chan.get() as usize > self.channels {
+            return;
         }
+        let first = below(cues, from.get()).len();
+        let next = up_to(cues, from.get()).len();
+        let _ = fill_column(
+            &mut self.levels,
+            self.channels,
+            &self.order,
+            cues,
+            first,
+            next,
+            cues.len(),
+            chan,
+        );
     }
 
     /// The cue was added: a sheet that stood for the show without it stands for the show. No other row is moved.
