@@ -1,15 +1,13 @@
 -- What commands change of what goes out.
 use Rattle.std.specs.Prelude.{◌≡◌, ℕ, ◌+◌, ◌<◌, refl, Bool, true, false, Some, List}
-use Rattle.std.proofs.Common.{ap, sym, ◌∙◌}
+use Rattle.std.proofs.Common.{ap, sym, ◌∙◌, arith}
 use Rattle.lx_spec.specs.SortedList.{entry_at}
 use Rattle.lx_spec.specs.Show.{Show, Sub}
 use Rattle.lx_spec.specs.Output.{contribution}
 use Rattle.lx_spec.specs.Playback.{Playback}
 use Rattle.lx_spec.specs.Kept.{Kept}
-use Rattle.lx_spec.proofs.Columns.{level-columns}
 use Rattle.lx_edit.specs.declared.plans.Plan.{Plan}
 use Rattle.lx_edit.specs.declared.dirty.Dirty.{Dirty}
-use Rattle.lx_edit.specs.Changing.{KeepsOthers}
 use Rattle.lx_edit.specs.Planned.{planned, dimmer_planned, plans_sub}
 use Rattle.lx_levels.specs.Stacks.{Kept as Levels, level_at}
 use Rattle.lx_levels.specs.Standing.{LevelsStandFor}
@@ -18,7 +16,7 @@ use Rattle.lx_console.specs.declared.change.Change.{Change}
 use Rattle.lx_console.specs.declared.change.Change.TheVariants as changes
 use Rattle.lx_console.specs.Changes.{SamePatch, Changes, of_levels}
 use Rattle.lx_console.specs.Filled.{IsChangeOf}
-use Rattle.lx_console.proofs.Touched.{same_channels, same_subs, same_patch, other_rows, in_show}
+use Rattle.lx_console.proofs.Touched.{same_channels, same_subs, same_patch, other_rows}
 
 -- the same show has the same channels and rows
 pub same_show : (before after : Kept) → after.show ≡ before.show → SamePatch before after
@@ -39,26 +37,29 @@ played_changes k p before after false old new same = record {
   master = refl;
 }
 
--- a plan, by what it touched
-pub planned_changes : (k : Kept) (after : Show) (plan : Plan) (dirty : Dirty) (change : Change) → after ≡ planned k.show plan
-    → KeepsOthers k.show after dirty.chans → dirty.dimmer ≡ dimmer_planned plan → dirty.subs ≡ plans_sub plan → IsChangeOf dirty change
+-- a plan, by what it touched and whether levels changed by it
+pub planned_changes : (k : Kept) (after : Show) (plan : Plan) (dirty : Dirty) (old new : Levels) (leveled : Bool) (change : Change)
+    → after ≡ planned k.show plan → LevelsStandFor k.show k.playback old → LevelsStandFor after k.playback new → (leveled ≡ false → new ≡ old)
+    → dirty.dimmer ≡ dimmer_planned plan → dirty.subs ≡ plans_sub plan → IsChangeOf dirty leveled change
     → Changes change k (record k { show = after })
-planned_changes k after plan dirty changes.Nothing is others dimmer subs none = record {
+planned_changes k after plan dirty old new leveled changes.Nothing is stood stands same dimmer subs none = record {
   rows = record {
     channels = ap (λ (s : Show). s.channels) is ∙ same_channels k.show plan;
     patch = ap (λ (s : Show). s.patch) is ∙ same_patch k.show plan (sym dimmer ∙ none.dimmer);
   };
-  levels = λ i within. sym (level-columns k.show after k.playback.base k.playback.live (i + 1) k.playback.moment
-      (others (i + 1) (in_show k.show.channels i within) (none.chans (i + 1))));
+  levels = λ i within.
+      let channels : after.channels ≡ k.show.channels = ap (λ (s : Show). s.channels) is ∙ same_channels k.show plan in
+      sym (kept_level after k.playback new i stands (omega (arith, channels, within))) ∙ ap (λ (l : Levels). level_at l i) (same none.levels)
+      ∙ kept_level k.show k.playback old i stood within;
   given = λ i within. ap (λ (s : List Sub). contribution (record k.show { subs = s }) k.faders (i + 1))
       (ap (λ (s : Show). s.subs) is ∙ same_subs k.show plan (sym subs ∙ none.subs));
   master = refl;
 }
-planned_changes k after plan dirty changes.Levels is others dimmer subs none = record {
+planned_changes k after plan dirty old new leveled changes.Levels is stood stands same dimmer subs none = record {
   channels = ap (λ (s : Show). s.channels) is ∙ same_channels k.show plan;
   patch = ap (λ (s : Show). s.patch) is ∙ same_patch k.show plan (sym dimmer ∙ none);
 }
-planned_changes k after plan dirty (changes.Row e) is others dimmer subs names = record {
+planned_changes k after plan dirty old new leveled (changes.Row e) is stood stands same dimmer subs names = record {
   channels = ap (λ (s : Show). s.channels) is ∙ same_channels k.show plan;
   rows = λ f other. ap (λ (s : Show). entry_at (λ row. row.dimmer) f s.patch) is
       ∙ other_rows k.show plan f (λ same. other (same_dimmer f e (sym same ∙ sym dimmer ∙ names)));

@@ -1,5 +1,5 @@
 -- What a console keeps is filled in: it is what the show, the playback, the faders and the master give.
-use Rattle.std.specs.Prelude.{◌≡◌, ◌≢◌, ℕ, ◌+◌, ◌-◌, ◌<◌, max, false, Some, None, List, length, slice_index}
+use Rattle.std.specs.Prelude.{◌≡◌, ◌≢◌, ℕ, ◌+◌, ◌-◌, ◌<◌, max, Bool, false, Some, None, List, length, slice_index}
 use Rattle.lx_base.specs.declared.TheConstants.{SLOTS}
 use Rattle.lx_base.specs.Numbers.{scaled}
 use Rattle.lx_spec.specs.declared.PatchRow.{PatchRow}
@@ -9,7 +9,6 @@ use Rattle.lx_spec.specs.Kept.{Kept}
 use Rattle.lx_sheet.specs.Rows.{Sheet}
 use Rattle.lx_sheet.specs.Standing.{RowsStandFor}
 use Rattle.lx_edit.specs.declared.dirty.Dirty.{Dirty}
-use Rattle.lx_edit.specs.ChanSet.{has_chan}
 use Rattle.lx_mixer.specs.Table.{IsTable}
 use Rattle.lx_patch.specs.DimmerTable.{DimmerTable, StandsForPatch}
 use Rattle.lx_levels.specs.Stacks.{Kept as Levels}
@@ -58,17 +57,17 @@ pub record IsPatchedBut (rows : List PatchRow) (dimmer : ℕ) (table : DimmerTab
   pub stands : StandsForPatch before table
   pub others : (e : ℕ) → e ≢ dimmer → entry_at (λ row. row.dimmer) e rows ≡ entry_at (λ row. row.dimmer) e before
 
--- an edit touched nothing that goes out
-pub record IsClean (dirty : Dirty) : Type 0 where
-  pub chans : (c : ℕ) → has_chan dirty.chans c ≡ false
+-- an edit touched nothing that goes out, and no level changed by it
+pub record IsClean (dirty : Dirty) (leveled : Bool) : Type 0 where
+  pub levels : leveled ≡ false
   pub dimmer : dirty.dimmer ≡ None
   pub subs : dirty.subs ≡ false
 
--- the change that an edit makes which touched this
-abbrev pub IsChangeOf : Dirty → Change → Type 0
-IsChangeOf dirty Nothing = IsClean dirty
-IsChangeOf dirty Leveled = dirty.dimmer ≡ None
-IsChangeOf dirty (Row e) = dirty.dimmer ≡ Some e
+-- the change that an edit makes which touched this, and whether levels changed by it
+abbrev pub IsChangeOf : Dirty → Bool → Change → Type 0
+IsChangeOf dirty leveled Nothing = IsClean dirty leveled
+IsChangeOf dirty leveled Leveled = dirty.dimmer ≡ None
+IsChangeOf dirty leveled (Row e) = dirty.dimmer ≡ Some e
 
 -- the rows, the rack and the levels stand for the show and the playback
 pub record IsKept (player : Kept) (sheet : Sheet) (rack : Faders) (levels : Levels) : Type 0 where

@@ -5,7 +5,7 @@ ghost use Rattle.lx_console.specs.Changes.{is_nothing, of_levels};
 ghost use Rattle.lx_console.specs.Filled.{IsChangeOf};
 
 use lx_base::Dimmer;
-use lx_edit::{ChanSet, Dirty};
+use lx_edit::Dirty;
 
 /// What a command changed of what goes out: no more than this, and never the channel count.
 #[derive(Clone, Copy, PartialEq, Eq, Debug)]
@@ -37,14 +37,13 @@ impl Change {
         }
     }
 
-    /// What an edit touched.
-    pub(crate) fn of_edit(dirty: &Dirty) -> Change
-        ensures { IsChangeOf dirty.now result }
+    /// What an edit touched, and whether levels changed by it.
+    pub(crate) fn of_edit(dirty: &Dirty, leveled: bool) -> Change
+        ensures { IsChangeOf dirty.now leveled result }
     {
         match dirty.dimmer {
             Some(dimmer) => Change::Row(dimmer),
-            None if dirty.subs || dirty.chans != ChanSet::empty() => Change::Levels,
-            None => Change::Nothing,
+            None => Change::of_levels(leveled || dirty.subs),
         }
     }
 }

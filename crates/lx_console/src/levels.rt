@@ -63,21 +63,24 @@ pub(crate) fn after_tick(
     changed
 }
 
-/// Makes these channels anew from the live runs; the others stand already.
+/// Makes these channels anew from the live runs; the others stand already. Answers whether there was one, and so a level may have
+/// changed.
 pub(crate) fn recompute_touched(
     levels: &mut Levels,
     show: &Show,
     sheet: &Sheet,
     playback: &Playback,
     chans: &ChanSet,
-)
+) -> bool
     requires rows { RowsStandFor show.now sheet.now }
     requires moment { levels.old.moment ≡ playback.now.moment }
     requires reach { length levels.old.stacks ≡ show.now.channels }
     requires others { (k : ℕ) → k < show.now.channels → has_chan chans.now (k + 1) ≡ false → StandsAt show.now playback.now levels.old k }
-    ensures { LevelsStandFor show.now playback.now levels.new }
+    ensures stands { LevelsStandFor show.now playback.now levels.new }
+    ensures same { result ≡ false → levels.new ≡ levels.old }
 {
     let count = show.channels() as usize;
+    let mut changed = false;
     let mut k = 0;
     while k < count {
         if chans.is_clear_from(k as u32 + 1) {
@@ -86,10 +89,12 @@ pub(crate) fn recompute_touched(
             let c = channel_at(k);
             if chans.contains(c) {
                 levels.recompute(show, sheet, playback, c);
+                changed = true;
             }
             k += 1;
         }
     }
+    changed
 }
 
 /// The channel whose value stands at the place.

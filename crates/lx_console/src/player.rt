@@ -274,7 +274,7 @@ impl Player {
         let _ = self.show.channels();
         let Exchanged { dirty, undo } = plan.exchange(&mut self.show, &mut self.sheet);
         let seen = seen(&self.show, &self.playback, placed, &dirty.chans);
-        recompute_touched(
+        let leveled = recompute_touched(
             &mut self.levels,
             &self.show,
             &self.sheet,
@@ -283,7 +283,7 @@ impl Player {
         );
         mend_subs(&mut self.rack, &self.show, dirty.subs);
         Applied {
-            change: Change::of_edit(&dirty),
+            change: Change::of_edit(&dirty, leveled),
             undo,
         }
     }

@@ -8,7 +8,7 @@ use Rattle.lx_spec.specs.SortedList.{entries_above, entry_at}
 use Rattle.lx_spec.specs.TrackedLevel.{cue_of, move_in, move_of, tracked, decides}
 use Rattle.lx_spec.specs.EditedShow.{with_cue}
 use Rattle.lx_sheet.specs.Rows.{Sheet}
-use Rattle.lx_sheet.specs.Standing.{RowsStandFor}
+use Rattle.lx_sheet.specs.Standing.{RowsStandFor, next_decision}
 use Rattle.lx_spec.specs.Laws.{SameColumn}
 use Rattle.lx_edit.specs.declared.chan_set.ChanSet.{ChanSet}
 use Rattle.lx_edit.specs.ChanSet.{has_chan}
@@ -55,10 +55,6 @@ KeepsLevels before after chans = (c : ℕ) → has_chan chans c ≡ false → Sa
 -- a channel of the show that isn't in the set sees the same of both shows
 abbrev pub KeepsOthers : Show → Show → ChanSet → Type 0
 KeepsOthers before after chans = (c : ℕ) → InRange before.channels c → has_chan chans c ≡ false → SameColumn before after c
-
--- the number of the least cue above this one that decides the channel
-abbrev pub next_decision : Show → ℕ → ℕ → Option ℕ
-next_decision show n c = option_map (λ cue. cue.number) (find (λ cue. decides cue c) (entries_above (λ cue. cue.number) n show.cues))
 
 -- where the channel's changed levels end: at the given number, or else at that cue
 abbrev pub column_end : Option ℕ → Show → ℕ → ℕ → Option ℕ

@@ -1,14 +1,14 @@
 //! A plan applied: the show becomes the edited one, the sheet follows, and the plan that takes it back is made of
 //! what was replaced. No call takes memory.
 
-ghost use Rattle.std.specs.Prelude.{◌≡◌, ◌≢◌, ◌<◌, ◌≤◌, ℕ, false, None, IfSome, find, option_map};
+ghost use Rattle.std.specs.Prelude.{◌≡◌, ◌≢◌, ◌<◌, ◌≤◌, ℕ, false, None, IfSome};
 ghost use Rattle.lx_spec.specs.Show.{ValidGroup, ValidSub};
-ghost use Rattle.lx_spec.specs.TrackedLevel.{cue_of, decides, tracked};
+ghost use Rattle.lx_spec.specs.TrackedLevel.{cue_of, tracked};
 ghost use Rattle.lx_spec.specs.EditedShow.{with_cue, without_cue};
 ghost use Rattle.lx_sheet.specs.Rows.{level_of, numbers_of};
 ghost use Rattle.lx_sheet.specs.Standing.{RowsStandFor, StandsIn, cue_numbers};
 ghost use Rattle.lx_edit.specs.ChanSet.{has_chan};
-ghost use Rattle.lx_edit.specs.Changing.{Grows, KeepsLevels, KeepsOthers, IsPast, Replaced, column_end, next_decision};
+ghost use Rattle.lx_edit.specs.Changing.{Grows, KeepsLevels, KeepsOthers, IsPast, Replaced};
 ghost use Rattle.lx_edit.specs.Planned.{planned, with_above, CanPlace, KeepsAbove, IsReady, dimmer_planned, plans_sub};
 ghost use Rattle.lx_edit.specs.Undone.{TakesBack, cue_instead};
 
@@ -20,7 +20,6 @@ use crate::plans::Plan;
 use crate::undone::{cue_back, group_back, kept_back, row_back, sub_back};
 use lx_base::{CHANNELS, Chan, ChanRange, CueNo, Dimmer, GroupNo, SubNo};
 use lx_sheet::Sheet;
-use lx_show::around::above;
 use lx_show::{Cue, Group, Move, MoveList, PatchRow, Show, Sub};
 
 /// A plan that was applied: what it touched, and the plan that takes it back.
@@ -462,38 +461,11 @@ fn mend_column(
     ensures channels { sheet.new.channels ≡ sheet.old.channels }
     ensures numbers { numbers_of sheet.new ≡ numbers_of sheet.old }
 {
-    if chans.contains(c) {
-        sheet.changed_until(show, from, column_end(to, show, from, c), c);
+    if !chans.contains(c) {
+        return;
     }
-}
-
-/// Where the channel's changed levels end: at the given number, or else at the next cue that decides it.
-fn column_end(to: &Option<CueNo>, show: &Show, n: CueNo, c: Chan) -> Option<CueNo>
-    ensures { result ≡ column_end to.now show.now n c }
-{
     match to {
-        Some(end) => Some(*end),
-        None => next_decision(show, n, c),
+        Some(end) => sheet.changed_until(show, from, Some(*end), c),
+        None => sheet.changed_on(show, from, c),
     }
-}
-
-/// The least cue above the number that decides the channel: it moves it or is a block cue.
-fn next_decision(show: &Show, n: CueNo, c: Chan) -> Option<CueNo>
-    ensures { result ≡ next_decision show.now n c }
-{
-    first_decision(above(show.cues(), n.get()), c)
-}
-
-/// The first of the cues that decides the channel. Its move is looked for where it stood or would go in the cue before.
-fn first_decision(cues: &[Cue], c: Chan) -> Option<CueNo>
-    ensures { result ≡ option_map (λ cue. cue.number) (find (λ cue. decides cue c) cues.now) }
-{
-    let mut near = 0;
-    for at in 0..cues.len() {
-        let cue = &cues[at];
-        if cue.decides_near(c, &mut near) {
-            return Some(cue.number);
-        }
-    }
-    None
 }

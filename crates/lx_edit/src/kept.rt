@@ -11,7 +11,6 @@ ghost use Rattle.lx_edit.specs.Kept.{DecidesOutside, changed_show, decided, deci
 
 use crate::absent::{all_channels, channel, the_cue};
 use crate::blocks::below;
-use crate::marks::entry_near;
 use crate::moves::{add, copy_with};
 use crate::plans::Plan;
 use lx_base::{Chan, ChanRange, CueNo, Level};
@@ -190,7 +189,7 @@ fn differs(
 fn decides(cue: &Cue, c: Chan, near: &mut usize) -> bool
     ensures { result ≡ decides cue.now c }
 {
-    cue.block || entry_near(cue.moves.as_slice(), near, c).is_some()
+    cue.block || cue.move_next(c, near).is_some()
 }
 
 /// The level that the cue decides for the channel, if it does.

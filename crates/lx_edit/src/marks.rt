@@ -18,7 +18,6 @@ use crate::plans::Plan;
 use lx_base::{CHANNELS, Chan, ChanRange, CueNo};
 use lx_sheet::Sheet;
 use lx_show::around::{above, up_to};
-use lx_show::sorted::index_of;
 use lx_show::{Cue, Move, Show};
 
 /// Adds each channel that sees a difference between the show's cue of the number, which may be absent, and
@@ -197,25 +196,6 @@ fn is_same(entry: &Move, other: &Move) -> bool
     entry.chan.get() == other.chan.get()
         && entry.part.get() == other.part.get()
         && entry.level == other.level
-}
-
-/// The channel's move among these. It is looked for first at the place after the one that was found last.
-pub(crate) fn entry_near(moves: &[Move], near: &mut usize, c: Chan) -> Option<Move>
-    requires { IsStrictlySorted (λ m. m.chan) moves.now }
-    ensures { result ≡ entry_at (λ m. m.chan) c moves.now }
-{
-    let next = *near;
-    if next < moves.len() && moves[next].chan.get() == c.get() {
-        *near = next + 1;
-        return Some(moves[next]);
-    }
-    match index_of(moves, c.get()) {
-        Ok(at) => {
-            *near = at + 1;
-            Some(moves[at])
-        }
-        Err(_) => None,
-    }
 }
 
 /// The channel's move in the cue, where that is there.

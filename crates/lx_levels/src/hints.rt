@@ -2,14 +2,13 @@
 
 ghost use Rattle.std.specs.Prelude.{◌≡◌, ◌||◌, ℕ, true, is_some};
 ghost use Rattle.std.specs.Option.{option_copied};
-ghost use Rattle.lx_spec.specs.SortedList.{IsStrictlySorted, entry_at};
 ghost use Rattle.lx_spec.specs.TrackedLevel.{tracked, asserts, cue_of, move_of};
 ghost use Rattle.lx_spec.specs.Run.{acts};
 
 use lx_base::{Chan, CueNo, Level};
 use lx_playback::Run;
-use lx_show::sorted::{find_next, index_of};
-use lx_show::{Cue, Move, Show};
+use lx_show::sorted::index_of;
+use lx_show::{Cue, Show};
 
 /// Where the cue of a run was found last among the cues, and where the move of a channel would come next among
 /// its moves. Neither needs to be right.
@@ -45,7 +44,7 @@ fn asserts_or_moves(show: &Show, n: CueNo, c: Chan, hint: &mut Hint) -> bool
 {
     match cue_near(show, n, &mut hint.cue) {
         Some(cue) => {
-            cue.asserted || move_near(cue.moves.as_slice(), c, &mut hint.entry).is_some()
+            cue.asserted || cue.move_next(c, &mut hint.entry).is_some()
         }
         None => false,
     }
@@ -69,23 +68,6 @@ fn cue_near<'a>(show: &'a Show, n: CueNo, near: &mut usize) -> Option<&'a Cue>
             Some(&cues[at])
         }
         Err(_) => None,
-    }
-}
-
-/// The channel's move among these, looked for at `next` first, where the channel after it would stand.
-fn move_near(moves: &[Move], c: Chan, next: &mut usize) -> Option<Move>
-    requires { IsStrictlySorted (λ m. m.chan) moves.now }
-    ensures { result ≡ entry_at (λ m. m.chan) c moves.now }
-{
-    match find_next(moves, *next, c.get()) {
-        Ok(at) => {
-            *next = at + 1;
-            Some(moves[at])
-        }
-        Err(at) => {
-            *next = at;
-            None
-        }
     }
 }
 

@@ -1,6 +1,7 @@
 pub mod Cells
 pub mod Covered
 pub mod EditedShows
+pub mod FilledColumns
 pub mod Found
 pub mod LevelsAfter
 pub mod Moves

@@ -73,7 +73,7 @@ reached end (m ∷ ms) (suc k) sorted least within =
     ]
 
 -- before that place they are
-none_left : (end m : ℕ) (ms : List ℕ) → IsStrictlySorted (λ n. n) (m ∷ ms) → end ≤ m → count_under end ms ≡ 0
+pub none_left : (end m : ℕ) (ms : List ℕ) → IsStrictlySorted (λ n. n) (m ∷ ms) → end ≤ m → count_under end ms ≡ 0
 none_left end m ms sorted high = ap length (filter_none _ ms (each _ _ ms (λ y h. lt_false y end (omega arith)) sorted.0))
 
 not_reached : (end : ℕ) (numbers : List ℕ) (k : ℕ) → IsStrictlySorted (λ n. n) numbers → k < count_under end numbers
@@ -98,7 +98,7 @@ all_numbers : {A : Type 0} (key : A → ℕ) (n : ℕ) (xs : List A) → AllByRe
 all_numbers key n [] all = tt
 all_numbers key n (x ∷ xs) all = (all.0, all_numbers key n xs all.1)
 
-sorted_numbers : {A : Type 0} (key : A → ℕ) (xs : List A) → IsStrictlySorted key xs → IsStrictlySorted (λ n. n) (map key xs)
+pub sorted_numbers : {A : Type 0} (key : A → ℕ) (xs : List A) → IsStrictlySorted key xs → IsStrictlySorted (λ n. n) (map key xs)
 sorted_numbers key [] sorted = tt
 sorted_numbers key (x ∷ xs) sorted = (all_numbers key (key x) xs sorted.0, sorted_numbers key xs sorted.1)
 

@@ -1,6 +1,6 @@
 -- The levels after a list of cues.
-use Rattle.std.specs.Prelude.{◌≡◌, ℕ, ◌+◌, ◌<◌, ◌≤◌, List, find, length, reverse, take, if◌then◌else◌}
-use Rattle.std.specs.Option.{option_map_or}
+use Rattle.std.specs.Prelude.{◌≡◌, ℕ, ◌+◌, ◌<◌, ◌≤◌, true, false, List, IfSome, find, length, reverse, take, slice_get, if◌then◌else◌}
+use Rattle.std.specs.Option.{option_map_or, IsSomeAnd}
 use Rattle.lx_spec.specs.Show.{Cue}
 use Rattle.lx_spec.specs.TrackedLevel.{decides, level_in}
 use Rattle.lx_sheet.specs.declared.sheet.Place.{Place}
@@ -41,3 +41,14 @@ abbrev pub IsLeft : ℕ → List Place → List Cue → List ℕ → ℕ → ℕ
 IsLeft channels order cues levels at row =
     ((c : ℕ) → cell channels levels row c ≡ level_after (take at cues) c) → (c : ℕ) → at < length cues
     → IsRight channels order cues levels at c
+
+-- from `sure` on, the cue at the place decides the channel
+pub record IsDecision (cues : List Cue) (chan sure k : ℕ) : Type 0 where
+  pub least : sure ≤ k
+  pub decides : IsSomeAnd (slice_get cues k) (λ cue. decides cue chan ≡ true)
+
+-- The channel's column was filled in from a place up to this one: to the given end, or to the first cue from `sure` on that decides it.
+pub record IsEnd (cues : List Cue) (chan from sure to end : ℕ) : Type 0 where
+  pub most : end ≤ to
+  pub stops : end < to → IsDecision cues chan sure end
+  pub passed : (k : ℕ) → from ≤ k → sure ≤ k → k < end → IfSome (slice_get cues k) (λ cue. decides cue chan ≡ false)

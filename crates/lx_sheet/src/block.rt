@@ -6,7 +6,7 @@ ghost use Rattle.lx_base.specs.declared.TheConstants.{CUES, CHANNELS};
 ghost use Rattle.lx_spec.specs.Show.{ValidCue};
 ghost use Rattle.lx_spec.specs.TrackedLevel.{decides};
 ghost use Rattle.lx_sheet.specs.Block.{AreApart, Covers, own_rows, row_at_place, cell, cue_level, last_value, level_in_look};
-ghost use Rattle.lx_sheet.specs.After.{level_after, tracked_on, IsRight, Follows, IsFilled, IsPassed, IsLeft};
+ghost use Rattle.lx_sheet.specs.After.{level_after, IsEnd, IsRight, Follows, IsFilled, IsPassed, IsLeft};
 
 use crate::look::track;
 use crate::sheet::Place;
@@ -193,16 +193,18 @@ fn fill_rows(
     }
 }
 
-/// Fills in the channel's column in the rows of the cues from a place to below another, each from the one before.
+/// Fills in the channel's column in the rows of the cues from a place to below another, each from the one before, or up to the first
+/// from `sure` on that decides the channel. It answers the place where it ended.
 pub(crate) fn fill_column(
     levels: &mut [Level],
     channels: usize,
     order: &[Place],
     cues: &[Cue],
     from: usize,
+    sure: usize,
     to: usize,
     chan: Chan,
-)
+) -> usize
     requires few { channels ≤ CHANNELS }
     requires room { Covers channels levels.old order.now }
     requires order { length order.now ≡ length cues.now }
@@ -210,20 +212,27 @@ pub(crate) fn fill_column(
     requires from { from ≤ length cues.now }
     requires to { to ≤ length cues.now }
     requires within { chan ≤ channels }
+    ensures end { IsEnd cues.now chan from sure to result }
     ensures others { (r c : ℕ) → c ≢ chan → cell channels levels.new r c ≡ cell channels levels.old r c }
     ensures front { (k : ℕ) → k < from → cue_level channels order.now levels.new k chan ≡ cue_level channels order.now levels.old k chan }
-    ensures back { (k : ℕ) → to ≤ k → k < length cues.now
+    ensures back { (k : ℕ) → result ≤ k → k < length cues.now
         → cue_level channels order.now levels.new k chan ≡ cue_level channels order.now levels.old k chan }
     ensures rows { last_value from (λ k. cue_level channels order.now levels.old k chan) ≡ level_after (take from cues.now) chan
-        → (k : ℕ) → from ≤ k → k < to → IsRight channels order.now cues.now levels.new k chan }
+        → (k : ℕ) → from ≤ k → k < result → IsRight channels order.now cues.now levels.new k chan }
 {
     let at = chan.get() as usize - 1;
     let mut level = level_before(levels, channels, order, from, at);
     let mut near = 0;
     for place in from..to {
-        level = level_on(&cues[place], chan, level, &mut near);
+        if cues[place].decides_near(chan, &mut near) {
+            if place >= sure {
+                return place;
+            }
+            level = cues[place].level_of(chan);
+        }
         levels[own_row(order, place) * channels + at] = level;
     }
+    to
 }
 
 /// The channel's level in the last of so many cues, or 0 where there is none. It stands at this place in
@@ -257,15 +266,4 @@ pub(crate) fn own_row(order: &[Place], place: usize) -> usize
     ensures within { result < CUES }
 {
     order[place].row
-}
-
-/// The channel's level in the cue, from the one before. Where its move stood there, or would go, is kept in `near`.
-fn level_on(cue: &Cue, chan: Chan, before: Level, near: &mut usize) -> Level
-    ensures { result ≡ tracked_on cue.now chan before }
-{
-    if cue.decides_near(chan, near) {
-        cue.level_of(chan)
-    } else {
-        before
-    }
 }

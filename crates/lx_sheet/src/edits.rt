@@ -8,13 +8,13 @@ ghost use Rattle.lx_spec.specs.TrackedLevel.{cue_of, tracked};
 ghost use Rattle.lx_spec.specs.EditedShow.{with_cue, without_cue};
 ghost use Rattle.lx_sheet.specs.Rows.{numbers_of, level_of};
 ghost use Rattle.lx_sheet.specs.Block.{count_under};
-ghost use Rattle.lx_sheet.specs.Standing.{RowsStandFor, StandsIn, cue_numbers};
+ghost use Rattle.lx_sheet.specs.Standing.{RowsStandFor, StandsIn, cue_numbers, next_decision};
 
 use crate::block::{fill_column, fill_from, fill_inserted, fill_removed, own_row, reach};
 use crate::pool::{add_place, drop_place, list_cues, list_free};
 use crate::sheet::Sheet;
 use lx_base::{Chan, CueNo};
-use lx_show::around::below;
+use lx_show::around::{below, up_to};
 use lx_show::sorted::index_of;
 use lx_show::{Cue, Show};
 
@@ -51,16 +51,48 @@ impl Sheet {
         if chan.get() as usize <= self.channels {
             let first = below(cues, from.get()).len();
             let last = count_below(cues, to);
-            fill_column(
+            let _ = fill_column(
                 &mut self.levels,
                 self.channels,
                 &self.order,
                 cues,
                 first,
                 last,
+                last,
                 chan,
             );
         }
+    }
+
+    /// The same where the channel's levels change up to the next cue above `from` that decides it: one pass finds that cue and fills
+    /// in the rows before it. Those from it on stand for the show as they are, and aren't touched.
+    pub fn changed_on(&mut self, show: &Show, from: CueNo, chan: Chan)
+        requires channels { self.old.channels ≡ show.now.channels }
+        requires numbers { numbers_of self.old ≡ cue_numbers show.now }
+        requires below { (n : ℕ) → n < from → level_of self.old n chan ≡ tracked show.now n chan }
+        requires above { IfSome (next_decision show.now from chan)
+            (λ end. (n : ℕ) → end ≤ n → level_of self.old n chan ≡ tracked show.now n chan) }
+        ensures column { StandsIn show.now chan self.new }
+        ensures others { (n c : ℕ) → c ≢ chan → level_of self.new n c ≡ level_of self.old n c }
+        ensures numbers { numbers_of self.new ≡ numbers_of self.old }
+        ensures channels { self.new.channels ≡ self.old.channels }
+    {
+        let cues = show.cues();
+        if chan.get() as usize > self.channels {
+            return;
+        }
+        let first = below(cues, from.get()).len();
+        let next = up_to(cues, from.get()).len();
+        let _ = fill_column(
+            &mut self.levels,
+            self.channels,
+            &self.order,
+            cues,
+            first,
+            next,
+            cues.len(),
+            chan,
+        );
     }
 
     /// The cue was added: a sheet that stood for the show without it stands for the show. No other row is moved.

@@ -1,11 +1,11 @@
 -- The index of an entry in a sorted list.
-use Rattle.std.proofs.Common.{◌≡◌, ℕ, suc, ◌+◌, ◌-◌, ◌<◌, ◌≤◌, true, false, List, [], ◌∷◌, ◌++◌, length, get_or, set, take, drop}
+use Rattle.std.proofs.Common.{◌≡◌, ℕ, suc, ◌+◌, ◌-◌, ◌<◌, ◌≤◌, Bool, true, false, List, [], ◌∷◌, ◌++◌, length, get_or, set, take, drop}
 use Rattle.std.proofs.Common.{Some, refl, ◌∙◌, sym, ap, subst, inl, inr, arith, add-one, add-zero}
-use Rattle.std.specs.Prelude.{Option, insert, remove, nat_lt, option_to_list, slice_get}
+use Rattle.std.specs.Prelude.{Option, insert, remove, nat_le, nat_lt, option_to_list, slice_get}
 use Rattle.std.specs.Option.{option_map_or}
 use Rattle.std.specs.List.{AllByRecursion}
 use Rattle.std.specs.List.Sorted.{IsPartitionPoint}
-use Rattle.std.proofs.lemmas.Bool.{cases_order}
+use Rattle.std.proofs.lemmas.Bool.{cases_lt, cases_order, false≢true}
 use Rattle.std.proofs.lemmas.List.{set_split, take-append-drop, get_or-take, get_or-drop, get_or_default, append-nil, length-take}
 use Rattle.std.proofs.lemmas.List.{length-drop, take_all, drop_all}
 use Rattle.std.proofs.lemmas.List.Elements.{recursion_from_All}
@@ -78,20 +78,23 @@ goes_here key n xs at x y sorted some within before low here high =
           ap key (get_or_default xs at d y within ∙ sym here) in omega (arith, le, same, high)),
     ) (λ z lt is same. let at_key = ap key (is ∙ get_or_default xs at z y within ∙ sym here) in omega (arith, at_key, same, high))
 
--- in a list without entries a number goes to the front
-pub goes_alone : {A : Type 0} (key : A → ℕ) (n : ℕ) (xs : List A) → length xs ≡ 0 → GoesAt key n xs 0
-goes_alone key n [] none = record { within = omega arith; before = refl; absent = refl; after = refl }
-goes_alone key n (x ∷ xs) none = absurd (omega (arith, none))
+-- a comparison that fails
+pub is_less : (n k : ℕ) (b : Bool) → b ≡ nat_le n k → b ≡ false → k < n
+is_less n k b is fails = elim (cases_lt k n) [
+  | inl less ↦ less
+  | inr le ↦ absurd (false≢true (sym fails ∙ is ∙ le_true n k le))
+]
 
--- a number below that of the first entry goes to the front
-pub goes_first : {A : Type 0} (key : A → ℕ) (n : ℕ) (xs : List A) (x : A) → IsStrictlySorted key xs → 0 < length xs → x ≡ get_or xs 0 x
-    → n < key x → GoesAt key n xs 0
-goes_first key n xs x sorted some here high =
-    goes_at key n xs 0 sorted (omega arith) (
-      λ k d from to. absurd (omega arith),
-      λ k d from to. lt_false _ n (let le = in_order key xs sorted 0 k d (omega arith) (omega arith) in let same =
-          ap key (get_or_default xs 0 d x some ∙ sym here) in omega (arith, le, same, high)),
-    ) (λ z lt is same. let at_key = ap key (is ∙ get_or_default xs 0 z x some ∙ sym here) in omega (arith, at_key, same, high))
+-- a number above the entry before the index, and below the one at it, goes to the index
+pub goes_where : {A : Type 0} (key : A → ℕ) (n : ℕ) (xs : List A) (at : ℕ) → IsStrictlySorted key xs → at ≤ length xs
+    → ((d : A) → 0 < at → key (get_or xs (at - 1) d) < n) → ((d : A) → at < length xs → n < key (get_or xs at d)) → GoesAt key n xs at
+goes_where key n xs at sorted within low high =
+    goes_at key n xs at sorted within (
+      λ k d from to. lt_true _ n (let le = in_order key xs sorted k (at - 1) d (omega arith) (omega arith) in
+          omega (arith, le, low d (omega arith))),
+      λ k d from to. lt_false _ n (let le = in_order key xs sorted at k d (omega arith) (omega arith) in
+          omega (arith, le, high d (omega arith))),
+    ) (λ z lt is same. let at_key = ap key is in omega (arith, at_key, same, high z lt))
 
 -- a number above that of the last entry goes to the end
 pub goes_last : {A : Type 0} (key : A → ℕ) (n : ℕ) (xs : List A) (x : A) → IsStrictlySorted key xs → 0 < length xs

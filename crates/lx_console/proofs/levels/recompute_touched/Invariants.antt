@@ -8,6 +8,7 @@ invariant-loop-k l = record {
   count : l.count ≡ l.show.channels;
   moment : l.levels.moment ≡ l.playback.moment;
   reach : length l.levels.stacks ≡ l.show.channels;
+  same : l.changed ≡ false → l.levels ≡ l.initial.levels;
   done : (i : ℕ) → i < l.k → i < l.show.channels → StandsAt l.show l.playback l.levels i;
   left : (i : ℕ) → l.k ≤ i → i < l.show.channels → has_chan l.chans (i + 1) ≡ false → StandsAt l.show l.playback l.levels i;
 }

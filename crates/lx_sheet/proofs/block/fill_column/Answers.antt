@@ -1,6 +1,11 @@
-use Rattle.std.proofs.Common.{◌≡◌, ◌≢◌, ℕ, ◌+◌, ◌*◌, ◌-◌, ◌<◌, ◌≤◌, List, length, take, set, ap, sym, ◌∙◌, subst, refl, inl, inr, arith}
+use Rattle.std.proofs.Common.{◌≡◌, ◌≢◌, ℕ, ◌+◌, ◌*◌, ◌-◌, ◌<◌, ◌≤◌, false, cond, Bool, List, length, take, set, Option, Some}
+use Rattle.std.proofs.Common.{ap, sym, ◌∙◌, subst, inl, inr, arith}
+use Rattle.std.specs.Prelude.{IfSome, slice_get}
 use Rattle.std.proofs.lemmas.Bool.{cases_eq}
+use Rattle.std.proofs.lemmas.List.{get_or_default}
+use Rattle.std.proofs.lemmas.Option.{slice_get-get_or}
 use Rattle.lx_spec.specs.Show.{Cue}
+use Rattle.lx_spec.specs.TrackedLevel.{decides, level_in}
 use Rattle.lx_sheet.specs.declared.sheet.Place.{Place}
 use Rattle.lx_sheet.specs.Block.{cell, cue_level, row_at_place, last_value}
 use Rattle.lx_sheet.specs.After.{level_after, tracked_on}
@@ -9,56 +14,73 @@ use Rattle.lx_sheet.proofs.Covered.{covered_at}
 use Rattle.lx_sheet.proofs.LevelsAfter.{level_after-take}
 use Rattle.lx_sheet.proofs.RowPool.{rows_differ}
 use Rattle.lx_sheet.proofs.block.fill_column.Goals as goal
-
-pub loop-place-init : goal.loop-place-init
-loop-place-init c =
-    let at : c.get.result - 1 + 1 ≡ c.args.chan = omega (arith, c.get.ensures.value, c.get.ensures.least) in
-    record {
-      level = λ start. c.level_before-level.ensures
-          ∙ ap (λ n. last_value c.args.from (λ k. cue_level c.args.channels c.args.order.now c.args.levels.now k n)) at ∙ start;
-      others = λ k x other. refl;
-      front = λ k less. refl;
-      back = λ k more within. refl;
-      rows = λ start k least less. absurd (omega arith);
-    }
+use Rattle.lx_sheet.proofs.block.fill_column.Goals.{then-decides_near+else-place-sure, else-decides_near}
 
 pub loop-place-preserved : goal.loop-place-preserved
 loop-place-preserved c =
     let place : ℕ = c.loop-place.place in
     let n : ℕ = c.args.channels in
+    let chan : ℕ = c.args.chan in
     let order : List Place = c.args.order.now in
     let cues : List Cue = c.args.cues.now in
+    let cue : Cue = c.index-cues-place.result in
+    let level : ℕ = c.if-decides_near.level in
     let row : ℕ = c.own_row.result in
     let of_row : row ≡ row_at_place order place = c.own_row.ensures.row in
-    let is : c.get.result ≡ c.args.chan = c.get.ensures.value in
+    let is : c.get.result ≡ chan = c.get.ensures.value in
     let least : 1 ≤ c.get.result = c.get.ensures.least in
     let most : c.get.result ≤ n = omega (arith, c.requires.within) in
-    let there : place < length order = omega arith in
+    let within : place < length cues = omega (arith, c.loop-place-test.true, c.requires.to) in
+    let there : place < length order = omega (arith, c.requires.order, within) in
     let end : row * n + n ≤ length c.loop-place.levels =
     subst (λ r. r * n + n ≤ length c.loop-place.levels) (sym of_row)
     (omega (arith, covered_at n c.args.levels.now order place c.requires.room there)) in
-    let new = set c.loop-place.levels (row * n + (c.get.result - 1)) c.level_on-level.result in
-    let here : cue_level n order new place c.args.chan ≡ c.level_on-level.result =
-    ap (λ r. cell n new r c.args.chan) (sym of_row)
-    ∙ subst (λ (x : ℕ). cell n new row x ≡ c.level_on-level.result) is
-    (cell-set_here n c.loop-place.levels row c.get.result c.level_on-level.result least most (omega arith)) in
+    let new = set c.loop-place.levels (row * n + (c.get.result - 1)) level in
+    let here : cue_level n order new place chan ≡ level =
+    ap (λ r. cell n new r chan) (sym of_row)
+    ∙ subst (λ (x : ℕ). cell n new row x ≡ level) is
+    (cell-set_here n c.loop-place.levels row c.get.result level least most (omega arith)) in
     let others : (k : ℕ) → k ≢ place → k < length order
-    → cue_level n order new k c.args.chan ≡ cue_level n order c.loop-place.levels k c.args.chan = λ k other within.
-    cell-set_other n c.loop-place.levels row (row_at_place order k) c.get.result c.args.chan c.level_on-level.result least most
-    (λ e _. rows_differ order k place c.requires.rows within there other (e ∙ of_row)) in
-    let tracks : last_value c.args.from (λ k. cue_level n order c.args.levels.now k c.args.chan)
-    ≡ level_after (take c.args.from cues) c.args.chan → c.level_on-level.result ≡ level_after (take (place + 1) cues) c.args.chan =
-    λ start. c.level_on-level.ensures ∙ ap (tracked_on c.index-cues-place.result c.args.chan) (c.loop-place.invariant.level start)
-    ∙ sym (level_after-take cues place c.index-cues-place.result c.args.chan (omega arith) c.index-cues-place.is) in
+    → cue_level n order new k chan ≡ cue_level n order c.loop-place.levels k chan = λ k other inside.
+    cell-set_other n c.loop-place.levels row (row_at_place order k) c.get.result chan level least most
+    (λ e _. rows_differ order k place c.requires.rows inside there other (e ∙ of_row)) in
+    let step : level ≡ tracked_on cue chan c.loop-place.level = elim c.if-decides_near.branch [
+      | then-decides_near+else-place-sure w ↦
+          let same : w.index-cues-place-then-decides_near.result ≡ cue = w.index-cues-place-then-decides_near.is
+          ∙ get_or_default cues place _ cue within ∙ sym c.index-cues-place.is in
+          w.level-is ∙ w.level_of-level.ensures ∙ ap (λ (x : Cue). level_in x chan) same
+          ∙ sym (ap (λ (b : Bool). cond b (level_in cue chan) c.loop-place.level) (sym c.decides_near.ensures ∙ w.if-decides_near.true))
+      | else-decides_near w ↦
+          w.level-is
+          ∙ sym (ap (λ (b : Bool). cond b (level_in cue chan) c.loop-place.level) (sym c.decides_near.ensures ∙ w.if-decides_near.false))
+    ] in
+    let tracks : last_value c.args.from (λ k. cue_level n order c.args.levels.now k chan)
+    ≡ level_after (take c.args.from cues) chan → level ≡ level_after (take (place + 1) cues) chan =
+    λ start. step ∙ ap (tracked_on cue chan) (c.loop-place.invariant.level start)
+    ∙ sym (level_after-take cues place cue chan within c.index-cues-place.is) in
+    let passes : c.args.sure ≤ place → IfSome (slice_get cues place) (λ x. decides x chan ≡ false) = λ sure.
+    subst (λ (o : Option Cue). IfSome o (λ x. decides x chan ≡ false))
+    (sym (slice_get-get_or cues place cue within ∙ ap Some (sym c.index-cues-place.is)))
+    (elim c.if-decides_near.branch [
+      | then-decides_near+else-place-sure w ↦ absurd (omega (arith, w.if-place-sure.false, sure))
+      | else-decides_near w ↦ sym c.decides_near.ensures ∙ w.if-decides_near.false
+    ]) in
     record {
       level = tracks;
-      others = λ r x other. cell-set_other n c.loop-place.levels row r c.get.result x c.level_on-level.result least most
+      passed = λ k from sure below. elim (cases_eq k place) [
+        | inl e ↦ subst (λ p. IfSome (slice_get cues p) (λ x. decides x chan ≡ false)) (sym e) (passes (omega (arith, e, sure)))
+        | inr apart ↦ c.loop-place.invariant.passed k from sure (omega arith)
+      ];
+      others = λ r x other. cell-set_other n c.loop-place.levels row r c.get.result x level least most
           (λ _ e. other (e ∙ is)) ∙ c.loop-place.invariant.others r x other;
       front = λ k less. others k (λ e. omega arith) (omega arith) ∙ c.loop-place.invariant.front k less;
-      back = λ k more within. others k (λ e. omega arith) (omega arith) ∙ c.loop-place.invariant.back k more within;
+      back = λ k more inside. others k (λ e. omega arith) (omega (arith, c.requires.order, inside))
+          ∙ c.loop-place.invariant.back k (omega arith) inside;
+      past = λ k more inside. others k (λ e. omega (arith, e, more, c.loop-place-test.true)) (omega (arith, c.requires.order, inside))
+          ∙ c.loop-place.invariant.past k more inside;
       rows = λ start k from below. elim (cases_eq k place) [
-        | inl e ↦ ap (λ p. cue_level n order new p c.args.chan) e ∙ here ∙ tracks start
-            ∙ ap (λ p. level_after (take (p + 1) cues) c.args.chan) (sym e)
+        | inl e ↦ ap (λ p. cue_level n order new p chan) e ∙ here ∙ tracks start
+            ∙ ap (λ p. level_after (take (p + 1) cues) chan) (sym e)
         | inr apart ↦ others k apart (omega arith) ∙ c.loop-place.invariant.rows start k from (omega arith)
       ];
     }

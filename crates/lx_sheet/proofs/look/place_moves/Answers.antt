@@ -1,4 +1,4 @@
-use Rattle.std.proofs.Common.{◌≤◌, ◌-◌, length, sym, subst, arith}
+use Rattle.std.proofs.Common.{◌≤◌, length, sym, subst, arith}
 use Rattle.lx_spec.specs.declared.Move.{Move}
 use Rattle.lx_sheet.proofs.Moves.{move_placed}
 use Rattle.lx_sheet.proofs.look.place_moves.Goals as goal

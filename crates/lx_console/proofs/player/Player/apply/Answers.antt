@@ -10,8 +10,8 @@ use Rattle.lx_console.proofs.Changed.{planned_changes}
 use Rattle.lx_console.proofs.Obeying.{stands_planned}
 use Rattle.lx_console.proofs.player.Player.apply.Goals as goal
 
-pub recompute_touched-requires-clause-others : goal.recompute_touched-requires-clause-others
-recompute_touched-requires-clause-others c = λ k within out.
+pub recompute_touched-leveled-requires-clause-others : goal.recompute_touched-leveled-requires-clause-others
+recompute_touched-leveled-requires-clause-others c = λ k within out.
     let show : Show = c.self.inside.show in
     let after : Show = c.exchange-dirty.new.show in
     let channels : after.channels ≡ show.channels =
@@ -27,8 +27,8 @@ recompute_touched-requires-clause-others c = λ k within out.
           c.placed_alone-placed.ensures unseen
     ]
 
-pub recompute_touched-requires-clause-reach : goal.recompute_touched-requires-clause-reach
-recompute_touched-requires-clause-reach c = c.self.invariant.levels_stand.reach
+pub recompute_touched-leveled-requires-clause-reach : goal.recompute_touched-leveled-requires-clause-reach
+recompute_touched-leveled-requires-clause-reach c = c.self.invariant.levels_stand.reach
     ∙ sym (ap (λ (s : Show). s.channels) c.exchange-dirty.ensures.show ∙ same_channels c.self.inside.show c.args.plan)
 
 pub mend_subs-requires-clause-reach : goal.mend_subs-requires-clause-reach
@@ -64,5 +64,7 @@ returns-clause-changes c =
     let of_exchange = c.exchange-dirty.ensures in
     subst (λ (k : Kept). Changes c.of_edit.result k (record before { show = after; faders = c.mend_subs.new.rack.faders })) c.self.view_is
     (subst (λ (f : List ℕ). Changes c.of_edit.result before (record before { show = after; faders = f })) (sym c.mend_subs.ensures.faders)
-    (planned_changes before after c.args.plan c.exchange-dirty.result.dirty c.of_edit.result of_exchange.show of_exchange.others
-    of_exchange.dimmer of_exchange.subs c.of_edit.ensures))
+    (planned_changes before after c.args.plan c.exchange-dirty.result.dirty c.self.inside.levels c.recompute_touched-leveled.new.levels
+    c.recompute_touched-leveled.result c.of_edit.result of_exchange.show c.self.invariant.levels_stand
+    c.recompute_touched-leveled.ensures.stands c.recompute_touched-leveled.ensures.same of_exchange.dimmer of_exchange.subs
+    c.of_edit.ensures))

@@ -1,17 +1,14 @@
-use Rattle.std.proofs.Common.{◌≡◌, ℕ, ◌+◌, ◌<◌, List, length, map, take, ap, sym, ◌∙◌, subst, inl, inr, arith}
+use Rattle.std.proofs.Common.{◌≡◌, ℕ, ◌<◌, List, length, map, ap, sym, ◌∙◌, subst, arith}
 use Rattle.std.specs.Prelude.{IfSome, ◌≤◌}
-use Rattle.std.proofs.lemmas.Bool.{cases_lt}
 use Rattle.std.proofs.lemmas.List.{length-map, with_items_is}
 use Rattle.lx_spec.specs.Show.{Cue}
 use Rattle.lx_spec.specs.TrackedLevel.{tracked}
 use Rattle.lx_sheet.specs.declared.sheet.Place.{Place}
 use Rattle.lx_sheet.specs.Rows.{Sheet, level_of, numbers_of}
-use Rattle.lx_sheet.specs.Block.{AreApart, own_rows, cell, cue_level, row_at_place, last_value}
-use Rattle.lx_sheet.specs.After.{level_after, IsRight}
+use Rattle.lx_sheet.specs.Block.{AreApart, own_rows, cell, row_at_place, count_under}
 use Rattle.lx_sheet.specs.Standing.{cue_numbers}
-use Rattle.lx_sheet.specs.Block.{count_under}
-use Rattle.lx_sheet.proofs.RightRows.{IsOrderOf, order_length, count_under-map, count_under_within, right_below, right_past, last_right}
-use Rattle.lx_sheet.proofs.RightRows.{column_right, last_within, until}
+use Rattle.lx_sheet.proofs.FilledColumns.{column_filled, end_is}
+use Rattle.lx_sheet.proofs.RightRows.{IsOrderOf, count_under-map, count_under_within, last_within, until}
 use Rattle.lx_sheet.proofs.Past.{level_of_past, tracked_past}
 use Rattle.lx_sheet.proofs.RowPool.{own_apart}
 use Rattle.lx_sheet.proofs.Rows.{last_value_same, sheet_of, level_of_block, count_up_to, numbers-rows_of}
@@ -46,55 +43,28 @@ returns-then-get-self-clause-column c =
     let new : List ℕ = c.fill_column.new.levels in
     let cues : List Cue = c.cues-cues.result.now in
     let first : ℕ = length c.below-first.result.now in
-    let of_old : c.deref_mut.result.now ≡ old = c.deref_mut.ensures.value in
-    let of_order : c.deref.result.now ≡ order = c.deref.ensures.value in
     let of_cues : cues ≡ show.cues = c.cues-cues.ensures.cues in
     let of_first : first ≡ count_under from (cue_numbers show) =
     ap length c.below-first.ensures ∙ count_under-map (λ (cue : Cue). cue.number) c.get-then-get-self.result cues
     ∙ ap (λ n. count_under n (map (λ (cue : Cue). cue.number) cues)) c.get-then-get-self.ensures.value
     ∙ ap (λ (xs : List Cue). count_under from (map (λ cue. cue.number) xs)) of_cues in
+    let of_last : c.fill_column.result ≡ until c.args.to show.cues = end_is cues chan first c.count_below-last.result _ c.fill_column.ensures.end
+    ∙ c.count_below-last.ensures ∙ ap (λ (xs : List Cue). until c.args.to xs) of_cues in
     let written = with_items_is c.self.inside.levels new (omega arith) in
-    let numbers : map (λ (p : Place). p.cue) order ≡ cue_numbers show = sym (numbers-rows_of channels order old)
-    ∙ ap numbers_of c.self.view_is ∙ c.requires.numbers in
     let is : IsOrderOf show order = record {
       sorted = c.self.invariant.sorted;
       cues_sorted = c.cues-cues.ensures.valid.cues_sorted;
-      numbers = numbers;
+      numbers = sym (numbers-rows_of channels order old) ∙ ap numbers_of c.self.view_is ∙ c.requires.numbers;
     } in
-    let long : length order ≡ length show.cues = order_length show order is in
     let below : (n : ℕ) → n < from → level_of (sheet_of channels order old) n chan ≡ tracked show n chan =
     λ n less. ap (λ (s : Sheet). level_of s n chan) c.self.view_is ∙ c.requires.below n less in
-    let front : (k : ℕ) → k < first → IsRight channels order show.cues old k chan =
-    λ k less. right_below show from channels order old chan k is below (omega (arith, of_first, less)) in
-    let start : last_value first (λ k. cue_level channels c.deref.result.now c.deref_mut.result.now k chan)
-    ≡ level_after (take first cues) chan =
-    ap (λ (xs : List Place). last_value first (λ k. cue_level channels xs c.deref_mut.result.now k chan)) of_order
-    ∙ ap (λ (xs : List ℕ). last_value first (λ k. cue_level channels order xs k chan)) of_old
-    ∙ last_right channels order show.cues old chan first front
-    ∙ sym (ap (λ (xs : List Cue). level_after (take first xs) chan) of_cues) in
-    let stays : (k : ℕ) → cue_level channels c.deref.result.now new k chan
-    ≡ cue_level channels c.deref.result.now c.deref_mut.result.now k chan
-    → cue_level channels order new k chan ≡ cue_level channels order old k chan =
-    λ k same. ap (λ (xs : List Place). cue_level channels xs new k chan) (sym of_order) ∙ same
-    ∙ ap (λ (xs : List Place). cue_level channels xs c.deref_mut.result.now k chan) of_order
-    ∙ ap (λ (xs : List ℕ). cue_level channels order xs k chan) of_old in
-    let right_above : IfSome c.args.to (λ end. (n : ℕ) → end ≤ n → level_of (sheet_of channels order old) n chan ≡ tracked show n chan) =
+    let above : IfSome c.args.to (λ end. (n : ℕ) → end ≤ n → level_of (sheet_of channels order old) n chan ≡ tracked show n chan) =
     subst (λ (s : Sheet). IfSome c.args.to (λ end. (n : ℕ) → end ≤ n → level_of s n chan ≡ tracked show n chan)) (sym c.self.view_is)
     c.requires.above in
     subst (λ (xs : List ℕ). (n : ℕ) → level_of (sheet_of channels order xs) n chan ≡ tracked show n chan) (sym written)
-    (column_right show channels order new chan is (λ k within. elim (cases_lt k first) [
-      | inl less ↦ stays k (c.fill_column.ensures.front k less) ∙ front k less
-      | inr least ↦ elim (cases_lt k c.count_below-last.result) [
-        | inl before ↦
-            ap (λ (xs : List Place). cue_level channels xs new k chan) (sym of_order)
-            ∙ c.fill_column.ensures.rows start k least before
-            ∙ ap (λ (xs : List Cue). level_after (take (k + 1) xs) chan) of_cues
-        | inr past ↦
-            stays k (c.fill_column.ensures.back k past (omega (arith, ap length of_cues, within)))
-            ∙ right_past show c.args.to c.count_below-last.result channels order old chan k is
-            (c.count_below-last.ensures ∙ ap (λ (xs : List Cue). until c.args.to xs) of_cues) right_above past within
-      ]
-    ]))
+    (column_filled show channels order c.deref.result.now old c.deref_mut.result.now new cues from chan first c.fill_column.result c.args.to
+    c.deref.ensures.value c.deref_mut.ensures.value of_cues is of_first of_last below above
+    c.fill_column.ensures.front c.fill_column.ensures.back c.fill_column.ensures.rows)
 
 pub returns-then-get-self-clause-others : goal.returns-then-get-self-clause-others
 returns-then-get-self-clause-others c = λ n chan other.
