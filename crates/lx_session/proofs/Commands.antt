@@ -1,8 +1,9 @@
 -- What the console's answer to a command comes to.
-use Rattle.std.proofs.Common.{◌≡◌, Bool, true, Option, Result, Ok, Err, OnErr, inl, sym, subst}
+use Rattle.std.proofs.Common.{◌≡◌, Bool, true, false, Option, Some, Result, Ok, Err, OnErr, inl, refl, sym, subst}
 use Rattle.std.specs.Result.{result_err}
 use Rattle.lx_spec.specs.declared.Command.{Command}
 use Rattle.lx_spec.specs.declared.Refusal.{Refusal}
+use Rattle.lx_spec.specs.declared.Refusal.TheVariants.{Memory}
 use Rattle.lx_spec.specs.Desk.{Desk}
 use Rattle.lx_spec.specs.Kept.{Kept}
 use Rattle.lx_console.specs.Standing.{StandsFor, Answers, Obeys}
@@ -19,6 +20,11 @@ pub answered : (admitted : Bool) (d : Desk) (c : Command) (r : Result (Unit {0})
 answered admitted d c r o before after all a stands same is =
     subst (λ b. Attempted b d c o after) (sym all)
     (subst (λ v. Attempted true d c v after) (sym is) (answered_at d c r before after a stands same))
+
+-- a command that wasn't admitted leaves the console as it was
+pub unadmitted : (admitted : Bool) (d : Desk) (c : Command) (before : Kept) → admitted ≡ false → StandsFor d before
+    → Attempted admitted d c (Some Memory) before
+unadmitted admitted d c before none stands = subst (λ b. Attempted b d c (Some Memory) before) (sym none) (stands, refl)
 
 -- a refusal of the desk's own is one of those that a console may answer
 pub obeyed : (d : Desk) (c : Command) (r : Result (Unit {0}) Refusal) (after : Kept) → Obeys d c r after → Answers d c r after

@@ -9,6 +9,7 @@ use Rattle.lx_io.specs.declared.sink.SinkFault.TheVariants as sinks
 use Rattle.lx_io.specs.Puts.{AppendsFront}
 use Rattle.lx_io.proofs.Chain.{AppendsFront-is, AppendsFront-from}
 use Rattle.lx_lex.specs.declared.lines.Lines.{Lines}
+use Rattle.lx_lex.specs.CutOff.{NotTaken}
 use Rattle.lx_lex.specs.Handed.{HandedOut}
 use Rattle.lx_lex.specs.Unread.{unread}
 use Rattle.lx_spec.specs.Text.{without_cr}
@@ -17,7 +18,7 @@ use Rattle.lx_session.specs.declared.fault.SessionFault.{SessionFault}
 use Rattle.lx_session.specs.declared.tally.Tally.{Tally}
 use Rattle.lx_session.specs.Known.{Known}
 use Rattle.lx_session.specs.SessionFaults.{fault_of}
-use Rattle.lx_session.specs.LineOutcome.{Untouched, SinkStop, FromSession, ReplyOutcome, LineOutcome}
+use Rattle.lx_session.specs.LineOutcome.{Untouched, SinkStop, FromSession, ReplyOutcome, UnreadLine, LineOutcome}
 
 -- what is appended after bytes that were kept
 kept_appends : (a b c : Option (List ℕ)) (xs : List ℕ) → Keeps a b → Appends b c xs → Appends a c xs
@@ -117,3 +118,8 @@ at_end answer MayWant Stands left faults old new h h' h'' counted kept kept' end
   inl end,
   λ s stands counts. record { same = record { kept = Keeps-trans h h' h'' kept kept'; stands = stands }; counts = counts },
 )
+
+-- the next line couldn't be taken, and nothing was done
+pub cut_off : {S State : Type 0} (Stands : State → Type 0) (left : S → Known) (old new : Lines S) (h h' : Known) (counted : Tally)
+    → NotTaken left old new → Keeps h h' → UnreadLine Stands Stands left old new h h' counted
+cut_off Stands left old new h h' counted cut kept = record { cut = cut; same = λ s stands counts. record { kept = kept; stands = stands } }

@@ -1,7 +1,10 @@
 use Rattle.std.proofs.Common.{subst, sym}
 use Rattle.lx_session.specs.Attempts.{Attempted}
-use Rattle.lx_session.proofs.Commands.{answered, obeyed}
+use Rattle.lx_session.proofs.Commands.{answered, obeyed, unadmitted}
 use Rattle.lx_session.proofs.key.try_key.Goals as goal
+
+pub returns-then-not-admitted-clause-attempted : goal.returns-then-not-admitted-clause-attempted
+returns-then-not-admitted-clause-attempted c = λ d stands. unadmitted _ d _ _ c.if-not-admitted.true stands
 
 pub returns-clause-attempted : goal.returns-clause-attempted
 returns-clause-attempted c = λ d stands.

@@ -1,6 +1,6 @@
-use Rattle.std.proofs.Common.{◌∙◌, refl}
+use Rattle.std.proofs.Common.{◌∙◌, inl, inr, false, refl}
 use Rattle.lx_lex.proofs.HandingOut.{handed_one}
-use Rattle.lx_session.proofs.LineOutcomes.{answered, unwritten, end_unflushed}
+use Rattle.lx_session.proofs.LineOutcomes.{answered, unwritten, end_unflushed, cut_off}
 use Rattle.lx_session.proofs.take.take_line.Goals as goal
 
 pub returns-in_err-give_reply-in-Line-clause-outcome : goal.returns-in_err-give_reply-in-Line-clause-outcome
@@ -55,3 +55,17 @@ returns-in_err-flush-in-End-clause-outcome g c =
     (g.K.Sink.holds c.flush.new.self) c.args.tally.now c.args.tally.now c.in_err-flush-in-End.field-0.0
     c.from_residual-in_err-flush-in-End.result c.from_residual-in_err-flush-in-End.ensures c.flush_before_wait.ensures.holds
     c.flush.ensures.holds e.step.0 (e.at_end refl)
+
+pub returns-in-ReadFault-clause-outcome : goal.returns-in-ReadFault-clause-outcome
+returns-in-ReadFault-clause-outcome g c =
+    let e = c.in-ReadFault.ensures in
+    cut_off (λ state. g.A.AnswersBeside.stands state c.args.answerer.now c.args.lent.now) g.S.Source.left c.args.lines.now c.advance.new.self
+    (g.K.Sink.holds c.args.sink.now) (g.K.Sink.holds c.flush_before_wait.new.sink) c.args.tally.now
+    (record { raw = e.step.0; fed = false; took = e.step.1; stop = inr (refl, e.none_held refl) }) c.flush_before_wait.ensures.holds
+
+pub returns-in-InputTooLong-clause-outcome : goal.returns-in-InputTooLong-clause-outcome
+returns-in-InputTooLong-clause-outcome g c =
+    let e = c.in-InputTooLong.ensures in
+    (cut_off (λ state. g.A.AnswersBeside.stands state c.args.answerer.now c.args.lent.now) g.S.Source.left c.args.lines.now c.advance.new.self
+    (g.K.Sink.holds c.args.sink.now) (g.K.Sink.holds c.flush_before_wait.new.sink) c.args.tally.now
+    (record { raw = e.step.0; fed = e.step.1; took = e.step.2; stop = inl e.step.3 }) c.flush_before_wait.ensures.holds, e.step)

@@ -2,6 +2,7 @@ use Rattle.std.proofs.Common.{◌≡◌, ℕ, ◌+◌, List, inl, inr, arith, sy
 use Rattle.lx_spec.specs.Show.{Show}
 use Rattle.lx_spec.specs.Kept.{Kept}
 use Rattle.lx_edit.specs.Planned.{planned}
+use Rattle.lx_edit.specs.Undone.{TakesBack}
 use Rattle.lx_levels.specs.Standing.{StandsAt}
 use Rattle.lx_console.proofs.Apart.{placed_stands}
 use Rattle.lx_console.specs.Changes.{Changes}
@@ -38,6 +39,10 @@ mend_subs-requires-clause-reach c = same_reach c.self.inside.show c.exchange-dir
 pub mend_subs-requires-clause-given : goal.mend_subs-requires-clause-given
 mend_subs-requires-clause-given c = same_given c.self.inside.show c.exchange-dirty.new.show c.args.plan c.exchange-dirty.result.dirty.subs
     c.self.inside.rack.faders c.self.inside.rack.given c.exchange-dirty.ensures.show c.exchange-dirty.ensures.subs c.self.invariant.subs
+
+pub returns-clause-undo : goal.returns-clause-undo
+returns-clause-undo c =
+    subst (λ (k : Kept). TakesBack k.show c.exchange-dirty.new.show c.exchange-dirty.result.undo) c.self.view_is c.exchange-dirty.ensures.undo
 
 pub returns-clause-stands : goal.returns-clause-stands
 returns-clause-stands c = λ d stands.
