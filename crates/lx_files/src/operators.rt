@@ -3,7 +3,7 @@
 ghost use Rattle.std.specs.Prelude.{◌≡◌, length, None, IsSome};
 ghost use Rattle.std.specs.Io.{ReadsAtMost};
 ghost use Rattle.lx_base.specs.declared.TheConstants.{OPERATORS};
-ghost use Rattle.lx_crew.specs.Hired.{EachAt};
+ghost use Rattle.lx_files.specs.Places.{AreFilled};
 
 use lx_base::OPERATORS;
 use lx_io::{Failed, Source};
@@ -82,7 +82,7 @@ pub fn scripts<R: Files<File = File>>(
     alloc: Global,
 ) -> [Option<OperatorFile<'_, R>>; PLACES]
     ensures count { length result ≡ OPERATORS }
-    ensures full { EachAt (λ place source. IsSome source) result }
+    ensures full { AreFilled result }
 {
     [
         script(rt, alloc, 1),

@@ -2,10 +2,10 @@
 
 ghost use Rattle.std.specs.Prelude.{◌≡◌, ◌≤◌, length, IfOk, None, IsSome};
 ghost use Rattle.lx_base.specs.declared.TheConstants.{UNIVERSES};
-ghost use Rattle.lx_workers.specs.Places.{IsFull};
+ghost use Rattle.lx_files.specs.Places.{AreFilled};
 
+use lx_base::UNIVERSES;
 use lx_io::{Pace, Sink, SinkFault};
-use lx_workers::OUTLETS;
 use std::alloc::Global;
 use std::fs::File;
 use std::io::{BufWriter, Write};
@@ -15,6 +15,9 @@ use std::{fs, io, thread};
 
 /// Room for the longest line of an outlet: 512 slots of at most 8 bytes each, and less than 100 bytes before them.
 const LINE_ROOM: usize = 8_192;
+
+/// A place for each universe.
+pub const OUTLETS: usize = UNIVERSES as usize;
 
 /// The file `universe-U.txt` in the current folder. It is made anew at its first write, so that a named pipe of that name is
 /// opened then; and each line is handed on by one write, once it is whole.
@@ -126,7 +129,7 @@ pub fn files<R: Files<File = File>>(
     alloc: Global,
 ) -> [Option<UniverseFile<'_, R>>; OUTLETS]
     ensures count { length result ≡ UNIVERSES }
-    ensures full { IsFull result }
+    ensures full { AreFilled result }
 {
     [
         file(rt, alloc, 1),
