@@ -27,7 +27,7 @@ if [ "${1:-}" = files ]; then
 fi
 cp -a "$top/crates.txt" "$top/HANDLES" "$top/crates" "$copy"
 cd "$copy/crates/cuedesk"
-rm -f stdin stdout args status src/universes.rt
+rm -rf stdin stdout args status proofs
 python3 - src/main.rt <<'PYTHON'
 import sys
 path = sys.argv[1]
@@ -35,7 +35,7 @@ text = open(path).read()
 head = text[:text.index('fn main(rt')].replace('use lx_io::{Sink, StdSink, StdSource};', 'use lx_io::{Pace, PlainSink, StdSource};')
 head = head.replace('use std::io::BufWriter;\n', 'use std::sync::atomic::AtomicU64;\nuse std::sync::atomic::Ordering::SeqCst;\nuse std::thread;\n')
 head = head.replace('use std::process::ExitCode;\n', 'use std::process::ExitCode;\nuse std::time::{Duration, Instant};\n')
-head = head.replace('use universes::{DeskPace, files};\n', '').replace('mod universes;\n', '')
+head = head.replace('use lx_files::{DeskPace, files, scripts};\n', '')
 open(path, 'w').write(head + '''/// A pace whose beats take so many microseconds, and which counts the engine's own time from beat to beat.
 #[derive(Drop)]
 struct Timed<'r> {
@@ -135,7 +135,7 @@ fn main(rt: HostRuntime) -> ExitCode {
 ''')
 path = sys.argv[1]
 text = open(path).read()
-text = text.replace('mod operators;', 'ghost use Rattle.std.specs.Prelude.{◌≡◌, length, IsSome};\nghost use Rattle.lx_workers.specs.Places.{IsFull};\n\nmod operators;')
+text = text.replace('use lx_desk::Status;', 'ghost use Rattle.std.specs.Prelude.{◌≡◌, length, IsSome};\nghost use Rattle.lx_workers.specs.Places.{IsFull};\n\nuse lx_desk::Status;')
 open(path, 'w').write(text)
 PYTHON
 rt run < /dev/null > "$copy/log" 2>&1 || true

@@ -2,18 +2,14 @@
 //! and frames, or what there is to tell of the show, to standard output.
 #![tactic(auto)]
 
-mod operators;
-mod universes;
-
 use lx_desk::Status;
+use lx_files::{DeskPace, files, scripts};
 use lx_io::{BufferedSink, Sink, StdSink, StdSource};
 use lx_program::{desk, desk_crew, desk_live, exit_of, words_of};
 use lx_spec::Job;
-use operators::scripts;
 use std::alloc::Global;
 use std::process::ExitCode;
 use std::{env, io};
-use universes::{DeskPace, files};
 
 /// The line that says how the program is used.
 const USAGE: &str = "usage: cuedesk check|render|sheet [states] | make N | run U [states]";

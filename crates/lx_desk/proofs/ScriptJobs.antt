@@ -11,7 +11,9 @@ use Rattle.lx_spec.specs.SessionOutput.{session_replies, SessionWants}
 use Rattle.lx_spec.specs.UndoSession.{undo_answer, UndoMayWant}
 use Rattle.lx_spec.specs.TwoLists.{opened_two, two_answer, TwoMayWant}
 use Rattle.lx_spec.specs.Job.{opened_undo}
-use Rattle.lx_desk.specs.Answering.{render_by, undo_by, two_by}
+use Rattle.lx_desk.specs.declared.script.Answerer.{Answerer}
+use Rattle.lx_desk.specs.declared.script.Answerer.TheVariants as by
+use Rattle.lx_desk.specs.Answering.{render_by, undo_by, two_by, answers_by, job_by}
 use Rattle.lx_desk.proofs.Inputs.{IsOfScript, IsOverShow, script_over, nothing_wanted, nothing_of_session}
 
 -- none of the replies are those to no line
@@ -24,7 +26,7 @@ none_of_session : {S : Type 0} (answer : Answer S) (opening : Show → S) (r : R
 none_of_session answer opening (Ok reading) script = refl
 none_of_session answer opening (Err fault) script = refl
 
-pub render_script : (form : Form) → IsOfScript form (Render form) render_by
+render_script : (form : Form) → IsOfScript form (Render form) render_by
 render_script form = record {
   show = λ x. refl;
   nothing = λ x. nothing_wanted x (reads form x);
@@ -48,7 +50,7 @@ run_script form universes = record {
   taken = λ x left h h' replied. replied;
 }
 
-pub undo_script : (form : Form) → IsOfScript form (Undo form) undo_by
+undo_script : (form : Form) → IsOfScript form (Undo form) undo_by
 undo_script form = record {
   show = λ x. refl;
   nothing = λ x. nothing_of_session undo_answer UndoMayWant opened_undo x (reads form x);
@@ -60,7 +62,7 @@ undo_script form = record {
   taken = λ x left h h' replied. replied;
 }
 
-pub two_script : (form : Form) → IsOfScript form (Two form) two_by
+two_script : (form : Form) → IsOfScript form (Two form) two_by
 two_script form = record {
   show = λ x. refl;
   nothing = λ x. nothing_of_session two_answer TwoMayWant opened_two x (reads form x);
@@ -79,8 +81,11 @@ render_over form = script_over form (Render form) render_by (render_script form)
 pub run_over : (form : Form) (universes : ℕ) → IsOverShow form (Run universes form)
 run_over form universes = script_over form (Run universes form) render_by (run_script form universes)
 
-pub undo_over : (form : Form) → IsOverShow form (Undo form)
-undo_over form = script_over form (Undo form) undo_by (undo_script form)
+-- whatever answers it
+pub script_by : (answerer : Answerer) (form : Form) → IsOfScript form (job_by answerer form) (answers_by answerer)
+script_by by.Desk form = render_script form
+script_by by.UndoDesk form = undo_script form
+script_by by.TwoLists form = two_script form
 
-pub two_over : (form : Form) → IsOverShow form (Two form)
-two_over form = script_over form (Two form) two_by (two_script form)
+pub over_by : (answerer : Answerer) (form : Form) → IsOverShow form (job_by answerer form)
+over_by answerer form = script_over form (job_by answerer form) (answers_by answerer) (script_by answerer form)

@@ -1,5 +1,8 @@
 -- How scripts are answered: by a desk, or by anything else that answers a line.
 use Rattle.std.specs.Prelude.{ℕ, List}
+use Rattle.lx_spec.specs.declared.Form.{Form}
+use Rattle.lx_spec.specs.declared.Job.{Job}
+use Rattle.lx_spec.specs.declared.Job.TheVariants.{Render, Undo, Two}
 use Rattle.lx_spec.specs.Show.{Show}
 use Rattle.lx_spec.specs.Desk.{Desk, opened}
 use Rattle.lx_spec.specs.Session.{replies, after_first}
@@ -7,6 +10,8 @@ use Rattle.lx_spec.specs.RefusedPlaces.{PlacesAreEdits}
 use Rattle.lx_spec.specs.UndoSession.{undo_answer, UndoMayWant}
 use Rattle.lx_spec.specs.TwoLists.{opened_two, two_answer, TwoMayWant}
 use Rattle.lx_spec.specs.Job.{opened_undo}
+use Rattle.lx_desk.specs.declared.script.Answerer.{Answerer}
+use Rattle.lx_desk.specs.declared.script.Answerer.TheVariants as by
 use Rattle.lx_spec.specs.SessionOf.{Answer, whole_session, session_after, PlacesAreAllowed}
 
 -- Of a script: at which places want of memory may refuse attempts, the replies to all of it, and those to its first so many lines.
@@ -40,3 +45,14 @@ undo_by show = by_session undo_answer UndoMayWant (opened_undo show)
 
 abbrev pub two_by : Show → Answering
 two_by show = by_session two_answer TwoMayWant (opened_two show)
+
+abbrev pub answers_by : Answerer → Show → Answering
+answers_by by.Desk show = render_by show
+answers_by by.UndoDesk show = undo_by show
+answers_by by.TwoLists show = two_by show
+
+-- and the job that is done so
+abbrev pub job_by : Answerer → Form → Job
+job_by by.Desk form = Render form
+job_by by.UndoDesk form = Undo form
+job_by by.TwoLists form = Two form

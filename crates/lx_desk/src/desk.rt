@@ -7,10 +7,8 @@ ghost use Rattle.lx_desk.specs.Endings.{AnswersWords, HasEnded, HasCauseOf};
 
 use crate::check::check;
 use crate::make::make;
-use crate::render::render;
+use crate::script::{Answerer, script};
 use crate::sheet::sheet;
-use crate::two::two;
-use crate::undo::undo;
 use lx_io::{Sink, Source};
 use lx_spec::Job;
 use std::alloc::Global;
@@ -54,11 +52,11 @@ pub fn run_job<S: Source, K: Sink>(alloc: Global, job: Job, input: &mut S, outpu
 {
     match job {
         Job::Check(form) => check(alloc, form, input, output),
-        Job::Render(form) => render(alloc, form, input, output),
+        Job::Render(form) => script(alloc, Answerer::Desk, form, input, output),
         Job::Sheet(form) => sheet(alloc, form, input, output),
         Job::Make(cues) => make(alloc, cues, output),
         Job::Run(..) | Job::Crew(..) => Status::Live,
-        Job::Undo(form) => undo(alloc, form, input, output),
-        Job::Two(form) => two(alloc, form, input, output),
+        Job::Undo(form) => script(alloc, Answerer::UndoDesk, form, input, output),
+        Job::Two(form) => script(alloc, Answerer::TwoLists, form, input, output),
     }
 }

@@ -10,7 +10,7 @@ mod live;
 mod make;
 mod play;
 mod refuse;
-mod render;
+mod script;
 mod sheet;
 mod two;
 mod undo;

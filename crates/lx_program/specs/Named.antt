@@ -35,3 +35,12 @@ InRange (Run universes form) = (1 ≤ universes) × (universes ≤ UNIVERSES)
 InRange (Undo form) = Unit {0}
 InRange (Two form) = Unit {0}
 InRange (Crew operators form) = (1 ≤ operators) × (operators ≤ OPERATORS)
+
+-- the words name no live run, and no crew
+abbrev pub NamesNoRun : Option Job → Type 0
+NamesNoRun (Some (Run universes form)) = ⊥
+NamesNoRun other = Unit {0}
+
+abbrev pub NamesNoCrew : Option Job → Type 0
+NamesNoCrew (Some (Crew count form)) = ⊥
+NamesNoCrew other = Unit {0}

@@ -12,10 +12,9 @@ ghost use Rattle.lx_desk.specs.Live.{HasLiveCause, HasLived, KeepsOutlets};
 ghost use Rattle.lx_desk.specs.Output.{WritesPrefix};
 ghost use Rattle.lx_program.specs.Named.{OfCrew, OfJob, OfRun, in_use};
 
-use crate::words::{WordsFault, words_of};
+use crate::words::{WordsFault, crew_of, live_run_of, words_of};
 use lx_desk::{Status, run_crew, run_job, run_live};
 use lx_io::{Pace, Sink, Source};
-use lx_spec::Job;
 use std::alloc::Global;
 use std::sync::Wait;
 use std::thread::Threads;
@@ -97,12 +96,10 @@ pub fn desk_live<
     ensures cause { HasLiveCause K.faults result (S.faults input.old) (S.faults input.new) (O.faults output.old) (O.faults output.new)
         outlets.old outlets.new }
 {
-    match words_of(alloc, words) {
-        Ok(Job::Run(universes, form)) => {
+    match live_run_of(alloc, words) {
+        Ok((universes, form)) => {
             run_live(rt, alloc, universes, form, input, output, outlets, pace)
         }
-        Ok(Job::Check(_) | Job::Render(_) | Job::Sheet(_) | Job::Make(_)) => Status::Usage,
-        Ok(Job::Undo(_) | Job::Two(_) | Job::Crew(..)) => Status::Usage,
         Err(WordsFault::Usage) => Status::Usage,
         Err(WordsFault::Memory) => Status::Memory,
     }
@@ -146,10 +143,8 @@ pub fn desk_crew<R: Threads + Wait + Sync, I: Source, S: Source + Send + Drop, K
     ensures cause { HasCrewCause S.faults result (I.faults input.old) (I.faults input.new) (K.faults output.old) (K.faults output.new)
         (in_use (job_of (map string_bytes words.now))) operators.old operators.new }
 {
-    match words_of(alloc, words) {
-        Ok(Job::Crew(count, form)) => run_crew(rt, alloc, count, form, input, output, operators),
-        Ok(Job::Check(_) | Job::Render(_) | Job::Sheet(_) | Job::Make(_)) => Status::Usage,
-        Ok(Job::Run(..) | Job::Undo(_) | Job::Two(_)) => Status::Usage,
+    match crew_of(alloc, words) {
+        Ok((count, form)) => run_crew(rt, alloc, count, form, input, output, operators),
         Err(WordsFault::Usage) => Status::Usage,
         Err(WordsFault::Memory) => Status::Memory,
     }

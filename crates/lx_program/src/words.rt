@@ -3,9 +3,11 @@
 ghost use Rattle.std.specs.Prelude.{◌≡◌, ◌≤◌, false, None, Some, Err, map, string_bytes, IfOk, IfErr, IfSome};
 ghost use Rattle.std.specs.List.{list_any};
 ghost use Rattle.clap.specs.Words.{kind_of};
-ghost use Rattle.lx_spec.specs.Job.{job_of, form_of, number_alone, plain_number, run_of, crew_of};
+ghost use Rattle.lx_base.specs.declared.TheConstants.{OPERATORS, UNIVERSES};
+ghost use Rattle.lx_spec.specs.declared.Job.TheVariants.{Crew, Run};
+ghost use Rattle.lx_spec.specs.Job.{job_of, form_of, number_alone, plain_number, run_of, crew_of as crew_given};
 ghost use Rattle.lx_spec.specs.Phrase.{ended};
-ghost use Rattle.lx_program.specs.Named.{InRange};
+ghost use Rattle.lx_program.specs.Named.{InRange, NamesNoCrew, NamesNoRun};
 ghost use Rattle.lx_program.specs.Words.{begins_with_dash, values_of};
 
 use clap::error::ErrorKind;
@@ -48,6 +50,32 @@ pub fn words_of(alloc: Global, words: &[String]) -> Result<Job, WordsFault>
     match job_in(given) {
         Some(job) => Ok(job),
         None => Err(WordsFault::Usage),
+    }
+}
+
+/// How many universes are played live, and how the levels are read, where the words name a live run; `Usage` exactly where they name none.
+pub(crate) fn live_run_of(alloc: Global, words: &[String]) -> Result<(u8, Form), WordsFault>
+    ensures run { IfOk result (λ named. job_of (map string_bytes words.now) ≡ Some (Run named.0 named.1)) }
+    ensures range { IfOk result (λ named. (1 ≤ named.0) × (named.0 ≤ UNIVERSES)) }
+    ensures usage { result ≡ Err WordsFault.Usage → NamesNoRun (job_of (map string_bytes words.now)) }
+{
+    match words_of(alloc, words)? {
+        Job::Run(universes, form) => Ok((universes, form)),
+        Job::Check(_) | Job::Render(_) | Job::Sheet(_) | Job::Make(_) => Err(WordsFault::Usage),
+        Job::Undo(_) | Job::Two(_) | Job::Crew(..) => Err(WordsFault::Usage),
+    }
+}
+
+/// How many operators there are, and how the levels are read, where the words name a crew; `Usage` exactly where they name none.
+pub(crate) fn crew_of(alloc: Global, words: &[String]) -> Result<(u8, Form), WordsFault>
+    ensures crew { IfOk result (λ named. job_of (map string_bytes words.now) ≡ Some (Crew named.0 named.1)) }
+    ensures range { IfOk result (λ named. (1 ≤ named.0) × (named.0 ≤ OPERATORS)) }
+    ensures usage { result ≡ Err WordsFault.Usage → NamesNoCrew (job_of (map string_bytes words.now)) }
+{
+    match words_of(alloc, words)? {
+        Job::Crew(operators, form) => Ok((operators, form)),
+        Job::Check(_) | Job::Render(_) | Job::Sheet(_) | Job::Make(_) => Err(WordsFault::Usage),
+        Job::Run(..) | Job::Undo(_) | Job::Two(_) => Err(WordsFault::Usage),
     }
 }
 
@@ -118,7 +146,7 @@ fn run_in(words: &[&str]) -> Option<Job>
 
 /// How many operators there are, and how the levels are read.
 fn crew_in(words: &[&str]) -> Option<Job>
-    ensures job { result ≡ crew_of (map (λ word. word.now) words.now) }
+    ensures job { result ≡ crew_given (map (λ word. word.now) words.now) }
     ensures range { IfSome result InRange }
 {
     let (word, rest) = words.split_first()?;

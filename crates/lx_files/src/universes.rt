@@ -2,10 +2,10 @@
 
 ghost use Rattle.std.specs.Prelude.{◌≡◌, ◌≤◌, length, IfOk, None, IsSome};
 ghost use Rattle.lx_base.specs.declared.TheConstants.{UNIVERSES};
-ghost use Rattle.lx_workers.specs.Places.{IsFull};
+ghost use Rattle.lx_files.specs.Places.{AreFilled};
 
+use lx_base::UNIVERSES;
 use lx_io::{Pace, Sink, SinkFault};
-use lx_workers::OUTLETS;
 use std::alloc::Global;
 use std::fs::File;
 use std::io::{BufWriter, Write};
@@ -16,10 +16,13 @@ use std::{fs, io, thread};
 /// Room for the longest line of an outlet: 512 slots of at most 8 bytes each, and less than 100 bytes before them.
 const LINE_ROOM: usize = 8_192;
 
+/// A place for each universe.
+pub const OUTLETS: usize = UNIVERSES as usize;
+
 /// The file `universe-U.txt` in the current folder. It is made anew at its first write, so that a named pipe of that name is
 /// opened then; and each line is handed on by one write, once it is whole.
 #[derive(Drop)]
-pub(crate) struct UniverseFile<'r, R> {
+pub struct UniverseFile<'r, R> {
     rt: &'r R,
     alloc: Global,
     universe: u8,
@@ -30,7 +33,7 @@ pub(crate) struct UniverseFile<'r, R> {
 
 impl<'r, R: Files<File = File>> UniverseFile<'r, R> {
     /// The file of a universe, from 1 to `UNIVERSES`. Nothing is opened yet.
-    pub(crate) fn new(rt: &'r R, alloc: Global, universe: u8) -> UniverseFile<'r, R> {
+    pub fn new(rt: &'r R, alloc: Global, universe: u8) -> UniverseFile<'r, R> {
         UniverseFile {
             rt,
             alloc,
@@ -98,12 +101,12 @@ impl<R: Files<File = File>> Sink for UniverseFile<'_, R> {
 
 /// The pace of the desk's clock: 20 milliseconds a beat, and 2 milliseconds between two looks for something new.
 #[derive(Drop)]
-pub(crate) struct DeskPace<'r, R> {
+pub struct DeskPace<'r, R> {
     rt: &'r R,
 }
 
 impl<'r, R: Clock> DeskPace<'r, R> {
-    pub(crate) fn new(rt: &'r R) -> DeskPace<'r, R> {
+    pub fn new(rt: &'r R) -> DeskPace<'r, R> {
         DeskPace { rt }
     }
 }
@@ -121,12 +124,12 @@ impl<R: Clock> Pace for DeskPace<'_, R> {
 }
 
 /// The files of all universes.
-pub(crate) fn files<R: Files<File = File>>(
+pub fn files<R: Files<File = File>>(
     rt: &R,
     alloc: Global,
 ) -> [Option<UniverseFile<'_, R>>; OUTLETS]
     ensures count { length result ≡ UNIVERSES }
-    ensures full { IsFull result }
+    ensures full { AreFilled result }
 {
     [
         file(rt, alloc, 1),

@@ -1,29 +1,28 @@
 use Rattle.std.proofs.Common.{sym, ◌∙◌, subst, IfSome}
-use Rattle.lx_spec.specs.declared.Job.TheVariants.{Two}
 use Rattle.lx_desk.specs.Endings.{HasEnded}
 use Rattle.lx_desk.proofs.Inputs.{session_front, refusal_front}
-use Rattle.lx_desk.specs.Answering.{two_by}
-use Rattle.lx_desk.proofs.ScriptJobs.{two_script, two_over}
+use Rattle.lx_desk.specs.Answering.{job_by}
+use Rattle.lx_desk.proofs.ScriptJobs.{script_by, over_by}
 use Rattle.lx_desk.proofs.Endings.{script_job, script_ended, refusal_ends, refusal_ended}
-use Rattle.lx_desk.proofs.two.two.Goals as goal
+use Rattle.lx_desk.proofs.script.script.Goals as goal
 
 pub returns-in-Ok-clause-works : goal.returns-in-Ok-clause-works
-returns-in-Ok-clause-works g c = script_job c.play_two.result c.play_two.ensures.works
+returns-in-Ok-clause-works g c = script_job c.play_script.result c.play_script.ensures.works
 
 pub returns-in-Ok-clause-ended : goal.returns-in-Ok-clause-ended
 returns-in-Ok-clause-ended g c =
-    let same = c.input-1.given.1 (sym (c.play_two.ensures.same_source ∙ c.in-Ok.ensures.same_reference
+    let same = c.input-1.given.1 (sym (c.play_script.ensures.same_source ∙ c.in-Ok.ensures.same_reference
     ∙ c.new-lines.ensures.same_reference)) in
     subst (λ v. IfSome (g.S.Source.left c.args.input.now)
-    (λ bytes. HasEnded c.play_two.result (Two c.args.form) bytes (g.S.Source.left v) (g.K.Sink.holds c.args.output.now)
-    (g.K.Sink.holds c.play_two.new.output))) (sym same)
-    (script_ended c.args.form (Two c.args.form) two_by (two_script c.args.form) _ _ _ _ c.in-Ok.loaded _ _ _ _ c.play_two.result
-    c.new-lines.ensures.unread c.new-lines.ensures.taken c.in-Ok.ensures.answer c.play_two.ensures.works
-    c.play_two.ensures.ended)
+    (λ bytes. HasEnded c.play_script.result (job_by c.args.answerer c.args.form) bytes (g.S.Source.left v) (g.K.Sink.holds c.args.output.now)
+    (g.K.Sink.holds c.play_script.new.output))) (sym same)
+    (script_ended c.args.form _ _ (script_by c.args.answerer c.args.form) _ _ _ _ c.in-Ok.loaded _ _ _ _ c.play_script.result
+    c.new-lines.ensures.unread c.new-lines.ensures.taken c.in-Ok.ensures.answer c.play_script.ensures.works
+    c.play_script.ensures.ended)
 
 pub returns-in-Ok-clause-prefix : goal.returns-in-Ok-clause-prefix
-returns-in-Ok-clause-prefix g c = session_front c.args.form (Two c.args.form) two_by (two_script c.args.form) _ _ _ _
-    c.in-Ok.loaded _ _ _ c.new-lines.ensures.unread c.in-Ok.ensures.answer c.play_two.ensures.front
+returns-in-Ok-clause-prefix g c = session_front c.args.form _ _ (script_by c.args.answerer c.args.form) _ _ _ _
+    c.in-Ok.loaded _ _ _ c.new-lines.ensures.unread c.in-Ok.ensures.answer c.play_script.ensures.front
 
 pub returns-in-Err-clause-works : goal.returns-in-Err-clause-works
 returns-in-Err-clause-works g c = refusal_ends _ _ c.in-Err.fault c.refuse.result c.refuse.ensures.refused
@@ -32,12 +31,12 @@ pub returns-in-Err-clause-ended : goal.returns-in-Err-clause-ended
 returns-in-Err-clause-ended g c =
     let same = c.in-Err.input-in-Err-1-own.given.1 (sym (c.in-Err.ensures.same_reference ∙ c.new-lines.ensures.same_reference)) in
     subst (λ v. IfSome (g.S.Source.left c.args.input.now)
-    (λ bytes. HasEnded c.refuse.result (Two c.args.form) bytes (g.S.Source.left v) (g.K.Sink.holds c.args.output.now)
+    (λ bytes. HasEnded c.refuse.result (job_by c.args.answerer c.args.form) bytes (g.S.Source.left v) (g.K.Sink.holds c.args.output.now)
     (g.K.Sink.holds c.refuse.new.output))) (sym same)
-    (refusal_ended c.args.form (Two c.args.form) (two_over c.args.form) _ c.new-lines.result c.read_show.new.lines _ _ _
+    (refusal_ended c.args.form _ (over_by c.args.answerer c.args.form) _ c.new-lines.result c.read_show.new.lines _ _ _
     c.in-Err.fault c.refuse.result c.new-lines.ensures.unread c.new-lines.ensures.taken c.in-Err.ensures.answer
     c.refuse.ensures.refused)
 
 pub returns-in-Err-clause-prefix : goal.returns-in-Err-clause-prefix
-returns-in-Err-clause-prefix g c = refusal_front c.args.form (Two c.args.form) (two_over c.args.form) _ c.new-lines.result
+returns-in-Err-clause-prefix g c = refusal_front c.args.form _ (over_by c.args.answerer c.args.form) _ c.new-lines.result
     c.read_show.new.lines _ _ _ c.in-Err.fault _ c.new-lines.ensures.unread c.in-Err.ensures.answer c.refuse.ensures.refused

@@ -3,7 +3,7 @@
 ghost use Rattle.std.specs.Prelude.{◌≡◌, length, None, IsSome};
 ghost use Rattle.std.specs.Io.{ReadsAtMost};
 ghost use Rattle.lx_base.specs.declared.TheConstants.{OPERATORS};
-ghost use Rattle.lx_crew.specs.Hired.{EachAt};
+ghost use Rattle.lx_files.specs.Places.{AreFilled};
 
 use lx_base::OPERATORS;
 use lx_io::{Failed, Source};
@@ -14,12 +14,12 @@ use std::rt::Files;
 use std::{fs, io};
 
 /// A place for each operator.
-pub(crate) const PLACES: usize = OPERATORS as usize;
+pub const PLACES: usize = OPERATORS as usize;
 
 /// The file `operator-K.txt` in the current folder. It is opened at its first read, so that a named pipe of that name is
 /// awaited then, by the operator alone; one that can't be opened is a read that failed.
 #[derive(Drop)]
-pub(crate) struct OperatorFile<'r, R> {
+pub struct OperatorFile<'r, R> {
     rt: &'r R,
     alloc: Global,
     operator: u8,
@@ -29,7 +29,7 @@ pub(crate) struct OperatorFile<'r, R> {
 
 impl<'r, R: Files<File = File>> OperatorFile<'r, R> {
     /// The file of an operator, from 1 to `OPERATORS`. Nothing is opened yet.
-    pub(crate) fn new(rt: &'r R, alloc: Global, operator: u8) -> OperatorFile<'r, R> {
+    pub fn new(rt: &'r R, alloc: Global, operator: u8) -> OperatorFile<'r, R> {
         OperatorFile {
             rt,
             alloc,
@@ -77,12 +77,12 @@ impl<R: Files<File = File>> Source for OperatorFile<'_, R> {
 }
 
 /// The files of all operators.
-pub(crate) fn scripts<R: Files<File = File>>(
+pub fn scripts<R: Files<File = File>>(
     rt: &R,
     alloc: Global,
 ) -> [Option<OperatorFile<'_, R>>; PLACES]
     ensures count { length result ≡ OPERATORS }
-    ensures full { EachAt (λ place source. IsSome source) result }
+    ensures full { AreFilled result }
 {
     [
         script(rt, alloc, 1),

@@ -1,0 +1,8 @@
+//! The files of the program: a source for each operator of a crew, and an outlet for each universe of a live run, with its pace.
+#![tactic(auto)]
+
+mod operators;
+mod universes;
+
+pub use operators::{OperatorFile, scripts};
+pub use universes::{DeskPace, UniverseFile, files};
