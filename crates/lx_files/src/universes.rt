@@ -124,10 +124,7 @@ impl<R: Clock> Pace for DeskPace<'_, R> {
 }
 
 /// The files of all universes.
-pub fn files<R: Files<File = File>>(
-    rt: &R,
-    alloc: Global,
-) -> [Option<UniverseFile<'_, R>>; OUTLETS]
+pub fn files<R: Files<File = File>>(rt: &R, alloc: Global) -> [Option<UniverseFile<'_, R>>; OUTLETS]
     ensures count { length result ≡ UNIVERSES }
     ensures full { AreFilled result }
 {

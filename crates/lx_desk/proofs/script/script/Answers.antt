@@ -14,8 +14,8 @@ returns-in-Ok-clause-ended g c =
     let same = c.input-1.given.1 (sym (c.play_script.ensures.same_source ∙ c.in-Ok.ensures.same_reference
     ∙ c.new-lines.ensures.same_reference)) in
     subst (λ v. IfSome (g.S.Source.left c.args.input.now)
-    (λ bytes. HasEnded c.play_script.result (job_by c.args.answerer c.args.form) bytes (g.S.Source.left v) (g.K.Sink.holds c.args.output.now)
-    (g.K.Sink.holds c.play_script.new.output))) (sym same)
+    (λ bytes. HasEnded c.play_script.result (job_by c.args.answerer c.args.form) bytes (g.S.Source.left v)
+    (g.K.Sink.holds c.args.output.now) (g.K.Sink.holds c.play_script.new.output))) (sym same)
     (script_ended c.args.form _ _ (script_by c.args.answerer c.args.form) _ _ _ _ c.in-Ok.loaded _ _ _ _ c.play_script.result
     c.new-lines.ensures.unread c.new-lines.ensures.taken c.in-Ok.ensures.answer c.play_script.ensures.works
     c.play_script.ensures.ended)
