@@ -59,13 +59,15 @@ returns-in_err-flush-in-End-clause-outcome g c =
 pub returns-in-ReadFault-clause-outcome : goal.returns-in-ReadFault-clause-outcome
 returns-in-ReadFault-clause-outcome g c =
     let e = c.in-ReadFault.ensures in
-    cut_off (λ state. g.A.AnswersBeside.stands state c.args.answerer.now c.args.lent.now) g.S.Source.left c.args.lines.now c.advance.new.self
-    (g.K.Sink.holds c.args.sink.now) (g.K.Sink.holds c.flush_before_wait.new.sink) c.args.tally.now
+    cut_off (λ state. g.A.AnswersBeside.stands state c.args.answerer.now c.args.lent.now) g.S.Source.left
+    c.args.lines.now c.advance.new.self (g.K.Sink.holds c.args.sink.now) (g.K.Sink.holds c.flush_before_wait.new.sink) c.args.tally.now
     (record { raw = e.step.0; fed = false; took = e.step.1; stop = inr (refl, e.none_held refl) }) c.flush_before_wait.ensures.holds
 
 pub returns-in-InputTooLong-clause-outcome : goal.returns-in-InputTooLong-clause-outcome
 returns-in-InputTooLong-clause-outcome g c =
-    let e = c.in-InputTooLong.ensures in
-    (cut_off (λ state. g.A.AnswersBeside.stands state c.args.answerer.now c.args.lent.now) g.S.Source.left c.args.lines.now c.advance.new.self
-    (g.K.Sink.holds c.args.sink.now) (g.K.Sink.holds c.flush_before_wait.new.sink) c.args.tally.now
-    (record { raw = e.step.0; fed = e.step.1; took = e.step.2; stop = inl e.step.3 }) c.flush_before_wait.ensures.holds, e.step)
+    let e = c.in-InputTooLong.ensures in (
+      cut_off (λ state. g.A.AnswersBeside.stands state c.args.answerer.now c.args.lent.now) g.S.Source.left
+          c.args.lines.now c.advance.new.self (g.K.Sink.holds c.args.sink.now) (g.K.Sink.holds c.flush_before_wait.new.sink) c.args.tally.now
+          (record { raw = e.step.0; fed = e.step.1; took = e.step.2; stop = inl e.step.3 }) c.flush_before_wait.ensures.holds,
+      e.step,
+    )

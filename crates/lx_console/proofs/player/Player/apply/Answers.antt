@@ -42,7 +42,8 @@ mend_subs-requires-clause-given c = same_given c.self.inside.show c.exchange-dir
 
 pub returns-clause-undo : goal.returns-clause-undo
 returns-clause-undo c =
-    subst (λ (k : Kept). TakesBack k.show c.exchange-dirty.new.show c.exchange-dirty.result.undo) c.self.view_is c.exchange-dirty.ensures.undo
+    subst (λ (k : Kept). TakesBack k.show c.exchange-dirty.new.show c.exchange-dirty.result.undo) c.self.view_is
+    c.exchange-dirty.ensures.undo
 
 pub returns-clause-stands : goal.returns-clause-stands
 returns-clause-stands c = λ d stands.
