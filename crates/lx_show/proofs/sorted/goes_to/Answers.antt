@@ -33,5 +33,5 @@ returns-else-at-len-2 g c =
     ])
     (λ d within.
     let here = c.key-else-at-len-2.ensures
-        ∙ ap key (c.index-xs-at-else-at-len-2.is ∙ get_or_default xs at c.index-xs-at-else-at-len-2.result d within) in
+    ∙ ap key (c.index-xs-at-else-at-len-2.is ∙ get_or_default xs at c.index-xs-at-else-at-len-2.result d within) in
     subst (λ k. c.args.n < k) here (lt_from _ _ goes))
