@@ -1,4 +1,4 @@
-use Rattle.std.proofs.Common.{◌≡◌, ◌<◌, ◌≤◌, ◌-◌, ◌∙◌, ℕ, get_or, true, ap, sym, subst, arith}
+use Rattle.std.proofs.Common.{◌<◌, ◌-◌, ◌∙◌, ℕ, ap, subst, arith}
 use Rattle.std.proofs.lemmas.List.{get_or_default}
 use Rattle.lx_spec.proofs.Comparisons.{lt_from}
 use Rattle.lx_show.proofs.Indexes.{goes_where, is_less}
