@@ -43,9 +43,7 @@ fn asserts_or_moves(show: &Show, n: CueNo, c: Chan, hint: &mut Hint) -> bool
     ensures { result ≡ (asserts show.now n || is_some (move_of show.now n c)) }
 {
     match cue_near(show, n, &mut hint.cue) {
-        Some(cue) => {
-            cue.asserted || cue.move_next(c, &mut hint.entry).is_some()
-        }
+        Some(cue) => { cue.asserted || cue.move_next(c, &mut hint.entry).is_some() }
         None => false,
     }
 }

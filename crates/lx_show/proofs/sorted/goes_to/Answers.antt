@@ -1,4 +1,4 @@
-use Rattle.std.proofs.Common.{◌≡◌, ◌<◌, ◌≤◌, ◌-◌, ◌∙◌, ℕ, get_or, true, ap, sym, subst, arith}
+use Rattle.std.proofs.Common.{◌<◌, ◌-◌, ◌∙◌, ℕ, ap, subst, arith}
 use Rattle.std.proofs.lemmas.List.{get_or_default}
 use Rattle.lx_spec.proofs.Comparisons.{lt_from}
 use Rattle.lx_show.proofs.Indexes.{goes_where, is_less}
@@ -33,5 +33,5 @@ returns-else-at-len-2 g c =
     ])
     (λ d within.
     let here = c.key-else-at-len-2.ensures
-        ∙ ap key (c.index-xs-at-else-at-len-2.is ∙ get_or_default xs at c.index-xs-at-else-at-len-2.result d within) in
+    ∙ ap key (c.index-xs-at-else-at-len-2.is ∙ get_or_default xs at c.index-xs-at-else-at-len-2.result d within) in
     subst (λ k. c.args.n < k) here (lt_from _ _ goes))
