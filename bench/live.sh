@@ -32,8 +32,8 @@ python3 - src/main.rt <<'PYTHON'
 import sys
 path = sys.argv[1]
 text = open(path).read()
-head = text[:text.index('fn main(rt')].replace('use lx_io::{Sink, StdSink, StdSource};', 'use lx_io::{Pace, PlainSink, StdSource};')
-head = head.replace('use std::io::BufWriter;\n', 'use std::sync::atomic::AtomicU64;\nuse std::sync::atomic::Ordering::SeqCst;\nuse std::thread;\n')
+head = text[:text.index('fn main(rt')].replace('use lx_io::{BufferedSink, Sink, StdSink, StdSource};', 'use lx_io::{Pace, PlainSink, StdSource};')
+head = head.replace('use std::alloc::Global;\n', 'use std::alloc::Global;\nuse std::sync::atomic::AtomicU64;\nuse std::sync::atomic::Ordering::SeqCst;\nuse std::thread;\n')
 head = head.replace('use std::process::ExitCode;\n', 'use std::process::ExitCode;\nuse std::time::{Duration, Instant};\n')
 head = head.replace('use lx_files::{DeskPace, files, scripts};\n', '')
 open(path, 'w').write(head + '''/// A pace whose beats take so many microseconds, and which counts the engine's own time from beat to beat.
