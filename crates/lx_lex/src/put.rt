@@ -204,6 +204,32 @@ fn write_whole(value: u64, room: &mut [u8; TEXT_ROOM], at: usize) -> usize
     ensures end { result ≤ at + WHOLE_DIGITS }
     ensures text { take result room.new ≡ take at room.old ++ decimal value }
 {
+    if value < 10 {
+        write_digit(value as u8, room, at)
+    } else {
+        write_long(value, room, at)
+    }
+}
+
+/// Writes a number of one digit at a place, and says where it ends. Most numbers of a reply are of one.
+#[inline(always)]
+fn write_digit(value: u8, room: &mut [u8; TEXT_ROOM], at: usize) -> usize
+    requires place { at ≤ START_BYTES }
+    requires digit { value < 10 }
+    ensures end { result ≤ at + WHOLE_DIGITS }
+    ensures text { take result room.new ≡ take at room.old ++ decimal value }
+{
+    room[at] = b'0' + value;
+    at + 1
+}
+
+/// Writes a whole number of any length at a place, and says where it ends.
+#[inline(always)]
+fn write_long(value: u64, room: &mut [u8; TEXT_ROOM], at: usize) -> usize
+    requires { at ≤ START_BYTES }
+    ensures end { result ≤ at + WHOLE_DIGITS }
+    ensures text { take result room.new ≡ take at room.old ++ decimal value }
+{
     let end = at + digits_of(value);
     write_digits(value, room, end);
     end
