@@ -20,16 +20,16 @@ use Rattle.lx_crew.specs.declared.fault.OperatorFault.{OperatorFault}
 use Rattle.lx_crew.specs.declared.fault.OperatorFault.TheVariants.{ReadFault, InputTooLong}
 use Rattle.lx_crew.specs.declared.operator.Operator.{Operator}
 use Rattle.lx_crew.specs.declared.rule.View.{View}
-use Rattle.lx_crew.specs.Answering.{said, HasAnswered}
-use Rattle.lx_crew.specs.Crewed.{IsBack, HasWritten, HasCrewed}
+use Rattle.lx_crew.specs.EngineAnswers.{said, HasAnswered}
+use Rattle.lx_crew.specs.CrewOutcome.{IsBack, HasWritten, HasCrewed}
 use Rattle.lx_crew.specs.Entries.{of_place, is_last, has_last}
-use Rattle.lx_crew.specs.Hired.{EachAt, Retired, owned}
+use Rattle.lx_crew.specs.OperatorWorks.{EachAt, Retired, owned}
 use Rattle.lx_crew.specs.Rule.{engine_view, Kept as Learned}
 use Rattle.lx_crew.specs.Scripts.{HasEnded}
-use Rattle.lx_crew.specs.Sending.{last_of}
+use Rattle.lx_crew.specs.SentLines.{last_of}
 use Rattle.lx_crew.proofs.Lists.{none_front}
-use Rattle.lx_crew.proofs.Merging.{SentAt, AllSent, IsTrueTo, true_entries, by_number, all_true, all_front, merged, merged_so_far}
-use Rattle.lx_crew.proofs.Merging.{same_session, same_edits}
+use Rattle.lx_crew.proofs.MergedEntries.{SentAt, AllSent, IsTrueTo, true_entries, by_number, all_true, all_front, merged, merged_so_far}
+use Rattle.lx_crew.proofs.MergedEntries.{same_session, same_edits}
 use Rattle.lx_crew.proofs.Works.{complete, get_at}
 
 -- Lines that are told of each of a list, by its place.

@@ -1,8 +1,8 @@
-pub mod Answered
+pub mod AnswerProgress
 pub mod Crews
 pub mod Lists
-pub mod Merging
+pub mod MergedEntries
 pub mod Rules
 pub mod SentLines
-pub mod Served
+pub mod EngineSteps
 pub mod Works

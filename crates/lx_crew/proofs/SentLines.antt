@@ -30,7 +30,7 @@ use Rattle.lx_crew.specs.declared.rule.View.{View}
 use Rattle.lx_crew.specs.Entries.{HasText, HaveLines, text_in}
 use Rattle.lx_crew.specs.Rule.{operator_view}
 use Rattle.lx_crew.specs.Scripts.{AreLines, HasEnded}
-use Rattle.lx_crew.specs.Sending.{TookNext, follows, last_of, HasSent}
+use Rattle.lx_crew.specs.SentLines.{TookNext, follows, last_of, HasSent}
 
 -- A line that was taken goes on, or it is `quit`.
 branch_lines : (b : Bool) → cond b after.End after.Lines ≡ after.Lines → b ≡ false

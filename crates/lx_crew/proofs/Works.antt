@@ -14,8 +14,8 @@ use Rattle.lx_crew.specs.Entries.{of_place, is_last, has_last, HasText, HaveLine
 use Rattle.lx_crew.specs.declared.entry.Sent.{Sent}
 use Rattle.lx_crew.specs.declared.entry.Sent.TheVariants.{Line, LongLine, End, ReadFault, InputTooLong}
 use Rattle.lx_crew.specs.Rule.{engine_view, operator_view}
-use Rattle.lx_crew.specs.Sending.{HasSent}
-use Rattle.lx_crew.specs.Hired.{EachAt, HasRun, Hired, IsReady, Works, Retired, owned}
+use Rattle.lx_crew.specs.SentLines.{HasSent}
+use Rattle.lx_crew.specs.OperatorWorks.{EachAt, HasRun, Hired, IsReady, Works, Retired, owned}
 use Rattle.std.proofs.lemmas.List.Elements.{filter-append}
 use Rattle.lx_crew.proofs.Lists.{or_none, none_behind, tail_of, head_last}
 use Rattle.crossbeam_queue.specs.Passes.{view, Pass, IsSamePass}

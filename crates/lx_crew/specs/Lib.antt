@@ -2,8 +2,8 @@
 pub mod Entries
 pub mod Rule
 pub mod Scripts
-pub mod Sending
-pub mod Answering
+pub mod SentLines
+pub mod EngineAnswers
 pub mod Transcripts
-pub mod Hired
-pub mod Crewed
+pub mod OperatorWorks
+pub mod CrewOutcome

@@ -9,7 +9,7 @@ ghost use Rattle.lx_session.specs.LineState.{meaning_of};
 ghost use Rattle.lx_session.specs.LineReply.{HasRoom, HasOneMore};
 ghost use Rattle.lx_session.specs.LineAnswer.{FromDesk};
 ghost use Rattle.lx_crew.specs.declared.entry.Entry.{Entry as AnEntry};
-ghost use Rattle.lx_crew.specs.Answering.{AnswersNamed, HasAnswered, OutputCause, named_line};
+ghost use Rattle.lx_crew.specs.EngineAnswers.{AnswersNamed, HasAnswered, OutputCause, named_line};
 
 use crate::entry::{Entry, Sent};
 use lx_console::Console;

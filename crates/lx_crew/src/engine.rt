@@ -5,7 +5,7 @@ ghost use Rattle.crossbeam_queue.specs.Passes.{view, IsPassOf, IsSamePass};
 ghost use Rattle.lx_session.specs.LineReply.{HasRoom, HasOneMore, counts_in};
 ghost use Rattle.lx_crew.specs.Entries.{is_last};
 ghost use Rattle.lx_crew.specs.Rule.{engine_view};
-ghost use Rattle.lx_crew.specs.Answering.{HasServed, Marked, OutputCause, TookOne};
+ghost use Rattle.lx_crew.specs.EngineAnswers.{HasServed, Marked, OutputCause, NextEntry};
 
 use crate::answering::{answer_entry, flush};
 use crate::entry::{Entry, Sent};
@@ -40,7 +40,7 @@ impl<K: Sink> Work for Engine<'_, '_, '_, '_, '_, K> {
     ghost use Rattle.std.specs.Prelude.{◌≡◌, ◌≤◌, [], None};
     ghost use Rattle.crossbeam_queue.specs.Passes.{view, IsPassOf, IsSamePass};
     ghost use Rattle.lx_crew.specs.Rule.{engine_view};
-    ghost use Rattle.lx_crew.specs.Answering.{HasServed};
+    ghost use Rattle.lx_crew.specs.EngineAnswers.{HasServed};
 
     ghost ready = { λ x. IsPassOf x.queue.now x.pass.now × ((view x.pass.now ≡ engine_view x.operators [] []) × (x.operators ≤ 4)) };
 
@@ -114,7 +114,7 @@ fn take_one<K: Sink>(
     requires pops { (view pass.old).pops ≡ true }
     requires room { HasRoom tally.old }
     ensures queue { IsSamePass pass.old pass.new }
-    ensures some { result ≡ true → TookOne (view pass.old) (view pass.new) (K.holds sink.old) (K.holds sink.new) console.old console.new
+    ensures some { result ≡ true → NextEntry (view pass.old) (view pass.new) (K.holds sink.old) (K.holds sink.new) console.old console.new
         tally.old tally.new output.old output.new ended.old ended.new }
     ensures none { result ≡ false → (view pass.new ≡ view pass.old) × ((sink.new ≡ sink.old) × ((console.new ≡ console.old)
         × ((tally.new ≡ tally.old) × ((output.new ≡ output.old) × (ended.new ≡ ended.old))))) }

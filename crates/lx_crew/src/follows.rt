@@ -1,7 +1,7 @@
 //! What comes after an entry.
 
 ghost use Rattle.std.specs.Prelude.{◌≡◌};
-ghost use Rattle.lx_crew.specs.Sending.{follows};
+ghost use Rattle.lx_crew.specs.SentLines.{follows};
 
 use crate::entry::Sent;
 use crate::fault::OperatorFault;

@@ -4,7 +4,7 @@ ghost use Rattle.std.specs.Prelude.{◌≡◌, ◌+◌, ◌<◌, ◌≤◌, ◌^
 ghost use Rattle.crossbeam_queue.specs.Passes.{view, IsPassOf, IsSamePass};
 ghost use Rattle.lx_lex.specs.Unread.{CanAdvance, SameSource};
 ghost use Rattle.lx_crew.specs.Rule.{operator_view};
-ghost use Rattle.lx_crew.specs.Sending.{HasSent, TookNext};
+ghost use Rattle.lx_crew.specs.SentLines.{HasSent, TookNext};
 
 use crate::entry::{Entry, LineText, Sent};
 use crate::fault::OperatorFault;

@@ -8,9 +8,9 @@ ghost use Rattle.lx_spec.specs.Desk.{Desk};
 ghost use Rattle.lx_console.specs.Standing.{StandsFor};
 ghost use Rattle.lx_base.specs.declared.TheConstants.{OPERATORS};
 ghost use Rattle.lx_crew.specs.Rule.{engine_view};
-ghost use Rattle.lx_crew.specs.Answering.{HasServed, OutputCause};
-ghost use Rattle.lx_crew.specs.Crewed.{HasCrewed};
-ghost use Rattle.lx_crew.specs.Hired.{EachAt, HasRun, Hired, IsReady, Works, owned};
+ghost use Rattle.lx_crew.specs.EngineAnswers.{HasServed, OutputCause};
+ghost use Rattle.lx_crew.specs.CrewOutcome.{HasCrewed};
+ghost use Rattle.lx_crew.specs.OperatorWorks.{EachAt, HasRun, Hired, IsReady, Works, owned};
 
 use crate::engine::{Engine, PLACES};
 use crate::entry::Entry;

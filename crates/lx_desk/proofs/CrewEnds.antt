@@ -20,7 +20,7 @@ use Rattle.lx_reader.specs.Answer.{reading_of, HasRead}
 use Rattle.lx_desk.specs.declared.desk.Status.{Status}
 use Rattle.lx_desk.specs.declared.desk.Status.TheVariants as status
 use Rattle.lx_desk.specs.Output.{WritesPrefix}
-use Rattle.lx_desk.specs.Refused.{RefusedBy}
+use Rattle.lx_desk.specs.ShowRefusal.{RefusedBy}
 use Rattle.lx_desk.specs.Endings.{HasEnded}
 use Rattle.lx_desk.specs.Crew.{ServesOrWants, ServesNone, HasCrewEnded, WritesFirstLines, WritesCrewFront}
 use Rattle.lx_desk.specs.Crew.{OperatorFailed, HasCrewCause}

@@ -17,11 +17,11 @@ use Rattle.lx_spec.specs.CrewText.{lines_up_to_quit, numbered_from, crew_text}
 use Rattle.lx_session.specs.declared.tally.Tally.{Tally}
 use Rattle.lx_crew.specs.declared.fault.OperatorFault.{OperatorFault}
 use Rattle.lx_crew.specs.declared.fault.OperatorFault.TheVariants as ends
-use Rattle.lx_crew.specs.Hired.{EachAt}
+use Rattle.lx_crew.specs.OperatorWorks.{EachAt}
 use Rattle.lx_crew.specs.Scripts.{AreLines, CutLines, HasEnded}
-use Rattle.lx_crew.specs.Crewed.{IsBack, HasWritten, HasCrewed}
+use Rattle.lx_crew.specs.CrewOutcome.{IsBack, HasWritten, HasCrewed}
 use Rattle.lx_crew.specs.Transcripts.{WholeTranscript, TranscriptPrefix}
-use Rattle.lx_crew.specs.Answering.{OutputCause}
+use Rattle.lx_crew.specs.EngineAnswers.{OutputCause}
 use Rattle.lx_desk.specs.declared.desk.Status.{Status}
 use Rattle.lx_desk.specs.declared.desk.Status.TheVariants as status
 use Rattle.lx_desk.specs.Crew.{IsLowest, WritesTranscript, WritesLines, Serves, WritesFirstLines, KeepsPlaces, OperatorFailed}

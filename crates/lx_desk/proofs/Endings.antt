@@ -14,8 +14,8 @@ use Rattle.lx_reader.specs.declared.fault.ShowFault.TheVariants as faults
 use Rattle.lx_reader.specs.Answer.{reading_of, HasRead}
 use Rattle.lx_desk.specs.declared.desk.Status.{Status}
 use Rattle.lx_desk.specs.declared.desk.Status.TheVariants as status
-use Rattle.lx_desk.specs.Answering.{Answering}
-use Rattle.lx_desk.specs.Refused.{RefusedBy, status_kept}
+use Rattle.lx_desk.specs.ScriptAnswers.{Answering}
+use Rattle.lx_desk.specs.ShowRefusal.{RefusedBy, status_kept}
 use Rattle.lx_desk.specs.Endings.{EndsJob, EndsScript, HasEnded, HasPlayed}
 use Rattle.lx_desk.proofs.Inputs.{Says, IsOverShow, IsOfShow, IsOfScript, told_text, told_prefix, told_fits, session_text, session_front}
 use Rattle.lx_desk.proofs.Inputs.{session_long}

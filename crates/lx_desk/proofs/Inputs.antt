@@ -41,9 +41,9 @@ use Rattle.lx_spec.specs.declared.Job.TheVariants.{Check, Sheet}
 use Rattle.lx_spec.specs.CheckOutput.{check_text}
 use Rattle.lx_spec.specs.SheetOutput.{sheet_text}
 use Rattle.lx_spec.specs.Job.{show_of, output_of, replies_of, WantsEdits, wanted_of, show_wanted}
-use Rattle.lx_desk.specs.Answering.{Answering, by_desk}
+use Rattle.lx_desk.specs.ScriptAnswers.{Answering, by_desk}
 use Rattle.lx_desk.specs.Output.{WritesAll, WritesPrefix, WritesTaken, RepliesToTaken, AnswersScript, AnswersInFront, AnswersTaken}
-use Rattle.lx_desk.specs.Refused.{RefusedBy, status_kept}
+use Rattle.lx_desk.specs.ShowRefusal.{RefusedBy, status_kept}
 
 -- a whole text is a front of itself, and nothing is one of any
 pub whole_front : (a b : Option (List ℕ)) (text : List ℕ) → Appends a b text → AppendsFront a b text

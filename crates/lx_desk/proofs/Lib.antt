@@ -10,4 +10,4 @@ mod LiveRuns
 mod LiveEnds
 mod CrewRuns
 pub mod CrewEnds
-pub mod Unwritten
+pub mod EmptyPrefixes

@@ -25,7 +25,7 @@ use Rattle.lx_reader.specs.Answer.{reading_of, HasRead}
 use Rattle.lx_desk.specs.declared.desk.Status.{Status}
 use Rattle.lx_desk.specs.declared.desk.Status.TheVariants as status
 use Rattle.lx_desk.specs.Output.{WritesPrefix, RepliesToTaken}
-use Rattle.lx_desk.specs.Refused.{RefusedBy}
+use Rattle.lx_desk.specs.ShowRefusal.{RefusedBy}
 use Rattle.lx_desk.specs.Endings.{EndsJob, HasEnded}
 use Rattle.lx_desk.specs.Live.{HaveVersions, PlaysScript, AreServed, PlaysInFront, PlaysTaken, HasPlayedLive, PlaysWhole, LivesInFront}
 use Rattle.lx_desk.specs.Live.{LivesTaken}

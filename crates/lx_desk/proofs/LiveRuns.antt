@@ -19,7 +19,7 @@ use Rattle.lx_session.specs.declared.fault.SessionFault.TheVariants as faults
 use Rattle.lx_session.specs.declared.tally.Tally.{Tally}
 use Rattle.lx_session.specs.SessionOutcome.{WholeScript, ScriptPrefix, TakenScript, SessionOutcome, KeepsLimit, HasSessionCause}
 use Rattle.lx_workers.specs.Places.{IsFull}
-use Rattle.lx_workers.specs.Playing.{AreDelivered}
+use Rattle.lx_workers.specs.LiveOutcome.{AreDelivered}
 use Rattle.lx_desk.specs.declared.desk.Status.{Status}
 use Rattle.lx_desk.specs.declared.desk.Status.TheVariants as status
 use Rattle.lx_desk.specs.Faults.{status_for}

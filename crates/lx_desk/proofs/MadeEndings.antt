@@ -39,7 +39,7 @@ use Rattle.lx_desk.specs.declared.desk.Status.TheVariants as status
 use Rattle.lx_desk.specs.declared.make.Report.{Report}
 use Rattle.lx_desk.specs.Faults.{status_for}
 use Rattle.lx_desk.specs.Output.{WritesAll, WritesPrefix}
-use Rattle.lx_desk.specs.Refused.{RefusedBy, RefusesText, status_kept}
+use Rattle.lx_desk.specs.ShowRefusal.{RefusedBy, RefusesText, status_kept}
 use Rattle.lx_desk.specs.Endings.{EndsScript, HasEnded, HasCauseOf, WritesWhole}
 use Rattle.lx_desk.specs.Made.{HasTold, TellsSession, TellsInFront, report_of, report_text}
 use Rattle.lx_desk.proofs.Inputs.{Says, means_of, no_place, nothing_wanted, front_nothing, over_loaded, refusal_fits, kept_is, if_known}

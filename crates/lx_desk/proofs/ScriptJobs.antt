@@ -13,7 +13,7 @@ use Rattle.lx_spec.specs.TwoLists.{opened_two, two_answer, TwoMayWant}
 use Rattle.lx_spec.specs.Job.{opened_undo}
 use Rattle.lx_desk.specs.declared.script.Answerer.{Answerer}
 use Rattle.lx_desk.specs.declared.script.Answerer.TheVariants as by
-use Rattle.lx_desk.specs.Answering.{render_by, undo_by, two_by, answers_by, job_by}
+use Rattle.lx_desk.specs.ScriptAnswers.{render_by, undo_by, two_by, answers_by, job_by}
 use Rattle.lx_desk.proofs.Inputs.{IsOfScript, IsOverShow, script_over, nothing_wanted, nothing_of_session}
 
 -- none of the replies are those to no line

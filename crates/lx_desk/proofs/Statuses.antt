@@ -11,7 +11,7 @@ use Rattle.lx_session.specs.declared.fault.SessionFault.TheVariants as faults
 use Rattle.lx_session.specs.declared.tally.Tally.{Tally}
 use Rattle.lx_session.specs.SessionOutcome.{ScriptPrefix, TakenScript, SessionOutcome, KeepsLimit, HasSessionCause}
 use Rattle.lx_session.proofs.Ends.{front_of_all, whole_of_all}
-use Rattle.lx_desk.specs.Answering.{by_desk}
+use Rattle.lx_desk.specs.ScriptAnswers.{by_desk}
 use Rattle.lx_desk.specs.Faults.{status_for}
 use Rattle.lx_desk.specs.Output.{AnswersInFront, AnswersTaken}
 use Rattle.lx_desk.specs.Endings.{EndsScript, HasPlayed, HasCauseOf}

@@ -20,8 +20,8 @@ use Rattle.lx_spec.specs.CrewText.{CrewEntry, lines_up_to_quit, of_operator, num
 use Rattle.lx_session.specs.Known.{Known}
 use Rattle.lx_crew.specs.declared.fault.OperatorFault.{OperatorFault}
 use Rattle.lx_crew.specs.declared.fault.OperatorFault.TheVariants as ends
-use Rattle.lx_crew.specs.Hired.{EachAt}
-use Rattle.lx_crew.specs.Crewed.{IsBack}
+use Rattle.lx_crew.specs.OperatorWorks.{EachAt}
+use Rattle.lx_crew.specs.CrewOutcome.{IsBack}
 use Rattle.lx_crew.specs.Transcripts.{TranscriptPrefix}
 use Rattle.lx_desk.specs.declared.desk.Status.{Status}
 use Rattle.lx_desk.specs.declared.desk.Status.TheVariants as status

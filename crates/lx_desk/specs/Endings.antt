@@ -7,7 +7,7 @@ use Rattle.lx_spec.specs.declared.Job.TheVariants.{Check, Render, Sheet, Make, R
 use Rattle.lx_spec.specs.Text.{lines_of}
 use Rattle.lx_spec.specs.Session.{bytes_wanted}
 use Rattle.lx_spec.specs.Job.{show_of, wanted_of}
-use Rattle.lx_desk.specs.Answering.{Answering}
+use Rattle.lx_desk.specs.ScriptAnswers.{Answering}
 use Rattle.lx_desk.specs.Output.{WritesAll, WritesPrefix, WritesTaken, AnswersScript, AnswersInFront, AnswersTaken}
 use Rattle.lx_desk.specs.declared.desk.Status.{Status}
 use Rattle.lx_desk.specs.declared.desk.Status.TheVariants as status

@@ -1,8 +1,8 @@
-pub mod Answering
+pub mod ScriptAnswers
 pub mod Endings
 pub mod Faults
 pub mod Made
 pub mod Output
-pub mod Refused
+pub mod ShowRefusal
 pub mod Live
 pub mod Crew

@@ -19,7 +19,7 @@ use Rattle.lx_spec.specs.Session.{replies, accepted, after_first, bytes_wanted}
 use Rattle.lx_spec.specs.Reading.{Reading, reads, script_of, lines_read}
 use Rattle.lx_spec.specs.RenderOutput.{rendered, input_wanted}
 use Rattle.lx_workers.specs.Works.{HasAll}
-use Rattle.lx_workers.specs.Playing.{AreDelivered}
+use Rattle.lx_workers.specs.LiveOutcome.{AreDelivered}
 use Rattle.lx_session.specs.Known.{Known}
 use Rattle.lx_session.specs.declared.fault.SessionFault.{SessionFault}
 use Rattle.lx_session.specs.declared.tally.Tally.{Tally}

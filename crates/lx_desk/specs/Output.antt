@@ -8,7 +8,7 @@ use Rattle.lx_spec.specs.Text.{lines_of}
 use Rattle.lx_spec.specs.Reading.{lines_read}
 use Rattle.lx_spec.specs.CutInput.{CutOff}
 use Rattle.lx_spec.specs.Job.{output_of, replies_of, WantsEdits}
-use Rattle.lx_desk.specs.Answering.{Answering}
+use Rattle.lx_desk.specs.ScriptAnswers.{Answering}
 
 -- The whole text was written: what the definitions give for these bytes, where want of memory refused at most these attempts.
 pub record WritesAll (job : Job) (bytes : List ℕ) (held held' : Option (List ℕ)) : Type 0 where

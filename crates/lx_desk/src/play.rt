@@ -6,7 +6,7 @@ ghost use Rattle.lx_lex.specs.Unread.{CanAdvance, SameSource, bytes_taken, sourc
 ghost use Rattle.lx_spec.specs.Text.{lines_of};
 ghost use Rattle.lx_spec.specs.Desk.{opened};
 ghost use Rattle.lx_session.specs.OneAnswer.{IsLawful};
-ghost use Rattle.lx_desk.specs.Answering.{by_desk, by_session};
+ghost use Rattle.lx_desk.specs.ScriptAnswers.{by_desk, by_session};
 ghost use Rattle.lx_desk.specs.Faults.{status_for};
 ghost use Rattle.lx_desk.specs.Output.{AnswersInFront};
 ghost use Rattle.lx_desk.specs.Endings.{EndsScript, HasPlayed, HasCauseOf};

@@ -8,7 +8,7 @@ ghost use Rattle.lx_io.specs.Puts.{AppendsFront, Puts};
 ghost use Rattle.lx_spec.specs.ShowText.{line as text_line};
 ghost use Rattle.lx_spec.specs.FaultLine.{fault_text};
 ghost use Rattle.lx_reader.specs.LineFaults.{show_fault};
-ghost use Rattle.lx_desk.specs.Refused.{RefusedBy, status_kept};
+ghost use Rattle.lx_desk.specs.ShowRefusal.{RefusedBy, status_kept};
 
 use crate::desk::Status;
 use lx_io::{Sink, SinkFault, put_all};

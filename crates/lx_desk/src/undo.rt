@@ -4,7 +4,7 @@ ghost use Rattle.std.specs.Prelude.{◌≤◌, IfSome};
 ghost use Rattle.lx_base.specs.declared.TheConstants.{INPUT_BYTES};
 ghost use Rattle.lx_lex.specs.Unread.{CanAdvance, SameSource, bytes_taken, source_faults, source_left, unread};
 ghost use Rattle.lx_spec.specs.Text.{lines_of};
-ghost use Rattle.lx_desk.specs.Answering.{undo_by};
+ghost use Rattle.lx_desk.specs.ScriptAnswers.{undo_by};
 ghost use Rattle.lx_desk.specs.Output.{AnswersInFront};
 ghost use Rattle.lx_desk.specs.Endings.{EndsScript, HasPlayed, HasCauseOf};
 

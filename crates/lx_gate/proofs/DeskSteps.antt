@@ -15,7 +15,7 @@ use Rattle.lx_console.specs.Standing.{StandsFor}
 use Rattle.lx_gate.specs.Desks.{IsInStep}
 use Rattle.lx_gate.specs.Frames.{AreFramesOf, frame_after, moment_after}
 use Rattle.lx_gate.specs.Gates.{Published, IsEntered, HasSent, HasSentNone}
-use Rattle.lx_gate.proofs.Entering.{entered_push}
+use Rattle.lx_gate.proofs.UnsentCommands.{entered_push}
 
 -- the console's frames are those that the gate wants
 pub frames_are : (show : Show) (list : List Command) (console : Kept) (slots : List ℕ) → StandsFor (replay show list) console

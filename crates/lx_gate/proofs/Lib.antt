@@ -1,7 +1,7 @@
 pub mod Prefixes
-pub mod Adding
+pub mod BatchAddition
 pub mod LongestList
 pub mod FirstVersion
 pub mod DarkDesk
-pub mod Entering
+pub mod UnsentCommands
 pub mod DeskSteps

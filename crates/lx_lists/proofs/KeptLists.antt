@@ -22,8 +22,8 @@ use Rattle.lx_console.specs.Filled.{Reaches}
 use Rattle.lx_console.specs.Standing.{StandsFor, Obeys, Answers, level_now}
 use Rattle.lx_console.proofs.Filling.{same_table, same_slots}
 use Rattle.lx_lists.specs.declared.output.Output.{Output}
-use Rattle.lx_lists.specs.Standing.{TwoKept}
-use Rattle.lx_lists.specs.Filled.{HasRoom, IsFilled, IsKept}
+use Rattle.lx_lists.specs.TwoListsMeaning.{TwoKept}
+use Rattle.lx_lists.specs.KeptLists.{HasRoom, IsFilled, AreKept}
 
 abbrev pub both : Kept → Kept → TwoKept
 both first second = record { first = first; second = second }
@@ -89,8 +89,8 @@ stood (Err refusal) now ok = absurd ok
 
 -- after a command of the first list
 pub first_kept : {A : Type 0} (command : Command) (x : A) (change : Change) (first second now : Kept) (output output' : Output)
-    → IsKept (both first second) output → ((d : Desk) → StandsFor d first → Answers d command (Ok x) now) → Changes change first now
-    → now.playback.moment ≡ first.playback.moment → IsFilled (both now second) output' → IsKept (both now second) output'
+    → AreKept (both first second) output → ((d : Desk) → StandsFor d first → Answers d command (Ok x) now) → Changes change first now
+    → now.playback.moment ≡ first.playback.moment → IsFilled (both now second) output' → AreKept (both now second) output'
 first_kept command x change first second now output output' kept answers changed moment filled =
     let next = stood (step kept.desks.first command) now (answers kept.desks.first kept.stand.first).ok in
     record {
@@ -103,8 +103,8 @@ first_kept command x change first second now output output' kept answers changed
 
 -- and of the second
 pub second_kept : {A : Type 0} (command : Command) (x : A) (change : Change) (first second now : Kept) (output output' : Output)
-    → IsKept (both first second) output → ((d : Desk) → StandsFor d second → Answers d command (Ok x) now) → Changes change second now
-    → now.playback.moment ≡ second.playback.moment → IsFilled (both first now) output' → IsKept (both first now) output'
+    → AreKept (both first second) output → ((d : Desk) → StandsFor d second → Answers d command (Ok x) now) → Changes change second now
+    → now.playback.moment ≡ second.playback.moment → IsFilled (both first now) output' → AreKept (both first now) output'
 second_kept command x change first second now output output' kept answers changed moment filled =
     let next = stood (step kept.desks.second command) now (answers kept.desks.second kept.stand.second).ok in
     record {
@@ -122,12 +122,12 @@ both_channels first second first' second' same show show' = ap (λ (s : Show). s
     ∙ sym (ap (λ (s : Show). s.channels) show)
 
 -- and after a tick of both
-pub ticked_kept : {A : Type 0} (x y : A) (first second first' second' : Kept) (output output' : Output) → IsKept (both first second) output
+pub ticked_kept : {A : Type 0} (x y : A) (first second first' second' : Kept) (output output' : Output) → AreKept (both first second) output
     → ((d : Desk) → StandsFor d first → Obeys d commands.Tick (Ok x) first')
     → ((d : Desk) → StandsFor d second → Obeys d commands.Tick (Ok y) second')
     → first'.show ≡ first.show → second'.show ≡ second.show
     → first'.playback.moment ≡ first.playback.moment + TICK_STEP → second'.playback.moment ≡ second.playback.moment + TICK_STEP
-    → IsFilled (both first' second') output' → IsKept (both first' second') output'
+    → IsFilled (both first' second') output' → AreKept (both first' second') output'
 ticked_kept x y first second first' second' output output' kept obeys obeys' show show' moment moment' filled =
     let next = stood (step kept.desks.first commands.Tick) first' (obeys kept.desks.first kept.stand.first).ok in
     let next' = stood (step kept.desks.second commands.Tick) second' (obeys' kept.desks.second kept.stand.second).ok in

@@ -4,5 +4,5 @@ pub mod KeptLists
 pub mod OpenedLists
 pub mod SecondLines
 pub mod TwoAnswers
-pub mod Ticking
+pub mod NextAttempt
 pub mod LineAnswers

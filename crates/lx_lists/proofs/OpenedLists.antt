@@ -6,7 +6,7 @@ use Rattle.lx_spec.specs.Desk.{opened}
 use Rattle.lx_spec.specs.TwoLists.{first_show, second_show}
 use Rattle.lx_console.specs.Standing.{StandsFor}
 use Rattle.lx_lists.specs.declared.output.Output.{Output}
-use Rattle.lx_lists.specs.Filled.{IsFilled, IsKept}
+use Rattle.lx_lists.specs.KeptLists.{IsFilled, AreKept}
 use Rattle.lx_lists.proofs.KeptLists.{both}
 
 pub opened_channels : (show one other : Show) (first second : Kept) → one ≡ first_show show → other ≡ second_show show
@@ -17,7 +17,7 @@ opened_channels show one other first second is is' stands stands' =
 
 pub opened_kept : (show one other : Show) (first second : Kept) (output : Output) → one ≡ first_show show → other ≡ second_show show
     → StandsFor (opened one) first → StandsFor (opened other) second → IsFilled (both first second) output
-    → IsKept (both first second) output
+    → AreKept (both first second) output
 opened_kept show one other first second output is is' stands stands' filled = record {
   desks = record { first = opened one; second = opened other };
   stand = record { first = stands; second = stands' };

@@ -19,8 +19,8 @@ use Rattle.lx_session.specs.LineState.{frame_of}
 use Rattle.lx_session.specs.OneAnswer.{ExtendsSession, IsLawful, OneAnswer}
 use Rattle.lx_session.proofs.HeardLines.{quit_same}
 use Rattle.lx_session.proofs.Places.{extends_line}
-use Rattle.lx_lists.specs.Standing.{TwoKept, TwoStand}
-use Rattle.lx_lists.specs.Ticked.{TicksReach, Stays}
+use Rattle.lx_lists.specs.TwoListsMeaning.{TwoKept, TwoStand}
+use Rattle.lx_lists.specs.OtherList.{TicksReach, Stays}
 use Rattle.lx_lists.proofs.SecondLines.{quit_is_first}
 
 -- the state after a line of the first list that asks for no frame, and after one of the second

@@ -9,7 +9,7 @@ use Rattle.lx_spec.specs.Replies.{frame_text}
 use Rattle.lx_mixer.specs.Table.{IsTable}
 use Rattle.lx_console.specs.Slots.{universe}
 use Rattle.lx_console.proofs.AllRuns.{over_all, part}
-use Rattle.lx_lists.specs.Standing.{TwoKept, TwoStand, out_of_both}
+use Rattle.lx_lists.specs.TwoListsMeaning.{TwoKept, TwoStand, out_of_both}
 
 outputs : (s : TwoDesks) (t : TwoKept) → TwoStand s t → out_of_both t ≡ out_of_two s
 outputs s t stand =

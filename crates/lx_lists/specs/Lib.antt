@@ -1,4 +1,4 @@
-pub mod Standing
-pub mod Filled
-pub mod Ticked
+pub mod TwoListsMeaning
+pub mod KeptLists
+pub mod OtherList
 pub mod SecondLines

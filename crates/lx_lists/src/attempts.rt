@@ -8,8 +8,8 @@ ghost use Rattle.lx_spec.specs.ValidEdit.{ValidCommand, ValidLine};
 ghost use Rattle.lx_session.specs.Attempts.{Attempted, heard_of};
 ghost use Rattle.lx_session.specs.LineProgress.{LineProgress};
 ghost use Rattle.lx_session.specs.LineState.{next_of, unattempted};
-ghost use Rattle.lx_lists.specs.Standing.{TwoStand};
-ghost use Rattle.lx_lists.specs.Ticked.{TicksReach, Stays};
+ghost use Rattle.lx_lists.specs.TwoListsMeaning.{TwoStand};
+ghost use Rattle.lx_lists.specs.OtherList.{TicksReach, Stays};
 
 use crate::desk::TwoLists;
 use lx_session::Turn;

@@ -10,7 +10,7 @@ ghost use Rattle.lx_spec.specs.TwoLists.{TwoDesks, opened_two, first_step, secon
 ghost use Rattle.lx_mixer.specs.Table.{IsTable};
 ghost use Rattle.lx_console.specs.Slots.{universe};
 ghost use Rattle.lx_console.specs.Standing.{StandsFor, Obeys};
-ghost use Rattle.lx_lists.specs.Standing.{TwoStand, Steps, TakesStep, list_of, out_of_both};
+ghost use Rattle.lx_lists.specs.TwoListsMeaning.{TwoStand, Steps, TakesStep, list_of, out_of_both};
 
 use crate::output::Output;
 use crate::split::{leave_first, second_of};
@@ -32,14 +32,14 @@ pub struct TwoLists {
 }
 
 impl Model for TwoLists {
-    ghost use Rattle.lx_lists.specs.Standing.{TwoKept};
-    ghost use Rattle.lx_lists.specs.Filled.{IsKept};
+    ghost use Rattle.lx_lists.specs.TwoListsMeaning.{TwoKept};
+    ghost use Rattle.lx_lists.specs.KeptLists.{AreKept};
 
     ghost Value = { TwoKept };
 
     ghost view = { λ t. record { first = t.first; second = t.second } };
 
-    ghost invariant = { λ t. IsKept (record { first = t.first; second = t.second }) t.output };
+    ghost invariant = { λ t. AreKept (record { first = t.first; second = t.second }) t.output };
 }
 
 impl TwoLists {

@@ -6,7 +6,7 @@ ghost use Rattle.lx_io.specs.Puts.{Puts, HasSinkCause};
 ghost use Rattle.lx_spec.specs.Replies.{frame_text};
 ghost use Rattle.lx_spec.specs.TwoLists.{TwoDesks, frame_of_two};
 ghost use Rattle.lx_console.specs.Slots.{universe as universe_in};
-ghost use Rattle.lx_lists.specs.Standing.{TwoStand};
+ghost use Rattle.lx_lists.specs.TwoListsMeaning.{TwoStand};
 
 use crate::desk::TwoLists;
 use lx_base::{Level, UNIVERSE_SLOTS};

@@ -3,7 +3,7 @@
 ghost use Rattle.std.specs.Prelude.{◌≡◌, max, length, slice_index, EachIndex, IfOk};
 ghost use Rattle.lx_patch.specs.DimmerTable.{StandsForPatch};
 ghost use Rattle.lx_console.specs.Filled.{IsPatchedBut, SlotsStand};
-ghost use Rattle.lx_lists.specs.Filled.{HasRoom, IsFilled, WasFilled};
+ghost use Rattle.lx_lists.specs.KeptLists.{HasRoom, IsFilled, WasFilled};
 
 use lx_base::{Dimmer, Level};
 use lx_console::{Change, Player, Stage};
@@ -39,7 +39,7 @@ impl Output {
         requires patch { StandsForPatch first.now.show.patch self.old.stage.table }
         ensures { IsFilled (record { first = first.now; second = second.now }) self.new }
     {
-        raise(first.levels(), second.levels(), &mut self.greatest);
+        take_greatest(first.levels(), second.levels(), &mut self.greatest);
         self.stage.fill(&self.greatest, first);
     }
 
@@ -51,7 +51,7 @@ impl Output {
         requires slots { SlotsStand first.now.show.patch self.old.stage }
         ensures { IsFilled (record { first = first.now; second = second.now }) self.new }
     {
-        raise(first.levels(), second.levels(), &mut self.greatest);
+        take_greatest(first.levels(), second.levels(), &mut self.greatest);
         self.stage.refill(&self.greatest, first);
     }
 
@@ -62,7 +62,7 @@ impl Output {
         requires patch { IsPatchedBut first.now.show.patch dimmer self.old.stage.table }
         ensures { IsFilled (record { first = first.now; second = second.now }) self.new }
     {
-        raise(first.levels(), second.levels(), &mut self.greatest);
+        take_greatest(first.levels(), second.levels(), &mut self.greatest);
         self.stage.repatch(&self.greatest, first, dimmer);
     }
 
@@ -80,7 +80,7 @@ impl Output {
 }
 
 /// The greater of the two levels of each channel.
-fn raise(first: &[Level], second: &[Level], greatest: &mut [Level])
+fn take_greatest(first: &[Level], second: &[Level], greatest: &mut [Level])
     requires first { length first.now ≡ length greatest.old }
     requires second { length second.now ≡ length greatest.old }
     ensures { EachIndex greatest.new (λ k. slice_index greatest.new k ≡ max (slice_index first.now k) (slice_index second.now k)) }

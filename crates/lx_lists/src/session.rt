@@ -11,7 +11,7 @@ ghost use Rattle.lx_session.specs.LineReply.{HasRoom, HasOneMore, counts_in};
 ghost use Rattle.lx_session.specs.OneAnswer.{IsLine, OneAnswer};
 ghost use Rattle.lx_session.specs.ScriptAnswered.{ScriptAnswered};
 ghost use Rattle.lx_session.specs.SessionOutcome.{HasSessionCause, KeepsLimit};
-ghost use Rattle.lx_lists.specs.Standing.{TwoStand};
+ghost use Rattle.lx_lists.specs.TwoListsMeaning.{TwoStand};
 ghost use Rattle.lx_lists.specs.SecondLines.{IsRestFor};
 
 use crate::attempts::{attempt_all, attempt_second};
@@ -50,7 +50,7 @@ pub fn two_session<S: Source, K: Sink>(
 
 impl Answers for TwoLists {
     ghost use Rattle.lx_spec.specs.TwoLists.{TwoDesks, two_answer, TwoMayWant};
-    ghost use Rattle.lx_lists.specs.Standing.{TwoStand};
+    ghost use Rattle.lx_lists.specs.TwoListsMeaning.{TwoStand};
 
     ghost State = { TwoDesks };
 

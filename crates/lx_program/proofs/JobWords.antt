@@ -4,7 +4,7 @@ use Rattle.lx_spec.specs.declared.Form.{Form}
 use Rattle.lx_spec.specs.declared.Job.{Job}
 use Rattle.lx_spec.specs.declared.Job.TheVariants.{Check, Render, Sheet, Make, Run, Undo, Two, Crew}
 use Rattle.lx_spec.specs.Job.{job_of, given_to}
-use Rattle.lx_program.specs.Named.{OfCrew, OfJob}
+use Rattle.lx_program.specs.NamedJob.{OfCrew, OfJob}
 
 pub of_job : (ws : List (List ℕ)) (left : Option (List ℕ)) (P : Job → List ℕ → Type 0) (job : Job) → job_of ws ≡ Some job
     → IfSome (given_to job left) (P job) → OfJob ws left P

@@ -1,3 +1,3 @@
 pub mod Exits
-pub mod Named
+pub mod NamedJob
 pub mod Words

@@ -4,13 +4,13 @@ ghost use Rattle.std.specs.Prelude.{◌≡◌, IsSome, length, map, string_bytes
 ghost use Rattle.lx_base.specs.declared.TheConstants.{OPERATORS, UNIVERSES};
 ghost use Rattle.lx_spec.specs.Job.{job_of};
 ghost use Rattle.lx_spec.specs.Reading.{reads};
-ghost use Rattle.lx_crew.specs.Hired.{EachAt};
+ghost use Rattle.lx_crew.specs.OperatorWorks.{EachAt};
 ghost use Rattle.lx_workers.specs.Places.{IsFull};
 ghost use Rattle.lx_desk.specs.Crew.{HasCrewCause, HasCrewEnded, KeepsOperators, WritesCrewFront};
 ghost use Rattle.lx_desk.specs.Endings.{AnswersWords, HasCauseOf, HasEnded};
 ghost use Rattle.lx_desk.specs.Live.{HasLiveCause, HasLived, KeepsOutlets};
 ghost use Rattle.lx_desk.specs.Output.{WritesPrefix};
-ghost use Rattle.lx_program.specs.Named.{OfCrew, OfJob, OfRun, in_use};
+ghost use Rattle.lx_program.specs.NamedJob.{OfCrew, OfJob, OfRun, in_use};
 
 use crate::words::{WordsFault, crew_of, live_run_of, words_of};
 use lx_desk::{Status, run_crew, run_job, run_live};

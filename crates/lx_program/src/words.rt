@@ -7,7 +7,7 @@ ghost use Rattle.lx_base.specs.declared.TheConstants.{OPERATORS, UNIVERSES};
 ghost use Rattle.lx_spec.specs.declared.Job.TheVariants.{Crew, Run};
 ghost use Rattle.lx_spec.specs.Job.{job_of, form_of, number_alone, plain_number, run_of, crew_of as crew_given};
 ghost use Rattle.lx_spec.specs.Phrase.{ended};
-ghost use Rattle.lx_program.specs.Named.{InRange, NamesNoCrew, NamesNoRun};
+ghost use Rattle.lx_program.specs.NamedJob.{InRange, NamesNoCrew, NamesNoRun};
 ghost use Rattle.lx_program.specs.Words.{begins_with_dash, values_of};
 
 use clap::error::ErrorKind;

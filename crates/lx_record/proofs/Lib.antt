@@ -1,5 +1,5 @@
 pub mod RecordedCues
 pub mod RecordLaws
 pub mod KeptCues
-pub mod Chosen
-pub mod Answering
+pub mod ChosenChannels
+pub mod RecordAnswer

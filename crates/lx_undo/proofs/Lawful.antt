@@ -15,7 +15,7 @@ use Rattle.lx_session.specs.OneAnswer.{ExtendsSession, IsLawful}
 use Rattle.lx_session.proofs.HeardLines.{quit_same}
 use Rattle.lx_session.proofs.Places.{extends_line}
 use Rattle.lx_undo.proofs.Lines.{quit_asks_nothing}
-use Rattle.lx_undo.proofs.Answered.{plain_answer}
+use Rattle.lx_undo.proofs.LineAnswers.{plain_answer}
 
 extends_attempt : (s : SessionOf UndoState) (r : Result UndoState (List ℕ)) → ExtendsSession s (attempted s r)
 extends_attempt s (Ok state) = record { attempts = omega arith; more = ok_text; text = refl }

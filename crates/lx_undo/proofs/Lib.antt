@@ -1,8 +1,8 @@
 pub mod Histories
 pub mod SomeDesk
-pub mod Answering
+pub mod DeskSteps
 pub mod Turns
-pub mod Reaching
+pub mod LineProgress
 pub mod Lines
-pub mod Answered
+pub mod LineAnswers
 pub mod Lawful

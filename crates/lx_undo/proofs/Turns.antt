@@ -13,7 +13,7 @@ use Rattle.lx_edit.specs.Planned.{planned, IsReady}
 use Rattle.lx_edit.specs.Undone.{TakesBack}
 use Rattle.lx_console.specs.Standing.{StandsFor}
 use Rattle.lx_undo.specs.Shows.{KeptPlans, AllReady, ReadyBack, ReadyForth, led_back, shows_before, shows_after}
-use Rattle.lx_undo.specs.Standing.{UndoKept, UndoStands, Steps, seen}
+use Rattle.lx_undo.specs.UndoDeskMeaning.{UndoKept, UndoStands, Steps, seen}
 use Rattle.lx_undo.proofs.Histories.{but_last, last_is, with_first, with_last}
 
 -- One more plan behind the others.

@@ -1,5 +1,5 @@
 pub mod Shows
-pub mod Standing
-pub mod Asked
-pub mod Reached
+pub mod UndoDeskMeaning
+pub mod HistoryLines
+pub mod CommandProgress
 pub mod Laws

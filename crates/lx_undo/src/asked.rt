@@ -5,8 +5,8 @@ ghost use Rattle.lx_io.specs.Puts.{Puts};
 ghost use Rattle.lx_spec.specs.Undo.{UndoState};
 ghost use Rattle.lx_session.specs.LineReply.{HasRoom, HasOneMore, counts_in};
 ghost use Rattle.lx_script.specs.UndoLines.{NamesCue};
-ghost use Rattle.lx_undo.specs.Standing.{UndoStands};
-ghost use Rattle.lx_undo.specs.Asked.{HasAsked, answer_text, counted};
+ghost use Rattle.lx_undo.specs.UndoDeskMeaning.{UndoStands};
+ghost use Rattle.lx_undo.specs.HistoryLines.{HasAsked, answer_text, counted};
 
 use crate::desk::UndoDesk;
 use lx_io::{Sink, SinkFault};

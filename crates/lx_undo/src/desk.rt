@@ -5,7 +5,7 @@ ghost use Rattle.lx_spec.specs.ValidEdit.{ValidCommand, ValidEdit};
 ghost use Rattle.lx_spec.specs.RefusedPlaces.{is_edit};
 ghost use Rattle.lx_spec.specs.Undo.{UndoState, opened_with, with_show, replaced, undo_step, record_step, undo, redo};
 ghost use Rattle.lx_edit.specs.Planned.{IsReady, planned};
-ghost use Rattle.lx_undo.specs.Standing.{UndoStands, Steps, TakesStep};
+ghost use Rattle.lx_undo.specs.UndoDeskMeaning.{UndoStands, Steps, TakesStep};
 
 use crate::history::History;
 use lx_base::CueNo;
@@ -28,7 +28,7 @@ pub struct UndoDesk {
 }
 
 impl Model for UndoDesk {
-    ghost use Rattle.lx_undo.specs.Standing.{UndoKept, seen};
+    ghost use Rattle.lx_undo.specs.UndoDeskMeaning.{UndoKept, seen};
     ghost use Rattle.lx_undo.specs.Shows.{AllReady};
 
     ghost Value = { UndoKept };

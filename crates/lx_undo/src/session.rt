@@ -16,8 +16,8 @@ ghost use Rattle.lx_session.specs.OneAnswer.{IsLine, OneAnswer};
 ghost use Rattle.lx_session.specs.ScriptAnswered.{ScriptAnswered};
 ghost use Rattle.lx_session.specs.SessionOutcome.{HasSessionCause, KeepsLimit};
 ghost use Rattle.lx_script.specs.UndoLines.{NamesCue};
-ghost use Rattle.lx_undo.specs.Standing.{UndoStands};
-ghost use Rattle.lx_undo.specs.Reached.{HasReached};
+ghost use Rattle.lx_undo.specs.UndoDeskMeaning.{UndoStands};
+ghost use Rattle.lx_undo.specs.CommandProgress.{HasReached};
 
 use crate::asked::{ask, give};
 use crate::desk::UndoDesk;
@@ -55,7 +55,7 @@ pub fn undo_session<S: Source, K: Sink>(
 impl Answers for UndoDesk {
     ghost use Rattle.lx_spec.specs.Undo.{UndoState};
     ghost use Rattle.lx_spec.specs.UndoSession.{undo_answer, UndoMayWant};
-    ghost use Rattle.lx_undo.specs.Standing.{UndoStands};
+    ghost use Rattle.lx_undo.specs.UndoDeskMeaning.{UndoStands};
 
     ghost State = { UndoState };
 

@@ -14,7 +14,7 @@ use Rattle.lx_session.specs.declared.tally.Tally.{Tally}
 use Rattle.lx_session.specs.SessionOutcome.{HasDone, ScriptPrefix, TakenScript, SessionOutcome}
 use Rattle.lx_gate.specs.Gates.{Published}
 use Rattle.lx_gate.specs.Desks.{IsInStep}
-use Rattle.lx_gate.proofs.Entering.{entered_none}
+use Rattle.lx_gate.proofs.UnsentCommands.{entered_none}
 use Rattle.lx_workers.specs.Engines.{accepted_of, HasAccepted, HasRun}
 
 -- what says of commands that they were heard of says something else of them

@@ -3,4 +3,4 @@ pub mod Lines
 pub mod Works
 pub mod Engines
 pub mod Places
-pub mod Playing
+pub mod LiveOutcome

@@ -16,7 +16,7 @@ ghost use Rattle.lx_io.specs.declared.sink.SinkFault.{SinkFault};
 ghost use Rattle.lx_workers.specs.Engines.{HasRunFrom};
 ghost use Rattle.lx_workers.specs.Works.{HasServed};
 ghost use Rattle.lx_workers.specs.Places.{IsFull, IsTaken, IsGiven};
-ghost use Rattle.lx_workers.specs.Playing.{HasPlayed};
+ghost use Rattle.lx_workers.specs.LiveOutcome.{HasPlayed};
 
 use crate::script::Engine;
 use crate::{Lane, Served, Stop};

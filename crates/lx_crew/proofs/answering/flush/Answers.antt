@@ -1,4 +1,4 @@
-use Rattle.lx_crew.proofs.Answered.{none_is, answered_flush}
+use Rattle.lx_crew.proofs.AnswerProgress.{none_is, answered_flush}
 use Rattle.lx_crew.proofs.answering.flush.Goals as goal
 
 pub returns-clause-answered : goal.returns-clause-answered

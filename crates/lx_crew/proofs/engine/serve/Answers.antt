@@ -1,7 +1,7 @@
 use Rattle.std.proofs.Common.{rules, [], ◌∷◌, ◌++◌, slice_get, ap, sym, ◌∙◌, arith}
 use Rattle.lx_spec.specs.Session.{Counts}
-use Rattle.lx_crew.proofs.Answered.{answered_none}
-use Rattle.lx_crew.proofs.Served.{takes_on, ended_on, cause_none, cause_then, answered_same}
+use Rattle.lx_crew.proofs.AnswerProgress.{answered_none}
+use Rattle.lx_crew.proofs.EngineSteps.{takes_on, ended_on, cause_none, cause_then, answered_same}
 use Rattle.lx_crew.proofs.engine.serve.Goals as goal
 
 pub loop-init : goal.loop-init

@@ -5,7 +5,7 @@ use Rattle.lx_console.specs.Standing.{StandsFor}
 use Rattle.lx_crew.specs.declared.entry.Entry.{Entry}
 use Rattle.lx_crew.specs.Entries.{of_place, has_last}
 use Rattle.lx_crew.specs.Rule.{engine_view}
-use Rattle.lx_crew.specs.Answering.{HasAnswered, OutputCause}
+use Rattle.lx_crew.specs.EngineAnswers.{HasAnswered, OutputCause}
 use Rattle.lx_crew.proofs.engine.serve.Given as goal
 
 abbrev pub invariant-loop : goal.invariant-loop

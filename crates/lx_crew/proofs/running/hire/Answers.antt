@@ -4,7 +4,7 @@ use Rattle.std.proofs.lemmas.List.{length_push}
 use Rattle.crossbeam_queue.specs.Passes.{IsPassOf}
 use Rattle.lx_crew.specs.declared.rule.View.{View}
 use Rattle.lx_crew.specs.Rule.{engine_view, operator_view}
-use Rattle.lx_crew.specs.Hired.{Hired}
+use Rattle.lx_crew.specs.OperatorWorks.{Hired}
 use Rattle.lx_crew.proofs.Rules.{forks}
 use Rattle.lx_crew.proofs.Works.{each_snoc, get_else, some_there, not_none, source_is}
 use Rattle.lx_crew.proofs.running.hire.Goals as goal

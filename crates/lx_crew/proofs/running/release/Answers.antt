@@ -7,7 +7,7 @@ use Rattle.crossbeam_queue.specs.Passes.{view}
 use Rattle.lx_crew.specs.declared.entry.Entry.{Entry}
 use Rattle.lx_crew.specs.declared.operator.Operator.{Operator}
 use Rattle.lx_crew.specs.declared.rule.View.{View}
-use Rattle.lx_crew.specs.Hired.{owned}
+use Rattle.lx_crew.specs.OperatorWorks.{owned}
 use Rattle.lx_crew.proofs.Rules.{merges}
 use Rattle.lx_crew.proofs.Works.{each_init, map_snoc, told_more, none_more}
 use Rattle.lx_crew.proofs.running.release.Goals as goal

@@ -1,7 +1,7 @@
 use Rattle.std.proofs.Common.{sym, subst, IfSome}
 use Rattle.lx_spec.specs.Desk.{opened}
 use Rattle.lx_lex.specs.Unread.{unread}
-use Rattle.lx_desk.specs.Answering.{by_desk}
+use Rattle.lx_desk.specs.ScriptAnswers.{by_desk}
 use Rattle.lx_desk.specs.Endings.{EndsScript, HasPlayed, HasCauseOf}
 use Rattle.lx_desk.proofs.Inputs.{nothing_answered}
 use Rattle.lx_desk.proofs.Statuses.{answered_front, has_played, ends_script, has_cause}

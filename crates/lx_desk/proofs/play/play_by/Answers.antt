@@ -1,6 +1,6 @@
 use Rattle.std.proofs.Common.{sym, subst, IfSome}
 use Rattle.lx_lex.specs.Unread.{bytes_taken, source_left, source_faults, unread}
-use Rattle.lx_desk.specs.Answering.{by_session}
+use Rattle.lx_desk.specs.ScriptAnswers.{by_session}
 use Rattle.lx_desk.specs.Endings.{EndsScript, HasPlayed, HasCauseOf}
 use Rattle.lx_desk.proofs.SessionFronts.{answered_front_by, has_played_by}
 use Rattle.lx_desk.proofs.Statuses.{ends_script, has_cause}

@@ -1,7 +1,7 @@
 use Rattle.std.proofs.Common.{sym, ◌∙◌, subst, IfSome}
 use Rattle.lx_desk.specs.Endings.{HasEnded}
 use Rattle.lx_desk.proofs.Inputs.{session_front, refusal_front}
-use Rattle.lx_desk.specs.Answering.{job_by}
+use Rattle.lx_desk.specs.ScriptAnswers.{job_by}
 use Rattle.lx_desk.proofs.ScriptJobs.{script_by, over_by}
 use Rattle.lx_desk.proofs.Endings.{script_job, script_ended, refusal_ends, refusal_ended}
 use Rattle.lx_desk.proofs.script.script.Goals as goal

@@ -1,6 +1,6 @@
 use Rattle.lx_spec.specs.TwoLists.{opened_two, two_answer, TwoMayWant}
 use Rattle.lx_lists.proofs.TwoAnswers.{two_lawful}
-use Rattle.lx_desk.specs.Answering.{two_by}
+use Rattle.lx_desk.specs.ScriptAnswers.{two_by}
 use Rattle.lx_desk.proofs.Inputs.{nothing_answered_by, none_allowed}
 use Rattle.lx_desk.proofs.two.play_two.Goals as goal
 

@@ -1,7 +1,7 @@
 use Rattle.lx_spec.specs.Job.{opened_undo}
 use Rattle.lx_spec.specs.UndoSession.{undo_answer, UndoMayWant}
 use Rattle.lx_undo.proofs.Lawful.{undo_lawful}
-use Rattle.lx_desk.specs.Answering.{undo_by}
+use Rattle.lx_desk.specs.ScriptAnswers.{undo_by}
 use Rattle.lx_desk.proofs.Inputs.{nothing_answered_by, none_allowed}
 use Rattle.lx_desk.proofs.undo.play_with_undo.Goals as goal
 

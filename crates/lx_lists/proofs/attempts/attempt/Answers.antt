@@ -3,8 +3,8 @@ use Rattle.std.specs.Result.{result_err}
 use Rattle.lx_spec.specs.declared.Command.{Command}
 use Rattle.lx_spec.specs.declared.Refusal.{Refusal}
 use Rattle.lx_session.specs.Attempts.{Attempted, heard_of}
-use Rattle.lx_lists.specs.Ticked.{TicksReach}
-use Rattle.lx_lists.proofs.Ticking.{tick_attempted, tick_reaches, first_attempted, first_reaches, other_tick, one_same, second_same}
+use Rattle.lx_lists.specs.OtherList.{TicksReach}
+use Rattle.lx_lists.proofs.NextAttempt.{tick_attempted, tick_reaches, first_attempted, first_reaches, other_tick, one_same, second_same}
 use Rattle.lx_lists.proofs.attempts.attempt.Goals as goal
 
 pub returns-in-Tick-clause-first : goal.returns-in-Tick-clause-first

@@ -1,7 +1,7 @@
 use Rattle.std.proofs.Common.{◌∙◌, refl, sym, ap}
 use Rattle.lx_session.specs.LineState.{LineState}
 use Rattle.lx_session.proofs.ValidNext.{valid_next}
-use Rattle.lx_lists.proofs.Ticking.{none_yet, one_more}
+use Rattle.lx_lists.proofs.NextAttempt.{none_yet, one_more}
 use Rattle.lx_lists.proofs.attempts.attempt_all.Goals as goal
 
 pub commands-init : goal.commands-init

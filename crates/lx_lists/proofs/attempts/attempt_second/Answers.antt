@@ -1,7 +1,7 @@
 use Rattle.std.proofs.Common.{Option, true, sym, subst}
 use Rattle.lx_spec.specs.declared.Refusal.{Refusal}
 use Rattle.lx_session.specs.Attempts.{Attempted}
-use Rattle.lx_lists.proofs.Ticking.{one_second, none_second, second_attempted}
+use Rattle.lx_lists.proofs.NextAttempt.{one_second, none_second, second_attempted}
 use Rattle.lx_lists.proofs.attempts.attempt_second.Goals as goal
 
 pub returns-in-Some-clause-tried : goal.returns-in-Some-clause-tried

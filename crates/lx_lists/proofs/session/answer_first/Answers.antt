@@ -11,8 +11,8 @@ use Rattle.lx_session.specs.LineState.{LineState, frame_of, meaning_of}
 use Rattle.lx_session.proofs.AnsweredLines.{answered}
 use Rattle.lx_session.proofs.HeardLines.{meaning_is}
 use Rattle.lx_session.proofs.Replies.{frame_is}
-use Rattle.lx_lists.specs.Standing.{TwoKept}
-use Rattle.lx_lists.specs.Ticked.{TicksReach}
+use Rattle.lx_lists.specs.TwoListsMeaning.{TwoKept}
+use Rattle.lx_lists.specs.OtherList.{TicksReach}
 use Rattle.lx_lists.proofs.TwoAnswers.{answered_first, answered_frame}
 use Rattle.lx_lists.proofs.LineAnswers.{meant_by}
 use Rattle.lx_lists.proofs.session.answer_first.Goals as goal

@@ -9,8 +9,8 @@ use Rattle.lx_session.specs.LineAnswer.{LineAnswer}
 use Rattle.lx_session.specs.LineProgress.{LineProgress}
 use Rattle.lx_session.specs.LineState.{LineState}
 use Rattle.lx_session.proofs.AnsweredLines.{answered}
-use Rattle.lx_lists.specs.Standing.{TwoKept}
-use Rattle.lx_lists.specs.Ticked.{Stays}
+use Rattle.lx_lists.specs.TwoListsMeaning.{TwoKept}
+use Rattle.lx_lists.specs.OtherList.{Stays}
 use Rattle.lx_lists.proofs.TwoAnswers.{answered_second}
 use Rattle.lx_lists.proofs.LineAnswers.{second_start, second_valid, second_taken, second_more, second_no_frame}
 use Rattle.lx_lists.proofs.session.answer_second.Goals as goal

@@ -7,7 +7,7 @@ use Rattle.clap.specs.Simple.{app_of_fields, on_top}
 use Rattle.clap.specs.Lexer.{usize_max}
 use Rattle.clap.specs.declared.builder.range.ValueRange.{ValueRange}
 use Rattle.clap.specs.declared.builder.action.ArgAction.TheVariants.{Append}
-use Rattle.lx_program.proofs.WordsTaken.{the_rule, the_app, is_the_app, are_given, are_taken}
+use Rattle.lx_program.proofs.ArgumentValues.{the_rule, the_app, is_the_app, are_given, are_taken}
 use Rattle.lx_program.proofs.words.matches_of.Goals as goal
 
 some_is : (o : Option ValueRange) (x : ValueRange) → IsSomeAnd o (λ r. r ≡ x) → o ≡ Some x

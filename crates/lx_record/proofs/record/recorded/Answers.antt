@@ -3,7 +3,7 @@ use Rattle.std.specs.Prelude.{Result}
 use Rattle.lx_spec.specs.declared.Refusal.{Refusal}
 use Rattle.lx_spec.specs.Show.{Show}
 use Rattle.lx_record.specs.Records.{Records}
-use Rattle.lx_record.proofs.Answering.{of_stage}
+use Rattle.lx_record.proofs.RecordAnswer.{of_stage}
 use Rattle.lx_record.proofs.record.recorded.Goals as goal
 
 pub returns : goal.returns

@@ -4,7 +4,7 @@ use Rattle.lx_spec.specs.Show.{Cue, Show, ValidCue}
 use Rattle.lx_spec.specs.EditedShow.{with_cue}
 use Rattle.lx_console.specs.Standing.{level_now}
 use Rattle.lx_edit.specs.Planned.{CanPlace, with_above}
-use Rattle.lx_record.proofs.Answering.{accepted, wants, cue_may, above_may, above_stands, recorded_number}
+use Rattle.lx_record.proofs.RecordAnswer.{accepted, wants, cue_may, above_may, above_stands, recorded_number}
 use Rattle.lx_record.proofs.RecordedCues.{recorded_cue}
 use Rattle.lx_record.proofs.record.recorded_cues.Goals as goal
 

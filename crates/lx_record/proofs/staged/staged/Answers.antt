@@ -3,7 +3,7 @@ use Rattle.std.specs.List.{AllByRecursion}
 use Rattle.lx_spec.specs.declared.Member.{Member}
 use Rattle.lx_spec.specs.Show.{Show}
 use Rattle.lx_console.specs.Standing.{level_now}
-use Rattle.lx_record.proofs.Chosen.{untracked_within}
+use Rattle.lx_record.proofs.ChosenChannels.{untracked_within}
 use Rattle.lx_record.proofs.staged.staged.Goals as goal
 
 pub with_levels-requires-clause-channels : goal.with_levels-requires-clause-channels

@@ -1,7 +1,7 @@
 use Rattle.std.specs.Prelude.{not, ◌==◌}
 use Rattle.lx_spec.specs.TrackedLevel.{tracked}
 use Rattle.lx_console.specs.Standing.{level_now}
-use Rattle.lx_record.proofs.Chosen.{member_next}
+use Rattle.lx_record.proofs.ChosenChannels.{member_next}
 use Rattle.lx_record.proofs.staged.untracked.Goals as goal
 
 pub loop-k-preserved : goal.loop-k-preserved

@@ -1,4 +1,4 @@
-use Rattle.lx_undo.proofs.Answered.{answered_asked}
+use Rattle.lx_undo.proofs.LineAnswers.{answered_asked}
 use Rattle.lx_undo.proofs.session.answer_asked.Goals as goal
 
 pub returns-clause-answered : goal.returns-clause-answered

@@ -1,7 +1,7 @@
 use Rattle.std.proofs.Common.{◌∙◌, ap, sym}
 use Rattle.std.specs.Prelude.{option_copied}
 use Rattle.lx_session.specs.LineState.{LineState, unattempted}
-use Rattle.lx_undo.proofs.Answered.{answered_line, more_by}
+use Rattle.lx_undo.proofs.LineAnswers.{answered_line, more_by}
 use Rattle.lx_session.proofs.ValidNext.{valid_meaning}
 use Rattle.lx_undo.proofs.session.answer_plain.Goals as goal
 

@@ -1,5 +1,5 @@
 use Rattle.std.proofs.Common.{◌≡◌, ◌-◌, ◌++◌, length, drop, ap, ◌∙◌, arith}
-use Rattle.lx_gate.proofs.Entering.{entered_whole, entered_known}
+use Rattle.lx_gate.proofs.UnsentCommands.{entered_whole, entered_known}
 use Rattle.lx_gate.proofs.gate.Gate+G+GateWriter+G.enter.Goals as goal
 
 pub after-requires : goal.after-requires

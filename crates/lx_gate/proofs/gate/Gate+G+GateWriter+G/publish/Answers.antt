@@ -1,5 +1,5 @@
 use Rattle.std.proofs.Common.{◌++◌, sym, ap, ◌∙◌}
-use Rattle.lx_gate.proofs.Entering.{entered_all}
+use Rattle.lx_gate.proofs.UnsentCommands.{entered_all}
 use Rattle.lx_gate.proofs.gate.Gate+G+GateWriter+G.publish.Goals as goal
 
 pub returns-in_err-send-clause-entered : goal.returns-in_err-send-clause-entered

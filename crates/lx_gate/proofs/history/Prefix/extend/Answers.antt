@@ -1,7 +1,7 @@
 use Rattle.std.proofs.Common.{◌≡◌, ◌+◌, refl, sym, ◌∙◌, ap, subst, length, List}
 use Rattle.lx_spec.specs.declared.Command.{Command}
 use Rattle.lx_gate.specs.CommandLists.{flat, IsLonger}
-use Rattle.lx_gate.proofs.Adding.{adds_moves, adds_longer}
+use Rattle.lx_gate.proofs.BatchAddition.{adds_moves, adds_longer}
 use Rattle.lx_gate.proofs.history.Prefix.extend.Goals as goal
 
 pub compare_exchange-found-requires : goal.compare_exchange-found-requires

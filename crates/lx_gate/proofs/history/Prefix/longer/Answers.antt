@@ -3,7 +3,7 @@ use mathlib.Core.List.{IsPrefix}
 use Rattle.lx_spec.specs.declared.Command.{Command}
 use Rattle.lx_gate.specs.CommandLists.{flat}
 use Rattle.lx_gate.proofs.Prefixes.{prefix_shorter}
-use Rattle.lx_gate.proofs.Adding.{flat_prefix}
+use Rattle.lx_gate.proofs.BatchAddition.{flat_prefix}
 use Rattle.lx_gate.proofs.history.Prefix.longer.Goals as goal
 
 pub returns-then-self-other-clause-this : goal.returns-then-self-other-clause-this

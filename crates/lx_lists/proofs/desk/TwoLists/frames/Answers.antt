@@ -4,7 +4,7 @@ use Rattle.lx_spec.specs.Show.{Show, Valid}
 use Rattle.lx_spec.specs.Output.{dimmer_value}
 use Rattle.lx_mixer.specs.Table.{IsTable}
 use Rattle.lx_patch.proofs.Frames.{patched}
-use Rattle.lx_lists.specs.Standing.{TwoKept, out_of_both}
+use Rattle.lx_lists.specs.TwoListsMeaning.{TwoKept, out_of_both}
 use Rattle.lx_lists.proofs.TwoFrames.{frame_of_both}
 use Rattle.lx_lists.proofs.KeptLists.{both}
 use Rattle.lx_lists.proofs.desk.TwoLists.frames.Goals as goal

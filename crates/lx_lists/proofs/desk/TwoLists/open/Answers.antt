@@ -2,7 +2,7 @@ use Rattle.std.proofs.Common.{ap, sym, subst}
 use Rattle.lx_spec.specs.Show.{Show}
 use Rattle.lx_spec.specs.Kept.{Kept}
 use Rattle.lx_patch.specs.DimmerTable.{StandsForPatch}
-use Rattle.lx_lists.specs.Filled.{HasRoom}
+use Rattle.lx_lists.specs.KeptLists.{HasRoom}
 use Rattle.lx_lists.proofs.OpenedLists.{opened_channels, opened_kept}
 use Rattle.lx_lists.proofs.desk.TwoLists.open.Goals as goal
 

@@ -3,7 +3,7 @@ use Rattle.lx_spec.specs.Show.{Show}
 use Rattle.lx_spec.specs.Undo.{with_show}
 use Rattle.lx_edit.specs.Planned.{planned}
 use Rattle.lx_console.specs.Standing.{StandsFor}
-use Rattle.lx_undo.specs.Standing.{UndoKept, UndoStands}
+use Rattle.lx_undo.specs.UndoDeskMeaning.{UndoKept, UndoStands}
 use Rattle.lx_undo.proofs.Turns.{ready_kept, stands_kept}
 use Rattle.lx_undo.proofs.desk.UndoDesk.apply.Goals as goal
 

@@ -1,8 +1,8 @@
 use Rattle.std.proofs.Common.{◌≡◌, ap, sym, subst, refl}
 use Rattle.lx_spec.specs.Show.{Show}
 use Rattle.lx_undo.specs.Shows.{AllReady, shows_before, shows_after}
-use Rattle.lx_undo.specs.Standing.{UndoStands, seen}
-use Rattle.lx_undo.proofs.Answering.{takes_key, no_edit, unchanged_with}
+use Rattle.lx_undo.specs.UndoDeskMeaning.{UndoStands, seen}
+use Rattle.lx_undo.proofs.DeskSteps.{takes_key, no_edit, unchanged_with}
 use Rattle.lx_undo.proofs.SomeDesk.{answered_leaves}
 use Rattle.lx_undo.proofs.desk.UndoDesk.command.Goals as goal
 

@@ -11,7 +11,7 @@ use Rattle.lx_crew.specs.declared.entry.Entry.{Entry}
 use Rattle.lx_crew.specs.declared.rule.View.{View}
 use Rattle.lx_crew.specs.Entries.{of_place, is_last, has_last}
 use Rattle.lx_crew.specs.Rule.{engine_view, Takes}
-use Rattle.lx_crew.specs.Answering.{HasAnswered, Marked, OutputCause}
+use Rattle.lx_crew.specs.EngineAnswers.{HasAnswered, Marked, OutputCause}
 use Rattle.lx_crew.proofs.Lists.{last_on, last_here}
 
 pub takes_on : (v w : View) (n : ℕ) (popped : List Entry) (e : Entry) → v ≡ engine_view n popped [] → Takes v e w

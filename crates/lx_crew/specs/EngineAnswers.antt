@@ -33,16 +33,16 @@ long_line = replicate (LINE_BYTES + 1) 0
 abbrev pub named_line : ℕ → ℕ → List ℕ → CrewEntry
 named_line place number text = record { operator = place + 1; number = number; line = text }
 
-abbrev pub said_by : ℕ → ℕ → Sent → List CrewEntry
-said_by place number (Line l) = named_line place number (text_in l) ∷ []
-said_by place number LongLine = named_line place number long_line ∷ []
-said_by place number End = []
-said_by place number ReadFault = []
-said_by place number InputTooLong = []
+abbrev pub entries_of : ℕ → ℕ → Sent → List CrewEntry
+entries_of place number (Line l) = named_line place number (text_in l) ∷ []
+entries_of place number LongLine = named_line place number long_line ∷ []
+entries_of place number End = []
+entries_of place number ReadFault = []
+entries_of place number InputTooLong = []
 
 -- the entries of the transcript
 abbrev pub said : List Entry → List CrewEntry
-said entries = flat_map (λ (e : Entry). said_by e.place e.number e.sent) entries
+said entries = flat_map (λ (e : Entry). entries_of e.place e.number e.sent) entries
 
 -- The name of a line was written and the line done and answered, or a prefix of the name was written.
 pub record NamedAnswer {K : Type 0} (holds : K → Option (List ℕ)) (faults wants : K → ℕ) (sink sink' : K) (result : Result Bool SinkFault)
@@ -106,7 +106,7 @@ Marked e before after = (k : ℕ) → slice_get after k ≡ Some true → (slice
     ((e.place ≡ k) × (is_last e.sent ≡ true))
 
 -- one entry was popped and answered
-pub record TookOne (v w : View) (held held' : Option (List ℕ)) (console console' : Kept) (tally tally' : Tally)
+pub record NextEntry (v w : View) (held held' : Option (List ℕ)) (console console' : Kept) (tally tally' : Tally)
     (output output' : Option SinkFault) (ended ended' : List Bool) : Type 0 where
   pub entry : Entry
   pub takes : Takes v entry w

@@ -35,8 +35,8 @@ use Rattle.lx_crew.specs.declared.entry.Entry.{Entry}
 use Rattle.lx_crew.specs.declared.entry.LineText.{LineText}
 use Rattle.lx_crew.specs.declared.entry.Sent.TheVariants.{Line, LongLine}
 use Rattle.lx_crew.specs.Entries.{text_in}
-use Rattle.lx_crew.specs.Answering.{long_line, named_line, said_by, said, NamedAnswer, AnswersNamed, AreAbove, IsDone, AnsweredAll}
-use Rattle.lx_crew.specs.Answering.{AnsweredPart, HasAnswered}
+use Rattle.lx_crew.specs.EngineAnswers.{long_line, named_line, entries_of, said, NamedAnswer, AnswersNamed, AreAbove, IsDone, AnsweredAll}
+use Rattle.lx_crew.specs.EngineAnswers.{AnsweredPart, HasAnswered}
 
 abbrev quiet : List Command → Type 0
 quiet commands = Unit {0}
@@ -101,11 +101,11 @@ done_edits d entries places now done =
     subst (λ ps. CrewPlacesAreEdits d entries ps) (append-nil places) (done.edits [] (nothing_above now.attempts))
 
 -- What is said of one more.
-said_more : (popped : List Entry) (e : Entry) (more : List CrewEntry) → said_by e.place e.number e.sent ≡ more
+said_more : (popped : List Entry) (e : Entry) (more : List CrewEntry) → entries_of e.place e.number e.sent ≡ more
     → said (popped ++ e ∷ []) ≡ said popped ++ more
 said_more popped e more is =
-    flat_map-append (λ (x : Entry). said_by x.place x.number x.sent) popped (e ∷ [])
-    ∙ ap (λ (l : List CrewEntry). said popped ++ l) (append-nil (said_by e.place e.number e.sent) ∙ is)
+    flat_map-append (λ (x : Entry). entries_of x.place x.number x.sent) popped (e ∷ [])
+    ∙ ap (λ (l : List CrewEntry). said popped ++ l) (append-nil (entries_of e.place e.number e.sent) ∙ is)
 
 pub answered_none : (d : Desk) (h : Option (List ℕ)) (console : Kept) (tally : Tally) → StandsFor d console
     → counts_in tally ≡ record { ok = 0; refused = 0; bad = 0 } → AnsweredAll d [] h h console tally
@@ -119,7 +119,7 @@ front_of a b front rest text is p = AppendsFront-from a b text (length front)
 -- one more line was answered
 answered_line : {K : Type 0} (holds : K → Option (List ℕ)) (faults wants : K → ℕ) (sink sink' : K) (b : Bool) (d : Desk)
     (popped : List Entry) (start : Option (List ℕ)) (console console' : Kept) (tally tally' : Tally) (entry : Entry) (e : CrewEntry)
-    → (a : AnsweredAll d popped start (holds sink) console tally) → said_by entry.place entry.number entry.sent ≡ e ∷ []
+    → (a : AnsweredAll d popped start (holds sink) console tally) → entries_of entry.place entry.number entry.sent ≡ e ∷ []
     → NamedAnswer holds faults wants sink sink' (Ok b) a.now (op_text e) (line_of e.line) console' tally'
     → AnsweredAll d (popped ++ entry ∷ []) start (holds sink') console' tally'
 answered_line holds faults wants sink sink' b d popped start console console' tally tally' entry e a is m =
@@ -140,7 +140,7 @@ answered_line holds faults wants sink sink' b d popped start console console' ta
 -- or a prefix of its reply was written
 answered_front : {K : Type 0} (holds : K → Option (List ℕ)) (faults wants : K → ℕ) (sink sink' : K) (f : SinkFault) (d : Desk)
     (popped : List Entry) (start : Option (List ℕ)) (console console' : Kept) (tally tally' : Tally) (entry : Entry) (e : CrewEntry)
-    → (a : AnsweredAll d popped start (holds sink) console tally) → said_by entry.place entry.number entry.sent ≡ e ∷ []
+    → (a : AnsweredAll d popped start (holds sink) console tally) → entries_of entry.place entry.number entry.sent ≡ e ∷ []
     → NamedAnswer holds faults wants sink sink' (Err f) a.now (op_text e) (line_of e.line) console' tally'
     → AnsweredPart d (popped ++ entry ∷ []) start (holds sink')
 answered_front holds faults wants sink sink' f d popped start console console' tally tally' entry e a is m =
@@ -168,7 +168,7 @@ answered_front holds faults wants sink sink' f d popped start console console' t
 
 -- or a prefix of its name
 answered_name : (d : Desk) (popped : List Entry) (start h h' : Option (List ℕ)) (console : Kept) (tally : Tally) (entry : Entry)
-    (e : CrewEntry) → AnsweredAll d popped start h console tally → said_by entry.place entry.number entry.sent ≡ e ∷ []
+    (e : CrewEntry) → AnsweredAll d popped start h console tally → entries_of entry.place entry.number entry.sent ≡ e ∷ []
     → AppendsFront h h' (op_text e) → AnsweredPart d (popped ++ entry ∷ []) start h'
 answered_name d popped start h h' console tally entry e a is name =
     let here = done_is d (said popped) a.places a.now a.done in
@@ -225,28 +225,28 @@ answered_so_far d popped start h console tally a = record {
 -- An entry has a line, which is given or, being too long, isn't.
 pub record IsSaid (entry : Entry) (given : Option (List ℕ)) : Type 0 where
   pub line : List ℕ
-  pub said : said_by entry.place entry.number entry.sent ≡ named_line entry.place entry.number line ∷ []
+  pub said : entries_of entry.place entry.number entry.sent ≡ named_line entry.place entry.number line ∷ []
   pub means : meaning_of given ≡ line_of line
 
 pub said_text : (entry : Entry) (l : LineText) (given : Option (List ℕ)) → entry.sent ≡ Line l → given ≡ Some (text_in l)
     → IsSaid entry given
 said_text entry l given is text = record {
   line = text_in l;
-  said = ap (said_by entry.place entry.number) is;
+  said = ap (entries_of entry.place entry.number) is;
   means = ap meaning_of text;
 }
 
 pub said_long : (entry : Entry) (given : Option (List ℕ)) → entry.sent ≡ LongLine → given ≡ None → IsSaid entry given
 said_long entry given is none = record {
   line = long_line;
-  said = ap (said_by entry.place entry.number) is;
+  said = ap (entries_of entry.place entry.number) is;
   means = ap meaning_of none ∙ sym long_means;
 }
 
 answered_by : {K : Type 0} (holds : K → Option (List ℕ)) (faults wants : K → ℕ) (sink sink' : K) (result : Result Bool SinkFault)
     (d : Desk) (popped : List Entry) (start : Option (List ℕ)) (console console' : Kept) (tally tally' : Tally) (entry : Entry)
     (e : CrewEntry) → (a : AnsweredAll d popped start (holds sink) console tally)
-    → said_by entry.place entry.number entry.sent ≡ e ∷ []
+    → entries_of entry.place entry.number entry.sent ≡ e ∷ []
     → AnswersNamed holds faults wants sink sink' result a.now (op_text e) (line_of e.line) console' tally'
     → HasAnswered d (popped ++ entry ∷ []) start (holds sink') console' tally' (result_err result)
 answered_by holds faults wants sink sink' (Ok b) d popped start console console' tally tally' entry e a is (inl cut) =

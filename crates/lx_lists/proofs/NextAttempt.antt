@@ -19,8 +19,8 @@ use Rattle.lx_session.specs.Attempts.{Attempted, heard_of}
 use Rattle.lx_session.specs.LineState.{LineState, next_of, unattempted}
 use Rattle.lx_session.specs.LineProgress.{LineProgress}
 use Rattle.lx_session.proofs.AttemptSteps.{begun, attempted}
-use Rattle.lx_lists.specs.Standing.{TwoKept, TwoStand, TakesStep, WantsMemory}
-use Rattle.lx_lists.specs.Ticked.{TicksReach, Stays}
+use Rattle.lx_lists.specs.TwoListsMeaning.{TwoKept, TwoStand, TakesStep, WantsMemory}
+use Rattle.lx_lists.specs.OtherList.{TicksReach, Stays}
 
 -- A command that is answered so was attempted.
 pub tick_attempted : {A : Type 0} (d : Desk) (answer : Result A Refusal) (before now : Kept) → StandsFor d before

@@ -9,7 +9,7 @@ use Rattle.lx_spec.specs.Undo.{UndoState}
 use Rattle.lx_spec.specs.UndoSession.{undo_fault_text, after_asking, MayWantAsked}
 use Rattle.lx_undo.specs.declared.asked.Denial.{Denial}
 use Rattle.lx_undo.specs.declared.asked.Denial.TheVariants as denials
-use Rattle.lx_undo.specs.Standing.{UndoKept, UndoStands}
+use Rattle.lx_undo.specs.UndoDeskMeaning.{UndoKept, UndoStands}
 
 abbrev pub denial_text : Denial → List ℕ
 denial_text (denials.History fault) = undo_fault_text fault

@@ -15,7 +15,7 @@ use Rattle.lx_session.proofs.HeardLines.{meaning_is}
 use Rattle.lx_crew.specs.declared.entry.Entry.{Entry}
 use Rattle.lx_crew.specs.declared.entry.Sent.{Sent}
 use Rattle.lx_crew.specs.declared.entry.Sent.TheVariants.{Line, LongLine, End, ReadFault, InputTooLong}
-use Rattle.lx_crew.specs.Answering.{long_line, named_line, said_by, said}
+use Rattle.lx_crew.specs.EngineAnswers.{long_line, named_line, entries_of, said}
 use Rattle.lx_crew.specs.Entries.{of_place, is_last, HasText, HaveLines}
 use Rattle.lx_spec.specs.CrewText.{of_operator, numbered_from, Merged, MergedSoFar}
 use Rattle.std.proofs.lemmas.List.{length-replicate}
@@ -54,7 +54,7 @@ same_text text other places s place number is = ap (after_meaning places (named 
 same_by : (lines : ℕ → List (List ℕ)) (places : List ℕ) (s : Session) (place number : ℕ) (sent : Sent) (rest rest' : List CrewEntry)
     → (is_last sent ≡ false → HasText sent (line_at lines place number))
     → ((t : Session) → fold (after_entry places) t rest ≡ fold (after_entry places) t rest')
-    → fold (after_entry places) s (said_by place number sent ++ rest) ≡ fold (after_entry places) s
+    → fold (after_entry places) s (entries_of place number sent ++ rest) ≡ fold (after_entry places) s
     (true_by lines place number sent ++ rest')
 same_by lines places s place number (Line l) rest rest' t h =
     ap (λ text. fold (after_entry places) (after_entry places s (named_line place number text)) rest) (t refl)
@@ -77,7 +77,7 @@ same_session lines places (e ∷ es) s all =
 edits_by : (lines : ℕ → List (List ℕ)) (places : List ℕ) (s : Session) (place number : ℕ) (sent : Sent) (rest rest' : List CrewEntry)
     → (is_last sent ≡ false → HasText sent (line_at lines place number))
     → ((t : Session) → EntriesWantAtEdits places t rest → EntriesWantAtEdits places t rest')
-    → EntriesWantAtEdits places s (said_by place number sent ++ rest) → EntriesWantAtEdits places s
+    → EntriesWantAtEdits places s (entries_of place number sent ++ rest) → EntriesWantAtEdits places s
     (true_by lines place number sent ++ rest')
 edits_by lines places s place number (Line l) rest rest' t h w =
     let u = subst (λ text. EntriesWantAtEdits places s (named_line place number text ∷ rest)) (t refl) w in

@@ -33,9 +33,9 @@ use Rattle.lx_session.proofs.AnsweredLines.{answered}
 use Rattle.lx_session.proofs.AttemptSteps.{last}
 use Rattle.lx_session.proofs.HeardLines.{meaning_is}
 use Rattle.lx_undo.specs.declared.asked.Denial.{Denial}
-use Rattle.lx_undo.specs.Asked.{HasAsked, denial_text, answer_text, counted}
-use Rattle.lx_undo.specs.Reached.{reached, HasReached}
-use Rattle.lx_undo.specs.Standing.{UndoKept, UndoStands}
+use Rattle.lx_undo.specs.HistoryLines.{HasAsked, denial_text, answer_text, counted}
+use Rattle.lx_undo.specs.CommandProgress.{reached, HasReached}
+use Rattle.lx_undo.specs.UndoDeskMeaning.{UndoKept, UndoStands}
 
 -- the plain session's state, with the history
 plain_is : (s : UndoState) (t : Session) (done : List Command) → t.accepted ≡ done → t.desk ≡ after_commands s.desk done

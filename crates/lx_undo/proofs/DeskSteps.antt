@@ -14,7 +14,7 @@ use Rattle.lx_spec.specs.RefusedPlaces.{is_edit}
 use Rattle.lx_spec.specs.Undo.{UndoState, replaced, undo_step}
 use Rattle.lx_console.specs.Standing.{StandsFor, Answers, Refuses}
 use Rattle.lx_undo.specs.Shows.{KeptPlans}
-use Rattle.lx_undo.specs.Standing.{UndoKept, UndoStands, TakesStep, WantsMemory, seen}
+use Rattle.lx_undo.specs.UndoDeskMeaning.{UndoKept, UndoStands, TakesStep, WantsMemory, seen}
 
 -- the same shows are kept
 pub record SameShows (before now : UndoKept) : Type 0 where

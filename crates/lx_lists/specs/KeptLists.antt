@@ -9,7 +9,7 @@ use Rattle.lx_console.specs.declared.change.Change.{Change}
 use Rattle.lx_console.specs.Changes.{Changes}
 use Rattle.lx_console.specs.Filled.{Reaches, SlotsStand}
 use Rattle.lx_lists.specs.declared.output.Output.{Output}
-use Rattle.lx_lists.specs.Standing.{TwoKept, TwoStand, out_of_both}
+use Rattle.lx_lists.specs.TwoListsMeaning.{TwoKept, TwoStand, out_of_both}
 
 -- a place for each channel and for each dimmer
 pub record HasRoom (show : Show) (output : Output) : Type 0 where
@@ -31,7 +31,7 @@ pub record WasFilled (change : Change) (t : TwoKept) (output : Output) : Type 0 
   pub changes : Changes change before t.first
 
 -- The players stand for two desks at the same moment, over shows of the same channels, and the output is filled in.
-pub record IsKept (t : TwoKept) (output : Output) : Type 0 where
+pub record AreKept (t : TwoKept) (output : Output) : Type 0 where
   pub desks : TwoDesks
   pub stand : TwoStand desks t
   pub moments : t.second.playback.moment ≡ t.first.playback.moment

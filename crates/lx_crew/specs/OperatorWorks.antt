@@ -5,7 +5,7 @@ use Rattle.lx_crew.specs.declared.entry.Entry.{Entry}
 use Rattle.lx_crew.specs.declared.rule.View.{View}
 use Rattle.lx_crew.specs.declared.operator.Operator.{Operator}
 use Rattle.lx_crew.specs.Rule.{operator_view}
-use Rattle.lx_crew.specs.Sending.{HasSent}
+use Rattle.lx_crew.specs.SentLines.{HasSent}
 
 -- the elements of a list, each at its place
 abbrev pub EachAt : {A : Type 0} → (ℕ → A → Type 0) → List A → Type 0

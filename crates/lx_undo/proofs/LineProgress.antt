@@ -22,8 +22,8 @@ use Rattle.lx_session.specs.Attempts.{after_commands}
 use Rattle.lx_session.specs.LineState.{LineState, next_of, unattempted}
 use Rattle.lx_session.specs.LineProgress.{LineProgress}
 use Rattle.lx_session.proofs.AttemptSteps.{begun, next_is, attempted_at}
-use Rattle.lx_undo.specs.Standing.{UndoKept, UndoStands, TakesStep, WantsMemory}
-use Rattle.lx_undo.specs.Reached.{reached, HasReached}
+use Rattle.lx_undo.specs.UndoDeskMeaning.{UndoKept, UndoStands, TakesStep, WantsMemory}
+use Rattle.lx_undo.specs.CommandProgress.{reached, HasReached}
 
 -- an edit is the one command of its line
 one_edit : (meaning : Option Line) (c : Command) → command_of meaning ≡ Some c → is_edit c ≡ true → count_of meaning ≤ 1

@@ -5,7 +5,7 @@ use Rattle.lx_spec.specs.declared.Command.{Command}
 use Rattle.lx_spec.specs.RefusedPlaces.{is_edit}
 use Rattle.lx_spec.specs.Undo.{UndoState, replaced}
 use Rattle.lx_session.specs.Attempts.{after_commands}
-use Rattle.lx_undo.specs.Standing.{UndoKept, UndoStands}
+use Rattle.lx_undo.specs.UndoDeskMeaning.{UndoKept, UndoStands}
 
 -- the state after commands of one line, of which an edit is alone
 abbrev pub reached : UndoState → List Command → UndoState
