@@ -1,3 +1,3 @@
 mod JobWords
 mod DashedWords
-mod WordsTaken
+mod ArgumentValues
