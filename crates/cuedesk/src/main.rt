@@ -53,23 +53,29 @@ fn main(rt: HostRuntime) -> ExitCode {
     let mut input = StdSource::new(rt.stdin());
     let mut output = BufferedSink::new(StdSink::new(rt.stdout()));
     let status = match desk(rt.alloc(), &words, &mut input, &mut output) {
-        Status::Live if names_crew(rt.alloc(), &words) => desk_crew(
-            &rt,
-            rt.alloc(),
-            &words,
-            &mut input,
-            &mut output,
-            &mut scripts(&rt, rt.alloc()),
-        ),
-        Status::Live => desk_live(
-            &rt,
-            rt.alloc(),
-            &words,
-            &mut input,
-            &mut output,
-            &mut files(&rt, rt.alloc()),
-            &DeskPace::new(&rt),
-        ),
+        Status::Live if names_crew(rt.alloc(), &words) => {
+            let mut operators = scripts(&rt, rt.alloc());
+            desk_crew(
+                &rt,
+                rt.alloc(),
+                &words,
+                &mut input,
+                &mut output,
+                &mut operators,
+            )
+        }
+        Status::Live => {
+            let mut outlets = files(&rt, rt.alloc());
+            desk_live(
+                &rt,
+                rt.alloc(),
+                &words,
+                &mut input,
+                &mut output,
+                &mut outlets,
+                &DeskPace::new(&rt),
+            )
+        }
         done => done,
     };
     // What was answered before a fault is handed on as far as it can be.
