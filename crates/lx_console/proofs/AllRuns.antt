@@ -15,7 +15,7 @@ use Rattle.lx_spec.specs.Laws.{KeepsRest}
 use Rattle.lx_spec.proofs.Rest.{level-rest}
 use Rattle.lx_mixer.specs.Table.{IsTable}
 use Rattle.lx_console.specs.Slots.{universe}
-use Rattle.lx_console.specs.Standing.{StandsFor, level_now, out_now}
+use Rattle.lx_console.specs.ConsoleMeaning.{StandsFor, level_now, out_now}
 
 -- the live runs over the base give the level that all runs give
 pub over_all : (d : Desk) → KeepsRest d → (c : ℕ) → level_now (kept d) c ≡ level d.show 0 d.all c d.playback.moment

@@ -16,14 +16,14 @@ use Rattle.lx_spec.proofs.Comparisons.{lt_from}
 use Rattle.lx_spec.proofs.Lists.{found_has, passes}
 use Rattle.lx_spec.proofs.SortedLists.{entry_at-placed_other}
 use Rattle.lx_edit.specs.declared.plans.Plan.{Plan}
-use Rattle.lx_edit.specs.Changing.{IsPast}
-use Rattle.lx_edit.specs.Planned.{IsReady, planned}
+use Rattle.lx_edit.specs.CueChanges.{IsPast}
+use Rattle.lx_edit.specs.PlanMeaning.{IsReady, planned}
 use Rattle.lx_edit.proofs.ChangedColumns.{alike_past}
 use Rattle.lx_edit.proofs.Walks.{tracked_below-with_cue}
 use Rattle.lx_levels.specs.Stacks.{Kept as Levels}
-use Rattle.lx_levels.specs.Standing.{LevelsStandFor, StandsAt}
-use Rattle.lx_levels.specs.Timed.{timed_over}
-use Rattle.lx_console.specs.Unseen.{PlacesCue, IsApart, IsUnseen, IsFrom, decided_by}
+use Rattle.lx_levels.specs.LevelsMeaning.{LevelsStandFor, StandsAt}
+use Rattle.lx_levels.specs.TimedFades.{timed_over}
+use Rattle.lx_console.specs.UnseenEdits.{PlacesCue, IsApart, IsUnseen, IsFrom, decided_by}
 
 -- a run of no use
 abbrev pub no_run : Run

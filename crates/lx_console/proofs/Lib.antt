@@ -1,9 +1,9 @@
-pub mod Filling
-pub mod Touched
-pub mod Changed
+pub mod KeptOutputs
+pub mod EditEffects
+pub mod OutputChanges
 pub mod TakenRows
 pub mod AllRuns
-pub mod Obeying
-pub mod Played
+pub mod Obedience
+pub mod RunChanges
 pub mod PassedTicks
 pub mod Apart

@@ -10,8 +10,8 @@ use Rattle.lx_spec.specs.Desk.{Desk, step, after_play}
 use Rattle.lx_spec.specs.Kept.{Kept, kept}
 use Rattle.lx_spec.specs.Laws.{KeepsRest}
 use Rattle.lx_spec.proofs.RestKept.{kept-step}
-use Rattle.lx_playback.specs.Passed.{TicksPass, later}
-use Rattle.lx_console.specs.Standing.{StandsFor}
+use Rattle.lx_playback.specs.QuietTicks.{TicksPass, later}
+use Rattle.lx_console.specs.ConsoleMeaning.{StandsFor}
 use Rattle.lx_console.specs.Ticks.{after_ticks}
 
 -- the console at a later moment

@@ -5,7 +5,7 @@ use Rattle.lx_spec.specs.Output.{contribution}
 use Rattle.lx_spec.specs.Kept.{Kept}
 use Rattle.lx_console.specs.declared.change.Change.{Change}
 use Rattle.lx_console.specs.declared.change.Change.TheVariants.{Nothing, Levels, Row}
-use Rattle.lx_console.specs.Standing.{level_now}
+use Rattle.lx_console.specs.ConsoleMeaning.{level_now}
 
 -- the same channels, and the same rows of the patch
 pub record SamePatch (before after : Kept) : Type 0 where

@@ -5,7 +5,7 @@ use Rattle.lx_spec.specs.declared.Refusal.{Refusal}
 use Rattle.lx_spec.specs.Show.{Show}
 use Rattle.lx_spec.specs.Desk.{replay}
 use Rattle.lx_spec.specs.Kept.{Kept, kept}
-use Rattle.lx_console.specs.Standing.{StandsFor, Obeys, Answers}
+use Rattle.lx_console.specs.ConsoleMeaning.{StandsFor, Obeys, Answers}
 
 -- A console that is all of a replayed desk but its list of runs stands for it. Where it obeys one more command, and a refusal leaves it
 -- unchanged, it stands for the replay of the commands with this one. Where it answers a command, it does so if the command is accepted, and

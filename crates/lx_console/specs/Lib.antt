@@ -1,8 +1,8 @@
 pub mod Slots
-pub mod Standing
+pub mod ConsoleMeaning
 pub mod Changes
-pub mod Filled
+pub mod KeptOutput
 pub mod Laws
-pub mod Played
+pub mod RunChanges
 pub mod Ticks
-pub mod Unseen
+pub mod UnseenEdits

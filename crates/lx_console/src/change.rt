@@ -2,7 +2,7 @@
 
 ghost use Rattle.std.specs.Prelude.{◌≡◌};
 ghost use Rattle.lx_console.specs.Changes.{is_nothing, of_levels};
-ghost use Rattle.lx_console.specs.Filled.{IsChangeOf};
+ghost use Rattle.lx_console.specs.KeptOutput.{IsChangeOf};
 
 use lx_base::Dimmer;
 use lx_edit::Dirty;

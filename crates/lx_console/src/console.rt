@@ -11,11 +11,11 @@ ghost use Rattle.lx_spec.specs.Replies.{row_of};
 ghost use Rattle.lx_spec.specs.ValidEdit.{ValidCommand};
 ghost use Rattle.lx_spec.specs.Output.{dimmer_value, fader, frame};
 ghost use Rattle.lx_spec.specs.Desk.{Desk, opened};
-ghost use Rattle.lx_edit.specs.Planned.{IsReady, planned};
+ghost use Rattle.lx_edit.specs.PlanMeaning.{IsReady, planned};
 ghost use Rattle.lx_edit.specs.Undone.{TakesBack};
 ghost use Rattle.lx_mixer.specs.Table.{IsTable};
 ghost use Rattle.lx_console.specs.Slots.{universe};
-ghost use Rattle.lx_console.specs.Standing.{StandsFor, Obeys, Answers, level_now, out_now};
+ghost use Rattle.lx_console.specs.ConsoleMeaning.{StandsFor, Obeys, Answers, level_now, out_now};
 ghost use Rattle.lx_console.specs.Ticks.{after_ticks};
 
 use crate::player::{Applied, Player};
@@ -43,7 +43,7 @@ pub struct Console {
 
 impl Model for Console {
     ghost use Rattle.lx_spec.specs.Kept.{Kept};
-    ghost use Rattle.lx_console.specs.Filled.{IsFilled};
+    ghost use Rattle.lx_console.specs.KeptOutput.{IsFilled};
 
     ghost Value = { Kept };
 

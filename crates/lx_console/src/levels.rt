@@ -2,11 +2,11 @@
 
 ghost use Rattle.std.specs.Prelude.{◌≡◌, ℕ, ◌+◌, ◌<◌, ◌≤◌, [], true, false, length, is_some, IsTrue};
 ghost use Rattle.lx_base.specs.declared.TheConstants.{CHANNELS};
-ghost use Rattle.lx_sheet.specs.Standing.{RowsStandFor};
+ghost use Rattle.lx_sheet.specs.SheetMeaning.{RowsStandFor};
 ghost use Rattle.lx_edit.specs.ChanSet.{has_chan};
 ghost use Rattle.lx_levels.specs.Stacks.{level_at};
-ghost use Rattle.lx_levels.specs.Standing.{LevelsStandFor, StandsAt, StandsBefore};
-ghost use Rattle.lx_console.specs.Played.{IsTicked};
+ghost use Rattle.lx_levels.specs.LevelsMeaning.{LevelsStandFor, StandsAt, StandsBefore};
+ghost use Rattle.lx_console.specs.RunChanges.{IsTicked};
 
 use lx_base::{CHANNELS, Chan};
 use lx_edit::ChanSet;

@@ -14,12 +14,12 @@ ghost use Rattle.lx_spec.specs.ValidEdit.{ValidEdit, ValidCommand};
 ghost use Rattle.lx_spec.specs.Output.{contribution, fader};
 ghost use Rattle.lx_spec.specs.Desk.{Desk, opened};
 ghost use Rattle.lx_spec.specs.TwoLists.{is_tick};
-ghost use Rattle.lx_edit.specs.Planned.{IsReady, IsRefusal, planned};
+ghost use Rattle.lx_edit.specs.PlanMeaning.{IsReady, IsRefusal, planned};
 ghost use Rattle.lx_edit.specs.Undone.{TakesBack};
 ghost use Rattle.lx_mixer.specs.Table.{IsTable};
 ghost use Rattle.lx_subs.specs.Faders.{StandsForSubs};
 ghost use Rattle.lx_console.specs.Changes.{Changes};
-ghost use Rattle.lx_console.specs.Standing.{StandsFor, Obeys, Answers, level_now};
+ghost use Rattle.lx_console.specs.ConsoleMeaning.{StandsFor, Obeys, Answers, level_now};
 ghost use Rattle.lx_console.specs.Ticks.{after_ticks};
 
 use crate::change::Change;
@@ -61,7 +61,7 @@ pub struct Player {
 
 impl Model for Player {
     ghost use Rattle.lx_spec.specs.Kept.{Kept};
-    ghost use Rattle.lx_console.specs.Filled.{IsKept};
+    ghost use Rattle.lx_console.specs.KeptOutput.{IsKept};
 
     ghost Value = { Kept };
 

@@ -2,7 +2,7 @@
 
 ghost use Rattle.std.specs.Prelude.{◌≡◌, length, IfOk};
 ghost use Rattle.lx_patch.specs.DimmerTable.{StandsForPatch};
-ghost use Rattle.lx_console.specs.Filled.{Reaches, SlotsStand, IsMixed, IsFilled, WasFilled, IsPatchedBut};
+ghost use Rattle.lx_console.specs.KeptOutput.{Reaches, SlotsStand, IsMixed, IsFilled, WasFilled, IsPatchedBut};
 
 use crate::change::Change;
 use crate::player::Player;

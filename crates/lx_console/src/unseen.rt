@@ -6,8 +6,8 @@ ghost use Rattle.std.specs.List.{All};
 ghost use Rattle.lx_spec.specs.Show.{Show as ShowData, Valid, InRange};
 ghost use Rattle.lx_spec.specs.TrackedLevel.{decides};
 ghost use Rattle.lx_edit.specs.ChanSet.{has_chan};
-ghost use Rattle.lx_edit.specs.Planned.{IsReady, planned};
-ghost use Rattle.lx_console.specs.Unseen.{IsUnseen, IsFrom, PlacesCue, decided_by};
+ghost use Rattle.lx_edit.specs.PlanMeaning.{IsReady, planned};
+ghost use Rattle.lx_console.specs.UnseenEdits.{IsUnseen, IsFrom, PlacesCue, decided_by};
 
 use crate::levels::channel_at;
 use lx_base::{Chan, CueNo};

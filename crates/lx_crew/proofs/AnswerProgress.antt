@@ -22,7 +22,7 @@ use Rattle.lx_spec.specs.Desk.{Desk}
 use Rattle.lx_spec.specs.Kept.{Kept}
 use Rattle.lx_spec.specs.Script.{line_of}
 use Rattle.lx_spec.specs.Session.{Session, begin_at}
-use Rattle.lx_console.specs.Standing.{StandsFor}
+use Rattle.lx_console.specs.ConsoleMeaning.{StandsFor}
 use Rattle.lx_session.specs.declared.tally.Tally.{Tally}
 use Rattle.lx_session.specs.Attempts.{WantsLast}
 use Rattle.lx_session.specs.LineAnswer.{GoesOn, FromDesk}

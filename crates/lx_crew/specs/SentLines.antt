@@ -5,7 +5,7 @@ use Rattle.lx_io.specs.Causes.{Rose}
 use Rattle.lx_lex.specs.declared.lines.Lines.{Lines}
 use Rattle.lx_lex.specs.declared.lines.Step.TheVariants as steps
 use Rattle.lx_lex.specs.CutOff.{NotTaken}
-use Rattle.lx_lex.specs.Handed.{HandedOut}
+use Rattle.lx_lex.specs.LinesHandedOut.{HandedOut}
 use Rattle.lx_lex.specs.Lines.{StepOf}
 use Rattle.lx_lex.specs.Unread.{unread, line_of}
 use Rattle.lx_spec.specs.Text.{without_cr}

@@ -5,7 +5,7 @@ use Rattle.lx_io.specs.Puts.{AppendsFront}
 use Rattle.lx_spec.specs.CrewText.{CrewEntry, Merged, MergedSoFar, crew_session, crew_text, CrewPlacesAreEdits}
 use Rattle.lx_spec.specs.Desk.{Desk}
 use Rattle.lx_spec.specs.Kept.{Kept}
-use Rattle.lx_console.specs.Standing.{StandsFor}
+use Rattle.lx_console.specs.ConsoleMeaning.{StandsFor}
 use Rattle.lx_session.specs.declared.tally.Tally.{Tally}
 use Rattle.lx_session.specs.LineReply.{counts_in}
 

@@ -5,7 +5,7 @@ ghost use Rattle.std.specs.Prelude.{IfOk, OnErr, IsSome, vec_len, vec_capacity};
 ghost use Rattle.std.specs.List.{All, AllZip};
 ghost use Rattle.crossbeam_queue.specs.Passes.{view, IsPassOf, IsSamePass};
 ghost use Rattle.lx_spec.specs.Desk.{Desk};
-ghost use Rattle.lx_console.specs.Standing.{StandsFor};
+ghost use Rattle.lx_console.specs.ConsoleMeaning.{StandsFor};
 ghost use Rattle.lx_base.specs.declared.TheConstants.{OPERATORS};
 ghost use Rattle.lx_crew.specs.Rule.{engine_view};
 ghost use Rattle.lx_crew.specs.EngineAnswers.{HasServed, OutputCause};

@@ -23,7 +23,7 @@ use Rattle.lx_spec.specs.Reading.{Reading, reads, script_of}
 use Rattle.lx_spec.specs.FaultLine.{over_show, fault_text}
 use Rattle.lx_spec.specs.RenderOutput.{rendered, OutputPlacesAreEdits}
 use Rattle.lx_spec.specs.MakeOutput.{made_input, made_text, make_output}
-use Rattle.lx_console.specs.Standing.{StandsFor}
+use Rattle.lx_console.specs.ConsoleMeaning.{StandsFor}
 use Rattle.lx_session.specs.declared.fault.SessionFault.{SessionFault}
 use Rattle.lx_session.specs.declared.fault.SessionFault.TheVariants as session_faults
 use Rattle.lx_session.specs.declared.tally.Tally.{Tally}

@@ -7,7 +7,7 @@ use Rattle.lx_session.specs.declared.fault.SessionFault.{SessionFault}
 use Rattle.lx_session.specs.declared.fault.SessionFault.TheVariants as faults
 use Rattle.lx_session.specs.declared.tally.Tally.{Tally}
 use Rattle.lx_session.specs.SessionOutcome.{KeepsLimit}
-use Rattle.lx_session.specs.ScriptAnswered.{AnsweredPrefix, AnsweredTaken, ScriptAnswered}
+use Rattle.lx_session.specs.ScriptAnswer.{AnsweredPrefix, AnsweredTaken, ScriptAnswered}
 use Rattle.lx_session.proofs.ScriptEnds.{front_of_whole, first_of_whole}
 use Rattle.lx_desk.specs.ScriptAnswers.{by_session}
 use Rattle.lx_desk.specs.Faults.{status_for}

@@ -14,7 +14,7 @@ ghost use Rattle.lx_spec.specs.ShowText.{line};
 ghost use Rattle.lx_spec.specs.Desk.{Desk, opened};
 ghost use Rattle.lx_spec.specs.Output.{frame};
 ghost use Rattle.lx_console.specs.Slots.{universe};
-ghost use Rattle.lx_console.specs.Standing.{StandsFor};
+ghost use Rattle.lx_console.specs.ConsoleMeaning.{StandsFor};
 ghost use Rattle.lx_desk.specs.Output.{WritesPrefix};
 ghost use Rattle.lx_desk.specs.Endings.{EndsJob, EndsScript, HasEnded, HasCauseOf};
 ghost use Rattle.lx_desk.specs.Made.{HasTold, TellsInFront, report_of, report_text};

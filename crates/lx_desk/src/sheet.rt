@@ -9,7 +9,7 @@ ghost use Rattle.lx_desk.specs.Endings.{EndsJob, HasEnded, HasCauseOf};
 ghost use Rattle.std.specs.Io.KnownBytes.{Appends};
 ghost use Rattle.lx_io.specs.Puts.{AppendsFront, Puts};
 ghost use Rattle.lx_spec.specs.SheetOutput.{cue_lines};
-ghost use Rattle.lx_sheet.specs.Standing.{RowsStandFor};
+ghost use Rattle.lx_sheet.specs.SheetMeaning.{RowsStandFor};
 
 use crate::desk::Status;
 use crate::refuse::refuse;

@@ -16,8 +16,8 @@ use Rattle.lx_show.specs.Around.{entries_up_to}
 use Rattle.lx_sheet.proofs.Past.{tracked_past}
 use Rattle.lx_edit.specs.declared.chan_set.ChanSet.{ChanSet}
 use Rattle.lx_edit.specs.ChanSet.{has_chan}
-use Rattle.lx_edit.specs.Changing.{move_by, is_block, level_from, SameEntry, SameLevels, Grows, KeepsLevels, IsPast}
-use Rattle.lx_edit.specs.Planned.{KeepsAbove}
+use Rattle.lx_edit.specs.CueChanges.{move_by, is_block, level_from, SameEntry, SameLevels, Grows, KeepsLevels, IsPast}
+use Rattle.lx_edit.specs.PlanMeaning.{KeepsAbove}
 use Rattle.lx_edit.proofs.KeptLevels.{above_placed}
 use Rattle.lx_edit.proofs.Lists.{map_append}
 use Rattle.lx_edit.proofs.Walks.{through, walked, tracked-with_cue, tracked-without_cue, tracked_below-with_cue, tracked_below-without_cue}

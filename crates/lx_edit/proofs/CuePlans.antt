@@ -13,7 +13,7 @@ use Rattle.lx_spec.specs.Show.{Cue, Show, ValidCue, ValidPart, ValidMove, IsTime
 use Rattle.lx_spec.specs.EditedShow.{edited, with_cue, with_time, new_part, without_part, out_of_part}
 use Rattle.lx_edit.specs.Found.{FoundCue}
 use Rattle.lx_edit.specs.declared.plans.Plan.TheVariants.{PlaceCue}
-use Rattle.lx_edit.specs.Planned.{CanPlace, IsPlan, dimmer_edited, edits_sub}
+use Rattle.lx_edit.specs.PlanMeaning.{CanPlace, IsPlan, dimmer_edited, edits_sub}
 use Rattle.lx_spec.proofs.Lists.{find_in_filter, kept_by}
 use Rattle.lx_spec.proofs.SortedLists.{IsStrictlySorted-filter, IsStrictlySorted-map, found_valid}
 

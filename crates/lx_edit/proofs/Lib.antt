@@ -4,10 +4,10 @@ pub mod CueLevels
 pub mod ChanBits
 pub mod Walks
 pub mod KeptLevels
-pub mod Marked
+pub mod MoveMarks
 pub mod ChangedColumns
 pub mod KeptRows
-pub mod Asserted
+pub mod AssertedCues
 pub mod SameLists
 pub mod TakenBack
 pub mod NothingKept

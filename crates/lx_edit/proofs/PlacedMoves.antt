@@ -17,11 +17,11 @@ use Rattle.lx_spec.proofs.SortedLists.{entry_at-placed_here, entry_at-placed_oth
 use Rattle.lx_edit.specs.declared.chan_set.ChanSet.{ChanSet}
 use Rattle.lx_edit.specs.declared.plans.Plan.TheVariants.{PlaceMove, PlaceMoves}
 use Rattle.lx_edit.specs.ChanSet.{has_chan}
-use Rattle.lx_edit.specs.Changing.{SameEntry}
+use Rattle.lx_edit.specs.CueChanges.{SameEntry}
 use Rattle.lx_edit.specs.Found.{FoundCue, GivenPart, IsWithin}
-use Rattle.lx_edit.specs.Planned.{with_move, with_move_in, with_moves_in, CanMove, CanReplace, IsPlan, SameOutside}
+use Rattle.lx_edit.specs.PlanMeaning.{with_move, with_move_in, with_moves_in, CanMove, CanReplace, IsPlan, SameOutside}
 use Rattle.lx_edit.specs.Undone.{TakesBack}
-use Rattle.lx_edit.proofs.Asserted.{asserts_with}
+use Rattle.lx_edit.proofs.AssertedCues.{asserts_with}
 use Rattle.lx_edit.proofs.CueLevels.{part_there}
 use Rattle.lx_edit.proofs.NothingKept.{nothing_kept}
 use Rattle.lx_edit.proofs.SameLists.{back_from}

@@ -14,7 +14,7 @@ use Rattle.lx_spec.proofs.SortedLists.{below_and_above, entry_at-placed_here, en
 use Rattle.lx_spec.proofs.SortedLists.{length-placed_there, one_between}
 use Rattle.lx_edit.specs.declared.plans.Plan.{Plan}
 use Rattle.lx_edit.specs.Kept.{changed_show}
-use Rattle.lx_edit.specs.Planned.{CanPlace, IsAbove, KeepsAbove, with_above}
+use Rattle.lx_edit.specs.PlanMeaning.{CanPlace, IsAbove, KeepsAbove, with_above}
 use Rattle.lx_edit.specs.Undone.{TakesBack, cue_instead, cue_back, kept_back, group_back, sub_back, row_back}
 use Rattle.lx_edit.proofs.SameLists.{back_from, exchanged, exchanged_here, exchanged_other, both_back}
 

@@ -5,7 +5,7 @@ use Rattle.lx_spec.specs.declared.Move.{Move}
 use Rattle.lx_spec.specs.Show.{Cue, Show, InRange}
 use Rattle.lx_spec.specs.TrackedLevel.{decides, level_in}
 use Rattle.lx_spec.specs.EditedShow.{with_cue, without_cue}
-use Rattle.lx_edit.specs.Planned.{covers}
+use Rattle.lx_edit.specs.PlanMeaning.{covers}
 
 -- the show with the changed cue in its place, or without the cue of the number
 abbrev pub changed_show : Show → ℕ → Option Cue → Show

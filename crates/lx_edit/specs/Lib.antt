@@ -1,6 +1,6 @@
 pub mod Found
-pub mod Planned
+pub mod PlanMeaning
 pub mod Kept
 pub mod ChanSet
-pub mod Changing
+pub mod CueChanges
 pub mod Undone

@@ -6,7 +6,7 @@ use Rattle.lx_spec.specs.TrackedLevel.{cue_of}
 use Rattle.lx_edit.specs.declared.plans.Plan.{Plan}
 use Rattle.lx_edit.specs.declared.plans.Plan.TheVariants.{PlaceCue, PlaceCues, RemoveCue, PlaceGroup, RemoveGroup, PlaceSub, RemoveSub}
 use Rattle.lx_edit.specs.declared.plans.Plan.TheVariants.{PlaceRow, RemoveRow}
-use Rattle.lx_edit.specs.Planned.{planned, IsReady}
+use Rattle.lx_edit.specs.PlanMeaning.{planned, IsReady}
 
 -- the plan may be applied to the show after, and makes the show before of it
 pub record TakesBack (before after : Show) (undo : Plan) : Type 0 where

@@ -6,10 +6,10 @@ ghost use Rattle.lx_spec.specs.Show.{ValidGroup, ValidSub};
 ghost use Rattle.lx_spec.specs.TrackedLevel.{cue_of, tracked};
 ghost use Rattle.lx_spec.specs.EditedShow.{with_cue, without_cue};
 ghost use Rattle.lx_sheet.specs.Rows.{level_of, numbers_of};
-ghost use Rattle.lx_sheet.specs.Standing.{RowsStandFor, StandsIn, cue_numbers};
+ghost use Rattle.lx_sheet.specs.SheetMeaning.{RowsStandFor, StandsIn, cue_numbers};
 ghost use Rattle.lx_edit.specs.ChanSet.{has_chan};
-ghost use Rattle.lx_edit.specs.Changing.{Grows, KeepsLevels, KeepsOthers, IsPast, Replaced};
-ghost use Rattle.lx_edit.specs.Planned.{planned, with_above, CanPlace, KeepsAbove, IsReady, dimmer_planned, plans_sub};
+ghost use Rattle.lx_edit.specs.CueChanges.{Grows, KeepsLevels, KeepsOthers, IsPast, Replaced};
+ghost use Rattle.lx_edit.specs.PlanMeaning.{planned, with_above, CanPlace, KeepsAbove, IsReady, dimmer_planned, plans_sub};
 ghost use Rattle.lx_edit.specs.Undone.{TakesBack, cue_instead};
 
 use crate::absent::channel;

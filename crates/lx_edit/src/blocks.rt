@@ -4,7 +4,7 @@
 ghost use Rattle.std.specs.Prelude.{◌≡◌, ◌-◌, ◌==◌, ◌&&◌, ℕ, not, is_none, IfOk, if◌then◌else◌, Some, None};
 ghost use Rattle.lx_spec.specs.TrackedLevel.{move_in, tracked};
 ghost use Rattle.lx_spec.specs.EditedShow.{moves_for};
-ghost use Rattle.lx_edit.specs.Planned.{Plans};
+ghost use Rattle.lx_edit.specs.PlanMeaning.{Plans};
 
 use crate::absent::{channel, the_cue};
 use crate::moves::{add, with_moves};

@@ -3,7 +3,7 @@
 ghost use Rattle.std.specs.Prelude.{◌≡◌, ◌≢◌, IfSome};
 ghost use Rattle.lx_spec.specs.Show.{IsTime};
 ghost use Rattle.lx_spec.specs.EditedShow.{with_time};
-ghost use Rattle.lx_edit.specs.Planned.{Plans};
+ghost use Rattle.lx_edit.specs.PlanMeaning.{Plans};
 
 use crate::absent::{the_cue, the_part};
 use crate::plans::Plan;

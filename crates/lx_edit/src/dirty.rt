@@ -3,7 +3,7 @@
 ghost use Rattle.std.specs.Prelude.{◌≡◌, ◌≤◌, ℕ, true, false, Some, None};
 ghost use Rattle.lx_base.specs.declared.TheConstants.{CHANNELS};
 ghost use Rattle.lx_edit.specs.ChanSet.{has_chan};
-ghost use Rattle.lx_edit.specs.Changing.{Grows};
+ghost use Rattle.lx_edit.specs.CueChanges.{Grows};
 
 use crate::chan_set::ChanSet;
 use lx_base::Dimmer;

@@ -6,7 +6,7 @@ ghost use Rattle.lx_spec.specs.Show.{ValidCue};
 ghost use Rattle.lx_spec.specs.TrackedLevel.{tracked, cue_above, decides};
 ghost use Rattle.lx_spec.specs.EditedShow.{cue_only, with_cue, with_moves, moves_for};
 ghost use Rattle.lx_edit.specs.Found.{FoundCue};
-ghost use Rattle.lx_edit.specs.Planned.{Plans, PlansCues, CanPlace, IsAbove, KeepsAbove, SameOutside, covers, with_above};
+ghost use Rattle.lx_edit.specs.PlanMeaning.{Plans, PlansCues, CanPlace, IsAbove, KeepsAbove, SameOutside, covers, with_above};
 ghost use Rattle.lx_edit.specs.Kept.{DecidesOutside, changed_show, decided, decided_by};
 
 use crate::absent::{all_channels, channel, the_cue};

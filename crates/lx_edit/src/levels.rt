@@ -5,7 +5,7 @@ ghost use Rattle.lx_spec.specs.TrackedLevel.{cue_above, decides};
 ghost use Rattle.lx_spec.specs.SortedList.{has_entry};
 ghost use Rattle.lx_spec.specs.Show.{ValidCue};
 ghost use Rattle.lx_spec.specs.EditedShow.{part_for, without_moves};
-ghost use Rattle.lx_edit.specs.Planned.{Plans};
+ghost use Rattle.lx_edit.specs.PlanMeaning.{Plans};
 
 use crate::absent::{all_channels, the_channels, the_cue, the_given_part, the_group, the_moves};
 use crate::kept::place;

@@ -6,10 +6,10 @@ ghost use Rattle.lx_base.specs.declared.TheConstants.{CHANNELS};
 ghost use Rattle.lx_spec.specs.SortedList.{IsStrictlySorted, entry_at};
 ghost use Rattle.lx_spec.specs.TrackedLevel.{cue_of, move_in, asserts, tracked};
 ghost use Rattle.lx_sheet.specs.Rows.{level_of};
-ghost use Rattle.lx_sheet.specs.Standing.{RowsStandFor};
+ghost use Rattle.lx_sheet.specs.SheetMeaning.{RowsStandFor};
 ghost use Rattle.lx_edit.specs.ChanSet.{has_chan};
-ghost use Rattle.lx_edit.specs.Planned.{planned, covers, SameOutside};
-ghost use Rattle.lx_edit.specs.Changing.{AreAmong, move_by, moves_in, is_block, SameEntry, Grows};
+ghost use Rattle.lx_edit.specs.PlanMeaning.{planned, covers, SameOutside};
+ghost use Rattle.lx_edit.specs.CueChanges.{AreAmong, move_by, moves_in, is_block, SameEntry, Grows};
 
 use crate::absent::channel;
 use crate::blocks::below;

@@ -4,7 +4,7 @@ ghost use Rattle.std.specs.Prelude.{◌≡◌, ℕ, ◌≤◌, IfOk, OnOk, unwra
 ghost use Rattle.std.specs.List.{AllByRecursion};
 ghost use Rattle.lx_spec.specs.Show.{ValidMembers, ValidGroup, ValidSub};
 ghost use Rattle.lx_spec.specs.EditedShow.{with_members, set_or_new};
-ghost use Rattle.lx_edit.specs.Planned.{Plans};
+ghost use Rattle.lx_edit.specs.PlanMeaning.{Plans};
 
 use crate::absent::the_channels;
 use crate::moves::all_at;

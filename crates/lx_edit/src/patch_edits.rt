@@ -1,6 +1,6 @@
 //! Edits of the patch.
 
-ghost use Rattle.lx_edit.specs.Planned.{Plans};
+ghost use Rattle.lx_edit.specs.PlanMeaning.{Plans};
 
 use crate::plans::Plan;
 use lx_base::{Chan, Dimmer, Level};

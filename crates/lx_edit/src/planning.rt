@@ -1,7 +1,7 @@
 //! The plan of an edit.
 
 ghost use Rattle.lx_spec.specs.ValidEdit.{ValidEdit};
-ghost use Rattle.lx_edit.specs.Planned.{Plans};
+ghost use Rattle.lx_edit.specs.PlanMeaning.{Plans};
 
 use crate::plans::Plan;
 use crate::{blocks, cue_edits, kept, levels, members, patch_edits};

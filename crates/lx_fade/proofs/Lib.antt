@@ -1,3 +1,3 @@
-pub mod Pushed
+pub mod PushedFades
 pub mod RunStacks
 pub mod Stacks

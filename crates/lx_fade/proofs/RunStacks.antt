@@ -8,7 +8,7 @@ use Rattle.lx_spec.specs.Level.{level, last_cue}
 use Rattle.lx_spec.proofs.Rest.{same_run}
 use Rattle.lx_fade.specs.Fades.{Fade, stack_at}
 use Rattle.lx_fade.specs.RunStack.{with_run, stack_of}
-use Rattle.lx_fade.proofs.Pushed.{stack_at-pushed}
+use Rattle.lx_fade.proofs.PushedFades.{stack_at-pushed}
 
 either : (b : Bool) (bottom : ℕ) (one other : List Fade) (m v w : ℕ) → stack_at bottom one m ≡ v → stack_at bottom other m ≡ w
     → stack_at bottom (cond b one other) m ≡ cond b v w

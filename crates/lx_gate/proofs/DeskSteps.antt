@@ -11,7 +11,7 @@ use Rattle.lx_spec.specs.Desk.{Desk, replay, step, after_command, opened}
 use Rattle.lx_spec.specs.Output.{frame}
 use Rattle.lx_spec.specs.Kept.{Kept}
 use Rattle.lx_console.specs.Slots.{universe as universe_in}
-use Rattle.lx_console.specs.Standing.{StandsFor}
+use Rattle.lx_console.specs.ConsoleMeaning.{StandsFor}
 use Rattle.lx_gate.specs.Desks.{IsInStep}
 use Rattle.lx_gate.specs.Frames.{AreFramesOf, frame_after, moment_after}
 use Rattle.lx_gate.specs.Gates.{Published, IsEntered, HasSent, HasSentNone}

@@ -25,7 +25,10 @@ impl<K: Sink> BufferedSink<K> {
 
     /// Keeps back what goes to the sink. Nothing is kept yet.
     pub fn new(sink: K) -> BufferedSink<K>
-        ensures { ⟦<BufferedSink<K> as Sink>⟧.holds result ≡ with_kept (K.holds sink) [] }
+        ensures holds { ⟦<BufferedSink<K> as Sink>⟧.holds result ≡ with_kept (K.holds sink) [] }
+        ensures kept { kept_back result ≡ [] }
+        ensures faults { ⟦<BufferedSink<K> as Sink>⟧.faults result ≡ K.faults sink }
+        ensures wants { ⟦<BufferedSink<K> as Sink>⟧.wants result ≡ K.wants sink }
     {
         BufferedSink {
             sink,

@@ -10,7 +10,7 @@ use Rattle.std.proofs.lemmas.List.{get_or-set_other, get_or_default, same_lists,
 use Rattle.std.proofs.lemmas.List.{length-take-le, take_more, reverse-append, set-set}
 use Rattle.std.proofs.lemmas.List.FromFn.{length-map-range_with_len, get_or-map-range_with_len}
 use Rattle.lx_fade.specs.Fades.{Fade, fade_at, stack_at, begun_by}
-use Rattle.lx_fade.proofs.Pushed.{stack_at-pushed}
+use Rattle.lx_fade.proofs.PushedFades.{stack_at-pushed}
 use Rattle.lx_spec.specs.Level.{fade_over}
 use Rattle.lx_fade.specs.declared.held.TheConstants.{NEVER}
 use Rattle.lx_spec.proofs.Comparisons.{lt_false, lt_true}

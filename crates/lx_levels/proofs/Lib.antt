@@ -1,10 +1,10 @@
 pub mod Entries
 pub mod UnderWay
 pub mod Begun
-pub mod Added
-pub mod Recalled
+pub mod AddedRuns
+pub mod HiddenRuns
 pub mod Columns
 pub mod Looks
 pub mod Stands
 pub mod Found
-pub mod Followed
+pub mod RunsInTurn

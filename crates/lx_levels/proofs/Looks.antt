@@ -5,7 +5,7 @@ use Rattle.std.proofs.Common.{arith, get_or, refl, ◌∙◌, sym}
 use Rattle.lx_spec.specs.Show.{Show}
 use Rattle.lx_spec.specs.TrackedLevel.{tracked}
 use Rattle.lx_sheet.specs.Rows.{Sheet, level_of}
-use Rattle.lx_sheet.specs.Standing.{RowsStandFor}
+use Rattle.lx_sheet.specs.SheetMeaning.{RowsStandFor}
 
 in_look : {R : Type 0} (now : R → List ℕ) (sheet : Sheet) (n k : ℕ) (look : Option R)
     → IfSome look (λ row. (i : ℕ) → i < sheet.channels → get_or (now row) i 0 ≡ level_of sheet n (i + 1))

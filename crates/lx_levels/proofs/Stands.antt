@@ -6,7 +6,7 @@ use Rattle.lx_spec.specs.Run.{Run}
 use Rattle.lx_spec.specs.Level.{level}
 use Rattle.lx_spec.specs.Playback.{Playback}
 use Rattle.lx_levels.specs.Stacks.{Kept, Stack, level_in, level_at, stack_of}
-use Rattle.lx_levels.specs.Standing.{LevelsStandFor, StandsAt}
+use Rattle.lx_levels.specs.LevelsMeaning.{LevelsStandFor, StandsAt}
 
 -- the kept level is that of the definition
 pub kept_level : (show : Show) (p : Playback) (kept : Kept) (k : ℕ) → LevelsStandFor show p kept → k < show.channels

@@ -9,7 +9,7 @@ use Rattle.std.proofs.lemmas.Grind.{get_or-set_at}
 use Rattle.lx_fade.specs.declared.held.TheConstants.{NEVER}
 use Rattle.lx_levels.specs.declared.current.Current.{Current}
 use Rattle.lx_levels.specs.Stacks.{Stack, level_in, no_stack}
-use Rattle.lx_levels.specs.Moving.{Governs, StaysUntil, no_current, IsHeld, IsTold, Reaches, IsRight, IsRightBut, IsWritten, IsAdvanced}
+use Rattle.lx_levels.specs.CurrentFades.{Governs, StaysUntil, no_current, IsHeld, IsTold, Reaches, IsRight, IsRightBut, IsWritten, IsAdvanced}
 
 -- the level that is kept is that of the stack
 pub level_now : (m k : ℕ) (stacks : List Stack) (currents : List Current) (levels holds : List ℕ) → IsTold m stacks currents levels holds k

@@ -1,6 +1,6 @@
 pub mod Stacks
 pub mod Columns
-pub mod Moving
-pub mod Standing
-pub mod Timed
-pub mod Following
+pub mod CurrentFades
+pub mod LevelsMeaning
+pub mod TimedFades
+pub mod RunsInTurn

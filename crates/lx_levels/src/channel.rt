@@ -7,10 +7,10 @@ ghost use Rattle.lx_base.specs.declared.TheConstants.{RUNS, TICK_END};
 ghost use Rattle.lx_spec.specs.TrackedLevel.{tracked};
 ghost use Rattle.lx_spec.specs.Run.{entry_for, entry_extent};
 ghost use Rattle.lx_spec.specs.Level.{last_cue, level, run_over};
-ghost use Rattle.lx_sheet.specs.Standing.{RowsStandFor};
+ghost use Rattle.lx_sheet.specs.SheetMeaning.{RowsStandFor};
 ghost use Rattle.lx_playback.specs.Valid.{ValidRun, ValidTimes};
 ghost use Rattle.lx_levels.specs.Stacks.{level_in, no_stack};
-ghost use Rattle.lx_levels.specs.Timed.{timed_over};
+ghost use Rattle.lx_levels.specs.TimedFades.{timed_over};
 
 use crate::hints::{Hint, acts};
 use crate::racks::Racks;

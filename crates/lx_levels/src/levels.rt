@@ -9,12 +9,12 @@ ghost use Rattle.lx_spec.specs.TrackedLevel.{tracked};
 ghost use Rattle.lx_spec.specs.Run.{Run as RunData};
 ghost use Rattle.lx_spec.specs.Level.{level, last_cue, run_over};
 ghost use Rattle.lx_spec.specs.Playback.{Playback as PlaybackData, at_opening};
-ghost use Rattle.lx_sheet.specs.Standing.{RowsStandFor};
+ghost use Rattle.lx_sheet.specs.SheetMeaning.{RowsStandFor};
 ghost use Rattle.lx_mixer.specs.Table.{IsTable};
 ghost use Rattle.lx_playback.specs.Valid.{ValidRun};
 ghost use Rattle.lx_levels.specs.Stacks.{level_in, level_at, stack_of};
-ghost use Rattle.lx_levels.specs.Moving.{AreAt, IsStill};
-ghost use Rattle.lx_levels.specs.Standing.{LevelsStandFor, StandsAt, StandsBefore, IsElsewhere};
+ghost use Rattle.lx_levels.specs.CurrentFades.{AreAt, IsStill};
+ghost use Rattle.lx_levels.specs.LevelsMeaning.{LevelsStandFor, StandsAt, StandsBefore, IsElsewhere};
 
 use crate::channel::{fill_stack, push_run};
 use crate::current::Current;
@@ -57,7 +57,7 @@ pub struct Levels {
 
 impl Model for Levels {
     ghost use Rattle.lx_levels.specs.Stacks.{Kept};
-    ghost use Rattle.lx_levels.specs.Moving.{IsReady};
+    ghost use Rattle.lx_levels.specs.CurrentFades.{IsReady};
 
     ghost Value = { Kept };
 

@@ -3,7 +3,7 @@
 ghost use Rattle.std.specs.Prelude.{◌≡◌, ℕ, ◌+◌, ◌<◌, ◌≤◌, false, List, length, slice_index, slice_index_or};
 ghost use Rattle.lx_fade.specs.declared.held.TheConstants.{NEVER};
 ghost use Rattle.lx_levels.specs.Stacks.{no_stack};
-ghost use Rattle.lx_levels.specs.Moving.{Governs, Reaches, AreHeld, IsHeld, IsTold, IsRight, IsRightBut, IsWritten};
+ghost use Rattle.lx_levels.specs.CurrentFades.{Governs, Reaches, AreHeld, IsHeld, IsTold, IsRight, IsRightBut, IsWritten};
 
 use crate::current::Current;
 use crate::racks::Racks;

@@ -9,7 +9,7 @@ ghost use Rattle.lx_spec.specs.Level.{fade_over};
 ghost use Rattle.lx_fade.specs.Fades.{stack_at, begun_by};
 ghost use Rattle.lx_fade.specs.declared.held.TheConstants.{NEVER};
 ghost use Rattle.lx_levels.specs.Stacks.{level_in, no_stack};
-ghost use Rattle.lx_levels.specs.Moving.{Governs};
+ghost use Rattle.lx_levels.specs.CurrentFades.{Governs};
 ghost use Rattle.lx_levels.specs.Columns.{column};
 
 use crate::current::Current;

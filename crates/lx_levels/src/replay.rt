@@ -5,10 +5,10 @@ ghost use Rattle.std.specs.List.{All};
 ghost use Rattle.lx_base.specs.declared.TheConstants.{RUNS, TICK_END};
 ghost use Rattle.lx_spec.specs.Show.{Show as ShowData};
 ghost use Rattle.lx_spec.specs.Level.{level};
-ghost use Rattle.lx_sheet.specs.Standing.{RowsStandFor};
+ghost use Rattle.lx_sheet.specs.SheetMeaning.{RowsStandFor};
 ghost use Rattle.lx_playback.specs.Valid.{ValidRun};
 ghost use Rattle.lx_levels.specs.Stacks.{level_in};
-ghost use Rattle.lx_levels.specs.Following.{AreKnown, AreValid, IsGround};
+ghost use Rattle.lx_levels.specs.RunsInTurn.{AreKnown, AreValid, IsGround};
 
 use crate::channel::{is_over, level_there, push_timed, times_for};
 use crate::hints::{Hint, acts};

@@ -2,7 +2,7 @@
 use Rattle.std.proofs.Common.{◌≡◌, ℕ, ◌+◌, ◌≤◌, true, IsTrue, List, [], ◌∷◌, ◌++◌, refl, ◌∙◌, length-append, arith}
 use Rattle.std.specs.declared.option.Option.{Option}
 use Rattle.lx_lex.specs.declared.lines.Lines.{Lines}
-use Rattle.lx_lex.specs.Handed.{HandedOut}
+use Rattle.lx_lex.specs.LinesHandedOut.{HandedOut}
 use Rattle.lx_lex.specs.Lines.{LineBetween}
 use Rattle.lx_lex.specs.Unread.{unread}
 use Rattle.lx_lex.proofs.TakenLines.{no_line, one_line, then_lines}

@@ -8,7 +8,7 @@ use Rattle.lx_spec.specs.Numerals.{is_digit, hex_pair, hex_value}
 use Rattle.lx_spec.specs.Text.{is_separator, begins_comment, after_all, tokens}
 use Rattle.lx_lex.specs.PlainNumber.{EndsToken, FirstIsLevel}
 use Rattle.lx_lex.proofs.Separators.{apart}
-use Rattle.lx_lex.proofs.Cutting.{goes, after_all-yes, next-token}
+use Rattle.lx_lex.proofs.LineCuts.{goes, after_all-yes, next-token}
 
 hex_goes : (b v : ℕ) → hex_value b ≡ Some v → goes is_separator begins_comment b ≡ true
 hex_goes b v e = elim (cases_Bool (is_digit b)) [

@@ -13,7 +13,7 @@ use Rattle.lx_spec.specs.Text.{is_separator, begins_comment, after_all, tokens}
 use Rattle.lx_spec.proofs.Comparisons.{eq_from}
 use Rattle.lx_lex.specs.PlainNumber.{BeginsWithDigits, EndsToken, FirstIsNumber}
 use Rattle.lx_lex.proofs.Separators.{apart}
-use Rattle.lx_lex.proofs.Cutting.{goes, after_all-yes, next-token}
+use Rattle.lx_lex.proofs.LineCuts.{goes, after_all-yes, next-token}
 
 -- a digit more
 pub digits_more : (text : List ℕ) (n b : ℕ) (rest : List ℕ) → BeginsWithDigits text n (b ∷ rest) → is_digit b ≡ true

@@ -45,12 +45,12 @@ pub(crate) fn cut_at(text: &[u8], mark: u8) -> Option<(&[u8], &[u8])>
         (λ p. (list_any (λ b. b == mark) text.now ≡ true)
         × (p.0.now ≡ before_first (λ b. b == mark) text.now) × (p.1.now ≡ after_first (λ b. b == mark) text.now)) }
 {
-    let place = place_of(text, mark)?;
+    let place = index_of_mark(text, mark)?;
     Some((&text[..place], &text[place + 1..]))
 }
 
-/// The place of the first byte that is the mark.
-fn place_of(text: &[u8], mark: u8) -> Option<usize>
+/// The index of the first byte that is the mark.
+fn index_of_mark(text: &[u8], mark: u8) -> Option<usize>
     ensures { result ≡ position (λ b. b == mark) text.now }
 {
     text.iter().position(|b| *b == mark)

@@ -18,9 +18,9 @@ use Rattle.lx_spec.specs.TwoLists.{is_tick, commands_second}
 use Rattle.lx_console.specs.declared.change.Change.{Change}
 use Rattle.lx_console.specs.declared.change.Change.TheVariants as changes
 use Rattle.lx_console.specs.Changes.{Changes, SameOutputs, is_nothing}
-use Rattle.lx_console.specs.Filled.{Reaches}
-use Rattle.lx_console.specs.Standing.{StandsFor, Obeys, Answers, level_now}
-use Rattle.lx_console.proofs.Filling.{same_table, same_slots}
+use Rattle.lx_console.specs.KeptOutput.{Reaches}
+use Rattle.lx_console.specs.ConsoleMeaning.{StandsFor, Obeys, Answers, level_now}
+use Rattle.lx_console.proofs.KeptOutputs.{same_table, same_slots}
 use Rattle.lx_lists.specs.declared.output.Output.{Output}
 use Rattle.lx_lists.specs.TwoListsMeaning.{TwoKept}
 use Rattle.lx_lists.specs.KeptLists.{HasRoom, IsFilled, AreKept}

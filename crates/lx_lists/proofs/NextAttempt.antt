@@ -14,7 +14,7 @@ use Rattle.lx_spec.specs.Kept.{Kept}
 use Rattle.lx_spec.specs.RefusedPlaces.{is_edit}
 use Rattle.lx_spec.specs.SessionOf.{SessionOf, at_desk}
 use Rattle.lx_spec.specs.TwoLists.{TwoDesks, is_tick, first_step, second_step}
-use Rattle.lx_console.specs.Standing.{StandsFor, Obeys, Refuses}
+use Rattle.lx_console.specs.ConsoleMeaning.{StandsFor, Obeys, Refuses}
 use Rattle.lx_session.specs.Attempts.{Attempted, heard_of}
 use Rattle.lx_session.specs.LineState.{LineState, next_of, unattempted}
 use Rattle.lx_session.specs.LineProgress.{LineProgress}

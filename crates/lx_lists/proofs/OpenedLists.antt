@@ -4,7 +4,7 @@ use Rattle.lx_spec.specs.Show.{Show}
 use Rattle.lx_spec.specs.Kept.{Kept}
 use Rattle.lx_spec.specs.Desk.{opened}
 use Rattle.lx_spec.specs.TwoLists.{first_show, second_show}
-use Rattle.lx_console.specs.Standing.{StandsFor}
+use Rattle.lx_console.specs.ConsoleMeaning.{StandsFor}
 use Rattle.lx_lists.specs.declared.output.Output.{Output}
 use Rattle.lx_lists.specs.KeptLists.{IsFilled, AreKept}
 use Rattle.lx_lists.proofs.KeptLists.{both}

@@ -7,7 +7,7 @@ use Rattle.lx_mixer.specs.Table.{IsTable}
 use Rattle.lx_patch.specs.DimmerTable.{StandsForPatch}
 use Rattle.lx_console.specs.declared.change.Change.{Change}
 use Rattle.lx_console.specs.Changes.{Changes}
-use Rattle.lx_console.specs.Filled.{Reaches, SlotsStand}
+use Rattle.lx_console.specs.KeptOutput.{Reaches, SlotsStand}
 use Rattle.lx_lists.specs.declared.output.Output.{Output}
 use Rattle.lx_lists.specs.TwoListsMeaning.{TwoKept, TwoStand, out_of_both}
 

@@ -4,7 +4,7 @@ use Rattle.lx_spec.specs.declared.Command.{Command}
 use Rattle.lx_spec.specs.Desk.{Desk, after_command}
 use Rattle.lx_spec.specs.Kept.{Kept}
 use Rattle.lx_spec.specs.TwoLists.{is_tick}
-use Rattle.lx_console.specs.Standing.{StandsFor}
+use Rattle.lx_console.specs.ConsoleMeaning.{StandsFor}
 
 -- the console stands for the desk after the ticks among the commands
 abbrev pub TicksReach : Desk → Kept → List Command → Type 0

@@ -7,7 +7,7 @@ use Rattle.lx_spec.specs.declared.Refusal.TheVariants.{Memory}
 use Rattle.lx_spec.specs.Output.{contribution}
 use Rattle.lx_spec.specs.Kept.{Kept}
 use Rattle.lx_spec.specs.TwoLists.{TwoDesks}
-use Rattle.lx_console.specs.Standing.{StandsFor, level_now}
+use Rattle.lx_console.specs.ConsoleMeaning.{StandsFor, level_now}
 
 -- what is kept of both desks: all but their lists of all runs
 pub record TwoKept : Type 0 where

@@ -9,7 +9,7 @@ ghost use Rattle.lx_spec.specs.Output.{dimmer_value};
 ghost use Rattle.lx_spec.specs.TwoLists.{TwoDesks, opened_two, first_step, second_step, tick_step, is_tick, commands_second, frame_of_two};
 ghost use Rattle.lx_mixer.specs.Table.{IsTable};
 ghost use Rattle.lx_console.specs.Slots.{universe};
-ghost use Rattle.lx_console.specs.Standing.{StandsFor, Obeys};
+ghost use Rattle.lx_console.specs.ConsoleMeaning.{StandsFor, Obeys};
 ghost use Rattle.lx_lists.specs.TwoListsMeaning.{TwoStand, Steps, TakesStep, list_of, out_of_both};
 
 use crate::output::Output;

@@ -2,7 +2,7 @@
 
 ghost use Rattle.std.specs.Prelude.{◌≡◌, max, length, slice_index, EachIndex, IfOk};
 ghost use Rattle.lx_patch.specs.DimmerTable.{StandsForPatch};
-ghost use Rattle.lx_console.specs.Filled.{IsPatchedBut, SlotsStand};
+ghost use Rattle.lx_console.specs.KeptOutput.{IsPatchedBut, SlotsStand};
 ghost use Rattle.lx_lists.specs.KeptLists.{HasRoom, IsFilled, WasFilled};
 
 use lx_base::{Dimmer, Level};

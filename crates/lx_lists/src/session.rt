@@ -9,7 +9,7 @@ ghost use Rattle.lx_spec.specs.SessionOf.{SessionOf};
 ghost use Rattle.lx_spec.specs.TwoLists.{TwoDesks, two_answer, TwoMayWant, is_for_second};
 ghost use Rattle.lx_session.specs.LineReply.{HasRoom, HasOneMore, counts_in};
 ghost use Rattle.lx_session.specs.OneAnswer.{IsLine, OneAnswer};
-ghost use Rattle.lx_session.specs.ScriptAnswered.{ScriptAnswered};
+ghost use Rattle.lx_session.specs.ScriptAnswer.{ScriptAnswered};
 ghost use Rattle.lx_session.specs.SessionOutcome.{HasSessionCause, KeepsLimit};
 ghost use Rattle.lx_lists.specs.TwoListsMeaning.{TwoStand};
 ghost use Rattle.lx_lists.specs.SecondLines.{IsRestFor};

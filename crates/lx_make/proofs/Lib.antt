@@ -1,1 +1,1 @@
-mod Generated
+mod MadeInputs

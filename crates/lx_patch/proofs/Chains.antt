@@ -6,7 +6,7 @@ use Rattle.std.proofs.lemmas.Bool.{cases_eq, cases_lt}
 use Rattle.std.proofs.lemmas.Grind.{get_or-set_at}
 use Rattle.lx_base.specs.declared.TheConstants.{CHANNELS, SLOTS}
 use Rattle.lx_base.specs.Numbers.{scaled}
-use Rattle.lx_patch.specs.Followed.{Follows, IsChained}
+use Rattle.lx_patch.specs.FollowerChains.{Follows, IsChained}
 
 -- a dimmer that is dark follows no channel
 pub chained_dark : (places levels first next : List ℕ) (from e : ℕ) → IsChained places levels first next from → e + 1 ≡ from

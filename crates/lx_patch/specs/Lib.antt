@@ -1,3 +1,3 @@
 pub mod DimmerTable
 pub mod Slots
-pub mod Followed
+pub mod FollowerChains

@@ -3,7 +3,7 @@
 ghost use Rattle.std.specs.Prelude.{◌≡◌, ◌≢◌, ℕ, ◌<◌, ◌≤◌, ◌+◌, length, slice_index, IfOk};
 ghost use Rattle.lx_base.specs.declared.TheConstants.{CHANNELS, SLOTS};
 ghost use Rattle.lx_base.specs.Numbers.{scaled};
-ghost use Rattle.lx_patch.specs.Followed.{Follows, IsLinked, IsAbove};
+ghost use Rattle.lx_patch.specs.FollowerChains.{Follows, IsLinked, IsAbove};
 
 use lx_base::{CHANNELS, LANES, Level, SLOTS, scale};
 use std::alloc::{AllocError, Global};

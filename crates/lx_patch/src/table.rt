@@ -32,7 +32,7 @@ pub struct PatchTable {
 
 impl Model for PatchTable {
     ghost use Rattle.lx_patch.specs.DimmerTable.{DimmerTable};
-    ghost use Rattle.lx_patch.specs.Followed.{IsLinked};
+    ghost use Rattle.lx_patch.specs.FollowerChains.{IsLinked};
 
     ghost Value = { DimmerTable };
 

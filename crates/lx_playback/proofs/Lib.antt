@@ -1,3 +1,3 @@
-pub mod Captured
+pub mod CapturedTimes
 pub mod Backwards
-pub mod Passed
+pub mod QuietTicks

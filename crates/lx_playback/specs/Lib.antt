@@ -1,3 +1,3 @@
 pub mod Valid
 pub mod Told
-pub mod Passed
+pub mod QuietTicks

@@ -4,7 +4,7 @@ ghost use Rattle.std.specs.Prelude.{◌≡◌, ℕ, ◌+◌, ◌-◌, ◌/◌, �
 ghost use Rattle.std.specs.List.{All};
 ghost use Rattle.lx_spec.specs.Playback.{at_opening, position_of, has_room, is_over, is_due, at_rest};
 ghost use Rattle.lx_base.specs.declared.TheConstants.{TICK_END, TICK_STEP};
-ghost use Rattle.lx_playback.specs.Passed.{later, TicksPass, IsStillAt};
+ghost use Rattle.lx_playback.specs.QuietTicks.{later, TicksPass, IsStillAt};
 ghost use Rattle.lx_playback.specs.Valid.{ValidPlayback, ValidRun};
 
 use crate::run::Run;

@@ -14,7 +14,7 @@ use Rattle.lx_spec.specs.Entry.{Entry, PlacedEntry, HasUp, HasDown, NamesPart, p
 use Rattle.lx_spec.specs.Entry.{blocks, is_assert}
 use Rattle.lx_spec.specs.Reading.{last_of_each, last_in, moves_in, part_from, parts_from, label_from, cue_from}
 use Rattle.lx_spec.specs.EditedShow.{new_part}
-use Rattle.lx_show.specs.Changed.{changed}
+use Rattle.lx_show.specs.ChangedEntry.{changed}
 use Rattle.lx_reader.specs.ReadingState.{with_part, with_up, with_down, parts_with, cue_with, change_by}
 use Rattle.lx_reader.proofs.LastEntries.{last_in-more, any-more, unwrap-later, filter-more}
 use Rattle.lx_reader.proofs.MadeEntries.{cond_same, after_change}

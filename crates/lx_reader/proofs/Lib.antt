@@ -10,7 +10,7 @@ pub mod NamedRecords
 pub mod SectionLevels
 pub mod Members
 pub mod OpenMoves
-pub mod Settling
+pub mod SettledCues
 pub mod OpenCue
 pub mod QuietLines
 pub mod OpenLevels

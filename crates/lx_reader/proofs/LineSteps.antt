@@ -10,7 +10,7 @@ use Rattle.lx_spec.specs.declared.Bad.{Bad}
 use Rattle.lx_spec.specs.SortedList.{entry_at, has_entry, placed}
 use Rattle.lx_spec.specs.EditedShow.{new_part}
 use Rattle.lx_spec.specs.TrackedLevel.{cue_of}
-use Rattle.lx_show.specs.Changed.{changed}
+use Rattle.lx_show.specs.ChangedEntry.{changed}
 use Rattle.lx_spec.specs.declared.TextFault.{TextFault}
 use Rattle.lx_spec.specs.declared.TextFault.TheVariants.{NoIdent, OutOfRange}
 use Rattle.lx_spec.specs.declared.Word.TheVariants as words

@@ -13,7 +13,7 @@ use Rattle.lx_spec.specs.Looks.{from_looks}
 use Rattle.lx_spec.specs.SortedList.{IsStrictlySorted, placed, has_entry, entry_at, entries_below, entries_above}
 use Rattle.lx_spec.specs.Show.{Cue, Show, InRange, ValidMove, ValidCue, Valid}
 use Rattle.lx_spec.specs.TrackedLevel.{cue_of, move_in, level_in}
-use Rattle.lx_show.specs.Changed.{changed}
+use Rattle.lx_show.specs.ChangedEntry.{changed}
 use Rattle.lx_spec.proofs.Lists.{kept_by, find_has}
 use Rattle.lx_spec.proofs.SortedLists.{seam, goes_between, stands_between, all_at_seam, below_seam, above_seam}
 use Rattle.lx_reader.specs.LookMoves.{last_look, is_changed, look_move, moves_up_to, with_look}

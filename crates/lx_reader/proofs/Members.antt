@@ -12,7 +12,7 @@ use Rattle.lx_spec.specs.declared.Section.TheVariants.{InCue, InGroup, InSub}
 use Rattle.lx_spec.specs.SortedList.{all_placed, has_entry}
 use Rattle.lx_spec.specs.Show.{Cue, Show, ValidMember, ValidMove}
 use Rattle.lx_spec.specs.TrackedLevel.{cue_of}
-use Rattle.lx_show.specs.Changed.{changed}
+use Rattle.lx_show.specs.ChangedEntry.{changed}
 use Rattle.lx_reader.specs.ReadingState.{moves_of, with_members}
 use Rattle.lx_reader.specs.FieldLists.{all_pairs, onto}
 use Rattle.lx_reader.specs.OpenRecord.{HasPartIn}

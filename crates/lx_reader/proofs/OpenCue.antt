@@ -17,15 +17,15 @@ use Rattle.lx_spec.specs.Show.{Cue, Show, ValidMove}
 use Rattle.lx_spec.specs.TrackedLevel.{cue_of}
 use Rattle.lx_spec.proofs.Lists.{each}
 use Rattle.lx_spec.proofs.SortedLists.{entry_at-placed_here, entry_at-placed_other, entry_number, has_placed, split_there}
-use Rattle.lx_show.specs.Changed.{changed}
-use Rattle.lx_show.proofs.Placed.{has_changed}
+use Rattle.lx_show.specs.ChangedEntry.{changed}
+use Rattle.lx_show.proofs.PlacedEntries.{has_changed}
 use Rattle.lx_reader.specs.declared.reader.Reader.{Reader}
 use Rattle.lx_reader.specs.LineOutcome.{state_of}
 use Rattle.lx_reader.specs.ReadingState.{change_by, changed_in, cue_with, cues_with, empty_show, parts_with, placed_in, show_with, speaks}
 use Rattle.lx_reader.specs.ReadingState.{step, with_down, with_named, with_up}
-use Rattle.lx_reader.specs.Settled.{FitsIn}
+use Rattle.lx_reader.specs.SettledCue.{FitsIn}
 use Rattle.lx_reader.proofs.Members.{greatest_least}
-use Rattle.lx_reader.proofs.Settling.{IsQuiet}
+use Rattle.lx_reader.proofs.SettledCues.{IsQuiet}
 
 -- a change that keeps the number
 numbers_at : {A : Type 0} (key : A → ℕ) (n : ℕ) (f : A → A) (xs : List A) (o : Option A) → ((x : A) → key (f x) ≡ key x)

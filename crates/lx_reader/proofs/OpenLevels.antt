@@ -18,11 +18,11 @@ use Rattle.lx_reader.specs.OpenMoves.{ReadsLevels}
 use Rattle.lx_reader.specs.LineOutcome.{Outcome}
 use Rattle.lx_reader.specs.OpenRecord.{HasPartIn, IsOpen}
 use Rattle.lx_reader.specs.ReadingState.{moves_of, with_members}
-use Rattle.lx_reader.specs.Settled.{FitsIn, settled, with_open}
+use Rattle.lx_reader.specs.SettledCue.{FitsIn, settled, with_open}
 use Rattle.lx_reader.proofs.LineSteps.{levels_took}
 use Rattle.lx_reader.proofs.Members.{cue_members, greatest_each, greatest_least, greatest_of, moves_valid_in, put_whole}
 use Rattle.lx_reader.proofs.QuietLines.{with_cue_moves}
-use Rattle.lx_reader.proofs.Settling.{changed_twice, with_moves}
+use Rattle.lx_reader.proofs.SettledCues.{changed_twice, with_moves}
 
 levels_shown : (r : Reader) (n i k : ℕ) (moves new : List Move) (rest : List (List ℕ)) → r.section ≡ InCue n
     → (read : ReadsLevels i r.part r.show.channels rest [] k moves new)

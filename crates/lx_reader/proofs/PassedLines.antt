@@ -20,7 +20,7 @@ use Rattle.lx_lex.specs.declared.lines.Lines.{Lines}
 use Rattle.lx_lex.specs.declared.lines.Step.TheVariants as steps
 use Rattle.lx_lex.specs.Lines.{StepOf, LinesBetween}
 use Rattle.lx_lex.specs.CutOff.{NotTaken}
-use Rattle.lx_lex.specs.Handed.{HandedOut}
+use Rattle.lx_lex.specs.LinesHandedOut.{HandedOut}
 use Rattle.lx_lex.specs.Unread.{unread, line_of}
 use Rattle.lx_lex.proofs.TakenLines.{next_too_long, all_texts, texts}
 use Rattle.lx_lex.proofs.HandingOut.{handed_none, handed_then}

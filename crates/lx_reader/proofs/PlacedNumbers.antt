@@ -3,7 +3,7 @@ use Rattle.std.proofs.Common.{◌≡◌, ℕ, Bool, true, false, cond, List, [],
 use Rattle.std.proofs.Common.{arith}
 use Rattle.std.specs.Prelude.{filter, fold, nat_lt, ◌==◌, is_some}
 use Rattle.std.specs.Option.{option_map_or}
-use Rattle.lx_show.specs.Changed.{changed}
+use Rattle.lx_show.specs.ChangedEntry.{changed}
 use Rattle.std.proofs.lemmas.List.{map-append}
 use Rattle.std.proofs.lemmas.Bool.{eqb-true}
 use Rattle.std.proofs.lemmas.Bool.Decides.{nat_tests}

@@ -18,17 +18,17 @@ use Rattle.lx_spec.specs.Numerals.{read_cue_no, read_time, read_whole}
 use Rattle.lx_spec.specs.Show.{Cue, Show}
 use Rattle.lx_spec.specs.SortedList.{IsStrictlySorted, has_entry}
 use Rattle.lx_spec.specs.TrackedLevel.{cue_of}
-use Rattle.lx_show.specs.Changed.{changed}
+use Rattle.lx_show.specs.ChangedEntry.{changed}
 use Rattle.lx_reader.specs.declared.line_fault.LineFault.{LineFault}
 use Rattle.lx_reader.specs.declared.reader.Reader.{Reader}
 use Rattle.lx_reader.specs.declared.reading.Reading.{Reading}
 use Rattle.lx_reader.specs.LineOutcome.{IsReady, IsStep, Outcome, facts_of, state_of}
 use Rattle.lx_reader.specs.OpenRecord.{HasPartIn, IsOpen}
 use Rattle.lx_reader.specs.ReadingState.{ReadingState, empty_show, placed_in, show_with, step}
-use Rattle.lx_reader.specs.Settled.{Fits, FitsIn, keeps_cue, settled, with_open}
+use Rattle.lx_reader.specs.SettledCue.{Fits, FitsIn, keeps_cue, settled, with_open}
 use Rattle.lx_reader.proofs.EntryChanges.{changed-alike, changed-not}
 use Rattle.lx_reader.proofs.OpenCue.{fits_still, held_before, numbers_kept}
-use Rattle.lx_reader.proofs.Settling.{IsQuiet, numbered_quiet, quiet_cues, times_quiet, with_moves}
+use Rattle.lx_reader.proofs.SettledCues.{IsQuiet, numbered_quiet, quiet_cues, times_quiet, with_moves}
 
 quiet_known : (facts : Facts) (n : ℕ) (line : List ℕ) (word : Word) (rest : List (List ℕ)) → keeps_cue word ≡ true
     → IfOk (entry_by_word (record facts { identified = true; section = InCue n }) line word rest) IsQuiet

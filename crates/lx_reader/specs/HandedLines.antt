@@ -13,7 +13,7 @@ use Rattle.lx_spec.specs.CutInput.{CutOff, first_lines}
 use Rattle.lx_spec.specs.Reading.{Reading, reads, reads_lines, lines_read, script_of}
 use Rattle.lx_lex.specs.declared.lines.Lines.{Lines}
 use Rattle.lx_lex.specs.Lines.{LinesBetween}
-use Rattle.lx_lex.specs.Handed.{HandedOut}
+use Rattle.lx_lex.specs.LinesHandedOut.{HandedOut}
 use Rattle.lx_lex.specs.Unread.{unread}
 
 -- The lines up to ENDDATA, each without its LF, were handed out, and this is what they mean. Where the source tells its bytes, it is

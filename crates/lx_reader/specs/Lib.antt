@@ -7,4 +7,4 @@ pub mod LineOutcome
 pub mod Answer
 pub mod LookMoves
 pub mod OpenMoves
-pub mod Settled
+pub mod SettledCue

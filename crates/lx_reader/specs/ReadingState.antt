@@ -8,7 +8,7 @@ use Rattle.lx_spec.specs.declared.Member.{Member}
 use Rattle.lx_spec.specs.declared.PatchRow.{PatchRow}
 use Rattle.lx_spec.specs.SortedList.{has_entry, placed, all_placed}
 use Rattle.lx_spec.specs.EditedShow.{new_cue, new_part}
-use Rattle.lx_show.specs.Changed.{changed}
+use Rattle.lx_show.specs.ChangedEntry.{changed}
 use Rattle.lx_spec.specs.Show.{Cue, MemberSet, Show}
 use Rattle.lx_spec.specs.declared.Form.{Form}
 use Rattle.lx_spec.specs.declared.Section.{Section}

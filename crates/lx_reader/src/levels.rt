@@ -6,7 +6,7 @@ ghost use Rattle.std.specs.List.{AllByRecursion};
 ghost use Rattle.lx_base.specs.declared.TheConstants.{CHANNELS};
 ghost use Rattle.lx_spec.specs.Show.{ValidMember};
 ghost use Rattle.lx_spec.specs.SortedList.{all_placed};
-ghost use Rattle.lx_show.specs.Changed.{changed};
+ghost use Rattle.lx_show.specs.ChangedEntry.{changed};
 ghost use Rattle.std.specs.Result.{IsOkAnd};
 ghost use Rattle.lx_lex.specs.Left.{left};
 ghost use Rattle.lx_reader.specs.FieldLists.{all_pairs, all_triples};

@@ -14,7 +14,7 @@ ghost use Rattle.lx_spec.specs.declared.Word.TheVariants as words;
 ghost use Rattle.lx_spec.specs.SortedList.{IsStrictlySorted};
 ghost use Rattle.lx_spec.specs.Text.{tokens};
 ghost use Rattle.lx_spec.specs.TrackedLevel.{cue_of};
-ghost use Rattle.lx_reader.specs.Settled.{Fits, FitsIn, keeps_cue, settled};
+ghost use Rattle.lx_reader.specs.SettledCue.{Fits, FitsIn, keeps_cue, settled};
 
 use crate::line_fault::LineFault;
 use crate::open_moves::OpenMoves;

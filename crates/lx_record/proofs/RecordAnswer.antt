@@ -10,12 +10,12 @@ use Rattle.lx_spec.specs.SortedList.{IsStrictlySorted, has_entry}
 use Rattle.lx_spec.specs.Show.{Cue, Show, Valid, ValidCue}
 use Rattle.lx_spec.specs.TrackedLevel.{cue_of, cue_above}
 use Rattle.lx_spec.specs.EditedShow.{with_cue}
-use Rattle.lx_spec.specs.Recorded.{recorded, with_recorded}
+use Rattle.lx_spec.specs.RecordedLevels.{recorded, with_recorded}
 use Rattle.lx_spec.specs.Desk.{Desk}
 use Rattle.lx_spec.specs.Kept.{Kept, kept}
-use Rattle.lx_edit.specs.Planned.{CanPlace, IsAbove, with_above}
+use Rattle.lx_edit.specs.PlanMeaning.{CanPlace, IsAbove, with_above}
 use Rattle.lx_edit.proofs.KeptLevels.{above_fits, above_is}
-use Rattle.lx_console.specs.Standing.{StandsFor, level_now}
+use Rattle.lx_console.specs.ConsoleMeaning.{StandsFor, level_now}
 use Rattle.lx_console.proofs.AllRuns.{over_all}
 use Rattle.lx_record.specs.Cues.{kept_cue}
 use Rattle.lx_record.specs.Records.{IsRefused}

@@ -10,7 +10,7 @@ use Rattle.lx_spec.specs.SortedList.{entries_below, entries_above}
 use Rattle.lx_spec.specs.Show.{Cue, Show, Valid, InRange}
 use Rattle.lx_spec.specs.TrackedLevel.{cue_of, move_of, move_in, tracked}
 use Rattle.lx_spec.specs.EditedShow.{new_cue, with_cue, cue_only}
-use Rattle.lx_spec.specs.Recorded.{with_recorded, on_stage}
+use Rattle.lx_spec.specs.RecordedLevels.{with_recorded, on_stage}
 use Rattle.lx_spec.proofs.CueOnly.{kept_alone}
 use Rattle.lx_spec.proofs.EditedCues.{around_cue, around_placed, ok_is}
 use Rattle.lx_spec.proofs.SortedLists.{entry_at-placed_here}

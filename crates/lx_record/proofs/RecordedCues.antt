@@ -18,7 +18,7 @@ use Rattle.lx_spec.specs.SortedList.{IsStrictlySorted, entry_at, entries_below, 
 use Rattle.lx_spec.specs.Show.{Cue, Show, InRange}
 use Rattle.lx_spec.specs.TrackedLevel.{cue_above, cue_of, move_in, tracked}
 use Rattle.lx_spec.specs.EditedShow.{edited, the_cue, new_cue, with_cue, with_levels, part_for, channels_of, cue_only, kept_above}
-use Rattle.lx_spec.specs.Recorded.{untracked, with_recorded}
+use Rattle.lx_spec.specs.RecordedLevels.{untracked, with_recorded}
 use Rattle.lx_spec.proofs.Along.{tracked_on, along, tracked-along, along-append, along-past, step_in}
 use Rattle.lx_spec.proofs.CueOnly.{IsAround, above_is, kept, kept_around}
 use Rattle.lx_spec.proofs.Comparisons.{lt_true}

@@ -2,7 +2,7 @@
 use Rattle.std.specs.Prelude.{◌≡◌, ◌≢◌, ℕ, Bool, true, Ok, IsTrue, is_some}
 use Rattle.lx_spec.specs.Show.{Show, Valid, InRange}
 use Rattle.lx_spec.specs.TrackedLevel.{cue_of, tracked, move_of}
-use Rattle.lx_spec.specs.Recorded.{on_stage, recorded}
+use Rattle.lx_spec.specs.RecordedLevels.{on_stage, recorded}
 use Rattle.lx_spec.specs.Desk.{Desk}
 
 -- At the recorded cue each channel's tracked level is its level on stage. A channel that was at it already has the move that it had, or

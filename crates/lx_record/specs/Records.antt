@@ -4,7 +4,7 @@ use Rattle.lx_spec.specs.declared.Refusal.{Refusal}
 use Rattle.lx_spec.specs.declared.Refusal.TheVariants.{Memory}
 use Rattle.lx_spec.specs.Show.{Show}
 use Rattle.lx_edit.specs.declared.plans.Plan.{Plan}
-use Rattle.lx_edit.specs.Planned.{planned}
+use Rattle.lx_edit.specs.PlanMeaning.{planned}
 
 -- a refusal is the definition's own, or memory was wanting where it refuses nothing
 abbrev pub IsRefused : Result Show Refusal → Refusal → Type 0

@@ -4,7 +4,7 @@ ghost use Rattle.std.specs.Prelude.{◌≡◌, ◌≤◌, ◌==◌, ◌&&◌, �
 ghost use Rattle.lx_spec.specs.Show.{ValidCue};
 ghost use Rattle.lx_spec.specs.TrackedLevel.{tracked, decides, cue_above};
 ghost use Rattle.lx_spec.specs.EditedShow.{with_moves, moves_for};
-ghost use Rattle.lx_console.specs.Standing.{level_now};
+ghost use Rattle.lx_console.specs.ConsoleMeaning.{level_now};
 ghost use Rattle.lx_record.specs.Cues.{is_changed, kept_cue};
 
 use crate::staged::level_on_stage;

@@ -2,10 +2,10 @@
 
 ghost use Rattle.std.specs.Prelude.{◌≡◌, ◌≢◌, IfOk, IfSome, MatchResult, Ok};
 ghost use Rattle.lx_spec.specs.EditedShow.{with_cue};
-ghost use Rattle.lx_spec.specs.Recorded.{recorded, with_recorded};
+ghost use Rattle.lx_spec.specs.RecordedLevels.{recorded, with_recorded};
 ghost use Rattle.lx_spec.specs.Desk.{Desk};
-ghost use Rattle.lx_console.specs.Standing.{StandsFor, level_now};
-ghost use Rattle.lx_edit.specs.Planned.{CanPlace, IsReady, with_above};
+ghost use Rattle.lx_console.specs.ConsoleMeaning.{StandsFor, level_now};
+ghost use Rattle.lx_edit.specs.PlanMeaning.{CanPlace, IsReady, with_above};
 ghost use Rattle.lx_record.specs.Records.{Records, PlansRecord, IsRefused};
 
 use crate::kept::kept_above;

@@ -4,8 +4,8 @@ ghost use Rattle.std.specs.Prelude.{◌≡◌, ◌≢◌, ◌≤◌, ◌==◌, �
 ghost use Rattle.lx_spec.specs.Show.{ValidCue};
 ghost use Rattle.lx_spec.specs.TrackedLevel.{tracked};
 ghost use Rattle.lx_spec.specs.EditedShow.{with_levels};
-ghost use Rattle.lx_spec.specs.Recorded.{untracked};
-ghost use Rattle.lx_console.specs.Standing.{level_now};
+ghost use Rattle.lx_spec.specs.RecordedLevels.{untracked};
+ghost use Rattle.lx_console.specs.ConsoleMeaning.{level_now};
 ghost use Rattle.lx_record.specs.Cues.{cue_or_new};
 
 use lx_base::{Chan, CueNo, Level};

@@ -6,7 +6,7 @@ ghost use Rattle.lx_io.specs.Puts.{Puts};
 ghost use Rattle.lx_spec.specs.SheetOutput.{cue_line, cue_lines};
 ghost use Rattle.lx_spec.specs.Replies.{row_of, row_text};
 ghost use Rattle.lx_spec.specs.TrackedLevel.{cue_of};
-ghost use Rattle.lx_sheet.specs.Standing.{RowsStandFor};
+ghost use Rattle.lx_sheet.specs.SheetMeaning.{RowsStandFor};
 
 use crate::cue_line::put_cue_line;
 use crate::row::put_row;

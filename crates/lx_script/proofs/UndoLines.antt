@@ -8,7 +8,7 @@ use Rattle.lx_spec.specs.Phrase.{Tokens}
 use Rattle.lx_spec.specs.Text.{tokens, is_separator, begins_comment, after_all}
 use Rattle.lx_spec.specs.UndoSession.{undo_meaning}
 use Rattle.lx_lex.proofs.Separators.{apart}
-use Rattle.lx_lex.proofs.Cutting.{goes, next-token, take-after_all, take_while-yes, after_all-no}
+use Rattle.lx_lex.proofs.LineCuts.{goes, next-token, take-after_all, take_while-yes, after_all-no}
 use Rattle.lx_script.specs.UndoLines.{is_other_letter}
 
 -- a token that begins with such a letter is none of the three words

@@ -13,7 +13,7 @@ use Rattle.lx_spec.specs.Desk.{Desk, step}
 use Rattle.lx_spec.specs.Kept.{Kept}
 use Rattle.lx_spec.specs.Session.{Session, Counts, command_of, count_of, after_attempts, bad_reply}
 use Rattle.lx_spec.specs.RefusedPlaces.{is_edit, IsAcceptedEdit}
-use Rattle.lx_console.specs.Standing.{StandsFor}
+use Rattle.lx_console.specs.ConsoleMeaning.{StandsFor}
 use Rattle.lx_session.specs.declared.tally.Tally.{Tally}
 use Rattle.lx_session.specs.LineState.{LineState, next_of, unattempted}
 use Rattle.lx_session.specs.LineProgress.{LineProgress, IsWanted, resumed}

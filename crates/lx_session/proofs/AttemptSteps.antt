@@ -16,7 +16,7 @@ use Rattle.lx_spec.specs.Desk.{Desk, step, after_command}
 use Rattle.lx_spec.specs.FirstRefusal.{◌>>=◌}
 use Rattle.lx_spec.specs.Kept.{Kept, kept}
 use Rattle.lx_spec.specs.Session.{Session, Attempt, answered, attempt, and_then, command_of, attempts_of, attempts_for}
-use Rattle.lx_console.specs.Standing.{StandsFor}
+use Rattle.lx_console.specs.ConsoleMeaning.{StandsFor}
 use Rattle.lx_console.specs.Ticks.{after_ticks}
 use Rattle.lx_console.proofs.PassedTicks.{rest_after}
 use Rattle.lx_session.specs.LineState.{LineState, next_of}

@@ -6,7 +6,7 @@ use Rattle.lx_spec.specs.declared.Refusal.{Refusal}
 use Rattle.lx_spec.specs.declared.Refusal.TheVariants.{Memory}
 use Rattle.lx_spec.specs.Desk.{Desk}
 use Rattle.lx_spec.specs.Kept.{Kept}
-use Rattle.lx_console.specs.Standing.{StandsFor, Answers, Obeys}
+use Rattle.lx_console.specs.ConsoleMeaning.{StandsFor, Answers, Obeys}
 use Rattle.lx_session.specs.Attempts.{Attempted}
 
 answered_at : (d : Desk) (c : Command) (r : Result (Unit {0}) Refusal) (before after : Kept) → Answers d c r after → StandsFor d before

@@ -11,14 +11,14 @@ use Rattle.lx_spec.specs.Text.{lines_of}
 use Rattle.lx_spec.specs.Session.{Session, begin_at, after_lines, session, after_first, ends_script, replies}
 use Rattle.lx_spec.specs.SessionOf.{SessionOf, begin_with, after_each, whole_session, WantsAtEach}
 use Rattle.lx_spec.specs.RefusedPlaces.{WantsAtEdits}
-use Rattle.lx_console.specs.Standing.{StandsFor}
+use Rattle.lx_console.specs.ConsoleMeaning.{StandsFor}
 use Rattle.lx_session.specs.declared.fault.SessionFault.{SessionFault}
 use Rattle.lx_session.specs.declared.fault.SessionFault.TheVariants.{ReadFault, WriteFault, InputTooLong, Memory}
 use Rattle.lx_session.specs.declared.tally.Tally.{Tally}
 use Rattle.lx_session.specs.Attempts.{after_commands}
 use Rattle.lx_session.specs.Known.{Known}
 use Rattle.lx_session.specs.HeardDesk.{HeardDesk, HasHeard, HeardMayWant, heard_answer, plain, unheard}
-use Rattle.lx_session.specs.ScriptAnswered.{AnsweredWhole, AnsweredPrefix, AnsweredTaken, ScriptAnswered}
+use Rattle.lx_session.specs.ScriptAnswer.{AnsweredWhole, AnsweredPrefix, AnsweredTaken, ScriptAnswered}
 use Rattle.lx_session.specs.SessionOutcome.{HasDone, WholeScript, ScriptPrefix, TakenScript, SessionOutcome}
 use Rattle.lx_session.proofs.HeardLines.{heard_lawful}
 use Rattle.lx_session.proofs.ScriptEnds.{front_of_whole, first_of_whole}

@@ -10,7 +10,7 @@ use Rattle.lx_spec.specs.Desk.{Desk}
 use Rattle.lx_spec.specs.Kept.{Kept}
 use Rattle.lx_spec.specs.Replies.{row_of, row_text, refused_text}
 use Rattle.lx_spec.specs.Session.{with_text, refused_reply}
-use Rattle.lx_console.specs.Standing.{StandsFor}
+use Rattle.lx_console.specs.ConsoleMeaning.{StandsFor}
 use Rattle.lx_session.specs.LineReply.{reply_to, tried_at}
 
 -- no row, no cue

@@ -26,7 +26,7 @@ use Rattle.lx_session.specs.Known.{Known}
 use Rattle.lx_session.specs.LineOutcome.{QuitLine, HalfAnsweredLine, Untouched, ScriptEnd, SinkStop, LineOutcome}
 use Rattle.lx_session.specs.LineReply.{counts_in}
 use Rattle.lx_session.specs.OneAnswer.{IsLawful}
-use Rattle.lx_session.specs.ScriptAnswered.{AnsweredWhole, AnsweredPrefix, AnsweredTaken, ScriptAnswered}
+use Rattle.lx_session.specs.ScriptAnswer.{AnsweredWhole, AnsweredPrefix, AnsweredTaken, ScriptAnswered}
 use Rattle.lx_session.specs.SessionOutcome.{KeepsLimit}
 use Rattle.lx_session.specs.declared.fault.SessionFault.{SessionFault}
 use Rattle.lx_session.specs.declared.fault.SessionFault.TheVariants.{ReadFault, WriteFault, InputTooLong, Memory}

@@ -6,7 +6,7 @@ use Rattle.lx_spec.specs.Replies.{frame_text}
 use Rattle.lx_spec.specs.Show.{Show}
 use Rattle.lx_spec.specs.ShowText.{show_text}
 use Rattle.lx_spec.specs.Kept.{Kept}
-use Rattle.lx_console.specs.Standing.{StandsFor}
+use Rattle.lx_console.specs.ConsoleMeaning.{StandsFor}
 
 pub frame_shown : (d : Desk) (console : Kept) (m u : ℕ) (slots : List ℕ) → StandsFor d console → m ≡ console.playback.moment
     → slots ≡ frame d u → frame_text [] m u slots ≡ frame_text [] d.playback.moment u (frame d u)

@@ -8,7 +8,7 @@ use Rattle.std.proofs.KnownBytes.{Appends-nil, Appends-trans}
 use Rattle.std.proofs.lemmas.List.{map-append, length-map}
 use Rattle.lx_base.specs.declared.TheConstants.{INPUT_BYTES}
 use Rattle.lx_lex.specs.declared.lines.Lines.{Lines}
-use Rattle.lx_lex.specs.Handed.{HandedOut}
+use Rattle.lx_lex.specs.LinesHandedOut.{HandedOut}
 use Rattle.lx_lex.specs.Unread.{unread, line_of}
 use Rattle.lx_lex.proofs.HandingOut.{handed_none, handed_then}
 use Rattle.lx_lex.specs.declared.lines.Step.TheVariants.{InputTooLong}

@@ -7,7 +7,7 @@ use Rattle.lx_spec.specs.declared.Refusal.{Refusal}
 use Rattle.lx_spec.specs.declared.Refusal.TheVariants.{Memory}
 use Rattle.lx_spec.specs.Desk.{Desk, step, after_command}
 use Rattle.lx_spec.specs.Kept.{Kept}
-use Rattle.lx_console.specs.Standing.{StandsFor, Refuses}
+use Rattle.lx_console.specs.ConsoleMeaning.{StandsFor, Refuses}
 
 -- the desk after commands, in order
 abbrev pub after_commands : Desk → List Command → Desk

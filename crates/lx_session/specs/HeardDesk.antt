@@ -7,7 +7,7 @@ use Rattle.lx_spec.specs.Script.{line_of}
 use Rattle.lx_spec.specs.Session.{Session, after_line}
 use Rattle.lx_spec.specs.SessionOf.{SessionOf, Answer}
 use Rattle.lx_spec.specs.RefusedPlaces.{IsAcceptedEdit}
-use Rattle.lx_console.specs.Standing.{StandsFor}
+use Rattle.lx_console.specs.ConsoleMeaning.{StandsFor}
 use Rattle.lx_session.specs.Attempts.{after_commands}
 
 -- The desk, and the commands that were accepted since it was opened. `first` is the listener as it was then.

@@ -4,7 +4,7 @@ pub mod Attempts
 pub mod LineProgress
 pub mod LineReply
 pub mod OneAnswer
-pub mod ScriptAnswered
+pub mod ScriptAnswer
 pub mod LineAnswer
 pub mod HeardDesk
 pub mod LineOutcome

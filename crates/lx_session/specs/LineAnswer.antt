@@ -7,7 +7,7 @@ use Rattle.lx_spec.specs.declared.Line.{Line}
 use Rattle.lx_spec.specs.Kept.{Kept}
 use Rattle.lx_spec.specs.Session.{Session, after_meaning}
 use Rattle.lx_spec.specs.RefusedPlaces.{IsAcceptedEdit}
-use Rattle.lx_console.specs.Standing.{StandsFor}
+use Rattle.lx_console.specs.ConsoleMeaning.{StandsFor}
 use Rattle.lx_session.specs.declared.tally.Tally.{Tally}
 use Rattle.lx_session.specs.Attempts.{WantsLast, after_commands}
 use Rattle.lx_session.specs.LineReply.{counts_in}

@@ -8,7 +8,7 @@ use Rattle.lx_spec.specs.Desk.{Desk, step}
 use Rattle.lx_spec.specs.Kept.{Kept}
 use Rattle.lx_spec.specs.Session.{Session, Attempt, attempts_for, command_of}
 use Rattle.lx_spec.specs.RefusedPlaces.{is_edit}
-use Rattle.lx_console.specs.Standing.{StandsFor}
+use Rattle.lx_console.specs.ConsoleMeaning.{StandsFor}
 use Rattle.lx_console.specs.Ticks.{after_ticks}
 use Rattle.lx_session.specs.LineState.{LineState, next_of}
 use Rattle.lx_session.specs.Attempts.{WantsLast, after_commands}

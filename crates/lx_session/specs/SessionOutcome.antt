@@ -13,7 +13,7 @@ use Rattle.lx_spec.specs.Desk.{Desk, replay}
 use Rattle.lx_spec.specs.CutInput.{first_lines, CutOff}
 use Rattle.lx_spec.specs.Session.{replies, accepted, tallied, after_first, bytes_wanted}
 use Rattle.lx_spec.specs.RefusedPlaces.{PlacesAreEdits}
-use Rattle.lx_console.specs.Standing.{StandsFor}
+use Rattle.lx_console.specs.ConsoleMeaning.{StandsFor}
 use Rattle.lx_session.specs.Attempts.{after_commands}
 use Rattle.lx_session.specs.Known.{Known}
 use Rattle.lx_session.specs.declared.fault.SessionFault.{SessionFault}

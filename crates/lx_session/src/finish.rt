@@ -9,7 +9,7 @@ ghost use Rattle.lx_spec.specs.Output.{frame};
 ghost use Rattle.lx_spec.specs.ShowText.{show_text};
 ghost use Rattle.lx_script.specs.ReplyTexts.{reply_text};
 ghost use Rattle.lx_console.specs.Slots.{universe as universe_in};
-ghost use Rattle.lx_console.specs.Standing.{StandsFor};
+ghost use Rattle.lx_console.specs.ConsoleMeaning.{StandsFor};
 ghost use Rattle.lx_spec.specs.Session.{is_quit};
 ghost use Rattle.lx_session.specs.LineState.{next_of, frame_of};
 ghost use Rattle.lx_session.specs.LineReply.{reply_to, reply_for, counts_after, counts_in, counted, HasRoom, HasOneMore};

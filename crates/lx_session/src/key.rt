@@ -3,7 +3,7 @@
 ghost use Rattle.std.specs.Prelude.{◌≡◌, IfOk, IsTrue, Some, is_none, is_some, true};
 ghost use Rattle.lx_io.specs.Puts.{HasSinkCause};
 ghost use Rattle.lx_spec.specs.Desk.{Desk};
-ghost use Rattle.lx_console.specs.Standing.{StandsFor};
+ghost use Rattle.lx_console.specs.ConsoleMeaning.{StandsFor};
 ghost use Rattle.lx_session.specs.Attempts.{Attempted, ListenedAttempt, heard_of};
 ghost use Rattle.lx_session.specs.LineAnswer.{LineAnswer, FromDesk};
 ghost use Rattle.lx_session.specs.LineReply.{HasRoom, HasOneMore};

@@ -5,7 +5,7 @@ ghost use Rattle.lx_io.specs.Puts.{HasSinkCause};
 ghost use Rattle.lx_spec.specs.Desk.{Desk};
 ghost use Rattle.lx_spec.specs.Session.{Session, is_quit};
 ghost use Rattle.lx_spec.specs.ValidEdit.{ValidCommand, ValidLine};
-ghost use Rattle.lx_console.specs.Standing.{StandsFor};
+ghost use Rattle.lx_console.specs.ConsoleMeaning.{StandsFor};
 ghost use Rattle.lx_script.specs.Briefs.{IsReadAs};
 ghost use Rattle.lx_session.specs.Attempts.{ListenedAttempt, heard_of};
 ghost use Rattle.lx_session.specs.LineState.{meaning_of, next_of};

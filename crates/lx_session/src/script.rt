@@ -4,8 +4,8 @@ ghost use Rattle.std.specs.Prelude.{◌≤◌, true, IfSome};
 ghost use Rattle.lx_base.specs.declared.TheConstants.{INPUT_BYTES};
 ghost use Rattle.lx_lex.specs.Unread.{CanAdvance, SameSource, bytes_taken, source_left, unread};
 ghost use Rattle.lx_spec.specs.Desk.{Desk};
-ghost use Rattle.lx_console.specs.Standing.{StandsFor};
-ghost use Rattle.lx_session.specs.ScriptAnswered.{ScriptAnswered};
+ghost use Rattle.lx_console.specs.ConsoleMeaning.{StandsFor};
+ghost use Rattle.lx_session.specs.ScriptAnswer.{ScriptAnswered};
 ghost use Rattle.lx_session.specs.SessionOutcome.{SessionOutcome, HasSessionCause, KeepsLimit};
 
 use crate::answers::Answers;

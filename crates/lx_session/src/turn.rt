@@ -7,7 +7,7 @@ ghost use Rattle.lx_spec.specs.Script.{line_of};
 ghost use Rattle.lx_spec.specs.Show.{InRange};
 ghost use Rattle.lx_spec.specs.TwoLists.{where_of_second};
 ghost use Rattle.lx_spec.specs.ValidEdit.{ValidCommand};
-ghost use Rattle.lx_console.specs.Standing.{StandsFor};
+ghost use Rattle.lx_console.specs.ConsoleMeaning.{StandsFor};
 ghost use Rattle.lx_script.specs.Briefs.{IsReadAs};
 ghost use Rattle.lx_console.specs.Ticks.{after_ticks};
 ghost use Rattle.lx_session.specs.LineState.{unattempted, meaning_of, next_of, frame_of};

@@ -15,7 +15,7 @@ use Rattle.lx_sheet.specs.declared.sheet.Place.{Place}
 use Rattle.lx_sheet.specs.Rows.{level_of}
 use Rattle.lx_sheet.specs.Block.{cue_level, last_value, count_under}
 use Rattle.lx_sheet.specs.After.{level_after, IsDecision, IsEnd, IsRight}
-use Rattle.lx_sheet.specs.Standing.{cue_numbers, next_decision}
+use Rattle.lx_sheet.specs.SheetMeaning.{cue_numbers, next_decision}
 use Rattle.lx_sheet.proofs.RightRows.{IsOrderOf, column_right, last_right, none_left, right_below, right_past, sorted_numbers, until}
 use Rattle.lx_sheet.proofs.Rows.{sheet_of}
 

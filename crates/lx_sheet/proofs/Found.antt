@@ -18,10 +18,10 @@ use Rattle.lx_show.proofs.Indexes.{up_to_there}
 use Rattle.lx_sheet.specs.declared.sheet.Place.{Place}
 use Rattle.lx_sheet.specs.Rows.{Row, row_at, numbers_of, level_of}
 use Rattle.lx_sheet.specs.Block.{Covers, row_at_place, rows_of, cell, cue_level, last_value}
-use Rattle.lx_sheet.specs.Standing.{RowsStandFor, cue_numbers}
+use Rattle.lx_sheet.specs.SheetMeaning.{RowsStandFor, cue_numbers}
 use Rattle.lx_sheet.proofs.Rows.{count_up_to, count_up_to-map, sheet_of, level_of_block, row_of_place, numbers-rows_of}
 use Rattle.lx_sheet.proofs.Cells.{last_value_some}
-use Rattle.lx_sheet.proofs.Covered.{covered_at}
+use Rattle.lx_sheet.proofs.BlockReach.{covered_at}
 use Rattle.lx_sheet.proofs.RowPool.{row_is}
 use Rattle.lx_spec.proofs.Comparisons.{eq_below, eq_true}
 use Rattle.lx_spec.proofs.SortedLists.{found_number}

@@ -1,5 +1,5 @@
 pub mod Cells
-pub mod Covered
+pub mod BlockReach
 pub mod EditedShows
 pub mod FilledColumns
 pub mod Found

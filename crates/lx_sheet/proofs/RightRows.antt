@@ -17,7 +17,7 @@ use Rattle.lx_sheet.specs.declared.sheet.Place.{Place}
 use Rattle.lx_sheet.specs.Rows.{level_of}
 use Rattle.lx_sheet.specs.Block.{cue_level, last_value, count_under}
 use Rattle.lx_sheet.specs.After.{level_after, IsRight, Follows}
-use Rattle.lx_sheet.specs.Standing.{RowsStandFor, cue_numbers}
+use Rattle.lx_sheet.specs.SheetMeaning.{RowsStandFor, cue_numbers}
 use Rattle.lx_sheet.proofs.Rows.{count_up_to, count_within, up_to_is_front, sheet_of, level_of_block, numbers-rows_of}
 use Rattle.lx_sheet.proofs.LevelsAfter.{level_after-nil}
 

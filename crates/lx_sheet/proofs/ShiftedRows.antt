@@ -17,7 +17,7 @@ use Rattle.lx_show.specs.Indexes.{StandsAt, GoesAt}
 use Rattle.lx_sheet.specs.declared.sheet.Place.{Place}
 use Rattle.lx_sheet.specs.Block.{own_rows, row_at_place, cell}
 use Rattle.lx_sheet.specs.After.{level_after, tracked_on, IsRight, Follows, IsFilled, IsPassed, IsLeft}
-use Rattle.lx_sheet.specs.Standing.{RowsStandFor, cue_numbers}
+use Rattle.lx_sheet.specs.SheetMeaning.{RowsStandFor, cue_numbers}
 use Rattle.lx_sheet.proofs.EditedShows.{below-map, above-map}
 use Rattle.lx_sheet.proofs.Found.{same_numbers}
 use Rattle.lx_sheet.proofs.LevelsAfter.{level_after-take}

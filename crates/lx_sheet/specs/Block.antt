@@ -31,7 +31,7 @@ Covers channels levels order = All (λ r. (r + 1) * channels ≤ length levels) 
 
 -- the cues are sorted by number, and their rows a pool that the block covers; there is room for the greatest number of rows, and for the
 -- levels of one cue
-pub record IsKept (channels : ℕ) (order : List Place) (room : ℕ) (free : List ℕ) (spare : ℕ) (levels : List ℕ) (block : ℕ)
+pub record HoldsRows (channels : ℕ) (order : List Place) (room : ℕ) (free : List ℕ) (spare : ℕ) (levels : List ℕ) (block : ℕ)
     (look : List ℕ) : Type 0 where
   pub few : channels ≤ CHANNELS
   pub sorted : IsStrictlySorted (λ p. p.cue) order

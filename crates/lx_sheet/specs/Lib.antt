@@ -1,4 +1,4 @@
 pub mod Rows
-pub mod Standing
+pub mod SheetMeaning
 pub mod Block
 pub mod After

@@ -8,7 +8,7 @@ ghost use Rattle.lx_spec.specs.TrackedLevel.{cue_of, tracked};
 ghost use Rattle.lx_spec.specs.EditedShow.{with_cue, without_cue};
 ghost use Rattle.lx_sheet.specs.Rows.{numbers_of, level_of};
 ghost use Rattle.lx_sheet.specs.Block.{count_under};
-ghost use Rattle.lx_sheet.specs.Standing.{RowsStandFor, StandsIn, cue_numbers, next_decision};
+ghost use Rattle.lx_sheet.specs.SheetMeaning.{RowsStandFor, StandsIn, cue_numbers, next_decision};
 
 use crate::block::{fill_column, fill_from, fill_inserted, fill_removed, own_row, reach};
 use crate::pool::{add_place, drop_place, list_cues, list_free};

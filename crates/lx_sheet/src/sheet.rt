@@ -8,7 +8,7 @@ ghost use Rattle.lx_spec.specs.TrackedLevel.{cue_of, tracked};
 ghost use Rattle.lx_spec.specs.Replies.{row_of};
 ghost use Rattle.lx_show.specs.Around.{entries_up_to};
 ghost use Rattle.lx_sheet.specs.Rows.{row_at, level_of};
-ghost use Rattle.lx_sheet.specs.Standing.{RowsStandFor};
+ghost use Rattle.lx_sheet.specs.SheetMeaning.{RowsStandFor};
 
 use crate::block::{level_before, own_row};
 use crate::pool::list_free;
@@ -56,13 +56,13 @@ pub struct Sheet {
 impl Model for Sheet {
     ghost use Rattle.std.specs.Prelude.{vec_capacity};
     ghost use Rattle.lx_sheet.specs.Rows.{Sheet as SheetData};
-    ghost use Rattle.lx_sheet.specs.Block.{rows_of, IsKept};
+    ghost use Rattle.lx_sheet.specs.Block.{rows_of, HoldsRows};
 
     ghost Value = { SheetData };
 
     ghost view = { λ s. record { channels = s.channels; rows = rows_of s.channels s.order.items s.levels.items } };
 
-    ghost invariant = { λ s. IsKept s.channels s.order.items (vec_capacity s.order) s.free.items
+    ghost invariant = { λ s. HoldsRows s.channels s.order.items (vec_capacity s.order) s.free.items
         (vec_capacity s.free) s.levels.items (vec_capacity s.levels) s.look.items };
 }
 

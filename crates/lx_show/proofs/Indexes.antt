@@ -14,7 +14,7 @@ use Rattle.lx_spec.specs.Show.{InRange}
 use Rattle.lx_spec.specs.SortedList.{IsStrictlySorted, entry_at, entries_below, entries_above, placed, taken_out}
 use Rattle.lx_show.specs.Indexes.{StandsAt, GoesAt}
 use Rattle.lx_show.specs.Around.{entries_up_to}
-use Rattle.lx_show.specs.Changed.{changed}
+use Rattle.lx_show.specs.ChangedEntry.{changed}
 use Rattle.lx_spec.proofs.Comparisons.{eq_above, eq_below, eq_true, le_false, le_from, le_true, lt_false, lt_from, lt_true}
 use Rattle.lx_spec.proofs.Lists.{all_append, each, filter_all, filter_none, find_none, kept_by, passes, take_with}
 use Rattle.lx_spec.proofs.SortedLists.{IsStrictlySorted-drop, IsStrictlySorted-filter, IsStrictlySorted-placed, above_seam, below_and_above}

@@ -11,8 +11,8 @@ use Rattle.lx_spec.specs.declared.PatchRow.{PatchRow}
 use Rattle.lx_spec.specs.SortedList.{IsStrictlySorted, has_entry, placed, taken_out}
 use Rattle.lx_show.specs.Indexes.{StandsAt}
 use Rattle.lx_spec.specs.Show.{Cue, Group, Sub, Show, Valid, ValidCue, ValidGroup, ValidSub, ValidPatchRow}
-use Rattle.lx_show.specs.Stored.{IsStored}
-use Rattle.lx_show.specs.Changed.{changed}
+use Rattle.lx_show.specs.StoredShow.{IsStored}
+use Rattle.lx_show.specs.ChangedEntry.{changed}
 use Rattle.lx_show.proofs.Indexes.{replaced, sorted_replaced, changed_there}
 use Rattle.lx_show.proofs.ValidShows.{with_cues, with_groups, with_subs, with_patch}
 use Rattle.lx_spec.proofs.Comparisons.{lt_from}

@@ -7,7 +7,7 @@ ghost use Rattle.std.specs.List.{AllByRecursion};
 ghost use Rattle.lx_spec.specs.SortedList.{has_entry, all_placed, entry_at, placed};
 ghost use Rattle.lx_spec.specs.Show.{IsTime, ValidMember, ValidMove, ValidPart};
 ghost use Rattle.lx_spec.specs.TrackedLevel.{cue_of, move_in};
-ghost use Rattle.lx_show.specs.Changed.{changed};
+ghost use Rattle.lx_show.specs.ChangedEntry.{changed};
 
 use crate::cue::place_part;
 use crate::facts;

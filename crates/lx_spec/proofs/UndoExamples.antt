@@ -12,7 +12,7 @@ use Rattle.lx_spec.specs.declared.UndoFault.TheVariants.{NothingToUndo, NothingT
 use Rattle.lx_spec.specs.FirstRefusal.{◌>>=◌}
 use Rattle.lx_spec.specs.Show.{Cue, Show}
 use Rattle.lx_spec.specs.EditedShow.{new_cue, new_part}
-use Rattle.lx_spec.specs.Recorded.{recorded}
+use Rattle.lx_spec.specs.RecordedLevels.{recorded}
 use Rattle.lx_spec.specs.Undo.{UndoState, opened_with, with_show, undo_step, record_step, undo, redo}
 
 -- a show of two channels

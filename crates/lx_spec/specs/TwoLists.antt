@@ -17,7 +17,7 @@ use Rattle.lx_spec.specs.Text.{tokens, rest_after}
 use Rattle.lx_spec.specs.Script.{line_of}
 use Rattle.lx_spec.specs.Desk.{Desk, opened, step, after_command}
 use Rattle.lx_spec.specs.Output.{contribution, dimmer_value, dimmers_of}
-use Rattle.lx_spec.specs.Recorded.{on_stage}
+use Rattle.lx_spec.specs.RecordedLevels.{on_stage}
 use Rattle.lx_spec.specs.Replies.{frame_text}
 use Rattle.lx_spec.specs.Session.{after_meaning, with_text}
 use Rattle.lx_spec.specs.RefusedPlaces.{IsAcceptedEdit}

@@ -2,6 +2,6 @@
 #![tactic(auto)]
 
 mod rack;
-mod raise;
+mod contributions;
 
 pub use rack::SubRack;

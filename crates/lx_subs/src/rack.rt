@@ -7,7 +7,7 @@ ghost use Rattle.lx_spec.specs.Output.{contribution, fader};
 ghost use Rattle.lx_mixer.specs.Table.{IsTable};
 ghost use Rattle.lx_subs.specs.Faders.{StandsForSubs};
 
-use crate::raise::fill;
+use crate::contributions::fill;
 use lx_base::{Level, SUBS, SubNo};
 use lx_show::Show;
 use std::alloc::{AllocError, Global};

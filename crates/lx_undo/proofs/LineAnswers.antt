@@ -28,7 +28,7 @@ use Rattle.lx_session.specs.LineProgress.{LineProgress}
 use Rattle.lx_session.specs.LineReply.{reply_to, counts_after, counts_in}
 use Rattle.lx_session.specs.LineState.{LineState, meaning_of, next_of, unattempted}
 use Rattle.lx_session.specs.OneAnswer.{IsLine, OneAnswer}
-use Rattle.lx_console.specs.Standing.{StandsFor}
+use Rattle.lx_console.specs.ConsoleMeaning.{StandsFor}
 use Rattle.lx_session.proofs.AnsweredLines.{answered}
 use Rattle.lx_session.proofs.AttemptSteps.{last}
 use Rattle.lx_session.proofs.HeardLines.{meaning_is}

@@ -17,7 +17,7 @@ use Rattle.lx_spec.specs.RefusedPlaces.{is_edit}
 use Rattle.lx_spec.specs.Session.{command_of, count_of}
 use Rattle.lx_spec.specs.SessionOf.{SessionOf, at_desk}
 use Rattle.lx_spec.specs.Undo.{UndoState, replaced, undo_step}
-use Rattle.lx_console.specs.Standing.{StandsFor, Refuses}
+use Rattle.lx_console.specs.ConsoleMeaning.{StandsFor, Refuses}
 use Rattle.lx_session.specs.Attempts.{after_commands}
 use Rattle.lx_session.specs.LineState.{LineState, next_of, unattempted}
 use Rattle.lx_session.specs.LineProgress.{LineProgress}

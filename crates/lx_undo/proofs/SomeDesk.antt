@@ -16,7 +16,7 @@ use Rattle.lx_spec.specs.Desk.{Desk, step}
 use Rattle.lx_spec.specs.Kept.{Kept}
 use Rattle.lx_spec.specs.Laws.{IsInstant}
 use Rattle.lx_spec.proofs.Instant.{level-instant}
-use Rattle.lx_console.specs.Standing.{StandsFor, Answers}
+use Rattle.lx_console.specs.ConsoleMeaning.{StandsFor, Answers}
 
 abbrev past : ℕ → Run
 past base = record { start = 0; cue = base; parts = no_times ∷ []; whole = true }

@@ -9,9 +9,9 @@ use Rattle.lx_spec.specs.Show.{Show}
 use Rattle.lx_spec.specs.Kept.{Kept}
 use Rattle.lx_spec.specs.Undo.{UndoState, last_of, with_show, replaced, back_to, forth_to, undo, redo}
 use Rattle.lx_edit.specs.declared.plans.Plan.{Plan}
-use Rattle.lx_edit.specs.Planned.{planned, IsReady}
+use Rattle.lx_edit.specs.PlanMeaning.{planned, IsReady}
 use Rattle.lx_edit.specs.Undone.{TakesBack}
-use Rattle.lx_console.specs.Standing.{StandsFor}
+use Rattle.lx_console.specs.ConsoleMeaning.{StandsFor}
 use Rattle.lx_undo.specs.Shows.{KeptPlans, AllReady, ReadyBack, ReadyForth, led_back, shows_before, shows_after}
 use Rattle.lx_undo.specs.UndoDeskMeaning.{UndoKept, UndoStands, Steps, seen}
 use Rattle.lx_undo.proofs.Histories.{but_last, last_is, with_first, with_last}

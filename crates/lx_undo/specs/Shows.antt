@@ -2,7 +2,7 @@
 use Rattle.std.specs.Prelude.{◌≡◌, ℕ, ◌+◌, ◌≤◌, List, [], ◌∷◌, length, ⊤}
 use Rattle.lx_spec.specs.Show.{Show}
 use Rattle.lx_edit.specs.declared.plans.Plan.{Plan}
-use Rattle.lx_edit.specs.Planned.{planned, IsReady}
+use Rattle.lx_edit.specs.PlanMeaning.{planned, IsReady}
 
 -- The plans that take back, the one for the oldest show first; and those that go forth again, the next one first. Room for so many of either.
 pub record KeptPlans : Type 0 where

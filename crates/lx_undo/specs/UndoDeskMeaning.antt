@@ -6,7 +6,7 @@ use Rattle.lx_spec.specs.declared.Refusal.TheVariants.{Memory}
 use Rattle.lx_spec.specs.Show.{Show}
 use Rattle.lx_spec.specs.Kept.{Kept}
 use Rattle.lx_spec.specs.Undo.{UndoState}
-use Rattle.lx_console.specs.Standing.{StandsFor}
+use Rattle.lx_console.specs.ConsoleMeaning.{StandsFor}
 use Rattle.lx_undo.specs.Shows.{KeptPlans, shows_before, shows_after}
 
 -- what is kept of the state: all but the list of all runs

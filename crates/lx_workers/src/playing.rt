@@ -6,7 +6,7 @@ ghost use Rattle.lx_base.specs.declared.TheConstants.{INPUT_BYTES};
 ghost use Rattle.lx_workers.specs.declared.playing.TheConstants.{OUTLETS};
 ghost use Rattle.lx_lex.specs.Unread.{CanAdvance, SameSource, bytes_taken, unread};
 ghost use Rattle.lx_spec.specs.Desk.{opened};
-ghost use Rattle.lx_console.specs.Standing.{StandsFor};
+ghost use Rattle.lx_console.specs.ConsoleMeaning.{StandsFor};
 ghost use Rattle.lx_session.specs.SessionOutcome.{HasSessionCause, KeepsLimit};
 ghost use Rattle.lx_gate.specs.Gates.{Published};
 ghost use Rattle.lx_gate.specs.Desks.{IsInStep};

@@ -1,4 +1,4 @@
-use Rattle.lx_console.proofs.Obeying.{stands_replay, stands_next, stands_answered}
+use Rattle.lx_console.proofs.Obedience.{stands_replay, stands_next, stands_answered}
 use Rattle.lx_console.proofs.laws.replays.Goals as goal
 
 pub returns : goal.returns

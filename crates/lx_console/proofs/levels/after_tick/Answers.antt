@@ -1,5 +1,5 @@
 use Rattle.std.proofs.Common.{◌∙◌, sym}
-use Rattle.lx_console.proofs.Played.{stands_started, stands_same}
+use Rattle.lx_console.proofs.RunChanges.{stands_started, stands_same}
 use Rattle.lx_console.proofs.levels.after_tick.Goals as goal
 
 pub settled-requires-clause-moment : goal.settled-requires-clause-moment

@@ -1,6 +1,6 @@
 use Rattle.std.proofs.Common.{◌≡◌, ℕ, ◌+◌, ◌-◌, ◌<◌, ◌≤◌, false, length}
 use Rattle.lx_edit.specs.ChanSet.{has_chan}
-use Rattle.lx_levels.specs.Standing.{StandsAt}
+use Rattle.lx_levels.specs.LevelsMeaning.{StandsAt}
 use Rattle.lx_console.proofs.levels.recompute_touched.Given as goal
 
 abbrev pub invariant-loop-k : goal.invariant-loop-k

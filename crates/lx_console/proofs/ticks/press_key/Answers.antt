@@ -1,5 +1,5 @@
 use Rattle.lx_playback.specs.Told.{run_made}
-use Rattle.lx_console.proofs.Played.{stands_before, not_both}
+use Rattle.lx_console.proofs.RunChanges.{stands_before, not_both}
 use Rattle.lx_console.proofs.ticks.press_key.Goals as goal
 
 pub after_key-requires-clause-started : goal.after_key-requires-clause-started

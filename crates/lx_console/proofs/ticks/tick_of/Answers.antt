@@ -1,4 +1,4 @@
-use Rattle.lx_console.proofs.Played.{tick_told}
+use Rattle.lx_console.proofs.RunChanges.{tick_told}
 use Rattle.lx_console.proofs.ticks.tick_of.Goals as goal
 
 pub after_tick-requires-clause-ticked : goal.after_tick-requires-clause-ticked

@@ -4,7 +4,7 @@ use Rattle.std.specs.Option.{IsSomeAnd}
 use Rattle.lx_spec.specs.SortedList.{entries_above}
 use Rattle.lx_spec.specs.Show.{Cue}
 use Rattle.lx_edit.specs.ChanSet.{has_chan}
-use Rattle.lx_console.specs.Unseen.{IsUnseen, decided_by}
+use Rattle.lx_console.specs.UnseenEdits.{IsUnseen, decided_by}
 use Rattle.lx_console.proofs.Apart.{unseen_by}
 use Rattle.lx_console.proofs.unseen.seen.Goals as goal
 

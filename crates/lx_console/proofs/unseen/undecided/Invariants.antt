@@ -1,6 +1,6 @@
 use Rattle.std.proofs.Common.{◌≡◌, ℕ, ◌<◌, ◌⊎◌, false, ◌+◌, ◌-◌}
 use Rattle.lx_edit.specs.ChanSet.{has_chan}
-use Rattle.lx_console.specs.Unseen.{decided_by}
+use Rattle.lx_console.specs.UnseenEdits.{decided_by}
 use Rattle.lx_console.proofs.unseen.undecided.Given as goal
 
 abbrev pub invariant-loop-k : goal.invariant-loop-k

@@ -1,7 +1,7 @@
 use Rattle.std.proofs.Common.{◌≡◌, ◌≤◌, ◌+◌, ◌-◌, ◌^◌, ℕ, List, [], true, None, slice_get, Some}
 use Rattle.crossbeam_queue.specs.Passes.{view, IsSamePass}
 use Rattle.lx_spec.specs.Desk.{Desk}
-use Rattle.lx_console.specs.Standing.{StandsFor}
+use Rattle.lx_console.specs.ConsoleMeaning.{StandsFor}
 use Rattle.lx_crew.specs.declared.entry.Entry.{Entry}
 use Rattle.lx_crew.specs.Entries.{of_place, has_last}
 use Rattle.lx_crew.specs.Rule.{engine_view}

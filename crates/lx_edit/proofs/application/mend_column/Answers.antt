@@ -2,8 +2,8 @@ use Rattle.std.proofs.Common.{◌≡◌, ◌≤◌, ℕ, sym, subst}
 use Rattle.std.specs.Prelude.{Option}
 use Rattle.lx_spec.specs.TrackedLevel.{tracked}
 use Rattle.lx_sheet.specs.Rows.{level_of}
-use Rattle.lx_sheet.specs.Standing.{next_decision}
-use Rattle.lx_edit.specs.Changing.{IsPast}
+use Rattle.lx_sheet.specs.SheetMeaning.{next_decision}
+use Rattle.lx_edit.specs.CueChanges.{IsPast}
 use Rattle.lx_edit.proofs.ChangedColumns.{from_there}
 use Rattle.lx_edit.proofs.application.mend_column.Goals as goal
 

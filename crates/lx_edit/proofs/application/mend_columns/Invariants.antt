@@ -2,9 +2,9 @@ use Rattle.std.proofs.Common.{◌≡◌, ◌≤◌, ◌<◌, ◌+◌, ◌-◌, �
 use Rattle.lx_base.specs.declared.TheConstants.{CHANNELS}
 use Rattle.lx_spec.specs.TrackedLevel.{tracked}
 use Rattle.lx_sheet.specs.Rows.{level_of, numbers_of}
-use Rattle.lx_sheet.specs.Standing.{StandsIn, cue_numbers}
+use Rattle.lx_sheet.specs.SheetMeaning.{StandsIn, cue_numbers}
 use Rattle.lx_edit.specs.ChanSet.{has_chan}
-use Rattle.lx_edit.specs.Changing.{IsPast}
+use Rattle.lx_edit.specs.CueChanges.{IsPast}
 use Rattle.lx_edit.proofs.application.mend_columns.Given as goal
 
 abbrev pub invariant-loop-k : goal.invariant-loop-k

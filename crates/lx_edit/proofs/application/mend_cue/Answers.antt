@@ -2,8 +2,8 @@ use Rattle.std.proofs.Common.{◌<◌, ◌≤◌, ◌∙◌, ap, sym, subst, ℕ
 use Rattle.std.specs.Prelude.{IsTrue, is_some, None}
 use Rattle.lx_spec.specs.Show.{Show}
 use Rattle.lx_spec.specs.TrackedLevel.{cue_of, tracked}
-use Rattle.lx_sheet.specs.Standing.{cue_numbers}
-use Rattle.lx_edit.specs.Changing.{IsPast}
+use Rattle.lx_sheet.specs.SheetMeaning.{cue_numbers}
+use Rattle.lx_edit.specs.CueChanges.{IsPast}
 use Rattle.lx_edit.proofs.ChangedColumns.{others_with, numbers_with, alike_past}
 use Rattle.lx_edit.proofs.Walks.{tracked_below-with_cue}
 use Rattle.lx_edit.proofs.application.mend_cue.Goals as goal

@@ -2,7 +2,7 @@ use Rattle.std.proofs.Common.{◌≡◌, ◌<◌, ◌≤◌, ◌∙◌, ℕ, ap,
 use Rattle.lx_spec.specs.Show.{Cue, Show, Valid}
 use Rattle.lx_spec.specs.TrackedLevel.{tracked}
 use Rattle.lx_spec.specs.EditedShow.{with_cue}
-use Rattle.lx_sheet.specs.Standing.{cue_numbers}
+use Rattle.lx_sheet.specs.SheetMeaning.{cue_numbers}
 use Rattle.lx_edit.proofs.ChangedColumns.{alone_numbers, alone_below, alone_later, others_alone}
 use Rattle.lx_edit.proofs.TakenBack.{alone_kept}
 use Rattle.lx_edit.proofs.application.place_alone.Goals as goal

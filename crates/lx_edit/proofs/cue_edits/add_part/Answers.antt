@@ -8,7 +8,7 @@ use Rattle.lx_spec.specs.Show.{Cue}
 use Rattle.lx_spec.specs.EditedShow.{with_part, new_part, with_cue, edited}
 use Rattle.lx_show.proofs.ChangedCues.{with_placed_part}
 use Rattle.lx_edit.specs.declared.plans.Plan.TheVariants.{PlaceCue}
-use Rattle.lx_edit.specs.Planned.{IsPlan}
+use Rattle.lx_edit.specs.PlanMeaning.{IsPlan}
 use Rattle.lx_edit.proofs.CuePlans.{places, valid_new_part}
 use Rattle.lx_edit.proofs.cue_edits.add_part.Goals as goal
 

@@ -5,7 +5,7 @@ use Rattle.lx_spec.specs.declared.Edit.TheVariants.{DeletePart}
 use Rattle.lx_spec.specs.Show.{Cue}
 use Rattle.lx_spec.specs.EditedShow.{without_part, with_cue, edited}
 use Rattle.lx_edit.specs.declared.plans.Plan.TheVariants.{PlaceCue}
-use Rattle.lx_edit.specs.Planned.{IsPlan}
+use Rattle.lx_edit.specs.PlanMeaning.{IsPlan}
 use Rattle.lx_edit.proofs.CuePlans.{places, valid_without_part}
 use Rattle.lx_edit.proofs.cue_edits.delete_part.Goals as goal
 

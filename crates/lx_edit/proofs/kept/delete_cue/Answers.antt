@@ -1,8 +1,8 @@
 use Rattle.std.proofs.Common.{◌≤◌, ap, refl, ◌∙◌, sym, arith}
 use Rattle.lx_base.specs.Numbers.{Span}
 use Rattle.lx_base.specs.declared.TheConstants.{CHANNELS}
-use Rattle.lx_edit.specs.Planned.{covers}
-use Rattle.lx_edit.proofs.Marked.{not_covered}
+use Rattle.lx_edit.specs.PlanMeaning.{covers}
+use Rattle.lx_edit.proofs.MoveMarks.{not_covered}
 use Rattle.lx_edit.proofs.kept.delete_cue.Goals as goal
 
 pub kept_above-requires-clause-within : goal.kept_above-requires-clause-within

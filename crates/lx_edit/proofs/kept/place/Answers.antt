@@ -6,8 +6,8 @@ use Rattle.lx_spec.specs.declared.Move.{Move}
 use Rattle.lx_spec.specs.declared.Part.{Part}
 use Rattle.lx_spec.specs.Show.{Cue, ValidMove}
 use Rattle.lx_spec.specs.EditedShow.{with_cue}
-use Rattle.lx_edit.specs.Planned.{SameOutside, with_above}
-use Rattle.lx_edit.proofs.Marked.{decided_alike}
+use Rattle.lx_edit.specs.PlanMeaning.{SameOutside, with_above}
+use Rattle.lx_edit.proofs.MoveMarks.{decided_alike}
 use Rattle.lx_edit.proofs.PlacedMoves.{changed_is}
 use Rattle.lx_edit.proofs.kept.place.Goals as goal
 

@@ -4,9 +4,9 @@ use Rattle.lx_spec.specs.declared.Member.{Member}
 use Rattle.lx_spec.specs.Show.{Cue}
 use Rattle.lx_spec.specs.EditedShow.{all_at, channels_in, with_levels}
 use Rattle.lx_edit.specs.Found.{IsWithin}
-use Rattle.lx_edit.specs.Planned.{SameOutside}
+use Rattle.lx_edit.specs.PlanMeaning.{SameOutside}
 use Rattle.lx_edit.proofs.CueLevels.{levels_within}
-use Rattle.lx_edit.proofs.Marked.{set_outside}
+use Rattle.lx_edit.proofs.MoveMarks.{set_outside}
 use Rattle.lx_edit.proofs.PlacedMoves.{set_one}
 use Rattle.lx_edit.proofs.levels.set.Goals as goal
 

@@ -5,10 +5,10 @@ use Rattle.std.specs.List.{AllByRecursion}
 use Rattle.lx_spec.specs.declared.Member.{Member}
 use Rattle.lx_base.specs.Numbers.{Span}
 use Rattle.lx_spec.specs.Show.{Cue, Group, ValidCue}
-use Rattle.lx_edit.specs.Planned.{SameOutside}
+use Rattle.lx_edit.specs.PlanMeaning.{SameOutside}
 use Rattle.lx_spec.specs.EditedShow.{in_proportion}
 use Rattle.lx_edit.proofs.CueLevels.{proportion_within}
-use Rattle.lx_edit.proofs.Marked.{valid_outside}
+use Rattle.lx_edit.proofs.MoveMarks.{valid_outside}
 use Rattle.lx_edit.proofs.levels.set_group.Goals as goal
 
 pub with_levels-requires-clause-channels : goal.with_levels-requires-clause-channels

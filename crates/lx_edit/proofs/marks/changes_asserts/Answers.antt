@@ -3,8 +3,8 @@ use Rattle.lx_spec.specs.declared.Move.{Move}
 use Rattle.lx_spec.specs.SortedList.{placed}
 use Rattle.lx_spec.specs.TrackedLevel.{asserts}
 use Rattle.lx_edit.specs.declared.plans.Plan.{Plan}
-use Rattle.lx_edit.specs.Planned.{planned}
-use Rattle.lx_edit.proofs.Asserted.{asserts_with, asserts_without, asserts_above}
+use Rattle.lx_edit.specs.PlanMeaning.{planned}
+use Rattle.lx_edit.proofs.AssertedCues.{asserts_with, asserts_without, asserts_above}
 use Rattle.lx_edit.proofs.PlacedMoves.{asserts_moved}
 use Rattle.lx_edit.proofs.marks.changes_asserts.Goals as goal
 

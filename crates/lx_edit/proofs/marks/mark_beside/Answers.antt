@@ -4,7 +4,7 @@ use Rattle.lx_spec.specs.declared.Move.{Move}
 use Rattle.lx_spec.specs.SortedList.{entry_at}
 use Rattle.lx_show.proofs.Indexes.{stands_entry, stands_where}
 use Rattle.lx_edit.specs.ChanSet.{has_chan}
-use Rattle.lx_edit.proofs.Marked.{among_grown, among_more, one_more}
+use Rattle.lx_edit.proofs.MoveMarks.{among_grown, among_more, one_more}
 use Rattle.lx_edit.proofs.marks.mark_beside.Goals as goal
 
 pub returns-then-get-clause-here : goal.returns-then-get-clause-here

@@ -5,9 +5,9 @@ use Rattle.lx_spec.specs.declared.Move.{Move}
 use Rattle.lx_spec.specs.SortedList.{entry_at}
 use Rattle.lx_spec.specs.Show.{Cue}
 use Rattle.lx_spec.specs.TrackedLevel.{tracked}
-use Rattle.lx_edit.specs.Changing.{move_by, SameEntry}
+use Rattle.lx_edit.specs.CueChanges.{move_by, SameEntry}
 use Rattle.lx_edit.proofs.ChangedColumns.{same_entry, nothing_tracks}
-use Rattle.lx_edit.proofs.Marked.{move_by-moves}
+use Rattle.lx_edit.proofs.MoveMarks.{move_by-moves}
 use Rattle.lx_edit.proofs.marks.mark_change.Goals as goal
 
 pub returns-then-is_block-clause-same : goal.returns-then-is_block-clause-same

@@ -1,5 +1,5 @@
 use Rattle.std.proofs.Common.{◌≤◌, length, take}
-use Rattle.lx_edit.specs.Changing.{AreAmong, Grows}
+use Rattle.lx_edit.specs.CueChanges.{AreAmong, Grows}
 use Rattle.lx_edit.proofs.marks.mark_rest.Given as goal
 
 abbrev pub invariant-loop-entry : goal.invariant-loop-entry

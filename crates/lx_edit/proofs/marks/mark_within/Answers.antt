@@ -6,8 +6,8 @@ use Rattle.lx_spec.specs.SortedList.{entry_at}
 use Rattle.lx_spec.specs.Show.{Cue}
 use Rattle.lx_spec.specs.TrackedLevel.{cue_of, move_in}
 use Rattle.lx_edit.specs.ChanSet.{has_chan}
-use Rattle.lx_edit.specs.Planned.{SameOutside}
-use Rattle.lx_edit.proofs.Marked.{same_within}
+use Rattle.lx_edit.specs.PlanMeaning.{SameOutside}
+use Rattle.lx_edit.proofs.MoveMarks.{same_within}
 use Rattle.lx_edit.proofs.marks.mark_within.Goals as goal
 
 pub returns-in-Some : goal.returns-in-Some

@@ -2,7 +2,7 @@ use Rattle.std.proofs.Common.{◌∙◌, sym, subst}
 use Rattle.lx_spec.specs.declared.Move.{Move}
 use Rattle.lx_spec.specs.SortedList.{IsStrictlySorted}
 use Rattle.lx_spec.proofs.SortedLists.{IsStrictlySorted-filter}
-use Rattle.lx_edit.proofs.Marked.{part_has}
+use Rattle.lx_edit.proofs.MoveMarks.{part_has}
 use Rattle.lx_edit.proofs.marks.part_of.Goals as goal
 
 pub up_to-requires : goal.up_to-requires

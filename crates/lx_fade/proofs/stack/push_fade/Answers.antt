@@ -1,6 +1,6 @@
 use Rattle.std.proofs.Common.{◌<◌, ◌∙◌, ap, arith, length, List, subst, sym}
 use Rattle.lx_fade.specs.Fades.{Fade, stack_at, StartsFall}
-use Rattle.lx_fade.proofs.Pushed.{stack_at-pushed}
+use Rattle.lx_fade.proofs.PushedFades.{stack_at-pushed}
 use Rattle.lx_fade.specs.Row.{stack_in}
 use Rattle.lx_fade.proofs.Stacks.{stack_in-pushed, StartsFall-pushed}
 use Rattle.lx_fade.proofs.stack.push_fade.Goals as goal

@@ -1,5 +1,5 @@
 use Rattle.std.proofs.Common.{◌≡◌, true}
-use Rattle.lx_levels.specs.Moving.{AreAt}
+use Rattle.lx_levels.specs.CurrentFades.{AreAt}
 use Rattle.lx_levels.proofs.levels.block_is_at.Given as goal
 
 abbrev pub invariant-loop-i : goal.invariant-loop-i

@@ -5,8 +5,8 @@ use Rattle.lx_spec.specs.Level.{last_cue}
 use Rattle.lx_base.specs.declared.TheConstants.{TICK_END}
 use Rattle.lx_playback.specs.Valid.{ValidRun}
 use Rattle.lx_levels.specs.declared.replay.Act.{Act}
-use Rattle.lx_levels.specs.Following.{IsSeen, AreKnown, AreValid}
-use Rattle.lx_levels.proofs.Followed.{seen_on, seen_off, target_of, known_on, known_off, known_more, valid_more}
+use Rattle.lx_levels.specs.RunsInTurn.{IsSeen, AreKnown, AreValid}
+use Rattle.lx_levels.proofs.RunsInTurn.{seen_on, seen_off, target_of, known_on, known_off, known_more, valid_more}
 use Rattle.lx_levels.proofs.replay.ground_of.Goals as goal
 use Rattle.lx_levels.proofs.replay.ground_of.Goals.{then-acts+else-is_over+else-run-since, else-acts}
 

@@ -1,4 +1,4 @@
-use Rattle.lx_levels.specs.Following.{AreKnown, AreValid, IsSeen}
+use Rattle.lx_levels.specs.RunsInTurn.{AreKnown, AreValid, IsSeen}
 use Rattle.lx_levels.proofs.replay.ground_of.Given as goal
 
 abbrev pub invariant-loop-left : goal.invariant-loop-left

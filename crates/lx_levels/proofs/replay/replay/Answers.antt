@@ -5,8 +5,8 @@ use Rattle.lx_spec.specs.Run.{Run}
 use Rattle.lx_spec.specs.Level.{last_cue}
 use Rattle.lx_levels.specs.Stacks.{Stack}
 use Rattle.lx_levels.specs.declared.replay.Act.{Act}
-use Rattle.lx_levels.specs.Following.{IsReplayed, IsKnown}
-use Rattle.lx_levels.proofs.Followed.{replayed_on, replayed_off, known_here}
+use Rattle.lx_levels.specs.RunsInTurn.{IsReplayed, IsKnown}
+use Rattle.lx_levels.proofs.RunsInTurn.{replayed_on, replayed_off, known_here}
 use Rattle.lx_levels.proofs.replay.replay.Goals as goal
 use Rattle.lx_levels.proofs.replay.replay.Goals.{in-Some, in_default}
 

@@ -1,6 +1,6 @@
 use Rattle.std.proofs.Common.{◌≤◌, ℕ, length}
 use Rattle.lx_spec.specs.Show.{Show}
-use Rattle.lx_levels.specs.Following.{AreKnown, IsGround, IsReplayed}
+use Rattle.lx_levels.specs.RunsInTurn.{AreKnown, IsGround, IsReplayed}
 use Rattle.lx_levels.proofs.replay.replay.Given as goal
 
 abbrev pub invariant-loop-i : goal.invariant-loop-i

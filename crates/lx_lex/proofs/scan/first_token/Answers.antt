@@ -3,7 +3,7 @@ use Rattle.std.proofs.lemmas.Bool.Decides.{nat_tests}
 use Rattle.std.proofs.lemmas.List.{take_all}
 use Rattle.lx_spec.specs.Text.{is_separator, begins_comment, after_all}
 use Rattle.lx_lex.proofs.Separators.{apart}
-use Rattle.lx_lex.proofs.Cutting.{next-nothing, next-comment, next-token, goes}
+use Rattle.lx_lex.proofs.LineCuts.{next-nothing, next-comment, next-token, goes}
 use Rattle.lx_lex.proofs.scan.first_token.Goals as goal
 
 none : (l : List ℕ) → length l < 1 → l ≡ []

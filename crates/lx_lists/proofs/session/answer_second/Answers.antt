@@ -4,7 +4,7 @@ use Rattle.lx_spec.specs.declared.Line.{Line}
 use Rattle.lx_spec.specs.Script.{line_of}
 use Rattle.lx_spec.specs.SessionOf.{at_desk}
 use Rattle.lx_spec.specs.TwoLists.{where_of_second}
-use Rattle.lx_console.specs.Standing.{StandsFor}
+use Rattle.lx_console.specs.ConsoleMeaning.{StandsFor}
 use Rattle.lx_session.specs.LineAnswer.{LineAnswer}
 use Rattle.lx_session.specs.LineProgress.{LineProgress}
 use Rattle.lx_session.specs.LineState.{LineState}

@@ -4,7 +4,7 @@ use Rattle.std.specs.List.{range_with_len}
 use Rattle.lx_io.proofs.Chain.{Puts-then, Puts-stops, Puts-is}
 use Rattle.lx_spec.specs.MakeOutput.{made_cue}
 use Rattle.lx_make.specs.Generator.{cue_text}
-use Rattle.lx_make.proofs.Generated.{range_more, range_around, cue_is, after_cue_is}
+use Rattle.lx_make.proofs.MadeInputs.{range_more, range_around, cue_is, after_cue_is}
 use Rattle.lx_make.proofs.input.put_cues.Goals as goal
 
 pub loop-before-preserved : goal.loop-before-preserved

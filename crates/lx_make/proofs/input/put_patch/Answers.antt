@@ -3,7 +3,7 @@ use Rattle.std.specs.Prelude.{flat_map}
 use Rattle.std.specs.List.{range_with_len}
 use Rattle.lx_io.proofs.Chain.{Puts-then, Puts-stops, Puts-is}
 use Rattle.lx_spec.specs.MakeOutput.{made_patch}
-use Rattle.lx_make.proofs.Generated.{range_more, range_around}
+use Rattle.lx_make.proofs.MadeInputs.{range_more, range_around}
 use Rattle.lx_make.proofs.input.put_patch.Goals as goal
 
 pub loop-before-preserved : goal.loop-before-preserved

@@ -4,7 +4,7 @@ use Rattle.std.specs.List.{range_with_len}
 use Rattle.lx_io.proofs.Chain.{Puts-then, Puts-stops, Puts-is}
 use Rattle.lx_spec.specs.MakeOutput.{made_turn}
 use Rattle.lx_make.specs.Generator.{turn_text}
-use Rattle.lx_make.proofs.Generated.{range_more, range_around, turn_is, after_turn_is}
+use Rattle.lx_make.proofs.MadeInputs.{range_more, range_around, turn_is, after_turn_is}
 use Rattle.lx_make.proofs.input.put_turns.Goals as goal
 
 pub loop-before-preserved : goal.loop-before-preserved

@@ -2,7 +2,7 @@ use Rattle.std.proofs.Common.{◌∙◌, Ok, Err, refl, sym, subst}
 use Rattle.lx_lex.proofs.CuttingOff.{not_read}
 use Rattle.lx_lex.proofs.HandingOut.{handed_one}
 use Rattle.lx_reader.specs.Answer.{TurnOf}
-use Rattle.lx_reader.specs.Settled.{settled}
+use Rattle.lx_reader.specs.SettledCue.{settled}
 use Rattle.lx_reader.proofs.LinePass.{line_turn, long_turn}
 use Rattle.lx_reader.proofs.pass.read_line.Goals as goal
 

@@ -1,5 +1,5 @@
 use Rattle.lx_spec.specs.TrackedLevel.{tracked}
-use Rattle.lx_console.specs.Standing.{level_now}
+use Rattle.lx_console.specs.ConsoleMeaning.{level_now}
 use Rattle.lx_edit.proofs.CueLevels.{chosen_next}
 use Rattle.lx_record.specs.Cues.{is_changed}
 use Rattle.lx_record.proofs.kept.kept_moves.Goals as goal

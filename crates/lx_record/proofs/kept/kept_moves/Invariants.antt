@@ -2,7 +2,7 @@ use Rattle.std.proofs.Common.{◌≡◌, ◌-◌, map}
 use Rattle.std.specs.Prelude.{filter}
 use Rattle.std.specs.List.{range_with_len}
 use Rattle.lx_spec.specs.TrackedLevel.{tracked}
-use Rattle.lx_console.specs.Standing.{level_now}
+use Rattle.lx_console.specs.ConsoleMeaning.{level_now}
 use Rattle.lx_record.specs.Cues.{is_changed}
 use Rattle.lx_record.proofs.kept.kept_moves.Given as goal
 

@@ -3,7 +3,7 @@ use Rattle.std.specs.Prelude.{Result}
 use Rattle.lx_spec.specs.declared.Refusal.{Refusal}
 use Rattle.lx_spec.specs.Show.{Show}
 use Rattle.lx_edit.specs.declared.plans.Plan.{Plan}
-use Rattle.lx_edit.specs.Planned.{planned}
+use Rattle.lx_edit.specs.PlanMeaning.{planned}
 use Rattle.lx_record.proofs.RecordAnswer.{of_stage}
 use Rattle.lx_record.proofs.record.plan_record.Goals as goal
 

@@ -1,7 +1,7 @@
 use Rattle.std.proofs.Common.{Ok, IfSome, ap, subst, arith}
 use Rattle.lx_lex.specs.Unread.{unread}
 use Rattle.lx_session.specs.LineOutcome.{LineOutcome}
-use Rattle.lx_session.specs.ScriptAnswered.{ScriptAnswered}
+use Rattle.lx_session.specs.ScriptAnswer.{ScriptAnswered}
 use Rattle.lx_session.specs.SessionOutcome.{KeepsLimit}
 use Rattle.lx_session.proofs.SoFar.{so_far_none, so_far_more, passed_none, passed_more, fits}
 use Rattle.lx_session.proofs.ScriptEnds.{so_far_ends, so_far_fails, fails_by_limit, through}

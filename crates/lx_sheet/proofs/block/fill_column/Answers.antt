@@ -10,7 +10,7 @@ use Rattle.lx_sheet.specs.declared.sheet.Place.{Place}
 use Rattle.lx_sheet.specs.Block.{cell, cue_level, row_at_place, last_value}
 use Rattle.lx_sheet.specs.After.{level_after, tracked_on}
 use Rattle.lx_sheet.proofs.Cells.{cell-set_here, cell-set_other}
-use Rattle.lx_sheet.proofs.Covered.{covered_at}
+use Rattle.lx_sheet.proofs.BlockReach.{covered_at}
 use Rattle.lx_sheet.proofs.LevelsAfter.{level_after-take}
 use Rattle.lx_sheet.proofs.RowPool.{rows_differ}
 use Rattle.lx_sheet.proofs.block.fill_column.Goals as goal

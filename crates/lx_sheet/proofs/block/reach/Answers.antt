@@ -2,7 +2,7 @@ use Rattle.std.proofs.Common.{◌≡◌, ◌-◌, ◌*◌, ◌++◌, ℕ, List, 
 use Rattle.std.specs.Prelude.{replicate}
 use Rattle.std.proofs.lemmas.List.{take_all}
 use Rattle.lx_sheet.specs.Block.{cell}
-use Rattle.lx_sheet.proofs.Covered.{cell_grown}
+use Rattle.lx_sheet.proofs.BlockReach.{cell_grown}
 use Rattle.lx_sheet.proofs.block.reach.Goals as goal
 
 pub returns-in-Ok-clause-same : goal.returns-in-Ok-clause-same

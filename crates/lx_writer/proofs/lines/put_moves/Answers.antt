@@ -3,7 +3,7 @@ use Rattle.std.specs.Prelude.{◌==◌}
 use Rattle.lx_io.proofs.Chain.{Puts-then, Puts-stops}
 use Rattle.lx_spec.specs.declared.Move.{Move}
 use Rattle.lx_spec.specs.ShowText.{move_text}
-use Rattle.lx_writer.proofs.Writing.{kept_split, kept_more}
+use Rattle.lx_writer.proofs.TextPieces.{kept_split, kept_more}
 use Rattle.lx_writer.proofs.lines.put_moves.Goals as goal
 
 pub loop-from-preserved : goal.loop-from-preserved

@@ -4,7 +4,7 @@ use Rattle.lx_spec.specs.Numerals.{level_text}
 use Rattle.std.proofs.lemmas.List.{take_all}
 use Rattle.lx_spec.specs.declared.Move.{Move}
 use Rattle.lx_spec.specs.ShowText.{move_text}
-use Rattle.lx_writer.proofs.Writing.{kept_next, line_next, without_word}
+use Rattle.lx_writer.proofs.TextPieces.{kept_next, line_next, without_word}
 use Rattle.lx_writer.proofs.lines.write_lines.Goals as goal
 use Rattle.lx_writer.proofs.lines.write_lines.Goals.{then-stands_in, else-stands_in}
 

@@ -5,7 +5,7 @@ use Rattle.lx_spec.specs.Output.{dimmer_value}
 use Rattle.lx_spec.specs.Kept.{Kept}
 use Rattle.lx_mixer.specs.Table.{IsTable}
 use Rattle.lx_patch.proofs.Frames.{patched}
-use Rattle.lx_console.specs.Standing.{out_now}
+use Rattle.lx_console.specs.ConsoleMeaning.{out_now}
 use Rattle.lx_console.proofs.AllRuns.{frame_of_all}
 use Rattle.lx_console.proofs.console.Console.frames.Goals as goal
 

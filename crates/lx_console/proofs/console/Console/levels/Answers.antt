@@ -1,5 +1,5 @@
 use Rattle.std.proofs.Common.{subst, sym}
-use Rattle.lx_console.specs.Standing.{StandsFor}
+use Rattle.lx_console.specs.ConsoleMeaning.{StandsFor}
 use Rattle.lx_console.proofs.console.Console.levels.Goals as goal
 
 pub returns-clause-all : goal.returns-clause-all

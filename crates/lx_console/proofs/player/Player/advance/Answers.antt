@@ -2,7 +2,7 @@ use Rattle.std.proofs.Common.{sym, subst}
 use Rattle.lx_spec.specs.Kept.{Kept}
 use Rattle.lx_console.specs.declared.change.Change.{Change}
 use Rattle.lx_console.specs.Changes.{Changes, of_levels}
-use Rattle.lx_console.proofs.Changed.{played_changes}
+use Rattle.lx_console.proofs.OutputChanges.{played_changes}
 use Rattle.lx_console.proofs.player.Player.advance.Goals as goal
 
 pub returns-clause-changes : goal.returns-clause-changes

@@ -1,14 +1,14 @@
 use Rattle.std.proofs.Common.{◌≡◌, ℕ, ◌+◌, List, inl, inr, arith, sym, ap, subst, rules, ◌∙◌}
 use Rattle.lx_spec.specs.Show.{Show}
 use Rattle.lx_spec.specs.Kept.{Kept}
-use Rattle.lx_edit.specs.Planned.{planned}
+use Rattle.lx_edit.specs.PlanMeaning.{planned}
 use Rattle.lx_edit.specs.Undone.{TakesBack}
-use Rattle.lx_levels.specs.Standing.{StandsAt}
+use Rattle.lx_levels.specs.LevelsMeaning.{StandsAt}
 use Rattle.lx_console.proofs.Apart.{placed_stands}
 use Rattle.lx_console.specs.Changes.{Changes}
-use Rattle.lx_console.proofs.Touched.{in_show, untouched_levels, same_given, same_reach, same_channels}
-use Rattle.lx_console.proofs.Changed.{planned_changes}
-use Rattle.lx_console.proofs.Obeying.{stands_planned}
+use Rattle.lx_console.proofs.EditEffects.{in_show, untouched_levels, same_given, same_reach, same_channels}
+use Rattle.lx_console.proofs.OutputChanges.{planned_changes}
+use Rattle.lx_console.proofs.Obedience.{stands_planned}
 use Rattle.lx_console.proofs.player.Player.apply.Goals as goal
 
 pub recompute_touched-leveled-requires-clause-others : goal.recompute_touched-leveled-requires-clause-others

@@ -1,7 +1,7 @@
 use Rattle.std.proofs.Common.{subst, sym}
 use Rattle.lx_spec.specs.declared.Command.{Command}
-use Rattle.lx_console.specs.Standing.{Answers}
-use Rattle.lx_console.proofs.Obeying.{answers, answers_edit}
+use Rattle.lx_console.specs.ConsoleMeaning.{Answers}
+use Rattle.lx_console.proofs.Obedience.{answers, answers_edit}
 use Rattle.lx_console.proofs.player.Player.command.Goals as goal
 
 pub returns-in-Edit-clause-answers : goal.returns-in-Edit-clause-answers

@@ -4,8 +4,8 @@ use Rattle.lx_spec.specs.declared.Key.{Key}
 use Rattle.lx_spec.specs.declared.Command.TheVariants as commands
 use Rattle.lx_spec.specs.Desk.{step}
 use Rattle.lx_spec.specs.Kept.{Kept}
-use Rattle.lx_console.specs.Standing.{StandsFor, Obeys}
-use Rattle.lx_console.proofs.Obeying.{obeys_play, obeys_fader, obeys_master}
+use Rattle.lx_console.specs.ConsoleMeaning.{StandsFor, Obeys}
+use Rattle.lx_console.proofs.Obedience.{obeys_play, obeys_fader, obeys_master}
 use Rattle.lx_console.proofs.player.Player.press.Goals as goal
 
 pub returns-in-Play-clause-obeys : goal.returns-in-Play-clause-obeys

@@ -1,4 +1,4 @@
-use Rattle.lx_console.proofs.Obeying.{obeys_tick}
+use Rattle.lx_console.proofs.Obedience.{obeys_tick}
 use Rattle.lx_console.proofs.player.Player.tick.Goals as goal
 
 pub returns-clause-obeys : goal.returns-clause-obeys

@@ -1,6 +1,6 @@
 use Rattle.std.proofs.Common.{◌-◌, ◌∙◌, List, ap, arith, length, sym, subst}
 use Rattle.lx_levels.specs.Stacks.{Stack}
-use Rattle.lx_levels.specs.Moving.{IsRightBut}
+use Rattle.lx_levels.specs.CurrentFades.{IsRightBut}
 use Rattle.lx_levels.proofs.Begun.{written}
 use Rattle.lx_levels.proofs.UnderWay.{right_but}
 use Rattle.lx_levels.proofs.levels.Levels.recompute.Goals as goal

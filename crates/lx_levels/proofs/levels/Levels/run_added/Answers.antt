@@ -4,9 +4,9 @@ use Rattle.lx_spec.specs.TrackedLevel.{tracked}
 use Rattle.lx_spec.specs.Run.{Run, acts}
 use Rattle.lx_spec.specs.Level.{last_cue}
 use Rattle.lx_levels.specs.Stacks.{stack_of}
-use Rattle.lx_levels.specs.Moving.{IsStill}
-use Rattle.lx_levels.specs.Standing.{IsAdded}
-use Rattle.lx_levels.proofs.Added.{starts_now, still_up_to, channel_added, channel_passed, same_run_copied}
+use Rattle.lx_levels.specs.CurrentFades.{IsStill}
+use Rattle.lx_levels.specs.LevelsMeaning.{IsAdded}
+use Rattle.lx_levels.proofs.AddedRuns.{starts_now, still_up_to, channel_added, channel_passed, same_run_copied}
 use Rattle.lx_levels.proofs.Looks.{tracked_in_look}
 use Rattle.lx_levels.proofs.levels.Levels.run_added.Goals as goal
 use Rattle.lx_levels.proofs.levels.Levels.run_added.Goals.{then-acts, else-acts}

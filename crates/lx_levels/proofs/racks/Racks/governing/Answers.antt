@@ -1,7 +1,7 @@
 use Rattle.std.proofs.Common.{◌≡◌, ◌<◌, ◌≤◌, ◌*◌, sym, ap, subst, length, get_or, arith}
 use Rattle.std.proofs.lemmas.List.{get_or_read}
 use Rattle.lx_levels.specs.Stacks.{Stack}
-use Rattle.lx_levels.specs.Moving.{Governs}
+use Rattle.lx_levels.specs.CurrentFades.{Governs}
 use Rattle.lx_levels.proofs.Columns.{place_within, stack_read}
 use Rattle.lx_levels.proofs.racks.Racks.governing.Goals as goal
 

@@ -1,5 +1,5 @@
 use Rattle.std.proofs.Common.{sym, arith, inl, inr, refl}
-use Rattle.lx_lex.proofs.Holding.{passed}
+use Rattle.lx_lex.proofs.HeldBytes.{passed}
 use Rattle.lx_lex.proofs.Ranges.{has_feed-range}
 use Rattle.lx_lex.proofs.lines.Lines.pass_held.Goals as goal
 use Rattle.lx_lex.proofs.lines.Lines.pass_held.Goals.{then-found, else-found}

@@ -1,7 +1,7 @@
 use Rattle.std.proofs.Common.{inl, arith}
 use Rattle.lx_spec.specs.Text.{is_separator, begins_comment}
 use Rattle.lx_lex.specs.Left.{left}
-use Rattle.lx_lex.proofs.Cutting.{length-tokens_by}
+use Rattle.lx_lex.proofs.LineCuts.{length-tokens_by}
 use Rattle.lx_lex.proofs.token.Tokens.count_left.Goals as goal
 
 pub count-requires-clause-fits : goal.count-requires-clause-fits

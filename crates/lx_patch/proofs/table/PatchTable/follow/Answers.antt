@@ -1,7 +1,7 @@
 use Rattle.std.proofs.Common.{List, ℕ, refl, subst, sym, ap, ◌∙◌}
 use Rattle.lx_patch.specs.DimmerTable.{DimmerTable}
-use Rattle.lx_patch.specs.Followed.{IsAbove}
-use Rattle.lx_patch.proofs.Following.{table_of_all, table_of_lit}
+use Rattle.lx_patch.specs.FollowerChains.{IsAbove}
+use Rattle.lx_patch.proofs.SlotChanges.{table_of_all, table_of_lit}
 use Rattle.lx_patch.proofs.table.PatchTable.follow.Goals as goal
 
 pub returns-then-many : goal.returns-then-many

@@ -4,7 +4,7 @@ use Rattle.lx_spec.specs.declared.PartTimes.{PartTimes}
 use Rattle.lx_spec.specs.Run.{captured}
 use Rattle.lx_spec.specs.Show.{Cue}
 use Rattle.lx_playback.specs.Valid.{ValidTimes}
-use Rattle.lx_playback.proofs.Captured.{captured_valid, some_captured}
+use Rattle.lx_playback.proofs.CapturedTimes.{captured_valid, some_captured}
 use Rattle.lx_playback.proofs.playback.Playback.start.Goals as goal
 
 pub append-requires-clause-run : goal.append-requires-clause-run

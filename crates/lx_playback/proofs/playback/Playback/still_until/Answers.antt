@@ -3,7 +3,7 @@ use Rattle.std.specs.Prelude.{◌+◌, nat_le}
 use Rattle.std.specs.List.{list_all}
 use Rattle.lx_spec.specs.Run.{extent}
 use Rattle.lx_spec.specs.Playback.{Playback}
-use Rattle.lx_playback.proofs.Passed.{pending_still, live_still}
+use Rattle.lx_playback.proofs.QuietTicks.{pending_still, live_still}
 use Rattle.lx_playback.proofs.playback.Playback.still_until.Goals as goal
 
 pub returns-in-Some-clause-still : goal.returns-in-Some-clause-still

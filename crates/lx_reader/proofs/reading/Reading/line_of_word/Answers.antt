@@ -1,6 +1,6 @@
 use Rattle.std.proofs.Common.{◌≡◌, ap, ◌∙◌}
 use Rattle.lx_lex.specs.Left.{left}
-use Rattle.lx_reader.specs.Settled.{settled}
+use Rattle.lx_reader.specs.SettledCue.{settled}
 use Rattle.lx_reader.proofs.QuietLines.{settled_took}
 use Rattle.lx_reader.proofs.reading.Reading.line_of_word.Goals as goal
 use Rattle.lx_reader.proofs.reading.Reading.line_of_word.Goals.{else-is_levels-via-then-is_levels+then-self+else-opens, else-is_levels-via-then-is_levels+else-self, else-is_levels-via-else-is_levels}

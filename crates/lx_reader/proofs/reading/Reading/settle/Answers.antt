@@ -4,8 +4,8 @@ use Rattle.std.specs.Option.{IsSomeAnd}
 use Rattle.std.specs.Prelude.{IfSome}
 use Rattle.lx_spec.specs.Show.{ValidMove}
 use Rattle.lx_spec.specs.TrackedLevel.{cue_of}
-use Rattle.lx_reader.specs.Settled.{FitsIn}
-use Rattle.lx_reader.proofs.Settling.{all_within, settled_is}
+use Rattle.lx_reader.specs.SettledCue.{FitsIn}
+use Rattle.lx_reader.proofs.SettledCues.{all_within, settled_is}
 use Rattle.lx_reader.proofs.reading.Reading.settle.Goals as goal
 
 pub listed-requires-clause-most : goal.listed-requires-clause-most

@@ -6,7 +6,7 @@ use Rattle.lx_spec.specs.TrackedLevel.{tracked}
 use Rattle.lx_sheet.specs.declared.sheet.Place.{Place}
 use Rattle.lx_sheet.specs.Rows.{Sheet, level_of, numbers_of}
 use Rattle.lx_sheet.specs.Block.{AreApart, own_rows, cell, row_at_place, count_under}
-use Rattle.lx_sheet.specs.Standing.{cue_numbers}
+use Rattle.lx_sheet.specs.SheetMeaning.{cue_numbers}
 use Rattle.lx_sheet.proofs.FilledColumns.{column_filled, end_is}
 use Rattle.lx_sheet.proofs.RightRows.{IsOrderOf, count_under-map, count_under_within, last_within, until}
 use Rattle.lx_sheet.proofs.Past.{level_of_past, tracked_past}

@@ -12,8 +12,8 @@ use Rattle.lx_spec.specs.TrackedLevel.{cue_of}
 use Rattle.lx_sheet.specs.declared.sheet.Place.{Place}
 use Rattle.lx_sheet.specs.Block.{AreApart, Covers, own_rows, row_at_place}
 use Rattle.lx_sheet.specs.After.{IsFilled, IsPassed}
-use Rattle.lx_sheet.specs.Standing.{RowsStandFor}
-use Rattle.lx_sheet.proofs.Covered.{covers_inserted, covers_lent, covers_longer, stands_same}
+use Rattle.lx_sheet.specs.SheetMeaning.{RowsStandFor}
+use Rattle.lx_sheet.proofs.BlockReach.{covers_inserted, covers_lent, covers_longer, stands_same}
 use Rattle.lx_sheet.proofs.RightRows.{order_of, order_length, rows_right}
 use Rattle.lx_sheet.proofs.RowPool.{own_apart}
 use Rattle.lx_sheet.proofs.Rows.{sheet_of}

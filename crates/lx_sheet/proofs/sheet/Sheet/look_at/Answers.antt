@@ -6,7 +6,7 @@ use Rattle.lx_sheet.specs.declared.sheet.Place.{Place}
 use Rattle.lx_sheet.specs.Rows.{Sheet, level_of}
 use Rattle.lx_sheet.specs.Block.{AreApart, own_rows, row_at_place}
 use Rattle.lx_sheet.proofs.Cells.{width_of}
-use Rattle.lx_sheet.proofs.Covered.{covered_at}
+use Rattle.lx_sheet.proofs.BlockReach.{covered_at}
 use Rattle.lx_sheet.proofs.Found.{look_found, look_none}
 use Rattle.lx_sheet.proofs.RowPool.{own_apart}
 use Rattle.lx_sheet.proofs.Rows.{count_up_to, count_up_to-map}

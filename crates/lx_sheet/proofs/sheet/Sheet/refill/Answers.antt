@@ -7,8 +7,8 @@ use Rattle.lx_sheet.specs.declared.sheet.Place.{Place}
 use Rattle.lx_sheet.specs.Rows.{Sheet}
 use Rattle.lx_sheet.specs.Block.{placed_from, AreApart, own_rows}
 use Rattle.lx_sheet.specs.After.{IsFilled}
-use Rattle.lx_sheet.specs.Standing.{RowsStandFor}
-use Rattle.lx_sheet.proofs.Covered.{covers_lent, covers_listed}
+use Rattle.lx_sheet.specs.SheetMeaning.{RowsStandFor}
+use Rattle.lx_sheet.proofs.BlockReach.{covers_lent, covers_listed}
 use Rattle.lx_sheet.proofs.EditedShows.{IsStrictlySorted-placed_from, numbers-placed_from}
 use Rattle.lx_sheet.proofs.LevelsAfter.{level_after-nil}
 use Rattle.lx_sheet.proofs.RightRows.{filled_stands}

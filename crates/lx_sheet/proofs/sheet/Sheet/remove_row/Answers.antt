@@ -10,8 +10,8 @@ use Rattle.lx_spec.specs.EditedShow.{without_cue}
 use Rattle.lx_sheet.specs.declared.sheet.Place.{Place}
 use Rattle.lx_sheet.specs.Block.{AreApart, Covers, own_rows}
 use Rattle.lx_sheet.specs.After.{IsFilled, IsLeft}
-use Rattle.lx_sheet.specs.Standing.{RowsStandFor}
-use Rattle.lx_sheet.proofs.Covered.{covered_at, covers_lent, covers_removed}
+use Rattle.lx_sheet.specs.SheetMeaning.{RowsStandFor}
+use Rattle.lx_sheet.proofs.BlockReach.{covered_at, covers_lent, covers_removed}
 use Rattle.lx_sheet.proofs.RightRows.{order_of, rows_right}
 use Rattle.lx_sheet.proofs.RowPool.{own_apart, row_within}
 use Rattle.lx_sheet.proofs.Rows.{sheet_of}

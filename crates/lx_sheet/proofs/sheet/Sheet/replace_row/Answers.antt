@@ -10,7 +10,7 @@ use Rattle.lx_show.specs.Indexes.{StandsAt}
 use Rattle.lx_sheet.specs.declared.sheet.Place.{Place}
 use Rattle.lx_sheet.specs.Block.{AreApart, own_rows}
 use Rattle.lx_sheet.specs.After.{IsFilled}
-use Rattle.lx_sheet.specs.Standing.{RowsStandFor}
+use Rattle.lx_sheet.specs.SheetMeaning.{RowsStandFor}
 use Rattle.lx_sheet.proofs.Found.{same_numbers}
 use Rattle.lx_sheet.proofs.RightRows.{order_of}
 use Rattle.lx_sheet.proofs.RowPool.{own_apart}

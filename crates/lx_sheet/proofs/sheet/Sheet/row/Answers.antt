@@ -5,7 +5,7 @@ use Rattle.lx_show.specs.Indexes.{StandsAt}
 use Rattle.lx_spec.specs.Replies.{row_of}
 use Rattle.lx_sheet.specs.declared.sheet.Place.{Place}
 use Rattle.lx_sheet.specs.Rows.{Sheet, row_at, numbers_of}
-use Rattle.lx_sheet.specs.Standing.{RowsStandFor}
+use Rattle.lx_sheet.specs.SheetMeaning.{RowsStandFor}
 use Rattle.lx_sheet.specs.Block.{row_at_place, AreApart, own_rows}
 use Rattle.lx_sheet.proofs.Cells.{width_of}
 use Rattle.lx_sheet.proofs.Found.{row_found, row_absent, cue_found, cue_absent}

@@ -4,7 +4,7 @@ use Rattle.lx_spec.specs.SortedList.{placed}
 use Rattle.lx_spec.specs.Show.{Cue, Show, ValidCue, ValidMove}
 use Rattle.lx_spec.specs.TrackedLevel.{move_in}
 use Rattle.lx_show.proofs.ChangedCues.{with_move}
-use Rattle.lx_show.proofs.Standing.{cue_stands, cue_has, cue_some}
+use Rattle.lx_show.proofs.EntriesAtPlaces.{cue_stands, cue_has, cue_some}
 use Rattle.lx_show.proofs.StoredShows.{stored_changed_cue, cue_moves_changed}
 use Rattle.lx_show.proofs.show.Show.exchange_move_in.Goals as goal
 

@@ -4,7 +4,7 @@ use Rattle.lx_spec.specs.declared.Member.{Member}
 use Rattle.lx_spec.specs.SortedList.{placed}
 use Rattle.lx_spec.specs.Show.{Show, ValidMember}
 use Rattle.lx_show.proofs.ChangedCues.{group_after_put}
-use Rattle.lx_show.proofs.Standing.{group_stands}
+use Rattle.lx_show.proofs.EntriesAtPlaces.{group_stands}
 use Rattle.lx_show.proofs.StoredShows.{stored_changed_group, group_members_changed}
 use Rattle.lx_show.proofs.show.Show.put_member_in_group.Goals as goal
 

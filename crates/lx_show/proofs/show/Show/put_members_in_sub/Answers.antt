@@ -5,7 +5,7 @@ use Rattle.lx_spec.specs.declared.Member.{Member}
 use Rattle.lx_spec.specs.SortedList.{all_placed}
 use Rattle.lx_spec.specs.Show.{Show, ValidMember}
 use Rattle.lx_show.proofs.ChangedCues.{sub_after_each}
-use Rattle.lx_show.proofs.Standing.{sub_stands}
+use Rattle.lx_show.proofs.EntriesAtPlaces.{sub_stands}
 use Rattle.lx_show.proofs.StoredShows.{stored_changed_sub, sub_members_changed}
 use Rattle.lx_show.proofs.show.Show.put_members_in_sub.Goals as goal
 

@@ -4,7 +4,7 @@ use Rattle.lx_spec.specs.declared.Move.{Move}
 use Rattle.lx_spec.specs.SortedList.{placed}
 use Rattle.lx_spec.specs.Show.{Show, ValidMove}
 use Rattle.lx_show.proofs.ChangedCues.{cue_after_put}
-use Rattle.lx_show.proofs.Standing.{cue_stands, cue_has}
+use Rattle.lx_show.proofs.EntriesAtPlaces.{cue_stands, cue_has}
 use Rattle.lx_show.proofs.StoredShows.{stored_changed_cue, cue_moves_changed}
 use Rattle.lx_show.proofs.show.Show.put_move_in.Goals as goal
 

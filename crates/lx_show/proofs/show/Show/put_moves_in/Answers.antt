@@ -5,7 +5,7 @@ use Rattle.lx_spec.specs.declared.Move.{Move}
 use Rattle.lx_spec.specs.SortedList.{all_placed}
 use Rattle.lx_spec.specs.Show.{Cue, Show, ValidMove}
 use Rattle.lx_show.proofs.ChangedCues.{cue_after_each}
-use Rattle.lx_show.proofs.Standing.{cue_stands, cue_has}
+use Rattle.lx_show.proofs.EntriesAtPlaces.{cue_stands, cue_has}
 use Rattle.lx_show.proofs.StoredShows.{stored_changed_cue, cue_moves_changed}
 use Rattle.lx_show.proofs.show.Show.put_moves_in.Goals as goal
 

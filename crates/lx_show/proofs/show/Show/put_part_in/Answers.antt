@@ -2,7 +2,7 @@ use Rattle.std.proofs.Common.{List}
 use Rattle.lx_spec.specs.declared.Part.{Part}
 use Rattle.lx_spec.specs.SortedList.{placed}
 use Rattle.lx_show.proofs.ChangedCues.{cue_after_part}
-use Rattle.lx_show.proofs.Standing.{cue_stands}
+use Rattle.lx_show.proofs.EntriesAtPlaces.{cue_stands}
 use Rattle.lx_show.proofs.StoredShows.{stored_changed_cue, cue_parts_changed}
 use Rattle.lx_show.proofs.show.Show.put_part_in.Goals as goal
 

@@ -1,7 +1,7 @@
 use Rattle.std.proofs.Common.{refl}
 use Rattle.lx_spec.specs.Show.{Cue}
 use Rattle.lx_show.proofs.ChangedCues.{with_settings}
-use Rattle.lx_show.proofs.Standing.{cue_stands}
+use Rattle.lx_show.proofs.EntriesAtPlaces.{cue_stands}
 use Rattle.lx_show.proofs.StoredShows.{stored_changed_cue, cue_changed}
 use Rattle.lx_show.proofs.show.Show.set_asserted.Goals as goal
 

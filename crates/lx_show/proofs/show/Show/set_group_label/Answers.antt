@@ -1,6 +1,6 @@
 use Rattle.std.proofs.Common.{refl}
 use Rattle.lx_spec.specs.Show.{Group}
-use Rattle.lx_show.proofs.Standing.{group_stands}
+use Rattle.lx_show.proofs.EntriesAtPlaces.{group_stands}
 use Rattle.lx_show.proofs.StoredShows.{stored_changed_group, group_changed}
 use Rattle.lx_show.proofs.show.Show.set_group_label.Goals as goal
 

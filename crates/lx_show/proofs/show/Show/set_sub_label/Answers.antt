@@ -1,6 +1,6 @@
 use Rattle.std.proofs.Common.{refl}
 use Rattle.lx_spec.specs.Show.{Sub}
-use Rattle.lx_show.proofs.Standing.{sub_stands}
+use Rattle.lx_show.proofs.EntriesAtPlaces.{sub_stands}
 use Rattle.lx_show.proofs.StoredShows.{stored_changed_sub, sub_changed}
 use Rattle.lx_show.proofs.show.Show.set_sub_label.Goals as goal
 

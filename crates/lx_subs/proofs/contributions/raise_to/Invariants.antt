@@ -1,7 +1,7 @@
 use Rattle.std.proofs.Common.{◌≡◌, ℕ, ◌<◌, ◌+◌, get_or, max, take, length}
 use Rattle.lx_base.specs.Numbers.{scaled}
 use Rattle.lx_spec.specs.Output.{level_among}
-use Rattle.lx_subs.proofs.raise.raise.Given as goal
+use Rattle.lx_subs.proofs.contributions.raise_to.Given as goal
 
 abbrev pub invariant-loop-member : goal.invariant-loop-member
 invariant-loop-member l = (k : ℕ) → k < length l.given

@@ -1,7 +1,7 @@
 use Rattle.std.proofs.Common.{◌-◌, ◌<◌, arith, length, get_or, max, ap, ◌∙◌}
 use Rattle.std.proofs.Math.ListN.{length-set}
-use Rattle.lx_subs.proofs.Raised.{raised, within_reach}
-use Rattle.lx_subs.proofs.raise.raise.Goals as goal
+use Rattle.lx_subs.proofs.RaisedLevels.{raised, within_reach}
+use Rattle.lx_subs.proofs.contributions.raise_to.Goals as goal
 
 pub loop-member-preserved : goal.loop-member-preserved
 loop-member-preserved c = λ k within.

@@ -3,7 +3,7 @@ use Rattle.std.proofs.Common.{ℕ, List, Some, None}
 use Rattle.std.specs.Prelude.{Option, IsTrue}
 use Rattle.std.specs.Option.{option_map_or}
 use Rattle.lx_spec.specs.SortedList.{entry_at, has_entry, placed}
-use Rattle.lx_show.specs.Changed.{changed}
+use Rattle.lx_show.specs.ChangedEntry.{changed}
 use Rattle.lx_spec.proofs.SortedLists.{has_placed}
 
 -- what is there stays there where an entry is changed

@@ -11,7 +11,7 @@ use Rattle.lx_spec.specs.SortedList.{entry_at}
 use Rattle.lx_spec.specs.Output.{dimmer_value}
 use Rattle.lx_mixer.specs.Table.{IsTable}
 use Rattle.lx_patch.specs.DimmerTable.{DimmerTable, StandsForPatch, Reaches}
-use Rattle.lx_patch.specs.Followed.{IsAbove}
+use Rattle.lx_patch.specs.FollowerChains.{IsAbove}
 use Rattle.lx_patch.specs.Slots.{IsFilled, IsFollowed}
 
 -- in proportion to 0 everything is 0

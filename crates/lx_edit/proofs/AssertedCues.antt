@@ -6,7 +6,7 @@ use Rattle.std.proofs.lemmas.Bool.{cases_eq}
 use Rattle.lx_spec.specs.Show.{Cue, Show}
 use Rattle.lx_spec.specs.TrackedLevel.{asserts}
 use Rattle.lx_spec.specs.EditedShow.{with_cue, without_cue}
-use Rattle.lx_edit.specs.Planned.{with_above}
+use Rattle.lx_edit.specs.PlanMeaning.{with_above}
 use Rattle.lx_edit.proofs.ChangedColumns.{cue_gone, cue_stays}
 use Rattle.lx_spec.proofs.SortedLists.{entry_at-placed_here, entry_at-placed_other}
 

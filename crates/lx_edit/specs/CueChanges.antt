@@ -8,7 +8,7 @@ use Rattle.lx_spec.specs.SortedList.{entries_above, entry_at}
 use Rattle.lx_spec.specs.TrackedLevel.{cue_of, move_in, move_of, tracked, decides}
 use Rattle.lx_spec.specs.EditedShow.{with_cue}
 use Rattle.lx_sheet.specs.Rows.{Sheet}
-use Rattle.lx_sheet.specs.Standing.{RowsStandFor, next_decision}
+use Rattle.lx_sheet.specs.SheetMeaning.{RowsStandFor, next_decision}
 use Rattle.lx_spec.specs.Laws.{SameColumn}
 use Rattle.lx_edit.specs.declared.chan_set.ChanSet.{ChanSet}
 use Rattle.lx_edit.specs.ChanSet.{has_chan}

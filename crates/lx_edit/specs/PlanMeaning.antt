@@ -11,7 +11,7 @@ use Rattle.lx_spec.specs.declared.Refusal.TheVariants.{Memory}
 use Rattle.lx_spec.specs.SortedList.{entry_at, has_entry, placed, taken_out}
 use Rattle.std.specs.Option.{IsSomeAnd}
 use Rattle.lx_spec.specs.declared.Move.{Move}
-use Rattle.lx_show.specs.Changed.{changed}
+use Rattle.lx_show.specs.ChangedEntry.{changed}
 use Rattle.lx_spec.specs.TrackedLevel.{tracked, cue_of}
 use Rattle.lx_spec.specs.Show.{Cue, Show, InRange, ValidCue, ValidGroup, ValidMove, ValidSub}
 use Rattle.lx_spec.specs.EditedShow.{edited, with_cue, without_cue}

@@ -8,12 +8,12 @@ use Rattle.lx_spec.proofs.Columns.{level-columns}
 use Rattle.lx_edit.specs.declared.plans.Plan.{Plan}
 use Rattle.lx_edit.specs.declared.plans.Plan.TheVariants.{Nothing, PlaceCue, PlaceMove, PlaceMoves, PlaceCues, RemoveCue, PlaceGroup, RemoveGroup}
 use Rattle.lx_edit.specs.declared.plans.Plan.TheVariants.{PlaceSub, RemoveSub, PlaceRow, RemoveRow}
-use Rattle.lx_edit.specs.Changing.{KeepsOthers}
-use Rattle.lx_edit.specs.Planned.{planned, dimmer_planned, plans_sub}
+use Rattle.lx_edit.specs.CueChanges.{KeepsOthers}
+use Rattle.lx_edit.specs.PlanMeaning.{planned, dimmer_planned, plans_sub}
 use Rattle.lx_edit.specs.declared.chan_set.ChanSet.{ChanSet}
 use Rattle.lx_edit.specs.ChanSet.{has_chan}
 use Rattle.lx_levels.specs.Stacks.{Kept as Levels}
-use Rattle.lx_levels.specs.Standing.{LevelsStandFor, StandsAt}
+use Rattle.lx_levels.specs.LevelsMeaning.{LevelsStandFor, StandsAt}
 use Rattle.lx_spec.specs.Playback.{Playback}
 use Rattle.lx_mixer.specs.Table.{IsTable}
 use Rattle.lx_patch.proofs.Rows.{others_stay}

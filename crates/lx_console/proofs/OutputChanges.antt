@@ -8,15 +8,15 @@ use Rattle.lx_spec.specs.Playback.{Playback}
 use Rattle.lx_spec.specs.Kept.{Kept}
 use Rattle.lx_edit.specs.declared.plans.Plan.{Plan}
 use Rattle.lx_edit.specs.declared.dirty.Dirty.{Dirty}
-use Rattle.lx_edit.specs.Planned.{planned, dimmer_planned, plans_sub}
+use Rattle.lx_edit.specs.PlanMeaning.{planned, dimmer_planned, plans_sub}
 use Rattle.lx_levels.specs.Stacks.{Kept as Levels, level_at}
-use Rattle.lx_levels.specs.Standing.{LevelsStandFor}
+use Rattle.lx_levels.specs.LevelsMeaning.{LevelsStandFor}
 use Rattle.lx_levels.proofs.Stands.{kept_level}
 use Rattle.lx_console.specs.declared.change.Change.{Change}
 use Rattle.lx_console.specs.declared.change.Change.TheVariants as changes
 use Rattle.lx_console.specs.Changes.{SamePatch, Changes, of_levels}
-use Rattle.lx_console.specs.Filled.{IsChangeOf}
-use Rattle.lx_console.proofs.Touched.{same_channels, same_subs, same_patch, other_rows}
+use Rattle.lx_console.specs.KeptOutput.{IsChangeOf}
+use Rattle.lx_console.proofs.EditEffects.{same_channels, same_subs, same_patch, other_rows}
 
 -- the same show has the same channels and rows
 pub same_show : (before after : Kept) → after.show ≡ before.show → SamePatch before after

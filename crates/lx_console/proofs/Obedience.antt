@@ -21,8 +21,8 @@ use Rattle.lx_spec.specs.Laws.{KeepsRest}
 use Rattle.lx_spec.specs.Show.{Show}
 use Rattle.lx_spec.proofs.RestKept.{kept-step, kept-replay}
 use Rattle.lx_edit.specs.declared.plans.Plan.{Plan}
-use Rattle.lx_edit.specs.Planned.{IsRefusal, planned}
-use Rattle.lx_console.specs.Standing.{StandsFor, Obeys, Answers, Refuses}
+use Rattle.lx_edit.specs.PlanMeaning.{IsRefusal, planned}
+use Rattle.lx_console.specs.ConsoleMeaning.{StandsFor, Obeys, Answers, Refuses}
 
 -- a console that is all of a replayed desk but its list of runs stands for it
 pub stands_replay : (show : Show) (done : List Command) (console : Kept) → console ≡ kept (replay show done)

@@ -16,11 +16,11 @@ use Rattle.lx_spec.specs.SortedList.{all_placed, entry_at, placed}
 use Rattle.lx_spec.specs.Show.{Cue, Show, ValidMove}
 use Rattle.lx_spec.proofs.Lists.{each}
 use Rattle.lx_spec.proofs.SortedLists.{entry_at-placed_here, entry_number, placed_again}
-use Rattle.lx_show.specs.Changed.{changed}
+use Rattle.lx_show.specs.ChangedEntry.{changed}
 use Rattle.lx_reader.specs.declared.reading.Reading.{Reading}
 use Rattle.lx_reader.specs.ReadingState.{change_by, changed_in, cue_with, cues_with, moves_of, with_named}
 use Rattle.lx_spec.specs.EditedShow.{new_cue}
-use Rattle.lx_reader.specs.Settled.{settled, with_open}
+use Rattle.lx_reader.specs.SettledCue.{settled, with_open}
 
 pub settled_is : (g : Reading) (n : ℕ) (moves : List Move) (show : Show) → g.cue ≡ Some n → moves ≡ g.moves
     → show ≡ with_open (Some n) moves g.reader.show → record g.reader { show = show } ≡ settled g

@@ -3,7 +3,7 @@ use Rattle.lx_base.specs.Numbers.{scaled}
 use Rattle.lx_spec.specs.Run.{greatest}
 use Rattle.lx_spec.specs.Output.{level_among, fader}
 use Rattle.lx_mixer.specs.Table.{IsTable}
-use Rattle.lx_subs.proofs.raise.fill.Given as goal
+use Rattle.lx_subs.proofs.contributions.fill.Given as goal
 
 abbrev pub invariant-loop-sub : goal.invariant-loop-sub
 invariant-loop-sub l = IsTable l.show.channels

@@ -7,18 +7,18 @@ use Rattle.lx_spec.specs.SortedList.{entry_at}
 use Rattle.lx_spec.specs.Output.{contribution, dimmer_value}
 use Rattle.lx_spec.specs.Kept.{Kept}
 use Rattle.lx_sheet.specs.Rows.{Sheet}
-use Rattle.lx_sheet.specs.Standing.{RowsStandFor}
+use Rattle.lx_sheet.specs.SheetMeaning.{RowsStandFor}
 use Rattle.lx_edit.specs.declared.dirty.Dirty.{Dirty}
 use Rattle.lx_mixer.specs.Table.{IsTable}
 use Rattle.lx_patch.specs.DimmerTable.{DimmerTable, StandsForPatch}
 use Rattle.lx_levels.specs.Stacks.{Kept as Levels}
-use Rattle.lx_levels.specs.Standing.{LevelsStandFor}
+use Rattle.lx_levels.specs.LevelsMeaning.{LevelsStandFor}
 use Rattle.lx_subs.specs.Faders.{Faders, StandsForSubs}
 use Rattle.lx_console.specs.declared.change.Change.{Change}
 use Rattle.lx_console.specs.declared.change.Change.TheVariants.{Nothing, Levels as Leveled, Row}
 use Rattle.lx_console.specs.declared.stage.Stage.{Stage}
 use Rattle.lx_console.specs.Changes.{Changes}
-use Rattle.lx_console.specs.Standing.{out_now}
+use Rattle.lx_console.specs.ConsoleMeaning.{out_now}
 
 -- a place for each channel and for each dimmer
 pub record Reaches (channels : ℕ) (stage : Stage) : Type 0 where

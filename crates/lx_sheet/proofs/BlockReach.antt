@@ -13,7 +13,7 @@ use Rattle.lx_spec.specs.Show.{Cue, Show}
 use Rattle.lx_spec.specs.SortedList.{IsStrictlySorted}
 use Rattle.lx_sheet.specs.declared.sheet.Place.{Place}
 use Rattle.lx_sheet.specs.Block.{Covers, cell, own_rows, placed_from, row_at_place}
-use Rattle.lx_sheet.specs.Standing.{RowsStandFor}
+use Rattle.lx_sheet.specs.SheetMeaning.{RowsStandFor}
 use Rattle.lx_sheet.proofs.Cells.{cell_is, cell_past, cell_zero}
 use Rattle.lx_sheet.proofs.RowPool.{own-insert, own-remove, own-placed_from}
 use Rattle.lx_sheet.proofs.Rows.{count_up_to, last_value_same, level_of_block, numbers-rows_of, sheet_of}

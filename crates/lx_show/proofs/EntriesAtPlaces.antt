@@ -7,7 +7,7 @@ use Rattle.std.specs.List.{AllByRecursion}
 use Rattle.lx_spec.specs.SortedList.{entry_at}
 use Rattle.lx_show.specs.Indexes.{StandsAt}
 use Rattle.lx_spec.specs.Show.{Cue, Group, Sub, Show, ValidCue, ValidGroup, ValidSub}
-use Rattle.lx_show.specs.Stored.{IsStored}
+use Rattle.lx_show.specs.StoredShow.{IsStored}
 use Rattle.lx_show.proofs.Indexes.{stands_entry}
 use Rattle.lx_spec.proofs.SortedLists.{found_number, found_valid}
 

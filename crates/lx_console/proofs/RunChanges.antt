@@ -17,9 +17,9 @@ use Rattle.lx_spec.specs.Playback.{Playback, Played, press, tick, ticked, follow
 use Rattle.lx_spec.specs.Playback.{if_room, appended, run_of, run_whole, follow_of, position_of}
 use Rattle.lx_playback.specs.Told.{comes_to_rest}
 use Rattle.lx_levels.specs.Stacks.{Kept as Levels}
-use Rattle.lx_levels.specs.Standing.{LevelsStandFor, StandsBefore}
+use Rattle.lx_levels.specs.LevelsMeaning.{LevelsStandFor, StandsBefore}
 use Rattle.lx_levels.proofs.Stands.{stands_over}
-use Rattle.lx_console.specs.Played.{IsStarted, IsSame, IsTicked}
+use Rattle.lx_console.specs.RunChanges.{IsStarted, IsSame, IsTicked}
 
 record IsFollowed (live : List Run) (base moment : ℕ) (played : Played) : Type 0 where
   moment_is : played.playback.moment ≡ moment

@@ -11,7 +11,7 @@ use Rattle.lx_spec.specs.declared.Refusal.TheVariants.{TickLimit}
 use Rattle.lx_spec.specs.Show.{Show}
 use Rattle.lx_spec.specs.Run.{Run, extent}
 use Rattle.lx_spec.specs.Playback.{Playback, Played, no_run, start_above, at_rest, is_over, followed, ticked, tick}
-use Rattle.lx_playback.specs.Passed.{IsStillAt, TicksPass, later}
+use Rattle.lx_playback.specs.QuietTicks.{IsStillAt, TicksPass, later}
 
 -- the test whether all is over, where a follow is pending, no run is live, or a run isn't over
 pending_not : (b x : Bool) → b && false && x ≡ false

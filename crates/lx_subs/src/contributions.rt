@@ -1,4 +1,4 @@
-//! Levels raised by submasters.
+//! What the submasters give each channel.
 
 ghost use Rattle.std.specs.Prelude.{◌≡◌, ◌+◌, ◌≤◌, ℕ, max, length, slice_index, EachIndex};
 ghost use Rattle.std.specs.List.{AllByRecursion};
@@ -23,13 +23,13 @@ pub(crate) fn fill(show: &Show, faders: &[Level], given: &mut [Level])
     given.fill(0);
     for sub in subs {
         let fader = faders[sub.number.get() as usize - 1];
-        raise(sub.members.as_slice(), fader, given);
+        raise_to(sub.members.as_slice(), fader, given);
     }
 }
 
 /// Raises the level of each member's channel to the member's, in proportion to the fader, where that is
 /// higher.
-fn raise(members: &[Member], fader: Level, given: &mut [Level])
+fn raise_to(members: &[Member], fader: Level, given: &mut [Level])
     requires { ValidMembers (length given.old) members.now }
     ensures { EachIndex given.new (λ k. slice_index given.new k
         ≡ max (slice_index given.old k) (scaled (level_among members.now (k + 1)) fader)) }

@@ -10,8 +10,8 @@ use Rattle.lx_mixer.specs.Table.{IsTable}
 use Rattle.lx_patch.specs.DimmerTable.{StandsForPatch}
 use Rattle.lx_console.specs.declared.stage.Stage.{Stage}
 use Rattle.lx_console.specs.Changes.{SamePatch, SameOutputs}
-use Rattle.lx_console.specs.Standing.{level_now, out_now}
-use Rattle.lx_console.specs.Filled.{Reaches, SlotsStand, IsFilled, IsMixed}
+use Rattle.lx_console.specs.ConsoleMeaning.{level_now, out_now}
+use Rattle.lx_console.specs.KeptOutput.{Reaches, SlotsStand, IsFilled, IsMixed}
 
 -- a list written over the whole of another is itself
 pub written : (n : ℕ) (xs ys : List ℕ) → length xs ≡ n → take n (xs ++ drop (length xs) ys) ≡ xs

@@ -6,7 +6,7 @@ use Rattle.lx_spec.specs.Show.{Cue, Show}
 use Rattle.lx_spec.specs.TrackedLevel.{decides}
 use Rattle.lx_spec.specs.EditedShow.{with_cue}
 use Rattle.lx_spec.specs.Playback.{Playback}
-use Rattle.lx_edit.specs.Changing.{IsPast}
+use Rattle.lx_edit.specs.CueChanges.{IsPast}
 
 -- the second show is the first with a cue of the number
 pub record PlacesCue (before after : Show) (n : ℕ) : Type 0 where

@@ -21,9 +21,9 @@ use Rattle.lx_spec.proofs.Lists.{all_append, each, find_in_filter, find_none}
 use Rattle.lx_spec.proofs.SortedLists.{entry_at-placed_other, found_number, found_valid}
 use Rattle.lx_edit.specs.declared.chan_set.ChanSet.{ChanSet}
 use Rattle.lx_edit.specs.ChanSet.{has_chan}
-use Rattle.lx_edit.specs.Changing.{AreAmong, Grows, move_by, moves_in}
+use Rattle.lx_edit.specs.CueChanges.{AreAmong, Grows, move_by, moves_in}
 use Rattle.lx_edit.specs.Kept.{decided}
-use Rattle.lx_edit.specs.Planned.{SameOutside, covers}
+use Rattle.lx_edit.specs.PlanMeaning.{SameOutside, covers}
 
 not_right : (a b : Bool) → (a || b) ≡ false → b ≡ false
 not_right true b is = absurd (false≢true (sym is))

@@ -11,10 +11,10 @@ use Rattle.lx_spec.specs.TrackedLevel.{tracked}
 use Rattle.lx_spec.specs.Run.{Run, acts, entry_for, entry_extent}
 use Rattle.lx_spec.specs.Level.{level, last_cue}
 use Rattle.lx_levels.specs.Stacks.{Stack, level_in}
-use Rattle.lx_levels.specs.Timed.{timed_over}
+use Rattle.lx_levels.specs.TimedFades.{timed_over}
 use Rattle.lx_levels.specs.declared.replay.Act.{Act}
-use Rattle.lx_levels.specs.Following.{Follow, IsGround, IsReplayed, IsSeen, IsKnown, AreKnown, IsValid, AreValid}
-use Rattle.lx_levels.proofs.Recalled.{level_hidden, level_passed, level_pushed}
+use Rattle.lx_levels.specs.RunsInTurn.{Follow, IsGround, IsReplayed, IsSeen, IsKnown, AreKnown, IsValid, AreValid}
+use Rattle.lx_levels.proofs.HiddenRuns.{level_hidden, level_passed, level_pushed}
 
 -- one run more, the newest first
 reverse-end : (xs : List Run) (run : Run) → reverse (xs ++ run ∷ []) ≡ run ∷ reverse xs

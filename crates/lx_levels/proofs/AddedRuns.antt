@@ -11,10 +11,10 @@ use Rattle.lx_spec.specs.Level.{level, last_cue, run_over, fade_over, faded, mov
 use Rattle.lx_spec.specs.Playback.{Playback}
 use Rattle.lx_spec.proofs.Rest.{same_run}
 use Rattle.lx_levels.proofs.Stands.{same_stack}
-use Rattle.lx_levels.proofs.Recalled.{level_acted, level_passed}
+use Rattle.lx_levels.proofs.HiddenRuns.{level_acted, level_passed}
 use Rattle.lx_levels.specs.Stacks.{Kept, level_in, stack_of}
-use Rattle.lx_levels.specs.Moving.{IsStill}
-use Rattle.lx_levels.specs.Standing.{StandsAt, StandsBefore, IsElsewhere, IsAdded}
+use Rattle.lx_levels.specs.CurrentFades.{IsStill}
+use Rattle.lx_levels.specs.LevelsMeaning.{StandsAt, StandsBefore, IsElsewhere, IsAdded}
 
 heads : {A : Type 0} (x y : A) (xs ys : List A) → x ∷ xs ≡ y ∷ ys → x ≡ y
 heads x y xs ys same = cc
