@@ -12,7 +12,7 @@ use Rattle.std.proofs.lemmas.List.Sorted.{IsPermutation-insert, IsPermutation-re
 use Rattle.lx_spec.specs.Show.{Cue, Show}
 use Rattle.lx_spec.specs.SortedList.{IsStrictlySorted}
 use Rattle.lx_sheet.specs.declared.sheet.Place.{Place}
-use Rattle.lx_sheet.specs.Block.{Covers, cell, own_rows, placed_from, row_at_place}
+use Rattle.lx_sheet.specs.Block.{Covers, cell, own_rows, placed_from, row_at_place, width}
 use Rattle.lx_sheet.specs.SheetMeaning.{RowsStandFor}
 use Rattle.lx_sheet.proofs.Cells.{cell_is, cell_past, cell_zero}
 use Rattle.lx_sheet.proofs.RowPool.{own-insert, own-remove, own-placed_from}
@@ -20,7 +20,7 @@ use Rattle.lx_sheet.proofs.Rows.{count_up_to, last_value_same, level_of_block, n
 
 -- over the row at a place
 pub covered_at : (channels : ℕ) (levels : List ℕ) (order : List Place) (k : ℕ) → Covers channels levels order → k < length order
-    → (row_at_place order k + 1) * channels ≤ length levels
+    → (row_at_place order k + 1) * width channels ≤ length levels
 covered_at channels levels order k covers within = covers k 0 (omega (arith, length-map order (λ (p : Place). p.row)))
 
 -- and over no fewer in a longer one
@@ -42,9 +42,9 @@ all_tail : (P : ℕ → Type 0) (r : ℕ) (rows : List ℕ) → All P (r ∷ row
 all_tail P r rows all k d within = all (suc k) d (omega arith)
 
 pub covers_inserted : (channels : ℕ) (levels : List ℕ) (old : List Place) (at : ℕ) (p : Place) → Covers channels levels old
-    → (p.row + 1) * channels ≤ length levels → Covers channels levels (insert old at p)
+    → (p.row + 1) * width channels ≤ length levels → Covers channels levels (insert old at p)
 covers_inserted channels levels old at p covers here =
-    let P : ℕ → Type 0 = λ r. (r + 1) * channels ≤ length levels in
+    let P : ℕ → Type 0 = λ r. (r + 1) * width channels ≤ length levels in
     subst (All P) (sym (own-insert old at p))
     (All-permutation P (p.row ∷ own_rows old) (insert (own_rows old) at p.row) (IsPermutation-insert (own_rows old) at p.row)
     (all_cons P p.row (own_rows old) here covers))
@@ -52,7 +52,7 @@ covers_inserted channels levels old at p covers here =
 pub covers_removed : (channels : ℕ) (levels : List ℕ) (old : List Place) (at : ℕ) → at < length old → Covers channels levels old
     → Covers channels levels (remove old at)
 covers_removed channels levels old at within covers =
-    let P : ℕ → Type 0 = λ r. (r + 1) * channels ≤ length levels in
+    let P : ℕ → Type 0 = λ r. (r + 1) * width channels ≤ length levels in
     let rows : List ℕ = own_rows old in
     let there : at < length rows = omega (arith, length-map old (λ (p : Place). p.row)) in
     let row : ℕ = get_or rows at 0 in
@@ -62,9 +62,9 @@ covers_removed channels levels old at within covers =
 
 -- the rows of cues that were listed, where the block is as long
 pub covers_listed : (channels : ℕ) (levels : List ℕ) (order : List Place) (cues : List Cue) → order ≡ placed_from 0 cues
-    → length cues * channels ≤ length levels → Covers channels levels order
+    → length cues * width channels ≤ length levels → Covers channels levels order
 covers_listed channels levels order cues listed long =
-    let P : ℕ → Type 0 = λ r. (r + 1) * channels ≤ length levels in
+    let P : ℕ → Type 0 = λ r. (r + 1) * width channels ≤ length levels in
     subst (All P) (sym (ap own_rows listed ∙ own-placed_from 0 cues)) (λ k d within.
     let less : k < length cues = omega (arith, length-range_with_len 0 (length cues)) in
     let here : get_or (range_with_len 0 (length cues)) k d ≡ 0 + k = get_or-range_with_len 0 (length cues) k d less in
@@ -90,7 +90,7 @@ cell_grown channels levels n r (suc c) =
     elim (cases_lt channels (suc c)) [
       | inl past ↦ cell_past channels (levels ++ replicate n 0) r (suc c) past ∙ sym (cell_past channels levels r (suc c) past)
       | inr within ↦
-          cell_is channels (levels ++ replicate n 0) r (suc c) (omega arith) within ∙ grown levels n (r * channels + (suc c - 1))
+          cell_is channels (levels ++ replicate n 0) r (suc c) (omega arith) within ∙ grown levels n (r * width channels + (suc c - 1))
           ∙ sym (cell_is channels levels r (suc c) (omega arith) within)
     ]
 

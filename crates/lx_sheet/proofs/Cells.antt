@@ -7,7 +7,7 @@ use Rattle.std.proofs.lemmas.Bool.{cases_lt, cases_order}
 use Rattle.std.proofs.lemmas.List.{get_or-take, get_or-drop, get_or_past, get_or-set_same, get_or-set_other, length-take, drop-take}
 use Rattle.std.proofs.lemmas.Slice.{between-put_mid, take-put_mid_below, drop-put_mid}
 use Rattle.lx_base.specs.Rows.{Agree}
-use Rattle.lx_sheet.specs.Block.{cell, level_in_look, last_value}
+use Rattle.lx_sheet.specs.Block.{cell, level_in_look, last_value, width}
 
 one_below : (c : ℕ) → 1 ≤ c → suc (c - 1) ≡ c
 one_below c least = omega arith
@@ -30,19 +30,19 @@ level_in_look-other levels chan (suc c) level least other = get_or-set_other lev
 
 -- the level in a row stands in the block
 pub cell_is : (channels : ℕ) (levels : List ℕ) (k c : ℕ) → 1 ≤ c → c ≤ channels
-    → cell channels levels k c ≡ get_or levels (k * channels + (c - 1)) 0
+    → cell channels levels k c ≡ get_or levels (k * width channels + (c - 1)) 0
 unfolding cell
 cell_is channels levels k c least most =
-    level_in_look_is (take channels (drop (k * channels) levels)) c least
-    ∙ get_or-take channels (drop (k * channels) levels) (c - 1) 0 (omega arith) ∙ get_or-drop (k * channels) levels (c - 1) 0
+    level_in_look_is (take channels (drop (k * width channels) levels)) c least
+    ∙ get_or-take channels (drop (k * width channels) levels) (c - 1) 0 (omega arith) ∙ get_or-drop (k * width channels) levels (c - 1) 0
 
 -- what is no channel is at 0
 pub cell_past : (channels : ℕ) (levels : List ℕ) (k c : ℕ) → channels < c → cell channels levels k c ≡ 0
 unfolding cell
 cell_past channels levels k c more =
-    level_in_look_is (take channels (drop (k * channels) levels)) c (omega arith)
-    ∙ get_or_past (take channels (drop (k * channels) levels)) (c - 1) 0
-    (omega (arith, length-take channels (drop (k * channels) levels)))
+    level_in_look_is (take channels (drop (k * width channels) levels)) c (omega arith)
+    ∙ get_or_past (take channels (drop (k * width channels) levels)) (c - 1) 0
+    (omega (arith, length-take channels (drop (k * width channels) levels)))
 
 pub cell_zero : (channels : ℕ) (levels : List ℕ) (k : ℕ) → cell channels levels k 0 ≡ 0
 unfolding cell
@@ -69,55 +69,55 @@ places_apart channels i k a b within within' same =
     ]
 
 -- a level written into the block
-pub cell-set_here : (channels : ℕ) (levels : List ℕ) (k c level : ℕ) → 1 ≤ c → c ≤ channels → k * channels + (c - 1) < length levels
-    → cell channels (set levels (k * channels + (c - 1)) level) k c ≡ level
-cell-set_here channels levels k c level least most within = cell_is channels (set levels (k * channels + (c - 1)) level) k c least most
-    ∙ get_or-set_same levels (k * channels + (c - 1)) level 0 within
+pub cell-set_here : (channels : ℕ) (levels : List ℕ) (k c level : ℕ) → 1 ≤ c → c ≤ channels → k * width channels + (c - 1) < length levels
+    → cell channels (set levels (k * width channels + (c - 1)) level) k c ≡ level
+cell-set_here channels levels k c level least most within = cell_is channels (set levels (k * width channels + (c - 1)) level) k c least most
+    ∙ get_or-set_same levels (k * width channels + (c - 1)) level 0 within
 
 pub cell-set_other : (channels : ℕ) (levels : List ℕ) (k i chan c level : ℕ) → 1 ≤ chan → chan ≤ channels → (i ≡ k → c ≡ chan → ⊥)
-    → cell channels (set levels (k * channels + (chan - 1)) level) i c ≡ cell channels levels i c
-cell-set_other channels levels k i chan zero level least most other = cell_zero channels (set levels (k * channels + (chan - 1)) level) i
+    → cell channels (set levels (k * width channels + (chan - 1)) level) i c ≡ cell channels levels i c
+cell-set_other channels levels k i chan zero level least most other = cell_zero channels (set levels (k * width channels + (chan - 1)) level) i
     ∙ sym (cell_zero channels levels i)
 cell-set_other channels levels k i chan (suc c) level least most other =
     elim (cases_lt channels (suc c)) [
-      | inl past ↦ cell_past channels (set levels (k * channels + (chan - 1)) level) i (suc c) past
+      | inl past ↦ cell_past channels (set levels (k * width channels + (chan - 1)) level) i (suc c) past
           ∙ sym (cell_past channels levels i (suc c) past)
       | inr within ↦
-          let apart : i * channels + (suc c - 1) ≢ k * channels + (chan - 1) = λ same. let both =
-          places_apart channels i k (suc c - 1) (chan - 1) (omega arith) (omega arith) same in other both.0 (omega (arith, both.1)) in
-          cell_is channels (set levels (k * channels + (chan - 1)) level) i (suc c) (omega arith) within
-          ∙ get_or-set_other levels (k * channels + (chan - 1)) (i * channels + (suc c - 1)) level 0 apart
+          let apart : i * width channels + (suc c - 1) ≢ k * width channels + (chan - 1) = λ same. let both =
+          places_apart (width channels) i k (suc c - 1) (chan - 1) (omega arith) (omega arith) same in other both.0 (omega (arith, both.1)) in
+          cell_is channels (set levels (k * width channels + (chan - 1)) level) i (suc c) (omega arith) within
+          ∙ get_or-set_other levels (k * width channels + (chan - 1)) (i * width channels + (suc c - 1)) level 0 apart
           ∙ sym (cell_is channels levels i (suc c) (omega arith) within)
     ]
 
 -- a row written into the block
-pub row_here : (channels : ℕ) (levels look : List ℕ) (place end : ℕ) → end ≡ place * channels + channels → place * channels ≤ length levels
-    → length look ≡ channels → take channels (drop (place * channels) (put_mid (place * channels) (end - place * channels) levels look))
+pub row_here : (channels : ℕ) (levels look : List ℕ) (place end : ℕ) → end ≡ place * width channels + channels → place * width channels ≤ length levels
+    → length look ≡ channels → take channels (drop (place * width channels) (put_mid (place * width channels) (end - place * width channels) levels look))
     ≡ look
 row_here channels levels look place end is within long =
-    let width : end - place * channels ≡ channels = omega arith in
-    let P : ℕ → Type 0 = λ n. take n (drop (place * channels) (put_mid (place * channels) (end - place * channels) levels look)) ≡ look in
-    subst P width (between-put_mid (place * channels) (end - place * channels) levels look end within (omega arith))
+    let whole : end - place * width channels ≡ channels = omega arith in
+    let P : ℕ → Type 0 = λ n. take n (drop (place * width channels) (put_mid (place * width channels) (end - place * width channels) levels look)) ≡ look in
+    subst P whole (between-put_mid (place * width channels) (end - place * width channels) levels look end within (omega arith))
 
-pub row_other : (channels : ℕ) (levels look : List ℕ) (k place end : ℕ) → end ≡ place * channels + channels
-    → place * channels ≤ length levels → length look ≡ channels → k ≢ place
-    → take channels (drop (k * channels) (put_mid (place * channels) (end - place * channels) levels look))
-    ≡ take channels (drop (k * channels) levels)
+pub row_other : (channels : ℕ) (levels look : List ℕ) (k place end : ℕ) → end ≡ place * width channels + channels
+    → place * width channels ≤ length levels → length look ≡ channels → k ≢ place
+    → take channels (drop (k * width channels) (put_mid (place * width channels) (end - place * width channels) levels look))
+    ≡ take channels (drop (k * width channels) levels)
 row_other channels levels look k place end is within long other =
     elim (cases_order k place) [
       | inl here ↦ absurd (other here)
       | inr apart ↦ elim apart [
         | inl less ↦
-            let below : k * channels + channels ≤ place * channels = let m =
-            mul-le-mul_right {m = suc k} {n = place} channels (omega arith) in omega (arith, m) in
-            sym (drop-take (k * channels) channels (put_mid (place * channels) (end - place * channels) levels look))
-            ∙ ap (drop (k * channels)) (take-put_mid_below (place * channels) (end - place * channels) levels look (k * channels + channels)
+            let below : k * width channels + channels ≤ place * width channels = let m =
+            mul-le-mul_right {m = suc k} {n = place} (width channels) (omega arith) in omega (arith, m) in
+            sym (drop-take (k * width channels) channels (put_mid (place * width channels) (end - place * width channels) levels look))
+            ∙ ap (drop (k * width channels)) (take-put_mid_below (place * width channels) (end - place * width channels) levels look (k * width channels + channels)
             below within)
-            ∙ drop-take (k * channels) channels levels
+            ∙ drop-take (k * width channels) channels levels
         | inr more ↦
-            let above : place * channels + channels ≤ k * channels = let m =
-            mul-le-mul_right {m = suc place} {n = k} channels (omega arith) in omega (arith, m) in
-            ap (take channels) (drop-put_mid (place * channels) (end - place * channels) levels look (k * channels) (omega arith) within
+            let above : place * width channels + channels ≤ k * width channels = let m =
+            mul-le-mul_right {m = suc place} {n = k} (width channels) (omega arith) in omega (arith, m) in
+            ap (take channels) (drop-put_mid (place * width channels) (end - place * width channels) levels look (k * width channels) (omega arith) within
             (omega arith))
       ]
     ]
@@ -128,7 +128,7 @@ last_value_some zero f some = absurd (some refl)
 last_value_some (suc k) f some = let e : k ≡ suc k - 1 = omega arith in ap f e
 
 -- from the start of a row to its end
-pub width_of : (row channels : ℕ) → (row + 1) * channels - row * channels ≡ channels
+pub width_of : (row channels : ℕ) → (row * width channels + channels) - row * width channels ≡ channels
 width_of row channels = omega arith
 
 -- two rows that agree at each place

@@ -17,7 +17,7 @@ use Rattle.lx_spec.specs.Replies.{row_of}
 use Rattle.lx_show.proofs.Indexes.{up_to_there}
 use Rattle.lx_sheet.specs.declared.sheet.Place.{Place}
 use Rattle.lx_sheet.specs.Rows.{Row, row_at, numbers_of, level_of}
-use Rattle.lx_sheet.specs.Block.{Covers, row_at_place, rows_of, cell, cue_level, last_value}
+use Rattle.lx_sheet.specs.Block.{Covers, row_at_place, rows_of, cell, cue_level, last_value, width}
 use Rattle.lx_sheet.specs.SheetMeaning.{RowsStandFor, cue_numbers}
 use Rattle.lx_sheet.proofs.Rows.{count_up_to, count_up_to-map, sheet_of, level_of_block, row_of_place, numbers-rows_of}
 use Rattle.lx_sheet.proofs.Cells.{last_value_some}
@@ -63,13 +63,13 @@ stands_number order n at d stands =
 
 pub row_found : (channels : ℕ) (order : List Place) (levels : List ℕ) (n at : ℕ) → IsStrictlySorted (λ x. x.cue) order
     → StandsAt (λ x. x.cue) n order at
-    → Some (take channels (drop (row_at_place order at * channels) levels))
+    → Some (take channels (drop (row_at_place order at * width channels) levels))
     ≡ option_map (λ r. r.levels) (row_at (sheet_of channels order levels) n)
 row_found channels order levels n at sorted stands =
     let d : Place = record { cue = 0; row = 0 } in
     let p : Place = get_or order at d in
     let is : p ≡ get_or order at p = get_or_default order at d p stands.within in
-    ap (λ r. Some (take channels (drop (r * channels) levels))) (row_is order at p stands.within is)
+    ap (λ r. Some (take channels (drop (r * width channels) levels))) (row_is order at p stands.within is)
     ∙ sym (ap (option_map (λ (r : Row). r.levels))
     (row_of_number channels order levels n at d sorted stands.within (stands_number order n at d stands)
     ∙ row_of_place channels order levels at p stands.within is))
@@ -92,13 +92,13 @@ cue_absent show channels order levels n f numbers absent =
 pub row_right : (show : Show) (channels : ℕ) (order : List Place) (levels : List ℕ) (n at : ℕ) → Covers channels levels order
     → IsStrictlySorted (λ p. p.cue) order
     → StandsAt (λ p. p.cue) n order at → RowsStandFor show (sheet_of channels order levels)
-    → take channels (drop (row_at_place order at * channels) levels) ≡ row_of show n
+    → take channels (drop (row_at_place order at * width channels) levels) ≡ row_of show n
 unfolding cell
 row_right show channels order levels n at room sorted place stands =
     let row : ℕ = row_at_place order at in
-    let most : (row + 1) * channels ≤ length levels = covered_at channels levels order at room place.within in
-    let width : length (take channels (drop (row * channels) levels)) ≡ channels =
-    omega (arith, length-take channels (drop (row * channels) levels), length-drop (row * channels) levels) in
+    let most : (row + 1) * width channels ≤ length levels = covered_at channels levels order at room place.within in
+    let long : length (take channels (drop (row * width channels) levels)) ≡ channels =
+    omega (arith, length-take channels (drop (row * width channels) levels), length-drop (row * width channels) levels) in
     let count : count_up_to n (map (λ (p : Place). p.cue) order) ≡ suc at =
     omega (
       arith,
@@ -110,18 +110,18 @@ row_right show channels order levels n at room sorted place stands =
     let cells : (c : ℕ) → cell channels levels row c ≡ tracked show n c = λ c.
     sym (level_of_block channels order levels n c sorted ∙ ap (λ k. last_value k (λ i. cue_level channels order levels i c)) count)
     ∙ stands.columns c n in
-    same_lists (take channels (drop (row * channels) levels)) (row_of show n)
-    (width ∙ stands.channels ∙ sym (length-map-range_with_len (tracked show n) 1 show.channels))
+    same_lists (take channels (drop (row * width channels) levels)) (row_of show n)
+    (long ∙ stands.channels ∙ sym (length-map-range_with_len (tracked show n) 1 show.channels))
     (λ k d less.
-    get_or_default (take channels (drop (row * channels) levels)) k d 0 less
+    get_or_default (take channels (drop (row * width channels) levels)) k d 0 less
     ∙ cells (suc k)
-    ∙ sym (get_or-map-range_with_len (tracked show n) 1 show.channels k (suc k) d (omega (arith, less, width, stands.channels))
+    ∙ sym (get_or-map-range_with_len (tracked show n) 1 show.channels k (suc k) d (omega (arith, less, long, stands.channels))
     (omega arith)))
 
 pub cue_found : (show : Show) (channels : ℕ) (order : List Place) (levels : List ℕ) (n at : ℕ) → Covers channels levels order
     → IsStrictlySorted (λ x. x.cue) order
     → StandsAt (λ x. x.cue) n order at → RowsStandFor show (sheet_of channels order levels)
-    → Some (take channels (drop (row_at_place order at * channels) levels)) ≡ option_map (λ cue. row_of show n) (cue_of show n)
+    → Some (take channels (drop (row_at_place order at * width channels) levels)) ≡ option_map (λ cue. row_of show n) (cue_of show n)
 cue_found show channels order levels n at room sorted place stands =
     let some : is_some (cue_of show n) ≡ true =
     sym (same_numbers (λ (x : Place). x.cue) (λ (cue : Cue). cue.number) n order show.cues
@@ -132,7 +132,7 @@ cue_found show channels order levels n at room sorted place stands =
 -- the levels at a number stand in the row of the last cue up to it
 pub look_found : (channels : ℕ) (order : List Place) (levels : List ℕ) (n k : ℕ) → IsStrictlySorted (λ p. p.cue) order → k < channels
     → count_up_to n (map (λ p. p.cue) order) ≢ 0
-    → get_or (take channels (drop (row_at_place order (count_up_to n (map (λ p. p.cue) order) - 1) * channels) levels)) k 0
+    → get_or (take channels (drop (row_at_place order (count_up_to n (map (λ p. p.cue) order) - 1) * width channels) levels)) k 0
     ≡ level_of (sheet_of channels order levels) n (k + 1)
 unfolding cell
 look_found channels order levels n k sorted less some =

@@ -10,7 +10,7 @@ use Rattle.lx_spec.specs.SortedList.{IsStrictlySorted}
 use Rattle.lx_show.specs.Around.{entries_up_to}
 use Rattle.lx_sheet.specs.declared.sheet.Place.{Place}
 use Rattle.lx_sheet.specs.Rows.{Row, Sheet, level_of, level_in_row}
-use Rattle.lx_sheet.specs.Block.{rows_of, cell, cue_level, last_value}
+use Rattle.lx_sheet.specs.Block.{rows_of, cell, cue_level, last_value, width}
 use Rattle.lx_spec.proofs.Comparisons.{le_false, le_true}
 use Rattle.lx_spec.proofs.Lists.{each, filter_none, find_last, shorter}
 
@@ -88,10 +88,10 @@ IsStrictlySorted-rows_of channels (p ∷ order) levels sorted =
 -- the row of the cue at a place
 pub row_of_place : (channels : ℕ) (order : List Place) (levels : List ℕ) (k : ℕ) (p : Place) → k < length order → p ≡ get_or order k p
     → slice_get (rows_of channels order levels) k
-    ≡ Some (record { number = p.cue; levels = take channels (drop (p.row * channels) levels) })
+    ≡ Some (record { number = p.cue; levels = take channels (drop (p.row * width channels) levels) })
 row_of_place channels [] levels k p within is = absurd (omega arith)
 row_of_place channels (q ∷ order) levels zero p within is =
-    ap (λ (x : Place). Some (record { number = x.cue; levels = take channels (drop (x.row * channels) levels) })) (sym is)
+    ap (λ (x : Place). Some (record { number = x.cue; levels = take channels (drop (x.row * width channels) levels) })) (sym is)
 row_of_place channels (q ∷ order) levels (suc k) p within is = row_of_place channels order levels k p (omega arith) is
 
 -- a level in the row of the cue at a place

@@ -4,12 +4,17 @@ use Rattle.std.specs.List.{All, IsDistinct}
 use Rattle.lx_base.specs.declared.TheConstants.{CUES, CHANNELS}
 use Rattle.lx_spec.specs.SortedList.{IsStrictlySorted, entries_below}
 use Rattle.lx_spec.specs.Show.{Cue}
+use Rattle.lx_sheet.specs.declared.block.TheConstants.{ROW_GAP}
 use Rattle.lx_sheet.specs.declared.sheet.Place.{Place}
 use Rattle.lx_sheet.specs.Rows.{Row}
 
+-- how far apart rows begin: there is a gap behind each
+abbrev pub width : ℕ → ℕ
+width channels = channels + ROW_GAP
+
 -- the rows of cues, each as many levels as there are channels
 abbrev pub rows_of : ℕ → List Place → List ℕ → List Row
-rows_of channels order levels = map (λ p. record { number = p.cue; levels = take channels (drop (p.row * channels) levels) }) order
+rows_of channels order levels = map (λ p. record { number = p.cue; levels = take channels (drop (p.row * width channels) levels) }) order
 
 -- the rows of the block that are cues' own
 abbrev pub own_rows : List Place → List ℕ
@@ -27,7 +32,7 @@ pub record IsPool (order : List Place) (free : List ℕ) : Type 0 where
 
 -- the block, which grows as rows are needed, reaches over each cue's own row
 abbrev pub Covers : ℕ → List ℕ → List Place → Type 0
-Covers channels levels order = All (λ r. (r + 1) * channels ≤ length levels) (own_rows order)
+Covers channels levels order = All (λ r. (r + 1) * width channels ≤ length levels) (own_rows order)
 
 -- the cues are sorted by number, and their rows a pool that the block covers; there is room for the greatest number of rows, and for the
 -- levels of one cue
@@ -38,7 +43,7 @@ pub record HoldsRows (channels : ℕ) (order : List Place) (room : ℕ) (free : 
   pub pool : IsPool order free
   pub row_room : CUES ≤ room
   pub free_room : CUES ≤ spare
-  pub level_room : CUES * channels ≤ block
+  pub level_room : CUES * width channels ≤ block
   pub covered : Covers channels levels order
   pub look_room : length look ≡ channels
 
@@ -48,7 +53,7 @@ level_in_look levels c = slice_index (0 ∷ levels) c
 
 -- the same in a row of the block
 unfoldable pub cell : ℕ → List ℕ → ℕ → ℕ → ℕ
-cell channels levels row c = level_in_look (take channels (drop (row * channels) levels)) c
+cell channels levels row c = level_in_look (take channels (drop (row * width channels) levels)) c
 
 -- the row of the block that is the own one of the cue at this place of the order
 abbrev pub row_at_place : List Place → ℕ → ℕ

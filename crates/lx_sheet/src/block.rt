@@ -5,13 +5,17 @@ ghost use Rattle.std.specs.List.{AllByRecursion};
 ghost use Rattle.lx_base.specs.declared.TheConstants.{CUES, CHANNELS};
 ghost use Rattle.lx_spec.specs.Show.{ValidCue};
 ghost use Rattle.lx_spec.specs.TrackedLevel.{decides};
-ghost use Rattle.lx_sheet.specs.Block.{AreApart, Covers, own_rows, row_at_place, cell, cue_level, last_value, level_in_look};
+ghost use Rattle.lx_sheet.specs.Block.{AreApart, Covers, own_rows, row_at_place, cell, cue_level, last_value, level_in_look, width};
 ghost use Rattle.lx_sheet.specs.After.{level_after, IsEnd, IsRight, Follows, IsFilled, IsPassed, IsLeft};
 
 use crate::look::track;
 use crate::sheet::Place;
 use lx_base::{CHANNELS, CUES, Chan, Level, next_change};
 use lx_show::Cue;
+
+/// How many levels stand between the end of a row and the next one. Rows whose length is a power of two would have the levels of a channel
+/// in the same few sets of the processor's cache, which then holds only some hundred of them.
+pub(crate) const ROW_GAP: usize = 64;
 
 /// Fills in the rows of the cues from a place on, each from the one before, up to the first from `sure` on
 /// that holds its levels already: those above it follow.
@@ -78,7 +82,7 @@ pub(crate) fn fill_removed(
     requires valid { AllByRecursion (ValidCue (length look.old)) cues.now }
     requires at { at ≤ length cues.now }
     requires row { row < CUES }
-    requires left { (row + 1) * length look.old ≤ length levels.old }
+    requires left { (row + 1) * width (length look.old) ≤ length levels.old }
     ensures { IsLeft (length look.old) order.now cues.now levels.old at row
         → IsFilled (length look.old) order.now cues.now levels.old levels.new at at }
 {
@@ -99,13 +103,13 @@ fn decides_none(cue: &Cue) -> bool
 pub(crate) fn reach(levels: &mut Vec<Level>, channels: usize, rows: usize)
     requires few { channels ≤ CHANNELS }
     requires rows { rows ≤ CUES }
-    requires room { CUES * channels ≤ vec_capacity levels.old }
-    ensures reach { rows * channels ≤ length levels.new.items }
+    requires room { CUES * width channels ≤ vec_capacity levels.old }
+    ensures reach { rows * width channels ≤ length levels.new.items }
     ensures longer { length levels.old.items ≤ length levels.new.items }
     ensures same { (r c : ℕ) → cell channels levels.new.items r c ≡ cell channels levels.old.items r c }
     ensures room { vec_capacity levels.old ≤ vec_capacity levels.new }
 {
-    let end = rows * channels;
+    let end = rows * (channels + ROW_GAP);
     if levels.len() < end {
         match levels.resize(end, 0) {
             Ok(()) => {}
@@ -133,34 +137,37 @@ fn recall(look: &mut [Level], levels: &[Level], order: &[Place], cues: usize)
 fn read_row(look: &mut [Level], levels: &[Level], row: usize)
     requires few { length look.old ≤ CHANNELS }
     requires row { row < CUES }
-    requires room { (row + 1) * length look.old ≤ length levels.now }
+    requires room { (row + 1) * width (length look.old) ≤ length levels.now }
     ensures { (c : ℕ) → level_in_look look.new c ≡ cell (length look.old) levels.now row c }
 {
     let len = look.len();
-    look.copy_from_slice(&levels[row * len..(row + 1) * len]);
+    let start = row * (len + ROW_GAP);
+    look.copy_from_slice(&levels[start..start + len]);
 }
 
 /// Writes the levels as the row.
 fn write_row(levels: &mut [Level], look: &[Level], row: usize)
     requires few { length look.now ≤ CHANNELS }
     requires row { row < CUES }
-    requires room { (row + 1) * length look.now ≤ length levels.old }
+    requires room { (row + 1) * width (length look.now) ≤ length levels.old }
     ensures here { (c : ℕ) → cell (length look.now) levels.new row c ≡ level_in_look look.now c }
     ensures others { (r c : ℕ) → r ≢ row → cell (length look.now) levels.new r c ≡ cell (length look.now) levels.old r c }
 {
     let len = look.len();
-    levels[row * len..(row + 1) * len].copy_from_slice(look);
+    let start = row * (len + ROW_GAP);
+    levels[start..start + len].copy_from_slice(look);
 }
 
 /// The row holds these levels.
 fn holds(levels: &[Level], look: &[Level], row: usize) -> bool
     requires few { length look.now ≤ CHANNELS }
     requires row { row < CUES }
-    requires room { (row + 1) * length look.now ≤ length levels.now }
+    requires room { (row + 1) * width (length look.now) ≤ length levels.now }
     ensures { result ≡ true → (c : ℕ) → cell (length look.now) levels.now row c ≡ level_in_look look.now c }
 {
     let len = look.len();
-    next_change(&levels[row * len..(row + 1) * len], look, 0).is_none()
+    let start = row * (len + ROW_GAP);
+    next_change(&levels[start..start + len], look, 0).is_none()
 }
 
 /// The same where the look holds the levels before the first of the rows.
@@ -221,6 +228,7 @@ pub(crate) fn fill_column(
         → (k : ℕ) → from ≤ k → k < result → IsRight channels order.now cues.now levels.new k chan }
 {
     let at = chan.get() as usize - 1;
+    let width = channels + ROW_GAP;
     let mut level = level_before(levels, channels, order, from, at);
     let mut near = 0;
     for place in from..to {
@@ -230,7 +238,7 @@ pub(crate) fn fill_column(
             }
             level = cues[place].level_of(chan);
         }
-        levels[own_row(order, place) * channels + at] = level;
+        levels[own_row(order, place) * width + at] = level;
     }
     to
 }
@@ -254,7 +262,7 @@ pub(crate) fn level_before(
     if cues == 0 {
         0
     } else {
-        levels[own_row(order, cues - 1) * channels + at]
+        levels[own_row(order, cues - 1) * (channels + ROW_GAP) + at]
     }
 }
 

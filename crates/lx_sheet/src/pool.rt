@@ -53,8 +53,7 @@ pub(crate) fn drop_place(order: &mut Vec<Place>, free: &mut Vec<usize>, n: CueNo
     requires free_room { CUES ≤ vec_capacity free.old }
     ensures sorted { IsStrictlySorted (λ p. p.cue) order.new.items }
     ensures pool { IsPool order.new.items free.new.items }
-    ensures room { vec_capacity order.new ≡ vec_capacity order.old }
-    ensures free_room { vec_capacity free.new ≡ vec_capacity free.old }
+    ensures rooms { (vec_capacity order.new ≡ vec_capacity order.old) × (vec_capacity free.new ≡ vec_capacity free.old) }
     ensures stands { IfSome result (λ freed. StandsAt (λ p. p.cue) n order.old.items freed.at) }
     ensures dropped { IfSome result (λ freed. order.new.items ≡ remove order.old.items freed.at) }
     ensures row { IfSome result (λ freed. freed.row ≡ row_at_place order.old.items freed.at) }

@@ -10,7 +10,7 @@ ghost use Rattle.lx_show.specs.Around.{entries_up_to};
 ghost use Rattle.lx_sheet.specs.Rows.{row_at, level_of};
 ghost use Rattle.lx_sheet.specs.SheetMeaning.{RowsStandFor};
 
-use crate::block::{level_before, own_row};
+use crate::block::{ROW_GAP, level_before, own_row};
 use crate::pool::list_free;
 use lx_base::{CUE_UNIT, CUES, Chan, CueNo, Level};
 use lx_show::Show;
@@ -46,7 +46,7 @@ pub struct Sheet {
     pub(crate) order: Vec<Place>,
     /// The rows of the block that are no cue's.
     pub(crate) free: Vec<usize>,
-    /// The block of rows, each as long as there are channels, up to the last one that was a cue's. A row stays in
+    /// The block of rows, each as long as there are channels and a gap behind it, up to the last one that was a cue's. A row stays in
     /// its place as long as its cue is there.
     pub(crate) levels: Vec<Level>,
     /// The levels of the cue that is being filled in.
@@ -79,7 +79,7 @@ impl Sheet {
             channels,
             order: Vec::with_capacity(alloc, CUES)?,
             free,
-            levels: Vec::with_capacity(alloc, CUES * channels)?,
+            levels: Vec::with_capacity(alloc, CUES * (channels + ROW_GAP))?,
             look: vec![in alloc; 0; channels]?,
         };
         sheet.refill(show);
@@ -97,7 +97,8 @@ impl Sheet {
         match index_of(order, n.get()) {
             Ok(at) => {
                 let row = own_row(order, at);
-                Some(&self.levels[row * self.channels..(row + 1) * self.channels])
+                let start = row * (self.channels + ROW_GAP);
+                Some(&self.levels[start..start + self.channels])
             }
             Err(_) => None,
         }
@@ -117,7 +118,8 @@ impl Sheet {
             return None;
         }
         let last = own_row(order, cues - 1);
-        Some(&self.levels[last * self.channels..(last + 1) * self.channels])
+        let start = last * (self.channels + ROW_GAP);
+        Some(&self.levels[start..start + self.channels])
     }
 
     /// The channel's tracked level at the number, which need not be a cue's: that in the last row up to

@@ -1,7 +1,7 @@
 //! What the submasters of a show give its channels, each at its fader.
 #![tactic(auto)]
 
-mod rack;
 mod contributions;
+mod rack;
 
 pub use rack::SubRack;

@@ -7,7 +7,7 @@ use Rattle.std.proofs.lemmas.Option.{slice_get-get_or}
 use Rattle.lx_spec.specs.Show.{Cue}
 use Rattle.lx_spec.specs.TrackedLevel.{decides, level_in}
 use Rattle.lx_sheet.specs.declared.sheet.Place.{Place}
-use Rattle.lx_sheet.specs.Block.{cell, cue_level, row_at_place, last_value}
+use Rattle.lx_sheet.specs.Block.{cell, cue_level, row_at_place, last_value, width}
 use Rattle.lx_sheet.specs.After.{level_after, tracked_on}
 use Rattle.lx_sheet.proofs.Cells.{cell-set_here, cell-set_other}
 use Rattle.lx_sheet.proofs.BlockReach.{covered_at}
@@ -32,10 +32,10 @@ loop-place-preserved c =
     let most : c.get.result ≤ n = omega (arith, c.requires.within) in
     let within : place < length cues = omega (arith, c.loop-place-test.true, c.requires.to) in
     let there : place < length order = omega (arith, c.requires.order, within) in
-    let end : row * n + n ≤ length c.loop-place.levels =
-    subst (λ r. r * n + n ≤ length c.loop-place.levels) (sym of_row)
+    let end : row * width n + n ≤ length c.loop-place.levels =
+    subst (λ r. r * width n + n ≤ length c.loop-place.levels) (sym of_row)
     (omega (arith, covered_at n c.args.levels.now order place c.requires.room there)) in
-    let new = set c.loop-place.levels (row * n + (c.get.result - 1)) level in
+    let new = set c.loop-place.levels (row * width n + (c.get.result - 1)) level in
     let here : cue_level n order new place chan ≡ level =
     ap (λ r. cell n new r chan) (sym of_row)
     ∙ subst (λ (x : ℕ). cell n new row x ≡ level) is

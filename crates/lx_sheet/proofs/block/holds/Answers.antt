@@ -4,7 +4,7 @@ use Rattle.std.specs.Prelude.{Option, is_some, not}
 use Rattle.std.proofs.lemmas.Bool.{false≢true}
 use Rattle.std.proofs.lemmas.List.{length-take, length-drop}
 use Rattle.lx_base.specs.Rows.{Agree}
-use Rattle.lx_sheet.specs.Block.{cell}
+use Rattle.lx_sheet.specs.Block.{cell, width}
 use Rattle.lx_sheet.proofs.Cells.{width_of, same_look}
 use Rattle.lx_sheet.proofs.block.holds.Goals as goal
 
@@ -16,14 +16,14 @@ pub returns : goal.returns
 unfolding cell
 returns c = λ same chan.
     let len : ℕ = length c.args.look.now in
-    let row : List ℕ = take len (drop (c.args.row * len) c.args.levels.now) in
-    let most : (c.args.row + 1) * len ≤ length c.args.levels.now = c.requires.room in
+    let row : List ℕ = take len (drop (c.args.row * width len) c.args.levels.now) in
+    let most : (c.args.row + 1) * width len ≤ length c.args.levels.now = c.requires.room in
     let long : length row ≡ len = omega (
       arith,
-      length-take len (drop (c.args.row * len) c.args.levels.now),
-      length-drop (c.args.row * len) c.args.levels.now,
+      length-take len (drop (c.args.row * width len) c.args.levels.now),
+      length-drop (c.args.row * width len) c.args.levels.now,
     ) in
-    let part : take ((c.args.row + 1) * len - c.args.row * len) (drop (c.args.row * len) c.args.levels.now) ≡ row =
-    ap (λ n. take n (drop (c.args.row * len) c.args.levels.now)) (width_of c.args.row len) in
+    let part : take (c.args.row * width len + len - c.args.row * width len) (drop (c.args.row * width len) c.args.levels.now) ≡ row =
+    ap (λ n. take n (drop (c.args.row * width len) c.args.levels.now)) (width_of c.args.row len) in
     same_look row c.args.look.now long (subst (λ (xs : List ℕ). Agree xs c.args.look.now 0 (length xs)) part
     (c.next_change.ensures.none (none_from c.next_change.result c.is_none.result c.is_none.ensures same))) chan

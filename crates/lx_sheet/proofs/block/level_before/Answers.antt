@@ -1,5 +1,5 @@
 use Rattle.std.proofs.Common.{◌≡◌, ◌+◌, ◌-◌, ◌*◌, get_or, ap, sym, ◌∙◌, arith}
-use Rattle.lx_sheet.specs.Block.{cell, cue_level}
+use Rattle.lx_sheet.specs.Block.{cell, cue_level, width}
 use Rattle.lx_sheet.proofs.Cells.{cell_is, last_value_some}
 use Rattle.lx_sheet.proofs.block.level_before.Goals as goal
 
@@ -10,4 +10,4 @@ returns-else-cues-eq0 c =
     c.if-cues-eq0.false
     ∙ ap (λ r. cell c.args.channels c.args.levels.now r (c.args.at + 1)) (sym c.own_row.ensures.row)
     ∙ cell_is c.args.channels c.args.levels.now c.own_row.result (c.args.at + 1) (omega arith) (omega arith)
-    ∙ ap (λ n. get_or c.args.levels.now (c.own_row.result * c.args.channels + n) 0) at)
+    ∙ ap (λ n. get_or c.args.levels.now (c.own_row.result * width c.args.channels + n) 0) at)

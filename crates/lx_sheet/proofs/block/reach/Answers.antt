@@ -1,15 +1,15 @@
 use Rattle.std.proofs.Common.{◌≡◌, ◌-◌, ◌*◌, ◌++◌, ℕ, List, take, vec_len, ap, ◌∙◌, arith}
 use Rattle.std.specs.Prelude.{replicate}
 use Rattle.std.proofs.lemmas.List.{take_all}
-use Rattle.lx_sheet.specs.Block.{cell}
+use Rattle.lx_sheet.specs.Block.{cell, width}
 use Rattle.lx_sheet.proofs.BlockReach.{cell_grown}
 use Rattle.lx_sheet.proofs.block.reach.Goals as goal
 
 pub returns-in-Ok-clause-same : goal.returns-in-Ok-clause-same
 returns-in-Ok-clause-same c = λ row chan.
     let old : List ℕ = c.args.levels.now.items in
-    let more : ℕ = c.args.rows * c.args.channels - vec_len c.args.levels.now in
-    let whole : take (c.args.rows * c.args.channels) old ≡ old = take_all (c.args.rows * c.args.channels) old (omega
+    let more : ℕ = c.args.rows * width c.args.channels - vec_len c.args.levels.now in
+    let whole : take (c.args.rows * width c.args.channels) old ≡ old = take_all (c.args.rows * width c.args.channels) old (omega
     (arith, c.args.levels.now.ok)) in
     let grown : c.resize.new.self.items ≡ old ++ replicate more 0 = c.in-Ok.ensures.items
     ∙ ap (λ (xs : List ℕ). xs ++ replicate more 0) whole in

@@ -1,5 +1,5 @@
 use Rattle.std.proofs.Common.{◌*◌, List, ℕ, length, take, drop, ap, ◌∙◌}
-use Rattle.lx_sheet.specs.Block.{cell, level_in_look}
+use Rattle.lx_sheet.specs.Block.{cell, level_in_look, width}
 use Rattle.lx_sheet.proofs.Cells.{width_of}
 use Rattle.lx_sheet.proofs.block.read_row.Goals as goal
 
@@ -8,4 +8,4 @@ unfolding cell
 returns c = λ chan.
     let len : ℕ = length c.args.look.now in
     ap (λ (xs : List ℕ). level_in_look xs chan)
-    (c.copy_from_slice.ensures.after ∙ ap (λ n. take n (drop (c.args.row * len) c.args.levels.now)) (width_of c.args.row len))
+    (c.copy_from_slice.ensures.after ∙ ap (λ n. take n (drop (c.args.row * width len) c.args.levels.now)) (width_of c.args.row len))

@@ -23,6 +23,6 @@ returns-clause-step g c =
         ended = inl refl;
         within = c.if-self-gt-INPUT_BYTES.false;
       },
-      ap (λ b. slice_range b l.start (l.start + (l.feed - l.start))) p.same.0 ∙ ap (slice_range l.buffer l.start) end ∙ sym all,
+      ap (λ b. slice_range b l.start (l.start + (l.feed - l.start))) p.same.3 ∙ ap (slice_range l.buffer l.start) end ∙ sym all,
       subst (λ v. length v ≤ 4096) (sym all) few,
     )

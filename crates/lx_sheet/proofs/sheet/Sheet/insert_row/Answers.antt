@@ -10,7 +10,7 @@ use Rattle.lx_spec.specs.Show.{Cue, Show}
 use Rattle.lx_spec.specs.EditedShow.{with_cue}
 use Rattle.lx_spec.specs.TrackedLevel.{cue_of}
 use Rattle.lx_sheet.specs.declared.sheet.Place.{Place}
-use Rattle.lx_sheet.specs.Block.{AreApart, Covers, own_rows, row_at_place}
+use Rattle.lx_sheet.specs.Block.{AreApart, Covers, own_rows, row_at_place, width}
 use Rattle.lx_sheet.specs.After.{IsFilled, IsPassed}
 use Rattle.lx_sheet.specs.SheetMeaning.{RowsStandFor}
 use Rattle.lx_sheet.proofs.BlockReach.{covers_inserted, covers_lent, covers_longer, stands_same}
@@ -22,7 +22,7 @@ use Rattle.lx_sheet.proofs.sheet.Sheet.insert_row.Goals as goal
 
 -- with the row of the cue that came the block covers the new order
 reached : (channels : ℕ) (levels grown : List ℕ) (old new lent : List Place) (at n row : ℕ) → Covers channels levels old
-    → length levels ≤ length grown → (row + 1) * channels ≤ length grown
+    → length levels ≤ length grown → (row + 1) * width channels ≤ length grown
     → new ≡ insert old at (record { cue = n; row = row_at_place new at }) → lent ≡ new → row ≡ row_at_place lent at
     → Covers channels grown new
 reached channels levels grown old new lent at n row covers longer here added same is =
@@ -30,7 +30,7 @@ reached channels levels grown old new lent at n row covers longer here added sam
     subst (Covers channels grown) (sym added)
     (covers_inserted channels grown old at (record { cue = n; row = row_at_place new at })
     (covers_longer channels levels grown old longer covers)
-    (subst (λ r. (r + 1) * channels ≤ length grown) own here))
+    (subst (λ r. (r + 1) * width channels ≤ length grown) own here))
 
 pub own_row-row-requires-clause-rows : goal.own_row-row-requires-clause-rows
 own_row-row-requires-clause-rows c =
@@ -57,12 +57,12 @@ returns-then-len-cues c = λ before cue stands number absent now.
     (subst (RowsStandFor before) (sym c.self.view_is) stands) in
     let order = order_of before channels old levels c.self.invariant.sorted was in
     let of_cues : c.cues-cues.result.now ≡ show.cues = c.cues-cues.ensures.cues ∙ ap (λ (s : Show). s.cues) now in
-    let width : length c.deref_mut-then-len-cues.result.now ≡ channels =
+    let long : length c.deref_mut-then-len-cues.result.now ≡ channels =
     omega (arith, ap length c.deref_mut-then-len-cues.ensures.value, c.self.invariant.look_room) in
     let shifted = inserted before cue n at old new _ order.cues_sorted order.numbers number absent c.in-Some.ensures.goes refl
     c.in-Some.ensures.added in
     let is : IsFilled channels new show.cues levels filled at (at + 1) =
-    told_as (λ k xs ys zs. IsPassed k xs ys zs at → IsFilled k xs ys zs filled at (at + 1)) _ channels _ new _ show.cues _ levels width
+    told_as (λ k xs ys zs. IsPassed k xs ys zs at → IsFilled k xs ys zs filled at (at + 1)) _ channels _ new _ show.cues _ levels long
     c.deref-then-len-cues.ensures.value of_cues c.deref_mut.ensures.value c.fill_inserted.ensures
     (passed channels old new before.cues show.cues levels at shifted (rows_right before channels old levels c.self.invariant.sorted was)) in
     subst (λ (s : Show). RowsStandFor s (sheet_of channels new (with_items c.reach.new.levels filled).items)) (sym now)

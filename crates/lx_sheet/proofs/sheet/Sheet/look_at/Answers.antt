@@ -4,7 +4,7 @@ use Rattle.lx_spec.proofs.Lists.{shorter}
 use Rattle.lx_show.specs.Around.{entries_up_to}
 use Rattle.lx_sheet.specs.declared.sheet.Place.{Place}
 use Rattle.lx_sheet.specs.Rows.{Sheet, level_of}
-use Rattle.lx_sheet.specs.Block.{AreApart, own_rows, row_at_place}
+use Rattle.lx_sheet.specs.Block.{AreApart, own_rows, row_at_place, width}
 use Rattle.lx_sheet.proofs.Cells.{width_of}
 use Rattle.lx_sheet.proofs.BlockReach.{covered_at}
 use Rattle.lx_sheet.proofs.Found.{look_found, look_none}
@@ -53,7 +53,7 @@ slice_bounds-result-end c =
       shorter (λ (p : Place). nat_le p.cue c.args.n) c.as_slice-order.result.now,
       ap length c.as_slice-order.ensures.value,
     ) in
-    subst (λ r. (r + 1) * c.self.inside.channels ≤ length c.deref.result.now) (sym row)
+    subst (λ r. r * width c.self.inside.channels + c.self.inside.channels ≤ length c.deref.result.now) (sym row)
     (omega (
       arith,
       covered_at c.self.inside.channels c.self.inside.levels.items order last c.self.invariant.covered there,
@@ -71,9 +71,9 @@ returns-clause-levels c = λ k less.
     let row : c.own_row-last.result ≡ row_at_place order (count_up_to c.args.n (map (λ (p : Place). p.cue) order) - 1) =
     c.own_row-last.ensures.row ∙ ap (λ (xs : List Place). row_at_place xs (cues - 1)) c.as_slice-order.ensures.value
     ∙ ap (λ j. row_at_place order (j - 1)) count in
-    let width : k < channels = omega (arith, less, ap (λ (s : Sheet). s.channels) c.self.view_is) in
-    ap (λ n. get_or (take n (drop (c.own_row-last.result * channels) c.deref.result.now)) k 0) (width_of c.own_row-last.result channels)
-    ∙ ap (λ (xs : List ℕ). get_or (take channels (drop (c.own_row-last.result * channels) xs)) k 0) c.deref.ensures.value
-    ∙ ap (λ r. get_or (take channels (drop (r * channels) levels)) k 0) row
-    ∙ look_found channels order levels c.args.n k c.self.invariant.sorted width (λ none. c.if-cues-eq0.false (count ∙ none))
+    let long : k < channels = omega (arith, less, ap (λ (s : Sheet). s.channels) c.self.view_is) in
+    ap (λ n. get_or (take n (drop (c.own_row-last.result * width channels) c.deref.result.now)) k 0) (width_of c.own_row-last.result channels)
+    ∙ ap (λ (xs : List ℕ). get_or (take channels (drop (c.own_row-last.result * width channels) xs)) k 0) c.deref.ensures.value
+    ∙ ap (λ r. get_or (take channels (drop (r * width channels) levels)) k 0) row
+    ∙ look_found channels order levels c.args.n k c.self.invariant.sorted long (λ none. c.if-cues-eq0.false (count ∙ none))
     ∙ ap (λ (s : Sheet). level_of s c.args.n (k + 1)) c.self.view_is

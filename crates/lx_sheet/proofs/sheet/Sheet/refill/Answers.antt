@@ -66,11 +66,11 @@ returns c =
     let of_cues : c.cues-cues.result.now ≡ show.cues = c.cues-cues.ensures.cues in
     let listed : order ≡ placed_from 0 show.cues = c.list_cues.ensures.order ∙ ap (placed_from 0) of_cues in
     let sorted = c.cues-cues.ensures.valid.cues_sorted in
-    let width : length c.deref_mut-2.result.now ≡ channels =
+    let long : length c.deref_mut-2.result.now ≡ channels =
     omega (arith, ap length c.deref_mut-2.ensures.value, c.self.invariant.look_room) in
     let is : IsFilled channels order show.cues c.reach.new.levels.items filled 0 (length c.cues-cues.result.now) =
     told_as (λ k xs ys zs. IsFilled k xs ys zs filled 0 (length c.cues-cues.result.now)) _ channels _ order _ show.cues _
-    c.reach.new.levels.items width
+    c.reach.new.levels.items long
     c.deref.ensures.value of_cues c.deref_mut.ensures.value c.fill_from.ensures in
     subst (λ (xs : List ℕ). RowsStandFor show (sheet_of channels order xs)) (sym (with_items_is c.reach.new.levels filled (omega arith)))
     (filled_stands show channels order filled (ap (λ (s : Sheet). s.channels) c.self.view_is ∙ c.requires)

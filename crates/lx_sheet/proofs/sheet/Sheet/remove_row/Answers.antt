@@ -8,7 +8,7 @@ use Rattle.lx_spec.specs.SortedList.{IsStrictlySorted}
 use Rattle.lx_spec.specs.Show.{Cue, Show}
 use Rattle.lx_spec.specs.EditedShow.{without_cue}
 use Rattle.lx_sheet.specs.declared.sheet.Place.{Place}
-use Rattle.lx_sheet.specs.Block.{AreApart, Covers, own_rows}
+use Rattle.lx_sheet.specs.Block.{AreApart, Covers, own_rows, width}
 use Rattle.lx_sheet.specs.After.{IsFilled, IsLeft}
 use Rattle.lx_sheet.specs.SheetMeaning.{RowsStandFor}
 use Rattle.lx_sheet.proofs.BlockReach.{covered_at, covers_lent, covers_removed}
@@ -43,11 +43,11 @@ returns-then-len-cues c = λ before stands now.
     let was : RowsStandFor before (sheet_of channels old levels) = subst (RowsStandFor before) (sym c.self.view_is) stands in
     let order = order_of before channels old levels c.self.invariant.sorted was in
     let of_cues : c.cues-cues.result.now ≡ show.cues = c.cues-cues.ensures.cues ∙ ap (λ (s : Show). s.cues) now in
-    let width : length c.deref_mut-then-len-cues.result.now ≡ channels =
+    let long : length c.deref_mut-then-len-cues.result.now ≡ channels =
     omega (arith, ap length c.deref_mut-then-len-cues.ensures.value, c.self.invariant.look_room) in
     let shifted = removed before n at old new order.cues_sorted order.numbers c.in-Some.ensures.stands c.in-Some.ensures.dropped in
     let is : IsFilled channels new show.cues levels filled at at =
-    told_as (λ k xs ys zs. IsLeft k xs ys zs at row → IsFilled k xs ys zs filled at at) _ channels _ new _ show.cues _ levels width
+    told_as (λ k xs ys zs. IsLeft k xs ys zs at row → IsFilled k xs ys zs filled at at) _ channels _ new _ show.cues _ levels long
     c.deref.ensures.value of_cues c.deref_mut.ensures.value c.fill_removed.ensures
     (left_behind channels old new before.cues show.cues levels at row shifted c.in-Some.ensures.row
     (rows_right before channels old levels c.self.invariant.sorted was)) in
@@ -105,8 +105,8 @@ invariant_of-self c = record {
   few = c.self.invariant.few;
   sorted = c.drop_place.ensures.sorted;
   pool = c.drop_place.ensures.pool;
-  row_room = omega (arith, c.drop_place.ensures.room, c.self.invariant.row_room);
-  free_room = omega (arith, c.drop_place.ensures.free_room, c.self.invariant.free_room);
+  row_room = omega (arith, c.drop_place.ensures.rooms.0, c.self.invariant.row_room);
+  free_room = omega (arith, c.drop_place.ensures.rooms.1, c.self.invariant.free_room);
   level_room = c.self.invariant.level_room;
   covered = covers_lent c.self.inside.channels _ c.self.inside.levels.items _ c.drop_place.new.order.items _ refl refl
       (ap length (with_items_is c.self.inside.levels c.fill_removed.new.levels (omega arith)) ∙ omega arith)
@@ -120,8 +120,8 @@ invariant_of-self-else-len-cues c = record {
   few = c.self.invariant.few;
   sorted = c.drop_place.ensures.sorted;
   pool = c.drop_place.ensures.pool;
-  row_room = omega (arith, c.drop_place.ensures.room, c.self.invariant.row_room);
-  free_room = omega (arith, c.drop_place.ensures.free_room, c.self.invariant.free_room);
+  row_room = omega (arith, c.drop_place.ensures.rooms.0, c.self.invariant.row_room);
+  free_room = omega (arith, c.drop_place.ensures.rooms.1, c.self.invariant.free_room);
   level_room = c.self.invariant.level_room;
   covered = left c.self.inside.channels c.self.inside.levels.items c.self.inside.order.items c.drop_place.new.order.items c.in-Some.freed.at
       c.in-Some.ensures.stands.within c.self.invariant.covered c.in-Some.ensures.dropped;
@@ -136,10 +136,10 @@ fill_removed-requires-clause-row c =
 
 pub fill_removed-requires-clause-left : goal.fill_removed-requires-clause-left
 fill_removed-requires-clause-left c =
-    let width : length c.deref_mut-then-len-cues.result.now ≡ c.self.inside.channels =
+    let long : length c.deref_mut-then-len-cues.result.now ≡ c.self.inside.channels =
     omega (arith, ap length c.deref_mut-then-len-cues.ensures.value, c.self.invariant.look_room) in
-    subst (λ k. (c.in-Some.freed.row + 1) * k ≤ length c.deref_mut.result.now) (sym width)
-    (subst (λ (xs : List ℕ). (c.in-Some.freed.row + 1) * c.self.inside.channels ≤ length xs) (sym c.deref_mut.ensures.value)
-    (subst (λ r. (r + 1) * c.self.inside.channels ≤ length c.self.inside.levels.items) (sym c.in-Some.ensures.row)
+    subst (λ k. (c.in-Some.freed.row + 1) * width k ≤ length c.deref_mut.result.now) (sym long)
+    (subst (λ (xs : List ℕ). (c.in-Some.freed.row + 1) * width c.self.inside.channels ≤ length xs) (sym c.deref_mut.ensures.value)
+    (subst (λ r. (r + 1) * width c.self.inside.channels ≤ length c.self.inside.levels.items) (sym c.in-Some.ensures.row)
     (covered_at c.self.inside.channels c.self.inside.levels.items c.self.inside.order.items c.in-Some.freed.at c.self.invariant.covered
     c.in-Some.ensures.stands.within)))

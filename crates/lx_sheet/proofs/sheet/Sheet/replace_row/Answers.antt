@@ -46,12 +46,12 @@ returns-then-len-cues c = λ before cue stands number there now.
     let was : RowsStandFor before (sheet_of channels order levels) = subst (RowsStandFor before) (sym c.self.view_is) stands in
     let is_order = order_of before channels order levels c.self.invariant.sorted was in
     let of_cues : c.cues-cues.result.now ≡ show.cues = c.cues-cues.ensures.cues ∙ ap (λ (s : Show). s.cues) now in
-    let width : length c.deref_mut-then-len-cues.result.now ≡ channels =
+    let long : length c.deref_mut-then-len-cues.result.now ≡ channels =
     omega (arith, ap length c.deref_mut-then-len-cues.ensures.value, c.self.invariant.look_room) in
     let place = place_is n c.get.result at c.as_slice.result.now order c.get.ensures.value c.as_slice.ensures.value
     c.in-Ok.ensures.stands in
     let is : IsFilled channels order show.cues levels filled at (at + 1) =
-    told_as (λ k xs ys zs. IsFilled k xs ys zs filled at (at + 1)) _ channels _ order _ show.cues _ levels width c.deref.ensures.value of_cues c.deref_mut.ensures.value
+    told_as (λ k xs ys zs. IsFilled k xs ys zs filled at (at + 1)) _ channels _ order _ show.cues _ levels long c.deref.ensures.value of_cues c.deref_mut.ensures.value
     c.fill_from.ensures in
     subst (λ (s : Show). RowsStandFor s (sheet_of channels order (with_items c.self.inside.levels filled).items)) (sym now)
     (subst (λ (xs : List ℕ). RowsStandFor show (sheet_of channels order xs)) (sym (with_items_is c.self.inside.levels filled (omega arith)))

@@ -6,7 +6,7 @@ use Rattle.lx_spec.specs.Replies.{row_of}
 use Rattle.lx_sheet.specs.declared.sheet.Place.{Place}
 use Rattle.lx_sheet.specs.Rows.{Sheet, row_at, numbers_of}
 use Rattle.lx_sheet.specs.SheetMeaning.{RowsStandFor}
-use Rattle.lx_sheet.specs.Block.{row_at_place, AreApart, own_rows}
+use Rattle.lx_sheet.specs.Block.{row_at_place, AreApart, own_rows, width}
 use Rattle.lx_sheet.proofs.Cells.{width_of}
 use Rattle.lx_sheet.proofs.Found.{row_found, row_absent, cue_found, cue_absent}
 use Rattle.lx_sheet.proofs.RowPool.{own_apart}
@@ -14,10 +14,10 @@ use Rattle.lx_sheet.proofs.sheet.Sheet.row.Goals as goal
 
 -- the part of the block, written with the channel count
 part : (channels row own : ℕ) (lent levels : List ℕ) → lent ≡ levels → row ≡ own
-    → take ((row + 1) * channels - row * channels) (drop (row * channels) lent) ≡ take channels (drop (own * channels) levels)
+    → take (row * width channels + channels - row * width channels) (drop (row * width channels) lent) ≡ take channels (drop (own * width channels) levels)
 part channels row own lent levels same is =
-    ap (λ n. take n (drop (row * channels) lent)) (width_of row channels)
-    ∙ ap (λ (xs : List ℕ). take channels (drop (row * channels) xs)) same ∙ ap (λ r. take channels (drop (r * channels) levels)) is
+    ap (λ n. take n (drop (row * width channels) lent)) (width_of row channels)
+    ∙ ap (λ (xs : List ℕ). take channels (drop (row * width channels) xs)) same ∙ ap (λ r. take channels (drop (r * width channels) levels)) is
 
 place_is : (n m at : ℕ) (lent order : List Place) → m ≡ n → lent ≡ order → StandsAt (λ p. p.cue) m lent at
     → StandsAt (λ p. p.cue) n order at
