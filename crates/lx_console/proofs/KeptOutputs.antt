@@ -1,4 +1,4 @@
--- A stage shows a player when its outputs are mixed from the player's levels, and does so while nothing that goes out changes.
+-- An output shows a player when its outputs are mixed from the player's levels, and does so while nothing that goes out changes.
 use Rattle.std.specs.Prelude.{◌≡◌, ℕ, ◌+◌, ◌<◌, max, List, length, take, drop, ◌++◌}
 use Rattle.std.proofs.Common.{arith, ap, ◌∙◌, sym, subst}
 use Rattle.std.proofs.lemmas.Grind.{common_steps}
@@ -8,7 +8,7 @@ use Rattle.lx_spec.specs.Output.{contribution}
 use Rattle.lx_spec.specs.Kept.{Kept}
 use Rattle.lx_mixer.specs.Table.{IsTable}
 use Rattle.lx_patch.specs.DimmerTable.{StandsForPatch}
-use Rattle.lx_console.specs.declared.stage.Stage.{Stage}
+use Rattle.lx_console.specs.declared.kept_output.KeptOutput.{KeptOutput}
 use Rattle.lx_console.specs.Changes.{SamePatch, SameOutputs}
 use Rattle.lx_console.specs.ConsoleMeaning.{level_now, out_now}
 use Rattle.lx_console.specs.KeptOutput.{Reaches, SlotsStand, IsFilled, IsMixed}
@@ -17,9 +17,9 @@ use Rattle.lx_console.specs.KeptOutput.{Reaches, SlotsStand, IsFilled, IsMixed}
 pub written : (n : ℕ) (xs ys : List ℕ) → length xs ≡ n → take n (xs ++ drop (length xs) ys) ≡ xs
 written n xs ys is = grind (arith, common_steps)
 
-pub filled : (k : Kept) (levels : List ℕ) (stage : Stage) → IsTable k.show.channels (level_now k) levels → IsMixed levels k stage
-    → IsFilled k stage
-filled k levels stage of_levels is = record {
+pub filled : (k : Kept) (levels : List ℕ) (output : KeptOutput) → IsTable k.show.channels (level_now k) levels → IsMixed levels k output
+    → IsFilled k output
+filled k levels output of_levels is = record {
   reaches = is.reaches;
   patch_stands = is.patch_stands;
   outs_stand = record {
@@ -31,16 +31,16 @@ filled k levels stage of_levels is = record {
 }
 
 -- places, table and slots stay for the same channels and rows
-pub same_reaches : (before after : ℕ) (stage : Stage) → after ≡ before → Reaches before stage → Reaches after stage
-same_reaches before after stage same reaches = subst (λ n. Reaches n stage) (sym same) reaches
+pub same_reaches : (before after : ℕ) (output : KeptOutput) → after ≡ before → Reaches before output → Reaches after output
+same_reaches before after output same reaches = subst (λ n. Reaches n output) (sym same) reaches
 
-pub same_table : (before after : Kept) (stage : Stage) → SamePatch before after → StandsForPatch before.show.patch stage.table
-    → StandsForPatch after.show.patch stage.table
-same_table before after stage same stands = subst (λ (rows : List PatchRow). StandsForPatch rows stage.table) (sym same.patch) stands
+pub same_table : (before after : Kept) (output : KeptOutput) → SamePatch before after → StandsForPatch before.show.patch output.table
+    → StandsForPatch after.show.patch output.table
+same_table before after output same stands = subst (λ (rows : List PatchRow). StandsForPatch rows output.table) (sym same.patch) stands
 
-pub same_slots : (before after : Kept) (stage : Stage) → SamePatch before after → SlotsStand before.show.patch stage
-    → SlotsStand after.show.patch stage
-same_slots before after stage same stand = subst (λ (rows : List PatchRow). SlotsStand rows stage) (sym same.patch) stand
+pub same_slots : (before after : Kept) (output : KeptOutput) → SamePatch before after → SlotsStand before.show.patch output
+    → SlotsStand after.show.patch output
+same_slots before after output same stand = subst (λ (rows : List PatchRow). SlotsStand rows output) (sym same.patch) stand
 
 same_out : (before after : Kept) (i : ℕ) → SameOutputs before after → i < before.show.channels
     → out_now before (i + 1) ≡ out_now after (i + 1)
@@ -49,15 +49,15 @@ same_out before after i same within =
     ∙ ap (λ g. scaled (max (level_now after (i + 1)) g) before.master) (sym (same.given i within))
     ∙ ap (λ m. scaled (max (level_now after (i + 1)) (contribution after.show after.faders (i + 1))) m) (sym same.master)
 
-pub filled_still : (before after : Kept) (stage : Stage) → IsFilled before stage → SameOutputs before after → IsFilled after stage
-filled_still before after stage is same = record {
-  reaches = same_reaches before.show.channels after.show.channels stage same.rows.channels is.reaches;
-  patch_stands = same_table before after stage same.rows is.patch_stands;
+pub filled_still : (before after : Kept) (output : KeptOutput) → IsFilled before output → SameOutputs before after → IsFilled after output
+filled_still before after output is same = record {
+  reaches = same_reaches before.show.channels after.show.channels output same.rows.channels is.reaches;
+  patch_stands = same_table before after output same.rows is.patch_stands;
   outs_stand = record {
     reach = is.outs_stand.reach ∙ sym same.rows.channels;
     each = λ i within.
         let there : i < before.show.channels = omega (arith, same.rows.channels) in
         is.outs_stand.each i there ∙ same_out before after i same there;
   };
-  slots_stand = same_slots before after stage same.rows is.slots_stand;
+  slots_stand = same_slots before after output same.rows is.slots_stand;
 }

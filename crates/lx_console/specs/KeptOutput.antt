@@ -16,39 +16,39 @@ use Rattle.lx_levels.specs.LevelsMeaning.{LevelsStandFor}
 use Rattle.lx_subs.specs.Faders.{Faders, StandsForSubs}
 use Rattle.lx_console.specs.declared.change.Change.{Change}
 use Rattle.lx_console.specs.declared.change.Change.TheVariants.{Nothing, Levels as Leveled, Row}
-use Rattle.lx_console.specs.declared.stage.Stage.{Stage}
+use Rattle.lx_console.specs.declared.kept_output.KeptOutput.{KeptOutput}
 use Rattle.lx_console.specs.Changes.{Changes}
 use Rattle.lx_console.specs.ConsoleMeaning.{out_now}
 
 -- a place for each channel and for each dimmer
-pub record Reaches (channels : ℕ) (stage : Stage) : Type 0 where
-  pub outs_reach : length stage.outs.items ≡ channels
-  pub mixed_reach : length stage.mixed.items ≡ channels
-  pub slots_reach : length stage.slots.items ≡ SLOTS
+pub record Reaches (channels : ℕ) (output : KeptOutput) : Type 0 where
+  pub outs_reach : length output.outs.items ≡ channels
+  pub mixed_reach : length output.mixed.items ≡ channels
+  pub slots_reach : length output.slots.items ≡ SLOTS
 
 -- the slots are those of the outputs
-abbrev pub SlotsStand : List PatchRow → Stage → Type 0
-SlotsStand patch stage = IsTable SLOTS (dimmer_value patch (λ c. slice_index stage.outs.items (c - 1))) stage.slots.items
+abbrev pub SlotsStand : List PatchRow → KeptOutput → Type 0
+SlotsStand patch output = IsTable SLOTS (dimmer_value patch (λ c. slice_index output.outs.items (c - 1))) output.slots.items
 
 -- the outputs are mixed from the levels and from what the submasters give, and the slots are those of the outputs
-pub record IsMixed (levels : List ℕ) (player : Kept) (stage : Stage) : Type 0 where
-  pub reaches : Reaches player.show.channels stage
-  pub patch_stands : StandsForPatch player.show.patch stage.table
-  pub outs : (k : ℕ) → k < length stage.outs.items
-      → slice_index stage.outs.items k ≡ scaled (max (slice_index levels k) (contribution player.show player.faders (k + 1))) player.master
-  pub slots_stand : SlotsStand player.show.patch stage
+pub record IsMixed (levels : List ℕ) (player : Kept) (output : KeptOutput) : Type 0 where
+  pub reaches : Reaches player.show.channels output
+  pub patch_stands : StandsForPatch player.show.patch output.table
+  pub outs : (k : ℕ) → k < length output.outs.items
+      → slice_index output.outs.items k ≡ scaled (max (slice_index levels k) (contribution player.show player.faders (k + 1))) player.master
+  pub slots_stand : SlotsStand player.show.patch output
 
--- the stage shows the player
-pub record IsFilled (player : Kept) (stage : Stage) : Type 0 where
-  pub reaches : Reaches player.show.channels stage
-  pub patch_stands : StandsForPatch player.show.patch stage.table
-  pub outs_stand : IsTable player.show.channels (out_now player) stage.outs.items
-  pub slots_stand : SlotsStand player.show.patch stage
+-- the output shows the player
+pub record IsFilled (player : Kept) (output : KeptOutput) : Type 0 where
+  pub reaches : Reaches player.show.channels output
+  pub patch_stands : StandsForPatch player.show.patch output.table
+  pub outs_stand : IsTable player.show.channels (out_now player) output.outs.items
+  pub slots_stand : SlotsStand player.show.patch output
 
--- the stage showed the player before it changed so
-pub record WasFilled (change : Change) (player : Kept) (stage : Stage) : Type 0 where
+-- the output showed the player before it changed so
+pub record WasFilled (change : Change) (player : Kept) (output : KeptOutput) : Type 0 where
   pub before : Kept
-  pub filled : IsFilled before stage
+  pub filled : IsFilled before output
   pub changes : Changes change before player
 
 -- the table stands for these rows but for that of the dimmer

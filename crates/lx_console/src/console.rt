@@ -1,4 +1,4 @@
-//! The console: a player, and the stage that shows it.
+//! The console: a player, and the output that shows it.
 
 ghost use Rattle.std.specs.Prelude.{◌≡◌, ℕ, ◌-◌, ◌/◌, ◌≤◌, [], None, min, option_map};
 ghost use Rattle.std.specs.Prelude.{OnErr, IfOk, IsOkAnd};
@@ -18,8 +18,8 @@ ghost use Rattle.lx_console.specs.Slots.{universe};
 ghost use Rattle.lx_console.specs.ConsoleMeaning.{StandsFor, Obeys, Answers, level_now, out_now};
 ghost use Rattle.lx_console.specs.Ticks.{after_ticks};
 
+use crate::kept_output::KeptOutput;
 use crate::player::{Applied, Player};
-use crate::stage::Stage;
 use lx_base::{Chan, CueNo, Level, Moment, SubNo};
 use lx_edit::Plan;
 use lx_show::{Command, Key, Refusal, Show};
@@ -32,13 +32,13 @@ use std::marker::Model;
 ///
 /// A console stands for a desk that also has the list of all runs since its opening: edits, keys and ticks
 /// are accepted, or refused, as that desk does, and the rows are those of its show, the levels and slots
-/// those over all its runs. It stands where its player does, and its stage shows the player. How levels follow
+/// those over all its runs. It stands where its player does, and its output shows the player. How levels follow
 /// from runs is our own rule; that the greatest of playback and submasters goes out, under the master, is console
 /// practice.
 #[derive(Drop)]
 pub struct Console {
     player: Player,
-    stage: Stage,
+    output: KeptOutput,
 }
 
 impl Model for Console {
@@ -49,7 +49,7 @@ impl Model for Console {
 
     ghost view = { λ c. c.player };
 
-    ghost invariant = { λ c. IsFilled c.player c.stage };
+    ghost invariant = { λ c. IsFilled c.player c.output };
 }
 
 impl Console {
@@ -60,9 +60,9 @@ impl Console {
         ensures { IfOk result (StandsFor (opened show)) }
     {
         let player = Player::open(alloc, show)?;
-        let mut stage = Stage::open(alloc, player.show())?;
-        stage.fill(player.levels(), &player);
-        Ok(Console { player, stage })
+        let mut output = KeptOutput::open(alloc, player.show())?;
+        output.fill(player.levels(), &player);
+        Ok(Console { player, output })
     }
 }
 
@@ -148,7 +148,7 @@ impl Console {
         ensures frames { (d : Desk) (u : ℕ) → StandsFor d self.now → 1 ≤ u → u ≤ UNIVERSES → universe u result.now ≡ frame d u }
     {
         let _ = self.player.show().channels();
-        self.stage.slots()
+        self.output.slots()
     }
 }
 
@@ -164,7 +164,7 @@ impl Console {
         ensures unchanged { OnErr result (self.new ≡ self.old) }
     {
         let change = self.player.press(key)?;
-        self.stage.follow(change, &self.player);
+        self.output.follow(change, &self.player);
         Ok(())
     }
 
@@ -177,7 +177,7 @@ impl Console {
         ensures unchanged { OnErr result (self.new ≡ self.old) }
     {
         let change = self.player.tick()?;
-        self.stage.follow(change, &self.player);
+        self.output.follow(change, &self.player);
         Ok(())
     }
 
@@ -192,7 +192,7 @@ impl Console {
             → result ≡ min most ((TICK_END - self.old.playback.moment) / TICK_STEP) }
     {
         let passed = self.player.pass(most);
-        self.stage.follow(passed.change, &self.player);
+        self.output.follow(passed.change, &self.player);
         passed.ticks
     }
 
@@ -207,7 +207,7 @@ impl Console {
         ensures unchanged { OnErr result (self.new ≡ self.old) }
     {
         let change = self.player.command(command)?;
-        self.stage.follow(change, &self.player);
+        self.output.follow(change, &self.player);
         Ok(())
     }
 
@@ -221,7 +221,7 @@ impl Console {
         ensures stands { (d : Desk) → StandsFor d self.old → StandsFor (record d { show = planned self.old.show plan }) self.new }
     {
         let Applied { change, undo } = self.player.apply(plan);
-        self.stage.follow(change, &self.player);
+        self.output.follow(change, &self.player);
         undo
     }
 }

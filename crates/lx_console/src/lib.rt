@@ -3,14 +3,14 @@
 
 mod change;
 mod console;
+mod kept_output;
 pub mod laws;
 mod levels;
 mod player;
-mod stage;
 mod ticks;
 mod unseen;
 
 pub use change::Change;
 pub use console::Console;
+pub use kept_output::KeptOutput;
 pub use player::{Applied, Passed, Player};
-pub use stage::Stage;

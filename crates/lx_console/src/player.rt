@@ -39,7 +39,7 @@ use std::marker::Model;
 
 /// What plays: a show in playback, the faders of its submasters and the master. The tracked row of each cue, the
 /// level of each channel at the present moment, and what the submasters give it, are kept, and lent as they are.
-/// A player puts nothing out: a `Stage` does.
+/// A player puts nothing out: a `KeptOutput` does.
 ///
 /// A player stands for a desk that also has the list of all runs since its opening: edits, keys and ticks are
 /// accepted, or refused, as that desk does, and the rows are those of its show, the levels those over all its runs.
@@ -362,7 +362,7 @@ impl Player {
 
 /// Takes up the show's submasters, where one was changed: the faders stay.
 fn mend_subs(rack: &mut SubRack, show: &Show, stale: bool)
-    requires reach { length rack.old.given ≡ show.now.channels }
+    requires reach { length rack.old.contributions ≡ show.now.channels }
     requires given { stale ≡ false → StandsForSubs show.now rack.old }
     ensures stands { StandsForSubs show.now rack.new }
     ensures faders { rack.new.faders ≡ rack.old.faders }

@@ -31,7 +31,7 @@ both first second = record { first = first; second = second }
 same_room : (one other : Show) (output : Output) → other.channels ≡ one.channels → HasRoom one output → HasRoom other output
 same_room one other output same room = record {
   greatest = room.greatest ∙ sym same;
-  stage = subst (λ (n : ℕ). Reaches n output.stage) (sym same) room.stage;
+  kept = subst (λ (n : ℕ). Reaches n output.kept) (sym same) room.kept;
 }
 
 -- whatever changes, the channels don't
@@ -60,7 +60,7 @@ pub filled_still : (first second first' second' : Kept) (output : Output) → se
     → IsFilled (both first second) output → SameOutputs first first' → SameOutputs second second' → IsFilled (both first' second') output
 filled_still first second first' second' output channels filled same same' = record {
   room = same_room first.show first'.show output same.rows.channels filled.room;
-  patch = same_table first first' output.stage same.rows filled.patch;
+  patch = same_table first first' output.kept same.rows filled.patch;
   outs = record {
     reach = filled.outs.reach ∙ sym same.rows.channels;
     each = λ i within.
@@ -75,7 +75,7 @@ filled_still first second first' second' output channels filled same same' = rec
         ∙ ap (λ m. scaled (max (max (level_now first' (i + 1)) (level_now second' (i + 1)))
         (contribution first'.show first'.faders (i + 1))) m) (sym same.master);
   };
-  slots = same_slots first first' output.stage same.rows filled.slots;
+  slots = same_slots first first' output.kept same.rows filled.slots;
 }
 
 -- a player stands for some desk

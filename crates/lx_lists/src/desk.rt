@@ -83,7 +83,7 @@ impl TwoLists {
             → universe u result.now ≡ frame_of_two s u }
     {
         let _ = self.first.show().channels();
-        self.output.stage.slots()
+        self.output.kept.slots()
     }
 }
 

@@ -6,7 +6,7 @@ ghost use Rattle.lx_console.specs.KeptOutput.{IsPatchedBut, SlotsStand};
 ghost use Rattle.lx_lists.specs.KeptLists.{HasRoom, IsFilled, WasFilled};
 
 use lx_base::{Dimmer, Level};
-use lx_console::{Change, Player, Stage};
+use lx_console::{Change, KeptOutput, Player};
 use lx_mixer::mix_into;
 use lx_show::Show;
 use std::alloc::{AllocError, Global};
@@ -16,19 +16,19 @@ use std::alloc::{AllocError, Global};
 pub(crate) struct Output {
     /// The greater of both lists' levels of each channel.
     pub(crate) greatest: Vec<Level>,
-    pub(crate) stage: Stage,
+    pub(crate) kept: KeptOutput,
 }
 
 impl Output {
     /// An output for the show, whose patch alone is filled in yet. An error comes where memory is wanting.
     pub(crate) fn open(alloc: Global, show: &Show) -> Result<Output, AllocError>
         ensures room { IfOk result (HasRoom show.now) }
-        ensures patch { IfOk result (λ output. StandsForPatch show.now.patch output.stage.table) }
+        ensures patch { IfOk result (λ output. StandsForPatch show.now.patch output.kept.table) }
     {
         let channels = show.channels() as usize;
         Ok(Output {
             greatest: vec![in alloc; 0; channels]?,
-            stage: Stage::open(alloc, show)?,
+            kept: KeptOutput::open(alloc, show)?,
         })
     }
 
@@ -36,34 +36,34 @@ impl Output {
     pub(crate) fn fill(&mut self, first: &Player, second: &Player)
         requires channels { second.now.show.channels ≡ first.now.show.channels }
         requires room { HasRoom first.now.show self.old }
-        requires patch { StandsForPatch first.now.show.patch self.old.stage.table }
+        requires patch { StandsForPatch first.now.show.patch self.old.kept.table }
         ensures { IsFilled (record { first = first.now; second = second.now }) self.new }
     {
         take_greatest(first.levels(), second.levels(), &mut self.greatest);
-        self.stage.fill(&self.greatest, first);
+        self.kept.fill(&self.greatest, first);
     }
 
     /// Fills in the outputs, and the slots of those that changed: the slots were those of the outputs before.
     pub(crate) fn refill(&mut self, first: &Player, second: &Player)
         requires channels { second.now.show.channels ≡ first.now.show.channels }
         requires room { HasRoom first.now.show self.old }
-        requires patch { StandsForPatch first.now.show.patch self.old.stage.table }
-        requires slots { SlotsStand first.now.show.patch self.old.stage }
+        requires patch { StandsForPatch first.now.show.patch self.old.kept.table }
+        requires slots { SlotsStand first.now.show.patch self.old.kept }
         ensures { IsFilled (record { first = first.now; second = second.now }) self.new }
     {
         take_greatest(first.levels(), second.levels(), &mut self.greatest);
-        self.stage.refill(&self.greatest, first);
+        self.kept.refill(&self.greatest, first);
     }
 
     /// Takes up the dimmer's row of the first list's patch, then fills in the outputs and the slots.
     fn repatch(&mut self, first: &Player, second: &Player, dimmer: Dimmer)
         requires channels { second.now.show.channels ≡ first.now.show.channels }
         requires room { HasRoom first.now.show self.old }
-        requires patch { IsPatchedBut first.now.show.patch dimmer self.old.stage.table }
+        requires patch { IsPatchedBut first.now.show.patch dimmer self.old.kept.table }
         ensures { IsFilled (record { first = first.now; second = second.now }) self.new }
     {
         take_greatest(first.levels(), second.levels(), &mut self.greatest);
-        self.stage.repatch(&self.greatest, first, dimmer);
+        self.kept.repatch(&self.greatest, first, dimmer);
     }
 
     /// Shows both lists after a change of the first; before it both were shown as they were.

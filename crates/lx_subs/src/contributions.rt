@@ -14,28 +14,28 @@ use lx_show::{Member, Show};
 
 /// Fills in what the submasters give each channel, each at its fader: channel c stands at place c - 1.
 /// The work is that of the channels and of the submasters' members.
-pub(crate) fn fill(show: &Show, faders: &[Level], given: &mut [Level])
+pub(crate) fn fill(show: &Show, faders: &[Level], contributions: &mut [Level])
     requires faders { length faders.now ≡ SUBS }
-    requires reach { length given.old ≡ show.now.channels }
-    ensures { IsTable show.now.channels (contribution show.now faders.now) given.new }
+    requires reach { length contributions.old ≡ show.now.channels }
+    ensures { IsTable show.now.channels (contribution show.now faders.now) contributions.new }
 {
     let subs = show.subs();
-    given.fill(0);
+    contributions.fill(0);
     for sub in subs {
         let fader = faders[sub.number.get() as usize - 1];
-        raise_to(sub.members.as_slice(), fader, given);
+        raise_to(sub.members.as_slice(), fader, contributions);
     }
 }
 
 /// Raises the level of each member's channel to the member's, in proportion to the fader, where that is
 /// higher.
-fn raise_to(members: &[Member], fader: Level, given: &mut [Level])
-    requires { ValidMembers (length given.old) members.now }
-    ensures { EachIndex given.new (λ k. slice_index given.new k
-        ≡ max (slice_index given.old k) (scaled (level_among members.now (k + 1)) fader)) }
+fn raise_to(members: &[Member], fader: Level, contributions: &mut [Level])
+    requires { ValidMembers (length contributions.old) members.now }
+    ensures { EachIndex contributions.new (λ k. slice_index contributions.new k
+        ≡ max (slice_index contributions.old k) (scaled (level_among members.now (k + 1)) fader)) }
 {
     for member in members {
         let at = member.chan.get() as usize - 1;
-        given[at] = given[at].max(scale(member.level, fader));
+        contributions[at] = contributions[at].max(scale(member.level, fader));
     }
 }

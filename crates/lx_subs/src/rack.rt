@@ -19,7 +19,7 @@ use std::marker::Model;
 #[derive(Drop)]
 pub struct SubRack {
     faders: Vec<Level>,
-    given: Vec<Level>,
+    contributions: Vec<Level>,
 }
 
 impl Model for SubRack {
@@ -29,7 +29,7 @@ impl Model for SubRack {
 
     ghost Value = { Faders };
 
-    ghost view = { λ r. record { faders = r.faders.items; given = r.given.items } };
+    ghost view = { λ r. record { faders = r.faders.items; contributions = r.contributions.items } };
 
     ghost invariant = { λ r. length r.faders.items ≡ SUBS };
 }
@@ -43,7 +43,7 @@ impl SubRack {
     {
         let mut rack = SubRack {
             faders: vec![in alloc; 0; SUBS as usize]?,
-            given: vec![in alloc; 0; show.channels() as usize]?,
+            contributions: vec![in alloc; 0; show.channels() as usize]?,
         };
         rack.changed(show);
         Ok(rack)
@@ -61,11 +61,11 @@ impl SubRack {
 
     /// The submasters are now the show's, whose channel count is that of before. The faders stay.
     pub fn changed(&mut self, show: &Show)
-        requires { length self.old.given ≡ show.now.channels }
+        requires { length self.old.contributions ≡ show.now.channels }
         ensures stands { StandsForSubs show.now self.new }
         ensures faders { self.new.faders ≡ self.old.faders }
     {
-        fill(show, &self.faders, &mut self.given);
+        fill(show, &self.faders, &mut self.contributions);
     }
 
     /// The fader of the submaster, 0 to 255.
@@ -77,10 +77,10 @@ impl SubRack {
 
     /// What the submasters give each channel: that of channel c at place c - 1.
     pub fn contribution(&self) -> &[Level]
-        ensures given { result.now ≡ self.now.given }
+        ensures contributions { result.now ≡ self.now.contributions }
         ensures table { (show : ShowData) → StandsForSubs show self.now
             → IsTable show.channels (contribution show self.now.faders) result.now }
     {
-        self.given.as_slice()
+        self.contributions.as_slice()
     }
 }

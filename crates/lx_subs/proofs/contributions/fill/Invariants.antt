@@ -7,4 +7,4 @@ use Rattle.lx_subs.proofs.contributions.fill.Given as goal
 
 abbrev pub invariant-loop-sub : goal.invariant-loop-sub
 invariant-loop-sub l = IsTable l.show.channels
-    (λ c. greatest (map (λ sub. scaled (level_among sub.members c) (fader l.faders sub.number)) (take l.sub-index l.subs))) l.given
+    (λ c. greatest (map (λ sub. scaled (level_among sub.members c) (fader l.faders sub.number)) (take l.sub-index l.subs))) l.contributions

@@ -12,11 +12,11 @@ use Rattle.lx_console.proofs.console.Console.frames.Goals as goal
 slots : (c : goal.After-slots) → IsTable SLOTS (dimmer_value c.args.self.now.show.patch (out_now c.args.self.now)) c.slots.result.now
 slots c =
     let k : Kept = c.self.inside.player in
-    let stage = c.self.inside.stage in
+    let output = c.self.inside.output in
     let filled = c.self.invariant in
     subst (λ (xs : List ℕ). IsTable SLOTS (dimmer_value c.args.self.now.show.patch (out_now c.args.self.now)) xs) (sym c.slots.ensures)
-    (subst (λ (k : Kept). IsTable SLOTS (dimmer_value k.show.patch (out_now k)) stage.slots.items) c.self.view_is
-    (patched k.show (out_now k) stage.outs.items stage.slots.items
+    (subst (λ (k : Kept). IsTable SLOTS (dimmer_value k.show.patch (out_now k)) output.slots.items) c.self.view_is
+    (patched k.show (out_now k) output.outs.items output.slots.items
     (subst (λ (show : Show). Valid show) c.show.ensures c.channels.ensures.valid) filled.outs_stand filled.slots_stand))
 
 pub returns-clause-slots : goal.returns-clause-slots

@@ -34,11 +34,11 @@ recompute_touched-leveled-requires-clause-reach c = c.self.invariant.levels_stan
 
 pub mend_subs-requires-clause-reach : goal.mend_subs-requires-clause-reach
 mend_subs-requires-clause-reach c = same_reach c.self.inside.show c.exchange-dirty.new.show c.args.plan c.self.inside.rack.faders
-    c.self.inside.rack.given c.exchange-dirty.ensures.show c.self.invariant.subs
+    c.self.inside.rack.contributions c.exchange-dirty.ensures.show c.self.invariant.subs
 
 pub mend_subs-requires-clause-given : goal.mend_subs-requires-clause-given
 mend_subs-requires-clause-given c = same_given c.self.inside.show c.exchange-dirty.new.show c.args.plan c.exchange-dirty.result.dirty.subs
-    c.self.inside.rack.faders c.self.inside.rack.given c.exchange-dirty.ensures.show c.exchange-dirty.ensures.subs c.self.invariant.subs
+    c.self.inside.rack.faders c.self.inside.rack.contributions c.exchange-dirty.ensures.show c.exchange-dirty.ensures.subs c.self.invariant.subs
 
 pub returns-clause-undo : goal.returns-clause-undo
 returns-clause-undo c =

@@ -13,12 +13,12 @@ slots : (c : goal.After-slots)
     → IsTable SLOTS (dimmer_value c.args.self.now.first.show.patch (out_of_both c.args.self.now)) c.slots.result.now
 slots c =
     let t : TwoKept = both c.self.inside.first c.self.inside.second in
-    let stage = c.self.inside.output.stage in
+    let kept = c.self.inside.output.kept in
     let filled = c.self.invariant.filled in
     subst (λ (xs : List ℕ). IsTable SLOTS (dimmer_value c.args.self.now.first.show.patch (out_of_both c.args.self.now)) xs)
     (sym c.slots.ensures)
-    (subst (λ (t : TwoKept). IsTable SLOTS (dimmer_value t.first.show.patch (out_of_both t)) stage.slots.items) c.self.view_is
-    (patched t.first.show (out_of_both t) stage.outs.items stage.slots.items
+    (subst (λ (t : TwoKept). IsTable SLOTS (dimmer_value t.first.show.patch (out_of_both t)) kept.slots.items) c.self.view_is
+    (patched t.first.show (out_of_both t) kept.outs.items kept.slots.items
     (subst (λ (show : Show). Valid show) c.show.ensures c.channels.ensures.valid) filled.outs filled.slots))
 
 pub returns-clause-slots : goal.returns-clause-slots

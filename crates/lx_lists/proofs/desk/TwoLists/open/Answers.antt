@@ -15,7 +15,7 @@ fill-requires-clause-room c = subst (λ (s : Show). HasRoom s c.in_ok-output.out
     (sym (ap (λ (k : Kept). k.show) c.in_ok-first.ensures.same)) c.in_ok-output.ensures.room
 
 pub fill-requires-clause-patch : goal.fill-requires-clause-patch
-fill-requires-clause-patch c = subst (λ (s : Show). StandsForPatch s.patch c.in_ok-output.output.stage.table)
+fill-requires-clause-patch c = subst (λ (s : Show). StandsForPatch s.patch c.in_ok-output.output.kept.table)
     (sym (ap (λ (k : Kept). k.show) c.in_ok-first.ensures.same)) c.in_ok-output.ensures.patch
 
 pub invariant_of-result : goal.invariant_of-result

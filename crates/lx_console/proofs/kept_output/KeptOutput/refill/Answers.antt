@@ -7,7 +7,7 @@ use Rattle.lx_spec.specs.Output.{contribution, dimmer_value}
 use Rattle.lx_mixer.specs.Table.{IsTable}
 use Rattle.lx_patch.proofs.Frames.{reaches}
 use Rattle.lx_console.proofs.KeptOutputs.{written}
-use Rattle.lx_console.proofs.stage.Stage.refill.Goals as goal
+use Rattle.lx_console.proofs.kept_output.KeptOutput.refill.Goals as goal
 
 abbrev Slots : List PatchRow → List ℕ → List ℕ → Type 0
 Slots rows outs slots = IsTable SLOTS (dimmer_value rows (λ n. get_or outs (n - 1) 0)) slots

@@ -1,6 +1,6 @@
 use Rattle.std.proofs.Common.{sym}
 use Rattle.lx_console.proofs.TakenRows.{row_set, row_cleared}
-use Rattle.lx_console.proofs.stage.mend_row.Goals as goal
+use Rattle.lx_console.proofs.kept_output.mend_row.Goals as goal
 
 pub returns-in-Some : goal.returns-in-Some
 returns-in-Some c = row_set c.args.show.now.patch c.requires.before c.args.dimmer c.in-Some.row c.set.new.self (sym c.in-Some.ensures.row)

@@ -15,7 +15,7 @@ use std::alloc::{AllocError, Global};
 /// What goes out of levels: the outputs of the channels, mixed with a player's submasters under its master, and the
 /// slots of the dimmers, by the player's patch.
 #[derive(Drop)]
-pub struct Stage {
+pub struct KeptOutput {
     /// What each channel puts out.
     pub(crate) outs: Vec<Level>,
     /// Where outputs are mixed, to be compared with those before.
@@ -26,14 +26,14 @@ pub struct Stage {
     pub(crate) slots: Vec<Level>,
 }
 
-impl Stage {
-    /// A stage for the show, whose patch alone is filled in yet. An error comes where memory is wanting.
-    pub fn open(alloc: Global, show: &Show) -> Result<Stage, AllocError>
+impl KeptOutput {
+    /// An output for the show, whose patch alone is filled in yet. An error comes where memory is wanting.
+    pub fn open(alloc: Global, show: &Show) -> Result<KeptOutput, AllocError>
         ensures reaches { IfOk result (Reaches show.now.channels) }
-        ensures patch { IfOk result (λ stage. StandsForPatch show.now.patch stage.table) }
+        ensures patch { IfOk result (λ output. StandsForPatch show.now.patch output.table) }
     {
         let channels = show.channels() as usize;
-        Ok(Stage {
+        Ok(KeptOutput {
             outs: vec![in alloc; 0; channels]?,
             mixed: vec![in alloc; 0; channels]?,
             table: PatchTable::open(alloc, show)?,
@@ -89,7 +89,7 @@ impl Stage {
         self.fill(levels, player);
     }
 
-    /// Shows the player after a change; before it the stage showed the player as it was.
+    /// Shows the player after a change; before it the output showed the player as it was.
     pub(crate) fn follow(&mut self, change: Change, player: &Player)
         requires { WasFilled change player.now self.old }
         ensures { IsFilled player.now self.new }

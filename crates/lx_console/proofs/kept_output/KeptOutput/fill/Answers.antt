@@ -6,7 +6,7 @@ use Rattle.lx_spec.specs.Output.{contribution, dimmer_value}
 use Rattle.lx_mixer.specs.Table.{IsTable}
 use Rattle.lx_patch.proofs.Frames.{reaches}
 use Rattle.lx_console.proofs.KeptOutputs.{written}
-use Rattle.lx_console.proofs.stage.Stage.fill.Goals as goal
+use Rattle.lx_console.proofs.kept_output.KeptOutput.fill.Goals as goal
 
 pub frame_into-requires-clause-reach : goal.frame_into-requires-clause-reach
 frame_into-requires-clause-reach c =
