@@ -42,7 +42,8 @@ pub(crate) fn set(
 /// The move of the range's one channel to the level, where the range is one channel, of which the cue has a move.
 fn other_move(cue: &Cue, part: Option<PartNo>, range: ChanRange, level: Level) -> Option<Move>
     ensures one { IfSome result (λ _. range.first ≡ range.last) }
-    ensures entry { IfSome result (λ entry. entry ≡ record { chan = range.first; part = part_for part cue.now range.first; level = level }) }
+    ensures entry { IfSome result (λ entry. entry
+        ≡ record { chan = range.first; part = part_for part cue.now range.first; level = level }) }
     ensures there { IfSome result (λ entry. IsTrue (has_entry (λ m. m.chan) entry.chan cue.now.moves)) }
 {
     let chan = range.first();
@@ -69,7 +70,8 @@ fn move_alone(
     only: bool,
 ) -> Option<Move>
     ensures one { IfSome result (λ _. range.first ≡ range.last) }
-    ensures entry { IfSome result (λ entry. entry ≡ record { chan = range.first; part = part_for part cue.now range.first; level = level }) }
+    ensures entry { IfSome result (λ entry. entry
+        ≡ record { chan = range.first; part = part_for part cue.now range.first; level = level }) }
     ensures there { IfSome result (λ entry. IsTrue (has_entry (λ m. m.chan) entry.chan cue.now.moves)) }
     ensures apart { IfSome result (λ _. only ≡ true → IfSome (cue_above show.now n) (λ above. decides above range.first ≡ true)) }
 {

@@ -40,7 +40,8 @@ impl<K: Sink> BufferedSink<K> {
     /// Hands on what is kept.
     #[inline(never)]
     fn hand_on(&mut self) -> Result<(), SinkFault>
-        ensures holds { Keeps (with_kept (K.holds self.old.sink) (kept_back self.old)) (with_kept (K.holds self.new.sink) (kept_back self.new)) }
+        ensures holds { Keeps (with_kept (K.holds self.old.sink) (kept_back self.old))
+            (with_kept (K.holds self.new.sink) (kept_back self.new)) }
         ensures cause { HasSinkCause K.faults K.wants self.old.sink self.new.sink result }
         ensures empty { OnOk result (self.new.len ≡ 0) }
     {
@@ -76,7 +77,8 @@ impl<K: Sink> BufferedSink<K> {
     /// Appends a text for which there is no room before what is kept is handed on.
     #[inline(never)]
     fn put_far(&mut self, text: &[u8]) -> Result<(), SinkFault>
-        ensures { Puts (λ s. with_kept (K.holds s.sink) (kept_back s)) (λ s. K.faults s.sink) (λ s. K.wants s.sink) self.old self.new result text.now }
+        ensures { Puts (λ s. with_kept (K.holds s.sink) (kept_back s)) (λ s. K.faults s.sink) (λ s. K.wants s.sink)
+            self.old self.new result text.now }
     {
         self.ensure_room(ROOM)?;
         if text.len() > ROOM {
@@ -90,7 +92,8 @@ impl<K: Sink> BufferedSink<K> {
     #[inline(always)]
     fn ensure_room(&mut self, count: usize) -> Result<(), SinkFault>
         requires { count ≤ 65536 }
-        ensures holds { Keeps (with_kept (K.holds self.old.sink) (kept_back self.old)) (with_kept (K.holds self.new.sink) (kept_back self.new)) }
+        ensures holds { Keeps (with_kept (K.holds self.old.sink) (kept_back self.old))
+            (with_kept (K.holds self.new.sink) (kept_back self.new)) }
         ensures cause { HasSinkCause K.faults K.wants self.old.sink self.new.sink result }
         ensures room { OnOk result (self.new.len + count ≤ 65536) }
     {
@@ -150,7 +153,8 @@ impl<K: Sink> Sink for BufferedSink<K> {
 
     /// Hands on what is kept, and has the sink below hand on what it keeps. With Ok nothing is kept any more.
     fn flush(&mut self) -> Result<(), SinkFault>
-        ensures holds { Keeps (with_kept (K.holds self.old.sink) (kept_back self.old)) (with_kept (K.holds self.new.sink) (kept_back self.new)) }
+        ensures holds { Keeps (with_kept (K.holds self.old.sink) (kept_back self.old))
+            (with_kept (K.holds self.new.sink) (kept_back self.new)) }
         ensures cause { HasSinkCause (λ s. K.faults s.sink) (λ s. K.wants s.sink) self.old self.new result }
         ensures none { OnOk result (kept_back self.new ≡ []) }
     {

@@ -22,7 +22,8 @@ pub(crate) fn put_universe<K: Sink>(
     requires least { 1 ≤ universe }
     requires most { universe ≤ UNIVERSES }
     ensures text { (s : TwoDesks) → TwoStand s desk.now
-        → Puts K.holds K.faults K.wants sink.old sink.new result (frame_text [] s.first.playback.moment universe (frame_of_two s universe)) }
+        → Puts K.holds K.faults K.wants sink.old sink.new result
+        (frame_text [] s.first.playback.moment universe (frame_of_two s universe)) }
     ensures more { IfOk result (λ more. more ≡ true) }
     ensures cause { HasSinkCause K.faults K.wants sink.old sink.new result }
 {

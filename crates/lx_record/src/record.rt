@@ -62,7 +62,8 @@ fn recorded_cues(console: &Console, n: CueNo, only: bool) -> Result<RecordedCues
     requires { n ≢ 0 }
     ensures ready { IfOk result (λ cues. IsReady console.now.show (Plan.PlaceCues cues.cue cues.above)) }
     ensures records { MatchResult result
-        (λ cues. with_recorded (level_now console.now) console.now.show n only ≡ Ok (with_above cues.above (with_cue console.now.show cues.cue)))
+        (λ cues. with_recorded (level_now console.now) console.now.show n only
+        ≡ Ok (with_above cues.above (with_cue console.now.show cues.cue)))
         (IsRefused (with_recorded (level_now console.now) console.now.show n only)) }
 {
     let before = console.show();

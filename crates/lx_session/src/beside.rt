@@ -45,7 +45,8 @@ pub(crate) trait AnswersBeside<D> {
         ensures keeps { keeps self.new lent.new }
         ensures answered { (s : SessionOf State) (text : List ℕ) → stands s.state self.old lent.old → s.counts ≡ counts_in tally.old
             → IsLine (option_copied line.entry) text
-            → OneAnswer answer_of may_want K.holds K.faults K.wants sink.old sink.new result s text (λ state. stands state self.new lent.new)
+            → OneAnswer answer_of may_want K.holds K.faults K.wants sink.old sink.new result s text
+            (λ state. stands state self.new lent.new)
             tally.new }
         ensures quit { IfOk result (λ more. (text : List ℕ) → IsLine (option_copied line.entry) text → more ≡ not (ends_script text)) }
         ensures cause { HasSinkCause K.faults K.wants sink.old sink.new result }

@@ -73,7 +73,8 @@ fn give_reply<D, A: AnswersBeside<D>, K: Sink>(
     requires keeps { A.keeps answerer.old lent.old }
     ensures keeps { A.keeps answerer.new lent.new }
     ensures outcome { (text : List ℕ) → IsLine (option_copied line.entry) text
-        → ReplyOutcome A.answer_of A.may_want (λ state. A.stands state answerer.old lent.old) (λ state. A.stands state answerer.new lent.new)
+        → ReplyOutcome A.answer_of A.may_want (λ state. A.stands state answerer.old lent.old)
+        (λ state. A.stands state answerer.new lent.new)
         (K.holds sink.old) (K.holds sink.new) tally.old tally.new text result }
     ensures cause { HasSinkCause K.faults K.wants sink.old sink.new result }
     ensures more { HasOneMore tally.old tally.new }

@@ -1,7 +1,8 @@
 //! The lines of a cue's moves: those of many moves are written into one text and handed to the sink as one piece.
 #![tactic(auto, using(lx_io::proofs::Chain::puts))]
 
-ghost use Rattle.std.specs.Prelude.{◌≡◌, ◌==◌, ◌+◌, ◌-◌, ◌<◌, ◌≤◌, [], ◌++◌, ◌∷◌, codes, decimal, filter, take, flat_map, length, slice_index_or};
+ghost use Rattle.std.specs.Prelude.{◌≡◌, ◌==◌, ◌+◌, ◌-◌, ◌<◌, ◌≤◌, [], ◌++◌, ◌∷◌, codes, decimal, filter, take, flat_map, length};
+ghost use Rattle.std.specs.Prelude.{slice_index_or};
 ghost use Rattle.lx_io.specs.Puts.{Puts};
 ghost use Rattle.lx_writer.specs.declared.lines.TheConstants.{PIECE_MOVES};
 ghost use Rattle.lx_base.specs.declared.TheConstants.{CHANNELS};
