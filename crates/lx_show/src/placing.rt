@@ -28,7 +28,7 @@ impl Show {
         requires room { IsTrue (has_entry (λ x. x.number) cue.number self.old.cues || nat_lt (length self.old.cues) CUES) }
         ensures { self.new ≡ record self.old { cues = placed (λ x. x.number) cue self.old.cues } }
     {
-        let _ = sorted::put_in_room(&mut self.cues, cue);
+        let _ = self.exchange_cue(cue);
     }
 
     /// Takes the cue out. `None` exactly where there is no cue of the number.
@@ -44,7 +44,7 @@ impl Show {
         requires { ValidGroup self.old.channels group }
         ensures { self.new ≡ record self.old { groups = placed (λ x. x.number) group self.old.groups } }
     {
-        let _ = sorted::put_in_room(&mut self.groups, group);
+        let _ = self.exchange_group(group);
     }
 
     /// Places the submaster, in place of the one of its number.
@@ -52,7 +52,7 @@ impl Show {
         requires { ValidSub self.old.channels sub }
         ensures { self.new ≡ record self.old { subs = placed (λ x. x.number) sub self.old.subs } }
     {
-        let _ = sorted::put_in_room(&mut self.subs, sub);
+        let _ = self.exchange_sub(sub);
     }
 
     /// Places the row, in place of the one of its dimmer. Its channel is within the count.
@@ -60,8 +60,7 @@ impl Show {
         requires { row.chan ≤ self.old.channels }
         ensures { self.new ≡ record self.old { patch = placed (λ x. x.dimmer) row self.old.patch } }
     {
-        facts::of_row(&row);
-        let _ = sorted::put_in_room(&mut self.patch, row);
+        let _ = self.exchange_patch(row);
     }
 
     /// Takes the dimmer's row out. `None` exactly where it has none.
