@@ -93,26 +93,26 @@ other_rows show (PlaceRow row) e other = entry_at-placed_other (λ x. x.dimmer) 
 other_rows show (RemoveRow n) e other = others_stay n e show.patch (λ same. other (ap Some (sym same)))
 
 -- submasters that are the same give the same
-pub given_by : (one other : Show) (faders given : List ℕ) → other.subs ≡ one.subs → other.channels ≡ one.channels
-    → IsTable one.channels (contribution one faders) given → IsTable other.channels (contribution other faders) given
-given_by one other faders given subs channels table = record {
+pub contributions_by : (one other : Show) (faders contributions : List ℕ) → other.subs ≡ one.subs → other.channels ≡ one.channels
+    → IsTable one.channels (contribution one faders) contributions → IsTable other.channels (contribution other faders) contributions
+contributions_by one other faders contributions subs channels table = record {
   reach = table.reach ∙ sym channels;
   each = λ k within. table.each k (omega (arith, channels))
       ∙ ap (λ (s : List Sub). contribution (record one { subs = s }) faders (k + 1)) (sym subs);
 }
 
 -- a rack that stood for the show does so still, where the plan changed no submaster
-pub same_given : (show after : Show) (plan : Plan) (stale : Bool) (faders given : List ℕ) → after ≡ planned show plan
-    → stale ≡ plans_sub plan → IsTable show.channels (contribution show faders) given → stale ≡ false
-    → IsTable after.channels (contribution after faders) given
-same_given show after plan stale faders given is subs table clean =
-    given_by show after faders given (ap (λ (s : Show). s.subs) is ∙ same_subs show plan (sym subs ∙ clean))
+pub same_contributions : (show after : Show) (plan : Plan) (stale : Bool) (faders contributions : List ℕ) → after ≡ planned show plan
+    → stale ≡ plans_sub plan → IsTable show.channels (contribution show faders) contributions → stale ≡ false
+    → IsTable after.channels (contribution after faders) contributions
+same_contributions show after plan stale faders contributions is subs table clean =
+    contributions_by show after faders contributions (ap (λ (s : Show). s.subs) is ∙ same_subs show plan (sym subs ∙ clean))
     (ap (λ (s : Show). s.channels) is ∙ same_channels show plan) table
 
 -- and has the places of the channels
-pub same_reach : (show after : Show) (plan : Plan) (faders given : List ℕ) → after ≡ planned show plan
-    → IsTable show.channels (contribution show faders) given → length given ≡ after.channels
-same_reach show after plan faders given is table = table.reach ∙ sym (ap (λ (s : Show). s.channels) is ∙ same_channels show plan)
+pub same_reach : (show after : Show) (plan : Plan) (faders contributions : List ℕ) → after ≡ planned show plan
+    → IsTable show.channels (contribution show faders) contributions → length contributions ≡ after.channels
+same_reach show after plan faders contributions is table = table.reach ∙ sym (ap (λ (s : Show). s.channels) is ∙ same_channels show plan)
 
 -- the channel of a place
 pub in_show : (channels k : ℕ) → k < channels → InRange channels (k + 1)

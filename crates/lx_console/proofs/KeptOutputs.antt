@@ -46,7 +46,7 @@ same_out : (before after : Kept) (i : ℕ) → SameOutputs before after → i < 
     → out_now before (i + 1) ≡ out_now after (i + 1)
 same_out before after i same within =
     ap (λ l. scaled (max l (contribution before.show before.faders (i + 1))) before.master) (sym (same.levels i within))
-    ∙ ap (λ g. scaled (max (level_now after (i + 1)) g) before.master) (sym (same.given i within))
+    ∙ ap (λ g. scaled (max (level_now after (i + 1)) g) before.master) (sym (same.contributions i within))
     ∙ ap (λ m. scaled (max (level_now after (i + 1)) (contribution after.show after.faders (i + 1))) m) (sym same.master)
 
 pub filled_still : (before after : Kept) (output : KeptOutput) → IsFilled before output → SameOutputs before after → IsFilled after output

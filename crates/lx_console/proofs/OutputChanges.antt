@@ -33,7 +33,7 @@ played_changes k p before after true old new same = record { channels = refl; pa
 played_changes k p before after false old new same = record {
   rows = record { channels = refl; patch = refl };
   levels = λ i within. sym (kept_level k.show p after i new within) ∙ same refl i within ∙ kept_level k.show k.playback before i old within;
-  given = λ i within. refl;
+  contributions = λ i within. refl;
   master = refl;
 }
 
@@ -51,7 +51,7 @@ planned_changes k after plan dirty old new leveled changes.Nothing is stood stan
       let channels : after.channels ≡ k.show.channels = ap (λ (s : Show). s.channels) is ∙ same_channels k.show plan in
       sym (kept_level after k.playback new i stands (omega (arith, channels, within))) ∙ ap (λ (l : Levels). level_at l i) (same none.levels)
       ∙ kept_level k.show k.playback old i stood within;
-  given = λ i within. ap (λ (s : List Sub). contribution (record k.show { subs = s }) k.faders (i + 1))
+  contributions = λ i within. ap (λ (s : List Sub). contribution (record k.show { subs = s }) k.faders (i + 1))
       (ap (λ (s : Show). s.subs) is ∙ same_subs k.show plan (sym subs ∙ none.subs));
   master = refl;
 }

@@ -21,7 +21,7 @@ pub record SameOtherRows (e : ℕ) (before after : Kept) : Type 0 where
 pub record SameOutputs (before after : Kept) : Type 0 where
   pub rows : SamePatch before after
   pub levels : (k : ℕ) → k < before.show.channels → level_now after (k + 1) ≡ level_now before (k + 1)
-  pub given : (k : ℕ) → k < before.show.channels
+  pub contributions : (k : ℕ) → k < before.show.channels
       → contribution after.show after.faders (k + 1) ≡ contribution before.show before.faders (k + 1)
   pub master : after.master ≡ before.master
 

@@ -363,7 +363,7 @@ impl Player {
 /// Takes up the show's submasters, where one was changed: the faders stay.
 fn mend_subs(rack: &mut SubRack, show: &Show, stale: bool)
     requires reach { length rack.old.contributions ≡ show.now.channels }
-    requires given { stale ≡ false → StandsForSubs show.now rack.old }
+    requires contributions { stale ≡ false → StandsForSubs show.now rack.old }
     ensures stands { StandsForSubs show.now rack.new }
     ensures faders { rack.new.faders ≡ rack.old.faders }
 {

@@ -22,9 +22,8 @@ pub(crate) fn block(alloc: Global, show: &Show, n: CueNo) -> Result<Plan, Refusa
         return Ok(Plan::Nothing);
     }
     let moves = taken_over(alloc, show, old)?;
-    let mut cue = old.copy()?;
+    let mut cue = with_moves(show.channels(), old, moves.as_slice())?;
     cue.block = true;
-    let cue = with_moves(show.channels(), cue, moves.as_slice())?;
     Ok(Plan::PlaceCue { cue, above: None })
 }
 
@@ -64,9 +63,8 @@ pub(crate) fn unblock(alloc: Global, show: &Show, n: CueNo) -> Result<Plan, Refu
         return Ok(Plan::Nothing);
     }
     let moves = kept_out(alloc, show, old)?;
-    let mut cue = old.copy()?;
+    let mut cue = with_moves(show.channels(), old, moves.as_slice())?;
     cue.block = false;
-    let cue = with_moves(show.channels(), cue, moves.as_slice())?;
     Ok(Plan::PlaceCue { cue, above: None })
 }
 

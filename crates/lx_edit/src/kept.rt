@@ -11,7 +11,7 @@ ghost use Rattle.lx_edit.specs.Kept.{DecidesOutside, changed_show, decided, deci
 
 use crate::absent::{all_channels, channel, the_cue};
 use crate::blocks::below;
-use crate::moves::{add, copy_with};
+use crate::moves::{add, with_moves};
 use crate::plans::Plan;
 use lx_base::{Chan, ChanRange, CueNo, Level};
 use lx_show::{Cue, Edit, Move, MoveList, Refusal, Show};
@@ -97,7 +97,7 @@ fn kept_above(
     if moves.is_empty() {
         return Ok(None);
     }
-    Ok(Some(copy_with(show.channels(), above, moves)?))
+    Ok(Some(with_moves(show.channels(), above, moves)?))
 }
 
 /// The moves that keep the levels of the cue above. They are of channels of the range.

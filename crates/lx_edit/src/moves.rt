@@ -65,7 +65,7 @@ pub fn with_levels(
     ensures valid { IfOk result (ValidCue channels) }
 {
     let moves = moves_to(alloc, cue, part, members)?;
-    copy_with(channels, cue, moves.as_slice())
+    with_moves(channels, cue, moves.as_slice())
 }
 
 /// The moves of the channels to their levels.
@@ -100,19 +100,9 @@ fn move_to(cue: &Cue, part: Option<PartNo>, member: &Member) -> Move
     }
 }
 
-/// The cue with these moves, each in the place of the one of its channel. An error comes where memory is
-/// wanting.
-pub fn with_moves(channels: u32, cue: Cue, moves: &[Move]) -> Result<Cue, AllocError>
-    requires valid { ValidCue channels cue }
-    requires fits { AllByRecursion (Fits channels cue.parts) moves.now }
-    ensures cue { IfOk result (λ changed. changed ≡ with_moves cue moves.now) }
-    ensures valid { IfOk result (ValidCue channels) }
-{
-    copy_with(channels, &cue, moves)
-}
-
-/// A copy of the cue with these moves. Its memory is taken at once.
-pub(crate) fn copy_with(channels: u32, cue: &Cue, moves: &[Move]) -> Result<Cue, AllocError>
+/// A copy of the cue with these moves, each in the place of the one of its channel. Its memory is taken at once; an error comes
+/// where that is wanting.
+pub fn with_moves(channels: u32, cue: &Cue, moves: &[Move]) -> Result<Cue, AllocError>
     requires valid { ValidCue channels cue.now }
     requires fits { AllByRecursion (Fits channels cue.now.parts) moves.now }
     ensures cue { IfOk result (λ changed. changed ≡ with_moves cue.now moves.now) }

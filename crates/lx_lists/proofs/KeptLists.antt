@@ -51,7 +51,7 @@ pub as_before : (k : Kept) → SameOutputs k k
 as_before k = record {
   rows = record { channels = refl; patch = refl };
   levels = λ i within. refl;
-  given = λ i within. refl;
+  contributions = λ i within. refl;
   master = refl;
 }
 
@@ -71,7 +71,7 @@ filled_still first second first' second' output channels filled same same' = rec
         (sym (same.levels i there))
         ∙ ap (λ l. scaled (max (max (level_now first' (i + 1)) l) (contribution first.show first.faders (i + 1))) first.master)
         (sym (same'.levels i there'))
-        ∙ ap (λ g. scaled (max (max (level_now first' (i + 1)) (level_now second' (i + 1))) g) first.master) (sym (same.given i there))
+        ∙ ap (λ g. scaled (max (max (level_now first' (i + 1)) (level_now second' (i + 1))) g) first.master) (sym (same.contributions i there))
         ∙ ap (λ m. scaled (max (max (level_now first' (i + 1)) (level_now second' (i + 1)))
         (contribution first'.show first'.faders (i + 1))) m) (sym same.master);
   };

@@ -33,13 +33,13 @@ table-set n e x before after values table least most here_is others = record {
 }
 
 -- a mix of tables is the table of the mix
-pub mixed : (n master : ℕ) (level contribution : ℕ → ℕ) (levels given outs : List ℕ) → length outs ≡ n → IsTable n level levels
-    → IsTable n contribution given → EachIndex outs (λ k. get_or outs k 0 ≡ scaled (max (get_or levels k 0) (get_or given k 0)) master)
+pub mixed : (n master : ℕ) (level contribution : ℕ → ℕ) (levels contributions outs : List ℕ) → length outs ≡ n → IsTable n level levels
+    → IsTable n contribution contributions → EachIndex outs (λ k. get_or outs k 0 ≡ scaled (max (get_or levels k 0) (get_or contributions k 0)) master)
     → IsTable n (λ c. scaled (max (level c) (contribution c)) master) outs
-mixed n master level contribution levels given outs reach of_levels of_given each = record {
+mixed n master level contribution levels contributions outs reach of_levels of_contributions each = record {
   reach = reach;
   each = λ k within.
       each k (omega arith)
-      ∙ ap (λ l. scaled (max l (get_or given k 0)) master) (of_levels.each k within)
-      ∙ ap (λ l. scaled (max (level (k + 1)) l) master) (of_given.each k within);
+      ∙ ap (λ l. scaled (max l (get_or contributions k 0)) master) (of_levels.each k within)
+      ∙ ap (λ l. scaled (max (level (k + 1)) l) master) (of_contributions.each k within);
 }

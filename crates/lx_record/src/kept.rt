@@ -38,7 +38,7 @@ fn keeping(console: &Console, above: &Cue) -> Result<Cue, AllocError>
     ensures valid { IfOk result (ValidCue console.now.show.channels) }
 {
     let moves = kept_moves(console, above)?;
-    with_moves(console.show().channels(), above.copy()?, moves.as_slice())
+    with_moves(console.show().channels(), above, moves.as_slice())
 }
 
 /// Those moves.

@@ -67,25 +67,25 @@ within_reach members n i m all within is =
     valid.chan.most
 
 -- the levels raised by the members before a place, and by the one there
-pub raised : (members : List Member) (i fader at x : ℕ) (m : Member) (before given : List ℕ) → IsStrictlySorted (λ y. y.chan) members
+pub raised : (members : List Member) (i fader at x : ℕ) (m : Member) (before contributions : List ℕ) → IsStrictlySorted (λ y. y.chan) members
     → i < length members → m ≡ get_or members i m
-    → ((k : ℕ) → k < length given → get_or given k 0 ≡ max (get_or before k 0) (scaled (level_among (take i members) (k + 1)) fader))
-    → at ≡ m.chan → 1 ≤ at → at ≤ length given → x ≡ max (get_or given (at - 1) 0) (scaled m.level fader)
-    → (k : ℕ) → k < length given → get_or (set given (at - 1) x) k 0
+    → ((k : ℕ) → k < length contributions → get_or contributions k 0 ≡ max (get_or before k 0) (scaled (level_among (take i members) (k + 1)) fader))
+    → at ≡ m.chan → 1 ≤ at → at ≤ length contributions → x ≡ max (get_or contributions (at - 1) 0) (scaled m.level fader)
+    → (k : ℕ) → k < length contributions → get_or (set contributions (at - 1) x) k 0
     ≡ max (get_or before k 0) (scaled (level_among (take (i + 1) members) (k + 1)) fader)
-raised members i fader at x m before given sorted within is so_far at_is least most x_is k low = elim (cases_order (k + 1) at) [
+raised members i fader at x m before contributions sorted within is so_far at_is least most x_is k low = elim (cases_order (k + 1) at) [
   | inl here ↦
       let chan : m.chan ≡ k + 1 = omega arith in
       let place : at - 1 ≡ k = omega arith in
-      let now : get_or (set given (at - 1) x) k 0 ≡ x = get_or-set_at given (at - 1) k x 0 (omega arith) (omega arith) in
-      let earlier : get_or given k 0 ≡ max (get_or before k 0) (scaled 0 fader) = so_far k low
+      let now : get_or (set contributions (at - 1) x) k 0 ≡ x = get_or-set_at contributions (at - 1) k x 0 (omega arith) (omega arith) in
+      let earlier : get_or contributions k 0 ≡ max (get_or before k 0) (scaled 0 fader) = so_far k low
       ∙ ap (λ l. max (get_or before k 0) (scaled l fader)) (among_before members i (k + 1) m sorted within is chan) in
-      now ∙ x_is ∙ ap (λ j. max (get_or given j 0) (scaled m.level fader)) place
+      now ∙ x_is ∙ ap (λ j. max (get_or contributions j 0) (scaled m.level fader)) place
       ∙ ap (λ l. max l (scaled m.level fader)) (earlier ∙ omega arith)
       ∙ ap (λ l. max (get_or before k 0) (scaled l fader)) (sym (among_here members i (k + 1) m sorted within is chan))
   | inr apart ↦
       let other : k + 1 ≡ at → ⊥ = λ same. elim apart [ inl less ↦ omega arith | inr more ↦ omega arith ] in
-      get_or-set_other given (at - 1) k x 0 (λ same. other (omega arith)) ∙ so_far k low
+      get_or-set_other contributions (at - 1) k x 0 (λ same. other (omega arith)) ∙ so_far k low
       ∙ ap (λ l. max (get_or before k 0) (scaled l fader))
       (sym (among_other members i (k + 1) m within is (λ same. other (sym (at_is ∙ same)))))
 ]

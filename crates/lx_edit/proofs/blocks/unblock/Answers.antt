@@ -1,8 +1,6 @@
-use Rattle.std.proofs.Common.{◌∙◌, ap, sym, subst, ℕ, List}
+use Rattle.std.proofs.Common.{◌∙◌, sym, subst, ℕ, List}
 use Rattle.std.specs.List.{AllByRecursion}
-use Rattle.lx_spec.specs.declared.Part.{Part}
 use Rattle.lx_spec.specs.declared.Move.{Move}
-use Rattle.lx_spec.specs.Show.{Cue}
 use Rattle.lx_edit.specs.Found.{Fits}
 use Rattle.lx_edit.proofs.CueLevels.{chosen_fit}
 use Rattle.lx_edit.proofs.blocks.unblock.Goals as goal
@@ -11,8 +9,6 @@ pub with_moves-requires-clause-fits : goal.with_moves-requires-clause-fits
 with_moves-requires-clause-fits c =
     let show = c.args.show.now in
     let old = c.in_ok-old.old.now in
-    subst (λ (k : ℕ). AllByRecursion (Fits k c.cue.inside.parts.items) c.as_slice.result.now) (sym c.channels.ensures.channels)
-    (subst (λ (ps : List Part). AllByRecursion (Fits show.channels ps) c.as_slice.result.now)
-    (sym (ap (λ (q : Cue). q.parts) c.cue.view_is ∙ ap (λ (q : Cue). q.parts) c.in_ok-cue.ensures))
+    subst (λ (k : ℕ). AllByRecursion (Fits k old.parts) c.as_slice.result.now) (sym c.channels.ensures.channels)
     (subst (λ (ms : List Move). AllByRecursion (Fits show.channels old.parts) ms) (sym (c.as_slice.ensures.value ∙ c.in_ok-moves.ensures))
-    (chosen_fit show old.parts _ _ c.in_ok-old.ensures.valid.first_part)))
+    (chosen_fit show old.parts _ _ c.in_ok-old.ensures.valid.first_part))

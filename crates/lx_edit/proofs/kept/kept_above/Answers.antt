@@ -40,8 +40,8 @@ returns-then-is_empty-clause-above c =
     ∙ ap (λ (ms : List Move). with_cue after (with_moves above ms)) (sym (c.as_slice-moves.ensures.value ∙ c.in_ok-moves.ensures) ∙ none)
     ∙ above_again show c.args.n new above c.channels.ensures.valid.cues_sorted number is)
 
-pub copy_with-requires-clause-fits : goal.copy_with-requires-clause-fits
-copy_with-requires-clause-fits c =
+pub with_moves-requires-clause-fits : goal.with_moves-requires-clause-fits
+with_moves-requires-clause-fits c =
     let show = c.args.show.now in
     let parts = c.in-Some.above.now.parts in
     subst (λ k. AllByRecursion (Fits k parts) c.as_slice-moves.result.now) (sym c.channels-2.ensures.channels)
@@ -56,7 +56,7 @@ returns-clause-above c =
     let there : cue_above after c.args.n ≡ Some above =
     cue_above-changed show c.args.n (option_copied c.args.new) (lent_number c.args.n c.args.new c.requires.number)
     ∙ sym c.in-Some.ensures.above in
-    ap (with_cue after) (c.in_ok-copy_with.ensures.cue ∙ ap (with_moves above) (c.as_slice-moves.ensures.value ∙ c.in_ok-moves.ensures))
+    ap (with_cue after) (c.in_ok-with_moves.ensures.cue ∙ ap (with_moves above) (c.as_slice-moves.ensures.value ∙ c.in_ok-moves.ensures))
     ∙ sym (ap (λ (b : Bool). cue_only b show c.args.n after) c.if-not-only.false
     ∙ ap (λ (o : Option Cue). option_map_or (kept_above show after) o after) there)
 
@@ -64,13 +64,13 @@ pub returns-clause-valid : goal.returns-clause-valid
 returns-clause-valid c =
     let show = c.args.show.now in
     above_fits show c.args.n (option_copied c.args.new) c.in-Some.above.now _ (lent_number c.args.n c.args.new c.requires.number)
-    (sym c.in-Some.ensures.above) (ap (λ (cue : Cue). cue.number) c.in_ok-copy_with.ensures.cue)
-    (subst (λ k. ValidCue k c.in_ok-copy_with.field-0) c.channels-2.ensures.channels c.in_ok-copy_with.ensures.valid)
+    (sym c.in-Some.ensures.above) (ap (λ (cue : Cue). cue.number) c.in_ok-with_moves.ensures.cue)
+    (subst (λ k. ValidCue k c.in_ok-with_moves.field-0) c.channels-2.ensures.channels c.in_ok-with_moves.ensures.valid)
 
 pub returns-clause-higher : goal.returns-clause-higher
 returns-clause-higher c =
-    above_is c.args.show.now c.args.n c.in-Some.above.now c.in_ok-copy_with.field-0
-    (ap (λ (cue : Cue). cue.number) c.in_ok-copy_with.ensures.cue) (sym c.in-Some.ensures.above)
+    above_is c.args.show.now c.args.n c.in-Some.above.now c.in_ok-with_moves.field-0
+    (ap (λ (cue : Cue). cue.number) c.in_ok-with_moves.ensures.cue) (sym c.in-Some.ensures.above)
 
 pub returns-clause-keeps : goal.returns-clause-keeps
 returns-clause-keeps c =
@@ -80,8 +80,8 @@ returns-clause-keeps c =
     let above : Cue = c.in-Some.above.now in
     let number = lent_number c.args.n c.args.new c.requires.number in
     let is : cue_above show c.args.n ≡ Some above = sym c.in-Some.ensures.above in
-    keeps_above show c.args.n new c.args.old.now above c.in_ok-copy_with.field-0 c.channels.ensures.valid.cues_sorted
+    keeps_above show c.args.n new c.args.old.now above c.in_ok-with_moves.field-0 c.channels.ensures.valid.cues_sorted
     (cue_least show c.args.n c.args.old.now c.requires.there) c.requires.there number is
-    (ap (λ (cue : Cue). cue.number) c.in_ok-copy_with.ensures.cue)
-    (ap (with_cue after) (c.in_ok-copy_with.ensures.cue ∙ ap (with_moves above) (c.as_slice-moves.ensures.value ∙ c.in_ok-moves.ensures))
+    (ap (λ (cue : Cue). cue.number) c.in_ok-with_moves.ensures.cue)
+    (ap (with_cue after) (c.in_ok-with_moves.ensures.cue ∙ ap (with_moves above) (c.as_slice-moves.ensures.value ∙ c.in_ok-moves.ensures))
     ∙ sym (ap (λ (o : Option Cue). option_map_or (kept_above show after) o after) (cue_above-changed show c.args.n new number ∙ is)))

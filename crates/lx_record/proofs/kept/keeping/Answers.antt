@@ -1,7 +1,7 @@
 use Rattle.std.proofs.Common.{◌∙◌, sym, subst, ap, ℕ, List}
 use Rattle.std.specs.List.{AllByRecursion}
 use Rattle.lx_spec.specs.declared.Move.{Move}
-use Rattle.lx_spec.specs.Show.{Cue, Show}
+use Rattle.lx_spec.specs.Show.{Show}
 use Rattle.lx_edit.specs.Found.{Fits}
 use Rattle.lx_edit.proofs.CueLevels.{chosen_fit}
 use Rattle.lx_record.proofs.kept.keeping.Goals as goal
@@ -10,8 +10,7 @@ pub with_moves-requires-clause-fits : goal.with_moves-requires-clause-fits
 with_moves-requires-clause-fits c =
     let show = c.args.console.now.show in
     let above = c.args.above.now in
-    subst (λ (k : ℕ). AllByRecursion (Fits k c.in_ok-copy.field-0.parts) c.as_slice.result.now)
+    subst (λ (k : ℕ). AllByRecursion (Fits k above.parts) c.as_slice.result.now)
     (sym (c.channels.ensures.channels ∙ ap (λ (s : Show). s.channels) c.show.ensures))
-    (subst (λ (q : Cue). AllByRecursion (Fits show.channels q.parts) c.as_slice.result.now) (sym c.in_ok-copy.ensures)
     (subst (λ (ms : List Move). AllByRecursion (Fits show.channels above.parts) ms) (sym (c.as_slice.ensures.value ∙ c.in_ok-moves.ensures))
-    (chosen_fit show above.parts _ _ c.requires.first_part)))
+    (chosen_fit show above.parts _ _ c.requires.first_part))

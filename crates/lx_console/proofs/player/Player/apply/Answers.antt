@@ -6,7 +6,7 @@ use Rattle.lx_edit.specs.Undone.{TakesBack}
 use Rattle.lx_levels.specs.LevelsMeaning.{StandsAt}
 use Rattle.lx_console.proofs.Apart.{placed_stands}
 use Rattle.lx_console.specs.Changes.{Changes}
-use Rattle.lx_console.proofs.EditEffects.{in_show, untouched_levels, same_given, same_reach, same_channels}
+use Rattle.lx_console.proofs.EditEffects.{in_show, untouched_levels, same_contributions, same_reach, same_channels}
 use Rattle.lx_console.proofs.OutputChanges.{planned_changes}
 use Rattle.lx_console.proofs.Obedience.{stands_planned}
 use Rattle.lx_console.proofs.player.Player.apply.Goals as goal
@@ -36,8 +36,8 @@ pub mend_subs-requires-clause-reach : goal.mend_subs-requires-clause-reach
 mend_subs-requires-clause-reach c = same_reach c.self.inside.show c.exchange-dirty.new.show c.args.plan c.self.inside.rack.faders
     c.self.inside.rack.contributions c.exchange-dirty.ensures.show c.self.invariant.subs
 
-pub mend_subs-requires-clause-given : goal.mend_subs-requires-clause-given
-mend_subs-requires-clause-given c = same_given c.self.inside.show c.exchange-dirty.new.show c.args.plan c.exchange-dirty.result.dirty.subs
+pub mend_subs-requires-clause-contributions : goal.mend_subs-requires-clause-contributions
+mend_subs-requires-clause-contributions c = same_contributions c.self.inside.show c.exchange-dirty.new.show c.args.plan c.exchange-dirty.result.dirty.subs
     c.self.inside.rack.faders c.self.inside.rack.contributions c.exchange-dirty.ensures.show c.exchange-dirty.ensures.subs c.self.invariant.subs
 
 pub returns-clause-undo : goal.returns-clause-undo

@@ -2,7 +2,7 @@ use Rattle.std.proofs.Common.{◌≡◌, sym, subst, rules}
 use Rattle.lx_spec.specs.Show.{ValidCue}
 use Rattle.lx_spec.specs.EditedShow.{with_moves}
 use Rattle.lx_edit.proofs.CueLevels.{valid_with_moves}
-use Rattle.lx_edit.proofs.moves.copy_with.Goals as goal
+use Rattle.lx_edit.proofs.moves.with_moves.Goals as goal
 
 pub returns-clause-valid : goal.returns-clause-valid
 returns-clause-valid c =
