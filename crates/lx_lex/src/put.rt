@@ -1,4 +1,4 @@
-//! Texts of numbers, each handed to a sink as one piece. The answer is the sink's own fault, and then a front of the
+//! Texts of numbers, each handed to a sink as one piece. The answer is the sink's own fault, and then a prefix of the
 //! text was appended.
 #![tactic(auto, using(lx_io::proofs::Chain::puts))]
 

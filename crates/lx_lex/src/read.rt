@@ -1,6 +1,6 @@
 //! Number texts: whole numbers, levels, times and cue numbers, as the ASCII text representation 3.0 has them.
 //!
-//! A text that hasn't the form is `Bad::Shape`, and one that has it and is out of range `Bad::Range`. Leading
+//! A malformed text is `Bad::Shape`, and one whose number is out of range `Bad::Range`. Leading
 //! zeros are allowed, and a number may have any number of digits.
 
 ghost use Rattle.std.specs.Prelude.{◌≡◌, ◌≤◌, ◌<◌, ◌^◌};
