@@ -117,4 +117,5 @@ def main():
     {'mixing': mixing, 'editing': editing, 'lists': lists}[kind](program, count)
 
 
-main()
+if __name__ == '__main__':
+    main()
