@@ -1,16 +1,19 @@
 """What one line of a script takes: the processor time of many lines, without that of as many bad lines.
 
-line_times.py mixing|editing|lists [LINES [PROGRAM]]
+line_times.py mixing|editing|tracking|lists [LINES [PROGRAM]]
 
 mixing   A line sets the master, which mixes all channels and, since all outputs change, fills all slots up to the last lit dimmer. Without
          a dimmer it only mixes; what the same line takes in a show of one channel is left out. What the dimmers add is the slots.
 editing  An edit of each kind in a show of 2,000 cues that each move all of 2,048 channels. The new cue has no moves, and goes with the
          next line. A new channel is one that no cue moved before: so it tracks on up to the next cue that got it, and cue only the cue
          above gets a move of it.
+tracking A `set` in the first of 2,000 cues that tracks on through all others, which move other channels: none, eight, 64 or 1,024 of them, in
+         one piece above or anywhere. Always of the same channel, or of 500 in turn, whose levels lie in other lines of the cache.
 lists    A tick in fades of a minute, over 2,048 channels and 16 universes: by `render`, by `two` where the first list alone fades, and by
          `two` where both do; and a tick at rest. Without a dimmer it is the lists' own ticks and a mix; what the dimmers add is the slots.
 """
 import os
+import random
 import resource
 import subprocess
 import sys
@@ -84,6 +87,27 @@ def editing(program, count):
         print('%s: %.1f microseconds of processor time a line' % (name, took * 1e6))
 
 
+def tracking_show(moved):
+    """The first cue moves channels 1 to 1,023, and each other one the channels of the list that is made for it."""
+    text = ['IDENT 3:0', 'SET CHANNELS 2048']
+    for n in range(1, 2001):
+        cells = ['%d@%d' % (c, (n * 7 + c * 11) % 101) for c in (range(1, 1024) if n == 1 else moved(n))]
+        text += ['CUE %d' % n] + ['CHAN ' + ' '.join(cells[at:at + 128]) for at in range(0, len(cells), 128)]
+    return '\n'.join(text + ['ENDDATA']) + '\n'
+
+
+def tracking(program, count):
+    def anywhere(many):
+        return lambda n: sorted(random.Random(n).sample(range(2, 2049, 2), many))
+    for name, moved in (('no moves', lambda n: ()), ('8 moves above', lambda n: range(1025, 1033)), ('8 anywhere', anywhere(8)),
+                        ('64 anywhere', anywhere(64)), ('1024 above', lambda n: range(1025, 2049)), ('every second channel', lambda n: range(2, 2049, 2))):
+        show = tracking_show(moved)
+        for which, chan in (('one channel', lambda i: 513), ('500 channels', lambda i: 1 + 2 * (i * 7 % 500))):
+            lines = ['set 1 chan %d at %d' % (chan(i), i % 101) for i in range(count)]
+            took = line_time(program, show, lines, ['sat 1 chan 1 at 1'] * count)
+            print('%s, %s: %.1f microseconds of processor time a line' % (name, which, took * 1e6), flush=True)
+
+
 def fading_show(dimmers):
     """Two cues in each list, between which every channel fades for a minute."""
     text = ['IDENT 3:0', 'SET CHANNELS 2048']
@@ -112,9 +136,9 @@ def lists(program, count):
 
 def main():
     kind, *rest = sys.argv[1:]
-    count = int(rest[0]) if rest else {'mixing': 200000, 'editing': 20000, 'lists': 30000}[kind]
+    count = int(rest[0]) if rest else {'mixing': 200000, 'editing': 20000, 'tracking': 8000, 'lists': 30000}[kind]
     program = rest[1] if len(rest) > 1 else os.path.join(TOP, 'crates', 'cuedesk', 'out', 'cuedesk')
-    {'mixing': mixing, 'editing': editing, 'lists': lists}[kind](program, count)
+    {'mixing': mixing, 'editing': editing, 'tracking': tracking, 'lists': lists}[kind](program, count)
 
 
 if __name__ == '__main__':
