@@ -4,8 +4,7 @@
 --     Puts K.holds K.faults K.wants sink.old sink.new result TEXT
 -- and makes its calls with `?`, as the tail, in a `match` or under an `if`. The module that holds such functions begins with
 --     #![tactic(auto, using(lx_io::proofs::Chain::puts))]
--- and then they need no answer. A line of many pieces, literals and numbers, is one call of `put_row`, which has one goal where
--- a row of calls has one for each `?`; keep a row of calls to five or so. A loop with a call per element needs its invariant
+-- and then they need no answer. Each `?` has a goal, so keep a row of calls to five or so. A loop with a call per element needs its invariant
 -- alone, which is `Puts` of what was put so far:
 --     invariant-loop-x g l = Puts {T = Unit {0}} g.K.Sink.holds g.K.Sink.faults g.K.Sink.wants l.initial.sink l.sink (Ok tt)
 --         (flat_map text_of (take l.x-index l.xs))

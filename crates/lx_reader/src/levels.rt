@@ -110,7 +110,7 @@ pub(crate) fn put_members(
 }
 
 /// Puts a row into the patch.
-fn put_row(show: &mut Show, row: PatchRow)
+fn put_patch_row(show: &mut Show, row: PatchRow)
     ensures { show.new ≡ with_rows (row ∷ []) show.old }
 {
     widen(show, row.chan);
@@ -124,7 +124,7 @@ pub(crate) fn put_rows(show: &mut Show, i: u32, mut tokens: Tokens) -> Result<()
 {
     loop {
         match next_row(i, &mut tokens) {
-            Ok(Some(row)) => put_row(show, row),
+            Ok(Some(row)) => put_patch_row(show, row),
             Ok(None) => return Ok(()),
             Err(fault) => return Err(LineFault::Text(fault)),
         }

@@ -39,10 +39,10 @@ pub stands_where : {A : Type 0} (key : A → ℕ) (n : ℕ) (xs : List A) (at : 
 stands_where key n xs at x sorted within is here =
     let back = drop (at + 1) xs in
     let whole : xs ≡ take at xs ++ (x ∷ back) = seam xs at x within is in
-    let rising : IsStrictlySorted key (take at xs ++ (x ∷ back)) = subst (IsStrictlySorted key) whole sorted in
+    let in_order : IsStrictlySorted key (take at xs ++ (x ∷ back)) = subst (IsStrictlySorted key) whole sorted in
     let all = stands_between key n (take at xs) back x
-    (each _ _ (take at xs) (λ y h. omega (arith, here)) (below_seam key (take at xs) back x rising)) here
-    (each _ _ back (λ y h. omega (arith, here)) (above_seam key (take at xs) back x rising)) in
+    (each _ _ (take at xs) (λ y h. omega (arith, here)) (below_seam key (take at xs) back x in_order)) here
+    (each _ _ back (λ y h. omega (arith, here)) (above_seam key (take at xs) back x in_order)) in
     record {
       within = within;
       before = sym (ap (entries_below key n) whole ∙ all.0);

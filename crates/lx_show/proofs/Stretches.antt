@@ -130,9 +130,9 @@ pub behind_gap : {A : Type 0} (key : A → ℕ) (xs : List A) (at : ℕ) (x : A)
     → AllByRecursion (λ y. key x ≤ key y) (drop at xs)
 behind_gap {A} key xs at x sorted within is =
     let whole : xs ≡ take at xs ++ (x ∷ drop (at + 1) xs) = seam xs at x within is in
-    let rising : IsStrictlySorted key (take at xs ++ (x ∷ drop (at + 1) xs)) = subst (IsStrictlySorted key) whole sorted in
+    let in_order : IsStrictlySorted key (take at xs ++ (x ∷ drop (at + 1) xs)) = subst (IsStrictlySorted key) whole sorted in
     subst (AllByRecursion (λ y. key x ≤ key y)) (sym (drop_more xs at x within ∙ ap (λ h. h ∷ drop (at + 1) xs) (sym is)))
-    (omega arith, each _ _ (drop (at + 1) xs) (λ y h. omega arith) (above_seam key (take at xs) (drop (at + 1) xs) x rising))
+    (omega arith, each _ _ (drop (at + 1) xs) (λ y h. omega arith) (above_seam key (take at xs) (drop (at + 1) xs) x in_order))
 
 pub above_gap : {A : Type 0} (key : A → ℕ) (n at : ℕ) (ys zs : List A) → ys ≡ zs → GoesAt key n ys at
     → AllByRecursion (λ y. n < key y) (drop at zs)

@@ -5,7 +5,6 @@ ghost use Rattle.lx_spec.specs.SortedList.{IsStrictlySorted};
 
 use crate::list::SortedList;
 use crate::sorted::Keyed;
-use crate::spans::Spans;
 use std::alloc::{AllocError, Global};
 
 impl<T: Keyed + Copy + Drop> SortedList<T> {
@@ -15,10 +14,8 @@ impl<T: Keyed + Copy + Drop> SortedList<T> {
         requires { IsStrictlySorted T.key entries.now }
         ensures { IfOk result (λ list. list ≡ entries.now) }
     {
-        Ok(SortedList {
-            entries: Vec::from_slice(alloc, entries)?,
-            next: 0,
-            spans: Spans::of_sorted(entries),
-        })
+        let mut list = SortedList::new(alloc);
+        list.entries = Vec::from_slice(alloc, entries)?;
+        Ok(list)
     }
 }

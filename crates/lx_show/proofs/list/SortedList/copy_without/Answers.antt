@@ -1,9 +1,7 @@
-use Rattle.std.proofs.Common.{◌≡◌, ◌++◌, ◌∙◌, ap, sym, subst, true}
+use Rattle.std.proofs.Common.{◌++◌, ◌∙◌, ap, sym, subst}
 use Rattle.std.specs.Prelude.{filter, not, ◌&&◌, nat_le}
 use Rattle.lx_spec.specs.SortedList.{IsStrictlySorted, entries_below}
 use Rattle.lx_spec.proofs.SortedLists.{IsStrictlySorted-filter}
-use Rattle.lx_spec.proofs.Lists.{kept_by}
-use Rattle.lx_show.specs.Spans.{AreMarked, has_span}
 use Rattle.lx_show.proofs.Stretches.{around_range}
 use Rattle.lx_show.proofs.list.SortedList.copy_without.Goals as goal
 
@@ -16,16 +14,10 @@ returns g c =
     c.in_ok-extend_from_slice-2.ensures.items ∙ ap (λ ys. ys ++ c.above-back.result.now) (c.in_ok-extend_from_slice.ensures.items
     ∙ ap (λ ys. ys ++ c.below-front.result.now) c.in_ok-copy.ensures.items ∙ c.below-front.ensures)
     ∙ ap (λ ys. entries_below key c.args.first xs ++ ys) c.above-back.ensures
-    ∙ around_range key c.args.first c.args.last xs c.requires (subst (IsStrictlySorted key) (sym same) c.self.invariant.sorted)
+    ∙ around_range key c.args.first c.args.last xs c.requires (subst (IsStrictlySorted key) (sym same) c.self.invariant)
     ∙ ap (filter (λ x. not (nat_le c.args.first (key x) && nat_le (key x) c.args.last))) all
 
 pub invariant_of-result : goal.invariant_of-result
 invariant_of-result g c =
-    let key = g.T.Keyed.key in
-    let spans = c.self.inside.spans in
-    record {
-      sorted = subst (IsStrictlySorted key) (sym (returns g c)) (IsStrictlySorted-filter key _ c.args.self.now
-          (subst (IsStrictlySorted key) c.self.view_is c.self.invariant.sorted));
-      marked = subst (AreMarked spans key) (sym (returns g c)) (kept_by (λ x. has_span spans (key x) ≡ true) _ c.args.self.now
-          (subst (AreMarked spans key) c.self.view_is c.self.invariant.marked));
-    }
+    subst (IsStrictlySorted g.T.Keyed.key) (sym (returns g c)) (IsStrictlySorted-filter g.T.Keyed.key _ c.args.self.now
+    (subst (IsStrictlySorted g.T.Keyed.key) c.self.view_is c.self.invariant))

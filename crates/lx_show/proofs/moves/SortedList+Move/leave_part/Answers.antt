@@ -5,8 +5,6 @@ use Rattle.lx_spec.specs.declared.Move.{Move}
 use Rattle.lx_spec.specs.SortedList.{IsStrictlySorted}
 use Rattle.lx_spec.specs.EditedShow.{out_of_part}
 use Rattle.lx_show.proofs.moves.SortedList+Move.leave_part.Goals as goal
-use Rattle.lx_show.specs.Spans.{AreMarked}
-use Rattle.lx_show.proofs.SpanBits.{mapped_marked}
 use Rattle.lx_spec.proofs.SortedLists.{IsStrictlySorted-map}
 
 same_channel : (p : ℕ) (m : Move) → (out_of_part p m).chan ≡ m.chan
@@ -24,10 +22,5 @@ invariant_of-self c =
       length-map c.deref_mut.result.now (out_of_part c.args.part),
       c.deref_mut.ensures.len,
     ) in
-    let made = sym (with_items_is c.self.inside.entries c.leave_part.new.moves long ∙ same) in
-    record {
-      sorted = subst (IsStrictlySorted (λ (m : Move). m.chan)) made
-          (IsStrictlySorted-map (λ (m : Move). m.chan) (out_of_part c.args.part) xs (same_channel c.args.part) c.self.invariant.sorted);
-      marked = subst (AreMarked c.self.inside.spans (λ (m : Move). m.chan)) made
-          (mapped_marked (λ (m : Move). m.chan) c.self.inside.spans (out_of_part c.args.part) xs (same_channel c.args.part) c.self.invariant.marked);
-    }
+    subst (IsStrictlySorted (λ (m : Move). m.chan)) (sym (with_items_is c.self.inside.entries c.leave_part.new.moves long ∙ same))
+    (IsStrictlySorted-map (λ (m : Move). m.chan) (out_of_part c.args.part) xs (same_channel c.args.part) c.self.invariant)
