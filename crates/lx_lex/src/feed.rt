@@ -1,13 +1,14 @@
 //! Where the next LF stands.
-ghost use Rattle.std.specs.Prelude.{◌<◌, ◌≤◌, length};
+ghost use Rattle.std.specs.Prelude.{◌≡◌, ◌<◌, ◌≤◌, ◌+◌, length};
 ghost use Rattle.memchr.specs.Find.{Nowhere, Passes, is_byte};
 
-use memchr::memchr;
+use std::simd::prelude::*;
 
-/// How many bytes are looked at one by one before a search of many at once: most lines of a script are that short.
-const NEAR_BYTES: usize = 8;
+/// How many bytes are looked at at once.
+const LANES: usize = 32;
 
-/// Where the first LF from `start` up to `end` stands, or `end` where none does.
+/// Where the first LF from `start` up to `end` stands, or `end` where none does. So many bytes are looked at at once, also those behind
+/// `end`, if there are any.
 #[inline(always)]
 pub(crate) fn next_feed(bytes: &[u8], start: usize, end: usize) -> usize
     requires ordered { start ≤ end }
@@ -17,27 +18,26 @@ pub(crate) fn next_feed(bytes: &[u8], start: usize, end: usize) -> usize
     ensures none { Nowhere (Passes (is_byte 10) bytes.now) start result }
     ensures found { result < end → Passes (is_byte 10) bytes.now result }
 {
-    let near_end = if end - start < NEAR_BYTES {
-        end
-    } else {
-        start + NEAR_BYTES
-    };
-    let near = near_feed(bytes, start, near_end);
-    if near < near_end {
-        return near;
+    let mut at = start;
+    while at < end && bytes.len() - at >= LANES {
+        let run = feed_run(bytes, at);
+        if run < LANES {
+            return (at + run).min(end);
+        }
+        at += LANES;
     }
-    far_feed(bytes, near_end, end)
+    last_feed(bytes, at, end)
 }
 
-/// The same, byte by byte.
+/// The same, byte by byte, or `end` where that was passed already.
 #[inline(always)]
-fn near_feed(bytes: &[u8], start: usize, end: usize) -> usize
-    requires ordered { start ≤ end }
+fn last_feed(bytes: &[u8], start: usize, end: usize) -> usize
     requires within { end ≤ length bytes.now }
-    ensures from { start ≤ result }
     ensures within { result ≤ end }
     ensures none { Nowhere (Passes (is_byte 10) bytes.now) start result }
     ensures found { result < end → Passes (is_byte 10) bytes.now result }
+    ensures from { start ≤ end → start ≤ result }
+    ensures past { end < start → result ≡ end }
 {
     for place in start..end {
         if bytes[place] == b'\n' {
@@ -47,17 +47,18 @@ fn near_feed(bytes: &[u8], start: usize, end: usize) -> usize
     end
 }
 
-/// The same, many bytes at once.
-fn far_feed(bytes: &[u8], start: usize, end: usize) -> usize
-    requires ordered { start ≤ end }
-    requires within { end ≤ length bytes.now }
-    ensures from { start ≤ result }
-    ensures within { result ≤ end }
-    ensures none { Nowhere (Passes (is_byte 10) bytes.now) start result }
-    ensures found { result < end → Passes (is_byte 10) bytes.now result }
+/// How many of the 32 bytes from a place on stand before the first LF among them: 32 where there is none.
+#[inline(always)]
+fn feed_run(bytes: &[u8], at: usize) -> usize
+    requires { at + LANES ≤ length bytes.now }
+    ensures most { result ≤ LANES }
+    ensures none { Nowhere (Passes (is_byte 10) bytes.now) at (at + result) }
+    ensures found { result < LANES → Passes (is_byte 10) bytes.now (at + result) }
 {
-    match memchr(b'\n', &bytes[start..end]) {
-        Some(place) => start + place,
-        None => end,
+    let feeds = u8x32::from_slice(&bytes[at..]).simd_eq(u8x32::splat(b'\n')).to_bitmask();
+    if feeds == 0 {
+        LANES
+    } else {
+        feeds.trailing_zeros() as usize
     }
 }
