@@ -16,14 +16,6 @@ module _ (xs : List ℕ) (s e : ℕ) where
   range-at : (k : ℕ) → k < e - s → get_or (slice_range xs s e) k 0 ≡ get_or xs (s + k) 0
   range-at k lt = get_or-take (e - s) (drop s xs) k 0 lt ∙ get_or-drop s xs k 0
 
-  -- what stands nowhere in the part's front stands nowhere there in the whole
-  pub nowhere-whole : (b p to : ℕ) → to ≤ s + p → to ≤ e → Nowhere (Passes (is_byte b) (slice_range xs s e)) 0 p
-      → Nowhere (Passes (is_byte b) xs) s to
-  nowhere-whole b p to front inside h = λ k low high hit.
-      let at : k ≡ s + (k - s) = omega arith in
-      h (k - s) (omega arith) (omega arith)
-      (subst (λ v. is_byte b v ≡ true) (ap (λ m. get_or xs m 0) at ∙ sym (range-at (k - s) (omega arith))) hit)
-
   -- what stands nowhere between stands nowhere in the part
   pub nowhere-part : (b : ℕ) → Nowhere (Passes (is_byte b) xs) s e → IsFirstByte (is_byte b) (slice_range xs s e) None
   nowhere-part b h = λ k low high hit.

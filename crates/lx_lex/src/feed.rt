@@ -55,7 +55,9 @@ fn feed_run(bytes: &[u8], at: usize) -> usize
     ensures none { Nowhere (Passes (is_byte 10) bytes.now) at (at + result) }
     ensures found { result < LANES → Passes (is_byte 10) bytes.now (at + result) }
 {
-    let feeds = u8x32::from_slice(&bytes[at..]).simd_eq(u8x32::splat(b'\n')).to_bitmask();
+    let feeds = u8x32::from_slice(&bytes[at..])
+        .simd_eq(u8x32::splat(b'\n'))
+        .to_bitmask();
     if feeds == 0 {
         LANES
     } else {

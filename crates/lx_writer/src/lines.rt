@@ -1,7 +1,7 @@
 //! The lines of a cue's moves: those of many moves are written into one text and handed to the sink as one piece.
 #![tactic(auto, using(lx_io::proofs::Chain::puts))]
 
-ghost use Rattle.std.specs.Prelude.{◌≡◌, ◌==◌, ◌+◌, ◌-◌, ◌<◌, ◌≤◌, [], ◌++◌, ◌∷◌, codes, decimal, filter, take, flat_map, length};
+ghost use Rattle.std.specs.Prelude.{◌≡◌, ◌==◌, true, ◌+◌, ◌-◌, ◌<◌, ◌≤◌, [], ◌++◌, ◌∷◌, codes, decimal, filter, take, flat_map, length};
 ghost use Rattle.std.specs.Prelude.{slice_index_or};
 ghost use Rattle.lx_io.specs.Puts.{Puts};
 ghost use Rattle.lx_writer.specs.declared.lines.TheConstants.{PIECE_MOVES};
@@ -60,12 +60,39 @@ impl Text for MoveLines<'_> {
     }
 }
 
-/// Appends the lines of some moves, as one piece.
+/// Appends the lines of some moves, as one piece. Where none of them stands in the part, which is so for most pieces of a cue of several
+/// parts, it is passed over whole.
 fn put_piece<K: Sink>(moves: &[Move], part: PartNo, sink: &mut K) -> Result<(), SinkFault>
     requires { length moves.now ≤ PIECE_MOVES }
     ensures { Puts K.holds K.faults K.wants sink.old sink.new result (flat_map move_text (filter (λ entry. entry.part == part) moves.now)) }
 {
+    if are_apart(moves, part) {
+        return Ok(());
+    }
     sink.put_text(&MoveLines { moves, part })
+}
+
+/// None of the moves stands in the part. Most often the first of them tells that it isn't so.
+#[inline(always)]
+fn are_apart(moves: &[Move], part: PartNo) -> bool
+    ensures { result ≡ true → flat_map move_text (filter (λ entry. entry.part == part) moves.now) ≡ [] }
+{
+    match moves {
+        [first, ..] if stands_in(first, part) => false,
+        _ => are_all_apart(moves, part),
+    }
+}
+
+/// The same, where each of them is looked at: without an early end, so that the compiler looks at many at once.
+#[inline(never)]
+fn are_all_apart(moves: &[Move], part: PartNo) -> bool
+    ensures { result ≡ true → flat_map move_text (filter (λ entry. entry.part == part) moves.now) ≡ [] }
+{
+    let mut apart = true;
+    for entry in moves {
+        apart &= !stands_in(entry, part);
+    }
+    apart
 }
 
 /// Writes the lines of some moves at the front of the text, and says where they end. The first word of a line is written behind the
