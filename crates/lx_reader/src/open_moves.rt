@@ -1,6 +1,6 @@
 //! The moves of the cue whose levels are being read, by channel: a level takes one write, however many the cue has.
 
-ghost use Rattle.std.specs.Prelude.{◌≡◌, ◌≤◌, ℕ, ◌<◌, ◌+◌, ◌++◌, [], Err, length, max, vec_capacity, OnOk, IfOk, IfErr};
+ghost use Rattle.std.specs.Prelude.{◌≡◌, ◌≤◌, ℕ, ◌<◌, ◌+◌, ◌++◌, [], Err, length, max, take, IfOk, IfErr};
 ghost use Rattle.std.specs.List.{AllByRecursion};
 ghost use Rattle.lx_base.specs.declared.TheConstants.{CHANNELS};
 ghost use Rattle.lx_spec.specs.Show.{ValidMember};
@@ -31,6 +31,8 @@ pub(crate) struct Slot {
 #[derive(Drop)]
 pub(crate) struct OpenMoves {
     slots: [Option<Slot>; SLOTS],
+    /// Room for them as a list, once a cue had any.
+    list: Vec<Move>,
 }
 
 impl Model for OpenMoves {
@@ -45,11 +47,12 @@ impl Model for OpenMoves {
 
 impl OpenMoves {
     /// No moves.
-    pub(crate) fn new() -> OpenMoves
+    pub(crate) fn new(alloc: Global) -> OpenMoves
         ensures { result ≡ [] }
     {
         OpenMoves {
             slots: [None; SLOTS],
+            list: Vec::new(alloc),
         }
     }
 
@@ -57,7 +60,8 @@ impl OpenMoves {
     pub(crate) fn clear(&mut self)
         ensures { self.new ≡ [] }
     {
-        *self = OpenMoves::new();
+        let empty = [None; SLOTS];
+        self.slots = empty;
     }
 
     /// Places the levels of a line as moves in a part, each in place of the one of its channel, and answers the greatest of
@@ -76,14 +80,18 @@ impl OpenMoves {
     }
 
     /// The moves as a list. None is of a channel above this one.
-    pub(crate) fn listed(&self, alloc: Global, channels: u32) -> Result<MoveList, AllocError>
+    pub(crate) fn listed(&mut self, alloc: Global, channels: u32) -> Result<MoveList, AllocError>
         requires most { channels ≤ CHANNELS }
-        requires within { AllByRecursion (λ m. m.chan ≤ channels) self.now }
-        ensures { IfOk result (λ list. list ≡ self.now) }
+        requires within { AllByRecursion (λ m. m.chan ≤ channels) self.old }
+        ensures list { IfOk result (λ list. list ≡ self.old) }
+        ensures same { self.new ≡ self.old }
     {
         rise(&self.slots);
-        let moves = listed(alloc, &self.slots, channels as usize)?;
-        MoveList::of_sorted(alloc, moves.as_slice())
+        if self.list.len() < SLOTS {
+            self.list.resize(SLOTS, any_move())?;
+        }
+        let count = gather(&self.slots, channels as usize, &mut self.list);
+        MoveList::of_sorted(alloc, &self.list[..count])
     }
 }
 
@@ -151,38 +159,49 @@ fn rise(slots: &[Option<Slot>; SLOTS])
     let _ = slots;
 }
 
-/// The moves as a list: those of the first slots, which are all.
-fn listed(
-    alloc: Global,
-    slots: &[Option<Slot>; SLOTS],
-    count: usize,
-) -> Result<Vec<Move>, AllocError>
+/// Writes the moves at the front of a list, and says how many they are: those of the first slots, which are all.
+fn gather(slots: &[Option<Slot>; SLOTS], count: usize, list: &mut [Move]) -> usize
     requires most { count ≤ CHANNELS }
+    requires room { count ≤ length list.old }
     requires within { AllByRecursion (λ m. m.chan ≤ count) (moves_from 1 slots.now) }
-    ensures { IfOk result (λ list. list.items ≡ moves_from 1 slots.now) }
+    ensures most { result ≤ count }
+    ensures list { take result list.new ≡ moves_from 1 slots.now }
 {
-    let mut moves = Vec::with_capacity(alloc, count)?;
+    let mut len = 0;
     for index in 0..count {
-        keep(slots[index], index, &mut moves);
+        len = keep(slots[index], index, list, len);
     }
-    Ok(moves)
+    len
 }
 
-/// Appends the move in the slot of an index, if there is one. There is room for it.
+/// Writes the move in the slot of an index at a place, and says where the next one goes. Where there is none something is written too and
+/// the place stays, so that no branch asks for it.
 #[inline(always)]
-fn keep(slot: Option<Slot>, index: usize, moves: &mut Vec<Move>)
+fn keep(slot: Option<Slot>, index: usize, list: &mut [Move], at: usize) -> usize
     requires index { index < CHANNELS }
-    requires room { length moves.old.items < vec_capacity moves.old }
-    ensures items { moves.new.items ≡ moves.old.items ++ slot_moves (index + 1) slot }
-    ensures room { vec_capacity moves.old ≤ vec_capacity moves.new }
-    ensures most { length moves.new.items ≤ length moves.old.items + 1 }
+    requires room { at < length list.old }
+    ensures long { length list.new ≡ length list.old }
+    ensures list { take result list.new ≡ take at list.old ++ slot_moves (index + 1) slot }
+    ensures most { result ≤ at + 1 }
 {
-    if let Some(slot) = slot {
-        moves.push_reserved(Move {
-            chan: channel(index),
-            part: slot.part,
-            level: slot.level,
-        });
+    let (part, level, count) = match slot {
+        Some(slot) => (slot.part, slot.level, 1),
+        None => (PartNo::BASE, 0, 0),
+    };
+    list[at] = Move {
+        chan: channel(index),
+        part,
+        level,
+    };
+    at + count
+}
+
+/// Any move, to fill a list with.
+fn any_move() -> Move {
+    Move {
+        chan: channel(0),
+        part: PartNo::BASE,
+        level: 0,
     }
 }
 

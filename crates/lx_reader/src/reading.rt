@@ -55,7 +55,7 @@ impl Reading {
         Reading {
             reader: Reader::new(alloc, show),
             cue: None,
-            moves: OpenMoves::new(),
+            moves: OpenMoves::new(alloc),
             opened: 0,
         }
     }

@@ -22,11 +22,11 @@ replace_moves-requires c =
     let g = c.args.self.now in
     let fits : FitsIn g.reader g.moves c.in-Some.n = subst (λ o. IfSome o (FitsIn g.reader g.moves)) c.in-Some.is c.requires in
     subst (λ ms. IsSomeAnd (cue_of g.reader.show c.in-Some.n) (λ cue. AllByRecursion (ValidMove g.reader.show.channels cue.parts) ms))
-    (sym c.in_ok-moves.ensures) fits.valid
+    (sym c.in_ok-moves.ensures.list) fits.valid
 
 pub returns : goal.returns
 returns c = (
   refl,
-  settled_is c.args.self.now c.in-Some.n c.in_ok-moves.moves c.replace_moves.new.self c.in-Some.is c.in_ok-moves.ensures
+  settled_is c.args.self.now c.in-Some.n c.in_ok-moves.moves c.replace_moves.new.self c.in-Some.is c.in_ok-moves.ensures.list
       c.replace_moves.ensures.after,
 )
