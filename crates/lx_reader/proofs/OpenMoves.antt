@@ -1,15 +1,16 @@
 -- Moves that are kept by channel.
-use Rattle.std.proofs.Common.{◌≡◌, ℕ, zero, suc, ◌+◌, ◌<◌, ◌≤◌, List, [], ◌∷◌, ◌++◌, length, Option, Some, None, refl, ap, ◌∙◌, sym, arith}
+use Rattle.std.proofs.Common.{◌≡◌, ℕ, zero, suc, ◌+◌, ◌<◌, ◌≤◌, Bool, true, false, List, [], ◌∷◌, ◌++◌, length, take, drop, get_or, replicate, refl, ap, ◌∙◌}
+use Rattle.std.proofs.Common.{sym, subst, arith}
 use Rattle.std.proofs.Common.{map}
-use Rattle.std.specs.Prelude.{slice_set, fold, max}
+use Rattle.std.specs.Prelude.{IfSome, if◌then◌else◌, slice_get, slice_set, fold, max}
+use Rattle.std.proofs.lemmas.Bool.{false≢true}
 use Rattle.std.specs.List.{AllByRecursion}
 use Rattle.lx_spec.specs.declared.Move.{Move}
 use Rattle.lx_spec.specs.SortedList.{IsStrictlySorted, placed}
 use Rattle.lx_spec.proofs.Comparisons.{lt_true, lt_false}
 use Rattle.lx_spec.proofs.Lists.{each, all_append}
 use Rattle.lx_spec.proofs.SortedLists.{goes_between, stands_between}
-use Rattle.lx_reader.specs.declared.open_moves.Slot.{Slot}
-use Rattle.lx_reader.specs.OpenMoves.{ReadsLevels, moves_from}
+use Rattle.lx_reader.specs.OpenMoves.{AreNumbered, ReadsLevels, moves_there}
 use Rattle.lx_reader.specs.FieldLists.{all_pairs, onto}
 use Rattle.lx_reader.specs.ReadingState.{moves_of}
 use Rattle.lx_reader.proofs.SectionLevels.{onto_again, onto_nothing}
@@ -19,47 +20,107 @@ use Rattle.lx_spec.specs.Show.{ValidMember}
 use Rattle.std.proofs.lemmas.List.{map-append}
 use Rattle.std.proofs.lemmas.List.Sums.{fold-append}
 
+later : (c : ℕ) (m : Move) (moves : List Move) → AreNumbered c (m ∷ moves) → AreNumbered (c + 1) moves
+later c m moves numbered = λ k within.
+    subst (λ n. IfSome (slice_get moves k) (λ x. x.chan ≡ n)) (omega arith) (numbered (suc k) (omega arith))
+
+pub numbered_behind : (c n : ℕ) (moves : List Move) → AreNumbered c moves → AreNumbered (c + n) (drop n moves)
+numbered_behind c zero moves numbered = subst (λ k. AreNumbered k moves) (omega arith) numbered
+numbered_behind c (suc n) [] numbered = λ k within. absurd (omega (arith, within))
+numbered_behind c (suc n) (m ∷ moves) numbered =
+    subst (λ k. AreNumbered k (drop n moves)) (omega arith) (numbered_behind (c + 1) n moves (later c m moves numbered))
+
 -- none is of a channel before the first
-from_first : (c : ℕ) (slots : List (Option Slot)) → AllByRecursion (λ m. c ≤ m.chan) (moves_from c slots)
-from_first c [] = tt
-from_first c (None ∷ slots) = each _ _ (moves_from (c + 1) slots) (λ m h. omega arith) (from_first (c + 1) slots)
-from_first c (Some slot ∷ slots) = (
-  omega arith,
-  each _ _ (moves_from (c + 1) slots) (λ m h. omega arith) (from_first (c + 1) slots),
+from_first : (c : ℕ) (moves : List Move) (flags : List Bool) → AreNumbered c moves → AllByRecursion (λ m. c ≤ m.chan) (moves_there moves flags)
+from_first c [] flags numbered = tt
+from_first c (m ∷ moves) [] numbered = tt
+from_first c (m ∷ moves) (false ∷ flags) numbered =
+    each _ _ (moves_there moves flags) (λ x h. omega arith) (from_first (c + 1) moves flags (later c m moves numbered))
+from_first c (m ∷ moves) (true ∷ flags) numbered = (
+  omega (arith, numbered 0 (omega arith)),
+  each _ _ (moves_there moves flags) (λ x h. omega arith) (from_first (c + 1) moves flags (later c m moves numbered)),
 )
 
-pub behind : (c : ℕ) (slots : List (Option Slot)) → AllByRecursion (λ m. c < m.chan) (moves_from (c + 1) slots)
-behind c slots = each _ _ (moves_from (c + 1) slots) (λ m h. omega arith) (from_first (c + 1) slots)
+pub behind : (c : ℕ) (moves : List Move) (flags : List Bool) → AreNumbered (c + 1) moves
+    → AllByRecursion (λ m. c < m.chan) (moves_there moves flags)
+behind c moves flags numbered = each _ _ (moves_there moves flags) (λ m h. omega arith) (from_first (c + 1) moves flags numbered)
 
-pub moves_rise : (c : ℕ) (slots : List (Option Slot)) → IsStrictlySorted (λ m. m.chan) (moves_from c slots)
-moves_rise c [] = tt
-moves_rise c (None ∷ slots) = moves_rise (c + 1) slots
-moves_rise c (Some slot ∷ slots) = (behind c slots, moves_rise (c + 1) slots)
+pub moves_rise : (c : ℕ) (moves : List Move) (flags : List Bool) → AreNumbered c moves
+    → IsStrictlySorted (λ m. m.chan) (moves_there moves flags)
+moves_rise c [] flags numbered = tt
+moves_rise c (m ∷ moves) [] numbered = tt
+moves_rise c (m ∷ moves) (false ∷ flags) numbered = moves_rise (c + 1) moves flags (later c m moves numbered)
+moves_rise c (m ∷ moves) (true ∷ flags) numbered =
+    let here : m.chan ≡ c = numbered 0 (omega arith) ∙ omega arith in
+    (rw here (behind c moves flags (later c m moves numbered)), moves_rise (c + 1) moves flags (later c m moves numbered))
 
--- a move written into the slot of its channel
-pub slot_written : (c k n : ℕ) (slots : List (Option Slot)) (slot : Slot) (m : Move) → k < length slots → n ≡ c + k
-    → m ≡ record { chan = n; part = slot.part; level = slot.level }
-    → moves_from c (slice_set slots k (Some slot)) ≡ placed (λ m. m.chan) m (moves_from c slots)
-slot_written c k n [] slot m within at is = absurd (omega arith)
-slot_written c zero n (None ∷ slots) slot m within at is =
-    let here : m.chan ≡ c = ap (λ m. m.chan) is ∙ omega (arith, at) in
-    let same : record { chan = c; part = slot.part; level = slot.level } ≡ m = cc in
-    let gap = goes_between (λ m. m.chan) m.chan [] (moves_from (c + 1) slots) tt (rw here (behind c slots)) in
-    rw (gap.0, gap.2) (ap (λ x. x ∷ moves_from (c + 1) slots) same)
-slot_written c zero n (Some old ∷ slots) slot m within at is =
-    let here : m.chan ≡ c = ap (λ m. m.chan) is ∙ omega (arith, at) in
-    let same : record { chan = c; part = slot.part; level = slot.level } ≡ m = cc in
-    let gap = stands_between (λ m. m.chan) m.chan [] (moves_from (c + 1) slots) (record { chan = c; part = old.part; level = old.level }) tt
-    (sym here) (rw here (behind c slots)) in
-    rw (gap.0, gap.2) (ap (λ x. x ∷ moves_from (c + 1) slots) same)
-slot_written c (suc k) n (None ∷ slots) slot m within at is =
-    slot_written (c + 1) k n slots slot m (omega arith) (omega (arith, at)) is
-slot_written c (suc k) n (Some old ∷ slots) slot m within at is =
-    let chan : m.chan ≡ n = ap (λ m. m.chan) is in
-    let later : c < m.chan = omega (arith, at, chan) in
-    rw (lt_true c m.chan later, lt_false m.chan c (omega arith))
-    (ap (λ ms. record { chan = c; part = old.part; level = old.level } ∷ ms)
-    (slot_written (c + 1) k n slots slot m (omega arith) (omega (arith, at)) is))
+-- a move written into the place of its channel
+pub slot_written : (c k : ℕ) (moves : List Move) (flags : List Bool) (m : Move) → AreNumbered c moves → k < length moves
+    → length flags ≡ length moves → m.chan ≡ c + k
+    → moves_there (slice_set moves k m) (slice_set flags k true) ≡ placed (λ m. m.chan) m (moves_there moves flags)
+slot_written c k [] flags m numbered within long at = absurd (omega (arith, within))
+slot_written c k (x ∷ moves) [] m numbered within long at = absurd (omega (arith, long))
+slot_written c zero (x ∷ moves) (false ∷ flags) m numbered within long at =
+    let here : m.chan ≡ c = omega (arith, at) in
+    let gap = goes_between (λ m. m.chan) m.chan [] (moves_there moves flags) tt
+    (rw here (behind c moves flags (later c x moves numbered))) in
+    rw (gap.0, gap.2) refl
+slot_written c zero (x ∷ moves) (true ∷ flags) m numbered within long at =
+    let here : m.chan ≡ c = omega (arith, at) in
+    let there : x.chan ≡ c = numbered 0 (omega arith) ∙ omega arith in
+    let gap = stands_between (λ m. m.chan) m.chan [] (moves_there moves flags) x tt (there ∙ sym here)
+    (rw here (behind c moves flags (later c x moves numbered))) in
+    rw (gap.0, gap.2) refl
+slot_written c (suc k) (x ∷ moves) (false ∷ flags) m numbered within long at =
+    slot_written (c + 1) k moves flags m (later c x moves numbered) (omega arith) (omega (arith, long)) (omega (arith, at))
+slot_written c (suc k) (x ∷ moves) (true ∷ flags) m numbered within long at =
+    let there : x.chan ≡ c = numbered 0 (omega arith) ∙ omega arith in
+    let above : x.chan < m.chan = omega (arith, at, there) in
+    rw (lt_true x.chan m.chan above, lt_false m.chan x.chan (omega arith))
+    (ap (λ ms. x ∷ ms)
+    (slot_written (c + 1) k moves flags m (later c x moves numbered) (omega arith) (omega (arith, long)) (omega (arith, at))))
+
+-- those from a place on are the one there and those behind it
+next_there : (i : ℕ) (moves : List Move) (flags : List Bool) (d : Move) (e : Bool) → i < length moves → i < length flags
+    → moves_there (drop i moves) (drop i flags)
+    ≡ (if get_or flags i e then get_or moves i d ∷ [] else []) ++ moves_there (drop (suc i) moves) (drop (suc i) flags)
+next_there i [] flags d e within inside = absurd (omega (arith, within))
+next_there i (m ∷ moves) [] d e within inside = absurd (omega (arith, inside))
+next_there zero (m ∷ moves) (true ∷ flags) d e within inside = refl
+next_there zero (m ∷ moves) (false ∷ flags) d e within inside = refl
+next_there (suc i) (m ∷ moves) (b ∷ flags) d e within inside = next_there i moves flags d e (omega arith) (omega arith)
+
+pub there_next : (i : ℕ) (moves : List Move) (flags : List Bool) (d : Move) (e : Bool) → i < length moves → i < length flags
+    → moves_there (drop i moves) (drop i flags)
+    ≡ (if get_or flags i e then get_or moves i d ∷ [] else []) ++ moves_there (drop (i + 1) moves) (drop (i + 1) flags)
+there_next i moves flags d e within inside =
+    let same : suc i ≡ i + 1 = omega arith in
+    next_there i moves flags d e within inside
+    ∙ ap (λ n. (if get_or flags i e then get_or moves i d ∷ [] else []) ++ moves_there (drop n moves) (drop n flags)) same
+
+none_left : (c n : ℕ) (xs : List Move) → n ≡ c → AllByRecursion (λ m. m.chan < n) xs → AllByRecursion (λ m. c ≤ m.chan) xs → [] ≡ xs
+none_left c n [] same below above = refl
+none_left c n (x ∷ rest) same below above = absurd (omega (arith, same, below.0, above.0))
+
+-- where none is there
+pub none_there : (moves : List Move) (n : ℕ) → moves_there moves (replicate n false) ≡ []
+none_there [] n = refl
+none_there (m ∷ moves) zero = refl
+none_there (m ∷ moves) (suc n) = none_there moves n
+
+-- where those of the first channels are all there, and no other
+pub all_there : (c n : ℕ) (moves : List Move) (flags : List Bool) → AreNumbered c moves → n ≤ length moves → length flags ≡ length moves
+    → ((k : ℕ) → k < length (take n flags) → IfSome (slice_get (take n flags) k) (λ there. there ≡ true))
+    → AllByRecursion (λ m. m.chan < c + n) (moves_there moves flags) → take n moves ≡ moves_there moves flags
+all_there c zero moves flags numbered few long each_is within =
+    none_left c (c + 0) (moves_there moves flags) (omega arith) within (from_first c moves flags numbered)
+all_there c (suc n) [] flags numbered few long each_is within = absurd (omega (arith, few))
+all_there c (suc n) (m ∷ moves) [] numbered few long each_is within = absurd (omega (arith, long))
+all_there c (suc n) (m ∷ moves) (false ∷ flags) numbered few long each_is within = absurd (false≢true (each_is 0 (omega arith)))
+all_there c (suc n) (m ∷ moves) (true ∷ flags) numbered few long each_is within =
+    ap (λ ms. m ∷ ms)
+    (all_there (c + 1) n moves flags (later c m moves numbered) (omega arith) (omega (arith, long)) (λ k less. each_is (suc k) (omega arith))
+    (each _ _ (moves_there moves flags) (λ x h. omega (arith, h)) within.1))
 
 -- where no move is above a number, none is behind those up to it
 pub none_behind : (n k : ℕ) (items rest : List Move) → n ≤ k → AllByRecursion (λ m. m.chan ≤ n) (items ++ rest)

@@ -1,24 +1,29 @@
 -- The moves of a cue, by channel.
-use Rattle.std.specs.Prelude.{ℕ, ◌≡◌, ◌+◌, Option, Some, None, List, [], ◌∷◌, ◌++◌, fold, map, max}
+use Rattle.std.specs.Prelude.{ℕ, ◌≡◌, ◌+◌, ◌<◌, Bool, List, [], ◌∷◌, IfSome, fold, length, map, max, slice_get, if◌then◌else◌}
 use Rattle.std.specs.List.{AllByRecursion}
 use Rattle.lx_base.specs.declared.TheConstants.{CHANNELS}
 use Rattle.lx_spec.specs.declared.Member.{Member}
 use Rattle.lx_spec.specs.declared.Move.{Move}
 use Rattle.lx_spec.specs.Show.{ValidMember}
 use Rattle.lx_spec.specs.SortedList.{all_placed}
-use Rattle.lx_reader.specs.declared.open_moves.Slot.{Slot}
 use Rattle.lx_reader.specs.FieldLists.{all_pairs, onto}
 use Rattle.lx_reader.specs.ReadingState.{moves_of}
 
--- the move in the slot of a channel, if there is one
-abbrev pub slot_moves : ℕ → Option Slot → List Move
-slot_moves chan None = []
-slot_moves chan (Some slot) = record { chan = chan; part = slot.part; level = slot.level } ∷ []
+-- the moves that are there
+abbrev pub moves_there : List Move → List Bool → List Move
+moves_there [] flags = []
+moves_there (m ∷ moves) [] = []
+moves_there (m ∷ moves) (there ∷ flags) = if there then m ∷ moves_there moves flags else moves_there moves flags
 
--- the moves in slots, the first of which is this channel's
-abbrev pub moves_from : ℕ → List (Option Slot) → List Move
-moves_from chan [] = []
-moves_from chan (slot ∷ slots) = slot_moves chan slot ++ moves_from (chan + 1) slots
+-- the moves are those of the channels from this one on, in turn
+abbrev pub AreNumbered : ℕ → List Move → Type 0
+AreNumbered c moves = (k : ℕ) → k < length moves → IfSome (slice_get moves k) (λ m. m.chan ≡ c + k)
+
+-- a row has a place for each channel, with its move
+pub record IsRow (moves : List Move) (flags : List Bool) : Type 0 where
+  pub all : length moves ≡ CHANNELS
+  pub long : length flags ≡ CHANNELS
+  pub numbered : AreNumbered 1 moves
 
 -- The levels at the front of a line were put into moves, in a part. The tokens behind them are the rest, and the greatest of their
 -- channels and of a number is known.

@@ -1,16 +1,16 @@
 //! The moves of the cue whose levels are being read, by channel: a level takes one write, however many the cue has.
 
-ghost use Rattle.std.specs.Prelude.{◌≡◌, ◌≤◌, ℕ, ◌<◌, ◌+◌, ◌++◌, [], Err, length, max, take, IfOk, IfErr};
+ghost use Rattle.std.specs.Prelude.{◌≡◌, ◌≤◌, ℕ, ◌<◌, ◌+◌, ◌++◌, ◌∷◌, [], Err, true, length, max, slice_get, take, IfOk, IfErr, IfSome, if◌then◌else◌};
 ghost use Rattle.std.specs.List.{AllByRecursion};
 ghost use Rattle.lx_base.specs.declared.TheConstants.{CHANNELS};
 ghost use Rattle.lx_spec.specs.Show.{ValidMember};
 ghost use Rattle.lx_spec.specs.SortedList.{IsStrictlySorted, placed};
 ghost use Rattle.lx_lex.specs.Left.{left};
 ghost use Rattle.lx_reader.specs.FieldLists.{all_pairs};
-ghost use Rattle.lx_reader.specs.OpenMoves.{ReadsLevels, moves_from, slot_moves};
+ghost use Rattle.lx_reader.specs.OpenMoves.{ReadsLevels};
 
 use crate::lists::{far_member, near_member};
-use lx_base::{CHANNELS, Chan, Level, PartNo};
+use lx_base::{CHANNELS, Chan, PartNo};
 use lx_lex::Tokens;
 use lx_show::MoveList;
 use lx_spec::{Member, Move, TextFault};
@@ -20,17 +20,30 @@ use std::marker::Model;
 /// How many channels there can be.
 const SLOTS: usize = CHANNELS as usize;
 
-/// What a move says of its channel.
-#[derive(Clone, Copy)]
-pub(crate) struct Slot {
-    part: PartNo,
-    level: Level,
+/// A row with a move for each channel in turn, of which some are there. Contracts see those.
+#[derive(Drop)]
+struct MoveRow {
+    moves: [Move; SLOTS],
+    /// Whether the channel's move is there.
+    there: [bool; SLOTS],
+}
+
+impl Model for MoveRow {
+    ghost use Rattle.std.specs.Prelude.{List};
+    ghost use Rattle.lx_spec.specs.declared.Move.{Move};
+    ghost use Rattle.lx_reader.specs.OpenMoves.{IsRow, moves_there};
+
+    ghost Value = { List Move };
+
+    ghost view = { λ r. moves_there r.moves r.there };
+
+    ghost invariant = { λ r. IsRow r.moves r.there };
 }
 
 /// The moves of a cue. Contracts see them as a list sorted by channel.
 #[derive(Drop)]
 pub(crate) struct OpenMoves {
-    slots: [Option<Slot>; SLOTS],
+    row: MoveRow,
     /// Room for them as a list, once a cue had any.
     list: Vec<Move>,
 }
@@ -38,11 +51,10 @@ pub(crate) struct OpenMoves {
 impl Model for OpenMoves {
     ghost use Rattle.std.specs.Prelude.{List};
     ghost use Rattle.lx_spec.specs.declared.Move.{Move};
-    ghost use Rattle.lx_reader.specs.OpenMoves.{moves_from};
 
     ghost Value = { List Move };
 
-    ghost view = { λ o. moves_from 1 o.slots };
+    ghost view = { λ o. o.row };
 }
 
 impl OpenMoves {
@@ -51,7 +63,7 @@ impl OpenMoves {
         ensures { result ≡ [] }
     {
         OpenMoves {
-            slots: [None; SLOTS],
+            row: MoveRow::new(),
             list: Vec::new(alloc),
         }
     }
@@ -60,8 +72,7 @@ impl OpenMoves {
     pub(crate) fn clear(&mut self)
         ensures { self.new ≡ [] }
     {
-        let empty = [None; SLOTS];
-        self.slots = empty;
+        self.row.clear();
     }
 
     /// Places the levels of a line as moves in a part, each in place of the one of its channel, and answers the greatest of
@@ -76,7 +87,7 @@ impl OpenMoves {
         ensures levels { IfOk result (λ greatest. ReadsLevels i part least (left tokens.entry) [] greatest self.old self.new) }
         ensures fault { IfErr result (λ fault. all_pairs i (left tokens.entry) ≡ Err fault) }
     {
-        put_line(&mut self.slots, i, tokens, part, least)
+        put_line(&mut self.row, i, tokens, part, least)
     }
 
     /// The moves as a list. None is of a channel above this one.
@@ -86,32 +97,119 @@ impl OpenMoves {
         ensures list { IfOk result (λ list. list ≡ self.old) }
         ensures same { self.new ≡ self.old }
     {
-        rise(&self.slots);
-        if self.list.len() < SLOTS {
-            self.list.resize(SLOTS, any_move())?;
+        let count = channels as usize;
+        if let Some(all) = self.row.whole(count) {
+            return MoveList::of_sorted(alloc, all);
         }
-        let count = gather(&self.slots, channels as usize, &mut self.list);
-        MoveList::of_sorted(alloc, &self.list[..count])
+        if self.list.len() < SLOTS {
+            self.list.resize(SLOTS, any_move(0))?;
+        }
+        let len = self.row.gather(count, &mut self.list);
+        MoveList::of_sorted(alloc, &self.list[..len])
     }
+}
+
+impl MoveRow {
+    /// A row of which no move is there.
+    fn new() -> MoveRow
+        ensures { result ≡ [] }
+    {
+        let mut moves = [any_move(0); SLOTS];
+        for index in 0..SLOTS {
+            moves[index] = any_move(index);
+        }
+        MoveRow {
+            moves,
+            there: [false; SLOTS],
+        }
+    }
+
+    /// Takes all moves out.
+    fn clear(&mut self)
+        ensures { self.new ≡ [] }
+    {
+        let none = [false; SLOTS];
+        self.there = none;
+    }
+
+    /// The moves where each of the first channels has one: they stand side by side then. No channel behind these has any.
+    fn whole(&self, count: usize) -> Option<&[Move]>
+        requires most { count ≤ CHANNELS }
+        requires within { AllByRecursion (λ m. m.chan ≤ count) self.now }
+        ensures moves { IfSome result (λ all. all.now ≡ self.now) }
+        ensures rise { IsStrictlySorted (λ m. m.chan) self.now }
+    {
+        if are_there(&self.there[..count]) {
+            Some(&self.moves[..count])
+        } else {
+            None
+        }
+    }
+
+    /// Writes the moves at the front of a list, and says how many they are. No channel behind the first ones has any.
+    fn gather(&self, count: usize, list: &mut [Move]) -> usize
+        requires most { count ≤ CHANNELS }
+        requires room { count ≤ length list.old }
+        requires within { AllByRecursion (λ m. m.chan ≤ count) self.now }
+        ensures most { result ≤ count }
+        ensures list { take result list.new ≡ self.now }
+    {
+        let mut len = 0;
+        for index in 0..count {
+            len = keep(self.moves[index], self.there[index], list, len);
+        }
+        len
+    }
+
+    /// Places one level as a move, and answers the greater of its channel and this number.
+    #[inline(always)]
+    fn put(&mut self, member: Member, part: PartNo, least: u32) -> u32
+        ensures greater { result ≡ max least member.chan }
+        ensures valid { ValidMember CHANNELS member }
+        ensures moves { self.new ≡ placed (λ m. m.chan) (record { chan = member.chan; part = part; level = member.level }) self.old }
+    {
+        let number = member.chan.get();
+        let index = (number - 1) as usize;
+        self.moves[index] = Move {
+            chan: member.chan,
+            part,
+            level: member.level,
+        };
+        self.there[index] = true;
+        least.max(number)
+    }
+}
+
+/// Whether all of them are there. It has no early end, so that the compiler looks at many at once.
+fn are_there(flags: &[bool]) -> bool
+    ensures { result ≡ true → (k : ℕ) → k < length flags.now → IfSome (slice_get flags.now k) (λ there. there ≡ true) }
+{
+    let mut all = true;
+    for there in flags {
+        all &= *there;
+    }
+    all
 }
 
 /// Places the levels of a line as moves in a part, and answers the greatest of their channels and this number.
 fn put_line(
-    slots: &mut [Option<Slot>; SLOTS],
+    row: &mut MoveRow,
     i: u32,
     mut tokens: Tokens,
     part: PartNo,
     least: u32,
 ) -> Result<u32, TextFault>
-    ensures levels { IfOk result (λ greatest. ReadsLevels i part least (left tokens.entry) [] greatest (moves_from 1 slots.old)
-        (moves_from 1 slots.new)) }
+    ensures levels { IfOk result (λ greatest. ReadsLevels i part least (left tokens.entry) [] greatest row.old row.new) }
     ensures fault { IfErr result (λ fault. all_pairs i (left tokens.entry) ≡ Err fault) }
 {
     let mut greatest = least;
     loop {
-        (tokens, greatest) = put_near(slots, tokens, part, greatest);
+        (tokens, greatest) = put_near(row, tokens, part, greatest);
+        if tokens.is_at_end() {
+            return Ok(greatest);
+        }
         match far_member(i, &mut tokens) {
-            Ok(Some(member)) => greatest = put(slots, member, part, greatest),
+            Ok(Some(member)) => greatest = row.put(member, part, greatest),
             Ok(None) => return Ok(greatest),
             Err(fault) => return Err(fault),
         }
@@ -120,86 +218,41 @@ fn put_line(
 
 /// The same for the levels at the front of a line that stand in the usual form. It answers the tokens that are left, too.
 fn put_near<'a>(
-    slots: &mut [Option<Slot>; SLOTS],
+    row: &mut MoveRow,
     mut tokens: Tokens<'a>,
     part: PartNo,
     least: u32,
 ) -> (Tokens<'a>, u32)
-    ensures levels { (i : ℕ) → ReadsLevels i part least (left tokens.entry) (left result.0) result.1 (moves_from 1 slots.old)
-        (moves_from 1 slots.new) }
+    ensures levels { (i : ℕ) → ReadsLevels i part least (left tokens.entry) (left result.0) result.1 row.old row.new }
     ensures fewer { length (left result.0) ≤ length (left tokens.entry) }
 {
     let mut greatest = least;
     while let Some(member) = near_member(&mut tokens) {
-        greatest = put(slots, member, part, greatest);
+        greatest = row.put(member, part, greatest);
     }
     (tokens, greatest)
 }
 
-/// Places one level as a move, and answers the greater of its channel and this number.
+/// Writes a move at a place, and says where the next one goes. Where it isn't there it is written too and the place stays, so that no
+/// branch asks for it.
 #[inline(always)]
-fn put(slots: &mut [Option<Slot>; SLOTS], member: Member, part: PartNo, least: u32) -> u32
-    ensures greater { result ≡ max least member.chan }
-    ensures valid { ValidMember CHANNELS member }
-    ensures moves { moves_from 1 slots.new ≡ placed (λ m. m.chan) (record { chan = member.chan; part = part; level = member.level })
-        (moves_from 1 slots.old) }
-{
-    let number = member.chan.get();
-    slots[(number - 1) as usize] = Some(Slot {
-        part,
-        level: member.level,
-    });
-    least.max(number)
-}
-
-/// The moves rise: a fact for proofs.
-fn rise(slots: &[Option<Slot>; SLOTS])
-    ensures { IsStrictlySorted (λ m. m.chan) (moves_from 1 slots.now) }
-{
-    let _ = slots;
-}
-
-/// Writes the moves at the front of a list, and says how many they are: those of the first slots, which are all.
-fn gather(slots: &[Option<Slot>; SLOTS], count: usize, list: &mut [Move]) -> usize
-    requires most { count ≤ CHANNELS }
-    requires room { count ≤ length list.old }
-    requires within { AllByRecursion (λ m. m.chan ≤ count) (moves_from 1 slots.now) }
-    ensures most { result ≤ count }
-    ensures list { take result list.new ≡ moves_from 1 slots.now }
-{
-    let mut len = 0;
-    for index in 0..count {
-        len = keep(slots[index], index, list, len);
-    }
-    len
-}
-
-/// Writes the move in the slot of an index at a place, and says where the next one goes. Where there is none something is written too and
-/// the place stays, so that no branch asks for it.
-#[inline(always)]
-fn keep(slot: Option<Slot>, index: usize, list: &mut [Move], at: usize) -> usize
-    requires index { index < CHANNELS }
-    requires room { at < length list.old }
+fn keep(entry: Move, there: bool, list: &mut [Move], at: usize) -> usize
+    requires { at < length list.old }
     ensures long { length list.new ≡ length list.old }
-    ensures list { take result list.new ≡ take at list.old ++ slot_moves (index + 1) slot }
+    ensures list { take result list.new ≡ take at list.old ++ (if there then entry ∷ [] else []) }
     ensures most { result ≤ at + 1 }
 {
-    let (part, level, count) = match slot {
-        Some(slot) => (slot.part, slot.level, 1),
-        None => (PartNo::BASE, 0, 0),
-    };
-    list[at] = Move {
-        chan: channel(index),
-        part,
-        level,
-    };
-    at + count
+    list[at] = entry;
+    at + usize::from(there)
 }
 
-/// Any move, to fill a list with.
-fn any_move() -> Move {
+/// A move of the channel of an index, to fill a row with.
+fn any_move(index: usize) -> Move
+    requires { index < CHANNELS }
+    ensures { result.chan ≡ index + 1 }
+{
     Move {
-        chan: channel(0),
+        chan: channel(index),
         part: PartNo::BASE,
         level: 0,
     }

@@ -1,27 +1,33 @@
 use Rattle.std.proofs.Common.{ap, ◌∙◌, subst}
 use Rattle.lx_lex.specs.Left.{left}
 use Rattle.lx_reader.specs.FieldLists.{onto}
-use Rattle.lx_reader.specs.OpenMoves.{ReadsLevels, moves_from}
+use Rattle.lx_reader.specs.OpenMoves.{ReadsLevels}
 use Rattle.lx_reader.proofs.OpenMoves.{level_alone, levels_none, levels_then}
 use Rattle.lx_reader.proofs.open_moves.put_line.Goals as goal
 
-pub loop-member-init : goal.loop-member-init
-loop-member-init c = levels_none c.args.i c.args.part c.args.least (left c.args.tokens) (moves_from 1 c.args.slots.now)
+pub loop-tokens-init : goal.loop-tokens-init
+loop-tokens-init c = levels_none c.args.i c.args.part c.args.least (left c.args.tokens) c.args.row.now
 
-pub loop-member-preserved : goal.loop-member-preserved
-loop-member-preserved c =
+pub loop-tokens-preserved : goal.loop-tokens-preserved
+loop-tokens-preserved c =
     let next = rw c.in-Ok-Some.field-0-is at c.in-Ok-Some.ensures.list in
     let put = c.put-greatest.ensures in
-    levels_then (levels_then c.loop-member.invariant (c.put_near.ensures.levels c.args.i))
+    levels_then (levels_then c.loop-tokens.invariant (c.put_near.ensures.levels c.args.i))
     (level_alone next put.valid put.moves put.greater)
 
 pub returns-in-Ok-None-clause-levels : goal.returns-in-Ok-None-clause-levels
 returns-in-Ok-None-clause-levels c =
     let none = rw c.in-Ok-None.field-0-is at c.in-Ok-None.ensures.list in
-    subst (λ rest. ReadsLevels c.args.i c.args.part c.args.least (left c.args.tokens) rest c.put_near.result.1 (moves_from 1 c.args.slots.now)
-    (moves_from 1 c.put_near.new.slots)) none (levels_then c.loop-member.invariant (c.put_near.ensures.levels c.args.i))
+    subst (λ rest. ReadsLevels c.args.i c.args.part c.args.least (left c.args.tokens) rest c.put_near.result.1 c.args.row.now
+    c.put_near.new.row) none (levels_then c.loop-tokens.invariant (c.put_near.ensures.levels c.args.i))
 
 pub returns-in-Err-clause-fault : goal.returns-in-Err-clause-fault
 returns-in-Err-clause-fault c =
-    let so_far = levels_then c.loop-member.invariant (c.put_near.ensures.levels c.args.i) in
+    let so_far = levels_then c.loop-tokens.invariant (c.put_near.ensures.levels c.args.i) in
     so_far.list ∙ ap (onto so_far.members) c.in-Err.ensures.list
+
+pub returns-then-is_at_end-clause-levels : goal.returns-then-is_at_end-clause-levels
+returns-then-is_at_end-clause-levels c =
+    subst (λ rest. ReadsLevels c.args.i c.args.part c.args.least (left c.args.tokens) rest c.put_near.result.1 c.args.row.now
+    c.put_near.new.row) (c.is_at_end.ensures c.if-is_at_end.true)
+    (levels_then c.loop-tokens.invariant (c.put_near.ensures.levels c.args.i))

@@ -1,13 +1,12 @@
 use Rattle.std.proofs.Common.{arith, length, ap}
 use Rattle.lx_lex.specs.Left.{left}
-use Rattle.lx_reader.specs.OpenMoves.{moves_from}
 use Rattle.lx_reader.proofs.OpenMoves.{level_alone, levels_none, levels_then}
 use Rattle.lx_reader.proofs.Pairs.{member_first}
 use Rattle.lx_reader.proofs.open_moves.put_near.Goals as goal
 
 pub loop-member-init : goal.loop-member-init
 loop-member-init c = record {
-  levels = λ i. levels_none i c.args.part c.args.least (left c.args.tokens) (moves_from 1 c.args.slots.now);
+  levels = λ i. levels_none i c.args.part c.args.least (left c.args.tokens) c.args.row.now;
   fewer = omega arith;
 }
 

@@ -1,12 +1,12 @@
 use Rattle.std.proofs.Common.{ℕ, ◌≤◌, length}
 use Rattle.lx_lex.specs.Left.{left}
-use Rattle.lx_reader.specs.OpenMoves.{ReadsLevels, moves_from}
+use Rattle.lx_reader.specs.OpenMoves.{ReadsLevels}
 use Rattle.lx_reader.proofs.open_moves.put_near.Given as goal
 
 abbrev pub invariant-loop-member : goal.invariant-loop-member
 invariant-loop-member l = record {
-  levels : (i : ℕ) → ReadsLevels i l.part l.least (left l.fn.tokens) (left l.tokens) l.greatest (moves_from 1 l.initial.slots)
-      (moves_from 1 l.slots);
+  levels : (i : ℕ) → ReadsLevels i l.part l.least (left l.fn.tokens) (left l.tokens) l.greatest l.initial.row
+      l.row;
   fewer : length (left l.tokens) ≤ length (left l.fn.tokens);
 }
 
