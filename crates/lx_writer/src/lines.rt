@@ -2,7 +2,8 @@
 #![tactic(auto, using(lx_io::proofs::Chain::puts))]
 
 ghost use Rattle.std.specs.Prelude.{◌≡◌, ◌==◌, true, ◌+◌, ◌-◌, ◌<◌, ◌≤◌, [], ◌++◌, ◌∷◌, codes, decimal, filter, take, flat_map, length};
-ghost use Rattle.std.specs.Prelude.{slice_index_or};
+ghost use Rattle.std.specs.Prelude.{false, IfSome, slice_index_or};
+ghost use Rattle.std.specs.List.{AllByRecursion};
 ghost use Rattle.lx_io.specs.Puts.{Puts};
 ghost use Rattle.lx_writer.specs.declared.lines.TheConstants.{PIECE_MOVES};
 ghost use Rattle.lx_base.specs.declared.TheConstants.{CHANNELS};
@@ -83,16 +84,50 @@ fn are_apart(moves: &[Move], part: PartNo) -> bool
     }
 }
 
-/// The same, where each of them is looked at: without an early end, so that the compiler looks at many at once.
+/// The same, where more than the first of them are looked at: eight a turn, each by one comparison. Made vectors of, as the compiler does
+/// where there is no early end, it took twice as long, since the parts stand four bytes apart.
 #[inline(never)]
 fn are_all_apart(moves: &[Move], part: PartNo) -> bool
     ensures { result ≡ true → flat_map move_text (filter (λ entry. entry.part == part) moves.now) ≡ [] }
 {
-    let mut apart = true;
-    for entry in moves {
-        apart &= !stands_in(entry, part);
+    let mut left = moves;
+    while let Some(rest) = past_eight(left, part) {
+        left = rest;
     }
-    apart
+    have_none(left, part)
+}
+
+/// None of the moves stands in the part: the same, one by one.
+fn have_none(moves: &[Move], part: PartNo) -> bool
+    ensures { result ≡ true → filter (λ entry. entry.part == part) moves.now ≡ [] }
+{
+    for entry in moves {
+        if stands_in(entry, part) {
+            return false;
+        }
+    }
+    true
+}
+
+/// What follows the first eight moves, where there are as many and none of them stands in the part.
+#[inline(always)]
+fn past_eight(moves: &[Move], part: PartNo) -> Option<&[Move]>
+    ensures same { IfSome result (λ rest. filter (λ entry. entry.part == part) moves.now ≡ filter (λ entry. entry.part == part) rest.now) }
+    ensures fewer { IfSome result (λ rest. length rest.now < length moves.now) }
+{
+    match moves {
+        [a, b, c, d, e, f, g, h, rest @ ..]
+            if !have_one(a, b, c, d, part) && !have_one(e, f, g, h, part) => { Some(rest) }
+        _ => None,
+    }
+}
+
+/// One of four moves stands in the part.
+#[inline(always)]
+fn have_one(a: &Move, b: &Move, c: &Move, d: &Move, part: PartNo) -> bool
+    ensures { result ≡ false → AllByRecursion (λ entry. (entry.part == part) ≡ false) (a.now ∷ b.now ∷ c.now ∷ d.now ∷ []) }
+{
+    stands_in(a, part) || stands_in(b, part) || stands_in(c, part) || stands_in(d, part)
 }
 
 /// Writes the lines of some moves at the front of the text, and says where they end. The first word of a line is written behind the
