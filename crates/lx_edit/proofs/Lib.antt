@@ -12,3 +12,4 @@ pub mod SameLists
 pub mod TakenBack
 pub mod NothingKept
 pub mod PlacedMoves
+pub mod MendedSheets

@@ -1,14 +1,14 @@
 -- What a channel sees of a cue that is changed, added or taken out.
-use Rattle.std.specs.Prelude.{◌≡◌, ℕ, ◌-◌, ◌≤◌, true, List, [], option_map, find, Bool, false, ◌||◌, Option, Some, None, is_some, option_and_then, if◌then◌else◌}
+use Rattle.std.specs.Prelude.{◌≡◌, ℕ, ◌-◌, ◌<◌, ◌≤◌, true, List, [], Bool, false, ◌||◌, Option, Some, None, is_some, option_and_then, if◌then◌else◌}
 use Rattle.std.specs.Option.{option_map_or, option_or, IsSomeAnd}
 use Rattle.std.specs.List.{AllByRecursion}
 use Rattle.lx_spec.specs.declared.Move.{Move}
 use Rattle.lx_spec.specs.Show.{Cue, Show, Valid, InRange}
-use Rattle.lx_spec.specs.SortedList.{entries_above, entry_at}
-use Rattle.lx_spec.specs.TrackedLevel.{cue_of, move_in, move_of, tracked, decides}
+use Rattle.lx_spec.specs.SortedList.{entry_at}
+use Rattle.lx_spec.specs.TrackedLevel.{cue_of, move_in, move_of, tracked}
 use Rattle.lx_spec.specs.EditedShow.{with_cue}
-use Rattle.lx_sheet.specs.Rows.{Sheet}
-use Rattle.lx_sheet.specs.SheetMeaning.{RowsStandFor, next_decision}
+use Rattle.lx_sheet.specs.Rows.{Sheet, level_of, numbers_of}
+use Rattle.lx_sheet.specs.SheetMeaning.{IsMarked, RowsStandFor, StandsIn, cue_numbers, next_decision}
 use Rattle.lx_spec.specs.Laws.{SameColumn}
 use Rattle.lx_edit.specs.declared.chan_set.ChanSet.{ChanSet}
 use Rattle.lx_edit.specs.ChanSet.{has_chan}
@@ -63,6 +63,16 @@ column_end to show n c = option_or to (next_decision show n c)
 -- a number from there on
 abbrev pub IsPast : Option ℕ → Show → ℕ → ℕ → ℕ → Type 0
 IsPast to show n c m = IsSomeAnd (column_end to show n c) (λ end. end ≤ m)
+
+-- The columns that are left to be mended: the sheet stands for the show in each column below a number, and from where the channel's
+-- changed levels end on, and in all of the column of a channel that isn't in the set. What the cues decide is marked.
+pub record CanMend (show : Show) (sheet : Sheet) (from : ℕ) (to : Option ℕ) (chans : ChanSet) : Type 0 where
+  pub channels : sheet.channels ≡ show.channels
+  pub numbers : numbers_of sheet ≡ cue_numbers show
+  pub below : (c n : ℕ) → n < from → level_of sheet n c ≡ tracked show n c
+  pub later : (c n : ℕ) → IsPast to show from c n → level_of sheet n c ≡ tracked show n c
+  pub others : (c : ℕ) → has_chan chans c ≡ false → StandsIn show c sheet
+  pub marks : IsMarked show sheet
 
 -- The show came of another, for which the sheet stands, by a cue put in the place of the one of the number. A channel that isn't in the set
 -- sees no difference.

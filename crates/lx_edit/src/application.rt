@@ -1,14 +1,13 @@
 //! A plan applied: the show becomes the edited one, the sheet follows, and the plan that takes it back is made of
 //! what was replaced. No call takes memory.
 
-ghost use Rattle.std.specs.Prelude.{◌≡◌, ◌≢◌, ◌<◌, ◌≤◌, ℕ, false, None, IfSome};
+ghost use Rattle.std.specs.Prelude.{◌≡◌, ◌≢◌, ◌≤◌, ℕ, false, None, IfSome};
 ghost use Rattle.lx_spec.specs.Show.{ValidGroup, ValidSub};
-ghost use Rattle.lx_spec.specs.TrackedLevel.{cue_of, tracked};
+ghost use Rattle.lx_spec.specs.TrackedLevel.{cue_of};
 ghost use Rattle.lx_spec.specs.EditedShow.{with_cue, without_cue};
-ghost use Rattle.lx_sheet.specs.Rows.{level_of, numbers_of};
-ghost use Rattle.lx_sheet.specs.SheetMeaning.{RowsStandFor, StandsIn, cue_numbers};
-ghost use Rattle.lx_edit.specs.ChanSet.{has_chan};
-ghost use Rattle.lx_edit.specs.CueChanges.{Grows, KeepsLevels, KeepsOthers, IsPast, Replaced};
+ghost use Rattle.lx_sheet.specs.Rows.{level_of};
+ghost use Rattle.lx_sheet.specs.SheetMeaning.{RowsStandFor, StandsIn};
+ghost use Rattle.lx_edit.specs.CueChanges.{CanMend, Grows, KeepsLevels, KeepsOthers, Replaced};
 ghost use Rattle.lx_edit.specs.PlanMeaning.{planned, with_above, CanPlace, KeepsAbove, IsReady, dimmer_planned, plans_sub};
 ghost use Rattle.lx_edit.specs.Undone.{TakesBack, cue_instead};
 
@@ -224,13 +223,15 @@ fn place_alone(
     mark_change(chans, show, sheet, end, Some(&above));
     let old = show.exchange_cue(cue);
     let _ = show.channels();
+    sheet.mark(show, n);
     let old_above = show.exchange_cue(above);
     let _ = show.channels();
+    sheet.mark(show, end);
     mend(sheet, show, n, Some(end), chans);
     kept_back(n, old, old_above)
 }
 
-/// Places the move in the cue, in the place of the one of its channel.
+/// Places the move in the cue, in the place of the one of its channel. The cue moved the channel before, so its marks hold.
 fn place_move(show: &mut Show, sheet: &mut Sheet, n: CueNo, entry: &Move) -> Exchanged
     requires ready { IsReady show.old (Plan.PlaceMove n entry.now) }
     requires sheet { RowsStandFor show.old sheet.old }
@@ -245,7 +246,7 @@ fn place_move(show: &mut Show, sheet: &mut Sheet, n: CueNo, entry: &Move) -> Exc
     let old = show.exchange_move_in(n, *entry);
     let mut chans = ChanSet::empty();
     mark_move(&mut chans, entry, &old);
-    mend_cue(sheet, show, n, &chans);
+    mend_columns(sheet, show, n, &None, &chans);
     Exchanged {
         dirty: Dirty::of_cues(chans),
         undo: Plan::PlaceMove { cue: n, entry: old },
@@ -391,8 +392,8 @@ fn remove_cue(show: &mut Show, sheet: &mut Sheet, chans: &mut ChanSet, n: CueNo)
     old
 }
 
-/// A cue was put in the place of the one of its number: the rows follow. The channels that see a difference are among
-/// these.
+/// A cue was put in the place of the one of its number: the rows and its marks follow. The channels that see a difference
+/// are among these.
 fn mend_cue(sheet: &mut Sheet, show: &Show, n: CueNo, chans: &ChanSet)
     requires { Replaced show.now sheet.old n chans.now }
     ensures { RowsStandFor show.now sheet.new }
@@ -400,6 +401,7 @@ fn mend_cue(sheet: &mut Sheet, show: &Show, n: CueNo, chans: &ChanSet)
     if chans.is_large() {
         sheet.replace_row(show, n);
     } else {
+        sheet.mark(show, n);
         mend_columns(sheet, show, n, &None, chans);
     }
 }
@@ -407,11 +409,7 @@ fn mend_cue(sheet: &mut Sheet, show: &Show, n: CueNo, chans: &ChanSet)
 /// A cue was changed in its place: the columns of these channels are filled in anew from it on, up to the
 /// given end, or the whole sheet where they are many.
 fn mend(sheet: &mut Sheet, show: &Show, from: CueNo, to: Option<CueNo>, chans: &ChanSet)
-    requires channels { sheet.old.channels ≡ show.now.channels }
-    requires numbers { numbers_of sheet.old ≡ cue_numbers show.now }
-    requires below { (c n : ℕ) → n < from → level_of sheet.old n c ≡ tracked show.now n c }
-    requires later { (c n : ℕ) → IsPast to show.now from c n → level_of sheet.old n c ≡ tracked show.now n c }
-    requires others { (c : ℕ) → has_chan chans.now c ≡ false → StandsIn show.now c sheet.old }
+    requires { CanMend show.now sheet.old from to chans.now }
     ensures { RowsStandFor show.now sheet.new }
 {
     if chans.is_large() {
@@ -423,11 +421,7 @@ fn mend(sheet: &mut Sheet, show: &Show, from: CueNo, to: Option<CueNo>, chans: &
 
 /// The columns of these channels are filled in anew.
 fn mend_columns(sheet: &mut Sheet, show: &Show, from: CueNo, to: &Option<CueNo>, chans: &ChanSet)
-    requires channels { sheet.old.channels ≡ show.now.channels }
-    requires numbers { numbers_of sheet.old ≡ cue_numbers show.now }
-    requires below { (c n : ℕ) → n < from → level_of sheet.old n c ≡ tracked show.now n c }
-    requires later { (c n : ℕ) → IsPast to.now show.now from c n → level_of sheet.old n c ≡ tracked show.now n c }
-    requires others { (c : ℕ) → has_chan chans.now c ≡ false → StandsIn show.now c sheet.old }
+    requires { CanMend show.now sheet.old from to.now chans.now }
     ensures { RowsStandFor show.now sheet.new }
 {
     let mut k = 1;
@@ -451,15 +445,10 @@ fn mend_column(
     chans: &ChanSet,
     c: Chan,
 )
-    requires channels { sheet.old.channels ≡ show.now.channels }
-    requires numbers { numbers_of sheet.old ≡ cue_numbers show.now }
-    requires below { (x n : ℕ) → n < from → level_of sheet.old n x ≡ tracked show.now n x }
-    requires later { (x n : ℕ) → IsPast to.now show.now from x n → level_of sheet.old n x ≡ tracked show.now n x }
-    requires others { (x : ℕ) → has_chan chans.now x ≡ false → StandsIn show.now x sheet.old }
+    requires { CanMend show.now sheet.old from to.now chans.now }
     ensures column { StandsIn show.now c sheet.new }
+    ensures others { CanMend show.now sheet.new from to.now chans.now }
     ensures stays { (x n : ℕ) → x ≢ c → level_of sheet.new n x ≡ level_of sheet.old n x }
-    ensures channels { sheet.new.channels ≡ sheet.old.channels }
-    ensures numbers { numbers_of sheet.new ≡ numbers_of sheet.old }
 {
     if !chans.contains(c) {
         return;

@@ -12,6 +12,7 @@ use Rattle.std.proofs.lemmas.List.Sorted.{IsPermutation-insert, IsPermutation-re
 use Rattle.lx_spec.specs.Show.{Cue, Show}
 use Rattle.lx_spec.specs.SortedList.{IsStrictlySorted}
 use Rattle.lx_sheet.specs.declared.sheet.Place.{Place}
+use Rattle.lx_sheet.specs.declared.marks.Marks.{Marks}
 use Rattle.lx_sheet.specs.Block.{Covers, cell, own_rows, placed_from, row_at_place, width}
 use Rattle.lx_sheet.specs.SheetMeaning.{RowsStandFor}
 use Rattle.lx_sheet.proofs.Cells.{cell_is, cell_past, cell_zero}
@@ -60,19 +61,25 @@ covers_removed channels levels old at within covers =
     (all_tail P row (remove rows at)
     (All-permutation P rows (row ∷ remove rows at) (IsPermutation-remove rows at row there (get_or_default rows at 0 row there)) covers))
 
--- the rows of cues that were listed, where the block is as long
+-- what is true of each row of cues that were listed
+pub listed_rows : (P : ℕ → Type 0) (order : List Place) (cues : List Cue) → order ≡ placed_from 0 cues → ((r : ℕ) → r < length cues → P r)
+    → All P (own_rows order)
+listed_rows P order cues listed each =
+    subst (All P) (sym (ap own_rows listed ∙ own-placed_from 0 cues)) (λ k d within.
+    let less : k < length cues = omega (arith, length-range_with_len 0 (length cues)) in
+    let row : k ≡ get_or (range_with_len 0 (length cues)) k d =
+    omega (arith, get_or-range_with_len 0 (length cues) k d less) in
+    subst P row (each k less))
+
+-- the block covers them where it is as long
 pub covers_listed : (channels : ℕ) (levels : List ℕ) (order : List Place) (cues : List Cue) → order ≡ placed_from 0 cues
     → length cues * width channels ≤ length levels → Covers channels levels order
 covers_listed channels levels order cues listed long =
-    let P : ℕ → Type 0 = λ r. (r + 1) * width channels ≤ length levels in
-    subst (All P) (sym (ap own_rows listed ∙ own-placed_from 0 cues)) (λ k d within.
-    let less : k < length cues = omega (arith, length-range_with_len 0 (length cues)) in
-    let here : get_or (range_with_len 0 (length cues)) k d ≡ 0 + k = get_or-range_with_len 0 (length cues) k d less in
-    let row : k ≡ get_or (range_with_len 0 (length cues)) k d = omega (arith, here) in
-    subst P row (omega (arith, long, mul-le-mul_right {m = k + 1} {n = length cues} channels (omega arith))))
+    listed_rows (λ r. (r + 1) * width channels ≤ length levels) order cues listed
+    (λ r less. omega (arith, long, mul-le-mul_right {m = r + 1} {n = length cues} channels (omega arith)))
 
 -- what isn't there reads as 0, and so does what is new
-grown : (levels : List ℕ) (n i : ℕ) → get_or (levels ++ replicate n 0) i 0 ≡ get_or levels i 0
+pub grown : (levels : List ℕ) (n i : ℕ) → get_or (levels ++ replicate n 0) i 0 ≡ get_or levels i 0
 grown levels n i =
     elim (cases_lt i (length levels)) [
       | inl within ↦ get_or_append_left levels (replicate n 0) 0 i within
@@ -95,14 +102,15 @@ cell_grown channels levels n r (suc c) =
     ]
 
 -- the sheet of a block with the same levels stands for the same show
-pub stands_same : (show : Show) (channels : ℕ) (order : List Place) (old new : List ℕ) → IsStrictlySorted (λ p. p.cue) order
-    → ((r c : ℕ) → cell channels new r c ≡ cell channels old r c) → RowsStandFor show (sheet_of channels order old)
-    → RowsStandFor show (sheet_of channels order new)
-stands_same show channels order old new sorted same stands = record {
+pub stands_same : (show : Show) (channels : ℕ) (order : List Place) (old new : List ℕ) (marks : Marks) → IsStrictlySorted (λ p. p.cue) order
+    → ((r c : ℕ) → cell channels new r c ≡ cell channels old r c) → RowsStandFor show (sheet_of channels order old marks)
+    → RowsStandFor show (sheet_of channels order new marks)
+stands_same show channels order old new marks sorted same stands = record {
   channels = stands.channels;
   numbers = numbers-rows_of channels order new ∙ sym (numbers-rows_of channels order old) ∙ stands.numbers;
   columns = λ c n.
       level_of_block channels order new n c sorted
       ∙ last_value_same (count_up_to n (map (λ (p : Place). p.cue) order)) _ _ (λ k less. same (row_at_place order k) c)
       ∙ sym (level_of_block channels order old n c sorted) ∙ stands.columns c n;
+  marks = stands.marks;
 }

@@ -1,6 +1,6 @@
 -- A column that was filled in from a cue on stands for the show.
-use Rattle.std.proofs.Common.{◌≡◌, ℕ, zero, suc, ◌+◌, ◌<◌, ◌≤◌, true, false, List, [], ◌∷◌, length, map, take, refl}
-use Rattle.std.proofs.Common.{◌∙◌, sym, ap, subst, arith, inl, inr}
+use Rattle.std.proofs.Common.{◌≡◌, ℕ, zero, suc, ◌+◌, ◌<◌, ◌≤◌, true, false, List, [], ◌∷◌, length, get_or, map, take, refl}
+use Rattle.std.proofs.Common.{◌∙◌, sym, ap, arith, inl, inr}
 use Rattle.std.specs.Prelude.{Option, Some, None, IfSome, find, option_map, slice_get}
 use Rattle.std.specs.Option.{IsSomeAnd}
 use Rattle.std.specs.List.{AllByRecursion}
@@ -12,26 +12,26 @@ use Rattle.lx_spec.proofs.Comparisons.{le_false, le_true, lt_false, lt_true}
 use Rattle.lx_spec.proofs.Lists.{each, filter_all, filter_none, found_has, kept_by}
 use Rattle.lx_show.specs.Around.{entries_up_to}
 use Rattle.lx_sheet.specs.declared.sheet.Place.{Place}
-use Rattle.lx_sheet.specs.Rows.{level_of}
-use Rattle.lx_sheet.specs.Block.{cue_level, last_value, count_under}
+use Rattle.lx_sheet.specs.Rows.{level_by}
+use Rattle.lx_sheet.specs.Block.{rows_of, cue_level, last_value, count_under}
 use Rattle.lx_sheet.specs.After.{level_after, IsDecision, IsEnd, IsRight}
 use Rattle.lx_sheet.specs.SheetMeaning.{cue_numbers, next_decision}
-use Rattle.lx_sheet.proofs.RightRows.{IsOrderOf, column_right, last_right, none_left, right_below, right_past, sorted_numbers, until}
-use Rattle.lx_sheet.proofs.Rows.{sheet_of}
+use Rattle.lx_sheet.proofs.RightRows.{IsOrderOf, column_right, count_under-map, last_right, none_left, right_at, right_below, sorted_numbers, until}
 
 -- a column whose rows up to a place were filled in, and whose rows from there on stood, where `last` is that place
 pub column_filled : (show : Show) (channels : ℕ) (order given : List Place) (old before new : List ℕ) (cues : List Cue)
-    (from chan first last : ℕ) (to : Option ℕ) → given ≡ order → before ≡ old → cues ≡ show.cues → IsOrderOf show order
-    → first ≡ count_under from (cue_numbers show) → last ≡ until to show.cues
-    → ((n : ℕ) → n < from → level_of (sheet_of channels order old) n chan ≡ tracked show n chan)
-    → IfSome to (λ end. (n : ℕ) → end ≤ n → level_of (sheet_of channels order old) n chan ≡ tracked show n chan)
+    (from chan first last : ℕ) → given ≡ order → before ≡ old → cues ≡ show.cues → IsOrderOf show order
+    → first ≡ count_under from (cue_numbers show)
+    → ((n : ℕ) → n < from → level_by (rows_of channels order old) n chan ≡ tracked show n chan)
+    → ((k : ℕ) → last ≤ k → k < length show.cues
+    → level_by (rows_of channels order old) (get_or (cue_numbers show) k 0) chan ≡ tracked show (get_or (cue_numbers show) k 0) chan)
     → ((k : ℕ) → k < first → cue_level channels given new k chan ≡ cue_level channels given before k chan)
     → ((k : ℕ) → last ≤ k → k < length cues → cue_level channels given new k chan ≡ cue_level channels given before k chan)
     → (last_value first (λ k. cue_level channels given before k chan) ≡ level_after (take first cues) chan → (k : ℕ) → first ≤ k → k < last
     → IsRight channels given cues new k chan)
-    → (n : ℕ) → level_of (sheet_of channels order new) n chan ≡ tracked show n chan
-column_filled show channels order given old before new cues from chan first last to of_order of_old of_cues is of_first of_last below above
-    front back rows =
+    → (n : ℕ) → level_by (rows_of channels order new) n chan ≡ tracked show n chan
+column_filled show channels order given old before new cues from chan first last of_order of_old of_cues is of_first below above front
+    back rows =
     let stood : (k : ℕ) → k < first → IsRight channels order show.cues old k chan =
     λ k less. right_below show from channels order old chan k is below (omega (arith, of_first, less)) in
     let start : last_value first (λ k. cue_level channels given before k chan) ≡ level_after (take first cues) chan =
@@ -53,7 +53,7 @@ column_filled show channels order given old before new cues from chan first last
             ∙ ap (λ (xs : List Cue). level_after (take (k + 1) xs) chan) of_cues
         | inr past ↦
             stays k (back k past (omega (arith, ap length of_cues, within)))
-            ∙ right_past show to last channels order old chan k is of_last above past within
+            ∙ right_at show channels order old chan k is within (above k past within)
       ]
     ])
 
@@ -138,13 +138,13 @@ fewer n (x ∷ xs) = elim (cases_lt x.number n) [
 ]
 
 -- it was filled in up to the next decision above the number
-pub end_is_decision : (show : Show) (cues : List Cue) (from chan first next end : ℕ) → cues ≡ show.cues
-    → IsStrictlySorted (λ x. x.number) show.cues → first ≡ length (entries_below (λ x. x.number) from cues)
-    → next ≡ length (entries_up_to (λ x. x.number) from cues) → IsEnd cues chan first next (length cues) end
-    → end ≡ until (next_decision show from chan) show.cues
-end_is_decision show cues from chan first next end of_cues sorted of_first of_next is =
-    let key : Cue → ℕ = λ x. x.number in
-    subst (λ (xs : List Cue). end ≡ until (option_map key (find (λ x. decides x chan) (entries_above key from xs))) xs) of_cues
-    (decision_above chan from end cues (subst (IsStrictlySorted key) (sym of_cues) sorted) is.most
-    (λ k least less. is.passed k (omega (arith, of_first, fewer from cues, least)) (omega (arith, of_next, least)) less)
-    (λ less. record { least = omega (arith, of_next, (is.stops less).least); decides = (is.stops less).decides }))
+pub end_is_decision : (show : Show) (from chan next to end : ℕ) → IsStrictlySorted (λ x. x.number) show.cues
+    → next ≡ length (entries_up_to (λ x. x.number) from show.cues) → to ≡ length show.cues
+    → IsEnd show.cues chan (count_under from (cue_numbers show)) next to end → end ≡ until (next_decision show from chan) show.cues
+end_is_decision show from chan next to end sorted of_next of_to is =
+    let first : length (entries_below (λ x. x.number) from show.cues) ≡ count_under from (cue_numbers show) =
+    count_under-map (λ (x : Cue). x.number) from show.cues in
+    decision_above chan from end show.cues sorted (omega (arith, is.most, of_to))
+    (λ k least less. is.passed k (omega (arith, first, fewer from show.cues, least)) (omega (arith, of_next, least)) less)
+    (λ less. let stops : IsDecision show.cues chan next end = is.stops (omega (arith, of_to, less)) in
+    record { least = omega (arith, of_next, stops.least); decides = stops.decides })

@@ -1,7 +1,7 @@
 -- The row of a number, as it stands in the block, and what it is where the sheet stands for a show.
 use Rattle.std.proofs.Common.{◌≡◌, ◌≢◌, ℕ, zero, suc, ◌+◌, ◌-◌, ◌*◌, ◌<◌, ◌≤◌, true, false, cond, List, [], ◌∷◌, length, get_or, take}
 use Rattle.std.proofs.Common.{drop, map}
-use Rattle.std.proofs.Common.{Some, None, refl, ◌∙◌, sym, ap, arith}
+use Rattle.std.proofs.Common.{Some, None, refl, ◌∙◌, sym, ap, subst, arith}
 use Rattle.std.specs.Prelude.{Option, is_some, option_map, slice_get, ◌==◌, ◌||◌}
 use Rattle.std.specs.List.{list_any}
 use Rattle.std.proofs.lemmas.Bool.{false≢true}
@@ -16,7 +16,8 @@ use Rattle.lx_spec.specs.TrackedLevel.{cue_of, tracked}
 use Rattle.lx_spec.specs.Replies.{row_of}
 use Rattle.lx_show.proofs.Indexes.{up_to_there}
 use Rattle.lx_sheet.specs.declared.sheet.Place.{Place}
-use Rattle.lx_sheet.specs.Rows.{Row, row_at, numbers_of, level_of}
+use Rattle.lx_sheet.specs.declared.marks.Marks.{Marks}
+use Rattle.lx_sheet.specs.Rows.{Row, level_by}
 use Rattle.lx_sheet.specs.Block.{Covers, row_at_place, rows_of, cell, cue_level, last_value, width}
 use Rattle.lx_sheet.specs.SheetMeaning.{RowsStandFor, cue_numbers}
 use Rattle.lx_sheet.proofs.Rows.{count_up_to, count_up_to-map, sheet_of, level_of_block, row_of_place, numbers-rows_of}
@@ -56,6 +57,18 @@ row_of_number channels (p ∷ order) levels n (suc k) d sorted within here =
     let above : p.cue < (get_or order k d).cue = All-from_recursion (λ (q : Place). p.cue < q.cue) order sorted.0 k d (omega arith) in
     rw (eq_below p.cue n (omega (arith, here, above))) (row_of_number channels order levels n k d sorted.1 (omega arith) here)
 
+-- where a number stands, told of the order and the number themselves
+pub place_is : (n m at : ℕ) (lent order : List Place) → m ≡ n → lent ≡ order → StandsAt (λ p. p.cue) m lent at
+    → StandsAt (λ p. p.cue) n order at
+place_is n m at lent order number same stands =
+    subst (λ (k : ℕ). StandsAt (λ p. p.cue) k order at) number (subst (λ (xs : List Place). StandsAt (λ p. p.cue) m xs at) same stands)
+
+pub absent_is : (n m : ℕ) (lent order : List Place) → m ≡ n → lent ≡ order → entry_at (λ p. p.cue) m lent ≡ None
+    → entry_at (λ p. p.cue) n order ≡ None
+absent_is n m lent order number same absent =
+    subst (λ (k : ℕ). entry_at (λ p. p.cue) k order ≡ None) number
+    (subst (λ (xs : List Place). entry_at (λ p. p.cue) m xs ≡ None) same absent)
+
 -- where a number stands in the order
 pub stands_number : (order : List Place) (n at : ℕ) (d : Place) → StandsAt (λ p. p.cue) n order at → (get_or order at d).cue ≡ n
 stands_number order n at d stands =
@@ -64,7 +77,7 @@ stands_number order n at d stands =
 pub row_found : (channels : ℕ) (order : List Place) (levels : List ℕ) (n at : ℕ) → IsStrictlySorted (λ x. x.cue) order
     → StandsAt (λ x. x.cue) n order at
     → Some (take channels (drop (row_at_place order at * width channels) levels))
-    ≡ option_map (λ r. r.levels) (row_at (sheet_of channels order levels) n)
+    ≡ option_map (λ r. r.levels) (entry_at (λ r. r.number) n (rows_of channels order levels))
 row_found channels order levels n at sorted stands =
     let d : Place = record { cue = 0; row = 0 } in
     let p : Place = get_or order at d in
@@ -75,26 +88,26 @@ row_found channels order levels n at sorted stands =
     ∙ row_of_place channels order levels at p stands.within is))
 
 pub row_absent : (channels : ℕ) (order : List Place) (levels : List ℕ) (n : ℕ) → entry_at (λ p. p.cue) n order ≡ None
-    → None ≡ option_map (λ r. r.levels) (row_at (sheet_of channels order levels) n)
+    → None ≡ option_map (λ r. r.levels) (entry_at (λ r. r.number) n (rows_of channels order levels))
 row_absent channels order levels n absent =
-    not_there (row_at (sheet_of channels order levels) n) (λ r. r.levels)
+    not_there (entry_at (λ r. r.number) n (rows_of channels order levels)) (λ r. r.levels)
     (same_numbers (λ (r : Row). r.number) (λ (p : Place). p.cue) n (rows_of channels order levels) order
     (numbers-rows_of channels order levels) ∙ ap is_some absent)
 
 pub cue_absent : {B : Type 0} (show : Show) (channels : ℕ) (order : List Place) (levels : List ℕ) (n : ℕ) (f : Cue → B)
-    → numbers_of (sheet_of channels order levels) ≡ cue_numbers show → entry_at (λ p. p.cue) n order ≡ None
+    → map (λ r. r.number) (rows_of channels order levels) ≡ cue_numbers show → entry_at (λ p. p.cue) n order ≡ None
     → None ≡ option_map f (cue_of show n)
 cue_absent show channels order levels n f numbers absent =
     not_there (cue_of show n) f (sym (same_numbers (λ (p : Place). p.cue) (λ (cue : Cue). cue.number) n order show.cues
     (sym (numbers-rows_of channels order levels) ∙ numbers)) ∙ ap is_some absent)
 
 -- the row of a sheet that stands for a show
-pub row_right : (show : Show) (channels : ℕ) (order : List Place) (levels : List ℕ) (n at : ℕ) → Covers channels levels order
-    → IsStrictlySorted (λ p. p.cue) order
-    → StandsAt (λ p. p.cue) n order at → RowsStandFor show (sheet_of channels order levels)
+pub row_right : (show : Show) (channels : ℕ) (order : List Place) (levels : List ℕ) (marks : Marks) (n at : ℕ)
+    → Covers channels levels order → IsStrictlySorted (λ p. p.cue) order
+    → StandsAt (λ p. p.cue) n order at → RowsStandFor show (sheet_of channels order levels marks)
     → take channels (drop (row_at_place order at * width channels) levels) ≡ row_of show n
 unfolding cell
-row_right show channels order levels n at room sorted place stands =
+row_right show channels order levels marks n at room sorted place stands =
     let row : ℕ = row_at_place order at in
     let most : (row + 1) * width channels ≤ length levels = covered_at channels levels order at room place.within in
     let long : length (take channels (drop (row * width channels) levels)) ≡ channels =
@@ -118,30 +131,30 @@ row_right show channels order levels n at room sorted place stands =
     ∙ sym (get_or-map-range_with_len (tracked show n) 1 show.channels k (suc k) d (omega (arith, less, long, stands.channels))
     (omega arith)))
 
-pub cue_found : (show : Show) (channels : ℕ) (order : List Place) (levels : List ℕ) (n at : ℕ) → Covers channels levels order
-    → IsStrictlySorted (λ x. x.cue) order
-    → StandsAt (λ x. x.cue) n order at → RowsStandFor show (sheet_of channels order levels)
+pub cue_found : (show : Show) (channels : ℕ) (order : List Place) (levels : List ℕ) (marks : Marks) (n at : ℕ)
+    → Covers channels levels order → IsStrictlySorted (λ x. x.cue) order
+    → StandsAt (λ x. x.cue) n order at → RowsStandFor show (sheet_of channels order levels marks)
     → Some (take channels (drop (row_at_place order at * width channels) levels)) ≡ option_map (λ cue. row_of show n) (cue_of show n)
-cue_found show channels order levels n at room sorted place stands =
+cue_found show channels order levels marks n at room sorted place stands =
     let some : is_some (cue_of show n) ≡ true =
     sym (same_numbers (λ (x : Place). x.cue) (λ (cue : Cue). cue.number) n order show.cues
     (sym (numbers-rows_of channels order levels) ∙ stands.numbers))
     ∙ ap is_some (place.here ∙ slice_get-get_or order at (record { cue = 0; row = 0 }) place.within) in
-    ap Some (row_right show channels order levels n at room sorted place stands) ∙ there (cue_of show n) (row_of show n) some
+    ap Some (row_right show channels order levels marks n at room sorted place stands) ∙ there (cue_of show n) (row_of show n) some
 
 -- the levels at a number stand in the row of the last cue up to it
 pub look_found : (channels : ℕ) (order : List Place) (levels : List ℕ) (n k : ℕ) → IsStrictlySorted (λ p. p.cue) order → k < channels
     → count_up_to n (map (λ p. p.cue) order) ≢ 0
     → get_or (take channels (drop (row_at_place order (count_up_to n (map (λ p. p.cue) order) - 1) * width channels) levels)) k 0
-    ≡ level_of (sheet_of channels order levels) n (k + 1)
+    ≡ level_by (rows_of channels order levels) n (k + 1)
 unfolding cell
 look_found channels order levels n k sorted less some =
     let next : suc k ≡ k + 1 = omega arith in
     sym (last_value_some (count_up_to n (map (λ (p : Place). p.cue) order)) (λ i. cue_level channels order levels i (suc k)) some)
     ∙ sym (level_of_block channels order levels n (suc k) sorted)
-    ∙ ap (λ c. level_of (sheet_of channels order levels) n c) next
+    ∙ ap (λ c. level_by (rows_of channels order levels) n c) next
 
 pub look_none : (channels : ℕ) (order : List Place) (levels : List ℕ) (n c : ℕ) → IsStrictlySorted (λ p. p.cue) order
-    → count_up_to n (map (λ p. p.cue) order) ≡ 0 → level_of (sheet_of channels order levels) n c ≡ 0
+    → count_up_to n (map (λ p. p.cue) order) ≡ 0 → level_by (rows_of channels order levels) n c ≡ 0
 look_none channels order levels n c sorted none =
     level_of_block channels order levels n c sorted ∙ ap (λ j. last_value j (λ k. cue_level channels order levels k c)) none

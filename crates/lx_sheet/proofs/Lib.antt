@@ -4,6 +4,8 @@ pub mod EditedShows
 pub mod FilledColumns
 pub mod Found
 pub mod LevelsAfter
+pub mod MarkedRows
+pub mod MarkWords
 pub mod Moves
 pub mod Past
 pub mod RowPool

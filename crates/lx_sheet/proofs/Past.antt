@@ -6,10 +6,10 @@ use Rattle.lx_spec.specs.declared.Move.{Move}
 use Rattle.lx_spec.specs.Show.{Cue, Show, Valid, ValidCue}
 use Rattle.lx_spec.specs.TrackedLevel.{decides, level_in, move_in, tracked}
 use Rattle.lx_sheet.specs.declared.sheet.Place.{Place}
-use Rattle.lx_sheet.specs.Rows.{level_of}
-use Rattle.lx_sheet.specs.Block.{row_at_place, cue_level, last_value}
+use Rattle.lx_sheet.specs.Rows.{level_by}
+use Rattle.lx_sheet.specs.Block.{rows_of, row_at_place, cue_level, last_value}
 use Rattle.lx_sheet.proofs.Cells.{cell_past}
-use Rattle.lx_sheet.proofs.Rows.{count_up_to, sheet_of, level_of_block}
+use Rattle.lx_sheet.proofs.Rows.{count_up_to, level_of_block}
 use Rattle.lx_spec.specs.SortedList.{IsStrictlySorted}
 use Rattle.std.specs.Prelude.{map}
 use Rattle.lx_spec.proofs.Comparisons.{eq_below}
@@ -36,7 +36,7 @@ last_zero zero f none = refl
 last_zero (suc k) f none = none k
 
 pub level_of_past : (channels : ℕ) (order : List Place) (levels : List ℕ) (n c : ℕ) → IsStrictlySorted (λ p. p.cue) order → channels < c
-    → level_of (sheet_of channels order levels) n c ≡ 0
+    → level_by (rows_of channels order levels) n c ≡ 0
 level_of_past channels order levels n c sorted past =
     level_of_block channels order levels n c sorted
     ∙ last_zero (count_up_to n (map (λ (p : Place). p.cue) order)) (λ k. cue_level channels order levels k c)

@@ -14,10 +14,11 @@ use Rattle.lx_spec.proofs.Comparisons.{le_false, le_true, lt_false, lt_true}
 use Rattle.lx_spec.proofs.Lists.{each, filter_none, find_both_last, shorter}
 use Rattle.lx_show.specs.Around.{entries_up_to}
 use Rattle.lx_sheet.specs.declared.sheet.Place.{Place}
-use Rattle.lx_sheet.specs.Rows.{level_of}
-use Rattle.lx_sheet.specs.Block.{cue_level, last_value, count_under}
+use Rattle.lx_sheet.specs.declared.marks.Marks.{Marks}
+use Rattle.lx_sheet.specs.Rows.{Sheet, level_by, level_of}
+use Rattle.lx_sheet.specs.Block.{rows_of, cue_level, last_value, count_under}
 use Rattle.lx_sheet.specs.After.{level_after, IsRight, Follows}
-use Rattle.lx_sheet.specs.SheetMeaning.{RowsStandFor, cue_numbers}
+use Rattle.lx_sheet.specs.SheetMeaning.{RowsStandFor, StandsFrom, cue_numbers}
 use Rattle.lx_sheet.proofs.Rows.{count_up_to, count_within, up_to_is_front, sheet_of, level_of_block, numbers-rows_of}
 use Rattle.lx_sheet.proofs.LevelsAfter.{level_after-nil}
 
@@ -127,7 +128,7 @@ order_length show order is =
 
 -- a row is right where the sheet gives the tracked level at the number of its cue
 pub right_at : (show : Show) (channels : ℕ) (order : List Place) (levels : List ℕ) (c k : ℕ) → IsOrderOf show order → k < length show.cues
-    → level_of (sheet_of channels order levels) (get_or (cue_numbers show) k 0) c ≡ tracked show (get_or (cue_numbers show) k 0) c
+    → level_by (rows_of channels order levels) (get_or (cue_numbers show) k 0) c ≡ tracked show (get_or (cue_numbers show) k 0) c
     → IsRight channels order show.cues levels k c
 right_at show channels order levels c k is within right =
     let all : List ℕ = cue_numbers show in
@@ -145,23 +146,13 @@ right_at show channels order levels c k is within right =
 
 -- where a sheet stands for a show below a number, the rows of the cues there are right
 pub right_below : (show : Show) (from channels : ℕ) (order : List Place) (levels : List ℕ) (c k : ℕ) → IsOrderOf show order
-    → ((n : ℕ) → n < from → level_of (sheet_of channels order levels) n c ≡ tracked show n c)
+    → ((n : ℕ) → n < from → level_by (rows_of channels order levels) n c ≡ tracked show n c)
     → k < count_under from (cue_numbers show) → IsRight channels order show.cues levels k c
 right_below show from channels order levels c k is right less =
     let long : length (cue_numbers show) ≡ length show.cues = length-map show.cues (λ (cue : Cue). cue.number) in
     right_at show channels order levels c k is (omega (arith, long, less, count_under_within from (cue_numbers show)))
     (right (get_or (cue_numbers show) k 0) (not_reached from (cue_numbers show) k
     (sorted_numbers (λ (cue : Cue). cue.number) show.cues is.cues_sorted) less))
-
--- and where it stands for the show from a number on
-pub right_from : (show : Show) (end channels : ℕ) (order : List Place) (levels : List ℕ) (c k : ℕ) → IsOrderOf show order
-    → ((n : ℕ) → end ≤ n → level_of (sheet_of channels order levels) n c ≡ tracked show n c)
-    → count_under end (cue_numbers show) ≤ k → k < length show.cues → IsRight channels order show.cues levels k c
-right_from show end channels order levels c k is right least within =
-    let long : length (cue_numbers show) ≡ length show.cues = length-map show.cues (λ (cue : Cue). cue.number) in
-    right_at show channels order levels c k is within
-    (right (get_or (cue_numbers show) k 0) (reached end (cue_numbers show) k
-    (sorted_numbers (λ (cue : Cue). cue.number) show.cues is.cues_sorted) least (omega (arith, long, within))))
 
 -- how many cues are below the number, or all
 abbrev pub until : Option ℕ → List Cue → ℕ
@@ -172,13 +163,14 @@ last_within None cues last is = omega (arith, is)
 last_within (Some end) cues last is = omega
     (arith, is, count_under_within end (map (λ (cue : Cue). cue.number) cues), length-map cues (λ (cue : Cue). cue.number))
 
--- the rows that aren't filled in are right
-pub right_past : (show : Show) (to : Option ℕ) (last channels : ℕ) (order : List Place) (levels : List ℕ) (c k : ℕ) → IsOrderOf show order
-    → last ≡ until to show.cues → IfSome to (λ end. (n : ℕ) → end ≤ n → level_of (sheet_of channels order levels) n c ≡ tracked show n c)
-    → last ≤ k → k < length show.cues → IsRight channels order show.cues levels k c
-right_past show None last channels order levels c k is end right least within = absurd (omega (arith, end, least, within))
-right_past show (Some to) last channels order levels c k is end right least within =
-    right_from show to channels order levels c k is right (omega (arith, end, least)) within
+-- where a sheet stands for a show from a number on, it does so at the cues from there on
+pub stands_from : (show : Show) (sheet : Sheet) (to : Option ℕ) (c place : ℕ) → IsStrictlySorted (λ cue. cue.number) show.cues
+    → place ≡ until to show.cues → IfSome to (λ end. (n : ℕ) → end ≤ n → level_of sheet n c ≡ tracked show n c)
+    → StandsFrom show c place sheet
+stands_from show sheet None c place sorted is above k least within = absurd (omega (arith, is, least, within))
+stands_from show sheet (Some to) c place sorted is above k least within =
+    above (get_or (cue_numbers show) k 0) (reached to (cue_numbers show) k (sorted_numbers (λ (cue : Cue). cue.number) show.cues sorted)
+    (omega (arith, is, least)) (omega (arith, within, length-map show.cues (λ (cue : Cue). cue.number))))
 
 -- the last of some rows that are right has the levels after their cues
 pub last_right : (channels : ℕ) (order : List Place) (cues : List Cue) (levels : List ℕ) (c count : ℕ)
@@ -192,7 +184,7 @@ last_right channels order cues levels c (suc k) right =
 -- where each row is right, the column stands for the show
 pub column_right : (show : Show) (channels : ℕ) (order : List Place) (levels : List ℕ) (c : ℕ) → IsOrderOf show order
     → ((k : ℕ) → k < length show.cues → IsRight channels order show.cues levels k c)
-    → (n : ℕ) → level_of (sheet_of channels order levels) n c ≡ tracked show n c
+    → (n : ℕ) → level_by (rows_of channels order levels) n c ≡ tracked show n c
 column_right show channels order levels c is right n =
     let numbers : List ℕ = cue_numbers show in
     let within : count_up_to n numbers ≤ length show.cues =
@@ -214,19 +206,10 @@ right_on channels order cues levels from at c follows least right (suc j) within
     subst (λ k. IsRight channels order cues levels k c) next
     (follows (at + j) c (omega arith) (omega arith) (right_on channels order cues levels from at c follows least right j (omega arith)))
 
--- and the sheet for it
-pub filled_stands : (show : Show) (channels : ℕ) (order : List Place) (levels : List ℕ) → channels ≡ show.channels → IsOrderOf show order
-    → ((k c : ℕ) → k < length show.cues → IsRight channels order show.cues levels k c) → RowsStandFor show (sheet_of channels order levels)
-filled_stands show channels order levels same is right = record {
-  channels = same;
-  numbers = numbers-rows_of channels order levels ∙ is.numbers;
-  columns = λ c. column_right show channels order levels c is (λ k within. right k c within);
-}
-
 -- a sheet that stands for a show has its cues in order, and its rows right
-pub order_of : (show : Show) (channels : ℕ) (order : List Place) (levels : List ℕ) → IsStrictlySorted (λ p. p.cue) order
-    → RowsStandFor show (sheet_of channels order levels) → IsOrderOf show order
-order_of show channels order levels sorted stands =
+pub order_of : (show : Show) (channels : ℕ) (order : List Place) (levels : List ℕ) (marks : Marks) → IsStrictlySorted (λ p. p.cue) order
+    → RowsStandFor show (sheet_of channels order levels marks) → IsOrderOf show order
+order_of show channels order levels marks sorted stands =
     let numbers : map (λ (p : Place). p.cue) order ≡ cue_numbers show = sym (numbers-rows_of channels order levels) ∙ stands.numbers in
     record {
       sorted = sorted;
@@ -234,9 +217,9 @@ order_of show channels order levels sorted stands =
       numbers = numbers;
     }
 
-pub rows_right : (show : Show) (channels : ℕ) (order : List Place) (levels : List ℕ) → IsStrictlySorted (λ p. p.cue) order
-    → RowsStandFor show (sheet_of channels order levels)
+pub rows_right : (show : Show) (channels : ℕ) (order : List Place) (levels : List ℕ) (marks : Marks) → IsStrictlySorted (λ p. p.cue) order
+    → RowsStandFor show (sheet_of channels order levels marks)
     → (k c : ℕ) → k < length show.cues → IsRight channels order show.cues levels k c
-rows_right show channels order levels sorted stands k c within =
-    right_at show channels order levels c k (order_of show channels order levels sorted stands) within
+rows_right show channels order levels marks sorted stands k c within =
+    right_at show channels order levels c k (order_of show channels order levels marks sorted stands) within
     (stands.columns c (get_or (cue_numbers show) k 0))

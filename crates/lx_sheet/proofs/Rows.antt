@@ -9,8 +9,9 @@ use Rattle.std.proofs.lemmas.List.{length-map}
 use Rattle.lx_spec.specs.SortedList.{IsStrictlySorted}
 use Rattle.lx_show.specs.Around.{entries_up_to}
 use Rattle.lx_sheet.specs.declared.sheet.Place.{Place}
-use Rattle.lx_sheet.specs.Rows.{Row, Sheet, level_of, level_in_row}
-use Rattle.lx_sheet.specs.Block.{rows_of, cell, cue_level, last_value, width}
+use Rattle.lx_sheet.specs.declared.marks.Marks.{Marks}
+use Rattle.lx_sheet.specs.Rows.{Row, Sheet, level_by, level_in_row}
+use Rattle.lx_sheet.specs.Block.{marks_of, rows_of, cell, cue_level, last_value, width}
 use Rattle.lx_spec.proofs.Comparisons.{le_false, le_true}
 use Rattle.lx_spec.proofs.Lists.{each, filter_none, find_last, shorter}
 
@@ -40,7 +41,7 @@ up_to_is_front {A} key n (x ∷ xs) sorted =
       | inr within ↦ rw (le_true (key x) n within) (ap (λ ys. x ∷ ys) (up_to_is_front key n xs sorted.1))
     ]
 
-slice_get-take : {A : Type 0} (xs : List A) (k n : ℕ) → k < n → slice_get (take n xs) k ≡ slice_get xs k
+pub slice_get-take : {A : Type 0} (xs : List A) (k n : ℕ) → k < n → slice_get (take n xs) k ≡ slice_get xs k
 slice_get-take xs k zero less = absurd (omega arith)
 slice_get-take [] k (suc n) less = refl
 slice_get-take (x ∷ xs) zero (suc n) less = refl
@@ -107,15 +108,16 @@ pub last_value_same : (count : ℕ) (f g : ℕ → ℕ) → ((k : ℕ) → k < c
 last_value_same zero f g same = refl
 last_value_same (suc k) f g same = same k (omega arith)
 
--- the sheet of a block
-abbrev pub sheet_of : ℕ → List Place → List ℕ → Sheet
-sheet_of channels order levels = record { channels = channels; rows = rows_of channels order levels }
+-- the sheet of a block and its marks
+abbrev pub sheet_of : ℕ → List Place → List ℕ → Marks → Sheet
+sheet_of channels order levels marks =
+    record { channels = channels; rows = rows_of channels order levels; marks = marks_of channels order marks }
 
 -- the level at a number stands in the row of the last cue up to it
 pub level_of_block : (channels : ℕ) (order : List Place) (levels : List ℕ) (n c : ℕ) → IsStrictlySorted (λ p. p.cue) order
-    → level_of (sheet_of channels order levels) n c
+    → level_by (rows_of channels order levels) n c
     ≡ last_value (count_up_to n (map (λ p. p.cue) order)) (λ k. cue_level channels order levels k c)
-unfolding level_of
+unfolding level_by
 level_of_block channels order levels n c sorted =
     let numbers : List ℕ = map (λ (p : Place). p.cue) order in
     let within : count_up_to n numbers ≤ length order = omega (arith, count_within n numbers, length-map order (λ (p : Place). p.cue)) in

@@ -1,11 +1,11 @@
 -- Rows whose cues stand at other places of the order once a cue came or went: they follow from one another as before.
-use Rattle.std.proofs.Common.{◌≡◌, ℕ, suc, ◌+◌, ◌-◌, ◌<◌, ◌≤◌, true, false, List, [], ◌∷◌, ◌++◌, length, get_or, take, drop, map, Some}
+use Rattle.std.proofs.Common.{◌≡◌, ℕ, zero, suc, ◌+◌, ◌-◌, ◌<◌, ◌≤◌, true, false, List, [], ◌∷◌, ◌++◌, length, get_or, take, drop, map, Some}
 use Rattle.std.proofs.Common.{None, refl, ◌∙◌, sym, ap, subst, inl, inr, arith}
-use Rattle.std.specs.Prelude.{Option, insert, remove, is_some}
+use Rattle.std.specs.Prelude.{Option, IfSome, insert, remove, is_some, slice_get}
 use Rattle.std.proofs.lemmas.Bool.{cases_eq, cases_lt, false≢true}
 use Rattle.std.proofs.lemmas.List.{get_or-drop, get_or-take, get_or_default, take-take, take-map, drop-map, length-drop, length-append}
 use Rattle.std.proofs.lemmas.List.{length-map, length-take-le, map-append, take_at, drop_at, drop-drop}
-use Rattle.std.proofs.lemmas.Option.{slice_get-get_or}
+use Rattle.std.proofs.lemmas.Option.{slice_get-get_or, slice_get_within}
 use Rattle.lx_spec.specs.Show.{Cue, Show}
 use Rattle.lx_spec.specs.SortedList.{IsStrictlySorted, entry_at, entries_below, entries_above, taken_out}
 use Rattle.lx_spec.specs.EditedShow.{new_cue, with_cue, without_cue}
@@ -15,14 +15,17 @@ use Rattle.lx_spec.proofs.Lists.{none_differs}
 use Rattle.lx_spec.proofs.SortedLists.{below_and_above, found_number, split_there}
 use Rattle.lx_show.specs.Indexes.{StandsAt, GoesAt}
 use Rattle.lx_sheet.specs.declared.sheet.Place.{Place}
-use Rattle.lx_sheet.specs.Block.{own_rows, row_at_place, cell}
+use Rattle.lx_sheet.specs.declared.marks.Marks.{Marks}
+use Rattle.lx_sheet.specs.Block.{AreMarked, own_rows, row_at_place, cell}
+use Rattle.lx_sheet.specs.Marks.{IsMarkedFor, has_mark}
 use Rattle.lx_sheet.specs.After.{level_after, tracked_on, IsRight, Follows, IsFilled, IsPassed, IsLeft}
 use Rattle.lx_sheet.specs.SheetMeaning.{RowsStandFor, cue_numbers}
 use Rattle.lx_sheet.proofs.EditedShows.{below-map, above-map}
 use Rattle.lx_sheet.proofs.Found.{same_numbers}
 use Rattle.lx_sheet.proofs.LevelsAfter.{level_after-take}
-use Rattle.lx_sheet.proofs.RightRows.{filled_stands, last_right, rows_right}
-use Rattle.lx_sheet.proofs.Rows.{sheet_of}
+use Rattle.lx_sheet.proofs.MarkedRows.{at_place, filled_stands, marks_right}
+use Rattle.lx_sheet.proofs.RightRows.{last_right, order_of, rows_right}
+use Rattle.lx_sheet.proofs.Rows.{sheet_of, slice_get-take}
 
 -- the row of a cue whose place is counted from another start
 row_shifted : (old new : List Place) (a b i : ℕ) → drop a old ≡ drop b new → row_at_place new (b + i) ≡ row_at_place old (a + i)
@@ -78,15 +81,18 @@ follows_on channels old new before cues levels a b rows same in_before in_cues r
     (subst (λ n. IsRight channels new cues levels n c) (sym k_is) here))
 
 -- before that place nothing was changed
+row_front : (old new : List Place) (at k : ℕ) → take at old ≡ take at new → k < at → row_at_place new k ≡ row_at_place old k
+row_front old new at k same less =
+    sym (get_or-take at (own_rows new) k 0 less)
+    ∙ ap (λ (xs : List ℕ). get_or xs k 0) (take-map (λ (p : Place). p.row) at new ∙ sym (ap own_rows same)
+    ∙ sym (take-map (λ (p : Place). p.row) at old))
+    ∙ get_or-take at (own_rows old) k 0 less
+
 pub right_front : (channels : ℕ) (old new : List Place) (before cues : List Cue) (levels : List ℕ) (at k c : ℕ) → take at old ≡ take at new
     → take at before ≡ take at cues
     → k < at → IsRight channels old before levels k c → IsRight channels new cues levels k c
 right_front channels old new before cues levels at k c rows same less right =
-    let row : row_at_place new k ≡ row_at_place old k =
-    sym (get_or-take at (own_rows new) k 0 less)
-    ∙ ap (λ (xs : List ℕ). get_or xs k 0) (take-map (λ (p : Place). p.row) at new ∙ sym (ap own_rows rows)
-    ∙ sym (take-map (λ (p : Place). p.row) at old))
-    ∙ get_or-take at (own_rows old) k 0 less in
+    let row : row_at_place new k ≡ row_at_place old k = row_front old new at k rows less in
     let front : take (k + 1) before ≡ take (k + 1) cues =
     sym (take-take (k + 1) at before (omega arith)) ∙ ap (take (k + 1)) same ∙ take-take (k + 1) at cues (omega arith) in
     ap (λ r. cell channels levels r c) row ∙ right ∙ ap (λ (xs : List Cue). level_after xs c) front
@@ -331,13 +337,65 @@ left_behind channels old new before cues levels at row shifted row_is right same
     (right (at + 1) c (omega arith))
     (sym (right at c (omega arith)) ∙ ap (λ r. cell channels levels r c) (sym row_is) ∙ same c)
 
+slice_get-drop : {A : Type 0} (xs : List A) (n i : ℕ) → slice_get (drop n xs) i ≡ slice_get xs (n + i)
+slice_get-drop xs zero i = let none : i ≡ 0 + i = omega arith in ap (slice_get xs) none
+slice_get-drop [] (suc n) i = refl
+slice_get-drop (x ∷ xs) (suc n) i = let next : suc (n + i) ≡ suc n + i = omega arith in
+    slice_get-drop xs n i ∙ ap (slice_get (x ∷ xs)) next
+
+-- the cue at a place that is not among those that came, and its row, stood somewhere before
+stood_at : (old new : List Place) (before cues : List Cue) (at a b k : ℕ) (R : Type 0) → IsShifted old new before cues at a b
+    → (at ≤ k → b ≤ k) → ((j : ℕ) → row_at_place new k ≡ row_at_place old j → slice_get cues k ≡ slice_get before j → R) → R
+stood_at old new before cues at a b k R shifted other f = elim (cases_lt k at) [
+  | inl less ↦ f k (row_front old new at k shifted.front_rows less)
+      (sym (slice_get-take cues k at less) ∙ ap (λ (xs : List Cue). slice_get xs k) (sym shifted.front_cues) ∙ slice_get-take before k at less)
+  | inr more ↦
+      let past : b ≤ k = other more in
+      let i : ℕ = k - b in
+      let k_is : b + i ≡ k = omega arith in
+      f (a + i) (ap (row_at_place new) (sym k_is) ∙ row_shifted old new a b i shifted.back_rows)
+      (ap (slice_get cues) (sym k_is) ∙ sym (slice_get-drop cues b i) ∙ ap (λ (xs : List Cue). slice_get xs i) (sym shifted.back_cues)
+      ∙ slice_get-drop before a i)
+]
+
+-- marks that were right in the rows are so where those of the rows that came are, and the others are as before
+pub shifted_marked : (channels : ℕ) (old new : List Place) (before cues : List Cue) (was marks : Marks) (at a b : ℕ)
+    → IsShifted old new before cues at a b → AreMarked channels old before was
+    → ((k c : ℕ) → (at ≤ k → b ≤ k) → k < length new → 1 ≤ c → c ≤ channels
+    → has_mark marks (row_at_place new k) c ≡ has_mark was (row_at_place new k) c)
+    → ((k : ℕ) → at ≤ k → k < b → IfSome (slice_get cues k) (IsMarkedFor channels marks (row_at_place new k)))
+    → AreMarked channels new cues marks
+shifted_marked channels old new before cues was marks at a b shifted right same came k =
+    let long : length new ≡ length cues = sym (length-map new (λ (p : Place). p.cue)) ∙ ap length shifted.numbers
+    ∙ length-map cues (λ (cue : Cue). cue.number) in
+    let stood : (at ≤ k → b ≤ k) → IfSome (slice_get cues k) (IsMarkedFor channels marks (row_at_place new k)) = λ other.
+    stood_at old new before cues at a b k (IfSome (slice_get cues k) (IsMarkedFor channels marks (row_at_place new k))) shifted other
+    (λ j row cue_is. at_place (slice_get cues k) (IsMarkedFor channels marks (row_at_place new k)) (λ cue there c least most is.
+    let held : IsMarkedFor channels was (row_at_place old j) cue =
+    subst (λ (o : Option Cue). IfSome o (IsMarkedFor channels was (row_at_place old j))) (sym cue_is ∙ there) (right j) in
+    same k c other (omega (arith, long, slice_get_within cues k cue there)) least most
+    ∙ ap (λ r. has_mark was r c) row ∙ held c least most is)) in
+    elim (cases_lt k b) [
+      | inl less ↦ elim (cases_lt k at) [
+        | inl low ↦ stood (λ more. absurd (omega (arith, low, more)))
+        | inr more ↦ came k more less
+      ]
+      | inr past ↦ stood (λ more. past)
+    ]
+
 -- a sheet that stood for the show before stands for the one after
-pub shifted_stands : (before show : Show) (channels : ℕ) (old new : List Place) (levels filled : List ℕ) (at a b : ℕ)
-    → IsStrictlySorted (λ p. p.cue) old → IsStrictlySorted (λ p. p.cue) new
-    → IsStrictlySorted (λ x. x.number) show.cues → channels ≡ show.channels → RowsStandFor before (sheet_of channels old levels)
+pub shifted_stands : (before show : Show) (channels : ℕ) (old new : List Place) (levels filled : List ℕ) (was marks : Marks)
+    (at a b : ℕ) → IsStrictlySorted (λ p. p.cue) old → IsStrictlySorted (λ p. p.cue) new
+    → IsStrictlySorted (λ x. x.number) show.cues → channels ≡ show.channels → RowsStandFor before (sheet_of channels old levels was)
     → IsShifted old new before.cues show.cues at a b → IsFilled channels new show.cues levels filled at b
-    → RowsStandFor show (sheet_of channels new filled)
-shifted_stands before show channels old new levels filled at a b old_sorted new_sorted sorted same stands shifted is =
-    filled_stands show channels new filled same (record { sorted = new_sorted; cues_sorted = sorted; numbers = shifted.numbers })
-    (all_right channels old new before.cues show.cues levels filled at a b shifted (rows_right before channels old levels old_sorted stands)
-    is)
+    → ((k c : ℕ) → (at ≤ k → b ≤ k) → k < length new → 1 ≤ c → c ≤ channels
+    → has_mark marks (row_at_place new k) c ≡ has_mark was (row_at_place new k) c)
+    → ((k : ℕ) → at ≤ k → k < b → IfSome (slice_get show.cues k) (IsMarkedFor channels marks (row_at_place new k)))
+    → RowsStandFor show (sheet_of channels new filled marks)
+shifted_stands before show channels old new levels filled was marks at a b old_sorted new_sorted sorted same stands shifted is kept came =
+    filled_stands show channels new filled marks same
+    (record { sorted = new_sorted; cues_sorted = sorted; numbers = shifted.numbers })
+    (all_right channels old new before.cues show.cues levels filled at a b shifted
+    (rows_right before channels old levels was old_sorted stands) is)
+    (shifted_marked channels old new before.cues show.cues was marks at a b shifted
+    (marks_right before channels old levels was (order_of before channels old levels was old_sorted stands) stands.marks) kept came)

@@ -1,12 +1,15 @@
--- How the rows are kept: a block of levels by row, and the cues in order, each with the row of the block that is its own.
-use Rattle.std.specs.Prelude.{◌≡◌, ℕ, zero, suc, ◌+◌, ◌*◌, ◌≤◌, ◌<◌, ◌==◌, List, [], ◌∷◌, ◌++◌, length, map, take, drop, slice_index}
-use Rattle.std.specs.List.{All, IsDistinct}
+-- How the rows are kept: a block of levels by row, marks beside it, and the cues in order, each with the row of the block that is its own.
+use Rattle.std.specs.Prelude.{◌≡◌, ℕ, zero, suc, ◌+◌, ◌*◌, ◌≤◌, ◌<◌, ◌==◌, List, [], ◌∷◌, ◌++◌, length, map, take, drop, slice_get, slice_index}
+use Rattle.std.specs.Prelude.{IfSome}
+use Rattle.std.specs.List.{All, IsDistinct, range_with_len}
 use Rattle.lx_base.specs.declared.TheConstants.{CUES, CHANNELS}
 use Rattle.lx_spec.specs.SortedList.{IsStrictlySorted, entries_below}
 use Rattle.lx_spec.specs.Show.{Cue}
 use Rattle.lx_sheet.specs.declared.block.TheConstants.{ROW_GAP}
 use Rattle.lx_sheet.specs.declared.sheet.Place.{Place}
-use Rattle.lx_sheet.specs.Rows.{Row}
+use Rattle.lx_sheet.specs.declared.marks.Marks.{Marks}
+use Rattle.lx_sheet.specs.Rows.{Row, CueMarks}
+use Rattle.lx_sheet.specs.Marks.{IsMarkTable, IsMarkedFor, IsReached, has_mark}
 
 -- how far apart rows begin: there is a gap behind each
 abbrev pub width : ℕ → ℕ
@@ -15,6 +18,10 @@ width channels = channels + ROW_GAP
 -- the rows of cues, each as many levels as there are channels
 abbrev pub rows_of : ℕ → List Place → List ℕ → List Row
 rows_of channels order levels = map (λ p. record { number = p.cue; levels = take channels (drop (p.row * width channels) levels) }) order
+
+-- the marks of cues, each for the channels of its row
+abbrev pub marks_of : ℕ → List Place → Marks → List CueMarks
+marks_of channels order marks = map (λ p. record { number = p.cue; chans = map (has_mark marks p.row) (range_with_len 1 channels) }) order
 
 -- the rows of the block that are cues' own
 abbrev pub own_rows : List Place → List ℕ
@@ -35,9 +42,9 @@ abbrev pub Covers : ℕ → List ℕ → List Place → Type 0
 Covers channels levels order = All (λ r. (r + 1) * width channels ≤ length levels) (own_rows order)
 
 -- the cues are sorted by number, and their rows a pool that the block covers; there is room for the greatest number of rows, and for the
--- levels of one cue
+-- levels of one cue; and there are marks of each row of the block
 pub record HoldsRows (channels : ℕ) (order : List Place) (room : ℕ) (free : List ℕ) (spare : ℕ) (levels : List ℕ) (block : ℕ)
-    (look : List ℕ) : Type 0 where
+    (look : List ℕ) (marks : Marks) : Type 0 where
   pub few : channels ≤ CHANNELS
   pub sorted : IsStrictlySorted (λ p. p.cue) order
   pub pool : IsPool order free
@@ -46,6 +53,8 @@ pub record HoldsRows (channels : ℕ) (order : List Place) (room : ℕ) (free : 
   pub level_room : CUES * width channels ≤ block
   pub covered : Covers channels levels order
   pub look_room : length look ≡ channels
+  pub table : IsMarkTable channels marks
+  pub reached : (r : ℕ) → (r + 1) * width channels ≤ length levels → IsReached marks r
 
 -- a channel's level among those of the channels from 1 on
 abbrev pub level_in_look : List ℕ → ℕ → ℕ
@@ -62,6 +71,10 @@ row_at_place order k = slice_index (own_rows order) k
 -- a channel's level in the cue at this place of the order
 abbrev pub cue_level : ℕ → List Place → List ℕ → ℕ → ℕ → ℕ
 cue_level channels order levels k c = cell channels levels (row_at_place order k) c
+
+-- the channels that the cues decide are marked in their rows
+abbrev pub AreMarked : ℕ → List Place → List Cue → Marks → Type 0
+AreMarked channels order cues marks = (k : ℕ) → IfSome (slice_get cues k) (IsMarkedFor channels marks (row_at_place order k))
 
 -- the last of so many values, or 0 where there is none
 abbrev pub last_value : ℕ → (ℕ → ℕ) → ℕ

@@ -1,14 +1,16 @@
 //! The block of rows: rows written and read, and columns mended.
 
-ghost use Rattle.std.specs.Prelude.{◌≡◌, ◌≢◌, ℕ, true, false, ◌+◌, ◌*◌, ◌<◌, ◌≤◌, length, take, vec_capacity};
+ghost use Rattle.std.specs.Prelude.{◌≡◌, ◌≢◌, ℕ, true, false, ◌+◌, ◌*◌, ◌<◌, ◌≤◌, IfSome, length, max, slice_get, take, vec_capacity};
 ghost use Rattle.std.specs.List.{AllByRecursion};
 ghost use Rattle.lx_base.specs.declared.TheConstants.{CUES, CHANNELS};
 ghost use Rattle.lx_spec.specs.Show.{ValidCue};
 ghost use Rattle.lx_spec.specs.TrackedLevel.{decides};
 ghost use Rattle.lx_sheet.specs.Block.{AreApart, Covers, own_rows, row_at_place, cell, cue_level, last_value, level_in_look, width};
+ghost use Rattle.lx_sheet.specs.Marks.{Tells};
 ghost use Rattle.lx_sheet.specs.After.{level_after, IsEnd, IsRight, Follows, IsFilled, IsPassed, IsLeft};
 
 use crate::look::track;
+use crate::marks::Marks;
 use crate::sheet::Place;
 use lx_base::{CHANNELS, CUES, Chan, Level, next_change};
 use lx_show::Cue;
@@ -104,8 +106,7 @@ pub(crate) fn reach(levels: &mut Vec<Level>, channels: usize, rows: usize)
     requires few { channels ≤ CHANNELS }
     requires rows { rows ≤ CUES }
     requires room { CUES * width channels ≤ vec_capacity levels.old }
-    ensures reach { rows * width channels ≤ length levels.new.items }
-    ensures longer { length levels.old.items ≤ length levels.new.items }
+    ensures length { length levels.new.items ≡ max (length levels.old.items) (rows * width channels) }
     ensures same { (r c : ℕ) → cell channels levels.new.items r c ≡ cell channels levels.old.items r c }
     ensures room { vec_capacity levels.old ≤ vec_capacity levels.new }
 {
@@ -201,12 +202,14 @@ fn fill_rows(
 }
 
 /// Fills in the channel's column in the rows of the cues from a place to below another, each from the one before, or up to the first
-/// from `sure` on that decides the channel. It answers the place where it ended.
+/// from `sure` on that decides the channel. It answers the place where it ended. Where marks are given, only the cues that they name
+/// are asked.
 pub(crate) fn fill_column(
     levels: &mut [Level],
     channels: usize,
     order: &[Place],
     cues: &[Cue],
+    marks: Option<&Marks>,
     from: usize,
     sure: usize,
     to: usize,
@@ -219,6 +222,8 @@ pub(crate) fn fill_column(
     requires from { from ≤ length cues.now }
     requires to { to ≤ length cues.now }
     requires within { chan ≤ channels }
+    requires marks { IfSome marks
+        (λ m. (k : ℕ) → IfSome (slice_get cues.now k) (λ cue. Tells m.now (row_at_place order.now k) cue chan)) }
     ensures end { IsEnd cues.now chan from sure to result }
     ensures others { (r c : ℕ) → c ≢ chan → cell channels levels.new r c ≡ cell channels levels.old r c }
     ensures front { (k : ℕ) → k < from → cue_level channels order.now levels.new k chan ≡ cue_level channels order.now levels.old k chan }
@@ -232,15 +237,29 @@ pub(crate) fn fill_column(
     let mut level = level_before(levels, channels, order, from, at);
     let mut near = 0;
     for place in from..to {
-        if cues[place].decides_near(chan, &mut near) {
+        let row = own_row(order, place);
+        if decides_at(&cues[place], chan, &mut near, marks, row) {
             if place >= sure {
                 return place;
             }
             level = cues[place].level_of(chan);
         }
-        levels[own_row(order, place) * width + at] = level;
+        levels[row * width + at] = level;
     }
     to
+}
+
+/// The cue decides the channel. It isn't asked where the marks of its row say that it doesn't.
+fn decides_at(cue: &Cue, chan: Chan, near: &mut usize, marks: Option<&Marks>, row: usize) -> bool
+    requires row { row < CUES }
+    requires marks { IfSome marks (λ m. Tells m.now row cue.now chan) }
+    ensures { result ≡ decides cue.now chan }
+{
+    let may = match marks {
+        Some(marks) => marks.has(row, chan),
+        None => true,
+    };
+    may && cue.decides_near(chan, near)
 }
 
 /// The channel's level in the last of so many cues, or 0 where there is none. It stands at this place in

@@ -1,22 +1,48 @@
 //! A sheet follows the edits of its show. No call takes memory.
 
-ghost use Rattle.std.specs.Prelude.{◌≡◌, ◌≢◌, ℕ, ◌<◌, ◌≤◌, true, None, IfSome, is_some, length, map};
+ghost use Rattle.std.specs.Prelude.{◌≡◌, ◌≢◌, ℕ, ◌*◌, ◌<◌, ◌≤◌, true, None, IfSome, is_some, length, map};
+ghost use Rattle.std.specs.List.{All, AllByRecursion};
 ghost use Rattle.std.specs.Option.{option_map_or};
 ghost use Rattle.lx_spec.specs.SortedList.{IsStrictlySorted};
 ghost use Rattle.lx_spec.specs.Show.{Show as ShowData, Cue as CueData};
 ghost use Rattle.lx_spec.specs.TrackedLevel.{cue_of, tracked};
 ghost use Rattle.lx_spec.specs.EditedShow.{with_cue, without_cue};
-ghost use Rattle.lx_sheet.specs.Rows.{numbers_of, level_of};
-ghost use Rattle.lx_sheet.specs.Block.{count_under};
-ghost use Rattle.lx_sheet.specs.SheetMeaning.{RowsStandFor, StandsIn, cue_numbers, next_decision};
+ghost use Rattle.lx_sheet.specs.Rows.{numbers_of, level_of, is_marked};
+ghost use Rattle.lx_sheet.specs.Block.{AreApart, AreMarked, count_under, own_rows};
+ghost use Rattle.lx_sheet.specs.Marks.{IsGrown, IsReached};
+ghost use Rattle.lx_sheet.specs.WordPlaces.{MovesWithin};
+ghost use Rattle.lx_sheet.specs.After.{IsEnd};
+ghost use Rattle.lx_sheet.specs.SheetMeaning.{IsMarked, IsMarkedAt, RowsStandFor, StandsFrom, StandsIn, cue_numbers, next_decision};
 
 use crate::block::{fill_column, fill_from, fill_inserted, fill_removed, own_row, reach};
+use crate::marks::Marks;
 use crate::pool::{add_place, drop_place, list_cues, list_free};
-use crate::sheet::Sheet;
+use crate::sheet::{Place, Sheet};
 use lx_base::{Chan, CueNo};
 use lx_show::around::{below, up_to};
 use lx_show::sorted::index_of;
 use lx_show::{Cue, Show};
+
+/// Which cues are asked whether they decide a channel.
+#[derive(Clone, Copy)]
+enum Asked {
+    /// Each of them.
+    Each,
+    /// Those that are marked.
+    Marked,
+}
+
+impl Asked {
+    /// The marks that tell which: none where each cue is asked.
+    fn among(self, marks: &Marks) -> Option<&Marks>
+        ensures { IfSome result (λ m. (m.now ≡ marks.now) × (self ≡ Asked.Marked)) }
+    {
+        match self {
+            Asked::Each => None,
+            Asked::Marked => Some(marks),
+        }
+    }
+}
 
 impl Sheet {
     /// Moves of the channel were changed in cues from `from` on, or a block flag: its column stands for
@@ -31,6 +57,7 @@ impl Sheet {
         ensures others { (n c : ℕ) → c ≢ chan → level_of self.new n c ≡ level_of self.old n c }
         ensures numbers { numbers_of self.new ≡ numbers_of self.old }
         ensures channels { self.new.channels ≡ self.old.channels }
+        ensures marks { self.new.marks ≡ self.old.marks }
     {
         self.changed_until(show, from, None, chan)
     }
@@ -46,53 +73,81 @@ impl Sheet {
         ensures others { (n c : ℕ) → c ≢ chan → level_of self.new n c ≡ level_of self.old n c }
         ensures numbers { numbers_of self.new ≡ numbers_of self.old }
         ensures channels { self.new.channels ≡ self.old.channels }
+        ensures marks { self.new.marks ≡ self.old.marks }
     {
-        let cues = show.cues();
-        if chan.get() as usize <= self.channels {
-            let first = below(cues, from.get()).len();
-            let last = count_below(cues, to);
-            let _ = fill_column(
-                &mut self.levels,
-                self.channels,
-                &self.order,
-                cues,
-                first,
-                last,
-                last,
-                chan,
-            );
-        }
+        let last = count_below(show.cues(), to);
+        self.fill(show, from, chan, last, last, Asked::Each);
     }
 
     /// The same where the channel's levels change up to the next cue above `from` that decides it: one pass finds that cue and fills
-    /// in the rows before it. Those from it on stand for the show as they are, and aren't touched.
+    /// in the rows before it. Those from it on stand for the show as they are, and aren't touched. What the cues decide is marked, so
+    /// only cues that may decide the channel are asked.
     pub fn changed_on(&mut self, show: &Show, from: CueNo, chan: Chan)
         requires channels { self.old.channels ≡ show.now.channels }
         requires numbers { numbers_of self.old ≡ cue_numbers show.now }
         requires below { (n : ℕ) → n < from → level_of self.old n chan ≡ tracked show.now n chan }
         requires above { IfSome (next_decision show.now from chan)
             (λ end. (n : ℕ) → end ≤ n → level_of self.old n chan ≡ tracked show.now n chan) }
+        requires marks { IsMarked show.now self.old }
         ensures column { StandsIn show.now chan self.new }
         ensures others { (n c : ℕ) → c ≢ chan → level_of self.new n c ≡ level_of self.old n c }
         ensures numbers { numbers_of self.new ≡ numbers_of self.old }
         ensures channels { self.new.channels ≡ self.old.channels }
+        ensures marks { self.new.marks ≡ self.old.marks }
     {
         let cues = show.cues();
-        if chan.get() as usize > self.channels {
-            return;
-        }
-        let first = below(cues, from.get()).len();
         let next = up_to(cues, from.get()).len();
-        let _ = fill_column(
-            &mut self.levels,
-            self.channels,
-            &self.order,
-            cues,
-            first,
-            next,
-            cues.len(),
-            chan,
-        );
+        self.fill(show, from, chan, next, cues.len(), Asked::Marked);
+    }
+
+    /// The same up to a place of the order, or to the first cue from another on that decides the channel. The rows from the end
+    /// on stand for the show as they are.
+    fn fill(&mut self, show: &Show, from: CueNo, chan: Chan, sure: usize, to: usize, asked: Asked)
+        requires channels { self.old.channels ≡ show.now.channels }
+        requires numbers { numbers_of self.old ≡ cue_numbers show.now }
+        requires below { (n : ℕ) → n < from → level_of self.old n chan ≡ tracked show.now n chan }
+        requires to { to ≤ length show.now.cues }
+        requires above { (end : ℕ) → IsEnd show.now.cues chan (count_under from (cue_numbers show.now)) sure to end
+            → StandsFrom show.now chan end self.old }
+        requires marks { asked ≡ Asked.Marked → IsMarked show.now self.old }
+        ensures column { StandsIn show.now chan self.new }
+        ensures others { (n c : ℕ) → c ≢ chan → level_of self.new n c ≡ level_of self.old n c }
+        ensures numbers { numbers_of self.new ≡ numbers_of self.old }
+        ensures channels { self.new.channels ≡ self.old.channels }
+        ensures marks { self.new.marks ≡ self.old.marks }
+    {
+        let cues = show.cues();
+        let first = below(cues, from.get()).len();
+        if chan.get() as usize <= self.channels {
+            let marks = asked.among(&self.marks);
+            let _ = fill_column(
+                &mut self.levels,
+                self.channels,
+                &self.order,
+                cues,
+                marks,
+                first,
+                sure,
+                to,
+                chan,
+            );
+        }
+    }
+
+    /// The cue of the number was put in the place of another: its marks are made anew. No row is looked at.
+    pub fn mark(&mut self, show: &Show, n: CueNo)
+        requires { self.old.channels ≡ show.now.channels }
+        ensures levels { (m c : ℕ) → level_of self.new m c ≡ level_of self.old m c }
+        ensures numbers { numbers_of self.new ≡ numbers_of self.old }
+        ensures channels { self.new.channels ≡ self.old.channels }
+        ensures others { (m c : ℕ) → m ≢ n → is_marked self.new m c ≡ is_marked self.old m c }
+        ensures marks { IsMarkedAt show.now self.new n }
+    {
+        if let Some(cue) = show.cue(n) {
+            if let Ok(place) = index_of(self.order.as_slice(), n.get()) {
+                self.marks.write(own_row(&self.order, place), cue);
+            }
+        }
     }
 
     /// The cue was added: a sheet that stood for the show without it stands for the show. No other row is moved.
@@ -105,7 +160,9 @@ impl Sheet {
         if let Some(at) = add_place(&mut self.order, &mut self.free, n) {
             let row = own_row(&self.order, at);
             reach(&mut self.levels, self.channels, row + 1);
+            self.marks.reach(row + 1);
             if self.order.len() == cues.len() {
+                self.marks.write(row, &cues[at]);
                 fill_inserted(&mut self.levels, &mut self.look, &self.order, cues, at);
             }
         }
@@ -139,12 +196,14 @@ impl Sheet {
             → show.now ≡ with_cue before cue → RowsStandFor show.now self.new }
     {
         let cues = show.cues();
-        if let Ok(place) = index_of(self.order.as_slice(), n.get()) {
-            if self.order.len() == cues.len() {
+        let order = self.order.as_slice();
+        if let Ok(place) = index_of(order, n.get()) {
+            if order.len() == cues.len() {
+                self.marks.write(own_row(order, place), &cues[place]);
                 fill_from(
                     &mut self.levels,
                     &mut self.look,
-                    &self.order,
+                    order,
                     cues,
                     place,
                     place + 1,
@@ -162,16 +221,28 @@ impl Sheet {
         list_cues(&mut self.order, cues);
         list_free(&mut self.free, cues.len());
         reach(&mut self.levels, self.channels, cues.len());
-        fill_from(
-            &mut self.levels,
-            &mut self.look,
-            &self.order,
-            cues,
-            0,
-            cues.len(),
-        );
+        self.marks.reach(cues.len());
+        let order = self.order.as_slice();
+        mark_all(&mut self.marks, order, cues);
+        fill_from(&mut self.levels, &mut self.look, order, cues, 0, cues.len());
     }
 }
+
+/// Writes the marks of each cue's own row.
+fn mark_all(marks: &mut Marks, order: &[Place], cues: &[Cue])
+    requires few { marks.old.groups ≤ 64 }
+    requires order { length order.now ≡ length cues.now }
+    requires rows { AreApart (own_rows order.now) }
+    requires reach { All (IsReached marks.old) (own_rows order.now) }
+    requires moves { AllByRecursion (MovesWithin (64 * marks.old.groups)) cues.now }
+    ensures table { IsGrown marks.old marks.new }
+    ensures marks { AreMarked (64 * marks.old.groups) order.now cues.now marks.new }
+{
+    for place in 0..cues.len() {
+        marks.write(own_row(order, place), &cues[place]);
+    }
+}
+
 /// How many cues are below the number: all where there is none.
 fn count_below(cues: &[Cue], to: Option<CueNo>) -> usize
     requires { IsStrictlySorted (λ cue. cue.number) cues.now }

@@ -5,6 +5,7 @@
 mod block;
 mod edits;
 mod look;
+mod marks;
 mod pool;
 mod sheet;
 

@@ -11,6 +11,7 @@ ghost use Rattle.lx_sheet.specs.Rows.{row_at, level_of};
 ghost use Rattle.lx_sheet.specs.SheetMeaning.{RowsStandFor};
 
 use crate::block::{ROW_GAP, level_before, own_row};
+use crate::marks::Marks;
 use crate::pool::list_free;
 use lx_base::{CUE_UNIT, CUES, Chan, CueNo, Level};
 use lx_show::Show;
@@ -37,8 +38,8 @@ impl Keyed for Place {
     }
 }
 
-/// A row of tracked levels for each cue of a show. Contracts see the channel count for which it was
-/// opened, and its rows, sorted by cue number.
+/// A row of tracked levels for each cue of a show, and marks of the channels that the cue may decide. Contracts see the channel
+/// count for which it was opened, its rows and its marks, sorted by cue number.
 #[derive(Drop)]
 pub struct Sheet {
     pub(crate) channels: usize,
@@ -51,19 +52,25 @@ pub struct Sheet {
     pub(crate) levels: Vec<Level>,
     /// The levels of the cue that is being filled in.
     pub(crate) look: Vec<Level>,
+    /// The marks of the rows of the block.
+    pub(crate) marks: Marks,
 }
 
 impl Model for Sheet {
     ghost use Rattle.std.specs.Prelude.{vec_capacity};
     ghost use Rattle.lx_sheet.specs.Rows.{Sheet as SheetData};
-    ghost use Rattle.lx_sheet.specs.Block.{rows_of, HoldsRows};
+    ghost use Rattle.lx_sheet.specs.Block.{marks_of, rows_of, HoldsRows};
 
     ghost Value = { SheetData };
 
-    ghost view = { λ s. record { channels = s.channels; rows = rows_of s.channels s.order.items s.levels.items } };
+    ghost view = { λ s. record {
+      channels = s.channels;
+      rows = rows_of s.channels s.order.items s.levels.items;
+      marks = marks_of s.channels s.order.items s.marks;
+    } };
 
     ghost invariant = { λ s. HoldsRows s.channels s.order.items (vec_capacity s.order) s.free.items
-        (vec_capacity s.free) s.levels.items (vec_capacity s.levels) s.look.items };
+        (vec_capacity s.free) s.levels.items (vec_capacity s.levels) s.look.items s.marks };
 }
 
 impl Sheet {
@@ -81,6 +88,7 @@ impl Sheet {
             free,
             levels: Vec::with_capacity(alloc, CUES * (channels + ROW_GAP))?,
             look: vec![in alloc; 0; channels]?,
+            marks: Marks::open(alloc, channels)?,
         };
         sheet.refill(show);
         Ok(sheet)

@@ -15,13 +15,14 @@ returns c =
     let inv = c.loop-k.invariant in
     let chans = c.args.chans.now in
     record {
-      channels = inv.channels;
-      numbers = inv.numbers;
+      channels = inv.left.channels;
+      numbers = inv.left.numbers;
       columns = λ x. elim (cases_lt x 1) [
-        | inl none ↦ inv.others x (has_chan-none chans x (none_below x none))
+        | inl none ↦ inv.left.others x (has_chan-none chans x (none_below x none))
         | inr some ↦ elim (cases_lt CHANNELS x) [
-          | inl past ↦ inv.others x (has_chan-none chans x (is_chan-past x past))
+          | inl past ↦ inv.left.others x (has_chan-none chans x (is_chan-past x past))
           | inr within ↦ inv.done x some (omega (arith, within, c.loop-k-test.false))
         ]
       ];
+      marks = inv.left.marks;
     }

@@ -1,20 +1,22 @@
-use Rattle.std.proofs.Common.{◌∙◌, sym, subst}
+use Rattle.std.proofs.Common.{◌∙◌, refl, sym, subst}
 use Rattle.lx_spec.specs.Show.{Cue}
 use Rattle.lx_edit.specs.declared.chan_set.ChanSet.{ChanSet}
 use Rattle.lx_edit.specs.CueChanges.{KeepsLevels}
 use Rattle.lx_edit.specs.PlanMeaning.{with_move}
 use Rattle.lx_edit.proofs.ChangedColumns.{others_with}
+use Rattle.lx_edit.proofs.MendedSheets.{left_replaced, marked_moved}
 use Rattle.lx_edit.proofs.PlacedMoves.{moved, moved_is, was_there, sees_moved, move_back}
 use Rattle.lx_edit.proofs.application.place_move.Goals as goal
 
-pub mend_cue-requires : goal.mend_cue-requires
-mend_cue-requires c =
+pub mend_columns-requires : goal.mend_columns-requires
+mend_columns-requires c =
     let show = c.args.show.now in
     let entry = c.args.entry.now in
     let old = c.exchange_move_in-old.result in
     let m = moved show c.args.n entry c.channels.ensures.valid c.requires.ready in
     let was = was_there show c.args.n entry old m.cue m.found c.exchange_move_in-old.ensures.replaced in
-    record {
+    let is = c.exchange_move_in-old.ensures.show ∙ moved_is show c.args.n entry m.cue m.found in
+    left_replaced c.exchange_move_in-old.new.self c.args.sheet.now c.args.sheet.now c.args.n c.mark_move.new.chans (record {
       before = show;
       cue = with_move m.cue entry;
       valid = c.channels.ensures.valid;
@@ -22,9 +24,10 @@ mend_cue-requires c =
       number = m.number;
       least = m.least;
       there = m.stands;
-      is = c.exchange_move_in-old.ensures.show ∙ moved_is show c.args.n entry m.cue m.found;
+      is = is;
       same = sees_moved show c.args.n entry old m.cue c.mark_move.new.chans m.found was c.mark_move.ensures.marked;
-    }
+    }) (λ k x. refl) refl refl
+    (marked_moved show c.exchange_move_in-old.new.self c.args.sheet.now m.cue c.args.n entry old is m.found m.number was c.requires.sheet.marks)
 
 pub returns-clause-others : goal.returns-clause-others
 returns-clause-others c =

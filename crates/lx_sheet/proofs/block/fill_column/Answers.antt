@@ -14,7 +14,7 @@ use Rattle.lx_sheet.proofs.BlockReach.{covered_at}
 use Rattle.lx_sheet.proofs.LevelsAfter.{level_after-take}
 use Rattle.lx_sheet.proofs.RowPool.{rows_differ}
 use Rattle.lx_sheet.proofs.block.fill_column.Goals as goal
-use Rattle.lx_sheet.proofs.block.fill_column.Goals.{then-decides_near+else-place-sure, else-decides_near}
+use Rattle.lx_sheet.proofs.block.fill_column.Goals.{then-decides_at+else-place-sure, else-decides_at}
 
 pub loop-place-preserved : goal.loop-place-preserved
 loop-place-preserved c =
@@ -24,9 +24,9 @@ loop-place-preserved c =
     let order : List Place = c.args.order.now in
     let cues : List Cue = c.args.cues.now in
     let cue : Cue = c.index-cues-place.result in
-    let level : ℕ = c.if-decides_near.level in
-    let row : ℕ = c.own_row.result in
-    let of_row : row ≡ row_at_place order place = c.own_row.ensures.row in
+    let level : ℕ = c.if-decides_at.level in
+    let row : ℕ = c.own_row-row.result in
+    let of_row : row ≡ row_at_place order place = c.own_row-row.ensures.row in
     let is : c.get.result ≡ chan = c.get.ensures.value in
     let least : 1 ≤ c.get.result = c.get.ensures.least in
     let most : c.get.result ≤ n = omega (arith, c.requires.within) in
@@ -44,15 +44,15 @@ loop-place-preserved c =
     → cue_level n order new k chan ≡ cue_level n order c.loop-place.levels k chan = λ k other inside.
     cell-set_other n c.loop-place.levels row (row_at_place order k) c.get.result chan level least most
     (λ e _. rows_differ order k place c.requires.rows inside there other (e ∙ of_row)) in
-    let step : level ≡ tracked_on cue chan c.loop-place.level = elim c.if-decides_near.branch [
-      | then-decides_near+else-place-sure w ↦
-          let same : w.index-cues-place-then-decides_near.result ≡ cue = w.index-cues-place-then-decides_near.is
+    let step : level ≡ tracked_on cue chan c.loop-place.level = elim c.if-decides_at.branch [
+      | then-decides_at+else-place-sure w ↦
+          let same : w.index-cues-place-then-decides_at.result ≡ cue = w.index-cues-place-then-decides_at.is
           ∙ get_or_default cues place _ cue within ∙ sym c.index-cues-place.is in
           w.level-is ∙ w.level_of-level.ensures ∙ ap (λ (x : Cue). level_in x chan) same
-          ∙ sym (ap (λ (b : Bool). cond b (level_in cue chan) c.loop-place.level) (sym c.decides_near.ensures ∙ w.if-decides_near.true))
-      | else-decides_near w ↦
+          ∙ sym (ap (λ (b : Bool). cond b (level_in cue chan) c.loop-place.level) (sym c.decides_at.ensures ∙ w.if-decides_at.true))
+      | else-decides_at w ↦
           w.level-is
-          ∙ sym (ap (λ (b : Bool). cond b (level_in cue chan) c.loop-place.level) (sym c.decides_near.ensures ∙ w.if-decides_near.false))
+          ∙ sym (ap (λ (b : Bool). cond b (level_in cue chan) c.loop-place.level) (sym c.decides_at.ensures ∙ w.if-decides_at.false))
     ] in
     let tracks : last_value c.args.from (λ k. cue_level n order c.args.levels.now k chan)
     ≡ level_after (take c.args.from cues) chan → level ≡ level_after (take (place + 1) cues) chan =
@@ -61,9 +61,9 @@ loop-place-preserved c =
     let passes : c.args.sure ≤ place → IfSome (slice_get cues place) (λ x. decides x chan ≡ false) = λ sure.
     subst (λ (o : Option Cue). IfSome o (λ x. decides x chan ≡ false))
     (sym (slice_get-get_or cues place cue within ∙ ap Some (sym c.index-cues-place.is)))
-    (elim c.if-decides_near.branch [
-      | then-decides_near+else-place-sure w ↦ absurd (omega (arith, w.if-place-sure.false, sure))
-      | else-decides_near w ↦ sym c.decides_near.ensures ∙ w.if-decides_near.false
+    (elim c.if-decides_at.branch [
+      | then-decides_at+else-place-sure w ↦ absurd (omega (arith, w.if-place-sure.false, sure))
+      | else-decides_at w ↦ sym c.decides_at.ensures ∙ w.if-decides_at.false
     ]) in
     record {
       level = tracks;

@@ -1,5 +1,5 @@
-use Rattle.std.proofs.Common.{◌≡◌, ◌+◌, ◌*◌, ◌≤◌, ℕ, List, length, ap, sym, ◌∙◌, subst, refl, arith}
-use Rattle.std.specs.Prelude.{None, insert}
+use Rattle.std.proofs.Common.{◌≡◌, ◌+◌, ◌*◌, ◌<◌, ◌≤◌, ℕ, List, length, ap, sym, ◌∙◌, subst, refl, arith}
+use Rattle.std.specs.Prelude.{IfSome, None, insert, max, slice_get}
 use Rattle.std.specs.List.{length_refill}
 use Rattle.std.specs.Vec.{with_items}
 use Rattle.std.proofs.lemmas.List.{with_items_is}
@@ -9,11 +9,14 @@ use Rattle.lx_spec.specs.SortedList.{IsStrictlySorted}
 use Rattle.lx_spec.specs.Show.{Cue, Show}
 use Rattle.lx_spec.specs.EditedShow.{with_cue}
 use Rattle.lx_spec.specs.TrackedLevel.{cue_of}
+use Rattle.lx_sheet.specs.declared.marks.Marks.{Marks}
 use Rattle.lx_sheet.specs.declared.sheet.Place.{Place}
 use Rattle.lx_sheet.specs.Block.{AreApart, Covers, own_rows, row_at_place, width}
+use Rattle.lx_sheet.specs.Marks.{IsMarkedFor}
 use Rattle.lx_sheet.specs.After.{IsFilled, IsPassed}
 use Rattle.lx_sheet.specs.SheetMeaning.{RowsStandFor}
 use Rattle.lx_sheet.proofs.BlockReach.{covers_inserted, covers_lent, covers_longer, stands_same}
+use Rattle.lx_sheet.proofs.MarkedRows.{kept_places, marked_place, reached_grown, reached_more, table_grown}
 use Rattle.lx_sheet.proofs.RightRows.{order_of, order_length, rows_right}
 use Rattle.lx_sheet.proofs.RowPool.{own_apart}
 use Rattle.lx_sheet.proofs.Rows.{sheet_of}
@@ -22,15 +25,15 @@ use Rattle.lx_sheet.proofs.sheet.Sheet.insert_row.Goals as goal
 
 -- with the row of the cue that came the block covers the new order
 reached : (channels : ℕ) (levels grown : List ℕ) (old new lent : List Place) (at n row : ℕ) → Covers channels levels old
-    → length levels ≤ length grown → (row + 1) * width channels ≤ length grown
+    → length grown ≡ max (length levels) ((row + 1) * width channels)
     → new ≡ insert old at (record { cue = n; row = row_at_place new at }) → lent ≡ new → row ≡ row_at_place lent at
     → Covers channels grown new
-reached channels levels grown old new lent at n row covers longer here added same is =
+reached channels levels grown old new lent at n row covers long added same is =
     let own : row ≡ row_at_place new at = is ∙ ap (λ (xs : List Place). row_at_place xs at) same in
     subst (Covers channels grown) (sym added)
     (covers_inserted channels grown old at (record { cue = n; row = row_at_place new at })
-    (covers_longer channels levels grown old longer covers)
-    (subst (λ r. (r + 1) * width channels ≤ length grown) own here))
+    (covers_longer channels levels grown old (omega (arith, long)) covers)
+    (subst (λ r. (r + 1) * width channels ≤ length grown) own (omega (arith, long))))
 
 pub own_row-row-requires-clause-rows : goal.own_row-row-requires-clause-rows
 own_row-row-requires-clause-rows c =
@@ -52,10 +55,12 @@ returns-then-len-cues c = λ before cue stands number absent now.
     let new : List Place = c.add_place.new.order.items in
     let levels : List ℕ = c.reach.new.levels.items in
     let filled : List ℕ = c.fill_inserted.new.levels in
-    let was : RowsStandFor before (sheet_of channels old levels) =
-    stands_same before channels old c.self.inside.levels.items levels c.self.invariant.sorted c.reach.ensures.same
+    let was : Marks = c.self.inside.marks in
+    let marks : Marks = c.write.new.self in
+    let stood : RowsStandFor before (sheet_of channels old levels was) =
+    stands_same before channels old c.self.inside.levels.items levels was c.self.invariant.sorted c.reach.ensures.same
     (subst (RowsStandFor before) (sym c.self.view_is) stands) in
-    let order = order_of before channels old levels c.self.invariant.sorted was in
+    let order = order_of before channels old levels was c.self.invariant.sorted stood in
     let of_cues : c.cues-cues.result.now ≡ show.cues = c.cues-cues.ensures.cues ∙ ap (λ (s : Show). s.cues) now in
     let long : length c.deref_mut-then-len-cues.result.now ≡ channels =
     omega (arith, ap length c.deref_mut-then-len-cues.ensures.value, c.self.invariant.look_room) in
@@ -64,12 +69,25 @@ returns-then-len-cues c = λ before cue stands number absent now.
     let is : IsFilled channels new show.cues levels filled at (at + 1) =
     told_as (λ k xs ys zs. IsPassed k xs ys zs at → IsFilled k xs ys zs filled at (at + 1)) _ channels _ new _ show.cues _ levels long
     c.deref-then-len-cues.ensures.value of_cues c.deref_mut.ensures.value c.fill_inserted.ensures
-    (passed channels old new before.cues show.cues levels at shifted (rows_right before channels old levels c.self.invariant.sorted was)) in
-    subst (λ (s : Show). RowsStandFor s (sheet_of channels new (with_items c.reach.new.levels filled).items)) (sym now)
-    (subst (λ (xs : List ℕ). RowsStandFor show (sheet_of channels new xs)) (sym (with_items_is c.reach.new.levels filled (omega arith)))
-    (shifted_stands before show channels old new levels filled at at (at + 1) c.self.invariant.sorted c.add_place.ensures.sorted
-    (subst (λ (s : Show). IsStrictlySorted (λ x. x.number) s.cues) now c.cues-cues.ensures.valid.cues_sorted) was.channels was
-    shifted is))
+    (passed channels old new before.cues show.cues levels at shifted (rows_right before channels old levels was c.self.invariant.sorted stood)) in
+    let row : c.own_row-row.result ≡ row_at_place new at = c.own_row-row.ensures.row
+    ∙ ap (λ (xs : List Place). row_at_place xs at) c.deref.ensures.value in
+    let there : at < length new = omega
+    (arith, ap length c.in-Some.ensures.added ∙ length-insert old at _ c.in-Some.ensures.goes.within, c.in-Some.ensures.goes.within) in
+    let within : at < length c.cues-cues.result.now = omega (arith, c.if-len-cues.true, c.len.ensures, c.add_place.new.order.ok, there) in
+    let wide : channels ≤ 64 * c.reach-in-Some.new.self.groups = omega (arith, c.self.invariant.table.groups, c.reach-in-Some.ensures.table.groups) in
+    subst (λ (s : Show). RowsStandFor s (sheet_of channels new (with_items c.reach.new.levels filled).items marks)) (sym now)
+    (subst (λ (xs : List ℕ). RowsStandFor show (sheet_of channels new xs marks)) (sym (with_items_is c.reach.new.levels filled (omega arith)))
+    (shifted_stands before show channels old new levels filled was marks at at (at + 1) c.self.invariant.sorted c.add_place.ensures.sorted
+    (subst (λ (s : Show). IsStrictlySorted (λ x. x.number) s.cues) now c.cues-cues.ensures.valid.cues_sorted) stood.channels stood
+    shifted is
+    (kept_places channels at c.own_row-row.result new was marks
+    (own_apart c.add_place.new.order.items c.add_place.new.free.items c.add_place.ensures.pool) there row
+    (λ r x apart least most. c.write.ensures.others r x apart least (omega (arith, most, wide)) ∙ c.reach-in-Some.ensures.same r x))
+    (subst (λ (xs : List Cue). (k : ℕ) → at ≤ k → k < at + 1 → IfSome (slice_get xs k) (IsMarkedFor channels marks (row_at_place new k)))
+    of_cues
+    (marked_place channels at c.own_row-row.result new c.cues-cues.result.now c.index-cues-at.result marks within c.index-cues-at.is row
+    (λ x least most. c.write.ensures.here x least (omega (arith, most, wide)))))))
 
 -- the order has a place for each cue of the show
 as_long : (before : Show) (cue : Cue) (n : ℕ) (old : List Place) → IsStrictlySorted (λ p. p.cue) old
@@ -81,9 +99,8 @@ as_long before cue n old sorted cues_sorted number absent same = one_more before
 pub returns-else-len-cues : goal.returns-else-len-cues
 returns-else-len-cues c = λ before cue stands number absent now.
     let old : List Place = c.self.inside.order.items in
-    let was : RowsStandFor before (sheet_of c.self.inside.channels old c.self.inside.levels.items) =
-    subst (RowsStandFor before) (sym c.self.view_is) stands in
-    let order = order_of before c.self.inside.channels old c.self.inside.levels.items c.self.invariant.sorted was in
+    let order = order_of before c.self.inside.channels old c.self.inside.levels.items c.self.inside.marks c.self.invariant.sorted
+    (subst (RowsStandFor before) (sym c.self.view_is) stands) in
     let more : length (with_cue before cue).cues ≡ length old + 1 =
     as_long before cue c.args.n old c.self.invariant.sorted order.cues_sorted number absent (order_length before old order) in
     let longer : length c.add_place.new.order.items ≡ length old + 1 = ap length c.in-Some.ensures.added
@@ -100,9 +117,8 @@ returns-else-len-cues c = λ before cue stands number absent now.
 pub returns-in_default : goal.returns-in_default
 returns-in_default c = λ before cue stands number absent now.
     let old : List Place = c.self.inside.order.items in
-    let was : RowsStandFor before (sheet_of c.self.inside.channels old c.self.inside.levels.items) =
-    subst (RowsStandFor before) (sym c.self.view_is) stands in
-    let order = order_of before c.self.inside.channels old c.self.inside.levels.items c.self.invariant.sorted was in
+    let order = order_of before c.self.inside.channels old c.self.inside.levels.items c.self.inside.marks c.self.invariant.sorted
+    (subst (RowsStandFor before) (sym c.self.view_is) stands) in
     let more : length (with_cue before cue).cues ≡ length old + 1 =
     as_long before cue c.args.n old c.self.invariant.sorted order.cues_sorted number absent (order_length before old order) in
     let full : CUES ≤ length old = c.add_place.ensures.none c.in_default.is
@@ -116,8 +132,7 @@ fill_inserted-requires-clause-room c =
     (ap length c.deref_mut.ensures.value)
     (reached c.self.inside.channels c.self.inside.levels.items c.reach.new.levels.items c.self.inside.order.items
     c.add_place.new.order.items c.deref.result.now c.in-Some.at c.args.n c.own_row-row.result c.self.invariant.covered
-    c.reach.ensures.longer
-    c.reach.ensures.reach c.in-Some.ensures.added c.deref.ensures.value c.own_row-row.ensures.row)
+    c.reach.ensures.length c.in-Some.ensures.added c.deref.ensures.value c.own_row-row.ensures.row)
 
 pub invariant_of-self : goal.invariant_of-self
 invariant_of-self c = record {
@@ -131,8 +146,15 @@ invariant_of-self c = record {
       (ap length (with_items_is c.reach.new.levels c.fill_inserted.new.levels (omega arith)) ∙ omega arith)
       (reached c.self.inside.channels c.self.inside.levels.items c.reach.new.levels.items c.self.inside.order.items
       c.add_place.new.order.items c.deref.result.now c.in-Some.at c.args.n c.own_row-row.result c.self.invariant.covered
-      c.reach.ensures.longer c.reach.ensures.reach c.in-Some.ensures.added c.deref.ensures.value c.own_row-row.ensures.row);
+      c.reach.ensures.length c.in-Some.ensures.added c.deref.ensures.value c.own_row-row.ensures.row);
   look_room = omega (arith, length_refill c.self.inside.look.len c.self.inside.look.items c.fill_inserted.new.look (omega arith));
+  table = table_grown c.self.inside.channels c.reach-in-Some.new.self c.write.new.self c.write.ensures.table
+      (table_grown c.self.inside.channels c.self.inside.marks c.reach-in-Some.new.self c.reach-in-Some.ensures.table c.self.invariant.table);
+  reached = λ r within.
+      reached_grown c.reach-in-Some.new.self c.write.new.self r c.write.ensures.table
+      (reached_more c.self.inside.channels (c.own_row-row.result + 1) _ _ c.self.inside.marks c.reach-in-Some.new.self
+      c.reach-in-Some.ensures.table c.reach-in-Some.ensures.reach c.reach.ensures.length c.self.invariant.reached r
+      (omega (arith, within, ap length (with_items_is c.reach.new.levels c.fill_inserted.new.levels (omega arith)))));
 }
 
 pub invariant_of-self-else-len-cues : goal.invariant_of-self-else-len-cues
@@ -145,8 +167,11 @@ invariant_of-self-else-len-cues c = record {
   level_room = omega (arith, c.reach.ensures.room, c.self.invariant.level_room);
   covered = reached c.self.inside.channels c.self.inside.levels.items c.reach.new.levels.items c.self.inside.order.items
       c.add_place.new.order.items c.deref.result.now c.in-Some.at c.args.n c.own_row-row.result c.self.invariant.covered
-      c.reach.ensures.longer c.reach.ensures.reach c.in-Some.ensures.added c.deref.ensures.value c.own_row-row.ensures.row;
+      c.reach.ensures.length c.in-Some.ensures.added c.deref.ensures.value c.own_row-row.ensures.row;
   look_room = c.self.invariant.look_room;
+  table = table_grown c.self.inside.channels c.self.inside.marks c.reach-in-Some.new.self c.reach-in-Some.ensures.table c.self.invariant.table;
+  reached = reached_more c.self.inside.channels (c.own_row-row.result + 1) _ _ c.self.inside.marks c.reach-in-Some.new.self
+      c.reach-in-Some.ensures.table c.reach-in-Some.ensures.reach c.reach.ensures.length c.self.invariant.reached;
 }
 
 pub invariant_of-self-in_default : goal.invariant_of-self-in_default
@@ -160,4 +185,6 @@ invariant_of-self-in_default c = record {
   covered = subst (Covers c.self.inside.channels c.self.inside.levels.items) (sym (c.add_place.ensures.same c.in_default.is))
       c.self.invariant.covered;
   look_room = c.self.invariant.look_room;
+  table = c.self.invariant.table;
+  reached = c.self.invariant.reached;
 }

@@ -1,4 +1,4 @@
-use Rattle.std.proofs.Common.{◌≡◌, ◌-◌, List, [], sym, subst, arith, rules}
+use Rattle.std.proofs.Common.{◌≡◌, ◌-◌, List, [], length, ap, sym, subst, arith, rules}
 use Rattle.lx_base.specs.declared.TheConstants.{CUES}
 use Rattle.lx_spec.specs.SortedList.{IsStrictlySorted}
 use Rattle.lx_sheet.specs.declared.sheet.Place.{Place}
@@ -19,4 +19,6 @@ invariant_of-sheet c =
       level_room = search rules;
       covered = subst (Covers c.channels-channels.result _) (sym none) (λ k d within. absurd (omega arith));
       look_room = search rules;
+      table = c.in_ok-open.ensures;
+      reached = λ r within. absurd (omega (arith, within, ap length c.in_ok-with_capacity-2.ensures.items));
     }

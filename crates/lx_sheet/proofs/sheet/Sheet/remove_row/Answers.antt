@@ -7,6 +7,7 @@ use Rattle.lx_base.specs.declared.TheConstants.{CUES}
 use Rattle.lx_spec.specs.SortedList.{IsStrictlySorted}
 use Rattle.lx_spec.specs.Show.{Cue, Show}
 use Rattle.lx_spec.specs.EditedShow.{without_cue}
+use Rattle.lx_sheet.specs.declared.marks.Marks.{Marks}
 use Rattle.lx_sheet.specs.declared.sheet.Place.{Place}
 use Rattle.lx_sheet.specs.Block.{AreApart, Covers, own_rows, width}
 use Rattle.lx_sheet.specs.After.{IsFilled, IsLeft}
@@ -40,8 +41,9 @@ returns-then-len-cues c = λ before stands now.
     let new : List Place = c.drop_place.new.order.items in
     let levels : List ℕ = c.self.inside.levels.items in
     let filled : List ℕ = c.fill_removed.new.levels in
-    let was : RowsStandFor before (sheet_of channels old levels) = subst (RowsStandFor before) (sym c.self.view_is) stands in
-    let order = order_of before channels old levels c.self.invariant.sorted was in
+    let marks : Marks = c.self.inside.marks in
+    let was : RowsStandFor before (sheet_of channels old levels marks) = subst (RowsStandFor before) (sym c.self.view_is) stands in
+    let order = order_of before channels old levels marks c.self.invariant.sorted was in
     let of_cues : c.cues-cues.result.now ≡ show.cues = c.cues-cues.ensures.cues ∙ ap (λ (s : Show). s.cues) now in
     let long : length c.deref_mut-then-len-cues.result.now ≡ channels =
     omega (arith, ap length c.deref_mut-then-len-cues.ensures.value, c.self.invariant.look_room) in
@@ -50,19 +52,20 @@ returns-then-len-cues c = λ before stands now.
     told_as (λ k xs ys zs. IsLeft k xs ys zs at row → IsFilled k xs ys zs filled at at) _ channels _ new _ show.cues _ levels long
     c.deref.ensures.value of_cues c.deref_mut.ensures.value c.fill_removed.ensures
     (left_behind channels old new before.cues show.cues levels at row shifted c.in-Some.ensures.row
-    (rows_right before channels old levels c.self.invariant.sorted was)) in
-    subst (λ (s : Show). RowsStandFor s (sheet_of channels new (with_items c.self.inside.levels filled).items)) (sym now)
-    (subst (λ (xs : List ℕ). RowsStandFor show (sheet_of channels new xs)) (sym (with_items_is c.self.inside.levels filled (omega arith)))
-    (shifted_stands before show channels old new levels filled at (at + 1) at c.self.invariant.sorted c.drop_place.ensures.sorted
+    (rows_right before channels old levels marks c.self.invariant.sorted was)) in
+    subst (λ (s : Show). RowsStandFor s (sheet_of channels new (with_items c.self.inside.levels filled).items marks)) (sym now)
+    (subst (λ (xs : List ℕ). RowsStandFor show (sheet_of channels new xs marks))
+    (sym (with_items_is c.self.inside.levels filled (omega arith)))
+    (shifted_stands before show channels old new levels filled marks marks at (at + 1) at c.self.invariant.sorted
+    c.drop_place.ensures.sorted
     (subst (λ (s : Show). IsStrictlySorted (λ x. x.number) s.cues) now c.cues-cues.ensures.valid.cues_sorted) was.channels was
-    shifted is))
+    shifted is (λ k x other within least most. refl) (λ k more less. absurd (omega (arith, more, less)))))
 
 pub returns-else-len-cues : goal.returns-else-len-cues
 returns-else-len-cues c = λ before stands now.
     let old : List Place = c.self.inside.order.items in
-    let was : RowsStandFor before (sheet_of c.self.inside.channels old c.self.inside.levels.items) =
-    subst (RowsStandFor before) (sym c.self.view_is) stands in
-    let order = order_of before c.self.inside.channels old c.self.inside.levels.items c.self.invariant.sorted was in
+    let order = order_of before c.self.inside.channels old c.self.inside.levels.items c.self.inside.marks c.self.invariant.sorted
+    (subst (RowsStandFor before) (sym c.self.view_is) stands) in
     let new : List Place = c.drop_place.new.order.items in
     let shifted = removed before c.args.n c.in-Some.freed.at old new order.cues_sorted order.numbers c.in-Some.ensures.stands
     c.in-Some.ensures.dropped in
@@ -82,14 +85,15 @@ returns-in_default c = λ before stands now.
     let old : List Place = c.self.inside.order.items in
     let channels : ℕ = c.self.inside.channels in
     let levels : List ℕ = c.self.inside.levels.items in
-    let was : RowsStandFor before (sheet_of channels old levels) = subst (RowsStandFor before) (sym c.self.view_is) stands in
-    let order = order_of before channels old levels c.self.invariant.sorted was in
+    let marks : Marks = c.self.inside.marks in
+    let was : RowsStandFor before (sheet_of channels old levels marks) = subst (RowsStandFor before) (sym c.self.view_is) stands in
+    let order = order_of before channels old levels marks c.self.invariant.sorted was in
     let absent = absent_alike (λ (p : Place). p.cue) (λ (x : Cue). x.number) c.args.n old before.cues order.numbers
     (c.drop_place.ensures.absent c.in_default.is) in
-    subst (λ (s : Show). RowsStandFor s (sheet_of channels c.drop_place.new.order.items levels)) (sym now)
-    (subst (λ (xs : List Place). RowsStandFor (without_cue before c.args.n) (sheet_of channels xs levels))
+    subst (λ (s : Show). RowsStandFor s (sheet_of channels c.drop_place.new.order.items levels marks)) (sym now)
+    (subst (λ (xs : List Place). RowsStandFor (without_cue before c.args.n) (sheet_of channels xs levels marks))
     (sym (c.drop_place.ensures.none c.in_default.is))
-    (subst (λ (cues : List Cue). RowsStandFor (record before { cues = cues }) (sheet_of channels old levels))
+    (subst (λ (cues : List Cue). RowsStandFor (record before { cues = cues }) (sheet_of channels old levels marks))
     (sym (taken_absent (λ (x : Cue). x.number) c.args.n before.cues absent)) was))
 
 pub fill_removed-requires-clause-room : goal.fill_removed-requires-clause-room
@@ -113,6 +117,9 @@ invariant_of-self c = record {
       (left c.self.inside.channels c.self.inside.levels.items c.self.inside.order.items c.drop_place.new.order.items c.in-Some.freed.at
       c.in-Some.ensures.stands.within c.self.invariant.covered c.in-Some.ensures.dropped);
   look_room = omega (arith, length_refill c.self.inside.look.len c.self.inside.look.items c.fill_removed.new.look (omega arith));
+  table = c.self.invariant.table;
+  reached = λ r within. c.self.invariant.reached r
+      (omega (arith, within, ap length (with_items_is c.self.inside.levels c.fill_removed.new.levels (omega arith))));
 }
 
 pub invariant_of-self-else-len-cues : goal.invariant_of-self-else-len-cues
@@ -126,6 +133,8 @@ invariant_of-self-else-len-cues c = record {
   covered = left c.self.inside.channels c.self.inside.levels.items c.self.inside.order.items c.drop_place.new.order.items c.in-Some.freed.at
       c.in-Some.ensures.stands.within c.self.invariant.covered c.in-Some.ensures.dropped;
   look_room = c.self.invariant.look_room;
+  table = c.self.invariant.table;
+  reached = c.self.invariant.reached;
 }
 
 pub fill_removed-requires-clause-row : goal.fill_removed-requires-clause-row

@@ -1,14 +1,12 @@
-use Rattle.std.proofs.Common.{◌≡◌, ℕ, ◌+◌, ◌-◌, ◌*◌, List, take, drop, ap, sym, ◌∙◌, subst, Some, None}
+use Rattle.std.proofs.Common.{◌≡◌, ℕ, ◌+◌, ◌-◌, ◌*◌, List, take, drop, ap, sym, ◌∙◌, subst, Some}
 use Rattle.std.specs.Prelude.{option_map}
-use Rattle.lx_spec.specs.SortedList.{entry_at}
-use Rattle.lx_show.specs.Indexes.{StandsAt}
 use Rattle.lx_spec.specs.Replies.{row_of}
 use Rattle.lx_sheet.specs.declared.sheet.Place.{Place}
 use Rattle.lx_sheet.specs.Rows.{Sheet, row_at, numbers_of}
 use Rattle.lx_sheet.specs.SheetMeaning.{RowsStandFor}
 use Rattle.lx_sheet.specs.Block.{row_at_place, AreApart, own_rows, width}
 use Rattle.lx_sheet.proofs.Cells.{width_of}
-use Rattle.lx_sheet.proofs.Found.{row_found, row_absent, cue_found, cue_absent}
+use Rattle.lx_sheet.proofs.Found.{absent_is, place_is, row_found, row_absent, cue_found, cue_absent}
 use Rattle.lx_sheet.proofs.RowPool.{own_apart}
 use Rattle.lx_sheet.proofs.sheet.Sheet.row.Goals as goal
 
@@ -18,17 +16,6 @@ part : (channels row own : ℕ) (lent levels : List ℕ) → lent ≡ levels →
 part channels row own lent levels same is =
     ap (λ n. take n (drop (row * width channels) lent)) (width_of row channels)
     ∙ ap (λ (xs : List ℕ). take channels (drop (row * width channels) xs)) same ∙ ap (λ r. take channels (drop (r * width channels) levels)) is
-
-place_is : (n m at : ℕ) (lent order : List Place) → m ≡ n → lent ≡ order → StandsAt (λ p. p.cue) m lent at
-    → StandsAt (λ p. p.cue) n order at
-place_is n m at lent order number same stands =
-    subst (λ (k : ℕ). StandsAt (λ p. p.cue) k order at) number (subst (λ (xs : List Place). StandsAt (λ p. p.cue) m xs at) same stands)
-
-absent_is : (n m : ℕ) (lent order : List Place) → m ≡ n → lent ≡ order → entry_at (λ p. p.cue) m lent ≡ None
-    → entry_at (λ p. p.cue) n order ≡ None
-absent_is n m lent order number same absent =
-    subst (λ (k : ℕ). entry_at (λ p. p.cue) k order ≡ None) number
-    (subst (λ (xs : List Place). entry_at (λ p. p.cue) m xs ≡ None) same absent)
 
 pub own_row-row-requires-clause-rows : goal.own_row-row-requires-clause-rows
 own_row-row-requires-clause-rows c =
@@ -56,7 +43,7 @@ returns-in-Ok-clause-stands c = λ show stands.
     c.as_slice-order.ensures.value c.in-Ok.ensures.stands in
     ap Some (part channels c.own_row-row.result (row_at_place order c.in-Ok.at) c.deref.result.now levels c.deref.ensures.value
     (c.own_row-row.ensures.row ∙ ap (λ (xs : List Place). row_at_place xs c.in-Ok.at) c.as_slice-order.ensures.value))
-    ∙ cue_found show channels order levels c.args.n c.in-Ok.at c.self.invariant.covered c.self.invariant.sorted place
+    ∙ cue_found show channels order levels c.self.inside.marks c.args.n c.in-Ok.at c.self.invariant.covered c.self.invariant.sorted place
     (subst (RowsStandFor show) (sym c.self.view_is) stands)
 
 pub returns-in-Err-clause-row : goal.returns-in-Err-clause-row

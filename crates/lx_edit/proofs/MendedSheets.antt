@@ -1,0 +1,75 @@
+-- What is left to be mended of a sheet: its columns, and the marks of the cues that were placed.
+use Rattle.std.proofs.Common.{◌≡◌, ◌≢◌, ℕ, ◌<◌, ◌≤◌, Bool, true, false, Some, None, refl, ◌∙◌, sym, ap, subst, inl, inr}
+use Rattle.std.specs.Prelude.{Option, IfSome, IsTrue, is_some, ◌||◌}
+use Rattle.std.proofs.lemmas.Bool.{cases_eq}
+use Rattle.std.proofs.lemmas.Option.{IfSome_then}
+use Rattle.lx_spec.specs.declared.Move.{Move}
+use Rattle.lx_spec.specs.Show.{Cue, Show}
+use Rattle.lx_spec.specs.TrackedLevel.{cue_of, decides, move_in, tracked}
+use Rattle.lx_spec.specs.EditedShow.{with_cue}
+use Rattle.lx_spec.proofs.SortedLists.{entry_at-placed_here, entry_at-placed_other}
+use Rattle.lx_sheet.specs.Rows.{Sheet, is_marked, level_of, numbers_of}
+use Rattle.lx_sheet.specs.SheetMeaning.{IsMarked, IsMarkedAt, cue_numbers}
+use Rattle.lx_edit.specs.declared.chan_set.ChanSet.{ChanSet}
+use Rattle.lx_edit.specs.CueChanges.{CanMend, IsPast, Replaced}
+use Rattle.lx_edit.specs.PlanMeaning.{with_move}
+use Rattle.lx_edit.proofs.ChangedColumns.{alike_past, numbers_with, others_with}
+use Rattle.lx_edit.proofs.Walks.{tracked_below-with_cue}
+
+-- The marks of the other cues are as before, and those of a cue that was placed are right.
+pub marked_with : (before show : Show) (sheet other : Sheet) (cue : Cue) (n : ℕ) → show ≡ with_cue before cue → cue.number ≡ n
+    → IsMarked before sheet → ((m c : ℕ) → m ≢ n → is_marked other m c ≡ is_marked sheet m c) → IsMarkedAt show other n
+    → IsMarked show other
+marked_with before show sheet other cue n is number marked others here m = elim (cases_eq m n) [
+  | inl at ↦ subst (IsMarkedAt show other) (sym at) here
+  | inr apart ↦
+      let same : cue_of show m ≡ cue_of before m = ap (λ (s : Show). cue_of s m) is
+      ∙ entry_at-placed_other (λ (x : Cue). x.number) m cue before.cues (λ e. apart (sym e ∙ number)) in
+      subst (λ (o : Option Cue). IfSome o (λ x. (c : ℕ) → decides x c ≡ true → is_marked other m c ≡ true)) (sym same)
+      (IfSome_then (cue_of before m) (marked m) (λ x right c decided. others m c apart ∙ right c decided))
+]
+
+still_decides : (cue : Cue) (entry old : Move) (c : ℕ) → move_in cue entry.chan ≡ Some old → decides (with_move cue entry) c ≡ true
+    → decides cue c ≡ true
+still_decides cue entry old c was is = elim (cases_eq c entry.chan) [
+  | inl here ↦
+      let both : (b : Bool) → (b || true) ≡ true = λ b. elim b as (λ x. (x || true) ≡ true) [ true ↦ refl | false ↦ refl ] in
+      ap (λ k. cue.block || is_some (move_in cue k)) here ∙ ap (λ (o : Option Move). cue.block || is_some o) was ∙ both cue.block
+  | inr other ↦
+      ap (λ (o : Option Move). cue.block || is_some o)
+      (sym (entry_at-placed_other (λ (m : Move). m.chan) c entry cue.moves (λ e. other (sym e)))) ∙ is
+]
+
+-- a cue that moved the channel before keeps its marks
+pub marked_moved : (show new : Show) (sheet : Sheet) (cue : Cue) (n : ℕ) (entry old : Move) → new ≡ with_cue show (with_move cue entry)
+    → cue_of show n ≡ Some cue → cue.number ≡ n → move_in cue entry.chan ≡ Some old → IsMarked show sheet → IsMarked new sheet
+marked_moved show new sheet cue n entry old is found number was marked =
+    let had : (c : ℕ) → decides cue c ≡ true → is_marked sheet n c ≡ true =
+    subst (λ (o : Option Cue). IfSome o (λ x. (c : ℕ) → decides x c ≡ true → is_marked sheet n c ≡ true)) found (marked n) in
+    let now : cue_of new n ≡ Some (with_move cue entry) = ap (λ (s : Show). cue_of s n) is
+    ∙ entry_at-placed_here (λ (x : Cue). x.number) n (with_move cue entry) show.cues number in
+    marked_with show new sheet sheet (with_move cue entry) n is number marked (λ m c apart. refl)
+    (subst (λ (o : Option Cue). IfSome o (λ x. (c : ℕ) → decides x c ≡ true → is_marked sheet n c ≡ true)) (sym now)
+    (λ c decided. had c (still_decides cue entry old c was decided)))
+
+-- what is left where a cue was put in the place of another
+pub left_replaced : (show : Show) (sheet other : Sheet) (n : ℕ) (chans : ChanSet) → Replaced show sheet n chans
+    → ((m c : ℕ) → level_of other m c ≡ level_of sheet m c) → numbers_of other ≡ numbers_of sheet → other.channels ≡ sheet.channels
+    → IsMarked show other → CanMend show other n None chans
+left_replaced show sheet other n chans w levels numbers channels marks =
+    let there : IsTrue (is_some (cue_of w.before w.cue.number)) =
+    subst (λ (k : ℕ). IsTrue (is_some (cue_of w.before k))) (sym w.number) w.there in
+    let stood : (x m : ℕ) → level_of other m x ≡ tracked w.before m x = λ x m. levels m x ∙ w.stood.columns x m in
+    record {
+      channels = channels ∙ w.stood.channels ∙ sym (ap (λ (s : Show). s.channels) w.is);
+      numbers = numbers ∙ w.stood.numbers ∙ sym (ap cue_numbers w.is ∙ numbers_with w.before w.cue w.valid there);
+      below = λ x m less. stood x m ∙ sym (ap (λ (s : Show). tracked s m x) w.is
+          ∙ tracked_below-with_cue w.before w.cue m x (subst (λ (k : ℕ). m < k) (sym w.number) less));
+      later = λ x m past. stood x m
+          ∙ alike_past w.before w.cue n m x w.valid w.number (subst (λ (k : ℕ). 1 ≤ k) w.number w.least)
+          (subst (λ (s : Show). IsPast None s n x m) w.is past)
+          ∙ sym (ap (λ (s : Show). tracked s m x) w.is);
+      others = λ x out m. stood x m
+          ∙ (others_with w.before show w.cue n chans w.valid w.is w.number w.least w.same x out).levels m;
+      marks = marks;
+    }

@@ -1,0 +1,23 @@
+use Rattle.std.proofs.Common.{◌<◌, ℕ, List, length, get_or, ap, sym, ◌∙◌, subst, arith}
+use Rattle.std.specs.Prelude.{◌==◌}
+use Rattle.std.specs.Int.{bit_at}
+use Rattle.std.proofs.lemmas.List.{get_or_read}
+use Rattle.std.proofs.lemmas.Nat.Bits.{shr_and_one}
+use Rattle.lx_sheet.specs.Marks.{has_mark}
+use Rattle.lx_sheet.specs.WordPlaces.{bit_of, group_of, row_bit}
+use Rattle.lx_sheet.proofs.MarkWords.{place_within}
+use Rattle.lx_sheet.proofs.marks.Marks.has.Goals as goal
+
+pub returns : goal.returns
+unfolding has_mark
+returns c =
+    let groups : ℕ = c.args.self.now.groups in
+    let words : List ℕ = c.args.self.now.words.items in
+    let n : ℕ = c.get.result in
+    let within : c.place_of.result < length words =
+    subst (λ p. p < length words) (sym c.place_of.ensures)
+    (place_within groups c.args.row (group_of n) (length words) (omega arith) c.requires.reach) in
+    ap (λ (b : ℕ). b == 1) (shr_and_one c.index-word.result.now (bit_of n))
+    ∙ ap (λ w. bit_at w (bit_of n) == 1) (get_or_read words c.place_of.result c.index-word.result.now within c.index-word.ensures 0)
+    ∙ ap (λ p. bit_at (get_or words p 0) (bit_of n) == 1) c.place_of.ensures
+    ∙ ap (λ k. row_bit groups words c.args.row k == 1) c.get.ensures.value

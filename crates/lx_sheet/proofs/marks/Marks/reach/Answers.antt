@@ -1,0 +1,31 @@
+use Rattle.std.proofs.Common.{◌≡◌, ◌+◌, ◌-◌, ◌/◌, ◌%◌, ◌++◌, ℕ, List, get_or, min, take, vec_len, ap, ◌∙◌, arith}
+use Rattle.std.specs.Prelude.{replicate, ◌==◌}
+use Rattle.std.specs.Int.{bit_at}
+use Rattle.std.proofs.Math.Nat.{mul-le-mul_right}
+use Rattle.std.proofs.lemmas.List.{take_all}
+use Rattle.lx_sheet.specs.Marks.{has_mark}
+use Rattle.lx_sheet.specs.WordPlaces.{bit_of, group_of, word_place}
+use Rattle.lx_sheet.proofs.BlockReach.{grown}
+use Rattle.lx_sheet.proofs.marks.Marks.reach.Goals as goal
+
+pub returns-in-Ok-clause-same : goal.returns-in-Ok-clause-same
+unfolding has_mark
+returns-in-Ok-clause-same c = λ row chan.
+    let old : List ℕ = c.args.self.now.words.items in
+    let more : ℕ = c.words_of-end.result - vec_len c.args.self.now.words in
+    let whole : take c.words_of-end.result old ≡ old = take_all c.words_of-end.result old (omega (arith, c.args.self.now.words.ok)) in
+    let longer : c.resize.new.self.items ≡ old ++ replicate more 0 = c.in-Ok.ensures.items
+    ∙ ap (λ (xs : List ℕ). xs ++ replicate more 0) whole in
+    let at : ℕ = word_place c.args.self.now.groups row (group_of chan) in
+    ap (λ w. bit_at w (bit_of chan) == 1) (ap (λ (xs : List ℕ). get_or xs at 0) longer ∙ grown old more at)
+
+pub returns-else-len-end-clause-reach : goal.returns-else-len-end-clause-reach
+returns-else-len-end-clause-reach c = λ row less.
+    let rows : ℕ = c.args.rows in
+    omega (
+      arith,
+      mul-le-mul_right {m = row / 64 + 1} {n = rows / 64 + min 1 (rows % 64)} c.args.self.now.groups (omega arith),
+      c.words_of-end.ensures,
+      c.len.ensures,
+      c.args.self.now.words.ok,
+    )

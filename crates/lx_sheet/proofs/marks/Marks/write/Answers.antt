@@ -1,0 +1,24 @@
+use Rattle.std.proofs.Common.{ℕ, List, ap, ◌∙◌, arith}
+use Rattle.std.specs.Prelude.{◌==◌}
+use Rattle.std.specs.Int.{bit_at}
+use Rattle.std.proofs.lemmas.List.{with_items_is}
+use Rattle.lx_sheet.specs.Marks.{has_mark}
+use Rattle.lx_sheet.specs.WordPlaces.{bit_of, group_of, row_bit}
+use Rattle.lx_sheet.proofs.marks.Marks.write.Goals as goal
+
+pub returns-clause-here : goal.returns-clause-here
+unfolding has_mark
+returns-clause-here c = λ chan least most is.
+    let new : List ℕ = c.write_row.new.words in
+    let written = with_items_is c.args.self.now.words new (omega arith) in
+    ap (λ (xs : List ℕ). row_bit c.args.self.now.groups xs c.args.row chan == 1) written
+    ∙ ap (λ b. b == 1) (c.write_row.ensures.here chan least most is)
+
+pub returns-clause-others : goal.returns-clause-others
+unfolding has_mark
+returns-clause-others c = λ row chan apart least most.
+    let new : List ℕ = c.write_row.new.words in
+    let written = with_items_is c.args.self.now.words new (omega arith) in
+    ap (λ (xs : List ℕ). row_bit c.args.self.now.groups xs row chan == 1) written
+    ∙ ap (λ w. bit_at w (bit_of chan) == 1) (c.write_row.ensures.others row (group_of chan) apart (omega (arith, least, most)))
+    ∙ ap (λ (xs : List ℕ). row_bit c.args.self.now.groups xs row chan == 1) c.deref_mut.ensures.value
