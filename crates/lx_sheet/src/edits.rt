@@ -25,21 +25,21 @@ use lx_show::{Cue, Show};
 
 /// Which cues are asked whether they decide a channel.
 #[derive(Clone, Copy)]
-enum Asked {
+enum CuesAsked {
     /// Each of them.
     Each,
     /// Those that are marked.
     Marked,
 }
 
-impl Asked {
+impl CuesAsked {
     /// The marks that tell which: none where each cue is asked.
     fn among(self, marks: &Marks) -> Option<&Marks>
-        ensures { IfSome result (λ m. (m.now ≡ marks.now) × (self ≡ Asked.Marked)) }
+        ensures { IfSome result (λ m. (m.now ≡ marks.now) × (self ≡ CuesAsked.Marked)) }
     {
         match self {
-            Asked::Each => None,
-            Asked::Marked => Some(marks),
+            CuesAsked::Each => None,
+            CuesAsked::Marked => Some(marks),
         }
     }
 }
@@ -76,7 +76,7 @@ impl Sheet {
         ensures marks { self.new.marks ≡ self.old.marks }
     {
         let last = count_below(show.cues(), to);
-        self.fill(show, from, chan, last, last, Asked::Each);
+        self.fill(show, from, chan, last, last, CuesAsked::Each);
     }
 
     /// The same where the channel's levels change up to the next cue above `from` that decides it: one pass finds that cue and fills
@@ -97,19 +97,27 @@ impl Sheet {
     {
         let cues = show.cues();
         let next = up_to(cues, from.get()).len();
-        self.fill(show, from, chan, next, cues.len(), Asked::Marked);
+        self.fill(show, from, chan, next, cues.len(), CuesAsked::Marked);
     }
 
     /// The same up to a place of the order, or to the first cue from another on that decides the channel. The rows from the end
     /// on stand for the show as they are.
-    fn fill(&mut self, show: &Show, from: CueNo, chan: Chan, sure: usize, to: usize, asked: Asked)
+    fn fill(
+        &mut self,
+        show: &Show,
+        from: CueNo,
+        chan: Chan,
+        sure: usize,
+        to: usize,
+        asked: CuesAsked,
+    )
         requires channels { self.old.channels ≡ show.now.channels }
         requires numbers { numbers_of self.old ≡ cue_numbers show.now }
         requires below { (n : ℕ) → n < from → level_of self.old n chan ≡ tracked show.now n chan }
         requires to { to ≤ length show.now.cues }
         requires above { (end : ℕ) → IsEnd show.now.cues chan (count_under from (cue_numbers show.now)) sure to end
             → StandsFrom show.now chan end self.old }
-        requires marks { asked ≡ Asked.Marked → IsMarked show.now self.old }
+        requires marks { asked ≡ CuesAsked.Marked → IsMarked show.now self.old }
         ensures column { StandsIn show.now chan self.new }
         ensures others { (n c : ℕ) → c ≢ chan → level_of self.new n c ≡ level_of self.old n c }
         ensures numbers { numbers_of self.new ≡ numbers_of self.old }
