@@ -5,6 +5,7 @@ use Rattle.std.specs.Prelude.{codes, decimal}
 use Rattle.std.specs.List.{before_first}
 use Rattle.std.specs.Io.KnownBytes.{Appends}
 use Rattle.lx_base.specs.declared.TheConstants.{INPUT_BYTES}
+use Rattle.lx_io.specs.Causes.{Rose}
 use Rattle.lx_io.specs.Puts.{AppendsFront}
 use Rattle.lx_lex.specs.declared.lines.Lines.{Lines}
 use Rattle.lx_lex.specs.Unread.{unread}
@@ -128,6 +129,17 @@ nothing_told (Some bytes) a cues d = record {
   wants = wants_nothing [] (begin_at d) (before_first ends_script (lines_of bytes)) (λ n has. no_place n 0 has);
   text = front_nothing a (made_text cues (session d (lines_of bytes) []));
 }
+
+-- a report that was told, or that was not for a write fault or want of memory
+pub told_cause : (s : Status) (reads reads' writes writes' : ℕ) → (s ≡ status.Ok) ⊎ ((s ≡ status.WriteFault) ⊎ (s ≡ status.Memory))
+    → (s ≡ status.WriteFault → Rose writes writes') → HasCauseOf s reads reads' writes writes'
+told_cause s reads reads' writes writes' kinds write = elim kinds [
+  | inl ok ↦ subst (λ x. HasCauseOf x reads reads' writes writes') (sym ok) tt
+  | inr fault ↦ elim fault [
+    | inl failed ↦ subst (λ x. HasCauseOf x reads reads' writes writes') (sym failed) (write failed)
+    | inr memory ↦ subst (λ x. HasCauseOf x reads reads' writes writes') (sym memory) tt
+  ]
+]
 
 -- a source that never fails
 pub no_read_fault : (s : Status) (reads reads' writes writes' n : ℕ) → reads ≡ 0 → reads' ≡ 0 → HasCauseOf s reads reads' writes writes'

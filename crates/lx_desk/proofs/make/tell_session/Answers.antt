@@ -1,5 +1,5 @@
 use Rattle.lx_spec.specs.Desk.{opened}
-use Rattle.lx_desk.proofs.MadeEndings.{nothing_told, session_told, session_front_told}
+use Rattle.lx_desk.proofs.MadeEndings.{nothing_told, session_told, session_front_told, told_cause}
 use Rattle.lx_desk.proofs.make.tell_session.Goals as goal
 
 pub returns-in_default-clause-ended : goal.returns-in_default-clause-ended
@@ -22,3 +22,6 @@ returns-in-Ok-session-clause-front g c =
 
 pub returns-clause-front : goal.returns-clause-front
 returns-clause-front g c = nothing_told _ _ c.args.cues _
+
+pub returns-in-Ok-session-clause-cause : goal.returns-in-Ok-session-clause-cause
+returns-in-Ok-session-clause-cause g c = told_cause c.tell.result _ _ _ _ c.tell.ensures.kinds c.tell.ensures.write
