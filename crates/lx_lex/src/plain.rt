@@ -134,7 +134,7 @@ fn first_digits(text: &[u8]) -> Option<(u32, &[u8])>
 
 /// What follows this separator, before which a token ends. None where another byte or nothing is there.
 #[inline(always)]
-fn past_byte(rest: &[u8], separator: u8) -> Option<&[u8]>
+pub(crate) fn past_byte(rest: &[u8], separator: u8) -> Option<&[u8]>
     requires { is_separator separator ≡ true }
     ensures { IfSome result (λ others. EndsToken rest.now others.now) }
 {

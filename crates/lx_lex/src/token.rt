@@ -1,8 +1,9 @@
 //! An iterator over the tokens of a line.
 
 use crate::plain::{first_hex, first_number, number_before};
+use crate::ready::past_channel;
 use crate::scan::first_token;
-use lx_base::Level;
+use lx_base::{Chan, Level};
 
 /// The tokens of a line that are left, each a slice of the line, in order.
 ///
@@ -14,7 +15,7 @@ pub struct Tokens<'a> {
 }
 
 impl<'a> Tokens<'a> {
-    ghost use Rattle.std.specs.Prelude.{◌≡◌, true, length, MatchOption};
+    ghost use Rattle.std.specs.Prelude.{◌≡◌, true, false, length, MatchOption};
     ghost use Rattle.lx_spec.specs.Text.{is_separator, tokens};
     ghost use Rattle.lx_lex.specs.Left.{left};
     ghost use Rattle.lx_lex.specs.PlainNumber.{FirstIsLevel, FirstIsNumber};
@@ -54,6 +55,23 @@ impl<'a> Tokens<'a> {
         let (number, rest) = number_before(self.rest, separator)?;
         self.rest = rest;
         Some(number)
+    }
+
+    /// Takes the next token where it is this channel's number, with nothing before it and `@` behind it, and says whether it did. Else it
+    /// takes none; so it may also do where the number has fewer than three digits. To know a number again is less than to read it, so this
+    /// is for a list in which the next channel can be guessed.
+    #[inline(always)]
+    pub fn take_channel(&mut self, chan: Chan) -> bool
+        ensures taken { result ≡ true → FirstIsNumber (left self.old) chan (left self.new) }
+        ensures none { result ≡ false → self.new ≡ self.old }
+    {
+        match past_channel(self.rest, chan) {
+            Some(rest) => {
+                self.rest = rest;
+                true
+            }
+            None => false,
+        }
     }
 
     /// Takes the next token where it is `H` and two hexadecimal digits, and answers the level. Else it takes none, and

@@ -10,7 +10,7 @@ ghost use Rattle.lx_reader.specs.LineFaults.{IsFaultOf};
 ghost use Rattle.lx_reader.specs.ReadingState.{moves_of};
 
 use crate::line_fault::LineFault;
-use crate::lists::next_member;
+use crate::lists::{first_guess, guess_behind, next_member};
 use lx_base::PartNo;
 use lx_lex::Tokens;
 use lx_show::facts;
@@ -50,10 +50,12 @@ pub(crate) fn gather(
 {
     members.clear();
     let mut greatest = least;
+    let mut guess = first_guess();
     loop {
-        match next_member(i, &mut tokens) {
+        match next_member(i, guess, &mut tokens) {
             Ok(Some(member)) => {
                 facts::of_member(&member);
+                guess = guess_behind(member.chan);
                 greatest = greatest.max(member.chan.get());
                 keep(members, member)?;
             }

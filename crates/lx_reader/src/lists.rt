@@ -1,10 +1,11 @@
 //! The lists of a line, pair by pair and triple by triple.
 
-ghost use Rattle.std.specs.Prelude.{◌≡◌, ◌∷◌, [], Ok, Err, ◌<◌, ◌≤◌, length, IfOk, IfSome, MatchOption, MatchResult};
+ghost use Rattle.std.specs.Prelude.{◌≡◌, ◌∷◌, [], Ok, Err, ◌+◌, ◌<◌, ◌≤◌, length, min, IfOk, IfSome, MatchOption, MatchResult};
+ghost use Rattle.lx_base.specs.declared.TheConstants.{CHANNELS};
 ghost use Rattle.lx_base.specs.Numbers.{percent as percent_level};
 ghost use Rattle.lx_spec.specs.Numerals.{read_level};
 ghost use Rattle.lx_lex.specs.Left.{left};
-ghost use Rattle.lx_lex.specs.PlainNumber.{FirstIsLevel};
+ghost use Rattle.lx_lex.specs.PlainNumber.{FirstIsLevel, FirstIsNumber};
 ghost use Rattle.lx_reader.specs.FieldLists.{FirstIsMember, fault_in, all_pairs, all_triples, onto};
 
 use crate::numbers::fault_of;
@@ -24,32 +25,71 @@ fn fault_in(i: u32, bad: Bad, whole: bool) -> TextFault
     }
 }
 
-/// The next channel and level of a list of pairs; none at its end. A fault is that of the whole list.
+/// Channel 1, which is guessed where a list begins.
 #[inline(always)]
-pub(crate) fn next_member(i: u32, tokens: &mut Tokens) -> Result<Option<Member>, TextFault>
+pub(crate) fn first_guess() -> Chan
+    ensures { result ≡ 1 }
+{
+    match Chan::new(1) {
+        Some(chan) => chan,
+        None => unreachable!(),
+    }
+}
+
+/// The channel behind this one, which is guessed next, since most of a list's channels follow one another. The last one has none behind it.
+#[inline(always)]
+pub(crate) fn guess_behind(chan: Chan) -> Chan
+    ensures { result ≡ min (chan + 1) CHANNELS }
+{
+    match Chan::new(chan.get() + 1) {
+        Some(next) => next,
+        None => chan,
+    }
+}
+
+/// The next channel and level of a list of pairs; none at its end. A fault is that of the whole list. The channel is first looked for
+/// as the one that is guessed.
+#[inline(always)]
+pub(crate) fn next_member(
+    i: u32,
+    guess: Chan,
+    tokens: &mut Tokens,
+) -> Result<Option<Member>, TextFault>
     ensures fewer { IfOk result (λ o. IfSome o (λ m. length (left tokens.new) < length (left tokens.old))) }
     ensures list { MatchResult result
         (λ o. MatchOption o (left tokens.old ≡ [])
         (λ m. all_pairs i (left tokens.old) ≡ onto (m ∷ []) (all_pairs i (left tokens.new))))
         (λ fault. all_pairs i (left tokens.old) ≡ Err fault) }
 {
-    match near_member(tokens) {
+    match near_member(guess, tokens) {
         Some(member) => Ok(Some(member)),
         None => far_member(i, tokens),
     }
 }
 
 /// The next channel and level where `@` and a space end them and nothing else stands before them, as in most lists, and
-/// both are within their ranges. Else no token is taken.
+/// both are within their ranges. Else no token is taken. The guess is as for `next_member`.
 #[inline(always)]
-pub(crate) fn near_member(tokens: &mut Tokens) -> Option<Member>
+pub(crate) fn near_member(guess: Chan, tokens: &mut Tokens) -> Option<Member>
     ensures { MatchOption result (tokens.new ≡ tokens.old) (λ m. FirstIsMember (left tokens.old) m (left tokens.new)) }
 {
     let mut rest = *tokens;
-    let chan = Chan::new(rest.take_number_before(b'@')?)?;
+    let chan = near_channel(guess, &mut rest)?;
     let level = near_level(&mut rest)?;
     *tokens = rest;
     Some(Member { chan, level })
+}
+
+/// The channel that comes next, with `@` behind it and nothing before it. None where it isn't a number of at most four digits. Most often
+/// it is the one that is guessed.
+#[inline(always)]
+fn near_channel(guess: Chan, tokens: &mut Tokens) -> Option<Chan>
+    ensures { IfSome result (λ chan. FirstIsNumber (left tokens.old) chan (left tokens.new)) }
+{
+    if tokens.take_channel(guess) {
+        return Some(guess);
+    }
+    Chan::new(tokens.take_number_before(b'@')?)
 }
 
 /// The level that comes next, with nothing before it. None where it isn't a percentage or `H` and two digits.

@@ -1,15 +1,19 @@
 //! The moves of the cue whose levels are being read, by channel: a level takes one write, however many the cue has.
 
-ghost use Rattle.std.specs.Prelude.{◌≡◌, ◌≤◌, ℕ, ◌<◌, ◌+◌, ◌++◌, ◌∷◌, [], Err, true, length, max, slice_get, take, IfOk, IfErr, IfSome, if◌then◌else◌};
+ghost use Rattle.std.specs.Prelude.{◌≡◌, ◌≤◌, ℕ, ◌<◌, ◌+◌, ◌++◌, ◌∷◌, [], Err, true, is_some, length, max, slice_get, take, if◌then◌else◌};
+ghost use Rattle.std.specs.Prelude.{IfOk, IfErr, IfSome, OnOk};
 ghost use Rattle.std.specs.List.{AllByRecursion};
+ghost use Rattle.std.specs.Option.{option_map_or};
 ghost use Rattle.lx_base.specs.declared.TheConstants.{CHANNELS};
 ghost use Rattle.lx_spec.specs.Show.{ValidMember};
 ghost use Rattle.lx_spec.specs.SortedList.{IsStrictlySorted, placed};
 ghost use Rattle.lx_lex.specs.Left.{left};
 ghost use Rattle.lx_reader.specs.FieldLists.{all_pairs};
+ghost use Rattle.lx_reader.specs.LineFaults.{IsFaultOf};
 ghost use Rattle.lx_reader.specs.OpenMoves.{ReadsLevels};
 
-use crate::lists::{far_member, near_member};
+use crate::line_fault::LineFault;
+use crate::lists::{far_member, first_guess, guess_behind, near_member};
 use lx_base::{CHANNELS, Chan, PartNo};
 use lx_lex::Tokens;
 use lx_show::MoveList;
@@ -43,27 +47,29 @@ impl Model for MoveRow {
 /// The moves of a cue. Contracts see them as a list sorted by channel.
 #[derive(Drop)]
 pub(crate) struct OpenMoves {
-    row: MoveRow,
+    /// Their row, once a cue had any: most of a small show's texts need none, and a row is some pages of memory.
+    row: Option<Box<MoveRow>>,
     /// Room for them as a list, once a cue had any.
     list: Vec<Move>,
 }
 
 impl Model for OpenMoves {
-    ghost use Rattle.std.specs.Prelude.{List};
+    ghost use Rattle.std.specs.Prelude.{List, []};
+    ghost use Rattle.std.specs.Option.{option_map_or};
     ghost use Rattle.lx_spec.specs.declared.Move.{Move};
 
     ghost Value = { List Move };
 
-    ghost view = { λ o. o.row };
+    ghost view = { λ o. option_map_or (λ row. row.value) o.row [] };
 }
 
 impl OpenMoves {
-    /// No moves.
+    /// No moves. It takes no memory yet.
     pub(crate) fn new(alloc: Global) -> OpenMoves
         ensures { result ≡ [] }
     {
         OpenMoves {
-            row: MoveRow::new(),
+            row: None,
             list: Vec::new(alloc),
         }
     }
@@ -72,22 +78,29 @@ impl OpenMoves {
     pub(crate) fn clear(&mut self)
         ensures { self.new ≡ [] }
     {
-        self.row.clear();
+        if let Some(row) = &mut self.row {
+            row.clear();
+        }
     }
 
     /// Places the levels of a line as moves in a part, each in place of the one of its channel, and answers the greatest of
     /// their channels and this number. A line with a fault leaves those before it here.
     pub(crate) fn put_line(
         &mut self,
+        alloc: Global,
         i: u32,
         tokens: Tokens,
         part: PartNo,
         least: u32,
-    ) -> Result<u32, TextFault>
+    ) -> Result<u32, LineFault>
         ensures levels { IfOk result (λ greatest. ReadsLevels i part least (left tokens.entry) [] greatest self.old self.new) }
-        ensures fault { IfErr result (λ fault. all_pairs i (left tokens.entry) ≡ Err fault) }
+        ensures fault { IfErr result (λ stop. IsFaultOf stop (all_pairs i (left tokens.entry))) }
     {
-        put_line(&mut self.row, i, tokens, part, least)
+        ensure_row(alloc, &mut self.row)?;
+        match &mut self.row {
+            Some(row) => Ok(put_line(row, i, tokens, part, least)?),
+            None => unreachable!(),
+        }
     }
 
     /// The moves as a list. None is of a channel above this one.
@@ -97,14 +110,17 @@ impl OpenMoves {
         ensures list { IfOk result (λ list. list ≡ self.old) }
         ensures same { self.new ≡ self.old }
     {
+        let Some(row) = &self.row else {
+            return MoveList::of_sorted(alloc, &[]);
+        };
         let count = channels as usize;
-        if let Some(all) = self.row.whole(count) {
+        if let Some(all) = row.whole(count) {
             return MoveList::of_sorted(alloc, all);
         }
         if self.list.len() < SLOTS {
             self.list.resize(SLOTS, any_move(0))?;
         }
-        let len = self.row.gather(count, &mut self.list);
+        let len = row.gather(count, &mut self.list);
         MoveList::of_sorted(alloc, &self.list[..len])
     }
 }
@@ -180,6 +196,17 @@ impl MoveRow {
     }
 }
 
+/// Makes the row where there is none. No move is there then.
+fn ensure_row(alloc: Global, row: &mut Option<Box<MoveRow>>) -> Result<(), AllocError>
+    ensures made { OnOk result (is_some row.new ≡ true) }
+    ensures same { OnOk result (option_map_or (λ r. r.value) row.new [] ≡ option_map_or (λ r. r.value) row.old []) }
+{
+    if row.is_none() {
+        *row = Some(Box::new(alloc, MoveRow::new())?);
+    }
+    Ok(())
+}
+
 /// Whether all of them are there. It has no early end, so that the compiler looks at many at once.
 fn are_there(flags: &[bool]) -> bool
     ensures { result ≡ true → (k : ℕ) → k < length flags.now → IfSome (slice_get flags.now k) (λ there. there ≡ true) }
@@ -216,7 +243,8 @@ fn put_line(
     }
 }
 
-/// The same for the levels at the front of a line that stand in the usual form. It answers the tokens that are left, too.
+/// The same for the levels at the front of a line that stand in the usual form. It answers the tokens that are left, too. Of a line's
+/// channels most follow one another, so each is first looked for as the one behind the last.
 fn put_near<'a>(
     row: &mut MoveRow,
     mut tokens: Tokens<'a>,
@@ -227,7 +255,9 @@ fn put_near<'a>(
     ensures fewer { length (left result.0) ≤ length (left tokens.entry) }
 {
     let mut greatest = least;
-    while let Some(member) = near_member(&mut tokens) {
+    let mut guess = first_guess();
+    while let Some(member) = near_member(guess, &mut tokens) {
+        guess = guess_behind(member.chan);
         greatest = row.put(member, part, greatest);
     }
     (tokens, greatest)

@@ -146,7 +146,7 @@ impl Reading {
         ensures fits { OnOk result (Fits self.new) }
     {
         if is_levels(word) && self.reader.identified && self.opens(line) {
-            return self.levels_line(i, tokens);
+            return self.levels_line(alloc, i, tokens);
         }
         if keeps_cue(word) {
             return self.quiet_line(alloc, i, line, word, tokens);
@@ -177,14 +177,16 @@ impl Reading {
     }
 
     /// `CHAN` with levels of the open cue.
-    fn levels_line(&mut self, i: u32, tokens: Tokens) -> Result<(), LineFault>
+    fn levels_line(&mut self, alloc: Global, i: u32, tokens: Tokens) -> Result<(), LineFault>
         requires ready { IsReady (settled self.old) i }
         requires open_cue { IsSomeAnd self.old.cue (FitsIn self.old.reader self.old.moves) }
         ensures outcome { Outcome (settled self.old) (settled self.new) i result (levels desk_limits i (left tokens.entry)) }
         ensures fits { OnOk result (Fits self.new) }
     {
         let channels = self.reader.show.channels();
-        let greatest = self.moves.put_line(i, tokens, self.reader.part, channels)?;
+        let greatest = self
+            .moves
+            .put_line(alloc, i, tokens, self.reader.part, channels)?;
         self.reader.show.widen(greatest);
         Ok(())
     }

@@ -3,7 +3,6 @@
 
 mod cue;
 mod lines;
-mod names;
 mod part;
 mod pieces;
 mod record;

@@ -10,10 +10,10 @@ ghost use Rattle.lx_base.specs.declared.TheConstants.{CHANNELS};
 ghost use Rattle.lx_spec.specs.Numerals.{level_text};
 ghost use Rattle.lx_spec.specs.ShowText.{line, at_text, move_text};
 
-use crate::names::{DIGITS, NUMBERS};
 use crate::rows::LEVELS;
 use lx_base::{Chan, Level, PartNo};
 use lx_io::{Sink, SinkFault, TEXT_ROOM, Text};
+use lx_lex::{ready_digits, ready_number};
 use lx_show::Move;
 
 /// The most bytes of a line: `CHAN `, a number of up to four digits, `@`, a level of three bytes and the line's end.
@@ -184,24 +184,7 @@ fn write_number(chan: Chan, text: &mut [u8; TEXT_ROOM], at: usize) -> usize
     ensures end { result ≤ at + 4 }
     ensures text { take result text.new ≡ take at text.old ++ decimal chan }
 {
-    write_row(ready_number(chan), digits_of(chan), text, at)
-}
-
-/// The row of a channel's number.
-#[inline(always)]
-fn ready_number(chan: Chan) -> &'static [u8; 4]
-    ensures { take (length (decimal chan)) result.now ≡ decimal chan }
-{
-    &NUMBERS[chan.get() as usize]
-}
-
-/// How many digits a channel's number has.
-#[inline(always)]
-fn digits_of(chan: Chan) -> usize
-    ensures few { result ≤ 4 }
-    ensures digits { result ≡ length (decimal chan) }
-{
-    DIGITS[chan.get() as usize] as usize
+    write_row(ready_number(chan), ready_digits(chan), text, at)
 }
 
 /// Writes `@`, a level, the line's end and the word of the next line at a place, and says where they end.

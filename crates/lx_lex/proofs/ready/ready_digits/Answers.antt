@@ -1,6 +1,6 @@
 use Rattle.std.proofs.Common.{◌∙◌, decimal, length, ap, arith}
-use Rattle.lx_writer.proofs.ReadyParts.{digits_is, digits_few}
-use Rattle.lx_writer.proofs.lines.digits_of.Goals as goal
+use Rattle.lx_lex.proofs.ReadyNumbers.{digits_is, digits_few}
+use Rattle.lx_lex.proofs.ready.ready_digits.Goals as goal
 
 pub returns-clause-few : goal.returns-clause-few
 returns-clause-few c = digits_few c.get.result 0 (omega arith)

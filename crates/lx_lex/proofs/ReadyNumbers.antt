@@ -1,0 +1,147 @@
+-- The rows of the table of channels' numbers.
+use Rattle.std.proofs.Common.{◌≡◌, ℕ, ◌+◌, ◌-◌, ◌*◌, ◌/◌, ◌%◌, ◌<◌, ◌≤◌, true, List, [], ◌∷◌, ◌++◌, get_or, length, map, take, drop, decimal}
+use Rattle.std.proofs.Common.{arith, cond, inl, inr, refl, sym, ap, ◌∙◌, subst, append_assoc}
+use Rattle.std.specs.Prelude.{codes, eqb, nat_lt}
+use Rattle.std.specs.List.{list_all, range_with_len, starts_with}
+use Rattle.std.proofs.lemmas.Bool.{cases_Bool, cases_lt}
+use Rattle.std.proofs.lemmas.Bool.Decides.{Decides-eqb, nat_tests}
+use Rattle.std.proofs.lemmas.Fmt.{decimal_digit}
+use Rattle.std.proofs.lemmas.List.{length-drop, take_all}
+use Rattle.std.proofs.lemmas.List.FromFn.{get_or-map-range_with_len}
+use Rattle.std.proofs.lemmas.Slice.Eq.{starts_is}
+use Rattle.itoa.proofs.Decimal.{pair, decimal_two, decimal_pair}
+use Rattle.lx_spec.specs.Numerals.{is_digit, number_of}
+use Rattle.lx_spec.specs.Text.{is_separator, begins_comment, tokens}
+use Rattle.lx_spec.proofs.Comparisons.{lt_true, lt_false}
+use Rattle.lx_lex.specs.declared.names.TheConstants.{NUMBERS, DIGITS}
+use Rattle.lx_lex.specs.PlainNumber.{BeginsWithDigits, EndsToken, FirstIsNumber}
+use Rattle.lx_lex.proofs.LineCuts.{tokens_by-separator}
+use Rattle.lx_lex.proofs.PlainNumbers.{number_at_once}
+use Rattle.lx_lex.proofs.Separators.{apart}
+
+-- a number of at most four digits at the front of four bytes, and `@` behind it where there is room
+abbrev ready : ℕ → List ℕ
+ready n = cond (nat_lt n 10) ((48 + n) ∷ codes "@  ")
+    (cond (nat_lt n 100) (pair n ++ codes "@ ")
+    (cond (nat_lt n 1000) ((48 + n / 100) ∷ (pair (n % 100) ++ codes "@")) (pair (n / 100) ++ pair (n % 100))))
+
+numbers_are : NUMBERS ≡ map ready (range_with_len 0 4097)
+numbers_are = refl
+
+-- how many digits it has
+abbrev digits : ℕ → ℕ
+digits n = cond (nat_lt n 10) 1 (cond (nat_lt n 100) 2 (cond (nat_lt n 1000) 3 4))
+
+digits_are : DIGITS ≡ map digits (range_with_len 0 4097)
+digits_are = refl
+
+number_row : (n : ℕ) (d : List ℕ) → n < 4097 → get_or NUMBERS n d ≡ ready n
+number_row n d lt = ap (λ rows. get_or rows n d) numbers_are ∙ get_or-map-range_with_len ready 0 4097 n n d lt (omega arith)
+
+digits_row : (n d : ℕ) → n < 4097 → get_or DIGITS n d ≡ digits n
+digits_row n d lt = ap (λ rows. get_or rows n d) digits_are ∙ get_or-map-range_with_len digits 0 4097 n n d lt (omega arith)
+
+abbrev IsReady : ℕ → List ℕ → ℕ → Type 0
+IsReady n row count = (count ≡ length (decimal n)) × ((count ≤ 4) × (take (length (decimal n)) row ≡ decimal n))
+
+ready_is : (n : ℕ) → n < 4097 → IsReady n (ready n) (digits n)
+ready_is n lt =
+    elim (cases_lt n 10) [
+      | inl low ↦ rw (lt_true n 10 low, decimal_digit n low) (refl, (omega arith, refl))
+      | inr from ↦ elim (cases_lt n 100) [
+        | inl low ↦ rw (lt_false n 10 from, lt_true n 100 low, decimal_two n from low) (refl, (omega arith, refl))
+        | inr more ↦ elim (cases_lt n 1000) [
+          | inl low ↦
+              rw (
+                lt_false n 10 from,
+                lt_false n 100 more,
+                lt_true n 1000 low,
+                decimal_pair n more (omega arith),
+                decimal_digit (n / 100) (omega arith),
+              )
+              (refl, (omega arith, refl))
+          | inr most ↦
+              rw (
+                lt_false n 10 from,
+                lt_false n 100 more,
+                lt_false n 1000 most,
+                decimal_pair n more (omega arith),
+                decimal_two (n / 100) (omega arith) (omega arith),
+              )
+              (refl, (omega arith, refl))
+        ]
+      ]
+    ]
+
+number_is : (n : ℕ) (d : List ℕ) → n < 4097 → take (length (decimal n)) (get_or NUMBERS n d) ≡ decimal n
+number_is n d lt = rw (number_row n d lt) (ready_is n lt).1.1
+
+-- the same, of another word for the number
+pub number_of_row : (n chan : ℕ) (d : List ℕ) → n < 4097 → n ≡ chan → take (length (decimal chan)) (get_or NUMBERS n d) ≡ decimal chan
+number_of_row n chan d lt is =
+    ap (λ (k : ℕ). take (length (decimal k)) (get_or NUMBERS n d)) (sym is) ∙ number_is n d lt ∙ ap decimal is
+
+pub digits_is : (n d : ℕ) → n < 4097 → get_or DIGITS n d ≡ length (decimal n)
+digits_is n d lt = digits_row n d lt ∙ (ready_is n lt).0
+
+pub digits_few : (n d : ℕ) → n < 4097 → get_or DIGITS n d ≤ 4
+digits_few n d lt = rw (digits_row n d lt) (ready_is n lt).1.0
+
+-- a number of three digits, and `@` behind it
+three_digits : (n : ℕ) (rest : List ℕ) → 100 ≤ n → n < 1000
+    → BeginsWithDigits ((48 + n / 100) ∷ (pair (n % 100) ++ (64 ∷ rest))) n (64 ∷ rest)
+three_digits n rest least less = record {
+  digits = (48 + n / 100) ∷ pair (n % 100);
+  are_digits = grind (arith, nat_tests, least, less);
+  number = omega (arith, least, less);
+  is_text = refl;
+}
+
+four_digits : (n : ℕ) (rest : List ℕ) → n < 10000 → BeginsWithDigits (pair (n / 100) ++ (pair (n % 100) ++ rest)) n rest
+four_digits n rest less = record {
+  digits = pair (n / 100) ++ pair (n % 100);
+  are_digits = grind (arith, nat_tests, less);
+  number = omega (arith, less);
+  is_text = refl;
+}
+
+long_row : (n : ℕ) → length (cond (nat_lt n 1000) ((48 + n / 100) ∷ (pair (n % 100) ++ codes "@")) (pair (n / 100) ++ pair (n % 100))) ≡ 4
+long_row n = elim (cases_Bool (nat_lt n 1000)) [
+  | inl less ↦ rw less refl
+  | inr more ↦ rw more refl
+]
+
+-- what follows the row of a number, where a line begins with it
+behind : (n : ℕ) (d line : List ℕ) → 100 ≤ n → n < 4097 → starts_with eqb line (get_or NUMBERS n d) ≡ true
+    → line ≡ get_or NUMBERS n d ++ take (length line - 4) (drop 4 line)
+behind n d line least less begins =
+    let row : List ℕ = get_or NUMBERS n d in
+    let long : length row ≡ 4 = rw (number_row n d less, lt_false n 10 (omega (arith, least)), lt_false n 100 least) (long_row n) in
+    let is : line ≡ row ++ drop (length row) line = (starts_is Decides-eqb line row (starts_with eqb line row) refl).0 begins in
+    is ∙ ap (λ k. row ++ drop k line) long ∙ ap (λ xs. row ++ xs) (sym (take_all (length line - 4) (drop 4 line) (rw length-drop (omega arith))))
+
+-- a line that begins with the row of a number of three digits
+pub three_first : (n chan : ℕ) (d line : List ℕ) → 100 ≤ n → n < 1000 → n ≡ chan → starts_with eqb line (get_or NUMBERS n d) ≡ true
+    → FirstIsNumber (tokens line) chan (tokens (take (length line - 4) (drop 4 line)))
+three_first n chan d line least less is begins =
+    let rest : List ℕ = take (length line - 4) (drop 4 line) in
+    let row : line ≡ (48 + n / 100) ∷ (pair (n % 100) ++ (64 ∷ rest)) = behind n d line least (omega (arith, less)) begins
+    ∙ ap (λ xs. xs ++ rest) (number_row n d (omega (arith, less)))
+    ∙ rw (lt_false n 10 (omega (arith, least)), lt_false n 100 least, lt_true n 1000 less) refl in
+    subst (λ k. FirstIsNumber (tokens line) k (tokens rest)) is
+    (number_at_once line (64 ∷ rest) rest n (subst (λ xs. BeginsWithDigits xs n (64 ∷ rest)) (sym row) (three_digits n rest least less))
+    (omega (arith, ap length row))
+    (record { ends = refl; same = tokens_by-separator is_separator begins_comment apart 64 rest refl }))
+
+-- the same of four digits, where the token ends behind them
+pub four_first : (n chan : ℕ) (d line others : List ℕ) → 1000 ≤ n → n < 4097 → n ≡ chan
+    → starts_with eqb line (get_or NUMBERS n d) ≡ true → EndsToken (take (length line - 4) (drop 4 line)) others
+    → FirstIsNumber (tokens line) chan (tokens others)
+four_first n chan d line others least less is begins ends =
+    let rest : List ℕ = take (length line - 4) (drop 4 line) in
+    let row : line ≡ pair (n / 100) ++ (pair (n % 100) ++ rest) = behind n d line (omega (arith, least)) less begins
+    ∙ ap (λ xs. xs ++ rest) (number_row n d less)
+    ∙ rw (lt_false n 10 (omega (arith, least)), lt_false n 100 (omega (arith, least)), lt_false n 1000 least) refl in
+    subst (λ k. FirstIsNumber (tokens line) k (tokens others)) is
+    (number_at_once line rest others n (subst (λ xs. BeginsWithDigits xs n rest) (sym row) (four_digits n rest (omega (arith, less))))
+    (omega (arith, ap length row)) ends)
