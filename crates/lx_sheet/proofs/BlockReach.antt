@@ -62,7 +62,7 @@ covers_removed channels levels old at within covers =
     (All-permutation P rows (row ∷ remove rows at) (IsPermutation-remove rows at row there (get_or_default rows at 0 row there)) covers))
 
 -- what is true of each row of cues that were listed
-pub listed_rows : (P : ℕ → Type 0) (order : List Place) (cues : List Cue) → order ≡ placed_from 0 cues → ((r : ℕ) → r < length cues → P r)
+listed_rows : (P : ℕ → Type 0) (order : List Place) (cues : List Cue) → order ≡ placed_from 0 cues → ((r : ℕ) → r < length cues → P r)
     → All P (own_rows order)
 listed_rows P order cues listed each =
     subst (All P) (sym (ap own_rows listed ∙ own-placed_from 0 cues)) (λ k d within.

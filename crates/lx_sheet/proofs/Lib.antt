@@ -4,6 +4,7 @@ pub mod EditedShows
 pub mod FilledColumns
 pub mod Found
 pub mod LevelsAfter
+pub mod ListedRows
 pub mod MarkedRows
 pub mod MarkWords
 pub mod Moves

@@ -9,7 +9,7 @@ use Rattle.std.proofs.lemmas.Bool.{cases_eq, cases_lt}
 use Rattle.std.proofs.lemmas.List.{get_or_default, get_or-map, get_or_past}
 use Rattle.std.proofs.lemmas.List.Elements.{All-from_recursion}
 use Rattle.std.proofs.lemmas.List.FromFn.{get_or-map-range_with_len, length-map-range_with_len}
-use Rattle.std.proofs.lemmas.Option.{IfSome_then, slice_get-get_or, slice_get_within, get_or_from_slice_get}
+use Rattle.std.proofs.lemmas.Option.{slice_get-get_or, slice_get_within, get_or_from_slice_get}
 use Rattle.lx_spec.specs.SortedList.{IsStrictlySorted, entry_at}
 use Rattle.lx_spec.specs.Show.{Cue, InRange, Show, ValidCue}
 use Rattle.lx_spec.specs.TrackedLevel.{cue_of, decides}
@@ -214,12 +214,6 @@ marked_absent show channels order levels marks n absent =
     (λ cue there c is. marked_in channels order marks n c
     ∙ ap (λ (o : Option Place). option_map_or (λ p. mark_in channels marks p.row c) o true) absent)
 
--- marks of more channels are marks of fewer
-pub fewer_marked : (channels n : ℕ) (order : List Place) (cues : List Cue) (marks : Marks) → channels ≤ n → AreMarked n order cues marks
-    → AreMarked channels order cues marks
-fewer_marked channels n order cues marks fewer right k =
-    IfSome_then (slice_get cues k) (right k) (λ cue is c least most. is c least (omega (arith, most, fewer)))
-
 -- a block whose rows and marks are right stands for the show
 pub filled_stands : (show : Show) (channels : ℕ) (order : List Place) (levels : List ℕ) (marks : Marks) → channels ≡ show.channels
     → IsOrderOf show order → ((k c : ℕ) → k < length show.cues → IsRight channels order show.cues levels k c)
@@ -272,19 +266,3 @@ pub kept_places : (channels at row : ℕ) (order : List Place) (was marks : Mark
 kept_places channels at row order was marks apart there row_is same k c other within least most =
     same (row_at_place order k) c (λ e. rows_differ order k at apart within there (λ here. absurd (omega (arith, here, other (omega arith))))
     (e ∙ row_is)) least most
-
--- the marks of one row more were written
-pub marked_more : (channels place row : ℕ) (order : List Place) (cues : List Cue) (cue : Cue) (old new : Marks) → AreApart (own_rows order)
-    → length order ≡ length cues → place < length cues → cue ≡ get_or cues place cue → row ≡ row_at_place order place
-    → ((k : ℕ) → k < place → IfSome (slice_get cues k) (IsMarkedFor channels old (row_at_place order k)))
-    → IsMarkedFor channels new row cue
-    → ((r c : ℕ) → r ≢ row → 1 ≤ c → c ≤ channels → has_mark new r c ≡ has_mark old r c)
-    → (k : ℕ) → k < place + 1 → IfSome (slice_get cues k) (IsMarkedFor channels new (row_at_place order k))
-marked_more channels place row order cues cue old new apart long within is row_is done here others k less = elim (cases_lt k place) [
-  | inl before ↦
-      at_place (slice_get cues k) (IsMarkedFor channels new (row_at_place order k)) (λ x there c least most decided.
-      kept_places channels place row order old new apart (omega arith) row_is others k c (λ more. absurd (omega (arith, more, before)))
-      (omega arith) least most
-      ∙ subst (λ (o : Option Cue). IfSome o (IsMarkedFor channels old (row_at_place order k))) there (done k before) c least most decided)
-  | inr from ↦ marked_place channels place row order cues cue new within is row_is here k from less
-]

@@ -1,11 +1,13 @@
 -- The moves of a cue placed one after another.
-use Rattle.std.proofs.Common.{◌≡◌, ◌≢◌, ℕ, ◌+◌, ◌-◌, ◌<◌, ◌≤◌, Bool, List, ◌∷◌, length, get_or, set, drop, Some, ◌∙◌, sym, ap, inl, inr}
-use Rattle.std.proofs.Common.{arith, subst}
+use Rattle.std.proofs.Common.{◌≡◌, ◌≢◌, ℕ, zero, suc, ◌+◌, ◌-◌, ◌<◌, ◌≤◌, Bool, List, [], ◌∷◌, length, get_or, set, drop}
+use Rattle.std.proofs.Common.{Some, ◌∙◌, sym, ap, inl, inr, arith, subst}
 use Rattle.std.specs.Prelude.{Option, cond}
+use Rattle.std.specs.List.{AllByRecursion}
 use Rattle.std.specs.Option.{option_map_or}
 use Rattle.std.proofs.lemmas.Bool.{cases_eq}
 use Rattle.std.proofs.lemmas.List.{drop_more}
 use Rattle.lx_spec.specs.declared.Move.{Move}
+use Rattle.lx_spec.specs.Show.{InRange}
 use Rattle.lx_spec.specs.SortedList.{IsStrictlySorted, entry_at}
 use Rattle.lx_sheet.specs.Block.{level_in_look}
 use Rattle.lx_sheet.proofs.Cells.{level_in_look-set, level_in_look-other}
@@ -45,3 +47,43 @@ move_placed moves look before i chan m sorted within is same least most placed c
       | inr other ↦ ap (λ (n : ℕ). level_placed rest c n) (level_in_look-other look chan c m.level least other)
           ∙ sym (first_other m rest c (level_in_look look c) (λ e. other (sym (same ∙ e)))) ∙ sym was ∙ placed c
     ]
+
+-- sorted moves of channels above one and up to another are no more than there are channels between
+few_moves : (moves : List Move) (c top : ℕ) → c ≤ top → IsStrictlySorted (λ m. m.chan) moves → AllByRecursion (λ m. c < m.chan) moves
+    → AllByRecursion (λ m. m.chan ≤ top) moves → c + length moves ≤ top
+few_moves [] c top least sorted above below = omega arith
+few_moves (m ∷ moves) c top least sorted above below =
+    omega (arith, above.0, few_moves moves m.chan top below.0 sorted.1 sorted.0 below.1)
+
+first_chan : (m : Move) (moves : List Move) (c : ℕ) → IsStrictlySorted (λ x. x.chan) (m ∷ moves) → c < m.chan
+    → AllByRecursion (λ x. x.chan ≤ c + length (m ∷ moves)) (m ∷ moves) → m.chan ≡ c + 1
+first_chan m moves c sorted above below =
+    omega (arith, above, few_moves moves m.chan (c + length (m ∷ moves)) below.0 sorted.1 sorted.0 below.1)
+
+-- where they are as many, they are of one channel after another
+chan_at_place : (moves : List Move) (c i : ℕ) (d : Move) → IsStrictlySorted (λ m. m.chan) moves → AllByRecursion (λ m. c < m.chan) moves
+    → AllByRecursion (λ m. m.chan ≤ c + length moves) moves → i < length moves → (get_or moves i d).chan ≡ c + i + 1
+chan_at_place [] c i d sorted above below within = absurd (omega arith)
+chan_at_place (m ∷ moves) c zero d sorted above below within = omega (arith, first_chan m moves c sorted above.0 below)
+chan_at_place (m ∷ moves) c (suc i) d sorted above below within =
+    let first : m.chan ≡ c + 1 = first_chan m moves c sorted above.0 below in
+    let top : c + length (m ∷ moves) ≡ m.chan + length moves = omega arith in
+    omega (
+      arith,
+      first,
+      chan_at_place moves m.chan i d sorted.1 sorted.0
+          (subst (λ n. AllByRecursion (λ x. x.chan ≤ n) moves) top below.1) (omega arith),
+    )
+
+-- each channel has a move: that at a place is the next channel's
+pub whole_row : (moves : List Move) (channels i : ℕ) (m : Move) → IsStrictlySorted (λ x. x.chan) moves
+    → AllByRecursion (λ x. InRange channels x.chan) moves → length moves ≡ channels → i < length moves → m ≡ get_or moves i m
+    → i + 1 ≡ m.chan
+whole_row moves channels i m sorted within whole less is =
+    omega (
+      arith,
+      ap (λ (x : Move). x.chan) is,
+      chan_at_place moves 0 i m sorted
+          (each _ (λ x. 0 < x.chan) moves (λ x h. omega (arith, h.least)) within)
+          (each _ (λ x. x.chan ≤ 0 + length moves) moves (λ x h. omega (arith, h.most, whole)) within) less,
+    )

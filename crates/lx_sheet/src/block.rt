@@ -147,7 +147,7 @@ fn read_row(look: &mut [Level], levels: &[Level], row: usize)
 }
 
 /// Writes the levels as the row.
-fn write_row(levels: &mut [Level], look: &[Level], row: usize)
+pub(crate) fn write_row(levels: &mut [Level], look: &[Level], row: usize)
     requires few { length look.now ≤ CHANNELS }
     requires row { row < CUES }
     requires room { (row + 1) * width (length look.now) ≤ length levels.old }

@@ -1,23 +1,21 @@
 //! A sheet follows the edits of its show. No call takes memory.
 
-ghost use Rattle.std.specs.Prelude.{◌≡◌, ◌≢◌, ℕ, ◌*◌, ◌<◌, ◌≤◌, true, None, IfSome, is_some, length, map};
-ghost use Rattle.std.specs.List.{All, AllByRecursion};
+ghost use Rattle.std.specs.Prelude.{◌≡◌, ◌≢◌, ℕ, ◌<◌, ◌≤◌, true, None, IfSome, is_some, length, map};
 ghost use Rattle.std.specs.Option.{option_map_or};
 ghost use Rattle.lx_spec.specs.SortedList.{IsStrictlySorted};
 ghost use Rattle.lx_spec.specs.Show.{Show as ShowData, Cue as CueData};
 ghost use Rattle.lx_spec.specs.TrackedLevel.{cue_of, tracked};
 ghost use Rattle.lx_spec.specs.EditedShow.{with_cue, without_cue};
 ghost use Rattle.lx_sheet.specs.Rows.{numbers_of, level_of, is_marked};
-ghost use Rattle.lx_sheet.specs.Block.{AreApart, AreMarked, count_under, own_rows};
-ghost use Rattle.lx_sheet.specs.Marks.{IsGrown, IsReached};
-ghost use Rattle.lx_sheet.specs.WordPlaces.{MovesWithin};
+ghost use Rattle.lx_sheet.specs.Block.{count_under};
 ghost use Rattle.lx_sheet.specs.After.{IsEnd};
 ghost use Rattle.lx_sheet.specs.SheetMeaning.{IsMarked, IsMarkedAt, RowsStandFor, StandsFrom, StandsIn, cue_numbers, next_decision};
 
 use crate::block::{fill_column, fill_from, fill_inserted, fill_removed, own_row, reach};
 use crate::marks::Marks;
+use crate::opening::fill_all;
 use crate::pool::{add_place, drop_place, list_cues, list_free};
-use crate::sheet::{Place, Sheet};
+use crate::sheet::Sheet;
 use lx_base::{Chan, CueNo};
 use lx_show::around::{below, up_to};
 use lx_show::sorted::index_of;
@@ -228,26 +226,7 @@ impl Sheet {
         let cues = show.cues();
         list_cues(&mut self.order, cues);
         list_free(&mut self.free, cues.len());
-        reach(&mut self.levels, self.channels, cues.len());
-        self.marks.reach(cues.len());
-        let order = self.order.as_slice();
-        mark_all(&mut self.marks, order, cues);
-        fill_from(&mut self.levels, &mut self.look, order, cues, 0, cues.len());
-    }
-}
-
-/// Writes the marks of each cue's own row.
-fn mark_all(marks: &mut Marks, order: &[Place], cues: &[Cue])
-    requires few { marks.old.groups ≤ 64 }
-    requires order { length order.now ≡ length cues.now }
-    requires rows { AreApart (own_rows order.now) }
-    requires reach { All (IsReached marks.old) (own_rows order.now) }
-    requires moves { AllByRecursion (MovesWithin (64 * marks.old.groups)) cues.now }
-    ensures table { IsGrown marks.old marks.new }
-    ensures marks { AreMarked (64 * marks.old.groups) order.now cues.now marks.new }
-{
-    for place in 0..cues.len() {
-        marks.write(own_row(order, place), &cues[place]);
+        fill_all(&mut self.levels, &mut self.look, &mut self.marks, cues);
     }
 }
 

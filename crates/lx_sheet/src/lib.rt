@@ -6,6 +6,7 @@ mod block;
 mod edits;
 mod look;
 mod marks;
+mod opening;
 mod pool;
 mod sheet;
 

@@ -1,10 +1,10 @@
 //! The levels of one cue, made from those of the cue before.
 
-ghost use Rattle.std.specs.Prelude.{◌≡◌, ◌≤◌, ℕ, length};
-ghost use Rattle.std.specs.List.{All};
+ghost use Rattle.std.specs.Prelude.{◌≡◌, ℕ, length};
+ghost use Rattle.std.specs.List.{AllByRecursion};
 ghost use Rattle.std.specs.Option.{option_map_or};
 ghost use Rattle.lx_spec.specs.SortedList.{IsStrictlySorted, entry_at};
-ghost use Rattle.lx_spec.specs.Show.{ValidCue};
+ghost use Rattle.lx_spec.specs.Show.{InRange, ValidCue};
 ghost use Rattle.lx_sheet.specs.Block.{level_in_look};
 ghost use Rattle.lx_sheet.specs.After.{tracked_on};
 
@@ -25,13 +25,30 @@ pub(crate) fn track(look: &mut [Level], cue: &Cue)
 
 /// Each move sets its channel's level.
 fn place_moves(look: &mut [Level], moves: &[Move])
-    requires within { All (λ m. m.chan ≤ length look.old) moves.now }
+    requires within { AllByRecursion (λ m. InRange (length look.old) m.chan) moves.now }
     requires sorted { IsStrictlySorted (λ m. m.chan) moves.now }
+    ensures { (c : ℕ) → level_in_look look.new c
+        ≡ option_map_or (λ m. m.level) (entry_at (λ m. m.chan) c moves.now) (level_in_look look.old c) }
+{
+    if moves.len() == look.len() {
+        return place_whole(look, moves);
+    }
+    for i in 0..moves.len() {
+        let entry = moves[i];
+        look[entry.chan.get() as usize - 1] = entry.level;
+    }
+}
+
+/// The same where there are as many moves as channels: they stand one behind the other as the channels do, so no place is looked up.
+fn place_whole(look: &mut [Level], moves: &[Move])
+    requires within { AllByRecursion (λ m. InRange (length look.old) m.chan) moves.now }
+    requires sorted { IsStrictlySorted (λ m. m.chan) moves.now }
+    requires whole { length moves.now ≡ length look.old }
     ensures { (c : ℕ) → level_in_look look.new c
         ≡ option_map_or (λ m. m.level) (entry_at (λ m. m.chan) c moves.now) (level_in_look look.old c) }
 {
     for i in 0..moves.len() {
         let entry = moves[i];
-        look[entry.chan.get() as usize - 1] = entry.level;
+        look[i] = entry.level;
     }
 }

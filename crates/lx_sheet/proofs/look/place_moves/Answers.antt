@@ -1,12 +1,15 @@
-use Rattle.std.proofs.Common.{◌≤◌, length, sym, subst, arith}
+use Rattle.std.proofs.Common.{length, sym, subst, arith}
+use Rattle.std.proofs.lemmas.List.Elements.{All-from_recursion}
 use Rattle.lx_spec.specs.declared.Move.{Move}
+use Rattle.lx_spec.specs.Show.{InRange}
 use Rattle.lx_sheet.proofs.Moves.{move_placed}
 use Rattle.lx_sheet.proofs.look.place_moves.Goals as goal
 
 pub loop-i-preserved : goal.loop-i-preserved
 loop-i-preserved c =
-    let most : c.index-moves-i.result.chan ≤ length c.args.look.now =
-    subst (λ (m : Move). m.chan ≤ length c.args.look.now) (sym c.index-moves-i.is)
-    (c.requires.within c.loop-i.i c.index-moves-i.result (omega arith)) in
-    move_placed c.args.moves.now c.loop-i.look c.args.look.now c.loop-i.i c.get.result c.index-moves-i.result c.requires.sorted (omega arith)
-    c.index-moves-i.is c.get.ensures.value c.get.ensures.least (omega (arith, most)) c.loop-i.invariant
+    let within : InRange (length c.args.look.now) c.index-moves-i.result.chan =
+    subst (λ (m : Move). InRange (length c.args.look.now) m.chan) (sym c.index-moves-i.is)
+    (All-from_recursion (λ m. InRange (length c.args.look.now) m.chan) c.args.moves.now c.requires.within c.loop-i.i
+    c.index-moves-i.result (omega arith)) in
+    move_placed c.args.moves.now c.loop-i.look c.args.look.now c.loop-i.i c.get.result c.index-moves-i.result c.requires.sorted
+    (omega arith) c.index-moves-i.is c.get.ensures.value c.get.ensures.least (omega (arith, within.most)) c.loop-i.invariant

@@ -1,0 +1,17 @@
+use Rattle.std.proofs.Common.{◌≡◌, ℕ, ◌+◌, ◌*◌, ◌<◌, ◌≤◌, length, max, take, vec_capacity}
+use Rattle.std.specs.Prelude.{IfSome, slice_get}
+use Rattle.lx_sheet.specs.Block.{cell, level_in_look, width}
+use Rattle.lx_sheet.specs.Marks.{IsGrown, IsMarkedFor, IsReached}
+use Rattle.lx_sheet.specs.After.{level_after}
+use Rattle.lx_sheet.proofs.opening.fill_all.Given as goal
+
+abbrev pub invariant-loop-place : goal.invariant-loop-place
+invariant-loop-place l = record {
+  look : (c : ℕ) → level_in_look l.look c ≡ level_after (take l.place l.cues) c;
+  levels : (k : ℕ) → k < l.place → (c : ℕ) → cell (length l.fn.look) l.levels.items k c ≡ level_after (take (k + 1) l.cues) c;
+  long : length l.levels.items ≡ max (length l.fn.levels.items) (l.place * width (length l.fn.look));
+  room : vec_capacity l.fn.levels ≤ vec_capacity l.levels;
+  table : IsGrown l.fn.marks l.marks;
+  reach : (r : ℕ) → r < l.place → IsReached l.marks r;
+  marks : (k : ℕ) → k < l.place → IfSome (slice_get l.cues k) (IsMarkedFor (length l.fn.look) l.marks k);
+}
