@@ -7,8 +7,9 @@ use Rattle.std.proofs.lemmas.List.Elements.{filter-append}
 use Rattle.std.proofs.lemmas.List.{take_more, take-take, length-take-le, length-append}
 use Rattle.std.proofs.Math.Seq.{take-add, take-append_seam}
 use Rattle.lx_spec.specs.declared.PatchRow.{PatchRow}
-use Rattle.lx_spec.specs.Numerals.{level_text}
-use Rattle.lx_spec.specs.ShowText.{line, at_text, patch_text}
+use Rattle.lx_spec.specs.declared.Move.{Move}
+use Rattle.lx_spec.specs.ShowText.{at_text, patch_text, move_text}
+use Rattle.lx_writer.specs.ShiftedLines.{shifted_line}
 
 -- one piece more, and the pieces around it
 pub pieces_more : {A : Type 0} (f : A → List ℕ) (xs : List A) (i : ℕ) (x : A) → i < length xs → x ≡ get_or xs i x
@@ -28,13 +29,15 @@ pub patch_is : (row : PatchRow) → ((codes "PATCH 1 " ++ decimal row.chan ++ 60
     ≡ patch_text row
 patch_is row = ap (λ text. text ++ 10 ∷ []) (append_assoc (codes "PATCH 1 " ++ decimal row.chan) (60 ∷ []) (at_text row.dimmer row.level))
 
--- the pieces of those that pass, split at a place, and one range more
+-- the pieces of those that pass, of two lists, split at a place, and one range more
+kept_both : {A : Type 0} (p : A → Bool) (f : A → List ℕ) (xs ys : List A)
+    → flat_map f (filter p (xs ++ ys)) ≡ flat_map f (filter p xs) ++ flat_map f (filter p ys)
+kept_both p f xs ys = ap (flat_map f) (filter-append p xs ys) ∙ flat_map-append f (filter p xs) (filter p ys)
+
 pub kept_split : {A : Type 0} (p : A → Bool) (f : A → List ℕ) (xs : List A) (from : ℕ)
     → flat_map f (filter p xs) ≡ flat_map f (filter p (take from xs)) ++ flat_map f (filter p (drop from xs))
 kept_split p f xs from =
-    ap (λ ys. flat_map f (filter p ys)) (sym (take-append-drop from xs))
-    ∙ ap (flat_map f) (filter-append p (take from xs) (drop from xs))
-    ∙ flat_map-append f (filter p (take from xs)) (filter p (drop from xs))
+    ap (λ ys. flat_map f (filter p ys)) (sym (take-append-drop from xs)) ∙ kept_both p f (take from xs) (drop from xs)
 
 pub kept_more : {A : Type 0} (p : A → Bool) (f : A → List ℕ) (xs : List A) (from end : ℕ) → from ≤ end
     → flat_map f (filter p (take end xs)) ≡ flat_map f (filter p (take from xs)) ++ flat_map f (filter p (slice_range xs from end))
@@ -42,8 +45,7 @@ kept_more p f xs from end before =
     let same : end ≡ from + (end - from) = omega arith in
     ap (λ n. flat_map f (filter p (take n xs))) same
     ∙ ap (λ ys. flat_map f (filter p ys)) (take-add from (end - from) xs)
-    ∙ ap (flat_map f) (filter-append p (take from xs) (slice_range xs from end))
-    ∙ flat_map-append f (filter p (take from xs)) (filter p (slice_range xs from end))
+    ∙ kept_both p f (take from xs) (slice_range xs from end)
 
 -- one entry more, where it passes
 pub kept_next : {A : Type 0} (p : A → Bool) (f : A → List ℕ) (xs : List A) (i : ℕ) (x : A) → i < length xs → x ≡ get_or xs i x
@@ -53,15 +55,21 @@ kept_next {A} p f xs i x within is =
     = λ b. elim b as (λ b. p x ≡ b → flat_map f (filter p (x ∷ [])) ≡ cond b (f x) [])
     [ true ↦ (λ e. rw e (append-nil (f x))) | false ↦ (λ e. rw e refl) ] in
     ap (λ ys. flat_map f (filter p ys)) (take_more xs i x within ∙ ap (λ (y : A). take i xs ++ y ∷ []) (sym is))
-    ∙ ap (flat_map f) (filter-append p (take i xs) (x ∷ []))
-    ∙ flat_map-append f (filter p (take i xs)) (filter p (x ∷ []))
+    ∙ kept_both p f (take i xs) (x ∷ [])
     ∙ ap (λ text. flat_map f (filter p (take i xs)) ++ text) (one (p x) refl)
 
--- a line of a channel and its level, behind its word and with the word of the next, as its parts are written
-pub line_next : (n level : ℕ) (before : List ℕ)
-    → (before ++ codes "CHAN ") ++ (decimal n ++ 64 ∷ (level_text level ++ codes "\nCHAN "))
-    ≡ (before ++ line (codes "CHAN" ∷ at_text n level ∷ [])) ++ codes "CHAN "
-line_next n level before = simp append_assoc
+line_shifted : (move : Move) → codes "CHAN " ++ shifted_line move ≡ move_text move ++ codes "CHAN "
+line_shifted move = simp append_assoc
+
+-- the lines of moves behind the word of the first
+pub lines_shifted : (moves : List Move) → codes "CHAN " ++ flat_map shifted_line moves ≡ flat_map move_text moves ++ codes "CHAN "
+lines_shifted [] = refl
+lines_shifted (move ∷ moves) =
+    sym (append_assoc (codes "CHAN ") (shifted_line move) (flat_map shifted_line moves))
+    ∙ ap (λ text. text ++ flat_map shifted_line moves) (line_shifted move)
+    ∙ append_assoc (move_text move) (codes "CHAN ") (flat_map shifted_line moves)
+    ∙ ap (λ text. move_text move ++ text) (lines_shifted moves)
+    ∙ sym (append_assoc (move_text move) (flat_map move_text moves) (codes "CHAN "))
 
 -- a text without the word that stands at its end
 pub without_word : (end : ℕ) (text before : List ℕ) → end ≤ length text → take end text ≡ before ++ codes "CHAN " → take (end - 5) text ≡ before

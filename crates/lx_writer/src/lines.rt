@@ -1,11 +1,12 @@
 //! The lines of a cue's moves: those of many moves are written into one text and handed to the sink as one piece.
 #![tactic(auto, using(lx_io::proofs::Chain::puts))]
 
-ghost use Rattle.std.specs.Prelude.{◌≡◌, ◌==◌, true, ◌+◌, ◌-◌, ◌<◌, ◌≤◌, [], ◌++◌, ◌∷◌, codes, decimal, filter, take, flat_map, length};
-ghost use Rattle.std.specs.Prelude.{false, IfSome, slice_index_or};
+ghost use Rattle.std.specs.Prelude.{◌≡◌, ◌==◌, true, ◌+◌, ◌-◌, ◌*◌, ◌<◌, ◌≤◌, [], ◌++◌, ◌∷◌, codes, decimal, filter, take, flat_map};
+ghost use Rattle.std.specs.Prelude.{false, length, IfSome, slice_index_or};
 ghost use Rattle.std.specs.List.{AllByRecursion};
 ghost use Rattle.lx_io.specs.Puts.{Puts};
-ghost use Rattle.lx_writer.specs.declared.lines.TheConstants.{PIECE_MOVES};
+ghost use Rattle.lx_writer.specs.declared.lines.TheConstants.{PIECE_MOVES, LINE_BYTES, WRITTEN_BYTES};
+ghost use Rattle.lx_writer.specs.ShiftedLines.{shifted_line, shifted_lines};
 ghost use Rattle.lx_base.specs.declared.TheConstants.{CHANNELS};
 ghost use Rattle.lx_spec.specs.Numerals.{level_text};
 ghost use Rattle.lx_spec.specs.ShowText.{line, at_text, move_text};
@@ -130,8 +131,8 @@ fn have_one(a: &Move, b: &Move, c: &Move, d: &Move, part: PartNo) -> bool
     stands_in(a, part) || stands_in(b, part) || stands_in(c, part) || stands_in(d, part)
 }
 
-/// Writes the lines of some moves at the front of the text, and says where they end. The first word of a line is written behind the
-/// line before, so that a line is two stores. It stands apart, so that the loop has the processor's registers to itself.
+/// Writes the lines of some moves at the front of the text, four moves a turn, and says where they end. The first word of a line is
+/// written behind the line before, so that a line is two stores. It stands apart, so that the loop has the processor's registers to itself.
 #[inline(never)]
 fn write_lines(moves: &[Move], part: PartNo, text: &mut [u8; TEXT_ROOM]) -> usize
     requires { length moves.now ≤ PIECE_MOVES }
@@ -139,12 +140,68 @@ fn write_lines(moves: &[Move], part: PartNo, text: &mut [u8; TEXT_ROOM]) -> usiz
     ensures text { take result text.new ≡ flat_map move_text (filter (λ entry. entry.part == part) moves.now) }
 {
     let mut end = begin_line(text);
+    let mut left = moves;
+    while let Some((four, rest)) = left.split_first_chunk() {
+        end = write_four(four, part, text, end);
+        left = rest;
+    }
+    write_some(left, part, text, end) - WORD_BYTES
+}
+
+/// Writes the lines of four moves at a place, of those that stand in the part, and says where they end. All four are asked first: where
+/// all stand in it, as most often, their lines are written with nothing asked in between.
+#[inline(always)]
+fn write_four(four: &[Move; 4], part: PartNo, text: &mut [u8; TEXT_ROOM], at: usize) -> usize
+    requires room { at + 4 * LINE_BYTES + WRITTEN_BYTES ≤ TEXT_ROOM }
+    ensures more { at ≤ result }
+    ensures end { result ≤ at + 4 * LINE_BYTES }
+    ensures text { take result text.new ≡ take at text.old ++ shifted_lines part four.now }
+{
+    let [a, b, c, d] = four;
+    if have_all(a, b, c, d, part) {
+        write_all(a, b, c, d, text, at)
+    } else {
+        write_some(four, part, text, at)
+    }
+}
+
+/// All of four moves stand in the part.
+#[inline(always)]
+fn have_all(a: &Move, b: &Move, c: &Move, d: &Move, part: PartNo) -> bool
+    ensures { result ≡ true → AllByRecursion (λ entry. (entry.part == part) ≡ true) (a.now ∷ b.now ∷ c.now ∷ d.now ∷ []) }
+{
+    stands_in(a, part) && stands_in(b, part) && stands_in(c, part) && stands_in(d, part)
+}
+
+/// Writes the lines of all of four moves at a place, and says where they end.
+#[inline(always)]
+fn write_all(a: &Move, b: &Move, c: &Move, d: &Move, text: &mut [u8; TEXT_ROOM], at: usize) -> usize
+    requires room { at + 4 * LINE_BYTES + WRITTEN_BYTES ≤ TEXT_ROOM }
+    ensures more { at ≤ result }
+    ensures end { result ≤ at + 4 * LINE_BYTES }
+    ensures text { take result text.new ≡ take at text.old ++ flat_map shifted_line (a.now ∷ b.now ∷ c.now ∷ d.now ∷ []) }
+{
+    let second = write_line(a.chan, a.level, text, at);
+    let third = write_line(b.chan, b.level, text, second);
+    let fourth = write_line(c.chan, c.level, text, third);
+    write_line(d.chan, d.level, text, fourth)
+}
+
+/// Writes the lines of some moves at a place one by one, of those that stand in the part, and says where they end.
+#[inline(always)]
+fn write_some(moves: &[Move], part: PartNo, text: &mut [u8; TEXT_ROOM], at: usize) -> usize
+    requires room { at + LINE_BYTES * length moves.now + WRITTEN_BYTES ≤ TEXT_ROOM }
+    ensures more { at ≤ result }
+    ensures end { result ≤ at + LINE_BYTES * length moves.now }
+    ensures text { take result text.new ≡ take at text.old ++ shifted_lines part moves.now }
+{
+    let mut end = at;
     for entry in moves {
         if stands_in(entry, part) {
             end = write_line(entry.chan, entry.level, text, end);
         }
     }
-    end - WORD_BYTES
+    end
 }
 
 /// Writes the word of the first line at the front of the text, and says where it ends.
