@@ -202,9 +202,17 @@ fn ensure_row(alloc: Global, row: &mut Option<Box<MoveRow>>) -> Result<(), Alloc
     ensures same { OnOk result (option_map_or (λ r. r.value) row.new [] ≡ option_map_or (λ r. r.value) row.old []) }
 {
     if row.is_none() {
-        *row = Some(Box::new(alloc, MoveRow::new())?);
+        *row = Some(made_row(alloc)?);
     }
     Ok(())
+}
+
+/// A row of which no move is there. It is made apart, so that no line pays for room on the stack that would hold one.
+#[inline(never)]
+fn made_row(alloc: Global) -> Result<Box<MoveRow>, AllocError>
+    ensures { IfOk result (λ row. row.value ≡ []) }
+{
+    Ok(Box::new(alloc, MoveRow::new())?)
 }
 
 /// Whether all of them are there. It has no early end, so that the compiler looks at many at once.
