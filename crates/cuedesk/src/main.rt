@@ -51,7 +51,7 @@ fn main(rt: HostRuntime) -> ExitCode {
         Err(error) => return end(&rt, status_without_words(&error)),
     };
     let mut input = StdSource::new(rt.stdin());
-    let mut output = BufferedSink::new(StdSink::new(rt.stdout()));
+    let mut output = BufferedSink::new(rt.alloc(), StdSink::new(rt.stdout()));
     let status = match desk(rt.alloc(), &words, &mut input, &mut output) {
         Status::Live if names_crew(rt.alloc(), &words) => {
             let mut operators = scripts(&rt, rt.alloc());

@@ -5,7 +5,7 @@ use Rattle.lx_io.specs.declared.buffered.BufferedSink.{BufferedSink}
 
 -- the bytes that are kept back
 abbrev pub kept_back : {K : Type 0} → BufferedSink K → List ℕ
-kept_back s = take s.len s.room
+kept_back s = take s.len s.room.items
 
 -- the bytes of the sink below, and then those that are kept back
 abbrev pub with_kept : Option (List ℕ) → List ℕ → Option (List ℕ)

@@ -1,40 +1,48 @@
 //! A sink that keeps bytes back until there are many of them.
 #![tactic(auto, using(crate::proofs::Chain::puts))]
 
-ghost use Rattle.std.specs.Prelude.{◌≡◌, ◌≤◌, ◌+◌, ◌-◌, ◌++◌, [], length, take, slice_range, OnOk};
+ghost use Rattle.std.specs.Prelude.{◌≡◌, ◌≤◌, ◌+◌, ◌-◌, ◌++◌, [], length, take, slice_range, IfOk, MatchBool, OnOk};
+ghost use Rattle.std.specs.Bool.{OnTrue};
 ghost use Rattle.std.specs.Io.KnownBytes.{Appends, Keeps};
 ghost use Rattle.lx_io.specs.Puts.{HasSinkCause, Puts};
 
 use crate::{Sink, SinkFault, TEXT_ROOM, Text};
+use std::alloc::Global;
 
 /// How many bytes are kept back at most.
 const ROOM: usize = 65_536;
 
+/// How much of the room is opened at first.
+const FIRST: usize = 4_096;
+
 /// A sink that keeps bytes back, at most 65,536, and hands them on together: where there is no room for more, and at a
-/// flush. Bytes that couldn't be handed on stay, so that a later flush tries them again.
+/// flush. Bytes that couldn't be handed on stay, so that a later flush tries them again. Where there was no memory for
+/// the room nothing is kept back.
 #[derive(Drop)]
 pub struct BufferedSink<K> {
     sink: K,
-    room: [u8; ROOM],
+    /// The part of the room that was opened so far. Its memory was taken whole at the start, and is touched first where
+    /// it is opened, so that a run that writes little touches little.
+    room: Vec<u8>,
     len: usize,
-    ghost within: { len ≤ 65536 },
+    ghost within: { len ≤ length room.items },
+    ghost most: { length room.items ≤ 65536 },
 }
 
 impl<K: Sink> BufferedSink<K> {
     ghost use Rattle.lx_io.specs.Kept.{kept_back, with_kept};
 
     /// Keeps back what goes to the sink. Nothing is kept yet.
-    pub fn new(sink: K) -> BufferedSink<K>
+    pub fn new(alloc: Global, sink: K) -> BufferedSink<K>
         ensures holds { ⟦<BufferedSink<K> as Sink>⟧.holds result ≡ with_kept (K.holds sink) [] }
         ensures kept { kept_back result ≡ [] }
         ensures faults { ⟦<BufferedSink<K> as Sink>⟧.faults result ≡ K.faults sink }
         ensures wants { ⟦<BufferedSink<K> as Sink>⟧.wants result ≡ K.wants sink }
     {
-        BufferedSink {
-            sink,
-            room: [0; ROOM],
-            len: 0,
-        }
+        let mut room = Vec::new(alloc);
+        // Where there is no memory for it the sink does without.
+        let _ = room.reserve_exact(ROOM);
+        BufferedSink { sink, room, len: 0 }
     }
 
     /// Hands on what is kept.
@@ -55,7 +63,7 @@ impl<K: Sink> BufferedSink<K> {
         requires { from ≤ self.old.len }
         ensures sink { self.new.sink ≡ self.old.sink }
         ensures len { self.new.len ≡ self.old.len - from }
-        ensures kept { kept_back self.new ≡ slice_range self.old.room from self.old.len }
+        ensures kept { kept_back self.new ≡ slice_range self.old.room.items from self.old.len }
     {
         self.room.copy_within(from..self.len, 0);
         self.len -= from;
@@ -64,7 +72,7 @@ impl<K: Sink> BufferedSink<K> {
     /// Keeps a text back, for which there is room.
     #[inline(always)]
     fn keep(&mut self, text: &[u8])
-        requires { self.old.len + length text.now ≤ 65536 }
+        requires { self.old.len + length text.now ≤ length self.old.room.items }
         ensures sink { self.new.sink ≡ self.old.sink }
         ensures len { self.new.len ≡ self.old.len + length text.now }
         ensures kept { kept_back self.new ≡ kept_back self.old ++ text.now }
@@ -74,34 +82,87 @@ impl<K: Sink> BufferedSink<K> {
         self.len = end;
     }
 
-    /// Appends a text for which there is no room before what is kept is handed on.
+    /// Appends a text for which there is no room as it stands.
+    #[cold]
     #[inline(never)]
     fn put_far(&mut self, text: &[u8]) -> Result<(), SinkFault>
         ensures { Puts (λ s. with_kept (K.holds s.sink) (kept_back s)) (λ s. K.faults s.sink) (λ s. K.wants s.sink)
             self.old self.new result text.now }
     {
-        self.ensure_room(ROOM)?;
-        if text.len() > ROOM {
+        if !self.make_room(text.len())? {
             return self.sink.put(text);
         }
         self.keep(text);
         Ok(())
     }
 
-    /// Sees to room for so many bytes, at most as many as are kept back.
+    /// Sees to room for so many bytes, and says whether there is. Where there is none nothing is kept any more.
     #[inline(always)]
-    fn ensure_room(&mut self, count: usize) -> Result<(), SinkFault>
-        requires { count ≤ 65536 }
+    fn ensure_room(&mut self, count: usize) -> Result<bool, SinkFault>
         ensures holds { Keeps (with_kept (K.holds self.old.sink) (kept_back self.old))
             (with_kept (K.holds self.new.sink) (kept_back self.new)) }
         ensures cause { HasSinkCause K.faults K.wants self.old.sink self.new.sink result }
-        ensures room { OnOk result (self.new.len + count ≤ 65536) }
+        ensures room { IfOk result (λ there. MatchBool there (self.new.len + count ≤ length self.new.room.items) (self.new.len ≡ 0)) }
     {
-        if ROOM - self.len < count {
-            return self.hand_on();
+        if self.room.len() - self.len < count {
+            return self.make_room(count);
         }
-        Ok(())
+        Ok(true)
     }
+
+    /// Opens more of the room, and where that doesn't do hands on what is kept. It says as `ensure_room` does whether
+    /// there is room then.
+    #[cold]
+    #[inline(never)]
+    fn make_room(&mut self, count: usize) -> Result<bool, SinkFault>
+        ensures holds { Keeps (with_kept (K.holds self.old.sink) (kept_back self.old))
+            (with_kept (K.holds self.new.sink) (kept_back self.new)) }
+        ensures cause { HasSinkCause K.faults K.wants self.old.sink self.new.sink result }
+        ensures room { IfOk result (λ there. MatchBool there (self.new.len + count ≤ length self.new.room.items) (self.new.len ≡ 0)) }
+    {
+        if self.open(count) {
+            return Ok(true);
+        }
+        self.hand_on()?;
+        Ok(self.open(count))
+    }
+
+    /// Opens at least so much of the room behind what is kept, within the memory that was taken for it, and says whether
+    /// there is so much.
+    fn open(&mut self, count: usize) -> bool
+        ensures sink { self.new.sink ≡ self.old.sink }
+        ensures len { self.new.len ≡ self.old.len }
+        ensures kept { kept_back self.new ≡ kept_back self.old }
+        ensures room { OnTrue result (self.new.len + count ≤ length self.new.room.items) }
+    {
+        let most = self.room.capacity().min(ROOM);
+        if count > most - self.len {
+            return false;
+        }
+        let least = self.len + count;
+        let opened = (2 * self.room.len()).max(FIRST).max(least).min(most);
+        self.room.resize(opened, 0).is_ok()
+    }
+}
+
+/// Appends a text that writes itself, for which there is no room.
+#[cold]
+#[inline(never)]
+fn put_text_far<T: Text, K: Sink>(text: &T, sink: &mut K) -> Result<(), SinkFault>
+    ensures { Puts K.holds K.faults K.wants sink.old sink.new result (T.bytes text.now) }
+{
+    sink.put_text(text)
+}
+
+/// Has a text write itself into room behind what is kept there, and says where it ends.
+#[tactic(auto, using(crate::proofs::Rooms::take_of_part))]
+#[inline(always)]
+fn write_behind<T: Text>(text: &T, room: &mut [u8], len: usize) -> usize
+    requires { len + TEXT_ROOM ≤ length room.old }
+    ensures within { result ≤ length room.old }
+    ensures text { take result room.new ≡ take len room.old ++ T.bytes text.now }
+{
+    len + write_text(text, &mut room[len..len + TEXT_ROOM])
 }
 
 /// Has a text write itself into a part of the room, and says where it ends there.
@@ -143,10 +204,12 @@ impl<K: Sink> Sink for BufferedSink<K> {
 
     ghost wants = { λ s. K.wants s.sink };
 
-    /// Takes the whole piece, or as much of it as is kept back at most.
+    /// Takes the whole piece, or as much of it as is kept back at most. Where there is no room the sink below takes it.
     fn write(&mut self, piece: &[u8]) -> Result<usize, SinkFault> {
         let count = piece.len().min(ROOM);
-        self.ensure_room(count)?;
+        if !self.ensure_room(count)? {
+            return self.sink.write(piece);
+        }
         self.keep(&piece[..count]);
         Ok(count)
     }
@@ -164,7 +227,7 @@ impl<K: Sink> Sink for BufferedSink<K> {
 
     #[inline(always)]
     fn put(&mut self, text: &[u8]) -> Result<(), SinkFault> {
-        if text.len() > ROOM - self.len {
+        if text.len() > self.room.len() - self.len {
             return self.put_far(text);
         }
         self.keep(text);
@@ -172,12 +235,12 @@ impl<K: Sink> Sink for BufferedSink<K> {
     }
 
     /// The text writes itself behind what is kept.
-    #[tactic(auto, using(crate::proofs::Chain::puts, crate::proofs::Rooms::take_of_part))]
     #[inline(always)]
     fn put_text<T: Text>(&mut self, text: &T) -> Result<(), SinkFault> {
-        self.ensure_room(TEXT_ROOM)?;
-        let count = write_text(text, &mut self.room[self.len..self.len + TEXT_ROOM]);
-        self.len += count;
+        if !self.ensure_room(TEXT_ROOM)? {
+            return put_text_far(text, &mut self.sink);
+        }
+        self.len = write_behind(text, &mut self.room, self.len);
         Ok(())
     }
 }
