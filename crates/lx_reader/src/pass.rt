@@ -50,6 +50,7 @@ pub fn read_show<S: Source>(
 }
 
 /// Reads one line, and goes a step on with it.
+#[inline(always)]
 fn read_line<S: Source>(
     alloc: Global,
     lines: &mut Lines<S>,

@@ -76,6 +76,7 @@ impl Reading {
     }
 
     /// The moves of the section's cue stand apart from now on, if they can: it is a cue, and they do already or it has none.
+    #[inline(always)]
     fn opens(&mut self, line: &[u8]) -> bool
         requires fits { Fits self.old }
         requires identified { self.old.reader.identified ≡ true }
@@ -92,6 +93,7 @@ impl Reading {
 
     /// The same, where no moves stand apart. To begin and to settle takes a look at every channel: so a cue whose first levels are a short
     /// line is read the plain way, and so is each one behind as many as a show has, in a text that clears its cues again and again.
+    #[inline(never)]
     fn begins(&mut self, line: &[u8]) -> bool
         requires none { self.old.cue ≡ None }
         requires identified { self.old.reader.identified ≡ true }
@@ -112,7 +114,9 @@ impl Reading {
         true
     }
 
-    /// Goes on with line i, which isn't too long.
+    /// Goes on with line i, which isn't too long. Most lines are levels of the open cue: they go straight to their levels, and all
+    /// that any other line needs stands apart.
+    #[inline(always)]
     pub(crate) fn step(&mut self, alloc: Global, i: u32, line: &[u8]) -> Result<(), LineFault>
         requires short { length line.now ≤ LINE_BYTES }
         requires ready { IsReady (settled self.old) i }
@@ -120,9 +124,21 @@ impl Reading {
         ensures outcome { Outcome (settled self.old) (settled self.new) i result (entry_of (facts_of (settled self.old) i) line.now) }
         ensures fits { OnOk result (Fits self.new) }
     {
-        if let Some(levels) = levels_of(line) {
-            return self.line_of_word(alloc, i, line, Word::Chan, levels);
+        match levels_of(line) {
+            Some(levels) => self.line_of_word(alloc, i, line, Word::Chan, levels),
+            None => self.line_by_word(alloc, i, line),
         }
+    }
+
+    /// The same, where the line's first word has to be found.
+    #[inline(never)]
+    fn line_by_word(&mut self, alloc: Global, i: u32, line: &[u8]) -> Result<(), LineFault>
+        requires short { length line.now ≤ LINE_BYTES }
+        requires ready { IsReady (settled self.old) i }
+        requires fits { Fits self.old }
+        ensures outcome { Outcome (settled self.old) (settled self.new) i result (entry_of (facts_of (settled self.old) i) line.now) }
+        ensures fits { OnOk result (Fits self.new) }
+    {
         let mut tokens = tokens(line);
         let Some(first) = tokens.next() else {
             return Ok(());
@@ -131,6 +147,7 @@ impl Reading {
     }
 
     /// A line of this word, which these tokens follow.
+    #[inline(always)]
     fn line_of_word(
         &mut self,
         alloc: Global,
@@ -148,6 +165,25 @@ impl Reading {
         if is_levels(word) && self.reader.identified && self.opens(line) {
             return self.levels_line(alloc, i, tokens);
         }
+        self.other_line(alloc, i, line, word, tokens)
+    }
+
+    /// The same, where it isn't a line of levels of the open cue.
+    #[inline(never)]
+    fn other_line(
+        &mut self,
+        alloc: Global,
+        i: u32,
+        line: &[u8],
+        word: Word,
+        tokens: Tokens,
+    ) -> Result<(), LineFault>
+        requires ready { IsReady (settled self.old) i }
+        requires fits { Fits self.old }
+        ensures outcome { Outcome (settled self.old) (settled self.new) i result
+            (entry_by_word (facts_of (settled self.old) i) line.now word (left tokens.entry)) }
+        ensures fits { OnOk result (Fits self.new) }
+    {
         if keeps_cue(word) {
             return self.quiet_line(alloc, i, line, word, tokens);
         }
@@ -177,6 +213,7 @@ impl Reading {
     }
 
     /// `CHAN` with levels of the open cue.
+    #[inline(always)]
     fn levels_line(&mut self, alloc: Global, i: u32, tokens: Tokens) -> Result<(), LineFault>
         requires ready { IsReady (settled self.old) i }
         requires open_cue { IsSomeAnd self.old.cue (FitsIn self.old.reader self.old.moves) }
