@@ -145,13 +145,14 @@ impl<K: Sink> BufferedSink<K> {
     }
 }
 
-/// Appends a text that writes itself, for which there is no room.
+/// Appends a text that writes itself, for which there is no room. It is handed a copy, so that a text that writes itself
+/// into room needn't stand in memory before.
 #[cold]
 #[inline(never)]
-fn put_text_far<T: Text, K: Sink>(text: &T, sink: &mut K) -> Result<(), SinkFault>
-    ensures { Puts K.holds K.faults K.wants sink.old sink.new result (T.bytes text.now) }
+fn put_text_far<T: Text, K: Sink>(text: T, sink: &mut K) -> Result<(), SinkFault>
+    ensures { Puts K.holds K.faults K.wants sink.old sink.new result (T.bytes text) }
 {
-    sink.put_text(text)
+    sink.put_text(&text)
 }
 
 /// Has a text write itself into room behind what is kept there, and says where it ends.
@@ -238,7 +239,7 @@ impl<K: Sink> Sink for BufferedSink<K> {
     #[inline(always)]
     fn put_text<T: Text>(&mut self, text: &T) -> Result<(), SinkFault> {
         if !self.ensure_room(TEXT_ROOM)? {
-            return put_text_far(text, &mut self.sink);
+            return put_text_far(*text, &mut self.sink);
         }
         self.len = write_behind(text, &mut self.room, self.len);
         Ok(())

@@ -161,7 +161,7 @@ fn put_decimal_and<K: Sink>(
 
 /// A number behind a start: the whole part, the decimals of a rest of the unit, as far as they aren't 0, and a byte behind it, where
 /// there is one. Each byte is written where it stays, so that no copy waits for it.
-#[derive(Drop)]
+#[derive(Clone, Copy)]
 struct Numeral<'a> {
     start: &'a [u8],
     whole: u64,

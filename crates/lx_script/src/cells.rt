@@ -61,7 +61,7 @@ fn piece_end(from: usize, end: usize) -> usize
 }
 
 /// The cells of some levels, the first of which has this number. The numbers are near, and have the same number of digits.
-#[derive(Drop)]
+#[derive(Clone, Copy)]
 struct Cells<'a> {
     number: u64,
     levels: &'a [Level],

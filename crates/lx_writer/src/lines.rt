@@ -47,7 +47,7 @@ pub(crate) fn put_moves<K: Sink>(
 }
 
 /// The lines of some moves, of those that stand in the part.
-#[derive(Drop)]
+#[derive(Clone, Copy)]
 struct MoveLines<'a> {
     moves: &'a [Move],
     part: PartNo,
