@@ -1,13 +1,18 @@
 -- A first word is looked up, and its line means what the table of sentences says.
-use Rattle.std.proofs.Common.{◌≡◌, ℕ, Option, None, List, ◌∷◌, [], map, refl, inl, inr}
-use Rattle.std.specs.Prelude.{find, option_and_then}
+use Rattle.std.proofs.Common.{◌≡◌, ℕ, ◌-◌, Option, None, List, ◌∷◌, [], ◌++◌, map, length, take, drop, true, refl, sym, ap, ◌∙◌, arith, inl, inr}
+use Rattle.std.specs.Prelude.{codes, eqb, find, option_and_then}
+use Rattle.std.specs.List.{starts_with}
 use Rattle.std.specs.Option.{option_map_or}
 use Rattle.std.proofs.lemmas.Bool.{cases_Bool}
+use Rattle.std.proofs.lemmas.Bool.Decides.{Decides-eqb}
+use Rattle.std.proofs.lemmas.List.{length-drop, take_all}
+use Rattle.std.proofs.lemmas.Slice.Eq.{starts_is}
 use Rattle.lx_spec.specs.declared.Line.{Line}
-use Rattle.lx_spec.specs.Text.{is_word}
+use Rattle.lx_spec.specs.Text.{begins_comment, is_word, tokens}
 use Rattle.lx_spec.specs.Phrase.{Tokens}
 use Rattle.lx_spec.specs.Script.{meaning}
 use Rattle.lx_lex.specs.WordTable.{looked_up}
+use Rattle.lx_lex.proofs.LineCuts.{before_first-no}
 use Rattle.lx_script.specs.declared.first_word.FirstWord.{FirstWord}
 use Rattle.lx_script.specs.FirstWords.{first_words, sentence_of}
 
@@ -31,3 +36,21 @@ sentence_found line first rest (e ∷ table) = elim (cases_Bool (is_word e.0 fir
 
 pub meaning_is : (line first : List ℕ) (rest : Tokens) → meaning line (first ∷ rest) ≡ with_word line (looked_up first_words first) rest
 meaning_is line first rest = sentence_found line first rest first_words
+
+frame_cut : (rest : List ℕ) → tokens (codes "frame " ++ rest) ≡ codes "frame" ∷ tokens rest
+frame_cut rest = rw (
+  before_first-no begins_comment 102 (codes "rame " ++ rest) refl,
+  before_first-no begins_comment 114 (codes "ame " ++ rest) refl,
+  before_first-no begins_comment 97 (codes "me " ++ rest) refl,
+  before_first-no begins_comment 109 (codes "e " ++ rest) refl,
+  before_first-no begins_comment 101 (codes " " ++ rest) refl,
+  before_first-no begins_comment 32 rest refl,
+) refl
+
+-- the tokens of a line that begins with `frame` and a space
+pub frame_first : (line : List ℕ) → starts_with eqb line (codes "frame ") ≡ true
+    → tokens line ≡ codes "frame" ∷ tokens (take (length line - 6) (drop 6 line))
+frame_first line begins =
+    let is : line ≡ codes "frame " ++ drop 6 line = (starts_is Decides-eqb line (codes "frame ") (starts_with eqb line (codes "frame ")) refl).0 begins in
+    let all : drop 6 line ≡ take (length line - 6) (drop 6 line) = sym (take_all (length line - 6) (drop 6 line) (rw length-drop (omega arith))) in
+    ap tokens (is ∙ ap (λ xs. codes "frame " ++ xs) all) ∙ frame_cut (take (length line - 6) (drop 6 line))

@@ -1,6 +1,6 @@
 //! What a script line means that is no edit, by value.
 
-ghost use Rattle.std.specs.Prelude.{◌≡◌, IfSome, Some, option_map};
+ghost use Rattle.std.specs.Prelude.{◌≡◌, ◌∷◌, IfSome, Some, codes, option_map};
 ghost use Rattle.lx_spec.specs.Text.{tokens};
 ghost use Rattle.lx_spec.specs.Script.{line_of, meaning};
 ghost use Rattle.lx_lex.specs.Left.{left};
@@ -78,6 +78,9 @@ fn lone_word(line: &[u8]) -> Option<Brief>
 fn any_line(line: &[u8]) -> Reading
     ensures { IsReadAs result (meaning line.now (tokens line.now)) }
 {
+    if let Some(rest) = behind_frame(line) {
+        return by_word(FirstWord::Frame, line, rest);
+    }
     let mut rest = tokens(line);
     let Some(first) = rest.next() else {
         return Reading::Brief(Brief::Blank);
@@ -86,6 +89,18 @@ fn any_line(line: &[u8]) -> Reading
         Some(word) => by_word(word, line, rest),
         None => Reading::Bad,
     }
+}
+
+/// The tokens behind the first one where that is `frame` in small letters and a space follows at once. Frames are what a script asks for
+/// most often, so their word isn't looked for among all others.
+#[inline(always)]
+fn behind_frame(line: &[u8]) -> Option<Tokens<'_>>
+    ensures { IfSome result (λ rest. tokens line.now ≡ codes "frame" ∷ left rest) }
+{
+    if !line.starts_with(b"frame ") {
+        return None;
+    }
+    Some(tokens(&line[6..]))
 }
 
 /// What a line with this first word and these further tokens is.
