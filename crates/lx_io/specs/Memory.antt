@@ -5,10 +5,11 @@ use Rattle.lx_io.specs.Causes.{one_more}
 use Rattle.lx_io.specs.declared.sink.SinkFault.{SinkFault}
 use Rattle.lx_io.specs.declared.sink.SinkFault.TheVariants.{Failed, Memory}
 
--- the bytes that are left, and how many a call gives at most
+-- the bytes that are left, how many a call gives at most, and how many the last one gave
 pub record PlainBytes : Type 0 where
   pub left : List ℕ
   pub piece : ℕ
+  pub given : ℕ
 
 -- the same of a source of whose calls some fail: the numbers of those, how many calls were made, and how many failed
 pub record FailingBytes : Type 0 where
@@ -17,6 +18,7 @@ pub record FailingBytes : Type 0 where
   pub fails : List ℕ
   pub calls : ℕ
   pub faults : ℕ
+  pub given : ℕ
 
 -- the bytes that were appended, and how many writes wanted memory in vain
 pub record PlainStore : Type 0 where
@@ -37,7 +39,7 @@ is_failing fails call = list_any (λ k. k == call) fails
 
 -- the source after a read that gave this answer: it counts, and takes what it gave
 abbrev pub after_read : {E : Type 0} → FailingBytes → Result ℕ E → FailingBytes
-after_read source (Ok n) = record source { left = drop n source.left; calls = one_more source.calls }
+after_read source (Ok n) = record source { left = drop n source.left; calls = one_more source.calls; given = n }
 after_read source (Err e) = record source { calls = one_more source.calls; faults = one_more source.faults }
 
 -- the sink after a write of a piece that gave this answer: it counts, and appends the piece unless there was a fault

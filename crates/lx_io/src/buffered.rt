@@ -35,7 +35,7 @@ impl<K: Sink> BufferedSink<K> {
     /// Keeps back what goes to the sink. Nothing is kept yet.
     pub fn new(alloc: Global, sink: K) -> BufferedSink<K>
         ensures holds { ⟦<BufferedSink<K> as Sink>⟧.holds result ≡ with_kept (K.holds sink) [] }
-        ensures kept { kept_back result ≡ [] }
+        ensures back { ⟦<BufferedSink<K> as Sink>⟧.back result ≡ K.back sink ++ [] }
         ensures faults { ⟦<BufferedSink<K> as Sink>⟧.faults result ≡ K.faults sink }
         ensures wants { ⟦<BufferedSink<K> as Sink>⟧.wants result ≡ K.wants sink }
     {
@@ -201,6 +201,8 @@ impl<K: Sink> Sink for BufferedSink<K> {
 
     ghost holds = { λ s. with_kept (K.holds s.sink) (kept_back s) };
 
+    ghost back = { λ s. K.back s.sink ++ kept_back s };
+
     ghost faults = { λ s. K.faults s.sink };
 
     ghost wants = { λ s. K.wants s.sink };
@@ -220,7 +222,7 @@ impl<K: Sink> Sink for BufferedSink<K> {
         ensures holds { Keeps (with_kept (K.holds self.old.sink) (kept_back self.old))
             (with_kept (K.holds self.new.sink) (kept_back self.new)) }
         ensures cause { HasSinkCause (λ s. K.faults s.sink) (λ s. K.wants s.sink) self.old self.new result }
-        ensures none { OnOk result (kept_back self.new ≡ []) }
+        ensures handed_on { OnOk result (K.back self.new.sink ++ kept_back self.new ≡ []) }
     {
         self.hand_on()?;
         self.sink.flush()
