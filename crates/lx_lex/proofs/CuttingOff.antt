@@ -3,7 +3,7 @@ use Rattle.std.proofs.Common.{◌≡◌, ◌⊎◌, inl, inr, ℕ, zero, suc, �
 use Rattle.std.proofs.Common.{◌∷◌, ◌++◌, length, take, refl, sym, ap, ◌∙◌, subst, append-nil, append_assoc, arith}
 use Rattle.std.specs.Io.KnownBytes.{prepend_known}
 use Rattle.lx_base.specs.declared.TheConstants.{INPUT_BYTES}
-use Rattle.lx_spec.specs.CutInput.{HasNoFeed, first_lines, CutOff}
+use Rattle.lx_spec.specs.CutInput.{HasNoFeed, feeds, first_lines, CutOff}
 use Rattle.lx_lex.specs.declared.lines.Lines.{Lines}
 use Rattle.lx_lex.specs.declared.lines.Step.TheVariants.{ReadFault, InputTooLong}
 use Rattle.lx_lex.specs.Lines.{feed_of, BytesBetween, LinesBetween, StepOf}
@@ -58,6 +58,10 @@ cut_at (Some x) (Some y) (Some z) i j k more raws raw fed p q stop = (
     taken = p.took ∙ ap (λ v. v ++ y) p.front
         ∙ ap (λ v. first_lines (length raws) x ++ v) (q.bytes ∙ sym (append_assoc (raw ++ feed_of fed) more z));
     within = omega (arith, p.count, ap length p.front, p.within);
+    fed = elim p.fed [
+      | inl all ↦ inl (ap feeds (sym p.front) ∙ all)
+      | inr end ↦ inr (append_assoc (raw ++ feed_of fed) more z ∙ sym q.bytes ∙ end)
+    ];
     no_feed = elim stop [
       | inl past ↦ within_limit (INPUT_BYTES - (i + length (first_lines (length raws) x))) raw more fed
           (omega (arith, past, p.count, q.count, ap length p.front, p.within)) q.no_feed

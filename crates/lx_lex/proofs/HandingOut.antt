@@ -1,5 +1,5 @@
 -- How a loop over `advance` begins and goes on.
-use Rattle.std.proofs.Common.{◌≡◌, ℕ, ◌+◌, ◌≤◌, true, IsTrue, List, [], ◌∷◌, ◌++◌, refl, ◌∙◌, length-append, arith}
+use Rattle.std.proofs.Common.{◌≡◌, ℕ, ◌+◌, true, IsTrue, List, [], ◌∷◌, ◌++◌, refl, ◌∙◌, length-append, arith}
 use Rattle.std.specs.declared.option.Option.{Option}
 use Rattle.lx_lex.specs.declared.lines.Lines.{Lines}
 use Rattle.lx_lex.specs.LinesHandedOut.{HandedOut}
@@ -14,19 +14,19 @@ handed_none left faults a going = record {
   number = omega arith;
   going = going;
   same_reference = refl;
-  later = omega arith;
+  kept = refl;
 }
 
 -- the line of one step
 pub handed_one : {S : Type 0} (left : S → Option (List ℕ)) (faults : S → ℕ) (a b : Lines S) (raw : List ℕ)
     → LineBetween (unread left a) (unread left b) a.taken b.taken raw → b.number ≡ a.number + 1 → b.going ≡ true
-    → b.source.ghost_name ≡ a.source.ghost_name → faults a.source.now ≤ faults b.source.now → HandedOut left faults a b (raw ∷ [])
-handed_one left faults a b raw took number going same later = record {
+    → b.source.ghost_name ≡ a.source.ghost_name → faults b.source.now ≡ faults a.source.now → HandedOut left faults a b (raw ∷ [])
+handed_one left faults a b raw took number going same kept = record {
   took = one_line (unread left a) (unread left b) a.taken b.taken raw took;
   number = number;
   going = going;
   same_reference = same;
-  later = later;
+  kept = kept;
 }
 
 -- first these, and then those
@@ -37,5 +37,5 @@ handed_then left faults a b c raws raws' p q = record {
   number = omega (arith, p.number, q.number, length-append raws raws');
   going = q.going;
   same_reference = q.same_reference ∙ p.same_reference;
-  later = omega (arith, p.later, q.later);
+  kept = q.kept ∙ p.kept;
 }

@@ -1,12 +1,14 @@
 -- Lines that were taken one after another: how a loop over `advance` begins, goes on and ends.
 use Rattle.std.proofs.Common.{◌≡◌, ◌⊎◌, inl, inr, ℕ, ◌+◌, ◌<◌, ◌≤◌, Bool, true, false, List, [], ◌∷◌, ◌++◌, length, map, Some, None}
 use Rattle.std.proofs.Common.{IfSome, refl, sym, ap, ◌∙◌, subst, append-nil, append_assoc, length-append, arith}
+use Rattle.std.specs.Prelude.{◌==◌}
 use Rattle.std.specs.declared.option.Option.{Option}
 use Rattle.std.specs.Io.KnownBytes.{IsAtEnd}
 use Rattle.std.proofs.KnownBytes.{Consumes-trans}
 use Rattle.std.proofs.lemmas.List.{map-append}
 use Rattle.lx_base.specs.declared.TheConstants.{INPUT_BYTES}
-use Rattle.lx_spec.specs.CutInput.{HasNoFeed, first_lines}
+use Rattle.lx_spec.specs.CutInput.{HasNoFeed, feeds, first_lines}
+use Rattle.lx_lex.proofs.Feeds.{feeds-none, count_by-append, append_none}
 use Rattle.lx_spec.specs.Text.{cut_lines, without_cr, lines_of}
 use Rattle.lx_lex.specs.declared.lines.Step.TheVariants.{InputTooLong}
 use Rattle.lx_lex.specs.Lines.{feed_of, LineBetween, LinesBetween, StepOf}
@@ -15,7 +17,7 @@ use Rattle.lx_lex.proofs.FirstLines.{first_lines-front, first_lines-more, first_
 
 -- no line was taken yet
 pub no_line : (a : Option (List ℕ)) (i : ℕ) → i ≤ INPUT_BYTES → LinesBetween a a i i []
-no_line None i h = record { bytes = []; took = tt; count = omega arith; some = omega arith; within = h; front = tt; lines = tt }
+no_line None i h = record { bytes = []; took = tt; count = omega arith; some = omega arith; within = h; front = tt; lines = tt; fed = tt }
 no_line (Some xs) i h = record {
   bytes = [];
   took = refl;
@@ -25,7 +27,15 @@ no_line (Some xs) i h = record {
   front =
       sym (first_lines-none xs);
   lines = refl;
+  fed = inl refl;
 }
+
+-- bytes of which each line has its LF, or behind which nothing is left, and then others
+fed_then : (xs ys y z : List ℕ) (m n k : ℕ) → k ≡ m + n → (feeds xs ≡ m) ⊎ (y ≡ []) → (feeds ys ≡ n) ⊎ (z ≡ []) → y ≡ ys ++ z
+    → (feeds (xs ++ ys) ≡ k) ⊎ (z ≡ [])
+fed_then xs ys y z m n k e p (inr none) took = inr none
+fed_then xs ys y z m n k e (inl p) (inl q) took = inl (omega (arith, e, p, q, count_by-append (λ b. b == 10) xs ys))
+fed_then xs ys y z m n k e (inr none) (inl q) took = inr (append_none ys z (sym took ∙ none))
 
 -- first these lines, and then those
 pub then_lines : (a b c : Option (List ℕ)) (i j k : ℕ) (raws raws' : List (List ℕ))
@@ -38,6 +48,7 @@ then_lines None b c i j k raws raws' p q = record {
   within = q.within;
   front = tt;
   lines = tt;
+  fed = tt;
 }
 then_lines (Some x) None c i j k raws raws' p q = absurd p.took
 then_lines (Some x) (Some y) None i j k raws raws' p q = absurd q.took
@@ -54,6 +65,7 @@ then_lines (Some x) (Some y) (Some z) i j k raws raws' p q = record {
       ap (λ v. p.bytes ++ v) q.front ∙ sym both ∙ ap (first_lines (length raws + length raws')) (sym p.took)
       ∙ ap (λ n. first_lines n x) (sym (length-append raws raws'));
   lines = p.lines ∙ ap (λ v. raws ++ v) q.lines ∙ sym (append_assoc raws raws' (cut_lines z));
+  fed = fed_then p.bytes q.bytes y z (length raws) (length raws') (length (raws ++ raws')) (length-append raws raws') p.fed q.fed q.took;
 }
 
 -- a known line that was taken: it is the first, and its bytes are those of the first
@@ -86,6 +98,13 @@ one_byte b raw true ended = omega arith
 one_byte b raw false (inl odd) = cc
 one_byte b raw false (inr end) = omega (arith, end.1)
 
+-- a line has its LF, or nothing is left behind it
+one_fed : (raw : List ℕ) (fed : Bool) (y : List ℕ) → HasNoFeed raw → (fed ≡ true) ⊎ ((y ≡ []) × (0 < length raw))
+    → (feeds (raw ++ feed_of fed) ≡ 1) ⊎ (y ≡ [])
+one_fed raw true y none ended = inl (omega (arith, count_by-append (λ b. b == 10) raw (10 ∷ []), feeds-none raw none))
+one_fed raw false y none (inl odd) = cc
+one_fed raw false y none (inr end) = inr end.0
+
 -- one line that was handed out
 pub one_line : (a b : Option (List ℕ)) (i j : ℕ) (raw : List ℕ) → LineBetween a b i j raw → LinesBetween a b i j (raw ∷ [])
 one_line None b i j raw t = record {
@@ -96,6 +115,7 @@ one_line None b i j raw t = record {
   within = t.within;
   front = tt;
   lines = tt;
+  fed = tt;
 }
 one_line (Some x) None i j raw t = absurd t.took.bytes
 one_line (Some x) (Some y) i j raw t =
@@ -108,6 +128,7 @@ one_line (Some x) (Some y) i j raw t =
       within = t.within;
       front = first.front;
       lines = first.lines;
+      fed = one_fed raw t.fed y t.took.no_feed t.ended;
     }
 
 -- one more line was handed out
