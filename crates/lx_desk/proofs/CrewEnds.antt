@@ -21,11 +21,11 @@ use Rattle.lx_desk.specs.declared.desk.Status.{Status}
 use Rattle.lx_desk.specs.declared.desk.Status.TheVariants as status
 use Rattle.lx_desk.specs.Output.{WritesPrefix}
 use Rattle.lx_desk.specs.ShowRefusal.{RefusedBy}
-use Rattle.lx_desk.specs.Endings.{HasEnded}
+use Rattle.lx_desk.specs.Endings.{EndsJob, HasEnded}
 use Rattle.lx_desk.specs.Crew.{ServesOrWants, ServesNone, HasCrewEnded, WritesFirstLines, WritesCrewFront}
 use Rattle.lx_desk.specs.Crew.{OperatorFailed, HasCrewCause}
-use Rattle.lx_desk.proofs.Inputs.{Says, IsOfShow, means_of, told_fits, front_nothing, refusal_isnt_ok, if_known, both_known}
-use Rattle.lx_desk.proofs.Endings.{refusal_ended}
+use Rattle.lx_desk.proofs.Inputs.{Says, IsOfShow, nothing_of_cut, means_of, told_fits, front_nothing, refusal_isnt_ok, if_known, both_known}
+use Rattle.lx_desk.proofs.Endings.{refusal_ends, refusal_ended}
 use Rattle.lx_desk.proofs.CrewRuns.{no_lines}
 
 -- Of a show whose levels are read in this form, for so many operators.
@@ -38,7 +38,7 @@ module _ (form : Form) (count : ℕ) where
       refusal = λ x fault text. ap (λ r. over_show r (λ reading. [])) text;
       wanted = λ x fault text. refl;
       longer = λ x n h. first_lines-longer (n + 1) (lines_read (lines_of x)) x h;
-      cut = λ x left h i none short. refl;
+      cut = λ x left h i none short. nothing_of_cut form x left h i none short;
     };
     output = λ x. refl;
     bytes = λ x. refl;
@@ -53,6 +53,7 @@ module _ (form : Form) (count : ℕ) where
       → s ≡ status.Memory → h' ≡ h → operators' ≡ operators → ServesNone count form x rest operators operators' h h' s
   wanting x rest h h' operators operators' s memory kept same = record {
     isnt_ok = λ ok. let bad : status.Memory ≡ status.Ok = sym memory ∙ ok in absurd cc;
+    isnt_live = λ live. let bad : status.Memory ≡ status.Live = sym memory ∙ live in absurd cc;
     ended = subst (λ (t : Status). HasEnded t (Crew count form) x rest h h') (sym memory) (nothing_told x h h' kept);
     untouched = same;
   }
@@ -89,7 +90,12 @@ module _ (form : Form) (count : ℕ) where
       → IfSome o (λ x. HasCrewEnded left faults count form x (inputs b.source.now) operators operators h h' s)
   refused_ended inputs left faults a b o h h' operators fault s is none says by =
       if_known o _ _ (refusal_ended form (Crew count form) (crew_tells.over) inputs a b o h h' fault s is none says by)
-      (λ x e. inl (record { isnt_ok = λ ok. refusal_isnt_ok h h' fault s ⊥ by ok; ended = e; untouched = refl }))
+      (λ x e. inl (record {
+        isnt_ok = λ ok. refusal_isnt_ok h h' fault s ⊥ by ok;
+        isnt_live = λ live. subst EndsJob live (refusal_ends h h' fault s by);
+        ended = e;
+        untouched = refl;
+      }))
 
   pub nothing_front : {S : Type 0} (left : S → Option (List ℕ)) (h h' : Option (List ℕ)) (operators : List (Option S))
       (r : Result Reading TextFault) → h' ≡ h → WritesCrewFront left count operators h h' r

@@ -11,7 +11,7 @@ use Rattle.lx_io.proofs.Chain.{AppendsFront-from}
 use Rattle.lx_lex.specs.declared.lines.Lines.{Lines}
 use Rattle.lx_lex.specs.Lines.{LinesBetween}
 use Rattle.lx_lex.specs.Unread.{unread}
-use Rattle.lx_lex.proofs.TakenLines.{lines_within}
+use Rattle.lx_lex.proofs.TakenLines.{lines_within, fed_then}
 use Rattle.lx_lex.proofs.FirstLines.{first_lines-more, first_lines-longer}
 use Rattle.lx_spec.specs.declared.Form.{Form}
 use Rattle.lx_spec.specs.declared.TextFault.{TextFault}
@@ -20,7 +20,7 @@ use Rattle.lx_spec.specs.Text.{lines_of}
 use Rattle.lx_spec.specs.Desk.{Desk, opened}
 use Rattle.lx_spec.specs.Show.{Show}
 use Rattle.lx_spec.specs.Reading.{Reading, reads, script_of, lines_read}
-use Rattle.lx_spec.specs.CutInput.{HasNoFeed, first_lines}
+use Rattle.lx_spec.specs.CutInput.{HasNoFeed, feeds, first_lines}
 use Rattle.lx_spec.specs.RenderOutput.{input_lines_wanted, input_wanted, OutputPlacesAreEdits}
 use Rattle.lx_spec.specs.SessionOf.{Answer, begin_with, PlacesAreAllowed}
 use Rattle.lx_spec.specs.SessionOutput.{SessionWants}
@@ -40,9 +40,10 @@ use Rattle.lx_spec.specs.declared.Job.{Job}
 use Rattle.lx_spec.specs.declared.Job.TheVariants.{Check, Sheet}
 use Rattle.lx_spec.specs.CheckOutput.{check_text}
 use Rattle.lx_spec.specs.SheetOutput.{sheet_text}
-use Rattle.lx_spec.specs.Job.{show_of, output_of, replies_of, WantsEdits, wanted_of, show_wanted}
+use Rattle.lx_spec.specs.Job.{show_of, output_of, replies_of, lines_wanted_of, WantsEdits, wanted_of, show_wanted}
 use Rattle.lx_desk.specs.ScriptAnswers.{Answering, by_desk}
-use Rattle.lx_desk.specs.Output.{WritesAll, WritesPrefix, WritesTaken, RepliesToTaken, AnswersScript, AnswersInFront, AnswersTaken}
+use Rattle.lx_desk.specs.Output.{WritesAll, WritesPrefix, WritesTaken, RepliesToTaken, NothingOfCut, AnswersScript, AnswersInFront}
+use Rattle.lx_desk.specs.Output.{AnswersTaken}
 use Rattle.lx_desk.specs.ShowRefusal.{RefusedBy, status_kept}
 
 -- a whole text is a front of itself, and nothing is one of any
@@ -117,6 +118,10 @@ pub if_known : (o : Option (List ℕ)) (P Q : List ℕ → Type 0) → IfSome o 
 if_known None P Q p f = tt
 if_known (Some xs) P Q p f = f xs p
 
+pub if_both : (o : Option (List ℕ)) (P Q : List ℕ → Type 0) → IfSome o P → IfSome o Q → IfSome o (λ xs. P xs × Q xs)
+if_both None P Q p q = tt
+if_both (Some xs) P Q p q = (p, q)
+
 pub both_known : (o : Option (List ℕ)) (P Q R : List ℕ → Type 0) → IfSome o P → IfSome o Q → ((xs : List ℕ) → P xs → Q xs → R xs)
     → IfSome o R
 both_known None P Q R p q f = tt
@@ -136,6 +141,7 @@ module _ (form : Form) where
         → replies_of job x places lines ≡ (by reading.show).first (script_of x) places lines
     pub none : (x : List ℕ) → replies_of job x [] 0 ≡ []
     pub bytes : (x : List ℕ) → wanted_of job x ≡ input_wanted form x
+    pub lines : (x : List ℕ) → lines_wanted_of job x ≡ input_lines_wanted x (reads form x)
     pub taken : (x : List ℕ) (left h h' : Option (List ℕ)) → RepliesToTaken job x left h h' → WritesTaken job x left h h'
 
   output_at : (job : Job) (by : Show → Answering) → IsOfScript job by → (x places : List ℕ) (reading : Reading) → reads form x ≡ Ok reading
@@ -214,7 +220,7 @@ module _ (form : Form) where
       (λ x y raws took shown read script answer. front_at job by of x y (reading_of loaded) h h' read script answer)
 
   -- of a show that is read the lines that were handed out are wanted, and then those of the script
-  wanted_read : (x y : List ℕ) (i j : ℕ) (raws : List (List ℕ)) (reading : Reading) → i ≡ 0 → LinesBetween (Some x) (Some y) i j raws
+  pub wanted_read : (x y : List ℕ) (i j : ℕ) (raws : List (List ℕ)) (reading : Reading) → i ≡ 0 → LinesBetween (Some x) (Some y) i j raws
       → lines_read (lines_of x) ≡ length raws → reads form x ≡ Ok reading → script_of x ≡ lines_of y
       → length (input_wanted form x) ≡ j + length (bytes_wanted y)
   wanted_read x y i j raws reading none took shown text script =
@@ -244,6 +250,16 @@ module _ (form : Form) where
       (λ x y raws took shown read script within.
       omega (arith, within, wanted_read x y a.taken b.taken raws (reading_of loaded) none took shown read script))
 
+  -- of a line that is wanted for the show one is wanted for the whole input
+  more_wanted : (x : List ℕ) (n : ℕ) (r : Result Reading TextFault) → n + 1 ≤ lines_read (lines_of x) → n + 1 ≤ input_lines_wanted x r
+  more_wanted x n (Ok reading) h = omega (arith, h)
+  more_wanted x n (Err i) h = h
+
+  -- lines behind others
+  pub fed_behind : (all xs ys y z : List ℕ) (m n k : ℕ) → k ≡ m + n → all ≡ xs ++ ys → (feeds xs ≡ m) ⊎ (y ≡ [])
+      → (feeds ys ≡ n) ⊎ (z ≡ []) → y ≡ ys ++ z → (feeds all ≡ k) ⊎ (z ≡ [])
+  fed_behind all xs ys y z m n k e is p q took = subst (λ (v : List ℕ). (feeds v ≡ k) ⊎ (z ≡ [])) (sym is) (fed_then xs ys y z m n k e p q took)
+
   -- The script was cut off behind a show that was read.
   cut_behind : (job : Job) (by : Show → Answering) → IsOfScript job by → (x y : List ℕ) (left h h' : Option (List ℕ)) (i j : ℕ)
       (raws : List (List ℕ)) (reading : Reading) → i ≡ 0 → LinesBetween (Some x) (Some y) i j raws
@@ -268,8 +284,16 @@ module _ (form : Form) where
               took.took ∙ ap (λ v. took.bytes ++ v) e ∙ sym (append_assoc took.bytes (first_lines n y) (a.cut.next ++ rest))
               ∙ ap (λ v. v ++ (a.cut.next ++ rest)) (sym first));
           within = omega (arith, count, a.cut.within);
+          fed = if_known left _ _ (if_both left _ _ a.cut.taken a.cut.fed) (λ rest p.
+              fed_behind (first_lines (length raws + n) x) took.bytes (first_lines n y) y (a.cut.next ++ rest) (length raws) n
+              (length raws + n) refl first took.fed p.1 p.0);
           no_feed = subst (λ k. HasNoFeed (take (INPUT_BYTES - k) a.cut.next)) count a.cut.no_feed;
         };
+        short =
+            let w = of.lines x ∙ ap (input_lines_wanted x) text in
+            let s = ap lines_wanted script in
+            let m = a.short in
+            omega (arith, w, s, m, shown);
         text = subst (λ (t : List ℕ). Appends h h' t)
             (sym (of.first x a.places (length raws + n - lines_read (lines_of x)) reading text
             ∙ ap ((by reading.show).first (script_of x) a.places) done
@@ -300,10 +324,22 @@ module _ (form : Form) where
           next = cut.next;
           taken = cut.taken;
           within = let w = cut.within in omega (arith, none, w);
+          fed = cut.fed;
           no_feed = subst (λ k. HasNoFeed (take (INPUT_BYTES - (k + length (first_lines cut.lines x))) cut.next)) none cut.no_feed;
         };
+        short =
+            let lt = short.wanted in
+            let w = of.lines x in
+            let m = more_wanted x cut.lines (reads form x) (omega (arith, lt)) in
+            omega (arith, w, m);
         text = subst (λ (t : List ℕ). Appends h h t) (sym (ap (replies_of job x []) few ∙ of.none x)) (Appends-nil h);
       }
+
+  -- The same, of a job that writes nothing then.
+  pub nothing_of_cut : (x : List ℕ) (left h : Option (List ℕ)) (i : ℕ) → i ≡ 0 → IsCutShort i x left → NothingOfCut x left h h
+  nothing_of_cut x left h i none =
+      subst (λ k. IsCutShort k x left → NothingOfCut x left h h) (sym none)
+      (λ short. record { kept = refl; cut = short.cut; short = short.wanted })
 
   -- A job over the show that its input begins with.
   pub record IsOverShow (job : Job) : Type 0 where
@@ -319,10 +355,6 @@ module _ (form : Form) where
     pub over : IsOverShow job
     pub output : (x : List ℕ) → output_of job x [] ≡ over_show (reads form x) f
     pub bytes : (x : List ℕ) → wanted_of job x ≡ show_wanted x
-
-  more_wanted : (x : List ℕ) (n : ℕ) (r : Result Reading TextFault) → n + 1 ≤ lines_read (lines_of x) → n + 1 ≤ input_lines_wanted x r
-  more_wanted x n (Ok reading) h = omega (arith, h)
-  more_wanted x n (Err i) h = h
 
   -- a job that answers the script is one over the show
   pub script_over : (job : Job) (by : Show → Answering) → IsOfScript job by → IsOverShow job
@@ -349,7 +381,7 @@ module _ (form : Form) where
       refusal = λ x fault text. ap (λ r. over_show r check_text) text;
       wanted = λ x fault text. refl;
       longer = λ x n h. first_lines-longer (n + 1) (lines_read (lines_of x)) x h;
-      cut = λ x left h i none short. refl;
+      cut = λ x left h i none short. nothing_of_cut x left h i none short;
     };
     output = λ x. refl;
     bytes = λ x. refl;
@@ -363,7 +395,7 @@ module _ (form : Form) where
       refusal = λ x fault text. ap (λ r. over_show r sheet_text) text;
       wanted = λ x fault text. refl;
       longer = λ x n h. first_lines-longer (n + 1) (lines_read (lines_of x)) x h;
-      cut = λ x left h i none short. refl;
+      cut = λ x left h i none short. nothing_of_cut x left h i none short;
     };
     output = λ x. refl;
     bytes = λ x. refl;

@@ -1,6 +1,7 @@
 mod CheckLine
 mod Endings
 mod Inputs
+mod Finishing
 mod ScriptJobs
 mod SessionFronts
 mod MadeEndings

@@ -3,6 +3,8 @@ use Rattle.std.proofs.Common.{◌≡◌, ◌≢◌, ◌⊎◌, inl, inr, true, f
 use Rattle.std.proofs.Common.{[], ◌∷◌, ◌++◌, length, take, refl, sym, ap, ◌∙◌, subst, arith, append_assoc, length-append}
 use Rattle.std.specs.Io.KnownBytes.{Appends}
 use Rattle.lx_base.specs.declared.TheConstants.{INPUT_BYTES}
+use Rattle.lx_io.specs.declared.sink.SinkFault.{SinkFault}
+use Rattle.lx_io.specs.Causes.{Rose}
 use Rattle.lx_io.specs.Puts.{AppendsFront}
 use Rattle.lx_lex.specs.declared.lines.Lines.{Lines}
 use Rattle.lx_lex.specs.Lines.{LinesBetween}
@@ -17,8 +19,9 @@ use Rattle.lx_spec.specs.Desk.{opened}
 use Rattle.lx_spec.specs.CutInput.{HasNoFeed, first_lines}
 use Rattle.lx_spec.specs.FaultLine.{over_show}
 use Rattle.lx_spec.specs.Reading.{Reading, reads, script_of, lines_read}
-use Rattle.lx_spec.specs.RenderOutput.{first_replies, input_wanted, render_output}
-use Rattle.lx_spec.specs.Session.{accepted, after_first, replies}
+use Rattle.lx_spec.specs.RenderOutput.{first_replies, input_lines_wanted, input_wanted, render_output}
+use Rattle.lx_spec.specs.Session.{accepted, after_first, replies, lines_wanted, bytes_wanted}
+use Rattle.lx_spec.specs.Show.{Show}
 use Rattle.lx_reader.specs.declared.loaded.Loaded.{Loaded}
 use Rattle.lx_reader.specs.declared.fault.ShowFault.{ShowFault}
 use Rattle.lx_reader.specs.Answer.{reading_of, HasRead}
@@ -29,8 +32,10 @@ use Rattle.lx_desk.specs.ShowRefusal.{RefusedBy}
 use Rattle.lx_desk.specs.Endings.{EndsJob, HasEnded}
 use Rattle.lx_desk.specs.Live.{HaveVersions, PlaysScript, AreServed, PlaysInFront, PlaysTaken, HasPlayedLive, PlaysWhole, LivesInFront}
 use Rattle.lx_desk.specs.Live.{LivesTaken}
-use Rattle.lx_desk.specs.Live.{HasLived}
+use Rattle.lx_desk.specs.Live.{HasLived, PlaysToEnd, LivesToEnd, LacksMemory, HasFailedOutlet, DecidesInOrder}
+use Rattle.lx_desk.specs.Finished.{HasWanted}
 use Rattle.lx_desk.proofs.Inputs.{Says, means_of, session_long, session_fits, refusal_isnt_ok, front_nothing, if_known, both_known, over_loaded}
+use Rattle.lx_desk.proofs.Inputs.{if_both, fed_behind, wanted_read}
 use Rattle.lx_desk.proofs.ScriptJobs.{run_over}
 use Rattle.lx_desk.proofs.Endings.{refusal_ends, refusal_ended}
 
@@ -50,14 +55,14 @@ module _ (form : Form) (universes : ℕ) where
     within = fits;
   }
 
-  prefix_at : {K : Type 0} (holds : K → Option (List ℕ)) (failures wants : K → ℕ) (x y : List ℕ) (reading : Reading)
+  prefix_at : {K : Type 0} (holds : K → Option (List ℕ)) (back : K → List ℕ) (failures wants : K → ℕ) (x y : List ℕ) (reading : Reading)
       (h h' : Option (List ℕ))
       (outlets outlets' : List (Option K)) → reads form x ≡ Ok reading → script_of x ≡ lines_of y
-      → PlaysInFront holds failures wants reading.show universes (lines_of y) h h' outlets outlets'
-      → WritesPrefix (Run universes form) x h h' × LivesInFront holds failures wants universes form x h h' outlets outlets'
-  prefix_at holds failures wants x y reading h h' outlets outlets' read script a =
-      let plays : PlaysInFront holds failures wants reading.show universes (script_of x) h h' outlets outlets' =
-      subst (λ (ls : List (List ℕ)). PlaysInFront holds failures wants reading.show universes ls h h' outlets outlets') (sym script) a in
+      → PlaysInFront holds back failures wants reading.show universes (lines_of y) h h' outlets outlets'
+      → WritesPrefix (Run universes form) x h h' × LivesInFront holds back failures wants universes form x h h' outlets outlets'
+  prefix_at holds back failures wants x y reading h h' outlets outlets' read script a =
+      let plays : PlaysInFront holds back failures wants reading.show universes (script_of x) h h' outlets outlets' =
+      subst (λ (ls : List (List ℕ)). PlaysInFront holds back failures wants reading.show universes ls h h' outlets outlets') (sym script) a in
       let front = front_of_all (opened reading.show) (script_of x) plays.places plays.lines h h' plays.text in (
         record {
           places = plays.places;
@@ -68,13 +73,13 @@ module _ (form : Form) (universes : ℕ) where
         record { reading = reading; read = read; plays = plays },
       )
 
-  taken_at : {K : Type 0} (holds : K → Option (List ℕ)) (failures wants : K → ℕ) (x y : List ℕ) (left h h' : Option (List ℕ))
+  taken_at : {K : Type 0} (holds : K → Option (List ℕ)) (back : K → List ℕ) (failures wants : K → ℕ) (x y : List ℕ) (left h h' : Option (List ℕ))
       (outlets outlets' : List (Option K)) (i j : ℕ) (raws : List (List ℕ)) (reading : Reading) → i ≡ 0
       → LinesBetween (Some x) (Some y) i j raws
       → lines_read (lines_of x) ≡ length raws → reads form x ≡ Ok reading → script_of x ≡ lines_of y
-      → PlaysTaken holds failures wants reading.show universes j y left h h' outlets outlets'
-      → LivesTaken holds failures wants universes form x left h h' outlets outlets'
-  taken_at holds failures wants x y left h h' outlets outlets' i j raws reading none took shown text script a =
+      → PlaysTaken holds back failures wants reading.show universes j y left h h' outlets outlets'
+      → LivesTaken holds back failures wants universes form x left h h' outlets outlets'
+  taken_at holds back failures wants x y left h h' outlets outlets' i j raws reading none took shown text script a =
       let n = a.cut.lines in
       let mine : took.bytes ≡ first_lines (length raws) (took.bytes ++ y) = took.front ∙ ap (first_lines (length raws)) took.took in
       let first : first_lines (length raws + n) x ≡ took.bytes ++ first_lines n y = ap (first_lines (length raws + n)) took.took
@@ -93,24 +98,32 @@ module _ (form : Form) (universes : ℕ) where
               took.took ∙ ap (λ v. took.bytes ++ v) e ∙ sym (append_assoc took.bytes (first_lines n y) (a.cut.next ++ rest))
               ∙ ap (λ v. v ++ (a.cut.next ++ rest)) (sym first));
           within = omega (arith, count, a.cut.within);
+          fed = if_known left _ _ (if_both left _ _ a.cut.taken a.cut.fed) (λ rest p.
+              fed_behind (first_lines (length raws + n) x) took.bytes (first_lines n y) y (a.cut.next ++ rest) (length raws) n
+              (length raws + n) refl first took.fed p.1 p.0);
           no_feed = subst (λ k. HasNoFeed (take (INPUT_BYTES - k) a.cut.next)) count a.cut.no_feed;
         };
+        short =
+            let s = ap lines_wanted script in
+            let m = a.short in
+            omega (arith, s, m, shown);
         text = subst (λ (k : ℕ). Appends h h' (after_first (opened reading.show) (script_of x) a.places k).text) done
             (subst (λ (ls : List (List ℕ)). Appends h h' (after_first (opened reading.show) ls a.places n).text) (sym script) a.text);
-        served = subst (λ (k : ℕ). AreServed holds failures wants reading.show universes outlets outlets'
+        served = subst (λ (k : ℕ). AreServed holds back failures wants reading.show universes outlets outlets'
             (after_first (opened reading.show) (script_of x) a.places k).accepted) done
-            (subst (λ (ls : List (List ℕ)). AreServed holds failures wants reading.show universes outlets outlets'
+            (subst (λ (ls : List (List ℕ)). AreServed holds back failures wants reading.show universes outlets outlets'
             (after_first (opened reading.show) ls a.places n).accepted) (sym script) a.served);
       }
 
   -- the same, as it is told of a job
-  as_taken : {K : Type 0} (holds : K → Option (List ℕ)) (failures wants : K → ℕ) (x : List ℕ) (left h h' : Option (List ℕ))
+  as_taken : {K : Type 0} (holds : K → Option (List ℕ)) (back : K → List ℕ) (failures wants : K → ℕ) (x : List ℕ) (left h h' : Option (List ℕ))
       (outlets outlets' : List (Option K))
-      → LivesTaken holds failures wants universes form x left h h' outlets outlets' → RepliesToTaken (Run universes form) x left h h'
-  as_taken holds failures wants x left h h' outlets outlets' a = record {
+      → LivesTaken holds back failures wants universes form x left h h' outlets outlets' → RepliesToTaken (Run universes form) x left h h'
+  as_taken holds back failures wants x left h h' outlets outlets' a = record {
     places = a.places;
     wants = tt;
     cut = a.cut;
+    short = let w = ap (input_lines_wanted x) a.read in let m = a.short in omega (arith, w, m);
     text = subst (λ (t : List ℕ). Appends h h' t)
         (sym (ap (λ r. first_replies r (script_of x) a.places (a.cut.lines - lines_read (lines_of x))) a.read)) a.text;
   }
@@ -122,66 +135,66 @@ module _ (form : Form) (universes : ℕ) where
       (record { places = []; wants = tt; text = front_nothing h (render_output form x []) })
 
   -- a script over a show that was read
-  pub live_ended : {S K : Type 0} (left : S → Option (List ℕ)) (faults : S → ℕ) (holds : K → Option (List ℕ)) (failures wants : K → ℕ)
+  pub live_ended : {S K : Type 0} (left : S → Option (List ℕ)) (faults : S → ℕ) (holds : K → Option (List ℕ)) (back : K → List ℕ) (failures wants : K → ℕ)
       (a b : Lines S) (loaded : Loaded) (o rest h h' : Option (List ℕ)) (outlets outlets' : List (Option K)) (s : Status)
       → unread left a ≡ o → a.taken ≡ 0 → HasRead left faults a b form loaded
-      → IfSome (unread left b) (λ y. HasPlayedLive s holds failures wants loaded.show universes b.taken y rest h h' outlets outlets')
-      → IfSome o (λ x. HasLived s holds failures wants universes form x rest h h' outlets outlets')
-  live_ended left faults holds failures wants a b loaded o rest h h' outlets outlets' status.Ok is none r p =
+      → IfSome (unread left b) (λ y. HasPlayedLive s holds back failures wants loaded.show universes b.taken y rest h h' outlets outlets')
+      → IfSome o (λ x. HasLived s holds back failures wants universes form x rest h h' outlets outlets')
+  live_ended left faults holds back failures wants a b loaded o rest h h' outlets outlets' status.Ok is none r p =
       both_known o _ _ _ (session_fits form left faults a b loaded o is none r (if_known (unread left b) _ _ p (λ y q. q.1)))
       (over_loaded form left faults a b loaded o (λ y. PlaysScript holds loaded.show universes (lines_of y) h h' outlets outlets')
       (λ x. length (input_wanted form x) ≤ INPUT_BYTES → PlaysWhole holds universes form x h h' outlets outlets') is r
       (if_known (unread left b) _ _ p (λ y q. q.0))
       (λ x y raws took shown text script q fits. whole_at holds x y (reading_of loaded) h h' outlets outlets' text script fits q))
       (λ x fits f. f fits)
-  live_ended left faults holds failures wants a b loaded o rest h h' outlets outlets' status.ReadFault is none r p =
-      over_loaded form left faults a b loaded o (λ y. PlaysTaken holds failures wants loaded.show universes b.taken y rest h h' outlets outlets')
+  live_ended left faults holds back failures wants a b loaded o rest h h' outlets outlets' status.ReadFault is none r p =
+      over_loaded form left faults a b loaded o (λ y. PlaysTaken holds back failures wants loaded.show universes b.taken y rest h h' outlets outlets')
       _ is r p
       (λ x y raws took shown text script q.
-      let taken = taken_at holds failures wants x y rest h h' outlets outlets' a.taken b.taken raws (reading_of loaded) none took shown text
+      let taken = taken_at holds back failures wants x y rest h h' outlets outlets' a.taken b.taken raws (reading_of loaded) none took shown text
       script q in
-      (as_taken holds failures wants x rest h h' outlets outlets' taken, inr taken))
-  live_ended left faults holds failures wants a b loaded o rest h h' outlets outlets' status.InputTooLong is none r p =
+      (as_taken holds back failures wants x rest h h' outlets outlets' taken, inr taken))
+  live_ended left faults holds back failures wants a b loaded o rest h h' outlets outlets' status.InputTooLong is none r p =
       both_known o _ _ _
-      (over_loaded form left faults a b loaded o (λ y. PlaysTaken holds failures wants loaded.show universes b.taken y rest h h' outlets
-      outlets') (λ x. LivesTaken holds failures wants universes form x rest h h' outlets outlets') is r
+      (over_loaded form left faults a b loaded o (λ y. PlaysTaken holds back failures wants loaded.show universes b.taken y rest h h' outlets
+      outlets') (λ x. LivesTaken holds back failures wants universes form x rest h h' outlets outlets') is r
       (if_known (unread left b) _ _ p (λ y q. q.0))
-      (λ x y raws took shown text script q. taken_at holds failures wants x y rest h h' outlets outlets' a.taken b.taken raws
+      (λ x y raws took shown text script q. taken_at holds back failures wants x y rest h h' outlets outlets' a.taken b.taken raws
       (reading_of loaded) none took shown text script q))
       (session_long form left faults a b loaded o is none r (if_known (unread left b) _ _ p (λ y q. q.1)))
-      (λ x taken long. ((as_taken holds failures wants x rest h h' outlets outlets' taken, long), inr taken))
-  live_ended left faults holds failures wants a b loaded o rest h h' outlets outlets' status.WriteFault is none r p =
-      over_loaded form left faults a b loaded o (λ y. PlaysInFront holds failures wants loaded.show universes (lines_of y) h h' outlets outlets')
+      (λ x taken long. ((as_taken holds back failures wants x rest h h' outlets outlets' taken, long), inr taken))
+  live_ended left faults holds back failures wants a b loaded o rest h h' outlets outlets' status.WriteFault is none r p =
+      over_loaded form left faults a b loaded o (λ y. PlaysInFront holds back failures wants loaded.show universes (lines_of y) h h' outlets outlets')
       _ is r p
       (λ x y raws took shown text script q. let w =
-      prefix_at holds failures wants x y (reading_of loaded) h h' outlets outlets' text script q in (w.0, inr w.1))
-  live_ended left faults holds failures wants a b loaded o rest h h' outlets outlets' status.Memory is none r p =
+      prefix_at holds back failures wants x y (reading_of loaded) h h' outlets outlets' text script q in (w.0, inr w.1))
+  live_ended left faults holds back failures wants a b loaded o rest h h' outlets outlets' status.Memory is none r p =
       over_loaded form left faults a b loaded o (λ y. ((h' ≡ h) × (outlets' ≡ outlets))
-      ⊎ PlaysInFront holds failures wants loaded.show universes (lines_of y) h h' outlets outlets') _ is r p
+      ⊎ PlaysInFront holds back failures wants loaded.show universes (lines_of y) h h' outlets outlets') _ is r p
       (λ x y raws took shown text script q. elim q [
         | inl kept ↦ (nothing_lived x h h' kept.0, inl (kept.1, λ ok. kept.0))
-        | inr plays ↦ let w = prefix_at holds failures wants x y (reading_of loaded) h h' outlets outlets' text script plays in
+        | inr plays ↦ let w = prefix_at holds back failures wants x y (reading_of loaded) h h' outlets outlets' text script plays in
             (w.0, inr w.1)
       ])
-  live_ended left faults holds failures wants a b loaded o rest h h' outlets outlets' status.ShowRefused is none r p =
+  live_ended left faults holds back failures wants a b loaded o rest h h' outlets outlets' status.ShowRefused is none r p =
       over_loaded form left faults a b loaded o (λ y. ⊥) _ is r p (λ x y raws took shown text script q. absurd q)
-  live_ended left faults holds failures wants a b loaded o rest h h' outlets outlets' status.Usage is none r p =
+  live_ended left faults holds back failures wants a b loaded o rest h h' outlets outlets' status.Usage is none r p =
       over_loaded form left faults a b loaded o (λ y. ⊥) _ is r p (λ x y raws took shown text script q. absurd q)
-  live_ended left faults holds failures wants a b loaded o rest h h' outlets outlets' status.Live is none r p =
+  live_ended left faults holds back failures wants a b loaded o rest h h' outlets outlets' status.Live is none r p =
       over_loaded form left faults a b loaded o (λ y. ⊥) _ is r p (λ x y raws took shown text script q. absurd q)
 
-  refused_at : {K : Type 0} (holds : K → Option (List ℕ)) (failures wants : K → ℕ) (x : List ℕ) (rest h h' : Option (List ℕ))
+  refused_at : {K : Type 0} (holds : K → Option (List ℕ)) (back : K → List ℕ) (failures wants : K → ℕ) (x : List ℕ) (rest h h' : Option (List ℕ))
       (outlets : List (Option K)) (fault : ShowFault) (s : Status)
       → RefusedBy h h' fault s → HasEnded s (Run universes form) x rest h h' → (IsOk (reads form x) → h' ≡ h)
-      → HasLived s holds failures wants universes form x rest h h' outlets outlets
-  refused_at holds failures wants x rest h h' outlets fault status.Ok by e none = refusal_isnt_ok h h' fault status.Ok _ by refl
-  refused_at holds failures wants x rest h h' outlets fault status.ShowRefused by e none = (e, refl)
-  refused_at holds failures wants x rest h h' outlets fault status.Usage by e none = absurd e
-  refused_at holds failures wants x rest h h' outlets fault status.ReadFault by e none = (e, inl (refl, none))
-  refused_at holds failures wants x rest h h' outlets fault status.WriteFault by e none = (e, inl (refl, none))
-  refused_at holds failures wants x rest h h' outlets fault status.Memory by e none = (e, inl (refl, none))
-  refused_at holds failures wants x rest h h' outlets fault status.InputTooLong by e none = (e, inl (refl, none))
-  refused_at holds failures wants x rest h h' outlets fault status.Live by e none = absurd (refusal_ends h h' fault status.Live by)
+      → HasLived s holds back failures wants universes form x rest h h' outlets outlets
+  refused_at holds back failures wants x rest h h' outlets fault status.Ok by e none = refusal_isnt_ok h h' fault status.Ok _ by refl
+  refused_at holds back failures wants x rest h h' outlets fault status.ShowRefused by e none = (e, refl)
+  refused_at holds back failures wants x rest h h' outlets fault status.Usage by e none = absurd e
+  refused_at holds back failures wants x rest h h' outlets fault status.ReadFault by e none = (e, inl (refl, none))
+  refused_at holds back failures wants x rest h h' outlets fault status.WriteFault by e none = (e, inl (refl, none))
+  refused_at holds back failures wants x rest h h' outlets fault status.Memory by e none = (e, inl (refl, none))
+  refused_at holds back failures wants x rest h h' outlets fault status.InputTooLong by e none = (e, inl (refl, none))
+  refused_at holds back failures wants x rest h h' outlets fault status.Live by e none = absurd (refusal_ends h h' fault status.Live by)
 
   -- of a show that isn't read, no script line is answered
   none_answered : (o h h' : Option (List ℕ)) (text : TextFault) → IfSome o (λ x. reads form x ≡ Err text)
@@ -201,15 +214,99 @@ module _ (form : Form) (universes : ℕ) where
   ]
 
   -- a show that isn't read
-  pub refused_lived : {S K : Type 0} (left : S → Option (List ℕ)) (holds : K → Option (List ℕ)) (failures wants : K → ℕ) (a b : Lines S)
+  pub refused_lived : {S K : Type 0} (left : S → Option (List ℕ)) (holds : K → Option (List ℕ)) (back : K → List ℕ) (failures wants : K → ℕ) (a b : Lines S)
       (o h h' : Option (List ℕ)) (outlets : List (Option K)) (fault : ShowFault) (s : Status)
       → unread left a ≡ o → a.taken ≡ 0 → Says form left a b fault → RefusedBy h h' fault s
-      → IfSome o (λ x. HasLived s holds failures wants universes form x (left b.source.now) h h' outlets outlets)
-  refused_lived left holds failures wants a b o h h' outlets fault s is none says by =
+      → IfSome o (λ x. HasLived s holds back failures wants universes form x (left b.source.now) h h' outlets outlets)
+  refused_lived left holds back failures wants a b o h h' outlets fault s is none says by =
       both_known o _ _ _ (refusal_ended form (Run universes form) (run_over form universes) left a b o h h' fault s is none says by)
       (unanswered left a b o h h' fault s is says by)
-      (λ x e unread. refused_at holds failures wants x (left b.source.now) h h' outlets fault s by e unread)
+      (λ x e unread. refused_at holds back failures wants x (left b.source.now) h h' outlets fault s by e unread)
+
+-- In which order the faults of a live run are told, over a show that was read.
+module _ (form : Form) (universes : ℕ) {O K : Type 0} (holds : K → Option (List ℕ)) (back : K → List ℕ) (failures wants : K → ℕ)
+    (writes output_wants : O → ℕ) (output output' : O) (h h' : Option (List ℕ)) (outlets outlets' : List (Option K)) where
+  abbrev ToEnd : Show → List ℕ → ℕ → (List (Option SinkFault) → ℕ → Type 0) → Type 0
+  ToEnd show bytes before Told = PlaysToEnd Told holds back failures wants show universes (lines_of bytes) h h' outlets outlets'
+      × (before + length (bytes_wanted bytes) ≤ INPUT_BYTES)
+
+  abbrev LivesTo : List ℕ → (List (Option SinkFault) → ℕ → Type 0) → Type 0
+  LivesTo x Told = LivesToEnd Told holds back failures wants universes form x h h' outlets outlets'
+
+  lives_to : (Told : List (Option SinkFault) → ℕ → Type 0) (x y : List ℕ) (i j : ℕ) (raws : List (List ℕ)) (reading : Reading) → i ≡ 0
+      → LinesBetween (Some x) (Some y) i j raws → lines_read (lines_of x) ≡ length raws → reads form x ≡ Ok reading
+      → script_of x ≡ lines_of y → ToEnd reading.show y j Told → LivesTo x Told
+  lives_to Told x y i j raws reading none took shown read script p = record {
+    reading = reading;
+    read = read;
+    plays = subst (λ (ls : List (List ℕ)). PlaysToEnd Told holds back failures wants reading.show universes ls h h' outlets outlets')
+        (sym script) p.0;
+    within = let w = p.1 in omega (arith, wanted_read form x y i j raws reading none took shown read script, w);
+  }
+
+  order_on : (s : Status) (reads reads' reads'' : ℕ) (P Q : (List (Option SinkFault) → ℕ → Type 0) → Type 0) → reads' ≡ reads
+      → ((Told : List (Option SinkFault) → ℕ → Type 0) → P Told → Q Told)
+      → DecidesInOrder s reads' reads'' writes output_wants output output' outlets outlets' P
+      → DecidesInOrder s reads reads'' writes output_wants output output' outlets outlets' Q
+  order_on status.WriteFault reads reads' reads'' P Q same f p = elim p [
+    | inl failed ↦ inl failed
+    | inr q ↦ inr (
+      record { reads_kept = q.0.reads_kept ∙ same; writes_kept = q.0.writes_kept; wants_kept = q.0.wants_kept },
+      f (λ results unsent. HasFailedOutlet results) q.1,
+    )
+  ]
+  order_on status.Memory reads reads' reads'' P Q same f p = elim p [
+    | inl wanted ↦ inl wanted
+    | inr q ↦ inr (
+      record { reads_kept = q.0.reads_kept ∙ same; writes_kept = q.0.writes_kept; wants_kept = q.0.wants_kept },
+      f LacksMemory q.1,
+    )
+  ]
+  order_on status.Ok reads reads' reads'' P Q same f p = tt
+  order_on status.ShowRefused reads reads' reads'' P Q same f p = tt
+  order_on status.Usage reads reads' reads'' P Q same f p = tt
+  order_on status.ReadFault reads reads' reads'' P Q same f p = tt
+  order_on status.InputTooLong reads reads' reads'' P Q same f p = tt
+  order_on status.Live reads reads' reads'' P Q same f p = tt
+
+  pub live_order : {S : Type 0} (left : S → Option (List ℕ)) (faults : S → ℕ) (a b : Lines S) (loaded : Loaded) (o : Option (List ℕ))
+      (s : Status) (reads reads' reads'' : ℕ) → unread left a ≡ o → a.taken ≡ 0 → HasRead left faults a b form loaded → reads' ≡ reads
+      → IfSome (unread left b) (λ y. DecidesInOrder s reads' reads'' writes output_wants output output' outlets outlets'
+      (ToEnd loaded.show y b.taken))
+      → IfSome o (λ x. DecidesInOrder s reads reads'' writes output_wants output output' outlets outlets' (LivesTo x))
+  live_order left faults a b loaded o s reads reads' reads'' is none r same p =
+      over_loaded form left faults a b loaded o (λ y. DecidesInOrder s reads' reads'' writes output_wants output output' outlets outlets'
+      (ToEnd loaded.show y b.taken)) _ is r p
+      (λ x y raws took shown read script q. order_on s reads reads' reads'' (ToEnd loaded.show y b.taken) (LivesTo x) same
+      (λ Told. lives_to Told x y a.taken b.taken raws (reading_of loaded) none took shown read script) q)
+
+-- and of one that wasn't
+order_refused : {O K : Type 0} (s : Status) (reads reads' : ℕ) (writes wants : O → ℕ) (output output' : O) (outlets : List (Option K))
+    (ToEnd : (List (Option SinkFault) → ℕ → Type 0) → Type 0) → (s ≡ status.WriteFault → Rose (writes output) (writes output'))
+    → HasWanted wants output output' s → DecidesInOrder s reads reads' writes wants output output' outlets outlets ToEnd
+order_refused status.WriteFault reads reads' writes wants output output' outlets ToEnd write memory = inl (write refl)
+order_refused status.Memory reads reads' writes wants output output' outlets ToEnd write memory = elim (memory refl) [
+  | inl same ↦ inl (inl (same, refl))
+  | inr rose ↦ inl (inr rose)
+]
+order_refused status.Ok reads reads' writes wants output output' outlets ToEnd write memory = tt
+order_refused status.ShowRefused reads reads' writes wants output output' outlets ToEnd write memory = tt
+order_refused status.Usage reads reads' writes wants output output' outlets ToEnd write memory = tt
+order_refused status.ReadFault reads reads' writes wants output output' outlets ToEnd write memory = tt
+order_refused status.InputTooLong reads reads' writes wants output output' outlets ToEnd write memory = tt
+order_refused status.Live reads reads' writes wants output output' outlets ToEnd write memory = tt
+
+pub all_refused : {O K : Type 0} (o : Option (List ℕ)) (s : Status) (reads reads' : ℕ) (writes wants : O → ℕ) (output output' : O)
+    (outlets : List (Option K)) (ToEnd : List ℕ → (List (Option SinkFault) → ℕ → Type 0) → Type 0)
+    → (s ≡ status.WriteFault → Rose (writes output) (writes output')) → HasWanted wants output output' s
+    → IfSome o (λ bytes. DecidesInOrder s reads reads' writes wants output output' outlets outlets (ToEnd bytes))
+all_refused None s reads reads' writes wants output output' outlets ToEnd write memory = tt
+all_refused (Some bytes) s reads reads' writes wants output output' outlets ToEnd write memory =
+    order_refused s reads reads' writes wants output output' outlets (ToEnd bytes) write memory
 
 -- the status of a refused show isn't that of words
 pub refused_words : (h h' : Option (List ℕ)) (fault : ShowFault) (s : Status) → RefusedBy h h' fault s → s ≢ status.Usage
 refused_words h h' fault s by = λ e. subst (λ (t : Status). EndsJob t) e (refusal_ends h h' fault s by)
+
+pub refused_live : (h h' : Option (List ℕ)) (fault : ShowFault) (s : Status) → RefusedBy h h' fault s → s ≢ status.Live
+refused_live h h' fault s by = λ e. subst (λ (t : Status). EndsJob t) e (refusal_ends h h' fault s by)

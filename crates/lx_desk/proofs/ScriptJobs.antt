@@ -35,6 +35,7 @@ render_script form = record {
   first = λ x places lines reading read. ap (λ r. first_replies r (script_of x) places lines) read;
   none = λ x. none_replied (reads form x) (script_of x);
   bytes = λ x. refl;
+  lines = λ x. refl;
   taken = λ x left h h' replied. replied;
 }
 
@@ -47,6 +48,7 @@ run_script form universes = record {
   first = λ x places lines reading read. ap (λ r. first_replies r (script_of x) places lines) read;
   none = λ x. none_replied (reads form x) (script_of x);
   bytes = λ x. refl;
+  lines = λ x. refl;
   taken = λ x left h h' replied. replied;
 }
 
@@ -59,6 +61,7 @@ undo_script form = record {
   first = λ x places lines reading read. ap (λ r. session_replies undo_answer opened_undo r (script_of x) places lines) read;
   none = λ x. none_of_session undo_answer opened_undo (reads form x) (script_of x);
   bytes = λ x. refl;
+  lines = λ x. refl;
   taken = λ x left h h' replied. replied;
 }
 
@@ -71,6 +74,7 @@ two_script form = record {
   first = λ x places lines reading read. ap (λ r. session_replies two_answer opened_two r (script_of x) places lines) read;
   none = λ x. none_of_session two_answer opened_two (reads form x) (script_of x);
   bytes = λ x. refl;
+  lines = λ x. refl;
   taken = λ x left h h' replied. replied;
 }
 

@@ -55,7 +55,7 @@ module _ {S : Type 0} (answer : Answer S) (MayWant : S → List ℕ → Type 0) 
   taken_by : (Stands : S → Type 0) (state : S) (before : ℕ) (bytes : List ℕ) (left h h' : Option (List ℕ))
       → AnsweredTaken answer MayWant Stands state before bytes left h h'
       → AnswersTaken (by_session answer MayWant state) before bytes left h h'
-  taken_by Stands state before bytes left h h' a = record { places = a.places; wants = a.wants; cut = a.cut; text = a.text }
+  taken_by Stands state before bytes left h h' a = record { places = a.places; wants = a.wants; cut = a.cut; short = a.short; text = a.text }
 
   -- What the status of a session says of the script.
   pub has_played_by : (Stands : S → Type 0) (state : S) (before : ℕ) (o unread left h h' : Option (List ℕ)) (r : Result Tally SessionFault)

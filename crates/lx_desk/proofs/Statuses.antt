@@ -51,7 +51,7 @@ answered_front heard o unread left h h' d taken console (Err faults.Memory) p =
 -- Where the script couldn't be read on, it answered what was taken of it.
 taken_of : (heard : List Command → Type 0) (d : Desk) (before : ℕ) (bytes : List ℕ) (left h h' : Option (List ℕ)) (console : Kept)
     → TakenScript true heard d before bytes left h h' console → AnswersTaken (by_desk d) before bytes left h h'
-taken_of heard d before bytes left h h' console a = record { places = a.places; wants = a.wants refl; cut = a.cut; text = a.text }
+taken_of heard d before bytes left h h' console a = record { places = a.places; wants = a.wants refl; cut = a.cut; short = a.short; text = a.text }
 
 -- What the status of a session says of the script.
 pub has_played : (heard : List Command → Type 0) (o unread left h h' : Option (List ℕ)) (d : Desk) (taken : ℕ) (console : Kept)

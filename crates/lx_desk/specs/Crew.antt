@@ -87,6 +87,7 @@ pub record ServesShow {S : Type 0} (left : S → Known) (faults : S → ℕ) (co
 pub record ServesNone {S : Type 0} (count : ℕ) (form : Form) (bytes : List ℕ) (left : Known) (operators operators' : List (Option S))
     (held held' : Known) (s : Status) : Type 0 where
   pub isnt_ok : s ≢ status.Ok
+  pub isnt_live : s ≢ status.Live
   pub ended : HasEnded s (Crew count form) bytes left held held'
   pub untouched : operators' ≡ operators
 
@@ -125,7 +126,7 @@ pub record KeepsPlaces {S : Type 0} (count : ℕ) (operators operators' : List (
 abbrev pub KeepsOperators : {I O S : Type 0} → Option Job → Status → (input input' : I) → (output output' : O)
     → (operators operators' : List (Option S)) → Type 0
 KeepsOperators (Some (Crew count form)) s input input' output output' operators operators' =
-    (s ≢ status.Usage) × KeepsPlaces count operators operators'
+    (s ≢ status.Usage) × (s ≢ status.Live) × KeepsPlaces count operators operators'
 KeepsOperators other s input input' output output' operators operators' =
     ((s ≡ status.Usage) ⊎ (s ≡ status.Memory)) × ((input' ≡ input) × ((output' ≡ output) × (operators' ≡ operators)))
 

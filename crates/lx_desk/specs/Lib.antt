@@ -1,4 +1,5 @@
 pub mod ScriptAnswers
+pub mod Finished
 pub mod Endings
 pub mod Faults
 pub mod Made

@@ -4,7 +4,7 @@ use Rattle.std.specs.Prelude.{List, ◌++◌, length, take, drop, slice_get}
 use Rattle.std.specs.Io.KnownBytes.{Appends}
 use Rattle.lx_base.specs.declared.TheConstants.{INPUT_BYTES}
 use Rattle.lx_io.specs.declared.sink.SinkFault.{SinkFault}
-use Rattle.lx_io.specs.declared.sink.SinkFault.TheVariants.{Failed}
+use Rattle.lx_io.specs.declared.sink.SinkFault.TheVariants.{Failed, Memory}
 use Rattle.lx_io.specs.Causes.{Rose}
 use Rattle.lx_io.specs.Puts.{AppendsFront}
 use Rattle.lx_spec.specs.declared.Command.{Command}
@@ -15,7 +15,7 @@ use Rattle.lx_spec.specs.Text.{lines_of}
 use Rattle.lx_spec.specs.Show.{Show}
 use Rattle.lx_spec.specs.Desk.{opened}
 use Rattle.lx_spec.specs.CutInput.{CutOff}
-use Rattle.lx_spec.specs.Session.{replies, accepted, after_first, bytes_wanted}
+use Rattle.lx_spec.specs.Session.{replies, accepted, after_first, lines_wanted, bytes_wanted}
 use Rattle.lx_spec.specs.Reading.{Reading, reads, script_of, lines_read}
 use Rattle.lx_spec.specs.RenderOutput.{rendered, input_wanted}
 use Rattle.lx_workers.specs.Works.{HasAll}
@@ -49,55 +49,56 @@ pub record PlaysScript {K : Type 0} (outlet_holds : K → Known) (show : Show) (
 
 -- Each outlet in use got what it was to get of these published commands: the lines of versions of rising lists, the last of which begins
 -- with them, or with a fault of its own such lines and a part of one more. The other outlets are as they were.
-pub record HaveGot {K : Type 0} (holds : K → Known) (faults wants : K → ℕ) (show : Show) (universes : ℕ)
+pub record HaveGot {K : Type 0} (holds : K → Known) (back : K → List ℕ) (faults wants : K → ℕ) (show : Show) (universes : ℕ)
     (outlets outlets' : List (Option K)) (published : List Command) : Type 0 where
   pub results : List (Option SinkFault)
-  pub delivered : AreDelivered holds faults wants show (take universes outlets) (take universes outlets') results published
+  pub delivered : AreDelivered holds back faults wants show (take universes outlets) (take universes outlets') results published
   pub rest : drop universes outlets' ≡ drop universes outlets
 
 -- all but the last so many of these commands were published, and the outlets got what they were to get of these
-pub record AreServed {K : Type 0} (holds : K → Known) (faults wants : K → ℕ) (show : Show) (universes : ℕ)
+pub record AreServed {K : Type 0} (holds : K → Known) (back : K → List ℕ) (faults wants : K → ℕ) (show : Show) (universes : ℕ)
     (outlets outlets' : List (Option K)) (commands : List Command) : Type 0 where
   pub published : List Command
   pub held_back : List Command
   pub commands_are : commands ≡ published ++ held_back
-  pub got : HaveGot holds faults wants show universes outlets outlets' published
+  pub got : HaveGot holds back faults wants show universes outlets outlets' published
 
 -- Up to so many lines of a script were answered, by a prefix of the replies, where any attempt may be refused for want of memory, and
 -- the outlets got what was published of the commands that these lines came to.
-pub record PlaysInFront {K : Type 0} (outlet_holds : K → Known) (faults wants : K → ℕ) (show : Show) (universes : ℕ)
+pub record PlaysInFront {K : Type 0} (outlet_holds : K → Known) (back : K → List ℕ) (faults wants : K → ℕ) (show : Show) (universes : ℕ)
     (script : List (List ℕ)) (held held' : Known) (outlets outlets' : List (Option K)) : Type 0 where
   pub places : List ℕ
   pub lines : ℕ
   pub text : AppendsFront held held' (after_first (opened show) script places lines).text
-  pub served : AreServed outlet_holds faults wants show universes outlets outlets' (after_first (opened show) script places lines).accepted
+  pub served : AreServed outlet_holds back faults wants show universes outlets outlets' (after_first (opened show) script places lines).accepted
 
 -- The lines that were taken whole were answered, and the outlets got what was published of the commands that these lines came to.
-pub record PlaysTaken {K : Type 0} (outlet_holds : K → Known) (faults wants : K → ℕ) (show : Show) (universes before : ℕ)
+pub record PlaysTaken {K : Type 0} (outlet_holds : K → Known) (back : K → List ℕ) (faults wants : K → ℕ) (show : Show) (universes before : ℕ)
     (bytes : List ℕ) (left held held' : Known) (outlets outlets' : List (Option K)) : Type 0 where
   pub places : List ℕ
   pub cut : CutOff before bytes left
+  pub short : cut.lines < lines_wanted (lines_of bytes)
   pub text : Appends held held' (after_first (opened show) (lines_of bytes) places cut.lines).text
-  pub served : AreServed outlet_holds faults wants show universes outlets outlets'
+  pub served : AreServed outlet_holds back faults wants show universes outlets outlets'
       (after_first (opened show) (lines_of bytes) places cut.lines).accepted
 
 -- how a script over a show ended that was played live, before which so many bytes of the input were taken
-abbrev pub HasPlayedLive : {K : Type 0} → Status → (K → Known) → (faults wants : K → ℕ) → Show → (universes before : ℕ) → List ℕ
+abbrev pub HasPlayedLive : {K : Type 0} → Status → (K → Known) → (K → List ℕ) → (faults wants : K → ℕ) → Show → (universes before : ℕ) → List ℕ
     → (left held held' : Known) → (outlets outlets' : List (Option K)) → Type 0
-HasPlayedLive status.Ok holds faults wants show universes before bytes left held held' outlets outlets' =
+HasPlayedLive status.Ok holds back faults wants show universes before bytes left held held' outlets outlets' =
     PlaysScript holds show universes (lines_of bytes) held held' outlets outlets'
     × (before + length (bytes_wanted bytes) ≤ INPUT_BYTES)
-HasPlayedLive status.ReadFault holds faults wants show universes before bytes left held held' outlets outlets' =
-    PlaysTaken holds faults wants show universes before bytes left held held' outlets outlets'
-HasPlayedLive status.InputTooLong holds faults wants show universes before bytes left held held' outlets outlets' =
-    PlaysTaken holds faults wants show universes before bytes left held held' outlets outlets'
+HasPlayedLive status.ReadFault holds back faults wants show universes before bytes left held held' outlets outlets' =
+    PlaysTaken holds back faults wants show universes before bytes left held held' outlets outlets'
+HasPlayedLive status.InputTooLong holds back faults wants show universes before bytes left held held' outlets outlets' =
+    PlaysTaken holds back faults wants show universes before bytes left held held' outlets outlets'
     × (INPUT_BYTES < before + length (bytes_wanted bytes))
-HasPlayedLive status.WriteFault holds faults wants show universes before bytes left held held' outlets outlets' =
-    PlaysInFront holds faults wants show universes (lines_of bytes) held held' outlets outlets'
-HasPlayedLive status.Memory holds faults wants show universes before bytes left held held' outlets outlets' =
+HasPlayedLive status.WriteFault holds back faults wants show universes before bytes left held held' outlets outlets' =
+    PlaysInFront holds back faults wants show universes (lines_of bytes) held held' outlets outlets'
+HasPlayedLive status.Memory holds back faults wants show universes before bytes left held held' outlets outlets' =
     ((held' ≡ held) × (outlets' ≡ outlets))
-    ⊎ PlaysInFront holds faults wants show universes (lines_of bytes) held held' outlets outlets'
-HasPlayedLive other holds faults wants show universes before bytes left held held' outlets outlets' = ⊥
+    ⊎ PlaysInFront holds back faults wants show universes (lines_of bytes) held held' outlets outlets'
+HasPlayedLive other holds back faults wants show universes before bytes left held held' outlets outlets' = ⊥
 
 -- The show was read, the replies to the whole script were written, and each outlet's last line is that of a version after all commands
 -- that were accepted.
@@ -112,23 +113,24 @@ pub record PlaysWhole {K : Type 0} (outlet_holds : K → Known) (universes : ℕ
 
 -- The show was read, up to so many lines of its script were answered, by a prefix of the replies, and the outlets got what was published
 -- of the commands that these lines came to.
-pub record LivesInFront {K : Type 0} (holds : K → Known) (faults wants : K → ℕ) (universes : ℕ) (form : Form)
+pub record LivesInFront {K : Type 0} (holds : K → Known) (back : K → List ℕ) (faults wants : K → ℕ) (universes : ℕ) (form : Form)
     (bytes : List ℕ) (held held' : Known) (outlets outlets' : List (Option K)) : Type 0 where
   pub reading : Reading
   pub read : reads form bytes ≡ Ok reading
-  pub plays : PlaysInFront holds faults wants reading.show universes (script_of bytes) held held' outlets outlets'
+  pub plays : PlaysInFront holds back faults wants reading.show universes (script_of bytes) held held' outlets outlets'
 
 -- The show was read, the script lines that were taken whole were answered, and the outlets got what was published of the commands that
 -- these lines came to.
-pub record LivesTaken {K : Type 0} (holds : K → Known) (faults wants : K → ℕ) (universes : ℕ) (form : Form)
+pub record LivesTaken {K : Type 0} (holds : K → Known) (back : K → List ℕ) (faults wants : K → ℕ) (universes : ℕ) (form : Form)
     (bytes : List ℕ) (left held held' : Known) (outlets outlets' : List (Option K)) : Type 0 where
   pub reading : Reading
   pub read : reads form bytes ≡ Ok reading
   pub places : List ℕ
   pub cut : CutOff 0 bytes left
+  pub short : cut.lines < lines_read (lines_of bytes) + lines_wanted (script_of bytes)
   pub text : Appends held held'
       (after_first (opened reading.show) (script_of bytes) places (cut.lines - lines_read (lines_of bytes))).text
-  pub served : AreServed holds faults wants reading.show universes outlets outlets'
+  pub served : AreServed holds back faults wants reading.show universes outlets outlets'
       (after_first (opened reading.show) (script_of bytes) places (cut.lines - lines_read (lines_of bytes))).accepted
 
 -- no line of a script was answered, and no outlet was written
@@ -138,40 +140,40 @@ NoneLived form bytes held held' outlets outlets' = (outlets' ≡ outlets) × (Is
 -- How the live run of a form over so many universes ended: with Ok as above; with ShowRefused as another job, and nothing in any outlet;
 -- and else as another job ends with the status, and the outlets got nothing, or what was published of the commands that the lines which
 -- were answered came to.
-abbrev pub HasLived : {K : Type 0} → Status → (K → Known) → (faults wants : K → ℕ) → ℕ → Form → List ℕ
+abbrev pub HasLived : {K : Type 0} → Status → (K → Known) → (K → List ℕ) → (faults wants : K → ℕ) → ℕ → Form → List ℕ
     → (left held held' : Known) → (outlets outlets' : List (Option K)) → Type 0
-HasLived status.Ok holds faults wants universes form bytes left held held' outlets outlets' =
+HasLived status.Ok holds back faults wants universes form bytes left held held' outlets outlets' =
     PlaysWhole holds universes form bytes held held' outlets outlets'
-HasLived status.ShowRefused holds faults wants universes form bytes left held held' outlets outlets' =
+HasLived status.ShowRefused holds back faults wants universes form bytes left held held' outlets outlets' =
     HasEnded status.ShowRefused (Run universes form) bytes left held held' × (outlets' ≡ outlets)
-HasLived status.ReadFault holds faults wants universes form bytes left held held' outlets outlets' =
+HasLived status.ReadFault holds back faults wants universes form bytes left held held' outlets outlets' =
     HasEnded status.ReadFault (Run universes form) bytes left held held' × (NoneLived form bytes held held' outlets outlets'
-    ⊎ LivesTaken holds faults wants universes form bytes left held held' outlets outlets')
-HasLived status.InputTooLong holds faults wants universes form bytes left held held' outlets outlets' =
+    ⊎ LivesTaken holds back faults wants universes form bytes left held held' outlets outlets')
+HasLived status.InputTooLong holds back faults wants universes form bytes left held held' outlets outlets' =
     HasEnded status.InputTooLong (Run universes form) bytes left held held' × (NoneLived form bytes held held' outlets outlets'
-    ⊎ LivesTaken holds faults wants universes form bytes left held held' outlets outlets')
-HasLived status.WriteFault holds faults wants universes form bytes left held held' outlets outlets' =
+    ⊎ LivesTaken holds back faults wants universes form bytes left held held' outlets outlets')
+HasLived status.WriteFault holds back faults wants universes form bytes left held held' outlets outlets' =
     HasEnded status.WriteFault (Run universes form) bytes left held held' × (NoneLived form bytes held held' outlets outlets'
-    ⊎ LivesInFront holds faults wants universes form bytes held held' outlets outlets')
-HasLived status.Memory holds faults wants universes form bytes left held held' outlets outlets' =
+    ⊎ LivesInFront holds back faults wants universes form bytes held held' outlets outlets')
+HasLived status.Memory holds back faults wants universes form bytes left held held' outlets outlets' =
     HasEnded status.Memory (Run universes form) bytes left held held' × (NoneLived form bytes held held' outlets outlets'
-    ⊎ LivesInFront holds faults wants universes form bytes held held' outlets outlets')
-HasLived other holds faults wants universes form bytes left held held' outlets outlets' = ⊥
+    ⊎ LivesInFront holds back faults wants universes form bytes held held' outlets outlets')
+HasLived other holds back faults wants universes form bytes left held held' outlets outlets' = ⊥
 
 -- the outlets got what they were to get of some published commands over one show
-pub record ArePlayed {K : Type 0} (holds : K → Known) (faults wants : K → ℕ) (universes : ℕ)
+pub record ArePlayed {K : Type 0} (holds : K → Known) (back : K → List ℕ) (faults wants : K → ℕ) (universes : ℕ)
     (outlets outlets' : List (Option K)) : Type 0 where
   pub show : Show
   pub published : List Command
-  pub got : HaveGot holds faults wants show universes outlets outlets' published
+  pub got : HaveGot holds back faults wants show universes outlets outlets' published
 
 -- Words that name no live run are answered with Usage, unless memory was wanted in vain, and nothing is read or written; in a live run
 -- the outlets are as they were, or were played.
-abbrev pub KeepsOutlets : {I O K : Type 0} → (K → Known) → (faults wants : K → ℕ) → Option Job → Status → (input input' : I)
+abbrev pub KeepsOutlets : {I O K : Type 0} → (K → Known) → (K → List ℕ) → (faults wants : K → ℕ) → Option Job → Status → (input input' : I)
     → (output output' : O) → (outlets outlets' : List (Option K)) → Type 0
-KeepsOutlets holds faults wants (Some (Run universes form)) s input input' output output' outlets outlets' =
-    (s ≢ status.Usage) × ((outlets' ≡ outlets) ⊎ ArePlayed holds faults wants universes outlets outlets')
-KeepsOutlets holds faults wants other s input input' output output' outlets outlets' =
+KeepsOutlets holds back faults wants (Some (Run universes form)) s input input' output output' outlets outlets' =
+    (s ≢ status.Usage) × ((outlets' ≡ outlets) ⊎ ArePlayed holds back faults wants universes outlets outlets')
+KeepsOutlets holds back faults wants other s input input' output output' outlets outlets' =
     ((s ≡ status.Usage) ⊎ (s ≡ status.Memory)) × ((input' ≡ input) × ((output' ≡ output) × (outlets' ≡ outlets)))
 
 -- the count of failed writes of one of the outlets rose
@@ -191,15 +193,62 @@ HasLiveCause faults status.WriteFault reads reads' writes writes' outlets outlet
     outlets'
 HasLiveCause faults other reads reads' writes writes' outlets outlets' = Unit {0}
 
--- what the status tells of the outlets' faults and of what is unsent: with Ok there was none, and with WriteFault a write failed
+-- a write failed in an outlet
+abbrev pub HasFailedOutlet : List (Option SinkFault) → Type 0
+HasFailedOutlet results = (place : ℕ) × (slice_get results place ≡ Some (Some Failed))
+
+-- none did, and an outlet was out of memory, or some commands were never published
+pub record LacksMemory (results : List (Option SinkFault)) (unsent : ℕ) : Type 0 where
+  pub none_failed : HasFailedOutlet results → ⊥
+  pub wanted : ((place : ℕ) × (slice_get results place ≡ Some (Some Memory))) ⊎ (0 < unsent)
+
+-- what the status tells of the outlets' faults and of what is unsent: with Ok there was none, with WriteFault a write failed, and with
+-- Memory none did
 abbrev pub TellsOutlets : List (Option SinkFault) → ℕ → Status → Type 0
 TellsOutlets results unsent status.Ok = (unsent ≡ 0)
     × ((place : ℕ) (fault : Option SinkFault) → slice_get results place ≡ Some fault → fault ≡ None)
-TellsOutlets results unsent status.WriteFault = (place : ℕ) × (slice_get results place ≡ Some (Some Failed))
-TellsOutlets results unsent status.Memory = Unit {0}
+TellsOutlets results unsent status.WriteFault = HasFailedOutlet results
+TellsOutlets results unsent status.Memory = LacksMemory results unsent
 TellsOutlets results unsent other = ⊥
 
 -- the session's fault decides first, and then the outlets
 abbrev pub TellsRun : Result Tally SessionFault → List (Option SinkFault) → ℕ → Status → Type 0
 TellsRun (Ok tally) results unsent s = TellsOutlets results unsent s
 TellsRun (Err fault) results unsent s = s ≡ status_for {A = Tally} (Err fault)
+
+-- A script was answered to its end, and the outlets got what was published of the commands that it came to; and so much is told of the
+-- outlets' faults and of how many commands were never published.
+pub record PlaysToEnd {K : Type 0} (Told : List (Option SinkFault) → ℕ → Type 0) (holds : K → Known) (back : K → List ℕ)
+    (faults wants : K → ℕ) (show : Show) (universes : ℕ) (script : List (List ℕ)) (held held' : Known) (outlets outlets' : List (Option K))
+    : Type 0 where
+  pub places : List ℕ
+  pub text : Appends held held' (replies (opened show) script places)
+  pub served : AreServed holds back faults wants show universes outlets outlets' (accepted (opened show) script places)
+  pub told : Told served.got.results (length served.held_back)
+
+-- no read failed, and the output had no fault
+pub record NoneRose {O : Type 0} (reads reads' : ℕ) (writes wants : O → ℕ) (output output' : O) : Type 0 where
+  pub reads_kept : reads' ≡ reads
+  pub writes_kept : writes output' ≡ writes output
+  pub wants_kept : wants output' ≡ wants output
+
+-- The faults of a live run are told in this order: the session's own, which is one of the input or of the output; then, where the session
+-- had none and came to its end, a write that failed in an outlet; and then that memory was short.
+abbrev pub DecidesInOrder : {O K : Type 0} → Status → (reads reads' : ℕ) → (writes wants : O → ℕ) → (output output' : O)
+    → (outlets outlets' : List (Option K)) → ((List (Option SinkFault) → ℕ → Type 0) → Type 0) → Type 0
+DecidesInOrder status.WriteFault reads reads' writes wants output output' outlets outlets' ToEnd =
+    Rose (writes output) (writes output')
+    ⊎ (NoneRose reads reads' writes wants output output' × ToEnd (λ results unsent. HasFailedOutlet results))
+DecidesInOrder status.Memory reads reads' writes wants output output' outlets outlets' ToEnd =
+    (((output' ≡ output) × (outlets' ≡ outlets)) ⊎ Rose (wants output) (wants output'))
+    ⊎ (NoneRose reads reads' writes wants output output' × ToEnd LacksMemory)
+DecidesInOrder other reads reads' writes wants output output' outlets outlets' ToEnd = Unit {0}
+
+-- The same of an input: its show was read, and the script behind it was played to its end, within the limit of the input.
+pub record LivesToEnd {K : Type 0} (Told : List (Option SinkFault) → ℕ → Type 0) (holds : K → Known) (back : K → List ℕ)
+    (faults wants : K → ℕ) (universes : ℕ) (form : Form) (bytes : List ℕ) (held held' : Known) (outlets outlets' : List (Option K))
+    : Type 0 where
+  pub reading : Reading
+  pub read : reads form bytes ≡ Ok reading
+  pub plays : PlaysToEnd Told holds back faults wants reading.show universes (script_of bytes) held held' outlets outlets'
+  pub within : length (input_wanted form bytes) ≤ INPUT_BYTES

@@ -1,7 +1,7 @@
 //! The job `check`: one line about a show.
 #![tactic(auto, using(lx_io::proofs::Chain::puts))]
 
-ghost use Rattle.std.specs.Prelude.{◌≡◌, ◌⊎◌, ◌++◌, ◌∷◌, [], codes, decimal, IfSome};
+ghost use Rattle.std.specs.Prelude.{◌≡◌, ◌⊎◌, ◌++◌, ◌∷◌, [], codes, decimal, IfSome, ℕ, OnOk};
 ghost use Rattle.lx_io.specs.Causes.{Rose};
 ghost use Rattle.lx_spec.specs.declared.Job.TheVariants.{Check};
 ghost use Rattle.lx_desk.specs.Output.{WritesPrefix};
@@ -10,6 +10,7 @@ ghost use Rattle.std.specs.Io.KnownBytes.{Appends};
 ghost use Rattle.lx_io.specs.Puts.{AppendsFront, Puts};
 ghost use Rattle.lx_spec.specs.CheckOutput.{check_text};
 ghost use Rattle.lx_reader.specs.Answer.{reading_of};
+ghost use Rattle.lx_desk.specs.Finished.{Finishes, HasWanted};
 
 use crate::desk::Status;
 use crate::refuse::refuse;
@@ -32,6 +33,8 @@ pub(crate) fn check<S: Source, K: Sink>(
         (K.holds output.new)) }
     ensures prefix { IfSome (S.left input.old) (λ bytes. WritesPrefix (Check form) bytes (K.holds output.old) (K.holds output.new)) }
     ensures cause { HasCauseOf result (S.faults input.old) (S.faults input.new) (K.faults output.old) (K.faults output.new) }
+    ensures finished { Finishes (S.faults input.old) (S.faults input.new) K.faults K.wants K.back output.old output.new result }
+    ensures memory { HasWanted K.wants output.old output.new result }
 {
     let mut lines = Lines::new(input);
     match read_show(alloc, &mut lines, form) {
@@ -46,6 +49,8 @@ fn tell<K: Sink>(loaded: &Loaded, output: &mut K) -> Status
     ensures prefix { AppendsFront (K.holds output.old) (K.holds output.new) (check_text (reading_of loaded.now)) }
     ensures kinds { (result ≡ Status.Ok) ⊎ ((result ≡ Status.WriteFault) ⊎ (result ≡ Status.Memory)) }
     ensures write { result ≡ Status.WriteFault → Rose (K.faults output.old) (K.faults output.new) }
+    ensures finished { (reads : ℕ) → Finishes reads reads K.faults K.wants K.back output.old output.new result }
+    ensures memory { HasWanted K.wants output.old output.new result }
 {
     match put_and_flush(loaded, output) {
         Ok(()) => Status::Ok,
@@ -56,7 +61,8 @@ fn tell<K: Sink>(loaded: &Loaded, output: &mut K) -> Status
 
 /// Appends the line, and flushes.
 fn put_and_flush<K: Sink>(loaded: &Loaded, output: &mut K) -> Result<(), SinkFault>
-    ensures { Puts K.holds K.faults K.wants output.old output.new result (check_text (reading_of loaded.now)) }
+    ensures puts { Puts K.holds K.faults K.wants output.old output.new result (check_text (reading_of loaded.now)) }
+    ensures handed_on { OnOk result (K.back output.new ≡ []) }
 {
     put_size(loaded, output)?;
     output.flush()

@@ -1,12 +1,13 @@
 //! The job `crew`: the scripts of several operators at the same time, over a show.
 
-ghost use Rattle.std.specs.Prelude.{◌≡◌, ◌≢◌, ◌≤◌, IfSome, IsSome, Some, length};
+ghost use Rattle.std.specs.Prelude.{◌≡◌, ◌≢◌, ◌≤◌, ℕ, IfSome, IsSome, Some, length};
 ghost use Rattle.lx_base.specs.declared.TheConstants.{OPERATORS};
 ghost use Rattle.lx_io.specs.Causes.{Rose};
 ghost use Rattle.lx_spec.specs.declared.Job.TheVariants.{Crew};
 ghost use Rattle.lx_spec.specs.Reading.{reads};
 ghost use Rattle.lx_crew.specs.OperatorWorks.{EachAt};
 ghost use Rattle.lx_desk.specs.Crew.{HasCrewCause, HasCrewEnded, KeepsOperators, KeepsPlaces, OperatorFailed, ServesOrWants};
+ghost use Rattle.lx_desk.specs.Finished.{Finishes, HasWanted};
 ghost use Rattle.lx_desk.specs.Crew.{TellsCrew, TellsOperators, WritesCrewFront, WritesFirstLines};
 
 use crate::desk::Status;
@@ -29,7 +30,8 @@ use std::thread::Threads;
 /// operator and its number among that operator's lines, and then its replies. Which operator comes next isn't said.
 ///
 /// A fault of an operator costs no line of another. The fault of the output decides the status first, and then that of the
-/// lowest operator that had one.
+/// lowest operator that had one. The answer is never Live. With Ok and ShowRefused no read of the input and no write failed, and
+/// all that was written is handed on; Memory is told only before anything is written, or where the output itself is out of memory.
 pub fn run_crew<R: Threads + Wait + Sync, I: Source, S: Source + Send + Drop, K: Sink + Send>(
     rt: &R,
     alloc: Global,
@@ -51,6 +53,8 @@ pub fn run_crew<R: Threads + Wait + Sync, I: Source, S: Source + Send + Drop, K:
         (λ bytes. WritesCrewFront S.left count operators.old (K.holds output.old) (K.holds output.new) (reads form bytes)) }
     ensures cause { HasCrewCause S.faults result (I.faults input.old) (I.faults input.new) (K.faults output.old) (K.faults output.new)
         count operators.old operators.new }
+    ensures finished { Finishes (I.faults input.old) (I.faults input.new) K.faults K.wants K.back output.old output.new result }
+    ensures memory { HasWanted K.wants output.old output.new result }
 {
     let mut lines = Lines::new(input);
     match read_show(alloc, &mut lines, form) {
@@ -73,11 +77,14 @@ fn serve<R: Threads + Wait + Sync, S: Source + Send + Drop, K: Sink + Send>(
     requires all { length operators.old ≡ OPERATORS }
     requires full { EachAt (λ place source. IsSome source) operators.old }
     ensures usage { result ≢ Status.Usage }
+    ensures live { result ≢ Status.Live }
     ensures places { KeepsPlaces count operators.old operators.new }
     ensures served { ServesOrWants S.left S.faults show count operators.old operators.new (K.holds output.old) (K.holds output.new) result }
     ensures prefix { WritesFirstLines S.left show count operators.old (K.holds output.old) (K.holds output.new) }
     ensures read { result ≡ Status.ReadFault → OperatorFailed S.faults count operators.old operators.new }
     ensures write { result ≡ Status.WriteFault → Rose (K.faults output.old) (K.faults output.new) }
+    ensures finished { (reads : ℕ) → Finishes reads reads K.faults K.wants K.back output.old output.new result }
+    ensures memory { HasWanted K.wants output.old output.new result }
 {
     let Ok(mut console) = Console::open(alloc, show) else {
         return Status::Memory;

@@ -1,9 +1,11 @@
 //! The jobs that are done in the caller's thread.
 
-ghost use Rattle.std.specs.Prelude.{IfSome, Some};
+ghost use Rattle.std.specs.Prelude.{IfSome, Some, ◌≡◌, ℕ};
+ghost use Rattle.lx_spec.specs.declared.Job.TheVariants.{Make};
 ghost use Rattle.lx_spec.specs.Job.{given_to};
 ghost use Rattle.lx_desk.specs.Output.{WritesPrefix};
 ghost use Rattle.lx_desk.specs.Endings.{AnswersWords, HasEnded, HasCauseOf};
+ghost use Rattle.lx_desk.specs.Finished.{Finishes, HasWanted};
 
 use crate::check::check;
 use crate::make::make;
@@ -40,7 +42,10 @@ pub enum Status {
 /// refused show, the line or the cue list of a show, or the replies to a script, in which each command is done or refused
 /// as the desk does it and each frame is evaluated over the whole show as it then is and the whole list of runs since the
 /// opening; by `undo` edits and records are undone and redone besides, and by `two` it is
-/// so of two desks beside each other. Want of memory refuses nothing but edits and records.
+/// so of two desks beside each other. `make` reads nothing. Out of memory refuses nothing but edits and records.
+///
+/// With Ok and ShowRefused no read and no write failed, and all that was written is handed on. Memory is told only before
+/// anything is written, or where the output itself is out of memory.
 ///
 /// `run` and `crew` run beside threads: the answer is Live, and nothing is read or written. `run_live` and `run_crew` do them.
 pub fn run_job<S: Source, K: Sink>(alloc: Global, job: Job, input: &mut S, output: &mut K) -> Status
@@ -49,6 +54,9 @@ pub fn run_job<S: Source, K: Sink>(alloc: Global, job: Job, input: &mut S, outpu
         (λ bytes. HasEnded result job bytes (S.left input.new) (K.holds output.old) (K.holds output.new)) }
     ensures prefix { IfSome (given_to job (S.left input.old)) (λ bytes. WritesPrefix job bytes (K.holds output.old) (K.holds output.new)) }
     ensures cause { HasCauseOf result (S.faults input.old) (S.faults input.new) (K.faults output.old) (K.faults output.new) }
+    ensures finished { Finishes (S.faults input.old) (S.faults input.new) K.faults K.wants K.back output.old output.new result }
+    ensures unread { (cues : ℕ) → job ≡ Make cues → input.new ≡ input.old }
+    ensures memory { HasWanted K.wants output.old output.new result }
 {
     match job {
         Job::Check(form) => check(alloc, form, input, output),

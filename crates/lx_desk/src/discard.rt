@@ -7,9 +7,11 @@ use lx_io::{Sink, SinkFault};
 pub(crate) struct Discard;
 
 impl Sink for Discard {
-    ghost use Rattle.std.specs.Prelude.{None};
+    ghost use Rattle.std.specs.Prelude.{None, []};
 
     ghost holds = { λ _. None };
+
+    ghost back = { λ _. [] };
 
     ghost faults = { λ _. 0 };
 
@@ -17,5 +19,10 @@ impl Sink for Discard {
 
     fn write(&mut self, piece: &[u8]) -> Result<usize, SinkFault> {
         Ok(piece.len())
+    }
+
+    /// Nothing is kept back.
+    fn flush(&mut self) -> Result<(), SinkFault> {
+        Ok(())
     }
 }

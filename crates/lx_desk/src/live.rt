@@ -1,12 +1,15 @@
 //! The job `run`: a script over the show that stands before it, played live.
 
-ghost use Rattle.std.specs.Prelude.{◌≡◌, ◌≢◌, ◌≤◌, ◌⊎◌, IfSome, Some, length};
+ghost use Rattle.std.specs.Prelude.{◌≡◌, ◌≢◌, ◌≤◌, ◌+◌, ◌⊎◌, IfSome, Some, length};
 ghost use Rattle.lx_base.specs.declared.TheConstants.{INPUT_BYTES, UNIVERSES};
 ghost use Rattle.lx_lex.specs.Unread.{CanAdvance, SameSource, bytes_taken, source_faults, source_left, unread};
 ghost use Rattle.lx_spec.specs.declared.Job.TheVariants.{Run};
 ghost use Rattle.lx_workers.specs.Places.{IsFull};
 ghost use Rattle.lx_desk.specs.Live.{HasLived, HasPlayedLive, KeepsOutlets, HasLiveCause};
-ghost use Rattle.lx_desk.specs.Live.{ArePlayed, TellsOutlets, TellsRun};
+ghost use Rattle.lx_desk.specs.Live.{ArePlayed, TellsOutlets, TellsRun, DecidesInOrder, LivesToEnd, PlaysToEnd};
+ghost use Rattle.lx_desk.specs.Finished.{Finishes};
+ghost use Rattle.lx_spec.specs.Text.{lines_of};
+ghost use Rattle.lx_spec.specs.Session.{bytes_wanted};
 
 use crate::desk::Status;
 use crate::play::status_of;
@@ -30,8 +33,8 @@ use std::thread::Threads;
 /// is of two versions, and at the end the last one is of all accepted commands. A command may be refused with `Memory` where
 /// there is no room to publish it.
 ///
-/// The fault of the session decides the status first, then a write that failed in an outlet, and then want of memory. An outlet
-/// that fails is ended, and no other.
+/// The fault of the session decides the status first, then a write that failed in an outlet, and then that memory was short. An outlet
+/// that fails is ended, and no other. With Ok no read and no write failed, and all that was written is handed on.
 pub fn run_live<
     R: Threads + Wait + Sync,
     S: Source + Send,
@@ -52,13 +55,19 @@ pub fn run_live<
     requires most { universes ≤ UNIVERSES }
     requires all { length outlets.old ≡ UNIVERSES }
     requires full { IsFull outlets.old }
-    ensures outlets { KeepsOutlets K.holds K.faults K.wants (Some (Run universes form)) result input.old input.new output.old output.new
+    ensures outlets { KeepsOutlets K.holds K.back K.faults K.wants (Some (Run universes form)) result input.old input.new output.old output.new
         outlets.old outlets.new }
     ensures ended { IfSome (S.left input.old)
-        (λ bytes. HasLived result K.holds K.faults K.wants universes form bytes (S.left input.new) (O.holds output.old)
+        (λ bytes. HasLived result K.holds K.back K.faults K.wants universes form bytes (S.left input.new) (O.holds output.old)
         (O.holds output.new) outlets.old outlets.new) }
     ensures cause { HasLiveCause K.faults result (S.faults input.old) (S.faults input.new) (O.faults output.old) (O.faults output.new)
         outlets.old outlets.new }
+    ensures order { IfSome (S.left input.old)
+        (λ bytes. DecidesInOrder result (S.faults input.old) (S.faults input.new) O.faults O.wants output.old output.new outlets.old
+        outlets.new
+        (λ Told. LivesToEnd Told K.holds K.back K.faults K.wants universes form bytes (O.holds output.old) (O.holds output.new)
+        outlets.old outlets.new)) }
+    ensures finished { Finishes (S.faults input.old) (S.faults input.new) O.faults O.wants O.back output.old output.new result }
 {
     let mut lines = Lines::new(input);
     match read_show(alloc, &mut lines, form) {
@@ -103,13 +112,21 @@ fn play_live<
     requires within { bytes_taken lines.old ≤ INPUT_BYTES }
     ensures same_source { SameSource lines.old lines.new }
     ensures usage { result ≢ Status.Usage }
-    ensures outlets { (outlets.new ≡ outlets.old) ⊎ ArePlayed K.holds K.faults K.wants universes outlets.old outlets.new }
+    ensures outlets { (outlets.new ≡ outlets.old) ⊎ ArePlayed K.holds K.back K.faults K.wants universes outlets.old outlets.new }
     ensures ended { IfSome (unread S.left lines.old)
-        (λ bytes. HasPlayedLive result K.holds K.faults K.wants show universes (bytes_taken lines.old) bytes
+        (λ bytes. HasPlayedLive result K.holds K.back K.faults K.wants show universes (bytes_taken lines.old) bytes
         (source_left S.left lines.new) (O.holds output.old) (O.holds output.new) outlets.old outlets.new) }
     ensures later { source_faults S.faults lines.old ≤ source_faults S.faults lines.new }
     ensures cause { HasLiveCause K.faults result (source_faults S.faults lines.old) (source_faults S.faults lines.new)
         (O.faults output.old) (O.faults output.new) outlets.old outlets.new }
+    ensures order { IfSome (unread S.left lines.old)
+        (λ bytes. DecidesInOrder result (source_faults S.faults lines.old) (source_faults S.faults lines.new) O.faults O.wants output.old
+        output.new outlets.old outlets.new
+        (λ Told. PlaysToEnd Told K.holds K.back K.faults K.wants show universes (lines_of bytes) (O.holds output.old)
+        (O.holds output.new) outlets.old outlets.new
+        × (bytes_taken lines.old + length (bytes_wanted bytes) ≤ INPUT_BYTES))) }
+    ensures finished { Finishes (source_faults S.faults lines.old) (source_faults S.faults lines.new) O.faults O.wants O.back output.old
+        output.new result }
 {
     let Ok(mut console) = Console::open(alloc, show) else {
         return Status::Memory;

@@ -1,7 +1,7 @@
 //! The job `make`: a session over an input that is made of a number, and five lines about it.
 #![tactic(auto, using(lx_io::proofs::Chain::puts))]
 
-ghost use Rattle.std.specs.Prelude.{◌≡◌, ◌≤◌, ◌⊎◌, ◌∷◌, [], ℕ, List, decimal, sum, length, IfSome, IsTrue};
+ghost use Rattle.std.specs.Prelude.{◌≡◌, ◌≤◌, ◌⊎◌, ◌∷◌, [], ℕ, List, decimal, sum, length, IfSome, IsTrue, OnOk};
 ghost use Rattle.std.specs.declared.option.Option.{Option};
 ghost use Rattle.std.specs.Io.KnownBytes.{Appends};
 ghost use Rattle.lx_base.specs.declared.TheConstants.{INPUT_BYTES, UNIVERSE_SLOTS};
@@ -18,6 +18,7 @@ ghost use Rattle.lx_console.specs.ConsoleMeaning.{StandsFor};
 ghost use Rattle.lx_desk.specs.Output.{WritesPrefix};
 ghost use Rattle.lx_desk.specs.Endings.{EndsJob, EndsScript, HasEnded, HasCauseOf};
 ghost use Rattle.lx_desk.specs.Made.{HasTold, TellsInFront, report_of, report_text};
+ghost use Rattle.lx_desk.specs.Finished.{Finishes, HasWanted};
 
 use crate::desk::Status;
 use crate::discard::Discard;
@@ -58,6 +59,8 @@ pub(crate) fn make<K: Sink>(alloc: Global, cues: u32, output: &mut K) -> Status
     ensures ended { (left : Option (List ℕ)) → HasEnded result (jobs.Make cues) [] left (K.holds output.old) (K.holds output.new) }
     ensures prefix { WritesPrefix (jobs.Make cues) [] (K.holds output.old) (K.holds output.new) }
     ensures cause { (reads : ℕ) → HasCauseOf result reads reads (K.faults output.old) (K.faults output.new) }
+    ensures finished { (reads : ℕ) → Finishes reads reads K.faults K.wants K.back output.old output.new result }
+    ensures memory { HasWanted K.wants output.old output.new result }
 {
     let Ok(input) = made_input(alloc, cues) else {
         return Status::Memory;
@@ -87,6 +90,9 @@ fn tell_session<S: Source, K: Sink>(
         (λ bytes. TellsInFront cues (opened show) (lines_of bytes) (K.holds output.old) (K.holds output.new)) }
     ensures cause { HasCauseOf result (S.faults lines.old.source.now) (S.faults lines.new.source.now) (K.faults output.old)
         (K.faults output.new) }
+    ensures finished { Finishes (S.faults lines.old.source.now) (S.faults lines.new.source.now) K.faults K.wants K.back output.old
+        output.new result }
+    ensures memory { HasWanted K.wants output.old output.new result }
 {
     let Ok(mut console) = Console::open(alloc, show) else {
         return Status::Memory;
@@ -137,6 +143,8 @@ fn tell<K: Sink>(report: Report, output: &mut K) -> Status
     ensures prefix { AppendsFront (K.holds output.old) (K.holds output.new) (report_text report) }
     ensures kinds { (result ≡ Status.Ok) ⊎ ((result ≡ Status.WriteFault) ⊎ (result ≡ Status.Memory)) }
     ensures write { result ≡ Status.WriteFault → Rose (K.faults output.old) (K.faults output.new) }
+    ensures finished { (reads : ℕ) → Finishes reads reads K.faults K.wants K.back output.old output.new result }
+    ensures memory { HasWanted K.wants output.old output.new result }
 {
     match put_and_flush(report, output) {
         Ok(()) => Status::Ok,
@@ -147,7 +155,8 @@ fn tell<K: Sink>(report: Report, output: &mut K) -> Status
 
 /// Appends the lines, and flushes.
 fn put_and_flush<K: Sink>(report: Report, output: &mut K) -> Result<(), SinkFault>
-    ensures { Puts K.holds K.faults K.wants output.old output.new result (report_text report) }
+    ensures puts { Puts K.holds K.faults K.wants output.old output.new result (report_text report) }
+    ensures handed_on { OnOk result (K.back output.new ≡ []) }
 {
     put_report(report, output)?;
     output.flush()

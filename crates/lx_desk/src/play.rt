@@ -10,6 +10,7 @@ ghost use Rattle.lx_desk.specs.ScriptAnswers.{by_desk, by_session};
 ghost use Rattle.lx_desk.specs.Faults.{status_for};
 ghost use Rattle.lx_desk.specs.Output.{AnswersInFront};
 ghost use Rattle.lx_desk.specs.Endings.{EndsScript, HasPlayed, HasCauseOf};
+ghost use Rattle.lx_desk.specs.Finished.{Finishes, HasWanted};
 
 use crate::desk::Status;
 use lx_console::Console;
@@ -38,6 +39,9 @@ pub(crate) fn play<S: Source, K: Sink>(
     ensures later { S.faults lines.old.source.now ≤ S.faults lines.new.source.now }
     ensures cause { HasCauseOf result (S.faults lines.old.source.now) (S.faults lines.new.source.now) (K.faults output.old)
         (K.faults output.new) }
+    ensures finished { Finishes (S.faults lines.old.source.now) (S.faults lines.new.source.now) K.faults K.wants K.back output.old
+        output.new result }
+    ensures memory { HasWanted K.wants output.old output.new result }
 {
     let Ok(mut console) = Console::open(alloc, show) else {
         return Status::Memory;
@@ -66,6 +70,9 @@ pub(crate) fn play_by<A: Answers, S: Source, K: Sink>(
     ensures later { source_faults S.faults lines.old ≤ source_faults S.faults lines.new }
     ensures cause { HasCauseOf result (source_faults S.faults lines.old) (source_faults S.faults lines.new) (K.faults output.old)
         (K.faults output.new) }
+    ensures finished { Finishes (source_faults S.faults lines.old) (source_faults S.faults lines.new) K.faults K.wants K.back output.old
+        output.new result }
+    ensures memory { HasWanted K.wants output.old output.new result }
 {
     status_of(answer_lines(answerer, lines, output))
 }

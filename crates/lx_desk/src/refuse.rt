@@ -1,7 +1,7 @@
 //! A show that is refused, or couldn't be read.
 #![tactic(auto, using(lx_io::proofs::Chain::puts))]
 
-ghost use Rattle.std.specs.Prelude.{◌≡◌, ◌≢◌, ◌⊎◌, ◌∷◌, [], codes, decimal, IfOk, IfErr};
+ghost use Rattle.std.specs.Prelude.{◌≡◌, ◌≢◌, ◌⊎◌, ◌∷◌, [], codes, decimal, IfOk, IfErr, ℕ, OnOk};
 ghost use Rattle.std.specs.Io.KnownBytes.{Appends, Keeps};
 ghost use Rattle.lx_io.specs.Causes.{Rose};
 ghost use Rattle.lx_io.specs.Puts.{AppendsFront, Puts};
@@ -9,6 +9,7 @@ ghost use Rattle.lx_spec.specs.ShowText.{line as text_line};
 ghost use Rattle.lx_spec.specs.FaultLine.{fault_text};
 ghost use Rattle.lx_reader.specs.LineFaults.{show_fault};
 ghost use Rattle.lx_desk.specs.ShowRefusal.{RefusedBy, status_kept};
+ghost use Rattle.lx_desk.specs.Finished.{Finishes, HasWanted};
 
 use crate::desk::Status;
 use lx_io::{Sink, SinkFault, put_all};
@@ -20,7 +21,8 @@ use lx_spec::TextFault;
 pub(crate) fn refuse<K: Sink>(fault: ShowFault, output: &mut K) -> Status
     ensures refused { RefusedBy (K.holds output.old) (K.holds output.new) fault result }
     ensures write { result ≡ Status.WriteFault → Rose (K.faults output.old) (K.faults output.new) }
-    ensures memory { result ≡ Status.Memory → (fault ≡ ShowFault.Memory) ⊎ Rose (K.wants output.old) (K.wants output.new) }
+    ensures finished { (reads : ℕ) → Finishes reads reads K.faults K.wants K.back output.old output.new result }
+    ensures memory { HasWanted K.wants output.old output.new result }
 {
     match text_fault(fault) {
         Ok(fault) => write_fault(fault, output),
@@ -53,6 +55,7 @@ fn write_fault<K: Sink>(fault: TextFault, output: &mut K) -> Status
     ensures front { AppendsFront (K.holds output.old) (K.holds output.new) (fault_text fault) }
     ensures kinds { (result ≡ Status.ShowRefused) ⊎ ((result ≡ Status.WriteFault) ⊎ (result ≡ Status.Memory)) }
     ensures write { result ≡ Status.WriteFault → Rose (K.faults output.old) (K.faults output.new) }
+    ensures finished { (reads : ℕ) → Finishes reads reads K.faults K.wants K.back output.old output.new result }
     ensures memory { result ≡ Status.Memory → Rose (K.wants output.old) (K.wants output.new) }
 {
     match put_and_flush(fault, output) {
@@ -64,7 +67,8 @@ fn write_fault<K: Sink>(fault: TextFault, output: &mut K) -> Status
 
 /// Appends the line of a refused show, and flushes.
 fn put_and_flush<K: Sink>(fault: TextFault, output: &mut K) -> Result<(), SinkFault>
-    ensures { Puts K.holds K.faults K.wants output.old output.new result (fault_text fault) }
+    ensures puts { Puts K.holds K.faults K.wants output.old output.new result (fault_text fault) }
+    ensures handed_on { OnOk result (K.back output.new ≡ []) }
 {
     put_fault(fault, output)?;
     output.flush()

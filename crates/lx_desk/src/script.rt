@@ -7,6 +7,7 @@ ghost use Rattle.lx_spec.specs.Text.{lines_of};
 ghost use Rattle.lx_desk.specs.ScriptAnswers.{answers_by, job_by};
 ghost use Rattle.lx_desk.specs.Output.{WritesPrefix, AnswersInFront};
 ghost use Rattle.lx_desk.specs.Endings.{EndsJob, EndsScript, HasEnded, HasPlayed, HasCauseOf};
+ghost use Rattle.lx_desk.specs.Finished.{Finishes, HasWanted};
 
 use crate::desk::Status;
 use crate::play::play;
@@ -44,6 +45,8 @@ pub(crate) fn script<S: Source, K: Sink>(
     ensures prefix { IfSome (S.left input.old)
         (λ bytes. WritesPrefix (job_by answerer form) bytes (K.holds output.old) (K.holds output.new)) }
     ensures cause { HasCauseOf result (S.faults input.old) (S.faults input.new) (K.faults output.old) (K.faults output.new) }
+    ensures finished { Finishes (S.faults input.old) (S.faults input.new) K.faults K.wants K.back output.old output.new result }
+    ensures memory { HasWanted K.wants output.old output.new result }
 {
     let mut lines = Lines::new(input);
     match read_show(alloc, &mut lines, form) {
@@ -72,6 +75,9 @@ fn play_script<S: Source, K: Sink>(
     ensures later { source_faults S.faults lines.old ≤ source_faults S.faults lines.new }
     ensures cause { HasCauseOf result (source_faults S.faults lines.old) (source_faults S.faults lines.new) (K.faults output.old)
         (K.faults output.new) }
+    ensures finished { Finishes (source_faults S.faults lines.old) (source_faults S.faults lines.new) K.faults K.wants K.back output.old
+        output.new result }
+    ensures memory { HasWanted K.wants output.old output.new result }
 {
     match answerer {
         Answerer::Desk => play(alloc, show, lines, output),

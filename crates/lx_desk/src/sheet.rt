@@ -1,7 +1,7 @@
 //! The job `sheet`: the list of a show's cues.
 #![tactic(auto, using(lx_io::proofs::Chain::puts))]
 
-ghost use Rattle.std.specs.Prelude.{◌≡◌, ◌⊎◌, flat_map, IfSome};
+ghost use Rattle.std.specs.Prelude.{◌≡◌, ◌⊎◌, flat_map, IfSome, ℕ, OnOk, []};
 ghost use Rattle.lx_io.specs.Causes.{Rose};
 ghost use Rattle.lx_spec.specs.declared.Job.TheVariants as jobs;
 ghost use Rattle.lx_desk.specs.Output.{WritesPrefix};
@@ -10,6 +10,7 @@ ghost use Rattle.std.specs.Io.KnownBytes.{Appends};
 ghost use Rattle.lx_io.specs.Puts.{AppendsFront, Puts};
 ghost use Rattle.lx_spec.specs.SheetOutput.{cue_lines};
 ghost use Rattle.lx_sheet.specs.SheetMeaning.{RowsStandFor};
+ghost use Rattle.lx_desk.specs.Finished.{Finishes, HasWanted};
 
 use crate::desk::Status;
 use crate::refuse::refuse;
@@ -33,6 +34,8 @@ pub(crate) fn sheet<S: Source, K: Sink>(
         (K.holds output.new)) }
     ensures prefix { IfSome (S.left input.old) (λ bytes. WritesPrefix (jobs.Sheet form) bytes (K.holds output.old) (K.holds output.new)) }
     ensures cause { HasCauseOf result (S.faults input.old) (S.faults input.new) (K.faults output.old) (K.faults output.new) }
+    ensures finished { Finishes (S.faults input.old) (S.faults input.new) K.faults K.wants K.back output.old output.new result }
+    ensures memory { HasWanted K.wants output.old output.new result }
 {
     let mut lines = Lines::new(input);
     match read_show(alloc, &mut lines, form) {
@@ -47,6 +50,8 @@ fn list<K: Sink>(alloc: Global, show: &Show, output: &mut K) -> Status
     ensures prefix { AppendsFront (K.holds output.old) (K.holds output.new) (flat_map (cue_lines show.now) show.now.cues) }
     ensures kinds { (result ≡ Status.Ok) ⊎ ((result ≡ Status.WriteFault) ⊎ (result ≡ Status.Memory)) }
     ensures write { result ≡ Status.WriteFault → Rose (K.faults output.old) (K.faults output.new) }
+    ensures finished { (reads : ℕ) → Finishes reads reads K.faults K.wants K.back output.old output.new result }
+    ensures memory { HasWanted K.wants output.old output.new result }
 {
     let Ok(sheet) = Sheet::open(alloc, show) else {
         return Status::Memory;
@@ -61,7 +66,8 @@ fn list<K: Sink>(alloc: Global, show: &Show, output: &mut K) -> Status
 /// Appends the list, and flushes.
 fn put_and_flush<K: Sink>(show: &Show, sheet: &Sheet, output: &mut K) -> Result<(), SinkFault>
     requires { RowsStandFor show.now sheet.now }
-    ensures { Puts K.holds K.faults K.wants output.old output.new result (flat_map (cue_lines show.now) show.now.cues) }
+    ensures puts { Puts K.holds K.faults K.wants output.old output.new result (flat_map (cue_lines show.now) show.now.cues) }
+    ensures handed_on { OnOk result (K.back output.new ≡ []) }
 {
     put_cue_list(show, sheet, output)?;
     output.flush()

@@ -7,6 +7,7 @@ ghost use Rattle.lx_spec.specs.Text.{lines_of};
 ghost use Rattle.lx_desk.specs.ScriptAnswers.{two_by};
 ghost use Rattle.lx_desk.specs.Output.{AnswersInFront};
 ghost use Rattle.lx_desk.specs.Endings.{EndsScript, HasPlayed, HasCauseOf};
+ghost use Rattle.lx_desk.specs.Finished.{Finishes, HasWanted};
 
 use crate::desk::Status;
 use crate::play::play_by;
@@ -35,6 +36,9 @@ pub(crate) fn play_two<S: Source, K: Sink>(
     ensures later { source_faults S.faults lines.old ≤ source_faults S.faults lines.new }
     ensures cause { HasCauseOf result (source_faults S.faults lines.old) (source_faults S.faults lines.new) (K.faults output.old)
         (K.faults output.new) }
+    ensures finished { Finishes (source_faults S.faults lines.old) (source_faults S.faults lines.new) K.faults K.wants K.back output.old
+        output.new result }
+    ensures memory { HasWanted K.wants output.old output.new result }
 {
     let Ok(mut desk) = TwoLists::open(alloc, show) else {
         return Status::Memory;

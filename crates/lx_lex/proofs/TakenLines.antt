@@ -31,7 +31,7 @@ no_line (Some xs) i h = record {
 }
 
 -- bytes of which each line has its LF, or behind which nothing is left, and then others
-fed_then : (xs ys y z : List ℕ) (m n k : ℕ) → k ≡ m + n → (feeds xs ≡ m) ⊎ (y ≡ []) → (feeds ys ≡ n) ⊎ (z ≡ []) → y ≡ ys ++ z
+pub fed_then : (xs ys y z : List ℕ) (m n k : ℕ) → k ≡ m + n → (feeds xs ≡ m) ⊎ (y ≡ []) → (feeds ys ≡ n) ⊎ (z ≡ []) → y ≡ ys ++ z
     → (feeds (xs ++ ys) ≡ k) ⊎ (z ≡ [])
 fed_then xs ys y z m n k e p (inr none) took = inr none
 fed_then xs ys y z m n k e (inl p) (inl q) took = inl (omega (arith, e, p, q, count_by-append (λ b. b == 10) xs ys))

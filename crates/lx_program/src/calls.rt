@@ -1,6 +1,7 @@
 //! The program as calls: from the words and the bytes that come in to the bytes that go out.
 
-ghost use Rattle.std.specs.Prelude.{◌≡◌, IsSome, length, map, string_bytes};
+ghost use Rattle.std.specs.Prelude.{◌≡◌, ℕ, true, Some, IsSome, length, map, string_bytes};
+ghost use Rattle.std.specs.List.{list_any};
 ghost use Rattle.lx_base.specs.declared.TheConstants.{OPERATORS, UNIVERSES};
 ghost use Rattle.lx_spec.specs.Job.{job_of};
 ghost use Rattle.lx_spec.specs.Reading.{reads};
@@ -8,8 +9,11 @@ ghost use Rattle.lx_crew.specs.OperatorWorks.{EachAt};
 ghost use Rattle.lx_workers.specs.Places.{IsFull};
 ghost use Rattle.lx_desk.specs.Crew.{HasCrewCause, HasCrewEnded, KeepsOperators, WritesCrewFront};
 ghost use Rattle.lx_desk.specs.Endings.{AnswersWords, HasCauseOf, HasEnded};
-ghost use Rattle.lx_desk.specs.Live.{HasLiveCause, HasLived, KeepsOutlets};
+ghost use Rattle.lx_desk.specs.Finished.{Finishes, HasWanted};
+ghost use Rattle.lx_desk.specs.Live.{DecidesInOrder, HasLiveCause, HasLived, KeepsOutlets, LivesToEnd};
 ghost use Rattle.lx_desk.specs.Output.{WritesPrefix};
+ghost use Rattle.lx_spec.specs.declared.Job.TheVariants.{Make};
+ghost use Rattle.lx_program.specs.Words.{begins_with_dash};
 ghost use Rattle.lx_program.specs.NamedJob.{OfCrew, OfJob, OfRun, in_use};
 
 use crate::words::{WordsFault, crew_of, live_run_of, words_of};
@@ -25,7 +29,7 @@ use std::thread::Threads;
 /// refused show, the line or the cue list of a show, or the replies to a script, in which each command is done or refused
 /// as the desk does it and each frame is evaluated over the whole show as it then is and the whole list of runs since the
 /// opening; by `undo` edits and records are undone and redone besides, and by `two` it is
-/// so of two desks beside each other. Want of memory refuses nothing but edits and records.
+/// so of two desks beside each other. `make` reads nothing. Out of memory refuses nothing but edits and records.
 pub fn desk<S: Source, K: Sink>(
     alloc: Global,
     words: &[String],
@@ -44,8 +48,16 @@ pub fn desk<S: Source, K: Sink>(
     ensures prefix { OfJob (map string_bytes words.now) (S.left input.old)
         (λ job bytes. WritesPrefix job bytes (K.holds output.old) (K.holds output.new)) }
 
-    // ReadFault and WriteFault have their causes. Want of memory alone is free.
+    // ReadFault and WriteFault have their causes. With Ok and ShowRefused no fault was passed over, and all that was written is
+    // handed on. Memory is told only before anything is written, or where the output itself is out of memory; and never where a
+    // word begins with a dash.
     ensures cause { HasCauseOf result (S.faults input.old) (S.faults input.new) (K.faults output.old) (K.faults output.new) }
+    ensures finished { Finishes (S.faults input.old) (S.faults input.new) K.faults K.wants K.back output.old output.new result }
+    ensures memory { HasWanted K.wants output.old output.new result }
+    ensures dash { list_any begins_with_dash (map string_bytes words.now) ≡ true → result ≡ Status.Usage }
+
+    // `make` reads nothing.
+    ensures unread { (cues : ℕ) → job_of (map string_bytes words.now) ≡ Some (Make cues) → input.new ≡ input.old }
 {
     match words_of(alloc, words) {
         Ok(job) => run_job(alloc, job, input, output),
@@ -62,7 +74,7 @@ pub fn desk<S: Source, K: Sink>(
 /// is of two versions, and at the end the last one is of all accepted commands. A command may be refused with `Memory` where
 /// there is no room to publish it.
 ///
-/// The fault of the session decides the status first, then a write that failed in an outlet, and then want of memory. An outlet
+/// The fault of the session decides the status first, then a write that failed in an outlet, and then that memory was short. An outlet
 /// that fails is ended, and no other.
 pub fn desk_live<
     R: Threads + Wait + Sync,
@@ -83,18 +95,25 @@ pub fn desk_live<
     requires full { IsFull outlets.old }
     // Usage exactly where the words name no live run, unless memory was wanted in vain, and then nothing is read or written.
     // The outlets past the universes are never touched.
-    ensures outlets { KeepsOutlets K.holds K.faults K.wants (job_of (map string_bytes words.now)) result input.old input.new output.old
+    ensures outlets { KeepsOutlets K.holds K.back K.faults K.wants (job_of (map string_bytes words.now)) result input.old input.new output.old
         output.new outlets.old outlets.new }
 
     // What was read and written, by the status: with Ok the whole output, and each outlet up to the version of all accepted commands;
     // after a fault each outlet up to what was published of the commands that the lines which were answered came to.
     ensures ended { OfRun (job_of (map string_bytes words.now)) (S.left input.old)
-        (λ universes form bytes. HasLived result K.holds K.faults K.wants universes form bytes (S.left input.new) (O.holds output.old)
+        (λ universes form bytes. HasLived result K.holds K.back K.faults K.wants universes form bytes (S.left input.new) (O.holds output.old)
         (O.holds output.new) outlets.old outlets.new) }
 
-    // ReadFault and WriteFault have their causes. Want of memory alone is free.
+    // ReadFault and WriteFault have their causes, and faults are told in their order. With Ok and ShowRefused no fault was passed over,
+    // and all that was written on the output is handed on.
     ensures cause { HasLiveCause K.faults result (S.faults input.old) (S.faults input.new) (O.faults output.old) (O.faults output.new)
         outlets.old outlets.new }
+    ensures order { OfRun (job_of (map string_bytes words.now)) (S.left input.old)
+        (λ universes form bytes. DecidesInOrder result (S.faults input.old) (S.faults input.new) O.faults O.wants output.old output.new
+        outlets.old outlets.new
+        (λ Told. LivesToEnd Told K.holds K.back K.faults K.wants universes form bytes (O.holds output.old) (O.holds output.new)
+        outlets.old outlets.new)) }
+    ensures finished { Finishes (S.faults input.old) (S.faults input.new) O.faults O.wants O.back output.old output.new result }
 {
     match live_run_of(alloc, words) {
         Ok((universes, form)) => {
@@ -139,7 +158,10 @@ pub fn desk_crew<R: Threads + Wait + Sync, I: Source, S: Source + Send + Drop, K
     ensures prefix { OfCrew (job_of (map string_bytes words.now)) (I.left input.old)
         (λ count form bytes. WritesCrewFront S.left count operators.old (K.holds output.old) (K.holds output.new) (reads form bytes)) }
 
-    // ReadFault and WriteFault have their causes. Want of memory alone is free.
+    // ReadFault and WriteFault have their causes. With Ok and ShowRefused no fault of the input or the output was passed over, and all
+    // that was written is handed on. Memory is told only before anything is written, or where the output itself is out of memory.
+    ensures finished { Finishes (I.faults input.old) (I.faults input.new) K.faults K.wants K.back output.old output.new result }
+    ensures memory { HasWanted K.wants output.old output.new result }
     ensures cause { HasCrewCause S.faults result (I.faults input.old) (I.faults input.new) (K.faults output.old) (K.faults output.new)
         (in_use (job_of (map string_bytes words.now))) operators.old operators.new }
 {

@@ -1,6 +1,6 @@
 //! The words of the command line.
 
-ghost use Rattle.std.specs.Prelude.{◌≡◌, ◌≤◌, false, None, Some, Err, map, string_bytes, IfOk, IfErr, IfSome};
+ghost use Rattle.std.specs.Prelude.{◌≡◌, ◌≤◌, true, false, None, Some, Err, map, string_bytes, IfOk, IfErr, IfSome};
 ghost use Rattle.std.specs.List.{list_any};
 ghost use Rattle.clap.specs.Words.{kind_of};
 ghost use Rattle.lx_base.specs.declared.TheConstants.{OPERATORS, UNIVERSES};
@@ -31,11 +31,12 @@ pub enum WordsFault {
 
 /// The job that the words name: `check`, `render`, `sheet`, `undo` or `two`, or one of them and `states`; `make` and a number of
 /// cues; `run` and a number of universes or `crew` and a number of operators, or these and `states`. `Usage` comes exactly where
-/// they are none of these.
+/// they are none of these, and at once where a word begins with a dash.
 pub fn words_of(alloc: Global, words: &[String]) -> Result<Job, WordsFault>
     ensures job { IfOk result (λ job. job_of (map string_bytes words.now) ≡ Some job) }
     ensures range { IfOk result InRange }
     ensures usage { result ≡ Err WordsFault.Usage → job_of (map string_bytes words.now) ≡ None }
+    ensures dash { list_any begins_with_dash (map string_bytes words.now) ≡ true → result ≡ Err WordsFault.Usage }
 {
     if has_dash(words) {
         return Err(WordsFault::Usage);

@@ -1,6 +1,6 @@
 //! The pass over the lines of a show text.
 
-ghost use Rattle.std.specs.Prelude.{◌≡◌, ◌≤◌, ◌+◌, Err, IfSome, IsTrue, OnOk};
+ghost use Rattle.std.specs.Prelude.{◌≡◌, ◌≢◌, ◌≤◌, ◌+◌, Err, IfSome, IsTrue, OnOk};
 ghost use Rattle.lx_io.specs.Causes.{Rose};
 ghost use Rattle.lx_spec.specs.Show.{Valid};
 ghost use Rattle.lx_reader.specs.LineOutcome.{IsReady, state_of};
@@ -23,7 +23,8 @@ use std::alloc::Global;
 /// Reads a show text, up to its ENDDATA line. No line was read from the lines before. The levels of its cues
 /// are moves, or in the form States whole looks, which become moves.
 ///
-/// The faults that carry a line name the first line that has one. Lines that aren't known are skipped and
+/// `ReadFault` comes only where a read failed, and no failed read is passed over. The faults that carry a line name the first line that
+/// has one. Lines that aren't known are skipped and
 /// counted.
 pub fn read_show<S: Source>(
     alloc: Global,
@@ -36,6 +37,7 @@ pub fn read_show<S: Source>(
     ensures answer { AnswerOf S.left S.faults lines.old lines.new form result }
     ensures later { S.faults lines.old.source.now ≤ S.faults lines.new.source.now }
     ensures read { result ≡ Err ShowFault.ReadFault → Rose (S.faults lines.old.source.now) (S.faults lines.new.source.now) }
+    ensures kept { result ≢ Err ShowFault.ReadFault → S.faults lines.new.source.now ≡ S.faults lines.old.source.now }
 {
     let mut reader = match Show::new(alloc, 1) {
         Ok(show) => Reading::new(alloc, show),
@@ -64,6 +66,7 @@ fn read_line<S: Source>(
     ensures fits { OnOk result (Fits reader.new) }
     ensures later { S.faults lines.old.source.now ≤ S.faults lines.new.source.now }
     ensures read { result ≡ Err ShowFault.ReadFault → Rose (S.faults lines.old.source.now) (S.faults lines.new.source.now) }
+    ensures kept { result ≢ Err ShowFault.ReadFault → S.faults lines.new.source.now ≡ S.faults lines.old.source.now }
 {
     match lines.advance() {
         Step::Line => match reader.step(alloc, lines.number(), lines.line()) {

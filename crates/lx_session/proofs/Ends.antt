@@ -111,6 +111,7 @@ taken_plain all heard first now d before bytes left held held' console a =
       places = a.places;
       wants = λ every. wants_plain all a.places start lines every a.wants;
       cut = a.cut;
+      short = a.short;
       text = subst (λ (t : Session). Appends held held' t.text) (plain_is a.places start (take a.cut.lines lines)) a.text;
       done = has_done heard first now d a.places (take a.cut.lines lines) console a.stands;
     }

@@ -264,6 +264,9 @@ so_far_unread {State = State} answer MayWant Stood Stands left faults a b c stat
       wants = subst (λ ls. WantsAtEach answer MayWant s.places (begin_with state) ls) (sym before)
           (wants_more answer MayWant state lines rest s.places s.now s.done);
       cut = cut.0;
+      short =
+          let at = ap (position_or_len ends_script) is.1 in
+          omega (arith, at, ends_after lines is.0 s.done.go_on, cut.1, length-map s.raws without_cr);
       text = subst (λ (v : SessionOf State). Appends h h'' v.text) (sym now) (Appends-kept h h' h'' s.now.text s.appended u.kept);
       stands = subst (λ (v : SessionOf State). Stands v.state) (sym now) u.stands;
     })

@@ -10,4 +10,5 @@ pub mod HeardDesk
 pub mod LineOutcome
 pub mod SessionFaults
 pub mod SessionOutcome
+pub mod Waits
 pub mod Meanings

@@ -1,9 +1,10 @@
 -- What a session of any kind over the lines of a script comes to.
-use Rattle.std.specs.Prelude.{◌≡◌, ℕ, IfSome, Result, Ok, Err, List, ◌++◌}
+use Rattle.std.specs.Prelude.{◌≡◌, ◌<◌, ℕ, IfSome, Result, Ok, Err, List, ◌++◌}
 use Rattle.std.specs.Io.KnownBytes.{Appends}
 use Rattle.lx_io.specs.Puts.{AppendsFront}
 use Rattle.lx_spec.specs.Text.{lines_of}
 use Rattle.lx_spec.specs.CutInput.{first_lines, CutOff}
+use Rattle.lx_spec.specs.Session.{lines_wanted}
 use Rattle.lx_spec.specs.SessionOf.{Answer, whole_session, session_after, PlacesAreAllowed}
 use Rattle.lx_session.specs.Known.{Known}
 use Rattle.lx_session.specs.declared.fault.SessionFault.{SessionFault}
@@ -31,12 +32,14 @@ pub record AnsweredPrefix {S : Type 0} (answer : Answer S) (MayWant : S → List
   pub text : AppendsFront held held' (session_after answer state (lines_of bytes) places lines).text
   pub stands : Stands (session_after answer state (lines_of bytes) places lines).state
 
--- The lines that were taken whole, within the limit of the input, were done and wholly answered. `left` is what the source has left.
+-- The lines that were taken whole, within the limit of the input, were done and wholly answered, and the script wants more of them. `left`
+-- is what the source has left.
 pub record AnsweredTaken {S : Type 0} (answer : Answer S) (MayWant : S → List ℕ → Type 0) (Stands : S → Type 0) (state : S)
     (before : ℕ) (bytes : List ℕ) (left held held' : Known) : Type 0 where
   pub places : List ℕ
   pub wants : PlacesAreAllowed answer MayWant state (lines_of bytes) places
   pub cut : CutOff before bytes left
+  pub short : cut.lines < lines_wanted (lines_of bytes)
   pub text : Appends held held' (session_after answer state (lines_of bytes) places cut.lines).text
   pub stands : Stands (session_after answer state (lines_of bytes) places cut.lines).state
 

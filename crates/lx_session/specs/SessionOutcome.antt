@@ -1,5 +1,5 @@
 -- What a session over the lines of a script comes to.
-use Rattle.std.specs.Prelude.{◌≡◌, ◌≤◌, ◌<◌, ℕ, ◌+◌, Bool, true, IfSome, IfErr, Result, Ok, Err, List, ◌++◌, length}
+use Rattle.std.specs.Prelude.{◌≡◌, ◌≤◌, ◌<◌, ℕ, ◌+◌, Bool, true, IfSome, IfErr, OnOk, Result, Ok, Err, List, ◌++◌, length}
 use Rattle.std.specs.Io.KnownBytes.{Appends}
 use Rattle.lx_base.specs.declared.TheConstants.{INPUT_BYTES}
 use Rattle.lx_io.specs.Causes.{Rose}
@@ -11,7 +11,7 @@ use Rattle.lx_spec.specs.Show.{Show}
 use Rattle.lx_spec.specs.Kept.{Kept}
 use Rattle.lx_spec.specs.Desk.{Desk, replay}
 use Rattle.lx_spec.specs.CutInput.{first_lines, CutOff}
-use Rattle.lx_spec.specs.Session.{replies, accepted, tallied, after_first, bytes_wanted}
+use Rattle.lx_spec.specs.Session.{replies, accepted, tallied, after_first, lines_wanted, bytes_wanted}
 use Rattle.lx_spec.specs.RefusedPlaces.{PlacesAreEdits}
 use Rattle.lx_console.specs.ConsoleMeaning.{StandsFor}
 use Rattle.lx_session.specs.Attempts.{after_commands}
@@ -52,12 +52,14 @@ pub record ScriptPrefix (all : Bool) (heard : List Command → Type 0) (d : Desk
   pub text : AppendsFront held held' (after_first d (lines_of bytes) places lines).text
   pub done : HasDone heard d (after_first d (lines_of bytes) places lines).accepted console
 
--- The lines that were taken whole, within the limit of the input, were done and wholly answered. `left` is what the source has left.
+-- The lines that were taken whole, within the limit of the input, were done and wholly answered, and the script wants more of them. `left`
+-- is what the source has left.
 pub record TakenScript (all : Bool) (heard : List Command → Type 0) (d : Desk) (before : ℕ) (bytes : List ℕ)
     (left held held' : Known) (console : Kept) : Type 0 where
   pub places : List ℕ
   pub wants : all ≡ true → PlacesAreEdits d (lines_of bytes) places
   pub cut : CutOff before bytes left
+  pub short : cut.lines < lines_wanted (lines_of bytes)
   pub text : Appends held held' (after_first d (lines_of bytes) places cut.lines).text
   pub done : HasDone heard d (after_first d (lines_of bytes) places cut.lines).accepted console
 
@@ -93,7 +95,7 @@ HasRisen WriteFault reads reads' faults faults' wants wants' = Rose faults fault
 HasRisen InputTooLong reads reads' faults faults' wants wants' = Unit {0}
 HasRisen Memory reads reads' faults faults' wants wants' = Rose wants wants'
 
--- no count has fallen, and a fault comes only where its own count rose
+-- no count has fallen, a fault comes only where its own count rose, and an Ok only where all stand as they were
 pub record HasSessionCause {S K T : Type 0} (reads : S → ℕ) (faults wants : K → ℕ) (old new : Lines S) (sink sink' : K)
     (result : Result T SessionFault) : Type 0 where
   pub later : reads old.source.now ≤ reads new.source.now
@@ -101,3 +103,4 @@ pub record HasSessionCause {S K T : Type 0} (reads : S → ℕ) (faults wants : 
   pub wants_later : wants sink ≤ wants sink'
   pub failed : IfErr result
       (λ fault. HasRisen fault (reads old.source.now) (reads new.source.now) (faults sink) (faults sink') (wants sink) (wants sink'))
+  pub kept : OnOk result ((reads new.source.now ≡ reads old.source.now) × (faults sink' ≡ faults sink) × (wants sink' ≡ wants sink))

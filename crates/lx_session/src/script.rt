@@ -1,6 +1,6 @@
 //! A session: script lines are read one after another, and each is answered before the next is awaited.
 
-ghost use Rattle.std.specs.Prelude.{◌≤◌, true, IfSome};
+ghost use Rattle.std.specs.Prelude.{◌≡◌, ◌≤◌, [], true, IfSome, OnOk};
 ghost use Rattle.lx_base.specs.declared.TheConstants.{INPUT_BYTES};
 ghost use Rattle.lx_lex.specs.Unread.{CanAdvance, SameSource, bytes_taken, source_left, unread};
 ghost use Rattle.lx_spec.specs.Desk.{Desk};
@@ -23,8 +23,8 @@ use lx_lex::Lines;
 ///
 /// `ReadFault` comes only where the source failed, `InputTooLong` exactly where a wanted line has a byte
 /// past the limit of the input; the lines before it are then wholly answered. `WriteFault` and `Memory`
-/// come only where the sink answered them; what was written is then a prefix of the whole text. However it
-/// ends, the console stands for the desk after the commands that were accepted.
+/// come only where the sink answered them; what was written is then a prefix of the whole text. With Ok all
+/// of it is handed on, and no count of faults rose. However it ends, the console stands for the desk after the commands that were accepted.
 pub fn session<S: Source, K: Sink>(
     console: &mut Console,
     lines: &mut Lines<S>,
@@ -39,6 +39,7 @@ pub fn session<S: Source, K: Sink>(
         (source_left S.left lines.new) (K.holds sink.old) (K.holds sink.new) console.new result) }
     ensures limit { IfSome (unread S.left lines.old) (λ bytes. KeepsLimit (bytes_taken lines.old) bytes result) }
     ensures cause { HasSessionCause S.faults K.faults K.wants lines.old lines.new sink.old sink.new result }
+    ensures handed_on { OnOk result (K.back sink.new ≡ []) }
 {
     session_with(&mut NoListener, console, lines, sink)
 }
@@ -62,6 +63,7 @@ pub fn session_with<L: Listener, S: Source, K: Sink>(
         (unread S.left lines.new) (source_left S.left lines.new) (K.holds sink.old) (K.holds sink.new) console.new result) }
     ensures limit { IfSome (unread S.left lines.old) (λ bytes. KeepsLimit (bytes_taken lines.old) bytes result) }
     ensures cause { HasSessionCause S.faults K.faults K.wants lines.old lines.new sink.old sink.new result }
+    ensures handed_on { OnOk result (K.back sink.new ≡ []) }
 {
     answer_each(listener, console, lines, sink)
 }
@@ -87,6 +89,7 @@ pub fn answer_lines<A: Answers, S: Source, K: Sink>(
         (unread S.left lines.new) (source_left S.left lines.new) (K.holds sink.old) (K.holds sink.new) result) }
     ensures limit { IfSome (unread S.left lines.old) (λ bytes. KeepsLimit (bytes_taken lines.old) bytes result) }
     ensures cause { HasSessionCause S.faults K.faults K.wants lines.old lines.new sink.old sink.new result }
+    ensures handed_on { OnOk result (K.back sink.new ≡ []) }
 {
     answer_each(answerer, &mut (), lines, sink)
 }
@@ -109,6 +112,7 @@ fn answer_each<D, A: AnswersBeside<D>, S: Source, K: Sink>(
         (unread S.left lines.new) (source_left S.left lines.new) (K.holds sink.old) (K.holds sink.new) result) }
     ensures limit { IfSome (unread S.left lines.old) (λ bytes. KeepsLimit (bytes_taken lines.old) bytes result) }
     ensures cause { HasSessionCause S.faults K.faults K.wants lines.old lines.new sink.old sink.new result }
+    ensures handed_on { OnOk result (K.back sink.new ≡ []) }
 {
     let mut tally = Tally::new();
     'script: while take_line(answerer, lent, lines, sink, &mut tally)? {}

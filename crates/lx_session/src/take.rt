@@ -1,13 +1,14 @@
 //! One line of a session: it is taken from the source and answered.
 
-ghost use Rattle.std.specs.Prelude.{◌≡◌, ◌⊎◌, List, ℕ, true, false, Some, None, IfOk, OnErr, not, option_copied};
+ghost use Rattle.std.specs.Prelude.{◌≡◌, ◌⊎◌, List, ℕ, [], true, false, Some, None, IfOk, OnOk, OnErr, not, option_copied};
 ghost use Rattle.std.specs.Io.KnownBytes.{Keeps};
 ghost use Rattle.lx_io.specs.Puts.{HasSinkCause};
-ghost use Rattle.lx_lex.specs.Unread.{CanAdvance, SameSource, lines_handed};
+ghost use Rattle.lx_lex.specs.Unread.{CanAdvance, SameSource, held, has_feed, lines_handed};
 ghost use Rattle.lx_session.specs.LineReply.{HasRoom, HasOneMore, IsUpTo};
 ghost use Rattle.lx_session.specs.LineOutcome.{LineOutcome, ReplyOutcome};
 ghost use Rattle.lx_session.specs.OneAnswer.{IsLine};
 ghost use Rattle.lx_session.specs.SessionOutcome.{HasSessionCause};
+ghost use Rattle.lx_session.specs.Waits.{WaitsFlushed};
 
 use crate::beside::AnswersBeside;
 use crate::fault::SessionFault;
@@ -15,8 +16,8 @@ use crate::tally::Tally;
 use lx_io::{Sink, SinkFault, Source};
 use lx_lex::{Lines, Step};
 
-/// Takes the next line and answers it. Before a read that may wait, what was written is flushed. It answers
-/// false where the script has ended.
+/// Takes the next line and answers it. Before a read that may wait, what was written is handed on. It answers
+/// false where the script has ended, and then all that was written is handed on.
 pub(crate) fn take_line<D, A: AnswersBeside<D>, S: Source, K: Sink>(
     answerer: &mut A,
     lent: &mut D,
@@ -33,6 +34,8 @@ pub(crate) fn take_line<D, A: AnswersBeside<D>, S: Source, K: Sink>(
         (λ state. A.stands state answerer.new lent.new) S.left S.faults lines.old lines.new (K.holds sink.old) (K.holds sink.new) tally.old
         tally.new result }
     ensures cause { HasSessionCause S.faults K.faults K.wants lines.old lines.new sink.old sink.new result }
+    ensures waits { WaitsFlushed K.holds K.back lines.old lines.new sink.old }
+    ensures handed_on { IfOk result (λ more. more ≡ false → K.back sink.new ≡ []) }
     ensures more { HasOneMore tally.old tally.new }
 {
     flush_before_wait(lines, sink)?;
@@ -51,6 +54,7 @@ pub(crate) fn take_line<D, A: AnswersBeside<D>, S: Source, K: Sink>(
 /// Flushes the sink where the next line isn't held yet, so that reading it may wait.
 fn flush_before_wait<S: Source, K: Sink>(lines: &Lines<S>, sink: &mut K) -> Result<(), SinkFault>
     ensures holds { Keeps (K.holds sink.old) (K.holds sink.new) }
+    ensures handed_on { OnOk result ((has_feed (held lines.now) ≡ true) ⊎ (K.back sink.new ≡ [])) }
     ensures cause { HasSinkCause K.faults K.wants sink.old sink.new result }
 {
     if lines.holds_line() {
@@ -77,6 +81,7 @@ fn give_reply<D, A: AnswersBeside<D>, K: Sink>(
         (λ state. A.stands state answerer.new lent.new)
         (K.holds sink.old) (K.holds sink.new) tally.old tally.new text result }
     ensures cause { HasSinkCause K.faults K.wants sink.old sink.new result }
+    ensures handed_on { IfOk result (λ more. more ≡ false → K.back sink.new ≡ []) }
     ensures more { HasOneMore tally.old tally.new }
 {
     if answerer.answer_beside(lent, line, sink, tally)? {

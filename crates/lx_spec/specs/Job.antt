@@ -15,7 +15,7 @@ use Rattle.lx_spec.specs.CutInput.{first_lines}
 use Rattle.lx_spec.specs.FaultLine.{over_show}
 use Rattle.lx_spec.specs.CheckOutput.{check_output}
 use Rattle.lx_spec.specs.SheetOutput.{sheet_output}
-use Rattle.lx_spec.specs.RenderOutput.{render_output, input_wanted, first_replies, OutputPlacesAreEdits}
+use Rattle.lx_spec.specs.RenderOutput.{render_output, input_lines_wanted, input_wanted, first_replies, OutputPlacesAreEdits}
 use Rattle.lx_spec.specs.MakeOutput.{made_input, make_output}
 use Rattle.lx_spec.specs.SessionOutput.{session_output, session_replies, SessionWants}
 use Rattle.lx_spec.specs.Show.{Show}
@@ -128,6 +128,17 @@ WantsEdits (Crew operators form) bytes places = Unit {0}
 -- the bytes of an input that a show text wants
 abbrev pub show_wanted : List ℕ → List ℕ
 show_wanted bytes = first_lines (lines_read (lines_of bytes)) bytes
+
+-- how many lines of a job's input are wanted
+abbrev pub lines_wanted_of : Job → List ℕ → ℕ
+lines_wanted_of (Check form) bytes = lines_read (lines_of bytes)
+lines_wanted_of (Render form) bytes = input_lines_wanted bytes (reads form bytes)
+lines_wanted_of (Sheet form) bytes = lines_read (lines_of bytes)
+lines_wanted_of (Make n) bytes = 0
+lines_wanted_of (Run universes form) bytes = input_lines_wanted bytes (reads form bytes)
+lines_wanted_of (Undo form) bytes = input_lines_wanted bytes (reads form bytes)
+lines_wanted_of (Two form) bytes = input_lines_wanted bytes (reads form bytes)
+lines_wanted_of (Crew operators form) bytes = lines_read (lines_of bytes)
 
 -- the bytes of a job's input that are wanted
 abbrev pub wanted_of : Job → List ℕ → List ℕ

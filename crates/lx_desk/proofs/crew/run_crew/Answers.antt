@@ -1,7 +1,7 @@
 use Rattle.std.proofs.Common.{refl, IfSome, sym, ◌∙◌, subst}
 use Rattle.lx_desk.specs.Crew.{HasCrewEnded}
 use Rattle.lx_desk.proofs.CrewRuns.{kept_places}
-use Rattle.lx_desk.proofs.LiveEnds.{refused_words}
+use Rattle.lx_desk.proofs.LiveEnds.{refused_words, refused_live}
 use Rattle.lx_desk.proofs.CrewEnds.{crew_ended, crew_front, refused_ended, refused_front, served_cause}
 use Rattle.lx_desk.proofs.crew.run_crew.Goals as goal
 
@@ -20,7 +20,11 @@ returns-in-Ok-clause-cause g c = served_cause _ c.serve.result _ _ _ _ _ _ _ c.s
 
 pub returns-in-Err-clause-words : goal.returns-in-Err-clause-words
 returns-in-Err-clause-words g c =
-    (refused_words _ _ c.in-Err.fault c.refuse.result c.refuse.ensures.refused, kept_places _ _ _ refl c.requires.full)
+    (
+      refused_words _ _ c.in-Err.fault c.refuse.result c.refuse.ensures.refused,
+      refused_live _ _ c.in-Err.fault c.refuse.result c.refuse.ensures.refused,
+      kept_places _ _ _ refl c.requires.full,
+    )
 
 pub returns-in-Err-clause-ended : goal.returns-in-Err-clause-ended
 returns-in-Err-clause-ended g c =

@@ -5,6 +5,8 @@ use Rattle.lx_desk.specs.ScriptAnswers.{by_desk}
 use Rattle.lx_desk.specs.Endings.{EndsScript, HasPlayed, HasCauseOf}
 use Rattle.lx_desk.proofs.Inputs.{nothing_answered}
 use Rattle.lx_desk.proofs.Statuses.{answered_front, has_played, ends_script, has_cause}
+use Rattle.lx_desk.specs.Finished.{Finishes, HasWanted}
+use Rattle.lx_desk.proofs.Finishing.{session_finishes, session_wants}
 use Rattle.lx_desk.proofs.play.play.Goals as goal
 
 pub returns-in_default-clause-ended : goal.returns-in_default-clause-ended
@@ -33,3 +35,15 @@ returns-clause-cause g c =
     subst (λ s. HasCauseOf s (g.S.Source.faults c.args.lines.now.source.now) (g.S.Source.faults c.session.new.lines.source.now)
     (g.K.Sink.faults c.args.output.now) (g.K.Sink.faults c.session.new.sink)) (sym c.status_of.ensures)
     (has_cause g.S.Source.faults g.K.Sink.faults g.K.Sink.wants _ _ _ _ c.session.result c.session.ensures.cause)
+
+pub returns-clause-finished : goal.returns-clause-finished
+returns-clause-finished g c =
+    subst (λ s. Finishes (g.S.Source.faults c.args.lines.now.source.now) (g.S.Source.faults c.session.new.lines.source.now)
+    g.K.Sink.faults g.K.Sink.wants g.K.Sink.back c.args.output.now c.session.new.sink s) (sym c.status_of.ensures)
+    (session_finishes g.S.Source.faults g.K.Sink.faults g.K.Sink.wants g.K.Sink.back _ _ _ _ c.session.result c.session.ensures.cause
+    c.session.ensures.handed_on)
+
+pub returns-clause-memory : goal.returns-clause-memory
+returns-clause-memory g c =
+    subst (λ s. HasWanted g.K.Sink.wants c.args.output.now c.session.new.sink s) (sym c.status_of.ensures)
+    (session_wants g.S.Source.faults g.K.Sink.faults g.K.Sink.wants _ _ _ _ c.session.result c.session.ensures.cause)

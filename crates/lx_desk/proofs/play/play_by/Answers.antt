@@ -4,6 +4,8 @@ use Rattle.lx_desk.specs.ScriptAnswers.{by_session}
 use Rattle.lx_desk.specs.Endings.{EndsScript, HasPlayed, HasCauseOf}
 use Rattle.lx_desk.proofs.SessionFronts.{answered_front_by, has_played_by}
 use Rattle.lx_desk.proofs.Statuses.{ends_script, has_cause}
+use Rattle.lx_desk.specs.Finished.{Finishes, HasWanted}
+use Rattle.lx_desk.proofs.Finishing.{session_finishes, session_wants}
 use Rattle.lx_desk.proofs.play.play_by.Goals as goal
 
 pub returns-clause-works : goal.returns-clause-works
@@ -27,3 +29,15 @@ returns-clause-cause g c =
     subst (λ s. HasCauseOf s (source_faults g.S.Source.faults c.args.lines.now) (source_faults g.S.Source.faults c.answer_lines.new.lines)
     (g.K.Sink.faults c.args.output.now) (g.K.Sink.faults c.answer_lines.new.sink)) (sym c.status_of.ensures)
     (has_cause g.S.Source.faults g.K.Sink.faults g.K.Sink.wants _ _ _ _ c.answer_lines.result c.answer_lines.ensures.cause)
+
+pub returns-clause-finished : goal.returns-clause-finished
+returns-clause-finished g c =
+    subst (λ s. Finishes (source_faults g.S.Source.faults c.args.lines.now) (source_faults g.S.Source.faults c.answer_lines.new.lines)
+    g.K.Sink.faults g.K.Sink.wants g.K.Sink.back c.args.output.now c.answer_lines.new.sink s) (sym c.status_of.ensures)
+    (session_finishes g.S.Source.faults g.K.Sink.faults g.K.Sink.wants g.K.Sink.back _ _ _ _ c.answer_lines.result
+    c.answer_lines.ensures.cause c.answer_lines.ensures.handed_on)
+
+pub returns-clause-memory : goal.returns-clause-memory
+returns-clause-memory g c =
+    subst (λ s. HasWanted g.K.Sink.wants c.args.output.now c.answer_lines.new.sink s) (sym c.status_of.ensures)
+    (session_wants g.S.Source.faults g.K.Sink.faults g.K.Sink.wants _ _ _ _ c.answer_lines.result c.answer_lines.ensures.cause)

@@ -1,10 +1,12 @@
-use Rattle.std.proofs.Common.{sym, ◌∙◌, subst, IfSome}
+use Rattle.std.proofs.Common.{sym, ap, ◌∙◌, subst, IfSome}
 use Rattle.lx_spec.specs.declared.Job.TheVariants.{Sheet}
 use Rattle.lx_spec.specs.SheetOutput.{sheet_text}
 use Rattle.lx_desk.specs.declared.desk.Status.TheVariants as status
 use Rattle.lx_desk.specs.Endings.{HasEnded}
 use Rattle.lx_desk.proofs.Inputs.{told_prefix, refusal_front, sheet_tells}
 use Rattle.lx_desk.proofs.Endings.{told_ends, told_ended, refusal_ends, refusal_ended}
+use Rattle.lx_desk.specs.Finished.{IsDone, Finishes}
+use Rattle.lx_desk.proofs.Finishing.{after_reads, refusal_reads}
 use Rattle.lx_desk.proofs.sheet.sheet.Goals as goal
 
 pub returns-in-Ok-clause-works : goal.returns-in-Ok-clause-works
@@ -36,3 +38,20 @@ returns-in-Err-clause-ended g c =
 pub returns-in-Err-clause-prefix : goal.returns-in-Err-clause-prefix
 returns-in-Err-clause-prefix g c = refusal_front c.args.form (Sheet c.args.form) ((sheet_tells c.args.form).over) _ c.new-lines.result
     c.read_show.new.lines _ _ _ c.in-Err.fault _ c.new-lines.ensures.unread c.in-Err.ensures.answer c.refuse.ensures.refused
+
+pub returns-in-Ok-clause-finished : goal.returns-in-Ok-clause-finished
+returns-in-Ok-clause-finished g c =
+    let same = c.input-1.given.1 (sym (c.in-Ok.ensures.same_reference ∙ c.new-lines.ensures.same_reference)) in
+    let kept = c.in-Ok.ensures.kept (λ odd. cc) ∙ ap g.S.Source.faults c.new-lines.ensures.source in
+    subst (λ v. Finishes (g.S.Source.faults c.args.input.now) (g.S.Source.faults v) g.K.Sink.faults g.K.Sink.wants g.K.Sink.back
+    c.args.output.now c.list.new.output c.list.result) (sym same)
+    (after_reads _ _ _ _ _ _ _ _ c.list.result (λ done. kept) (c.list.ensures.finished (g.S.Source.faults c.read_show.new.lines.source.now)))
+
+pub returns-in-Err-clause-finished : goal.returns-in-Err-clause-finished
+returns-in-Err-clause-finished g c =
+    let same = c.input-1.given.1 (sym (c.in-Err.ensures.same_reference ∙ c.new-lines.ensures.same_reference)) in
+    let kept = λ (done : IsDone c.refuse.result). refusal_reads _ _ c.in-Err.fault c.refuse.result _ _ c.refuse.ensures.refused
+    c.in-Err.ensures.kept done ∙ ap g.S.Source.faults c.new-lines.ensures.source in
+    subst (λ v. Finishes (g.S.Source.faults c.args.input.now) (g.S.Source.faults v) g.K.Sink.faults g.K.Sink.wants g.K.Sink.back
+    c.args.output.now c.refuse.new.output c.refuse.result) (sym same)
+    (after_reads _ _ _ _ _ _ _ _ c.refuse.result kept (c.refuse.ensures.finished (g.S.Source.faults c.read_show.new.lines.source.now)))

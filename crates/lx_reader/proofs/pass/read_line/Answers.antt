@@ -12,7 +12,7 @@ returns-in-Ok-clause-turn g c =
     line_turn g.S.Source.left g.S.Source.faults c.args.lines.now c.advance.new.self (settled c.args.reader.now) (settled c.step.new.self) (Ok c.in-Ok.field-0)
     e.step.0 c.line.result.now c.number.result
     (handed_one g.S.Source.left g.S.Source.faults c.args.lines.now c.advance.new.self e.step.0 e.step.1 e.counted.1 e.counted.0 e.same_reference
-    e.later) (c.line.ensures.line ∙ e.step.2) (c.number.ensures ∙ e.counted.1) c.in-Ok.ensures.outcome
+    e.cause.kept) (c.line.ensures.line ∙ e.step.2) (c.number.ensures ∙ e.counted.1) c.in-Ok.ensures.outcome
 
 pub returns-in-Err-clause-turn : goal.returns-in-Err-clause-turn
 returns-in-Err-clause-turn g c =
@@ -22,7 +22,7 @@ returns-in-Err-clause-turn g c =
     (line_turn g.S.Source.left g.S.Source.faults c.args.lines.now c.advance.new.self (settled c.args.reader.now) (settled c.step.new.self) (Err c.in-Err.fault)
     e.step.0 c.line.result.now c.number.result
     (handed_one g.S.Source.left g.S.Source.faults c.args.lines.now c.advance.new.self e.step.0 e.step.1 e.counted.1 e.counted.0 e.same_reference
-    e.later) (c.line.ensures.line ∙ e.step.2) (c.number.ensures ∙ e.counted.1) c.in-Err.ensures.outcome)
+    e.cause.kept) (c.line.ensures.line ∙ e.step.2) (c.number.ensures ∙ e.counted.1) c.in-Err.ensures.outcome)
 
 pub returns-in-LongLine-clause-turn : goal.returns-in-LongLine-clause-turn
 returns-in-LongLine-clause-turn g c =
@@ -30,7 +30,7 @@ returns-in-LongLine-clause-turn g c =
     long_turn g.S.Source.left g.S.Source.faults c.args.lines.now c.advance.new.self (settled c.args.reader.now) (settled c.args.reader.now) e.step.0
     c.number-in-LongLine.result
     (handed_one g.S.Source.left g.S.Source.faults c.args.lines.now c.advance.new.self e.step.0 e.step.1 e.counted.1 e.counted.0 e.same_reference
-    e.later) e.step.3 (c.number-in-LongLine.ensures ∙ e.counted.1)
+    e.cause.kept) e.step.3 (c.number-in-LongLine.ensures ∙ e.counted.1)
 
 pub returns-in-ReadFault-clause-turn : goal.returns-in-ReadFault-clause-turn
 returns-in-ReadFault-clause-turn g c = let e =

@@ -1,4 +1,4 @@
-use Rattle.std.proofs.Common.{Ok, IfSome, ap, subst, arith}
+use Rattle.std.proofs.Common.{Ok, IfSome, ap, subst, arith, refl, ◌∙◌}
 use Rattle.lx_lex.specs.Unread.{unread}
 use Rattle.lx_session.specs.LineOutcome.{LineOutcome}
 use Rattle.lx_session.specs.ScriptAnswer.{ScriptAnswered}
@@ -18,8 +18,8 @@ script-init g c = record {
     refused = let e = ap (λ t. t.refused) c.new-tally.ensures in omega (arith, e);
     bad = let e = ap (λ t. t.bad) c.new-tally.ensures in omega (arith, e);
   };
-  sink_later = omega arith;
-  wants_later = omega arith;
+  sink_kept = refl;
+  wants_kept = refl;
 }
 
 pub script-preserved : goal.script-preserved
@@ -45,8 +45,8 @@ script-preserved g c =
         refused = omega (arith, number, i.few.refused, e.more.refused);
         bad = omega (arith, number, i.few.bad, e.more.bad);
       };
-      sink_later = omega (arith, e.cause.sink_later, i.sink_later);
-      wants_later = omega (arith, e.cause.wants_later, i.wants_later);
+      sink_kept = c.in_ok-take_line.ensures.cause.kept.1 ∙ i.sink_kept;
+      wants_kept = c.in_ok-take_line.ensures.cause.kept.2 ∙ i.wants_kept;
     }
 
 pub returns-in_err-take_line-clause-outcome : goal.returns-in_err-take_line-clause-outcome

@@ -1,4 +1,4 @@
-use Rattle.std.proofs.Common.{◌≤◌, ◌-◌}
+use Rattle.std.proofs.Common.{◌≡◌, ◌-◌}
 use Rattle.lx_base.specs.declared.TheConstants.{INPUT_BYTES}
 use Rattle.lx_session.specs.LineReply.{IsUpTo}
 use Rattle.lx_session.proofs.SoFar.{SoFar, Passed}
@@ -12,8 +12,8 @@ invariant-script g l = record {
       → SoFar g.A.AnswersBeside.answer_of g.A.AnswersBeside.may_want (λ s. g.A.AnswersBeside.stands s l.answerer l.lent) g.S.Source.left
       g.S.Source.faults l.fn.lines l.lines state l.tally (g.K.Sink.holds l.fn.sink) (g.K.Sink.holds l.sink);
   few : IsUpTo l.lines.number l.tally;
-  sink_later : g.K.Sink.faults l.fn.sink ≤ g.K.Sink.faults l.sink;
-  wants_later : g.K.Sink.wants l.fn.sink ≤ g.K.Sink.wants l.sink;
+  sink_kept : g.K.Sink.faults l.sink ≡ g.K.Sink.faults l.fn.sink;
+  wants_kept : g.K.Sink.wants l.sink ≡ g.K.Sink.wants l.fn.sink;
 }
 
 abbrev pub decreases-script : goal.decreases-script

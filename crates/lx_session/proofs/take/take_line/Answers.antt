@@ -11,7 +11,7 @@ returns-in_err-give_reply-in-Line-clause-outcome g c =
     c.args.lines.now c.advance.new.self (g.K.Sink.holds c.args.sink.now) (g.K.Sink.holds c.flush_before_wait.new.sink)
     (g.K.Sink.holds c.give_reply.new.sink) c.args.tally.now c.give_reply.new.tally e.step.0 c.in_err-give_reply-in-Line.field-0.0
     c.from_residual-in_err-give_reply-in-Line.result c.from_residual-in_err-give_reply-in-Line.ensures
-    (handed_one _ _ _ _ e.step.0 e.step.1 e.counted.1 e.counted.0 e.same_reference e.later) c.flush_before_wait.ensures.holds
+    (handed_one _ _ _ _ e.step.0 e.step.1 e.counted.1 e.counted.0 e.same_reference e.cause.kept) c.flush_before_wait.ensures.holds
     (c.in_err-give_reply-in-Line.ensures.outcome _ (c.line.ensures.line ∙ e.step.2))
 
 pub returns-in_ok-give_reply-in-Line-clause-outcome : goal.returns-in_ok-give_reply-in-Line-clause-outcome
@@ -21,7 +21,7 @@ returns-in_ok-give_reply-in-Line-clause-outcome g c =
     (λ state. g.A.AnswersBeside.stands state c.give_reply.new.answerer c.give_reply.new.lent) g.S.Source.left g.S.Source.faults
     c.args.lines.now c.advance.new.self (g.K.Sink.holds c.args.sink.now) (g.K.Sink.holds c.flush_before_wait.new.sink)
     (g.K.Sink.holds c.give_reply.new.sink) c.args.tally.now c.give_reply.new.tally e.step.0 c.in_ok-give_reply-in-Line.field-0
-    (handed_one _ _ _ _ e.step.0 e.step.1 e.counted.1 e.counted.0 e.same_reference e.later) c.flush_before_wait.ensures.holds
+    (handed_one _ _ _ _ e.step.0 e.step.1 e.counted.1 e.counted.0 e.same_reference e.cause.kept) c.flush_before_wait.ensures.holds
     (c.in_ok-give_reply-in-Line.ensures.outcome _ (c.line.ensures.line ∙ e.step.2))
 
 pub returns-in_err-give_reply-in-LongLine-clause-outcome : goal.returns-in_err-give_reply-in-LongLine-clause-outcome
@@ -33,7 +33,7 @@ returns-in_err-give_reply-in-LongLine-clause-outcome g c =
     (g.K.Sink.holds c.give_reply-in-LongLine.new.sink) c.args.tally.now c.give_reply-in-LongLine.new.tally e.step.0
     c.in_err-give_reply-in-LongLine.field-0.0 c.from_residual-in_err-give_reply-in-LongLine.result
     c.from_residual-in_err-give_reply-in-LongLine.ensures
-    (handed_one _ _ _ _ e.step.0 e.step.1 e.counted.1 e.counted.0 e.same_reference e.later) c.flush_before_wait.ensures.holds
+    (handed_one _ _ _ _ e.step.0 e.step.1 e.counted.1 e.counted.0 e.same_reference e.cause.kept) c.flush_before_wait.ensures.holds
     (c.in_err-give_reply-in-LongLine.ensures.outcome _ e.step.3)
 
 pub returns-in_ok-give_reply-in-LongLine-clause-outcome : goal.returns-in_ok-give_reply-in-LongLine-clause-outcome
@@ -44,7 +44,7 @@ returns-in_ok-give_reply-in-LongLine-clause-outcome g c =
     g.S.Source.faults c.args.lines.now c.advance.new.self (g.K.Sink.holds c.args.sink.now) (g.K.Sink.holds c.flush_before_wait.new.sink)
     (g.K.Sink.holds c.give_reply-in-LongLine.new.sink) c.args.tally.now c.give_reply-in-LongLine.new.tally e.step.0
     c.in_ok-give_reply-in-LongLine.field-0
-    (handed_one _ _ _ _ e.step.0 e.step.1 e.counted.1 e.counted.0 e.same_reference e.later) c.flush_before_wait.ensures.holds
+    (handed_one _ _ _ _ e.step.0 e.step.1 e.counted.1 e.counted.0 e.same_reference e.cause.kept) c.flush_before_wait.ensures.holds
     (c.in_ok-give_reply-in-LongLine.ensures.outcome _ e.step.3)
 
 pub returns-in_err-flush-in-End-clause-outcome : goal.returns-in_err-flush-in-End-clause-outcome
@@ -54,7 +54,7 @@ returns-in_err-flush-in-End-clause-outcome g c =
     c.args.lines.now c.advance.new.self (g.K.Sink.holds c.args.sink.now) (g.K.Sink.holds c.flush_before_wait.new.sink)
     (g.K.Sink.holds c.flush.new.self) c.args.tally.now c.args.tally.now c.in_err-flush-in-End.field-0.0
     c.from_residual-in_err-flush-in-End.result c.from_residual-in_err-flush-in-End.ensures c.flush_before_wait.ensures.holds
-    c.flush.ensures.holds e.step.0 (e.at_end refl)
+    c.flush.ensures.holds e.step.0 e.ended
 
 pub returns-in-ReadFault-clause-outcome : goal.returns-in-ReadFault-clause-outcome
 returns-in-ReadFault-clause-outcome g c =

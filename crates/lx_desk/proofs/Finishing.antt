@@ -1,0 +1,94 @@
+-- What the end of a job says of the counts and of what is kept back, from the ends of its calls.
+use Rattle.std.proofs.Common.{◌≡◌, ◌⊎◌, inl, inr, ℕ, Result, Ok, Err, OnOk, Option, List, [], ◌∙◌, sym}
+use Rattle.std.specs.Prelude.{◌≢◌}
+use Rattle.lx_lex.specs.declared.lines.Lines.{Lines}
+use Rattle.lx_spec.specs.declared.TextFault.{TextFault}
+use Rattle.lx_spec.specs.declared.TextFault.TheVariants as texts_of
+use Rattle.lx_reader.specs.declared.fault.ShowFault.{ShowFault}
+use Rattle.lx_reader.specs.declared.fault.ShowFault.TheVariants as shows
+use Rattle.lx_reader.specs.LineFaults.{show_fault}
+use Rattle.lx_session.specs.declared.fault.SessionFault.{SessionFault}
+use Rattle.lx_session.specs.declared.fault.SessionFault.TheVariants as faults
+use Rattle.lx_session.specs.declared.tally.Tally.{Tally}
+use Rattle.lx_session.specs.SessionOutcome.{HasSessionCause}
+use Rattle.lx_desk.specs.declared.desk.Status.{Status}
+use Rattle.lx_desk.specs.declared.desk.Status.TheVariants as status
+use Rattle.lx_desk.specs.Faults.{status_for}
+use Rattle.lx_desk.specs.ShowRefusal.{RefusedBy, status_kept}
+use Rattle.lx_desk.specs.Finished.{IsDone, Finishes, HasWanted}
+use Rattle.lx_desk.proofs.Inputs.{kept_is}
+
+-- a status that isn't that of a job that was done
+pub not_done : {K : Type 0} (reads reads' : ℕ) (writes wants : K → ℕ) (back : K → List ℕ) (output output' : K) (s : Status) → (IsDone s → ⊥)
+    → Finishes reads reads' writes wants back output output' s
+not_done reads reads' writes wants back output output' s no = record {
+  reads_kept = λ done. absurd (no done);
+  writes_kept = λ done. absurd (no done);
+  wants_kept = λ done. absurd (no done);
+  handed_on = λ done. absurd (no done);
+}
+
+pub all_done : {K : Type 0} (reads reads' : ℕ) (writes wants : K → ℕ) (back : K → List ℕ) (output output' : K) (s : Status) → reads' ≡ reads
+    → writes output' ≡ writes output → wants output' ≡ wants output → back output' ≡ []
+    → Finishes reads reads' writes wants back output output' s
+all_done reads reads' writes wants back output output' s read write want back_none = record {
+  reads_kept = λ done. read;
+  writes_kept = λ done. write;
+  wants_kept = λ done. want;
+  handed_on = λ done. back_none;
+}
+
+-- after reads of which none failed, where it was done
+pub after_reads : {K : Type 0} (reads reads' reads'' : ℕ) (writes wants : K → ℕ) (back : K → List ℕ) (output output' : K) (s : Status)
+    → (IsDone s → reads' ≡ reads) → Finishes reads' reads'' writes wants back output output' s
+    → Finishes reads reads'' writes wants back output output' s
+after_reads reads reads' reads'' writes wants back output output' s before f = record {
+  reads_kept = λ done. f.reads_kept done ∙ before done;
+  writes_kept = f.writes_kept;
+  wants_kept = f.wants_kept;
+  handed_on = f.handed_on;
+}
+
+-- a session
+pub session_finishes : {S K : Type 0} (reads : S → ℕ) (writes wants : K → ℕ) (back : K → List ℕ) (old new : Lines S) (sink sink' : K)
+    (r : Result Tally SessionFault) → HasSessionCause reads writes wants old new sink sink' r → OnOk r (back sink' ≡ [])
+    → Finishes (reads old.source.now) (reads new.source.now) writes wants back sink sink' (status_for r)
+session_finishes reads writes wants back old new sink sink' (Ok tally) c none =
+    all_done (reads old.source.now) (reads new.source.now) writes wants back sink sink' status.Ok c.kept.0 c.kept.1 c.kept.2 none
+session_finishes reads writes wants back old new sink sink' (Err faults.ReadFault) c none =
+    not_done (reads old.source.now) (reads new.source.now) writes wants back sink sink' status.ReadFault (λ done. done)
+session_finishes reads writes wants back old new sink sink' (Err faults.WriteFault) c none =
+    not_done (reads old.source.now) (reads new.source.now) writes wants back sink sink' status.WriteFault (λ done. done)
+session_finishes reads writes wants back old new sink sink' (Err faults.InputTooLong) c none =
+    not_done (reads old.source.now) (reads new.source.now) writes wants back sink sink' status.InputTooLong (λ done. done)
+session_finishes reads writes wants back old new sink sink' (Err faults.Memory) c none =
+    not_done (reads old.source.now) (reads new.source.now) writes wants back sink sink' status.Memory (λ done. done)
+
+pub session_wants : {S K : Type 0} (reads : S → ℕ) (writes wants : K → ℕ) (old new : Lines S) (sink sink' : K)
+    (r : Result Tally SessionFault) → HasSessionCause reads writes wants old new sink sink' r → HasWanted wants sink sink' (status_for r)
+session_wants reads writes wants old new sink sink' (Ok tally) c = λ is. cc
+session_wants reads writes wants old new sink sink' (Err faults.ReadFault) c = λ is. cc
+session_wants reads writes wants old new sink sink' (Err faults.WriteFault) c = λ is. cc
+session_wants reads writes wants old new sink sink' (Err faults.InputTooLong) c = λ is. cc
+session_wants reads writes wants old new sink sink' (Err faults.Memory) c = λ is. inr c.failed
+
+-- a show that isn't read
+pub text_isnt_read : (text : TextFault) → show_fault text ≡ shows.ReadFault → ⊥
+text_isnt_read (texts_of.NoIdent i) is = cc
+text_isnt_read (texts_of.BadNumber i) is = cc
+text_isnt_read (texts_of.OutOfRange i) is = cc
+text_isnt_read (texts_of.NotInRecord i) is = cc
+text_isnt_read (texts_of.LineTooLong i) is = cc
+text_isnt_read (texts_of.ShortList i) is = cc
+text_isnt_read (texts_of.NoEndData i) is = cc
+
+pub other_not_done : (fault : ShowFault) (s : Status) → status_kept fault s → IsDone s → ⊥
+other_not_done fault s kept = kept_is fault s (λ f t. IsDone t → ⊥) kept (λ done. done) (λ done. done) (λ done. done)
+
+-- where its line was written, no read had failed
+pub refusal_reads : {A : Type 0} (h h' : Option (List ℕ)) (fault : ShowFault) (s : Status) (reads reads' : ℕ) → RefusedBy h h' fault s
+    → (Err {A = A} fault ≢ Err shows.ReadFault → reads' ≡ reads) → IsDone s → reads' ≡ reads
+refusal_reads h h' fault s reads reads' by kept done = elim by [
+  | inl text ↦ kept (λ is. let same : fault ≡ shows.ReadFault = cc in text_isnt_read text.text (sym text.told ∙ same))
+  | inr other ↦ absurd (other_not_done fault s other.is done)
+]
