@@ -25,6 +25,7 @@ pub struct OperatorFile<'r, R> {
     operator: u8,
     file: Option<File>,
     faults: u64,
+    given: usize,
 }
 
 impl<'r, R: Files<File = File>> OperatorFile<'r, R> {
@@ -36,6 +37,7 @@ impl<'r, R: Files<File = File>> OperatorFile<'r, R> {
             operator,
             file: None,
             faults: 0,
+            given: 0,
         }
     }
 
@@ -65,9 +67,14 @@ impl<R: Files<File = File>> Source for OperatorFile<'_, R> {
 
     ghost faults = { λ s. s.faults };
 
+    ghost given = { λ s. s.given };
+
     fn read(&mut self, buf: &mut [u8]) -> Result<usize, Failed> {
         match self.take(buf) {
-            Ok(count) => Ok(count),
+            Ok(count) => {
+                self.given = count;
+                Ok(count)
+            }
             Err(_) => {
                 self.faults = self.faults.saturating_add(1);
                 Err(Failed)

@@ -1,6 +1,7 @@
 //! The outlets of the program's live runs: a file for each universe.
 
-ghost use Rattle.std.specs.Prelude.{◌≡◌, ◌≤◌, length, IfOk, None, IsSome};
+ghost use Rattle.std.specs.Prelude.{◌≡◌, ◌≤◌, [], length, IfOk, None, IsSome};
+ghost use Rattle.lx_io.specs.Causes.{Rose};
 ghost use Rattle.lx_base.specs.declared.TheConstants.{UNIVERSES};
 ghost use Rattle.lx_files.specs.Places.{AreFilled};
 
@@ -19,7 +20,7 @@ const LINE_ROOM: usize = 8_192;
 pub const OUTLETS: usize = UNIVERSES as usize;
 
 /// The file `universe-U.txt` in the current folder. It is made anew at its first write, so that a named pipe of that name is
-/// opened then; and each line is handed on by one write, once it is whole.
+/// opened then; and each line, which a worker flushes, is handed on by one write.
 #[derive(Drop)]
 pub struct UniverseFile<'r, R> {
     rt: &'r R,
@@ -50,7 +51,7 @@ impl<'r, R: Files<File = File>> UniverseFile<'r, R> {
         BufWriter::with_capacity(self.alloc, LINE_ROOM, file)
     }
 
-    /// Writes a piece, and hands on what was written where the piece ends a line.
+    /// Takes a piece, which waits in the file's own room until it is handed on.
     fn put(&mut self, piece: &[u8]) -> io::Result<usize>
         ensures bound { IfOk result (λ n. n ≤ length piece.now) }
         ensures faults { self.new.faults ≡ self.old.faults }
@@ -60,24 +61,47 @@ impl<'r, R: Files<File = File>> UniverseFile<'r, R> {
             Some(writer) => writer,
             None => self.open()?,
         };
-        let written = put_piece(&mut writer, piece);
+        let written = writer.write(piece);
         self.writer = Some(writer);
         written
     }
-}
 
-fn put_piece(writer: &mut BufWriter<File>, piece: &[u8]) -> io::Result<usize>
-    ensures { IfOk result (λ n. n ≤ length piece.now) }
-{
-    let count = writer.write(piece)?;
-    if piece[..count].ends_with(b"\n") {
-        writer.flush()?;
+    /// Hands on what waits.
+    fn hand_on(&mut self) -> io::Result<()>
+        ensures faults { self.new.faults ≡ self.old.faults }
+        ensures wants { self.new.wants ≡ self.old.wants }
+    {
+        match self.writer.take() {
+            Some(mut writer) => {
+                let handed_on = writer.flush();
+                self.writer = Some(writer);
+                handed_on
+            }
+            None => Ok(()),
+        }
     }
-    Ok(count)
+
+    /// Counts an error that the file told, and says which it is.
+    fn fail(&mut self, error: &io::Error) -> SinkFault
+        ensures later { self.old.faults ≤ self.new.faults }
+        ensures wants_later { self.old.wants ≤ self.new.wants }
+        ensures failed { result ≡ SinkFault.Failed → Rose self.old.faults self.new.faults }
+        ensures memory { result ≡ SinkFault.Memory → Rose self.old.wants self.new.wants }
+    {
+        if error.kind() == io::ErrorKind::OutOfMemory {
+            self.wants = self.wants.saturating_add(1);
+            return SinkFault::Memory;
+        }
+        self.faults = self.faults.saturating_add(1);
+        SinkFault::Failed
+    }
 }
 
 impl<R: Files<File = File>> Sink for UniverseFile<'_, R> {
     ghost holds = { λ _. None };
+
+    // What waits in the file's own room no contract sees: `flush` has it handed on.
+    ghost back = { λ _. [] };
 
     ghost faults = { λ s. s.faults };
 
@@ -86,14 +110,18 @@ impl<R: Files<File = File>> Sink for UniverseFile<'_, R> {
     fn write(&mut self, piece: &[u8]) -> Result<usize, SinkFault> {
         match self.put(piece) {
             Ok(count) if count > 0 => Ok(count),
-            Err(fault) if fault.kind() == io::ErrorKind::OutOfMemory => {
-                self.wants = self.wants.saturating_add(1);
-                Err(SinkFault::Memory)
-            }
-            _ => {
+            Ok(_) => {
                 self.faults = self.faults.saturating_add(1);
                 Err(SinkFault::Failed)
             }
+            Err(error) => Err(self.fail(&error)),
+        }
+    }
+
+    fn flush(&mut self) -> Result<(), SinkFault> {
+        match self.hand_on() {
+            Ok(()) => Ok(()),
+            Err(error) => Err(self.fail(&error)),
         }
     }
 }
