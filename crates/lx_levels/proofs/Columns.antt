@@ -1,13 +1,13 @@
 -- Stacks laid out plane by plane.
-use Rattle.std.specs.Prelude.{◌≡◌, ◌≢◌, ◌⊎◌, ℕ, zero, suc, ◌+◌, ◌-◌, ◌*◌, ◌<◌, ◌≤◌, List, [], ◌∷◌, ◌++◌, drop, length, min, reverse, take}
+use Rattle.std.specs.Prelude.{◌≡◌, ◌≢◌, ◌⊎◌, ℕ, zero, suc, ◌+◌, ◌-◌, ◌*◌, ◌<◌, ◌≤◌, List, [], ◌∷◌, drop, length, min}
 use Rattle.std.proofs.Common.{arith, get_or, set, replicate, refl, ◌∙◌, ap, sym, subst, inl, inr}
 use Rattle.std.specs.List.{All}
 use Rattle.std.proofs.Math.ListN.{length-set}
 use Rattle.std.proofs.Math.Nat.{mul-le-mul_right}
 use Rattle.std.proofs.lemmas.Bool.{cases_eq, cases_lt}
 use Rattle.std.proofs.lemmas.Grind.{get_or-set_at}
-use Rattle.std.proofs.lemmas.List.{get_or-set_other, get_or_default, same_lists, get_or_past, get_or-replicate, length-drop, length-reverse}
-use Rattle.std.proofs.lemmas.List.{length-take-le, take_more, reverse-append, set-set}
+use Rattle.std.proofs.lemmas.List.{get_or-set_other, get_or_default, same_lists, get_or_past, get_or-replicate, length-drop}
+use Rattle.std.proofs.lemmas.List.{set-set}
 use Rattle.std.proofs.lemmas.List.FromFn.{length-map-range_with_len, get_or-map-range_with_len}
 use Rattle.lx_fade.specs.Fades.{Fade, fade_at, stack_at, begun_by}
 use Rattle.lx_fade.proofs.PushedFades.{stack_at-pushed}
@@ -242,31 +242,7 @@ pub pushed_few : (old new : List Stack) (k kept : ℕ) (fade : Fade) → k < len
 pushed_few old new k kept fade within le is =
     ap (λ (s : Stack). length s.fades) (set_is_there old new k _ within is).0 ∙ length-put kept fade (get_or old k no_stack).fades le
 
--- so many of the oldest fades of a stack were put on another after another
-pub stored_next : (old now next : List Stack) (k j bottom : ℕ) (fades : List Fade) (fade : Fade) → k < length old → j < length fades
-    → now ≡ set old k (record { bottom = bottom; fades = reverse (take j fades) })
-    → fade ≡ get_or fades j fade
-    → next ≡ set now k (record (get_or now k no_stack) {
-      fades = fade ∷ drop (length (get_or now k no_stack).fades - j)
-          (get_or now k no_stack).fades;
-    })
-    → next ≡ set old k (record { bottom = bottom; fades = reverse (take (j + 1) fades) })
-stored_next old now next k j bottom fades fade within less is read put =
-    let part : Stack = record { bottom = bottom; fades = reverse (take j fades) } in
-    let here : get_or now k no_stack ≡ part = (set_is_there old now k part within is).0 in
-    let long : length (reverse (take j fades)) ≡ j = length-reverse (take j fades) ∙ length-take-le j fades (omega arith) in
-    let none : length (reverse (take j fades)) - j ≡ 0 = omega (arith, long) in
-    put
-    ∙ ap (λ (s : Stack). set now k (record s { fades = fade ∷ drop (length s.fades - j) s.fades })) here
-    ∙ ap (λ n. set now k (record { bottom = bottom; fades = fade ∷ drop n (reverse (take j fades)) })) none
-    ∙ ap (λ (fs : List Fade). set now k (record { bottom = bottom; fades = fs }))
-    (sym (ap reverse (take_more fades j fade less ∙ ap (λ f. take j fades ++ f ∷ []) (sym read)) ∙ reverse-append (take j fades)
-    (fade ∷ [])))
-    ∙ ap (λ (ss : List Stack). set ss k (record { bottom = bottom; fades = reverse (take (j + 1) fades) })) is
-    ∙ set-set old k part (record { bottom = bottom; fades = reverse (take (j + 1) fades) })
-
-pub stored_length : (old now : List Stack) (k j bottom : ℕ) (fades : List Fade) → k < length old → j ≤ length fades
-    → now ≡ set old k (record { bottom = bottom; fades = reverse (take j fades) })
-    → length (get_or now k no_stack).fades ≡ j
-stored_length old now k j bottom fades within le is =
-    ap (λ (s : Stack). length s.fades) (set_is_there old now k _ within is).0 ∙ length-reverse (take j fades) ∙ length-take-le j fades le
+-- a place is written again
+pub set_again : (old now new : List Stack) (k : ℕ) (stack after : Stack) → now ≡ set old k stack → new ≡ set now k after
+    → new ≡ set old k after
+set_again old now new k stack after is next = next ∙ ap (λ (ss : List Stack). set ss k after) is ∙ set-set old k stack after

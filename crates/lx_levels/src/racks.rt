@@ -13,7 +13,6 @@ ghost use Rattle.lx_levels.specs.CurrentFades.{Governs};
 ghost use Rattle.lx_levels.specs.Columns.{column};
 
 use crate::current::Current;
-use crate::stack::Stack;
 use lx_base::{Cs, Level, Moment, RUNS};
 use lx_fade::{Fade, NEVER, value_at};
 use std::alloc::{AllocError, Global};
@@ -139,19 +138,6 @@ impl Racks {
             target,
         };
         self.put(k, kept, fade);
-    }
-
-    /// The channel's stack becomes this one.
-    pub(crate) fn store(&mut self, k: usize, stack: &Stack)
-        requires within { k < length self.old }
-        requires few { length stack.now.fades ≤ RUNS }
-        ensures { self.new ≡ slice_set self.old k stack.now }
-    {
-        self.restart(k, stack.bottom());
-        let fades = stack.fades();
-        for j in 0..fades.len() {
-            self.put(k, j, fades[j]);
-        }
     }
 
     /// The fade that gives the channel's level from the moment on, until a later one begins.
