@@ -1,3 +1,4 @@
 pub mod PushedFades
 pub mod RunStacks
+pub mod Rows
 pub mod Stacks

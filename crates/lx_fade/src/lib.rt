@@ -9,4 +9,4 @@ mod stack;
 
 pub use fade::{Fade, value_at};
 pub use held::{Held, NEVER, held_at};
-pub use stack::{push_fade, value};
+pub use stack::{Column, Push, push_fade, push_in, value, value_in};

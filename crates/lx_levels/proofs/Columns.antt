@@ -1,31 +1,23 @@
 -- Stacks laid out plane by plane.
-use Rattle.std.specs.Prelude.{◌≡◌, ◌≢◌, ◌⊎◌, ℕ, zero, suc, ◌+◌, ◌-◌, ◌*◌, ◌<◌, ◌≤◌, List, [], ◌∷◌, ◌++◌, drop, length, min, reverse, take}
+use Rattle.std.specs.Prelude.{◌≡◌, ◌≢◌, ◌⊎◌, ℕ, zero, suc, ◌+◌, ◌-◌, ◌*◌, ◌<◌, ◌≤◌, List, [], ◌∷◌, drop, length, min}
 use Rattle.std.proofs.Common.{arith, get_or, set, replicate, refl, ◌∙◌, ap, sym, subst, inl, inr}
 use Rattle.std.specs.List.{All}
 use Rattle.std.proofs.Math.ListN.{length-set}
-use Rattle.std.proofs.Math.Nat.{mul-le-mul_right}
 use Rattle.std.proofs.lemmas.Bool.{cases_eq, cases_lt}
 use Rattle.std.proofs.lemmas.Grind.{get_or-set_at}
-use Rattle.std.proofs.lemmas.List.{get_or-set_other, get_or_default, same_lists, get_or_past, get_or-replicate, length-drop, length-reverse}
-use Rattle.std.proofs.lemmas.List.{length-take-le, take_more, reverse-append, set-set}
+use Rattle.std.proofs.lemmas.List.{get_or-set_other, get_or_read, same_lists, get_or_past, get_or-replicate, length-drop}
+use Rattle.std.proofs.lemmas.List.{set-set}
 use Rattle.std.proofs.lemmas.List.FromFn.{length-map-range_with_len, get_or-map-range_with_len}
-use Rattle.lx_fade.specs.Fades.{Fade, fade_at, stack_at, begun_by}
+use Rattle.lx_fade.specs.Fades.{Fade, stack_at, pushed}
+use Rattle.lx_fade.specs.Row.{column, no_fade}
+use Rattle.lx_fade.proofs.Rows.{drop-column, in_block}
 use Rattle.lx_fade.proofs.PushedFades.{stack_at-pushed}
 use Rattle.lx_spec.specs.Level.{fade_over}
 use Rattle.lx_fade.specs.declared.held.TheConstants.{NEVER}
-use Rattle.lx_spec.proofs.Comparisons.{lt_false, lt_true}
 use Rattle.lx_sheet.proofs.Cells.{places_apart}
 use Rattle.lx_levels.specs.declared.racks.Racks.TheInside.{Inside}
 use Rattle.lx_levels.specs.Stacks.{Stack, level_in, no_stack}
-use Rattle.lx_levels.specs.Columns.{column, no_fade, stack_at_place, stacks_of}
-
--- the newest fade of a column, and the others
-pub column_step : (block : List Fade) (channels k left : ℕ) → 0 < left
-    → column block channels k left ≡ get_or block ((left - 1) * channels + k) no_fade ∷ column block channels k (left - 1)
-column_step block channels k zero some = absurd (omega arith)
-column_step block channels k (suc j) some =
-    let e : j ≡ suc j - 1 = omega arith in
-    ap (λ i. get_or block (i * channels + k) no_fade ∷ column block channels k i) e
+use Rattle.lx_levels.specs.Columns.{IsLaidOut, stack_at_place, stacks_of}
 
 pub length-column : (block : List Fade) (channels k n : ℕ) → length (column block channels k n) ≡ n
 length-column block channels k zero = refl
@@ -40,22 +32,6 @@ column_same new old channels k (suc n) same =
     ap (λ f. f ∷ column new channels k n) (same n (omega arith))
     ∙ ap (λ (fs : List Fade). get_or old (n * channels + k) no_fade ∷ fs) (column_same new old channels k n (λ j less. same j
     (omega arith)))
-
--- without the newest
-pub drop-column : (block : List Fade) (channels k n m : ℕ) → m ≤ n → drop (n - m) (column block channels k n) ≡ column block channels k m
-drop-column block channels k zero m le =
-    let e : m ≡ 0 = omega arith in
-    let d : zero - m ≡ 0 = omega arith in
-    ap (λ i. drop i (column block channels k zero)) d ∙ ap (column block channels k) (sym e)
-drop-column block channels k (suc n) m le =
-    elim (cases_eq m (suc n)) [
-      | inl same ↦
-          let d : suc n - m ≡ 0 = omega (arith, same) in
-          ap (λ i. drop i (column block channels k (suc n))) d ∙ ap (column block channels k) (sym same)
-      | inr other ↦
-          let d : suc n - m ≡ suc (n - m) = omega (arith, other) in
-          ap (λ i. drop i (column block channels k (suc n))) d ∙ drop-column block channels k n m (omega (arith, other))
-    ]
 
 -- a fade written at the head of a column, in a block whose entries are those of the one before
 module _ (old grown : List Fade) (channels k kept : ℕ) (fade : Fade) (within : k < channels)
@@ -108,51 +84,6 @@ stacks_set channels bottoms counts after_bottoms after_counts block after k stac
           ∙ sym (get_or-set_other old k i stack d other)
     ])
 
--- the newest fade of a column has begun, or waits
-begun_head : (bottom m : ℕ) (fade : Fade) (older : List Fade) → fade.start ≤ m → stack_at bottom (fade ∷ older) m ≡ fade_at fade m
-begun_head bottom m fade older begun = rw (lt_false m fade.start begun) refl
-
-waits_head : (bottom m : ℕ) (fade : Fade) (older : List Fade) → m < fade.start → stack_at bottom (fade ∷ older) m ≡ stack_at bottom older m
-waits_head bottom m fade older waits = rw (lt_true m fade.start waits) refl
-
-kept_head : (s : ℕ) (fade : Fade) (older : List Fade) → fade.start ≤ s → begun_by s (fade ∷ older) ≡ fade ∷ older
-kept_head s fade older begun = rw (lt_false s fade.start begun) refl
-
-left_head : (s : ℕ) (fade : Fade) (older : List Fade) → s < fade.start → begun_by s (fade ∷ older) ≡ begun_by s older
-left_head s fade older waits = rw (lt_true s fade.start waits) refl
-
-module _ (block : List Fade) (channels k left : ℕ) (fade : Fade) (some : 0 < left)
-    (is : fade ≡ get_or block ((left - 1) * channels + k) no_fade) where
-  newest : column block channels k left ≡ fade ∷ column block channels k (left - 1)
-  newest = column_step block channels k left some ∙ ap (λ f. f ∷ column block channels k (left - 1)) (sym is)
-
-  pub newest_begun : (bottom m : ℕ) → fade.start ≤ m → stack_at bottom (column block channels k left) m ≡ fade_at fade m
-  newest_begun bottom m begun = ap (λ (fs : List Fade). stack_at bottom fs m) newest
-      ∙ begun_head bottom m fade (column block channels k (left - 1)) begun
-
-  pub newest_waits : (bottom m : ℕ) → m < fade.start
-      → stack_at bottom (column block channels k left) m ≡ stack_at bottom (column block channels k (left - 1)) m
-  newest_waits bottom m waits = ap (λ (fs : List Fade). stack_at bottom fs m) newest
-      ∙ waits_head bottom m fade (column block channels k (left - 1)) waits
-
-  pub newest_kept : (s : ℕ) → fade.start ≤ s → begun_by s (column block channels k left) ≡ column block channels k left
-  newest_kept s begun = ap (begun_by s) newest ∙ kept_head s fade (column block channels k (left - 1)) begun ∙ sym newest
-
-  pub newest_left : (s : ℕ) → s < fade.start
-      → begun_by s (column block channels k left) ≡ begun_by s (column block channels k (left - 1))
-  newest_left s waits = ap (begun_by s) newest ∙ left_head s fade (column block channels k (left - 1)) waits
-
--- what is read in a column stands in the block
-pub in_block : (channels k count left : ℕ) (block : List Fade) → k < channels → count * channels ≤ length block → left ≤ count → 0 < left
-    → (left - 1) * channels + k < length block
-in_block channels k count left block within reach most some =
-    let end : (left - 1 + 1) * channels ≤ count * channels = mul-le-mul_right channels (omega arith) in omega (arith, end, reach, within)
-
-pub read_is : (channels k count left : ℕ) (block : List Fade) (fade : Fade) → k < channels → count * channels ≤ length block → left ≤ count
-    → 0 < left → fade ≡ get_or block ((left - 1) * channels + k) fade → fade ≡ get_or block ((left - 1) * channels + k) no_fade
-read_is channels k count left block fade within reach most some is =
-    is ∙ sym (get_or_default block ((left - 1) * channels + k) no_fade fade (in_block channels k count left block within reach most some))
-
 -- before the lesser of a wake and a start that comes
 pub before_lesser : (x wake start lesser : ℕ) → lesser ≡ min wake start → start < NEVER → (x < lesser) ⊎ (lesser ≡ NEVER)
     → ((x < wake) ⊎ (wake ≡ NEVER)) × (x < start)
@@ -185,6 +116,33 @@ stack_read r lent racks k bottom count is within bottom_is count_is same =
     ∙ ap (λ n. record { bottom = bottom; fades = column r.fades.items r.channels k n }) (sym count_is)
     ∙ ap (λ (bs : List Fade). record { bottom = bottom; fades = column bs r.channels k count }) (sym same)
 
+-- by what was read of the level below its fades and of their count
+pub stack_there : (r : Inside) (room : ℕ) (lent : List Fade) (racks : List Stack) (k bottom count : ℕ)
+    → stacks_of r.channels r.bottoms.items r.counts.items r.fades.items ≡ racks
+    → IsLaidOut r.channels r.bottoms.items r.counts.items r.fades.items room → k < length racks
+    → bottom ≡ get_or r.bottoms.items k bottom → count ≡ get_or r.counts.items k count → lent ≡ r.fades.items
+    → get_or racks k no_stack ≡ record { bottom = bottom; fades = column lent r.channels k count }
+stack_there r room lent racks k bottom count is laid within bottom_is count_is same =
+    let place : k < r.channels = place_within r racks k is within in
+    stack_read r lent racks k bottom count is place
+    (get_or_read r.bottoms.items k bottom (omega (arith, place, laid.of_bottoms)) bottom_is 0)
+    (get_or_read r.counts.items k count (omega (arith, place, laid.of_counts)) count_is 0) same
+
+pub reach_there : (r : Inside) (room : ℕ) (lent : List Fade) (racks : List Stack) (k count : ℕ)
+    → stacks_of r.channels r.bottoms.items r.counts.items r.fades.items ≡ racks
+    → IsLaidOut r.channels r.bottoms.items r.counts.items r.fades.items room → k < length racks
+    → count ≡ get_or r.counts.items k count → lent ≡ r.fades.items → count * r.channels ≤ length lent
+reach_there r room lent racks k count is laid within count_is same =
+    let place : k < r.channels = place_within r racks k is within in
+    subst (λ n. n * r.channels ≤ length lent)
+    (sym (get_or_read r.counts.items k count (omega (arith, place, laid.of_counts)) count_is 0))
+    (omega (arith, laid.reach k place, ap length same))
+
+pub kept_there : (channels k bottom count kept : ℕ) (lent : List Fade) (stack : Stack)
+    → stack ≡ record { bottom = bottom; fades = column lent channels k count } → kept ≤ count → kept ≤ length stack.fades
+kept_there channels k bottom count kept lent stack is le =
+    omega (arith, le, ap (λ (s : Stack). length s.fades) is, length-column lent channels k count)
+
 -- none of the channels has a fade, over level 0
 pub opened_empty : (channels : ℕ) (bottoms counts : List ℕ) (block : List Fade) → bottoms ≡ replicate channels 0
     → counts ≡ replicate channels 0 → (k : ℕ) → get_or (stacks_of channels bottoms counts block) k no_stack ≡ no_stack
@@ -200,27 +158,6 @@ opened_empty channels bottoms counts block dark none k =
           (omega (arith, past, length-stacks_of channels bottoms counts block))
     ]
 
--- a fade pushed on those that have begun by its start gives the level of one over the stack
-pub pushed_level : (old new : List Stack) (k kept s time target from m : ℕ) → k < length old
-    → new ≡ set old k (record (get_or old k no_stack) {
-      fades = record { start = s; time = time; from = from; target = target }
-          ∷ drop (length (get_or old k no_stack).fades - kept) (get_or old k no_stack).fades;
-    })
-    → drop (length (get_or old k no_stack).fades - kept) (get_or old k no_stack).fades ≡ begun_by s (get_or old k no_stack).fades
-    → from ≡ level_in (get_or old k no_stack) s
-    → level_in (get_or new k no_stack) m ≡ fade_over (level_in (get_or old k no_stack)) s time target m
-pushed_level old new k kept s time target from m within is stays from_is =
-    let was : Stack = get_or old k no_stack in
-    let here : get_or new k no_stack ≡ record was {
-      fades = record { start = s; time = time; from = from; target = target }
-          ∷ drop (length was.fades - kept) was.fades;
-    } =
-    ap (λ (ss : List Stack). get_or ss k no_stack) is ∙ get_or-set_at old k k _ no_stack refl within in
-    ap (λ (stack : Stack). level_in stack m) here
-    ∙ ap (λ (fs : List Fade). stack_at was.bottom (record { start = s; time = time; from = from; target = target } ∷ fs) m) stays
-    ∙ ap (λ f. stack_at was.bottom (record { start = s; time = time; from = f; target = target } ∷ begun_by s was.fades) m) from_is
-    ∙ stack_at-pushed was.bottom was.fades s time target m
-
 -- what was written at a place is there
 pub set_is_there : (old new : List Stack) (k : ℕ) (stack : Stack) → k < length old → new ≡ set old k stack
     → (get_or new k no_stack ≡ stack) × (new ≡ set old k (get_or new k no_stack))
@@ -228,6 +165,30 @@ set_is_there old new k stack within is =
     let here : get_or new k no_stack ≡ stack =
     ap (λ (ss : List Stack). get_or ss k no_stack) is ∙ get_or-set_at old k k stack no_stack refl within in
     (here, is ∙ ap (set old k) (sym here))
+
+-- a pushed fade gives the level of one over the stack
+pub pushed_here : (block : List Fade) (channels k count kept bottom s time target : ℕ) (fade : Fade) (stack : Stack)
+    → stack ≡ record { bottom = bottom; fades = column block channels k count } → kept ≤ count
+    → fade ∷ column block channels k kept ≡ pushed bottom (column block channels k count) s time target
+    → fade ∷ drop (length stack.fades - kept) stack.fades ≡ pushed stack.bottom stack.fades s time target
+pushed_here block channels k count kept bottom s time target fade stack is le put =
+    let fades : List Fade = column block channels k count in
+    let stays : drop (length fades - kept) fades ≡ column block channels k kept =
+    ap (λ n. drop (n - kept) fades) (length-column block channels k count) ∙ drop-column block channels k count kept le in
+    subst (λ (st : Stack). fade ∷ drop (length st.fades - kept) st.fades ≡ pushed st.bottom st.fades s time target) (sym is)
+    (ap (λ (fs : List Fade). fade ∷ fs) stays ∙ put)
+
+pub pushed_level : (old new : List Stack) (k kept s time target m : ℕ) (fade : Fade) → k < length old
+    → new ≡ set old k (record (get_or old k no_stack) {
+      fades = fade ∷ drop (length (get_or old k no_stack).fades - kept) (get_or old k no_stack).fades;
+    })
+    → fade ∷ drop (length (get_or old k no_stack).fades - kept) (get_or old k no_stack).fades
+    ≡ pushed (get_or old k no_stack).bottom (get_or old k no_stack).fades s time target
+    → level_in (get_or new k no_stack) m ≡ fade_over (level_in (get_or old k no_stack)) s time target m
+pushed_level old new k kept s time target m fade within is pushed_is =
+    let was : Stack = get_or old k no_stack in
+    ap (λ (stack : Stack). level_in stack m) (set_is_there old new k _ within is).0
+    ∙ ap (λ (fs : List Fade). stack_at was.bottom fs m) pushed_is ∙ stack_at-pushed was.bottom was.fades s time target m
 
 length-put : (kept : ℕ) (fade : Fade) (fades : List Fade) → kept ≤ length fades → length (fade ∷ drop
     (length fades - kept) fades) ≡ kept + 1
@@ -242,31 +203,7 @@ pub pushed_few : (old new : List Stack) (k kept : ℕ) (fade : Fade) → k < len
 pushed_few old new k kept fade within le is =
     ap (λ (s : Stack). length s.fades) (set_is_there old new k _ within is).0 ∙ length-put kept fade (get_or old k no_stack).fades le
 
--- so many of the oldest fades of a stack were put on another after another
-pub stored_next : (old now next : List Stack) (k j bottom : ℕ) (fades : List Fade) (fade : Fade) → k < length old → j < length fades
-    → now ≡ set old k (record { bottom = bottom; fades = reverse (take j fades) })
-    → fade ≡ get_or fades j fade
-    → next ≡ set now k (record (get_or now k no_stack) {
-      fades = fade ∷ drop (length (get_or now k no_stack).fades - j)
-          (get_or now k no_stack).fades;
-    })
-    → next ≡ set old k (record { bottom = bottom; fades = reverse (take (j + 1) fades) })
-stored_next old now next k j bottom fades fade within less is read put =
-    let part : Stack = record { bottom = bottom; fades = reverse (take j fades) } in
-    let here : get_or now k no_stack ≡ part = (set_is_there old now k part within is).0 in
-    let long : length (reverse (take j fades)) ≡ j = length-reverse (take j fades) ∙ length-take-le j fades (omega arith) in
-    let none : length (reverse (take j fades)) - j ≡ 0 = omega (arith, long) in
-    put
-    ∙ ap (λ (s : Stack). set now k (record s { fades = fade ∷ drop (length s.fades - j) s.fades })) here
-    ∙ ap (λ n. set now k (record { bottom = bottom; fades = fade ∷ drop n (reverse (take j fades)) })) none
-    ∙ ap (λ (fs : List Fade). set now k (record { bottom = bottom; fades = fs }))
-    (sym (ap reverse (take_more fades j fade less ∙ ap (λ f. take j fades ++ f ∷ []) (sym read)) ∙ reverse-append (take j fades)
-    (fade ∷ [])))
-    ∙ ap (λ (ss : List Stack). set ss k (record { bottom = bottom; fades = reverse (take (j + 1) fades) })) is
-    ∙ set-set old k part (record { bottom = bottom; fades = reverse (take (j + 1) fades) })
-
-pub stored_length : (old now : List Stack) (k j bottom : ℕ) (fades : List Fade) → k < length old → j ≤ length fades
-    → now ≡ set old k (record { bottom = bottom; fades = reverse (take j fades) })
-    → length (get_or now k no_stack).fades ≡ j
-stored_length old now k j bottom fades within le is =
-    ap (λ (s : Stack). length s.fades) (set_is_there old now k _ within is).0 ∙ length-reverse (take j fades) ∙ length-take-le j fades le
+-- a place is written again
+pub set_again : (old now new : List Stack) (k : ℕ) (stack after : Stack) → now ≡ set old k stack → new ≡ set now k after
+    → new ≡ set old k after
+set_again old now new k stack after is next = next ∙ ap (λ (ss : List Stack). set ss k after) is ∙ set-set old k stack after

@@ -1,6 +1,6 @@
 pub mod Entries
 pub mod UnderWay
-pub mod Begun
+pub mod Written
 pub mod AddedRuns
 pub mod HiddenRuns
 pub mod Columns

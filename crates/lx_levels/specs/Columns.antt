@@ -1,20 +1,12 @@
 -- The stacks of all channels, laid out plane by plane in one block: fade j of the channel at place k stands at j * channels + k, so that of
 -- a block with room for many fades a channel only what is used is written.
-use Rattle.std.specs.Prelude.{ℕ, suc, zero, ◌+◌, ◌*◌, ◌<◌, ◌≤◌, ◌≡◌, List, [], ◌∷◌, length, map, slice_index, slice_index_or}
+use Rattle.std.specs.Prelude.{ℕ, ◌*◌, ◌<◌, ◌≤◌, ◌≡◌, List, length, map, slice_index}
 use Rattle.std.specs.List.{All, range_with_len}
 use Rattle.lx_base.specs.declared.TheConstants.{CHANNELS, RUNS}
 use Rattle.lx_fade.specs.declared.held.TheConstants.{NEVER}
 use Rattle.lx_fade.specs.Fades.{Fade}
+use Rattle.lx_fade.specs.Row.{column}
 use Rattle.lx_levels.specs.Stacks.{Stack}
-
--- what stands where no fade is
-abbrev pub no_fade : Fade
-no_fade = record { start = 0; time = 0; from = 0; target = 0 }
-
--- so many of the oldest fades of a channel, the newest of them first
-abbrev pub column : List Fade → ℕ → ℕ → ℕ → List Fade
-column block channels k zero = []
-column block channels k (suc j) = slice_index_or block (j * channels + k) no_fade ∷ column block channels k j
 
 -- the stack of a channel, by the level below its fades and their count
 abbrev pub stack_at_place : ℕ → List ℕ → List ℕ → List Fade → ℕ → Stack

@@ -1,8 +1,5 @@
 -- The stack of fades of each channel, as levels keep them.
-use Rattle.std.specs.Prelude.{ℕ, ◌<◌, ◌≤◌, List, [], slice_index_or}
-use Rattle.std.specs.List.{All}
-use Rattle.lx_base.specs.declared.TheConstants.{RUNS}
-use Rattle.lx_fade.specs.declared.held.TheConstants.{NEVER}
+use Rattle.std.specs.Prelude.{ℕ, List, [], slice_index_or}
 use Rattle.lx_fade.specs.Fades.{Fade, stack_at}
 
 -- fades, the newest first, over the level at which the channel is until one has begun
@@ -16,11 +13,6 @@ level_in stack m = stack_at stack.bottom stack.fades m
 
 abbrev pub no_stack : Stack
 no_stack = record { bottom = 0; fades = [] }
-
--- there is room for the fade of each run that may be live, and each fade begins before NEVER
-pub record IsRoomy (fades : List Fade) (room : ℕ) : Type 0 where
-  pub room_is : RUNS ≤ room
-  pub begin : All (λ f. f.start < NEVER) fades
 
 -- what levels keep: the moment, and the stack of channel c at place c - 1
 pub record Kept : Type 0 where

@@ -2,96 +2,23 @@
 
 ghost use Rattle.std.specs.Prelude.{◌≡◌, ℕ, ◌+◌, ◌<◌, ◌≤◌, true, length, nat_le, reverse, slice_index_or, slice_set, if◌then◌else◌};
 ghost use Rattle.lx_spec.specs.Show.{IsTime};
-ghost use Rattle.std.specs.List.{All};
 ghost use Rattle.lx_base.specs.declared.TheConstants.{RUNS, TICK_END};
 ghost use Rattle.lx_spec.specs.TrackedLevel.{tracked};
 ghost use Rattle.lx_spec.specs.Run.{entry_for, entry_extent};
-ghost use Rattle.lx_spec.specs.Level.{last_cue, level, run_over};
+ghost use Rattle.lx_spec.specs.Level.{last_cue, run_over};
 ghost use Rattle.lx_sheet.specs.SheetMeaning.{RowsStandFor};
 ghost use Rattle.lx_playback.specs.Valid.{ValidRun, ValidTimes};
 ghost use Rattle.lx_levels.specs.Stacks.{level_in, no_stack};
 ghost use Rattle.lx_levels.specs.TimedFades.{timed_over};
 
-use crate::hints::{Hint, acts};
+use crate::hints::Hint;
 use crate::racks::Racks;
-use crate::replay::{Act, ground_of, replay};
-use crate::runs::{delay_of, entry_for, extent_of, time_of};
-use crate::stack::Stack;
+use crate::runs::{delay_of, entry_for, time_of};
 use lx_base::{Chan, Cs, CueNo, Level, Moment};
 use lx_fade::Fade;
-use lx_playback::{PartTimes, Run};
+use lx_playback::{PartTimes, Run, entry_extent};
 use lx_sheet::Sheet;
 use lx_show::Show;
-
-/// Fills in the fades of the channel over the base and the live runs, the newest last, for the moments from
-/// the one given on. What is older than a run whose fade is over by then isn't looked at. The hints are where
-/// the cues of the runs were found last; what each run does is written down for the way forwards.
-pub(crate) fn fill_stack(
-    stack: &mut Stack,
-    show: &Show,
-    sheet: &Sheet,
-    base: CueNo,
-    live: &[Run],
-    from: Moment,
-    c: Chan,
-    hints: &mut [Hint],
-    acts_of: &mut [Option<Act>],
-)
-    requires rows { RowsStandFor show.now sheet.now }
-    requires few { length live.now ≤ RUNS }
-    requires runs { All (ValidRun TICK_END) live.now }
-    requires hints { length hints.old ≡ RUNS }
-    requires acts { length acts_of.old ≡ RUNS }
-    ensures level { (m : ℕ) → from ≤ m → level_in stack.new m ≡ level show.now base (reverse live.now) c m }
-    ensures few { length stack.new.fades ≤ length live.now }
-{
-    match ground_of(show, sheet, base, live, from, c, hints, acts_of) {
-        Some(oldest) => replay(stack, live, acts_of, oldest),
-        None => {
-            let target = level_there(show, sheet, base, live, c, hints);
-            fill_from(stack, show, sheet, base, live, target, from, c, hints);
-        }
-    }
-}
-
-/// The same in whatever order the runs started, where the channel's tracked level at the position is known.
-fn fill_from(
-    stack: &mut Stack,
-    show: &Show,
-    sheet: &Sheet,
-    base: CueNo,
-    live: &[Run],
-    target: Level,
-    from: Moment,
-    c: Chan,
-    hints: &mut [Hint],
-)
-    requires rows { RowsStandFor show.now sheet.now }
-    requires few { length live.now ≤ RUNS }
-    requires runs { All (ValidRun TICK_END) live.now }
-    requires target { target ≡ tracked show.now (last_cue base (reverse live.now)) c }
-    requires hints { length hints.old ≡ RUNS }
-    ensures level { (m : ℕ) → from ≤ m → level_in stack.new m ≡ level show.now base (reverse live.now) c m }
-    ensures few { length stack.new.fades ≤ length live.now }
-{
-    let Some((run, older)) = live.split_last() else {
-        stack.restart(target);
-        return;
-    };
-    let looks = level_there(show, sheet, base, older, c, hints);
-    if !acts(show, run, c, looks, target, &mut hints[older.len()]) {
-        fill_from(stack, show, sheet, base, older, looks, from, c, hints);
-        return;
-    }
-    let entry = times_for(show, run, c);
-    if is_over(run.start, &entry, from) {
-        stack.restart(target);
-    } else {
-        let earlier = from.min(run.start);
-        fill_from(stack, show, sheet, base, older, looks, earlier, c, hints);
-        push_timed(stack, run.start, &entry, target, from);
-    }
-}
 
 /// The channel's tracked level at the cue of the newest run, or at the base.
 #[inline(always)]
@@ -133,55 +60,47 @@ pub(crate) fn is_over(start: Moment, entry: &PartTimes, m: Moment) -> bool
     requires times { ValidTimes entry.now }
     ensures { result ≡ true → start + entry_extent entry.now ≤ m }
 {
-    start + extent_of(entry) <= m
+    start + entry_extent(entry) <= m
 }
 
-/// Pushes the fade of a run that acts on the channel, whose stack stands at a place. The levels are right from a
-/// moment on.
-pub(crate) fn push_run(
-    stacks: &mut Racks,
-    k: usize,
-    show: &Show,
-    run: &Run,
-    c: Chan,
-    target: Level,
-    from: Moment,
-)
+/// Pushes the fade of a run that acts on the channel, whose stack stands at a place.
+pub(crate) fn push_run(stacks: &mut Racks, k: usize, show: &Show, run: &Run, c: Chan, target: Level)
     requires within { k < length stacks.old }
     requires target { target ≡ tracked show.now run.now.cue c }
     requires room { length (slice_index_or stacks.old k no_stack).fades < RUNS }
     requires run { ValidRun TICK_END run.now }
-    ensures level { (m : ℕ) → from ≤ m → level_in (slice_index_or stacks.new k no_stack) m
+    ensures level { (m : ℕ) → run.now.start ≤ m → level_in (slice_index_or stacks.new k no_stack) m
         ≡ run_over show.now (level_in (slice_index_or stacks.old k no_stack)) run.now c m }
     ensures few { length (slice_index_or stacks.new k no_stack).fades ≤ length (slice_index_or stacks.old k no_stack).fades + 1 }
     ensures others { stacks.new ≡ slice_set stacks.old k (slice_index_or stacks.new k no_stack) }
 {
     let entry = times_for(show, run, c);
-    push_timed_at(stacks, k, run.start, &entry, target, from);
+    push_timed(stacks, k, run.start, &entry, target);
 }
 
-/// As `push_timed`, on the stack at a place.
+/// Pushes a fade to the target with the times of an entry, on the stack at a place. It begins when the delay is over, at
+/// the level that the channel has then over the older fades; of those nothing is kept where it begins at once. The levels
+/// are right from the start on.
 #[inline(always)]
-fn push_timed_at(
+pub(crate) fn push_timed(
     stacks: &mut Racks,
     k: usize,
     start: Moment,
     entry: &PartTimes,
     target: Level,
-    from: Moment,
 )
     requires within { k < length stacks.old }
     requires room { length (slice_index_or stacks.old k no_stack).fades < RUNS }
     requires start { start ≤ TICK_END }
     requires times { ValidTimes entry.now }
-    ensures level { (m : ℕ) → from ≤ m → level_in (slice_index_or stacks.new k no_stack) m
+    ensures level { (m : ℕ) → start ≤ m → level_in (slice_index_or stacks.new k no_stack) m
         ≡ timed_over entry.now (level_in (slice_index_or stacks.old k no_stack)) start target m }
     ensures few { length (slice_index_or stacks.new k no_stack).fades ≤ length (slice_index_or stacks.old k no_stack).fades + 1 }
     ensures others { stacks.new ≡ slice_set stacks.old k (slice_index_or stacks.new k no_stack) }
 {
     let before = stacks.value(k, start);
     let times = fade_times(before, entry, target);
-    if times.delay == 0 && start <= from {
+    if times.delay == 0 {
         let fade = Fade {
             start,
             time: times.time,
@@ -191,37 +110,6 @@ fn push_timed_at(
         stacks.put(k, 0, fade);
     } else {
         stacks.push(k, start + times.delay, times.time, target);
-    }
-}
-
-/// Pushes a fade to the target with the times of an entry. It begins when the delay is over, at the level that
-/// the channel has then over the older fades; of those nothing is kept where it begins at once. The levels are
-/// right from a moment on.
-#[inline(always)]
-pub(crate) fn push_timed(
-    stack: &mut Stack,
-    start: Moment,
-    entry: &PartTimes,
-    target: Level,
-    from: Moment,
-)
-    requires room { length stack.old.fades < RUNS }
-    requires start { start ≤ TICK_END }
-    requires times { ValidTimes entry.now }
-    ensures level { (m : ℕ) → from ≤ m → level_in stack.new m ≡ timed_over entry.now (level_in stack.old) start target m }
-    ensures few { length stack.new.fades ≤ length stack.old.fades + 1 }
-{
-    let before = stack.value(start);
-    let times = fade_times(before, entry, target);
-    if times.delay == 0 && start <= from {
-        stack.begin(Fade {
-            start,
-            time: times.time,
-            from: before,
-            target,
-        });
-    } else {
-        stack.push(start + times.delay, times.time, target);
     }
 }
 

@@ -16,13 +16,12 @@ ghost use Rattle.lx_levels.specs.Stacks.{level_in, level_at, stack_of};
 ghost use Rattle.lx_levels.specs.CurrentFades.{AreAt, IsStill};
 ghost use Rattle.lx_levels.specs.LevelsMeaning.{LevelsStandFor, StandsAt, StandsBefore, IsElsewhere};
 
-use crate::channel::{fill_stack, push_run};
+use crate::channel::push_run;
 use crate::current::Current;
 use crate::hints::{Hint, NO_HINT, acts};
 use crate::motion::{advance, refresh};
 use crate::racks::Racks;
-use crate::replay::Act;
-use crate::stack::Stack;
+use crate::replay::{Act, ground_of, replay};
 use lx_base::{CHANNELS, Chan, CueNo, LANES, Level, Moment, RUNS};
 use lx_fade::NEVER;
 use lx_playback::{Playback, Run};
@@ -40,8 +39,6 @@ pub struct Levels {
     moment: Moment,
     /// The fades of each channel.
     stacks: Racks,
-    /// The fades of a channel that is being made anew.
-    scratch: Stack,
     /// The fade that governs each channel, where its level changes yet.
     currents: Vec<Current>,
     levels: Vec<Level>,
@@ -77,7 +74,6 @@ impl Levels {
         Ok(Levels {
             moment: 0,
             stacks: Racks::open(alloc, channels)?,
-            scratch: Stack::open(alloc)?,
             currents: vec![in alloc; Current::still(0, NEVER); channels]?,
             levels: vec![in alloc; 0; channels]?,
             holds: vec![in alloc; NEVER; channels]?,
@@ -175,18 +171,18 @@ impl Levels {
         ensures others { IsElsewhere (chan - 1) self.old self.new }
     {
         let k = chan.get() as usize - 1;
-        fill_stack(
-            &mut self.scratch,
+        let live = playback.live();
+        let oldest = ground_of(
             show,
             sheet,
             playback.base(),
-            playback.live(),
+            live,
             self.moment,
             chan,
             &mut self.hints,
             &mut self.acts,
         );
-        self.stacks.store(k, &self.scratch);
+        replay(&mut self.stacks, k, live, &self.acts, oldest);
         refresh(
             k,
             self.moment,
@@ -251,13 +247,14 @@ impl Levels {
         requires target { target ≡ tracked show.now run.now.cue c }
         requires room { length (stack_of self.old (c - 1)).fades < RUNS }
         requires run { ValidRun TICK_END run.now }
+        requires started { run.now.start ≤ self.old.moment }
         ensures level { (x : ℕ) → self.old.moment ≤ x → level_in (stack_of self.new (c - 1)) x
             ≡ run_over show.now (level_in (stack_of self.old (c - 1))) run.now c x }
         ensures few { length (stack_of self.new (c - 1)).fades ≤ length (stack_of self.old (c - 1)).fades + 1 }
         ensures others { IsElsewhere (c - 1) self.old self.new }
     {
         let k = c.get() as usize - 1;
-        push_run(&mut self.stacks, k, show, run, c, target, self.moment);
+        push_run(&mut self.stacks, k, show, run, c, target);
         refresh(
             k,
             self.moment,
@@ -318,6 +315,7 @@ fn level_on(look: Option<&[Level]>, k: usize) -> Level
 fn last_run(playback: &Playback) -> Option<&Run>
     ensures last { (run : RunData) (older : List RunData) → playback.now.live ≡ run ∷ older → option_copied result ≡ Some run }
     ensures valid { IfSome result (λ run. ValidRun TICK_END run.now) }
+    ensures started { IfSome result (λ run. run.now.start ≤ playback.now.moment) }
     ensures few { length playback.now.live ≤ RUNS }
 {
     playback.live().last()

@@ -9,6 +9,5 @@ mod motion;
 mod racks;
 mod replay;
 mod runs;
-mod stack;
 
 pub use levels::Levels;

@@ -6,16 +6,14 @@ ghost use Rattle.std.specs.Prelude.{IfOk};
 ghost use Rattle.std.specs.List.{All};
 ghost use Rattle.lx_base.specs.declared.TheConstants.{CHANNELS, RUNS, TIME_MAX};
 ghost use Rattle.lx_spec.specs.Level.{fade_over};
-ghost use Rattle.lx_fade.specs.Fades.{stack_at, begun_by};
 ghost use Rattle.lx_fade.specs.declared.held.TheConstants.{NEVER};
 ghost use Rattle.lx_levels.specs.Stacks.{level_in, no_stack};
 ghost use Rattle.lx_levels.specs.CurrentFades.{Governs};
-ghost use Rattle.lx_levels.specs.Columns.{column};
+ghost use Rattle.lx_fade.specs.Row.{column};
 
 use crate::current::Current;
-use crate::stack::Stack;
 use lx_base::{Cs, Level, Moment, RUNS};
-use lx_fade::{Fade, NEVER, value_at};
+use lx_fade::{Column, Fade, NEVER, push_in, value_in};
 use std::alloc::{AllocError, Global};
 use std::marker::Model;
 
@@ -97,25 +95,12 @@ impl Racks {
         requires { k < length self.now }
         ensures { result ≡ level_in (slice_index_or self.now k no_stack) m }
     {
-        let count = self.counts[k] as usize;
-        value_in(&self.fades, self.channels, k, count, self.bottoms[k], m)
-    }
-
-    /// How many of the channel's oldest fades stay where one is pushed that begins at the moment: all but the newest
-    /// ones that would begin later.
-    fn kept(&self, k: usize, start: Moment) -> usize
-        requires { k < length self.now }
-        ensures count { result ≤ length (slice_index_or self.now k no_stack).fades }
-        ensures stack { drop (length (slice_index_or self.now k no_stack).fades - result) (slice_index_or self.now k no_stack).fades
-            ≡ begun_by start (slice_index_or self.now k no_stack).fades }
-    {
-        kept_in(
-            &self.fades,
-            self.channels,
-            k,
-            self.counts[k] as usize,
-            start,
-        )
+        let at = Column {
+            step: self.channels,
+            first: k,
+            used: self.counts[k] as usize,
+        };
+        value_in(&self.fades, at, self.bottoms[k], m)
     }
 
     /// Pushes a fade to the target that begins at `start` from the level there: the fades that would begin later are
@@ -130,28 +115,13 @@ impl Racks {
         ensures few { length (slice_index_or self.new k no_stack).fades ≤ length (slice_index_or self.old k no_stack).fades + 1 }
         ensures others { self.new ≡ slice_set self.old k (slice_index_or self.new k no_stack) }
     {
-        let from = self.value(k, start);
-        let kept = self.kept(k, start);
-        let fade = Fade {
-            start,
-            time,
-            from,
-            target,
+        let at = Column {
+            step: self.channels,
+            first: k,
+            used: self.counts[k] as usize,
         };
-        self.put(k, kept, fade);
-    }
-
-    /// The channel's stack becomes this one.
-    pub(crate) fn store(&mut self, k: usize, stack: &Stack)
-        requires within { k < length self.old }
-        requires few { length stack.now.fades ≤ RUNS }
-        ensures { self.new ≡ slice_set self.old k stack.now }
-    {
-        self.restart(k, stack.bottom());
-        let fades = stack.fades();
-        for j in 0..fades.len() {
-            self.put(k, j, fades[j]);
-        }
+        let push = push_in(&self.fades, at, self.bottoms[k], start, time, target);
+        self.put(k, push.kept, push.fade);
     }
 
     /// The fade that gives the channel's level from the moment on, until a later one begins.
@@ -164,48 +134,6 @@ impl Racks {
         let count = self.counts[k] as usize;
         governing_in(&self.fades, self.channels, k, count, self.bottoms[k], m)
     }
-}
-
-/// The level at a moment over so many fades of a column.
-fn value_in(
-    block: &[Fade],
-    channels: usize,
-    k: usize,
-    count: usize,
-    bottom: Level,
-    m: Moment,
-) -> Level
-    requires within { k < channels }
-    requires reach { count * channels ≤ length block.now }
-    ensures { result ≡ stack_at bottom (column block.now channels k count) m }
-{
-    let mut left = count;
-    while left > 0 {
-        let fade = block[(left - 1) * channels + k];
-        if fade.start <= m {
-            return value_at(&fade, m);
-        }
-        left -= 1;
-    }
-    bottom
-}
-
-/// How many of so many fades of a column stay where one is pushed that begins at the moment.
-fn kept_in(block: &[Fade], channels: usize, k: usize, count: usize, start: Moment) -> usize
-    requires within { k < channels }
-    requires reach { count * channels ≤ length block.now }
-    ensures count { result ≤ count }
-    ensures stack { column block.now channels k result ≡ begun_by start (column block.now channels k count) }
-{
-    let mut kept = count;
-    while kept > 0 {
-        let fade = block[(kept - 1) * channels + k];
-        if fade.start <= start {
-            return kept;
-        }
-        kept -= 1;
-    }
-    kept
 }
 
 /// The fade of so many in a column that gives the level from the moment on, until a later one begins.

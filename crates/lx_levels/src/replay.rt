@@ -1,18 +1,18 @@
 //! The fades of one channel over runs that started one after another.
 
-ghost use Rattle.std.specs.Prelude.{◌≡◌, ℕ, ◌+◌, ◌<◌, ◌≤◌, true, length, reverse, IfSome};
+ghost use Rattle.std.specs.Prelude.{◌≡◌, ℕ, ◌+◌, ◌<◌, ◌≤◌, true, length, reverse, slice_index_or, slice_set};
 ghost use Rattle.std.specs.List.{All};
 ghost use Rattle.lx_base.specs.declared.TheConstants.{RUNS, TICK_END};
 ghost use Rattle.lx_spec.specs.Show.{Show as ShowData};
 ghost use Rattle.lx_spec.specs.Level.{level};
 ghost use Rattle.lx_sheet.specs.SheetMeaning.{RowsStandFor};
-ghost use Rattle.lx_playback.specs.Valid.{ValidRun};
-ghost use Rattle.lx_levels.specs.Stacks.{level_in};
-ghost use Rattle.lx_levels.specs.RunsInTurn.{AreKnown, AreValid, IsGround};
+ghost use Rattle.lx_playback.specs.Valid.{OldestFirst, ValidRun};
+ghost use Rattle.lx_levels.specs.Stacks.{level_in, no_stack};
+ghost use Rattle.lx_levels.specs.RunsInTurn.{EachAct, IsGround, IsValid};
 
 use crate::channel::{is_over, level_there, push_timed, times_for};
 use crate::hints::{Hint, acts};
-use crate::stack::Stack;
+use crate::racks::Racks;
 use lx_base::{Chan, CueNo, Level, Moment};
 use lx_playback::{PartTimes, Run};
 use lx_sheet::Sheet;
@@ -37,8 +37,8 @@ pub(crate) struct Ground {
 }
 
 /// The newest runs over which the channel's level has to be followed, for the moments from the one given on, and
-/// what the others leave. What each of them does is kept: `None` where it doesn't act. No ground where a run that acts
-/// on the channel started after a newer one.
+/// what the others leave: they end with a run whose fade is over by then, or before the next one that acts begins. What
+/// each of the newest does is kept: `None` where it doesn't act.
 pub(crate) fn ground_of(
     show: &Show,
     sheet: &Sheet,
@@ -48,15 +48,17 @@ pub(crate) fn ground_of(
     c: Chan,
     hints: &mut [Hint],
     acts_of: &mut [Option<Act>],
-) -> Option<Ground>
+) -> Ground
     requires rows { RowsStandFor show.now sheet.now }
     requires few { length live.now ≤ RUNS }
-    requires runs { All (ValidRun TICK_END) live.now }
+    requires runs { All (ValidRun from) live.now }
+    requires order { OldestFirst live.now }
+    requires end { from ≤ TICK_END }
     requires hints { length hints.old ≡ RUNS }
     requires acts { length acts_of.old ≡ RUNS }
-    ensures ground { IfSome result (λ g. IsGround show.now base live.now c from g.first g.level g.since) }
-    ensures known { IfSome result (λ g. AreKnown show.now base live.now c g.first acts_of.new) }
-    ensures valid { IfSome result (λ g. AreValid live.now g.first acts_of.new) }
+    ensures within { result.first ≤ length live.now }
+    ensures ground { IsGround show.now base live.now c from result.first result.level result.since acts_of.new }
+    ensures valid { EachAct IsValid live.now result.first acts_of.new }
 {
     let mut since = from;
     let mut target = level_there(show, sheet, base, live, c, hints);
@@ -67,14 +69,11 @@ pub(crate) fn ground_of(
         if acts(show, run, c, looks, target, &mut hints[left - 1]) {
             let entry = times_for(show, run, c);
             if is_over(run.start, &entry, since) {
-                return Some(Ground {
+                return Ground {
                     first: left,
                     level: target,
                     since,
-                });
-            }
-            if run.start > since {
-                return None;
+                };
             }
             since = run.start;
             acts_of[left - 1] = Some(Act {
@@ -88,28 +87,38 @@ pub(crate) fn ground_of(
         target = looks;
         left -= 1;
     }
-    Some(Ground {
+    Ground {
         first: 0,
         level: target,
         since,
-    })
+    }
 }
 
-/// Fills in the fades of the runs that are left over what the oldest ones leave, by what each of them does.
-pub(crate) fn replay(stack: &mut Stack, live: &[Run], acts_of: &[Option<Act>], oldest: Ground)
+/// Makes the stack at a place anew: the fades of the runs that are left, over what the oldest ones leave, by what each of
+/// them does.
+pub(crate) fn replay(
+    stacks: &mut Racks,
+    k: usize,
+    live: &[Run],
+    acts_of: &[Option<Act>],
+    oldest: Ground,
+)
+    requires place { k < length stacks.old }
     requires few { length live.now ≤ RUNS }
+    requires order { OldestFirst live.now }
     requires acts { length acts_of.now ≡ RUNS }
     requires within { oldest.first ≤ length live.now }
-    requires valid { AreValid live.now oldest.first acts_of.now }
-    ensures level { (show : ShowData) (base c from : ℕ) → IsGround show base live.now c from oldest.first oldest.level oldest.since
-        → AreKnown show base live.now c oldest.first acts_of.now
-        → (m : ℕ) → from ≤ m → level_in stack.new m ≡ level show base (reverse live.now) c m }
-    ensures few { length stack.new.fades ≤ length live.now }
+    requires valid { EachAct IsValid live.now oldest.first acts_of.now }
+    ensures level { (show : ShowData) (base c from : ℕ)
+        → IsGround show base live.now c from oldest.first oldest.level oldest.since acts_of.now
+        → (m : ℕ) → from ≤ m → level_in (slice_index_or stacks.new k no_stack) m ≡ level show base (reverse live.now) c m }
+    ensures few { length (slice_index_or stacks.new k no_stack).fades ≤ length live.now }
+    ensures others { stacks.new ≡ slice_set stacks.old k (slice_index_or stacks.new k no_stack) }
 {
-    stack.restart(oldest.level);
+    stacks.restart(k, oldest.level);
     for i in oldest.first..live.len() {
         if let Some(act) = &acts_of[i] {
-            push_timed(stack, act.start, &act.entry, act.target, act.start);
+            push_timed(stacks, k, act.start, &act.entry, act.target);
         }
     }
 }

@@ -1,12 +1,11 @@
 //! With which times a run acts on a channel.
 
-ghost use Rattle.std.specs.Prelude.{◌≡◌, ℕ, ◌*◌, ◌≤◌, ◌==◌, option_and_then, if◌then◌else◌};
-ghost use Rattle.lx_base.specs.declared.TheConstants.{TIME_MAX};
+ghost use Rattle.std.specs.Prelude.{◌≡◌, ◌==◌, option_and_then, if◌then◌else◌};
 ghost use Rattle.std.specs.Option.{option_copied};
 ghost use Rattle.lx_spec.specs.SortedList.{entry_at};
 ghost use Rattle.lx_spec.specs.Show.{IsTime};
 ghost use Rattle.lx_spec.specs.TrackedLevel.{move_of};
-ghost use Rattle.lx_spec.specs.Run.{entry_for, entry_extent, first_entry};
+ghost use Rattle.lx_spec.specs.Run.{entry_for, first_entry};
 ghost use Rattle.lx_playback.specs.Valid.{ValidTimes};
 
 use lx_base::{Chan, Cs, PartNo};
@@ -89,15 +88,4 @@ pub(crate) fn delay_of(entry: &PartTimes, rising: bool) -> Cs
     } else {
         entry.down_delay
     }
-}
-
-/// How long a channel takes to come to its target at most, whichever way it goes.
-pub(crate) fn extent_of(entry: &PartTimes) -> Cs
-    requires { ValidTimes entry.now }
-    ensures extent { result ≡ entry_extent entry.now }
-    ensures most { result ≤ 2 * TIME_MAX }
-{
-    let up = entry.up_delay + entry.up;
-    let down = entry.down_delay + entry.down;
-    up.max(down)
 }

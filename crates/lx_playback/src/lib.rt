@@ -9,5 +9,5 @@ mod ticks;
 pub use keys::Pressed;
 pub use lx_spec::PartTimes;
 pub use playback::Playback;
-pub use run::Run;
+pub use run::{Run, entry_extent};
 pub use ticks::Ticked;

@@ -5,7 +5,7 @@ ghost use Rattle.std.specs.List.{All};
 ghost use Rattle.lx_spec.specs.Playback.{at_opening, position_of, has_room, is_over, is_due, at_rest};
 ghost use Rattle.lx_base.specs.declared.TheConstants.{TICK_END, TICK_STEP};
 ghost use Rattle.lx_playback.specs.QuietTicks.{later, TicksPass, IsStillAt};
-ghost use Rattle.lx_playback.specs.Valid.{ValidPlayback, ValidRun};
+ghost use Rattle.lx_playback.specs.Valid.{OldestFirst, ValidPlayback, ValidRun};
 
 use crate::run::Run;
 use lx_base::{CueNo, Moment, RUNS, TICK_END, TICK_STEP};
@@ -78,10 +78,11 @@ impl Playback {
         self.base
     }
 
-    /// The live runs, at most 512, the newest last.
+    /// The live runs, at most 512, the newest last: none started before one that stands before it.
     pub fn live(&self) -> &[Run]
         ensures live { reverse result.now ≡ self.now.live }
         ensures each { All (ValidRun self.now.moment) result.now }
+        ensures order { OldestFirst result.now }
         ensures valid { ValidPlayback self.now }
     {
         self.live.as_slice()
@@ -118,10 +119,11 @@ impl Playback {
         !self.live.is_empty() && self.pending.is_none() && self.over_at <= self.moment
     }
 
-    /// Appends a run to the live ones, and sets the pending follow.
+    /// Appends a run that starts now to the live ones, and sets the pending follow.
     pub(crate) fn append(&mut self, run: Run, pending: Option<Moment>)
         requires room { length self.old.live < RUNS }
         requires run { ValidRun self.old.moment run }
+        requires now { run.start ≡ self.old.moment }
         ensures { self.new ≡ record self.old { live = run ∷ self.old.live; pending = pending } }
     {
         self.over_at = self.over_at.max(run.start + run.extent());

@@ -110,8 +110,9 @@ fn copied(entries: &ArrayVec<PartTimes, 9>) -> ArrayVec<PartTimes, 9>
     copies
 }
 
-/// How long an entry takes, in the slower direction.
-fn entry_extent(entry: &PartTimes) -> Cs
+/// How long an entry takes, in the slower direction: by then a channel has come to its target, whichever way it goes.
+#[inline(always)]
+pub fn entry_extent(entry: &PartTimes) -> Cs
     requires { ValidTimes entry.now }
     ensures extent { result ≡ entry_extent entry.now }
     ensures most { result ≤ 2 * TIME_MAX }

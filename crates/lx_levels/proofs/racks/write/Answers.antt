@@ -1,5 +1,5 @@
 use Rattle.std.proofs.Common.{◌≡◌, ◌+◌, ◌*◌, ◌<◌, length, set, suc, ap, ◌∙◌, arith}
-use Rattle.lx_levels.specs.Columns.{column}
+use Rattle.lx_fade.specs.Row.{column}
 use Rattle.lx_levels.proofs.Columns.{written_here, written_other}
 use Rattle.lx_levels.proofs.racks.write.Goals as goal
 

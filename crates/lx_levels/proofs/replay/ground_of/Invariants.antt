@@ -1,11 +1,18 @@
-use Rattle.lx_levels.specs.RunsInTurn.{AreKnown, AreValid, IsSeen}
+use Rattle.std.proofs.Common.{◌≡◌, ◌≤◌, length}
+use Rattle.std.specs.Prelude.{reverse, take}
+use Rattle.lx_spec.specs.TrackedLevel.{tracked}
+use Rattle.lx_spec.specs.Level.{last_cue}
+use Rattle.lx_levels.specs.RunsInTurn.{AreKnown, EachAct, IsValid}
 use Rattle.lx_levels.proofs.replay.ground_of.Given as goal
 
 abbrev pub invariant-loop-left : goal.invariant-loop-left
 invariant-loop-left l = record {
-  seen : IsSeen l.show l.base l.live l.c l.from l.left l.since l.target;
+  within : l.left ≤ length l.live;
+  at : l.target ≡ tracked l.show (last_cue l.base (reverse (take l.left l.live))) l.c;
   known : AreKnown l.show l.base l.live l.c l.left l.acts_of;
-  valid : AreValid l.live l.left l.acts_of;
+  valid : EachAct IsValid l.live l.left l.acts_of;
+  later : EachAct (λ a. l.since ≤ a.start) l.live l.left l.acts_of;
+  begun : l.since ≤ l.from;
 }
 
 abbrev pub decreases-loop-left : goal.decreases-loop-left

@@ -1,12 +1,15 @@
-use Rattle.std.proofs.Common.{◌≤◌, ℕ, length}
+use Rattle.std.proofs.Common.{◌≡◌, ◌≤◌, ℕ, length, set}
+use Rattle.std.specs.Prelude.{slice_index_or}
 use Rattle.lx_spec.specs.Show.{Show}
-use Rattle.lx_levels.specs.RunsInTurn.{AreKnown, IsGround, IsReplayed}
+use Rattle.lx_levels.specs.Stacks.{no_stack}
+use Rattle.lx_levels.specs.RunsInTurn.{IsGround, IsReplayed}
 use Rattle.lx_levels.proofs.replay.replay.Given as goal
 
 abbrev pub invariant-loop-i : goal.invariant-loop-i
 invariant-loop-i l = record {
   gives : (show : Show) (base c from : ℕ)
-      → IsGround show base l.live c from l.fn.oldest.first l.fn.oldest.level l.fn.oldest.since
-      → AreKnown show base l.live c l.fn.oldest.first l.acts_of → IsReplayed show base l.live c from l.i l.stack;
-  few : length l.stack.fades ≤ l.i;
+      → IsGround show base l.live c from l.fn.oldest.first l.fn.oldest.level l.fn.oldest.since l.acts_of
+      → IsReplayed show base l.live c from l.i l.acts_of (slice_index_or l.stacks l.k no_stack);
+  few : length (slice_index_or l.stacks l.k no_stack).fades ≤ l.i;
+  others : l.stacks ≡ set l.fn.stacks l.k (slice_index_or l.stacks l.k no_stack);
 }

@@ -21,6 +21,11 @@ acts-requires c =
     ∙ ap (λ n. tracked show c.run.inside.cue n) (sym c.channel_at-c.ensures)
     ∙ ap (λ (r : Run). tracked show r.cue c.channel_at-c.result) c.run.view_is
 
+pub add_run-requires-clause-started : goal.add_run-requires-clause-started
+add_run-requires-clause-started c =
+    let stood = c.requires.stood in
+    omega (arith, c.in-Some.ensures.started, (c.loop-k.invariant.added stood.last stood.older stood.live_is).moment)
+
 pub loop-k-preserved-then-end-k : goal.loop-k-preserved-then-end-k
 loop-k-preserved-then-end-k c =
     let show = c.args.show.now in

@@ -1,8 +1,7 @@
-use Rattle.std.proofs.Common.{◌≡◌, ◌<◌, ◌≤◌, ◌*◌, sym, ap, subst, length, get_or, arith}
-use Rattle.std.proofs.lemmas.List.{get_or_read}
+use Rattle.std.proofs.Common.{sym, subst, arith}
 use Rattle.lx_levels.specs.Stacks.{Stack}
 use Rattle.lx_levels.specs.CurrentFades.{Governs}
-use Rattle.lx_levels.proofs.Columns.{place_within, stack_read}
+use Rattle.lx_levels.proofs.Columns.{place_within, reach_there, stack_there}
 use Rattle.lx_levels.proofs.racks.Racks.governing.Goals as goal
 
 pub index-requires : goal.index-requires
@@ -25,21 +24,11 @@ pub governing_in-requires-clause-within : goal.governing_in-requires-clause-with
 governing_in-requires-clause-within c = place_within c.self.inside _ _ c.self.view_is c.requires.within
 
 pub governing_in-requires-clause-reach : goal.governing_in-requires-clause-reach
-governing_in-requires-clause-reach c =
-    let within : c.args.k < c.self.inside.channels = place_within c.self.inside _ _ c.self.view_is c.requires.within in
-    let count : c.index.result.now ≡ get_or c.self.inside.counts.items c.args.k 0 =
-    get_or_read c.self.inside.counts.items c.args.k c.index.result.now (omega
-    (arith, within, c.self.invariant.of_counts)) c.index.ensures 0 in
-    subst (λ n. n * c.self.inside.channels ≤ length c.deref.result.now) (sym count)
-    (omega (arith, c.self.invariant.reach c.args.k within, ap length c.deref.ensures.value))
+governing_in-requires-clause-reach c = reach_there c.self.inside _ c.deref.result.now _ c.args.k c.index.result.now c.self.view_is c.self.invariant
+    c.requires.within c.index.ensures c.deref.ensures.value
 
 pub returns-clause-governs : goal.returns-clause-governs
 returns-clause-governs c =
-    let within : c.args.k < c.self.inside.channels = place_within c.self.inside _ _ c.self.view_is c.requires.within in
-    let stack = stack_read c.self.inside _ _ c.args.k c.index-2.result.now c.index.result.now c.self.view_is within
-    (get_or_read c.self.inside.bottoms.items c.args.k c.index-2.result.now (omega (arith, within, c.self.invariant.of_bottoms))
-    c.index-2.ensures 0)
-    (get_or_read c.self.inside.counts.items c.args.k c.index.result.now (omega
-    (arith, within, c.self.invariant.of_counts)) c.index.ensures 0)
-    c.deref.ensures.value in
+    let stack = stack_there c.self.inside _ c.deref.result.now _ c.args.k c.index-2.result.now c.index.result.now c.self.view_is
+    c.self.invariant c.requires.within c.index-2.ensures c.index.ensures c.deref.ensures.value in
     subst (λ (s : Stack). Governs c.args.m s c.governing_in.result) (sym stack) c.governing_in.ensures.governs

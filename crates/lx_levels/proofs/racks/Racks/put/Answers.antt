@@ -6,8 +6,9 @@ use Rattle.std.proofs.lemmas.Grind.{get_or-set_at}
 use Rattle.std.proofs.Math.ListN.{length-set}
 use Rattle.lx_fade.specs.Fades.{Fade}
 use Rattle.lx_levels.specs.Stacks.{Stack, no_stack}
-use Rattle.lx_levels.specs.Columns.{column}
-use Rattle.lx_levels.proofs.Columns.{drop-column, length-column, place_within, stack_read, stacks_set}
+use Rattle.lx_fade.specs.Row.{column}
+use Rattle.lx_fade.proofs.Rows.{drop-column}
+use Rattle.lx_levels.proofs.Columns.{length-column, place_within, stack_read, stacks_set}
 use Rattle.lx_levels.proofs.racks.Racks.put.Goals as goal
 
 pub write-requires-clause-within : goal.write-requires-clause-within

@@ -3,7 +3,7 @@ use Rattle.std.proofs.lemmas.List.{get_or-set_other}
 use Rattle.std.proofs.lemmas.Grind.{get_or-set_at}
 use Rattle.lx_fade.specs.Fades.{Fade}
 use Rattle.lx_levels.specs.Stacks.{Stack}
-use Rattle.lx_levels.specs.Columns.{column}
+use Rattle.lx_fade.specs.Row.{column}
 use Rattle.lx_levels.proofs.Columns.{place_within, stacks_set}
 use Rattle.lx_levels.proofs.racks.Racks.restart.Goals as goal
 

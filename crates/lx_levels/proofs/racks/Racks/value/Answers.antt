@@ -1,7 +1,6 @@
-use Rattle.std.proofs.Common.{◌≡◌, ◌<◌, ◌≤◌, ◌*◌, ◌∙◌, sym, ap, subst, length, get_or, arith}
-use Rattle.std.proofs.lemmas.List.{get_or_read}
+use Rattle.std.proofs.Common.{◌∙◌, sym, ap, arith}
 use Rattle.lx_levels.specs.Stacks.{Stack, level_in}
-use Rattle.lx_levels.proofs.Columns.{place_within, stack_read}
+use Rattle.lx_levels.proofs.Columns.{place_within, reach_there, stack_there}
 use Rattle.lx_levels.proofs.racks.Racks.value.Goals as goal
 
 pub index-requires : goal.index-requires
@@ -24,21 +23,11 @@ pub value_in-requires-clause-within : goal.value_in-requires-clause-within
 value_in-requires-clause-within c = place_within c.self.inside _ _ c.self.view_is c.requires
 
 pub value_in-requires-clause-reach : goal.value_in-requires-clause-reach
-value_in-requires-clause-reach c =
-    let within : c.args.k < c.self.inside.channels = place_within c.self.inside _ _ c.self.view_is c.requires in
-    let count : c.index.result.now ≡ get_or c.self.inside.counts.items c.args.k 0 =
-    get_or_read c.self.inside.counts.items c.args.k c.index.result.now (omega
-    (arith, within, c.self.invariant.of_counts)) c.index.ensures 0 in
-    subst (λ n. n * c.self.inside.channels ≤ length c.deref.result.now) (sym count)
-    (omega (arith, c.self.invariant.reach c.args.k within, ap length c.deref.ensures.value))
+value_in-requires-clause-reach c = reach_there c.self.inside _ c.deref.result.now _ c.args.k c.index.result.now c.self.view_is c.self.invariant
+    c.requires c.index.ensures c.deref.ensures.value
 
 pub returns : goal.returns
 returns c =
-    let within : c.args.k < c.self.inside.channels = place_within c.self.inside _ _ c.self.view_is c.requires in
-    let stack = stack_read c.self.inside _ _ c.args.k c.index-2.result.now c.index.result.now c.self.view_is within
-    (get_or_read c.self.inside.bottoms.items c.args.k c.index-2.result.now (omega (arith, within, c.self.invariant.of_bottoms))
-    c.index-2.ensures 0)
-    (get_or_read c.self.inside.counts.items c.args.k c.index.result.now (omega
-    (arith, within, c.self.invariant.of_counts)) c.index.ensures 0)
-    c.deref.ensures.value in
+    let stack = stack_there c.self.inside _ c.deref.result.now _ c.args.k c.index-2.result.now c.index.result.now c.self.view_is
+    c.self.invariant c.requires c.index-2.ensures c.index.ensures c.deref.ensures.value in
     c.value_in.ensures ∙ sym (ap (λ (s : Stack). level_in s c.args.m) stack)

@@ -2,8 +2,8 @@ use Rattle.std.proofs.Common.{List, reverse, subst, sym, ◌∙◌, ap}
 use Rattle.std.specs.List.{AllByRecursion}
 use Rattle.lx_spec.specs.Run.{Run}
 use Rattle.lx_spec.specs.Playback.{Playback}
-use Rattle.lx_playback.specs.Valid.{ValidRun}
-use Rattle.lx_playback.proofs.Backwards.{All-backwards}
+use Rattle.lx_playback.specs.Valid.{NewestFirst, ValidRun}
+use Rattle.lx_playback.proofs.Backwards.{All-backwards, oldest_first}
 use Rattle.lx_playback.proofs.playback.Playback.live.Goals as goal
 
 pub returns-clause-each : goal.returns-clause-each
@@ -13,3 +13,7 @@ returns-clause-each c =
     All-backwards (ValidRun c.args.self.now.moment) c.as_slice.result.now
     (subst (λ (runs : List Run). AllByRecursion (ValidRun c.args.self.now.moment) runs)
     (sym (ap reverse c.as_slice.ensures.value ∙ ap (λ (p : Playback). p.live) c.self.view_is)) all)
+
+pub returns-clause-order : goal.returns-clause-order
+returns-clause-order c = oldest_first c.as_slice.result.now
+    (subst NewestFirst (sym (ap reverse c.as_slice.ensures.value)) c.self.invariant.valid.order)

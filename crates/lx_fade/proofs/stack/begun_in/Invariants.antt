@@ -1,12 +1,12 @@
 use Rattle.std.proofs.Common.{◌≡◌, ◌≤◌}
 use Rattle.lx_fade.specs.Fades.{begun_by}
-use Rattle.lx_fade.specs.Row.{stack_in}
-use Rattle.lx_fade.proofs.stack.kept_at.Given as goal
+use Rattle.lx_fade.specs.Row.{column}
+use Rattle.lx_fade.proofs.stack.begun_in.Given as goal
 
 abbrev pub invariant-loop-kept : goal.invariant-loop-kept
 invariant-loop-kept l = record {
-  within : l.kept ≤ l.used;
-  same : begun_by l.start (stack_in l.row l.kept) ≡ begun_by l.start (stack_in l.row l.used);
+  within : l.kept ≤ l.at.used;
+  same : begun_by l.m (column l.row l.at.step l.at.first l.kept) ≡ begun_by l.m (column l.row l.at.step l.at.first l.at.used);
 }
 
 abbrev pub decreases-loop-kept : goal.decreases-loop-kept
