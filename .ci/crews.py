@@ -10,6 +10,7 @@ import tempfile
 import time
 
 import plain_desk
+from limits import Started
 
 TIME_LIMIT = 60
 INPUT_BYTES = 67_108_864
@@ -139,7 +140,7 @@ def over_pipes(program, operators):
     with tempfile.TemporaryDirectory() as folder:
         for operator in range(1, operators + 1):
             os.mkfifo(file_of(folder, operator))
-        with subprocess.Popen([program, "crew", str(operators)], stdin=subprocess.PIPE, stdout=subprocess.PIPE, cwd=folder) as run:
+        with Started([program, "crew", str(operators)], stdin=subprocess.PIPE, stdout=subprocess.PIPE, cwd=folder) as run:
             try:
                 run.stdin.write(SHOW)
                 run.stdin.flush()
@@ -207,7 +208,7 @@ def full_queue(program):
     scripts = [b"frame\n" * 5_000 + b"quit\n"] * 2
     with tempfile.TemporaryDirectory() as folder:
         write_scripts(folder, scripts)
-        with subprocess.Popen([program, "crew", "2"], stdin=subprocess.PIPE, stdout=subprocess.PIPE, cwd=folder) as run:
+        with Started([program, "crew", "2"], stdin=subprocess.PIPE, stdout=subprocess.PIPE, cwd=folder) as run:
             run.stdin.write(SHOW)
             run.stdin.close()
             time.sleep(0.5)

@@ -17,14 +17,17 @@ import tempfile
 import time
 
 import crews
+import live_runs
 import plain_desk
 import refusals
 import walks
+from limits import Started, within
 
 TOP = os.path.dirname(os.path.dirname(os.path.abspath(__file__)))
 USAGE = b"usage: cuedesk check|render|sheet [states] | make N | run U [states]\n"
 INPUT_BYTES = 67_108_864
-TIME_LIMIT = 60
+# The seconds of a run, and of one that is talked with.
+TIME_LIMIT, TALK_LIMIT = 60, 120
 WALKS = 600
 
 # A patch of channel 1 to dimmer 1, and a cue that moves channel 1 at once.
@@ -79,6 +82,8 @@ def job_cases():
         made(("make", "300"), "cues 300\nmoment 30742\nok 900\nrefused 0\nsum 62920\n"),
         made(("make", "300"), "cues 300\nmoment 30742\nok 900\nrefused 0\nsum 62920\n"),
         made(("make", "2000"), "cues 2000\nmoment 202568\nok 5979\nrefused 21\nsum 63336\n"),
+        made(("make", "2001"), "cues 2001\nmoment 201398\nok 5989\nrefused 14\nsum 61172\n"),
+        made(("make", "4000"), "cues 4000\nmoment 404072\nok 11958\nrefused 42\nsum 64224\n"),
     ]
 
 
@@ -202,8 +207,34 @@ def finest_numbers():
             Case("a cue below by five thousandths", text + "cue 2.55\ngo\ngo\nback\nback\n", "ok\nok\nok\nok\nrefused NoCueBefore 2.55\n")]
 
 
+def many_looks():
+    """4,000 looks: of each a row has what it names and nothing else, and a move is what differs from the look before."""
+    looks = [{1 + 7 * n % 24: 1 + n % 255, 1 + (11 * n + 5) % 24: 255 - n % 200} for n in range(1, 4001)]
+    levels = [{c: level for c, level in look.items() if level} for look in looks]
+    text = "IDENT 3:0\nSET CHANNELS 24\nPATCH 1 " + " ".join(f"{c}<{c}@FL" for c in range(1, 25)) + "\n" + "".join(
+        f"CUE {n}\n{AT_ONCE}CHAN " + " ".join(f"{c}@H{level:02X}" for c, level in look.items()) + "\n" for n, look in enumerate(looks, 1)) + "ENDDATA\n"
+    cells = ["".join(f" {c}={level}" for c, level in sorted(look.items())) for look in levels]
+    moves = [sum(before.get(c, 0) != look.get(c, 0) for c in range(1, 25)) for before, look in zip([{}] + levels, levels)]
+    sheet = "".join(f"cue {n} track 1 {count}\nrow {n}{row}\n" for n, (count, row) in enumerate(zip(moves, cells), 1))
+    return [Case("a sheet of 4,000 looks", text, sheet, words=("sheet", "states")),
+            Case("4,000 looks are played", text + "goto 3999\nframe\ngo\nframe\nback\nsheet 3999\nsettle\nframe\n",
+                 f"ok\nframe 0 1{cells[3998]}\nok\nframe 0 1{cells[3999]}\nok\nrow 3999{cells[3998]}\nok\nframe 0 1{cells[3998]}\n",
+                 words=("render", "states"))]
+
+
+def great_record():
+    """4,096 channels are recorded half way to full, and each is in the record; with `only` the cue above keeps the level of each."""
+    patch = "SET CHANNELS 4096\n" + "".join(f"PATCH 1 {c}<{c}@FL\n" for c in range(1, 4097))
+    cues = "CUE 1\nUP 10\n" + "".join(f"CHAN {c}@FL\n" for c in range(1, 4097)) + "CUE 3\n" + AT_ONCE
+    half, full = ("".join(f" {c}={level}" for c in range(1, 4097)) for level in (127, 255))
+    script = "go|tick 250|record 2|sheet 2|sheet 3|undo|sheet 2|sheet 3|record 2 only|sheet 2|sheet 3|goto 2|tick 250|frame 8|".replace("|", "\n")
+    replies = (f"ok\nok\nok\nrow 2{half}\nrow 3{half}\nok\nrefused AbsentCue 2\nrow 3{full}\nok\nrow 2{half}\nrow 3{full}\nok\nok\n"
+               "frame 1000 8" + "".join(f" {s}=127" for s in range(1, 513)) + "\n")
+    return Case("a record of 4,096 channels", "IDENT 3:0\n" + patch + cues + "ENDDATA\n" + script, replies, words=("undo",))
+
+
 def great_cases():
-    return [labelled_shows(), all_channels(), nine_parts(), label_and_follow()] + finest_numbers()
+    return [labelled_shows(), all_channels(), nine_parts(), label_and_follow(), great_record()] + finest_numbers() + many_looks()
 
 
 # ---------------------------------------------------------------------------------------------------------------------
@@ -391,7 +422,7 @@ def reading_cases():
 def talk(program):
     """Each reply is there before the next line is sent."""
     steps = [("go\n", b"ok\n"), ("frame\n", b"frame 0 1 1=128\n"), ("fly\n", b"bad\n"), ("tick 5\n", b"ok\n"), ("frame\n", b"frame 10 1 1=128\n")]
-    with subprocess.Popen([program, "render"], stdin=subprocess.PIPE, stdout=subprocess.PIPE) as run:
+    with Started([program, "render"], stdin=subprocess.PIPE, stdout=subprocess.PIPE) as run:
         run.stdin.write(ONE_CUE.encode())
         run.stdin.flush()
         for line, reply in steps:
@@ -409,7 +440,7 @@ def talk(program):
 
 def refused_at_once(program):
     """A refused show is told while the input is still open."""
-    with subprocess.Popen([program, "render"], stdin=subprocess.PIPE, stdout=subprocess.PIPE) as run:
+    with Started([program, "render"], stdin=subprocess.PIPE, stdout=subprocess.PIPE) as run:
         run.stdin.write(b"IDENT 3:0\nCHAN 1@50\n")
         run.stdin.flush()
         got = run.stdout.readline()
@@ -424,7 +455,7 @@ def reader_goes_away(program):
     with tempfile.TemporaryFile() as source:
         source.write(text)
         source.seek(0)
-        with subprocess.Popen([program, "render"], stdin=source, stdout=subprocess.PIPE, stderr=subprocess.PIPE) as run:
+        with Started([program, "render"], stdin=source, stdout=subprocess.PIPE, stderr=subprocess.PIPE) as run:
             run.stdout.readline()
             run.stdout.close()
             error = run.stderr.read()
@@ -449,7 +480,7 @@ def terminal_goes_away(program):
     """A terminal that is closed in the middle of a line, while the program waits for the rest: nothing is said of it. The read fails, or the
     system tells the end of the input where the read came after the closing."""
     master, terminal = os.openpty()
-    with subprocess.Popen([program, "render"], stdin=terminal, stdout=terminal, stderr=subprocess.PIPE, start_new_session=True) as run:
+    with Started([program, "render"], stdin=terminal, stdout=terminal, stderr=subprocess.PIPE, start_new_session=True) as run:
         os.close(terminal)
         os.write(master, ONE_CUE.encode() + b"go\n")
         said = b""
@@ -523,78 +554,20 @@ def memory_runs_out(program):
     return wrong[:5]
 
 
-LIVE = ("IDENT 3:0\nPATCH 1 1<1@FL 2<513@FL 3<1025@FL\nCUE 1\nUP 0.2\nCHAN 1@FL 2@H80\nCUE 2\nDOWN 0.1\nCHAN 1@0 3@50\nENDDATA\n"
-        "go\ntick 8\nset 1 chan 1 at H40\nfly\ngo\nset 9 chan 1 at 0\ntick 6\nframe 2\nmaster at 50\n").encode()
-
-
-# Two universes whose first and last slots change with each of 10,000 commands.
-MANY = ("IDENT 3:0\nPATCH 1 1<1@FL 2<512@FL 2<513@FL 1<1024@FL\nCUE 1\nUP 0\nCHAN 1@FL 2@HFE\nENDDATA\ngo\n"
-        + "".join(f"master at H{255 - n % 251:02X}\n" for n in range(1, 10_000))).encode()
-
-
-def outlet_is_wrong(path, universe, script=LIVE, whole=True):
-    """What is wrong in a live run's file: each line is a version's, the counts rise, and the last is that of all commands."""
-    with open(path, "rb") as file:
-        lines = file.read().splitlines(keepends=True)
-    versions = plain_desk.versions(script, universe)
-    counts = [int(line.split()[1]) for line in lines]
-    wrong = [f"line {line!r}" for count, line in zip(counts, lines) if versions[count:count + 1] != [line]]
-    if counts != sorted(set(counts)) or (whole and counts[-1:] != [len(versions) - 1]):
-        wrong.append(f"counts {counts} of {len(versions) - 1}")
-    return [f"universe {universe}: {said}" for said in wrong]
-
-
-def live(program, full=None):
-    """Status, output and wrong lines of a live run of three universes, of which one may go to a full device."""
-    with tempfile.TemporaryDirectory() as folder:
-        if full:
-            os.symlink("/dev/full", os.path.join(folder, f"universe-{full}.txt"))
-        run = subprocess.run([program, "run", "3"], input=LIVE, stdout=subprocess.PIPE, stderr=subprocess.PIPE, cwd=folder, timeout=TIME_LIMIT)
-        wrong = [said for u in (1, 2, 3) if u != full for said in outlet_is_wrong(os.path.join(folder, f"universe-{u}.txt"), u)]
-        more = sorted(set(os.listdir(folder)) - {f"universe-{u}.txt" for u in (1, 2, 3)})
-    if run.stdout != plain_desk.output(("run",), LIVE)[1] or run.stderr or more:
-        wrong.append(f"output {run.stdout!r}, standard error {run.stderr[:200]!r}, files {more}")
-    return run.returncode, wrong
-
-
-def live_run(program):
-    """Three universes: each file has lines of versions alone, and ends with that of all commands."""
-    status, wrong = live(program)
-    return wrong + ([f"status {status}"] if status else [])
-
-
-def live_run_with_a_full_device(program):
-    """An outlet that can't be written ends alone, and the status is 4."""
-    status, wrong = live(program, full=2)
-    return wrong + ([f"status {status}, not 4"] if status != 4 else [])
-
-
-def live_run_of_many_commits(program):
-    """Two taps take beside an engine that publishes 10,000 commits."""
-    with tempfile.TemporaryDirectory() as folder:
-        run = subprocess.run([program, "run", "2"], input=MANY, stdout=subprocess.PIPE, stderr=subprocess.PIPE, cwd=folder, timeout=TIME_LIMIT)
-        wrong = [said for u in (1, 2) for said in outlet_is_wrong(os.path.join(folder, f"universe-{u}.txt"), u, MANY)]
-    if (run.returncode, run.stdout, run.stderr) != (0, b"ok\n" * 10_000, b""):
-        wrong.append(f"status {run.returncode}, output {run.stdout[:100]!r}, standard error {run.stderr[:200]!r}")
-    return wrong[:5]
-
-
-def live_run_of_a_refused_show(program):
-    """No file is made."""
-    with tempfile.TemporaryDirectory() as folder:
-        run = subprocess.run([program, "run", "2"], input=b"CUE 1\n", stdout=subprocess.PIPE, cwd=folder, timeout=TIME_LIMIT)
-        files = os.listdir(folder)
-    return [] if (run.returncode, run.stdout, files) == (1, b"show NoIdent 1\n", []) else [f"status {run.returncode}, {run.stdout!r}, files {files}"]
-
-
 def each_call_refused_in_turn(program):
     """Each allocation, each read and each write of each job is refused in turn."""
     runs, wrong = refusals.refusals(program)
     return wrong[:5] + (["hardly any call was refused"] if runs < 500 else [])
 
 
-TALKS = [talk, refused_at_once, reader_goes_away, closed_output, terminal_goes_away, memory_runs_out, live_run, live_run_with_a_full_device,
-         live_run_of_many_commits, live_run_of_a_refused_show, each_call_refused_in_turn]
+def outlet_before_memory(program):
+    """A write that failed in an outlet decides the status where commands stayed unpublished too."""
+    return refusals.outlet_before_memory(program)
+
+
+# Each with the seconds that it may take.
+TALKS = [(talk, 60), (refused_at_once, 60), (reader_goes_away, 60), (closed_output, 60), (terminal_goes_away, 60), (memory_runs_out, 600),
+         (each_call_refused_in_turn, 600), (outlet_before_memory, 60)]
 
 
 # ---------------------------------------------------------------------------------------------------------------------
@@ -656,8 +629,9 @@ def main():
     program = os.path.abspath(given.program or built_program())
     cases = edge_cases() + limit_cases() + great_cases() + kept_cases() + assert_cases() + undo_cases() + two_cases() + reading_cases()
     runs = [(case.name, lambda case=case: wrong_in(program, case)) for case in cases]
-    runs += [(each.__name__.replace("_", " "), lambda each=each: each(program)) for each in TALKS]
-    runs += [(f"crew: {each.__name__.replace('_', ' ')}", lambda each=each: each(program)) for each in crews.CREWS]
+    runs += [(each.__name__.replace("_", " "), lambda each=each, most=most: within(most, each, program)) for each, most in TALKS]
+    runs += [(f"{kind}: {each.__name__.replace('_', ' ')}", lambda each=each: within(TALK_LIMIT, each, program))
+             for kind, table in (("live", live_runs.LIVE_RUNS), ("crew", crews.CREWS)) for each in table]
     runs += [(name, lambda inputs=inputs: walks.wrong_in_table(program, inputs)[1]) for name, inputs in walks.tables(WALKS, 1)]
     passed = failed = 0
     for name, run in runs:

@@ -5,7 +5,7 @@
 use lx_desk::Status;
 use lx_files::{DeskPace, files, scripts};
 use lx_io::{BufferedSink, Sink, StdSink, StdSource};
-use lx_program::{desk, desk_crew, desk_live, exit_of, words_of};
+use lx_program::{WordsFault, desk, desk_crew, desk_live, exit_of, words_of};
 use lx_spec::Job;
 use std::alloc::Global;
 use std::process::ExitCode;
@@ -40,35 +40,32 @@ fn end(rt: &HostRuntime, status: Status) -> ExitCode {
     ExitCode::from(exit_of(status))
 }
 
-/// Whether the words name a crew.
-fn names_crew(alloc: Global, words: &[String]) -> bool {
-    matches!(words_of(alloc, words), Ok(Job::Crew(..)))
+/// The status where what was written couldn't be handed on at the end: a fault that there was before stays.
+fn status_unwritten(status: Status) -> Status {
+    match status {
+        Status::Ok | Status::ShowRefused => Status::WriteFault,
+        fault => fault,
+    }
 }
 
 fn main(rt: HostRuntime) -> ExitCode {
+    let alloc: Global = rt.alloc();
     let words = match words_given(&rt) {
         Ok(words) => words,
         Err(error) => return end(&rt, status_without_words(&error)),
     };
     let mut input = StdSource::new(rt.stdin());
-    let mut output = BufferedSink::new(rt.alloc(), StdSink::new(rt.stdout()));
-    let status = match desk(rt.alloc(), &words, &mut input, &mut output) {
-        Status::Live if names_crew(rt.alloc(), &words) => {
-            let mut operators = scripts(&rt, rt.alloc());
-            desk_crew(
-                &rt,
-                rt.alloc(),
-                &words,
-                &mut input,
-                &mut output,
-                &mut operators,
-            )
+    let mut output = BufferedSink::new(alloc, StdSink::new(rt.stdout()));
+    let status = match words_of(alloc, &words) {
+        Ok(Job::Crew(..)) => {
+            let mut operators = scripts(&rt, alloc);
+            desk_crew(&rt, alloc, &words, &mut input, &mut output, &mut operators)
         }
-        Status::Live => {
-            let mut outlets = files(&rt, rt.alloc());
+        Ok(Job::Run(..)) => {
+            let mut outlets = files(&rt, alloc);
             desk_live(
                 &rt,
-                rt.alloc(),
+                alloc,
                 &words,
                 &mut input,
                 &mut output,
@@ -76,9 +73,13 @@ fn main(rt: HostRuntime) -> ExitCode {
                 &DeskPace::new(&rt),
             )
         }
-        done => done,
+        Ok(_) => desk(alloc, &words, &mut input, &mut output),
+        Err(WordsFault::Usage) => Status::Usage,
+        Err(WordsFault::Memory) => Status::Memory,
     };
     // What was answered before a fault is handed on as far as it can be.
-    let _ = output.flush();
-    end(&rt, status)
+    match output.flush() {
+        Ok(()) => end(&rt, status),
+        Err(_) => end(&rt, status_unwritten(status)),
+    }
 }
