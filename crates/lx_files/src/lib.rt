@@ -2,7 +2,9 @@
 #![tactic(auto)]
 
 mod operators;
+mod pace;
 mod universes;
 
 pub use operators::{OperatorFile, scripts};
-pub use universes::{DeskPace, UniverseFile, files};
+pub use pace::DeskPace;
+pub use universes::{UniverseFile, files};

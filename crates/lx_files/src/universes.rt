@@ -1,17 +1,16 @@
-//! The outlets and the pace of the program's live runs: a file for each universe, and beats of 20 milliseconds.
+//! The outlets of the program's live runs: a file for each universe.
 
 ghost use Rattle.std.specs.Prelude.{◌≡◌, ◌≤◌, length, IfOk, None, IsSome};
 ghost use Rattle.lx_base.specs.declared.TheConstants.{UNIVERSES};
 ghost use Rattle.lx_files.specs.Places.{AreFilled};
 
 use lx_base::UNIVERSES;
-use lx_io::{Pace, Sink, SinkFault};
+use lx_io::{Sink, SinkFault};
 use std::alloc::Global;
 use std::fs::File;
 use std::io::{BufWriter, Write};
-use std::rt::{Clock, Files};
-use std::time::Duration;
-use std::{fs, io, thread};
+use std::rt::Files;
+use std::{fs, io};
 
 /// Room for the longest line of an outlet: 512 slots of at most 8 bytes each, and less than 100 bytes before them.
 const LINE_ROOM: usize = 8_192;
@@ -97,30 +96,6 @@ impl<R: Files<File = File>> Sink for UniverseFile<'_, R> {
             }
         }
     }
-}
-
-/// The pace of the desk's clock: 20 milliseconds a beat, and 2 milliseconds between two looks for something new.
-#[derive(Drop)]
-pub struct DeskPace<'r, R> {
-    rt: &'r R,
-}
-
-impl<'r, R: Clock> DeskPace<'r, R> {
-    pub fn new(rt: &'r R) -> DeskPace<'r, R> {
-        DeskPace { rt }
-    }
-}
-
-impl<R: Clock> Pace for DeskPace<'_, R> {
-    fn beat(&self) {
-        thread::sleep(self.rt, Duration::from_millis(20));
-    }
-
-    fn pause(&self) {
-        thread::sleep(self.rt, Duration::from_millis(2));
-    }
-
-    fn taken(&self, _universe: u8, _count: u64) {}
 }
 
 /// The files of all universes.
