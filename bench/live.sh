@@ -32,15 +32,14 @@ if [ "${1:-}" = pace ]; then
     python3 - "$(realpath "${2:-$top/crates/cuedesk/out/cuedesk}")" <<'PYTHON'
 import os, subprocess, sys, time
 def minute(words):
-    """How long a minute of show took, and how late each of its frames came, in milliseconds."""
+    """How long a minute of show took from its first frame to its last, and how late each of them came, in milliseconds."""
     os.mkfifo('universe-1.txt')
-    begin = time.monotonic()
     with open('live') as script:
         desk = subprocess.Popen([sys.argv[1], 'run', '1'], stdin=script, stdout=subprocess.DEVNULL)
     with open('universe-1.txt', 'rb', 0) as outlet:
         came = [(time.monotonic(), int(line.split(b' ', 3)[2])) for line in outlet]
-    assert desk.wait() == 0
-    took = time.monotonic() - begin
+    assert desk.wait() == 0 and (came[0][1], came[-1][1]) == (0, 6000)
+    took = came[-1][0] - came[0][0]
     os.remove('universe-1.txt')
     ahead = [1000 * at - 10 * moment for at, moment in came]
     late = sorted(each - min(ahead) for each in ahead)

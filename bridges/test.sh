@@ -22,4 +22,6 @@ done
 [ -z "$missing" ] || left_out "apt-get install --no-install-recommends$(tr ' ' '\n' <<< "$missing" | sort -u | tr '\n' ' ' | sed 's/ $//')"
 space=(unshare --net --pid --fork --kill-child --mount-proc)
 "${space[@]}" true 2> /dev/null || left_out "only root may make a network name space"
+"${space[@]}" sh -c 'for kind in dummy ifb veth; do ip link add nowhere type $kind && exit; done; exit 1' 2> /dev/null ||
+    left_out "this kernel makes no interface of the types dummy, ifb and veth"
 exec "${space[@]}" /usr/bin/python3 "$here/tests/all.py" "$@"

@@ -18,6 +18,8 @@ def main() -> int:
     parser.add_argument("--program", default=os.path.join(rig.TOP, "crates/cuedesk/out/cuedesk"))
     parser.add_argument("--only", default="")
     given = parser.parse_args()
+    if not os.path.exists(given.program):
+        parser.error(f"there is no {given.program}: ./cuedesk builds it")
     rig.made_space()
     passed = failed = 0
     for test in ola_tests.TESTS:

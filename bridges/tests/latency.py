@@ -8,7 +8,6 @@ when each frame came, every universe goes out on E1.31.
 import argparse
 import os
 import random
-import subprocess
 import tempfile
 import time
 from typing import Dict, Tuple
@@ -40,13 +39,6 @@ def written(folder: str, universes: int, seconds: float, spread: float) -> Dict[
     return moments
 
 
-def processor_seconds(process: subprocess.Popen) -> float:
-    """What a process has used so far."""
-    with open(f"/proc/{process.pid}/stat") as file:
-        fields = file.read().rsplit(")", 1)[1].split()
-    return (int(fields[11]) + int(fields[12])) / os.sysconf("SC_CLK_TCK")
-
-
 def main() -> None:
     """Prints the median, the 99th of 100 and the greatest latency."""
     parser = argparse.ArgumentParser()
@@ -61,10 +53,10 @@ def main() -> None:
         shares = [list(range(1 + n, given.universes + 1, given.observers)) for n in range(given.observers)]
         observers = [rig.Observer(share) for share in shares if share]
         bridge = rig.Bridge(folder, given.universes)
-        used = processor_seconds(olad.process)
+        used = olad.processor_seconds()
         moments = written(folder, given.universes, given.seconds, 0 if given.at_once else 0.002)
-        bridge_used = processor_seconds(bridge.process)
-        used = processor_seconds(olad.process) - used
+        bridge_used = rig.processor_seconds(bridge.process.pid)
+        used = olad.processor_seconds() - used
         status, said = bridge.end()
         late = []
         for observer in observers:

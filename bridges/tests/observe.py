@@ -7,6 +7,7 @@ import select
 import signal
 import sys
 import time
+from typing import List
 
 from ola.ClientWrapper import ClientWrapper
 
@@ -18,7 +19,8 @@ def main() -> None:
     global now
     universes = list(map(int, sys.argv[2:]))
     client = ClientWrapper().Client()
-    told = []
+    told: List[object] = []
+    is_ready = False
     signal.signal(signal.SIGTERM, lambda *_: sys.exit())
     with open(sys.argv[1], "w") as out:
         for universe in universes:
@@ -31,9 +33,9 @@ def main() -> None:
                 client.SocketReady()
             except OSError:
                 signal.pause()      # olad was killed
-            if told is not None and len(told) == len(universes):
+            if not is_ready and len(told) == len(universes):
+                is_ready = True
                 print("ready", flush=True)
-                told = None
 
 
 if __name__ == "__main__":

@@ -93,7 +93,7 @@ class Run:
         for universe, lines in zip(self.universes, self.lines()):
             last = plain_desk.versions(self.script, universe)[-1].rstrip(b"\n")
             if lines[-1] != last:
-                wrong.append(f"universe {universe}: the desk's last line is {lines[-1][:40]}, not {last[:40]}")
+                wrong.append(f"universe {universe}: the desk's last line is {lines[-1][:40]!r}, not {last[:40]!r}")
             if rig.held(universe) != levels_of(lines[-1]):
                 wrong.append(f"universe {universe}: olad doesn't hold the last line")
         return wrong + ([f"left in the folder: {os.listdir(self.folders[1])}"] if os.listdir(self.folders[1]) else [])
@@ -124,6 +124,21 @@ def live_run(program: str) -> List[str]:
             if not sent or sent[-1] != levels_of(lines[-1]) or out_of_order(sent, lines) or len(sent) < len(lines) / 4:
                 wrong.append(f"{name}: {len(sent)} packets of {len(lines)} lines, {out_of_order(sent, lines)} of them no line in its order")
     return wrong
+
+
+def first_show_of_the_readme(program: str) -> List[str]:
+    """An olad as loopback.sh starts it by itself, and a show of two universes."""
+    with open(os.path.join(rig.TOP, "examples", "live.asc"), "rb") as source:
+        script = source.read()
+    with tempfile.TemporaryDirectory() as folder:
+        os.chmod(folder, 0o755)
+        olad = subprocess.Popen([os.path.join(rig.BRIDGES, "loopback.sh")], env={**os.environ, "TMPDIR": folder}, stdin=subprocess.DEVNULL)
+        try:
+            rig.until(rig.takes_calls, "olad takes calls")
+            return Run(folder, program, script, 2).end()
+        finally:
+            olad.kill()
+            olad.wait()
 
 
 def olad_killed_midway(program: str) -> List[str]:
@@ -272,12 +287,12 @@ def a_slow_olad_gets_the_newest(_program: str) -> List[str]:
         lines = [full_line(n, 1) for n in range(1, 52)]
         fed.write(1, lines[0])
         rig.until(lambda: holds(1, lines[0]), "olad holds the first line")
-        olad.process.send_signal(signal.SIGSTOP)
+        olad.signal(signal.SIGSTOP)
         for line in lines[1:]:
             fed.write(1, line)
             time.sleep(0.02)
         time.sleep(1.5)
-        olad.process.send_signal(signal.SIGCONT)
+        olad.signal(signal.SIGCONT)
         wrong = wrong_end(fed, 0, "olad hasn't answered for 2 seconds")
         seen = [levels for _, levels in observer.stop().get(1, ()) if not is_dark(levels)]
         wanted = [levels_of(line) for line in (lines[0], lines[1], lines[-1])]
@@ -341,10 +356,11 @@ def what_keeps_the_bridge_from_beginning(_program: str) -> List[str]:
         path = os.path.join(folder, "universe-2.txt")
         with open(path, "w") as file:
             file.write("frame 0 0 2\n")
-        for words, part in ((["2"], "no named pipe"), (["1", "--folder", "/nowhere"], "No such file"), (["0"], "from 1 to 32"), (["33"], "from 1 to 32"), (["x"], "invalid int")):
-            run = subprocess.run([rig.PYTHON, os.path.join(rig.BRIDGES, "ola.py"), *words], cwd=folder, capture_output=True, text=True, timeout=rig.SECONDS)
+        for line, part in (("2", "no named pipe"), ("1 --folder /nowhere", "No such file"), ("0", "from 1 to 32"), ("33", "from 1 to 32"), ("x", "invalid int")):
+            words = [rig.PYTHON, os.path.join(rig.BRIDGES, "ola.py"), *line.split()]
+            run = subprocess.run(words, cwd=folder, capture_output=True, text=True, timeout=rig.SECONDS)
             if run.returncode != 2 or part not in run.stderr.splitlines()[-1] or "Traceback" in run.stderr:
-                wrong.append(f"{words}: status {run.returncode}, {run.stderr}")
+                wrong.append(f"{line}: status {run.returncode}, {run.stderr}")
         wrong += [] if os.listdir(folder) == ["universe-2.txt"] else [f"left: {os.listdir(folder)}"]
     return wrong
 
@@ -374,6 +390,6 @@ def an_outlet_that_never_begins(_program: str) -> List[str]:
 
 
 TESTS: List[Callable[[str], List[str]]] = [
-    live_run, olad_killed_midway, last_frame_of_many_short_runs, a_resting_universe_comes_back_with_olad, no_olad, olad_comes_after_the_desk_has_ended,
+    live_run, first_show_of_the_readme, olad_killed_midway, last_frame_of_many_short_runs, a_resting_universe_comes_back_with_olad, no_olad, olad_comes_after_the_desk_has_ended,
     a_universe_without_a_port, a_port_is_patched_meanwhile, a_slow_olad_gets_the_newest, lines_that_are_no_frames, the_longest_and_the_shortest_line,
     pipes_are_left_as_they_were, what_keeps_the_bridge_from_beginning, ended_by_a_signal, an_outlet_that_never_begins]

@@ -20,8 +20,6 @@ PORT = 9010
 SECONDS = 20
 # E1.31 wants an interface that isn't loopback. This one leads nowhere, and has an address that no network has.
 OTHER_ADDRESS = "192.0.2.1"
-PLUGINS = ("artnet dummy e131 espnet ftdidmx gpio karate kinet milinst opendmx openpixelcontrol osc pathport renard sandnet shownet spi "
-           "stageprofi uartdmx usbdmx usbserial")
 # The plugins that run, as olad's file of ports numbers them.
 DUMMY, ART_NET, E131 = 1, 2, 11
 
@@ -31,32 +29,32 @@ from ola.OlaClient import OlaClient  # noqa: E402
 
 def made_space() -> None:
     """Sets loopback up, and an interface that leads nowhere."""
-    run = lambda *words: subprocess.run(words, stderr=subprocess.DEVNULL).returncode == 0
-    run("ip", "link", "set", "lo", "up")
-    if not any(run("ip", "link", "add", "nowhere", "type", *kind) for kind in (["dummy"], ["ifb"], ["veth", "peer", "name", "nobody"])):
-        raise SystemExit("no interface of the type dummy, ifb or veth can be made")
-    for words in (["link", "set", "nobody", "up"], ["addr", "add", OTHER_ADDRESS + "/24", "dev", "nowhere"], ["link", "set", "nowhere", "up"]):
-        run("ip", *words)
+    def run(*words: str) -> bool:
+        return subprocess.run(["ip", *words], stderr=subprocess.DEVNULL).returncode == 0
+
+    run("link", "set", "lo", "up")
+    if not any(run("link", "add", "nowhere", "type", kind) for kind in ("dummy", "ifb", "veth")):
+        raise SystemExit("no interface of the types dummy, ifb and veth can be made")
+    run("addr", "add", OTHER_ADDRESS + "/24", "dev", "nowhere")
+    run("link", "set", "nowhere", "up")
+    run("link", "set", "veth0", "up")       # the other end, where it is of the type veth
 
 
 class Olad:
-    """olad as its package's own user, with Dummy, Art-Net and E1.31 alone."""
+    """olad as loopback.sh starts it, as its package's own user, but with Dummy and E1.31 beside Art-Net."""
 
     def __init__(self, ports: List[Tuple[int, int, int]], universes: int = 4) -> None:
         """Output ports as (plugin, port, universe); E1.31 and Art-Net have so many."""
         self.folder = tempfile.mkdtemp(prefix="olad-")
+        os.chmod(self.folder, 0o755)
         self.process: Optional[subprocess.Popen] = None
-        conf = os.path.join(self.folder, "conf")
-        os.mkdir(conf)
-        said = {name: "enabled = false\n" for name in PLUGINS.split()}
-        said["dummy"] = "enabled = true\n"
-        said["artnet"] = f"enabled = true\nip = 127.0.0.1\nuse_loopback = true\nalways_broadcast = true\noutput_ports = {universes}\n"
-        said["e131"] = f"enabled = true\nip = {OTHER_ADDRESS}\noutput_ports = {universes}\ninput_ports = 0\n"
-        said["port"] = "".join(f"{plugin}-1-O-{port} = {universe}\n" for plugin, port, universe in ports)
+        said = {"dummy": "enabled = true\n",
+                "artnet": f"enabled = true\nip = 127.0.0.1\nuse_loopback = true\nalways_broadcast = true\noutput_ports = {universes}\n",
+                "e131": f"enabled = true\nip = {OTHER_ADDRESS}\noutput_ports = {universes}\ninput_ports = 0\n",
+                "port": "".join(f"{plugin}-1-O-{port} = {universe}\n" for plugin, port, universe in ports)}
         for name, text in said.items():
-            with open(os.path.join(conf, f"ola-{name}.conf"), "w") as out:
+            with open(os.path.join(self.folder, f"ola-{name}.conf"), "w") as out:
                 out.write(text)
-        subprocess.run(["chown", "-R", "olad", self.folder], check=True)
 
     def __enter__(self) -> "Olad":
         self.start()
@@ -68,19 +66,28 @@ class Olad:
 
     def start(self) -> None:
         """Starts it, and waits until it takes calls."""
-        words = ["setpriv", "--reuid", "olad", "--regid", "nogroup", "--init-groups", "olad", "-c", os.path.join(self.folder, "conf"), "-i", "127.0.0.1",
-                 "-l", "2", "--no-register-with-dns-sd", "--no-http"]
         with open(os.path.join(self.folder, "log"), "a") as log:
-            self.process = subprocess.Popen(words, env={**os.environ, "HOME": self.folder}, stdin=subprocess.DEVNULL, stdout=log, stderr=log)
+            words = [os.path.join(BRIDGES, "loopback.sh"), self.folder]
+            self.process = subprocess.Popen(words, stdin=subprocess.DEVNULL, stdout=log, stderr=log)
         until(lambda: takes_calls(), "olad takes calls")
 
     def stop(self, how: int = signal.SIGKILL) -> None:
-        """Ends it at once."""
+        """Ends it."""
         if self.process:
-            self.process.send_signal(signal.SIGCONT)
-            self.process.send_signal(how)
+            self.signal(signal.SIGCONT)
+            self.signal(how)
             self.process.wait(SECONDS)
             self.process = None
+
+    def signal(self, how: int) -> None:
+        """Sends a signal to it."""
+        assert self.process
+        self.process.send_signal(how)
+
+    def processor_seconds(self) -> float:
+        """What it has used so far."""
+        assert self.process
+        return processor_seconds(self.process.pid)
 
 
 def until(holds, what: str, seconds: float = SECONDS) -> None:
@@ -96,6 +103,13 @@ def takes_calls() -> bool:
     """Whether something listens on olad's port."""
     with socket.socket() as asked:
         return asked.connect_ex(("127.0.0.1", PORT)) == 0
+
+
+def processor_seconds(process: int) -> float:
+    """What a process has used so far."""
+    with open(f"/proc/{process}/stat") as file:
+        fields = file.read().rsplit(")", 1)[1].split()
+    return (int(fields[11]) + int(fields[12])) / os.sysconf("SC_CLK_TCK")
 
 
 def held(universe: int) -> Optional[bytes]:
@@ -115,6 +129,7 @@ class Observer:
         self.seen = tempfile.NamedTemporaryFile("r", prefix="seen-")
         words = [PYTHON, os.path.join(BRIDGES, "tests", "observe.py"), self.seen.name, *map(str, universes)]
         self.process = subprocess.Popen(words, stdout=subprocess.PIPE)
+        assert self.process.stdout
         if self.process.stdout.readline() != b"ready\n":
             raise RuntimeError("the observer didn't begin")
 
@@ -122,13 +137,17 @@ class Observer:
         """When which levels came, by universe."""
         time.sleep(0.1)
         self.process.terminate()
-        self.process.wait(SECONDS)
-        self.process.stdout.close()
+        self.process.communicate(timeout=SECONDS)
         frames: Dict[int, List[Tuple[float, bytes]]] = {}
         for line in self.seen:
             when, universe, levels = line.split()
             frames.setdefault(int(universe), []).append((float(when), bytes.fromhex(levels).ljust(512, b"\0")))
         return frames
+
+
+def takes_ctrl_c() -> None:
+    """What a shell starts in the background ignores Ctrl-C, and so would the bridge."""
+    signal.signal(signal.SIGINT, signal.SIG_DFL)
 
 
 class Bridge:
@@ -137,7 +156,7 @@ class Bridge:
     def __init__(self, folder: str, universes: int, *words: str) -> None:
         self.folder = folder
         self.process = subprocess.Popen([PYTHON, os.path.join(BRIDGES, "ola.py"), str(universes), *words], cwd=folder, stdin=subprocess.DEVNULL,
-                                        stdout=subprocess.PIPE, stderr=subprocess.PIPE)
+                                        stdout=subprocess.PIPE, stderr=subprocess.PIPE, preexec_fn=takes_ctrl_c)
         pipes = [os.path.join(folder, f"universe-{u}.txt") for u in range(1, universes + 1)]
         until(lambda: self.process.poll() is not None or all(map(os.path.exists, pipes)), "the bridge makes its pipes")
 
