@@ -46,7 +46,7 @@ def minute(words):
     print('%s: 60 s of show took %.3f s; %d frames came, late by %.1f ms at the median, %.1f at the worst and %.1f at the end; load %.1f' % (
         words, took, len(came), late[len(late) // 2], late[-1], ahead[-1] - min(ahead), os.getloadavg()[0]), flush=True)
 minute('alone')
-busy = [subprocess.Popen([sys.executable, '-c', 'while True: pass']) for _ in range(2 * (os.cpu_count() or 1))]
+busy = [subprocess.Popen([sys.executable, '-c', 'import os; os.sched_setscheduler(0, os.SCHED_OTHER, os.sched_param(0))\nwhile True: pass']) for _ in range(2 * (os.cpu_count() or 1))]
 try:
     minute('beside busy processes')
 finally:

@@ -9,6 +9,7 @@ taken the last frame of each; the pipes that it made are then removed. What it c
 is never started.
 """
 import argparse
+import fcntl
 import os
 import select
 import signal
@@ -91,6 +92,9 @@ class Outlet:
             if not stat.S_ISFIFO(os.stat(self.path).st_mode):
                 raise Fault(f"{self.path} is no named pipe: move it away")
             self._file = os.open(self.path, os.O_RDONLY | os.O_NONBLOCK)
+            fcntl.flock(self._file, fcntl.LOCK_EX | fcntl.LOCK_NB)
+        except BlockingIOError as error:
+            raise Fault(f"{self.path} is read by another ola.py") from error
         except OSError as error:
             raise Fault(f"{self.path}: {error.strerror}") from error
 

@@ -365,6 +365,18 @@ def what_keeps_the_bridge_from_beginning(_program: str) -> List[str]:
     return wrong
 
 
+def two_bridges_in_one_folder(_program: str) -> List[str]:
+    """The second doesn't begin, since each would get a part of the lines; the first goes on."""
+    with tempfile.TemporaryDirectory() as folder, rig.Olad(PORTS):
+        first = rig.Bridge(folder, 1)
+        with open(os.path.join(folder, "universe-1.txt"), "wb", 0) as pipe:
+            status, said = rig.Bridge(folder, 2).end()
+            pipe.write(full_line(7, 1) + b"\n")
+        wrong = [] if status == 2 and len(said) == 1 and "read by another" in said[0] else [f"the second: status {status}, said {said}"]
+        ended = first.end()
+        return wrong + ([] if ended == (0, []) and holds(1, full_line(7, 1)) else [f"the first: {ended}"]) + os.listdir(folder)
+
+
 def ended_by_a_signal(_program: str) -> List[str]:
     """Ctrl-C and SIGTERM end it without a word, and its pipes are gone."""
     wrong = []
@@ -392,4 +404,4 @@ def an_outlet_that_never_begins(_program: str) -> List[str]:
 TESTS: List[Callable[[str], List[str]]] = [
     live_run, first_show_of_the_readme, olad_killed_midway, last_frame_of_many_short_runs, a_resting_universe_comes_back_with_olad, no_olad, olad_comes_after_the_desk_has_ended,
     a_universe_without_a_port, a_port_is_patched_meanwhile, a_slow_olad_gets_the_newest, lines_that_are_no_frames, the_longest_and_the_shortest_line,
-    pipes_are_left_as_they_were, what_keeps_the_bridge_from_beginning, ended_by_a_signal, an_outlet_that_never_begins]
+    pipes_are_left_as_they_were, what_keeps_the_bridge_from_beginning, two_bridges_in_one_folder, ended_by_a_signal, an_outlet_that_never_begins]
