@@ -4,6 +4,8 @@
 # played with a pace of none, and once with beats of a millisecond, by which the workers wait when a tick comes: then the engine's own time
 # from beat to beat is told. The copy stands on the proofs of the crates here (`rt all check` first); only its `main` is proved anew.
 # Run by hand on a quiet machine. `bench/live.sh files` instead plays 500 ticks by the program itself, into files, at its own pace.
+# `bench/live.sh pace [PROGRAM]` plays 3,000 ticks, a minute of show, at the program's own pace, alone and then beside two busy processes for each
+# processor, and says how late each moment of the show came by the machine's steady clock, beside the one that came earliest.
 set -eu
 top=$(cd "$(dirname "$0")/.." && pwd)
 copy=$(mktemp -d)
@@ -23,6 +25,34 @@ if [ "${1:-}" = files ]; then
     TIMEFORMAT='500 ticks into 16 files: %R s, %U s of processor time and %S s in the system'
     time "$top/crates/cuedesk/out/cuedesk" run 16 < short > /dev/null
     wc -l universe-*.txt | tail -1
+    exit
+fi
+if [ "${1:-}" = pace ]; then
+    cd "$copy"
+    python3 - "$(realpath "${2:-$top/crates/cuedesk/out/cuedesk}")" <<'PYTHON'
+import os, subprocess, sys, time
+def minute(words):
+    """How long a minute of show took from its first frame to its last, and how late each of them came, in milliseconds."""
+    os.mkfifo('universe-1.txt')
+    with open('live') as script:
+        desk = subprocess.Popen([sys.argv[1], 'run', '1'], stdin=script, stdout=subprocess.DEVNULL)
+    with open('universe-1.txt', 'rb', 0) as outlet:
+        came = [(time.monotonic(), int(line.split(b' ', 3)[2])) for line in outlet]
+    assert desk.wait() == 0 and (came[0][1], came[-1][1]) == (0, 6000)
+    took = came[-1][0] - came[0][0]
+    os.remove('universe-1.txt')
+    ahead = [1000 * at - 10 * moment for at, moment in came]
+    late = sorted(each - min(ahead) for each in ahead)
+    print('%s: 60 s of show took %.3f s; %d frames came, late by %.1f ms at the median, %.1f at the worst and %.1f at the end; load %.1f' % (
+        words, took, len(came), late[len(late) // 2], late[-1], ahead[-1] - min(ahead), os.getloadavg()[0]), flush=True)
+minute('alone')
+busy = [subprocess.Popen([sys.executable, '-c', 'import os; os.sched_setscheduler(0, os.SCHED_OTHER, os.sched_param(0))\nwhile True: pass']) for _ in range(2 * (os.cpu_count() or 1))]
+try:
+    minute('beside busy processes')
+finally:
+    for process in busy:
+        process.kill()
+PYTHON
     exit
 fi
 cp -a "$top/crates.txt" "$top/HANDLES" "$top/crates" "$copy"
