@@ -156,6 +156,10 @@ stands_over d show before stands = record {
   };
 }
 
+pub stands_with : (d : Desk) (show : Show) (before now : Kept) → now ≡ record before { show = show } → StandsFor d before
+    → StandsFor (record d { show = show }) now
+stands_with d show before now is stands = subst (StandsFor (record d { show = show })) (sym is) (stands_over d show before stands)
+
 -- the desk with the show that a plan makes
 pub stands_planned : (d : Desk) (plan : Plan) (before seen now : Kept) → before ≡ seen
     → now ≡ record before { show = planned before.show plan } → StandsFor d seen

@@ -224,4 +224,19 @@ impl Console {
         self.output.follow(change, &self.player);
         undo
     }
+
+    /// Exchanges the show for another of as many channels, and hands back the one that stood before, as a host does that
+    /// loads a corrected show while cues run. All else stays: the runs go on over the cues of the given show, also over
+    /// those that it lacks. Rows, levels and slots are then those of that show, also where fades are under way. It takes
+    /// no memory, and costs what the whole show does.
+    pub fn replace_show(&mut self, show: Show) -> Show
+        requires { show.channels ≡ self.old.show.channels }
+        ensures before { result ≡ self.old.show }
+        ensures now { self.new ≡ record self.old { show = show } }
+        ensures stands { (d : Desk) → StandsFor d self.old → StandsFor (record d { show = show }) self.new }
+    {
+        let before = self.player.replace_show(show);
+        self.output.retake(self.player.levels(), &self.player);
+        before
+    }
 }

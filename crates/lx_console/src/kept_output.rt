@@ -89,6 +89,17 @@ impl KeptOutput {
         self.fill(levels, player);
     }
 
+    /// Takes up the player's whole patch, as for another show of the same channels, then fills in the outputs and the
+    /// slots.
+    pub fn retake(&mut self, levels: &[Level], player: &Player)
+        requires levels { length levels.now ≡ player.now.show.channels }
+        requires reaches { Reaches player.now.show.channels self.old }
+        ensures { IsMixed levels.now player.now self.new }
+    {
+        self.table.refresh(player.show());
+        self.fill(levels, player);
+    }
+
     /// Shows the player after a change; before it the output showed the player as it was.
     pub(crate) fn follow(&mut self, change: Change, player: &Player)
         requires { WasFilled change player.now self.old }

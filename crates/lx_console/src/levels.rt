@@ -97,6 +97,17 @@ pub(crate) fn recompute_touched(
     changed
 }
 
+/// Makes each channel anew from the live runs.
+pub(crate) fn recompute_all(levels: &mut Levels, show: &Show, sheet: &Sheet, playback: &Playback)
+    requires rows { RowsStandFor show.now sheet.now }
+    requires moment { levels.old.moment ≡ playback.now.moment }
+    requires reach { length levels.old.stacks ≡ show.now.channels }
+    ensures { LevelsStandFor show.now playback.now levels.new }
+{
+    let _ = show.channels();
+    let _ = recompute_touched(levels, show, sheet, playback, &ChanSet::all());
+}
+
 /// The channel whose value stands at the place.
 pub(crate) fn channel_at(place: usize) -> Chan
     requires { place < CHANNELS }

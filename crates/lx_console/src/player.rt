@@ -23,7 +23,7 @@ ghost use Rattle.lx_console.specs.ConsoleMeaning.{StandsFor, Obeys, Answers, lev
 ghost use Rattle.lx_console.specs.Ticks.{after_ticks};
 
 use crate::change::Change;
-use crate::levels::recompute_touched;
+use crate::levels::{recompute_all, recompute_touched};
 use crate::ticks::{press_key, tick_of};
 use crate::unseen::{placed_alone, seen};
 use lx_base::{Chan, CueNo, Level, Moment, SubNo};
@@ -286,6 +286,24 @@ impl Player {
             change: Change::of_edit(&dirty, leveled),
             undo,
         }
+    }
+
+    /// Exchanges the show for another of as many channels, and hands back the one that stood before. All else stays: the
+    /// runs go on over the cues of the given show. All rows and levels are then those of that show, also where fades are
+    /// under way, and so is what the submasters give. It takes no memory, and costs what the whole show does.
+    ///
+    /// An output that showed the player takes up the whole patch again (`KeptOutput::retake`).
+    pub fn replace_show(&mut self, show: Show) -> Show
+        requires { show.channels ≡ self.old.show.channels }
+        ensures before { result ≡ self.old.show }
+        ensures now { self.new ≡ record self.old { show = show } }
+        ensures stands { (d : Desk) → StandsFor d self.old → StandsFor (record d { show = show }) self.new }
+    {
+        let before = std::mem::replace(&mut self.show, show);
+        self.sheet.refill(&self.show);
+        self.rack.changed(&self.show);
+        recompute_all(&mut self.levels, &self.show, &self.sheet, &self.playback);
+        before
     }
 }
 

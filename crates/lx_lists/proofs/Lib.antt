@@ -6,3 +6,4 @@ pub mod SecondLines
 pub mod TwoAnswers
 pub mod NextAttempt
 pub mod LineAnswers
+pub mod Replays

@@ -2,3 +2,4 @@ pub mod TwoListsMeaning
 pub mod KeptLists
 pub mod OtherList
 pub mod SecondLines
+pub mod Laws

@@ -5,6 +5,7 @@
 mod attempts;
 mod desk;
 mod frame;
+pub mod laws;
 mod output;
 mod session;
 mod split;
