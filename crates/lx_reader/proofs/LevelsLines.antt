@@ -1,14 +1,12 @@
 -- A line of levels, known by its first bytes.
-use Rattle.std.proofs.Common.{◌≡◌, ◌≤◌, Bool, true, false, cond, List, ◌∷◌, length, Ok, Err, refl, ap, ◌∙◌, ℕ, Result}
+use Rattle.std.proofs.Common.{◌≡◌, ◌≤◌, Bool, true, false, cond, List, ◌∷◌, length, Err, refl, ap, ◌∙◌, ℕ}
 use Rattle.std.specs.Prelude.{◌&&◌, codes}
 use Rattle.lx_base.specs.declared.TheConstants.{LINE_BYTES}
 use Rattle.lx_spec.specs.declared.Move.{Move}
 use Rattle.lx_spec.specs.declared.Section.{Section}
 use Rattle.lx_spec.specs.declared.Section.TheVariants.{NoRecord, InCue, InGroup, InSub, Skipping}
-use Rattle.lx_spec.specs.declared.TextFault.{TextFault}
 use Rattle.lx_spec.specs.declared.TextFault.TheVariants.{LineTooLong}
 use Rattle.lx_spec.specs.declared.Word.TheVariants as words
-use Rattle.lx_spec.specs.Entry.{Entry}
 use Rattle.lx_spec.specs.Facts.{Facts}
 use Rattle.lx_spec.specs.Fields.{levels}
 use Rattle.lx_spec.specs.LineRules.{entry_by_tokens, entry_by_word, entry_of}

@@ -1,39 +1,33 @@
 -- What one line makes of the reader.
 use Rattle.std.proofs.Common.{◌≡◌, ℕ, ◌+◌, length, arith, Bool, true, false, cond, List, [], ◌∷◌, map, Option, Some, None, Result, Ok, Err}
 use Rattle.std.proofs.Common.{refl, ap, ◌∙◌, sym, subst}
-use Rattle.std.specs.Prelude.{◌&&◌, ◌||◌, ◌==◌, not, nat_lt, IfOk, IfErr, OnOk, is_ok, is_some, is_none}
-use Rattle.std.specs.Option.{option_map_or}
+use Rattle.std.specs.Prelude.{◌||◌, ◌==◌, not, nat_lt, IfOk, IfErr, OnOk, is_ok, is_some}
 use Rattle.std.specs.List.{list_any}
 use Rattle.std.specs.Result.{IsOkAnd, IsErrAnd}
 use Rattle.lx_base.specs.declared.TheConstants.{CUES}
 use Rattle.lx_spec.specs.declared.Bad.{Bad}
-use Rattle.lx_spec.specs.SortedList.{entry_at, has_entry, placed}
-use Rattle.lx_spec.specs.EditedShow.{new_part}
-use Rattle.lx_spec.specs.TrackedLevel.{cue_of}
-use Rattle.lx_show.specs.ChangedEntry.{changed}
+use Rattle.lx_spec.specs.SortedList.{entry_at, has_entry}
 use Rattle.lx_spec.specs.declared.TextFault.{TextFault}
 use Rattle.lx_spec.specs.declared.TextFault.TheVariants.{NoIdent, OutOfRange}
 use Rattle.lx_spec.specs.declared.Word.TheVariants as words
-use Rattle.lx_spec.specs.declared.Member.{Member}
 use Rattle.lx_spec.specs.declared.PatchRow.{PatchRow}
 use Rattle.lx_spec.specs.Limits.{desk_limits}
 use Rattle.lx_spec.specs.Numerals.{read_time, read_whole, read_cue_no}
 use Rattle.lx_spec.specs.FirstRefusal.{◌>>=◌}
-use Rattle.lx_spec.specs.Show.{IsTime, Cue, Show, Valid}
+use Rattle.lx_spec.specs.Show.{IsTime, Cue, Show}
 use Rattle.lx_spec.specs.declared.Section.{Section}
 use Rattle.lx_spec.specs.declared.Section.TheVariants.{NoRecord, InCue, Skipping}
-use Rattle.lx_spec.specs.Entry.{Entry, Nothing, Skipped, Identifies, Begins, ClearsAll, HasChannels, Patches, HasLevels, NamesPart, Ends}
-use Rattle.lx_spec.specs.Entry.{part_named, is_end}
-use Rattle.lx_spec.specs.Fields.{times, number, delay_at, levels, is_page_one, record_entry}
+use Rattle.lx_spec.specs.Entry.{Entry, Skipped, Begins, Patches}
+use Rattle.lx_spec.specs.Fields.{times, number, delay_at, is_page_one, record_entry}
 use Rattle.lx_spec.specs.LineRules.{if_few, entry_by_word}
 use Rattle.lx_spec.proofs.ValidLines.{time_in_range}
 use Rattle.lx_reader.specs.declared.reader.Reader.{Reader}
 use Rattle.lx_reader.specs.declared.fault.ShowFault.{ShowFault}
 use Rattle.lx_reader.specs.declared.fault.ShowFault.TheVariants as faults
-use Rattle.lx_reader.specs.FieldLists.{all_pairs, all_triples, next_times, record_number}
+use Rattle.lx_reader.specs.FieldLists.{all_triples, next_times, record_number}
 use Rattle.lx_reader.specs.LineFaults.{IsFaultOf}
-use Rattle.lx_reader.specs.LineOutcome.{facts_of, state_of, placed_at, IsStep, Outcome}
-use Rattle.lx_reader.specs.ReadingState.{ReadingState, step, placed_in, speaks, show_with, with_members, with_rows, with_cue, with_part}
+use Rattle.lx_reader.specs.LineOutcome.{facts_of, state_of, IsStep, Outcome}
+use Rattle.lx_reader.specs.ReadingState.{with_rows, with_cue}
 
 -- a time that was read is within the limit
 pub time_within : (r : Result ℕ Bad) (t : ℕ) (token : List ℕ) → r ≡ read_time token → r ≡ Ok t → IsTime t

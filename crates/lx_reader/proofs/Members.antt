@@ -1,5 +1,5 @@
 -- The levels of a line: the greatest of their channels, and their moves.
-use Rattle.std.proofs.Common.{◌≡◌, ℕ, ◌≤◌, List, [], ◌∷◌, map, IsTrue, arith}
+use Rattle.std.proofs.Common.{ℕ, ◌≤◌, List, [], ◌∷◌, map, IsTrue, arith}
 use Rattle.std.specs.Prelude.{fold, max}
 use Rattle.std.specs.List.{AllByRecursion}
 use Rattle.lx_base.specs.declared.TheConstants.{CHANNELS}

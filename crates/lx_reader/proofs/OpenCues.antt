@@ -1,5 +1,5 @@
 -- A cue that is open: what a line says of it, and that it stays valid.
-use Rattle.std.proofs.Common.{◌≡◌, ℕ, ◌≤◌, Bool, true, false, cond, List, ◌∷◌, map, Option, Some, None, refl, ap, ◌∙◌, sym, subst, IsTrue, arith}
+use Rattle.std.proofs.Common.{◌≡◌, ℕ, ◌≤◌, true, false, cond, List, Option, Some, None, ap, ◌∙◌, sym, subst, IsTrue, arith}
 use Rattle.std.specs.Prelude.{IfSome, ◌==◌}
 use Rattle.std.specs.List.{AllByRecursion}
 use Rattle.std.specs.Option.{option_map_or}

@@ -1,12 +1,11 @@
 -- Levels of a line that go to the open record.
-use Rattle.std.proofs.Common.{◌≡◌, ℕ, ◌≤◌, Bool, true, false, List, [], ◌∷◌, ◌++◌, map, Ok, refl, ap, ◌∙◌, sym, subst, append-nil, arith, IsTrue}
+use Rattle.std.proofs.Common.{◌≡◌, ℕ, ◌≤◌, true, false, List, [], ◌++◌, map, Ok, refl, ap, ◌∙◌, sym, subst, append-nil, arith, IsTrue}
 use Rattle.std.specs.Prelude.{fold, max}
 use Rattle.std.specs.List.{AllByRecursion}
 use Rattle.std.specs.Result.{IsOkAnd}
 use Rattle.lx_base.specs.declared.TheConstants.{GROUPS, SUBS}
 use Rattle.lx_spec.specs.declared.Member.{Member}
 use Rattle.lx_spec.specs.declared.Move.{Move}
-use Rattle.lx_spec.specs.declared.Section.{Section}
 use Rattle.lx_spec.specs.declared.Section.TheVariants.{InCue, InGroup, InSub}
 use Rattle.lx_spec.specs.Entry.{HasLevels}
 use Rattle.lx_spec.specs.Fields.{levels}
@@ -20,11 +19,10 @@ use Rattle.lx_show.proofs.ValidShows.{wider, wider_cue, wider_members, wider_mov
 use Rattle.lx_reader.specs.declared.open_record.Open.{Open}
 use Rattle.lx_reader.specs.declared.open_record.Open.TheVariants as open_records
 use Rattle.lx_reader.specs.declared.reader.Reader.{Reader}
-use Rattle.lx_reader.specs.FieldLists.{all_pairs}
 use Rattle.lx_reader.specs.LineOutcome.{IsStep, Outcome, state_of}
 use Rattle.lx_reader.specs.OpenMoves.{ReadsLevels, members_of}
 use Rattle.lx_reader.specs.OpenRecord.{IsOpen}
-use Rattle.lx_reader.specs.ReadingState.{cue_with, moves_of, placed_in, set_with, show_with, step}
+use Rattle.lx_reader.specs.ReadingState.{cue_with, moves_of, set_with, show_with}
 use Rattle.lx_reader.specs.Settled.{CueFits, FitsIn, SetFits, filled_cue, filled_set, is_open, with_open}
 use Rattle.lx_reader.proofs.Members.{greatest_each, greatest_least, moves_valid}
 use Rattle.lx_reader.proofs.OpenSteps.{changed_here, open_part, opened}

@@ -1,5 +1,5 @@
 -- A record that begins: a new one, or one that was in the show, in whose place a bare one stands.
-use Rattle.std.proofs.Common.{◌≡◌, ℕ, ◌+◌, Bool, true, false, cond, List, [], Option, Some, None, Result, Ok, Err, refl, ap, ◌∙◌, sym, subst, IsTrue}
+use Rattle.std.proofs.Common.{◌≡◌, ℕ, ◌+◌, true, false, cond, List, [], Option, Some, None, Result, Ok, Err, refl, ap, ◌∙◌, sym, subst, IsTrue}
 use Rattle.std.specs.Prelude.{◌||◌, ◌==◌, not, is_some, length, nat_lt}
 use Rattle.std.specs.List.{AllByRecursion}
 use Rattle.std.specs.Result.{IsOkAnd}

@@ -1,5 +1,5 @@
 -- Lines that say something of the open record are steps of the reading.
-use Rattle.std.proofs.Common.{◌≡◌, ℕ, ◌≤◌, Bool, true, false, List, [], ◌∷◌, map, Option, Some, None, Result, Ok, Err, refl, ap, ◌∙◌, sym}
+use Rattle.std.proofs.Common.{◌≡◌, ℕ, Bool, true, false, List, Option, Result, Ok, Err, refl, ap, ◌∙◌, sym}
 use Rattle.std.proofs.Common.{subst, IsTrue}
 use Rattle.std.specs.Prelude.{unwrap_or, OnOk}
 use Rattle.std.specs.Option.{IsSomeAnd, option_map_or}
@@ -11,7 +11,7 @@ use Rattle.lx_spec.specs.declared.Section.TheVariants.{InCue, InGroup, InSub}
 use Rattle.lx_spec.specs.declared.TextFault.{TextFault}
 use Rattle.lx_spec.specs.declared.Word.{Word}
 use Rattle.lx_spec.specs.declared.Word.TheVariants as words
-use Rattle.lx_spec.specs.Entry.{Entry, NamesPart, HasLevels, HasUp, HasDown, Follows, Links, IsLabelled, Blocks, Asserts, is_end, part_named}
+use Rattle.lx_spec.specs.Entry.{Entry, NamesPart, HasUp, HasDown, Follows, Links, IsLabelled, Blocks, Asserts, is_end, part_named}
 use Rattle.lx_spec.specs.Fields.{times}
 use Rattle.lx_spec.specs.LineRules.{cue_entry, inner_entry, members_entry}
 use Rattle.lx_spec.specs.Show.{Cue, IsTime, MemberSet, Show}

@@ -10,10 +10,10 @@ ghost use Rattle.std.specs.Str.{str_to_ascii_uppercase};
 ghost use Rattle.lx_lex.specs.Left.{left};
 ghost use Rattle.lx_reader.specs.LineOutcome.{IsReady, facts_of, Outcome};
 
-use crate::rows::put_rows;
 use crate::fault::ShowFault;
 use crate::numbers::{is_one, next_channel};
 use crate::reader::Reader;
+use crate::rows::put_rows;
 use lx_lex::{Tokens, word_is};
 use lx_spec::{Section, TextFault};
 

@@ -18,8 +18,8 @@ ghost use Rattle.lx_reader.specs.Settled.{Fits, is_open, is_record, settled};
 
 use crate::fault::ShowFault;
 use crate::numbers::{cue_of_record, group_of_record, sub_of_record};
-use crate::open_record::{Open, open_cue, open_group, open_sub, put_record};
 use crate::open_moves::OpenMoves;
+use crate::open_record::{Open, open_cue, open_group, open_sub, put_record};
 use crate::reader::Reader;
 use crate::record_lines::{line_of_cue, line_of_set};
 use crate::word::word_of;
@@ -372,13 +372,7 @@ impl Reading {
     }
 
     /// What the line says goes to the open record. It answers whether it says something.
-    fn says(
-        &mut self,
-        i: u32,
-        line: &[u8],
-        word: Word,
-        tokens: Tokens,
-    ) -> Result<bool, TextFault>
+    fn says(&mut self, i: u32, line: &[u8], word: Word, tokens: Tokens) -> Result<bool, TextFault>
         requires ready { IsReady (settled self.old) i }
         requires fits { Fits self.old }
         requires inside { is_record self.old.reader.section ≡ true }
