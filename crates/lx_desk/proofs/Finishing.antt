@@ -2,11 +2,8 @@
 use Rattle.std.proofs.Common.{◌≡◌, ◌⊎◌, inl, inr, ℕ, Result, Ok, Err, OnOk, Option, List, [], ◌∙◌, sym}
 use Rattle.std.specs.Prelude.{◌≢◌}
 use Rattle.lx_lex.specs.declared.lines.Lines.{Lines}
-use Rattle.lx_spec.specs.declared.TextFault.{TextFault}
-use Rattle.lx_spec.specs.declared.TextFault.TheVariants as texts_of
 use Rattle.lx_reader.specs.declared.fault.ShowFault.{ShowFault}
 use Rattle.lx_reader.specs.declared.fault.ShowFault.TheVariants as shows
-use Rattle.lx_reader.specs.LineFaults.{show_fault}
 use Rattle.lx_session.specs.declared.fault.SessionFault.{SessionFault}
 use Rattle.lx_session.specs.declared.fault.SessionFault.TheVariants as faults
 use Rattle.lx_session.specs.declared.tally.Tally.{Tally}
@@ -73,15 +70,6 @@ session_wants reads writes wants old new sink sink' (Err faults.InputTooLong) c 
 session_wants reads writes wants old new sink sink' (Err faults.Memory) c = λ is. inr c.failed
 
 -- a show that isn't read
-pub text_isnt_read : (text : TextFault) → show_fault text ≡ shows.ReadFault → ⊥
-text_isnt_read (texts_of.NoIdent i) is = cc
-text_isnt_read (texts_of.BadNumber i) is = cc
-text_isnt_read (texts_of.OutOfRange i) is = cc
-text_isnt_read (texts_of.NotInRecord i) is = cc
-text_isnt_read (texts_of.LineTooLong i) is = cc
-text_isnt_read (texts_of.ShortList i) is = cc
-text_isnt_read (texts_of.NoEndData i) is = cc
-
 pub other_not_done : (fault : ShowFault) (s : Status) → status_kept fault s → IsDone s → ⊥
 other_not_done fault s kept = kept_is fault s (λ f t. IsDone t → ⊥) kept (λ done. done) (λ done. done) (λ done. done)
 
@@ -89,6 +77,6 @@ other_not_done fault s kept = kept_is fault s (λ f t. IsDone t → ⊥) kept (�
 pub refusal_reads : {A : Type 0} (h h' : Option (List ℕ)) (fault : ShowFault) (s : Status) (reads reads' : ℕ) → RefusedBy h h' fault s
     → (Err {A = A} fault ≢ Err shows.ReadFault → reads' ≡ reads) → IsDone s → reads' ≡ reads
 refusal_reads h h' fault s reads reads' by kept done = elim by [
-  | inl text ↦ kept (λ is. let same : fault ≡ shows.ReadFault = cc in text_isnt_read text.text (sym text.told ∙ same))
+  | inl text ↦ kept (λ is. let same : fault ≡ shows.ReadFault = cc in let odd : shows.Text text.text ≡ shows.ReadFault = sym text.told ∙ same in cc)
   | inr other ↦ absurd (other_not_done fault s other.is done)
 ]

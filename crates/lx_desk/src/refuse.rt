@@ -1,14 +1,13 @@
 //! A show that is refused, or couldn't be read.
 #![tactic(auto, using(lx_io::proofs::Chain::puts))]
 
-ghost use Rattle.std.specs.Prelude.{◌≡◌, ◌≢◌, ◌⊎◌, ◌∷◌, [], codes, decimal, IfOk, IfErr, ℕ, OnOk};
+ghost use Rattle.std.specs.Prelude.{◌≡◌, ◌≢◌, ◌⊎◌, ◌∷◌, [], ℕ, codes, decimal, OnOk};
 ghost use Rattle.std.specs.Io.KnownBytes.{Appends, Keeps};
 ghost use Rattle.lx_io.specs.Causes.{Rose};
 ghost use Rattle.lx_io.specs.Puts.{AppendsFront, Puts};
 ghost use Rattle.lx_spec.specs.ShowText.{line as text_line};
 ghost use Rattle.lx_spec.specs.FaultLine.{fault_text};
-ghost use Rattle.lx_reader.specs.LineFaults.{show_fault};
-ghost use Rattle.lx_desk.specs.ShowRefusal.{RefusedBy, status_kept};
+ghost use Rattle.lx_desk.specs.ShowRefusal.{RefusedBy};
 ghost use Rattle.lx_desk.specs.Finished.{Finishes, HasWanted};
 
 use crate::desk::Status;
@@ -24,28 +23,11 @@ pub(crate) fn refuse<K: Sink>(fault: ShowFault, output: &mut K) -> Status
     ensures finished { (reads : ℕ) → Finishes reads reads K.faults K.wants K.back output.old output.new result }
     ensures memory { HasWanted K.wants output.old output.new result }
 {
-    match text_fault(fault) {
-        Ok(fault) => write_fault(fault, output),
-        Err(status) => status,
-    }
-}
-
-/// The fault of the text, or the status of any other fault.
-fn text_fault(fault: ShowFault) -> Result<TextFault, Status>
-    ensures told { IfOk result (λ text. fault ≡ show_fault text) }
-    ensures other { IfErr result (λ status. status_kept fault status) }
-{
     match fault {
-        ShowFault::NoIdent(line) => Ok(TextFault::NoIdent(line)),
-        ShowFault::BadNumber(line) => Ok(TextFault::BadNumber(line)),
-        ShowFault::OutOfRange(line) => Ok(TextFault::OutOfRange(line)),
-        ShowFault::NotInRecord(line) => Ok(TextFault::NotInRecord(line)),
-        ShowFault::LineTooLong(line) => Ok(TextFault::LineTooLong(line)),
-        ShowFault::ShortList(line) => Ok(TextFault::ShortList(line)),
-        ShowFault::NoEndData(line) => Ok(TextFault::NoEndData(line)),
-        ShowFault::ReadFault => Err(Status::ReadFault),
-        ShowFault::InputTooLong => Err(Status::InputTooLong),
-        ShowFault::Memory => Err(Status::Memory),
+        ShowFault::Text(fault) => write_fault(fault, output),
+        ShowFault::ReadFault => Status::ReadFault,
+        ShowFault::InputTooLong => Status::InputTooLong,
+        ShowFault::Memory => Status::Memory,
     }
 }
 

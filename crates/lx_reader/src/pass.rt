@@ -5,7 +5,7 @@ ghost use Rattle.lx_io.specs.Causes.{Rose};
 ghost use Rattle.lx_spec.specs.Show.{Valid};
 ghost use Rattle.lx_reader.specs.LineOutcome.{IsReady, state_of};
 ghost use Rattle.lx_reader.specs.ReadingState.{final_reading};
-ghost use Rattle.lx_reader.specs.SettledCue.{Fits, settled};
+ghost use Rattle.lx_reader.specs.Settled.{Fits, settled};
 ghost use Rattle.lx_reader.specs.Answer.{AnswerOf, IsLoaded, TurnOf, reading_of};
 
 use crate::fault::ShowFault;
@@ -17,7 +17,7 @@ use lx_base::DEFAULT_CHANNELS;
 use lx_io::Source;
 use lx_lex::{Lines, Step};
 use lx_show::Show;
-use lx_spec::Form;
+use lx_spec::{Form, TextFault};
 use std::alloc::Global;
 
 /// Reads a show text, up to its ENDDATA line. No line was read from the lines before. The levels of its cues
@@ -69,12 +69,9 @@ fn read_line<S: Source>(
     ensures kept { result ≢ Err ShowFault.ReadFault → S.faults lines.new.source.now ≡ S.faults lines.old.source.now }
 {
     match lines.advance() {
-        Step::Line => match reader.step(alloc, lines.number(), lines.line()) {
-            Ok(()) => Ok(()),
-            Err(fault) => Err(ShowFault::from(fault)),
-        },
-        Step::LongLine => Err(ShowFault::LineTooLong(lines.number())),
-        Step::End => Err(ShowFault::NoEndData(lines.number() + 1)),
+        Step::Line => reader.step(alloc, lines.number(), lines.line()),
+        Step::LongLine => Err(ShowFault::Text(TextFault::LineTooLong(lines.number()))),
+        Step::End => Err(ShowFault::Text(TextFault::NoEndData(lines.number() + 1))),
         Step::ReadFault => Err(ShowFault::ReadFault),
         Step::InputTooLong => Err(ShowFault::InputTooLong),
     }
