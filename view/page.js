@@ -59,8 +59,8 @@ function placeOf(list, value) {
 /** The rows and columns in sight, with a few beside them. */
 function inSight() {
   const g = get("grid"), n = cues().length;
-  return [Math.max(0, placeOf(offsets, g.scrollTop) - 3), Math.min(n, placeOf(offsets, g.scrollTop + g.clientHeight) + 2),
-    Math.max(0, Math.floor(g.scrollLeft / CELL) - 3), Math.min(columns.length, Math.ceil((g.scrollLeft + g.clientWidth - LEFT) / CELL) + 3)];
+  return [Math.max(0, placeOf(offsets, g.scrollTop) - 2), Math.min(n, placeOf(offsets, g.scrollTop + g.clientHeight - TOP) + 1),
+    Math.max(0, Math.floor(g.scrollLeft / CELL)), Math.min(columns.length, Math.ceil((g.scrollLeft + g.clientWidth - LEFT) / CELL))];
 }
 
 const time = ([time, delay]) => time + (delay === "0" ? "" : ` <small>+${delay}</small>`);
@@ -107,7 +107,7 @@ function levelCell(k, row, column) {
 
 function cueRow(k, first, last) {
   const [, , block, asserted] = D.cues[cues()[k][0]], row = k + 2, run = isRunning(k);
-  let out = `<div class="row${block ? " block" : ""}${asserted ? " assert" : ""}${run ? " now" : ""}" role="row" aria-rowindex="${row + 1}"${run ? ' aria-current="true"' : ""} style="top:${TOP + offsets[k]}px;height:${offsets[k + 1] - offsets[k]}px"><div class="fixed" role="presentation" style="width:${LEFT}px">`;
+  let out = `<div class="row${block ? " block" : ""}${asserted ? " assert" : ""}${run ? " now" : ""}" role="row" aria-rowindex="${row + 1}"${run ? ' aria-current="true"' : ""} style="top:${TOP + offsets[k]}px;height:${offsets[k + 1] - offsets[k]}px;--h:${offsets[k + 1] - offsets[k] - 1 - 2 * block}px"><div class="fixed" role="presentation" style="width:${LEFT}px">`;
   for (let c = 0; c < FIXED.length; c++) out += `<div class="${c === 0 ? "number" : c === 1 ? "l" : ""}" style="width:${FIXED[c]}px" ${named(row, c, c ? "gridcell" : "rowheader")}>${field(k, c)}</div>`;
   out += "</div>";
   for (let c = first; c < last; c++) out += levelCell(k, row, c);

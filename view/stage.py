@@ -61,7 +61,7 @@ class Universe:
         """What stands above its slots."""
         up = sum(map(bool, self.levels))
         state = "" if self.open else ", closed"
-        return f"universe {self.number}  {self.moment / 100:.2f} s  after {self.count} commands, {up} {'slot' if up == 1 else 'slots'} up{state}" + (f"  ({self.said})" if self.said else "")
+        return f"universe {self.number}  {self.moment / 100:.2f} s  after {self.count} command{'' if self.count == 1 else 's'}, {up} {'slot' if up == 1 else 'slots'} up{state}" + (f"  ({self.said})" if self.said else "")
 
 
 @dataclass

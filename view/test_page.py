@@ -246,14 +246,19 @@ def alone(program: str, folder: str) -> list[str]:
 
 
 SCROLL = """(async () => {
-  const g = document.getElementById('grid'), times = [];
-  for (let i = 0; i < 60; i++) {
-    g.scrollTop += 400; g.scrollLeft += 300;
-    const before = performance.now(); drawGrid(); g.offsetHeight; times.push(performance.now() - before);
-    await new Promise(done => requestAnimationFrame(done));
-  }
-  return [times.sort((a, b) => a - b)[30], times[57], document.querySelectorAll('*').length];
+  const g = document.getElementById('grid');
+  for (let i = 0; i < 60; i++) { g.scrollTop += 400; g.scrollLeft += 300; await new Promise(done => requestAnimationFrame(done)); }
+  return document.querySelectorAll('*').length;
 })()"""
+
+
+def scrolled(browser: Browser) -> tuple[float, int]:
+    """Processor time of the page for a step of scrolling to rows and columns that are all new, in milliseconds; how many elements there are."""
+    browser.call("Performance.enable", timeDomain="threadTicks")
+    used = [next(m["value"] for m in browser.call("Performance.getMetrics")["metrics"] if m["name"] == "TaskDuration")]
+    elements = browser.value(SCROLL)
+    used.append(next(m["value"] for m in browser.call("Performance.getMetrics")["metrics"] if m["name"] == "TaskDuration"))
+    return (used[1] - used[0]) / 60 * 1000, elements
 
 
 def great(program: str, folder: str, report: list[str]) -> list[str]:
@@ -267,9 +272,11 @@ def great(program: str, folder: str, report: list[str]) -> list[str]:
     end = asked.first + len(asked.script)
     with Browser() as browser:
         opened = min(browser.open(path) for _ in range(3))
-        median, worst, elements = browser.value(SCROLL)
-        report.append(f"opened in {opened:.2f} s; a step of scrolling {median:.1f} ms, 95 of 100 within {worst:.1f} ms; {elements:,} elements")
-        wrong += [f"opens in {opened:.2f} s"] * (opened > OPENS_IN) + [f"scrolls in {median:.0f} ms"] * (median > 33) + [f"{elements} elements"] * (elements > 6000)
+        step, elements = scrolled(browser)
+        report.append(f"opened in {opened:.2f} s; a step of scrolling takes {step:.1f} ms of processor time; {elements:,} elements; load {os.getloadavg()[0]:.1f}")
+        # A machine with more to do than it has processors says nothing of time.
+        busy = os.getloadavg()[0] > (os.cpu_count() or 1)
+        wrong += [f"opens in {opened:.2f} s"] * (opened > OPENS_IN and not busy) + [f"scrolls in {step:.0f} ms"] * (step > 33 and not busy) + [f"{elements} elements"] * (elements > 6000)
         if "of 2,000 cues" not in browser.value("document.getElementById('sight').textContent") or "as the script leaves it" not in browser.value("document.getElementById('notes').textContent"):
             wrong.append("it doesn't say what it left out")
         browser.value("document.getElementById('at').focus()")
