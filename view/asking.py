@@ -21,12 +21,12 @@ class Asked:
         self.first = lines.index("ENDDATA") + 1
         self.head, self.script = "\n".join(lines[:self.first - 1]) + "\n", lines[self.first:]
         self.script = self.script[:self.script.index("quit")] if "quit" in self.script else self.script
-        self.channels = int(output(program, ["check"], self.head + "ENDDATA\n")[0].split()[4])
+        self.channels = int(output(program, ["check", *job.split()[1:]], self.head + "ENDDATA\n")[0].split()[4])
 
     def ask(self, script: list[str], patched: bool = False) -> list[str]:
         """The replies to a script; with `patched` channel c is on dimmer c alone."""
         rows = "".join(f"PATCH 1 {c}<{c}@FL\n" for c in range(1, self.channels + 1)) if patched else ""
-        return output(self.program, [self.job], self.head + rows + "ENDDATA\n" + "".join(line + "\n" for line in script))
+        return output(self.program, self.job.split(), self.head + rows + "ENDDATA\n" + "".join(line + "\n" for line in script))
 
     def until(self, number: int, time: int) -> list[str]:
         """The script up to a moment after the line of that number in the file: the whole line, or of its ticks those up to the moment."""

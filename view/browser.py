@@ -129,12 +129,14 @@ class Browser:
         for kind in ("mousePressed", "mouseReleased"):
             self.call("Input.dispatchMouseEvent", type=kind, x=x, y=y, button="left", buttons=1, clickCount=1)
 
-    def picture(self, path: str, height: int | None = None) -> None:
-        """A picture of the page, as high as it is or as is said."""
-        high = height or self.value("Math.ceil(document.documentElement.getBoundingClientRect().height + 32)")
+    def picture(self, path: str, part: str = "document.documentElement", edge: int = 16) -> None:
+        """A picture of an element of the page, with an edge about it."""
+        high = self.value("Math.ceil(document.documentElement.getBoundingClientRect().height + 32)")
         self.call("Emulation.setDeviceMetricsOverride", width=self.width, height=int(high), deviceScaleFactor=1, mobile=False)
         self.value("new Promise(done => requestAnimationFrame(() => requestAnimationFrame(() => done(1))))")
-        data = base64.b64decode(self.call("Page.captureScreenshot", format="png")["data"])
+        x, y, width, height = self.value(f"(r => [r.x, r.y, r.width, r.height])(({part}).getBoundingClientRect())")
+        clip = {"x": max(0, x - edge), "y": max(0, y - edge), "width": min(self.width, width + 2 * edge), "height": height + 2 * edge, "scale": 1}
+        data = base64.b64decode(self.call("Page.captureScreenshot", format="png", clip=clip)["data"])
         self.shape()
         with open(path, "wb") as file:
             file.write(data)

@@ -4,7 +4,7 @@
 
 const D = JSON.parse(document.getElementById("data").textContent);
 const get = id => document.getElementById(id);
-const LINE = 24, CELL = 34, FIXED = [62, 236, 92, 92, 66], HEADS = ["cue", "label", "up", "down", "follow"], LEFT = FIXED.reduce((a, b) => a + b), TOP = 90;
+const LINE = 24, CELL = 34, FIXED = [62, 264, 88, 88, 62], HEADS = ["cue", "label", "up", "down", "follow"], LEFT = FIXED.reduce((a, b) => a + b), TOP = 90;
 const PRINTED = 30000, LISTED = 300, REST = 1000, SHORT = 2;
 const count = n => n.toLocaleString("en"), many = (n, one) => `${count(n)} ${one}${n === 1 ? "" : "s"}`;
 const safe = text => text.replace(/[&<>"]/g, c => `&#${c.charCodeAt(0)};`);
@@ -123,7 +123,7 @@ function topRows(first, last) {
   for (let c = first; c < last; c++) {
     const level = frames[at * C + columns[c]], left = LEFT + c * CELL;
     head += `<div class="cell" style="left:${left}px" ${named(0, c + FIXED.length, "columnheader")}>${D.channels[columns[c]]}</div>`;
-    stage += `<div class="cell" style="left:${left}px" ${named(1, c + FIXED.length)}>${level ? `<i style="height:${Math.max(3, level / 255 * 62)}px"></i><span>${percent(level)}</span>` : ""}</div>`;
+    stage += `<div class="cell" style="left:${left}px" ${named(1, c + FIXED.length)}>${level ? `<i style="height:${Math.max(3, level / 255 * 48)}px"></i><span>${percent(level)}</span>` : ""}</div>`;
   }
   return `<div class="top" role="rowgroup">${head}</div>${stage}</div></div>`;
 }
@@ -144,6 +144,13 @@ function drawGrid(force) {
   get("sheet").innerHTML = out + "</div>";
   const name = k => D.cues[cues()[k][0]][0];
   get("sight").textContent = bottom - top >= cues().length && last - first >= columns.length ? "" : `In sight: cues ${name(top)} to ${name(bottom - 1)} of ${count(cues().length)} cues, ${count(last - first)} of ${count(columns.length)} channels; the others are drawn as they come into sight.`;
+  activate();
+}
+
+/** Draws the rows at the top again, of which one has the outputs at the moment. */
+function drawStage() {
+  const [, , first, last] = inSight();
+  document.querySelector(".top").outerHTML = topRows(first, last);
   activate();
 }
 
@@ -196,33 +203,41 @@ function momentAt(x) {
   return Math.max(0, Math.min(M - 1, placeOf(axis, a + 1e-9) - 1));
 }
 
+const still = document.createElement("canvas");
+
+/** Draws the strips, the marks and the seconds, all but the present moment, and shows them. */
 function drawRoll() {
   const roll = get("roll"), canvas = get("strips"), w = width(), h = Math.min(HEAD + FOOT + lane() * columns.length, Math.round(innerHeight * .62)), scale = devicePixelRatio || 1;
   roll.style.height = h + (zoom > 1 ? 18 : 2) + "px";
   get("long").style.width = w * zoom + "px"; get("long").style.height = HEAD + FOOT + lane() * columns.length + "px";
-  canvas.width = w * scale; canvas.height = h * scale; canvas.style.width = w + "px"; canvas.style.height = h + "px";
-  const g = canvas.getContext("2d");
+  still.width = canvas.width = w * scale; still.height = canvas.height = h * scale; canvas.style.width = w + "px"; canvas.style.height = h + "px";
+  const g = still.getContext("2d");
   g.scale(scale, scale); g.font = '11px system-ui, "DejaVu Sans", sans-serif';
   const first = Math.floor(roll.scrollTop / lane()), last = Math.min(columns.length, Math.ceil((roll.scrollTop + h - HEAD) / lane()));
-  for (let k = first; k < last; k++) drawStrip(g, k, HEAD + k * lane() - roll.scrollTop, w, h);
-  drawFrame(g, w, h); drawMarks(g, w, h); drawNow(g, h);
+  for (let k = first; k < last; k++) drawStrip(g, k, HEAD + k * lane() - roll.scrollTop, w);
+  drawFrame(g, w, h); drawMarks(g, w, h); drawNow();
   canvas.setAttribute("aria-label", `Outputs of channels ${D.channels[columns[first]] ?? "none"} to ${D.channels[columns[last - 1]] ?? "none"} from ${seconds(D.times[0])} to ${seconds(D.times[M - 1])}, ${D.marks.length} keys, follow-ons, edits and lines that weren't done; the numbers are in the row 'on stage' of the cue list and in the script below.`);
 }
 
-/** One channel: an area as high as its output, of which each pixel has the highest, with an edge where it is up. */
-function drawStrip(g, k, top, w, h) {
+/** One channel: an area as high as its output, of which each pixel has the highest and the last, with an edge where it is up. */
+function drawStrip(g, k, top, w) {
   const base = top + lane() - 3, high = lane() - 6, channel = columns[k], area = new Path2D(), edge = new Path2D();
   const from = Math.max(0, momentAt(0) - 1), to = Math.min(M - 1, momentAt(w) + 1);
-  let pixel = -9, best = 0, before = 0;
+  let pixel = -9, best = 0, before = 0, waits = null;
+  const put = (x, level) => {
+    area.lineTo(x, base - level / 255 * high);
+    if (level || before) edge.lineTo(x, base - level / 255 * high); else edge.moveTo(x, base);
+    before = level; waits = null;
+  };
   area.moveTo(across(axis[from]), base); edge.moveTo(across(axis[from]), base);
   for (let i = from; i <= to; i++) {
     const x = across(axis[i]), level = frames[i * C + channel], same = Math.floor(x) === pixel;
-    if (same && level <= best && i < to) continue;
-    best = same ? Math.max(best, level) : level; pixel = Math.floor(x);
-    area.lineTo(x, base - level / 255 * high);
-    if (level || before) edge.lineTo(x, base - level / 255 * high); else edge.moveTo(x, base);
-    before = level;
+    if (same && level <= best) { waits = [x, level]; continue; }
+    if (waits) put(...waits);
+    best = level; pixel = Math.floor(x);
+    put(x, level);
   }
+  if (waits) put(...waits);
   area.lineTo(across(axis[to]), base);
   g.fillStyle = colour("--bar"); g.fill(area); g.strokeStyle = colour("--edge"); g.lineWidth = 1.5; g.stroke(edge);
   g.strokeStyle = colour("--line"); g.lineWidth = 1; g.beginPath(); g.moveTo(GUTTER, base + 1.5); g.lineTo(w, base + 1.5); g.stroke();
@@ -267,8 +282,11 @@ function drawMarks(g, w, h) {
   g.setLineDash([]);
 }
 
-function drawNow(g, h) {
-  const x = across(axis[at]);
+/** Shows what was drawn, and the present moment over it. */
+function drawNow() {
+  if (!still.width) return;
+  const g = get("strips").getContext("2d"), scale = devicePixelRatio || 1, x = across(axis[at]), h = still.height / scale;
+  g.setTransform(1, 0, 0, 1, 0, 0); g.clearRect(0, 0, still.width, still.height); g.drawImage(still, 0, 0); g.scale(scale, scale);
   if (x < GUTTER - 1) return;
   g.fillStyle = colour("--now"); g.fillRect(x - 1, HEAD - 8, 2, h - HEAD - FOOT + 8);
   g.beginPath(); g.moveTo(x - 5, HEAD - 9); g.lineTo(x + 5, HEAD - 9); g.lineTo(x, HEAD - 1); g.fill();
@@ -286,7 +304,8 @@ function show(moment, quiet) {
   get("now").innerHTML = `<b>${seconds(D.times[at])}</b> ▶ ${running} <small>${count(at + 1)} of ${count(M)}</small>`;
   if (D.show[before] !== D.show[at]) layOut();
   if (D.running[before] !== D.running[at]) follow();
-  drawGrid(true); drawRoll();
+  if (D.show[before] !== D.show[at] || D.running[before] !== D.running[at]) drawGrid(true); else drawStage();
+  drawNow();
   if (D.lineOf[before] !== D.lineOf[at]) listScript();
   if (!quiet && cell[0] === 1) get("read").textContent = wordsAt(...cell);
 }
@@ -399,7 +418,7 @@ function listen() {
 
 async function begin() {
   [rows, moves, frames] = await Promise.all([unpack(D.rows, C), unpack(D.moves, C), unpack(D.frames, C)]);
-  layAxis(); about(); layOut(); listen(); listScript();
+  layAxis(); about(); layOut(); listen(); drawGrid(true); drawRoll(); listScript();
   show(Math.min(M - 1, +location.hash.slice(1) || 0));
   document.documentElement.dataset.ready = Math.round(performance.now());
 }

@@ -80,8 +80,10 @@ def lines_over(plot: Plot) -> list[str]:
         top = TOP - 8 if row is None else 22 + row * 15
         out.append(f'<path class="{kind}" d="M{x:.1f} {top}V{plot.bottom()}"><title>{html.escape(text)}</title></path>')
         if row is not None:
-            free[row] = x + len(name) * 7 + 12
-            out.append(f'<text x="{x + 4:.1f}" y="{top + 9}">{html.escape(name)}</text>')
+            long = len(name) * 7 + 12
+            back = x + long > LEFT + WIDE + 40 and x - long > free[row]
+            free[row] = x + (4 if back else long)
+            out.append(f'<text x="{x - 4 if back else x + 4:.1f}" y="{top + 9}"{" text-anchor=" + chr(34) + "end" + chr(34) if back else ""}>{html.escape(name)}</text>')
     return out
 
 

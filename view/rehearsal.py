@@ -11,7 +11,7 @@ from shows import LONGEST_LINE, Cue, Line, Program, Sources, ViewError, cells_of
 KEYS = ("go", "back", "goto", "settle")
 NOT_EDITS = (*KEYS, "fader", "master", "tick", "frame", "sheet", "save")
 # What is kept at most: cue lists, the levels in them, outputs, moments.
-CUE_LISTS, CELLS, OUTPUTS, MOMENTS = 400, 8_000_000, 8_000_000, 40_000
+CUE_LISTS, CELLS, OUTPUTS, MOMENTS = 400, 16_000_000, 8_000_000, 40_000
 SLOTS = 512
 # A dimmer that no frame asked for here shows, while every channel has a dimmer of its own number.
 HIDDEN_PATCH = "patch 16384 chan 1 at FL"
@@ -214,7 +214,7 @@ def walk(rehearsal: Rehearsal, shows: list[list[Structure]], places: list[int]) 
 def thin(rehearsal: Rehearsal) -> None:
     """Leaves ticks out where there are too many moments, evenly."""
     steps = rehearsal.steps
-    room = min(MOMENTS, OUTPUTS // rehearsal.channels)
+    room = min(MOMENTS, OUTPUTS // max(1, len(used_channels(rehearsal))))
     plain = [i for i, step in enumerate(steps) if step.plain()]
     if len(steps) <= room:
         return

@@ -59,8 +59,12 @@ class Program:
 
 
 def default_program() -> str:
-    """The program as the launcher leaves it; the launcher builds it first where that is needed."""
-    if subprocess.run([os.path.join(TOP, "cuedesk")], stdin=subprocess.DEVNULL, stdout=subprocess.DEVNULL, check=False).returncode != 2:
+    """The program as the launcher leaves it, which is asked of an empty show; it builds the program first where that is needed."""
+    try:
+        asked = subprocess.run([os.path.join(TOP, "cuedesk"), "check"], stdin=subprocess.DEVNULL, stdout=subprocess.PIPE, check=False)
+    except OSError as error:
+        raise ViewError(f"./cuedesk can't be run: {error.strerror}") from error
+    if asked.stdout != b"show NoEndData 1\n":
         raise ViewError("the program isn't built, and ./cuedesk couldn't build it")
     return BUILT
 

@@ -77,7 +77,7 @@ def wrong_cues(browser: Browser, asked: Asked, at: tuple[int, int, list[str]], l
 def steps_through(program: str, folder: str, name: str, job: str = "render") -> list[str]:
     """Ten moments of a show, reached by the slider's keys."""
     show, wrong = os.path.join(TOP, "examples", name), []
-    path, _ = make(program, folder, show, "--job", job)
+    path, _ = make(program, folder, show, "--job", job.split()[0], *["--states"] * job.endswith("states"))
     asked = Asked(program, show, job)
     with Browser() as browser:
         browser.open(path)
@@ -342,10 +342,28 @@ def missing(program: str, folder: str) -> list[str]:
     return wrong + [f"{part!r} isn't said with a script of its own" for part in ("fades.asc with own.txt", "goto 3", "a script of 2 lines") if part not in said]
 
 
+def long_fade(program: str, folder: str) -> list[str]:
+    """A fade of twenty minutes has more moments than are kept; the page says so, and those that are kept are right."""
+    show = os.path.join(folder, "long.asc")
+    with open(show, "w", encoding="utf-8") as file:
+        file.write("IDENT 3:0\nCUE 1\nUP 20:00\nCHAN 1@FL\nENDDATA\ngo\ntick 70000\ngo\ntick 5\n")
+    path, _ = make(program, folder, show)
+    asked, wrong = Asked(program, show), []
+    with Browser() as browser:
+        browser.open(path)
+        if "one in 2 of those" not in browser.value("document.getElementById('notes').textContent"):
+            wrong.append("it doesn't say what it left out")
+        for key in ["Home"] + ["PageUp"] * 8 + ["End"]:
+            browser.value("document.getElementById('at').focus()")
+            browser.press(key)
+            wrong += wrong_stage(browser, asked, moment(browser, asked))
+    return wrong
+
+
 def cases(report: list[str]) -> list[tuple[str, object]]:
     """What is tested, by name."""
     shows = [("fades.asc", "render"), ("edits.asc", "render"), ("submasters.asc", "render"), ("house.asc", "render"), ("universes.asc", "render"), ("assert.asc", "render"),
-             ("undo.asc", "undo"), ("lists.asc", "two")]
-    return [*[(f"page: ten moments of {name}", lambda p, f, name=name, job=job: steps_through(p, f, name, job)) for name, job in shows],
-            ("page: play and pause", lambda p, f: plays(p, f, "fades.asc")), ("page: keyboard", keyboard), ("page: names", names), ("page: colours", colours),
+             ("tracking.asc", "render states"), ("undo.asc", "undo"), ("lists.asc", "two")]
+    return [*[(f"page: ten moments of {name}, {job}", lambda p, f, name=name, job=job: steps_through(p, f, name, job)) for name, job in shows],
+            ("page: a long fade", long_fade), ("page: play and pause", lambda p, f: plays(p, f, "fades.asc")), ("page: keyboard", keyboard), ("page: names", names), ("page: colours", colours),
             ("page: print", printed), ("page: no network", alone), ("page: bad input", bad_input), ("page: the greatest show", lambda p, f: great(p, f, report))]
