@@ -99,15 +99,18 @@ function wordsAt(row, column) {
 /** The attributes that name a cell for a screen reader. */
 const named = (row, column, role = "gridcell") => `id="g${row}-${column}" role="${role}" aria-colindex="${column + 1}" aria-label="${safe(wordsAt(row, column))}"`;
 
+/** How bright a move or a tracked level is behind its number. */
+const shade = (moved, level) => !level ? "" : moved ? `;background:rgb(var(--hot)/${(.18 + .72 * level / 255).toFixed(2)})` : `;background:rgb(var(--grey)/${(.06 + .22 * level / 255).toFixed(2)})`;
+
 function levelCell(k, row, column) {
   const i = cues()[k][1] * C + columns[column], level = rows[i], moved = moves[i];
   const kind = moved ? level ? level > 175 ? "m bright" : "m" : "o" : level ? "t" : "";
-  return `<div class="cell ${kind}" style="left:${LEFT + column * CELL}px;--v:${(level / 255).toFixed(2)}" ${named(row, column + FIXED.length)}>${moved || level ? percent(level) : ""}</div>`;
+  return `<div class="cell ${kind}" style="left:${LEFT + column * CELL}px${shade(moved, level)}" ${named(row, column + FIXED.length)}>${moved || level ? percent(level) : ""}</div>`;
 }
 
 function cueRow(k, first, last) {
   const [, , block, asserted] = D.cues[cues()[k][0]], row = k + 2, run = isRunning(k);
-  let out = `<div class="row${block ? " block" : ""}${asserted ? " assert" : ""}${run ? " now" : ""}" role="row" aria-rowindex="${row + 1}"${run ? ' aria-current="true"' : ""} style="top:${TOP + offsets[k]}px;height:${offsets[k + 1] - offsets[k]}px;--h:${offsets[k + 1] - offsets[k] - 1 - 2 * block}px"><div class="fixed" role="presentation" style="width:${LEFT}px">`;
+  let out = `<div class="row${block ? " block" : ""}${asserted ? " assert" : ""}${run ? " now" : ""}" role="row" data-k="${k}" aria-rowindex="${row + 1}"${run ? ' aria-current="true"' : ""} style="top:${TOP + offsets[k]}px;height:${offsets[k + 1] - offsets[k]}px;line-height:${offsets[k + 1] - offsets[k] - 1 - 2 * block}px"><div class="fixed" role="presentation" style="width:${LEFT}px">`;
   for (let c = 0; c < FIXED.length; c++) out += `<div class="${c === 0 ? "number" : c === 1 ? "l" : ""}" style="width:${FIXED[c]}px" ${named(row, c, c ? "gridcell" : "rowheader")}>${field(k, c)}</div>`;
   out += "</div>";
   for (let c = first; c < last; c++) out += levelCell(k, row, c);
@@ -134,14 +137,20 @@ function after() {
   return line ? `after line ${line[0]}: ${safe(line[1].split("!")[0].trim())}` : "at the opening";
 }
 
-/** Draws what is in sight of the cue list. */
+/** Draws what is in sight of the cue list; where only the rows in sight changed, those that stay are kept. */
 function drawGrid(force) {
-  const [top, bottom, first, last] = inSight(), key = [top, bottom, first, last, D.show[at]].join();
+  const [top, bottom, first, last] = inSight(), wide = [first, last, D.show[at]].join(), key = wide + "," + [top, bottom];
   if (key === drawn && !force) return;
+  if (force || !drawn.startsWith(wide + ",")) get("sheet").innerHTML = topRows(first, last) + '<div role="rowgroup" id="rows"></div>';
   drawn = key;
-  let out = topRows(first, last) + '<div role="rowgroup">';
-  for (let k = top; k < bottom; k++) out += cueRow(k, first, last);
-  get("sheet").innerHTML = out + "</div>";
+  const body = get("rows");
+  for (const row of [...body.children]) if (+row.dataset.k < top || +row.dataset.k >= bottom) row.remove();
+  let next = body.firstElementChild, out = "", from = next;
+  const put = () => { if (out) from ? from.insertAdjacentHTML("beforebegin", out) : body.insertAdjacentHTML("beforeend", out); out = ""; };
+  for (let k = top; k < bottom; k++) {
+    if (next && +next.dataset.k === k) { put(); next = from = next.nextElementSibling; } else out += cueRow(k, first, last);
+  }
+  put();
   const name = k => D.cues[cues()[k][0]][0];
   get("sight").textContent = bottom - top >= cues().length && last - first >= columns.length ? "" : `In sight: cues ${name(top)} to ${name(bottom - 1)} of ${count(cues().length)} cues, ${count(last - first)} of ${count(columns.length)} channels; the others are drawn as they come into sight.`;
   activate();
@@ -372,7 +381,7 @@ function printed() {
     const part = columns.slice(from, Math.min(from + wide, some));
     out += `<table><thead><tr>${HEADS.map((h, i) => `<th class="${i === 1 ? "l" : ""}">${h}`).join("")}${part.map(c => `<th>${D.channels[c]}`).join("")}<tbody>` + list.slice(0, few).map((entry, k) => {
       const [, , block, asserted] = D.cues[entry[0]];
-      return `<tr class="${block ? "block" : ""} ${asserted ? "assert" : ""}">${HEADS.map((_, c) => `<td class="${c === 1 ? "l" : ""}">${field(k, c)}`).join("")}` + part.map(c => { const i = entry[1] * C + c; return `<td class="${moves[i] ? rows[i] ? "m" : "o" : rows[i] ? "t" : ""}" style="--v:${rows[i] / 255}">${moves[i] || rows[i] ? percent(rows[i]) : ""}`; }).join("");
+      return `<tr class="${block ? "block" : ""} ${asserted ? "assert" : ""}">${HEADS.map((_, c) => `<td class="${c === 1 ? "l" : ""}">${field(k, c)}`).join("")}` + part.map(c => { const i = entry[1] * C + c; return `<td class="${moves[i] ? rows[i] ? "m" : "o" : rows[i] ? "t" : ""}" style="${shade(moves[i], rows[i]).slice(1)}">${moves[i] || rows[i] ? percent(rows[i]) : ""}`; }).join("");
     }).join("") + "</table>";
   }
   if (some < columns.length || few < list.length) out = `<p>Printed: the first ${count(few)} of ${count(list.length)} cues and ${count(some)} of ${count(columns.length)} channels. Choose channels to print others.</p>` + out;
