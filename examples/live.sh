@@ -1,20 +1,12 @@
 #!/usr/bin/env bash
-# Plays examples/live.asc live and shows the first slots of two universes as bars, while the fades run. The two outlets are named
-# pipes, whose readers draw each line as it comes.
+# Plays examples/live.asc live and draws the slots of two universes while the fades run (view/stage.py). The two outlets are named
+# pipes, which the stage reads.
 set -eu
 top=$(cd "$(dirname "$0")/.." && pwd)
 folder=$(mktemp -d)
-trap 'rm -rf "$folder"' EXIT
+run=
+trap 'if [ -n "$run" ]; then kill "$run" 2> /dev/null; fi; rm -rf "$folder"' EXIT
 mkfifo "$folder/universe-1.txt" "$folder/universe-2.txt"
-bars() {
-    while read -r _ count moment universe slots; do
-        line=$(printf 'universe %s after %3s commands at %4s' "$universe" "$count" "$moment")
-        for slot in $slots; do
-            line+=$(printf '   %s %-16s' "${slot%%=*}" "$(printf '%*s' $(( ${slot#*=} / 16 )) '' | tr ' ' '#')")
-        done
-        printf '%s\n' "$line"
-    done < "$folder/universe-$1.txt"
-}
-bars 1 & bars 2 &
-(cd "$folder" && "$top/crates/cuedesk/out/cuedesk" run 2 < "$top/examples/live.asc" > /dev/null)
-wait
+(cd "$folder" && exec "${CUEDESK:-$top/crates/cuedesk/out/cuedesk}" run 2 < "$top/examples/live.asc" > /dev/null) &
+run=$!
+"$top/view/stage.py" 2 --folder "$folder"
