@@ -109,16 +109,16 @@ def many_commits(program):
 
 
 def very_many_commands(program):
-    """70,000 commands, which is more than 16 bits count. Each line has the level that the master had after so many of them."""
-    masters = [255 - n * 7 % 251 for n in range(1, 70_000)]
+    """66,000 commands, which is more than 16 bits count. Each line has the level that the master had after so many of them."""
+    masters = [255 - n * 7 % 251 for n in range(1, 66_000)]
     cells = ["", " 1=255", *(f" 1={level}" for level in masters)]
     script = b"".join([SHOW.replace(b"H80", b"FL"), b"go\n", *(b"master at H%02X\n" % level for level in masters)])
     ended, output, error, outlets = played(program, 1, script)
     lines = outlets.get("universe-1.txt", [])
     wrong = [f"line {line!r}" for line in lines if line != f"frame {(n := count_of(line))} 0 1{''.join(cells[n:n + 1])}\n".encode()]
-    if (ended, output, error) != (0, b"ok\n" * 70_000, b""):
+    if (ended, output, error) != (0, b"ok\n" * 66_000, b""):
         wrong.append(f"status {ended}, output of {len(output)} bytes, standard error {error[:200]!r}")
-    return (wrong_counts(lines, 70_000) + wrong)[:5]
+    return (wrong_counts(lines, 66_000) + wrong)[:5]
 
 
 def refused_show(program):
