@@ -20,10 +20,11 @@ impl Unsent {
         }
     }
 
-    /// Takes room for one more command. An error is want of memory.
+    /// Takes room for one more command. An error is want of memory, and comes only where the room is full.
     pub fn reserve(&mut self) -> Result<(), AllocError>
         ensures commands { self.new.commands.items ≡ self.old.commands.items }
         ensures room { OnOk result (vec_len self.new.commands < vec_capacity self.new.commands) }
+        ensures full { OnErr result (vec_capacity self.old.commands ≤ vec_len self.old.commands) }
     {
         self.commands.reserve(1)
     }

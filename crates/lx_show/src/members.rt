@@ -1,7 +1,7 @@
 //! Channels with levels under one number: groups and submasters.
 
-ghost use Rattle.std.specs.Prelude.{◌≡◌, ℕ, [], OnOk, OnErr, IfOk};
-ghost use Rattle.lx_spec.specs.SortedList.{placed};
+ghost use Rattle.std.specs.Prelude.{◌≡◌, ℕ, [], None, OnOk, OnErr, IfOk};
+ghost use Rattle.lx_spec.specs.SortedList.{entry_at, placed};
 ghost use Rattle.lx_spec.specs.Show.{ValidGroup, ValidSub};
 
 use crate::list::{Copied, SortedList};
@@ -122,11 +122,12 @@ impl<N: Keyed + Copy + Drop> MemberSet<N> {
         })
     }
 
-    /// Places the member, in place of the one of its channel. An error comes where memory is wanting, and
-    /// leaves the group or submaster as it was.
+    /// Places the member, in place of the one of its channel. An error comes where memory is wanting, only where the
+    /// channel is no member yet, and leaves the group or submaster as it was.
     pub fn put_member(&mut self, entry: Member) -> Result<(), AllocError>
         ensures ok { OnOk result (self.new ≡ record self.old { members = placed (λ m. m.chan) entry self.old.members }) }
         ensures err { OnErr result (self.new ≡ self.old) }
+        ensures absent { OnErr result (entry_at (λ m. m.chan) entry.chan self.old.members ≡ None) }
     {
         self.members.put(entry)
     }
