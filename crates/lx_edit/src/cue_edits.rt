@@ -1,6 +1,6 @@
 //! Edits of one cue that leave its levels: its times, parts, follow and label, that it is asserted, and a new cue.
 
-ghost use Rattle.std.specs.Prelude.{◌≡◌, ◌≢◌, IfSome};
+ghost use Rattle.std.specs.Prelude.{◌≡◌, ◌≢◌, Err, IfSome};
 ghost use Rattle.lx_spec.specs.Show.{IsTime};
 ghost use Rattle.lx_spec.specs.EditedShow.{with_time};
 ghost use Rattle.lx_edit.specs.PlanMeaning.{Plans};
@@ -14,7 +14,8 @@ use std::alloc::Global;
 /// A new cue with part 1 and nothing else; nothing where it is there.
 pub(crate) fn make_cue(alloc: Global, show: &Show, n: CueNo) -> Result<Plan, Refusal>
     requires { n ≢ 0 }
-    ensures { Plans show.now (Edit.MakeCue n) result }
+    ensures plan { Plans show.now (Edit.MakeCue n) result }
+    ensures memory { result ≢ Err Refusal.Memory }
 {
     if show.cue(n).is_some() {
         return Ok(Plan::Nothing);

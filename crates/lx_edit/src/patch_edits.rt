@@ -1,5 +1,6 @@
 //! Edits of the patch.
 
+ghost use Rattle.std.specs.Prelude.{◌≢◌, Err};
 ghost use Rattle.lx_edit.specs.PlanMeaning.{Plans};
 
 use crate::plans::Plan;
@@ -8,7 +9,8 @@ use lx_show::{Edit, PatchRow, Refusal, Show};
 
 /// The dimmer follows the channel, in proportion to the level.
 pub(crate) fn patch(show: &Show, dimmer: Dimmer, chan: Chan, level: Level) -> Result<Plan, Refusal>
-    ensures { Plans show.now (Edit.Patch dimmer chan level) result }
+    ensures plan { Plans show.now (Edit.Patch dimmer chan level) result }
+    ensures memory { result ≢ Err Refusal.Memory }
 {
     let row = PatchRow {
         dimmer,
@@ -24,7 +26,8 @@ pub(crate) fn patch(show: &Show, dimmer: Dimmer, chan: Chan, level: Level) -> Re
 
 /// The dimmer follows no channel.
 pub(crate) fn unpatch(show: &Show, dimmer: Dimmer) -> Result<Plan, Refusal>
-    ensures { Plans show.now (Edit.Unpatch dimmer) result }
+    ensures plan { Plans show.now (Edit.Unpatch dimmer) result }
+    ensures memory { result ≢ Err Refusal.Memory }
 {
     if show.patch_of(dimmer).is_some() {
         Ok(Plan::RemoveRow(dimmer))

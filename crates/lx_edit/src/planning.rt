@@ -1,7 +1,9 @@
 //! The plan of an edit.
 
+ghost use Rattle.std.specs.Prelude.{◌≡◌, Err, true};
 ghost use Rattle.lx_spec.specs.ValidEdit.{ValidEdit};
 ghost use Rattle.lx_edit.specs.PlanMeaning.{Plans};
+ghost use Rattle.lx_edit.specs.WantedMemory.{takes_memory};
 
 use crate::plans::Plan;
 use crate::{blocks, cue_edits, kept, levels, members, patch_edits};
@@ -9,10 +11,12 @@ use lx_show::{Edit, Refusal, Show};
 use std::alloc::Global;
 
 /// Plans the edit whole: the plan makes the edited show, and holds all the memory that it needs. It is
-/// refused exactly where the edit is, by the edit's first refusal; `Memory` comes only where no other does.
+/// refused exactly where the edit is, by the edit's first refusal; `Memory` comes only where no other does, and never for
+/// a new cue or a row of the patch.
 pub fn plan(alloc: Global, show: &Show, edit: &Edit) -> Result<Plan, Refusal>
     requires { ValidEdit edit.now }
-    ensures { Plans show.now edit.now result }
+    ensures plan { Plans show.now edit.now result }
+    ensures memory { result ≡ Err Refusal.Memory → takes_memory edit.now ≡ true }
 {
     match edit {
         Edit::MakeCue { cue } => cue_edits::make_cue(alloc, show, *cue),
