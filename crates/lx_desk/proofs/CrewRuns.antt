@@ -274,3 +274,28 @@ no_lines left show count operators held held' kept = record {
   text = subst (λ (v : Option (List ℕ)). AppendsFront held v (crew_text (opened show) [] [])) (sym kept)
       (front_nothing held (crew_text (opened show) [] []));
 }
+
+-- what a crew's status says of the output
+pub crew_finishes : {K : Type 0} (reads : ℕ) (writes wants : K → ℕ) (back : K → List ℕ) (sink sink' : K) (output : Option SinkFault)
+    (told : List (Option OperatorFault)) (s : Status) → TellsCrew output told s → OutputCause writes wants sink sink' None output
+    → (output ≡ None → back sink' ≡ []) → Finishes reads reads writes wants back sink sink' s
+crew_finishes reads writes wants back sink sink' None told s tells c none =
+    let kept = c.kept refl in
+    all_done reads reads writes wants back sink sink' s refl kept.1 kept.2 (none refl)
+crew_finishes reads writes wants back sink sink' (Some sinks.Failed) told s tells c none =
+    subst (λ (t : Status). Finishes reads reads writes wants back sink sink' t) (sym tells)
+    (not_done reads reads writes wants back sink sink' status.WriteFault (λ done. done))
+crew_finishes reads writes wants back sink sink' (Some sinks.Memory) told s tells c none =
+    subst (λ (t : Status). Finishes reads reads writes wants back sink sink' t) (sym tells)
+    (not_done reads reads writes wants back sink sink' status.Memory (λ done. done))
+
+pub crew_wants : {K : Type 0} (writes wants : K → ℕ) (sink sink' : K) (output : Option SinkFault) (told : List (Option OperatorFault))
+    (s : Status) → TellsCrew output told s → OutputCause writes wants sink sink' None output → HasWanted wants sink sink' s
+crew_wants writes wants sink sink' None told s tells c is = absurd (subst (λ (t : Status). TellsOperators told t) is tells)
+crew_wants writes wants sink sink' (Some sinks.Failed) told s tells c is = let odd : status.WriteFault ≡ status.Memory = sym tells ∙ is in cc
+crew_wants writes wants sink sink' (Some sinks.Memory) told s tells c is = elim (c.memory refl) [ inl odd ↦ cc | inr rose ↦ inr rose ]
+
+pub crew_not_live : (output : Option SinkFault) (told : List (Option OperatorFault)) (s : Status) → TellsCrew output told s → s ≢ status.Live
+crew_not_live None told s tells is = subst (λ (t : Status). TellsOperators told t) is tells
+crew_not_live (Some sinks.Failed) told s tells is = let odd : status.WriteFault ≡ status.Live = sym tells ∙ is in cc
+crew_not_live (Some sinks.Memory) told s tells is = let odd : status.Memory ≡ status.Live = sym tells ∙ is in cc

@@ -1,5 +1,7 @@
-use Rattle.std.proofs.Common.{refl, IfSome, sym, ◌∙◌, subst}
+use Rattle.std.proofs.Common.{refl, IfSome, sym, ap, ◌∙◌, subst}
 use Rattle.lx_desk.specs.Crew.{HasCrewEnded}
+use Rattle.lx_desk.specs.Finished.{IsDone, Finishes}
+use Rattle.lx_desk.proofs.Finishing.{after_reads, refusal_reads}
 use Rattle.lx_desk.proofs.CrewRuns.{kept_places}
 use Rattle.lx_desk.proofs.LiveEnds.{refused_words, refused_live}
 use Rattle.lx_desk.proofs.CrewEnds.{crew_ended, crew_front, refused_ended, refused_front, served_cause}
@@ -39,3 +41,20 @@ pub returns-in-Err-clause-prefix : goal.returns-in-Err-clause-prefix
 returns-in-Err-clause-prefix g c =
     refused_front c.args.form c.args.count _ _ c.new-lines.result c.read_show.new.lines _ _ _ _ c.in-Err.fault c.refuse.result
     c.new-lines.ensures.unread c.in-Err.ensures.answer c.refuse.ensures.refused
+
+pub returns-in-Ok-clause-finished : goal.returns-in-Ok-clause-finished
+returns-in-Ok-clause-finished g c =
+    let same = c.input-1.given.1 (sym (c.in-Ok.ensures.same_reference ∙ c.new-lines.ensures.same_reference)) in
+    let kept = c.in-Ok.ensures.kept (λ odd. cc) ∙ ap g.I.Source.faults c.new-lines.ensures.source in
+    subst (λ v. Finishes (g.I.Source.faults c.args.input.now) (g.I.Source.faults v) g.K.Sink.faults g.K.Sink.wants g.K.Sink.back
+    c.args.output.now c.serve.new.output c.serve.result) (sym same)
+    (after_reads _ _ _ _ _ _ _ _ c.serve.result (λ done. kept) (c.serve.ensures.finished (g.I.Source.faults c.read_show.new.lines.source.now)))
+
+pub returns-in-Err-clause-finished : goal.returns-in-Err-clause-finished
+returns-in-Err-clause-finished g c =
+    let same = c.input-1.given.1 (sym (c.in-Err.ensures.same_reference ∙ c.new-lines.ensures.same_reference)) in
+    let kept = λ (done : IsDone c.refuse.result). refusal_reads _ _ c.in-Err.fault c.refuse.result _ _ c.refuse.ensures.refused
+    c.in-Err.ensures.kept done ∙ ap g.I.Source.faults c.new-lines.ensures.source in
+    subst (λ v. Finishes (g.I.Source.faults c.args.input.now) (g.I.Source.faults v) g.K.Sink.faults g.K.Sink.wants g.K.Sink.back
+    c.args.output.now c.refuse.new.output c.refuse.result) (sym same)
+    (after_reads _ _ _ _ _ _ _ _ c.refuse.result kept (c.refuse.ensures.finished (g.I.Source.faults c.read_show.new.lines.source.now)))

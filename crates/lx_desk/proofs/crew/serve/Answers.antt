@@ -1,7 +1,7 @@
 use Rattle.std.proofs.Common.{inr, refl, ap, sym, subst, arith, IsSome, length, ◌≤◌}
 use Rattle.lx_spec.specs.Desk.{opened}
 use Rattle.lx_crew.specs.OperatorWorks.{EachAt}
-use Rattle.lx_desk.proofs.CrewRuns.{full_front, keeps_places, kept_places, joined, serves, served_front, no_lines, operator_failed}
+use Rattle.lx_desk.proofs.CrewRuns.{crew_finishes, crew_wants, crew_not_live, full_front, keeps_places, kept_places, joined, serves, served_front, no_lines, operator_failed}
 use Rattle.lx_desk.proofs.crew.serve.Goals as goal
 
 pub returns-in_default-clause-prefix : goal.returns-in_default-clause-prefix
@@ -46,3 +46,15 @@ returns-clause-places g c =
 
 pub returns-clause-prefix : goal.returns-clause-prefix
 returns-clause-prefix g c = no_lines _ _ _ _ _ _ (ap g.K.Sink.holds c.in-Err.ensures.err.1.0)
+
+pub returns-in-Ok-crew-clause-live : goal.returns-in-Ok-crew-clause-live
+returns-in-Ok-crew-clause-live g c = crew_not_live _ _ c.status_of_crew.result c.status_of_crew.ensures
+
+pub returns-in-Ok-crew-clause-finished : goal.returns-in-Ok-crew-clause-finished
+returns-in-Ok-crew-clause-finished g c = λ reads.
+    crew_finishes reads g.K.Sink.faults g.K.Sink.wants g.K.Sink.back _ _ _ _ c.status_of_crew.result c.status_of_crew.ensures
+    c.in-Ok-crew.ensures.cause c.in-Ok-crew.ensures.handed_on
+
+pub returns-in-Ok-crew-clause-memory : goal.returns-in-Ok-crew-clause-memory
+returns-in-Ok-crew-clause-memory g c =
+    crew_wants g.K.Sink.faults g.K.Sink.wants _ _ _ _ c.status_of_crew.result c.status_of_crew.ensures c.in-Ok-crew.ensures.cause
