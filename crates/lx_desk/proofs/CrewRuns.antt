@@ -26,7 +26,9 @@ use Rattle.lx_desk.specs.declared.desk.Status.{Status}
 use Rattle.lx_desk.specs.declared.desk.Status.TheVariants as status
 use Rattle.lx_desk.specs.Crew.{IsLowest, WritesTranscript, WritesLines, Serves, WritesFirstLines, KeepsPlaces, OperatorFailed}
 use Rattle.lx_desk.specs.Crew.{TellsOperators, TellsCrew}
+use Rattle.lx_desk.specs.Finished.{Finishes, HasWanted}
 use Rattle.lx_desk.proofs.Inputs.{whole_front, front_nothing}
+use Rattle.lx_desk.proofs.Finishing.{all_done, not_done}
 use Rattle.lx_desk.proofs.LiveRuns.{get_take, get_before}
 
 -- a read that failed is that of the lowest operator with a fault
