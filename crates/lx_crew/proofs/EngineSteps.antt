@@ -1,5 +1,5 @@
 -- What the engine came to, with one more entry.
-use Rattle.std.proofs.Common.{◌≡◌, ◌⊎◌, inl, inr, ⊎_elim, ℕ, ◌≤◌, Bool, true, Option, Some, List, [], ◌∷◌, ◌++◌, slice_get, ap, sym}
+use Rattle.std.proofs.Common.{◌≡◌, ◌⊎◌, inl, inr, ⊎_elim, ℕ, ◌≤◌, Bool, true, Option, Some, List, [], ◌∷◌, ◌++◌, slice_get, refl, ap, sym}
 use Rattle.std.proofs.Common.{subst, ◌∙◌, arith}
 use Rattle.lx_io.specs.declared.sink.SinkFault.{SinkFault}
 use Rattle.lx_io.specs.declared.sink.SinkFault.TheVariants.{Failed, Memory}
@@ -31,6 +31,7 @@ cause_none faults wants sink output = record {
   wants_later = omega arith;
   failed = λ is. inl is;
   memory = λ is. inl is;
+  kept = λ none. (none, refl, refl);
 }
 
 rose_on : (m n o : ℕ) → Rose m n → n ≤ o → Rose m o
@@ -59,6 +60,10 @@ cause_then faults wants a b c x y z p q =
       failed = λ is. either_rose (faults a) (faults b) (faults c) (x ≡ Some Failed) (y ≡ Some Failed) later then p.failed (q.failed is);
       memory = λ is. either_rose (wants a) (wants b) (wants c) (x ≡ Some Memory) (y ≡ Some Memory) wants_later wants_then p.memory
           (q.memory is);
+      kept = λ none.
+          let last = q.kept none in
+          let first = p.kept last.0 in
+          (first.0, last.1 ∙ first.1, last.2 ∙ first.2);
     }
 
 -- nothing was answered, and nothing was written

@@ -1,5 +1,5 @@
 -- What an operator has sent of its lines.
-use Rattle.std.proofs.Common.{◌≡◌, inl, inr, ℕ, suc, ◌+◌, ◌≤◌, ◌<◌, Bool, true, false, cond, Option, Some, None, IfSome, IsTrue}
+use Rattle.std.proofs.Common.{◌≡◌, ◌≢◌, inl, inr, ℕ, suc, ◌+◌, ◌≤◌, ◌<◌, Bool, true, false, cond, Option, Some, None, IfSome, IsTrue}
 use Rattle.std.proofs.Common.{List, [], ◌∷◌, ◌++◌, map, length, take, take_all, refl, sym, ap, ◌∙◌, subst, append-nil, arith}
 use Rattle.std.specs.Io.KnownBytes.{IsAtEnd}
 use Rattle.std.proofs.Math.Seq.{take-append_seam, take-append-add}
@@ -77,10 +77,11 @@ quits left faults b c InputTooLong t is = absurd cc
 
 -- what the last entry says
 abbrev pub TookLast : {S : Type 0} → (S → Option (List ℕ)) → (S → ℕ) → (b c : Lines S) → Option OperatorFault → Type 0
-TookLast left faults b c None = IsAtEnd (unread left b)
+TookLast left faults b c None = IsAtEnd (unread left b) × (faults c.source.now ≡ faults b.source.now)
 TookLast left faults b c (Some ends.ReadFault) = NotTaken left b c × Rose (faults b.source.now) (faults c.source.now)
 TookLast left faults b c (Some ends.InputTooLong) =
     NotTaken left b c × StepOf steps.InputTooLong (unread left b) (unread left c) b.taken c.taken (line_of c)
+    × (faults c.source.now ≡ faults b.source.now)
 
 abbrev same_last : {S : Type 0} → (S → Option (List ℕ)) → (S → ℕ) → (b c : Lines S) → Sent → Option OperatorFault → Type 0
 same_last left faults b c sent fault = (sent ≡ last_of fault) × TookLast left faults b c fault
@@ -207,7 +208,8 @@ end_lines left faults a b c s end =
     (λ xs is within. (wanted_all (map without_cr s.raws) s.go_on ∙ ap (λ ls. take (lines_wanted ls) ls) (sym is), within))
 
 abbrev cut_are : ℕ → Option (List ℕ) → List (List ℕ) → List ℕ → Type 0
-cut_are taken left lines bytes = (cut : CutOff taken bytes left) × (lines ≡ take cut.lines (lines_of bytes))
+cut_are taken left lines bytes =
+    (cut : CutOff taken bytes left) × (lines ≡ take cut.lines (lines_of bytes)) × (cut.lines < lines_wanted (lines_of bytes))
 
 cut_lines_are : {S : Type 0} (left : S → Option (List ℕ)) (faults : S → ℕ) (a b c : Lines S) (s : Passed left faults a b)
     → NotTaken left b c → IfSome (unread left a) (cut_are a.taken (left c.source.now) (map without_cr s.raws))
@@ -219,6 +221,7 @@ cut_lines_are left faults a b c s n =
       cut.0,
       sym (ap (λ k. take k (lines_of xs)) (cut.1 ∙ sym (length-map s.raws without_cr))
           ∙ ap (take (length lines)) is.1 ∙ take-append_seam lines is.0),
+      (let at = ap lines_wanted is.1 in omega (arith, at, ends_after lines is.0 s.go_on, cut.1, length-map s.raws without_cr)),
     ))
 
 -- How an operator ended, where its lines began with its source as it was.
@@ -240,24 +243,25 @@ pub ended_by_quit : {S : Type 0} (left : S → Option (List ℕ)) (faults : S �
 ended_by_quit left faults source a b c began s q = record {
   are = over (left source) _ _ (from_start left source a (λ n. all_are n (map without_cr s.raws ++ without_cr q.raw ∷ [])) began
       (quit_lines left faults a b c s q)) (λ xs e. record { are = e.0; within = omega (arith, e.1) });
-  later = let x = s.handed.later in let y = q.handed.later in let z = ap faults began.now in omega (arith, x, y, z);
+  later = let x = s.handed.kept in let y = q.handed.kept in let z = ap faults began.now in omega (arith, x, y, z);
   failed = λ e. absurd (no_fault ends.ReadFault e);
+  kept = λ none. q.handed.kept ∙ s.handed.kept ∙ ap faults began.now;
 }
 
 last_are : {S : Type 0} (left : S → Option (List ℕ)) (faults : S → ℕ) (source : S) (a b c : Lines S) (fault : Option OperatorFault)
     → Began left source a → (s : Passed left faults a b) → TookLast left faults b c fault
     → IfSome (left source) (λ bytes. AreLines fault bytes (left c.source.now) (map without_cr s.raws))
 last_are left faults source a b c None began s t =
-    over (left source) _ _ (from_start left source a (λ n. all_are n (map without_cr s.raws)) began (end_lines left faults a b c s t))
+    over (left source) _ _ (from_start left source a (λ n. all_are n (map without_cr s.raws)) began (end_lines left faults a b c s t.0))
     (λ xs e. record { are = e.0; within = omega (arith, e.1) })
 last_are left faults source a b c (Some ends.ReadFault) began s t =
     over (left source) _ _ (from_start left source a (λ n. cut_are n (left c.source.now) (map without_cr s.raws)) began
-    (cut_lines_are left faults a b c s t.0)) (λ xs e. record { cut = e.0; are = e.1; go_on = s.go_on })
+    (cut_lines_are left faults a b c s t.0)) (λ xs e. record { cut = e.0; short = e.2; are = e.1; go_on = s.go_on })
 last_are left faults source a b c (Some ends.InputTooLong) began s t =
     with_both (left source) _ _ _ (from_start left source a (λ n. cut_are n (left c.source.now) (map without_cr s.raws)) began
     (cut_lines_are left faults a b c s t.0))
     (from_start left source a (λ n bytes. INPUT_BYTES < n + length (bytes_wanted bytes)) began (too_long left faults a b c s t.1))
-    (λ xs e f. (record { cut = e.0; are = e.1; go_on = s.go_on }, omega (arith, f)))
+    (λ xs e f. (record { cut = e.0; short = e.2; are = e.1; go_on = s.go_on }, omega (arith, f)))
 
 rose_after : (x y z : ℕ) → x ≤ y → Rose y z → Rose x z
 rose_after x y z le rose = omega (arith, le, rose)
@@ -268,16 +272,23 @@ last_failed left faults b c None t e = absurd (no_fault ends.ReadFault e)
 last_failed left faults b c (Some ends.ReadFault) t e = t.1
 last_failed left faults b c (Some ends.InputTooLong) t e = cc
 
+last_kept : {S : Type 0} (left : S → Option (List ℕ)) (faults : S → ℕ) (b c : Lines S) (fault : Option OperatorFault)
+    → TookLast left faults b c fault → fault ≢ Some ends.ReadFault → faults c.source.now ≡ faults b.source.now
+last_kept left faults b c None t other = t.1
+last_kept left faults b c (Some ends.ReadFault) t other = absurd (other refl)
+last_kept left faults b c (Some ends.InputTooLong) t other = t.2
+
 pub ended_so : {S : Type 0} (left : S → Option (List ℕ)) (faults : S → ℕ) (source : S) (a b c : Lines S) (fault : Option OperatorFault)
     → Began left source a → (s : Passed left faults a b) → faults b.source.now ≤ faults c.source.now → TookLast left faults b c fault
     → HasEnded left faults source c.source.now fault (map without_cr s.raws)
 ended_so left faults source a b c fault began s later t = record {
   are = last_are left faults source a b c fault began s t;
-  later = let x = s.handed.later in let z = ap faults began.now in omega (arith, x, later, z);
+  later = let x = s.handed.kept in let z = ap faults began.now in omega (arith, x, later, z);
   failed = λ e.
-      let x = s.handed.later in
+      let x = s.handed.kept in
       let z = ap faults began.now in
       rose_after (faults source) (faults b.source.now) (faults c.source.now) (omega (arith, x, z)) (last_failed left faults b c fault t e);
+  kept = λ other. last_kept left faults b c fault t other ∙ s.handed.kept ∙ ap faults began.now;
 }
 
 -- All was sent.

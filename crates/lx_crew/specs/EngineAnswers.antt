@@ -93,12 +93,14 @@ abbrev pub HasAnswered : Desk → List Entry → (held held' : Option (List ℕ)
 HasAnswered d popped held held' console tally None = AnsweredAll d popped held held' console tally
 HasAnswered d popped held held' console tally (Some fault) = AnsweredPart d popped held held'
 
--- neither count of the output has fallen, and a fault that is new comes only where its own count rose
+-- Neither count of the output has fallen, and a fault that is new comes only where its own count rose. Where there is none now, there was
+-- none before, and both counts stand as they were.
 pub record OutputCause {K : Type 0} (faults wants : K → ℕ) (old new : K) (before after : Option SinkFault) : Type 0 where
   pub later : faults old ≤ faults new
   pub wants_later : wants old ≤ wants new
   pub failed : after ≡ Some Failed → (before ≡ Some Failed) ⊎ Rose (faults old) (faults new)
   pub memory : after ≡ Some Memory → (before ≡ Some Memory) ⊎ Rose (wants old) (wants new)
+  pub kept : after ≡ None → (before ≡ None) × (faults new ≡ faults old) × (wants new ≡ wants old)
 
 -- a place that is set now was set before, or the entry is the last of that operator
 abbrev pub Marked : Entry → List Bool → List Bool → Type 0
@@ -114,11 +116,12 @@ pub record NextEntry (v w : View) (held held' : Option (List ℕ)) (console cons
   pub answered : (d : Desk) (popped : List Entry) (start : Option (List ℕ)) → HasAnswered d popped start held console tally output
       → HasAnswered d (popped ++ entry ∷ []) start held' console' tally' output'
 
--- the engine took entries to the last of each operator and answered them
-pub record HasServed {K : Type 0} (holds : K → Option (List ℕ)) (faults wants : K → ℕ) (operators : ℕ) (v : View) (sink sink' : K)
-    (console console' : Kept) (tally : Tally) (output : Option SinkFault) : Type 0 where
+-- The engine took entries to the last of each operator and answered them. Where the output had no fault it keeps nothing back.
+pub record HasServed {K : Type 0} (holds : K → Option (List ℕ)) (back : K → List ℕ) (faults wants : K → ℕ) (operators : ℕ) (v : View)
+    (sink sink' : K) (console console' : Kept) (tally : Tally) (output : Option SinkFault) : Type 0 where
   pub popped : List Entry
   pub view : v ≡ engine_view operators popped []
   pub ended : (k : ℕ) → k < operators → has_last (of_place k popped) ≡ true
   pub answered : (d : Desk) → StandsFor d console → HasAnswered d popped (holds sink) (holds sink') console' tally output
   pub cause : OutputCause faults wants sink sink' None output
+  pub handed_on : output ≡ None → back sink' ≡ []

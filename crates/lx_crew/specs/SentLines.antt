@@ -32,10 +32,11 @@ pub record TookLine {S : Type 0} (left : S → Option (List ℕ)) (faults : S �
 abbrev pub TookNext : {S : Type 0} → (S → Option (List ℕ)) → (S → ℕ) → (old new : Lines S) → Sent → Type 0
 TookNext left faults old new (Line l) = TookLine left faults old new (Line l)
 TookNext left faults old new LongLine = TookLine left faults old new LongLine
-TookNext left faults old new End = IsAtEnd (unread left old)
+TookNext left faults old new End = IsAtEnd (unread left old) × (faults new.source.now ≡ faults old.source.now)
 TookNext left faults old new ReadFault = NotTaken left old new × Rose (faults old.source.now) (faults new.source.now)
 TookNext left faults old new InputTooLong =
     NotTaken left old new × StepOf steps.InputTooLong (unread left old) (unread left new) old.taken new.taken (line_of new)
+    × (faults new.source.now ≡ faults old.source.now)
 
 -- what comes after it
 abbrev pub follows : Sent → Follows

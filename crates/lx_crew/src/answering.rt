@@ -71,12 +71,13 @@ pub(crate) fn answer_entry<K: Sink>(
     *output = answer_line(console, entry.place, entry.number, line, sink, tally).err();
 }
 
-/// Hands on what the output keeps back, unless it had a fault.
+/// Hands on what the output keeps back, unless it had a fault. Without one nothing is kept back any more.
 pub(crate) fn flush<K: Sink>(sink: &mut K, output: &mut Option<SinkFault>)
     ensures answered { (d : Desk) (popped : List AnEntry) (start : _) (console : _) (tally : _)
         → HasAnswered d popped start (K.holds sink.old) console tally output.old
         → HasAnswered d popped start (K.holds sink.new) console tally output.new }
     ensures cause { OutputCause K.faults K.wants sink.old sink.new output.old output.new }
+    ensures handed_on { output.new ≡ None → K.back sink.new ≡ [] }
 {
     if output.is_some() {
         return;

@@ -48,7 +48,7 @@ impl<K: Sink> Work for Engine<'_, '_, '_, '_, '_, K> {
         × ((y.console.ghost_name ≡ x.console.ghost_name)
         × ((y.sink.ghost_name ≡ x.sink.ghost_name)
         × (IsSamePass x.pass.now y.pass.now
-        × HasServed K.holds K.faults K.wants x.operators (view y.pass.now) x.sink.now y.sink.now x.console.now y.console.now y.tally
+        × HasServed K.holds K.back K.faults K.wants x.operators (view y.pass.now) x.sink.now y.sink.now x.console.now y.console.now y.tally
         y.output))) };
 
     fn run<R: Wait>(&mut self, rt: &R) {
@@ -82,7 +82,7 @@ fn serve<R: Wait, K: Sink>(
     requires few { operators ≤ 4 }
     requires none { counts_in tally.old ≡ record { ok = 0; refused = 0; bad = 0 } }
     ensures queue { IsSamePass pass.old pass.new }
-    ensures served { HasServed K.holds K.faults K.wants operators (view pass.new) sink.old sink.new console.old console.new tally.new
+    ensures served { HasServed K.holds K.back K.faults K.wants operators (view pass.new) sink.old sink.new console.old console.new tally.new
         result }
 {
     let mut ended = [false; PLACES];
@@ -94,10 +94,17 @@ fn serve<R: Wait, K: Sink>(
         }
         if !take_one(queue, pass, console, sink, tally, &mut output, &mut ended) {
             flush(sink, &mut output);
-            parker.park(rt);
+            wait(rt, parker, sink, output);
         }
     }
     unreachable!()
+}
+
+/// Sleeps until an operator wakes the engine. Before that all that was written is handed on.
+fn wait<R: Wait, K: Sink>(rt: &R, parker: &Parker, sink: &K, output: Option<SinkFault>)
+    requires handed_on { output ≡ None → K.back sink.now ≡ [] }
+{
+    parker.park(rt);
 }
 
 /// Pops an entry and answers it, if there is one.

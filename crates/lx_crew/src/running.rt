@@ -45,8 +45,8 @@ pub struct Crewed {
 /// their transcript: for each line `op K N`, its operator and its number from 1, and then its replies. Each source is read
 /// in a thread of its own; which operator comes next isn't said.
 ///
-/// A fault of an operator costs no line of another. After a fault of the output no line is done any more, and the sources
-/// are read on to their ends. `AllocError` comes only before the first line, and then nothing was read or written.
+/// A fault of an operator costs no line of another. Without a fault of the output all of the transcript is handed on. After
+/// one no line is done any more, and the sources are read on to their ends. `AllocError` comes only before the first line, and then nothing was read or written.
 pub fn crew<R: Threads + Wait + Sync, S: Source + Send + Drop, K: Sink + Send>(
     rt: &R,
     alloc: Global,
@@ -61,6 +61,7 @@ pub fn crew<R: Threads + Wait + Sync, S: Source + Send + Drop, K: Sink + Send>(
     ensures crewed { IfOk result (λ c. (d : Desk) → StandsFor d console.old → HasCrewed S.left S.faults K.holds d operators.old
         operators.new sink.old sink.new console.new c.tally c.output c.operators) }
     ensures cause { IfOk result (λ c. OutputCause K.faults K.wants sink.old sink.new None c.output) }
+    ensures handed_on { IfOk result (λ c. c.output ≡ None → K.back sink.new ≡ []) }
 {
     let count = operators.len();
     let mut parker = Parker::new(alloc)?;
@@ -101,7 +102,7 @@ fn perform<'q, 'e, R: Threads + Wait + Sync, S: Source + Send, K: Sink + Send>(
     requires few { length works.old ≤ 4 }
     requires ready { All IsReady works.old }
     ensures queue { IsSamePass pass.old pass.new }
-    ensures served { HasServed K.holds K.faults K.wants (length works.old) (view pass.new) sink.old sink.new console.old console.new
+    ensures served { HasServed K.holds K.back K.faults K.wants (length works.old) (view pass.new) sink.old sink.new console.old console.new
         result.0 result.1 }
     ensures ran { AllZip (HasRun S.left S.faults) works.old works.new }
 {

@@ -45,18 +45,25 @@ has_part holds faults wants show u from sink list top top' fault h q p =
     record { top = top'; begins = p; part = part_on holds faults wants show u from sink top top' fault q h }
 
 -- a note was learnt
-pub served_learnt : {K : Type 0} (holds : K → Option (List ℕ)) (faults wants : K → ℕ) (show : Show) (start tap tap' : Tapped)
+pub served_learnt : {K : Type 0} (holds : K → Option (List ℕ)) (back : K → List ℕ) (faults wants : K → ℕ) (show : Show) (start tap tap' : Tapped)
     (from sink : K) (served : Served) (list : List Command)
-    → HasServed holds faults wants show start tap from sink served → HasLearnt tap.told tap'.told list
+    → HasServed holds back faults wants show start tap from sink served → HasLearnt tap.told tap'.told list
     → IsChained tap'.told.seen tap'.told.learnt → tap'.universe ≡ tap.universe
-    → HasServed holds faults wants show start tap' from sink served
-served_learnt holds faults wants show start tap tap' from sink served list h l chained u =
+    → HasServed holds back faults wants show start tap' from sink served
+served_learnt holds back faults wants show start tap tap' from sink served list h l chained u =
     let p : IsPrefix (newest tap.told) (newest tap'.told) = learnt_begins tap.told tap'.told list l chained in
     record {
       written = λ e. goes_on show start.universe (holds from) (holds sink) (newest tap.told) (newest tap'.told) served.taken served.last p
           (h.written e);
       part = λ f e. part_on holds faults wants show start.universe from sink (newest tap.told) (newest tap'.told) f p (h.part f e);
       cause = h.cause;
+      handed_on = h.handed_on;
+      seen = subst (λ (w : List Command). IsPrefix start.told.seen w) (sym (ap (λ (t : Told). t.seen) l.rest)) h.seen;
+      takes =
+          let reads = ap (λ (t : Told). t.reads) l.rest in
+          let misses = ap (λ (t : Told). t.misses) l.rest in
+          let before = h.takes in
+          omega (arith, before, reads, misses);
       goes_on = prefix_trans (newest start.told) (newest tap.told) (newest tap'.told) h.goes_on p;
       same_universe = u ∙ h.same_universe;
       reads = count_on start.told.reads tap.told.reads tap'.told.reads h.reads (inl (ap (λ (t : Told). t.reads) l.rest));
@@ -64,25 +71,26 @@ served_learnt holds faults wants show start tap tap' from sink served list h l c
     }
 
 -- the outlet had failed before
-pub delivered_part : {K : Type 0} (holds : K → Option (List ℕ)) (faults wants : K → ℕ) (show : Show) (start tap : Tapped) (from sink : K)
+pub delivered_part : {K : Type 0} (holds : K → Option (List ℕ)) (back : K → List ℕ) (faults wants : K → ℕ) (show : Show) (start tap : Tapped) (from sink : K)
     (served : Served) (list : List Command)
-    → HasServed holds faults wants show start tap from sink served → is_some served.fault ≡ true → IsPrefix list (newest tap.told)
-    → Delivered holds faults wants show start.universe from sink list served.fault
-delivered_part holds faults wants show start tap from sink served list h some p = record {
+    → HasServed holds back faults wants show start tap from sink served → is_some served.fault ≡ true → IsPrefix list (newest tap.told)
+    → Delivered holds back faults wants show start.universe from sink list served.fault
+delivered_part holds back faults wants show start tap from sink served list h some p = record {
   whole = λ e. cc;
   part = λ f e. has_part holds faults wants show start.universe from sink list (newest tap.told) (newest tap.told) f (h.part f e)
       (prefix_self (newest tap.told)) p;
   cause = h.cause;
+  handed_on = λ e. cc;
 }
 
 -- it hadn't, and the tap took once more
-pub delivered_step : {K : Type 0} (holds : K → Option (List ℕ)) (faults wants : K → ℕ) (show : Show) (start tap tap' : Tapped)
+pub delivered_step : {K : Type 0} (holds : K → Option (List ℕ)) (back : K → List ℕ) (faults wants : K → ℕ) (show : Show) (start tap tap' : Tapped)
     (from sink sink' : K) (served served' : Served) (list : List Command)
-    → HasServed holds faults wants show start tap from sink served → HasStepped holds faults wants show tap tap' sink sink' served served'
+    → HasServed holds back faults wants show start tap from sink served → HasStepped holds back faults wants show tap tap' sink sink' served served'
     → IsPrefix list (newest tap.told)
-    → Delivered holds faults wants show start.universe from sink' list served'.fault
-delivered_step holds faults wants show start tap tap' from sink sink' served served' list h s p =
-    let after : HasServed holds faults wants show start tap' from sink' served' = s.serves start from h in
+    → Delivered holds back faults wants show start.universe from sink' list served'.fault
+delivered_step holds back faults wants show start tap tap' from sink sink' served served' list h s p =
+    let after : HasServed holds back faults wants show start tap' from sink' served' = s.serves start from h in
     let q : IsPrefix list (newest tap'.told) = prefix_trans list (newest tap.told) (newest tap'.told) p s.goes_on in
     record {
       whole = λ e. has_all show start.universe (holds from) (holds sink') list (newest tap'.told) served'.taken served'.last
@@ -90,4 +98,5 @@ delivered_step holds faults wants show start tap tap' from sink sink' served ser
       part = λ f e. has_part holds faults wants show start.universe from sink' list (newest tap'.told) (newest tap'.told) f (after.part f e)
           (prefix_self (newest tap'.told)) q;
       cause = after.cause;
+      handed_on = λ e. after.handed_on (length (newest tap'.told)) e (s.last start from h e);
     }

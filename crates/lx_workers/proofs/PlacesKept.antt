@@ -92,13 +92,13 @@ back_more all Q Q' n len lane whole here keep new before k x is le = elim (split
 ]
 
 -- what stands elsewhere stays
-pub given_on : {K : Type 0} (holds : K → Option (List ℕ)) (faults wants : K → ℕ) (show : Show) (outlets outlets' : List (Option K))
+pub given_on : {K : Type 0} (holds : K → Option (List ℕ)) (back : K → List ℕ) (faults wants : K → ℕ) (show : Show) (outlets outlets' : List (Option K))
     (results results' : List (Option SinkFault)) (published : List Command) (place at : ℕ) (o : Option K) (f : Option SinkFault)
     (tap : Tapped) (sink : K) (served : Served)
     → outlets' ≡ set outlets at o → results' ≡ set results at f → place ≢ at
-    → IsGiven holds faults wants show outlets results published place tap sink served
-    → IsGiven holds faults wants show outlets' results' published place tap sink served
-given_on holds faults wants show outlets outlets' results results' published place at o f tap sink served is is' other g = record {
+    → IsGiven holds back faults wants show outlets results published place tap sink served
+    → IsGiven holds back faults wants show outlets' results' published place tap sink served
+given_on holds back faults wants show outlets outlets' results results' published place at o f tap sink served is is' other g = record {
   new = g.new;
   fault = g.fault;
   place_is = ap (λ l. slice_get l place) is ∙ get-set_other outlets at place o other ∙ g.place_is;
@@ -124,14 +124,14 @@ pub length_snoc : {X : Type 0} (all xs : List X) (x : X) → all ≡ xs ++ x ∷
 length_snoc all xs x e = let n = length-append xs (x ∷ []) in omega (arith, ap length e, n)
 
 -- the sink of a place came out of it, was served and came back
-pub is_back : {K : Type 0} (holds : K → Option (List ℕ)) (faults wants : K → ℕ) (show : Show) (outlets outlets' : List (Option K))
+pub is_back : {K : Type 0} (holds : K → Option (List ℕ)) (back : K → List ℕ) (faults wants : K → ℕ) (show : Show) (outlets outlets' : List (Option K))
     (results : List (Option SinkFault)) (published : List Command) (place k n m : ℕ) (start : K) (tap tap' : Tapped) (sink sink' : K)
     (served : Served)
     → slice_get outlets place ≡ Some (Some start) → place < n → k ≡ n - 1 - place → m ≡ n → IsTaken outlets n k tap sink
-    → HasServed holds faults wants show tap tap' sink sink' served
-    → IsGiven holds faults wants show outlets' results published (m - 1 - k) tap' sink' served
-    → IsBack holds faults wants show outlets' results published place start
-is_back {K = K} holds faults wants show outlets outlets' results published place k n m start tap tap' sink sink' served is within at same t
+    → HasServed holds back faults wants show tap tap' sink sink' served
+    → IsGiven holds back faults wants show outlets' results published (m - 1 - k) tap' sink' served
+    → IsBack holds back faults wants show outlets' results published place start
+is_back {K = K} holds back faults wants show outlets outlets' results published place k n m start tap tap' sink sink' served is within at same t
     h g =
     let here : m - 1 - k ≡ place = omega (arith, within, at, same) in
     let universe : tap.universe ≡ place + 1 = omega (arith, t.universe_is, within, at) in
@@ -144,6 +144,6 @@ is_back {K = K} holds faults wants show outlets outlets' results published place
       fault = g.fault;
       place_is = ap (slice_get outlets') (sym here) ∙ g.place_is;
       fault_is = ap (slice_get results) (sym here) ∙ g.fault_is;
-      delivered = subst (λ (w : K). Delivered holds faults wants show (place + 1) w g.new published g.fault) mine
-          (subst (λ (v : ℕ). Delivered holds faults wants show v sink g.new published g.fault) universe told);
+      delivered = subst (λ (w : K). Delivered holds back faults wants show (place + 1) w g.new published g.fault) mine
+          (subst (λ (v : ℕ). Delivered holds back faults wants show v sink g.new published g.fault) universe told);
     }

@@ -44,6 +44,7 @@ taken_as all heard heard' says d before bytes left held held' console o = record
   places = o.places;
   wants = o.wants;
   cut = o.cut;
+  short = o.short;
   text = o.text;
   done = done_as heard heard' says d _ console o.done;
 }
@@ -75,14 +76,14 @@ outcomes_as all heard heard' says (Some bytes) d before unread left held held' c
     outcome_as all heard heard' says d before bytes unread left held held' console r p
 
 -- one more publish leaves what a session came to
-pub run_on : {S K : Type 0} (left : S → Option (List ℕ)) (reads : S → ℕ) (holds : K → Option (List ℕ)) (faults wants : K → ℕ) (show : Show)
+pub run_on : {S K : Type 0} (left : S → Option (List ℕ)) (reads : S → ℕ) (holds : K → Option (List ℕ)) (back : K → List ℕ) (faults wants : K → ℕ) (show : Show)
     (gate : Published) (unsent : List Command) (console : Kept) (lines : Lines S) (output : K)
     (gate' : Published) (unsent' : List Command) (console' : Kept) (lines' : Lines S) (output' : K) (result : Result Tally SessionFault)
     (gate'' : Published) (unsent'' : List Command)
-    → HasRun left reads holds faults wants show gate unsent console lines output gate' unsent' console' lines' output' result
+    → HasRun left reads holds back faults wants show gate unsent console lines output gate' unsent' console' lines' output' result
     → IsInStep show gate'' unsent'' console' → accepted_of gate'' unsent'' ≡ accepted_of gate' unsent'
-    → HasRun left reads holds faults wants show gate unsent console lines output gate'' unsent'' console' lines' output' result
-run_on left reads holds faults wants show gate unsent console lines output gate' unsent' console' lines' output' result gate'' unsent'' h
+    → HasRun left reads holds back faults wants show gate unsent console lines output gate'' unsent'' console' lines' output' result
+run_on left reads holds back faults wants show gate unsent console lines output gate' unsent' console' lines' output' result gate'' unsent'' h
     in_step same = record {
       in_step = in_step;
       same_source = h.same_source;
@@ -92,6 +93,7 @@ run_on left reads holds faults wants show gate unsent console lines output gate'
           result (h.outcome d stands);
       limit = h.limit;
       cause = h.cause;
+      handed_on = h.handed_on;
     }
 
 -- at the opening
@@ -103,15 +105,15 @@ in_step_at show gate unsent console is none stands =
     (record { stands = stands; few = omega arith; entered = entered_none [] [] refl }))
 
 -- from the opening on, the accepted commands are those that are published, and then the unsent ones
-pub played_of : {S K : Type 0} (left : S → Option (List ℕ)) (reads : S → ℕ) (holds : K → Option (List ℕ)) (faults wants : K → ℕ)
+pub played_of : {S K : Type 0} (left : S → Option (List ℕ)) (reads : S → ℕ) (holds : K → Option (List ℕ)) (back : K → List ℕ) (faults wants : K → ℕ)
     (show : Show)
     (gate : Published) (unsent : List Command) (console : Kept) (lines : Lines S) (output : K)
     (gate' : Published) (unsent' : List Command) (console' : Kept) (lines' : Lines S) (output' : K) (result : Result Tally SessionFault)
     → gate ≡ record { published = []; entered = [] } → unsent ≡ [] → StandsFor (opened show) console
-    → HasRun left reads holds faults wants show gate unsent console lines output gate' unsent' console' lines' output' result
+    → HasRun left reads holds back faults wants show gate unsent console lines output gate' unsent' console' lines' output' result
     → IfSome (unread left lines) (λ bytes. SessionOutcome false (λ commands. commands ≡ gate'.published ++ unsent') (opened show)
     (bytes_taken lines) bytes (unread left lines') (source_left left lines') (holds output) (holds output') console' result)
-played_of left reads holds faults wants show gate unsent console lines output gate' unsent' console' lines' output' result is empty stands
+played_of left reads holds back faults wants show gate unsent console lines output gate' unsent' console' lines' output' result is empty stands
     h =
     let none : gate.published ++ unsent ≡ [] = ap (λ l. gate.published ++ l) empty
     ∙ (append-nil gate.published ∙ ap (λ (g : Published). g.published) is) in

@@ -1,12 +1,12 @@
 -- What a tap keeps grows.
-use Rattle.std.proofs.Common.{◌≡◌, ℕ, ◌⊎◌, inl, inr, Bool, true, false, cond, ltb, List, length, sym, ap, subst, arith}
+use Rattle.std.proofs.Common.{◌≡◌, ℕ, ◌⊎◌, inl, inr, ⊎_elim, ◌≤◌, ◌+◌, ◌-◌, ◌^◌, min, Bool, true, false, cond, ltb, List, length, sym, ap, subst, arith}
 use mathlib.Core.List.{IsPrefix}
-use Rattle.lx_io.specs.Causes.{Rose}
+use Rattle.lx_io.specs.Causes.{Rose, one_more}
 use Rattle.lx_spec.specs.declared.Command.{Command}
 use Rattle.lx_gate.specs.CommandLists.{longest, IsChained}
 use Rattle.lx_gate.specs.Readings.{Told, newest, HasRead, HasMissed, HasLearnt}
-use Rattle.lx_gate.proofs.Prefixes.{prefix_trans}
-use Rattle.lx_workers.specs.Works.{HasLooked, RoseOrSame}
+use Rattle.lx_gate.proofs.Prefixes.{prefix_self, prefix_trans}
+use Rattle.lx_workers.specs.Works.{HasLooked, HasTakenTimes, RoseOrSame}
 
 by_test : (b : Bool) (xs ys top : List Command) → IsPrefix xs top → IsPrefix ys top → IsPrefix (cond b ys xs) top
 by_test true xs ys top p q = q
@@ -31,20 +31,33 @@ pub record HasTaken (before now : Told) : Type 0 where
   pub reads : RoseOrSame before.reads now.reads
   pub misses : RoseOrSame before.misses now.misses
   pub looked : HasLooked before now
+  pub seen : IsPrefix before.seen now.seen
+  pub counted : (Rose before.reads now.reads × (now.misses ≡ before.misses)) ⊎ (Rose before.misses now.misses × (now.reads ≡ before.reads))
 
-pub taken : (before now : Told) → HasRead before now ⊎ HasMissed before now → HasTaken before now
-taken before now (inl h) = record {
+pub taken : (before now : Told) → IsPrefix before.seen (newest now) → HasRead before now ⊎ HasMissed before now → HasTaken before now
+taken before now p (inl h) = record {
   learnt = ap (λ (t : Told). t.learnt) h.rest;
   reads = inr h.rose;
   misses = inl (ap (λ (t : Told). t.misses) h.rest);
   looked = inl h.rose;
+  seen = subst (λ (l : List Command). IsPrefix before.seen l) h.newest_is p;
+  counted = inl (h.rose, ap (λ (t : Told). t.misses) h.rest);
 }
-taken before now (inr h) = record {
+taken before now p (inr h) = record {
   learnt = ap (λ (t : Told). t.learnt) h.rest;
   reads = inl (ap (λ (t : Told). t.reads) h.rest);
   misses = inr h.rose;
   looked = inr h.rose;
+  seen = subst (λ (l : List Command). IsPrefix before.seen l) (sym (ap (λ (t : Told). t.seen) h.rest)) (prefix_self before.seen);
+  counted = inr (h.rose, ap (λ (t : Told). t.reads) h.rest);
 }
+
+-- one more take
+pub takes_on : (start before now : Told) (n : ℕ) → HasTakenTimes start before n → HasTaken before now
+    → HasTakenTimes start now (one_more n)
+takes_on start before now n h t = ⊎_elim
+    (λ (s : Rose before.reads now.reads × (now.misses ≡ before.misses)). let r = s.0 in let e = s.1 in omega (arith, h, r, e))
+    (λ (s : Rose before.misses now.misses × (now.reads ≡ before.reads)). let r = s.0 in let e = s.1 in omega (arith, h, r, e)) t.counted
 
 -- what is kept grows with what is learnt
 pub learnt_begins : (before now : Told) (list : List Command) → HasLearnt before now list → IsChained now.seen now.learnt

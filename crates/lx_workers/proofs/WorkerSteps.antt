@@ -1,10 +1,11 @@
 -- A step of a worker: one take, and perhaps a line.
-use Rattle.std.proofs.Common.{◌≡◌, ℕ, ◌<◌, ◌≤◌, ◌+◌, ◌-◌, ◌^◌, min, List, length, Option, Some, None, Err, IfSome, IsSomeAnd, inl, refl}
+use Rattle.std.proofs.Common.{◌≡◌, ℕ, ◌<◌, ◌≤◌, ◌+◌, ◌-◌, ◌^◌, min, List, [], length, Option, Some, None, Err, IfSome, IsSomeAnd, inl, refl}
 use Rattle.std.proofs.Common.{sym, ap, ◌∙◌, subst, arith}
 use mathlib.Core.List.{IsPrefix}
 use Rattle.std.specs.Io.KnownBytes.{Appends}
 use Rattle.lx_io.specs.declared.sink.SinkFault.{SinkFault}
 use Rattle.lx_io.specs.declared.sink.SinkFault.TheVariants.{Failed, Memory}
+use Rattle.lx_io.specs.Causes.{one_more}
 use Rattle.lx_io.specs.Puts.{HasSinkCause, Puts}
 use Rattle.std.proofs.lemmas.Option.{same_Some}
 use Rattle.lx_spec.specs.Show.{Show}
@@ -16,13 +17,20 @@ use Rattle.lx_workers.specs.declared.worker.Served.{Served}
 use Rattle.lx_workers.specs.Lines.{line, HasFault, HasWrittenPart}
 use Rattle.lx_workers.specs.Works.{HasServed, HasStepped}
 use Rattle.lx_workers.proofs.WrittenLines.{goes_on, adds_line, adds_part, last_stays, none_written}
-use Rattle.lx_workers.proofs.TapSteps.{HasTaken, count_on}
+use Rattle.lx_workers.proofs.TapSteps.{HasTaken, count_on, takes_on}
 
 -- no fault behind none
-pub fault_none : {S : Type 0} (faults wants : S → ℕ) (a b c : S) → HasFault faults wants a b None → faults b ≤ faults c → wants b ≤ wants c
+pub fault_none : {S : Type 0} (faults wants : S → ℕ) (a b c : S) → HasFault faults wants a b None → faults c ≡ faults b → wants c ≡ wants b
     → HasFault faults wants a c None
-fault_none faults wants a b c h l w = record
-    { later = omega (arith, h.later, l); wants_later = omega (arith, h.wants_later, w); failed = λ e. cc; memory = λ e. cc }
+fault_none faults wants a b c h l w =
+    let same = h.kept refl in
+    record {
+      later = omega (arith, h.later, l);
+      wants_later = omega (arith, h.wants_later, w);
+      failed = λ e. cc;
+      memory = λ e. cc;
+      kept = λ e. (l ∙ same.0, w ∙ same.1);
+    }
 
 -- a fault behind none
 pub fault_then : {S : Type 0} (faults wants : S → ℕ) (a b c : S) (fault : Option SinkFault) → HasFault faults wants a b None
@@ -32,6 +40,7 @@ fault_then faults wants a b c fault h k = record {
   wants_later = omega (arith, h.wants_later, k.wants_later);
   failed = λ e. let r = k.failed e in omega (arith, h.later, r);
   memory = λ e. let r = k.memory e in omega (arith, h.wants_later, r);
+  kept = λ e. let same = h.kept refl in let then = k.kept e in (then.0 ∙ same.0, then.1 ∙ same.1);
 }
 
 -- the sink's own fault
@@ -42,53 +51,63 @@ fault_is faults wants a b fault k = record {
   wants_later = k.wants_later;
   failed = λ e. k.failed (same_Some fault Failed e);
   memory = λ e. k.memory (same_Some fault Memory e);
+  kept = λ e. cc;
 }
 
 -- before the first take
-pub served_none : {K : Type 0} (holds : K → Option (List ℕ)) (faults wants : K → ℕ) (show : Show) (tap : Tapped) (sink : K)
-    → HasServed holds faults wants show tap tap sink sink (record { taken = 0; last = None; fault = None })
-served_none holds faults wants show tap sink = record {
+pub served_none : {K : Type 0} (holds : K → Option (List ℕ)) (back : K → List ℕ) (faults wants : K → ℕ) (show : Show) (tap : Tapped) (sink : K)
+    → HasServed holds back faults wants show tap tap sink sink (record { takes = 0; taken = 0; last = None; fault = None })
+served_none holds back faults wants show tap sink = record {
   written = λ e. none_written show tap.universe (holds sink) (newest tap.told);
   part = λ f e. cc;
-  cause = record { later = omega arith; wants_later = omega arith; failed = λ e. cc; memory = λ e. cc };
+  cause = record { later = omega arith; wants_later = omega arith; failed = λ e. cc; memory = λ e. cc; kept = λ e. (refl, refl) };
+  handed_on = λ count none last. cc;
   goes_on = prefix_self (newest tap.told);
+  seen = prefix_self tap.told.seen;
+  takes = omega arith;
   same_universe = refl;
   reads = inl refl;
   misses = inl refl;
 }
 
 -- nothing newer was taken
-pub stepped_none : {K : Type 0} (holds : K → Option (List ℕ)) (faults wants : K → ℕ) (show : Show) (tap tap' : Tapped) (sink : K)
+pub stepped_none : {K : Type 0} (holds : K → Option (List ℕ)) (back : K → List ℕ) (faults wants : K → ℕ) (show : Show) (tap tap' : Tapped) (sink : K)
     (served : Served) (count : ℕ)
     → served.fault ≡ None → tap'.universe ≡ tap.universe → IsPrefix (newest tap.told) (newest tap'.told) → HasTaken tap.told tap'.told
     → count ≡ length (newest tap'.told) → IsSomeAnd served.last (λ n. count ≤ n)
-    → HasStepped holds faults wants show tap tap' sink sink served served
-stepped_none holds faults wants show tap tap' sink served count none u p t is stale = record {
+    → HasStepped holds back faults wants show tap tap' sink sink served (record served { takes = one_more served.takes })
+stepped_none holds back faults wants show tap tap' sink served count none u p t is stale = record {
   serves = λ start from h. record {
     written = λ e. goes_on show start.universe (holds from) (holds sink) (newest tap.told) (newest tap'.told) served.taken served.last p
         (h.written e);
     part = λ f e. cc;
     cause = h.cause;
+    handed_on = h.handed_on;
     goes_on = prefix_trans (newest start.told) (newest tap.told) (newest tap'.told) h.goes_on p;
+    seen = prefix_trans start.told.seen tap.told.seen tap'.told.seen h.seen t.seen;
+    takes = takes_on start.told tap.told tap'.told served.takes h.takes t;
     same_universe = u ∙ h.same_universe;
     reads = count_on start.told.reads tap.told.reads tap'.told.reads h.reads t.reads;
     misses = count_on start.told.misses tap.told.misses tap'.told.misses h.misses t.misses;
   };
   goes_on = p;
+  seen = t.seen;
   same_learnt = t.learnt;
+  takes = refl;
   last = λ start from h e. last_stays show start.universe (holds from) (holds sink) (newest tap.told) (newest tap'.told) served.taken
       served.last count p is stale (h.written none);
 }
 
 -- a newer version was taken, and its line was written
-pub stepped_line : {K : Type 0} (holds : K → Option (List ℕ)) (faults wants : K → ℕ) (show : Show) (tap tap' : Tapped) (sink sink' : K)
+pub stepped_line : {K : Type 0} (holds : K → Option (List ℕ)) (back : K → List ℕ) (faults wants : K → ℕ) (show : Show) (tap tap' : Tapped) (sink sink' : K)
     (served : Served) (slots : List ℕ) (stamp : Stamp)
     → served.fault ≡ None → tap'.universe ≡ tap.universe → IsPrefix (newest tap.told) (newest tap'.told) → HasTaken tap.told tap'.told
     → IsFrame show (newest tap'.told) tap.universe slots stamp → IfSome served.last (λ n. n < stamp.count)
-    → Appends (holds sink) (holds sink') (line tap.universe slots stamp) → faults sink ≤ faults sink' → wants sink ≤ wants sink'
-    → HasStepped holds faults wants show tap tap' sink sink' served
-    (record served { taken = min (served.taken + 1) (2 ^ 64 - 1); last = Some stamp.count })
-stepped_line holds faults wants show tap tap' sink sink' served slots stamp none u p t frame fresh text later wants_later = record {
+    → Appends (holds sink) (holds sink') (line tap.universe slots stamp) → faults sink' ≡ faults sink → wants sink' ≡ wants sink
+    → back sink' ≡ []
+    → HasStepped holds back faults wants show tap tap' sink sink' served
+    (record served { takes = one_more served.takes; taken = min (served.taken + 1) (2 ^ 64 - 1); last = Some stamp.count })
+stepped_line holds back faults wants show tap tap' sink sink' served slots stamp none u p t frame fresh text kept wants_kept handed_on = record {
   serves = λ start from h. record {
     written = λ e. adds_line show start.universe (holds from) (holds sink) (holds sink') (newest tap.told) (newest tap'.told) served.taken
         served.last slots stamp p
@@ -96,26 +115,31 @@ stepped_line holds faults wants show tap tap' sink sink' served slots stamp none
         (subst (λ (n : ℕ). Appends (holds sink) (holds sink') (line n slots stamp)) h.same_universe text) fresh (h.written none);
     part = λ f e. cc;
     cause = subst (λ (o : Option SinkFault). HasFault faults wants from sink' o) (sym none)
-        (fault_none faults wants from sink sink' (subst (λ (o : Option SinkFault). HasFault faults wants from sink o) none h.cause) later
-        wants_later);
+        (fault_none faults wants from sink sink' (subst (λ (o : Option SinkFault). HasFault faults wants from sink o) none h.cause) kept
+        wants_kept);
+    handed_on = λ count e last. handed_on;
     goes_on = prefix_trans (newest start.told) (newest tap.told) (newest tap'.told) h.goes_on p;
+    seen = prefix_trans start.told.seen tap.told.seen tap'.told.seen h.seen t.seen;
+    takes = takes_on start.told tap.told tap'.told served.takes h.takes t;
     same_universe = u ∙ h.same_universe;
     reads = count_on start.told.reads tap.told.reads tap'.told.reads h.reads t.reads;
     misses = count_on start.told.misses tap.told.misses tap'.told.misses h.misses t.misses;
   };
   goes_on = p;
+  seen = t.seen;
   same_learnt = t.learnt;
+  takes = refl;
   last = λ start from h e. ap (λ (n : ℕ). Some n) frame.count_is;
 }
 
 -- a newer version was taken, and the sink failed in its line
-pub stepped_fault : {K : Type 0} (holds : K → Option (List ℕ)) (faults wants : K → ℕ) (show : Show) (tap tap' : Tapped) (sink sink' : K)
+pub stepped_fault : {K : Type 0} (holds : K → Option (List ℕ)) (back : K → List ℕ) (faults wants : K → ℕ) (show : Show) (tap tap' : Tapped) (sink sink' : K)
     (served : Served) (slots : List ℕ) (stamp : Stamp) (fault : SinkFault)
     → served.fault ≡ None → tap'.universe ≡ tap.universe → IsPrefix (newest tap.told) (newest tap'.told) → HasTaken tap.told tap'.told
     → IsFrame show (newest tap'.told) tap.universe slots stamp → IfSome served.last (λ n. n < stamp.count)
     → Puts {T = Unit {0}} holds faults wants sink sink' (Err fault) (line tap.universe slots stamp)
-    → HasStepped holds faults wants show tap tap' sink sink' served (record served { fault = Some fault })
-stepped_fault holds faults wants show tap tap' sink sink' served slots stamp fault none u p t frame fresh puts = record {
+    → HasStepped holds back faults wants show tap tap' sink sink' served (record served { takes = one_more served.takes; fault = Some fault })
+stepped_fault holds back faults wants show tap tap' sink sink' served slots stamp fault none u p t frame fresh puts = record {
   serves = λ start from h. record {
     written = λ e. cc;
     part = λ f e. subst (λ (g : SinkFault). HasWrittenPart holds faults wants show start.universe from sink' (newest tap'.told) g)
@@ -128,12 +152,17 @@ stepped_fault holds faults wants show tap tap' sink sink' served slots stamp fau
     cause = fault_then faults wants from sink sink' (Some fault)
         (subst (λ (o : Option SinkFault). HasFault faults wants from sink o) none h.cause)
         (fault_is faults wants sink sink' fault puts.cause);
+    handed_on = λ count e last. cc;
     goes_on = prefix_trans (newest start.told) (newest tap.told) (newest tap'.told) h.goes_on p;
+    seen = prefix_trans start.told.seen tap.told.seen tap'.told.seen h.seen t.seen;
+    takes = takes_on start.told tap.told tap'.told served.takes h.takes t;
     same_universe = u ∙ h.same_universe;
     reads = count_on start.told.reads tap.told.reads tap'.told.reads h.reads t.reads;
     misses = count_on start.told.misses tap.told.misses tap'.told.misses h.misses t.misses;
   };
   goes_on = p;
+  seen = t.seen;
   same_learnt = t.learnt;
+  takes = refl;
   last = λ start from h e. cc;
 }

@@ -1,14 +1,14 @@
 -- Lines that are added to those of rising lists.
-use Rattle.std.proofs.Common.{◌≡◌, ℕ, ◌<◌, ◌+◌, ◌-◌, ◌^◌, min, List, [], ◌∷◌, ◌++◌, length, take, Option, Some, None, Err, IfSome}
+use Rattle.std.proofs.Common.{◌≡◌, ℕ, ◌<◌, ◌+◌, ◌-◌, ◌^◌, min, List, [], ◌∷◌, ◌++◌, length, take, Option, Some, None, Result, Ok, Err, IfSome}
 use Rattle.std.proofs.Common.{IsSomeAnd, ◌≤◌, refl, sym, ap, ◌∙◌, subst, append-nil, arith}
 use Rattle.std.specs.Prelude.{reverse}
 use mathlib.Core.List.{IsPrefix, reverse-cons}
-use Rattle.std.specs.Io.KnownBytes.{Appends}
-use Rattle.std.proofs.KnownBytes.{Appends-nil, Appends-trans}
-use Rattle.std.proofs.Math.Seq.{take-append-add}
+use Rattle.std.specs.Io.KnownBytes.{Appends, Keeps}
+use Rattle.std.proofs.KnownBytes.{Appends-nil, Appends-trans, Appends-kept}
+use Rattle.std.proofs.Math.Seq.{take-append-add, take-length}
 use Rattle.std.proofs.lemmas.Grind.{flat_map-append}
 use Rattle.lx_io.specs.declared.sink.SinkFault.{SinkFault}
-use Rattle.lx_io.specs.Puts.{AppendsFront, Puts}
+use Rattle.lx_io.specs.Puts.{AppendsFront, HasSinkCause, Puts}
 use Rattle.lx_io.proofs.Chain.{AppendsFront-is, AppendsFront-from}
 use Rattle.lx_spec.specs.Show.{Show}
 use Rattle.lx_spec.specs.declared.Command.{Command}
@@ -144,3 +144,32 @@ pub last_stays : (show : Show) (u : ℕ) (before after : Option (List ℕ)) (top
     → IsPrefix top top' → count ≡ length top'
     → IsSomeAnd last (λ n. count ≤ n) → HasWritten show u before after top taken last → last ≡ Some (length top')
 last_stays show u before after top top' taken last count p c k h = whole top top' last h.lists count p h.chain h.last_is c k
+
+-- a text was put, and the sink flushed
+pub puts_flushed : {K T U : Type 0} (holds : K → Option (List ℕ)) (faults wants : K → ℕ) (a b c : K) (t : T) (r : Result U SinkFault)
+    (text : List ℕ) → Puts holds faults wants a b (Ok t) text → Keeps (holds b) (holds c) → HasSinkCause faults wants b c r
+    → Puts holds faults wants a c r text
+puts_flushed holds faults wants a b c t (Ok u) text p kept cause = record {
+  whole = Appends-kept (holds a) (holds b) (holds c) text p.whole kept;
+  part = tt;
+  cause = record {
+    later = omega (arith, p.cause.later, cause.later);
+    wants_later = omega (arith, p.cause.wants_later, cause.wants_later);
+    failed = tt;
+    memory = tt;
+    kept = (cause.kept.0 ∙ p.cause.kept.0, cause.kept.1 ∙ p.cause.kept.1);
+  };
+}
+puts_flushed holds faults wants a b c t (Err e) text p kept cause = record {
+  whole = tt;
+  part = AppendsFront-from (holds a) (holds c) text (length text)
+      (subst (λ (w : List ℕ). Appends (holds a) (holds c) w) (sym (take-length text))
+      (Appends-kept (holds a) (holds b) (holds c) text p.whole kept));
+  cause = record {
+    later = omega (arith, p.cause.later, cause.later);
+    wants_later = omega (arith, p.cause.wants_later, cause.wants_later);
+    failed = λ is. let r = cause.failed is in let same = p.cause.kept.0 in omega (arith, r, same);
+    memory = λ is. let r = cause.memory is in let same = p.cause.kept.1 in omega (arith, r, same);
+    kept = tt;
+  };
+}

@@ -1,5 +1,5 @@
 -- The engine's commands: those that are published, and then those that aren't yet.
-use Rattle.std.specs.Prelude.{◌≡◌, ℕ, ◌+◌, ◌-◌, ◌<◌, ◌^◌, List, [], ◌++◌, length, vec_len, vec_capacity, false, Option, Result, IfSome}
+use Rattle.std.specs.Prelude.{◌≡◌, ℕ, ◌+◌, ◌-◌, ◌<◌, ◌^◌, List, [], ◌++◌, length, vec_len, vec_capacity, false, Option, Result, IfSome, OnOk}
 use Rattle.std.specs.Prelude.{IsSomeAnd}
 use mathlib.Core.Path.{sym, ap, ◌∙◌}
 use mathlib.Core.List.{append-nil, append_assoc}
@@ -42,8 +42,8 @@ accepted_both gate unsent gate' unsent' gate'' unsent'' before after one two =
 
 -- A session was played: the console stands for the desk after all commands, those that its lines came to are published or unsent, and it
 -- answered as a session in which a command may not be admitted.
-pub record HasRun {S K : Type 0} (left : S → Option (List ℕ)) (reads : S → ℕ) (holds : K → Option (List ℕ)) (faults wants : K → ℕ)
-    (show : Show) (gate : Published) (unsent : List Command) (console : Kept) (lines : Lines S) (output : K)
+pub record HasRun {S K : Type 0} (left : S → Option (List ℕ)) (reads : S → ℕ) (holds : K → Option (List ℕ)) (back : K → List ℕ)
+    (faults wants : K → ℕ) (show : Show) (gate : Published) (unsent : List Command) (console : Kept) (lines : Lines S) (output : K)
     (gate' : Published) (unsent' : List Command) (console' : Kept) (lines' : Lines S) (output' : K) (result : Result Tally SessionFault)
     : Type 0 where
   pub in_step : IsInStep show gate' unsent' console'
@@ -53,10 +53,11 @@ pub record HasRun {S K : Type 0} (left : S → Option (List ℕ)) (reads : S →
       (source_left left lines') (holds output) (holds output') console' result)
   pub limit : IfSome (unread left lines) (λ bytes. KeepsLimit (bytes_taken lines) bytes result)
   pub cause : HasSessionCause reads faults wants lines lines' output output' result
+  pub handed_on : OnOk result (back output' ≡ [])
 
 -- the same of a gate that is there, with nothing unsent before
-abbrev pub HasRunFrom : {S K : Type 0} → (S → Option (List ℕ)) → (S → ℕ) → (K → Option (List ℕ)) → (K → ℕ) → (K → ℕ) → Show
+abbrev pub HasRunFrom : {S K : Type 0} → (S → Option (List ℕ)) → (S → ℕ) → (K → Option (List ℕ)) → (K → List ℕ) → (K → ℕ) → (K → ℕ) → Show
     → Option Published → Kept → Lines S → K → Option Published → List Command → Kept → Lines S → K → Result Tally SessionFault → Type 0
-HasRunFrom left reads holds faults wants show gate console lines output gate' unsent' console' lines' output' result =
+HasRunFrom left reads holds back faults wants show gate console lines output gate' unsent' console' lines' output' result =
     IsSomeAnd gate (λ held. IsSomeAnd gate' (λ held'.
-    HasRun left reads holds faults wants show held [] console lines output held' unsent' console' lines' output' result))
+    HasRun left reads holds back faults wants show held [] console lines output held' unsent' console' lines' output' result))

@@ -41,9 +41,10 @@ pub record HasWrittenPart {K : Type 0} (holds : K → Option (List ℕ)) (faults
   pub whole : Appends (holds sink) (holds last) (outlet_text show universe earlier)
   pub stopped : Puts {T = Unit {0}} holds faults wants last sink' (Err fault) (version_text show universe newest)
 
--- neither count of a sink has fallen, and a fault comes only where its own count rose
+-- neither count of a sink has fallen, a fault comes only where its own count rose, and without one both stand as they were
 pub record HasFault {S : Type 0} (faults wants : S → ℕ) (old new : S) (fault : Option SinkFault) : Type 0 where
   pub later : faults old ≤ faults new
   pub wants_later : wants old ≤ wants new
   pub failed : fault ≡ Some Failed → Rose (faults old) (faults new)
   pub memory : fault ≡ Some Memory → Rose (wants old) (wants new)
+  pub kept : fault ≡ None → (faults new ≡ faults old) × (wants new ≡ wants old)

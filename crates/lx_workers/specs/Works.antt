@@ -1,10 +1,10 @@
 -- What a worker promises, and what an outlet has at the end.
-use Rattle.std.specs.Prelude.{◌≡◌, ℕ, ◌⊎◌, List, ◌∷◌, length, Some, None}
+use Rattle.std.specs.Prelude.{◌≡◌, ℕ, ◌+◌, ◌-◌, ◌^◌, ◌≤◌, ◌⊎◌, List, [], ◌∷◌, length, min, Some, None}
 use Rattle.std.specs.declared.option.Option.{Option}
 use Rattle.std.specs.Io.KnownBytes.{Appends}
 use mathlib.Core.List.{IsPrefix}
 use Rattle.lx_io.specs.declared.sink.SinkFault.{SinkFault}
-use Rattle.lx_io.specs.Causes.{Rose}
+use Rattle.lx_io.specs.Causes.{Rose, one_more}
 use Rattle.lx_spec.specs.declared.Command.{Command}
 use Rattle.lx_spec.specs.Show.{Show}
 use Rattle.lx_gate.specs.Readings.{Tapped, Told, newest}
@@ -16,26 +16,36 @@ use Rattle.lx_workers.specs.Lines.{HasWritten, HasWrittenPart, HasFault}
 abbrev pub RoseOrSame : ℕ → ℕ → Type 0
 RoseOrSame before now = (now ≡ before) ⊎ Rose before now
 
--- from the tap and the sink before to those after a worker's run
-pub record HasServed {K : Type 0} (holds : K → Option (List ℕ)) (faults wants : K → ℕ) (show : Show)
+-- the port had at least so many readings and misses
+abbrev pub HasTakenTimes : Told → Told → ℕ → Type 0
+HasTakenTimes before now takes = min (before.reads + before.misses + takes) (2 ^ 64 - 1) ≤ now.reads + now.misses
+
+-- From the tap and the sink before to those after a worker's run. Behind a line without a fault the sink keeps nothing back. What the port
+-- has seen never falls.
+pub record HasServed {K : Type 0} (holds : K → Option (List ℕ)) (back : K → List ℕ) (faults wants : K → ℕ) (show : Show)
     (tap tap' : Tapped) (sink sink' : K) (served : Served) : Type 0 where
   pub written : served.fault ≡ None → HasWritten show tap.universe (holds sink) (holds sink') (newest tap'.told) served.taken served.last
   pub part : (f : SinkFault) → served.fault ≡ Some f
       → HasWrittenPart holds faults wants show tap.universe sink sink' (newest tap'.told) f
   pub cause : HasFault faults wants sink sink' served.fault
+  pub handed_on : (count : ℕ) → served.fault ≡ None → served.last ≡ Some count → back sink' ≡ []
   pub goes_on : IsPrefix (newest tap.told) (newest tap'.told)
+  pub seen : IsPrefix tap.told.seen tap'.told.seen
+  pub takes : HasTakenTimes tap.told tap'.told served.takes
   pub same_universe : tap'.universe ≡ tap.universe
   pub reads : RoseOrSame tap.told.reads tap'.told.reads
   pub misses : RoseOrSame tap.told.misses tap'.told.misses
 
 -- a step of a worker that had no fault: what was served up to it is served up to its end
-pub record HasStepped {K : Type 0} (holds : K → Option (List ℕ)) (faults wants : K → ℕ) (show : Show)
+pub record HasStepped {K : Type 0} (holds : K → Option (List ℕ)) (back : K → List ℕ) (faults wants : K → ℕ) (show : Show)
     (tap tap' : Tapped) (sink sink' : K) (served served' : Served) : Type 0 where
-  pub serves : (start : Tapped) (from : K) → HasServed holds faults wants show start tap from sink served
-      → HasServed holds faults wants show start tap' from sink' served'
+  pub serves : (start : Tapped) (from : K) → HasServed holds back faults wants show start tap from sink served
+      → HasServed holds back faults wants show start tap' from sink' served'
   pub goes_on : IsPrefix (newest tap.told) (newest tap'.told)
+  pub seen : IsPrefix tap.told.seen tap'.told.seen
   pub same_learnt : tap'.told.learnt ≡ tap.told.learnt
-  pub last : (start : Tapped) (from : K) → HasServed holds faults wants show start tap from sink served → served'.fault ≡ None
+  pub takes : served'.takes ≡ one_more served.takes
+  pub last : (start : Tapped) (from : K) → HasServed holds back faults wants show start tap from sink served → served'.fault ≡ None
       → served'.last ≡ Some (length (newest tap'.told))
 
 -- the tap's port had a reading or a miss
@@ -57,9 +67,10 @@ pub record HasPart {K : Type 0} (holds : K → Option (List ℕ)) (faults wants 
   pub begins : IsPrefix published top
   pub part : HasWrittenPart holds faults wants show universe sink sink' top fault
 
--- what an outlet got, and its fault
-pub record Delivered {K : Type 0} (holds : K → Option (List ℕ)) (faults wants : K → ℕ) (show : Show) (universe : ℕ)
+-- What an outlet got, and its fault. Without one it keeps nothing back.
+pub record Delivered {K : Type 0} (holds : K → Option (List ℕ)) (back : K → List ℕ) (faults wants : K → ℕ) (show : Show) (universe : ℕ)
     (sink sink' : K) (published : List Command) (fault : Option SinkFault) : Type 0 where
   pub whole : fault ≡ None → HasAll show universe (holds sink) (holds sink') published
   pub part : (f : SinkFault) → fault ≡ Some f → HasPart holds faults wants show universe sink sink' published f
   pub cause : HasFault faults wants sink sink' fault
+  pub handed_on : fault ≡ None → back sink' ≡ []

@@ -1,5 +1,5 @@
 //! The stop of a live run, which is set once, and the news of it; each worker sees both.
-ghost use Rattle.std.specs.Prelude.{◌≡◌, Bool, true, false};
+ghost use Rattle.std.specs.Prelude.{◌≡◌, Bool, ℕ, true, false};
 
 use std::sync::atomic::Ordering::SeqCst;
 use std::sync::atomic::{AtomicBool, AtomicU64};
@@ -9,14 +9,19 @@ pub trait Halt {
     /// Whether it knows the stop.
     ghost known: { Self → Bool };
 
-    /// Whether it is to end. Once it is, it stays so.
-    fn is_set(&mut self) -> bool
+    /// How often the worker had taken when it asked last.
+    ghost asked: { Self → ℕ };
+
+    /// Whether the worker, which has taken so often, is to end. Once it is, it stays so.
+    fn is_set(&mut self, takes: u64) -> bool
         ensures answer { result ≡ known self.new }
+        ensures asked { asked self.new ≡ takes }
         ensures stays { known self.old ≡ true → known self.new ≡ true };
 
     /// Whether there may be something new to take since it was asked last. It is a hint, of which nothing is claimed.
     fn has_news(&mut self) -> bool
-        ensures { known self.new ≡ known self.old };
+        ensures known { known self.new ≡ known self.old }
+        ensures asked { asked self.new ≡ asked self.old };
 }
 
 /// A word that is set once, and how often there was news.
@@ -51,6 +56,7 @@ impl Stop {
         Watch {
             stop: self,
             known: false,
+            asked: 0,
             heard: 0,
         }
     }
@@ -61,13 +67,17 @@ impl Stop {
 pub struct Watch<'a> {
     stop: &'a Stop,
     pub known: bool,
+    asked: u64,
     heard: u64,
 }
 
 impl Halt for Watch<'_> {
     ghost known = { λ w. w.known };
 
-    fn is_set(&mut self) -> bool {
+    ghost asked = { λ w. w.asked };
+
+    fn is_set(&mut self, takes: u64) -> bool {
+        self.asked = takes;
         if !self.known {
             self.known = self.stop.word.load(SeqCst);
         }

@@ -1,5 +1,6 @@
 //! What a worker owns while it runs, and how it ended.
 ghost use Rattle.std.specs.Prelude.{◌≡◌, IsSome};
+ghost use mathlib.Core.List.{IsPrefix};
 ghost use Rattle.lx_gate.specs.Notes.{IsNoteOf, list_of};
 ghost use Rattle.lx_gate.specs.Readings.{Tapped};
 ghost use Rattle.lx_workers.specs.Works.{HasServed, Delivered};
@@ -24,7 +25,7 @@ pub struct Lane<'a, P: Port, K, C> {
 impl<P: Port, K: Sink, C: Pace> Work for Lane<'_, P, K, C> {
     ghost ready = { λ x. Unit {0} };
 
-    ghost done = { λ x y. HasServed K.holds K.faults K.wants P.show x.tap y.tap x.sink y.sink y.served };
+    ghost done = { λ x y. HasServed K.holds K.back K.faults K.wants P.show x.tap y.tap x.sink y.sink y.served };
 
     fn run<R: Wait>(&mut self, rt: &R) {
         self.served = serve(
@@ -39,12 +40,13 @@ impl<P: Port, K: Sink, C: Pace> Work for Lane<'_, P, K, C> {
 
 impl<P: Port, K: Sink, C: Pace> Lane<'_, P, K, C> {
     /// Learns what is published at the end and takes once more, unless the sink had a fault. The last line is then that of a
-    /// list which begins with the note's.
+    /// list which begins with the note's, and the sink keeps nothing back.
     pub fn finish(&mut self, note: Note)
         requires gate { IsNoteOf P.show P.book note }
         ensures delivered { (start : Tapped) (from : K)
-            → HasServed K.holds K.faults K.wants P.show start self.old.tap from self.old.sink self.old.served
-            → Delivered K.holds K.faults K.wants P.show start.universe from self.new.sink (list_of note) self.new.served.fault }
+            → HasServed K.holds K.back K.faults K.wants P.show start self.old.tap from self.old.sink self.old.served
+            → Delivered K.holds K.back K.faults K.wants P.show start.universe from self.new.sink (list_of note) self.new.served.fault }
+        ensures seen { IsPrefix self.old.tap.told.seen self.new.tap.told.seen }
         ensures unwritten { IsSome self.old.served.fault → self.new.sink ≡ self.old.sink }
     {
         self.tap.learn(note);

@@ -1,5 +1,5 @@
 //! A live run: the engine, and a worker for each outlet beside it.
-ghost use Rattle.std.specs.Prelude.{◌≡◌, ◌+◌, ◌-◌, ◌<◌, ◌≤◌, [], length, IsSome, IsSomeAnd, IfOk, IfSome, OnErr, vec_len, vec_capacity, ℕ};
+ghost use Rattle.std.specs.Prelude.{◌≡◌, ◌+◌, ◌-◌, ◌<◌, ◌≤◌, [], length, IsSome, IsSomeAnd, IfOk, IfSome, OnOk, OnErr, vec_len, vec_capacity, ℕ};
 ghost use Rattle.std.specs.Prelude.{Some, None, slice_get, slice_set, List};
 ghost use Rattle.std.specs.List.{AllZip};
 ghost use Rattle.lx_base.specs.declared.TheConstants.{INPUT_BYTES};
@@ -49,7 +49,8 @@ pub struct Played {
 /// Plays the script lines that are left, up to `quit` or the end, over a console as it is at its opening: each is answered
 /// on the output as in a session, and each accepted command is published at once. Beside it a worker for each outlet, of
 /// universe 1 at place 0 and so on, writes the lines of newer and newer versions of its universe's frame. At the end each
-/// outlet that had no fault gets the line of what is published last.
+/// outlet that had no fault gets the line of what is published last. Each line is handed on at once, and all replies are
+/// where the session ended Ok.
 ///
 /// A command for which no room can be had is refused with `Memory`. A fault of an outlet ends that outlet alone: it isn't
 /// written again. `AllocError` comes only before the first line, and then nothing was read or written.
@@ -77,10 +78,11 @@ pub fn play<
     ensures err { OnErr result ((console.new ≡ console.old)
         × ((lines.new ≡ lines.old) × ((output.new ≡ output.old) × (outlets.new ≡ outlets.old)))) }
     ensures same_source { SameSource lines.old lines.new }
-    ensures played { IfOk result (λ p. HasPlayed S.left O.holds K.holds K.faults K.wants console.old.show lines.old lines.new output.old
+    ensures played { IfOk result (λ p. HasPlayed S.left O.holds K.holds K.back K.faults K.wants console.old.show lines.old lines.new output.old
         output.new outlets.old outlets.new console.new p.session p.outlets p.unsent) }
     ensures limit { IfOk result (λ p. IfSome (unread S.left lines.old) (λ bytes. KeepsLimit (bytes_taken lines.old) bytes p.session)) }
     ensures cause { IfOk result (λ p. HasSessionCause S.faults O.faults O.wants lines.old lines.new output.old output.new p.session) }
+    ensures handed_on { IfOk result (λ p. OnOk p.session (O.back output.new ≡ [])) }
 {
     play_over::<Brand, R, S, O, K, C>(
         rt,
@@ -123,10 +125,11 @@ fn play_over<
     ensures err { OnErr result ((console.new ≡ console.old)
         × ((lines.new ≡ lines.old) × ((output.new ≡ output.old) × (outlets.new ≡ outlets.old)))) }
     ensures same_source { SameSource lines.old lines.new }
-    ensures played { IfOk result (λ p. HasPlayed S.left O.holds K.holds K.faults K.wants G.show lines.old lines.new output.old
+    ensures played { IfOk result (λ p. HasPlayed S.left O.holds K.holds K.back K.faults K.wants G.show lines.old lines.new output.old
         output.new outlets.old outlets.new console.new p.session p.outlets p.unsent) }
     ensures limit { IfOk result (λ p. IfSome (unread S.left lines.old) (λ bytes. KeepsLimit (bytes_taken lines.old) bytes p.session)) }
     ensures cause { IfOk result (λ p. HasSessionCause S.faults O.faults O.wants lines.old lines.new output.old output.new p.session) }
+    ensures handed_on { IfOk result (λ p. OnOk p.session (O.back output.new ≡ [])) }
 {
     let stop = Stop::new();
     let lanes = Vec::with_capacity(alloc, outlets.len())?;
@@ -188,10 +191,10 @@ fn perform<
     requires in_step { IsSomeAnd gate.old (λ held. IsInStep G.show held [] console.old) }
     requires going { CanAdvance lines.old }
     requires within { bytes_taken lines.old ≤ INPUT_BYTES }
-    ensures engine { HasRunFrom S.left S.faults O.holds O.faults O.wants G.show gate.old console.old lines.old output.old gate.new
+    ensures engine { HasRunFrom S.left S.faults O.holds O.back O.faults O.wants G.show gate.old console.old lines.old output.old gate.new
         unsent.new.commands.items console.new lines.new output.new result.1 }
     ensures count { vec_len result.0 ≡ vec_len lanes.entry }
-    ensures lanes { AllZip (λ x y. HasServed K.holds K.faults K.wants G.show x.tap y.tap x.sink y.sink y.served) lanes.entry.items
+    ensures lanes { AllZip (λ x y. HasServed K.holds K.back K.faults K.wants G.show x.tap y.tap x.sink y.sink y.served) lanes.entry.items
         result.0.items }
 {
     let mut engine = Engine {
@@ -251,7 +254,7 @@ fn give_back<G: Origin, K: Sink + Drop, C: Pace>(
     requires count { vec_len lanes ≡ length outlets.old }
     requires most { length outlets.old ≤ OUTLETS }
     ensures same { length outlets.new ≡ length outlets.old }
-    ensures back { EachAt (λ k x. IsGiven K.holds K.faults K.wants G.show outlets.new result gate.now.published
+    ensures back { EachAt (λ k x. IsGiven K.holds K.back K.faults K.wants G.show outlets.new result gate.now.published
         (length outlets.old - 1 - k) x.tap x.sink x.served) lanes.entry.items }
     ensures others { (place : ℕ) (fault : SinkFault) → slice_get result place ≡ Some (Some fault) → place < length outlets.old }
 {

@@ -1,5 +1,7 @@
 //! One output worker.
-ghost use Rattle.std.specs.Prelude.{◌≡◌, ◌<◌, ◌≤◌, IsTrue, true, false, IfSome, IsSomeAnd, Some, None, length};
+ghost use Rattle.std.specs.Prelude.{◌≡◌, ◌<◌, ◌≤◌, [], IsTrue, true, false, IfSome, IsSomeAnd, OnOk, Some, None, length};
+ghost use mathlib.Core.List.{IsPrefix};
+ghost use Rattle.lx_io.specs.Causes.{Rose};
 ghost use Rattle.lx_io.specs.Puts.{Puts};
 ghost use Rattle.lx_gate.specs.Readings.{newest};
 ghost use Rattle.lx_workers.specs.Lines.{line};
@@ -11,9 +13,10 @@ use lx_io::{Pace, Sink, SinkFault};
 use lx_script::put_frame;
 use std::sync::Wait;
 
-/// How a worker ended: how many lines it wrote, how many commands led to the last, and its sink's fault.
+/// How a worker ended: how often it took, how many lines it wrote, how many commands led to the last, and its sink's fault.
 #[derive(Clone, Copy, Debug, PartialEq, Eq)]
 pub struct Served {
+    pub takes: u64,
     pub taken: u64,
     pub last: Option<u64>,
     pub fault: Option<SinkFault>,
@@ -22,9 +25,10 @@ pub struct Served {
 impl Served {
     /// Nothing was written.
     pub fn none() -> Served
-        ensures { result ≡ record { taken = 0; last = None; fault = None } }
+        ensures { result ≡ record { takes = 0; taken = 0; last = None; fault = None } }
     {
         Served {
+            takes: 0,
             taken: 0,
             last: None,
             fault: None,
@@ -33,7 +37,7 @@ impl Served {
 }
 
 /// Takes whenever there is news, until a stop was known before a take, or the sink had a fault. It writes the line of the
-/// first take and of each that is newer than the last line.
+/// first take and of each that is newer than the last line, and has its sink hand each on.
 pub fn serve<R: Wait, P: Port, K: Sink, C: Pace, H: Halt>(
     rt: &R,
     tap: &mut Tap<P>,
@@ -41,15 +45,18 @@ pub fn serve<R: Wait, P: Port, K: Sink, C: Pace, H: Halt>(
     pace: &C,
     halt: &mut H,
 ) -> Served
-    ensures served { HasServed K.holds K.faults K.wants P.show tap.old tap.new sink.old sink.new result }
+    ensures served { HasServed K.holds K.back K.faults K.wants P.show tap.old tap.new sink.old sink.new result }
+    ensures seen { IsPrefix tap.old.told.seen tap.new.told.seen }
     ensures learnt { tap.new.told.learnt ≡ tap.old.told.learnt }
     ensures last { result.fault ≡ None → result.last ≡ Some (length (newest tap.new.told)) }
     ensures looked { result.fault ≡ None → HasLooked tap.old.told tap.new.told }
     ensures halted { result.fault ≡ None → H.known halt.new ≡ true }
+    ensures after_stop { result.fault ≡ None → Rose (H.asked halt.new) result.takes }
+    ensures handed_on { result.fault ≡ None → K.back sink.new ≡ [] }
 {
     let mut served = Served::none();
     for _ in rt.forever() {
-        if halt.is_set() {
+        if halt.is_set(served.takes) {
             step(tap, sink, pace, &mut served);
             return served;
         }
@@ -73,11 +80,12 @@ pub(crate) fn step<P: Port, K: Sink, C: Pace>(
     served: &mut Served,
 )
     requires { served.old.fault ≡ None }
-    ensures stepped { HasStepped K.holds K.faults K.wants P.show tap.old tap.new sink.old sink.new served.old served.new }
+    ensures stepped { HasStepped K.holds K.back K.faults K.wants P.show tap.old tap.new sink.old sink.new served.old served.new }
     ensures looked { HasLooked tap.old.told tap.new.told }
 {
     let mut slots = [0; 512];
     let stamp = tap.take(&mut slots);
+    served.takes = served.takes.saturating_add(1);
     if !is_newer(stamp.count, served.last) {
         pace.pause();
         return;
@@ -92,17 +100,19 @@ pub(crate) fn step<P: Port, K: Sink, C: Pace>(
     }
 }
 
-/// Appends the line of a version.
-#[tactic(auto, unfolding(crate::specs::Lines::line))]
+/// Appends the line of a version, and has the sink hand on what it keeps back.
+#[tactic(auto, using(lx_io::proofs::Chain::puts), unfolding(crate::specs::Lines::line))]
 fn put_line<K: Sink>(
     universe: u8,
     slots: &[u8; 512],
     stamp: Stamp,
     sink: &mut K,
 ) -> Result<(), SinkFault>
-    ensures { Puts K.holds K.faults K.wants sink.old sink.new result (line universe slots.now stamp) }
+    ensures puts { Puts K.holds K.faults K.wants sink.old sink.new result (line universe slots.now stamp) }
+    ensures handed_on { OnOk result (K.back sink.new ≡ []) }
 {
-    put_frame(Some(stamp.count), stamp.moment, universe, slots, sink)
+    put_frame(Some(stamp.count), stamp.moment, universe, slots, sink)?;
+    sink.flush()
 }
 
 /// Whether there was no line yet, or the last was of fewer commands.

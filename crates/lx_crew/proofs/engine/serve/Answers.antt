@@ -28,6 +28,7 @@ returns-then-all_of-clause-served g c =
       ended = λ k below. i.ended k (c.all_of.ensures c.if-all_of.true k below);
       answered = λ d stands. c.flush.ensures.answered d i.popped _ _ _ (i.answered d stands);
       cause = cause_then _ _ _ _ _ _ _ _ i.cause c.flush.ensures.cause;
+      handed_on = c.flush.ensures.handed_on;
     }
 
 pub loop-preserved-then-not-take_one : goal.loop-preserved-then-not-take_one

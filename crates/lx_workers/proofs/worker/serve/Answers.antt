@@ -1,4 +1,4 @@
-use Rattle.std.proofs.Common.{rules, ◌∙◌, refl, ap}
+use Rattle.std.proofs.Common.{rules, ◌∙◌, refl, ap, Some, length, subst}
 use Rattle.lx_workers.proofs.WorkerSteps.{served_none}
 use Rattle.lx_workers.proofs.worker.serve.Goals as goal
 
@@ -6,7 +6,7 @@ pub loop-init : goal.loop-init
 loop-init g c = record {
   can = tt;
   finite = tt;
-  served = rw c.none-served.ensures (served_none _ _ _ _ c.args.tap.now c.args.sink.now);
+  served = rw c.none-served.ensures (served_none _ _ _ _ _ c.args.tap.now c.args.sink.now);
   learnt = refl;
   none = ap (λ s. s.fault) c.none-served.ensures;
 }
