@@ -15,7 +15,6 @@ use Rattle.lx_lex.proofs.TakenLines.{lines_within}
 use Rattle.lx_lex.proofs.FirstLines.{first_lines-more, first_lines-longer}
 use Rattle.lx_spec.specs.declared.Form.{Form}
 use Rattle.lx_spec.specs.declared.TextFault.{TextFault}
-use Rattle.lx_spec.specs.declared.TextFault.TheVariants as texts_of
 use Rattle.lx_spec.specs.Text.{lines_of}
 use Rattle.lx_spec.specs.Desk.{Desk, opened}
 use Rattle.lx_spec.specs.Show.{Show}
@@ -29,7 +28,6 @@ use Rattle.lx_spec.specs.Session.{begin_at, ends_script, lines_wanted, bytes_wan
 use Rattle.lx_reader.specs.declared.loaded.Loaded.{Loaded}
 use Rattle.lx_reader.specs.declared.fault.ShowFault.{ShowFault}
 use Rattle.lx_reader.specs.declared.fault.ShowFault.TheVariants as faults
-use Rattle.lx_reader.specs.LineFaults.{show_fault}
 use Rattle.lx_reader.specs.HandedLines.{MeansFault, IsPastLimit, IsCutShort}
 use Rattle.lx_reader.specs.Answer.{reading_of, HasRead, OfText, CutShort}
 use Rattle.lx_session.proofs.Places.{wants_nothing}
@@ -88,13 +86,7 @@ nothing_answered o a d = nothing_answered_by (by_desk d)
 -- a fault that isn't one of the text is one of three, and has the status of its name
 pub kept_is : (fault : ShowFault) (s : Status) (P : ShowFault → Status → Type 0) → status_kept fault s
     → P faults.ReadFault status.ReadFault → P faults.InputTooLong status.InputTooLong → P faults.Memory status.Memory → P fault s
-kept_is (faults.NoIdent i) s P kept read long memory = absurd kept
-kept_is (faults.BadNumber i) s P kept read long memory = absurd kept
-kept_is (faults.OutOfRange i) s P kept read long memory = absurd kept
-kept_is (faults.NotInRecord i) s P kept read long memory = absurd kept
-kept_is (faults.LineTooLong i) s P kept read long memory = absurd kept
-kept_is (faults.ShortList i) s P kept read long memory = absurd kept
-kept_is (faults.NoEndData i) s P kept read long memory = absurd kept
+kept_is (faults.Text text) s P kept read long memory = absurd kept
 kept_is faults.ReadFault s P kept read long memory = subst (λ t. P faults.ReadFault t) (sym kept) read
 kept_is faults.InputTooLong s P kept read long memory = subst (λ t. P faults.InputTooLong t) (sym kept) long
 kept_is faults.Memory s P kept read long memory = subst (λ t. P faults.Memory t) (sym kept) memory
@@ -452,17 +444,6 @@ module _ (form : Form) where
   fault_fits job over left a fault none m =
       refused_fits job over (unread left a) m.unread_then a.taken m.taken_then m.count m.raws fault none m.took m.whole m.text m.wanted
 
-  -- what the reader says of a fault of the text
-  fault_means : {S : Type 0} (left : S → Option (List ℕ)) (a : Lines S) (P Q : Type 0) (text : TextFault)
-      → OfText (MeansFault left a form) P Q (show_fault text) → MeansFault left a form text
-  fault_means left a P Q (texts_of.NoIdent i) p = p
-  fault_means left a P Q (texts_of.BadNumber i) p = p
-  fault_means left a P Q (texts_of.OutOfRange i) p = p
-  fault_means left a P Q (texts_of.NotInRecord i) p = p
-  fault_means left a P Q (texts_of.LineTooLong i) p = p
-  fault_means left a P Q (texts_of.ShortList i) p = p
-  fault_means left a P Q (texts_of.NoEndData i) p = p
-
   text_at : (job : Job) → IsOverShow job → (o h h' : Option (List ℕ)) (fault : TextFault) → IfSome o (λ x. reads form x ≡ Err fault)
       → Appends h h' (fault_text fault) → IfSome o (λ x. WritesAll job x h h' × IsErr (show_of job x))
   text_at job over None h h' fault text appended = tt
@@ -497,11 +478,9 @@ module _ (form : Form) where
   Says left a b fault = OfText (MeansFault left a form) (IfSome (unread left a) (IsPastLimit a.taken) × CutShort left a b)
       (CutShort left a b) fault
 
-  pub means_of : {S : Type 0} (left : S → Option (List ℕ)) (a b : Lines S) (fault : ShowFault) (text : TextFault) → fault ≡ show_fault text
+  pub means_of : {S : Type 0} (left : S → Option (List ℕ)) (a b : Lines S) (fault : ShowFault) (text : TextFault) → fault ≡ faults.Text text
       → Says left a b fault → MeansFault left a form text
-  means_of left a b fault text told says =
-      fault_means left a (IfSome (unread left a) (IsPastLimit a.taken) × CutShort left a b) (CutShort left a b) text
-      (subst (λ f. Says left a b f) told says)
+  means_of left a b fault text told says = subst (λ f. Says left a b f) told says
 
   not_refused : (fault : ShowFault) (s : Status) (P : Type 0) → status_kept fault s → s ≡ status.ShowRefused → P
   not_refused fault s P kept = kept_is fault s (λ f t. t ≡ status.ShowRefused → P) kept (λ is. absurd cc) (λ is. absurd cc)

@@ -1,14 +1,13 @@
 //! A show that is refused, or couldn't be read.
 #![tactic(auto, using(lx_io::proofs::Chain::puts))]
 
-ghost use Rattle.std.specs.Prelude.{◌≡◌, ◌≢◌, ◌⊎◌, ◌∷◌, [], codes, decimal, IfOk, IfErr};
+ghost use Rattle.std.specs.Prelude.{◌≡◌, ◌≢◌, ◌⊎◌, ◌∷◌, [], codes, decimal};
 ghost use Rattle.std.specs.Io.KnownBytes.{Appends, Keeps};
 ghost use Rattle.lx_io.specs.Causes.{Rose};
 ghost use Rattle.lx_io.specs.Puts.{AppendsFront, Puts};
 ghost use Rattle.lx_spec.specs.ShowText.{line as text_line};
 ghost use Rattle.lx_spec.specs.FaultLine.{fault_text};
-ghost use Rattle.lx_reader.specs.LineFaults.{show_fault};
-ghost use Rattle.lx_desk.specs.ShowRefusal.{RefusedBy, status_kept};
+ghost use Rattle.lx_desk.specs.ShowRefusal.{RefusedBy};
 
 use crate::desk::Status;
 use lx_io::{Sink, SinkFault, put_all};
@@ -22,28 +21,11 @@ pub(crate) fn refuse<K: Sink>(fault: ShowFault, output: &mut K) -> Status
     ensures write { result ≡ Status.WriteFault → Rose (K.faults output.old) (K.faults output.new) }
     ensures memory { result ≡ Status.Memory → (fault ≡ ShowFault.Memory) ⊎ Rose (K.wants output.old) (K.wants output.new) }
 {
-    match text_fault(fault) {
-        Ok(fault) => write_fault(fault, output),
-        Err(status) => status,
-    }
-}
-
-/// The fault of the text, or the status of any other fault.
-fn text_fault(fault: ShowFault) -> Result<TextFault, Status>
-    ensures told { IfOk result (λ text. fault ≡ show_fault text) }
-    ensures other { IfErr result (λ status. status_kept fault status) }
-{
     match fault {
-        ShowFault::NoIdent(line) => Ok(TextFault::NoIdent(line)),
-        ShowFault::BadNumber(line) => Ok(TextFault::BadNumber(line)),
-        ShowFault::OutOfRange(line) => Ok(TextFault::OutOfRange(line)),
-        ShowFault::NotInRecord(line) => Ok(TextFault::NotInRecord(line)),
-        ShowFault::LineTooLong(line) => Ok(TextFault::LineTooLong(line)),
-        ShowFault::ShortList(line) => Ok(TextFault::ShortList(line)),
-        ShowFault::NoEndData(line) => Ok(TextFault::NoEndData(line)),
-        ShowFault::ReadFault => Err(Status::ReadFault),
-        ShowFault::InputTooLong => Err(Status::InputTooLong),
-        ShowFault::Memory => Err(Status::Memory),
+        ShowFault::Text(fault) => write_fault(fault, output),
+        ShowFault::ReadFault => Status::ReadFault,
+        ShowFault::InputTooLong => Status::InputTooLong,
+        ShowFault::Memory => Status::Memory,
     }
 }
 

@@ -7,7 +7,7 @@ use Rattle.lx_base.specs.declared.TheConstants.{LINE_BYTES}
 use Rattle.lx_spec.specs.declared.Form.{Form}
 use Rattle.lx_spec.specs.declared.Section.TheVariants.{NoRecord}
 use Rattle.lx_spec.specs.declared.TextFault.{TextFault}
-use Rattle.lx_spec.specs.declared.TextFault.TheVariants.{NoIdent, BadNumber, OutOfRange, NotInRecord, LineTooLong, ShortList, NoEndData}
+use Rattle.lx_spec.specs.declared.TextFault.TheVariants.{LineTooLong, NoEndData}
 use Rattle.lx_spec.specs.Text.{without_cr}
 use Rattle.lx_spec.specs.Show.{Valid}
 use Rattle.lx_spec.specs.Entry.{Entry, Ends, is_end}
@@ -23,66 +23,51 @@ use Rattle.lx_reader.specs.declared.fault.ShowFault.{ShowFault}
 use Rattle.lx_reader.specs.declared.fault.ShowFault.TheVariants as faults
 use Rattle.lx_reader.specs.declared.loaded.Loaded.{Loaded}
 use Rattle.lx_reader.specs.declared.reader.Reader.{Reader}
-use Rattle.lx_reader.specs.declared.line_fault.LineFault.{LineFault}
-use Rattle.lx_reader.specs.declared.line_fault.LineFault.TheVariants as stops
 use Rattle.lx_reader.specs.ReadingState.{first_state, step, final_reading}
 use Rattle.lx_reader.specs.LineOutcome.{facts_of, state_of, IsReady, IsStep, Outcome}
 use Rattle.lx_reader.specs.HandedLines.{MeansShow, MeansFault, IsPastLimit}
-use Rattle.lx_reader.specs.LineFaults.{show_fault, told_fault}
 use Rattle.lx_reader.specs.Answer.{reading_of, HasRead, IsLoaded, OfText, CutShort, AnswerOf, FaultOf, TurnOf}
 use Rattle.lx_reader.proofs.ReadLines.{long_entry}
 use Rattle.lx_reader.proofs.PassedLines.{PassedLines, lines_none, lines_sound, lines_more, lines_ended, lines_refused, lines_open}
 use Rattle.lx_reader.proofs.PassedLines.{lines_past_limit, lines_cut}
 
--- what holds of a text's fault holds of it as it is told
-pub told : (P : TextFault → Type 0) (long cut : Type 0) (fault : TextFault) → P fault → OfText P long cut (show_fault fault)
-told P long cut (NoIdent i) is = is
-told P long cut (BadNumber i) is = is
-told P long cut (OutOfRange i) is = is
-told P long cut (NotInRecord i) is = is
-told P long cut (LineTooLong i) is = is
-told P long cut (ShortList i) is = is
-told P long cut (NoEndData i) is = is
-
 of_text : (P Q : TextFault → Type 0) (long longer cut shorter : Type 0) → ((fault : TextFault) → P fault → Q fault) → (long → longer)
     → (cut → shorter) → (fault : ShowFault) → OfText P long cut fault → OfText Q longer shorter fault
-of_text P Q long longer cut shorter each past short (faults.NoIdent i) is = each (NoIdent i) is
-of_text P Q long longer cut shorter each past short (faults.BadNumber i) is = each (BadNumber i) is
-of_text P Q long longer cut shorter each past short (faults.OutOfRange i) is = each (OutOfRange i) is
-of_text P Q long longer cut shorter each past short (faults.NotInRecord i) is = each (NotInRecord i) is
-of_text P Q long longer cut shorter each past short (faults.LineTooLong i) is = each (LineTooLong i) is
-of_text P Q long longer cut shorter each past short (faults.ShortList i) is = each (ShortList i) is
-of_text P Q long longer cut shorter each past short (faults.NoEndData i) is = each (NoEndData i) is
+of_text P Q long longer cut shorter each past short (faults.Text fault) is = each fault is
 of_text P Q long longer cut shorter each past short faults.InputTooLong is = past is
 of_text P Q long longer cut shorter each past short faults.ReadFault is = short is
-of_text P Q long longer cut shorter each past short other is = tt
-
--- what a reader answers, as it is told
-abbrev pub answer_told : Result (Unit {0}) LineFault → Result (Unit {0}) ShowFault
-answer_told (Ok done) = Ok done
-answer_told (Err stop) = Err (told_fault stop)
+of_text P Q long longer cut shorter each past short faults.Memory is = tt
 
 -- A line that was handed out and given to the reader.
 pub line_turn : {S : Type 0} (left : S → Option (List ℕ)) (rises : S → ℕ) (l l' : Lines S) (r q : Reader)
-    (result : Result (Unit {0}) LineFault) (raw line : List ℕ) (i : ℕ) → HandedOut left rises l l' (raw ∷ []) → line ≡ without_cr raw
+    (result : Result (Unit {0}) ShowFault) (raw line : List ℕ) (i : ℕ) → HandedOut left rises l l' (raw ∷ []) → line ≡ without_cr raw
     → i ≡ l.number + 1
-    → Outcome r q i result (entry_of (facts_of r i) line) → TurnOf left rises l l' r q (answer_told result)
+    → Outcome r q i result (entry_of (facts_of r i) line) → TurnOf left rises l l' r q result
 line_turn left rises l l' r q (Ok done) raw line i handed is number took = (
   raw,
   handed,
   subst (λ k. Outcome r q k (Ok done) (entry_of (facts_of r k) (without_cr raw))) number
       (subst (λ v. Outcome r q i (Ok done) (entry_of (facts_of r i) v)) is took),
 )
-line_turn left rises l l' r q (Err stops.Memory) raw line i handed is number took = tt
-line_turn left rises l l' r q (Err (stops.Text fault)) raw line i handed is number took =
-    told (FaultOf left rises l l' r) (StepOf steps.InputTooLong (unread left l) (unread left l') l.taken l'.taken (line_of l'))
-    (NotTaken left l l') fault
-    (inl (raw, handed, (λ j. entry_of (facts_of r (sym number j)) (sym is j)) ∙ took))
+line_turn left rises l l' r q (Err faults.Memory) raw line i handed is number took = tt
+line_turn left rises l l' r q (Err faults.ReadFault) raw line i handed is number took = absurd took
+line_turn left rises l l' r q (Err faults.InputTooLong) raw line i handed is number took = absurd took
+line_turn left rises l l' r q (Err (faults.Text fault)) raw line i handed is number took =
+    inl (raw, handed, (λ j. entry_of (facts_of r (sym number j)) (sym is j)) ∙ took)
+
+-- no line is a failed read
+pub no_read_fault : {P : Type 0} (r q : Reader) (i : ℕ) (result : Result (Unit {0}) ShowFault) (x : Result Entry TextFault)
+    → Outcome r q i result x → result ≡ Err faults.ReadFault → P
+no_read_fault r q i (Ok done) x took read = cc
+no_read_fault r q i (Err faults.ReadFault) x took read = absurd took
+no_read_fault r q i (Err faults.InputTooLong) x took read = absurd took
+no_read_fault r q i (Err faults.Memory) x took read = cc
+no_read_fault r q i (Err (faults.Text fault)) x took read = cc
 
 -- A line that is too long.
 pub long_turn : {S : Type 0} (left : S → Option (List ℕ)) (rises : S → ℕ) (l l' : Lines S) (r q : Reader) (raw : List ℕ) (i : ℕ)
     → HandedOut left rises l l' (raw ∷ []) → LINE_BYTES < length (without_cr raw) → i ≡ l.number + 1
-    → TurnOf left rises l l' r q (Err (faults.LineTooLong i))
+    → TurnOf left rises l l' r q (Err (faults.Text (LineTooLong i)))
 long_turn left rises l l' r q raw i handed long number =
     inl (raw, handed, long_entry (facts_of r (l.number + 1)) (without_cr raw) long ∙ ap (λ k. Err (LineTooLong k)) (sym number))
 
@@ -199,7 +184,7 @@ passage_fault left rises old l l' form r q fault first passage turn =
 
 -- a fault that is handed on
 pub handed_on : {S : Type 0} (left : S → Option (List ℕ)) (rises : S → ℕ) (old l : Lines S) (form : Form) (result : Result Loaded ShowFault)
-    (fault : ShowFault) → IsErrAnd result (λ told_fault. told_fault ≡ fault) → AnswerOf left rises old l form (Err fault)
+    (fault : ShowFault) → IsErrAnd result (λ told. told ≡ fault) → AnswerOf left rises old l form (Err fault)
     → AnswerOf left rises old l form result
 handed_on left rises old l form (Ok loaded) fault is answer = absurd is
 handed_on left rises old l form (Err other) fault is answer = subst (λ f. AnswerOf left rises old l form (Err f)) (sym is) answer

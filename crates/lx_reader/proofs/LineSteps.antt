@@ -29,8 +29,8 @@ use Rattle.lx_spec.specs.LineRules.{if_few, entry_by_word}
 use Rattle.lx_spec.proofs.ValidLines.{time_in_range}
 use Rattle.lx_reader.specs.declared.gathered.Gathered.{Gathered}
 use Rattle.lx_reader.specs.declared.reader.Reader.{Reader}
-use Rattle.lx_reader.specs.declared.line_fault.LineFault.{LineFault}
-use Rattle.lx_reader.specs.declared.line_fault.LineFault.TheVariants.{Text, Memory}
+use Rattle.lx_reader.specs.declared.fault.ShowFault.{ShowFault}
+use Rattle.lx_reader.specs.declared.fault.ShowFault.TheVariants as faults
 use Rattle.lx_reader.specs.FieldLists.{all_pairs, all_triples, next_times, record_number}
 use Rattle.lx_reader.specs.LineFaults.{IsFaultOf}
 use Rattle.lx_reader.specs.LineOutcome.{facts_of, state_of, placed_at, IsStep, Outcome}
@@ -42,8 +42,8 @@ pub time_within : (r : Result ℕ Bad) (t : ℕ) (token : List ℕ) → r ≡ re
 time_within r t token is ok = subst (λ v. IfOk v IsTime) (sym is ∙ ok) (time_in_range token)
 
 -- a fault ends the reading
-pub stops : (old new : Reader) (i : ℕ) (r : Result (Unit {0}) LineFault) (entry : Result Entry TextFault) (fault : TextFault)
-    → IsErrAnd r (λ stop. stop ≡ Text fault) → entry ≡ Err fault → Outcome old new i r entry
+pub stops : (old new : Reader) (i : ℕ) (r : Result (Unit {0}) ShowFault) (entry : Result Entry TextFault) (fault : TextFault)
+    → IsErrAnd r (λ stop. stop ≡ faults.Text fault) → entry ≡ Err fault → Outcome old new i r entry
 stops old new i (Ok done) entry fault stop is = absurd stop
 stops old new i (Err stop) entry fault stopped is = subst (λ s. Outcome old new i (Err s) entry) (sym stopped) is
 
@@ -141,12 +141,14 @@ levels_ok old show room i rest (Ok members) going list is =
     took old new i (levels desk_limits i rest) (HasLevels members) (levels_from i rest (Ok members) list)
     (added_to old new show i (HasLevels members) going refl is refl refl)
 
-levels_stop : (stop : LineFault) (i : ℕ) (rest : List (List ℕ)) → IsFaultOf stop (all_pairs i rest)
+levels_stop : (stop : ShowFault) (i : ℕ) (rest : List (List ℕ)) → IsFaultOf stop (all_pairs i rest)
     → IsFaultOf stop (levels desk_limits i rest)
-levels_stop (Text fault) i rest is = levels_from i rest (Err fault) is
-levels_stop Memory i rest is = tt
+levels_stop (faults.Text fault) i rest is = levels_from i rest (Err fault) is
+levels_stop faults.Memory i rest is = tt
+levels_stop faults.ReadFault i rest is = absurd is
+levels_stop faults.InputTooLong i rest is = absurd is
 
-pub levels_took : (old : Reader) (show : Show) (room : Gathered) (i : ℕ) (rest : List (List ℕ)) (result : Result (Unit {0}) LineFault)
+pub levels_took : (old : Reader) (show : Show) (room : Gathered) (i : ℕ) (rest : List (List ℕ)) (result : Result (Unit {0}) ShowFault)
     → old.ended ≡ false
     → OnOk result (IsOkAnd (all_pairs i rest) (λ members. show ≡ with_members old.section old.part members old.show))
     → IfErr result (λ stop. IsFaultOf stop (all_pairs i rest))
@@ -182,13 +184,15 @@ rows_ok old show i page rest (Ok rows) going identified one list is =
     (patch_says old i page rest identified one ∙ rows_from i rest (Ok rows) list)
     (record { state = λ j. record (state_of (patched old show)) { show = is j }; ended = going })
 
-rows_stop : (stop : LineFault) (old : Reader) (i : ℕ) (page : List ℕ) (rest : List (List ℕ)) → old.identified ≡ true
+rows_stop : (stop : ShowFault) (old : Reader) (i : ℕ) (page : List ℕ) (rest : List (List ℕ)) → old.identified ≡ true
     → is_ok (read_whole 1 1 page) ≡ true → IsFaultOf stop (all_triples i rest)
     → IsFaultOf stop (entry_by_word (facts_of old i) [] words.Patch (page ∷ rest))
-rows_stop (Text fault) old i page rest identified one is = patch_says old i page rest identified one ∙ rows_from i rest (Err fault) is
-rows_stop Memory old i page rest identified one is = tt
+rows_stop (faults.Text fault) old i page rest identified one is = patch_says old i page rest identified one ∙ rows_from i rest (Err fault) is
+rows_stop faults.Memory old i page rest identified one is = tt
+rows_stop faults.ReadFault old i page rest identified one is = absurd is
+rows_stop faults.InputTooLong old i page rest identified one is = absurd is
 
-pub rows_took : (old : Reader) (show : Show) (i : ℕ) (page : List ℕ) (tokens rest : List (List ℕ)) (result : Result (Unit {0}) LineFault)
+pub rows_took : (old : Reader) (show : Show) (i : ℕ) (page : List ℕ) (tokens rest : List (List ℕ)) (result : Result (Unit {0}) ShowFault)
     → tokens ≡ page ∷ rest → old.ended ≡ false → old.identified ≡ true → is_ok (read_whole 1 1 page) ≡ true
     → OnOk result (IsOkAnd (all_triples i rest) (λ rows. show ≡ with_rows rows old.show))
     → IfErr result (λ stop. IsFaultOf stop (all_triples i rest))

@@ -19,7 +19,7 @@ use Rattle.lx_spec.specs.Show.{Cue, Show}
 use Rattle.lx_spec.specs.SortedList.{IsStrictlySorted, has_entry}
 use Rattle.lx_spec.specs.TrackedLevel.{cue_of}
 use Rattle.lx_show.specs.ChangedEntry.{changed}
-use Rattle.lx_reader.specs.declared.line_fault.LineFault.{LineFault}
+use Rattle.lx_reader.specs.declared.fault.ShowFault.{ShowFault}
 use Rattle.lx_reader.specs.declared.reader.Reader.{Reader}
 use Rattle.lx_reader.specs.declared.reading.Reading.{Reading}
 use Rattle.lx_reader.specs.LineOutcome.{IsReady, IsStep, Outcome, facts_of, state_of}
@@ -140,7 +140,7 @@ ok_apart r q None moves i (Ok e) fits says took = (took, tt)
 ok_apart r q (Some n) moves i (Ok e) fits says took =
     (step_apart r q (Some n) moves i e (fits.inside, says) took, fits_still r q moves n i e fits says took.state)
 
-outcome_apart : (r q : Reader) (o : Option ℕ) (moves : List Move) (i : ℕ) (result : Result (Unit {0}) LineFault) (x : Result Entry TextFault)
+outcome_apart : (r q : Reader) (o : Option ℕ) (moves : List Move) (i : ℕ) (result : Result (Unit {0}) ShowFault) (x : Result Entry TextFault)
     → IfSome o (FitsIn r moves) → IfSome o (λ n. IfOk x IsQuiet) → Outcome r q i result x
     → Outcome (with_cue_moves r o moves) (with_cue_moves q o moves) i result x × OnOk result (IfSome o (FitsIn q moves))
 outcome_apart r q o moves i (Ok done) x fits says took = ok_apart r q o moves i x fits says took
@@ -152,7 +152,7 @@ words_quiet r None moves i line word rest fits is = tt
 words_quiet r (Some n) moves i line word rest fits is = quiet_word (facts_of r i) n line word rest fits.inside fits.identified is
 
 -- a quiet line, and the moves besides
-pub quiet_took : (g : Reading) (q : Reader) (i : ℕ) (line : List ℕ) (word : Word) (rest : List (List ℕ)) (result : Result (Unit {0}) LineFault)
+pub quiet_took : (g : Reading) (q : Reader) (i : ℕ) (line : List ℕ) (word : Word) (rest : List (List ℕ)) (result : Result (Unit {0}) ShowFault)
     → Fits g → keeps_cue word ≡ true → IsStrictlySorted (λ cue. cue.number) g.reader.show.cues
     → Outcome g.reader q i result (entry_by_word (facts_of g.reader i) line word rest)
     → Outcome (settled g) (with_cue_moves q g.cue g.moves) i result (entry_by_word (facts_of (settled g) i) line word rest)
@@ -165,7 +165,7 @@ quiet_took g q i line word rest result fits is rises took =
 
 -- a line once the moves were put in
 pub settled_took : (g : Reading) (r q : Reader) (o : Option ℕ) (moves : List Move) (i : ℕ) (line : List ℕ) (word : Word)
-    (rest : List (List ℕ)) (result : Result (Unit {0}) LineFault) → o ≡ None → r ≡ settled g
+    (rest : List (List ℕ)) (result : Result (Unit {0}) ShowFault) → o ≡ None → r ≡ settled g
     → Outcome r q i result (entry_by_word (facts_of r i) line word rest)
     → Outcome (settled g) (with_cue_moves q o moves) i result (entry_by_word (facts_of (settled g) i) line word rest)
 settled_took g r q o moves i line word rest result none is took =

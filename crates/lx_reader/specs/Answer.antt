@@ -3,7 +3,7 @@ use Rattle.std.specs.Prelude.{◌≡◌, ◌≤◌, ◌⊎◌, ℕ, ◌+◌, Res
 use Rattle.std.specs.declared.option.Option.{Option}
 use Rattle.std.specs.Io.KnownBytes.{IsAtEnd}
 use Rattle.lx_spec.specs.declared.TextFault.{TextFault}
-use Rattle.lx_spec.specs.declared.TextFault.TheVariants.{NoIdent, BadNumber, OutOfRange, NotInRecord, LineTooLong, ShortList, NoEndData}
+use Rattle.lx_spec.specs.declared.TextFault.TheVariants.{NoEndData}
 use Rattle.lx_spec.specs.declared.Form.{Form}
 use Rattle.lx_spec.specs.Text.{without_cr}
 use Rattle.lx_spec.specs.Show.{Valid}
@@ -35,13 +35,7 @@ pub record HasRead {S : Type 0} (left : S → Option (List ℕ)) (faults : S →
 
 -- what holds of a fault: of a text, of an input that is too long, or of a read
 abbrev pub OfText : (TextFault → Type 0) → Type 0 → Type 0 → ShowFault → Type 0
-OfText P long cut (faults.NoIdent i) = P (NoIdent i)
-OfText P long cut (faults.BadNumber i) = P (BadNumber i)
-OfText P long cut (faults.OutOfRange i) = P (OutOfRange i)
-OfText P long cut (faults.NotInRecord i) = P (NotInRecord i)
-OfText P long cut (faults.LineTooLong i) = P (LineTooLong i)
-OfText P long cut (faults.ShortList i) = P (ShortList i)
-OfText P long cut (faults.NoEndData i) = P (NoEndData i)
+OfText P long cut (faults.Text fault) = P fault
 OfText P long cut faults.InputTooLong = long
 OfText P long cut faults.ReadFault = cut
 OfText P long cut other = Unit {0}

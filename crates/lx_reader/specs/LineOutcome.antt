@@ -7,7 +7,7 @@ use Rattle.lx_spec.specs.declared.Word.TheVariants as words
 use Rattle.lx_spec.specs.Facts.{Facts}
 use Rattle.lx_spec.specs.Entry.{Entry, PlacedEntry, is_end}
 use Rattle.lx_reader.specs.declared.reader.Reader.{Reader}
-use Rattle.lx_reader.specs.declared.line_fault.LineFault.{LineFault}
+use Rattle.lx_reader.specs.declared.fault.ShowFault.{ShowFault}
 use Rattle.lx_reader.specs.LineFaults.{IsFaultOf}
 use Rattle.lx_reader.specs.OpenRecord.{IsOpen}
 use Rattle.lx_reader.specs.ReadingState.{ReadingState, step, placed_in, facts_in}
@@ -44,7 +44,7 @@ pub record IsStep (old new : Reader) (i : ℕ) (entry : Entry) : Type 0 where
   pub ended : new.ended ≡ is_end entry
 
 -- Where the line says something, the reader goes on. A fault is the definition's; want of memory is free.
-abbrev pub Outcome : Reader → Reader → ℕ → Result (Unit {0}) LineFault → Result Entry TextFault → Type 0
+abbrev pub Outcome : Reader → Reader → ℕ → Result (Unit {0}) ShowFault → Result Entry TextFault → Type 0
 Outcome old new i (Ok done) entry = IsOkAnd entry (IsStep old new i)
 Outcome old new i (Err fault) entry = IsFaultOf fault entry
 

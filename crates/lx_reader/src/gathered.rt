@@ -9,7 +9,7 @@ ghost use Rattle.lx_reader.specs.FieldLists.{all_pairs};
 ghost use Rattle.lx_reader.specs.LineFaults.{IsFaultOf};
 ghost use Rattle.lx_reader.specs.ReadingState.{moves_of};
 
-use crate::line_fault::LineFault;
+use crate::fault::ShowFault;
 use crate::lists::{first_guess, guess_behind, next_member};
 use lx_base::PartNo;
 use lx_lex::Tokens;
@@ -42,7 +42,7 @@ pub(crate) fn gather(
     mut tokens: Tokens,
     least: u32,
     members: &mut Vec<Member>,
-) -> Result<u32, LineFault>
+) -> Result<u32, ShowFault>
     ensures list { IfOk result (λ _. all_pairs i (left tokens.entry) ≡ Ok members.new.items) }
     ensures valid { IfOk result (λ _. AllByRecursion (ValidMember CHANNELS) members.new.items) }
     ensures greatest { IfOk result (λ n. n ≡ fold max least (map (λ m. m.chan) members.new.items)) }
@@ -60,7 +60,7 @@ pub(crate) fn gather(
                 keep(members, member)?;
             }
             Ok(None) => return Ok(greatest),
-            Err(fault) => return Err(LineFault::Text(fault)),
+            Err(fault) => return Err(ShowFault::Text(fault)),
         }
     }
 }

@@ -17,7 +17,7 @@ ghost use Rattle.lx_reader.specs.OpenRecord.{IsOpen};
 ghost use Rattle.lx_reader.specs.ReadingState.{show_with};
 
 use crate::levels::put_members;
-use crate::line_fault::LineFault;
+use crate::fault::ShowFault;
 use crate::numbers::{next_cue_no, next_part, next_time, next_times};
 use crate::presence::{ensure_part, put_label};
 use crate::reader::Reader;
@@ -34,7 +34,7 @@ impl Reader {
         line: &[u8],
         word: Word,
         tokens: Tokens,
-    ) -> Result<(), LineFault>
+    ) -> Result<(), ShowFault>
         requires { IsReady self.old i }
         ensures { Outcome self.old self.new i result
             (inner_entry self.old.section (facts_of self.old i) line.now word (left tokens.entry)) }
@@ -53,7 +53,7 @@ impl Reader {
     }
 
     /// `$$BLOCK`, which is a manufacturer's own line outside of cues.
-    pub(crate) fn block_line(&mut self, i: u32) -> Result<(), LineFault>
+    pub(crate) fn block_line(&mut self, i: u32) -> Result<(), ShowFault>
         requires { IsReady self.old i }
         ensures { Outcome self.old self.new i result (entry_by_word (facts_of self.old i) [] words.Block []) }
     {
@@ -63,7 +63,7 @@ impl Reader {
                 self.show.set_block(n, true);
                 Ok(())
             }
-            Section::InCue(_) => Err(LineFault::Text(TextFault::NoIdent(i))),
+            Section::InCue(_) => Err(ShowFault::Text(TextFault::NoIdent(i))),
             _ => {
                 self.skip(i);
                 Ok(())
@@ -72,7 +72,7 @@ impl Reader {
     }
 
     /// `$$ASSERT`, which is a manufacturer's own line outside of cues.
-    pub(crate) fn assert_line(&mut self, i: u32) -> Result<(), LineFault>
+    pub(crate) fn assert_line(&mut self, i: u32) -> Result<(), ShowFault>
         requires { IsReady self.old i }
         ensures { Outcome self.old self.new i result (entry_by_word (facts_of self.old i) [] words.Assert []) }
     {
@@ -82,7 +82,7 @@ impl Reader {
                 self.show.set_asserted(n, true);
                 Ok(())
             }
-            Section::InCue(_) => Err(LineFault::Text(TextFault::NoIdent(i))),
+            Section::InCue(_) => Err(ShowFault::Text(TextFault::NoIdent(i))),
             _ => {
                 self.skip(i);
                 Ok(())
@@ -91,7 +91,7 @@ impl Reader {
     }
 
     /// Such a line outside of any record.
-    fn stray_line(&mut self, i: u32, word: Word, rest: Tokens) -> Result<(), LineFault>
+    fn stray_line(&mut self, i: u32, word: Word, rest: Tokens) -> Result<(), ShowFault>
         requires ready { IsReady self.old i }
         requires outside { self.old.section ≡ NoRecord }
         ensures { Outcome self.old self.new i result (stray_entry (facts_of self.old i) word) }
@@ -101,7 +101,7 @@ impl Reader {
                 self.skip(i);
                 Ok(())
             }
-            _ => Err(LineFault::Text(TextFault::NotInRecord(i))),
+            _ => Err(ShowFault::Text(TextFault::NotInRecord(i))),
         }
     }
 
@@ -112,7 +112,7 @@ impl Reader {
         line: &[u8],
         word: Word,
         tokens: Tokens,
-    ) -> Result<(), LineFault>
+    ) -> Result<(), ShowFault>
         requires ready { IsReady self.old i }
         requires inside { cue_in self.old.section ≡ None }
         ensures { Outcome self.old self.new i result (members_entry (facts_of self.old i) line.now word (left tokens.entry)) }
@@ -138,7 +138,7 @@ impl Reader {
         line: &[u8],
         word: Word,
         tokens: Tokens,
-    ) -> Result<(), LineFault>
+    ) -> Result<(), ShowFault>
         requires ready { IsReady self.old i }
         requires inside { self.old.section ≡ InCue n }
         ensures { Outcome self.old self.new i result (cue_entry (facts_of self.old i) line.now word (left tokens.entry)) }
@@ -170,7 +170,7 @@ impl Reader {
     }
 
     /// `CHAN` with levels
-    fn levels_line(&mut self, i: u32, tokens: Tokens) -> Result<(), LineFault>
+    fn levels_line(&mut self, i: u32, tokens: Tokens) -> Result<(), ShowFault>
         requires { IsReady self.old i }
         ensures { Outcome self.old self.new i result (levels desk_limits i (left tokens.entry)) }
     {
@@ -200,7 +200,7 @@ impl Reader {
     }
 
     /// `PART p`
-    fn part_line(&mut self, n: CueNo, i: u32, tokens: Tokens) -> Result<(), LineFault>
+    fn part_line(&mut self, n: CueNo, i: u32, tokens: Tokens) -> Result<(), ShowFault>
         requires ready { IsReady self.old i }
         requires inside { self.old.section ≡ InCue n }
         ensures { Outcome self.old self.new i result (numbered i NamesPart (read_whole 1 PARTS) (left tokens.entry)) }
@@ -212,7 +212,7 @@ impl Reader {
     }
 
     /// `UP t` and `UP t d`
-    fn up_line(&mut self, n: CueNo, i: u32, tokens: Tokens) -> Result<(), LineFault>
+    fn up_line(&mut self, n: CueNo, i: u32, tokens: Tokens) -> Result<(), ShowFault>
         requires ready { IsReady self.old i }
         requires inside { self.old.section ≡ InCue n }
         ensures { Outcome self.old self.new i result (times i HasUp (left tokens.entry)) }
@@ -223,7 +223,7 @@ impl Reader {
     }
 
     /// `DOWN t` and `DOWN t d`
-    fn down_line(&mut self, n: CueNo, i: u32, tokens: Tokens) -> Result<(), LineFault>
+    fn down_line(&mut self, n: CueNo, i: u32, tokens: Tokens) -> Result<(), ShowFault>
         requires ready { IsReady self.old i }
         requires inside { self.old.section ≡ InCue n }
         ensures { Outcome self.old self.new i result (times i HasDown (left tokens.entry)) }
@@ -234,7 +234,7 @@ impl Reader {
     }
 
     /// `FOLLOWON t`
-    fn follow_line(&mut self, n: CueNo, i: u32, tokens: Tokens) -> Result<(), LineFault>
+    fn follow_line(&mut self, n: CueNo, i: u32, tokens: Tokens) -> Result<(), ShowFault>
         requires ready { IsReady self.old i }
         requires inside { self.old.section ≡ InCue n }
         ensures { Outcome self.old self.new i result (numbered i Follows read_time (left tokens.entry)) }
@@ -245,7 +245,7 @@ impl Reader {
     }
 
     /// `LINK n`
-    fn link_line(&mut self, n: CueNo, i: u32, tokens: Tokens) -> Result<(), LineFault>
+    fn link_line(&mut self, n: CueNo, i: u32, tokens: Tokens) -> Result<(), ShowFault>
         requires ready { IsReady self.old i }
         requires inside { self.old.section ≡ InCue n }
         ensures { Outcome self.old self.new i result (numbered i Links (read_cue_no desk_limits) (left tokens.entry)) }

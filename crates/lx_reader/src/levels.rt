@@ -15,7 +15,7 @@ ghost use Rattle.lx_reader.specs.OpenRecord.{HasPartIn, IsOpen};
 ghost use Rattle.lx_reader.specs.ReadingState.{moves_of, with_members, with_rows};
 
 use crate::gathered::{Gathered, fill_moves, gather};
-use crate::line_fault::LineFault;
+use crate::fault::ShowFault;
 use crate::lists::next_row;
 use lx_base::{Chan, CueNo, PartNo};
 use lx_lex::Tokens;
@@ -94,7 +94,7 @@ pub(crate) fn put_members(
     i: u32,
     tokens: Tokens,
     gathered: &mut Gathered,
-) -> Result<(), LineFault>
+) -> Result<(), ShowFault>
     requires { IsOpen show.old section.now part }
     ensures show { OnOk result (IsOkAnd (all_pairs i (left tokens.entry))
         (λ members. show.new ≡ with_members section.now part members show.old)) }
@@ -105,7 +105,7 @@ pub(crate) fn put_members(
     let moves = &mut gathered.moves;
     match put_levels(show, section, part, members, greatest, moves) {
         Ok(()) => Ok(()),
-        Err(_) => Err(LineFault::Memory),
+        Err(_) => Err(ShowFault::Memory),
     }
 }
 
@@ -118,7 +118,7 @@ fn put_patch_row(show: &mut Show, row: PatchRow)
 }
 
 /// Puts the rows of a line into the patch.
-pub(crate) fn put_rows(show: &mut Show, i: u32, mut tokens: Tokens) -> Result<(), LineFault>
+pub(crate) fn put_rows(show: &mut Show, i: u32, mut tokens: Tokens) -> Result<(), ShowFault>
     ensures show { OnOk result (IsOkAnd (all_triples i (left tokens.entry)) (λ rows. show.new ≡ with_rows rows show.old)) }
     ensures stop { IfErr result (λ stop. IsFaultOf stop (all_triples i (left tokens.entry))) }
 {
@@ -126,7 +126,7 @@ pub(crate) fn put_rows(show: &mut Show, i: u32, mut tokens: Tokens) -> Result<()
         match next_row(i, &mut tokens) {
             Ok(Some(row)) => put_patch_row(show, row),
             Ok(None) => return Ok(()),
-            Err(fault) => return Err(LineFault::Text(fault)),
+            Err(fault) => return Err(ShowFault::Text(fault)),
         }
     }
 }

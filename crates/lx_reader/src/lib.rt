@@ -5,7 +5,6 @@ mod fault;
 mod gathered;
 mod inner_line;
 mod levels;
-mod line_fault;
 mod lists;
 mod loaded;
 mod looks;

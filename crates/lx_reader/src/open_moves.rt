@@ -12,7 +12,7 @@ ghost use Rattle.lx_reader.specs.FieldLists.{all_pairs};
 ghost use Rattle.lx_reader.specs.LineFaults.{IsFaultOf};
 ghost use Rattle.lx_reader.specs.OpenMoves.{ReadsLevels};
 
-use crate::line_fault::LineFault;
+use crate::fault::ShowFault;
 use crate::lists::{far_member, first_guess, guess_behind, near_member};
 use lx_base::{CHANNELS, Chan, PartNo};
 use lx_lex::Tokens;
@@ -92,7 +92,7 @@ impl OpenMoves {
         tokens: Tokens,
         part: PartNo,
         least: u32,
-    ) -> Result<u32, LineFault>
+    ) -> Result<u32, ShowFault>
         ensures levels { IfOk result (λ greatest. ReadsLevels i part least (left tokens.entry) [] greatest self.old self.new) }
         ensures fault { IfErr result (λ stop. IsFaultOf stop (all_pairs i (left tokens.entry))) }
     {

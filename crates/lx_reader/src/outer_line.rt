@@ -11,7 +11,7 @@ ghost use Rattle.lx_lex.specs.Left.{left};
 ghost use Rattle.lx_reader.specs.LineOutcome.{IsReady, facts_of, Outcome};
 
 use crate::levels::put_rows;
-use crate::line_fault::LineFault;
+use crate::fault::ShowFault;
 use crate::numbers::{cue_of_record, group_of_record, is_one, next_channel, sub_of_record};
 use crate::presence::{ensure_cue, ensure_group, ensure_sub};
 use crate::reader::Reader;
@@ -45,12 +45,12 @@ impl Reader {
     }
 
     /// `IDENT 3:0`
-    pub(crate) fn ident_line(&mut self, i: u32, tokens: Tokens) -> Result<(), LineFault>
+    pub(crate) fn ident_line(&mut self, i: u32, tokens: Tokens) -> Result<(), ShowFault>
         requires { IsReady self.old i }
         ensures { Outcome self.old self.new i result (entry_by_word (facts_of self.old i) [] words.Ident (left tokens.entry)) }
     {
         if !is_next(tokens, b"3:0") {
-            return Err(LineFault::Text(TextFault::NoIdent(i)));
+            return Err(ShowFault::Text(TextFault::NoIdent(i)));
         }
         self.enter(Section::NoRecord);
         self.identified = true;
@@ -73,7 +73,7 @@ impl Reader {
     }
 
     /// `SET CHANNELS n`
-    pub(crate) fn set_line(&mut self, i: u32, mut tokens: Tokens) -> Result<(), LineFault>
+    pub(crate) fn set_line(&mut self, i: u32, mut tokens: Tokens) -> Result<(), ShowFault>
         requires ready { IsReady self.old i }
         requires identified { self.old.identified ≡ true }
         ensures { Outcome self.old self.new i result (entry_by_word (facts_of self.old i) [] words.Set (left tokens.entry)) }
@@ -89,13 +89,13 @@ impl Reader {
     }
 
     /// `PATCH 1` with rows
-    pub(crate) fn patch_line(&mut self, i: u32, mut tokens: Tokens) -> Result<(), LineFault>
+    pub(crate) fn patch_line(&mut self, i: u32, mut tokens: Tokens) -> Result<(), ShowFault>
         requires ready { IsReady self.old i }
         requires identified { self.old.identified ≡ true }
         ensures { Outcome self.old self.new i result (entry_by_word (facts_of self.old i) [] words.Patch (left tokens.entry)) }
     {
         let Some(page) = tokens.next() else {
-            return Err(LineFault::Text(TextFault::ShortList(i)));
+            return Err(ShowFault::Text(TextFault::ShortList(i)));
         };
         self.enter(Section::NoRecord);
         if !is_one(page) {
@@ -111,7 +111,7 @@ impl Reader {
         alloc: Global,
         i: u32,
         tokens: Tokens,
-    ) -> Result<(), LineFault>
+    ) -> Result<(), ShowFault>
         requires ready { IsReady self.old i }
         requires identified { self.old.identified ≡ true }
         ensures { Outcome self.old self.new i result (entry_by_word (facts_of self.old i) [] words.Cue (left tokens.entry)) }
@@ -121,7 +121,7 @@ impl Reader {
             return Ok(());
         };
         if !self.show.has_room_for(n) {
-            return Err(LineFault::Text(TextFault::OutOfRange(i)));
+            return Err(ShowFault::Text(TextFault::OutOfRange(i)));
         }
         ensure_cue(alloc, &mut self.show, n);
         self.enter(Section::InCue(n));
@@ -134,7 +134,7 @@ impl Reader {
         alloc: Global,
         i: u32,
         tokens: Tokens,
-    ) -> Result<(), LineFault>
+    ) -> Result<(), ShowFault>
         requires ready { IsReady self.old i }
         requires identified { self.old.identified ≡ true }
         ensures { Outcome self.old self.new i result (entry_by_word (facts_of self.old i) [] words.Group (left tokens.entry)) }
@@ -154,7 +154,7 @@ impl Reader {
         alloc: Global,
         i: u32,
         tokens: Tokens,
-    ) -> Result<(), LineFault>
+    ) -> Result<(), ShowFault>
         requires ready { IsReady self.old i }
         requires identified { self.old.identified ≡ true }
         ensures { Outcome self.old self.new i result (entry_by_word (facts_of self.old i) [] words.Sub (left tokens.entry)) }

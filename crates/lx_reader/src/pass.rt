@@ -17,7 +17,7 @@ use lx_base::DEFAULT_CHANNELS;
 use lx_io::Source;
 use lx_lex::{Lines, Step};
 use lx_show::Show;
-use lx_spec::Form;
+use lx_spec::{Form, TextFault};
 use std::alloc::Global;
 
 /// Reads a show text, up to its ENDDATA line. No line was read from the lines before. The levels of its cues
@@ -66,12 +66,9 @@ fn read_line<S: Source>(
     ensures read { result ≡ Err ShowFault.ReadFault → Rose (S.faults lines.old.source.now) (S.faults lines.new.source.now) }
 {
     match lines.advance() {
-        Step::Line => match reader.step(alloc, lines.number(), lines.line()) {
-            Ok(()) => Ok(()),
-            Err(fault) => Err(ShowFault::from(fault)),
-        },
-        Step::LongLine => Err(ShowFault::LineTooLong(lines.number())),
-        Step::End => Err(ShowFault::NoEndData(lines.number() + 1)),
+        Step::Line => reader.step(alloc, lines.number(), lines.line()),
+        Step::LongLine => Err(ShowFault::Text(TextFault::LineTooLong(lines.number()))),
+        Step::End => Err(ShowFault::Text(TextFault::NoEndData(lines.number() + 1))),
         Step::ReadFault => Err(ShowFault::ReadFault),
         Step::InputTooLong => Err(ShowFault::InputTooLong),
     }

@@ -7,7 +7,7 @@ ghost use Rattle.lx_spec.specs.LineRules.{entry_by_word};
 ghost use Rattle.lx_lex.specs.Left.{left};
 
 use crate::gathered::Gathered;
-use crate::line_fault::LineFault;
+use crate::fault::ShowFault;
 use lx_base::{Chan, PartNo};
 use lx_lex::Tokens;
 use lx_show::Show;
@@ -91,7 +91,7 @@ impl Reader {
         line: &[u8],
         word: Word,
         tokens: Tokens,
-    ) -> Result<(), LineFault>
+    ) -> Result<(), ShowFault>
         requires ready { IsReady self.old i }
         ensures { Outcome self.old self.new i result (entry_by_word (facts_of self.old i) line.now word (left tokens.entry)) }
     {
@@ -116,7 +116,7 @@ impl Reader {
                 Ok(())
             }
             _ if self.identified => self.known_line(alloc, i, line, word, tokens),
-            _ => Err(LineFault::Text(TextFault::NoIdent(i))),
+            _ => Err(ShowFault::Text(TextFault::NoIdent(i))),
         }
     }
 
@@ -128,7 +128,7 @@ impl Reader {
         line: &[u8],
         word: Word,
         tokens: Tokens,
-    ) -> Result<(), LineFault>
+    ) -> Result<(), ShowFault>
         requires ready { IsReady self.old i }
         requires identified { self.old.identified ≡ true }
         requires known { needs_ident word ≡ true }

@@ -16,7 +16,7 @@ ghost use Rattle.lx_spec.specs.Text.{tokens};
 ghost use Rattle.lx_spec.specs.TrackedLevel.{cue_of};
 ghost use Rattle.lx_reader.specs.SettledCue.{Fits, FitsIn, keeps_cue, settled};
 
-use crate::line_fault::LineFault;
+use crate::fault::ShowFault;
 use crate::open_moves::OpenMoves;
 use crate::reader::Reader;
 use crate::word::word_of;
@@ -117,7 +117,7 @@ impl Reading {
     /// Goes on with line i, which isn't too long. Most lines are levels of the open cue: they go straight to their levels, and all
     /// that any other line needs stands apart.
     #[inline(always)]
-    pub(crate) fn step(&mut self, alloc: Global, i: u32, line: &[u8]) -> Result<(), LineFault>
+    pub(crate) fn step(&mut self, alloc: Global, i: u32, line: &[u8]) -> Result<(), ShowFault>
         requires short { length line.now ≤ LINE_BYTES }
         requires ready { IsReady (settled self.old) i }
         requires fits { Fits self.old }
@@ -132,7 +132,7 @@ impl Reading {
 
     /// The same, where the line's first word has to be found.
     #[inline(never)]
-    fn line_by_word(&mut self, alloc: Global, i: u32, line: &[u8]) -> Result<(), LineFault>
+    fn line_by_word(&mut self, alloc: Global, i: u32, line: &[u8]) -> Result<(), ShowFault>
         requires short { length line.now ≤ LINE_BYTES }
         requires ready { IsReady (settled self.old) i }
         requires fits { Fits self.old }
@@ -155,7 +155,7 @@ impl Reading {
         line: &[u8],
         word: Word,
         tokens: Tokens,
-    ) -> Result<(), LineFault>
+    ) -> Result<(), ShowFault>
         requires ready { IsReady (settled self.old) i }
         requires fits { Fits self.old }
         ensures outcome { Outcome (settled self.old) (settled self.new) i result
@@ -177,7 +177,7 @@ impl Reading {
         line: &[u8],
         word: Word,
         tokens: Tokens,
-    ) -> Result<(), LineFault>
+    ) -> Result<(), ShowFault>
         requires ready { IsReady (settled self.old) i }
         requires fits { Fits self.old }
         ensures outcome { Outcome (settled self.old) (settled self.new) i result
@@ -199,7 +199,7 @@ impl Reading {
         line: &[u8],
         word: Word,
         tokens: Tokens,
-    ) -> Result<(), LineFault>
+    ) -> Result<(), ShowFault>
         requires ready { IsReady (settled self.old) i }
         requires fits { Fits self.old }
         requires quiet { keeps_cue word ≡ true }
@@ -214,7 +214,7 @@ impl Reading {
 
     /// `CHAN` with levels of the open cue.
     #[inline(always)]
-    fn levels_line(&mut self, alloc: Global, i: u32, tokens: Tokens) -> Result<(), LineFault>
+    fn levels_line(&mut self, alloc: Global, i: u32, tokens: Tokens) -> Result<(), ShowFault>
         requires ready { IsReady (settled self.old) i }
         requires open_cue { IsSomeAnd self.old.cue (FitsIn self.old.reader self.old.moves) }
         ensures outcome { Outcome (settled self.old) (settled self.new) i result (levels desk_limits i (left tokens.entry)) }

@@ -9,7 +9,6 @@ use Rattle.lx_lex.specs.Unread.{unread}
 use Rattle.lx_spec.specs.declared.Form.{Form}
 use Rattle.lx_spec.specs.declared.Form.TheVariants.{Moves}
 use Rattle.lx_spec.specs.declared.TextFault.{TextFault}
-use Rattle.lx_spec.specs.declared.TextFault.TheVariants as texts
 use Rattle.lx_spec.specs.Limits.{Limits, desk_limits}
 use Rattle.lx_spec.specs.Show.{Show, Valid}
 use Rattle.lx_spec.specs.ShowText.{show_text}
@@ -56,13 +55,7 @@ module _ (text : List ℕ) (form : Form) {S : Type 0} (left : S → Option (List
       let told : reads form text ≡ Ok (reading_of loaded) =
       subst (λ (v : Option (List ℕ)). IfSome v (λ bytes. reads form bytes ≡ Ok (reading_of loaded))) is answer.means.text in
       ap (λ (x : Result Reading TextFault). result_unwrap_or x reading) (sym told ∙ reads_ok)
-  read_as reading reads_ok (Err (faults.NoIdent i)) answer never = no_fault reading reads_ok (texts.NoIdent i) answer
-  read_as reading reads_ok (Err (faults.BadNumber i)) answer never = no_fault reading reads_ok (texts.BadNumber i) answer
-  read_as reading reads_ok (Err (faults.OutOfRange i)) answer never = no_fault reading reads_ok (texts.OutOfRange i) answer
-  read_as reading reads_ok (Err (faults.NotInRecord i)) answer never = no_fault reading reads_ok (texts.NotInRecord i) answer
-  read_as reading reads_ok (Err (faults.LineTooLong i)) answer never = no_fault reading reads_ok (texts.LineTooLong i) answer
-  read_as reading reads_ok (Err (faults.ShortList i)) answer never = no_fault reading reads_ok (texts.ShortList i) answer
-  read_as reading reads_ok (Err (faults.NoEndData i)) answer never = no_fault reading reads_ok (texts.NoEndData i) answer
+  read_as reading reads_ok (Err (faults.Text fault)) answer never = no_fault reading reads_ok fault answer
   read_as reading reads_ok (Err faults.ReadFault) answer never = absurd (never refl)
   read_as reading reads_ok (Err faults.InputTooLong) answer never = inr (refl, too_long answer.0)
   read_as reading reads_ok (Err faults.Memory) answer never = inl refl

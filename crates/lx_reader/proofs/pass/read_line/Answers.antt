@@ -1,28 +1,23 @@
-use Rattle.std.proofs.Common.{◌∙◌, Ok, Err, refl, sym, subst}
+use Rattle.std.proofs.Common.{◌∙◌, refl}
 use Rattle.lx_lex.proofs.CuttingOff.{not_read}
 use Rattle.lx_lex.proofs.HandingOut.{handed_one}
-use Rattle.lx_reader.specs.Answer.{TurnOf}
+use Rattle.lx_spec.specs.LineRules.{entry_of}
+use Rattle.lx_reader.specs.LineOutcome.{facts_of}
 use Rattle.lx_reader.specs.SettledCue.{settled}
-use Rattle.lx_reader.proofs.LinePass.{line_turn, long_turn}
+use Rattle.lx_reader.proofs.LinePass.{line_turn, long_turn, no_read_fault}
 use Rattle.lx_reader.proofs.pass.read_line.Goals as goal
 
-pub returns-in-Ok-clause-turn : goal.returns-in-Ok-clause-turn
-returns-in-Ok-clause-turn g c =
+pub returns-in-Line-clause-turn : goal.returns-in-Line-clause-turn
+returns-in-Line-clause-turn g c =
     let e = c.in-Line.ensures in
-    line_turn g.S.Source.left g.S.Source.faults c.args.lines.now c.advance.new.self (settled c.args.reader.now) (settled c.step.new.self) (Ok c.in-Ok.field-0)
+    line_turn g.S.Source.left g.S.Source.faults c.args.lines.now c.advance.new.self (settled c.args.reader.now) (settled c.step.new.self) c.step.result
     e.step.0 c.line.result.now c.number.result
     (handed_one g.S.Source.left g.S.Source.faults c.args.lines.now c.advance.new.self e.step.0 e.step.1 e.counted.1 e.counted.0 e.same_reference
-    e.later) (c.line.ensures.line ∙ e.step.2) (c.number.ensures ∙ e.counted.1) c.in-Ok.ensures.outcome
+    e.later) (c.line.ensures.line ∙ e.step.2) (c.number.ensures ∙ e.counted.1) c.step.ensures.outcome
 
-pub returns-in-Err-clause-turn : goal.returns-in-Err-clause-turn
-returns-in-Err-clause-turn g c =
-    let e = c.in-Line.ensures in
-    subst (λ fault. TurnOf g.S.Source.left g.S.Source.faults c.args.lines.now c.advance.new.self (settled c.args.reader.now) (settled c.step.new.self)
-    (Err fault)) (sym c.from.ensures)
-    (line_turn g.S.Source.left g.S.Source.faults c.args.lines.now c.advance.new.self (settled c.args.reader.now) (settled c.step.new.self) (Err c.in-Err.fault)
-    e.step.0 c.line.result.now c.number.result
-    (handed_one g.S.Source.left g.S.Source.faults c.args.lines.now c.advance.new.self e.step.0 e.step.1 e.counted.1 e.counted.0 e.same_reference
-    e.later) (c.line.ensures.line ∙ e.step.2) (c.number.ensures ∙ e.counted.1) c.in-Err.ensures.outcome)
+pub returns-in-Line-clause-read : goal.returns-in-Line-clause-read
+returns-in-Line-clause-read g c = λ read. no_read_fault (settled c.args.reader.now) (settled c.step.new.self) c.number.result c.step.result
+    (entry_of (facts_of (settled c.args.reader.now) c.number.result) c.line.result.now) c.step.ensures.outcome read
 
 pub returns-in-LongLine-clause-turn : goal.returns-in-LongLine-clause-turn
 returns-in-LongLine-clause-turn g c =
