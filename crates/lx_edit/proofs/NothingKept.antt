@@ -14,7 +14,7 @@ use Rattle.lx_edit.specs.Found.{FoundCue}
 use Rattle.lx_edit.specs.Kept.{changed_show, decided}
 use Rattle.lx_edit.specs.PlanMeaning.{with_move}
 use Rattle.lx_edit.proofs.KeptLevels.{above-before, above-changed, cue_above-changed, cue_least, none_through, same_through}
-use Rattle.lx_edit.proofs.SameLists.{first_here, first_other, some_same}
+use Rattle.lx_show.proofs.SameLists.{first_here, first_other, some_same}
 
 found_step : {A : Type 0} (key : A → ℕ) (p : A → Bool) (x y : A) (ys : List A) (b : Bool) → IsStrictlySorted key (y ∷ ys)
     → cond b (Some y) (find p ys) ≡ Some x → (find p ys ≡ Some x → entry_at key (key x) ys ≡ Some x)

@@ -10,16 +10,18 @@ pub mod NamedRecords
 pub mod SectionLevels
 pub mod Members
 pub mod OpenMoves
-pub mod SettledCues
-pub mod OpenCue
-pub mod QuietLines
+pub mod PlacedOver
+pub mod LineSteps
+pub mod OpenCues
+pub mod OpenSteps
 pub mod OpenLevels
+pub mod OpenRecords
+pub mod LevelsLines
 pub mod Pairs
 mod PercentLevels
 pub mod ReadingStates
 pub mod ReadLines
 pub mod PassedLines
-pub mod LineSteps
 pub mod LinePass
 pub mod WordTable
 pub mod LookMoves

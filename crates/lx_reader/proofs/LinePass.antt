@@ -7,7 +7,7 @@ use Rattle.lx_base.specs.declared.TheConstants.{LINE_BYTES}
 use Rattle.lx_spec.specs.declared.Form.{Form}
 use Rattle.lx_spec.specs.declared.Section.TheVariants.{NoRecord}
 use Rattle.lx_spec.specs.declared.TextFault.{TextFault}
-use Rattle.lx_spec.specs.declared.TextFault.TheVariants.{LineTooLong, NoEndData}
+use Rattle.lx_spec.specs.declared.TextFault.TheVariants.{LineTooLong}
 use Rattle.lx_spec.specs.Text.{without_cr}
 use Rattle.lx_spec.specs.Show.{Valid}
 use Rattle.lx_spec.specs.Entry.{Entry, Ends, is_end}

@@ -1,41 +1,33 @@
 -- What one line makes of the reader.
 use Rattle.std.proofs.Common.{◌≡◌, ℕ, ◌+◌, length, arith, Bool, true, false, cond, List, [], ◌∷◌, map, Option, Some, None, Result, Ok, Err}
 use Rattle.std.proofs.Common.{refl, ap, ◌∙◌, sym, subst}
-use Rattle.std.specs.Prelude.{◌&&◌, ◌||◌, ◌==◌, not, nat_lt, IfOk, IfErr, OnOk, is_ok, is_some, is_none}
-use Rattle.std.specs.Option.{option_map_or}
+use Rattle.std.specs.Prelude.{◌||◌, ◌==◌, not, nat_lt, IfOk, IfErr, OnOk, is_ok, is_some}
 use Rattle.std.specs.List.{list_any}
 use Rattle.std.specs.Result.{IsOkAnd, IsErrAnd}
 use Rattle.lx_base.specs.declared.TheConstants.{CUES}
 use Rattle.lx_spec.specs.declared.Bad.{Bad}
-use Rattle.lx_spec.specs.SortedList.{entry_at, has_entry, placed}
-use Rattle.lx_spec.specs.EditedShow.{new_part}
-use Rattle.lx_spec.specs.TrackedLevel.{cue_of}
-use Rattle.lx_show.specs.ChangedEntry.{changed}
+use Rattle.lx_spec.specs.SortedList.{entry_at, has_entry}
 use Rattle.lx_spec.specs.declared.TextFault.{TextFault}
 use Rattle.lx_spec.specs.declared.TextFault.TheVariants.{NoIdent, OutOfRange}
 use Rattle.lx_spec.specs.declared.Word.TheVariants as words
-use Rattle.lx_spec.specs.declared.Member.{Member}
 use Rattle.lx_spec.specs.declared.PatchRow.{PatchRow}
 use Rattle.lx_spec.specs.Limits.{desk_limits}
 use Rattle.lx_spec.specs.Numerals.{read_time, read_whole, read_cue_no}
 use Rattle.lx_spec.specs.FirstRefusal.{◌>>=◌}
-use Rattle.lx_spec.specs.Show.{IsTime, Cue, Show, Valid}
+use Rattle.lx_spec.specs.Show.{IsTime, Cue, Show}
 use Rattle.lx_spec.specs.declared.Section.{Section}
 use Rattle.lx_spec.specs.declared.Section.TheVariants.{NoRecord, InCue, Skipping}
-use Rattle.lx_spec.specs.Entry.{Entry, Nothing, Skipped, Identifies, Begins, ClearsAll, HasChannels, Patches, HasLevels, NamesPart, Ends}
-use Rattle.lx_spec.specs.Entry.{part_named, is_end}
-use Rattle.lx_spec.specs.Fields.{times, number, delay_at, levels, is_page_one, record_entry}
+use Rattle.lx_spec.specs.Entry.{Entry, Skipped, Begins, Patches}
+use Rattle.lx_spec.specs.Fields.{times, number, delay_at, is_page_one, record_entry}
 use Rattle.lx_spec.specs.LineRules.{if_few, entry_by_word}
 use Rattle.lx_spec.proofs.ValidLines.{time_in_range}
-use Rattle.lx_reader.specs.declared.gathered.Gathered.{Gathered}
 use Rattle.lx_reader.specs.declared.reader.Reader.{Reader}
 use Rattle.lx_reader.specs.declared.fault.ShowFault.{ShowFault}
 use Rattle.lx_reader.specs.declared.fault.ShowFault.TheVariants as faults
-use Rattle.lx_reader.specs.FieldLists.{all_pairs, all_triples, next_times, record_number}
+use Rattle.lx_reader.specs.FieldLists.{all_triples, next_times, record_number}
 use Rattle.lx_reader.specs.LineFaults.{IsFaultOf}
-use Rattle.lx_reader.specs.LineOutcome.{facts_of, state_of, placed_at, IsStep, Outcome}
-use Rattle.lx_reader.specs.ReadingState.{ReadingState, step, placed_in, speaks, show_with, with_members, with_rows, with_cue, with_part}
-use Rattle.lx_reader.proofs.EntryChanges.{changed-alike, changed-not}
+use Rattle.lx_reader.specs.LineOutcome.{facts_of, state_of, IsStep, Outcome}
+use Rattle.lx_reader.specs.ReadingState.{with_rows, with_cue}
 
 -- a time that was read is within the limit
 pub time_within : (r : Result ℕ Bad) (t : ℕ) (token : List ℕ) → r ≡ read_time token → r ≡ Ok t → IsTime t
@@ -79,82 +71,6 @@ times_fault i entry rest fault is = times-next i entry rest ∙ ap (said_with en
 pub times_ok : (i : ℕ) (entry : ℕ → ℕ → Entry) (rest : List (List ℕ)) (times_read : ℕ × ℕ) → Ok times_read ≡ next_times i rest
     → times i entry rest ≡ Ok (entry times_read.0 times_read.1)
 times_ok i entry rest times_read is = times-next i entry rest ∙ ap (said_with entry) (sym is)
-
--- an entry that adds to the show alone
-abbrev pub adds : Entry → Bool
-adds entry = speaks entry && is_none (part_named entry)
-
-step_adds : (i : ℕ) (e : Entry) (t : ReadingState) → adds e ≡ true → step i e t ≡ record t { show = show_with (placed_in t e) t.show }
-step_adds i e t = elim e as (λ e. adds e ≡ true → step i e t ≡ record t { show = show_with (placed_in t e) t.show }) [
-  | Nothing ↦ λ is. cc
-  | Skipped section ↦ λ is. cc
-  | Identifies ↦ λ is. cc
-  | Begins section ↦ λ is. cc
-  | ClearsAll ↦ λ is. cc
-  | HasChannels n ↦ λ is. cc
-  | Patches rows ↦ λ is. cc
-  | NamesPart p ↦ λ is. cc
-  | Ends ↦ λ is. cc
-  | _ ↦ λ is. refl
-]
-
-adds_on : (e : Entry) → adds e ≡ true → is_end e ≡ false
-adds_on e = elim e as (λ e. adds e ≡ true → is_end e ≡ false) [ Ends ↦ λ is. cc | _ ↦ λ is. refl ]
-
-added_to : (old new : Reader) (show : Show) (i : ℕ) (entry : Entry) → old.ended ≡ false → adds entry ≡ true
-    → show ≡ show_with (placed_at old entry) old.show → state_of new ≡ record (state_of old) { show = show } → new.ended ≡ old.ended
-    → IsStep old new i entry
-added_to old new show i entry going alone is state ended = record {
-  state = state ∙ (λ j. record (state_of old) { show = is j }) ∙ sym (step_adds i entry (state_of old) alone);
-  ended = ended ∙ going ∙ sym (adds_on entry alone);
-}
-
-added : (old : Reader) (show : Show) (i : ℕ) (entry : Entry) → old.ended ≡ false → adds entry ≡ true
-    → show ≡ show_with (placed_at old entry) old.show → IsStep old (record old { show = show }) i entry
-added old show i entry going alone is = added_to old (record old { show = show }) show i entry going alone is refl refl
-
--- what was said in a cue
-in_cue_said : (old : Reader) (n : ℕ) (entry : Entry) → old.section ≡ InCue n
-    → show_with (record { section = InCue n; part = old.part; entry = entry }) old.show ≡ show_with (placed_at old entry) old.show
-in_cue_said old n entry inside = λ j. show_with (record { section = sym inside j; part = old.part; entry = entry }) old.show
-
--- times in a cue
-pub times_took : (old : Reader) (show : Show) (i n : ℕ) (rest : List (List ℕ)) (entry : ℕ → ℕ → Entry) (t : ℕ × ℕ) → old.ended ≡ false
-    → old.section ≡ InCue n → adds (entry t.0 t.1) ≡ true
-    → Ok t ≡ next_times i rest → show ≡ show_with (record { section = InCue n; part = old.part; entry = entry t.0 t.1 }) old.show
-    → IsOkAnd (times i entry rest) (IsStep old (record old { show = show }) i)
-times_took old show i n rest entry t going inside alone numbers is =
-    took old (record old { show = show }) i (times i entry rest) (entry t.0 t.1) (times_ok i entry rest t numbers)
-    (added old show i (entry t.0 t.1) going alone (is ∙ in_cue_said old n (entry t.0 t.1) inside))
-
--- Levels in a section.
-levels_from : (i : ℕ) (rest : List (List ℕ)) (r : Result (List Member) TextFault) → all_pairs i rest ≡ r
-    → levels desk_limits i rest ≡ (r >>= (λ members. Ok (HasLevels members)))
-levels_from i rest r is = ap (λ v. v >>= (λ members. Ok (HasLevels members))) is
-
-levels_ok : (old : Reader) (show : Show) (room : Gathered) (i : ℕ) (rest : List (List ℕ)) (r : Result (List Member) TextFault)
-    → old.ended ≡ false → all_pairs i rest ≡ r → IsOkAnd r (λ members. show ≡ with_members old.section old.part members old.show)
-    → IsOkAnd (levels desk_limits i rest) (IsStep old (record old { show = show; gathered = room }) i)
-levels_ok old show room i rest (Err fault) going list is = absurd is
-levels_ok old show room i rest (Ok members) going list is =
-    let new : Reader = record old { show = show; gathered = room } in
-    took old new i (levels desk_limits i rest) (HasLevels members) (levels_from i rest (Ok members) list)
-    (added_to old new show i (HasLevels members) going refl is refl refl)
-
-levels_stop : (stop : ShowFault) (i : ℕ) (rest : List (List ℕ)) → IsFaultOf stop (all_pairs i rest)
-    → IsFaultOf stop (levels desk_limits i rest)
-levels_stop (faults.Text fault) i rest is = levels_from i rest (Err fault) is
-levels_stop faults.Memory i rest is = tt
-levels_stop faults.ReadFault i rest is = absurd is
-levels_stop faults.InputTooLong i rest is = absurd is
-
-pub levels_took : (old : Reader) (show : Show) (room : Gathered) (i : ℕ) (rest : List (List ℕ)) (result : Result (Unit {0}) ShowFault)
-    → old.ended ≡ false
-    → OnOk result (IsOkAnd (all_pairs i rest) (λ members. show ≡ with_members old.section old.part members old.show))
-    → IfErr result (λ stop. IsFaultOf stop (all_pairs i rest))
-    → Outcome old (record old { show = show; gathered = room }) i result (levels desk_limits i rest)
-levels_took old show room i rest (Ok done) going is stop = levels_ok old show room i rest (all_pairs i rest) going refl is
-levels_took old show room i rest (Err stop) going is stopped = levels_stop stop i rest stopped
 
 -- A line that is no fault once IDENT was read.
 identified_says : (b : Bool) (r : Result Entry TextFault) (fault : TextFault) → b ≡ true → cond (not b) (Err fault) r ≡ r
@@ -203,22 +119,6 @@ rows_took old show i page tokens rest (Ok done) cut going identified one is stop
 rows_took old show i page tokens rest (Err stop) cut going identified one is stopped =
     subst (λ v. IsFaultOf stop (entry_by_word (facts_of old i) [] words.Patch v)) (sym cut)
     (rows_stop stop old i page rest identified one stopped)
-
--- A part that is there.
-part_kept : (n p : ℕ) (show : Show) (o : Option Cue) → cue_of show n ≡ o
-    → option_map_or (λ cue. has_entry (λ q. q.number) p cue.parts) o false ≡ true → Valid show
-    → show ≡ show_with (record { section = InCue n; part = p; entry = NamesPart p }) show
-part_kept n p show None is there valid = cc
-part_kept n p show (Some cue) is there valid =
-    let parts : with_part p cue.parts ≡ cue.parts = ap (λ b. cond b cue.parts (placed (λ q. q.number) (new_part p) cue.parts)) there in
-    let cues : changed (λ z. z.number) n (λ z. record z { parts = with_part p z.parts }) show.cues ≡ show.cues
-    = changed-alike (λ z. z.number) n (λ z. record z { parts = with_part p z.parts }) (λ z. z) show.cues cue is
-    (λ j. record cue { parts = parts j }) ∙ changed-not (λ z. z.number) n show.cues valid.cues_sorted in
-    λ j. record show { cues = sym cues j }
-
-pub part_there : (n p : ℕ) (show : Show) → true ≡ option_map_or (λ cue. has_entry (λ q. q.number) p cue.parts) (cue_of show n) false
-    → Valid show → show ≡ show_with (record { section = InCue n; part = p; entry = NamesPart p }) show
-part_there n p show there valid = part_kept n p show (cue_of show n) refl (sym there) valid
 
 -- The first line of a cue.
 abbrev pub record_said : (ℕ → Section) → Result (Option ℕ) TextFault → Result Entry TextFault

@@ -1,93 +1,183 @@
--- Levels of a line that are put into the moves of the open cue.
-use Rattle.std.proofs.Common.{◌≡◌, ℕ, ◌≤◌, false, List, [], Option, Some, None, Ok, refl, ap, ◌∙◌, sym, subst, arith, append-nil, map}
-use Rattle.std.specs.Prelude.{IfSome}
+-- Levels of a line that go to the open record.
+use Rattle.std.proofs.Common.{◌≡◌, ℕ, ◌≤◌, true, false, List, [], ◌++◌, map, Ok, refl, ap, ◌∙◌, sym, subst, append-nil, arith, IsTrue}
+use Rattle.std.specs.Prelude.{fold, max}
 use Rattle.std.specs.List.{AllByRecursion}
-use Rattle.std.specs.Option.{IsSomeAnd}
+use Rattle.std.specs.Result.{IsOkAnd}
+use Rattle.lx_base.specs.declared.TheConstants.{GROUPS, SUBS}
+use Rattle.lx_spec.specs.declared.Member.{Member}
 use Rattle.lx_spec.specs.declared.Move.{Move}
-use Rattle.lx_spec.specs.declared.Section.TheVariants.{InCue}
+use Rattle.lx_spec.specs.declared.Section.TheVariants.{InCue, InGroup, InSub}
+use Rattle.lx_spec.specs.Entry.{HasLevels}
 use Rattle.lx_spec.specs.Fields.{levels}
+use Rattle.lx_spec.specs.FirstRefusal.{◌>>=◌}
 use Rattle.lx_spec.specs.Limits.{desk_limits}
-use Rattle.lx_spec.specs.Show.{Cue, Show, ValidMember, ValidMove}
-use Rattle.lx_spec.specs.SortedList.{all_placed}
-use Rattle.lx_spec.specs.TrackedLevel.{cue_of}
+use Rattle.lx_spec.specs.Show.{Cue, MemberSet, Show, ValidMember, ValidMove}
+use Rattle.lx_spec.specs.SortedList.{IsStrictlySorted, all_placed, has_entry, placed}
 use Rattle.lx_spec.proofs.Lists.{each}
-use Rattle.lx_show.proofs.Stretches.{All-all_placed}
+use Rattle.lx_show.proofs.Stretches.{All-all_placed, IsStrictlySorted-all_placed}
+use Rattle.lx_show.proofs.ValidShows.{wider, wider_cue, wider_members, wider_move}
+use Rattle.lx_reader.specs.declared.open_record.Open.{Open}
+use Rattle.lx_reader.specs.declared.open_record.Open.TheVariants as open_records
 use Rattle.lx_reader.specs.declared.reader.Reader.{Reader}
-use Rattle.lx_reader.specs.declared.reading.Reading.{Reading}
-use Rattle.lx_reader.specs.OpenMoves.{ReadsLevels}
-use Rattle.lx_reader.specs.LineOutcome.{Outcome}
-use Rattle.lx_reader.specs.OpenRecord.{HasPartIn, IsOpen}
-use Rattle.lx_reader.specs.ReadingState.{moves_of, with_members}
-use Rattle.lx_reader.specs.SettledCue.{FitsIn, settled, with_open}
-use Rattle.lx_reader.proofs.LineSteps.{levels_took}
-use Rattle.lx_reader.proofs.Members.{cue_members, greatest_each, greatest_least, greatest_of, moves_valid_in, put_whole}
-use Rattle.lx_reader.proofs.QuietLines.{with_cue_moves}
-use Rattle.lx_reader.proofs.SettledCues.{changed_twice, with_moves}
+use Rattle.lx_reader.specs.LineOutcome.{IsStep, Outcome, state_of}
+use Rattle.lx_reader.specs.OpenMoves.{ReadsLevels, members_of}
+use Rattle.lx_reader.specs.OpenRecord.{IsOpen}
+use Rattle.lx_reader.specs.ReadingState.{cue_with, moves_of, set_with, show_with}
+use Rattle.lx_reader.specs.Settled.{CueFits, FitsIn, SetFits, filled_cue, filled_set, is_open, with_open}
+use Rattle.lx_reader.proofs.Members.{greatest_each, greatest_least, moves_valid}
+use Rattle.lx_reader.proofs.OpenSteps.{changed_here, open_part, opened}
+use Rattle.lx_reader.proofs.PlacedOver.{all_placed_over, members_all_placed, members_of_moves, members_rise}
 
-levels_shown : (r : Reader) (n i k : ℕ) (moves new : List Move) (rest : List (List ℕ)) → r.section ≡ InCue n
-    → (read : ReadsLevels i r.part r.show.channels rest [] k moves new)
-    → with_open (Some n) new (record r.show { channels = k })
-    ≡ with_members r.section r.part read.members (with_open (Some n) moves r.show)
-levels_shown r n i k moves new rest inside read =
-    let members = read.members in
-    let add : Cue → Cue = λ cue. record cue { moves = all_placed (λ m. m.chan) (moves_of r.part members) cue.moves } in
-    let old : Show = with_open (Some n) moves r.show in
-    (λ j. with_open (Some n) (read.placed j) (record r.show { channels = read.is_greatest j }))
-    ∙ (λ j. record r.show {
-      channels = greatest_of r.show.channels members;
-      cues = sym (changed_twice (λ cue. cue.number) n add (with_moves moves) r.show.cues (λ cue. refl) (λ cue. refl)) j;
+abbrev pub widened : ℕ → Show → Show
+widened k show = record show { channels = k }
+
+-- the greatest channel
+greatest_is : (n k : ℕ) (members : List Member) → k ≡ fold max n (map (λ m. m.chan) members)
+    → k ≡ fold max n (map (λ m. m.chan) members ++ [])
+greatest_is n k members is = is ∙ ap (fold max n) (sym (append-nil (map (λ m. m.chan) members)))
+
+module _ (r : Reader) (moves new : List Move) (i k : ℕ) (rest : List (List ℕ))
+    (read : ReadsLevels i r.part r.show.channels rest [] k moves new) where
+  abbrev pub wide : Reader
+  wide = record r { show = widened k r.show }
+
+  members_then : members_of new ≡ all_placed (λ m. m.chan) read.members (members_of moves)
+  members_then = ap members_of read.placed ∙ members_all_placed (moves_of r.part read.members) moves
+      ∙ ap (λ ms. all_placed (λ m. m.chan) ms (members_of moves)) (members_of_moves r.part read.members)
+
+  more : r.show.channels ≤ k
+  more = omega (arith, read.is_greatest, greatest_least r.show.channels (map (λ m. m.chan) read.members))
+
+  members_valid : AllByRecursion (ValidMember k) read.members
+  members_valid = subst (λ c. AllByRecursion (ValidMember c) read.members) (sym read.is_greatest)
+      (greatest_each r.show.channels read.members read.valid)
+
+  -- a cue
+  cue_filled : (cue : Cue) → CueFits r.show moves cue → filled_cue new cue ≡ cue_with r.part (HasLevels read.members) (filled_cue moves cue)
+  cue_filled cue fits = λ j. record cue {
+    moves =
+        (ap (λ ms. all_placed (λ m. m.chan) ms cue.moves) read.placed
+        ∙ all_placed_over (λ m. m.chan) (moves_of r.part read.members) moves cue.moves fits.rise fits.valid.moves_sorted) j;
+  }
+
+  cue_levels : (cue : Cue) → r.section ≡ InCue cue.number → r.ended ≡ false → CueFits r.show moves cue
+      → IsStep (opened r (open_records.Cue cue) moves) (opened wide (open_records.Cue cue) new) i (HasLevels read.members)
+  cue_levels cue inside going fits = record {
+    state = (λ j. record (state_of r) {
+      show = record r.show {
+        channels = greatest_is r.show.channels k read.members read.is_greatest j;
+        cues = (ap (λ c. placed (λ z. z.number) c r.show.cues) (cue_filled cue fits)
+            ∙ sym (changed_here (λ z. z.number) (cue_with r.part (HasLevels read.members)) (filled_cue moves cue) r.show.cues refl)) j;
+      };
     })
-    ∙ cue_members r.section n r.part members old (record old { channels = greatest_of old.channels members }) inside refl
+        ∙ (λ j. record (state_of r) {
+          show = show_with (record { section = sym inside j; part = r.part; entry = HasLevels read.members })
+              (with_open (open_records.Cue cue) moves r.show);
+        });
+    ended = going;
+  }
 
-pub levels_apart : (g : Reading) (n i k : ℕ) (wide : Show) (new : List Move) (rest : List (List ℕ)) → g.cue ≡ Some n
-    → g.reader.section ≡ InCue n → g.reader.ended ≡ false → wide ≡ record g.reader.show { channels = k }
-    → ReadsLevels i g.reader.part g.reader.show.channels rest [] k g.moves new
-    → Outcome (settled g) (with_cue_moves (record g.reader { show = wide }) g.cue new) i (Ok tt) (levels desk_limits i rest)
-levels_apart g n i k wide new rest is inside going widened read =
-    let r = g.reader in
-    let shown : with_open g.cue new wide ≡ with_members r.section r.part read.members (settled g).show
-    = (λ j. with_open (is j) new (widened j)) ∙ levels_shown r n i k g.moves new rest inside read
-    ∙ ap (λ o. with_members r.section r.part read.members (with_open o g.moves r.show)) (sym is) in
-    levels_took (settled g) (with_open g.cue new wide) r.gathered i rest (Ok tt) going
-    (put_whole i rest read.members r.section r.part (settled g).show (with_open g.cue new wide)
-    (read.list ∙ ap Ok (append-nil read.members)) shown) tt
+  -- a group or submaster
+  set_filled : (limit : ℕ) (set : MemberSet) → SetFits limit r.show moves set
+      → filled_set new set ≡ set_with (HasLevels read.members) (filled_set moves set)
+  set_filled limit set fits = λ j. record set {
+    members =
+        (ap (λ ms. all_placed (λ m. m.chan) ms set.members) members_then
+        ∙ all_placed_over (λ m. m.chan) read.members (members_of moves) set.members (members_rise moves fits.rise) fits.valid.members.sorted) j;
+  }
 
-both : {A : Type 0} (P Q R : A → Type 0) (o : Option A) → ((x : A) → P x → Q x → R x) → IsSomeAnd o P → IsSomeAnd o Q → IsSomeAnd o R
-both P Q R None on p q = absurd p
-both P Q R (Some x) on p q = on x p q
+  group_levels : (set : MemberSet) → r.section ≡ InGroup set.number → r.ended ≡ false → SetFits GROUPS r.show moves set
+      → IsStep (opened r (open_records.Group set) moves) (opened wide (open_records.Group set) new) i (HasLevels read.members)
+  group_levels set inside going fits = record {
+    state = (λ j. record (state_of r) {
+      show = record r.show {
+        channels = greatest_is r.show.channels k read.members read.is_greatest j;
+        groups = (ap (λ s. placed (λ z. z.number) s r.show.groups) (set_filled GROUPS set fits)
+            ∙ sym (changed_here (λ z. z.number) (set_with (HasLevels read.members)) (filled_set moves set) r.show.groups refl)) j;
+      };
+    })
+        ∙ (λ j. record (state_of r) {
+          show = show_with (record { section = sym inside j; part = r.part; entry = HasLevels read.members })
+              (with_open (open_records.Group set) moves r.show);
+        });
+    ended = going;
+  }
 
-fit_in : (r : Reader) (n i k : ℕ) (moves new : List Move) (rest : List (List ℕ)) → FitsIn r moves n → IsOpen r.show r.section r.part
-    → ReadsLevels i r.part r.show.channels rest [] k moves new → FitsIn (record r { show = record r.show { channels = k } }) new n
-fit_in r n i k moves new rest fits there read =
-    let wide : Show = record r.show { channels = k } in
-    let part : HasPartIn wide n r.part = subst (λ s. IsOpen r.show s r.part) fits.inside there in
-    let more : r.show.channels ≤ k = omega (arith, read.is_greatest, greatest_least r.show.channels (map (λ m. m.chan) read.members)) in
-    let valid : AllByRecursion (ValidMember k) read.members = subst (λ c. AllByRecursion (ValidMember c) read.members) (sym read.is_greatest)
-    (greatest_each r.show.channels read.members read.valid) in
-    record {
-      inside = fits.inside;
-      identified = fits.identified;
-      valid = both (λ cue. AllByRecursion (ValidMove r.show.channels cue.parts) moves)
-          (λ cue. AllByRecursion (ValidMove k cue.parts) (moves_of r.part read.members)) (λ cue. AllByRecursion (ValidMove k cue.parts) new)
-          (cue_of r.show n)
-          (λ cue old add. subst (AllByRecursion (ValidMove k cue.parts)) (sym read.placed)
-          (All-all_placed (ValidMove k cue.parts) (λ m. m.chan) (moves_of r.part read.members) moves add
-          (each _ _ moves (λ m h. record {
-            chan = record { least = h.chan.least; most = omega (arith, h.chan.most, more) };
-            part = h.part;
-            level = h.level;
-          }) old)))
-          fits.valid (moves_valid_in wide n r.part read.members part valid);
-    }
+  sub_levels : (set : MemberSet) → r.section ≡ InSub set.number → r.ended ≡ false → SetFits SUBS r.show moves set
+      → IsStep (opened r (open_records.Sub set) moves) (opened wide (open_records.Sub set) new) i (HasLevels read.members)
+  sub_levels set inside going fits = record {
+    state = (λ j. record (state_of r) {
+      show = record r.show {
+        channels = greatest_is r.show.channels k read.members read.is_greatest j;
+        subs = (ap (λ s. placed (λ z. z.number) s r.show.subs) (set_filled SUBS set fits)
+            ∙ sym (changed_here (λ z. z.number) (set_with (HasLevels read.members)) (filled_set moves set) r.show.subs refl)) j;
+      };
+    })
+        ∙ (λ j. record (state_of r) {
+          show = show_with (record { section = sym inside j; part = r.part; entry = HasLevels read.members })
+              (with_open (open_records.Sub set) moves r.show);
+        });
+    ended = going;
+  }
 
-pub levels_fit : (r : Reader) (o : Option ℕ) (i k : ℕ) (moves new : List Move) (rest : List (List ℕ)) (wide : Show)
-    → IsSomeAnd o (FitsIn r moves) → IsOpen r.show r.section r.part → wide ≡ record r.show { channels = k }
-    → ReadsLevels i r.part r.show.channels rest [] k moves new → IfSome o (FitsIn (record r { show = wide }) new)
-levels_fit r None i k moves new rest wide fits there widened read = tt
-levels_fit r (Some n) i k moves new rest wide fits there widened read =
-    subst (λ (s : Show). FitsIn (record r { show = s }) new n) (sym widened) (fit_in r n i k moves new rest fits there read)
+  levels_step : (o : Open) → is_open o ≡ true → r.ended ≡ false → FitsIn r.show r.section moves o
+      → IsStep (opened r o moves) (opened wide o new) i (HasLevels read.members)
+  levels_step open_records.None is going fits = cc
+  levels_step (open_records.Cue cue) is going fits = cue_levels cue fits.0 going fits.1
+  levels_step (open_records.Group set) is going fits = group_levels set fits.0 going fits.1
+  levels_step (open_records.Sub set) is going fits = sub_levels set fits.0 going fits.1
 
--- the cue that is open
-pub open_one : (r : Reader) (moves : List Move) (o : Option ℕ) → IsSomeAnd o (FitsIn r moves) → (n : ℕ) × ((o ≡ Some n) × FitsIn r moves n)
-open_one r moves None fits = absurd fits
-open_one r moves (Some n) fits = (n, (refl, fits))
+  read_says : levels desk_limits i rest ≡ Ok (HasLevels read.members)
+  read_says = ap (λ v. v >>= (λ members. Ok (HasLevels members))) (read.list ∙ ap Ok (append-nil read.members))
+
+  levels_took : (o : Open) → is_open o ≡ true → r.ended ≡ false → FitsIn r.show r.section moves o
+      → Outcome (opened r o moves) (opened wide o new) i (Ok tt) (levels desk_limits i rest)
+  levels_took o is going fits =
+      subst (λ v. IsOkAnd v (IsStep (opened r o moves) (opened wide o new) i)) (sym read_says) (levels_step o is going fits)
+
+  -- the record fits as before
+  cue_fits : (cue : Cue) → IsTrue (has_entry (λ p. p.number) r.part cue.parts) → CueFits r.show moves cue
+      → CueFits (widened k r.show) new cue
+  cue_fits cue there fits = record {
+    room = fits.room;
+    valid = wider_cue r.show.channels k cue more fits.valid;
+    moves_valid = subst (AllByRecursion (ValidMove k cue.parts)) (sym read.placed)
+        (All-all_placed (ValidMove k cue.parts) (λ m. m.chan) (moves_of r.part read.members) moves
+        (moves_valid k r.part cue.parts read.members there members_valid)
+        (each _ _ moves (λ m h. wider_move r.show.channels k cue.parts m more h) fits.moves_valid));
+    rise = subst (λ ms. IsStrictlySorted (λ m. m.chan) ms) (sym read.placed)
+        (IsStrictlySorted-all_placed (λ m. m.chan) (moves_of r.part read.members) moves fits.rise);
+  }
+
+  set_fits : (limit : ℕ) (set : MemberSet) → SetFits limit r.show moves set → SetFits limit (widened k r.show) new set
+  set_fits limit set fits = record {
+    valid = record {
+      number = fits.valid.number;
+      label = fits.valid.label;
+      members = wider_members r.show.channels k set.members more fits.valid.members;
+    };
+    members = subst (AllByRecursion (ValidMember k)) (sym members_then)
+        (All-all_placed (ValidMember k) (λ m. m.chan) read.members (members_of moves) members_valid
+        (each _ _ (members_of moves) (λ m h. record { chan = wider r.show.channels k m.chan more h.chan; level = h.level }) fits.members));
+    rise = subst (λ ms. IsStrictlySorted (λ m. m.chan) ms) (sym read.placed)
+        (IsStrictlySorted-all_placed (λ m. m.chan) (moves_of r.part read.members) moves fits.rise);
+  }
+
+  levels_fit : (o : Open) → is_open o ≡ true → IsOpen (with_open o moves r.show) r.section r.part → FitsIn r.show r.section moves o
+      → FitsIn (widened k r.show) r.section new o
+  levels_fit open_records.None is there fits = cc
+  levels_fit (open_records.Cue cue) is there fits = (fits.0, cue_fits cue (open_part r moves cue fits.0 there) fits.1)
+  levels_fit (open_records.Group set) is there fits = (fits.0, set_fits GROUPS set fits.1)
+  levels_fit (open_records.Sub set) is there fits = (fits.0, set_fits SUBS set fits.1)
+
+  pub levels_outcome : (o : Open) (shown : Show) → shown ≡ widened k r.show → is_open o ≡ true → r.ended ≡ false
+      → FitsIn r.show r.section moves o
+      → Outcome (opened r o moves) (opened (record r { show = shown }) o new) i (Ok tt) (levels desk_limits i rest)
+  levels_outcome o shown widens is going fits =
+      subst (λ (s : Show). Outcome (opened r o moves) (opened (record r { show = s }) o new) i (Ok tt) (levels desk_limits i rest)) (sym widens)
+      (levels_took o is going fits)
+
+  pub still_fits : (o : Open) (shown : Show) → shown ≡ widened k r.show → is_open o ≡ true → IsOpen (with_open o moves r.show) r.section r.part
+      → FitsIn r.show r.section moves o → FitsIn shown r.section new o
+  still_fits o shown widens is there fits =
+      subst (λ (s : Show). FitsIn s r.section new o) (sym widens) (levels_fit o is there fits)

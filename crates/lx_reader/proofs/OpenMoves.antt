@@ -1,9 +1,10 @@
 -- Moves that are kept by channel.
 use Rattle.std.proofs.Common.{◌≡◌, ℕ, zero, suc, ◌+◌, ◌<◌, ◌≤◌, Bool, true, false, List, [], ◌∷◌, ◌++◌, length, take, drop, get_or, replicate, refl, ap, ◌∙◌}
-use Rattle.std.proofs.Common.{sym, subst, arith}
+use Rattle.std.proofs.Common.{sym, subst, arith, append_assoc, append-nil, ◌-◌}
 use Rattle.std.proofs.Common.{map}
 use Rattle.std.specs.Prelude.{IfSome, if◌then◌else◌, slice_get, slice_set, fold, max}
 use Rattle.std.proofs.lemmas.Bool.{false≢true}
+use Rattle.std.proofs.lemmas.List.{drop-drop, drop_all}
 use Rattle.std.specs.List.{AllByRecursion}
 use Rattle.lx_spec.specs.declared.Move.{Move}
 use Rattle.lx_spec.specs.SortedList.{IsStrictlySorted, placed}
@@ -122,12 +123,45 @@ all_there c (suc n) (m ∷ moves) (true ∷ flags) numbered few long each_is wit
     (all_there (c + 1) n moves flags (later c m moves numbered) (omega arith) (omega (arith, long)) (λ k less. each_is (suc k) (omega arith))
     (each _ _ (moves_there moves flags) (λ x h. omega (arith, h)) within.1))
 
--- where no move is above a number, none is behind those up to it
-pub none_behind : (n k : ℕ) (items rest : List Move) → n ≤ k → AllByRecursion (λ m. m.chan ≤ n) (items ++ rest)
-    → AllByRecursion (λ m. k < m.chan) rest → items ≡ items ++ rest
-none_behind n k [] [] past within above = refl
-none_behind n k [] (m ∷ rest) past within above = absurd (omega (arith, within.0, above.0))
-none_behind n k (x ∷ items) rest past within above = ap (λ xs. x ∷ xs) (none_behind n k items rest past within.1 above)
+no_flags : (moves : List Move) → moves_there moves [] ≡ []
+no_flags [] = refl
+no_flags (m ∷ moves) = refl
+
+-- those that are there, cut at a place
+pub there_cut : (n : ℕ) (moves : List Move) (flags : List Bool)
+    → moves_there moves flags ≡ moves_there (take n moves) (take n flags) ++ moves_there (drop n moves) (drop n flags)
+there_cut zero moves flags = refl
+there_cut (suc n) [] flags = refl
+there_cut (suc n) (m ∷ moves) [] = sym (no_flags (drop n moves))
+there_cut (suc n) (m ∷ moves) (true ∷ flags) = ap (λ ms. m ∷ ms) (there_cut n moves flags)
+there_cut (suc n) (m ∷ moves) (false ∷ flags) = there_cut n moves flags
+
+-- where none is there, as the flags say one by one
+pub none_among : (moves : List Move) (flags : List Bool) → ((k : ℕ) → k < length flags → IfSome (slice_get flags k) (λ there. there ≡ false))
+    → moves_there moves flags ≡ []
+none_among [] flags none = refl
+none_among (m ∷ moves) [] none = refl
+none_among (m ∷ moves) (true ∷ flags) none = absurd (false≢true (sym (none 0 (omega arith))))
+none_among (m ∷ moves) (false ∷ flags) none = none_among moves flags (λ k less. none (suc k) (omega arith))
+
+-- those of a block, and then those behind it
+pub block_then : (k next end : ℕ) (moves : List Move) (flags : List Bool) (front : List Move) → next ≡ end → end ≡ k + (end - k)
+    → (front ++ moves_there (take (end - k) (drop k moves)) (take (end - k) (drop k flags))) ++ moves_there (drop next moves) (drop next flags)
+    ≡ front ++ moves_there (drop k moves) (drop k flags)
+block_then k next end moves flags front is more =
+    let n = end - k in
+    let behind : next ≡ k + n = is ∙ more in
+    append_assoc front (moves_there (take n (drop k moves)) (take n (drop k flags))) (moves_there (drop next moves) (drop next flags))
+    ∙ ap (λ m. front ++ (moves_there (take n (drop k moves)) (take n (drop k flags)) ++ moves_there (drop m moves) (drop m flags))) behind
+    ∙ (λ j. front ++ (moves_there (take n (drop k moves)) (take n (drop k flags))
+    ++ moves_there (sym (drop-drop n k moves) j) (sym (drop-drop n k flags) j)))
+    ∙ ap (λ ms. front ++ ms) (sym (there_cut n (drop k moves) (drop k flags)))
+
+-- behind all of them none is left
+pub none_left_over : (k : ℕ) (moves : List Move) (flags : List Bool) (front : List Move) → length moves ≤ k
+    → front ≡ front ++ moves_there (drop k moves) (drop k flags)
+none_left_over k moves flags front past =
+    sym (append-nil front) ∙ ap (λ ms. front ++ moves_there ms (drop k flags)) (sym (drop_all k moves past))
 
 -- levels, and then those behind them
 pub levels_then : {i part least k k' : ℕ} {all rest rest' : List (List ℕ)} {old now new : List Move}

@@ -7,4 +7,5 @@ pub mod LineOutcome
 pub mod Answer
 pub mod LookMoves
 pub mod OpenMoves
-pub mod SettledCue
+pub mod Settled
+pub mod LineOfCue

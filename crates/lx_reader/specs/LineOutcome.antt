@@ -1,11 +1,11 @@
 -- What a reader makes of a line.
-use Rattle.std.specs.Prelude.{◌≡◌, ℕ, ◌<◌, Bool, true, false, Result, Ok, Err}
+use Rattle.std.specs.Prelude.{◌≡◌, ℕ, ◌<◌, Bool, true, false, None, Result, Ok, Err}
 use Rattle.std.specs.Result.{IsOkAnd}
 use Rattle.lx_spec.specs.declared.TextFault.{TextFault}
 use Rattle.lx_spec.specs.declared.Word.{Word}
 use Rattle.lx_spec.specs.declared.Word.TheVariants as words
 use Rattle.lx_spec.specs.Facts.{Facts}
-use Rattle.lx_spec.specs.Entry.{Entry, PlacedEntry, is_end}
+use Rattle.lx_spec.specs.Entry.{Entry, PlacedEntry, Skipped, is_end}
 use Rattle.lx_reader.specs.declared.reader.Reader.{Reader}
 use Rattle.lx_reader.specs.declared.fault.ShowFault.{ShowFault}
 use Rattle.lx_reader.specs.LineFaults.{IsFaultOf}
@@ -48,13 +48,31 @@ abbrev pub Outcome : Reader → Reader → ℕ → Result (Unit {0}) ShowFault �
 Outcome old new i (Ok done) entry = IsOkAnd entry (IsStep old new i)
 Outcome old new i (Err fault) entry = IsFaultOf fault entry
 
--- a line with this word is a fault before IDENT, wherever it stands
-abbrev pub needs_ident : Word → Bool
-needs_ident words.Ident = false
-needs_ident words.Maker = false
-needs_ident words.OneDollar = false
-needs_ident words.TwoDollars = false
-needs_ident words.Unknown = false
-needs_ident words.Block = false
-needs_ident words.Assert = false
-needs_ident other = true
+-- What comes of a line for the open record: it says something, or it says nothing and changes nothing.
+abbrev pub Said : Reader → Reader → ℕ → Result Bool TextFault → Result Entry TextFault → Type 0
+Said old new i (Ok true) entry = IsOkAnd entry (IsStep old new i)
+Said old new i (Ok false) entry = (entry ≡ Ok (Skipped None)) × (new ≡ old)
+Said old new i (Err fault) entry = entry ≡ Err fault
+
+-- a line of this word ends a record, and maybe begins one
+abbrev pub is_outer : Word → Bool
+is_outer words.Ident = true
+is_outer words.Maker = true
+is_outer words.OneDollar = true
+is_outer words.Clear = true
+is_outer words.Set = true
+is_outer words.Patch = true
+is_outer words.Cue = true
+is_outer words.Group = true
+is_outer words.Sub = true
+is_outer other = false
+
+-- and is a fault before IDENT
+abbrev pub is_known : Word → Bool
+is_known words.Clear = true
+is_known words.Set = true
+is_known words.Patch = true
+is_known words.Cue = true
+is_known words.Group = true
+is_known words.Sub = true
+is_known other = false

@@ -1,4 +1,4 @@
--- The moves of a cue, by channel.
+-- The levels of a record, as moves by channel.
 use Rattle.std.specs.Prelude.{ℕ, ◌≡◌, ◌+◌, ◌<◌, Bool, List, [], ◌∷◌, IfSome, fold, length, map, max, slice_get, if◌then◌else◌}
 use Rattle.std.specs.List.{AllByRecursion}
 use Rattle.lx_base.specs.declared.TheConstants.{CHANNELS}
@@ -33,3 +33,7 @@ pub record ReadsLevels (i part least : ℕ) (all rest : List (List ℕ)) (greate
   pub valid : AllByRecursion (ValidMember CHANNELS) members
   pub placed : new ≡ all_placed (λ m. m.chan) (moves_of part members) old
   pub is_greatest : greatest ≡ fold max least (map (λ m. m.chan) members)
+
+-- the levels of moves
+abbrev pub members_of : List Move → List Member
+members_of moves = map (λ m. record { chan = m.chan; level = m.level }) moves

@@ -2,20 +2,19 @@
 #![tactic(auto)]
 
 mod fault;
-mod gathered;
-mod inner_line;
-mod levels;
 mod lists;
 mod loaded;
 mod looks;
 mod numbers;
 mod open_moves;
+mod open_record;
 mod outer_line;
 mod pass;
 mod percents;
-mod presence;
 mod reader;
 mod reading;
+mod record_lines;
+mod rows;
 mod times;
 mod word;
 

@@ -1,28 +1,34 @@
-//! The moves of the cue whose levels are being read, by channel: a level takes one write, however many the cue has.
+//! The levels of the record that is open, as moves by channel: a level takes one write, however many the record has.
 
-ghost use Rattle.std.specs.Prelude.{◌≡◌, ◌≤◌, ℕ, ◌<◌, ◌+◌, ◌++◌, ◌∷◌, [], Err, true, is_some, length, max, slice_get, take, if◌then◌else◌};
+ghost use Rattle.std.specs.Prelude.{◌≡◌, ◌≤◌, ℕ, ◌<◌, ◌+◌, ◌++◌, ◌∷◌, [], Err, false, true, is_some, length, max, slice_get, take, if◌then◌else◌};
 ghost use Rattle.std.specs.Prelude.{IfOk, IfErr, IfSome, OnOk};
 ghost use Rattle.std.specs.List.{AllByRecursion};
 ghost use Rattle.std.specs.Option.{option_map_or};
 ghost use Rattle.lx_base.specs.declared.TheConstants.{CHANNELS};
 ghost use Rattle.lx_spec.specs.Show.{ValidMember};
-ghost use Rattle.lx_spec.specs.SortedList.{IsStrictlySorted, placed};
+ghost use Rattle.lx_spec.specs.SortedList.{IsStrictlySorted, all_placed, placed};
 ghost use Rattle.lx_lex.specs.Left.{left};
 ghost use Rattle.lx_reader.specs.FieldLists.{all_pairs};
 ghost use Rattle.lx_reader.specs.LineFaults.{IsFaultOf};
-ghost use Rattle.lx_reader.specs.OpenMoves.{ReadsLevels};
+ghost use Rattle.lx_reader.specs.OpenMoves.{ReadsLevels, members_of, moves_there};
 
 use crate::fault::ShowFault;
 use crate::lists::{far_member, first_guess, guess_behind, near_member};
 use lx_base::{CHANNELS, Chan, PartNo};
 use lx_lex::Tokens;
-use lx_show::MoveList;
+use lx_show::{MemberList, MoveList};
 use lx_spec::{Member, Move, TextFault};
 use std::alloc::{AllocError, Global};
 use std::marker::Model;
 
 /// How many channels there can be.
 const SLOTS: usize = CHANNELS as usize;
+
+/// How many channels are looked at together: where none of them has a move, they are passed over.
+const BLOCK: usize = 64;
+
+/// How many blocks there are.
+const BLOCKS: usize = SLOTS / BLOCK;
 
 /// A row with a move for each channel in turn, of which some are there. Contracts see those.
 #[derive(Drop)]
@@ -44,23 +50,27 @@ impl Model for MoveRow {
     ghost invariant = { λ r. IsRow r.moves r.there };
 }
 
-/// The moves of a cue. Contracts see them as a list sorted by channel.
+/// The moves of a record. Contracts see them as a list sorted by channel.
 #[derive(Drop)]
 pub(crate) struct OpenMoves {
-    /// Their row, once a cue had any: most of a small show's texts need none, and a row is some pages of memory.
+    /// Their row, once a record had any: many of a small show's records have none, and a row is some pages of memory.
     row: Option<Box<MoveRow>>,
-    /// Room for them as a list, once a cue had any.
+    /// The moves of the row are this record's. Else the record has none, and those are an earlier one's.
+    used: bool,
+    /// Room for them as a list, once a record had any.
     list: Vec<Move>,
 }
 
 impl Model for OpenMoves {
-    ghost use Rattle.std.specs.Prelude.{List, []};
+    ghost use Rattle.std.specs.Prelude.{◌≡◌, List, [], is_some, true, if◌then◌else◌};
     ghost use Rattle.std.specs.Option.{option_map_or};
     ghost use Rattle.lx_spec.specs.declared.Move.{Move};
 
     ghost Value = { List Move };
 
-    ghost view = { λ o. option_map_or (λ row. row.value) o.row [] };
+    ghost view = { λ o. if o.used then option_map_or (λ row. row.value) o.row [] else [] };
+
+    ghost invariant = { λ o. o.used ≡ true → is_some o.row ≡ true };
 }
 
 impl OpenMoves {
@@ -70,17 +80,16 @@ impl OpenMoves {
     {
         OpenMoves {
             row: None,
+            used: false,
             list: Vec::new(alloc),
         }
     }
 
-    /// Takes all moves out.
+    /// Takes all moves out, at no cost: the row is emptied once a further record has any.
     pub(crate) fn clear(&mut self)
         ensures { self.new ≡ [] }
     {
-        if let Some(row) = &mut self.row {
-            row.clear();
-        }
+        self.used = false;
     }
 
     /// Places the levels of a line as moves in a part, each in place of the one of its channel, and answers the greatest of
@@ -96,32 +105,44 @@ impl OpenMoves {
         ensures levels { IfOk result (λ greatest. ReadsLevels i part least (left tokens.entry) [] greatest self.old self.new) }
         ensures fault { IfErr result (λ stop. IsFaultOf stop (all_pairs i (left tokens.entry))) }
     {
-        ensure_row(alloc, &mut self.row)?;
+        if !self.used {
+            begin(alloc, &mut self.row)?;
+            self.used = true;
+        }
         match &mut self.row {
             Some(row) => Ok(put_line(row, i, tokens, part, least)?),
             None => unreachable!(),
         }
     }
 
-    /// The moves as a list. None is of a channel above this one.
-    pub(crate) fn listed(&mut self, alloc: Global, channels: u32) -> Result<MoveList, AllocError>
+    /// Places the moves in a cue's. None is of a channel above this one.
+    pub(crate) fn put_in_cue(
+        &mut self,
+        alloc: Global,
+        channels: u32,
+        list: &mut MoveList,
+    ) -> Result<(), AllocError>
         requires most { channels ≤ CHANNELS }
         requires within { AllByRecursion (λ m. m.chan ≤ channels) self.old }
-        ensures list { IfOk result (λ list. list ≡ self.old) }
-        ensures same { self.new ≡ self.old }
+        ensures { OnOk result (list.new ≡ all_placed (λ m. m.chan) self.old list.old) }
     {
-        let Some(row) = &self.row else {
-            return MoveList::of_sorted(alloc, &[]);
-        };
-        let count = channels as usize;
-        if let Some(all) = row.whole(count) {
-            return MoveList::of_sorted(alloc, all);
+        match &self.row {
+            Some(row) if self.used => put_row(alloc, row, channels as usize, &mut self.list, list),
+            _ => Ok(()),
         }
-        if self.list.len() < SLOTS {
-            self.list.resize(SLOTS, any_move(0))?;
+    }
+
+    /// Places their levels in those of a group or submaster.
+    pub(crate) fn put_in_set(&mut self, list: &mut MemberList) -> Result<(), AllocError>
+        ensures { OnOk result (list.new ≡ all_placed (λ m. m.chan) (members_of self.old) list.old) }
+    {
+        match &self.row {
+            Some(row) if self.used => {
+                let len = gather(row, &mut self.list)?;
+                put_members(&self.list[..len], list)
+            }
+            _ => Ok(()),
         }
-        let len = row.gather(count, &mut self.list);
-        MoveList::of_sorted(alloc, &self.list[..len])
     }
 }
 
@@ -162,19 +183,14 @@ impl MoveRow {
         }
     }
 
-    /// Writes the moves at the front of a list, and says how many they are. No channel behind the first ones has any.
-    fn gather(&self, count: usize, list: &mut [Move]) -> usize
-        requires most { count ≤ CHANNELS }
-        requires room { count ≤ length list.old }
-        requires within { AllByRecursion (λ m. m.chan ≤ count) self.now }
-        ensures most { result ≤ count }
+    /// Writes the moves at the front of a list, and says how many they are.
+    fn gather(&self, list: &mut [Move]) -> usize
+        requires room { CHANNELS ≤ length list.old }
+        ensures long { length list.new ≡ length list.old }
+        ensures most { result ≤ CHANNELS }
         ensures list { take result list.new ≡ self.now }
     {
-        let mut len = 0;
-        for index in 0..count {
-            len = keep(self.moves[index], self.there[index], list, len);
-        }
-        len
+        gather_blocks(&self.moves[..], &self.there[..], list)
     }
 
     /// Places one level as a move, and answers the greater of its channel and this number.
@@ -196,14 +212,17 @@ impl MoveRow {
     }
 }
 
-/// Makes the row where there is none. No move is there then.
-fn ensure_row(alloc: Global, row: &mut Option<Box<MoveRow>>) -> Result<(), AllocError>
+/// Makes the row where there is none, and empties the one that there is.
+#[inline(never)]
+fn begin(alloc: Global, row: &mut Option<Box<MoveRow>>) -> Result<(), AllocError>
     ensures made { OnOk result (is_some row.new ≡ true) }
-    ensures same { OnOk result (option_map_or (λ r. r.value) row.new [] ≡ option_map_or (λ r. r.value) row.old []) }
+    ensures empty { OnOk result (option_map_or (λ r. r.value) row.new [] ≡ []) }
 {
-    if row.is_none() {
-        *row = Some(made_row(alloc)?);
+    if let Some(row) = row {
+        row.clear();
+        return Ok(());
     }
+    *row = Some(made_row(alloc)?);
     Ok(())
 }
 
@@ -224,6 +243,107 @@ fn are_there(flags: &[bool]) -> bool
         all &= *there;
     }
     all
+}
+
+/// Whether any of them is there. It has no early end either.
+fn any_there(flags: &[bool]) -> bool
+    ensures { result ≡ false → (k : ℕ) → k < length flags.now → IfSome (slice_get flags.now k) (λ there. there ≡ false) }
+{
+    let mut any = false;
+    for there in flags {
+        any |= *there;
+    }
+    any
+}
+
+/// Writes those of a row's moves that are there at the front of a list, and says how many they are.
+fn gather_blocks(moves: &[Move], there: &[bool], list: &mut [Move]) -> usize
+    requires moves { length moves.now ≡ CHANNELS }
+    requires there { length there.now ≡ CHANNELS }
+    requires room { CHANNELS ≤ length list.old }
+    ensures long { length list.new ≡ length list.old }
+    ensures most { result ≤ CHANNELS }
+    ensures list { take result list.new ≡ moves_there moves.now there.now }
+{
+    let mut len = 0;
+    for block in 0..BLOCKS {
+        let from = block * BLOCK;
+        let end = from + BLOCK;
+        len = gather_block(&moves[from..end], &there[from..end], list, len);
+    }
+    len
+}
+
+/// Writes those of a block's moves that are there into a list, from a place on, and says where the next one goes.
+fn gather_block(moves: &[Move], there: &[bool], list: &mut [Move], at: usize) -> usize
+    requires same { length there.now ≡ length moves.now }
+    requires room { at + length moves.now ≤ length list.old }
+    ensures long { length list.new ≡ length list.old }
+    ensures most { result ≤ at + length moves.now }
+    ensures list { take result list.new ≡ take at list.old ++ moves_there moves.now there.now }
+{
+    let mut len = at;
+    if any_there(there) {
+        for index in 0..moves.len() {
+            len = keep(moves[index], there[index], list, len);
+        }
+    }
+    len
+}
+
+/// Writes a row's moves at the front of a list, and says how many they are.
+fn gather(row: &MoveRow, list: &mut Vec<Move>) -> Result<usize, AllocError>
+    ensures most { IfOk result (λ len. len ≤ length list.new.items) }
+    ensures list { IfOk result (λ len. take len list.new.items ≡ row.now) }
+{
+    if list.len() < SLOTS {
+        list.resize(SLOTS, any_move(0))?;
+    }
+    Ok(row.gather(list))
+}
+
+/// Places a row's moves in a list. None is of a channel behind the first ones.
+fn put_row(
+    alloc: Global,
+    row: &MoveRow,
+    count: usize,
+    room: &mut Vec<Move>,
+    list: &mut MoveList,
+) -> Result<(), AllocError>
+    requires most { count ≤ CHANNELS }
+    requires within { AllByRecursion (λ m. m.chan ≤ count) row.now }
+    ensures { OnOk result (list.new ≡ all_placed (λ m. m.chan) row.now list.old) }
+{
+    if let Some(all) = row.whole(count) {
+        return put_moves(alloc, all, list);
+    }
+    let len = gather(row, room)?;
+    put_moves(alloc, &room[..len], list)
+}
+
+/// Places moves, which are sorted by channel, in a list: they become the list where it was empty.
+fn put_moves(alloc: Global, moves: &[Move], list: &mut MoveList) -> Result<(), AllocError>
+    requires { IsStrictlySorted (λ m. m.chan) moves.now }
+    ensures { OnOk result (list.new ≡ all_placed (λ m. m.chan) moves.now list.old) }
+{
+    if !list.as_slice().is_empty() {
+        return list.put_each(moves);
+    }
+    *list = MoveList::of_sorted(alloc, moves)?;
+    Ok(())
+}
+
+/// Places the levels of moves in a list.
+fn put_members(moves: &[Move], list: &mut MemberList) -> Result<(), AllocError>
+    ensures { OnOk result (list.new ≡ all_placed (λ m. m.chan) (members_of moves.now) list.old) }
+{
+    for entry in moves {
+        list.put(Member {
+            chan: entry.chan,
+            level: entry.level,
+        })?;
+    }
+    Ok(())
 }
 
 /// Places the levels of a line as moves in a part, and answers the greatest of their channels and this number.

@@ -1,7 +1,7 @@
-//! The lines that begin a record, or end one.
+//! The lines that stand outside of records.
 
-ghost use Rattle.std.specs.Prelude.{◌≡◌, ◌==◌, ◌<◌, ◌+◌, Ok, true, [], if◌then◌else◌};
-ghost use Rattle.lx_spec.specs.declared.Section.TheVariants.{Skipping};
+ghost use Rattle.std.specs.Prelude.{◌≡◌, ◌==◌, ◌<◌, ◌+◌, Ok, true, [], OnOk, if◌then◌else◌};
+ghost use Rattle.lx_spec.specs.declared.Section.TheVariants.{NoRecord, Skipping};
 ghost use Rattle.lx_spec.specs.declared.Word.TheVariants as words;
 ghost use Rattle.lx_spec.specs.Limits.{desk_limits};
 ghost use Rattle.lx_spec.specs.LineRules.{is_next};
@@ -10,14 +10,12 @@ ghost use Rattle.std.specs.Str.{str_to_ascii_uppercase};
 ghost use Rattle.lx_lex.specs.Left.{left};
 ghost use Rattle.lx_reader.specs.LineOutcome.{IsReady, facts_of, Outcome};
 
-use crate::levels::put_rows;
 use crate::fault::ShowFault;
-use crate::numbers::{cue_of_record, group_of_record, is_one, next_channel, sub_of_record};
-use crate::presence::{ensure_cue, ensure_group, ensure_sub};
+use crate::numbers::{is_one, next_channel};
 use crate::reader::Reader;
+use crate::rows::put_rows;
 use lx_lex::{Tokens, word_is};
 use lx_spec::{Section, TextFault};
-use std::alloc::Global;
 
 /// The next token is the word.
 fn is_next(mut tokens: Tokens, word: &[u8]) -> bool
@@ -92,7 +90,8 @@ impl Reader {
     pub(crate) fn patch_line(&mut self, i: u32, mut tokens: Tokens) -> Result<(), ShowFault>
         requires ready { IsReady self.old i }
         requires identified { self.old.identified ≡ true }
-        ensures { Outcome self.old self.new i result (entry_by_word (facts_of self.old i) [] words.Patch (left tokens.entry)) }
+        ensures outcome { Outcome self.old self.new i result (entry_by_word (facts_of self.old i) [] words.Patch (left tokens.entry)) }
+        ensures section { OnOk result (self.new.section ≡ NoRecord) }
     {
         let Some(page) = tokens.next() else {
             return Err(ShowFault::Text(TextFault::ShortList(i)));
@@ -103,68 +102,5 @@ impl Reader {
             return Ok(());
         }
         put_rows(&mut self.show, i, tokens)
-    }
-
-    /// `CUE n`
-    pub(crate) fn cue_line(
-        &mut self,
-        alloc: Global,
-        i: u32,
-        tokens: Tokens,
-    ) -> Result<(), ShowFault>
-        requires ready { IsReady self.old i }
-        requires identified { self.old.identified ≡ true }
-        ensures { Outcome self.old self.new i result (entry_by_word (facts_of self.old i) [] words.Cue (left tokens.entry)) }
-    {
-        let Some(n) = cue_of_record(i, tokens)? else {
-            self.skip_record(i);
-            return Ok(());
-        };
-        if !self.show.has_room_for(n) {
-            return Err(ShowFault::Text(TextFault::OutOfRange(i)));
-        }
-        ensure_cue(alloc, &mut self.show, n);
-        self.enter(Section::InCue(n));
-        Ok(())
-    }
-
-    /// `GROUP n`
-    pub(crate) fn group_line(
-        &mut self,
-        alloc: Global,
-        i: u32,
-        tokens: Tokens,
-    ) -> Result<(), ShowFault>
-        requires ready { IsReady self.old i }
-        requires identified { self.old.identified ≡ true }
-        ensures { Outcome self.old self.new i result (entry_by_word (facts_of self.old i) [] words.Group (left tokens.entry)) }
-    {
-        let Some(g) = group_of_record(i, tokens)? else {
-            self.skip_record(i);
-            return Ok(());
-        };
-        ensure_group(alloc, &mut self.show, g);
-        self.enter(Section::InGroup(g));
-        Ok(())
-    }
-
-    /// `SUB n`
-    pub(crate) fn sub_line(
-        &mut self,
-        alloc: Global,
-        i: u32,
-        tokens: Tokens,
-    ) -> Result<(), ShowFault>
-        requires ready { IsReady self.old i }
-        requires identified { self.old.identified ≡ true }
-        ensures { Outcome self.old self.new i result (entry_by_word (facts_of self.old i) [] words.Sub (left tokens.entry)) }
-    {
-        let Some(s) = sub_of_record(i, tokens)? else {
-            self.skip_record(i);
-            return Ok(());
-        };
-        ensure_sub(alloc, &mut self.show, s);
-        self.enter(Section::InSub(s));
-        Ok(())
     }
 }

@@ -5,7 +5,7 @@ ghost use Rattle.lx_io.specs.Causes.{Rose};
 ghost use Rattle.lx_spec.specs.Show.{Valid};
 ghost use Rattle.lx_reader.specs.LineOutcome.{IsReady, state_of};
 ghost use Rattle.lx_reader.specs.ReadingState.{final_reading};
-ghost use Rattle.lx_reader.specs.SettledCue.{Fits, settled};
+ghost use Rattle.lx_reader.specs.Settled.{Fits, settled};
 ghost use Rattle.lx_reader.specs.Answer.{AnswerOf, IsLoaded, TurnOf, reading_of};
 
 use crate::fault::ShowFault;

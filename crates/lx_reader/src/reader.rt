@@ -2,17 +2,10 @@
 
 ghost use Rattle.std.specs.Prelude.{◌≡◌, ◌==◌, ◌<◌, ◌+◌, None, false, true, if◌then◌else◌};
 ghost use Rattle.lx_spec.specs.declared.Section.TheVariants.{NoRecord};
-ghost use Rattle.lx_spec.specs.declared.Word.TheVariants as words;
-ghost use Rattle.lx_spec.specs.LineRules.{entry_by_word};
-ghost use Rattle.lx_lex.specs.Left.{left};
 
-use crate::gathered::Gathered;
-use crate::fault::ShowFault;
 use lx_base::{Chan, PartNo};
-use lx_lex::Tokens;
 use lx_show::Show;
-use lx_spec::{Section, TextFault, Word};
-use std::alloc::Global;
+use lx_spec::Section;
 
 /// A show that is being read.
 #[derive(Drop)]
@@ -33,15 +26,11 @@ pub(crate) struct Reader {
     pub(crate) part: PartNo,
     /// ENDDATA was read.
     pub(crate) ended: bool,
-    /// Room for the levels of a line.
-    pub(crate) gathered: Gathered,
 }
 
 impl Reader {
-    ghost use Rattle.lx_reader.specs.LineOutcome.{IsReady, facts_of, Outcome, needs_ident};
-
     /// Nothing was read yet.
-    pub(crate) fn new(alloc: Global, show: Show) -> Reader
+    pub(crate) fn new(show: Show) -> Reader
         ensures show { result.show ≡ show }
         ensures channels_set { result.channels_set ≡ None }
         ensures skipped { (result.skipped ≡ 0) × (result.first_skipped ≡ 0) }
@@ -57,7 +46,6 @@ impl Reader {
             section: Section::NoRecord,
             part: PartNo::BASE,
             ended: false,
-            gathered: Gathered::new(alloc),
         }
     }
 
@@ -81,74 +69,5 @@ impl Reader {
     {
         self.section = section;
         self.part = PartNo::BASE;
-    }
-
-    /// A line of this word, which these tokens follow. The rules are tried in their order.
-    pub(crate) fn line_of_word(
-        &mut self,
-        alloc: Global,
-        i: u32,
-        line: &[u8],
-        word: Word,
-        tokens: Tokens,
-    ) -> Result<(), ShowFault>
-        requires ready { IsReady self.old i }
-        ensures { Outcome self.old self.new i result (entry_by_word (facts_of self.old i) line.now word (left tokens.entry)) }
-    {
-        match word {
-            Word::TwoDollars => {
-                self.skip(i);
-                Ok(())
-            }
-            Word::Block => self.block_line(i),
-            Word::Assert => self.assert_line(i),
-            Word::OneDollar => {
-                self.skip_record(i);
-                Ok(())
-            }
-            Word::Unknown => {
-                self.skip(i);
-                Ok(())
-            }
-            Word::Ident => self.ident_line(i, tokens),
-            Word::Maker => {
-                self.enter(Section::NoRecord);
-                Ok(())
-            }
-            _ if self.identified => self.known_line(alloc, i, line, word, tokens),
-            _ => Err(ShowFault::Text(TextFault::NoIdent(i))),
-        }
-    }
-
-    /// A line of such a word, once IDENT was read.
-    fn known_line(
-        &mut self,
-        alloc: Global,
-        i: u32,
-        line: &[u8],
-        word: Word,
-        tokens: Tokens,
-    ) -> Result<(), ShowFault>
-        requires ready { IsReady self.old i }
-        requires identified { self.old.identified ≡ true }
-        requires known { needs_ident word ≡ true }
-        ensures { Outcome self.old self.new i result (entry_by_word (facts_of self.old i) line.now word (left tokens.entry)) }
-    {
-        match word {
-            Word::Clear => {
-                self.clear_line(i, tokens);
-                Ok(())
-            }
-            Word::Set => self.set_line(i, tokens),
-            Word::Patch => self.patch_line(i, tokens),
-            Word::Cue => self.cue_line(alloc, i, tokens),
-            Word::Group => self.group_line(alloc, i, tokens),
-            Word::Sub => self.sub_line(alloc, i, tokens),
-            Word::EndData => {
-                self.ended = true;
-                Ok(())
-            }
-            inner => self.inner_line(i, line, inner, tokens),
-        }
     }
 }

@@ -1,45 +1,43 @@
-//! A reader that keeps the moves of the cue whose levels it reads apart, by channel, until the cue is done.
+//! A pass over the lines of a show text. The record that is open stands apart from the show, and its levels apart from it, by channel, until
+//! the next record begins.
 
-ghost use Rattle.std.specs.Prelude.{◌≡◌, ◌≤◌, ◌∷◌, None, [], false, true, codes, length, OnOk, IfSome};
-ghost use Rattle.std.specs.Option.{IsSomeAnd};
+ghost use Rattle.std.specs.Prelude.{◌≡◌, ◌≤◌, ◌∷◌, ◌&&◌, None, [], false, true, codes, length, OnOk, IfSome};
 ghost use Rattle.lx_base.specs.declared.TheConstants.{LINE_BYTES};
 ghost use Rattle.lx_spec.specs.declared.Section.TheVariants.{NoRecord};
-ghost use Rattle.lx_spec.specs.Entry.{cue_in};
+ghost use Rattle.lx_spec.specs.declared.Word.TheVariants as words;
+ghost use Rattle.lx_spec.specs.FirstWord.{is_inner};
 ghost use Rattle.lx_spec.specs.Limits.{desk_limits};
 ghost use Rattle.lx_spec.specs.Fields.{levels};
-ghost use Rattle.lx_spec.specs.LineRules.{entry_of, entry_by_word};
-ghost use Rattle.lx_lex.specs.Left.{left};
-ghost use Rattle.lx_reader.specs.LineOutcome.{IsReady, Outcome, facts_of};
-ghost use Rattle.lx_spec.specs.declared.Word.TheVariants as words;
-ghost use Rattle.lx_spec.specs.SortedList.{IsStrictlySorted};
+ghost use Rattle.lx_spec.specs.LineRules.{entry_by_word, entry_of, inner_entry, is_makers_line, stray_entry};
 ghost use Rattle.lx_spec.specs.Text.{tokens};
-ghost use Rattle.lx_spec.specs.TrackedLevel.{cue_of};
-ghost use Rattle.lx_reader.specs.SettledCue.{Fits, FitsIn, keeps_cue, settled};
+ghost use Rattle.lx_lex.specs.Left.{left};
+ghost use Rattle.lx_reader.specs.declared.open_record.Open.TheVariants as open_records;
+ghost use Rattle.lx_reader.specs.LineOutcome.{IsReady, Outcome, Said, facts_of, is_known, is_outer};
+ghost use Rattle.lx_reader.specs.LineOfCue.{is_levels};
+ghost use Rattle.lx_reader.specs.Settled.{Fits, is_open, is_record, settled};
 
 use crate::fault::ShowFault;
+use crate::numbers::{cue_of_record, group_of_record, sub_of_record};
 use crate::open_moves::OpenMoves;
+use crate::open_record::{Open, open_cue, open_group, open_sub, put_record};
 use crate::reader::Reader;
+use crate::record_lines::{line_of_cue, line_of_set};
 use crate::word::word_of;
-use lx_base::{CUES, CueNo};
 use lx_lex::{Tokens, tokens};
 use lx_show::Show;
-use lx_spec::{Section, Word};
+use lx_spec::{Section, TextFault, Word};
 use std::alloc::{AllocError, Global};
+use std::mem;
 
-/// How many bytes make a line of levels long.
-const LONG_LINE: usize = 64;
-
-/// A show that is being read, and the moves of the cue that is open, which the show hasn't yet.
+/// A show that is being read, and the record that is open.
 #[derive(Drop)]
 pub(crate) struct Reading {
-    /// What the lines say, but for these moves.
+    /// What the lines say, but for the open record.
     pub(crate) reader: Reader,
-    /// The cue whose moves stand apart.
-    cue: Option<CueNo>,
-    /// All its moves.
+    /// The record of the section, but for the levels of its lines.
+    held: Open,
+    /// Those, as moves.
     moves: OpenMoves,
-    /// How many cues had their moves apart so far.
-    opened: usize,
 }
 
 impl Reading {
@@ -53,69 +51,27 @@ impl Reading {
         ensures fits { Fits result }
     {
         Reading {
-            reader: Reader::new(alloc, show),
-            cue: None,
+            reader: Reader::new(show),
+            held: Open::None,
             moves: OpenMoves::new(alloc),
-            opened: 0,
         }
     }
 
-    /// Puts the moves that stand apart into their cue.
+    /// Puts the open record into the show, with its levels.
     pub(crate) fn settle(&mut self, alloc: Global) -> Result<(), AllocError>
         requires { Fits self.old }
-        ensures { OnOk result ((self.new.cue ≡ None) × (self.new.reader ≡ settled self.old)) }
+        ensures reader { OnOk result (self.new.reader ≡ settled self.old) }
+        ensures none { OnOk result (self.new.held ≡ open_records.None) }
+        ensures empty { OnOk result (self.new.moves ≡ []) }
     {
-        let Some(n) = self.cue else {
-            return Ok(());
-        };
-        let channels = self.reader.show.channels();
-        let moves = self.moves.listed(alloc, channels)?;
-        let _ = self.reader.show.replace_moves(n, moves);
-        self.cue = None;
+        let held = mem::replace(&mut self.held, Open::None);
+        put_record(alloc, &mut self.reader.show, held, &mut self.moves)?;
+        self.moves.clear();
         Ok(())
     }
 
-    /// The moves of the section's cue stand apart from now on, if they can: it is a cue, and they do already or it has none.
-    #[inline(always)]
-    fn opens(&mut self, line: &[u8]) -> bool
-        requires fits { Fits self.old }
-        requires identified { self.old.reader.identified ≡ true }
-        ensures same { settled self.new ≡ settled self.old }
-        ensures fits { Fits self.new }
-        ensures reader { self.new.reader ≡ self.old.reader }
-        ensures cue { result ≡ true → IsSomeAnd self.new.cue (FitsIn self.new.reader self.new.moves) }
-    {
-        match self.cue {
-            Some(_) => true,
-            None => self.begins(line),
-        }
-    }
-
-    /// The same, where no moves stand apart. To begin and to settle takes a look at every channel: so a cue whose first levels are a short
-    /// line is read the plain way, and so is each one behind as many as a show has, in a text that clears its cues again and again.
-    #[inline(never)]
-    fn begins(&mut self, line: &[u8]) -> bool
-        requires none { self.old.cue ≡ None }
-        requires identified { self.old.reader.identified ≡ true }
-        ensures same { settled self.new ≡ settled self.old }
-        ensures fits { Fits self.new }
-        ensures reader { self.new.reader ≡ self.old.reader }
-        ensures cue { result ≡ true → IsSomeAnd self.new.cue (FitsIn self.new.reader self.new.moves) }
-    {
-        let Some(n) = cue_in(self.reader.section) else {
-            return false;
-        };
-        if line.len() < LONG_LINE || self.opened >= CUES || !is_bare(&self.reader.show, n) {
-            return false;
-        }
-        self.opened += 1;
-        self.moves.clear();
-        self.cue = Some(n);
-        true
-    }
-
-    /// Goes on with line i, which isn't too long. Most lines are levels of the open cue: they go straight to their levels, and all
-    /// that any other line needs stands apart.
+    /// Goes on with line i, which isn't too long. Most lines are levels of the open record: they go straight to them, and all that any
+    /// other line needs stands apart.
     #[inline(always)]
     pub(crate) fn step(&mut self, alloc: Global, i: u32, line: &[u8]) -> Result<(), ShowFault>
         requires short { length line.now ≤ LINE_BYTES }
@@ -125,9 +81,17 @@ impl Reading {
         ensures fits { OnOk result (Fits self.new) }
     {
         match levels_of(line) {
-            Some(levels) => self.line_of_word(alloc, i, line, Word::Chan, levels),
-            None => self.line_by_word(alloc, i, line),
+            Some(levels) if self.takes_levels() => self.levels_line(alloc, i, levels),
+            _ => self.line_by_word(alloc, i, line),
         }
+    }
+
+    /// A line of levels is one of the open record.
+    #[inline(always)]
+    fn takes_levels(&self) -> bool
+        ensures { result ≡ (self.now.reader.identified && is_open self.now.held) }
+    {
+        self.reader.identified && self.held.is_some()
     }
 
     /// The same, where the line's first word has to be found.
@@ -146,8 +110,7 @@ impl Reading {
         self.line_of_word(alloc, i, line, word_of(first), tokens)
     }
 
-    /// A line of this word, which these tokens follow.
-    #[inline(always)]
+    /// A line of this word, which these tokens follow. The rules are tried in their order.
     fn line_of_word(
         &mut self,
         alloc: Global,
@@ -162,61 +125,276 @@ impl Reading {
             (entry_by_word (facts_of (settled self.old) i) line.now word (left tokens.entry)) }
         ensures fits { OnOk result (Fits self.new) }
     {
-        if is_levels(word) && self.reader.identified && self.opens(line) {
+        match word {
+            Word::TwoDollars => {
+                self.reader.skip(i);
+                Ok(())
+            }
+            Word::Unknown => {
+                self.reader.skip(i);
+                Ok(())
+            }
+            Word::EndData => self.end_line(i),
+            _ if is_inner(word) => self.inner_line(alloc, i, line, word, tokens),
+            _ => self.outer_line(alloc, i, word, tokens),
+        }
+    }
+
+    /// `ENDDATA`
+    fn end_line(&mut self, i: u32) -> Result<(), ShowFault>
+        requires ready { IsReady (settled self.old) i }
+        requires fits { Fits self.old }
+        ensures outcome { Outcome (settled self.old) (settled self.new) i result
+            (entry_by_word (facts_of (settled self.old) i) [] words.EndData []) }
+        ensures fits { OnOk result (Fits self.new) }
+    {
+        if !self.reader.identified {
+            return Err(ShowFault::Text(TextFault::NoIdent(i)));
+        }
+        self.reader.ended = true;
+        Ok(())
+    }
+
+    /// A line that ends a record, and maybe begins one. The open one is put into the show before.
+    fn outer_line(
+        &mut self,
+        alloc: Global,
+        i: u32,
+        word: Word,
+        tokens: Tokens,
+    ) -> Result<(), ShowFault>
+        requires ready { IsReady (settled self.old) i }
+        requires fits { Fits self.old }
+        requires outer { is_outer word ≡ true }
+        ensures outcome { Outcome (settled self.old) (settled self.new) i result
+            (entry_by_word (facts_of (settled self.old) i) [] word (left tokens.entry)) }
+        ensures fits { OnOk result (Fits self.new) }
+    {
+        self.settle(alloc)?;
+        self.line_outside(alloc, i, word, tokens)
+    }
+
+    /// The same, where no record is open.
+    fn line_outside(
+        &mut self,
+        alloc: Global,
+        i: u32,
+        word: Word,
+        tokens: Tokens,
+    ) -> Result<(), ShowFault>
+        requires ready { IsReady self.old.reader i }
+        requires none { self.old.held ≡ open_records.None }
+        requires empty { self.old.moves ≡ [] }
+        requires outer { is_outer word ≡ true }
+        ensures outcome { Outcome self.old.reader (settled self.new) i result
+            (entry_by_word (facts_of self.old.reader i) [] word (left tokens.entry)) }
+        ensures fits { OnOk result (Fits self.new) }
+    {
+        match word {
+            Word::OneDollar => {
+                self.reader.skip_record(i);
+                Ok(())
+            }
+            Word::Ident => self.reader.ident_line(i, tokens),
+            Word::Maker => {
+                self.reader.enter(Section::NoRecord);
+                Ok(())
+            }
+            _ if self.reader.identified => self.known_line(alloc, i, word, tokens),
+            _ => Err(ShowFault::Text(TextFault::NoIdent(i))),
+        }
+    }
+
+    /// The same, once IDENT was read.
+    fn known_line(
+        &mut self,
+        alloc: Global,
+        i: u32,
+        word: Word,
+        tokens: Tokens,
+    ) -> Result<(), ShowFault>
+        requires ready { IsReady self.old.reader i }
+        requires identified { self.old.reader.identified ≡ true }
+        requires none { self.old.held ≡ open_records.None }
+        requires empty { self.old.moves ≡ [] }
+        requires known { is_known word ≡ true }
+        ensures outcome { Outcome self.old.reader (settled self.new) i result
+            (entry_by_word (facts_of self.old.reader i) [] word (left tokens.entry)) }
+        ensures fits { OnOk result (Fits self.new) }
+    {
+        match word {
+            Word::Cue => self.cue_line(alloc, i, tokens),
+            Word::Group => self.group_line(alloc, i, tokens),
+            Word::Sub => self.sub_line(alloc, i, tokens),
+            Word::Clear => {
+                self.reader.clear_line(i, tokens);
+                Ok(())
+            }
+            Word::Set => self.reader.set_line(i, tokens),
+            Word::Patch => self.reader.patch_line(i, tokens),
+            _ => unreachable!(),
+        }
+    }
+
+    /// `CUE n`
+    fn cue_line(&mut self, alloc: Global, i: u32, tokens: Tokens) -> Result<(), ShowFault>
+        requires ready { IsReady self.old.reader i }
+        requires identified { self.old.reader.identified ≡ true }
+        requires none { self.old.held ≡ open_records.None }
+        requires empty { self.old.moves ≡ [] }
+        ensures outcome { Outcome self.old.reader (settled self.new) i result
+            (entry_by_word (facts_of self.old.reader i) [] words.Cue (left tokens.entry)) }
+        ensures fits { OnOk result (Fits self.new) }
+    {
+        let Some(n) = cue_of_record(i, tokens)? else {
+            self.reader.skip_record(i);
+            return Ok(());
+        };
+        if !self.reader.show.has_room_for(n) {
+            return Err(ShowFault::Text(TextFault::OutOfRange(i)));
+        }
+        self.held = Open::Cue(open_cue(alloc, &mut self.reader.show, n));
+        self.reader.enter(Section::InCue(n));
+        Ok(())
+    }
+
+    /// `GROUP n`
+    fn group_line(&mut self, alloc: Global, i: u32, tokens: Tokens) -> Result<(), ShowFault>
+        requires ready { IsReady self.old.reader i }
+        requires identified { self.old.reader.identified ≡ true }
+        requires none { self.old.held ≡ open_records.None }
+        requires empty { self.old.moves ≡ [] }
+        ensures outcome { Outcome self.old.reader (settled self.new) i result
+            (entry_by_word (facts_of self.old.reader i) [] words.Group (left tokens.entry)) }
+        ensures fits { OnOk result (Fits self.new) }
+    {
+        let Some(g) = group_of_record(i, tokens)? else {
+            self.reader.skip_record(i);
+            return Ok(());
+        };
+        self.held = Open::Group(open_group(alloc, &mut self.reader.show, g));
+        self.reader.enter(Section::InGroup(g));
+        Ok(())
+    }
+
+    /// `SUB n`
+    fn sub_line(&mut self, alloc: Global, i: u32, tokens: Tokens) -> Result<(), ShowFault>
+        requires ready { IsReady self.old.reader i }
+        requires identified { self.old.reader.identified ≡ true }
+        requires none { self.old.held ≡ open_records.None }
+        requires empty { self.old.moves ≡ [] }
+        ensures outcome { Outcome self.old.reader (settled self.new) i result
+            (entry_by_word (facts_of self.old.reader i) [] words.Sub (left tokens.entry)) }
+        ensures fits { OnOk result (Fits self.new) }
+    {
+        let Some(s) = sub_of_record(i, tokens)? else {
+            self.reader.skip_record(i);
+            return Ok(());
+        };
+        self.held = Open::Sub(open_sub(alloc, &mut self.reader.show, s));
+        self.reader.enter(Section::InSub(s));
+        Ok(())
+    }
+
+    /// A line of a word that belongs within a record.
+    fn inner_line(
+        &mut self,
+        alloc: Global,
+        i: u32,
+        line: &[u8],
+        word: Word,
+        tokens: Tokens,
+    ) -> Result<(), ShowFault>
+        requires ready { IsReady (settled self.old) i }
+        requires fits { Fits self.old }
+        requires inner { is_inner word ≡ true }
+        ensures outcome { Outcome (settled self.old) (settled self.new) i result
+            (entry_by_word (facts_of (settled self.old) i) line.now word (left tokens.entry)) }
+        ensures fits { OnOk result (Fits self.new) }
+    {
+        if is_makers_line(self.reader.section, word) {
+            self.reader.skip(i);
+            return Ok(());
+        }
+        if !self.reader.identified {
+            return Err(ShowFault::Text(TextFault::NoIdent(i)));
+        }
+        match self.reader.section {
+            Section::NoRecord => self.stray_line(i, word),
+            Section::Skipping => {
+                self.reader.skip(i);
+                Ok(())
+            }
+            _ => self.line_of_record(alloc, i, line, word, tokens),
+        }
+    }
+
+    /// Such a line outside of any record.
+    fn stray_line(&mut self, i: u32, word: Word) -> Result<(), ShowFault>
+        requires ready { IsReady (settled self.old) i }
+        requires fits { Fits self.old }
+        requires outside { self.old.reader.section ≡ NoRecord }
+        ensures outcome { Outcome (settled self.old) (settled self.new) i result (stray_entry (facts_of (settled self.old) i) word) }
+        ensures fits { OnOk result (Fits self.new) }
+    {
+        match word {
+            Word::Text => {
+                self.reader.skip(i);
+                Ok(())
+            }
+            _ => Err(ShowFault::Text(TextFault::NotInRecord(i))),
+        }
+    }
+
+    /// Such a line within a record.
+    fn line_of_record(
+        &mut self,
+        alloc: Global,
+        i: u32,
+        line: &[u8],
+        word: Word,
+        tokens: Tokens,
+    ) -> Result<(), ShowFault>
+        requires ready { IsReady (settled self.old) i }
+        requires fits { Fits self.old }
+        requires inside { is_record self.old.reader.section ≡ true }
+        ensures outcome { Outcome (settled self.old) (settled self.new) i result
+            (inner_entry self.old.reader.section (facts_of (settled self.old) i) line.now word (left tokens.entry)) }
+        ensures fits { OnOk result (Fits self.new) }
+    {
+        if is_levels(word) {
             return self.levels_line(alloc, i, tokens);
         }
-        self.other_line(alloc, i, line, word, tokens)
-    }
-
-    /// The same, where it isn't a line of levels of the open cue.
-    #[inline(never)]
-    fn other_line(
-        &mut self,
-        alloc: Global,
-        i: u32,
-        line: &[u8],
-        word: Word,
-        tokens: Tokens,
-    ) -> Result<(), ShowFault>
-        requires ready { IsReady (settled self.old) i }
-        requires fits { Fits self.old }
-        ensures outcome { Outcome (settled self.old) (settled self.new) i result
-            (entry_by_word (facts_of (settled self.old) i) line.now word (left tokens.entry)) }
-        ensures fits { OnOk result (Fits self.new) }
-    {
-        if keeps_cue(word) {
-            return self.quiet_line(alloc, i, line, word, tokens);
+        if !self.says(i, line, word, tokens)? {
+            self.reader.skip(i);
         }
-        self.settle(alloc)?;
-        self.reader.line_of_word(alloc, i, line, word, tokens)
+        Ok(())
     }
 
-    /// A line of a word that leaves the moves of the open cue as they are.
-    fn quiet_line(
-        &mut self,
-        alloc: Global,
-        i: u32,
-        line: &[u8],
-        word: Word,
-        tokens: Tokens,
-    ) -> Result<(), ShowFault>
+    /// What the line says goes to the open record. It answers whether it says something.
+    fn says(&mut self, i: u32, line: &[u8], word: Word, tokens: Tokens) -> Result<bool, TextFault>
         requires ready { IsReady (settled self.old) i }
         requires fits { Fits self.old }
-        requires quiet { keeps_cue word ≡ true }
-        ensures outcome { Outcome (settled self.old) (settled self.new) i result
-            (entry_by_word (facts_of (settled self.old) i) line.now word (left tokens.entry)) }
+        requires inside { is_record self.old.reader.section ≡ true }
+        requires other { is_levels word ≡ false }
+        ensures said { Said (settled self.old) (settled self.new) i result
+            (inner_entry self.old.reader.section (facts_of (settled self.old) i) line.now word (left tokens.entry)) }
         ensures fits { OnOk result (Fits self.new) }
     {
-        // That the show is valid is a fact for proofs.
-        let _ = self.reader.show.channels();
-        self.reader.line_of_word(alloc, i, line, word, tokens)
+        match &mut self.held {
+            Open::Cue(cue) => line_of_cue(cue, &mut self.reader.part, i, line, word, tokens),
+            Open::Group(group) => Ok(line_of_set(&mut group.label, line, word)),
+            Open::Sub(sub) => Ok(line_of_set(&mut sub.label, line, word)),
+            Open::None => Ok(false),
+        }
     }
 
-    /// `CHAN` with levels of the open cue.
+    /// `CHAN` with levels of the open record.
     #[inline(always)]
     fn levels_line(&mut self, alloc: Global, i: u32, tokens: Tokens) -> Result<(), ShowFault>
         requires ready { IsReady (settled self.old) i }
-        requires open_cue { IsSomeAnd self.old.cue (FitsIn self.old.reader self.old.moves) }
+        requires fits { Fits self.old }
+        requires open_one { is_open self.old.held ≡ true }
         ensures outcome { Outcome (settled self.old) (settled self.new) i result (levels desk_limits i (left tokens.entry)) }
         ensures fits { OnOk result (Fits self.new) }
     {
@@ -229,43 +407,20 @@ impl Reading {
     }
 }
 
-/// The cue in whose section a line stands.
-fn cue_in(section: Section) -> Option<CueNo>
-    ensures { result ≡ cue_in section }
-{
-    match section {
-        Section::InCue(n) => Some(n),
-        _ => None,
-    }
-}
-
-/// The show has the cue, and the cue no move.
-fn is_bare(show: &Show, n: CueNo) -> bool
-    ensures bare { result ≡ true → IsSomeAnd (cue_of show.now n) (λ cue. cue.moves ≡ []) }
-    ensures sorted { IsStrictlySorted (λ cue. cue.number) show.now.cues }
-{
-    // That the show is valid is a fact for proofs.
-    let _ = show.channels();
-    match show.cue(n) {
-        Some(cue) => cue.moves.as_slice().is_empty(),
-        None => false,
-    }
-}
-
-/// The word is that of a line of levels.
+/// Whether it is `CHAN`.
 fn is_levels(word: Word) -> bool
-    ensures { result ≡ true → word ≡ words.Chan }
+    ensures { result ≡ is_levels word }
 {
     matches!(word, Word::Chan)
 }
 
-/// In a cue, a line of the word says nothing of its moves.
-fn keeps_cue(word: Word) -> bool
-    ensures { result ≡ keeps_cue word }
+/// A word that belongs within a record.
+fn is_inner(word: Word) -> bool
+    ensures { result ≡ is_inner word }
 {
     matches!(
         word,
-        Word::TwoDollars
+        Word::Chan
             | Word::Part
             | Word::Up
             | Word::Down
@@ -275,6 +430,14 @@ fn keeps_cue(word: Word) -> bool
             | Word::Block
             | Word::Assert
     )
+}
+
+/// A manufacturer's own line: outside of cues `$$BLOCK` and `$$ASSERT` are such lines, too.
+fn is_makers_line(section: Section, word: Word) -> bool
+    requires { is_inner word ≡ true }
+    ensures { result ≡ is_makers_line section word }
+{
+    !matches!(section, Section::InCue(_)) && matches!(word, Word::Block | Word::Assert)
 }
 
 /// The tokens behind the first one where that is CHAN in capitals and a space follows at once, as in most lines.

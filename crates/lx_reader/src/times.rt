@@ -1,41 +1,24 @@
-//! The times of a cue's parts.
+//! The parts of a cue, and their times.
 
-ghost use Rattle.std.specs.Prelude.{◌≡◌, ◌≤◌, Some, IsTrue};
-ghost use Rattle.std.specs.Option.{IsSomeAnd};
+ghost use Rattle.std.specs.Prelude.{◌≡◌, Some, IsTrue};
 ghost use Rattle.std.specs.List.{AllByRecursion};
-ghost use Rattle.lx_base.specs.declared.TheConstants.{TIME_MAX};
-ghost use Rattle.lx_spec.specs.declared.Section.TheVariants.{InCue};
+ghost use Rattle.lx_base.specs.declared.TheConstants.{PARTS};
 ghost use Rattle.lx_spec.specs.SortedList.{IsStrictlySorted, has_entry, entry_at};
-ghost use Rattle.lx_spec.specs.Show.{ValidPart};
-ghost use Rattle.lx_spec.specs.TrackedLevel.{cue_of};
-ghost use Rattle.lx_spec.specs.Entry.{HasDown, HasUp};
-ghost use Rattle.lx_reader.specs.OpenRecord.{HasPartIn};
-ghost use Rattle.lx_reader.specs.ReadingState.{show_with};
+ghost use Rattle.lx_spec.specs.Show.{InRange, ValidPart};
+ghost use Rattle.lx_show.specs.ChangedEntry.{changed};
+ghost use Rattle.lx_reader.specs.LineOfCue.{HasParts};
+ghost use Rattle.lx_reader.specs.ReadingState.{with_down, with_part, with_up};
 
-use lx_base::{Cs, CueNo, PartNo};
-use lx_show::Show;
+use lx_base::{Cs, PartNo};
 use lx_show::sorted::entry_of;
+use lx_show::{Cue, new_part};
 use lx_spec::Part;
-
-/// The part of the cue, which is there.
-fn part_of(show: &Show, n: CueNo, part: PartNo) -> Part
-    requires { HasPartIn show.now n part }
-    ensures found { IsSomeAnd (cue_of show.now n) (λ cue. entry_at (λ p. p.number) part cue.parts ≡ Some result) }
-    ensures valid { ValidPart result }
-{
-    match show.cue(n) {
-        Some(cue) => part_in(cue.parts.as_slice(), part),
-        None => unreachable!(),
-    }
-}
 
 /// The part of the number, which is there.
 fn part_in(parts: &[Part], number: PartNo) -> Part
     requires sorted { IsStrictlySorted (λ p. p.number) parts.now }
     requires there { IsTrue (has_entry (λ p. p.number) number parts.now) }
-    requires valid { AllByRecursion ValidPart parts.now }
     ensures found { entry_at (λ p. p.number) number parts.now ≡ Some result }
-    ensures valid { ValidPart result }
 {
     match entry_of(parts, number.get()) {
         Some(part) => *part,
@@ -43,38 +26,40 @@ fn part_in(parts: &[Part], number: PartNo) -> Part
     }
 }
 
-/// Sets the times of the rising channels in a part of the cue.
-pub(crate) fn set_up(show: &mut Show, n: CueNo, part: PartNo, time: Cs, delay: Cs)
-    requires part { HasPartIn show.old n part }
-    requires time { time ≤ TIME_MAX }
-    requires delay { delay ≤ TIME_MAX }
-    ensures show { show.new ≡ show_with (record { section = InCue n; part = part; entry = HasUp time delay }) show.old }
+/// The cue has the part.
+pub(crate) fn ensure_part(cue: &mut Cue, part: PartNo)
+    requires sorted { IsStrictlySorted (λ p. p.number) cue.old.parts }
+    requires valid { AllByRecursion ValidPart cue.old.parts }
+    ensures parts { cue.new ≡ record cue.old { parts = with_part part cue.old.parts } }
+    ensures range { InRange PARTS part }
 {
-    let times = part_of(show, n, part);
-    show.put_part_in(
-        n,
-        Part {
-            up: time,
-            up_delay: delay,
-            ..times
-        },
-    );
+    if entry_of(cue.parts.as_slice(), part.get()).is_none() {
+        cue.put_part(new_part(part));
+    }
+}
+
+/// Sets the times of the rising channels in a part of the cue.
+pub(crate) fn set_up(cue: &mut Cue, part: PartNo, time: Cs, delay: Cs)
+    requires { HasParts cue.old part }
+    ensures { cue.new ≡ record cue.old { parts = changed (λ p. p.number) part (with_up time delay) cue.old.parts } }
+{
+    let times = part_in(cue.parts.as_slice(), part);
+    cue.put_part(Part {
+        up: time,
+        up_delay: delay,
+        ..times
+    });
 }
 
 /// Sets the times of the falling channels in a part of the cue.
-pub(crate) fn set_down(show: &mut Show, n: CueNo, part: PartNo, time: Cs, delay: Cs)
-    requires part { HasPartIn show.old n part }
-    requires time { time ≤ TIME_MAX }
-    requires delay { delay ≤ TIME_MAX }
-    ensures show { show.new ≡ show_with (record { section = InCue n; part = part; entry = HasDown time delay }) show.old }
+pub(crate) fn set_down(cue: &mut Cue, part: PartNo, time: Cs, delay: Cs)
+    requires { HasParts cue.old part }
+    ensures { cue.new ≡ record cue.old { parts = changed (λ p. p.number) part (with_down time delay) cue.old.parts } }
 {
-    let times = part_of(show, n, part);
-    show.put_part_in(
-        n,
-        Part {
-            down: time,
-            down_delay: delay,
-            ..times
-        },
-    );
+    let times = part_in(cue.parts.as_slice(), part);
+    cue.put_part(Part {
+        down: time,
+        down_delay: delay,
+        ..times
+    });
 }

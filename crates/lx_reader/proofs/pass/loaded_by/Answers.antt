@@ -3,4 +3,4 @@ use Rattle.lx_reader.specs.Answer.{IsLoaded}
 use Rattle.lx_reader.proofs.pass.loaded_by.Goals as goal
 
 pub returns-in-Ok : goal.returns-in-Ok
-returns-in-Ok c = subst (λ r. IsLoaded c.args.form r c.loaded_in_form.result) c.in-Ok.ensures.1 c.loaded_in_form.ensures
+returns-in-Ok c = subst (λ r. IsLoaded c.args.form r c.loaded_in_form.result) c.in-Ok.ensures.reader c.loaded_in_form.ensures

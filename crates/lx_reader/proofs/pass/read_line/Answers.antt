@@ -3,7 +3,7 @@ use Rattle.lx_lex.proofs.CuttingOff.{not_read}
 use Rattle.lx_lex.proofs.HandingOut.{handed_one}
 use Rattle.lx_spec.specs.LineRules.{entry_of}
 use Rattle.lx_reader.specs.LineOutcome.{facts_of}
-use Rattle.lx_reader.specs.SettledCue.{settled}
+use Rattle.lx_reader.specs.Settled.{settled}
 use Rattle.lx_reader.proofs.LinePass.{line_turn, long_turn, no_read_fault}
 use Rattle.lx_reader.proofs.pass.read_line.Goals as goal
 

@@ -1,5 +1,5 @@
 use Rattle.std.proofs.Common.{◌-◌}
-use Rattle.lx_reader.specs.SettledCue.{Fits, settled}
+use Rattle.lx_reader.specs.Settled.{Fits, settled}
 use Rattle.lx_reader.proofs.LinePass.{Passage}
 use Rattle.lx_reader.proofs.pass.read_show.Given as goal
 

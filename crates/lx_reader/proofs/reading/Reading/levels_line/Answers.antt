@@ -3,8 +3,7 @@ use Rattle.lx_base.specs.declared.TheConstants.{CHANNELS}
 use Rattle.lx_lex.specs.Left.{left}
 use Rattle.lx_reader.specs.OpenMoves.{ReadsLevels}
 use Rattle.lx_reader.proofs.Members.{greatest_least, greatest_most}
-use Rattle.lx_reader.proofs.OpenLevels.{levels_apart, levels_fit, open_one}
-use Rattle.lx_reader.proofs.QuietLines.{ready_apart}
+use Rattle.lx_reader.proofs.OpenLevels.{levels_outcome, still_fits}
 use Rattle.lx_reader.proofs.reading.Reading.levels_line.Goals as goal
 
 pub widen-requires-clause-least : goal.widen-requires-clause-least
@@ -19,16 +18,20 @@ widen-requires-clause-most c =
     omega (arith, c.channels-channels.ensures.channels, c.channels-channels.ensures.valid.channels.most) in
     omega (arith, read.is_greatest, greatest_most c.channels-channels.result read.members few read.valid)
 
-pub returns : goal.returns
-returns c =
+pub returns-clause-outcome : goal.returns-clause-outcome
+returns-clause-outcome c =
     let g = c.args.self.now in
-    let one = open_one g.reader g.moves g.cue c.requires.open_cue in
     let read = subst
     (λ n. ReadsLevels c.args.i g.reader.part n (left c.args.tokens) [] c.in_ok-greatest.greatest g.moves c.put_line.new.self)
     c.channels-channels.ensures.channels c.in_ok-greatest.ensures.levels in
-    record {
-      outcome = levels_apart g one.0 c.args.i c.in_ok-greatest.greatest c.widen.new.self c.put_line.new.self (left c.args.tokens) one.1.0
-          one.1.1.inside c.requires.ready.going c.widen.ensures read;
-      fits = levels_fit g.reader g.cue c.args.i c.in_ok-greatest.greatest g.moves c.put_line.new.self (left c.args.tokens) c.widen.new.self
-          c.requires.open_cue (ready_apart g c.args.i c.requires.ready).open_section c.widen.ensures read;
-    }
+    levels_outcome g.reader g.moves c.put_line.new.self c.args.i c.in_ok-greatest.greatest (left c.args.tokens) read g.held c.widen.new.self
+    c.widen.ensures c.requires.open_one c.requires.ready.going c.requires.fits
+
+pub returns-clause-fits : goal.returns-clause-fits
+returns-clause-fits c =
+    let g = c.args.self.now in
+    let read = subst
+    (λ n. ReadsLevels c.args.i g.reader.part n (left c.args.tokens) [] c.in_ok-greatest.greatest g.moves c.put_line.new.self)
+    c.channels-channels.ensures.channels c.in_ok-greatest.ensures.levels in
+    still_fits g.reader g.moves c.put_line.new.self c.args.i c.in_ok-greatest.greatest (left c.args.tokens) read g.held c.widen.new.self
+    c.widen.ensures c.requires.open_one c.requires.ready.open_section c.requires.fits

@@ -1,0 +1,22 @@
+use Rattle.std.proofs.Common.{◌∙◌, ap, sym, take, List, arith}
+use Rattle.std.proofs.lemmas.List.{take_all}
+use Rattle.std.proofs.lemmas.List.Sums.{fold_more}
+use Rattle.lx_spec.specs.declared.Member.{Member}
+use Rattle.lx_spec.specs.declared.Move.{Move}
+use Rattle.lx_reader.proofs.PlacedOver.{level_placed, levels_are_placed, levels_placed}
+use Rattle.lx_reader.proofs.open_moves.put_members.Goals as goal
+
+pub loop-entry-preserved : goal.loop-entry-preserved
+loop-entry-preserved c =
+    let start = c.args.list.now in
+    let moves = c.args.moves.now in
+    let i = c.loop-entry.entry-index in
+    c.in_ok-put.ensures.ok
+    ∙ ap (λ (ms : List Member). level_placed ms c.entry-item.result) c.loop-entry.invariant
+    ∙ ap (λ (m : Move). level_placed (levels_placed start (take i moves)) m) c.entry-item.is
+    ∙ sym (fold_more level_placed start moves i c.entry-item.result c.loop-entry-test.true)
+
+pub returns : goal.returns
+returns c = c.loop-entry.invariant
+    ∙ ap (levels_placed c.args.list.now) (take_all c.loop-entry.entry-index c.args.moves.now (omega (arith, c.loop-entry-test.false)))
+    ∙ levels_are_placed c.args.list.now c.args.moves.now

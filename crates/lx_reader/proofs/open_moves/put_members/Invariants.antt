@@ -1,0 +1,6 @@
+use Rattle.std.proofs.Common.{◌≡◌, take}
+use Rattle.lx_reader.proofs.PlacedOver.{levels_placed}
+use Rattle.lx_reader.proofs.open_moves.put_members.Given as goal
+
+abbrev pub invariant-loop-entry : goal.invariant-loop-entry
+invariant-loop-entry l = l.list ≡ levels_placed l.initial.list (take l.entry-index l.moves)

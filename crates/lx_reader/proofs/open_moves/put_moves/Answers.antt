@@ -1,0 +1,10 @@
+use Rattle.std.proofs.Common.{◌∙◌, length, sym}
+use Rattle.lx_spec.proofs.Comparisons.{eq_from}
+use Rattle.lx_reader.proofs.PlacedOver.{no_entries, placed_alone_at}
+use Rattle.lx_reader.proofs.open_moves.put_moves.Goals as goal
+
+pub returns : goal.returns
+returns c =
+    placed_alone_at (λ m. m.chan) c.args.moves.now _ _ c.requires c.in_ok-list.ensures
+    (sym c.as_slice.ensures.entries
+    ∙ no_entries c.as_slice.result.now (sym (eq_from (length c.as_slice.result.now) 0 (sym c.if-not-is_empty.ensures))))

@@ -1,0 +1,18 @@
+use Rattle.std.proofs.Common.{◌∙◌, subst, sym}
+use Rattle.lx_base.specs.declared.TheConstants.{GROUPS}
+use Rattle.lx_spec.specs.Show.{ValidSet}
+use Rattle.lx_spec.specs.SortedList.{placed}
+use Rattle.lx_reader.proofs.OpenCues.{filled_set_valid, set_written}
+use Rattle.lx_reader.proofs.open_record.put_group.Goals as goal
+
+pub put_group-requires : goal.put_group-requires
+put_group-requires c =
+    subst (ValidSet GROUPS c.args.show.now.channels)
+    (sym (set_written c.args.moves.now c.put_in_set.new.list _ c.args.group c.group.view_is c.in_ok-put_in_set.ensures))
+    (filled_set_valid GROUPS c.args.show.now c.args.moves.now c.args.group c.requires)
+
+pub returns : goal.returns
+returns c =
+    let show = c.args.show.now in
+    let set = set_written c.args.moves.now c.put_in_set.new.list _ c.args.group c.group.view_is c.in_ok-put_in_set.ensures in
+    c.put_group.ensures ∙ (λ j. record show { groups = placed (λ x. x.number) (set j) show.groups })

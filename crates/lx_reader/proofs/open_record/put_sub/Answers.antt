@@ -1,0 +1,18 @@
+use Rattle.std.proofs.Common.{◌∙◌, subst, sym}
+use Rattle.lx_base.specs.declared.TheConstants.{SUBS}
+use Rattle.lx_spec.specs.Show.{ValidSet}
+use Rattle.lx_spec.specs.SortedList.{placed}
+use Rattle.lx_reader.proofs.OpenCues.{filled_set_valid, set_written}
+use Rattle.lx_reader.proofs.open_record.put_sub.Goals as goal
+
+pub put_sub-requires : goal.put_sub-requires
+put_sub-requires c =
+    subst (ValidSet SUBS c.args.show.now.channels)
+    (sym (set_written c.args.moves.now c.put_in_set.new.list _ c.args.sub c.sub.view_is c.in_ok-put_in_set.ensures))
+    (filled_set_valid SUBS c.args.show.now c.args.moves.now c.args.sub c.requires)
+
+pub returns : goal.returns
+returns c =
+    let show = c.args.show.now in
+    let set = set_written c.args.moves.now c.put_in_set.new.list _ c.args.sub c.sub.view_is c.in_ok-put_in_set.ensures in
+    c.put_sub.ensures ∙ (λ j. record show { subs = placed (λ x. x.number) (set j) show.subs })

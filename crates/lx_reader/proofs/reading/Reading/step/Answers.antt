@@ -1,0 +1,15 @@
+use Rattle.std.proofs.Common.{◌∙◌, subst, sym}
+use Rattle.lx_lex.specs.Left.{left}
+use Rattle.lx_reader.specs.LineOutcome.{Outcome, facts_of}
+use Rattle.lx_reader.specs.Settled.{settled}
+use Rattle.lx_reader.proofs.LevelsLines.{both_true, inside_record, levels_entry}
+use Rattle.lx_reader.proofs.reading.Reading.step.Goals as goal
+
+pub returns-in-Some-clause-outcome : goal.returns-in-Some-clause-outcome
+returns-in-Some-clause-outcome c =
+    let g = c.args.self.now in
+    let takes = both_true _ _ (sym c.takes_levels.ensures ∙ c.if-takes_levels.true) in
+    subst (Outcome (settled g) (settled c.levels_line.new.self) c.args.i c.levels_line.result)
+    (sym (levels_entry (facts_of (settled g) c.args.i) c.args.line.now (left c.in-Some.levels) c.requires.short c.in-Some.ensures takes.0
+    (inside_record g.reader.show g.reader.section g.moves g.held c.requires.fits takes.1)))
+    c.levels_line.ensures.outcome

@@ -1,0 +1,41 @@
+use Rattle.std.proofs.Common.{subst, sym}
+use Rattle.std.specs.Result.{IsOkAnd}
+use Rattle.lx_lex.specs.Left.{left}
+use Rattle.lx_spec.specs.Entry.{HasUp, HasDown}
+use Rattle.lx_spec.specs.LineRules.{cue_entry}
+use Rattle.lx_reader.specs.LineOfCue.{ChangesCue, CueSays, facts_at}
+use Rattle.lx_reader.proofs.LineSteps.{times_fault}
+use Rattle.lx_reader.proofs.OpenSteps.{cue_stops, down_says, up_says}
+use Rattle.lx_reader.proofs.record_lines.line_of_cue.Goals as goal
+
+pub returns-in_err-time-in-Up : goal.returns-in_err-time-in-Up
+returns-in_err-time-in-Up c =
+    subst (λ w. CueSays (cue_entry (facts_at c.args.i) c.args.line.now w (left c.args.tokens)) c.args.cue.now c.args.cue.now c.args.part.now
+    c.args.part.now c.from_residual-in_err-time-in-Up.result) (sym c.in-Up.is)
+    (cue_stops c.args.cue.now c.args.cue.now c.args.part.now c.args.part.now c.from_residual-in_err-time-in-Up.result _ c.in_err-time-in-Up.field-0.0
+    c.from_residual-in_err-time-in-Up.ensures.1
+    (times_fault c.args.i (λ t d. HasUp t d) (left c.args.tokens) c.in_err-time-in-Up.field-0.0 c.in_err-time-in-Up.ensures.numbers))
+
+pub returns-in_err-time-in-Down : goal.returns-in_err-time-in-Down
+returns-in_err-time-in-Down c =
+    subst (λ w. CueSays (cue_entry (facts_at c.args.i) c.args.line.now w (left c.args.tokens)) c.args.cue.now c.args.cue.now c.args.part.now
+    c.args.part.now c.from_residual-in_err-time-in-Down.result) (sym c.in-Down.is)
+    (cue_stops c.args.cue.now c.args.cue.now c.args.part.now c.args.part.now c.from_residual-in_err-time-in-Down.result _ c.in_err-time-in-Down.field-0.0
+    c.from_residual-in_err-time-in-Down.ensures.1
+    (times_fault c.args.i (λ t d. HasDown t d) (left c.args.tokens) c.in_err-time-in-Down.field-0.0 c.in_err-time-in-Down.ensures.numbers))
+
+pub returns-in_ok-time-in-Up : goal.returns-in_ok-time-in-Up
+returns-in_ok-time-in-Up c =
+    let e = c.in_ok-time-in-Up.ensures in
+    subst (λ w. IsOkAnd (cue_entry (facts_at c.args.i) c.args.line.now w (left c.args.tokens)) (ChangesCue c.args.cue.now c.set_up.new.cue
+    c.args.part.now c.args.part.now)) (sym c.in-Up.is)
+    (up_says c.args.i (left c.args.tokens) (c.in_ok-time-in-Up.time, c.in_ok-time-in-Up.delay) c.args.cue.now c.set_up.new.cue c.args.part.now
+    e.numbers c.set_up.ensures e.times)
+
+pub returns-in_ok-time-in-Down : goal.returns-in_ok-time-in-Down
+returns-in_ok-time-in-Down c =
+    let e = c.in_ok-time-in-Down.ensures in
+    subst (λ w. IsOkAnd (cue_entry (facts_at c.args.i) c.args.line.now w (left c.args.tokens)) (ChangesCue c.args.cue.now c.set_down.new.cue
+    c.args.part.now c.args.part.now)) (sym c.in-Down.is)
+    (down_says c.args.i (left c.args.tokens) (c.in_ok-time-in-Down.time, c.in_ok-time-in-Down.delay) c.args.cue.now c.set_down.new.cue c.args.part.now
+    e.numbers c.set_down.ensures e.times)

@@ -1,0 +1,46 @@
+//! The rows of a line are put into the patch.
+
+ghost use Rattle.std.specs.Prelude.{◌≡◌, ◌≤◌, ◌∷◌, [], max, OnOk, IfErr};
+ghost use Rattle.std.specs.Result.{IsOkAnd};
+ghost use Rattle.lx_lex.specs.Left.{left};
+ghost use Rattle.lx_reader.specs.FieldLists.{all_triples};
+ghost use Rattle.lx_reader.specs.LineFaults.{IsFaultOf};
+ghost use Rattle.lx_reader.specs.ReadingState.{with_rows};
+
+use crate::fault::ShowFault;
+use crate::lists::next_row;
+use lx_base::Chan;
+use lx_lex::Tokens;
+use lx_show::Show;
+use lx_spec::PatchRow;
+
+/// The show has the channel.
+fn widen(show: &mut Show, chan: Chan)
+    ensures show { show.new ≡ record show.old { channels = max show.old.channels chan } }
+    ensures chan { chan ≤ show.new.channels }
+{
+    let channels = show.channels().max(chan.get());
+    show.widen(channels);
+}
+
+/// Puts a row into the patch.
+fn put_patch_row(show: &mut Show, row: PatchRow)
+    ensures { show.new ≡ with_rows (row ∷ []) show.old }
+{
+    widen(show, row.chan);
+    show.put_patch(row);
+}
+
+/// Puts the rows of a line into the patch.
+pub(crate) fn put_rows(show: &mut Show, i: u32, mut tokens: Tokens) -> Result<(), ShowFault>
+    ensures show { OnOk result (IsOkAnd (all_triples i (left tokens.entry)) (λ rows. show.new ≡ with_rows rows show.old)) }
+    ensures stop { IfErr result (λ stop. IsFaultOf stop (all_triples i (left tokens.entry))) }
+{
+    loop {
+        match next_row(i, &mut tokens) {
+            Ok(Some(row)) => put_patch_row(show, row),
+            Ok(None) => return Ok(()),
+            Err(fault) => return Err(ShowFault::Text(fault)),
+        }
+    }
+}
