@@ -142,14 +142,14 @@ def first_show_of_the_readme(program: str) -> List[str]:
 
 
 def olad_killed_midway(program: str) -> List[str]:
-    """olad is killed after a second, and started again a second later: the desk isn't held up, and the end is the same."""
+    """olad is killed while a show of five seconds plays, and started again some forty lines later: the end is the same as without."""
     with tempfile.TemporaryDirectory() as folder, rig.Olad(PORTS) as olad:
         observer = rig.Observer([1, 2, 3])
         run = Run(folder, program, played(5))
-        time.sleep(1)
+        rig.until(lambda: all(len(lines) > 40 for lines in run.lines()), "the desk plays")
         olad.stop()
-        before = observer.stop()
-        time.sleep(1)
+        before, written = observer.stop(), len(run.lines()[0])
+        rig.until(lambda: len(run.lines()[0]) > written + 40, "the desk plays on without olad")
         olad.start()
         observer = rig.Observer([1, 2, 3])
         wrong = run.end()
