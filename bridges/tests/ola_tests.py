@@ -116,7 +116,7 @@ def live_run(program: str) -> List[str]:
         observer, wire = rig.Observer([1, 2, 3]), rig.Wire()
         run = Run(folder, program, played(4))
         wrong = run.end() + ([f"said {run.said}"] if run.said else [])
-        wrong += wrong_in_seen(observer.stop(), run.lines(), 0.5)
+        wrong += wrong_in_seen(observer.stop(), run.lines(), 0.25)
         packets = wire.stop()
         for universe, name in ((2, ("artnet", 2)), (3, ("e131", 3))):
             sent = [levels for levels in packets.get(name, ()) if not is_dark(levels)]
@@ -142,14 +142,14 @@ def first_show_of_the_readme(program: str) -> List[str]:
 
 
 def olad_killed_midway(program: str) -> List[str]:
-    """olad is killed after a second, and started again a second later: the desk isn't held up, and the end is the same."""
+    """olad is killed while a show of five seconds plays, and started again some forty lines later: the end is the same as without."""
     with tempfile.TemporaryDirectory() as folder, rig.Olad(PORTS) as olad:
         observer = rig.Observer([1, 2, 3])
         run = Run(folder, program, played(5))
-        time.sleep(1)
+        rig.until(lambda: all(len(lines) > 40 for lines in run.lines()), "the desk plays")
         olad.stop()
-        before = observer.stop()
-        time.sleep(1)
+        before, written = observer.stop(), len(run.lines()[0])
+        rig.until(lambda: len(run.lines()[0]) > written + 40, "the desk plays on without olad")
         olad.start()
         observer = rig.Observer([1, 2, 3])
         wrong = run.end()
@@ -180,10 +180,10 @@ class Fed:
         for pipe in self.pipes:
             pipe.close()
 
-    def end(self) -> Tuple[int, List[str]]:
+    def end(self, is_slow: bool = False) -> Tuple[int, List[str]]:
         """The bridge's status, and what it said."""
         self.close()
-        ended = self.bridge.end()
+        ended = self.bridge.end(is_slow=is_slow)
         os.rmdir(self.folder)
         return ended
 
@@ -195,7 +195,7 @@ def holds(universe: int, line: bytes) -> bool:
 
 def wrong_end(fed: Fed, status: int, *said: str) -> List[str]:
     """What is wrong with the bridge's status and with what it said, a part of each line."""
-    ended, lines = fed.end()
+    ended, lines = fed.end(any("olad hasn't answered" in part for part in said))
     if ended == status and len(lines) == len(said) and all(part in line for part, line in zip(said, lines)):
         return []
     return [f"status {ended}, not {status}; said {lines}, not {list(said)}"]
@@ -261,7 +261,7 @@ def a_universe_without_a_port(_program: str) -> List[str]:
             fed.write(1, line)
             time.sleep(0.02)
         wrong = wrong_end(fed, 1, "universe 2: olad says: Universe doesn't exist", "universe 2: its last frame isn't delivered: Universe doesn't exist")
-        wrong += wrong_in_seen(observer.stop(), [lines], 0.5)
+        wrong += wrong_in_seen(observer.stop(), [lines], 0.25)
         return wrong + ([] if holds(1, lines[-1]) else ["olad doesn't hold universe 1's last line"])
 
 

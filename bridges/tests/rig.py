@@ -160,10 +160,11 @@ class Bridge:
         pipes = [os.path.join(folder, f"universe-{u}.txt") for u in range(1, universes + 1)]
         until(lambda: self.process.poll() is not None or all(map(os.path.exists, pipes)), "the bridge makes its pipes")
 
-    def end(self, seconds: float = SECONDS) -> Tuple[int, List[str]]:
-        """Its status, and the lines that it said."""
+    def end(self, seconds: float = SECONDS, is_slow: bool = False) -> Tuple[int, List[str]]:
+        """Its status, and the lines that it said; but for the one that olad is slow, which a busy machine brings, unless it is asked for."""
         said, errors = self.process.communicate(timeout=seconds)
-        return self.process.returncode, (said + errors).decode().splitlines()
+        lines = (said + errors).decode().splitlines()
+        return self.process.returncode, [line for line in lines if is_slow or "olad hasn't answered" not in line]
 
 
 class Tee:
