@@ -21,7 +21,7 @@ from test_stage import STAGE, Terminal, outlets, start
 
 PICTURES = os.path.join(TOP, "docs/pictures")
 SOURCES = os.path.join(PICTURES, "sources.txt")
-GRID, TIME = "document.getElementById('grid')", "document.getElementById('time')"
+GRID = "document.getElementById('grid')"
 
 
 @dataclass
