@@ -4,7 +4,7 @@
 
 const D = JSON.parse(document.getElementById("data").textContent);
 const get = id => document.getElementById(id);
-const LINE = 24, CELL = 34, FIXED = [62, 264, 88, 88, 62], HEADS = ["cue", "label", "up", "down", "follow"], LEFT = FIXED.reduce((a, b) => a + b), TOP = 90;
+const LINE = 24, CELL = 34, FIXED = innerWidth < 760 ? [52, 92, 52, 52, 44] : [62, 264, 88, 88, 62], HEADS = ["cue", "label", "up", "down", "follow"], LEFT = FIXED.reduce((a, b) => a + b), TOP = 90;
 const PRINTED = 30000, LISTED = 300, REST = 1000, SHORT = 2;
 const count = n => n.toLocaleString("en"), many = (n, one) => `${count(n)} ${one}${n === 1 ? "" : "s"}`;
 const safe = text => text.replace(/[&<>"]/g, c => `&#${c.charCodeAt(0)};`);
@@ -58,9 +58,9 @@ function placeOf(list, value) {
 
 /** The rows and columns in sight, with a few beside them. */
 function inSight() {
-  const g = get("grid"), n = cues().length;
+  const g = get("grid"), n = cues().length, first = Math.max(0, Math.min(columns.length - 1, Math.floor(g.scrollLeft / CELL)));
   return [Math.max(0, placeOf(offsets, g.scrollTop) - 2), Math.min(n, placeOf(offsets, g.scrollTop + g.clientHeight - TOP) + 1),
-    Math.max(0, Math.floor(g.scrollLeft / CELL)), Math.min(columns.length, Math.ceil((g.scrollLeft + g.clientWidth - LEFT) / CELL))];
+    first, Math.max(first, Math.min(columns.length, Math.ceil((g.scrollLeft + g.clientWidth - LEFT) / CELL)))];
 }
 
 const time = ([time, delay]) => time + (delay === "0" ? "" : ` <small>+${delay}</small>`);

@@ -21,7 +21,7 @@ from test_stage import STAGE, Terminal, outlets, start
 
 PICTURES = os.path.join(TOP, "docs/pictures")
 SOURCES = os.path.join(PICTURES, "sources.txt")
-GRID, TIME = "document.getElementById('grid')", "document.getElementById('time')"
+GRID = "document.getElementById('grid')"
 
 
 @dataclass
@@ -54,11 +54,11 @@ class Live:
 MAKES: dict[str, "Page | Plot | Live"] = {
     "rehearsal.png": Page(["play.asc"], 861, before="document.getElementById('lines').hidden = true"),
     "dark.png": Page(["play.asc"], 1475, dark=True, before="document.getElementById('lines').hidden = true"),
-    "tracking.png": Page(["tracking.asc"], 3, GRID, width=760),
+    "tracking.png": Page(["tracking.asc"], 3, GRID, width=800),
     "block.png": Page(["play.asc"], 1420, GRID),
-    "only.png": Page(["edits.asc"], 53, GRID, width=760),
+    "only.png": Page(["edits.asc"], 53, GRID, width=800),
     "refused.png": Page(["edits.asc"], 57, "document.querySelector('header')", width=900),
-    "undo.png": Page(["undo.asc", "--job", "undo"], 253, GRID, width=760),
+    "undo.png": Page(["undo.asc", "--job", "undo"], 253, GRID, width=800),
     "fades.svg": Plot(["fades.asc"]),
     "assert.svg": Plot(["assert.asc", "asserted.txt"]),
     "follow.svg": Plot(["play.asc", "--channels", "9,17,22,24"]),

@@ -16,6 +16,7 @@ from typing import Callable
 import test_guide
 import test_page
 import test_plot
+import test_rehearsal
 import test_stage
 from browser import chromium
 from shows import default_program
@@ -23,7 +24,7 @@ from shows import default_program
 
 def chosen(report: list[str]) -> list[tuple[str, object]]:
     """The cases whose packages are installed; what is left out is said."""
-    cases = test_plot.cases() + test_stage.plain_cases() + test_guide.cases()
+    cases = test_rehearsal.cases() + test_plot.cases() + test_stage.plain_cases() + test_guide.cases()
     for name, found, more, package in (("pages in a browser", chromium(), lambda: test_page.cases(report), "chromium"), ("the stage in a terminal", shutil.which("tmux"), test_stage.cases, "tmux")):
         if found:
             cases += more()

@@ -212,7 +212,7 @@ def colours(program: str, folder: str) -> list[str]:
             for page in (path, play):
                 browser.open(page, "#20")
                 papers.add(browser.value("getComputedStyle(document.body).backgroundColor"))
-                wrong += [f"{'dark' if dark else 'light'}: {name} stands out by {ratio:.2f} alone" for name, ratio in browser.value(LUMINANCE) if ratio < 4]
+                wrong += [f"{'dark' if dark else 'light'}: {name} stands out by {ratio:.2f} alone" for name, ratio in browser.value(LUMINANCE) if ratio < 4.5]
             kinds = browser.value("['m', 'o', 't'].map(k => (s => [s.fontWeight, s.borderLeftWidth].join())(getComputedStyle(document.querySelector('.cell.' + k))))")
             if kinds[2] in kinds[:2]:
                 wrong.append("moves differ from tracked levels by colour alone")

@@ -124,7 +124,7 @@ def bars(program: str, folder: str) -> list[str]:
             seen.add(tuple(screen))
             time.sleep(0.3)
         terminal.until(r"universe 1  8\.00 s .*closed", 40)
-        screen = terminal.until(r"^before")
+        screen = terminal.until(r"^before$")
         wrong += wrong_bars(program, screen)
     text = "\n".join(screen)
     wrong += ["the last stage isn't below what was there"] * ("before" not in text.split("universe 1")[0]) + ["nothing moved"] * (len(seen) < 4)
@@ -144,8 +144,8 @@ def interrupt(program: str, folder: str) -> list[str]:
         wrong += wrong_bars(program, screen) + [f"{line!r} is too long" for line in screen if len(line) > 50]
         terminal.type("", "C-c")
         terminal.type("echo status $?")
-        screen = terminal.until("^status")
-        wrong += [] if "status 130" in screen else ["the status isn't 130"]
+        screen = terminal.until(r"status \d+$")
+        wrong += [] if any("status 130" in line for line in screen) else ["the status isn't 130"]
         wrong += [] if any("before" in line for line in screen) or len(screen) >= 12 else ["what was there is gone"]
         terminal.type("stty -a")
         wrong += [] if any(" echo " in f" {line} " for line in terminal.until("icanon")) else ["the terminal doesn't echo"]
@@ -176,7 +176,7 @@ def grid(program: str, folder: str) -> list[str]:
             terminal.type("", "End")
             terminal.until(r"^ 481  ", 5)
             terminal.type("", "q")
-            terminal.until(r"^\$ ?$")
+            terminal.until(r"\$ ?$")
     return wrong
 
 
@@ -187,8 +187,8 @@ def script(program: str, folder: str) -> list[str]:
         screen = terminal.until(r" 1 █{10,}")
         wrong = wrong_bars(program, screen)
         terminal.type("", "q")
-        screen = terminal.until("^ended")
-        return wrong + ([] if "ended 0" in screen else [f"it ended so: {screen[-3:]}"])
+        screen = terminal.until(r"ended \d+$")
+        return wrong + ([] if any("ended 0" in line for line in screen) else [f"it ended so: {screen[-3:]}"])
 
 
 def lines(program: str, folder: str) -> list[str]:
