@@ -1,5 +1,5 @@
 //! Accepted commands that aren't published yet.
-ghost use Rattle.std.specs.Prelude.{◌≡◌, ◌+◌, ◌<◌, ◌≤◌, [], ◌∷◌, ◌++◌, length, OnOk, vec_len, vec_capacity};
+ghost use Rattle.std.specs.Prelude.{◌≡◌, ◌+◌, ◌<◌, ◌≤◌, [], ◌∷◌, ◌++◌, length, OnOk, vec_len, vec_capacity, OnErr};
 
 use lx_spec::Command;
 use std::alloc::{AllocError, Global};
