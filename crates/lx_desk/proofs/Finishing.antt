@@ -18,11 +18,11 @@ use Rattle.lx_desk.proofs.Inputs.{kept_is}
 -- a status that isn't that of a job that was done
 pub not_done : {K : Type 0} (reads reads' : ℕ) (writes wants : K → ℕ) (back : K → List ℕ) (output output' : K) (s : Status) → (IsDone s → ⊥)
     → Finishes reads reads' writes wants back output output' s
-not_done reads reads' writes wants back output output' s no = record {
-  reads_kept = λ done. absurd (no done);
-  writes_kept = λ done. absurd (no done);
-  wants_kept = λ done. absurd (no done);
-  handed_on = λ done. absurd (no done);
+not_done reads reads' writes wants back output output' s undone = record {
+  reads_kept = λ done. absurd (undone done);
+  writes_kept = λ done. absurd (undone done);
+  wants_kept = λ done. absurd (undone done);
+  handed_on = λ done. absurd (undone done);
 }
 
 pub all_done : {K : Type 0} (reads reads' : ℕ) (writes wants : K → ℕ) (back : K → List ℕ) (output output' : K) (s : Status) → reads' ≡ reads
@@ -74,9 +74,9 @@ pub other_not_done : (fault : ShowFault) (s : Status) → status_kept fault s �
 other_not_done fault s kept = kept_is fault s (λ f t. IsDone t → ⊥) kept (λ done. done) (λ done. done) (λ done. done)
 
 -- where its line was written, no read had failed
-pub refusal_reads : {A : Type 0} (h h' : Option (List ℕ)) (fault : ShowFault) (s : Status) (reads reads' : ℕ) → RefusedBy h h' fault s
-    → (Err {A = A} fault ≢ Err shows.ReadFault → reads' ≡ reads) → IsDone s → reads' ≡ reads
+pub refusal_reads : (h h' : Option (List ℕ)) (fault : ShowFault) (s : Status) (reads reads' : ℕ) → RefusedBy h h' fault s
+    → (fault ≢ shows.ReadFault → reads' ≡ reads) → IsDone s → reads' ≡ reads
 refusal_reads h h' fault s reads reads' by kept done = elim by [
-  | inl text ↦ kept (λ is. let same : fault ≡ shows.ReadFault = cc in let odd : shows.Text text.text ≡ shows.ReadFault = sym text.told ∙ same in cc)
+  | inl text ↦ kept (λ is. let odd : shows.Text text.text ≡ shows.ReadFault = sym text.told ∙ is in cc)
   | inr other ↦ absurd (other_not_done fault s other.is done)
 ]

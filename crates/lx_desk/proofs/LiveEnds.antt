@@ -99,7 +99,7 @@ module _ (form : Form) (universes : ℕ) where
               ∙ ap (λ v. v ++ (a.cut.next ++ rest)) (sym first));
           within = omega (arith, count, a.cut.within);
           fed = if_known left _ _ (if_both left _ _ a.cut.taken a.cut.fed) (λ rest p.
-              fed_behind (first_lines (length raws + n) x) took.bytes (first_lines n y) y (a.cut.next ++ rest) (length raws) n
+              fed_behind form (first_lines (length raws + n) x) took.bytes (first_lines n y) y (a.cut.next ++ rest) (length raws) n
               (length raws + n) refl first took.fed p.1 p.0);
           no_feed = subst (λ k. HasNoFeed (take (INPUT_BYTES - k) a.cut.next)) count a.cut.no_feed;
         };

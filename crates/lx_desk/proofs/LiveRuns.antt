@@ -247,15 +247,13 @@ module _ {K : Type 0} (holds : K → Option (List ℕ)) (back : K → List ℕ) 
       × (before + length (bytes_wanted bytes) ≤ INPUT_BYTES))
   order_at reads writes output_wants old new output output' bytes unread left held held' console (Ok tally) status.WriteFault tells a limit
       c = inr (
-    record { reads_kept = c.kept.0; writes_kept = c.kept.1; wants_kept = c.kept.2 },
-    to_end (λ told held_back. HasFailedOutlet told) bytes held held' console tally a tells,
-    limit,
-  )
+        record { reads_kept = c.kept.0; writes_kept = c.kept.1; wants_kept = c.kept.2 },
+        (to_end (λ told held_back. HasFailedOutlet told) bytes held held' console tally a tells, limit),
+      )
   order_at reads writes output_wants old new output output' bytes unread left held held' console (Ok tally) status.Memory tells a limit c =
       inr (
         record { reads_kept = c.kept.0; writes_kept = c.kept.1; wants_kept = c.kept.2 },
-        to_end LacksMemory bytes held held' console tally a (subst (λ k. LacksMemory results k) counted tells),
-        limit,
+        (to_end LacksMemory bytes held held' console tally a (subst (λ k. LacksMemory results k) counted tells), limit),
       )
   order_at reads writes output_wants old new output output' bytes unread left held held' console (Ok tally) status.Ok tells a limit c = tt
   order_at reads writes output_wants old new output output' bytes unread left held held' console (Ok tally) status.ShowRefused tells a limit

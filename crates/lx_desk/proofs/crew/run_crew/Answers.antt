@@ -21,12 +21,11 @@ pub returns-in-Ok-clause-cause : goal.returns-in-Ok-clause-cause
 returns-in-Ok-clause-cause g c = served_cause _ c.serve.result _ _ _ _ _ _ _ c.serve.ensures.read c.serve.ensures.write
 
 pub returns-in-Err-clause-words : goal.returns-in-Err-clause-words
-returns-in-Err-clause-words g c =
-    (
-      refused_words _ _ c.in-Err.fault c.refuse.result c.refuse.ensures.refused,
-      refused_live _ _ c.in-Err.fault c.refuse.result c.refuse.ensures.refused,
-      kept_places _ _ _ refl c.requires.full,
-    )
+returns-in-Err-clause-words g c = (
+  refused_words _ _ c.in-Err.fault c.refuse.result c.refuse.ensures.refused,
+  refused_live _ _ c.in-Err.fault c.refuse.result c.refuse.ensures.refused,
+  kept_places _ _ _ refl c.requires.full,
+)
 
 pub returns-in-Err-clause-ended : goal.returns-in-Err-clause-ended
 returns-in-Err-clause-ended g c =
@@ -54,7 +53,7 @@ pub returns-in-Err-clause-finished : goal.returns-in-Err-clause-finished
 returns-in-Err-clause-finished g c =
     let same = c.input-1.given.1 (sym (c.in-Err.ensures.same_reference ∙ c.new-lines.ensures.same_reference)) in
     let kept = λ (done : IsDone c.refuse.result). refusal_reads _ _ c.in-Err.fault c.refuse.result _ _ c.refuse.ensures.refused
-    c.in-Err.ensures.kept done ∙ ap g.I.Source.faults c.new-lines.ensures.source in
+    (λ other. c.in-Err.ensures.kept (λ is. other (cc))) done ∙ ap g.I.Source.faults c.new-lines.ensures.source in
     subst (λ v. Finishes (g.I.Source.faults c.args.input.now) (g.I.Source.faults v) g.K.Sink.faults g.K.Sink.wants g.K.Sink.back
     c.args.output.now c.refuse.new.output c.refuse.result) (sym same)
     (after_reads _ _ _ _ _ _ _ _ c.refuse.result kept (c.refuse.ensures.finished (g.I.Source.faults c.read_show.new.lines.source.now)))

@@ -19,7 +19,7 @@ returns-in-Ok-play-clause-usage g c = not_usage _ _ _ _ c.status_of_run.ensures
 pub returns-in-Ok-play-clause-outlets : goal.returns-in-Ok-play-clause-outlets
 returns-in-Ok-play-clause-outlets g c =
     let s = c.split_at_mut-used.ensures in
-    inr (are_played _ _ _ _ _ _ _ _ _ _ _ s.front s.front_len s.back c.in-Ok-play.ensures.played.outlets_are)
+    inr (are_played _ _ _ _ _ _ _ _ _ _ _ _ s.front s.front_len s.back c.in-Ok-play.ensures.played.outlets_are)
 
 pub returns-in-Ok-play-clause-ended : goal.returns-in-Ok-play-clause-ended
 returns-in-Ok-play-clause-ended g c =
@@ -31,7 +31,7 @@ returns-in-Ok-play-clause-ended g c =
     c.args.lines.now.taken bytes
     (g.S.Source.left c.play.new.lines.source.now) (g.O.Sink.holds c.args.output.now) (g.O.Sink.holds c.play.new.output) c.args.outlets.now
     (c.play.new.outlets ++ c.split_at_mut-used.result.1.now))) same
-    (has_played_live _ _ _ _ _ _ _ _ _ _ _ _ _ _ s.front s.front_len s.back p.unsent_is p.outlets_are _ _ _ _ _ _ _ _
+    (has_played_live _ _ _ _ _ _ _ _ _ _ _ _ _ _ _ s.front s.front_len s.back p.unsent_is p.outlets_are _ _ _ _ _ _ _ _
     c.status_of_run.ensures p.session_is c.in-Ok-play.ensures.limit)
 
 pub returns-in-Ok-play-clause-cause : goal.returns-in-Ok-play-clause-cause
@@ -63,7 +63,7 @@ returns-in-Ok-play-clause-order g c =
     (g.O.Sink.holds c.args.output.now) (g.O.Sink.holds c.play.new.output) c.args.outlets.now
     (c.play.new.outlets ++ c.split_at_mut-used.result.1.now)
     × (c.args.lines.now.taken + length (bytes_wanted bytes) ≤ INPUT_BYTES)))) same
-    (in_order _ _ _ _ _ _ _ _ _ _ _ _ _ _ s.front s.front_len s.back p.unsent_is p.outlets_are g.S.Source.faults g.O.Sink.faults
+    (in_order _ _ _ _ _ _ _ _ _ _ _ _ _ _ _ s.front s.front_len s.back p.unsent_is p.outlets_are g.S.Source.faults g.O.Sink.faults
     g.O.Sink.wants c.args.lines.now c.play.new.lines c.args.output.now c.play.new.output _ _ _ _ _ _ _ _
     c.status_of_run.ensures p.session_is c.in-Ok-play.ensures.limit c.in-Ok-play.ensures.cause)
 

@@ -16,7 +16,7 @@ returns-in-Ok-clause-ended g c =
     (λ bytes. HasLived c.play_live.result g.K.Sink.holds g.K.Sink.back g.K.Sink.faults g.K.Sink.wants c.args.universes c.args.form bytes
     (g.S.Source.left v)
     (g.O.Sink.holds c.args.output.now) (g.O.Sink.holds c.play_live.new.output) c.args.outlets.now c.play_live.new.outlets)) (sym same)
-    (live_ended c.args.form c.args.universes _ _ _ _ _ _ _ c.in-Ok.loaded _ _ _ _ _ _ c.play_live.result c.new-lines.ensures.unread
+    (live_ended c.args.form c.args.universes _ _ _ _ _ _ _ _ c.in-Ok.loaded _ _ _ _ _ _ c.play_live.result c.new-lines.ensures.unread
     c.new-lines.ensures.taken c.in-Ok.ensures.answer c.play_live.ensures.ended)
 
 pub returns-in-Err-clause-outlets : goal.returns-in-Err-clause-outlets
@@ -29,7 +29,7 @@ returns-in-Err-clause-ended g c =
     (λ bytes. HasLived c.refuse.result g.K.Sink.holds g.K.Sink.back g.K.Sink.faults g.K.Sink.wants c.args.universes c.args.form bytes
     (g.S.Source.left v)
     (g.O.Sink.holds c.args.output.now) (g.O.Sink.holds c.refuse.new.output) c.args.outlets.now c.args.outlets.now)) (sym same)
-    (refused_lived c.args.form c.args.universes _ _ _ _ c.new-lines.result c.read_show.new.lines _ _ _ _ c.in-Err.fault c.refuse.result
+    (refused_lived c.args.form c.args.universes _ _ _ _ _ c.new-lines.result c.read_show.new.lines _ _ _ _ c.in-Err.fault c.refuse.result
     c.new-lines.ensures.unread c.new-lines.ensures.taken c.in-Err.ensures.answer c.refuse.ensures.refused)
 
 pub returns-in-Ok-clause-order : goal.returns-in-Ok-clause-order
@@ -66,7 +66,7 @@ pub returns-in-Err-clause-finished : goal.returns-in-Err-clause-finished
 returns-in-Err-clause-finished g c =
     let same = c.in-Err.input-in-Err-1-own.given.1 (sym (c.in-Err.ensures.same_reference ∙ c.new-lines.ensures.same_reference)) in
     let kept = λ (done : IsDone c.refuse.result). refusal_reads _ _ c.in-Err.fault c.refuse.result _ _ c.refuse.ensures.refused
-    c.in-Err.ensures.kept done ∙ ap g.S.Source.faults c.new-lines.ensures.source in
+    (λ other. c.in-Err.ensures.kept (λ is. other (cc))) done ∙ ap g.S.Source.faults c.new-lines.ensures.source in
     subst (λ v. Finishes (g.S.Source.faults c.args.input.now) (g.S.Source.faults v) g.O.Sink.faults g.O.Sink.wants g.O.Sink.back
     c.args.output.now c.refuse.new.output c.refuse.result) (sym same)
     (after_reads _ _ _ _ _ _ _ _ c.refuse.result kept (c.refuse.ensures.finished (g.S.Source.faults c.read_show.new.lines.source.now)))

@@ -51,7 +51,7 @@ pub returns-in-Err-clause-finished : goal.returns-in-Err-clause-finished
 returns-in-Err-clause-finished g c =
     let same = c.input-1.given.1 (sym (c.in-Err.ensures.same_reference ∙ c.new-lines.ensures.same_reference)) in
     let kept = λ (done : IsDone c.refuse.result). refusal_reads _ _ c.in-Err.fault c.refuse.result _ _ c.refuse.ensures.refused
-    c.in-Err.ensures.kept done ∙ ap g.S.Source.faults c.new-lines.ensures.source in
+    (λ other. c.in-Err.ensures.kept (λ is. other (cc))) done ∙ ap g.S.Source.faults c.new-lines.ensures.source in
     subst (λ v. Finishes (g.S.Source.faults c.args.input.now) (g.S.Source.faults v) g.K.Sink.faults g.K.Sink.wants g.K.Sink.back
     c.args.output.now c.refuse.new.output c.refuse.result) (sym same)
     (after_reads _ _ _ _ _ _ _ _ c.refuse.result kept (c.refuse.ensures.finished (g.S.Source.faults c.read_show.new.lines.source.now)))
