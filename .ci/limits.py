@@ -13,7 +13,7 @@ class Started(subprocess.Popen):
 
 
 def within(seconds, run, *given):
-    """What went wrong in a run; where it takes longer than so many seconds, or a call of the system fails, that alone."""
+    """What went wrong in a run; where it takes longer than the seconds given, or a call of the system fails, that alone."""
     def end(number, frame):
         raise TimeoutError
 

@@ -109,7 +109,7 @@ def many_commits(program):
 
 
 def very_many_commands(program):
-    """66,000 commands, which is more than 16 bits count. Each line has the level that the master had after so many of them."""
+    """66,000 commands, which is more than 16 bits count. Each line has the level that the master had after as many of them as its count says."""
     masters = [255 - n * 7 % 251 for n in range(1, 66_000)]
     cells = ["", " 1=255", *(f" 1={level}" for level in masters)]
     script = b"".join([SHOW.replace(b"H80", b"FL"), b"go\n", *(b"master at H%02X\n" % level for level in masters)])

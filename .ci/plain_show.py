@@ -75,7 +75,7 @@ def level(token):
 
 
 def scaled(text, decimals):
-    """Digits with decimals, in the units that so many decimals have; further ones are cut off."""
+    """Digits with decimals, in the unit of the last decimal; further ones are cut off."""
     before, _, after = text.partition(b".")
     return int((before or b"0") + (after + b"0" * decimals)[:decimals])
 

@@ -101,7 +101,7 @@ def edge_cases():
         *[Case(f"status 3 of {' '.join(words)} on a folder", b"", "", status=3, words=words, folder=True)
           for words in (("check",), ("check", "states"), ("sheet",), ("sheet", "states"), ("render", "states"), ("run", "1"),
                         ("run", "1", "states"), ("undo",), ("undo", "states"), ("two",), ("two", "states"))],
-        Case("status 5 for lack of memory", "IDENT 3:0\nSET CHANNELS 4096\nENDDATA\ngo\n", "", status=5, memory=3 << 20),
+        Case("status 5 where memory runs out", "IDENT 3:0\nSET CHANNELS 4096\nENDDATA\ngo\n", "", status=5, memory=3 << 20),
         Case("status 6 for an input that is too long", b"\n" * INPUT_BYTES + b"X", "", status=6),
         Case("status 6 for a script that is too long", (ONE_CUE + "go\n").encode() + b"!" * INPUT_BYTES, "ok\n", status=6),
         Case("an input of the greatest length is read to its end", b"\n" * INPUT_BYTES, f"show NoEndData {INPUT_BYTES + 1}\n", status=1),
@@ -503,7 +503,7 @@ GROWING = [line for n in range(2, 26) for line in [f"cue {n}", f"set {n} chan 1 
 
 
 def under(program, limit):
-    """Status, replies and standard error of the edits above with so many bytes of memory."""
+    """Status, replies and standard error of the edits above with n bytes of memory."""
     run = subprocess.run([program, "render"], input=(GREAT_RIG + "\n".join(GROWING)).encode(), stdout=subprocess.PIPE, stderr=subprocess.PIPE,
                          timeout=TIME_LIMIT, preexec_fn=lambda: resource.setrlimit(resource.RLIMIT_DATA, (limit, limit)))
     return run.returncode, run.stdout.decode("latin-1").splitlines(), run.stderr
@@ -532,7 +532,7 @@ def replies_but(refused):
 
 
 def wrong_under(program, limit):
-    """What is wrong with so many bytes of memory."""
+    """What is wrong with n bytes of memory."""
     status, replies, error = under(program, limit)
     refused = frozenset(k for k, reply in enumerate(replies) if is_refused(reply))
     wanted = replies_but(refused)
@@ -617,7 +617,7 @@ def built_program():
                if os.sep + "out" not in folder for name in files if name.endswith((".rt", ".antt"))]
     newest = max(os.path.getmtime(name) for name in sources + [os.path.join(TOP, "crates.txt")])
     if not os.path.exists(program) or os.path.getmtime(program) < newest:
-        subprocess.run([os.path.join(TOP, "cuedesk")], stdin=subprocess.DEVNULL, stderr=subprocess.DEVNULL)
+        subprocess.run([os.path.join(TOP, "cuedesk")], stdin=subprocess.DEVNULL, stderr=subprocess.DEVNULL, env={**os.environ, "CUEDESK_BUILD": "1"})
     return program
 
 

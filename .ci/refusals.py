@@ -167,9 +167,9 @@ class Refuser:
 
 
 def without_refused(words, data, output):
-    """What the rules give where the edits that wanted memory in vain were never asked for, with their answers in place."""
+    """What the rules give where the edits that ran out of memory were never asked for, with their answers in place."""
     if words[0] == "make":
-        # (an edit that wanted memory in vain is counted, and nothing more is told of it)
+        # (an edit that ran out of memory is counted, and nothing more is told of it)
         return MADE if b"refused 0" in output or not output.endswith(b"\n") else output
     if words[0] not in ("render", "run", "undo", "two") or b"refused Memory\n" not in output:
         return plain_desk.output(words, data)[1]

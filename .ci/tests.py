@@ -41,8 +41,9 @@ def copied(copy, folders):
     stands_on = {}
     with open(os.path.join(TOP, "crates.txt")) as listed:
         for line in listed:
-            if not line.startswith("#"):
-                name, below = line.split(":")
+            name, _, below = line.partition(":")
+            # On a static library no crate can stand, a crate of tests neither.
+            if not line.startswith("#") and "staticlib" not in name.split():
                 stands_on[name] = [name, *below.split()]
     tested = dict.fromkeys(folder.split(".")[0] for folder in folders)
     needed = dict.fromkeys(it for crate in tested for it in [*stands_on[crate], *ALSO.get(crate, [])])

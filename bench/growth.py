@@ -21,7 +21,7 @@ def levels(first, last, turn):
 
 
 def cues(count):
-    """So many cues, one less at the limit, that each move 256 channels, others than their neighbours."""
+    """A number of cues, one less at the limit, that each move 256 channels, others than their neighbours."""
     text = HEAD[:]
     for n in range(1, min(count, CUES - 1) + 1):
         first = 1 + n * 256 % (CHANNELS - 256)
@@ -30,7 +30,7 @@ def cues(count):
 
 
 def reading(program, count):
-    """A level of a line of eight in the last cue, with so many cues before."""
+    """A level of a line of eight in the last cue, with a number of cues before it."""
     lines = 100000
     more = ['CHAN ' + ' '.join('%d@%d' % (1 + (at * 8 + i) % CHANNELS, (at + i) % 101) for i in range(8)) for at in range(lines)]
     before = cues(count)
@@ -39,7 +39,7 @@ def reading(program, count):
 
 
 def edit(word):
-    """An edit of a kind, in a show of so many cues."""
+    """An edit of a kind, in a show of a number of cues."""
     def of(program, count):
         lines = 20000
         show = '\n'.join(cues(count) + ['ENDDATA', ''])
@@ -54,7 +54,7 @@ def edit(word):
 
 
 def fading(program, count):
-    """A tick in which so many channels fade, of 4,096."""
+    """A tick in which a number of the 4,096 channels fade."""
     lines = 20000
     show = HEAD[:]
     for n in (1, 2):
@@ -64,21 +64,21 @@ def fading(program, count):
 
 
 def runs(program, count):
-    """A tick with so many live runs of a cue that moves 100 channels, each waiting for most of an hour."""
+    """A tick with a number of live runs of a cue that moves 100 channels, each waiting for most of an hour."""
     lines = 300000
     show = HEAD + ['CUE 1', 'UP 1 50:00', 'DOWN 1 50:00'] + levels(1, 100, 1) + ['ENDDATA'] + ['goto 1'] * count + ['']
     return line_time(program, '\n'.join(show), ['tick'] * lines, ['quit'])
 
 
 def frames(program, count):
-    """A frame line in which so many slots are lit, with nothing moving."""
+    """A frame line in which a number of slots are lit, with nothing moving."""
     lines = 50000
     show = HEAD + ['PATCH 1 %d<%d@FL' % (d, d) for d in range(1, count + 1)] + ['CUE 1', 'UP 0'] + levels(1, count, 3) + ['ENDDATA', 'go', '']
     return line_time(program, '\n'.join(show), ['frame'] * lines, ['quit'])
 
 
 def script(program, count):
-    """A refused key, in a script of so many."""
+    """A refused key, in a script of a number of them."""
     return line_time(program, 'IDENT 3:0\nENDDATA\n', ['go'] * count, ['quit'])
 
 

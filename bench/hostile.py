@@ -19,7 +19,7 @@ IDENT, END = b"IDENT 3:0\n", b"ENDDATA\n"
 
 
 class Repeated:
-    """A front, a piece so many times, and an end: more bytes than this script holds at once, so that its own memory isn't taken for the program's."""
+    """A front, a piece again and again, and an end: more bytes than this script holds at once, so that its own memory isn't taken for the program's."""
 
     def __init__(self, front=b"", piece=b"", count=0, end=b""):
         self.front, self.piece, self.count, self.end = front, piece, count, end
@@ -85,7 +85,7 @@ def texts():
     yield "comments alone", "check", filled(IDENT, b"! a comment\n", END), 0, shown(0)
     skipped = filled(IDENT, b"NOISE\n", END)
     yield "lines that are skipped", "check", skipped, 0, shown(0, skipped=skipped.count, first=2)
-    yield "two dimmers patched anew", "check", filled(IDENT, b"PATCH 1 1<8192@50 1<1@50\n", END), 0, shown(0)
+    yield "two dimmers patched again", "check", filled(IDENT, b"PATCH 1 1<8192@50 1<1@50\n", END), 0, shown(0)
     yield "a line without an end", "check", filled(IDENT, b"x"), 1, Repeated(b"show LineTooLong 2\n")
     bad = filled(IDENT + END, b"fly\n")
     yield "a script of bad lines", "render", bad, 0, Repeated(piece=b"bad\n", count=bad.count)

@@ -60,7 +60,7 @@ def mixing(program, count):
 
 
 def full_show(lacking=0):
-    """Each cue moves all channels but the first so many."""
+    """Each cue moves all channels but a number of the first."""
     text = ['IDENT 3:0', 'SET CHANNELS 2048']
     for n in range(1, 2000):
         text.append('CUE %d' % n)

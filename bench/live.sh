@@ -2,7 +2,7 @@
 # A live run of 3,000 ticks over 16 universes that are all under way, beside `render` of the same script with a frame line after each tick,
 # both in memory: a copy of the program is built whose `main` keeps output and outlets, and tells how long the job took. The live run is
 # played with a pace of none, and once with beats of a millisecond, by which the workers wait when a tick comes: then the engine's own time
-# from beat to beat is told. The copy stands on the proofs of the crates here (`rt all check` first); only its `main` is proved anew.
+# from beat to beat is told. The copy stands on the proofs of the crates here (`rt all check` first); only its `main` is proved again.
 # Run by hand on a quiet machine. `bench/live.sh files` instead plays 500 ticks by the program itself, into files, at its own pace.
 # `bench/live.sh pace [PROGRAM]` plays 3,000 ticks, a minute of show, at the program's own pace, alone and then beside two busy processes for each
 # processor, and says how late each moment of the show came by the machine's steady clock, beside the one that came earliest.
@@ -65,8 +65,8 @@ text = open(path).read()
 head = text[:text.index('fn main(rt')].replace('use lx_io::{BufferedSink, Sink, StdSink, StdSource};', 'use lx_io::{Pace, PlainSink, StdSource};')
 head = head.replace('use std::alloc::Global;\n', 'use std::alloc::Global;\nuse std::sync::atomic::AtomicU64;\nuse std::sync::atomic::Ordering::SeqCst;\nuse std::thread;\n')
 head = head.replace('use std::process::ExitCode;\n', 'use std::process::ExitCode;\nuse std::time::{Duration, Instant};\n')
-head = head.replace('use lx_files::{DeskPace, files, scripts};\n', '')
-open(path, 'w').write(head + '''/// A pace whose beats take so many microseconds, and which counts the engine's own time from beat to beat.
+head = head.replace('use lx_program::{DeskPace, files, scripts};\n', '')
+open(path, 'w').write(head + '''/// A pace whose beats take a number of microseconds, and which counts the engine's own time from beat to beat.
 #[derive(Drop)]
 struct Timed<'r> {
     rt: &'r HostRuntime,

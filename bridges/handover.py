@@ -3,7 +3,7 @@
     handover = HandOver(say=print)
     handover.give(1, levels)        # 512 bytes, the newest frame of universe 1
     handover.turn()                 # whenever handover.connection can be read, or handover.due() seconds have gone by
-    late = handover.finish(5)       # waits until olad took the newest frame of each universe, for so many seconds at most
+    late = handover.finish(5)       # waits until olad took the newest frame of each universe, for that many seconds at most
 
 An olad is never started here.
 """
@@ -112,7 +112,7 @@ class HandOver:
         return self._lanes[universe].refused or "olad didn't answer"
 
     def finish(self, seconds: float) -> List[int]:
-        """Waits until olad has taken the newest frame of each universe, for so many seconds at most, and answers those that are late."""
+        """Waits until olad has taken the newest frame of each universe, for at most the seconds given, and answers those that are late."""
         end = time.monotonic() + seconds
         while self.late() and (left := end - time.monotonic()) > 0:
             due = self.due()

@@ -132,7 +132,7 @@ class Bridge:
     """The outlets of a live run on one side, olad on the other."""
 
     def __init__(self, outlets: List[Outlet], handover: "HandOver", seconds: float) -> None:
-        """Once an outlet has ended, those that haven't begun have so many seconds to."""
+        """Once an outlet has ended, those that haven't begun have these seconds to."""
         self._open = list(outlets)
         self._begun: Set[Outlet] = set()
         self._handover = handover

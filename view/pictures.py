@@ -3,10 +3,11 @@
 
     view/pictures.py [--program PATH] [--only NAME]
 
-Pages are taken by Chromium, the stage in tmux (`aha` makes a page of its colours); pngquant and optipng make them small. What each
-picture was made of is kept in docs/pictures/sources.txt, which view/test.py compares.
+Pages are taken by Chromium, the stage and the operator's seat in tmux (`aha` makes a page of its colours); pngquant and optipng make them
+small. What each picture was made of is kept in docs/pictures/sources.txt, which view/test.py compares.
 """
 import argparse
+import glob
 import hashlib
 import os
 import shutil
@@ -51,7 +52,17 @@ class Live:
     rows: int
 
 
-MAKES: dict[str, "Page | Plot | Live"] = {
+@dataclass
+class Seat:
+    """The operator's seat over a show: keys, each once a text stands on the screen, and the text that is waited for at the end."""
+    show: str
+    keys: list[tuple[str, str]]
+    until: str
+    columns: int
+    rows: int
+
+
+MAKES: dict[str, "Page | Plot | Live | Seat"] = {
     "rehearsal.png": Page(["play.asc"], 861, before="document.getElementById('lines').hidden = true"),
     "dark.png": Page(["play.asc"], 1475, dark=True, before="document.getElementById('lines').hidden = true"),
     "tracking.png": Page(["tracking.asc"], 3, GRID, width=800),
@@ -67,6 +78,8 @@ MAKES: dict[str, "Page | Plot | Live"] = {
     "lists.svg": Plot(["lists.asc", "two.txt", "--job", "two"]),
     "stage.png": Live("live.asc", 2, r"universe 1  4\.[5-9]", 84, 8),
     "grid.png": Live("wash.asc", 1, r"universe 1  5\.[5-9]", 106, 18),
+    "seat.png": Seat("play.asc", [("last tick", "Space"), (r" 1 Preset .* [1-4]\.\d of", "Space"), (r" 2 House .* [2-3]\.\d of", "b"), ("back: ok", "b"),
+                                  ("NoCueBefore", "g"), ("goto", "3"), ("goto 3", "Enter")], r" 3 She enters .* [2-4]\.\d of", 104, 34),
 }
 
 
@@ -85,8 +98,16 @@ def view(program: str, name: str, words: list[str]) -> bytes:
     return subprocess.run([sys.executable, os.path.join(TOP, "view", name), *words_of(words), "--program", program], stdout=subprocess.PIPE, check=True).stdout
 
 
-def source(program: str, make: "Page | Plot | Live") -> bytes:
+def seat_sources() -> list[str]:
+    """The files of the operator's seat."""
+    bridges = os.path.join(TOP, "bridges")
+    return [os.path.join(bridges, "desk.py"), *sorted(glob.glob(os.path.join(bridges, "seat", "*.py")))]
+
+
+def source(program: str, make: "Page | Plot | Live | Seat") -> bytes:
     """All that a picture is made of."""
+    if isinstance(make, Seat):
+        return b"".join(open(path, "rb").read() for path in [example(make.show), *seat_sources()]) + repr(make).encode()
     if isinstance(make, Live):
         with open(example(make.show), "rb") as show, open(STAGE, "rb") as stage:
             return show.read() + stage.read() + repr(make).encode()
@@ -98,7 +119,7 @@ def sum_of(data: bytes) -> str:
     return hashlib.sha256(data).hexdigest()[:16]
 
 
-def take(program: str, make: "Page | Plot | Live", data: bytes, path: str, folder: str) -> None:
+def take(program: str, make: "Page | Plot | Live | Seat", data: bytes, path: str, folder: str) -> None:
     """Makes one picture."""
     if isinstance(make, Plot):
         with open(path, "wb") as file:
@@ -111,17 +132,34 @@ def take(program: str, make: "Page | Plot | Live", data: bytes, path: str, folde
             browser.open(page, f"#{make.moment}")
             browser.value(make.before or "0")
             browser.picture(path, make.part, 16 if make.part == Page.part else 2)
+    elif isinstance(make, Seat):
+        seat(make, path, folder)
     else:
-        screen(program, make, path, folder)
+        stage(program, make, path, folder)
 
 
-def screen(program: str, make: Live, path: str, folder: str) -> None:
+def stage(program: str, make: Live, path: str, folder: str) -> None:
     """Takes the stage while a run goes on."""
     with Terminal(make.columns, make.rows) as terminal:
         start(terminal, program, outlets(folder, os.path.basename(path), make.universes), example(make.show), make.universes)
-        terminal.until(make.until)
-        text = terminal.tmux("capture-pane", "-t", "a", "-pe")
-        terminal.type("", "C-c")
+        screen(terminal, make.until, path, folder)
+
+
+def seat(make: Seat, path: str, folder: str) -> None:
+    """Takes the operator's seat while a show is played."""
+    with Terminal(make.columns, make.rows) as terminal:
+        terminal.type(f"{sys.executable} {seat_sources()[0]} {example(make.show)}")
+        for until, key in make.keys:
+            terminal.until(until)
+            terminal.type("", key)
+        screen(terminal, make.until, path, folder, "-peN")
+
+
+def screen(terminal: Terminal, until: str, path: str, folder: str, how: str = "-pe") -> None:
+    """Takes a terminal once a text stands there; with N in `how` rows are as long as it is wide."""
+    terminal.until(until)
+    text = terminal.tmux("capture-pane", "-t", "a", how)
+    terminal.type("", "C-c")
     page = os.path.join(folder, "screen.html")
     with open(page, "wb") as file:
         file.write(subprocess.run(["aha", "--black"], input=text.rstrip().encode(), stdout=subprocess.PIPE, check=True).stdout.replace(b"<pre>", b"<pre style='display: inline-block; margin: 8px; font-family: DejaVu Sans Mono'>"))

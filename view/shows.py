@@ -8,7 +8,7 @@ import subprocess
 from dataclasses import dataclass, field
 
 TOP = os.path.dirname(os.path.dirname(os.path.abspath(__file__)))
-BUILT = os.path.join(TOP, "crates/cuedesk/out/cuedesk")
+LAUNCHER = os.path.join(TOP, "cuedesk")
 SEPARATORS = re.compile("[ \t,;/<=>@]+")
 LONGEST_LINE = 4096
 
@@ -59,14 +59,14 @@ class Program:
 
 
 def default_program() -> str:
-    """The program as the launcher leaves it, which is asked of an empty show; it builds the program first where that is needed."""
+    """The launcher, which is asked of an empty show; it builds the program first where that is needed."""
     try:
-        asked = subprocess.run([os.path.join(TOP, "cuedesk"), "check"], stdin=subprocess.DEVNULL, stdout=subprocess.PIPE, check=False)
+        asked = subprocess.run([LAUNCHER, "check"], stdin=subprocess.DEVNULL, stdout=subprocess.PIPE, check=False)
     except OSError as error:
         raise ViewError(f"./cuedesk can't be run: {error.strerror}") from error
     if asked.stdout != b"show NoEndData 1\n":
         raise ViewError("the program isn't built, and ./cuedesk couldn't build it")
-    return BUILT
+    return LAUNCHER
 
 
 @dataclass

@@ -10,6 +10,7 @@ import traceback
 
 import rig
 import ola_tests
+import seat_tests
 
 
 def main() -> int:
@@ -19,10 +20,13 @@ def main() -> int:
     parser.add_argument("--only", default="")
     given = parser.parse_args()
     if not os.path.exists(given.program):
-        parser.error(f"there is no {given.program}: ./cuedesk builds it")
+        parser.error(f"there is no {given.program}: CUEDESK_BUILD=1 ./cuedesk builds it")
     rig.made_space()
     passed = failed = 0
-    for test in ola_tests.TESTS:
+    lacking = seat_tests.lacking()
+    if lacking:
+        print(f"bridges: the seat wasn't tested: {lacking}")
+    for test in ola_tests.TESTS + ([] if lacking else seat_tests.TESTS):
         name = test.__name__.replace("_", " ")
         if given.only not in name:
             continue

@@ -24,7 +24,7 @@ def show(cues: List[str]) -> str:
 
 
 def played(seconds: int) -> bytes:
-    """A show that fades for so many seconds, cue after cue, and the script that plays it."""
+    """A show that fades for a number of seconds, cue after cue, and the script that plays it."""
     return (show(["UP 1\nDOWN 1"] * seconds) + "go\ntick 50\n" * seconds).encode()
 
 
@@ -352,10 +352,8 @@ def pipes_are_left_as_they_were(_program: str) -> List[str]:
 def what_keeps_the_bridge_from_beginning(_program: str) -> List[str]:
     """A file where a pipe is to be, a folder that isn't there, words that name no universes."""
     wrong = []
-    with tempfile.TemporaryDirectory() as folder:
-        path = os.path.join(folder, "universe-2.txt")
-        with open(path, "w") as file:
-            file.write("frame 0 0 2\n")
+    with rig.written("universe-2.txt", "frame 0 0 2\n") as path:
+        folder = os.path.dirname(path)
         for line, part in (("2", "no named pipe"), ("1 --folder /nowhere", "No such file"), ("0", "from 1 to 32"), ("33", "from 1 to 32"), ("x", "invalid int")):
             words = [rig.PYTHON, os.path.join(rig.BRIDGES, "ola.py"), *line.split()]
             run = subprocess.run(words, cwd=folder, capture_output=True, text=True, timeout=rig.SECONDS)

@@ -2,6 +2,7 @@
 
 Everything here runs inside the name space that test.sh makes, which has no interface but loopback and one that leads nowhere.
 """
+import contextlib
 import os
 import select
 import signal
@@ -11,7 +12,7 @@ import sys
 import tempfile
 import threading
 import time
-from typing import Dict, List, Optional, Tuple
+from typing import Dict, Iterator, List, Optional, Tuple
 
 BRIDGES = os.path.dirname(os.path.dirname(os.path.abspath(__file__)))
 TOP = os.path.dirname(BRIDGES)
@@ -25,6 +26,17 @@ DUMMY, ART_NET, E131 = 1, 2, 11
 
 sys.path[:] = [folder for folder in sys.path if os.path.abspath(folder) != BRIDGES]
 from ola.OlaClient import OlaClient  # noqa: E402
+
+
+@contextlib.contextmanager
+def written(name: str, text: str) -> Iterator[str]:
+    """A file of this text in a folder of its own, for as long as it is needed: its path."""
+    with tempfile.TemporaryDirectory() as folder:
+        path = os.path.join(folder, name)
+        with open(path, "w") as file:
+            file.write(text)
+        yield path
+
 
 
 def made_space() -> None:
@@ -44,7 +56,7 @@ class Olad:
     """olad as loopback.sh starts it, as its package's own user, but with Dummy and E1.31 beside Art-Net."""
 
     def __init__(self, ports: List[Tuple[int, int, int]], universes: int = 4) -> None:
-        """Output ports as (plugin, port, universe); E1.31 and Art-Net have so many."""
+        """Output ports as (plugin, port, universe); E1.31 and Art-Net have `universes` of them."""
         self.folder = tempfile.mkdtemp(prefix="olad-")
         os.chmod(self.folder, 0o755)
         self.process: Optional[subprocess.Popen] = None

@@ -4,7 +4,7 @@ use Rattle.std.specs.declared.option.Option.{Option}
 use Rattle.std.proofs.lemmas.Option.{same_Some}
 use Rattle.lx_crew.specs.OperatorWorks.{EachAt}
 use Rattle.lx_workers.specs.Places.{IsFull}
-use Rattle.lx_files.specs.Places.{AreFilled}
+use Rattle.lx_program.specs.Places.{AreFilled}
 
 pub full : {A : Type 0} (places : List (Option A)) → AreFilled places → IsFull places
 full [] filled = tt

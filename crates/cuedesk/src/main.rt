@@ -3,10 +3,11 @@
 #![tactic(auto)]
 
 use lx_desk::Status;
-use lx_files::{DeskPace, files, scripts};
 use lx_io::{BufferedSink, Sink, StdSink, StdSource};
-use lx_program::{WordsFault, desk, desk_crew, desk_live, exit_of, words_of};
-use lx_spec::Job;
+use lx_program::{
+    DeskPace, WordsFault, desk, desk_crew, desk_live, exit_of, files, scripts, words_of,
+};
+use lx_spec::{Job, ScriptKind};
 use std::alloc::Global;
 use std::process::ExitCode;
 use std::{env, io};
@@ -61,7 +62,7 @@ fn main(rt: HostRuntime) -> ExitCode {
             let mut operators = scripts(&rt, alloc);
             desk_crew(&rt, alloc, &words, &mut input, &mut output, &mut operators)
         }
-        Ok(Job::Run(..)) => {
+        Ok(Job::Script(ScriptKind::Live(_), _)) => {
             let mut outlets = files(&rt, alloc);
             desk_live(
                 &rt,

@@ -1,6 +1,6 @@
 //! Numbers of channels, and ranges of them.
 
-ghost use Rattle.std.specs.Prelude.{◌≡◌, ◌≤◌, ◌↔◌, IsSome, IfSome};
+ghost use Rattle.std.specs.Prelude.{◌≡◌, ◌≤◌, ◌<◌, ◌+◌, ◌-◌, ◌↔◌, IsSome, IfSome};
 
 use crate::CHANNELS;
 use std::marker::Model;
@@ -37,6 +37,25 @@ impl Chan {
         } else {
             None
         }
+    }
+
+    /// The channel of a place in a row of all channels: channel 1 stands at place 0.
+    pub fn at(place: usize) -> Self
+        requires place { place < CHANNELS }
+        ensures value { result ≡ place + 1 }
+    {
+        Chan {
+            value: (place + 1) as u16,
+        }
+    }
+
+    /// The channel's place in a row of all channels, from 0 on: one below its number.
+    pub fn place(self) -> usize
+        ensures value { result ≡ self - 1 }
+        ensures back { result + 1 ≡ self }
+        ensures within { result < CHANNELS }
+    {
+        self.value as usize - 1
     }
 
     /// The number, from 1 to `CHANNELS`.

@@ -6,10 +6,9 @@ use Rattle.lx_spec.specs.Show.{Show, Sub, InRange}
 use Rattle.lx_spec.specs.Output.{contribution}
 use Rattle.lx_spec.proofs.Columns.{level-columns}
 use Rattle.lx_edit.specs.declared.plans.Plan.{Plan}
-use Rattle.lx_edit.specs.declared.plans.Plan.TheVariants.{Nothing, PlaceCue, PlaceMove, PlaceMoves, PlaceCues, RemoveCue, PlaceGroup, RemoveGroup}
-use Rattle.lx_edit.specs.declared.plans.Plan.TheVariants.{PlaceSub, RemoveSub, PlaceRow, RemoveRow}
+use Rattle.lx_edit.specs.declared.plans.Plan.TheVariants as plans
 use Rattle.lx_edit.specs.CueChanges.{KeepsOthers}
-use Rattle.lx_edit.specs.PlanMeaning.{planned, dimmer_planned, plans_sub}
+use Rattle.lx_edit.specs.PlanMeaning.{IsReady, planned, dimmer_planned, plans_sub}
 use Rattle.lx_edit.specs.declared.chan_set.ChanSet.{ChanSet}
 use Rattle.lx_edit.specs.ChanSet.{has_chan}
 use Rattle.lx_levels.specs.Stacks.{Kept as Levels}
@@ -21,76 +20,50 @@ use Rattle.lx_spec.proofs.SortedLists.{entry_at-placed_other}
 
 -- a plan leaves the channel count
 pub same_channels : (show : Show) (plan : Plan) → (planned show plan).channels ≡ show.channels
-same_channels show Nothing = refl
-same_channels show (PlaceCue cue None) = refl
-same_channels show (PlaceCue cue (Some above)) = refl
-same_channels show (PlaceMove n entry) = refl
-same_channels show (PlaceMoves n moves within) = refl
-same_channels show (PlaceCues cue None) = refl
-same_channels show (PlaceCues cue (Some above)) = refl
-same_channels show (RemoveCue n None) = refl
-same_channels show (RemoveCue n (Some above)) = refl
-same_channels show (PlaceGroup group) = refl
-same_channels show (RemoveGroup g) = refl
-same_channels show (PlaceSub sub) = refl
-same_channels show (RemoveSub s) = refl
-same_channels show (PlaceRow row) = refl
-same_channels show (RemoveRow e) = refl
+same_channels show plans.Nothing = refl
+same_channels show (plans.Cue n to None keeps) = refl
+same_channels show (plans.Cue n to (Some above) keeps) = refl
+same_channels show (plans.Move n entry) = refl
+same_channels show (plans.Moves n moves within) = refl
+same_channels show (plans.Group g to) = refl
+same_channels show (plans.Sub s to) = refl
+same_channels show (plans.Row e to) = refl
 
 -- a plan that changes no submaster leaves them
 pub same_subs : (show : Show) (plan : Plan) → plans_sub plan ≡ false → (planned show plan).subs ≡ show.subs
-same_subs show Nothing clean = refl
-same_subs show (PlaceCue cue None) clean = refl
-same_subs show (PlaceCue cue (Some above)) clean = refl
-same_subs show (PlaceMove n entry) clean = refl
-same_subs show (PlaceMoves n moves within) clean = refl
-same_subs show (PlaceCues cue None) clean = refl
-same_subs show (PlaceCues cue (Some above)) clean = refl
-same_subs show (RemoveCue n None) clean = refl
-same_subs show (RemoveCue n (Some above)) clean = refl
-same_subs show (PlaceGroup group) clean = refl
-same_subs show (RemoveGroup g) clean = refl
-same_subs show (PlaceSub sub) clean = cc
-same_subs show (RemoveSub s) clean = cc
-same_subs show (PlaceRow row) clean = refl
-same_subs show (RemoveRow e) clean = refl
+same_subs show plans.Nothing clean = refl
+same_subs show (plans.Cue n to None keeps) clean = refl
+same_subs show (plans.Cue n to (Some above) keeps) clean = refl
+same_subs show (plans.Move n entry) clean = refl
+same_subs show (plans.Moves n moves within) clean = refl
+same_subs show (plans.Group g to) clean = refl
+same_subs show (plans.Sub s to) clean = cc
+same_subs show (plans.Row e to) clean = refl
 
 -- a plan that changes no patch row leaves them
 pub same_patch : (show : Show) (plan : Plan) → dimmer_planned plan ≡ None → (planned show plan).patch ≡ show.patch
-same_patch show Nothing clean = refl
-same_patch show (PlaceCue cue None) clean = refl
-same_patch show (PlaceCue cue (Some above)) clean = refl
-same_patch show (PlaceMove n entry) clean = refl
-same_patch show (PlaceMoves n moves within) clean = refl
-same_patch show (PlaceCues cue None) clean = refl
-same_patch show (PlaceCues cue (Some above)) clean = refl
-same_patch show (RemoveCue n None) clean = refl
-same_patch show (RemoveCue n (Some above)) clean = refl
-same_patch show (PlaceGroup group) clean = refl
-same_patch show (RemoveGroup g) clean = refl
-same_patch show (PlaceSub sub) clean = refl
-same_patch show (RemoveSub s) clean = refl
-same_patch show (PlaceRow row) clean = cc
-same_patch show (RemoveRow e) clean = cc
+same_patch show plans.Nothing clean = refl
+same_patch show (plans.Cue n to None keeps) clean = refl
+same_patch show (plans.Cue n to (Some above) keeps) clean = refl
+same_patch show (plans.Move n entry) clean = refl
+same_patch show (plans.Moves n moves within) clean = refl
+same_patch show (plans.Group g to) clean = refl
+same_patch show (plans.Sub s to) clean = refl
+same_patch show (plans.Row e to) clean = cc
 
 -- a plan leaves the rows of the dimmers but the one that it names
-pub other_rows : (show : Show) (plan : Plan) (e : ℕ) → dimmer_planned plan ≢ Some e
+pub other_rows : (show : Show) (plan : Plan) (e : ℕ) → IsReady show plan → dimmer_planned plan ≢ Some e
     → entry_at (λ row. row.dimmer) e (planned show plan).patch ≡ entry_at (λ row. row.dimmer) e show.patch
-other_rows show Nothing e other = refl
-other_rows show (PlaceCue cue None) e other = refl
-other_rows show (PlaceCue cue (Some above)) e other = refl
-other_rows show (PlaceMove n entry) e other = refl
-other_rows show (PlaceMoves n moves within) e other = refl
-other_rows show (PlaceCues cue None) e other = refl
-other_rows show (PlaceCues cue (Some above)) e other = refl
-other_rows show (RemoveCue n None) e other = refl
-other_rows show (RemoveCue n (Some above)) e other = refl
-other_rows show (PlaceGroup group) e other = refl
-other_rows show (RemoveGroup g) e other = refl
-other_rows show (PlaceSub sub) e other = refl
-other_rows show (RemoveSub s) e other = refl
-other_rows show (PlaceRow row) e other = entry_at-placed_other (λ x. x.dimmer) e row show.patch (λ same. other (ap Some same))
-other_rows show (RemoveRow n) e other = others_stay n e show.patch (λ same. other (ap Some (sym same)))
+other_rows show plans.Nothing e ready other = refl
+other_rows show (plans.Cue n to None keeps) e ready other = refl
+other_rows show (plans.Cue n to (Some above) keeps) e ready other = refl
+other_rows show (plans.Move n entry) e ready other = refl
+other_rows show (plans.Moves n moves within) e ready other = refl
+other_rows show (plans.Group g to) e ready other = refl
+other_rows show (plans.Sub s to) e ready other = refl
+other_rows show (plans.Row n None) e ready other = others_stay n e show.patch (λ same. other (ap Some (sym same)))
+other_rows show (plans.Row n (Some row)) e ready other =
+    entry_at-placed_other (λ x. x.dimmer) e row show.patch (λ same. other (ap Some (sym ready.0 ∙ same)))
 
 -- submasters that are the same give the same
 pub contributions_by : (one other : Show) (faders contributions : List ℕ) → other.subs ≡ one.subs → other.channels ≡ one.channels

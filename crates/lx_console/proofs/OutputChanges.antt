@@ -8,7 +8,7 @@ use Rattle.lx_spec.specs.Playback.{Playback}
 use Rattle.lx_spec.specs.Kept.{Kept}
 use Rattle.lx_edit.specs.declared.plans.Plan.{Plan}
 use Rattle.lx_edit.specs.declared.dirty.Dirty.{Dirty}
-use Rattle.lx_edit.specs.PlanMeaning.{planned, dimmer_planned, plans_sub}
+use Rattle.lx_edit.specs.PlanMeaning.{IsReady, planned, dimmer_planned, plans_sub}
 use Rattle.lx_levels.specs.Stacks.{Kept as Levels, level_at}
 use Rattle.lx_levels.specs.LevelsMeaning.{LevelsStandFor}
 use Rattle.lx_levels.proofs.Stands.{kept_level}
@@ -39,10 +39,10 @@ played_changes k p before after false old new same = record {
 
 -- a plan, by what it touched and whether levels changed by it
 pub planned_changes : (k : Kept) (after : Show) (plan : Plan) (dirty : Dirty) (old new : Levels) (leveled : Bool) (change : Change)
-    → after ≡ planned k.show plan → LevelsStandFor k.show k.playback old → LevelsStandFor after k.playback new → (leveled ≡ false → new ≡ old)
+    → IsReady k.show plan → after ≡ planned k.show plan → LevelsStandFor k.show k.playback old → LevelsStandFor after k.playback new → (leveled ≡ false → new ≡ old)
     → dirty.dimmer ≡ dimmer_planned plan → dirty.subs ≡ plans_sub plan → IsChangeOf dirty leveled change
     → Changes change k (record k { show = after })
-planned_changes k after plan dirty old new leveled changes.Nothing is stood stands same dimmer subs none = record {
+planned_changes k after plan dirty old new leveled changes.Nothing ready is stood stands same dimmer subs none = record {
   rows = record {
     channels = ap (λ (s : Show). s.channels) is ∙ same_channels k.show plan;
     patch = ap (λ (s : Show). s.patch) is ∙ same_patch k.show plan (sym dimmer ∙ none.dimmer);
@@ -55,14 +55,14 @@ planned_changes k after plan dirty old new leveled changes.Nothing is stood stan
       (ap (λ (s : Show). s.subs) is ∙ same_subs k.show plan (sym subs ∙ none.subs));
   master = refl;
 }
-planned_changes k after plan dirty old new leveled changes.Levels is stood stands same dimmer subs none = record {
+planned_changes k after plan dirty old new leveled changes.Levels ready is stood stands same dimmer subs none = record {
   channels = ap (λ (s : Show). s.channels) is ∙ same_channels k.show plan;
   patch = ap (λ (s : Show). s.patch) is ∙ same_patch k.show plan (sym dimmer ∙ none);
 }
-planned_changes k after plan dirty old new leveled (changes.Row e) is stood stands same dimmer subs names = record {
+planned_changes k after plan dirty old new leveled (changes.Row e) ready is stood stands same dimmer subs names = record {
   channels = ap (λ (s : Show). s.channels) is ∙ same_channels k.show plan;
   rows = λ f other. ap (λ (s : Show). entry_at (λ row. row.dimmer) f s.patch) is
-      ∙ other_rows k.show plan f (λ same. other (same_dimmer f e (sym same ∙ sym dimmer ∙ names)));
+      ∙ other_rows k.show plan f ready (λ same. other (same_dimmer f e (sym same ∙ sym dimmer ∙ names)));
 } where
   same_dimmer : (f e : ℕ) → Some f ≡ Some e → f ≡ e
   same_dimmer f e same = cc

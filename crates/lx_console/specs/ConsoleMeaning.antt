@@ -6,8 +6,7 @@ use Rattle.lx_spec.specs.declared.Command.{Command}
 use Rattle.lx_spec.specs.declared.Refusal.{Refusal}
 use Rattle.lx_spec.specs.declared.Refusal.TheVariants.{Memory}
 use Rattle.lx_spec.specs.Level.{level}
-use Rattle.lx_spec.specs.Desk.{Desk, step}
-use Rattle.lx_spec.specs.RefusedPlaces.{is_edit}
+use Rattle.lx_spec.specs.Desk.{Desk, step, is_edit}
 use Rattle.lx_spec.specs.Output.{contribution}
 use Rattle.lx_spec.specs.Kept.{Kept, kept}
 use Rattle.lx_spec.specs.Laws.{KeepsRest}

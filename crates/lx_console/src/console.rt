@@ -22,6 +22,7 @@ use crate::kept_output::KeptOutput;
 use crate::player::{Applied, Player};
 use lx_base::{Chan, CueNo, Level, Moment, SubNo};
 use lx_edit::Plan;
+use lx_playback::Playback;
 use lx_show::{Command, Key, Refusal, Show};
 use std::alloc::{AllocError, Global};
 use std::marker::Model;
@@ -79,6 +80,13 @@ impl Console {
         ensures { result.now ≡ self.now.show }
     {
         self.player.show()
+    }
+
+    /// The playback: the moment, the live runs and the pending follow.
+    pub fn playback(&self) -> &Playback
+        ensures { result.now ≡ self.now.playback }
+    {
+        self.player.playback()
     }
 
     /// The present moment, in hundredths of a second since the opening.

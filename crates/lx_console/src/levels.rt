@@ -1,14 +1,13 @@
 //! The kept levels, as keys, ticks and edits leave them.
 
 ghost use Rattle.std.specs.Prelude.{◌≡◌, ℕ, ◌+◌, ◌<◌, ◌≤◌, [], true, false, length, is_some, IsTrue};
-ghost use Rattle.lx_base.specs.declared.TheConstants.{CHANNELS};
 ghost use Rattle.lx_sheet.specs.SheetMeaning.{RowsStandFor};
 ghost use Rattle.lx_edit.specs.ChanSet.{has_chan};
 ghost use Rattle.lx_levels.specs.Stacks.{level_at};
 ghost use Rattle.lx_levels.specs.LevelsMeaning.{LevelsStandFor, StandsAt, StandsBefore};
 ghost use Rattle.lx_console.specs.RunChanges.{IsTicked};
 
-use lx_base::{CHANNELS, Chan};
+use lx_base::Chan;
 use lx_edit::ChanSet;
 use lx_levels::Levels;
 use lx_playback::{Playback, Ticked};
@@ -86,7 +85,7 @@ pub(crate) fn recompute_touched(
         if chans.is_clear_from(k as u32 + 1) {
             k += 64;
         } else {
-            let c = channel_at(k);
+            let c = Chan::at(k);
             if chans.contains(c) {
                 levels.recompute(show, sheet, playback, c);
                 changed = true;
@@ -106,15 +105,4 @@ pub(crate) fn recompute_all(levels: &mut Levels, show: &Show, sheet: &Sheet, pla
 {
     let _ = show.channels();
     let _ = recompute_touched(levels, show, sheet, playback, &ChanSet::all());
-}
-
-/// The channel whose value stands at the place.
-pub(crate) fn channel_at(place: usize) -> Chan
-    requires { place < CHANNELS }
-    ensures { result ≡ place + 1 }
-{
-    match Chan::new(place as u32 + 1) {
-        Some(c) => c,
-        None => unreachable!(),
-    }
 }

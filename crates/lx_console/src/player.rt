@@ -117,6 +117,13 @@ impl Player {
         &self.show
     }
 
+    /// The playback: the moment, the live runs and the pending follow.
+    pub fn playback(&self) -> &Playback
+        ensures { result.now ≡ self.now.playback }
+    {
+        &self.playback
+    }
+
     /// The present moment, in hundredths of a second since the opening.
     pub fn moment(&self) -> Moment
         ensures { result ≡ self.now.playback.moment }

@@ -9,7 +9,6 @@ ghost use Rattle.lx_edit.specs.ChanSet.{has_chan};
 ghost use Rattle.lx_edit.specs.PlanMeaning.{IsReady, planned};
 ghost use Rattle.lx_console.specs.UnseenEdits.{IsUnseen, IsFrom, PlacesCue, decided_by};
 
-use crate::levels::channel_at;
 use lx_base::{Chan, CueNo};
 use lx_edit::{ChanSet, Plan};
 use lx_playback::Playback;
@@ -24,10 +23,14 @@ pub(crate) fn placed_alone(plan: &Plan) -> Option<CueNo>
     ensures { IfSome result (λ n. (show : ShowData) → Valid show → IsReady show plan.now → PlacesCue show (planned show plan.now) n) }
 {
     match plan {
-        Plan::PlaceCue { cue, above: None } => Some(cue.number),
-        Plan::PlaceCues { cue, above: None } => Some(cue.number),
-        Plan::PlaceMove { cue, .. } => Some(*cue),
-        Plan::PlaceMoves { cue, .. } => Some(*cue),
+        Plan::Cue {
+            number,
+            to: Some(_),
+            above: None,
+            ..
+        } => Some(*number),
+        Plan::Move { cue, .. } => Some(*cue),
+        Plan::Moves { cue, .. } => Some(*cue),
         _ => None,
     }
 }
@@ -67,7 +70,7 @@ fn undecided(show: &Show, near: &[Cue], first: CueNo, chans: &ChanSet) -> ChanSe
         if chans.is_clear_from(k as u32 + 1) {
             k += 64;
         } else {
-            let c = channel_at(k);
+            let c = Chan::at(k);
             if chans.contains(c) && !is_decided(near, first, c) {
                 left.insert(c);
             }

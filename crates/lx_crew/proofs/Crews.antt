@@ -12,7 +12,8 @@ use Rattle.lx_io.specs.Puts.{AppendsFront}
 use Rattle.lx_spec.specs.CrewText.{crew_session}
 use Rattle.lx_spec.specs.Desk.{Desk}
 use Rattle.lx_spec.specs.Kept.{Kept}
-use Rattle.lx_spec.specs.Session.{Session, begin_at}
+use Rattle.lx_spec.specs.Session.{Session}
+use Rattle.lx_spec.specs.DeskSession.{DeskState}
 use Rattle.lx_console.specs.ConsoleMeaning.{StandsFor}
 use Rattle.lx_session.specs.declared.tally.Tally.{Tally}
 use Rattle.lx_crew.specs.declared.entry.Entry.{Entry}
@@ -29,7 +30,7 @@ use Rattle.lx_crew.specs.Scripts.{HasEnded}
 use Rattle.lx_crew.specs.SentLines.{last_of}
 use Rattle.lx_crew.proofs.Lists.{none_front}
 use Rattle.lx_crew.proofs.MergedEntries.{SentAt, AllSent, IsTrueTo, true_entries, by_number, all_true, all_front, merged, merged_so_far}
-use Rattle.lx_crew.proofs.MergedEntries.{same_session, same_edits}
+use Rattle.lx_crew.proofs.MergedEntries.{same_session, same_allows}
 use Rattle.lx_crew.proofs.Works.{complete, get_at}
 
 -- Lines that are told of each of a list, by its place.
@@ -96,26 +97,25 @@ written : (d : Desk) (lines : ℕ → List (List ℕ)) (popped : List Entry) (he
     → HasWritten d (by_number lines) held held' console tally output
 written d lines popped held held' console tally None sent a =
     let all = all_true lines popped sent in
-    let places = a.places ++ [] in
-    let same : crew_session d (true_entries lines popped) places ≡ a.now =
-    sym (same_session lines places popped (begin_at d) all) ∙ a.done.is [] (λ n has. absurd cc) in record {
+    let same : crew_session d (true_entries lines popped) a.failures ≡ a.now =
+    sym (same_session lines a.failures popped d all) ∙ a.done.is in record {
       entries = true_entries lines popped;
       merged = merged lines popped sent;
-      places = places;
-      edits = same_edits lines places popped (begin_at d) all (a.done.edits [] (λ n has. absurd cc));
-      text = subst (λ (s : Session). Appends held held' s.text) (sym same) a.text;
-      counts = sym (ap (λ (s : Session). s.counts) same ∙ a.counts);
-      stands = subst (λ (s : Session). StandsFor s.desk console) (sym same) a.stands;
+      failures = a.failures;
+      allows = same_allows lines a.failures popped d all a.done.allows;
+      text = subst (λ (s : Session DeskState). Appends held held' s.text) (sym same) a.text;
+      counts = sym (ap (λ (s : Session DeskState). s.counts) same ∙ a.counts);
+      stands = subst (λ (s : Session DeskState). StandsFor s.state.desk console) (sym same) a.stands;
     }
 written d lines popped held held' console tally (Some fault) sent a =
     let all = all_front (IsTrueTo lines) a.first a.rest (subst (AllByRecursion (IsTrueTo lines)) a.are (all_true lines popped sent)) in
-    let same : crew_session d (said a.first) a.places ≡ crew_session d (true_entries lines a.first) a.places =
-    same_session lines a.places a.first (begin_at d) all in record {
+    let same : crew_session d (said a.first) a.failures ≡ crew_session d (true_entries lines a.first) a.failures =
+    same_session lines a.failures a.first d all in record {
       entries = true_entries lines a.first;
       merged = merged_so_far lines popped a.first a.rest sent a.are;
-      places = a.places;
-      edits = same_edits lines a.places a.first (begin_at d) all a.edits;
-      text = subst (λ (s : Session). AppendsFront held held' s.text) same a.text;
+      failures = a.failures;
+      allows = same_allows lines a.failures a.first d all a.allows;
+      text = subst (λ (s : Session DeskState). AppendsFront held held' s.text) same a.text;
     }
 
 -- An operator's source is back, and its lines are these.

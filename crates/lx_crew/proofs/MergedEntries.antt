@@ -1,16 +1,18 @@
 -- The transcript's entries with the true texts of lines that are too long.
 use Rattle.std.proofs.Common.{◌≡◌, ℕ, zero, suc, ◌+◌, ◌-◌, ◌==◌, Bool, true, false, cond, List, [], ◌∷◌, ◌++◌}
 use Rattle.std.proofs.Common.{take, drop, refl, sym, ap, ◌∙◌}
-use Rattle.std.proofs.Common.{◌⊎◌, ⊎_elim, None, true≢false, add-one, subst, eq-eqb}
+use Rattle.std.proofs.Common.{◌⊎◌, ⊎_elim, Option, None, true≢false, add-one, subst, eq-eqb}
 use Rattle.std.proofs.Common.{get_or, arith}
-use Rattle.std.specs.Prelude.{fold}
+use Rattle.std.specs.Prelude.{IfSome}
 use Rattle.std.specs.List.{AllByRecursion}
 use Rattle.std.proofs.lemmas.Bool.Decides.{nat_tests}
 use Rattle.std.proofs.lemmas.List.Elements.{filter-append}
-use Rattle.lx_spec.specs.CrewText.{CrewEntry, named, after_entry, EntriesWantAtEdits}
+use Rattle.lx_spec.specs.declared.Line.{Line as Meant}
+use Rattle.lx_spec.specs.CrewText.{CrewEntry, op_text, after_entry, crew_answering, crew_session, CrewAllows}
+use Rattle.lx_spec.specs.Desk.{Desk}
 use Rattle.lx_spec.specs.Script.{line_of}
-use Rattle.lx_spec.specs.RefusedPlaces.{MayWant}
-use Rattle.lx_spec.specs.Session.{Session, after_meaning}
+use Rattle.lx_spec.specs.Session.{Session, begin_at, with_text, after_each, AreAllowed}
+use Rattle.lx_spec.specs.DeskSession.{DeskState, begun, after_meaning, IsAcceptedEdit}
 use Rattle.lx_session.proofs.HeardLines.{meaning_is}
 use Rattle.lx_crew.specs.declared.entry.Entry.{Entry}
 use Rattle.lx_crew.specs.declared.entry.Sent.{Sent}
@@ -46,58 +48,70 @@ true_entries lines (e ∷ es) = true_by lines e.place e.number e.sent ++ true_en
 abbrev pub IsTrueTo : (ℕ → List (List ℕ)) → Entry → Type 0
 IsTrueTo lines e = is_last e.sent ≡ false → HasText e.sent (line_at lines e.place e.number)
 
+-- Entries of the same names, whose lines have the same meaning.
+abbrev Alike : List CrewEntry → List CrewEntry → Type 0
+Alike [] [] = Unit {0}
+Alike [] (y ∷ ys) = ⊥
+Alike (x ∷ xs) [] = ⊥
+Alike (x ∷ xs) (y ∷ ys) = (op_text x ≡ op_text y) × ((line_of x.line ≡ line_of y.line) × Alike xs ys)
+
+-- the session after an entry, and what may fail, are those of its name and the meaning of its line
+abbrev by_meaning : Option ℕ → Session DeskState → List ℕ → Option Meant → Session DeskState
+by_meaning failed s name meaning = after_meaning failed (with_text s name) meaning
+
+same_entry : (failed : Option ℕ) (s : Session DeskState) (x y : CrewEntry) → op_text x ≡ op_text y → line_of x.line ≡ line_of y.line
+    → after_entry failed s x ≡ after_entry failed s y
+same_entry failed s x y name means = ap (λ v. by_meaning failed s v (line_of x.line)) name ∙ ap (by_meaning failed s (op_text y)) means
+
+session_alike : (failures : List (Option ℕ)) (s : Session DeskState) (xs ys : List CrewEntry) → Alike xs ys
+    → after_each crew_answering failures s xs ≡ after_each crew_answering failures s ys
+session_alike failures s [] [] alike = refl
+session_alike failures s [] (y ∷ ys) alike = absurd alike
+session_alike failures s (x ∷ xs) [] alike = absurd alike
+session_alike [] s (x ∷ xs) (y ∷ ys) alike =
+    ap (λ t. after_each crew_answering [] t xs) (same_entry None s x y alike.0 alike.1.0)
+    ∙ session_alike [] (after_entry None s y) xs ys alike.1.1
+session_alike (failed ∷ failures) s (x ∷ xs) (y ∷ ys) alike =
+    ap (λ t. after_each crew_answering failures t xs) (same_entry failed s x y alike.0 alike.1.0)
+    ∙ session_alike failures (after_entry failed s y) xs ys alike.1.1
+
+allows_alike : (failures : List (Option ℕ)) (s : Session DeskState) (xs ys : List CrewEntry) → Alike xs ys
+    → AreAllowed crew_answering failures s xs → AreAllowed crew_answering failures s ys
+allows_alike [] s xs ys alike a = tt
+allows_alike (failed ∷ failures) s [] [] alike a = tt
+allows_alike (failed ∷ failures) s [] (y ∷ ys) alike a = absurd alike
+allows_alike (failed ∷ failures) s (x ∷ xs) [] alike a = absurd alike
+allows_alike (failed ∷ failures) s (x ∷ xs) (y ∷ ys) alike a = (
+  subst (λ (m : Option Meant). IfSome failed (λ attempt. IsAcceptedEdit s.state.desk m)) alike.1.0 a.0,
+  allows_alike failures (after_entry failed s y) xs ys alike.1.1
+      (subst (λ t. AreAllowed crew_answering failures t xs) (same_entry failed s x y alike.0 alike.1.0) a.1),
+)
+
 -- The sessions are the same: only the texts of lines that are too long differ, which are bad.
-same_text : (text other : List ℕ) (places : List ℕ) (s : Session) (place number : ℕ) → line_of text ≡ line_of other
-    → after_entry places s (named_line place number text) ≡ after_entry places s (named_line place number other)
-same_text text other places s place number is = ap (after_meaning places (named s (named_line place number text))) is
+alike_by : (lines : ℕ → List (List ℕ)) (place number : ℕ) (sent : Sent) (rest rest' : List CrewEntry)
+    → (is_last sent ≡ false → HasText sent (line_at lines place number)) → Alike rest rest'
+    → Alike (entries_of place number sent ++ rest) (true_by lines place number sent ++ rest')
+alike_by lines place number (Line l) rest rest' t alike = (refl, (ap line_of (t refl), alike))
+alike_by lines place number LongLine rest rest' t alike =
+    (refl, (long_means ∙ meaning_is None (line_at lines place number) (t refl), alike))
+alike_by lines place number End rest rest' t alike = alike
+alike_by lines place number ReadFault rest rest' t alike = alike
+alike_by lines place number InputTooLong rest rest' t alike = alike
 
-same_by : (lines : ℕ → List (List ℕ)) (places : List ℕ) (s : Session) (place number : ℕ) (sent : Sent) (rest rest' : List CrewEntry)
-    → (is_last sent ≡ false → HasText sent (line_at lines place number))
-    → ((t : Session) → fold (after_entry places) t rest ≡ fold (after_entry places) t rest')
-    → fold (after_entry places) s (entries_of place number sent ++ rest) ≡ fold (after_entry places) s
-    (true_by lines place number sent ++ rest')
-same_by lines places s place number (Line l) rest rest' t h =
-    ap (λ text. fold (after_entry places) (after_entry places s (named_line place number text)) rest) (t refl)
-    ∙ h (after_entry places s (named_line place number (line_at lines place number)))
-same_by lines places s place number LongLine rest rest' t h =
-    ap (λ u. fold (after_entry places) u rest)
-    (same_text long_line (line_at lines place number) places s place number
-    (long_means ∙ meaning_is None (line_at lines place number) (t refl)))
-    ∙ h (after_entry places s (named_line place number (line_at lines place number)))
-same_by lines places s place number End rest rest' t h = h s
-same_by lines places s place number ReadFault rest rest' t h = h s
-same_by lines places s place number InputTooLong rest rest' t h = h s
+alike_said : (lines : ℕ → List (List ℕ)) (es : List Entry) → AllByRecursion (IsTrueTo lines) es → Alike (said es) (true_entries lines es)
+alike_said lines [] all = tt
+alike_said lines (e ∷ es) all =
+    alike_by lines e.place e.number e.sent (said es) (true_entries lines es) all.0 (alike_said lines es all.1)
 
-pub same_session : (lines : ℕ → List (List ℕ)) (places : List ℕ) (es : List Entry) (s : Session) → AllByRecursion (IsTrueTo lines) es
-    → fold (after_entry places) s (said es) ≡ fold (after_entry places) s (true_entries lines es)
-same_session lines places [] s all = refl
-same_session lines places (e ∷ es) s all =
-    same_by lines places s e.place e.number e.sent (said es) (true_entries lines es) all.0 (λ t. same_session lines places es t all.1)
+pub same_session : (lines : ℕ → List (List ℕ)) (failures : List (Option ℕ)) (es : List Entry) (d : Desk)
+    → AllByRecursion (IsTrueTo lines) es → crew_session d (said es) failures ≡ crew_session d (true_entries lines es) failures
+same_session lines failures es d all =
+    session_alike failures (begin_at (begun d)) (said es) (true_entries lines es) (alike_said lines es all)
 
-edits_by : (lines : ℕ → List (List ℕ)) (places : List ℕ) (s : Session) (place number : ℕ) (sent : Sent) (rest rest' : List CrewEntry)
-    → (is_last sent ≡ false → HasText sent (line_at lines place number))
-    → ((t : Session) → EntriesWantAtEdits places t rest → EntriesWantAtEdits places t rest')
-    → EntriesWantAtEdits places s (entries_of place number sent ++ rest) → EntriesWantAtEdits places s
-    (true_by lines place number sent ++ rest')
-edits_by lines places s place number (Line l) rest rest' t h w =
-    let u = subst (λ text. EntriesWantAtEdits places s (named_line place number text ∷ rest)) (t refl) w in
-    (u.0, h (after_entry places s (named_line place number (line_at lines place number))) u.1)
-edits_by lines places s place number LongLine rest rest' t h w =
-    let text = line_at lines place number in
-    let bad : line_of long_line ≡ line_of text = long_means ∙ meaning_is None text (t refl) in (
-      subst (λ m. MayWant places (named s (named_line place number long_line)) m) bad w.0,
-      h (after_entry places s (named_line place number text))
-          (subst (λ u. EntriesWantAtEdits places u rest) (same_text long_line text places s place number bad) w.1),
-    )
-edits_by lines places s place number End rest rest' t h w = h s w
-edits_by lines places s place number ReadFault rest rest' t h w = h s w
-edits_by lines places s place number InputTooLong rest rest' t h w = h s w
-
-pub same_edits : (lines : ℕ → List (List ℕ)) (places : List ℕ) (es : List Entry) (s : Session) → AllByRecursion (IsTrueTo lines) es
-    → EntriesWantAtEdits places s (said es) → EntriesWantAtEdits places s (true_entries lines es)
-same_edits lines places [] s all w = w
-same_edits lines places (e ∷ es) s all w =
-    edits_by lines places s e.place e.number e.sent (said es) (true_entries lines es) all.0 (λ t v. same_edits lines places es t all.1 v) w
+pub same_allows : (lines : ℕ → List (List ℕ)) (failures : List (Option ℕ)) (es : List Entry) (d : Desk)
+    → AllByRecursion (IsTrueTo lines) es → CrewAllows d (said es) failures → CrewAllows d (true_entries lines es) failures
+same_allows lines failures es d all a =
+    allows_alike failures (begin_at (begun d)) (said es) (true_entries lines es) (alike_said lines es all) a
 
 -- What holds of each operator's entries holds of all.
 behind : (P : Entry → Type 0) (e : Entry) (rest : List Entry) (b : Bool) → AllByRecursion P (cond b (e ∷ rest) rest) → AllByRecursion P rest

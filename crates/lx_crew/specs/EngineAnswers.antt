@@ -1,7 +1,6 @@
 -- What the engine answers.
-use Rattle.std.specs.Prelude.{◌≡◌, ◌⊎◌, ◌≤◌, ◌<◌, ℕ, ◌+◌, ◌==◌, Bool, true, Option, Some, None, Result, IsErr, List, [], ◌∷◌, ◌++◌}
-use Rattle.std.specs.Prelude.{replicate, flat_map}
-use Rattle.std.specs.List.{list_any}
+use Rattle.std.specs.Prelude.{◌≡◌, ◌⊎◌, ◌≤◌, ◌<◌, ℕ, ◌+◌, Bool, true, Option, Some, None, Result, IsErr, List, [], ◌∷◌, ◌++◌}
+use Rattle.std.specs.Prelude.{length, replicate, flat_map}
 use Rattle.std.specs.Io.KnownBytes.{Appends}
 use Rattle.lx_base.specs.declared.TheConstants.{LINE_BYTES}
 use Rattle.lx_io.specs.declared.sink.SinkFault.{SinkFault}
@@ -9,10 +8,11 @@ use Rattle.lx_io.specs.declared.sink.SinkFault.TheVariants.{Failed, Memory}
 use Rattle.lx_io.specs.Causes.{Rose}
 use Rattle.lx_io.specs.Puts.{AppendsFront}
 use Rattle.lx_spec.specs.declared.Line.{Line as Meant}
-use Rattle.lx_spec.specs.CrewText.{CrewEntry, crew_session, crew_text, CrewPlacesAreEdits}
+use Rattle.lx_spec.specs.CrewText.{CrewEntry, crew_session, crew_text, CrewAllows}
 use Rattle.lx_spec.specs.Desk.{Desk}
 use Rattle.lx_spec.specs.Kept.{Kept}
 use Rattle.lx_spec.specs.Session.{Session, with_text}
+use Rattle.lx_spec.specs.DeskSession.{DeskState}
 use Rattle.lx_console.specs.ConsoleMeaning.{StandsFor}
 use Rattle.lx_session.specs.declared.tally.Tally.{Tally}
 use Rattle.lx_session.specs.LineAnswer.{LineAnswer}
@@ -46,47 +46,40 @@ said entries = flat_map (λ (e : Entry). entries_of e.place e.number e.sent) ent
 
 -- The name of a line was written and the line done and answered, or a prefix of the name was written.
 pub record NamedAnswer {K : Type 0} (holds : K → Option (List ℕ)) (faults wants : K → ℕ) (sink sink' : K) (result : Result Bool SinkFault)
-    (s : Session) (name : List ℕ) (meaning : Option Meant) (console : Kept) (tally : Tally) : Type 0 where
+    (s : Session DeskState) (name : List ℕ) (meaning : Option Meant) (console : Kept) (tally : Tally) : Type 0 where
   pub between : K
   pub named : Appends (holds sink) (holds between) name
   pub answer : LineAnswer true (λ commands. Unit {0}) holds faults wants between sink' result (with_text s name) meaning console tally
 
 abbrev pub AnswersNamed : {K : Type 0} → (K → Option (List ℕ)) → (K → ℕ) → (K → ℕ) → (sink sink' : K) → Result Bool SinkFault
-    → Session → List ℕ → Option Meant → Kept → Tally → Type 0
+    → Session DeskState → List ℕ → Option Meant → Kept → Tally → Type 0
 AnswersNamed holds faults wants sink sink' result s name meaning console tally =
     (IsErr result × AppendsFront (holds sink) (holds sink') name)
     ⊎ NamedAnswer holds faults wants sink sink' result s name meaning console tally
 
--- the attempts that want of memory refused are all above a number, or within it
-abbrev pub AreAbove : ℕ → List ℕ → Type 0
-AreAbove m places = (n : ℕ) → list_any (λ place. place == n) places ≡ true → m < n
-
-abbrev pub AreWithin : ℕ → List ℕ → Type 0
-AreWithin m places = (n : ℕ) → list_any (λ place. place == n) places ≡ true → n ≤ m
-
--- The entries are done from a desk on, and the session has come so far; attempts that want of memory refuses later change nothing of it.
-pub record IsDone (d : Desk) (entries : List CrewEntry) (places : List ℕ) (now : Session) : Type 0 where
-  pub within : AreWithin now.attempts places
-  pub is : (more : List ℕ) → AreAbove now.attempts more → crew_session d entries (places ++ more) ≡ now
-  pub edits : (more : List ℕ) → AreAbove now.attempts more → CrewPlacesAreEdits d entries (places ++ more)
+-- The entries are done from a desk on, of each is told which attempt failed, if one did, and the session has come so far.
+pub record IsDone (d : Desk) (entries : List CrewEntry) (failures : List (Option ℕ)) (now : Session DeskState) : Type 0 where
+  pub each : length failures ≡ length entries
+  pub is : crew_session d entries failures ≡ now
+  pub allows : CrewAllows d entries failures
 
 -- What was popped is answered, and its whole transcript was written.
 pub record AnsweredAll (d : Desk) (popped : List Entry) (held held' : Option (List ℕ)) (console : Kept) (tally : Tally) : Type 0 where
-  pub places : List ℕ
-  pub now : Session
-  pub done : IsDone d (said popped) places now
+  pub failures : List (Option ℕ)
+  pub now : Session DeskState
+  pub done : IsDone d (said popped) failures now
   pub text : Appends held held' now.text
   pub counts : now.counts ≡ counts_in tally
-  pub stands : StandsFor now.desk console
+  pub stands : StandsFor now.state.desk console
 
 -- A prefix of the transcript of the first of it was written.
 pub record AnsweredPart (d : Desk) (popped : List Entry) (held held' : Option (List ℕ)) : Type 0 where
   pub first : List Entry
   pub rest : List Entry
   pub are : popped ≡ first ++ rest
-  pub places : List ℕ
-  pub edits : CrewPlacesAreEdits d (said first) places
-  pub text : AppendsFront held held' (crew_text d (said first) places)
+  pub failures : List (Option ℕ)
+  pub allows : CrewAllows d (said first) failures
+  pub text : AppendsFront held held' (crew_text d (said first) failures)
 
 -- by the fault of the output
 abbrev pub HasAnswered : Desk → List Entry → (held held' : Option (List ℕ)) → Kept → Tally → Option SinkFault → Type 0

@@ -2,28 +2,28 @@
 use Rattle.std.specs.Prelude.{◌≡◌, ℕ, List, Option}
 use Rattle.std.specs.Io.KnownBytes.{Appends}
 use Rattle.lx_io.specs.Puts.{AppendsFront}
-use Rattle.lx_spec.specs.CrewText.{CrewEntry, Merged, MergedSoFar, crew_session, crew_text, CrewPlacesAreEdits}
+use Rattle.lx_spec.specs.CrewText.{CrewEntry, Merged, MergedSoFar, crew_session, crew_text, CrewAllows}
 use Rattle.lx_spec.specs.Desk.{Desk}
 use Rattle.lx_spec.specs.Kept.{Kept}
 use Rattle.lx_console.specs.ConsoleMeaning.{StandsFor}
 use Rattle.lx_session.specs.declared.tally.Tally.{Tally}
 use Rattle.lx_session.specs.LineReply.{counts_in}
 
--- The whole transcript was written, and the console stands for the desk after it. Want of memory refused nothing but edits.
+-- The whole transcript was written, and the console stands for the desk after it. Attempts failed only at edits.
 pub record WholeTranscript (d : Desk) (lines : ℕ → List (List ℕ)) (held held' : Option (List ℕ)) (console : Kept)
     (tally : Tally) : Type 0 where
   pub entries : List CrewEntry
   pub merged : Merged lines entries
-  pub places : List ℕ
-  pub edits : CrewPlacesAreEdits d entries places
-  pub text : Appends held held' (crew_text d entries places)
-  pub counts : counts_in tally ≡ (crew_session d entries places).counts
-  pub stands : StandsFor (crew_session d entries places).desk console
+  pub failures : List (Option ℕ)
+  pub allows : CrewAllows d entries failures
+  pub text : Appends held held' (crew_text d entries failures)
+  pub counts : counts_in tally ≡ (crew_session d entries failures).counts
+  pub stands : StandsFor (crew_session d entries failures).state.desk console
 
 -- A prefix of the transcript of first lines was written.
 pub record TranscriptPrefix (d : Desk) (lines : ℕ → List (List ℕ)) (held held' : Option (List ℕ)) : Type 0 where
   pub entries : List CrewEntry
   pub merged : MergedSoFar lines entries
-  pub places : List ℕ
-  pub edits : CrewPlacesAreEdits d entries places
-  pub text : AppendsFront held held' (crew_text d entries places)
+  pub failures : List (Option ℕ)
+  pub allows : CrewAllows d entries failures
+  pub text : AppendsFront held held' (crew_text d entries failures)

@@ -46,7 +46,8 @@ pub struct Crewed {
 /// in a thread of its own; which operator comes next isn't said.
 ///
 /// A fault of an operator costs no line of another. Without a fault of the output all of the transcript is handed on. After
-/// one no line is done any more, and the sources are read on to their ends. `AllocError` comes only before the first line, and then nothing was read or written.
+/// one no line is done any more, and the sources are read on to their ends. `AllocError` comes only before the first line,
+/// and then nothing was read or written.
 pub fn crew<R: Threads + Wait + Sync, S: Source + Send + Drop, K: Sink + Send>(
     rt: &R,
     alloc: Global,

@@ -47,7 +47,7 @@ module _ (form : Form) (count : ℕ) where
   -- a prefix of the line that a refused show has, where nothing was written
   nothing_told : (x : List ℕ) (h h' : Option (List ℕ)) → h' ≡ h → WritesPrefix (Crew count form) x h h'
   nothing_told x h h' kept = subst (λ (v : Option (List ℕ)). WritesPrefix (Crew count form) x h v) (sym kept)
-      (record { places = []; wants = tt; text = front_nothing h (output_of (Crew count form) x []) })
+      (record { failures = []; allows = tt; text = front_nothing h (output_of (Crew count form) x []) })
 
   wanting : {S : Type 0} (x : List ℕ) (rest h h' : Option (List ℕ)) (operators operators' : List (Option S)) (s : Status)
       → s ≡ status.Memory → h' ≡ h → operators' ≡ operators → ServesNone count form x rest operators operators' h h' s

@@ -83,7 +83,7 @@ joined count operators used used' rest same is behind =
 transcript : (show : Show) (lines : ℕ → List (List ℕ)) (held held' : Option (List ℕ)) (console : Kept) (tally : Tally)
     → WholeTranscript (opened show) lines held held' console tally → WritesTranscript show lines held held'
 transcript show lines held held' console tally w =
-    record { entries = w.entries; merged = w.merged; places = w.places; edits = w.edits; text = w.text }
+    record { entries = w.entries; merged = w.merged; failures = w.failures; allows = w.allows; text = w.text }
 
 written_by : (show : Show) (lines : ℕ → List (List ℕ)) (held held' : Option (List ℕ)) (console : Kept) (tally : Tally)
     (output : Option SinkFault) (told : List (Option OperatorFault)) (s : Status)
@@ -227,9 +227,9 @@ module _ {S : Type 0} (left : S → Option (List ℕ)) (reads : S → ℕ) (show
         (first.0, w.merged (place + 1) ∙ ap (numbered_from (place + 1) 1) first.1);
     none = w.merged 0 ∙ ap (numbered_from 0 1) h.none;
     no_more = λ operator past. w.merged operator ∙ ap (numbered_from operator 1) (h.no_more operator past);
-    places = w.places;
-    edits = w.edits;
-    text = whole_front held held' (crew_text (opened show) w.entries w.places) w.text;
+    failures = w.failures;
+    allows = w.allows;
+    text = whole_front held held' (crew_text (opened show) w.entries w.failures) w.text;
   }
 
   some_front : (s : Status) → (h : Serves left reads show count operators operators' held held' s)
@@ -247,8 +247,8 @@ module _ {S : Type 0} (left : S → Option (List ℕ)) (reads : S → ℕ) (show
         (w.merged operator).1
         ∙ ap (numbered_from operator 1)
         (ap (take (w.merged operator).0) (h.no_more operator past) ∙ take_all (w.merged operator).0 [] (omega arith));
-    places = w.places;
-    edits = w.edits;
+    failures = w.failures;
+    allows = w.allows;
     text = w.text;
   }
 
@@ -271,8 +271,8 @@ no_lines left show count operators held held' kept = record {
   each = λ place start bytes within at known. (0, refl);
   none = refl;
   no_more = λ operator past. refl;
-  places = [];
-  edits = tt;
+  failures = [];
+  allows = tt;
   text = subst (λ (v : Option (List ℕ)). AppendsFront held v (crew_text (opened show) [] [])) (sym kept)
       (front_nothing held (crew_text (opened show) [] []));
 }

@@ -1,12 +1,15 @@
 -- What holds where a job ended, from what holds at each status.
-use Rattle.std.proofs.Common.{◌≡◌, ◌⊎◌, inl, inr, Option, Some, None, IfSome, List, ℕ, length, refl, sym, ap, subst, arith}
+use Rattle.std.proofs.Common.{◌≡◌, ◌⊎◌, inl, inr, true, false, Option, Some, None, IfSome, List, ℕ, refl, sym, ap, subst}
+use Rattle.std.specs.Prelude.{if◌then◌else◌}
 use Rattle.lx_io.specs.Puts.{AppendsFront}
 use Rattle.std.specs.Io.KnownBytes.{Appends}
 use Rattle.lx_lex.specs.declared.lines.Lines.{Lines}
 use Rattle.lx_lex.specs.Unread.{unread}
 use Rattle.lx_spec.specs.declared.Form.{Form}
 use Rattle.lx_spec.specs.declared.Job.{Job}
-use Rattle.lx_spec.specs.Show.{Show}
+use Rattle.lx_spec.specs.declared.Job.TheVariants.{Script}
+use Rattle.lx_spec.specs.declared.ScriptKind.{ScriptKind}
+use Rattle.lx_spec.specs.ScriptKinds.{answering_of, opening_of}
 use Rattle.lx_spec.specs.Reading.{Reading}
 use Rattle.lx_reader.specs.declared.loaded.Loaded.{Loaded}
 use Rattle.lx_reader.specs.declared.fault.ShowFault.{ShowFault}
@@ -14,10 +17,9 @@ use Rattle.lx_reader.specs.declared.fault.ShowFault.TheVariants as faults
 use Rattle.lx_reader.specs.Answer.{reading_of, HasRead}
 use Rattle.lx_desk.specs.declared.desk.Status.{Status}
 use Rattle.lx_desk.specs.declared.desk.Status.TheVariants as status
-use Rattle.lx_desk.specs.ScriptAnswers.{Answering}
 use Rattle.lx_desk.specs.ShowRefusal.{RefusedBy, status_kept}
-use Rattle.lx_desk.specs.Endings.{EndsJob, EndsScript, HasEnded, HasPlayed}
-use Rattle.lx_desk.proofs.Inputs.{Says, IsOverShow, IsOfShow, IsOfScript, told_text, told_prefix, told_fits, session_text, session_front}
+use Rattle.lx_desk.specs.Endings.{AnswersWords, EndsJob, EndsScript, HasEnded, HasPlayed, at_once, is_live}
+use Rattle.lx_desk.proofs.Inputs.{Says, IsOverShow, IsOfShow, told_text, told_prefix, told_fits, session_text, session_front}
 use Rattle.lx_desk.proofs.Inputs.{session_long}
 use Rattle.lx_desk.proofs.Inputs.{session_fits, session_cut, refusal_cut, refusal_text, refusal_front, refusal_fits, refusal_long}
 use Rattle.lx_desk.proofs.Inputs.{refusal_isnt_ok, kept_is, if_known, both_known}
@@ -84,27 +86,47 @@ refusal_ended form job over left a b o h h' fault status.InputTooLong is none sa
 refusal_ended form job over left a b o h h' fault status.Live is none says by = absurd (refusal_ends h h' fault status.Live by)
 
 -- a script over a show that was read
-pub script_ended : (form : Form) (job : Job) (by : Show → Answering) → IsOfScript form job by
-    → {S : Type 0} (left : S → Option (List ℕ)) (faults : S → ℕ) (a b : Lines S) (loaded : Loaded)
-    (o rest h h' : Option (List ℕ)) (s : Status)
+pub script_ended : (form : Form) (kind : ScriptKind) {S : Type 0} (left : S → Option (List ℕ)) (faults : S → ℕ) (a b : Lines S)
+    (loaded : Loaded) (o rest h h' : Option (List ℕ)) (s : Status)
     → unread left a ≡ o → a.taken ≡ 0 → HasRead left faults a b form loaded → EndsScript s
-    → IfSome (unread left b) (λ y. HasPlayed s (by loaded.show) b.taken y rest h h')
-    → IfSome o (λ x. HasEnded s job x rest h h')
-script_ended form job by of left faults a b loaded o rest h h' status.Ok is none r ends p =
-    both_known o _ _ _ (session_text form job by of left faults a b loaded o h h' is r (if_known (unread left b) _ _ p (λ y q. q.0)))
+    → IfSome (unread left b) (λ y. HasPlayed s (answering_of kind) (opening_of kind loaded.show) b.taken y rest h h')
+    → IfSome o (λ x. HasEnded s (Script kind form) x rest h h')
+script_ended form kind left faults a b loaded o rest h h' status.Ok is none r ends p =
+    both_known o _ _ _ (session_text form kind left faults a b loaded o h h' is r (if_known (unread left b) _ _ p (λ y q. q.0)))
     (session_fits form left faults a b loaded o is none r (if_known (unread left b) _ _ p (λ y q. q.1)))
-    (λ x text fits. (record { text = text.0; within = omega (arith, ap length (of.bytes x), fits) }, text.1))
-script_ended form job by of left faults a b loaded o rest h h' status.ShowRefused is none r ends p = absurd ends
-script_ended form job by of left faults a b loaded o rest h h' status.Usage is none r ends p = absurd ends
-script_ended form job by of left faults a b loaded o rest h h' status.ReadFault is none r ends p =
-    session_cut form job by of left faults a b loaded o rest h h' is none r p
-script_ended form job by of left faults a b loaded o rest h h' status.WriteFault is none r ends p =
-    session_front form job by of left faults a b loaded o h h' is r p
-script_ended form job by of left faults a b loaded o rest h h' status.Memory is none r ends p =
-    session_front form job by of left faults a b loaded o h h' is r p
-script_ended form job by of left faults a b loaded o rest h h' status.InputTooLong is none r ends p =
+    (λ x text fits. (record { text = text.0; within = fits }, text.1))
+script_ended form kind left faults a b loaded o rest h h' status.ShowRefused is none r ends p = absurd ends
+script_ended form kind left faults a b loaded o rest h h' status.Usage is none r ends p = absurd ends
+script_ended form kind left faults a b loaded o rest h h' status.ReadFault is none r ends p =
+    session_cut form kind left faults a b loaded o rest h h' is none r p
+script_ended form kind left faults a b loaded o rest h h' status.WriteFault is none r ends p =
+    session_front form kind left faults a b loaded o h h' is r p
+script_ended form kind left faults a b loaded o rest h h' status.Memory is none r ends p =
+    session_front form kind left faults a b loaded o h h' is r p
+script_ended form kind left faults a b loaded o rest h h' status.InputTooLong is none r ends p =
     both_known o _ _ _
-    (session_cut form job by of left faults a b loaded o rest h h' is none r (if_known (unread left b) _ _ p (λ y q. q.0)))
+    (session_cut form kind left faults a b loaded o rest h h' is none r (if_known (unread left b) _ _ p (λ y q. q.0)))
     (session_long form left faults a b loaded o is none r (if_known (unread left b) _ _ p (λ y q. q.1)))
-    (λ x cut long. (cut, omega (arith, ap length (of.bytes x), long)))
-script_ended form job by of left faults a b loaded o rest h h' status.Live is none r ends p = absurd ends
+    (λ x cut long. (cut, long))
+script_ended form kind left faults a b loaded o rest h h' status.Live is none r ends p = absurd ends
+
+-- the words of a script that is played here, and of one that isn't
+pub words_here : {I O : Type 0} (kind : ScriptKind) (form : Form) (s : Status) (input input' : I) (output output' : O) → is_live kind ≡ false
+    → EndsJob s → AnswersWords (Some (Script kind form)) s input input' output output'
+words_here kind form s input input' output output' here ends = record {
+  at = subst (λ b. IfSome (if b then Some status.Live else None)
+      (λ answer. ((s ≡ answer) ⊎ (s ≡ status.Memory)) × ((input' ≡ input) × (output' ≡ output)))) (sym here) tt;
+  only = λ is. elim is [ inl usage ↦ absurd (subst EndsJob usage ends) | inr live ↦ absurd (subst EndsJob live ends) ];
+}
+
+pub at_once_live : (kind : ScriptKind) (form : Form) → is_live kind ≡ true → at_once (Some (Script kind form)) ≡ Some status.Live
+at_once_live kind form live = ap (λ b. if b then Some status.Live else None) live
+
+pub words_live : {I O : Type 0} (kind : ScriptKind) (form : Form) (input : I) (output : O) → is_live kind ≡ true
+    → AnswersWords (Some (Script kind form)) status.Live input input output output
+words_live kind form input output live = record {
+  at = subst (λ b. IfSome (if b then Some status.Live else None)
+      (λ answer. ((status.Live ≡ answer) ⊎ (status.Live ≡ status.Memory)) × ((input ≡ input) × (output ≡ output)))) (sym live)
+      (inl refl, (refl, refl));
+  only = λ is. at_once_live kind form live;
+}

@@ -2,7 +2,6 @@
 use Rattle.std.proofs.Common.{◌≡◌, ◌⊎◌, inl, inr, ℕ, zero, suc, ◌+◌, ◌-◌, ◌<◌, ◌≤◌, false, true, eqb, cond, Option, Some, None, Result, Ok}
 use Rattle.std.proofs.Common.{Err, IfSome, IsErr, IsOk, List, [], ◌∷◌, ◌++◌, length, take, refl, sym, ap, ◌∙◌, subst, arith, length-append}
 use Rattle.std.proofs.Common.{append-nil, append_assoc, take_all}
-use Rattle.std.specs.List.{before_first}
 use Rattle.std.specs.Io.KnownBytes.{Appends, IsAtEnd}
 use Rattle.std.proofs.KnownBytes.{Appends-nil}
 use Rattle.lx_base.specs.declared.TheConstants.{INPUT_BYTES}
@@ -16,30 +15,25 @@ use Rattle.lx_lex.proofs.FirstLines.{first_lines-more, first_lines-longer}
 use Rattle.lx_spec.specs.declared.Form.{Form}
 use Rattle.lx_spec.specs.declared.TextFault.{TextFault}
 use Rattle.lx_spec.specs.Text.{lines_of}
-use Rattle.lx_spec.specs.Desk.{Desk, opened}
-use Rattle.lx_spec.specs.Show.{Show}
 use Rattle.lx_spec.specs.Reading.{Reading, reads, script_of, lines_read}
 use Rattle.lx_spec.specs.CutInput.{HasNoFeed, feeds, first_lines}
-use Rattle.lx_spec.specs.RenderOutput.{input_lines_wanted, input_wanted, OutputPlacesAreEdits}
-use Rattle.lx_spec.specs.SessionOf.{Answer, begin_with, PlacesAreAllowed}
-use Rattle.lx_spec.specs.SessionOutput.{SessionWants}
+use Rattle.lx_spec.specs.ScriptKinds.{answering_of, opening_of}
+use Rattle.lx_spec.specs.ScriptOutput.{script_session, first_replies, input_lines_wanted, input_wanted, ScriptAllows}
 use Rattle.lx_spec.specs.FaultLine.{over_show, fault_text}
-use Rattle.lx_spec.specs.Session.{begin_at, ends_script, lines_wanted, bytes_wanted}
+use Rattle.lx_spec.specs.Session.{Answering, whole_session, session_after, Allows, lines_wanted, bytes_wanted}
 use Rattle.lx_reader.specs.declared.loaded.Loaded.{Loaded}
 use Rattle.lx_reader.specs.declared.fault.ShowFault.{ShowFault}
 use Rattle.lx_reader.specs.declared.fault.ShowFault.TheVariants as faults
 use Rattle.lx_reader.specs.HandedLines.{MeansFault, IsPastLimit, IsCutShort}
 use Rattle.lx_reader.specs.Answer.{reading_of, HasRead, OfText, CutShort}
-use Rattle.lx_session.proofs.Places.{wants_nothing}
-use Rattle.lx_session.proofs.AnsweredPlaces.{wants_at_none}
 use Rattle.lx_desk.specs.declared.desk.Status.{Status}
 use Rattle.lx_desk.specs.declared.desk.Status.TheVariants as status
 use Rattle.lx_spec.specs.declared.Job.{Job}
-use Rattle.lx_spec.specs.declared.Job.TheVariants.{Check, Sheet}
+use Rattle.lx_spec.specs.declared.Job.TheVariants.{Check, Sheet, Script}
+use Rattle.lx_spec.specs.declared.ScriptKind.{ScriptKind}
 use Rattle.lx_spec.specs.CheckOutput.{check_text}
 use Rattle.lx_spec.specs.SheetOutput.{sheet_text}
-use Rattle.lx_spec.specs.Job.{show_of, output_of, replies_of, lines_wanted_of, WantsEdits, wanted_of, show_wanted}
-use Rattle.lx_desk.specs.ScriptAnswers.{Answering, by_desk}
+use Rattle.lx_spec.specs.Job.{show_of, output_of, JobAllows, wanted_of, show_wanted}
 use Rattle.lx_desk.specs.Output.{WritesAll, WritesPrefix, WritesTaken, RepliesToTaken, NothingOfCut, AnswersScript, AnswersInFront}
 use Rattle.lx_desk.specs.Output.{AnswersTaken}
 use Rattle.lx_desk.specs.ShowRefusal.{RefusedBy, status_kept}
@@ -52,37 +46,20 @@ whole_front a b text p = AppendsFront-from a b text (length text)
 pub front_nothing : (a : Option (List ℕ)) (text : List ℕ) → AppendsFront a a text
 front_nothing a text = AppendsFront-from a a text 0 (Appends-nil a)
 
-pub no_place : (n m : ℕ) → false ≡ true → n ≤ m
-no_place n m e = absurd cc
-
-pub nothing_wanted : (bytes : List ℕ) (r : Result Reading TextFault) → OutputPlacesAreEdits bytes [] r
-nothing_wanted bytes (Ok reading) = wants_nothing [] (begin_at (opened reading.show)) (before_first ends_script (script_of bytes))
-    (λ n has. no_place n 0 has)
-nothing_wanted bytes (Err fault) = tt
-
--- a session of which nothing is wanted
-pub none_allowed : {S : Type 0} (answer : Answer S) (MayWant : S → List ℕ → Type 0) (state : S) (script : List (List ℕ))
-    → PlacesAreAllowed answer MayWant state script []
-none_allowed answer MayWant state script = wants_at_none answer MayWant (begin_with state) (before_first ends_script script)
-
-pub nothing_of_session : {S : Type 0} (answer : Answer S) (MayWant : S → List ℕ → Type 0) (opening : Show → S) (bytes : List ℕ)
-    (r : Result Reading TextFault) → SessionWants answer MayWant opening bytes [] r
-nothing_of_session answer MayWant opening bytes (Ok reading) = none_allowed answer MayWant (opening reading.show) (script_of bytes)
-nothing_of_session answer MayWant opening bytes (Err fault) = tt
+-- no attempt failed
+pub none_failed : (kind : ScriptKind) (bytes : List ℕ) (r : Result Reading TextFault) → ScriptAllows kind bytes [] r
+none_failed kind bytes (Ok reading) = tt
+none_failed kind bytes (Err fault) = tt
 
 -- where nothing was written, a prefix of the replies was
-pub nothing_answered_by : (by : Answering) → ((script : List (List ℕ)) → by.Allows script []) → (o a : Option (List ℕ))
-    → IfSome o (λ bytes. AnswersInFront by (lines_of bytes) a a)
-nothing_answered_by by allows None a = tt
-nothing_answered_by by allows (Some bytes) a = record {
-  places = [];
-  wants = allows (lines_of bytes);
-  text = front_nothing a (by.whole (lines_of bytes) []);
+pub nothing_answered : (by : Answering (List ℕ)) (state : by.State) (o a : Option (List ℕ))
+    → IfSome o (λ bytes. AnswersInFront by state (lines_of bytes) a a)
+nothing_answered by state None a = tt
+nothing_answered by state (Some bytes) a = record {
+  failures = [];
+  allows = tt;
+  text = front_nothing a (whole_session by state (lines_of bytes) []).text;
 }
-
-pub nothing_answered : (o a : Option (List ℕ)) (d : Desk) → IfSome o (λ bytes. AnswersInFront (by_desk d) (lines_of bytes) a a)
-nothing_answered o a d = nothing_answered_by (by_desk d)
-    (λ script. wants_nothing [] (begin_at d) (before_first ends_script script) (λ n has. no_place n 0 has)) o a
 
 -- a fault that isn't one of the text is one of three, and has the status of its name
 pub kept_is : (fault : ShowFault) (s : Status) (P : ShowFault → Status → Type 0) → status_kept fault s
@@ -121,51 +98,42 @@ both_known (Some xs) P Q R p q f = f xs p q
 
 -- Of a show whose levels are read in this form.
 module _ (form : Form) where
-  -- A job that answers the script behind the show so.
-  pub record IsOfScript (job : Job) (by : Show → Answering) : Type 0 where
-    pub show : (x : List ℕ) → show_of job x ≡ reads form x
-    pub nothing : (x : List ℕ) → WantsEdits job x []
-    pub wants : (x places : List ℕ) (reading : Reading) → reads form x ≡ Ok reading → (by reading.show).Allows (script_of x) places
-        → WantsEdits job x places
-    pub output : (x places : List ℕ) → output_of job x places
-        ≡ over_show (reads form x) (λ reading. (by reading.show).whole (script_of x) places)
-    pub first : (x places : List ℕ) (lines : ℕ) (reading : Reading) → reads form x ≡ Ok reading
-        → replies_of job x places lines ≡ (by reading.show).first (script_of x) places lines
-    pub none : (x : List ℕ) → replies_of job x [] 0 ≡ []
-    pub bytes : (x : List ℕ) → wanted_of job x ≡ input_wanted form x
-    pub lines : (x : List ℕ) → lines_wanted_of job x ≡ input_lines_wanted x (reads form x)
-    pub taken : (x : List ℕ) (left h h' : Option (List ℕ)) → RepliesToTaken job x left h h' → WritesTaken job x left h h'
+  -- what a script's job writes over the show that was read
+  output_at : (kind : ScriptKind) (x : List ℕ) (failures : List (Option ℕ)) (reading : Reading) → reads form x ≡ Ok reading
+      → output_of (Script kind form) x failures
+      ≡ (whole_session (answering_of kind) (opening_of kind reading.show) (script_of x) failures).text
+  output_at kind x failures reading read = ap (λ r. over_show r (λ reading. (script_session kind x failures reading).text)) read
 
-  output_at : (job : Job) (by : Show → Answering) → IsOfScript job by → (x places : List ℕ) (reading : Reading) → reads form x ≡ Ok reading
-      → output_of job x places ≡ (by reading.show).whole (script_of x) places
-  output_at job by is x places reading read =
-      is.output x places ∙ ap (λ r. over_show r (λ reading. (by reading.show).whole (script_of x) places)) read
+  -- and at which attempts it may fail
+  allows_at : (kind : ScriptKind) (x : List ℕ) (failures : List (Option ℕ)) (reading : Reading) → reads form x ≡ Ok reading
+      → Allows (answering_of kind) (opening_of kind reading.show) (script_of x) failures → JobAllows (Script kind form) x failures
+  allows_at kind x failures reading read allows = subst (λ r. ScriptAllows kind x failures r) (sym read) allows
 
   -- what the session answered is what the program writes
-  answer_at : (job : Job) (by : Show → Answering) → IsOfScript job by → (x y : List ℕ) (reading : Reading) (h h' : Option (List ℕ))
-      → reads form x ≡ Ok reading → script_of x ≡ lines_of y → AnswersScript (by reading.show) (lines_of y) h h'
-      → WritesAll job x h h' × IsOk (show_of job x)
-  answer_at job by is x y reading h h' read script answered =
-      let a : AnswersScript (by reading.show) (script_of x) h h' =
-      subst (λ ls. AnswersScript (by reading.show) ls h h') (sym script) answered in (
+  answer_at : (kind : ScriptKind) (x y : List ℕ) (reading : Reading) (h h' : Option (List ℕ)) → reads form x ≡ Ok reading
+      → script_of x ≡ lines_of y → AnswersScript (answering_of kind) (opening_of kind reading.show) (lines_of y) h h'
+      → WritesAll (Script kind form) x h h' × IsOk (show_of (Script kind form) x)
+  answer_at kind x y reading h h' read script answered =
+      let a : AnswersScript (answering_of kind) (opening_of kind reading.show) (script_of x) h h' =
+      subst (λ ls. AnswersScript (answering_of kind) (opening_of kind reading.show) ls h h') (sym script) answered in (
         record {
-          places = a.places;
-          wants = is.wants x a.places reading read a.wants;
-          text = subst (λ (t : List ℕ). Appends h h' t) (sym (output_at job by is x a.places reading read)) a.text;
+          failures = a.failures;
+          allows = allows_at kind x a.failures reading read a.allows;
+          text = subst (λ (t : List ℕ). Appends h h' t) (sym (output_at kind x a.failures reading read)) a.text;
         },
-        subst (λ (r : Result Reading TextFault). IsOk r) (sym (is.show x ∙ read)) refl,
+        subst (λ (r : Result Reading TextFault). IsOk r) (sym read) refl,
       )
 
-  front_at : (job : Job) (by : Show → Answering) → IsOfScript job by → (x y : List ℕ) (reading : Reading) (h h' : Option (List ℕ))
-      → reads form x ≡ Ok reading → script_of x ≡ lines_of y → AnswersInFront (by reading.show) (lines_of y) h h'
-      → WritesPrefix job x h h'
-  front_at job by is x y reading h h' read script answered =
-      let a : AnswersInFront (by reading.show) (script_of x) h h' =
-      subst (λ ls. AnswersInFront (by reading.show) ls h h') (sym script) answered in
+  front_at : (kind : ScriptKind) (x y : List ℕ) (reading : Reading) (h h' : Option (List ℕ)) → reads form x ≡ Ok reading
+      → script_of x ≡ lines_of y → AnswersInFront (answering_of kind) (opening_of kind reading.show) (lines_of y) h h'
+      → WritesPrefix (Script kind form) x h h'
+  front_at kind x y reading h h' read script answered =
+      let a : AnswersInFront (answering_of kind) (opening_of kind reading.show) (script_of x) h h' =
+      subst (λ ls. AnswersInFront (answering_of kind) (opening_of kind reading.show) ls h h') (sym script) answered in
       record {
-        places = a.places;
-        wants = is.wants x a.places reading read a.wants;
-        text = subst (λ (t : List ℕ). AppendsFront h h' t) (sym (output_at job by is x a.places reading read)) a.text;
+        failures = a.failures;
+        allows = allows_at kind x a.failures reading read a.allows;
+        text = subst (λ (t : List ℕ). AppendsFront h h' t) (sym (output_at kind x a.failures reading read)) a.text;
       }
 
   one_more : (front : List (List ℕ)) (last : List ℕ) → length front + 1 ≡ length (front ++ last ∷ [])
@@ -193,23 +161,23 @@ module _ (form : Form) where
       m.handed.took (one_more m.front m.last) m.wanted m.text m.script p
       (λ x y took shown text script q. f x y (m.front ++ m.last ∷ []) took shown text script q))
 
-  pub session_text : (job : Job) (by : Show → Answering) → IsOfScript job by
-      → {S : Type 0} (left : S → Option (List ℕ)) (faults : S → ℕ) (a b : Lines S) (loaded : Loaded) (o h h' : Option (List ℕ))
-      → unread left a ≡ o → HasRead left faults a b form loaded
-      → IfSome (unread left b) (λ bytes. AnswersScript (by loaded.show) (lines_of bytes) h h')
-      → IfSome o (λ bytes. WritesAll job bytes h h' × IsOk (show_of job bytes))
-  session_text job by of left faults a b loaded o h h' is r answers =
-      over_loaded left faults a b loaded o (λ bytes. AnswersScript (by loaded.show) (lines_of bytes) h h') _ is r answers
-      (λ x y raws took shown read script answer. answer_at job by of x y (reading_of loaded) h h' read script answer)
-
-  pub session_front : (job : Job) (by : Show → Answering) → IsOfScript job by
-      → {S : Type 0} (left : S → Option (List ℕ)) (faults : S → ℕ) (a b : Lines S) (loaded : Loaded)
+  pub session_text : (kind : ScriptKind) {S : Type 0} (left : S → Option (List ℕ)) (faults : S → ℕ) (a b : Lines S) (loaded : Loaded)
       (o h h' : Option (List ℕ)) → unread left a ≡ o → HasRead left faults a b form loaded
-      → IfSome (unread left b) (λ bytes. AnswersInFront (by loaded.show) (lines_of bytes) h h')
-      → IfSome o (λ bytes. WritesPrefix job bytes h h')
-  session_front job by of left faults a b loaded o h h' is r answers =
-      over_loaded left faults a b loaded o (λ bytes. AnswersInFront (by loaded.show) (lines_of bytes) h h') _ is r answers
-      (λ x y raws took shown read script answer. front_at job by of x y (reading_of loaded) h h' read script answer)
+      → IfSome (unread left b) (λ bytes. AnswersScript (answering_of kind) (opening_of kind loaded.show) (lines_of bytes) h h')
+      → IfSome o (λ bytes. WritesAll (Script kind form) bytes h h' × IsOk (show_of (Script kind form) bytes))
+  session_text kind left faults a b loaded o h h' is r answers =
+      over_loaded left faults a b loaded o
+      (λ bytes. AnswersScript (answering_of kind) (opening_of kind loaded.show) (lines_of bytes) h h') _ is r answers
+      (λ x y raws took shown read script answer. answer_at kind x y (reading_of loaded) h h' read script answer)
+
+  pub session_front : (kind : ScriptKind) {S : Type 0} (left : S → Option (List ℕ)) (faults : S → ℕ) (a b : Lines S) (loaded : Loaded)
+      (o h h' : Option (List ℕ)) → unread left a ≡ o → HasRead left faults a b form loaded
+      → IfSome (unread left b) (λ bytes. AnswersInFront (answering_of kind) (opening_of kind loaded.show) (lines_of bytes) h h')
+      → IfSome o (λ bytes. WritesPrefix (Script kind form) bytes h h')
+  session_front kind left faults a b loaded o h h' is r answers =
+      over_loaded left faults a b loaded o
+      (λ bytes. AnswersInFront (answering_of kind) (opening_of kind loaded.show) (lines_of bytes) h h') _ is r answers
+      (λ x y raws took shown read script answer. front_at kind x y (reading_of loaded) h h' read script answer)
 
   -- of a show that is read the lines that were handed out are wanted, and then those of the script
   pub wanted_read : (x y : List ℕ) (i j : ℕ) (raws : List (List ℕ)) (reading : Reading) → i ≡ 0 → LinesBetween (Some x) (Some y) i j raws
@@ -253,11 +221,11 @@ module _ (form : Form) where
   fed_behind all xs ys y z m n k e is p q took = subst (λ (v : List ℕ). (feeds v ≡ k) ⊎ (z ≡ [])) (sym is) (fed_then xs ys y z m n k e p q took)
 
   -- The script was cut off behind a show that was read.
-  cut_behind : (job : Job) (by : Show → Answering) → IsOfScript job by → (x y : List ℕ) (left h h' : Option (List ℕ)) (i j : ℕ)
-      (raws : List (List ℕ)) (reading : Reading) → i ≡ 0 → LinesBetween (Some x) (Some y) i j raws
-      → lines_read (lines_of x) ≡ length raws → reads form x ≡ Ok reading → script_of x ≡ lines_of y
-      → AnswersTaken (by reading.show) j y left h h' → RepliesToTaken job x left h h'
-  cut_behind job by of x y left h h' i j raws reading none took shown text script a =
+  cut_behind : (kind : ScriptKind) (x y : List ℕ) (left h h' : Option (List ℕ)) (i j : ℕ) (raws : List (List ℕ)) (reading : Reading)
+      → i ≡ 0 → LinesBetween (Some x) (Some y) i j raws → lines_read (lines_of x) ≡ length raws → reads form x ≡ Ok reading
+      → script_of x ≡ lines_of y → AnswersTaken (answering_of kind) (opening_of kind reading.show) j y left h h'
+      → RepliesToTaken (Script kind form) x left h h'
+  cut_behind kind x y left h h' i j raws reading none took shown text script a =
       let n = a.cut.lines in
       let mine : took.bytes ≡ first_lines (length raws) (took.bytes ++ y) = took.front ∙ ap (first_lines (length raws)) took.took in
       let first : first_lines (length raws + n) x ≡ took.bytes ++ first_lines n y = ap (first_lines (length raws + n)) took.took
@@ -266,9 +234,9 @@ module _ (form : Form) where
       omega (arith, none, took.count, ap length first, length-append took.bytes (first_lines n y)) in
       let done : length raws + n - lines_read (lines_of x) ≡ n = omega (arith, shown) in
       record {
-        places = a.places;
-        wants = of.wants x a.places reading text
-            (subst (λ ls. (by reading.show).Allows ls a.places) (sym script) a.wants);
+        failures = a.failures;
+        allows = allows_at kind x a.failures reading text
+            (subst (λ ls. Allows (answering_of kind) (opening_of kind reading.show) ls a.failures) (sym script) a.allows);
         cut = record {
           lines = length raws + n;
           next = a.cut.next;
@@ -282,35 +250,40 @@ module _ (form : Form) where
           no_feed = subst (λ k. HasNoFeed (take (INPUT_BYTES - k) a.cut.next)) count a.cut.no_feed;
         };
         short =
-            let w = of.lines x ∙ ap (input_lines_wanted x) text in
+            let w = ap (input_lines_wanted x) text in
             let s = ap lines_wanted script in
             let m = a.short in
             omega (arith, w, s, m, shown);
         text = subst (λ (t : List ℕ). Appends h h' t)
-            (sym (of.first x a.places (length raws + n - lines_read (lines_of x)) reading text
-            ∙ ap ((by reading.show).first (script_of x) a.places) done
-            ∙ ap (λ ls. (by reading.show).first ls a.places n) script)) a.text;
+            (sym (ap (λ r. first_replies kind x a.failures (length raws + n - lines_read (lines_of x)) r) text
+            ∙ ap (λ k. (session_after (answering_of kind) (opening_of kind reading.show) (script_of x) a.failures k).text) done
+            ∙ ap (λ ls. (session_after (answering_of kind) (opening_of kind reading.show) ls a.failures n).text) script)) a.text;
       }
 
-  pub session_cut : (job : Job) (by : Show → Answering) → IsOfScript job by
-      → {S : Type 0} (left : S → Option (List ℕ)) (faults : S → ℕ) (a b : Lines S) (loaded : Loaded)
+  pub session_cut : (kind : ScriptKind) {S : Type 0} (left : S → Option (List ℕ)) (faults : S → ℕ) (a b : Lines S) (loaded : Loaded)
       (o rest h h' : Option (List ℕ)) → unread left a ≡ o → a.taken ≡ 0 → HasRead left faults a b form loaded
-      → IfSome (unread left b) (λ y. AnswersTaken (by loaded.show) b.taken y rest h h')
-      → IfSome o (λ x. WritesTaken job x rest h h')
-  session_cut job by of left faults a b loaded o rest h h' is none r answers =
-      over_loaded left faults a b loaded o (λ y. AnswersTaken (by loaded.show) b.taken y rest h h') _ is r answers
-      (λ x y raws took shown read script answer. of.taken x rest h h'
-      (cut_behind job by of x y rest h h' a.taken b.taken raws (reading_of loaded) none took shown read script answer))
+      → IfSome (unread left b) (λ y. AnswersTaken (answering_of kind) (opening_of kind loaded.show) b.taken y rest h h')
+      → IfSome o (λ x. WritesTaken (Script kind form) x rest h h')
+  session_cut kind left faults a b loaded o rest h h' is none r answers =
+      over_loaded left faults a b loaded o (λ y. AnswersTaken (answering_of kind) (opening_of kind loaded.show) b.taken y rest h h') _ is r
+      answers
+      (λ x y raws took shown read script answer.
+      cut_behind kind x y rest h h' a.taken b.taken raws (reading_of loaded) none took shown read script answer)
+
+  -- the replies to no line, where no attempt failed
+  none_replied : (kind : ScriptKind) (x : List ℕ) (r : Result Reading TextFault) → first_replies kind x [] 0 r ≡ []
+  none_replied kind x (Ok reading) = refl
+  none_replied kind x (Err fault) = refl
 
   -- The input was cut off within the show.
-  cut_within : (job : Job) (by : Show → Answering) → IsOfScript job by → (x : List ℕ) (left h : Option (List ℕ)) (i : ℕ) → i ≡ 0
-      → IsCutShort i x left → RepliesToTaken job x left h h
-  cut_within job by of x left h i none short =
+  cut_within : (kind : ScriptKind) (x : List ℕ) (left h : Option (List ℕ)) (i : ℕ) → i ≡ 0 → IsCutShort i x left
+      → RepliesToTaken (Script kind form) x left h h
+  cut_within kind x left h i none short =
       let cut = short.cut in
       let few : cut.lines - lines_read (lines_of x) ≡ 0 = let lt = short.wanted in omega (arith, lt) in
       record {
-        places = [];
-        wants = of.nothing x;
+        failures = [];
+        allows = none_failed kind x (reads form x);
         cut = record {
           lines = cut.lines;
           next = cut.next;
@@ -321,10 +294,10 @@ module _ (form : Form) where
         };
         short =
             let lt = short.wanted in
-            let w = of.lines x in
             let m = more_wanted x cut.lines (reads form x) (omega (arith, lt)) in
-            omega (arith, w, m);
-        text = subst (λ (t : List ℕ). Appends h h t) (sym (ap (replies_of job x []) few ∙ of.none x)) (Appends-nil h);
+            omega (arith, m);
+        text = subst (λ (t : List ℕ). Appends h h t)
+            (sym (ap (λ k. first_replies kind x [] k (reads form x)) few ∙ none_replied kind x (reads form x))) (Appends-nil h);
       }
 
   -- The same, of a job that writes nothing then.
@@ -336,7 +309,7 @@ module _ (form : Form) where
   -- A job over the show that its input begins with.
   pub record IsOverShow (job : Job) : Type 0 where
     pub show : (x : List ℕ) → show_of job x ≡ reads form x
-    pub nothing : (x : List ℕ) → WantsEdits job x []
+    pub nothing : (x : List ℕ) → JobAllows job x []
     pub refusal : (x : List ℕ) (fault : TextFault) → reads form x ≡ Err fault → output_of job x [] ≡ fault_text fault
     pub wanted : (x : List ℕ) (fault : TextFault) → reads form x ≡ Err fault → wanted_of job x ≡ show_wanted x
     pub longer : (x : List ℕ) (n : ℕ) → n + 1 ≤ lines_read (lines_of x) → length (first_lines (n + 1) x) ≤ length (wanted_of job x)
@@ -349,20 +322,14 @@ module _ (form : Form) where
     pub bytes : (x : List ℕ) → wanted_of job x ≡ show_wanted x
 
   -- a job that answers the script is one over the show
-  pub script_over : (job : Job) (by : Show → Answering) → IsOfScript job by → IsOverShow job
-  script_over job by of = record {
-    show = of.show;
-    nothing = of.nothing;
-    refusal = λ x fault text.
-        of.output x [] ∙ ap (λ r. over_show r (λ reading. (by reading.show).whole (script_of x) [])) text;
-    wanted = λ x fault text. of.bytes x ∙ ap (λ k. first_lines k x) (ap (input_lines_wanted x) text);
-    longer = λ x n h.
-        omega (
-          arith,
-          ap length (of.bytes x),
-          first_lines-longer (n + 1) (input_lines_wanted x (reads form x)) x (more_wanted x n (reads form x) h),
-        );
-    cut = λ x left h i none short. of.taken x left h h (cut_within job by of x left h i none short);
+  pub script_over : (kind : ScriptKind) → IsOverShow (Script kind form)
+  script_over kind = record {
+    show = λ x. refl;
+    nothing = λ x. none_failed kind x (reads form x);
+    refusal = λ x fault text. ap (λ r. over_show r (λ reading. (script_session kind x [] reading).text)) text;
+    wanted = λ x fault text. ap (λ k. first_lines k x) (ap (input_lines_wanted x) text);
+    longer = λ x n h. first_lines-longer (n + 1) (input_lines_wanted x (reads form x)) x (more_wanted x n (reads form x) h);
+    cut = λ x left h i none short. cut_within kind x left h i none short;
   }
 
   pub check_tells : IsOfShow (Check form) check_text
@@ -397,15 +364,15 @@ module _ (form : Form) where
   pub nothing_written : (job : Job) → IsOverShow job → (o a : Option (List ℕ)) → IfSome o (λ bytes. WritesPrefix job bytes a a)
   nothing_written job over None a = tt
   nothing_written job over (Some bytes) a =
-      record { places = []; wants = over.nothing bytes; text = front_nothing a (output_of job bytes []) }
+      record { failures = []; allows = over.nothing bytes; text = front_nothing a (output_of job bytes []) }
 
   -- What is told of a show that was read.
   told_at : (job : Job) (f : Reading → List ℕ) → IsOfShow job f → (x : List ℕ) (h h' : Option (List ℕ)) (reading : Reading)
       → reads form x ≡ Ok reading → Appends h h' (f reading) → WritesAll job x h h' × IsOk (show_of job x)
   told_at job f tells x h h' reading read text = (
     record {
-      places = [];
-      wants = tells.over.nothing x;
+      failures = [];
+      allows = tells.over.nothing x;
       text = subst (λ (t : List ℕ). Appends h h' t) (sym (tells.output x ∙ ap (λ r. over_show r f) read)) text;
     },
     subst (λ (r : Result Reading TextFault). IsOk r) (sym (tells.over.show x ∙ read)) refl,
@@ -414,8 +381,8 @@ module _ (form : Form) where
   told_front_at : (job : Job) (f : Reading → List ℕ) → IsOfShow job f → (x : List ℕ) (h h' : Option (List ℕ)) (reading : Reading)
       → reads form x ≡ Ok reading → AppendsFront h h' (f reading) → WritesPrefix job x h h'
   told_front_at job f tells x h h' reading read text = record {
-    places = [];
-    wants = tells.over.nothing x;
+    failures = [];
+    allows = tells.over.nothing x;
     text = subst (λ (t : List ℕ). AppendsFront h h' t) (sym (tells.output x ∙ ap (λ r. over_show r f) read)) text;
   }
 
@@ -481,8 +448,8 @@ module _ (form : Form) where
   text_at job over None h h' fault text appended = tt
   text_at job over (Some x) h h' fault text appended = (
     record {
-      places = [];
-      wants = over.nothing x;
+      failures = [];
+      allows = over.nothing x;
       text = subst (λ (v : List ℕ). Appends h h' v) (sym (over.refusal x fault text)) appended;
     },
     subst (λ (r : Result Reading TextFault). IsErr r) (sym (over.show x ∙ text)) refl,
@@ -492,8 +459,8 @@ module _ (form : Form) where
       → AppendsFront h h' (fault_text fault) → IfSome o (λ x. WritesPrefix job x h h')
   text_front job over None h h' fault text appended = tt
   text_front job over (Some x) h h' fault text appended = record {
-    places = [];
-    wants = over.nothing x;
+    failures = [];
+    allows = over.nothing x;
     text = subst (λ (v : List ℕ). AppendsFront h h' v) (sym (over.refusal x fault text)) appended;
   }
 

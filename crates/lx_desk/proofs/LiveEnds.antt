@@ -1,5 +1,5 @@
 -- How a live run ended, from its show and its script.
-use Rattle.std.proofs.Common.{◌≡◌, ◌≢◌, ◌⊎◌, inl, inr, true, false, ℕ, ◌+◌, ◌-◌, ◌≤◌, Option, Some, None, Ok, Err, IsOk, IfSome, List}
+use Rattle.std.proofs.Common.{◌≡◌, ◌≢◌, ◌⊎◌, inl, inr, true, false, ℕ, ◌+◌, ◌-◌, ◌≤◌, Option, Some, None, Result, Ok, Err, IsOk, IfSome, List}
 use Rattle.std.proofs.Common.{[], ◌∷◌, ◌++◌, length, take, refl, sym, ap, ◌∙◌, subst, arith, append_assoc, length-append}
 use Rattle.std.specs.Io.KnownBytes.{Appends}
 use Rattle.lx_base.specs.declared.TheConstants.{INPUT_BYTES}
@@ -12,15 +12,18 @@ use Rattle.lx_lex.specs.Unread.{unread}
 use Rattle.lx_lex.proofs.FirstLines.{first_lines-more}
 use Rattle.lx_spec.specs.declared.Form.{Form}
 use Rattle.lx_spec.specs.declared.TextFault.{TextFault}
-use Rattle.lx_session.proofs.Ends.{front_of_all}
-use Rattle.lx_spec.specs.declared.Job.TheVariants.{Run}
+use Rattle.lx_session.proofs.HeardLines.{desk_lawful}
+use Rattle.lx_session.proofs.ScriptEnds.{front_of_whole}
+use Rattle.lx_spec.specs.declared.Job.TheVariants.{Script}
+use Rattle.lx_spec.specs.declared.ScriptKind.TheVariants.{Live}
 use Rattle.lx_spec.specs.Text.{lines_of}
 use Rattle.lx_spec.specs.Desk.{opened}
 use Rattle.lx_spec.specs.CutInput.{HasNoFeed, first_lines}
 use Rattle.lx_spec.specs.FaultLine.{over_show}
 use Rattle.lx_spec.specs.Reading.{Reading, reads, script_of, lines_read}
-use Rattle.lx_spec.specs.RenderOutput.{first_replies, input_lines_wanted, input_wanted, render_output}
-use Rattle.lx_spec.specs.Session.{accepted, after_first, replies, lines_wanted, bytes_wanted}
+use Rattle.lx_spec.specs.ScriptOutput.{first_replies, input_lines_wanted, input_wanted, script_output, ScriptAllows}
+use Rattle.lx_spec.specs.Session.{Session, begin_at, answered_lines, AreAllowed, lines_wanted, bytes_wanted}
+use Rattle.lx_spec.specs.DeskSession.{DeskState, begun, after_line, desk_answering}
 use Rattle.lx_spec.specs.Show.{Show}
 use Rattle.lx_reader.specs.declared.loaded.Loaded.{Loaded}
 use Rattle.lx_reader.specs.declared.fault.ShowFault.{ShowFault}
@@ -30,17 +33,28 @@ use Rattle.lx_desk.specs.declared.desk.Status.TheVariants as status
 use Rattle.lx_desk.specs.Output.{WritesPrefix, RepliesToTaken}
 use Rattle.lx_desk.specs.ShowRefusal.{RefusedBy}
 use Rattle.lx_desk.specs.Endings.{EndsJob, HasEnded}
-use Rattle.lx_desk.specs.Live.{HaveVersions, PlaysScript, AreServed, PlaysInFront, PlaysTaken, HasPlayedLive, PlaysWhole, LivesInFront}
+use Rattle.lx_desk.specs.Live.{live_session, live_after, HaveVersions, PlaysScript, AreServed, PlaysInFront, PlaysTaken, HasPlayedLive, PlaysWhole, LivesInFront}
 use Rattle.lx_desk.specs.Live.{LivesTaken}
 use Rattle.lx_desk.specs.Live.{HasLived, PlaysToEnd, LivesToEnd, LacksMemory, HasFailedOutlet, DecidesInOrder}
 use Rattle.lx_desk.specs.Finished.{HasWanted}
 use Rattle.lx_desk.proofs.Inputs.{Says, means_of, session_long, session_fits, refusal_isnt_ok, front_nothing, if_known, both_known, over_loaded}
-use Rattle.lx_desk.proofs.Inputs.{if_both, fed_behind, wanted_read}
-use Rattle.lx_desk.proofs.ScriptJobs.{run_over}
+use Rattle.lx_desk.proofs.Inputs.{if_both, fed_behind, wanted_read, script_over}
 use Rattle.lx_desk.proofs.Endings.{refusal_ends, refusal_ended}
 
 -- Of a show whose levels are read in this form, for so many universes.
 module _ (form : Form) (universes : ℕ) where
+  -- any attempt may fail
+  each_allowed : (failures : List (Option ℕ)) (s : Session DeskState) (script : List (List ℕ))
+      → AreAllowed (desk_answering false) failures s script
+  each_allowed [] s script = tt
+  each_allowed (failed ∷ failures) s [] = tt
+  each_allowed (None ∷ failures) s (line ∷ script) = (tt, each_allowed failures (after_line None s line) script)
+  each_allowed (Some k ∷ failures) s (line ∷ script) = (tt, each_allowed failures (after_line (Some k) s line) script)
+
+  live_allows : (x : List ℕ) (failures : List (Option ℕ)) (r : Result Reading TextFault) → ScriptAllows (Live universes) x failures r
+  live_allows x failures (Ok reading) = each_allowed failures (begin_at (begun (opened reading.show))) (answered_lines (script_of x))
+  live_allows x failures (Err fault) = tt
+
   whole_at : {K : Type 0} (holds : K → Option (List ℕ)) (x y : List ℕ) (reading : Reading) (h h' : Option (List ℕ))
       (outlets outlets' : List (Option K)) → reads form x ≡ Ok reading → script_of x ≡ lines_of y
       → length (input_wanted form x) ≤ INPUT_BYTES → PlaysScript holds reading.show universes (lines_of y) h h' outlets outlets'
@@ -48,10 +62,10 @@ module _ (form : Form) (universes : ℕ) where
   whole_at holds x y reading h h' outlets outlets' read script fits a = record {
     reading = reading;
     read = read;
-    places = a.places;
-    text = subst (λ (ls : List (List ℕ)). Appends h h' (replies (opened reading.show) ls a.places)) (sym script) a.text;
+    failures = a.failures;
+    text = subst (λ (ls : List (List ℕ)). Appends h h' (live_session reading.show ls a.failures).text) (sym script) a.text;
     versions = subst (λ (ls : List (List ℕ)). HaveVersions holds reading.show universes outlets outlets'
-        (accepted (opened reading.show) ls a.places)) (sym script) a.versions;
+        (live_session reading.show ls a.failures).state.accepted) (sym script) a.versions;
     within = fits;
   }
 
@@ -59,16 +73,17 @@ module _ (form : Form) (universes : ℕ) where
       (h h' : Option (List ℕ))
       (outlets outlets' : List (Option K)) → reads form x ≡ Ok reading → script_of x ≡ lines_of y
       → PlaysInFront holds back failures wants reading.show universes (lines_of y) h h' outlets outlets'
-      → WritesPrefix (Run universes form) x h h' × LivesInFront holds back failures wants universes form x h h' outlets outlets'
+      → WritesPrefix (Script (Live universes) form) x h h' × LivesInFront holds back failures wants universes form x h h' outlets outlets'
   prefix_at holds back failures wants x y reading h h' outlets outlets' read script a =
       let plays : PlaysInFront holds back failures wants reading.show universes (script_of x) h h' outlets outlets' =
       subst (λ (ls : List (List ℕ)). PlaysInFront holds back failures wants reading.show universes ls h h' outlets outlets') (sym script) a in
-      let front = front_of_all (opened reading.show) (script_of x) plays.places plays.lines h h' plays.text in (
+      let front = front_of_whole (desk_answering false) (desk_lawful false) (begun (opened reading.show)) (script_of x) plays.failures
+      plays.lines h h' plays.text in (
         record {
-          places = plays.places;
-          wants = tt;
+          failures = plays.failures;
+          allows = live_allows x plays.failures (reads form x);
           text = subst (λ (t : List ℕ). AppendsFront h h' t)
-              (sym (ap (λ r. over_show r (λ z. replies (opened z.show) (script_of x) plays.places)) read)) front;
+              (sym (ap (λ r. over_show r (λ z. (live_session z.show (script_of x) plays.failures).text)) read)) front;
         },
         record { reading = reading; read = read; plays = plays },
       )
@@ -90,7 +105,7 @@ module _ (form : Form) (universes : ℕ) where
       record {
         reading = reading;
         read = text;
-        places = a.places;
+        failures = a.failures;
         cut = record {
           lines = length raws + n;
           next = a.cut.next;
@@ -107,32 +122,36 @@ module _ (form : Form) (universes : ℕ) where
             let s = ap lines_wanted script in
             let m = a.short in
             omega (arith, s, m, shown);
-        text = subst (λ (k : ℕ). Appends h h' (after_first (opened reading.show) (script_of x) a.places k).text) done
-            (subst (λ (ls : List (List ℕ)). Appends h h' (after_first (opened reading.show) ls a.places n).text) (sym script) a.text);
+        text = subst (λ (k : ℕ). Appends h h' (live_after reading.show (script_of x) a.failures k).text) done
+            (subst (λ (ls : List (List ℕ)). Appends h h' (live_after reading.show ls a.failures n).text) (sym script) a.text);
         served = subst (λ (k : ℕ). AreServed holds back failures wants reading.show universes outlets outlets'
-            (after_first (opened reading.show) (script_of x) a.places k).accepted) done
+            (live_after reading.show (script_of x) a.failures k).state.accepted) done
             (subst (λ (ls : List (List ℕ)). AreServed holds back failures wants reading.show universes outlets outlets'
-            (after_first (opened reading.show) ls a.places n).accepted) (sym script) a.served);
+            (live_after reading.show ls a.failures n).state.accepted) (sym script) a.served);
       }
 
   -- the same, as it is told of a job
   as_taken : {K : Type 0} (holds : K → Option (List ℕ)) (back : K → List ℕ) (failures wants : K → ℕ) (x : List ℕ) (left h h' : Option (List ℕ))
       (outlets outlets' : List (Option K))
-      → LivesTaken holds back failures wants universes form x left h h' outlets outlets' → RepliesToTaken (Run universes form) x left h h'
+      → LivesTaken holds back failures wants universes form x left h h' outlets outlets' → RepliesToTaken (Script (Live universes) form) x left h h'
   as_taken holds back failures wants x left h h' outlets outlets' a = record {
-    places = a.places;
-    wants = tt;
+    failures = a.failures;
+    allows = live_allows x a.failures (reads form x);
     cut = a.cut;
     short = let w = ap (input_lines_wanted x) a.read in let m = a.short in omega (arith, w, m);
     text = subst (λ (t : List ℕ). Appends h h' t)
-        (sym (ap (λ r. first_replies r (script_of x) a.places (a.cut.lines - lines_read (lines_of x))) a.read)) a.text;
+        (sym (ap (λ r. first_replies (Live universes) x a.failures (a.cut.lines - lines_read (lines_of x)) r) a.read)) a.text;
   }
 
   -- nothing was written
-  nothing_lived : (x : List ℕ) (h h' : Option (List ℕ)) → h' ≡ h → WritesPrefix (Run universes form) x h h'
+  nothing_lived : (x : List ℕ) (h h' : Option (List ℕ)) → h' ≡ h → WritesPrefix (Script (Live universes) form) x h h'
   nothing_lived x h h' kept =
-      subst (λ (v : Option (List ℕ)). WritesPrefix (Run universes form) x h v) (sym kept)
-      (record { places = []; wants = tt; text = front_nothing h (render_output form x []) })
+      subst (λ (v : Option (List ℕ)). WritesPrefix (Script (Live universes) form) x h v) (sym kept)
+      (record {
+        failures = [];
+        allows = live_allows x [] (reads form x);
+        text = front_nothing h (script_output (Live universes) form x []);
+      })
 
   -- a script over a show that was read
   pub live_ended : {S K : Type 0} (left : S → Option (List ℕ)) (faults : S → ℕ) (holds : K → Option (List ℕ)) (back : K → List ℕ) (failures wants : K → ℕ)
@@ -185,7 +204,7 @@ module _ (form : Form) (universes : ℕ) where
 
   refused_at : {K : Type 0} (holds : K → Option (List ℕ)) (back : K → List ℕ) (failures wants : K → ℕ) (x : List ℕ) (rest h h' : Option (List ℕ))
       (outlets : List (Option K)) (fault : ShowFault) (s : Status)
-      → RefusedBy h h' fault s → HasEnded s (Run universes form) x rest h h' → (IsOk (reads form x) → h' ≡ h)
+      → RefusedBy h h' fault s → HasEnded s (Script (Live universes) form) x rest h h' → (IsOk (reads form x) → h' ≡ h)
       → HasLived s holds back failures wants universes form x rest h h' outlets outlets
   refused_at holds back failures wants x rest h h' outlets fault status.Ok by e none = refusal_isnt_ok h h' fault status.Ok _ by refl
   refused_at holds back failures wants x rest h h' outlets fault status.ShowRefused by e none = (e, refl)
@@ -219,7 +238,7 @@ module _ (form : Form) (universes : ℕ) where
       → unread left a ≡ o → a.taken ≡ 0 → Says form left a b fault → RefusedBy h h' fault s
       → IfSome o (λ x. HasLived s holds back failures wants universes form x (left b.source.now) h h' outlets outlets)
   refused_lived left holds back failures wants a b o h h' outlets fault s is none says by =
-      both_known o _ _ _ (refusal_ended form (Run universes form) (run_over form universes) left a b o h h' fault s is none says by)
+      both_known o _ _ _ (refusal_ended form (Script (Live universes) form) (script_over form (Live universes)) left a b o h h' fault s is none says by)
       (unanswered left a b o h h' fault s is says by)
       (λ x e unread. refused_at holds back failures wants x (left b.source.now) h h' outlets fault s by e unread)
 

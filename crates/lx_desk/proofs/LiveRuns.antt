@@ -3,7 +3,7 @@ use Rattle.std.proofs.Common.{◌≡◌, ◌≢◌, inl, inr, ℕ, zero, suc, �
 use Rattle.std.proofs.Common.{IfSome, List, [], ◌∷◌, ◌++◌, length, take, drop, slice_get, refl, sym, ap, ◌∙◌, subst, arith, append-nil}
 use Rattle.std.proofs.Common.{take_all, ◌+◌, OnOk}
 use Rattle.lx_base.specs.declared.TheConstants.{INPUT_BYTES}
-use Rattle.std.specs.List.{list_any, before_first}
+use Rattle.std.specs.List.{list_any}
 use Rattle.std.proofs.lemmas.Option.{same_Some}
 use Rattle.lx_io.specs.declared.sink.SinkFault.{SinkFault}
 use Rattle.lx_io.specs.declared.sink.SinkFault.TheVariants as sinks
@@ -13,19 +13,22 @@ use Rattle.lx_spec.specs.Text.{lines_of}
 use Rattle.lx_spec.specs.Show.{Show}
 use Rattle.lx_spec.specs.Desk.{opened}
 use Rattle.lx_spec.specs.Kept.{Kept}
-use Rattle.lx_spec.specs.Session.{replies, after_lines, begin_at, ends_script, bytes_wanted}
+use Rattle.lx_spec.specs.Session.{begin_at, after_each, answered_lines, bytes_wanted}
+use Rattle.lx_spec.specs.DeskSession.{DeskState, begun, desk_answering}
 use Rattle.lx_console.specs.ConsoleMeaning.{StandsFor}
 use Rattle.lx_session.specs.declared.fault.SessionFault.{SessionFault}
 use Rattle.lx_session.specs.declared.fault.SessionFault.TheVariants as faults
 use Rattle.lx_session.specs.declared.tally.Tally.{Tally}
-use Rattle.lx_session.specs.SessionOutcome.{WholeScript, ScriptPrefix, TakenScript, SessionOutcome, KeepsLimit, HasSessionCause}
+use Rattle.lx_session.specs.Listening.{HasDone}
+use Rattle.lx_session.specs.ScriptAnswer.{AnsweredWhole, AnsweredPrefix, AnsweredTaken, ScriptAnswered}
+use Rattle.lx_session.specs.SessionOutcome.{KeepsLimit, HasSessionCause}
 use Rattle.lx_workers.specs.Places.{IsFull}
 use Rattle.lx_workers.specs.LiveOutcome.{AreDelivered}
 use Rattle.lx_desk.specs.declared.desk.Status.{Status}
 use Rattle.lx_desk.specs.declared.desk.Status.TheVariants as status
 use Rattle.lx_desk.specs.Faults.{status_for}
 use Rattle.lx_desk.specs.Endings.{HasCauseOf}
-use Rattle.lx_desk.specs.Live.{HaveVersions, PlaysScript, HaveGot, AreServed, PlaysInFront, PlaysTaken, HasPlayedLive, ArePlayed}
+use Rattle.lx_desk.specs.Live.{live_session, HaveVersions, PlaysScript, HaveGot, AreServed, PlaysInFront, PlaysTaken, HasPlayedLive, ArePlayed}
 use Rattle.lx_desk.specs.Live.{OutletFailed, PlaysToEnd, LacksMemory, HasFailedOutlet, DecidesInOrder}
 use Rattle.lx_desk.specs.Finished.{Finishes}
 use Rattle.lx_desk.proofs.Finishing.{all_done, session_finishes}
@@ -96,6 +99,10 @@ have_got {K = K} holds back failures wants show universes outlets used used' res
       rest = ap (λ k. drop k (used' ++ rest)) (sym n) ∙ (drop_before used' rest ∙ behind);
     }
 
+-- the console stands for the desk after the commands that are published, and then the unsent ones
+abbrev Done : Show → (published unsent : List Command) → Kept → DeskState → Type 0
+Done show published unsent console = HasDone (λ commands. commands ≡ published ++ unsent) (opened show) console
+
 -- What was played, as it is told: over a show, for so many universes.
 module _ {K : Type 0} (holds : K → Option (List ℕ)) (back : K → List ℕ) (failures wants : K → ℕ) (show : Show) (universes : ℕ)
     (outlets outlets' : List (Option K)) (published unsent : List Command)
@@ -105,36 +112,36 @@ module _ {K : Type 0} (holds : K → Option (List ℕ)) (back : K → List ℕ) 
   served commands is = record { published = published; held_back = unsent; commands_are = is; got = got }
 
   in_front : (bytes : List ℕ) (unread held held' : Option (List ℕ)) (console : Kept)
-      → ScriptPrefix false (λ commands. commands ≡ published ++ unsent) (opened show) bytes unread held held' console
+      → AnsweredPrefix (desk_answering false) (Done show published unsent console) (begun (opened show)) bytes unread held held'
       → PlaysInFront holds back failures wants show universes (lines_of bytes) held held' outlets outlets'
   in_front bytes unread held held' console a =
-      record { places = a.places; lines = a.lines; text = a.text; served = served _ a.done.listened }
+      record { failures = a.failures; lines = a.lines; text = a.text; served = served _ a.stands.listened }
 
   whole_in_front : (script : List (List ℕ)) (held held' : Option (List ℕ)) (console : Kept) (tally : Tally)
-      → WholeScript false (λ commands. commands ≡ published ++ unsent) (opened show) script held held' console tally
+      → AnsweredWhole (desk_answering false) (Done show published unsent console) (begun (opened show)) script held held' tally
       → PlaysInFront holds back failures wants show universes script held held' outlets outlets'
   whole_in_front script held held' console tally a =
-      let lines = before_first ends_script script in
+      let lines = answered_lines script in
       let all : lines ≡ take (length lines) lines = sym (take_all (length lines) lines (omega arith)) in
+      let from = begin_at (begun (opened show)) in
       record {
-        places = a.places;
+        failures = a.failures;
         lines = length lines;
-        text = subst (λ (ls : List (List ℕ)). AppendsFront held held' (after_lines a.places (begin_at (opened show)) ls).text) all
-            (whole_front held held' (replies (opened show) script a.places) a.text);
-        served = served _ (subst (λ (ls : List (List ℕ)). (after_lines a.places (begin_at (opened show)) ls).accepted ≡ published ++ unsent)
-            all
-            a.done.listened);
+        text = subst (λ (ls : List (List ℕ)). AppendsFront held held' (after_each (desk_answering false) a.failures from ls).text) all
+            (whole_front held held' (live_session show script a.failures).text a.text);
+        served = served _ (subst (λ (ls : List (List ℕ)).
+            (after_each (desk_answering false) a.failures from ls).state.accepted ≡ published ++ unsent) all a.stands.listened);
       }
 
   taken_of : (before : ℕ) (bytes : List ℕ) (left held held' : Option (List ℕ)) (console : Kept)
-      → TakenScript false (λ commands. commands ≡ published ++ unsent) (opened show) before bytes left held held' console
+      → AnsweredTaken (desk_answering false) (Done show published unsent console) (begun (opened show)) before bytes left held held'
       → PlaysTaken holds back failures wants show universes before bytes left held held' outlets outlets'
   taken_of before bytes left held held' console a =
-      record { places = a.places; cut = a.cut; short = a.short; text = a.text; served = served _ a.done.listened }
+      record { failures = a.failures; cut = a.cut; short = a.short; text = a.text; served = served _ a.stands.listened }
 
   -- how a session that was played ended by a fault, by its status
   live_fault : (before : ℕ) (bytes : List ℕ) (unread left held held' : Option (List ℕ)) (console : Kept) (fault : SessionFault)
-      → SessionOutcome false (λ commands. commands ≡ published ++ unsent) (opened show) before bytes unread left held held' console
+      → ScriptAnswered (desk_answering false) (Done show published unsent console) (begun (opened show)) before bytes unread left held held'
       (Err fault)
       → KeepsLimit before bytes (Err fault)
       → HasPlayedLive (status_for {A = Tally} (Err fault)) holds back failures wants show universes before bytes left held held' outlets outlets'
@@ -153,15 +160,16 @@ plays : {K : Type 0} (holds : K → Option (List ℕ)) (back : K → List ℕ) (
     (held held' : Option (List ℕ)) (outlets used used' rest : List (Option K)) (results : List (Option SinkFault))
     (published unsent : List Command) (n : ℕ) (console : Kept) (tally : Tally) → used ≡ take universes outlets → length used ≡ universes
     → n ≡ length unsent → AreDelivered holds back failures wants show used used' results published
-    → WholeScript false (λ commands. commands ≡ published ++ unsent) (opened show) script held held' console tally
+    → AnsweredWhole (desk_answering false) (HasDone (λ commands. commands ≡ published ++ unsent) (opened show) console)
+    (begun (opened show)) script held held' tally
     → (n ≡ 0) × ((place : ℕ) (fault : Option SinkFault) → slice_get results place ≡ Some fault → fault ≡ None)
     → PlaysScript holds show universes script held held' outlets (used' ++ rest)
 plays holds back failures wants show universes script held held' outlets used used' rest results published unsent n console tally is count
     counted d a ok = record {
-      places = a.places;
+      failures = a.failures;
       text = a.text;
       versions = subst (λ (l : List Command). HaveVersions holds show universes outlets (used' ++ rest) l)
-          (sym (a.done.listened ∙ none_held published unsent n counted ok.0))
+          (sym (a.stands.listened ∙ none_held published unsent n counted ok.0))
           (versions_of holds back failures wants show universes outlets used used' rest results published is count ok.1 d);
     }
 
@@ -186,7 +194,7 @@ module _ {K : Type 0} (holds : K → Option (List ℕ)) (back : K → List ℕ) 
   got = have_got holds back failures wants show universes outlets used used' rest results published is count behind d
 
   whole : (bytes : List ℕ) (held held' : Option (List ℕ)) (console : Kept) (tally : Tally)
-      → WholeScript false (λ commands. commands ≡ published ++ unsent) (opened show) (lines_of bytes) held held' console tally
+      → AnsweredWhole (desk_answering false) (Done show published unsent console) (begun (opened show)) (lines_of bytes) held held' tally
       → PlaysInFront holds back failures wants show universes (lines_of bytes) held held' outlets (used' ++ rest)
   whole bytes held held' console tally a =
       whole_in_front holds back failures wants show universes outlets (used' ++ rest) published unsent got (lines_of bytes) held held' console
@@ -194,7 +202,7 @@ module _ {K : Type 0} (holds : K → Option (List ℕ)) (back : K → List ℕ) 
 
   live_at : (bytes : List ℕ) (unread left held held' : Option (List ℕ)) (console : Kept) (session : Result Tally SessionFault) (s : Status)
       → TellsRun session results n s
-      → SessionOutcome false (λ commands. commands ≡ published ++ unsent) (opened show) before bytes unread left held held' console session
+      → ScriptAnswered (desk_answering false) (Done show published unsent console) (begun (opened show)) before bytes unread left held held' session
       → KeepsLimit before bytes session
       → HasPlayedLive s holds back failures wants show universes before bytes left held held' outlets (used' ++ rest)
   live_at bytes unread left held held' console (Ok tally) status.Ok tells a limit = (
@@ -218,8 +226,8 @@ module _ {K : Type 0} (holds : K → Option (List ℕ)) (back : K → List ℕ) 
   -- the same, where the source may tell no bytes
   pub has_played_live : (o unread left held held' : Option (List ℕ)) (console : Kept) (session : Result Tally SessionFault) (s : Status)
       → TellsRun session results n s
-      → IfSome o (λ bytes. SessionOutcome false (λ commands. commands ≡ published ++ unsent) (opened show) before bytes unread left held
-      held' console session)
+      → IfSome o (λ bytes. ScriptAnswered (desk_answering false) (Done show published unsent console) (begun (opened show)) before bytes unread left held
+      held' session)
       → IfSome o (λ bytes. KeepsLimit before bytes session)
       → IfSome o (λ bytes. HasPlayedLive s holds back failures wants show universes before bytes left held held' outlets (used' ++ rest))
   has_played_live o unread left held held' console session s tells a limit =
@@ -227,20 +235,20 @@ module _ {K : Type 0} (holds : K → Option (List ℕ)) (back : K → List ℕ) 
 
   -- and in which order its faults are told
   to_end : (Told : List (Option SinkFault) → ℕ → Type 0) (bytes : List ℕ) (held held' : Option (List ℕ)) (console : Kept) (tally : Tally)
-      → WholeScript false (λ commands. commands ≡ published ++ unsent) (opened show) (lines_of bytes) held held' console tally
+      → AnsweredWhole (desk_answering false) (Done show published unsent console) (begun (opened show)) (lines_of bytes) held held' tally
       → Told results (length unsent)
       → PlaysToEnd Told holds back failures wants show universes (lines_of bytes) held held' outlets (used' ++ rest)
   to_end Told bytes held held' console tally a told = record {
-    places = a.places;
+    failures = a.failures;
     text = a.text;
-    served = record { published = published; held_back = unsent; commands_are = a.done.listened; got = got };
+    served = record { published = published; held_back = unsent; commands_are = a.stands.listened; got = got };
     told = told;
   }
 
   order_at : {S O : Type 0} (reads : S → ℕ) (writes output_wants : O → ℕ) (old new : Lines S) (output output' : O) (bytes : List ℕ)
       (unread left held held' : Option (List ℕ)) (console : Kept) (session : Result Tally SessionFault) (s : Status)
       → TellsRun session results n s
-      → SessionOutcome false (λ commands. commands ≡ published ++ unsent) (opened show) before bytes unread left held held' console session
+      → ScriptAnswered (desk_answering false) (Done show published unsent console) (begun (opened show)) before bytes unread left held held' session
       → KeepsLimit before bytes session → HasSessionCause reads writes output_wants old new output output' session
       → DecidesInOrder s (reads old.source.now) (reads new.source.now) writes output_wants output output' outlets (used' ++ rest)
       (λ Told. PlaysToEnd Told holds back failures wants show universes (lines_of bytes) held held' outlets (used' ++ rest)
@@ -275,8 +283,8 @@ module _ {K : Type 0} (holds : K → Option (List ℕ)) (back : K → List ℕ) 
   pub in_order : {S O : Type 0} (reads : S → ℕ) (writes output_wants : O → ℕ) (old new : Lines S) (output output' : O)
       (o unread left held held' : Option (List ℕ)) (console : Kept) (session : Result Tally SessionFault) (s : Status)
       → TellsRun session results n s
-      → IfSome o (λ bytes. SessionOutcome false (λ commands. commands ≡ published ++ unsent) (opened show) before bytes unread left held
-      held' console session)
+      → IfSome o (λ bytes. ScriptAnswered (desk_answering false) (Done show published unsent console) (begun (opened show)) before bytes unread left held
+      held' session)
       → IfSome o (λ bytes. KeepsLimit before bytes session) → HasSessionCause reads writes output_wants old new output output' session
       → IfSome o (λ bytes. DecidesInOrder s (reads old.source.now) (reads new.source.now) writes output_wants output output' outlets
       (used' ++ rest)

@@ -2,7 +2,6 @@
 use Rattle.std.proofs.Common.{◌≡◌, ◌⊎◌, inl, inr, ℕ, ◌+◌, ◌≤◌, true, Option, Some, None, Result, Ok, Err, IfSome, IsOk, IsErr, List, []}
 use Rattle.std.proofs.Common.{◌∷◌, ◌++◌, length, sum, refl, sym, ap, ◌∙◌, subst, arith}
 use Rattle.std.specs.Prelude.{codes, decimal}
-use Rattle.std.specs.List.{before_first}
 use Rattle.std.specs.Io.KnownBytes.{Appends}
 use Rattle.lx_base.specs.declared.TheConstants.{INPUT_BYTES}
 use Rattle.lx_io.specs.Causes.{Rose}
@@ -11,26 +10,25 @@ use Rattle.lx_lex.specs.declared.lines.Lines.{Lines}
 use Rattle.lx_lex.specs.Unread.{unread}
 use Rattle.lx_spec.specs.declared.Command.{Command}
 use Rattle.lx_spec.specs.declared.Form.TheVariants.{Moves}
-use Rattle.lx_spec.specs.declared.Job.TheVariants.{Render, Make}
+use Rattle.lx_spec.specs.declared.Job.TheVariants.{Make, Script}
+use Rattle.lx_spec.specs.declared.ScriptKind.TheVariants.{Render}
 use Rattle.lx_spec.specs.declared.TextFault.{TextFault}
 use Rattle.lx_spec.specs.Text.{lines_of}
 use Rattle.lx_spec.specs.Desk.{Desk, opened}
 use Rattle.lx_spec.specs.Kept.{Kept}
 use Rattle.lx_spec.specs.Output.{frame}
 use Rattle.lx_spec.specs.ShowText.{line}
-use Rattle.lx_spec.specs.Session.{Session, Counts, session, begin_at, ends_script, bytes_wanted}
-use Rattle.lx_spec.specs.RefusedPlaces.{PlacesAreEdits}
+use Rattle.lx_spec.specs.Session.{Session, Counts, whole_session, Allows, bytes_wanted}
+use Rattle.lx_spec.specs.DeskSession.{DeskState, begun, desk_answering}
 use Rattle.lx_spec.specs.Reading.{Reading, reads, script_of}
 use Rattle.lx_spec.specs.FaultLine.{over_show, fault_text}
-use Rattle.lx_spec.specs.RenderOutput.{rendered, OutputPlacesAreEdits}
+use Rattle.lx_spec.specs.ScriptOutput.{script_session, ScriptAllows}
 use Rattle.lx_spec.specs.MakeOutput.{made_input, made_text, make_output}
 use Rattle.lx_console.specs.ConsoleMeaning.{StandsFor}
-use Rattle.lx_session.specs.declared.fault.SessionFault.{SessionFault}
-use Rattle.lx_session.specs.declared.fault.SessionFault.TheVariants as session_faults
 use Rattle.lx_session.specs.declared.tally.Tally.{Tally}
 use Rattle.lx_session.specs.LineReply.{counts_in}
-use Rattle.lx_session.specs.SessionOutcome.{WholeScript, KeepsLimit, HasSessionCause}
-use Rattle.lx_session.proofs.Places.{wants_nothing}
+use Rattle.lx_session.specs.Listening.{HasDone}
+use Rattle.lx_session.specs.ScriptAnswer.{AnsweredWhole}
 use Rattle.lx_reader.specs.declared.loaded.Loaded.{Loaded}
 use Rattle.lx_reader.specs.declared.fault.ShowFault.{ShowFault}
 use Rattle.lx_reader.specs.declared.fault.ShowFault.TheVariants as faults
@@ -38,96 +36,83 @@ use Rattle.lx_reader.specs.Answer.{reading_of, HasRead}
 use Rattle.lx_desk.specs.declared.desk.Status.{Status}
 use Rattle.lx_desk.specs.declared.desk.Status.TheVariants as status
 use Rattle.lx_desk.specs.declared.make.Report.{Report}
-use Rattle.lx_desk.specs.Faults.{status_for}
 use Rattle.lx_desk.specs.Output.{WritesAll, WritesPrefix}
 use Rattle.lx_desk.specs.ShowRefusal.{RefusedBy, RefusesText, status_kept}
 use Rattle.lx_desk.specs.Endings.{EndsScript, HasEnded, HasCauseOf, WritesWhole}
 use Rattle.lx_desk.specs.Made.{HasTold, TellsSession, TellsInFront, report_of, report_text}
-use Rattle.lx_desk.proofs.Inputs.{Says, means_of, no_place, nothing_wanted, front_nothing, over_loaded, refusal_fits, kept_is, if_known}
+use Rattle.lx_desk.proofs.Inputs.{Says, means_of, none_failed, script_over, front_nothing, over_loaded, refusal_fits, kept_is, if_known}
 use Rattle.lx_desk.proofs.Inputs.{both_known}
 use Rattle.lx_desk.proofs.Inputs.{refusal_long, session_long, session_fits}
-use Rattle.lx_desk.proofs.ScriptJobs.{render_over}
-use Rattle.lx_desk.proofs.Sessions.{desk_of_session}
 
 -- ---- the session
 
--- the report of the desk at its end
-report_is : (cues : ℕ) (s : Session) (d : Desk) (tally : Tally) (r : Report) → r ≡ report_of cues d tally → d ≡ s.desk
-    → counts_in tally ≡ s.counts → report_text r ≡ made_text cues s
-report_is cues s d tally r is desk counts =
-    ap report_text (is ∙ ap (λ (e : Desk). report_of cues e tally) desk)
-    ∙ ap (λ (c : Counts). line (codes "cues" ∷ decimal cues ∷ []) ++ line (codes "moment" ∷ decimal s.desk.playback.moment ∷ []) ++ line
-    (codes "ok" ∷ decimal c.ok ∷ []) ++ line (codes "refused" ∷ decimal c.refused ∷ []) ++ line
-    (codes "sum" ∷ decimal (sum (frame s.desk 1)) ∷ [])) counts
+-- the session of a script at a desk
+abbrev made_session : Desk → List (List ℕ) → List (Option ℕ) → Session DeskState
+made_session d script failures = whole_session (desk_answering true) (begun d) script failures
 
 -- what the report of a console says, where it is said of each desk that the console stands for
 abbrev Reports : ℕ → Kept → Tally → Report → Type 0
 Reports cues console tally r = (d : Desk) → StandsFor d console → r ≡ report_of cues d tally
 
-lines_are : (cues : ℕ) (heard : List Command → Type 0) (d : Desk) (script : List (List ℕ)) (dropped dropped' : Option (List ℕ))
-    (console : Kept) (tally : Tally) (r : Report)
-    → Reports cues console tally r → (w : WholeScript true heard d script dropped dropped' console tally)
-    → report_text r ≡ made_text cues (session d script w.places)
-lines_are cues heard d script dropped dropped' console tally r reports w =
-    report_is cues (session d script w.places) _ tally r (reports _ w.done.stands.now) (sym (desk_of_session d script w.places)) w.counts
+-- the report of the desk at its end
+report_is : (cues : ℕ) (s : Session DeskState) (tally : Tally) (r : Report) → r ≡ report_of cues s.state.desk tally
+    → counts_in tally ≡ s.counts → report_text r ≡ made_text cues s
+report_is cues s tally r is counts =
+    ap report_text is
+    ∙ ap (λ (c : Counts). line (codes "cues" ∷ decimal cues ∷ []) ++ line (codes "moment" ∷ decimal s.state.desk.playback.moment ∷ [])
+    ++ line (codes "ok" ∷ decimal c.ok ∷ []) ++ line (codes "refused" ∷ decimal c.refused ∷ []) ++ line
+    (codes "sum" ∷ decimal (sum (frame s.state.desk 1)) ∷ [])) counts
 
-told : (cues : ℕ) (heard : List Command → Type 0) (d : Desk) (script : List (List ℕ)) (dropped dropped' h h' : Option (List ℕ))
-    (console : Kept) (tally : Tally) (r : Report)
-    → Reports cues console tally r → Appends h h' (report_text r) → WholeScript true heard d script dropped dropped' console tally
-    → TellsSession cues d script h h'
-told cues heard d script dropped dropped' h h' console tally r reports text w = record {
-  places = w.places;
-  wants = w.wants refl;
-  text = subst (λ (t : List ℕ). Appends h h' t) (lines_are cues heard d script dropped dropped' console tally r reports w) text;
-}
+-- a session from a desk on, whose text was dropped: the console stands for the desk at its end
+module _ (cues : ℕ) (heard : List Command → Type 0) (d : Desk) (dropped dropped' h h' : Option (List ℕ)) (console : Kept) (tally : Tally)
+    (r : Report) (reports : Reports cues console tally r) where
+  abbrev Held : List (List ℕ) → Type 0
+  Held script = AnsweredWhole (desk_answering true) (HasDone heard d console) (begun d) script dropped dropped' tally
 
-told_front : (cues : ℕ) (heard : List Command → Type 0) (d : Desk) (script : List (List ℕ)) (dropped dropped' h h' : Option (List ℕ))
-    (console : Kept) (tally : Tally) (r : Report)
-    → Reports cues console tally r → AppendsFront h h' (report_text r) → WholeScript true heard d script dropped dropped' console tally
-    → TellsInFront cues d script h h'
-told_front cues heard d script dropped dropped' h h' console tally r reports text w = record {
-  places = w.places;
-  wants = w.wants refl;
-  text = subst (λ (t : List ℕ). AppendsFront h h' t) (lines_are cues heard d script dropped dropped' console tally r reports w) text;
-}
+  lines_are : (script : List (List ℕ)) (w : Held script) → report_text r ≡ made_text cues (made_session d script w.failures)
+  lines_are script w = report_is cues (made_session d script w.failures) tally r (reports _ w.stands.stands) w.counts
 
-pub session_front_told : (cues : ℕ) (heard : List Command → Type 0) (o : Option (List ℕ)) (d : Desk)
-    (dropped dropped' h h' : Option (List ℕ)) (console : Kept) (tally : Tally) (r : Report)
-    → Reports cues console tally r → AppendsFront h h' (report_text r)
-    → IfSome o (λ bytes. WholeScript true heard d (lines_of bytes) dropped dropped' console tally)
-    → IfSome o (λ bytes. TellsInFront cues d (lines_of bytes) h h')
-session_front_told cues heard o d dropped dropped' h h' console tally r reports text w =
-    if_known o _ _ w (λ x q. told_front cues heard d (lines_of x) dropped dropped' h h' console tally r reports text q)
+  told : (script : List (List ℕ)) → Appends h h' (report_text r) → Held script → TellsSession cues d script h h'
+  told script text w = record {
+    failures = w.failures;
+    allows = w.allows;
+    text = subst (λ (t : List ℕ). Appends h h' t) (lines_are script w) text;
+  }
 
--- the session ended whole, and its report was written or not
-pub session_told : (cues : ℕ) (heard : List Command → Type 0) (o : Option (List ℕ)) (d : Desk) (taken : ℕ)
-    (dropped dropped' h h' : Option (List ℕ)) (console : Kept) (tally : Tally) (r : Report) (s : Status)
-    → Reports cues console tally r → (s ≡ status.Ok) ⊎ ((s ≡ status.WriteFault) ⊎ (s ≡ status.Memory))
-    → (s ≡ status.Ok → Appends h h' (report_text r)) → AppendsFront h h' (report_text r)
-    → IfSome o (λ bytes. WholeScript true heard d (lines_of bytes) dropped dropped' console tally)
-    → IfSome o (λ bytes. taken + length (bytes_wanted bytes) ≤ INPUT_BYTES)
-    → IfSome o (λ bytes. HasTold s cues d taken bytes h h')
-session_told cues heard o d taken dropped dropped' h h' console tally r s reports kinds whole front w fits =
-    let part = session_front_told cues heard o d dropped dropped' h h' console tally r reports front w in
-    elim kinds [
-      | inl ok ↦ subst (λ t. IfSome o (λ bytes. HasTold t cues d taken bytes h h')) (sym ok)
-          (both_known o _ _ _ w fits (λ x q f. (
-            told cues heard d (lines_of x) dropped dropped' h h' console tally r reports (whole ok) q,
-            f,
-          )))
-      | inr fault ↦ elim fault [
-        | inl write ↦ subst (λ t. IfSome o (λ bytes. HasTold t cues d taken bytes h h')) (sym write) part
-        | inr memory ↦ subst (λ t. IfSome o (λ bytes. HasTold t cues d taken bytes h h')) (sym memory) part
+  told_front : (script : List (List ℕ)) → AppendsFront h h' (report_text r) → Held script → TellsInFront cues d script h h'
+  told_front script text w = record {
+    failures = w.failures;
+    allows = w.allows;
+    text = subst (λ (t : List ℕ). AppendsFront h h' t) (lines_are script w) text;
+  }
+
+  pub session_front_told : (o : Option (List ℕ)) → AppendsFront h h' (report_text r) → IfSome o (λ bytes. Held (lines_of bytes))
+      → IfSome o (λ bytes. TellsInFront cues d (lines_of bytes) h h')
+  session_front_told o text w = if_known o _ _ w (λ x q. told_front (lines_of x) text q)
+
+  -- the session ended whole, and its report was written or not
+  pub session_told : (o : Option (List ℕ)) (taken : ℕ) (s : Status) → (s ≡ status.Ok) ⊎ ((s ≡ status.WriteFault) ⊎ (s ≡ status.Memory))
+      → (s ≡ status.Ok → Appends h h' (report_text r)) → AppendsFront h h' (report_text r)
+      → IfSome o (λ bytes. Held (lines_of bytes)) → IfSome o (λ bytes. taken + length (bytes_wanted bytes) ≤ INPUT_BYTES)
+      → IfSome o (λ bytes. HasTold s cues d taken bytes h h')
+  session_told o taken s kinds whole front w fits =
+      let part = session_front_told o front w in
+      elim kinds [
+        | inl ok ↦ subst (λ t. IfSome o (λ bytes. HasTold t cues d taken bytes h h')) (sym ok)
+            (both_known o _ _ _ w fits (λ x q f. (told (lines_of x) (whole ok) q, f)))
+        | inr fault ↦ elim fault [
+          | inl write ↦ subst (λ t. IfSome o (λ bytes. HasTold t cues d taken bytes h h')) (sym write) part
+          | inr memory ↦ subst (λ t. IfSome o (λ bytes. HasTold t cues d taken bytes h h')) (sym memory) part
+        ]
       ]
-    ]
 
 -- nothing was written about it
 pub nothing_told : (o a : Option (List ℕ)) (cues : ℕ) (d : Desk) → IfSome o (λ bytes. TellsInFront cues d (lines_of bytes) a a)
 nothing_told None a cues d = tt
 nothing_told (Some bytes) a cues d = record {
-  places = [];
-  wants = wants_nothing [] (begin_at d) (before_first ends_script (lines_of bytes)) (λ n has. no_place n 0 has);
-  text = front_nothing a (made_text cues (session d (lines_of bytes) []));
+  failures = [];
+  allows = tt;
+  text = front_nothing a (made_text cues (made_session d (lines_of bytes) []));
 }
 
 -- a report that was told, or that was not for a write fault or want of memory
@@ -158,7 +143,7 @@ no_read_fault status.Live reads reads' writes writes' n none none' c = tt
 -- nothing was written
 pub nothing_made : (n : ℕ) (h h' : Option (List ℕ)) → h' ≡ h → WritesPrefix (Make n) [] h h'
 nothing_made n h h' kept = subst (λ v. WritesPrefix (Make n) [] h v) (sym kept)
-    (record { places = []; wants = nothing_wanted (made_input n) (reads Moves (made_input n)); text = front_nothing h (make_output n []) })
+    (record { failures = []; allows = none_failed Render (made_input n) (reads Moves (made_input n)); text = front_nothing h (make_output n []) })
 
 -- Of the input that is made of a number, over lines that hand it out.
 module _ (n : ℕ) {S : Type 0} (left : S → Option (List ℕ)) (a b : Lines S) (is : unread left a ≡ Some (made_input n)) (none : a.taken ≡ 0)
@@ -170,36 +155,36 @@ module _ (n : ℕ) {S : Type 0} (left : S → Option (List ℕ)) (a b : Lines S)
         over_loaded Moves left faults a b loaded (Some (made_input n)) Q (λ x. made_input n ≡ x → R) is r p
         (λ x y raws took shown read script q e. f y (ap (reads Moves) e ∙ read) (ap script_of e ∙ script) q) refl
 
-    script_places : (y places : List ℕ) (reading : Reading) → reads Moves (made_input n) ≡ Ok reading
-        → script_of (made_input n) ≡ lines_of y
-        → PlacesAreEdits (opened reading.show) (lines_of y) places → OutputPlacesAreEdits (made_input n) places (reads Moves (made_input n))
-    script_places y places reading read script wants =
-        subst (λ r. OutputPlacesAreEdits (made_input n) places r) (sym read)
-        (subst (λ ls. PlacesAreEdits (opened reading.show) ls places) (sym script) wants)
+    script_allows : (y : List ℕ) (failures : List (Option ℕ)) (reading : Reading) → reads Moves (made_input n) ≡ Ok reading
+        → script_of (made_input n) ≡ lines_of y → Allows (desk_answering true) (begun (opened reading.show)) (lines_of y) failures
+        → ScriptAllows Render (made_input n) failures (reads Moves (made_input n))
+    script_allows y failures reading read script allows =
+        subst (λ r. ScriptAllows Render (made_input n) failures r) (sym read)
+        (subst (λ ls. Allows (desk_answering true) (begun (opened reading.show)) ls failures) (sym script) allows)
 
-    script_text : (y places : List ℕ) (reading : Reading) → reads Moves (made_input n) ≡ Ok reading
+    script_text : (y : List ℕ) (failures : List (Option ℕ)) (reading : Reading) → reads Moves (made_input n) ≡ Ok reading
         → script_of (made_input n) ≡ lines_of y
-        → make_output n places ≡ made_text n (session (opened reading.show) (lines_of y) places)
-    script_text y places reading read script =
-        ap (λ r. over_show r (λ x. made_text n (session (opened x.show) (script_of (made_input n)) places))) read
-        ∙ ap (λ ls. made_text n (session (opened reading.show) ls places)) script
+        → make_output n failures ≡ made_text n (made_session (opened reading.show) (lines_of y) failures)
+    script_text y failures reading read script =
+        ap (λ r. over_show r (λ x. made_text n (made_session (opened x.show) (script_of (made_input n)) failures))) read
+        ∙ ap (λ ls. made_text n (made_session (opened reading.show) ls failures)) script
 
     whole_at : (h h' : Option (List ℕ)) (y : List ℕ) (reading : Reading) → reads Moves (made_input n) ≡ Ok reading
         → script_of (made_input n) ≡ lines_of y
         → TellsSession n (opened reading.show) (lines_of y) h h' → WritesAll (Make n) [] h h'
     whole_at h h' y reading read script t = record {
-      places = t.places;
-      wants = script_places y t.places reading read script t.wants;
-      text = subst (λ (v : List ℕ). Appends h h' v) (sym (script_text y t.places reading read script)) t.text;
+      failures = t.failures;
+      allows = script_allows y t.failures reading read script t.allows;
+      text = subst (λ (v : List ℕ). Appends h h' v) (sym (script_text y t.failures reading read script)) t.text;
     }
 
     front_at : (h h' : Option (List ℕ)) (y : List ℕ) (reading : Reading) → reads Moves (made_input n) ≡ Ok reading
         → script_of (made_input n) ≡ lines_of y
         → TellsInFront n (opened reading.show) (lines_of y) h h' → WritesPrefix (Make n) [] h h'
     front_at h h' y reading read script t = record {
-      places = t.places;
-      wants = script_places y t.places reading read script t.wants;
-      text = subst (λ (v : List ℕ). AppendsFront h h' v) (sym (script_text y t.places reading read script)) t.text;
+      failures = t.failures;
+      allows = script_allows y t.failures reading read script t.allows;
+      text = subst (λ (v : List ℕ). AppendsFront h h' v) (sym (script_text y t.failures reading read script)) t.text;
     }
 
     pub made_front : (faults : S → ℕ) (loaded : Loaded) (h h' : Option (List ℕ)) → HasRead left faults a b Moves loaded
@@ -237,13 +222,13 @@ module _ (n : ℕ) {S : Type 0} (left : S → Option (List ℕ)) (a b : Lines S)
         (means_of Moves left a b fault t.text t.told says).text
 
     line_is : (fault : TextFault) → reads Moves (made_input n) ≡ Err fault → make_output n [] ≡ fault_text fault
-    line_is fault read = ap (λ r. over_show r (λ x. made_text n (rendered (made_input n) [] x))) read
+    line_is fault read = ap (λ r. over_show r (λ x. made_text n (script_session Render (made_input n) [] x))) read
 
     refused_front : (fault : ShowFault) (h h' : Option (List ℕ)) (s : Status) → Says Moves left a b fault → RefusesText h h' fault s
         → WritesPrefix (Make n) [] h h'
     refused_front fault h h' s says t = record {
-      places = [];
-      wants = nothing_wanted (made_input n) (reads Moves (made_input n));
+      failures = [];
+      allows = none_failed Render (made_input n) (reads Moves (made_input n));
       text = subst (λ (v : List ℕ). AppendsFront h h' v) (sym (line_is t.text (fault_is fault h h' s says t))) t.front;
     }
 
@@ -254,11 +239,11 @@ module _ (n : ℕ) {S : Type 0} (left : S → Option (List ℕ)) (a b : Lines S)
         let read = fault_is fault h h' s says t in (
           record {
             text = record {
-              places = [];
-              wants = nothing_wanted (made_input n) (reads Moves (made_input n));
+              failures = [];
+              allows = none_failed Render (made_input n) (reads Moves (made_input n));
               text = subst (λ (v : List ℕ). Appends h h' v) (sym (line_is t.text read)) (t.whole refused);
             };
-            within = refusal_fits Moves (Render Moves) (render_over Moves) left a b (Some (made_input n)) h h' fault s is none says by
+            within = refusal_fits Moves (Script Render Moves) (script_over Moves Render) left a b (Some (made_input n)) h h' fault s is none says by
                 refused;
           },
           subst (λ (v : Result Reading TextFault). IsErr v) (sym read) refl,
@@ -271,7 +256,7 @@ module _ (n : ℕ) {S : Type 0} (left : S → Option (List ℕ)) (a b : Lines S)
         (λ said told. same)
         (λ said told. (
           same,
-          refusal_long Moves (Render Moves) (render_over Moves) left a b (Some (made_input n)) h h' faults.InputTooLong status.InputTooLong is
+          refusal_long Moves (Script Render Moves) (script_over Moves Render) left a b (Some (made_input n)) h h' faults.InputTooLong status.InputTooLong is
               none said told refl,
         ))
         (λ said told. nothing_made n h h' same) says by

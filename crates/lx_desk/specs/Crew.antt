@@ -16,7 +16,7 @@ use Rattle.lx_spec.specs.Desk.{opened}
 use Rattle.lx_spec.specs.Reading.{Reading, reads}
 use Rattle.lx_spec.specs.FaultLine.{fault_text}
 use Rattle.lx_spec.specs.Job.{show_wanted}
-use Rattle.lx_spec.specs.CrewText.{CrewEntry, lines_up_to_quit, of_operator, numbered_from, Merged, crew_text, CrewPlacesAreEdits}
+use Rattle.lx_spec.specs.CrewText.{CrewEntry, lines_up_to_quit, of_operator, numbered_from, Merged, crew_text, CrewAllows}
 use Rattle.lx_session.specs.Known.{Known}
 use Rattle.lx_crew.specs.declared.fault.OperatorFault.{OperatorFault}
 use Rattle.lx_crew.specs.declared.fault.OperatorFault.TheVariants as ends
@@ -38,13 +38,13 @@ pub record IsLowest (told : List (Option OperatorFault)) (fault : OperatorFault)
   pub below : (lower : ℕ) (other : Option OperatorFault) → lower < place → slice_get told lower ≡ Some other → other ≡ None
 
 -- The whole text of a crew was written: the lines of all operators, each once and in its operator's order, and each with its replies.
--- Want of memory refused nothing but edits.
+-- Attempts failed only at edits.
 pub record WritesTranscript (show : Show) (lines : ℕ → List (List ℕ)) (held held' : Known) : Type 0 where
   pub entries : List CrewEntry
   pub merged : Merged lines entries
-  pub places : List ℕ
-  pub edits : CrewPlacesAreEdits (opened show) entries places
-  pub text : Appends held held' (crew_text (opened show) entries places)
+  pub failures : List (Option ℕ)
+  pub allows : CrewAllows (opened show) entries failures
+  pub text : Appends held held' (crew_text (opened show) entries failures)
 
 -- What was written of these lines, by the status: the whole text, also after a fault of an operator, of which the lowest operator's is
 -- told; after a fault of the output a prefix of the text of first lines of each operator.
@@ -98,7 +98,7 @@ HasCrewEnded lefts faults count form bytes left operators operators' held held' 
     ⊎ ServesShow lefts faults count form bytes operators operators' held held' s
 
 -- A prefix of the text of a crew was written: of each operator in use first lines up to `quit` or the end, numbered from 1, and of
--- no other any. Want of memory refused nothing but edits.
+-- no other any. Attempts failed only at edits.
 pub record WritesFirstLines {S : Type 0} (left : S → Known) (show : Show) (count : ℕ) (operators : List (Option S)) (held held' : Known)
     : Type 0 where
   pub entries : List CrewEntry
@@ -107,9 +107,9 @@ pub record WritesFirstLines {S : Type 0} (left : S → Known) (show : Show) (cou
       → (n : ℕ) × (of_operator (place + 1) entries ≡ numbered_from (place + 1) 1 (take n (lines_up_to_quit bytes)))
   pub none : of_operator 0 entries ≡ []
   pub no_more : (operator : ℕ) → count < operator → of_operator operator entries ≡ []
-  pub places : List ℕ
-  pub edits : CrewPlacesAreEdits (opened show) entries places
-  pub text : AppendsFront held held' (crew_text (opened show) entries places)
+  pub failures : List (Option ℕ)
+  pub allows : CrewAllows (opened show) entries failures
+  pub text : AppendsFront held held' (crew_text (opened show) entries failures)
 
 -- the same over the show that was read, or a prefix of the line of one that is refused
 abbrev pub WritesCrewFront : {S : Type 0} → (S → Known) → ℕ → List (Option S) → (held held' : Known) → Result Reading TextFault → Type 0

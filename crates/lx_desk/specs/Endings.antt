@@ -1,28 +1,30 @@
 -- What holds where a job ended with a status.
-use Rattle.std.specs.Prelude.{◌≡◌, ◌⊎◌, ℕ, ◌+◌, ◌<◌, ◌≤◌, Option, Some, None, IfSome, IsOk, IsErr, List, length}
+use Rattle.std.specs.Prelude.{◌≡◌, ◌⊎◌, ℕ, ◌+◌, ◌<◌, ◌≤◌, Bool, true, false, Option, Some, None, IfSome, IsOk, IsErr, List, length}
+use Rattle.std.specs.Prelude.{if◌then◌else◌}
 use Rattle.lx_base.specs.declared.TheConstants.{INPUT_BYTES}
 use Rattle.lx_io.specs.Causes.{Rose}
 use Rattle.lx_spec.specs.declared.Job.{Job}
-use Rattle.lx_spec.specs.declared.Job.TheVariants.{Check, Render, Sheet, Make, Run, Undo, Two, Crew}
+use Rattle.lx_spec.specs.declared.Job.TheVariants.{Script, Crew}
+use Rattle.lx_spec.specs.declared.ScriptKind.{ScriptKind}
+use Rattle.lx_spec.specs.declared.ScriptKind.TheVariants.{Live}
 use Rattle.lx_spec.specs.Text.{lines_of}
-use Rattle.lx_spec.specs.Session.{bytes_wanted}
+use Rattle.lx_spec.specs.Session.{Answering, bytes_wanted}
 use Rattle.lx_spec.specs.Job.{show_of, wanted_of}
-use Rattle.lx_desk.specs.ScriptAnswers.{Answering}
 use Rattle.lx_desk.specs.Output.{WritesAll, WritesPrefix, WritesTaken, AnswersScript, AnswersInFront, AnswersTaken}
 use Rattle.lx_desk.specs.declared.desk.Status.{Status}
 use Rattle.lx_desk.specs.declared.desk.Status.TheVariants as status
 
+-- threads play the script beside the caller's
+abbrev pub is_live : ScriptKind → Bool
+is_live (Live universes) = true
+is_live other = false
+
 -- the status of words by which nothing is read: of those that name no job, and of those of the jobs that run beside threads
 abbrev pub at_once : Option Job → Option Status
 at_once None = Some status.Usage
-at_once (Some (Check form)) = None
-at_once (Some (Render form)) = None
-at_once (Some (Sheet form)) = None
-at_once (Some (Make n)) = None
-at_once (Some (Run universes form)) = Some status.Live
-at_once (Some (Undo form)) = None
-at_once (Some (Two form)) = None
+at_once (Some (Script kind form)) = if is_live kind then Some status.Live else None
 at_once (Some (Crew operators form)) = Some status.Live
+at_once (Some other) = None
 
 -- Words that have such a status are answered with it, unless memory was wanted in vain, and then nothing is read or written; no other
 -- words are.
@@ -67,13 +69,14 @@ HasCauseOf status.ReadFault reads reads' writes writes' = Rose reads reads'
 HasCauseOf status.WriteFault reads reads' writes writes' = Rose writes writes'
 HasCauseOf other reads reads' writes writes' = Unit {0}
 
--- The same of a script that is answered so, before which so many bytes of the input were taken.
-abbrev pub HasPlayed : Status → Answering → ℕ → List ℕ → Option (List ℕ) → Option (List ℕ) → Option (List ℕ) → Type 0
-HasPlayed status.Ok by before bytes left held held' =
-    AnswersScript by (lines_of bytes) held held' × (before + length (bytes_wanted bytes) ≤ INPUT_BYTES)
-HasPlayed status.ReadFault by before bytes left held held' = AnswersTaken by before bytes left held held'
-HasPlayed status.InputTooLong by before bytes left held held' =
-    AnswersTaken by before bytes left held held' × (INPUT_BYTES < before + length (bytes_wanted bytes))
-HasPlayed status.WriteFault by before bytes left held held' = AnswersInFront by (lines_of bytes) held held'
-HasPlayed status.Memory by before bytes left held held' = AnswersInFront by (lines_of bytes) held held'
-HasPlayed other by before bytes left held held' = ⊥
+-- The same of a script that is answered from a state on, before which so many bytes of the input were taken.
+abbrev pub HasPlayed : Status → (by : Answering (List ℕ)) → by.State → ℕ → List ℕ → Option (List ℕ) → Option (List ℕ) → Option (List ℕ)
+    → Type 0
+HasPlayed status.Ok by state before bytes left held held' =
+    AnswersScript by state (lines_of bytes) held held' × (before + length (bytes_wanted bytes) ≤ INPUT_BYTES)
+HasPlayed status.ReadFault by state before bytes left held held' = AnswersTaken by state before bytes left held held'
+HasPlayed status.InputTooLong by state before bytes left held held' =
+    AnswersTaken by state before bytes left held held' × (INPUT_BYTES < before + length (bytes_wanted bytes))
+HasPlayed status.WriteFault by state before bytes left held held' = AnswersInFront by state (lines_of bytes) held held'
+HasPlayed status.Memory by state before bytes left held held' = AnswersInFront by state (lines_of bytes) held held'
+HasPlayed other by state before bytes left held held' = ⊥

@@ -1,9 +1,10 @@
-pub mod ScriptAnswers
 pub mod Finished
 pub mod Endings
 pub mod Faults
 pub mod Made
 pub mod Output
+pub mod Plays
 pub mod ShowRefusal
 pub mod Live
 pub mod Crew
+pub mod Generator

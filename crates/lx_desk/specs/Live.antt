@@ -1,5 +1,5 @@
 -- What a live run of the program comes to, and what its outlets have.
-use Rattle.std.specs.Prelude.{◌≡◌, ◌⊎◌, ◌≢◌, ℕ, ◌+◌, ◌-◌, ◌<◌, ◌≤◌, Option, Some, None, IfSome, Result, Ok, Err, IsOk}
+use Rattle.std.specs.Prelude.{◌≡◌, ◌⊎◌, ◌≢◌, ℕ, ◌+◌, ◌-◌, ◌<◌, ◌≤◌, false, Option, Some, None, IfSome, Result, Ok, Err, IsOk}
 use Rattle.std.specs.Prelude.{List, ◌++◌, length, take, drop, slice_get}
 use Rattle.std.specs.Io.KnownBytes.{Appends}
 use Rattle.lx_base.specs.declared.TheConstants.{INPUT_BYTES}
@@ -10,14 +10,16 @@ use Rattle.lx_io.specs.Puts.{AppendsFront}
 use Rattle.lx_spec.specs.declared.Command.{Command}
 use Rattle.lx_spec.specs.declared.Form.{Form}
 use Rattle.lx_spec.specs.declared.Job.{Job}
-use Rattle.lx_spec.specs.declared.Job.TheVariants.{Run}
+use Rattle.lx_spec.specs.declared.Job.TheVariants.{Script}
+use Rattle.lx_spec.specs.declared.ScriptKind.TheVariants.{Live}
 use Rattle.lx_spec.specs.Text.{lines_of}
 use Rattle.lx_spec.specs.Show.{Show}
 use Rattle.lx_spec.specs.Desk.{opened}
 use Rattle.lx_spec.specs.CutInput.{CutOff}
-use Rattle.lx_spec.specs.Session.{replies, accepted, after_first, lines_wanted, bytes_wanted}
+use Rattle.lx_spec.specs.Session.{Session, whole_session, session_after, lines_wanted, bytes_wanted}
+use Rattle.lx_spec.specs.DeskSession.{DeskState, begun, desk_answering}
 use Rattle.lx_spec.specs.Reading.{Reading, reads, script_of, lines_read}
-use Rattle.lx_spec.specs.RenderOutput.{rendered, input_wanted}
+use Rattle.lx_spec.specs.ScriptOutput.{input_wanted}
 use Rattle.lx_workers.specs.Works.{HasAll}
 use Rattle.lx_workers.specs.LiveOutcome.{AreDelivered}
 use Rattle.lx_session.specs.Known.{Known}
@@ -27,6 +29,13 @@ use Rattle.lx_desk.specs.declared.desk.Status.{Status}
 use Rattle.lx_desk.specs.declared.desk.Status.TheVariants as status
 use Rattle.lx_desk.specs.Faults.{status_for}
 use Rattle.lx_desk.specs.Endings.{HasEnded}
+
+-- the session of a script that is played live over a show, and of its first so many lines
+abbrev pub live_session : Show → List (List ℕ) → List (Option ℕ) → Session DeskState
+live_session show script failures = whole_session (desk_answering false) (begun (opened show)) script failures
+
+abbrev pub live_after : Show → List (List ℕ) → List (Option ℕ) → ℕ → Session DeskState
+live_after show script failures lines = session_after (desk_answering false) (begun (opened show)) script failures lines
 
 -- an outlet has the lines of versions of rising lists of commands, the last of which begins with these
 pub record HasVersions {K : Type 0} (holds : K → Known) (show : Show) (outlets' : List (Option K)) (place : ℕ) (start : K)
@@ -43,9 +52,9 @@ HaveVersions {K} holds show universes outlets outlets' list =
 -- A script was answered to its end, and each outlet's last line is that of a version after all accepted commands.
 pub record PlaysScript {K : Type 0} (outlet_holds : K → Known) (show : Show) (universes : ℕ) (script : List (List ℕ))
     (held held' : Known) (outlets outlets' : List (Option K)) : Type 0 where
-  pub places : List ℕ
-  pub text : Appends held held' (replies (opened show) script places)
-  pub versions : HaveVersions outlet_holds show universes outlets outlets' (accepted (opened show) script places)
+  pub failures : List (Option ℕ)
+  pub text : Appends held held' (live_session show script failures).text
+  pub versions : HaveVersions outlet_holds show universes outlets outlets' (live_session show script failures).state.accepted
 
 -- Each outlet in use got what it was to get of these published commands: the lines of versions of rising lists, the last of which begins
 -- with them, or with a fault of its own such lines and a part of one more. The other outlets are as they were.
@@ -63,24 +72,24 @@ pub record AreServed {K : Type 0} (holds : K → Known) (back : K → List ℕ) 
   pub commands_are : commands ≡ published ++ held_back
   pub got : HaveGot holds back faults wants show universes outlets outlets' published
 
--- Up to so many lines of a script were answered, by a prefix of the replies, where any attempt may be refused for want of memory, and
+-- Up to so many lines of a script were answered, by a prefix of the replies, where any attempt may fail, and
 -- the outlets got what was published of the commands that these lines came to.
 pub record PlaysInFront {K : Type 0} (outlet_holds : K → Known) (back : K → List ℕ) (faults wants : K → ℕ) (show : Show) (universes : ℕ)
     (script : List (List ℕ)) (held held' : Known) (outlets outlets' : List (Option K)) : Type 0 where
-  pub places : List ℕ
+  pub failures : List (Option ℕ)
   pub lines : ℕ
-  pub text : AppendsFront held held' (after_first (opened show) script places lines).text
-  pub served : AreServed outlet_holds back faults wants show universes outlets outlets' (after_first (opened show) script places lines).accepted
+  pub text : AppendsFront held held' (live_after show script failures lines).text
+  pub served : AreServed outlet_holds back faults wants show universes outlets outlets' (live_after show script failures lines).state.accepted
 
 -- The lines that were taken whole were answered, and the outlets got what was published of the commands that these lines came to.
 pub record PlaysTaken {K : Type 0} (outlet_holds : K → Known) (back : K → List ℕ) (faults wants : K → ℕ) (show : Show) (universes before : ℕ)
     (bytes : List ℕ) (left held held' : Known) (outlets outlets' : List (Option K)) : Type 0 where
-  pub places : List ℕ
+  pub failures : List (Option ℕ)
   pub cut : CutOff before bytes left
   pub short : cut.lines < lines_wanted (lines_of bytes)
-  pub text : Appends held held' (after_first (opened show) (lines_of bytes) places cut.lines).text
+  pub text : Appends held held' (live_after show (lines_of bytes) failures cut.lines).text
   pub served : AreServed outlet_holds back faults wants show universes outlets outlets'
-      (after_first (opened show) (lines_of bytes) places cut.lines).accepted
+      (live_after show (lines_of bytes) failures cut.lines).state.accepted
 
 -- how a script over a show ended that was played live, before which so many bytes of the input were taken
 abbrev pub HasPlayedLive : {K : Type 0} → Status → (K → Known) → (K → List ℕ) → (faults wants : K → ℕ) → Show → (universes before : ℕ) → List ℕ
@@ -106,9 +115,9 @@ pub record PlaysWhole {K : Type 0} (outlet_holds : K → Known) (universes : ℕ
     (held held' : Known) (outlets outlets' : List (Option K)) : Type 0 where
   pub reading : Reading
   pub read : reads form bytes ≡ Ok reading
-  pub places : List ℕ
-  pub text : Appends held held' (rendered bytes places reading).text
-  pub versions : HaveVersions outlet_holds reading.show universes outlets outlets' (rendered bytes places reading).accepted
+  pub failures : List (Option ℕ)
+  pub text : Appends held held' (live_session reading.show (script_of bytes) failures).text
+  pub versions : HaveVersions outlet_holds reading.show universes outlets outlets' (live_session reading.show (script_of bytes) failures).state.accepted
   pub within : length (input_wanted form bytes) ≤ INPUT_BYTES
 
 -- The show was read, up to so many lines of its script were answered, by a prefix of the replies, and the outlets got what was published
@@ -125,13 +134,13 @@ pub record LivesTaken {K : Type 0} (holds : K → Known) (back : K → List ℕ)
     (bytes : List ℕ) (left held held' : Known) (outlets outlets' : List (Option K)) : Type 0 where
   pub reading : Reading
   pub read : reads form bytes ≡ Ok reading
-  pub places : List ℕ
+  pub failures : List (Option ℕ)
   pub cut : CutOff 0 bytes left
   pub short : cut.lines < lines_read (lines_of bytes) + lines_wanted (script_of bytes)
   pub text : Appends held held'
-      (after_first (opened reading.show) (script_of bytes) places (cut.lines - lines_read (lines_of bytes))).text
+      (live_after reading.show (script_of bytes) failures (cut.lines - lines_read (lines_of bytes))).text
   pub served : AreServed holds back faults wants reading.show universes outlets outlets'
-      (after_first (opened reading.show) (script_of bytes) places (cut.lines - lines_read (lines_of bytes))).accepted
+      (live_after reading.show (script_of bytes) failures (cut.lines - lines_read (lines_of bytes))).state.accepted
 
 -- no line of a script was answered, and no outlet was written
 abbrev pub NoneLived : {K : Type 0} → Form → List ℕ → (held held' : Known) → (outlets outlets' : List (Option K)) → Type 0
@@ -145,18 +154,18 @@ abbrev pub HasLived : {K : Type 0} → Status → (K → Known) → (K → List 
 HasLived status.Ok holds back faults wants universes form bytes left held held' outlets outlets' =
     PlaysWhole holds universes form bytes held held' outlets outlets'
 HasLived status.ShowRefused holds back faults wants universes form bytes left held held' outlets outlets' =
-    HasEnded status.ShowRefused (Run universes form) bytes left held held' × (outlets' ≡ outlets)
+    HasEnded status.ShowRefused (Script (Live universes) form) bytes left held held' × (outlets' ≡ outlets)
 HasLived status.ReadFault holds back faults wants universes form bytes left held held' outlets outlets' =
-    HasEnded status.ReadFault (Run universes form) bytes left held held' × (NoneLived form bytes held held' outlets outlets'
+    HasEnded status.ReadFault (Script (Live universes) form) bytes left held held' × (NoneLived form bytes held held' outlets outlets'
     ⊎ LivesTaken holds back faults wants universes form bytes left held held' outlets outlets')
 HasLived status.InputTooLong holds back faults wants universes form bytes left held held' outlets outlets' =
-    HasEnded status.InputTooLong (Run universes form) bytes left held held' × (NoneLived form bytes held held' outlets outlets'
+    HasEnded status.InputTooLong (Script (Live universes) form) bytes left held held' × (NoneLived form bytes held held' outlets outlets'
     ⊎ LivesTaken holds back faults wants universes form bytes left held held' outlets outlets')
 HasLived status.WriteFault holds back faults wants universes form bytes left held held' outlets outlets' =
-    HasEnded status.WriteFault (Run universes form) bytes left held held' × (NoneLived form bytes held held' outlets outlets'
+    HasEnded status.WriteFault (Script (Live universes) form) bytes left held held' × (NoneLived form bytes held held' outlets outlets'
     ⊎ LivesInFront holds back faults wants universes form bytes held held' outlets outlets')
 HasLived status.Memory holds back faults wants universes form bytes left held held' outlets outlets' =
-    HasEnded status.Memory (Run universes form) bytes left held held' × (NoneLived form bytes held held' outlets outlets'
+    HasEnded status.Memory (Script (Live universes) form) bytes left held held' × (NoneLived form bytes held held' outlets outlets'
     ⊎ LivesInFront holds back faults wants universes form bytes held held' outlets outlets')
 HasLived other holds back faults wants universes form bytes left held held' outlets outlets' = ⊥
 
@@ -171,7 +180,7 @@ pub record ArePlayed {K : Type 0} (holds : K → Known) (back : K → List ℕ) 
 -- the outlets are as they were, or were played.
 abbrev pub KeepsOutlets : {I O K : Type 0} → (K → Known) → (K → List ℕ) → (faults wants : K → ℕ) → Option Job → Status → (input input' : I)
     → (output output' : O) → (outlets outlets' : List (Option K)) → Type 0
-KeepsOutlets holds back faults wants (Some (Run universes form)) s input input' output output' outlets outlets' =
+KeepsOutlets holds back faults wants (Some (Script (Live universes) form)) s input input' output output' outlets outlets' =
     (s ≢ status.Usage) × ((outlets' ≡ outlets) ⊎ ArePlayed holds back faults wants universes outlets outlets')
 KeepsOutlets holds back faults wants other s input input' output output' outlets outlets' =
     ((s ≡ status.Usage) ⊎ (s ≡ status.Memory)) × ((input' ≡ input) × ((output' ≡ output) × (outlets' ≡ outlets)))
@@ -221,9 +230,9 @@ TellsRun (Err fault) results unsent s = s ≡ status_for {A = Tally} (Err fault)
 pub record PlaysToEnd {K : Type 0} (Told : List (Option SinkFault) → ℕ → Type 0) (holds : K → Known) (back : K → List ℕ)
     (faults wants : K → ℕ) (show : Show) (universes : ℕ) (script : List (List ℕ)) (held held' : Known) (outlets outlets' : List (Option K))
     : Type 0 where
-  pub places : List ℕ
-  pub text : Appends held held' (replies (opened show) script places)
-  pub served : AreServed holds back faults wants show universes outlets outlets' (accepted (opened show) script places)
+  pub failures : List (Option ℕ)
+  pub text : Appends held held' (live_session show script failures).text
+  pub served : AreServed holds back faults wants show universes outlets outlets' (live_session show script failures).state.accepted
   pub told : Told served.got.results (length served.held_back)
 
 -- no read failed, and the output had no fault

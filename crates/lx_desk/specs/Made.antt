@@ -1,5 +1,5 @@
 -- What `make` writes about a session, and what holds where it ended.
-use Rattle.std.specs.Prelude.{◌≡◌, ℕ, ◌+◌, ◌<◌, ◌≤◌, Option, List, [], ◌∷◌, ◌++◌, length, sum, codes, decimal}
+use Rattle.std.specs.Prelude.{◌≡◌, ℕ, ◌+◌, ◌<◌, ◌≤◌, true, Option, List, [], ◌∷◌, ◌++◌, length, sum, codes, decimal}
 use Rattle.std.specs.Io.KnownBytes.{Appends}
 use Rattle.lx_base.specs.declared.TheConstants.{INPUT_BYTES}
 use Rattle.lx_io.specs.Puts.{AppendsFront}
@@ -7,8 +7,8 @@ use Rattle.lx_spec.specs.Text.{lines_of}
 use Rattle.lx_spec.specs.Desk.{Desk}
 use Rattle.lx_spec.specs.Output.{frame}
 use Rattle.lx_spec.specs.ShowText.{line}
-use Rattle.lx_spec.specs.Session.{session, bytes_wanted}
-use Rattle.lx_spec.specs.RefusedPlaces.{PlacesAreEdits}
+use Rattle.lx_spec.specs.Session.{whole_session, Allows, bytes_wanted}
+use Rattle.lx_spec.specs.DeskSession.{begun, desk_answering}
 use Rattle.lx_spec.specs.MakeOutput.{made_text}
 use Rattle.lx_session.specs.declared.tally.Tally.{Tally}
 use Rattle.lx_desk.specs.declared.desk.Status.{Status}
@@ -25,16 +25,16 @@ report_text r =
 abbrev pub report_of : ℕ → Desk → Tally → Report
 report_of cues d tally = record { cues = cues; moment = d.playback.moment; ok = tally.ok; refused = tally.refused; sum = sum (frame d 1) }
 
--- The lines about the session of a script were written, wholly or a prefix of them, where want of memory refused at most these attempts.
+-- The lines about the session of a script were written, wholly or a prefix of them, where these attempts failed.
 pub record TellsSession (cues : ℕ) (d : Desk) (script : List (List ℕ)) (held held' : Option (List ℕ)) : Type 0 where
-  pub places : List ℕ
-  pub wants : PlacesAreEdits d script places
-  pub text : Appends held held' (made_text cues (session d script places))
+  pub failures : List (Option ℕ)
+  pub allows : Allows (desk_answering true) (begun d) script failures
+  pub text : Appends held held' (made_text cues (whole_session (desk_answering true) (begun d) script failures))
 
 pub record TellsInFront (cues : ℕ) (d : Desk) (script : List (List ℕ)) (held held' : Option (List ℕ)) : Type 0 where
-  pub places : List ℕ
-  pub wants : PlacesAreEdits d script places
-  pub text : AppendsFront held held' (made_text cues (session d script places))
+  pub failures : List (Option ℕ)
+  pub allows : Allows (desk_answering true) (begun d) script failures
+  pub text : AppendsFront held held' (made_text cues (whole_session (desk_answering true) (begun d) script failures))
 
 -- What was written about a session, by the status: where the script couldn't be read on, nothing.
 abbrev pub HasTold : Status → ℕ → Desk → ℕ → List ℕ → Option (List ℕ) → Option (List ℕ) → Type 0

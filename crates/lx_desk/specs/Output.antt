@@ -3,34 +3,33 @@ use Rattle.std.specs.Prelude.{◌≡◌, ◌<◌, ℕ, ◌-◌, Option, List}
 use Rattle.std.specs.Io.KnownBytes.{Appends}
 use Rattle.lx_io.specs.Puts.{AppendsFront}
 use Rattle.lx_spec.specs.declared.Job.{Job}
-use Rattle.lx_spec.specs.declared.Job.TheVariants.{Check, Render, Sheet, Make, Run, Undo, Two, Crew}
+use Rattle.lx_spec.specs.declared.Job.TheVariants.{Make, Script}
 use Rattle.lx_spec.specs.Text.{lines_of}
 use Rattle.lx_spec.specs.Reading.{lines_read}
 use Rattle.lx_spec.specs.CutInput.{CutOff}
-use Rattle.lx_spec.specs.Session.{lines_wanted}
-use Rattle.lx_spec.specs.Job.{output_of, replies_of, lines_wanted_of, WantsEdits}
-use Rattle.lx_desk.specs.ScriptAnswers.{Answering}
+use Rattle.lx_spec.specs.Session.{Answering, whole_session, session_after, Allows, lines_wanted}
+use Rattle.lx_spec.specs.Job.{output_of, replies_of, lines_wanted_of, JobAllows}
 
--- The whole text was written: what the definitions give for these bytes, where want of memory refused at most these attempts.
+-- The whole text was written: what the definitions give for these bytes, where these attempts failed.
 pub record WritesAll (job : Job) (bytes : List ℕ) (held held' : Option (List ℕ)) : Type 0 where
-  pub places : List ℕ
-  pub wants : WantsEdits job bytes places
-  pub text : Appends held held' (output_of job bytes places)
+  pub failures : List (Option ℕ)
+  pub allows : JobAllows job bytes failures
+  pub text : Appends held held' (output_of job bytes failures)
 
 -- A prefix of it was written.
 pub record WritesPrefix (job : Job) (bytes : List ℕ) (held held' : Option (List ℕ)) : Type 0 where
-  pub places : List ℕ
-  pub wants : WantsEdits job bytes places
-  pub text : AppendsFront held held' (output_of job bytes places)
+  pub failures : List (Option ℕ)
+  pub allows : JobAllows job bytes failures
+  pub text : AppendsFront held held' (output_of job bytes failures)
 
 -- The input was cut off within the lines that are wanted: the replies to the script lines that were taken whole, within its limit, were
 -- written.
 pub record RepliesToTaken (job : Job) (bytes : List ℕ) (left held held' : Option (List ℕ)) : Type 0 where
-  pub places : List ℕ
-  pub wants : WantsEdits job bytes places
+  pub failures : List (Option ℕ)
+  pub allows : JobAllows job bytes failures
   pub cut : CutOff 0 bytes left
   pub short : cut.lines < lines_wanted_of job bytes
-  pub text : Appends held held' (replies_of job bytes places (cut.lines - lines_read (lines_of bytes)))
+  pub text : Appends held held' (replies_of job bytes failures (cut.lines - lines_read (lines_of bytes)))
 
 -- The input was cut off within the lines of the show, and nothing was written.
 pub record NothingOfCut (bytes : List ℕ) (left held held' : Option (List ℕ)) : Type 0 where
@@ -40,30 +39,28 @@ pub record NothingOfCut (bytes : List ℕ) (left held held' : Option (List ℕ))
 
 -- By the jobs that answer a script they are, and by every other job nothing is. The input of `make` is its own.
 abbrev pub WritesTaken : Job → List ℕ → Option (List ℕ) → Option (List ℕ) → Option (List ℕ) → Type 0
-WritesTaken (Check form) bytes left held held' = NothingOfCut bytes left held held'
-WritesTaken (Render form) bytes left held held' = RepliesToTaken (Render form) bytes left held held'
-WritesTaken (Sheet form) bytes left held held' = NothingOfCut bytes left held held'
+WritesTaken (Script kind form) bytes left held held' = RepliesToTaken (Script kind form) bytes left held held'
 WritesTaken (Make n) bytes left held held' = held' ≡ held
-WritesTaken (Run universes form) bytes left held held' = RepliesToTaken (Run universes form) bytes left held held'
-WritesTaken (Undo form) bytes left held held' = RepliesToTaken (Undo form) bytes left held held'
-WritesTaken (Two form) bytes left held held' = RepliesToTaken (Two form) bytes left held held'
-WritesTaken (Crew operators form) bytes left held held' = NothingOfCut bytes left held held'
+WritesTaken other bytes left held held' = NothingOfCut bytes left held held'
 
--- A script was answered, wholly or by a prefix of the replies.
-pub record AnswersScript (by : Answering) (script : List (List ℕ)) (held held' : Option (List ℕ)) : Type 0 where
-  pub places : List ℕ
-  pub wants : by.Allows script places
-  pub text : Appends held held' (by.whole script places)
+-- A script was answered from a state on, wholly or by a prefix of the replies.
+pub record AnswersScript (by : Answering (List ℕ)) (state : by.State) (script : List (List ℕ)) (held held' : Option (List ℕ))
+    : Type 0 where
+  pub failures : List (Option ℕ)
+  pub allows : Allows by state script failures
+  pub text : Appends held held' (whole_session by state script failures).text
 
-pub record AnswersInFront (by : Answering) (script : List (List ℕ)) (held held' : Option (List ℕ)) : Type 0 where
-  pub places : List ℕ
-  pub wants : by.Allows script places
-  pub text : AppendsFront held held' (by.whole script places)
+pub record AnswersInFront (by : Answering (List ℕ)) (state : by.State) (script : List (List ℕ)) (held held' : Option (List ℕ))
+    : Type 0 where
+  pub failures : List (Option ℕ)
+  pub allows : Allows by state script failures
+  pub text : AppendsFront held held' (whole_session by state script failures).text
 
 -- The lines of a script that were taken whole were answered, and wholly, and the script wants more of them.
-pub record AnswersTaken (by : Answering) (before : ℕ) (bytes : List ℕ) (left held held' : Option (List ℕ)) : Type 0 where
-  pub places : List ℕ
-  pub wants : by.Allows (lines_of bytes) places
+pub record AnswersTaken (by : Answering (List ℕ)) (state : by.State) (before : ℕ) (bytes : List ℕ) (left held held' : Option (List ℕ))
+    : Type 0 where
+  pub failures : List (Option ℕ)
+  pub allows : Allows by state (lines_of bytes) failures
   pub cut : CutOff before bytes left
   pub short : cut.lines < lines_wanted (lines_of bytes)
-  pub text : Appends held held' (by.first (lines_of bytes) places cut.lines)
+  pub text : Appends held held' (session_after by state (lines_of bytes) failures cut.lines).text

@@ -9,7 +9,7 @@ ghost use Rattle.lx_desk.specs.Finished.{Finishes, HasWanted};
 
 use crate::check::check;
 use crate::make::make;
-use crate::script::{Answerer, script};
+use crate::script::script;
 use crate::sheet::sheet;
 use lx_io::{Sink, Source};
 use lx_spec::Job;
@@ -60,11 +60,9 @@ pub fn run_job<S: Source, K: Sink>(alloc: Global, job: Job, input: &mut S, outpu
 {
     match job {
         Job::Check(form) => check(alloc, form, input, output),
-        Job::Render(form) => script(alloc, Answerer::Desk, form, input, output),
         Job::Sheet(form) => sheet(alloc, form, input, output),
         Job::Make(cues) => make(alloc, cues, output),
-        Job::Run(..) | Job::Crew(..) => Status::Live,
-        Job::Undo(form) => script(alloc, Answerer::UndoDesk, form, input, output),
-        Job::Two(form) => script(alloc, Answerer::TwoLists, form, input, output),
+        Job::Script(kind, form) => script(alloc, kind, form, input, output),
+        Job::Crew(..) => Status::Live,
     }
 }

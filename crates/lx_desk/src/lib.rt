@@ -6,6 +6,8 @@ mod check;
 mod crew;
 mod desk;
 mod discard;
+mod draws;
+mod generator;
 mod live;
 mod make;
 mod play;

@@ -3,7 +3,8 @@
 ghost use Rattle.std.specs.Prelude.{◌≡◌, ◌≢◌, ◌≤◌, ◌+◌, ◌⊎◌, IfSome, Some, length};
 ghost use Rattle.lx_base.specs.declared.TheConstants.{INPUT_BYTES, UNIVERSES};
 ghost use Rattle.lx_lex.specs.Unread.{CanAdvance, SameSource, bytes_taken, source_faults, source_left, unread};
-ghost use Rattle.lx_spec.specs.declared.Job.TheVariants.{Run};
+ghost use Rattle.lx_spec.specs.declared.Job.TheVariants.{Script};
+ghost use Rattle.lx_spec.specs.declared.ScriptKind.TheVariants.{Live};
 ghost use Rattle.lx_workers.specs.Places.{IsFull};
 ghost use Rattle.lx_desk.specs.Live.{HasLived, HasPlayedLive, KeepsOutlets, HasLiveCause};
 ghost use Rattle.lx_desk.specs.Live.{ArePlayed, TellsOutlets, TellsRun, DecidesInOrder, LivesToEnd, PlaysToEnd};
@@ -55,8 +56,8 @@ pub fn run_live<
     requires most { universes ≤ UNIVERSES }
     requires all { length outlets.old ≡ UNIVERSES }
     requires full { IsFull outlets.old }
-    ensures outlets { KeepsOutlets K.holds K.back K.faults K.wants (Some (Run universes form)) result input.old input.new output.old output.new
-        outlets.old outlets.new }
+    ensures outlets { KeepsOutlets K.holds K.back K.faults K.wants (Some (Script (Live universes) form)) result input.old input.new output.old
+        output.new outlets.old outlets.new }
     ensures ended { IfSome (S.left input.old)
         (λ bytes. HasLived result K.holds K.back K.faults K.wants universes form bytes (S.left input.new) (O.holds output.old)
         (O.holds output.new) outlets.old outlets.new) }
@@ -149,7 +150,7 @@ fn status_of_run(played: &Played) -> Status
 }
 
 /// The status where the session had no fault.
-fn status_of_outlets(faults: &[Option<SinkFault>; OUTLETS], unsent: usize) -> Status
+fn status_of_outlets(faults: &[Option<SinkFault>; OUTLETS], unsent: u64) -> Status
     ensures { TellsOutlets faults.now unsent result }
 {
     if faults.contains(&Some(SinkFault::Failed)) {

@@ -22,13 +22,13 @@ ghost use Rattle.lx_desk.specs.Finished.{Finishes, HasWanted};
 
 use crate::desk::Status;
 use crate::discard::Discard;
+use crate::generator::made_input;
 use crate::play::status_of;
 use crate::refuse::refuse;
 use lx_base::{Level, UNIVERSE_SLOTS};
 use lx_console::Console;
 use lx_io::{PlainSource, Sink, SinkFault, Source, put_all};
 use lx_lex::{Lines, put_count};
-use lx_make::made_input;
 use lx_reader::read_show;
 use lx_session::{Tally, session};
 use lx_show::{Form, Show};

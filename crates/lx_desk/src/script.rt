@@ -1,13 +1,14 @@
-//! The jobs `render`, `undo` and `two`: a script over the show that stands before it.
+//! The jobs of a script over the show that stands before it.
 
-ghost use Rattle.std.specs.Prelude.{◌≤◌, IfSome};
+ghost use Rattle.std.specs.Prelude.{◌≡◌, ◌≤◌, false, IfSome, Some};
 ghost use Rattle.lx_base.specs.declared.TheConstants.{INPUT_BYTES};
-ghost use Rattle.lx_lex.specs.Unread.{CanAdvance, SameSource, bytes_taken, source_faults, source_left, unread};
-ghost use Rattle.lx_spec.specs.Text.{lines_of};
-ghost use Rattle.lx_desk.specs.ScriptAnswers.{answers_by, job_by};
-ghost use Rattle.lx_desk.specs.Output.{WritesPrefix, AnswersInFront};
-ghost use Rattle.lx_desk.specs.Endings.{EndsJob, EndsScript, HasEnded, HasPlayed, HasCauseOf};
+ghost use Rattle.lx_lex.specs.Unread.{CanAdvance, SameSource, bytes_taken};
+ghost use Rattle.lx_spec.specs.declared.Job.TheVariants as jobs;
+ghost use Rattle.lx_spec.specs.ScriptKinds.{answering_of, opening_of};
+ghost use Rattle.lx_desk.specs.Output.{WritesPrefix};
+ghost use Rattle.lx_desk.specs.Endings.{AnswersWords, EndsJob, HasEnded, HasCauseOf, is_live};
 ghost use Rattle.lx_desk.specs.Finished.{Finishes, HasWanted};
+ghost use Rattle.lx_desk.specs.Plays.{Plays};
 
 use crate::desk::Status;
 use crate::play::play;
@@ -18,39 +19,60 @@ use lx_io::{Sink, Source};
 use lx_lex::Lines;
 use lx_reader::read_show;
 use lx_show::{Form, Show};
+use lx_spec::ScriptKind;
 use std::alloc::Global;
 
-/// What answers a script over a show.
-#[derive(Drop)]
-pub(crate) enum Answerer {
-    /// A desk.
-    Desk,
-    /// A desk whose edits can be undone, and which can record the stage.
-    UndoDesk,
-    /// Two cue lists of the show, which play beside each other.
-    TwoLists,
-}
-
-/// Reads a show and then a script, and answers the script over the show.
+/// Reads a show and then a script, and answers the script over the show. Of one that is played live nothing is done here.
 pub(crate) fn script<S: Source, K: Sink>(
     alloc: Global,
-    answerer: Answerer,
+    kind: ScriptKind,
     form: Form,
     input: &mut S,
     output: &mut K,
 ) -> Status
+    ensures words { AnswersWords (Some (jobs.Script kind form)) result input.old input.new output.old output.new }
+    ensures ended { IfSome (S.left input.old)
+        (λ bytes. HasEnded result (jobs.Script kind form) bytes (S.left input.new) (K.holds output.old) (K.holds output.new)) }
+    ensures prefix { IfSome (S.left input.old)
+        (λ bytes. WritesPrefix (jobs.Script kind form) bytes (K.holds output.old) (K.holds output.new)) }
+    ensures cause { HasCauseOf result (S.faults input.old) (S.faults input.new) (K.faults output.old) (K.faults output.new) }
+    ensures finished { Finishes (S.faults input.old) (S.faults input.new) K.faults K.wants K.back output.old output.new result }
+    ensures memory { HasWanted K.wants output.old output.new result }
+{
+    if is_live(kind) {
+        return Status::Live;
+    }
+    read_and_play(alloc, kind, form, input, output)
+}
+
+/// Whether threads play the script beside the caller's.
+fn is_live(kind: ScriptKind) -> bool
+    ensures { result ≡ is_live kind }
+{
+    matches!(kind, ScriptKind::Live(_))
+}
+
+/// Reads a show and then a script, and answers the script over the show.
+fn read_and_play<S: Source, K: Sink>(
+    alloc: Global,
+    kind: ScriptKind,
+    form: Form,
+    input: &mut S,
+    output: &mut K,
+) -> Status
+    requires here { is_live kind ≡ false }
     ensures works { EndsJob result }
     ensures ended { IfSome (S.left input.old)
-        (λ bytes. HasEnded result (job_by answerer form) bytes (S.left input.new) (K.holds output.old) (K.holds output.new)) }
+        (λ bytes. HasEnded result (jobs.Script kind form) bytes (S.left input.new) (K.holds output.old) (K.holds output.new)) }
     ensures prefix { IfSome (S.left input.old)
-        (λ bytes. WritesPrefix (job_by answerer form) bytes (K.holds output.old) (K.holds output.new)) }
+        (λ bytes. WritesPrefix (jobs.Script kind form) bytes (K.holds output.old) (K.holds output.new)) }
     ensures cause { HasCauseOf result (S.faults input.old) (S.faults input.new) (K.faults output.old) (K.faults output.new) }
     ensures finished { Finishes (S.faults input.old) (S.faults input.new) K.faults K.wants K.back output.old output.new result }
     ensures memory { HasWanted K.wants output.old output.new result }
 {
     let mut lines = Lines::new(input);
     match read_show(alloc, &mut lines, form) {
-        Ok(loaded) => play_script(alloc, answerer, loaded.show, &mut lines, output),
+        Ok(loaded) => play_script(alloc, kind, loaded.show, &mut lines, output),
         Err(fault) => refuse(fault, output),
     }
 }
@@ -58,30 +80,22 @@ pub(crate) fn script<S: Source, K: Sink>(
 /// Answers the script that is left over a show, from its opening on.
 fn play_script<S: Source, K: Sink>(
     alloc: Global,
-    answerer: Answerer,
+    kind: ScriptKind,
     show: Show,
     lines: &mut Lines<S>,
     output: &mut K,
 ) -> Status
+    requires here { is_live kind ≡ false }
     requires going { CanAdvance lines.old }
     requires within { bytes_taken lines.old ≤ INPUT_BYTES }
     ensures same_source { SameSource lines.old lines.new }
-    ensures works { EndsScript result }
-    ensures ended { IfSome (unread S.left lines.old)
-        (λ bytes. HasPlayed result (answers_by answerer show) (bytes_taken lines.old) bytes (source_left S.left lines.new)
-        (K.holds output.old) (K.holds output.new)) }
-    ensures front { IfSome (unread S.left lines.old)
-        (λ bytes. AnswersInFront (answers_by answerer show) (lines_of bytes) (K.holds output.old) (K.holds output.new)) }
-    ensures later { source_faults S.faults lines.old ≤ source_faults S.faults lines.new }
-    ensures cause { HasCauseOf result (source_faults S.faults lines.old) (source_faults S.faults lines.new) (K.faults output.old)
-        (K.faults output.new) }
-    ensures finished { Finishes (source_faults S.faults lines.old) (source_faults S.faults lines.new) K.faults K.wants K.back output.old
-        output.new result }
-    ensures memory { HasWanted K.wants output.old output.new result }
+    ensures plays { Plays S.left S.faults K.holds K.faults K.wants K.back (answering_of kind) (opening_of kind show) lines.old lines.new
+        output.old output.new result }
 {
-    match answerer {
-        Answerer::Desk => play(alloc, show, lines, output),
-        Answerer::UndoDesk => play_with_undo(alloc, show, lines, output),
-        Answerer::TwoLists => play_two(alloc, show, lines, output),
+    match kind {
+        ScriptKind::Render => play(alloc, show, lines, output),
+        ScriptKind::Live(_) => unreachable!(),
+        ScriptKind::Undo => play_with_undo(alloc, show, lines, output),
+        ScriptKind::Two => play_two(alloc, show, lines, output),
     }
 }

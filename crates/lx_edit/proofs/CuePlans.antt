@@ -3,6 +3,7 @@ use Rattle.std.proofs.Common.{◌≡◌, ℕ, ◌≤◌, Bool, true, false, cond
 use Rattle.std.proofs.Common.{arith}
 use Rattle.std.specs.Prelude.{Option, IsTrue, is_some, ◌||◌, nat_lt, ◌==◌, not}
 use Rattle.std.specs.List.{AllByRecursion}
+use Rattle.std.proofs.lemmas.Bool.{false≢true}
 use Rattle.std.proofs.lemmas.Bool.Decides.{nat_tests}
 use Rattle.lx_base.specs.declared.TheConstants.{CUES, PARTS}
 use Rattle.lx_spec.specs.declared.Part.{Part}
@@ -12,7 +13,7 @@ use Rattle.lx_spec.specs.SortedList.{entry_at, has_entry, taken_out}
 use Rattle.lx_spec.specs.Show.{Cue, Show, ValidCue, ValidPart, ValidMove, IsTime}
 use Rattle.lx_spec.specs.EditedShow.{edited, with_cue, with_time, new_part, without_part, out_of_part}
 use Rattle.lx_edit.specs.Found.{FoundCue}
-use Rattle.lx_edit.specs.declared.plans.Plan.TheVariants.{PlaceCue}
+use Rattle.lx_edit.specs.declared.plans.Plan.TheVariants as plans
 use Rattle.lx_edit.specs.PlanMeaning.{CanPlace, IsPlan, dimmer_edited, edits_sub}
 use Rattle.lx_spec.proofs.Lists.{find_in_filter, kept_by}
 use Rattle.lx_spec.proofs.SortedLists.{IsStrictlySorted-filter, IsStrictlySorted-map, found_valid}
@@ -31,9 +32,21 @@ replaces show n old new here same valid =
 
 pub places : (show : Show) (edit : Edit) (n : ℕ) (old new : Cue) → FoundCue show n old → new.number ≡ old.number
     → ValidCue show.channels new → edited show edit ≡ Ok (with_cue show new) → None ≡ dimmer_edited edit → false ≡ edits_sub edit
-    → IsPlan show edit (PlaceCue new None)
+    → IsPlan show edit (plans.Cue n (Some new) None false)
 places show edit n old new here same valid makes dimmer subs =
-    record { makes = makes; ready = (replaces show n old new here same valid, tt); dimmer = dimmer; subs = subs }
+    record {
+      makes = makes;
+      ready = record {
+        least = subst (λ k. 1 ≤ k) (same ∙ here.number) valid.number.least;
+        number = same ∙ here.number;
+        fits = replaces show n old new here same valid;
+        above_fits = tt;
+        higher = tt;
+        kept = λ is. absurd (false≢true is);
+      };
+      dimmer = dimmer;
+      subs = subs;
+    }
 
 -- the part found in a valid cue, with a time
 pub valid_part : (channels p : ℕ) (cue : Cue) (part : Part) → ValidCue channels cue → entry_at (λ x. x.number) p cue.parts ≡ Some part

@@ -12,9 +12,9 @@ use Rattle.lx_spec.specs.TrackedLevel.{tracked, decides, level_in, cue_above}
 use Rattle.lx_spec.specs.EditedShow.{with_cue}
 use Rattle.lx_show.specs.Around.{entries_up_to}
 use Rattle.lx_edit.specs.Found.{FoundCue}
-use Rattle.lx_edit.specs.Kept.{changed_show, decided, decided_by}
+use Rattle.lx_edit.specs.Kept.{decided, decided_by}
 use Rattle.lx_base.specs.Numbers.{Span}
-use Rattle.lx_edit.specs.PlanMeaning.{covers, CanPlace, IsAbove}
+use Rattle.lx_edit.specs.PlanMeaning.{changed_show, covers, CanPlace, IsAbove}
 use Rattle.lx_edit.proofs.Walks.{through, walked, tracked-with_cue, tracked-without_cue, up_to_first}
 use Rattle.lx_spec.proofs.Comparisons.{lt_from}
 use Rattle.lx_spec.proofs.Lists.{each, filter_all, filter_none, find_first, find_in_filter, find_passes, none_differs, passes}

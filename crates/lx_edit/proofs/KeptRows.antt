@@ -9,8 +9,7 @@ use Rattle.lx_spec.specs.TrackedLevel.{tracked, cue_of, cue_above}
 use Rattle.lx_spec.specs.EditedShow.{cue_only, with_cue, without_cue}
 use Rattle.lx_show.specs.Around.{entries_up_to}
 use Rattle.lx_edit.specs.Found.{FoundCue}
-use Rattle.lx_edit.specs.Kept.{changed_show}
-use Rattle.lx_edit.specs.PlanMeaning.{KeepsAbove}
+use Rattle.lx_edit.specs.PlanMeaning.{changed_show, KeepsAbove}
 use Rattle.lx_edit.proofs.KeptLevels.{above_differs, above_higher, above_placed, found_there}
 use Rattle.lx_edit.proofs.Lists.{filter_both, filter_same}
 use Rattle.lx_edit.proofs.Walks.{through, walked, tracked-with_cue}

@@ -11,8 +11,8 @@ use Rattle.lx_spec.specs.EditedShow.{with_cue, with_moves, cue_only, kept_above,
 use Rattle.lx_spec.proofs.Lists.{find_has, none_differs}
 use Rattle.lx_spec.proofs.SortedLists.{IsStrictlySorted-filter, IsStrictlySorted-placed, entry_at-placed_other, placed_same}
 use Rattle.lx_edit.specs.Found.{FoundCue}
-use Rattle.lx_edit.specs.Kept.{changed_show, decided}
-use Rattle.lx_edit.specs.PlanMeaning.{with_move}
+use Rattle.lx_edit.specs.Kept.{decided}
+use Rattle.lx_edit.specs.PlanMeaning.{changed_show, with_move}
 use Rattle.lx_edit.proofs.KeptLevels.{above-before, above-changed, cue_above-changed, cue_least, none_through, same_through}
 use Rattle.lx_show.proofs.SameLists.{first_here, first_other, some_same}
 

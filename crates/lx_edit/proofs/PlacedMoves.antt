@@ -5,17 +5,18 @@ use Rattle.std.specs.Option.{IsSomeAnd, option_map_or}
 use Rattle.std.specs.List.{AllByRecursion, range_with_len}
 use Rattle.std.proofs.lemmas.Bool.{cases_eq}
 use Rattle.lx_base.specs.Numbers.{Span}
+use Rattle.lx_base.specs.declared.TheConstants.{CHANNELS}
 use Rattle.lx_spec.specs.declared.Edit.TheVariants.{Set}
 use Rattle.lx_spec.specs.declared.Move.{Move}
 use Rattle.lx_spec.specs.declared.Part.{Part}
 use Rattle.lx_spec.specs.SortedList.{entry_at, has_entry, placed}
-use Rattle.lx_spec.specs.Show.{Cue, Show, Valid, ValidCue, ValidMove}
+use Rattle.lx_spec.specs.Show.{Cue, Show, Valid, ValidCue, ValidMove, InRange, IsLevel}
 use Rattle.lx_spec.specs.TrackedLevel.{cue_of, cue_above, decides, move_in, tracked, asserts}
 use Rattle.lx_spec.specs.EditedShow.{with_cue, with_levels, all_at, channels_in, cue_only, part_for, edited}
 use Rattle.lx_spec.proofs.Comparisons.{le_true}
 use Rattle.lx_spec.proofs.SortedLists.{entry_at-placed_here, entry_at-placed_other, found_number, found_valid}
 use Rattle.lx_edit.specs.declared.chan_set.ChanSet.{ChanSet}
-use Rattle.lx_edit.specs.declared.plans.Plan.TheVariants.{PlaceMove, PlaceMoves}
+use Rattle.lx_edit.specs.declared.plans.Plan.TheVariants as plans
 use Rattle.lx_edit.specs.ChanSet.{has_chan}
 use Rattle.lx_edit.specs.CueChanges.{SameEntry}
 use Rattle.lx_edit.specs.Found.{FoundCue, GivenPart, IsWithin}
@@ -130,7 +131,7 @@ cue_again show n new cue valid found number =
 -- the moves that it had, given back
 pub moves_back : (show after : Show) (n : ℕ) (moves old : List Move) (within : Span) (cue : Cue) → Valid show
     → after ≡ with_moves_in show n (λ _. moves) → CanReplace show n moves within → cue_of show n ≡ Some cue → old ≡ cue.moves
-    → TakesBack show after (PlaceMoves n old within)
+    → TakesBack show after (plans.Moves n old within)
 moves_back show after n moves old within cue valid is ready found was =
     let number : n ≡ cue.number = found_number (λ (x : Cue). x.number) n show.cues cue found in
     let new : Cue = record cue { moves = moves } in
@@ -140,7 +141,7 @@ moves_back show after n moves old within cue valid is ready found was =
     found_valid (ValidCue show.channels) (λ (x : Cue). x.number) n show.cues cue valid.cues found in
     let same : SameOutside within cue.moves moves =
     subst (λ (o : Option Cue). IsSomeAnd o (λ x. SameOutside within x.moves moves)) found ready.same in
-    let all : TakesBack show one (PlaceMoves n cue.moves within) = record {
+    let all : TakesBack show one (plans.Moves n cue.moves within) = record {
       ready = record {
         valid = subst (λ (o : Option Cue). IsSomeAnd o (λ x. AllByRecursion (ValidMove show.channels x.parts) cue.moves)) (sym here) whole.moves;
         same = subst (λ (o : Option Cue). IsSomeAnd o (λ x. SameOutside within x.moves cue.moves)) (sym here) (λ c out. sym (same c out));
@@ -148,12 +149,12 @@ moves_back show after n moves old within cue valid is ready found was =
       back = changed_is one n (λ _. cue.moves) new here
           ∙ ap (λ (xs : List Cue). record show { cues = xs }) (cue_again show n new cue valid found (sym number));
     } in
-    subst (λ (s : Show). TakesBack show s (PlaceMoves n old within)) (sym (is ∙ changed_is show n (λ _. moves) cue found))
-    (subst (λ (ms : List Move). TakesBack show one (PlaceMoves n ms within)) (sym was) all)
+    subst (λ (s : Show). TakesBack show s (plans.Moves n old within)) (sym (is ∙ changed_is show n (λ _. moves) cue found))
+    (subst (λ (ms : List Move). TakesBack show one (plans.Moves n ms within)) (sym was) all)
 
 -- the move that was there, placed again
 pub move_back : (show after : Show) (n : ℕ) (entry old : Move) (cue : Cue) → Valid show → after ≡ with_move_in show n entry
-    → CanMove show n entry → cue_of show n ≡ Some cue → move_in cue entry.chan ≡ Some old → TakesBack show after (PlaceMove n old)
+    → CanMove show n entry → cue_of show n ≡ Some cue → move_in cue entry.chan ≡ Some old → TakesBack show after (plans.Move n old)
 move_back show after n entry old cue valid is ready found was =
     let number : n ≡ cue.number = found_number (λ (x : Cue). x.number) n show.cues cue found in
     let chan : entry.chan ≡ old.chan = found_number (λ (m : Move). m.chan) entry.chan cue.moves old was in
@@ -169,17 +170,16 @@ move_back show after n entry old cue valid is ready found was =
     let cues = cue_again show n new cue valid found (sym number) in
     let placed_here : entry_at (λ (m : Move). m.chan) old.chan new.moves ≡ Some entry =
     entry_at-placed_here (λ (m : Move). m.chan) old.chan entry cue.moves chan in
-    let all : TakesBack show one (PlaceMove n old) = record {
+    let all : TakesBack show one (plans.Move n old) = record {
       ready = record {
-        chan = fits.chan.most;
-        part = subst (λ (o : Option Cue). IsSomeAnd o (λ x. IsTrue (has_entry (λ p. p.number) old.part x.parts))) (sym here) fits.part;
+        valid = subst (λ (o : Option Cue). IsSomeAnd o (λ x. ValidMove show.channels x.parts old)) (sym here) fits;
         there = subst (λ (o : Option Cue). IsSomeAnd o (λ x. IsTrue (has_entry (λ m. m.chan) old.chan x.moves))) (sym here)
             (subst (λ (o : Option Move). IsTrue (is_some o)) (sym placed_here) refl);
       };
       back = moved_is one n old new here ∙ ap (λ (ms : List Move). with_cue one (record cue { moves = ms })) moves
           ∙ ap (λ (xs : List Cue). record show { cues = xs }) cues;
     } in
-    subst (λ (s : Show). TakesBack show s (PlaceMove n old)) (sym (is ∙ moved_is show n entry cue found)) all
+    subst (λ (s : Show). TakesBack show s (plans.Move n old)) (sym (is ∙ moved_is show n entry cue found)) all
 
 one_channel : (first last : ℕ) → first ≡ last → range_with_len first (last + 1 - first) ≡ first ∷ []
 one_channel first last same =
@@ -196,10 +196,10 @@ only_step false show n cue entry valid here apart = refl
 pub set_one : (show : Show) (n level : ℕ) (cue : Cue) (given part : Option ℕ) (range : Span) (only : Bool) (entry : Move) → Valid show
     → FoundCue show n cue → GivenPart cue given part → IsWithin show.channels range → range.first ≡ range.last
     → entry ≡ record { chan = range.first; part = part_for part cue range.first; level = level }
-    → IsTrue (has_entry (λ m. m.chan) entry.chan cue.moves)
+    → InRange CHANNELS entry.chan → IsLevel entry.level → IsTrue (has_entry (λ m. m.chan) entry.chan cue.moves)
     → (only ≡ true → IfSome (cue_above show n) (λ above. decides above range.first ≡ true))
-    → IsPlan show (Set n given range level only) (PlaceMove n entry)
-set_one show n level cue given part range only entry valid here is_part within one is there apart =
+    → IsPlan show (Set n given range level only) (plans.Move n entry)
+set_one show n level cue given part range only entry valid here is_part within one is chan_range is_level there apart =
     let le = le_true range.last show.channels within.most in
     let meant : Move = record { chan = range.first; part = part_for given cue range.first; level = level } in
     let made : edited show (Set n given range level only)
@@ -220,8 +220,11 @@ set_one show n level cue given part range only entry valid here is_part within o
           ∙ ap Ok (only_step only show n cue entry valid here (subst (λ k. only ≡ true → IfSome (cue_above show n) (λ above. decides above k ≡ true)) (sym chan) apart))
           ∙ ap Ok (sym (moved_is show n entry cue here.found));
       ready = record {
-        chan = omega (arith, chan, one, most);
-        part = subst (λ (o : Option Cue). IsSomeAnd o (λ x. IsTrue (has_entry (λ p. p.number) entry.part x.parts))) (sym here.found) has_part;
+        valid = subst (λ (o : Option Cue). IsSomeAnd o (λ x. ValidMove show.channels x.parts entry)) (sym here.found) (record {
+          chan = record { least = chan_range.least; most = omega (arith, chan, one, most) };
+          part = has_part;
+          level = is_level;
+        });
         there = subst (λ (o : Option Cue). IsSomeAnd o (λ x. IsTrue (has_entry (λ m. m.chan) entry.chan x.moves))) (sym here.found) there;
       };
       dimmer = refl;

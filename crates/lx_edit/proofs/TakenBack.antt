@@ -12,11 +12,12 @@ use Rattle.lx_spec.specs.EditedShow.{with_cue}
 use Rattle.lx_spec.proofs.Comparisons.{lt_true}
 use Rattle.lx_spec.proofs.SortedLists.{below_and_above, entry_at-placed_here, entry_at-placed_other, found_number, found_valid, has_placed}
 use Rattle.lx_spec.proofs.SortedLists.{length-placed_there, one_between}
+use Rattle.lx_show.specs.ChangedEntry.{exchanged_at}
 use Rattle.lx_edit.specs.declared.plans.Plan.{Plan}
-use Rattle.lx_edit.specs.Kept.{changed_show}
-use Rattle.lx_edit.specs.PlanMeaning.{CanPlace, IsAbove, KeepsAbove, with_above}
-use Rattle.lx_edit.specs.Undone.{TakesBack, cue_instead, cue_back, kept_back, group_back, sub_back, row_back}
-use Rattle.lx_edit.proofs.SameLists.{back_from, exchanged, exchanged_here, exchanged_other, both_back}
+use Rattle.lx_edit.specs.declared.plans.Plan.TheVariants as plans
+use Rattle.lx_edit.specs.PlanMeaning.{CanExchange, CanPlace, IsAbove, KeepsAbove, changed_show, with_above}
+use Rattle.lx_edit.specs.Undone.{TakesBack, cue_instead}
+use Rattle.lx_edit.proofs.SameLists.{exchanged_back, exchanged_here, exchanged_other, both_back, found_all, found_here}
 
 or_right : (a b : Bool) → b ≡ true → IsTrue (a || b)
 or_right true b is = refl
@@ -47,12 +48,8 @@ found_fits show after n cue valid is channels room = record {
       (found_number (λ (x : Cue). x.number) n show.cues cue is) room;
 }
 
--- the show with the cue of the number exchanged
-abbrev other_cue : Show → ℕ → Option Cue → Show
-other_cue show n new = record show { cues = exchanged (λ (x : Cue). x.number) n new show.cues }
-
 room_alone : (show : Show) (n : ℕ) (new : Option Cue) (old : Cue) → Valid show → cue_of show n ≡ Some old → IfSome new (λ cue. cue.number ≡ n)
-    → IsTrue (has_entry (λ x. x.number) n (other_cue show n new).cues || nat_lt (length (other_cue show n new).cues) CUES)
+    → IsTrue (has_entry (λ x. x.number) n (changed_show show n new).cues || nat_lt (length (changed_show show n new).cues) CUES)
 room_alone show n None old valid is number =
     let less : length (taken_out (λ (x : Cue). x.number) n show.cues) < length show.cues =
     fewer_without (λ (x : Cue). x.number) n show.cues valid.cues_sorted (has_it (cue_of show n) old is) in
@@ -63,8 +60,8 @@ room_alone show n (Some new) old valid is number =
 
 room_both : (show : Show) (n : ℕ) (new : Option Cue) (above old : Cue) → Valid show → cue_of show n ≡ Some old
     → IfSome new (λ cue. cue.number ≡ n) → n < above.number → IsTrue (has_entry (λ x. x.number) above.number show.cues)
-    → IsTrue (has_entry (λ x. x.number) n (with_cue (other_cue show n new) above).cues
-    || nat_lt (length (with_cue (other_cue show n new) above).cues) CUES)
+    → IsTrue (has_entry (λ x. x.number) n (with_cue (changed_show show n new) above).cues
+    || nat_lt (length (with_cue (changed_show show n new) above).cues) CUES)
 room_both show n None above old valid is number higher there =
     let rest : List Cue = taken_out (λ (x : Cue). x.number) n show.cues in
     let less : length rest < length show.cues =
@@ -83,9 +80,9 @@ room_both show n (Some new) above old valid is number higher there =
 -- what was above is there, and may be placed again once the cue is exchanged back
 above_again : (show after : Show) (n : ℕ) (first : Option Cue) (above old : Cue) → Valid show → IfSome first (λ cue. cue.number ≡ n)
     → n < above.number → cue_of show above.number ≡ Some old → after.channels ≡ show.channels → cue_of after above.number ≡ Some above
-    → CanPlace (other_cue after n first) old
+    → CanPlace (changed_show after n first) old
 above_again show after n first above old valid number higher is channels there =
-    found_fits show (other_cue after n first) above.number old valid is channels (is_there _ above _
+    found_fits show (changed_show after n first) above.number old valid is channels (is_there _ above _
     (exchanged_other (λ (x : Cue). x.number) n above.number first after.cues number (λ same. omega arith) ∙ there))
 
 above_there : (show after : Show) (n : ℕ) (above old : Cue) → n < above.number → cue_of show above.number ≡ Some old
@@ -97,211 +94,186 @@ above_there show after n above old higher is there =
       higher = omega arith;
     }
 
-found_is : (show : Show) (n : ℕ) (old : Cue) → cue_of show n ≡ Some old → old.number ≡ n
-found_is show n old is = sym (found_number (λ (x : Cue). x.number) n show.cues old is)
+fits_alone : (show : Show) (n : ℕ) (new o : Option Cue) → cue_of show n ≡ o → Valid show → IfSome new (λ cue. cue.number ≡ n)
+    → IfSome o (CanPlace (changed_show show n new))
+fits_alone show n new None is valid number = tt
+fits_alone show n new (Some old) is valid number =
+    found_fits show (changed_show show n new) n old valid is refl (room_alone show n new old valid is number)
 
-alone_back : (show : Show) (n : ℕ) (new o : Option Cue) → cue_of show n ≡ o → Valid show → 1 ≤ n → IfSome new (λ cue. cue.number ≡ n)
-    → TakesBack show (other_cue show n new) (cue_back n o None)
-alone_back show n new None is valid least number = record {
-  ready = (least, tt, tt);
+fits_both : (show : Show) (n : ℕ) (new o : Option Cue) (above : Cue) → cue_of show n ≡ o → Valid show → IfSome new (λ cue. cue.number ≡ n)
+    → IsAbove show n above → IfSome o (CanPlace (with_cue (changed_show show n new) above))
+fits_both show n new None above is valid number here = tt
+fits_both show n new (Some old) above is valid number here =
+    found_fits show (with_cue (changed_show show n new) above) n old valid is refl
+    (room_both show n new above old valid is number here.higher here.there)
+
+not_kept : (T : Type 0) → false ≡ true → T
+not_kept T is = absurd (false≢true is)
+
+alone_back : (show : Show) (n : ℕ) (new : Option Cue) → Valid show → 1 ≤ n → IfSome new (λ cue. cue.number ≡ n)
+    → TakesBack show (changed_show show n new) (plans.Cue n (cue_of show n) None false)
+alone_back show n new valid least number = record {
+  ready = record {
+    least = least;
+    number = found_here (λ (x : Cue). x.number) n show.cues;
+    fits = fits_alone show n new (cue_of show n) refl valid number;
+    above_fits = tt;
+    higher = tt;
+    kept = not_kept _;
+  };
   back = ap (λ (cues : List Cue). record show { cues = cues })
-      (back_from (λ (x : Cue). x.number) n new show.cues _ is valid.cues_sorted number);
-}
-alone_back show n new (Some old) is valid least number = record {
-  ready = (found_fits show (other_cue show n new) n old valid is refl (room_alone show n new old valid is number), tt, tt);
-  back = ap (λ (cues : List Cue). record show { cues = cues })
-      (back_from (λ (x : Cue). x.number) n new show.cues _ is valid.cues_sorted number);
+      (exchanged_back (λ (x : Cue). x.number) n new show.cues valid.cues_sorted number);
 }
 
-with_back : (show : Show) (n : ℕ) (new o : Option Cue) (above old_above : Cue) → cue_of show n ≡ o
-    → cue_of show above.number ≡ Some old_above → Valid show → 1 ≤ n → IfSome new (λ cue. cue.number ≡ n) → n < above.number
-    → TakesBack show (with_cue (other_cue show n new) above) (cue_back n o (Some old_above))
-with_back show n new None above old_above is is_above valid least number higher =
-    let after : Show = with_cue (other_cue show n new) above in
+with_back : (show : Show) (n : ℕ) (new : Option Cue) (above old_above : Cue) → cue_of show above.number ≡ Some old_above → Valid show → 1 ≤ n
+    → IfSome new (λ cue. cue.number ≡ n) → IsAbove show n above
+    → TakesBack show (with_cue (changed_show show n new) above) (plans.Cue n (cue_of show n) (Some old_above) false)
+with_back show n new above old_above is valid least number here =
+    let after : Show = with_cue (changed_show show n new) above in
     let there : cue_of after above.number ≡ Some above =
-    entry_at-placed_here (λ (x : Cue). x.number) above.number above (other_cue show n new).cues refl in
+    entry_at-placed_here (λ (x : Cue). x.number) above.number above (changed_show show n new).cues refl in
+    let higher : n < above.number = here.higher in
+    let was : IfSome (cue_of show n) (λ cue. cue.number ≡ n) = found_here (λ (x : Cue). x.number) n show.cues in
     record {
-      ready = (
-        least,
-        above_again show after n None above old_above valid tt higher is_above refl there,
-        above_there show after n above old_above higher is_above there,
-      );
+      ready = record {
+        least = least;
+        number = was;
+        fits = fits_both show n new (cue_of show n) above refl valid number here;
+        above_fits = above_again show after n (cue_of show n) above old_above valid was higher is refl there;
+        higher = above_there show after n above old_above higher is there;
+        kept = not_kept _;
+      };
       back = ap (λ (cues : List Cue). record show { cues = cues })
-          (subst (λ (o : Option Cue). placed (λ (x : Cue). x.number) old_above (exchanged (λ (x : Cue). x.number) n o after.cues) ≡ show.cues)
-          is
-          (both_back (λ (x : Cue). x.number) n new above old_above show.cues valid.cues_sorted number (λ same. omega arith) is_above));
-    }
-with_back show n new (Some old) above old_above is is_above valid least number higher =
-    let after : Show = with_cue (other_cue show n new) above in
-    let there : cue_of after above.number ≡ Some above =
-    entry_at-placed_here (λ (x : Cue). x.number) above.number above (other_cue show n new).cues refl in
-    let same : old.number ≡ n = found_is show n old is in
-    record {
-      ready = (
-        found_fits show after n old valid is refl
-            (room_both show n new above old valid is number higher (has_it (cue_of show above.number) old_above is_above)),
-        above_again show after n (Some old) above old_above valid same higher is_above refl there,
-        above_there show after old.number above old_above (omega (arith, same, higher)) is_above there,
-      );
-      back = ap (λ (cues : List Cue). record show { cues = cues })
-          (subst (λ (o : Option Cue). placed (λ (x : Cue). x.number) old_above (exchanged (λ (x : Cue). x.number) n o after.cues) ≡ show.cues)
-          is
-          (both_back (λ (x : Cue). x.number) n new above old_above show.cues valid.cues_sorted number (λ same. omega arith) is_above));
+          (both_back (λ (x : Cue). x.number) n new above old_above show.cues valid.cues_sorted number (λ same. omega arith) is);
     }
 
 with_step : (show : Show) (n : ℕ) (new o : Option Cue) (above : Cue) → cue_of show above.number ≡ o → Valid show → 1 ≤ n
     → IfSome new (λ cue. cue.number ≡ n) → IsAbove show n above
-    → TakesBack show (with_cue (other_cue show n new) above) (cue_back n (cue_of show n) o)
+    → TakesBack show (with_cue (changed_show show n new) above) (plans.Cue n (cue_of show n) o false)
 with_step show n new None above is valid least number here =
     absurd (false≢true (subst (λ (o : Option Cue). IsTrue (is_some o)) is here.there))
-with_step show n new (Some old) above is valid least number here =
-    with_back show n new (cue_of show n) above old refl is valid least number here.higher
+with_step show n new (Some old) above is valid least number here = with_back show n new above old is valid least number here
 
 other_back : (show : Show) (n : ℕ) (new above : Option Cue) → Valid show → 1 ≤ n → IfSome new (λ cue. cue.number ≡ n)
     → IfSome above (IsAbove show n)
-    → TakesBack show (with_above above (other_cue show n new)) (cue_back n (cue_of show n) (cue_instead (other_cue show n new) above))
-other_back show n new None valid least number here = alone_back show n new (cue_of show n) refl valid least number
+    → TakesBack show (with_above above (changed_show show n new))
+    (plans.Cue n (cue_of show n) (cue_instead (changed_show show n new) above) false)
+other_back show n new None valid least number here = alone_back show n new valid least number
 other_back show n new (Some above) valid least number here =
     let higher : n < above.number = here.higher in
-    subst (λ (o : Option Cue). TakesBack show (with_cue (other_cue show n new) above) (cue_back n (cue_of show n) o))
+    subst (λ (o : Option Cue). TakesBack show (with_cue (changed_show show n new) above) (plans.Cue n (cue_of show n) o false))
     (sym (exchanged_other (λ (x : Cue). x.number) n above.number new show.cues number (λ same. omega arith)))
     (with_step show n new (cue_of show above.number) above refl valid least number here)
 
-changed_is : (show : Show) (n : ℕ) (new : Option Cue) → other_cue show n new ≡ changed_show show n new
-changed_is show n None = refl
-changed_is show n (Some cue) = refl
-
 -- a cue changed or taken out, and then the one above placed
-pub cues_back : (show one after : Show) (n m : ℕ) (new above old old_above : Option Cue) (undo : Plan) → one ≡ changed_show show n new
-    → after ≡ with_above above one → m ≡ n → old ≡ cue_of show n → old_above ≡ cue_instead one above → undo ≡ cue_back m old old_above
-    → Valid show → 1 ≤ n → IfSome new (λ cue. cue.number ≡ n) → IfSome above (IsAbove show n) → TakesBack show after undo
-cues_back show one after n m new above old old_above undo one_is is m_is old_is above_is undo_is valid least number here =
-    let all : TakesBack show (with_above above one) (cue_back n (cue_of show n) (cue_instead one above)) =
-    subst (λ (s : Show). TakesBack show (with_above above s) (cue_back n (cue_of show n) (cue_instead s above)))
-    (changed_is show n new ∙ sym one_is) (other_back show n new above valid least number here) in
-    let undone : undo ≡ cue_back n (cue_of show n) (cue_instead one above) =
-    undo_is ∙ ap (λ k. cue_back k old old_above) m_is ∙ ap (λ (o : Option Cue). cue_back n o old_above) old_is
-    ∙ ap (λ (o : Option Cue). cue_back n (cue_of show n) o) above_is in
-    subst (λ (s : Show). TakesBack show s undo) (sym is) (subst (λ (p : Plan). TakesBack show (with_above above one) p) (sym undone) all)
+pub cues_back : (show one after : Show) (n : ℕ) (new above old old_above : Option Cue) → one ≡ changed_show show n new
+    → after ≡ with_above above one → old ≡ cue_of show n → old_above ≡ cue_instead one above → Valid show → CanExchange show n new above false
+    → TakesBack show after (plans.Cue n old old_above false)
+cues_back show one after n new above old old_above one_is is old_is above_is valid ready =
+    let all : TakesBack show (with_above above one) (plans.Cue n (cue_of show n) (cue_instead one above) false) =
+    subst (λ (s : Show). TakesBack show (with_above above s) (plans.Cue n (cue_of show n) (cue_instead s above) false)) (sym one_is)
+    (other_back show n new above valid ready.least ready.number ready.higher) in
+    let undone : plans.Cue n (cue_of show n) (cue_instead one above) false ≡ plans.Cue n old old_above false =
+    ap (λ (o : Option Cue). plans.Cue n o (cue_instead one above) false) (sym old_is)
+    ∙ ap (λ (o : Option Cue). plans.Cue n old o false) (sym above_is) in
+    subst (λ (s : Show). TakesBack show s (plans.Cue n old old_above false)) (sym is)
+    (subst (λ (p : Plan). TakesBack show (with_above above one) p) undone all)
 
 -- where the cue above keeps its levels it does so on the way back
 still_kept : (show : Show) (cue above : Cue) (o was : Option Cue) → cue_of show cue.number ≡ o
     → KeepsAbove show (with_cue show cue) cue.number above → cue_of show above.number ≡ was
-    → TakesBack show (with_cue (with_cue show cue) above) (cue_back cue.number o was)
-    → TakesBack show (with_cue (with_cue show cue) above) (kept_back cue.number o was)
+    → TakesBack show (with_cue (with_cue show cue) above) (plans.Cue cue.number o was false)
+    → TakesBack show (with_cue (with_cue show cue) above) (plans.Cue cue.number o was true)
 still_kept show cue above None was is keeps is_above takes =
     absurd (false≢true (subst (λ (q : Option Cue). IsTrue (is_some q)) is keeps.cue))
 still_kept show cue above (Some old) None is keeps is_above takes =
     absurd (false≢true (subst (λ (q : Option Cue). IsTrue (is_some q)) is_above keeps.above))
 still_kept show cue above (Some old) (Some old_above) is keeps is_above takes =
     let one : List Cue = placed (λ (x : Cue). x.number) cue show.cues in
-    let same : cue.number ≡ old.number = found_number (λ (x : Cue). x.number) cue.number show.cues old is in
     let same_above : above.number ≡ old_above.number = found_number (λ (x : Cue). x.number) above.number show.cues old_above is_above in
     record {
-      ready = (
-        takes.ready.0,
-        (
-          takes.ready.1,
-          record {
-            cue = has_placed (λ (x : Cue). x.number) old.number above one
-                (has_placed (λ (x : Cue). x.number) old.number cue show.cues
-                (subst (λ k. IsTrue (has_entry (λ (x : Cue). x.number) k show.cues)) same keeps.cue));
-            above = takes.ready.2.there;
-            higher = takes.ready.2.higher;
-            levels = λ m c range le. ap (λ (s : Show). tracked s m c) takes.back
-                ∙ sym (keeps.levels m c range (subst (λ k. k ≤ m) (sym same_above) le));
-          },
-        ),
-      );
+      ready = record {
+        least = takes.ready.least;
+        number = takes.ready.number;
+        fits = takes.ready.fits;
+        above_fits = takes.ready.above_fits;
+        higher = takes.ready.higher;
+        kept = λ kept. record {
+          cue = has_placed (λ (x : Cue). x.number) cue.number above one
+              (has_placed (λ (x : Cue). x.number) cue.number cue show.cues keeps.cue);
+          above = takes.ready.higher.there;
+          higher = takes.ready.higher.higher;
+          levels = λ m c range le. ap (λ (s : Show). tracked s m c) takes.back
+              ∙ sym (keeps.levels m c range (subst (λ k. k ≤ m) (sym same_above) le));
+        };
+      };
       back = takes.back;
     }
 
-pub alone_kept : (show one after : Show) (cue above : Cue) (n : ℕ) (old old_above : Option Cue) (undo : Plan) → one ≡ with_cue show cue
-    → after ≡ with_cue one above → n ≡ cue.number → old ≡ cue_of show cue.number → old_above ≡ cue_of one above.number
-    → undo ≡ kept_back n old old_above → Valid show → 1 ≤ cue.number → KeepsAbove show (with_cue show cue) cue.number above
-    → TakesBack show after undo
-alone_kept show one after cue above n old old_above undo one_is is number old_is above_is undo_is valid least keeps =
-    let higher : cue.number < above.number = keeps.higher in
-    let here : IsAbove show cue.number above = record { there = keeps.above; higher = keeps.higher } in
+pub alone_kept : (show one after : Show) (cue above : Cue) (old old_above : Option Cue) → one ≡ with_cue show cue → after ≡ with_cue one above
+    → old ≡ cue_of show cue.number → old_above ≡ cue_of one above.number → Valid show → 1 ≤ cue.number
+    → KeepsAbove show (with_cue show cue) cue.number above → TakesBack show after (plans.Cue cue.number old old_above true)
+alone_kept show one after cue above old old_above one_is is old_is above_is valid least keeps =
+    let n : ℕ = cue.number in
+    let higher : n < above.number = keeps.higher in
+    let here : IsAbove show n above = record { there = keeps.above; higher = keeps.higher } in
     let instead : cue_of (with_cue show cue) above.number ≡ cue_of show above.number =
     entry_at-placed_other (λ (x : Cue). x.number) above.number cue show.cues (λ same. omega arith) in
-    let all : TakesBack show (with_cue (with_cue show cue) above) (kept_back cue.number (cue_of show cue.number) (cue_of show above.number)) =
-    still_kept show cue above (cue_of show cue.number) (cue_of show above.number) refl keeps refl
-    (subst (λ (o : Option Cue). TakesBack show (with_cue (with_cue show cue) above) (cue_back cue.number (cue_of show cue.number) o)) instead
-    (other_back show cue.number (Some cue) (Some above) valid least refl here)) in
-    let undone : undo ≡ kept_back cue.number (cue_of show cue.number) (cue_of show above.number) =
-    undo_is ∙ ap (λ k. kept_back k old old_above) number ∙ ap (λ (o : Option Cue). kept_back cue.number o old_above) old_is
-    ∙ ap (λ (o : Option Cue). kept_back cue.number (cue_of show cue.number) o)
-    (above_is ∙ ap (λ (s : Show). cue_of s above.number) one_is ∙ instead) in
-    subst (λ (s : Show). TakesBack show s undo) (sym (is ∙ ap (λ (s : Show). with_cue s above) one_is))
-    (subst (λ (p : Plan). TakesBack show (with_cue (with_cue show cue) above) p) (sym undone) all)
+    let all : TakesBack show (with_cue (with_cue show cue) above) (plans.Cue n (cue_of show n) (cue_of show above.number) true) =
+    still_kept show cue above (cue_of show n) (cue_of show above.number) refl keeps refl
+    (with_step show n (Some cue) (cue_of show above.number) above refl valid least refl here) in
+    let undone : plans.Cue n (cue_of show n) (cue_of show above.number) true ≡ plans.Cue n old old_above true =
+    ap (λ (o : Option Cue). plans.Cue n o (cue_of show above.number) true) (sym old_is)
+    ∙ ap (λ (o : Option Cue). plans.Cue n old o true)
+    (sym (above_is ∙ ap (λ (s : Show). cue_of s above.number) one_is ∙ instead)) in
+    subst (λ (s : Show). TakesBack show s (plans.Cue n old old_above true)) (sym (is ∙ ap (λ (s : Show). with_cue s above) one_is))
+    (subst (λ (p : Plan). TakesBack show (with_cue (with_cue show cue) above) p) undone all)
 
 -- Groups, submasters and patch rows.
-group_step : (show : Show) (g : ℕ) (new o : Option Group) → entry_at (λ x. x.number) g show.groups ≡ o → Valid show
-    → IfSome new (λ group. group.number ≡ g)
-    → TakesBack show (record show { groups = exchanged (λ (x : Group). x.number) g new show.groups }) (group_back g o)
-group_step show g new None is valid number = record {
-  ready = tt;
-  back = ap (λ (groups : List Group). record show { groups = groups })
-      (back_from (λ (x : Group). x.number) g new show.groups _ is valid.groups_sorted number);
-}
-group_step show g new (Some old) is valid number = record {
-  ready = found_valid (ValidGroup show.channels) (λ (x : Group). x.number) g show.groups old valid.groups is;
-  back = ap (λ (groups : List Group). record show { groups = groups })
-      (back_from (λ (x : Group). x.number) g new show.groups _ is valid.groups_sorted number);
-}
+pub groups_back : (show after : Show) (g : ℕ) (new old : Option Group)
+    → after ≡ record show { groups = exchanged_at (λ (x : Group). x.number) g new show.groups } → old ≡ entry_at (λ x. x.number) g show.groups
+    → Valid show → IfSome new (λ group. group.number ≡ g) → TakesBack show after (plans.Group g old)
+groups_back show after g new old is old_is valid number =
+    let one : Show = record show { groups = exchanged_at (λ (x : Group). x.number) g new show.groups } in
+    let all : TakesBack show one (plans.Group g (entry_at (λ x. x.number) g show.groups)) = record {
+      ready = (
+        found_here (λ (x : Group). x.number) g show.groups,
+        found_all (ValidGroup show.channels) (λ (x : Group). x.number) g show.groups valid.groups,
+      );
+      back = ap (λ (groups : List Group). record show { groups = groups })
+          (exchanged_back (λ (x : Group). x.number) g new show.groups valid.groups_sorted number);
+    } in
+    subst (λ (s : Show). TakesBack show s (plans.Group g old)) (sym is)
+    (subst (λ (o : Option Group). TakesBack show one (plans.Group g o)) (sym old_is) all)
 
-pub groups_back : (show after : Show) (g m : ℕ) (new old : Option Group) (undo : Plan)
-    → after ≡ record show { groups = exchanged (λ (x : Group). x.number) g new show.groups } → m ≡ g
-    → old ≡ entry_at (λ x. x.number) g show.groups → undo ≡ group_back m old → Valid show → IfSome new (λ group. group.number ≡ g)
-    → TakesBack show after undo
-groups_back show after g m new old undo is m_is old_is undo_is valid number =
-    subst (λ (t : Show). TakesBack show t undo) (sym is)
-    (subst (λ (p : Plan). TakesBack show (record show { groups = exchanged (λ (x : Group). x.number) g new show.groups }) p)
-    (sym (undo_is ∙ ap (λ j. group_back j old) m_is)) (group_step show g new old (sym old_is) valid number))
+pub subs_back : (show after : Show) (s : ℕ) (new old : Option Sub)
+    → after ≡ record show { subs = exchanged_at (λ (x : Sub). x.number) s new show.subs } → old ≡ entry_at (λ x. x.number) s show.subs
+    → Valid show → IfSome new (λ submaster. submaster.number ≡ s) → TakesBack show after (plans.Sub s old)
+subs_back show after s new old is old_is valid number =
+    let one : Show = record show { subs = exchanged_at (λ (x : Sub). x.number) s new show.subs } in
+    let all : TakesBack show one (plans.Sub s (entry_at (λ x. x.number) s show.subs)) = record {
+      ready = (
+        found_here (λ (x : Sub). x.number) s show.subs,
+        found_all (ValidSub show.channels) (λ (x : Sub). x.number) s show.subs valid.subs,
+      );
+      back = ap (λ (subs : List Sub). record show { subs = subs })
+          (exchanged_back (λ (x : Sub). x.number) s new show.subs valid.subs_sorted number);
+    } in
+    subst (λ (t : Show). TakesBack show t (plans.Sub s old)) (sym is)
+    (subst (λ (o : Option Sub). TakesBack show one (plans.Sub s o)) (sym old_is) all)
 
-sub_step : (show : Show) (s : ℕ) (new o : Option Sub) → entry_at (λ x. x.number) s show.subs ≡ o → Valid show
-    → IfSome new (λ submaster. submaster.number ≡ s)
-    → TakesBack show (record show { subs = exchanged (λ (x : Sub). x.number) s new show.subs }) (sub_back s o)
-sub_step show s new None is valid number = record {
-  ready = tt;
-  back = ap (λ (subs : List Sub). record show { subs = subs })
-      (back_from (λ (x : Sub). x.number) s new show.subs _ is valid.subs_sorted number);
-}
-sub_step show s new (Some old) is valid number = record {
-  ready = found_valid (ValidSub show.channels) (λ (x : Sub). x.number) s show.subs old valid.subs is;
-  back = ap (λ (subs : List Sub). record show { subs = subs })
-      (back_from (λ (x : Sub). x.number) s new show.subs _ is valid.subs_sorted number);
-}
-
-pub subs_back : (show after : Show) (s m : ℕ) (new old : Option Sub) (undo : Plan)
-    → after ≡ record show { subs = exchanged (λ (x : Sub). x.number) s new show.subs } → m ≡ s
-    → old ≡ entry_at (λ x. x.number) s show.subs → undo ≡ sub_back m old → Valid show → IfSome new (λ submaster. submaster.number ≡ s)
-    → TakesBack show after undo
-subs_back show after s m new old undo is m_is old_is undo_is valid number =
-    subst (λ (t : Show). TakesBack show t undo) (sym is)
-    (subst (λ (p : Plan). TakesBack show (record show { subs = exchanged (λ (x : Sub). x.number) s new show.subs }) p)
-    (sym (undo_is ∙ ap (λ j. sub_back j old) m_is)) (sub_step show s new old (sym old_is) valid number))
-
-row_step : (show : Show) (e : ℕ) (new o : Option PatchRow) → entry_at (λ x. x.dimmer) e show.patch ≡ o → Valid show
-    → IfSome new (λ row. row.dimmer ≡ e)
-    → TakesBack show (record show { patch = exchanged (λ (x : PatchRow). x.dimmer) e new show.patch }) (row_back e o)
-row_step show e new None is valid number = record {
-  ready = tt;
-  back = ap (λ (patch : List PatchRow). record show { patch = patch })
-      (back_from (λ (x : PatchRow). x.dimmer) e new show.patch _ is valid.patch_sorted number);
-}
-row_step show e new (Some old) is valid number = record {
-  ready = (found_valid (ValidPatchRow show.channels) (λ (x : PatchRow). x.dimmer) e show.patch old valid.patch is).chan.most;
-  back = ap (λ (patch : List PatchRow). record show { patch = patch })
-      (back_from (λ (x : PatchRow). x.dimmer) e new show.patch _ is valid.patch_sorted number);
-}
-
-pub rows_back : (show after : Show) (e m : ℕ) (new old : Option PatchRow) (undo : Plan)
-    → after ≡ record show { patch = exchanged (λ (x : PatchRow). x.dimmer) e new show.patch } → m ≡ e
-    → old ≡ entry_at (λ x. x.dimmer) e show.patch → undo ≡ row_back m old → Valid show → IfSome new (λ row. row.dimmer ≡ e)
-    → TakesBack show after undo
-rows_back show after e m new old undo is m_is old_is undo_is valid number =
-    subst (λ (t : Show). TakesBack show t undo) (sym is)
-    (subst (λ (p : Plan). TakesBack show (record show { patch = exchanged (λ (x : PatchRow). x.dimmer) e new show.patch }) p)
-    (sym (undo_is ∙ ap (λ j. row_back j old) m_is)) (row_step show e new old (sym old_is) valid number))
+pub rows_back : (show after : Show) (e : ℕ) (new old : Option PatchRow)
+    → after ≡ record show { patch = exchanged_at (λ (x : PatchRow). x.dimmer) e new show.patch } → old ≡ entry_at (λ x. x.dimmer) e show.patch
+    → Valid show → IfSome new (λ row. row.dimmer ≡ e) → TakesBack show after (plans.Row e old)
+rows_back show after e new old is old_is valid number =
+    let one : Show = record show { patch = exchanged_at (λ (x : PatchRow). x.dimmer) e new show.patch } in
+    let all : TakesBack show one (plans.Row e (entry_at (λ x. x.dimmer) e show.patch)) = record {
+      ready = (
+        found_here (λ (x : PatchRow). x.dimmer) e show.patch,
+        found_all (ValidPatchRow show.channels) (λ (x : PatchRow). x.dimmer) e show.patch valid.patch,
+      );
+      back = ap (λ (patch : List PatchRow). record show { patch = patch })
+          (exchanged_back (λ (x : PatchRow). x.dimmer) e new show.patch valid.patch_sorted number);
+    } in
+    subst (λ (s : Show). TakesBack show s (plans.Row e old)) (sym is)
+    (subst (λ (o : Option PatchRow). TakesBack show one (plans.Row e o)) (sym old_is) all)

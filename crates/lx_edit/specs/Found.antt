@@ -4,7 +4,7 @@ use Rattle.lx_base.specs.Numbers.{Span}
 use Rattle.lx_spec.specs.declared.Part.{Part}
 use Rattle.lx_spec.specs.declared.Move.{Move}
 use Rattle.lx_spec.specs.SortedList.{entry_at, has_entry}
-use Rattle.lx_spec.specs.Show.{Cue, Show, ValidCue}
+use Rattle.lx_spec.specs.Show.{Cue, Show, Valid, ValidCue}
 use Rattle.lx_spec.specs.TrackedLevel.{cue_of}
 use Rattle.lx_spec.specs.EditedShow.{with_cue, the_given_part}
 
@@ -14,6 +14,7 @@ pub record FoundCue (show : Show) (n : ℕ) (cue : Cue) : Type 0 where
   pub number : cue.number ≡ n
   pub valid : ValidCue show.channels cue
   pub same : with_cue show cue ≡ show
+  pub valid_show : Valid show
 
 -- the part that is given is the cue's
 pub record GivenPart (cue : Cue) (given part : Option ℕ) : Type 0 where

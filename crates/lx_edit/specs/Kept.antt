@@ -2,15 +2,9 @@
 use Rattle.std.specs.Prelude.{◌≡◌, ℕ, false, Option, Some, None, List, [], ◌∷◌, if◌then◌else◌}
 use Rattle.lx_base.specs.Numbers.{Span}
 use Rattle.lx_spec.specs.declared.Move.{Move}
-use Rattle.lx_spec.specs.Show.{Cue, Show, InRange}
+use Rattle.lx_spec.specs.Show.{Cue, InRange}
 use Rattle.lx_spec.specs.TrackedLevel.{decides, level_in}
-use Rattle.lx_spec.specs.EditedShow.{with_cue, without_cue}
 use Rattle.lx_edit.specs.PlanMeaning.{covers}
-
--- the show with the changed cue in its place, or without the cue of the number
-abbrev pub changed_show : Show → ℕ → Option Cue → Show
-changed_show show n None = without_cue show n
-changed_show show n (Some cue) = with_cue show cue
 
 -- the level that the cue decides for the channel, if it does
 abbrev pub decided : Cue → ℕ → Option ℕ

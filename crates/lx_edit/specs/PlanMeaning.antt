@@ -8,16 +8,19 @@ use Rattle.lx_spec.specs.declared.Edit.{Edit}
 use Rattle.lx_spec.specs.declared.Edit.TheVariants.{SubMember, Patch, Unpatch}
 use Rattle.lx_spec.specs.declared.Refusal.{Refusal}
 use Rattle.lx_spec.specs.declared.Refusal.TheVariants.{Memory}
-use Rattle.lx_spec.specs.SortedList.{entry_at, has_entry, placed, taken_out}
+use Rattle.lx_spec.specs.SortedList.{entry_at, has_entry, placed}
 use Rattle.std.specs.Option.{IsSomeAnd}
 use Rattle.lx_spec.specs.declared.Move.{Move}
-use Rattle.lx_show.specs.ChangedEntry.{changed}
+use Rattle.lx_show.specs.ChangedEntry.{changed, exchanged_at}
 use Rattle.lx_spec.specs.TrackedLevel.{tracked, cue_of}
-use Rattle.lx_spec.specs.Show.{Cue, Show, InRange, ValidCue, ValidGroup, ValidMove, ValidSub}
-use Rattle.lx_spec.specs.EditedShow.{edited, with_cue, without_cue}
+use Rattle.lx_spec.specs.Show.{Cue, Show, InRange, ValidCue, ValidGroup, ValidMove, ValidPatchRow, ValidSub}
+use Rattle.lx_spec.specs.EditedShow.{edited, with_cue}
 use Rattle.lx_edit.specs.declared.plans.Plan.{Plan}
-use Rattle.lx_edit.specs.declared.plans.Plan.TheVariants.{Nothing, PlaceCue, PlaceMove, PlaceMoves, PlaceCues, RemoveCue, PlaceGroup, RemoveGroup}
-use Rattle.lx_edit.specs.declared.plans.Plan.TheVariants.{PlaceSub, RemoveSub, PlaceRow, RemoveRow}
+use Rattle.lx_edit.specs.declared.plans.Plan.TheVariants as plans
+
+-- the show where the cue of the number is this one, or is gone
+abbrev pub changed_show : Show → ℕ → Option Cue → Show
+changed_show show n to = record show { cues = exchanged_at (λ x. x.number) n to show.cues }
 
 -- the show with this cue too, where there is one
 abbrev pub with_above : Option Cue → Show → Show
@@ -46,18 +49,13 @@ SameOutside range old new = (c : ℕ) → covers range c ≡ false → entry_at 
 
 -- the show with the plan applied
 abbrev pub planned : Show → Plan → Show
-planned show Nothing = show
-planned show (PlaceCue cue above) = with_above above (with_cue show cue)
-planned show (PlaceMove n entry) = with_move_in show n entry
-planned show (PlaceMoves n moves within) = with_moves_in show n (λ _. moves)
-planned show (PlaceCues cue above) = with_above above (with_cue show cue)
-planned show (RemoveCue n above) = with_above above (without_cue show n)
-planned show (PlaceGroup group) = record show { groups = placed (λ x. x.number) group show.groups }
-planned show (RemoveGroup g) = record show { groups = taken_out (λ x. x.number) g show.groups }
-planned show (PlaceSub sub) = record show { subs = placed (λ x. x.number) sub show.subs }
-planned show (RemoveSub s) = record show { subs = taken_out (λ x. x.number) s show.subs }
-planned show (PlaceRow row) = record show { patch = placed (λ x. x.dimmer) row show.patch }
-planned show (RemoveRow e) = record show { patch = taken_out (λ x. x.dimmer) e show.patch }
+planned show plans.Nothing = show
+planned show (plans.Cue n to above keeps) = with_above above (changed_show show n to)
+planned show (plans.Move n entry) = with_move_in show n entry
+planned show (plans.Moves n moves within) = with_moves_in show n (λ _. moves)
+planned show (plans.Group g to) = record show { groups = exchanged_at (λ x. x.number) g to show.groups }
+planned show (plans.Sub s to) = record show { subs = exchanged_at (λ x. x.number) s to show.subs }
+planned show (plans.Row e to) = record show { patch = exchanged_at (λ x. x.dimmer) e to show.patch }
 
 -- the cue may be placed in the show: it is valid there, and there is room for it
 pub record CanPlace (show : Show) (cue : Cue) : Type 0 where
@@ -77,10 +75,22 @@ pub record IsAbove (show : Show) (n : ℕ) (kept : Cue) : Type 0 where
   pub there : IsTrue (has_entry (λ x. x.number) kept.number show.cues)
   pub higher : n < kept.number
 
--- the move may be placed in the cue of the number: that has one of its channel, and its part
+-- both cues are given, and from the one above on each channel keeps its level
+abbrev pub KeepsBoth : Show → ℕ → Option Cue → Option Cue → Type 0
+KeepsBoth show n to above = IsSomeAnd to (λ cue. IsSomeAnd above (KeepsAbove show (with_cue show cue) n))
+
+-- the cue of the number may become this one, or go, and then the one above it become that one
+pub record CanExchange (show : Show) (n : ℕ) (to above : Option Cue) (keeps : Bool) : Type 0 where
+  pub least : 1 ≤ n
+  pub number : IfSome to (λ cue. cue.number ≡ n)
+  pub fits : IfSome to (CanPlace show)
+  pub above_fits : IfSome above (CanPlace (changed_show show n to))
+  pub higher : IfSome above (IsAbove show n)
+  pub kept : keeps ≡ true → KeepsBoth show n to above
+
+-- the move may be placed in the cue of the number: it is valid there, and the cue has one of its channel
 pub record CanMove (show : Show) (n : ℕ) (entry : Move) : Type 0 where
-  pub chan : entry.chan ≤ show.channels
-  pub part : IsSomeAnd (cue_of show n) (λ cue. IsTrue (has_entry (λ p. p.number) entry.part cue.parts))
+  pub valid : IsSomeAnd (cue_of show n) (λ cue. ValidMove show.channels cue.parts entry)
   pub there : IsSomeAnd (cue_of show n) (λ cue. IsTrue (has_entry (λ m. m.chan) entry.chan cue.moves))
 
 -- the cue of the number may be given these moves: they fit its parts, and outside the range they are its own
@@ -90,20 +100,13 @@ pub record CanReplace (show : Show) (n : ℕ) (moves : List Move) (within : Span
 
 -- the plan may be applied to the show
 abbrev pub IsReady : Show → Plan → Type 0
-IsReady show Nothing = ⊤
-IsReady show (PlaceCue cue above) =
-    CanPlace show cue × IfSome above (λ kept. CanPlace (with_cue show cue) kept × KeepsAbove show (with_cue show cue) cue.number kept)
-IsReady show (PlaceMove n entry) = CanMove show n entry
-IsReady show (PlaceMoves n moves within) = CanReplace show n moves within
-IsReady show (PlaceCues cue above) =
-    CanPlace show cue × IfSome above (CanPlace (with_cue show cue)) × IfSome above (IsAbove show cue.number)
-IsReady show (RemoveCue n above) = (1 ≤ n) × IfSome above (CanPlace (without_cue show n)) × IfSome above (IsAbove show n)
-IsReady show (PlaceGroup group) = ValidGroup show.channels group
-IsReady show (RemoveGroup g) = ⊤
-IsReady show (PlaceSub sub) = ValidSub show.channels sub
-IsReady show (RemoveSub s) = ⊤
-IsReady show (PlaceRow row) = row.chan ≤ show.channels
-IsReady show (RemoveRow e) = ⊤
+IsReady show plans.Nothing = ⊤
+IsReady show (plans.Cue n to above keeps) = CanExchange show n to above keeps
+IsReady show (plans.Move n entry) = CanMove show n entry
+IsReady show (plans.Moves n moves within) = CanReplace show n moves within
+IsReady show (plans.Group g to) = IfSome to (λ group. group.number ≡ g) × IfSome to (ValidGroup show.channels)
+IsReady show (plans.Sub s to) = IfSome to (λ submaster. submaster.number ≡ s) × IfSome to (ValidSub show.channels)
+IsReady show (plans.Row e to) = IfSome to (λ row. row.dimmer ≡ e) × IfSome to (ValidPatchRow show.channels)
 
 -- the dimmer whose row the edit changes
 abbrev pub dimmer_edited : Edit → Option ℕ
@@ -112,8 +115,7 @@ dimmer_edited (Unpatch e) = Some e
 dimmer_edited other = None
 
 abbrev pub dimmer_planned : Plan → Option ℕ
-dimmer_planned (PlaceRow row) = Some row.dimmer
-dimmer_planned (RemoveRow e) = Some e
+dimmer_planned (plans.Row e to) = Some e
 dimmer_planned other = None
 
 -- the edit changes a submaster
@@ -122,8 +124,7 @@ edits_sub (SubMember s range level) = true
 edits_sub other = false
 
 abbrev pub plans_sub : Plan → Bool
-plans_sub (PlaceSub sub) = true
-plans_sub (RemoveSub s) = true
+plans_sub (plans.Sub s to) = true
 plans_sub other = false
 
 -- the plan makes the edited show, may be applied, and changes the row of a dimmer or a submaster exactly where the edit does

@@ -15,7 +15,6 @@ use lx_show::{Cue, Group, Part, Refusal, Show};
 pub(crate) fn the_cue(show: &Show, n: CueNo) -> Result<&Cue, Refusal>
     ensures { MatchResult result (λ cue. FoundCue show.now n cue.now) (λ refusal. the_cue show.now n ≡ Err refusal) }
 {
-    let _ = show.channels();
     match show.cue(n) {
         Some(cue) => Ok(cue),
         None => Err(Refusal::AbsentCue(n)),
@@ -93,10 +92,7 @@ pub fn channel(n: u32) -> Chan
     requires most { n ≤ CHANNELS }
     ensures { result ≡ n }
 {
-    match Chan::new(n) {
-        Some(c) => c,
-        None => unreachable!(),
-    }
+    Chan::at(n as usize - 1)
 }
 
 /// All channels.

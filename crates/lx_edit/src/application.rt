@@ -1,14 +1,14 @@
 //! A plan applied: the show becomes the edited one, the sheet follows, and the plan that takes it back is made of
 //! what was replaced. No call takes memory.
 
-ghost use Rattle.std.specs.Prelude.{◌≡◌, ◌≢◌, ◌≤◌, ℕ, false, None, IfSome};
-ghost use Rattle.lx_spec.specs.Show.{ValidGroup, ValidSub};
+ghost use Rattle.std.specs.Prelude.{◌≡◌, ◌≢◌, ◌≤◌, ℕ, false, true, None, IfSome};
+ghost use Rattle.lx_spec.specs.Show.{Valid};
 ghost use Rattle.lx_spec.specs.TrackedLevel.{cue_of};
 ghost use Rattle.lx_spec.specs.EditedShow.{with_cue, without_cue};
 ghost use Rattle.lx_sheet.specs.Rows.{level_of};
 ghost use Rattle.lx_sheet.specs.SheetMeaning.{RowsStandFor, StandsIn};
 ghost use Rattle.lx_edit.specs.CueChanges.{CanMend, Grows, KeepsLevels, KeepsOthers, Replaced};
-ghost use Rattle.lx_edit.specs.PlanMeaning.{planned, with_above, CanPlace, KeepsAbove, IsReady, dimmer_planned, plans_sub};
+ghost use Rattle.lx_edit.specs.PlanMeaning.{changed_show, planned, with_above, CanExchange, CanPlace, KeepsAbove, IsReady, dimmer_planned, plans_sub};
 ghost use Rattle.lx_edit.specs.Undone.{TakesBack, cue_instead};
 
 use crate::absent::channel;
@@ -16,7 +16,6 @@ use crate::chan_set::ChanSet;
 use crate::dirty::Dirty;
 use crate::marks::{changes_asserts, mark_change, mark_move, mark_within};
 use crate::plans::Plan;
-use crate::undone::{cue_back, group_back, kept_back, row_back, sub_back};
 use lx_base::{CHANNELS, Chan, ChanRange, CueNo, Dimmer, GroupNo, SubNo};
 use lx_sheet::Sheet;
 use lx_show::{Cue, Group, Move, MoveList, PatchRow, Show, Sub};
@@ -60,7 +59,6 @@ impl Plan {
         ensures subs { result.dirty.subs ≡ plans_sub self }
         ensures undo { TakesBack show.old show.new result.undo }
     {
-        let _ = show.channels();
         let reaches_all = changes_asserts(show, &self);
         let Exchanged { dirty, undo } = self.exchanged(show, sheet);
         let dirty = if reaches_all { dirty.with_all() } else { dirty };
@@ -83,250 +81,238 @@ impl Plan {
                 dirty: Dirty::nothing(),
                 undo: Plan::Nothing,
             },
-            Plan::PlaceCue { cue, above } => place_kept(show, sheet, cue, above),
-            Plan::PlaceMove { cue, entry } => place_move(show, sheet, cue, &entry),
-            Plan::PlaceMoves { cue, moves, within } => place_moves(show, sheet, cue, moves, within),
-            Plan::PlaceCues { cue, above } => place_cues(show, sheet, cue, above),
-            Plan::RemoveCue { cue, above } => exchange_cues(show, sheet, cue, above),
-            Plan::PlaceGroup(group) => Exchanged {
+            Plan::Cue {
+                number,
+                to,
+                above,
+                keeps,
+            } => {
+                if keeps {
+                    exchange_kept(show, sheet, number, to, above)
+                } else {
+                    exchange_cues(show, sheet, number, to, above)
+                }
+            }
+            Plan::Move { cue, to } => exchange_move(show, sheet, cue, &to),
+            Plan::Moves { cue, to, within } => exchange_moves(show, sheet, cue, to, within),
+            Plan::Group { number, to } => Exchanged {
                 dirty: Dirty::nothing(),
-                undo: place_group(show, group),
+                undo: exchange_group(show, number, to),
             },
-            Plan::RemoveGroup(g) => Exchanged {
-                dirty: Dirty::nothing(),
-                undo: remove_group(show, g),
-            },
-            Plan::PlaceSub(sub) => Exchanged {
+            Plan::Sub { number, to } => Exchanged {
                 dirty: Dirty::of_sub(),
-                undo: place_sub(show, sub),
+                undo: exchange_sub(show, number, to),
             },
-            Plan::RemoveSub(s) => Exchanged {
-                dirty: Dirty::of_sub(),
-                undo: remove_sub(show, s),
-            },
-            Plan::PlaceRow(row) => Exchanged {
-                dirty: Dirty::of_dimmer(row.dimmer),
-                undo: place_row(show, row),
-            },
-            Plan::RemoveRow(dimmer) => Exchanged {
+            Plan::Row { dimmer, to } => Exchanged {
                 dirty: Dirty::of_dimmer(dimmer),
-                undo: remove_row(show, dimmer),
+                undo: exchange_row(show, dimmer, to),
             },
         }
     }
 }
 
-/// Places the group, and answers what takes that back.
-fn place_group(show: &mut Show, group: Group) -> Plan
-    requires { ValidGroup show.old.channels group }
-    ensures show { show.new ≡ planned show.old (Plan.PlaceGroup group) }
+/// Makes the group of the number this one, or none, and answers what takes that back.
+fn exchange_group(show: &mut Show, number: GroupNo, to: Option<Group>) -> Plan
+    requires { IsReady show.old (Plan.Group number to) }
+    ensures show { show.new ≡ planned show.old (Plan.Group number to) }
     ensures undo { TakesBack show.old show.new result }
 {
-    let _ = show.channels();
-    let g = group.number;
-    group_back(g, show.exchange_group(group))
+    let old = show.exchange_group(number, to);
+    Plan::Group { number, to: old }
 }
 
-/// Takes the group out, and answers what takes that back.
-fn remove_group(show: &mut Show, g: GroupNo) -> Plan
-    ensures show { show.new ≡ planned show.old (Plan.RemoveGroup g) }
+/// Makes the submaster of the number this one, or none, and answers what takes that back.
+fn exchange_sub(show: &mut Show, number: SubNo, to: Option<Sub>) -> Plan
+    requires { IsReady show.old (Plan.Sub number to) }
+    ensures show { show.new ≡ planned show.old (Plan.Sub number to) }
     ensures undo { TakesBack show.old show.new result }
 {
-    let _ = show.channels();
-    group_back(g, show.take_group(g))
+    let old = show.exchange_sub(number, to);
+    Plan::Sub { number, to: old }
 }
 
-/// Places the submaster, and answers what takes that back.
-fn place_sub(show: &mut Show, sub: Sub) -> Plan
-    requires { ValidSub show.old.channels sub }
-    ensures show { show.new ≡ planned show.old (Plan.PlaceSub sub) }
+/// Makes the dimmer's row this one, or none, and answers what takes that back.
+fn exchange_row(show: &mut Show, dimmer: Dimmer, to: Option<PatchRow>) -> Plan
+    requires { IsReady show.old (Plan.Row dimmer to) }
+    ensures show { show.new ≡ planned show.old (Plan.Row dimmer to) }
     ensures undo { TakesBack show.old show.new result }
 {
-    let _ = show.channels();
-    let s = sub.number;
-    sub_back(s, show.exchange_sub(sub))
+    let old = show.exchange_patch(dimmer, to);
+    Plan::Row { dimmer, to: old }
 }
 
-/// Takes the submaster out, and answers what takes that back.
-fn remove_sub(show: &mut Show, s: SubNo) -> Plan
-    ensures show { show.new ≡ planned show.old (Plan.RemoveSub s) }
-    ensures undo { TakesBack show.old show.new result }
-{
-    let _ = show.channels();
-    sub_back(s, show.take_sub(s))
-}
-
-/// Places the row, and answers what takes that back.
-fn place_row(show: &mut Show, row: PatchRow) -> Plan
-    requires { row.chan ≤ show.old.channels }
-    ensures show { show.new ≡ planned show.old (Plan.PlaceRow row) }
-    ensures undo { TakesBack show.old show.new result }
-{
-    let _ = show.channels();
-    let dimmer = row.dimmer;
-    row_back(dimmer, show.exchange_patch(row))
-}
-
-/// Takes the dimmer's row out, and answers what takes that back.
-fn remove_row(show: &mut Show, dimmer: Dimmer) -> Plan
-    ensures show { show.new ≡ planned show.old (Plan.RemoveRow dimmer) }
-    ensures undo { TakesBack show.old show.new result }
-{
-    let _ = show.channels();
-    row_back(dimmer, show.take_patch(dimmer))
-}
-
-/// Places the cue, and the one above it where it is changed too to keep its levels.
-fn place_kept(show: &mut Show, sheet: &mut Sheet, cue: Cue, above: Option<Cue>) -> Exchanged
-    requires ready { IsReady show.old (Plan.PlaceCue cue above) }
+/// Cue only: places both cues, of which the one above keeps its levels.
+fn exchange_kept(
+    show: &mut Show,
+    sheet: &mut Sheet,
+    n: CueNo,
+    to: Option<Cue>,
+    above: Option<Cue>,
+) -> Exchanged
+    requires ready { IsReady show.old (Plan.Cue n to above true) }
     requires sheet { RowsStandFor show.old sheet.old }
-    ensures show { show.new ≡ planned show.old (Plan.PlaceCue cue above) }
+    ensures show { show.new ≡ planned show.old (Plan.Cue n to above true) }
     ensures sheet { RowsStandFor show.new sheet.new }
     ensures others { KeepsLevels show.old show.new result.dirty.chans }
     ensures dimmer { result.dirty.dimmer ≡ None }
     ensures subs { result.dirty.subs ≡ false }
     ensures undo { TakesBack show.old show.new result.undo }
 {
-    match above {
-        Some(above) => {
-            let mut chans = ChanSet::empty();
-            let undo = place_alone(show, sheet, &mut chans, cue, above);
-            let dirty = Dirty::of_cues(chans);
-            Exchanged { dirty, undo }
-        }
-        None => place_cues(show, sheet, cue, None),
+    match to {
+        Some(cue) => match above {
+            Some(above) => {
+                let mut chans = ChanSet::empty();
+                let undo = place_alone(show, sheet, &mut chans, n, cue, above);
+                let dirty = Dirty::of_cues(chans);
+                Exchanged { dirty, undo }
+            }
+            None => unreachable!(),
+        },
+        None => unreachable!(),
     }
 }
 
-/// Cue only: places the cue, and the one above it, which keeps its levels. It adds the channels that see a
+/// Cue only: places the cue of the number, and the one above it, which keeps its levels. It adds the channels that see a
 /// difference, and answers what takes it back. The rows from the cue above on are as they were.
 fn place_alone(
     show: &mut Show,
     sheet: &mut Sheet,
     chans: &mut ChanSet,
+    n: CueNo,
     cue: Cue,
     above: Cue,
 ) -> Plan
     requires ready { CanPlace show.old cue }
+    requires number { cue.number ≡ n }
     requires above { CanPlace (with_cue show.old cue) above }
-    requires keeps { KeepsAbove show.old (with_cue show.old cue) cue.number above }
+    requires keeps { KeepsAbove show.old (with_cue show.old cue) n above }
     requires sheet { RowsStandFor show.old sheet.old }
     ensures show { show.new ≡ with_cue (with_cue show.old cue) above }
     ensures sheet { RowsStandFor show.new sheet.new }
     ensures others { KeepsLevels show.old show.new chans.new }
     ensures undo { TakesBack show.old show.new result }
 {
-    let _ = show.channels();
-    let n = cue.number;
     let end = above.number;
     mark_change(chans, show, sheet, n, Some(&cue));
     mark_change(chans, show, sheet, end, Some(&above));
-    let old = show.exchange_cue(cue);
-    let _ = show.channels();
+    let old = show.exchange_cue(n, Some(cue));
     sheet.mark(show, n);
-    let old_above = show.exchange_cue(above);
-    let _ = show.channels();
+    let old_above = show.exchange_cue(end, Some(above));
     sheet.mark(show, end);
     mend(sheet, show, n, Some(end), chans);
-    kept_back(n, old, old_above)
+    Plan::Cue {
+        number: n,
+        to: old,
+        above: old_above,
+        keeps: true,
+    }
 }
 
 /// Places the move in the cue, in the place of the one of its channel. The cue moved the channel before, so its marks hold.
-fn place_move(show: &mut Show, sheet: &mut Sheet, n: CueNo, entry: &Move) -> Exchanged
-    requires ready { IsReady show.old (Plan.PlaceMove n entry.now) }
+fn exchange_move(show: &mut Show, sheet: &mut Sheet, n: CueNo, entry: &Move) -> Exchanged
+    requires ready { IsReady show.old (Plan.Move n entry.now) }
     requires sheet { RowsStandFor show.old sheet.old }
-    ensures show { show.new ≡ planned show.old (Plan.PlaceMove n entry.now) }
+    ensures show { show.new ≡ planned show.old (Plan.Move n entry.now) }
     ensures sheet { RowsStandFor show.new sheet.new }
     ensures others { KeepsLevels show.old show.new result.dirty.chans }
     ensures dimmer { result.dirty.dimmer ≡ None }
     ensures subs { result.dirty.subs ≡ false }
     ensures undo { TakesBack show.old show.new result.undo }
 {
-    let _ = show.channels();
     let old = show.exchange_move_in(n, *entry);
     let mut chans = ChanSet::empty();
     mark_move(&mut chans, entry, &old);
     mend_columns(sheet, show, n, &None, &chans);
     Exchanged {
         dirty: Dirty::of_cues(chans),
-        undo: Plan::PlaceMove { cue: n, entry: old },
+        undo: Plan::Move { cue: n, to: old },
     }
 }
 
 /// Gives the cue these moves. Outside the range they are its own.
-fn place_moves(
+fn exchange_moves(
     show: &mut Show,
     sheet: &mut Sheet,
     n: CueNo,
     moves: MoveList,
     within: ChanRange,
 ) -> Exchanged
-    requires ready { IsReady show.old (Plan.PlaceMoves n moves within) }
+    requires ready { IsReady show.old (Plan.Moves n moves within) }
     requires sheet { RowsStandFor show.old sheet.old }
-    ensures show { show.new ≡ planned show.old (Plan.PlaceMoves n moves within) }
+    ensures show { show.new ≡ planned show.old (Plan.Moves n moves within) }
     ensures sheet { RowsStandFor show.new sheet.new }
     ensures others { KeepsLevels show.old show.new result.dirty.chans }
     ensures dimmer { result.dirty.dimmer ≡ None }
     ensures subs { result.dirty.subs ≡ false }
     ensures undo { TakesBack show.old show.new result.undo }
 {
-    let _ = show.channels();
     let mut chans = ChanSet::empty();
     mark_within(&mut chans, show, n, moves.as_slice(), within);
     let old = show.replace_moves(n, moves);
     mend_cue(sheet, show, n, &chans);
     Exchanged {
         dirty: Dirty::of_cues(chans),
-        undo: Plan::PlaceMoves {
+        undo: Plan::Moves {
             cue: n,
-            moves: old,
+            to: old,
             within,
         },
     }
 }
 
-/// Places the cue, and then the one above it where that is given.
-fn place_cues(show: &mut Show, sheet: &mut Sheet, cue: Cue, above: Option<Cue>) -> Exchanged
-    requires ready { IsReady show.old (Plan.PlaceCues cue above) }
+/// Makes the cue of the number this one, or none, and then places the one above it where that is given.
+fn exchange_cues(
+    show: &mut Show,
+    sheet: &mut Sheet,
+    n: CueNo,
+    to: Option<Cue>,
+    above: Option<Cue>,
+) -> Exchanged
+    requires ready { CanExchange show.old n to above false }
     requires sheet { RowsStandFor show.old sheet.old }
-    ensures show { show.new ≡ planned show.old (Plan.PlaceCues cue above) }
+    ensures show { show.new ≡ planned show.old (Plan.Cue n to above false) }
     ensures sheet { RowsStandFor show.new sheet.new }
     ensures others { KeepsLevels show.old show.new result.dirty.chans }
     ensures dimmer { result.dirty.dimmer ≡ None }
     ensures subs { result.dirty.subs ≡ false }
     ensures undo { TakesBack show.old show.new result.undo }
 {
-    let _ = show.channels();
-    let n = cue.number;
     let mut chans = ChanSet::empty();
-    let old = place_cue(show, sheet, &mut chans, cue);
-    let old_above = place_above(show, sheet, &mut chans, above);
-    let _ = show.channels();
+    let old = exchange_cue(show, sheet, &mut chans, n, to);
+    let above = place_above(show, sheet, &mut chans, above);
     Exchanged {
         dirty: Dirty::of_cues(chans),
-        undo: cue_back(n, old, old_above),
+        undo: Plan::Cue {
+            number: n,
+            to: old,
+            above,
+            keeps: false,
+        },
     }
 }
 
-/// Takes the cue out, and places the one above it where it is changed.
-fn exchange_cues(show: &mut Show, sheet: &mut Sheet, n: CueNo, above: Option<Cue>) -> Exchanged
-    requires ready { IsReady show.old (Plan.RemoveCue n above) }
+/// Makes the cue of the number this one, or none. It answers the one that it was, and adds the channels that see a difference.
+fn exchange_cue(
+    show: &mut Show,
+    sheet: &mut Sheet,
+    chans: &mut ChanSet,
+    n: CueNo,
+    to: Option<Cue>,
+) -> Option<Cue>
+    requires least { 1 ≤ n }
+    requires number { IfSome to (λ cue. cue.number ≡ n) }
+    requires ready { IfSome to (CanPlace show.old) }
     requires sheet { RowsStandFor show.old sheet.old }
-    ensures show { show.new ≡ planned show.old (Plan.RemoveCue n above) }
+    ensures valid { Valid show.old }
+    ensures replaced { result ≡ cue_of show.old n }
+    ensures show { show.new ≡ changed_show show.old n to }
     ensures sheet { RowsStandFor show.new sheet.new }
-    ensures others { KeepsLevels show.old show.new result.dirty.chans }
-    ensures dimmer { result.dirty.dimmer ≡ None }
-    ensures subs { result.dirty.subs ≡ false }
-    ensures undo { TakesBack show.old show.new result.undo }
+    ensures grows { Grows chans.old chans.new }
+    ensures others { KeepsLevels show.old show.new chans.new }
 {
-    let _ = show.channels();
-    let mut chans = ChanSet::empty();
-    let old = remove_cue(show, sheet, &mut chans, n);
-    let old_above = place_above(show, sheet, &mut chans, above);
-    let _ = show.channels();
-    Exchanged {
-        dirty: Dirty::of_cues(chans),
-        undo: cue_back(n, old, old_above),
+    match to {
+        Some(cue) => place_cue(show, sheet, chans, cue),
+        None => remove_cue(show, sheet, chans, n),
     }
 }
 
@@ -357,16 +343,16 @@ fn place_above(
 fn place_cue(show: &mut Show, sheet: &mut Sheet, chans: &mut ChanSet, cue: Cue) -> Option<Cue>
     requires ready { CanPlace show.old cue }
     requires sheet { RowsStandFor show.old sheet.old }
+    ensures valid { Valid show.old }
     ensures replaced { result ≡ cue_of show.old cue.number }
     ensures show { show.new ≡ with_cue show.old cue }
     ensures sheet { RowsStandFor show.new sheet.new }
     ensures grows { Grows chans.old chans.new }
     ensures others { KeepsLevels show.old show.new chans.new }
 {
-    let _ = show.channels();
     let n = cue.number;
     mark_change(chans, show, sheet, n, Some(&cue));
-    let old = show.exchange_cue(cue);
+    let old = show.exchange_cue(n, Some(cue));
     if old.is_none() {
         sheet.insert_row(show, n);
     } else {
@@ -379,15 +365,15 @@ fn place_cue(show: &mut Show, sheet: &mut Sheet, chans: &mut ChanSet, cue: Cue) 
 fn remove_cue(show: &mut Show, sheet: &mut Sheet, chans: &mut ChanSet, n: CueNo) -> Option<Cue>
     requires number { 1 ≤ n }
     requires sheet { RowsStandFor show.old sheet.old }
+    ensures valid { Valid show.old }
     ensures removed { result ≡ cue_of show.old n }
     ensures show { show.new ≡ without_cue show.old n }
     ensures sheet { RowsStandFor show.new sheet.new }
     ensures grows { Grows chans.old chans.new }
     ensures others { KeepsLevels show.old show.new chans.new }
 {
-    let _ = show.channels();
     mark_change(chans, show, sheet, n, None);
-    let old = show.take_cue(n);
+    let old = show.exchange_cue(n, None);
     sheet.remove_row(show, n);
     old
 }

@@ -24,7 +24,12 @@ pub(crate) fn block(alloc: Global, show: &Show, n: CueNo) -> Result<Plan, Refusa
     let moves = taken_over(alloc, show, old)?;
     let mut cue = with_moves(show.channels(), old, moves.as_slice())?;
     cue.block = true;
-    Ok(Plan::PlaceCue { cue, above: None })
+    Ok(Plan::Cue {
+        number: n,
+        to: Some(cue),
+        above: None,
+        keeps: false,
+    })
 }
 
 /// The moves of the channels that have none in the cue, to their tracked levels at it that aren't 0.
@@ -65,7 +70,12 @@ pub(crate) fn unblock(alloc: Global, show: &Show, n: CueNo) -> Result<Plan, Refu
     let moves = kept_out(alloc, show, old)?;
     let mut cue = with_moves(show.channels(), old, moves.as_slice())?;
     cue.block = false;
-    Ok(Plan::PlaceCue { cue, above: None })
+    Ok(Plan::Cue {
+        number: n,
+        to: Some(cue),
+        above: None,
+        keeps: false,
+    })
 }
 
 /// The moves to 0 of the channels that have none in the cue, and whose tracked level below it isn't 0.

@@ -8,7 +8,8 @@ ghost use Rattle.lx_edit.specs.PlanMeaning.{Plans};
 use crate::absent::{the_cue, the_part};
 use crate::plans::Plan;
 use lx_base::{CUES, Cs, CueNo, PartNo};
-use lx_show::{Cue, Edit, Label, Part, Refusal, Show, new_part};
+use lx_show::{Cue, Edit, Part, Refusal, Show, facts, new_part};
+use lx_spec::LabelText;
 use std::alloc::Global;
 
 /// A new cue with part 1 and nothing else; nothing where it is there.
@@ -21,9 +22,11 @@ pub(crate) fn make_cue(alloc: Global, show: &Show, n: CueNo) -> Result<Plan, Ref
         return Ok(Plan::Nothing);
     }
     if show.cues().len() < CUES {
-        Ok(Plan::PlaceCue {
-            cue: Cue::new(alloc, n),
+        Ok(Plan::Cue {
+            number: n,
+            to: Some(Cue::new(alloc, n)),
             above: None,
+            keeps: false,
         })
     } else {
         Err(Refusal::CueLimit)
@@ -47,7 +50,12 @@ pub(crate) fn time(
     let part = the_part(old, p)?;
     let mut cue = old.copy()?;
     cue.put_part(with_time(part, rising, time, delay));
-    Ok(Plan::PlaceCue { cue, above: None })
+    Ok(Plan::Cue {
+        number: n,
+        to: Some(cue),
+        above: None,
+        keeps: false,
+    })
 }
 
 /// The part with the times of one direction.
@@ -84,7 +92,12 @@ pub(crate) fn add_part(show: &Show, n: CueNo, p: PartNo) -> Result<Plan, Refusal
     let mut cue = old.copy()?;
     let _ = p.get();
     cue.put_part(new_part(p));
-    Ok(Plan::PlaceCue { cue, above: None })
+    Ok(Plan::Cue {
+        number: n,
+        to: Some(cue),
+        above: None,
+        keeps: false,
+    })
 }
 
 /// The part goes, and its moves go to part 1, which stays.
@@ -98,7 +111,12 @@ pub(crate) fn delete_part(show: &Show, n: CueNo, p: PartNo) -> Result<Plan, Refu
     }
     let mut cue = old.copy()?;
     let _ = cue.drop_part(p);
-    Ok(Plan::PlaceCue { cue, above: None })
+    Ok(Plan::Cue {
+        number: n,
+        to: Some(cue),
+        above: None,
+        keeps: false,
+    })
 }
 
 /// The cue is asserted, or it is not.
@@ -107,7 +125,12 @@ pub(crate) fn assert(show: &Show, n: CueNo, on: bool) -> Result<Plan, Refusal>
 {
     let mut cue = the_cue(show, n)?.copy()?;
     cue.asserted = on;
-    Ok(Plan::PlaceCue { cue, above: None })
+    Ok(Plan::Cue {
+        number: n,
+        to: Some(cue),
+        above: None,
+        keeps: false,
+    })
 }
 
 /// The cue above starts by itself so long after the cue, or not.
@@ -117,15 +140,26 @@ pub(crate) fn follow(show: &Show, n: CueNo, after: Option<Cs>) -> Result<Plan, R
 {
     let mut cue = the_cue(show, n)?.copy()?;
     cue.follow = after;
-    Ok(Plan::PlaceCue { cue, above: None })
+    Ok(Plan::Cue {
+        number: n,
+        to: Some(cue),
+        above: None,
+        keeps: false,
+    })
 }
 
 /// The cue has the label.
-pub(crate) fn name(show: &Show, n: CueNo, label: &Label) -> Result<Plan, Refusal>
+pub(crate) fn name(show: &Show, n: CueNo, label: &LabelText) -> Result<Plan, Refusal>
     ensures { Plans show.now (Edit.Name n label.now) result }
 {
     let mut cue = the_cue(show, n)?.copy()?;
-    lx_show::facts::of_label(label);
-    cue.label = label.copy();
-    Ok(Plan::PlaceCue { cue, above: None })
+    let label = label.label();
+    facts::of_label(&label);
+    cue.label = label;
+    Ok(Plan::Cue {
+        number: n,
+        to: Some(cue),
+        above: None,
+        keeps: false,
+    })
 }

@@ -3,11 +3,11 @@
 ghost use Rattle.std.specs.Prelude.{◌≡◌, ℕ, true, false, ◌==◌, not, IfOk, IfSome, Some, None, if◌then◌else◌};
 ghost use Rattle.std.specs.Option.{option_copied};
 ghost use Rattle.lx_spec.specs.Show.{ValidCue};
-ghost use Rattle.lx_spec.specs.TrackedLevel.{tracked, cue_above, decides};
+ghost use Rattle.lx_spec.specs.TrackedLevel.{tracked, cue_above};
 ghost use Rattle.lx_spec.specs.EditedShow.{cue_only, with_cue, with_moves, moves_for};
 ghost use Rattle.lx_edit.specs.Found.{FoundCue};
-ghost use Rattle.lx_edit.specs.PlanMeaning.{Plans, PlansCues, CanPlace, IsAbove, KeepsAbove, SameOutside, covers, with_above};
-ghost use Rattle.lx_edit.specs.Kept.{DecidesOutside, changed_show, decided, decided_by};
+ghost use Rattle.lx_edit.specs.PlanMeaning.{changed_show, Plans, PlansCues, CanPlace, IsAbove, KeepsAbove, SameOutside, covers, with_above};
+ghost use Rattle.lx_edit.specs.Kept.{DecidesOutside, decided, decided_by};
 
 use crate::absent::{all_channels, channel, the_cue};
 use crate::blocks::below;
@@ -21,10 +21,14 @@ use std::alloc::{AllocError, Global};
 pub(crate) fn delete_cue(alloc: Global, show: &Show, n: CueNo, only: bool) -> Result<Plan, Refusal>
     ensures { Plans show.now (Edit.DeleteCue n only) result }
 {
-    let _ = show.channels();
     let old = the_cue(show, n)?;
     let above = kept_above(alloc, show, n, old, None, all_channels(), only)?;
-    Ok(Plan::RemoveCue { cue: n, above })
+    Ok(Plan::Cue {
+        number: n,
+        to: None,
+        above,
+        keeps: false,
+    })
 }
 
 /// The plan that gives the cue the moves of the changed one or, where the one above it gets moves that keep its levels, places
@@ -46,13 +50,15 @@ pub(crate) fn place(
     ensures { IfOk result (PlansCues show.now (cue_only only show.now n (with_cue show.now cue))) }
 {
     match kept_above(alloc, show, n, old, Some(&cue), within, only)? {
-        Some(above) => Ok(Plan::PlaceCue {
-            cue,
+        Some(above) => Ok(Plan::Cue {
+            number: n,
+            to: Some(cue),
             above: Some(above),
+            keeps: true,
         }),
-        None => Ok(Plan::PlaceMoves {
+        None => Ok(Plan::Moves {
             cue: n,
-            moves: into_moves(cue),
+            to: into_moves(cue),
             within,
         }),
     }
@@ -85,7 +91,6 @@ fn kept_above(
     ensures higher { IfOk result (λ above. IfSome above (IsAbove show.now n)) }
     ensures keeps { IfOk result (λ above. IfSome above (KeepsAbove show.now (changed_show show.now n (option_copied new.entry)) n)) }
 {
-    let _ = show.channels();
     if !only {
         return Ok(None);
     }
@@ -173,8 +178,7 @@ fn differs(
     ensures { result ≡ not (tracked show.now above.now.number c == tracked
         (changed_show show.now n (option_copied new.entry)) above.now.number c) }
 {
-    let _ = show.channels();
-    if decides(above, c, near) {
+    if above.decides_near(c, near) {
         return false;
     }
     match (decided(old, c), decided_by(new, c)) {
@@ -183,13 +187,6 @@ fn differs(
         (Some(was), None) => was != show.tracked(below(n), c),
         (None, Some(is)) => show.tracked(below(n), c) != is,
     }
-}
-
-/// The cue decides the channel. Its move is looked for at `near` first.
-fn decides(cue: &Cue, c: Chan, near: &mut usize) -> bool
-    ensures { result ≡ decides cue.now c }
-{
-    cue.block || cue.move_next(c, near).is_some()
 }
 
 /// The level that the cue decides for the channel, if it does.

@@ -3,7 +3,8 @@
 ghost use Rattle.std.specs.Prelude.{◌≡◌, ℕ, IfOk, IfSome, IsTrue, true};
 ghost use Rattle.lx_spec.specs.TrackedLevel.{cue_above, decides};
 ghost use Rattle.lx_spec.specs.SortedList.{has_entry};
-ghost use Rattle.lx_spec.specs.Show.{ValidCue};
+ghost use Rattle.lx_base.specs.declared.TheConstants.{CHANNELS};
+ghost use Rattle.lx_spec.specs.Show.{InRange, IsLevel};
 ghost use Rattle.lx_spec.specs.EditedShow.{part_for, without_moves};
 ghost use Rattle.lx_edit.specs.PlanMeaning.{Plans};
 
@@ -27,12 +28,11 @@ pub(crate) fn set(
 ) -> Result<Plan, Refusal>
     ensures { Plans show.now (Edit.Set n part range level only) result }
 {
-    let _ = show.channels();
     let old = the_cue(show, n)?;
     let part = the_given_part(old, part)?;
     the_channels(show, range)?;
     if let Some(entry) = move_alone(show, n, old, part, range, level, only) {
-        return Ok(Plan::PlaceMove { cue: n, entry });
+        return Ok(Plan::Move { cue: n, to: entry });
     }
     let members = all_at(alloc, range, level)?;
     let cue = with_levels(alloc, show.channels(), old, part, members.as_slice())?;
@@ -44,6 +44,8 @@ fn other_move(cue: &Cue, part: Option<PartNo>, range: ChanRange, level: Level) -
     ensures one { IfSome result (λ _. range.first ≡ range.last) }
     ensures entry { IfSome result (λ entry. entry
         ≡ record { chan = range.first; part = part_for part cue.now range.first; level = level }) }
+    ensures chan { IfSome result (λ entry. InRange CHANNELS entry.chan) }
+    ensures level { IfSome result (λ entry. IsLevel entry.level) }
     ensures there { IfSome result (λ entry. IsTrue (has_entry (λ m. m.chan) entry.chan cue.now.moves)) }
 {
     let chan = range.first();
@@ -72,6 +74,8 @@ fn move_alone(
     ensures one { IfSome result (λ _. range.first ≡ range.last) }
     ensures entry { IfSome result (λ entry. entry
         ≡ record { chan = range.first; part = part_for part cue.now range.first; level = level }) }
+    ensures chan { IfSome result (λ entry. InRange CHANNELS entry.chan) }
+    ensures level { IfSome result (λ entry. IsLevel entry.level) }
     ensures there { IfSome result (λ entry. IsTrue (has_entry (λ m. m.chan) entry.chan cue.now.moves)) }
     ensures apart { IfSome result (λ _. only ≡ true → IfSome (cue_above show.now n) (λ above. decides above range.first ≡ true)) }
 {

@@ -17,7 +17,6 @@ mod moves;
 mod patch_edits;
 pub mod planning;
 mod plans;
-mod undone;
 
 pub use absent::channel;
 pub use application::Exchanged;

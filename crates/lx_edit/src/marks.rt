@@ -3,12 +3,13 @@
 ghost use Rattle.std.specs.Prelude.{◌≡◌, ◌≤◌, ◌-◌, ℕ, true, false, Some, None, IfSome, List, length, take, drop};
 ghost use Rattle.std.specs.Option.{option_copied, IsSomeAnd};
 ghost use Rattle.lx_base.specs.declared.TheConstants.{CHANNELS};
+ghost use Rattle.lx_spec.specs.Show.{Valid};
 ghost use Rattle.lx_spec.specs.SortedList.{IsStrictlySorted, entry_at};
 ghost use Rattle.lx_spec.specs.TrackedLevel.{cue_of, move_in, asserts, tracked};
 ghost use Rattle.lx_sheet.specs.Rows.{level_of};
 ghost use Rattle.lx_sheet.specs.SheetMeaning.{RowsStandFor};
 ghost use Rattle.lx_edit.specs.ChanSet.{has_chan};
-ghost use Rattle.lx_edit.specs.PlanMeaning.{planned, covers, SameOutside};
+ghost use Rattle.lx_edit.specs.PlanMeaning.{changed_show, planned, covers, SameOutside};
 ghost use Rattle.lx_edit.specs.CueChanges.{AreAmong, move_by, moves_in, is_block, SameEntry, Grows};
 
 use crate::absent::channel;
@@ -34,7 +35,6 @@ pub(crate) fn mark_change(
     ensures same { (c : ℕ) → has_chan chans.new c ≡ false
         → SameEntry (cue_of show.now n) (option_copied new.entry) c (tracked show.now (n - 1) c) }
 {
-    let _ = show.channels();
     let old = show.cue(n);
     mark_moves(chans, moves_of(old), moves_of(new));
     if is_block(old) != is_block(new) {
@@ -217,15 +217,30 @@ fn is_block(cue: Option<&Cue>) -> bool
 
 /// The plan changes at some number whether an asserted cue is there.
 pub(crate) fn changes_asserts(show: &Show, plan: &Plan) -> bool
-    ensures { result ≡ false → (n : ℕ) → asserts show.now n ≡ asserts (planned show.now plan.now) n }
+    ensures valid { result ≡ true → Valid show.now }
+    ensures same { result ≡ false → (n : ℕ) → asserts show.now n ≡ asserts (planned show.now plan.now) n }
 {
     match plan {
-        Plan::PlaceCue { cue, above } => changes_assert(show, cue) || changes_above(show, above),
-        Plan::PlaceCues { cue, above } => changes_assert(show, cue) || changes_above(show, above),
-        Plan::RemoveCue { cue, above } => asserts(show, *cue) || changes_above(show, above),
-        Plan::PlaceMove { .. } => false,
-        Plan::PlaceMoves { .. } => false,
+        Plan::Cue {
+            number,
+            to,
+            above,
+            ..
+        } => changes_at(show, *number, to) || changes_above(show, above),
+        Plan::Move { .. } => false,
+        Plan::Moves { .. } => false,
         _ => false,
+    }
+}
+
+/// It is so where the cue of the number becomes this one, or goes.
+fn changes_at(show: &Show, n: CueNo, to: &Option<Cue>) -> bool
+    ensures valid { Valid show.now }
+    ensures same { result ≡ false → (k : ℕ) → asserts show.now k ≡ asserts (changed_show show.now n to.now) k }
+{
+    match to {
+        Some(cue) => changes_assert(show, cue),
+        None => asserts(show, n),
     }
 }
 
@@ -241,14 +256,16 @@ fn changes_above(show: &Show, above: &Option<Cue>) -> bool
 
 /// The cue is asserted where that of its number is not, or the other way round.
 fn changes_assert(show: &Show, cue: &Cue) -> bool
-    ensures { result ≡ false → asserts show.now cue.now.number ≡ cue.now.asserted }
+    ensures valid { Valid show.now }
+    ensures same { result ≡ false → asserts show.now cue.now.number ≡ cue.now.asserted }
 {
     asserts(show, cue.number) != cue.asserted
 }
 
 /// The cue of the number is there, and asserted.
 fn asserts(show: &Show, n: CueNo) -> bool
-    ensures { result ≡ asserts show.now n }
+    ensures valid { Valid show.now }
+    ensures asserted { result ≡ asserts show.now n }
 {
     match show.cue(n) {
         Some(cue) => cue.asserted,

@@ -27,7 +27,10 @@ pub(crate) fn group_member(
     let members = all_at(alloc, range, level)?;
     let mut group = group_or_new(alloc, show, g)?;
     put_members(show.channels(), &mut group.members, members.as_slice())?;
-    Ok(Plan::PlaceGroup(group))
+    Ok(Plan::Group {
+        number: g,
+        to: Some(group),
+    })
 }
 
 /// The channels of the range are in the submaster at the level.
@@ -44,12 +47,16 @@ pub(crate) fn sub_member(
     let members = all_at(alloc, range, level)?;
     let mut sub = sub_or_new(alloc, show, s)?;
     put_members(show.channels(), &mut sub.members, members.as_slice())?;
-    Ok(Plan::PlaceSub(sub))
+    Ok(Plan::Sub {
+        number: s,
+        to: Some(sub),
+    })
 }
 
 /// An equal group, or a new one where it is absent. An error comes where memory is wanting.
 fn group_or_new(alloc: Global, show: &Show, g: GroupNo) -> Result<Group, AllocError>
     ensures group { IfOk result (λ group. group ≡ set_or_new show.now.groups g) }
+    ensures number { IfOk result (λ group. group.number ≡ g) }
     ensures valid { IfOk result (ValidGroup show.now.channels) }
 {
     match show.group(g) {
@@ -61,6 +68,7 @@ fn group_or_new(alloc: Global, show: &Show, g: GroupNo) -> Result<Group, AllocEr
 /// An equal submaster, or a new one where it is absent. An error comes where memory is wanting.
 fn sub_or_new(alloc: Global, show: &Show, s: SubNo) -> Result<Sub, AllocError>
     ensures submaster { IfOk result (λ submaster. submaster ≡ set_or_new show.now.subs s) }
+    ensures number { IfOk result (λ submaster. submaster.number ≡ s) }
     ensures valid { IfOk result (ValidSub show.now.channels) }
 {
     match show.sub(s) {

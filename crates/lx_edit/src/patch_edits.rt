@@ -18,7 +18,10 @@ pub(crate) fn patch(show: &Show, dimmer: Dimmer, chan: Chan, level: Level) -> Re
         level,
     };
     if chan.get() <= show.channels() {
-        Ok(Plan::PlaceRow(row))
+        Ok(Plan::Row {
+            dimmer,
+            to: Some(row),
+        })
     } else {
         Err(Refusal::AbsentChannel(chan))
     }
@@ -30,7 +33,7 @@ pub(crate) fn unpatch(show: &Show, dimmer: Dimmer) -> Result<Plan, Refusal>
     ensures memory { result ≢ Err Refusal.Memory }
 {
     if show.patch_of(dimmer).is_some() {
-        Ok(Plan::RemoveRow(dimmer))
+        Ok(Plan::Row { dimmer, to: None })
     } else {
         Err(Refusal::AbsentDimmer(dimmer))
     }

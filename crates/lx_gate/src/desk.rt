@@ -16,10 +16,10 @@ impl<G: Origin> Gate<G, GateWriter<G>> {
         unsent: &mut Unsent,
         console: &Console,
     ) -> Result<(), AllocError>
-        requires { IsInStep G.show self.old unsent.old.commands.items console.now }
-        ensures in_step { IsInStep G.show self.new unsent.new.commands.items console.now }
-        ensures ok { OnOk result (HasSent self.old unsent.old.commands.items self.new unsent.new.commands.items) }
-        ensures err { OnErr result (HasSentNone self.old unsent.old.commands.items self.new unsent.new.commands.items) }
+        requires { IsInStep G.show self.old unsent.old console.now }
+        ensures in_step { IsInStep G.show self.new unsent.new console.now }
+        ensures ok { OnOk result (HasSent self.old unsent.old self.new unsent.new) }
+        ensures err { OnErr result (HasSentNone self.old unsent.old self.new unsent.new) }
     {
         self.publish(rt, unsent, console.frames(), console.moment())
     }

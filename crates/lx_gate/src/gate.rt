@@ -10,7 +10,6 @@ ghost use Rattle.lx_gate.specs.Notes.{IsNoteOf, list_of};
 use crate::{Commit, GateRule, History, Note, Origin, Prefix, Shows, Unsent, Version};
 use left_right::writer::Writer;
 use lx_base::SLOTS;
-use lx_spec::Command;
 use std::alloc::AllocError;
 use std::marker::Model;
 use std::sync::Wait;
@@ -58,14 +57,14 @@ impl<G: Origin> Gate<G, GateWriter<G>> {
         frames: &[u8],
         moment: u32,
     ) -> Result<(), AllocError>
-        requires entered { IsEntered self.old unsent.old.commands.items }
+        requires entered { IsEntered self.old unsent.old }
         requires slots { length frames.now ≡ SLOTS }
-        requires frames { AreFramesOf G.show (self.old.published ++ unsent.old.commands.items) frames.now }
-        requires moment { moment ≡ moment_after G.show (self.old.published ++ unsent.old.commands.items) }
-        requires room { length self.old.published + length unsent.old.commands.items < 2 ^ 64 - 1 }
-        ensures entered { IsEntered self.new unsent.new.commands.items }
-        ensures ok { OnOk result (HasSent self.old unsent.old.commands.items self.new unsent.new.commands.items) }
-        ensures err { OnErr result (HasSentNone self.old unsent.old.commands.items self.new unsent.new.commands.items) }
+        requires frames { AreFramesOf G.show (self.old.published ++ unsent.old) frames.now }
+        requires moment { moment ≡ moment_after G.show (self.old.published ++ unsent.old) }
+        requires room { length self.old.published + length unsent.old < 2 ^ 64 - 1 }
+        ensures entered { IsEntered self.new unsent.new }
+        ensures ok { OnOk result (HasSent self.old unsent.old self.new unsent.new) }
+        ensures err { OnErr result (HasSentNone self.old unsent.old self.new unsent.new) }
     {
         let entered = self.enter(unsent)?;
         self.entered = entered.again();
@@ -76,19 +75,19 @@ impl<G: Origin> Gate<G, GateWriter<G>> {
         };
         send(rt, &mut self.writer, commit)?;
         self.published = entered;
-        unsent.commands.clear();
+        *unsent = Unsent::new();
         Ok(())
     }
 
     /// The history with all unsent commands. It has some of them already where a publish failed.
     fn enter(&self, unsent: &Unsent) -> Result<Prefix<G>, AllocError>
-        requires entered { IsEntered self.now unsent.now.commands.items }
-        requires room { length self.now.published + length unsent.now.commands.items < 2 ^ 64 - 1 }
-        ensures { IfOk result (λ list. list ≡ self.now.published ++ unsent.now.commands.items) }
+        requires entered { IsEntered self.now unsent.now }
+        requires room { length self.now.published + length unsent.now < 2 ^ 64 - 1 }
+        ensures { IfOk result (λ list. list ≡ self.now.published ++ unsent.now) }
     {
         let mut entered = self.entered.again();
         let known = entered.len() - self.published.len();
-        if entered.extend(&self.history, after(&unsent.commands, known)) {
+        if entered.extend(&self.history, unsent, known) {
             Ok(entered)
         } else {
             Err(AllocError)
@@ -131,14 +130,6 @@ impl<G: Origin> Gate<G, GateWriter<G>> {
             let _version = writer.take(rt);
         }
     }
-}
-
-/// The commands after the first `known`.
-fn after(commands: &Vec<Command>, known: u64) -> &[Command]
-    requires { known ≤ length commands.now.items }
-    ensures { result.now ≡ drop known commands.now.items }
-{
-    &commands[known as usize..]
 }
 
 /// Publishes a commit at one step. An error changes nothing.

@@ -1,16 +1,28 @@
 //! The history: all commands that were entered, in order. It exists in proofs alone, and only grows.
-ghost use Rattle.std.specs.Prelude.{◌≡◌, ◌+◌, ◌<◌, ◌≤◌, ◌^◌, ◌++◌, ◌↔◌, ◌⊎◌, [], length, IsTrue, MatchBool};
+ghost use Rattle.std.specs.Prelude.{◌≡◌, ◌+◌, ◌-◌, ◌<◌, ◌≤◌, ◌^◌, ◌++◌, ◌↔◌, ◌⊎◌, [], length, drop, IsTrue, MatchBool};
 ghost use mathlib.Core.List.{IsPrefix};
 ghost use Rattle.lx_gate.specs.Histories.{head_of};
 ghost use Rattle.lx_gate.specs.CommandLists.{longest, IsChained, IsLonger, flat};
 
-use crate::Origin;
+use crate::{Origin, Unsent};
 use logbook::{Gain, Offer, Plain, Play, Rule, Seen, Start, Word};
-use lx_spec::Command;
 use std::marker::{Model, PhantomData};
 
+/// A command of the history. Contracts see the command; it is there in proofs alone, and nobody makes one.
+#[derive(Drop)]
+pub struct Entered {}
+
+impl Model for Entered {
+    ghost use Rattle.lx_spec.specs.declared.Command.{Command};
+    ghost use Rattle.lx_spec.specs.declared.Command.TheVariants.{Tick};
+
+    ghost Value = { Command };
+
+    ghost view = { λ _. Tick };
+}
+
 /// The commands of one step. Clauses see an array as a list of any length.
-pub type Batch = [Command; 0];
+pub type Batch = [Entered; 0];
 
 /// The rule of the history.
 pub struct Law;
@@ -51,16 +63,17 @@ impl Play<Batch, u64> for Add {
     ghost then = { Adds };
 }
 
-/// The commands that a step adds.
+/// The commands that a step adds: those after the first `known` that are unsent.
 #[derive(Drop)]
 pub struct Asked<'a> {
-    commands: &'a [Command],
+    unsent: &'a Unsent,
+    known: u64,
 }
 
 impl Plain<Asked<'_>, Batch, u64> for Add {
-    ghost use Rattle.std.specs.Prelude.{None};
+    ghost use Rattle.std.specs.Prelude.{None, drop};
 
-    ghost ask = { λ asked. asked.commands.now };
+    ghost ask = { λ asked. drop asked.known asked.unsent.now };
 
     ghost state = { λ asked. None };
 }
@@ -68,8 +81,8 @@ impl Plain<Asked<'_>, Batch, u64> for Add {
 /// A history with no commands, which has no name yet.
 #[derive(Drop)]
 pub struct EmptyHistory {
-    head: Word<Batch, u64, Law>,
-    seen: Seen<Batch, u64, Law>,
+    pub(crate) head: Word<Batch, u64, Law>,
+    pub(crate) seen: Seen<Batch, u64, Law>,
     pub ghost empty: { seen.log ≡ [] },
     pub ghost head_is: { head ≡ head_of seen.book },
 }
@@ -201,18 +214,20 @@ impl<G: Origin> Prefix<G> {
         earlier.len() <= self.len()
     }
 
-    /// Adds commands to this prefix where it is the whole history, and says whether it was; else this is then a longer prefix.
-    pub fn extend(&mut self, history: &History<G>, commands: &[Command]) -> bool
-        requires room { length self.old + length commands.now < 2 ^ 64 }
-        ensures { MatchBool result (self.new ≡ self.old ++ commands.now) (IsLonger self.old self.new) }
+    /// Adds the commands after the first `known` that are unsent to this prefix where it is the whole history, and says whether it
+    /// was; else this is then a longer prefix.
+    pub fn extend(&mut self, history: &History<G>, unsent: &Unsent, known: u64) -> bool
+        requires known { known ≤ length unsent.now }
+        requires room { length self.old + (length unsent.now - known) < 2 ^ 64 }
+        ensures { MatchBool result (self.new ≡ self.old ++ drop known unsent.now) (IsLonger self.old self.new) }
     {
         let mut seen = self.seen.again();
         let mut offer: Offer<Batch, u64, Law, Nothing> = seen.plain::<Nothing, Asked<'_>, Add>(
-            &Asked { commands },
+            &Asked { unsent, known },
         );
         let mut pen = seen.no_pen();
         let count = self.count;
-        let longer = count + commands.len() as u64;
+        let longer = count + (unsent.len() - known);
         let found = history
             .head
             .compare_exchange::<Add, Nothing>(count, longer, &mut seen, &mut offer, &mut pen);

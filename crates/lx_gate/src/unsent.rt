@@ -1,46 +1,86 @@
 //! Accepted commands that aren't published yet.
-ghost use Rattle.std.specs.Prelude.{◌≡◌, ◌+◌, ◌<◌, ◌≤◌, [], ◌∷◌, ◌++◌, length, OnOk, vec_len, vec_capacity, OnErr};
+ghost use Rattle.std.specs.Prelude.{◌≡◌, ◌+◌, ◌<◌, ◌^◌, [], ◌∷◌, ◌++◌, length, IfSome};
 
+use crate::EmptyHistory;
+use crate::history::{Add, Batch, Law, Nothing};
+use logbook::{Offer, Plain, Seen};
 use lx_spec::Command;
-use std::alloc::{AllocError, Global};
+use std::marker::Model;
 
-/// Accepted commands that aren't published yet, in order. A publish that succeeds empties it.
+/// Accepted commands that aren't published yet, in order. They are there in proofs alone, so they take no memory; what is kept
+/// is how many they are. Contracts see them.
 #[derive(Drop)]
 pub struct Unsent {
-    pub commands: Vec<Command>,
+    count: u64,
+    seen: Seen<Batch, u64, Law>,
+}
+
+impl Model for Unsent {
+    ghost use Rattle.std.specs.Prelude.{◌≡◌, List, length};
+    ghost use Rattle.lx_spec.specs.declared.Command.{Command};
+    ghost use Rattle.lx_gate.specs.CommandLists.{flat};
+
+    ghost Value = { List Command };
+
+    ghost view = { λ u. flat u.seen.log };
+
+    ghost invariant = { λ u. u.count ≡ length (flat u.seen.log) };
+}
+
+/// The commands of a list, and one more.
+#[derive(Drop)]
+struct OneMore<'a, 'l> {
+    before: &'a Seen<Batch, u64, Law>,
+    command: &'a Command<'l>,
+}
+
+impl Plain<OneMore<'_, '_>, Batch, u64> for Add {
+    ghost use Rattle.std.specs.Prelude.{None, [], ◌∷◌, ◌++◌};
+    ghost use Rattle.lx_gate.specs.CommandLists.{flat};
+
+    ghost ask = { λ more. flat more.before.now.log ++ more.command.now ∷ [] };
+
+    ghost state = { λ more. None };
 }
 
 impl Unsent {
-    /// No commands. It takes no memory.
-    pub fn new(alloc: Global) -> Unsent
-        ensures { result.commands.items ≡ [] }
+    /// No commands.
+    pub fn new() -> Unsent
+        ensures { result ≡ [] }
     {
-        Unsent {
-            commands: Vec::new(alloc),
+        let EmptyHistory { head: _, seen } = EmptyHistory::new();
+        Unsent { count: 0, seen }
+    }
+
+    /// These commands and one more. `None` where that can't be had; then nothing changes.
+    pub fn with(&self, command: &Command) -> Option<Unsent>
+        requires { length self.now + 1 < 2 ^ 64 }
+        ensures { IfSome result (λ more. more ≡ self.now ++ command.now ∷ []) }
+    {
+        let EmptyHistory { head, mut seen } = EmptyHistory::new();
+        let mut offer: Offer<Batch, u64, Law, Nothing> = seen.plain::<
+            Nothing,
+            OneMore<'_, '_>,
+            Add,
+        >(&OneMore {
+            before: &self.seen,
+            command,
+        });
+        let mut pen = seen.no_pen();
+        let count = self.count + 1;
+        let found = head.compare_exchange::<Add, Nothing>(
+            0, count, &mut seen, &mut offer, &mut pen,
+        );
+        if found != 0 {
+            return None;
         }
-    }
-
-    /// Takes room for one more command. An error is want of memory, and comes only where the room is full.
-    pub fn reserve(&mut self) -> Result<(), AllocError>
-        ensures commands { self.new.commands.items ≡ self.old.commands.items }
-        ensures room { OnOk result (vec_len self.new.commands < vec_capacity self.new.commands) }
-        ensures full { OnErr result (vec_capacity self.old.commands ≤ vec_len self.old.commands) }
-    {
-        self.commands.reserve(1)
-    }
-
-    /// Adds a command, for which room was taken.
-    pub fn push(&mut self, command: Command)
-        requires { vec_len self.old.commands < vec_capacity self.old.commands }
-        ensures { self.new.commands.items ≡ self.old.commands.items ++ command ∷ [] }
-    {
-        self.commands.push_reserved(command);
+        Some(Unsent { count, seen })
     }
 
     /// How many commands wait.
-    pub fn len(&self) -> usize
-        ensures { result ≡ length self.now.commands.items }
+    pub fn len(&self) -> u64
+        ensures { result ≡ length self.now }
     {
-        self.commands.as_slice().len()
+        self.count
     }
 }

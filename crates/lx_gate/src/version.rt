@@ -1,10 +1,10 @@
 //! What is published: the slots of all universes, the commands that led to them, their number, and the moment.
 ghost use Rattle.std.specs.Prelude.{◌≡◌, length};
 
+use crate::history::Batch;
 use crate::{Origin, Prefix};
 use left_right::Absorb;
 use lx_base::SLOTS;
-use lx_spec::Command;
 use std::alloc::AllocError;
 
 /// The slots of all universes after a list of commands. The moment is in hundredths of a second.
@@ -25,7 +25,7 @@ pub struct Commit<G: Origin> {
 }
 
 impl<G: Origin> Absorb<Commit<G>> for Version<G> {
-    type State = ([u8; SLOTS], [Command; 0], u64, u32);
+    type State = ([u8; SLOTS], Batch, u64, u32);
 
     ghost state = { λ v. (v.slots, v.list, v.count, v.moment) };
 

@@ -10,8 +10,7 @@ use lx_playback::Run;
 use lx_show::sorted::index_of;
 use lx_show::{Cue, Show};
 
-/// Where the cue of a run was found last among the cues, and where the move of a channel would come next among
-/// its moves. Neither needs to be right.
+/// Where the cue of a run was found last among the cues, and a move among its moves. Neither needs to be right.
 #[derive(Clone, Copy)]
 pub(crate) struct Hint {
     pub(crate) cue: usize,
@@ -43,7 +42,7 @@ fn asserts_or_moves(show: &Show, n: CueNo, c: Chan, hint: &mut Hint) -> bool
     ensures { result ≡ (asserts show.now n || is_some (move_of show.now n c)) }
 {
     match cue_near(show, n, &mut hint.cue) {
-        Some(cue) => { cue.asserted || cue.move_next(c, &mut hint.entry).is_some() }
+        Some(cue) => { cue.asserted || cue.move_near(c, &mut hint.entry).is_some() }
         None => false,
     }
 }

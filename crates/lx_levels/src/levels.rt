@@ -3,7 +3,7 @@
 ghost use Rattle.std.specs.Prelude.{◌≡◌, ◌≢◌, ℕ, ◌+◌, ◌-◌, ◌<◌, ◌≤◌, [], ◌∷◌, true, false, List, length, slice_index, slice_set, IfOk};
 ghost use Rattle.std.specs.Prelude.{IfSome};
 ghost use Rattle.std.specs.Option.{option_copied, option_map_or};
-ghost use Rattle.lx_base.specs.declared.TheConstants.{RUNS, CHANNELS, LANES, TICK_END};
+ghost use Rattle.lx_base.specs.declared.TheConstants.{RUNS, LANES, TICK_END};
 ghost use Rattle.lx_spec.specs.Show.{Show as ShowData};
 ghost use Rattle.lx_spec.specs.TrackedLevel.{tracked};
 ghost use Rattle.lx_spec.specs.Run.{Run as RunData};
@@ -22,7 +22,7 @@ use crate::hints::{Hint, NO_HINT, acts};
 use crate::motion::{advance, refresh};
 use crate::racks::Racks;
 use crate::replay::{Act, ground_of, replay};
-use lx_base::{CHANNELS, Chan, CueNo, LANES, Level, Moment, RUNS};
+use lx_base::{Chan, CueNo, LANES, Level, Moment, RUNS};
 use lx_fade::NEVER;
 use lx_playback::{Playback, Run};
 use lx_sheet::Sheet;
@@ -115,7 +115,7 @@ impl Levels {
                 continue;
             }
             let target = level_on(to, k);
-            let c = channel_at(k);
+            let c = Chan::at(k);
             if acts(show, run, c, level_on(from, k), target, &mut hint) {
                 self.add_run(show, run, c, target);
             }
@@ -133,7 +133,7 @@ impl Levels {
         let base = playback.base();
         let mut near = 0;
         for k in 0..self.levels.len() {
-            self.restart(k, sheet.level_near(base, channel_at(k), &mut near));
+            self.restart(k, sheet.level_near(base, Chan::at(k), &mut near));
         }
     }
 
@@ -331,15 +331,4 @@ fn before_last(playback: &Playback) -> CueNo
     }
     let run = &live[live.len() - 2];
     run.cue
-}
-
-/// The channel whose value stands at the place.
-fn channel_at(place: usize) -> Chan
-    requires { place < CHANNELS }
-    ensures { result ≡ place + 1 }
-{
-    match Chan::new(place as u32 + 1) {
-        Some(c) => c,
-        None => unreachable!(),
-    }
 }

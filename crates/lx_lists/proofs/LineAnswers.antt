@@ -5,7 +5,8 @@ use Rattle.lx_io.specs.declared.sink.SinkFault.{SinkFault}
 use Rattle.lx_spec.specs.declared.Line.{Line}
 use Rattle.lx_spec.specs.declared.Line.TheVariants as lines
 use Rattle.lx_spec.specs.Script.{line_of}
-use Rattle.lx_spec.specs.Session.{command_of, ends_script, is_quit}
+use Rattle.lx_spec.specs.Session.{ends_script, is_quit}
+use Rattle.lx_spec.specs.DeskSession.{command_of}
 use Rattle.lx_spec.specs.TwoLists.{where_of_second, is_of_second, commands_second}
 use Rattle.lx_spec.specs.ValidEdit.{ValidLine}
 use Rattle.lx_spec.proofs.ValidLines.{line_of-valid}

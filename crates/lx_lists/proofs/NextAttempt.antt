@@ -11,14 +11,14 @@ use Rattle.lx_spec.specs.declared.Refusal.{Refusal}
 use Rattle.lx_spec.specs.FirstRefusal.{◌>>=◌}
 use Rattle.lx_spec.specs.Desk.{Desk, step, after_command}
 use Rattle.lx_spec.specs.Kept.{Kept}
-use Rattle.lx_spec.specs.RefusedPlaces.{is_edit}
-use Rattle.lx_spec.specs.SessionOf.{SessionOf, at_desk}
+use Rattle.lx_spec.specs.Desk.{is_edit}
+use Rattle.lx_spec.specs.DeskSession.{begun}
 use Rattle.lx_spec.specs.TwoLists.{TwoDesks, is_tick, first_step, second_step}
 use Rattle.lx_console.specs.ConsoleMeaning.{StandsFor, Obeys, Refuses}
 use Rattle.lx_session.specs.Attempts.{Attempted, heard_of}
 use Rattle.lx_session.specs.LineState.{LineState, next_of, unattempted}
 use Rattle.lx_session.specs.LineProgress.{LineProgress}
-use Rattle.lx_session.proofs.AttemptSteps.{begun, attempted}
+use Rattle.lx_session.proofs.AttemptSteps.{nothing_yet, attempted}
 use Rattle.lx_lists.specs.TwoListsMeaning.{TwoKept, TwoStand, TakesStep, WantsMemory}
 use Rattle.lx_lists.specs.OtherList.{TicksReach, Stays}
 
@@ -98,62 +98,62 @@ joined d now done more stands =
     subst (λ (cs : List Command). StandsFor (fold after_command d cs) now) (sym (filter-append is_tick done more))
     (subst (λ (e : Desk). StandsFor e now) (sym (fold-append after_command d (filter is_tick done) (filter is_tick more))) stands)
 
-pub none_yet : (s : SessionOf TwoDesks) (turn : LineState) (t : TwoKept) → turn ≡ unattempted turn.meaning → TwoStand s.state t
-    → LineProgress true (TicksReach s.state.second t.second) (at_desk s.state.first s) turn turn t.first
+pub none_yet : (s : TwoDesks) (turn : LineState) (t : TwoKept) → turn ≡ unattempted turn.meaning → TwoStand s t
+    → LineProgress true (TicksReach s.second t.second) (begun s.first) turn turn t.first
 none_yet s turn t start stands =
-    begun true (TicksReach s.state.second t.second) (at_desk s.state.first s) t.first stands.first turn
+    nothing_yet true (TicksReach s.second t.second) (begun s.first) t.first stands.first turn
     (ap (λ (u : LineState). u.refusal) start) stands.second
 
 -- One attempt more on the first list, or on both.
-pub one_more : (s : SessionOf TwoDesks) (old turn turn' : LineState) (c : Command) (refusal : Option Refusal) (before now : TwoKept)
+pub one_more : (s : TwoDesks) (old turn turn' : LineState) (c : Command) (refusal : Option Refusal) (before now : TwoKept)
     → next_of turn ≡ Some c
     → ((x : TwoDesks) → TwoStand x before → Attempted true x.first c refusal now.first)
     → ((x : TwoDesks) → TwoStand x before → TicksReach x.second now.second (heard_of c refusal))
     → turn' ≡ record turn { left = turn.left - 1; refusal = refusal }
-    → LineProgress true (TicksReach s.state.second before.second) (at_desk s.state.first s) old turn before.first
-    → LineProgress true (TicksReach s.state.second now.second) (at_desk s.state.first s) old turn' now.first
+    → LineProgress true (TicksReach s.second before.second) (begun s.first) old turn before.first
+    → LineProgress true (TicksReach s.second now.second) (begun s.first) old turn' now.first
 one_more s old turn turn' c refusal before now some first second is t =
-    let heard : List Command → Type 0 = TicksReach s.state.second now.second in
-    subst (λ (v : LineState). LineProgress true heard (at_desk s.state.first s) old v now.first) (sym is)
-    (attempted true (TicksReach s.state.second before.second) heard (at_desk s.state.first s) old turn
+    let heard : List Command → Type 0 = TicksReach s.second now.second in
+    subst (λ (v : LineState). LineProgress true heard (begun s.first) old v now.first) (sym is)
+    (attempted true (TicksReach s.second before.second) heard (begun s.first) old turn
     (record { meaning = turn.meaning; left = turn.left - 1; refusal = refusal }) c before.first now.first t some
     (λ d stands. record {
       admitted = true;
       is_all = λ every. refl;
-      attempted = first (record { first = d; second = fold after_command s.state.second (filter is_tick t.commands) })
+      attempted = first (record { first = d; second = fold after_command s.second (filter is_tick t.commands) })
           (record { first = stands; second = t.listened });
     })
-    (λ done h. joined s.state.second now.second done (heard_of c refusal)
-    (second (record { first = t.now.desk; second = fold after_command s.state.second (filter is_tick done) })
+    (λ done h. joined s.second now.second done (heard_of c refusal)
+    (second (record { first = t.now.desk; second = fold after_command s.second (filter is_tick done) })
     (record { first = t.stands; second = h })))
     refl)
 
 -- One attempt on the second list.
-pub one_second : (s : SessionOf TwoDesks) (turn turn' : LineState) (c : Command) (refusal : Option Refusal) (before now : TwoKept)
-    → turn ≡ unattempted turn.meaning → next_of turn ≡ Some c → TwoStand s.state before
+pub one_second : (s : TwoDesks) (turn turn' : LineState) (c : Command) (refusal : Option Refusal) (before now : TwoKept)
+    → turn ≡ unattempted turn.meaning → next_of turn ≡ Some c → TwoStand s before
     → ((x : TwoDesks) → TwoStand x before → Attempted true x.second c refusal now.second) → now.first ≡ before.first
     → turn' ≡ record turn { left = turn.left - 1; refusal = refusal }
-    → LineProgress true (Stays s.state.first now.first) (at_desk s.state.second s) turn turn' now.second
+    → LineProgress true (Stays s.first now.first) (begun s.second) turn turn' now.second
 one_second s turn turn' c refusal before now start some stand second same is =
-    let stays : StandsFor s.state.first now.first = subst (StandsFor s.state.first) (sym same) stand.first in
-    let heard : List Command → Type 0 = Stays s.state.first now.first in
-    subst (λ (v : LineState). LineProgress true heard (at_desk s.state.second s) turn v now.second) (sym is)
-    (attempted true heard heard (at_desk s.state.second s) turn turn
+    let stays : StandsFor s.first now.first = subst (StandsFor s.first) (sym same) stand.first in
+    let heard : List Command → Type 0 = Stays s.first now.first in
+    subst (λ (v : LineState). LineProgress true heard (begun s.second) turn v now.second) (sym is)
+    (attempted true heard heard (begun s.second) turn turn
     (record { meaning = turn.meaning; left = turn.left - 1; refusal = refusal }) c before.second now.second
-    (begun true heard (at_desk s.state.second s) before.second stand.second turn
+    (nothing_yet true heard (begun s.second) before.second stand.second turn
     (ap (λ (u : LineState). u.refusal) start) stays) some
     (λ d stands. record {
       admitted = true;
       is_all = λ every. refl;
-      attempted = second (record { first = s.state.first; second = d }) (record { first = stand.first; second = stands });
+      attempted = second (record { first = s.first; second = d }) (record { first = stand.first; second = stands });
     })
     (λ done h. h)
     refl)
 
-pub none_second : (s : SessionOf TwoDesks) (turn : LineState) (t : TwoKept) → turn ≡ unattempted turn.meaning → TwoStand s.state t
-    → LineProgress true (Stays s.state.first t.first) (at_desk s.state.second s) turn turn t.second
+pub none_second : (s : TwoDesks) (turn : LineState) (t : TwoKept) → turn ≡ unattempted turn.meaning → TwoStand s t
+    → LineProgress true (Stays s.first t.first) (begun s.second) turn turn t.second
 none_second s turn t start stand =
-    begun true (Stays s.state.first t.first) (at_desk s.state.second s) t.second stand.second turn
+    nothing_yet true (Stays s.first t.first) (begun s.second) t.second stand.second turn
     (ap (λ (u : LineState). u.refusal) start) stand.first
 
 pub other_tick : (c : Command) → (c ≡ commands.Tick → ⊥) → is_tick c ≡ false

@@ -8,7 +8,7 @@ use Rattle.lx_spec.specs.declared.Refusal.{Refusal}
 use Rattle.lx_spec.specs.declared.Refusal.TheVariants.{Memory}
 use Rattle.lx_spec.specs.Show.{Show}
 use Rattle.lx_spec.specs.Output.{dimmer_value}
-use Rattle.lx_spec.specs.RefusedPlaces.{is_edit}
+use Rattle.lx_spec.specs.Desk.{is_edit}
 use Rattle.lx_spec.specs.TwoLists.{TwoDesks, opened_two, first_step, second_step, tick_step, frame_of_two}
 use Rattle.lx_mixer.specs.Table.{IsTable}
 use Rattle.lx_console.specs.Slots.{universe}

@@ -1,8 +1,7 @@
 //! The commands of a line, attempted on the list that they are for.
 
 ghost use Rattle.std.specs.Prelude.{◌≡◌, None, IfSome, IsTrue, true};
-ghost use Rattle.lx_spec.specs.Session.{command_of};
-ghost use Rattle.lx_spec.specs.SessionOf.{SessionOf, at_desk};
+ghost use Rattle.lx_spec.specs.DeskSession.{begun, command_of};
 ghost use Rattle.lx_spec.specs.TwoLists.{TwoDesks, commands_second};
 ghost use Rattle.lx_spec.specs.ValidEdit.{ValidCommand, ValidLine};
 ghost use Rattle.lx_session.specs.Attempts.{Attempted, heard_of};
@@ -21,8 +20,8 @@ pub(crate) fn attempt_all(desk: &mut TwoLists, turn: &mut Turn)
     requires valid { IfSome turn.old.meaning ValidLine }
     ensures over { next_of turn.new ≡ None }
     ensures meaning { turn.new.meaning ≡ turn.old.meaning }
-    ensures tried { (s : SessionOf TwoDesks) → TwoStand s.state desk.old
-        → LineProgress true (TicksReach s.state.second desk.new.second) (at_desk s.state.first s) turn.old turn.new desk.new.first }
+    ensures tried { (s : TwoDesks) → TwoStand s desk.old
+        → LineProgress true (TicksReach s.second desk.new.second) (begun s.first) turn.old turn.new desk.new.first }
 {
     'commands: while let Some(command) = turn.next() {
         let refusal = attempt(desk, command);
@@ -50,8 +49,8 @@ pub(crate) fn attempt_second(desk: &mut TwoLists, turn: &mut Turn)
     requires taken { IfSome (command_of turn.old.meaning) (λ command. IsTrue (commands_second command)) }
     ensures over { next_of turn.new ≡ None }
     ensures meaning { turn.new.meaning ≡ turn.old.meaning }
-    ensures tried { (s : SessionOf TwoDesks) → TwoStand s.state desk.old
-        → LineProgress true (Stays s.state.first desk.new.first) (at_desk s.state.second s) turn.old turn.new desk.new.second }
+    ensures tried { (s : TwoDesks) → TwoStand s desk.old
+        → LineProgress true (Stays s.first desk.new.first) (begun s.second) turn.old turn.new desk.new.second }
 {
     if let Some(command) = turn.next() {
         let refusal = desk.second(command).err();

@@ -3,7 +3,7 @@
 ghost use Rattle.std.specs.Prelude.{◌≡◌, ℕ, ◌≤◌, false, IfOk, IsTrue, OnErr};
 ghost use Rattle.lx_base.specs.declared.TheConstants.{SLOTS, UNIVERSES};
 ghost use Rattle.lx_spec.specs.ValidEdit.{ValidCommand};
-ghost use Rattle.lx_spec.specs.RefusedPlaces.{is_edit};
+ghost use Rattle.lx_spec.specs.Desk.{is_edit};
 ghost use Rattle.lx_spec.specs.Desk.{Desk};
 ghost use Rattle.lx_spec.specs.Output.{dimmer_value};
 ghost use Rattle.lx_spec.specs.TwoLists.{TwoDesks, opened_two, first_step, second_step, tick_step, is_tick, commands_second, frame_of_two};

@@ -4,9 +4,8 @@ ghost use Rattle.std.specs.Prelude.{◌≡◌, ◌≤◌, List, ℕ, IfOk, IfSom
 ghost use Rattle.lx_base.specs.declared.TheConstants.{INPUT_BYTES};
 ghost use Rattle.lx_io.specs.Puts.{HasSinkCause};
 ghost use Rattle.lx_lex.specs.Unread.{CanAdvance, SameSource, bytes_taken, source_left, unread};
-ghost use Rattle.lx_spec.specs.Session.{ends_script};
-ghost use Rattle.lx_spec.specs.SessionOf.{SessionOf};
-ghost use Rattle.lx_spec.specs.TwoLists.{TwoDesks, two_answer, TwoMayWant, is_for_second};
+ghost use Rattle.lx_spec.specs.Session.{Session, ends_script};
+ghost use Rattle.lx_spec.specs.TwoLists.{TwoDesks, two_answering, is_for_second};
 ghost use Rattle.lx_session.specs.LineReply.{HasRoom, HasOneMore, counts_in};
 ghost use Rattle.lx_session.specs.OneAnswer.{IsLine, OneAnswer};
 ghost use Rattle.lx_session.specs.ScriptAnswer.{ScriptAnswered};
@@ -29,7 +28,7 @@ use lx_session::{Answers, SessionFault, Tally, Turn, answer_lines};
 /// `ReadFault` comes only where the source failed, `InputTooLong` exactly where a wanted line has a byte past the limit
 /// of the input; the lines before it are then wholly answered. `WriteFault` and `Memory` come only where the sink
 /// answered them; what was written is then a prefix of the whole text. However it ends, the lists stand for the state
-/// after the lines that were done. Want of memory refuses only edits that nothing else refuses.
+/// after the lines that were done. Out of memory refuses only edits that nothing else refuses.
 pub fn two_session<S: Source, K: Sink>(
     desk: &mut TwoLists,
     lines: &mut Lines<S>,
@@ -40,7 +39,7 @@ pub fn two_session<S: Source, K: Sink>(
     ensures same_source { SameSource lines.old lines.new }
     ensures outcome { (state : TwoDesks) → TwoStand state desk.old
         → IfSome (unread S.left lines.old)
-        (λ bytes. ScriptAnswered two_answer TwoMayWant (λ s. TwoStand s desk.new) state (bytes_taken lines.old) bytes
+        (λ bytes. ScriptAnswered two_answering (λ s. TwoStand s desk.new) state (bytes_taken lines.old) bytes
         (unread S.left lines.new) (source_left S.left lines.new) (K.holds sink.old) (K.holds sink.new) result) }
     ensures limit { IfSome (unread S.left lines.old) (λ bytes. KeepsLimit (bytes_taken lines.old) bytes result) }
     ensures cause { HasSessionCause S.faults K.faults K.wants lines.old lines.new sink.old sink.new result }
@@ -50,16 +49,12 @@ pub fn two_session<S: Source, K: Sink>(
 }
 
 impl Answers for TwoLists {
-    ghost use Rattle.lx_spec.specs.TwoLists.{TwoDesks, two_answer, TwoMayWant};
+    ghost use Rattle.lx_spec.specs.TwoLists.{two_answering};
     ghost use Rattle.lx_lists.specs.TwoListsMeaning.{TwoStand};
 
-    ghost State = { TwoDesks };
+    ghost by = { two_answering };
 
     ghost stands = { TwoStand };
-
-    ghost answer_of = { two_answer };
-
-    ghost may_want = { TwoMayWant };
 
     fn answer<K: Sink>(
         &mut self,
@@ -109,9 +104,9 @@ fn answer_second<K: Sink>(
     tally: &mut Tally,
 ) -> Result<bool, SinkFault>
     requires room { HasRoom tally.old }
-    ensures answered { (s : SessionOf TwoDesks) (text : List ℕ) → TwoStand s.state desk.old → s.counts ≡ counts_in tally.old
+    ensures answered { (s : Session TwoDesks) (text : List ℕ) → TwoStand s.state desk.old → s.counts ≡ counts_in tally.old
         → IsRestFor text rest.now
-        → OneAnswer two_answer TwoMayWant K.holds K.faults K.wants sink.old sink.new result s text (λ state. TwoStand state desk.new)
+        → OneAnswer two_answering K.holds K.faults K.wants sink.old sink.new result s text (λ state. TwoStand state desk.new)
         tally.new }
     ensures more { IfOk result (λ more. more ≡ true) }
     ensures cause { HasSinkCause K.faults K.wants sink.old sink.new result }
@@ -131,9 +126,9 @@ fn answer_first<K: Sink>(
     tally: &mut Tally,
 ) -> Result<bool, SinkFault>
     requires room { HasRoom tally.old }
-    ensures answered { (s : SessionOf TwoDesks) (text : List ℕ) → TwoStand s.state desk.old → s.counts ≡ counts_in tally.old
+    ensures answered { (s : Session TwoDesks) (text : List ℕ) → TwoStand s.state desk.old → s.counts ≡ counts_in tally.old
         → IsLine (option_copied line.entry) text → is_for_second text ≡ false
-        → OneAnswer two_answer TwoMayWant K.holds K.faults K.wants sink.old sink.new result s text (λ state. TwoStand state desk.new)
+        → OneAnswer two_answering K.holds K.faults K.wants sink.old sink.new result s text (λ state. TwoStand state desk.new)
         tally.new }
     ensures quit { IfOk result (λ more. (text : List ℕ) → IsLine (option_copied line.entry) text → more ≡ not (ends_script text)) }
     ensures cause { HasSinkCause K.faults K.wants sink.old sink.new result }

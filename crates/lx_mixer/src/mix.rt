@@ -11,7 +11,7 @@ use std::simd::prelude::*;
 /// So many channels are mixed in one turn of the loop.
 const STRETCH: usize = 4 * LANES;
 
-/// Mixes by the greatest, as consoles do: each channel's output is the greater of the level that the
+/// Highest takes precedence (HTP): each channel's output is the greater of the level that the
 /// playback gives it and the one that the submasters do, in proportion to the master. The channels
 /// stand at the same places in all three.
 pub fn mix_into(playback: &[Level], subs: &[Level], master: Level, out: &mut [Level])

@@ -1,7 +1,8 @@
 //! The playback's state: the moment, the base, the live runs and the pending follow.
 
-ghost use Rattle.std.specs.Prelude.{◌≡◌, ℕ, ◌+◌, ◌-◌, ◌/◌, ◌<◌, ◌≤◌, ◌==◌, [], ◌∷◌, None, min, not, reverse, length, IfOk, IsTrue, IsFalse};
-ghost use Rattle.std.specs.List.{All};
+ghost use Rattle.std.specs.Prelude.{◌≡◌, ℕ, ◌+◌, ◌-◌, ◌/◌, ◌<◌, ◌≤◌, ◌==◌, [], ◌∷◌, None, min, not, reverse, length, nat_le, IfOk, IsTrue, IsFalse};
+ghost use Rattle.std.specs.List.{All, list_all};
+ghost use Rattle.lx_spec.specs.Run.{extent};
 ghost use Rattle.lx_spec.specs.Playback.{at_opening, position_of, has_room, is_over, is_due, at_rest};
 ghost use Rattle.lx_base.specs.declared.TheConstants.{TICK_END, TICK_STEP};
 ghost use Rattle.lx_playback.specs.QuietTicks.{later, TicksPass, IsStillAt};
@@ -93,6 +94,13 @@ impl Playback {
         ensures { result ≡ self.now.pending }
     {
         self.pending
+    }
+
+    /// The moment from which on every live run is over; 0 where none is live.
+    pub fn over_at(&self) -> Moment
+        ensures { (m : ℕ) → list_all (λ run. nat_le (run.start + extent run) m) self.now.live ≡ nat_le result m }
+    {
+        self.over_at
     }
 
     /// One more run may be live.

@@ -47,7 +47,7 @@ impl Run {
 
     /// How long the run takes: the greatest sum of delay and time over its entries and both
     /// directions, at most 1,199,998 hundredths of a second.
-    pub(crate) fn extent(&self) -> Cs
+    pub fn extent(&self) -> Cs
         requires { AllByRecursion ValidTimes self.now.parts }
         ensures extent { result ≡ extent self.now }
         ensures most { result ≤ 2 * TIME_MAX }

@@ -5,11 +5,13 @@ use Rattle.std.specs.List.{list_any}
 use Rattle.std.specs.Str.{bytes_eq}
 use Rattle.std.proofs.lemmas.Bool.Decides.{nat_tests}
 use Rattle.lx_base.specs.declared.TheConstants.{CUES, UNIVERSES, OPERATORS}
+use Rattle.lx_spec.specs.declared.Form.{Form}
 use Rattle.lx_spec.specs.declared.Form.TheVariants.{States}
 use Rattle.lx_spec.specs.declared.Job.{Job}
-use Rattle.lx_spec.specs.declared.Job.TheVariants.{Check, Render, Sheet, Make, Run, Undo, Two, Crew}
+use Rattle.lx_spec.specs.declared.Job.TheVariants.{Check, Sheet, Make, Script, Crew}
+use Rattle.lx_spec.specs.declared.ScriptKind.TheVariants.{Render, Live, Undo, Two}
 use Rattle.lx_spec.specs.Phrase.{ended}
-use Rattle.lx_spec.specs.Job.{job_of, form_of, plain_number, number_alone, run_of, crew_of}
+use Rattle.lx_spec.specs.Job.{job_of, form_of, plain_number, number_alone, counted_job}
 use Rattle.lx_program.specs.Words.{begins_with_dash}
 
 abbrev HasDash : List (List ℕ) → Type 0
@@ -61,19 +63,11 @@ no_alone most (w ∷ ws) e = first_or_more (number_alone most (w ∷ ws) ≡ Non
     (λ first. ap (option_and_then (ended ws)) (no_number most w first))
     (λ more. after_number (plain_number most w) (ended ws) (λ n. more_words ws n more))
 
-no_run : (ws : List (List ℕ)) → HasDash ws → run_of ws ≡ None
-no_run [] e = absurd cc
-no_run (w ∷ ws) e = first_or_more (run_of (w ∷ ws) ≡ None) w ws e
-    (λ first. ap (option_and_then (λ u. option_map (Run u) (form_of ws))) (no_number UNIVERSES w first))
-    (λ more. after_number (plain_number UNIVERSES w) (λ u. option_map (Run u) (form_of ws))
-    (λ u. ap (option_map (Run u)) (no_form ws more)))
-
-no_crew : (ws : List (List ℕ)) → HasDash ws → crew_of ws ≡ None
-no_crew [] e = absurd cc
-no_crew (w ∷ ws) e = first_or_more (crew_of (w ∷ ws) ≡ None) w ws e
-    (λ first. ap (option_and_then (λ n. option_map (Crew n) (form_of ws))) (no_number OPERATORS w first))
-    (λ more. after_number (plain_number OPERATORS w) (λ n. option_map (Crew n) (form_of ws))
-    (λ n. ap (option_map (Crew n)) (no_form ws more)))
+no_counted : (most : ℕ) (job : ℕ → Form → Job) (ws : List (List ℕ)) → HasDash ws → counted_job most job ws ≡ None
+no_counted most job [] e = absurd cc
+no_counted most job (w ∷ ws) e = first_or_more (counted_job most job (w ∷ ws) ≡ None) w ws e
+    (λ first. ap (option_and_then (λ n. option_map (job n) (form_of ws))) (no_number most w first))
+    (λ more. after_number (plain_number most w) (λ n. option_map (job n) (form_of ws)) (λ n. ap (option_map (job n)) (no_form ws more)))
 
 pub no_job : (ws : List (List ℕ)) → HasDash ws → job_of ws ≡ None
 no_job [] e = absurd cc
@@ -89,10 +83,10 @@ no_job (w ∷ ws) e = first_or_more (job_of (w ∷ ws) ≡ None) w ws e
     (skip (bytes_eq w (codes "crew")) _ None (isnt w 99 _ first refl) refl))))))))
     (λ more.
     neither (bytes_eq w (codes "check")) _ _ (ap (option_map Check) (no_form ws more))
-    (neither (bytes_eq w (codes "render")) _ _ (ap (option_map Render) (no_form ws more))
+    (neither (bytes_eq w (codes "render")) _ _ (ap (option_map (Script Render)) (no_form ws more))
     (neither (bytes_eq w (codes "sheet")) _ _ (ap (option_map Sheet) (no_form ws more))
     (neither (bytes_eq w (codes "make")) _ _ (ap (option_map Make) (no_alone CUES ws more))
-    (neither (bytes_eq w (codes "run")) _ _ (no_run ws more)
-    (neither (bytes_eq w (codes "undo")) _ _ (ap (option_map Undo) (no_form ws more))
-    (neither (bytes_eq w (codes "two")) _ _ (ap (option_map Two) (no_form ws more))
-    (neither (bytes_eq w (codes "crew")) _ None (no_crew ws more) refl))))))))
+    (neither (bytes_eq w (codes "run")) _ _ (no_counted UNIVERSES (λ universes. Script (Live universes)) ws more)
+    (neither (bytes_eq w (codes "undo")) _ _ (ap (option_map (Script Undo)) (no_form ws more))
+    (neither (bytes_eq w (codes "two")) _ _ (ap (option_map (Script Two)) (no_form ws more))
+    (neither (bytes_eq w (codes "crew")) _ None (no_counted OPERATORS Crew ws more) refl))))))))

@@ -2,9 +2,10 @@
 use Rattle.std.proofs.Common.{◌≡◌, Option, Some, None, IfSome, List, ℕ, sym, subst}
 use Rattle.lx_spec.specs.declared.Form.{Form}
 use Rattle.lx_spec.specs.declared.Job.{Job}
-use Rattle.lx_spec.specs.declared.Job.TheVariants.{Check, Render, Sheet, Make, Run, Undo, Two, Crew}
+use Rattle.lx_spec.specs.declared.Job.TheVariants.{Check, Sheet, Make, Script, Crew}
+use Rattle.lx_spec.specs.declared.ScriptKind.TheVariants.{Render, Live, Undo, Two}
 use Rattle.lx_spec.specs.Job.{job_of, given_to}
-use Rattle.lx_program.specs.NamedJob.{OfCrew, OfJob}
+use Rattle.lx_program.specs.NamedJob.{OfCrew, OfJob, OfRun}
 
 pub of_job : (ws : List (List ℕ)) (left : Option (List ℕ)) (P : Job → List ℕ → Type 0) (job : Job) → job_of ws ≡ Some job
     → IfSome (given_to job left) (P job) → OfJob ws left P
@@ -28,10 +29,19 @@ pub of_each_crew : (o : Option Job) (left : Option (List ℕ)) (P : ℕ → Form
     → ((count : ℕ) (form : Form) (bytes : List ℕ) → P count form bytes) → OfCrew o left P
 of_each_crew None left P p = tt
 of_each_crew (Some (Check form)) left P p = tt
-of_each_crew (Some (Render form)) left P p = tt
 of_each_crew (Some (Sheet form)) left P p = tt
 of_each_crew (Some (Make n)) left P p = tt
-of_each_crew (Some (Run universes form)) left P p = tt
-of_each_crew (Some (Undo form)) left P p = tt
-of_each_crew (Some (Two form)) left P p = tt
+of_each_crew (Some (Script kind form)) left P p = tt
 of_each_crew (Some (Crew count form)) left P p = each_given left (P count form) (p count form)
+
+pub of_each_run : (o : Option Job) (left : Option (List ℕ)) (P : ℕ → Form → List ℕ → Type 0)
+    → ((universes : ℕ) (form : Form) (bytes : List ℕ) → P universes form bytes) → OfRun o left P
+of_each_run None left P p = tt
+of_each_run (Some (Check form)) left P p = tt
+of_each_run (Some (Sheet form)) left P p = tt
+of_each_run (Some (Make n)) left P p = tt
+of_each_run (Some (Script Render form)) left P p = tt
+of_each_run (Some (Script (Live universes) form)) left P p = each_given left (P universes form) (p universes form)
+of_each_run (Some (Script Undo form)) left P p = tt
+of_each_run (Some (Script Two form)) left P p = tt
+of_each_run (Some (Crew count form)) left P p = tt

@@ -1,3 +1,4 @@
 mod JobWords
 mod DashedWords
 mod ArgumentValues
+mod NothingBegun

@@ -1,3 +1,4 @@
 pub mod Exits
 pub mod NamedJob
 pub mod Words
+pub mod Places

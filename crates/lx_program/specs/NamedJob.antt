@@ -3,7 +3,8 @@ use Rattle.std.specs.Prelude.{ℕ, ◌≤◌, Option, Some, IfSome, List}
 use Rattle.lx_base.specs.declared.TheConstants.{UNIVERSES, OPERATORS}
 use Rattle.lx_spec.specs.declared.Form.{Form}
 use Rattle.lx_spec.specs.declared.Job.{Job}
-use Rattle.lx_spec.specs.declared.Job.TheVariants.{Check, Render, Sheet, Make, Run, Undo, Two, Crew}
+use Rattle.lx_spec.specs.declared.Job.TheVariants.{Script, Crew}
+use Rattle.lx_spec.specs.declared.ScriptKind.TheVariants.{Live}
 use Rattle.lx_spec.specs.Job.{job_of, given_to}
 
 -- Of the job that the words name, and of the bytes that it is given.
@@ -12,7 +13,7 @@ OfJob words left P = IfSome (job_of words) (λ job. IfSome (given_to job left) (
 
 -- the same of the words, where they name a live run and the input tells its bytes
 abbrev pub OfRun : Option Job → Option (List ℕ) → (ℕ → Form → List ℕ → Type 0) → Type 0
-OfRun (Some (Run universes form)) left P = IfSome left (P universes form)
+OfRun (Some (Script (Live universes) form)) left P = IfSome left (P universes form)
 OfRun other left P = Unit {0}
 
 -- of the words, where they name a crew and the input tells its bytes
@@ -27,18 +28,13 @@ in_use other = 0
 
 -- what plays live plays 1 to all universes, and a crew has 1 to all operators
 abbrev pub InRange : Job → Type 0
-InRange (Check form) = Unit {0}
-InRange (Render form) = Unit {0}
-InRange (Sheet form) = Unit {0}
-InRange (Make n) = Unit {0}
-InRange (Run universes form) = (1 ≤ universes) × (universes ≤ UNIVERSES)
-InRange (Undo form) = Unit {0}
-InRange (Two form) = Unit {0}
+InRange (Script (Live universes) form) = (1 ≤ universes) × (universes ≤ UNIVERSES)
 InRange (Crew operators form) = (1 ≤ operators) × (operators ≤ OPERATORS)
+InRange other = Unit {0}
 
 -- the words name no live run, and no crew
 abbrev pub NamesNoRun : Option Job → Type 0
-NamesNoRun (Some (Run universes form)) = ⊥
+NamesNoRun (Some (Script (Live universes) form)) = ⊥
 NamesNoRun other = Unit {0}
 
 abbrev pub NamesNoCrew : Option Job → Type 0

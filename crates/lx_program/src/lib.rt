@@ -1,11 +1,18 @@
 //! The program as calls: from the words of its command line to the job that they name, and from that and the bytes that come in to the
-//! bytes that go out, over any sources and sinks. Nothing here names a file or a clock.
+//! bytes that go out, over any sources and sinks. Beside them the program's files and its clock: a source for each operator of a crew, and an
+//! outlet for each universe of a live run, with its pace.
 #![tactic(auto)]
 
 mod calls;
 mod exit;
+mod operators;
+mod pace;
+mod universes;
 mod words;
 
 pub use calls::{desk, desk_crew, desk_live};
 pub use exit::exit_of;
+pub use operators::{OperatorFile, scripts};
+pub use pace::DeskPace;
+pub use universes::{UniverseFile, files};
 pub use words::{WordsFault, words_of};

@@ -1,11 +1,12 @@
 //! The words of the command line.
 
-ghost use Rattle.std.specs.Prelude.{◌≡◌, ◌≤◌, true, false, None, Some, Err, map, string_bytes, IfOk, IfErr, IfSome};
+ghost use Rattle.std.specs.Prelude.{◌≡◌, ◌≤◌, true, false, None, Some, Err, map, option_map, string_bytes, IfOk, IfErr, IfSome};
 ghost use Rattle.std.specs.List.{list_any};
 ghost use Rattle.clap.specs.Words.{kind_of};
 ghost use Rattle.lx_base.specs.declared.TheConstants.{OPERATORS, UNIVERSES};
-ghost use Rattle.lx_spec.specs.declared.Job.TheVariants.{Crew, Run};
-ghost use Rattle.lx_spec.specs.Job.{job_of, form_of, number_alone, plain_number, run_of, crew_of as crew_given};
+ghost use Rattle.lx_spec.specs.declared.Job.TheVariants.{Crew, Script};
+ghost use Rattle.lx_spec.specs.declared.ScriptKind.TheVariants.{Live};
+ghost use Rattle.lx_spec.specs.Job.{job_of, form_of, number_alone, plain_number, counted_job};
 ghost use Rattle.lx_spec.specs.Phrase.{ended};
 ghost use Rattle.lx_program.specs.NamedJob.{InRange, NamesNoCrew, NamesNoRun};
 ghost use Rattle.lx_program.specs.Words.{begins_with_dash, values_of};
@@ -14,7 +15,7 @@ use clap::error::ErrorKind;
 use clap::{Arg, ArgAction, ArgMatches, Command, Error};
 use lx_base::{CUES, OPERATORS, UNIVERSES};
 use lx_lex::read_whole;
-use lx_spec::{Form, Job};
+use lx_spec::{Form, Job, ScriptKind};
 use std::alloc::Global;
 
 /// The name of the argument that has the words as its values.
@@ -56,14 +57,16 @@ pub fn words_of(alloc: Global, words: &[String]) -> Result<Job, WordsFault>
 
 /// How many universes are played live, and how the levels are read, where the words name a live run; `Usage` exactly where they name none.
 pub(crate) fn live_run_of(alloc: Global, words: &[String]) -> Result<(u8, Form), WordsFault>
-    ensures run { IfOk result (λ named. job_of (map string_bytes words.now) ≡ Some (Run named.0 named.1)) }
+    ensures run { IfOk result (λ named. job_of (map string_bytes words.now) ≡ Some (Script (Live named.0) named.1)) }
     ensures range { IfOk result (λ named. (1 ≤ named.0) × (named.0 ≤ UNIVERSES)) }
     ensures usage { result ≡ Err WordsFault.Usage → NamesNoRun (job_of (map string_bytes words.now)) }
 {
     match words_of(alloc, words)? {
-        Job::Run(universes, form) => Ok((universes, form)),
-        Job::Check(_) | Job::Render(_) | Job::Sheet(_) | Job::Make(_) => Err(WordsFault::Usage),
-        Job::Undo(_) | Job::Two(_) | Job::Crew(..) => Err(WordsFault::Usage),
+        Job::Script(kind, form) => match kind {
+            ScriptKind::Live(universes) => Ok((universes, form)),
+            ScriptKind::Render | ScriptKind::Undo | ScriptKind::Two => Err(WordsFault::Usage),
+        },
+        Job::Check(_) | Job::Sheet(_) | Job::Make(_) | Job::Crew(..) => Err(WordsFault::Usage),
     }
 }
 
@@ -75,8 +78,7 @@ pub(crate) fn crew_of(alloc: Global, words: &[String]) -> Result<(u8, Form), Wor
 {
     match words_of(alloc, words)? {
         Job::Crew(operators, form) => Ok((operators, form)),
-        Job::Check(_) | Job::Render(_) | Job::Sheet(_) | Job::Make(_) => Err(WordsFault::Usage),
-        Job::Run(..) | Job::Undo(_) | Job::Two(_) => Err(WordsFault::Usage),
+        Job::Check(_) | Job::Sheet(_) | Job::Make(_) | Job::Script(..) => Err(WordsFault::Usage),
     }
 }
 
@@ -123,31 +125,39 @@ fn job_in(words: &[&str]) -> Option<Job>
     let (name, rest) = words.split_first()?;
     match *name {
         "check" => form_in(rest).map(Job::Check),
-        "render" => form_in(rest).map(Job::Render),
+        "render" => script_in(ScriptKind::Render, rest),
         "sheet" => form_in(rest).map(Job::Sheet),
         "make" => number_alone(CUES as u32, rest).map(Job::Make),
         "run" => run_in(rest),
-        "undo" => form_in(rest).map(Job::Undo),
-        "two" => form_in(rest).map(Job::Two),
+        "undo" => script_in(ScriptKind::Undo, rest),
+        "two" => script_in(ScriptKind::Two, rest),
         "crew" => crew_in(rest),
         _ => None,
     }
 }
 
+/// A script of this kind, and how the levels are read.
+fn script_in(kind: ScriptKind, words: &[&str]) -> Option<Job>
+    ensures { result ≡ option_map (Script kind) (form_of (map (λ word. word.now) words.now)) }
+{
+    let form = form_in(words)?;
+    Some(Job::Script(kind, form))
+}
+
 /// How many universes are played live, and how the levels are read.
 fn run_in(words: &[&str]) -> Option<Job>
-    ensures job { result ≡ run_of (map (λ word. word.now) words.now) }
+    ensures job { result ≡ counted_job UNIVERSES (λ universes. Script (Live universes)) (map (λ word. word.now) words.now) }
     ensures range { IfSome result InRange }
 {
     let (word, rest) = words.split_first()?;
     let universes = plain_number(u32::from(UNIVERSES), word)?;
     let form = form_in(rest)?;
-    Some(Job::Run(universes as u8, form))
+    Some(Job::Script(ScriptKind::Live(universes as u8), form))
 }
 
 /// How many operators there are, and how the levels are read.
 fn crew_in(words: &[&str]) -> Option<Job>
-    ensures job { result ≡ crew_given (map (λ word. word.now) words.now) }
+    ensures job { result ≡ counted_job OPERATORS Crew (map (λ word. word.now) words.now) }
     ensures range { IfSome result InRange }
 {
     let (word, rest) = words.split_first()?;

@@ -25,22 +25,20 @@ use Rattle.lx_reader.proofs.LineSteps.{record-said, record_said}
 use Rattle.lx_reader.proofs.OpenSteps.{opened}
 
 -- the record that stood where a bare one of the number was put has that number
-pub number_there : {A : Type 0} (key : A → ℕ) (bare x : A) (n : ℕ) (xs : List A) (o : Option A) → key bare ≡ n
-    → o ≡ entry_at key (key bare) xs → o ≡ Some x → key x ≡ n
-number_there key bare x n xs o number found is =
-    entry_number key n xs x (ap (λ k. entry_at key k xs) (sym number) ∙ sym found ∙ is)
+pub number_there : {A : Type 0} (key : A → ℕ) (x : A) (n : ℕ) (xs : List A) (o : Option A) → o ≡ entry_at key n xs → o ≡ Some x → key x ≡ n
+number_there key x n xs o found is = entry_number key n xs x (sym found ∙ is)
 
 -- and is valid
-pub valid_there : {A : Type 0} (P : A → Type 0) (key : A → ℕ) (bare x : A) (n : ℕ) (xs : List A) (o : Option A) → key bare ≡ n
-    → o ≡ entry_at key (key bare) xs → o ≡ Some x → AllByRecursion P xs → P x
-valid_there P key bare x n xs o number found is all = found_valid P key (key bare) xs x all (sym found ∙ is)
+pub valid_there : {A : Type 0} (P : A → Type 0) (key : A → ℕ) (x : A) (n : ℕ) (xs : List A) (o : Option A) → o ≡ entry_at key n xs
+    → o ≡ Some x → AllByRecursion P xs → P x
+valid_there P key x n xs o found is all = found_valid P key n xs x all (sym found ∙ is)
 
 -- put back it leaves the records as they were
 pub put_back : {A : Type 0} (key : A → ℕ) (new : ℕ → A) (bare x : A) (n : ℕ) (xs ys : List A) (o : Option A) → IsStrictlySorted key xs
-    → key bare ≡ n → o ≡ entry_at key (key bare) xs → o ≡ Some x → ys ≡ placed key bare xs → placed key x ys ≡ with_entry key new n xs
+    → key bare ≡ n → o ≡ entry_at key n xs → o ≡ Some x → ys ≡ placed key bare xs → placed key x ys ≡ with_entry key new n xs
 put_back {A} key new bare x n xs ys o sorted number found is left =
-    let here : key x ≡ n = number_there key bare x n xs o number found is in
-    let there : entry_at key n xs ≡ Some x = ap (λ k. entry_at key k xs) (sym number) ∙ sym found ∙ is in
+    let here : key x ≡ n = number_there key x n xs o found is in
+    let there : entry_at key n xs ≡ Some x = sym found ∙ is in
     ap (placed key x) left ∙ placed_again key bare x xs (here ∙ sym number)
     ∙ placed_same key x xs sorted (ap (λ k. entry_at key k xs) here ∙ there)
     ∙ sym (ap (λ (o : Option A). cond (is_some o) xs (placed key (new n) xs)) there)

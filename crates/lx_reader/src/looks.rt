@@ -54,22 +54,10 @@ fn look_moves(
 {
     let mut moves = MoveList::new(alloc);
     for n in 0..channels {
-        let chan = channel(n + 1);
+        let chan = Chan::at(n as usize);
         put_move(&mut moves, last_look(front, chan), cue, chan)?;
     }
     Ok(moves)
-}
-
-/// The channel of a number.
-fn channel(n: u32) -> Chan
-    requires least { 1 ≤ n }
-    requires most { n ≤ CHANNELS }
-    ensures { result ≡ n }
-{
-    match Chan::new(n) {
-        Some(chan) => chan,
-        None => unreachable!(),
-    }
 }
 
 /// The channel's level in the look of the last cue, or 0.

@@ -410,19 +410,8 @@ fn any_move(index: usize) -> Move
     ensures { result.chan ≡ index + 1 }
 {
     Move {
-        chan: channel(index),
+        chan: Chan::at(index),
         part: PartNo::BASE,
         level: 0,
-    }
-}
-
-/// The channel of an index.
-fn channel(index: usize) -> Chan
-    requires { index < CHANNELS }
-    ensures { result ≡ index + 1 }
-{
-    match Chan::new(index as u32 + 1) {
-        Some(chan) => chan,
-        None => unreachable!(),
     }
 }

@@ -102,7 +102,7 @@ pub(crate) fn open_cue(alloc: Global, show: &mut Show, n: CueNo) -> Cue
     if entry_of(show.cues(), n.get()).is_none() {
         return Cue::new(alloc, n);
     }
-    match show.exchange_cue(Cue::new(alloc, n)) {
+    match show.exchange_cue(n, Some(Cue::new(alloc, n))) {
         Some(cue) => cue,
         None => unreachable!(),
     }
@@ -118,7 +118,7 @@ pub(crate) fn open_group(alloc: Global, show: &mut Show, g: GroupNo) -> Group
     if entry_of(show.groups(), g.get()).is_none() {
         return Group::new(alloc, g);
     }
-    match show.exchange_group(Group::new(alloc, g)) {
+    match show.exchange_group(g, Some(Group::new(alloc, g))) {
         Some(group) => group,
         None => unreachable!(),
     }
@@ -134,7 +134,7 @@ pub(crate) fn open_sub(alloc: Global, show: &mut Show, s: SubNo) -> Sub
     if entry_of(show.subs(), s.get()).is_none() {
         return Sub::new(alloc, s);
     }
-    match show.exchange_sub(Sub::new(alloc, s)) {
+    match show.exchange_sub(s, Some(Sub::new(alloc, s))) {
         Some(sub) => sub,
         None => unreachable!(),
     }

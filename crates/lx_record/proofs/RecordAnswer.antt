@@ -52,19 +52,18 @@ above_may levels show n true cue (Some kept) number is valid =
     kept_fits levels show n cue kept (cue_above show n) number refl is valid
 above_may levels show n false cue (Some kept) number is valid = cc
 
-kept_stands : (levels : ℕ → ℕ) (show : Show) (n : ℕ) (cue kept : Cue) (o : Option Cue) → cue.number ≡ n → cue_above show n ≡ o
-    → Some kept ≡ option_map (kept_cue levels show) o → IsAbove show cue.number kept
-kept_stands levels show n cue kept None number above is = cc
-kept_stands levels show n cue kept (Some x) number above is =
-    subst (λ (k : ℕ). IsAbove show k kept) (sym number)
-    (above_is show n x kept (ap (λ (y : Cue). y.number) (some_is kept (kept_cue levels show x) is)) above)
+kept_stands : (levels : ℕ → ℕ) (show : Show) (n : ℕ) (kept : Cue) (o : Option Cue) → cue_above show n ≡ o
+    → Some kept ≡ option_map (kept_cue levels show) o → IsAbove show n kept
+kept_stands levels show n kept None above is = cc
+kept_stands levels show n kept (Some x) above is =
+    above_is show n x kept (ap (λ (y : Cue). y.number) (some_is kept (kept_cue levels show x) is)) above
 
 -- and stands above the recorded one
-pub above_stands : (levels : ℕ → ℕ) (show : Show) (n : ℕ) (only : Bool) (cue : Cue) (above : Option Cue) → cue.number ≡ n
-    → above ≡ above_kept levels show n only → IfSome above (IsAbove show cue.number)
-above_stands levels show n only cue None number is = tt
-above_stands levels show n true cue (Some kept) number is = kept_stands levels show n cue kept (cue_above show n) number refl is
-above_stands levels show n false cue (Some kept) number is = cc
+pub above_stands : (levels : ℕ → ℕ) (show : Show) (n : ℕ) (only : Bool) (above : Option Cue) → above ≡ above_kept levels show n only
+    → IfSome above (IsAbove show n)
+above_stands levels show n only None is = tt
+above_stands levels show n true (Some kept) is = kept_stands levels show n kept (cue_above show n) refl is
+above_stands levels show n false (Some kept) is = cc
 
 -- memory was wanting
 pub wants_memory : (meant : Result Show Refusal) (show : Show) (refusal : Refusal) → meant ≡ Ok show → refusal ≡ Memory

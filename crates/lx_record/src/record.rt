@@ -1,6 +1,6 @@
 //! The record of the stage as a cue.
 
-ghost use Rattle.std.specs.Prelude.{◌≡◌, ◌≢◌, IfOk, IfSome, MatchResult, Ok};
+ghost use Rattle.std.specs.Prelude.{◌≡◌, ◌≢◌, IfOk, IfSome, MatchResult, Ok, Some, false};
 ghost use Rattle.lx_spec.specs.EditedShow.{with_cue};
 ghost use Rattle.lx_spec.specs.RecordedLevels.{recorded, with_recorded};
 ghost use Rattle.lx_spec.specs.Desk.{Desk};
@@ -36,7 +36,7 @@ pub fn plan_record(console: &Console, n: CueNo, only: bool) -> Result<Plan, Refu
     ensures plans { (d : Desk) → StandsFor d console.now → PlansRecord console.now.show (recorded d n only) result }
 {
     let cues = recorded_cues(console, n, only)?;
-    Ok(plan_of(cues))
+    Ok(plan_of(n, cues))
 }
 
 /// The same show, of the levels over the live runs.
@@ -60,15 +60,13 @@ struct RecordedCues {
 /// The cues that the record of the levels over the live runs places.
 fn recorded_cues(console: &Console, n: CueNo, only: bool) -> Result<RecordedCues, Refusal>
     requires { n ≢ 0 }
-    ensures ready { IfOk result (λ cues. IsReady console.now.show (Plan.PlaceCues cues.cue cues.above)) }
+    ensures ready { IfOk result (λ cues. IsReady console.now.show (Plan.Cue n (Some cues.cue) cues.above false)) }
     ensures records { MatchResult result
         (λ cues. with_recorded (level_now console.now) console.now.show n only
         ≡ Ok (with_above cues.above (with_cue console.now.show cues.cue)))
         (IsRefused (with_recorded (level_now console.now) console.now.show n only)) }
 {
     let before = console.show();
-    // For its proof alone: the show is valid.
-    let _ = before.channels();
     if !before.has_room_for(n) {
         return Err(Refusal::CueLimit);
     }
@@ -77,12 +75,17 @@ fn recorded_cues(console: &Console, n: CueNo, only: bool) -> Result<RecordedCues
     Ok(RecordedCues { cue, above })
 }
 
-/// The plan that places the cues.
-fn plan_of(cues: RecordedCues) -> Plan
-    ensures { result ≡ Plan.PlaceCues cues.cue cues.above }
+/// The plan that places the cues, of which the recorded one has the number.
+fn plan_of(number: CueNo, cues: RecordedCues) -> Plan
+    ensures { result ≡ Plan.Cue number (Some cues.cue) cues.above false }
 {
     let RecordedCues { cue, above } = cues;
-    Plan::PlaceCues { cue, above }
+    Plan::Cue {
+        number,
+        to: Some(cue),
+        above,
+        keeps: false,
+    }
 }
 
 /// The show with the cues. There is room for them.

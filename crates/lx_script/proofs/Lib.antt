@@ -3,5 +3,5 @@ pub mod Ready
 pub mod FirstWords
 pub mod WordLengths
 pub mod Phrases
-pub mod EditLines
 pub mod UndoLines
+pub mod ReadLines

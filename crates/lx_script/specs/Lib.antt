@@ -1,5 +1,5 @@
 pub mod Cells
 pub mod ReplyTexts
 pub mod FirstWords
-pub mod Briefs
 pub mod UndoLines
+pub mod LinesWithUndo

@@ -11,17 +11,17 @@ use crate::phrase::{
 };
 use lx_base::{CueNo, PartNo};
 use lx_lex::{Tokens, rest_after};
-use lx_spec::{Command, Edit, Label, Line};
+use lx_spec::{Command, Edit, LabelText, Line};
 
 /// The line that asks for an edit.
-pub(crate) fn edit(change: Edit) -> Line
-    ensures { result ≡ edit change }
+pub(crate) fn edit(change: Edit<'_>) -> Line<'_>
+    ensures { result ≡ edit change.entry }
 {
     Line::Command(Command::Edit(change))
 }
 
 /// `cue n`
-pub(crate) fn make_cue(mut rest: Tokens) -> Option<Line>
+pub(crate) fn make_cue(mut rest: Tokens) -> Option<Line<'_>>
     ensures { result ≡ cue_edit Edit.MakeCue (left rest.entry) }
 {
     let cue = cue_number(&mut rest)?;
@@ -29,7 +29,7 @@ pub(crate) fn make_cue(mut rest: Tokens) -> Option<Line>
 }
 
 /// `delete n [only]`
-pub(crate) fn delete(mut rest: Tokens) -> Option<Line>
+pub(crate) fn delete(mut rest: Tokens) -> Option<Line<'_>>
     ensures { result ≡ delete_line (left rest.entry) }
 {
     let cue = cue_number(&mut rest)?;
@@ -38,7 +38,7 @@ pub(crate) fn delete(mut rest: Tokens) -> Option<Line>
 }
 
 /// `set n chan a [thru b] at L [part p] [only]` or `set n group g at L [part p] [only]`
-pub(crate) fn set(mut rest: Tokens) -> Option<Line>
+pub(crate) fn set(mut rest: Tokens) -> Option<Line<'_>>
     ensures { result ≡ set_line (left rest.entry) }
 {
     let cue = cue_number(&mut rest)?;
@@ -50,7 +50,7 @@ pub(crate) fn set(mut rest: Tokens) -> Option<Line>
 }
 
 /// `a [thru b] at L [part p] [only]`
-fn set_channels(cue: CueNo, mut rest: Tokens) -> Option<Line>
+fn set_channels(cue: CueNo, mut rest: Tokens) -> Option<Line<'_>>
     ensures { result ≡ set_channels cue (left rest.entry) }
 {
     let range = channels(&mut rest)?;
@@ -67,7 +67,7 @@ fn set_channels(cue: CueNo, mut rest: Tokens) -> Option<Line>
 }
 
 /// `g at L [part p] [only]`
-fn set_group(cue: CueNo, mut rest: Tokens) -> Option<Line>
+fn set_group(cue: CueNo, mut rest: Tokens) -> Option<Line<'_>>
     ensures { result ≡ set_group cue (left rest.entry) }
 {
     let group = group(&mut rest)?;
@@ -84,7 +84,7 @@ fn set_group(cue: CueNo, mut rest: Tokens) -> Option<Line>
 }
 
 /// `release n chan a [thru b] [only]`
-pub(crate) fn release(mut rest: Tokens) -> Option<Line>
+pub(crate) fn release(mut rest: Tokens) -> Option<Line<'_>>
     ensures { result ≡ release_line (left rest.entry) }
 {
     let cue = cue_number(&mut rest)?;
@@ -95,7 +95,7 @@ pub(crate) fn release(mut rest: Tokens) -> Option<Line>
 }
 
 /// `time n [part p] up t [d]` or `time n [part p] down t [d]`: part 1 where none is named.
-pub(crate) fn part_time(mut rest: Tokens) -> Option<Line>
+pub(crate) fn part_time(mut rest: Tokens) -> Option<Line<'_>>
     ensures { result ≡ time_line (left rest.entry) }
 {
     let cue = cue_number(&mut rest)?;
@@ -108,7 +108,7 @@ pub(crate) fn part_time(mut rest: Tokens) -> Option<Line>
 }
 
 /// `t [d]`: no delay where it is absent.
-fn time_and_delay(cue: CueNo, part: PartNo, rising: bool, mut rest: Tokens) -> Option<Line>
+fn time_and_delay(cue: CueNo, part: PartNo, rising: bool, mut rest: Tokens) -> Option<Line<'_>>
     ensures { result ≡ time_edit cue part rising (left rest.entry) }
 {
     let time = time(&mut rest)?;
@@ -123,7 +123,7 @@ fn time_and_delay(cue: CueNo, part: PartNo, rising: bool, mut rest: Tokens) -> O
 }
 
 /// `part n p`
-pub(crate) fn add_part(mut rest: Tokens) -> Option<Line>
+pub(crate) fn add_part(mut rest: Tokens) -> Option<Line<'_>>
     ensures { result ≡ part_edit Edit.AddPart (left rest.entry) }
 {
     let cue = cue_number(&mut rest)?;
@@ -132,7 +132,7 @@ pub(crate) fn add_part(mut rest: Tokens) -> Option<Line>
 }
 
 /// `unpart n p`
-pub(crate) fn delete_part(mut rest: Tokens) -> Option<Line>
+pub(crate) fn delete_part(mut rest: Tokens) -> Option<Line<'_>>
     ensures { result ≡ part_edit Edit.DeletePart (left rest.entry) }
 {
     let cue = cue_number(&mut rest)?;
@@ -141,7 +141,7 @@ pub(crate) fn delete_part(mut rest: Tokens) -> Option<Line>
 }
 
 /// `block n`
-pub(crate) fn block(mut rest: Tokens) -> Option<Line>
+pub(crate) fn block(mut rest: Tokens) -> Option<Line<'_>>
     ensures { result ≡ cue_edit Edit.Block (left rest.entry) }
 {
     let cue = cue_number(&mut rest)?;
@@ -149,7 +149,7 @@ pub(crate) fn block(mut rest: Tokens) -> Option<Line>
 }
 
 /// `unblock n`
-pub(crate) fn unblock(mut rest: Tokens) -> Option<Line>
+pub(crate) fn unblock(mut rest: Tokens) -> Option<Line<'_>>
     ensures { result ≡ cue_edit Edit.Unblock (left rest.entry) }
 {
     let cue = cue_number(&mut rest)?;
@@ -157,7 +157,7 @@ pub(crate) fn unblock(mut rest: Tokens) -> Option<Line>
 }
 
 /// `assert n`
-pub(crate) fn assert(mut rest: Tokens) -> Option<Line>
+pub(crate) fn assert(mut rest: Tokens) -> Option<Line<'_>>
     ensures { result ≡ cue_edit (λ n. Edit.Asserted n true) (left rest.entry) }
 {
     let cue = cue_number(&mut rest)?;
@@ -165,7 +165,7 @@ pub(crate) fn assert(mut rest: Tokens) -> Option<Line>
 }
 
 /// `unassert n`
-pub(crate) fn unassert(mut rest: Tokens) -> Option<Line>
+pub(crate) fn unassert(mut rest: Tokens) -> Option<Line<'_>>
     ensures { result ≡ cue_edit (λ n. Edit.Asserted n false) (left rest.entry) }
 {
     let cue = cue_number(&mut rest)?;
@@ -173,7 +173,7 @@ pub(crate) fn unassert(mut rest: Tokens) -> Option<Line>
 }
 
 /// `follow n t` or `follow n off`
-pub(crate) fn follow(mut rest: Tokens) -> Option<Line>
+pub(crate) fn follow(mut rest: Tokens) -> Option<Line<'_>>
     ensures { result ≡ follow_line (left rest.entry) }
 {
     let cue = cue_number(&mut rest)?;
@@ -185,10 +185,10 @@ pub(crate) fn follow(mut rest: Tokens) -> Option<Line>
 }
 
 /// `label n`, and a label that is made from the rest of the line after two tokens.
-pub(crate) fn label(line: &[u8], mut rest: Tokens) -> Option<Line>
+pub(crate) fn label<'a>(line: &'a [u8], mut rest: Tokens<'a>) -> Option<Line<'a>>
     ensures { result ≡ label_line line.now (left rest.entry) }
 {
     let cue = cue_number(&mut rest)?;
-    let label = Label::new(rest_after(line, 2));
+    let label = LabelText::new(rest_after(line, 2));
     Some(edit(Edit::Name { cue, label }))
 }

@@ -10,7 +10,7 @@ use lx_lex::Tokens;
 use lx_spec::{Edit, Line};
 
 /// `group g chan a [thru b] at L`
-pub(crate) fn group_members(mut rest: Tokens) -> Option<Line>
+pub(crate) fn group_members(mut rest: Tokens) -> Option<Line<'_>>
     ensures { result ≡ group_line (left rest.entry) }
 {
     let group = group(&mut rest)?;
@@ -28,7 +28,7 @@ pub(crate) fn group_members(mut rest: Tokens) -> Option<Line>
 }
 
 /// `sub s chan a [thru b] at L`
-pub(crate) fn sub_members(mut rest: Tokens) -> Option<Line>
+pub(crate) fn sub_members(mut rest: Tokens) -> Option<Line<'_>>
     ensures { result ≡ sub_line (left rest.entry) }
 {
     let sub = sub(&mut rest)?;
@@ -39,7 +39,7 @@ pub(crate) fn sub_members(mut rest: Tokens) -> Option<Line>
 }
 
 /// `patch e chan c at L`
-pub(crate) fn patch(mut rest: Tokens) -> Option<Line>
+pub(crate) fn patch(mut rest: Tokens) -> Option<Line<'_>>
     ensures { result ≡ patch_line (left rest.entry) }
 {
     let dimmer = dimmer(&mut rest)?;
@@ -57,7 +57,7 @@ pub(crate) fn patch(mut rest: Tokens) -> Option<Line>
 }
 
 /// `unpatch e`
-pub(crate) fn unpatch(mut rest: Tokens) -> Option<Line>
+pub(crate) fn unpatch(mut rest: Tokens) -> Option<Line<'_>>
     ensures { result ≡ unpatch_line (left rest.entry) }
 {
     let dimmer = dimmer(&mut rest)?;

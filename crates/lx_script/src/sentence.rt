@@ -4,24 +4,24 @@ ghost use Rattle.std.specs.Prelude.{◌≡◌};
 ghost use Rattle.lx_script.specs.FirstWords.{sentence_of};
 ghost use Rattle.lx_lex.specs.Left.{left};
 
-use crate::brief::{Brief, line_of_brief};
 use crate::first_word::FirstWord;
+use crate::phrase::ended;
 use crate::{edits, groups_and_patch, keys};
 use lx_lex::Tokens;
 use lx_spec::{Line, PlayKey};
 
 /// What a line with this first word and these further tokens means.
-pub(crate) fn sentence(word: FirstWord, line: &[u8], rest: Tokens) -> Option<Line>
+pub(crate) fn sentence<'a>(word: FirstWord, line: &'a [u8], rest: Tokens<'a>) -> Option<Line<'a>>
     ensures { result ≡ sentence_of line.now word (left rest.entry) }
 {
     match word {
-        FirstWord::Go => line_of_brief(keys::play(PlayKey::Go, rest)),
-        FirstWord::Back => line_of_brief(keys::play(PlayKey::Back, rest)),
-        FirstWord::Goto => line_of_brief(keys::goto(rest)),
-        FirstWord::Settle => line_of_brief(keys::play(PlayKey::Settle, rest)),
-        FirstWord::Fader => line_of_brief(keys::fader(rest)),
-        FirstWord::Master => line_of_brief(keys::master(rest)),
-        FirstWord::Tick => line_of_brief(keys::ticks(rest)),
+        FirstWord::Go => keys::play(PlayKey::Go, rest),
+        FirstWord::Back => keys::play(PlayKey::Back, rest),
+        FirstWord::Goto => keys::goto(rest),
+        FirstWord::Settle => keys::play(PlayKey::Settle, rest),
+        FirstWord::Fader => keys::fader(rest),
+        FirstWord::Master => keys::master(rest),
+        FirstWord::Tick => keys::ticks(rest),
         FirstWord::Cue => edits::make_cue(rest),
         FirstWord::Delete => edits::delete(rest),
         FirstWord::Set => edits::set(rest),
@@ -39,9 +39,9 @@ pub(crate) fn sentence(word: FirstWord, line: &[u8], rest: Tokens) -> Option<Lin
         FirstWord::Sub => groups_and_patch::sub_members(rest),
         FirstWord::Patch => groups_and_patch::patch(rest),
         FirstWord::Unpatch => groups_and_patch::unpatch(rest),
-        FirstWord::Frame => line_of_brief(keys::frame(rest)),
-        FirstWord::Sheet => line_of_brief(keys::sheet(rest)),
-        FirstWord::Save => line_of_brief(keys::alone(Brief::Save, rest)),
-        FirstWord::Quit => line_of_brief(keys::alone(Brief::Quit, rest)),
+        FirstWord::Frame => keys::frame(rest),
+        FirstWord::Sheet => keys::sheet(rest),
+        FirstWord::Save => ended(rest, Line::Save),
+        FirstWord::Quit => ended(rest, Line::Quit),
     }
 }

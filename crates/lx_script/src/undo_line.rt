@@ -2,25 +2,38 @@
 
 ghost use Rattle.std.specs.Prelude.{◌≡◌, ◌∷◌, false, None, IfSome};
 ghost use Rattle.lx_spec.specs.Text.{tokens};
-ghost use Rattle.lx_spec.specs.UndoSession.{undo_line_of, undo_meaning, record_line};
+ghost use Rattle.lx_spec.specs.UndoSession.{undo_meaning, record_line};
 ghost use Rattle.lx_lex.specs.Left.{left};
 ghost use Rattle.lx_script.specs.UndoLines.{NamesCue, is_other_letter};
+ghost use Rattle.lx_script.specs.LinesWithUndo.{IsReadWithUndo, IsValidWithUndo, MeansWithUndo};
 
+use crate::first_word::first_word;
+use crate::line::read_line;
 use crate::phrase::{cue_number, ended, only_or_end};
+use crate::sentence::sentence;
 use lx_base::LINE_BYTES;
 use lx_lex::{Tokens, tokens, word_is};
-use lx_spec::UndoLine;
+use lx_spec::{Line, UndoLine};
 
-/// What a script line, without its LF, asks of the history. `None` exactly where it is none of the three lines, or has
-/// more than `LINE_BYTES` bytes: what it means then is for `read_brief` to say. Words are read in either case.
+/// What a script line means where edits can be undone.
+#[derive(PartialEq, Eq, Drop)]
+pub enum LineWithUndo<'a> {
+    /// It asks this of the history.
+    OfHistory(UndoLine),
+    /// It asks nothing of the history, and means this to the desk: nothing where it is bad.
+    OfDesk(Option<Line<'a>>),
+}
+
+/// What a script line means, without its LF, where edits can be undone. It is for the history exactly where it is one of the
+/// three lines, and has at most `LINE_BYTES` bytes; else it means what `read_line` says. Words are read in either case.
 ///
 /// A line that begins with another letter than those three costs the look at that letter.
-pub fn read_undo_line(line: &[u8]) -> Option<UndoLine>
-    ensures meaning { result ≡ undo_line_of line.now }
-    ensures cue { IfSome result NamesCue }
+pub fn read_line_with_undo(line: &[u8]) -> LineWithUndo<'_>
+    ensures meaning { IsReadWithUndo result line.now }
+    ensures valid { IsValidWithUndo result }
 {
     if line.len() > LINE_BYTES || !may_ask(line) {
-        return None;
+        return LineWithUndo::OfDesk(read_line(line));
     }
     any_line(line)
 }
@@ -45,18 +58,35 @@ fn is_other_letter(b: u8) -> bool
     }
 }
 
-/// What a line of any length asks.
-fn any_line(line: &[u8]) -> Option<UndoLine>
-    ensures { result ≡ undo_meaning (tokens line.now) }
+/// What a line of any length means.
+fn any_line(line: &[u8]) -> LineWithUndo<'_>
+    ensures { MeansWithUndo result line.now (tokens line.now) }
 {
     let mut rest = tokens(line);
-    let first = rest.next()?;
-    by_word(first, rest)
+    match rest.next() {
+        None => LineWithUndo::OfDesk(Some(Line::Blank)),
+        Some(first) => by_word(first, line, rest),
+    }
 }
 
-/// What a line with this first word and these further tokens asks.
-fn by_word(first: &[u8], rest: Tokens) -> Option<UndoLine>
-    ensures { result ≡ undo_meaning (first.now ∷ left rest.entry) }
+/// What a line with this first word and these further tokens means.
+#[tactic(auto, using(crate::proofs::FirstWords::meaning_is))]
+fn by_word<'a>(first: &[u8], line: &'a [u8], rest: Tokens<'a>) -> LineWithUndo<'a>
+    ensures { MeansWithUndo result line.now (first.now ∷ left rest.entry) }
+{
+    if let Some(word) = first_word(first) {
+        return LineWithUndo::OfDesk(sentence(word, line, rest));
+    }
+    match history_line(first, rest) {
+        Some(what) => LineWithUndo::OfHistory(what),
+        None => LineWithUndo::OfDesk(None),
+    }
+}
+
+/// What a line with this first word and these further tokens asks of the history.
+fn history_line(first: &[u8], rest: Tokens) -> Option<UndoLine>
+    ensures meaning { result ≡ undo_meaning (first.now ∷ left rest.entry) }
+    ensures cue { IfSome result NamesCue }
 {
     if word_is(first, b"UNDO") {
         return ended(rest, UndoLine::Undo);

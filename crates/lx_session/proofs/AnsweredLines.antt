@@ -1,5 +1,5 @@
 -- A line that was attempted and replied to was answered.
-use Rattle.std.proofs.Common.{◌≡◌, ◌≤◌, ◌&&◌, ◌==◌, IsOk, ℕ, Bool, true, false, Option, Some, None, Result, Ok, Err, OnOk, List, [], ◌++◌, refl}
+use Rattle.std.proofs.Common.{◌≡◌, ◌≤◌, IsOk, IfSome, ℕ, Bool, true, false, Option, Some, None, Result, Ok, Err, OnOk, List, [], ◌++◌, refl}
 use Rattle.std.proofs.Common.{sym, ap, ◌∙◌, subst, arith, append-nil}
 use Rattle.std.specs.Prelude.{is_some}
 use Rattle.lx_io.specs.declared.sink.SinkFault.{SinkFault}
@@ -9,26 +9,26 @@ use Rattle.lx_spec.specs.declared.Command.TheVariants as commands
 use Rattle.lx_spec.specs.declared.Line.{Line}
 use Rattle.lx_spec.specs.declared.Line.TheVariants as lines
 use Rattle.lx_spec.specs.declared.Refusal.{Refusal}
-use Rattle.lx_spec.specs.Desk.{Desk, step}
+use Rattle.lx_spec.specs.Desk.{Desk, step, is_edit}
 use Rattle.lx_spec.specs.Kept.{Kept}
-use Rattle.lx_spec.specs.Session.{Session, Counts, command_of, count_of, after_attempts, bad_reply}
-use Rattle.lx_spec.specs.RefusedPlaces.{is_edit, IsAcceptedEdit}
+use Rattle.lx_spec.specs.Session.{Session, Counts, bad_reply}
+use Rattle.lx_spec.specs.DeskSession.{DeskState, Attempt, command_of, count_of, tried, after_attempts, IsAcceptedEdit, MayFailAt}
 use Rattle.lx_console.specs.ConsoleMeaning.{StandsFor}
 use Rattle.lx_session.specs.declared.tally.Tally.{Tally}
 use Rattle.lx_session.specs.LineState.{LineState, next_of, unattempted}
-use Rattle.lx_session.specs.LineProgress.{LineProgress, IsWanted, resumed}
+use Rattle.lx_session.specs.LineProgress.{LineProgress, HasFailed, resumed}
 use Rattle.lx_session.specs.LineReply.{reply_to, reply_for, counts_after, counts_in, counted as counted_in}
 use Rattle.lx_script.specs.declared.reply.Reply.{Reply}
 use Rattle.lx_script.specs.declared.reply.Reply.TheVariants as replies
 use Rattle.lx_script.specs.ReplyTexts.{reply_text}
-use Rattle.lx_session.specs.Attempts.{ListenedAttempt, heard_of}
-use Rattle.lx_session.proofs.AttemptSteps.{attempted_so, begun}
+use Rattle.lx_session.specs.Attempts.{ListenedAttempt, heard_of, after_commands}
+use Rattle.lx_session.proofs.AttemptSteps.{attempted_so, nothing_yet}
 use Rattle.lx_session.proofs.Replies.{on_ok}
-use Rattle.lx_session.specs.LineAnswer.{GoesOn, LineAnswer}
-use Rattle.lx_session.proofs.RepliedLines.{over, finished, IsReplied}
+use Rattle.lx_session.specs.LineAnswer.{LineAnswer}
+use Rattle.lx_session.proofs.RepliedLines.{IsReplied, over, finished}
 
--- an edit that want of memory refuses is the command of its line
-edit_of_line : (d d' : Desk) (meaning : Option Line) → d' ≡ d → IsWanted d' (command_of meaning) → IsAcceptedEdit d meaning
+-- an edit whose attempt fails is the command of its line
+edit_of_line : (d d' : Desk) (meaning : Option Line) → d' ≡ d → HasFailed d' (command_of meaning) → IsAcceptedEdit d meaning
 edit_of_line d d' None same w = let e = w.is in cc
 edit_of_line d d' (Some (lines.Command c)) same w =
     let is = w.is in
@@ -51,7 +51,7 @@ edit_of_line d d' (Some lines.Quit) same w = let e = w.is in cc
 edit_of_line d d' (Some lines.Blank) same w = let e = w.is in cc
 
 -- a line that is an edit has one attempt
-one_attempt : (d : Desk) (meaning : Option Line) → IsWanted d (command_of meaning) → count_of meaning ≤ 1
+one_attempt : (d : Desk) (meaning : Option Line) → HasFailed d (command_of meaning) → count_of meaning ≤ 1
 one_attempt d None w = let e = w.is in cc
 one_attempt d (Some (lines.Command c)) w = omega arith
 one_attempt d (Some (lines.Ticks k)) w =
@@ -64,70 +64,135 @@ one_attempt d (Some (lines.SheetOf n)) w = let e = w.is in cc
 one_attempt d (Some lines.Quit) w = let e = w.is in cc
 one_attempt d (Some lines.Blank) w = let e = w.is in cc
 
--- what want of memory refused was refused
-refused_then : (r : Option Refusal) (b : Bool) → (r ≡ None → b ≡ false) → b ≡ true → is_some r ≡ true
-refused_then None b none is = let no : b ≡ false = none refl in cc
-refused_then (Some x) b none is = refl
+-- an attempt that failed was refused
+refused_then : (r : Option Refusal) (failed : Option ℕ) → (r ≡ None → failed ≡ None) → is_some failed ≡ true → is_some r ≡ true
+refused_then None failed none is = let no = ap is_some (none refl) in cc
+refused_then (Some x) failed none is = refl
 
-goes_on : (all : Bool) (heard : List Command → Type 0) (s : Session) (meaning : Option Line) (turn : LineState) (console : Kept)
+-- at such a line it may
+pub allowed_some : (failed : Option ℕ) (P : Type 0) → (is_some failed ≡ true → P) → IfSome failed (λ attempt. P)
+allowed_some None P may = tt
+allowed_some (Some k) P may = may refl
+
+may_fail : (all : Bool) (d : Desk) (meaning : Option Line) → (all ≡ true → IsAcceptedEdit d meaning) → MayFailAt all d meaning
+may_fail true d meaning edit = edit refl
+may_fail false d meaning edit = tt
+
+-- what a line's attempts came to
+pub came_to : (all : Bool) (heard : List Command → Type 0) (s : DeskState) (meaning : Option Line) (turn : LineState) (console : Kept)
     (t : LineProgress all heard s (unattempted meaning) turn console) → next_of turn ≡ None
-    → GoesOn all heard s (after_attempts meaning (record { session = t.now; refusal = turn.refusal })) meaning t.wants
-goes_on all heard s meaning turn console t done =
-    let r = finished t.now meaning turn.refusal in
-    record {
-      later = let le = t.later in let same = r.attempts in omega (arith, le, same);
-      some = λ is. let lt = t.some is in let same = r.attempts in omega (arith, lt, same);
-      by = λ places w.
-          let same : command_of meaning ≡ command_of turn.meaning = ap command_of (sym t.meaning) in
-          let tried = t.by places (λ n above within. let is = r.attempts in w n above (omega (arith, is, within))
-          ∙ ap (λ m. t.wants && n == m) r.attempts) in
-          ap (after_attempts meaning) (tried ∙ ap (λ c. resumed places c turn.left turn.refusal t.now) same ∙ over places turn t.now done);
-      at_edit = λ is every.
-          let w = t.at_edit is every in
-          edit_of_line s.desk t.now.desk meaning (t.still (one_attempt t.now.desk meaning w)
-          (refused_then turn.refusal t.wants t.not_yet is)) w;
-      commands = t.commands;
-      accepted = r.accepted ∙ t.accepted;
-      desk = r.desk ∙ t.desk;
-      listened = t.listened;
-    }
+    → tried (t.at None) s meaning ≡ record { state = t.now; refusal = turn.refusal }
+came_to all heard s meaning turn console t done =
+    t.by None ∙ ap (λ c. resumed None c turn.left turn.refusal t.now) (ap command_of (sym t.meaning)) ∙ over turn t.now done
+
+-- the attempt that failed is that of an edit
+pub at_an_edit : (all : Bool) (heard : List Command → Type 0) (s : DeskState) (meaning : Option Line) (turn : LineState) (console : Kept)
+    (t : LineProgress all heard s (unattempted meaning) turn console) → is_some (t.at None) ≡ true → all ≡ true
+    → IsAcceptedEdit s.desk meaning
+at_an_edit all heard s meaning turn console t is every =
+    let w = t.at_edit is every in
+    edit_of_line s.desk t.now.desk meaning
+    (t.still (one_attempt t.now.desk meaning w) (refused_then turn.refusal (t.at None) t.not_yet is)) w
+
+-- A line was attempted at a desk, in a session of any kind that had counted so, and replied to.
+pub record TurnAnswer {K T : Type 0} (all : Bool) (heard : List Command → Type 0) (holds : K → Option (List ℕ)) (faults wants : K → ℕ)
+    (sink sink' : K) (result : Result T SinkFault) (counted : Counts) (start : DeskState) (meaning : Option Line) (console : Kept)
+    (tally : Tally) : Type 0 where
+  pub failed : Option ℕ
+  pub now : DeskState
+  pub refusal : Option Refusal
+  pub is : tried failed start meaning ≡ record { state = now; refusal = refusal }
+  pub at_edit : is_some failed ≡ true → all ≡ true → IsAcceptedEdit start.desk meaning
+  pub commands : List Command
+  pub accepted : now.accepted ≡ start.accepted ++ commands
+  pub desk : now.desk ≡ after_commands start.desk commands
+  pub listened : heard commands
+  pub stands : StandsFor now.desk console
+  pub puts : Puts holds faults wants sink sink' result (reply_to now.desk meaning refusal)
+  pub counts : OnOk result (counts_after now.desk counted meaning refusal ≡ counts_in tally)
 
 -- a fact where the answer is Ok, from another
 pub over_ok : {T E : Type 0} (r : Result T E) (P Q : Type 0) → (P → Q) → OnOk r P → OnOk r Q
 over_ok (Ok x) P Q f p = f p
 over_ok (Err e) P Q f p = tt
 
-counts_are : (s t next : Session) (meaning meaning' : Option Line) (refusal : Option Refusal) (before after : Counts)
-    → IsReplied t meaning refusal next → meaning' ≡ meaning → t.counts ≡ s.counts → s.counts ≡ before
-    → after ≡ counts_after t.desk before meaning' refusal → next.counts ≡ after
-counts_are s t next meaning meaning' refusal before after r same kept counted e =
-    let here : counts_after t.desk t.counts meaning refusal ≡ counts_after t.desk before meaning refusal =
-    ap (λ (c : Counts). counts_after t.desk c meaning refusal) (kept ∙ counted) in
-    let there : counts_after t.desk before meaning' refusal ≡ counts_after t.desk before meaning refusal =
-    ap (λ (m : Option Line). counts_after t.desk before m refusal) same in
-    r.counts ∙ here ∙ sym (e ∙ there)
+counts_are : (d : Desk) (own : Counts) (meaning meaning' : Option Line) (refusal : Option Refusal) (before after : Counts)
+    → meaning' ≡ meaning → own ≡ before → after ≡ counts_after d before meaning' refusal → counts_after d own meaning refusal ≡ after
+counts_are d own meaning meaning' refusal before after same counted e =
+    ap (λ (c : Counts). counts_after d c meaning refusal) counted ∙ sym (e ∙ ap (λ (m : Option Line). counts_after d before m refusal) same)
+
+pub turn_answered : {K T : Type 0} (all : Bool) (heard : List Command → Type 0) (holds : K → Option (List ℕ)) (faults wants : K → ℕ)
+    (sink sink' : K) (result : Result T SinkFault) (own : Counts) (start : DeskState) (meaning : Option Line) (turn : LineState)
+    (console : Kept) (before after : Tally)
+    → LineProgress all heard start (unattempted meaning) turn console → next_of turn ≡ None → own ≡ counts_in before
+    → ((d : Desk) → StandsFor d console → Puts holds faults wants sink sink' result (reply_to d turn.meaning turn.refusal))
+    → ((d : Desk) → StandsFor d console → OnOk result (counts_in after ≡ counts_after d (counts_in before) turn.meaning turn.refusal))
+    → TurnAnswer all heard holds faults wants sink sink' result own start meaning console after
+turn_answered all heard holds faults wants sink sink' result own start meaning turn console before after t done counted puts counts =
+    let same : turn.meaning ≡ meaning = t.meaning in
+    record {
+      failed = t.at None;
+      now = t.now;
+      refusal = turn.refusal;
+      is = came_to all heard start meaning turn console t done;
+      at_edit = at_an_edit all heard start meaning turn console t;
+      commands = t.commands;
+      accepted = t.accepted;
+      desk = t.desk;
+      listened = t.listened;
+      stands = t.stands;
+      puts = subst (λ m. Puts holds faults wants sink sink' result (reply_to t.now.desk m turn.refusal)) same (puts t.now.desk t.stands);
+      counts = over_ok result _ _ (λ e. counts_are t.now.desk own meaning turn.meaning turn.refusal (counts_in before) (counts_in after) same
+          counted e) (counts t.now.desk t.stands);
+    }
+
+-- The session with the reply: its state, text and counts.
+pub with_reply_is : {S Q : Type 0} (s : Session S) (meaning : Option Line) (t : Attempt) (state : Q)
+    → IsReplied (record { state = state; text = s.text; counts = s.counts }) meaning t.state.desk t.refusal (after_attempts s meaning t state)
+with_reply_is s meaning t state = finished (record { state = state; text = s.text; counts = s.counts }) meaning t.state.desk t.refusal
+
+-- what is counted
+pub counted_so : {T E : Type 0} (r : Result T E) (next told after : Counts) → next ≡ told → OnOk r (told ≡ after) → OnOk r (next ≡ after)
+counted_so (Ok x) next told after is e = is ∙ e
+counted_so (Err x) next told after is e = tt
+
+-- a line of the desk's own session
+pub line_answered : {K T : Type 0} (all : Bool) (heard : List Command → Type 0) (holds : K → Option (List ℕ)) (faults wants : K → ℕ)
+    (sink sink' : K) (result : Result T SinkFault) (s : Session DeskState) (meaning : Option Line) (console : Kept) (tally : Tally)
+    → TurnAnswer all heard holds faults wants sink sink' result s.counts s.state meaning console tally
+    → LineAnswer all heard holds faults wants sink sink' result s meaning console tally
+line_answered all heard holds faults wants sink sink' result s meaning console tally a =
+    let t : Attempt = record { state = a.now; refusal = a.refusal } in
+    let r = with_reply_is s meaning t a.now in
+    record {
+      next = after_attempts s meaning t a.now;
+      failed = a.failed;
+      goes_on = record {
+        is = ap (λ (v : Attempt). after_attempts s meaning v v.state) a.is;
+        allowed = allowed_some a.failed (MayFailAt all s.state.desk meaning) (λ is. may_fail all s.state.desk meaning (a.at_edit is));
+        commands = a.commands;
+        accepted = ap (λ (v : DeskState). v.accepted) r.state ∙ a.accepted;
+        desk = ap (λ (v : DeskState). v.desk) r.state ∙ a.desk;
+        listened = a.listened;
+      };
+      stands = subst (λ (v : DeskState). StandsFor v.desk console) (sym r.state) a.stands;
+      reply = reply_to a.now.desk meaning a.refusal;
+      text = r.text;
+      puts = a.puts;
+      counts = counted_so result (after_attempts s meaning t a.now).counts (counts_after a.now.desk s.counts meaning a.refusal)
+          (counts_in tally) r.counts a.counts;
+    }
 
 pub answered : {K T : Type 0} (all : Bool) (heard : List Command → Type 0) (holds : K → Option (List ℕ)) (faults wants : K → ℕ)
-    (sink sink' : K) (result : Result T SinkFault) (s : Session) (meaning : Option Line) (turn : LineState) (console : Kept)
+    (sink sink' : K) (result : Result T SinkFault) (s : Session DeskState) (meaning : Option Line) (turn : LineState) (console : Kept)
     (before after : Tally)
-    → LineProgress all heard s (unattempted meaning) turn console → next_of turn ≡ None → s.counts ≡ counts_in before
+    → LineProgress all heard s.state (unattempted meaning) turn console → next_of turn ≡ None → s.counts ≡ counts_in before
     → ((d : Desk) → StandsFor d console → Puts holds faults wants sink sink' result (reply_to d turn.meaning turn.refusal))
     → ((d : Desk) → StandsFor d console → OnOk result (counts_in after ≡ counts_after d (counts_in before) turn.meaning turn.refusal))
     → LineAnswer all heard holds faults wants sink sink' result s meaning console after
 answered all heard holds faults wants sink sink' result s meaning turn console before after t done counted puts counts =
-    let r = finished t.now meaning turn.refusal in
-    let same : turn.meaning ≡ meaning = t.meaning in
-    record {
-      next = after_attempts meaning (record { session = t.now; refusal = turn.refusal });
-      wanted = t.wants;
-      goes_on = goes_on all heard s meaning turn console t done;
-      stands = subst (λ d. StandsFor d console) (sym r.desk) t.stands;
-      reply = reply_to t.now.desk meaning turn.refusal;
-      text = r.text ∙ ap (λ v. v ++ reply_to t.now.desk meaning turn.refusal) t.text;
-      puts = subst (λ m. Puts holds faults wants sink sink' result (reply_to t.now.desk m turn.refusal)) same (puts t.now.desk t.stands);
-      counts = over_ok result _ _ (λ e. counts_are s t.now (after_attempts meaning (record { session = t.now; refusal = turn.refusal }))
-          meaning turn.meaning turn.refusal (counts_in before) (counts_in after) r same t.counts counted e) (counts t.now.desk t.stands);
-    }
+    line_answered all heard holds faults wants sink sink' result s meaning console after
+    (turn_answered all heard holds faults wants sink sink' result s.counts s.state meaning turn console before after t done counted puts counts)
 
 -- the reply to one command, and what it counts
 reply_is : (d : Desk) (command : Command) (refusal : Option Refusal)
@@ -147,8 +212,8 @@ none_left meaning (Some r) = refl
 
 -- A line of one command, which was attempted and replied to.
 pub one_command : {K T : Type 0} (all : Bool) (heard : List Command → Type 0) (holds : K → Option (List ℕ)) (faults wants : K → ℕ)
-    (sink sink' : K) (result : Result T SinkFault) (s : Session) (command : Command) (refusal : Option Refusal)
-    (before_it after_it : Kept) (before after : Tally) → StandsFor s.desk before_it → s.counts ≡ counts_in before
+    (sink sink' : K) (result : Result T SinkFault) (s : Session DeskState) (command : Command) (refusal : Option Refusal)
+    (before_it after_it : Kept) (before after : Tally) → StandsFor s.state.desk before_it → s.counts ≡ counts_in before
     → ((d : Desk) → StandsFor d before_it → ListenedAttempt all d command refusal after_it) → heard (heard_of command refusal)
     → (reply : Reply) → reply ≡ reply_for refusal → Puts holds faults wants sink sink' result (reply_text reply)
     → counts_in after ≡ counted_in reply (counts_in before)
@@ -159,8 +224,8 @@ one_command all heard holds faults wants sink sink' result s command refusal bef
     let old : LineState = unattempted meaning in
     answered all heard holds faults wants sink sink' result s meaning (record { meaning = meaning; left = 0; refusal = refusal }) after_it
     before after
-    (attempted_so all (λ done. done ≡ []) heard s old old (record { meaning = meaning; left = 0; refusal = refusal }) command refusal
-    before_it after_it (begun all (λ done. done ≡ []) s before_it stands old refl refl) refl attempt
+    (attempted_so all (λ done. done ≡ []) heard s.state old old (record { meaning = meaning; left = 0; refusal = refusal }) command refusal
+    before_it after_it (nothing_yet all (λ done. done ≡ []) s.state before_it stands old refl refl) refl attempt
     (λ done none. subst (λ first. heard (first ++ heard_of command refusal)) (sym none) h) refl)
     (none_left meaning refusal) counted
     (λ d here. subst (Puts holds faults wants sink sink' result) (ap reply_text is ∙ reply_is d command refusal) puts)
@@ -168,24 +233,21 @@ one_command all heard holds faults wants sink sink' result s command refusal bef
 
 -- A bad line attempts nothing, and was replied to.
 pub bad_line : {K T : Type 0} (all : Bool) (heard : List Command → Type 0) (holds : K → Option (List ℕ)) (faults wants : K → ℕ)
-    (sink sink' : K) (result : Result T SinkFault) (s : Session) (console : Kept) (before after : Tally) → StandsFor s.desk console
+    (sink sink' : K) (result : Result T SinkFault) (s : Session DeskState) (console : Kept) (before after : Tally) → StandsFor s.state.desk console
     → s.counts ≡ counts_in before → heard [] → Puts holds faults wants sink sink' result (reply_text replies.Bad)
     → counts_in after ≡ counted_in replies.Bad (counts_in before)
     → LineAnswer all heard holds faults wants sink sink' result s None console after
 bad_line all heard holds faults wants sink sink' result s console before after stands counted h puts counts = record {
   next = bad_reply s;
-  wanted = false;
-  goes_on =
-      record {
-        later = omega arith;
-        some = λ odd. cc;
-        by = λ places w. refl;
-        at_edit = λ odd every. cc;
-        commands = [];
-        accepted = sym (append-nil s.accepted);
-        desk = refl;
-        listened = h;
-      };
+  failed = None;
+  goes_on = record {
+    is = refl;
+    allowed = tt;
+    commands = [];
+    accepted = sym (append-nil s.state.accepted);
+    desk = refl;
+    listened = h;
+  };
   stands = stands;
   reply = reply_text replies.Bad;
   text = refl;

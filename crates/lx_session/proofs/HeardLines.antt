@@ -12,16 +12,17 @@ use Rattle.lx_spec.specs.Kept.{Kept}
 use Rattle.lx_spec.specs.Desk.{Desk, after_command}
 use Rattle.lx_spec.specs.Text.{tokens}
 use Rattle.lx_spec.specs.Script.{line_of, meaning}
-use Rattle.lx_spec.specs.Session.{Session, is_quit, after_meaning}
-use Rattle.lx_spec.specs.SessionOf.{SessionOf}
+use Rattle.lx_spec.specs.Session.{Session, is_quit}
+use Rattle.lx_spec.specs.DeskSession.{DeskState, tried, after_meaning, desk_answering}
 use Rattle.lx_session.specs.declared.tally.Tally.{Tally}
 use Rattle.lx_session.specs.Attempts.{after_commands}
 use Rattle.lx_session.specs.Known.{Known}
+use Rattle.lx_session.specs.LineReply.{reply_to}
 use Rattle.lx_session.specs.LineState.{meaning_of}
-use Rattle.lx_session.specs.OneAnswer.{IsLine, IsLawful, OneAnswer}
+use Rattle.lx_session.specs.OneAnswer.{IsLine, ExtendsText, IsLawful, OneAnswer}
 use Rattle.lx_session.specs.LineAnswer.{LineAnswer}
-use Rattle.lx_session.specs.HeardDesk.{HeardDesk, HasHeard, HeardMayWant, heard_answer, plain, with_plain}
-use Rattle.lx_session.proofs.Places.{extends_line}
+use Rattle.lx_session.specs.Listening.{Beginning, HasDone, HasHeard}
+use Rattle.lx_session.proofs.RepliedLines.{finished}
 
 -- a line that is too long has no meaning
 too_long : (line : List ℕ) → LINE_BYTES < length line → None ≡ line_of line
@@ -34,7 +35,7 @@ meaning_is (Some line) text is = ap line_of is
 meaning_is None text long = too_long text long
 
 -- quit attempts nothing
-quit_is : (meaning : Option Line) → is_quit meaning ≡ true → meaning ≡ Some lines.Quit
+pub quit_is : (meaning : Option Line) → is_quit meaning ≡ true → meaning ≡ Some lines.Quit
 quit_is None q = cc
 quit_is (Some (lines.Command c)) q = cc
 quit_is (Some (lines.Ticks k)) q = cc
@@ -44,14 +45,23 @@ quit_is (Some (lines.SheetOf n)) q = cc
 quit_is (Some lines.Quit) q = refl
 quit_is (Some lines.Blank) q = cc
 
-pub quit_same : (places : List ℕ) (s : Session) (meaning : Option Line) → is_quit meaning ≡ true → after_meaning places s meaning ≡ s
-quit_same places s meaning q = ap (after_meaning places s) (quit_is meaning q)
+pub quit_same : (failed : Option ℕ) (s : Session DeskState) (meaning : Option Line) → is_quit meaning ≡ true
+    → after_meaning failed s meaning ≡ s
+quit_same failed s meaning q = ap (after_meaning failed s) (quit_is meaning q)
 
-pub heard_lawful : {L : Type 0} → IsLawful {State = HeardDesk L} heard_answer
-heard_lawful = record {
-  extends = λ places s line.
-      let e = extends_line places (plain s) (line_of line) in record { attempts = e.attempts; more = e.more; text = e.text };
-  ends = λ places s line q. ap (with_plain s.state) (quit_same places (plain s) (line_of line) q);
+-- a line adds its reply to the text
+pub extends_line : (failed : Option ℕ) (s : Session DeskState) (meaning : Option Line) → ExtendsText s (after_meaning failed s meaning)
+extends_line failed s meaning =
+    let t = tried failed s.state meaning in
+    record {
+      more = reply_to t.state.desk meaning t.refusal;
+      text = (finished (record s { state = t.state }) meaning t.state.desk t.refusal).text;
+    }
+
+pub desk_lawful : (all : Bool) → IsLawful (desk_answering all)
+desk_lawful all = record {
+  extends = λ failed s line. extends_line failed s (line_of line);
+  ends = λ failed s line q. quit_same failed s (line_of line) q;
 }
 
 -- the desk after all commands that were accepted, and after more
@@ -61,28 +71,23 @@ more_accepted d now next done more done' is then all = then ∙ ap (λ e. after_
     ∙ sym (fold-append after_command d done more) ∙ ap (after_commands d) (sym all)
 
 -- a line that was answered on the console was answered for the state
-pub answered_heard : {K T L : Type 0} (all : Bool) (heard : L → L → List Command → Type 0) (first now : L) (holds : K → Known)
-    (faults wants : K → ℕ) (sink sink' : K) (result : Result T SinkFault) (s : SessionOf (HeardDesk L)) (text : List ℕ)
+pub answered_heard : {K T L : Type 0} (all : Bool) (heard : L → L → List Command → Type 0) (since : Beginning L) (first now : L)
+    (holds : K → Known) (faults wants : K → ℕ) (sink sink' : K) (result : Result T SinkFault) (s : Session DeskState) (text : List ℕ)
     (before console : Kept) (tally : Tally)
     → ((last : L) (done more : List Command) → heard last first done → heard first now more → heard last now (done ++ more))
-    → HasHeard heard first before s.state
-    → LineAnswer all (heard first now) holds faults wants sink sink' result (plain s) (line_of text) console tally
-    → OneAnswer heard_answer (HeardMayWant all) holds faults wants sink sink' result s text (HasHeard heard now console) tally
-answered_heard all heard first now holds faults wants sink sink' result s text before console tally both h a = record {
-  next = with_plain s.state a.next;
-  wanted = a.wanted;
-  goes_on = record {
-    later = a.goes_on.later;
-    some = a.goes_on.some;
-    by = λ places wanted. ap (with_plain s.state) (a.goes_on.by places wanted);
-    allowed = a.goes_on.at_edit;
-  };
+    → HasHeard heard since s.state first before
+    → LineAnswer all (heard first now) holds faults wants sink sink' result s (line_of text) console tally
+    → OneAnswer (desk_answering all) holds faults wants sink sink' result s text (λ state. HasHeard heard since state now console) tally
+answered_heard all heard since first now holds faults wants sink sink' result s text before console tally both h a = record {
+  next = a.next;
+  failed = a.failed;
+  goes_on = record { is = a.goes_on.is; allowed = a.goes_on.allowed };
   stands = record {
     stands = a.stands;
-    desk = more_accepted s.state.opened s.state.desk a.next.desk s.state.accepted a.goes_on.commands a.next.accepted h.desk a.goes_on.desk
-        a.goes_on.accepted;
-    listened = subst (heard s.state.first now) (sym a.goes_on.accepted)
-        (both s.state.first s.state.accepted a.goes_on.commands h.listened a.goes_on.listened);
+    desk = more_accepted since.desk s.state.desk a.next.state.desk s.state.accepted a.goes_on.commands a.next.state.accepted h.desk
+        a.goes_on.desk a.goes_on.accepted;
+    listened = subst (heard since.listener now) (sym a.goes_on.accepted)
+        (both since.listener s.state.accepted a.goes_on.commands h.listened a.goes_on.listened);
   };
   reply = a.reply;
   text = a.text;

@@ -5,8 +5,7 @@ pub mod Replies
 pub mod RepliedLines
 pub mod Commands
 pub mod AnsweredLines
-pub mod Places
-pub mod AnsweredPlaces
+pub mod EachLine
 pub mod HeardLines
 pub mod ReplyOutcomes
 pub mod LineOutcomes

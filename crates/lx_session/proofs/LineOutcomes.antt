@@ -13,7 +13,7 @@ use Rattle.lx_lex.specs.CutOff.{NotTaken}
 use Rattle.lx_lex.specs.LinesHandedOut.{HandedOut}
 use Rattle.lx_lex.specs.Unread.{unread}
 use Rattle.lx_spec.specs.Text.{without_cr}
-use Rattle.lx_spec.specs.SessionOf.{SessionOf, Answer}
+use Rattle.lx_spec.specs.Session.{Session, Answering}
 use Rattle.lx_session.specs.declared.fault.SessionFault.{SessionFault}
 use Rattle.lx_session.specs.declared.tally.Tally.{Tally}
 use Rattle.lx_session.specs.Known.{Known}
@@ -31,38 +31,38 @@ front_kept : (a b c : Option (List ℕ)) (xs : List ℕ) → Keeps a b → Appen
 front_kept a b c xs p q = let front = AppendsFront-is b c xs q in AppendsFront-from a c xs front.0
     (kept_appends a b c (take front.0 xs) p front.1)
 
-untouched : {State : Type 0} (Stands : State → Type 0) (h h' h'' : Known) (s : SessionOf State) → Keeps h h' → Untouched Stands h' h'' s
+untouched : {State : Type 0} (Stands : State → Type 0) (h h' h'' : Known) (s : Session State) → Keeps h h' → Untouched Stands h' h'' s
     → Untouched Stands h h'' s
 untouched Stands h h' h'' s kept u = record { kept = Keeps-trans h h' h'' kept u.kept; stands = u.stands }
 
 -- this line was handed out and answered, after bytes were kept
-pub answered : {S State : Type 0} (answer : Answer State) (MayWant : State → List ℕ → Type 0) (Stood Stands : State → Type 0)
+pub answered : {S Since : Type 0} (by : Answering (List ℕ)) (Stood Stands : Since → by.State → Type 0)
     (left : S → Known) (faults : S → ℕ) (old new : Lines S) (h h' h'' : Known) (counted tally : Tally) (raw : List ℕ) (more : Bool)
     → HandedOut left faults old new (raw ∷ []) → Keeps h h'
-    → ReplyOutcome answer MayWant Stood Stands h' h'' counted tally (without_cr raw) (Ok more)
-    → LineOutcome answer MayWant Stood Stands left faults old new h h'' counted tally (Ok more)
-answered answer MayWant Stood Stands left faults old new h h' h'' counted tally raw true handed kept r = (
+    → ReplyOutcome by Stood Stands h' h'' counted tally (without_cr raw) (Ok more)
+    → LineOutcome by Stood Stands left faults old new h h'' counted tally (Ok more)
+answered by Stood Stands left faults old new h h' h'' counted tally raw true handed kept r = (
   record { raw = raw; handed = handed; more = r.0 },
-  λ s stands counts.
-      let w = r.1 s stands counts in
+  λ since s stands counts.
+      let w = r.1 since s stands counts in
       record {
         raw = raw;
         handed = handed;
         whole = record { reply = w.reply; done = w.done; appended = kept_appends h h' h'' w.reply kept w.appended; counts = w.counts };
       },
 )
-answered answer MayWant Stood Stands left faults old new h h' h'' counted tally raw false handed kept r = (
+answered by Stood Stands left faults old new h h' h'' counted tally raw false handed kept r = (
   inr (record { raw = raw; handed = handed; quits = r.0 }),
-  λ s stands counts. let e = r.1 s stands counts in record { same = untouched Stands h h' h'' s kept e.same; counts = e.counts },
+  λ since s stands counts. let e = r.1 since s stands counts in record { same = untouched (Stands since) h h' h'' s kept e.same; counts = e.counts },
 )
 
 -- the sink's fault is the session's
-of_sink : {S State : Type 0} (answer : Answer State) (MayWant : State → List ℕ → Type 0) (Stood Stands : State → Type 0)
+of_sink : {S Since : Type 0} (by : Answering (List ℕ)) (Stood Stands : Since → by.State → Type 0)
     (left : S → Known) (faults : S → ℕ) (old new : Lines S) (h h' : Known) (counted tally : Tally) (fault : SinkFault)
-    → FromSession Stood counted (SinkStop answer MayWant Stands left faults old new h h')
-    → LineOutcome answer MayWant Stood Stands left faults old new h h' counted tally (Err (fault_of fault))
-of_sink answer MayWant Stood Stands left faults old new h h' counted tally sinks.Failed p = p
-of_sink answer MayWant Stood Stands left faults old new h h' counted tally sinks.Memory p = p
+    → FromSession Stood counted (λ since s. SinkStop by (Stands since) left faults old new h h' s)
+    → LineOutcome by Stood Stands left faults old new h h' counted tally (Err (fault_of fault))
+of_sink by Stood Stands left faults old new h h' counted tally sinks.Failed p = p
+of_sink by Stood Stands left faults old new h h' counted tally sinks.Memory p = p
 
 -- and what holds of it holds of the answer that `?` makes of it
 pub through : {T : Type 0} (P : Result T SessionFault → Type 0) (r : Result T SessionFault) (fault : SessionFault) → IsErr r
@@ -71,17 +71,17 @@ through P (Ok x) fault is p = absurd is.1
 through P (Err own) fault is p = subst (λ v. P (Err v)) (sym is.1) p
 
 -- this line was handed out, and the sink failed at its reply
-pub unwritten : {S State : Type 0} (answer : Answer State) (MayWant : State → List ℕ → Type 0) (Stood Stands : State → Type 0)
+pub unwritten : {S Since : Type 0} (by : Answering (List ℕ)) (Stood Stands : Since → by.State → Type 0)
     (left : S → Known) (faults : S → ℕ) (old new : Lines S) (h h' h'' : Known) (counted tally : Tally) (raw : List ℕ)
     (fault : SinkFault) (result : Result Bool SessionFault)
     → IsErr result × IsErrAnd result (λ own. own ≡ fault_of fault) → HandedOut left faults old new (raw ∷ []) → Keeps h h'
-    → ReplyOutcome answer MayWant Stood Stands h' h'' counted tally (without_cr raw) (Err fault)
-    → LineOutcome answer MayWant Stood Stands left faults old new h h'' counted tally result
-unwritten answer MayWant Stood Stands left faults old new h h' h'' counted tally raw fault result err handed kept r =
-    through (LineOutcome answer MayWant Stood Stands left faults old new h h'' counted tally) result (fault_of fault) err
-    (of_sink answer MayWant Stood Stands left faults old new h h'' counted tally fault (λ s stands counts. elim (r s stands counts) [
+    → ReplyOutcome by Stood Stands h' h'' counted tally (without_cr raw) (Err fault)
+    → LineOutcome by Stood Stands left faults old new h h'' counted tally result
+unwritten by Stood Stands left faults old new h h' h'' counted tally raw fault result err handed kept r =
+    through (LineOutcome by Stood Stands left faults old new h h'' counted tally) result (fault_of fault) err
+    (of_sink by Stood Stands left faults old new h h'' counted tally fault (λ since s stands counts. elim (r since s stands counts) [
       | inl same ↦ inl (
-        untouched Stands h h' h'' s kept same.0,
+        untouched (Stands since) h h' h'' s kept same.0,
         inr (record { raw = raw; handed = handed; quits = same.1 }),
       )
       | inr part ↦ inr (record {
@@ -97,29 +97,29 @@ none_left (Some x) None p q = tt
 none_left (Some x) (Some y) p q = p ∙ sym q
 
 -- or at the end of the input
-pub end_unflushed : {S State : Type 0} (answer : Answer State) (MayWant : State → List ℕ → Type 0) (Stands : State → Type 0)
+pub end_unflushed : {S Since : Type 0} (by : Answering (List ℕ)) (Stands : Since → by.State → Type 0)
     (left : S → Known) (faults : S → ℕ) (old new : Lines S) (h h' h'' : Known) (counted tally : Tally) (fault : SinkFault)
     (result : Result Bool SessionFault)
     → IsErr result × IsErrAnd result (λ own. own ≡ fault_of fault) → Keeps h h' → Keeps h' h'' → IsAtEnd (unread left old)
-    → IsAtEnd (unread left new) → LineOutcome answer MayWant Stands Stands left faults old new h h'' counted tally result
-end_unflushed answer MayWant Stands left faults old new h h' h'' counted tally fault result err kept kept' end end' =
-    through (LineOutcome answer MayWant Stands Stands left faults old new h h'' counted tally) result (fault_of fault) err
-    (of_sink answer MayWant Stands Stands left faults old new h h'' counted tally fault (λ s stands counts.
+    → IsAtEnd (unread left new) → LineOutcome by Stands Stands left faults old new h h'' counted tally result
+end_unflushed by Stands left faults old new h h' h'' counted tally fault result err kept kept' end end' =
+    through (LineOutcome by Stands Stands left faults old new h h'' counted tally) result (fault_of fault) err
+    (of_sink by Stands Stands left faults old new h h'' counted tally fault (λ since s stands counts.
     inl (
       record { kept = Keeps-trans h h' h'' kept kept'; stands = stands },
       inl (none_left (unread left old) (unread left new) end end'),
     )))
 
-pub at_end : {S State : Type 0} (answer : Answer State) (MayWant : State → List ℕ → Type 0) (Stands : State → Type 0) (left : S → Known)
+pub at_end : {S Since : Type 0} (by : Answering (List ℕ)) (Stands : Since → by.State → Type 0) (left : S → Known)
     (faults : S → ℕ) (old new : Lines S) (h h' h'' : Known) (counted : Tally)
     → Keeps h h' → Keeps h' h'' → IsAtEnd (unread left old)
-    → LineOutcome answer MayWant Stands Stands left faults old new h h'' counted counted (Ok false)
-at_end answer MayWant Stands left faults old new h h' h'' counted kept kept' end = (
+    → LineOutcome by Stands Stands left faults old new h h'' counted counted (Ok false)
+at_end by Stands left faults old new h h' h'' counted kept kept' end = (
   inl end,
-  λ s stands counts. record { same = record { kept = Keeps-trans h h' h'' kept kept'; stands = stands }; counts = counts },
+  λ since s stands counts. record { same = record { kept = Keeps-trans h h' h'' kept kept'; stands = stands }; counts = counts },
 )
 
 -- the next line couldn't be taken, and nothing was done
-pub cut_off : {S State : Type 0} (Stands : State → Type 0) (left : S → Known) (old new : Lines S) (h h' : Known) (counted : Tally)
+pub cut_off : {S Since State : Type 0} (Stands : Since → State → Type 0) (left : S → Known) (old new : Lines S) (h h' : Known) (counted : Tally)
     → NotTaken left old new → Keeps h h' → UnreadLine Stands Stands left old new h h' counted
-cut_off Stands left old new h h' counted cut kept = record { cut = cut; same = λ s stands counts. record { kept = kept; stands = stands } }
+cut_off Stands left old new h h' counted cut kept = record { cut = cut; same = λ since s stands counts. record { kept = kept; stands = stands } }

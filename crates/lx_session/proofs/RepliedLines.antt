@@ -1,4 +1,4 @@
--- What a line's attempts and its reply make of a session.
+-- What a line's reply makes of a session.
 use Rattle.std.proofs.Common.{◌≡◌, ℕ, zero, suc, Bool, true, false, cond, ◌==◌, Option, Some, None, List, [], ◌∷◌, ◌++◌}
 use Rattle.std.proofs.Common.{refl, sym, ap, ◌∙◌, arith}
 use Rattle.std.specs.Prelude.{is_some, if◌then◌else◌}
@@ -9,94 +9,76 @@ use Rattle.lx_spec.specs.declared.Line.TheVariants as lines
 use Rattle.lx_spec.specs.declared.Refusal.{Refusal}
 use Rattle.lx_spec.specs.declared.Refusal.TheVariants.{AbsentCue}
 use Rattle.lx_spec.specs.TrackedLevel.{cue_of}
-use Rattle.lx_spec.specs.Replies.{row_text, row_of}
-use Rattle.lx_spec.specs.Session.{Session, Attempt, replied, refused_reply, with_text, command_of, attempts_for, after_attempts}
+use Rattle.lx_spec.specs.Desk.{Desk}
+use Rattle.lx_spec.specs.Replies.{row_text, row_of, refused_text}
+use Rattle.lx_spec.specs.Session.{Session, refused_reply, with_text}
+use Rattle.lx_spec.specs.DeskSession.{DeskState, Attempt, command_of, attempts_for, with_reply}
 use Rattle.lx_session.specs.LineState.{LineState, next_of}
 use Rattle.lx_session.specs.LineProgress.{resumed}
-use Rattle.lx_session.specs.LineReply.{tried_at, reply_to, counts_after}
+use Rattle.lx_session.specs.LineReply.{stateless, reply_to, counts_after}
 
 -- where there is nothing more to attempt
-over_at : (places : List ℕ) (meaning : Option Line) (left : ℕ) (refusal : Option Refusal) (t : Session)
+over_at : (meaning : Option Line) (left : ℕ) (refusal : Option Refusal) (t : DeskState)
     → next_of (record { meaning = meaning; left = left; refusal = refusal }) ≡ None
-    → resumed places (command_of meaning) left refusal t ≡ record { session = t; refusal = refusal }
-over_at places meaning left (Some r) t e = refl
-over_at places meaning zero None t e =
-    let at : (o : Option Command) → attempts_for places o zero t ≡ record { session = t; refusal = None } =
-    λ o. elim o as (λ o. attempts_for places o zero t ≡ record { session = t; refusal = None }) [ None ↦ refl | Some c ↦ refl ] in
+    → resumed None (command_of meaning) left refusal t ≡ record { state = t; refusal = refusal }
+over_at meaning left (Some r) t e = refl
+over_at meaning zero None t e =
+    let at : (o : Option Command) → attempts_for None o zero t ≡ record { state = t; refusal = None } =
+    λ o. elim o as (λ o. attempts_for None o zero t ≡ record { state = t; refusal = None }) [ None ↦ refl | Some c ↦ refl ] in
     at (command_of meaning)
-over_at places meaning (suc n) None t e =
+over_at meaning (suc n) None t e =
     let more : (suc n == 0) ≡ false = grind (arith, nat_tests) in
     let none : command_of meaning ≡ None = sym (ap (λ b. cond b None (command_of meaning)) more) ∙ e in
-    ap (λ o. attempts_for places o (suc n) t) none
+    ap (λ o. attempts_for None o (suc n) t) none
 
-pub over : (places : List ℕ) (turn : LineState) (t : Session) → next_of turn ≡ None
-    → resumed places (command_of turn.meaning) turn.left turn.refusal t ≡ record { session = t; refusal = turn.refusal }
-over places turn t e = over_at places turn.meaning turn.left turn.refusal t e
+pub over : (turn : LineState) (t : DeskState) → next_of turn ≡ None
+    → resumed None (command_of turn.meaning) turn.left turn.refusal t ≡ record { state = t; refusal = turn.refusal }
+over turn t e = over_at turn.meaning turn.left turn.refusal t e
 
--- What the reply makes of a session: the desk and the attempts stay, the text goes on by the reply, and the counts by the counts.
-pub record IsReplied (t : Session) (meaning : Option Line) (refusal : Option Refusal) (next : Session) : Type 0 where
-  pub desk : next.desk ≡ t.desk
-  pub attempts : next.attempts ≡ t.attempts
-  pub accepted : next.accepted ≡ t.accepted
-  pub text : next.text ≡ t.text ++ reply_to t.desk meaning refusal
-  pub counts : next.counts ≡ counts_after t.desk t.counts meaning refusal
+-- What the reply makes of a session: the state stays, the text goes on by the reply, and the counts by the counts.
+pub record IsReplied {S : Type 0} (s : Session S) (meaning : Option Line) (d : Desk) (refusal : Option Refusal) (next : Session S) : Type 0 where
+  pub state : next.state ≡ s.state
+  pub text : next.text ≡ s.text ++ reply_to d meaning refusal
+  pub counts : next.counts ≡ counts_after d s.counts meaning refusal
 
-replied_command : (t : Session) (refusal : Option Refusal) (meaning : Option Line)
-    → ((tried : Attempt) → after_attempts meaning tried ≡ replied tried)
-    → IsReplied t meaning refusal (replied (record { session = t; refusal = refusal }))
-replied_command t None meaning is = record {
-  desk = refl;
-  attempts = refl;
-  accepted = refl;
-  text = ap (λ s. t.text ++ s.text) (sym (is _));
-  counts =
-      ap (λ s. s.counts) (sym (is (tried_at t.desk t.counts None)));
-}
-replied_command t (Some r) meaning is = record {
-  desk = refl;
-  attempts = refl;
-  accepted = refl;
-  text = ap (λ s. t.text ++ s.text) (sym (is _));
-  counts =
-      ap (λ s. s.counts) (sym (is (tried_at t.desk t.counts (Some r))));
-}
+replied_command : {S : Type 0} (s : Session S) (d : Desk) (c : Command) (refusal : Option Refusal)
+    → IsReplied s (Some (lines.Command c)) d refusal (with_reply s (Some (lines.Command c)) d refusal)
+replied_command s d c None = record { state = refl; text = refl; counts = refl }
+replied_command s d c (Some r) = record { state = refl; text = refl; counts = refl }
+
+replied_ticks : {S : Type 0} (s : Session S) (d : Desk) (k : ℕ) (refusal : Option Refusal)
+    → IsReplied s (Some (lines.Ticks k)) d refusal (with_reply s (Some (lines.Ticks k)) d refusal)
+replied_ticks s d k None = record { state = refl; text = refl; counts = refl }
+replied_ticks s d k (Some r) = record { state = refl; text = refl; counts = refl }
 
 -- a row line, or that there is no such cue
-sheet : (t : Session) (n : ℕ) (refusal : Option Refusal) (b : Bool) → is_some (cue_of t.desk.show n) ≡ b
-    → IsReplied t (Some (lines.SheetOf n)) refusal
-    (if b then with_text t (row_text n (row_of t.desk.show n)) else refused_reply t (AbsentCue n))
-sheet t n refusal true is = record {
-  desk = refl;
-  attempts = refl;
-  accepted = refl;
-  text = ap (λ b. t.text ++ (if b then with_text (tried_at t.desk (record { ok = 0; refused = 0; bad = 0 }) refusal).session
-      (row_text n (row_of t.desk.show n)) else refused_reply (tried_at t.desk (record { ok = 0; refused = 0; bad = 0 }) refusal).session
-      (AbsentCue n)).text) (sym is);
-  counts = ap (λ b. (if b then with_text (tried_at t.desk t.counts refusal).session (row_text n (row_of t.desk.show n)) else refused_reply
-      (tried_at t.desk t.counts refusal).session (AbsentCue n)).counts) (sym is);
+abbrev row_or_not : {S : Type 0} → Session S → Desk → ℕ → Bool → Session S
+row_or_not s d n b = if b then with_text s (row_text n (row_of d.show n)) else refused_reply s (refused_text (AbsentCue n))
+
+sheet : {S : Type 0} (s : Session S) (d : Desk) (n : ℕ) (refusal : Option Refusal) (b : Bool) → is_some (cue_of d.show n) ≡ b
+    → IsReplied s (Some (lines.SheetOf n)) d refusal (row_or_not s d n b)
+sheet s d n refusal true is = record {
+  state = refl;
+  text = ap (λ b. s.text ++ (row_or_not (stateless (record { ok = 0; refused = 0; bad = 0 })) d n b).text) (sym is);
+  counts = ap (λ b. (row_or_not (stateless s.counts) d n b).counts) (sym is);
 }
-sheet t n refusal false is = record {
-  desk = refl;
-  attempts = refl;
-  accepted = refl;
-  text = ap (λ b. t.text ++ (if b then with_text (tried_at t.desk (record { ok = 0; refused = 0; bad = 0 }) refusal).session
-      (row_text n (row_of t.desk.show n)) else refused_reply (tried_at t.desk (record { ok = 0; refused = 0; bad = 0 }) refusal).session
-      (AbsentCue n)).text) (sym is);
-  counts = ap (λ b. (if b then with_text (tried_at t.desk t.counts refusal).session (row_text n (row_of t.desk.show n)) else refused_reply
-      (tried_at t.desk t.counts refusal).session (AbsentCue n)).counts) (sym is);
+sheet s d n refusal false is = record {
+  state = refl;
+  text = ap (λ b. s.text ++ (row_or_not (stateless (record { ok = 0; refused = 0; bad = 0 })) d n b).text) (sym is);
+  counts = ap (λ b. (row_or_not (stateless s.counts) d n b).counts) (sym is);
 }
 
 nothing_more : (xs : List ℕ) → xs ≡ xs ++ []
 nothing_more [] = refl
 nothing_more (x ∷ xs) = ap (λ v. x ∷ v) (nothing_more xs)
 
-pub finished : (t : Session) (meaning : Option Line) (refusal : Option Refusal)
-    → IsReplied t meaning refusal (after_attempts meaning (record { session = t; refusal = refusal }))
-finished t None refusal = record { desk = refl; attempts = refl; accepted = refl; text = refl; counts = refl }
-finished t (Some (lines.Command c)) refusal = replied_command t refusal (Some (lines.Command c)) (λ tried. refl)
-finished t (Some (lines.Ticks k)) refusal = replied_command t refusal (Some (lines.Ticks k)) (λ tried. refl)
-finished t (Some (lines.Frame u)) refusal = record { desk = refl; attempts = refl; accepted = refl; text = refl; counts = refl }
-finished t (Some lines.Save) refusal = record { desk = refl; attempts = refl; accepted = refl; text = refl; counts = refl }
-finished t (Some (lines.SheetOf n)) refusal = sheet t n refusal (is_some (cue_of t.desk.show n)) refl
-finished t (Some lines.Quit) refusal = record { desk = refl; attempts = refl; accepted = refl; text = nothing_more t.text; counts = refl }
-finished t (Some lines.Blank) refusal = record { desk = refl; attempts = refl; accepted = refl; text = nothing_more t.text; counts = refl }
+pub finished : {S : Type 0} (s : Session S) (meaning : Option Line) (d : Desk) (refusal : Option Refusal)
+    → IsReplied s meaning d refusal (with_reply s meaning d refusal)
+finished s None d refusal = record { state = refl; text = refl; counts = refl }
+finished s (Some (lines.Command c)) d refusal = replied_command s d c refusal
+finished s (Some (lines.Ticks k)) d refusal = replied_ticks s d k refusal
+finished s (Some (lines.Frame u)) d refusal = record { state = refl; text = refl; counts = refl }
+finished s (Some lines.Save) d refusal = record { state = refl; text = refl; counts = refl }
+finished s (Some (lines.SheetOf n)) d refusal = sheet s d n refusal (is_some (cue_of d.show n)) refl
+finished s (Some lines.Quit) d refusal = record { state = refl; text = nothing_more s.text; counts = refl }
+finished s (Some lines.Blank) d refusal = record { state = refl; text = nothing_more s.text; counts = refl }

@@ -8,14 +8,12 @@ use Rattle.std.proofs.KnownBytes.{Keeps-trans}
 use Rattle.lx_io.specs.declared.sink.SinkFault.{SinkFault}
 use Rattle.lx_io.specs.Puts.{Puts, AppendsFront}
 use Rattle.lx_io.proofs.Chain.{AppendsFront-is}
-use Rattle.lx_spec.specs.Session.{ends_script}
-use Rattle.lx_spec.specs.SessionOf.{SessionOf, Answer}
+use Rattle.lx_spec.specs.Session.{Session, Answering, ends_script}
 use Rattle.lx_session.specs.declared.tally.Tally.{Tally}
 use Rattle.lx_session.specs.Known.{Known}
 use Rattle.lx_session.specs.LineReply.{counts_in}
 use Rattle.lx_session.specs.OneAnswer.{IsLine, IsLawful, GoesOnBy, OneAnswer}
 use Rattle.lx_session.specs.LineOutcome.{Untouched, ReplyPrefix, FromSession, ReplyOutcome}
-use Rattle.lx_session.proofs.Places.{own_place, own-has}
 
 not_not : (b : Bool) → true ≡ not b → b ≡ false
 not_not true e = cc
@@ -46,11 +44,9 @@ is_quit_by result line b is off more =
     let told : b ≡ not (ends_script line) = subst (λ (r : Result Bool SinkFault). TellsMore r line) is more in
     not_yes (ends_script line) (sym off ∙ told)
 
-quit_stays : {State : Type 0} (answer : Answer State) (MayWant : State → List ℕ → Type 0) → IsLawful answer → (s next : SessionOf State)
-    (line : List ℕ) (wants : Bool) → GoesOnBy answer MayWant s next line wants → ends_script line ≡ true → s ≡ next
-quit_stays answer MayWant lawful s next line wants g q =
-    let places = own_place wants next.attempts in
-    sym (lawful.ends places s line q) ∙ g.by places (λ n above within. own-has wants next.attempts n)
+quit_stays : (by : Answering (List ℕ)) → IsLawful by → (s next : Session by.State) (line : List ℕ) (failed : Option ℕ)
+    → GoesOnBy by s next line failed → ends_script line ≡ true → s ≡ next
+quit_stays by lawful s next line failed g q = sym (lawful.ends failed s line q) ∙ g.is
 
 same_after : {A : Type 0} (xs ys : List A) → xs ≡ xs ++ ys → ys ≡ []
 same_after xs [] e = refl
@@ -67,20 +63,20 @@ front_at zero = refl
 front_at (suc n) = refl
 
 -- `quit` leaves the session as it was, whatever the sink answers
-record QuitAnswer {State : Type 0} (Stands : State → Type 0) (s next : SessionOf State) (reply : List ℕ) : Type 0 where
+record QuitAnswer {State : Type 0} (Stands : State → Type 0) (s next : Session State) (reply : List ℕ) : Type 0 where
   stays : s ≡ next
   stands : Stands s.state
   none : reply ≡ []
 
-quit_answer : {K State : Type 0} (answer : Answer State) (MayWant : State → List ℕ → Type 0) (Stands : State → Type 0) → IsLawful answer → (holds : K → Known)
-    (faults wants : K → ℕ) (sink sink' : K) (result : Result Bool SinkFault) (s : SessionOf State) (line : List ℕ) (tally : Tally)
-    → ends_script line ≡ true → (a : OneAnswer answer MayWant holds faults wants sink sink' result s line Stands tally)
+quit_answer : {K : Type 0} (by : Answering (List ℕ)) (Stands : by.State → Type 0) → IsLawful by → (holds : K → Known)
+    (faults wants : K → ℕ) (sink sink' : K) (result : Result Bool SinkFault) (s : Session by.State) (line : List ℕ) (tally : Tally)
+    → ends_script line ≡ true → (a : OneAnswer by holds faults wants sink sink' result s line Stands tally)
     → QuitAnswer Stands s a.next a.reply
-quit_answer answer MayWant Stands lawful holds faults wants sink sink' result s line tally q a =
-    let same = quit_stays answer MayWant lawful s a.next line a.wanted a.goes_on q in
+quit_answer by Stands lawful holds faults wants sink sink' result s line tally q a =
+    let same = quit_stays by lawful s a.next line a.failed a.goes_on q in
     record {
       stays = same;
-      stands = subst (λ (t : SessionOf _). Stands t.state) (sym same) a.stands;
+      stands = subst (λ (t : Session by.State). Stands t.state) (sym same) a.stands;
       none = same_after s.text a.reply (ap (λ t. t.text) same ∙ a.text);
     }
 
@@ -101,38 +97,38 @@ quit_fails holds faults wants sink sink' result fault reply is none puts =
     keeps_at (holds sink) (holds sink') (subst (λ (t : List ℕ). Appends (holds sink) (holds sink') t) (front_at front.0) front.1)
 
 -- the line was answered, and more is to come
-pub replied : {K State : Type 0} (answer : Answer State) (MayWant : State → List ℕ → Type 0) (Stood Stands : State → Type 0) → IsLawful answer → (holds : K → Known)
+pub replied : {K Since : Type 0} (by : Answering (List ℕ)) (Stood Stands : Since → by.State → Type 0) → IsLawful by → (holds : K → Known)
     (faults wants : K → ℕ) (sink sink' : K) (result : Result Bool SinkFault) (counted tally : Tally) (line : List ℕ) (b : Bool)
     → result ≡ Ok b → b ≡ true → TellsMore result line
-    → FromSession Stood counted (λ s. OneAnswer answer MayWant holds faults wants sink sink' result s line Stands tally)
-    → ReplyOutcome answer MayWant Stood Stands (holds sink) (holds sink') counted tally line (Ok true)
-replied answer MayWant Stood Stands lawful holds faults wants sink sink' result counted tally line b is on more answered =
+    → FromSession Stood counted (λ since s. OneAnswer by holds faults wants sink sink' result s line (Stands since) tally)
+    → ReplyOutcome by Stood Stands (holds sink) (holds sink') counted tally line (Ok true)
+replied by Stood Stands lawful holds faults wants sink sink' result counted tally line b is on more answered =
     let goes_on = goes_on_by result line b is on more in (
       goes_on,
-      λ s stands counts.
-          let a = answered s stands counts in
+      λ since s stands counts.
+          let a = answered since s stands counts in
           record {
             reply = a.reply;
-            done = record { more = goes_on; lawful = lawful; next = a.next; wanted = a.wanted; goes_on = a.goes_on; stands = a.stands; text = a.text };
+            done = record { more = goes_on; lawful = lawful; next = a.next; failed = a.failed; goes_on = a.goes_on; stands = a.stands; text = a.text };
             appended = subst (λ (r : Result Bool SinkFault). OnOk r (Appends (holds sink) (holds sink') a.reply)) is a.puts.whole;
             counts = subst (λ (r : Result Bool SinkFault). OnOk r (a.next.counts ≡ counts_in tally)) is a.counts;
           },
     )
 
 -- the line is `quit`, and the sink was flushed
-pub ended : {K State : Type 0} (answer : Answer State) (MayWant : State → List ℕ → Type 0) (Stood Stands : State → Type 0) → IsLawful answer → (holds : K → Known)
+pub ended : {K Since : Type 0} (by : Answering (List ℕ)) (Stood Stands : Since → by.State → Type 0) → IsLawful by → (holds : K → Known)
     (faults wants : K → ℕ) (sink sink' : K) (held : Known) (result : Result Bool SinkFault) (counted tally : Tally) (line : List ℕ)
     (b : Bool)
     → result ≡ Ok b → b ≡ false → TellsMore result line
-    → FromSession Stood counted (λ s. OneAnswer answer MayWant holds faults wants sink sink' result s line Stands tally)
+    → FromSession Stood counted (λ since s. OneAnswer by holds faults wants sink sink' result s line (Stands since) tally)
     → Keeps (holds sink') held
-    → ReplyOutcome answer MayWant Stood Stands (holds sink) held counted tally line (Ok false)
-ended answer MayWant Stood Stands lawful holds faults wants sink sink' held result counted tally line b is off more answered kept =
+    → ReplyOutcome by Stood Stands (holds sink) held counted tally line (Ok false)
+ended by Stood Stands lawful holds faults wants sink sink' held result counted tally line b is off more answered kept =
     let q = is_quit_by result line b is off more in (
       q,
-      λ s stands counts.
-          let a = answered s stands counts in
-          let e = quit_answer answer MayWant Stands lawful holds faults wants sink sink' result s line tally q a in
+      λ since s stands counts.
+          let a = answered since s stands counts in
+          let e = quit_answer by (Stands since) lawful holds faults wants sink sink' result s line tally q a in
           record {
             same = record {
               kept = Keeps-trans (holds sink) (holds sink') held
@@ -145,42 +141,42 @@ ended answer MayWant Stood Stands lawful holds faults wants sink sink' held resu
     )
 
 -- or the flush failed
-pub ended_unflushed : {K State : Type 0} (answer : Answer State) (MayWant : State → List ℕ → Type 0) (Stood Stands : State → Type 0) → IsLawful answer
+pub ended_unflushed : {K Since : Type 0} (by : Answering (List ℕ)) (Stood Stands : Since → by.State → Type 0) → IsLawful by
     → (holds : K → Known) (faults wants : K → ℕ) (sink sink' : K) (held : Known) (result : Result Bool SinkFault) (counted tally : Tally)
     (line : List ℕ) (b : Bool) (fault : SinkFault)
     → result ≡ Ok b → b ≡ false → TellsMore result line
-    → FromSession Stood counted (λ s. OneAnswer answer MayWant holds faults wants sink sink' result s line Stands tally)
+    → FromSession Stood counted (λ since s. OneAnswer by holds faults wants sink sink' result s line (Stands since) tally)
     → Keeps (holds sink') held
-    → ReplyOutcome answer MayWant Stood Stands (holds sink) held counted tally line (Err fault)
-ended_unflushed answer MayWant Stood Stands lawful holds faults wants sink sink' held result counted tally line b fault is off more answered
+    → ReplyOutcome by Stood Stands (holds sink) held counted tally line (Err fault)
+ended_unflushed by Stood Stands lawful holds faults wants sink sink' held result counted tally line b fault is off more answered
     kept =
-    let e = ended answer MayWant Stood Stands lawful holds faults wants sink sink' held result counted tally line b is off more answered
+    let e = ended by Stood Stands lawful holds faults wants sink sink' held result counted tally line b is off more answered
     kept in
-    λ s stands counts. inl ((e.1 s stands counts).same, e.0)
+    λ since s stands counts. inl ((e.1 since s stands counts).same, e.0)
 
 bool_or : (b : Bool) (P : Type 0) → (b ≡ true → P) → (b ≡ false → P) → P
 bool_or true P f g = f refl
 bool_or false P f g = g refl
 
 -- the sink failed within the reply
-pub unwritten : {K State : Type 0} (answer : Answer State) (MayWant : State → List ℕ → Type 0) (Stood Stands : State → Type 0) → IsLawful answer → (holds : K → Known)
+pub unwritten : {K Since : Type 0} (by : Answering (List ℕ)) (Stood Stands : Since → by.State → Type 0) → IsLawful by → (holds : K → Known)
     (faults wants : K → ℕ) (sink sink' : K) (result : Result Bool SinkFault) (counted tally : Tally) (line : List ℕ) (fault : SinkFault)
     → result ≡ Err fault
-    → FromSession Stood counted (λ s. OneAnswer answer MayWant holds faults wants sink sink' result s line Stands tally)
-    → ReplyOutcome answer MayWant Stood Stands (holds sink) (holds sink') counted tally line (Err fault)
-unwritten answer MayWant Stood Stands lawful holds faults wants sink sink' result counted tally line fault is answered s stands counts =
-    let a = answered s stands counts in
-    bool_or (ends_script line) ((Untouched Stands (holds sink) (holds sink') s × (ends_script line ≡ true))
-    ⊎ ReplyPrefix answer MayWant Stands (holds sink) (holds sink') s line)
+    → FromSession Stood counted (λ since s. OneAnswer by holds faults wants sink sink' result s line (Stands since) tally)
+    → ReplyOutcome by Stood Stands (holds sink) (holds sink') counted tally line (Err fault)
+unwritten by Stood Stands lawful holds faults wants sink sink' result counted tally line fault is answered since s stands counts =
+    let a = answered since s stands counts in
+    bool_or (ends_script line) ((Untouched (Stands since) (holds sink) (holds sink') s × (ends_script line ≡ true))
+    ⊎ ReplyPrefix by (Stands since) (holds sink) (holds sink') s line)
     (λ on.
-    let e = quit_answer answer MayWant Stands lawful holds faults wants sink sink' result s line tally on a in
+    let e = quit_answer by (Stands since) lawful holds faults wants sink sink' result s line tally on a in
     inl (
       record { kept = quit_fails holds faults wants sink sink' result fault a.reply is e.none a.puts; stands = e.stands },
       on,
     ))
     (λ off. inr (record {
       reply = a.reply;
-      done = record { more = off; lawful = lawful; next = a.next; wanted = a.wanted; goes_on = a.goes_on; stands = a.stands; text = a.text };
+      done = record { more = off; lawful = lawful; next = a.next; failed = a.failed; goes_on = a.goes_on; stands = a.stands; text = a.text };
       front = subst (λ (r : Result Bool SinkFault). OnErr r (AppendsFront (holds sink) (holds sink') a.reply)) is a.puts.part;
     }))
 

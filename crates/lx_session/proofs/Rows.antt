@@ -9,22 +9,23 @@ use Rattle.lx_spec.specs.TrackedLevel.{cue_of}
 use Rattle.lx_spec.specs.Desk.{Desk}
 use Rattle.lx_spec.specs.Kept.{Kept}
 use Rattle.lx_spec.specs.Replies.{row_of, row_text, refused_text}
-use Rattle.lx_spec.specs.Session.{with_text, refused_reply}
+use Rattle.lx_spec.specs.Session.{Session, with_text, refused_reply}
 use Rattle.lx_console.specs.ConsoleMeaning.{StandsFor}
-use Rattle.lx_session.specs.LineReply.{reply_to, tried_at}
+use Rattle.lx_session.specs.LineReply.{stateless, reply_to}
 
 -- no row, no cue
 absent : (o : Option Cue) (show : Show) (n : ℕ) → None ≡ option_map (λ (cue : Cue). row_of show n) o → is_some o ≡ false
 absent None show n e = refl
 absent (Some cue) show n e = absurd cc
 
+abbrev row_or_not : Desk → ℕ → Bool → Session (Unit {0})
+row_or_not d n b =
+    let s = stateless (record { ok = 0; refused = 0; bad = 0 }) in
+    if b then with_text s (row_text n (row_of d.show n)) else refused_reply s (refused_text (AbsentCue n))
+
 reply_at : (d : Desk) (n : ℕ) (refusal : Option Refusal) (b : Bool) → is_some (cue_of d.show n) ≡ b
-    → reply_to d (Some (lines.SheetOf n)) refusal
-    ≡ (if b then with_text (tried_at d (record { ok = 0; refused = 0; bad = 0 }) refusal).session (row_text n (row_of d.show n)) else
-    refused_reply (tried_at d (record { ok = 0; refused = 0; bad = 0 }) refusal).session (AbsentCue n)).text
-reply_at d n refusal b is = ap (λ b. (if b then with_text (tried_at d (record { ok = 0; refused = 0; bad = 0 }) refusal).session
-    (row_text n (row_of d.show n)) else refused_reply (tried_at d (record { ok = 0; refused = 0; bad = 0 }) refusal).session
-    (AbsentCue n)).text) is
+    → reply_to d (Some (lines.SheetOf n)) refusal ≡ (row_or_not d n b).text
+reply_at d n refusal b is = ap (λ b. (row_or_not d n b).text) is
 
 -- the console's show is the desk's
 same_show : (d : Desk) (console : Kept) → StandsFor d console → console.show ≡ d.show

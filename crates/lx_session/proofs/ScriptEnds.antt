@@ -1,4 +1,4 @@
--- How a session of any kind ends.
+-- How a session ends.
 use Rattle.std.proofs.Common.{◌≡◌, ◌⊎◌, inl, inr, ℕ, ◌+◌, ◌<◌, true, Result, Ok, Err, IsErr, Option, Some}
 use Rattle.std.proofs.Common.{None, IfSome, List, [], ◌∷◌, ◌++◌, map, length, take, drop, take-append-drop, take_all, sym, ap, ◌∙◌}
 use Rattle.std.proofs.Common.{subst, append-nil, append_assoc, length-append, arith}
@@ -19,8 +19,8 @@ use Rattle.lx_lex.proofs.CuttingOff.{cut_off}
 use Rattle.lx_lex.proofs.TakenLines.{all_texts}
 use Rattle.lx_spec.specs.Text.{without_cr, lines_of}
 use Rattle.lx_spec.specs.CutInput.{first_lines}
-use Rattle.lx_spec.specs.Session.{ends_script}
-use Rattle.lx_spec.specs.SessionOf.{SessionOf, Answer, begin_with, after_each, whole_session, session_after, WantsAtEach}
+use Rattle.lx_spec.specs.Session.{Session, Answering, begin_at, after_each, AreAllowed, ends_script, answered_lines}
+use Rattle.lx_spec.specs.Session.{whole_session, session_after, Allows}
 use Rattle.lx_session.specs.declared.tally.Tally.{Tally}
 use Rattle.lx_session.specs.Known.{Known}
 use Rattle.lx_session.specs.LineOutcome.{QuitLine, HalfAnsweredLine, Untouched, ScriptEnd, SinkStop, LineOutcome}
@@ -30,9 +30,8 @@ use Rattle.lx_session.specs.ScriptAnswer.{AnsweredWhole, AnsweredPrefix, Answere
 use Rattle.lx_session.specs.SessionOutcome.{KeepsLimit}
 use Rattle.lx_session.specs.declared.fault.SessionFault.{SessionFault}
 use Rattle.lx_session.specs.declared.fault.SessionFault.TheVariants.{ReadFault, WriteFault, InputTooLong, Memory}
-use Rattle.lx_session.proofs.Places.{own_place}
-use Rattle.lx_session.proofs.AnsweredPlaces.{extends_each, each_wants-append, each-append}
-use Rattle.lx_session.proofs.SoFar.{GoOn, Done, SoFar, Passed, done_more, no_place, over, with_both}
+use Rattle.lx_session.proofs.EachLine.{more_text, allowed_further}
+use Rattle.lx_session.proofs.SoFar.{GoOn, Done, SoFar, Passed, done_more, over, with_both}
 use Rattle.lx_session.proofs.SoFar.{begins, begins_more, ends_after, ends_here, too_long}
 
 -- what the lines before the end are
@@ -51,77 +50,58 @@ before_quit : (xs : List (List ℕ)) (l : List ℕ) (more : List (List ℕ)) →
     → before_first ends_script (xs ++ l ∷ more) ≡ xs
 before_quit xs l more all e = before_end xs (l ∷ more) all ∙ ap (λ n. xs ++ take n (l ∷ more)) (ends_here l more e) ∙ append-nil xs
 
--- The session of the lines that are done.
-done_is : {State : Type 0} (answer : Answer State) (MayWant : State → List ℕ → Type 0) (state : State) (lines : List (List ℕ))
-    (places : List ℕ) (now : SessionOf State) → Done answer MayWant state lines places now
-    → after_each answer places (begin_with state) lines ≡ now
-done_is answer MayWant state lines places now done =
-    ap (λ ps. after_each answer ps (begin_with state) lines) (sym (append-nil places))
-    ∙ done.is [] (λ n has. no_place 0 n (now.attempts < n) has)
-
-wants_all : {State : Type 0} (answer : Answer State) (MayWant : State → List ℕ → Type 0) (state : State) (lines : List (List ℕ))
-    (places : List ℕ) (now : SessionOf State) → Done answer MayWant state lines places now
-    → WantsAtEach answer MayWant places (begin_with state) lines
-wants_all answer MayWant state lines places now done =
-    subst (λ ps. WantsAtEach answer MayWant ps (begin_with state) lines) (append-nil places)
-    (done.wants [] (λ n has. no_place 0 n (now.attempts < n) has))
-
--- want of memory refuses none of the lines behind those that are done
-wants_more : {State : Type 0} (answer : Answer State) (MayWant : State → List ℕ → Type 0) (state : State)
-    (lines rest : List (List ℕ)) (places : List ℕ) (now : SessionOf State) → Done answer MayWant state lines places now
-    → WantsAtEach answer MayWant places (begin_with state) (lines ++ rest)
-wants_more answer MayWant state lines rest places now done =
-    each_wants-append answer MayWant places (begin_with state) lines rest (wants_all answer MayWant state lines places now done)
-    (subst (λ s. WantsAtEach answer MayWant places s rest) (sym (done_is answer MayWant state lines places now done))
-    (done.rest rest))
-
-answers_all : {State : Type 0} (answer : Answer State) (MayWant : State → List ℕ → Type 0) (Stands : State → Type 0) (state : State)
-    (script lines : List (List ℕ)) (places : List ℕ) (now : SessionOf State) (h h' : Known) (tally : Tally)
-    → before_first ends_script script ≡ lines → Done answer MayWant state lines places now → Appends h h' now.text → Stands now.state
-    → now.counts ≡ counts_in tally → AnsweredWhole answer MayWant Stands state script h h' tally
-answers_all {State = State} answer MayWant Stands state script lines places now h h' tally is done appended stands counts =
-    let same : whole_session answer state script places ≡ now = ap (after_each answer places (begin_with state)) is
-    ∙ done_is answer MayWant state lines places now done in
+-- The whole script was answered.
+answers_all : (by : Answering (List ℕ)) (Stands : by.State → Type 0) (state : by.State) (script lines : List (List ℕ))
+    (failures : List (Option ℕ)) (now : Session by.State) (h h' : Known) (tally : Tally)
+    → answered_lines script ≡ lines → Done by state lines failures now → Appends h h' now.text → Stands now.state
+    → now.counts ≡ counts_in tally → AnsweredWhole by Stands state script h h' tally
+answers_all by Stands state script lines failures now h h' tally is done appended stands counts =
+    let same : whole_session by state script failures ≡ now = ap (after_each by failures (begin_at state)) is ∙ done.is in
     record {
-      places = places;
-      wants = subst (λ ls. WantsAtEach answer MayWant places (begin_with state) ls) (sym is)
-          (wants_all answer MayWant state lines places now done);
-      text = subst (λ (s : SessionOf State). Appends h h' s.text) (sym same) appended;
+      failures = failures;
+      allows = subst (λ ls. AreAllowed by failures (begin_at state) ls) (sym is) done.allowed;
+      text = subst (λ (s : Session by.State). Appends h h' s.text) (sym same) appended;
       counts = sym (ap (λ s. s.counts) same ∙ counts);
-      stands = subst (λ (s : SessionOf State). Stands s.state) (sym same) stands;
+      stands = subst (λ (s : Session by.State). Stands s.state) (sym same) stands;
     }
 
 -- The script has ended: the whole text was written.
-pub so_far_ends : {S State : Type 0} (answer : Answer State) (MayWant : State → List ℕ → Type 0) (Stood Stands : State → Type 0)
-    (left : S → Known) (faults : S → ℕ) (a b c : Lines S) (state : State) (tally tally' : Tally) (h h' h'' : Known)
-    → (s : SoFar answer MayWant Stood left faults a b state tally h h') → ScriptEnd Stands h' h'' s.now tally'
+pub so_far_ends : {S : Type 0} (by : Answering (List ℕ)) (Stood Stands : by.State → Type 0)
+    (left : S → Known) (faults : S → ℕ) (a b c : Lines S) (state : by.State) (tally tally' : Tally) (h h' h'' : Known)
+    → (s : SoFar by Stood left faults a b state tally h h') → ScriptEnd Stands h' h'' s.now tally'
     → IsAtEnd (unread left b) ⊎ QuitLine left faults b c
-    → IfSome (unread left a) (λ bytes. AnsweredWhole answer MayWant Stands state (lines_of bytes) h h'' tally')
-so_far_ends answer MayWant Stood Stands left faults a b c state tally tally' h h' h'' s e how =
+    → IfSome (unread left a) (λ bytes. AnsweredWhole by Stands state (lines_of bytes) h h'' tally')
+so_far_ends by Stood Stands left faults a b c state tally tally' h h' h'' s e how =
     let lines = map without_cr s.raws in
     let appended = Appends-kept h h' h'' s.now.text s.appended e.same.kept in
     elim how [
       | inl end ↦
           over (unread left a) (λ xs. lines_of xs ≡ lines) _
           (all_texts (unread left a) (unread left b) a.taken b.taken s.raws s.handed.took end)
-          (λ xs is. answers_all answer MayWant Stands state (lines_of xs) lines s.places s.now h h'' tally'
+          (λ xs is. answers_all by Stands state (lines_of xs) lines s.failures s.now h h'' tally'
           (ap (before_first ends_script) is ∙ before_all lines s.done.go_on) s.done appended e.same.stands e.counts)
       | inr q ↦
           over (unread left a) _ _ (begins_more (unread left a) (unread left c) a.taken c.taken s.raws q.raw
           (handed_then left faults a b c s.raws (q.raw ∷ []) s.handed q.handed).took)
-          (λ xs is. answers_all answer MayWant Stands state (lines_of xs) lines s.places s.now h h'' tally'
+          (λ xs is. answers_all by Stands state (lines_of xs) lines s.failures s.now h h'' tally'
           (ap (before_first ends_script) is.1 ∙ before_quit lines (without_cr q.raw) is.0 s.done.go_on q.quits) s.done appended
           e.same.stands e.counts)
     ]
 
 -- The session of the first lines of a script.
-session_after_is : {State : Type 0} (answer : Answer State) (MayWant : State → List ℕ → Type 0) (state : State)
-    (script lines rest : List (List ℕ)) (places : List ℕ) (now : SessionOf State) (n : ℕ)
-    → before_first ends_script script ≡ lines ++ rest → take n (lines ++ rest) ≡ lines → Done answer MayWant state lines places now
-    → session_after answer state script places n ≡ now
-session_after_is answer MayWant state script lines rest places now n is first done =
-    ap (λ ls. after_each answer places (begin_with state) ls) (ap (take n) is ∙ first)
-    ∙ done_is answer MayWant state lines places now done
+session_after_is : (by : Answering (List ℕ)) (state : by.State) (script lines rest : List (List ℕ)) (failures : List (Option ℕ))
+    (now : Session by.State) (n : ℕ) → answered_lines script ≡ lines ++ rest → take n (lines ++ rest) ≡ lines
+    → Done by state lines failures now → session_after by state script failures n ≡ now
+session_after_is by state script lines rest failures now n is first done =
+    ap (λ ls. after_each by failures (begin_at state) ls) (ap (take n) is ∙ first) ∙ done.is
+
+-- attempts failed only where they may, and none of later lines
+allows_all : (by : Answering (List ℕ)) (state : by.State) (script lines rest : List (List ℕ)) (failures : List (Option ℕ))
+    (now : Session by.State) → answered_lines script ≡ lines ++ rest → Done by state lines failures now
+    → Allows by state script failures
+allows_all by state script lines rest failures now is done =
+    subst (λ ls. AreAllowed by failures (begin_at state) ls) (sym is)
+    (allowed_further by failures (begin_at state) lines rest done.each done.allowed)
 
 take_raws : (raws rest : List (List ℕ)) → take (length raws) (map without_cr raws ++ rest) ≡ map without_cr raws
 take_raws raws rest = ap (λ n. take n (map without_cr raws ++ rest)) (sym (length-map raws without_cr))
@@ -154,183 +134,200 @@ front_made a b front rest text is p = AppendsFront-from a b text (length front)
     (subst (λ (v : List ℕ). Appends a b v) (sym (ap (take (length front)) is ∙ take-append_seam front rest)) p)
 
 -- The sink failed.
-answers_front : {State : Type 0} (answer : Answer State) (MayWant : State → List ℕ → Type 0) (Stands : State → Type 0)
-    (state : State) (xs : List ℕ) (o : Known) (lines rest : List (List ℕ)) (places : List ℕ)
-    (now : SessionOf State) (n : ℕ) (h h' : Known) (written more : List ℕ)
-    → before_first ends_script (lines_of xs) ≡ lines ++ rest → take n (lines ++ rest) ≡ lines
-    → Done answer MayWant state lines places now → IfSome o (λ ys. xs ≡ first_lines n xs ++ ys) → now.text ≡ written ++ more
-    → Appends h h' written → Stands now.state → AnsweredPrefix answer MayWant Stands state xs o h h'
-answers_front {State = State} answer MayWant Stands state xs o lines rest places now n h h' written more is first done handed text appended
-    stands =
-    let same = session_after_is answer MayWant state (lines_of xs) lines rest places now n is first done in
+answers_front : (by : Answering (List ℕ)) (Stands : by.State → Type 0) (state : by.State) (xs : List ℕ) (o : Known)
+    (lines rest : List (List ℕ)) (failures : List (Option ℕ)) (now : Session by.State) (n : ℕ) (h h' : Known) (written more : List ℕ)
+    → answered_lines (lines_of xs) ≡ lines ++ rest → take n (lines ++ rest) ≡ lines → Done by state lines failures now
+    → IfSome o (λ ys. xs ≡ first_lines n xs ++ ys) → now.text ≡ written ++ more → Appends h h' written → Stands now.state
+    → AnsweredPrefix by Stands state xs o h h'
+answers_front by Stands state xs o lines rest failures now n h h' written more is first done handed text appended stands =
+    let same = session_after_is by state (lines_of xs) lines rest failures now n is first done in
     record {
-      places = places;
-      wants = subst (λ ls. WantsAtEach answer MayWant places (begin_with state) ls) (sym is)
-          (wants_more answer MayWant state lines rest places now done);
+      failures = failures;
+      allows = allows_all by state (lines_of xs) lines rest failures now is done;
       lines = n;
       handed = handed;
-      text = front_made h h' written more (session_after answer state (lines_of xs) places n).text (ap (λ s. s.text) same ∙ text) appended;
-      stands = subst (λ (s : SessionOf State). Stands s.state) (sym same) stands;
+      text = front_made h h' written more (session_after by state (lines_of xs) failures n).text (ap (λ s. s.text) same ∙ text) appended;
+      stands = subst (λ (s : Session by.State). Stands s.state) (sym same) stands;
     }
 
 -- between two lines
-stops : {S State : Type 0} (answer : Answer State) (MayWant : State → List ℕ → Type 0) (Stood Stands : State → Type 0)
-    (left : S → Known) (faults : S → ℕ) (a b c : Lines S) (state : State) (tally : Tally) (h h' h'' : Known)
-    → (s : SoFar answer MayWant Stood left faults a b state tally h h') → Untouched Stands h' h'' s.now
+stops : {S : Type 0} (by : Answering (List ℕ)) (Stood Stands : by.State → Type 0)
+    (left : S → Known) (faults : S → ℕ) (a b c : Lines S) (state : by.State) (tally : Tally) (h h' h'' : Known)
+    → (s : SoFar by Stood left faults a b state tally h h') → Untouched Stands h' h'' s.now
     → IfSome (unread left b) (λ xs. IfSome (unread left c) (λ ys. xs ≡ ys))
-    → IfSome (unread left a) (λ bytes. AnsweredPrefix answer MayWant Stands state bytes (unread left c) h h'')
-stops answer MayWant Stood Stands left faults a b c state tally h h' h'' s u same =
+    → IfSome (unread left a) (λ bytes. AnsweredPrefix by Stands state bytes (unread left c) h h'')
+stops by Stood Stands left faults a b c state tally h h' h'' s u same =
     let lines = map without_cr s.raws in
     with_both (unread left a) _ _ _ (begins (unread left a) (unread left b) a.taken b.taken s.raws s.handed.took)
     (handed_still (unread left a) (unread left b) (unread left c) a.taken b.taken s.raws s.handed.took same) (λ xs is handed.
-    answers_front answer MayWant Stands state xs (unread left c) lines (before_first ends_script is.0) s.places s.now
+    answers_front by Stands state xs (unread left c) lines (before_first ends_script is.0) s.failures s.now
     (length s.raws) h h'' s.now.text []
     (ap (before_first ends_script) is.1 ∙ before_end lines is.0 s.done.go_on) (take_raws s.raws (before_first ends_script is.0)) s.done
     handed
     (sym (append-nil s.now.text)) (Appends-kept h h' h'' s.now.text s.appended u.kept) u.stands)
 
 -- after the line that ends the script
-stops_at_quit : {S State : Type 0} (answer : Answer State) (MayWant : State → List ℕ → Type 0) (Stood Stands : State → Type 0)
-    (left : S → Known) (faults : S → ℕ) (a b c : Lines S) (state : State) (tally : Tally) (h h' h'' : Known)
-    → (s : SoFar answer MayWant Stood left faults a b state tally h h') → Untouched Stands h' h'' s.now → QuitLine left faults b c
-    → IfSome (unread left a) (λ bytes. AnsweredPrefix answer MayWant Stands state bytes (unread left c) h h'')
-stops_at_quit answer MayWant Stood Stands left faults a b c state tally h h' h'' s u q =
+stops_at_quit : {S : Type 0} (by : Answering (List ℕ)) (Stood Stands : by.State → Type 0)
+    (left : S → Known) (faults : S → ℕ) (a b c : Lines S) (state : by.State) (tally : Tally) (h h' h'' : Known)
+    → (s : SoFar by Stood left faults a b state tally h h') → Untouched Stands h' h'' s.now → QuitLine left faults b c
+    → IfSome (unread left a) (λ bytes. AnsweredPrefix by Stands state bytes (unread left c) h h'')
+stops_at_quit by Stood Stands left faults a b c state tally h h' h'' s u q =
     let lines = map without_cr s.raws in
     let both = handed_then left faults a b c s.raws (q.raw ∷ []) s.handed q.handed in
     with_both (unread left a) _ _ _ (begins_more (unread left a) (unread left c) a.taken c.taken s.raws q.raw both.took)
     (handed_all (unread left a) (unread left c) a.taken c.taken (s.raws ++ q.raw ∷ []) both.took) (λ xs is handed.
-    answers_front answer MayWant Stands state xs (unread left c) lines [] s.places s.now (length (s.raws ++ q.raw ∷ [])) h h''
+    answers_front by Stands state xs (unread left c) lines [] s.failures s.now (length (s.raws ++ q.raw ∷ [])) h h''
     s.now.text []
     (ap (before_first ends_script) is.1 ∙ before_quit lines (without_cr q.raw) is.0 s.done.go_on q.quits ∙ sym (append-nil lines))
     (take_past s.raws q.raw) s.done handed
     (sym (append-nil s.now.text)) (Appends-kept h h' h'' s.now.text s.appended u.kept) u.stands)
 
 -- within a reply
-stops_in_reply : {S State : Type 0} (answer : Answer State) (MayWant : State → List ℕ → Type 0) (Stood Stands : State → Type 0)
-    (left : S → Known) (faults : S → ℕ) (a b c : Lines S) (state : State) (tally : Tally) (h h' h'' : Known)
-    → (s : SoFar answer MayWant Stood left faults a b state tally h h')
-    → HalfAnsweredLine answer MayWant Stands left faults b c h' h'' s.now
-    → IfSome (unread left a) (λ bytes. AnsweredPrefix answer MayWant Stands state bytes (unread left c) h h'')
-stops_in_reply answer MayWant Stood Stands left faults a b c state tally h h' h'' s t =
+stops_in_reply : {S : Type 0} (by : Answering (List ℕ)) (Stood Stands : by.State → Type 0)
+    (left : S → Known) (faults : S → ℕ) (a b c : Lines S) (state : by.State) (tally : Tally) (h h' h'' : Known)
+    → (s : SoFar by Stood left faults a b state tally h h')
+    → HalfAnsweredLine by Stands left faults b c h' h'' s.now
+    → IfSome (unread left a) (λ bytes. AnsweredPrefix by Stands state bytes (unread left c) h h'')
+stops_in_reply by Stood Stands left faults a b c state tally h h' h'' s t =
     let w = t.part.done in
     let raws = s.raws ++ t.raw ∷ [] in
     let lines = map without_cr raws in
-    let places = s.places ++ own_place w.wanted w.next.attempts in
+    let failures = s.failures ++ w.failed ∷ [] in
     let both = handed_then left faults a b c s.raws (t.raw ∷ []) s.handed t.handed in
     let reply = t.part.reply in
     let part = AppendsFront-is h' h'' reply t.part.front in
     let front = take part.0 reply in
     let rest = drop part.0 reply in
-    let done : Done answer MayWant state lines places w.next =
-    subst (λ ls. Done answer MayWant state ls places w.next) (sym (map-append without_cr s.raws (t.raw ∷ [])))
-    (done_more answer MayWant Stands state (map without_cr s.raws) s.places s.now (without_cr t.raw) reply s.done w) in
+    let done : Done by state lines failures w.next =
+    subst (λ ls. Done by state ls failures w.next) (sym (map-append without_cr s.raws (t.raw ∷ [])))
+    (done_more by Stands state (map without_cr s.raws) s.failures s.now (without_cr t.raw) reply s.done w) in
     with_both (unread left a) _ _ _ (begins (unread left a) (unread left c) a.taken c.taken raws both.took)
     (handed_all (unread left a) (unread left c) a.taken c.taken raws both.took) (λ xs is handed.
-    answers_front answer MayWant Stands state xs (unread left c) lines (before_first ends_script is.0) places w.next
+    answers_front by Stands state xs (unread left c) lines (before_first ends_script is.0) failures w.next
     (length raws) h h'' (s.now.text ++ front) rest
     (ap (before_first ends_script) is.1 ∙ before_end lines is.0 done.go_on) (take_raws raws (before_first ends_script is.0)) done handed
     (w.text ∙ ap (λ v. s.now.text ++ v) (sym (take-append-drop part.0 reply)) ∙ sym (append_assoc s.now.text front rest))
     (Appends-trans h h' h'' s.now.text front s.appended part.1) w.stands)
 
-so_far_stops : {S State : Type 0} (answer : Answer State) (MayWant : State → List ℕ → Type 0) (Stood Stands : State → Type 0)
-    (left : S → Known) (faults : S → ℕ) (a b c : Lines S) (state : State) (tally : Tally) (h h' h'' : Known)
-    → (s : SoFar answer MayWant Stood left faults a b state tally h h') → SinkStop answer MayWant Stands left faults b c h' h'' s.now
-    → IfSome (unread left a) (λ bytes. AnsweredPrefix answer MayWant Stands state bytes (unread left c) h h'')
-so_far_stops answer MayWant Stood Stands left faults a b c state tally h h' h'' s how = elim how [
+so_far_stops : {S : Type 0} (by : Answering (List ℕ)) (Stood Stands : by.State → Type 0)
+    (left : S → Known) (faults : S → ℕ) (a b c : Lines S) (state : by.State) (tally : Tally) (h h' h'' : Known)
+    → (s : SoFar by Stood left faults a b state tally h h') → SinkStop by Stands left faults b c h' h'' s.now
+    → IfSome (unread left a) (λ bytes. AnsweredPrefix by Stands state bytes (unread left c) h h'')
+so_far_stops by Stood Stands left faults a b c state tally h h' h'' s how = elim how [
   | inl whole ↦ elim whole.1 [
-    | inl same ↦ stops answer MayWant Stood Stands left faults a b c state tally h h' h'' s whole.0 same
-    | inr quit ↦ stops_at_quit answer MayWant Stood Stands left faults a b c state tally h h' h'' s whole.0 quit
+    | inl same ↦ stops by Stood Stands left faults a b c state tally h h' h'' s whole.0 same
+    | inr quit ↦ stops_at_quit by Stood Stands left faults a b c state tally h h' h'' s whole.0 quit
   ]
-  | inr part ↦ stops_in_reply answer MayWant Stood Stands left faults a b c state tally h h' h'' s part
+  | inr part ↦ stops_in_reply by Stood Stands left faults a b c state tally h h' h'' s part
 ]
 
 -- The source failed, or its limit was passed.
-so_far_unread : {S State : Type 0} (answer : Answer State) (MayWant : State → List ℕ → Type 0) (Stood Stands : State → Type 0)
-    (left : S → Known) (faults : S → ℕ) (a b c : Lines S) (state : State) (tally : Tally) (h h' h'' : Known)
-    → (s : SoFar answer MayWant Stood left faults a b state tally h h') → Untouched Stands h' h'' s.now → NotTaken left b c
-    → IfSome (unread left a) (λ bytes. AnsweredTaken answer MayWant Stands state a.taken bytes (left c.source.now) h h'')
-so_far_unread {State = State} answer MayWant Stood Stands left faults a b c state tally h h' h'' s u n =
+so_far_unread : {S : Type 0} (by : Answering (List ℕ)) (Stood Stands : by.State → Type 0)
+    (left : S → Known) (faults : S → ℕ) (a b c : Lines S) (state : by.State) (tally : Tally) (h h' h'' : Known)
+    → (s : SoFar by Stood left faults a b state tally h h') → Untouched Stands h' h'' s.now → NotTaken left b c
+    → IfSome (unread left a) (λ bytes. AnsweredTaken by Stands state a.taken bytes (left c.source.now) h h'')
+so_far_unread by Stood Stands left faults a b c state tally h h' h'' s u n =
     let lines = map without_cr s.raws in
     with_both (unread left a) _ _ _ (begins (unread left a) (unread left b) a.taken b.taken s.raws s.handed.took)
     (cut_off left a b c s.raws s.handed.took n) (λ xs is cut.
     let rest = before_first ends_script is.0 in
-    let before : before_first ends_script (lines_of xs) ≡ lines ++ rest = ap (before_first ends_script) is.1
-    ∙ before_end lines is.0 s.done.go_on in
-    let now : session_after answer state (lines_of xs) s.places cut.0.lines ≡ s.now =
-    ap (session_after answer state (lines_of xs) s.places) cut.1
-    ∙ session_after_is answer MayWant state (lines_of xs) lines rest s.places s.now (length s.raws) before (take_raws s.raws rest) s.done in
+    let before : answered_lines (lines_of xs) ≡ lines ++ rest = ap answered_lines is.1 ∙ before_end lines is.0 s.done.go_on in
+    let now : session_after by state (lines_of xs) s.failures cut.0.lines ≡ s.now =
+    ap (session_after by state (lines_of xs) s.failures) cut.1
+    ∙ session_after_is by state (lines_of xs) lines rest s.failures s.now (length s.raws) before (take_raws s.raws rest) s.done in
     record {
-      places = s.places;
-      wants = subst (λ ls. WantsAtEach answer MayWant s.places (begin_with state) ls) (sym before)
-          (wants_more answer MayWant state lines rest s.places s.now s.done);
+      failures = s.failures;
+      allows = allows_all by state (lines_of xs) lines rest s.failures s.now before s.done;
       cut = cut.0;
       short =
           let at = ap (position_or_len ends_script) is.1 in
           omega (arith, at, ends_after lines is.0 s.done.go_on, cut.1, length-map s.raws without_cr);
-      text = subst (λ (v : SessionOf State). Appends h h'' v.text) (sym now) (Appends-kept h h' h'' s.now.text s.appended u.kept);
-      stands = subst (λ (v : SessionOf State). Stands v.state) (sym now) u.stands;
+      text = subst (λ (v : Session by.State). Appends h h'' v.text) (sym now) (Appends-kept h h' h'' s.now.text s.appended u.kept);
+      stands = subst (λ (v : Session by.State). Stands v.state) (sym now) u.stands;
     })
 
 -- The session ended by a fault.
-pub so_far_fails : {S State : Type 0} (answer : Answer State) (MayWant : State → List ℕ → Type 0) (Stood Stands : State → Type 0)
-    (left : S → Known) (faults : S → ℕ) (a b c : Lines S) (state : State) (tally tally' : Tally) (h h' h'' : Known)
-    (fault : SessionFault)
-    → SoFar answer MayWant Stood left faults a b state tally h h'
-    → LineOutcome answer MayWant Stood Stands left faults b c h' h'' tally tally' (Err fault)
+pub so_far_fails : {S Since : Type 0} (by : Answering (List ℕ)) (Stood Stands : Since → by.State → Type 0) (since : Since) (left : S → Known)
+    (faults : S → ℕ) (a b c : Lines S) (state : by.State) (tally tally' : Tally) (h h' h'' : Known) (fault : SessionFault)
+    → SoFar by (Stood since) left faults a b state tally h h'
+    → LineOutcome by Stood Stands left faults b c h' h'' tally tally' (Err fault)
     → IfSome (unread left a)
-    (λ bytes. ScriptAnswered answer MayWant Stands state a.taken bytes (unread left c) (left c.source.now) h h'' (Err fault))
-so_far_fails answer MayWant Stood Stands left faults a b c state tally tally' h h' h'' ReadFault s o =
-    so_far_unread answer MayWant Stood Stands left faults a b c state tally h h' h'' s (o.same s.now s.stands s.counts) o.cut
-so_far_fails answer MayWant Stood Stands left faults a b c state tally tally' h h' h'' InputTooLong s o =
-    so_far_unread answer MayWant Stood Stands left faults a b c state tally h h' h'' s (o.0.same s.now s.stands s.counts)
-    o.0.cut
-so_far_fails answer MayWant Stood Stands left faults a b c state tally tally' h h' h'' WriteFault s o =
-    so_far_stops answer MayWant Stood Stands left faults a b c state tally h h' h'' s (o s.now s.stands s.counts)
-so_far_fails answer MayWant Stood Stands left faults a b c state tally tally' h h' h'' Memory s o =
-    so_far_stops answer MayWant Stood Stands left faults a b c state tally h h' h'' s (o s.now s.stands s.counts)
+    (λ bytes. ScriptAnswered by (Stands since) state a.taken bytes (unread left c) (left c.source.now) h h'' (Err fault))
+so_far_fails by Stood Stands since left faults a b c state tally tally' h h' h'' ReadFault s o =
+    so_far_unread by (Stood since) (Stands since) left faults a b c state tally h h' h'' s (o.same since s.now s.stands s.counts) o.cut
+so_far_fails by Stood Stands since left faults a b c state tally tally' h h' h'' InputTooLong s o =
+    so_far_unread by (Stood since) (Stands since) left faults a b c state tally h h' h'' s (o.0.same since s.now s.stands s.counts) o.0.cut
+so_far_fails by Stood Stands since left faults a b c state tally tally' h h' h'' WriteFault s o =
+    so_far_stops by (Stood since) (Stands since) left faults a b c state tally h h' h'' s (o since s.now s.stands s.counts)
+so_far_fails by Stood Stands since left faults a b c state tally tally' h h' h'' Memory s o =
+    so_far_stops by (Stood since) (Stands since) left faults a b c state tally h h' h'' s (o since s.now s.stands s.counts)
 
 -- The limit of the input.
 always : (o : Option (List ℕ)) (P : List ℕ → Type 0) → ((xs : List ℕ) → P xs) → IfSome o P
 always None P f = tt
 always (Some xs) P f = f xs
 
-pub fails_by_limit : {S State : Type 0} (answer : Answer State) (MayWant : State → List ℕ → Type 0) (Stood Stands : State → Type 0)
+pub fails_by_limit : {S Since : Type 0} (by : Answering (List ℕ)) (Stood Stands : Since → by.State → Type 0)
     (left : S → Known) (faults : S → ℕ) (a b c : Lines S) (tally tally' : Tally) (h' h'' : Known) (fault : SessionFault)
-    → Passed left faults a b → LineOutcome answer MayWant Stood Stands left faults b c h' h'' tally tally' (Err fault)
+    → Passed left faults a b → LineOutcome by Stood Stands left faults b c h' h'' tally tally' (Err fault)
     → IfSome (unread left a) (λ bytes. KeepsLimit a.taken bytes (Err fault))
-fails_by_limit answer MayWant Stood Stands left faults a b c tally tally' h' h'' ReadFault passed o = always (unread left a) _ (λ xs. tt)
-fails_by_limit answer MayWant Stood Stands left faults a b c tally tally' h' h'' InputTooLong passed o = too_long left faults a b c passed o.1
-fails_by_limit answer MayWant Stood Stands left faults a b c tally tally' h' h'' WriteFault passed o = always (unread left a) _ (λ xs. tt)
-fails_by_limit answer MayWant Stood Stands left faults a b c tally tally' h' h'' Memory passed o = always (unread left a) _ (λ xs. tt)
+fails_by_limit by Stood Stands left faults a b c tally tally' h' h'' ReadFault passed o = always (unread left a) _ (λ xs. tt)
+fails_by_limit by Stood Stands left faults a b c tally tally' h' h'' InputTooLong passed o = too_long left faults a b c passed o.1
+fails_by_limit by Stood Stands left faults a b c tally tally' h' h'' WriteFault passed o = always (unread left a) _ (λ xs. tt)
+fails_by_limit by Stood Stands left faults a b c tally tally' h' h'' Memory passed o = always (unread left a) _ (λ xs. tt)
 
 -- The replies to the first lines are a front of the replies to all.
-more_text : {State : Type 0} (answer : Answer State) → IsLawful answer → (state : State) (script : List (List ℕ)) (places : List ℕ)
-    (n : ℕ) → (more : List ℕ) × ((whole_session answer state script places).text ≡ (session_after answer state script places n).text ++ more)
-more_text answer lawful state script places n =
-    let lines = before_first ends_script script in
-    let later = extends_each answer lawful places (session_after answer state script places n) (drop n lines) in (
-      later.more,
-      ap (λ ls. (after_each answer places (begin_with state) ls).text) (sym (take-append-drop n lines))
-          ∙ ap (λ s. s.text) (each-append answer places (begin_with state) (take n lines) (drop n lines)) ∙ later.text,
-    )
+more_of_whole : (by : Answering (List ℕ)) → IsLawful by → (state : by.State) (script : List (List ℕ)) (failures : List (Option ℕ)) (n : ℕ)
+    → (more : List ℕ) × ((whole_session by state script failures).text ≡ (session_after by state script failures n).text ++ more)
+more_of_whole by lawful state script failures n =
+    let lines = answered_lines script in
+    let e = more_text by lawful failures (begin_at state) (take n lines) (drop n lines) in
+    (e.0, ap (λ ls. (after_each by failures (begin_at state) ls).text) (sym (take-append-drop n lines)) ∙ e.1)
 
-pub front_of_whole : {State : Type 0} (answer : Answer State) → IsLawful answer → (state : State) (script : List (List ℕ))
-    (places : List ℕ) (n : ℕ) (h h' : Known) → AppendsFront h h' (session_after answer state script places n).text
-    → AppendsFront h h' (whole_session answer state script places).text
-front_of_whole answer lawful state script places n h h' p =
-    let text = (session_after answer state script places n).text in
-    let more = more_text answer lawful state script places n in
+pub front_of_whole : (by : Answering (List ℕ)) → IsLawful by → (state : by.State) (script : List (List ℕ)) (failures : List (Option ℕ))
+    (n : ℕ) (h h' : Known) → AppendsFront h h' (session_after by state script failures n).text
+    → AppendsFront h h' (whole_session by state script failures).text
+front_of_whole by lawful state script failures n h h' p =
+    let text = (session_after by state script failures n).text in
+    let more = more_of_whole by lawful state script failures n in
     let part = AppendsFront-is h h' text p in
-    front_made h h' (take part.0 text) (drop part.0 text ++ more.0) (whole_session answer state script places).text
+    front_made h h' (take part.0 text) (drop part.0 text ++ more.0) (whole_session by state script failures).text
     (more.1 ∙ ap (λ v. v ++ more.0) (sym (take-append-drop part.0 text)) ∙ append_assoc (take part.0 text) (drop part.0 text) more.0)
     part.1
 
-pub first_of_whole : {State : Type 0} (answer : Answer State) → IsLawful answer → (state : State) (script : List (List ℕ))
-    (places : List ℕ) (n : ℕ) (h h' : Known) → Appends h h' (session_after answer state script places n).text
-    → AppendsFront h h' (whole_session answer state script places).text
-first_of_whole answer lawful state script places n h h' p =
-    let more = more_text answer lawful state script places n in
-    front_made h h' (session_after answer state script places n).text more.0 (whole_session answer state script places).text more.1 p
+pub first_of_whole : (by : Answering (List ℕ)) → IsLawful by → (state : by.State) (script : List (List ℕ)) (failures : List (Option ℕ))
+    (n : ℕ) (h h' : Known) → Appends h h' (session_after by state script failures n).text
+    → AppendsFront h h' (whole_session by state script failures).text
+first_of_whole by lawful state script failures n h h' p =
+    let more = more_of_whole by lawful state script failures n in
+    front_made h h' (session_after by state script failures n).text more.0 (whole_session by state script failures).text more.1 p
+
+-- What answers stands for a state in another sense, too.
+module _ (by : Answering (List ℕ)) (Stands Stands' : by.State → Type 0) (also : (s : by.State) → Stands s → Stands' s) (state : by.State) where
+  prefix_as : (bytes : List ℕ) (unread h h' : Known) → AnsweredPrefix by Stands state bytes unread h h'
+      → AnsweredPrefix by Stands' state bytes unread h h'
+  prefix_as bytes unread h h' a = record {
+    failures = a.failures;
+    allows = a.allows;
+    lines = a.lines;
+    handed = a.handed;
+    text = a.text;
+    stands = also _ a.stands;
+  }
+
+  taken_as : (before : ℕ) (bytes : List ℕ) (left h h' : Known) → AnsweredTaken by Stands state before bytes left h h'
+      → AnsweredTaken by Stands' state before bytes left h h'
+  taken_as before bytes left h h' a =
+      record { failures = a.failures; allows = a.allows; cut = a.cut; short = a.short; text = a.text; stands = also _ a.stands }
+
+  pub stands_as : (before : ℕ) (bytes : List ℕ) (unread left h h' : Known) (r : Result Tally SessionFault)
+      → ScriptAnswered by Stands state before bytes unread left h h' r → ScriptAnswered by Stands' state before bytes unread left h h' r
+  stands_as before bytes unread left h h' (Ok tally) a =
+      record { failures = a.failures; allows = a.allows; text = a.text; counts = a.counts; stands = also _ a.stands }
+  stands_as before bytes unread left h h' (Err ReadFault) a = taken_as before bytes left h h' a
+  stands_as before bytes unread left h h' (Err InputTooLong) a = taken_as before bytes left h h' a
+  stands_as before bytes unread left h h' (Err WriteFault) a = prefix_as bytes unread h h' a
+  stands_as before bytes unread left h h' (Err Memory) a = prefix_as bytes unread h h' a
 
 -- the answer that `?` makes of a fault
 pub through : {T : Type 0} (P : Result T SessionFault → Type 0) (r : Result T SessionFault) (fault : SessionFault) → IsErr r

@@ -1,4 +1,4 @@
--- How far a session of any kind has come.
+-- How far a session has come.
 use Rattle.std.proofs.Common.{◌≡◌, ◌⊎◌, inl, inr, ℕ, zero, suc, ◌+◌, ◌≤◌, ◌<◌, true, false, cond, not, eqb}
 use Rattle.std.proofs.Common.{Option, Some, None, IfSome, IsTrue, List, [], ◌∷◌, ◌++◌, map, length}
 use Rattle.std.proofs.Common.{refl, sym, ap, ◌∙◌, subst, append-nil, append_assoc, length-append, arith}
@@ -17,121 +17,86 @@ use Rattle.lx_lex.proofs.TakenLines.{texts, lines_within, next_too_long}
 use Rattle.lx_lex.proofs.FirstLines.{first_lines-longer}
 use Rattle.lx_spec.specs.Text.{without_cr, lines_of}
 use Rattle.lx_spec.specs.CutInput.{first_lines}
-use Rattle.lx_spec.specs.Session.{ends_script, lines_wanted, bytes_wanted}
-use Rattle.lx_spec.specs.SessionOf.{SessionOf, Answer, begin_with, after_each, WantsAtEach}
+use Rattle.lx_spec.specs.Session.{Session, Answering, begin_at, after_each, AreAllowed, ends_script, lines_wanted, bytes_wanted}
 use Rattle.lx_session.specs.declared.tally.Tally.{Tally}
 use Rattle.lx_session.specs.Known.{Known}
 use Rattle.lx_session.specs.LineOutcome.{DoneLine, PassedLine, QuitLine, AnsweredLine}
 use Rattle.lx_session.specs.LineReply.{counts_in}
-use Rattle.lx_session.proofs.Places.{AreAbove, AreWithin, own_place, wants_own, own_above, own_within}
-use Rattle.lx_session.proofs.AnsweredPlaces.{may_want, wants_at_none, wants_none, each_wants-append, each-append}
+use Rattle.lx_session.proofs.EachLine.{each-append, allowed-append}
 
 -- no line ends the script
 abbrev pub GoOn : List (List ℕ) → Type 0
 GoOn script = AllByRecursion (λ line. ends_script line ≡ false) script
 
--- The lines are done from a state on, and the session has come so far; more attempts that want of memory refuses later change nothing of
--- it, and those that it refused are none of later lines.
-pub record Done {State : Type 0} (answer : Answer State) (MayWant : State → List ℕ → Type 0) (state : State) (script : List (List ℕ))
-    (places : List ℕ) (now : SessionOf State) : Type 0 where
+-- The lines are done from a state on, and the session has come so far.
+pub record Done (by : Answering (List ℕ)) (state : by.State) (script : List (List ℕ)) (failures : List (Option ℕ)) (now : Session by.State)
+    : Type 0 where
   pub go_on : GoOn script
-  pub within : AreWithin now.attempts places
-  pub is : (more : List ℕ) → AreAbove now.attempts more → after_each answer (places ++ more) (begin_with state) script ≡ now
-  pub wants : (more : List ℕ) → AreAbove now.attempts more → WantsAtEach answer MayWant (places ++ more) (begin_with state) script
-  pub rest : (later : List (List ℕ)) → WantsAtEach answer MayWant places now later
+  pub each : length failures ≡ length script
+  pub is : after_each by failures (begin_at state) script ≡ now
+  pub allowed : AreAllowed by failures (begin_at state) script
 
-pub no_place : (m n : ℕ) (P : Type 0) → false ≡ true → P
-no_place m n P e = absurd cc
-
-pub done_none : {State : Type 0} (answer : Answer State) (MayWant : State → List ℕ → Type 0) (state : State)
-    → Done answer MayWant state [] [] (begin_with state)
-done_none answer MayWant state = record {
-  go_on = tt;
-  within = λ n has. no_place 0 n (n ≤ 0) has;
-  is = λ more above. refl;
-  wants = λ more above. tt;
-  rest = wants_at_none answer MayWant (begin_with state);
-}
+pub done_none : (by : Answering (List ℕ)) (state : by.State) → Done by state [] [] (begin_at state)
+done_none by state = record { go_on = tt; each = refl; is = refl; allowed = tt }
 
 pub go_on_append : (xs : List (List ℕ)) (l : List ℕ) → GoOn xs → ends_script l ≡ false → GoOn (xs ++ l ∷ [])
 go_on_append [] l all more = (more, tt)
 go_on_append (x ∷ xs) l all more = (all.0, go_on_append xs l all.1 more)
 
 -- one more line
-pub done_more : {State : Type 0} (answer : Answer State) (MayWant : State → List ℕ → Type 0) (Stands : State → Type 0) (state : State)
-    (script : List (List ℕ)) (places : List ℕ) (now : SessionOf State) (line reply : List ℕ)
-    → Done answer MayWant state script places now → (w : DoneLine answer MayWant Stands now line reply)
-    → Done answer MayWant state (script ++ line ∷ []) (places ++ own_place w.wanted w.next.attempts) w.next
-done_more answer MayWant Stands state script places now line reply done w =
-    let later = w.goes_on.later in
-    let before : (more : List ℕ) → AreAbove w.next.attempts more → AreAbove now.attempts (own_place w.wanted w.next.attempts ++ more) =
-    λ more above. own_above now.attempts w.next.attempts w.wanted more later w.goes_on.some above in
-    let P : List ℕ → List ℕ = λ more. (places ++ own_place w.wanted w.next.attempts) ++ more in
-    let same : (more : List ℕ) → P more ≡ places ++ (own_place w.wanted w.next.attempts ++ more) =
-    λ more. append_assoc places (own_place w.wanted w.next.attempts) more in
-    let here : (more : List ℕ) → AreAbove w.next.attempts more → after_each answer (P more) (begin_with state) script ≡ now =
-    λ more above. ap (λ ps. after_each answer ps (begin_with state) script) (same more)
-    ∙ done.is (own_place w.wanted w.next.attempts ++ more) (before more above) in
-    let last = λ (more : List ℕ) (above : AreAbove w.next.attempts more). wants_own places more now.attempts w.next.attempts w.wanted
-    done.within above in
+pub done_more : (by : Answering (List ℕ)) (Stands : by.State → Type 0) (state : by.State) (script : List (List ℕ))
+    (failures : List (Option ℕ)) (now : Session by.State) (line reply : List ℕ) → Done by state script failures now
+    → (w : DoneLine by Stands now line reply) → Done by state (script ++ line ∷ []) (failures ++ w.failed ∷ []) w.next
+done_more by Stands state script failures now line reply done w =
+    let one = w.failed ∷ [] in
     record {
       go_on = go_on_append script line done.go_on w.more;
-      within = own_within now.attempts w.next.attempts w.wanted places later done.within;
-      is = λ more above.
-          each-append answer (P more) (begin_with state) script (line ∷ [])
-          ∙ ap (λ s. after_each answer (P more) s (line ∷ [])) (here more above) ∙ w.goes_on.by (P more) (last more above);
-      wants = λ more above.
-          each_wants-append answer MayWant (P more) (begin_with state) script (line ∷ [])
-          (subst (λ ps. WantsAtEach answer MayWant ps (begin_with state) script) (sym (same more))
-          (done.wants (own_place w.wanted w.next.attempts ++ more) (before more above)))
-          (subst (λ s. WantsAtEach answer MayWant (P more) s (line ∷ [])) (sym (here more above))
-          (may_want (P more) now w.next line w.wanted w.goes_on (last more above), tt));
-      rest = λ later_lines. wants_none answer MayWant w.lawful (places ++ own_place w.wanted w.next.attempts) w.next later_lines
-          (own_within now.attempts w.next.attempts w.wanted places later done.within);
+      each = omega (arith, done.each, length-append failures one, length-append script (line ∷ []));
+      is = each-append by failures one (begin_at state) script (line ∷ []) done.each
+          ∙ ap (λ s. by.answer w.failed s line) done.is ∙ w.goes_on.is;
+      allowed = allowed-append by failures one (begin_at state) script (line ∷ []) done.each done.allowed
+          (subst (λ s. AreAllowed by one s (line ∷ [])) (sym done.is) (w.goes_on.allowed, tt));
     }
 
 -- The lines that were handed out from a to b are done and answered, and what answers stands for the state after them.
-pub record SoFar {S State : Type 0} (answer : Answer State) (MayWant : State → List ℕ → Type 0) (Stands : State → Type 0)
-    (left : S → Known) (faults : S → ℕ) (a b : Lines S) (state : State) (tally : Tally) (h h' : Known) : Type 0 where
+pub record SoFar {S : Type 0} (by : Answering (List ℕ)) (Stands : by.State → Type 0) (left : S → Known) (faults : S → ℕ) (a b : Lines S)
+    (state : by.State) (tally : Tally) (h h' : Known) : Type 0 where
   pub raws : List (List ℕ)
   pub handed : HandedOut left faults a b raws
-  pub places : List ℕ
-  pub now : SessionOf State
-  pub done : Done answer MayWant state (map without_cr raws) places now
+  pub failures : List (Option ℕ)
+  pub now : Session by.State
+  pub done : Done by state (map without_cr raws) failures now
   pub stands : Stands now.state
   pub appended : Appends h h' now.text
   pub counts : now.counts ≡ counts_in tally
 
-pub so_far_none : {S State : Type 0} (answer : Answer State) (MayWant : State → List ℕ → Type 0) (Stands : State → Type 0)
-    (left : S → Known) (faults : S → ℕ) (a : Lines S) (state : State) (tally : Tally) (h : Known) → IsTrue a.going → Stands state
-    → counts_in tally ≡ record { ok = 0; refused = 0; bad = 0 }
-    → SoFar answer MayWant Stands left faults a a state tally h h
-so_far_none answer MayWant Stands left faults a state tally h going stands counts = record {
+pub so_far_none : {S : Type 0} (by : Answering (List ℕ)) (Stands : by.State → Type 0) (left : S → Known) (faults : S → ℕ) (a : Lines S)
+    (state : by.State) (tally : Tally) (h : Known) → IsTrue a.going → Stands state
+    → counts_in tally ≡ record { ok = 0; refused = 0; bad = 0 } → SoFar by Stands left faults a a state tally h h
+so_far_none by Stands left faults a state tally h going stands counts = record {
   raws = [];
   handed = handed_none left faults a going;
-  places = [];
-  now = begin_with state;
-  done = done_none answer MayWant state;
+  failures = [];
+  now = begin_at state;
+  done = done_none by state;
   stands = stands;
   appended = Appends-nil h;
   counts = sym counts;
 }
 
-pub so_far_more : {S State : Type 0} (answer : Answer State) (MayWant : State → List ℕ → Type 0) (Stood Stands : State → Type 0)
-    (left : S → Known) (faults : S → ℕ) (a b c : Lines S) (state : State) (tally tally' : Tally) (h h' h'' : Known)
-    → (s : SoFar answer MayWant Stood left faults a b state tally h h')
-    → AnsweredLine answer MayWant Stands left faults b c h' h'' s.now tally'
-    → SoFar answer MayWant Stands left faults a c state tally' h h''
-so_far_more answer MayWant Stood Stands left faults a b c state tally tally' h h' h'' s t =
+pub so_far_more : {S : Type 0} (by : Answering (List ℕ)) (Stood Stands : by.State → Type 0) (left : S → Known) (faults : S → ℕ)
+    (a b c : Lines S) (state : by.State) (tally tally' : Tally) (h h' h'' : Known)
+    → (s : SoFar by Stood left faults a b state tally h h') → AnsweredLine by Stands left faults b c h' h'' s.now tally'
+    → SoFar by Stands left faults a c state tally' h h''
+so_far_more by Stood Stands left faults a b c state tally tally' h h' h'' s t =
     let w = t.whole.done in
     record {
       raws = s.raws ++ t.raw ∷ [];
       handed = handed_then left faults a b c s.raws (t.raw ∷ []) s.handed t.handed;
-      places = s.places ++ own_place w.wanted w.next.attempts;
+      failures = s.failures ++ w.failed ∷ [];
       now = w.next;
-      done = subst (λ ls. Done answer MayWant state ls (s.places ++ own_place w.wanted w.next.attempts) w.next)
-          (sym (map-append without_cr s.raws (t.raw ∷ [])))
-          (done_more answer MayWant Stands state (map without_cr s.raws) s.places s.now (without_cr t.raw) t.whole.reply s.done w);
+      done = subst (λ ls. Done by state ls (s.failures ++ w.failed ∷ []) w.next) (sym (map-append without_cr s.raws (t.raw ∷ [])))
+          (done_more by Stands state (map without_cr s.raws) s.failures s.now (without_cr t.raw) t.whole.reply s.done w);
       stands = w.stands;
       appended = subst (λ (x : List ℕ). Appends h h'' x) (sym w.text)
           (Appends-trans h h' h'' s.now.text t.whole.reply s.appended t.whole.appended);

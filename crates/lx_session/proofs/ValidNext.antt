@@ -4,7 +4,7 @@ use Rattle.lx_spec.specs.declared.Command.{Command}
 use Rattle.lx_spec.specs.declared.Command.TheVariants as commands
 use Rattle.lx_spec.specs.declared.Line.{Line}
 use Rattle.lx_spec.specs.declared.Line.TheVariants as lines
-use Rattle.lx_spec.specs.Session.{command_of}
+use Rattle.lx_spec.specs.DeskSession.{command_of}
 use Rattle.lx_spec.specs.ValidEdit.{ValidCommand, ValidLine}
 use Rattle.lx_spec.proofs.ValidLines.{line_of-valid}
 use Rattle.lx_session.specs.LineState.{LineState, meaning_of, next_of}

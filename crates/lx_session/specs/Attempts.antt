@@ -1,7 +1,6 @@
--- Attempts at a command on a console, and which of them want of memory refused.
-use Rattle.std.specs.Prelude.{◌≡◌, ◌≤◌, ◌<◌, ℕ, ◌==◌, Bool, true, false, ◌&&◌, Option, Some, None, List, [], ◌∷◌, fold}
+-- Attempts at a command on a console.
+use Rattle.std.specs.Prelude.{◌≡◌, Bool, true, false, Option, Some, None, List, [], ◌∷◌, fold}
 use Rattle.std.specs.Result.{IsOkAnd}
-use Rattle.std.specs.List.{list_any}
 use Rattle.lx_spec.specs.declared.Command.{Command}
 use Rattle.lx_spec.specs.declared.Refusal.{Refusal}
 use Rattle.lx_spec.specs.declared.Refusal.TheVariants.{Memory}
@@ -13,7 +12,7 @@ use Rattle.lx_console.specs.ConsoleMeaning.{StandsFor, Refuses}
 abbrev pub after_commands : Desk → List Command → Desk
 after_commands d commands = fold after_command d commands
 
--- a command that wasn't admitted is refused for want of memory, and any other as the console refuses it
+-- a command that wasn't admitted is refused with Memory, and any other as the console refuses it
 abbrev pub RefusesAttempt : Bool → Desk → Command → Refusal → Type 0
 RefusesAttempt true d command refusal = Refuses d command refusal
 RefusesAttempt false d command refusal = refusal ≡ Memory
@@ -42,7 +41,3 @@ pub record ListenedAttempt (all : Bool) (d : Desk) (command : Command) (refusal 
 abbrev pub heard_of : Command → Option Refusal → List Command
 heard_of command None = command ∷ []
 heard_of command (Some refusal) = []
-
--- Of the attempts above one number and up to another, want of memory refused the last, or none.
-abbrev pub WantsLast : List ℕ → ℕ → ℕ → Bool → Type 0
-WantsLast places from to wants = (n : ℕ) → from < n → n ≤ to → list_any (λ place. place == n) places ≡ (wants && n == to)

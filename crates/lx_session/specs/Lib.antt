@@ -6,9 +6,8 @@ pub mod LineReply
 pub mod OneAnswer
 pub mod ScriptAnswer
 pub mod LineAnswer
-pub mod HeardDesk
+pub mod Listening
 pub mod LineOutcome
 pub mod SessionFaults
 pub mod SessionOutcome
 pub mod Waits
-pub mod Meanings

@@ -1,5 +1,5 @@
--- What taking a line from a source and answering it comes to, in a session of any kind.
-use Rattle.std.specs.Prelude.{◌≡◌, ◌⊎◌, ℕ, Bool, true, false, IfSome, Result, Ok, Err, List, [], ◌∷◌, ◌++◌}
+-- What taking a line from a source and answering it comes to, in a session.
+use Rattle.std.specs.Prelude.{◌≡◌, ◌⊎◌, ℕ, Bool, true, false, Option, IfSome, Result, Ok, Err, List, [], ◌∷◌, ◌++◌}
 use Rattle.std.specs.Io.KnownBytes.{Appends, Keeps, IsAtEnd}
 use Rattle.lx_io.specs.declared.sink.SinkFault.{SinkFault}
 use Rattle.lx_io.specs.Puts.{AppendsFront}
@@ -10,8 +10,7 @@ use Rattle.lx_lex.specs.LinesHandedOut.{HandedOut}
 use Rattle.lx_lex.specs.Lines.{StepOf}
 use Rattle.lx_lex.specs.Unread.{unread, line_of}
 use Rattle.lx_spec.specs.Text.{without_cr}
-use Rattle.lx_spec.specs.Session.{ends_script}
-use Rattle.lx_spec.specs.SessionOf.{SessionOf, Answer}
+use Rattle.lx_spec.specs.Session.{Session, Answering, ends_script}
 use Rattle.lx_session.specs.declared.fault.SessionFault.{SessionFault}
 use Rattle.lx_session.specs.declared.fault.SessionFault.TheVariants.{ReadFault, WriteFault, InputTooLong, Memory}
 use Rattle.lx_session.specs.declared.tally.Tally.{Tally}
@@ -20,29 +19,29 @@ use Rattle.lx_session.specs.LineReply.{counts_in}
 use Rattle.lx_session.specs.OneAnswer.{IsLawful, GoesOnBy}
 
 -- The session went on by a line, and what answers stands for the state after it, with this reply.
-pub record DoneLine {State : Type 0} (answer : Answer State) (MayWant : State → List ℕ → Type 0) (Stands : State → Type 0)
-    (s : SessionOf State) (line reply : List ℕ) : Type 0 where
+pub record DoneLine (by : Answering (List ℕ)) (Stands : by.State → Type 0)
+    (s : Session by.State) (line reply : List ℕ) : Type 0 where
   pub more : ends_script line ≡ false
-  pub lawful : IsLawful answer
-  pub next : SessionOf State
-  pub wanted : Bool
-  pub goes_on : GoesOnBy answer MayWant s next line wanted
+  pub lawful : IsLawful by
+  pub next : Session by.State
+  pub failed : Option ℕ
+  pub goes_on : GoesOnBy by s next line failed
   pub stands : Stands next.state
   pub text : next.text ≡ s.text ++ reply
 
 -- the whole reply was written
-pub record WholeReply {State : Type 0} (answer : Answer State) (MayWant : State → List ℕ → Type 0) (Stands : State → Type 0)
-    (held held' : Known) (s : SessionOf State) (line : List ℕ) (tally : Tally) : Type 0 where
+pub record WholeReply (by : Answering (List ℕ)) (Stands : by.State → Type 0)
+    (held held' : Known) (s : Session by.State) (line : List ℕ) (tally : Tally) : Type 0 where
   pub reply : List ℕ
-  pub done : DoneLine answer MayWant Stands s line reply
+  pub done : DoneLine by Stands s line reply
   pub appended : Appends held held' reply
   pub counts : done.next.counts ≡ counts_in tally
 
 -- a prefix of the reply was written
-pub record ReplyPrefix {State : Type 0} (answer : Answer State) (MayWant : State → List ℕ → Type 0) (Stands : State → Type 0)
-    (held held' : Known) (s : SessionOf State) (line : List ℕ) : Type 0 where
+pub record ReplyPrefix (by : Answering (List ℕ)) (Stands : by.State → Type 0)
+    (held held' : Known) (s : Session by.State) (line : List ℕ) : Type 0 where
   pub reply : List ℕ
-  pub done : DoneLine answer MayWant Stands s line reply
+  pub done : DoneLine by Stands s line reply
   pub front : AppendsFront held held' reply
 
 -- one line was handed out, which doesn't end the script
@@ -58,26 +57,26 @@ pub record QuitLine {S : Type 0} (left : S → Known) (faults : S → ℕ) (old 
   pub quits : ends_script (without_cr raw) ≡ true
 
 -- one line was handed out and done, and its whole reply was written
-pub record AnsweredLine {S State : Type 0} (answer : Answer State) (MayWant : State → List ℕ → Type 0) (Stands : State → Type 0)
-    (left : S → Known) (faults : S → ℕ) (old new : Lines S) (held held' : Known) (s : SessionOf State) (tally : Tally) : Type 0 where
+pub record AnsweredLine {S : Type 0} (by : Answering (List ℕ)) (Stands : by.State → Type 0)
+    (left : S → Known) (faults : S → ℕ) (old new : Lines S) (held held' : Known) (s : Session by.State) (tally : Tally) : Type 0 where
   pub raw : List ℕ
   pub handed : HandedOut left faults old new (raw ∷ [])
-  pub whole : WholeReply answer MayWant Stands held held' s (without_cr raw) tally
+  pub whole : WholeReply by Stands held held' s (without_cr raw) tally
 
 -- one line was handed out and done, and a prefix of its reply was written
-pub record HalfAnsweredLine {S State : Type 0} (answer : Answer State) (MayWant : State → List ℕ → Type 0) (Stands : State → Type 0)
-    (left : S → Known) (faults : S → ℕ) (old new : Lines S) (held held' : Known) (s : SessionOf State) : Type 0 where
+pub record HalfAnsweredLine {S : Type 0} (by : Answering (List ℕ)) (Stands : by.State → Type 0)
+    (left : S → Known) (faults : S → ℕ) (old new : Lines S) (held held' : Known) (s : Session by.State) : Type 0 where
   pub raw : List ℕ
   pub handed : HandedOut left faults old new (raw ∷ [])
-  pub part : ReplyPrefix answer MayWant Stands held held' s (without_cr raw)
+  pub part : ReplyPrefix by Stands held held' s (without_cr raw)
 
 -- no line was done and nothing was written
-pub record Untouched {State : Type 0} (Stands : State → Type 0) (held held' : Known) (s : SessionOf State) : Type 0 where
+pub record Untouched {State : Type 0} (Stands : State → Type 0) (held held' : Known) (s : Session State) : Type 0 where
   pub kept : Keeps held held'
   pub stands : Stands s.state
 
 -- and the counts are as they were
-pub record ScriptEnd {State : Type 0} (Stands : State → Type 0) (held held' : Known) (s : SessionOf State) (tally : Tally) : Type 0 where
+pub record ScriptEnd {State : Type 0} (Stands : State → Type 0) (held held' : Known) (s : Session State) (tally : Tally) : Type 0 where
   pub same : Untouched Stands held held' s
   pub counts : s.counts ≡ counts_in tally
 
@@ -86,53 +85,53 @@ abbrev pub NoLineMore : {S : Type 0} → (S → Known) → (S → ℕ) → (old 
 NoLineMore left faults old new = IfSome (unread left old) (λ xs. IfSome (unread left new) (λ ys. xs ≡ ys)) ⊎ QuitLine left faults old new
 
 -- the sink failed: no line was done and nothing more written, or a line was done and a prefix of its reply written
-abbrev pub SinkStop : {S State : Type 0} → Answer State → (State → List ℕ → Type 0) → (State → Type 0) → (S → Known) → (S → ℕ)
-    → (old new : Lines S) → (held held' : Known) → SessionOf State → Type 0
-SinkStop answer MayWant Stands left faults old new held held' s =
+abbrev pub SinkStop : {S : Type 0} → (by : Answering (List ℕ)) → (by.State → Type 0) → (S → Known) → (S → ℕ)
+    → (old new : Lines S) → (held held' : Known) → Session by.State → Type 0
+SinkStop by Stands left faults old new held held' s =
     (Untouched Stands held held' s × NoLineMore left faults old new)
-    ⊎ HalfAnsweredLine answer MayWant Stands left faults old new held held' s
+    ⊎ HalfAnsweredLine by Stands left faults old new held held' s
 
--- what holds of a session at whose state what answers stood, and which had counted so many
-abbrev pub FromSession : {State : Type 0} → (State → Type 0) → Tally → (SessionOf State → Type 0) → Type 0
-FromSession {State} Stood tally P = (s : SessionOf State) → Stood s.state → s.counts ≡ counts_in tally → P s
+-- What holds of a session at whose state what answers stood, since it began so, and which had counted so many.
+abbrev pub FromSession : {Since State : Type 0} → (Since → State → Type 0) → Tally → (Since → Session State → Type 0) → Type 0
+FromSession {Since} {State} Stood tally P = (since : Since) (s : Session State) → Stood since s.state → s.counts ≡ counts_in tally → P since s
 
 -- Ok(true): the whole reply was written, and more is to come. Ok(false): the line is `quit`.
-abbrev pub ReplyOutcome : {State : Type 0} → Answer State → (State → List ℕ → Type 0) → (Stood Stands : State → Type 0)
+abbrev pub ReplyOutcome : {Since : Type 0} → (by : Answering (List ℕ)) → (Stood Stands : Since → by.State → Type 0)
     → (held held' : Known) → (counted tally : Tally) → List ℕ → Result Bool SinkFault → Type 0
-ReplyOutcome answer MayWant Stood Stands held held' counted tally line (Ok true) =
-    (ends_script line ≡ false) × FromSession Stood counted (λ s. WholeReply answer MayWant Stands held held' s line tally)
-ReplyOutcome answer MayWant Stood Stands held held' counted tally line (Ok false) =
-    (ends_script line ≡ true) × FromSession Stood counted (λ s. ScriptEnd Stands held held' s tally)
-ReplyOutcome answer MayWant Stood Stands held held' counted tally line (Err fault) =
+ReplyOutcome by Stood Stands held held' counted tally line (Ok true) =
+    (ends_script line ≡ false) × FromSession Stood counted (λ since s. WholeReply by (Stands since) held held' s line tally)
+ReplyOutcome by Stood Stands held held' counted tally line (Ok false) =
+    (ends_script line ≡ true) × FromSession Stood counted (λ since s. ScriptEnd (Stands since) held held' s tally)
+ReplyOutcome by Stood Stands held held' counted tally line (Err fault) =
     FromSession Stood counted
-    (λ s. (Untouched Stands held held' s × (ends_script line ≡ true)) ⊎ ReplyPrefix answer MayWant Stands held held' s line)
+    (λ since s. (Untouched (Stands since) held held' s × (ends_script line ≡ true)) ⊎ ReplyPrefix by (Stands since) held held' s line)
 
 -- the script couldn't be read on
-pub record UnreadLine {S State : Type 0} (Stood Stands : State → Type 0) (left : S → Known) (old new : Lines S) (held held' : Known)
+pub record UnreadLine {S Since State : Type 0} (Stood Stands : Since → State → Type 0) (left : S → Known) (old new : Lines S) (held held' : Known)
     (counted : Tally) : Type 0 where
   pub cut : NotTaken left old new
-  pub same : FromSession Stood counted (Untouched Stands held held')
+  pub same : FromSession Stood counted (λ since s. Untouched (Stands since) held held' s)
 
-abbrev pub FaultOutcome : {S State : Type 0} → Answer State → (State → List ℕ → Type 0) → (Stood Stands : State → Type 0) → (S → Known)
+abbrev pub FaultOutcome : {S Since : Type 0} → (by : Answering (List ℕ)) → (Stood Stands : Since → by.State → Type 0) → (S → Known)
     → (S → ℕ) → (old new : Lines S) → (held held' : Known) → Tally → SessionFault → Type 0
-FaultOutcome answer MayWant Stood Stands left faults old new held held' counted ReadFault =
+FaultOutcome by Stood Stands left faults old new held held' counted ReadFault =
     UnreadLine Stood Stands left old new held held' counted
-FaultOutcome answer MayWant Stood Stands left faults old new held held' counted InputTooLong =
+FaultOutcome by Stood Stands left faults old new held held' counted InputTooLong =
     UnreadLine Stood Stands left old new held held' counted
     × StepOf steps.InputTooLong (unread left old) (unread left new) old.taken new.taken (line_of new)
-FaultOutcome answer MayWant Stood Stands left faults old new held held' counted WriteFault =
-    FromSession Stood counted (SinkStop answer MayWant Stands left faults old new held held')
-FaultOutcome answer MayWant Stood Stands left faults old new held held' counted Memory =
-    FromSession Stood counted (SinkStop answer MayWant Stands left faults old new held held')
+FaultOutcome by Stood Stands left faults old new held held' counted WriteFault =
+    FromSession Stood counted (λ since s. SinkStop by (Stands since) left faults old new held held' s)
+FaultOutcome by Stood Stands left faults old new held held' counted Memory =
+    FromSession Stood counted (λ since s. SinkStop by (Stands since) left faults old new held held' s)
 
 -- Ok(true): a line was answered, and the session goes on. Ok(false): the script has ended.
-abbrev pub LineOutcome : {S State : Type 0} → Answer State → (State → List ℕ → Type 0) → (Stood Stands : State → Type 0) → (S → Known)
+abbrev pub LineOutcome : {S Since : Type 0} → (by : Answering (List ℕ)) → (Stood Stands : Since → by.State → Type 0) → (S → Known)
     → (S → ℕ) → (old new : Lines S) → (held held' : Known) → (counted tally : Tally) → Result Bool SessionFault → Type 0
-LineOutcome answer MayWant Stood Stands left faults old new held held' counted tally (Ok true) =
+LineOutcome by Stood Stands left faults old new held held' counted tally (Ok true) =
     PassedLine left faults old new
-    × FromSession Stood counted (λ s. AnsweredLine answer MayWant Stands left faults old new held held' s tally)
-LineOutcome answer MayWant Stood Stands left faults old new held held' counted tally (Ok false) =
+    × FromSession Stood counted (λ since s. AnsweredLine by (Stands since) left faults old new held held' s tally)
+LineOutcome by Stood Stands left faults old new held held' counted tally (Ok false) =
     (IsAtEnd (unread left old) ⊎ QuitLine left faults old new)
-    × FromSession Stood counted (λ s. ScriptEnd Stands held held' s tally)
-LineOutcome answer MayWant Stood Stands left faults old new held held' counted tally (Err fault) =
-    FaultOutcome answer MayWant Stood Stands left faults old new held held' counted fault
+    × FromSession Stood counted (λ since s. ScriptEnd (Stands since) held held' s tally)
+LineOutcome by Stood Stands left faults old new held held' counted tally (Err fault) =
+    FaultOutcome by Stood Stands left faults old new held held' counted fault

@@ -1,51 +1,47 @@
 -- How far the attempts at a line's command have come.
-use Rattle.std.specs.Prelude.{◌≡◌, ◌≤◌, ◌<◌, ◌-◌, ℕ, Bool, true, false, Option, Some, None, List, [], ◌∷◌, ◌++◌, IsOk, IsOkAnd, is_some}
+use Rattle.std.specs.Prelude.{◌≡◌, ◌≤◌, ◌<◌, ◌-◌, ℕ, Bool, true, Option, Some, None, List, [], ◌∷◌, ◌++◌, IsOk, IsOkAnd, is_some}
 use Rattle.std.specs.Option.{option_map_or}
 use Rattle.lx_spec.specs.declared.Command.{Command}
 use Rattle.lx_spec.specs.declared.Command.TheVariants as commands
 use Rattle.lx_spec.specs.declared.Refusal.{Refusal}
-use Rattle.lx_spec.specs.Desk.{Desk, step}
+use Rattle.lx_spec.specs.Desk.{Desk, step, is_edit}
 use Rattle.lx_spec.specs.Kept.{Kept}
-use Rattle.lx_spec.specs.Session.{Session, Attempt, attempts_for, command_of}
-use Rattle.lx_spec.specs.RefusedPlaces.{is_edit}
+use Rattle.lx_spec.specs.DeskSession.{DeskState, Attempt, attempts_for, command_of}
 use Rattle.lx_console.specs.ConsoleMeaning.{StandsFor}
 use Rattle.lx_console.specs.Ticks.{after_ticks}
 use Rattle.lx_session.specs.LineState.{LineState, next_of}
-use Rattle.lx_session.specs.Attempts.{WantsLast, after_commands}
+use Rattle.lx_session.specs.Attempts.{after_commands}
 
 -- the attempts that are left, unless one was refused
-abbrev pub resumed : List ℕ → Option Command → ℕ → Option Refusal → Session → Attempt
-resumed places command left refusal t =
-    option_map_or (λ r. record { session = t; refusal = Some r }) refusal (attempts_for places command left t)
+abbrev pub resumed : Option ℕ → Option Command → ℕ → Option Refusal → DeskState → Attempt
+resumed failed command left refusal t =
+    option_map_or (λ r. record { state = t; refusal = Some r }) refusal (attempts_for failed command left t)
 
--- want of memory refused the command at this desk, which is an edit that the desk accepts
-pub record IsWanted (d : Desk) (command : Option Command) : Type 0 where
+-- an attempt at the command failed at this desk: the command is an edit that the desk accepts
+pub record HasFailed (d : Desk) (command : Option Command) : Type 0 where
   pub wanted : Command
   pub is : command ≡ Some wanted
   pub edit : is_edit wanted ≡ true
   pub accepted : IsOk (step d wanted)
 
--- From a session on, the attempts of a line have come to this one, for which the console stands, and the commands that were accepted
--- were heard of. Where all are admitted, want of memory refused none but an edit that the desk accepts.
-pub record LineProgress (all : Bool) (heard : List Command → Type 0) (s : Session) (old turn : LineState) (console : Kept) : Type 0 where
-  pub now : Session
-  pub wants : Bool
+-- From a state on, the attempts of a line have come to this one, for which the console stands, and the commands that were accepted were
+-- heard of. Where one of those that are left will fail, `at` tells which one of all it is; where none will, the one that did, if one did.
+-- Where all are admitted, none fails but at an edit that the desk accepts.
+pub record LineProgress (all : Bool) (heard : List Command → Type 0) (s : DeskState) (old turn : LineState) (console : Kept) : Type 0 where
+  pub now : DeskState
+  pub at : Option ℕ → Option ℕ
   pub commands : List Command
   pub meaning : turn.meaning ≡ old.meaning
-  pub later : s.attempts ≤ now.attempts
-  pub some : wants ≡ true → s.attempts < now.attempts
-  pub by : (places : List ℕ) → WantsLast places s.attempts now.attempts wants
-      → attempts_for places (command_of old.meaning) old.left s ≡ resumed places (command_of old.meaning) turn.left turn.refusal now
-  pub not_yet : turn.refusal ≡ None → wants ≡ false
+  pub by : (failed : Option ℕ) → attempts_for (at failed) (command_of old.meaning) old.left s
+      ≡ resumed failed (command_of old.meaning) turn.left turn.refusal now
+  pub not_yet : turn.refusal ≡ None → at None ≡ None
   pub stands : StandsFor now.desk console
-  pub text : now.text ≡ s.text
-  pub counts : now.counts ≡ s.counts
   pub accepted : now.accepted ≡ s.accepted ++ commands
   pub desk : now.desk ≡ after_commands s.desk commands
   pub listened : heard commands
   pub fewer : turn.left ≤ old.left
   pub fresh : turn.left ≡ old.left → now.desk ≡ s.desk
-  pub at_edit : wants ≡ true → all ≡ true → IsWanted now.desk (command_of old.meaning)
+  pub at_edit : is_some (at None) ≡ true → all ≡ true → HasFailed now.desk (command_of old.meaning)
   pub still : old.left ≤ 1 → is_some turn.refusal ≡ true → now.desk ≡ s.desk
 
 -- Some attempts at ticks were made at once and accepted, if any; each may be taken as heard of.

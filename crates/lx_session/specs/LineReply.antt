@@ -1,24 +1,25 @@
 -- The reply to a line whose attempts are over, and how replies are counted.
-use Rattle.std.specs.Prelude.{ℕ, ◌+◌, ◌-◌, ◌<◌, ◌≤◌, ◌^◌, Option, Some, None, List}
+use Rattle.std.specs.Prelude.{ℕ, ◌+◌, ◌-◌, ◌<◌, ◌≤◌, ◌^◌, Option, Some, None, List, []}
 use Rattle.lx_spec.specs.declared.Line.{Line}
 use Rattle.lx_spec.specs.declared.Refusal.{Refusal}
 use Rattle.lx_spec.specs.Desk.{Desk}
-use Rattle.lx_spec.specs.Session.{Counts, Attempt, begin_at, after_attempts}
+use Rattle.lx_spec.specs.Session.{Counts, Session}
+use Rattle.lx_spec.specs.DeskSession.{with_reply}
 use Rattle.lx_script.specs.declared.reply.Reply.{Reply}
 use Rattle.lx_script.specs.declared.reply.Reply.TheVariants as replies
 use Rattle.lx_session.specs.declared.tally.Tally.{Tally}
 
--- a session at this desk that counted so far, and what the attempts came to
-abbrev pub tried_at : Desk → Counts → Option Refusal → Attempt
-tried_at d counts refusal = record { session = record (begin_at d) { counts = counts }; refusal = refusal }
+-- a session of no state, for its text and counts
+abbrev pub stateless : Counts → Session (Unit {0})
+stateless counts = record { state = tt; text = []; counts = counts }
 
--- the text of the reply
+-- the text of the reply to a line of this meaning, whose attempts led to this desk
 abbrev pub reply_to : Desk → Option Line → Option Refusal → List ℕ
-reply_to d meaning refusal = (after_attempts meaning (tried_at d (record { ok = 0; refused = 0; bad = 0 }) refusal)).text
+reply_to d meaning refusal = (with_reply (stateless (record { ok = 0; refused = 0; bad = 0 })) meaning d refusal).text
 
 -- the counts after it
 abbrev pub counts_after : Desk → Counts → Option Line → Option Refusal → Counts
-counts_after d counts meaning refusal = (after_attempts meaning (tried_at d counts refusal)).counts
+counts_after d counts meaning refusal = (with_reply (stateless counts) meaning d refusal).counts
 
 -- the reply to what was accepted or refused
 abbrev pub reply_for : Option Refusal → Reply

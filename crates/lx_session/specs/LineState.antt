@@ -6,7 +6,7 @@ use Rattle.lx_spec.specs.declared.Line.TheVariants.{Frame}
 use Rattle.lx_spec.specs.declared.Refusal.{Refusal}
 use Rattle.lx_spec.specs.ValidEdit.{ValidLine}
 use Rattle.lx_spec.specs.Script.{line_of}
-use Rattle.lx_spec.specs.Session.{command_of, count_of}
+use Rattle.lx_spec.specs.DeskSession.{command_of, count_of}
 
 pub record LineState : Type 0 where
   pub meaning : Option Line

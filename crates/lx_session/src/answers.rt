@@ -2,8 +2,7 @@
 
 ghost use Rattle.std.specs.Prelude.{◌≡◌, List, ℕ, IfOk, not, option_copied};
 ghost use Rattle.lx_io.specs.Puts.{HasSinkCause};
-ghost use Rattle.lx_spec.specs.Session.{ends_script};
-ghost use Rattle.lx_spec.specs.SessionOf.{SessionOf, Answer};
+ghost use Rattle.lx_spec.specs.Session.{Session, Answering, ends_script};
 ghost use Rattle.lx_session.specs.LineReply.{HasRoom, HasOneMore, counts_in};
 ghost use Rattle.lx_session.specs.OneAnswer.{IsLine, IsLawful, OneAnswer};
 
@@ -12,20 +11,14 @@ use lx_io::{Sink, SinkFault};
 
 /// What answers the lines of a script, one after another: a desk of any kind.
 ///
-/// It has four meanings for contracts: the states that it stands at (`State`, `stands`), the session after a line
-/// (`answer_of`), and at which lines want of memory may refuse an attempt (`may_want`).
+/// It has two meanings for contracts: how it answers (`by`: the states, the session after a line, and at which lines an attempt
+/// may fail), and for which state it stands (`stands`).
 pub trait Answers {
-    /// What it stands at.
-    ghost State: { Type 0 };
+    /// How it answers a line.
+    ghost by: { Answering (List ℕ) };
 
     /// It stands for the state.
-    ghost stands: { State → Self → Type 0 };
-
-    /// The session after a line.
-    ghost answer_of: { Answer State };
-
-    /// Where want of memory may refuse an attempt of the line.
-    ghost may_want: { State → List ℕ → Type 0 };
+    ghost stands: { by.State → Self → Type 0 };
 
     /// Does what a line asks for, then appends its replies and counts them. None stands for a line that is too
     /// long, which is bad. It answers false exactly for `quit`.
@@ -39,12 +32,12 @@ pub trait Answers {
         tally: &mut Tally,
     ) -> Result<bool, SinkFault>
         requires room { HasRoom tally.old }
-        ensures answered { (s : SessionOf State) (text : List ℕ) → stands s.state self.old → s.counts ≡ counts_in tally.old
+        ensures answered { (s : Session by.State) (text : List ℕ) → stands s.state self.old → s.counts ≡ counts_in tally.old
             → IsLine (option_copied line.entry) text
-            → OneAnswer answer_of may_want K.holds K.faults K.wants sink.old sink.new result s text (λ state. stands state self.new)
+            → OneAnswer by K.holds K.faults K.wants sink.old sink.new result s text (λ state. stands state self.new)
             tally.new }
         ensures quit { IfOk result (λ more. (text : List ℕ) → IsLine (option_copied line.entry) text → more ≡ not (ends_script text)) }
         ensures cause { HasSinkCause K.faults K.wants sink.old sink.new result }
         ensures more { HasOneMore tally.old tally.new }
-        ensures lawful { IsLawful answer_of };
+        ensures lawful { IsLawful by };
 }

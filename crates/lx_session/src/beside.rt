@@ -2,8 +2,7 @@
 
 ghost use Rattle.std.specs.Prelude.{◌≡◌, List, ℕ, IfOk, not, option_copied};
 ghost use Rattle.lx_io.specs.Puts.{HasSinkCause};
-ghost use Rattle.lx_spec.specs.Session.{ends_script};
-ghost use Rattle.lx_spec.specs.SessionOf.{SessionOf, Answer};
+ghost use Rattle.lx_spec.specs.Session.{Session, Answering, ends_script};
 ghost use Rattle.lx_session.specs.LineReply.{HasRoom, HasOneMore, counts_in};
 ghost use Rattle.lx_session.specs.OneAnswer.{IsLine, IsLawful, OneAnswer};
 
@@ -20,17 +19,14 @@ pub(crate) trait AnswersBeside<D> {
     /// What it keeps true of itself together with what is lent.
     ghost keeps: { Self → D → Type 0 };
 
-    /// What both stand at.
-    ghost State: { Type 0 };
+    /// How both answer a line.
+    ghost by: { Answering (List ℕ) };
 
-    /// They stand for the state.
-    ghost stands: { State → Self → D → Type 0 };
+    /// What is to be known of where a session began.
+    ghost Since: { Type 0 };
 
-    /// The session after a line.
-    ghost answer_of: { Answer State };
-
-    /// Where want of memory may refuse an attempt of the line.
-    ghost may_want: { State → List ℕ → Type 0 };
+    /// They stand for the state, of a session that began so.
+    ghost stands: { Since → by.State → Self → D → Type 0 };
 
     /// As `Answers::answer`.
     fn answer_beside<K: Sink>(
@@ -43,27 +39,25 @@ pub(crate) trait AnswersBeside<D> {
         requires room { HasRoom tally.old }
         requires keeps { keeps self.old lent.old }
         ensures keeps { keeps self.new lent.new }
-        ensures answered { (s : SessionOf State) (text : List ℕ) → stands s.state self.old lent.old → s.counts ≡ counts_in tally.old
-            → IsLine (option_copied line.entry) text
-            → OneAnswer answer_of may_want K.holds K.faults K.wants sink.old sink.new result s text
-            (λ state. stands state self.new lent.new)
+        ensures answered { (since : Since) (s : Session by.State) (text : List ℕ) → stands since s.state self.old lent.old
+            → s.counts ≡ counts_in tally.old → IsLine (option_copied line.entry) text
+            → OneAnswer by K.holds K.faults K.wants sink.old sink.new result s text
+            (λ state. stands since state self.new lent.new)
             tally.new }
         ensures quit { IfOk result (λ more. (text : List ℕ) → IsLine (option_copied line.entry) text → more ≡ not (ends_script text)) }
         ensures cause { HasSinkCause K.faults K.wants sink.old sink.new result }
         ensures more { HasOneMore tally.old tally.new }
-        ensures lawful { IsLawful answer_of };
+        ensures lawful { IsLawful by };
 }
 
 impl<A: Answers> AnswersBeside<()> for A {
     ghost keeps = { λ _ _. Unit {0} };
 
-    ghost State = { A.State };
+    ghost by = { A.by };
 
-    ghost stands = { λ state answerer _. A.stands state answerer };
+    ghost Since = { Unit {0} };
 
-    ghost answer_of = { A.answer_of };
-
-    ghost may_want = { A.may_want };
+    ghost stands = { λ _ state answerer _. A.stands state answerer };
 
     fn answer_beside<K: Sink>(
         &mut self,
@@ -77,17 +71,16 @@ impl<A: Answers> AnswersBeside<()> for A {
 }
 
 impl<L: Listener> AnswersBeside<Console> for L {
-    ghost use Rattle.lx_session.specs.HeardDesk.{HeardDesk, heard_answer, HeardMayWant, HasHeard};
+    ghost use Rattle.lx_spec.specs.DeskSession.{desk_answering};
+    ghost use Rattle.lx_session.specs.Listening.{Beginning, HasHeard};
 
     ghost keeps = { L.keeps };
 
-    ghost State = { HeardDesk L };
+    ghost by = { desk_answering L.admits_all };
 
-    ghost stands = { λ state listener console. HasHeard L.heard listener console state };
+    ghost Since = { Beginning L };
 
-    ghost answer_of = { heard_answer };
-
-    ghost may_want = { HeardMayWant L.admits_all };
+    ghost stands = { HasHeard L.heard };
 
     fn answer_beside<K: Sink>(
         &mut self,

@@ -14,7 +14,6 @@ ghost use Rattle.lx_spec.specs.Session.{is_quit};
 ghost use Rattle.lx_session.specs.LineState.{next_of, frame_of};
 ghost use Rattle.lx_session.specs.LineReply.{reply_to, reply_for, counts_after, counts_in, counted, HasRoom, HasOneMore};
 
-use crate::meaning::{Asked, Meaning};
 use crate::tally::Tally;
 use crate::turn::Turn;
 use lx_base::{CueNo, Level, UNIVERSE_SLOTS};
@@ -25,7 +24,7 @@ use lx_script::{Reply, put_frame, put_reply};
 use lx_spec::{Line, Refusal};
 use lx_writer::write_show;
 
-impl Turn {
+impl<'a> Turn<'a> {
     /// Appends the reply to the line after its attempts, and counts it. It answers false exactly for
     /// `quit`.
     ///
@@ -71,37 +70,37 @@ impl Turn {
         ensures quit { IfOk result (λ more. more ≡ not (is_quit self.now.meaning)) }
         ensures counted { HasOneMore tally.old tally.new }
     {
-        reply_to_line(&self.meaning, self.refusal, player, sink, tally)
+        reply_to_line(&self.line, self.refusal, player, sink, tally)
     }
 }
 
 /// Appends the reply to a line of this meaning, which asks for no frame, and counts it.
 fn reply_to_line<K: Sink>(
-    meaning: &Meaning,
+    line: &Option<Line>,
     refusal: Option<Refusal>,
     player: &Player,
     sink: &mut K,
     tally: &mut Tally,
 ) -> Result<bool, SinkFault>
-    requires no_frame { frame_of meaning.now ≡ None }
+    requires no_frame { frame_of line.now ≡ None }
     requires room { HasRoom tally.old }
     ensures cause { HasSinkCause K.faults K.wants sink.old sink.new result }
     ensures text { (d : Desk) → StandsFor d player.now
-        → Puts K.holds K.faults K.wants sink.old sink.new result (reply_to d meaning.now refusal) }
+        → Puts K.holds K.faults K.wants sink.old sink.new result (reply_to d line.now refusal) }
     ensures counts { (d : Desk) → StandsFor d player.now
-        → OnOk result (counts_in tally.new ≡ counts_after d (counts_in tally.old) meaning.now refusal) }
-    ensures quit { IfOk result (λ more. more ≡ not (is_quit meaning.now)) }
+        → OnOk result (counts_in tally.new ≡ counts_after d (counts_in tally.old) line.now refusal) }
+    ensures quit { IfOk result (λ more. more ≡ not (is_quit line.now)) }
     ensures counted { HasOneMore tally.old tally.new }
 {
-    match meaning.asked() {
-        Asked::Bad => give(Reply::Bad, sink, tally),
-        Asked::Command => give(reply_of(refusal), sink, tally),
-        Asked::Ticks(_) => give(reply_of(refusal), sink, tally),
-        Asked::Frame(_) => unreachable!(),
-        Asked::Save => put_show(player, sink),
-        Asked::SheetOf(n) => put_sheet(*n, refusal, player, sink, tally),
-        Asked::Quit => Ok(false),
-        Asked::Blank => Ok(true),
+    match line {
+        None => give(Reply::Bad, sink, tally),
+        Some(Line::Command(_)) => give(reply_of(refusal), sink, tally),
+        Some(Line::Ticks(_)) => give(reply_of(refusal), sink, tally),
+        Some(Line::Frame(_)) => unreachable!(),
+        Some(Line::Save) => put_show(player, sink),
+        Some(Line::SheetOf(n)) => put_sheet(*n, refusal, player, sink, tally),
+        Some(Line::Quit) => Ok(false),
+        Some(Line::Blank) => Ok(true),
     }
 }
 

@@ -19,7 +19,7 @@ use lx_spec::{Command, Key, Line, Refusal};
 pub(crate) fn answer_key<L: Listener, K: Sink>(
     listener: &mut L,
     console: &mut Console,
-    key: &Key,
+    key: Key,
     sink: &mut K,
     tally: &mut Tally,
 ) -> Result<bool, SinkFault>
@@ -28,41 +28,36 @@ pub(crate) fn answer_key<L: Listener, K: Sink>(
     ensures keeps { L.keeps listener.new console.new }
     ensures answered { FromDesk console.old tally.old
         (λ s. LineAnswer L.admits_all (L.heard listener.old listener.new) K.holds K.faults K.wants sink.old sink.new result s
-        (Some (Line.Command (Command.Key key.now))) console.new tally.new) }
+        (Some (Line.Command (Command.Key key))) console.new tally.new) }
     ensures goes_on { IfOk result (λ more. more ≡ true) }
     ensures cause { HasSinkCause K.faults K.wants sink.old sink.new result }
     ensures more { HasOneMore tally.old tally.new }
 {
-    let refusal = attempt_key(listener, &Command::Key(*key), key, console);
+    let refusal = attempt_key(listener, &key, console);
     give(reply_of(refusal), sink, tally)
 }
 
-/// Attempts a key, which is this command, that the listener is asked to admit, and hears of where it is accepted. It says the
-/// refusal, if it is refused. The console presses the key by value: so it has no room for the plan of an edit.
-fn attempt_key<L: Listener>(
-    listener: &mut L,
-    command: &Command,
-    key: &Key,
-    console: &mut Console,
-) -> Option<Refusal>
-    requires same { command.now ≡ Command.Key key.now }
+/// Attempts a key that the listener is asked to admit, and hears of where it is accepted. It says the refusal, if it is
+/// refused. The console presses the key by value: so it has no room for the plan of an edit.
+fn attempt_key<L: Listener>(listener: &mut L, key: &Key, console: &mut Console) -> Option<Refusal>
     requires keeps { L.keeps listener.old console.old }
     ensures keeps { L.keeps listener.new console.new }
-    ensures attempted { (d : Desk) → StandsFor d console.old → ListenedAttempt L.admits_all d command.now result console.new }
-    ensures heard { L.heard listener.old listener.new (heard_of command.now result) }
+    ensures attempted { (d : Desk) → StandsFor d console.old
+        → ListenedAttempt L.admits_all d (Command.Key key.now) result console.new }
+    ensures heard { L.heard listener.old listener.new (heard_of (Command.Key key.now) result) }
 {
-    let admitted = listener.admit(command);
-    let refusal = try_key(command, key, console, admitted);
+    let command = Command::Key(*key);
+    let admitted = listener.admit(&command);
+    let refusal = try_key(key, console, admitted);
     if refusal.is_none() {
-        listener.hear(command, console);
+        listener.hear(&command, console);
     }
     refusal
 }
 
-/// The refusal of a key, which is this command, if it is refused.
-fn try_key(command: &Command, key: &Key, console: &mut Console, admitted: bool) -> Option<Refusal>
-    requires { command.now ≡ Command.Key key.now }
-    ensures attempted { (d : Desk) → StandsFor d console.old → Attempted admitted d command.now result console.new }
+/// The refusal of a key, if it is refused.
+fn try_key(key: &Key, console: &mut Console, admitted: bool) -> Option<Refusal>
+    ensures attempted { (d : Desk) → StandsFor d console.old → Attempted admitted d (Command.Key key.now) result console.new }
     ensures admitted { is_none result ≡ true → admitted ≡ true }
     ensures unchanged { IsTrue (is_some result) → console.new ≡ console.old }
 {

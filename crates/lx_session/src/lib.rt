@@ -8,7 +8,6 @@ mod finish;
 mod key;
 mod line;
 mod listener;
-mod meaning;
 mod quit;
 mod script;
 mod take;

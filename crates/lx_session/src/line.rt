@@ -3,10 +3,10 @@
 ghost use Rattle.std.specs.Prelude.{◌≡◌, ◌++◌, IfOk, IfSome, None, Some, not, true, option_copied};
 ghost use Rattle.lx_io.specs.Puts.{HasSinkCause};
 ghost use Rattle.lx_spec.specs.Desk.{Desk};
-ghost use Rattle.lx_spec.specs.Session.{Session, is_quit};
+ghost use Rattle.lx_spec.specs.Session.{is_quit};
+ghost use Rattle.lx_spec.specs.DeskSession.{DeskState};
 ghost use Rattle.lx_spec.specs.ValidEdit.{ValidCommand, ValidLine};
 ghost use Rattle.lx_console.specs.ConsoleMeaning.{StandsFor};
-ghost use Rattle.lx_script.specs.Briefs.{IsReadAs};
 ghost use Rattle.lx_session.specs.Attempts.{ListenedAttempt, heard_of};
 ghost use Rattle.lx_session.specs.LineState.{meaning_of, next_of};
 ghost use Rattle.lx_session.specs.LineProgress.{HasPassed, LineProgress};
@@ -16,12 +16,11 @@ ghost use Rattle.lx_session.specs.LineAnswer.{LineAnswer, FromDesk};
 use crate::finish::give;
 use crate::key::answer_key;
 use crate::listener::Listener;
-use crate::meaning::reading_of;
 use crate::tally::Tally;
-use crate::turn::{Turn, try_command};
+use crate::turn::{Turn, read_turn, try_command};
 use lx_console::Console;
 use lx_io::{Sink, SinkFault};
-use lx_script::{Brief, Reading, Reply};
+use lx_script::Reply;
 use lx_spec::{Command, Line, Refusal};
 
 /// Does what a line asks for, then appends its replies and counts them. None stands for a line that is too
@@ -46,36 +45,34 @@ pub fn answer<L: Listener, K: Sink>(
     ensures cause { HasSinkCause K.faults K.wants sink.old sink.new result }
     ensures more { HasOneMore tally.old tally.new }
 {
-    match reading_of(line) {
-        Reading::Bad => give(Reply::Bad, sink, tally),
-        Reading::Brief(Brief::Key(key)) => answer_key(listener, console, &key, sink, tally),
-        reading => answer_read(listener, console, line, &reading, sink, tally),
+    match read_turn(line) {
+        None => give(Reply::Bad, sink, tally),
+        Some(Line::Command(Command::Key(key))) => answer_key(listener, console, key, sink, tally),
+        Some(line) => answer_read(listener, console, line, sink, tally),
     }
 }
 
-/// As `answer`, of a line that was read so far. It stands apart, so that keys and bad lines don't pay for the room of its turn.
+/// As `answer`, of a line that means this. It stands apart, so that keys and bad lines don't pay for the room of its turn.
 #[inline(never)]
 fn answer_read<L: Listener, K: Sink>(
     listener: &mut L,
     console: &mut Console,
-    line: Option<&[u8]>,
-    reading: &Reading,
+    line: Line,
     sink: &mut K,
     tally: &mut Tally,
 ) -> Result<bool, SinkFault>
-    requires read { IsReadAs reading.now (meaning_of (option_copied line)) }
+    requires valid { ValidLine line }
     requires room { HasRoom tally.old }
     requires keeps { L.keeps listener.old console.old }
     ensures keeps { L.keeps listener.new console.new }
     ensures answered { FromDesk console.old tally.old
         (λ s. LineAnswer L.admits_all (L.heard listener.old listener.new) K.holds K.faults K.wants sink.old sink.new result s
-        (meaning_of (option_copied line.entry)) console.new tally.new) }
-    ensures quit { IfOk result (λ more. more ≡ not (is_quit (meaning_of (option_copied line.entry)))) }
+        (Some line.entry) console.new tally.new) }
+    ensures quit { IfOk result (λ more. more ≡ not (is_quit (Some line.entry))) }
     ensures cause { HasSinkCause K.faults K.wants sink.old sink.new result }
     ensures more { HasOneMore tally.old tally.new }
 {
-    let mut turn = Turn::new();
-    turn.begin_read(line, reading);
+    let mut turn = Turn::of(Some(line));
     attempt_all(listener, &mut turn, console);
     turn.finish(console, sink, tally)
 }
@@ -88,7 +85,7 @@ fn attempt_all<L: Listener>(listener: &mut L, turn: &mut Turn, console: &mut Con
     ensures keeps { L.keeps listener.new console.new }
     ensures meaning { turn.new.meaning ≡ turn.old.meaning }
     ensures over { next_of turn.new ≡ None }
-    ensures tried { (s : Session) → StandsFor s.desk console.old
+    ensures tried { (s : DeskState) → StandsFor s.desk console.old
         → LineProgress L.admits_all (L.heard listener.old listener.new) s turn.old turn.new console.new }
 {
     pass_ticks(listener, turn, console);

@@ -24,19 +24,19 @@ pub trait Listener {
     /// Whether it admits every command.
     ghost admits_all: { Bool };
 
-    /// What it keeps from admitting a command until it hears of it.
-    ghost ready: { Self → Type 0 };
+    /// What it keeps from admitting this command until it hears of it.
+    ghost ready: { Self → Command → Type 0 };
 
     /// Whether the command may be attempted. One that isn't admitted is refused with `Memory`.
     fn admit(&mut self, command: &Command) -> bool
         ensures keeps { (console : Kept) → keeps self.old console → keeps self.new console }
         ensures heard { heard self.old self.new [] }
         ensures all { admits_all ≡ true → result ≡ true }
-        ensures ready { result ≡ true → ready self.new };
+        ensures ready { result ≡ true → ready self.new command.now };
 
     /// Hears of a command that was accepted; the console is the one after it. The listener is as `admit` left it.
     fn hear(&mut self, command: &Command, console: &Console)
-        requires { (before : Kept) × (keeps self.old before × (AcceptedStep before command.now console.now × ready self.old)) }
+        requires { (before : Kept) × (keeps self.old before × (AcceptedStep before command.now console.now × ready self.old command.now)) }
         ensures keeps { keeps self.new console.now }
         ensures heard { heard self.old self.new (command.now ∷ []) };
 
@@ -63,7 +63,7 @@ impl Listener for NoListener {
 
     ghost admits_all = { true };
 
-    ghost ready = { λ _. Unit {0} };
+    ghost ready = { λ _ _. Unit {0} };
 
     ghost nothing = { λ state. tt };
 

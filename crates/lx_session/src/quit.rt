@@ -3,11 +3,12 @@
 ghost use Rattle.std.specs.Prelude.{◌≡◌};
 ghost use Rattle.lx_spec.specs.Session.{ends_script};
 
-use lx_script::{Brief, Reading, read_brief};
+use lx_script::read_line;
+use lx_spec::Line;
 
 /// Whether the line is `quit`, which ends its script.
 pub fn is_quit(line: &[u8]) -> bool
     ensures { result ≡ ends_script line.now }
 {
-    matches!(read_brief(line), Reading::Brief(Brief::Quit))
+    matches!(read_line(line), Some(Line::Quit))
 }

@@ -4,9 +4,11 @@ ghost use Rattle.std.specs.Prelude.{◌≡◌, ◌≤◌, [], true, IfSome, OnOk
 ghost use Rattle.lx_base.specs.declared.TheConstants.{INPUT_BYTES};
 ghost use Rattle.lx_lex.specs.Unread.{CanAdvance, SameSource, bytes_taken, source_left, unread};
 ghost use Rattle.lx_spec.specs.Desk.{Desk};
+ghost use Rattle.lx_spec.specs.DeskSession.{begun, desk_answering};
 ghost use Rattle.lx_console.specs.ConsoleMeaning.{StandsFor};
 ghost use Rattle.lx_session.specs.ScriptAnswer.{ScriptAnswered};
-ghost use Rattle.lx_session.specs.SessionOutcome.{SessionOutcome, HasSessionCause, KeepsLimit};
+ghost use Rattle.lx_session.specs.Listening.{HasDone};
+ghost use Rattle.lx_session.specs.SessionOutcome.{HasSessionCause, KeepsLimit};
 
 use crate::answers::Answers;
 use crate::beside::AnswersBeside;
@@ -35,8 +37,8 @@ pub fn session<S: Source, K: Sink>(
     ensures same_source { SameSource lines.old lines.new }
     ensures outcome { (d : Desk) → StandsFor d console.old
         → IfSome (unread S.left lines.old)
-        (λ bytes. SessionOutcome true (λ commands. Unit {0}) d (bytes_taken lines.old) bytes (unread S.left lines.new)
-        (source_left S.left lines.new) (K.holds sink.old) (K.holds sink.new) console.new result) }
+        (λ bytes. ScriptAnswered (desk_answering true) (HasDone (λ commands. Unit {0}) d console.new) (begun d) (bytes_taken lines.old) bytes
+        (unread S.left lines.new) (source_left S.left lines.new) (K.holds sink.old) (K.holds sink.new) result) }
     ensures limit { IfSome (unread S.left lines.old) (λ bytes. KeepsLimit (bytes_taken lines.old) bytes result) }
     ensures cause { HasSessionCause S.faults K.faults K.wants lines.old lines.new sink.old sink.new result }
     ensures handed_on { OnOk result (K.back sink.new ≡ []) }
@@ -59,8 +61,8 @@ pub fn session_with<L: Listener, S: Source, K: Sink>(
     ensures keeps { L.keeps listener.new console.new }
     ensures outcome { (d : Desk) → StandsFor d console.old
         → IfSome (unread S.left lines.old)
-        (λ bytes. SessionOutcome L.admits_all (L.heard listener.old listener.new) d (bytes_taken lines.old) bytes
-        (unread S.left lines.new) (source_left S.left lines.new) (K.holds sink.old) (K.holds sink.new) console.new result) }
+        (λ bytes. ScriptAnswered (desk_answering L.admits_all) (HasDone (L.heard listener.old listener.new) d console.new) (begun d)
+        (bytes_taken lines.old) bytes (unread S.left lines.new) (source_left S.left lines.new) (K.holds sink.old) (K.holds sink.new) result) }
     ensures limit { IfSome (unread S.left lines.old) (λ bytes. KeepsLimit (bytes_taken lines.old) bytes result) }
     ensures cause { HasSessionCause S.faults K.faults K.wants lines.old lines.new sink.old sink.new result }
     ensures handed_on { OnOk result (K.back sink.new ≡ []) }
@@ -83,9 +85,9 @@ pub fn answer_lines<A: Answers, S: Source, K: Sink>(
     requires going { CanAdvance lines.old }
     requires within { bytes_taken lines.old ≤ INPUT_BYTES }
     ensures same_source { SameSource lines.old lines.new }
-    ensures outcome { (state : A.State) → A.stands state answerer.old
+    ensures outcome { (state : A.by.State) → A.stands state answerer.old
         → IfSome (unread S.left lines.old)
-        (λ bytes. ScriptAnswered A.answer_of A.may_want (λ s. A.stands s answerer.new) state (bytes_taken lines.old) bytes
+        (λ bytes. ScriptAnswered A.by (λ s. A.stands s answerer.new) state (bytes_taken lines.old) bytes
         (unread S.left lines.new) (source_left S.left lines.new) (K.holds sink.old) (K.holds sink.new) result) }
     ensures limit { IfSome (unread S.left lines.old) (λ bytes. KeepsLimit (bytes_taken lines.old) bytes result) }
     ensures cause { HasSessionCause S.faults K.faults K.wants lines.old lines.new sink.old sink.new result }
@@ -106,9 +108,9 @@ fn answer_each<D, A: AnswersBeside<D>, S: Source, K: Sink>(
     requires keeps { A.keeps answerer.old lent.old }
     ensures same_source { SameSource lines.old lines.new }
     ensures keeps { A.keeps answerer.new lent.new }
-    ensures outcome { (state : A.State) → A.stands state answerer.old lent.old
+    ensures outcome { (since : A.Since) (state : A.by.State) → A.stands since state answerer.old lent.old
         → IfSome (unread S.left lines.old)
-        (λ bytes. ScriptAnswered A.answer_of A.may_want (λ s. A.stands s answerer.new lent.new) state (bytes_taken lines.old) bytes
+        (λ bytes. ScriptAnswered A.by (λ s. A.stands since s answerer.new lent.new) state (bytes_taken lines.old) bytes
         (unread S.left lines.new) (source_left S.left lines.new) (K.holds sink.old) (K.holds sink.new) result) }
     ensures limit { IfSome (unread S.left lines.old) (λ bytes. KeepsLimit (bytes_taken lines.old) bytes result) }
     ensures cause { HasSessionCause S.faults K.faults K.wants lines.old lines.new sink.old sink.new result }

@@ -30,8 +30,8 @@ pub(crate) fn take_line<D, A: AnswersBeside<D>, S: Source, K: Sink>(
     requires keeps { A.keeps answerer.old lent.old }
     ensures same_source { SameSource lines.old lines.new }
     ensures keeps { A.keeps answerer.new lent.new }
-    ensures outcome { LineOutcome A.answer_of A.may_want (λ state. A.stands state answerer.old lent.old)
-        (λ state. A.stands state answerer.new lent.new) S.left S.faults lines.old lines.new (K.holds sink.old) (K.holds sink.new) tally.old
+    ensures outcome { LineOutcome A.by (λ since state. A.stands since state answerer.old lent.old)
+        (λ since state. A.stands since state answerer.new lent.new) S.left S.faults lines.old lines.new (K.holds sink.old) (K.holds sink.new) tally.old
         tally.new result }
     ensures cause { HasSessionCause S.faults K.faults K.wants lines.old lines.new sink.old sink.new result }
     ensures waits { WaitsFlushed K.holds K.back lines.old lines.new sink.old }
@@ -77,8 +77,8 @@ fn give_reply<D, A: AnswersBeside<D>, K: Sink>(
     requires keeps { A.keeps answerer.old lent.old }
     ensures keeps { A.keeps answerer.new lent.new }
     ensures outcome { (text : List ℕ) → IsLine (option_copied line.entry) text
-        → ReplyOutcome A.answer_of A.may_want (λ state. A.stands state answerer.old lent.old)
-        (λ state. A.stands state answerer.new lent.new)
+        → ReplyOutcome A.by (λ since state. A.stands since state answerer.old lent.old)
+        (λ since state. A.stands since state answerer.new lent.new)
         (K.holds sink.old) (K.holds sink.new) tally.old tally.new text result }
     ensures cause { HasSinkCause K.faults K.wants sink.old sink.new result }
     ensures handed_on { IfOk result (λ more. more ≡ false → K.back sink.new ≡ []) }

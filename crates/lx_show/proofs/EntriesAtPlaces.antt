@@ -6,7 +6,7 @@ use Rattle.lx_spec.specs.TrackedLevel.{cue_of}
 use Rattle.std.specs.List.{AllByRecursion}
 use Rattle.lx_spec.specs.SortedList.{entry_at}
 use Rattle.lx_show.specs.Indexes.{StandsAt}
-use Rattle.lx_spec.specs.Show.{Cue, Group, Sub, Show, ValidCue, ValidGroup, ValidSub}
+use Rattle.lx_spec.specs.Show.{Cue, Show, ValidCue}
 use Rattle.lx_show.specs.StoredShow.{IsStored}
 use Rattle.lx_show.proofs.Indexes.{stands_entry}
 use Rattle.lx_spec.proofs.SortedLists.{found_number, found_valid}
@@ -29,17 +29,6 @@ pub cue_stands : (show : Show) (n at : ℕ) (ys : List Cue) (shown x : Cue) (a b
     → StandsAt (λ y. y.number) n ys at → shown ≡ x → x ≡ get_or show.cues at x
     → Stands (ValidCue show.channels) (λ y. y.number) n show.cues at shown
 cue_stands show n at ys shown x a b c d stored = stands (ValidCue show.channels) (λ y. y.number) n at ys show.cues shown x stored.valid.cues
-
-pub group_stands : (show : Show) (n at : ℕ) (ys : List Group) (shown x : Group) (a b c d : ℕ) → IsStored show a b c d → ys ≡ show.groups
-    → StandsAt (λ y. y.number) n ys at → shown ≡ x → x ≡ get_or show.groups at x
-    → Stands (ValidGroup show.channels) (λ y. y.number) n show.groups at shown
-group_stands show n at ys shown x a b c d stored =
-    stands (ValidGroup show.channels) (λ y. y.number) n at ys show.groups shown x stored.valid.groups
-
-pub sub_stands : (show : Show) (n at : ℕ) (ys : List Sub) (shown x : Sub) (a b c d : ℕ) → IsStored show a b c d → ys ≡ show.subs
-    → StandsAt (λ y. y.number) n ys at → shown ≡ x → x ≡ get_or show.subs at x
-    → Stands (ValidSub show.channels) (λ y. y.number) n show.subs at shown
-sub_stands show n at ys shown x a b c d stored = stands (ValidSub show.channels) (λ y. y.number) n at ys show.subs shown x stored.valid.subs
 
 cue_is : (show seen : Show) (n m : ℕ) (cue : Cue) → show ≡ seen → n ≡ m → entry_at (λ y. y.number) n show.cues ≡ Some cue
     → cue_of seen m ≡ Some cue

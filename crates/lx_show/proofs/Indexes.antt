@@ -6,8 +6,8 @@ use Rattle.std.specs.Option.{option_map_or}
 use Rattle.std.specs.List.{AllByRecursion}
 use Rattle.std.specs.List.Sorted.{IsPartitionPoint}
 use Rattle.std.proofs.lemmas.Bool.{cases_lt, cases_order, false≢true}
-use Rattle.std.proofs.lemmas.List.{set_split, take-append-drop, get_or-take, get_or-drop, get_or_default, append-nil, length-take}
-use Rattle.std.proofs.lemmas.List.{length-drop, take_all, drop_all}
+use Rattle.std.proofs.lemmas.List.{set_split, take-append-drop, get_or-take, get_or-drop, append-nil, length-take}
+use Rattle.std.proofs.lemmas.List.{length-drop}
 use Rattle.std.proofs.lemmas.List.Elements.{recursion_from_All}
 use Rattle.std.proofs.lemmas.Option.{slice_get-get_or}
 use Rattle.lx_spec.specs.Show.{InRange}
@@ -16,7 +16,7 @@ use Rattle.lx_show.specs.Indexes.{StandsAt, GoesAt}
 use Rattle.lx_show.specs.Around.{entries_up_to}
 use Rattle.lx_show.specs.ChangedEntry.{changed}
 use Rattle.lx_spec.proofs.Comparisons.{eq_above, eq_below, eq_true, le_false, le_from, le_true, lt_false, lt_from, lt_true}
-use Rattle.lx_spec.proofs.Lists.{all_append, each, filter_all, filter_none, find_none, kept_by, passes, take_with}
+use Rattle.lx_spec.proofs.Lists.{each, filter_none, kept_by, passes, take_with}
 use Rattle.lx_spec.proofs.SortedLists.{IsStrictlySorted-drop, IsStrictlySorted-filter, IsStrictlySorted-placed, above_seam, below_and_above}
 use Rattle.lx_spec.proofs.SortedLists.{below_seam, few, found_number, goes_between, in_order, low_end, none_below, seam, stands_between}
 use Rattle.lx_spec.proofs.SortedLists.{strictly_above}
@@ -67,17 +67,6 @@ goes_at key n xs at sorted within cut other =
       after = sym (ap (entries_above key n) whole ∙ all.2);
     }
 
--- a number between those of two neighbours goes between them
-pub goes_here : {A : Type 0} (key : A → ℕ) (n : ℕ) (xs : List A) (at : ℕ) (x y : A) → IsStrictlySorted key xs → 0 < at → at < length xs
-    → x ≡ get_or xs (at - 1) x → key x < n → y ≡ get_or xs at y → n < key y → GoesAt key n xs at
-goes_here key n xs at x y sorted some within before low here high =
-    goes_at key n xs at sorted (omega arith) (
-      λ k d from to. lt_true _ n (let le = in_order key xs sorted k (at - 1) d (omega arith) (omega arith) in let same =
-          ap key (get_or_default xs (at - 1) d x (omega arith) ∙ sym before) in omega (arith, le, same, low)),
-      λ k d from to. lt_false _ n (let le = in_order key xs sorted at k d (omega arith) (omega arith) in let same =
-          ap key (get_or_default xs at d y within ∙ sym here) in omega (arith, le, same, high)),
-    ) (λ z lt is same. let at_key = ap key (is ∙ get_or_default xs at z y within ∙ sym here) in omega (arith, at_key, same, high))
-
 -- a comparison that fails
 pub is_less : (n k : ℕ) (b : Bool) → b ≡ nat_le n k → b ≡ false → k < n
 is_less n k b is fails = elim (cases_lt k n) [
@@ -95,26 +84,6 @@ goes_where key n xs at sorted within low high =
       λ k d from to. lt_false _ n (let le = in_order key xs sorted at k d (omega arith) (omega arith) in
           omega (arith, le, high d (omega arith))),
     ) (λ z lt is same. let at_key = ap key is in omega (arith, at_key, same, high z lt))
-
--- a number above that of the last entry goes to the end
-pub goes_last : {A : Type 0} (key : A → ℕ) (n : ℕ) (xs : List A) (x : A) → IsStrictlySorted key xs → 0 < length xs
-    → x ≡ get_or xs (length xs - 1) x → key x < n → GoesAt key n xs (length xs)
-goes_last key n xs x sorted some is low =
-    let at = length xs - 1 in
-    let whole : xs ≡ take at xs ++ (x ∷ drop (at + 1) xs) = seam xs at x (omega arith) is in
-    let last : drop (at + 1) xs ≡ [] = drop_all (at + 1) xs (omega arith) in
-    let front : AllByRecursion (λ y. key y < n) (take at xs) =
-    each _ _ (take at xs) (λ y h. omega (arith, low))
-    (below_seam key (take at xs) (drop (at + 1) xs) x (subst (IsStrictlySorted key) whole sorted)) in
-    let all : AllByRecursion (λ y. key y < n) xs =
-    subst (AllByRecursion (λ y. key y < n)) (sym (whole ∙ ap (λ ys. take at xs ++ (x ∷ ys)) last))
-    (all_append _ (take at xs) (x ∷ []) front (low, tt)) in
-    record {
-      within = omega arith;
-      before = take_all (length xs) xs (omega arith) ∙ sym (filter_all _ xs (each _ _ xs (λ y h. lt_true (key y) n h) all));
-      absent = find_none _ xs (each _ _ xs (λ y h. eq_below (key y) n h) all);
-      after = drop_all (length xs) xs (omega arith) ∙ sym (filter_none _ xs (each _ _ xs (λ y h. lt_false n (key y) (omega arith)) all));
-    }
 
 -- an entry in the place of the one of its number
 pub replaced : {A : Type 0} (key : A → ℕ) (n : ℕ) (ys xs : List A) (x : A) (at : ℕ) → n ≡ key x → ys ≡ xs → StandsAt key n ys at

@@ -1,18 +1,16 @@
--- Shows that stay stored where an entry is placed, taken out or changed in its place.
+-- Shows that stay stored where an entry is exchanged or changed in its place.
 use Rattle.std.proofs.Common.{◌≡◌, ℕ, ◌<◌, ◌≤◌, inl, inr, List, length, set, get_or, refl, arith, ap, sym, subst, ◌∙◌}
-use Rattle.std.specs.Prelude.{Bool, true, false, IsTrue, not, nat_lt, ◌||◌, ◌==◌, ◌⊎◌}
+use Rattle.std.specs.Prelude.{Bool, true, false, IsTrue, IfSome, Option, Some, None, not, nat_lt, ◌||◌, ◌==◌, ◌⊎◌}
 use Rattle.std.specs.List.{AllByRecursion}
 use Rattle.std.proofs.Math.ListN.{length-set}
 use Rattle.lx_base.specs.declared.TheConstants.{CUES, GROUPS, SUBS, DIMMERS}
 use Rattle.lx_spec.specs.declared.Move.{Move}
-use Rattle.lx_spec.specs.declared.Member.{Member}
-use Rattle.lx_spec.specs.declared.Part.{Part}
 use Rattle.lx_spec.specs.declared.PatchRow.{PatchRow}
-use Rattle.lx_spec.specs.SortedList.{IsStrictlySorted, has_entry, placed, taken_out}
+use Rattle.lx_spec.specs.SortedList.{IsStrictlySorted, has_entry, placed}
 use Rattle.lx_show.specs.Indexes.{StandsAt}
 use Rattle.lx_spec.specs.Show.{Cue, Group, Sub, Show, Valid, ValidCue, ValidGroup, ValidSub, ValidPatchRow}
 use Rattle.lx_show.specs.StoredShow.{IsStored}
-use Rattle.lx_show.specs.ChangedEntry.{changed}
+use Rattle.lx_show.specs.ChangedEntry.{changed, exchanged_at}
 use Rattle.lx_show.proofs.Indexes.{replaced, sorted_replaced, changed_there}
 use Rattle.lx_show.proofs.ValidShows.{with_cues, with_groups, with_subs, with_patch}
 use Rattle.lx_spec.proofs.Comparisons.{lt_from}
@@ -80,44 +78,59 @@ few_placed show seen cue valid view room =
       | inr less ↦ omega (arith, length-placed (λ x. x.number) cue show.cues, less_from (length show.cues) CUES less)
     ]
 
-pub room_for_cue : (show seen : Show) (cue : Cue) (a b c d : ℕ) → IsStored show a b c d → show ≡ seen
-    → IsTrue (has_entry (λ x. x.number) cue.number seen.cues || nat_lt (length seen.cues) CUES)
-    → length (placed (λ x. x.number) cue show.cues) ≤ a
-room_for_cue show seen cue a b c d stored view room = omega (arith, few_placed show seen cue stored.valid view room, stored.cue_room)
+few_exchanged : (show seen : Show) (n m : ℕ) (to : Option Cue) → Valid show → show ≡ seen → IfSome to (λ cue. cue.number ≡ n)
+    → IfSome to (λ _. IsTrue (has_entry (λ x. x.number) n seen.cues || nat_lt (length seen.cues) CUES))
+    → length (exchanged_at (λ x. x.number) m to show.cues) ≤ CUES
+few_exchanged show seen n m None valid view number room =
+    omega (arith, shorter (λ (x : Cue). not (x.number == m)) show.cues, valid.few_cues)
+few_exchanged show seen n m (Some cue) valid view number room = few_placed show seen cue valid view
+    (subst (λ k. IsTrue (has_entry (λ x. x.number) k seen.cues || nat_lt (length seen.cues) CUES)) (sym number) room)
 
--- Placed. The show as it is kept is the one that callers see.
-pub stored_put_cue : (show seen : Show) (cue : Cue) (new : List Cue) (a b c d e : ℕ) → IsStored show a b c d → show ≡ seen → e ≡ a
-    → ValidCue seen.channels cue → IsTrue (has_entry (λ x. x.number) cue.number seen.cues || nat_lt (length seen.cues) CUES)
-    → new ≡ placed (λ x. x.number) cue show.cues → IsStrictlySorted (λ x. x.number) new → IsStored (record show { cues = new }) e b c d
-stored_put_cue show seen cue new a b c d e stored view same valid room placed_is sorted =
-    let here : ValidCue show.channels cue = subst (λ (s : Show). ValidCue s.channels cue) (sym view) valid in
-    let less : length new ≤ CUES = omega (arith, ap length placed_is, few_placed show seen cue stored.valid view room) in
+pub room_for_cue : (show seen : Show) (n : ℕ) (to : Option Cue) (a b c d : ℕ) → IsStored show a b c d → show ≡ seen
+    → IfSome to (λ cue. cue.number ≡ n)
+    → IfSome to (λ _. IsTrue (has_entry (λ x. x.number) n seen.cues || nat_lt (length seen.cues) CUES))
+    → IfSome to (λ cue. length (placed (λ x. x.number) cue show.cues) ≤ a)
+room_for_cue show seen n None a b c d stored view number room = tt
+room_for_cue show seen n (Some cue) a b c d stored view number room =
+    omega (arith, few_exchanged show seen n n (Some cue) stored.valid view number room, stored.cue_room)
+
+-- what holds of each entry holds of each where one is exchanged
+All-exchanged : {A : Type 0} (P : A → Type 0) (key : A → ℕ) (n : ℕ) (to : Option A) (xs new : List A) → new ≡ exchanged_at key n to xs
+    → IfSome to P → AllByRecursion P xs → AllByRecursion P new
+All-exchanged P key n None xs new is here all = subst (AllByRecursion P) (sym is) (kept_by _ _ xs all)
+All-exchanged P key n (Some x) xs new is here all = subst (AllByRecursion P) (sym is) (All-placed _ _ x xs here all)
+
+-- The show as it is kept is the one that callers see.
+pub stored_cue : (show seen : Show) (n m : ℕ) (to : Option Cue) (new : List Cue) (a b c d e : ℕ) → IsStored show a b c d → show ≡ seen → e ≡ a
+    → IfSome to (λ cue. cue.number ≡ n) → IfSome to (ValidCue seen.channels)
+    → IfSome to (λ _. IsTrue (has_entry (λ x. x.number) n seen.cues || nat_lt (length seen.cues) CUES))
+    → new ≡ exchanged_at (λ x. x.number) m to show.cues → IsStrictlySorted (λ x. x.number) new → IsStored (record show { cues = new }) e b c d
+stored_cue show seen n m to new a b c d e stored view same number valid room is sorted =
     stored_cues show new a b c d e stored same
-    (subst (AllByRecursion (ValidCue show.channels)) (sym placed_is) (All-placed _ _ cue show.cues here stored.valid.cues)) sorted less
+    (All-exchanged _ _ m to show.cues new is (subst (λ (s : Show). IfSome to (ValidCue s.channels)) (sym view) valid) stored.valid.cues)
+    sorted (omega (arith, ap length is, few_exchanged show seen n m to stored.valid view number room))
 
-pub stored_put_group : (show seen : Show) (group : Group) (new : List Group) (a b c d e : ℕ) → IsStored show a b c d → show ≡ seen → e ≡ b
-    → ValidGroup seen.channels group → new ≡ placed (λ x. x.number) group show.groups → IsStrictlySorted (λ x. x.number) new
-    → IsStored (record show { groups = new }) a e c d
-stored_put_group show seen group new a b c d e stored view same valid placed_is sorted =
-    let here : ValidGroup show.channels group = subst (λ (s : Show). ValidGroup s.channels group) (sym view) valid in
+pub stored_group : (show seen : Show) (m : ℕ) (to : Option Group) (new : List Group) (a b c d e : ℕ) → IsStored show a b c d → show ≡ seen
+    → e ≡ b → IfSome to (ValidGroup seen.channels) → new ≡ exchanged_at (λ x. x.number) m to show.groups
+    → IsStrictlySorted (λ x. x.number) new → IsStored (record show { groups = new }) a e c d
+stored_group show seen m to new a b c d e stored view same valid is sorted =
     stored_groups show new a b c d e stored same
-    (subst (AllByRecursion (ValidGroup show.channels)) (sym placed_is) (All-placed _ _ group show.groups here stored.valid.groups))
+    (All-exchanged _ _ m to show.groups new is (subst (λ (s : Show). IfSome to (ValidGroup s.channels)) (sym view) valid) stored.valid.groups)
     sorted
 
-pub stored_put_sub : (show seen : Show) (sub : Sub) (new : List Sub) (a b c d e : ℕ) → IsStored show a b c d → show ≡ seen → e ≡ c
-    → ValidSub seen.channels sub → new ≡ placed (λ x. x.number) sub show.subs → IsStrictlySorted (λ x. x.number) new
+pub stored_sub : (show seen : Show) (m : ℕ) (to : Option Sub) (new : List Sub) (a b c d e : ℕ) → IsStored show a b c d → show ≡ seen → e ≡ c
+    → IfSome to (ValidSub seen.channels) → new ≡ exchanged_at (λ x. x.number) m to show.subs → IsStrictlySorted (λ x. x.number) new
     → IsStored (record show { subs = new }) a b e d
-stored_put_sub show seen sub new a b c d e stored view same valid placed_is sorted =
-    let here : ValidSub show.channels sub = subst (λ (s : Show). ValidSub s.channels sub) (sym view) valid in
+stored_sub show seen m to new a b c d e stored view same valid is sorted =
     stored_subs show new a b c d e stored same
-    (subst (AllByRecursion (ValidSub show.channels)) (sym placed_is) (All-placed _ _ sub show.subs here stored.valid.subs)) sorted
+    (All-exchanged _ _ m to show.subs new is (subst (λ (s : Show). IfSome to (ValidSub s.channels)) (sym view) valid) stored.valid.subs) sorted
 
-pub stored_put_row : (show : Show) (row : PatchRow) (new : List PatchRow) (a b c d e : ℕ) → IsStored show a b c d → e ≡ d
-    → ValidPatchRow show.channels row → new ≡ placed (λ x. x.dimmer) row show.patch → IsStrictlySorted (λ x. x.dimmer) new
-    → IsStored (record show { patch = new }) a b c e
-stored_put_row show row new a b c d e stored same here placed_is sorted =
+pub stored_row : (show seen : Show) (m : ℕ) (to : Option PatchRow) (new : List PatchRow) (a b c d e : ℕ) → IsStored show a b c d → show ≡ seen
+    → e ≡ d → IfSome to (ValidPatchRow seen.channels) → new ≡ exchanged_at (λ x. x.dimmer) m to show.patch
+    → IsStrictlySorted (λ x. x.dimmer) new → IsStored (record show { patch = new }) a b c e
+stored_row show seen m to new a b c d e stored view same valid is sorted =
     stored_patch show new a b c d e stored same
-    (subst (AllByRecursion (ValidPatchRow show.channels)) (sym placed_is) (All-placed _ _ row show.patch here stored.valid.patch))
+    (All-exchanged _ _ m to show.patch new is (subst (λ (s : Show). IfSome to (ValidPatchRow s.channels)) (sym view) valid) stored.valid.patch)
     sorted
 
 -- there are no more entries than numbers
@@ -132,63 +145,35 @@ pub few_rows : (show : Show) → Valid show → length show.patch ≤ DIMMERS
 few_rows show valid = few_in_range (λ x. x.dimmer) DIMMERS show.patch valid.patch_sorted (each _ _ show.patch (λ x h. h.dimmer) valid.patch)
 
 -- there is room for each number
-pub room_for_group : (show : Show) (group : Group) (a b c d : ℕ) → IsStored show a b c d → ValidGroup show.channels group
-    → length (placed (λ x. x.number) group show.groups) ≤ b
-room_for_group show group a b c d stored here =
+pub room_for_group : (show seen : Show) (to : Option Group) (a b c d : ℕ) → IsStored show a b c d → show ≡ seen
+    → IfSome to (ValidGroup seen.channels) → IfSome to (λ group. length (placed (λ x. x.number) group show.groups) ≤ b)
+room_for_group show seen None a b c d stored view valid = tt
+room_for_group show seen (Some group) a b c d stored view valid =
     let few : length (placed (λ x. x.number) group show.groups) ≤ GROUPS =
     few_in_range (λ x. x.number) GROUPS (placed (λ x. x.number) group show.groups)
     (IsStrictlySorted-placed _ group show.groups stored.valid.groups_sorted)
-    (All-placed _ _ group show.groups here.number (each _ _ show.groups (λ x h. h.number) stored.valid.groups)) in
+    (All-placed _ _ group show.groups valid.number (each _ _ show.groups (λ x h. h.number) stored.valid.groups)) in
     omega (arith, stored.group_room)
 
-pub room_for_sub : (show : Show) (sub : Sub) (a b c d : ℕ) → IsStored show a b c d → ValidSub show.channels sub
-    → length (placed (λ x. x.number) sub show.subs) ≤ c
-room_for_sub show sub a b c d stored here =
+pub room_for_sub : (show seen : Show) (to : Option Sub) (a b c d : ℕ) → IsStored show a b c d → show ≡ seen
+    → IfSome to (ValidSub seen.channels) → IfSome to (λ submaster. length (placed (λ x. x.number) submaster show.subs) ≤ c)
+room_for_sub show seen None a b c d stored view valid = tt
+room_for_sub show seen (Some sub) a b c d stored view valid =
     let few : length (placed (λ x. x.number) sub show.subs) ≤ SUBS =
     few_in_range (λ x. x.number) SUBS (placed (λ x. x.number) sub show.subs)
     (IsStrictlySorted-placed _ sub show.subs stored.valid.subs_sorted)
-    (All-placed _ _ sub show.subs here.number (each _ _ show.subs (λ x h. h.number) stored.valid.subs)) in
+    (All-placed _ _ sub show.subs valid.number (each _ _ show.subs (λ x h. h.number) stored.valid.subs)) in
     omega (arith, stored.sub_room)
 
-pub room_for_row : (show : Show) (row : PatchRow) (a b c d : ℕ) → IsStored show a b c d → ValidPatchRow show.channels row
-    → length (placed (λ x. x.dimmer) row show.patch) ≤ d
-room_for_row show row a b c d stored here =
+pub room_for_row : (show seen : Show) (to : Option PatchRow) (a b c d : ℕ) → IsStored show a b c d → show ≡ seen
+    → IfSome to (ValidPatchRow seen.channels) → IfSome to (λ row. length (placed (λ x. x.dimmer) row show.patch) ≤ d)
+room_for_row show seen None a b c d stored view valid = tt
+room_for_row show seen (Some row) a b c d stored view valid =
     let few : length (placed (λ x. x.dimmer) row show.patch) ≤ DIMMERS =
     few_in_range (λ x. x.dimmer) DIMMERS (placed (λ x. x.dimmer) row show.patch)
     (IsStrictlySorted-placed _ row show.patch stored.valid.patch_sorted)
-    (All-placed _ _ row show.patch here.dimmer (each _ _ show.patch (λ x h. h.dimmer) stored.valid.patch)) in
+    (All-placed _ _ row show.patch valid.dimmer (each _ _ show.patch (λ x h. h.dimmer) stored.valid.patch)) in
     omega (arith, stored.patch_room)
-
--- Taken out.
-pub stored_take_cue : (show : Show) (n : ℕ) (new : List Cue) (a b c d e : ℕ) → IsStored show a b c d → e ≡ a
-    → new ≡ taken_out (λ x. x.number) n show.cues → IsStrictlySorted (λ x. x.number) new → IsStored (record show { cues = new }) e b c d
-stored_take_cue show n new a b c d e stored same taken sorted =
-    let few : length new ≤ CUES = omega (
-      arith,
-      ap length taken,
-      shorter (λ (x : Cue). not (x.number == n)) show.cues,
-      stored.valid.few_cues,
-    ) in
-    stored_cues show new a b c d e stored same
-    (subst (AllByRecursion (ValidCue show.channels)) (sym taken) (kept_by _ _ show.cues stored.valid.cues)) sorted few
-
-pub stored_take_group : (show : Show) (n : ℕ) (new : List Group) (a b c d e : ℕ) → IsStored show a b c d → e ≡ b
-    → new ≡ taken_out (λ x. x.number) n show.groups → IsStrictlySorted (λ x. x.number) new → IsStored (record show { groups = new }) a e c d
-stored_take_group show n new a b c d e stored same taken sorted =
-    stored_groups show new a b c d e stored same
-    (subst (AllByRecursion (ValidGroup show.channels)) (sym taken) (kept_by _ _ show.groups stored.valid.groups)) sorted
-
-pub stored_take_sub : (show : Show) (n : ℕ) (new : List Sub) (a b c d e : ℕ) → IsStored show a b c d → e ≡ c
-    → new ≡ taken_out (λ x. x.number) n show.subs → IsStrictlySorted (λ x. x.number) new → IsStored (record show { subs = new }) a b e d
-stored_take_sub show n new a b c d e stored same taken sorted =
-    stored_subs show new a b c d e stored same
-    (subst (AllByRecursion (ValidSub show.channels)) (sym taken) (kept_by _ _ show.subs stored.valid.subs)) sorted
-
-pub stored_take_row : (show : Show) (n : ℕ) (new : List PatchRow) (a b c d e : ℕ) → IsStored show a b c d → e ≡ d
-    → new ≡ taken_out (λ x. x.dimmer) n show.patch → IsStrictlySorted (λ x. x.dimmer) new → IsStored (record show { patch = new }) a b c e
-stored_take_row show n new a b c d e stored same taken sorted =
-    stored_patch show new a b c d e stored same
-    (subst (AllByRecursion (ValidPatchRow show.channels)) (sym taken) (kept_by _ _ show.patch stored.valid.patch)) sorted
 
 -- Changed in its place.
 pub stored_changed_cue : (show : Show) (n at : ℕ) (ys : List Cue) (new : Cue) (a b c d : ℕ) → IsStored show a b c d → ys ≡ show.cues
@@ -201,24 +186,6 @@ stored_changed_cue show n at ys new a b c d stored same stands number valid =
     (sorted_replaced _ n ys show.cues new at number same stands stored.valid.cues_sorted)
     (omega (arith, length-set show.cues at new, stored.valid.few_cues))
 
-pub stored_changed_group : (show : Show) (n at : ℕ) (ys : List Group) (new : Group) (a b c d : ℕ) → IsStored show a b c d → ys ≡ show.groups
-    → StandsAt (λ x. x.number) n ys at → n ≡ new.number → ValidGroup show.channels new
-    → IsStored (record show { groups = set show.groups at new }) a b c d
-stored_changed_group show n at ys new a b c d stored same stands number valid =
-    stored_groups show (set show.groups at new) a b c d b stored refl
-    (subst (AllByRecursion (ValidGroup show.channels)) (sym (replaced _ n ys show.groups new at number same stands))
-    (All-placed _ _ new show.groups valid stored.valid.groups))
-    (sorted_replaced _ n ys show.groups new at number same stands stored.valid.groups_sorted)
-
-pub stored_changed_sub : (show : Show) (n at : ℕ) (ys : List Sub) (new : Sub) (a b c d : ℕ) → IsStored show a b c d → ys ≡ show.subs
-    → StandsAt (λ x. x.number) n ys at → n ≡ new.number → ValidSub show.channels new
-    → IsStored (record show { subs = set show.subs at new }) a b c d
-stored_changed_sub show n at ys new a b c d stored same stands number valid =
-    stored_subs show (set show.subs at new) a b c d c stored refl
-    (subst (AllByRecursion (ValidSub show.channels)) (sym (replaced _ n ys show.subs new at number same stands))
-    (All-placed _ _ new show.subs valid stored.valid.subs))
-    (sorted_replaced _ n ys show.subs new at number same stands stored.valid.subs_sorted)
-
 -- and that is the show with the entry of the number changed
 pub cue_changed : (show seen : Show) (n m at : ℕ) (ys : List Cue) (cue : Cue) (change : Cue → Cue) → show ≡ seen → n ≡ m → ys ≡ show.cues
     → StandsAt (λ x. x.number) n ys at → cue ≡ get_or show.cues at cue → (change cue).number ≡ cue.number
@@ -228,23 +195,6 @@ cue_changed show seen n m at ys cue change view number same stands is kept =
     ∙ ap (λ (s : Show). record s { cues = changed (λ x. x.number) n change s.cues }) view
     ∙ ap (λ (k : ℕ). record seen { cues = changed (λ x. x.number) k change seen.cues }) number
 
-pub group_changed : (show seen : Show) (n m at : ℕ) (ys : List Group) (group : Group) (change : Group → Group) → show ≡ seen → n ≡ m
-    → ys ≡ show.groups → StandsAt (λ x. x.number) n ys at → group ≡ get_or show.groups at group → (change group).number ≡ group.number
-    → record show { groups = set show.groups at (change group) } ≡ record seen { groups = changed (λ x. x.number) m change seen.groups }
-group_changed show seen n m at ys group change view number same stands is kept =
-    ap (λ (xs : List Group). record show { groups = xs })
-    (changed_there (λ x. x.number) n at ys show.groups group change same stands is kept)
-    ∙ ap (λ (s : Show). record s { groups = changed (λ x. x.number) n change s.groups }) view
-    ∙ ap (λ (k : ℕ). record seen { groups = changed (λ x. x.number) k change seen.groups }) number
-
-pub sub_changed : (show seen : Show) (n m at : ℕ) (ys : List Sub) (sub : Sub) (change : Sub → Sub) → show ≡ seen → n ≡ m → ys ≡ show.subs
-    → StandsAt (λ x. x.number) n ys at → sub ≡ get_or show.subs at sub → (change sub).number ≡ sub.number
-    → record show { subs = set show.subs at (change sub) } ≡ record seen { subs = changed (λ x. x.number) m change seen.subs }
-sub_changed show seen n m at ys sub change view number same stands is kept =
-    ap (λ (xs : List Sub). record show { subs = xs }) (changed_there (λ x. x.number) n at ys show.subs sub change same stands is kept)
-    ∙ ap (λ (s : Show). record s { subs = changed (λ x. x.number) n change s.subs }) view
-    ∙ ap (λ (k : ℕ). record seen { subs = changed (λ x. x.number) k change seen.subs }) number
-
 pub cue_moves_changed : (show seen : Show) (n m at : ℕ) (ys : List Cue) (cue : Cue) (new : List Move) (change : List Move → List Move)
     → show ≡ seen → n ≡ m → ys ≡ show.cues → StandsAt (λ x. x.number) n ys at → cue ≡ get_or show.cues at cue → new ≡ change cue.moves
     → record show { cues = set show.cues at (record cue { moves = new }) }
@@ -252,29 +202,3 @@ pub cue_moves_changed : (show seen : Show) (n m at : ℕ) (ys : List Cue) (cue :
 cue_moves_changed show seen n m at ys cue new change view number same stands is changed_is =
     ap (λ (xs : List Move). record show { cues = set show.cues at (record cue { moves = xs }) }) changed_is
     ∙ cue_changed show seen n m at ys cue (λ x. record x { moves = change x.moves }) view number same stands is refl
-
-pub cue_parts_changed : (show seen : Show) (n m at : ℕ) (ys : List Cue) (cue : Cue) (new : List Part) (change : List Part → List Part)
-    → show ≡ seen → n ≡ m → ys ≡ show.cues → StandsAt (λ x. x.number) n ys at → cue ≡ get_or show.cues at cue → new ≡ change cue.parts
-    → record show { cues = set show.cues at (record cue { parts = new }) }
-    ≡ record seen { cues = changed (λ x. x.number) m (λ x. record x { parts = change x.parts }) seen.cues }
-cue_parts_changed show seen n m at ys cue new change view number same stands is changed_is =
-    ap (λ (xs : List Part). record show { cues = set show.cues at (record cue { parts = xs }) }) changed_is
-    ∙ cue_changed show seen n m at ys cue (λ x. record x { parts = change x.parts }) view number same stands is refl
-
-pub group_members_changed : (show seen : Show) (n m at : ℕ) (ys : List Group) (group : Group) (new : List Member)
-    (change : List Member → List Member) → show ≡ seen → n ≡ m → ys ≡ show.groups → StandsAt (λ x. x.number) n ys at
-    → group ≡ get_or show.groups at group → new ≡ change group.members
-    → record show { groups = set show.groups at (record group { members = new }) }
-    ≡ record seen { groups = changed (λ x. x.number) m (λ x. record x { members = change x.members }) seen.groups }
-group_members_changed show seen n m at ys group new change view number same stands is changed_is =
-    ap (λ (xs : List Member). record show { groups = set show.groups at (record group { members = xs }) }) changed_is
-    ∙ group_changed show seen n m at ys group (λ x. record x { members = change x.members }) view number same stands is refl
-
-pub sub_members_changed : (show seen : Show) (n m at : ℕ) (ys : List Sub) (sub : Sub) (new : List Member)
-    (change : List Member → List Member) → show ≡ seen → n ≡ m → ys ≡ show.subs → StandsAt (λ x. x.number) n ys at
-    → sub ≡ get_or show.subs at sub → new ≡ change sub.members
-    → record show { subs = set show.subs at (record sub { members = new }) }
-    ≡ record seen { subs = changed (λ x. x.number) m (λ x. record x { members = change x.members }) seen.subs }
-sub_members_changed show seen n m at ys sub new change view number same stands is changed_is =
-    ap (λ (xs : List Member). record show { subs = set show.subs at (record sub { members = xs }) }) changed_is
-    ∙ sub_changed show seen n m at ys sub (λ x. record x { members = change x.members }) view number same stands is refl

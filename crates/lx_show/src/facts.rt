@@ -8,7 +8,7 @@ use lx_base::{CHANNELS, DIMMERS};
 use lx_spec::{Label, Member, Move, PatchRow};
 
 /// A move's channel is at least 1, and its level at most 255.
-pub fn of_move(entry: &Move)
+fn of_move(entry: &Move)
     ensures chan { InRange CHANNELS entry.now.chan }
     ensures level { IsLevel entry.now.level }
 {

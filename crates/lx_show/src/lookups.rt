@@ -3,7 +3,7 @@
 ghost use Rattle.std.specs.Prelude.{◌≡◌, IfSome, find, reverse};
 ghost use Rattle.std.specs.Option.{option_copied};
 ghost use Rattle.lx_spec.specs.SortedList.{entry_at};
-ghost use Rattle.lx_spec.specs.Show.{ValidCue, ValidGroup, ValidSub, ValidPatchRow};
+ghost use Rattle.lx_spec.specs.Show.{Valid, ValidCue, ValidGroup, ValidSub, ValidPatchRow};
 ghost use Rattle.lx_spec.specs.TrackedLevel.{cue_of, decides, move_of, tracked, deciding_cue, cue_above, cue_below, next_cue, cue_before};
 
 use crate::cue::Cue;
@@ -18,6 +18,7 @@ impl Show {
     pub fn cue(&self, n: CueNo) -> Option<&Cue>
         ensures cue { option_copied result ≡ cue_of self.now n }
         ensures valid { IfSome result (λ cue. ValidCue self.now.channels cue.now) }
+        ensures show { Valid self.now }
     {
         sorted::entry_of(self.cues.as_slice(), n.get())
     }

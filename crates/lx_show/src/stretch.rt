@@ -8,7 +8,7 @@ ghost use Rattle.lx_spec.specs.SortedList.{IsStrictlySorted, all_placed};
 ghost use Rattle.lx_show.specs.Indexes.{StandsAt};
 ghost use Rattle.lx_show.specs.Stretch.{IsStretch};
 
-use crate::sorted::{Keyed, find_next};
+use crate::sorted::{Keyed, index_near, stands_at};
 use std::alloc::AllocError;
 
 /// Places each of the entries in turn, in place of the one of its number. They are looked for first at the index after
@@ -45,7 +45,7 @@ fn put_front<T: Keyed + Copy + Drop>(xs: &mut Vec<T>, next: &mut usize, more: &[
 {
     let first = more[0];
     let number = first.key();
-    match find_next(xs.as_slice(), *next, number) {
+    match index_near(xs.as_slice(), next, number) {
         Ok(at) => {
             xs[at] = first;
             let count = put_over(xs, at, more);
@@ -87,14 +87,6 @@ fn put_over<T: Keyed + Copy + Drop>(xs: &mut Vec<T>, at: usize, more: &[T]) -> u
         }
     }
     count
-}
-
-/// Whether the entry of the number stands at the index.
-fn stands_at<T: Keyed>(xs: &[T], at: usize, n: u32) -> bool
-    requires { IsStrictlySorted T.key xs.now }
-    ensures { result ≡ true → StandsAt T.key n xs.now at }
-{
-    at < xs.len() && xs[at].key() == n
 }
 
 /// The number of the entry at the index, or 2^32 where there is none.

@@ -9,7 +9,6 @@ use Rattle.std.proofs.lemmas.List.Folds.{find-append}
 use Rattle.lx_spec.specs.Show.{Cue, Show}
 use Rattle.lx_spec.specs.TrackedLevel.{decides, level_in, tracked}
 use Rattle.lx_spec.proofs.Comparisons.{le_false, le_true}
-use Rattle.lx_spec.proofs.Lists.{each}
 
 -- the level in a cue, from the one before
 abbrev pub tracked_on : ℕ → Cue → ℕ → ℕ

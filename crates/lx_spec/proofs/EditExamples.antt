@@ -1,8 +1,9 @@
 -- Examples of edits: whole scripts and what is written for them, by computation.
-use Rattle.std.specs.Prelude.{◌≡◌, [], ◌∷◌, ◌++◌, refl, codes}
+use Rattle.std.specs.Prelude.{◌≡◌, None, Some, [], ◌∷◌, ◌++◌, refl, codes}
 use Rattle.std.specs.Fmt.{digits}
 use Rattle.lx_spec.specs.declared.Form.TheVariants.{Moves}
-use Rattle.lx_spec.specs.RenderOutput.{render_output}
+use Rattle.lx_spec.specs.declared.ScriptKind.TheVariants.{Render}
+use Rattle.lx_spec.specs.ScriptOutput.{script_output}
 use Rattle.lx_spec.proofs.ScriptTexts.{text, played, patched_show}
 
 -- a cue-only edit leaves the look of the cue above as it was; a second one changes nothing
@@ -70,10 +71,10 @@ label_taken_away : played (codes "CUE 1" ∷ codes "UP 0" ∷ codes "CHAN 1@H80"
 unfolding digits
 label_taken_away = refl
 
--- want of memory at the second command refuses it, and changes nothing
-refused_for_memory : render_output Moves
+-- out of memory at the second line its attempt fails, and changes nothing
+refused_for_memory : script_output Render Moves
     (text (patched_show (codes "CUE 1" ∷ codes "UP 0" ∷ codes "CHAN 1@H80" ∷ []) ++ codes "go" ∷ codes "set 1 chan 1 at 5" ∷ codes "frame" ∷
-    [])) (2 ∷ [])
+    [])) (None ∷ Some 0 ∷ [])
     ≡ text (codes "ok" ∷ codes "refused Memory" ∷ codes "frame 0 1 1=128" ∷ [])
 unfolding digits
 refused_for_memory = refl

@@ -3,7 +3,8 @@ use Rattle.std.specs.Prelude.{◌≡◌, ℕ, List, [], ◌∷◌, ◌++◌, ref
 use Rattle.std.specs.Fmt.{digits}
 use Rattle.lx_spec.specs.declared.Form.TheVariants.{Moves, States}
 use Rattle.lx_spec.specs.CheckOutput.{check_output}
-use Rattle.lx_spec.specs.RenderOutput.{render_output}
+use Rattle.lx_spec.specs.declared.ScriptKind.TheVariants.{Render}
+use Rattle.lx_spec.specs.ScriptOutput.{script_output}
 use Rattle.lx_spec.proofs.ScriptTexts.{text, crlf_text}
 
 abbrev uncut : List (List ℕ)
@@ -30,19 +31,19 @@ unfolding digits
 checked_with_cr = refl
 
 -- read as moves, levels track from cue to cue
-as_moves : render_output Moves (text (file ++ codes "sheet 1" ∷ codes "sheet 2" ∷ codes "sheet 3" ∷ [])) []
+as_moves : script_output Render Moves (text (file ++ codes "sheet 1" ∷ codes "sheet 2" ∷ codes "sheet 3" ∷ [])) []
     ≡ text (codes "row 1 1=128 2=255" ∷ codes "row 2 1=128 2=255 3=255" ∷ codes "row 3 1=128 2=255 3=255" ∷ [])
 unfolding digits
 as_moves = refl
 
 -- read as looks, what a cue does not name is 0 in it
-as_looks : render_output States (text (file ++ codes "sheet 1" ∷ codes "sheet 2" ∷ codes "sheet 3" ∷ [])) []
+as_looks : script_output Render States (text (file ++ codes "sheet 1" ∷ codes "sheet 2" ∷ codes "sheet 3" ∷ [])) []
     ≡ text (codes "row 1 1=128 2=255" ∷ codes "row 2 1=128 3=255" ∷ codes "row 3 2=255" ∷ [])
 unfolding digits
 as_looks = refl
 
 -- the moves that make these looks
-moves_of_looks : render_output States (text (file ++ codes "save" ∷ [])) []
+moves_of_looks : script_output Render States (text (file ++ codes "save" ∷ [])) []
     ≡ text (codes "IDENT 3:0" ∷ codes "SET CHANNELS 24" ∷ codes "PATCH 1 1<1@HFF" ∷ codes "PATCH 1 2<2@HFF" ∷ codes "PATCH 1 3<3@H80" ∷
     codes "CUE 1" ∷ codes "TEXT Preset" ∷ codes "PART 1" ∷ codes "UP 3 0" ∷ codes "DOWN 3 0" ∷ codes "CHAN 1@H80" ∷ codes "CHAN 2@HFF" ∷
     codes "CUE 2" ∷ codes "PART 1" ∷ codes "UP 5 0" ∷ codes "DOWN 5 1" ∷ codes "CHAN 2@H00" ∷ codes "CHAN 3@HFF" ∷ codes "CUE 3" ∷ codes

@@ -2,7 +2,8 @@
 use Rattle.std.specs.Prelude.{◌≡◌, replicate, [], ◌∷◌, ◌++◌, refl, codes}
 use Rattle.std.specs.Fmt.{digits}
 use Rattle.lx_spec.specs.declared.Form.TheVariants.{Moves}
-use Rattle.lx_spec.specs.RenderOutput.{render_output}
+use Rattle.lx_spec.specs.declared.ScriptKind.TheVariants.{Render}
+use Rattle.lx_spec.specs.ScriptOutput.{script_output}
 use Rattle.lx_spec.proofs.ScriptTexts.{text, played}
 
 -- one cue, its frame, and the canonical text of its show
@@ -14,7 +15,7 @@ unfolding digits
 first_look = refl
 
 -- without cues there is none after and none before the opening
-no_cues : render_output Moves (text (codes "IDENT 3:0" ∷ codes "ENDDATA" ∷ codes "go" ∷ codes "back" ∷ codes "frame" ∷ [])) []
+no_cues : script_output Render Moves (text (codes "IDENT 3:0" ∷ codes "ENDDATA" ∷ codes "go" ∷ codes "back" ∷ codes "frame" ∷ [])) []
     ≡ text (codes "refused NoCueAfter 0" ∷ codes "refused NoCueBefore 0" ∷ codes "frame 0 1" ∷ [])
 unfolding digits
 no_cues = refl
@@ -36,7 +37,7 @@ unfolding digits
 block_cue_falls = refl
 
 -- the output is the greatest of playback and submasters, under the master, in proportion at the dimmer
-greatest_of_sources : render_output Moves
+greatest_of_sources : script_output Render Moves
     (text (codes "IDENT 3:0" ∷ codes "PATCH 1 1<1@FL 2<513@50" ∷ codes "SUB 1" ∷ codes "CHAN 1@HC8" ∷ codes "CUE 1" ∷ codes "UP 0" ∷ codes
     "CHAN 1@H64 2@FL" ∷ codes "ENDDATA" ∷ codes "go" ∷ codes "fader 1 at H80" ∷ codes "frame" ∷ codes "frame 2" ∷ codes "master at H80" ∷
     codes "frame" ∷ codes "frame 2" ∷ codes "fader 2 at 10" ∷ codes "unpatch 7" ∷ [])) []

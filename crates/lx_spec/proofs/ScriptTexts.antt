@@ -1,7 +1,8 @@
 -- Whole inputs of the examples: a show's lines and a script's lines, and the text that is written for them.
 use Rattle.std.specs.Prelude.{ℕ, ◌==◌, List, [], ◌∷◌, ◌++◌, flat_map, map, codes, if◌then◌else◌}
 use Rattle.lx_spec.specs.declared.Form.TheVariants.{Moves}
-use Rattle.lx_spec.specs.RenderOutput.{render_output}
+use Rattle.lx_spec.specs.declared.ScriptKind.TheVariants.{Render}
+use Rattle.lx_spec.specs.ScriptOutput.{script_output}
 
 -- the lines, each with its LF
 abbrev pub text : List (List ℕ) → List ℕ
@@ -17,7 +18,7 @@ patched_show lines = codes "IDENT 3:0" ∷ codes "PATCH 1 1<1@FL" ∷ (lines ++ 
 
 -- what is written for the script over that show
 abbrev pub played : List (List ℕ) → List (List ℕ) → List ℕ
-played lines script = render_output Moves (text (patched_show lines ++ script)) []
+played lines script = script_output Render Moves (text (patched_show lines ++ script)) []
 
 -- the lines that stand between bars
 abbrev pub barred : List ℕ → List ℕ
@@ -25,4 +26,4 @@ barred row = map (λ b. if b == 124 then 10 else b) row ++ 10 ∷ []
 
 -- what is written for the script over the show whose dimmer 1 follows channel 1, each as lines between bars
 abbrev pub played_barred : List ℕ → List ℕ → List ℕ
-played_barred lines script = render_output Moves (barred (codes "IDENT 3:0|PATCH 1 1<1@FL|" ++ lines ++ codes "|ENDDATA|" ++ script)) []
+played_barred lines script = script_output Render Moves (barred (codes "IDENT 3:0|PATCH 1 1<1@FL|" ++ lines ++ codes "|ENDDATA|" ++ script)) []

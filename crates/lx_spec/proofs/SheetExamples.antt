@@ -9,7 +9,8 @@ use Rattle.lx_spec.specs.Show.{Show}
 use Rattle.lx_spec.specs.SheetOutput.{sheet_output}
 use Rattle.lx_spec.specs.Reading.{reads}
 use Rattle.lx_spec.specs.FaultLine.{over_show}
-use Rattle.lx_spec.specs.RenderOutput.{render_output, rendered}
+use Rattle.lx_spec.specs.declared.ScriptKind.TheVariants.{Render}
+use Rattle.lx_spec.specs.ScriptOutput.{script_output, script_session}
 use Rattle.lx_spec.specs.MakeOutput.{made_cue, made_turn, made_text}
 use Rattle.lx_spec.specs.Versions.{versions_text}
 use Rattle.lx_spec.proofs.ScriptTexts.{barred}
@@ -18,7 +19,7 @@ abbrev blocked_show : List ℕ
 blocked_show = barred (codes "IDENT 3:0|CUE 1|TEXT Start|CHAN 1@50|CUE 2|$$BLOCK|CHAN 2@FL|CUE 3|CHAN 3@FL|ENDDATA|save")
 
 -- read as looks, a block cue moves all that is up in it, and another cue what changes
-looks_of_a_block_cue : render_output States blocked_show []
+looks_of_a_block_cue : script_output Render States blocked_show []
     ≡ barred (codes "IDENT 3:0|SET CHANNELS 512|CUE 1|TEXT Start|PART 1|UP 5 0|DOWN 5 0|CHAN 1@H80"
     ++ codes "|CUE 2|$$BLOCK|PART 1|UP 5 0|DOWN 5 0|CHAN 2@HFF|CUE 3|PART 1|UP 5 0|DOWN 5 0|CHAN 2@H00|CHAN 3@HFF|ENDDATA")
 unfolding digits
@@ -57,7 +58,7 @@ small_input =
     ++ made_cue 1 1 ++ barred (codes "ENDDATA") ++ made_turn 1 1 ++ barred (codes "quit")
 
 -- the levels are 33, 112, 212, 133 and 105, in an up time of 8 seconds: at moment 174 the slots are 7, 24, 46, 28 and 22
-five_lines : over_show (reads Moves small_input) (λ reading. made_text 1 (rendered small_input [] reading))
+five_lines : over_show (reads Moves small_input) (λ reading. made_text 1 (script_session Render small_input [] reading))
     ≡ barred (codes "cues 1|moment 174|ok 3|refused 0|sum 127")
 unfolding digits
 five_lines = refl

@@ -2,14 +2,15 @@
 use Rattle.std.specs.Prelude.{◌≡◌, ℕ, List, [], ◌++◌, codes, refl}
 use Rattle.std.specs.Fmt.{digits}
 use Rattle.lx_spec.specs.declared.Form.TheVariants.{Moves}
-use Rattle.lx_spec.specs.declared.Job.TheVariants.{Two}
+use Rattle.lx_spec.specs.declared.Job.TheVariants.{Script}
+use Rattle.lx_spec.specs.declared.ScriptKind.TheVariants.{Two}
 use Rattle.lx_spec.specs.Job.{output_of}
 use Rattle.lx_spec.proofs.ScriptTexts.{barred, played_barred}
 
 -- what is written by two lists over the show whose dimmer 1 follows channel 1, each as lines between bars
 abbrev two_barred : List ℕ → List ℕ → List ℕ
 two_barred lines script =
-    output_of (Two Moves) (barred (codes "IDENT 3:0|PATCH 1 1<1@FL|" ++ lines ++ codes "|ENDDATA|" ++ script)) []
+    output_of (Script Two Moves) (barred (codes "IDENT 3:0|PATCH 1 1<1@FL|" ++ lines ++ codes "|ENDDATA|" ++ script)) []
 
 -- cue 1 is the first list's and cue 5000 the second's
 abbrev both : List ℕ

@@ -2,7 +2,8 @@
 use Rattle.std.specs.Prelude.{◌≡◌, ℕ, None, Some, true, false, List, [], ◌++◌, codes, refl}
 use Rattle.std.specs.Fmt.{digits}
 use Rattle.lx_spec.specs.declared.Form.TheVariants.{Moves}
-use Rattle.lx_spec.specs.declared.Job.TheVariants.{Undo}
+use Rattle.lx_spec.specs.declared.Job.TheVariants.{Script}
+use Rattle.lx_spec.specs.declared.ScriptKind.TheVariants.{Undo}
 use Rattle.lx_spec.specs.declared.UndoLine.TheVariants as asks
 use Rattle.lx_spec.specs.UndoSession.{undo_line_of}
 use Rattle.lx_spec.specs.Job.{output_of}
@@ -11,7 +12,7 @@ use Rattle.lx_spec.proofs.ScriptTexts.{barred, played_barred}
 -- what is written with undo over the show whose dimmer 1 follows channel 1, each as lines between bars
 abbrev undone_barred : List ℕ → List ℕ → List ℕ
 undone_barred lines script =
-    output_of (Undo Moves) (barred (codes "IDENT 3:0|PATCH 1 1<1@FL|" ++ lines ++ codes "|ENDDATA|" ++ script)) []
+    output_of (Script Undo Moves) (barred (codes "IDENT 3:0|PATCH 1 1<1@FL|" ++ lines ++ codes "|ENDDATA|" ++ script)) []
 
 -- a rising fade that is half way is recorded as a cue, taken back and brought again; an edit made under it is taken back, while the fade
 -- stays where it is

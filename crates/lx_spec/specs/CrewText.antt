@@ -1,12 +1,12 @@
 -- The transcript of a crew: lines of several operators in the order in which they were taken, each named and then answered.
-use Rattle.std.specs.Prelude.{◌≡◌, ℕ, ◌+◌, ◌==◌, List, [], ◌∷◌, fold, take, codes, decimal}
+use Rattle.std.specs.Prelude.{◌≡◌, ℕ, ◌+◌, ◌==◌, Option, List, [], ◌∷◌, take, codes, decimal}
 use Rattle.std.specs.List.{filter}
 use Rattle.lx_spec.specs.ShowText.{line}
 use Rattle.lx_spec.specs.Text.{lines_of}
 use Rattle.lx_spec.specs.Script.{line_of}
 use Rattle.lx_spec.specs.Desk.{Desk}
-use Rattle.lx_spec.specs.Session.{Session, begin_at, with_text, after_line, lines_wanted}
-use Rattle.lx_spec.specs.RefusedPlaces.{MayWant}
+use Rattle.lx_spec.specs.Session.{Session, Answering, begin_at, with_text, after_each, AreAllowed, lines_wanted}
+use Rattle.lx_spec.specs.DeskSession.{DeskState, begun, after_line, IsAcceptedEdit}
 
 -- a line, by its operator and its number among that operator's lines, from 1
 pub record CrewEntry : Type 0 where
@@ -40,23 +40,22 @@ abbrev pub op_text : CrewEntry → List ℕ
 op_text entry = line (codes "op" ∷ decimal entry.operator ∷ decimal entry.number ∷ [])
 
 -- the session after an entry: its name, and then the replies to its line
-abbrev pub named : Session → CrewEntry → Session
+abbrev pub named : Session DeskState → CrewEntry → Session DeskState
 named s entry = with_text s (op_text entry)
 
-abbrev pub after_entry : List ℕ → Session → CrewEntry → Session
-after_entry places s entry = after_line places (named s entry) entry.line
+abbrev pub after_entry : Option ℕ → Session DeskState → CrewEntry → Session DeskState
+after_entry failed s entry = after_line failed (named s entry) entry.line
 
-abbrev pub crew_session : Desk → List CrewEntry → List ℕ → Session
-crew_session d entries places = fold (after_entry places) (begin_at d) entries
+-- a desk answers the entries of a crew; an attempt may fail at an edit that it accepts
+abbrev pub crew_answering : Answering CrewEntry
+crew_answering = record { State = DeskState; answer = after_entry; MayFail = λ s entry. IsAcceptedEdit s.desk (line_of entry.line) }
 
-abbrev pub crew_text : Desk → List CrewEntry → List ℕ → List ℕ
-crew_text d entries places = (crew_session d entries places).text
+abbrev pub crew_session : Desk → List CrewEntry → List (Option ℕ) → Session DeskState
+crew_session d entries failures = after_each crew_answering failures (begin_at (begun d)) entries
 
--- want of memory refuses nothing but edits that the desk accepts
-abbrev pub EntriesWantAtEdits : List ℕ → Session → List CrewEntry → Type 0
-EntriesWantAtEdits places s [] = Unit {0}
-EntriesWantAtEdits places s (entry ∷ entries) =
-    MayWant places (named s entry) (line_of entry.line) × EntriesWantAtEdits places (after_entry places s entry) entries
+abbrev pub crew_text : Desk → List CrewEntry → List (Option ℕ) → List ℕ
+crew_text d entries failures = (crew_session d entries failures).text
 
-abbrev pub CrewPlacesAreEdits : Desk → List CrewEntry → List ℕ → Type 0
-CrewPlacesAreEdits d entries places = EntriesWantAtEdits places (begin_at d) entries
+-- in the session of a crew attempts failed only at edits that the desk accepts
+abbrev pub CrewAllows : Desk → List CrewEntry → List (Option ℕ) → Type 0
+CrewAllows d entries failures = AreAllowed crew_answering failures (begin_at (begun d)) entries

@@ -1,13 +1,15 @@
 -- What the job `make N` writes: five lines about a session over an input that is made of the number.
-use Rattle.std.specs.Prelude.{ℕ, zero, suc, ◌+◌, ◌-◌, ◌*◌, ◌/◌, ◌%◌, List, [], ◌∷◌, ◌++◌, sum, flat_map, codes, decimal}
+use Rattle.std.specs.Prelude.{ℕ, zero, suc, ◌+◌, ◌-◌, ◌*◌, ◌/◌, ◌%◌, Option, List, [], ◌∷◌, ◌++◌, sum, flat_map, codes, decimal}
 use Rattle.std.specs.List.{range_with_len}
 use Rattle.lx_spec.specs.declared.Form.TheVariants.{Moves}
+use Rattle.lx_spec.specs.declared.ScriptKind.TheVariants.{Render}
 use Rattle.lx_spec.specs.Output.{frame}
 use Rattle.lx_spec.specs.Reading.{reads}
 use Rattle.lx_spec.specs.ShowText.{line}
 use Rattle.lx_spec.specs.Session.{Session}
+use Rattle.lx_spec.specs.DeskSession.{DeskState}
 use Rattle.lx_spec.specs.FaultLine.{over_show}
-use Rattle.lx_spec.specs.RenderOutput.{rendered}
+use Rattle.lx_spec.specs.ScriptOutput.{script_session}
 
 -- The generator: its number after i draws, and the i-th draw below k.
 abbrev pub drawn_from : ℕ → ℕ → ℕ
@@ -48,11 +50,11 @@ made_input n =
     ++ flat_map (made_turn n) (range_with_len 1 n) ++ line (codes "quit" ∷ [])
 
 -- the five lines about the session of that input
-abbrev pub made_text : ℕ → Session → List ℕ
+abbrev pub made_text : ℕ → Session DeskState → List ℕ
 made_text n s =
-    line (codes "cues" ∷ decimal n ∷ []) ++ line (codes "moment" ∷ decimal s.desk.playback.moment ∷ [])
+    line (codes "cues" ∷ decimal n ∷ []) ++ line (codes "moment" ∷ decimal s.state.desk.playback.moment ∷ [])
     ++ line (codes "ok" ∷ decimal s.counts.ok ∷ []) ++ line (codes "refused" ∷ decimal s.counts.refused ∷ [])
-    ++ line (codes "sum" ∷ decimal (sum (frame s.desk 1)) ∷ [])
+    ++ line (codes "sum" ∷ decimal (sum (frame s.state.desk 1)) ∷ [])
 
-abbrev pub make_output : ℕ → List ℕ → List ℕ
-make_output n places = over_show (reads Moves (made_input n)) (λ reading. made_text n (rendered (made_input n) places reading))
+abbrev pub make_output : ℕ → List (Option ℕ) → List ℕ
+make_output n failures = over_show (reads Moves (made_input n)) (λ reading. made_text n (script_session Render (made_input n) failures reading))

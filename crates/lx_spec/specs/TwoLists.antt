@@ -19,9 +19,8 @@ use Rattle.lx_spec.specs.Desk.{Desk, opened, step, after_command}
 use Rattle.lx_spec.specs.Output.{contribution, dimmer_value, dimmers_of}
 use Rattle.lx_spec.specs.RecordedLevels.{on_stage}
 use Rattle.lx_spec.specs.Replies.{frame_text}
-use Rattle.lx_spec.specs.Session.{after_meaning, with_text}
-use Rattle.lx_spec.specs.RefusedPlaces.{IsAcceptedEdit}
-use Rattle.lx_spec.specs.SessionOf.{SessionOf, at_desk, with_state}
+use Rattle.lx_spec.specs.Session.{Session, Answering, with_text}
+use Rattle.lx_spec.specs.DeskSession.{begun, tried, after_attempts, IsAcceptedEdit}
 
 pub record TwoDesks : Type 0 where
   pub first : Desk
@@ -110,29 +109,29 @@ is_tick (commands.Key key) = false
 is_tick commands.Tick = true
 
 -- the session after a line of the second list
-abbrev pub second_answer : List ℕ → SessionOf TwoDesks → Option Line → SessionOf TwoDesks
-second_answer places s meaning =
-    let t = after_meaning places (at_desk s.state.second s) meaning in
-    with_state (record s.state { second = t.desk }) t
+abbrev pub second_answer : Option ℕ → Session TwoDesks → Option Line → Session TwoDesks
+second_answer failed s meaning =
+    let t = tried failed (begun s.state.second) meaning in
+    after_attempts s meaning t (record s.state { second = t.state.desk })
 
 -- and after one of the first: a frame is that of both, and each tick that is accepted is the second list's too
-abbrev pub first_answer : List ℕ → SessionOf TwoDesks → Option Line → SessionOf TwoDesks
-first_answer places s (Some (lines.Frame u)) =
-    with_state s.state (with_text (at_desk s.state.first s) (frame_text [] s.state.first.playback.moment u (frame_of_two s.state u)))
-first_answer places s meaning =
-    let t = after_meaning places (at_desk s.state.first s) meaning in
-    with_state (record { first = t.desk; second = fold after_command s.state.second (filter is_tick t.accepted) }) t
+abbrev pub first_answer : Option ℕ → Session TwoDesks → Option Line → Session TwoDesks
+first_answer failed s (Some (lines.Frame u)) = with_text s (frame_text [] s.state.first.playback.moment u (frame_of_two s.state u))
+first_answer failed s meaning =
+    let t = tried failed (begun s.state.first) meaning in
+    after_attempts s meaning t
+    (record { first = t.state.desk; second = fold after_command s.state.second (filter is_tick t.state.accepted) })
 
 -- the session after a line
-abbrev pub two_answer : List ℕ → SessionOf TwoDesks → List ℕ → SessionOf TwoDesks
-two_answer places s line =
-    if is_for_second line then second_answer places s (second_meaning line) else first_answer places s (line_of line)
+abbrev pub two_answer : Option ℕ → Session TwoDesks → List ℕ → Session TwoDesks
+two_answer failed s line =
+    if is_for_second line then second_answer failed s (second_meaning line) else first_answer failed s (line_of line)
 
--- the line is an edit that its list accepts, the second or the first
-abbrev pub IsAcceptedOf : TwoDesks → List ℕ → Bool → Type 0
-IsAcceptedOf s line true = IsAcceptedEdit s.second (second_meaning line)
-IsAcceptedOf s line false = IsAcceptedEdit s.first (line_of line)
+-- an attempt may fail at an edit that its list accepts, the second or the first
+abbrev pub TwoMayFail : TwoDesks → List ℕ → Bool → Type 0
+TwoMayFail s line true = IsAcceptedEdit s.second (second_meaning line)
+TwoMayFail s line false = IsAcceptedEdit s.first (line_of line)
 
--- want of memory refuses only such an edit
-abbrev pub TwoMayWant : TwoDesks → List ℕ → Type 0
-TwoMayWant s line = IsAcceptedOf s line (is_for_second line)
+-- two lists answer the lines of a script
+abbrev pub two_answering : Answering (List ℕ)
+two_answering = record { State = TwoDesks; answer = two_answer; MayFail = λ s line. TwoMayFail s line (is_for_second line) }

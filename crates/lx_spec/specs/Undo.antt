@@ -7,8 +7,7 @@ use Rattle.lx_spec.specs.declared.UndoFault.{UndoFault}
 use Rattle.lx_spec.specs.declared.UndoFault.TheVariants.{NothingToUndo, NothingToRedo}
 use Rattle.lx_spec.specs.FirstRefusal.{◌>>=◌}
 use Rattle.lx_spec.specs.Show.{Show}
-use Rattle.lx_spec.specs.Desk.{Desk, opened, step}
-use Rattle.lx_spec.specs.RefusedPlaces.{is_edit}
+use Rattle.lx_spec.specs.Desk.{Desk, opened, step, is_edit}
 use Rattle.lx_spec.specs.RecordedLevels.{recorded}
 
 -- back lists the shows before this one, the oldest first, at most depth of them; forth those that were taken back, the next one first

@@ -1,10 +1,10 @@
 -- A session with undo: three lines more are known, and edits go into the history.
-use Rattle.std.specs.Prelude.{ℕ, ◌+◌, ◌==◌, nat_lt, Option, Some, None, Result, Ok, Err, IsOk, List, [], ◌∷◌, length, find, codes}
-use Rattle.std.specs.Prelude.{if◌then◌else◌}
+use Rattle.std.specs.Prelude.{ℕ, nat_lt, Option, Some, None, Result, Ok, Err, IsOk, List, [], ◌∷◌, length, find, codes}
+use Rattle.std.specs.Prelude.{is_some, if◌then◌else◌}
 use Rattle.std.specs.Option.{option_map_or}
 use Rattle.std.specs.List.{list_any}
 use Rattle.lx_base.specs.declared.TheConstants.{LINE_BYTES}
-use Rattle.lx_spec.specs.declared.Refusal.{Refusal}
+use Rattle.lx_spec.specs.declared.Line.{Line}
 use Rattle.lx_spec.specs.declared.Refusal.TheVariants.{Memory}
 use Rattle.lx_spec.specs.declared.UndoFault.{UndoFault}
 use Rattle.lx_spec.specs.declared.UndoFault.TheVariants.{NothingToUndo, NothingToRedo}
@@ -15,10 +15,10 @@ use Rattle.lx_spec.specs.ShowText.{line}
 use Rattle.lx_spec.specs.Phrase.{Tokens, ◌>>=◌, ended, only_or_end}
 use Rattle.lx_spec.specs.Script.{line_of, cue_number}
 use Rattle.lx_spec.specs.Replies.{refused_text}
-use Rattle.lx_spec.specs.Session.{Session, after_line}
-use Rattle.lx_spec.specs.RefusedPlaces.{is_edit, IsAcceptedEdit}
+use Rattle.lx_spec.specs.Desk.{is_edit}
+use Rattle.lx_spec.specs.Session.{Session, Answering, ok_reply, refused_reply}
+use Rattle.lx_spec.specs.DeskSession.{DeskState, begun, tried, after_attempts, IsAcceptedEdit}
 use Rattle.lx_spec.specs.Undo.{UndoState, record_step, undo, redo, replaced}
-use Rattle.lx_spec.specs.SessionOf.{SessionOf, at_desk, with_state, attempted}
 
 -- record n [only]
 abbrev pub record_line : Tokens → Option UndoLine
@@ -53,30 +53,36 @@ after_asking s Undo = told undo_fault_text (undo s)
 after_asking s Redo = told undo_fault_text (redo s)
 after_asking s (Record n only) = told refused_text (record_step s n only)
 
--- it is an attempt, which want of memory may refuse
-abbrev pub asked : List ℕ → SessionOf UndoState → UndoLine → SessionOf UndoState
-asked places s what =
-    attempted s (if list_any (λ place. place == s.attempts + 1) places then Err (refused_text Memory) else after_asking s.state what)
+-- one attempt at it and its reply: `ok`, or the text of a refusal
+abbrev pub attempted : Session UndoState → Result UndoState (List ℕ) → Session UndoState
+attempted s (Ok state) = ok_reply (record s { state = state })
+attempted s (Err text) = refused_reply s text
 
--- the state after any other line, from the session that the desk had of it: an edit that was accepted goes into the history
-abbrev pub after_plain : UndoState → Session → UndoState
+-- the attempt may fail
+abbrev pub asked : Option ℕ → Session UndoState → UndoLine → Session UndoState
+asked failed s what = attempted s (if is_some failed then Err (refused_text Memory) else after_asking s.state what)
+
+-- the state after any other line, which led the desk so far: an edit that was accepted goes into the history
+abbrev pub after_plain : UndoState → DeskState → UndoState
 after_plain s t = if list_any is_edit t.accepted then replaced s t.desk else record s { desk = t.desk }
 
+abbrev pub plain : Option ℕ → Session UndoState → Option Line → Session UndoState
+plain failed s meaning = let t = tried failed (begun s.state.desk) meaning in after_attempts s meaning t (after_plain s.state t.state)
+
 -- the session after a line
-abbrev pub undo_answer : List ℕ → SessionOf UndoState → List ℕ → SessionOf UndoState
-undo_answer places s line =
-    let t = after_line places (at_desk s.state.desk s) line in
-    option_map_or (asked places s) (undo_line_of line) (with_state (after_plain s.state t) t)
+abbrev pub undo_answer : Option ℕ → Session UndoState → List ℕ → Session UndoState
+undo_answer failed s line = option_map_or (asked failed s) (undo_line_of line) (plain failed s (line_of line))
 
--- want of memory refuses only edits and records that are accepted otherwise
-abbrev pub MayWantAsked : UndoState → UndoLine → Type 0
-MayWantAsked s Undo = ⊥
-MayWantAsked s Redo = ⊥
-MayWantAsked s (Record n only) = IsOk (record_step s n only)
+-- an attempt may fail at edits and records that are accepted otherwise
+abbrev pub MayFailAsked : UndoState → UndoLine → Type 0
+MayFailAsked s Undo = ⊥
+MayFailAsked s Redo = ⊥
+MayFailAsked s (Record n only) = IsOk (record_step s n only)
 
-abbrev pub MayWantOf : UndoState → List ℕ → Option UndoLine → Type 0
-MayWantOf s line (Some what) = MayWantAsked s what
-MayWantOf s line None = IsAcceptedEdit s.desk (line_of line)
+abbrev pub UndoMayFail : UndoState → List ℕ → Option UndoLine → Type 0
+UndoMayFail s line (Some what) = MayFailAsked s what
+UndoMayFail s line None = IsAcceptedEdit s.desk (line_of line)
 
-abbrev pub UndoMayWant : UndoState → List ℕ → Type 0
-UndoMayWant s line = MayWantOf s line (undo_line_of line)
+-- a desk with its history answers the lines of a script
+abbrev pub undo_answering : Answering (List ℕ)
+undo_answering = record { State = UndoState; answer = undo_answer; MayFail = λ s line. UndoMayFail s line (undo_line_of line) }

@@ -95,6 +95,63 @@ impl Label {
     }
 }
 
+/// A label that is lent: the bytes that it is made from, as `Label::new` makes it, where they stand. Contracts see the label.
+#[derive(Drop)]
+pub struct LabelText<'a> {
+    bytes: &'a [u8],
+}
+
+impl<'a> Model for LabelText<'a> {
+    ghost use Rattle.std.specs.Prelude.{List, ℕ};
+
+    ghost Value = { List ℕ };
+
+    ghost use Rattle.lx_spec.specs.Text.{label_of};
+
+    ghost view = { λ t. label_of t.bytes.now };
+}
+
+impl<'a> PartialEq for LabelText<'a> {
+    ghost use Rattle.std.specs.Prelude.{nat_eq};
+    ghost use Rattle.std.specs.Cmp.Lexicographic.{pointwise};
+    ghost use Rattle.std.proofs.Common.{rules};
+    ghost use Rattle.std.specs.Cmp.Rules.{comparing};
+
+    ghost eq = { pointwise nat_eq };
+
+    ghost laws = { Prim.search (comparing, rules) };
+
+    fn eq(&self, other: &LabelText<'a>) -> bool {
+        self.label() == other.label()
+    }
+}
+
+impl<'a> Eq for LabelText<'a> {
+    ghost use Rattle.std.proofs.Common.{rules};
+    ghost use Rattle.std.specs.Cmp.Rules.{comparing};
+
+    ghost laws = { Prim.search (comparing, rules) };
+}
+
+impl<'a> LabelText<'a> {
+    ghost use Rattle.std.specs.Prelude.{◌≡◌};
+    ghost use Rattle.lx_spec.specs.Text.{label_of};
+
+    /// The label that is made from these bytes.
+    pub fn new(bytes: &'a [u8]) -> LabelText<'a>
+        ensures { result ≡ label_of bytes.now }
+    {
+        LabelText { bytes }
+    }
+
+    /// The label, to be kept. It takes no memory.
+    pub fn label(&self) -> Label
+        ensures { result ≡ self.now }
+    {
+        Label::new(self.bytes)
+    }
+}
+
 /// Where the bytes kept are the label of some bytes, they become the label of these and one more.
 #[inline]
 fn keep(kept: &mut ArrayVec<u8, LABEL_BYTES>, byte: u8)

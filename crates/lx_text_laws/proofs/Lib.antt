@@ -17,3 +17,4 @@ pub mod FinerFields
 pub mod FinerLines
 pub mod FinerShow
 pub mod OldTexts
+mod ReadBack

@@ -1,3 +1,4 @@
 pub mod RoundTrip
 pub mod LookLevels
 pub mod OldTexts
+pub mod ReadAs

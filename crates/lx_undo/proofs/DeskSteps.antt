@@ -10,7 +10,7 @@ use Rattle.lx_spec.specs.declared.Refusal.{Refusal}
 use Rattle.lx_spec.specs.FirstRefusal.{◌>>=◌}
 use Rattle.lx_spec.specs.Desk.{Desk, step}
 use Rattle.lx_spec.specs.Kept.{Kept}
-use Rattle.lx_spec.specs.RefusedPlaces.{is_edit}
+use Rattle.lx_spec.specs.Desk.{is_edit}
 use Rattle.lx_spec.specs.Undo.{UndoState, replaced, undo_step}
 use Rattle.lx_console.specs.ConsoleMeaning.{StandsFor, Answers, Refuses}
 use Rattle.lx_undo.specs.Shows.{KeptPlans}

@@ -14,7 +14,7 @@ use Rattle.lx_spec.specs.declared.UndoFault.TheVariants.{NothingToUndo, NothingT
 use Rattle.lx_spec.specs.Show.{Show}
 use Rattle.lx_spec.specs.EditedShow.{edited}
 use Rattle.lx_spec.specs.Desk.{Desk, step}
-use Rattle.lx_spec.specs.RefusedPlaces.{is_edit}
+use Rattle.lx_spec.specs.Desk.{is_edit}
 use Rattle.lx_spec.specs.RecordedLevels.{recorded}
 use Rattle.lx_spec.specs.Undo.{UndoState, last_of, replaced, with_show, undo_step, record_step, back_to, forth_to, undo, redo}
 use Rattle.lx_spec.proofs.EditedCues.{bind_ok, ok_is}

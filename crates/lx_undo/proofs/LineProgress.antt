@@ -13,15 +13,14 @@ use Rattle.lx_spec.specs.declared.Line.TheVariants as lines
 use Rattle.lx_spec.specs.declared.Refusal.{Refusal}
 use Rattle.lx_spec.specs.FirstRefusal.{◌>>=◌}
 use Rattle.lx_spec.specs.Desk.{Desk, step, after_command}
-use Rattle.lx_spec.specs.RefusedPlaces.{is_edit}
-use Rattle.lx_spec.specs.Session.{command_of, count_of}
-use Rattle.lx_spec.specs.SessionOf.{SessionOf, at_desk}
+use Rattle.lx_spec.specs.Desk.{is_edit}
+use Rattle.lx_spec.specs.DeskSession.{begun, command_of, count_of}
 use Rattle.lx_spec.specs.Undo.{UndoState, replaced, undo_step}
 use Rattle.lx_console.specs.ConsoleMeaning.{StandsFor, Refuses}
 use Rattle.lx_session.specs.Attempts.{after_commands}
 use Rattle.lx_session.specs.LineState.{LineState, next_of, unattempted}
 use Rattle.lx_session.specs.LineProgress.{LineProgress}
-use Rattle.lx_session.proofs.AttemptSteps.{begun, next_is, attempted_at}
+use Rattle.lx_session.proofs.AttemptSteps.{nothing_yet, next_is, attempted_at}
 use Rattle.lx_undo.specs.UndoDeskMeaning.{UndoKept, UndoStands, TakesStep, WantsMemory}
 use Rattle.lx_undo.specs.CommandProgress.{reached, HasReached}
 
@@ -121,24 +120,24 @@ alone s old turn c done start command some few edit =
     no_more done (omega (arith, one, all, some, few))
 
 -- one attempt more, which was accepted
-one_accepted : (s : SessionOf UndoState) (old turn : LineState) (c : Command) (before now : UndoKept)
+one_accepted : (s : UndoState) (old turn : LineState) (c : Command) (before now : UndoKept)
     → old ≡ unattempted old.meaning → next_of turn ≡ Some c
     → ((x : UndoState) → UndoStands x before → IsOkAnd (undo_step x c) (λ next. UndoStands next now))
-    → LineProgress true (HasReached s.state before (old.left - turn.left)) (at_desk s.state.desk s) old turn before.console
-    → LineProgress true (HasReached s.state now (old.left - (turn.left - 1))) (at_desk s.state.desk s) old
+    → LineProgress true (HasReached s before (old.left - turn.left)) (begun s.desk) old turn before.console
+    → LineProgress true (HasReached s now (old.left - (turn.left - 1))) (begun s.desk) old
     (record { meaning = turn.meaning; left = turn.left - 1; refusal = None }) now.console
 one_accepted s old turn c before now start some steps t =
     let next = next_is turn c some in
     let command : command_of old.meaning ≡ Some c = ap command_of (sym t.meaning) ∙ next.command in
-    let by : (done : List Command) → HasReached s.state before (old.left - turn.left) done → Accepted s.state done c now =
-    λ done h. accepted s.state done c now (alone s.state old turn c done start command next.some h.few)
-    (steps (reached s.state done) h.stands) in
+    let by : (done : List Command) → HasReached s before (old.left - turn.left) done → Accepted s done c now =
+    λ done h. accepted s done c now (alone s old turn c done start command next.some h.few)
+    (steps (reached s done) h.stands) in
     let here = by t.commands t.listened in
     let is : step t.now.desk c ≡ Ok here.after = ap (λ (d : Desk). step d c) t.desk ∙ here.is in
     let stands : StandsFor here.after now.console =
-    subst (λ (d : Desk). StandsFor d now.console) (after_more s.state.desk here.after t.commands c here.is) here.stands.desk in
-    attempted_at true (HasReached s.state before (old.left - turn.left)) (HasReached s.state now (old.left - (turn.left - 1)))
-    (at_desk s.state.desk s) old turn c before.console now.console None true t next (λ every. refl)
+    subst (λ (d : Desk). StandsFor d now.console) (after_more s.desk here.after t.commands c here.is) here.stands.desk in
+    attempted_at true (HasReached s before (old.left - turn.left)) (HasReached s now (old.left - (turn.left - 1)))
+    (begun s.desk) old turn c before.console now.console None true t next (λ every. refl)
     (subst (λ (r : Result Desk Refusal). IsOkAnd r (λ (d : Desk). StandsFor d now.console)) (sym is) stands)
     (λ done h. record {
       few = let more : length (done ++ c ∷ []) ≡ length done + 1 = length-append done (c ∷ []) in
@@ -147,32 +146,32 @@ one_accepted s old turn c before now start some steps t =
     })
 
 -- and one that was refused
-one_refused : (s : SessionOf UndoState) (old turn : LineState) (c : Command) (before now : UndoKept) (refusal : Refusal)
+one_refused : (s : UndoState) (old turn : LineState) (c : Command) (before now : UndoKept) (refusal : Refusal)
     → next_of turn ≡ Some c → now ≡ before
     → ((x : UndoState) → UndoStands x before → (undo_step x c ≡ Err refusal) ⊎ WantsMemory (is_edit c) (undo_step x c) refusal)
-    → LineProgress true (HasReached s.state before (old.left - turn.left)) (at_desk s.state.desk s) old turn before.console
-    → LineProgress true (HasReached s.state now (old.left - (turn.left - 1))) (at_desk s.state.desk s) old
+    → LineProgress true (HasReached s before (old.left - turn.left)) (begun s.desk) old turn before.console
+    → LineProgress true (HasReached s now (old.left - (turn.left - 1))) (begun s.desk) old
     (record { meaning = turn.meaning; left = turn.left - 1; refusal = Some refusal }) now.console
 one_refused s old turn c before now refusal some same steps t =
     let next = next_is turn c some in
-    attempted_at true (HasReached s.state before (old.left - turn.left)) (HasReached s.state now (old.left - (turn.left - 1)))
-    (at_desk s.state.desk s) old turn c before.console now.console (Some refusal) true t next (λ every. refl) (
+    attempted_at true (HasReached s before (old.left - turn.left)) (HasReached s now (old.left - (turn.left - 1)))
+    (begun s.desk) old turn c before.console now.console (Some refusal) true t next (λ every. refl) (
       subst (λ (u : UndoKept). StandsFor t.now.desk u.console) (sym same) t.stands,
       subst (λ (d : Desk). Refuses d c refusal) (sym t.desk)
-          (refuses (reached s.state t.commands) c refusal (steps (reached s.state t.commands) t.listened.stands)),
+          (refuses (reached s t.commands) c refusal (steps (reached s t.commands) t.listened.stands)),
     )
     (λ done h. record {
       few = let same_length : length (done ++ []) ≡ length done = ap length (append-nil done) in
           let few = one_fewer old.left turn.left (length done) h.few next.some t.fewer in omega (arith, same_length, few);
-      stands = subst (λ (cs : List Command). UndoStands (reached s.state cs) now) (sym (append-nil done))
-          (subst (UndoStands (reached s.state done)) (sym same) h.stands);
+      stands = subst (λ (cs : List Command). UndoStands (reached s cs) now) (sym (append-nil done))
+          (subst (UndoStands (reached s done)) (sym same) h.stands);
     })
 
-one_by : (s : SessionOf UndoState) (old turn : LineState) (c : Command) (before now : UndoKept) (answer : Result (Unit {0}) Refusal)
+one_by : (s : UndoState) (old turn : LineState) (c : Command) (before now : UndoKept) (answer : Result (Unit {0}) Refusal)
     → old ≡ unattempted old.meaning → next_of turn ≡ Some c
     → ((x : UndoState) → UndoStands x before → TakesStep (is_edit c) (undo_step x c) answer now) → OnErr answer (now ≡ before)
-    → LineProgress true (HasReached s.state before (old.left - turn.left)) (at_desk s.state.desk s) old turn before.console
-    → LineProgress true (HasReached s.state now (old.left - (turn.left - 1))) (at_desk s.state.desk s) old
+    → LineProgress true (HasReached s before (old.left - turn.left)) (begun s.desk) old turn before.console
+    → LineProgress true (HasReached s now (old.left - (turn.left - 1))) (begun s.desk) old
     (record { meaning = turn.meaning; left = turn.left - 1; refusal = result_err answer }) now.console
 one_by s old turn c before now (Ok x) start some steps same t =
     one_accepted s old turn c before now start some (λ x stands. (steps x stands).ok) t
@@ -180,19 +179,19 @@ one_by s old turn c before now (Err refusal) start some steps same t =
     one_refused s old turn c before now refusal some same (λ x stands. (steps x stands).err) t
 
 -- One attempt more.
-pub one_more : (s : SessionOf UndoState) (old turn turn' : LineState) (c : Command) (before now : UndoKept)
+pub one_more : (s : UndoState) (old turn turn' : LineState) (c : Command) (before now : UndoKept)
     (answer : Result (Unit {0}) Refusal) → old ≡ unattempted old.meaning → next_of turn ≡ Some c
     → ((x : UndoState) → UndoStands x before → TakesStep (is_edit c) (undo_step x c) answer now) → OnErr answer (now ≡ before)
     → turn' ≡ record turn { left = turn.left - 1; refusal = result_err answer }
-    → LineProgress true (HasReached s.state before (old.left - turn.left)) (at_desk s.state.desk s) old turn before.console
-    → LineProgress true (HasReached s.state now (old.left - turn'.left)) (at_desk s.state.desk s) old turn' now.console
+    → LineProgress true (HasReached s before (old.left - turn.left)) (begun s.desk) old turn before.console
+    → LineProgress true (HasReached s now (old.left - turn'.left)) (begun s.desk) old turn' now.console
 one_more s old turn turn' c before now answer start some steps same is t =
-    subst (λ (v : LineState). LineProgress true (HasReached s.state now (old.left - v.left)) (at_desk s.state.desk s) old v now.console)
+    subst (λ (v : LineState). LineProgress true (HasReached s now (old.left - v.left)) (begun s.desk) old v now.console)
     (sym is) (one_by s old turn c before now answer start some steps same t)
 
 -- Nothing was attempted yet.
-pub none_yet : (s : SessionOf UndoState) (turn : LineState) (u : UndoKept) → turn ≡ unattempted turn.meaning → UndoStands s.state u
-    → LineProgress true (HasReached s.state u (turn.left - turn.left)) (at_desk s.state.desk s) turn turn u.console
+pub none_yet : (s : UndoState) (turn : LineState) (u : UndoKept) → turn ≡ unattempted turn.meaning → UndoStands s u
+    → LineProgress true (HasReached s u (turn.left - turn.left)) (begun s.desk) turn turn u.console
 none_yet s turn u start stands =
-    begun true (HasReached s.state u (turn.left - turn.left)) (at_desk s.state.desk s) u.console stands.desk turn
+    nothing_yet true (HasReached s u (turn.left - turn.left)) (begun s.desk) u.console stands.desk turn
     (ap (λ (t : LineState). t.refusal) start) (record { few = omega arith; stands = stands })

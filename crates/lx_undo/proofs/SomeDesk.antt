@@ -7,7 +7,7 @@ use Rattle.lx_spec.specs.declared.Command.TheVariants as commands
 use Rattle.lx_spec.specs.declared.Key.TheVariants.{Play, Fader, Master}
 use Rattle.lx_spec.specs.declared.Refusal.{Refusal}
 use Rattle.lx_spec.specs.FirstRefusal.{◌>>=◌}
-use Rattle.lx_spec.specs.RefusedPlaces.{is_edit}
+use Rattle.lx_spec.specs.Desk.{is_edit}
 use Rattle.lx_spec.specs.Show.{Show}
 use Rattle.lx_spec.specs.SortedList.{has_entry}
 use Rattle.lx_spec.specs.Playback.{press, tick}

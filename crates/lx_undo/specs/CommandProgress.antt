@@ -2,7 +2,7 @@
 use Rattle.std.specs.Prelude.{ℕ, ◌≤◌, List, length, if◌then◌else◌}
 use Rattle.std.specs.List.{list_any}
 use Rattle.lx_spec.specs.declared.Command.{Command}
-use Rattle.lx_spec.specs.RefusedPlaces.{is_edit}
+use Rattle.lx_spec.specs.Desk.{is_edit}
 use Rattle.lx_spec.specs.Undo.{UndoState, replaced}
 use Rattle.lx_session.specs.Attempts.{after_commands}
 use Rattle.lx_undo.specs.UndoDeskMeaning.{UndoKept, UndoStands}

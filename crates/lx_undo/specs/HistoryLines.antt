@@ -6,7 +6,7 @@ use Rattle.lx_spec.specs.declared.UndoLine.{UndoLine}
 use Rattle.lx_spec.specs.Replies.{ok_text, refused_text}
 use Rattle.lx_spec.specs.Session.{Counts}
 use Rattle.lx_spec.specs.Undo.{UndoState}
-use Rattle.lx_spec.specs.UndoSession.{undo_fault_text, after_asking, MayWantAsked}
+use Rattle.lx_spec.specs.UndoSession.{undo_fault_text, after_asking, MayFailAsked}
 use Rattle.lx_undo.specs.declared.asked.Denial.{Denial}
 use Rattle.lx_undo.specs.declared.asked.Denial.TheVariants as denials
 use Rattle.lx_undo.specs.UndoDeskMeaning.{UndoKept, UndoStands}
@@ -18,10 +18,10 @@ denial_text (denials.Desk refusal) = refused_text refusal
 -- memory was wanting where it may be
 pub record WantsAsked (s : UndoState) (what : UndoLine) (denial : Denial) : Type 0 where
   pub memory : denial_text denial ≡ refused_text Memory
-  pub may : MayWantAsked s what
+  pub may : MayFailAsked s what
 
--- It was done, and the desk stands for the state after it; or denied, and the desk stands for the same: as the state denies it, or for want
--- of memory.
+-- It was done, and the desk stands for the state after it; or denied, and the desk stands for the same: as the state denies it, or out of
+-- memory.
 abbrev pub HasAsked : UndoState → UndoLine → Option Denial → UndoKept → Type 0
 HasAsked s what None u = IsOkAnd (after_asking s what) (λ next. UndoStands next u)
 HasAsked s what (Some denial) u =

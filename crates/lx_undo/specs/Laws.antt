@@ -2,7 +2,7 @@
 use Rattle.std.specs.Prelude.{◌≡◌, ℕ, ◌≤◌, Bool, true, Ok}
 use Rattle.std.specs.Result.{IsOkAnd}
 use Rattle.lx_spec.specs.declared.Command.{Command}
-use Rattle.lx_spec.specs.RefusedPlaces.{is_edit}
+use Rattle.lx_spec.specs.Desk.{is_edit}
 use Rattle.lx_spec.specs.Undo.{UndoState, undo_step, record_step, undo, redo}
 
 -- After an accepted edit or record undo gives the desk before it, which also has the show before it. Redo after undo gives the state before

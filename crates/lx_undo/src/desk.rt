@@ -2,7 +2,7 @@
 
 ghost use Rattle.std.specs.Prelude.{◌≡◌, ◌≢◌, true, IfOk, OnErr};
 ghost use Rattle.lx_spec.specs.ValidEdit.{ValidCommand, ValidEdit};
-ghost use Rattle.lx_spec.specs.RefusedPlaces.{is_edit};
+ghost use Rattle.lx_spec.specs.Desk.{is_edit};
 ghost use Rattle.lx_spec.specs.Undo.{UndoState, opened_with, with_show, replaced, undo_step, record_step, undo, redo};
 ghost use Rattle.lx_edit.specs.PlanMeaning.{IsReady, planned};
 ghost use Rattle.lx_undo.specs.UndoDeskMeaning.{UndoStands, Steps, TakesStep};

@@ -1,13 +1,14 @@
 //! Sessions of a desk with its history.
 
-ghost use Rattle.std.specs.Prelude.{◌≡◌, ◌≤◌, ◌-◌, List, ℕ, IfOk, IfSome, None, Some, not, true, false, option_copied, [], OnOk};
+ghost use Rattle.std.specs.Prelude.{◌≡◌, ◌≤◌, ◌-◌, List, ℕ, IfOk, IfSome, None, Some, not, true, option_copied, [], OnOk};
 ghost use Rattle.lx_base.specs.declared.TheConstants.{INPUT_BYTES};
 ghost use Rattle.lx_io.specs.Puts.{HasSinkCause};
 ghost use Rattle.lx_lex.specs.Unread.{CanAdvance, SameSource, bytes_taken, source_left, unread};
-ghost use Rattle.lx_spec.specs.Session.{ends_script};
-ghost use Rattle.lx_spec.specs.SessionOf.{SessionOf, at_desk};
+ghost use Rattle.lx_spec.specs.Script.{line_of};
+ghost use Rattle.lx_spec.specs.Session.{Session, ends_script};
+ghost use Rattle.lx_spec.specs.DeskSession.{begun};
 ghost use Rattle.lx_spec.specs.Undo.{UndoState};
-ghost use Rattle.lx_spec.specs.UndoSession.{undo_line_of, undo_answer, UndoMayWant};
+ghost use Rattle.lx_spec.specs.UndoSession.{undo_line_of, undo_answering};
 ghost use Rattle.lx_spec.specs.ValidEdit.{ValidLine};
 ghost use Rattle.lx_session.specs.LineState.{next_of, unattempted};
 ghost use Rattle.lx_session.specs.LineProgress.{LineProgress};
@@ -15,6 +16,7 @@ ghost use Rattle.lx_session.specs.LineReply.{HasRoom, HasOneMore, counts_in};
 ghost use Rattle.lx_session.specs.OneAnswer.{IsLine, OneAnswer};
 ghost use Rattle.lx_session.specs.ScriptAnswer.{ScriptAnswered};
 ghost use Rattle.lx_session.specs.SessionOutcome.{HasSessionCause, KeepsLimit};
+ghost use Rattle.lx_script.specs.LinesWithUndo.{IsReadWithUndo, IsValidWithUndo};
 ghost use Rattle.lx_script.specs.UndoLines.{NamesCue};
 ghost use Rattle.lx_undo.specs.UndoDeskMeaning.{UndoStands};
 ghost use Rattle.lx_undo.specs.CommandProgress.{HasReached};
@@ -23,9 +25,9 @@ use crate::asked::{ask, give};
 use crate::desk::UndoDesk;
 use lx_io::{Sink, SinkFault, Source};
 use lx_lex::Lines;
-use lx_script::read_undo_line;
+use lx_script::{LineWithUndo, read_line_with_undo};
 use lx_session::{Answers, SessionFault, Tally, Turn, answer_lines};
-use lx_spec::UndoLine;
+use lx_spec::{Line, UndoLine};
 
 /// Answers the script lines that are left, up to `quit` or the end, on a desk with its history: those of a session, and
 /// `undo`, `redo` and `record n [only]`. Each line is done and its replies appended before the next is awaited.
@@ -33,7 +35,7 @@ use lx_spec::UndoLine;
 /// `ReadFault` comes only where the source failed, `InputTooLong` exactly where a wanted line has a byte past the limit
 /// of the input; the lines before it are then wholly answered. `WriteFault` and `Memory` come only where the sink
 /// answered them; what was written is then a prefix of the whole text. However it ends, the desk stands for the state
-/// after the lines that were done. Want of memory refuses only edits and records that nothing else refuses.
+/// after the lines that were done. Out of memory refuses only edits and records that nothing else refuses.
 pub fn undo_session<S: Source, K: Sink>(
     desk: &mut UndoDesk,
     lines: &mut Lines<S>,
@@ -44,7 +46,7 @@ pub fn undo_session<S: Source, K: Sink>(
     ensures same_source { SameSource lines.old lines.new }
     ensures outcome { (state : UndoState) → UndoStands state desk.old
         → IfSome (unread S.left lines.old)
-        (λ bytes. ScriptAnswered undo_answer UndoMayWant (λ s. UndoStands s desk.new) state (bytes_taken lines.old) bytes
+        (λ bytes. ScriptAnswered undo_answering (λ s. UndoStands s desk.new) state (bytes_taken lines.old) bytes
         (unread S.left lines.new) (source_left S.left lines.new) (K.holds sink.old) (K.holds sink.new) result) }
     ensures limit { IfSome (unread S.left lines.old) (λ bytes. KeepsLimit (bytes_taken lines.old) bytes result) }
     ensures cause { HasSessionCause S.faults K.faults K.wants lines.old lines.new sink.old sink.new result }
@@ -54,17 +56,12 @@ pub fn undo_session<S: Source, K: Sink>(
 }
 
 impl Answers for UndoDesk {
-    ghost use Rattle.lx_spec.specs.Undo.{UndoState};
-    ghost use Rattle.lx_spec.specs.UndoSession.{undo_answer, UndoMayWant};
+    ghost use Rattle.lx_spec.specs.UndoSession.{undo_answering};
     ghost use Rattle.lx_undo.specs.UndoDeskMeaning.{UndoStands};
 
-    ghost State = { UndoState };
+    ghost by = { undo_answering };
 
     ghost stands = { UndoStands };
-
-    ghost answer_of = { undo_answer };
-
-    ghost may_want = { UndoMayWant };
 
     fn answer<K: Sink>(
         &mut self,
@@ -72,21 +69,21 @@ impl Answers for UndoDesk {
         sink: &mut K,
         tally: &mut Tally,
     ) -> Result<bool, SinkFault> {
-        match asked_by(line) {
-            Some(what) => answer_asked(self, what, sink, tally),
-            None => answer_plain(self, line, sink, tally),
+        match read(line) {
+            LineWithUndo::OfHistory(what) => answer_asked(self, what, sink, tally),
+            LineWithUndo::OfDesk(meaning) => answer_plain(self, meaning, sink, tally),
         }
     }
 }
 
-/// What a line asks of the history. None stands for a line that is too long, which asks nothing.
-fn asked_by(line: Option<&[u8]>) -> Option<UndoLine>
-    ensures meaning { (text : List ℕ) → IsLine (option_copied line.entry) text → result ≡ undo_line_of text }
-    ensures cue { IfSome result NamesCue }
+/// What a line means. None stands for a line that is too long, which is bad.
+fn read(line: Option<&[u8]>) -> LineWithUndo<'_>
+    ensures meaning { (text : List ℕ) → IsLine (option_copied line.entry) text → IsReadWithUndo result text }
+    ensures valid { IsValidWithUndo result }
 {
     match line {
-        Some(line) => read_undo_line(line),
-        None => None,
+        Some(line) => read_line_with_undo(line),
+        None => LineWithUndo::OfDesk(None),
     }
 }
 
@@ -99,9 +96,9 @@ fn answer_asked<K: Sink>(
 ) -> Result<bool, SinkFault>
     requires cue { NamesCue what }
     requires room { HasRoom tally.old }
-    ensures answered { (s : SessionOf UndoState) (text : List ℕ) → UndoStands s.state desk.old → s.counts ≡ counts_in tally.old
+    ensures answered { (s : Session UndoState) (text : List ℕ) → UndoStands s.state desk.old → s.counts ≡ counts_in tally.old
         → undo_line_of text ≡ Some what
-        → OneAnswer undo_answer UndoMayWant K.holds K.faults K.wants sink.old sink.new result s text
+        → OneAnswer undo_answering K.holds K.faults K.wants sink.old sink.new result s text
         (λ state. UndoStands state desk.new) tally.new }
     ensures more { IfOk result (λ more. more ≡ true) }
     ensures cause { HasSinkCause K.faults K.wants sink.old sink.new result }
@@ -111,24 +108,25 @@ fn answer_asked<K: Sink>(
     give(denial, sink, tally)
 }
 
-/// Does what any other line asks for, then appends its replies and counts them. None stands for a line that is too
-/// long, which is bad. It answers false exactly for `quit`.
+/// Does what any other line asks for, which means this, then appends its replies and counts them. None stands for a bad line.
+/// It answers false exactly for `quit`.
 fn answer_plain<K: Sink>(
     desk: &mut UndoDesk,
-    line: Option<&[u8]>,
+    meaning: Option<Line>,
     sink: &mut K,
     tally: &mut Tally,
 ) -> Result<bool, SinkFault>
+    requires valid { IfSome meaning ValidLine }
     requires room { HasRoom tally.old }
-    ensures answered { (s : SessionOf UndoState) (text : List ℕ) → UndoStands s.state desk.old → s.counts ≡ counts_in tally.old
-        → IsLine (option_copied line.entry) text → undo_line_of text ≡ None
-        → OneAnswer undo_answer UndoMayWant K.holds K.faults K.wants sink.old sink.new result s text
+    ensures answered { (s : Session UndoState) (text : List ℕ) → UndoStands s.state desk.old → s.counts ≡ counts_in tally.old
+        → meaning.entry ≡ line_of text → undo_line_of text ≡ None
+        → OneAnswer undo_answering K.holds K.faults K.wants sink.old sink.new result s text
         (λ state. UndoStands state desk.new) tally.new }
-    ensures quit { IfOk result (λ more. (text : List ℕ) → IsLine (option_copied line.entry) text → more ≡ not (ends_script text)) }
+    ensures quit { IfOk result (λ more. (text : List ℕ) → meaning.entry ≡ line_of text → more ≡ not (ends_script text)) }
     ensures cause { HasSinkCause K.faults K.wants sink.old sink.new result }
     ensures counted { HasOneMore tally.old tally.new }
 {
-    let mut turn = Turn::begin(line);
+    let mut turn = Turn::of(meaning);
     attempt_all(desk, &mut turn);
     turn.finish(desk.console(), sink, tally)
 }
@@ -139,9 +137,8 @@ fn attempt_all(desk: &mut UndoDesk, turn: &mut Turn)
     requires valid { IfSome turn.old.meaning ValidLine }
     ensures over { next_of turn.new ≡ None }
     ensures meaning { turn.new.meaning ≡ turn.old.meaning }
-    ensures tried { (s : SessionOf UndoState) → UndoStands s.state desk.old
-        → LineProgress true (HasReached s.state desk.new (turn.old.left - turn.new.left)) (at_desk s.state.desk s) turn.old turn.new
-        desk.new.console }
+    ensures tried { (s : UndoState) → UndoStands s desk.old
+        → LineProgress true (HasReached s desk.new (turn.old.left - turn.new.left)) (begun s.desk) turn.old turn.new desk.new.console }
 {
     'commands: while let Some(command) = turn.next() {
         let refusal = desk.command(command).err();

@@ -1,5 +1,5 @@
 -- The engine's commands: those that are published, and then those that aren't yet.
-use Rattle.std.specs.Prelude.{◌≡◌, ℕ, ◌+◌, ◌-◌, ◌<◌, ◌^◌, List, [], ◌++◌, length, vec_len, vec_capacity, false, Option, Result, IfSome, OnOk}
+use Rattle.std.specs.Prelude.{◌≡◌, ℕ, ◌+◌, ◌-◌, ◌<◌, ◌^◌, List, [], ◌++◌, length, false, Option, Result, IfSome, OnOk}
 use Rattle.std.specs.Prelude.{IsSomeAnd}
 use mathlib.Core.Path.{sym, ap, ◌∙◌}
 use mathlib.Core.List.{append-nil, append_assoc}
@@ -7,15 +7,17 @@ use Rattle.lx_lex.specs.declared.lines.Lines.{Lines}
 use Rattle.lx_lex.specs.Unread.{SameSource, bytes_taken, source_left, unread}
 use Rattle.lx_spec.specs.Show.{Show}
 use Rattle.lx_spec.specs.Desk.{Desk}
+use Rattle.lx_spec.specs.DeskSession.{begun, desk_answering}
 use Rattle.lx_spec.specs.Kept.{Kept}
 use Rattle.lx_console.specs.ConsoleMeaning.{StandsFor}
 use Rattle.lx_session.specs.declared.fault.SessionFault.{SessionFault}
 use Rattle.lx_session.specs.declared.tally.Tally.{Tally}
-use Rattle.lx_session.specs.SessionOutcome.{SessionOutcome, HasSessionCause, KeepsLimit}
+use Rattle.lx_session.specs.Listening.{HasDone}
+use Rattle.lx_session.specs.ScriptAnswer.{ScriptAnswered}
+use Rattle.lx_session.specs.SessionOutcome.{HasSessionCause, KeepsLimit}
 use Rattle.lx_gate.specs.Desks.{IsInStep}
 use Rattle.lx_spec.specs.declared.Command.{Command}
 use Rattle.lx_gate.specs.Gates.{Published}
-use Rattle.lx_gate.specs.declared.unsent.Unsent.{Unsent}
 
 -- all commands that were accepted: what is published, and then what is unsent
 abbrev pub accepted_of : Published → List Command → List Command
@@ -25,10 +27,9 @@ accepted_of gate unsent = gate.published ++ unsent
 abbrev pub HasAccepted : Published → List Command → Published → List Command → List Command → Type 0
 HasAccepted gate unsent gate' unsent' commands = accepted_of gate' unsent' ≡ accepted_of gate unsent ++ commands
 
--- there is room for one more unsent command, and not too many to count
-pub record HasRoom (gate : Published) (unsent : Unsent) : Type 0 where
-  pub place : vec_len unsent.commands < vec_capacity unsent.commands
-  pub few : length gate.published + (length unsent.commands.items + 1) < 2 ^ 64 - 1
+-- there is room for one more unsent command: not too many to count
+pub record HasRoom (gate : Published) (unsent : List Command) : Type 0 where
+  pub few : length gate.published + (length unsent + 1) < 2 ^ 64 - 1
 
 pub accepted_nothing : (gate : Published) (unsent : List Command) → HasAccepted gate unsent gate unsent []
 accepted_nothing gate unsent = sym (append-nil (accepted_of gate unsent))
@@ -49,8 +50,8 @@ pub record HasRun {S K : Type 0} (left : S → Option (List ℕ)) (reads : S →
   pub in_step : IsInStep show gate' unsent' console'
   pub same_source : SameSource lines lines'
   pub outcome : (d : Desk) → StandsFor d console → IfSome (unread left lines) (λ bytes.
-      SessionOutcome false (HasAccepted gate unsent gate' unsent') d (bytes_taken lines) bytes (unread left lines')
-      (source_left left lines') (holds output) (holds output') console' result)
+      ScriptAnswered (desk_answering false) (HasDone (HasAccepted gate unsent gate' unsent') d console') (begun d) (bytes_taken lines) bytes
+      (unread left lines') (source_left left lines') (holds output) (holds output') result)
   pub limit : IfSome (unread left lines) (λ bytes. KeepsLimit (bytes_taken lines) bytes result)
   pub cause : HasSessionCause reads faults wants lines lines' output output' result
   pub handed_on : OnOk result (back output' ≡ [])

@@ -7,11 +7,13 @@ use Rattle.lx_lex.specs.Unread.{bytes_taken, source_left, unread}
 use Rattle.lx_spec.specs.declared.Command.{Command}
 use Rattle.lx_spec.specs.Show.{Show}
 use Rattle.lx_spec.specs.Desk.{opened, replay}
+use Rattle.lx_spec.specs.DeskSession.{begun, desk_answering}
 use Rattle.lx_spec.specs.Kept.{Kept}
 use Rattle.lx_console.specs.ConsoleMeaning.{StandsFor}
 use Rattle.lx_session.specs.declared.fault.SessionFault.{SessionFault}
 use Rattle.lx_session.specs.declared.tally.Tally.{Tally}
-use Rattle.lx_session.specs.SessionOutcome.{SessionOutcome}
+use Rattle.lx_session.specs.Listening.{HasDone}
+use Rattle.lx_session.specs.ScriptAnswer.{ScriptAnswered}
 use Rattle.lx_workers.specs.Places.{IsBack}
 
 -- Each place has its sink back, with what it was to get of these published commands; past the places no fault is told.
@@ -33,7 +35,6 @@ pub record HasPlayed {S O K : Type 0} (left : S → Option (List ℕ)) (holds : 
   pub unsent_is : unsent ≡ length held_back
   pub stands : StandsFor (replay show (published ++ held_back)) console
   pub session_is : IfSome (unread left lines) (λ bytes.
-      SessionOutcome false (λ commands. commands ≡ published ++ held_back) (opened show) (bytes_taken lines) bytes (unread left lines')
-      (source_left left lines')
-      (holds output) (holds output') console session)
+      ScriptAnswered (desk_answering false) (HasDone (λ commands. commands ≡ published ++ held_back) (opened show) console)
+      (begun (opened show)) (bytes_taken lines) bytes (unread left lines') (source_left left lines') (holds output) (holds output') session)
   pub outlets_are : AreDelivered outlet_holds outlet_back faults wants show outlets outlets' results published

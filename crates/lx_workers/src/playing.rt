@@ -43,7 +43,7 @@ pub struct Played {
     /// The fault of the outlet of universe u, at place u - 1, where it had one.
     pub outlets: [Option<SinkFault>; OUTLETS],
     /// How many accepted commands, the last ones, weren't published, for want of memory.
-    pub unsent: usize,
+    pub unsent: u64,
 }
 
 /// Plays the script lines that are left, up to `quit` or the end, over a console as it is at its opening: each is answered
@@ -141,7 +141,7 @@ fn play_over<
     )?;
     let lanes = fill_lanes(&stop, pace, taps, outlets, lanes);
     let mut gate = Some(gate);
-    let mut unsent = Unsent::new(alloc);
+    let mut unsent = Unsent::new();
     let (lanes, session) = perform(
         rt,
         alloc,
@@ -192,7 +192,7 @@ fn perform<
     requires going { CanAdvance lines.old }
     requires within { bytes_taken lines.old ≤ INPUT_BYTES }
     ensures engine { HasRunFrom S.left S.faults O.holds O.back O.faults O.wants G.show gate.old console.old lines.old output.old gate.new
-        unsent.new.commands.items console.new lines.new output.new result.1 }
+        unsent.new console.new lines.new output.new result.1 }
     ensures count { vec_len result.0 ≡ vec_len lanes.entry }
     ensures lanes { AllZip (λ x y. HasServed K.holds K.back K.faults K.wants G.show x.tap y.tap x.sink y.sink y.served) lanes.entry.items
         result.0.items }

@@ -41,7 +41,7 @@ impl<G: Origin, S: Source, K: Sink, C: Pace> Work
         × ((y.gate.ghost_name ≡ x.gate.ghost_name)
         × ((y.unsent.ghost_name ≡ x.unsent.ghost_name)
         × HasRunFrom S.left S.faults K.holds K.back K.faults K.wants G.show x.gate.now x.console.now x.lines.now x.output.now y.gate.now
-        y.unsent.now.commands.items y.console.now y.lines.now y.output.now y.session)))) };
+        y.unsent.now y.console.now y.lines.now y.output.now y.session)))) };
 
     fn run<R: Wait>(&mut self, rt: &R) {
         self.session = run_script(
@@ -75,7 +75,7 @@ fn run_script<G: Origin, R: Wait, S: Source, K: Sink, C: Pace>(
     requires going { CanAdvance lines.old }
     requires within { bytes_taken lines.old ≤ INPUT_BYTES }
     ensures { HasRunFrom S.left S.faults K.holds K.back K.faults K.wants G.show gate.old console.old lines.old output.old gate.new
-        unsent.new.commands.items console.new lines.new output.new result }
+        unsent.new console.new lines.new output.new result }
 {
     let Some(held) = gate.take() else {
         unreachable!()
@@ -83,7 +83,8 @@ fn run_script<G: Origin, R: Wait, S: Source, K: Sink, C: Pace>(
     let mut publisher = Publisher {
         rt,
         gate: held,
-        unsent: Unsent::new(alloc),
+        unsent: Unsent::new(),
+        next: Unsent::new(),
         stop,
         pace,
     };
@@ -92,6 +93,7 @@ fn run_script<G: Origin, R: Wait, S: Source, K: Sink, C: Pace>(
         rt: _,
         gate: held,
         unsent: left,
+        next: _,
         stop: _,
         pace: _,
     } = publisher;
@@ -110,11 +112,11 @@ fn answer_script<R: Wait, G: Origin, S: Source, K: Sink, C: Pace>(
     lines: &mut Lines<S>,
     output: &mut K,
 ) -> Result<Tally, SessionFault>
-    requires in_step { IsInStep G.show publisher.old.gate publisher.old.unsent.commands.items console.old }
+    requires in_step { IsInStep G.show publisher.old.gate publisher.old.unsent console.old }
     requires going { CanAdvance lines.old }
     requires within { bytes_taken lines.old ≤ INPUT_BYTES }
-    ensures { HasRun S.left S.faults K.holds K.back K.faults K.wants G.show publisher.old.gate publisher.old.unsent.commands.items console.old
-        lines.old output.old publisher.new.gate publisher.new.unsent.commands.items console.new lines.new output.new result }
+    ensures { HasRun S.left S.faults K.holds K.back K.faults K.wants G.show publisher.old.gate publisher.old.unsent console.old
+        lines.old output.old publisher.new.gate publisher.new.unsent console.new lines.new output.new result }
 {
     let session = session_with(publisher, console, lines, output);
     publish(

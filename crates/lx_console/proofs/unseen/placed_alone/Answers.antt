@@ -7,11 +7,11 @@ use Rattle.lx_spec.specs.Show.{Show, Valid}
 use Rattle.lx_console.specs.UnseenEdits.{PlacesCue}
 use Rattle.lx_console.proofs.unseen.placed_alone.Goals as goal
 
-pub returns-in-PlaceMove : goal.returns-in-PlaceMove
-returns-in-PlaceMove c =
-    let n = c.in-PlaceMove.cue in
-    let entry = c.in-PlaceMove.entry in
-    subst (λ (p : Plan). (show : Show) → Valid show → IsReady show p → PlacesCue show (planned show p) n) (sym c.in-PlaceMove.is)
+pub returns-in-Move : goal.returns-in-Move
+returns-in-Move c =
+    let n = c.in-Move.cue in
+    let entry = c.in-Move.to in
+    subst (λ (p : Plan). (show : Show) → Valid show → IsReady show p → PlacesCue show (planned show p) n) (sym c.in-Move.is)
     (λ show valid ready.
     let m = moved show n entry valid ready in
     record {
@@ -21,13 +21,13 @@ returns-in-PlaceMove c =
       after_is = moved_is show n entry m.cue m.found;
     })
 
-pub returns-in-PlaceMoves : goal.returns-in-PlaceMoves
-returns-in-PlaceMoves c =
-    let n = c.in-PlaceMoves.cue in
-    let moves : List Move = c.in-PlaceMoves.moves in
-    subst (λ (p : Plan). (show : Show) → Valid show → IsReady show p → PlacesCue show (planned show p) n) (sym c.in-PlaceMoves.is)
+pub returns-in-Moves : goal.returns-in-Moves
+returns-in-Moves c =
+    let n = c.in-Moves.cue in
+    let moves : List Move = c.in-Moves.to in
+    subst (λ (p : Plan). (show : Show) → Valid show → IsReady show p → PlacesCue show (planned show p) n) (sym c.in-Moves.is)
     (λ show valid ready.
-    let m = moved_all show n moves c.in-PlaceMoves.within valid ready in
+    let m = moved_all show n moves c.in-Moves.within valid ready in
     record {
       cue = record m.cue { moves = moves };
       number = m.number;

@@ -1,23 +1,15 @@
-use Rattle.lx_spec.specs.Job.{opened_undo}
-use Rattle.lx_spec.specs.UndoSession.{undo_answer, UndoMayWant}
+use Rattle.lx_base.specs.declared.TheConstants.{UNDO_DEPTH}
+use Rattle.lx_spec.specs.Undo.{opened_with}
+use Rattle.lx_spec.specs.UndoSession.{undo_answering}
 use Rattle.lx_undo.proofs.Lawful.{undo_lawful}
-use Rattle.lx_desk.specs.ScriptAnswers.{undo_by}
-use Rattle.lx_desk.proofs.Inputs.{nothing_answered_by, none_allowed}
+use Rattle.lx_desk.proofs.Played.{nothing_plays, session_plays}
 use Rattle.lx_desk.proofs.undo.play_with_undo.Goals as goal
 
-pub returns-in_default-clause-ended : goal.returns-in_default-clause-ended
-returns-in_default-clause-ended g c = nothing_answered_by (undo_by c.args.show)
-    (none_allowed undo_answer UndoMayWant (opened_undo c.args.show)) _ _
+pub returns-in_default-clause-plays : goal.returns-in_default-clause-plays
+returns-in_default-clause-plays g c = nothing_plays undo_answering (opened_with c.args.show UNDO_DEPTH) _ _ _ _ _ _ _ _
 
-pub returns-in_default-clause-front : goal.returns-in_default-clause-front
-returns-in_default-clause-front g c = nothing_answered_by (undo_by c.args.show)
-    (none_allowed undo_answer UndoMayWant (opened_undo c.args.show)) _ _
-
-pub play_by-requires-clause-lawful : goal.play_by-requires-clause-lawful
-play_by-requires-clause-lawful g c = undo_lawful
-
-pub returns-clause-ended : goal.returns-clause-ended
-returns-clause-ended g c = c.play_by.ensures.ended (opened_undo c.args.show) c.in-Ok.ensures
-
-pub returns-clause-front : goal.returns-clause-front
-returns-clause-front g c = c.play_by.ensures.front (opened_undo c.args.show) c.in-Ok.ensures
+pub returns-clause-plays : goal.returns-clause-plays
+returns-clause-plays g c =
+    session_plays undo_answering undo_lawful _ (opened_with c.args.show UNDO_DEPTH) _ _ _ _ _ _ _ _ _ _ _ _ c.status_of.ensures
+    (c.undo_session.ensures.outcome (opened_with c.args.show UNDO_DEPTH) c.in-Ok.ensures) c.undo_session.ensures.limit
+    c.undo_session.ensures.cause c.undo_session.ensures.handed_on

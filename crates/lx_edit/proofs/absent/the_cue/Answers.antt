@@ -17,5 +17,6 @@ returns-in-Some c =
       number = sym number;
       valid = c.in-Some.ensures.valid;
       same = ap (λ (cues : List Cue). record show { cues = cues })
-          (placed_same (λ (x : Cue). x.number) cue show.cues c.channels.ensures.valid.cues_sorted there);
+          (placed_same (λ (x : Cue). x.number) cue show.cues c.in-Some.ensures.show.cues_sorted there);
+      valid_show = c.in-Some.ensures.show;
     }

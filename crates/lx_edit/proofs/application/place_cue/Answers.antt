@@ -13,7 +13,7 @@ mend_cue-requires c =
     record {
       before = show;
       cue = c.args.cue;
-      valid = c.channels.ensures.valid;
+      valid = c.exchange_cue-old.ensures.before;
       stood = c.requires.sheet;
       number = sym number;
       least = c.requires.ready.valid.number.least;
@@ -25,11 +25,11 @@ mend_cue-requires c =
 pub returns-then-is_none-clause-others : goal.returns-then-is_none-clause-others
 returns-then-is_none-clause-others c =
     let number : c.cue.inside.number ≡ c.args.cue.number = ap (λ (q : Cue). q.number) c.cue.view_is in
-    others_with c.args.show.now c.exchange_cue-old.new.self c.args.cue c.cue.inside.number c.mark_change.new.chans c.channels.ensures.valid
+    others_with c.args.show.now c.exchange_cue-old.new.self c.args.cue c.cue.inside.number c.mark_change.new.chans c.exchange_cue-old.ensures.before
     c.exchange_cue-old.ensures.show (sym number) c.requires.ready.valid.number.least c.mark_change.ensures.same
 
 pub returns-else-is_none-clause-others : goal.returns-else-is_none-clause-others
 returns-else-is_none-clause-others c =
     let number : c.cue.inside.number ≡ c.args.cue.number = ap (λ (q : Cue). q.number) c.cue.view_is in
-    others_with c.args.show.now c.exchange_cue-old.new.self c.args.cue c.cue.inside.number c.mark_change.new.chans c.channels.ensures.valid
+    others_with c.args.show.now c.exchange_cue-old.new.self c.args.cue c.cue.inside.number c.mark_change.new.chans c.exchange_cue-old.ensures.before
     c.exchange_cue-old.ensures.show (sym number) c.requires.ready.valid.number.least c.mark_change.ensures.same

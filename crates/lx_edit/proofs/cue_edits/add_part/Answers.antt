@@ -1,4 +1,4 @@
-use Rattle.std.proofs.Common.{◌≡◌, ◌≤◌, ◌∙◌, ap, sym, subst, refl, false, None, Ok, ℕ}
+use Rattle.std.proofs.Common.{◌≡◌, ◌≤◌, ◌∙◌, ap, sym, subst, refl, false, None, Some, Ok, ℕ}
 use Rattle.std.specs.Prelude.{is_some}
 use Rattle.lx_base.specs.declared.TheConstants.{PARTS}
 use Rattle.lx_spec.specs.declared.Part.{Part}
@@ -7,7 +7,7 @@ use Rattle.lx_spec.specs.SortedList.{has_entry}
 use Rattle.lx_spec.specs.Show.{Cue}
 use Rattle.lx_spec.specs.EditedShow.{with_part, new_part, with_cue, edited}
 use Rattle.lx_show.proofs.ChangedCues.{with_placed_part}
-use Rattle.lx_edit.specs.declared.plans.Plan.TheVariants.{PlaceCue}
+use Rattle.lx_edit.specs.declared.plans.Plan.TheVariants as plans
 use Rattle.lx_edit.specs.PlanMeaning.{IsPlan}
 use Rattle.lx_edit.proofs.CuePlans.{places, valid_new_part}
 use Rattle.lx_edit.proofs.cue_edits.add_part.Goals as goal
@@ -25,6 +25,6 @@ returns c =
     let made : edited show (AddPart c.args.n c.args.p) ≡ Ok (with_cue show (with_part old part)) = rw (here.found, absent) refl in
     let least : 1 ≤ c.args.p = subst (λ (k : ℕ). 1 ≤ k) c.get.ensures.value c.get.ensures.least in
     let most : c.args.p ≤ PARTS = subst (λ (k : ℕ). k ≤ PARTS) c.get.ensures.value c.get.ensures.most in
-    subst (λ (x : Cue). IsPlan show (AddPart c.args.n c.args.p) (PlaceCue x None)) (sym is)
+    subst (λ (x : Cue). IsPlan show (AddPart c.args.n c.args.p) (plans.Cue c.args.n (Some x) None false)) (sym is)
     (places show _ c.args.n old (with_part old part) here refl
     (with_placed_part show.channels old part here.valid (valid_new_part c.args.p least most)) made refl refl)

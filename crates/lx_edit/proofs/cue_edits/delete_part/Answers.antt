@@ -1,10 +1,10 @@
-use Rattle.std.proofs.Common.{◌≡◌, ◌∙◌, ap, sym, subst, refl, false, None, Ok, arith}
+use Rattle.std.proofs.Common.{◌≡◌, ◌∙◌, ap, sym, subst, refl, false, None, Some, Ok, arith}
 use Rattle.std.specs.Prelude.{◌==◌}
 use Rattle.std.proofs.lemmas.Bool.Decides.{nat_tests}
 use Rattle.lx_spec.specs.declared.Edit.TheVariants.{DeletePart}
 use Rattle.lx_spec.specs.Show.{Cue}
 use Rattle.lx_spec.specs.EditedShow.{without_part, with_cue, edited}
-use Rattle.lx_edit.specs.declared.plans.Plan.TheVariants.{PlaceCue}
+use Rattle.lx_edit.specs.declared.plans.Plan.TheVariants as plans
 use Rattle.lx_edit.specs.PlanMeaning.{IsPlan}
 use Rattle.lx_edit.proofs.CuePlans.{places, valid_without_part}
 use Rattle.lx_edit.proofs.cue_edits.delete_part.Goals as goal
@@ -20,6 +20,6 @@ returns c =
     let not_base : (c.args.p == 1) ≡ false = grind (arith, nat_tests) in
     let made : edited show (DeletePart c.args.n c.args.p) ≡ Ok (with_cue show (without_part old c.args.p)) =
     rw (here.found, c.in_ok-the_part.ensures, not_base) refl in
-    subst (λ (x : Cue). IsPlan show (DeletePart c.args.n c.args.p) (PlaceCue x None)) (sym is)
+    subst (λ (x : Cue). IsPlan show (DeletePart c.args.n c.args.p) (plans.Cue c.args.n (Some x) None false)) (sym is)
     (places show _ c.args.n old (without_part old c.args.p) here refl (valid_without_part show.channels c.args.p old other here.valid)
     made refl refl)

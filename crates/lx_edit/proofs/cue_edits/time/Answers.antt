@@ -1,10 +1,10 @@
-use Rattle.std.proofs.Common.{◌≡◌, ◌∙◌, ap, sym, subst, refl, None, Ok}
+use Rattle.std.proofs.Common.{◌≡◌, ◌∙◌, ap, sym, subst, refl, false, None, Some, Ok}
 use Rattle.lx_spec.specs.declared.Part.{Part}
 use Rattle.lx_spec.specs.declared.Edit.TheVariants.{Time}
 use Rattle.lx_spec.specs.Show.{Cue}
 use Rattle.lx_spec.specs.EditedShow.{with_part, with_time, with_cue, edited}
 use Rattle.lx_show.proofs.ChangedCues.{with_placed_part}
-use Rattle.lx_edit.specs.declared.plans.Plan.TheVariants.{PlaceCue}
+use Rattle.lx_edit.specs.declared.plans.Plan.TheVariants as plans
 use Rattle.lx_edit.specs.PlanMeaning.{IsPlan}
 use Rattle.lx_edit.proofs.CuePlans.{places, valid_part, valid_time}
 use Rattle.lx_edit.proofs.cue_edits.time.Goals as goal
@@ -22,5 +22,5 @@ returns c =
     let valid = with_placed_part show.channels old part here.valid
     (valid_time c.in_ok-part.part c.args.rising c.args.time c.args.delay
     (valid_part show.channels c.args.p old c.in_ok-part.part here.valid c.in_ok-part.ensures) c.requires.time c.requires.delay) in
-    subst (λ (x : Cue). IsPlan show (Time c.args.n c.args.p c.args.rising c.args.time c.args.delay) (PlaceCue x None)) (sym is)
+    subst (λ (x : Cue). IsPlan show (Time c.args.n c.args.p c.args.rising c.args.time c.args.delay) (plans.Cue c.args.n (Some x) None false)) (sym is)
     (places show _ c.args.n old (with_part old part) here refl valid made refl refl)

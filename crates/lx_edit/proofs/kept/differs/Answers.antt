@@ -6,20 +6,20 @@ use Rattle.lx_edit.specs.Kept.{decided, decided_by}
 use Rattle.lx_edit.proofs.KeptLevels.{above_both, differs_as, same_test, same_through}
 use Rattle.lx_edit.proofs.kept.differs.Goals as goal
 
-pub returns-then-decides : goal.returns-then-decides
-returns-then-decides c =
+pub returns-then-decides_near : goal.returns-then-decides_near
+returns-then-decides_near c =
     let above = c.args.above.now in
-    let both = above_both c.args.show.now c.args.n c.args.old.now above c.args.new c.args.c c.channels.ensures.valid.cues_sorted
+    let both = above_both c.args.show.now c.args.n c.args.old.now above c.args.new c.args.c c.requires.there.valid_show.cues_sorted
     c.requires.there c.requires.number c.requires.above in
-    same_through (decides above c.args.c) (level_in above c.args.c) _ _ _ _ both.0 both.1 (sym c.decides.ensures ∙ c.if-decides.true)
+    same_through (decides above c.args.c) (level_in above c.args.c) _ _ _ _ both.0 both.1 (sym c.decides_near.ensures ∙ c.if-decides_near.true)
 
 pub returns-in-None-None : goal.returns-in-None-None
 returns-in-None-None c =
     let was : decided c.args.old.now c.args.c ≡ None = search rules in
     let is : decided_by (option_copied c.args.new) c.args.c ≡ None = search rules in
     sym (ap not (same_test (tracked c.args.show.now (c.args.n - 1) c.args.c)))
-    ∙ differs_as c.args.show.now c.args.n c.args.old.now c.args.above.now c.args.new c.args.c None None c.channels.ensures.valid.cues_sorted
-    c.requires.there c.requires.number c.requires.above (sym c.decides.ensures ∙ c.if-decides.false) was is
+    ∙ differs_as c.args.show.now c.args.n c.args.old.now c.args.above.now c.args.new c.args.c None None c.requires.there.valid_show.cues_sorted
+    c.requires.there c.requires.number c.requires.above (sym c.decides_near.ensures ∙ c.if-decides_near.false) was is
 
 pub returns-in-None-Some : goal.returns-in-None-Some
 returns-in-None-Some c =
@@ -27,16 +27,16 @@ returns-in-None-Some c =
     let is : decided_by (option_copied c.args.new) c.args.c ≡ Some c.in-None-Some.is' = search rules in
     ap (λ (k : ℕ). not (k == c.in-None-Some.is')) (c.tracked.ensures ∙ ap (λ k. tracked c.args.show.now k c.args.c) c.below.ensures)
     ∙ differs_as c.args.show.now c.args.n c.args.old.now c.args.above.now c.args.new c.args.c None (Some c.in-None-Some.is')
-    c.channels.ensures.valid.cues_sorted c.requires.there c.requires.number c.requires.above
-    (sym c.decides.ensures ∙ c.if-decides.false) was is
+    c.requires.there.valid_show.cues_sorted c.requires.there c.requires.number c.requires.above
+    (sym c.decides_near.ensures ∙ c.if-decides_near.false) was is
 
 pub returns-in-Some-Some : goal.returns-in-Some-Some
 returns-in-Some-Some c =
     let was : decided c.args.old.now c.args.c ≡ Some c.in-Some-Some.was = search rules in
     let is : decided_by (option_copied c.args.new) c.args.c ≡ Some c.in-Some-Some.is' = search rules in
     differs_as c.args.show.now c.args.n c.args.old.now c.args.above.now c.args.new c.args.c (Some c.in-Some-Some.was)
-    (Some c.in-Some-Some.is') c.channels.ensures.valid.cues_sorted c.requires.there c.requires.number c.requires.above
-    (sym c.decides.ensures ∙ c.if-decides.false) was is
+    (Some c.in-Some-Some.is') c.requires.there.valid_show.cues_sorted c.requires.there c.requires.number c.requires.above
+    (sym c.decides_near.ensures ∙ c.if-decides_near.false) was is
 
 pub returns-in-Some-None : goal.returns-in-Some-None
 returns-in-Some-None c =
@@ -45,5 +45,5 @@ returns-in-Some-None c =
     ap (λ (k : ℕ). not (c.in-Some-None.was == k)) (c.tracked-in-Some-None.ensures
     ∙ ap (λ k. tracked c.args.show.now k c.args.c) c.below-in-Some-None.ensures)
     ∙ differs_as c.args.show.now c.args.n c.args.old.now c.args.above.now c.args.new c.args.c (Some c.in-Some-None.was) None
-    c.channels.ensures.valid.cues_sorted c.requires.there c.requires.number c.requires.above
-    (sym c.decides.ensures ∙ c.if-decides.false) was is
+    c.requires.there.valid_show.cues_sorted c.requires.there c.requires.number c.requires.above
+    (sym c.decides_near.ensures ∙ c.if-decides_near.false) was is

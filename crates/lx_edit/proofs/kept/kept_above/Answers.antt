@@ -8,8 +8,8 @@ use Rattle.lx_spec.specs.declared.Move.{Move}
 use Rattle.lx_spec.specs.Show.{Cue, ValidCue}
 use Rattle.lx_spec.specs.TrackedLevel.{cue_above}
 use Rattle.lx_spec.specs.EditedShow.{cue_only, kept_above, with_cue, with_moves}
+use Rattle.lx_edit.specs.PlanMeaning.{changed_show}
 use Rattle.lx_edit.specs.Found.{Fits}
-use Rattle.lx_edit.specs.Kept.{changed_show}
 use Rattle.lx_edit.proofs.CueLevels.{chosen_fit}
 use Rattle.lx_edit.proofs.KeptLevels.{cue_above-changed, above_fits, above_is, cue_least, lent_number}
 use Rattle.lx_edit.proofs.KeptRows.{keeps_above}
@@ -38,13 +38,13 @@ returns-then-is_empty-clause-above c =
     sym (ap (λ (b : Bool). cue_only b show c.args.n after) c.if-not-only.false
     ∙ ap (λ (o : Option Cue). option_map_or (kept_above show after) o after) (cue_above-changed show c.args.n new number ∙ is)
     ∙ ap (λ (ms : List Move). with_cue after (with_moves above ms)) (sym (c.as_slice-moves.ensures.value ∙ c.in_ok-moves.ensures) ∙ none)
-    ∙ above_again show c.args.n new above c.channels.ensures.valid.cues_sorted number is)
+    ∙ above_again show c.args.n new above c.requires.there.valid_show.cues_sorted number is)
 
 pub with_moves-requires-clause-fits : goal.with_moves-requires-clause-fits
 with_moves-requires-clause-fits c =
     let show = c.args.show.now in
     let parts = c.in-Some.above.now.parts in
-    subst (λ k. AllByRecursion (Fits k parts) c.as_slice-moves.result.now) (sym c.channels-2.ensures.channels)
+    subst (λ k. AllByRecursion (Fits k parts) c.as_slice-moves.result.now) (sym c.channels.ensures.channels)
     (subst (λ (ms : List Move). AllByRecursion (Fits show.channels parts) ms) (sym (c.as_slice-moves.ensures.value ∙ c.in_ok-moves.ensures))
     (chosen_fit show parts _ _ c.in-Some.ensures.valid.first_part))
 
@@ -65,7 +65,7 @@ returns-clause-valid c =
     let show = c.args.show.now in
     above_fits show c.args.n (option_copied c.args.new) c.in-Some.above.now _ (lent_number c.args.n c.args.new c.requires.number)
     (sym c.in-Some.ensures.above) (ap (λ (cue : Cue). cue.number) c.in_ok-with_moves.ensures.cue)
-    (subst (λ k. ValidCue k c.in_ok-with_moves.field-0) c.channels-2.ensures.channels c.in_ok-with_moves.ensures.valid)
+    (subst (λ k. ValidCue k c.in_ok-with_moves.field-0) c.channels.ensures.channels c.in_ok-with_moves.ensures.valid)
 
 pub returns-clause-higher : goal.returns-clause-higher
 returns-clause-higher c =
@@ -80,7 +80,7 @@ returns-clause-keeps c =
     let above : Cue = c.in-Some.above.now in
     let number = lent_number c.args.n c.args.new c.requires.number in
     let is : cue_above show c.args.n ≡ Some above = sym c.in-Some.ensures.above in
-    keeps_above show c.args.n new c.args.old.now above c.in_ok-with_moves.field-0 c.channels.ensures.valid.cues_sorted
+    keeps_above show c.args.n new c.args.old.now above c.in_ok-with_moves.field-0 c.requires.there.valid_show.cues_sorted
     (cue_least show c.args.n c.args.old.now c.requires.there) c.requires.there number is
     (ap (λ (cue : Cue). cue.number) c.in_ok-with_moves.ensures.cue)
     (ap (with_cue after) (c.in_ok-with_moves.ensures.cue ∙ ap (with_moves above) (c.as_slice-moves.ensures.value ∙ c.in_ok-moves.ensures))

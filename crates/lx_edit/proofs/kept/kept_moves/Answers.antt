@@ -3,7 +3,7 @@ use Rattle.std.specs.Prelude.{not, ◌==◌}
 use Rattle.std.specs.Option.{option_copied}
 use Rattle.lx_spec.specs.declared.Move.{Move}
 use Rattle.lx_spec.specs.TrackedLevel.{tracked}
-use Rattle.lx_edit.specs.Kept.{changed_show}
+use Rattle.lx_edit.specs.PlanMeaning.{changed_show}
 use Rattle.lx_edit.proofs.CueLevels.{chosen_next}
 use Rattle.lx_edit.proofs.KeptLevels.{outside_high, outside_low, unchanged}
 use Rattle.lx_edit.proofs.Lists.{none_past}

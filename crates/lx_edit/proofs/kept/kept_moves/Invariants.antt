@@ -3,7 +3,7 @@ use Rattle.std.specs.Prelude.{filter, not, ◌==◌}
 use Rattle.std.specs.Option.{option_copied}
 use Rattle.std.specs.List.{range_with_len}
 use Rattle.lx_spec.specs.TrackedLevel.{tracked}
-use Rattle.lx_edit.specs.Kept.{changed_show}
+use Rattle.lx_edit.specs.PlanMeaning.{changed_show}
 use Rattle.lx_edit.proofs.kept.kept_moves.Given as goal
 
 abbrev pub invariant-loop-k : goal.invariant-loop-k

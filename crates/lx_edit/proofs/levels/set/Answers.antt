@@ -18,7 +18,7 @@ with_levels-requires-clause-channels c =
     let within : IsWithin channels c.args.range = c.in_ok-the_channels.ensures in
     let order : first ≤ last = within.order in
     let most : last ≤ channels = within.most in
-    subst (λ (n : ℕ). AllByRecursion (λ (m : Member). m.chan ≤ n) c.as_slice.result.now) (sym c.channels-2.ensures.channels)
+    subst (λ (n : ℕ). AllByRecursion (λ (m : Member). m.chan ≤ n) c.as_slice.result.now) (sym c.channels.ensures.channels)
     (subst (λ (ms : List Member). AllByRecursion (λ (m : Member). m.chan ≤ channels) ms)
     (sym (c.as_slice.ensures.value ∙ c.in_ok-members.ensures))
     (levels_within c.args.level first (last + 1 - first) channels (omega (arith, order, most))))
@@ -36,5 +36,5 @@ place-requires-clause-within c =
 pub returns-in-Some : goal.returns-in-Some
 returns-in-Some c =
     set_one c.args.show.now c.args.n c.args.level c.in_ok-old.old.now c.args.part c.in_ok-part.part c.args.range c.args.only c.in-Some.entry
-    c.channels.ensures.valid c.in_ok-old.ensures c.in_ok-part.ensures c.in_ok-the_channels.ensures c.in-Some.ensures.one
-    c.in-Some.ensures.entry c.in-Some.ensures.there c.in-Some.ensures.apart
+    c.in_ok-old.ensures.valid_show c.in_ok-old.ensures c.in_ok-part.ensures c.in_ok-the_channels.ensures c.in-Some.ensures.one
+    c.in-Some.ensures.entry c.in-Some.ensures.chan c.in-Some.ensures.level c.in-Some.ensures.there c.in-Some.ensures.apart

@@ -23,7 +23,7 @@ returns-then-is_block-clause-same c =
     ∙ c.mark_moves.ensures.same x (c.mark_tracked.ensures.grows x out)
     ∙ ap among c.moves_of-2.ensures.moves ∙ sym (move_by-moves new x) in
     let none : move_by new x ≡ None → tracked show (n - 1) x ≡ 0 =
-    λ absent. nothing_tracks show (n - 1) x c.channels.ensures.valid
+    λ absent. nothing_tracks show (n - 1) x c.cue-old.ensures.show
     (λ least most. sym (c.requires.columns x (n - 1)) ∙ c.mark_tracked.ensures.marked x least most out absent) in
     subst (λ (o : Option Cue). SameEntry o new x (tracked show (n - 1) x)) c.cue-old.ensures.cue
     (same_entry old new x (tracked show (n - 1) x) moves none)

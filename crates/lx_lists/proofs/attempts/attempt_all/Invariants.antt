@@ -1,5 +1,5 @@
 use Rattle.std.proofs.Common.{◌≡◌, true}
-use Rattle.lx_spec.specs.SessionOf.{SessionOf, at_desk}
+use Rattle.lx_spec.specs.DeskSession.{begun}
 use Rattle.lx_spec.specs.TwoLists.{TwoDesks}
 use Rattle.lx_session.specs.LineProgress.{LineProgress}
 use Rattle.lx_lists.specs.TwoListsMeaning.{TwoStand}
@@ -9,8 +9,8 @@ use Rattle.lx_lists.proofs.attempts.attempt_all.Given as goal
 abbrev pub invariant-commands : goal.invariant-commands
 invariant-commands l = record {
   meaning : l.turn.meaning ≡ l.fn.turn.meaning;
-  progress : (s : SessionOf TwoDesks) → TwoStand s.state l.fn.desk
-      → LineProgress true (TicksReach s.state.second l.desk.second) (at_desk s.state.first s) l.fn.turn l.turn l.desk.first;
+  progress : (s : TwoDesks) → TwoStand s l.fn.desk
+      → LineProgress true (TicksReach s.second l.desk.second) (begun s.first) l.fn.turn l.turn l.desk.first;
 }
 
 abbrev pub decreases-commands : goal.decreases-commands

@@ -1,14 +1,12 @@
-use Rattle.std.proofs.Common.{ℕ, ◌∙◌, true, Option, List, sym, ap, subst}
+use Rattle.std.proofs.Common.{◌≡◌, ℕ, ◌∙◌, true, Option, List, sym, ap, subst}
 use Rattle.std.specs.Prelude.{option_copied}
 use Rattle.lx_spec.specs.declared.Command.{Command}
-use Rattle.lx_spec.specs.declared.Line.{Line}
 use Rattle.lx_spec.specs.Script.{line_of}
-use Rattle.lx_spec.specs.SessionOf.{at_desk}
+use Rattle.lx_spec.specs.DeskSession.{begun}
 use Rattle.lx_console.specs.ConsoleMeaning.{StandsFor}
-use Rattle.lx_session.specs.LineAnswer.{LineAnswer}
 use Rattle.lx_session.specs.LineProgress.{LineProgress}
-use Rattle.lx_session.specs.LineState.{LineState, frame_of, meaning_of}
-use Rattle.lx_session.proofs.AnsweredLines.{answered}
+use Rattle.lx_session.specs.LineState.{LineState, frame_of, unattempted}
+use Rattle.lx_session.proofs.AnsweredLines.{turn_answered}
 use Rattle.lx_session.proofs.HeardLines.{meaning_is}
 use Rattle.lx_session.proofs.Replies.{frame_is}
 use Rattle.lx_lists.specs.TwoListsMeaning.{TwoKept}
@@ -34,17 +32,15 @@ returns-in-None-clause-answered g c = λ s text stands counted is first.
     let given : Option (List ℕ) = option_copied c.args.line in
     let desk : TwoKept = c.attempt_all.new.desk in
     let heard : List Command → Type 0 = TicksReach s.state.second desk.second in
-    let line = answered true heard g.K.Sink.holds g.K.Sink.faults g.K.Sink.wants c.args.sink.now c.finish_without_frame.new.sink
-    c.finish_without_frame.result
-    (at_desk s.state.first s) (meaning_of given) c.attempt_all.new.turn desk.first c.args.tally.now c.finish_without_frame.new.tally
-    (subst (λ (from : LineState). LineProgress true heard (at_desk s.state.first s) from c.attempt_all.new.turn desk.first)
-    c.begin-turn.ensures (c.attempt_all.ensures.tried s stands)) c.attempt_all.ensures.over counted
-    (λ d stood. c.finish_without_frame.ensures.text d (subst (StandsFor d) (sym c.list.ensures) stood))
-    (λ d stood. c.finish_without_frame.ensures.counts d (subst (StandsFor d) (sym c.list.ensures) stood)) in
+    let meant = meant_by given c.begin-turn.result text c.begin-turn.ensures is in
+    let from : c.begin-turn.result ≡ unattempted (line_of text) = c.begin-turn.ensures ∙ ap unattempted (meaning_is given text is) in
     answered_first g.K.Sink.holds g.K.Sink.faults g.K.Sink.wants c.args.sink.now c.finish_without_frame.new.sink
     c.finish_without_frame.result s text desk c.finish_without_frame.new.tally first
-    (ap frame_of (sym (meant_by given c.begin-turn.result text c.begin-turn.ensures is))
-    ∙ sym c.frame_universe.ensures.universe ∙ c.in-None.is)
-    (subst (λ (m : Option Line). LineAnswer true heard g.K.Sink.holds g.K.Sink.faults g.K.Sink.wants c.args.sink.now
-    c.finish_without_frame.new.sink c.finish_without_frame.result (at_desk s.state.first s) m desk.first
-    c.finish_without_frame.new.tally) (meaning_is given text is) line)
+    (ap frame_of (sym meant) ∙ sym c.frame_universe.ensures.universe ∙ c.in-None.is)
+    (turn_answered true heard g.K.Sink.holds g.K.Sink.faults g.K.Sink.wants c.args.sink.now c.finish_without_frame.new.sink
+    c.finish_without_frame.result s.counts (begun s.state.first) (line_of text) c.attempt_all.new.turn desk.first c.args.tally.now
+    c.finish_without_frame.new.tally
+    (subst (λ (v : LineState). LineProgress true heard (begun s.state.first) v c.attempt_all.new.turn desk.first) from
+    (c.attempt_all.ensures.tried s.state stands)) c.attempt_all.ensures.over counted
+    (λ d stood. c.finish_without_frame.ensures.text d (subst (StandsFor d) (sym c.list.ensures) stood))
+    (λ d stood. c.finish_without_frame.ensures.counts d (subst (StandsFor d) (sym c.list.ensures) stood)))

@@ -1,14 +1,13 @@
-use Rattle.std.proofs.Common.{ℕ, ◌∙◌, true, Option, List, sym, ap, subst}
+use Rattle.std.proofs.Common.{◌≡◌, ℕ, ◌∙◌, true, Option, List, sym, ap, subst}
 use Rattle.lx_spec.specs.declared.Command.{Command}
 use Rattle.lx_spec.specs.declared.Line.{Line}
 use Rattle.lx_spec.specs.Script.{line_of}
-use Rattle.lx_spec.specs.SessionOf.{at_desk}
-use Rattle.lx_spec.specs.TwoLists.{where_of_second}
+use Rattle.lx_spec.specs.DeskSession.{begun}
+use Rattle.lx_spec.specs.TwoLists.{second_meaning, where_of_second}
 use Rattle.lx_console.specs.ConsoleMeaning.{StandsFor}
-use Rattle.lx_session.specs.LineAnswer.{LineAnswer}
 use Rattle.lx_session.specs.LineProgress.{LineProgress}
-use Rattle.lx_session.specs.LineState.{LineState}
-use Rattle.lx_session.proofs.AnsweredLines.{answered}
+use Rattle.lx_session.specs.LineState.{LineState, unattempted}
+use Rattle.lx_session.proofs.AnsweredLines.{turn_answered}
 use Rattle.lx_lists.specs.TwoListsMeaning.{TwoKept}
 use Rattle.lx_lists.specs.OtherList.{Stays}
 use Rattle.lx_lists.proofs.TwoAnswers.{answered_second}
@@ -32,20 +31,18 @@ pub returns-clause-answered : goal.returns-clause-answered
 returns-clause-answered g c = λ s text stands counted is.
     let desk : TwoKept = c.attempt_second.new.desk in
     let heard : List Command → Type 0 = Stays s.state.first desk.first in
-    let line = answered true heard g.K.Sink.holds g.K.Sink.faults g.K.Sink.wants c.args.sink.now c.finish_without_frame.new.sink
-    c.finish_without_frame.result
-    (at_desk s.state.second s) (where_of_second (line_of c.args.rest.now)) c.attempt_second.new.turn desk.second c.args.tally.now
-    c.finish_without_frame.new.tally
-    (subst (λ (from : LineState). LineProgress true heard (at_desk s.state.second s) from c.attempt_second.new.turn desk.second)
-    c.begin_second-turn.ensures (c.attempt_second.ensures.tried s stands)) c.attempt_second.ensures.over counted
-    (λ d stood. c.finish_without_frame.ensures.text d (subst (StandsFor d) (sym c.list.ensures) stood))
-    (λ d stood. c.finish_without_frame.ensures.counts d (subst (StandsFor d) (sym c.list.ensures) stood)) in
+    let meaning : Option Line = second_meaning text in
+    let from : c.begin_second-turn.result ≡ unattempted meaning = c.begin_second-turn.ensures
+    ∙ ap (λ (rest : List ℕ). unattempted (where_of_second (line_of rest))) is.is in
     answered_second g.K.Sink.holds g.K.Sink.faults g.K.Sink.wants c.args.sink.now c.finish_without_frame.new.sink
     c.finish_without_frame.result s text desk c.finish_without_frame.new.tally is.second
-    (subst (λ (m : Option Line). LineAnswer true heard g.K.Sink.holds g.K.Sink.faults g.K.Sink.wants c.args.sink.now
-    c.finish_without_frame.new.sink
-    c.finish_without_frame.result (at_desk s.state.second s) m desk.second c.finish_without_frame.new.tally)
-    (ap (λ (rest : List ℕ). where_of_second (line_of rest)) is.is) line)
+    (turn_answered true heard g.K.Sink.holds g.K.Sink.faults g.K.Sink.wants c.args.sink.now c.finish_without_frame.new.sink
+    c.finish_without_frame.result s.counts (begun s.state.second) meaning c.attempt_second.new.turn desk.second c.args.tally.now
+    c.finish_without_frame.new.tally
+    (subst (λ (v : LineState). LineProgress true heard (begun s.state.second) v c.attempt_second.new.turn desk.second) from
+    (c.attempt_second.ensures.tried s.state stands)) c.attempt_second.ensures.over counted
+    (λ d stood. c.finish_without_frame.ensures.text d (subst (StandsFor d) (sym c.list.ensures) stood))
+    (λ d stood. c.finish_without_frame.ensures.counts d (subst (StandsFor d) (sym c.list.ensures) stood)))
 
 pub returns-clause-more : goal.returns-clause-more
 returns-clause-more g c = second_more c.finish_without_frame.result c.args.rest.now c.attempt_second.new.turn.meaning

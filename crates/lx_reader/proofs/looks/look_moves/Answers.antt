@@ -4,5 +4,5 @@ use Rattle.lx_reader.proofs.looks.look_moves.Goals as goal
 
 pub loop-n-preserved : goal.loop-n-preserved
 loop-n-preserved c =
-    put_next (last_look c.args.front.now) c.args.cue.now c.loop-n.n c.channel-chan.result c.last_look.result c.loop-n.moves
-    c.put_move.new.moves c.channel-chan.ensures c.last_look.ensures c.loop-n.invariant c.in_ok-put_move.ensures
+    put_next (last_look c.args.front.now) c.args.cue.now c.loop-n.n c.at-chan.result c.last_look.result c.loop-n.moves
+    c.put_move.new.moves c.at-chan.ensures.value c.last_look.ensures c.loop-n.invariant c.in_ok-put_move.ensures

@@ -1,5 +1,6 @@
 use Rattle.std.proofs.Common.{◌≡◌, true, false, ap, [], ◌∷◌}
 use Rattle.std.specs.Prelude.{is_none, not}
+use Rattle.lx_spec.specs.declared.Command.TheVariants as commands
 use Rattle.lx_session.proofs.AttemptSteps.{accepted_step, heard_accepted, heard_refused}
 use Rattle.lx_session.proofs.key.attempt_key.Goals as goal
 
@@ -10,7 +11,7 @@ hear-requires g c =
       (
         c.admit-admitted.ensures.keeps c.args.console.now c.requires.keeps,
         (
-          accepted_step c.admit-admitted.result c.args.command.now c.try_key-refusal.result c.args.console.now
+          accepted_step c.admit-admitted.result (commands.Key c.args.key.now) c.try_key-refusal.result c.args.console.now
               c.try_key-refusal.new.console none c.try_key-refusal.ensures.attempted,
           c.admit-admitted.ensures.ready (c.try_key-refusal.ensures.admitted none),
         ),
@@ -20,12 +21,12 @@ hear-requires g c =
 pub returns-then-is_none-clause-heard : goal.returns-then-is_none-clause-heard
 returns-then-is_none-clause-heard g c =
     let none : is_none c.try_key-refusal.result ≡ true = ap not c.if-is_none.ensures in
-    heard_accepted (g.L.Listener.heard c.args.listener.now c.hear.new.self) c.args.command.now c.try_key-refusal.result none
-    (g.met.L.Listener.both c.args.listener.now c.admit-admitted.new.self c.hear.new.self [] (c.args.command.now ∷ [])
+    heard_accepted (g.L.Listener.heard c.args.listener.now c.hear.new.self) (commands.Key c.args.key.now) c.try_key-refusal.result none
+    (g.met.L.Listener.both c.args.listener.now c.admit-admitted.new.self c.hear.new.self [] ((commands.Key c.args.key.now) ∷ [])
     c.admit-admitted.ensures.heard c.hear.ensures.heard)
 
 pub returns-else-is_none-clause-heard : goal.returns-else-is_none-clause-heard
 returns-else-is_none-clause-heard g c =
     let some : is_none c.try_key-refusal.result ≡ false = ap not c.if-is_none.ensures in
-    heard_refused (g.L.Listener.heard c.args.listener.now c.admit-admitted.new.self) c.args.command.now c.try_key-refusal.result some
+    heard_refused (g.L.Listener.heard c.args.listener.now c.admit-admitted.new.self) (commands.Key c.args.key.now) c.try_key-refusal.result some
     c.admit-admitted.ensures.heard

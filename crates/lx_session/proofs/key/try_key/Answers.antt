@@ -1,5 +1,3 @@
-use Rattle.std.proofs.Common.{subst, sym}
-use Rattle.lx_session.specs.Attempts.{Attempted}
 use Rattle.lx_session.proofs.Commands.{answered, obeyed, unadmitted}
 use Rattle.lx_session.proofs.key.try_key.Goals as goal
 
@@ -8,6 +6,5 @@ returns-then-not-admitted-clause-attempted c = λ d stands. unadmitted _ d _ _ c
 
 pub returns-clause-attempted : goal.returns-clause-attempted
 returns-clause-attempted c = λ d stands.
-    subst (λ m. Attempted c.args.admitted d m c.err.result c.press.new.self) (sym c.requires)
-    (answered _ d _ c.press.result c.err.result _ _ c.if-not-admitted.false
-    (obeyed d _ c.press.result c.press.new.self (c.press.ensures.obeys d stands)) stands c.press.ensures.unchanged c.err.ensures.value)
+    answered _ d _ c.press.result c.err.result _ _ c.if-not-admitted.false
+    (obeyed d _ c.press.result c.press.new.self (c.press.ensures.obeys d stands)) stands c.press.ensures.unchanged c.err.ensures.value

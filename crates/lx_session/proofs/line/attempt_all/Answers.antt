@@ -2,7 +2,7 @@ use Rattle.std.proofs.Common.{◌≡◌, ◌∙◌, ap, sym, Some, [], ◌∷◌
 use Rattle.lx_spec.specs.declared.Command.TheVariants as commands
 use Rattle.lx_session.specs.Attempts.{heard_of}
 use Rattle.lx_session.specs.LineState.{next_of}
-use Rattle.lx_session.proofs.AttemptSteps.{begun, attempted_so, passed}
+use Rattle.lx_session.proofs.AttemptSteps.{nothing_yet, attempted_so, passed}
 use Rattle.lx_session.proofs.ValidNext.{valid_next}
 use Rattle.lx_session.proofs.line.attempt_all.Goals as goal
 
@@ -16,7 +16,7 @@ commands-init g c =
       progress = λ s stands.
           passed g.L.Listener.admits_all heard heard s c.args.turn.now c.args.turn.now c.pass_ticks.new.turn c.args.console.now
           c.pass_ticks.new.console
-          (begun g.L.Listener.admits_all heard s c.args.console.now stands c.args.turn.now c.requires.start
+          (nothing_yet g.L.Listener.admits_all heard s c.args.console.now stands c.args.turn.now c.requires.start
           (g.met.L.Listener.nothing here)) c.pass_ticks.ensures.passed
           (λ done h one. g.met.L.Listener.both here here here done (commands.Tick ∷ []) h one);
     }

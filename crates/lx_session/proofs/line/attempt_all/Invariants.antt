@@ -1,5 +1,5 @@
 use Rattle.std.proofs.Common.{◌≡◌}
-use Rattle.lx_spec.specs.Session.{Session}
+use Rattle.lx_spec.specs.DeskSession.{DeskState}
 use Rattle.lx_console.specs.ConsoleMeaning.{StandsFor}
 use Rattle.lx_session.specs.LineProgress.{LineProgress}
 use Rattle.lx_session.proofs.line.attempt_all.Given as goal
@@ -8,7 +8,7 @@ abbrev pub invariant-commands : goal.invariant-commands
 invariant-commands g l = record {
   keeps : g.L.Listener.keeps l.listener l.console;
   meaning : l.turn.meaning ≡ l.fn.turn.meaning;
-  progress : (s : Session) → StandsFor s.desk l.fn.console
+  progress : (s : DeskState) → StandsFor s.desk l.fn.console
       → LineProgress g.L.Listener.admits_all (g.L.Listener.heard l.fn.listener l.listener) s l.fn.turn l.turn l.console;
 }
 

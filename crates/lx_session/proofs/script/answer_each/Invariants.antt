@@ -8,8 +8,8 @@ abbrev pub invariant-script : goal.invariant-script
 invariant-script g l = record {
   keeps : g.A.AnswersBeside.keeps l.answerer l.lent;
   passed : Passed g.S.Source.left g.S.Source.faults l.fn.lines l.lines;
-  so_far : (state : g.A.AnswersBeside.State) → g.A.AnswersBeside.stands state l.fn.answerer l.fn.lent
-      → SoFar g.A.AnswersBeside.answer_of g.A.AnswersBeside.may_want (λ s. g.A.AnswersBeside.stands s l.answerer l.lent) g.S.Source.left
+  so_far : (since : g.A.AnswersBeside.Since) (state : g.A.AnswersBeside.by.State) → g.A.AnswersBeside.stands since state l.fn.answerer l.fn.lent
+      → SoFar g.A.AnswersBeside.by (λ s. g.A.AnswersBeside.stands since s l.answerer l.lent) g.S.Source.left
       g.S.Source.faults l.fn.lines l.lines state l.tally (g.K.Sink.holds l.fn.sink) (g.K.Sink.holds l.sink);
   few : IsUpTo l.lines.number l.tally;
   sink_kept : g.K.Sink.faults l.sink ≡ g.K.Sink.faults l.fn.sink;

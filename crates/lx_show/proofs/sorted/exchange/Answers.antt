@@ -4,11 +4,11 @@ use Rattle.lx_spec.specs.SortedList.{IsStrictlySorted, placed}
 use Rattle.lx_show.proofs.sorted.exchange.Goals as goal
 
 pub returns-clause-items : goal.returns-clause-items
-returns-clause-items g c = subst (λ y. set c.args.xs.now.items c.in-Ok.at y ≡ placed g.T.Keyed.key c.args.x c.args.xs.now.items)
+returns-clause-items g c = subst (λ y. set c.args.xs.now.items c.place_of-at.result y ≡ placed g.T.Keyed.key c.args.x c.args.xs.now.items)
     (sym c.replace.ensures.after)
-    (replaced _ _ _ _ c.args.x c.in-Ok.at c.key.ensures c.as_slice.ensures.value c.in-Ok.ensures.stands)
+    (replaced _ _ _ _ c.args.x c.place_of-at.result c.key.ensures c.as_slice.ensures.value c.place_of-at.ensures)
 
 pub returns-clause-sorted : goal.returns-clause-sorted
-returns-clause-sorted g c = subst (λ y. IsStrictlySorted g.T.Keyed.key (set c.args.xs.now.items c.in-Ok.at y))
+returns-clause-sorted g c = subst (λ y. IsStrictlySorted g.T.Keyed.key (set c.args.xs.now.items c.place_of-at.result y))
     (sym c.replace.ensures.after)
-    (sorted_replaced _ _ _ _ c.args.x c.in-Ok.at c.key.ensures c.as_slice.ensures.value c.in-Ok.ensures.stands c.requires.sorted)
+    (sorted_replaced _ _ _ _ c.args.x c.place_of-at.result c.key.ensures c.as_slice.ensures.value c.place_of-at.ensures c.requires.sorted)

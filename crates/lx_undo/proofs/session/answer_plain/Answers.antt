@@ -1,26 +1,24 @@
-use Rattle.std.proofs.Common.{◌∙◌, ap, sym}
-use Rattle.std.specs.Prelude.{option_copied}
+use Rattle.std.proofs.Common.{◌∙◌, ap, sym, IfSome, subst}
+use Rattle.lx_spec.specs.ValidEdit.{ValidLine}
 use Rattle.lx_session.specs.LineState.{LineState, unattempted}
 use Rattle.lx_undo.proofs.LineAnswers.{answered_line, more_by}
-use Rattle.lx_session.proofs.ValidNext.{valid_meaning}
 use Rattle.lx_undo.proofs.session.answer_plain.Goals as goal
 
 pub attempt_all-requires-clause-start : goal.attempt_all-requires-clause-start
-attempt_all-requires-clause-start g c =
-    c.begin-turn.ensures ∙ ap unattempted (sym (ap (λ (t : LineState). t.meaning) c.begin-turn.ensures))
+attempt_all-requires-clause-start g c = c.of-turn.ensures ∙ ap unattempted (sym (ap (λ (t : LineState). t.meaning) c.of-turn.ensures))
 
 pub attempt_all-requires-clause-valid : goal.attempt_all-requires-clause-valid
 attempt_all-requires-clause-valid g c =
-    valid_meaning (option_copied c.args.line) c.begin-turn.result.meaning (ap (λ (t : LineState). t.meaning) c.begin-turn.ensures)
+    subst (λ m. IfSome m ValidLine) (sym (ap (λ (t : LineState). t.meaning) c.of-turn.ensures)) c.requires.valid
 
 pub returns-clause-answered : goal.returns-clause-answered
 returns-clause-answered g c = λ s text stands counted is none.
     answered_line g.K.Sink.holds g.K.Sink.faults g.K.Sink.wants c.args.sink.now c.finish.new.sink c.finish.result s text
-    (option_copied c.args.line) c.begin-turn.result c.attempt_all.new.turn c.attempt_all.new.desk c.console.result.now c.args.tally.now
-    c.finish.new.tally c.begin-turn.ensures c.console.ensures is none counted (c.attempt_all.ensures.tried s stands)
+    c.args.meaning c.of-turn.result c.attempt_all.new.turn c.attempt_all.new.desk c.console.result.now c.args.tally.now
+    c.finish.new.tally c.of-turn.ensures c.console.ensures is none counted (c.attempt_all.ensures.tried s.state stands)
     c.attempt_all.ensures.over c.finish.ensures.text c.finish.ensures.counts
 
 pub returns-clause-quit : goal.returns-clause-quit
 returns-clause-quit g c =
-    more_by c.finish.result (option_copied c.args.line) c.attempt_all.new.turn.meaning
-    (c.attempt_all.ensures.meaning ∙ ap (λ (t : LineState). t.meaning) c.begin-turn.ensures) c.finish.ensures.quit
+    more_by c.finish.result c.args.meaning c.attempt_all.new.turn.meaning
+    (c.attempt_all.ensures.meaning ∙ ap (λ (t : LineState). t.meaning) c.of-turn.ensures) c.finish.ensures.quit

@@ -1,5 +1,5 @@
 use Rattle.std.proofs.Common.{◌≡◌, ◌-◌, true}
-use Rattle.lx_spec.specs.SessionOf.{SessionOf, at_desk}
+use Rattle.lx_spec.specs.DeskSession.{begun}
 use Rattle.lx_spec.specs.Undo.{UndoState}
 use Rattle.lx_session.specs.LineProgress.{LineProgress}
 use Rattle.lx_undo.specs.UndoDeskMeaning.{UndoStands}
@@ -9,8 +9,8 @@ use Rattle.lx_undo.proofs.session.attempt_all.Given as goal
 abbrev pub invariant-commands : goal.invariant-commands
 invariant-commands l = record {
   meaning : l.turn.meaning ≡ l.fn.turn.meaning;
-  progress : (s : SessionOf UndoState) → UndoStands s.state l.fn.desk
-      → LineProgress true (HasReached s.state l.desk (l.fn.turn.left - l.turn.left)) (at_desk s.state.desk s) l.fn.turn l.turn
+  progress : (s : UndoState) → UndoStands s l.fn.desk
+      → LineProgress true (HasReached s l.desk (l.fn.turn.left - l.turn.left)) (begun s.desk) l.fn.turn l.turn
       l.desk.console;
 }
 

@@ -15,16 +15,16 @@ pub returns-clause-played : goal.returns-clause-played
 returns-clause-played g c =
     let run = held_in c.perform-lanes.new.gate c.in-Some.gate
     (λ held. HasRun g.S.Source.left g.S.Source.faults g.O.Sink.holds g.O.Sink.back g.O.Sink.faults g.O.Sink.wants g.G.Origin.show c.in_ok-gate.gate []
-    c.args.console.now c.args.lines.now c.args.output.now held c.perform-lanes.new.unsent.commands.items c.perform-lanes.new.console
+    c.args.console.now c.args.lines.now c.args.output.now held c.perform-lanes.new.unsent c.perform-lanes.new.console
     c.perform-lanes.new.lines c.perform-lanes.new.output c.perform-lanes.result.1)
     c.in-Some.is c.perform-lanes.ensures.engine in
     record {
       published = c.in-Some.gate.published;
-      held_back = c.perform-lanes.new.unsent.commands.items;
+      held_back = c.perform-lanes.new.unsent;
       unsent_is = c.len.ensures;
       stands = run.in_step.stands;
       session_is = played_of g.S.Source.left g.S.Source.faults g.O.Sink.holds g.O.Sink.back g.O.Sink.faults g.O.Sink.wants g.G.Origin.show c.in_ok-gate.gate
-          [] c.args.console.now c.args.lines.now c.args.output.now c.in-Some.gate c.perform-lanes.new.unsent.commands.items
+          [] c.args.console.now c.args.lines.now c.args.output.now c.in-Some.gate c.perform-lanes.new.unsent
           c.perform-lanes.new.console c.perform-lanes.new.lines c.perform-lanes.new.output c.perform-lanes.result.1
           c.in_ok-gate.ensures.gate refl c.requires.opened run;
       outlets_are = record {

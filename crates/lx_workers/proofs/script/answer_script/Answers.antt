@@ -12,8 +12,8 @@ returns g c =
     let s = c.session_with-session in
     let e = s.ensures in
     run_on g.S.Source.left g.S.Source.faults g.K.Sink.holds g.K.Sink.back g.K.Sink.faults g.K.Sink.wants g.G.Origin.show c.args.publisher.now.gate
-    c.args.publisher.now.unsent.commands.items c.args.console.now c.args.lines.now c.args.output.now s.new.listener.gate
-    s.new.listener.unsent.commands.items s.new.console s.new.lines s.new.sink s.result c.publish.new.gate
-    c.publish.new.unsent.commands.items
+    c.args.publisher.now.unsent c.args.console.now c.args.lines.now c.args.output.now s.new.listener.gate
+    s.new.listener.unsent s.new.console s.new.lines s.new.sink s.result c.publish.new.gate
+    c.publish.new.unsent
     (record { in_step = e.keeps; same_source = e.same_source; outcome = e.outcome; limit = e.limit; cause = e.cause; handed_on = e.handed_on })
     c.publish.ensures.in_step c.publish.ensures.same

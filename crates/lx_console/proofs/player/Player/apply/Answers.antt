@@ -71,6 +71,6 @@ returns-clause-changes c =
     subst (λ (k : Kept). Changes c.of_edit.result k (record before { show = after; faders = c.mend_subs.new.rack.faders })) c.self.view_is
     (subst (λ (f : List ℕ). Changes c.of_edit.result before (record before { show = after; faders = f })) (sym c.mend_subs.ensures.faders)
     (planned_changes before after c.args.plan c.exchange-dirty.result.dirty c.self.inside.levels c.recompute_touched-leveled.new.levels
-    c.recompute_touched-leveled.result c.of_edit.result of_exchange.show c.self.invariant.levels_stand
+    c.recompute_touched-leveled.result c.of_edit.result (search rules) of_exchange.show c.self.invariant.levels_stand
     c.recompute_touched-leveled.ensures.stands c.recompute_touched-leveled.ensures.same of_exchange.dimmer of_exchange.subs
     c.of_edit.ensures))

@@ -10,8 +10,8 @@ publish-requires-clause-moment g c = c.moment.ensures ∙ moment_is _ _ _ c.requ
 
 pub returns-clause-in_step : goal.returns-clause-in_step
 returns-clause-in_step g c =
-    let old = c.args.unsent.now.commands.items in
-    let new = c.publish.new.unsent.commands.items in
+    let old = c.args.unsent.now in
+    let new = c.publish.new.unsent in
     in_step_over g.G.Origin.show c.args.self.now c.publish.new.self old new c.args.console.now c.requires
     (answered_same c.publish.result c.args.self.now c.publish.new.self old new c.publish.ensures.ok c.publish.ensures.err)
     c.publish.ensures.entered

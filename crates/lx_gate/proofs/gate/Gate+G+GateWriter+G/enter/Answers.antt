@@ -2,11 +2,11 @@ use Rattle.std.proofs.Common.{◌≡◌, ◌-◌, ◌++◌, length, drop, ap, �
 use Rattle.lx_gate.proofs.UnsentCommands.{entered_whole, entered_known}
 use Rattle.lx_gate.proofs.gate.Gate+G+GateWriter+G.enter.Goals as goal
 
-pub after-requires : goal.after-requires
-after-requires g c =
+pub extend-requires-clause-known : goal.extend-requires-clause-known
+extend-requires-clause-known g c =
     omega (
       arith,
-      entered_known c.args.self.now c.args.unsent.now.commands.items c.requires.entered,
+      entered_known c.args.self.now c.args.unsent.now c.requires.entered,
       c.len.ensures,
       c.len-2.ensures,
       ap length c.again-entered.ensures,
@@ -16,10 +16,9 @@ after-requires g c =
 
 pub returns-then-extend : goal.returns-then-extend
 returns-then-extend g c =
-    let whole = entered_whole c.args.self.now c.args.unsent.now.commands.items c.requires.entered in
+    let whole = entered_whole c.args.self.now c.args.unsent.now c.requires.entered in
     let list : c.again-entered.result ≡ c.args.self.now.entered = c.again-entered.ensures ∙ ap (λ v. v.entered) c.self.view_is in
     let known : c.len.result - c.len-2.result ≡ length c.args.self.now.entered - length c.args.self.now.published =
     omega (arith, c.len.ensures, c.len-2.ensures, ap length list, ap (λ v. length v.published) c.self.view_is) in
-    c.if-extend.ensures ∙ (ap (λ w. c.again-entered.result ++ w) c.after.ensures
-    ∙ (ap (λ w. w ++ drop (c.len.result - c.len-2.result) c.args.unsent.now.commands.items) list
-    ∙ (ap (λ n. c.args.self.now.entered ++ drop n c.args.unsent.now.commands.items) known ∙ whole)))
+    c.if-extend.ensures ∙ (ap (λ w. w ++ drop (c.len.result - c.len-2.result) c.args.unsent.now) list
+    ∙ (ap (λ n. c.args.self.now.entered ++ drop n c.args.unsent.now) known ∙ whole))

@@ -1,4 +1,5 @@
-use Rattle.std.proofs.Common.{◌≡◌, ◌+◌, refl, sym, ◌∙◌, ap, subst, length, List}
+use Rattle.std.proofs.Common.{◌≡◌, ◌+◌, ◌-◌, refl, sym, ◌∙◌, ap, subst, length, drop, List, arith}
+use Rattle.std.proofs.lemmas.List.{length-drop}
 use Rattle.lx_spec.specs.declared.Command.{Command}
 use Rattle.lx_gate.specs.CommandLists.{flat, IsLonger}
 use Rattle.lx_gate.proofs.BatchAddition.{adds_moves, adds_longer}
@@ -11,14 +12,16 @@ compare_exchange-found-requires g c =
     let pen = c.no_pen-pen.ensures in
     let again = c.again-seen.ensures in
     let len : length (flat c.again-seen.result.log) ≡ c.self.inside.count = ap (λ s. length (flat s.log)) again
-    ∙ sym c.self.invariant.0 in (
+    ∙ sym c.self.invariant.0 in
+    let more : c.self.inside.count + (c.len.result - c.args.known)
+    ≡ c.self.inside.count + length (drop c.args.known c.args.unsent.now) = rw length-drop (omega (arith, c.len.ensures)) in (
       ap (λ w. w.tracked) h,
       ap (λ s. s.book) again ∙ (c.self.invariant.1 ∙ sym (ap (λ w. w.book) h)),
       pen.0 ∙ (ap (λ s. s.book) again ∙ (c.self.invariant.1 ∙ sym (ap (λ w. w.book) h))),
       offer.0,
       rw (ap (λ w. w.key) h, pen.1, offer.1, offer.3)
-          (adds_moves c.again-seen.result.log c.args.commands.now c.self.inside.count (c.self.inside.count + length c.args.commands.now) len
-          refl),
+          (adds_moves c.again-seen.result.log (drop c.args.known c.args.unsent.now) c.self.inside.count
+          (c.self.inside.count + (c.len.result - c.args.known)) len more),
     )
 
 pub returns-then-found-count : goal.returns-then-found-count

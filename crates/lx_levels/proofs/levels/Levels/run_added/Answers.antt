@@ -18,8 +18,8 @@ acts-requires c =
     c.level_on-target.ensures
     ∙ tracked_in_look (λ row. row.now) show c.args.sheet.now c.run.inside.cue c.loop-k.k c.look_at-to.result c.look_at-to.ensures.levels
     c.look_at-to.ensures.none c.requires.rows within
-    ∙ ap (λ n. tracked show c.run.inside.cue n) (sym c.channel_at-c.ensures)
-    ∙ ap (λ (r : Run). tracked show r.cue c.channel_at-c.result) c.run.view_is
+    ∙ ap (λ n. tracked show c.run.inside.cue n) (sym c.at-c.ensures.value)
+    ∙ ap (λ (r : Run). tracked show r.cue c.at-c.result) c.run.view_is
 
 pub add_run-requires-clause-started : goal.add_run-requires-clause-started
 add_run-requires-clause-started c =
@@ -60,23 +60,23 @@ loop-k-preserved c = record {
       let added = c.loop-k.invariant.added last older is in
       let run_is : c.in-Some.run'.now ≡ last = same_run_copied c.in-Some.run'.now last (c.in-Some.ensures.last last older is) in
       let within : c.loop-k.k < show.channels = omega (arith, c.loop-k-test.true, c.channels-channels.ensures.channels) in
-      let looks : c.level_on.result ≡ tracked show c.before_last.result c.channel_at-c.result =
+      let looks : c.level_on.result ≡ tracked show c.before_last.result c.at-c.result =
       c.level_on.ensures
       ∙ tracked_in_look (λ row. row.now) show c.args.sheet.now c.before_last.result c.loop-k.k c.look_at-from.result
       c.look_at-from.ensures.levels c.look_at-from.ensures.none c.requires.rows within
-      ∙ ap (λ n. tracked show c.before_last.result n) (sym c.channel_at-c.ensures) in
-      let acts_is : c.acts.result ≡ acts show (last_cue p.base older) c.in-Some.run'.now c.channel_at-c.result =
+      ∙ ap (λ n. tracked show c.before_last.result n) (sym c.at-c.ensures.value) in
+      let acts_is : c.acts.result ≡ acts show (last_cue p.base older) c.in-Some.run'.now c.at-c.result =
       c.acts.ensures c.before_last.result looks
-      ∙ ap (λ n. acts show n c.in-Some.run'.now c.channel_at-c.result) (c.before_last.ensures last older is) in
+      ∙ ap (λ n. acts show n c.in-Some.run'.now c.at-c.result) (c.before_last.ensures last older is) in
       elim c.if-acts.branch [
         | then-acts w ↦ subst (IsAdded show p older (c.loop-k.k + 1)) (sym w.self-is)
-            (channel_added show p last c.in-Some.run'.now older c.loop-k.k c.channel_at-c.result c.loop-k.self w.add_run.new.self is
-            (starts_now show p c.args.self.now last older c.requires.stood is) c.channel_at-c.ensures run_is
+            (channel_added show p last c.in-Some.run'.now older c.loop-k.k c.at-c.result c.loop-k.self w.add_run.new.self is
+            (starts_now show p c.args.self.now last older c.requires.stood is) c.at-c.ensures.value run_is
             (sym acts_is ∙ w.if-acts.true) within
             (λ x from. w.add_run.ensures.level x (omega (arith, from, added.moment))) w.add_run.ensures.few
             w.add_run.ensures.others added)
         | else-acts w ↦ subst (IsAdded show p older (c.loop-k.k + 1)) (sym w.self-is)
-            (channel_passed show p last c.in-Some.run'.now older c.loop-k.k c.channel_at-c.result c.loop-k.self is c.channel_at-c.ensures
+            (channel_passed show p last c.in-Some.run'.now older c.loop-k.k c.at-c.result c.loop-k.self is c.at-c.ensures.value
             run_is (sym acts_is ∙ w.if-acts.false) within added)
       ];
 }

@@ -1,8 +1,8 @@
 use Rattle.std.proofs.Common.{arith}
 use Rattle.lx_levels.proofs.levels.Levels.settled.Goals as goal
 
-pub channel_at-requires : goal.channel_at-requires
-channel_at-requires c = omega (
+pub at-requires : goal.at-requires
+at-requires c = omega (
   arith,
   c.loop-k-test.true,
   c.len-k-end.ensures,

@@ -20,13 +20,13 @@ returns-in_default-clause-outcome c =
 
 pub returns-then-not-has_room_for-clause-outcome : goal.returns-then-not-has_room_for-clause-outcome
 returns-then-not-has_room_for-clause-outcome c = cue_full c.args.self.now.reader c.args.i c.in-Some.n (left c.args.tokens) c.in_ok-n.field-0
-    c.in_ok-n.ensures c.in-Some.is c.requires.identified c.if-not-has_room_for.ensures
+    c.in_ok-n.ensures c.in-Some.is c.requires.identified c.if-not-has_room_for.ensures.room
 
 pub returns-clause-outcome : goal.returns-clause-outcome
 returns-clause-outcome c =
     let g = c.args.self.now in
     let cue = c.open_cue.result in
     cue_took g.reader _ (with_open (open_records.Cue cue) g.moves c.open_cue.new.show) c.args.i c.in-Some.n (left c.args.tokens) c.in_ok-n.field-0
-    c.in_ok-n.ensures c.in-Some.is c.requires.identified c.requires.ready.going c.if-not-has_room_for.ensures
+    c.in_ok-n.ensures c.in-Some.is c.requires.identified c.requires.ready.going c.if-not-has_room_for.ensures.room
     (cue_opened g.reader.show c.open_cue.new.show cue g.moves c.in-Some.n c.requires.empty c.open_cue.ensures.show c.open_cue.ensures.cues)
     (ap (λ r. opened r (open_records.Cue cue) g.moves) c.enter.ensures)

@@ -1,4 +1,4 @@
-use Rattle.std.proofs.Common.{◌≡◌, ◌≤◌, List, Some, subst, sym}
+use Rattle.std.proofs.Common.{◌≡◌, List, Some, subst, sym}
 use Rattle.lx_spec.specs.declared.Move.{Move}
 use Rattle.lx_spec.specs.SortedList.{placed}
 use Rattle.lx_spec.specs.Show.{Cue, Show, ValidCue, ValidMove}
@@ -10,18 +10,14 @@ use Rattle.lx_show.proofs.show.Show.exchange_move_in.Goals as goal
 
 pub invariant_of-self : goal.invariant_of-self
 invariant_of-self c =
-    let here = cue_stands _ _ _ _ _ _ _ _ _ _ c.self.invariant c.as_slice.ensures.value c.find_near-at.ensures c.cue.view_is
+    let here = cue_stands _ _ _ _ _ _ _ _ _ _ c.self.invariant c.as_slice.ensures.value c.place_of-at.ensures c.cue.view_is
     c.index_mut-cue.ensures.value in
-    let within : c.args.entry.chan ≤ c.self.inside.channels =
-    subst (λ (s : Show). c.args.entry.chan ≤ s.channels) (sym c.self.view_is) c.requires.channel in
+    let seen : ValidMove c.args.self.now.channels c.cue.inside.parts.items c.args.entry =
+    cue_has _ _ _ _ _ (λ (cue : Cue). ValidMove c.args.self.now.channels cue.parts c.args.entry) c.self.view_is c.get.ensures.value here.entry
+    c.requires.valid in
     let move : ValidMove c.self.inside.channels c.cue.inside.parts.items c.args.entry =
-    record {
-      chan = record { least = c.of_move.ensures.chan.least; most = within };
-      part =
-          cue_has _ _ _ _ _ _ c.self.view_is c.get.ensures.value here.entry c.requires.part;
-      level = c.of_move.ensures.level;
-    } in
-    stored_changed_cue _ _ _ _ _ _ _ _ _ c.self.invariant c.as_slice.ensures.value c.find_near-at.ensures here.number
+    subst (λ (s : Show). ValidMove s.channels c.cue.inside.parts.items c.args.entry) (sym c.self.view_is) seen in
+    stored_changed_cue _ _ _ _ _ _ _ _ _ c.self.invariant c.as_slice.ensures.value c.place_of-at.ensures here.number
     (subst (λ (moves : List Move). ValidCue c.self.inside.channels (record {
       number = c.cue.inside.number;
       block = c.cue.inside.block;
@@ -35,14 +31,14 @@ invariant_of-self c =
 
 pub returns-clause-replaced : goal.returns-clause-replaced
 returns-clause-replaced c =
-    let here = cue_stands _ _ _ _ _ _ _ _ _ _ c.self.invariant c.as_slice.ensures.value c.find_near-at.ensures c.cue.view_is
+    let here = cue_stands _ _ _ _ _ _ _ _ _ _ c.self.invariant c.as_slice.ensures.value c.place_of-at.ensures c.cue.view_is
     c.index_mut-cue.ensures.value in
     cue_some _ _ _ _ _ (λ (cue : Cue). move_in cue c.args.entry.chan ≡ Some c.exchange.result) c.self.view_is c.get.ensures.value here.entry
     c.exchange.ensures.replaced
 
 pub returns-clause-show : goal.returns-clause-show
 returns-clause-show c =
-    let here = cue_stands _ _ _ _ _ _ _ _ _ _ c.self.invariant c.as_slice.ensures.value c.find_near-at.ensures c.cue.view_is
+    let here = cue_stands _ _ _ _ _ _ _ _ _ _ c.self.invariant c.as_slice.ensures.value c.place_of-at.ensures c.cue.view_is
     c.index_mut-cue.ensures.value in
     cue_moves_changed _ _ _ _ _ _ _ _ (λ (moves : List Move). placed (λ m. m.chan) c.args.entry moves) c.self.view_is c.get.ensures.value
-    c.as_slice.ensures.value c.find_near-at.ensures here.at_place c.exchange.ensures.list
+    c.as_slice.ensures.value c.place_of-at.ensures here.at_place c.exchange.ensures.list

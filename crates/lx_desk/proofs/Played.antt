@@ -1,0 +1,104 @@
+-- A script that was played, from what its session came to.
+use Rattle.std.proofs.Common.{◌≡◌, ℕ, Result, Ok, Err, OnOk, Option, IfSome, List, [], refl, sym, subst, arith, inl}
+use Rattle.lx_lex.specs.declared.lines.Lines.{Lines}
+use Rattle.lx_lex.specs.Unread.{bytes_taken, source_faults, source_left, unread}
+use Rattle.lx_spec.specs.Text.{lines_of}
+use Rattle.lx_spec.specs.Session.{Answering}
+use Rattle.lx_session.specs.OneAnswer.{IsLawful}
+use Rattle.lx_session.specs.declared.fault.SessionFault.{SessionFault}
+use Rattle.lx_session.specs.declared.fault.SessionFault.TheVariants as faults
+use Rattle.lx_session.specs.declared.tally.Tally.{Tally}
+use Rattle.lx_session.specs.SessionOutcome.{HasSessionCause, KeepsLimit}
+use Rattle.lx_session.specs.ScriptAnswer.{AnsweredPrefix, AnsweredTaken, ScriptAnswered}
+use Rattle.lx_session.proofs.ScriptEnds.{front_of_whole, first_of_whole}
+use Rattle.lx_desk.specs.declared.desk.Status.{Status}
+use Rattle.lx_desk.specs.declared.desk.Status.TheVariants as status
+use Rattle.lx_desk.specs.Faults.{status_for}
+use Rattle.lx_desk.specs.Output.{AnswersInFront, AnswersTaken}
+use Rattle.lx_desk.specs.Endings.{HasPlayed}
+use Rattle.lx_desk.specs.Plays.{Plays}
+use Rattle.lx_desk.proofs.Inputs.{whole_front, if_known, both_known, nothing_answered}
+use Rattle.lx_desk.proofs.Statuses.{ends_script, has_cause}
+use Rattle.lx_desk.proofs.Finishing.{not_done, session_finishes, session_wants}
+
+-- Of what answers a line so, from a state on.
+module _ (by : Answering (List ℕ)) (lawful : IsLawful by) (Stands : by.State → Type 0) (state : by.State) where
+  -- However it ended, it answered by a prefix.
+  front_by : (bytes : List ℕ) (unread h h' : Option (List ℕ)) → AnsweredPrefix by Stands state bytes unread h h'
+      → AnswersInFront by state (lines_of bytes) h h'
+  front_by bytes unread h h' a = record {
+    failures = a.failures;
+    allows = a.allows;
+    text = front_of_whole by lawful state (lines_of bytes) a.failures a.lines h h' a.text;
+  }
+
+  taken_front : (before : ℕ) (bytes : List ℕ) (left h h' : Option (List ℕ)) → AnsweredTaken by Stands state before bytes left h h'
+      → AnswersInFront by state (lines_of bytes) h h'
+  taken_front before bytes left h h' a = record {
+    failures = a.failures;
+    allows = a.allows;
+    text = first_of_whole by lawful state (lines_of bytes) a.failures a.cut.lines h h' a.text;
+  }
+
+  answered_front : (before : ℕ) (o unread left h h' : Option (List ℕ)) (r : Result Tally SessionFault)
+      → IfSome o (λ bytes. ScriptAnswered by Stands state before bytes unread left h h' r)
+      → IfSome o (λ bytes. AnswersInFront by state (lines_of bytes) h h')
+  answered_front before o unread left h h' (Ok tally) p =
+      if_known o _ _ p (λ xs a. record { failures = a.failures; allows = a.allows; text = whole_front h h' _ a.text })
+  answered_front before o unread left h h' (Err faults.ReadFault) p = if_known o _ _ p (λ xs a. taken_front before xs left h h' a)
+  answered_front before o unread left h h' (Err faults.WriteFault) p = if_known o _ _ p (λ xs a. front_by xs unread h h' a)
+  answered_front before o unread left h h' (Err faults.InputTooLong) p = if_known o _ _ p (λ xs a. taken_front before xs left h h' a)
+  answered_front before o unread left h h' (Err faults.Memory) p = if_known o _ _ p (λ xs a. front_by xs unread h h' a)
+
+  -- Where the script couldn't be read on, it answered what was taken of it.
+  taken_by : (before : ℕ) (bytes : List ℕ) (left h h' : Option (List ℕ)) → AnsweredTaken by Stands state before bytes left h h'
+      → AnswersTaken by state before bytes left h h'
+  taken_by before bytes left h h' a =
+      record { failures = a.failures; allows = a.allows; cut = a.cut; short = a.short; text = a.text }
+
+  -- What the status of a session says of the script.
+  has_played : (before : ℕ) (o unread left h h' : Option (List ℕ)) (r : Result Tally SessionFault)
+      → IfSome o (λ bytes. ScriptAnswered by Stands state before bytes unread left h h' r) → IfSome o (λ bytes. KeepsLimit before bytes r)
+      → IfSome o (λ bytes. HasPlayed (status_for r) by state before bytes left h h')
+  has_played before o unread left h h' (Ok tally) p limit =
+      both_known o _ _ _ p limit (λ xs a fits. (record { failures = a.failures; allows = a.allows; text = a.text }, fits))
+  has_played before o unread left h h' (Err faults.ReadFault) p limit = if_known o _ _ p (λ xs a. taken_by before xs left h h' a)
+  has_played before o unread left h h' (Err faults.WriteFault) p limit = if_known o _ _ p (λ xs a. front_by xs unread h h' a)
+  has_played before o unread left h h' (Err faults.InputTooLong) p limit =
+      both_known o _ _ _ p limit (λ xs a long. (taken_by before xs left h h' a, long))
+  has_played before o unread left h h' (Err faults.Memory) p limit = if_known o _ _ p (λ xs a. front_by xs unread h h' a)
+
+  -- A session was held.
+  pub session_plays : {S K : Type 0} (left : S → Option (List ℕ)) (reads : S → ℕ) (holds : K → Option (List ℕ)) (writes wants : K → ℕ)
+      (back : K → List ℕ) (old new : Lines S) (output output' : K) (r : Result Tally SessionFault) (s : Status) → s ≡ status_for r
+      → IfSome (unread left old) (λ bytes. ScriptAnswered by Stands state (bytes_taken old) bytes (unread left new) (source_left left new)
+      (holds output) (holds output') r)
+      → IfSome (unread left old) (λ bytes. KeepsLimit (bytes_taken old) bytes r)
+      → HasSessionCause reads writes wants old new output output' r → OnOk r (back output' ≡ [])
+      → Plays left reads holds writes wants back by state old new output output' s
+  session_plays left reads holds writes wants back old new output output' r s is outcome limit cause none =
+      subst (λ t. Plays left reads holds writes wants back by state old new output output' t) (sym is) (record {
+        works = ends_script r;
+        ended = has_played (bytes_taken old) (unread left old) (unread left new) (source_left left new) (holds output) (holds output') r
+            outcome limit;
+        front = answered_front (bytes_taken old) (unread left old) (unread left new) (source_left left new) (holds output) (holds output') r
+            outcome;
+        later = cause.later;
+        cause = has_cause reads writes wants old new output output' r cause;
+        finished = session_finishes reads writes wants back old new output output' r cause none;
+        memory = session_wants reads writes wants old new output output' r cause;
+      })
+
+-- Memory was short at the opening: nothing was read or written.
+pub nothing_plays : {S K : Type 0} (by : Answering (List ℕ)) (state : by.State) (left : S → Option (List ℕ)) (reads : S → ℕ)
+    (holds : K → Option (List ℕ)) (writes wants : K → ℕ) (back : K → List ℕ) (lines : Lines S) (output : K)
+    → Plays left reads holds writes wants back by state lines lines output output status.Memory
+nothing_plays by state left reads holds writes wants back lines output = record {
+  works = tt;
+  ended = nothing_answered by state (unread left lines) (holds output);
+  front = nothing_answered by state (unread left lines) (holds output);
+  later = omega arith;
+  cause = tt;
+  finished = not_done (source_faults reads lines) (source_faults reads lines) writes wants back output output status.Memory (λ done. done);
+  memory = λ is. inl refl;
+}

@@ -1,0 +1,11 @@
+use Rattle.std.proofs.Common.{◌≡◌, ◌*◌, Ok}
+use Rattle.std.specs.Prelude.{flat_map}
+use Rattle.std.specs.List.{range_with_len}
+use Rattle.lx_io.specs.Puts.{Puts}
+use Rattle.lx_spec.specs.MakeOutput.{drawn_from, made_cue}
+use Rattle.lx_desk.proofs.generator.put_cues.Given as goal
+
+abbrev pub invariant-loop-before : goal.invariant-loop-before
+invariant-loop-before g l =
+    Puts {T = Unit {0}} g.K.Sink.holds g.K.Sink.faults g.K.Sink.wants l.initial.sink l.sink (Ok tt)
+    (flat_map (made_cue l.cues) (range_with_len 1 l.before)) × (l.draws.number ≡ drawn_from l.cues (9 * l.before))

@@ -1,0 +1,16 @@
+use Rattle.std.proofs.Common.{◌≡◌, ◌∙◌, ℕ, ap, sym, Some}
+use Rattle.std.specs.Prelude.{Result, Ok, Err, IfOk}
+use Rattle.lx_spec.specs.SortedList.{entry_at}
+use Rattle.lx_spec.specs.Show.{Group}
+use Rattle.lx_spec.proofs.SortedLists.{found_number}
+use Rattle.lx_edit.proofs.members.group_or_new.Goals as goal
+
+numbered : {E : Type 0} (r : Result Group E) (old : Group) (n : ℕ) → IfOk r (λ x. x ≡ old) → old.number ≡ n → IfOk r (λ x. x.number ≡ n)
+numbered (Ok x) old n same is = ap (λ (y : Group). y.number) same ∙ is
+numbered (Err fault) old n same is = tt
+
+pub returns-in-Some-clause-number : goal.returns-in-Some-clause-number
+returns-in-Some-clause-number c =
+    let old : Group = c.in-Some.group.now in
+    let found : entry_at (λ (x : Group). x.number) c.args.g c.args.show.now.groups ≡ Some old = sym c.in-Some.ensures.group in
+    numbered c.copy.result old c.args.g c.copy.ensures (sym (found_number (λ (x : Group). x.number) c.args.g c.args.show.now.groups old found))

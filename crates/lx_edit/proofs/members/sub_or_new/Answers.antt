@@ -1,0 +1,16 @@
+use Rattle.std.proofs.Common.{◌≡◌, ◌∙◌, ℕ, ap, sym, Some}
+use Rattle.std.specs.Prelude.{Result, Ok, Err, IfOk}
+use Rattle.lx_spec.specs.SortedList.{entry_at}
+use Rattle.lx_spec.specs.Show.{Sub}
+use Rattle.lx_spec.proofs.SortedLists.{found_number}
+use Rattle.lx_edit.proofs.members.sub_or_new.Goals as goal
+
+numbered : {E : Type 0} (r : Result Sub E) (old : Sub) (n : ℕ) → IfOk r (λ x. x ≡ old) → old.number ≡ n → IfOk r (λ x. x.number ≡ n)
+numbered (Ok x) old n same is = ap (λ (y : Sub). y.number) same ∙ is
+numbered (Err fault) old n same is = tt
+
+pub returns-in-Some-clause-number : goal.returns-in-Some-clause-number
+returns-in-Some-clause-number c =
+    let old : Sub = c.in-Some.sub.now in
+    let found : entry_at (λ (x : Sub). x.number) c.args.s c.args.show.now.subs ≡ Some old = sym c.in-Some.ensures.sub in
+    numbered c.copy.result old c.args.s c.copy.ensures (sym (found_number (λ (x : Sub). x.number) c.args.s c.args.show.now.subs old found))

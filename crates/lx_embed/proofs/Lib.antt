@@ -1,0 +1,4 @@
+mod TakenLists
+mod ReadTexts
+mod Lines
+mod TicksMore

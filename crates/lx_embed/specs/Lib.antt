@@ -1,0 +1,5 @@
+pub mod Engines
+pub mod Answered
+pub mod Opened
+pub mod Told
+pub mod TakenSlots

@@ -1,0 +1,152 @@
+//! The desk that a host embeds.
+
+ghost use Rattle.std.specs.Prelude.{◌≡◌, ◌≢◌, ◌≤◌, ◌<◌, ◌↔◌, ℕ, None, Some, true, false, length, IsSome, IfSome, IfOk, IfErr};
+ghost use Rattle.std.specs.Result.{IsErr};
+ghost use Rattle.lx_base.specs.declared.TheConstants.{CUE_MAX, SUBS, UNIVERSES, UNIVERSE_SLOTS};
+ghost use Rattle.lx_spec.specs.declared.Command.TheVariants as Command;
+ghost use Rattle.lx_spec.specs.Desk.{Desk, step};
+ghost use Rattle.lx_spec.specs.Output.{fader, frame};
+ghost use Rattle.lx_spec.specs.RecordedLevels.{on_stage};
+ghost use Rattle.lx_spec.specs.TrackedLevel.{tracked};
+ghost use Rattle.lx_console.specs.ConsoleMeaning.{StandsFor};
+ghost use Rattle.lx_embed.specs.Answered.{Answered};
+ghost use Rattle.lx_embed.specs.Engines.{console_of};
+ghost use Rattle.lx_embed.specs.Opened.{OpensText, RefusesText};
+ghost use Rattle.lx_embed.specs.TakenSlots.{taken_of};
+ghost use Rattle.lx_embed.specs.Told.{Stands, Ticked};
+
+use crate::engine::Engine;
+use crate::open::open_text;
+use crate::reply::ReplyText;
+use crate::shown::{fader_of, is_universe, level_of, slots_of, tracked_of};
+use crate::state::{PlaybackState, state_of};
+use crate::taken::Taken;
+use lx_base::{Level, UNIVERSE_SLOTS};
+use lx_io::SinkFault;
+use lx_reader::ShowFault;
+use lx_show::Form;
+use std::alloc::Global;
+
+/// A desk for a program that embeds it: what answers, the reply to the last line, and what was taken last of each universe.
+#[derive(Drop)]
+pub struct HostDesk {
+    pub engine: Engine,
+    pub reply: ReplyText,
+    pub taken: Taken,
+}
+
+impl HostDesk {
+    /// Opens a desk over a show's text: a plain one, or where a depth is given one that keeps the last so many shows that edits and
+    /// records replace.
+    ///
+    /// The fault is that of the text, or that it is too long, or that memory is wanting.
+    pub fn open(
+        alloc: Global,
+        text: &[u8],
+        form: Form,
+        depth: Option<u32>,
+    ) -> Result<HostDesk, ShowFault>
+        ensures opens { IfOk result (λ desk. OpensText form depth text.now desk.engine) }
+        ensures untaken { IfOk result (λ desk. (u : ℕ) → 1 ≤ u → u ≤ UNIVERSES → taken_of desk.taken u ≡ None) }
+        ensures refuses { IfErr result (RefusesText form text.now) }
+    {
+        Ok(HostDesk {
+            engine: open_text(alloc, text, form, depth)?,
+            reply: ReplyText::new(alloc),
+            taken: Taken::nothing(),
+        })
+    }
+
+    /// Does one line of a script, and keeps its reply in the place of the last. It answers false exactly for `quit`. A line that is too
+    /// long is bad.
+    ///
+    /// A fault comes only where memory was wanting for the reply: the line was done, and of its reply a front is kept.
+    pub fn command(&mut self, line: &[u8]) -> Result<bool, SinkFault>
+        ensures answered { Answered self.old.engine self.new.engine line.now result self.new.reply.bytes.items }
+        ensures taken { self.new.taken ≡ self.old.taken }
+    {
+        self.engine.answer(line, &mut self.reply)
+    }
+
+    /// The reply to the last line.
+    pub fn reply(&self) -> &[u8]
+        ensures { result.now ≡ self.now.reply.bytes.items }
+    {
+        self.reply.bytes.as_slice()
+    }
+
+    /// Lets so many ticks go by, and says how many were accepted: all of them, unless the moment comes to its end.
+    pub fn tick(&mut self, n: u32) -> u32
+        ensures most { result ≤ n }
+        ensures ticks { Ticked self.old.engine result self.new.engine }
+        ensures end { result < n → (d : Desk) → StandsFor d (console_of self.new.engine) → IsErr (step d Command.Tick) }
+        ensures kept { (self.new.reply ≡ self.old.reply) × (self.new.taken ≡ self.old.taken) }
+    {
+        self.engine.tick(n)
+    }
+
+    /// Copies the slots of a universe, if there is one of the number and there is room for just these, and keeps them as taken.
+    pub fn frame(&mut self, universe: u32, out: &mut [u8]) -> bool
+        ensures frame { result ≡ true → (d : Desk) → StandsFor d (console_of self.old.engine) → out.new ≡ frame d universe }
+        ensures taken { result ≡ true → taken_of self.new.taken universe ≡ Some out.new }
+        ensures others { (u : ℕ) → 1 ≤ u → u ≢ universe → taken_of self.new.taken u ≡ taken_of self.old.taken u }
+        ensures refused { result ≡ false → (out.new ≡ out.old) × (self.new ≡ self.old) }
+        ensures given { 1 ≤ universe → universe ≤ UNIVERSES → length out.old ≡ UNIVERSE_SLOTS → result ≡ true }
+        ensures kept { (self.new.engine ≡ self.old.engine) × (self.new.reply ≡ self.old.reply) }
+    {
+        if !is_universe(universe) || out.len() != UNIVERSE_SLOTS {
+            return false;
+        }
+        let slots = slots_of(self.engine.console(), universe);
+        out.copy_from_slice(slots);
+        self.taken.take(universe, slots);
+        true
+    }
+
+    /// Whether the slots of a universe are others than those that were taken last, or none were. `None` exactly where there is no
+    /// universe of the number.
+    pub fn changed(&self, universe: u32) -> Option<bool>
+        ensures told { IsSome result ↔ ((1 ≤ universe) × (universe ≤ UNIVERSES)) }
+        ensures changed { IfSome result (λ changed. (d : Desk) → StandsFor d (console_of self.now.engine)
+            → (changed ≡ false) ↔ (taken_of self.now.taken universe ≡ Some (frame d universe))) }
+    {
+        if !is_universe(universe) {
+            return None;
+        }
+        let slots = slots_of(self.engine.console(), universe);
+        Some(!self.taken.are(universe, slots))
+    }
+
+    /// The level of a channel on stage: that of the playback, before submasters and master. `None` exactly where the show has no such
+    /// channel.
+    pub fn level(&self, channel: u32) -> Option<Level>
+        ensures told { IsSome result ↔ ((1 ≤ channel) × (channel ≤ (console_of self.now.engine).show.channels)) }
+        ensures level { IfSome result (λ level. (d : Desk) → StandsFor d (console_of self.now.engine) → level ≡ on_stage d channel) }
+    {
+        level_of(self.engine.console(), channel)
+    }
+
+    /// The tracked level of a channel at a cue number, in thousandths, which need not be a cue's. `None` exactly where the show has no
+    /// such channel, or the number is too great.
+    pub fn tracked(&self, cue: u32, channel: u32) -> Option<Level>
+        ensures told { IsSome result ↔ ((cue ≤ CUE_MAX) × ((1 ≤ channel) × (channel ≤ (console_of self.now.engine).show.channels))) }
+        ensures level { IfSome result (λ level. level ≡ tracked (console_of self.now.engine).show cue channel) }
+    {
+        tracked_of(self.engine.console(), cue, channel)
+    }
+
+    /// The fader of a submaster, which the show need not have. `None` exactly where there is no such number.
+    pub fn fader(&self, sub: u32) -> Option<Level>
+        ensures told { IsSome result ↔ ((1 ≤ sub) × (sub ≤ SUBS)) }
+        ensures level { IfSome result (λ level. level ≡ fader (console_of self.now.engine).faders sub) }
+    {
+        fader_of(self.engine.console(), sub)
+    }
+
+    /// Where the playback stands.
+    pub fn state(&self) -> PlaybackState
+        ensures { Stands (console_of self.now.engine) result }
+    {
+        state_of(self.engine.console())
+    }
+}

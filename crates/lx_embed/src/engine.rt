@@ -1,0 +1,106 @@
+//! What a host's desk answers with: a plain desk, or one with its history.
+
+ghost use Rattle.std.specs.Prelude.{◌≡◌, ◌≤◌, ◌<◌, [], true, IfOk};
+ghost use Rattle.std.specs.Result.{IsErr};
+ghost use Rattle.lx_spec.specs.declared.Command.TheVariants as Command;
+ghost use Rattle.lx_spec.specs.Desk.{Desk, step};
+ghost use Rattle.lx_spec.specs.Undo.{UndoState};
+ghost use Rattle.lx_spec.specs.DeskSession.{begun, desk_answering};
+ghost use Rattle.lx_spec.specs.UndoSession.{undo_answering};
+ghost use Rattle.lx_console.specs.ConsoleMeaning.{StandsFor};
+ghost use Rattle.lx_undo.specs.UndoDeskMeaning.{UndoStands};
+ghost use Rattle.lx_embed.specs.Answered.{Answered, AnswersLine};
+ghost use Rattle.lx_embed.specs.Engines.{console_of, OpenedAs};
+ghost use Rattle.lx_embed.specs.Told.{Ticked};
+
+use crate::given::given;
+use crate::reply::ReplyText;
+use crate::ticks::{tick_plain, tick_undo};
+use lx_console::Console;
+use lx_io::SinkFault;
+use lx_session::{Answers, NoListener, Tally, answer};
+use lx_show::Show;
+use lx_undo::UndoDesk;
+use std::alloc::{AllocError, Global};
+
+/// A plain desk, or one that keeps the shows that its edits and records replaced.
+#[derive(Drop)]
+pub enum Engine {
+    /// Its script knows the lines of `render`.
+    Plain(Console),
+    /// Its script also knows `undo`, `redo` and `record n [only]`.
+    Undo(UndoDesk),
+}
+
+impl Engine {
+    /// A desk over the show, as at the opening: a plain one, or where a depth is given one that keeps so many shows.
+    pub(crate) fn open(alloc: Global, show: Show, depth: Option<u32>) -> Result<Engine, AllocError>
+        ensures { IfOk result (OpenedAs depth show) }
+    {
+        match depth {
+            None => Ok(Engine::Plain(Console::open(alloc, show)?)),
+            Some(depth) => Ok(Engine::Undo(UndoDesk::open(alloc, show, depth as usize)?)),
+        }
+    }
+
+    /// The desk: its show, levels and frames as they are now.
+    pub fn console(&self) -> &Console
+        ensures { result.now ≡ console_of self.now }
+    {
+        match self {
+            Engine::Plain(console) => console,
+            Engine::Undo(desk) => desk.console(),
+        }
+    }
+
+    /// Does one line of a script, and keeps its reply, in the place of the last. It answers false exactly for `quit`.
+    ///
+    /// A fault comes only where memory was wanting for the reply: the line was done, and of its reply a front is kept.
+    pub(crate) fn answer(&mut self, line: &[u8], reply: &mut ReplyText) -> Result<bool, SinkFault>
+        ensures { Answered self.old self.new line.now result reply.new.bytes.items }
+    {
+        reply.clear();
+        match self {
+            Engine::Plain(console) => answer_plain(console, line, reply),
+            Engine::Undo(desk) => answer_undo(desk, line, reply),
+        }
+    }
+}
+
+impl Engine {
+    /// Lets so many ticks go by, and says how many were accepted: all of them, unless the moment comes to its end.
+    pub(crate) fn tick(&mut self, n: u32) -> u32
+        ensures most { result ≤ n }
+        ensures ticks { Ticked self.old result self.new }
+        ensures end { result < n → (d : Desk) → StandsFor d (console_of self.new) → IsErr (step d Command.Tick) }
+    {
+        match self {
+            Engine::Plain(console) => tick_plain(console, n),
+            Engine::Undo(desk) => tick_undo(desk, n),
+        }
+    }
+}
+
+/// Does one line of a plain desk's script, whose reply is appended.
+fn answer_plain(
+    console: &mut Console,
+    line: &[u8],
+    reply: &mut ReplyText,
+) -> Result<bool, SinkFault>
+    requires { reply.old.bytes.items ≡ [] }
+    ensures { (d : Desk) → StandsFor d console.old
+        → AnswersLine (desk_answering true) (λ next. StandsFor next.desk console.new) (begun d) line.now result reply.new.bytes.items }
+{
+    let mut tally = Tally::new();
+    answer(&mut NoListener, console, given(line), reply, &mut tally)
+}
+
+/// Does one line of the script of a desk with a history, whose reply is appended.
+fn answer_undo(desk: &mut UndoDesk, line: &[u8], reply: &mut ReplyText) -> Result<bool, SinkFault>
+    requires { reply.old.bytes.items ≡ [] }
+    ensures { (s : UndoState) → UndoStands s desk.old
+        → AnswersLine undo_answering (λ next. UndoStands next desk.new) s line.now result reply.new.bytes.items }
+{
+    let mut tally = Tally::new();
+    desk.answer(given(line), reply, &mut tally)
+}

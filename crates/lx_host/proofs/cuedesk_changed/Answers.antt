@@ -1,0 +1,9 @@
+use Rattle.std.proofs.Common.{Option, Some, sym, subst}
+use Rattle.lx_embed.specs.declared.desk.HostDesk.{HostDesk}
+use Rattle.lx_host.specs.Calls.{TellsChange}
+use Rattle.lx_host.proofs.cuedesk_changed.Goals as goal
+
+pub returns-in-Some-clause-changed : goal.returns-in-Some-clause-changed
+returns-in-Some-clause-changed c = λ ok.
+    subst (λ (h : Option HostDesk). TellsChange h c.args.universe c.in-Some.told) (sym c.take-host.ensures.held)
+    (subst (λ (h : HostDesk). TellsChange (Some h) c.args.universe c.in-Some.told) c.deref.ensures c.in-Some.ensures.changed)

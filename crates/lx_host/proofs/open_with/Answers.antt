@@ -1,0 +1,15 @@
+use Rattle.std.proofs.Common.{◌≡◌, ◌∙◌, sym, ap, subst}
+use Rattle.lx_spec.specs.declared.Form.{Form}
+use Rattle.lx_host.specs.Calls.{form_of, Refused}
+use Rattle.lx_host.proofs.Told.{refused_told, long_told}
+use Rattle.lx_host.proofs.open_with.Goals as goal
+
+pub returns-in-Err-clause-refused : goal.returns-in-Err-clause-refused
+returns-in-Err-clause-refused c = λ refused.
+    subst (λ (f : Form). Refused f c.args.text.now c.told.new.report) c.form_for.ensures
+    (refused_told c.form_for.result c.args.text.now c.in-Err.fault c.told.result c.told.new.report c.told.ensures.status refused
+    c.told.ensures.report c.in-Err.ensures.refuses)
+
+pub returns-in-Err-clause-long : goal.returns-in-Err-clause-long
+returns-in-Err-clause-long c = λ long.
+    long_told c.form_for.result c.args.text.now c.in-Err.fault c.told.result c.told.ensures.status long c.in-Err.ensures.refuses

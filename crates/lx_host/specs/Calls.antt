@@ -1,0 +1,135 @@
+-- What the calls of a desk come to, from what its handle held before to what it holds now.
+use Rattle.std.specs.Prelude.{◌≡◌, ◌≢◌, ◌≤◌, ◌↔◌, ℕ, ◌-◌, min, Bool, true, false, Option, Some, None, Result, Ok, Err, List, length, take, drop, IfSome}
+use Rattle.std.specs.Result.{IsErr}
+use Rattle.lx_base.specs.declared.TheConstants.{UNIVERSES}
+use Rattle.lx_io.specs.declared.sink.SinkFault.{SinkFault}
+use Rattle.lx_spec.specs.declared.Command.TheVariants as commands
+use Rattle.lx_spec.specs.declared.Form.{Form}
+use Rattle.lx_spec.specs.declared.Form.TheVariants.{Moves, States}
+use Rattle.lx_spec.specs.declared.TextFault.{TextFault}
+use Rattle.lx_spec.specs.Desk.{Desk, step}
+use Rattle.lx_spec.specs.Output.{fader, frame}
+use Rattle.lx_spec.specs.Reading.{reads}
+use Rattle.lx_spec.specs.RecordedLevels.{on_stage}
+use Rattle.lx_spec.specs.TrackedLevel.{tracked}
+use Rattle.lx_reader.specs.declared.fault.ShowFault.TheVariants.{Text}
+use Rattle.lx_console.specs.ConsoleMeaning.{StandsFor}
+use Rattle.lx_embed.specs.declared.desk.HostDesk.{HostDesk}
+use Rattle.lx_embed.specs.declared.state.PlaybackState.{PlaybackState}
+use Rattle.lx_embed.specs.Answered.{Answered}
+use Rattle.lx_embed.specs.Engines.{console_of}
+use Rattle.lx_embed.specs.Opened.{OpensText}
+use Rattle.lx_embed.specs.TakenSlots.{taken_of}
+use Rattle.lx_embed.specs.Told.{Stands, Ticked}
+use Rattle.lx_host.specs.declared.status.Playback.{Playback}
+use Rattle.lx_host.specs.declared.status.ShowReport.{ShowReport}
+use Rattle.lx_host.specs.declared.status.TheConstants.{OK, MEMORY, QUIT, MORE}
+use Rattle.lx_host.specs.Told.{report_of, playback_of}
+
+abbrev pub form_of : Bool → Form
+form_of true = States
+form_of false = Moves
+
+-- the desk is open, stands for the one that is opened over the show of the text, and nothing was taken of it
+pub record OpensDesk (form : Form) (depth : Option ℕ) (text : List ℕ) (host : HostDesk) : Type 0 where
+  pub opens : OpensText form depth text host.engine
+  pub untaken : (u : ℕ) → 1 ≤ u → u ≤ UNIVERSES → taken_of host.taken u ≡ None
+
+abbrev pub Opens : Form → Option ℕ → List ℕ → Option HostDesk → Type 0
+Opens form depth text None = ⊥
+Opens form depth text (Some host) = OpensDesk form depth text host
+
+-- the report is of the text's own fault
+pub record Refused (form : Form) (text : List ℕ) (report : ShowReport) : Type 0 where
+  pub fault : TextFault
+  pub reads_as : reads form text ≡ Err fault
+  pub told : report ≡ report_of (Text fault)
+
+-- how a status tells that a line was done, or couldn't be answered whole, or is `quit`: a reply that is longer than the room is told by MORE
+abbrev pub tells : Result Bool SinkFault → Bool → ℕ
+tells (Ok true) true = OK
+tells (Ok true) false = MORE
+tells (Ok false) fits = QUIT
+tells (Err fault) fits = MEMORY
+
+-- The line was answered by every desk for which the engine stood, and the front of the room has as much of the reply as fits; all the rest is
+-- as it was.
+pub record DidLine (status : ℕ) (before now : HostDesk) (line : List ℕ) (room : List ℕ) (count : ℕ) : Type 0 where
+  pub answer : Result Bool SinkFault
+  pub fits : Bool
+  pub told : status ≡ tells answer fits
+  pub whole : (fits ≡ true) ↔ (length now.reply.bytes.items ≤ length room)
+  pub answers : Answered before.engine now.engine line answer now.reply.bytes.items
+  pub taken : now.taken ≡ before.taken
+  pub length_told : count ≡ length now.reply.bytes.items
+  pub front : take (min count (length room)) room ≡ take (min count (length room)) now.reply.bytes.items
+
+-- the line was done on an open desk
+abbrev pub Did : ℕ → Option HostDesk → List ℕ → Option HostDesk → List ℕ → ℕ → Type 0
+Did status (Some before) line (Some now) room count = DidLine status before now line room count
+Did status (Some before) line None room count = ⊥
+Did status None line held room count = ⊥
+
+-- the front of the room has as much of the bytes from a place on as there is and fits: so many of them
+pub record HasPart (bytes : List ℕ) (from : ℕ) (room : List ℕ) (count : ℕ) : Type 0 where
+  pub is : count ≡ min (length bytes - from) (length room)
+  pub front : take count room ≡ take count (drop from bytes)
+
+-- no further tick is accepted by a desk that the engine stands for
+abbrev pub IsOver : Option HostDesk → Type 0
+IsOver held = IfSome held (λ host. (d : Desk) → StandsFor d (console_of host.engine) → IsErr (step d commands.Tick))
+
+-- so many ticks were accepted by every desk for which the engine stood, and all the rest is as it was
+pub record HasTicked (before : HostDesk) (n : ℕ) (now : HostDesk) : Type 0 where
+  pub ticks : Ticked before.engine n now.engine
+  pub reply : now.reply ≡ before.reply
+  pub taken : now.taken ≡ before.taken
+
+abbrev pub Ticks : Option HostDesk → ℕ → Option HostDesk → Type 0
+Ticks (Some before) n (Some now) = HasTicked before n now
+Ticks None n None = n ≡ 0
+Ticks (Some before) n None = ⊥
+Ticks None n (Some now) = ⊥
+
+-- The bytes are the frame of the universe, of every desk for which the engine stands. They are taken; all the rest is as it was.
+pub record Shows (before : HostDesk) (u : ℕ) (bytes : List ℕ) (now : HostDesk) : Type 0 where
+  pub frame : (d : Desk) → StandsFor d (console_of before.engine) → bytes ≡ frame d u
+  pub taken : taken_of now.taken u ≡ Some bytes
+  pub others : (v : ℕ) → 1 ≤ v → v ≢ u → taken_of now.taken v ≡ taken_of before.taken v
+  pub engine : now.engine ≡ before.engine
+  pub reply : now.reply ≡ before.reply
+
+abbrev pub ShowsFrame : Option HostDesk → ℕ → List ℕ → Option HostDesk → Type 0
+ShowsFrame (Some before) u bytes (Some now) = Shows before u bytes now
+ShowsFrame held u bytes now = ⊥
+
+-- whether the frame of the universe isn't the one that was taken last
+abbrev pub TellsChange : Option HostDesk → ℕ → Bool → Type 0
+TellsChange held u changed = IfSome held (λ host. (d : Desk) → StandsFor d (console_of host.engine)
+    → (changed ≡ false) ↔ (taken_of host.taken u ≡ Some (frame d u)))
+
+-- the level of the channel on stage
+abbrev pub TellsLevel : Option HostDesk → ℕ → ℕ → Type 0
+TellsLevel held c level = IfSome held (λ host. (d : Desk) → StandsFor d (console_of host.engine) → level ≡ on_stage d c)
+
+-- it is open, and the show has a channel of the number
+abbrev pub IsChannel : Option HostDesk → ℕ → Type 0
+IsChannel None c = ⊥
+IsChannel (Some host) c = (1 ≤ c) × (c ≤ (console_of host.engine).show.channels)
+
+-- the tracked level of the channel at the cue number
+abbrev pub TellsTracked : Option HostDesk → ℕ → ℕ → ℕ → Type 0
+TellsTracked held cue c level = IfSome held (λ host. level ≡ tracked (console_of host.engine).show cue c)
+
+-- the fader of the submaster
+abbrev pub TellsFader : Option HostDesk → ℕ → ℕ → Type 0
+TellsFader held sub level = IfSome held (λ host. level ≡ fader (console_of host.engine).faders sub)
+
+-- where the playback stands
+pub record IsToldAs (host : HostDesk) (playback : Playback) : Type 0 where
+  pub state : PlaybackState
+  pub stands : Stands (console_of host.engine) state
+  pub told : playback ≡ playback_of state
+
+abbrev pub TellsState : Option HostDesk → Playback → Type 0
+TellsState held playback = IfSome held (λ host. IsToldAs host playback)

@@ -1,0 +1,25 @@
+-- What holds of a live run and of a crew that were not begun, since memory ran out.
+use Rattle.std.proofs.Common.{Option, List, ℕ, refl, inl}
+use Rattle.lx_spec.specs.declared.Form.{Form}
+use Rattle.lx_spec.specs.declared.Job.TheVariants.{Script, Crew}
+use Rattle.lx_spec.specs.declared.ScriptKind.TheVariants.{Live}
+use Rattle.lx_desk.specs.declared.desk.Status.TheVariants as status
+use Rattle.lx_desk.specs.Live.{HasLived}
+use Rattle.lx_desk.specs.Crew.{HasCrewEnded}
+use Rattle.lx_desk.proofs.EmptyPrefixes.{unwritten}
+
+pub none_lived : {K : Type 0} (holds : K → Option (List ℕ)) (back : K → List ℕ) (faults wants : K → ℕ) (universes : ℕ) (form : Form)
+    (bytes : List ℕ) (left held : Option (List ℕ)) (outlets : List (Option K))
+    → HasLived status.Memory holds back faults wants universes form bytes left held held outlets outlets
+none_lived holds back faults wants universes form bytes left held outlets =
+    (unwritten (Script (Live universes) form) bytes held, inl (refl, λ read. refl))
+
+pub none_served : {S : Type 0} (lefts : S → Option (List ℕ)) (faults : S → ℕ) (count : ℕ) (form : Form) (bytes : List ℕ)
+    (left held : Option (List ℕ)) (operators : List (Option S))
+    → HasCrewEnded lefts faults count form bytes left operators operators held held status.Memory
+none_served lefts faults count form bytes left held operators = inl (record {
+  isnt_ok = λ odd. cc;
+  isnt_live = λ odd. cc;
+  ended = unwritten (Crew count form) bytes held;
+  untouched = refl;
+})

@@ -1,0 +1,12 @@
+use Rattle.std.proofs.Common.{map}
+use Rattle.std.specs.Prelude.{string_bytes}
+use Rattle.lx_spec.specs.Job.{job_of}
+use Rattle.lx_program.proofs.JobWords.{of_each_run}
+use Rattle.lx_program.proofs.NothingBegun.{none_lived}
+use Rattle.lx_program.proofs.calls.desk_live.Goals as goal
+
+pub returns-in-Err-Memory-clause-ended : goal.returns-in-Err-Memory-clause-ended
+returns-in-Err-Memory-clause-ended g c =
+    of_each_run (job_of (map string_bytes c.args.words.now)) (g.S.Source.left c.args.input.now) _
+    (λ universes form bytes. none_lived g.K.Sink.holds g.K.Sink.back g.K.Sink.faults g.K.Sink.wants universes form bytes
+    (g.S.Source.left c.args.input.now) (g.O.Sink.holds c.args.output.now) c.args.outlets.now)

@@ -1,0 +1,19 @@
+use Rattle.std.proofs.Common.{◌≡◌, length, sym, ◌∙◌, subst}
+use Rattle.std.specs.Prelude.{IfSome, Some}
+use Rattle.std.proofs.lemmas.Bool.{le-ltb}
+use Rattle.lx_base.specs.declared.TheConstants.{LINE_BYTES}
+use Rattle.lx_spec.specs.Text.{tokens}
+use Rattle.lx_spec.specs.Script.{line_of, meaning}
+use Rattle.lx_spec.specs.ValidEdit.{ValidLine}
+use Rattle.lx_spec.proofs.ValidLines.{line_of-valid}
+use Rattle.lx_script.proofs.ReadLines.{valid_meaning}
+use Rattle.lx_script.proofs.line.read_line.Goals as goal
+
+pub returns-in-Some-clause-valid : goal.returns-in-Some-clause-valid
+returns-in-Some-clause-valid c = valid_meaning c.args.line.now (Some c.in-Some.lone) c.in-Some.ensures
+
+pub returns-clause-valid : goal.returns-clause-valid
+returns-clause-valid c =
+    let line = c.args.line.now in
+    let is : line_of line ≡ meaning line (tokens line) = rw (le-ltb LINE_BYTES (length line) c.if-line-gt-LINE_BYTES.false) in
+    subst (λ o. IfSome o ValidLine) (is ∙ sym c.any_line.ensures) (line_of-valid line)

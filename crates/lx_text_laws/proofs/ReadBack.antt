@@ -1,0 +1,100 @@
+-- What the reader answers for a text that is in memory whole, and for the canonical text of a show.
+use Rattle.std.proofs.Common.{◌≡◌, ◌⊎◌, inl, inr, ℕ, zero, suc, ◌+◌, ◌<◌, ◌≤◌, Bool, true, false, Option, Some, Result, Ok, Err, IfSome}
+use Rattle.std.proofs.Common.{IfOk, IfErr, List, [], ◌∷◌, length, refl, sym, ap, ◌∙◌, subst, arith}
+use Rattle.std.specs.Prelude.{◌==◌, cond}
+use Rattle.std.specs.Result.{result_unwrap_or}
+use Rattle.lx_base.specs.declared.TheConstants.{INPUT_BYTES}
+use Rattle.lx_lex.specs.declared.lines.Lines.{Lines}
+use Rattle.lx_lex.specs.Unread.{unread}
+use Rattle.lx_spec.specs.declared.Form.{Form}
+use Rattle.lx_spec.specs.declared.Form.TheVariants.{Moves}
+use Rattle.lx_spec.specs.declared.TextFault.{TextFault}
+use Rattle.lx_spec.specs.Limits.{Limits, desk_limits}
+use Rattle.lx_spec.specs.Show.{Show, Valid}
+use Rattle.lx_spec.specs.ShowText.{show_text}
+use Rattle.lx_spec.specs.CutInput.{first_lines}
+use Rattle.lx_spec.specs.Reading.{Reading, reads, reads_under}
+use Rattle.lx_reader.specs.declared.loaded.Loaded.{Loaded}
+use Rattle.lx_reader.specs.declared.fault.ShowFault.{ShowFault}
+use Rattle.lx_reader.specs.declared.fault.ShowFault.TheVariants as faults
+use Rattle.lx_reader.specs.HandedLines.{MeansFault, IsPastLimit}
+use Rattle.lx_reader.specs.Answer.{reading_of, AnswerOf}
+use Rattle.lx_spec.specs.Finer.{HasOneDecimalMore, finer}
+use Rattle.lx_text_laws.specs.OldTexts.{ReadsFiner}
+use Rattle.lx_text_laws.specs.ReadAs.{IsReadAs}
+use Rattle.lx_text_laws.proofs.WholeText.{reads_back}
+use Rattle.lx_text_laws.proofs.OldTexts.{old_texts}
+
+first_lines-within : (n : ℕ) (xs : List ℕ) → length (first_lines n xs) ≤ length xs
+first_lines-within n [] = omega arith
+first_lines-within zero (x ∷ xs) = omega arith
+first_lines-within (suc n) (x ∷ xs) =
+    let either : (b : Bool) → length (x ∷ first_lines (cond b n (suc n)) xs) ≤ length (x ∷ xs) =
+    λ b. elim b as (λ b. length (x ∷ first_lines (cond b n (suc n)) xs) ≤ length (x ∷ xs))
+    [ true ↦ omega (arith, first_lines-within n xs) | false ↦ omega (arith, first_lines-within (suc n) xs) ] in
+    either (x == 10)
+
+-- Over lines that hand the text out, of which none was taken.
+module _ (text : List ℕ) (form : Form) {S : Type 0} (left : S → Option (List ℕ)) (rises : S → ℕ) (a b : Lines S)
+    (is : unread left a ≡ Some text) (none : a.taken ≡ 0) where
+  no_fault : {P : Type 0} (reading : Reading) → reads form text ≡ Ok reading → (fault : TextFault) → MeansFault left a form fault → P
+  no_fault reading reads_ok fault means =
+      let told : reads form text ≡ Err fault =
+      subst (λ (v : Option (List ℕ)). IfSome v (λ bytes. reads form bytes ≡ Err fault)) is means.text in
+      let bad : Ok reading ≡ Err fault = sym reads_ok ∙ told in
+      absurd cc
+
+  too_long : IfSome (unread left a) (IsPastLimit a.taken) → INPUT_BYTES < length text
+  too_long long =
+      let past : IsPastLimit a.taken text = subst (λ (v : Option (List ℕ)). IfSome v (IsPastLimit a.taken)) is long in
+      omega (arith, none, past.long, first_lines-within (past.n + 1) text)
+
+  read_as : (reading : Reading) → reads form text ≡ Ok reading → (r : Result Loaded ShowFault) → AnswerOf left rises a b form r
+      → (r ≡ Err faults.ReadFault → ⊥) → IsReadAs text reading r
+  read_as reading reads_ok (Ok loaded) answer never =
+      let told : reads form text ≡ Ok (reading_of loaded) =
+      subst (λ (v : Option (List ℕ)). IfSome v (λ bytes. reads form bytes ≡ Ok (reading_of loaded))) is answer.means.text in
+      ap (λ (x : Result Reading TextFault). result_unwrap_or x reading) (sym told ∙ reads_ok)
+  read_as reading reads_ok (Err (faults.Text fault)) answer never = no_fault reading reads_ok fault answer
+  read_as reading reads_ok (Err faults.ReadFault) answer never = absurd (never refl)
+  read_as reading reads_ok (Err faults.InputTooLong) answer never = inr (refl, too_long answer.0)
+  read_as reading reads_ok (Err faults.Memory) answer never = inl refl
+
+  module _ (r : Result Loaded ShowFault) (answer : AnswerOf left rises a b form r) (never : r ≡ Err faults.ReadFault → ⊥) where
+    as_read : (v : Result Reading TextFault) → reads form text ≡ v → IfOk v (λ reading. IsReadAs text reading r)
+    as_read (Ok reading) reads_ok = read_as reading reads_ok r answer never
+    as_read (Err fault) fails = tt
+
+    pub text_read : IfOk (reads form text) (λ reading. IsReadAs text reading r)
+    text_read = as_read (reads form text) refl
+
+    as_finer : (before : Limits) (v : Result Reading TextFault) → IfOk v (ReadsFiner desk_limits before form text)
+        → IfOk v (λ reading. IsReadAs text (finer reading) r)
+    as_finer before (Ok reading) told = read_as (finer reading) told.reading_now r answer never
+    as_finer before (Err fault) told = tt
+
+    pub old_text_read : (before : Limits) → HasOneDecimalMore desk_limits before
+        → IfOk (reads_under before form text) (λ reading. IsReadAs text (finer reading) r)
+    old_text_read before more = as_finer before (reads_under before form text) (old_texts desk_limits before form text more)
+
+-- The canonical text of a show.
+abbrev same : Show → Reading
+same show = record { show = show; skipped = 0; first_skipped = 0 }
+
+module _ (show : Show) (valid : Valid show) (text : List ℕ) (is : text ≡ show_text show) where
+  abbrev IsRead : Result Loaded ShowFault → Type 0
+  IsRead r = IfOk (reads Moves text) (λ reading. IsReadAs text reading r)
+
+  back : (r : Result Loaded ShowFault) → IsRead r → IsReadAs (show_text show) (same show) r
+  back r told =
+      let here = subst (λ t. IfOk (reads Moves t) (λ reading. IsReadAs t reading r)) is told in
+      subst (λ (v : Result Reading TextFault). IfOk v (λ reading. IsReadAs (show_text show) reading r)) (reads_back show valid).reading here
+
+  pub back_same : (r : Result Loaded ShowFault) → IsRead r → IfOk r (λ loaded. reading_of loaded ≡ same show)
+  back_same (Ok loaded) told = back (Ok loaded) told
+  back_same (Err fault) told = tt
+
+  pub back_fault : (r : Result Loaded ShowFault) → IsRead r
+      → IfErr r (λ fault. (fault ≡ faults.Memory) ⊎ ((fault ≡ faults.InputTooLong) × (INPUT_BYTES < length (show_text show))))
+  back_fault (Ok loaded) told = tt
+  back_fault (Err fault) told = back (Err fault) told

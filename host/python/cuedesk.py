@@ -1,0 +1,374 @@
+"""cuedesk: a theatre lighting desk's engine, in Python.
+
+    import cuedesk
+
+    with cuedesk.Desk(show_text) as desk:
+        desk.do("go")
+        while desk.state().fades:
+            desk.tick()
+            if desk.changed(1):
+                send(1, desk.frame(1))
+
+A desk is opened over a show's text, and does the lines of a script (docs/FORMATS.md): keys, faders, edits, ticks, and lines that show
+something. It is libcuedesk, by ctypes; nothing here is compiled. The library is looked for at the path in the environment variable
+CUEDESK_LIBRARY, then beside this file and in the folder above it, then where the system keeps libraries.
+
+A desk belongs to one thread at a time; several desks in several threads share nothing. While a call is in the library, other threads run.
+"""
+from __future__ import annotations
+
+import ctypes
+import os
+from decimal import Decimal
+from types import TracebackType
+from typing import Dict, List, NamedTuple, Optional, Type, Union
+
+__all__ = ["BadLine", "Cue", "Desk", "Refused", "ShowRefused", "State", "SLOTS", "TICK", "UNIVERSES", "__version__"]
+__version__ = "1.0.0"
+
+#: Universes, the slots of each, and how many hundredths of a second a tick is.
+UNIVERSES = 32
+SLOTS = 512
+TICK = 2
+
+#: A cue number: `"1.5"` as in a script, or the number.
+CueNumber = Union[str, int, float, Decimal]
+
+# The version of the header that this was written from.
+_VERSION = 1
+_ROOM = 1 << 16
+_CUE_MAX = 9_999_999
+_OK, _CLOSED, _OPEN, _MEMORY, _SHOW_REFUSED, _TOO_LONG, _NOT_A_LINE, _OUT_OF_RANGE, _QUIT, _AT_END, _MORE = range(11)
+_CAUSES = ["", "NoIdent", "BadNumber", "OutOfRange", "NotInRecord", "LineTooLong", "ShortList", "NoEndData"]
+
+
+class ShowRefused(ValueError):
+    """The show's text has a fault."""
+
+    def __init__(self, cause: str, line: int) -> None:
+        super().__init__(f"show {cause} {line}")
+        #: The first fault, as `show CAUSE LINE` names it: `"BadNumber"`, for one.
+        self.cause = cause
+        #: The number of its line, from 1.
+        self.line = line
+
+
+class Refused(ValueError):
+    """A line was refused, and changed nothing; but a line `tick k` keeps the ticks before the one that was refused."""
+
+    def __init__(self, line: str, reason: str) -> None:
+        super().__init__(f"{line.strip()}: refused {reason}")
+        #: The line.
+        self.line = line
+        #: Why: a name and its numbers, as `"NoCueAfter 3"`.
+        self.reason = reason
+
+
+class BadLine(ValueError):
+    """A line can't be read, and did nothing."""
+
+    def __init__(self, line: str) -> None:
+        super().__init__(f"{line.strip()}: bad")
+        #: The line.
+        self.line = line
+
+
+class State(NamedTuple):
+    """Where the playback stands. Moments are hundredths of a second since the opening; cue numbers are as in a script."""
+
+    #: The present moment.
+    moment: int
+    #: The cue that runs: that of the newest live run, or where the playback came to rest; `"0"` before the first.
+    position: str
+    #: The cue that a `go` would run, or None where none is above the position.
+    next: Optional[str]
+    #: How many runs are live; with 0 the playback is at rest.
+    live: int
+    #: From this moment on every live run is over; 0 where none is live.
+    over_at: int
+    #: The moment at which the newest live run began; 0 where none is live.
+    began: int
+    #: From this moment on that run is over; 0 where none is live.
+    ends: int
+    #: The moment at which the pending follow-on is due, or None where none is pending.
+    follow_at: Optional[int]
+    #: The master, 0 to 255.
+    master: int
+    #: How many channels the show has.
+    channels: int
+    #: How many cues the show has.
+    cues: int
+
+    @property
+    def rests(self) -> bool:
+        """No run is live."""
+        return self.live == 0
+
+    @property
+    def fades(self) -> bool:
+        """Some live run isn't over yet, so levels may still change."""
+        return self.moment < self.over_at
+
+    @property
+    def waits(self) -> bool:
+        """A follow-on is pending."""
+        return self.follow_at is not None
+
+
+class Cue(NamedTuple):
+    """A cue of the show's list."""
+
+    #: Its number, as in a script.
+    number: str
+    #: Its label, or the empty text.
+    label: str
+
+
+class _Desk(ctypes.Structure):
+    _fields_ = [("at_", ctypes.c_void_p), ("open_", ctypes.c_bool)]
+
+
+class _Report(ctypes.Structure):
+    _fields_ = [("fault", ctypes.c_uint32), ("line", ctypes.c_uint32)]
+
+
+class _Playback(ctypes.Structure):
+    _fields_ = [(name, ctypes.c_uint32) for name in ("moment", "position", "next", "live", "over_at", "began", "ends", "follow_at", "channels", "cues")]
+    _fields_ += [("master", ctypes.c_uint8), ("follows", ctypes.c_bool)]
+
+
+def _loaded() -> ctypes.CDLL:
+    """The library, with the types of its calls."""
+    here = os.path.dirname(os.path.abspath(__file__))
+    places = [os.path.join(here, "libcuedesk.so.1"), os.path.join(os.path.dirname(here), "libcuedesk.so.1")]
+    given = os.environ.get("CUEDESK_LIBRARY")
+    library = ctypes.CDLL(given or next(filter(os.path.exists, places), "libcuedesk.so.1"))
+    word, size, byte, room = ctypes.c_uint32, ctypes.c_size_t, ctypes.c_uint8, ctypes.c_void_p
+    desk, text = ctypes.POINTER(_Desk), ctypes.c_char_p
+    calls: Dict[str, list] = {
+        "version": [],
+        "open": [desk, text, size, ctypes.c_bool, ctypes.POINTER(_Report)],
+        "open_undo": [desk, text, size, ctypes.c_bool, word, ctypes.POINTER(_Report)],
+        "close": [desk],
+        "command": [desk, text, size, room, size, ctypes.POINTER(size)],
+        "reply": [desk, size, room, size, ctypes.POINTER(size)],
+        "tick": [desk, word, ctypes.POINTER(word)],
+        "frame": [desk, word, room, size],
+        "changed": [desk, word, ctypes.POINTER(ctypes.c_bool)],
+        "level": [desk, word, ctypes.POINTER(byte)],
+        "tracked": [desk, word, word, ctypes.POINTER(byte)],
+        "fader": [desk, word, ctypes.POINTER(byte)],
+        "state": [desk, ctypes.POINTER(_Playback)],
+    }
+    for name, types in calls.items():
+        call = getattr(library, f"cuedesk_{name}")
+        call.argtypes, call.restype = types, None if name == "close" else word
+    if library.cuedesk_version() != _VERSION:
+        raise ImportError(f"libcuedesk has version {library.cuedesk_version()}, and {_VERSION} is wanted")
+    return library
+
+
+_LIBRARY = _loaded()
+
+
+def _bytes_of(text: Union[str, bytes]) -> bytes:
+    return text.encode("utf-8", "surrogateescape") if isinstance(text, str) else bytes(text)
+
+
+def _text_of(text: bytes) -> str:
+    return text.decode("utf-8", "surrogateescape")
+
+
+def _cue_text(thousandths: int) -> str:
+    whole, rest = divmod(thousandths, 1000)
+    return f"{whole}.{rest:03}".rstrip("0") if rest else str(whole)
+
+
+def _thousandths(cue: CueNumber) -> int:
+    number = Decimal(str(cue)) * 1000
+    if number != int(number) or not 0 <= number <= _CUE_MAX:
+        raise ValueError(f"{cue}: no cue number")
+    return int(number)
+
+
+def _number(given: int) -> int:
+    """A number as a call takes it: any other is out of range, and stays so."""
+    return given if 0 <= given < 1 << 32 else (1 << 32) - 1
+
+
+class Desk:
+    """A desk over a show: its cues in playback, and what goes out.
+
+    Close it, or use it in a `with`: `close` gives back what it holds. After that each call raises a ValueError.
+    """
+
+    def __init__(self, show_text: Union[str, bytes], *, states: bool = False, undo: Optional[int] = None) -> None:
+        """Opens a desk over a show's text, which is read up to its line ENDDATA. With `states` the levels of cues are whole looks, else
+        moves. With `undo=n` the last n shows that edits and records replaced are kept, and the lines `undo`, `redo` and `record n [only]`
+        are known.
+
+        Raises ShowRefused where the text has a fault, ValueError where it is longer than 67,108,864 bytes, and MemoryError.
+        """
+        self._desk = _Desk()
+        self._at = ctypes.byref(self._desk)
+        self._room = ctypes.create_string_buffer(_ROOM)
+        self._slots = ctypes.create_string_buffer(SLOTS)
+        self._len, self._count, self._byte, self._flag = ctypes.c_size_t(), ctypes.c_uint32(), ctypes.c_uint8(), ctypes.c_bool()
+        self._len_at, self._count_at = ctypes.byref(self._len), ctypes.byref(self._count)
+        self._ended = False
+        text, report = _bytes_of(show_text), _Report()
+        if undo is None:
+            status = _LIBRARY.cuedesk_open(self._at, text, len(text), states, ctypes.byref(report))
+        elif 0 <= undo < 1 << 32:
+            status = _LIBRARY.cuedesk_open_undo(self._at, text, len(text), states, undo, ctypes.byref(report))
+        else:
+            raise ValueError(f"undo={undo}: no depth")
+        if status == _SHOW_REFUSED:
+            raise ShowRefused(_CAUSES[report.fault], report.line)
+        if status:
+            raise self._fault(status)
+
+    def close(self) -> None:
+        """Gives back what the desk holds. A closed one stays so."""
+        _LIBRARY.cuedesk_close(self._at)
+
+    @property
+    def closed(self) -> bool:
+        """The desk is closed."""
+        return not self._desk.open_
+
+    @property
+    def ended(self) -> bool:
+        """A line `quit` was given, at which a script ends. The desk goes on."""
+        return self._ended
+
+    def command(self, line: Union[str, bytes]) -> List[str]:
+        """Does one line of a script and answers its reply, line by line, whatever it is: `["ok"]`, `["refused NoCueAfter 3"]`, `["bad"]`,
+        a frame, a row, or the show's whole text. A line end behind the line is left out.
+
+        Raises ValueError where there are several lines, and MemoryError where the line was done and memory was wanted for its reply.
+        """
+        return _text_of(self._reply_to(_bytes_of(line).rstrip(b"\r\n"))).split("\n")[:-1]
+
+    def do(self, line: Union[str, bytes]) -> List[str]:
+        """As `command`, but where the line is refused or bad this raises Refused or BadLine. What is shown is answered; of a line that is
+        only done nothing is."""
+        reply = self.command(line)
+        if reply == ["ok"]:
+            return []
+        if len(reply) == 1 and reply[0].startswith("refused "):
+            raise Refused(_text_of(_bytes_of(line)), reply[0][len("refused "):])
+        if reply == ["bad"]:
+            raise BadLine(_text_of(_bytes_of(line)))
+        return reply
+
+    def tick(self, n: int = 1) -> int:
+        """Lets n ticks of 2 hundredths of a second go by, and answers how many did: fewer only where the moment comes to its end."""
+        if not 0 <= n < 1 << 32:
+            raise ValueError(f"{n}: no count of ticks")
+        status = _LIBRARY.cuedesk_tick(self._at, n, self._count_at)
+        if status and status != _AT_END:
+            raise self._fault(status)
+        return self._count.value
+
+    def frame(self, universe: int = 1) -> bytes:
+        """The 512 slots of a universe, 1 to 32, at the present moment. They are taken, as `changed` understands it."""
+        status = _LIBRARY.cuedesk_frame(self._at, _number(universe), self._slots, SLOTS)
+        if status:
+            raise self._fault(status, f"universe {universe}")
+        return self._slots.raw
+
+    def changed(self, universe: int = 1) -> bool:
+        """Whether the slots of a universe are others than `frame` answered last, or were never taken."""
+        status = _LIBRARY.cuedesk_changed(self._at, _number(universe), ctypes.byref(self._flag))
+        if status:
+            raise self._fault(status, f"universe {universe}")
+        return self._flag.value
+
+    def level(self, channel: int) -> int:
+        """The level of a channel on stage, 0 to 255: that of the playback, before submasters and master."""
+        status = _LIBRARY.cuedesk_level(self._at, _number(channel), ctypes.byref(self._byte))
+        if status:
+            raise self._fault(status, f"channel {channel}")
+        return self._byte.value
+
+    def tracked(self, cue: CueNumber, channel: int) -> int:
+        """The tracked level of a channel at a cue number, which need not be a cue's."""
+        status = _LIBRARY.cuedesk_tracked(self._at, _thousandths(cue), _number(channel), ctypes.byref(self._byte))
+        if status:
+            raise self._fault(status, f"channel {channel}")
+        return self._byte.value
+
+    def fader(self, sub: int) -> int:
+        """The fader of a submaster, 1 to 96; the show need not have it."""
+        status = _LIBRARY.cuedesk_fader(self._at, _number(sub), ctypes.byref(self._byte))
+        if status:
+            raise self._fault(status, f"submaster {sub}")
+        return self._byte.value
+
+    def state(self) -> State:
+        """Where the playback stands."""
+        it = _Playback()
+        status = _LIBRARY.cuedesk_state(self._at, ctypes.byref(it))
+        if status:
+            raise self._fault(status)
+        return State(it.moment, _cue_text(it.position), _cue_text(it.next) if it.next else None, it.live, it.over_at, it.began, it.ends,
+                     it.follow_at if it.follows else None, it.master, it.channels, it.cues)
+
+    def show_text(self) -> bytes:
+        """The canonical text of the show as it is now, as the line `save` shows it."""
+        return self._reply_to(b"save")
+
+    def cues(self) -> List[Cue]:
+        """The show's cues in order, with their labels. It is made from the whole text of the show: ask again after an edit, not at each
+        tick."""
+        found: List[Cue] = []
+        in_cue = False
+        for line in self.show_text().split(b"\n"):
+            word, _, rest = line.partition(b" ")
+            if word in (b"CUE", b"GROUP", b"SUB"):
+                in_cue = word == b"CUE"
+                if in_cue:
+                    found.append(Cue(rest.decode(), ""))
+            elif word == b"TEXT" and in_cue:
+                found[-1] = found[-1]._replace(label=_text_of(rest))
+        return found
+
+    def _reply_to(self, line: bytes) -> bytes:
+        """The bytes of the reply to a line."""
+        status = _LIBRARY.cuedesk_command(self._at, line, len(line), self._room, _ROOM, self._len_at)
+        if status == _QUIT:
+            self._ended = True
+            return b""
+        if status == _MORE:
+            return self._rest_of(self._len.value)
+        if status:
+            raise self._fault(status, _text_of(line))
+        return ctypes.string_at(self._room, self._len.value)
+
+    def _rest_of(self, length: int) -> bytes:
+        """All bytes of a reply, of which the first stand in the room."""
+        whole = ctypes.create_string_buffer(length)
+        status = _LIBRARY.cuedesk_reply(self._at, 0, whole, length, self._len_at)
+        if status:
+            raise self._fault(status)
+        return whole.raw
+
+    @staticmethod
+    def _fault(status: int, what: str = "") -> Exception:
+        """What a status is to be raised as."""
+        if status == _MEMORY:
+            return MemoryError("out of memory")
+        said = {_CLOSED: "the desk is closed", _TOO_LONG: "the show's text is too long", _NOT_A_LINE: "not one line",
+                _OUT_OF_RANGE: "out of range"}.get(status, f"status {status}")
+        return ValueError(f"{what}: {said}" if what else said)
+
+    def __enter__(self) -> Desk:
+        return self
+
+    def __exit__(self, kind: Optional[Type[BaseException]], raised: Optional[BaseException], trace: Optional[TracebackType]) -> None:
+        self.close()
+
+    def __del__(self) -> None:
+        if "_at" in self.__dict__:
+            self.close()
