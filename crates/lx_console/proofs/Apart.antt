@@ -20,10 +20,10 @@ use Rattle.lx_edit.specs.CueChanges.{IsPast}
 use Rattle.lx_edit.specs.PlanMeaning.{IsReady, planned}
 use Rattle.lx_edit.proofs.ChangedColumns.{alike_past}
 use Rattle.lx_edit.proofs.Walks.{tracked_below-with_cue}
-use Rattle.lx_levels.specs.Stacks.{Kept as Levels}
-use Rattle.lx_levels.specs.LevelsMeaning.{LevelsStandFor, StandsAt}
+use Rattle.lx_levels.specs.Stacks.{KeptLevels as Levels}
+use Rattle.lx_levels.specs.LevelsMeaning.{LevelsStandFor, StackStandsAt}
 use Rattle.lx_levels.specs.TimedFades.{timed_over}
-use Rattle.lx_console.specs.UnseenEdits.{PlacesCue, IsApart, IsUnseen, IsFrom, decided_by}
+use Rattle.lx_console.specs.UnseenEdits.{PlacesCue, IsApart, IsUnseen, IsFrom, decided_at}
 
 -- a run of no use
 abbrev pub no_run : Run
@@ -98,12 +98,12 @@ apart_step show n f c m k (Some d) is by le =
     )
 
 apart_from : (show : Show) (n f c m k : ℕ) → IsFrom (Some f) n m
-    → decided_by (take k (entries_above (λ cue. cue.number) n show.cues)) f c → IsApart show n c m
+    → decided_at (take k (entries_above (λ cue. cue.number) n show.cues)) f c → IsApart show n c m
 apart_from show n f c m k (inl less) by = inl less
 apart_from show n f c m k (inr le) by = inr (apart_step show n f c m k _ refl by le)
 
 pub unseen_by : (show : Show) (p : Playback) (n f c k : ℕ) → IsFrom (Some f) n p.base → All (λ run. IsFrom (Some f) n run.cue) p.live
-    → decided_by (take k (entries_above (λ cue. cue.number) n show.cues)) f c → IsUnseen show p n c
+    → decided_at (take k (entries_above (λ cue. cue.number) n show.cues)) f c → IsUnseen show p n c
 unseen_by show p n f c k base runs by = record {
   base = apart_from show n f c p.base k base by;
   runs = λ i d within. apart_from show n f c (slice_index_or p.live i d).cue k (runs i d within) by;
@@ -111,7 +111,7 @@ unseen_by show p n f c k base runs by = record {
 
 -- an unseen channel keeps what its levels stand for
 pub unseen_stands : (show after : Show) (p : Playback) (n k : ℕ) (levels : Levels) → Valid show → LevelsStandFor show p levels
-    → k < show.channels → PlacesCue show after n → IsUnseen after p n (k + 1) → StandsAt after p levels k
+    → k < show.channels → PlacesCue show after n → IsUnseen after p n (k + 1) → StackStandsAt after p levels k
 unseen_stands show after p n k levels valid stands within places unseen =
     let old = stands.each k within in
     let seen = subst (λ (s : Show). IsUnseen s p n (k + 1)) places.after_is unseen in
@@ -126,7 +126,7 @@ unseen_stands show after p n k levels valid stands within places unseen =
 pub placed_stands : (show after : Show) (p : Playback) (plan : Plan) (placed : Option ℕ) (k : ℕ) (levels : Levels) → Valid show
     → LevelsStandFor show p levels → k < show.channels → IsReady show plan → after ≡ planned show plan
     → IfSome placed (λ n. (s : Show) → Valid s → IsReady s plan → PlacesCue s (planned s plan) n)
-    → IsSomeAnd placed (λ n. IsUnseen after p n (k + 1)) → StandsAt after p levels k
+    → IsSomeAnd placed (λ n. IsUnseen after p n (k + 1)) → StackStandsAt after p levels k
 placed_stands show after p plan None k levels valid stands within ready is places unseen = absurd unseen
 placed_stands show after p plan (Some n) k levels valid stands within ready is places unseen =
     unseen_stands show after p n k levels valid stands within

@@ -11,8 +11,8 @@ use Rattle.lx_edit.specs.CueChanges.{KeepsOthers}
 use Rattle.lx_edit.specs.PlanMeaning.{IsReady, planned, dimmer_planned, plans_sub}
 use Rattle.lx_edit.specs.declared.chan_set.ChanSet.{ChanSet}
 use Rattle.lx_edit.specs.ChanSet.{has_chan}
-use Rattle.lx_levels.specs.Stacks.{Kept as Levels}
-use Rattle.lx_levels.specs.LevelsMeaning.{LevelsStandFor, StandsAt}
+use Rattle.lx_levels.specs.Stacks.{KeptLevels as Levels}
+use Rattle.lx_levels.specs.LevelsMeaning.{LevelsStandFor, StackStandsAt}
 use Rattle.lx_spec.specs.Playback.{Playback}
 use Rattle.lx_mixer.specs.Table.{IsTable}
 use Rattle.lx_patch.proofs.Rows.{others_stay}
@@ -94,7 +94,7 @@ in_show channels k within = record { least = omega arith; most = omega arith }
 -- a channel that isn't touched keeps what its levels stand for
 pub untouched_levels : (show after : Show) (p : Playback) (chans : ChanSet) (levels : Levels) → LevelsStandFor show p levels
     → after.channels ≡ show.channels → KeepsOthers show after chans → (k : ℕ) → k < after.channels → has_chan chans (k + 1) ≡ false
-    → StandsAt after p levels k
+    → StackStandsAt after p levels k
 untouched_levels show after p chans levels stands channels others k within clean =
     let old = stands.each k (omega (arith, channels)) in
     record {

@@ -11,14 +11,14 @@ use Rattle.lx_patch.specs.DimmerTable.{StandsForPatch}
 use Rattle.lx_console.specs.declared.kept_output.KeptOutput.{KeptOutput}
 use Rattle.lx_console.specs.Changes.{SamePatch, SameOutputs}
 use Rattle.lx_console.specs.ConsoleMeaning.{level_now, out_now}
-use Rattle.lx_console.specs.KeptOutput.{Reaches, SlotsStand, IsFilled, IsMixed}
+use Rattle.lx_console.specs.KeptOutput.{Reaches, SlotsStand, ShowsPlayer, IsMixedOutput}
 
 -- a list written over the whole of another is itself
 pub written : (n : ℕ) (xs ys : List ℕ) → length xs ≡ n → take n (xs ++ drop (length xs) ys) ≡ xs
 written n xs ys is = grind (arith, common_steps)
 
-pub filled : (k : Kept) (levels : List ℕ) (output : KeptOutput) → IsTable k.show.channels (level_now k) levels → IsMixed levels k output
-    → IsFilled k output
+pub filled : (k : Kept) (levels : List ℕ) (output : KeptOutput) → IsTable k.show.channels (level_now k) levels → IsMixedOutput levels k output
+    → ShowsPlayer k output
 filled k levels output of_levels is = record {
   reaches = is.reaches;
   patch_stands = is.patch_stands;
@@ -49,7 +49,7 @@ same_out before after i same within =
     ∙ ap (λ g. scaled (max (level_now after (i + 1)) g) before.master) (sym (same.contributions i within))
     ∙ ap (λ m. scaled (max (level_now after (i + 1)) (contribution after.show after.faders (i + 1))) m) (sym same.master)
 
-pub filled_still : (before after : Kept) (output : KeptOutput) → IsFilled before output → SameOutputs before after → IsFilled after output
+pub filled_still : (before after : Kept) (output : KeptOutput) → ShowsPlayer before output → SameOutputs before after → ShowsPlayer after output
 filled_still before after output is same = record {
   reaches = same_reaches before.show.channels after.show.channels output same.rows.channels is.reaches;
   patch_stands = same_table before after output same.rows is.patch_stands;

@@ -9,7 +9,7 @@ use Rattle.lx_spec.specs.Kept.{Kept}
 use Rattle.lx_edit.specs.declared.plans.Plan.{Plan}
 use Rattle.lx_edit.specs.declared.dirty.Dirty.{Dirty}
 use Rattle.lx_edit.specs.PlanMeaning.{IsReady, planned, dimmer_planned, plans_sub}
-use Rattle.lx_levels.specs.Stacks.{Kept as Levels, level_at}
+use Rattle.lx_levels.specs.Stacks.{KeptLevels as Levels, level_at}
 use Rattle.lx_levels.specs.LevelsMeaning.{LevelsStandFor}
 use Rattle.lx_levels.proofs.Stands.{kept_level}
 use Rattle.lx_console.specs.declared.change.Change.{Change}

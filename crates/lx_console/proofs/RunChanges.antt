@@ -16,7 +16,7 @@ use Rattle.lx_spec.specs.EditedShow.{the_cue}
 use Rattle.lx_spec.specs.Playback.{Playback, Played, press, tick, ticked, followed, start_above, is_due, is_over, at_rest, rested, has_room}
 use Rattle.lx_spec.specs.Playback.{if_room, appended, run_of, run_whole, follow_of, position_of}
 use Rattle.lx_playback.specs.Told.{comes_to_rest}
-use Rattle.lx_levels.specs.Stacks.{Kept as Levels}
+use Rattle.lx_levels.specs.Stacks.{KeptLevels as Levels}
 use Rattle.lx_levels.specs.LevelsMeaning.{LevelsStandFor, StandsBefore}
 use Rattle.lx_levels.proofs.Stands.{stands_over}
 use Rattle.lx_console.specs.RunChanges.{IsStarted, IsSame, IsTicked}

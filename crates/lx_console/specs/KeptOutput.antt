@@ -11,7 +11,7 @@ use Rattle.lx_sheet.specs.SheetMeaning.{RowsStandFor}
 use Rattle.lx_edit.specs.declared.dirty.Dirty.{Dirty}
 use Rattle.lx_mixer.specs.Table.{IsTable}
 use Rattle.lx_patch.specs.DimmerTable.{DimmerTable, StandsForPatch}
-use Rattle.lx_levels.specs.Stacks.{Kept as Levels}
+use Rattle.lx_levels.specs.Stacks.{KeptLevels as Levels}
 use Rattle.lx_levels.specs.LevelsMeaning.{LevelsStandFor}
 use Rattle.lx_subs.specs.Faders.{Faders, StandsForSubs}
 use Rattle.lx_console.specs.declared.change.Change.{Change}
@@ -31,7 +31,7 @@ abbrev pub SlotsStand : List PatchRow → KeptOutput → Type 0
 SlotsStand patch output = IsTable SLOTS (dimmer_value patch (λ c. slice_index output.outs.items (c - 1))) output.slots.items
 
 -- the outputs are mixed from the levels and from what the submasters give, and the slots are those of the outputs
-pub record IsMixed (levels : List ℕ) (player : Kept) (output : KeptOutput) : Type 0 where
+pub record IsMixedOutput (levels : List ℕ) (player : Kept) (output : KeptOutput) : Type 0 where
   pub reaches : Reaches player.show.channels output
   pub patch_stands : StandsForPatch player.show.patch output.table
   pub outs : (k : ℕ) → k < length output.outs.items
@@ -39,16 +39,16 @@ pub record IsMixed (levels : List ℕ) (player : Kept) (output : KeptOutput) : T
   pub slots_stand : SlotsStand player.show.patch output
 
 -- the output shows the player
-pub record IsFilled (player : Kept) (output : KeptOutput) : Type 0 where
+pub record ShowsPlayer (player : Kept) (output : KeptOutput) : Type 0 where
   pub reaches : Reaches player.show.channels output
   pub patch_stands : StandsForPatch player.show.patch output.table
   pub outs_stand : IsTable player.show.channels (out_now player) output.outs.items
   pub slots_stand : SlotsStand player.show.patch output
 
 -- the output showed the player before it changed so
-pub record WasFilled (change : Change) (player : Kept) (output : KeptOutput) : Type 0 where
+pub record ShowedPlayer (change : Change) (player : Kept) (output : KeptOutput) : Type 0 where
   pub before : Kept
-  pub filled : IsFilled before output
+  pub filled : ShowsPlayer before output
   pub changes : Changes change before player
 
 -- the table stands for these rows but for that of the dimmer

@@ -3,7 +3,7 @@ use Rattle.std.specs.Prelude.{◌≡◌, ◌≤◌, Bool, true, false, [], ◌�
 use Rattle.lx_spec.specs.Show.{Show}
 use Rattle.lx_spec.specs.Run.{Run}
 use Rattle.lx_spec.specs.Playback.{Playback}
-use Rattle.lx_levels.specs.Stacks.{Kept as Levels}
+use Rattle.lx_levels.specs.Stacks.{KeptLevels as Levels}
 use Rattle.lx_levels.specs.LevelsMeaning.{LevelsStandFor}
 
 -- one more run, which starts at the present moment, over the same base

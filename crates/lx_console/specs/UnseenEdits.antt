@@ -29,5 +29,5 @@ abbrev pub IsFrom : Option ℕ → ℕ → ℕ → Type 0
 IsFrom first n m = (m < n) ⊎ IsSomeAnd first (λ f. f ≤ m)
 
 -- the first of the cues that decides the channel has at most this number
-abbrev pub decided_by : List Cue → ℕ → ℕ → Type 0
-decided_by cues first c = IsSomeAnd (option_map (λ cue. cue.number) (find (λ cue. decides cue c) cues)) (λ end. end ≤ first)
+abbrev pub decided_at : List Cue → ℕ → ℕ → Type 0
+decided_at cues first c = IsSomeAnd (option_map (λ cue. cue.number) (find (λ cue. decides cue c) cues)) (λ end. end ≤ first)

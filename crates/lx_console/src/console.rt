@@ -44,13 +44,13 @@ pub struct Console {
 
 impl Model for Console {
     ghost use Rattle.lx_spec.specs.Kept.{Kept};
-    ghost use Rattle.lx_console.specs.KeptOutput.{IsFilled};
+    ghost use Rattle.lx_console.specs.KeptOutput.{ShowsPlayer};
 
     ghost Value = { Kept };
 
     ghost view = { λ c. c.player };
 
-    ghost invariant = { λ c. IsFilled c.player c.output };
+    ghost invariant = { λ c. ShowsPlayer c.player c.output };
 }
 
 impl Console {

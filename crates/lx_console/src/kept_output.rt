@@ -2,7 +2,7 @@
 
 ghost use Rattle.std.specs.Prelude.{◌≡◌, length, IfOk};
 ghost use Rattle.lx_patch.specs.DimmerTable.{StandsForPatch};
-ghost use Rattle.lx_console.specs.KeptOutput.{Reaches, SlotsStand, IsMixed, IsFilled, WasFilled, IsPatchedBut};
+ghost use Rattle.lx_console.specs.KeptOutput.{Reaches, SlotsStand, IsMixedOutput, ShowsPlayer, ShowedPlayer, IsPatchedBut};
 
 use crate::change::Change;
 use crate::player::Player;
@@ -47,7 +47,7 @@ impl KeptOutput {
         requires levels { length levels.now ≡ player.now.show.channels }
         requires reaches { Reaches player.now.show.channels self.old }
         requires patch { StandsForPatch player.now.show.patch self.old.table }
-        ensures { IsMixed levels.now player.now self.new }
+        ensures { IsMixedOutput levels.now player.now self.new }
     {
         let _ = player.show().channels();
         mix_into(
@@ -65,7 +65,7 @@ impl KeptOutput {
         requires reaches { Reaches player.now.show.channels self.old }
         requires patch { StandsForPatch player.now.show.patch self.old.table }
         requires slots { SlotsStand player.now.show.patch self.old }
-        ensures { IsMixed levels.now player.now self.new }
+        ensures { IsMixedOutput levels.now player.now self.new }
     {
         let _ = player.show().channels();
         mix_into(
@@ -83,7 +83,7 @@ impl KeptOutput {
         requires levels { length levels.now ≡ player.now.show.channels }
         requires reaches { Reaches player.now.show.channels self.old }
         requires patch { IsPatchedBut player.now.show.patch dimmer self.old.table }
-        ensures { IsMixed levels.now player.now self.new }
+        ensures { IsMixedOutput levels.now player.now self.new }
     {
         mend_row(&mut self.table, player.show(), dimmer);
         self.fill(levels, player);
@@ -94,7 +94,7 @@ impl KeptOutput {
     pub fn retake(&mut self, levels: &[Level], player: &Player)
         requires levels { length levels.now ≡ player.now.show.channels }
         requires reaches { Reaches player.now.show.channels self.old }
-        ensures { IsMixed levels.now player.now self.new }
+        ensures { IsMixedOutput levels.now player.now self.new }
     {
         self.table.refresh(player.show());
         self.fill(levels, player);
@@ -102,8 +102,8 @@ impl KeptOutput {
 
     /// Shows the player after a change; before it the output showed the player as it was.
     pub(crate) fn follow(&mut self, change: Change, player: &Player)
-        requires { WasFilled change player.now self.old }
-        ensures { IsFilled player.now self.new }
+        requires { ShowedPlayer change player.now self.old }
+        ensures { ShowsPlayer player.now self.new }
     {
         match change {
             Change::Nothing => {}

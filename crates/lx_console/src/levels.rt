@@ -4,7 +4,7 @@ ghost use Rattle.std.specs.Prelude.{◌≡◌, ℕ, ◌+◌, ◌<◌, ◌≤◌,
 ghost use Rattle.lx_sheet.specs.SheetMeaning.{RowsStandFor};
 ghost use Rattle.lx_edit.specs.ChanSet.{has_chan};
 ghost use Rattle.lx_levels.specs.Stacks.{level_at};
-ghost use Rattle.lx_levels.specs.LevelsMeaning.{LevelsStandFor, StandsAt, StandsBefore};
+ghost use Rattle.lx_levels.specs.LevelsMeaning.{LevelsStandFor, StackStandsAt, StandsBefore};
 ghost use Rattle.lx_console.specs.RunChanges.{IsTicked};
 
 use lx_base::Chan;
@@ -74,7 +74,7 @@ pub(crate) fn recompute_touched(
     requires rows { RowsStandFor show.now sheet.now }
     requires moment { levels.old.moment ≡ playback.now.moment }
     requires reach { length levels.old.stacks ≡ show.now.channels }
-    requires others { (k : ℕ) → k < show.now.channels → has_chan chans.now (k + 1) ≡ false → StandsAt show.now playback.now levels.old k }
+    requires others { (k : ℕ) → k < show.now.channels → has_chan chans.now (k + 1) ≡ false → StackStandsAt show.now playback.now levels.old k }
     ensures stands { LevelsStandFor show.now playback.now levels.new }
     ensures same { result ≡ false → levels.new ≡ levels.old }
 {

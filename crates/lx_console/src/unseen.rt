@@ -7,7 +7,7 @@ ghost use Rattle.lx_spec.specs.Show.{Show as ShowData, Valid, InRange};
 ghost use Rattle.lx_spec.specs.TrackedLevel.{decides};
 ghost use Rattle.lx_edit.specs.ChanSet.{has_chan};
 ghost use Rattle.lx_edit.specs.PlanMeaning.{IsReady, planned};
-ghost use Rattle.lx_console.specs.UnseenEdits.{IsUnseen, IsFrom, PlacesCue, decided_by};
+ghost use Rattle.lx_console.specs.UnseenEdits.{IsUnseen, IsFrom, PlacesCue, decided_at};
 
 use lx_base::{Chan, CueNo};
 use lx_edit::{ChanSet, Plan};
@@ -61,7 +61,7 @@ pub(crate) fn seen(
 /// Those of the channels that none of the cues decides up to the number.
 fn undecided(show: &Show, near: &[Cue], first: CueNo, chans: &ChanSet) -> ChanSet
     ensures { (c : ℕ) → InRange show.now.channels c → has_chan result c ≡ false
-        → (has_chan chans.now c ≡ false) ⊎ (decided_by near.now first c) }
+        → (has_chan chans.now c ≡ false) ⊎ (decided_at near.now first c) }
 {
     let count = show.channels() as usize;
     let mut left = ChanSet::empty();
@@ -82,7 +82,7 @@ fn undecided(show: &Show, near: &[Cue], first: CueNo, chans: &ChanSet) -> ChanSe
 
 /// The first of the cues that decides the channel comes up to the number.
 fn is_decided(near: &[Cue], first: CueNo, c: Chan) -> bool
-    ensures { result ≡ true → decided_by near.now first c }
+    ensures { result ≡ true → decided_at near.now first c }
 {
     match first_decision(near, c) {
         Some(end) => end.get() <= first.get(),

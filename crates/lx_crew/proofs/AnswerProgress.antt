@@ -30,21 +30,21 @@ use Rattle.lx_crew.specs.declared.entry.Entry.{Entry}
 use Rattle.lx_crew.specs.declared.entry.LineText.{LineText}
 use Rattle.lx_crew.specs.declared.entry.Sent.TheVariants.{Line, LongLine}
 use Rattle.lx_crew.specs.Entries.{text_in}
-use Rattle.lx_crew.specs.EngineAnswers.{long_line, named_line, entries_of, said, NamedAnswer, AnswersNamed, IsDone, AnsweredAll}
+use Rattle.lx_crew.specs.EngineAnswers.{long_line, named_line, entries_of, said, NamedAnswer, AnswersNamed, IsDoneWithEntries, AnsweredAll}
 use Rattle.lx_crew.specs.EngineAnswers.{AnsweredPart, HasAnswered}
 
 -- a line that is too long is bad, whatever its text
 pub long_means : line_of long_line ≡ None
 long_means = sym (meaning_is None long_line (omega (arith, length-replicate {A = ℕ} (LINE_BYTES + 1) 0)))
 
-done_none : (d : Desk) → IsDone d [] [] (begin_at (begun d))
+done_none : (d : Desk) → IsDoneWithEntries d [] [] (begin_at (begun d))
 done_none d = record { each = refl; is = refl; allows = tt }
 
 -- one more entry, of which this attempt failed, if one did
 done_more : (d : Desk) (entries : List CrewEntry) (failures : List (Option ℕ)) (now next : Session DeskState) (e : CrewEntry)
-    (failed : Option ℕ) → IsDone d entries failures now → after_entry failed now e ≡ next
+    (failed : Option ℕ) → IsDoneWithEntries d entries failures now → after_entry failed now e ≡ next
     → IfSome failed (λ attempt. IsAcceptedEdit now.state.desk (line_of e.line))
-    → IsDone d (entries ++ e ∷ []) (failures ++ failed ∷ []) next
+    → IsDoneWithEntries d (entries ++ e ∷ []) (failures ++ failed ∷ []) next
 done_more d entries failures now next e failed done is may =
     let s = begin_at (begun d) in
     record {
@@ -82,7 +82,7 @@ answered_line holds faults wants sink sink' b d popped start console console' ta
     record {
       failures = failures;
       now = w.next;
-      done = subst (λ es. IsDone d es failures w.next) (sym (said_more popped entry (e ∷ []) is))
+      done = subst (λ es. IsDoneWithEntries d es failures w.next) (sym (said_more popped entry (e ∷ []) is))
           (done_more d (said popped) a.failures a.now w.next e w.failed a.done w.goes_on.is w.goes_on.allowed);
       text = subst (λ (x : List ℕ). Appends start (holds sink') x) (sym w.text)
           (Appends-trans start (holds m.between) (holds sink') (a.now.text ++ op_text e) w.reply
@@ -100,8 +100,8 @@ answered_front : {K : Type 0} (holds : K → Option (List ℕ)) (faults wants : 
 answered_front holds faults wants sink sink' f d popped start console console' tally tally' entry e a is m =
     let w = m.answer in
     let failures = a.failures ++ w.failed ∷ [] in
-    let done : IsDone d (said (popped ++ entry ∷ [])) failures w.next =
-    subst (λ es. IsDone d es failures w.next) (sym (said_more popped entry (e ∷ []) is))
+    let done : IsDoneWithEntries d (said (popped ++ entry ∷ [])) failures w.next =
+    subst (λ es. IsDoneWithEntries d es failures w.next) (sym (said_more popped entry (e ∷ []) is))
     (done_more d (said popped) a.failures a.now w.next e w.failed a.done w.goes_on.is w.goes_on.allowed) in
     let part = AppendsFront-is (holds m.between) (holds sink') w.reply w.puts.part in
     let front = (a.now.text ++ op_text e) ++ take part.0 w.reply in
@@ -127,8 +127,8 @@ answered_name : (d : Desk) (popped : List Entry) (start h h' : Option (List ℕ)
 answered_name d popped start h h' console tally entry e a is name =
     let failures = a.failures ++ None ∷ [] in
     let more = extends_line None (named a.now e) (line_of e.line) in
-    let done : IsDone d (said (popped ++ entry ∷ [])) failures (after_entry None a.now e) =
-    subst (λ es. IsDone d es failures (after_entry None a.now e)) (sym (said_more popped entry (e ∷ []) is))
+    let done : IsDoneWithEntries d (said (popped ++ entry ∷ [])) failures (after_entry None a.now e) =
+    subst (λ es. IsDoneWithEntries d es failures (after_entry None a.now e)) (sym (said_more popped entry (e ∷ []) is))
     (done_more d (said popped) a.failures a.now (after_entry None a.now e) e None a.done refl tt) in
     let part = AppendsFront-is h h' (op_text e) name in
     let front = a.now.text ++ take part.0 (op_text e) in

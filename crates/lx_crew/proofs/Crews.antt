@@ -25,9 +25,9 @@ use Rattle.lx_crew.specs.EngineAnswers.{said, HasAnswered}
 use Rattle.lx_crew.specs.CrewOutcome.{IsBack, HasWritten, HasCrewed}
 use Rattle.lx_crew.specs.Entries.{of_place, is_last, has_last}
 use Rattle.lx_crew.specs.OperatorWorks.{EachAt, Retired, owned}
-use Rattle.lx_crew.specs.Rule.{engine_view, Kept as Learned}
+use Rattle.lx_crew.specs.Rule.{engine_view, Learned}
 use Rattle.lx_crew.specs.Scripts.{HasEnded}
-use Rattle.lx_crew.specs.SentLines.{last_of}
+use Rattle.lx_crew.specs.SentLines.{last_entry}
 use Rattle.lx_crew.proofs.Lists.{none_front}
 use Rattle.lx_crew.proofs.MergedEntries.{SentAt, AllSent, IsTrueTo, true_entries, by_number, all_true, all_front, merged, merged_so_far}
 use Rattle.lx_crew.proofs.MergedEntries.{same_session, same_allows}
@@ -63,7 +63,7 @@ abbrev pub lines_of : {S : Type 0} (left : S → Option (List ℕ)) (faults : S 
     (ys : List (Operator S)) → EachAt (Retired left faults Its places) ys → ℕ → List (List ℕ)
 lines_of left faults Its places ys h = lines_from (Retired left faults Its places) (λ k y r. r.sent.lines) ys h
 
-last_ends : (fault : Option OperatorFault) → is_last (last_of fault) ≡ true
+last_ends : (fault : Option OperatorFault) → is_last (last_entry fault) ≡ true
 last_ends None = refl
 last_ends (Some ReadFault) = refl
 last_ends (Some InputTooLong) = refl

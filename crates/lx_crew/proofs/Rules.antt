@@ -10,7 +10,7 @@ use Rattle.crossbeam_queue.proofs.Lists.{at_set}
 use Rattle.lx_crew.specs.declared.entry.Entry.{Entry}
 use Rattle.lx_crew.specs.declared.rule.View.{View}
 use Rattle.lx_crew.specs.Entries.{of_place, Numbered}
-use Rattle.lx_crew.specs.Rule.{KeepsOrder, Fits, FitsOperator, FitsEngine, Adds, Takes, Kept, engine_view, operator_view, spent_view}
+use Rattle.lx_crew.specs.Rule.{KeepsOrder, FitsPass, FitsOperator, FitsEngine, AddsEntry, Takes, Learned, engine_view, operator_view, spent_view}
 use Rattle.lx_crew.proofs.Lists.{all_map, of_mine, of_other, numbered_snoc}
 
 abbrev All : (ℕ → View → Type 0) → List View → Type 0
@@ -39,7 +39,7 @@ at_new (x ∷ xs) a b (suc j) e = ⊎_elim (λ h. inl h) (λ (h : (j ≡ length 
 never : {A : Type 0} → false ≡ true → A
 never e = absurd (true≢false (sym e))
 
-first_fits : Fits 0 (λ k. 0) [] [] 0 (engine_view 0 [] [])
+first_fits : FitsPass 0 (λ k. 0) [] [] 0 (engine_view 0 [] [])
 first_fits = record {
   operator = λ e. never e;
   engine = λ e. record { reads = refl; got = refl; later = λ k h. (refl, refl); lists = tt };
@@ -53,7 +53,7 @@ begins = record {
   log = [];
   in_order = refl;
   numbered = λ k. tt;
-  each = all_set (Fits 0 (λ k. 0) [] []) (engine_view 0 [] [] ∷ []) 0 (engine_view 0 [] []) first_fits
+  each = all_set (FitsPass 0 (λ k. 0) [] []) (engine_view 0 [] [] ∷ []) 0 (engine_view 0 [] []) first_fits
       (λ j u other e. absurd (other (at_end [] _ u j (λ x. some-ne-none u (sym x)) e)));
 }
 
@@ -76,7 +76,7 @@ numbered_on log e k h next (yes is) = subst (λ (es : List Entry). Numbered 1 es
 numbered_on log e k h next (no not) = subst (λ (es : List Entry). Numbered 1 es) (sym (of_other k log e not)) h
 
 pub sends : (n pass : ℕ) (v : View) (e : Entry) → v.pushes ≡ true → e.place ≡ v.place → e.number ≡ length v.pushed + 1
-    → Pushes KeepsOrder n pass v e (Adds v e)
+    → Pushes KeepsOrder n pass v e (AddsEntry v e)
 sends n pass v e may own next items views room h at =
     let w : View = record v { pushed = v.pushed ++ e ∷ [] } in
     let mine = (h.each pass v at).operator may in
@@ -92,7 +92,7 @@ sends n pass v e may own next items views room h at =
         numbered = λ k. numbered_on h.log e k (h.numbered k)
             (λ is. let t : v.pushed ≡ of_place k h.log = mine.1 ∙ ap (λ (i : ℕ). of_place i h.log) (sym own ∙ is) in
             let l : length v.pushed ≡ length (of_place k h.log) = ap length t in omega (arith, next, l)) (ℕ_discrete e.place k);
-        each = all_set (Fits h.reader h.seat h.popped log) views pass w
+        each = all_set (FitsPass h.reader h.seat h.popped log) views pass w
             (record {
               operator = λ p. (mine.0, ap (λ (l : List Entry). l ++ e ∷ []) mine.1 ∙ sym (of_mine v.place h.log e own));
               engine = λ p. let f = (h.each pass v at).engine p in kept_by h.reader h.seat h.popped h.log pass e pass w sits
@@ -124,7 +124,7 @@ takes pass v may x items views h at =
         log = h.log;
         in_order = h.in_order ∙ sym (append_assoc h.popped (x ∷ []) items);
         numbered = h.numbered;
-        each = all_set (Fits h.reader h.seat popped h.log) views pass w
+        each = all_set (FitsPass h.reader h.seat popped h.log) views pass w
             (record {
               operator = λ p. (h.each pass v at).operator p;
               engine = λ p. record {
@@ -217,7 +217,7 @@ merges pass v other u may none sent items views h at apart at' =
     let gone : (k : ℕ) → h.seat k ≡ 0 → seat k ≡ 0 = λ k x. still_none h.seat u.place k x (ℕ_discrete k u.place) in
     let made : u.place < v.made = made_before h.seat v.made u.place other theirs.0 (λ x. (mine.later u.place x).0)
     (dec_le v.made u.place) in
-    let Now : ℕ → View → Type 0 = λ j y. j ≢ other → Fits h.reader seat h.popped h.log j y in
+    let Now : ℕ → View → Type 0 = λ j y. j ≢ other → FitsPass h.reader seat h.popped h.log j y in
     let now : All Now vs = all_set Now views pass both
     (λ _. record {
       operator = λ p. never (sym none ∙ p);
@@ -242,11 +242,11 @@ merges pass v other u may none sent items views h at apart at' =
       log = h.log;
       in_order = h.in_order;
       numbered = h.numbered;
-      each = all_set (Fits h.reader seat h.popped h.log) vs other spent_view (record { operator = λ p. never p; engine = λ p. never p })
+      each = all_set (FitsPass h.reader seat h.popped h.log) vs other spent_view (record { operator = λ p. never p; engine = λ p. never p })
           (λ j y different is. now j y is different);
     }
 
-pub totals : (pass : ℕ) (v : View) → v.pops ≡ true → Learns KeepsOrder pass v (Kept v)
+pub totals : (pass : ℕ) (v : View) → v.pops ≡ true → Learns KeepsOrder pass v (Learned v)
 totals pass v may items views h at =
     let mine = (h.each pass v at).engine may in
     let all : h.log ≡ v.popped ++ items = h.in_order ∙ ap (λ (l : List Entry). l ++ items) (sym mine.got) in

@@ -30,7 +30,7 @@ use Rattle.lx_crew.specs.declared.rule.View.{View}
 use Rattle.lx_crew.specs.Entries.{HasText, HaveLines, text_in}
 use Rattle.lx_crew.specs.Rule.{operator_view}
 use Rattle.lx_crew.specs.Scripts.{AreLines, HasEnded}
-use Rattle.lx_crew.specs.SentLines.{TookNext, follows, last_of, HasSent}
+use Rattle.lx_crew.specs.SentLines.{TookNext, follows, last_entry, HasSentLines}
 
 -- A line that was taken goes on, or it is `quit`.
 branch_lines : (b : Bool) → cond b after.End after.Lines ≡ after.Lines → b ≡ false
@@ -84,14 +84,14 @@ TookLast left faults b c (Some ends.InputTooLong) =
     × (faults c.source.now ≡ faults b.source.now)
 
 abbrev same_last : {S : Type 0} → (S → Option (List ℕ)) → (S → ℕ) → (b c : Lines S) → Sent → Option OperatorFault → Type 0
-same_last left faults b c sent fault = (sent ≡ last_of fault) × TookLast left faults b c fault
+same_last left faults b c sent fault = (sent ≡ last_entry fault) × TookLast left faults b c fault
 
 branch_nothing : (b : Bool) (fault : Option OperatorFault) → cond b after.End after.Lines ≡ after.Nothing fault → ⊥
 branch_nothing true fault e = cc
 branch_nothing false fault e = cc
 
 pub ends_so : {S : Type 0} (left : S → Option (List ℕ)) (faults : S → ℕ) (b c : Lines S) (sent : Sent) (fault : Option OperatorFault)
-    → TookNext left faults b c sent → follows sent ≡ after.Nothing fault → (sent ≡ last_of fault) × TookLast left faults b c fault
+    → TookNext left faults b c sent → follows sent ≡ after.Nothing fault → (sent ≡ last_entry fault) × TookLast left faults b c fault
 ends_so left faults b c (Line l) fault t is = absurd (branch_nothing (ends_script (text_in l)) fault is)
 ends_so left faults b c LongLine fault t is = absurd cc
 ends_so left faults b c End fault t is =
@@ -294,8 +294,8 @@ ended_so left faults source a b c fault began s later t = record {
 -- All was sent.
 pub sent_all : {S : Type 0} (left : S → Option (List ℕ)) (faults : S → ℕ) (place : ℕ) (source : S) (a b c : Lines S) (v w : View)
     (e : Entry) (fault : Option OperatorFault) → Began left source a → (s : SentSoFar left faults place a b v)
-    → faults b.source.now ≤ faults c.source.now → (e.sent ≡ last_of fault) × TookLast left faults b c fault → e.place ≡ place
-    → w ≡ record v { pushed = v.pushed ++ e ∷ [] } → HasSent left faults place source c.source.now w fault
+    → faults b.source.now ≤ faults c.source.now → (e.sent ≡ last_entry fault) × TookLast left faults b c fault → e.place ≡ place
+    → w ≡ record v { pushed = v.pushed ++ e ∷ [] } → HasSentLines left faults place source c.source.now w fault
 sent_all left faults place source a b c v w e fault began s later t own more = record {
   lines = map without_cr s.passed.raws;
   entries = s.entries;
@@ -310,7 +310,7 @@ sent_all left faults place source a b c v w e fault began s later t own more = r
 pub sent_to_quit : {S : Type 0} (left : S → Option (List ℕ)) (faults : S → ℕ) (place : ℕ) (source : S) (a b c : Lines S) (v w x : View)
     (e last : Entry) → Began left source a → SentSoFar left faults place a b v → SentQuit left faults b c e.sent → e.place ≡ place
     → e.number ≡ length v.pushed + 1 → w ≡ record v { pushed = v.pushed ++ e ∷ [] } → last.sent ≡ End → last.place ≡ place
-    → x ≡ record w { pushed = w.pushed ++ last ∷ [] } → HasSent left faults place source c.source.now x None
+    → x ≡ record w { pushed = w.pushed ++ last ∷ [] } → HasSentLines left faults place source c.source.now x None
 sent_to_quit left faults place source a b c v w x e last began s q own is more end own' more' =
     let raws = s.passed.raws in
     let l = have_length place 1 s.entries (map without_cr raws) s.have in

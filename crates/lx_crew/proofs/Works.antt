@@ -14,8 +14,8 @@ use Rattle.lx_crew.specs.Entries.{of_place, is_last, has_last, HasText, HaveLine
 use Rattle.lx_crew.specs.declared.entry.Sent.{Sent}
 use Rattle.lx_crew.specs.declared.entry.Sent.TheVariants.{Line, LongLine, End, ReadFault, InputTooLong}
 use Rattle.lx_crew.specs.Rule.{engine_view, operator_view}
-use Rattle.lx_crew.specs.SentLines.{HasSent}
-use Rattle.lx_crew.specs.OperatorWorks.{EachAt, HasRun, Hired, IsReady, Works, Retired, owned}
+use Rattle.lx_crew.specs.SentLines.{HasSentLines}
+use Rattle.lx_crew.specs.OperatorWorks.{EachAt, HasRunOperator, Hired, HasSentNothing, Works, Retired, owned}
 use Rattle.std.proofs.lemmas.List.Elements.{filter-append}
 use Rattle.lx_crew.proofs.Lists.{or_none, none_behind, tail_of, head_last}
 use Rattle.crossbeam_queue.specs.Passes.{view, Pass, IsSamePass}
@@ -136,14 +136,14 @@ get_at (x ∷ xs) (suc k) lt = get_at xs k (omega (arith, lt))
 
 pub retired : {S : Type 0} (left : S → Option (List ℕ)) (faults : S → ℕ) (Its : Pass Entry View → Type 0)
     (carry : (p q : Pass Entry View) → IsSamePass p q → Its p → Its q)
-    (places : List (Option S)) (xs ys : List (Operator S)) → AllZip (HasRun left faults) xs ys → EachAt (Hired Its places) xs → EachAt
+    (places : List (Option S)) (xs ys : List (Operator S)) → AllZip (HasRunOperator left faults) xs ys → EachAt (Hired Its places) xs → EachAt
     (Retired left faults Its places) ys
-retired left faults Its carry places xs ys z h = each_zip (HasRun left faults) (Hired Its places) (Retired left faults Its places) xs ys z h
+retired left faults Its carry places xs ys z h = each_zip (HasRunOperator left faults) (Hired Its places) (Retired left faults Its places) xs ys z h
     (λ k x y p r. record {
       its = carry x.pass y.pass r.0 p.its;
       start = x.source;
       source = p.source;
-      sent = subst (λ (n : ℕ). HasSent left faults n x.source y.source (view y.pass) y.fault) p.place r.1;
+      sent = subst (λ (n : ℕ). HasSentLines left faults n x.source y.source (view y.pass) y.fault) p.place r.1;
     })
 
 pub retired_works : {S : Type 0} (left : S → Option (List ℕ)) (faults : S → ℕ) (Its : Pass Entry View → Type 0) (places : List (Option S))
@@ -187,8 +187,8 @@ complete left faults Its places ys popped items kept k y is r ended =
 
 pub ready_all : {S : Type 0} (Its : Pass Entry View → Type 0) (places : List (Option S)) (xs : List (Operator S))
     → EachAt (Hired Its places) xs
-    → All (λ (w : Operator S). IsReady w) xs
-ready_all Its places xs h = all_at (λ (w : Operator _). IsReady w) (Hired Its places) xs h
+    → All (λ (w : Operator S). HasSentNothing w) xs
+ready_all Its places xs h = all_at (λ (w : Operator _). HasSentNothing w) (Hired Its places) xs h
     (λ k w t. (t.own_queue, t.fresh ∙ ap (λ (n : ℕ). operator_view n []) (sym t.place)))
 
 pub works_back : {A : Type 0} (R : A → A → Type 0) (xs ys : List A) (n : ℕ) → n ≡ length xs → AllZip R xs ys

@@ -58,7 +58,7 @@ AnswersNamed holds faults wants sink sink' result s name meaning console tally =
     ⊎ NamedAnswer holds faults wants sink sink' result s name meaning console tally
 
 -- The entries are done from a desk on, of each is told which attempt failed, if one did, and the session has come so far.
-pub record IsDone (d : Desk) (entries : List CrewEntry) (failures : List (Option ℕ)) (now : Session DeskState) : Type 0 where
+pub record IsDoneWithEntries (d : Desk) (entries : List CrewEntry) (failures : List (Option ℕ)) (now : Session DeskState) : Type 0 where
   pub each : length failures ≡ length entries
   pub is : crew_session d entries failures ≡ now
   pub allows : CrewAllows d entries failures
@@ -67,7 +67,7 @@ pub record IsDone (d : Desk) (entries : List CrewEntry) (failures : List (Option
 pub record AnsweredAll (d : Desk) (popped : List Entry) (held held' : Option (List ℕ)) (console : Kept) (tally : Tally) : Type 0 where
   pub failures : List (Option ℕ)
   pub now : Session DeskState
-  pub done : IsDone d (said popped) failures now
+  pub done : IsDoneWithEntries d (said popped) failures now
   pub text : Appends held held' now.text
   pub counts : now.counts ≡ counts_in tally
   pub stands : StandsFor now.state.desk console
@@ -110,7 +110,7 @@ pub record NextEntry (v w : View) (held held' : Option (List ℕ)) (console cons
       → HasAnswered d (popped ++ entry ∷ []) start held' console' tally' output'
 
 -- The engine took entries to the last of each operator and answered them. Where the output had no fault it keeps nothing back.
-pub record HasServed {K : Type 0} (holds : K → Option (List ℕ)) (back : K → List ℕ) (faults wants : K → ℕ) (operators : ℕ) (v : View)
+pub record HasServedEntries {K : Type 0} (holds : K → Option (List ℕ)) (back : K → List ℕ) (faults wants : K → ℕ) (operators : ℕ) (v : View)
     (sink sink' : K) (console console' : Kept) (tally : Tally) (output : Option SinkFault) : Type 0 where
   pub popped : List Entry
   pub view : v ≡ engine_view operators popped []

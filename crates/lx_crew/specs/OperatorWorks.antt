@@ -5,7 +5,7 @@ use Rattle.lx_crew.specs.declared.entry.Entry.{Entry}
 use Rattle.lx_crew.specs.declared.rule.View.{View}
 use Rattle.lx_crew.specs.declared.operator.Operator.{Operator}
 use Rattle.lx_crew.specs.Rule.{operator_view}
-use Rattle.lx_crew.specs.SentLines.{HasSent}
+use Rattle.lx_crew.specs.SentLines.{HasSentLines}
 
 -- the elements of a list, each at its place
 abbrev pub EachAt : {A : Type 0} → (ℕ → A → Type 0) → List A → Type 0
@@ -20,12 +20,12 @@ pub record Hired {S : Type 0} (Its : Pass Entry View → Type 0) (places : List 
   pub source : slice_get places k ≡ Some (Some w.source)
 
 -- it may run: its pass has pushed nothing
-abbrev pub IsReady : {S : Type 0} → Operator S → Type 0
-IsReady w = IsPassOf w.queue.now w.pass × (view w.pass ≡ operator_view w.place [])
+abbrev pub HasSentNothing : {S : Type 0} → Operator S → Type 0
+HasSentNothing w = IsPassOf w.queue.now w.pass × (view w.pass ≡ operator_view w.place [])
 
 -- what a work does: it pushed its lines
-abbrev pub HasRun : {S : Type 0} → (S → Option (List ℕ)) → (S → ℕ) → Operator S → Operator S → Type 0
-HasRun left faults x y = IsSamePass x.pass y.pass × HasSent left faults x.place x.source y.source (view y.pass) y.fault
+abbrev pub HasRunOperator : {S : Type 0} → (S → Option (List ℕ)) → (S → ℕ) → Operator S → Operator S → Type 0
+HasRunOperator left faults x y = IsSamePass x.pass y.pass × HasSentLines left faults x.place x.source y.source (view y.pass) y.fault
 
 -- what its pass pushed
 abbrev pub owned : {S : Type 0} → Operator S → ℕ × List Entry
@@ -41,4 +41,4 @@ pub record Retired {S : Type 0} (left : S → Option (List ℕ)) (faults : S →
   pub its : Its w.pass
   pub start : S
   pub source : slice_get places k ≡ Some (Some start)
-  pub sent : HasSent left faults k start w.source (view w.pass) w.fault
+  pub sent : HasSentLines left faults k start w.source (view w.pass) w.fault

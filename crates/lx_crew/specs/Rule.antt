@@ -30,7 +30,7 @@ pub record FitsEngine (reader : ℕ) (seat : ℕ → ℕ) (popped log : List Ent
   pub later : (k : ℕ) → v.made ≤ k → (seat k ≡ 0) × (of_place k log ≡ [])
   pub lists : AllByRecursion (λ (p : ℕ × List Entry). (p.0 < v.made) × (seat p.0 ≡ 0) × (p.1 ≡ of_place p.0 log)) v.kept
 
-pub record Fits (reader : ℕ) (seat : ℕ → ℕ) (popped log : List Entry) (pass : ℕ) (v : View) : Type 0 where
+pub record FitsPass (reader : ℕ) (seat : ℕ → ℕ) (popped log : List Entry) (pass : ℕ) (v : View) : Type 0 where
   pub operator : v.pushes ≡ true → FitsOperator seat log pass v
   pub engine : v.pops ≡ true → FitsEngine reader seat popped log pass v
 
@@ -43,15 +43,15 @@ pub record KeepsOrder (items : List Entry) (views : List View) : Type 0 where
   pub log : List Entry
   pub in_order : log ≡ popped ++ items
   pub numbered : (k : ℕ) → Numbered 1 (of_place k log)
-  pub each : (pass : ℕ) (v : View) → get_elem? views pass ≡ some v → Fits reader seat popped log pass v
+  pub each : (pass : ℕ) (v : View) → get_elem? views pass ≡ some v → FitsPass reader seat popped log pass v
 
-abbrev pub Adds : View → Entry → View → Type 0
-Adds v e w = w ≡ record v { pushed = v.pushed ++ e ∷ [] }
+abbrev pub AddsEntry : View → Entry → View → Type 0
+AddsEntry v e w = w ≡ record v { pushed = v.pushed ++ e ∷ [] }
 
 abbrev pub Takes : View → Entry → View → Type 0
 Takes v e w = w ≡ record v { popped = v.popped ++ e ∷ [] }
 
 -- what each operator that was taken in pushed is what was popped of it, and then what the queue holds of it; no others pushed anything
-pub record Kept (v : View) (items : List Entry) : Type 0 where
+pub record Learned (v : View) (items : List Entry) : Type 0 where
   pub lists : AllByRecursion (λ (p : ℕ × List Entry). p.1 ≡ of_place p.0 (v.popped ++ items)) v.kept
   pub others : (k : ℕ) → v.made ≤ k → of_place k (v.popped ++ items) ≡ []

@@ -47,13 +47,13 @@ follows ReadFault = after.Nothing (Some ends.ReadFault)
 follows InputTooLong = after.Nothing (Some ends.InputTooLong)
 
 -- the last entry of an operator, by its fault
-abbrev pub last_of : Option OperatorFault → Sent
-last_of None = End
-last_of (Some ends.ReadFault) = ReadFault
-last_of (Some ends.InputTooLong) = InputTooLong
+abbrev pub last_entry : Option OperatorFault → Sent
+last_entry None = End
+last_entry (Some ends.ReadFault) = ReadFault
+last_entry (Some ends.InputTooLong) = InputTooLong
 
 -- From its source before to its source after the operator's pass pushed its lines, numbered from 1, and then how they ended.
-pub record HasSent {S : Type 0} (left : S → Option (List ℕ)) (faults : S → ℕ) (place : ℕ) (source source' : S) (v : View)
+pub record HasSentLines {S : Type 0} (left : S → Option (List ℕ)) (faults : S → ℕ) (place : ℕ) (source source' : S) (v : View)
     (fault : Option OperatorFault) : Type 0 where
   pub lines : List (List ℕ)
   pub entries : List Entry
@@ -61,5 +61,5 @@ pub record HasSent {S : Type 0} (left : S → Option (List ℕ)) (faults : S →
   pub view : v ≡ operator_view place (entries ++ last ∷ [])
   pub have : HaveLines place 1 entries lines
   pub own : last.place ≡ place
-  pub ends : last.sent ≡ last_of fault
+  pub ends : last.sent ≡ last_entry fault
   pub ended : HasEnded left faults source source' fault lines

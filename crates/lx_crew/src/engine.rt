@@ -5,7 +5,7 @@ ghost use Rattle.crossbeam_queue.specs.Passes.{view, IsPassOf, IsSamePass};
 ghost use Rattle.lx_session.specs.LineReply.{HasRoom, HasOneMore, counts_in};
 ghost use Rattle.lx_crew.specs.Entries.{is_last};
 ghost use Rattle.lx_crew.specs.Rule.{engine_view};
-ghost use Rattle.lx_crew.specs.EngineAnswers.{HasServed, Marked, OutputCause, NextEntry};
+ghost use Rattle.lx_crew.specs.EngineAnswers.{HasServedEntries, Marked, OutputCause, NextEntry};
 
 use crate::answering::{answer_entry, flush};
 use crate::entry::{Entry, Sent};
@@ -40,7 +40,7 @@ impl<K: Sink> Work for Engine<'_, '_, '_, '_, '_, K> {
     ghost use Rattle.std.specs.Prelude.{◌≡◌, ◌≤◌, [], None};
     ghost use Rattle.crossbeam_queue.specs.Passes.{view, IsPassOf, IsSamePass};
     ghost use Rattle.lx_crew.specs.Rule.{engine_view};
-    ghost use Rattle.lx_crew.specs.EngineAnswers.{HasServed};
+    ghost use Rattle.lx_crew.specs.EngineAnswers.{HasServedEntries};
 
     ghost ready = { λ x. IsPassOf x.queue.now x.pass.now × ((view x.pass.now ≡ engine_view x.operators [] []) × (x.operators ≤ 4)) };
 
@@ -48,7 +48,7 @@ impl<K: Sink> Work for Engine<'_, '_, '_, '_, '_, K> {
         × ((y.console.ghost_name ≡ x.console.ghost_name)
         × ((y.sink.ghost_name ≡ x.sink.ghost_name)
         × (IsSamePass x.pass.now y.pass.now
-        × HasServed K.holds K.back K.faults K.wants x.operators (view y.pass.now) x.sink.now y.sink.now x.console.now y.console.now y.tally
+        × HasServedEntries K.holds K.back K.faults K.wants x.operators (view y.pass.now) x.sink.now y.sink.now x.console.now y.console.now y.tally
         y.output))) };
 
     fn run<R: Wait>(&mut self, rt: &R) {
@@ -82,7 +82,7 @@ fn serve<R: Wait, K: Sink>(
     requires few { operators ≤ 4 }
     requires none { counts_in tally.old ≡ record { ok = 0; refused = 0; bad = 0 } }
     ensures queue { IsSamePass pass.old pass.new }
-    ensures served { HasServed K.holds K.back K.faults K.wants operators (view pass.new) sink.old sink.new console.old console.new tally.new
+    ensures served { HasServedEntries K.holds K.back K.faults K.wants operators (view pass.new) sink.old sink.new console.old console.new tally.new
         result }
 {
     let mut ended = [false; PLACES];

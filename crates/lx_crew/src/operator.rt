@@ -4,7 +4,7 @@ ghost use Rattle.std.specs.Prelude.{◌≡◌, ◌+◌, ◌<◌, ◌≤◌, ◌^
 ghost use Rattle.crossbeam_queue.specs.Passes.{view, IsPassOf, IsSamePass};
 ghost use Rattle.lx_lex.specs.Unread.{CanAdvance, SameSource};
 ghost use Rattle.lx_crew.specs.Rule.{operator_view};
-ghost use Rattle.lx_crew.specs.SentLines.{HasSent, TookNext};
+ghost use Rattle.lx_crew.specs.SentLines.{HasSentLines, TookNext};
 
 use crate::entry::{Entry, LineText, Sent};
 use crate::fault::OperatorFault;
@@ -34,7 +34,7 @@ pub struct Operator<'q, 'e, S> {
 impl<S: Source> Work for Operator<'_, '_, S> {
     ghost ready = { λ x. IsPassOf x.queue.now x.pass × (view x.pass ≡ operator_view x.place []) };
 
-    ghost done = { λ x y. IsSamePass x.pass y.pass × HasSent S.left S.faults x.place x.source y.source (view y.pass) y.fault };
+    ghost done = { λ x y. IsSamePass x.pass y.pass × HasSentLines S.left S.faults x.place x.source y.source (view y.pass) y.fault };
 
     fn run<R: Wait>(&mut self, rt: &R) {
         self.fault = send_lines(
@@ -60,7 +60,7 @@ fn send_lines<R: Wait, S: Source>(
     requires queue { IsPassOf queue.now pass.old }
     requires view { view pass.old ≡ operator_view place [] }
     ensures queue { IsSamePass pass.old pass.new }
-    ensures sent { HasSent S.left S.faults place source.old source.new (view pass.new) result }
+    ensures sent { HasSentLines S.left S.faults place source.old source.new (view pass.new) result }
 {
     let mut lines = Lines::new(source);
     for _ in rt.forever() {

@@ -1,6 +1,6 @@
 //! The rule of the queue, and what each of its steps tells.
 ghost use Rattle.std.specs.Prelude.{◌≡◌, ◌+◌, ◌++◌, ◌∷◌, [], ℕ, List};
-ghost use Rattle.lx_crew.specs.Rule.{Kept, Adds, Takes};
+ghost use Rattle.lx_crew.specs.Rule.{Learned, AddsEntry, Takes};
 
 use crate::entry::Entry;
 use crossbeam_queue::RuledArrayQueue;
@@ -60,7 +60,7 @@ impl Join<View> for Leaves {
 pub struct Sends;
 
 impl Outcome<Entry, View> for Sends {
-    ghost then = { Adds };
+    ghost then = { AddsEntry };
 }
 
 /// An entry is popped.
@@ -72,14 +72,14 @@ impl Outcome<Entry, View> for Gets {
 
 /// Where the queue is found empty, all that the operators pushed which were taken in was popped.
 impl Lesson<Entry, View> for Gets {
-    ghost fact = { Kept };
+    ghost fact = { Learned };
 }
 
 /// What each operator pushed that was taken in was popped, or is in the queue.
 pub struct Total;
 
 impl Lesson<Entry, View> for Total {
-    ghost fact = { Kept };
+    ghost fact = { Learned };
 }
 
 /// The queue.

@@ -8,9 +8,9 @@ ghost use Rattle.lx_spec.specs.Desk.{Desk};
 ghost use Rattle.lx_console.specs.ConsoleMeaning.{StandsFor};
 ghost use Rattle.lx_base.specs.declared.TheConstants.{OPERATORS};
 ghost use Rattle.lx_crew.specs.Rule.{engine_view};
-ghost use Rattle.lx_crew.specs.EngineAnswers.{HasServed, OutputCause};
+ghost use Rattle.lx_crew.specs.EngineAnswers.{HasServedEntries, OutputCause};
 ghost use Rattle.lx_crew.specs.CrewOutcome.{HasCrewed};
-ghost use Rattle.lx_crew.specs.OperatorWorks.{EachAt, HasRun, Hired, IsReady, Works, owned};
+ghost use Rattle.lx_crew.specs.OperatorWorks.{EachAt, HasRunOperator, Hired, HasSentNothing, Works, owned};
 
 use crate::engine::{Engine, PLACES};
 use crate::entry::Entry;
@@ -101,11 +101,11 @@ fn perform<'q, 'e, R: Threads + Wait + Sync, S: Source + Send, K: Sink + Send>(
     requires queue { IsPassOf queue.now pass.old }
     requires view { view pass.old ≡ engine_view (length works.old) [] [] }
     requires few { length works.old ≤ 4 }
-    requires ready { All IsReady works.old }
+    requires ready { All HasSentNothing works.old }
     ensures queue { IsSamePass pass.old pass.new }
-    ensures served { HasServed K.holds K.back K.faults K.wants (length works.old) (view pass.new) sink.old sink.new console.old console.new
+    ensures served { HasServedEntries K.holds K.back K.faults K.wants (length works.old) (view pass.new) sink.old sink.new console.old console.new
         result.0 result.1 }
-    ensures ran { AllZip (HasRun S.left S.faults) works.old works.new }
+    ensures ran { AllZip (HasRunOperator S.left S.faults) works.old works.new }
 {
     let mut engine = Engine {
         queue,

@@ -8,34 +8,34 @@ use Rattle.std.proofs.lemmas.Grind.{common_steps}
 use Rattle.std.proofs.lemmas.List.{get_or_default}
 use Rattle.lx_spec.proofs.Comparisons.{lt_false, lt_true}
 use Rattle.lx_fade.specs.Fades.{Fade, fade_at, stack_at, begun_by}
-use Rattle.lx_fade.specs.Row.{column, no_fade, stack_in}
+use Rattle.lx_fade.specs.Row.{stack_column, no_fade, stack_in}
 
 -- the newest fade of a column, and the others
 pub column_step : (block : List Fade) (channels k left : ℕ) → 0 < left
-    → column block channels k left ≡ get_or block ((left - 1) * channels + k) no_fade ∷ column block channels k (left - 1)
+    → stack_column block channels k left ≡ get_or block ((left - 1) * channels + k) no_fade ∷ stack_column block channels k (left - 1)
 column_step block channels k zero some = absurd (omega arith)
 column_step block channels k (suc j) some =
     let e : j ≡ suc j - 1 = omega arith in
-    ap (λ i. get_or block (i * channels + k) no_fade ∷ column block channels k i) e
+    ap (λ i. get_or block (i * channels + k) no_fade ∷ stack_column block channels k i) e
 
-pub length-column : (block : List Fade) (channels k n : ℕ) → length (column block channels k n) ≡ n
-length-column block channels k zero = refl
-length-column block channels k (suc n) = ap suc (length-column block channels k n)
+pub length-stack_column : (block : List Fade) (channels k n : ℕ) → length (stack_column block channels k n) ≡ n
+length-stack_column block channels k zero = refl
+length-stack_column block channels k (suc n) = ap suc (length-stack_column block channels k n)
 
 -- without the newest
-pub drop-column : (block : List Fade) (channels k n m : ℕ) → m ≤ n → drop (n - m) (column block channels k n) ≡ column block channels k m
-drop-column block channels k zero m le =
+pub drop-stack_column : (block : List Fade) (channels k n m : ℕ) → m ≤ n → drop (n - m) (stack_column block channels k n) ≡ stack_column block channels k m
+drop-stack_column block channels k zero m le =
     let e : m ≡ 0 = omega arith in
     let d : zero - m ≡ 0 = omega arith in
-    ap (λ i. drop i (column block channels k zero)) d ∙ ap (column block channels k) (sym e)
-drop-column block channels k (suc n) m le =
+    ap (λ i. drop i (stack_column block channels k zero)) d ∙ ap (stack_column block channels k) (sym e)
+drop-stack_column block channels k (suc n) m le =
     elim (cases_eq m (suc n)) [
       | inl same ↦
           let d : suc n - m ≡ 0 = omega (arith, same) in
-          ap (λ i. drop i (column block channels k (suc n))) d ∙ ap (column block channels k) (sym same)
+          ap (λ i. drop i (stack_column block channels k (suc n))) d ∙ ap (stack_column block channels k) (sym same)
       | inr other ↦
           let d : suc n - m ≡ suc (n - m) = omega (arith, other) in
-          ap (λ i. drop i (column block channels k (suc n))) d ∙ drop-column block channels k n m (omega (arith, other))
+          ap (λ i. drop i (stack_column block channels k (suc n))) d ∙ drop-stack_column block channels k n m (omega (arith, other))
     ]
 
 -- the newest fade of a column has begun, or waits
@@ -53,24 +53,24 @@ left_head s fade older waits = rw (lt_true s fade.start waits) refl
 
 module _ (block : List Fade) (channels k left : ℕ) (fade : Fade) (some : 0 < left)
     (is : fade ≡ get_or block ((left - 1) * channels + k) no_fade) where
-  newest : column block channels k left ≡ fade ∷ column block channels k (left - 1)
-  newest = column_step block channels k left some ∙ ap (λ f. f ∷ column block channels k (left - 1)) (sym is)
+  newest : stack_column block channels k left ≡ fade ∷ stack_column block channels k (left - 1)
+  newest = column_step block channels k left some ∙ ap (λ f. f ∷ stack_column block channels k (left - 1)) (sym is)
 
-  pub newest_begun : (bottom m : ℕ) → fade.start ≤ m → stack_at bottom (column block channels k left) m ≡ fade_at fade m
+  pub newest_begun : (bottom m : ℕ) → fade.start ≤ m → stack_at bottom (stack_column block channels k left) m ≡ fade_at fade m
   newest_begun bottom m begun = ap (λ (fs : List Fade). stack_at bottom fs m) newest
-      ∙ begun_head bottom m fade (column block channels k (left - 1)) begun
+      ∙ begun_head bottom m fade (stack_column block channels k (left - 1)) begun
 
   pub newest_waits : (bottom m : ℕ) → m < fade.start
-      → stack_at bottom (column block channels k left) m ≡ stack_at bottom (column block channels k (left - 1)) m
+      → stack_at bottom (stack_column block channels k left) m ≡ stack_at bottom (stack_column block channels k (left - 1)) m
   newest_waits bottom m waits = ap (λ (fs : List Fade). stack_at bottom fs m) newest
-      ∙ waits_head bottom m fade (column block channels k (left - 1)) waits
+      ∙ waits_head bottom m fade (stack_column block channels k (left - 1)) waits
 
-  pub newest_kept : (s : ℕ) → fade.start ≤ s → begun_by s (column block channels k left) ≡ column block channels k left
-  newest_kept s begun = ap (begun_by s) newest ∙ kept_head s fade (column block channels k (left - 1)) begun ∙ sym newest
+  pub newest_kept : (s : ℕ) → fade.start ≤ s → begun_by s (stack_column block channels k left) ≡ stack_column block channels k left
+  newest_kept s begun = ap (begun_by s) newest ∙ kept_head s fade (stack_column block channels k (left - 1)) begun ∙ sym newest
 
   pub newest_left : (s : ℕ) → s < fade.start
-      → begun_by s (column block channels k left) ≡ begun_by s (column block channels k (left - 1))
-  newest_left s waits = ap (begun_by s) newest ∙ left_head s fade (column block channels k (left - 1)) waits
+      → begun_by s (stack_column block channels k left) ≡ begun_by s (stack_column block channels k (left - 1))
+  newest_left s waits = ap (begun_by s) newest ∙ left_head s fade (stack_column block channels k (left - 1)) waits
 
 -- what is read in a column stands in the block
 pub in_block : (channels k count left : ℕ) (block : List Fade) → k < channels → count * channels ≤ length block → left ≤ count → 0 < left
@@ -87,10 +87,10 @@ read_is channels k count left block fade within reach most some is =
 reverse-end : (xs : List Fade) (fade : Fade) → reverse (xs ++ fade ∷ []) ≡ fade ∷ reverse xs
 reverse-end xs fade = grind (arith, common_steps)
 
-pub column_whole : (row : List Fade) (used : ℕ) → used ≤ length row → column row 1 0 used ≡ stack_in row used
+pub column_whole : (row : List Fade) (used : ℕ) → used ≤ length row → stack_column row 1 0 used ≡ stack_in row used
 column_whole row zero le = refl
 column_whole row (suc n) le =
     let place : n * 1 + 0 ≡ n = omega arith in
-    ap (λ i. get_or row i no_fade ∷ column row 1 0 n) place
+    ap (λ i. get_or row i no_fade ∷ stack_column row 1 0 n) place
     ∙ ap (λ (fs : List Fade). get_or row n no_fade ∷ fs) (column_whole row n (omega arith))
     ∙ sym (ap reverse (take-suc row n no_fade (omega arith)) ∙ reverse-end (take n row) (get_or row n no_fade))

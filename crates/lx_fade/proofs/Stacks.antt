@@ -4,7 +4,7 @@ use Rattle.std.specs.List.{AllByRecursion}
 use Rattle.std.proofs.Common.{arith, ◌∙◌, ap, sym}
 use Rattle.std.proofs.lemmas.Bool.Decides.{nat_tests}
 use Rattle.lx_fade.specs.Fades.{Fade, begun_by, pushed, StartsFall}
-use Rattle.lx_fade.specs.Row.{column, stack_in}
+use Rattle.lx_fade.specs.Row.{stack_column, stack_in}
 use Rattle.lx_fade.proofs.Rows.{column_whole}
 use Rattle.std.proofs.lemmas.Grind.{common_steps}
 
@@ -41,7 +41,7 @@ StartsFall-pushed bottom stack s time target h = falls s stack h
 
 -- written in a row after those that stay it makes the pushed stack
 pub stack_in-pushed : (row : List Fade) (used kept bottom start time target : ℕ) (fade : Fade) → used < length row → kept ≤ used
-    → fade ∷ column row 1 0 kept ≡ pushed bottom (column row 1 0 used) start time target
+    → fade ∷ stack_column row 1 0 kept ≡ pushed bottom (stack_column row 1 0 used) start time target
     → stack_in (slice_set row kept fade) (kept + 1) ≡ pushed bottom (stack_in row used) start time target
 stack_in-pushed row used kept bottom start time target fade room le is =
     stack_in-written row kept fade (omega arith)

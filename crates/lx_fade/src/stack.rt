@@ -4,7 +4,7 @@ ghost use Rattle.std.specs.Prelude.{◌≡◌, ℕ, ◌+◌, ◌-◌, ◌*◌, �
 ghost use Rattle.lx_base.specs.declared.TheConstants.{TIME_MAX};
 ghost use Rattle.lx_spec.specs.Level.{fade_over};
 ghost use Rattle.lx_fade.specs.Fades.{stack_at, begun_by, pushed, StartsFall};
-ghost use Rattle.lx_fade.specs.Row.{column, no_fade, stack_in};
+ghost use Rattle.lx_fade.specs.Row.{stack_column, no_fade, stack_in};
 
 use crate::fade::{Fade, value_at};
 use lx_base::{Cs, Level, Moment};
@@ -73,7 +73,7 @@ pub fn push_fade(
 pub fn value_in(row: &[Fade], at: Column, bottom: Level, m: Moment) -> Level
     requires within { at.first < at.step }
     requires reach { at.used * at.step ≤ length row.now }
-    ensures { result ≡ stack_at bottom (column row.now at.step at.first at.used) m }
+    ensures { result ≡ stack_at bottom (stack_column row.now at.step at.first at.used) m }
 {
     let kept = begun_in(row, at, m);
     newest_at(row, at, kept, bottom, m)
@@ -95,8 +95,8 @@ pub fn push_in(
     requires time { time ≤ TIME_MAX }
     ensures kept { result.kept ≤ at.used }
     ensures start { result.fade.start ≡ start }
-    ensures stack { result.fade ∷ column row.now at.step at.first result.kept
-        ≡ pushed bottom (column row.now at.step at.first at.used) start time target }
+    ensures stack { result.fade ∷ stack_column row.now at.step at.first result.kept
+        ≡ pushed bottom (stack_column row.now at.step at.first at.used) start time target }
 {
     let kept = begun_in(row, at, start);
     let from = newest_at(row, at, kept, bottom, start);
@@ -117,7 +117,7 @@ fn begun_in(row: &[Fade], at: Column, m: Moment) -> usize
     requires within { at.first < at.step }
     requires reach { at.used * at.step ≤ length row.now }
     ensures count { result ≤ at.used }
-    ensures stack { column row.now at.step at.first result ≡ begun_by m (column row.now at.step at.first at.used) }
+    ensures stack { stack_column row.now at.step at.first result ≡ begun_by m (stack_column row.now at.step at.first at.used) }
     ensures begun { 0 < result → (slice_index_or row.now ((result - 1) * at.step + at.first) no_fade).start ≤ m }
 {
     let mut kept = at.used;
@@ -138,7 +138,7 @@ fn newest_at(row: &[Fade], at: Column, kept: usize, bottom: Level, m: Moment) ->
     requires kept { kept ≤ at.used }
     requires reach { at.used * at.step ≤ length row.now }
     requires begun { 0 < kept → (slice_index_or row.now ((kept - 1) * at.step + at.first) no_fade).start ≤ m }
-    ensures { result ≡ stack_at bottom (column row.now at.step at.first kept) m }
+    ensures { result ≡ stack_at bottom (stack_column row.now at.step at.first kept) m }
 {
     if kept == 0 {
         return bottom;

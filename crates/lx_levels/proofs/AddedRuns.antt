@@ -12,15 +12,15 @@ use Rattle.lx_spec.specs.Playback.{Playback}
 use Rattle.lx_spec.proofs.Rest.{same_run}
 use Rattle.lx_levels.proofs.Stands.{same_stack}
 use Rattle.lx_levels.proofs.HiddenRuns.{level_acted, level_passed}
-use Rattle.lx_levels.specs.Stacks.{Kept, level_in, stack_of}
+use Rattle.lx_levels.specs.Stacks.{KeptLevels, stack_level, kept_stack}
 use Rattle.lx_levels.specs.CurrentFades.{IsStill}
-use Rattle.lx_levels.specs.LevelsMeaning.{StandsAt, StandsBefore, IsElsewhere, IsAdded}
+use Rattle.lx_levels.specs.LevelsMeaning.{StackStandsAt, StandsBefore, IsElsewhere, IsAdded}
 
 heads : {A : Type 0} (x y : A) (xs ys : List A) → x ∷ xs ≡ y ∷ ys → x ≡ y
 heads x y xs ys same = cc
 
 -- the run that starts now is the last one
-pub starts_now : (show : Show) (p : Playback) (kept : Kept) (last : Run) (older : List Run) → StandsBefore show p kept
+pub starts_now : (show : Show) (p : Playback) (kept : KeptLevels) (last : Run) (older : List Run) → StandsBefore show p kept
     → p.live ≡ last ∷ older → last.start ≡ p.moment
 starts_now show p kept last older before is =
     ap (λ (r : Run). r.start) (heads last before.last older before.older (sym is ∙ before.live_is)) ∙ before.now
@@ -35,56 +35,56 @@ level_added show p last older c x is acts_on =
     ap (λ (runs : List Run). level show p.base runs c x) is ∙ level_acted show p.base last older c x acts_on
 
 -- one channel more stands, and the others are left
-one_more : (show : Show) (p : Playback) (older : List Run) (k : ℕ) (kept : Kept) → StandsAt show p kept k → IsAdded show p older k kept
+one_more : (show : Show) (p : Playback) (older : List Run) (k : ℕ) (kept : KeptLevels) → StackStandsAt show p kept k → IsAdded show p older k kept
     → IsAdded show p older (k + 1) kept
 one_more show p older k kept here added = record {
   moment = added.moment;
   reach = added.reach;
   done = λ i below. elim (cases_eq i k) [
-    | inl same ↦ subst (StandsAt show p kept) (sym same) here
+    | inl same ↦ subst (StackStandsAt show p kept) (sym same) here
     | inr other ↦ added.done i (omega (arith, other))
   ];
   left = λ i past in_show. added.left i (omega arith) in_show;
 }
 
 -- the channel at the next place, where the run acts on it
-pub next_added : (show : Show) (p : Playback) (last : Run) (older : List Run) (k : ℕ) (before after : Kept)
+pub next_added : (show : Show) (p : Playback) (last : Run) (older : List Run) (k : ℕ) (before after : KeptLevels)
     → p.live ≡ last ∷ older → last.start ≡ p.moment → acts show (last_cue p.base older) last (k + 1) ≡ true → k < show.channels
-    → ((x : ℕ) → p.moment ≤ x → level_in (stack_of after k) x ≡ run_over show (level_in (stack_of before k)) last (k + 1) x)
-    → length (stack_of after k).fades ≤ length (stack_of before k).fades + 1
+    → ((x : ℕ) → p.moment ≤ x → stack_level (kept_stack after k) x ≡ run_over show (stack_level (kept_stack before k)) last (k + 1) x)
+    → length (kept_stack after k).fades ≤ length (kept_stack before k).fades + 1
     → IsElsewhere k before after → IsAdded show p older k before → IsAdded show p older (k + 1) after
 next_added show p last older k before after is starts acts_on within gives few elsewhere added = record {
   moment = elsewhere.moment ∙ added.moment;
   reach = elsewhere.reach ∙ added.reach;
   done = λ i below. elim (cases_eq i k) [
-    | inl same ↦ subst (StandsAt show p after) (sym same) here
+    | inl same ↦ subst (StackStandsAt show p after) (sym same) here
     | inr other ↦ same_stack show p i before after (elsewhere.others i other) (added.done i (omega (arith, other)))
   ];
   left = λ i past in_show. same_stack show (record p { live = older }) i before after
       (elsewhere.others i (λ same. absurd (omega (arith, same, past)))) (added.left i (omega arith) in_show);
 } where
-  old : StandsAt show (record p { live = older }) before k
+  old : StackStandsAt show (record p { live = older }) before k
   old = added.left k (omega arith) within
 
-  here : StandsAt show p after k
+  here : StackStandsAt show p after k
   here = record {
     later = λ x from.
         gives x from
-        ∙ same_run show (level_in (stack_of before k)) (level show p.base older (k + 1)) last (k + 1) p.moment x old.later
+        ∙ same_run show (stack_level (kept_stack before k)) (level show p.base older (k + 1)) last (k + 1) p.moment x old.later
         (omega (arith, starts)) from
         ∙ sym (level_added show p last older (k + 1) x is acts_on);
     few = omega (arith, few, old.few, live_count p last older is);
   }
 
 -- and where it doesn't
-pub next_passed : (show : Show) (p : Playback) (last : Run) (older : List Run) (k : ℕ) (kept : Kept)
+pub next_passed : (show : Show) (p : Playback) (last : Run) (older : List Run) (k : ℕ) (kept : KeptLevels)
     → p.live ≡ last ∷ older → acts show (last_cue p.base older) last (k + 1) ≡ false → k < show.channels → IsAdded show p older k kept
     → IsAdded show p older (k + 1) kept
 next_passed show p last older k kept is not_on within added = one_more show p older k kept here added where
-  old : StandsAt show (record p { live = older }) kept k
+  old : StackStandsAt show (record p { live = older }) kept k
   old = added.left k (omega arith) within
 
-  here : StandsAt show p kept k
+  here : StackStandsAt show p kept k
   here = record {
     later = λ x from. old.later x from
         ∙ sym (ap (λ (runs : List Run). level show p.base runs (k + 1) x) is ∙ level_passed show p.base last older (k + 1) x not_on);
@@ -123,18 +123,18 @@ run_nowhere show before run c from x v still starts late target = over (rises_to
             ∙ faded_nowhere v (x - (run.start + delay_of show run c b)) (time_of show run c b)
       ]
 
-pub still_added : (show : Show) (p : Playback) (last : Run) (older : List Run) (k v : ℕ) (kept : Kept)
+pub still_added : (show : Show) (p : Playback) (last : Run) (older : List Run) (k v : ℕ) (kept : KeptLevels)
     → p.live ≡ last ∷ older → last.start ≡ p.moment → k < show.channels → tracked show last.cue (k + 1) ≡ v
-    → IsStill p.moment (stack_of kept k) v
+    → IsStill p.moment (kept_stack kept k) v
     → IsAdded show p older k kept → IsAdded show p older (k + 1) kept
 still_added show p last older k v kept is starts within target still added = one_more show p older k kept here added where
-  old : StandsAt show (record p { live = older }) kept k
+  old : StackStandsAt show (record p { live = older }) kept k
   old = added.left k (omega arith) within
 
   level_stays : (x : ℕ) → p.moment ≤ x → level show p.base older (k + 1) x ≡ v
   level_stays x from = sym (old.later x from) ∙ still x from
 
-  here : StandsAt show p kept k
+  here : StackStandsAt show p kept k
   here = record {
     later = λ x from.
         still x from
@@ -149,10 +149,10 @@ still_added show p last older k v kept is starts within target still added = one
   }
 
 -- and so do many in a row
-pub still_up_to : (show : Show) (p : Playback) (last : Run) (older : List Run) (k n : ℕ) (v : ℕ → ℕ) (kept : Kept)
+pub still_up_to : (show : Show) (p : Playback) (last : Run) (older : List Run) (k n : ℕ) (v : ℕ → ℕ) (kept : KeptLevels)
     → p.live ≡ last ∷ older → last.start ≡ p.moment → k + n ≤ show.channels
     → ((i : ℕ) → k ≤ i → i < k + n → tracked show last.cue (i + 1) ≡ v i)
-    → ((i : ℕ) → k ≤ i → i < k + n → IsStill p.moment (stack_of kept i) (v i))
+    → ((i : ℕ) → k ≤ i → i < k + n → IsStill p.moment (kept_stack kept i) (v i))
     → IsAdded show p older k kept → IsAdded show p older (k + n) kept
 still_up_to show p last older k zero v kept is starts within targets still added = subst (λ i. IsAdded show p older i kept) here added
   where
@@ -167,17 +167,17 @@ still_up_to show p last older k (suc n) v kept is starts within targets still ad
     next : k + n + 1 ≡ k + suc n
     next = omega arith
 
-Given : (show : Show) (before after : Kept) (from place c : ℕ) (run : Run) → Type 0
+Given : (show : Show) (before after : KeptLevels) (from place c : ℕ) (run : Run) → Type 0
 Given show before after from place c run =
-    ((x : ℕ) → from ≤ x → level_in (stack_of after place) x ≡ run_over show (level_in (stack_of before place)) run c x)
-    × (length (stack_of after place).fades ≤ length (stack_of before place).fades + 1) × IsElsewhere place before after
+    ((x : ℕ) → from ≤ x → stack_level (kept_stack after place) x ≡ run_over show (stack_level (kept_stack before place)) run c x)
+    × (length (kept_stack after place).fades ≤ length (kept_stack before place).fades + 1) × IsElsewhere place before after
 
 -- the same of a run and a channel that are named otherwise
-pub channel_added : (show : Show) (p : Playback) (last run : Run) (older : List Run) (k c : ℕ) (before after : Kept)
+pub channel_added : (show : Show) (p : Playback) (last run : Run) (older : List Run) (k c : ℕ) (before after : KeptLevels)
     → p.live ≡ last ∷ older → last.start ≡ p.moment → c ≡ k + 1 → run ≡ last → acts show (last_cue p.base older) run c ≡ true
     → k < show.channels
-    → ((x : ℕ) → p.moment ≤ x → level_in (stack_of after (c - 1)) x ≡ run_over show (level_in (stack_of before (c - 1))) run c x)
-    → length (stack_of after (c - 1)).fades ≤ length (stack_of before (c - 1)).fades + 1
+    → ((x : ℕ) → p.moment ≤ x → stack_level (kept_stack after (c - 1)) x ≡ run_over show (stack_level (kept_stack before (c - 1))) run c x)
+    → length (kept_stack after (c - 1)).fades ≤ length (kept_stack before (c - 1)).fades + 1
     → IsElsewhere (c - 1) before after → IsAdded show p older k before → IsAdded show p older (k + 1) after
 unfolding Given
 channel_added show p last run older k c before after is starts c_is run_is acts_on within gives few elsewhere added =
@@ -189,7 +189,7 @@ channel_added show p last run older k c before after is starts c_is run_is acts_
     next_added show p last older k before after is starts
     (subst (λ (r : Run). acts show (last_cue p.base older) r (k + 1) ≡ true) run_is acts_here) within at_run.0 at_run.1 at_run.2 added
 
-pub channel_passed : (show : Show) (p : Playback) (last run : Run) (older : List Run) (k c : ℕ) (kept : Kept)
+pub channel_passed : (show : Show) (p : Playback) (last run : Run) (older : List Run) (k c : ℕ) (kept : KeptLevels)
     → p.live ≡ last ∷ older → c ≡ k + 1 → run ≡ last → acts show (last_cue p.base older) run c ≡ false → k < show.channels
     → IsAdded show p older k kept → IsAdded show p older (k + 1) kept
 channel_passed show p last run older k c kept is c_is run_is not_on within added =

@@ -9,36 +9,36 @@ use Rattle.std.proofs.lemmas.List.{get_or-set_other, get_or_read, same_lists, ge
 use Rattle.std.proofs.lemmas.List.{set-set}
 use Rattle.std.proofs.lemmas.List.FromFn.{length-map-range_with_len, get_or-map-range_with_len}
 use Rattle.lx_fade.specs.Fades.{Fade, stack_at, pushed}
-use Rattle.lx_fade.specs.Row.{column, no_fade}
-use Rattle.lx_fade.proofs.Rows.{drop-column, in_block}
+use Rattle.lx_fade.specs.Row.{stack_column, no_fade}
+use Rattle.lx_fade.proofs.Rows.{drop-stack_column, in_block}
 use Rattle.lx_fade.proofs.PushedFades.{stack_at-pushed}
 use Rattle.lx_spec.specs.Level.{fade_over}
 use Rattle.lx_fade.specs.declared.held.TheConstants.{NEVER}
 use Rattle.lx_sheet.proofs.Cells.{places_apart}
 use Rattle.lx_levels.specs.declared.racks.Racks.TheInside.{Inside}
-use Rattle.lx_levels.specs.Stacks.{Stack, level_in, no_stack}
+use Rattle.lx_levels.specs.Stacks.{Stack, stack_level, no_stack}
 use Rattle.lx_levels.specs.Columns.{IsLaidOut, stack_at_place, stacks_of}
 
-pub length-column : (block : List Fade) (channels k n : ℕ) → length (column block channels k n) ≡ n
-length-column block channels k zero = refl
-length-column block channels k (suc n) = ap suc (length-column block channels k n)
+pub length-stack_column : (block : List Fade) (channels k n : ℕ) → length (stack_column block channels k n) ≡ n
+length-stack_column block channels k zero = refl
+length-stack_column block channels k (suc n) = ap suc (length-stack_column block channels k n)
 
 -- of two blocks that agree at its places
 pub column_same : (new old : List Fade) (channels k n : ℕ)
     → ((j : ℕ) → j < n → get_or new (j * channels + k) no_fade ≡ get_or old (j * channels + k) no_fade)
-    → column new channels k n ≡ column old channels k n
+    → stack_column new channels k n ≡ stack_column old channels k n
 column_same new old channels k zero same = refl
 column_same new old channels k (suc n) same =
-    ap (λ f. f ∷ column new channels k n) (same n (omega arith))
+    ap (λ f. f ∷ stack_column new channels k n) (same n (omega arith))
     ∙ ap (λ (fs : List Fade). get_or old (n * channels + k) no_fade ∷ fs) (column_same new old channels k n (λ j less. same j
     (omega arith)))
 
 -- a fade written at the head of a column, in a block whose entries are those of the one before
 module _ (old grown : List Fade) (channels k kept : ℕ) (fade : Fade) (within : k < channels)
     (same : (i : ℕ) → get_or grown i no_fade ≡ get_or old i no_fade) (room : kept * channels + k < length grown) where
-  pub written_here : column (set grown (kept * channels + k) fade) channels k (suc kept) ≡ fade ∷ column old channels k kept
+  pub written_here : stack_column (set grown (kept * channels + k) fade) channels k (suc kept) ≡ fade ∷ stack_column old channels k kept
   written_here =
-      ap (λ f. f ∷ column (set grown (kept * channels + k) fade) channels k kept)
+      ap (λ f. f ∷ stack_column (set grown (kept * channels + k) fade) channels k kept)
       (get_or-set_at grown (kept * channels + k) (kept * channels + k) fade no_fade refl room)
       ∙ ap (λ (fs : List Fade). fade ∷ fs) (column_same (set grown (kept * channels + k) fade) old channels k kept
       (λ j less. get_or-set_other grown (kept * channels + k) (j * channels + k) fade no_fade
@@ -46,7 +46,7 @@ module _ (old grown : List Fade) (channels k kept : ℕ) (fade : Fade) (within :
       ∙ same (j * channels + k)))
 
   pub written_other : (i n : ℕ) → i < channels → i ≢ k
-      → column (set grown (kept * channels + k) fade) channels i n ≡ column old channels i n
+      → stack_column (set grown (kept * channels + k) fade) channels i n ≡ stack_column old channels i n
   written_other i n less other = column_same (set grown (kept * channels + k) fade) old channels i n
       (λ j below. get_or-set_other grown (kept * channels + k) (j * channels + i) fade no_fade
       (λ e. let both = places_apart channels j kept i k less within e in other both.1)
@@ -108,20 +108,20 @@ place_within r racks k is within =
 pub stack_read : (r : Inside) (lent : List Fade) (racks : List Stack) (k bottom count : ℕ)
     → stacks_of r.channels r.bottoms.items r.counts.items r.fades.items ≡ racks → k < r.channels → bottom ≡ get_or r.bottoms.items k 0
     → count ≡ get_or r.counts.items k 0 → lent ≡ r.fades.items
-    → get_or racks k no_stack ≡ record { bottom = bottom; fades = column lent r.channels k count }
+    → get_or racks k no_stack ≡ record { bottom = bottom; fades = stack_column lent r.channels k count }
 stack_read r lent racks k bottom count is within bottom_is count_is same =
     ap (λ (ss : List Stack). get_or ss k no_stack) (sym is)
     ∙ stack_is r.channels r.bottoms.items r.counts.items r.fades.items k within
-    ∙ ap (λ b. record { bottom = b; fades = column r.fades.items r.channels k (get_or r.counts.items k 0) }) (sym bottom_is)
-    ∙ ap (λ n. record { bottom = bottom; fades = column r.fades.items r.channels k n }) (sym count_is)
-    ∙ ap (λ (bs : List Fade). record { bottom = bottom; fades = column bs r.channels k count }) (sym same)
+    ∙ ap (λ b. record { bottom = b; fades = stack_column r.fades.items r.channels k (get_or r.counts.items k 0) }) (sym bottom_is)
+    ∙ ap (λ n. record { bottom = bottom; fades = stack_column r.fades.items r.channels k n }) (sym count_is)
+    ∙ ap (λ (bs : List Fade). record { bottom = bottom; fades = stack_column bs r.channels k count }) (sym same)
 
 -- by what was read of the level below its fades and of their count
 pub stack_there : (r : Inside) (room : ℕ) (lent : List Fade) (racks : List Stack) (k bottom count : ℕ)
     → stacks_of r.channels r.bottoms.items r.counts.items r.fades.items ≡ racks
     → IsLaidOut r.channels r.bottoms.items r.counts.items r.fades.items room → k < length racks
     → bottom ≡ get_or r.bottoms.items k bottom → count ≡ get_or r.counts.items k count → lent ≡ r.fades.items
-    → get_or racks k no_stack ≡ record { bottom = bottom; fades = column lent r.channels k count }
+    → get_or racks k no_stack ≡ record { bottom = bottom; fades = stack_column lent r.channels k count }
 stack_there r room lent racks k bottom count is laid within bottom_is count_is same =
     let place : k < r.channels = place_within r racks k is within in
     stack_read r lent racks k bottom count is place
@@ -139,9 +139,9 @@ reach_there r room lent racks k count is laid within count_is same =
     (omega (arith, laid.reach k place, ap length same))
 
 pub kept_there : (channels k bottom count kept : ℕ) (lent : List Fade) (stack : Stack)
-    → stack ≡ record { bottom = bottom; fades = column lent channels k count } → kept ≤ count → kept ≤ length stack.fades
+    → stack ≡ record { bottom = bottom; fades = stack_column lent channels k count } → kept ≤ count → kept ≤ length stack.fades
 kept_there channels k bottom count kept lent stack is le =
-    omega (arith, le, ap (λ (s : Stack). length s.fades) is, length-column lent channels k count)
+    omega (arith, le, ap (λ (s : Stack). length s.fades) is, length-stack_column lent channels k count)
 
 -- none of the channels has a fade, over level 0
 pub opened_empty : (channels : ℕ) (bottoms counts : List ℕ) (block : List Fade) → bottoms ≡ replicate channels 0
@@ -150,7 +150,7 @@ opened_empty channels bottoms counts block dark none k =
     elim (cases_lt k channels) [
       | inl within ↦
           stack_is channels bottoms counts block k within
-          ∙ ap (λ n. record { bottom = get_or bottoms k 0; fades = column block channels k n })
+          ∙ ap (λ n. record { bottom = get_or bottoms k 0; fades = stack_column block channels k n })
           (ap (λ (ns : List ℕ). get_or ns k 0) none ∙ get_or-replicate {A = ℕ} channels k 0 0 within)
           ∙ ap (λ b. record { bottom = b; fades = [] })
           (ap (λ (bs : List ℕ). get_or bs k 0) dark ∙ get_or-replicate {A = ℕ} channels k 0 0 within)
@@ -168,13 +168,13 @@ set_is_there old new k stack within is =
 
 -- a pushed fade gives the level of one over the stack
 pub pushed_here : (block : List Fade) (channels k count kept bottom s time target : ℕ) (fade : Fade) (stack : Stack)
-    → stack ≡ record { bottom = bottom; fades = column block channels k count } → kept ≤ count
-    → fade ∷ column block channels k kept ≡ pushed bottom (column block channels k count) s time target
+    → stack ≡ record { bottom = bottom; fades = stack_column block channels k count } → kept ≤ count
+    → fade ∷ stack_column block channels k kept ≡ pushed bottom (stack_column block channels k count) s time target
     → fade ∷ drop (length stack.fades - kept) stack.fades ≡ pushed stack.bottom stack.fades s time target
 pushed_here block channels k count kept bottom s time target fade stack is le put =
-    let fades : List Fade = column block channels k count in
-    let stays : drop (length fades - kept) fades ≡ column block channels k kept =
-    ap (λ n. drop (n - kept) fades) (length-column block channels k count) ∙ drop-column block channels k count kept le in
+    let fades : List Fade = stack_column block channels k count in
+    let stays : drop (length fades - kept) fades ≡ stack_column block channels k kept =
+    ap (λ n. drop (n - kept) fades) (length-stack_column block channels k count) ∙ drop-stack_column block channels k count kept le in
     subst (λ (st : Stack). fade ∷ drop (length st.fades - kept) st.fades ≡ pushed st.bottom st.fades s time target) (sym is)
     (ap (λ (fs : List Fade). fade ∷ fs) stays ∙ put)
 
@@ -184,10 +184,10 @@ pub pushed_level : (old new : List Stack) (k kept s time target m : ℕ) (fade :
     })
     → fade ∷ drop (length (get_or old k no_stack).fades - kept) (get_or old k no_stack).fades
     ≡ pushed (get_or old k no_stack).bottom (get_or old k no_stack).fades s time target
-    → level_in (get_or new k no_stack) m ≡ fade_over (level_in (get_or old k no_stack)) s time target m
+    → stack_level (get_or new k no_stack) m ≡ fade_over (stack_level (get_or old k no_stack)) s time target m
 pushed_level old new k kept s time target m fade within is pushed_is =
     let was : Stack = get_or old k no_stack in
-    ap (λ (stack : Stack). level_in stack m) (set_is_there old new k _ within is).0
+    ap (λ (stack : Stack). stack_level stack m) (set_is_there old new k _ within is).0
     ∙ ap (λ (fs : List Fade). stack_at was.bottom fs m) pushed_is ∙ stack_at-pushed was.bottom was.fades s time target m
 
 length-put : (kept : ℕ) (fade : Fade) (fades : List Fade) → kept ≤ length fades → length (fade ∷ drop

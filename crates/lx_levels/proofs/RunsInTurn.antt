@@ -12,7 +12,7 @@ use Rattle.lx_spec.specs.TrackedLevel.{tracked}
 use Rattle.lx_spec.specs.Run.{Run, acts, entry_for, entry_extent}
 use Rattle.lx_spec.specs.Level.{level, last_cue}
 use Rattle.lx_playback.specs.Valid.{OldestFirst}
-use Rattle.lx_levels.specs.Stacks.{Stack, level_in}
+use Rattle.lx_levels.specs.Stacks.{Stack, stack_level}
 use Rattle.lx_levels.specs.TimedFades.{timed_over}
 use Rattle.lx_levels.specs.declared.replay.Act.{Act}
 use Rattle.lx_levels.specs.RunsInTurn.{IsReplayed, IsKnown, AreKnown, EachAct}
@@ -99,7 +99,7 @@ module _ (show : Show) (base : ℕ) (live : List Run) (c from i : ℕ) (run : Ru
 
   pub replayed_on : (known : List (Option Act)) (stack after : Stack) (a : Act) → OldestFirst live → All (λ r. r.start ≤ from) live
       → AreKnown show base live c i known → get_or known i None ≡ Some a → IsReplayed show base live c from i known stack
-      → ((m : ℕ) → a.start ≤ m → level_in after m ≡ timed_over a.entry (level_in stack) a.start a.target m)
+      → ((m : ℕ) → a.start ≤ m → stack_level after m ≡ timed_over a.entry (stack_level stack) a.start a.target m)
       → IsReplayed show base live c from (i + 1) known after
   replayed_on known stack after a order started all act_is so_far pushed =
       let here : IsKnown show (last_cue base older) run c (Some a) =
@@ -110,10 +110,10 @@ module _ (show : Show) (base : ℕ) (live : List Run) (c from i : ℕ) (run : Ru
       record {
         since = run.start;
         gives = λ m late. pushed m (omega (arith, here.start, late))
-            ∙ ap (λ e. timed_over e (level_in stack) a.start a.target m) here.entry
-            ∙ ap (λ s. timed_over (entry_for show run c) (level_in stack) s a.target m) here.start
-            ∙ ap (λ t. timed_over (entry_for show run c) (level_in stack) run.start t m) here.target
-            ∙ level_pushed show base run older c so_far.since m (level_in stack) here.on so_far.gives (omega (arith, first, here.start))
+            ∙ ap (λ e. timed_over e (stack_level stack) a.start a.target m) here.entry
+            ∙ ap (λ s. timed_over (entry_for show run c) (stack_level stack) s a.target m) here.start
+            ∙ ap (λ t. timed_over (entry_for show run c) (stack_level stack) run.start t m) here.target
+            ∙ level_pushed show base run older c so_far.since m (stack_level stack) here.on so_far.gives (omega (arith, first, here.start))
             (omega (arith, first, here.start, late))
             ∙ ap (λ (runs : List Run). level show base runs c m) (sym more);
         later = later_than known order (λ j d least below. all j d (omega (arith, least)) below);

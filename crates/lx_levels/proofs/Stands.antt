@@ -5,16 +5,16 @@ use Rattle.lx_spec.specs.Show.{Show}
 use Rattle.lx_spec.specs.Run.{Run}
 use Rattle.lx_spec.specs.Level.{level}
 use Rattle.lx_spec.specs.Playback.{Playback}
-use Rattle.lx_levels.specs.Stacks.{Kept, Stack, level_in, level_at, stack_of}
-use Rattle.lx_levels.specs.LevelsMeaning.{LevelsStandFor, StandsAt}
+use Rattle.lx_levels.specs.Stacks.{KeptLevels, Stack, stack_level, level_at, kept_stack}
+use Rattle.lx_levels.specs.LevelsMeaning.{LevelsStandFor, StackStandsAt}
 
 -- the kept level is that of the definition
-pub kept_level : (show : Show) (p : Playback) (kept : Kept) (k : ℕ) → LevelsStandFor show p kept → k < show.channels
+pub kept_level : (show : Show) (p : Playback) (kept : KeptLevels) (k : ℕ) → LevelsStandFor show p kept → k < show.channels
     → level_at kept k ≡ level show p.base p.live (k + 1) p.moment
-kept_level show p kept k stands within = ap (level_in (stack_of kept k)) stands.moment ∙ (stands.each k within).later p.moment (omega arith)
+kept_level show p kept k stands within = ap (stack_level (kept_stack kept k)) stands.moment ∙ (stands.each k within).later p.moment (omega arith)
 
 -- only the base, the live runs and the moment of a playback count
-pub stands_over : (show : Show) (p q : Playback) (kept : Kept) → q.base ≡ p.base → q.live ≡ p.live → q.moment ≡ p.moment
+pub stands_over : (show : Show) (p q : Playback) (kept : KeptLevels) → q.base ≡ p.base → q.live ≡ p.live → q.moment ≡ p.moment
     → LevelsStandFor show p kept → LevelsStandFor show q kept
 stands_over show p q kept base live moment stands = record {
   moment = stands.moment ∙ sym moment;
@@ -22,14 +22,14 @@ stands_over show p q kept base live moment stands = record {
   each = λ k within. record {
     later = λ x from. (stands.each k within).later x (omega (arith, moment, from))
         ∙ ap (λ (runs : List Run). level show p.base runs (k + 1) x) (sym live) ∙ ap (λ b. level show b q.live (k + 1) x) (sym base);
-    few = subst (λ (runs : List Run). length (stack_of kept k).fades ≤ length runs) (sym live) (stands.each k within).few;
+    few = subst (λ (runs : List Run). length (kept_stack kept k).fades ≤ length runs) (sym live) (stands.each k within).few;
   };
 }
 
 -- a channel whose stack stays
-pub same_stack : (show : Show) (p : Playback) (k : ℕ) (before after : Kept) → stack_of after k ≡ stack_of before k
-    → StandsAt show p before k → StandsAt show p after k
+pub same_stack : (show : Show) (p : Playback) (k : ℕ) (before after : KeptLevels) → kept_stack after k ≡ kept_stack before k
+    → StackStandsAt show p before k → StackStandsAt show p after k
 same_stack show p k before after is stands = record {
-  later = λ x from. ap (λ (s : Stack). level_in s x) is ∙ stands.later x from;
+  later = λ x from. ap (λ (s : Stack). stack_level s x) is ∙ stands.later x from;
   few = subst (λ (s : Stack). length s.fades ≤ length p.live) (sym is) stands.few;
 }

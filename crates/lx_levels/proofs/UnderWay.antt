@@ -8,12 +8,12 @@ use Rattle.std.proofs.lemmas.Bool.{cases_eq}
 use Rattle.std.proofs.lemmas.Grind.{get_or-set_at}
 use Rattle.lx_fade.specs.declared.held.TheConstants.{NEVER}
 use Rattle.lx_levels.specs.declared.current.Current.{Current}
-use Rattle.lx_levels.specs.Stacks.{Stack, level_in, no_stack}
-use Rattle.lx_levels.specs.CurrentFades.{Governs, StaysUntil, no_current, IsHeld, IsTold, Reaches, IsRight, IsRightBut, IsWritten, IsAdvanced}
+use Rattle.lx_levels.specs.Stacks.{Stack, stack_level, no_stack}
+use Rattle.lx_levels.specs.CurrentFades.{Governs, StaysUntil, no_current, IsHeld, IsTold, LevelsReach, IsRightAt, IsRightBut, IsWritten, IsAdvanced}
 
 -- the level that is kept is that of the stack
 pub level_now : (m k : ℕ) (stacks : List Stack) (currents : List Current) (levels holds : List ℕ) → IsTold m stacks currents levels holds k
-    → get_or levels k 0 ≡ level_in (get_or stacks k no_stack) m
+    → get_or levels k 0 ≡ stack_level (get_or stacks k no_stack) m
 level_now m k stacks currents levels holds told = sym (told.held.stays m (omega arith) (inl told.later))
 
 -- a channel's entries written where others were
@@ -66,8 +66,8 @@ told_other m k i stacks before currents levels_before holds_before levels holds 
 }
 
 pub reaches_written : (k : ℕ) (stacks : List Stack) (before currents : List Current) (levels_before holds_before levels holds : List ℕ)
-    → IsWritten k before levels_before holds_before currents levels holds → Reaches stacks before levels_before holds_before
-    → Reaches stacks currents levels holds
+    → IsWritten k before levels_before holds_before currents levels holds → LevelsReach stacks before levels_before holds_before
+    → LevelsReach stacks currents levels holds
 reaches_written k stacks before currents levels_before holds_before levels holds is reaches = record {
   few = reaches.few;
   of_currents = is.of_currents ∙ reaches.of_currents;
@@ -97,7 +97,7 @@ pub refreshed : (m k : ℕ) (stacks : List Stack) (currents : List Current) (lev
     → slice_index_or stacks k no_stack ≡ stack → IsRightBut m k stacks currents levels holds
     → k < length currents → k < length levels → k < length holds → m + 1 < NEVER
     → Governs m stack current → StaysUntil m stack level hold → m < hold
-    → IsRight m stacks (set currents k current) (set levels k level) (set holds k hold)
+    → IsRightAt m stacks (set currents k current) (set levels k level) (set holds k hold)
 refreshed m k stacks currents levels holds stack current level hold is but in_currents in_levels in_holds begun governs stays later =
     let written = written_at k currents levels holds current level hold in
     record {
@@ -116,7 +116,7 @@ refreshed m k stacks currents levels holds stack current level hold is but in_cu
 
 -- what is right stays so but for a channel whose stack is changed
 pub right_but : (m k : ℕ) (stacks : List Stack) (currents : List Current) (levels holds : List ℕ) (stack : Stack)
-    → IsRight m stacks currents levels holds → IsRightBut m k (set stacks k stack) currents levels holds
+    → IsRightAt m stacks currents levels holds → IsRightBut m k (set stacks k stack) currents levels holds
 right_but m k stacks currents levels holds stack right =
     let long : length (set stacks k stack) ≡ length stacks = length-set stacks k stack in
     record {
@@ -142,7 +142,7 @@ right_but m k stacks currents levels holds stack right =
 pub opened_right : (stacks : List Stack) (currents : List Current) (levels holds : List ℕ) (n : ℕ)
     → n ≤ CHANNELS → length stacks ≡ n → length currents ≡ n → levels ≡ replicate n 0 → holds ≡ replicate n NEVER
     → ((k : ℕ) → get_or stacks k no_stack ≡ no_stack)
-    → IsRight 0 stacks currents levels holds
+    → IsRightAt 0 stacks currents levels holds
 opened_right stacks currents levels holds n few of_stacks of_currents zeros never empty = record {
   reaches = record {
     few = omega (arith, of_stacks);
@@ -154,7 +154,7 @@ opened_right stacks currents levels holds n few of_stacks of_currents zeros neve
   told = λ k within. record {
     held = record {
       governs = λ some. absurd (some (held k (omega (arith, of_stacks))));
-      stays = λ x from until. ap (λ (s : Stack). level_in s x) (empty k) ∙ sym (dark k (omega (arith, of_stacks)));
+      stays = λ x from until. ap (λ (s : Stack). stack_level s x) (empty k) ∙ sym (dark k (omega (arith, of_stacks)));
     };
     later = omega (arith, held k (omega (arith, of_stacks)));
   };
@@ -167,6 +167,6 @@ opened_right stacks currents levels holds n few of_stacks of_currents zeros neve
 
 -- and it is so at a later moment up to which it stays
 pub same_level : (m n k : ℕ) (stacks : List Stack) (currents : List Current) (levels holds : List ℕ) → m ≤ n → n < get_or holds k 0
-    → IsTold m stacks currents levels holds k → level_in (get_or stacks k no_stack) n ≡ level_in (get_or stacks k no_stack) m
+    → IsTold m stacks currents levels holds k → stack_level (get_or stacks k no_stack) n ≡ stack_level (get_or stacks k no_stack) m
 same_level m n k stacks currents levels holds le waits told = told.held.stays n le (inl waits)
     ∙ level_now m k stacks currents levels holds told

@@ -5,13 +5,13 @@ use Rattle.std.specs.List.{All, range_with_len}
 use Rattle.lx_base.specs.declared.TheConstants.{CHANNELS, RUNS}
 use Rattle.lx_fade.specs.declared.held.TheConstants.{NEVER}
 use Rattle.lx_fade.specs.Fades.{Fade}
-use Rattle.lx_fade.specs.Row.{column}
+use Rattle.lx_fade.specs.Row.{stack_column}
 use Rattle.lx_levels.specs.Stacks.{Stack}
 
 -- the stack of a channel, by the level below its fades and their count
 abbrev pub stack_at_place : ℕ → List ℕ → List ℕ → List Fade → ℕ → Stack
 stack_at_place channels bottoms counts block k =
-    record { bottom = slice_index bottoms k; fades = column block channels k (slice_index counts k) }
+    record { bottom = slice_index bottoms k; fades = stack_column block channels k (slice_index counts k) }
 
 abbrev pub stacks_of : ℕ → List ℕ → List ℕ → List Fade → List Stack
 stacks_of channels bottoms counts block = map (stack_at_place channels bottoms counts block) (range_with_len 0 channels)

@@ -6,16 +6,16 @@ use Rattle.lx_fade.specs.declared.held.TheConstants.{NEVER}
 use Rattle.lx_levels.specs.declared.current.Current.{Current}
 use Rattle.lx_levels.specs.declared.hints.Hint.{Hint}
 use Rattle.lx_levels.specs.declared.replay.Act.{Act}
-use Rattle.lx_levels.specs.Stacks.{Stack, level_in, no_stack}
+use Rattle.lx_levels.specs.Stacks.{Stack, stack_level, no_stack}
 
 -- The fade has begun by the moment, and gives the level of the stack from there on until the wake, or for ever where that is NEVER.
 pub record Governs (m : ℕ) (stack : Stack) (current : Current) : Type 0 where
   pub begun : current.fade.start ≤ m
-  pub gives : (x : ℕ) → m ≤ x → (x < current.wake) ⊎ (current.wake ≡ NEVER) → level_in stack x ≡ fade_at current.fade x
+  pub gives : (x : ℕ) → m ≤ x → (x < current.wake) ⊎ (current.wake ≡ NEVER) → stack_level stack x ≡ fade_at current.fade x
 
 -- from the moment on the channel stays at the level
 abbrev pub IsStill : ℕ → Stack → ℕ → Type 0
-IsStill m stack level = (x : ℕ) → m ≤ x → level_in stack x ≡ level
+IsStill m stack level = (x : ℕ) → m ≤ x → stack_level stack x ≡ level
 
 -- at the places from one up to another the levels are those of a row, and are held for ever
 abbrev pub AreAt : List ℕ → List ℕ → List ℕ → ℕ → ℕ → Type 0
@@ -24,7 +24,7 @@ AreAt levels holds row from to =
 
 -- until another moment it does, or for ever where that is NEVER
 abbrev pub StaysUntil : ℕ → Stack → ℕ → ℕ → Type 0
-StaysUntil m stack level until = (x : ℕ) → m ≤ x → (x < until) ⊎ (until ≡ NEVER) → level_in stack x ≡ level
+StaysUntil m stack level until = (x : ℕ) → m ≤ x → (x < until) ⊎ (until ≡ NEVER) → stack_level stack x ≡ level
 
 abbrev pub no_current : Current
 no_current = record { fade = record { start = 0; time = 0; from = 0; target = 0 }; wake = 0 }
@@ -41,15 +41,15 @@ pub record IsTold (m : ℕ) (stacks : List Stack) (currents : List Current) (lev
   pub later : m < slice_index holds k
 
 -- a place for each channel, of which there are not too many
-pub record Reaches (stacks : List Stack) (currents : List Current) (levels holds : List ℕ) : Type 0 where
+pub record LevelsReach (stacks : List Stack) (currents : List Current) (levels holds : List ℕ) : Type 0 where
   pub few : length stacks ≤ CHANNELS
   pub of_currents : length currents ≡ length stacks
   pub of_levels : length levels ≡ length stacks
   pub of_holds : length holds ≡ length stacks
 
 -- each channel is told at the moment
-pub record IsRight (m : ℕ) (stacks : List Stack) (currents : List Current) (levels holds : List ℕ) : Type 0 where
-  pub reaches : Reaches stacks currents levels holds
+pub record IsRightAt (m : ℕ) (stacks : List Stack) (currents : List Current) (levels holds : List ℕ) : Type 0 where
+  pub reaches : LevelsReach stacks currents levels holds
   pub begun : m + 1 < NEVER
   pub told : (k : ℕ) → k < length stacks → IsTold m stacks currents levels holds k
 
@@ -58,16 +58,16 @@ abbrev pub AreHeld : ℕ → List ℕ → Type 0
 AreHeld due holds = (k : ℕ) → k < length holds → due ≤ slice_index holds k
 
 -- and there are a hint and an act for each run that may be live
-pub record IsReady (m due : ℕ) (stacks : List Stack) (currents : List Current) (levels holds : List ℕ) (hints : List Hint)
+pub record IsReadyAt (m due : ℕ) (stacks : List Stack) (currents : List Current) (levels holds : List ℕ) (hints : List Hint)
     (acts : List (Option Act)) : Type 0 where
-  pub right : IsRight m stacks currents levels holds
+  pub right : IsRightAt m stacks currents levels holds
   pub due_is : AreHeld due holds
   pub room : length hints ≡ RUNS
   pub acts_room : length acts ≡ RUNS
 
 -- the same but for the channel at one place
 pub record IsRightBut (m place : ℕ) (stacks : List Stack) (currents : List Current) (levels holds : List ℕ) : Type 0 where
-  pub reaches : Reaches stacks currents levels holds
+  pub reaches : LevelsReach stacks currents levels holds
   pub told : (k : ℕ) → k < length stacks → k ≢ place → IsTold m stacks currents levels holds k
 
 -- one channel's fade and level were written
@@ -82,6 +82,6 @@ pub record IsWritten (place : ℕ) (currents_before : List Current) (levels_befo
 
 -- the channels before a place have been brought to the moment
 pub record IsAdvanced (m place : ℕ) (stacks : List Stack) (currents : List Current) (levels holds : List ℕ) : Type 0 where
-  pub reaches : Reaches stacks currents levels holds
+  pub reaches : LevelsReach stacks currents levels holds
   pub done : (k : ℕ) → k < place → IsTold m stacks currents levels holds k
   pub left : (k : ℕ) → place ≤ k → k < length stacks → IsHeld m stacks currents levels holds k

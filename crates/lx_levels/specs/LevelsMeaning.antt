@@ -4,21 +4,21 @@ use Rattle.lx_spec.specs.Show.{Show}
 use Rattle.lx_spec.specs.Run.{Run}
 use Rattle.lx_spec.specs.Level.{level}
 use Rattle.lx_spec.specs.Playback.{Playback}
-use Rattle.lx_levels.specs.Stacks.{Kept, level_in, stack_of}
+use Rattle.lx_levels.specs.Stacks.{KeptLevels, stack_level, kept_stack}
 
 -- the stack of channel c, at place c - 1, gives its level at every moment from the present one on, and has no more fades than runs are live
-pub record StandsAt (show : Show) (p : Playback) (kept : Kept) (k : ℕ) : Type 0 where
-  pub later : (x : ℕ) → p.moment ≤ x → level_in (stack_of kept k) x ≡ level show p.base p.live (k + 1) x
-  pub few : length (stack_of kept k).fades ≤ length p.live
+pub record StackStandsAt (show : Show) (p : Playback) (kept : KeptLevels) (k : ℕ) : Type 0 where
+  pub later : (x : ℕ) → p.moment ≤ x → stack_level (kept_stack kept k) x ≡ level show p.base p.live (k + 1) x
+  pub few : length (kept_stack kept k).fades ≤ length p.live
 
 -- levels stand for a show and a playback: they are at its moment, and have a stack for each channel
-pub record LevelsStandFor (show : Show) (p : Playback) (kept : Kept) : Type 0 where
+pub record LevelsStandFor (show : Show) (p : Playback) (kept : KeptLevels) : Type 0 where
   pub moment : kept.moment ≡ p.moment
   pub reach : length kept.stacks ≡ show.channels
-  pub each : (k : ℕ) → k < show.channels → StandsAt show p kept k
+  pub each : (k : ℕ) → k < show.channels → StackStandsAt show p kept k
 
 -- they stand for the playback as it was before its last run, which starts at the present moment
-pub record StandsBefore (show : Show) (p : Playback) (kept : Kept) : Type 0 where
+pub record StandsBefore (show : Show) (p : Playback) (kept : KeptLevels) : Type 0 where
   pub last : Run
   pub older : List Run
   pub live_is : p.live ≡ last ∷ older
@@ -26,14 +26,14 @@ pub record StandsBefore (show : Show) (p : Playback) (kept : Kept) : Type 0 wher
   pub stands : LevelsStandFor show (record p { live = older }) kept
 
 -- the same levels but at one place
-pub record IsElsewhere (place : ℕ) (before after : Kept) : Type 0 where
+pub record IsElsewhere (place : ℕ) (before after : KeptLevels) : Type 0 where
   pub moment : after.moment ≡ before.moment
   pub reach : length after.stacks ≡ length before.stacks
-  pub others : (k : ℕ) → k ≢ place → stack_of after k ≡ stack_of before k
+  pub others : (k : ℕ) → k ≢ place → kept_stack after k ≡ kept_stack before k
 
 -- so many channels stand for the playback already, the others for it as it was before its last run
-pub record IsAdded (show : Show) (p : Playback) (older : List Run) (n : ℕ) (kept : Kept) : Type 0 where
+pub record IsAdded (show : Show) (p : Playback) (older : List Run) (n : ℕ) (kept : KeptLevels) : Type 0 where
   pub moment : kept.moment ≡ p.moment
   pub reach : length kept.stacks ≡ show.channels
-  pub done : (k : ℕ) → k < n → StandsAt show p kept k
-  pub left : (k : ℕ) → n ≤ k → k < show.channels → StandsAt show (record p { live = older }) kept k
+  pub done : (k : ℕ) → k < n → StackStandsAt show p kept k
+  pub left : (k : ℕ) → n ≤ k → k < show.channels → StackStandsAt show (record p { live = older }) kept k

@@ -8,7 +8,7 @@ use Rattle.lx_spec.specs.Run.{Run, acts, entry_for}
 use Rattle.lx_spec.specs.Level.{level, last_cue}
 use Rattle.lx_playback.specs.Valid.{ValidTimes}
 use Rattle.lx_levels.specs.declared.replay.Act.{Act}
-use Rattle.lx_levels.specs.Stacks.{Stack, level_in}
+use Rattle.lx_levels.specs.Stacks.{Stack, stack_level}
 
 -- what a run does to a channel is known: it doesn't act, or comes to this target from this start on, with the times of this entry
 pub record IsKnown (show : Show) (before : ℕ) (run : Run) (c : ℕ) (known : Option Act) : Type 0 where
@@ -45,6 +45,6 @@ pub record IsGround (show : Show) (base : ℕ) (live : List Run) (c from first b
 -- a stack gives the level over the runs before a place since a moment, by which none of the others that act has started
 pub record IsReplayed (show : Show) (base : ℕ) (live : List Run) (c from i : ℕ) (known : List (Option Act)) (stack : Stack) : Type 0 where
   pub since : ℕ
-  pub gives : (m : ℕ) → since ≤ m → level_in stack m ≡ level show base (reverse (take i live)) c m
+  pub gives : (m : ℕ) → since ≤ m → stack_level stack m ≡ level show base (reverse (take i live)) c m
   pub later : EachAct (λ a. since ≤ a.start) live i known
   pub begun : since ≤ from

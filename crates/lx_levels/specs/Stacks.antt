@@ -8,20 +8,20 @@ pub record Stack : Type 0 where
   pub fades : List Fade
 
 -- the level at a moment
-abbrev pub level_in : Stack → ℕ → ℕ
-level_in stack m = stack_at stack.bottom stack.fades m
+abbrev pub stack_level : Stack → ℕ → ℕ
+stack_level stack m = stack_at stack.bottom stack.fades m
 
 abbrev pub no_stack : Stack
 no_stack = record { bottom = 0; fades = [] }
 
 -- what levels keep: the moment, and the stack of channel c at place c - 1
-pub record Kept : Type 0 where
+pub record KeptLevels : Type 0 where
   pub moment : ℕ
   pub stacks : List Stack
 
-abbrev pub stack_of : Kept → ℕ → Stack
-stack_of kept k = slice_index_or kept.stacks k no_stack
+abbrev pub kept_stack : KeptLevels → ℕ → Stack
+kept_stack kept k = slice_index_or kept.stacks k no_stack
 
 -- the level that is kept for the channel at a place
-abbrev pub level_at : Kept → ℕ → ℕ
-level_at kept k = level_in (stack_of kept k) kept.moment
+abbrev pub level_at : KeptLevels → ℕ → ℕ
+level_at kept k = stack_level (kept_stack kept k) kept.moment

@@ -8,7 +8,7 @@ ghost use Rattle.lx_spec.specs.Run.{entry_for, entry_extent};
 ghost use Rattle.lx_spec.specs.Level.{last_cue, run_over};
 ghost use Rattle.lx_sheet.specs.SheetMeaning.{RowsStandFor};
 ghost use Rattle.lx_playback.specs.Valid.{ValidRun, ValidTimes};
-ghost use Rattle.lx_levels.specs.Stacks.{level_in, no_stack};
+ghost use Rattle.lx_levels.specs.Stacks.{stack_level, no_stack};
 ghost use Rattle.lx_levels.specs.TimedFades.{timed_over};
 
 use crate::hints::Hint;
@@ -69,8 +69,8 @@ pub(crate) fn push_run(stacks: &mut Racks, k: usize, show: &Show, run: &Run, c: 
     requires target { target ≡ tracked show.now run.now.cue c }
     requires room { length (slice_index_or stacks.old k no_stack).fades < RUNS }
     requires run { ValidRun TICK_END run.now }
-    ensures level { (m : ℕ) → run.now.start ≤ m → level_in (slice_index_or stacks.new k no_stack) m
-        ≡ run_over show.now (level_in (slice_index_or stacks.old k no_stack)) run.now c m }
+    ensures level { (m : ℕ) → run.now.start ≤ m → stack_level (slice_index_or stacks.new k no_stack) m
+        ≡ run_over show.now (stack_level (slice_index_or stacks.old k no_stack)) run.now c m }
     ensures few { length (slice_index_or stacks.new k no_stack).fades ≤ length (slice_index_or stacks.old k no_stack).fades + 1 }
     ensures others { stacks.new ≡ slice_set stacks.old k (slice_index_or stacks.new k no_stack) }
 {
@@ -93,8 +93,8 @@ pub(crate) fn push_timed(
     requires room { length (slice_index_or stacks.old k no_stack).fades < RUNS }
     requires start { start ≤ TICK_END }
     requires times { ValidTimes entry.now }
-    ensures level { (m : ℕ) → start ≤ m → level_in (slice_index_or stacks.new k no_stack) m
-        ≡ timed_over entry.now (level_in (slice_index_or stacks.old k no_stack)) start target m }
+    ensures level { (m : ℕ) → start ≤ m → stack_level (slice_index_or stacks.new k no_stack) m
+        ≡ timed_over entry.now (stack_level (slice_index_or stacks.old k no_stack)) start target m }
     ensures few { length (slice_index_or stacks.new k no_stack).fades ≤ length (slice_index_or stacks.old k no_stack).fades + 1 }
     ensures others { stacks.new ≡ slice_set stacks.old k (slice_index_or stacks.new k no_stack) }
 {

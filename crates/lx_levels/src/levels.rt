@@ -12,9 +12,9 @@ ghost use Rattle.lx_spec.specs.Playback.{Playback as PlaybackData, at_opening};
 ghost use Rattle.lx_sheet.specs.SheetMeaning.{RowsStandFor};
 ghost use Rattle.lx_mixer.specs.Table.{IsTable};
 ghost use Rattle.lx_playback.specs.Valid.{ValidRun};
-ghost use Rattle.lx_levels.specs.Stacks.{level_in, level_at, stack_of};
+ghost use Rattle.lx_levels.specs.Stacks.{stack_level, level_at, kept_stack};
 ghost use Rattle.lx_levels.specs.CurrentFades.{AreAt, IsStill};
-ghost use Rattle.lx_levels.specs.LevelsMeaning.{LevelsStandFor, StandsAt, StandsBefore, IsElsewhere};
+ghost use Rattle.lx_levels.specs.LevelsMeaning.{LevelsStandFor, StackStandsAt, StandsBefore, IsElsewhere};
 
 use crate::channel::push_run;
 use crate::current::Current;
@@ -53,14 +53,14 @@ pub struct Levels {
 }
 
 impl Model for Levels {
-    ghost use Rattle.lx_levels.specs.Stacks.{Kept};
-    ghost use Rattle.lx_levels.specs.CurrentFades.{IsReady};
+    ghost use Rattle.lx_levels.specs.Stacks.{KeptLevels};
+    ghost use Rattle.lx_levels.specs.CurrentFades.{IsReadyAt};
 
-    ghost Value = { Kept };
+    ghost Value = { KeptLevels };
 
     ghost view = { λ l. record { moment = l.moment; stacks = l.stacks } };
 
-    ghost invariant = { λ l. IsReady l.moment l.due l.stacks l.currents.items l.levels.items l.holds.items l.hints.items
+    ghost invariant = { λ l. IsReadyAt l.moment l.due l.stacks l.currents.items l.levels.items l.holds.items l.hints.items
         l.acts.items };
 }
 
@@ -167,7 +167,7 @@ impl Levels {
         requires rows { RowsStandFor show.now sheet.now }
         requires moment { self.old.moment ≡ playback.now.moment }
         requires chan { chan ≤ length self.old.stacks }
-        ensures here { StandsAt show.now playback.now self.new (chan - 1) }
+        ensures here { StackStandsAt show.now playback.now self.new (chan - 1) }
         ensures others { IsElsewhere (chan - 1) self.old self.new }
     {
         let k = chan.get() as usize - 1;
@@ -199,7 +199,7 @@ impl Levels {
     /// The channel at the place is at the level for ever, as it is: whatever times a run to that level has, it stays.
     fn stays_at(&self, k: usize, level: Level) -> bool
         requires { k < length self.now.stacks }
-        ensures { result ≡ true → IsStill self.now.moment (stack_of self.now k) level }
+        ensures { result ≡ true → IsStill self.now.moment (kept_stack self.now k) level }
     {
         self.levels[k] == level && self.holds[k] == NEVER
     }
@@ -213,7 +213,7 @@ impl Levels {
         ensures from { k ≤ result }
         ensures most { result ≤ length self.now.stacks }
         ensures still { (i : ℕ) → k ≤ i → i < result
-            → IsStill self.now.moment (stack_of self.now i) (option_map_or (λ row. slice_index row.now i) look.entry 0) }
+            → IsStill self.now.moment (kept_stack self.now i) (option_map_or (λ row. slice_index row.now i) look.entry 0) }
     {
         // How many channels there are is a fact for proofs.
         let _ = self.levels.len();
@@ -233,7 +233,7 @@ impl Levels {
         requires reach { IfSome look (λ row. length row.now ≡ length self.now.stacks) }
         ensures whole { result ≡ true → at + LANES ≤ length self.now.stacks }
         ensures still { result ≡ true → (i : ℕ) → at ≤ i → i < at + LANES
-            → IsStill self.now.moment (stack_of self.now i) (option_map_or (λ row. slice_index row.now i) look.entry 0) }
+            → IsStill self.now.moment (kept_stack self.now i) (option_map_or (λ row. slice_index row.now i) look.entry 0) }
     {
         match look {
             Some(row) if at + LANES <= row.len() => block_is_at(&self.levels, &self.holds, row, at),
@@ -245,12 +245,12 @@ impl Levels {
     fn add_run(&mut self, show: &Show, run: &Run, c: Chan, target: Level)
         requires within { c ≤ length self.old.stacks }
         requires target { target ≡ tracked show.now run.now.cue c }
-        requires room { length (stack_of self.old (c - 1)).fades < RUNS }
+        requires room { length (kept_stack self.old (c - 1)).fades < RUNS }
         requires run { ValidRun TICK_END run.now }
         requires started { run.now.start ≤ self.old.moment }
-        ensures level { (x : ℕ) → self.old.moment ≤ x → level_in (stack_of self.new (c - 1)) x
-            ≡ run_over show.now (level_in (stack_of self.old (c - 1))) run.now c x }
-        ensures few { length (stack_of self.new (c - 1)).fades ≤ length (stack_of self.old (c - 1)).fades + 1 }
+        ensures level { (x : ℕ) → self.old.moment ≤ x → stack_level (kept_stack self.new (c - 1)) x
+            ≡ run_over show.now (stack_level (kept_stack self.old (c - 1))) run.now c x }
+        ensures few { length (kept_stack self.new (c - 1)).fades ≤ length (kept_stack self.old (c - 1)).fades + 1 }
         ensures others { IsElsewhere (c - 1) self.old self.new }
     {
         let k = c.get() as usize - 1;

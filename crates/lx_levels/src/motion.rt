@@ -3,7 +3,7 @@
 ghost use Rattle.std.specs.Prelude.{◌≡◌, ℕ, ◌+◌, ◌<◌, ◌≤◌, false, List, length, slice_index, slice_index_or};
 ghost use Rattle.lx_fade.specs.declared.held.TheConstants.{NEVER};
 ghost use Rattle.lx_levels.specs.Stacks.{no_stack};
-ghost use Rattle.lx_levels.specs.CurrentFades.{Governs, Reaches, AreHeld, IsHeld, IsTold, IsRight, IsRightBut, IsWritten};
+ghost use Rattle.lx_levels.specs.CurrentFades.{Governs, LevelsReach, AreHeld, IsHeld, IsTold, IsRightAt, IsRightBut, IsWritten};
 
 use crate::current::Current;
 use crate::racks::Racks;
@@ -27,10 +27,10 @@ pub(crate) fn advance(
     levels: &mut Vec<Level>,
     holds: &mut Vec<Moment>,
 ) -> Step
-    requires reaches { Reaches stacks.now currents.old.items levels.old.items holds.old.items }
+    requires reaches { LevelsReach stacks.now currents.old.items levels.old.items holds.old.items }
     requires moment { m + 1 < NEVER }
     requires held { (k : ℕ) → k < length stacks.now → IsHeld m stacks.now currents.old.items levels.old.items holds.old.items k }
-    ensures right { IsRight m stacks.now currents.new.items levels.new.items holds.new.items }
+    ensures right { IsRightAt m stacks.now currents.new.items levels.new.items holds.new.items }
     ensures due { AreHeld result.due holds.new.items }
     ensures unchanged { result.changed ≡ false → (k : ℕ) → k < length stacks.now
         → slice_index levels.new.items k ≡ slice_index levels.old.items k }
@@ -56,7 +56,7 @@ fn bring(
 ) -> bool
     requires moment { m + 1 < NEVER }
     requires within { k < length stacks.now }
-    requires reaches { Reaches stacks.now currents.old.items levels.old.items holds.old.items }
+    requires reaches { LevelsReach stacks.now currents.old.items levels.old.items holds.old.items }
     requires held { IsHeld m stacks.now currents.old.items levels.old.items holds.old.items k }
     ensures told { IsTold m stacks.now currents.new.items levels.new.items holds.new.items k }
     ensures others { IsWritten k currents.old.items levels.old.items holds.old.items currents.new.items levels.new.items holds.new.items }
@@ -79,7 +79,7 @@ fn bring_on(
 ) -> bool
     requires moment { m + 1 < NEVER }
     requires within { k < length stacks.now }
-    requires reaches { Reaches stacks.now currents.old.items levels.old.items holds.old.items }
+    requires reaches { LevelsReach stacks.now currents.old.items levels.old.items holds.old.items }
     requires due { slice_index holds.old.items k ≤ m }
     requires held { IsHeld m stacks.now currents.old.items levels.old.items holds.old.items k }
     ensures told { IsTold m stacks.now currents.new.items levels.new.items holds.new.items k }
@@ -125,7 +125,7 @@ pub(crate) fn refresh(
     requires levels { k < length levels.old.items }
     requires holds { k < length holds.old.items }
     ensures right { IsRightBut m k stacks.now currents.old.items levels.old.items holds.old.items
-        → IsRight m stacks.now currents.new.items levels.new.items holds.new.items }
+        → IsRightAt m stacks.now currents.new.items levels.new.items holds.new.items }
     ensures due { AreHeld due.old holds.old.items → AreHeld due.new holds.new.items }
 {
     let current = stacks.governing(k, m);

@@ -7,9 +7,9 @@ ghost use Rattle.std.specs.List.{All};
 ghost use Rattle.lx_base.specs.declared.TheConstants.{CHANNELS, RUNS, TIME_MAX};
 ghost use Rattle.lx_spec.specs.Level.{fade_over};
 ghost use Rattle.lx_fade.specs.declared.held.TheConstants.{NEVER};
-ghost use Rattle.lx_levels.specs.Stacks.{level_in, no_stack};
+ghost use Rattle.lx_levels.specs.Stacks.{stack_level, no_stack};
 ghost use Rattle.lx_levels.specs.CurrentFades.{Governs};
-ghost use Rattle.lx_fade.specs.Row.{column};
+ghost use Rattle.lx_fade.specs.Row.{stack_column};
 
 use crate::current::Current;
 use lx_base::{Cs, Level, Moment, RUNS};
@@ -93,7 +93,7 @@ impl Racks {
     /// The channel's level at a moment.
     pub(crate) fn value(&self, k: usize, m: Moment) -> Level
         requires { k < length self.now }
-        ensures { result ≡ level_in (slice_index_or self.now k no_stack) m }
+        ensures { result ≡ stack_level (slice_index_or self.now k no_stack) m }
     {
         let at = Column {
             step: self.channels,
@@ -110,8 +110,8 @@ impl Racks {
         requires room { length (slice_index_or self.old k no_stack).fades < RUNS }
         requires start { start < NEVER }
         requires time { time ≤ TIME_MAX }
-        ensures level { (m : ℕ) → level_in (slice_index_or self.new k no_stack) m
-            ≡ fade_over (level_in (slice_index_or self.old k no_stack)) start time target m }
+        ensures level { (m : ℕ) → stack_level (slice_index_or self.new k no_stack) m
+            ≡ fade_over (stack_level (slice_index_or self.old k no_stack)) start time target m }
         ensures few { length (slice_index_or self.new k no_stack).fades ≤ length (slice_index_or self.old k no_stack).fades + 1 }
         ensures others { self.new ≡ slice_set self.old k (slice_index_or self.new k no_stack) }
     {
@@ -149,7 +149,7 @@ fn governing_in(
     requires within { k < channels }
     requires reach { count * channels ≤ length block.now }
     requires begin { All (λ f. f.start < NEVER) block.now }
-    ensures governs { Governs m (record { bottom = bottom; fades = column block.now channels k count }) result }
+    ensures governs { Governs m (record { bottom = bottom; fades = stack_column block.now channels k count }) result }
     ensures wake { m < result.wake }
 {
     let mut wake = NEVER;
@@ -172,8 +172,8 @@ fn write(block: &mut Vec<Fade>, channels: usize, k: usize, kept: usize, fade: Fa
     requires kept { kept < RUNS }
     requires room { RUNS * channels ≤ vec_capacity block.old }
     requires start { fade.start < NEVER }
-    ensures here { column block.new.items channels k (kept + 1) ≡ fade ∷ column block.old.items channels k kept }
-    ensures others { (i n : ℕ) → i < channels → i ≢ k → column block.new.items channels i n ≡ column block.old.items channels i n }
+    ensures here { stack_column block.new.items channels k (kept + 1) ≡ fade ∷ stack_column block.old.items channels k kept }
+    ensures others { (i n : ℕ) → i < channels → i ≢ k → stack_column block.new.items channels i n ≡ stack_column block.old.items channels i n }
     ensures reach { (kept + 1) * channels ≤ length block.new.items }
     ensures longer { length block.old.items ≤ length block.new.items }
     ensures begin { All (λ f. f.start < NEVER) block.old.items → All (λ f. f.start < NEVER) block.new.items }

@@ -7,7 +7,7 @@ ghost use Rattle.lx_spec.specs.Show.{Show as ShowData};
 ghost use Rattle.lx_spec.specs.Level.{level};
 ghost use Rattle.lx_sheet.specs.SheetMeaning.{RowsStandFor};
 ghost use Rattle.lx_playback.specs.Valid.{OldestFirst, ValidRun};
-ghost use Rattle.lx_levels.specs.Stacks.{level_in, no_stack};
+ghost use Rattle.lx_levels.specs.Stacks.{stack_level, no_stack};
 ghost use Rattle.lx_levels.specs.RunsInTurn.{EachAct, IsGround, IsValid};
 
 use crate::channel::{is_over, level_there, push_timed, times_for};
@@ -111,7 +111,7 @@ pub(crate) fn replay(
     requires valid { EachAct IsValid live.now oldest.first acts_of.now }
     ensures level { (show : ShowData) (base c from : ℕ)
         → IsGround show base live.now c from oldest.first oldest.level oldest.since acts_of.now
-        → (m : ℕ) → from ≤ m → level_in (slice_index_or stacks.new k no_stack) m ≡ level show base (reverse live.now) c m }
+        → (m : ℕ) → from ≤ m → stack_level (slice_index_or stacks.new k no_stack) m ≡ level show base (reverse live.now) c m }
     ensures few { length (slice_index_or stacks.new k no_stack).fades ≤ length live.now }
     ensures others { stacks.new ≡ slice_set stacks.old k (slice_index_or stacks.new k no_stack) }
 {

@@ -6,11 +6,11 @@ use Rattle.std.proofs.lemmas.Bool.{cases_eq, cases_lt}
 use Rattle.std.proofs.lemmas.Grind.{get_or-set_at}
 use Rattle.lx_base.specs.declared.TheConstants.{CHANNELS, SLOTS}
 use Rattle.lx_base.specs.Numbers.{scaled}
-use Rattle.lx_patch.specs.FollowerChains.{Follows, IsChained}
+use Rattle.lx_patch.specs.FollowerChains.{FollowsChannel, AreDimmersChained}
 
 -- a dimmer that is dark follows no channel
-pub chained_dark : (places levels first next : List ℕ) (from e : ℕ) → IsChained places levels first next from → e + 1 ≡ from
-    → get_or levels e 0 ≡ 0 → IsChained places levels first next e
+pub chained_dark : (places levels first next : List ℕ) (from e : ℕ) → AreDimmersChained places levels first next from → e + 1 ≡ from
+    → get_or levels e 0 ≡ 0 → AreDimmersChained places levels first next e
 chained_dark places levels first next from e is at dark = record {
   first_reach = is.first_reach;
   next_reach = is.next_reach;
@@ -28,9 +28,9 @@ chained_dark places levels first next from e is at dark = record {
   ]
 
 -- another becomes the first of its channel
-pub chained_lit : (places levels first next : List ℕ) (from e k old : ℕ) → IsChained places levels first next from → e + 1 ≡ from
+pub chained_lit : (places levels first next : List ℕ) (from e k old : ℕ) → AreDimmersChained places levels first next from → e + 1 ≡ from
     → from ≤ SLOTS → k ≡ get_or places e 0 → k < CHANNELS → 0 < get_or levels e 0 → old ≡ get_or first k 0
-    → IsChained places levels (set first k e) (set next e old) e
+    → AreDimmersChained places levels (set first k e) (set next e old) e
 chained_lit places levels first next from e k old is at most k_is within_k lit old_is = record {
   first_reach = length-set first k e ∙ is.first_reach;
   next_reach = length-set next e old ∙ is.next_reach;
@@ -39,9 +39,9 @@ chained_lit places levels first next from e k old is at most k_is within_k lit o
     | inr other ↦ omega (arith, first_other j other, is.first_low j within)
   ];
   first_own = λ j within below. elim (cases_eq j k) [
-    | inl here ↦ subst (λ n. Follows places levels j n) (sym (first_here j here))
-        (subst (λ n. Follows places levels n e) (sym here) here_follows)
-    | inr other ↦ subst (λ n. Follows places levels j n) (sym (first_other j other))
+    | inl here ↦ subst (λ n. FollowsChannel places levels j n) (sym (first_here j here))
+        (subst (λ n. FollowsChannel places levels n e) (sym here) here_follows)
+    | inr other ↦ subst (λ n. FollowsChannel places levels j n) (sym (first_other j other))
         (is.first_own j within (omega (arith, below, first_other j other)))
   ];
   first_all = λ j d within past below follows. elim (cases_eq j k) [
@@ -58,10 +58,10 @@ chained_lit places levels first next from e k old is at most k_is within_k lit o
     | inr other ↦ omega (arith, next_other d other, is.next_later d (apart d past other) below bright)
   ];
   next_own = λ d past below bright then. elim (cases_eq d e) [
-    | inl here ↦ subst (λ n. Follows places levels (get_or places d 0) n) (sym (next_here d here ∙ old_is))
-        (subst (λ n. Follows places levels n (get_or first k 0)) (k_is ∙ ap (λ n. get_or places n 0) (sym here))
+    | inl here ↦ subst (λ n. FollowsChannel places levels (get_or places d 0) n) (sym (next_here d here ∙ old_is))
+        (subst (λ n. FollowsChannel places levels n (get_or first k 0)) (k_is ∙ ap (λ n. get_or places n 0) (sym here))
         (is.first_own k within_k (omega (arith, then, next_here d here, old_is))))
-    | inr other ↦ subst (λ n. Follows places levels (get_or places d 0) n) (sym (next_other d other))
+    | inr other ↦ subst (λ n. FollowsChannel places levels (get_or places d 0) n) (sym (next_other d other))
         (is.next_own d (apart d past other) below bright (omega (arith, then, next_other d other)))
   ];
   next_all = λ d g past below bright later within follows. elim (cases_eq d e) [
@@ -70,12 +70,12 @@ chained_lit places levels first next from e k old is at most k_is within_k lit o
       next_here d here,
       old_is,
       is.first_all k g within_k (omega (arith, here)) within
-          (subst (λ n. Follows places levels n g) (ap (λ n. get_or places n 0) here ∙ sym k_is) follows),
+          (subst (λ n. FollowsChannel places levels n g) (ap (λ n. get_or places n 0) here ∙ sym k_is) follows),
     )
     | inr other ↦ omega (arith, next_other d other, is.next_all d g (apart d past other) below bright later within follows)
   ];
 } where
-  here_follows : Follows places levels k e
+  here_follows : FollowsChannel places levels k e
   here_follows = record { channel = sym k_is; lit = lit }
 
   first_here : (j : ℕ) → j ≡ k → get_or (set first k e) j 0 ≡ e
@@ -96,22 +96,22 @@ chained_lit places levels first next from e k old is at most k_is within_k lit o
 -- what is filled in along a channel's chain
 pub record IsWalked (places levels before slots : List ℕ) (k out e : ℕ) : Type 0 where
   pub reach : length slots ≡ SLOTS
-  pub seen : (d : ℕ) → d < SLOTS → d < e → Follows places levels k d → get_or slots d 0 ≡ scaled out (get_or levels d 0)
+  pub seen : (d : ℕ) → d < SLOTS → d < e → FollowsChannel places levels k d → get_or slots d 0 ≡ scaled out (get_or levels d 0)
   pub others : (d : ℕ) → d < SLOTS → get_or places d 0 ≢ k → get_or slots d 0 ≡ get_or before d 0
   pub dark : (d : ℕ) → d < SLOTS → get_or levels d 0 ≡ 0 → get_or slots d 0 ≡ get_or before d 0
-  pub own : e < SLOTS → Follows places levels k e
+  pub own : e < SLOTS → FollowsChannel places levels k e
 
-pub walk_begun : (places levels first next slots : List ℕ) (k out e : ℕ) → IsChained places levels first next 0 → k < CHANNELS
+pub walk_begun : (places levels first next slots : List ℕ) (k out e : ℕ) → AreDimmersChained places levels first next 0 → k < CHANNELS
     → length slots ≡ SLOTS → e ≡ get_or first k 0 → IsWalked places levels slots slots k out e
 walk_begun places levels first next slots k out e is within reach first_is = record {
   reach = reach;
   seen = λ d below past follows. absurd (omega (arith, first_is, is.first_all k d within (omega arith) below follows));
   others = λ d below apart. refl;
   dark = λ d below unlit. refl;
-  own = λ below. subst (λ n. Follows places levels k n) (sym first_is) (is.first_own k within (omega (arith, first_is)));
+  own = λ below. subst (λ n. FollowsChannel places levels k n) (sym first_is) (is.first_own k within (omega (arith, first_is)));
 }
 
-pub walk_next : (places levels first next before slots : List ℕ) (k out e value after : ℕ) → IsChained places levels first next 0
+pub walk_next : (places levels first next before slots : List ℕ) (k out e value after : ℕ) → AreDimmersChained places levels first next 0
     → IsWalked places levels before slots k out e → e < SLOTS → value ≡ scaled out (get_or levels e 0) → after ≡ get_or next e 0
     → IsWalked places levels before (set slots e value) k out after
 walk_next places levels first next before slots k out e value after is walked below value_is next_is =
@@ -130,8 +130,8 @@ walk_next places levels first next before slots k out e value after is walked be
         | inl same ↦ absurd (omega (arith, here.lit, unlit, ap (λ n. get_or levels n 0) same))
         | inr other ↦ kept d other ∙ walked.dark d within unlit
       ];
-      own = λ within. subst (λ n. Follows places levels k n) (sym next_is)
-          (subst (λ n. Follows places levels n (get_or next e 0)) here.channel
+      own = λ within. subst (λ n. FollowsChannel places levels k n) (sym next_is)
+          (subst (λ n. FollowsChannel places levels n (get_or next e 0)) here.channel
           (is.next_own e (omega arith) below here.lit (omega (arith, next_is))));
     } where
       written : (d : ℕ) → d ≡ e → get_or (set slots e value) d 0 ≡ value
@@ -141,9 +141,9 @@ walk_next places levels first next before slots k out e value after is walked be
       kept d other = get_or-set_other slots e d value 0 other
 
       -- a dimmer of the channel after this one isn't passed over
-      clear : (d : ℕ) → d < SLOTS → Follows places levels k d → d ≢ e → (d < e) ⊎ (get_or next e 0 ≤ d)
+      clear : (d : ℕ) → d < SLOTS → FollowsChannel places levels k d → d ≢ e → (d < e) ⊎ (get_or next e 0 ≤ d)
       clear d within follows other = elim (cases_lt d e) [
         | inl low ↦ inl low
         | inr high ↦ inr (is.next_all e d (omega arith) below (walked.own below).lit (omega (arith, other)) within
-            (subst (λ n. Follows places levels n d) (sym (walked.own below).channel) follows))
+            (subst (λ n. FollowsChannel places levels n d) (sym (walked.own below).channel) follows))
       ]

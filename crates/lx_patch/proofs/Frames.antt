@@ -11,7 +11,7 @@ use Rattle.lx_spec.specs.Show.{Show, Valid, ValidPatchRow}
 use Rattle.lx_spec.specs.Output.{dimmer_value}
 use Rattle.lx_mixer.specs.Table.{IsTable}
 use Rattle.lx_mixer.proofs.Tables.{told}
-use Rattle.lx_patch.specs.DimmerTable.{DimmerTable, place_of, proportion_of, StandsForPatch, Reaches}
+use Rattle.lx_patch.specs.DimmerTable.{DimmerTable, place_of, proportion_of, StandsForPatch, ReachTable}
 
 -- each row's place is below the channel count, and a dimmer without a row has the first place at 0
 place_within : (n e : ℕ) (rows : List PatchRow) → AllByRecursion (ValidPatchRow n) rows → (place_of rows e < n)
@@ -27,7 +27,7 @@ place_within n e (row ∷ rows) all =
 
 -- outputs for all channels have one for each that is patched
 pub reaches : (show : Show) (table : DimmerTable) (n : ℕ) → Valid show → show.channels ≤ n → StandsForPatch show.patch table
-    → Reaches n table
+    → ReachTable n table
 reaches show table n valid enough stands = λ k within.
     let place = stands.places.each k within in
     let level = stands.levels.each k within in

@@ -10,7 +10,7 @@ use Rattle.std.proofs.lemmas.Simd.{tops_compared, mask_l-mod, leading_from_mask_
 use lib.Lanes.{chunk, zip2, mask_l, top}
 use Rattle.lx_base.specs.Rows.{HasLanes}
 use Rattle.lx_base.proofs.Lanes.{apart}
-use Rattle.lx_patch.specs.Slots.{IsRow}
+use Rattle.lx_patch.specs.Slots.{AreInARow}
 
 abbrev pub steps : List ℕ
 steps = range_with_len 0 32
@@ -52,7 +52,7 @@ module _ (places : List ℕ) (at first : ℕ) (room : at + 32 ≤ length places)
       ∙ sym (ap (λ bits. mask_l bits % 2 ^ 64) (tops_compared w16 apart (chunk at 32 places) (row_from first))) ∙ zero_mask
 
   pub row_is : mask_l (map (top 15) (zip2 (λ a b. cond (apart a b) 65535 0) (chunk at 32 places) (row_from first))) % 2 ^ 64 ≡ 0
-      → IsRow places at (at + 32)
+      → AreInARow places at (at + 32)
   row_is zero_mask = λ k least less.
       let back : at + (k - at) ≡ k = omega arith in
       let within : k - at < 32 = omega arith in
@@ -64,7 +64,7 @@ module _ (places : List ℕ) (at first : ℕ) (room : at + 32 ≤ length places)
 
 module _ (places outs lanes : List ℕ) (at : ℕ) where
   -- outputs that were loaded at once
-  pub run_lanes : get_or places at 0 + 32 ≤ length outs → IsRow places at (at + 32) → lanes ≡ chunk (get_or places at 0) 32 outs
+  pub run_lanes : get_or places at 0 + 32 ≤ length outs → AreInARow places at (at + 32) → lanes ≡ chunk (get_or places at 0) 32 outs
       → HasLanes lanes (λ k. get_or outs (get_or places (at + k) 0) 0)
   run_lanes room row is = record {
     long = ap length is ∙ length-chunk (get_or places at 0) 32 outs room;

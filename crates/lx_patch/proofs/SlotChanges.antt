@@ -10,9 +10,9 @@ use Rattle.lx_spec.specs.declared.PatchRow.{PatchRow}
 use Rattle.lx_spec.specs.SortedList.{entry_at}
 use Rattle.lx_spec.specs.Output.{dimmer_value}
 use Rattle.lx_mixer.specs.Table.{IsTable}
-use Rattle.lx_patch.specs.DimmerTable.{DimmerTable, StandsForPatch, Reaches}
-use Rattle.lx_patch.specs.FollowerChains.{IsAbove}
-use Rattle.lx_patch.specs.Slots.{IsFilled, IsFollowed}
+use Rattle.lx_patch.specs.DimmerTable.{DimmerTable, StandsForPatch, ReachTable}
+use Rattle.lx_patch.specs.FollowerChains.{AreDarkFrom}
+use Rattle.lx_patch.specs.Slots.{AreSlots, IsFollowed}
 
 -- in proportion to 0 everything is 0
 pub nothing : (x y : ℕ) → y ≡ 0 → scaled x y ≡ 0
@@ -37,11 +37,11 @@ slot_value rows table outs e stands within =
       of_row None = sym (nothing (get_or outs 0 0) 0 refl)
 
 pub filled_from_table : (rows : List PatchRow) (table : DimmerTable) (outs slots : List ℕ) → StandsForPatch rows table
-    → IsTable SLOTS (dimmer_value rows (λ c. get_or outs (c - 1) 0)) slots → IsFilled table.places table.levels outs slots 0 SLOTS
+    → IsTable SLOTS (dimmer_value rows (λ c. get_or outs (c - 1) 0)) slots → AreSlots table.places table.levels outs slots 0 SLOTS
 filled_from_table rows table outs slots stands values = λ e least within. values.each e within ∙ slot_value rows table outs e stands within
 
 pub table_from_filled : (rows : List PatchRow) (table : DimmerTable) (outs slots : List ℕ) → StandsForPatch rows table
-    → length slots ≡ SLOTS → IsFilled table.places table.levels outs slots 0 SLOTS
+    → length slots ≡ SLOTS → AreSlots table.places table.levels outs slots 0 SLOTS
     → IsTable SLOTS (dimmer_value rows (λ c. get_or outs (c - 1) 0)) slots
 table_from_filled rows table outs slots stands reach filled =
     record { reach = reach; each = λ e within. filled e (omega arith) within ∙ sym (slot_value rows table outs e stands within) }
@@ -49,8 +49,8 @@ table_from_filled rows table outs slots stands reach filled =
 -- all that are left agree
 pub followed_all : (table : DimmerTable) (before outs slots : List ℕ) (from : ℕ)
     → IsFollowed table.places table.levels before outs slots SLOTS from → from ≤ length outs → Agree before outs from (length outs)
-    → Reaches (length outs) table
-    → IsFilled table.places table.levels outs slots 0 SLOTS
+    → ReachTable (length outs) table
+    → AreSlots table.places table.levels outs slots 0 SLOTS
 followed_all table before outs slots from is most agree reaches = λ e least within. elim (cases_lt (get_or table.places e 0) from) [
   | inl low ↦ is.done e within low
   | inr high ↦ is.left e within high ∙ (elim (reaches e within) [
@@ -62,9 +62,9 @@ followed_all table before outs slots from is most agree reaches = λ e least wit
 
 -- or all that are lit are filled in at once
 pub filled_at_once : (places levels before outs slots after : List ℕ) (from top : ℕ)
-    → IsFollowed places levels before outs slots SLOTS from → length levels ≡ SLOTS → IsAbove levels top
-    → IsFilled places levels outs after 0 top → ((e : ℕ) → top ≤ e → get_or after e 0 ≡ get_or slots e 0)
-    → IsFilled places levels outs after 0 SLOTS
+    → IsFollowed places levels before outs slots SLOTS from → length levels ≡ SLOTS → AreDarkFrom levels top
+    → AreSlots places levels outs after 0 top → ((e : ℕ) → top ≤ e → get_or after e 0 ≡ get_or slots e 0)
+    → AreSlots places levels outs after 0 SLOTS
 filled_at_once places levels before outs slots after from top is reach above filled others = λ e least within. elim (cases_lt e top) [
   | inl low ↦ filled e least low
   | inr high ↦ others e high ∙ dark e within (above e high (omega (arith, reach)))
@@ -77,14 +77,14 @@ filled_at_once places levels before outs slots after from top is reach above fil
   ]
 
 Follow : (before outs slots now : List ℕ) (from : ℕ) → List ℕ → List ℕ → Type 0
-Follow before outs slots now from places levels = IsFilled places levels before slots 0 SLOTS
+Follow before outs slots now from places levels = AreSlots places levels before slots 0 SLOTS
     → IsFollowed places levels before outs now SLOTS from
 
 -- what was followed so far, from slots that were those of the outputs before
 followed_so_far : (rows : List PatchRow) (table : DimmerTable) (places levels before outs slots now : List ℕ) (from : ℕ)
     → places ≡ table.places → levels ≡ table.levels → StandsForPatch rows table
     → IsTable SLOTS (dimmer_value rows (λ c. get_or before (c - 1) 0)) slots
-    → (IsFilled places levels before slots 0 SLOTS → IsFollowed places levels before outs now SLOTS from)
+    → (AreSlots places levels before slots 0 SLOTS → IsFollowed places levels before outs now SLOTS from)
     → IsFollowed table.places table.levels before outs now SLOTS from
 unfolding Follow
 followed_so_far rows table places levels before outs slots now from places_are levels_are stands values followed =
@@ -96,8 +96,8 @@ followed_so_far rows table places levels before outs slots now from places_are l
 pub table_of_all : (rows : List PatchRow) (table : DimmerTable) (places levels before outs slots now : List ℕ) (from : ℕ)
     → places ≡ table.places → levels ≡ table.levels → StandsForPatch rows table
     → IsTable SLOTS (dimmer_value rows (λ c. get_or before (c - 1) 0)) slots
-    → (IsFilled places levels before slots 0 SLOTS → IsFollowed places levels before outs now SLOTS from)
-    → length before ≡ length outs → from ≤ length before → Agree before outs from (length before) → Reaches (length outs) table
+    → (AreSlots places levels before slots 0 SLOTS → IsFollowed places levels before outs now SLOTS from)
+    → length before ≡ length outs → from ≤ length before → Agree before outs from (length before) → ReachTable (length outs) table
     → length now ≡ SLOTS
     → IsTable SLOTS (dimmer_value rows (λ c. get_or outs (c - 1) 0)) now
 table_of_all rows table places levels before outs slots now from places_are levels_are stands values followed same most agree reaches long =
@@ -110,8 +110,8 @@ table_of_all rows table places levels before outs slots now from places_are leve
 pub table_of_lit : (rows : List PatchRow) (table : DimmerTable) (places levels before outs slots now after : List ℕ) (from top : ℕ)
     → places ≡ table.places → levels ≡ table.levels → StandsForPatch rows table
     → IsTable SLOTS (dimmer_value rows (λ c. get_or before (c - 1) 0)) slots
-    → (IsFilled places levels before slots 0 SLOTS → IsFollowed places levels before outs now SLOTS from)
-    → IsAbove levels top → IsFilled places levels outs after 0 top → ((e : ℕ) → top ≤ e → get_or after e 0 ≡ get_or now e 0)
+    → (AreSlots places levels before slots 0 SLOTS → IsFollowed places levels before outs now SLOTS from)
+    → AreDarkFrom levels top → AreSlots places levels outs after 0 top → ((e : ℕ) → top ≤ e → get_or after e 0 ≡ get_or now e 0)
     → length after ≡ SLOTS
     → IsTable SLOTS (dimmer_value rows (λ c. get_or outs (c - 1) 0)) after
 table_of_lit rows table places levels before outs slots now after from top places_are levels_are stands values followed above filled others
@@ -120,6 +120,6 @@ table_of_lit rows table places levels before outs slots now after from top place
     (filled_at_once table.places table.levels before outs now after from top
     (followed_so_far rows table places levels before outs slots now from places_are levels_are stands values followed)
     stands.levels.reach
-    (subst (λ (ls : List ℕ). IsAbove ls top) levels_are above)
-    (subst (λ (ls : List ℕ). IsFilled table.places ls outs after 0 top) levels_are
-    (subst (λ (ps : List ℕ). IsFilled ps levels outs after 0 top) places_are filled)) others)
+    (subst (λ (ls : List ℕ). AreDarkFrom ls top) levels_are above)
+    (subst (λ (ls : List ℕ). AreSlots table.places ls outs after 0 top) levels_are
+    (subst (λ (ps : List ℕ). AreSlots ps levels outs after 0 top) places_are filled)) others)

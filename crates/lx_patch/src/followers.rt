@@ -3,7 +3,7 @@
 ghost use Rattle.std.specs.Prelude.{◌≡◌, ◌≢◌, ℕ, ◌<◌, ◌≤◌, ◌+◌, length, slice_index, IfOk};
 ghost use Rattle.lx_base.specs.declared.TheConstants.{CHANNELS, SLOTS};
 ghost use Rattle.lx_base.specs.Numbers.{scaled};
-ghost use Rattle.lx_patch.specs.FollowerChains.{Follows, IsLinked, IsAbove};
+ghost use Rattle.lx_patch.specs.FollowerChains.{FollowsChannel, IsLinked, AreDarkFrom};
 
 use lx_base::{CHANNELS, LANES, Level, SLOTS, scale};
 use std::alloc::{AllocError, Global};
@@ -68,7 +68,7 @@ impl Followers {
         requires place { k < CHANNELS }
         requires levels { length levels.now ≡ SLOTS }
         requires slots { length slots.old ≡ SLOTS }
-        ensures here { (e : ℕ) → e < SLOTS → Follows places.now levels.now k e
+        ensures here { (e : ℕ) → e < SLOTS → FollowsChannel places.now levels.now k e
             → slice_index slots.new e ≡ scaled out (slice_index levels.now e) }
         ensures others { (e : ℕ) → e < SLOTS → slice_index places.now e ≢ k → slice_index slots.new e ≡ slice_index slots.old e }
         ensures dark { (e : ℕ) → e < SLOTS → slice_index levels.now e ≡ 0 → slice_index slots.new e ≡ slice_index slots.old e }
@@ -96,7 +96,7 @@ fn clear(first: &mut Vec<u16>)
 fn top_of(levels: &[Level]) -> usize
     requires { length levels.now ≡ SLOTS }
     ensures most { result ≤ SLOTS }
-    ensures dark { IsAbove levels.now result }
+    ensures dark { AreDarkFrom levels.now result }
 {
     let mut top = SLOTS;
     while top > 0 && levels[top - 1] == 0 {

@@ -3,7 +3,7 @@
 ghost use Rattle.std.specs.Prelude.{◌≡◌, ◌≤◌, ◌<◌, ◌+◌, ℕ, IsTrue, length, slice_index, EachIndex};
 ghost use Rattle.lx_base.specs.Numbers.{scaled};
 ghost use Rattle.lx_base.specs.Rows.{HasLanes};
-ghost use Rattle.lx_patch.specs.Slots.{IsFilled, IsRow};
+ghost use Rattle.lx_patch.specs.Slots.{AreSlots, AreInARow};
 
 use lx_base::{LANES, Level, scale, scale_lanes};
 use std::simd::prelude::*;
@@ -29,7 +29,7 @@ pub(crate) fn fill(
     requires levels { length levels.now ≡ length slots.old }
     requires count { count ≤ length slots.old }
     requires reach { EachIndex places.now (λ k. slice_index places.now k < length outs.now) }
-    ensures filled { IsFilled places.now levels.now outs.now slots.new 0 count }
+    ensures filled { AreSlots places.now levels.now outs.now slots.new 0 count }
     ensures others { (k : ℕ) → count ≤ k → slice_index slots.new k ≡ slice_index slots.old k }
 {
     let blocks = count / LANES;
@@ -48,7 +48,7 @@ fn fill_block(places: &[u16], levels: &[Level], outs: &[Level], slots: &mut [Lev
     requires slots { at + LANES ≤ length slots.old }
     requires reach { EachIndex places.now (λ k. slice_index places.now k < length outs.now) }
     ensures before { (k : ℕ) → k < at → slice_index slots.new k ≡ slice_index slots.old k }
-    ensures block { IsFilled places.now levels.now outs.now slots.new at (at + LANES) }
+    ensures block { AreSlots places.now levels.now outs.now slots.new at (at + LANES) }
     ensures after { (k : ℕ) → at + LANES ≤ k → slice_index slots.new k ≡ slice_index slots.old k }
 {
     let outs = gather(places, outs, at);
@@ -75,7 +75,7 @@ fn gather(places: &[u16], outs: &[Level], at: usize) -> u8x32
 #[inline(always)]
 fn is_run(places: &[u16], at: usize) -> bool
     requires { at + LANES ≤ length places.now }
-    ensures { IsTrue result → IsRow places.now at (at + LANES) }
+    ensures { IsTrue result → AreInARow places.now at (at + LANES) }
 {
     let first = places[at];
     if first > LAST_START {

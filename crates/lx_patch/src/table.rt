@@ -6,8 +6,8 @@ ghost use Rattle.lx_spec.specs.declared.PatchRow.{PatchRow as Row};
 ghost use Rattle.lx_spec.specs.SortedList.{placed, taken_out};
 ghost use Rattle.lx_spec.specs.Output.{dimmer_value};
 ghost use Rattle.lx_mixer.specs.Table.{IsTable};
-ghost use Rattle.lx_patch.specs.DimmerTable.{StandsForPatch, Reaches};
-ghost use Rattle.lx_patch.specs.Slots.{IsFilled};
+ghost use Rattle.lx_patch.specs.DimmerTable.{StandsForPatch, ReachTable};
+ghost use Rattle.lx_patch.specs.Slots.{AreSlots};
 
 use crate::followers::Followers;
 use crate::slots::fill;
@@ -86,7 +86,7 @@ impl PatchTable {
     /// patched channel.
     pub fn frame_into(&self, out_levels: &[Level], slots: &mut [Level])
         requires slots { length slots.old ≡ SLOTS }
-        requires reach { Reaches (length out_levels.now) self.now }
+        requires reach { ReachTable (length out_levels.now) self.now }
         ensures { (rows : List Row) → StandsForPatch rows self.now
             → IsTable SLOTS (dimmer_value rows (λ c. slice_index out_levels.now (c - 1))) slots.new }
     {
@@ -105,7 +105,7 @@ impl PatchTable {
         requires slots { length slots.old ≡ SLOTS }
         requires same { length before.now ≡ length out_levels.now }
         requires few { length out_levels.now ≤ CHANNELS }
-        requires reach { Reaches (length out_levels.now) self.now }
+        requires reach { ReachTable (length out_levels.now) self.now }
         ensures { (rows : List Row) → StandsForPatch rows self.now
             → IsTable SLOTS (dimmer_value rows (λ c. slice_index before.now (c - 1))) slots.old
             → IsTable SLOTS (dimmer_value rows (λ c. slice_index out_levels.now (c - 1))) slots.new }

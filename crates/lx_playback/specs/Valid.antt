@@ -39,7 +39,7 @@ pub record ValidPlayback (p : Playback) : Type 0 where
   pub order : NewestFirst p.live
 
 -- a playback that has room for all its runs, and knows from which moment on every live run is over
-pub record IsStored (p : Playback) (reserved over_at : ℕ) : Type 0 where
+pub record IsStoredPlayback (p : Playback) (reserved over_at : ℕ) : Type 0 where
   pub valid : ValidPlayback p
   pub room : RUNS ≤ reserved
   pub over : (m : ℕ) → list_all (λ run. nat_le (run.start + extent run) m) p.live ≡ nat_le over_at m

@@ -29,13 +29,13 @@ pub struct Playback {
 impl Model for Playback {
     ghost use Rattle.std.specs.Prelude.{reverse, vec_capacity};
     ghost use Rattle.lx_spec.specs.Playback.{Playback as PlaybackData};
-    ghost use Rattle.lx_playback.specs.Valid.{IsStored};
+    ghost use Rattle.lx_playback.specs.Valid.{IsStoredPlayback};
 
     ghost Value = { PlaybackData };
 
     ghost view = { λ p. record { moment = p.moment; base = p.base; live = reverse p.live.items; pending = p.pending } };
 
-    ghost invariant = { λ p. IsStored (record { moment = p.moment; base = p.base; live = reverse p.live.items; pending = p.pending })
+    ghost invariant = { λ p. IsStoredPlayback (record { moment = p.moment; base = p.base; live = reverse p.live.items; pending = p.pending })
         (vec_capacity p.live) p.over_at };
 }
 

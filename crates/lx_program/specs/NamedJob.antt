@@ -27,10 +27,10 @@ in_use (Some (Crew count form)) = count
 in_use other = 0
 
 -- what plays live plays 1 to all universes, and a crew has 1 to all operators
-abbrev pub InRange : Job → Type 0
-InRange (Script (Live universes) form) = (1 ≤ universes) × (universes ≤ UNIVERSES)
-InRange (Crew operators form) = (1 ≤ operators) × (operators ≤ OPERATORS)
-InRange other = Unit {0}
+abbrev pub JobInRange : Job → Type 0
+JobInRange (Script (Live universes) form) = (1 ≤ universes) × (universes ≤ UNIVERSES)
+JobInRange (Crew operators form) = (1 ≤ operators) × (operators ≤ OPERATORS)
+JobInRange other = Unit {0}
 
 -- the words name no live run, and no crew
 abbrev pub NamesNoRun : Option Job → Type 0

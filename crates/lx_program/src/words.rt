@@ -8,7 +8,7 @@ ghost use Rattle.lx_spec.specs.declared.Job.TheVariants.{Crew, Script};
 ghost use Rattle.lx_spec.specs.declared.ScriptKind.TheVariants.{Live};
 ghost use Rattle.lx_spec.specs.Job.{job_of, form_of, number_alone, plain_number, counted_job};
 ghost use Rattle.lx_spec.specs.Phrase.{ended};
-ghost use Rattle.lx_program.specs.NamedJob.{InRange, NamesNoCrew, NamesNoRun};
+ghost use Rattle.lx_program.specs.NamedJob.{JobInRange, NamesNoCrew, NamesNoRun};
 ghost use Rattle.lx_program.specs.Words.{begins_with_dash, values_of};
 
 use clap::error::ErrorKind;
@@ -35,7 +35,7 @@ pub enum WordsFault {
 /// they are none of these, and at once where a word begins with a dash.
 pub fn words_of(alloc: Global, words: &[String]) -> Result<Job, WordsFault>
     ensures job { IfOk result (λ job. job_of (map string_bytes words.now) ≡ Some job) }
-    ensures range { IfOk result InRange }
+    ensures range { IfOk result JobInRange }
     ensures usage { result ≡ Err WordsFault.Usage → job_of (map string_bytes words.now) ≡ None }
     ensures dash { list_any begins_with_dash (map string_bytes words.now) ≡ true → result ≡ Err WordsFault.Usage }
 {
@@ -120,7 +120,7 @@ fn matches_of<'a>(alloc: Global, words: &'a [String]) -> Result<ArgMatches<'a>, 
 /// The job that the words name.
 fn job_in(words: &[&str]) -> Option<Job>
     ensures job { result ≡ job_of (map (λ word. word.now) words.now) }
-    ensures range { IfSome result InRange }
+    ensures range { IfSome result JobInRange }
 {
     let (name, rest) = words.split_first()?;
     match *name {
@@ -147,7 +147,7 @@ fn script_in(kind: ScriptKind, words: &[&str]) -> Option<Job>
 /// How many universes are played live, and how the levels are read.
 fn run_in(words: &[&str]) -> Option<Job>
     ensures job { result ≡ counted_job UNIVERSES (λ universes. Script (Live universes)) (map (λ word. word.now) words.now) }
-    ensures range { IfSome result InRange }
+    ensures range { IfSome result JobInRange }
 {
     let (word, rest) = words.split_first()?;
     let universes = plain_number(u32::from(UNIVERSES), word)?;
@@ -158,7 +158,7 @@ fn run_in(words: &[&str]) -> Option<Job>
 /// How many operators there are, and how the levels are read.
 fn crew_in(words: &[&str]) -> Option<Job>
     ensures job { result ≡ counted_job OPERATORS Crew (map (λ word. word.now) words.now) }
-    ensures range { IfSome result InRange }
+    ensures range { IfSome result JobInRange }
 {
     let (word, rest) = words.split_first()?;
     let operators = plain_number(u32::from(OPERATORS), word)?;

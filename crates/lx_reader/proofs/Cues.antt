@@ -15,7 +15,7 @@ use Rattle.lx_spec.specs.Entry.{blocks, is_assert}
 use Rattle.lx_spec.specs.Reading.{last_of_each, last_in, moves_in, part_from, parts_from, label_from, cue_from}
 use Rattle.lx_spec.specs.EditedShow.{new_part}
 use Rattle.lx_show.specs.ChangedEntry.{changed}
-use Rattle.lx_reader.specs.ReadingState.{with_part, with_up, with_down, parts_with, cue_with, change_by}
+use Rattle.lx_reader.specs.ReadingState.{part_with_entry, with_up, with_down, parts_with, cue_with, change_by}
 use Rattle.lx_reader.proofs.LastEntries.{last_in-more, any-more, unwrap-later, filter-more}
 use Rattle.lx_reader.proofs.MadeEntries.{cond_same, after_change}
 use Rattle.lx_reader.proofs.PlacedNumbers.{changed-made, map-placed, placed-there, has_made, eq-sym, eq-here, IsStrictlySorted-numbers}
@@ -111,7 +111,7 @@ part_added about q false absent fresh =
     ∙ ap (λ part. placed (λ x. x.number) part (parts_from about)) (fresh absent)
 
 part_opened : (about : List PlacedEntry) (p q : ℕ) → IsFresh about (Some q)
-    → map (λ m. cond (p == m) (part_of about m) (part_of about m)) (placed (λ m. m) q (parts_named about)) ≡ with_part q (parts_from about)
+    → map (λ m. cond (p == m) (part_of about m) (part_of about m)) (placed (λ m. m) q (parts_named about)) ≡ part_with_entry q (parts_from about)
 part_opened about p q fresh =
     (λ i. map (λ m. cond_same (p == m) (part_of about m) i) (placed (λ m. m) q (parts_named about)))
     ∙ part_added about q (has_entry (λ m. m) q (parts_named about)) refl fresh

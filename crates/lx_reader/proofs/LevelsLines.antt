@@ -15,14 +15,14 @@ use Rattle.lx_spec.specs.Text.{tokens}
 use Rattle.lx_spec.proofs.Comparisons.{lt_false}
 use Rattle.lx_reader.specs.declared.open_record.Open.{Open}
 use Rattle.lx_reader.specs.declared.open_record.Open.TheVariants as open_records
-use Rattle.lx_reader.specs.Settled.{FitsIn, is_open, is_record}
+use Rattle.lx_reader.specs.Settled.{OpenFits, is_open, is_record}
 
 pub both_true : (a b : Bool) → (a && b) ≡ true → (a ≡ true) × (b ≡ true)
 both_true true b both = (refl, both)
 both_true false b both = cc
 
 -- the open record's section is a record's
-pub inside_record : (show : Show) (section : Section) (moves : List Move) (o : Open) → FitsIn show section moves o → is_open o ≡ true
+pub inside_record : (show : Show) (section : Section) (moves : List Move) (o : Open) → OpenFits show section moves o → is_open o ≡ true
     → is_record section ≡ true
 inside_record show section moves open_records.None fits is = cc
 inside_record show section moves (open_records.Cue cue) fits is = ap is_record fits.0

@@ -24,7 +24,7 @@ use Rattle.lx_reader.specs.declared.fault.ShowFault.TheVariants as faults
 use Rattle.lx_reader.specs.declared.loaded.Loaded.{Loaded}
 use Rattle.lx_reader.specs.declared.reader.Reader.{Reader}
 use Rattle.lx_reader.specs.ReadingState.{first_state, step, final_reading}
-use Rattle.lx_reader.specs.LineOutcome.{facts_of, state_of, IsReady, IsStep, Outcome}
+use Rattle.lx_reader.specs.LineOutcome.{facts_of, state_of, CanGoOn, IsStep, Outcome}
 use Rattle.lx_reader.specs.HandedLines.{MeansShow, MeansFault, IsPastLimit}
 use Rattle.lx_reader.specs.Answer.{reading_of, HasRead, IsLoaded, OfText, CutShort, AnswerOf, FaultOf, TurnOf}
 use Rattle.lx_reader.proofs.ReadLines.{long_entry}
@@ -93,7 +93,7 @@ passage_none left rises l r going show set skipped first identified section part
 
 -- the reader is ready for the next line
 pub passage_ready : {S : Type 0} (left : S → Option (List ℕ)) (rises : S → ℕ) (old l : Lines S) (r : Reader) → old.number ≡ 0
-    → Passage left rises old l r → IsReady r (l.number + 1)
+    → Passage left rises old l r → CanGoOn r (l.number + 1)
 passage_ready left rises old l r first passage =
     let sound = lines_sound left rises old l (state_of r) first passage.past in
     record { open_section = sound.open_section; few = sound.few; going = passage.going }

@@ -27,7 +27,7 @@ use Rattle.lx_reader.specs.declared.fault.ShowFault.TheVariants as faults
 use Rattle.lx_reader.specs.FieldLists.{all_triples, next_times, record_number}
 use Rattle.lx_reader.specs.LineFaults.{IsFaultOf}
 use Rattle.lx_reader.specs.LineOutcome.{facts_of, state_of, IsStep, Outcome}
-use Rattle.lx_reader.specs.ReadingState.{with_rows, with_cue}
+use Rattle.lx_reader.specs.ReadingState.{with_rows, cue_with_entry}
 
 -- a time that was read is within the limit
 pub time_within : (r : Result ℕ Bad) (t : ℕ) (token : List ℕ) → r ≡ read_time token → r ≡ Ok t → IsTime t
@@ -198,7 +198,7 @@ cue_full old i n rest o numbered some identified full = cue_said old i n rest o 
 pub cue_took : (old new : Reader) (show : Show) (i n : ℕ) (rest : List (List ℕ)) (o : Option ℕ)
     → Ok o ≡ record_number i (read_cue_no desk_limits) rest → o ≡ Some n → old.identified ≡ true → old.ended ≡ false
     → true ≡ (has_entry (λ cue. cue.number) n old.show.cues || nat_lt (length old.show.cues) CUES)
-    → show ≡ record old.show { cues = with_cue n old.show.cues } → new ≡ record old { show = show; section = InCue n; part = 1 }
+    → show ≡ record old.show { cues = cue_with_entry n old.show.cues } → new ≡ record old { show = show; section = InCue n; part = 1 }
     → IsOkAnd (entry_by_word (facts_of old i) [] words.Cue rest) (IsStep old new i)
 cue_took old new show i n rest o numbered some identified going room shows is =
     took old new i (entry_by_word (facts_of old i) [] words.Cue rest) (Begins (InCue n))

@@ -16,7 +16,7 @@ use Rattle.lx_spec.specs.TrackedLevel.{cue_of, move_in, level_in}
 use Rattle.lx_show.specs.ChangedEntry.{changed}
 use Rattle.lx_spec.proofs.Lists.{kept_by, find_has}
 use Rattle.lx_spec.proofs.SortedLists.{seam, goes_between, stands_between, all_at_seam, below_seam, above_seam}
-use Rattle.lx_reader.specs.LookMoves.{last_look, is_changed, look_move, moves_up_to, with_look}
+use Rattle.lx_reader.specs.LookMoves.{last_look, look_changes, look_move, moves_up_to, with_look}
 
 all_map : {A B : Type 0} (P : A → Type 0) (Q : B → Type 0) (f : A → B) (xs : List A) → ((x : A) → P x → Q (f x)) → AllByRecursion P xs
     → AllByRecursion Q (map f xs)
@@ -50,15 +50,15 @@ one_more : (before : ℕ → ℕ) (cue : Cue) (n : ℕ) (b : Bool)
     ≡ moves_up_to before cue n ++ map (look_move cue) (cond b (suc n ∷ []) [])
 one_more before cue n true =
     placed_last (λ m. m.chan) (look_move cue (suc n)) (moves_up_to before cue n)
-    (all_map (λ c. c < suc n) (λ m. m.chan < suc n) (look_move cue) (filter (is_changed before cue) (range_with_len 1 n)) (λ c h. h)
-    (kept_by (λ c. c < suc n) (is_changed before cue) (range_with_len 1 n) (range_below 1 n (suc n) (omega arith))))
+    (all_map (λ c. c < suc n) (λ m. m.chan < suc n) (look_move cue) (filter (look_changes before cue) (range_with_len 1 n)) (λ c h. h)
+    (kept_by (λ c. c < suc n) (look_changes before cue) (range_with_len 1 n) (range_below 1 n (suc n) (omega arith))))
 one_more before cue n false = sym (append-nil (moves_up_to before cue n))
 
 moves_suc : (before : ℕ → ℕ) (cue : Cue) (n : ℕ)
-    → cond (is_changed before cue (suc n)) (placed (λ m. m.chan) (look_move cue (suc n)) (moves_up_to before cue n))
+    → cond (look_changes before cue (suc n)) (placed (λ m. m.chan) (look_move cue (suc n)) (moves_up_to before cue n))
     (moves_up_to before cue n) ≡ moves_up_to before cue (suc n)
 moves_suc before cue n =
-    let p = is_changed before cue in
+    let p = look_changes before cue in
     let k : 1 + n ≡ suc n = omega arith in
     one_more before cue n (p (suc n))
     ∙ sym (map-append (look_move cue) (filter p (range_with_len 1 n)) (filter p (suc n ∷ [])))
@@ -67,9 +67,9 @@ moves_suc before cue n =
 
 -- the moves of one channel more
 pub moves_next : (before : ℕ → ℕ) (cue : Cue) (n : ℕ)
-    → cond (is_changed before cue (n + 1)) (placed (λ m. m.chan) (look_move cue (n + 1)) (moves_up_to before cue n))
+    → cond (look_changes before cue (n + 1)) (placed (λ m. m.chan) (look_move cue (n + 1)) (moves_up_to before cue n))
     (moves_up_to before cue n) ≡ moves_up_to before cue (n + 1)
-moves_next before cue n = subst (λ k. cond (is_changed before cue k) (placed (λ m. m.chan) (look_move cue k) (moves_up_to before cue n))
+moves_next before cue n = subst (λ k. cond (look_changes before cue k) (placed (λ m. m.chan) (look_move cue k) (moves_up_to before cue n))
     (moves_up_to before cue n) ≡ moves_up_to before cue k) (sym (add-one n)) (moves_suc before cue n)
 
 -- the moves of a valid cue's look are valid
@@ -82,10 +82,10 @@ look_valid channels c parts (Some m) within first valid = record { chan = within
 moves_valid : (before : ℕ → ℕ) (cue : Cue) (channels : ℕ) → ValidCue channels cue
     → AllByRecursion (ValidMove channels cue.parts) (moves_up_to before cue channels)
 moves_valid before cue channels valid =
-    all_map (InRange channels) (ValidMove channels cue.parts) (look_move cue) (filter (is_changed before cue) (range_with_len 1 channels))
+    all_map (InRange channels) (ValidMove channels cue.parts) (look_move cue) (filter (look_changes before cue) (range_with_len 1 channels))
     (λ c within. look_valid channels c cue.parts (move_in cue c) within valid.first_part
     (find_has (ValidMove channels cue.parts) (λ m. m.chan == c) cue.moves valid.moves))
-    (kept_by (InRange channels) (is_changed before cue) (range_with_len 1 channels)
+    (kept_by (InRange channels) (look_changes before cue) (range_with_len 1 channels)
     (range_in 1 channels channels (omega arith) (omega arith)))
 
 -- the look of the last cue

@@ -18,7 +18,7 @@ use Rattle.lx_show.proofs.ChangedCues.{with_settings}
 use Rattle.lx_show.proofs.PlacedEntries.{has_changed}
 use Rattle.lx_show.proofs.Stretches.{All-all_placed, IsStrictlySorted-all_placed}
 use Rattle.lx_reader.specs.LineOfCue.{ChangesCue, HasRanges, is_own}
-use Rattle.lx_reader.specs.ReadingState.{cue_with, parts_with, with_down, with_part, with_up}
+use Rattle.lx_reader.specs.ReadingState.{cue_with, parts_with, with_down, part_with_entry, with_up}
 use Rattle.lx_reader.specs.OpenMoves.{members_of}
 use Rattle.lx_reader.specs.Settled.{CueFits, SetFits, filled_cue, filled_set}
 
@@ -71,7 +71,7 @@ parts_kept p m e parts there = elim e as (λ e. IsTrue (has_entry (λ q. q.numbe
 ]
 
 named_valid : (channels k : ℕ) (cue : Cue) → ValidCue channels cue → InRange PARTS k
-    → ValidCue channels (record cue { parts = with_part k cue.parts })
+    → ValidCue channels (record cue { parts = part_with_entry k cue.parts })
 named_valid channels k cue valid range =
     elim (has_entry (λ q. q.number) k cue.parts) as
     (λ b. ValidCue channels (record cue { parts = cond b cue.parts (placed (λ q. q.number) (new_part k) cue.parts) })) [

@@ -23,7 +23,7 @@ use Rattle.lx_reader.specs.LineOutcome.{IsStep, Outcome, state_of}
 use Rattle.lx_reader.specs.OpenMoves.{ReadsLevels, members_of}
 use Rattle.lx_reader.specs.OpenRecord.{IsOpen}
 use Rattle.lx_reader.specs.ReadingState.{cue_with, moves_of, set_with, show_with}
-use Rattle.lx_reader.specs.Settled.{CueFits, FitsIn, SetFits, filled_cue, filled_set, is_open, with_open}
+use Rattle.lx_reader.specs.Settled.{CueFits, OpenFits, SetFits, filled_cue, filled_set, is_open, with_open}
 use Rattle.lx_reader.proofs.Members.{greatest_each, greatest_least, moves_valid}
 use Rattle.lx_reader.proofs.OpenSteps.{changed_here, open_part, opened}
 use Rattle.lx_reader.proofs.PlacedOver.{all_placed_over, members_all_placed, members_of_moves, members_rise}
@@ -120,7 +120,7 @@ module _ (r : Reader) (moves new : List Move) (i k : ℕ) (rest : List (List ℕ
     ended = going;
   }
 
-  levels_step : (o : Open) → is_open o ≡ true → r.ended ≡ false → FitsIn r.show r.section moves o
+  levels_step : (o : Open) → is_open o ≡ true → r.ended ≡ false → OpenFits r.show r.section moves o
       → IsStep (opened r o moves) (opened wide o new) i (HasLevels read.members)
   levels_step open_records.None is going fits = cc
   levels_step (open_records.Cue cue) is going fits = cue_levels cue fits.0 going fits.1
@@ -130,7 +130,7 @@ module _ (r : Reader) (moves new : List Move) (i k : ℕ) (rest : List (List ℕ
   read_says : levels desk_limits i rest ≡ Ok (HasLevels read.members)
   read_says = ap (λ v. v >>= (λ members. Ok (HasLevels members))) (read.list ∙ ap Ok (append-nil read.members))
 
-  levels_took : (o : Open) → is_open o ≡ true → r.ended ≡ false → FitsIn r.show r.section moves o
+  levels_took : (o : Open) → is_open o ≡ true → r.ended ≡ false → OpenFits r.show r.section moves o
       → Outcome (opened r o moves) (opened wide o new) i (Ok tt) (levels desk_limits i rest)
   levels_took o is going fits =
       subst (λ v. IsOkAnd v (IsStep (opened r o moves) (opened wide o new) i)) (sym read_says) (levels_step o is going fits)
@@ -163,21 +163,21 @@ module _ (r : Reader) (moves new : List Move) (i k : ℕ) (rest : List (List ℕ
         (IsStrictlySorted-all_placed (λ m. m.chan) (moves_of r.part read.members) moves fits.rise);
   }
 
-  levels_fit : (o : Open) → is_open o ≡ true → IsOpen (with_open o moves r.show) r.section r.part → FitsIn r.show r.section moves o
-      → FitsIn (widened k r.show) r.section new o
+  levels_fit : (o : Open) → is_open o ≡ true → IsOpen (with_open o moves r.show) r.section r.part → OpenFits r.show r.section moves o
+      → OpenFits (widened k r.show) r.section new o
   levels_fit open_records.None is there fits = cc
   levels_fit (open_records.Cue cue) is there fits = (fits.0, cue_fits cue (open_part r moves cue fits.0 there) fits.1)
   levels_fit (open_records.Group set) is there fits = (fits.0, set_fits GROUPS set fits.1)
   levels_fit (open_records.Sub set) is there fits = (fits.0, set_fits SUBS set fits.1)
 
   pub levels_outcome : (o : Open) (shown : Show) → shown ≡ widened k r.show → is_open o ≡ true → r.ended ≡ false
-      → FitsIn r.show r.section moves o
+      → OpenFits r.show r.section moves o
       → Outcome (opened r o moves) (opened (record r { show = shown }) o new) i (Ok tt) (levels desk_limits i rest)
   levels_outcome o shown widens is going fits =
       subst (λ (s : Show). Outcome (opened r o moves) (opened (record r { show = s }) o new) i (Ok tt) (levels desk_limits i rest)) (sym widens)
       (levels_took o is going fits)
 
   pub still_fits : (o : Open) (shown : Show) → shown ≡ widened k r.show → is_open o ≡ true → IsOpen (with_open o moves r.show) r.section r.part
-      → FitsIn r.show r.section moves o → FitsIn shown r.section new o
+      → OpenFits r.show r.section moves o → OpenFits shown r.section new o
   still_fits o shown widens is there fits =
-      subst (λ (s : Show). FitsIn s r.section new o) (sym widens) (levels_fit o is there fits)
+      subst (λ (s : Show). OpenFits s r.section new o) (sym widens) (levels_fit o is there fits)

@@ -19,7 +19,7 @@ use Rattle.lx_reader.specs.declared.open_record.Open.TheVariants as open_records
 use Rattle.lx_reader.specs.declared.reader.Reader.{Reader}
 use Rattle.lx_reader.specs.FieldLists.{record_number}
 use Rattle.lx_reader.specs.LineOutcome.{IsStep, state_of}
-use Rattle.lx_reader.specs.ReadingState.{with_cue, with_entry, with_set}
+use Rattle.lx_reader.specs.ReadingState.{cue_with_entry, with_entry, with_set}
 use Rattle.lx_reader.specs.Settled.{with_open}
 use Rattle.lx_reader.proofs.LineSteps.{record-said, record_said}
 use Rattle.lx_reader.proofs.OpenSteps.{opened}
@@ -57,8 +57,8 @@ opened_none r o moves none = ap (λ (p : Open). opened r p moves) none
 
 -- the show with the record that begins
 pub cue_opened : (show left : Show) (cue : Cue) (moves : List Move) (n : ℕ) → moves ≡ [] → left ≡ record show { cues = left.cues }
-    → placed (λ c. c.number) cue left.cues ≡ with_cue n show.cues
-    → with_open (open_records.Cue cue) moves left ≡ record show { cues = with_cue n show.cues }
+    → placed (λ c. c.number) cue left.cues ≡ cue_with_entry n show.cues
+    → with_open (open_records.Cue cue) moves left ≡ record show { cues = cue_with_entry n show.cues }
 cue_opened show left cue moves n empty is put =
     ap (λ ms. with_open (open_records.Cue cue) ms left) empty
     ∙ (λ j. record (is j) { cues = placed (λ c. c.number) cue left.cues }) ∙ (λ j. record show { cues = put j })

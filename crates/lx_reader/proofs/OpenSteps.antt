@@ -26,7 +26,7 @@ use Rattle.lx_reader.specs.LineOfCue.{ChangesCue, CueSays, HasParts, LabelSays, 
 use Rattle.lx_reader.specs.LineOutcome.{IsStep, Said, facts_of, state_of}
 use Rattle.lx_reader.specs.OpenRecord.{HasPartIn, IsOpen}
 use Rattle.lx_reader.specs.ReadingState.{ReadingState, cue_with, facts_in, placed_in, set_with, show_with, step, with_down, with_up}
-use Rattle.lx_reader.specs.Settled.{CueFits, FitsIn, SetFits, filled_cue, filled_set, with_open}
+use Rattle.lx_reader.specs.Settled.{CueFits, OpenFits, SetFits, filled_cue, filled_set, with_open}
 use Rattle.lx_reader.proofs.LineSteps.{times_ok}
 use Rattle.lx_reader.proofs.OpenCues.{own_fits}
 
@@ -281,19 +281,19 @@ down_says i rest t old new p numbers is ranges =
     (record { own = refl; cue = is; part = refl; ranges = ranges })
 
 -- The same of whatever record is open.
-held_cue : (r : Reader) (moves : List Move) (o : Open) (cue : Cue) → o ≡ open_records.Cue cue → FitsIn r.show r.section moves o
+held_cue : (r : Reader) (moves : List Move) (o : Open) (cue : Cue) → o ≡ open_records.Cue cue → OpenFits r.show r.section moves o
     → (r.section ≡ InCue cue.number) × CueFits r.show moves cue
-held_cue r moves o cue is fits = subst (FitsIn r.show r.section moves) is fits
+held_cue r moves o cue is fits = subst (OpenFits r.show r.section moves) is fits
 
-held_group : (r : Reader) (moves : List Move) (o : Open) (set : MemberSet) → o ≡ open_records.Group set → FitsIn r.show r.section moves o
+held_group : (r : Reader) (moves : List Move) (o : Open) (set : MemberSet) → o ≡ open_records.Group set → OpenFits r.show r.section moves o
     → (r.section ≡ InGroup set.number) × SetFits GROUPS r.show moves set
-held_group r moves o set is fits = subst (FitsIn r.show r.section moves) is fits
+held_group r moves o set is fits = subst (OpenFits r.show r.section moves) is fits
 
-held_sub : (r : Reader) (moves : List Move) (o : Open) (set : MemberSet) → o ≡ open_records.Sub set → FitsIn r.show r.section moves o
+held_sub : (r : Reader) (moves : List Move) (o : Open) (set : MemberSet) → o ≡ open_records.Sub set → OpenFits r.show r.section moves o
     → (r.section ≡ InSub set.number) × SetFits SUBS r.show moves set
-held_sub r moves o set is fits = subst (FitsIn r.show r.section moves) is fits
+held_sub r moves o set is fits = subst (OpenFits r.show r.section moves) is fits
 
-pub parts_open : (r : Reader) (moves : List Move) (o : Open) (cue : Cue) → o ≡ open_records.Cue cue → FitsIn r.show r.section moves o
+pub parts_open : (r : Reader) (moves : List Move) (o : Open) (cue : Cue) → o ≡ open_records.Cue cue → OpenFits r.show r.section moves o
     → IsOpen (with_open o moves r.show) r.section r.part → HasParts cue r.part
 parts_open r moves o cue is fits there =
     let held = held_cue r moves o cue is fits in
@@ -304,7 +304,7 @@ parts_open r moves o cue is fits there =
     }
 
 pub said_in_cue : (r : Reader) (moves : List Move) (o : Open) (old new : Cue) (q i : ℕ) (line : List ℕ) (word : Word)
-    (rest : List (List ℕ)) (result : Result Bool TextFault) → o ≡ open_records.Cue old → FitsIn r.show r.section moves o → r.ended ≡ false
+    (rest : List (List ℕ)) (result : Result Bool TextFault) → o ≡ open_records.Cue old → OpenFits r.show r.section moves o → r.ended ≡ false
     → CueSays (cue_entry (facts_at i) line word rest) old new r.part q result
     → Said (opened r o moves) (opened (record r { part = q }) (open_records.Cue new) moves) i result
     (inner_entry r.section (facts_of (opened r o moves) i) line word rest)
@@ -314,13 +314,13 @@ said_in_cue r moves o old new q i line word rest result is fits going says =
     (cue_said r moves old new q i line word rest result (held_cue r moves o old is fits).0 going says)
 
 pub fits_in_cue : (r : Reader) (moves : List Move) (o : Open) (old new : Cue) (q : ℕ) (result : Result Bool TextFault) (x : Result Entry TextFault)
-    → o ≡ open_records.Cue old → FitsIn r.show r.section moves o → CueSays x old new r.part q result
+    → o ≡ open_records.Cue old → OpenFits r.show r.section moves o → CueSays x old new r.part q result
     → OnOk result ((r.section ≡ InCue new.number) × CueFits r.show moves new)
 fits_in_cue r moves o old new q result x is fits says =
     let held = held_cue r moves o old is fits in cue_still r.show moves old new r.part q r.section result x held.0 held.1 says
 
 pub said_in_group : (r : Reader) (moves : List Move) (o : Open) (set : MemberSet) (label : List ℕ) (i : ℕ) (line : List ℕ) (word : Word)
-    (rest : List (List ℕ)) (b : Bool) → o ≡ open_records.Group set → FitsIn r.show r.section moves o → r.ended ≡ false
+    (rest : List (List ℕ)) (b : Bool) → o ≡ open_records.Group set → OpenFits r.show r.section moves o → r.ended ≡ false
     → LabelSays (members_entry (facts_at i) line word rest) set.label label b
     → Said (opened r o moves) (opened r (open_records.Group (relabelled label set)) moves) i (Ok b)
     (inner_entry r.section (facts_of (opened r o moves) i) line word rest)
@@ -330,13 +330,13 @@ said_in_group r moves o set label i line word rest b is fits going says =
     (group_said r moves set label i line word rest b (held_group r moves o set is fits).0 going says)
 
 pub fits_in_group : (r : Reader) (moves : List Move) (o : Open) (set : MemberSet) (label : List ℕ) (b : Bool) (x : Result Entry TextFault)
-    → o ≡ open_records.Group set → FitsIn r.show r.section moves o → LabelSays x set.label label b
+    → o ≡ open_records.Group set → OpenFits r.show r.section moves o → LabelSays x set.label label b
     → (r.section ≡ InGroup set.number) × SetFits GROUPS r.show moves (relabelled label set)
 fits_in_group r moves o set label b x is fits says =
     let held = held_group r moves o set is fits in (held.0, label_fits GROUPS r.show moves set label b x held.1 says)
 
 pub said_in_sub : (r : Reader) (moves : List Move) (o : Open) (set : MemberSet) (label : List ℕ) (i : ℕ) (line : List ℕ) (word : Word)
-    (rest : List (List ℕ)) (b : Bool) → o ≡ open_records.Sub set → FitsIn r.show r.section moves o → r.ended ≡ false
+    (rest : List (List ℕ)) (b : Bool) → o ≡ open_records.Sub set → OpenFits r.show r.section moves o → r.ended ≡ false
     → LabelSays (members_entry (facts_at i) line word rest) set.label label b
     → Said (opened r o moves) (opened r (open_records.Sub (relabelled label set)) moves) i (Ok b)
     (inner_entry r.section (facts_of (opened r o moves) i) line word rest)
@@ -346,7 +346,7 @@ said_in_sub r moves o set label i line word rest b is fits going says =
     (sub_said r moves set label i line word rest b (held_sub r moves o set is fits).0 going says)
 
 pub fits_in_sub : (r : Reader) (moves : List Move) (o : Open) (set : MemberSet) (label : List ℕ) (b : Bool) (x : Result Entry TextFault)
-    → o ≡ open_records.Sub set → FitsIn r.show r.section moves o → LabelSays x set.label label b
+    → o ≡ open_records.Sub set → OpenFits r.show r.section moves o → LabelSays x set.label label b
     → (r.section ≡ InSub set.number) × SetFits SUBS r.show moves (relabelled label set)
 fits_in_sub r moves o set label b x is fits says =
     let held = held_sub r moves o set is fits in (held.0, label_fits SUBS r.show moves set label b x held.1 says)

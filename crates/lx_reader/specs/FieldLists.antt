@@ -13,13 +13,13 @@ use Rattle.lx_spec.specs.Numerals.{read_level, read_time, read_whole}
 use Rattle.lx_spec.specs.Fields.{pairs, triples, number, next, delay_at, is_page_one}
 
 -- the fault of a token
-abbrev pub fault_of : ℕ → Bad → TextFault
-fault_of i Shape = BadNumber i
-fault_of i Range = OutOfRange i
+abbrev pub token_fault : ℕ → Bad → TextFault
+token_fault i Shape = BadNumber i
+token_fault i Range = OutOfRange i
 
 -- the fault of a token in a list, which may also be short
 abbrev pub fault_in : ℕ → Bad → Bool → TextFault
-fault_in i bad whole = if whole then fault_of i bad else ShortList i
+fault_in i bad whole = if whole then token_fault i bad else ShortList i
 
 -- the levels of a line, or its fault
 abbrev pub all_pairs : ℕ → List (List ℕ) → Result (List Member) TextFault

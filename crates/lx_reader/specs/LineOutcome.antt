@@ -33,7 +33,7 @@ abbrev pub placed_at : Reader → Entry → PlacedEntry
 placed_at r entry = placed_in (state_of r) entry
 
 -- the reader can go on with line i
-pub record IsReady (r : Reader) (i : ℕ) : Type 0 where
+pub record CanGoOn (r : Reader) (i : ℕ) : Type 0 where
   pub open_section : IsOpen r.show r.section r.part
   pub few : r.skipped < i
   pub going : r.ended ≡ false

@@ -14,15 +14,15 @@ last_look (cue ∷ []) c = level_in cue c
 last_look (cue ∷ next ∷ cues) c = last_look (next ∷ cues) c
 
 -- the level in the look isn't the one before it, or in a block cue 0
-abbrev pub is_changed : (ℕ → ℕ) → Cue → ℕ → Bool
-is_changed before cue c = not (level_in cue c == (if cue.block then 0 else before c))
+abbrev pub look_changes : (ℕ → ℕ) → Cue → ℕ → Bool
+look_changes before cue c = not (level_in cue c == (if cue.block then 0 else before c))
 
 abbrev pub look_move : Cue → ℕ → Move
 look_move cue c = record { chan = c; part = option_map_or (λ m. m.part) (move_in cue c) 1; level = level_in cue c }
 
 -- the moves of the first channels
 abbrev pub moves_up_to : (ℕ → ℕ) → Cue → ℕ → List Move
-moves_up_to before cue n = map (look_move cue) (filter (is_changed before cue) (range_with_len 1 n))
+moves_up_to before cue n = map (look_move cue) (filter (look_changes before cue) (range_with_len 1 n))
 
 -- the cue with the moves from the look of the last cue before it
 abbrev pub with_look : Show → List Cue → Cue → Cue

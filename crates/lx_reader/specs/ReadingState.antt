@@ -48,8 +48,8 @@ abbrev pub moves_of : ℕ → List Member → List Move
 moves_of p members = map (λ m. record { chan = m.chan; part = p; level = m.level }) members
 
 -- the parts with the one of the number
-abbrev pub with_part : ℕ → List Part → List Part
-with_part p parts = with_entry (λ part. part.number) new_part p parts
+abbrev pub part_with_entry : ℕ → List Part → List Part
+part_with_entry p parts = with_entry (λ part. part.number) new_part p parts
 
 -- the entry says something of the record in which it stands
 abbrev pub speaks : Entry → Bool
@@ -65,7 +65,7 @@ speaks inner = true
 
 -- the parts with what an entry in part p says
 abbrev pub parts_with : ℕ → Entry → List Part → List Part
-parts_with p (NamesPart q) parts = with_part q parts
+parts_with p (NamesPart q) parts = part_with_entry q parts
 parts_with p (HasUp time delay) parts = changed (λ part. part.number) p (with_up time delay) parts
 parts_with p (HasDown time delay) parts = changed (λ part. part.number) p (with_down time delay) parts
 parts_with p other parts = parts
@@ -101,8 +101,8 @@ abbrev pub change_by : {A : Type 0} → (Entry → A → A) → Entry → Option
 change_by with_it entry = if speaks entry then Some (with_it entry) else None
 
 -- the cues with the one of the number
-abbrev pub with_cue : ℕ → List Cue → List Cue
-with_cue n cues = with_entry (λ cue. cue.number) new_cue n cues
+abbrev pub cue_with_entry : ℕ → List Cue → List Cue
+cue_with_entry n cues = with_entry (λ cue. cue.number) new_cue n cues
 
 -- the number of the cue, group or submaster that an entry begins
 abbrev pub number_begun : (Section → Option ℕ) → Entry → Option ℕ
@@ -142,8 +142,8 @@ with_rows rows show =
     record show { channels = fold max show.channels (map (λ row. row.chan) rows); patch = all_placed (λ row. row.dimmer) rows show.patch }
 
 -- the show with levels in a section, and in part p where it is a cue
-abbrev pub with_members : Section → ℕ → List Member → Show → Show
-with_members section p members show = show_with (record { section = section; part = p; entry = HasLevels members }) show
+abbrev pub members_with_entry : Section → ℕ → List Member → Show → Show
+members_with_entry section p members show = show_with (record { section = section; part = p; entry = HasLevels members }) show
 
 -- The state of a reading. The show, whose channel count is the greatest channel that is named, or 1; what SET CHANNELS says; how
 -- many lines were skipped, and the number of the first of them, or 0; whether an IDENT line was read, and the section and the open part.

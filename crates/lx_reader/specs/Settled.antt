@@ -56,11 +56,11 @@ pub record SetFits (limit : ℕ) (show : Show) (moves : List Move) (set : Member
   pub rise : IsStrictlySorted (λ m. m.chan) moves
 
 -- the open record is the section's, and may be put into the show
-abbrev pub FitsIn : Show → Section → List Move → Open → Type 0
-FitsIn show section moves open_records.None = (is_record section ≡ false) × (moves ≡ [])
-FitsIn show section moves (open_records.Cue cue) = (section ≡ InCue cue.number) × CueFits show moves cue
-FitsIn show section moves (open_records.Group group) = (section ≡ InGroup group.number) × SetFits GROUPS show moves group
-FitsIn show section moves (open_records.Sub sub) = (section ≡ InSub sub.number) × SetFits SUBS show moves sub
+abbrev pub OpenFits : Show → Section → List Move → Open → Type 0
+OpenFits show section moves open_records.None = (is_record section ≡ false) × (moves ≡ [])
+OpenFits show section moves (open_records.Cue cue) = (section ≡ InCue cue.number) × CueFits show moves cue
+OpenFits show section moves (open_records.Group group) = (section ≡ InGroup group.number) × SetFits GROUPS show moves group
+OpenFits show section moves (open_records.Sub sub) = (section ≡ InSub sub.number) × SetFits SUBS show moves sub
 
-abbrev pub Fits : Reading → Type 0
-Fits g = FitsIn g.reader.show g.reader.section g.moves g.held
+abbrev pub PassFits : Reading → Type 0
+PassFits g = OpenFits g.reader.show g.reader.section g.moves g.held

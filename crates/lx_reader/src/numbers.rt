@@ -7,7 +7,7 @@ ghost use Rattle.lx_spec.specs.Numerals.{read_cue_no, read_time, read_whole};
 ghost use Rattle.lx_spec.specs.Fields.{delay_at, is_page_one, number};
 ghost use Rattle.lx_spec.specs.Show.{IsTime};
 ghost use Rattle.lx_lex.specs.Left.{left};
-ghost use Rattle.lx_reader.specs.FieldLists.{fault_of};
+ghost use Rattle.lx_reader.specs.FieldLists.{token_fault};
 ghost use Rattle.lx_reader.specs.FieldLists.{next_number, next_times, record_number};
 
 use lx_base::{Chan, Cs, CueNo, GroupNo, PartNo, SubNo};
@@ -17,8 +17,8 @@ use lx_lex::{
 use lx_spec::TextFault;
 
 /// The fault of a token at a line.
-pub(crate) fn fault_of(i: u32, bad: Bad) -> TextFault
-    ensures { result ≡ fault_of i bad }
+pub(crate) fn token_fault(i: u32, bad: Bad) -> TextFault
+    ensures { result ≡ token_fault i bad }
 {
     match bad {
         Bad::Shape => TextFault::BadNumber(i),
@@ -33,7 +33,7 @@ pub(crate) fn next_channel(i: u32, mut tokens: Tokens) -> Result<Chan, TextFault
     let Some(token) = tokens.next() else {
         return Err(TextFault::ShortList(i));
     };
-    read_channel(token).map_err(|bad| fault_of(i, bad))
+    read_channel(token).map_err(|bad| token_fault(i, bad))
 }
 
 /// The part number that comes next.
@@ -43,7 +43,7 @@ pub(crate) fn next_part(i: u32, mut tokens: Tokens) -> Result<PartNo, TextFault>
     let Some(token) = tokens.next() else {
         return Err(TextFault::ShortList(i));
     };
-    read_part(token).map_err(|bad| fault_of(i, bad))
+    read_part(token).map_err(|bad| token_fault(i, bad))
 }
 
 /// The time that comes next.
@@ -64,7 +64,7 @@ fn time_at(i: u32, token: &[u8]) -> Result<Cs, TextFault>
 {
     match read_time(token) {
         Ok(time) => Ok(time),
-        Err(bad) => Err(fault_of(i, bad)),
+        Err(bad) => Err(token_fault(i, bad)),
     }
 }
 
@@ -75,7 +75,7 @@ pub(crate) fn next_cue_no(i: u32, mut tokens: Tokens) -> Result<CueNo, TextFault
     let Some(token) = tokens.next() else {
         return Err(TextFault::ShortList(i));
     };
-    read_cue_no(token).map_err(|bad| fault_of(i, bad))
+    read_cue_no(token).map_err(|bad| token_fault(i, bad))
 }
 
 /// The time that comes next and the delay after it.
@@ -131,7 +131,7 @@ pub(crate) fn cue_of_record(i: u32, mut tokens: Tokens) -> Result<Option<CueNo>,
     }
     match read_cue_no(token) {
         Ok(number) => Ok(Some(number)),
-        Err(bad) => Err(fault_of(i, bad)),
+        Err(bad) => Err(token_fault(i, bad)),
     }
 }
 
@@ -147,7 +147,7 @@ pub(crate) fn group_of_record(i: u32, mut tokens: Tokens) -> Result<Option<Group
     }
     match read_group(token) {
         Ok(number) => Ok(Some(number)),
-        Err(bad) => Err(fault_of(i, bad)),
+        Err(bad) => Err(token_fault(i, bad)),
     }
 }
 
@@ -163,6 +163,6 @@ pub(crate) fn sub_of_record(i: u32, mut tokens: Tokens) -> Result<Option<SubNo>,
     }
     match read_sub(token) {
         Ok(number) => Ok(Some(number)),
-        Err(bad) => Err(fault_of(i, bad)),
+        Err(bad) => Err(token_fault(i, bad)),
     }
 }

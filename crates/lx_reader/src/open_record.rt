@@ -5,9 +5,9 @@ ghost use Rattle.lx_base.specs.declared.TheConstants.{CUES, GROUPS, SUBS};
 ghost use Rattle.lx_spec.specs.declared.Section.{Section};
 ghost use Rattle.lx_spec.specs.SortedList.{has_entry, placed};
 ghost use Rattle.lx_spec.specs.Show.{ValidCue, ValidGroup, ValidSub};
-ghost use Rattle.lx_reader.specs.ReadingState.{with_cue, with_set};
+ghost use Rattle.lx_reader.specs.ReadingState.{cue_with_entry, with_set};
 ghost use Rattle.lx_reader.specs.declared.open_record.Open.TheVariants as open_records;
-ghost use Rattle.lx_reader.specs.Settled.{CueFits, FitsIn, SetFits, is_open, with_open};
+ghost use Rattle.lx_reader.specs.Settled.{CueFits, OpenFits, SetFits, is_open, with_open};
 
 use crate::open_moves::OpenMoves;
 use lx_base::{CueNo, GroupNo, SubNo};
@@ -42,7 +42,7 @@ pub(crate) fn put_record(
     held: Open,
     moves: &mut OpenMoves,
 ) -> Result<(), AllocError>
-    requires { (section : Section) × FitsIn show.old section moves.old held }
+    requires { (section : Section) × OpenFits show.old section moves.old held }
     ensures { OnOk result (show.new ≡ with_open held moves.old show.old) }
 {
     match held {
@@ -97,7 +97,7 @@ pub(crate) fn open_cue(alloc: Global, show: &mut Show, n: CueNo) -> Cue
     ensures valid { ValidCue show.new.channels result }
     ensures show { show.new ≡ record show.old { cues = show.new.cues } }
     ensures room { IsTrue (has_entry (λ c. c.number) n show.new.cues || nat_lt (length show.new.cues) CUES) }
-    ensures cues { placed (λ c. c.number) result show.new.cues ≡ with_cue n show.old.cues }
+    ensures cues { placed (λ c. c.number) result show.new.cues ≡ cue_with_entry n show.old.cues }
 {
     if entry_of(show.cues(), n.get()).is_none() {
         return Cue::new(alloc, n);

@@ -8,7 +8,7 @@ ghost use Rattle.lx_spec.specs.LineRules.{is_next};
 ghost use Rattle.lx_spec.specs.LineRules.{entry_by_word};
 ghost use Rattle.std.specs.Str.{str_to_ascii_uppercase};
 ghost use Rattle.lx_lex.specs.Left.{left};
-ghost use Rattle.lx_reader.specs.LineOutcome.{IsReady, facts_of, Outcome};
+ghost use Rattle.lx_reader.specs.LineOutcome.{CanGoOn, facts_of, Outcome};
 
 use crate::fault::ShowFault;
 use crate::numbers::{is_one, next_channel};
@@ -44,7 +44,7 @@ impl Reader {
 
     /// `IDENT 3:0`
     pub(crate) fn ident_line(&mut self, i: u32, tokens: Tokens) -> Result<(), ShowFault>
-        requires { IsReady self.old i }
+        requires { CanGoOn self.old i }
         ensures { Outcome self.old self.new i result (entry_by_word (facts_of self.old i) [] words.Ident (left tokens.entry)) }
     {
         if !is_next(tokens, b"3:0") {
@@ -57,7 +57,7 @@ impl Reader {
 
     /// `CLEAR ALL`
     pub(crate) fn clear_line(&mut self, i: u32, tokens: Tokens)
-        requires ready { IsReady self.old i }
+        requires ready { CanGoOn self.old i }
         requires identified { self.old.identified ≡ true }
         ensures { Outcome self.old self.new i (Ok tt) (entry_by_word (facts_of self.old i) [] words.Clear (left tokens.entry)) }
     {
@@ -72,7 +72,7 @@ impl Reader {
 
     /// `SET CHANNELS n`
     pub(crate) fn set_line(&mut self, i: u32, mut tokens: Tokens) -> Result<(), ShowFault>
-        requires ready { IsReady self.old i }
+        requires ready { CanGoOn self.old i }
         requires identified { self.old.identified ≡ true }
         ensures { Outcome self.old self.new i result (entry_by_word (facts_of self.old i) [] words.Set (left tokens.entry)) }
     {
@@ -88,7 +88,7 @@ impl Reader {
 
     /// `PATCH 1` with rows
     pub(crate) fn patch_line(&mut self, i: u32, mut tokens: Tokens) -> Result<(), ShowFault>
-        requires ready { IsReady self.old i }
+        requires ready { CanGoOn self.old i }
         requires identified { self.old.identified ≡ true }
         ensures outcome { Outcome self.old self.new i result (entry_by_word (facts_of self.old i) [] words.Patch (left tokens.entry)) }
         ensures section { OnOk result (self.new.section ≡ NoRecord) }

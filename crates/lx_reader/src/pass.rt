@@ -3,9 +3,9 @@
 ghost use Rattle.std.specs.Prelude.{◌≡◌, ◌≢◌, ◌≤◌, ◌+◌, Err, IfSome, IsTrue, OnOk};
 ghost use Rattle.lx_io.specs.Causes.{Rose};
 ghost use Rattle.lx_spec.specs.Show.{Valid};
-ghost use Rattle.lx_reader.specs.LineOutcome.{IsReady, state_of};
+ghost use Rattle.lx_reader.specs.LineOutcome.{CanGoOn, state_of};
 ghost use Rattle.lx_reader.specs.ReadingState.{final_reading};
-ghost use Rattle.lx_reader.specs.Settled.{Fits, settled};
+ghost use Rattle.lx_reader.specs.Settled.{PassFits, settled};
 ghost use Rattle.lx_reader.specs.Answer.{AnswerOf, IsLoaded, TurnOf, reading_of};
 
 use crate::fault::ShowFault;
@@ -59,11 +59,11 @@ fn read_line<S: Source>(
     reader: &mut Reading,
 ) -> Result<(), ShowFault>
     requires going { IsTrue lines.old.going }
-    requires ready { IsReady (settled reader.old) (lines.old.number + 1) }
-    requires fits { Fits reader.old }
+    requires ready { CanGoOn (settled reader.old) (lines.old.number + 1) }
+    requires fits { PassFits reader.old }
     ensures same_reference { lines.new.source.ghost_name ≡ lines.old.source.ghost_name }
     ensures turn { TurnOf S.left S.faults lines.old lines.new (settled reader.old) (settled reader.new) result }
-    ensures fits { OnOk result (Fits reader.new) }
+    ensures fits { OnOk result (PassFits reader.new) }
     ensures later { S.faults lines.old.source.now ≤ S.faults lines.new.source.now }
     ensures read { result ≡ Err ShowFault.ReadFault → Rose (S.faults lines.old.source.now) (S.faults lines.new.source.now) }
     ensures kept { result ≢ Err ShowFault.ReadFault → S.faults lines.new.source.now ≡ S.faults lines.old.source.now }
@@ -79,7 +79,7 @@ fn read_line<S: Source>(
 
 /// What was read, in the form of the text.
 fn loaded_by(alloc: Global, reading: Reading, form: Form) -> Result<Loaded, ShowFault>
-    requires { Fits reading }
+    requires { PassFits reading }
     ensures { IsLoaded form (settled reading) result }
 {
     let mut reading = reading;

@@ -12,9 +12,9 @@ ghost use Rattle.lx_spec.specs.LineRules.{entry_by_word, entry_of, inner_entry, 
 ghost use Rattle.lx_spec.specs.Text.{tokens};
 ghost use Rattle.lx_lex.specs.Left.{left};
 ghost use Rattle.lx_reader.specs.declared.open_record.Open.TheVariants as open_records;
-ghost use Rattle.lx_reader.specs.LineOutcome.{IsReady, Outcome, Said, facts_of, is_known, is_outer};
+ghost use Rattle.lx_reader.specs.LineOutcome.{CanGoOn, Outcome, Said, facts_of, is_known, is_outer};
 ghost use Rattle.lx_reader.specs.LineOfCue.{is_levels};
-ghost use Rattle.lx_reader.specs.Settled.{Fits, is_open, is_record, settled};
+ghost use Rattle.lx_reader.specs.Settled.{PassFits, is_open, is_record, settled};
 
 use crate::fault::ShowFault;
 use crate::numbers::{cue_of_record, group_of_record, sub_of_record};
@@ -48,7 +48,7 @@ impl Reading {
         ensures skipped { ((settled result).skipped ≡ 0) × ((settled result).first_skipped ≡ 0) }
         ensures facts { ((settled result).identified ≡ false) × ((settled result).section ≡ NoRecord) × ((settled result).part ≡ 1) }
         ensures ended { (settled result).ended ≡ false }
-        ensures fits { Fits result }
+        ensures fits { PassFits result }
     {
         Reading {
             reader: Reader::new(show),
@@ -59,7 +59,7 @@ impl Reading {
 
     /// Puts the open record into the show, with its levels.
     pub(crate) fn settle(&mut self, alloc: Global) -> Result<(), AllocError>
-        requires { Fits self.old }
+        requires { PassFits self.old }
         ensures reader { OnOk result (self.new.reader ≡ settled self.old) }
         ensures none { OnOk result (self.new.held ≡ open_records.None) }
         ensures empty { OnOk result (self.new.moves ≡ []) }
@@ -75,10 +75,10 @@ impl Reading {
     #[inline(always)]
     pub(crate) fn step(&mut self, alloc: Global, i: u32, line: &[u8]) -> Result<(), ShowFault>
         requires short { length line.now ≤ LINE_BYTES }
-        requires ready { IsReady (settled self.old) i }
-        requires fits { Fits self.old }
+        requires ready { CanGoOn (settled self.old) i }
+        requires fits { PassFits self.old }
         ensures outcome { Outcome (settled self.old) (settled self.new) i result (entry_of (facts_of (settled self.old) i) line.now) }
-        ensures fits { OnOk result (Fits self.new) }
+        ensures fits { OnOk result (PassFits self.new) }
     {
         match levels_of(line) {
             Some(levels) if self.takes_levels() => self.levels_line(alloc, i, levels),
@@ -98,10 +98,10 @@ impl Reading {
     #[inline(never)]
     fn line_by_word(&mut self, alloc: Global, i: u32, line: &[u8]) -> Result<(), ShowFault>
         requires short { length line.now ≤ LINE_BYTES }
-        requires ready { IsReady (settled self.old) i }
-        requires fits { Fits self.old }
+        requires ready { CanGoOn (settled self.old) i }
+        requires fits { PassFits self.old }
         ensures outcome { Outcome (settled self.old) (settled self.new) i result (entry_of (facts_of (settled self.old) i) line.now) }
-        ensures fits { OnOk result (Fits self.new) }
+        ensures fits { OnOk result (PassFits self.new) }
     {
         let mut tokens = tokens(line);
         let Some(first) = tokens.next() else {
@@ -119,11 +119,11 @@ impl Reading {
         word: Word,
         tokens: Tokens,
     ) -> Result<(), ShowFault>
-        requires ready { IsReady (settled self.old) i }
-        requires fits { Fits self.old }
+        requires ready { CanGoOn (settled self.old) i }
+        requires fits { PassFits self.old }
         ensures outcome { Outcome (settled self.old) (settled self.new) i result
             (entry_by_word (facts_of (settled self.old) i) line.now word (left tokens.entry)) }
-        ensures fits { OnOk result (Fits self.new) }
+        ensures fits { OnOk result (PassFits self.new) }
     {
         match word {
             Word::TwoDollars => {
@@ -142,11 +142,11 @@ impl Reading {
 
     /// `ENDDATA`
     fn end_line(&mut self, i: u32) -> Result<(), ShowFault>
-        requires ready { IsReady (settled self.old) i }
-        requires fits { Fits self.old }
+        requires ready { CanGoOn (settled self.old) i }
+        requires fits { PassFits self.old }
         ensures outcome { Outcome (settled self.old) (settled self.new) i result
             (entry_by_word (facts_of (settled self.old) i) [] words.EndData []) }
-        ensures fits { OnOk result (Fits self.new) }
+        ensures fits { OnOk result (PassFits self.new) }
     {
         if !self.reader.identified {
             return Err(ShowFault::Text(TextFault::NoIdent(i)));
@@ -163,12 +163,12 @@ impl Reading {
         word: Word,
         tokens: Tokens,
     ) -> Result<(), ShowFault>
-        requires ready { IsReady (settled self.old) i }
-        requires fits { Fits self.old }
+        requires ready { CanGoOn (settled self.old) i }
+        requires fits { PassFits self.old }
         requires outer { is_outer word ≡ true }
         ensures outcome { Outcome (settled self.old) (settled self.new) i result
             (entry_by_word (facts_of (settled self.old) i) [] word (left tokens.entry)) }
-        ensures fits { OnOk result (Fits self.new) }
+        ensures fits { OnOk result (PassFits self.new) }
     {
         self.settle(alloc)?;
         self.line_outside(alloc, i, word, tokens)
@@ -182,13 +182,13 @@ impl Reading {
         word: Word,
         tokens: Tokens,
     ) -> Result<(), ShowFault>
-        requires ready { IsReady self.old.reader i }
+        requires ready { CanGoOn self.old.reader i }
         requires none { self.old.held ≡ open_records.None }
         requires empty { self.old.moves ≡ [] }
         requires outer { is_outer word ≡ true }
         ensures outcome { Outcome self.old.reader (settled self.new) i result
             (entry_by_word (facts_of self.old.reader i) [] word (left tokens.entry)) }
-        ensures fits { OnOk result (Fits self.new) }
+        ensures fits { OnOk result (PassFits self.new) }
     {
         match word {
             Word::OneDollar => {
@@ -213,14 +213,14 @@ impl Reading {
         word: Word,
         tokens: Tokens,
     ) -> Result<(), ShowFault>
-        requires ready { IsReady self.old.reader i }
+        requires ready { CanGoOn self.old.reader i }
         requires identified { self.old.reader.identified ≡ true }
         requires none { self.old.held ≡ open_records.None }
         requires empty { self.old.moves ≡ [] }
         requires known { is_known word ≡ true }
         ensures outcome { Outcome self.old.reader (settled self.new) i result
             (entry_by_word (facts_of self.old.reader i) [] word (left tokens.entry)) }
-        ensures fits { OnOk result (Fits self.new) }
+        ensures fits { OnOk result (PassFits self.new) }
     {
         match word {
             Word::Cue => self.cue_line(alloc, i, tokens),
@@ -238,13 +238,13 @@ impl Reading {
 
     /// `CUE n`
     fn cue_line(&mut self, alloc: Global, i: u32, tokens: Tokens) -> Result<(), ShowFault>
-        requires ready { IsReady self.old.reader i }
+        requires ready { CanGoOn self.old.reader i }
         requires identified { self.old.reader.identified ≡ true }
         requires none { self.old.held ≡ open_records.None }
         requires empty { self.old.moves ≡ [] }
         ensures outcome { Outcome self.old.reader (settled self.new) i result
             (entry_by_word (facts_of self.old.reader i) [] words.Cue (left tokens.entry)) }
-        ensures fits { OnOk result (Fits self.new) }
+        ensures fits { OnOk result (PassFits self.new) }
     {
         let Some(n) = cue_of_record(i, tokens)? else {
             self.reader.skip_record(i);
@@ -260,13 +260,13 @@ impl Reading {
 
     /// `GROUP n`
     fn group_line(&mut self, alloc: Global, i: u32, tokens: Tokens) -> Result<(), ShowFault>
-        requires ready { IsReady self.old.reader i }
+        requires ready { CanGoOn self.old.reader i }
         requires identified { self.old.reader.identified ≡ true }
         requires none { self.old.held ≡ open_records.None }
         requires empty { self.old.moves ≡ [] }
         ensures outcome { Outcome self.old.reader (settled self.new) i result
             (entry_by_word (facts_of self.old.reader i) [] words.Group (left tokens.entry)) }
-        ensures fits { OnOk result (Fits self.new) }
+        ensures fits { OnOk result (PassFits self.new) }
     {
         let Some(g) = group_of_record(i, tokens)? else {
             self.reader.skip_record(i);
@@ -279,13 +279,13 @@ impl Reading {
 
     /// `SUB n`
     fn sub_line(&mut self, alloc: Global, i: u32, tokens: Tokens) -> Result<(), ShowFault>
-        requires ready { IsReady self.old.reader i }
+        requires ready { CanGoOn self.old.reader i }
         requires identified { self.old.reader.identified ≡ true }
         requires none { self.old.held ≡ open_records.None }
         requires empty { self.old.moves ≡ [] }
         ensures outcome { Outcome self.old.reader (settled self.new) i result
             (entry_by_word (facts_of self.old.reader i) [] words.Sub (left tokens.entry)) }
-        ensures fits { OnOk result (Fits self.new) }
+        ensures fits { OnOk result (PassFits self.new) }
     {
         let Some(s) = sub_of_record(i, tokens)? else {
             self.reader.skip_record(i);
@@ -305,12 +305,12 @@ impl Reading {
         word: Word,
         tokens: Tokens,
     ) -> Result<(), ShowFault>
-        requires ready { IsReady (settled self.old) i }
-        requires fits { Fits self.old }
+        requires ready { CanGoOn (settled self.old) i }
+        requires fits { PassFits self.old }
         requires inner { is_inner word ≡ true }
         ensures outcome { Outcome (settled self.old) (settled self.new) i result
             (entry_by_word (facts_of (settled self.old) i) line.now word (left tokens.entry)) }
-        ensures fits { OnOk result (Fits self.new) }
+        ensures fits { OnOk result (PassFits self.new) }
     {
         if is_makers_line(self.reader.section, word) {
             self.reader.skip(i);
@@ -331,11 +331,11 @@ impl Reading {
 
     /// Such a line outside of any record.
     fn stray_line(&mut self, i: u32, word: Word) -> Result<(), ShowFault>
-        requires ready { IsReady (settled self.old) i }
-        requires fits { Fits self.old }
+        requires ready { CanGoOn (settled self.old) i }
+        requires fits { PassFits self.old }
         requires outside { self.old.reader.section ≡ NoRecord }
         ensures outcome { Outcome (settled self.old) (settled self.new) i result (stray_entry (facts_of (settled self.old) i) word) }
-        ensures fits { OnOk result (Fits self.new) }
+        ensures fits { OnOk result (PassFits self.new) }
     {
         match word {
             Word::Text => {
@@ -355,12 +355,12 @@ impl Reading {
         word: Word,
         tokens: Tokens,
     ) -> Result<(), ShowFault>
-        requires ready { IsReady (settled self.old) i }
-        requires fits { Fits self.old }
+        requires ready { CanGoOn (settled self.old) i }
+        requires fits { PassFits self.old }
         requires inside { is_record self.old.reader.section ≡ true }
         ensures outcome { Outcome (settled self.old) (settled self.new) i result
             (inner_entry self.old.reader.section (facts_of (settled self.old) i) line.now word (left tokens.entry)) }
-        ensures fits { OnOk result (Fits self.new) }
+        ensures fits { OnOk result (PassFits self.new) }
     {
         if is_levels(word) {
             return self.levels_line(alloc, i, tokens);
@@ -373,13 +373,13 @@ impl Reading {
 
     /// What the line says goes to the open record. It answers whether it says something.
     fn says(&mut self, i: u32, line: &[u8], word: Word, tokens: Tokens) -> Result<bool, TextFault>
-        requires ready { IsReady (settled self.old) i }
-        requires fits { Fits self.old }
+        requires ready { CanGoOn (settled self.old) i }
+        requires fits { PassFits self.old }
         requires inside { is_record self.old.reader.section ≡ true }
         requires other { is_levels word ≡ false }
         ensures said { Said (settled self.old) (settled self.new) i result
             (inner_entry self.old.reader.section (facts_of (settled self.old) i) line.now word (left tokens.entry)) }
-        ensures fits { OnOk result (Fits self.new) }
+        ensures fits { OnOk result (PassFits self.new) }
     {
         match &mut self.held {
             Open::Cue(cue) => line_of_cue(cue, &mut self.reader.part, i, line, word, tokens),
@@ -392,11 +392,11 @@ impl Reading {
     /// `CHAN` with levels of the open record.
     #[inline(always)]
     fn levels_line(&mut self, alloc: Global, i: u32, tokens: Tokens) -> Result<(), ShowFault>
-        requires ready { IsReady (settled self.old) i }
-        requires fits { Fits self.old }
+        requires ready { CanGoOn (settled self.old) i }
+        requires fits { PassFits self.old }
         requires open_one { is_open self.old.held ≡ true }
         ensures outcome { Outcome (settled self.old) (settled self.new) i result (levels desk_limits i (left tokens.entry)) }
-        ensures fits { OnOk result (Fits self.new) }
+        ensures fits { OnOk result (PassFits self.new) }
     {
         let channels = self.reader.show.channels();
         let greatest = self

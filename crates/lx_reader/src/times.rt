@@ -7,7 +7,7 @@ ghost use Rattle.lx_spec.specs.SortedList.{IsStrictlySorted, has_entry, entry_at
 ghost use Rattle.lx_spec.specs.Show.{InRange, ValidPart};
 ghost use Rattle.lx_show.specs.ChangedEntry.{changed};
 ghost use Rattle.lx_reader.specs.LineOfCue.{HasParts};
-ghost use Rattle.lx_reader.specs.ReadingState.{with_down, with_part, with_up};
+ghost use Rattle.lx_reader.specs.ReadingState.{with_down, part_with_entry, with_up};
 
 use lx_base::{Cs, PartNo};
 use lx_show::sorted::entry_of;
@@ -30,7 +30,7 @@ fn part_in(parts: &[Part], number: PartNo) -> Part
 pub(crate) fn ensure_part(cue: &mut Cue, part: PartNo)
     requires sorted { IsStrictlySorted (λ p. p.number) cue.old.parts }
     requires valid { AllByRecursion ValidPart cue.old.parts }
-    ensures parts { cue.new ≡ record cue.old { parts = with_part part cue.old.parts } }
+    ensures parts { cue.new ≡ record cue.old { parts = part_with_entry part cue.old.parts } }
     ensures range { InRange PARTS part }
 {
     if entry_of(cue.parts.as_slice(), part.get()).is_none() {

@@ -15,7 +15,7 @@ use Rattle.lx_spec.proofs.Comparisons.{lt_true}
 use Rattle.lx_spec.proofs.CueOnly.{IsAround, above_is, kept, tracked_first}
 use Rattle.lx_spec.proofs.EditedCues.{around_cue, around_placed}
 use Rattle.lx_spec.proofs.Lists.{each, all_append}
-use Rattle.lx_record.specs.Cues.{is_changed, kept_cue}
+use Rattle.lx_record.specs.Cues.{comes_out_changed, kept_cue}
 use Rattle.lx_record.proofs.RecordedCues.{recorded_cue, level_recorded, tracked_at, around_none, number_of}
 
 agree_step : {A : Type 0} (x : A) (xs ys : List A) (b e : Bool) → b ≡ e → xs ≡ ys → cond b (x ∷ xs) xs ≡ cond e (x ∷ ys) ys
@@ -54,7 +54,7 @@ changed_by false l a b x y x_is y_is = ap (λ z. not (x == z)) (sym y_is)
 changed_at : (levels : ℕ → ℕ) (show : Show) (n c : ℕ) (below here other above : List Cue) (x : Cue)
     → IsStrictlySorted (λ y. y.number) show.cues → IsAround n show.cues below here (x ∷ above)
     → IsAround n (with_cue show (recorded_cue levels show n)).cues below other (x ∷ above) → InRange show.channels c
-    → is_changed levels show x c
+    → comes_out_changed levels show x c
     ≡ not (tracked show x.number c == tracked (with_cue show (recorded_cue levels show n)) x.number c)
 changed_at levels show n c below here other above x sorted before after range =
     changed_by (decides x c) (level_in x c) (tracked show n c) (levels c) (tracked show x.number c)
@@ -72,12 +72,12 @@ kept_same : (levels : ℕ → ℕ) (show : Show) (n : ℕ) (below here other abo
     → kept show (with_cue show (recorded_cue levels show n)) x ≡ kept_cue levels show x
 kept_same levels show n below here other above x sorted before after =
     let now : Show = with_cue show (recorded_cue levels show n) in
-    let agree : AllByRecursion (λ c. is_changed levels show x c ≡ not (tracked show x.number c == tracked now x.number c))
+    let agree : AllByRecursion (λ c. comes_out_changed levels show x c ≡ not (tracked show x.number c == tracked now x.number c))
     (channels_of show) =
     each (InRange show.channels) _ (channels_of show)
     (λ c range. changed_at levels show n c below here other above x sorted before after range) (channels_in_range show) in
     ap (λ (cs : List ℕ). with_moves x (map (λ c. record { chan = c; part = 1; level = tracked show x.number c }) cs))
-    (sym (filter_agree (is_changed levels show x) (λ c. not (tracked show x.number c == tracked now x.number c)) (channels_of show) agree))
+    (sym (filter_agree (comes_out_changed levels show x) (λ c. not (tracked show x.number c == tracked now x.number c)) (channels_of show) agree))
 
 only_around : (levels : ℕ → ℕ) (show : Show) (n : ℕ) (below here other above : List Cue)
     → IsStrictlySorted (λ y. y.number) show.cues → IsAround n show.cues below here above

@@ -5,7 +5,7 @@ ghost use Rattle.lx_spec.specs.Show.{ValidCue};
 ghost use Rattle.lx_spec.specs.TrackedLevel.{tracked, decides, cue_above};
 ghost use Rattle.lx_spec.specs.EditedShow.{with_moves, moves_for};
 ghost use Rattle.lx_console.specs.ConsoleMeaning.{level_now};
-ghost use Rattle.lx_record.specs.Cues.{is_changed, kept_cue};
+ghost use Rattle.lx_record.specs.Cues.{comes_out_changed, kept_cue};
 
 use crate::staged::level_on_stage;
 use lx_base::{Chan, CueNo, Level};
@@ -43,7 +43,7 @@ fn keeping(console: &Console, above: &Cue) -> Result<Cue, AllocError>
 
 /// Those moves.
 fn kept_moves(console: &Console, above: &Cue) -> Result<Vec<Move>, AllocError>
-    ensures { IfOk result (λ moves. moves.items ≡ moves_for console.now.show (is_changed (level_now console.now) console.now.show above.now)
+    ensures { IfOk result (λ moves. moves.items ≡ moves_for console.now.show (comes_out_changed (level_now console.now) console.now.show above.now)
         (tracked console.now.show above.now.number)) }
 {
     let mut moves = Vec::new(console.allocator());
@@ -58,7 +58,7 @@ fn kept_moves(console: &Console, above: &Cue) -> Result<Vec<Move>, AllocError>
 /// The level that the channel keeps at the cue above, where the stage's level would track into it in its place.
 fn kept_level(console: &Console, above: &Cue, c: Chan) -> Option<Level>
     requires { c ≤ console.now.show.channels }
-    ensures { result ≡ (if is_changed (level_now console.now) console.now.show above.now c then Some
+    ensures { result ≡ (if comes_out_changed (level_now console.now) console.now.show above.now c then Some
         (tracked console.now.show above.now.number c) else None) }
 {
     let level = console.tracked(above.number, c);

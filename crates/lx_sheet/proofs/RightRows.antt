@@ -17,7 +17,7 @@ use Rattle.lx_sheet.specs.declared.sheet.Place.{Place}
 use Rattle.lx_sheet.specs.declared.marks.Marks.{Marks}
 use Rattle.lx_sheet.specs.Rows.{Sheet, level_by, level_of}
 use Rattle.lx_sheet.specs.Block.{rows_of, cue_level, last_value, count_under}
-use Rattle.lx_sheet.specs.After.{level_after, IsRight, Follows}
+use Rattle.lx_sheet.specs.After.{level_after, IsRight, RowsFollow}
 use Rattle.lx_sheet.specs.SheetMeaning.{RowsStandFor, StandsFrom, cue_numbers}
 use Rattle.lx_sheet.proofs.Rows.{count_up_to, count_within, up_to_is_front, sheet_of, level_of_block, numbers-rows_of}
 use Rattle.lx_sheet.proofs.LevelsAfter.{level_after-nil}
@@ -196,7 +196,7 @@ column_right show channels order levels c is right n =
 
 -- from a row that is right on, rows that follow are
 pub right_on : (channels : ℕ) (order : List Place) (cues : List Cue) (levels : List ℕ) (from at c : ℕ)
-    → Follows channels order cues levels from → from ≤ at
+    → RowsFollow channels order cues levels from → from ≤ at
     → IsRight channels order cues levels at c → (j : ℕ) → at + j < length cues → IsRight channels order cues levels (at + j) c
 right_on channels order cues levels from at c follows least right zero within =
     let none : at ≡ at + 0 = omega arith in

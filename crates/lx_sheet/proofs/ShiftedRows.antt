@@ -18,7 +18,7 @@ use Rattle.lx_sheet.specs.declared.sheet.Place.{Place}
 use Rattle.lx_sheet.specs.declared.marks.Marks.{Marks}
 use Rattle.lx_sheet.specs.Block.{AreMarked, own_rows, row_at_place, cell}
 use Rattle.lx_sheet.specs.Marks.{IsMarkedFor, has_mark}
-use Rattle.lx_sheet.specs.After.{level_after, tracked_on, IsRight, Follows, IsFilled, IsPassed, IsLeft}
+use Rattle.lx_sheet.specs.After.{level_after, tracked_on, IsRight, RowsFollow, FillsRows, IsPassed, IsLeft}
 use Rattle.lx_sheet.specs.SheetMeaning.{RowsStandFor, cue_numbers}
 use Rattle.lx_sheet.proofs.EditedShows.{below-map, above-map}
 use Rattle.lx_sheet.proofs.Found.{same_numbers}
@@ -71,7 +71,7 @@ pub follows_on : (channels : ℕ) (old new : List Place) (before cues : List Cue
     → drop a before ≡ drop b cues
     → a ≤ length before → b ≤ length cues
     → ((k c : ℕ) → k < length before → IsRight channels old before levels k c)
-    → Follows channels new cues levels b
+    → RowsFollow channels new cues levels b
 follows_on channels old new before cues levels a b rows same in_before in_cues right k c least within here =
     let i : ℕ = k - b in
     let k_is : b + i ≡ k = omega arith in
@@ -300,7 +300,7 @@ told_as P n m lent order given cues was levels width rows same before is =
 pub all_right : (channels : ℕ) (old new : List Place) (before cues : List Cue) (levels filled : List ℕ) (at a b : ℕ)
     → IsShifted old new before cues at a b
     → ((k c : ℕ) → k < length before → IsRight channels old before levels k c)
-    → IsFilled channels new cues levels filled at b
+    → FillsRows channels new cues levels filled at b
     → (k c : ℕ) → k < length cues → IsRight channels new cues filled k c
 all_right channels old new before cues levels filled at a b shifted right is k c within =
     let long : length new ≡ length cues = sym (length-map new (λ (p : Place). p.cue)) ∙ ap length shifted.numbers
@@ -387,7 +387,7 @@ shifted_marked channels old new before cues was marks at a b shifted right same 
 pub shifted_stands : (before show : Show) (channels : ℕ) (old new : List Place) (levels filled : List ℕ) (was marks : Marks)
     (at a b : ℕ) → IsStrictlySorted (λ p. p.cue) old → IsStrictlySorted (λ p. p.cue) new
     → IsStrictlySorted (λ x. x.number) show.cues → channels ≡ show.channels → RowsStandFor before (sheet_of channels old levels was)
-    → IsShifted old new before.cues show.cues at a b → IsFilled channels new show.cues levels filled at b
+    → IsShifted old new before.cues show.cues at a b → FillsRows channels new show.cues levels filled at b
     → ((k c : ℕ) → (at ≤ k → b ≤ k) → k < length new → 1 ≤ c → c ≤ channels
     → has_mark marks (row_at_place new k) c ≡ has_mark was (row_at_place new k) c)
     → ((k : ℕ) → at ≤ k → k < b → IfSome (slice_get show.cues k) (IsMarkedFor channels marks (row_at_place new k)))

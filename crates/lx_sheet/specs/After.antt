@@ -19,16 +19,16 @@ abbrev pub IsRight : ℕ → List Place → List Cue → List ℕ → ℕ → �
 IsRight channels order cues levels k c = cue_level channels order levels k c ≡ level_after (take (k + 1) cues) c
 
 -- from a place on each row follows from the one before: it is right where that one is
-abbrev pub Follows : ℕ → List Place → List Cue → List ℕ → ℕ → Type 0
-Follows channels order cues levels from =
+abbrev pub RowsFollow : ℕ → List Place → List Cue → List ℕ → ℕ → Type 0
+RowsFollow channels order cues levels from =
     (k c : ℕ) → from ≤ k → k + 1 < length cues → IsRight channels order cues levels k c → IsRight channels order cues levels (k + 1) c
 
 -- The rows from a place on were filled in: those before it are as they were, and where the last of them was right and rows follow from
 -- `sure` on, the others are right.
-pub record IsFilled (channels : ℕ) (order : List Place) (cues : List Cue) (levels filled : List ℕ) (from sure : ℕ) : Type 0 where
+pub record FillsRows (channels : ℕ) (order : List Place) (cues : List Cue) (levels filled : List ℕ) (from sure : ℕ) : Type 0 where
   pub front : (k c : ℕ) → k < from → k < length order → cue_level channels order filled k c ≡ cue_level channels order levels k c
   pub rows : ((c : ℕ) → last_value from (λ k. cue_level channels order levels k c) ≡ level_after (take from cues) c)
-      → Follows channels order cues levels sure → (k c : ℕ) → from ≤ k → k < length cues → IsRight channels order cues filled k c
+      → RowsFollow channels order cues levels sure → (k c : ℕ) → from ≤ k → k < length cues → IsRight channels order cues filled k c
 
 -- where the cue at a place changes no level, the row behind it is right
 abbrev pub IsPassed : ℕ → List Place → List Cue → List ℕ → ℕ → Type 0

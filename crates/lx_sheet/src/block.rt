@@ -7,7 +7,7 @@ ghost use Rattle.lx_spec.specs.Show.{ValidCue};
 ghost use Rattle.lx_spec.specs.TrackedLevel.{decides};
 ghost use Rattle.lx_sheet.specs.Block.{AreApart, Covers, own_rows, row_at_place, cell, cue_level, last_value, level_in_look, width};
 ghost use Rattle.lx_sheet.specs.Marks.{Tells};
-ghost use Rattle.lx_sheet.specs.After.{level_after, IsEnd, IsRight, Follows, IsFilled, IsPassed, IsLeft};
+ghost use Rattle.lx_sheet.specs.After.{level_after, IsEnd, IsRight, RowsFollow, FillsRows, IsPassed, IsLeft};
 
 use crate::look::track;
 use crate::marks::Marks;
@@ -35,7 +35,7 @@ pub(crate) fn fill_from(
     requires rows { AreApart (own_rows order.now) }
     requires valid { AllByRecursion (ValidCue (length look.old)) cues.now }
     requires from { from ≤ length cues.now }
-    ensures { IsFilled (length look.old) order.now cues.now levels.old levels.new from sure }
+    ensures { FillsRows (length look.old) order.now cues.now levels.old levels.new from sure }
 {
     recall(look, levels, order, from);
     fill_rows(levels, look, order, cues, from, sure);
@@ -57,7 +57,7 @@ pub(crate) fn fill_inserted(
     requires valid { AllByRecursion (ValidCue (length look.old)) cues.now }
     requires at { at < length cues.now }
     ensures { IsPassed (length look.old) order.now cues.now levels.old at
-        → IsFilled (length look.old) order.now cues.now levels.old levels.new at (at + 1) }
+        → FillsRows (length look.old) order.now cues.now levels.old levels.new at (at + 1) }
 {
     recall(look, levels, order, at);
     if decides_none(&cues[at]) {
@@ -86,7 +86,7 @@ pub(crate) fn fill_removed(
     requires row { row < CUES }
     requires left { (row + 1) * width (length look.old) ≤ length levels.old }
     ensures { IsLeft (length look.old) order.now cues.now levels.old at row
-        → IsFilled (length look.old) order.now cues.now levels.old levels.new at at }
+        → FillsRows (length look.old) order.now cues.now levels.old levels.new at at }
 {
     recall(look, levels, order, at);
     if !holds(levels, look, row) {
@@ -188,7 +188,7 @@ fn fill_rows(
     ensures front { (k c : ℕ) → k < from → k < length order.now
         → cue_level (length look.old) order.now levels.new k c ≡ cue_level (length look.old) order.now levels.old k c }
     ensures rows { ((c : ℕ) → level_in_look look.old c ≡ level_after (take from cues.now) c)
-        → Follows (length look.old) order.now cues.now levels.old sure → (k c : ℕ) → from ≤ k → k < length cues.now
+        → RowsFollow (length look.old) order.now cues.now levels.old sure → (k c : ℕ) → from ≤ k → k < length cues.now
         → IsRight (length look.old) order.now cues.now levels.new k c }
 {
     for place in from..cues.len() {

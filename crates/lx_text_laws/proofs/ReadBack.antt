@@ -21,7 +21,7 @@ use Rattle.lx_reader.specs.HandedLines.{MeansFault, IsPastLimit}
 use Rattle.lx_reader.specs.Answer.{reading_of, AnswerOf}
 use Rattle.lx_spec.specs.Finer.{HasOneDecimalMore, finer}
 use Rattle.lx_text_laws.specs.OldTexts.{ReadsFiner}
-use Rattle.lx_text_laws.specs.ReadAs.{IsReadAs}
+use Rattle.lx_text_laws.specs.ReadAs.{ComesAsReading}
 use Rattle.lx_text_laws.proofs.WholeText.{reads_back}
 use Rattle.lx_text_laws.proofs.OldTexts.{old_texts}
 
@@ -50,7 +50,7 @@ module _ (text : List ℕ) (form : Form) {S : Type 0} (left : S → Option (List
       omega (arith, none, past.long, first_lines-within (past.n + 1) text)
 
   read_as : (reading : Reading) → reads form text ≡ Ok reading → (r : Result Loaded ShowFault) → AnswerOf left rises a b form r
-      → (r ≡ Err faults.ReadFault → ⊥) → IsReadAs text reading r
+      → (r ≡ Err faults.ReadFault → ⊥) → ComesAsReading text reading r
   read_as reading reads_ok (Ok loaded) answer never =
       let told : reads form text ≡ Ok (reading_of loaded) =
       subst (λ (v : Option (List ℕ)). IfSome v (λ bytes. reads form bytes ≡ Ok (reading_of loaded))) is answer.means.text in
@@ -61,20 +61,20 @@ module _ (text : List ℕ) (form : Form) {S : Type 0} (left : S → Option (List
   read_as reading reads_ok (Err faults.Memory) answer never = inl refl
 
   module _ (r : Result Loaded ShowFault) (answer : AnswerOf left rises a b form r) (never : r ≡ Err faults.ReadFault → ⊥) where
-    as_read : (v : Result Reading TextFault) → reads form text ≡ v → IfOk v (λ reading. IsReadAs text reading r)
+    as_read : (v : Result Reading TextFault) → reads form text ≡ v → IfOk v (λ reading. ComesAsReading text reading r)
     as_read (Ok reading) reads_ok = read_as reading reads_ok r answer never
     as_read (Err fault) fails = tt
 
-    pub text_read : IfOk (reads form text) (λ reading. IsReadAs text reading r)
+    pub text_read : IfOk (reads form text) (λ reading. ComesAsReading text reading r)
     text_read = as_read (reads form text) refl
 
     as_finer : (before : Limits) (v : Result Reading TextFault) → IfOk v (ReadsFiner desk_limits before form text)
-        → IfOk v (λ reading. IsReadAs text (finer reading) r)
+        → IfOk v (λ reading. ComesAsReading text (finer reading) r)
     as_finer before (Ok reading) told = read_as (finer reading) told.reading_now r answer never
     as_finer before (Err fault) told = tt
 
     pub old_text_read : (before : Limits) → HasOneDecimalMore desk_limits before
-        → IfOk (reads_under before form text) (λ reading. IsReadAs text (finer reading) r)
+        → IfOk (reads_under before form text) (λ reading. ComesAsReading text (finer reading) r)
     old_text_read before more = as_finer before (reads_under before form text) (old_texts desk_limits before form text more)
 
 -- The canonical text of a show.
@@ -83,12 +83,12 @@ same show = record { show = show; skipped = 0; first_skipped = 0 }
 
 module _ (show : Show) (valid : Valid show) (text : List ℕ) (is : text ≡ show_text show) where
   abbrev IsRead : Result Loaded ShowFault → Type 0
-  IsRead r = IfOk (reads Moves text) (λ reading. IsReadAs text reading r)
+  IsRead r = IfOk (reads Moves text) (λ reading. ComesAsReading text reading r)
 
-  back : (r : Result Loaded ShowFault) → IsRead r → IsReadAs (show_text show) (same show) r
+  back : (r : Result Loaded ShowFault) → IsRead r → ComesAsReading (show_text show) (same show) r
   back r told =
-      let here = subst (λ t. IfOk (reads Moves t) (λ reading. IsReadAs t reading r)) is told in
-      subst (λ (v : Result Reading TextFault). IfOk v (λ reading. IsReadAs (show_text show) reading r)) (reads_back show valid).reading here
+      let here = subst (λ t. IfOk (reads Moves t) (λ reading. ComesAsReading t reading r)) is told in
+      subst (λ (v : Result Reading TextFault). IfOk v (λ reading. ComesAsReading (show_text show) reading r)) (reads_back show valid).reading here
 
   pub back_same : (r : Result Loaded ShowFault) → IsRead r → IfOk r (λ loaded. reading_of loaded ≡ same show)
   back_same (Ok loaded) told = back (Ok loaded) told

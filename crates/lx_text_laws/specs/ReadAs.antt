@@ -8,6 +8,6 @@ use Rattle.lx_reader.specs.declared.fault.ShowFault.TheVariants.{InputTooLong, M
 use Rattle.lx_reader.specs.Answer.{reading_of}
 
 -- what comes is the reading, unless the text is longer than an input may be or memory is wanting
-abbrev pub IsReadAs : List ℕ → Reading → Result Loaded ShowFault → Type 0
-IsReadAs text reading result = MatchResult result (λ loaded. reading_of loaded ≡ reading)
+abbrev pub ComesAsReading : List ℕ → Reading → Result Loaded ShowFault → Type 0
+ComesAsReading text reading result = MatchResult result (λ loaded. reading_of loaded ≡ reading)
     (λ fault. (fault ≡ Memory) ⊎ ((fault ≡ InputTooLong) × (INPUT_BYTES < length text)))

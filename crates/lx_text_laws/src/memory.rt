@@ -3,7 +3,7 @@
 ghost use Rattle.std.specs.Prelude.{IfOk};
 ghost use Rattle.lx_spec.specs.Reading.{reads, reads_under};
 ghost use Rattle.lx_spec.specs.Finer.{hundredths, finer};
-ghost use Rattle.lx_text_laws.specs.ReadAs.{IsReadAs};
+ghost use Rattle.lx_text_laws.specs.ReadAs.{ComesAsReading};
 
 use lx_io::PlainSource;
 use lx_lex::Lines;
@@ -18,8 +18,8 @@ const PIECE: usize = 65_536;
 /// decimals as the same show, each cue number and each link ten times as fine, with the same counts of skipped lines. There
 /// `InputTooLong` comes only where the text is longer than the limit of an input, and else nothing but `Memory`.
 pub fn read_text(alloc: Global, text: Vec<u8>, form: Form) -> Result<Loaded, ShowFault>
-    ensures read { IfOk (reads form text.items) (λ reading. IsReadAs text.items reading result) }
-    ensures old { IfOk (reads_under hundredths form text.items) (λ reading. IsReadAs text.items (finer reading) result) }
+    ensures read { IfOk (reads form text.items) (λ reading. ComesAsReading text.items reading result) }
+    ensures old { IfOk (reads_under hundredths form text.items) (λ reading. ComesAsReading text.items (finer reading) result) }
 {
     let mut source = PlainSource::new(text, PIECE);
     let mut lines = Lines::new(&mut source);

@@ -11,14 +11,14 @@ use Rattle.lx_gate.specs.Readings.{Told, Tapped, newest, HasLearnt}
 use Rattle.lx_gate.proofs.Prefixes.{prefix_self, prefix_trans, prefix_whole}
 use Rattle.lx_workers.specs.declared.worker.Served.{Served}
 use Rattle.lx_spec.specs.Versions.{outlet_text, Falling}
-use Rattle.lx_workers.specs.Lines.{last_of, HasWritten, HasWrittenPart}
+use Rattle.lx_workers.specs.Lines.{newest_count, HasWritten, HasWrittenPart}
 use Rattle.lx_workers.specs.Works.{HasServed, HasStepped, HasAll, HasPart, Delivered}
 use Rattle.lx_workers.proofs.WrittenLines.{goes_on, part_on}
 use Rattle.lx_workers.proofs.TapSteps.{learnt_begins, count_on}
 
 all_at : (show : Show) (u : ℕ) (before after : Option (List ℕ)) (list top : List Command) (lists : List (List Command))
     → Appends before after (outlet_text show u lists) → Falling top lists
-    → Some (length top) ≡ last_of lists → IsPrefix list top → HasAll show u before after list
+    → Some (length top) ≡ newest_count lists → IsPrefix list top → HasAll show u before after list
 all_at show u before after list top [] text chain e p = cc
 all_at show u before after list top (newest ∷ earlier) text chain e p =
     let same_length : length top ≡ length newest = cc in

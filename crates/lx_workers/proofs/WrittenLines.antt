@@ -17,7 +17,7 @@ use Rattle.lx_gate.specs.declared.stamp.Stamp.{Stamp}
 use Rattle.lx_gate.specs.Frames.{IsFrame, frame_after, moment_after}
 use Rattle.lx_gate.proofs.Prefixes.{prefix_self, prefix_trans, prefix_length}
 use Rattle.lx_spec.specs.Versions.{outlet_text, Older, Falling}
-use Rattle.lx_workers.specs.Lines.{line, last_of, HasWritten, HasWrittenPart}
+use Rattle.lx_workers.specs.Lines.{line, newest_count, HasWritten, HasWrittenPart}
 
 versions-append : (show : Show) (u : ℕ) (xs ys : List (List Command))
     → versions_text show u (xs ++ ys) ≡ versions_text show u xs ++ versions_text show u ys
@@ -49,10 +49,10 @@ goes_on show u before after top top' taken last p h =
     record { lists = h.lists; text = h.text; chain = falls_on top top' p h.lists h.chain; taken_is = h.taken_is; last_is = h.last_is }
 
 newer : (top top' : List Command) (last : Option ℕ) (lists : List (List Command)) → IsPrefix top top' → Falling top lists
-    → last ≡ last_of lists → IfSome last (λ n. n < length top') → Older top' lists
+    → last ≡ newest_count lists → IfSome last (λ n. n < length top') → Older top' lists
 newer top top' last [] p h e f = tt
 newer top top' last (list ∷ lists) p h e f =
-    let g : IfSome (last_of (list ∷ lists)) (λ n. n < length top') = subst (λ (o : Option ℕ). IfSome o (λ n. n < length top')) e f in
+    let g : IfSome (newest_count (list ∷ lists)) (λ n. n < length top') = subst (λ (o : Option ℕ). IfSome o (λ n. n < length top')) e f in
     (prefix_trans list top top' h.0 p, g, h.1)
 
 chain_on : (show : Show) (u : ℕ) (before after : Option (List ℕ)) (top top' : List Command) (taken : ℕ) (last : Option ℕ) (count : ℕ)
@@ -130,11 +130,11 @@ unfolding outlet_text
 none_written show u before top = record { lists = []; text = Appends-nil before; chain = tt; taken_is = refl; last_is = refl }
 
 whole : (top top' : List Command) (last : Option ℕ) (lists : List (List Command)) (count : ℕ) → IsPrefix top top' → Falling top lists
-    → last ≡ last_of lists → count ≡ length top'
+    → last ≡ newest_count lists → count ≡ length top'
     → IsSomeAnd last (λ n. count ≤ n) → last ≡ Some (length top')
 whole top top' last [] count p h e c k = absurd (subst (λ (o : Option ℕ). IsSomeAnd o (λ n. count ≤ n)) e k)
 whole top top' last (list ∷ lists) count p h e c k =
-    let at : IsSomeAnd (last_of (list ∷ lists)) (λ n. count ≤ n) = subst (λ (o : Option ℕ). IsSomeAnd o (λ n. count ≤ n)) e k in
+    let at : IsSomeAnd (newest_count (list ∷ lists)) (λ n. count ≤ n) = subst (λ (o : Option ℕ). IsSomeAnd o (λ n. count ≤ n)) e k in
     let le : count ≤ length list = at in
     let same : length list ≡ length top' = omega (arith, le, c, prefix_length list top h.0, prefix_length top top' p) in
     e ∙ ap (λ (n : ℕ). Some n) same

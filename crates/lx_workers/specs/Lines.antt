@@ -17,9 +17,9 @@ unfoldable pub line : ℕ → List ℕ → Stamp → List ℕ
 line universe slots stamp = frame_text (decimal stamp.count ∷ []) stamp.moment universe slots
 
 -- the number of commands of the newest list
-abbrev pub last_of : List (List Command) → Option ℕ
-last_of [] = None
-last_of (list ∷ lists) = Some (length list)
+abbrev pub newest_count : List (List Command) → Option ℕ
+newest_count [] = None
+newest_count (list ∷ lists) = Some (length list)
 
 -- the lines of rising lists were appended, all prefixes of one list
 pub record HasWritten (show : Show) (universe : ℕ) (before after : Option (List ℕ)) (top : List Command) (taken : ℕ) (last : Option ℕ)
@@ -28,7 +28,7 @@ pub record HasWritten (show : Show) (universe : ℕ) (before after : Option (Lis
   pub text : Appends before after (outlet_text show universe lists)
   pub chain : Falling top lists
   pub taken_is : taken ≡ min (length lists) (2 ^ 64 - 1)
-  pub last_is : last ≡ last_of lists
+  pub last_is : last ≡ newest_count lists
 
 -- the lines of rising lists were appended, and then a part of one more, in which the sink answered the fault; nothing came after that
 pub record HasWrittenPart {K : Type 0} (holds : K → Option (List ℕ)) (faults wants : K → ℕ) (show : Show) (universe : ℕ)

@@ -1,6 +1,6 @@
 use Rattle.std.proofs.Common.{◌≡◌, ℕ, ◌+◌, ◌-◌, ◌<◌, ◌≤◌, false, length}
 use Rattle.lx_edit.specs.ChanSet.{has_chan}
-use Rattle.lx_levels.specs.LevelsMeaning.{StandsAt}
+use Rattle.lx_levels.specs.LevelsMeaning.{StackStandsAt}
 use Rattle.lx_console.proofs.levels.recompute_touched.Given as goal
 
 abbrev pub invariant-loop-k : goal.invariant-loop-k
@@ -9,8 +9,8 @@ invariant-loop-k l = record {
   moment : l.levels.moment ≡ l.playback.moment;
   reach : length l.levels.stacks ≡ l.show.channels;
   same : l.changed ≡ false → l.levels ≡ l.initial.levels;
-  done : (i : ℕ) → i < l.k → i < l.show.channels → StandsAt l.show l.playback l.levels i;
-  left : (i : ℕ) → l.k ≤ i → i < l.show.channels → has_chan l.chans (i + 1) ≡ false → StandsAt l.show l.playback l.levels i;
+  done : (i : ℕ) → i < l.k → i < l.show.channels → StackStandsAt l.show l.playback l.levels i;
+  left : (i : ℕ) → l.k ≤ i → i < l.show.channels → has_chan l.chans (i + 1) ≡ false → StackStandsAt l.show l.playback l.levels i;
 }
 
 abbrev pub decreases-loop-k : goal.decreases-loop-k

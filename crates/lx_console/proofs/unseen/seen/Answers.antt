@@ -4,7 +4,7 @@ use Rattle.std.specs.Option.{IsSomeAnd}
 use Rattle.lx_spec.specs.SortedList.{entries_above}
 use Rattle.lx_spec.specs.Show.{Cue}
 use Rattle.lx_edit.specs.ChanSet.{has_chan}
-use Rattle.lx_console.specs.UnseenEdits.{IsUnseen, decided_by}
+use Rattle.lx_console.specs.UnseenEdits.{IsUnseen, decided_at}
 use Rattle.lx_console.proofs.Apart.{unseen_by}
 use Rattle.lx_console.proofs.unseen.seen.Goals as goal
 
@@ -19,5 +19,5 @@ returns c = λ x range out.
       | inr by ↦ inr (subst (λ (o : Option ℕ). IsSomeAnd o (λ n. IsUnseen c.args.show.now c.args.playback.now n x)) (sym c.in-Some.is)
           (unseen_by c.args.show.now c.args.playback.now c.in-Some.n c.in-Some-first_from.first x c.min.result
           c.in-Some-first_from.ensures.base c.in-Some-first_from.ensures.runs
-          (subst (λ (cues : List Cue). decided_by (take c.min.result cues) c.in-Some-first_from.first x) later by)))
+          (subst (λ (cues : List Cue). decided_at (take c.min.result cues) c.in-Some-first_from.first x) later by)))
     ]

@@ -2,7 +2,7 @@ use Rattle.std.proofs.Common.{rules, ◌≡◌, ◌+◌, length, ap, sym, refl, 
 use Rattle.std.proofs.lemmas.List.{length_push}
 use Rattle.crossbeam_queue.specs.Passes.{view}
 use Rattle.lx_crew.specs.declared.rule.View.{View}
-use Rattle.lx_crew.specs.SentLines.{HasSent}
+use Rattle.lx_crew.specs.SentLines.{HasSentLines}
 use Rattle.lx_crew.proofs.SentLines.{sent_none, sent_more, sent_all, sent_to_quit, next_number, goes_on, quits, ends_so}
 use Rattle.lx_crew.proofs.operator.send_lines.Goals as goal
 
@@ -47,7 +47,7 @@ returns-in-End-clause-sent g c =
     let n = next_number _ _ _ _ _ _ i.so_far c.new-lines.ensures.number in
     let quit = quits _ _ _ _ c.take_next-sent.result c.take_next-sent.ensures.took (sym c.what_follows-after.ensures ∙ c.in-End.is) in
     let same = c.source-in-End-1.given.1 (sym (c.take_next-sent.ensures.same_source ∙ (i.name ∙ c.new-lines.ensures.same_reference))) in
-    subst (λ s. HasSent g.S.Source.left g.S.Source.faults c.args.place c.args.source.now s (view c.send-in-End.new.pass) None) (sym same)
+    subst (λ s. HasSentLines g.S.Source.left g.S.Source.faults c.args.place c.args.source.now s (view c.send-in-End.new.pass) None) (sym same)
     (sent_to_quit _ _ c.args.place c.args.source.now c.new-lines.result c.loop.lines c.take_next-sent.new.lines (view c.loop.pass)
     (view c.send.new.pass) (view c.send-in-End.new.pass) _ _
     (record { unread = c.new-lines.ensures.unread; taken = c.new-lines.ensures.taken; now = c.new-lines.ensures.source }) i.so_far quit
@@ -60,7 +60,7 @@ returns-in-Nothing-clause-sent g c =
     (sym c.what_follows-after.ensures ∙ c.in-Nothing.is) in
     let same = c.in-Nothing.source-in-Nothing-1-own.given.1
     (sym (c.take_next-sent.ensures.same_source ∙ (i.name ∙ c.new-lines.ensures.same_reference))) in
-    subst (λ s. HasSent g.S.Source.left g.S.Source.faults c.args.place c.args.source.now s (view c.send.new.pass) c.in-Nothing.fault)
+    subst (λ s. HasSentLines g.S.Source.left g.S.Source.faults c.args.place c.args.source.now s (view c.send.new.pass) c.in-Nothing.fault)
     (sym same)
     (sent_all _ _ c.args.place c.args.source.now c.new-lines.result c.loop.lines c.take_next-sent.new.lines (view c.loop.pass)
     (view c.send.new.pass) _ c.in-Nothing.fault

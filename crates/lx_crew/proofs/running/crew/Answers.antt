@@ -2,7 +2,7 @@ use Rattle.std.proofs.Common.{◌≡◌, [], length, slice_get, Some, ap, sym, s
 use Rattle.std.proofs.lemmas.Slice.Zip.{AllZip-long}
 use Rattle.lx_crew.specs.declared.rule.View.{View}
 use Rattle.lx_crew.specs.OperatorWorks.{EachAt}
-use Rattle.lx_crew.specs.Rule.{Kept, engine_view}
+use Rattle.lx_crew.specs.Rule.{Learned, engine_view}
 use Rattle.lx_crew.proofs.Crews.{crewed}
 use Rattle.lx_crew.proofs.Rules.{begins, totals}
 use Rattle.lx_crew.proofs.Works.{ready_all, works_back, after_release, carries, retired, retired_works}
@@ -46,7 +46,7 @@ returns-clause-crewed g c = λ d stands.
     let same = works_back _ c.hire.new.works.items works c.hire.new.works.len (omega (arith, c.hire.new.works.ok.0)) zip in
     let size : length c.as_mut_slice.result.now ≡ length c.hire.new.works.items = ap length c.as_mut_slice.ensures.value in
     let knows = after_release _ _ (length c.as_mut_slice.result.now) served.popped _ works same served.view c.release-faults.ensures.kept in
-    let learned = subst (λ (v : View). Kept v c.learn_as.ensures.rule.0) knows c.learn_as.ensures.rule.1 in
+    let learned = subst (λ (v : View). Learned v c.learn_as.ensures.rule.0) knows c.learn_as.ensures.rule.1 in
     crewed _ _ _ _ d _ _ _ _ _ _ _ _ works served.popped c.learn_as.ensures.rule.0 (length c.as_mut_slice.result.now) ran
     (AllZip-long _ _ _ zip ∙ sym size) (size ∙ c.hire.ensures.count) learned served.ended
     (c.release-faults.ensures.same ∙ c.hire.ensures.same)

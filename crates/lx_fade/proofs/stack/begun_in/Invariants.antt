@@ -1,12 +1,12 @@
 use Rattle.std.proofs.Common.{◌≡◌, ◌≤◌}
 use Rattle.lx_fade.specs.Fades.{begun_by}
-use Rattle.lx_fade.specs.Row.{column}
+use Rattle.lx_fade.specs.Row.{stack_column}
 use Rattle.lx_fade.proofs.stack.begun_in.Given as goal
 
 abbrev pub invariant-loop-kept : goal.invariant-loop-kept
 invariant-loop-kept l = record {
   within : l.kept ≤ l.at.used;
-  same : begun_by l.m (column l.row l.at.step l.at.first l.kept) ≡ begun_by l.m (column l.row l.at.step l.at.first l.at.used);
+  same : begun_by l.m (stack_column l.row l.at.step l.at.first l.kept) ≡ begun_by l.m (stack_column l.row l.at.step l.at.first l.at.used);
 }
 
 abbrev pub decreases-loop-kept : goal.decreases-loop-kept

@@ -1,13 +1,13 @@
 use Rattle.std.proofs.Common.{◌≡◌, ◌∷◌, List, ap, arith, ◌∙◌}
 use Rattle.lx_fade.specs.Fades.{Fade, stack_at}
-use Rattle.lx_fade.specs.Row.{column}
+use Rattle.lx_fade.specs.Row.{stack_column}
 use Rattle.lx_fade.proofs.PushedFades.{before_start}
 use Rattle.lx_fade.proofs.stack.push_in.Goals as goal
 
 pub returns-clause-stack : goal.returns-clause-stack
 returns-clause-stack c =
-    let stack : List Fade = column c.args.row.now c.args.at.step c.args.at.first c.args.at.used in
-    let kept : List Fade = column c.args.row.now c.args.at.step c.args.at.first c.begun_in-kept.result in
+    let stack : List Fade = stack_column c.args.row.now c.args.at.step c.args.at.first c.args.at.used in
+    let kept : List Fade = stack_column c.args.row.now c.args.at.step c.args.at.first c.begun_in-kept.result in
     let from : c.newest_at-from.result ≡ stack_at c.args.bottom stack c.args.start =
     c.newest_at-from.ensures ∙ ap (λ (s : List Fade). stack_at c.args.bottom s c.args.start) c.begun_in-kept.ensures.stack
     ∙ before_start c.args.bottom c.args.start c.args.start stack (omega arith) in

@@ -1,6 +1,6 @@
 use Rattle.std.proofs.Common.{◌≡◌, ◌≤◌, ◌<◌, ◌⊎◌, ◌∙◌, sym, ap, subst, arith}
 use Rattle.lx_fade.specs.Fades.{Fade, stack_at}
-use Rattle.lx_fade.specs.Row.{column}
+use Rattle.lx_fade.specs.Row.{stack_column}
 use Rattle.lx_fade.specs.declared.held.TheConstants.{NEVER}
 use Rattle.lx_fade.proofs.Rows.{newest_begun, newest_waits, read_is}
 use Rattle.lx_levels.proofs.Columns.{before_lesser, start_comes}
@@ -45,7 +45,7 @@ returns-clause-governs c = record {
   begun = omega (arith, c.still.ensures.begun);
   gives = λ x from until.
       c.loop-left.invariant.same x from (subst (λ w. (x < w) ⊎ (w ≡ NEVER)) c.still.ensures.wake until)
-      ∙ ap (λ n. stack_at c.args.bottom (column c.args.block.now c.args.channels c.args.k n) x)
+      ∙ ap (λ n. stack_at c.args.bottom (stack_column c.args.block.now c.args.channels c.args.k n) x)
       (let e : c.loop-left.left ≡ 0 = omega (arith, c.loop-left-test.false) in e)
       ∙ sym (c.still.ensures.level x);
 }

@@ -1,7 +1,7 @@
 use Rattle.std.proofs.Common.{◌≡◌, ◌⊎◌, ℕ, ◌<◌, ◌≤◌}
 use Rattle.lx_fade.specs.Fades.{stack_at}
 use Rattle.lx_fade.specs.declared.held.TheConstants.{NEVER}
-use Rattle.lx_fade.specs.Row.{column}
+use Rattle.lx_fade.specs.Row.{stack_column}
 use Rattle.lx_levels.proofs.racks.governing_in.Given as goal
 
 abbrev pub invariant-loop-left : goal.invariant-loop-left
@@ -10,7 +10,7 @@ invariant-loop-left l = record {
   wake : l.m < l.wake;
   most : l.wake ≤ NEVER;
   same : (x : ℕ) → l.m ≤ x → (x < l.wake) ⊎ (l.wake ≡ NEVER)
-      → stack_at l.bottom (column l.block l.channels l.k l.count) x ≡ stack_at l.bottom (column l.block l.channels l.k l.left) x;
+      → stack_at l.bottom (stack_column l.block l.channels l.k l.count) x ≡ stack_at l.bottom (stack_column l.block l.channels l.k l.left) x;
 }
 
 abbrev pub decreases-loop-left : goal.decreases-loop-left

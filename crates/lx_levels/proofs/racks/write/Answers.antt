@@ -1,5 +1,5 @@
 use Rattle.std.proofs.Common.{◌≡◌, ◌+◌, ◌*◌, ◌<◌, length, set, suc, ap, ◌∙◌, arith}
-use Rattle.lx_fade.specs.Row.{column}
+use Rattle.lx_fade.specs.Row.{stack_column}
 use Rattle.lx_levels.proofs.Columns.{written_here, written_other}
 use Rattle.lx_levels.proofs.racks.write.Goals as goal
 
@@ -9,7 +9,7 @@ room c = omega (arith, c.grow.ensures.end, c.requires.within)
 pub returns-clause-here : goal.returns-clause-here
 returns-clause-here c =
     let next : c.args.kept + 1 ≡ suc c.args.kept = omega arith in
-    ap (column (set c.grow.new.block.items (c.args.kept * c.args.channels + c.args.k) c.args.fade) c.args.channels c.args.k) next
+    ap (stack_column (set c.grow.new.block.items (c.args.kept * c.args.channels + c.args.k) c.args.fade) c.args.channels c.args.k) next
     ∙ written_here c.args.block.now.items c.grow.new.block.items c.args.channels c.args.k c.args.kept c.args.fade c.requires.within
     c.grow.ensures.same (room c)
 

@@ -5,7 +5,7 @@ use Rattle.std.proofs.lemmas.List.{get_or_default}
 use Rattle.std.proofs.lemmas.Grind.{common_steps}
 use Rattle.lx_spec.specs.Run.{Run}
 use Rattle.lx_spec.specs.Level.{level}
-use Rattle.lx_levels.specs.Stacks.{Stack, level_in, no_stack}
+use Rattle.lx_levels.specs.Stacks.{Stack, stack_level, no_stack}
 use Rattle.lx_levels.specs.declared.replay.Act.{Act}
 use Rattle.lx_levels.specs.RunsInTurn.{IsReplayed}
 use Rattle.lx_levels.proofs.Columns.{set_again, set_is_there}
@@ -19,7 +19,7 @@ loop-i-init c =
     record {
       gives = λ show base x from ground. record {
         since = c.args.oldest.since;
-        gives = λ m late. ap (λ (s : Stack). level_in s m) there.0 ∙ sym (ground.stays m late);
+        gives = λ m late. ap (λ (s : Stack). stack_level s m) there.0 ∙ sym (ground.stays m late);
         later = ground.later;
         begun = ground.begun;
       };

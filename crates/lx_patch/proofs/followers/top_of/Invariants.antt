@@ -1,12 +1,12 @@
 use Rattle.std.proofs.Common.{◌≤◌}
 use Rattle.lx_base.specs.declared.TheConstants.{SLOTS}
-use Rattle.lx_patch.specs.FollowerChains.{IsAbove}
+use Rattle.lx_patch.specs.FollowerChains.{AreDarkFrom}
 use Rattle.lx_patch.proofs.followers.top_of.Given as goal
 
 abbrev pub invariant-loop-top : goal.invariant-loop-top
 invariant-loop-top l = record {
   most : l.top ≤ SLOTS;
-  dark : IsAbove l.levels l.top;
+  dark : AreDarkFrom l.levels l.top;
 }
 
 abbrev pub decreases-loop-top : goal.decreases-loop-top

@@ -3,7 +3,7 @@ use Rattle.lx_spec.specs.Show.{Show}
 use Rattle.lx_spec.specs.Kept.{Kept}
 use Rattle.lx_edit.specs.PlanMeaning.{planned}
 use Rattle.lx_edit.specs.Undone.{TakesBack}
-use Rattle.lx_levels.specs.LevelsMeaning.{StandsAt}
+use Rattle.lx_levels.specs.LevelsMeaning.{StackStandsAt}
 use Rattle.lx_console.proofs.Apart.{placed_stands}
 use Rattle.lx_console.specs.Changes.{Changes}
 use Rattle.lx_console.proofs.EditEffects.{in_show, untouched_levels, same_contributions, same_reach, same_channels}
@@ -18,7 +18,7 @@ recompute_touched-leveled-requires-clause-others c = λ k within out.
     let channels : after.channels ≡ show.channels =
     ap (λ (s : Show). s.channels) c.exchange-dirty.ensures.show ∙ same_channels show c.args.plan in
     elim (c.seen-seen.ensures (k + 1) (in_show after.channels k within) out) as
-    (λ e. StandsAt after c.self.inside.playback c.self.inside.levels k) [
+    (λ e. StackStandsAt after c.self.inside.playback c.self.inside.levels k) [
       | inl clean ↦
           untouched_levels show after c.self.inside.playback c.exchange-dirty.result.dirty.chans c.self.inside.levels
           c.self.invariant.levels_stand channels c.exchange-dirty.ensures.others k within clean

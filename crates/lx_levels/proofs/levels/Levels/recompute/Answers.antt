@@ -2,7 +2,7 @@ use Rattle.std.proofs.Common.{◌≡◌, ◌+◌, ◌-◌, ◌∙◌, List, ap, 
 use Rattle.std.proofs.lemmas.List.{length-reverse}
 use Rattle.lx_spec.specs.Run.{Run}
 use Rattle.lx_spec.specs.Level.{level}
-use Rattle.lx_levels.specs.Stacks.{Kept, Stack, level_in, no_stack}
+use Rattle.lx_levels.specs.Stacks.{KeptLevels, Stack, stack_level, no_stack}
 use Rattle.lx_levels.specs.CurrentFades.{IsRightBut}
 use Rattle.lx_levels.specs.RunsInTurn.{IsGround}
 use Rattle.lx_levels.proofs.Written.{written}
@@ -38,12 +38,12 @@ returns-clause-here c =
     (omega (arith, c.ground_of-oldest.auto.acts_of, c.deref_mut-2.ensures.len))) in
     let ground = subst (IsGround show c.base.result live c.args.chan c.self.inside.moment oldest.first oldest.level oldest.since) acts_are
     c.ground_of-oldest.ensures.ground in
-    let moment : c.self.inside.moment ≡ p.moment = ap (λ (v : Kept). v.moment) c.self.view_is ∙ c.requires.moment in
+    let moment : c.self.inside.moment ≡ p.moment = ap (λ (v : KeptLevels). v.moment) c.self.view_is ∙ c.requires.moment in
     let place : c.args.chan - 1 ≡ c.get.result - 1 = omega (arith, c.get.ensures.value) in
     let next : c.args.chan ≡ c.args.chan - 1 + 1 = omega (arith, c.get.ensures.value, c.get.ensures.least) in
     record {
       later = λ x from.
-          ap (λ n. level_in (get_or new n no_stack) x) place
+          ap (λ n. stack_level (get_or new n no_stack) x) place
           ∙ c.replay.ensures.level show c.base.result c.args.chan c.self.inside.moment ground x (omega (arith, moment, from))
           ∙ ap (λ (runs : List Run). level show c.base.result runs c.args.chan x) c.live-live.ensures.live
           ∙ ap (λ b. level show b p.live c.args.chan x) c.base.ensures ∙ ap (λ n. level show p.base p.live n x) next;

@@ -3,7 +3,7 @@ use Rattle.std.specs.Option.{option_map_or}
 use Rattle.lx_spec.specs.TrackedLevel.{tracked}
 use Rattle.lx_spec.specs.Run.{Run, acts}
 use Rattle.lx_spec.specs.Level.{last_cue}
-use Rattle.lx_levels.specs.Stacks.{stack_of}
+use Rattle.lx_levels.specs.Stacks.{kept_stack}
 use Rattle.lx_levels.specs.CurrentFades.{IsStill}
 use Rattle.lx_levels.specs.LevelsMeaning.{IsAdded}
 use Rattle.lx_levels.proofs.AddedRuns.{starts_now, still_up_to, channel_added, channel_passed, same_run_copied}
@@ -47,7 +47,7 @@ loop-k-preserved-then-end-k c =
           ap (λ (r : Run). tracked show r.cue (i + 1)) (sym run_is ∙ sym c.run.view_is)
           ∙ sym (tracked_in_look (λ row. row.now) show c.args.sheet.now c.run.inside.cue i c.look_at-to.result c.look_at-to.ensures.levels
           c.look_at-to.ensures.none c.requires.rows (omega (arith, below, end, within))))
-          (λ i from below. subst (λ m. IsStill m (stack_of c.loop-k.self i) (looks i)) added.moment
+          (λ i from below. subst (λ m. IsStill m (kept_stack c.loop-k.self i) (looks i)) added.moment
           (c.still_end-end.ensures.still i from (omega (arith, below, end)))) added);
     }
 

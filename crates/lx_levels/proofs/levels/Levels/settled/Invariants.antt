@@ -1,11 +1,11 @@
 use Rattle.std.proofs.Common.{◌≡◌, ◌+◌, ℕ, ◌<◌, length, []}
 use Rattle.lx_sheet.specs.Rows.{level_of}
-use Rattle.lx_levels.specs.Stacks.{stack_of}
+use Rattle.lx_levels.specs.Stacks.{kept_stack}
 use Rattle.lx_levels.proofs.levels.Levels.settled.Given as goal
 
 abbrev pub invariant-loop-k : goal.invariant-loop-k
 invariant-loop-k l = record {
   moment : l.self.moment ≡ l.fn.self.moment;
   reach : length l.self.stacks ≡ length l.fn.self.stacks;
-  each : (i : ℕ) → i < l.k → stack_of l.self i ≡ record { bottom = level_of l.sheet l.base (i + 1); fades = [] };
+  each : (i : ℕ) → i < l.k → kept_stack l.self i ≡ record { bottom = level_of l.sheet l.base (i + 1); fades = [] };
 }

@@ -6,9 +6,9 @@ use Rattle.std.proofs.lemmas.Grind.{get_or-set_at}
 use Rattle.std.proofs.Math.ListN.{length-set}
 use Rattle.lx_fade.specs.Fades.{Fade}
 use Rattle.lx_levels.specs.Stacks.{Stack, no_stack}
-use Rattle.lx_fade.specs.Row.{column}
-use Rattle.lx_fade.proofs.Rows.{drop-column}
-use Rattle.lx_levels.proofs.Columns.{length-column, place_within, stack_read, stacks_set}
+use Rattle.lx_fade.specs.Row.{stack_column}
+use Rattle.lx_fade.proofs.Rows.{drop-stack_column}
+use Rattle.lx_levels.proofs.Columns.{length-stack_column, place_within, stack_read, stacks_set}
 use Rattle.lx_levels.proofs.racks.Racks.put.Goals as goal
 
 pub write-requires-clause-within : goal.write-requires-clause-within
@@ -60,16 +60,16 @@ returns c =
     let now : List Stack = c.args.self.now in
     let within : k < channels = place_within c.self.inside _ _ c.self.view_is c.requires.within in
     let room : k < length counts = omega (arith, within, c.self.invariant.of_counts) in
-    let stack : get_or now k no_stack ≡ record { bottom = get_or bottoms k 0; fades = column old channels k (get_or counts k 0) } =
+    let stack : get_or now k no_stack ≡ record { bottom = get_or bottoms k 0; fades = stack_column old channels k (get_or counts k 0) } =
     stack_read c.self.inside old now k (get_or bottoms k 0) (get_or counts k 0) c.self.view_is within refl refl refl in
-    let fades : (get_or now k no_stack).fades ≡ column old channels k (get_or counts k 0) = ap (λ (s : Stack). s.fades) stack in
-    let long : length (get_or now k no_stack).fades ≡ get_or counts k 0 = ap length fades ∙ length-column old channels k
+    let fades : (get_or now k no_stack).fades ≡ stack_column old channels k (get_or counts k 0) = ap (λ (s : Stack). s.fades) stack in
+    let long : length (get_or now k no_stack).fades ≡ get_or counts k 0 = ap length fades ∙ length-stack_column old channels k
     (get_or counts k 0) in
-    let kept : column old channels k c.args.kept ≡ drop (length (get_or now k no_stack).fades - c.args.kept) (get_or now k no_stack).fades =
+    let kept : stack_column old channels k c.args.kept ≡ drop (length (get_or now k no_stack).fades - c.args.kept) (get_or now k no_stack).fades =
     sym (ap (λ n. drop (n - c.args.kept) (get_or now k no_stack).fades) long ∙ ap (drop (get_or counts k 0 - c.args.kept)) fades
-    ∙ drop-column old channels k (get_or counts k 0) c.args.kept (omega (arith, long, c.requires.kept))) in
+    ∙ drop-stack_column old channels k (get_or counts k 0) c.args.kept (omega (arith, long, c.requires.kept))) in
     stacks_set channels bottoms counts bottoms (set counts k (c.args.kept + 1)) old new k _ within
-    (ap (λ n. record { bottom = get_or bottoms k 0; fades = column new channels k n })
+    (ap (λ n. record { bottom = get_or bottoms k 0; fades = stack_column new channels k n })
     (get_or-set_at counts k k (c.args.kept + 1) 0 refl room)
     ∙ ap (λ (fs : List Fade). record { bottom = get_or bottoms k 0; fades = fs })
     (c.write.ensures.here ∙ ap (λ (fs : List Fade). c.args.fade ∷ fs) kept)
@@ -79,7 +79,7 @@ returns c =
           (get_or now k no_stack).fades;
     }) (sym (ap (λ (s : Stack). s.bottom) stack)))
     (λ i less apart.
-    ap (λ n. record { bottom = get_or bottoms i 0; fades = column new channels i n })
+    ap (λ n. record { bottom = get_or bottoms i 0; fades = stack_column new channels i n })
     (get_or-set_other counts k i (c.args.kept + 1) 0 apart)
     ∙ ap (λ (fs : List Fade). record { bottom = get_or bottoms i 0; fades = fs }) (c.write.ensures.others i (get_or counts i 0) less apart))
     ∙ ap (λ (ss : List Stack). set ss k (record {

@@ -3,7 +3,7 @@ use Rattle.std.proofs.lemmas.List.{get_or-set_other}
 use Rattle.std.proofs.lemmas.Grind.{get_or-set_at}
 use Rattle.lx_fade.specs.Fades.{Fade}
 use Rattle.lx_levels.specs.Stacks.{Stack}
-use Rattle.lx_fade.specs.Row.{column}
+use Rattle.lx_fade.specs.Row.{stack_column}
 use Rattle.lx_levels.proofs.Columns.{place_within, stacks_set}
 use Rattle.lx_levels.proofs.racks.Racks.restart.Goals as goal
 
@@ -34,13 +34,13 @@ returns c =
     stacks_set channels bottoms counts (set bottoms k c.args.bottom) (set counts k 0) block block k
     (record { bottom = c.args.bottom; fades = [] })
     within
-    (ap (λ n. record { bottom = get_or (set bottoms k c.args.bottom) k 0; fades = column block channels k n })
+    (ap (λ n. record { bottom = get_or (set bottoms k c.args.bottom) k 0; fades = stack_column block channels k n })
     (get_or-set_at counts k k 0 0 refl (omega (arith, within, c.self.invariant.of_counts)))
     ∙ ap (λ b. record { bottom = b; fades = [] })
     (get_or-set_at bottoms k k c.args.bottom 0 refl (omega (arith, within, c.self.invariant.of_bottoms))))
     (λ i less apart.
-    ap (λ n. record { bottom = get_or (set bottoms k c.args.bottom) i 0; fades = column block channels i n })
+    ap (λ n. record { bottom = get_or (set bottoms k c.args.bottom) i 0; fades = stack_column block channels i n })
     (get_or-set_other counts k i 0 0 apart)
-    ∙ ap (λ b. record { bottom = b; fades = column block channels i (get_or counts i 0) })
+    ∙ ap (λ b. record { bottom = b; fades = stack_column block channels i (get_or counts i 0) })
     (get_or-set_other bottoms k i c.args.bottom 0 apart))
     ∙ ap (λ (ss : List Stack). set ss k (record { bottom = c.args.bottom; fades = [] })) c.self.view_is

@@ -1,5 +1,5 @@
 use Rattle.std.proofs.Common.{◌∙◌, sym, ap, arith}
-use Rattle.lx_levels.specs.Stacks.{Stack, level_in}
+use Rattle.lx_levels.specs.Stacks.{Stack, stack_level}
 use Rattle.lx_levels.proofs.Columns.{place_within, reach_there, stack_there}
 use Rattle.lx_levels.proofs.racks.Racks.value.Goals as goal
 
@@ -30,4 +30,4 @@ pub returns : goal.returns
 returns c =
     let stack = stack_there c.self.inside _ c.deref.result.now _ c.args.k c.index-2.result.now c.index.result.now c.self.view_is
     c.self.invariant c.requires c.index-2.ensures c.index.ensures c.deref.ensures.value in
-    c.value_in.ensures ∙ sym (ap (λ (s : Stack). level_in s c.args.m) stack)
+    c.value_in.ensures ∙ sym (ap (λ (s : Stack). stack_level s c.args.m) stack)

@@ -1,14 +1,14 @@
 use Rattle.std.proofs.Common.{◌≤◌}
 use Rattle.lx_base.specs.declared.TheConstants.{SLOTS}
-use Rattle.lx_patch.specs.FollowerChains.{IsAbove, IsChained}
+use Rattle.lx_patch.specs.FollowerChains.{AreDarkFrom, AreDimmersChained}
 use Rattle.lx_patch.proofs.followers.Followers.link.Given as goal
 
 abbrev pub invariant-loop-e : goal.invariant-loop-e
 invariant-loop-e l = record {
   within : l.e ≤ SLOTS;
-  top : IsAbove l.levels l.self.top;
+  top : AreDarkFrom l.levels l.self.top;
   top_most : l.self.top ≤ SLOTS;
-  chained : IsChained l.places l.levels l.self.first.items l.self.next.items l.e;
+  chained : AreDimmersChained l.places l.levels l.self.first.items l.self.next.items l.e;
 }
 
 abbrev pub decreases-loop-e : goal.decreases-loop-e

@@ -1,6 +1,6 @@
 use Rattle.std.proofs.Common.{List, ℕ, refl, subst, sym, ap, ◌∙◌}
 use Rattle.lx_patch.specs.DimmerTable.{DimmerTable}
-use Rattle.lx_patch.specs.FollowerChains.{IsAbove}
+use Rattle.lx_patch.specs.FollowerChains.{AreDarkFrom}
 use Rattle.lx_patch.proofs.SlotChanges.{table_of_all, table_of_lit}
 use Rattle.lx_patch.proofs.table.PatchTable.follow.Goals as goal
 
@@ -12,7 +12,7 @@ returns-then-many c = λ rows stands old.
     c.loop-k.slots c.fill.new.slots c.loop-k.from c.self.inside.followers.top
     (c.places-places.ensures.places ∙ ap (λ (t : DimmerTable). t.places) c.self.view_is)
     (levels_are ∙ ap (λ (t : DimmerTable). t.levels) c.self.view_is) stands old c.loop-k.invariant.followed
-    (subst (λ (ls : List ℕ). IsAbove ls c.self.inside.followers.top) (sym levels_are) c.self.invariant.top) c.fill.ensures.filled
+    (subst (λ (ls : List ℕ). AreDarkFrom ls c.self.inside.followers.top) (sym levels_are) c.self.invariant.top) c.fill.ensures.filled
     c.fill.ensures.others (c.fill.auto.slots ∙ c.loop-k.auto.slots ∙ c.requires.slots)
 
 pub returns : goal.returns

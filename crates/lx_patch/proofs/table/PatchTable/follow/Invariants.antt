@@ -1,12 +1,12 @@
 use Rattle.std.proofs.Common.{◌-◌, ◌≤◌, length}
 use Rattle.lx_base.specs.declared.TheConstants.{SLOTS}
-use Rattle.lx_patch.specs.Slots.{IsFilled, IsFollowed}
+use Rattle.lx_patch.specs.Slots.{AreSlots, IsFollowed}
 use Rattle.lx_patch.proofs.table.PatchTable.follow.Given as goal
 
 abbrev pub invariant-loop-k : goal.invariant-loop-k
 invariant-loop-k l = record {
   within : l.from ≤ length l.before;
-  followed : IsFilled l.places l.levels l.before l.fn.slots 0 SLOTS
+  followed : AreSlots l.places l.levels l.before l.fn.slots 0 SLOTS
       → IsFollowed l.places l.levels l.before l.out_levels l.slots SLOTS l.from;
 }
 

@@ -1,8 +1,8 @@
 use Rattle.std.proofs.Common.{subst, sym}
-use Rattle.lx_reader.specs.Settled.{FitsIn}
+use Rattle.lx_reader.specs.Settled.{OpenFits}
 use Rattle.lx_reader.proofs.reading.Reading.settle.Goals as goal
 
 pub put_record-requires : goal.put_record-requires
 put_record-requires c =
     let g = c.args.self.now in
-    (g.reader.section, subst (FitsIn g.reader.show g.reader.section g.moves) (sym c.replace-held.ensures.value) c.requires)
+    (g.reader.section, subst (OpenFits g.reader.show g.reader.section g.moves) (sym c.replace-held.ensures.value) c.requires)

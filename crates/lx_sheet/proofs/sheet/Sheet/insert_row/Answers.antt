@@ -13,7 +13,7 @@ use Rattle.lx_sheet.specs.declared.marks.Marks.{Marks}
 use Rattle.lx_sheet.specs.declared.sheet.Place.{Place}
 use Rattle.lx_sheet.specs.Block.{AreApart, Covers, own_rows, row_at_place, width}
 use Rattle.lx_sheet.specs.Marks.{IsMarkedFor}
-use Rattle.lx_sheet.specs.After.{IsFilled, IsPassed}
+use Rattle.lx_sheet.specs.After.{FillsRows, IsPassed}
 use Rattle.lx_sheet.specs.SheetMeaning.{RowsStandFor}
 use Rattle.lx_sheet.proofs.BlockReach.{covers_inserted, covers_lent, covers_longer, stands_same}
 use Rattle.lx_sheet.proofs.MarkedRows.{kept_places, marked_place, reached_grown, reached_more, table_grown}
@@ -66,8 +66,8 @@ returns-then-len-cues c = λ before cue stands number absent now.
     omega (arith, ap length c.deref_mut-then-len-cues.ensures.value, c.self.invariant.look_room) in
     let shifted = inserted before cue n at old new _ order.cues_sorted order.numbers number absent c.in-Some.ensures.goes refl
     c.in-Some.ensures.added in
-    let is : IsFilled channels new show.cues levels filled at (at + 1) =
-    told_as (λ k xs ys zs. IsPassed k xs ys zs at → IsFilled k xs ys zs filled at (at + 1)) _ channels _ new _ show.cues _ levels long
+    let is : FillsRows channels new show.cues levels filled at (at + 1) =
+    told_as (λ k xs ys zs. IsPassed k xs ys zs at → FillsRows k xs ys zs filled at (at + 1)) _ channels _ new _ show.cues _ levels long
     c.deref-then-len-cues.ensures.value of_cues c.deref_mut.ensures.value c.fill_inserted.ensures
     (passed channels old new before.cues show.cues levels at shifted (rows_right before channels old levels was c.self.invariant.sorted stood)) in
     let row : c.own_row-row.result ≡ row_at_place new at = c.own_row-row.ensures.row

@@ -10,7 +10,7 @@ use Rattle.lx_spec.specs.EditedShow.{without_cue}
 use Rattle.lx_sheet.specs.declared.marks.Marks.{Marks}
 use Rattle.lx_sheet.specs.declared.sheet.Place.{Place}
 use Rattle.lx_sheet.specs.Block.{AreApart, Covers, own_rows, width}
-use Rattle.lx_sheet.specs.After.{IsFilled, IsLeft}
+use Rattle.lx_sheet.specs.After.{FillsRows, IsLeft}
 use Rattle.lx_sheet.specs.SheetMeaning.{RowsStandFor}
 use Rattle.lx_sheet.proofs.BlockReach.{covered_at, covers_lent, covers_removed}
 use Rattle.lx_sheet.proofs.RightRows.{order_of, rows_right}
@@ -48,8 +48,8 @@ returns-then-len-cues c = λ before stands now.
     let long : length c.deref_mut-then-len-cues.result.now ≡ channels =
     omega (arith, ap length c.deref_mut-then-len-cues.ensures.value, c.self.invariant.look_room) in
     let shifted = removed before n at old new order.cues_sorted order.numbers c.in-Some.ensures.stands c.in-Some.ensures.dropped in
-    let is : IsFilled channels new show.cues levels filled at at =
-    told_as (λ k xs ys zs. IsLeft k xs ys zs at row → IsFilled k xs ys zs filled at at) _ channels _ new _ show.cues _ levels long
+    let is : FillsRows channels new show.cues levels filled at at =
+    told_as (λ k xs ys zs. IsLeft k xs ys zs at row → FillsRows k xs ys zs filled at at) _ channels _ new _ show.cues _ levels long
     c.deref.ensures.value of_cues c.deref_mut.ensures.value c.fill_removed.ensures
     (left_behind channels old new before.cues show.cues levels at row shifted c.in-Some.ensures.row
     (rows_right before channels old levels marks c.self.invariant.sorted was)) in

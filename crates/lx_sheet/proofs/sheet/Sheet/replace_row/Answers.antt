@@ -10,7 +10,7 @@ use Rattle.lx_sheet.specs.declared.marks.Marks.{Marks}
 use Rattle.lx_sheet.specs.declared.sheet.Place.{Place}
 use Rattle.lx_sheet.specs.Block.{AreApart, own_rows, row_at_place}
 use Rattle.lx_sheet.specs.Marks.{IsMarkedFor}
-use Rattle.lx_sheet.specs.After.{IsFilled}
+use Rattle.lx_sheet.specs.After.{FillsRows}
 use Rattle.lx_sheet.specs.SheetMeaning.{RowsStandFor}
 use Rattle.lx_sheet.proofs.Found.{absent_is, place_is, same_numbers}
 use Rattle.lx_sheet.proofs.MarkedRows.{kept_places, marked_place}
@@ -48,8 +48,8 @@ returns-then-order-cues c = λ before cue stands number there now.
     omega (arith, ap length c.deref_mut-then-order-cues.ensures.value, c.self.invariant.look_room) in
     let place = place_is n c.get.result at c.as_slice-order.result.now order c.get.ensures.value c.as_slice-order.ensures.value
     c.in-Ok.ensures.stands in
-    let is : IsFilled channels order show.cues levels filled at (at + 1) =
-    told_as (λ k xs ys zs. IsFilled k xs ys zs filled at (at + 1)) _ channels _ order _ show.cues _ levels long c.as_slice-order.ensures.value of_cues c.deref_mut.ensures.value
+    let is : FillsRows channels order show.cues levels filled at (at + 1) =
+    told_as (λ k xs ys zs. FillsRows k xs ys zs filled at (at + 1)) _ channels _ order _ show.cues _ levels long c.as_slice-order.ensures.value of_cues c.deref_mut.ensures.value
     c.fill_from.ensures in
     let row : c.own_row.result ≡ row_at_place order at = c.own_row.ensures.row
     ∙ ap (λ (xs : List Place). row_at_place xs at) c.as_slice-order.ensures.value in
