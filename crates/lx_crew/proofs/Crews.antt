@@ -22,11 +22,11 @@ use Rattle.lx_crew.specs.declared.fault.OperatorFault.TheVariants.{ReadFault, In
 use Rattle.lx_crew.specs.declared.operator.Operator.{Operator}
 use Rattle.lx_crew.specs.declared.rule.View.{View}
 use Rattle.lx_crew.specs.EngineAnswers.{said, HasAnswered}
-use Rattle.lx_crew.specs.CrewOutcome.{IsBack, HasWritten, HasCrewed}
+use Rattle.lx_crew.specs.CrewOutcome.{ScriptIsBack, HasWrittenTranscript, HasCrewed}
 use Rattle.lx_crew.specs.Entries.{of_place, is_last, has_last}
 use Rattle.lx_crew.specs.OperatorWorks.{EachAt, Retired, owned}
 use Rattle.lx_crew.specs.Rule.{engine_view, Learned}
-use Rattle.lx_crew.specs.Scripts.{HasEnded}
+use Rattle.lx_crew.specs.Scripts.{ScriptHasEnded}
 use Rattle.lx_crew.specs.SentLines.{last_entry}
 use Rattle.lx_crew.proofs.Lists.{none_front}
 use Rattle.lx_crew.proofs.MergedEntries.{SentAt, AllSent, IsTrueTo, true_entries, by_number, all_true, all_front, merged, merged_so_far}
@@ -94,7 +94,7 @@ sent_at left faults Its places ys popped items n h len learned ended k (no withi
 -- The transcript was written, or a prefix of one.
 written : (d : Desk) (lines : ℕ → List (List ℕ)) (popped : List Entry) (held held' : Option (List ℕ)) (console : Kept) (tally : Tally)
     (output : Option SinkFault) → ((k : ℕ) → SentAt lines k (of_place k popped)) → HasAnswered d popped held held' console tally output
-    → HasWritten d (by_number lines) held held' console tally output
+    → HasWrittenTranscript d (by_number lines) held held' console tally output
 written d lines popped held held' console tally None sent a =
     let all = all_true lines popped sent in
     let same : crew_session d (true_entries lines popped) a.failures ≡ a.now =
@@ -123,7 +123,7 @@ back_at : {S : Type 0} (left : S → Option (List ℕ)) (faults : S → ℕ) (It
     (told : List (Option OperatorFault)) (ys : List (Operator S)) (h : EachAt (Retired left faults Its places) ys)
     → length ys ≡ length places → EachAt (λ k y. slice_get places' k ≡ Some (Some y.source)) ys
     → EachAt (λ k y. slice_get told k ≡ Some y.fault) ys → (place : ℕ) (start : S) → slice_get places place ≡ Some (Some start)
-    → IsBack left faults places' told place start (by_number (lines_of left faults Its places ys h) (place + 1))
+    → ScriptIsBack left faults places' told place start (by_number (lines_of left faults Its places ys h) (place + 1))
 back_at left faults Its places places' told ys h len back says place start at =
     let within = slice_get_within places place (Some start) at in
     let y = get_at ys place (omega (arith, len, within)) in
@@ -137,8 +137,8 @@ back_at left faults Its places places' told ys h len back says place start at =
       fault = y.0.fault;
       place_is = back place y.0 y.1;
       fault_is = says place y.0 y.1;
-      ended = subst (λ s. HasEnded left faults s y.0.source y.0.fault (by_number lines (place + 1))) from
-          (subst (λ ls. HasEnded left faults r.start y.0.source y.0.fault ls) are r.sent.ended);
+      ended = subst (λ s. ScriptHasEnded left faults s y.0.source y.0.fault (by_number lines (place + 1))) from
+          (subst (λ ls. ScriptHasEnded left faults r.start y.0.source y.0.fault ls) are r.sent.ended);
     }
 
 no_more : {S : Type 0} (left : S → Option (List ℕ)) (faults : S → ℕ) (Its : Pass Entry View → Type 0) (places : List (Option S))

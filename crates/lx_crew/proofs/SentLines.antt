@@ -10,7 +10,7 @@ use Rattle.lx_lex.specs.declared.lines.Lines.{Lines}
 use Rattle.lx_lex.specs.declared.lines.Step.TheVariants as steps
 use Rattle.lx_lex.specs.CutOff.{NotTaken}
 use Rattle.lx_lex.specs.Lines.{StepOf}
-use Rattle.lx_lex.specs.Unread.{unread, line_of}
+use Rattle.lx_lex.specs.Unread.{unread, current_line}
 use Rattle.lx_lex.proofs.CuttingOff.{cut_off}
 use Rattle.lx_lex.proofs.HandingOut.{handed_none, handed_then}
 use Rattle.lx_lex.proofs.TakenLines.{all_texts}
@@ -29,7 +29,7 @@ use Rattle.lx_crew.specs.declared.follows.Follows.TheVariants as after
 use Rattle.lx_crew.specs.declared.rule.View.{View}
 use Rattle.lx_crew.specs.Entries.{HasText, HaveLines, text_in}
 use Rattle.lx_crew.specs.Rule.{operator_view}
-use Rattle.lx_crew.specs.Scripts.{AreLines, HasEnded}
+use Rattle.lx_crew.specs.Scripts.{AreLines, ScriptHasEnded}
 use Rattle.lx_crew.specs.SentLines.{TookNext, follows, last_entry, HasSentLines}
 
 -- A line that was taken goes on, or it is `quit`.
@@ -80,7 +80,7 @@ abbrev pub TookLast : {S : Type 0} → (S → Option (List ℕ)) → (S → ℕ)
 TookLast left faults b c None = IsAtEnd (unread left b) × (faults c.source.now ≡ faults b.source.now)
 TookLast left faults b c (Some ends.ReadFault) = NotTaken left b c × Rose (faults b.source.now) (faults c.source.now)
 TookLast left faults b c (Some ends.InputTooLong) =
-    NotTaken left b c × StepOf steps.InputTooLong (unread left b) (unread left c) b.taken c.taken (line_of c)
+    NotTaken left b c × StepOf steps.InputTooLong (unread left b) (unread left c) b.taken c.taken (current_line c)
     × (faults c.source.now ≡ faults b.source.now)
 
 abbrev same_last : {S : Type 0} → (S → Option (List ℕ)) → (S → ℕ) → (b c : Lines S) → Sent → Option OperatorFault → Type 0
@@ -239,7 +239,7 @@ no_fault f e = cc
 
 pub ended_by_quit : {S : Type 0} (left : S → Option (List ℕ)) (faults : S → ℕ) (source : S) (a b c : Lines S)
     → Began left source a → (s : Passed left faults a b) → (q : QuitLine left faults b c)
-    → HasEnded left faults source c.source.now None (map without_cr s.raws ++ without_cr q.raw ∷ [])
+    → ScriptHasEnded left faults source c.source.now None (map without_cr s.raws ++ without_cr q.raw ∷ [])
 ended_by_quit left faults source a b c began s q = record {
   are = over (left source) _ _ (from_start left source a (λ n. all_are n (map without_cr s.raws ++ without_cr q.raw ∷ [])) began
       (quit_lines left faults a b c s q)) (λ xs e. record { are = e.0; within = omega (arith, e.1) });
@@ -280,7 +280,7 @@ last_kept left faults b c (Some ends.InputTooLong) t other = t.2
 
 pub ended_so : {S : Type 0} (left : S → Option (List ℕ)) (faults : S → ℕ) (source : S) (a b c : Lines S) (fault : Option OperatorFault)
     → Began left source a → (s : Passed left faults a b) → faults b.source.now ≤ faults c.source.now → TookLast left faults b c fault
-    → HasEnded left faults source c.source.now fault (map without_cr s.raws)
+    → ScriptHasEnded left faults source c.source.now fault (map without_cr s.raws)
 ended_so left faults source a b c fault began s later t = record {
   are = last_are left faults source a b c fault began s t;
   later = let x = s.handed.kept in let z = ap faults began.now in omega (arith, x, later, z);

@@ -5,22 +5,22 @@ use Rattle.lx_spec.specs.Desk.{Desk}
 use Rattle.lx_spec.specs.Kept.{Kept}
 use Rattle.lx_session.specs.declared.tally.Tally.{Tally}
 use Rattle.lx_crew.specs.declared.fault.OperatorFault.{OperatorFault}
-use Rattle.lx_crew.specs.Scripts.{HasEnded}
+use Rattle.lx_crew.specs.Scripts.{ScriptHasEnded}
 use Rattle.lx_crew.specs.Transcripts.{WholeTranscript, TranscriptPrefix}
 
 -- an operator's source is back in its place, and these were its lines
-pub record IsBack {S : Type 0} (left : S → Option (List ℕ)) (faults : S → ℕ) (places : List (Option S)) (told : List (Option OperatorFault))
+pub record ScriptIsBack {S : Type 0} (left : S → Option (List ℕ)) (faults : S → ℕ) (places : List (Option S)) (told : List (Option OperatorFault))
     (place : ℕ) (start : S) (lines : List (List ℕ)) : Type 0 where
   pub source : S
   pub fault : Option OperatorFault
   pub place_is : slice_get places place ≡ Some (Some source)
   pub fault_is : slice_get told place ≡ Some fault
-  pub ended : HasEnded left faults start source fault lines
+  pub ended : ScriptHasEnded left faults start source fault lines
 
 -- the transcript, or a prefix of one where the output had a fault
-abbrev pub HasWritten : Desk → (ℕ → List (List ℕ)) → (held held' : Option (List ℕ)) → Kept → Tally → Option SinkFault → Type 0
-HasWritten d lines held held' console tally None = WholeTranscript d lines held held' console tally
-HasWritten d lines held held' console tally (Some fault) = TranscriptPrefix d lines held held'
+abbrev pub HasWrittenTranscript : Desk → (ℕ → List (List ℕ)) → (held held' : Option (List ℕ)) → Kept → Tally → Option SinkFault → Type 0
+HasWrittenTranscript d lines held held' console tally None = WholeTranscript d lines held held' console tally
+HasWrittenTranscript d lines held held' console tally (Some fault) = TranscriptPrefix d lines held held'
 
 -- Each place has its source again. `lines` are each operator's, which are numbered from 1; past them there are none, and no fault is told.
 pub record HasCrewed {S K : Type 0} (left : S → Option (List ℕ)) (reads : S → ℕ) (holds : K → Option (List ℕ)) (d : Desk)
@@ -29,8 +29,8 @@ pub record HasCrewed {S K : Type 0} (left : S → Option (List ℕ)) (reads : S 
   pub lines : ℕ → List (List ℕ)
   pub same_places : length places' ≡ length places
   pub each : (place : ℕ) (start : S) → slice_get places place ≡ Some (Some start)
-      → IsBack left reads places' told place start (lines (place + 1))
+      → ScriptIsBack left reads places' told place start (lines (place + 1))
   pub none : lines 0 ≡ []
   pub no_more : (operator : ℕ) → length places < operator → lines operator ≡ []
   pub others : (place : ℕ) (fault : OperatorFault) → slice_get told place ≡ Some (Some fault) → place < length places
-  pub written : HasWritten d lines (holds sink) (holds sink') console tally output
+  pub written : HasWrittenTranscript d lines (holds sink) (holds sink') console tally output

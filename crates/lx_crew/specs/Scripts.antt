@@ -30,7 +30,7 @@ AreLines (Some InputTooLong) bytes left lines = CutLines bytes left lines × (IN
 
 -- An operator ended, from its source before to its source after, with these lines. `ReadFault` is told only where the source's count rose,
 -- and where it isn't told the count stands as it was.
-pub record HasEnded {S : Type 0} (left : S → Option (List ℕ)) (faults : S → ℕ) (source source' : S) (fault : Option OperatorFault)
+pub record ScriptHasEnded {S : Type 0} (left : S → Option (List ℕ)) (faults : S → ℕ) (source source' : S) (fault : Option OperatorFault)
     (lines : List (List ℕ)) : Type 0 where
   pub are : IfSome (left source) (λ bytes. AreLines fault bytes (left source') lines)
   pub later : faults source ≤ faults source'

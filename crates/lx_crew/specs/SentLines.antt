@@ -7,7 +7,7 @@ use Rattle.lx_lex.specs.declared.lines.Step.TheVariants as steps
 use Rattle.lx_lex.specs.CutOff.{NotTaken}
 use Rattle.lx_lex.specs.LinesHandedOut.{HandedOut}
 use Rattle.lx_lex.specs.Lines.{StepOf}
-use Rattle.lx_lex.specs.Unread.{unread, line_of}
+use Rattle.lx_lex.specs.Unread.{unread, current_line}
 use Rattle.lx_spec.specs.Text.{without_cr}
 use Rattle.lx_spec.specs.Session.{ends_script}
 use Rattle.lx_crew.specs.declared.entry.Entry.{Entry}
@@ -20,7 +20,7 @@ use Rattle.lx_crew.specs.declared.follows.Follows.TheVariants as after
 use Rattle.lx_crew.specs.declared.rule.View.{View}
 use Rattle.lx_crew.specs.Entries.{HasText, HaveLines, text_in}
 use Rattle.lx_crew.specs.Rule.{operator_view}
-use Rattle.lx_crew.specs.Scripts.{HasEnded}
+use Rattle.lx_crew.specs.Scripts.{ScriptHasEnded}
 
 -- one line was handed out, and it is to be sent
 pub record TookLine {S : Type 0} (left : S → Option (List ℕ)) (faults : S → ℕ) (old new : Lines S) (sent : Sent) : Type 0 where
@@ -35,7 +35,7 @@ TookNext left faults old new LongLine = TookLine left faults old new LongLine
 TookNext left faults old new End = IsAtEnd (unread left old) × (faults new.source.now ≡ faults old.source.now)
 TookNext left faults old new ReadFault = NotTaken left old new × Rose (faults old.source.now) (faults new.source.now)
 TookNext left faults old new InputTooLong =
-    NotTaken left old new × StepOf steps.InputTooLong (unread left old) (unread left new) old.taken new.taken (line_of new)
+    NotTaken left old new × StepOf steps.InputTooLong (unread left old) (unread left new) old.taken new.taken (current_line new)
     × (faults new.source.now ≡ faults old.source.now)
 
 -- what comes after it
@@ -62,4 +62,4 @@ pub record HasSentLines {S : Type 0} (left : S → Option (List ℕ)) (faults : 
   pub have : HaveLines place 1 entries lines
   pub own : last.place ≡ place
   pub ends : last.sent ≡ last_entry fault
-  pub ended : HasEnded left faults source source' fault lines
+  pub ended : ScriptHasEnded left faults source source' fault lines

@@ -6,7 +6,7 @@ ghost use Rattle.lx_io.specs.Puts.{Puts, HasSinkCause};
 ghost use Rattle.lx_spec.specs.CrewText.{op_text};
 ghost use Rattle.lx_spec.specs.Desk.{Desk};
 ghost use Rattle.lx_session.specs.LineState.{meaning_of};
-ghost use Rattle.lx_session.specs.LineReply.{HasRoom, HasOneMore};
+ghost use Rattle.lx_session.specs.LineReply.{TallyHasRoom, HasOneMore};
 ghost use Rattle.lx_session.specs.LineAnswer.{FromDesk};
 ghost use Rattle.lx_crew.specs.declared.entry.Entry.{Entry as AnEntry};
 ghost use Rattle.lx_crew.specs.EngineAnswers.{AnswersNamed, HasAnswered, OutputCause, named_line};
@@ -36,7 +36,7 @@ fn answer_line<K: Sink>(
     sink: &mut K,
     tally: &mut Tally,
 ) -> Result<bool, SinkFault>
-    requires room { HasRoom tally.old }
+    requires room { TallyHasRoom tally.old }
     ensures answered { FromDesk console.old tally.old (λ s. AnswersNamed K.holds K.faults K.wants sink.old sink.new result s
         (op_text (named_line place number [])) (meaning_of (option_copied line.entry)) console.new tally.new) }
     ensures cause { HasSinkCause K.faults K.wants sink.old sink.new result }
@@ -54,7 +54,7 @@ pub(crate) fn answer_entry<K: Sink>(
     tally: &mut Tally,
     output: &mut Option<SinkFault>,
 )
-    requires room { HasRoom tally.old }
+    requires room { TallyHasRoom tally.old }
     ensures answered { (d : Desk) (popped : List AnEntry) (start : _) → HasAnswered d popped start (K.holds sink.old) console.old tally.old
         output.old → HasAnswered d (popped ++ entry.now ∷ []) start (K.holds sink.new) console.new tally.new output.new }
     ensures cause { OutputCause K.faults K.wants sink.old sink.new output.old output.new }

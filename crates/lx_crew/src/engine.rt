@@ -2,7 +2,7 @@
 
 ghost use Rattle.std.specs.Prelude.{◌≡◌, ◌<◌, ◌≤◌, ◌⊎◌, ℕ, [], length, true, false, slice_get, Some, None};
 ghost use Rattle.crossbeam_queue.specs.Passes.{view, IsPassOf, IsSamePass};
-ghost use Rattle.lx_session.specs.LineReply.{HasRoom, HasOneMore, counts_in};
+ghost use Rattle.lx_session.specs.LineReply.{TallyHasRoom, HasOneMore, counts_in};
 ghost use Rattle.lx_crew.specs.Entries.{is_last};
 ghost use Rattle.lx_crew.specs.Rule.{engine_view};
 ghost use Rattle.lx_crew.specs.EngineAnswers.{HasServedEntries, Marked, OutputCause, NextEntry};
@@ -24,7 +24,7 @@ pub(crate) const PLACES: usize = OPERATORS as usize;
 
 /// What the engine is lent, and what came of it.
 #[derive(Drop)]
-pub struct Engine<'q, 'p, 'w, 'c, 'k, K> {
+pub struct CrewEngine<'q, 'p, 'w, 'c, 'k, K> {
     pub queue: &'q Queue,
     pub pass: &'p mut Pass<Entry, View>,
     /// It waits here while there is nothing to take.
@@ -36,7 +36,7 @@ pub struct Engine<'q, 'p, 'w, 'c, 'k, K> {
     pub output: Option<SinkFault>,
 }
 
-impl<K: Sink> Work for Engine<'_, '_, '_, '_, '_, K> {
+impl<K: Sink> Work for CrewEngine<'_, '_, '_, '_, '_, K> {
     ghost use Rattle.std.specs.Prelude.{◌≡◌, ◌≤◌, [], None};
     ghost use Rattle.crossbeam_queue.specs.Passes.{view, IsPassOf, IsSamePass};
     ghost use Rattle.lx_crew.specs.Rule.{engine_view};
@@ -119,7 +119,7 @@ fn take_one<K: Sink>(
 ) -> bool
     requires queue { IsPassOf queue.now pass.old }
     requires pops { (view pass.old).pops ≡ true }
-    requires room { HasRoom tally.old }
+    requires room { TallyHasRoom tally.old }
     ensures queue { IsSamePass pass.old pass.new }
     ensures some { result ≡ true → NextEntry (view pass.old) (view pass.new) (K.holds sink.old) (K.holds sink.new) console.old console.new
         tally.old tally.new output.old output.new ended.old ended.new }

@@ -10,10 +10,10 @@ mod operator;
 mod rule;
 mod running;
 
-pub use engine::Engine;
+pub use engine::CrewEngine;
 pub use entry::{Entry, LineText, Sent};
 pub use fault::OperatorFault;
 pub use follows::Follows;
 pub use operator::Operator;
-pub use rule::{Enters, Gets, Law, Leaves, Queue, Sends, Total, View};
+pub use rule::{Enters, Gets, QueueLaw, Leaves, Queue, Sends, Total, View};
 pub use running::{Crewed, crew};

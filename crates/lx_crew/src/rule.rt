@@ -21,9 +21,9 @@ pub struct View {
 }
 
 /// The rule of the queue.
-pub struct Law;
+pub struct QueueLaw;
 
-impl Protocol<Entry, View> for Law {
+impl Protocol<Entry, View> for QueueLaw {
     ghost use Rattle.std.specs.Prelude.{[]};
     ghost use Rattle.lx_crew.specs.Rule.{KeepsOrder, engine_view};
 
@@ -83,4 +83,4 @@ impl Lesson<Entry, View> for Total {
 }
 
 /// The queue.
-pub type Queue = RuledArrayQueue<Entry, View, Law>;
+pub type Queue = RuledArrayQueue<Entry, View, QueueLaw>;

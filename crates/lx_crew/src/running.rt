@@ -12,7 +12,7 @@ ghost use Rattle.lx_crew.specs.EngineAnswers.{HasServedEntries, OutputCause};
 ghost use Rattle.lx_crew.specs.CrewOutcome.{HasCrewed};
 ghost use Rattle.lx_crew.specs.OperatorWorks.{EachAt, HasRunOperator, Hired, HasSentNothing, Works, owned};
 
-use crate::engine::{Engine, PLACES};
+use crate::engine::{CrewEngine, PLACES};
 use crate::entry::Entry;
 use crate::fault::OperatorFault;
 use crate::operator::Operator;
@@ -107,7 +107,7 @@ fn perform<'q, 'e, R: Threads + Wait + Sync, S: Source + Send, K: Sink + Send>(
         result.0 result.1 }
     ensures ran { AllZip (HasRunOperator S.left S.faults) works.old works.new }
 {
-    let mut engine = Engine {
+    let mut engine = CrewEngine {
         queue,
         pass: &mut *pass,
         parker: &mut *parker,

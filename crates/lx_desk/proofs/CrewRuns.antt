@@ -18,8 +18,8 @@ use Rattle.lx_session.specs.declared.tally.Tally.{Tally}
 use Rattle.lx_crew.specs.declared.fault.OperatorFault.{OperatorFault}
 use Rattle.lx_crew.specs.declared.fault.OperatorFault.TheVariants as ends
 use Rattle.lx_crew.specs.OperatorWorks.{EachAt}
-use Rattle.lx_crew.specs.Scripts.{AreLines, CutLines, HasEnded}
-use Rattle.lx_crew.specs.CrewOutcome.{IsBack, HasWritten, HasCrewed}
+use Rattle.lx_crew.specs.Scripts.{AreLines, CutLines, ScriptHasEnded}
+use Rattle.lx_crew.specs.CrewOutcome.{ScriptIsBack, HasWrittenTranscript, HasCrewed}
 use Rattle.lx_crew.specs.Transcripts.{WholeTranscript, TranscriptPrefix}
 use Rattle.lx_crew.specs.EngineAnswers.{OutputCause}
 use Rattle.lx_desk.specs.declared.desk.Status.{Status}
@@ -87,7 +87,7 @@ transcript show lines held held' console tally w =
 
 written_by : (show : Show) (lines : ℕ → List (List ℕ)) (held held' : Option (List ℕ)) (console : Kept) (tally : Tally)
     (output : Option SinkFault) (told : List (Option OperatorFault)) (s : Status)
-    → HasWritten (opened show) lines held held' console tally output → TellsCrew output told s → WritesLines s show lines told held held'
+    → HasWrittenTranscript (opened show) lines held held' console tally output → TellsCrew output told s → WritesLines s show lines told held held'
 written_by show lines held held' console tally None told status.Ok w tells = (transcript show lines held held' console tally w, tells)
 written_by show lines held held' console tally None told status.ReadFault w tells =
     (transcript show lines held held' console tally w, tells)
@@ -105,7 +105,7 @@ written_by show lines held held' console tally (Some sinks.Memory) told s w tell
 
 -- an operator whose read failed
 read_rose : {S : Type 0} (left : S → Option (List ℕ)) (reads : S → ℕ) (places : List (Option S)) (told : List (Option OperatorFault))
-    (place : ℕ) (start : S) (lines : List (List ℕ)) (b : IsBack left reads places told place start lines)
+    (place : ℕ) (start : S) (lines : List (List ℕ)) (b : ScriptIsBack left reads places told place start lines)
     → slice_get told place ≡ Some (Some ends.ReadFault) → Rose (reads start) (reads b.source)
 read_rose left reads places told place start lines b at = b.ended.failed (same_Some b.fault (Some ends.ReadFault) (sym b.fault_is ∙ at))
 
@@ -118,7 +118,7 @@ module _ {S K : Type 0} (left : S → Option (List ℕ)) (reads : S → ℕ) (ho
   same_count = h.same_places ∙ n
 
   back : (place : ℕ) (start : S) → place < count → slice_get operators place ≡ Some (Some start)
-      → IsBack left reads (used' ++ rest) told place start (h.lines (place + 1))
+      → ScriptIsBack left reads (used' ++ rest) told place start (h.lines (place + 1))
   back place start within at =
       let b = h.each place start (ap (λ l. slice_get l place) is ∙ (get_take count place operators within ∙ at)) in
       record {
@@ -208,7 +208,7 @@ lines_front (Some ends.ReadFault) bytes left lines c = cut_front bytes left line
 lines_front (Some ends.InputTooLong) bytes left lines c = cut_front bytes left lines c.0
 
 ended_front : {S : Type 0} (left : S → Option (List ℕ)) (reads : S → ℕ) (start source : S) (fault : Option OperatorFault)
-    (lines : List (List ℕ)) (bytes : List ℕ) → HasEnded left reads start source fault lines → left start ≡ Some bytes
+    (lines : List (List ℕ)) (bytes : List ℕ) → ScriptHasEnded left reads start source fault lines → left start ≡ Some bytes
     → (m : ℕ) × (lines ≡ take m (lines_up_to_quit bytes))
 ended_front left reads start source fault lines bytes ended known =
     lines_front fault bytes (left source) lines

@@ -5,8 +5,8 @@ use Rattle.std.specs.Prelude.{flat_map, codes, decimal}
 use Rattle.std.specs.List.{range_with_len}
 use Rattle.lx_spec.specs.ShowText.{line}
 use Rattle.lx_spec.specs.MakeOutput.{drawn_from, chan_line, made_cue, made_turn}
-use Rattle.lx_desk.specs.Generator.{after_draw, after_setting, after_cue, after_turn, setting_from, cue_from, turn_from, chan_text}
-use Rattle.lx_desk.specs.Generator.{cue_text, turn_text}
+use Rattle.lx_desk.specs.Generator.{after_draw, after_setting, after_cue, after_turn, setting_from, drawn_cue, turn_from, chan_text}
+use Rattle.lx_desk.specs.Generator.{drawn_cue_text, turn_text}
 
 -- one draw, and two
 one_more : (seed i : ℕ) → drawn_from seed (suc i) ≡ after_draw (drawn_from seed i)
@@ -30,7 +30,7 @@ pieces : (a b c d e f : List ℕ) → (a ++ b) ++ (c ++ (d ++ (e ++ (f ++ []))))
 pieces a b c d e f = simp (append_assoc, append-nil)
 
 -- a cue, of nine draws
-pub cue_is : (seed k x : ℕ) → x ≡ drawn_from seed (9 * k) → cue_text (k + 1) (cue_from x) ≡ made_cue seed (k + 1)
+pub cue_is : (seed k x : ℕ) → x ≡ drawn_from seed (9 * k) → drawn_cue_text (k + 1) (drawn_cue x) ≡ made_cue seed (k + 1)
 cue_is seed k x is =
     let i : ℕ = 9 * (k + 1 - 1) + 1 in
     let a : after_draw x ≡ drawn_from seed i = step seed (9 * k) i x is (omega arith) in

@@ -21,7 +21,7 @@ use Rattle.lx_session.specs.Known.{Known}
 use Rattle.lx_crew.specs.declared.fault.OperatorFault.{OperatorFault}
 use Rattle.lx_crew.specs.declared.fault.OperatorFault.TheVariants as ends
 use Rattle.lx_crew.specs.OperatorWorks.{EachAt}
-use Rattle.lx_crew.specs.CrewOutcome.{IsBack}
+use Rattle.lx_crew.specs.CrewOutcome.{ScriptIsBack}
 use Rattle.lx_crew.specs.Transcripts.{TranscriptPrefix}
 use Rattle.lx_desk.specs.declared.desk.Status.{Status}
 use Rattle.lx_desk.specs.declared.desk.Status.TheVariants as status
@@ -63,7 +63,7 @@ pub record Serves {S : Type 0} (left : S → Known) (faults : S → ℕ) (show :
   pub lines : ℕ → List (List ℕ)
   pub told : List (Option OperatorFault)
   pub each : (place : ℕ) (start : S) → place < count → slice_get operators place ≡ Some (Some start)
-      → IsBack left faults operators' told place start (lines (place + 1))
+      → ScriptIsBack left faults operators' told place start (lines (place + 1))
   pub none : lines 0 ≡ []
   pub no_more : (operator : ℕ) → count < operator → lines operator ≡ []
   pub written : WritesLines s show lines told held held'

@@ -4,7 +4,7 @@ use Rattle.std.specs.List.{range_with_len}
 use Rattle.lx_spec.specs.ShowText.{line}
 use Rattle.lx_spec.specs.MakeOutput.{made_patch, made_cue}
 use Rattle.lx_desk.specs.declared.draws.Setting.{Setting}
-use Rattle.lx_desk.specs.declared.draws.Cue.{Cue}
+use Rattle.lx_desk.specs.declared.draws.DrawnCue.{DrawnCue}
 use Rattle.lx_desk.specs.declared.draws.Turn.{Turn}
 
 -- the number after a draw
@@ -22,8 +22,8 @@ setting_from x = record { channel = 1 + after_draw x / 65536 % 512; percent = af
 abbrev pub after_cue : ℕ → ℕ
 after_cue x = after_setting (after_setting (after_setting (after_setting (after_draw x))))
 
-abbrev pub cue_from : ℕ → Cue
-cue_from x =
+abbrev pub drawn_cue : ℕ → DrawnCue
+drawn_cue x =
     let a = after_draw x in
     let b = after_setting a in
     let c = after_setting b in
@@ -47,8 +47,8 @@ chan_text s = line (codes "CHAN" ∷ (decimal s.channel ++ 64 ∷ decimal s.perc
 abbrev pub cue_head : ℕ → ℕ → List ℕ
 cue_head k up = line (codes "CUE" ∷ decimal k ∷ []) ++ line (codes "UP" ∷ decimal up ∷ [])
 
-abbrev pub cue_text : ℕ → Cue → List ℕ
-cue_text k cue = cue_head k cue.up ++ flat_map chan_text cue.settings
+abbrev pub drawn_cue_text : ℕ → DrawnCue → List ℕ
+drawn_cue_text k cue = cue_head k cue.up ++ flat_map chan_text cue.settings
 
 -- set k chan c at p
 abbrev pub set_text : ℕ → Setting → List ℕ

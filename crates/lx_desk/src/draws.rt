@@ -1,7 +1,7 @@
 //! The numbers of which `make` makes its input. The rule is our own.
 
 ghost use Rattle.std.specs.Prelude.{◌≡◌, ◌<◌, ◌/◌, ◌%◌};
-ghost use Rattle.lx_desk.specs.Generator.{after_draw, after_setting, after_cue, after_turn, setting_from, cue_from, turn_from};
+ghost use Rattle.lx_desk.specs.Generator.{after_draw, after_setting, after_cue, after_turn, setting_from, drawn_cue, turn_from};
 
 const FACTOR: u64 = 1_103_515_245;
 
@@ -21,7 +21,7 @@ pub(crate) struct Setting {
 
 /// A cue: its time in seconds, and its channels with their levels.
 #[derive(Clone, Copy)]
-pub(crate) struct Cue {
+pub(crate) struct DrawnCue {
     pub(crate) up: u32,
     pub(crate) settings: [Setting; 4],
 }
@@ -48,8 +48,8 @@ impl Draws {
     }
 
     /// A cue, by nine draws.
-    pub(crate) fn cue(&mut self) -> Cue
-        ensures cue { result ≡ cue_from self.old.number }
+    pub(crate) fn cue(&mut self) -> DrawnCue
+        ensures cue { result ≡ drawn_cue self.old.number }
         ensures next { self.new.number ≡ after_cue self.old.number }
     {
         let up = self.draw(10);
@@ -59,7 +59,7 @@ impl Draws {
             self.setting(),
             self.setting(),
         ];
-        Cue { up, settings }
+        DrawnCue { up, settings }
     }
 
     /// A turn of the script, by three draws.

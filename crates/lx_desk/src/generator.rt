@@ -6,9 +6,9 @@ ghost use Rattle.std.specs.List.{range_with_len};
 ghost use Rattle.lx_io.specs.Puts.{Puts};
 ghost use Rattle.lx_spec.specs.ShowText.{line};
 ghost use Rattle.lx_spec.specs.MakeOutput.{drawn_from, made_cue, made_patch, made_turn, made_input};
-ghost use Rattle.lx_desk.specs.Generator.{chan_text, cue_head, cue_text, go_text, made_show, patched_text, set_text, turn_text};
+ghost use Rattle.lx_desk.specs.Generator.{chan_text, cue_head, drawn_cue_text, go_text, made_show, patched_text, set_text, turn_text};
 
-use crate::draws::{Cue, Draws, Setting, Turn};
+use crate::draws::{DrawnCue, Draws, Setting, Turn};
 use lx_io::{PlainSink, Sink, SinkFault, put_all};
 use lx_lex::put_whole;
 use std::alloc::{AllocError, Global};
@@ -80,8 +80,8 @@ fn put_cues<K: Sink>(cues: u32, draws: &mut Draws, sink: &mut K) -> Result<(), S
 }
 
 /// Appends the lines of a cue.
-fn put_cue<K: Sink>(number: u32, cue: &Cue, sink: &mut K) -> Result<(), SinkFault>
-    ensures { Puts K.holds K.faults K.wants sink.old sink.new result (cue_text number cue.now) }
+fn put_cue<K: Sink>(number: u32, cue: &DrawnCue, sink: &mut K) -> Result<(), SinkFault>
+    ensures { Puts K.holds K.faults K.wants sink.old sink.new result (drawn_cue_text number cue.now) }
 {
     put_cue_head(number, cue.up, sink)?;
     put_settings(&cue.settings, sink)

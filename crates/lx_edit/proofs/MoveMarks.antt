@@ -21,7 +21,7 @@ use Rattle.lx_spec.proofs.Lists.{all_append, each, find_in_filter, find_none}
 use Rattle.lx_spec.proofs.SortedLists.{entry_at-placed_other, found_number, found_valid}
 use Rattle.lx_edit.specs.declared.chan_set.ChanSet.{ChanSet}
 use Rattle.lx_edit.specs.ChanSet.{has_chan}
-use Rattle.lx_edit.specs.CueChanges.{AreAmong, Grows, move_by, moves_in}
+use Rattle.lx_edit.specs.CueChanges.{AreAmong, Grows, move_by, moves_of_cue}
 use Rattle.lx_edit.specs.Kept.{decided}
 use Rattle.lx_edit.specs.PlanMeaning.{SameOutside, covers}
 
@@ -92,7 +92,7 @@ both_true : (a b : Bool) → a ≡ true → b ≡ true → (a && b) ≡ true
 both_true a b one other = ap (λ x. x && b) one ∙ other
 
 -- the channel's move of a cue that may be absent is one of its moves
-pub move_by-moves : (cue : Option Cue) (c : ℕ) → move_by cue c ≡ entry_at (λ m. m.chan) c (moves_in cue)
+pub move_by-moves : (cue : Option Cue) (c : ℕ) → move_by cue c ≡ entry_at (λ m. m.chan) c (moves_of_cue cue)
 move_by-moves None c = refl
 move_by-moves (Some cue) c = refl
 

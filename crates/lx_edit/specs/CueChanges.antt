@@ -18,8 +18,8 @@ abbrev pub move_by : Option Cue → ℕ → Option Move
 move_by cue c = option_and_then (λ x. move_in x c) cue
 
 -- its moves, where it is there
-abbrev pub moves_in : Option Cue → List Move
-moves_in cue = option_map_or (λ x. x.moves) cue []
+abbrev pub moves_of_cue : Option Cue → List Move
+moves_of_cue cue = option_map_or (λ x. x.moves) cue []
 
 -- each of these moves whose channel isn't in the set is among the others
 abbrev pub AreAmong : ChanSet → List Move → List Move → Type 0

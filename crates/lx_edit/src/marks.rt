@@ -10,7 +10,7 @@ ghost use Rattle.lx_sheet.specs.Rows.{level_of};
 ghost use Rattle.lx_sheet.specs.SheetMeaning.{RowsStandFor};
 ghost use Rattle.lx_edit.specs.ChanSet.{has_chan};
 ghost use Rattle.lx_edit.specs.PlanMeaning.{changed_show, planned, covers, SameOutside};
-ghost use Rattle.lx_edit.specs.CueChanges.{AreAmong, move_by, moves_in, is_block, SameEntry, Grows};
+ghost use Rattle.lx_edit.specs.CueChanges.{AreAmong, move_by, moves_of_cue, is_block, SameEntry, Grows};
 
 use crate::absent::channel;
 use crate::blocks::below;
@@ -74,7 +74,7 @@ fn part_of(moves: &[Move], within: ChanRange) -> &[Move]
 
 /// The cue's moves, if it is there.
 fn moves_of<'a>(cue: Option<&'a Cue>) -> &'a [Move]
-    ensures moves { result.now ≡ moves_in (option_copied cue.entry) }
+    ensures moves { result.now ≡ moves_of_cue (option_copied cue.entry) }
     ensures sorted { IsStrictlySorted (λ m. m.chan) result.now }
 {
     match cue {

@@ -14,7 +14,7 @@ use Rattle.lx_reader.specs.declared.fault.ShowFault.{ShowFault}
 use Rattle.lx_reader.specs.declared.fault.ShowFault.TheVariants as faults
 use Rattle.lx_reader.specs.HandedLines.{MeansFault, IsPastLimit}
 use Rattle.lx_reader.specs.Answer.{reading_of, AnswerOf}
-use Rattle.lx_embed.specs.Opened.{RefusesText}
+use Rattle.lx_embed.specs.Opened.{RefusesShow}
 
 first_lines-within : (n : ℕ) (xs : List ℕ) → length (first_lines n xs) ≤ length xs
 first_lines-within n [] = omega arith
@@ -39,7 +39,7 @@ module _ (text : List ℕ) (form : Form) {S : Type 0} (left : S → Option (List
   pub loads : (loaded : Loaded) → AnswerOf left rises a b form (Ok loaded) → reads form text ≡ Ok (reading_of loaded)
   loads loaded answer = subst (λ (v : Option (List ℕ)). IfSome v (λ bytes. reads form bytes ≡ Ok (reading_of loaded))) is answer.means.text
 
-  pub refuses : (fault : ShowFault) → AnswerOf left rises a b form (Err fault) → (fault ≡ faults.ReadFault → ⊥) → RefusesText form text fault
+  pub refuses : (fault : ShowFault) → AnswerOf left rises a b form (Err fault) → (fault ≡ faults.ReadFault → ⊥) → RefusesShow form text fault
   refuses (faults.Text fault) answer never = fault_is fault answer
   refuses faults.ReadFault answer never = never refl
   refuses faults.InputTooLong answer never = too_long answer.0

@@ -8,7 +8,7 @@ use Rattle.lx_spec.specs.FirstRefusal.{◌>>=◌}
 use Rattle.lx_spec.specs.Desk.{Desk, step}
 use Rattle.lx_spec.specs.Undo.{UndoState, undo_step}
 use Rattle.lx_console.specs.Ticks.{after_ticks}
-use Rattle.lx_undo.specs.UndoDeskMeaning.{UndoKept, UndoStands, TakesStep, WantsMemory}
+use Rattle.lx_undo.specs.UndoDeskMeaning.{UndoKept, UndoStands, TakesUndoStep, UndoWantsMemory}
 
 abbrev IsFalse : Bool → Type 0
 IsFalse true = ⊥
@@ -74,7 +74,7 @@ refused_with t refusal is =
     ] in over (step t.desk commands.Tick) (subst IsErr (sym is) refl)
 
 pub undo_refused : {A : Type 0} (r : Result A Refusal) (t : UndoState) → is_err r ≡ true
-    → IfErr r (λ refusal. (undo_step t commands.Tick ≡ Err refusal) ⊎ WantsMemory false (undo_step t commands.Tick) refusal)
+    → IfErr r (λ refusal. (undo_step t commands.Tick ≡ Err refusal) ⊎ UndoWantsMemory false (undo_step t commands.Tick) refusal)
     → IsErr (step t.desk commands.Tick)
 undo_refused (Ok x) t e p = absurd (subst IsFalse e tt)
 undo_refused (Err x) t e p = elim p [

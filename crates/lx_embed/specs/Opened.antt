@@ -15,5 +15,5 @@ pub record OpensText (form : Form) (depth : Option ℕ) (text : List ℕ) (engin
   pub stands : OpenedAs depth reading.show engine
 
 -- the fault is that of the text; InputTooLong only where it is too long, ReadFault never, and memory may be wanting
-abbrev pub RefusesText : Form → List ℕ → ShowFault → Type 0
-RefusesText form text fault = OfText (λ f. reads form text ≡ Err f) (INPUT_BYTES < length text) ⊥ fault
+abbrev pub RefusesShow : Form → List ℕ → ShowFault → Type 0
+RefusesShow form text fault = OfText (λ f. reads form text ≡ Err f) (INPUT_BYTES < length text) ⊥ fault

@@ -11,7 +11,7 @@ ghost use Rattle.lx_spec.specs.TrackedLevel.{tracked};
 ghost use Rattle.lx_console.specs.ConsoleMeaning.{StandsFor};
 ghost use Rattle.lx_embed.specs.Answered.{Answered};
 ghost use Rattle.lx_embed.specs.Engines.{console_of};
-ghost use Rattle.lx_embed.specs.Opened.{OpensText, RefusesText};
+ghost use Rattle.lx_embed.specs.Opened.{OpensText, RefusesShow};
 ghost use Rattle.lx_embed.specs.TakenSlots.{taken_of};
 ghost use Rattle.lx_embed.specs.Told.{Stands, Ticked};
 
@@ -48,7 +48,7 @@ impl HostDesk {
     ) -> Result<HostDesk, ShowFault>
         ensures opens { IfOk result (λ desk. OpensText form depth text.now desk.engine) }
         ensures untaken { IfOk result (λ desk. (u : ℕ) → 1 ≤ u → u ≤ UNIVERSES → taken_of desk.taken u ≡ None) }
-        ensures refuses { IfErr result (RefusesText form text.now) }
+        ensures refuses { IfErr result (RefusesShow form text.now) }
     {
         Ok(HostDesk {
             engine: open_text(alloc, text, form, depth)?,

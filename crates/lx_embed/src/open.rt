@@ -1,7 +1,7 @@
 //! A desk over a show's text.
 
 ghost use Rattle.std.specs.Prelude.{◌≡◌, IfOk, IfErr};
-ghost use Rattle.lx_embed.specs.Opened.{OpensText, RefusesText};
+ghost use Rattle.lx_embed.specs.Opened.{OpensText, RefusesShow};
 
 use crate::engine::Engine;
 use crate::slice_source::SliceSource;
@@ -18,7 +18,7 @@ pub(crate) fn open_text(
     depth: Option<u32>,
 ) -> Result<Engine, ShowFault>
     ensures opens { IfOk result (OpensText form depth text.now) }
-    ensures refuses { IfErr result (RefusesText form text.now) }
+    ensures refuses { IfErr result (RefusesShow form text.now) }
 {
     let mut source = SliceSource {
         rest: text,

@@ -49,14 +49,14 @@ pub fn held_at(fade: &Fade, m: Moment) -> Held
 
 /// How far a level has moved, and when it has moved by one more.
 #[derive(Clone, Copy)]
-struct Step {
+struct Progress {
     moved: Level,
     next: Cs,
 }
 
 /// Of a distance that a fade goes in its time, when so much of that has gone by.
 #[inline(always)]
-fn step_of(distance: Level, gone: Cs, time: Cs) -> Step
+fn step_of(distance: Level, gone: Cs, time: Cs) -> Progress
     requires some { 1 ≤ distance }
     requires gone { gone < time }
     requires time { time ≤ TIME_MAX }
@@ -67,7 +67,7 @@ fn step_of(distance: Level, gone: Cs, time: Cs) -> Step
 {
     let distance = distance as u32;
     let moved = distance * gone / time;
-    Step {
+    Progress {
         moved: moved as u8,
         next: ((moved + 1) * time - 1) / distance + 1,
     }

@@ -41,7 +41,7 @@ pub record IsReading (show : Show) (universe : ℕ) (before now : Told) (slots :
   pub rest : now ≡ record before { seen = now.seen; reads = now.reads }
 
 -- there was a reading: its list is now seen, and none that was learnt is longer
-pub record HasRead (before now : Told) : Type 0 where
+pub record HasReadOn (before now : Told) : Type 0 where
   pub newest_is : newest now ≡ now.seen
   pub rose : Rose before.reads now.reads
   pub rest : now ≡ record before { seen = now.seen; reads = now.reads }

@@ -5,7 +5,7 @@ ghost use Rattle.lx_spec.specs.declared.Command.{Command};
 ghost use Rattle.lx_spec.specs.Show.{Show};
 ghost use Rattle.lx_gate.specs.Frames.{AreFramesOf, moment_after, IsVersion};
 ghost use Rattle.lx_gate.specs.Gates.{IsAtRest, IsEntered, StillRests, HasSent, HasSentNone};
-ghost use Rattle.lx_gate.specs.Notes.{IsNoteOf, list_of};
+ghost use Rattle.lx_gate.specs.Notes.{IsNoteOf, commands_of_note};
 
 use crate::{Commit, GateRule, History, Note, Origin, Prefix, Shows, Unsent, Version};
 use left_right::writer::Writer;
@@ -97,7 +97,7 @@ impl<G: Origin> Gate<G, GateWriter<G>> {
     /// What is published now. It takes no memory and waits for nobody.
     pub fn note(&self) -> Note
         ensures gate { IsNoteOf G.show G.book result }
-        ensures list { list_of result ≡ self.now.published }
+        ensures list { commands_of_note result ≡ self.now.published }
     {
         let Some(writer) = &self.writer else {
             unreachable!()

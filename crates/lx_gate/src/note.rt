@@ -15,7 +15,7 @@ pub struct Note {
 
 impl Note {
     ghost use Rattle.std.specs.Prelude.{◌≡◌, length};
-    ghost use Rattle.lx_gate.specs.Notes.{list_of};
+    ghost use Rattle.lx_gate.specs.Notes.{commands_of_note};
 
     /// How many commands led to it.
     pub fn count(&self) -> u64
@@ -27,8 +27,8 @@ impl Note {
     /// The commands that led to it.
     pub(crate) fn list<G: Origin>(&self) -> Prefix<G>
         requires book { self.now.seen.book ≡ G.book }
-        requires counted { self.now.count ≡ length (list_of self.now) }
-        ensures { result ≡ list_of self.now }
+        requires counted { self.now.count ≡ length (commands_of_note self.now) }
+        ensures { result ≡ commands_of_note self.now }
     {
         Prefix::of_parts(self.count, self.seen.again())
     }

@@ -6,7 +6,7 @@ ghost use Rattle.lx_io.specs.Causes.{Rose};
 ghost use Rattle.lx_spec.specs.declared.Command.{Command};
 ghost use Rattle.lx_gate.specs.Frames.{IsVersion, IsFrame};
 ghost use Rattle.lx_gate.specs.CommandLists.{IsChained, longest};
-ghost use Rattle.lx_gate.specs.Notes.{IsNoteOf, list_of};
+ghost use Rattle.lx_gate.specs.Notes.{IsNoteOf, commands_of_note};
 ghost use Rattle.lx_spec.specs.Show.{Show};
 ghost use Rattle.logbook.specs.Pages.{Book};
 ghost use Rattle.lx_gate.specs.Readings.{IsReading, Told, HasMissed, HasLearnt};
@@ -37,7 +37,7 @@ pub trait Port {
     /// Learns what a note has. Each later reading has at least that.
     fn learn(&mut self, note: Note)
         requires gate { IsNoteOf show book note }
-        ensures learnt { HasLearnt (told self.old) (told self.new) (list_of note) }
+        ensures learnt { HasLearnt (told self.old) (told self.new) (commands_of_note note) }
         ensures chained { IsChained (told self.new).seen (told self.new).learnt };
 }
 

@@ -4,8 +4,8 @@ ghost use Rattle.lx_base.specs.declared.TheConstants.{UNIVERSES};
 ghost use mathlib.Core.List.{IsPrefix};
 ghost use Rattle.lx_gate.specs.CommandLists.{IsChained};
 ghost use Rattle.lx_gate.specs.Frames.{IsFrame};
-ghost use Rattle.lx_gate.specs.Notes.{IsNoteOf, list_of, KeepsLater};
-ghost use Rattle.lx_gate.specs.Readings.{Told, newest, HasRead, HasMissed, HasLearnt};
+ghost use Rattle.lx_gate.specs.Notes.{IsNoteOf, commands_of_note, KeepsLater};
+ghost use Rattle.lx_gate.specs.Readings.{Told, newest, HasReadOn, HasMissed, HasLearnt};
 
 use crate::{Note, Port, Stamp};
 use std::marker::Model;
@@ -65,7 +65,7 @@ impl<P: Port> Tap<P> {
     /// Learns what a note of its gate has. Later takes have at least that; it keeps the note's slots where they are newer.
     pub fn learn(&mut self, note: Note)
         requires gate { IsNoteOf P.show P.book note }
-        ensures learnt { HasLearnt self.old.told self.new.told (list_of note) }
+        ensures learnt { HasLearnt self.old.told self.new.told (commands_of_note note) }
         ensures chained { IsChained self.new.told.seen self.new.told.learnt }
         ensures universe { self.new.universe ≡ self.old.universe }
     {
@@ -79,7 +79,7 @@ impl<P: Port> Tap<P> {
         ensures version { IsFrame P.show (newest self.new.told) self.old.universe out.new result }
         ensures seen { IsPrefix self.old.told.seen (newest self.new.told) }
         ensures heard { IsPrefix self.old.told.learnt (newest self.new.told) }
-        ensures reading { HasRead self.old.told self.new.told ⊎ HasMissed self.old.told self.new.told }
+        ensures reading { HasReadOn self.old.told self.new.told ⊎ HasMissed self.old.told self.new.told }
         ensures universe { self.new.universe ≡ self.old.universe }
     {
         match self.port.read(self.universe, out) {

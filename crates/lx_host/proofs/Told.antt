@@ -4,20 +4,20 @@ use Rattle.lx_base.specs.declared.TheConstants.{INPUT_BYTES}
 use Rattle.lx_spec.specs.declared.Form.{Form}
 use Rattle.lx_reader.specs.declared.fault.ShowFault.{ShowFault}
 use Rattle.lx_reader.specs.declared.fault.ShowFault.TheVariants as faults
-use Rattle.lx_embed.specs.Opened.{RefusesText}
+use Rattle.lx_embed.specs.Opened.{RefusesShow}
 use Rattle.lx_host.specs.declared.status.ShowReport.{ShowReport}
 use Rattle.lx_host.specs.declared.status.TheConstants.{SHOW_REFUSED, TOO_LONG}
-use Rattle.lx_host.specs.Told.{status_of, report_of}
+use Rattle.lx_host.specs.Told.{status_of, show_report}
 use Rattle.lx_host.specs.Calls.{Refused}
 
 pub refused_told : (form : Form) (text : List ℕ) (fault : ShowFault) (s : ℕ) (report : ShowReport) → s ≡ status_of fault
-    → s ≡ SHOW_REFUSED → report ≡ report_of fault → RefusesText form text fault → Refused form text report
+    → s ≡ SHOW_REFUSED → report ≡ show_report fault → RefusesShow form text fault → Refused form text report
 refused_told form text (faults.Text fault) s report is refused told by = record { fault = fault; reads_as = by; told = told }
 refused_told form text faults.ReadFault s report is refused told by = absurd by
 refused_told form text faults.InputTooLong s report is refused told by = absurd (omega (arith, is, refused))
 refused_told form text faults.Memory s report is refused told by = absurd (omega (arith, is, refused))
 
-pub long_told : (form : Form) (text : List ℕ) (fault : ShowFault) (s : ℕ) → s ≡ status_of fault → s ≡ TOO_LONG → RefusesText form text fault
+pub long_told : (form : Form) (text : List ℕ) (fault : ShowFault) (s : ℕ) → s ≡ status_of fault → s ≡ TOO_LONG → RefusesShow form text fault
     → INPUT_BYTES < length text
 long_told form text (faults.Text fault) s is long by = absurd (omega (arith, is, long))
 long_told form text faults.ReadFault s is long by = absurd by

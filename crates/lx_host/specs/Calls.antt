@@ -24,11 +24,11 @@ use Rattle.lx_embed.specs.Told.{Stands, Ticked}
 use Rattle.lx_host.specs.declared.status.Playback.{Playback}
 use Rattle.lx_host.specs.declared.status.ShowReport.{ShowReport}
 use Rattle.lx_host.specs.declared.status.TheConstants.{OK, MEMORY, QUIT, MORE}
-use Rattle.lx_host.specs.Told.{report_of, playback_of}
+use Rattle.lx_host.specs.Told.{show_report, playback_of}
 
-abbrev pub form_of : Bool → Form
-form_of true = States
-form_of false = Moves
+abbrev pub form_of_flag : Bool → Form
+form_of_flag true = States
+form_of_flag false = Moves
 
 -- the desk is open, stands for the one that is opened over the show of the text, and nothing was taken of it
 pub record OpensDesk (form : Form) (depth : Option ℕ) (text : List ℕ) (host : HostDesk) : Type 0 where
@@ -43,7 +43,7 @@ Opens form depth text (Some host) = OpensDesk form depth text host
 pub record Refused (form : Form) (text : List ℕ) (report : ShowReport) : Type 0 where
   pub fault : TextFault
   pub reads_as : reads form text ≡ Err fault
-  pub told : report ≡ report_of (Text fault)
+  pub told : report ≡ show_report (Text fault)
 
 -- how a status tells that a line was done, or couldn't be answered whole, or is `quit`: a reply that is longer than the room is told by MORE
 abbrev pub tells : Result Bool SinkFault → Bool → ℕ

@@ -15,15 +15,15 @@ status_of faults.InputTooLong = TOO_LONG
 status_of faults.ReadFault = TOO_LONG
 status_of faults.Memory = MEMORY
 
-abbrev pub report_of : ShowFault → ShowReport
-report_of (faults.Text (texts.NoIdent i)) = record { fault = 1; line = i }
-report_of (faults.Text (texts.BadNumber i)) = record { fault = 2; line = i }
-report_of (faults.Text (texts.OutOfRange i)) = record { fault = 3; line = i }
-report_of (faults.Text (texts.NotInRecord i)) = record { fault = 4; line = i }
-report_of (faults.Text (texts.LineTooLong i)) = record { fault = 5; line = i }
-report_of (faults.Text (texts.ShortList i)) = record { fault = 6; line = i }
-report_of (faults.Text (texts.NoEndData i)) = record { fault = 7; line = i }
-report_of other = record { fault = 0; line = 0 }
+abbrev pub show_report : ShowFault → ShowReport
+show_report (faults.Text (texts.NoIdent i)) = record { fault = 1; line = i }
+show_report (faults.Text (texts.BadNumber i)) = record { fault = 2; line = i }
+show_report (faults.Text (texts.OutOfRange i)) = record { fault = 3; line = i }
+show_report (faults.Text (texts.NotInRecord i)) = record { fault = 4; line = i }
+show_report (faults.Text (texts.LineTooLong i)) = record { fault = 5; line = i }
+show_report (faults.Text (texts.ShortList i)) = record { fault = 6; line = i }
+show_report (faults.Text (texts.NoEndData i)) = record { fault = 7; line = i }
+show_report other = record { fault = 0; line = 0 }
 
 -- with 0 for what isn't there
 abbrev pub playback_of : PlaybackState → Playback

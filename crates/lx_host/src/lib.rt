@@ -13,9 +13,9 @@ mod status;
 ghost use Rattle.std.specs.Prelude.{◌≡◌, ◌≢◌, ◌≤◌, ◌<◌, ◌↔◌, IfSome, IfOk, IfErr, None, Some, Bool, is_some, true, false, length, min, take};
 ghost use Rattle.lx_base.specs.declared.TheConstants.{CUE_MAX, INPUT_BYTES, SUBS, UNIVERSES, UNIVERSE_SLOTS};
 ghost use Rattle.lx_embed.specs.Answered.{is_bare};
-ghost use Rattle.lx_embed.specs.Opened.{RefusesText};
+ghost use Rattle.lx_embed.specs.Opened.{RefusesShow};
 ghost use Rattle.lx_host.specs.declared.status.TheConstants.{OK, CLOSED, OPEN, SHOW_REFUSED, TOO_LONG, NOT_A_LINE, AT_END, OUT_OF_RANGE, VERSION};
-ghost use Rattle.lx_host.specs.Calls.{form_of, tells, OpensDesk, Opens, Refused, Did, HasPart, Ticks, IsOver, ShowsFrame};
+ghost use Rattle.lx_host.specs.Calls.{form_of_flag, tells, OpensDesk, Opens, Refused, Did, HasPart, Ticks, IsOver, ShowsFrame};
 ghost use Rattle.lx_host.specs.Calls.{IsChannel, TellsChange, TellsLevel, TellsTracked, TellsFader, TellsState};
 
 use desk::CueDesk;
@@ -50,8 +50,8 @@ pub extern "C" fn cuedesk_open(
     states: bool,
     report: &mut ShowReport,
 ) -> u32
-    ensures opens { result ≡ OK → Opens (form_of states) None text.now desk.new.handle.held }
-    ensures refused { result ≡ SHOW_REFUSED → Refused (form_of states) text.now report.new }
+    ensures opens { result ≡ OK → Opens (form_of_flag states) None text.now desk.new.handle.held }
+    ensures refused { result ≡ SHOW_REFUSED → Refused (form_of_flag states) text.now report.new }
     ensures long { result ≡ TOO_LONG → INPUT_BYTES < length text.now }
     ensures open { is_some desk.old.handle.held ≡ true → (result ≡ OPEN) × (report.new ≡ report.old) }
     ensures same { result ≢ OK → desk.new.handle.held ≡ desk.old.handle.held }
@@ -69,8 +69,8 @@ pub extern "C" fn cuedesk_open_undo(
     depth: u32,
     report: &mut ShowReport,
 ) -> u32
-    ensures opens { result ≡ OK → Opens (form_of states) (Some depth) text.now desk.new.handle.held }
-    ensures refused { result ≡ SHOW_REFUSED → Refused (form_of states) text.now report.new }
+    ensures opens { result ≡ OK → Opens (form_of_flag states) (Some depth) text.now desk.new.handle.held }
+    ensures refused { result ≡ SHOW_REFUSED → Refused (form_of_flag states) text.now report.new }
     ensures long { result ≡ TOO_LONG → INPUT_BYTES < length text.now }
     ensures open { is_some desk.old.handle.held ≡ true → (result ≡ OPEN) × (report.new ≡ report.old) }
     ensures same { result ≢ OK → desk.new.handle.held ≡ desk.old.handle.held }
@@ -87,8 +87,8 @@ fn open_with(
     depth: Option<u32>,
     report: &mut ShowReport,
 ) -> u32
-    ensures opens { result ≡ OK → Opens (form_of states) depth text.now desk.new.handle.held }
-    ensures refused { result ≡ SHOW_REFUSED → Refused (form_of states) text.now report.new }
+    ensures opens { result ≡ OK → Opens (form_of_flag states) depth text.now desk.new.handle.held }
+    ensures refused { result ≡ SHOW_REFUSED → Refused (form_of_flag states) text.now report.new }
     ensures long { result ≡ TOO_LONG → INPUT_BYTES < length text.now }
     ensures open { is_some desk.old.handle.held ≡ true → (result ≡ OPEN) × (report.new ≡ report.old) }
     ensures same { result ≢ OK → desk.new.handle.held ≡ desk.old.handle.held }
@@ -113,7 +113,7 @@ fn opened(
     depth: Option<u32>,
 ) -> Result<Box<HostDesk, Global>, ShowFault>
     ensures opens { IfOk result (λ host. OpensDesk form depth text.now host.value) }
-    ensures refuses { IfErr result (RefusesText form text.now) }
+    ensures refuses { IfErr result (RefusesShow form text.now) }
 {
     let desk = HostDesk::open(alloc, text, form, depth)?;
     match Box::new(alloc, desk) {
@@ -124,7 +124,7 @@ fn opened(
 
 /// How levels are read.
 fn form_for(states: bool) -> Form
-    ensures { result ≡ form_of states }
+    ensures { result ≡ form_of_flag states }
 {
     if states { Form::States } else { Form::Moves }
 }

@@ -1,7 +1,7 @@
 //! How a refused show and the state of a playback are told to C.
 
 ghost use Rattle.std.specs.Prelude.{◌≡◌};
-ghost use Rattle.lx_host.specs.Told.{status_of, report_of, playback_of};
+ghost use Rattle.lx_host.specs.Told.{status_of, show_report, playback_of};
 
 use crate::status::{MEMORY, Playback, SHOW_REFUSED, ShowReport, TOO_LONG};
 use lx_base::CueNo;
@@ -12,7 +12,7 @@ use lx_spec::TextFault;
 /// The status of a fault, and its report. A read never fails here.
 pub(crate) fn told(fault: ShowFault, report: &mut ShowReport) -> u32
     ensures status { result ≡ status_of fault }
-    ensures report { report.new ≡ report_of fault }
+    ensures report { report.new ≡ show_report fault }
 {
     match fault {
         ShowFault::Text(fault) => {
@@ -32,7 +32,7 @@ pub(crate) fn told(fault: ShowFault, report: &mut ShowReport) -> u32
 
 /// The report of a text's fault.
 fn report_for(fault: TextFault) -> ShowReport
-    ensures { result ≡ report_of (ShowFault.Text fault) }
+    ensures { result ≡ show_report (ShowFault.Text fault) }
 {
     let (fault, line) = match fault {
         TextFault::NoIdent(line) => (1, line),

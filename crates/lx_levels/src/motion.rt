@@ -12,7 +12,7 @@ use lx_fade::NEVER;
 
 /// What came of a step to another moment.
 #[derive(Clone, Copy)]
-pub(crate) struct Step {
+pub(crate) struct Motion {
     /// Some level changed.
     pub(crate) changed: bool,
     /// No channel's level changes before this moment.
@@ -26,7 +26,7 @@ pub(crate) fn advance(
     currents: &mut Vec<Current>,
     levels: &mut Vec<Level>,
     holds: &mut Vec<Moment>,
-) -> Step
+) -> Motion
     requires reaches { LevelsReach stacks.now currents.old.items levels.old.items holds.old.items }
     requires moment { m + 1 < NEVER }
     requires held { (k : ℕ) → k < length stacks.now → IsHeld m stacks.now currents.old.items levels.old.items holds.old.items k }
@@ -41,7 +41,7 @@ pub(crate) fn advance(
         changed |= bring(k, m, stacks, currents, levels, holds);
         due = due.min(holds[k]);
     }
-    Step { changed, due }
+    Motion { changed, due }
 }
 
 /// Brings a channel to the moment; answers whether its level changed. One that is held until later is there already.

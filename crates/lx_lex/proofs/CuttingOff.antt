@@ -7,16 +7,16 @@ use Rattle.lx_spec.specs.CutInput.{HasNoFeed, feeds, first_lines, CutOff}
 use Rattle.lx_lex.specs.declared.lines.Lines.{Lines}
 use Rattle.lx_lex.specs.declared.lines.Step.TheVariants.{ReadFault, InputTooLong}
 use Rattle.lx_lex.specs.Lines.{feed_of, BytesBetween, LinesBetween, StepOf}
-use Rattle.lx_lex.specs.Unread.{held, unread, line_of}
+use Rattle.lx_lex.specs.Unread.{held, unread, current_line}
 use Rattle.lx_lex.specs.CutOff.{NotTaken}
 
 -- the next line wasn't taken: a read failed, or the input is too long
 pub not_read : {S : Type 0} (left : S → Option (List ℕ)) (old new : Lines S)
-    → StepOf ReadFault (unread left old) (unread left new) old.taken new.taken (line_of new) → held new ≡ [] → NotTaken left old new
+    → StepOf ReadFault (unread left old) (unread left new) old.taken new.taken (current_line new) → held new ≡ [] → NotTaken left old new
 not_read left old new step none = record { raw = step.0; fed = false; took = step.1; stop = inr (refl, none) }
 
 pub too_long : {S : Type 0} (left : S → Option (List ℕ)) (old new : Lines S)
-    → StepOf InputTooLong (unread left old) (unread left new) old.taken new.taken (line_of new) → NotTaken left old new
+    → StepOf InputTooLong (unread left old) (unread left new) old.taken new.taken (current_line new) → NotTaken left old new
 too_long left old new step = record { raw = step.0; fed = step.1; took = step.2; stop = inl step.3 }
 
 no_feed-take : (k : ℕ) (xs : List ℕ) → HasNoFeed xs → HasNoFeed (take k xs)

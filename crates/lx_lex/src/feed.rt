@@ -10,7 +10,7 @@ const LANES: usize = 32;
 /// Where the first LF from `start` up to `end` stands, or `end` where none does. So many bytes are looked at at once, also those behind
 /// `end`, if there are any.
 #[inline(always)]
-pub(crate) fn next_feed(bytes: &[u8], start: usize, end: usize) -> usize
+pub(crate) fn next_lf(bytes: &[u8], start: usize, end: usize) -> usize
     requires ordered { start ≤ end }
     requires within { end ≤ length bytes.now }
     ensures from { start ≤ result }

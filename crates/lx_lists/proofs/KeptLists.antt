@@ -23,12 +23,12 @@ use Rattle.lx_console.specs.ConsoleMeaning.{StandsFor, Obeys, Answers, level_now
 use Rattle.lx_console.proofs.KeptOutputs.{same_table, same_slots}
 use Rattle.lx_lists.specs.declared.output.Output.{Output}
 use Rattle.lx_lists.specs.TwoListsMeaning.{TwoKept}
-use Rattle.lx_lists.specs.KeptLists.{HasRoom, IsFilled, AreKept}
+use Rattle.lx_lists.specs.KeptLists.{HasRoomForFrames, IsFilled, AreKept}
 
 abbrev pub both : Kept → Kept → TwoKept
 both first second = record { first = first; second = second }
 
-same_room : (one other : Show) (output : Output) → other.channels ≡ one.channels → HasRoom one output → HasRoom other output
+same_room : (one other : Show) (output : Output) → other.channels ≡ one.channels → HasRoomForFrames one output → HasRoomForFrames other output
 same_room one other output same room = record {
   greatest = room.greatest ∙ sym same;
   kept = subst (λ (n : ℕ). Reaches n output.kept) (sym same) room.kept;

@@ -19,7 +19,7 @@ use Rattle.lx_session.specs.Attempts.{Attempted, heard_of}
 use Rattle.lx_session.specs.LineState.{LineState, next_of, unattempted}
 use Rattle.lx_session.specs.LineProgress.{LineProgress}
 use Rattle.lx_session.proofs.AttemptSteps.{nothing_yet, attempted}
-use Rattle.lx_lists.specs.TwoListsMeaning.{TwoKept, TwoStand, TakesStep, WantsMemory}
+use Rattle.lx_lists.specs.TwoListsMeaning.{TwoKept, TwoStand, TakesStep, TwoWantMemory}
 use Rattle.lx_lists.specs.OtherList.{TicksReach, Stays}
 
 -- A command that is answered so was attempted.
@@ -57,7 +57,7 @@ own_ok next (Ok d) ok = ok
 own_ok next (Err own) ok = ok
 
 refuses : (next : Desk → TwoDesks) (d : Desk) (c : Command) (refusal : Refusal)
-    → (step d c >>= (λ e. Ok (next e)) ≡ Err refusal) ⊎ WantsMemory (is_edit c) (step d c >>= (λ e. Ok (next e))) refusal
+    → (step d c >>= (λ e. Ok (next e)) ≡ Err refusal) ⊎ TwoWantMemory (is_edit c) (step d c >>= (λ e. Ok (next e))) refusal
     → Refuses d c refusal
 refuses next d c refusal refused = elim refused [
   | inl own ↦ inl (own_err next (step d c) refusal own)

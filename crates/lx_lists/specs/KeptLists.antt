@@ -12,13 +12,13 @@ use Rattle.lx_lists.specs.declared.output.Output.{Output}
 use Rattle.lx_lists.specs.TwoListsMeaning.{TwoKept, TwoStand, out_of_both}
 
 -- a place for each channel and for each dimmer
-pub record HasRoom (show : Show) (output : Output) : Type 0 where
+pub record HasRoomForFrames (show : Show) (output : Output) : Type 0 where
   pub greatest : length output.greatest.items ≡ show.channels
   pub kept : Reaches show.channels output.kept
 
 -- the outputs are those of both lists, and the slots those of the outputs
 pub record IsFilled (t : TwoKept) (output : Output) : Type 0 where
-  pub room : HasRoom t.first.show output
+  pub room : HasRoomForFrames t.first.show output
   pub patch : StandsForPatch t.first.show.patch output.kept.table
   pub outs : IsTable t.first.show.channels (out_of_both t) output.kept.outs.items
   pub slots : SlotsStand t.first.show.patch output.kept

@@ -49,14 +49,14 @@ IsAnswered before (Second command) answer after =
 IsAnswered before TickBoth answer after = (s : TwoDesks) → TwoStand s before → Steps (tick_step s) answer after
 
 -- and a refusal left what is kept
-pub record IsDone (before : TwoKept) (d : Done) : Type 0 where
+pub record CommandIsDone (before : TwoKept) (d : Done) : Type 0 where
   pub answered : IsAnswered before d.call d.answer d.after
   pub unchanged : OnErr d.answer (d.after ≡ before)
 
 -- the calls were done one after another
 abbrev pub AreDone : TwoKept → List Done → Type 0
 AreDone before [] = ⊤
-AreDone before (d ∷ ds) = IsDone before d × AreDone d.after ds
+AreDone before (d ∷ ds) = CommandIsDone before d × AreDone d.after ds
 
 -- what is kept after the calls
 abbrev pub kept_after : TwoKept → List Done → TwoKept

@@ -3,7 +3,7 @@
 ghost use Rattle.std.specs.Prelude.{◌≡◌, max, length, slice_index, EachIndex, IfOk};
 ghost use Rattle.lx_patch.specs.DimmerTable.{StandsForPatch};
 ghost use Rattle.lx_console.specs.KeptOutput.{IsPatchedBut, SlotsStand};
-ghost use Rattle.lx_lists.specs.KeptLists.{HasRoom, IsFilled, WasFilled};
+ghost use Rattle.lx_lists.specs.KeptLists.{HasRoomForFrames, IsFilled, WasFilled};
 
 use lx_base::{Dimmer, Level};
 use lx_console::{Change, KeptOutput, Player};
@@ -22,7 +22,7 @@ pub(crate) struct Output {
 impl Output {
     /// An output for the show, whose patch alone is filled in yet. An error comes where memory is wanting.
     pub(crate) fn open(alloc: Global, show: &Show) -> Result<Output, AllocError>
-        ensures room { IfOk result (HasRoom show.now) }
+        ensures room { IfOk result (HasRoomForFrames show.now) }
         ensures patch { IfOk result (λ output. StandsForPatch show.now.patch output.kept.table) }
     {
         let channels = show.channels() as usize;
@@ -35,7 +35,7 @@ impl Output {
     /// Fills in the outputs and the slots.
     pub(crate) fn fill(&mut self, first: &Player, second: &Player)
         requires channels { second.now.show.channels ≡ first.now.show.channels }
-        requires room { HasRoom first.now.show self.old }
+        requires room { HasRoomForFrames first.now.show self.old }
         requires patch { StandsForPatch first.now.show.patch self.old.kept.table }
         ensures { IsFilled (record { first = first.now; second = second.now }) self.new }
     {
@@ -46,7 +46,7 @@ impl Output {
     /// Fills in the outputs, and the slots of those that changed: the slots were those of the outputs before.
     pub(crate) fn refill(&mut self, first: &Player, second: &Player)
         requires channels { second.now.show.channels ≡ first.now.show.channels }
-        requires room { HasRoom first.now.show self.old }
+        requires room { HasRoomForFrames first.now.show self.old }
         requires patch { StandsForPatch first.now.show.patch self.old.kept.table }
         requires slots { SlotsStand first.now.show.patch self.old.kept }
         ensures { IsFilled (record { first = first.now; second = second.now }) self.new }
@@ -58,7 +58,7 @@ impl Output {
     /// Takes up the dimmer's row of the first list's patch, then fills in the outputs and the slots.
     fn repatch(&mut self, first: &Player, second: &Player, dimmer: Dimmer)
         requires channels { second.now.show.channels ≡ first.now.show.channels }
-        requires room { HasRoom first.now.show self.old }
+        requires room { HasRoomForFrames first.now.show self.old }
         requires patch { IsPatchedBut first.now.show.patch dimmer self.old.kept.table }
         ensures { IsFilled (record { first = first.now; second = second.now }) self.new }
     {

@@ -6,7 +6,7 @@ ghost use Rattle.lx_io.specs.Puts.{HasSinkCause};
 ghost use Rattle.lx_lex.specs.Unread.{CanAdvance, SameSource, bytes_taken, source_left, unread};
 ghost use Rattle.lx_spec.specs.Session.{Session, ends_script};
 ghost use Rattle.lx_spec.specs.TwoLists.{TwoDesks, two_answering, is_for_second};
-ghost use Rattle.lx_session.specs.LineReply.{HasRoom, HasOneMore, counts_in};
+ghost use Rattle.lx_session.specs.LineReply.{TallyHasRoom, HasOneMore, counts_in};
 ghost use Rattle.lx_session.specs.OneAnswer.{IsLine, OneAnswer};
 ghost use Rattle.lx_session.specs.ScriptAnswer.{ScriptAnswered};
 ghost use Rattle.lx_session.specs.SessionOutcome.{HasSessionCause, KeepsLimit};
@@ -103,7 +103,7 @@ fn answer_second<K: Sink>(
     sink: &mut K,
     tally: &mut Tally,
 ) -> Result<bool, SinkFault>
-    requires room { HasRoom tally.old }
+    requires room { TallyHasRoom tally.old }
     ensures answered { (s : Session TwoDesks) (text : List ℕ) → TwoStand s.state desk.old → s.counts ≡ counts_in tally.old
         → IsRestFor text rest.now
         → OneAnswer two_answering K.holds K.faults K.wants sink.old sink.new result s text (λ state. TwoStand state desk.new)
@@ -125,7 +125,7 @@ fn answer_first<K: Sink>(
     sink: &mut K,
     tally: &mut Tally,
 ) -> Result<bool, SinkFault>
-    requires room { HasRoom tally.old }
+    requires room { TallyHasRoom tally.old }
     ensures answered { (s : Session TwoDesks) (text : List ℕ) → TwoStand s.state desk.old → s.counts ≡ counts_in tally.old
         → IsLine (option_copied line.entry) text → is_for_second text ≡ false
         → OneAnswer two_answering K.holds K.faults K.wants sink.old sink.new result s text (λ state. TwoStand state desk.new)

@@ -11,7 +11,7 @@ use Rattle.lx_spec.specs.declared.Refusal.TheVariants.{TickLimit}
 use Rattle.lx_spec.specs.Show.{Show}
 use Rattle.lx_spec.specs.Run.{Run, extent}
 use Rattle.lx_spec.specs.Playback.{Playback, Played, no_run, start_above, at_rest, is_over, followed, ticked, tick}
-use Rattle.lx_playback.specs.QuietTicks.{IsStillAt, TicksPass, later}
+use Rattle.lx_playback.specs.QuietTicks.{IsStillAt, TicksPass, moments_later}
 
 -- the test whether all is over, where a follow is pending, no run is live, or a run isn't over
 pending_not : (b x : Bool) → b && false && x ≡ false
@@ -78,5 +78,5 @@ ticks_pass p ticks until end still within = λ show n fewer.
     let most : p.moment + n * TICK_STEP + TICK_STEP ≤ until = omega (arith, fewer, within) in
     let at : IsStillAt p (p.moment + n * TICK_STEP + TICK_STEP) = still _ after most in
     let next : p.moment + n * TICK_STEP + TICK_STEP ≡ p.moment + (n + 1) * TICK_STEP = omega arith in
-    still_tick show (later p n) here (record { due = at.due; over = at.over })
+    still_tick show (moments_later p n) here (record { due = at.due; over = at.over })
     ∙ ap (λ m. Ok (no_run (record p { moment = m }))) next

@@ -5,7 +5,7 @@ ghost use Rattle.std.specs.List.{All, list_all};
 ghost use Rattle.lx_spec.specs.Run.{extent};
 ghost use Rattle.lx_spec.specs.Playback.{at_opening, position_of, has_room, is_over, is_due, at_rest};
 ghost use Rattle.lx_base.specs.declared.TheConstants.{TICK_END, TICK_STEP};
-ghost use Rattle.lx_playback.specs.QuietTicks.{later, TicksPass, IsStillAt};
+ghost use Rattle.lx_playback.specs.QuietTicks.{moments_later, TicksPass, IsStillAt};
 ghost use Rattle.lx_playback.specs.Valid.{OldestFirst, ValidPlayback, ValidRun};
 
 use crate::run::Run;
@@ -175,7 +175,7 @@ impl Playback {
     /// come to rest. It answers how many there were, at most so many; at rest all up to the last moment.
     pub fn pass(&mut self, most: u32) -> u32
         ensures most { result ≤ most }
-        ensures state { self.new ≡ later self.old result }
+        ensures state { self.new ≡ moments_later self.old result }
         ensures ticks { TicksPass self.old result }
         ensures rest { self.old.live ≡ [] → self.old.pending ≡ None
             → result ≡ min most ((TICK_END - self.old.moment) / TICK_STEP) }

@@ -18,7 +18,7 @@ use Rattle.lx_lex.specs.Lines.{StepOf}
 use Rattle.lx_lex.specs.CutOff.{NotTaken}
 use Rattle.lx_lex.specs.LinesHandedOut.{HandedOut}
 use Rattle.lx_lex.proofs.CuttingOff.{too_long}
-use Rattle.lx_lex.specs.Unread.{unread, line_of}
+use Rattle.lx_lex.specs.Unread.{unread, current_line}
 use Rattle.lx_reader.specs.declared.fault.ShowFault.{ShowFault}
 use Rattle.lx_reader.specs.declared.fault.ShowFault.TheVariants as faults
 use Rattle.lx_reader.specs.declared.loaded.Loaded.{Loaded}
@@ -173,7 +173,7 @@ pub passage_fault : {S : Type 0} (left : S → Option (List ℕ)) (rises : S →
     → AnswerOf left rises old l' form (Err fault)
 passage_fault left rises old l l' form r q fault first passage turn =
     of_text (FaultOf left rises l l' r) (MeansFault left old form)
-    (StepOf steps.InputTooLong (unread left l) (unread left l') l.taken l'.taken (line_of l'))
+    (StepOf steps.InputTooLong (unread left l) (unread left l') l.taken l'.taken (current_line l'))
     (IfSome (unread left old) (IsPastLimit old.taken) × CutShort left old l') (NotTaken left l l') (CutShort left old l')
     (fault_of_text left rises old l l' form r first passage)
     (λ step. (

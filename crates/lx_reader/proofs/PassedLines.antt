@@ -21,7 +21,7 @@ use Rattle.lx_lex.specs.declared.lines.Step.TheVariants as steps
 use Rattle.lx_lex.specs.Lines.{StepOf, LinesBetween}
 use Rattle.lx_lex.specs.CutOff.{NotTaken}
 use Rattle.lx_lex.specs.LinesHandedOut.{HandedOut}
-use Rattle.lx_lex.specs.Unread.{unread, line_of}
+use Rattle.lx_lex.specs.Unread.{unread, current_line}
 use Rattle.lx_lex.proofs.TakenLines.{next_too_long, all_texts, texts}
 use Rattle.lx_lex.proofs.HandingOut.{handed_none, handed_then}
 use Rattle.lx_lex.proofs.CuttingOff.{cut_off}
@@ -189,7 +189,7 @@ past_limit None taken n open_text wanted long = tt
 past_limit (Some bytes) taken n open_text wanted long = record { n = n; no_end = open_text; wanted = wanted; long = long }
 
 pub lines_past_limit : {S : Type 0} (left : S → Option (List ℕ)) (rises : S → ℕ) (old l l' : Lines S) (t : ReadingState)
-    → PassedLines left rises old l t → StepOf steps.InputTooLong (unread left l) (unread left l') l.taken l'.taken (line_of l')
+    → PassedLines left rises old l t → StepOf steps.InputTooLong (unread left l) (unread left l') l.taken l'.taken (current_line l')
     → IfSome (unread left old) (IsPastLimit old.taken)
 lines_past_limit left rises old l l' t past step =
     let front : List (List ℕ) = map without_cr past.raws in
@@ -203,7 +203,7 @@ lines_past_limit left rises old l l' t past step =
     (λ more. ap (reads_lines desk_limits Moves) (first_texts past.raws more) ∙ meant))
     (text_with (unread left old) (unread left l) old.taken l.taken past.raws (λ v. n < lines_read v) past.handed.took
     (λ more. omega (arith, wanted_more front t past.so_far more, count)))
-    (next_too_long (unread left old) (unread left l) (unread left l') old.taken l.taken l'.taken past.raws (line_of l') (n + 1)
+    (next_too_long (unread left old) (unread left l) (unread left l') old.taken l.taken l'.taken past.raws (current_line l') (n + 1)
     past.handed.took step refl)
 
 -- The next line wasn't taken.

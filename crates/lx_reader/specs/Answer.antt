@@ -14,7 +14,7 @@ use Rattle.lx_lex.specs.declared.lines.Step.TheVariants as steps
 use Rattle.lx_lex.specs.CutOff.{NotTaken}
 use Rattle.lx_lex.specs.Lines.{StepOf}
 use Rattle.lx_lex.specs.LinesHandedOut.{HandedOut}
-use Rattle.lx_lex.specs.Unread.{unread, line_of}
+use Rattle.lx_lex.specs.Unread.{unread, current_line}
 use Rattle.lx_reader.specs.declared.fault.ShowFault.{ShowFault}
 use Rattle.lx_reader.specs.declared.fault.ShowFault.TheVariants as faults
 use Rattle.lx_reader.specs.declared.loaded.Loaded.{Loaded}
@@ -66,7 +66,7 @@ TurnOf left rises old new r q (Ok done) =
     × Outcome r q (old.number + 1) (Ok done) (entry_of (facts_of r (old.number + 1)) (without_cr raw))
 TurnOf left rises old new r q (Err fault) =
     OfText (FaultOf left rises old new r)
-    (StepOf steps.InputTooLong (unread left old) (unread left new) old.taken new.taken (line_of new))
+    (StepOf steps.InputTooLong (unread left old) (unread left new) old.taken new.taken (current_line new))
     (NotTaken left old new) fault
 
 -- what was read, by its form; only memory may be wanting

@@ -10,7 +10,7 @@ use Rattle.lx_spec.specs.SortedList.{IsStrictlySorted, all_placed, has_entry, pl
 use Rattle.lx_reader.specs.declared.open_record.Open.{Open}
 use Rattle.lx_reader.specs.declared.open_record.Open.TheVariants as open_records
 use Rattle.lx_reader.specs.declared.reader.Reader.{Reader}
-use Rattle.lx_reader.specs.declared.reading.Reading.{Reading}
+use Rattle.lx_reader.specs.declared.reading.ShowPass.{ShowPass}
 use Rattle.lx_reader.specs.OpenMoves.{members_of}
 
 -- a record is open
@@ -39,7 +39,7 @@ with_open (open_records.Group group) moves show = record show { groups = placed 
 with_open (open_records.Sub sub) moves show = record show { subs = placed (λ s. s.number) (filled_set moves sub) show.subs }
 
 -- the reader once that is put
-abbrev pub settled : Reading → Reader
+abbrev pub settled : ShowPass → Reader
 settled g = record g.reader { show = with_open g.held g.moves g.reader.show }
 
 -- the cue may be put into the show with the moves
@@ -62,5 +62,5 @@ OpenFits show section moves (open_records.Cue cue) = (section ≡ InCue cue.numb
 OpenFits show section moves (open_records.Group group) = (section ≡ InGroup group.number) × SetFits GROUPS show moves group
 OpenFits show section moves (open_records.Sub sub) = (section ≡ InSub sub.number) × SetFits SUBS show moves sub
 
-abbrev pub PassFits : Reading → Type 0
+abbrev pub PassFits : ShowPass → Type 0
 PassFits g = OpenFits g.reader.show g.reader.section g.moves g.held

@@ -12,7 +12,7 @@ use crate::fault::ShowFault;
 use crate::loaded::Loaded;
 use crate::looks::looks_to_moves;
 use crate::reader::Reader;
-use crate::reading::Reading;
+use crate::reading::ShowPass;
 use lx_base::DEFAULT_CHANNELS;
 use lx_io::Source;
 use lx_lex::{Lines, Step};
@@ -40,7 +40,7 @@ pub fn read_show<S: Source>(
     ensures kept { result ≢ Err ShowFault.ReadFault → S.faults lines.new.source.now ≡ S.faults lines.old.source.now }
 {
     let mut reader = match Show::new(alloc, 1) {
-        Ok(show) => Reading::new(alloc, show),
+        Ok(show) => ShowPass::new(alloc, show),
         Err(_) => return Err(ShowFault::Memory),
     };
     loop {
@@ -56,7 +56,7 @@ pub fn read_show<S: Source>(
 fn read_line<S: Source>(
     alloc: Global,
     lines: &mut Lines<S>,
-    reader: &mut Reading,
+    reader: &mut ShowPass,
 ) -> Result<(), ShowFault>
     requires going { IsTrue lines.old.going }
     requires ready { CanGoOn (settled reader.old) (lines.old.number + 1) }
@@ -78,7 +78,7 @@ fn read_line<S: Source>(
 }
 
 /// What was read, in the form of the text.
-fn loaded_by(alloc: Global, reading: Reading, form: Form) -> Result<Loaded, ShowFault>
+fn loaded_by(alloc: Global, reading: ShowPass, form: Form) -> Result<Loaded, ShowFault>
     requires { PassFits reading }
     ensures { IsLoaded form (settled reading) result }
 {

@@ -31,7 +31,7 @@ use std::mem;
 
 /// A show that is being read, and the record that is open.
 #[derive(Drop)]
-pub(crate) struct Reading {
+pub(crate) struct ShowPass {
     /// What the lines say, but for the open record.
     pub(crate) reader: Reader,
     /// The record of the section, but for the levels of its lines.
@@ -40,9 +40,9 @@ pub(crate) struct Reading {
     moves: OpenMoves,
 }
 
-impl Reading {
+impl ShowPass {
     /// Nothing was read yet.
-    pub(crate) fn new(alloc: Global, show: Show) -> Reading
+    pub(crate) fn new(alloc: Global, show: Show) -> ShowPass
         ensures show { (settled result).show ≡ show }
         ensures channels_set { (settled result).channels_set ≡ None }
         ensures skipped { ((settled result).skipped ≡ 0) × ((settled result).first_skipped ≡ 0) }
@@ -50,7 +50,7 @@ impl Reading {
         ensures ended { (settled result).ended ≡ false }
         ensures fits { PassFits result }
     {
-        Reading {
+        ShowPass {
             reader: Reader::new(show),
             held: Open::None,
             moves: OpenMoves::new(alloc),

@@ -16,7 +16,7 @@ use Rattle.lx_spec.specs.DeskSession.{DeskState, Attempt, command_of, count_of, 
 use Rattle.lx_console.specs.ConsoleMeaning.{StandsFor}
 use Rattle.lx_session.specs.declared.tally.Tally.{Tally}
 use Rattle.lx_session.specs.LineState.{LineState, next_of, unattempted}
-use Rattle.lx_session.specs.LineProgress.{LineProgress, HasFailed, resumed}
+use Rattle.lx_session.specs.LineProgress.{LineProgress, CommandHasFailed, resumed}
 use Rattle.lx_session.specs.LineReply.{reply_to, reply_for, counts_after, counts_in, counted as counted_in}
 use Rattle.lx_script.specs.declared.reply.Reply.{Reply}
 use Rattle.lx_script.specs.declared.reply.Reply.TheVariants as replies
@@ -28,7 +28,7 @@ use Rattle.lx_session.specs.LineAnswer.{LineAnswer}
 use Rattle.lx_session.proofs.RepliedLines.{IsReplied, over, finished}
 
 -- an edit whose attempt fails is the command of its line
-edit_of_line : (d d' : Desk) (meaning : Option Line) → d' ≡ d → HasFailed d' (command_of meaning) → IsAcceptedEdit d meaning
+edit_of_line : (d d' : Desk) (meaning : Option Line) → d' ≡ d → CommandHasFailed d' (command_of meaning) → IsAcceptedEdit d meaning
 edit_of_line d d' None same w = let e = w.is in cc
 edit_of_line d d' (Some (lines.Command c)) same w =
     let is = w.is in
@@ -51,7 +51,7 @@ edit_of_line d d' (Some lines.Quit) same w = let e = w.is in cc
 edit_of_line d d' (Some lines.Blank) same w = let e = w.is in cc
 
 -- a line that is an edit has one attempt
-one_attempt : (d : Desk) (meaning : Option Line) → HasFailed d (command_of meaning) → count_of meaning ≤ 1
+one_attempt : (d : Desk) (meaning : Option Line) → CommandHasFailed d (command_of meaning) → count_of meaning ≤ 1
 one_attempt d None w = let e = w.is in cc
 one_attempt d (Some (lines.Command c)) w = omega arith
 one_attempt d (Some (lines.Ticks k)) w =

@@ -20,7 +20,7 @@ use Rattle.lx_console.specs.Ticks.{after_ticks}
 use Rattle.lx_console.proofs.PassedTicks.{rest_after}
 use Rattle.lx_session.specs.LineState.{LineState, next_of}
 use Rattle.lx_session.specs.Attempts.{Attempted, AcceptedStep, ListenedAttempt, heard_of, after_commands}
-use Rattle.lx_session.specs.LineProgress.{resumed, HasFailed, HasPassed, LineProgress}
+use Rattle.lx_session.specs.LineProgress.{resumed, CommandHasFailed, HasPassed, LineProgress}
 
 -- nothing was attempted yet
 pub nothing_yet : (all : Bool) (heard : List Command → Type 0) (s : DeskState) (console : Kept) → StandsFor s.desk console → (turn : LineState)
@@ -141,7 +141,7 @@ accepted all heard heard' s old turn c before_it after_it d t next ok stands joi
 refused : (all : Bool) (heard heard' : List Command → Type 0) (s : DeskState) (old turn : LineState) (c : Command) (before_it after_it : Kept)
     (refusal : Refusal) (failed : Option ℕ) (t : LineProgress all heard s old turn before_it) → IsNext turn c
     → attempts_of failed c turn.left t.now ≡ record { state = t.now; refusal = Some refusal }
-    → (is_some (t.at failed) ≡ true → all ≡ true → HasFailed t.now.desk (Some c)) → StandsFor t.now.desk after_it → Joins heard heard' []
+    → (is_some (t.at failed) ≡ true → all ≡ true → CommandHasFailed t.now.desk (Some c)) → StandsFor t.now.desk after_it → Joins heard heard' []
     → LineProgress all heard' s old (record { meaning = turn.meaning; left = turn.left - 1; refusal = Some refusal }) after_it
 refused all heard heard' s old turn c before_it after_it refusal failed t next is wanted stands joins =
     let command : command_of old.meaning ≡ Some c = ap command_of (sym t.meaning) ∙ next.command in
@@ -160,7 +160,7 @@ refused all heard heard' s old turn c before_it after_it refusal failed t next i
       listened = joins_none heard heard' joins t.commands t.listened;
       fewer = let le = t.fewer in omega (arith, le);
       fresh = λ e. let le = t.fewer in let some = next.some in absurd (omega (arith, le, some, e));
-      at_edit = λ e every. subst (λ o. HasFailed t.now.desk o) (sym command) (wanted e every);
+      at_edit = λ e every. subst (λ o. CommandHasFailed t.now.desk o) (sym command) (wanted e every);
       still = λ few some. let le = t.fewer in let more = next.some in let same : turn.left ≡ old.left =
           omega (arith, few, le, more) in t.fresh same;
     }

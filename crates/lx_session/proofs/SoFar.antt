@@ -9,7 +9,7 @@ use Rattle.std.proofs.lemmas.List.{map-append, length-map}
 use Rattle.lx_base.specs.declared.TheConstants.{INPUT_BYTES}
 use Rattle.lx_lex.specs.declared.lines.Lines.{Lines}
 use Rattle.lx_lex.specs.LinesHandedOut.{HandedOut}
-use Rattle.lx_lex.specs.Unread.{unread, line_of}
+use Rattle.lx_lex.specs.Unread.{unread, current_line}
 use Rattle.lx_lex.proofs.HandingOut.{handed_none, handed_then}
 use Rattle.lx_lex.specs.declared.lines.Step.TheVariants.{InputTooLong}
 use Rattle.lx_lex.specs.Lines.{LinesBetween, StepOf}
@@ -205,12 +205,12 @@ fits left faults a b c s how = elim how [
 
 -- the next line is past the limit: so are the bytes that the script wants
 pub too_long : {S : Type 0} (left : S → Option (List ℕ)) (faults : S → ℕ) (a b c : Lines S) → Passed left faults a b
-    → StepOf InputTooLong (unread left b) (unread left c) b.taken c.taken (line_of c)
+    → StepOf InputTooLong (unread left b) (unread left c) b.taken c.taken (current_line c)
     → IfSome (unread left a) (λ bytes. INPUT_BYTES < a.taken + length (bytes_wanted bytes))
 too_long left faults a b c s step =
     let n = length s.raws + 1 in
     with_both (unread left a) _ _ _ (begins (unread left a) (unread left b) a.taken b.taken s.raws s.handed.took)
-    (next_too_long (unread left a) (unread left b) (unread left c) a.taken b.taken c.taken s.raws (line_of c) n s.handed.took step refl)
+    (next_too_long (unread left a) (unread left b) (unread left c) a.taken b.taken c.taken s.raws (current_line c) n s.handed.took step refl)
     (λ xs e lt.
     let wanted : n ≤ lines_wanted (lines_of xs) =
     let is = ap (λ ls. position_or_len ends_script ls + 1) e.1 in

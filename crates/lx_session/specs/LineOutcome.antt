@@ -8,7 +8,7 @@ use Rattle.lx_lex.specs.declared.lines.Step.TheVariants as steps
 use Rattle.lx_lex.specs.CutOff.{NotTaken}
 use Rattle.lx_lex.specs.LinesHandedOut.{HandedOut}
 use Rattle.lx_lex.specs.Lines.{StepOf}
-use Rattle.lx_lex.specs.Unread.{unread, line_of}
+use Rattle.lx_lex.specs.Unread.{unread, current_line}
 use Rattle.lx_spec.specs.Text.{without_cr}
 use Rattle.lx_spec.specs.Session.{Session, Answering, ends_script}
 use Rattle.lx_session.specs.declared.fault.SessionFault.{SessionFault}
@@ -118,7 +118,7 @@ FaultOutcome by Stood Stands left faults old new held held' counted ReadFault =
     UnreadLine Stood Stands left old new held held' counted
 FaultOutcome by Stood Stands left faults old new held held' counted InputTooLong =
     UnreadLine Stood Stands left old new held held' counted
-    × StepOf steps.InputTooLong (unread left old) (unread left new) old.taken new.taken (line_of new)
+    × StepOf steps.InputTooLong (unread left old) (unread left new) old.taken new.taken (current_line new)
 FaultOutcome by Stood Stands left faults old new held held' counted WriteFault =
     FromSession Stood counted (λ since s. SinkStop by (Stands since) left faults old new held held' s)
 FaultOutcome by Stood Stands left faults old new held held' counted Memory =

@@ -18,7 +18,7 @@ resumed failed command left refusal t =
     option_map_or (λ r. record { state = t; refusal = Some r }) refusal (attempts_for failed command left t)
 
 -- an attempt at the command failed at this desk: the command is an edit that the desk accepts
-pub record HasFailed (d : Desk) (command : Option Command) : Type 0 where
+pub record CommandHasFailed (d : Desk) (command : Option Command) : Type 0 where
   pub wanted : Command
   pub is : command ≡ Some wanted
   pub edit : is_edit wanted ≡ true
@@ -41,7 +41,7 @@ pub record LineProgress (all : Bool) (heard : List Command → Type 0) (s : Desk
   pub listened : heard commands
   pub fewer : turn.left ≤ old.left
   pub fresh : turn.left ≡ old.left → now.desk ≡ s.desk
-  pub at_edit : is_some (at None) ≡ true → all ≡ true → HasFailed now.desk (command_of old.meaning)
+  pub at_edit : is_some (at None) ≡ true → all ≡ true → CommandHasFailed now.desk (command_of old.meaning)
   pub still : old.left ≤ 1 → is_some turn.refusal ≡ true → now.desk ≡ s.desk
 
 -- Some attempts at ticks were made at once and accepted, if any; each may be taken as heard of.

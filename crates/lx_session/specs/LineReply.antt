@@ -35,7 +35,7 @@ abbrev pub counts_in : Tally → Counts
 counts_in tally = record { ok = tally.ok; refused = tally.refused; bad = tally.bad }
 
 -- one more of each can be counted
-pub record HasRoom (tally : Tally) : Type 0 where
+pub record TallyHasRoom (tally : Tally) : Type 0 where
   pub ok : tally.ok < 2 ^ 64 - 1
   pub refused : tally.refused < 2 ^ 64 - 1
   pub bad : tally.bad < 2 ^ 64 - 1

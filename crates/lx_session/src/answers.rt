@@ -3,7 +3,7 @@
 ghost use Rattle.std.specs.Prelude.{◌≡◌, List, ℕ, IfOk, not, option_copied};
 ghost use Rattle.lx_io.specs.Puts.{HasSinkCause};
 ghost use Rattle.lx_spec.specs.Session.{Session, Answering, ends_script};
-ghost use Rattle.lx_session.specs.LineReply.{HasRoom, HasOneMore, counts_in};
+ghost use Rattle.lx_session.specs.LineReply.{TallyHasRoom, HasOneMore, counts_in};
 ghost use Rattle.lx_session.specs.OneAnswer.{IsLine, IsLawful, OneAnswer};
 
 use crate::tally::Tally;
@@ -31,7 +31,7 @@ pub trait Answers {
         sink: &mut K,
         tally: &mut Tally,
     ) -> Result<bool, SinkFault>
-        requires room { HasRoom tally.old }
+        requires room { TallyHasRoom tally.old }
         ensures answered { (s : Session by.State) (text : List ℕ) → stands s.state self.old → s.counts ≡ counts_in tally.old
             → IsLine (option_copied line.entry) text
             → OneAnswer by K.holds K.faults K.wants sink.old sink.new result s text (λ state. stands state self.new)

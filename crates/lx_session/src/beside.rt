@@ -3,7 +3,7 @@
 ghost use Rattle.std.specs.Prelude.{◌≡◌, List, ℕ, IfOk, not, option_copied};
 ghost use Rattle.lx_io.specs.Puts.{HasSinkCause};
 ghost use Rattle.lx_spec.specs.Session.{Session, Answering, ends_script};
-ghost use Rattle.lx_session.specs.LineReply.{HasRoom, HasOneMore, counts_in};
+ghost use Rattle.lx_session.specs.LineReply.{TallyHasRoom, HasOneMore, counts_in};
 ghost use Rattle.lx_session.specs.OneAnswer.{IsLine, IsLawful, OneAnswer};
 
 use crate::answers::Answers;
@@ -36,7 +36,7 @@ pub(crate) trait AnswersBeside<D> {
         sink: &mut K,
         tally: &mut Tally,
     ) -> Result<bool, SinkFault>
-        requires room { HasRoom tally.old }
+        requires room { TallyHasRoom tally.old }
         requires keeps { keeps self.old lent.old }
         ensures keeps { keeps self.new lent.new }
         ensures answered { (since : Since) (s : Session by.State) (text : List ℕ) → stands since s.state self.old lent.old

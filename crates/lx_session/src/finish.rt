@@ -12,7 +12,7 @@ ghost use Rattle.lx_console.specs.Slots.{universe as universe_in};
 ghost use Rattle.lx_console.specs.ConsoleMeaning.{StandsFor};
 ghost use Rattle.lx_spec.specs.Session.{is_quit};
 ghost use Rattle.lx_session.specs.LineState.{next_of, frame_of};
-ghost use Rattle.lx_session.specs.LineReply.{reply_to, reply_for, counts_after, counts_in, counted, HasRoom, HasOneMore};
+ghost use Rattle.lx_session.specs.LineReply.{reply_to, reply_for, counts_after, counts_in, counted, TallyHasRoom, HasOneMore};
 
 use crate::tally::Tally;
 use crate::turn::Turn;
@@ -37,7 +37,7 @@ impl<'a> Turn<'a> {
         tally: &mut Tally,
     ) -> Result<bool, SinkFault>
         requires over { next_of self.now ≡ None }
-        requires room { HasRoom tally.old }
+        requires room { TallyHasRoom tally.old }
         ensures cause { HasSinkCause K.faults K.wants sink.old sink.new result }
         ensures text { (d : Desk) → StandsFor d console.now
             → Puts K.holds K.faults K.wants sink.old sink.new result (reply_to d self.now.meaning self.now.refusal) }
@@ -61,7 +61,7 @@ impl<'a> Turn<'a> {
     ) -> Result<bool, SinkFault>
         requires over { next_of self.now ≡ None }
         requires no_frame { frame_of self.now.meaning ≡ None }
-        requires room { HasRoom tally.old }
+        requires room { TallyHasRoom tally.old }
         ensures cause { HasSinkCause K.faults K.wants sink.old sink.new result }
         ensures text { (d : Desk) → StandsFor d player.now
             → Puts K.holds K.faults K.wants sink.old sink.new result (reply_to d self.now.meaning self.now.refusal) }
@@ -83,7 +83,7 @@ fn reply_to_line<K: Sink>(
     tally: &mut Tally,
 ) -> Result<bool, SinkFault>
     requires no_frame { frame_of line.now ≡ None }
-    requires room { HasRoom tally.old }
+    requires room { TallyHasRoom tally.old }
     ensures cause { HasSinkCause K.faults K.wants sink.old sink.new result }
     ensures text { (d : Desk) → StandsFor d player.now
         → Puts K.holds K.faults K.wants sink.old sink.new result (reply_to d line.now refusal) }
@@ -121,7 +121,7 @@ pub(crate) fn give<K: Sink>(
     sink: &mut K,
     tally: &mut Tally,
 ) -> Result<bool, SinkFault>
-    requires room { HasRoom tally.old }
+    requires room { TallyHasRoom tally.old }
     ensures text { Puts K.holds K.faults K.wants sink.old sink.new result (reply_text reply) }
     ensures counts { counts_in tally.new ≡ counted reply (counts_in tally.old) }
     ensures counted { HasOneMore tally.old tally.new }
@@ -144,7 +144,7 @@ fn put_sheet<K: Sink>(
     sink: &mut K,
     tally: &mut Tally,
 ) -> Result<bool, SinkFault>
-    requires room { HasRoom tally.old }
+    requires room { TallyHasRoom tally.old }
     ensures cause { HasSinkCause K.faults K.wants sink.old sink.new result }
     ensures text { (d : Desk) → StandsFor d player.now
         → Puts K.holds K.faults K.wants sink.old sink.new result (reply_to d (Some (Line.SheetOf n)) refusal) }

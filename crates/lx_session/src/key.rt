@@ -6,7 +6,7 @@ ghost use Rattle.lx_spec.specs.Desk.{Desk};
 ghost use Rattle.lx_console.specs.ConsoleMeaning.{StandsFor};
 ghost use Rattle.lx_session.specs.Attempts.{Attempted, ListenedAttempt, heard_of};
 ghost use Rattle.lx_session.specs.LineAnswer.{LineAnswer, FromDesk};
-ghost use Rattle.lx_session.specs.LineReply.{HasRoom, HasOneMore};
+ghost use Rattle.lx_session.specs.LineReply.{TallyHasRoom, HasOneMore};
 
 use crate::finish::{give, reply_of};
 use crate::listener::Listener;
@@ -23,7 +23,7 @@ pub(crate) fn answer_key<L: Listener, K: Sink>(
     sink: &mut K,
     tally: &mut Tally,
 ) -> Result<bool, SinkFault>
-    requires room { HasRoom tally.old }
+    requires room { TallyHasRoom tally.old }
     requires keeps { L.keeps listener.old console.old }
     ensures keeps { L.keeps listener.new console.new }
     ensures answered { FromDesk console.old tally.old

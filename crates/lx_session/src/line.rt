@@ -10,7 +10,7 @@ ghost use Rattle.lx_console.specs.ConsoleMeaning.{StandsFor};
 ghost use Rattle.lx_session.specs.Attempts.{ListenedAttempt, heard_of};
 ghost use Rattle.lx_session.specs.LineState.{meaning_of, next_of};
 ghost use Rattle.lx_session.specs.LineProgress.{HasPassed, LineProgress};
-ghost use Rattle.lx_session.specs.LineReply.{HasRoom, HasOneMore};
+ghost use Rattle.lx_session.specs.LineReply.{TallyHasRoom, HasOneMore};
 ghost use Rattle.lx_session.specs.LineAnswer.{LineAnswer, FromDesk};
 
 use crate::finish::give;
@@ -35,7 +35,7 @@ pub fn answer<L: Listener, K: Sink>(
     sink: &mut K,
     tally: &mut Tally,
 ) -> Result<bool, SinkFault>
-    requires room { HasRoom tally.old }
+    requires room { TallyHasRoom tally.old }
     requires keeps { L.keeps listener.old console.old }
     ensures keeps { L.keeps listener.new console.new }
     ensures answered { FromDesk console.old tally.old
@@ -62,7 +62,7 @@ fn answer_read<L: Listener, K: Sink>(
     tally: &mut Tally,
 ) -> Result<bool, SinkFault>
     requires valid { ValidLine line }
-    requires room { HasRoom tally.old }
+    requires room { TallyHasRoom tally.old }
     requires keeps { L.keeps listener.old console.old }
     ensures keeps { L.keeps listener.new console.new }
     ensures answered { FromDesk console.old tally.old

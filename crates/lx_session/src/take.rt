@@ -4,7 +4,7 @@ ghost use Rattle.std.specs.Prelude.{◌≡◌, ◌⊎◌, List, ℕ, [], true, f
 ghost use Rattle.std.specs.Io.KnownBytes.{Keeps};
 ghost use Rattle.lx_io.specs.Puts.{HasSinkCause};
 ghost use Rattle.lx_lex.specs.Unread.{CanAdvance, SameSource, held, has_feed, lines_handed};
-ghost use Rattle.lx_session.specs.LineReply.{HasRoom, HasOneMore, IsUpTo};
+ghost use Rattle.lx_session.specs.LineReply.{TallyHasRoom, HasOneMore, IsUpTo};
 ghost use Rattle.lx_session.specs.LineOutcome.{LineOutcome, ReplyOutcome};
 ghost use Rattle.lx_session.specs.OneAnswer.{IsLine};
 ghost use Rattle.lx_session.specs.SessionOutcome.{HasSessionCause};
@@ -73,7 +73,7 @@ fn give_reply<D, A: AnswersBeside<D>, K: Sink>(
     sink: &mut K,
     tally: &mut Tally,
 ) -> Result<bool, SinkFault>
-    requires room { HasRoom tally.old }
+    requires room { TallyHasRoom tally.old }
     requires keeps { A.keeps answerer.old lent.old }
     ensures keeps { A.keeps answerer.new lent.new }
     ensures outcome { (text : List ℕ) → IsLine (option_copied line.entry) text

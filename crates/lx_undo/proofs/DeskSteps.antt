@@ -14,7 +14,7 @@ use Rattle.lx_spec.specs.Desk.{is_edit}
 use Rattle.lx_spec.specs.Undo.{UndoState, replaced, undo_step}
 use Rattle.lx_console.specs.ConsoleMeaning.{StandsFor, Answers, Refuses}
 use Rattle.lx_undo.specs.Shows.{KeptPlans}
-use Rattle.lx_undo.specs.UndoDeskMeaning.{UndoKept, UndoStands, TakesStep, WantsMemory, seen}
+use Rattle.lx_undo.specs.UndoDeskMeaning.{UndoKept, UndoStands, TakesUndoStep, UndoWantsMemory, seen}
 
 -- the same shows are kept
 pub record SameShows (before now : UndoKept) : Type 0 where
@@ -34,10 +34,10 @@ stands_after s (Ok d) before now stands same desk =
 stands_after s (Err refusal) before now stands same desk = absurd desk
 
 refused : (s : UndoState) (command : Command) (refusal : Refusal) → is_edit command ≡ false → Refuses s.desk command refusal
-    → (undo_step s command ≡ Err refusal) ⊎ WantsMemory (is_edit command) (undo_step s command) refusal
+    → (undo_step s command ≡ Err refusal) ⊎ UndoWantsMemory (is_edit command) (undo_step s command) refusal
 refused s command refusal other r =
     let next : Desk → UndoState = λ d. if is_edit command then replaced s d else record s { desk = d } in
-    elim r as (λ q. (undo_step s command ≡ Err refusal) ⊎ WantsMemory (is_edit command) (undo_step s command) refusal) [
+    elim r as (λ q. (undo_step s command ≡ Err refusal) ⊎ UndoWantsMemory (is_edit command) (undo_step s command) refusal) [
       | inl own ↦ inl (ap (λ (q : Result Desk Refusal). q >>= (λ d. Ok (next d))) own)
       | inr want ↦ absurd (true≢false (sym want.edit ∙ other))
     ]
@@ -45,7 +45,7 @@ refused s command refusal other r =
 -- a command that is no edit
 pub takes_key : {A : Type 0} (s : UndoState) (command : Command) (answer : Result A Refusal) (before now : UndoKept)
     → is_edit command ≡ false → UndoStands s before → SameShows before now → Answers s.desk command answer now.console
-    → TakesStep (is_edit command) (undo_step s command) answer now
+    → TakesUndoStep (is_edit command) (undo_step s command) answer now
 takes_key s command (Ok x) before now other stands same answers = record {
   ok = subst (λ (b : Bool). IsOkAnd (step s.desk command >>= (λ d. Ok (if b then replaced s d else record s { desk = d })))
       (λ next. UndoStands next now)) (sym other) (stands_after s (step s.desk command) before now stands same answers.ok);

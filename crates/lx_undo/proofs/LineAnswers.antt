@@ -32,7 +32,7 @@ use Rattle.lx_console.specs.ConsoleMeaning.{StandsFor}
 use Rattle.lx_session.proofs.AnsweredLines.{allowed_some, turn_answered, with_reply_is, counted_so as counts_so}
 use Rattle.lx_undo.proofs.Lines.{goes_on}
 use Rattle.lx_undo.specs.declared.asked.Denial.{Denial}
-use Rattle.lx_undo.specs.HistoryLines.{HasAsked, denial_text, answer_text, counted}
+use Rattle.lx_undo.specs.HistoryLines.{HasAsked, denial_text, answer_text, counted_denial}
 use Rattle.lx_undo.specs.CommandProgress.{reached, HasReached}
 use Rattle.lx_undo.specs.UndoDeskMeaning.{UndoKept, UndoStands}
 
@@ -67,7 +67,7 @@ done_by s what u (Err text) is stands = absurd stands
 module _ {K T : Type 0} (holds : K → Option (List ℕ)) (faults wants : K → ℕ) (sink sink' : K) (result : Result T SinkFault)
     (s : Session UndoState) (line : List ℕ) (what : UndoLine) (u : UndoKept) (before after : Tally)
     (is : undo_line_of line ≡ Some what) (counted_so : s.counts ≡ counts_in before) where
-  done : HasAsked s.state what None u → counts_in after ≡ counted None (counts_in before)
+  done : HasAsked s.state what None u → counts_in after ≡ counted_denial None (counts_in before)
       → Puts holds faults wants sink sink' result (answer_text None)
       → OneAnswer undo_answering holds faults wants sink sink' result s line (λ (state : UndoState). UndoStands state u) after
   done did counts puts =
@@ -80,13 +80,13 @@ module _ {K T : Type 0} (holds : K → Option (List ℕ)) (faults wants : K → 
         reply = ok_text;
         text = refl;
         puts = puts;
-        counts = always_ok result _ (ap (counted None) counted_so ∙ sym counts);
+        counts = always_ok result _ (ap (counted_denial None) counted_so ∙ sym counts);
       }
 
   refused : (denial : Denial) (failed : Option ℕ)
       → (if is_some failed then Err (refused_text Memory) else after_asking s.state what) ≡ Err (denial_text denial)
       → (is_some failed ≡ true → MayFailAsked s.state what) → UndoStands s.state u
-      → counts_in after ≡ counted (Some denial) (counts_in before)
+      → counts_in after ≡ counted_denial (Some denial) (counts_in before)
       → Puts holds faults wants sink sink' result (answer_text (Some denial))
       → OneAnswer undo_answering holds faults wants sink sink' result s line (λ (state : UndoState). UndoStands state u) after
   refused denial failed comes may stands counts puts = record {
@@ -100,11 +100,11 @@ module _ {K T : Type 0} (holds : K → Option (List ℕ)) (faults wants : K → 
     reply = denial_text denial;
     text = refl;
     puts = puts;
-    counts = always_ok result _ (ap (counted (Some denial)) counted_so ∙ sym counts);
+    counts = always_ok result _ (ap (counted_denial (Some denial)) counted_so ∙ sym counts);
   }
 
   -- Of a line that asks something of the history.
-  pub answered_asked : (denial : Option Denial) → HasAsked s.state what denial u → counts_in after ≡ counted denial (counts_in before)
+  pub answered_asked : (denial : Option Denial) → HasAsked s.state what denial u → counts_in after ≡ counted_denial denial (counts_in before)
       → Puts holds faults wants sink sink' result (answer_text denial)
       → OneAnswer undo_answering holds faults wants sink sink' result s line (λ (state : UndoState). UndoStands state u) after
   answered_asked None did counts puts = done did counts puts

@@ -21,7 +21,7 @@ use Rattle.lx_session.specs.Attempts.{after_commands}
 use Rattle.lx_session.specs.LineState.{LineState, next_of, unattempted}
 use Rattle.lx_session.specs.LineProgress.{LineProgress}
 use Rattle.lx_session.proofs.AttemptSteps.{nothing_yet, next_is, attempted_at}
-use Rattle.lx_undo.specs.UndoDeskMeaning.{UndoKept, UndoStands, TakesStep, WantsMemory}
+use Rattle.lx_undo.specs.UndoDeskMeaning.{UndoKept, UndoStands, TakesUndoStep, UndoWantsMemory}
 use Rattle.lx_undo.specs.CommandProgress.{reached, HasReached}
 
 -- an edit is the one command of its line
@@ -99,7 +99,7 @@ accepts_by next (Ok d) ok = ok
 accepts_by next (Err own) ok = ok
 
 refuses : (s : UndoState) (c : Command) (refusal : Refusal)
-    → (undo_step s c ≡ Err refusal) ⊎ WantsMemory (is_edit c) (undo_step s c) refusal → Refuses s.desk c refusal
+    → (undo_step s c ≡ Err refusal) ⊎ UndoWantsMemory (is_edit c) (undo_step s c) refusal → Refuses s.desk c refusal
 refuses s c refusal refused = elim refused [
   | inl own ↦ inl (refused_by (then_at s c) (step s.desk c) refusal own)
   | inr want ↦
@@ -148,7 +148,7 @@ one_accepted s old turn c before now start some steps t =
 -- and one that was refused
 one_refused : (s : UndoState) (old turn : LineState) (c : Command) (before now : UndoKept) (refusal : Refusal)
     → next_of turn ≡ Some c → now ≡ before
-    → ((x : UndoState) → UndoStands x before → (undo_step x c ≡ Err refusal) ⊎ WantsMemory (is_edit c) (undo_step x c) refusal)
+    → ((x : UndoState) → UndoStands x before → (undo_step x c ≡ Err refusal) ⊎ UndoWantsMemory (is_edit c) (undo_step x c) refusal)
     → LineProgress true (HasReached s before (old.left - turn.left)) (begun s.desk) old turn before.console
     → LineProgress true (HasReached s now (old.left - (turn.left - 1))) (begun s.desk) old
     (record { meaning = turn.meaning; left = turn.left - 1; refusal = Some refusal }) now.console
@@ -169,7 +169,7 @@ one_refused s old turn c before now refusal some same steps t =
 
 one_by : (s : UndoState) (old turn : LineState) (c : Command) (before now : UndoKept) (answer : Result (Unit {0}) Refusal)
     → old ≡ unattempted old.meaning → next_of turn ≡ Some c
-    → ((x : UndoState) → UndoStands x before → TakesStep (is_edit c) (undo_step x c) answer now) → OnErr answer (now ≡ before)
+    → ((x : UndoState) → UndoStands x before → TakesUndoStep (is_edit c) (undo_step x c) answer now) → OnErr answer (now ≡ before)
     → LineProgress true (HasReached s before (old.left - turn.left)) (begun s.desk) old turn before.console
     → LineProgress true (HasReached s now (old.left - (turn.left - 1))) (begun s.desk) old
     (record { meaning = turn.meaning; left = turn.left - 1; refusal = result_err answer }) now.console
@@ -181,7 +181,7 @@ one_by s old turn c before now (Err refusal) start some steps same t =
 -- One attempt more.
 pub one_more : (s : UndoState) (old turn turn' : LineState) (c : Command) (before now : UndoKept)
     (answer : Result (Unit {0}) Refusal) → old ≡ unattempted old.meaning → next_of turn ≡ Some c
-    → ((x : UndoState) → UndoStands x before → TakesStep (is_edit c) (undo_step x c) answer now) → OnErr answer (now ≡ before)
+    → ((x : UndoState) → UndoStands x before → TakesUndoStep (is_edit c) (undo_step x c) answer now) → OnErr answer (now ≡ before)
     → turn' ≡ record turn { left = turn.left - 1; refusal = result_err answer }
     → LineProgress true (HasReached s before (old.left - turn.left)) (begun s.desk) old turn before.console
     → LineProgress true (HasReached s now (old.left - turn'.left)) (begun s.desk) old turn' now.console

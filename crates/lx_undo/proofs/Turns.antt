@@ -13,7 +13,7 @@ use Rattle.lx_edit.specs.PlanMeaning.{planned, IsReady}
 use Rattle.lx_edit.specs.Undone.{TakesBack}
 use Rattle.lx_console.specs.ConsoleMeaning.{StandsFor}
 use Rattle.lx_undo.specs.Shows.{KeptPlans, AllReady, ReadyBack, ReadyForth, led_back, shows_before, shows_after}
-use Rattle.lx_undo.specs.UndoDeskMeaning.{UndoKept, UndoStands, Steps, seen}
+use Rattle.lx_undo.specs.UndoDeskMeaning.{UndoKept, UndoStands, UndoSteps, seen}
 use Rattle.lx_undo.proofs.Histories.{but_last, last_is, with_first, with_last}
 
 -- One more plan behind the others.
@@ -110,7 +110,7 @@ ready_undone show after plans new plan again last ready is takes new_is =
     })
 
 ok_step : (step : Result UndoState UndoFault) (next : UndoState) (u : UndoKept) → step ≡ Ok next → UndoStands next u
-    → Steps {A = Unit {0}} step (Ok tt) u
+    → UndoSteps {A = Unit {0}} step (Ok tt) u
 ok_step step next u is stands =
     record { ok = subst (λ (r : Result UndoState UndoFault). IsOkAnd r (λ x. UndoStands x u)) (sym is) stands; err = tt }
 
@@ -118,7 +118,7 @@ pub steps_back : (s : UndoState) (k now : Kept) (plans new : KeptPlans) (plan ag
     → slice_get plans.back (length plans.back - 1) ≡ Some plan → now.show ≡ planned k.show plan
     → StandsFor (with_show s.desk (planned k.show plan)) now → TakesBack k.show now.show again
     → new ≡ record plans { back = take (length plans.back - 1) plans.back; forth = again ∷ plans.forth }
-    → Steps {A = Unit {0}} (undo s) (Ok tt) (seen now new)
+    → UndoSteps {A = Unit {0}} (undo s) (Ok tt) (seen now new)
 steps_back s k now plans new plan again stands last is desk takes new_is =
     let made : Show = planned k.show plan in
     let less : List Plan = take (length plans.back - 1) plans.back in
@@ -151,7 +151,7 @@ ready_redone show after plans new plan again first ready is takes new_is =
 pub steps_forth : (s : UndoState) (k now : Kept) (plans new : KeptPlans) (plan again : Plan) → UndoStands s (seen k plans)
     → slice_get plans.forth 0 ≡ Some plan → now.show ≡ planned k.show plan → StandsFor (with_show s.desk (planned k.show plan)) now
     → TakesBack k.show now.show again → new ≡ record plans { back = plans.back ++ again ∷ []; forth = drop 1 plans.forth }
-    → Steps {A = Unit {0}} (redo s) (Ok tt) (seen now new)
+    → UndoSteps {A = Unit {0}} (redo s) (Ok tt) (seen now new)
 steps_forth s k now plans new plan again stands first is desk takes new_is =
     let made : Show = planned k.show plan in
     let shows : s.forth ≡ made ∷ shows_after made (drop 1 plans.forth) =

@@ -32,6 +32,6 @@ abbrev pub answer_text : Option Denial → List ℕ
 answer_text None = ok_text
 answer_text (Some denial) = denial_text denial
 
-abbrev pub counted : Option Denial → Counts → Counts
-counted None counts = record counts { ok = counts.ok + 1 }
-counted (Some denial) counts = record counts { refused = counts.refused + 1 }
+abbrev pub counted_denial : Option Denial → Counts → Counts
+counted_denial None counts = record counts { ok = counts.ok + 1 }
+counted_denial (Some denial) counts = record counts { refused = counts.refused + 1 }

@@ -33,17 +33,17 @@ pub record UndoStands (s : UndoState) (u : UndoKept) : Type 0 where
   pub depth : u.depth ≡ s.depth
 
 -- The answer to a step: Ok where it isn't refused, and then what is kept stands for the state after it. A refusal is the step's own.
-pub record Steps {A E : Type 0} (step : Result UndoState E) (answer : Result A E) (u : UndoKept) : Type 0 where
+pub record UndoSteps {A E : Type 0} (step : Result UndoState E) (answer : Result A E) (u : UndoKept) : Type 0 where
   pub ok : OnOk answer (IsOkAnd step (λ next. UndoStands next u))
   pub err : IfErr answer (λ fault. step ≡ Err fault)
 
 -- memory was wanting at a step that takes some, and isn't refused
-pub record WantsMemory (takes : Bool) (step : Result UndoState Refusal) (refusal : Refusal) : Type 0 where
+pub record UndoWantsMemory (takes : Bool) (step : Result UndoState Refusal) (refusal : Refusal) : Type 0 where
   pub takes_some : takes ≡ true
   pub memory : refusal ≡ Memory
   pub accepted : IsOk step
 
--- As `Steps`, but that want of memory may refuse a step that takes some.
-pub record TakesStep {A : Type 0} (takes : Bool) (step : Result UndoState Refusal) (answer : Result A Refusal) (u : UndoKept) : Type 0 where
+-- As `UndoSteps`, but that want of memory may refuse a step that takes some.
+pub record TakesUndoStep {A : Type 0} (takes : Bool) (step : Result UndoState Refusal) (answer : Result A Refusal) (u : UndoKept) : Type 0 where
   pub ok : OnOk answer (IsOkAnd step (λ next. UndoStands next u))
-  pub err : IfErr answer (λ refusal. (step ≡ Err refusal) ⊎ WantsMemory takes step refusal)
+  pub err : IfErr answer (λ refusal. (step ≡ Err refusal) ⊎ UndoWantsMemory takes step refusal)

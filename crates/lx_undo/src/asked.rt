@@ -3,10 +3,10 @@
 ghost use Rattle.std.specs.Prelude.{◌≡◌, true, IfOk};
 ghost use Rattle.lx_io.specs.Puts.{Puts};
 ghost use Rattle.lx_spec.specs.Undo.{UndoState};
-ghost use Rattle.lx_session.specs.LineReply.{HasRoom, HasOneMore, counts_in};
+ghost use Rattle.lx_session.specs.LineReply.{TallyHasRoom, HasOneMore, counts_in};
 ghost use Rattle.lx_script.specs.UndoLines.{NamesCue};
 ghost use Rattle.lx_undo.specs.UndoDeskMeaning.{UndoStands};
-ghost use Rattle.lx_undo.specs.HistoryLines.{HasAsked, answer_text, counted};
+ghost use Rattle.lx_undo.specs.HistoryLines.{HasAsked, answer_text, counted_denial};
 
 use crate::desk::UndoDesk;
 use lx_io::{Sink, SinkFault};
@@ -50,10 +50,10 @@ pub(crate) fn give<K: Sink>(
     sink: &mut K,
     tally: &mut Tally,
 ) -> Result<bool, SinkFault>
-    requires room { HasRoom tally.old }
+    requires room { TallyHasRoom tally.old }
     ensures text { Puts K.holds K.faults K.wants sink.old sink.new result (answer_text denial) }
-    ensures counts { counts_in tally.new ≡ counted denial (counts_in tally.old) }
-    ensures counted { HasOneMore tally.old tally.new }
+    ensures counts { counts_in tally.new ≡ counted_denial denial (counts_in tally.old) }
+    ensures counted_denial { HasOneMore tally.old tally.new }
     ensures more { IfOk result (λ more. more ≡ true) }
 {
     match denial {

@@ -5,7 +5,7 @@ ghost use Rattle.lx_spec.specs.ValidEdit.{ValidCommand, ValidEdit};
 ghost use Rattle.lx_spec.specs.Desk.{is_edit};
 ghost use Rattle.lx_spec.specs.Undo.{UndoState, opened_with, with_show, replaced, undo_step, record_step, undo, redo};
 ghost use Rattle.lx_edit.specs.PlanMeaning.{IsReady, planned};
-ghost use Rattle.lx_undo.specs.UndoDeskMeaning.{UndoStands, Steps, TakesStep};
+ghost use Rattle.lx_undo.specs.UndoDeskMeaning.{UndoStands, UndoSteps, TakesUndoStep};
 
 use crate::history::History;
 use lx_base::CueNo;
@@ -64,7 +64,7 @@ impl UndoDesk {
     pub fn command(&mut self, command: &Command) -> Result<(), Refusal>
         requires { ValidCommand command.now }
         ensures steps { (s : UndoState) → UndoStands s self.old
-            → TakesStep (is_edit command.now) (undo_step s command.now) result self.new }
+            → TakesUndoStep (is_edit command.now) (undo_step s command.now) result self.new }
         ensures unchanged { OnErr result (self.new ≡ self.old) }
     {
         match command {
@@ -76,7 +76,7 @@ impl UndoDesk {
     /// An edit, planned whole and applied whole.
     fn edit(&mut self, edit: &Edit) -> Result<(), Refusal>
         requires { ValidEdit edit.now }
-        ensures steps { (s : UndoState) → UndoStands s self.old → TakesStep true (undo_step s (Command.Edit edit.now)) result self.new }
+        ensures steps { (s : UndoState) → UndoStands s self.old → TakesUndoStep true (undo_step s (Command.Edit edit.now)) result self.new }
         ensures unchanged { OnErr result (self.new ≡ self.old) }
     {
         let plan = plan(self.console.allocator(), self.console.show(), edit)?;
@@ -101,7 +101,7 @@ impl UndoDesk {
     /// `Memory` only where memory is wanting and the record isn't refused. A refusal changes nothing.
     pub fn record(&mut self, n: CueNo, only: bool) -> Result<(), Refusal>
         requires { n ≢ 0 }
-        ensures steps { (s : UndoState) → UndoStands s self.old → TakesStep true (record_step s n only) result self.new }
+        ensures steps { (s : UndoState) → UndoStands s self.old → TakesUndoStep true (record_step s n only) result self.new }
         ensures unchanged { OnErr result (self.new ≡ self.old) }
     {
         let plan = plan_record(&self.console, n, only)?;
@@ -114,7 +114,7 @@ impl UndoDesk {
     ///
     /// Refused with `NothingToUndo`, and nothing changes, exactly where no show is kept before the present one.
     pub fn undo(&mut self) -> Result<(), UndoFault>
-        ensures steps { (s : UndoState) → UndoStands s self.old → Steps (undo s) result self.new }
+        ensures steps { (s : UndoState) → UndoStands s self.old → UndoSteps (undo s) result self.new }
         ensures unchanged { OnErr result (self.new ≡ self.old) }
     {
         match self.history.take_back() {
@@ -132,7 +132,7 @@ impl UndoDesk {
     ///
     /// Refused with `NothingToRedo`, and nothing changes, exactly where none was undone since the last edit or record.
     pub fn redo(&mut self) -> Result<(), UndoFault>
-        ensures steps { (s : UndoState) → UndoStands s self.old → Steps (redo s) result self.new }
+        ensures steps { (s : UndoState) → UndoStands s self.old → UndoSteps (redo s) result self.new }
         ensures unchanged { OnErr result (self.new ≡ self.old) }
     {
         match self.history.take_forth() {

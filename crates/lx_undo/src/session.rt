@@ -12,7 +12,7 @@ ghost use Rattle.lx_spec.specs.UndoSession.{undo_line_of, undo_answering};
 ghost use Rattle.lx_spec.specs.ValidEdit.{ValidLine};
 ghost use Rattle.lx_session.specs.LineState.{next_of, unattempted};
 ghost use Rattle.lx_session.specs.LineProgress.{LineProgress};
-ghost use Rattle.lx_session.specs.LineReply.{HasRoom, HasOneMore, counts_in};
+ghost use Rattle.lx_session.specs.LineReply.{TallyHasRoom, HasOneMore, counts_in};
 ghost use Rattle.lx_session.specs.OneAnswer.{IsLine, OneAnswer};
 ghost use Rattle.lx_session.specs.ScriptAnswer.{ScriptAnswered};
 ghost use Rattle.lx_session.specs.SessionOutcome.{HasSessionCause, KeepsLimit};
@@ -95,7 +95,7 @@ fn answer_asked<K: Sink>(
     tally: &mut Tally,
 ) -> Result<bool, SinkFault>
     requires cue { NamesCue what }
-    requires room { HasRoom tally.old }
+    requires room { TallyHasRoom tally.old }
     ensures answered { (s : Session UndoState) (text : List ℕ) → UndoStands s.state desk.old → s.counts ≡ counts_in tally.old
         → undo_line_of text ≡ Some what
         → OneAnswer undo_answering K.holds K.faults K.wants sink.old sink.new result s text
@@ -117,7 +117,7 @@ fn answer_plain<K: Sink>(
     tally: &mut Tally,
 ) -> Result<bool, SinkFault>
     requires valid { IfSome meaning ValidLine }
-    requires room { HasRoom tally.old }
+    requires room { TallyHasRoom tally.old }
     ensures answered { (s : Session UndoState) (text : List ℕ) → UndoStands s.state desk.old → s.counts ≡ counts_in tally.old
         → meaning.entry ≡ line_of text → undo_line_of text ≡ None
         → OneAnswer undo_answering K.holds K.faults K.wants sink.old sink.new result s text

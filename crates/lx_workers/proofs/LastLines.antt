@@ -12,7 +12,7 @@ use Rattle.lx_gate.proofs.Prefixes.{prefix_self, prefix_trans, prefix_whole}
 use Rattle.lx_workers.specs.declared.worker.Served.{Served}
 use Rattle.lx_spec.specs.Versions.{outlet_text, Falling}
 use Rattle.lx_workers.specs.Lines.{newest_count, HasWritten, HasWrittenPart}
-use Rattle.lx_workers.specs.Works.{HasServed, HasStepped, HasAll, HasPart, Delivered}
+use Rattle.lx_workers.specs.Works.{HasServed, HasStepped, HasAll, HasOutletPart, Delivered}
 use Rattle.lx_workers.proofs.WrittenLines.{goes_on, part_on}
 use Rattle.lx_workers.proofs.TapSteps.{learnt_begins, count_on}
 
@@ -40,7 +40,7 @@ has_all show u before after list top taken last h e p = all_at show u before aft
 
 pub has_part : {K : Type 0} (holds : K → Option (List ℕ)) (faults wants : K → ℕ) (show : Show) (u : ℕ) (from sink : K)
     (list top top' : List Command) (fault : SinkFault) → HasWrittenPart holds faults wants show u from sink top fault
-    → IsPrefix top top' → IsPrefix list top' → HasPart holds faults wants show u from sink list fault
+    → IsPrefix top top' → IsPrefix list top' → HasOutletPart holds faults wants show u from sink list fault
 has_part holds faults wants show u from sink list top top' fault h q p =
     record { top = top'; begins = p; part = part_on holds faults wants show u from sink top top' fault q h }
 

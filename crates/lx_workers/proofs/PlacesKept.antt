@@ -13,7 +13,7 @@ use Rattle.lx_gate.specs.Readings.{Tapped}
 use Rattle.lx_gate.proofs.Prefixes.{prefix_get}
 use Rattle.lx_workers.specs.declared.worker.Served.{Served}
 use Rattle.lx_workers.specs.Works.{HasServed, Delivered}
-use Rattle.lx_workers.specs.Places.{IsFull, IsTaken, IsGiven, IsBack}
+use Rattle.lx_workers.specs.Places.{IsFull, IsTaken, IsGiven, OutletIsBack}
 
 pub get-set_same : {X : Type 0} (xs : List X) (i : ℕ) (w : X) → i < length xs → slice_get (set xs i w) i ≡ Some w
 get-set_same [] i w h = absurd (omega arith)
@@ -130,7 +130,7 @@ pub is_back : {K : Type 0} (holds : K → Option (List ℕ)) (back : K → List 
     → slice_get outlets place ≡ Some (Some start) → place < n → k ≡ n - 1 - place → m ≡ n → IsTaken outlets n k tap sink
     → HasServed holds back faults wants show tap tap' sink sink' served
     → IsGiven holds back faults wants show outlets' results published (m - 1 - k) tap' sink' served
-    → IsBack holds back faults wants show outlets' results published place start
+    → OutletIsBack holds back faults wants show outlets' results published place start
 is_back {K = K} holds back faults wants show outlets outlets' results published place k n m start tap tap' sink sink' served is within at same t
     h g =
     let here : m - 1 - k ≡ place = omega (arith, within, at, same) in

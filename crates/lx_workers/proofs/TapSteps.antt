@@ -4,7 +4,7 @@ use mathlib.Core.List.{IsPrefix}
 use Rattle.lx_io.specs.Causes.{Rose, one_more}
 use Rattle.lx_spec.specs.declared.Command.{Command}
 use Rattle.lx_gate.specs.CommandLists.{longest, IsChained}
-use Rattle.lx_gate.specs.Readings.{Told, newest, HasRead, HasMissed, HasLearnt}
+use Rattle.lx_gate.specs.Readings.{Told, newest, HasReadOn, HasMissed, HasLearnt}
 use Rattle.lx_gate.proofs.Prefixes.{prefix_self, prefix_trans}
 use Rattle.lx_workers.specs.Works.{HasLooked, HasTakenTimes, RoseOrSame}
 
@@ -34,7 +34,7 @@ pub record HasTaken (before now : Told) : Type 0 where
   pub seen : IsPrefix before.seen now.seen
   pub counted : (Rose before.reads now.reads × (now.misses ≡ before.misses)) ⊎ (Rose before.misses now.misses × (now.reads ≡ before.reads))
 
-pub taken : (before now : Told) → IsPrefix before.seen (newest now) → HasRead before now ⊎ HasMissed before now → HasTaken before now
+pub taken : (before now : Told) → IsPrefix before.seen (newest now) → HasReadOn before now ⊎ HasMissed before now → HasTaken before now
 taken before now p (inl h) = record {
   learnt = ap (λ (t : Told). t.learnt) h.rest;
   reads = inr h.rose;

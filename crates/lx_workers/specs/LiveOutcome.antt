@@ -14,19 +14,19 @@ use Rattle.lx_session.specs.declared.fault.SessionFault.{SessionFault}
 use Rattle.lx_session.specs.declared.tally.Tally.{Tally}
 use Rattle.lx_session.specs.Listening.{HasDone}
 use Rattle.lx_session.specs.ScriptAnswer.{ScriptAnswered}
-use Rattle.lx_workers.specs.Places.{IsBack}
+use Rattle.lx_workers.specs.Places.{OutletIsBack}
 
 -- Each place has its sink back, with what it was to get of these published commands; past the places no fault is told.
 pub record AreDelivered {K : Type 0} (holds : K → Option (List ℕ)) (back : K → List ℕ) (faults wants : K → ℕ) (show : Show)
     (outlets outlets' : List (Option K)) (results : List (Option SinkFault)) (published : List Command) : Type 0 where
   pub same_places : length outlets' ≡ length outlets
   pub each : (place : ℕ) (start : K) → slice_get outlets place ≡ Some (Some start)
-      → IsBack holds back faults wants show outlets' results published place start
+      → OutletIsBack holds back faults wants show outlets' results published place start
   pub others : (place : ℕ) (fault : SinkFault) → slice_get results place ≡ Some (Some fault) → place < length outlets
 
 -- A script was answered as in a session: the commands that its lines came to are published up to the last so many, the console stands for
 -- the desk after them all, and each outlet has what it was to get of those that are published.
-pub record HasPlayed {S O K : Type 0} (left : S → Option (List ℕ)) (holds : O → Option (List ℕ)) (outlet_holds : K → Option (List ℕ))
+pub record HasPlayedScript {S O K : Type 0} (left : S → Option (List ℕ)) (holds : O → Option (List ℕ)) (outlet_holds : K → Option (List ℕ))
     (outlet_back : K → List ℕ) (faults wants : K → ℕ) (show : Show)
     (lines lines' : Lines S) (output output' : O) (outlets outlets' : List (Option K)) (console : Kept)
     (session : Result Tally SessionFault) (results : List (Option SinkFault)) (unsent : ℕ) : Type 0 where

@@ -31,7 +31,7 @@ pub record IsGiven {K : Type 0} (holds : K → Option (List ℕ)) (back : K → 
       → Delivered holds back faults wants show start.universe from new published fault
 
 -- a sink is back in its place, with what it was to get
-pub record IsBack {K : Type 0} (holds : K → Option (List ℕ)) (back : K → List ℕ) (faults wants : K → ℕ) (show : Show) (outlets : List (Option K))
+pub record OutletIsBack {K : Type 0} (holds : K → Option (List ℕ)) (back : K → List ℕ) (faults wants : K → ℕ) (show : Show) (outlets : List (Option K))
     (results : List (Option SinkFault)) (published : List Command)
     (place : ℕ) (start : K) : Type 0 where
   pub new : K

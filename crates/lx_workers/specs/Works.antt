@@ -61,7 +61,7 @@ pub record HasAll (show : Show) (universe : ℕ) (before after : Option (List �
   pub text : Appends before after (outlet_text show universe (top ∷ earlier))
 
 -- where it failed, such lines and a part of one more; they are of prefixes of a list that begins with what was published
-pub record HasPart {K : Type 0} (holds : K → Option (List ℕ)) (faults wants : K → ℕ) (show : Show) (universe : ℕ)
+pub record HasOutletPart {K : Type 0} (holds : K → Option (List ℕ)) (faults wants : K → ℕ) (show : Show) (universe : ℕ)
     (sink sink' : K) (published : List Command) (fault : SinkFault) : Type 0 where
   pub top : List Command
   pub begins : IsPrefix published top
@@ -71,6 +71,6 @@ pub record HasPart {K : Type 0} (holds : K → Option (List ℕ)) (faults wants 
 pub record Delivered {K : Type 0} (holds : K → Option (List ℕ)) (back : K → List ℕ) (faults wants : K → ℕ) (show : Show) (universe : ℕ)
     (sink sink' : K) (published : List Command) (fault : Option SinkFault) : Type 0 where
   pub whole : fault ≡ None → HasAll show universe (holds sink) (holds sink') published
-  pub part : (f : SinkFault) → fault ≡ Some f → HasPart holds faults wants show universe sink sink' published f
+  pub part : (f : SinkFault) → fault ≡ Some f → HasOutletPart holds faults wants show universe sink sink' published f
   pub cause : HasFault faults wants sink sink' fault
   pub handed_on : fault ≡ None → back sink' ≡ []

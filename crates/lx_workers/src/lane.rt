@@ -1,7 +1,7 @@
 //! What a worker owns while it runs, and how it ended.
 ghost use Rattle.std.specs.Prelude.{◌≡◌, IsSome};
 ghost use mathlib.Core.List.{IsPrefix};
-ghost use Rattle.lx_gate.specs.Notes.{IsNoteOf, list_of};
+ghost use Rattle.lx_gate.specs.Notes.{IsNoteOf, commands_of_note};
 ghost use Rattle.lx_gate.specs.Readings.{Tapped};
 ghost use Rattle.lx_workers.specs.Works.{HasServed, Delivered};
 
@@ -45,7 +45,7 @@ impl<P: Port, K: Sink, C: Pace> Lane<'_, P, K, C> {
         requires gate { IsNoteOf P.show P.book note }
         ensures delivered { (start : Tapped) (from : K)
             → HasServed K.holds K.back K.faults K.wants P.show start self.old.tap from self.old.sink self.old.served
-            → Delivered K.holds K.back K.faults K.wants P.show start.universe from self.new.sink (list_of note) self.new.served.fault }
+            → Delivered K.holds K.back K.faults K.wants P.show start.universe from self.new.sink (commands_of_note note) self.new.served.fault }
         ensures seen { IsPrefix self.old.tap.told.seen self.new.tap.told.seen }
         ensures unwritten { IsSome self.old.served.fault → self.new.sink ≡ self.old.sink }
     {

@@ -16,9 +16,9 @@ ghost use Rattle.lx_io.specs.declared.sink.SinkFault.{SinkFault};
 ghost use Rattle.lx_workers.specs.Engines.{HasRunFrom};
 ghost use Rattle.lx_workers.specs.Works.{HasServed};
 ghost use Rattle.lx_workers.specs.Places.{IsFull, IsTaken, IsGiven};
-ghost use Rattle.lx_workers.specs.LiveOutcome.{HasPlayed};
+ghost use Rattle.lx_workers.specs.LiveOutcome.{HasPlayedScript};
 
-use crate::script::Engine;
+use crate::script::LiveEngine;
 use crate::{Lane, Served, Stop};
 use lx_base::UNIVERSES;
 use lx_console::Console;
@@ -78,7 +78,7 @@ pub fn play<
     ensures err { OnErr result ((console.new ≡ console.old)
         × ((lines.new ≡ lines.old) × ((output.new ≡ output.old) × (outlets.new ≡ outlets.old)))) }
     ensures same_source { SameSource lines.old lines.new }
-    ensures played { IfOk result (λ p. HasPlayed S.left O.holds K.holds K.back K.faults K.wants console.old.show lines.old lines.new output.old
+    ensures played { IfOk result (λ p. HasPlayedScript S.left O.holds K.holds K.back K.faults K.wants console.old.show lines.old lines.new output.old
         output.new outlets.old outlets.new console.new p.session p.outlets p.unsent) }
     ensures limit { IfOk result (λ p. IfSome (unread S.left lines.old) (λ bytes. KeepsLimit (bytes_taken lines.old) bytes p.session)) }
     ensures cause { IfOk result (λ p. HasSessionCause S.faults O.faults O.wants lines.old lines.new output.old output.new p.session) }
@@ -125,7 +125,7 @@ fn play_over<
     ensures err { OnErr result ((console.new ≡ console.old)
         × ((lines.new ≡ lines.old) × ((output.new ≡ output.old) × (outlets.new ≡ outlets.old)))) }
     ensures same_source { SameSource lines.old lines.new }
-    ensures played { IfOk result (λ p. HasPlayed S.left O.holds K.holds K.back K.faults K.wants G.show lines.old lines.new output.old
+    ensures played { IfOk result (λ p. HasPlayedScript S.left O.holds K.holds K.back K.faults K.wants G.show lines.old lines.new output.old
         output.new outlets.old outlets.new console.new p.session p.outlets p.unsent) }
     ensures limit { IfOk result (λ p. IfSome (unread S.left lines.old) (λ bytes. KeepsLimit (bytes_taken lines.old) bytes p.session)) }
     ensures cause { IfOk result (λ p. HasSessionCause S.faults O.faults O.wants lines.old lines.new output.old output.new p.session) }
@@ -197,7 +197,7 @@ fn perform<
     ensures lanes { AllZip (λ x y. HasServed K.holds K.back K.faults K.wants G.show x.tap y.tap x.sink y.sink y.served) lanes.entry.items
         result.0.items }
 {
-    let mut engine = Engine {
+    let mut engine = LiveEngine {
         alloc,
         console: &mut *console,
         lines: &mut *lines,

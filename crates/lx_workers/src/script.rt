@@ -18,7 +18,7 @@ use std::sync::Wait;
 
 /// What the engine is lent, and how its session ended. Its gate is there at its start and at its end.
 #[derive(Drop)]
-pub struct Engine<'c, 'l, 's, 'k, 'g, 'u, 't, 'p, G: Origin, W: Window, S, K, C> {
+pub struct LiveEngine<'c, 'l, 's, 'k, 'g, 'u, 't, 'p, G: Origin, W: Window, S, K, C> {
     pub alloc: Global,
     pub console: &'c mut Console,
     pub lines: &'l mut Lines<'s, S>,
@@ -31,7 +31,7 @@ pub struct Engine<'c, 'l, 's, 'k, 'g, 'u, 't, 'p, G: Origin, W: Window, S, K, C>
 }
 
 impl<G: Origin, S: Source, K: Sink, C: Pace> Work
-    for Engine<'_, '_, '_, '_, '_, '_, '_, '_, G, GateWriter<G>, S, K, C> {
+    for LiveEngine<'_, '_, '_, '_, '_, '_, '_, '_, G, GateWriter<G>, S, K, C> {
     ghost ready = { λ x. IsSomeAnd x.gate.now (λ held. IsInStep G.show held [] x.console.now)
         × (CanAdvance x.lines.now × (bytes_taken x.lines.now ≤ INPUT_BYTES)) };
 

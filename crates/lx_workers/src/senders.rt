@@ -1,6 +1,6 @@
 //! What may go to another thread.
 use crate::Lane;
-use crate::script::Engine;
+use crate::script::LiveEngine;
 use lx_gate::{GatePort, GateWriter, Origin};
 
 fn is_send<T: Send>(_value: &T) {}
@@ -8,7 +8,7 @@ fn is_send<T: Send>(_value: &T) {}
 /// A lane and an engine may each go to another thread.
 pub fn may_be_sent<G: Origin + Send + Sync, S: Send, O: Send, K: Send, C: Sync>(
     lane: &Lane<'_, GatePort<G>, K, C>,
-    engine: &Engine<'_, '_, '_, '_, '_, '_, '_, '_, G, GateWriter<G>, S, O, C>,
+    engine: &LiveEngine<'_, '_, '_, '_, '_, '_, '_, '_, G, GateWriter<G>, S, O, C>,
 ) {
     is_send(lane);
     is_send(engine);

@@ -1,5 +1,5 @@
 use Rattle.std.proofs.Common.{arith}
-use Rattle.lx_gate.specs.Notes.{list_of}
+use Rattle.lx_gate.specs.Notes.{commands_of_note}
 use Rattle.lx_gate.proofs.LongestList.{longest_second}
 use Rattle.lx_gate.proofs.FirstVersion.{frame_from}
 use Rattle.lx_gate.proofs.tap.keep_later.Goals as goal
@@ -7,6 +7,6 @@ use Rattle.lx_gate.proofs.tap.keep_later.Goals as goal
 pub returns-then-stamp-note : goal.returns-then-stamp-note
 returns-then-stamp-note c = λ show list v f.
     rw (
-      longest_second list (list_of c.args.note.now) (omega (arith, v.count_is, f.count_is, c.if-stamp-note.true)),
+      longest_second list (commands_of_note c.args.note.now) (omega (arith, v.count_is, f.count_is, c.if-stamp-note.true)),
       c.copy_from_slice.ensures.after,
     ) (frame_from _ _ _ _ _ _ _ c.requires.low c.requires.high (omega (arith, c.requires.low)) v)

@@ -1,7 +1,7 @@
 use Rattle.std.proofs.Common.{ℕ, ◌<◌, ◌≡◌, ap, sym, subst, ◌∙◌}
 use Rattle.lx_spec.specs.Playback.{Playback}
 use Rattle.lx_spec.specs.Kept.{Kept}
-use Rattle.lx_playback.specs.QuietTicks.{later}
+use Rattle.lx_playback.specs.QuietTicks.{moments_later}
 use Rattle.lx_levels.specs.Stacks.{level_at}
 use Rattle.lx_levels.specs.LevelsMeaning.{LevelsStandFor}
 use Rattle.lx_console.specs.declared.change.Change.{Change}
@@ -17,7 +17,7 @@ stands : (c : goal.After-of_levels)
 stands c =
     let show = c.self.inside.show in
     let p : Playback = c.self.inside.playback in
-    let moment : c.moment.result ≡ (later p c.pass-ticks.result).moment =
+    let moment : c.moment.result ≡ (moments_later p c.pass-ticks.result).moment =
     c.moment.ensures.moment ∙ ap (λ (q : Playback). q.moment) c.pass-ticks.ensures.state in
     subst (λ (q : Playback). LevelsStandFor show q c.to_moment-changed.new.self) (sym c.pass-ticks.ensures.state)
     (subst (λ m. LevelsStandFor show (record p { moment = m }) c.to_moment-changed.new.self) moment

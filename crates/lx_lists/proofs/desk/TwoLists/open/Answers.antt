@@ -2,7 +2,7 @@ use Rattle.std.proofs.Common.{ap, sym, subst}
 use Rattle.lx_spec.specs.Show.{Show}
 use Rattle.lx_spec.specs.Kept.{Kept}
 use Rattle.lx_patch.specs.DimmerTable.{StandsForPatch}
-use Rattle.lx_lists.specs.KeptLists.{HasRoom}
+use Rattle.lx_lists.specs.KeptLists.{HasRoomForFrames}
 use Rattle.lx_lists.proofs.OpenedLists.{opened_channels, opened_kept}
 use Rattle.lx_lists.proofs.desk.TwoLists.open.Goals as goal
 
@@ -11,7 +11,7 @@ fill-requires-clause-channels c = opened_channels c.args.show c.leave_first.new.
     c.in_ok-second.second c.leave_first.ensures c.in_ok-second_of.ensures c.in_ok-first.ensures c.in_ok-second.ensures
 
 pub fill-requires-clause-room : goal.fill-requires-clause-room
-fill-requires-clause-room c = subst (λ (s : Show). HasRoom s c.in_ok-output.output)
+fill-requires-clause-room c = subst (λ (s : Show). HasRoomForFrames s c.in_ok-output.output)
     (sym (ap (λ (k : Kept). k.show) c.in_ok-first.ensures.same)) c.in_ok-output.ensures.room
 
 pub fill-requires-clause-patch : goal.fill-requires-clause-patch

@@ -5,7 +5,7 @@ use Rattle.lx_reader.specs.Settled.{settled, with_open}
 use Rattle.lx_reader.proofs.LineSteps.{stops, cue_fault, cue_other_page, cue_full, cue_took}
 use Rattle.lx_reader.proofs.OpenRecords.{cue_opened, opened_none}
 use Rattle.lx_reader.proofs.OpenSteps.{opened}
-use Rattle.lx_reader.proofs.reading.Reading.cue_line.Goals as goal
+use Rattle.lx_reader.proofs.reading.ShowPass.cue_line.Goals as goal
 
 pub returns-in_err-n-clause-outcome : goal.returns-in_err-n-clause-outcome
 returns-in_err-n-clause-outcome c =

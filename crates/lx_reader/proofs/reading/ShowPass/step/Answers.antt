@@ -3,7 +3,7 @@ use Rattle.lx_lex.specs.Left.{left}
 use Rattle.lx_reader.specs.LineOutcome.{Outcome, facts_of}
 use Rattle.lx_reader.specs.Settled.{settled}
 use Rattle.lx_reader.proofs.LevelsLines.{both_true, inside_record, levels_entry}
-use Rattle.lx_reader.proofs.reading.Reading.step.Goals as goal
+use Rattle.lx_reader.proofs.reading.ShowPass.step.Goals as goal
 
 pub returns-in-Some-clause-outcome : goal.returns-in-Some-clause-outcome
 returns-in-Some-clause-outcome c =

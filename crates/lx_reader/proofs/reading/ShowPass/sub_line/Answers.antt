@@ -7,7 +7,7 @@ use Rattle.lx_reader.specs.Settled.{settled, with_open}
 use Rattle.lx_reader.proofs.LineSteps.{stops}
 use Rattle.lx_reader.proofs.OpenRecords.{sub_opened, sub_took, opened_none, set_fault, set_other_page}
 use Rattle.lx_reader.proofs.OpenSteps.{opened}
-use Rattle.lx_reader.proofs.reading.Reading.sub_line.Goals as goal
+use Rattle.lx_reader.proofs.reading.ShowPass.sub_line.Goals as goal
 
 pub returns-in_err-s-clause-outcome : goal.returns-in_err-s-clause-outcome
 returns-in_err-s-clause-outcome c =

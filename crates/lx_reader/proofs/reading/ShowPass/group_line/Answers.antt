@@ -7,7 +7,7 @@ use Rattle.lx_reader.specs.Settled.{settled, with_open}
 use Rattle.lx_reader.proofs.LineSteps.{stops}
 use Rattle.lx_reader.proofs.OpenRecords.{group_opened, group_took, opened_none, set_fault, set_other_page}
 use Rattle.lx_reader.proofs.OpenSteps.{opened}
-use Rattle.lx_reader.proofs.reading.Reading.group_line.Goals as goal
+use Rattle.lx_reader.proofs.reading.ShowPass.group_line.Goals as goal
 
 pub returns-in_err-g-clause-outcome : goal.returns-in_err-g-clause-outcome
 returns-in_err-g-clause-outcome c =

@@ -1,6 +1,6 @@
 use Rattle.std.proofs.Common.{subst, sym}
 use Rattle.lx_reader.specs.Settled.{OpenFits}
-use Rattle.lx_reader.proofs.reading.Reading.settle.Goals as goal
+use Rattle.lx_reader.proofs.reading.ShowPass.settle.Goals as goal
 
 pub put_record-requires : goal.put_record-requires
 put_record-requires c =

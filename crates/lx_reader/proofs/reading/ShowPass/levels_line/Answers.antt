@@ -4,7 +4,7 @@ use Rattle.lx_lex.specs.Left.{left}
 use Rattle.lx_reader.specs.OpenMoves.{ReadsLevels}
 use Rattle.lx_reader.proofs.Members.{greatest_least, greatest_most}
 use Rattle.lx_reader.proofs.OpenLevels.{levels_outcome, still_fits}
-use Rattle.lx_reader.proofs.reading.Reading.levels_line.Goals as goal
+use Rattle.lx_reader.proofs.reading.ShowPass.levels_line.Goals as goal
 
 pub widen-requires-clause-least : goal.widen-requires-clause-least
 widen-requires-clause-least c =

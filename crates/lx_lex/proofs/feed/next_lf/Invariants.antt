@@ -1,6 +1,6 @@
 use Rattle.std.proofs.Common.{◌≤◌, ◌-◌}
 use Rattle.memchr.specs.Find.{Nowhere, Passes, is_byte}
-use Rattle.lx_lex.proofs.feed.next_feed.Given as goal
+use Rattle.lx_lex.proofs.feed.next_lf.Given as goal
 
 abbrev pub invariant-loop-at : goal.invariant-loop-at
 invariant-loop-at l = record {

@@ -9,7 +9,7 @@ use Rattle.lx_reader.specs.LineOfCue.{LabelSays, facts_at}
 use Rattle.lx_reader.specs.LineOutcome.{Said, facts_of}
 use Rattle.lx_reader.specs.Settled.{SetFits, settled}
 use Rattle.lx_reader.proofs.OpenSteps.{fits_in_cue, fits_in_group, fits_in_sub, opened, parts_open, relabelled, said_in_cue, said_in_group, said_in_sub}
-use Rattle.lx_reader.proofs.reading.Reading.says.Goals as goal
+use Rattle.lx_reader.proofs.reading.ShowPass.says.Goals as goal
 
 pub line_of_cue-requires-clause-parts : goal.line_of_cue-requires-clause-parts
 line_of_cue-requires-clause-parts c =
