@@ -13,7 +13,7 @@ pub record IsNextChange (old new : List ℕ) (from at : ℕ) : Type 0 where
   pub before : Agree old new from at
   pub differs : slice_index old at ≢ slice_index new at
 
--- how many places agree, of so many from a place on, up to the first that doesn't
+-- how many places agree, of this many from a place on, up to the first that doesn't
 pub record IsRun (old new : List ℕ) (at lanes run : ℕ) : Type 0 where
   pub most : run ≤ lanes
   pub agree : Agree old new at (at + run)

@@ -28,7 +28,7 @@ impl CueNo {
     /// No cue: the position before the first one.
     pub const BEFORE_FIRST: CueNo = CueNo { value: 0 };
 
-    /// The cue number of so many thousandths. `None` exactly where they are more than `CUE_MAX`.
+    /// The cue number of this many thousandths. `None` exactly where they are more than `CUE_MAX`.
     pub fn new(value: u32) -> Option<Self>
         ensures range { IsSome result ↔ (value ≤ CUE_MAX) }
         ensures value { IfSome result (λ n. n ≡ value) }

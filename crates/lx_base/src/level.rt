@@ -6,7 +6,7 @@ ghost use Rattle.lx_base.specs.Numbers.{percent, scaled};
 /// A level, from 0 (out) to 255 (full).
 pub type Level = u8;
 
-/// The level of so many percent, to the nearest, halves up: 0 is out, 100 is 255.
+/// The level of this many percent, to the nearest, halves up: 0 is out, 100 is 255.
 pub fn of_percent(p: u8) -> Level
     requires { p ≤ 100 }
     ensures { result ≡ percent p }

@@ -30,17 +30,17 @@ pub record Obeys {A : Type 0} (d : Desk) (command : Command) (answer : Result A 
   pub ok : OnOk answer (IsOkAnd (step d command) (λ next. StandsFor next console))
   pub err : IfErr answer (λ refusal. step d command ≡ Err refusal)
 
--- want of memory refuses an edit that the desk accepts
+-- lack of memory refuses an edit that the desk accepts
 pub record WantsMemory (d : Desk) (command : Command) (refusal : Refusal) : Type 0 where
   pub edit : is_edit command ≡ true
   pub memory : refusal ≡ Memory
   pub accepted : IsOk (step d command)
 
--- a refusal is the desk's own, or want of memory at an edit
+-- a refusal is the desk's own, or lack of memory at an edit
 abbrev pub Refuses : Desk → Command → Refusal → Type 0
 Refuses d command refusal = (step d command ≡ Err refusal) ⊎ WantsMemory d command refusal
 
--- As `Obeys`, but that an edit may be refused for want of memory.
+-- As `Obeys`, but that an edit may be refused for lack of memory.
 pub record Answers {A : Type 0} (d : Desk) (command : Command) (answer : Result A Refusal) (console : Kept) : Type 0 where
   pub ok : OnOk answer (IsOkAnd (step d command) (λ next. StandsFor next console))
   pub err : IfErr answer (Refuses d command)

@@ -56,7 +56,7 @@ impl Model for Console {
 impl Console {
     /// A desk over the show, as at the opening: at moment 0 before the first cue, with every fader at 0
     /// and the master at 255. It takes all the memory that keys and ticks need, and the room for the rows;
-    /// where that is wanting the show is lost. Edits take theirs from the same allocator.
+    /// where it runs out the show is lost. Edits take theirs from the same allocator.
     pub fn open(alloc: Global, show: Show) -> Result<Console, AllocError>
         ensures { IfOk result (StandsFor (opened show)) }
     {
@@ -190,9 +190,9 @@ impl Console {
     }
 
     /// Lets ticks pass at which nothing starts or ends, all at once: no follow is due, and the playback doesn't
-    /// come to rest. It is as by so many calls of `tick` that were accepted.
+    /// come to rest. It is as by this many calls of `tick` that were accepted.
     ///
-    /// It answers how many ticks there were, at most so many; none where the next tick is another or is refused.
+    /// It answers how many ticks there were, at most this many; none where the next tick is another or is refused.
     pub fn pass(&mut self, most: u32) -> u32
         ensures most { result ≤ most }
         ensures ticks { (d : Desk) → StandsFor d self.old → IsOkAnd (after_ticks result d) (λ next. StandsFor next self.new) }
@@ -206,7 +206,7 @@ impl Console {
 
     /// An edit of the show; or a key or a tick, as by `press` and `tick`.
     ///
-    /// An edit is refused for what it names and the show lacks, or for a limit, and for want of memory only
+    /// An edit is refused for what it names and the show lacks, or for a limit, and for lack of memory only
     /// where nothing else refuses it. Rows, levels and slots are then those of the edited show, also where
     /// fades are under way. A refusal changes nothing.
     pub fn command(&mut self, command: &Command) -> Result<(), Refusal>

@@ -27,7 +27,7 @@ pub struct KeptOutput {
 }
 
 impl KeptOutput {
-    /// An output for the show, whose patch alone is filled in yet. An error comes where memory is wanting.
+    /// An output for the show, whose patch alone is filled in yet. An error comes where memory runs out.
     pub fn open(alloc: Global, show: &Show) -> Result<KeptOutput, AllocError>
         ensures reaches { IfOk result (Reaches show.now.channels) }
         ensures patch { IfOk result (λ output. StandsForPatch show.now.patch output.table) }

@@ -62,7 +62,7 @@ pub(crate) fn after_tick(
     changed
 }
 
-/// Makes these channels anew from the live runs; the others stand already. Answers whether there was one, and so a level may have
+/// Makes these channels again from the live runs; the others stand already. Answers whether there was one, and so a level may have
 /// changed.
 pub(crate) fn recompute_touched(
     levels: &mut Levels,
@@ -96,7 +96,7 @@ pub(crate) fn recompute_touched(
     changed
 }
 
-/// Makes each channel anew from the live runs.
+/// Makes each channel again from the live runs.
 pub(crate) fn recompute_all(levels: &mut Levels, show: &Show, sheet: &Sheet, playback: &Playback)
     requires rows { RowsStandFor show.now sheet.now }
     requires moment { levels.old.moment ≡ playback.now.moment }

@@ -88,7 +88,7 @@ pub struct Applied {
 impl Player {
     /// A desk over the show, as at the opening: at moment 0 before the first cue, with every fader at 0
     /// and the master at 255. It takes all the memory that keys and ticks need, and the room for the rows;
-    /// where that is wanting the show is lost. Edits take theirs from the same allocator.
+    /// where it runs out the show is lost. Edits take theirs from the same allocator.
     pub fn open(alloc: Global, show: Show) -> Result<Player, AllocError>
         ensures { IfOk result (StandsFor (opened show)) }
     {
@@ -230,9 +230,9 @@ impl Player {
     }
 
     /// Lets ticks pass at which nothing starts or ends, all at once: no follow is due, and the playback doesn't
-    /// come to rest. It is as by so many calls of `tick` that were accepted.
+    /// come to rest. It is as by this many calls of `tick` that were accepted.
     ///
-    /// It answers how many ticks there were, at most so many; none where the next tick is another or is refused.
+    /// It answers how many ticks there were, at most this many; none where the next tick is another or is refused.
     pub fn pass(&mut self, most: u32) -> Passed
         ensures most { result.ticks ≤ most }
         ensures ticks { (d : Desk) → StandsFor d self.old → IsOkAnd (after_ticks result.ticks d) (λ next. StandsFor next self.new) }
@@ -250,7 +250,7 @@ impl Player {
 
     /// An edit of the show; or a key or a tick, as by `press` and `tick`.
     ///
-    /// An edit is refused for what it names and the show lacks, or for a limit, and for want of memory only
+    /// An edit is refused for what it names and the show lacks, or for a limit, and for lack of memory only
     /// where nothing else refuses it. Rows and levels are then those of the edited show, also where fades are
     /// under way. A refusal changes nothing.
     pub fn command(&mut self, command: &Command) -> Result<Change, Refusal>
@@ -366,7 +366,7 @@ impl Player {
         Ok(Change::Levels)
     }
 
-    /// A submaster's fader. It stands apart, so that other keys don't pay for its loops.
+    /// A submaster's fader. It is a function of its own, so that other keys don't pay for its loops.
     #[inline(never)]
     fn set_fader(&mut self, sub: SubNo, level: Level) -> Result<Change, Refusal>
         ensures ok { OnOk result (IsTrue (has_entry (λ x. x.number) sub self.old.show.subs)) }

@@ -15,7 +15,7 @@ use lx_playback::Playback;
 use lx_show::around::above;
 use lx_show::{Cue, Show};
 
-/// So many cues above an edited one are asked whether they decide a channel.
+/// This many cues above an edited one are asked whether they decide a channel.
 const NEAR: usize = 16;
 
 /// The cue that the plan places, where it changes no other one.

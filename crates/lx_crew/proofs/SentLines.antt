@@ -116,7 +116,7 @@ have_more place n (x ∷ es) [] e l h own is text = absurd h
 have_more place n (x ∷ es) (k ∷ ls) e l h own is text =
     (h.0, (h.1.0, (h.1.1.0, have_more place (n + 1) es ls e l h.1.1.1 own (omega (arith, is)) text)))
 
--- So many lines were handed out from a to b and sent.
+-- This many lines were handed out from a to b and sent.
 pub record SentSoFar {S : Type 0} (left : S → Option (List ℕ)) (faults : S → ℕ) (place : ℕ) (a b : Lines S) (v : View) : Type 0 where
   pub passed : Passed left faults a b
   pub entries : List Entry

@@ -15,5 +15,5 @@ pub use entry::{Entry, LineText, Sent};
 pub use fault::OperatorFault;
 pub use follows::Follows;
 pub use operator::Operator;
-pub use rule::{Enters, Gets, QueueLaw, Leaves, Queue, Sends, Total, View};
+pub use rule::{Enters, Gets, Leaves, Queue, QueueLaw, Sends, Total, View};
 pub use running::{Crewed, crew};

@@ -28,7 +28,7 @@ use Rattle.lx_desk.proofs.Inputs.{Says, IsOfShow, nothing_of_cut, means_of, told
 use Rattle.lx_desk.proofs.Endings.{refusal_ends, refusal_ended}
 use Rattle.lx_desk.proofs.CrewRuns.{no_lines}
 
--- Of a show whose levels are read in this form, for so many operators.
+-- Of a show whose levels are read in this form, for this many operators.
 module _ (form : Form) (count : ℕ) where
   crew_tells : IsOfShow form (Crew count form) (λ reading. [])
   crew_tells = record {

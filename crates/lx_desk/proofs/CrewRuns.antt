@@ -109,7 +109,7 @@ read_rose : {S : Type 0} (left : S → Option (List ℕ)) (reads : S → ℕ) (p
     → slice_get told place ≡ Some (Some ends.ReadFault) → Rose (reads start) (reads b.source)
 read_rose left reads places told place start lines b at = b.ended.failed (same_Some b.fault (Some ends.ReadFault) (sym b.fault_is ∙ at))
 
--- A crew over the first so many operators.
+-- A crew over the first n operators.
 module _ {S K : Type 0} (left : S → Option (List ℕ)) (reads : S → ℕ) (holds : K → Option (List ℕ)) (show : Show) (count : ℕ)
     (operators used used' rest : List (Option S)) (sink sink' : K) (console : Kept) (tally : Tally) (output : Option SinkFault)
     (told : List (Option OperatorFault)) (is : used ≡ take count operators) (n : length used ≡ count) (behind : rest ≡ drop count operators)

@@ -41,7 +41,7 @@ use Rattle.lx_desk.proofs.Inputs.{Says, means_of, session_long, session_fits, re
 use Rattle.lx_desk.proofs.Inputs.{if_both, fed_behind, wanted_read, script_over}
 use Rattle.lx_desk.proofs.Endings.{refusal_ends, refusal_ended}
 
--- Of a show whose levels are read in this form, for so many universes.
+-- Of a show whose levels are read in this form, for this many universes.
 module _ (form : Form) (universes : ℕ) where
   -- any attempt may fail
   each_allowed : (failures : List (Option ℕ)) (s : Session DeskState) (script : List (List ℕ))

@@ -103,7 +103,7 @@ have_got {K = K} holds back failures wants show universes outlets used used' res
 abbrev Done : Show → (published unsent : List Command) → Kept → DeskState → Type 0
 Done show published unsent console = HasDone (λ commands. commands ≡ published ++ unsent) (opened show) console
 
--- What was played, as it is told: over a show, for so many universes.
+-- What was played, as it is told: over a show, for this many universes.
 module _ {K : Type 0} (holds : K → Option (List ℕ)) (back : K → List ℕ) (failures wants : K → ℕ) (show : Show) (universes : ℕ)
     (outlets outlets' : List (Option K)) (published unsent : List Command)
     (got : HaveGot holds back failures wants show universes outlets outlets' published) where

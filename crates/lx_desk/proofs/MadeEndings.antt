@@ -115,7 +115,7 @@ nothing_told (Some bytes) a cues d = record {
   text = front_nothing a (made_text cues (made_session d (lines_of bytes) []));
 }
 
--- a report that was told, or that was not for a write fault or want of memory
+-- a report that was told, or that was not for a write fault or lack of memory
 pub told_cause : (s : Status) (reads reads' writes writes' : ℕ) → (s ≡ status.Ok) ⊎ ((s ≡ status.WriteFault) ⊎ (s ≡ status.Memory))
     → (s ≡ status.WriteFault → Rose writes writes') → HasCauseOf s reads reads' writes writes'
 told_cause s reads reads' writes writes' kinds write = elim kinds [

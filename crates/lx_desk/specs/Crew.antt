@@ -56,7 +56,7 @@ WritesLines status.WriteFault show lines told held held' = TranscriptPrefix (ope
 WritesLines status.Memory show lines told held held' = TranscriptPrefix (opened show) lines held held'
 WritesLines other show lines told held held' = ⊥
 
--- The first so many operators were served over a show: each place has its source again, and `lines` has what was taken of it. Without a
+-- The first n operators were served over a show: each place has its source again, and `lines` has what was taken of it. Without a
 -- fault of its own these are all its lines up to `quit` or the end, and with one those that were taken whole. No others have lines.
 pub record Serves {S : Type 0} (left : S → Known) (faults : S → ℕ) (show : Show) (count : ℕ) (operators operators' : List (Option S))
     (held held' : Known) (s : Status) : Type 0 where
@@ -68,7 +68,7 @@ pub record Serves {S : Type 0} (left : S → Known) (faults : S → ℕ) (show :
   pub no_more : (operator : ℕ) → count < operator → lines operator ≡ []
   pub written : WritesLines s show lines told held held'
 
--- the same, or memory was wanted in vain before the first line, and then nothing was read or written
+-- the same, or memory ran out before the first line, and then nothing was read or written
 abbrev pub ServesOrWants : {S : Type 0} → (S → Known) → (S → ℕ) → Show → ℕ → (operators operators' : List (Option S))
     → (held held' : Known) → Status → Type 0
 ServesOrWants left faults show count operators operators' held held' s =
@@ -122,7 +122,7 @@ pub record KeepsPlaces {S : Type 0} (count : ℕ) (operators operators' : List (
   pub full : EachAt (λ place source. IsSome source) operators'
   pub others : drop count operators' ≡ drop count operators
 
--- Words that name no crew are answered with Usage, unless memory was wanted in vain, and nothing is read or written.
+-- Words that name no crew are answered with Usage, unless memory ran out, and nothing is read or written.
 abbrev pub KeepsOperators : {I O S : Type 0} → Option Job → Status → (input input' : I) → (output output' : O)
     → (operators operators' : List (Option S)) → Type 0
 KeepsOperators (Some (Crew count form)) s input input' output output' operators operators' =

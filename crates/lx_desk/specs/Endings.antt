@@ -26,7 +26,7 @@ at_once (Some (Script kind form)) = if is_live kind then Some status.Live else N
 at_once (Some (Crew operators form)) = Some status.Live
 at_once (Some other) = None
 
--- Words that have such a status are answered with it, unless memory was wanted in vain, and then nothing is read or written; no other
+-- Words that have such a status are answered with it, unless memory ran out, and then nothing is read or written; no other
 -- words are.
 pub record AnswersWords {I O : Type 0} (job : Option Job) (s : Status) (input input' : I) (output output' : O) : Type 0 where
   pub at : IfSome (at_once job) (λ answer. ((s ≡ answer) ⊎ (s ≡ status.Memory)) × ((input' ≡ input) × (output' ≡ output)))
@@ -69,7 +69,7 @@ HasCauseOf status.ReadFault reads reads' writes writes' = Rose reads reads'
 HasCauseOf status.WriteFault reads reads' writes writes' = Rose writes writes'
 HasCauseOf other reads reads' writes writes' = Unit {0}
 
--- The same of a script that is answered from a state on, before which so many bytes of the input were taken.
+-- The same of a script that is answered from a state on, before which this many bytes of the input were taken.
 abbrev pub HasPlayed : Status → (by : Answering (List ℕ)) → by.State → ℕ → List ℕ → Option (List ℕ) → Option (List ℕ) → Option (List ℕ)
     → Type 0
 HasPlayed status.Ok by state before bytes left held held' =

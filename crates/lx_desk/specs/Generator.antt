@@ -60,7 +60,7 @@ go_text ticks = line (codes "go" ∷ []) ++ line (codes "tick" ∷ decimal ticks
 abbrev pub turn_text : ℕ → Turn → List ℕ
 turn_text k turn = go_text turn.ticks ++ set_text k turn.setting ++ line (codes "frame" ∷ [])
 
--- the show of so many cues
+-- the show of this many cues
 abbrev pub made_show : ℕ → List ℕ
 made_show n =
     line (codes "IDENT" ∷ codes "3:0" ∷ []) ++ flat_map made_patch (range_with_len 1 512) ++ flat_map (made_cue n) (range_with_len 1 n)

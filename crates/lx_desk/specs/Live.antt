@@ -30,7 +30,7 @@ use Rattle.lx_desk.specs.declared.desk.Status.TheVariants as status
 use Rattle.lx_desk.specs.Faults.{status_for}
 use Rattle.lx_desk.specs.Endings.{HasEnded}
 
--- the session of a script that is played live over a show, and of its first so many lines
+-- the session of a script that is played live over a show, and of its first n lines
 abbrev pub live_session : Show → List (List ℕ) → List (Option ℕ) → Session DeskState
 live_session show script failures = whole_session (desk_answering false) (begun (opened show)) script failures
 
@@ -64,7 +64,7 @@ pub record HaveGot {K : Type 0} (holds : K → Known) (back : K → List ℕ) (f
   pub delivered : AreDelivered holds back faults wants show (take universes outlets) (take universes outlets') results published
   pub rest : drop universes outlets' ≡ drop universes outlets
 
--- all but the last so many of these commands were published, and the outlets got what they were to get of these
+-- all but the last n of these commands were published, and the outlets got what they were to get of these
 pub record AreServed {K : Type 0} (holds : K → Known) (back : K → List ℕ) (faults wants : K → ℕ) (show : Show) (universes : ℕ)
     (outlets outlets' : List (Option K)) (commands : List Command) : Type 0 where
   pub published : List Command
@@ -72,7 +72,7 @@ pub record AreServed {K : Type 0} (holds : K → Known) (back : K → List ℕ) 
   pub commands_are : commands ≡ published ++ held_back
   pub got : HaveGot holds back faults wants show universes outlets outlets' published
 
--- Up to so many lines of a script were answered, by a prefix of the replies, where any attempt may fail, and
+-- Up to this many lines of a script were answered, by a prefix of the replies, where any attempt may fail, and
 -- the outlets got what was published of the commands that these lines came to.
 pub record PlaysInFront {K : Type 0} (outlet_holds : K → Known) (back : K → List ℕ) (faults wants : K → ℕ) (show : Show) (universes : ℕ)
     (script : List (List ℕ)) (held held' : Known) (outlets outlets' : List (Option K)) : Type 0 where
@@ -91,7 +91,7 @@ pub record PlaysTaken {K : Type 0} (outlet_holds : K → Known) (back : K → Li
   pub served : AreServed outlet_holds back faults wants show universes outlets outlets'
       (live_after show (lines_of bytes) failures cut.lines).state.accepted
 
--- how a script over a show ended that was played live, before which so many bytes of the input were taken
+-- how a script over a show ended that was played live, before which this many bytes of the input were taken
 abbrev pub HasPlayedLive : {K : Type 0} → Status → (K → Known) → (K → List ℕ) → (faults wants : K → ℕ) → Show → (universes before : ℕ) → List ℕ
     → (left held held' : Known) → (outlets outlets' : List (Option K)) → Type 0
 HasPlayedLive status.Ok holds back faults wants show universes before bytes left held held' outlets outlets' =
@@ -120,7 +120,7 @@ pub record PlaysWhole {K : Type 0} (outlet_holds : K → Known) (universes : ℕ
   pub versions : HaveVersions outlet_holds reading.show universes outlets outlets' (live_session reading.show (script_of bytes) failures).state.accepted
   pub within : length (input_wanted form bytes) ≤ INPUT_BYTES
 
--- The show was read, up to so many lines of its script were answered, by a prefix of the replies, and the outlets got what was published
+-- The show was read, up to this many lines of its script were answered, by a prefix of the replies, and the outlets got what was published
 -- of the commands that these lines came to.
 pub record LivesInFront {K : Type 0} (holds : K → Known) (back : K → List ℕ) (faults wants : K → ℕ) (universes : ℕ) (form : Form)
     (bytes : List ℕ) (held held' : Known) (outlets outlets' : List (Option K)) : Type 0 where
@@ -146,7 +146,7 @@ pub record LivesTaken {K : Type 0} (holds : K → Known) (back : K → List ℕ)
 abbrev pub NoneLived : {K : Type 0} → Form → List ℕ → (held held' : Known) → (outlets outlets' : List (Option K)) → Type 0
 NoneLived form bytes held held' outlets outlets' = (outlets' ≡ outlets) × (IsOk (reads form bytes) → held' ≡ held)
 
--- How the live run of a form over so many universes ended: with Ok as above; with ShowRefused as another job, and nothing in any outlet;
+-- How the live run of a form over this many universes ended: with Ok as above; with ShowRefused as another job, and nothing in any outlet;
 -- and else as another job ends with the status, and the outlets got nothing, or what was published of the commands that the lines which
 -- were answered came to.
 abbrev pub HasLived : {K : Type 0} → Status → (K → Known) → (K → List ℕ) → (faults wants : K → ℕ) → ℕ → Form → List ℕ
@@ -176,7 +176,7 @@ pub record ArePlayed {K : Type 0} (holds : K → Known) (back : K → List ℕ) 
   pub published : List Command
   pub got : HaveGot holds back faults wants show universes outlets outlets' published
 
--- Words that name no live run are answered with Usage, unless memory was wanted in vain, and nothing is read or written; in a live run
+-- Words that name no live run are answered with Usage, unless memory ran out, and nothing is read or written; in a live run
 -- the outlets are as they were, or were played.
 abbrev pub KeepsOutlets : {I O K : Type 0} → (K → Known) → (K → List ℕ) → (faults wants : K → ℕ) → Option Job → Status → (input input' : I)
     → (output output' : O) → (outlets outlets' : List (Option K)) → Type 0

@@ -21,7 +21,7 @@ report_text r =
     line (codes "cues" ∷ decimal r.cues ∷ []) ++ line (codes "moment" ∷ decimal r.moment ∷ []) ++ line (codes "ok" ∷ decimal r.ok ∷ [])
     ++ line (codes "refused" ∷ decimal r.refused ∷ []) ++ line (codes "sum" ∷ decimal r.sum ∷ [])
 
--- what there is to tell of a desk after so many replies
+-- what there is to tell of a desk after this many replies
 abbrev pub report_of : ℕ → Desk → Tally → Report
 report_of cues d tally = record { cues = cues; moment = d.playback.moment; ok = tally.ok; refused = tally.refused; sum = sum (frame d 1) }
 

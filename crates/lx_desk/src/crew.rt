@@ -26,7 +26,7 @@ use std::thread::Threads;
 /// Serves the operators 1 to `count` over a show.
 ///
 /// The show comes from the input, which is read to `ENDDATA` and no further. The scripts of the operators come from the first
-/// so many sources, each in a thread of its own and up to `quit` or its end. For each line that is taken the output gets `op`, its
+/// this many sources, each in a thread of its own and up to `quit` or its end. For each line that is taken the output gets `op`, its
 /// operator and its number among that operator's lines, and then its replies. Which operator comes next isn't said.
 ///
 /// A fault of an operator costs no line of another. The fault of the output decides the status first, and then that of the

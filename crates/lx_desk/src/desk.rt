@@ -28,7 +28,7 @@ pub enum Status {
     ReadFault,
     /// A write failed.
     WriteFault,
-    /// Memory was wanted in vain.
+    /// Out of memory.
     Memory,
     /// The input is longer than 67,108,864 bytes.
     InputTooLong,

@@ -16,7 +16,7 @@ use std::alloc::{AllocError, Global};
 /// How many channels the show is patched to, each to the dimmer of its number.
 const PATCHED: u32 = 512;
 
-/// The input: a show of so many cues, and a script of as many turns. An error comes where memory is wanting.
+/// The input: a show of this many cues, and a script of as many turns. An error comes where memory runs out.
 pub(crate) fn made_input(alloc: Global, cues: u32) -> Result<Vec<u8>, AllocError>
     ensures { IfOk result (λ input. input.items ≡ made_input cues) }
 {

@@ -139,7 +139,7 @@ fn play_live<
     }
 }
 
-/// The status of a live run: the session's fault first, then a write that failed, then want of memory.
+/// The status of a live run: the session's fault first, then a write that failed, then lack of memory.
 fn status_of_run(played: &Played) -> Status
     ensures { TellsRun played.now.session played.now.outlets played.now.unsent result }
 {

@@ -103,7 +103,7 @@ fn tell_session<S: Source, K: Sink>(
     }
 }
 
-/// What there is to tell of a console after so many replies.
+/// What there is to tell of a console after this many replies.
 fn report_on(cues: u32, console: &Console, tally: Tally) -> Report
     ensures { (d : Desk) → StandsFor d console.now → result ≡ report_of cues d tally }
 {

@@ -134,7 +134,7 @@ pub record IsPlan (show : Show) (edit : Edit) (plan : Plan) : Type 0 where
   pub dimmer : dimmer_planned plan ≡ dimmer_edited edit
   pub subs : plans_sub plan ≡ edits_sub edit
 
--- the refusal is the edit's own, or memory was wanting where the edit is not refused
+-- the refusal is the edit's own, or memory ran out where the edit is not refused
 abbrev pub IsRefusal : Show → Edit → Refusal → Type 0
 IsRefusal show edit refusal = (edited show edit ≡ Err refusal) ⊎ ((refusal ≡ Memory) × IsOk (edited show edit))
 

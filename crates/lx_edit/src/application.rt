@@ -392,7 +392,7 @@ fn mend_cue(sheet: &mut Sheet, show: &Show, n: CueNo, chans: &ChanSet)
     }
 }
 
-/// A cue was changed in its place: the columns of these channels are filled in anew from it on, up to the
+/// A cue was changed in its place: the columns of these channels are filled in again from it on, up to the
 /// given end, or the whole sheet where they are many.
 fn mend(sheet: &mut Sheet, show: &Show, from: CueNo, to: Option<CueNo>, chans: &ChanSet)
     requires { CanMend show.now sheet.old from to chans.now }
@@ -405,7 +405,7 @@ fn mend(sheet: &mut Sheet, show: &Show, from: CueNo, to: Option<CueNo>, chans: &
     }
 }
 
-/// The columns of these channels are filled in anew.
+/// The columns of these channels are filled in again.
 fn mend_columns(sheet: &mut Sheet, show: &Show, from: CueNo, to: &Option<CueNo>, chans: &ChanSet)
     requires { CanMend show.now sheet.old from to.now chans.now }
     ensures { RowsStandFor show.now sheet.new }
@@ -421,7 +421,7 @@ fn mend_columns(sheet: &mut Sheet, show: &Show, from: CueNo, to: &Option<CueNo>,
     }
 }
 
-/// The column of the channel is filled in anew, if it is one of these: from the cue on, up to the given end
+/// The column of the channel is filled in again, if it is one of these: from the cue on, up to the given end
 /// or else to the next cue that decides the channel.
 fn mend_column(
     sheet: &mut Sheet,

@@ -67,7 +67,7 @@ impl ChanSet {
         self.words[(place / 64) as usize] == 0
     }
 
-    /// It is no gain to go through a sheet column by column for so many channels.
+    /// It is no gain to go through a sheet column by column for this many channels.
     pub(crate) fn is_large(&self) -> bool {
         let mut count = 0;
         for word in self.words.iter() {

@@ -32,7 +32,7 @@ pub(crate) fn delete_cue(alloc: Global, show: &Show, n: CueNo, only: bool) -> Re
 }
 
 /// The plan that gives the cue the moves of the changed one or, where the one above it gets moves that keep its levels, places
-/// both. Outside the range the moves are those of the old one. An error comes where memory is wanting.
+/// both. Outside the range the moves are those of the old one. An error comes where memory runs out.
 pub(crate) fn place(
     alloc: Global,
     show: &Show,
@@ -72,7 +72,7 @@ fn into_moves(cue: Cue) -> MoveList
 }
 
 /// Cue only, the cue above the edited one, with the moves that keep its levels; none where no cue is above it, or it
-/// keeps them as it is. An error comes where memory is wanting.
+/// keeps them as it is. An error comes where memory runs out.
 fn kept_above(
     alloc: Global,
     show: &Show,

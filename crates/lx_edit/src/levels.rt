@@ -132,7 +132,7 @@ pub(crate) fn release(
     Ok(place(alloc, show, n, old, cue, range, only)?)
 }
 
-/// The cue without moves for the channels of the range. An error comes where memory is wanting.
+/// The cue without moves for the channels of the range. An error comes where memory runs out.
 fn without_moves(cue: &Cue, range: ChanRange) -> Result<Cue, AllocError>
     ensures { IfOk result (λ changed. changed ≡ without_moves cue.now range) }
 {

@@ -53,7 +53,7 @@ pub(crate) fn sub_member(
     })
 }
 
-/// An equal group, or a new one where it is absent. An error comes where memory is wanting.
+/// An equal group, or a new one where it is absent. An error comes where memory runs out.
 fn group_or_new(alloc: Global, show: &Show, g: GroupNo) -> Result<Group, AllocError>
     ensures group { IfOk result (λ group. group ≡ set_or_new show.now.groups g) }
     ensures number { IfOk result (λ group. group.number ≡ g) }
@@ -65,7 +65,7 @@ fn group_or_new(alloc: Global, show: &Show, g: GroupNo) -> Result<Group, AllocEr
     }
 }
 
-/// An equal submaster, or a new one where it is absent. An error comes where memory is wanting.
+/// An equal submaster, or a new one where it is absent. An error comes where memory runs out.
 fn sub_or_new(alloc: Global, show: &Show, s: SubNo) -> Result<Sub, AllocError>
     ensures submaster { IfOk result (λ submaster. submaster ≡ set_or_new show.now.subs s) }
     ensures number { IfOk result (λ submaster. submaster.number ≡ s) }
@@ -77,7 +77,7 @@ fn sub_or_new(alloc: Global, show: &Show, s: SubNo) -> Result<Sub, AllocError>
     }
 }
 
-/// Places the members, each in the place of the one of its channel. An error comes where memory is wanting.
+/// Places the members, each in the place of the one of its channel. An error comes where memory runs out.
 fn put_members(channels: u32, list: &mut MemberList, members: &[Member]) -> Result<(), AllocError>
     requires valid { ValidMembers channels list.old }
     requires within { AllByRecursion (λ m. m.chan ≤ channels) members.now }

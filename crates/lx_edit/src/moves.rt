@@ -50,7 +50,7 @@ pub(crate) fn in_proportion(
 }
 
 /// The cue with the channels at the levels, each in the part that is given, or else in that of the move
-/// which it had, or else in part 1. An error comes where memory is wanting.
+/// which it had, or else in part 1. An error comes where memory runs out.
 pub fn with_levels(
     alloc: Global,
     channels: u32,
@@ -101,7 +101,7 @@ fn move_to(cue: &Cue, part: Option<PartNo>, member: &Member) -> Move
 }
 
 /// A copy of the cue with these moves, each in the place of the one of its channel. Its memory is taken at once; an error comes
-/// where that is wanting.
+/// where it runs out.
 pub fn with_moves(channels: u32, cue: &Cue, moves: &[Move]) -> Result<Cue, AllocError>
     requires valid { ValidCue channels cue.now }
     requires fits { AllByRecursion (Fits channels cue.now.parts) moves.now }

@@ -14,7 +14,7 @@ abbrev pub console_of : Engine → Kept
 console_of (Plain console) = console
 console_of (Undo desk) = desk.console
 
--- it stands for the desk that is opened over the show: a plain one, or one that keeps so many shows
+-- it stands for the desk that is opened over the show: a plain one, or one that keeps this many shows
 abbrev pub OpenedAs : Option ℕ → Show → Engine → Type 0
 OpenedAs None show (Plain console) = StandsFor (opened show) console
 OpenedAs (Some depth) show (Undo desk) = UndoStands (opened_with show depth) desk

@@ -14,6 +14,6 @@ pub record OpensText (form : Form) (depth : Option ℕ) (text : List ℕ) (engin
   pub reads_as : reads form text ≡ Ok reading
   pub stands : OpenedAs depth reading.show engine
 
--- the fault is that of the text; InputTooLong only where it is too long, ReadFault never, and memory may be wanting
+-- the fault is that of the text; InputTooLong only where it is too long, ReadFault never, and memory may run out
 abbrev pub RefusesShow : Form → List ℕ → ShowFault → Type 0
 RefusesShow form text fault = OfText (λ f. reads form text ≡ Err f) (INPUT_BYTES < length text) ⊥ fault

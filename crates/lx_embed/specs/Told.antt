@@ -33,7 +33,7 @@ pub record Stands (console : Kept) (state : PlaybackState) : Type 0 where
   pub channels : state.channels ≡ console.show.channels
   pub cues : state.cues ≡ length console.show.cues
 
--- each desk for which the engine stood accepted so many ticks
+-- each desk for which the engine stood accepted this many ticks
 abbrev pub Ticked : Engine → ℕ → Engine → Type 0
 Ticked (Plain before) n (Plain now) = (d : Desk) → StandsFor d before → IsOkAnd (after_ticks n d) (λ next. StandsFor next now)
 Ticked (Undo before) n (Undo now) = (s : UndoState) → UndoStands s before

@@ -36,10 +36,10 @@ pub struct HostDesk {
 }
 
 impl HostDesk {
-    /// Opens a desk over a show's text: a plain one, or where a depth is given one that keeps the last so many shows that edits and
+    /// Opens a desk over a show's text: a plain one, or where a depth is given one that keeps the last n shows that edits and
     /// records replace.
     ///
-    /// The fault is that of the text, or that it is too long, or that memory is wanting.
+    /// The fault is that of the text, or that it is too long, or that memory runs out.
     pub fn open(
         alloc: Global,
         text: &[u8],
@@ -60,7 +60,7 @@ impl HostDesk {
     /// Does one line of a script, and keeps its reply in the place of the last. It answers false exactly for `quit`. A line that is too
     /// long is bad.
     ///
-    /// A fault comes only where memory was wanting for the reply: the line was done, and of its reply a front is kept.
+    /// A fault comes only where memory ran out for the reply: the line was done, and of its reply a front is kept.
     pub fn command(&mut self, line: &[u8]) -> Result<bool, SinkFault>
         ensures answered { Answered self.old.engine self.new.engine line.now result self.new.reply.bytes.items }
         ensures taken { self.new.taken ≡ self.old.taken }
@@ -75,7 +75,7 @@ impl HostDesk {
         self.reply.bytes.as_slice()
     }
 
-    /// Lets so many ticks go by, and says how many were accepted: all of them, unless the moment comes to its end.
+    /// Lets this many ticks go by, and says how many were accepted: all of them, unless the moment comes to its end.
     pub fn tick(&mut self, n: u32) -> u32
         ensures most { result ≤ n }
         ensures ticks { Ticked self.old.engine result self.new.engine }

@@ -33,7 +33,7 @@ pub enum Engine {
 }
 
 impl Engine {
-    /// A desk over the show, as at the opening: a plain one, or where a depth is given one that keeps so many shows.
+    /// A desk over the show, as at the opening: a plain one, or where a depth is given one that keeps this many shows.
     pub(crate) fn open(alloc: Global, show: Show, depth: Option<u32>) -> Result<Engine, AllocError>
         ensures { IfOk result (OpenedAs depth show) }
     {
@@ -55,7 +55,7 @@ impl Engine {
 
     /// Does one line of a script, and keeps its reply, in the place of the last. It answers false exactly for `quit`.
     ///
-    /// A fault comes only where memory was wanting for the reply: the line was done, and of its reply a front is kept.
+    /// A fault comes only where memory ran out for the reply: the line was done, and of its reply a front is kept.
     pub(crate) fn answer(&mut self, line: &[u8], reply: &mut ReplyText) -> Result<bool, SinkFault>
         ensures { Answered self.old self.new line.now result reply.new.bytes.items }
     {
@@ -68,7 +68,7 @@ impl Engine {
 }
 
 impl Engine {
-    /// Lets so many ticks go by, and says how many were accepted: all of them, unless the moment comes to its end.
+    /// Lets this many ticks go by, and says how many were accepted: all of them, unless the moment comes to its end.
     pub(crate) fn tick(&mut self, n: u32) -> u32
         ensures most { result ≤ n }
         ensures ticks { Ticked self.old result self.new }

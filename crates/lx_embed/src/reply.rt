@@ -7,11 +7,11 @@ ghost use Rattle.lx_io.specs.Puts.{HasSinkCause};
 use lx_io::{Sink, SinkFault};
 use std::alloc::Global;
 
-/// The reply to a line. Its room is used again for the next, so that few lines take memory. A write fails only for want of memory.
+/// The reply to a line. Its room is used again for the next, so that few lines take memory. A write fails only for lack of memory.
 #[derive(Drop)]
 pub struct ReplyText {
     pub bytes: Vec<u8>,
-    /// How many writes wanted memory in vain.
+    /// How many writes ran out of memory.
     pub wants: u64,
 }
 

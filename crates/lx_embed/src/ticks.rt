@@ -13,7 +13,7 @@ use lx_console::Console;
 use lx_spec::Command;
 use lx_undo::UndoDesk;
 
-/// Lets so many ticks go by, and says how many were accepted: all of them, unless the moment comes to its end.
+/// Lets this many ticks go by, and says how many were accepted: all of them, unless the moment comes to its end.
 pub(crate) fn tick_plain(console: &mut Console, n: u32) -> u32
     ensures most { result ≤ n }
     ensures ticks { (d : Desk) → StandsFor d console.old → IsOkAnd (after_ticks result d) (λ next. StandsFor next console.new) }

@@ -9,7 +9,7 @@ ghost use Rattle.lx_fade.specs.Row.{stack_column, no_fade, stack_in};
 use crate::fade::{Fade, value_at};
 use lx_base::{Cs, Level, Moment};
 
-/// Where a stack stands in a row: so many fades, the oldest at the place `first` and each `step` places behind the one
+/// Where a stack stands in a row: this many fades, the oldest at the place `first` and each `step` places behind the one
 /// before.
 #[derive(Clone, Copy)]
 pub struct Column {
@@ -131,7 +131,7 @@ fn begun_in(row: &[Fade], at: Column, m: Moment) -> usize
     kept
 }
 
-/// The level of the newest of so many of the oldest fades, which has begun, or `bottom` where there is none.
+/// The level of the newest of this many of the oldest fades, which has begun, or `bottom` where there is none.
 #[inline(always)]
 fn newest_at(row: &[Fade], at: Column, kept: usize, bottom: Level, m: Moment) -> Level
     requires within { at.first < at.step }

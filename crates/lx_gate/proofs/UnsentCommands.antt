@@ -25,7 +25,7 @@ entered_whole g unsent h =
     ∙ (ap (drop (length b)) (sym tail) ∙ drop_append b r) in
     ap (λ w. g.entered ++ w) rest ∙ h.rest.1
 
--- so many of the unsent commands the history has
+-- this many of the unsent commands the history has
 pub entered_known : (g : Published) (unsent : List Command) → IsEntered g unsent → length g.entered - length g.published ≤ length unsent
 entered_known g unsent h = let e = prefix_length g.entered (g.published ++ unsent) h.rest in let f =
     length-append g.published unsent in omega arith

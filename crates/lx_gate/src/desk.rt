@@ -9,7 +9,7 @@ use std::alloc::AllocError;
 use std::sync::Wait;
 
 impl<G: Origin> Gate<G, GateWriter<G>> {
-    /// Publishes all unsent commands, with the frames and the moment of the console that obeyed them. An error is want of memory.
+    /// Publishes all unsent commands, with the frames and the moment of the console that obeyed them. An error means out of memory.
     pub fn publish_desk<R: Wait>(
         &mut self,
         rt: &R,

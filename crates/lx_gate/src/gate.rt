@@ -48,7 +48,7 @@ impl<G: Origin, W: Window> Model for Gate<G, W> {
 }
 
 impl<G: Origin> Gate<G, GateWriter<G>> {
-    /// Publishes all unsent commands at one step. An error is want of memory; then taps see what they saw, and the commands
+    /// Publishes all unsent commands at one step. An error means out of memory; then taps see what they saw, and the commands
     /// go out with a later publish. It may wait for taps.
     pub fn publish<R: Wait>(
         &mut self,

@@ -14,7 +14,7 @@ use std::alloc::{AllocError, Global};
 
 impl<G: Origin> Gate<G, GateWriter<G>> {
     /// A gate over a show that has published nothing, and a tap for each universe, at place u - 1 that of universe u, which has
-    /// taken and learnt nothing. An error is want of memory.
+    /// taken and learnt nothing. An error means out of memory.
     pub fn open(
         alloc: Global,
         show: &Show,

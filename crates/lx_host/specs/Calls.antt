@@ -70,7 +70,7 @@ Did status (Some before) line (Some now) room count = DidLine status before now 
 Did status (Some before) line None room count = ⊥
 Did status None line held room count = ⊥
 
--- the front of the room has as much of the bytes from a place on as there is and fits: so many of them
+-- the front of the room has as much of the bytes from a place on as there is and fits: this many of them
 pub record HasPart (bytes : List ℕ) (from : ℕ) (room : List ℕ) (count : ℕ) : Type 0 where
   pub is : count ≡ min (length bytes - from) (length room)
   pub front : take count room ≡ take count (drop from bytes)
@@ -79,7 +79,7 @@ pub record HasPart (bytes : List ℕ) (from : ℕ) (room : List ℕ) (count : �
 abbrev pub IsOver : Option HostDesk → Type 0
 IsOver held = IfSome held (λ host. (d : Desk) → StandsFor d (console_of host.engine) → IsErr (step d commands.Tick))
 
--- so many ticks were accepted by every desk for which the engine stood, and all the rest is as it was
+-- this many ticks were accepted by every desk for which the engine stood, and all the rest is as it was
 pub record HasTicked (before : HostDesk) (n : ℕ) (now : HostDesk) : Type 0 where
   pub ticks : Ticked before.engine n now.engine
   pub reply : now.reply ≡ before.reply

@@ -6,7 +6,7 @@ pub const OK: u32 = 0;
 pub const CLOSED: u32 = 1;
 /// The desk is open already.
 pub const OPEN: u32 = 2;
-/// Memory was wanted in vain.
+/// Out of memory.
 pub const MEMORY: u32 = 3;
 /// The text of the show has a fault.
 pub const SHOW_REFUSED: u32 = 4;

@@ -20,7 +20,7 @@ pub record FailingBytes : Type 0 where
   pub faults : ℕ
   pub given : ℕ
 
--- the bytes that were appended, and how many writes wanted memory in vain
+-- the bytes that were appended, and how many writes ran out of memory
 pub record PlainStore : Type 0 where
   pub bytes : List ℕ
   pub wants : ℕ
@@ -48,7 +48,7 @@ after_write store piece (Ok n) = record store { bytes = store.bytes ++ piece; ca
 after_write store piece (Err Failed) = record store { calls = one_more store.calls; faults = one_more store.faults }
 after_write store piece (Err Memory) = record store { calls = one_more store.calls; wants = one_more store.wants }
 
--- the write failed, and it was not for want of memory
+-- the write failed, and it was not for lack of memory
 abbrev pub HasFailed : {T : Type 0} → Result T SinkFault → Type 0
 HasFailed (Ok x) = ⊥
 HasFailed (Err Failed) = ⊤

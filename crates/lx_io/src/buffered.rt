@@ -96,7 +96,7 @@ impl<K: Sink> BufferedSink<K> {
         Ok(())
     }
 
-    /// Sees to room for so many bytes, and says whether there is. Where there is none nothing is kept any more.
+    /// Sees to room for this many bytes, and says whether there is. Where there is none nothing is kept any more.
     #[inline(always)]
     fn ensure_room(&mut self, count: usize) -> Result<bool, SinkFault>
         ensures holds { Keeps (with_kept (K.holds self.old.sink) (kept_back self.old))

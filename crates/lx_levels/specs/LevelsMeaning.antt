@@ -31,7 +31,7 @@ pub record IsElsewhere (place : ℕ) (before after : KeptLevels) : Type 0 where
   pub reach : length after.stacks ≡ length before.stacks
   pub others : (k : ℕ) → k ≢ place → kept_stack after k ≡ kept_stack before k
 
--- so many channels stand for the playback already, the others for it as it was before its last run
+-- this many channels stand for the playback already, the others for it as it was before its last run
 pub record IsAdded (show : Show) (p : Playback) (older : List Run) (n : ℕ) (kept : KeptLevels) : Type 0 where
   pub moment : kept.moment ≡ p.moment
   pub reach : length kept.stacks ≡ show.channels

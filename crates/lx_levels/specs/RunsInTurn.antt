@@ -33,7 +33,7 @@ pub record IsValid (a : Act) : Type 0 where
 abbrev pub EachAct : (Act → Type 0) → List Run → ℕ → List (Option Act) → Type 0
 EachAct P live first known = (i : ℕ) → first ≤ i → i < length live → IfSome (slice_index_or known i None) P
 
--- So many of the oldest runs leave the channel at a level since a moment, by which none of the others that act has started; what those do
+-- This many of the oldest runs leave the channel at a level since a moment, by which none of the others that act has started; what those do
 -- is known. All have started by a moment.
 pub record IsGround (show : Show) (base : ℕ) (live : List Run) (c from first bottom since : ℕ) (known : List (Option Act)) : Type 0 where
   pub stays : (m : ℕ) → since ≤ m → level show base (reverse (take first live)) c m ≡ bottom

@@ -48,7 +48,7 @@ pub struct Levels {
     due: Moment,
     /// Where the cue of each live run, and a channel's move in it, was found last.
     hints: Vec<Hint>,
-    /// What each live run does to the channel that is being made anew.
+    /// What each live run does to the channel that is being made again.
     acts: Vec<Option<Act>>,
 }
 
@@ -65,7 +65,7 @@ impl Model for Levels {
 }
 
 impl Levels {
-    /// Each channel of the show at level 0, at moment 0. An error comes where memory is wanting.
+    /// Each channel of the show at level 0, at moment 0. An error comes where memory runs out.
     pub fn open(alloc: Global, show: &Show) -> Result<Levels, AllocError>
         ensures moment { IfOk result (λ levels. levels.moment ≡ 0) }
         ensures reach { IfOk result (λ levels. length levels.stacks ≡ show.now.channels) }
@@ -161,7 +161,7 @@ impl Levels {
         step.changed
     }
 
-    /// The level and the fades of one channel are made anew from the live runs; every other channel is
+    /// The level and the fades of one channel are made again from the live runs; every other channel is
     /// left as it was.
     pub fn recompute(&mut self, show: &Show, sheet: &Sheet, playback: &Playback, chan: Chan)
         requires rows { RowsStandFor show.now sheet.now }

@@ -51,7 +51,7 @@ const NO_FADE: Fade = Fade {
 };
 
 impl Racks {
-    /// No fade on any of so many channels, over level 0.
+    /// No fade on any of this many channels, over level 0.
     pub(crate) fn open(alloc: Global, channels: usize) -> Result<Racks, AllocError>
         requires { channels ≤ CHANNELS }
         ensures reach { IfOk result (λ racks. length racks ≡ channels) }
@@ -77,7 +77,7 @@ impl Racks {
         self.counts[k] = 0;
     }
 
-    /// The fade on so many of the channel's oldest ones, which are kept.
+    /// The fade on this many of the channel's oldest ones, which are kept.
     pub(crate) fn put(&mut self, k: usize, kept: usize, fade: Fade)
         requires within { k < length self.old }
         requires kept { kept ≤ length (slice_index_or self.old k no_stack).fades }
@@ -136,7 +136,7 @@ impl Racks {
     }
 }
 
-/// The fade of so many in a column that gives the level from the moment on, until a later one begins.
+/// The fade of this many in a column that gives the level from the moment on, until a later one begins.
 fn governing_in(
     block: &[Fade],
     channels: usize,
@@ -165,7 +165,7 @@ fn governing_in(
     Current::still(bottom, wake)
 }
 
-/// Writes the fade into a column on so many that are there. The block grows by a plane where it is too short.
+/// Writes the fade into a column on this many that are there. The block grows by a plane where it is too short.
 fn write(block: &mut Vec<Fade>, channels: usize, k: usize, kept: usize, fade: Fade)
     requires few { channels ≤ CHANNELS }
     requires within { k < channels }

@@ -94,7 +94,7 @@ pub(crate) fn ground_of(
     }
 }
 
-/// Makes the stack at a place anew: the fades of the runs that are left, over what the oldest ones leave, by what each of
+/// Makes the stack at a place again: the fades of the runs that are left, over what the oldest ones leave, by what each of
 /// them does.
 pub(crate) fn replay(
     stacks: &mut Racks,

@@ -7,7 +7,7 @@ use std::simd::prelude::*;
 /// How many bytes are looked at at once.
 const LANES: usize = 32;
 
-/// Where the first LF from `start` up to `end` stands, or `end` where none does. So many bytes are looked at at once, also those behind
+/// Where the first LF from `start` up to `end` stands, or `end` where none does. This many bytes are looked at at once, also those behind
 /// `end`, if there are any.
 #[inline(always)]
 pub(crate) fn next_lf(bytes: &[u8], start: usize, end: usize) -> usize

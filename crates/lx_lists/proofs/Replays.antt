@@ -71,7 +71,7 @@ all_accepted (d ∷ ds) s before stands are =
     (one_accepted d.call d.answer s before d.after stands (takes_step d.call d.answer s before d.after stands are.0.answered)
     are.0.unchanged) are.1)
 
--- all calls, where no memory was wanting
+-- all calls, where no memory ran out
 all_done : (done : List Done) (s : TwoDesks) (before : TwoKept) → TwoStand s before → AreDone before done
     → AllByRecursion (λ d. d.answer ≢ Err Memory) done
     → TwoStand (fold after_call s (map (λ d. d.call) done)) (kept_after before done)

@@ -32,13 +32,13 @@ pub record Steps {A : Type 0} (step : Result TwoDesks Refusal) (answer : Result 
   pub ok : OnOk answer (IsOkAnd step (λ next. TwoStand next t))
   pub err : IfErr answer (λ refusal. step ≡ Err refusal)
 
--- memory was wanting at a step that takes some, and isn't refused
+-- memory ran out at a step that takes some, and isn't refused
 pub record TwoWantMemory (takes : Bool) (step : Result TwoDesks Refusal) (refusal : Refusal) : Type 0 where
   pub takes_some : takes ≡ true
   pub memory : refusal ≡ Memory
   pub accepted : IsOk step
 
--- As `Steps`, but that want of memory may refuse a step that takes some.
+-- As `Steps`, but that lack of memory may refuse a step that takes some.
 pub record TakesStep {A : Type 0} (takes : Bool) (step : Result TwoDesks Refusal) (answer : Result A Refusal) (t : TwoKept) : Type 0 where
   pub ok : OnOk answer (IsOkAnd step (λ next. TwoStand next t))
   pub err : IfErr answer (λ refusal. (step ≡ Err refusal) ⊎ TwoWantMemory takes step refusal)

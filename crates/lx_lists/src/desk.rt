@@ -44,7 +44,7 @@ impl Model for TwoLists {
 
 impl TwoLists {
     /// Both lists as at the opening: the cues of the show are in one of them, and all else of the show is in both. It
-    /// takes the memory that keys and ticks need; where that is wanting the show is lost.
+    /// takes the memory that keys and ticks need; where it runs out the show is lost.
     pub fn open(alloc: Global, show: Show) -> Result<TwoLists, AllocError>
         ensures { IfOk result (TwoStand (opened_two show)) }
     {
@@ -90,7 +90,7 @@ impl TwoLists {
 impl TwoLists {
     /// A command of the first list that is no tick: the other list stays as it was.
     ///
-    /// Refused as by a desk; an edit with `Memory` only where memory is wanting and nothing else refuses it. A refusal
+    /// Refused as by a desk; an edit with `Memory` only where memory runs out and nothing else refuses it. A refusal
     /// changes nothing.
     pub fn first(&mut self, command: &Command) -> Result<(), Refusal>
         requires valid { ValidCommand command.now }
@@ -108,7 +108,7 @@ impl TwoLists {
     /// A command of the second list: a key of the playback, or an edit, but for those of submasters and the patch. The
     /// other list stays as it was.
     ///
-    /// Refused as by a desk; an edit with `Memory` only where memory is wanting and nothing else refuses it. A refusal
+    /// Refused as by a desk; an edit with `Memory` only where memory runs out and nothing else refuses it. A refusal
     /// changes nothing.
     pub fn second(&mut self, command: &Command) -> Result<(), Refusal>
         requires valid { ValidCommand command.now }

@@ -20,7 +20,7 @@ pub(crate) struct Output {
 }
 
 impl Output {
-    /// An output for the show, whose patch alone is filled in yet. An error comes where memory is wanting.
+    /// An output for the show, whose patch alone is filled in yet. An error comes where memory runs out.
     pub(crate) fn open(alloc: Global, show: &Show) -> Result<Output, AllocError>
         ensures room { IfOk result (HasRoomForFrames show.now) }
         ensures patch { IfOk result (λ output. StandsForPatch show.now.patch output.kept.table) }

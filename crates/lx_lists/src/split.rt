@@ -9,7 +9,7 @@ use lx_base::{CueNo, SECOND_LIST};
 use lx_show::Show;
 use std::alloc::AllocError;
 
-/// A copy of the show with the cues of the second list. An error comes where memory is wanting.
+/// A copy of the show with the cues of the second list. An error comes where memory runs out.
 pub(crate) fn second_of(show: &Show) -> Result<Show, AllocError>
     ensures { IfOk result (λ second. second ≡ second_show show.now) }
 {

@@ -8,7 +8,7 @@ ghost use Rattle.lx_mixer.specs.Mix.{IsMixed, HasWords};
 use lx_base::{LANES, Level, scale};
 use std::simd::prelude::*;
 
-/// So many channels are mixed in one turn of the loop.
+/// This many channels are mixed in one turn of the loop.
 const STRETCH: usize = 4 * LANES;
 
 /// Highest takes precedence (HTP): each channel's output is the greater of the level that the

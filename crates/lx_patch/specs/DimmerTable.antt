@@ -30,7 +30,7 @@ pub record StandsForPatch (rows : List PatchRow) (table : DimmerTable) : Type 0 
   pub places : IsTable SLOTS (place_of rows) table.places
   pub levels : IsTable SLOTS (proportion_of rows) table.levels
 
--- so many outputs have one for each dimmer, or else for each that is patched
+-- this many outputs have one for each dimmer, or else for each that is patched
 abbrev pub ReachTable : ℕ → DimmerTable → Type 0
 ReachTable n table =
     (k : ℕ) → k < SLOTS → (slice_index table.places k < n) ⊎ ((slice_index table.places k ≡ 0) × (slice_index table.levels k ≡ 0))

@@ -21,7 +21,7 @@ pub(crate) struct Followers {
 }
 
 impl Followers {
-    /// Chains without a dimmer. An error comes where memory is wanting.
+    /// Chains without a dimmer. An error comes where memory runs out.
     pub(crate) fn open(alloc: Global) -> Result<Followers, AllocError>
         ensures first { IfOk result (λ followers. length followers.first.items ≡ CHANNELS) }
         ensures next { IfOk result (λ followers. length followers.next.items ≡ SLOTS) }

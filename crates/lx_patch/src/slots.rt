@@ -17,7 +17,7 @@ const STEPS: [u16; LANES] = [
 /// The last place from which 32 can follow one another as numbers of 16 bits.
 const LAST_START: u16 = u16::MAX - 31;
 
-/// Fills in each of so many slots: the output at its place, in proportion to its level.
+/// Fills in each of this many slots: the output at its place, in proportion to its level.
 pub(crate) fn fill(
     places: &[u16],
     levels: &[Level],

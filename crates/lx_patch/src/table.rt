@@ -18,7 +18,7 @@ use std::alloc::{AllocError, Global};
 use std::marker::Model;
 use std::simd::prelude::*;
 
-/// So many dimmers are filled by lanes in the time in which those of one channel are found.
+/// This many dimmers are filled by lanes in the time in which those of one channel are found.
 const LANES_A_CHANGE: usize = 16;
 
 /// The patch by dimmer. It stands for patch rows, as a show has them: for each dimmer it has the row's
@@ -42,8 +42,8 @@ impl Model for PatchTable {
 }
 
 impl PatchTable {
-    /// A table of the show's patch. It takes all the memory that it needs; an error comes where that is
-    /// wanting.
+    /// A table of the show's patch. It takes all the memory that it needs; an error comes where it runs
+    /// out.
     pub fn open(alloc: Global, show: &Show) -> Result<PatchTable, AllocError>
         ensures { IfOk result (StandsForPatch show.now.patch) }
     {
@@ -54,7 +54,7 @@ impl PatchTable {
         Ok(PatchTable { wiring, followers })
     }
 
-    /// Takes up the show's patch anew.
+    /// Takes up the show's patch again.
     pub fn refresh(&mut self, show: &Show)
         ensures { StandsForPatch show.now.patch self.new }
     {

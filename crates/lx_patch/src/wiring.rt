@@ -31,7 +31,7 @@ impl Model for Wiring {
 }
 
 impl Wiring {
-    /// No dimmer follows a channel. An error comes where memory is wanting.
+    /// No dimmer follows a channel. An error comes where memory runs out.
     pub(crate) fn open(alloc: Global) -> Result<Wiring, AllocError> {
         Ok(Wiring {
             places: vec![in alloc; 0; SLOTS]?,
@@ -56,7 +56,7 @@ impl Wiring {
         self.levels.as_slice()
     }
 
-    /// Takes up the show's patch anew.
+    /// Takes up the show's patch again.
     pub(crate) fn refresh(&mut self, show: &Show)
         ensures { StandsForPatch show.now.patch self.new }
     {

@@ -69,7 +69,7 @@ still_tick show p before still =
     let more : (p.moment == TICK_END) ≡ false = grind (arith, nat_tests) in
     ap (λ b. cond b (Err (TickLimit TICK_END)) (Ok (ticked show p))) more ∙ ap Ok (still_ticked show p still)
 
--- so many ticks, up to a moment until which nothing is due
+-- this many ticks, up to a moment until which nothing is due
 pub ticks_pass : (p : Playback) (ticks until : ℕ) → until ≤ TICK_END → ((m : ℕ) → p.moment < m → m ≤ until → IsStillAt p m)
     → ticks * TICK_STEP ≤ until - p.moment → TicksPass p ticks
 ticks_pass p ticks until end still within = λ show n fewer.

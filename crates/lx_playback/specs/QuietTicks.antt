@@ -4,11 +4,11 @@ use Rattle.lx_base.specs.declared.TheConstants.{TICK_STEP}
 use Rattle.lx_spec.specs.Show.{Show}
 use Rattle.lx_spec.specs.Playback.{Playback, no_run, is_due, is_over, tick}
 
--- the playback so many ticks later, if nothing but the moment changes
+-- the playback this many ticks later, if nothing but the moment changes
 abbrev pub moments_later : Playback → ℕ → Playback
 moments_later p ticks = record p { moment = p.moment + ticks * TICK_STEP }
 
--- each of so many ticks is accepted, and changes nothing but the moment
+-- each of this many ticks is accepted, and changes nothing but the moment
 abbrev pub TicksPass : Playback → ℕ → Type 0
 TicksPass p ticks = (show : Show) (n : ℕ) → n < ticks → tick show (moments_later p n) ≡ Ok (no_run (moments_later p (n + 1)))
 

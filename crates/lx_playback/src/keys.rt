@@ -106,7 +106,7 @@ impl Playback {
         }
     }
 
-    /// Starts a run back to the cue. It stands apart, so that a refused key doesn't pay for the room of a run.
+    /// Starts a run back to the cue. It is a function of its own, so that a refused key doesn't pay for the room of a run.
     #[inline(never)]
     fn start_back(&mut self, n: CueNo) -> Run
         requires { length self.old.live < RUNS }

@@ -172,7 +172,7 @@ impl Playback {
     }
 
     /// Lets ticks pass that change nothing but the moment: no follow is due at them, and the playback doesn't
-    /// come to rest. It answers how many there were, at most so many; at rest all up to the last moment.
+    /// come to rest. It answers how many there were, at most this many; at rest all up to the last moment.
     pub fn pass(&mut self, most: u32) -> u32
         ensures most { result ≤ most }
         ensures state { self.new ≡ moments_later self.old result }

@@ -93,7 +93,7 @@ pub fn desk_live<
 ) -> Status
     requires all { length outlets.old ≡ UNIVERSES }
     requires full { IsFull outlets.old }
-    // Usage exactly where the words name no live run, unless memory was wanted in vain, and then nothing is read or written.
+    // Usage exactly where the words name no live run, unless memory ran out, and then nothing is read or written.
     // The outlets past the universes are never touched.
     ensures outlets { KeepsOutlets K.holds K.back K.faults K.wants (job_of (map string_bytes words.now)) result input.old input.new output.old
         output.new outlets.old outlets.new }
@@ -142,7 +142,7 @@ pub fn desk_crew<R: Threads + Wait + Sync, I: Source, S: Source + Send + Drop, K
 ) -> Status
     requires all { length operators.old ≡ OPERATORS }
     requires full { EachAt (λ place source. IsSome source) operators.old }
-    // Usage exactly where the words name no crew, unless memory was wanted in vain, and then nothing is read or written. Each
+    // Usage exactly where the words name no crew, unless memory ran out, and then nothing is read or written. Each
     // place has a source again, and those past the operators in use are as they were.
     ensures words { KeepsOperators (job_of (map string_bytes words.now)) result input.old input.new output.old output.new operators.old
         operators.new }

@@ -19,7 +19,7 @@ const LINE_ROOM: usize = 8_192;
 /// A place for each universe.
 pub const OUTLETS: usize = UNIVERSES as usize;
 
-/// The file `universe-U.txt` in the current folder. It is made anew at its first write, so that a named pipe of that name is
+/// The file `universe-U.txt` in the current folder. It is made again at its first write, so that a named pipe of that name is
 /// opened then; and each line, which a worker flushes, is handed on by one write.
 #[derive(Drop)]
 pub struct UniverseFile<'r, R> {

@@ -26,7 +26,7 @@ const WORD: &str = "word";
 pub enum WordsFault {
     /// The words aren't one of the forms.
     Usage,
-    /// Memory was wanted in vain.
+    /// Out of memory.
     Memory,
 }
 
@@ -42,7 +42,7 @@ pub fn words_of(alloc: Global, words: &[String]) -> Result<Job, WordsFault>
     if has_dash(words) {
         return Err(WordsFault::Usage);
     }
-    // Every other list is taken, so that nothing but memory can be wanting.
+    // Every other list is taken, so that nothing but memory can run out.
     let Ok(matches) = matches_of(alloc, words) else {
         return Err(WordsFault::Memory);
     };
@@ -100,7 +100,7 @@ fn begins_with_dash(word: &str) -> bool
     matches!(word.as_bytes(), [b'-', ..])
 }
 
-/// The words as the values of one argument. Want of memory is the one error.
+/// The words as the values of one argument. Lack of memory is the one error.
 fn matches_of<'a>(alloc: Global, words: &'a [String]) -> Result<ArgMatches<'a>, Error>
     requires { list_any begins_with_dash (map string_bytes words.now) ≡ false }
     ensures values { IfOk result (λ matches. values_of matches ≡ map string_bytes words.now) }

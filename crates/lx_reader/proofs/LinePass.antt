@@ -154,7 +154,7 @@ passage_loaded left rises old l l' form r q (Ok loaded) done first passage turn 
 passage_loaded left rises old l l' form r q (Err fault) done first passage turn ended is =
     subst (λ f. AnswerOf left rises old l' form (Err f)) (sym is) tt
 
--- want of memory is no failed read
+-- lack of memory is no failed read
 pub loaded_read : {P : Type 0} (form : Form) (q : Reader) (result : Result Loaded ShowFault) → IsLoaded form q result
     → result ≡ Err faults.ReadFault → P
 loaded_read form q (Ok loaded) is read = cc

@@ -69,7 +69,7 @@ TurnOf left rises old new r q (Err fault) =
     (StepOf steps.InputTooLong (unread left old) (unread left new) old.taken new.taken (current_line new))
     (NotTaken left old new) fault
 
--- what was read, by its form; only memory may be wanting
+-- what was read, by its form; only memory may run out
 pub record HasLoaded (form : Form) (r : Reader) (loaded : Loaded) : Type 0 where
   pub reading : reading_of loaded ≡ final_reading form (state_of r)
   pub least : IfSome r.channels_set (λ n. 1 ≤ n)

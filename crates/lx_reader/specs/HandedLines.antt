@@ -29,7 +29,7 @@ pub record MeansShow {S : Type 0} (left : S → Option (List ℕ)) (faults : S �
   pub script : IfSome (unread left old) (λ bytes. IfSome (unread left new) (λ rest. script_of bytes ≡ lines_of rest))
 
 -- These lines were handed out, and the last of them has the fault, or nothing is left after them. Where the source tells its bytes,
--- it is the fault of its text, of which so many lines are wanted.
+-- it is the fault of its text, of which this many lines are wanted.
 pub record MeansFault {S : Type 0} (left : S → Option (List ℕ)) (old : Lines S) (form : Form) (fault : TextFault) : Type 0 where
   pub raws : List (List ℕ)
   pub unread_then : Option (List ℕ)

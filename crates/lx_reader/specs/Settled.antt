@@ -1,4 +1,4 @@
--- A reader whose open record stands apart.
+-- A reader whose open record is kept apart.
 use Rattle.std.specs.Prelude.{◌≡◌, ◌||◌, ℕ, Bool, true, false, List, [], length, nat_lt, IsTrue}
 use Rattle.std.specs.List.{AllByRecursion}
 use Rattle.lx_base.specs.declared.TheConstants.{CUES, GROUPS, SUBS}

@@ -161,7 +161,7 @@ fn level_of(token: &[u8]) -> Option<Level>
     }
 }
 
-/// The level of so many percent; none above 100.
+/// The level of this many percent; none above 100.
 #[inline(always)]
 fn plain_level(percent: u32) -> Option<Level>
     ensures { IfSome result (λ level. (percent ≤ 100) × (level ≡ percent_level percent)) }

@@ -1,4 +1,4 @@
-//! The record that is open: a cue, group or submaster of which the lines say more. It stands apart from the show, and is put into it once.
+//! The record that is open: a cue, group or submaster of which the lines say more. It is kept apart from the show, and is put into it once.
 
 ghost use Rattle.std.specs.Prelude.{◌≡◌, ◌≢◌, ◌||◌, length, nat_lt, IsTrue, OnOk};
 ghost use Rattle.lx_base.specs.declared.TheConstants.{CUES, GROUPS, SUBS};

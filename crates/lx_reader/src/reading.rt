@@ -1,4 +1,4 @@
-//! A pass over the lines of a show text. The record that is open stands apart from the show, and its levels apart from it, by channel, until
+//! A pass over the lines of a show text. The record that is open is kept apart from the show, and its levels apart from it, by channel, until
 //! the next record begins.
 
 ghost use Rattle.std.specs.Prelude.{◌≡◌, ◌≤◌, ◌∷◌, ◌&&◌, None, [], false, true, codes, length, OnOk, IfSome};

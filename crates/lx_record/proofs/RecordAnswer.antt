@@ -65,7 +65,7 @@ above_stands levels show n only None is = tt
 above_stands levels show n true (Some kept) is = kept_stands levels show n kept (cue_above show n) refl is
 above_stands levels show n false (Some kept) is = cc
 
--- memory was wanting
+-- memory ran out
 pub wants_memory : (meant : Result Show Refusal) (show : Show) (refusal : Refusal) → meant ≡ Ok show → refusal ≡ Memory
     → IsRefused meant refusal
 wants_memory meant show refusal is memory =

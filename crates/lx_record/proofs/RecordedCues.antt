@@ -136,7 +136,7 @@ level_recorded levels show n c sorted range =
 
 -- ---- the record, as a change of one cue
 
--- a cue that is made anew changes nothing that tracks at its number
+-- a cue that is made again changes nothing that tracks at its number
 tracked_made : (show : Show) (n c : ℕ) → IsStrictlySorted (λ x. x.number) show.cues → cue_of show n ≡ None
     → tracked (with_cue show (new_cue n)) n c ≡ tracked show n c
 tracked_made show n c sorted none = tracked_with show n c (new_cue n) sorted refl ∙ sym (through_cue show n c None sorted none)

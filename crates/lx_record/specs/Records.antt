@@ -6,7 +6,7 @@ use Rattle.lx_spec.specs.Show.{Show}
 use Rattle.lx_edit.specs.declared.plans.Plan.{Plan}
 use Rattle.lx_edit.specs.PlanMeaning.{planned}
 
--- a refusal is the definition's own, or memory was wanting where it refuses nothing
+-- a refusal is the definition's own, or memory ran out where it refuses nothing
 abbrev pub IsRefused : Result Show Refusal → Refusal → Type 0
 IsRefused meant refusal = (meant ≡ Err refusal) ⊎ ((refusal ≡ Memory) × IsOk meant)
 

@@ -15,7 +15,7 @@ use lx_show::{Cue, Move};
 use std::alloc::AllocError;
 
 /// Where the record is of one cue alone, the cue above the number with the moves that keep its levels; none where
-/// no cue is above it. An error comes where memory is wanting.
+/// no cue is above it. An error comes where memory runs out.
 pub(crate) fn kept_above(console: &Console, n: CueNo, only: bool) -> Result<Option<Cue>, AllocError>
     ensures above { IfOk result (λ above. above ≡ (if only then option_map (kept_cue (level_now console.now) console.now.show)
         (cue_above console.now.show n) else None)) }
@@ -31,7 +31,7 @@ pub(crate) fn kept_above(console: &Console, n: CueNo, only: bool) -> Result<Opti
 }
 
 /// The cue above, with the moves that keep its levels where the stage's now track into it. An error comes where
-/// memory is wanting.
+/// memory runs out.
 fn keeping(console: &Console, above: &Cue) -> Result<Cue, AllocError>
     requires { ValidCue console.now.show.channels above.now }
     ensures kept { IfOk result (λ kept. kept ≡ kept_cue (level_now console.now) console.now.show above.now) }

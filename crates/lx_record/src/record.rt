@@ -21,7 +21,7 @@ use lx_show::{Cue, Refusal, Show};
 /// keeps the levels that it had.
 ///
 /// The console stays as it is. Refused with `CueLimit` exactly where the cue is absent and the show has as many cues
-/// as it may have; with `Memory` only where memory is wanting and the record isn't refused.
+/// as it may have; with `Memory` only where memory runs out and the record isn't refused.
 pub fn recorded(console: &Console, n: CueNo, only: bool) -> Result<Show, Refusal>
     requires { n ≢ 0 }
     ensures { (d : Desk) → StandsFor d console.now → Records (recorded d n only) result }

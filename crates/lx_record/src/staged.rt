@@ -15,7 +15,7 @@ use lx_show::{Cue, Member};
 use std::alloc::AllocError;
 
 /// The cue of the number, or a new one, in which each channel whose level on stage isn't the tracked one moves
-/// to it, in the part of the move that it had, or in part 1. An error comes where memory is wanting.
+/// to it, in the part of the move that it had, or in part 1. An error comes where memory runs out.
 pub(crate) fn staged(console: &Console, n: CueNo) -> Result<Cue, AllocError>
     requires { n ≢ 0 }
     ensures cue { IfOk result (λ cue. cue
@@ -35,7 +35,7 @@ pub(crate) fn staged(console: &Console, n: CueNo) -> Result<Cue, AllocError>
 }
 
 /// The channels whose level on stage isn't the tracked one at the number, with their levels. An error comes
-/// where memory is wanting.
+/// where memory runs out.
 fn untracked(console: &Console, n: CueNo) -> Result<Vec<Member>, AllocError>
     ensures { IfOk result (λ members. members.items ≡ untracked (level_now console.now) console.now.show n) }
 {
@@ -48,7 +48,7 @@ fn untracked(console: &Console, n: CueNo) -> Result<Vec<Member>, AllocError>
 }
 
 /// Adds the channel with its level on stage, unless that is the tracked one at the number. An error comes where
-/// memory is wanting.
+/// memory runs out.
 fn add_untracked(
     members: &mut Vec<Member>,
     console: &Console,

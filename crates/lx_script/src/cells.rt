@@ -175,7 +175,7 @@ fn count_of(width: usize, level: Level) -> usize
     COUNTS[width - 2][level as usize] as usize
 }
 
-/// Writes a space and a number at a place, and says where they end. They are of so many bytes.
+/// Writes a space and a number at a place, and says where they end. They are of this many bytes.
 #[inline(always)]
 fn write_number(number: u64, width: usize, text: &mut [u8; TEXT_ROOM], at: usize) -> usize
     requires near { number ≤ NEAR }

@@ -43,7 +43,7 @@ fn lone_word(line: &[u8]) -> Option<Line<'_>>
     }
 }
 
-/// What a line of any length means. It stands apart, so that a lone word doesn't pay for the room of its tokens.
+/// What a line of any length means. It is a function of its own, so that a lone word doesn't pay for the room of its tokens.
 #[inline(never)]
 #[tactic(auto, using(crate::proofs::FirstWords::meaning_is))]
 fn any_line(line: &[u8]) -> Option<Line<'_>>

@@ -37,7 +37,7 @@ pub fn put_reply<K: Sink>(reply: &Reply, sink: &mut K) -> Result<(), SinkFault>
 }
 
 /// Appends the line of a refusal: as one piece where a cue number ends it, and else in as few pieces as there are numbers in
-/// it and one more. It stands apart, so that `ok` and `bad` don't pay for the room of its texts.
+/// it and one more. It is a function of its own, so that `ok` and `bad` don't pay for the room of its texts.
 #[inline(never)]
 fn put_refused<K: Sink>(refusal: &Refusal, sink: &mut K) -> Result<(), SinkFault>
     ensures { Puts K.holds K.faults K.wants sink.old sink.new result (refused_text refusal.now) }

@@ -239,7 +239,7 @@ first_tick : (n : ℕ) (d : Desk) (r : Result Desk Refusal) (P : Desk → Type 0
 first_tick n d (Ok next) P is p = (next, is, p)
 first_tick n d (Err refusal) P is p = absurd p
 
--- attempts at so many ticks, each accepted
+-- attempts at this many ticks, each accepted
 many_ticks : (n : ℕ) (all : Bool) (heard : List Command → Type 0) (s : DeskState) (old turn : LineState) (before_it after_it : Kept)
     (t : LineProgress all heard s old turn before_it) → turn.refusal ≡ None → command_of turn.meaning ≡ Some commands.Tick
     → n ≤ turn.left → Joins heard heard (commands.Tick ∷ []) → IsOkAnd (after_ticks n t.now.desk) (λ next. StandsFor next after_it)

@@ -36,6 +36,6 @@ pub record LineAnswer {K T : Type 0} (all : Bool) (heard : List Command → Type
   pub puts : Puts holds faults wants sink sink' result reply
   pub counts : OnOk result (next.counts ≡ counts_in tally)
 
--- what holds of a session for whose desk the console stood, and which had counted so many
+-- what holds of a session for whose desk the console stood, and which had counted this many
 abbrev pub FromDesk : Kept → Tally → (Session DeskState → Type 0) → Type 0
 FromDesk console tally P = (s : Session DeskState) → StandsFor s.state.desk console → s.counts ≡ counts_in tally → P s

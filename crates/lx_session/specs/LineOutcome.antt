@@ -91,7 +91,7 @@ SinkStop by Stands left faults old new held held' s =
     (Untouched Stands held held' s × NoLineMore left faults old new)
     ⊎ HalfAnsweredLine by Stands left faults old new held held' s
 
--- What holds of a session at whose state what answers stood, since it began so, and which had counted so many.
+-- What holds of a session at whose state what answers stood, since it began so, and which had counted this many.
 abbrev pub FromSession : {Since State : Type 0} → (Since → State → Type 0) → Tally → (Since → Session State → Type 0) → Type 0
 FromSession {Since} {State} Stood tally P = (since : Since) (s : Session State) → Stood since s.state → s.counts ≡ counts_in tally → P since s
 

@@ -20,7 +20,7 @@ pub record AnsweredWhole (by : Answering (List ℕ)) (Stands : by.State → Type
   pub counts : counts_in tally ≡ (whole_session by state script failures).counts
   pub stands : Stands (whole_session by state script failures).state
 
--- So many lines were handed out and done, and a prefix of the text that answers them was written.
+-- This many lines were handed out and done, and a prefix of the text that answers them was written.
 pub record AnsweredPrefix (by : Answering (List ℕ)) (Stands : by.State → Type 0) (state : by.State)
     (bytes : List ℕ) (unread held held' : Known) : Type 0 where
   pub failures : List (Option ℕ)
@@ -53,7 +53,7 @@ AnsweredFault by Stands state before bytes unread left held held' WriteFault =
 AnsweredFault by Stands state before bytes unread left held held' Memory =
     AnsweredPrefix by Stands state bytes unread held held'
 
--- Of a script of these bytes, before which so many bytes of the input were taken. `unread` are the bytes that weren't handed out, and
+-- Of a script of these bytes, before which this many bytes of the input were taken. `unread` are the bytes that weren't handed out, and
 -- `left` those that the source has left.
 abbrev pub ScriptAnswered : (by : Answering (List ℕ)) → (by.State → Type 0) → by.State → ℕ → List ℕ
     → (unread left held held' : Known) → Result Tally SessionFault → Type 0

@@ -17,7 +17,7 @@ pub enum SessionFault {
     /// The input has a line with a byte past the 67,108,864th.
     #[error("the input is too long")]
     InputTooLong,
-    /// The sink wanted memory in vain.
+    /// The sink ran out of memory.
     #[error("want of memory")]
     Memory,
 }

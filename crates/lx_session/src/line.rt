@@ -52,7 +52,7 @@ pub fn answer<L: Listener, K: Sink>(
     }
 }
 
-/// As `answer`, of a line that means this. It stands apart, so that keys and bad lines don't pay for the room of its turn.
+/// As `answer`, of a line that means this. It is a function of its own, so that keys and bad lines don't pay for the room of its turn.
 #[inline(never)]
 fn answer_read<L: Listener, K: Sink>(
     listener: &mut L,
@@ -109,7 +109,7 @@ fn pass_ticks<L: Listener>(listener: &L, turn: &mut Turn, console: &mut Console)
 }
 
 /// Attempts a command that the listener is asked to admit, and hears of where it is accepted. It says the refusal, if it is
-/// refused. It stands apart, with the room of an edit's plan.
+/// refused. It is a function of its own, with the room of an edit's plan.
 #[inline(never)]
 fn attempt_one<L: Listener>(
     listener: &mut L,

@@ -1,4 +1,4 @@
--- Cues that were listed anew, each with the row of its own place.
+-- Cues that were listed again, each with the row of its own place.
 use Rattle.std.proofs.Common.{◌≡◌, ℕ, ◌+◌, ◌<◌, List, length, get_or, map, take, ◌∙◌, sym, ap, subst, arith}
 use Rattle.std.specs.Prelude.{IfSome, slice_get}
 use Rattle.std.proofs.lemmas.List.FromFn.{get_or-range_with_len}

@@ -172,7 +172,7 @@ marks_right show channels order levels marks is marked k =
     sym (mark_in_range channels marks (row_at_place order k) c least most)
     ∙ sym (marked_there channels order marks cue.number k c is.sorted at.0 at.1) ∙ right c decided)
 
--- Where the marks of one row were written anew, those of the other cues are as before.
+-- Where the marks of one row were written again, those of the other cues are as before.
 pub marked_others : (channels : ℕ) (order : List Place) (old new : Marks) (n at : ℕ) → IsStrictlySorted (λ p. p.cue) order
     → AreApart (own_rows order) → StandsAt (λ p. p.cue) n order at
     → ((r c : ℕ) → r ≢ row_at_place order at → 1 ≤ c → c ≤ channels → has_mark new r c ≡ has_mark old r c)
@@ -247,7 +247,7 @@ grown_on a b c first then = record {
   words = omega (arith, first.words, then.words);
 }
 
--- the marks of the row at a place were written anew for its cue
+-- the marks of the row at a place were written again for its cue
 pub marked_place : (channels at row : ℕ) (order : List Place) (cues : List Cue) (cue : Cue) (marks : Marks) → at < length cues
     → cue ≡ get_or cues at cue → row ≡ row_at_place order at → IsMarkedFor channels marks row cue
     → (k : ℕ) → at ≤ k → k < at + 1 → IfSome (slice_get cues k) (IsMarkedFor channels marks (row_at_place order k))

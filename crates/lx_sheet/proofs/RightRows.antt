@@ -57,7 +57,7 @@ count_at (m ∷ ms) (suc k) sorted within =
     let above : m < get_or ms k 0 = All-from_recursion (λ y. m < y) ms sorted.0 k 0 (omega arith) in
     rw (le_true m (get_or ms k 0) (omega (arith, above))) (ap suc (count_at ms k sorted.1 (omega arith)))
 
--- from the place on that so many below it leave, the numbers aren't below it
+-- from the place on that this many below it leave, the numbers aren't below it
 reached : (end : ℕ) (numbers : List ℕ) (k : ℕ) → IsStrictlySorted (λ n. n) numbers → count_under end numbers ≤ k → k < length numbers
     → end ≤ get_or numbers k 0
 reached end [] k sorted least within = absurd (omega arith)

@@ -76,7 +76,7 @@ cue_level channels order levels k c = cell channels levels (row_at_place order k
 abbrev pub AreMarked : ℕ → List Place → List Cue → Marks → Type 0
 AreMarked channels order cues marks = (k : ℕ) → IfSome (slice_get cues k) (IsMarkedFor channels marks (row_at_place order k))
 
--- the last of so many values, or 0 where there is none
+-- the last of this many values, or 0 where there is none
 abbrev pub last_value : ℕ → (ℕ → ℕ) → ℕ
 last_value zero f = 0
 last_value (suc k) f = f k

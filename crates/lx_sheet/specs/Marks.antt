@@ -10,7 +10,7 @@ use Rattle.lx_sheet.specs.WordPlaces.{row_bit, words_over}
 unfoldable pub has_mark : Marks → ℕ → ℕ → Bool
 has_mark marks row c = row_bit marks.groups marks.words.items row c == 1
 
--- of so many channels those that the cue decides are marked in the row
+-- of this many channels those that the cue decides are marked in the row
 abbrev pub IsMarkedFor : ℕ → Marks → ℕ → Cue → Type 0
 IsMarkedFor channels marks row cue = (c : ℕ) → 1 ≤ c → c ≤ channels → decides cue c ≡ true → has_mark marks row c ≡ true
 
@@ -31,7 +31,7 @@ pub record IsGrown (old new : Marks) : Type 0 where
   pub room : vec_capacity old.words ≤ vec_capacity new.words
   pub words : length old.words.items ≤ length new.words.items
 
--- a table for so many channels, with room for all rows
+-- a table for this many channels, with room for all rows
 pub record IsMarkTable (channels : ℕ) (marks : Marks) : Type 0 where
   pub few : marks.groups ≤ 64
   pub groups : channels ≤ 64 * marks.groups

@@ -17,7 +17,7 @@ bit_of c = (c - 1) % 64
 abbrev pub word_place : ℕ → ℕ → ℕ → ℕ
 word_place groups row group = (row / 64 * groups + group) * 64 + row % 64
 
--- how many words there are for so many rows
+-- how many words there are for this many rows
 abbrev pub words_over : ℕ → ℕ → ℕ
 words_over rows groups = (rows / 64 + min 1 (rows % 64)) * groups * 64
 
@@ -25,7 +25,7 @@ words_over rows groups = (rows / 64 + min 1 (rows % 64)) * groups * 64
 abbrev pub row_bit : ℕ → List ℕ → ℕ → ℕ → ℕ
 row_bit groups words row c = bit_at (slice_index words (word_place groups row (group_of c))) (bit_of c)
 
--- the cue's moves are sorted, and within so many channels
+-- the cue's moves are sorted, and within this many channels
 pub record MovesWithin (channels : ℕ) (cue : Cue) : Type 0 where
   pub each : All (λ m. InRange channels m.chan) cue.moves
   pub sorted : IsStrictlySorted (λ m. m.chan) cue.moves

@@ -101,7 +101,7 @@ fn decides_none(cue: &Cue) -> bool
     !cue.block && cue.moves.as_slice().is_empty()
 }
 
-/// Makes the block reach over so many rows, in the room that is there. A row that is new is at 0.
+/// Makes the block reach over this many rows, in the room that is there. A row that is new is at 0.
 pub(crate) fn reach(levels: &mut Vec<Level>, channels: usize, rows: usize)
     requires few { channels ≤ CHANNELS }
     requires rows { rows ≤ CUES }
@@ -119,7 +119,7 @@ pub(crate) fn reach(levels: &mut Vec<Level>, channels: usize, rows: usize)
     }
 }
 
-/// Takes up the levels of the last of so many cues, or 0 where there is none.
+/// Takes up the levels of the last of this many cues, or 0 where there is none.
 fn recall(look: &mut [Level], levels: &[Level], order: &[Place], cues: usize)
     requires few { length look.old ≤ CHANNELS }
     requires room { Covers (length look.old) levels.now order.now }
@@ -262,7 +262,7 @@ fn decides_at(cue: &Cue, chan: Chan, near: &mut usize, marks: Option<&Marks>, ro
     may && cue.decides_near(chan, near)
 }
 
-/// The channel's level in the last of so many cues, or 0 where there is none. It stands at this place in
+/// The channel's level in the last of this many cues, or 0 where there is none. It stands at this place in
 /// each row.
 pub(crate) fn level_before(
     levels: &[Level],

@@ -140,7 +140,7 @@ impl Sheet {
         }
     }
 
-    /// The cue of the number was put in the place of another: its marks are made anew. No row is looked at.
+    /// The cue of the number was put in the place of another: its marks are made again. No row is looked at.
     pub fn mark(&mut self, show: &Show, n: CueNo)
         requires { self.old.channels ≡ show.now.channels }
         ensures levels { (m c : ℕ) → level_of self.new m c ≡ level_of self.old m c }
@@ -218,7 +218,7 @@ impl Sheet {
         }
     }
 
-    /// Fills in every row anew: the sheet stands for the show, which has its channel count.
+    /// Fills in every row again: the sheet stands for the show, which has its channel count.
     pub fn refill(&mut self, show: &Show)
         requires { self.old.channels ≡ show.now.channels }
         ensures { RowsStandFor show.now self.new }

@@ -14,10 +14,10 @@ use lx_base::{CUES, Chan};
 use lx_show::{Cue, Move};
 use std::alloc::{AllocError, Global};
 
-/// So many rows stand side by side: their words of one group of channels follow one another.
+/// This many rows stand side by side: their words of one group of channels follow one another.
 const TILE: usize = 64;
 
-/// So many channels share a word.
+/// This many channels share a word.
 const GROUP: usize = 64;
 
 /// A bit for each row of the block and each channel. A clear one says that the cue of the row doesn't decide the channel, and a set
@@ -35,7 +35,7 @@ pub(crate) struct Marks {
 impl Marks {
     ghost use Rattle.lx_sheet.specs.Marks.{IsMarkTable, IsGrown, IsReached, IsMarkedFor, has_mark};
 
-    /// A table for so many channels, with room for all rows. Nothing of it is written yet.
+    /// A table for this many channels, with room for all rows. Nothing of it is written yet.
     pub(crate) fn open(alloc: Global, channels: usize) -> Result<Marks, AllocError>
         requires { channels ≤ CHANNELS }
         ensures { IfOk result (IsMarkTable channels) }
@@ -47,7 +47,7 @@ impl Marks {
         })
     }
 
-    /// Makes the table reach over so many rows, in the room that is there. The marks of a row that is new are clear.
+    /// Makes the table reach over this many rows, in the room that is there. The marks of a row that is new are clear.
     pub(crate) fn reach(&mut self, rows: usize)
         requires rows { rows ≤ CUES }
         requires few { self.old.groups ≤ 64 }
@@ -78,7 +78,7 @@ impl Marks {
         (word >> (at % GROUP)) & 1 == 1
     }
 
-    /// Writes the marks of the row anew, which is this cue's.
+    /// Writes the marks of the row again, which is this cue's.
     pub(crate) fn write(&mut self, row: usize, cue: &Cue)
         requires row { row < CUES }
         requires few { self.old.groups ≤ 64 }
@@ -92,7 +92,7 @@ impl Marks {
     }
 }
 
-/// How many words there are for so many rows.
+/// How many words there are for this many rows.
 fn words_of(rows: usize, groups: usize) -> usize
     requires rows { rows ≤ CUES }
     requires groups { groups ≤ 64 }
@@ -111,7 +111,7 @@ fn place_of(groups: usize, row: usize, group: usize) -> usize
     (row / TILE * groups + group) * TILE + row % TILE
 }
 
-/// Writes the words of the row anew, which is this cue's.
+/// Writes the words of the row again, which is this cue's.
 fn write_row(words: &mut [u64], groups: usize, row: usize, cue: &Cue)
     requires row { row < CUES }
     requires groups { groups ≤ 64 }

@@ -75,7 +75,7 @@ impl Model for Sheet {
 
 impl Sheet {
     /// A sheet that stands for the show. It takes the memory for `CUES` rows of the show's channels; an
-    /// error comes where that is wanting.
+    /// error comes where it runs out.
     pub fn open(alloc: Global, show: &Show) -> Result<Sheet, AllocError>
         ensures { IfOk result (RowsStandFor show.now) }
     {

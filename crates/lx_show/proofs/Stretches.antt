@@ -80,7 +80,7 @@ stretch_added {A} key n at end ys xs run same goes so behind =
     subst (λ (zs : List A). take at zs ++ (run ++ drop at zs) ≡ all_placed key run zs) same
     (sym (ap (all_placed key run) (sym (take-append-drop at ys)) ∙ placed_between key run (take at ys) (drop at ys) so.rises low high))
 
--- so many entries were counted: the next one must reach this number
+-- this many entries were counted: the next one must reach this number
 pub record IsCounted {A : Type 0} (key : A → ℕ) (first end least : ℕ) (xs : List A) : Type 0 where
   pub so_far : IsStretch key first end xs
   pub under : AllByRecursion (λ x. key x < least) xs

@@ -111,7 +111,7 @@ impl MemberSet<SubNo> {
 }
 
 impl<N: Keyed + Copy + Drop> MemberSet<N> {
-    /// An equal group or submaster. An error comes where memory is wanting.
+    /// An equal group or submaster. An error comes where memory runs out.
     pub fn copy(&self) -> Result<Self, AllocError>
         ensures { IfOk result (λ set. set ≡ self.now) }
     {
@@ -122,7 +122,7 @@ impl<N: Keyed + Copy + Drop> MemberSet<N> {
         })
     }
 
-    /// Places the member, in place of the one of its channel. An error comes where memory is wanting, only where the
+    /// Places the member, in place of the one of its channel. An error comes where memory runs out, only where the
     /// channel is no member yet, and leaves the group or submaster as it was.
     pub fn put_member(&mut self, entry: Member) -> Result<(), AllocError>
         ensures ok { OnOk result (self.new ≡ record self.old { members = placed (λ m. m.chan) entry self.old.members }) }

@@ -8,8 +8,8 @@ use crate::sorted::Keyed;
 use std::alloc::{AllocError, Global};
 
 impl<T: Keyed + Copy + Drop> SortedList<T> {
-    /// A list of these entries, which are sorted by number. Its memory is taken at once; an error comes where that is
-    /// wanting.
+    /// A list of these entries, which are sorted by number. Its memory is taken at once; an error comes where it runs
+    /// out.
     pub fn of_sorted(alloc: Global, entries: &[T]) -> Result<Self, AllocError>
         requires { IsStrictlySorted T.key entries.now }
         ensures { IfOk result (λ list. list ≡ entries.now) }

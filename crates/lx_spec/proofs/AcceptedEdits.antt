@@ -36,7 +36,7 @@ follow_taken_away : played_barred (codes "CUE 1|UP 0|DOWN 0|FOLLOWON 1|CUE 2|UP 
 unfolding digits
 follow_taken_away = refl
 
--- the members of a group move at their levels in proportion; a member is placed anew, and the group is in the canonical text
+-- the members of a group move at their levels in proportion; a member is placed again, and the group is in the canonical text
 group_in_proportion : played_barred (codes "CUE 1|UP 0|DOWN 0")
     (codes "group 7 chan 1 thru 2 at 50|group 7 chan 2 at FL|set 1 group 7 at H80|go|frame|sheet 1|save|group 8 chan 500 thru 600 at 5")
     ≡ barred (codes "ok|ok|ok|ok|frame 0 1 1=64|row 1 1=64 2=128"

@@ -41,7 +41,7 @@ last_tick = refl
 tick_limit : step (desk_at 200000000) commands.Tick ≡ Err (TickLimit 200000000)
 tick_limit = refl
 
--- a playback in which so many runs of cue 1 are live, and a follow is due at the next tick
+-- a playback in which this many runs of cue 1 are live, and a follow is due at the next tick
 abbrev busy : ℕ → ℕ → Option ℕ → Playback
 busy m runs pending = record { moment = m; base = 0; live = replicate runs (run_whole at_opening 1000 240000); pending = pending }
 

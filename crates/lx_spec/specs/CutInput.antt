@@ -18,7 +18,7 @@ first_lines k [] = []
 first_lines zero (b ∷ bs) = []
 first_lines (suc k) (b ∷ bs) = b ∷ first_lines (if b == 10 then k else suc k) bs
 
--- Of these bytes the source was asked for so many lines, which lie within the limit of the input, and for some of the bytes behind
+-- Of these bytes the source was asked for this many lines, which lie within the limit of the input, and for some of the bytes behind
 -- them, among which, as far as they are within the limit, is no LF. `before` bytes of the input were taken before, and `left` is
 -- what the source has left. Each of the lines has its LF, but for a last one behind which is nothing.
 pub record CutOff (before : ℕ) (bytes : List ℕ) (left : Option (List ℕ)) : Type 0 where

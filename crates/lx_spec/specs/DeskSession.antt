@@ -42,7 +42,7 @@ attempt s command = answered s command (step s.desk command)
 abbrev pub and_then : Attempt → (DeskState → Attempt) → Attempt
 and_then tried next = option_map_or (λ refusal. tried) tried.refusal (next tried.state)
 
--- so many attempts at a command, up to the first that is refused; the one that fails is refused with Memory
+-- this many attempts at a command, up to the first that is refused; the one that fails is refused with Memory
 abbrev pub attempts_of : Option ℕ → Command → ℕ → DeskState → Attempt
 attempts_of failed command zero s = record { state = s; refusal = None }
 attempts_of None command (suc n) s = and_then (attempt s command) (attempts_of None command n)

@@ -78,7 +78,7 @@ output_of (Make n) bytes failures = make_output n failures
 output_of (Script kind form) bytes failures = script_output kind form bytes failures
 output_of (Crew operators form) bytes failures = over_show (reads form bytes) (λ reading. [])
 
--- the replies of a job to the first so many lines of its script; none where it has no script, or the show is refused
+-- the replies of a job to the first n lines of its script; none where it has no script, or the show is refused
 abbrev pub replies_of : Job → List ℕ → List (Option ℕ) → ℕ → List ℕ
 replies_of (Script kind form) bytes failures lines = first_replies kind bytes failures lines (reads form bytes)
 replies_of other bytes failures lines = []

@@ -23,7 +23,7 @@ abbrev pub ScriptAllows : ScriptKind → List ℕ → List (Option ℕ) → Resu
 ScriptAllows kind bytes failures (Ok reading) = Allows (answering_of kind) (opening_of kind reading.show) (script_of bytes) failures
 ScriptAllows kind bytes failures (Err fault) = Unit {0}
 
--- the replies to the first so many lines of the script, where the show is read
+-- the replies to the first n lines of the script, where the show is read
 abbrev pub first_replies : ScriptKind → List ℕ → List (Option ℕ) → ℕ → Result Reading TextFault → List ℕ
 first_replies kind bytes failures lines (Ok reading) =
     (session_after (answering_of kind) (opening_of kind reading.show) (script_of bytes) failures lines).text

@@ -75,7 +75,7 @@ answered_lines script = before_first ends_script script
 abbrev pub whole_session : (by : Answering (List ℕ)) → by.State → List (List ℕ) → List (Option ℕ) → Session by.State
 whole_session by state script failures = after_each by failures (begin_at state) (answered_lines script)
 
--- the session of its first so many lines
+-- the session of its first n lines
 abbrev pub session_after : (by : Answering (List ℕ)) → by.State → List (List ℕ) → List (Option ℕ) → ℕ → Session by.State
 session_after by state script failures done = after_each by failures (begin_at state) (take done (answered_lines script))
 

@@ -25,7 +25,7 @@ opened_with show depth = record { desk = opened show; back = []; forth = []; dep
 abbrev pub with_show : Desk → Show → Desk
 with_show d show = record d { show = show }
 
--- the last so many of a list
+-- the last n of a list
 abbrev pub last_of : {A : Type 0} → ℕ → List A → List A
 last_of n xs = drop (length xs - n) xs
 

@@ -36,7 +36,7 @@ impl Model for SubRack {
 
 impl SubRack {
     /// A rack for the show, with every fader at 0. It takes all the memory that it needs; an error comes
-    /// where that is wanting.
+    /// where it runs out.
     pub fn open(alloc: Global, show: &Show) -> Result<SubRack, AllocError>
         ensures stands { IfOk result (StandsForSubs show.now) }
         ensures faders { IfOk result (λ rack. rack.faders ≡ replicate SUBS 0) }

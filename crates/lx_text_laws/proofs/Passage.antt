@@ -95,7 +95,7 @@ line_passage f body e all is goes =
 abbrev pub at : ℕ → Section → ℕ → List ℕ → Facts
 at i section part cues = record { limits = desk_limits; number = i; identified = true; section = section; part = part; cues = cues }
 
--- the text leads to the section and the part, with at most so many cues
+-- the text leads to the section and the part, with at most this many cues
 pub record Leads (f : Facts) (text : List ℕ) (es : List PlacedEntry) (section : Section) (part most : ℕ) : Type 0 where
   pub number : ℕ
   pub cues : List ℕ

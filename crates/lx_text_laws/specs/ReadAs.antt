@@ -7,7 +7,7 @@ use Rattle.lx_reader.specs.declared.fault.ShowFault.{ShowFault}
 use Rattle.lx_reader.specs.declared.fault.ShowFault.TheVariants.{InputTooLong, Memory}
 use Rattle.lx_reader.specs.Answer.{reading_of}
 
--- what comes is the reading, unless the text is longer than an input may be or memory is wanting
+-- what comes is the reading, unless the text is longer than an input may be or memory runs out
 abbrev pub ComesAsReading : List ℕ → Reading → Result Loaded ShowFault → Type 0
 ComesAsReading text reading result = MatchResult result (λ loaded. reading_of loaded ≡ reading)
     (λ fault. (fault ≡ Memory) ⊎ ((fault ≡ InputTooLong) × (INPUT_BYTES < length text)))

@@ -14,7 +14,7 @@ use lx_writer::write_show;
 use std::alloc::Global;
 
 /// Writes a show's canonical text, and reads it back: what comes is the show, with no skipped line. `InputTooLong` comes
-/// only where the text is longer than the limit of an input, and `Memory` where memory was wanted in vain.
+/// only where the text is longer than the limit of an input, and `Memory` where memory ran out.
 pub fn read_back(alloc: Global, show: &Show) -> Result<Loaded, ShowFault>
     ensures same { IfOk result (λ loaded. reading_of loaded ≡ record { show = show.now; skipped = 0; first_skipped = 0 }) }
     ensures fault { IfErr result (λ fault. (fault ≡ ShowFault.Memory)

@@ -12,7 +12,7 @@ abbrev pub reached : UndoState → List Command → UndoState
 reached s commands =
     record (if list_any is_edit commands then replaced s s.desk else s) { desk = after_commands s.desk commands }
 
--- the desk stands for the state after these commands, which are no more than so many
+-- the desk stands for the state after these commands, which are no more than this many
 pub record HasReached (s : UndoState) (u : UndoKept) (most : ℕ) (commands : List Command) : Type 0 where
   pub few : length commands ≤ most
   pub stands : UndoStands (reached s commands) u

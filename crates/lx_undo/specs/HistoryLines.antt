@@ -15,7 +15,7 @@ abbrev pub denial_text : Denial → List ℕ
 denial_text (denials.History fault) = undo_fault_text fault
 denial_text (denials.Desk refusal) = refused_text refusal
 
--- memory was wanting where it may be
+-- memory ran out where it may be
 pub record WantsAsked (s : UndoState) (what : UndoLine) (denial : Denial) : Type 0 where
   pub memory : denial_text denial ≡ refused_text Memory
   pub may : MayFailAsked s what

@@ -4,7 +4,7 @@ use Rattle.lx_spec.specs.Show.{Show}
 use Rattle.lx_edit.specs.declared.plans.Plan.{Plan}
 use Rattle.lx_edit.specs.PlanMeaning.{planned, IsReady}
 
--- The plans that take back, the one for the oldest show first; and those that go forth again, the next one first. Room for so many of either.
+-- The plans that take back, the one for the oldest show first; and those that go forth again, the next one first. Room for this many of either.
 pub record KeptPlans : Type 0 where
   pub back : List Plan
   pub forth : List Plan

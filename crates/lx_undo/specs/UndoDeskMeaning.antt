@@ -37,13 +37,13 @@ pub record UndoSteps {A E : Type 0} (step : Result UndoState E) (answer : Result
   pub ok : OnOk answer (IsOkAnd step (λ next. UndoStands next u))
   pub err : IfErr answer (λ fault. step ≡ Err fault)
 
--- memory was wanting at a step that takes some, and isn't refused
+-- memory ran out at a step that takes some, and isn't refused
 pub record UndoWantsMemory (takes : Bool) (step : Result UndoState Refusal) (refusal : Refusal) : Type 0 where
   pub takes_some : takes ≡ true
   pub memory : refusal ≡ Memory
   pub accepted : IsOk step
 
--- As `UndoSteps`, but that want of memory may refuse a step that takes some.
+-- As `UndoSteps`, but that lack of memory may refuse a step that takes some.
 pub record TakesUndoStep {A : Type 0} (takes : Bool) (step : Result UndoState Refusal) (answer : Result A Refusal) (u : UndoKept) : Type 0 where
   pub ok : OnOk answer (IsOkAnd step (λ next. UndoStands next u))
   pub err : IfErr answer (λ refusal. (step ≡ Err refusal) ⊎ UndoWantsMemory takes step refusal)

@@ -40,7 +40,7 @@ impl Model for UndoDesk {
 
 impl UndoDesk {
     /// A desk over the show, as at the opening, that keeps the last `depth` shows which edits and records replace. It
-    /// takes the memory that keys, ticks, undo and redo need; where that is wanting the show is lost.
+    /// takes the memory that keys, ticks, undo and redo need; where it runs out the show is lost.
     pub fn open(alloc: Global, show: Show, depth: usize) -> Result<UndoDesk, AllocError>
         ensures { IfOk result (UndoStands (opened_with show depth)) }
     {
@@ -59,7 +59,7 @@ impl UndoDesk {
 
     /// An edit of the show, which can then be undone; or a key or a tick, as by the desk alone.
     ///
-    /// Refused as by the desk; an edit with `Memory` only where memory is wanting and nothing else refuses it. An edit
+    /// Refused as by the desk; an edit with `Memory` only where memory runs out and nothing else refuses it. An edit
     /// that is refused stays out of the history. A refusal changes nothing.
     pub fn command(&mut self, command: &Command) -> Result<(), Refusal>
         requires { ValidCommand command.now }
@@ -98,7 +98,7 @@ impl UndoDesk {
     /// levels that it had.
     ///
     /// Refused with `CueLimit` exactly where the cue is absent and the show has as many cues as it may have; with
-    /// `Memory` only where memory is wanting and the record isn't refused. A refusal changes nothing.
+    /// `Memory` only where memory runs out and the record isn't refused. A refusal changes nothing.
     pub fn record(&mut self, n: CueNo, only: bool) -> Result<(), Refusal>
         requires { n ≢ 0 }
         ensures steps { (s : UndoState) → UndoStands s self.old → TakesUndoStep true (record_step s n only) result self.new }

@@ -10,7 +10,7 @@ use std::alloc::{AllocError, Global};
 use std::marker::Model;
 
 /// The plans that take edits and records back, the one for the oldest show first, and those that make again what was
-/// taken back, the next one first: at most so many in both together.
+/// taken back, the next one first: at most this many in both together.
 #[derive(Drop)]
 pub(crate) struct History {
     back: HeapCircularBuffer<Plan>,
@@ -29,7 +29,7 @@ impl Model for History {
 }
 
 impl History {
-    /// No plans, and room for so many. An error comes where memory is wanting.
+    /// No plans, and room for this many. An error comes where memory runs out.
     pub(crate) fn open(alloc: Global, depth: usize) -> Result<History, AllocError>
         ensures { IfOk result (λ h. h ≡ record { back = []; forth = []; depth = depth }) }
     {

@@ -24,7 +24,7 @@ pub record AreDelivered {K : Type 0} (holds : K → Option (List ℕ)) (back : K
       → OutletIsBack holds back faults wants show outlets' results published place start
   pub others : (place : ℕ) (fault : SinkFault) → slice_get results place ≡ Some (Some fault) → place < length outlets
 
--- A script was answered as in a session: the commands that its lines came to are published up to the last so many, the console stands for
+-- A script was answered as in a session: the commands that its lines came to are published up to the last n, the console stands for
 -- the desk after them all, and each outlet has what it was to get of those that are published.
 pub record HasPlayedScript {S O K : Type 0} (left : S → Option (List ℕ)) (holds : O → Option (List ℕ)) (outlet_holds : K → Option (List ℕ))
     (outlet_back : K → List ℕ) (faults wants : K → ℕ) (show : Show)

@@ -16,7 +16,7 @@ use Rattle.lx_workers.specs.Lines.{HasWritten, HasWrittenPart, HasFault}
 abbrev pub RoseOrSame : ℕ → ℕ → Type 0
 RoseOrSame before now = (now ≡ before) ⊎ Rose before now
 
--- the port had at least so many readings and misses
+-- the port had at least this many readings and misses
 abbrev pub HasTakenTimes : Told → Told → ℕ → Type 0
 HasTakenTimes before now takes = min (before.reads + before.misses + takes) (2 ^ 64 - 1) ≤ now.reads + now.misses
 

@@ -16,7 +16,7 @@ use std::sync::Wait;
 const MOST: u64 = 1 << 62;
 
 /// Listens to the session of a live run. It keeps the pace, sees that a command can still be counted before it is attempted, publishes what
-/// was accepted with the console's frames, and tells the workers. Commands that a publish leaves for want of memory wait for
+/// was accepted with the console's frames, and tells the workers. Commands that a publish leaves for lack of memory wait for
 /// a later one.
 pub struct Publisher<'r, 't, 'p, R: Wait, G: Origin, W: Window, C: Pace> {
     pub rt: &'r R,
@@ -87,7 +87,7 @@ fn has_room<G: Origin>(gate: &Gate<G, GateWriter<G>>, unsent: &Unsent) -> bool
     gate.count() < MOST && unsent.len() < MOST
 }
 
-/// Publishes what is unsent. Where memory is wanting it stays unsent, and goes out with a later publish.
+/// Publishes what is unsent. Where memory runs out it stays unsent, and goes out with a later publish.
 pub(crate) fn publish<G: Origin, R: Wait>(
     rt: &R,
     gate: &mut Gate<G, GateWriter<G>>,

@@ -42,7 +42,7 @@ pub struct Played {
     pub session: Result<Tally, SessionFault>,
     /// The fault of the outlet of universe u, at place u - 1, where it had one.
     pub outlets: [Option<SinkFault>; OUTLETS],
-    /// How many accepted commands, the last ones, weren't published, for want of memory.
+    /// How many accepted commands, the last ones, weren't published, for lack of memory.
     pub unsent: u64,
 }
 

@@ -132,7 +132,7 @@ fn have_one(a: &Move, b: &Move, c: &Move, d: &Move, part: PartNo) -> bool
 }
 
 /// Writes the lines of some moves at the front of the text, four moves a turn, and says where they end. The first word of a line is
-/// written behind the line before, so that a line is two stores. It stands apart, so that the loop has the processor's registers to itself.
+/// written behind the line before, so that a line is two stores. It is a function of its own, so that the loop has the processor's registers to itself.
 #[inline(never)]
 fn write_lines(moves: &[Move], part: PartNo, text: &mut [u8; TEXT_ROOM]) -> usize
     requires { length moves.now ≤ PIECE_MOVES }
