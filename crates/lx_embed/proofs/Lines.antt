@@ -1,23 +1,18 @@
 -- A line that was answered, as a host's desk keeps it.
-use Rattle.std.proofs.Common.{◌≡◌, ◌<◌, ℕ, Bool, true, not, cond, Option, Some, None, Result, Ok, Err, List, [], ◌++◌, length, ◌∙◌, ap, sym, subst, arith}
-use Rattle.std.specs.Prelude.{nat_lt, IfOk, OnOk, OnErr}
+use Rattle.std.proofs.Common.{refl, tt, ◌≡◌, ℕ, Bool, true, not, Option, Some, Result, Ok, Err, List, [], ◌++◌, ◌∙◌, ap, sym, subst}
+use Rattle.std.specs.Prelude.{IfOk, OnOk, OnErr}
 use Rattle.std.specs.Io.{StartsWith}
-use Rattle.std.proofs.lemmas.Bool.Decides.{nat_tests}
-use Rattle.lx_base.specs.declared.TheConstants.{LINE_BYTES}
 use Rattle.lx_io.specs.declared.sink.SinkFault.{SinkFault}
 use Rattle.lx_spec.specs.declared.Command.{Command}
-use Rattle.lx_spec.specs.declared.Line.{Line}
 use Rattle.lx_spec.specs.Kept.{Kept}
 use Rattle.lx_spec.specs.Desk.{Desk}
-use Rattle.lx_spec.specs.Text.{tokens}
-use Rattle.lx_spec.specs.Script.{line_of, meaning}
-use Rattle.lx_spec.specs.Session.{Answering, begin_at, is_quit, ends_script}
+use Rattle.lx_spec.specs.Script.{line_of}
+use Rattle.lx_spec.specs.Session.{Answering, begin_at, ends_script}
 use Rattle.lx_spec.specs.DeskSession.{begun, desk_answering}
 use Rattle.lx_console.specs.ConsoleMeaning.{StandsFor}
 use Rattle.lx_session.specs.declared.tally.Tally.{Tally}
 use Rattle.lx_session.specs.LineAnswer.{LineAnswer}
-use Rattle.lx_session.specs.LineState.{meaning_of}
-use Rattle.lx_session.specs.OneAnswer.{IsLine, OneAnswer}
+use Rattle.lx_session.specs.OneAnswer.{OneAnswer}
 use Rattle.lx_embed.specs.declared.reply.ReplyText.{ReplyText}
 use Rattle.lx_embed.specs.Answered.{AnswersLine}
 
@@ -56,25 +51,12 @@ line_answered by Stands state line sink sink' result tally empty told more =
       more = more;
     }
 
--- a line that is too long has no meaning
-too_long : (line : List ℕ) → LINE_BYTES < length line → None ≡ line_of line
-too_long line long =
-    let e : nat_lt LINE_BYTES (length line) ≡ true = grind (arith, nat_tests) in
-    sym (ap (λ b. cond b None (meaning line (tokens line))) e)
-
-meaning_is : (given : Option (List ℕ)) (line : List ℕ) → IsLine given line → meaning_of given ≡ line_of line
-meaning_is (Some given) line is = ap line_of is
-meaning_is None line long = too_long line long
-
 -- a line that was answered on a plain desk's console
-pub plain_answered : (d : Desk) (line : List ℕ) (given : Option (List ℕ)) (heard : List Command → Type 0) (sink sink' : ReplyText)
-    (result : Result Bool SinkFault) (console : Kept) (tally : Tally) → IsLine given line
-    → LineAnswer true heard holds faults wants sink sink' result (begin_at (begun d)) (meaning_of given) console tally
+pub plain_answered : (d : Desk) (line : List ℕ) (heard : List Command → Type 0) (sink sink' : ReplyText)
+    (result : Result Bool SinkFault) (console : Kept) (tally : Tally)
+    → LineAnswer true heard holds faults wants sink sink' result (begin_at (begun d)) (line_of line) console tally
     → OneAnswer (desk_answering true) holds faults wants sink sink' result (begin_at (begun d)) line (λ next. StandsFor next.desk console) tally
-plain_answered d line given heard sink sink' result console tally is told =
-    let a : LineAnswer true heard holds faults wants sink sink' result (begin_at (begun d)) (line_of line) console tally =
-    subst (λ (m : Option Line). LineAnswer true heard holds faults wants sink sink' result (begin_at (begun d)) m console tally)
-    (meaning_is given line is) told in
+plain_answered d line heard sink sink' result console tally a =
     record {
       next = a.next;
       failed = a.failed;
@@ -86,14 +68,8 @@ plain_answered d line given heard sink sink' result console tally is told =
       counts = a.counts;
     }
 
--- and whether it ends the script
-pub plain_more : (line : List ℕ) (given : Option (List ℕ)) (result : Result Bool SinkFault) → IsLine given line
-    → IfOk result (λ more. more ≡ not (is_quit (meaning_of given))) → IfOk result (λ more. more ≡ not (ends_script line))
-plain_more line given result is more =
-    subst (λ (m : Option Line). IfOk result (λ more. more ≡ not (is_quit m))) (meaning_is given line is) more
-
--- the same of a line that is told of by any text that it may be
-pub more_of : (Is : List ℕ → Type 0) (line : List ℕ) (result : Result Bool SinkFault) → Is line
-    → IfOk result (λ more. (text : List ℕ) → Is text → more ≡ not (ends_script text)) → IfOk result (λ more. more ≡ not (ends_script line))
-more_of Is line (Ok more) is told = told line is
-more_of Is line (Err fault) is told = tt
+-- whether a line that is told of by any text that is it ends the script
+pub more_of : (line : List ℕ) (result : Result Bool SinkFault)
+    → IfOk result (λ more. (text : List ℕ) → line ≡ text → more ≡ not (ends_script text)) → IfOk result (λ more. more ≡ not (ends_script line))
+more_of line (Ok more) told = told line refl
+more_of line (Err fault) told = tt

@@ -13,7 +13,6 @@ ghost use Rattle.lx_embed.specs.Answered.{Answered, AnswersLine};
 ghost use Rattle.lx_embed.specs.Engines.{console_of, OpenedAs};
 ghost use Rattle.lx_embed.specs.Told.{Ticked};
 
-use crate::given::given;
 use crate::reply::ReplyText;
 use crate::ticks::{tick_plain, tick_undo};
 use lx_console::Console;
@@ -92,7 +91,7 @@ fn answer_plain(
         → AnswersLine (desk_answering true) (λ next. StandsFor next.desk console.new) (begun d) line.now result reply.new.bytes.items }
 {
     let mut tally = Tally::new();
-    answer(&mut NoListener, console, given(line), reply, &mut tally)
+    answer(&mut NoListener, console, Some(line), reply, &mut tally)
 }
 
 /// Does one line of the script of a desk with a history, whose reply is appended.
@@ -102,5 +101,5 @@ fn answer_undo(desk: &mut UndoDesk, line: &[u8], reply: &mut ReplyText) -> Resul
         → AnswersLine undo_answering (λ next. UndoStands next desk.new) s line.now result reply.new.bytes.items }
 {
     let mut tally = Tally::new();
-    desk.answer(given(line), reply, &mut tally)
+    desk.answer(Some(line), reply, &mut tally)
 }

@@ -4,7 +4,7 @@
 
 mod desk;
 mod engine;
-mod given;
+mod one_line;
 mod open;
 mod reply;
 mod shown;
@@ -15,7 +15,7 @@ mod ticks;
 
 pub use desk::HostDesk;
 pub use engine::Engine;
-pub use given::is_line;
+pub use one_line::is_line;
 pub use reply::ReplyText;
 pub use state::{PlaybackState, Span};
 pub use taken::{Taken, TakenSlots};

@@ -8,7 +8,7 @@ ghost use Rattle.lx_lex.specs.Left.{left};
 ghost use Rattle.lx_lex.specs.PlainNumber.{FirstIsLevel, FirstIsNumber};
 ghost use Rattle.lx_reader.specs.FieldLists.{FirstIsMember, fault_in, all_pairs, all_triples, onto};
 
-use crate::numbers::fault_of;
+use crate::numbers::token_fault;
 use crate::percents::PERCENTS;
 use lx_base::{Chan, Level};
 use lx_lex::{Bad, Tokens, read_channel, read_dimmer, read_level};
@@ -19,7 +19,7 @@ fn fault_in(i: u32, bad: Bad, whole: bool) -> TextFault
     ensures { result ≡ fault_in i bad whole }
 {
     if whole {
-        fault_of(i, bad)
+        token_fault(i, bad)
     } else {
         TextFault::ShortList(i)
     }

@@ -1,15 +1,14 @@
-use Rattle.std.proofs.Common.{true, sym}
-use Rattle.std.specs.Prelude.{option_copied}
+use Rattle.std.proofs.Common.{sym}
 use Rattle.lx_spec.specs.Session.{begin_at}
 use Rattle.lx_spec.specs.DeskSession.{begun, desk_answering}
 use Rattle.lx_console.specs.ConsoleMeaning.{StandsFor}
-use Rattle.lx_embed.proofs.Lines.{line_answered, plain_answered, plain_more}
+use Rattle.lx_embed.proofs.Lines.{line_answered, plain_answered}
 use Rattle.lx_embed.proofs.engine.answer_plain.Goals as goal
 
 pub returns : goal.returns
 returns c = λ d stands.
     line_answered (desk_answering true) (λ next. StandsFor next.desk c.answer.new.console) (begun d) c.args.line.now c.args.reply.now
     c.answer.new.sink c.answer.result c.answer.new.tally c.requires
-    (plain_answered d c.args.line.now (option_copied c.given.result) _ c.args.reply.now c.answer.new.sink c.answer.result
-    c.answer.new.console c.answer.new.tally c.given.ensures (c.answer.ensures.answered (begin_at (begun d)) stands (sym c.new-tally.ensures)))
-    (plain_more c.args.line.now (option_copied c.given.result) c.answer.result c.given.ensures c.answer.ensures.quit)
+    (plain_answered d c.args.line.now _ c.args.reply.now c.answer.new.sink c.answer.result
+    c.answer.new.console c.answer.new.tally (c.answer.ensures.answered (begin_at (begun d)) stands (sym c.new-tally.ensures)))
+    c.answer.ensures.quit
