@@ -1,5 +1,5 @@
 -- A line that was answered, as a host's desk keeps it.
-use Rattle.std.proofs.Common.{refl, tt, ◌≡◌, ℕ, Bool, true, not, Option, Some, Result, Ok, Err, List, [], ◌++◌, ◌∙◌, ap, sym, subst}
+use Rattle.std.proofs.Common.{refl, ◌≡◌, ℕ, Bool, true, not, Option, Some, Result, Ok, Err, List, [], ◌++◌, ◌∙◌, ap, sym, subst}
 use Rattle.std.specs.Prelude.{IfOk, OnOk, OnErr}
 use Rattle.std.specs.Io.{StartsWith}
 use Rattle.lx_io.specs.declared.sink.SinkFault.{SinkFault}

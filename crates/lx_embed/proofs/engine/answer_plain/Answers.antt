@@ -1,4 +1,4 @@
-use Rattle.std.proofs.Common.{sym}
+use Rattle.std.proofs.Common.{true, sym}
 use Rattle.lx_spec.specs.Session.{begin_at}
 use Rattle.lx_spec.specs.DeskSession.{begun, desk_answering}
 use Rattle.lx_console.specs.ConsoleMeaning.{StandsFor}
