@@ -8,7 +8,7 @@ use Rattle.lx_spec.specs.FirstRefusal.{◌>>=◌}
 use Rattle.lx_spec.specs.Desk.{Desk, step}
 use Rattle.lx_spec.specs.Undo.{UndoState, undo_step}
 use Rattle.lx_console.specs.Ticks.{after_ticks}
-use Rattle.lx_undo.specs.UndoDeskMeaning.{UndoKept, UndoStands, TakesUndoStep, UndoWantsMemory}
+use Rattle.lx_undo.specs.UndoDeskMeaning.{UndoKept, UndoStands, UndoWantsMemory}
 
 abbrev IsFalse : Bool → Type 0
 IsFalse true = ⊥

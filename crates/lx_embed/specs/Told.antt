@@ -1,5 +1,5 @@
 -- What a host is told of a desk.
-use Rattle.std.specs.Prelude.{◌≡◌, ℕ, ◌+◌, nat_le, List, length, option_map, slice_get}
+use Rattle.std.specs.Prelude.{◌≡◌, ℕ, ◌+◌, nat_le, length, option_map, slice_get}
 use Rattle.std.specs.List.{list_all}
 use Rattle.std.specs.Result.{IsOkAnd}
 use Rattle.lx_spec.specs.Kept.{Kept}
