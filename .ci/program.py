@@ -8,8 +8,10 @@ rules (docs/FORMATS.md), never from what the program printed. Without --program 
 `rt ci` leaves there; where it is missing or a source is newer, the launcher builds it first.
 """
 import argparse
+import errno
 import functools
 import os
+import re
 import resource
 import subprocess
 import sys
@@ -496,6 +498,42 @@ def terminal_goes_away(program):
     return [] if status in (0, 3, 4) and error == b"" else [f"status {status}, standard error {error[:200]!r}"]
 
 
+# What a person is told of behind the usage line.
+JOBS = ("check", "sheet", "render", "run U", "make N", "undo", "two", "crew N")
+
+
+def read_to_close(master):
+    """What is written to a terminal until its last writer closes it, with the line ends of a file."""
+    said = b""
+    try:
+        while piece := os.read(master, 4096):
+            said += piece
+    except OSError as error:
+        if error.errno != errno.EIO:
+            raise
+    return said.replace(b"\r\n", b"\n")
+
+
+def jobs_are_told_at_a_terminal(program):
+    """Words that name no job: a person whose standard error is a terminal gets the usage line, and behind it a line for each job and the
+    manual's; through a pipe the usage line stands alone, whatever standard input and output are."""
+    master, terminal = os.openpty()
+    with Started([program, "play"], stdin=subprocess.DEVNULL, stdout=subprocess.PIPE, stderr=terminal, start_new_session=True) as run:
+        os.close(terminal)
+        said = read_to_close(master)
+        output, status = run.stdout.read(), run.wait(TIME_LIMIT)
+    os.close(master)
+    jobs = said.removeprefix(USAGE).decode()
+    wrong = [f"no line on {job}" for job in JOBS if not re.search(rf"^ +{job}  +\w", jobs, re.M)]
+    wrong += ["no usage line"] * (not said.startswith(USAGE)) + ["no manual"] * (not re.search(r"man cuedesk.*docs/GUIDE\.md", jobs))
+    wrong += [f"status {status}, output {output!r}"] * (status != 2 or output != b"")
+    master, terminal = os.openpty()
+    run = subprocess.run([program, "play"], stdin=terminal, stdout=terminal, stderr=subprocess.PIPE, timeout=TIME_LIMIT)
+    os.close(terminal)
+    os.close(master)
+    return wrong + [f"through a pipe {run.stderr!r}, status {run.returncode}"] * (run.stderr != USAGE or run.returncode != 2)
+
+
 # A rig of all channels, and edits that want more and more memory, with keys and frames among them; every line has one line of reply.
 GREAT_RIG = "IDENT 3:0\nSET CHANNELS 4096\nPATCH 1 1<1@FL 2<1024@50\nCUE 1\n" + AT_ONCE + "CHAN 1@50 4096@FL\nENDDATA\n"
 GROWING = [line for n in range(2, 26) for line in [f"cue {n}", f"set {n} chan 1 thru 4096 at H{n:02X}", f"label {n} the look of cue {n}"]
@@ -566,8 +604,8 @@ def outlet_before_memory(program):
 
 
 # Each with the seconds that it may take.
-TALKS = [(talk, 60), (refused_at_once, 60), (reader_goes_away, 60), (closed_output, 60), (terminal_goes_away, 60), (memory_runs_out, 600),
-         (each_call_refused_in_turn, 600), (outlet_before_memory, 60)]
+TALKS = [(talk, 60), (refused_at_once, 60), (reader_goes_away, 60), (closed_output, 60), (terminal_goes_away, 60),
+         (jobs_are_told_at_a_terminal, 60), (memory_runs_out, 600), (each_call_refused_in_turn, 600), (outlet_before_memory, 60)]
 
 
 # ---------------------------------------------------------------------------------------------------------------------

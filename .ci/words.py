@@ -4,11 +4,13 @@
     words.py [--self-test] [PAGE ...]
 
 It finds sentences over 40 words (30 in README.md), words to be avoided, links that lead nowhere, names of files of this
-repository that aren't there, a README.md over 150 lines and a docs/DECISIONS.md over 35,000 bytes. Each is a line with page,
-line and sentence; the status is 1 where there is any. Code blocks aren't read; each cell of a table and each item of a list
-has sentences of its own; a piece of code in a sentence is one word.
+repository that aren't there, names of the code that its crate or file doesn't have, a README.md over 150 lines and a
+docs/DECISIONS.md over 35,000 bytes. Each is a line with page, line and sentence; the status is 1 where there is any. Code
+blocks aren't read; each cell of a table and each item of a list has sentences of its own; a piece of code in a sentence is one
+word.
 """
 import argparse
+import functools
 import os
 import re
 import sys
@@ -48,6 +50,17 @@ PLACES = ("src", "specs", "proofs", "must-fail", ".ci", "bench", "bridges", "cra
 MADE = re.compile(r"(?:^|/)(?:out|__pycache__)(?:/|$)")
 STANDS_FOR_ANY = re.compile(r"(?:^|/)[A-Z]+(?:[./]|$)|[*{}<>$]|\.\.\.")
 PATH = re.compile(r"[\w.\-/*]+")
+# Pages whose names are the code's. A name, as a definition's, a type's or an edit's, has an underscore or a capital letter.
+ON_CODE = ("crates/", "docs/")
+NAME = re.compile(r"(?<![\w./$\-])(?=\w*[a-z])(?=\w*[A-Z_])[A-Za-z]\w*(?<!_)(?![\w./\-])")
+# The files in which names stand, each with how a comment begins.
+COMMENTS = {".rt": "//", ".rattle": "//", ".antt": "--", ".py": "#", ".sh": "#", ".js": "//", ".h": "//", ".c": "//", ".cpp": "//"}
+# A crate, or a file or folder of one; the names in backticks right behind it, but for one with a place of its own; and that one.
+PLACE = r"`?(?:crates/)?((?:lx_\w+|cuedesk)(?:/[\w.\-/]*\w)?)`?"
+OWNED = r"(?: of | in | \()" + PLACE
+NAMES = r"`[^`|]+`(?!" + OWNED + ")"
+BEHIND_PLACE = re.compile(rf"(?<![\w/]){PLACE}[ (|:]+({NAMES}(?:(?:,| and| or) {NAMES})*)")
+BEFORE_PLACE = re.compile(r"(`[^`|]+`)" + OWNED)
 # Paths that stand in a text without backticks: below a crate, or below the top.
 BARE = re.compile(r"(?<![\w/.\-])(?:lx_\w+|cuedesk|" + "|".join(re.escape(place) for place in PLACES) + r")/[\w.\-/]*\w")
 
@@ -85,6 +98,7 @@ class Tree:
             folders[:] = [name for name in folders if name not in (".git", "out", "__pycache__", "node_modules")]
             here = os.path.relpath(folder, top)
             self.paths |= {os.path.normpath(os.path.join(here, name)) for name in folders + files}
+        self.crates = {path.removeprefix("crates/") for path in self.paths if re.fullmatch(r"crates/\w+", path)}
         self.ends = {"/".join(parts[k:]) for parts in (path.split("/") for path in self.paths) for k in range(len(parts))}
 
     def pages(self) -> list[str]:
@@ -99,6 +113,19 @@ class Tree:
         """The text of a page."""
         with open(os.path.join(self.top, page), encoding="utf-8") as file:
             return file.read()
+
+    def names_of(self, path: str) -> set[str]:
+        """The names in a source file, comments aside, and its own name."""
+        stem, ending = os.path.splitext(os.path.basename(path))
+        text = re.sub(rf"(?m)(?:^|\s){COMMENTS[ending]}.*$", "", self.read(path)) if ending in COMMENTS else ""
+        return {stem, *re.findall(r"\w+", text)}
+
+    @functools.cache
+    def names_in(self, place: str) -> set[str]:
+        """The names in a file, which may stand without its ending, or in all files of a folder; without a place in the whole repository."""
+        folder = place and place.rstrip("/") + "/"
+        inside = [path for path in self.paths if path in (place, place + ".antt") or path.startswith(folder)]
+        return set().union(*map(self.names_of, inside))
 
 
 def visible_lines(text: str) -> Iterator[tuple[int, str]]:
@@ -218,6 +245,31 @@ def dead_names(tree: Tree, page: str, text: Text) -> Iterator[Finding]:
                 yield Finding(page, text.line(code.start()), "no such file", name)
 
 
+def names_beside(line: str) -> Iterator[tuple[str, str]]:
+    """Each name of the code that stands right beside a crate, or beside a file of one, with that. Beside a file any word is a name."""
+    beside = [(found[1], found[2]) for found in BEHIND_PLACE.finditer(line)] + [(found[2], found[1]) for found in BEFORE_PLACE.finditer(line)]
+    for place, codes in beside:
+        for code in re.findall(r"`([^`]+)`", codes):
+            yield from ((place, name) for name in ([code] if "/" in place and code.isidentifier() else NAME.findall(code)))
+
+
+def strange_names(tree: Tree, page: str) -> Iterator[Finding]:
+    """Names of the code that aren't where the page has them: in the crate or file beside them; in a crate's README.md in that crate or
+    in one that is named with them; and at least somewhere in the repository."""
+    home = re.fullmatch(r"crates/(\w+)/README\.md", page)
+    for text in texts(tree.read(page)) if page.startswith(ON_CODE) else ():
+        named = [crate for crate in tree.crates if home and (crate == home.group(1) or re.search(rf"\b{crate}\b", text.text))]
+        others = tree.names_in("crates").difference(*(tree.names_in("crates/" + crate) for crate in named)) if home else set()
+        for code in re.finditer(r"`[^`]+`", text.text):
+            for name in set(NAME.findall(code.group())) - tree.crates:
+                if name in others or name not in tree.names_in(""):
+                    yield Finding(page, text.line(code.start()), "no such name", name)
+    for number, line in visible_lines(tree.read(page)):
+        for place, name in names_beside(line):
+            if name not in tree.crates and name not in tree.names_in("crates/" + place):
+                yield Finding(page, number, f"no such name in {place}", name)
+
+
 def wordings(page: str, text: Text) -> Iterator[Finding]:
     """Long sentences, and words to be avoided."""
     most = LONGEST_IN_README if page == "README.md" else LONGEST
@@ -244,7 +296,7 @@ def sizes(page: str, text: str) -> Iterator[Finding]:
 def findings(tree: Tree, page: str) -> list[Finding]:
     """All that is to be mended on a page."""
     content = tree.read(page)
-    found = list(sizes(page, content))
+    found = [*sizes(page, content), *strange_names(tree, page)]
     for text in texts(content):
         found += [*wordings(page, text), *dead_links(tree, page, text), *dead_names(tree, page, text)]
     return found
@@ -266,6 +318,10 @@ See [that](gone.md), [the page](#a-page), [README](../README.md#none) and `src/g
 
 Then lx_gone/specs/Gone, and docs/page.md.
 
+`put_all` of `lx_one`, lx_one/src/lib.rt `held` and `HasRead` (lx_two) are there.
+
+`StaleName` isn't. `HasRead` isn't in `lx_one` (`HasRead`), nor lx_one/src/lib.rt `taken`.
+
     {'code ' * 50}
 
 ```console
@@ -274,13 +330,18 @@ Then lx_gone/specs/Gone, and docs/page.md.
 """
 WANTED = [("README.md", 3, "32 words"), ("README.md", 151, "151 lines"), ("docs/DECISIONS.md", 3, "30,001 bytes"),
           ("docs/page.md", 3, "48 words"), ("docs/page.md", 5, "'anew'"), ("docs/page.md", 9, "41 words"), ("docs/page.md", 11, "gone.md"),
-          ("docs/page.md", 11, "../README.md#none"), ("docs/page.md", 11, "src/gone.rt"), ("docs/page.md", 13, "lx_gone/specs/Gone")]
+          ("docs/page.md", 11, "../README.md#none"), ("docs/page.md", 11, "src/gone.rt"), ("docs/page.md", 13, "lx_gone/specs/Gone"),
+          ("docs/page.md", 17, "StaleName"), ("docs/page.md", 17, "lx_one: HasRead"), ("docs/page.md", 17, "lib.rt: taken"),
+          ("crates/lx_one/README.md", 5, "HasRead")]
+CRATES = {"crates/lx_one/README.md": "# lx_one\n\n`put_all` is here, and `HasRead` in `lx_two`.\n\n`HasRead` isn't.\n",
+          "crates/lx_one/src/lib.rt": "// StaleName, and taken\npub fn put_all() {}\nfn held() {}\n",
+          "crates/lx_two/specs/Two.antt": "pub record HasRead : Type 0 where\n"}
 
 
 def self_test() -> int:
     """A small repository that has one of each fault: each is found, and nothing else."""
     with tempfile.TemporaryDirectory(prefix="words-") as top:
-        pages = {"README.md": WRONG_README, "docs/page.md": WRONG_PAGE, "docs/DECISIONS.md": "# D\n\n" + "A b. " * (DECISIONS_BYTES // 5)}
+        pages = {"README.md": WRONG_README, "docs/page.md": WRONG_PAGE, "docs/DECISIONS.md": "# D\n\n" + "A b. " * (DECISIONS_BYTES // 5), **CRATES}
         for page, text in pages.items():
             os.makedirs(os.path.dirname(os.path.join(top, page)), exist_ok=True)
             with open(os.path.join(top, page), "w", encoding="utf-8") as file:

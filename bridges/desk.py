@@ -28,7 +28,7 @@ if TYPE_CHECKING:
     from seat.remote import Remote
 
 UNIVERSES = 32
-# The screen is drawn at every so many ticks while something moves, and at the next tick after a key.
+# After how many ticks the screen is drawn again while something moves; after a key it is drawn at the next tick.
 DRAW_TICKS = 2
 # How long a lone Escape is waited behind for the rest of an arrow key, in milliseconds.
 ESCAPE_WAIT = 10

@@ -1,10 +1,10 @@
 #!/usr/bin/env python3
 """Tries the library: host/test.py [--program PATH] [--walks N].
 
-Builds it (`make` here, over what `rt lib` proves and compiles), and tries it from C, C++ and Python: misuse, call by call; each call for
-memory refused in turn; both also with the C side under -fsanitize=address,undefined; the examples; every show of examples/ beside the
-program, byte for byte; and random shows and scripts beside the plain desk of .ci/plain_desk.py. Prints what went wrong, and last
-'N passed, M failed'.
+Builds it (`make` here, over what `rt lib` proves and compiles), and tries it from C, C++ and Python. There is misuse, call by call, and
+each call for memory refused in turn, both also with the C side under -fsanitize=address,undefined. Then come the examples, every show of
+examples/ beside the program, byte for byte, and random shows and scripts beside the plain desk of .ci/plain_desk.py. Prints what went
+wrong, and last 'N passed, M failed'.
 """
 import argparse
 import concurrent.futures

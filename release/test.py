@@ -3,7 +3,7 @@
 
     release/test.py [--only TEXT]
 
-A stand-in of the program writes its words, what it reads and where it stands, and ends with status 2 where it has no words; a line in it
+A stand-in of the program writes its words, what it reads and where it stands, and ends with status 2 where it has no words. A line in it
 tells of which build it is, and another is what stripping takes out. Prints a line for each thing that is wrong, and last
 'N passed, M failed'.
 """

@@ -17,7 +17,7 @@ UNDO = 16
 # Lines of a canonical text that no list shows, and those that one does.
 LEVELS = re.compile(rb"(?:^(?:CHAN|PATCH) [^\n]*\n)+", re.MULTILINE)
 LINES = re.compile(rb"^(CUE|SUB|GROUP|\$\$BLOCK|\$\$ASSERT|TEXT|FOLLOWON|PART|UP|DOWN)\b ?(.*)$", re.MULTILINE)
-# So many bytes of a text are read at a time: some ten milliseconds.
+# How many bytes of a text are read at a time: some ten milliseconds.
 PIECE = 1 << 19
 
 

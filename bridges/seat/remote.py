@@ -17,7 +17,7 @@ except ImportError as error:
 
 Value = Union[int, float, str]
 
-# So many packets are taken between two ticks at most, and so many are told of what runs.
+# How many packets are taken between two ticks at most, and how many subscribers are told of what runs.
 PACKETS = 32
 SUBSCRIBERS = 16
 KEYS = {"/cuedesk/go": "go", "/cuedesk/back": "back", "/cuedesk/settle": "settle"}

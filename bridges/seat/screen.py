@@ -12,13 +12,13 @@ from .words import clock_text, cut, percent, seconds
 
 # Colours of 256 from dark to bright; text on the darkest two is white.
 INKS, WHITE, BLACK = (58, 94, 136, 178, 214, 220, 221), 231, 16
-# From so many columns on the stage stands beside the cue list.
+# From this many columns on the stage stands beside the cue list.
 BESIDE = 150
 LIST_COLUMNS = 46
 HEADING = [Piece("      CUE  UP/DOWN     LABEL", "dim")]
-# What was said has so many rows, and more where the last line is longer.
+# How many rows what was said has; more where the last line is longer.
 SAID = 3
-# So much of a label stands in the row of the cue that runs.
+# How much of a label stands in the row of the cue that runs.
 LABEL = 24
 # What stands for the letters beyond ASCII where the terminal has none of them.
 ASCII = str.maketrans("▶›·", ">-.")

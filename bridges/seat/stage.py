@@ -4,7 +4,7 @@ from typing import Dict, Iterator, List, NamedTuple, Set
 from .words import percent
 
 SLOTS = 512
-# How many slots stand in a row of the grid, by what has room, in so many columns each.
+# How many slots stand in a row of the grid, by what has room; how many columns each takes; and where they begin.
 ACROSS, WIDE, LEFT = (32, 20, 10), 3, 6
 EIGHTHS = " ▏▎▍▌▋▊▉█"
 # How a level looks: its shade, from 1 for the darkest to 7; a slot that is dark is 0.
@@ -26,7 +26,7 @@ Row = List[Piece]
 
 
 def bar(part: float, wide: int, is_fine: bool) -> str:
-    """A bar of a part of so many columns, in eighths of a column where the terminal can."""
+    """A bar as long as a part of the columns given, in eighths of a column where the terminal can."""
     eighths = int(part * wide * 8)
     text = "█" * (eighths // 8) + (EIGHTHS[eighths % 8] if eighths % 8 else "") if is_fine else "#" * (eighths // 8)
     return text.ljust(wide, " " if is_fine else ".")
@@ -62,7 +62,7 @@ class Stage:
             yield [Piece(f" {place + 1:4} ", "dim"), Piece(bar(level / 255, wide, self._is_fine), "bar", SHADE[level]), Piece(f" {percent(level):>5}")]
 
     def _grid(self, universe: int, levels: bytes, columns: int) -> Iterator[Row]:
-        """A row for each so many slots of which one was ever up."""
+        """The rows of the grid in which a slot was ever up."""
         across = next((count for count in ACROSS if LEFT + WIDE * count < columns), ACROSS[-1])
         for number in sorted({place // across for place in self._known.get(universe, ())}):
             first = number * across

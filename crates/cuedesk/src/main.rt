@@ -9,11 +9,27 @@ use lx_program::{
 };
 use lx_spec::{Job, ScriptKind};
 use std::alloc::Global;
+use std::io::IsTerminal;
 use std::process::ExitCode;
 use std::{env, io};
 
 /// The line that says how the program is used.
 const USAGE: &str = "usage: cuedesk check|render|sheet [states] | make N | run U [states]";
+
+/// What a person at a terminal is told behind the usage line: the jobs, and where there is more.
+const JOBS: &str = "
+  check    counts a show's cues and channels, and the lines that were skipped
+  sheet    lists each cue with the level of every channel in it
+  render   plays the script behind a show, and answers each of its lines
+  run U    as render, at real speed: the frames of universes 1 to U go to files
+  make N   makes a show of N cues and plays it, as a test of the program
+  undo     as render, with undo, redo and record
+  two      as render, over two cue lists that play beside each other
+  crew N   plays the scripts of N operators at the same time, from files
+
+The show comes from standard input. All but make take the word states behind
+them: the levels of each cue are then its whole look, and not its changes alone.
+The manual: man cuedesk, docs/GUIDE.md";
 
 /// The words after the program's name.
 fn words_given(rt: &HostRuntime) -> io::Result<Vec<String>> {
@@ -33,10 +49,18 @@ fn status_without_words(error: &io::Error) -> Status {
     }
 }
 
-/// Ends with the status. The usage line goes to standard error where the words name no job.
+/// Says on standard error how the program is used. Programs compare the line, so only a person, at a terminal, gets the jobs too.
+fn tell_usage(rt: &HostRuntime) {
+    let _ = eprintln!(rt; "{USAGE}");
+    if rt.stderr().is_terminal() {
+        let _ = eprintln!(rt; "{JOBS}");
+    }
+}
+
+/// Ends with the status. Where the words name no job, standard error says how the program is used.
 fn end(rt: &HostRuntime, status: Status) -> ExitCode {
     if matches!(status, Status::Usage | Status::Live) {
-        let _ = eprintln!(rt; "{USAGE}");
+        tell_usage(rt);
     }
     ExitCode::from(exit_of(status))
 }

@@ -25,19 +25,19 @@ use std::thread::Threads;
 
 /// Does the job that the words name. `words` are those after the program's name.
 ///
-/// For the bytes that the input had left, the text that is written is what the definitions give for the job: the line of a
-/// refused show, the line or the cue list of a show, or the replies to a script, in which each command is done or refused
-/// as the desk does it and each frame is evaluated over the whole show as it then is and the whole list of runs since the
-/// opening; by `undo` edits and records are undone and redone besides, and by `two` it is
-/// so of two desks beside each other. `make` reads nothing. Out of memory refuses nothing but edits and records.
+/// What is written is the text that the definitions give for the job and the bytes of the input. It is the line of a
+/// refused show, the line or the cue list of a show, or the replies to a script. In those each command is done or refused as
+/// the desk does it. Each frame is evaluated over the whole show as it then is and the whole list of runs since the opening.
+/// By `undo` edits and records are also undone and redone, and by `two` it is so of two desks beside each other. `make` reads
+/// nothing. Running out of memory refuses nothing but edits and records.
 pub fn desk<S: Source, K: Sink>(
     alloc: Global,
     words: &[String],
     input: &mut S,
     output: &mut K,
 ) -> Status
-    // Usage exactly where the words name no job, and Live where they name `run` or `crew`, unless memory was wanted in
-    // vain; and then nothing is read or written.
+    // Usage exactly where the words name no job, and Live where they name `run` or `crew`, unless memory ran out; and
+    // then nothing is read or written.
     ensures words { AnswersWords (job_of (map string_bytes words.now)) result input.old input.new output.old output.new }
 
     // What was read and written, by the status: with Ok and ShowRefused the whole text of the job.
@@ -70,7 +70,7 @@ pub fn desk<S: Source, K: Sink>(
 ///
 /// The script that follows the show is answered on the output, as by `render`, and each command that is accepted is published
 /// at once. Beside it a worker for each of the universes 1 to U, in a thread of its own, writes to the outlet at the
-/// universe's place the line of each newer version that it meets: `frame`, how many commands led to it, and the frame. No line
+/// universe's place. Each newer version that it meets gets a line: `frame`, how many commands led to it, and the frame. No line
 /// is of two versions, and at the end the last one is of all accepted commands. A command may be refused with `Memory` where
 /// there is no room to publish it.
 ///
@@ -98,8 +98,8 @@ pub fn desk_live<
     ensures outlets { KeepsOutlets K.holds K.back K.faults K.wants (job_of (map string_bytes words.now)) result input.old input.new output.old
         output.new outlets.old outlets.new }
 
-    // What was read and written, by the status: with Ok the whole output, and each outlet up to the version of all accepted commands;
-    // after a fault each outlet up to what was published of the commands that the lines which were answered came to.
+    // What was read and written, by the status: with Ok the whole output, and each outlet up to the version of all accepted commands.
+    // After a fault each outlet has what was published of the commands of the lines that were answered.
     ensures ended { OfRun (job_of (map string_bytes words.now)) (S.left input.old)
         (λ universes form bytes. HasLived result K.holds K.back K.faults K.wants universes form bytes (S.left input.new) (O.holds output.old)
         (O.holds output.new) outlets.old outlets.new) }
@@ -147,8 +147,8 @@ pub fn desk_crew<R: Threads + Wait + Sync, I: Source, S: Source + Send + Drop, K
     ensures words { KeepsOperators (job_of (map string_bytes words.now)) result input.old input.new output.old output.new operators.old
         operators.new }
 
-    // What was read and written, by the status: with Ok the text of all lines of each operator in use, each once and in its order; after
-    // a fault of an operator the same with those of its lines that were taken whole; after a fault of the output a prefix of such a text.
+    // What was read and written, by the status: with Ok the text of all lines of each operator in use, each once and in its order.
+    // After a fault of an operator it has those of its lines that were taken whole; after a fault of the output it is a prefix of such a text.
     // A show that is refused, or couldn't be read, ends as another job's, and no operator's source is read.
     ensures ended { OfCrew (job_of (map string_bytes words.now)) (I.left input.old)
         (λ count form bytes. HasCrewEnded S.left S.faults count form bytes (I.left input.new) operators.old operators.new

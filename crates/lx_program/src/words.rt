@@ -30,9 +30,9 @@ pub enum WordsFault {
     Memory,
 }
 
-/// The job that the words name: `check`, `render`, `sheet`, `undo` or `two`, or one of them and `states`; `make` and a number of
-/// cues; `run` and a number of universes or `crew` and a number of operators, or these and `states`. `Usage` comes exactly where
-/// they are none of these, and at once where a word begins with a dash.
+/// The job that the words name: `check`, `render`, `sheet`, `undo` or `two`, or one of them and `states`; or `make` and a number
+/// of cues. It may also be `run` and a number of universes or `crew` and a number of operators, or these and `states`. `Usage`
+/// comes exactly where they are none of these, and at once where a word begins with a dash.
 pub fn words_of(alloc: Global, words: &[String]) -> Result<Job, WordsFault>
     ensures job { IfOk result (λ job. job_of (map string_bytes words.now) ≡ Some job) }
     ensures range { IfOk result JobInRange }
@@ -100,7 +100,7 @@ fn begins_with_dash(word: &str) -> bool
     matches!(word.as_bytes(), [b'-', ..])
 }
 
-/// The words as the values of one argument. Lack of memory is the one error.
+/// The words as the values of one argument. Out of memory is the one error.
 fn matches_of<'a>(alloc: Global, words: &'a [String]) -> Result<ArgMatches<'a>, Error>
     requires { list_any begins_with_dash (map string_bytes words.now) ≡ false }
     ensures values { IfOk result (λ matches. values_of matches ≡ map string_bytes words.now) }
