@@ -3,6 +3,7 @@
 
 ghost use Rattle.std.specs.Prelude.{◌++◌, [], ◌∷◌, codes, decimal};
 ghost use Rattle.lx_io.specs.Puts.{Puts};
+ghost use Rattle.lx_spec.specs.Show.{Valid};
 ghost use Rattle.lx_spec.specs.ShowText.{line, show_text};
 
 use crate::pieces::{Written, write_each};
@@ -14,7 +15,8 @@ use lx_show::{PatchRow, Show};
 /// patch rows, the groups, the submasters and the cues, each sorted by number, and `ENDDATA`. It takes no memory. A
 /// fault is the sink's own, and then a prefix of the text was appended.
 pub fn write_show<K: Sink>(show: &Show, sink: &mut K) -> Result<(), SinkFault>
-    ensures { Puts K.holds K.faults K.wants sink.old sink.new result (show_text show.now) }
+    ensures text { Puts K.holds K.faults K.wants sink.old sink.new result (show_text show.now) }
+    ensures valid { Valid show.now }
 {
     put_head(show.channels(), sink)?;
     write_each(show.patch(), sink)?;
