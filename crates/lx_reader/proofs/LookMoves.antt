@@ -1,7 +1,7 @@
 -- The moves of a look, channel by channel, and the cues whose looks become moves, from the last one on.
 use Rattle.std.proofs.Common.{◌≡◌, ℕ, suc, zero, ◌+◌, ◌<◌, ◌≤◌, Bool, true, false, cond, List, [], ◌∷◌, ◌++◌, map, length, take, drop}
 use Rattle.std.proofs.Common.{get_or, Option, Some, None, refl, ap, ◌∙◌, sym, subst, arith, add-one, append-nil, append_assoc, IsTrue}
-use Rattle.std.specs.Prelude.{filter, not, ◌==◌, ◌-◌, IfSome}
+use Rattle.std.specs.Prelude.{filter, is_some, not, ◌==◌, ◌-◌, IfSome}
 use Rattle.std.specs.Option.{option_map_or, IsSomeAnd}
 use Rattle.std.specs.List.{AllByRecursion, range_with_len}
 use Rattle.std.proofs.Math.Seq.{take-append_seam}
@@ -16,6 +16,9 @@ use Rattle.lx_spec.specs.TrackedLevel.{cue_of, move_in, level_in}
 use Rattle.lx_show.specs.ChangedEntry.{changed}
 use Rattle.lx_spec.proofs.Lists.{kept_by, find_has}
 use Rattle.lx_spec.proofs.SortedLists.{seam, goes_between, stands_between, all_at_seam, below_seam, above_seam}
+use Rattle.lx_spec.proofs.SortedLists.{All-placed, IsStrictlySorted-placed, entry_number, found_valid, length-placed_there}
+use Rattle.lx_show.proofs.ChangedCues.{with_other_moves}
+use Rattle.lx_show.proofs.ValidShows.{with_cues}
 use Rattle.lx_reader.specs.LookMoves.{last_look, look_changes, look_move, moves_up_to, with_look}
 
 all_map : {A B : Type 0} (P : A → Type 0) (Q : B → Type 0) (f : A → B) (xs : List A) → ((x : A) → P x → Q (f x)) → AllByRecursion P xs
@@ -87,6 +90,35 @@ moves_valid before cue channels valid =
     (find_has (ValidMove channels cue.parts) (λ m. m.chan == c) cue.moves valid.moves))
     (kept_by (InRange channels) (look_changes before cue) (range_with_len 1 channels)
     (range_in 1 channels channels (omega arith) (omega arith)))
+
+-- and sorted
+sorted_step : (x : Move) (ms : List Move) (b : Bool) → IsStrictlySorted (λ m. m.chan) ms
+    → IsStrictlySorted (λ m. m.chan) (cond b (placed (λ m. m.chan) x ms) ms)
+sorted_step x ms true sorted = IsStrictlySorted-placed (λ m. m.chan) x ms sorted
+sorted_step x ms false sorted = sorted
+
+moves_sorted : (before : ℕ → ℕ) (cue : Cue) (n : ℕ) → IsStrictlySorted (λ m. m.chan) (moves_up_to before cue n)
+moves_sorted before cue zero = tt
+moves_sorted before cue (suc n) = subst (IsStrictlySorted (λ m. m.chan)) (moves_suc before cue n)
+    (sorted_step (look_move cue (suc n)) (moves_up_to before cue n) (look_changes before cue (suc n)) (moves_sorted before cue n))
+
+-- so the show is valid where its cue has them
+valid_with : (show : Show) (n : ℕ) (moves : List Move) (o : Option Cue) → Valid show → cue_of show n ≡ o
+    → IsSomeAnd o (λ z. AllByRecursion (ValidMove show.channels z.parts) moves) → IsStrictlySorted (λ m. m.chan) moves
+    → Valid (record show { cues = changed (λ x. x.number) n (λ z. record z { moves = moves }) show.cues })
+valid_with show n moves None valid is fits sorted = absurd fits
+valid_with show n moves (Some cue) valid is fits sorted =
+    let fit : ValidCue show.channels cue = found_valid (ValidCue show.channels) (λ x. x.number) n show.cues cue valid.cues is in
+    let with : Cue = record cue { moves = moves } in
+    let there : IsTrue (has_entry (λ x. x.number) with.number show.cues) =
+    subst (λ k. IsTrue (has_entry (λ x. x.number) k show.cues)) (sym (entry_number (λ x. x.number) n show.cues cue is))
+    (subst (λ (o : Option Cue). IsTrue (is_some o)) (sym is) refl) in
+    subst (λ o. Valid (record show { cues = option_map_or (λ z. placed (λ x. x.number) (record z { moves = moves }) show.cues) o show.cues }))
+    (sym is)
+    (with_cues show (placed (λ x. x.number) with show.cues) valid
+    (All-placed (ValidCue show.channels) (λ x. x.number) with show.cues (with_other_moves show.channels cue moves fit fits sorted) valid.cues)
+    (IsStrictlySorted-placed (λ x. x.number) with show.cues valid.cues_sorted)
+    (omega (arith, length-placed_there (λ x. x.number) with show.cues there, valid.few_cues)))
 
 -- the look of the last cue
 pub last_look-append : (xs : List Cue) (cue : Cue) (c : ℕ) → last_look (xs ++ cue ∷ []) c ≡ level_in cue c
@@ -241,3 +273,13 @@ changed_at show new xs given at channels n item moves are here before count numb
     let number' : n ≡ cue.number = number ∙ ap (λ z. z.number) same in
     cue_changed show new front cue back moves is valid made'
     (changes ∙ (λ j. record show { cues = changed (λ x. x.number) (number' j) (λ z. record z { moves = moves }) show.cues }))
+
+pub valid_at : (show new : Show) (xs given : List Cue) (at channels n : ℕ) (cue : Cue) (moves : List Move) → xs ≡ show.cues
+    → at < length show.cues → cue ≡ get_or xs at cue → given ≡ take at xs → channels ≡ show.channels → n ≡ cue.number → Valid show
+    → moves ≡ moves_up_to (last_look given) cue channels
+    → new ≡ record show { cues = changed (λ x. x.number) n (λ z. record z { moves = moves }) show.cues } → Valid new
+valid_at show new xs given at channels n cue moves are within here front count number valid made changes =
+    subst Valid (sym changes)
+    (valid_with show n moves (cue_of show n) valid refl
+    (fit_at show xs given at channels n cue moves are within here front count number valid made)
+    (subst (IsStrictlySorted (λ m. m.chan)) (sym made) (moves_sorted (last_look given) cue channels)))

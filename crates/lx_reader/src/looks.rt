@@ -5,7 +5,7 @@ ghost use Rattle.lx_base.specs.declared.TheConstants.{CHANNELS};
 ghost use Rattle.lx_spec.specs.declared.Form.TheVariants.{States};
 ghost use Rattle.lx_spec.specs.Looks.{by_form};
 ghost use Rattle.lx_spec.specs.SortedList.{placed};
-ghost use Rattle.lx_spec.specs.Show.{Cue};
+ghost use Rattle.lx_spec.specs.Show.{Cue, Valid};
 ghost use Rattle.lx_spec.specs.TrackedLevel.{level_in};
 ghost use Rattle.lx_reader.specs.LookMoves.{last_look, look_move, moves_up_to, with_look};
 
@@ -17,7 +17,8 @@ use std::alloc::{AllocError, Global};
 /// Each cue's moves, which name its whole look, become the moves from the look of the cue before it. Memory is
 /// taken for the new moves.
 pub(crate) fn looks_to_moves(alloc: Global, show: &mut Show) -> Result<(), AllocError>
-    ensures { OnOk result (show.new ≡ by_form States show.old) }
+    ensures moves { OnOk result (show.new ≡ by_form States show.old) }
+    ensures valid { OnOk result (Valid show.new) }
 {
     let mut left = show.cues().len();
     while left > 0 {
@@ -30,8 +31,9 @@ pub(crate) fn looks_to_moves(alloc: Global, show: &mut Show) -> Result<(), Alloc
 /// The same for the cue at a place. The cues before it are looks.
 fn change_cue(alloc: Global, show: &mut Show, at: usize) -> Result<(), AllocError>
     requires { at < length show.old.cues }
-    ensures { (front : List Cue) (cue : Cue) (back : List Cue) → length front ≡ at → show.old.cues ≡ front ++ cue ∷ back
+    ensures moves { (front : List Cue) (cue : Cue) (back : List Cue) → length front ≡ at → show.old.cues ≡ front ++ cue ∷ back
         → OnOk result (show.new ≡ record show.old { cues = front ++ with_look show.old front cue ∷ back }) }
+    ensures valid { OnOk result (Valid show.new) }
 {
     let channels = show.channels();
     let cues = show.cues();

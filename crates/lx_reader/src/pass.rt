@@ -97,10 +97,7 @@ fn loaded_in_form(alloc: Global, reader: Reader, form: Form) -> Result<Loaded, S
     match form {
         Form::Moves => Ok(loaded),
         Form::States => match looks_to_moves(alloc, &mut loaded.show) {
-            Ok(()) => {
-                let _ = loaded.show.channels();
-                Ok(loaded)
-            }
+            Ok(()) => Ok(loaded),
             Err(_) => Err(ShowFault::Memory),
         },
     }
@@ -119,7 +116,6 @@ fn loaded(reader: Reader) -> Loaded
     };
     let channels = show.channels().max(set);
     show.widen(channels);
-    let _ = show.channels();
     Loaded {
         show,
         skipped: reader.skipped,

@@ -5,5 +5,8 @@ use Rattle.lx_reader.proofs.looks.looks_to_moves.Goals as goal
 pub loop-left-preserved : goal.loop-left-preserved
 loop-left-preserved c =
     let at : c.loop-left.left ≡ suc (c.loop-left.left - 1) = omega (arith, c.loop-left-test.true) in
-    looked_next c.args.show.now c.loop-left.show c.change_cue.new.show (c.loop-left.left - 1)
-    (subst (λ k. IsLooked k c.args.show.now c.loop-left.show) at c.loop-left.invariant) c.in_ok-change_cue.ensures
+    record {
+      looked = looked_next c.args.show.now c.loop-left.show c.change_cue.new.show (c.loop-left.left - 1)
+          (subst (λ k. IsLooked k c.args.show.now c.loop-left.show) at c.loop-left.invariant.looked) c.in_ok-change_cue.ensures.moves;
+      valid = c.in_ok-change_cue.ensures.valid;
+    }

@@ -1,8 +1,12 @@
+use Rattle.lx_spec.specs.Show.{Valid}
 use Rattle.lx_reader.proofs.LookMoves.{IsLooked}
 use Rattle.lx_reader.proofs.looks.looks_to_moves.Given as goal
 
 abbrev pub invariant-loop-left : goal.invariant-loop-left
-invariant-loop-left l = IsLooked l.left l.fn.show l.show
+invariant-loop-left l = record {
+  looked : IsLooked l.left l.fn.show l.show;
+  valid : Valid l.show;
+}
 
 abbrev pub decreases-loop-left : goal.decreases-loop-left
 decreases-loop-left l = l.left

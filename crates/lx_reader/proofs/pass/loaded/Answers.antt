@@ -1,0 +1,11 @@
+use Rattle.std.proofs.Common.{◌≤◌, rules, subst, sym}
+use Rattle.lx_base.specs.declared.TheConstants.{CHANNELS}
+use Rattle.lx_spec.specs.Show.{Valid}
+use Rattle.lx_show.proofs.ValidShows.{with_channels}
+use Rattle.lx_reader.proofs.pass.loaded.Goals as goal
+
+pub returns-clause-valid : goal.returns-clause-valid
+returns-clause-valid c =
+    let more : c.args.reader.show.channels ≤ c.max-channels.result = search rules in
+    let most : c.max-channels.result ≤ CHANNELS = search rules in
+    subst Valid (sym c.widen.ensures) (with_channels c.args.reader.show c.max-channels.result c.channels.ensures.valid more most)
