@@ -35,7 +35,6 @@ pub(crate) fn level_there(
     requires hints { length hints.old ≡ RUNS }
     ensures { result ≡ tracked show.now (last_cue base (reverse live.now)) c }
 {
-    let _ = show.channels();
     match live.last() {
         Some(run) => sheet.level_near(run.cue, c, &mut hints[live.len() - 1].cue),
         None => sheet.level_at(base, c),

@@ -4,7 +4,7 @@ ghost use Rattle.std.specs.Prelude.{◌≡◌, ◌≢◌, ℕ, ◌+◌, ◌-◌,
 ghost use Rattle.std.specs.Prelude.{IfSome};
 ghost use Rattle.std.specs.Option.{option_copied, option_map_or};
 ghost use Rattle.lx_base.specs.declared.TheConstants.{RUNS, LANES, TICK_END};
-ghost use Rattle.lx_spec.specs.Show.{Show as ShowData};
+ghost use Rattle.lx_spec.specs.Show.{Show as ShowData, Valid};
 ghost use Rattle.lx_spec.specs.TrackedLevel.{tracked};
 ghost use Rattle.lx_spec.specs.Run.{Run as RunData};
 ghost use Rattle.lx_spec.specs.Level.{level, last_cue, run_over};
@@ -69,6 +69,7 @@ impl Levels {
     pub fn open(alloc: Global, show: &Show) -> Result<Levels, AllocError>
         ensures moment { IfOk result (λ levels. levels.moment ≡ 0) }
         ensures reach { IfOk result (λ levels. length levels.stacks ≡ show.now.channels) }
+        ensures valid { Valid show.now }
     {
         let channels = show.channels() as usize;
         Ok(Levels {
