@@ -48,9 +48,10 @@ same_slot channels e outs out (row ∷ patch) table all =
     ]
 
 -- the slots of the outputs in a table are the values of the dimmers
-pub patched : (show : Show) (out : ℕ → ℕ) (outs slots : List ℕ) → Valid show → IsTable show.channels out outs
+pub patched : (show : Show) (out : ℕ → ℕ) (outs slots : List ℕ) → AllByRecursion (ValidPatchRow show.channels) show.patch
+    → IsTable show.channels out outs
     → IsTable SLOTS (dimmer_value show.patch (λ c. get_or outs (c - 1) 0)) slots → IsTable SLOTS (dimmer_value show.patch out) slots
-patched show out outs slots valid table stand = record {
+patched show out outs slots rows table stand = record {
   reach = stand.reach;
-  each = λ k within. stand.each k within ∙ same_slot show.channels (k + 1) outs out show.patch table valid.patch;
+  each = λ k within. stand.each k within ∙ same_slot show.channels (k + 1) outs out show.patch table rows;
 }
