@@ -1,9 +1,11 @@
 -- An output shows a player when its outputs are mixed from the player's levels, and does so while nothing that goes out changes.
 use Rattle.std.specs.Prelude.{◌≡◌, ℕ, ◌+◌, ◌<◌, max, List, length, take, drop, ◌++◌}
+use Rattle.std.specs.List.{AllByRecursion}
 use Rattle.std.proofs.Common.{arith, ap, ◌∙◌, sym, subst}
 use Rattle.std.proofs.lemmas.Grind.{common_steps}
 use Rattle.lx_base.specs.Numbers.{scaled}
 use Rattle.lx_spec.specs.declared.PatchRow.{PatchRow}
+use Rattle.lx_spec.specs.Show.{ValidPatchRow}
 use Rattle.lx_spec.specs.Output.{contribution}
 use Rattle.lx_spec.specs.Kept.{Kept}
 use Rattle.lx_mixer.specs.Table.{IsTable}
@@ -11,7 +13,7 @@ use Rattle.lx_patch.specs.DimmerTable.{StandsForPatch}
 use Rattle.lx_console.specs.declared.kept_output.KeptOutput.{KeptOutput}
 use Rattle.lx_console.specs.Changes.{SamePatch, SameOutputs}
 use Rattle.lx_console.specs.ConsoleMeaning.{level_now, out_now}
-use Rattle.lx_console.specs.KeptOutput.{Reaches, SlotsStand, ShowsPlayer, IsMixedOutput}
+use Rattle.lx_console.specs.KeptOutput.{Reaches, PatchesOwnChannels, SlotsStand, ShowsPlayer, IsMixedOutput}
 
 -- a list written over the whole of another is itself
 pub written : (n : ℕ) (xs ys : List ℕ) → length xs ≡ n → take n (xs ++ drop (length xs) ys) ≡ xs
@@ -21,6 +23,7 @@ pub filled : (k : Kept) (levels : List ℕ) (output : KeptOutput) → IsTable k.
     → ShowsPlayer k output
 filled k levels output of_levels is = record {
   reaches = is.reaches;
+  rows = is.rows;
   patch_stands = is.patch_stands;
   outs_stand = record {
     reach = is.reaches.outs_reach;
@@ -38,6 +41,10 @@ pub same_table : (before after : Kept) (output : KeptOutput) → SamePatch befor
     → StandsForPatch after.show.patch output.table
 same_table before after output same stands = subst (λ (rows : List PatchRow). StandsForPatch rows output.table) (sym same.patch) stands
 
+pub same_rows : (before after : Kept) → SamePatch before after → PatchesOwnChannels before.show → PatchesOwnChannels after.show
+same_rows before after same rows = subst (λ n. AllByRecursion (ValidPatchRow n) after.show.patch) (sym same.channels)
+    (subst (λ (rows : List PatchRow). AllByRecursion (ValidPatchRow before.show.channels) rows) (sym same.patch) rows)
+
 pub same_slots : (before after : Kept) (output : KeptOutput) → SamePatch before after → SlotsStand before.show.patch output
     → SlotsStand after.show.patch output
 same_slots before after output same stand = subst (λ (rows : List PatchRow). SlotsStand rows output) (sym same.patch) stand
@@ -52,6 +59,7 @@ same_out before after i same within =
 pub filled_still : (before after : Kept) (output : KeptOutput) → ShowsPlayer before output → SameOutputs before after → ShowsPlayer after output
 filled_still before after output is same = record {
   reaches = same_reaches before.show.channels after.show.channels output same.rows.channels is.reaches;
+  rows = same_rows before after same.rows is.rows;
   patch_stands = same_table before after output same.rows is.patch_stands;
   outs_stand = record {
     reach = is.outs_stand.reach ∙ sym same.rows.channels;

@@ -1,9 +1,11 @@
 -- What a console keeps is filled in: it is what the show, the playback, the faders and the master give.
 use Rattle.std.specs.Prelude.{◌≡◌, ◌≢◌, ℕ, ◌+◌, ◌-◌, ◌<◌, max, Bool, false, Some, None, List, length, slice_index}
+use Rattle.std.specs.List.{AllByRecursion}
 use Rattle.lx_base.specs.declared.TheConstants.{SLOTS}
 use Rattle.lx_base.specs.Numbers.{scaled}
 use Rattle.lx_spec.specs.declared.PatchRow.{PatchRow}
 use Rattle.lx_spec.specs.SortedList.{entry_at}
+use Rattle.lx_spec.specs.Show.{Show, Valid, ValidPatchRow}
 use Rattle.lx_spec.specs.Output.{contribution, dimmer_value}
 use Rattle.lx_spec.specs.Kept.{Kept}
 use Rattle.lx_sheet.specs.Rows.{Sheet}
@@ -26,6 +28,10 @@ pub record Reaches (channels : ℕ) (output : KeptOutput) : Type 0 where
   pub mixed_reach : length output.mixed.items ≡ channels
   pub slots_reach : length output.slots.items ≡ SLOTS
 
+-- the show's rows patch channels that it has
+abbrev pub PatchesOwnChannels : Show → Type 0
+PatchesOwnChannels show = AllByRecursion (ValidPatchRow show.channels) show.patch
+
 -- the slots are those of the outputs
 abbrev pub SlotsStand : List PatchRow → KeptOutput → Type 0
 SlotsStand patch output = IsTable SLOTS (dimmer_value patch (λ c. slice_index output.outs.items (c - 1))) output.slots.items
@@ -33,6 +39,7 @@ SlotsStand patch output = IsTable SLOTS (dimmer_value patch (λ c. slice_index o
 -- the outputs are mixed from the levels and from what the submasters give, and the slots are those of the outputs
 pub record IsMixedOutput (levels : List ℕ) (player : Kept) (output : KeptOutput) : Type 0 where
   pub reaches : Reaches player.show.channels output
+  pub rows : PatchesOwnChannels player.show
   pub patch_stands : StandsForPatch player.show.patch output.table
   pub outs : (k : ℕ) → k < length output.outs.items
       → slice_index output.outs.items k ≡ scaled (max (slice_index levels k) (contribution player.show player.faders (k + 1))) player.master
@@ -41,6 +48,7 @@ pub record IsMixedOutput (levels : List ℕ) (player : Kept) (output : KeptOutpu
 -- the output shows the player
 pub record ShowsPlayer (player : Kept) (output : KeptOutput) : Type 0 where
   pub reaches : Reaches player.show.channels output
+  pub rows : PatchesOwnChannels player.show
   pub patch_stands : StandsForPatch player.show.patch output.table
   pub outs_stand : IsTable player.show.channels (out_now player) output.outs.items
   pub slots_stand : SlotsStand player.show.patch output
@@ -69,8 +77,9 @@ IsChangeOf dirty leveled Nothing = IsClean dirty leveled
 IsChangeOf dirty leveled Leveled = dirty.dimmer ≡ None
 IsChangeOf dirty leveled (Row e) = dirty.dimmer ≡ Some e
 
--- the rows, the rack and the levels stand for the show and the playback
+-- the show is valid, and the rows, the rack and the levels stand for it and the playback
 pub record IsKept (player : Kept) (sheet : Sheet) (rack : Faders) (levels : Levels) : Type 0 where
+  pub valid : Valid player.show
   pub rows : RowsStandFor player.show sheet
   pub subs : StandsForSubs player.show rack
   pub levels_stand : LevelsStandFor player.show player.playback levels

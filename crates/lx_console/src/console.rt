@@ -155,7 +155,6 @@ impl Console {
         ensures slots { IsTable SLOTS (dimmer_value self.now.show.patch (out_now self.now)) result.now }
         ensures frames { (d : Desk) (u : ℕ) → StandsFor d self.now → 1 ≤ u → u ≤ UNIVERSES → universe u result.now ≡ frame d u }
     {
-        let _ = self.player.show().channels();
         self.output.slots()
     }
 }

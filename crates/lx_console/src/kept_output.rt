@@ -49,7 +49,6 @@ impl KeptOutput {
         requires patch { StandsForPatch player.now.show.patch self.old.table }
         ensures { IsMixedOutput levels.now player.now self.new }
     {
-        let _ = player.show().channels();
         mix_into(
             levels,
             player.contribution(),
@@ -67,7 +66,6 @@ impl KeptOutput {
         requires slots { SlotsStand player.now.show.patch self.old }
         ensures { IsMixedOutput levels.now player.now self.new }
     {
-        let _ = player.show().channels();
         mix_into(
             levels,
             player.contribution(),

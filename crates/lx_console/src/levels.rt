@@ -1,6 +1,7 @@
 //! The kept levels, as keys, ticks and edits leave them.
 
 ghost use Rattle.std.specs.Prelude.{◌≡◌, ℕ, ◌+◌, ◌<◌, ◌≤◌, [], true, false, length, is_some, IsTrue};
+ghost use Rattle.lx_spec.specs.Show.{Valid};
 ghost use Rattle.lx_sheet.specs.SheetMeaning.{RowsStandFor};
 ghost use Rattle.lx_edit.specs.ChanSet.{has_chan};
 ghost use Rattle.lx_levels.specs.Stacks.{level_at};
@@ -77,6 +78,7 @@ pub(crate) fn recompute_touched(
     requires others { (k : ℕ) → k < show.now.channels → has_chan chans.now (k + 1) ≡ false → StackStandsAt show.now playback.now levels.old k }
     ensures stands { LevelsStandFor show.now playback.now levels.new }
     ensures same { result ≡ false → levels.new ≡ levels.old }
+    ensures valid { Valid show.now }
 {
     let count = show.channels() as usize;
     let mut changed = false;
@@ -101,8 +103,10 @@ pub(crate) fn recompute_all(levels: &mut Levels, show: &Show, sheet: &Sheet, pla
     requires rows { RowsStandFor show.now sheet.now }
     requires moment { levels.old.moment ≡ playback.now.moment }
     requires reach { length levels.old.stacks ≡ show.now.channels }
-    ensures { LevelsStandFor show.now playback.now levels.new }
+    ensures stands { LevelsStandFor show.now playback.now levels.new }
+    ensures valid { Valid show.now }
 {
-    let _ = show.channels();
-    let _ = recompute_touched(levels, show, sheet, playback, &ChanSet::all());
+    for k in 0..show.channels() as usize {
+        levels.recompute(show, sheet, playback, Chan::at(k));
+    }
 }

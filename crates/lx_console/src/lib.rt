@@ -7,6 +7,7 @@ mod kept_output;
 pub mod laws;
 mod levels;
 mod player;
+mod slots;
 mod ticks;
 mod unseen;
 
@@ -14,3 +15,4 @@ pub use change::Change;
 pub use console::Console;
 pub use kept_output::KeptOutput;
 pub use player::{Applied, Passed, Player};
+pub use slots::slots_of;

@@ -5,6 +5,7 @@ ghost use Rattle.std.specs.Prelude.{OnOk, OnErr, IfOk, IfErr, IsOkAnd, IsTrue, I
 ghost use Rattle.std.specs.Option.{option_copied};
 ghost use Rattle.lx_base.specs.declared.TheConstants.{TICK_END, TICK_STEP};
 ghost use Rattle.lx_spec.specs.SortedList.{has_entry};
+ghost use Rattle.lx_spec.specs.Show.{Valid};
 ghost use Rattle.lx_spec.specs.Level.{level};
 ghost use Rattle.lx_spec.specs.Playback.{position_of, press, tick};
 ghost use Rattle.lx_spec.specs.TrackedLevel.{cue_of, tracked};
@@ -186,7 +187,8 @@ impl Player {
 
     /// What the submasters give each channel at their faders: that of channel c at place c - 1.
     pub fn contribution(&self) -> &[Level]
-        ensures { IsTable self.now.show.channels (contribution self.now.show self.now.faders) result.now }
+        ensures table { IsTable self.now.show.channels (contribution self.now.show self.now.faders) result.now }
+        ensures valid { Valid self.now.show }
     {
         self.rack.contribution()
     }
@@ -278,7 +280,6 @@ impl Player {
         ensures changes { Changes result.change self.old self.new }
     {
         let placed = placed_alone(&plan);
-        let _ = self.show.channels();
         let Exchanged { dirty, undo } = plan.exchange(&mut self.show, &mut self.sheet);
         let seen = seen(&self.show, &self.playback, placed, &dirty.chans);
         let leveled = recompute_touched(

@@ -1,6 +1,5 @@
 use Rattle.std.proofs.Common.{List, ℕ, sym, subst}
 use Rattle.lx_base.specs.declared.TheConstants.{SLOTS}
-use Rattle.lx_spec.specs.Show.{Show, Valid}
 use Rattle.lx_spec.specs.Output.{dimmer_value}
 use Rattle.lx_spec.specs.Kept.{Kept}
 use Rattle.lx_mixer.specs.Table.{IsTable}
@@ -16,8 +15,7 @@ slots c =
     let filled = c.self.invariant in
     subst (λ (xs : List ℕ). IsTable SLOTS (dimmer_value c.args.self.now.show.patch (out_now c.args.self.now)) xs) (sym c.slots.ensures)
     (subst (λ (k : Kept). IsTable SLOTS (dimmer_value k.show.patch (out_now k)) output.slots.items) c.self.view_is
-    (patched k.show (out_now k) output.outs.items output.slots.items
-    (subst (λ (show : Show). Valid show) c.show.ensures c.channels.ensures.valid) filled.outs_stand filled.slots_stand))
+    (patched k.show (out_now k) output.outs.items output.slots.items filled.rows filled.outs_stand filled.slots_stand))
 
 pub returns-clause-slots : goal.returns-clause-slots
 returns-clause-slots c = slots c

@@ -1,7 +1,6 @@
 use Rattle.std.proofs.Common.{◌≡◌, ◌+◌, ◌-◌, ◌≤◌, ◌++◌, max, take, drop, List, ℕ, arith, length, get_or, subst, sym, ap, ◌∙◌}
 use Rattle.lx_base.specs.declared.TheConstants.{SLOTS}
 use Rattle.lx_base.specs.Numbers.{scaled}
-use Rattle.lx_spec.specs.Show.{Show, Valid}
 use Rattle.lx_spec.specs.Output.{contribution, dimmer_value}
 use Rattle.lx_mixer.specs.Table.{IsTable}
 use Rattle.lx_patch.proofs.Frames.{reaches}
@@ -12,8 +11,7 @@ pub frame_into-requires-clause-reach : goal.frame_into-requires-clause-reach
 frame_into-requires-clause-reach c =
     let enough : c.args.player.now.show.channels ≤ length c.deref.result.now =
     omega (arith, c.deref.ensures.len, c.requires.reaches.outs_reach) in
-    let valid : Valid c.args.player.now.show = subst (λ (show : Show). Valid show) c.show.ensures c.channels.ensures.valid in
-    reaches c.args.player.now.show c.args.self.now.table (length c.deref.result.now) valid enough c.requires.patch
+    reaches c.args.player.now.show c.args.self.now.table (length c.deref.result.now) c.contribution.ensures.valid enough c.requires.patch
 
 pub returns : goal.returns
 returns c =
@@ -32,10 +30,11 @@ returns c =
         slots_reach = ap length slots_are ∙ c.frame_into.auto.slots ∙ ap length c.deref_mut-2.ensures.value
             ∙ c.requires.reaches.slots_reach;
       };
+      rows = c.contribution.ensures.valid.patch;
       patch_stands = c.requires.patch;
       outs = λ k within. ap (λ (xs : List ℕ). get_or xs k 0) outs_are ∙ mixed k (omega (arith, within, ap length outs_are))
           ∙ ap (λ g. scaled (max (get_or c.args.levels.now k 0) g) c.master.result)
-          (c.contribution.ensures.each k
+          (c.contribution.ensures.table.each k
           (omega (arith, within, ap length outs_are, c.mix_into.auto.out, c.deref_mut.ensures.len, c.requires.reaches.outs_reach)))
           ∙ ap (λ m. scaled (max (get_or c.args.levels.now k 0) (contribution c.args.player.now.show c.args.player.now.faders (k + 1))) m)
           c.master.ensures;

@@ -24,7 +24,7 @@ recompute_touched-leveled-requires-clause-others c = λ k within out.
           c.self.invariant.levels_stand channels c.exchange-dirty.ensures.others k within clean
       | inr unseen ↦
           placed_stands show after c.self.inside.playback c.args.plan c.placed_alone-placed.result k c.self.inside.levels
-          c.channels.ensures.valid c.self.invariant.levels_stand (omega (arith, channels, within)) (search rules) c.exchange-dirty.ensures.show
+          c.self.invariant.valid c.self.invariant.levels_stand (omega (arith, channels, within)) (search rules) c.exchange-dirty.ensures.show
           c.placed_alone-placed.ensures unseen
     ]
 

@@ -24,7 +24,12 @@ stands c =
     (c.to_moment-changed.ensures.stands show p c.self.invariant.levels_stand))
 
 pub invariant_of-self : goal.invariant_of-self
-invariant_of-self c = record { rows = c.self.invariant.rows; subs = c.self.invariant.subs; levels_stand = stands c }
+invariant_of-self c = record {
+  valid = c.self.invariant.valid;
+  rows = c.self.invariant.rows;
+  subs = c.self.invariant.subs;
+  levels_stand = stands c;
+}
 
 pub returns-clause-ticks : goal.returns-clause-ticks
 returns-clause-ticks c = λ d stands.
