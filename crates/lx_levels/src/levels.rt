@@ -110,9 +110,9 @@ impl Levels {
         let channels = show.channels() as usize;
         let mut k = 0;
         while k < channels {
-            let end = self.still_end(k, to);
-            if end > k {
-                k = end;
+            let still = self.count_still(k, to);
+            if still > 0 {
+                k += still;
                 continue;
             }
             let target = level_on(to, k);
@@ -205,25 +205,21 @@ impl Levels {
         self.levels[k] == level && self.holds[k] == NEVER
     }
 
-    /// The place up to which the channels from this one on are at their level of the look for ever. As many as stand in lanes are
-    /// passed over at once.
+    /// How many channels from this one on are at their level of the look for ever, as far as is looked: a block of lanes, this one, or none.
     #[inline(always)]
-    fn still_end(&self, k: usize, look: Option<&[Level]>) -> usize
+    fn count_still(&self, k: usize, look: Option<&[Level]>) -> usize
         requires within { k < length self.now.stacks }
         requires reach { IfSome look (λ row. length row.now ≡ length self.now.stacks) }
-        ensures from { k ≤ result }
-        ensures most { result ≤ length self.now.stacks }
-        ensures still { (i : ℕ) → k ≤ i → i < result
+        ensures most { k + result ≤ length self.now.stacks }
+        ensures still { (i : ℕ) → k ≤ i → i < k + result
             → IsStill self.now.moment (kept_stack self.now i) (option_map_or (λ row. slice_index row.now i) look.entry 0) }
     {
-        // How many channels there are is a fact for proofs.
-        let _ = self.levels.len();
         if k % LANES == 0 && self.block_stays(k, look) {
-            k + LANES
+            LANES
         } else if self.stays_at(k, level_on(look, k)) {
-            k + 1
+            1
         } else {
-            k
+            0
         }
     }
 

@@ -26,29 +26,26 @@ add_run-requires-clause-started c =
     let stood = c.requires.stood in
     omega (arith, c.in-Some.ensures.started, (c.loop-k.invariant.added stood.last stood.older stood.live_is).moment)
 
-pub loop-k-preserved-then-end-k : goal.loop-k-preserved-then-end-k
-loop-k-preserved-then-end-k c =
+pub loop-k-preserved-then-still-gt0 : goal.loop-k-preserved-then-still-gt0
+loop-k-preserved-then-still-gt0 c =
     let show = c.args.show.now in
     let p = c.args.playback.now in
     let stood = c.requires.stood in
     let reach = (c.loop-k.invariant.added stood.last stood.older stood.live_is).reach in
-    let within : c.still_end-end.result ≤ show.channels = omega (arith, c.still_end-end.ensures.most, reach) in record {
+    let within : c.loop-k.k + c.count_still-still.result ≤ show.channels = omega (arith, c.count_still-still.ensures.most, reach) in record {
       within = omega (arith, within, c.channels-channels.ensures.channels);
       added = λ last older is.
           let run_is : c.in-Some.run'.now ≡ last = same_run_copied c.in-Some.run'.now last (c.in-Some.ensures.last last older is) in
           let added = c.loop-k.invariant.added last older is in
-          let end : c.loop-k.k + (c.still_end-end.result - c.loop-k.k) ≡ c.still_end-end.result =
-          omega (arith, c.still_end-end.ensures.from) in
           let looks = λ (i : ℕ). option_map_or (λ row. slice_index row.now i) c.look_at-to.result 0 in
-          subst (λ i. IsAdded show p older i c.loop-k.self) end
-          (still_up_to show p last older c.loop-k.k (c.still_end-end.result - c.loop-k.k) looks c.loop-k.self is
-          (starts_now show p c.args.self.now last older c.requires.stood is) (omega (arith, end, within))
+          still_up_to show p last older c.loop-k.k c.count_still-still.result looks c.loop-k.self is
+          (starts_now show p c.args.self.now last older c.requires.stood is) within
           (λ i from below.
           ap (λ (r : Run). tracked show r.cue (i + 1)) (sym run_is ∙ sym c.run.view_is)
           ∙ sym (tracked_in_look (λ row. row.now) show c.args.sheet.now c.run.inside.cue i c.look_at-to.result c.look_at-to.ensures.levels
-          c.look_at-to.ensures.none c.requires.rows (omega (arith, below, end, within))))
+          c.look_at-to.ensures.none c.requires.rows (omega (arith, below, within))))
           (λ i from below. subst (λ m. IsStill m (kept_stack c.loop-k.self i) (looks i)) added.moment
-          (c.still_end-end.ensures.still i from (omega (arith, below, end)))) added);
+          (c.count_still-still.ensures.still i from below)) added;
     }
 
 pub loop-k-preserved : goal.loop-k-preserved
