@@ -1,14 +1,13 @@
 //! The reply to a line.
 
-ghost use Rattle.std.specs.Prelude.{◌≡◌, ◌≤◌, [], length, OnOk, IfOk, None, Some, not, true};
-ghost use Rattle.lx_base.specs.declared.TheConstants.{UNIVERSES, SLOTS};
+ghost use Rattle.std.specs.Prelude.{◌≡◌, ◌≤◌, [], OnOk, IfOk, None, Some, not, true};
+ghost use Rattle.lx_base.specs.declared.TheConstants.{UNIVERSES};
 ghost use Rattle.lx_io.specs.Puts.{Puts, HasSinkCause};
 ghost use Rattle.lx_spec.specs.Desk.{Desk};
 ghost use Rattle.lx_spec.specs.Replies.{frame_text, row_text};
 ghost use Rattle.lx_spec.specs.Output.{frame};
 ghost use Rattle.lx_spec.specs.ShowText.{show_text};
 ghost use Rattle.lx_script.specs.ReplyTexts.{reply_text};
-ghost use Rattle.lx_console.specs.Slots.{universe as universe_in};
 ghost use Rattle.lx_console.specs.ConsoleMeaning.{StandsFor};
 ghost use Rattle.lx_spec.specs.Session.{is_quit};
 ghost use Rattle.lx_session.specs.LineState.{next_of, frame_of};
@@ -16,8 +15,8 @@ ghost use Rattle.lx_session.specs.LineReply.{reply_to, reply_for, counts_after, 
 
 use crate::tally::Tally;
 use crate::turn::Turn;
-use lx_base::{CueNo, Level, UNIVERSE_SLOTS};
-use lx_console::{Console, Player};
+use lx_base::{CueNo, Level};
+use lx_console::{Console, Player, slots_of};
 use lx_io::{Sink, SinkFault};
 use lx_report::put_row;
 use lx_script::{Reply, put_frame, put_reply};
@@ -190,16 +189,4 @@ fn put_universe<K: Sink>(universe: u8, console: &Console, sink: &mut K) -> Resul
     let slots = slots_of(universe, console.frames());
     put_frame(None, console.moment(), universe, slots, sink)?;
     Ok(true)
-}
-
-/// The slots of a universe.
-fn slots_of(universe: u8, slots: &[Level]) -> &[Level]
-    requires least { 1 ≤ universe }
-    requires most { universe ≤ UNIVERSES }
-    requires all { length slots.now ≡ SLOTS }
-    ensures slots { result.now ≡ universe_in universe slots.now }
-    ensures full { length result.now ≡ UNIVERSE_SLOTS }
-{
-    let start = (universe as usize - 1) * UNIVERSE_SLOTS;
-    &slots[start..start + UNIVERSE_SLOTS]
 }
