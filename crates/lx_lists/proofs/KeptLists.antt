@@ -20,7 +20,7 @@ use Rattle.lx_console.specs.declared.change.Change.TheVariants as changes
 use Rattle.lx_console.specs.Changes.{Changes, SameOutputs, is_nothing}
 use Rattle.lx_console.specs.KeptOutput.{Reaches}
 use Rattle.lx_console.specs.ConsoleMeaning.{StandsFor, Obeys, Answers, level_now}
-use Rattle.lx_console.proofs.KeptOutputs.{same_table, same_slots}
+use Rattle.lx_console.proofs.KeptOutputs.{same_rows, same_table, same_slots}
 use Rattle.lx_lists.specs.declared.output.Output.{Output}
 use Rattle.lx_lists.specs.TwoListsMeaning.{TwoKept}
 use Rattle.lx_lists.specs.KeptLists.{HasRoomForFrames, IsFilled, AreKept}
@@ -60,6 +60,7 @@ pub filled_still : (first second first' second' : Kept) (output : Output) → se
     → IsFilled (both first second) output → SameOutputs first first' → SameOutputs second second' → IsFilled (both first' second') output
 filled_still first second first' second' output channels filled same same' = record {
   room = same_room first.show first'.show output same.rows.channels filled.room;
+  rows = same_rows first first' same.rows filled.rows;
   patch = same_table first first' output.kept same.rows filled.patch;
   outs = record {
     reach = filled.outs.reach ∙ sym same.rows.channels;

@@ -7,7 +7,7 @@ use Rattle.lx_mixer.specs.Table.{IsTable}
 use Rattle.lx_patch.specs.DimmerTable.{StandsForPatch}
 use Rattle.lx_console.specs.declared.change.Change.{Change}
 use Rattle.lx_console.specs.Changes.{Changes}
-use Rattle.lx_console.specs.KeptOutput.{Reaches, SlotsStand}
+use Rattle.lx_console.specs.KeptOutput.{Reaches, PatchesOwnChannels, SlotsStand}
 use Rattle.lx_lists.specs.declared.output.Output.{Output}
 use Rattle.lx_lists.specs.TwoListsMeaning.{TwoKept, TwoStand, out_of_both}
 
@@ -19,6 +19,7 @@ pub record HasRoomForFrames (show : Show) (output : Output) : Type 0 where
 -- the outputs are those of both lists, and the slots those of the outputs
 pub record IsFilled (t : TwoKept) (output : Output) : Type 0 where
   pub room : HasRoomForFrames t.first.show output
+  pub rows : PatchesOwnChannels t.first.show
   pub patch : StandsForPatch t.first.show.patch output.kept.table
   pub outs : IsTable t.first.show.channels (out_of_both t) output.kept.outs.items
   pub slots : SlotsStand t.first.show.patch output.kept

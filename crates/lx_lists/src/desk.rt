@@ -82,7 +82,6 @@ impl TwoLists {
         ensures frames { (s : TwoDesks) (u : ℕ) → TwoStand s self.now → 1 ≤ u → u ≤ UNIVERSES
             → universe u result.now ≡ frame_of_two s u }
     {
-        let _ = self.first.show().channels();
         self.output.kept.slots()
     }
 }

@@ -1,15 +1,14 @@
 //! The frame of both lists as a line.
 
-ghost use Rattle.std.specs.Prelude.{◌≡◌, ◌≤◌, [], length, true, IfOk};
-ghost use Rattle.lx_base.specs.declared.TheConstants.{SLOTS, UNIVERSES, UNIVERSE_SLOTS};
+ghost use Rattle.std.specs.Prelude.{◌≡◌, ◌≤◌, [], true, IfOk};
+ghost use Rattle.lx_base.specs.declared.TheConstants.{UNIVERSES};
 ghost use Rattle.lx_io.specs.Puts.{Puts, HasSinkCause};
 ghost use Rattle.lx_spec.specs.Replies.{frame_text};
 ghost use Rattle.lx_spec.specs.TwoLists.{TwoDesks, frame_of_two};
-ghost use Rattle.lx_console.specs.Slots.{universe as universe_in};
 ghost use Rattle.lx_lists.specs.TwoListsMeaning.{TwoStand};
 
 use crate::desk::TwoLists;
-use lx_base::{Level, UNIVERSE_SLOTS};
+use lx_console::slots_of;
 use lx_io::{Sink, SinkFault};
 use lx_script::put_frame;
 
@@ -30,16 +29,4 @@ pub(crate) fn put_universe<K: Sink>(
     let slots = slots_of(universe, desk.frames());
     put_frame(None, desk.moment(), universe, slots, sink)?;
     Ok(true)
-}
-
-/// The slots of a universe.
-fn slots_of(universe: u8, slots: &[Level]) -> &[Level]
-    requires least { 1 ≤ universe }
-    requires most { universe ≤ UNIVERSES }
-    requires all { length slots.now ≡ SLOTS }
-    ensures slots { result.now ≡ universe_in universe slots.now }
-    ensures full { length result.now ≡ UNIVERSE_SLOTS }
-{
-    let start = (universe as usize - 1) * UNIVERSE_SLOTS;
-    &slots[start..start + UNIVERSE_SLOTS]
 }

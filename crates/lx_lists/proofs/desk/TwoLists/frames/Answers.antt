@@ -1,6 +1,5 @@
 use Rattle.std.proofs.Common.{ℕ, List, sym, subst}
 use Rattle.lx_base.specs.declared.TheConstants.{SLOTS}
-use Rattle.lx_spec.specs.Show.{Show, Valid}
 use Rattle.lx_spec.specs.Output.{dimmer_value}
 use Rattle.lx_mixer.specs.Table.{IsTable}
 use Rattle.lx_patch.proofs.Frames.{patched}
@@ -18,8 +17,7 @@ slots c =
     subst (λ (xs : List ℕ). IsTable SLOTS (dimmer_value c.args.self.now.first.show.patch (out_of_both c.args.self.now)) xs)
     (sym c.slots.ensures)
     (subst (λ (t : TwoKept). IsTable SLOTS (dimmer_value t.first.show.patch (out_of_both t)) kept.slots.items) c.self.view_is
-    (patched t.first.show (out_of_both t) kept.outs.items kept.slots.items
-    (subst (λ (show : Show). Valid show) c.show.ensures c.channels.ensures.valid) filled.outs filled.slots))
+    (patched t.first.show (out_of_both t) kept.outs.items kept.slots.items filled.rows filled.outs filled.slots))
 
 pub returns-clause-slots : goal.returns-clause-slots
 returns-clause-slots c = slots c
