@@ -20,8 +20,6 @@ pub fn read_back(alloc: Global, show: &Show) -> Result<Loaded, ShowFault>
     ensures fault { IfErr result (λ fault. (fault ≡ ShowFault.Memory)
         ⊎ ((fault ≡ ShowFault.InputTooLong) × (INPUT_BYTES < length (show_text show.now)))) }
 {
-    // A show is always valid, and its calls tell so.
-    let _ = show.channels();
     let mut sink = PlainSink::new(alloc);
     let Ok(()) = write_show(show, &mut sink) else {
         return Err(ShowFault::Memory);
