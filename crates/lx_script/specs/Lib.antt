@@ -3,3 +3,4 @@ pub mod ReplyTexts
 pub mod FirstWords
 pub mod UndoLines
 pub mod LinesWithUndo
+pub mod LoneKeys

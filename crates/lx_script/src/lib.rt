@@ -18,7 +18,7 @@ mod undo_reply;
 
 pub use cells::put_cells;
 pub use frame::put_frame;
-pub use line::read_line;
+pub use line::{lone_key, read_line};
 pub use lx_spec::Line;
 pub use reply::{Reply, put_reply};
 pub use second_line::read_second_line;

@@ -5,6 +5,7 @@ ghost use Rattle.lx_spec.specs.Text.{tokens};
 ghost use Rattle.lx_spec.specs.Script.{line_of, meaning};
 ghost use Rattle.lx_spec.specs.ValidEdit.{ValidLine};
 ghost use Rattle.lx_lex.specs.Left.{left};
+ghost use Rattle.lx_script.specs.LoneKeys.{lone_key};
 
 use crate::first_word::{FirstWord, first_word};
 use crate::sentence::sentence;
@@ -19,6 +20,9 @@ pub fn read_line(line: &[u8]) -> Option<Line<'_>>
     ensures meaning { result ≡ line_of line.now }
     ensures valid { IfSome result ValidLine }
 {
+    if let Some(key) = lone_key(line) {
+        return Some(Line::Command(Command::Key(Key::Play(key))));
+    }
     if let Some(lone) = lone_word(line) {
         return Some(lone);
     }
@@ -28,15 +32,26 @@ pub fn read_line(line: &[u8]) -> Option<Line<'_>>
     any_line(line)
 }
 
-/// What a line means that is one of these words in small letters and nothing else, as most lines of one word are. Of any
-/// other line it says nothing.
+/// The key that a line presses which is that key's word in small letters and nothing else, as most lines `go` and `back` are.
+/// Of any other line it says nothing.
+#[inline(always)]
+pub fn lone_key(line: &[u8]) -> Option<PlayKey>
+    ensures meaning { IfSome result (λ key. line_of line.now ≡ Some (Line.Command (Command.Key (Key.Play key)))) }
+    ensures lone { result ≡ lone_key line.now }
+{
+    match line {
+        [b'g', b'o'] => Some(PlayKey::Go),
+        [b'b', b'a', b'c', b'k'] => Some(PlayKey::Back),
+        _ => None,
+    }
+}
+
+/// What a line means that is `tick` or `frame` in small letters and nothing else. Of any other line it says nothing.
 #[inline(always)]
 fn lone_word(line: &[u8]) -> Option<Line<'_>>
     ensures { IfSome result (λ meaning. line_of line.now ≡ Some meaning) }
 {
     match line {
-        [b'g', b'o'] => Some(Line::Command(Command::Key(Key::Play(PlayKey::Go)))),
-        [b'b', b'a', b'c', b'k'] => Some(Line::Command(Command::Key(Key::Play(PlayKey::Back)))),
         [b't', b'i', b'c', b'k'] => Some(Line::Ticks(1)),
         [b'f', b'r', b'a', b'm', b'e'] => Some(Line::Frame(1)),
         _ => None,

@@ -12,7 +12,9 @@ use Rattle.lx_spec.specs.declared.Refusal.{Refusal}
 use Rattle.lx_spec.specs.Desk.{Desk, step, is_edit}
 use Rattle.lx_spec.specs.Kept.{Kept}
 use Rattle.lx_spec.specs.Session.{Session, Counts, bad_reply}
-use Rattle.lx_spec.specs.DeskSession.{DeskState, Attempt, command_of, count_of, tried, after_attempts, IsAcceptedEdit, MayFailAt}
+use Rattle.lx_spec.specs.Output.{frame}
+use Rattle.lx_spec.specs.Replies.{frame_text}
+use Rattle.lx_spec.specs.DeskSession.{DeskState, Attempt, command_of, count_of, tried, after_attempts, after_meaning, IsAcceptedEdit, MayFailAt}
 use Rattle.lx_console.specs.ConsoleMeaning.{StandsFor}
 use Rattle.lx_session.specs.declared.tally.Tally.{Tally}
 use Rattle.lx_session.specs.LineState.{LineState, next_of, unattempted}
@@ -254,4 +256,28 @@ bad_line all heard holds faults wants sink sink' result s console before after s
   puts = puts;
   counts =
       on_ok result _ (ap (counted_in replies.Bad) counted ∙ sym counts);
+}
+
+-- A line that asks for a frame attempts nothing, and was answered by the frame's text.
+pub frame_line : {K T : Type 0} (all : Bool) (heard : List Command → Type 0) (holds : K → Option (List ℕ)) (faults wants : K → ℕ)
+    (sink sink' : K) (result : Result T SinkFault) (s : Session DeskState) (u : ℕ) (console : Kept) (tally : Tally)
+    → StandsFor s.state.desk console → s.counts ≡ counts_in tally → heard []
+    → Puts holds faults wants sink sink' result (frame_text [] s.state.desk.playback.moment u (frame s.state.desk u))
+    → LineAnswer all heard holds faults wants sink sink' result s (Some (lines.Frame u)) console tally
+frame_line all heard holds faults wants sink sink' result s u console tally stands counted h puts = record {
+  next = after_meaning None s (Some (lines.Frame u));
+  failed = None;
+  goes_on = record {
+    is = refl;
+    allowed = tt;
+    commands = [];
+    accepted = sym (append-nil s.state.accepted);
+    desk = refl;
+    listened = h;
+  };
+  stands = stands;
+  reply = frame_text [] s.state.desk.playback.moment u (frame s.state.desk u);
+  text = refl;
+  puts = puts;
+  counts = on_ok result _ counted;
 }

@@ -178,7 +178,11 @@ fn put_show<K: Sink>(player: &Player, sink: &mut K) -> Result<bool, SinkFault>
 }
 
 /// Appends the frame line of a universe.
-fn put_universe<K: Sink>(universe: u8, console: &Console, sink: &mut K) -> Result<bool, SinkFault>
+pub(crate) fn put_universe<K: Sink>(
+    universe: u8,
+    console: &Console,
+    sink: &mut K,
+) -> Result<bool, SinkFault>
     requires least { 1 ≤ universe }
     requires most { universe ≤ UNIVERSES }
     ensures cause { HasSinkCause K.faults K.wants sink.old sink.new result }

@@ -13,15 +13,15 @@ ghost use Rattle.lx_session.specs.LineProgress.{HasPassed, LineProgress};
 ghost use Rattle.lx_session.specs.LineReply.{TallyHasRoom, HasOneMore};
 ghost use Rattle.lx_session.specs.LineAnswer.{LineAnswer, FromDesk};
 
-use crate::finish::give;
+use crate::finish::{give, put_universe};
 use crate::key::answer_key;
 use crate::listener::Listener;
 use crate::tally::Tally;
 use crate::turn::{Turn, read_turn, try_command};
 use lx_console::Console;
 use lx_io::{Sink, SinkFault};
-use lx_script::Reply;
-use lx_spec::{Command, Line, Refusal};
+use lx_script::{Reply, lone_key};
+use lx_spec::{Command, Key, Line, PlayKey, Refusal};
 
 /// Does what a line asks for, then appends its replies and counts them. None stands for a line that is too
 /// long, which is bad. It answers false exactly for `quit`.
@@ -45,9 +45,43 @@ pub fn answer<L: Listener, K: Sink>(
     ensures cause { HasSinkCause K.faults K.wants sink.old sink.new result }
     ensures more { HasOneMore tally.old tally.new }
 {
+    if let Some(key) = read_lone_key(line) {
+        return answer_key(listener, console, Key::Play(key), sink, tally);
+    }
+    answer_any(listener, console, line, sink, tally)
+}
+
+/// The key that a line presses which is that key's word in small letters and nothing else. Of any other line it says nothing.
+#[inline(always)]
+fn read_lone_key(line: Option<&[u8]>) -> Option<PlayKey>
+    ensures { IfSome result (λ key. meaning_of (option_copied line.entry) ≡ Some (Line.Command (Command.Key (Key.Play key)))) }
+{
+    lone_key(line?)
+}
+
+/// As `answer`, of any line. It is a function of its own, so that a lone key doesn't pay for the room of what a line means.
+#[inline(never)]
+fn answer_any<L: Listener, K: Sink>(
+    listener: &mut L,
+    console: &mut Console,
+    line: Option<&[u8]>,
+    sink: &mut K,
+    tally: &mut Tally,
+) -> Result<bool, SinkFault>
+    requires room { TallyHasRoom tally.old }
+    requires keeps { L.keeps listener.old console.old }
+    ensures keeps { L.keeps listener.new console.new }
+    ensures answered { FromDesk console.old tally.old
+        (λ s. LineAnswer L.admits_all (L.heard listener.old listener.new) K.holds K.faults K.wants sink.old sink.new result s
+        (meaning_of (option_copied line.entry)) console.new tally.new) }
+    ensures quit { IfOk result (λ more. more ≡ not (is_quit (meaning_of (option_copied line.entry)))) }
+    ensures cause { HasSinkCause K.faults K.wants sink.old sink.new result }
+    ensures more { HasOneMore tally.old tally.new }
+{
     match read_turn(line) {
         None => give(Reply::Bad, sink, tally),
         Some(Line::Command(Command::Key(key))) => answer_key(listener, console, key, sink, tally),
+        Some(Line::Frame(universe)) => put_universe(universe, console, sink),
         Some(line) => answer_read(listener, console, line, sink, tally),
     }
 }

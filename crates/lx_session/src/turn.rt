@@ -42,6 +42,7 @@ impl<'a> Model for Turn<'a> {
 }
 
 /// What a line means. None stands for a line that is too long, which is bad.
+#[inline(always)]
 pub(crate) fn read_turn(line: Option<&[u8]>) -> Option<Line<'_>>
     ensures meaning { result ≡ meaning_of (option_copied line.entry) }
     ensures valid { IfSome result ValidLine }

@@ -2,6 +2,9 @@ use Rattle.std.proofs.Common.{◌≡◌, length, sym, ◌∙◌, subst}
 use Rattle.std.specs.Prelude.{IfSome, Some}
 use Rattle.std.proofs.lemmas.Bool.{le-ltb}
 use Rattle.lx_base.specs.declared.TheConstants.{LINE_BYTES}
+use Rattle.lx_spec.specs.declared.Command.TheVariants as commands
+use Rattle.lx_spec.specs.declared.Key.TheVariants as keys
+use Rattle.lx_spec.specs.declared.Line.TheVariants as lines
 use Rattle.lx_spec.specs.Text.{tokens}
 use Rattle.lx_spec.specs.Script.{line_of, meaning}
 use Rattle.lx_spec.specs.ValidEdit.{ValidLine}
@@ -10,7 +13,11 @@ use Rattle.lx_script.proofs.ReadLines.{valid_meaning}
 use Rattle.lx_script.proofs.line.read_line.Goals as goal
 
 pub returns-in-Some-clause-valid : goal.returns-in-Some-clause-valid
-returns-in-Some-clause-valid c = valid_meaning c.args.line.now (Some c.in-Some.lone) c.in-Some.ensures
+returns-in-Some-clause-valid c =
+    valid_meaning c.args.line.now (Some (lines.Command (commands.Key (keys.Play c.in-Some.key)))) c.in-Some.ensures.meaning
+
+pub returns-in-Some-lone_word-clause-valid : goal.returns-in-Some-lone_word-clause-valid
+returns-in-Some-lone_word-clause-valid c = valid_meaning c.args.line.now (Some c.in-Some-lone_word.lone) c.in-Some-lone_word.ensures
 
 pub returns-clause-valid : goal.returns-clause-valid
 returns-clause-valid c =

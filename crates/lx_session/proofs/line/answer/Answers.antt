@@ -1,16 +1,14 @@
-use Rattle.std.proofs.Common.{subst}
+use Rattle.std.proofs.Common.{Some, sym, subst}
+use Rattle.lx_spec.specs.declared.Command.TheVariants as commands
+use Rattle.lx_spec.specs.declared.Key.TheVariants as keys
+use Rattle.lx_spec.specs.declared.Line.TheVariants as lines
 use Rattle.lx_session.specs.LineAnswer.{LineAnswer}
-use Rattle.lx_session.proofs.AnsweredLines.{bad_line}
 use Rattle.lx_session.proofs.line.answer.Goals as goal
 
-pub returns-in-None-clause-answered : goal.returns-in-None-clause-answered
-returns-in-None-clause-answered g c = λ s stands counted.
-    let here = c.args.listener.now in
-    let heard = g.L.Listener.heard here here in
-    let all = g.L.Listener.admits_all in
+pub returns-in-Some-clause-answered : goal.returns-in-Some-clause-answered
+returns-in-Some-clause-answered g c = λ s stands counted.
     subst
-    (λ m. LineAnswer all heard g.K.Sink.holds g.K.Sink.faults g.K.Sink.wants c.args.sink.now c.give.new.sink c.give.result s m
-    c.args.console.now c.give.new.tally)
-    c.in-None.ensures.meaning
-    (bad_line all heard g.K.Sink.holds g.K.Sink.faults g.K.Sink.wants c.args.sink.now c.give.new.sink c.give.result s c.args.console.now
-    c.args.tally.now c.give.new.tally stands counted (g.met.L.Listener.nothing here) c.give.ensures.text c.give.ensures.counts)
+    (λ m. LineAnswer g.L.Listener.admits_all (g.L.Listener.heard c.args.listener.now c.answer_key.new.listener) g.K.Sink.holds g.K.Sink.faults
+    g.K.Sink.wants c.args.sink.now c.answer_key.new.sink c.answer_key.result s m c.answer_key.new.console c.answer_key.new.tally)
+    (sym c.in-Some.ensures)
+    (c.answer_key.ensures.answered s stands counted)
