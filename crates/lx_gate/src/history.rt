@@ -81,8 +81,8 @@ impl Plain<Asked<'_>, Batch, u64> for Add {
 /// A history with no commands, which has no name yet.
 #[derive(Drop)]
 pub struct EmptyHistory {
-    pub(crate) head: Word<Batch, u64, Law>,
-    pub(crate) seen: Seen<Batch, u64, Law>,
+    head: Word<Batch, u64, Law>,
+    seen: Seen<Batch, u64, Law>,
     pub ghost empty: { seen.log ≡ [] },
     pub ghost head_is: { head ≡ head_of seen.book },
 }
@@ -189,8 +189,7 @@ impl<G: Origin> Prefix<G> {
         ensures this { IsPrefix self.now result }
         ensures that { IsPrefix other.now result }
     {
-        let mut both = self.seen.again();
-        both.learn(&other.seen);
+        self.chain(other);
         if self.count < other.count {
             other.again()
         } else {
@@ -198,11 +197,12 @@ impl<G: Origin> Prefix<G> {
         }
     }
 
-    /// One of two prefixes is a prefix of the other.
+    /// One of two prefixes is a prefix of the other. When it runs it does nothing.
     pub fn chain(&self, other: &Prefix<G>)
         ensures { IsChained self.now other.now }
     {
-        self.longer(other);
+        let mut both = self.seen.again();
+        both.learn(&other.seen);
     }
 
     /// Whether another is a prefix of this one. That is so exactly where it isn't longer.

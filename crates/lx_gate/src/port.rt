@@ -91,7 +91,6 @@ impl<G: Origin> Port for LrPort<G, GateReader<G>> {
                 self.reader = Some(reading.leave());
                 match answer {
                     Some(stamp) => {
-                        list.chain(&self.learnt);
                         self.seen = list;
                         self.reads = self.reads.saturating_add(1);
                         Some(stamp)

@@ -1,46 +1,61 @@
 //! Accepted commands that aren't published yet.
-ghost use Rattle.std.specs.Prelude.{◌≡◌, ◌+◌, ◌<◌, ◌^◌, [], ◌∷◌, ◌++◌, length, IfSome};
+ghost use Rattle.std.specs.Prelude.{◌≡◌, ◌+◌, ◌<◌, ◌^◌, [], ◌∷◌, ◌++◌, length};
 
-use crate::EmptyHistory;
-use crate::history::{Add, Batch, Law, Nothing};
-use logbook::{Offer, Plain, Seen};
+use crate::history::Entered;
+use logbook::{Opening, Rule, Seen, Start};
 use lx_spec::Command;
 use std::marker::Model;
+
+/// The rule of a list that stays as it was opened.
+struct Fixed;
+
+impl Rule<Entered, u64> for Fixed {
+    ghost use Rattle.std.specs.Prelude.{[]};
+    ghost use base.Fml.{ftrue};
+
+    ghost holds = { λ cells log. Unit {0} };
+
+    ghost first = { [] };
+
+    ghost hinted = { λ n log. Unit {0} };
+
+    ghost shows = { λ log. [] };
+
+    ghost keeps = { λ names log. ftrue };
+
+    ghost moves = { λ asked before after answer. Unit {0} };
+}
 
 /// Accepted commands that aren't published yet, in order. They are there in proofs alone, so they take no memory; what is kept
 /// is how many they are. Contracts see them.
 #[derive(Drop)]
 pub struct Unsent {
     count: u64,
-    seen: Seen<Batch, u64, Law>,
+    list: Seen<Entered, u64, Fixed>,
 }
 
 impl Model for Unsent {
     ghost use Rattle.std.specs.Prelude.{◌≡◌, List, length};
     ghost use Rattle.lx_spec.specs.declared.Command.{Command};
-    ghost use Rattle.lx_gate.specs.CommandLists.{flat};
 
     ghost Value = { List Command };
 
-    ghost view = { λ u. flat u.seen.log };
+    ghost view = { λ u. u.list.log };
 
-    ghost invariant = { λ u. u.count ≡ length (flat u.seen.log) };
+    ghost invariant = { λ u. u.count ≡ length u.list.log };
 }
 
 /// The commands of a list, and one more.
 #[derive(Drop)]
 struct OneMore<'a, 'l> {
-    before: &'a Seen<Batch, u64, Law>,
+    before: &'a Seen<Entered, u64, Fixed>,
     command: &'a Command<'l>,
 }
 
-impl Plain<OneMore<'_, '_>, Batch, u64> for Add {
-    ghost use Rattle.std.specs.Prelude.{None, [], ◌∷◌, ◌++◌};
-    ghost use Rattle.lx_gate.specs.CommandLists.{flat};
+impl Opening<OneMore<'_, '_>, Entered> for Fixed {
+    ghost use Rattle.std.specs.Prelude.{[], ◌∷◌, ◌++◌};
 
-    ghost ask = { λ more. flat more.before.now.log ++ more.command.now ∷ [] };
-
-    ghost state = { λ more. None };
+    ghost log = { λ words more. more.before.now.log ++ more.command.now ∷ [] };
 }
 
 impl Unsent {
@@ -48,33 +63,21 @@ impl Unsent {
     pub fn new() -> Unsent
         ensures { result ≡ [] }
     {
-        let EmptyHistory { head: _, seen } = EmptyHistory::new();
-        Unsent { count: 0, seen }
+        let (list, _first, _second) = Seen::open(Start::alone(), 0, 0);
+        Unsent { count: 0, list }
     }
 
-    /// These commands and one more. `None` where that can't be had; then nothing changes.
-    pub fn with(&self, command: &Command) -> Option<Unsent>
-        requires { length self.now + 1 < 2 ^ 64 }
-        ensures { IfSome result (λ more. more ≡ self.now ++ command.now ∷ []) }
+    /// Adds a command.
+    pub fn push(&mut self, command: &Command)
+        requires { length self.old + 1 < 2 ^ 64 }
+        ensures { self.new ≡ self.old ++ command.now ∷ [] }
     {
-        let EmptyHistory { head, mut seen } = EmptyHistory::new();
-        let mut offer: Offer<Batch, u64, Law, Nothing> = seen.plain::<
-            Nothing,
-            OneMore<'_, '_>,
-            Add,
-        >(&OneMore {
-            before: &self.seen,
+        let more = OneMore {
+            before: &self.list,
             command,
-        });
-        let mut pen = seen.no_pen();
-        let count = self.count + 1;
-        let found = head.compare_exchange::<Add, Nothing>(
-            0, count, &mut seen, &mut offer, &mut pen,
-        );
-        if found != 0 {
-            return None;
-        }
-        Some(Unsent { count, seen })
+        };
+        self.list = Seen::open_row::<OneMore<'_, '_>, Fixed>(&more, Start::alone(), 0).0;
+        self.count += 1;
     }
 
     /// How many commands wait.
