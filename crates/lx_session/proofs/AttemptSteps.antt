@@ -212,6 +212,26 @@ pub attempted : (all : Bool) (heard heard' : List Command → Type 0) (s : DeskS
 attempted all heard heard' s old turn turn' c before_it after_it t some a joins is =
     attempted_so all heard heard' s old turn turn' c turn'.refusal before_it after_it t some a joins is
 
+-- the same where all are admitted only if all were so far
+pub admitted_so_far : (all all' : Bool) → (all' ≡ true → all ≡ true) → (heard : List Command → Type 0) (s : DeskState) (old turn : LineState)
+    (console : Kept) → LineProgress all heard s old turn console → LineProgress all' heard s old turn console
+admitted_so_far all all' so_far heard s old turn console t = record {
+  now = t.now;
+  at = t.at;
+  commands = t.commands;
+  meaning = t.meaning;
+  by = t.by;
+  not_yet = t.not_yet;
+  stands = t.stands;
+  accepted = t.accepted;
+  desk = t.desk;
+  listened = t.listened;
+  fewer = t.fewer;
+  fresh = t.fresh;
+  at_edit = λ some every. t.at_edit some (so_far every);
+  still = t.still;
+}
+
 -- the console is another that stands for the same desk
 elsewhere : (all : Bool) (heard : List Command → Type 0) (s : DeskState) (old turn : LineState) (before_it after_it : Kept)
     (t : LineProgress all heard s old turn before_it) → StandsFor t.now.desk after_it

@@ -1,5 +1,5 @@
 -- A line on a console beside a listener is a line of its session.
-use Rattle.std.proofs.Common.{◌≡◌, ◌<◌, Bool, true, cond, Option, Some, None, Result, List, ◌++◌, length, ℕ, ◌∙◌, ap, sym, refl, subst, arith}
+use Rattle.std.proofs.Common.{◌≡◌, ◌<◌, Bool, true, false, cond, Option, Some, None, IfSome, Result, List, ◌++◌, length, ℕ, ◌∙◌, ap, sym, refl, subst, arith}
 use Rattle.std.specs.Prelude.{nat_lt}
 use Rattle.std.proofs.lemmas.Bool.Decides.{nat_tests}
 use Rattle.std.proofs.lemmas.List.Sums.{fold-append}
@@ -13,7 +13,7 @@ use Rattle.lx_spec.specs.Desk.{Desk, after_command}
 use Rattle.lx_spec.specs.Text.{tokens}
 use Rattle.lx_spec.specs.Script.{line_of, meaning}
 use Rattle.lx_spec.specs.Session.{Session, is_quit}
-use Rattle.lx_spec.specs.DeskSession.{DeskState, tried, after_meaning, desk_answering}
+use Rattle.lx_spec.specs.DeskSession.{DeskState, tried, after_meaning, MayFailAt, desk_answering}
 use Rattle.lx_session.specs.declared.tally.Tally.{Tally}
 use Rattle.lx_session.specs.Attempts.{after_commands}
 use Rattle.lx_session.specs.Known.{Known}
@@ -70,18 +70,26 @@ more_accepted : (d now next : Desk) (done more done' : List Command) → now ≡
 more_accepted d now next done more done' is then all = then ∙ ap (λ e. after_commands e more) is
     ∙ sym (fold-append after_command d done more) ∙ ap (after_commands d) (sym all)
 
+-- an attempt may fail too where fewer are admitted
+may_fail : (all_here all : Bool) → (all ≡ true → all_here ≡ true) → (d : Desk) (meaning : Option Line) (failed : Option ℕ)
+    → IfSome failed (λ attempt. MayFailAt all_here d meaning) → IfSome failed (λ attempt. MayFailAt all d meaning)
+may_fail all_here all so_far d meaning None may = tt
+may_fail all_here false so_far d meaning (Some k) may = tt
+may_fail true true so_far d meaning (Some k) may = may
+may_fail false true so_far d meaning (Some k) may = let no : false ≡ true = so_far refl in absurd cc
+
 -- a line that was answered on the console was answered for the state
-pub answered_heard : {K T L : Type 0} (all : Bool) (heard : L → L → List Command → Type 0) (since : Beginning L) (first now : L)
+pub answered_heard : {K T L : Type 0} (all_here all : Bool) → (all ≡ true → all_here ≡ true) → (heard : L → L → List Command → Type 0) (since : Beginning L) (first now : L)
     (holds : K → Known) (faults wants : K → ℕ) (sink sink' : K) (result : Result T SinkFault) (s : Session DeskState) (text : List ℕ)
     (before console : Kept) (tally : Tally)
     → ((last : L) (done more : List Command) → heard last first done → heard first now more → heard last now (done ++ more))
     → HasHeard heard since s.state first before
-    → LineAnswer all (heard first now) holds faults wants sink sink' result s (line_of text) console tally
+    → LineAnswer all_here (heard first now) holds faults wants sink sink' result s (line_of text) console tally
     → OneAnswer (desk_answering all) holds faults wants sink sink' result s text (λ state. HasHeard heard since state now console) tally
-answered_heard all heard since first now holds faults wants sink sink' result s text before console tally both h a = record {
+answered_heard all_here all so_far heard since first now holds faults wants sink sink' result s text before console tally both h a = record {
   next = a.next;
   failed = a.failed;
-  goes_on = record { is = a.goes_on.is; allowed = a.goes_on.allowed };
+  goes_on = record { is = a.goes_on.is; allowed = may_fail all_here all so_far s.state.desk (line_of text) a.failed a.goes_on.allowed };
   stands = record {
     stands = a.stands;
     desk = more_accepted since.desk s.state.desk a.next.state.desk s.state.accepted a.goes_on.commands a.next.state.accepted h.desk

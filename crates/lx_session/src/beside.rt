@@ -1,6 +1,6 @@
 //! What answers the lines of a script beside something that is lent to it.
 
-ghost use Rattle.std.specs.Prelude.{◌≡◌, List, ℕ, IfOk, not, option_copied};
+ghost use Rattle.std.specs.Prelude.{◌≡◌, List, ℕ, Bool, true, IfOk, not, option_copied};
 ghost use Rattle.lx_io.specs.Puts.{HasSinkCause};
 ghost use Rattle.lx_spec.specs.Session.{Session, Answering, ends_script};
 ghost use Rattle.lx_session.specs.LineReply.{TallyHasRoom, HasOneMore, counts_in};
@@ -19,14 +19,17 @@ pub(crate) trait AnswersBeside<D> {
     /// What it keeps true of itself together with what is lent.
     ghost keeps: { Self → D → Type 0 };
 
-    /// How both answer a line.
-    ghost by: { Answering (List ℕ) };
+    /// Whether no attempt was turned down up to this state.
+    ghost admitted_all: { Self → Bool };
+
+    /// How both answer a line, where no attempt is turned down, and where some may be.
+    ghost by: { Bool → Answering (List ℕ) };
 
     /// What is to be known of where a session began.
     ghost Since: { Type 0 };
 
     /// They stand for the state, of a session that began so.
-    ghost stands: { Since → by.State → Self → D → Type 0 };
+    ghost stands: { Since → (all : Bool) → (by all).State → Self → D → Type 0 };
 
     /// As `Answers::answer`.
     fn answer_beside<K: Sink>(
@@ -39,25 +42,29 @@ pub(crate) trait AnswersBeside<D> {
         requires room { TallyHasRoom tally.old }
         requires keeps { keeps self.old lent.old }
         ensures keeps { keeps self.new lent.new }
-        ensures answered { (since : Since) (s : Session by.State) (text : List ℕ) → stands since s.state self.old lent.old
+        ensures answered { (all : Bool) → (all ≡ true → admitted_all self.new ≡ true) → (since : Since) (s : Session (by all).State)
+            (text : List ℕ) → stands since all s.state self.old lent.old
             → s.counts ≡ counts_in tally.old → IsLine (option_copied line.entry) text
-            → OneAnswer by K.holds K.faults K.wants sink.old sink.new result s text
-            (λ state. stands since state self.new lent.new)
+            → OneAnswer (by all) K.holds K.faults K.wants sink.old sink.new result s text
+            (λ state. stands since all state self.new lent.new)
             tally.new }
+        ensures all { admitted_all self.new ≡ true → admitted_all self.old ≡ true }
         ensures quit { IfOk result (λ more. (text : List ℕ) → IsLine (option_copied line.entry) text → more ≡ not (ends_script text)) }
         ensures cause { HasSinkCause K.faults K.wants sink.old sink.new result }
         ensures more { HasOneMore tally.old tally.new }
-        ensures lawful { IsLawful by };
+        ensures lawful { (all : Bool) → IsLawful (by all) };
 }
 
 impl<A: Answers> AnswersBeside<()> for A {
     ghost keeps = { λ _ _. Unit {0} };
 
-    ghost by = { A.by };
+    ghost admitted_all = { λ _. true };
+
+    ghost by = { λ _. A.by };
 
     ghost Since = { Unit {0} };
 
-    ghost stands = { λ _ state answerer _. A.stands state answerer };
+    ghost stands = { λ _ _ state answerer _. A.stands state answerer };
 
     fn answer_beside<K: Sink>(
         &mut self,
@@ -76,11 +83,13 @@ impl<L: Listener> AnswersBeside<Console> for L {
 
     ghost keeps = { L.keeps };
 
-    ghost by = { desk_answering L.admits_all };
+    ghost admitted_all = { L.admitted_all };
+
+    ghost by = { desk_answering };
 
     ghost Since = { Beginning L };
 
-    ghost stands = { HasHeard L.heard };
+    ghost stands = { λ since _ state listener console. HasHeard L.heard since state listener console };
 
     fn answer_beside<K: Sink>(
         &mut self,

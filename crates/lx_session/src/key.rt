@@ -27,8 +27,9 @@ pub(crate) fn answer_key<L: Listener, K: Sink>(
     requires keeps { L.keeps listener.old console.old }
     ensures keeps { L.keeps listener.new console.new }
     ensures answered { FromDesk console.old tally.old
-        (λ s. LineAnswer L.admits_all (L.heard listener.old listener.new) K.holds K.faults K.wants sink.old sink.new result s
+        (λ s. LineAnswer (L.admitted_all listener.new) (L.heard listener.old listener.new) K.holds K.faults K.wants sink.old sink.new result s
         (Some (Line.Command (Command.Key key))) console.new tally.new) }
+    ensures all { L.admitted_all listener.new ≡ true → L.admitted_all listener.old ≡ true }
     ensures goes_on { IfOk result (λ more. more ≡ true) }
     ensures cause { HasSinkCause K.faults K.wants sink.old sink.new result }
     ensures more { HasOneMore tally.old tally.new }
@@ -43,8 +44,9 @@ fn attempt_key<L: Listener>(listener: &mut L, key: &Key, console: &mut Console) 
     requires keeps { L.keeps listener.old console.old }
     ensures keeps { L.keeps listener.new console.new }
     ensures attempted { (d : Desk) → StandsFor d console.old
-        → ListenedAttempt L.admits_all d (Command.Key key.now) result console.new }
+        → ListenedAttempt (L.admitted_all listener.new) d (Command.Key key.now) result console.new }
     ensures heard { L.heard listener.old listener.new (heard_of (Command.Key key.now) result) }
+    ensures all { L.admitted_all listener.new ≡ true → L.admitted_all listener.old ≡ true }
 {
     let command = Command::Key(*key);
     let admitted = listener.admit(&command);

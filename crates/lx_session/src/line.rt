@@ -39,8 +39,9 @@ pub fn answer<L: Listener, K: Sink>(
     requires keeps { L.keeps listener.old console.old }
     ensures keeps { L.keeps listener.new console.new }
     ensures answered { FromDesk console.old tally.old
-        (λ s. LineAnswer L.admits_all (L.heard listener.old listener.new) K.holds K.faults K.wants sink.old sink.new result s
+        (λ s. LineAnswer (L.admitted_all listener.new) (L.heard listener.old listener.new) K.holds K.faults K.wants sink.old sink.new result s
         (meaning_of (option_copied line.entry)) console.new tally.new) }
+    ensures all { L.admitted_all listener.new ≡ true → L.admitted_all listener.old ≡ true }
     ensures quit { IfOk result (λ more. more ≡ not (is_quit (meaning_of (option_copied line.entry)))) }
     ensures cause { HasSinkCause K.faults K.wants sink.old sink.new result }
     ensures more { HasOneMore tally.old tally.new }
@@ -72,8 +73,9 @@ fn answer_any<L: Listener, K: Sink>(
     requires keeps { L.keeps listener.old console.old }
     ensures keeps { L.keeps listener.new console.new }
     ensures answered { FromDesk console.old tally.old
-        (λ s. LineAnswer L.admits_all (L.heard listener.old listener.new) K.holds K.faults K.wants sink.old sink.new result s
+        (λ s. LineAnswer (L.admitted_all listener.new) (L.heard listener.old listener.new) K.holds K.faults K.wants sink.old sink.new result s
         (meaning_of (option_copied line.entry)) console.new tally.new) }
+    ensures all { L.admitted_all listener.new ≡ true → L.admitted_all listener.old ≡ true }
     ensures quit { IfOk result (λ more. more ≡ not (is_quit (meaning_of (option_copied line.entry)))) }
     ensures cause { HasSinkCause K.faults K.wants sink.old sink.new result }
     ensures more { HasOneMore tally.old tally.new }
@@ -100,8 +102,9 @@ fn answer_read<L: Listener, K: Sink>(
     requires keeps { L.keeps listener.old console.old }
     ensures keeps { L.keeps listener.new console.new }
     ensures answered { FromDesk console.old tally.old
-        (λ s. LineAnswer L.admits_all (L.heard listener.old listener.new) K.holds K.faults K.wants sink.old sink.new result s
+        (λ s. LineAnswer (L.admitted_all listener.new) (L.heard listener.old listener.new) K.holds K.faults K.wants sink.old sink.new result s
         (Some line.entry) console.new tally.new) }
+    ensures all { L.admitted_all listener.new ≡ true → L.admitted_all listener.old ≡ true }
     ensures quit { IfOk result (λ more. more ≡ not (is_quit (Some line.entry))) }
     ensures cause { HasSinkCause K.faults K.wants sink.old sink.new result }
     ensures more { HasOneMore tally.old tally.new }
@@ -117,10 +120,11 @@ fn attempt_all<L: Listener>(listener: &mut L, turn: &mut Turn, console: &mut Con
     requires valid { IfSome turn.old.meaning ValidLine }
     requires keeps { L.keeps listener.old console.old }
     ensures keeps { L.keeps listener.new console.new }
+    ensures all { L.admitted_all listener.new ≡ true → L.admitted_all listener.old ≡ true }
     ensures meaning { turn.new.meaning ≡ turn.old.meaning }
     ensures over { next_of turn.new ≡ None }
     ensures tried { (s : DeskState) → StandsFor s.desk console.old
-        → LineProgress L.admits_all (L.heard listener.old listener.new) s turn.old turn.new console.new }
+        → LineProgress (L.admitted_all listener.new) (L.heard listener.old listener.new) s turn.old turn.new console.new }
 {
     pass_ticks(listener, turn, console);
     'commands: while let Some(command) = turn.next() {
@@ -153,8 +157,9 @@ fn attempt_one<L: Listener>(
     requires valid { ValidCommand command.now }
     requires keeps { L.keeps listener.old console.old }
     ensures keeps { L.keeps listener.new console.new }
-    ensures attempted { (d : Desk) → StandsFor d console.old → ListenedAttempt L.admits_all d command.now result console.new }
+    ensures attempted { (d : Desk) → StandsFor d console.old → ListenedAttempt (L.admitted_all listener.new) d command.now result console.new }
     ensures heard { L.heard listener.old listener.new (heard_of command.now result) }
+    ensures all { L.admitted_all listener.new ≡ true → L.admitted_all listener.old ≡ true }
 {
     let admitted = listener.admit(command);
     let refusal = try_command(command, console, admitted);

@@ -12,8 +12,8 @@ use lx_spec::Command;
 /// each command that was accepted, with the console after it.
 ///
 /// A listener has four meanings for contracts: what it keeps true of itself together with the console (`keeps`),
-/// which accepted commands it heard of between two of its states (`heard`), whether it admits every command
-/// (`admits_all`), and what it has ready for a command that it admitted (`ready`).
+/// which accepted commands it heard of between two of its states (`heard`), whether it admitted every command so far
+/// (`admitted_all`), and what it has ready for a command that it admitted (`ready`).
 pub trait Listener {
     /// What it keeps true of itself together with the console.
     ghost keeps: { Self → Kept → Type 0 };
@@ -21,8 +21,8 @@ pub trait Listener {
     /// From the first state to the second it heard of these accepted commands, in order.
     ghost heard: { Self → Self → List Command → Type 0 };
 
-    /// Whether it admits every command.
-    ghost admits_all: { Bool };
+    /// Whether it admitted every command up to this state.
+    ghost admitted_all: { Self → Bool };
 
     /// What it keeps from admitting this command until it hears of it.
     ghost ready: { Self → Command → Type 0 };
@@ -31,14 +31,15 @@ pub trait Listener {
     fn admit(&mut self, command: &Command) -> bool
         ensures keeps { (console : Kept) → keeps self.old console → keeps self.new console }
         ensures heard { heard self.old self.new [] }
-        ensures all { admits_all ≡ true → result ≡ true }
+        ensures all { admitted_all self.new ≡ true → (result ≡ true) × (admitted_all self.old ≡ true) }
         ensures ready { result ≡ true → ready self.new command.now };
 
     /// Hears of a command that was accepted; the console is the one after it. The listener is as `admit` left it.
     fn hear(&mut self, command: &Command, console: &Console)
         requires { (before : Kept) × (keeps self.old before × (AcceptedStep before command.now console.now × ready self.old command.now)) }
         ensures keeps { keeps self.new console.now }
-        ensures heard { heard self.old self.new (command.now ∷ []) };
+        ensures heard { heard self.old self.new (command.now ∷ []) }
+        ensures all { admitted_all self.new ≡ true → admitted_all self.old ≡ true };
 
     /// Whether it is asked about each tick, and hears of it. If not, ticks may pass it by: what it keeps doesn't
     /// depend on the console.
@@ -61,7 +62,7 @@ impl Listener for NoListener {
 
     ghost heard = { λ _ _ _. Unit {0} };
 
-    ghost admits_all = { true };
+    ghost admitted_all = { λ _. true };
 
     ghost ready = { λ _ _. Unit {0} };
 

@@ -1,6 +1,6 @@
 //! A session: script lines are read one after another, and each is answered before the next is awaited.
 
-ghost use Rattle.std.specs.Prelude.{◌≡◌, ◌≤◌, [], true, IfSome, OnOk};
+ghost use Rattle.std.specs.Prelude.{◌≡◌, ◌≤◌, [], Bool, true, IfSome, OnOk};
 ghost use Rattle.lx_base.specs.declared.TheConstants.{INPUT_BYTES};
 ghost use Rattle.lx_lex.specs.Unread.{CanAdvance, SameSource, bytes_taken, source_left, unread};
 ghost use Rattle.lx_spec.specs.Desk.{Desk};
@@ -61,7 +61,7 @@ pub fn session_with<L: Listener, S: Source, K: Sink>(
     ensures keeps { L.keeps listener.new console.new }
     ensures outcome { (d : Desk) → StandsFor d console.old
         → IfSome (unread S.left lines.old)
-        (λ bytes. ScriptAnswered (desk_answering L.admits_all) (HasDone (L.heard listener.old listener.new) d console.new) (begun d)
+        (λ bytes. ScriptAnswered (desk_answering (L.admitted_all listener.new)) (HasDone (L.heard listener.old listener.new) d console.new) (begun d)
         (bytes_taken lines.old) bytes (unread S.left lines.new) (source_left S.left lines.new) (K.holds sink.old) (K.holds sink.new) result) }
     ensures limit { IfSome (unread S.left lines.old) (λ bytes. KeepsLimit (bytes_taken lines.old) bytes result) }
     ensures cause { HasSessionCause S.faults K.faults K.wants lines.old lines.new sink.old sink.new result }
@@ -108,9 +108,10 @@ fn answer_each<D, A: AnswersBeside<D>, S: Source, K: Sink>(
     requires keeps { A.keeps answerer.old lent.old }
     ensures same_source { SameSource lines.old lines.new }
     ensures keeps { A.keeps answerer.new lent.new }
-    ensures outcome { (since : A.Since) (state : A.by.State) → A.stands since state answerer.old lent.old
+    ensures outcome { (all : Bool) → (all ≡ true → A.admitted_all answerer.new ≡ true) → (since : A.Since) (state : (A.by all).State)
+        → A.stands since all state answerer.old lent.old
         → IfSome (unread S.left lines.old)
-        (λ bytes. ScriptAnswered A.by (λ s. A.stands since s answerer.new lent.new) state (bytes_taken lines.old) bytes
+        (λ bytes. ScriptAnswered (A.by all) (λ s. A.stands since all s answerer.new lent.new) state (bytes_taken lines.old) bytes
         (unread S.left lines.new) (source_left S.left lines.new) (K.holds sink.old) (K.holds sink.new) result) }
     ensures limit { IfSome (unread S.left lines.old) (λ bytes. KeepsLimit (bytes_taken lines.old) bytes result) }
     ensures cause { HasSessionCause S.faults K.faults K.wants lines.old lines.new sink.old sink.new result }

@@ -1,6 +1,6 @@
 //! One line of a session: it is taken from the source and answered.
 
-ghost use Rattle.std.specs.Prelude.{◌≡◌, ◌⊎◌, List, ℕ, [], true, false, Some, None, IfOk, OnOk, OnErr, not, option_copied};
+ghost use Rattle.std.specs.Prelude.{◌≡◌, ◌⊎◌, List, ℕ, Bool, [], true, false, Some, None, IfOk, OnOk, OnErr, not, option_copied};
 ghost use Rattle.std.specs.Io.KnownBytes.{Keeps};
 ghost use Rattle.lx_io.specs.Puts.{HasSinkCause};
 ghost use Rattle.lx_lex.specs.Unread.{CanAdvance, SameSource, held, has_feed, lines_handed};
@@ -30,9 +30,11 @@ pub(crate) fn take_line<D, A: AnswersBeside<D>, S: Source, K: Sink>(
     requires keeps { A.keeps answerer.old lent.old }
     ensures same_source { SameSource lines.old lines.new }
     ensures keeps { A.keeps answerer.new lent.new }
-    ensures outcome { LineOutcome A.by (λ since state. A.stands since state answerer.old lent.old)
-        (λ since state. A.stands since state answerer.new lent.new) S.left S.faults lines.old lines.new (K.holds sink.old) (K.holds sink.new) tally.old
+    ensures outcome { (all : Bool) → (all ≡ true → A.admitted_all answerer.new ≡ true)
+        → LineOutcome (A.by all) (λ since state. A.stands since all state answerer.old lent.old)
+        (λ since state. A.stands since all state answerer.new lent.new) S.left S.faults lines.old lines.new (K.holds sink.old) (K.holds sink.new) tally.old
         tally.new result }
+    ensures all { A.admitted_all answerer.new ≡ true → A.admitted_all answerer.old ≡ true }
     ensures cause { HasSessionCause S.faults K.faults K.wants lines.old lines.new sink.old sink.new result }
     ensures waits { WaitsFlushed K.holds K.back lines.old lines.new sink.old }
     ensures handed_on { IfOk result (λ more. more ≡ false → K.back sink.new ≡ []) }
@@ -76,10 +78,12 @@ fn give_reply<D, A: AnswersBeside<D>, K: Sink>(
     requires room { TallyHasRoom tally.old }
     requires keeps { A.keeps answerer.old lent.old }
     ensures keeps { A.keeps answerer.new lent.new }
-    ensures outcome { (text : List ℕ) → IsLine (option_copied line.entry) text
-        → ReplyOutcome A.by (λ since state. A.stands since state answerer.old lent.old)
-        (λ since state. A.stands since state answerer.new lent.new)
+    ensures outcome { (all : Bool) → (all ≡ true → A.admitted_all answerer.new ≡ true) → (text : List ℕ)
+        → IsLine (option_copied line.entry) text
+        → ReplyOutcome (A.by all) (λ since state. A.stands since all state answerer.old lent.old)
+        (λ since state. A.stands since all state answerer.new lent.new)
         (K.holds sink.old) (K.holds sink.new) tally.old tally.new text result }
+    ensures all { A.admitted_all answerer.new ≡ true → A.admitted_all answerer.old ≡ true }
     ensures cause { HasSinkCause K.faults K.wants sink.old sink.new result }
     ensures handed_on { IfOk result (λ more. more ≡ false → K.back sink.new ≡ []) }
     ensures more { HasOneMore tally.old tally.new }

@@ -7,7 +7,7 @@ pub returns-in-None-clause-answered : goal.returns-in-None-clause-answered
 returns-in-None-clause-answered g c = λ s stands counted.
     let here = c.args.listener.now in
     let heard = g.L.Listener.heard here here in
-    let all = g.L.Listener.admits_all in
+    let all = g.L.Listener.admitted_all here in
     subst
     (λ m. LineAnswer all heard g.K.Sink.holds g.K.Sink.faults g.K.Sink.wants c.args.sink.now c.give.new.sink c.give.result s m
     c.args.console.now c.give.new.tally)
@@ -19,7 +19,7 @@ pub returns-in-Some-Frame-clause-answered : goal.returns-in-Some-Frame-clause-an
 returns-in-Some-Frame-clause-answered g c = λ s stands counted.
     let here = c.args.listener.now in
     let heard = g.L.Listener.heard here here in
-    let all = g.L.Listener.admits_all in
+    let all = g.L.Listener.admitted_all here in
     subst
     (λ m. LineAnswer all heard g.K.Sink.holds g.K.Sink.faults g.K.Sink.wants c.args.sink.now c.put_universe.new.sink c.put_universe.result s m
     c.args.console.now c.args.tally.now)

@@ -2,7 +2,7 @@ use Rattle.std.proofs.Common.{◌≡◌, ◌∙◌, ap, sym, Some, [], ◌∷◌
 use Rattle.lx_spec.specs.declared.Command.TheVariants as commands
 use Rattle.lx_session.specs.Attempts.{heard_of}
 use Rattle.lx_session.specs.LineState.{next_of}
-use Rattle.lx_session.proofs.AttemptSteps.{nothing_yet, attempted_so, passed}
+use Rattle.lx_session.proofs.AttemptSteps.{nothing_yet, attempted_so, admitted_so_far, passed}
 use Rattle.lx_session.proofs.ValidNext.{valid_next}
 use Rattle.lx_session.proofs.line.attempt_all.Goals as goal
 
@@ -12,11 +12,12 @@ commands-init g c =
     let heard = g.L.Listener.heard here here in
     record {
       keeps = c.pass_ticks.ensures.keeps;
+      all = λ every. every;
       meaning = ap (λ t. t.meaning) c.pass_ticks.ensures.passed.turn;
       progress = λ s stands.
-          passed g.L.Listener.admits_all heard heard s c.args.turn.now c.args.turn.now c.pass_ticks.new.turn c.args.console.now
+          passed (g.L.Listener.admitted_all here) heard heard s c.args.turn.now c.args.turn.now c.pass_ticks.new.turn c.args.console.now
           c.pass_ticks.new.console
-          (nothing_yet g.L.Listener.admits_all heard s c.args.console.now stands c.args.turn.now c.requires.start
+          (nothing_yet (g.L.Listener.admitted_all here) heard s c.args.console.now stands c.args.turn.now c.requires.start
           (g.met.L.Listener.nothing here)) c.pass_ticks.ensures.passed
           (λ done h one. g.met.L.Listener.both here here here done (commands.Tick ∷ []) h one);
     }
@@ -29,15 +30,18 @@ commands-preserved g c =
     let here = c.attempt_one-refusal.new.listener in
     record {
       keeps = c.pass_ticks-in-Some.ensures.keeps;
+      all = λ every. c.commands.invariant.all (c.attempt_one-refusal.ensures.all every);
       meaning = ap (λ t. t.meaning) c.pass_ticks-in-Some.ensures.passed.turn ∙ ap (λ t. t.meaning) c.attempted.ensures
           ∙ c.commands.invariant.meaning;
       progress = λ s stands.
-          passed g.L.Listener.admits_all (g.L.Listener.heard first here) (g.L.Listener.heard here here) s c.args.turn.now
+          passed (g.L.Listener.admitted_all here) (g.L.Listener.heard first here) (g.L.Listener.heard here here) s c.args.turn.now
           c.attempted.new.self c.pass_ticks-in-Some.new.turn c.attempt_one-refusal.new.console c.pass_ticks-in-Some.new.console
           (
-          attempted_so g.L.Listener.admits_all (g.L.Listener.heard first c.commands.listener) (g.L.Listener.heard first here) s
+          attempted_so (g.L.Listener.admitted_all here) (g.L.Listener.heard first c.commands.listener) (g.L.Listener.heard first here) s
           c.args.turn.now c.commands.turn c.attempted.new.self command c.attempt_one-refusal.result c.commands.console c.attempt_one-refusal.new.console
-          (c.commands.invariant.progress s stands) next c.attempt_one-refusal.ensures.attempted
+          (admitted_so_far (g.L.Listener.admitted_all c.commands.listener) (g.L.Listener.admitted_all here) c.attempt_one-refusal.ensures.all
+          (g.L.Listener.heard first c.commands.listener) s c.args.turn.now c.commands.turn c.commands.console
+          (c.commands.invariant.progress s stands)) next c.attempt_one-refusal.ensures.attempted
           (λ commands h. g.met.L.Listener.both first c.commands.listener here commands
           (heard_of command c.attempt_one-refusal.result) h c.attempt_one-refusal.ensures.heard) c.attempted.ensures
           ) c.pass_ticks-in-Some.ensures.passed

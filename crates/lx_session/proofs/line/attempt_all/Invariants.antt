@@ -1,4 +1,4 @@
-use Rattle.std.proofs.Common.{◌≡◌}
+use Rattle.std.proofs.Common.{◌≡◌, true}
 use Rattle.lx_spec.specs.DeskSession.{DeskState}
 use Rattle.lx_console.specs.ConsoleMeaning.{StandsFor}
 use Rattle.lx_session.specs.LineProgress.{LineProgress}
@@ -8,8 +8,9 @@ abbrev pub invariant-commands : goal.invariant-commands
 invariant-commands g l = record {
   keeps : g.L.Listener.keeps l.listener l.console;
   meaning : l.turn.meaning ≡ l.fn.turn.meaning;
+  all : g.L.Listener.admitted_all l.listener ≡ true → g.L.Listener.admitted_all l.fn.listener ≡ true;
   progress : (s : DeskState) → StandsFor s.desk l.fn.console
-      → LineProgress g.L.Listener.admits_all (g.L.Listener.heard l.fn.listener l.listener) s l.fn.turn l.turn l.console;
+      → LineProgress (g.L.Listener.admitted_all l.listener) (g.L.Listener.heard l.fn.listener l.listener) s l.fn.turn l.turn l.console;
 }
 
 abbrev pub decreases-commands : goal.decreases-commands

@@ -29,3 +29,23 @@ returns-else-is_none-clause-heard g c =
     let some : is_none c.try_command-refusal.result ≡ false = ap not c.if-is_none.ensures in
     heard_refused (g.L.Listener.heard c.args.listener.now c.admit-admitted.new.self) c.args.command.now c.try_command-refusal.result some
     c.admit-admitted.ensures.heard
+
+pub returns-then-is_none-clause-attempted : goal.returns-then-is_none-clause-attempted
+returns-then-is_none-clause-attempted g c = λ d stands. record {
+  admitted = c.admit-admitted.result;
+  is_all = λ every. (c.admit-admitted.ensures.all (c.hear.ensures.all every)).0;
+  attempted = c.try_command-refusal.ensures.attempted d stands;
+}
+
+pub returns-else-is_none-clause-attempted : goal.returns-else-is_none-clause-attempted
+returns-else-is_none-clause-attempted g c = λ d stands. record {
+  admitted = c.admit-admitted.result;
+  is_all = λ every. (c.admit-admitted.ensures.all every).0;
+  attempted = c.try_command-refusal.ensures.attempted d stands;
+}
+
+pub returns-then-is_none-clause-all : goal.returns-then-is_none-clause-all
+returns-then-is_none-clause-all g c = λ every. (c.admit-admitted.ensures.all (c.hear.ensures.all every)).1
+
+pub returns-else-is_none-clause-all : goal.returns-else-is_none-clause-all
+returns-else-is_none-clause-all g c = λ every. (c.admit-admitted.ensures.all every).1

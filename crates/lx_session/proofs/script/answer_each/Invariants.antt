@@ -1,4 +1,4 @@
-use Rattle.std.proofs.Common.{◌≡◌, ◌-◌}
+use Rattle.std.proofs.Common.{◌≡◌, ◌-◌, Bool, true}
 use Rattle.lx_base.specs.declared.TheConstants.{INPUT_BYTES}
 use Rattle.lx_session.specs.LineReply.{IsUpTo}
 use Rattle.lx_session.proofs.SoFar.{SoFar, Passed}
@@ -8,8 +8,10 @@ abbrev pub invariant-script : goal.invariant-script
 invariant-script g l = record {
   keeps : g.A.AnswersBeside.keeps l.answerer l.lent;
   passed : Passed g.S.Source.left g.S.Source.faults l.fn.lines l.lines;
-  so_far : (since : g.A.AnswersBeside.Since) (state : g.A.AnswersBeside.by.State) → g.A.AnswersBeside.stands since state l.fn.answerer l.fn.lent
-      → SoFar g.A.AnswersBeside.by (λ s. g.A.AnswersBeside.stands since s l.answerer l.lent) g.S.Source.left
+  so_far : (all : Bool) → (all ≡ true → g.A.AnswersBeside.admitted_all l.answerer ≡ true)
+      → (since : g.A.AnswersBeside.Since) (state : (g.A.AnswersBeside.by all).State)
+      → g.A.AnswersBeside.stands since all state l.fn.answerer l.fn.lent
+      → SoFar (g.A.AnswersBeside.by all) (λ s. g.A.AnswersBeside.stands since all s l.answerer l.lent) g.S.Source.left
       g.S.Source.faults l.fn.lines l.lines state l.tally (g.K.Sink.holds l.fn.sink) (g.K.Sink.holds l.sink);
   few : IsUpTo l.lines.number l.tally;
   sink_kept : g.K.Sink.faults l.sink ≡ g.K.Sink.faults l.fn.sink;

@@ -5,5 +5,5 @@ use Rattle.lx_session.proofs.script.session_with.Goals as goal
 pub returns-clause-outcome : goal.returns-clause-outcome
 returns-clause-outcome g c = λ d stands.
     let first = c.args.listener.now in
-    c.answer_each.ensures.outcome (record { listener = first; desk = d }) (begun d)
+    c.answer_each.ensures.outcome (g.L.Listener.admitted_all c.answer_each.new.answerer) (λ is. is) (record { listener = first; desk = d }) (begun d)
     (record { stands = stands; desk = refl; listened = g.met.L.Listener.nothing first })
