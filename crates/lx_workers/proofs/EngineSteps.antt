@@ -1,5 +1,6 @@
 -- The engine's steps: a command is admitted, accepted and published.
-use Rattle.std.proofs.Common.{◌≡◌, ◌+◌, ◌-◌, ◌^◌, ◌<◌, List, [], ◌∷◌, ◌++◌, length, sym, subst}
+use Rattle.std.proofs.Common.{◌≡◌, ◌+◌, ◌-◌, ◌^◌, ◌<◌, true, List, [], ◌∷◌, ◌++◌, length, length-append, sym, ap, ◌∙◌, subst, arith}
+use Rattle.std.proofs.lemmas.Bool.Decides.{nat_tests}
 use Rattle.lx_spec.specs.declared.Command.{Command}
 use Rattle.lx_spec.specs.Show.{Show}
 use Rattle.lx_spec.specs.Desk.{replay}
@@ -8,12 +9,30 @@ use Rattle.lx_session.specs.Attempts.{AcceptedStep}
 use Rattle.lx_gate.specs.Gates.{Published}
 use Rattle.lx_gate.specs.Desks.{IsInStep}
 use Rattle.lx_gate.proofs.DeskSteps.{in_step_push}
+use Rattle.lx_workers.specs.Engines.{accepted_of, leaves_room}
+
+-- a command that is admitted can be counted
+counted : (gate : Published) (unsent : List Command) → leaves_room (accepted_of gate unsent) ≡ true
+    → length gate.published + (length unsent + 1) < 2 ^ 64 - 1
+counted gate unsent room =
+    let few : length (accepted_of gate unsent) < 2 ^ 62 = grind (arith, nat_tests) in
+    omega (arith, few, length-append gate.published unsent)
 
 -- an accepted command waits to be published
 pub in_step_heard : (show : Show) (gate : Published) (unsent unsent' : List Command) (command : Command) (before after : Kept)
     → IsInStep show gate unsent before
-    → AcceptedStep before command after → length gate.published + (length unsent + 1) < 2 ^ 64 - 1 → unsent' ≡ unsent ++ command ∷ []
+    → AcceptedStep before command after → leaves_room (accepted_of gate unsent) ≡ true → unsent' ≡ unsent ++ command ∷ []
     → IsInStep show gate unsent' after
-in_step_heard show gate unsent unsent' command before after h accepted few is =
+in_step_heard show gate unsent unsent' command before after h accepted room is =
     subst (λ (l : List Command). IsInStep show gate l after) (sym is)
-    (in_step_push show gate unsent command before after h few (accepted (replay show (gate.published ++ unsent)) h.stands))
+    (in_step_push show gate unsent command before after h (counted gate unsent room)
+    (accepted (replay show (gate.published ++ unsent)) h.stands))
+
+-- where commands left room, those before them did
+pub left_room : (before after : List Command) (command : Command) → after ≡ before ++ command ∷ [] → leaves_room after ≡ true
+    → leaves_room before ≡ true
+left_room before after command is room =
+    let n : length after ≡ length before + 1 = ap length is ∙ length-append before (command ∷ []) in
+    let few : length after < 2 ^ 62 = grind (arith, nat_tests) in
+    let fewer : length before < 2 ^ 62 = omega (arith, few, n) in
+    grind (arith, nat_tests)

@@ -1,5 +1,5 @@
 -- A session whose accepted commands are published, from the opening to its end.
-use Rattle.std.proofs.Common.{◌≡◌, ℕ, false, List, [], ◌++◌, Option, Some, None, Result, Ok, Err, IfSome, IsSomeAnd, refl, sym, ap}
+use Rattle.std.proofs.Common.{◌≡◌, ℕ, Bool, List, [], ◌++◌, Option, Some, None, Result, Ok, Err, IfSome, IsSomeAnd, refl, sym, ap}
 use Rattle.std.proofs.Common.{◌∙◌, subst, arith, append-nil}
 use Rattle.lx_lex.specs.declared.lines.Lines.{Lines}
 use Rattle.lx_lex.specs.Unread.{bytes_taken, source_left, unread}
@@ -17,7 +17,7 @@ use Rattle.lx_session.proofs.ScriptEnds.{stands_as}
 use Rattle.lx_gate.specs.Gates.{Published}
 use Rattle.lx_gate.specs.Desks.{IsInStep}
 use Rattle.lx_gate.proofs.UnsentCommands.{entered_none}
-use Rattle.lx_workers.specs.Engines.{accepted_of, HasAccepted, HasRun}
+use Rattle.lx_workers.specs.Engines.{accepted_of, leaves_room, HasAccepted, HasRun}
 
 -- what says of commands that they were heard of says something else of them
 abbrev Says : (List Command → Type 0) → (List Command → Type 0) → Type 0
@@ -29,14 +29,15 @@ done_as heard heard' says d console state h =
     record { stands = h.stands; desk = h.desk; listened = says state.accepted h.listened }
 
 -- the same of the outcome of a session, where the source may tell no bytes
-outcomes_as : (heard heard' : List Command → Type 0) → Says heard heard' → (o : Option (List ℕ)) (d : Desk) (before : ℕ)
-    (unread left held held' : Option (List ℕ)) (console : Kept) (r : Result Tally SessionFault)
-    → IfSome o (λ bytes. ScriptAnswered (desk_answering false) (HasDone heard d console) (begun d) before bytes unread left held held' r)
-    → IfSome o (λ bytes. ScriptAnswered (desk_answering false) (HasDone heard' d console) (begun d) before bytes unread left held held' r)
-outcomes_as heard heard' says None d before unread left held held' console r p = p
-outcomes_as heard heard' says (Some bytes) d before unread left held held' console r p =
-    stands_as (desk_answering false) (HasDone heard d console) (HasDone heard' d console) (done_as heard heard' says d console) (begun d)
-    before bytes unread left held held' r p
+outcomes_as : (all all' : Bool) → all ≡ all' → (heard heard' : List Command → Type 0) → Says heard heard' → (o : Option (List ℕ)) (d : Desk)
+    (before : ℕ) (unread left held held' : Option (List ℕ)) (console : Kept) (r : Result Tally SessionFault)
+    → IfSome o (λ bytes. ScriptAnswered (desk_answering all) (HasDone heard d console) (begun d) before bytes unread left held held' r)
+    → IfSome o (λ bytes. ScriptAnswered (desk_answering all') (HasDone heard' d console) (begun d) before bytes unread left held held' r)
+outcomes_as all all' same heard heard' says None d before unread left held held' console r p = p
+outcomes_as all all' same heard heard' says (Some bytes) d before unread left held held' console r p =
+    subst (λ b. ScriptAnswered (desk_answering b) (HasDone heard' d console) (begun d) before bytes unread left held held' r) same
+    (stands_as (desk_answering all) (HasDone heard d console) (HasDone heard' d console) (done_as heard heard' says d console) (begun d)
+    before bytes unread left held held' r p)
 
 -- one more publish leaves what a session came to
 pub run_on : {S K : Type 0} (left : S → Option (List ℕ)) (reads : S → ℕ) (holds : K → Option (List ℕ)) (back : K → List ℕ) (faults wants : K → ℕ) (show : Show)
@@ -50,7 +51,7 @@ run_on left reads holds back faults wants show gate unsent console lines output 
     in_step same = record {
       in_step = in_step;
       same_source = h.same_source;
-      outcome = λ d stands. outcomes_as (HasAccepted gate unsent gate' unsent') (HasAccepted gate unsent gate'' unsent'')
+      outcome = λ d stands. outcomes_as _ _ (ap leaves_room (sym same)) (HasAccepted gate unsent gate' unsent') (HasAccepted gate unsent gate'' unsent'')
           (λ commands is. same ∙ is)
           (unread left lines) d (bytes_taken lines) (unread left lines') (source_left left lines') (holds output) (holds output') console'
           result (h.outcome d stands);
@@ -74,14 +75,14 @@ pub played_of : {S K : Type 0} (left : S → Option (List ℕ)) (reads : S → �
     (gate' : Published) (unsent' : List Command) (console' : Kept) (lines' : Lines S) (output' : K) (result : Result Tally SessionFault)
     → gate ≡ record { published = []; entered = [] } → unsent ≡ [] → StandsFor (opened show) console
     → HasRun left reads holds back faults wants show gate unsent console lines output gate' unsent' console' lines' output' result
-    → IfSome (unread left lines) (λ bytes. ScriptAnswered (desk_answering false)
+    → IfSome (unread left lines) (λ bytes. ScriptAnswered (desk_answering (leaves_room (gate'.published ++ unsent')))
     (HasDone (λ commands. commands ≡ gate'.published ++ unsent') (opened show) console') (begun (opened show))
     (bytes_taken lines) bytes (unread left lines') (source_left left lines') (holds output) (holds output') result)
 played_of left reads holds back faults wants show gate unsent console lines output gate' unsent' console' lines' output' result is empty stands
     h =
     let none : gate.published ++ unsent ≡ [] = ap (λ l. gate.published ++ l) empty
     ∙ (append-nil gate.published ∙ ap (λ (g : Published). g.published) is) in
-    outcomes_as (HasAccepted gate unsent gate' unsent') (λ commands. commands ≡ gate'.published ++ unsent')
+    outcomes_as _ _ refl (HasAccepted gate unsent gate' unsent') (λ commands. commands ≡ gate'.published ++ unsent')
     (λ commands accepted. sym (accepted ∙ ap (λ l. l ++ commands) none))
     (unread left lines) (opened show) (bytes_taken lines) (unread left lines') (source_left left lines') (holds output) (holds output')
     console' result (h.outcome (opened show) stands)

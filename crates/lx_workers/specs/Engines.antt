@@ -1,5 +1,5 @@
 -- The engine's commands: those that are published, and then those that aren't yet.
-use Rattle.std.specs.Prelude.{◌≡◌, ℕ, ◌+◌, ◌-◌, ◌<◌, ◌^◌, List, [], ◌++◌, length, false, Option, Result, IfSome, OnOk}
+use Rattle.std.specs.Prelude.{◌≡◌, ℕ, ◌^◌, List, [], ◌++◌, length, Bool, ltb, Option, Result, IfSome, OnOk}
 use Rattle.std.specs.Prelude.{IsSomeAnd}
 use mathlib.Core.Path.{sym, ap, ◌∙◌}
 use mathlib.Core.List.{append-nil, append_assoc}
@@ -27,9 +27,9 @@ accepted_of gate unsent = gate.published ++ unsent
 abbrev pub HasAccepted : Published → List Command → Published → List Command → List Command → Type 0
 HasAccepted gate unsent gate' unsent' commands = accepted_of gate' unsent' ≡ accepted_of gate unsent ++ commands
 
--- there is room for one more unsent command: not too many to count
-pub record HasRoom (gate : Published) (unsent : List Command) : Type 0 where
-  pub few : length gate.published + (length unsent + 1) < 2 ^ 64 - 1
+-- after these commands one more can be counted: an engine admits it
+abbrev pub leaves_room : List Command → Bool
+leaves_room commands = ltb (length commands) (2 ^ 62)
 
 pub accepted_nothing : (gate : Published) (unsent : List Command) → HasAccepted gate unsent gate unsent []
 accepted_nothing gate unsent = sym (append-nil (accepted_of gate unsent))
@@ -42,7 +42,7 @@ accepted_both gate unsent gate' unsent' gate'' unsent'' before after one two =
     two ∙ (ap (λ l. l ++ after) one ∙ append_assoc (accepted_of gate unsent) before after)
 
 -- A session was played: the console stands for the desk after all commands, those that its lines came to are published or unsent, and it
--- answered as a session in which a command may not be admitted.
+-- answered as a session in which every command is admitted, unless there were too many to count.
 pub record HasRun {S K : Type 0} (left : S → Option (List ℕ)) (reads : S → ℕ) (holds : K → Option (List ℕ)) (back : K → List ℕ)
     (faults wants : K → ℕ) (show : Show) (gate : Published) (unsent : List Command) (console : Kept) (lines : Lines S) (output : K)
     (gate' : Published) (unsent' : List Command) (console' : Kept) (lines' : Lines S) (output' : K) (result : Result Tally SessionFault)
@@ -50,8 +50,8 @@ pub record HasRun {S K : Type 0} (left : S → Option (List ℕ)) (reads : S →
   pub in_step : IsInStep show gate' unsent' console'
   pub same_source : SameSource lines lines'
   pub outcome : (d : Desk) → StandsFor d console → IfSome (unread left lines) (λ bytes.
-      ScriptAnswered (desk_answering false) (HasDone (HasAccepted gate unsent gate' unsent') d console') (begun d) (bytes_taken lines) bytes
-      (unread left lines') (source_left left lines') (holds output) (holds output') result)
+      ScriptAnswered (desk_answering (leaves_room (accepted_of gate' unsent'))) (HasDone (HasAccepted gate unsent gate' unsent') d console')
+      (begun d) (bytes_taken lines) bytes (unread left lines') (source_left left lines') (holds output) (holds output') result)
   pub limit : IfSome (unread left lines) (λ bytes. KeepsLimit (bytes_taken lines) bytes result)
   pub cause : HasSessionCause reads faults wants lines lines' output output' result
   pub handed_on : OnOk result (back output' ≡ [])

@@ -1,5 +1,5 @@
 -- What a live run comes to.
-use Rattle.std.specs.Prelude.{◌≡◌, ℕ, ◌<◌, false, List, ◌++◌, length, Some, IfSome, slice_get, Result}
+use Rattle.std.specs.Prelude.{◌≡◌, ℕ, ◌<◌, List, ◌++◌, length, Some, IfSome, slice_get, Result}
 use Rattle.std.specs.declared.option.Option.{Option}
 use Rattle.lx_io.specs.declared.sink.SinkFault.{SinkFault}
 use Rattle.lx_lex.specs.declared.lines.Lines.{Lines}
@@ -14,6 +14,7 @@ use Rattle.lx_session.specs.declared.fault.SessionFault.{SessionFault}
 use Rattle.lx_session.specs.declared.tally.Tally.{Tally}
 use Rattle.lx_session.specs.Listening.{HasDone}
 use Rattle.lx_session.specs.ScriptAnswer.{ScriptAnswered}
+use Rattle.lx_workers.specs.Engines.{leaves_room}
 use Rattle.lx_workers.specs.Places.{OutletIsBack}
 
 -- Each place has its sink back, with what it was to get of these published commands; past the places no fault is told.
@@ -24,8 +25,9 @@ pub record AreDelivered {K : Type 0} (holds : K → Option (List ℕ)) (back : K
       → OutletIsBack holds back faults wants show outlets' results published place start
   pub others : (place : ℕ) (fault : SinkFault) → slice_get results place ≡ Some (Some fault) → place < length outlets
 
--- A script was answered as in a session: the commands that its lines came to are published up to the last n, the console stands for
--- the desk after them all, and each outlet has what it was to get of those that are published.
+-- A script was answered as in a session that admits every command, unless there were too many to count. The commands that its lines came to
+-- are published up to the last n, the console stands for the desk after them all, and each outlet has what it was to get of those that are
+-- published.
 pub record HasPlayedScript {S O K : Type 0} (left : S → Option (List ℕ)) (holds : O → Option (List ℕ)) (outlet_holds : K → Option (List ℕ))
     (outlet_back : K → List ℕ) (faults wants : K → ℕ) (show : Show)
     (lines lines' : Lines S) (output output' : O) (outlets outlets' : List (Option K)) (console : Kept)
@@ -35,6 +37,7 @@ pub record HasPlayedScript {S O K : Type 0} (left : S → Option (List ℕ)) (ho
   pub unsent_is : unsent ≡ length held_back
   pub stands : StandsFor (replay show (published ++ held_back)) console
   pub session_is : IfSome (unread left lines) (λ bytes.
-      ScriptAnswered (desk_answering false) (HasDone (λ commands. commands ≡ published ++ held_back) (opened show) console)
+      ScriptAnswered (desk_answering (leaves_room (published ++ held_back)))
+      (HasDone (λ commands. commands ≡ published ++ held_back) (opened show) console)
       (begun (opened show)) (bytes_taken lines) bytes (unread left lines') (source_left left lines') (holds output) (holds output') session)
   pub outlets_are : AreDelivered outlet_holds outlet_back faults wants show outlets outlets' results published

@@ -1,7 +1,7 @@
 //! The engine's listener: each command that a session accepts is published, in order.
-ghost use Rattle.std.specs.Prelude.{◌≡◌, ◌+◌, ◌-◌, ◌<◌, ◌^◌, ◌++◌, length, false, true};
+ghost use Rattle.std.specs.Prelude.{◌≡◌, ◌++◌};
 ghost use Rattle.lx_gate.specs.Desks.{IsInStep};
-ghost use Rattle.lx_workers.specs.Engines.{HasAccepted, HasRoom};
+ghost use Rattle.lx_workers.specs.Engines.{accepted_of, HasAccepted, leaves_room};
 
 use crate::Stop;
 use lx_console::Console;
@@ -9,36 +9,33 @@ use lx_gate::{Gate, GateWriter, Origin, Unsent, Window};
 use lx_io::Pace;
 use lx_session::Listener;
 use lx_spec::Command;
-use std::mem::replace;
 use std::sync::Wait;
 
-/// Published and unsent commands stay below this number each.
+/// Where this many commands were accepted, no more are admitted.
 const MOST: u64 = 1 << 62;
 
-/// Listens to the session of a live run. It keeps the pace, sees that a command can still be counted before it is attempted, publishes what
+/// Listens to the session of a live run. It keeps the pace, admits each command that can still be counted, publishes what
 /// was accepted with the console's frames, and tells the workers. Commands that a publish leaves for lack of memory wait for
 /// a later one.
 pub struct Publisher<'r, 't, 'p, R: Wait, G: Origin, W: Window, C: Pace> {
     pub rt: &'r R,
     pub gate: Gate<G, W>,
     pub unsent: Unsent,
-    /// What is unsent once the command that was admitted is accepted.
-    pub next: Unsent,
     pub stop: &'t Stop,
     pub pace: &'p C,
 }
 
 impl<R: Wait, G: Origin, C: Pace> Listener for Publisher<'_, '_, '_, R, G, GateWriter<G>, C> {
-    ghost use Rattle.std.specs.Prelude.{◌≡◌, [], ◌∷◌, ◌++◌};
+    ghost use Rattle.std.specs.Prelude.{◌≡◌, true};
     ghost use Rattle.lx_workers.specs.Engines.{accepted_nothing, accepted_both};
 
     ghost keeps = { λ x console. IsInStep G.show x.gate x.unsent console };
 
     ghost heard = { λ x y commands. HasAccepted x.gate x.unsent y.gate y.unsent commands };
 
-    ghost admits_all = { false };
+    ghost admitted_all = { λ x. leaves_room (accepted_of x.gate x.unsent) };
 
-    ghost ready = { λ x command. HasRoom x.gate x.unsent × (x.next ≡ x.unsent ++ command ∷ []) };
+    ghost ready = { λ x _. leaves_room (accepted_of x.gate x.unsent) ≡ true };
 
     ghost nothing = { λ x. accepted_nothing x.gate x.unsent };
 
@@ -49,20 +46,11 @@ impl<R: Wait, G: Origin, C: Pace> Listener for Publisher<'_, '_, '_, R, G, GateW
         if is_tick(command) {
             self.pace.beat();
         }
-        if !has_room(&self.gate, &self.unsent) {
-            return false;
-        }
-        match self.unsent.with(command) {
-            Some(next) => {
-                self.next = next;
-                true
-            }
-            None => false,
-        }
+        has_room(&self.gate, &self.unsent)
     }
 
-    fn hear(&mut self, _command: &Command, console: &Console) {
-        self.unsent = replace(&mut self.next, Unsent::new());
+    fn hear(&mut self, command: &Command, console: &Console) {
+        self.unsent.push(command);
         publish(self.rt, &mut self.gate, &mut self.unsent, console);
         self.stop.tell_news();
     }
@@ -80,11 +68,11 @@ fn is_tick(command: &Command) -> bool {
     }
 }
 
-/// Whether there is room for one more command.
+/// Whether one more command can be counted.
 fn has_room<G: Origin>(gate: &Gate<G, GateWriter<G>>, unsent: &Unsent) -> bool
-    ensures { result ≡ true → HasRoom gate.now unsent.now }
+    ensures { result ≡ leaves_room (accepted_of gate.now unsent.now) }
 {
-    gate.count() < MOST && unsent.len() < MOST
+    gate.count().saturating_add(unsent.len()) < MOST
 }
 
 /// Publishes what is unsent. Where memory runs out it stays unsent, and goes out with a later publish.

@@ -84,7 +84,6 @@ fn run_script<G: Origin, R: Wait, S: Source, K: Sink, C: Pace>(
         rt,
         gate: held,
         unsent: Unsent::new(),
-        next: Unsent::new(),
         stop,
         pace,
     };
@@ -93,7 +92,6 @@ fn run_script<G: Origin, R: Wait, S: Source, K: Sink, C: Pace>(
         rt: _,
         gate: held,
         unsent: left,
-        next: _,
         stop: _,
         pace: _,
     } = publisher;
