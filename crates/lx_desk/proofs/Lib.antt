@@ -5,6 +5,7 @@ mod Finishing
 mod MadeEndings
 mod Statuses
 mod Played
+mod AnyFailures
 mod LiveRuns
 mod LiveEnds
 mod CrewRuns

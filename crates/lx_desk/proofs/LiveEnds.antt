@@ -22,8 +22,8 @@ use Rattle.lx_spec.specs.CutInput.{HasNoFeed, first_lines}
 use Rattle.lx_spec.specs.FaultLine.{over_show}
 use Rattle.lx_spec.specs.Reading.{Reading, reads, script_of, lines_read}
 use Rattle.lx_spec.specs.ScriptOutput.{first_replies, input_lines_wanted, input_wanted, script_output, ScriptAllows}
-use Rattle.lx_spec.specs.Session.{Session, begin_at, answered_lines, AreAllowed, lines_wanted, bytes_wanted}
-use Rattle.lx_spec.specs.DeskSession.{DeskState, begun, after_line, desk_answering}
+use Rattle.lx_spec.specs.Session.{begin_at, answered_lines, lines_wanted, bytes_wanted}
+use Rattle.lx_spec.specs.DeskSession.{begun, desk_answering}
 use Rattle.lx_spec.specs.Show.{Show}
 use Rattle.lx_reader.specs.declared.loaded.Loaded.{Loaded}
 use Rattle.lx_reader.specs.declared.fault.ShowFault.{ShowFault}
@@ -39,18 +39,11 @@ use Rattle.lx_desk.specs.Live.{HasLived, PlaysToEnd, LivesToEnd, LacksMemory, Ha
 use Rattle.lx_desk.specs.Finished.{HasWanted}
 use Rattle.lx_desk.proofs.Inputs.{Says, means_of, session_long, session_fits, refusal_isnt_ok, front_nothing, if_known, both_known, over_loaded}
 use Rattle.lx_desk.proofs.Inputs.{if_both, fed_behind, wanted_read, script_over}
+use Rattle.lx_desk.proofs.AnyFailures.{each_allowed}
 use Rattle.lx_desk.proofs.Endings.{refusal_ends, refusal_ended}
 
 -- Of a show whose levels are read in this form, for this many universes.
 module _ (form : Form) (universes : ℕ) where
-  -- any attempt may fail
-  each_allowed : (failures : List (Option ℕ)) (s : Session DeskState) (script : List (List ℕ))
-      → AreAllowed (desk_answering false) failures s script
-  each_allowed [] s script = tt
-  each_allowed (failed ∷ failures) s [] = tt
-  each_allowed (None ∷ failures) s (line ∷ script) = (tt, each_allowed failures (after_line None s line) script)
-  each_allowed (Some k ∷ failures) s (line ∷ script) = (tt, each_allowed failures (after_line (Some k) s line) script)
-
   live_allows : (x : List ℕ) (failures : List (Option ℕ)) (r : Result Reading TextFault) → ScriptAllows (Live universes) x failures r
   live_allows x failures (Ok reading) = each_allowed failures (begin_at (begun (opened reading.show))) (answered_lines (script_of x))
   live_allows x failures (Err fault) = tt
