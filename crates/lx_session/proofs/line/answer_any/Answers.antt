@@ -1,4 +1,4 @@
-use Rattle.std.proofs.Common.{subst}
+use Rattle.std.proofs.Common.{Some, ap, sym, ◌∙◌, subst}
 use Rattle.lx_session.specs.LineAnswer.{LineAnswer}
 use Rattle.lx_session.proofs.AnsweredLines.{bad_line, frame_line}
 use Rattle.lx_session.proofs.line.answer_any.Goals as goal
@@ -23,7 +23,7 @@ returns-in-Some-Frame-clause-answered g c = λ s stands counted.
     subst
     (λ m. LineAnswer all heard g.K.Sink.holds g.K.Sink.faults g.K.Sink.wants c.args.sink.now c.put_universe.new.sink c.put_universe.result s m
     c.args.console.now c.args.tally.now)
-    c.in-Some-Frame.ensures.meaning
+    (ap Some (sym c.in-Some-Frame.field-0-is) ∙ c.in-Some-Frame.ensures.meaning)
     (frame_line all heard g.K.Sink.holds g.K.Sink.faults g.K.Sink.wants c.args.sink.now c.put_universe.new.sink c.put_universe.result s
     c.in-Some-Frame.universe c.args.console.now c.args.tally.now stands counted (g.met.L.Listener.nothing here)
     (c.put_universe.ensures.text s.state.desk stands))
