@@ -8,7 +8,7 @@ ghost use Rattle.lx_spec.specs.RecordedLevels.{on_stage};
 ghost use Rattle.lx_spec.specs.TrackedLevel.{tracked};
 ghost use Rattle.lx_console.specs.ConsoleMeaning.{StandsFor};
 
-use lx_base::{Chan, CueNo, Level, SubNo, UNIVERSES};
+use lx_base::{Chan, CueNo, Level, SubNo, UNIVERSE_SLOTS, UNIVERSES};
 use lx_console::Console;
 
 /// Whether there is a universe of the number.
@@ -25,7 +25,8 @@ pub(crate) fn slots_of(console: &Console, universe: u32) -> &[Level]
     ensures frame { (d : Desk) → StandsFor d console.now → result.now ≡ frame d universe }
     ensures room { length result.now ≡ UNIVERSE_SLOTS }
 {
-    lx_console::slots_of(universe as u8, console.frames())
+    let start = UNIVERSE_SLOTS * (universe as usize - 1);
+    &console.frames()[start..start + UNIVERSE_SLOTS]
 }
 
 /// The level of a channel on stage. `None` exactly where the show has no such channel.
