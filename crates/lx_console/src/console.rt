@@ -31,8 +31,8 @@ use std::marker::Model;
 /// and the level of each channel and the slot of each dimmer at the present moment, are kept, and lent as
 /// they are.
 ///
-/// A console stands for a desk that also has the list of all runs since its opening: edits, keys and ticks
-/// are accepted, or refused, as that desk does, and the rows are those of its show, the levels and slots
+/// A console stands for a desk that also has the list of all runs since its opening. Edits, keys and ticks
+/// are accepted, or refused, as that desk does. The rows are those of its show, the levels and slots
 /// those over all its runs. It stands where its player does, and its output shows the player. How levels follow
 /// from runs is our own rule; that the greatest of playback and submasters goes out, under the master, is console
 /// practice.

@@ -42,8 +42,8 @@ use std::marker::Model;
 /// level of each channel at the present moment, and what the submasters give it, are kept, and lent as they are.
 /// A player puts nothing out: a `KeptOutput` does.
 ///
-/// A player stands for a desk that also has the list of all runs since its opening: edits, keys and ticks are
-/// accepted, or refused, as that desk does, and the rows are those of its show, the levels those over all its runs.
+/// A player stands for a desk that also has the list of all runs since its opening. Edits, keys and ticks are
+/// accepted, or refused, as that desk does. The rows are those of its show, the levels those over all its runs.
 /// How levels follow from runs is our own rule. Each command tells what it changed of what goes out.
 #[derive(Drop)]
 pub struct Player {

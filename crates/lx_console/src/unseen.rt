@@ -36,7 +36,7 @@ pub(crate) fn placed_alone(plan: &Plan) -> Option<CueNo>
 }
 
 /// Of the channels that an edit touched, those at which the playback may look. Where one cue was placed, the edited
-/// levels of a channel end at the next cue that decides it; so it stays as it was where the playback stands below
+/// levels of a channel end at the next cue that decides it. So it stays as it was where the playback stands below
 /// the placed cue, or from that next one on, and so does each live run.
 pub(crate) fn seen(
     show: &Show,

@@ -42,7 +42,7 @@ pub struct Crewed {
 }
 
 /// Answers the lines of one to four operators, each up to `quit` or the end of its own source, over a console, and writes
-/// their transcript: for each line `op K N`, its operator and its number from 1, and then its replies. Each source is read
+/// their transcript. For each line that has `op K N`, its operator and its number from 1, and then its replies. Each source is read
 /// in a thread of its own; which operator comes next isn't said.
 ///
 /// A fault of an operator costs no line of another. Without a fault of the output all of the transcript is handed on. After

@@ -47,7 +47,7 @@ pub record WritesTranscript (show : Show) (lines : ℕ → List (List ℕ)) (hel
   pub text : Appends held held' (crew_text (opened show) entries failures)
 
 -- What was written of these lines, by the status: the whole text, also after a fault of an operator, of which the lowest operator's is
--- told; after a fault of the output a prefix of the text of first lines of each operator.
+-- told. After a fault of the output it is a prefix of the text of first lines of each operator.
 abbrev pub WritesLines : Status → Show → (ℕ → List (List ℕ)) → List (Option OperatorFault) → (held held' : Known) → Type 0
 WritesLines status.Ok show lines told held held' = WritesTranscript show lines held held' × NoneTold told
 WritesLines status.ReadFault show lines told held held' = WritesTranscript show lines held held' × IsLowest told ends.ReadFault

@@ -57,7 +57,7 @@ pub record PlaysScript {K : Type 0} (outlet_holds : K → Known) (show : Show) (
   pub versions : HaveVersions outlet_holds show universes outlets outlets' (live_session show script failures).state.accepted
 
 -- Each outlet in use got what it was to get of these published commands: the lines of versions of rising lists, the last of which begins
--- with them, or with a fault of its own such lines and a part of one more. The other outlets are as they were.
+-- with them. With a fault of its own it got such lines and a part of one more. The other outlets are as they were.
 pub record HaveGot {K : Type 0} (holds : K → Known) (back : K → List ℕ) (faults wants : K → ℕ) (show : Show) (universes : ℕ)
     (outlets outlets' : List (Option K)) (published : List Command) : Type 0 where
   pub results : List (Option SinkFault)
@@ -146,8 +146,8 @@ pub record LivesTaken {K : Type 0} (holds : K → Known) (back : K → List ℕ)
 abbrev pub NoneLived : {K : Type 0} → Form → List ℕ → (held held' : Known) → (outlets outlets' : List (Option K)) → Type 0
 NoneLived form bytes held held' outlets outlets' = (outlets' ≡ outlets) × (IsOk (reads form bytes) → held' ≡ held)
 
--- How the live run of a form over this many universes ended: with Ok as above; with ShowRefused as another job, and nothing in any outlet;
--- and else as another job ends with the status, and the outlets got nothing, or what was published of the commands that the lines which
+-- How the live run of a form over this many universes ended: with Ok as above; with ShowRefused as another job, and nothing in any outlet.
+-- Else it ended as another job with the status, and the outlets got nothing, or what was published of the commands that the lines which
 -- were answered came to.
 abbrev pub HasLived : {K : Type 0} → Status → (K → Known) → (K → List ℕ) → (faults wants : K → ℕ) → ℕ → Form → List ℕ
     → (left held held' : Known) → (outlets outlets' : List (Option K)) → Type 0
@@ -241,8 +241,8 @@ pub record NoneRose {O : Type 0} (reads reads' : ℕ) (writes wants : O → ℕ)
   pub writes_kept : writes output' ≡ writes output
   pub wants_kept : wants output' ≡ wants output
 
--- The faults of a live run are told in this order: the session's own, which is one of the input or of the output; then, where the session
--- had none and came to its end, a write that failed in an outlet; and then that memory was short.
+-- The faults of a live run are told in this order. The session's own comes first, which is one of the input or of the output. Then, where
+-- the session had none and came to its end, comes a write that failed in an outlet, and then that memory was short.
 abbrev pub DecidesInOrder : {O K : Type 0} → Status → (reads reads' : ℕ) → (writes wants : O → ℕ) → (output output' : O)
     → (outlets outlets' : List (Option K)) → ((List (Option SinkFault) → ℕ → Type 0) → Type 0) → Type 0
 DecidesInOrder status.WriteFault reads reads' writes wants output output' outlets outlets' ToEnd =

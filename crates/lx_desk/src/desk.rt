@@ -39,10 +39,10 @@ pub enum Status {
 /// Does the job.
 ///
 /// For the bytes that the input had left, the text that is written is what the definitions give for the job: the line of a
-/// refused show, the line or the cue list of a show, or the replies to a script, in which each command is done or refused
-/// as the desk does it and each frame is evaluated over the whole show as it then is and the whole list of runs since the
-/// opening; by `undo` edits and records are undone and redone besides, and by `two` it is
-/// so of two desks beside each other. `make` reads nothing. Out of memory refuses nothing but edits and records.
+/// refused show, the line or the cue list of a show, or the replies to a script. In these each command is done or refused
+/// as the desk does it, and each frame is evaluated over the whole show as it then is and the whole list of runs since the
+/// opening. By `undo` edits and records are undone and redone besides, and by `two` it is so of two desks beside each other.
+/// `make` reads nothing. Out of memory refuses nothing but edits and records.
 ///
 /// With Ok and ShowRefused no read and no write failed, and all that was written is handed on. Memory is told only before
 /// anything is written, or where the output itself is out of memory.

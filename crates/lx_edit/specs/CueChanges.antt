@@ -64,8 +64,8 @@ column_end to show n c = option_or to (next_decision show n c)
 abbrev pub IsPast : Option ℕ → Show → ℕ → ℕ → ℕ → Type 0
 IsPast to show n c m = IsSomeAnd (column_end to show n c) (λ end. end ≤ m)
 
--- The columns that are left to be mended: the sheet stands for the show in each column below a number, and from where the channel's
--- changed levels end on, and in all of the column of a channel that isn't in the set. What the cues decide is marked.
+-- The columns that are left to be mended. The sheet stands for the show in each column below a number, and from where the channel's
+-- changed levels end on. So it does in all of the column of a channel that isn't in the set. What the cues decide is marked.
 pub record CanMend (show : Show) (sheet : Sheet) (from : ℕ) (to : Option ℕ) (chans : ChanSet) : Type 0 where
   pub channels : sheet.channels ≡ show.channels
   pub numbers : numbers_of sheet ≡ cue_numbers show

@@ -1,4 +1,4 @@
--- The stacks of all channels, laid out plane by plane in one block: fade j of the channel at place k stands at j * channels + k, so that of
+-- The stacks of all channels, laid out plane by plane in one block: fade j of the channel at place k stands at j * channels + k. So of
 -- a block with room for many fades a channel only what is used is written.
 use Rattle.std.specs.Prelude.{ℕ, ◌*◌, ◌<◌, ◌≤◌, ◌≡◌, List, length, map, slice_index}
 use Rattle.std.specs.List.{All, range_with_len}

@@ -37,7 +37,7 @@ pub(crate) struct Ground {
 }
 
 /// The newest runs over which the channel's level has to be followed, for the moments from the one given on, and
-/// what the others leave: they end with a run whose fade is over by then, or before the next one that acts begins. What
+/// what the others leave. They end with a run whose fade is over by then, or before the next one that acts begins. What
 /// each of the newest does is kept: `None` where it doesn't act.
 pub(crate) fn ground_of(
     show: &Show,

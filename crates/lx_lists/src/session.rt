@@ -22,7 +22,7 @@ use lx_lex::{Lines, rest_after, tokens};
 use lx_session::{Answers, SessionFault, Tally, Turn, answer_lines};
 
 /// Answers the script lines that are left, up to `quit` or the end, on two lists. A line whose first token is `2` is
-/// for the second list, its rest is read as a line; any other line is for the first list, but that a tick is of both,
+/// for the second list, and its rest is read as a line. Any other line is for the first list, but that a tick is of both,
 /// and that a frame is what both put out. Each line is done and its replies appended before the next is awaited.
 ///
 /// `ReadFault` comes only where the source failed, `InputTooLong` exactly where a wanted line has a byte past the limit

@@ -21,9 +21,9 @@ use std::simd::prelude::*;
 /// This many dimmers are filled by lanes in the time in which those of one channel are found.
 const LANES_A_CHANGE: usize = 16;
 
-/// The patch by dimmer. It stands for patch rows, as a show has them: for each dimmer it has the row's
-/// channel and proportional level at hand, so that all slots are filled in by one pass over them; and for
-/// each channel the dimmers that follow it, so that those of a few channels are.
+/// The patch by dimmer. It stands for patch rows, as a show has them. For each dimmer it has the row's
+/// channel and proportional level at hand, so that all slots are filled in by one pass over them. For
+/// each channel it has the dimmers that follow it, so that those of a few channels are.
 #[derive(Drop)]
 pub struct PatchTable {
     wiring: Wiring,

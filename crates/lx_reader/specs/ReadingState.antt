@@ -145,7 +145,7 @@ with_rows rows show =
 abbrev pub members_with_entry : Section → ℕ → List Member → Show → Show
 members_with_entry section p members show = show_with (record { section = section; part = p; entry = HasLevels members }) show
 
--- The state of a reading. The show, whose channel count is the greatest channel that is named, or 1; what SET CHANNELS says; how
+-- The state of a reading. The show, whose channel count is the greatest channel that is named, or 1, and what SET CHANNELS says. How
 -- many lines were skipped, and the number of the first of them, or 0; whether an IDENT line was read, and the section and the open part.
 pub record ReadingState : Type 0 where
   pub show : Show

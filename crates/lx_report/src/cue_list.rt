@@ -15,8 +15,8 @@ use lx_io::{Sink, SinkFault};
 use lx_sheet::Sheet;
 use lx_show::{Cue, Show};
 
-/// Appends the cue list of a show: for each cue, in order, a line `cue N KIND P M` with its label, KIND being
-/// `block` or `track`, P the number of its parts and M that of its moves, and then its row line. The sheet
+/// Appends the cue list of a show: for each cue, in order, a line `cue N KIND P M` with its label, and then its row line. KIND
+/// is `block` or `track`, P the number of its parts and M that of its moves. The sheet
 /// stands for the show. A fault is the sink's own, and then a prefix of the list was appended.
 pub fn put_cue_list<K: Sink>(show: &Show, sheet: &Sheet, sink: &mut K) -> Result<(), SinkFault>
     requires { RowsStandFor show.now sheet.now }

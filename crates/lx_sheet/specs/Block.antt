@@ -41,8 +41,8 @@ pub record IsPool (order : List Place) (free : List ℕ) : Type 0 where
 abbrev pub Covers : ℕ → List ℕ → List Place → Type 0
 Covers channels levels order = All (λ r. (r + 1) * width channels ≤ length levels) (own_rows order)
 
--- the cues are sorted by number, and their rows a pool that the block covers; there is room for the greatest number of rows, and for the
--- levels of one cue; and there are marks of each row of the block
+-- The cues are sorted by number, and their rows a pool that the block covers. There is room for the greatest number of rows, and for the
+-- levels of one cue, and there are marks of each row of the block.
 pub record HoldsRows (channels : ℕ) (order : List Place) (room : ℕ) (free : List ℕ) (spare : ℕ) (levels : List ℕ) (block : ℕ)
     (look : List ℕ) (marks : Marks) : Type 0 where
   pub few : channels ≤ CHANNELS

@@ -15,7 +15,7 @@ use lx_base::Level;
 use lx_show::Cue;
 
 /// Fills in the row at each cue's place from the one before, and writes its marks right then, while its moves are at hand in the
-/// processor's cache: in a show of many moves they are nearly all that has to be fetched. The block and the table of marks reach over a
+/// processor's cache. In a show of many moves they are nearly all that has to be fetched. The block and the table of marks reach over a
 /// row only when it is written, so that what they grow by is at hand too.
 pub(crate) fn fill_all(levels: &mut Vec<Level>, look: &mut [Level], marks: &mut Marks, cues: &[Cue])
     requires few { length look.old ≤ CHANNELS }

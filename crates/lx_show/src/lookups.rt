@@ -95,7 +95,7 @@ impl Show {
         last_deciding(around::up_to(self.cues.as_slice(), n.get()), c)
     }
 
-    /// The channel's tracked level at the number, which need not be a cue's: that of the last cue up to it
+    /// The channel's tracked level at the number, which need not be a cue's. It is that of the last cue up to it
     /// that moves the channel or is a block cue, and 0 where that has no move of it or there is none.
     pub fn tracked(&self, n: CueNo, c: Chan) -> Level
         ensures { result ≡ tracked self.now n c }

@@ -15,8 +15,8 @@ abbrev pub untracked : (ℕ → ℕ) → Show → ℕ → List Member
 untracked levels show n =
     map (λ c. record { chan = c; level = levels c }) (filter (λ c. not (levels c == tracked show n c)) (channels_of show))
 
--- the show after a record of the levels at cue n, or its refusal: the cue is made where it is absent, and each of these channels moves in
--- it to its level, in the part of the move that it had, or in part 1
+-- The show after a record of the levels at cue n, or its refusal. The cue is made where it is absent. Each of these channels moves in
+-- it to its level, in the part of the move that it had, or in part 1.
 abbrev pub with_recorded : (ℕ → ℕ) → Show → ℕ → Bool → Result Show Refusal
 with_recorded levels before n only = do
   show ← edited before (MakeCue n)

@@ -25,7 +25,7 @@ pub fn looks()
 {}
 
 /// A text that could be read under limits with one decimal less to a cue number is read as the same show, each cue number
-/// and each link ten times as fine, with the same counts of skipped lines; and its show ends at the same line.
+/// and each link ten times as fine, with the same counts of skipped lines. Its show ends at the same line.
 pub fn old_texts()
     ensures { LawOfOldTexts }
 {}

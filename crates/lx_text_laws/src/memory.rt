@@ -14,8 +14,8 @@ use std::alloc::Global;
 /// How many bytes are read at a time.
 const PIECE: usize = 65_536;
 
-/// Reads a show text. One that can be read is read as what it means, and one that could be read when a cue number had two
-/// decimals as the same show, each cue number and each link ten times as fine, with the same counts of skipped lines. There
+/// Reads a show text. One that can be read is read as what it means. One that could be read when a cue number had two
+/// decimals is read as the same show, each cue number and each link ten times as fine, with the same counts of skipped lines. There
 /// `InputTooLong` comes only where the text is longer than the limit of an input, and else nothing but `Memory`.
 pub fn read_text(alloc: Global, text: Vec<u8>, form: Form) -> Result<Loaded, ShowFault>
     ensures read { IfOk (reads form text.items) (λ reading. ComesAsReading text.items reading result) }

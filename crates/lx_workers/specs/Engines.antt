@@ -41,7 +41,7 @@ pub accepted_both : (gate : Published) (unsent : List Command) (gate' : Publishe
 accepted_both gate unsent gate' unsent' gate'' unsent'' before after one two =
     two ∙ (ap (λ l. l ++ after) one ∙ append_assoc (accepted_of gate unsent) before after)
 
--- A session was played: the console stands for the desk after all commands, those that its lines came to are published or unsent, and it
+-- A session was played. The console stands for the desk after all commands, and those that its lines came to are published or unsent. It
 -- answered as a session in which every command is admitted, unless there were too many to count.
 pub record HasRun {S K : Type 0} (left : S → Option (List ℕ)) (reads : S → ℕ) (holds : K → Option (List ℕ)) (back : K → List ℕ)
     (faults wants : K → ℕ) (show : Show) (gate : Published) (unsent : List Command) (console : Kept) (lines : Lines S) (output : K)
