@@ -38,7 +38,7 @@ pub enum Status {
 
 /// Does the job.
 ///
-/// For the bytes that the input had left, the text that is written is what the definitions give for the job: the line of a
+/// For the bytes that the input had left, the text that is written is what the definitions give for the job. It is the line of a
 /// refused show, the line or the cue list of a show, or the replies to a script. In these each command is done or refused
 /// as the desk does it, and each frame is evaluated over the whole show as it then is and the whole list of runs since the
 /// opening. By `undo` edits and records are undone and redone besides, and by `two` it is so of two desks beside each other.

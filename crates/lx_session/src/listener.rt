@@ -11,8 +11,8 @@ use lx_spec::Command;
 /// What listens to a session. Before each attempt at a command it is asked whether it admits it, and it hears of
 /// each command that was accepted, with the console after it.
 ///
-/// A listener has four meanings for contracts: what it keeps true of itself together with the console (`keeps`), and
-/// which accepted commands it heard of between two of its states (`heard`); whether it admitted every command so far
+/// A listener has four meanings for contracts. What it keeps true of itself together with the console is `keeps`, and
+/// which accepted commands it heard of between two of its states `heard`. Two more are whether it admitted every command so far
 /// (`admitted_all`), and what it has ready for a command that it admitted (`ready`).
 pub trait Listener {
     /// What it keeps true of itself together with the console.
