@@ -21,7 +21,7 @@ import ctypes
 import os
 from decimal import Decimal
 from types import TracebackType
-from typing import Dict, List, NamedTuple, Optional, Type, Union
+from typing import Any, Callable, Dict, List, NamedTuple, Optional, Type, Union
 
 __all__ = ["BadLine", "Cue", "Desk", "Refused", "ShowRefused", "State", "SLOTS", "TICK", "UNIVERSES", "__version__"]
 __version__ = "1.0.0"
@@ -280,31 +280,19 @@ class Desk:
 
     def changed(self, universe: int = 1) -> bool:
         """Whether the slots of a universe are others than `frame` answered last, or were never taken."""
-        status = _LIBRARY.cuedesk_changed(self._at, _number(universe), ctypes.byref(self._flag))
-        if status:
-            raise self._fault(status, f"universe {universe}")
-        return self._flag.value
+        return self._told(_LIBRARY.cuedesk_changed, self._flag, "universe", universe, _number(universe))
 
     def level(self, channel: int) -> int:
         """The level of a channel on stage, 0 to 255: that of the playback, before submasters and master."""
-        status = _LIBRARY.cuedesk_level(self._at, _number(channel), ctypes.byref(self._byte))
-        if status:
-            raise self._fault(status, f"channel {channel}")
-        return self._byte.value
+        return self._told(_LIBRARY.cuedesk_level, self._byte, "channel", channel, _number(channel))
 
     def tracked(self, cue: CueNumber, channel: int) -> int:
         """The tracked level of a channel at a cue number, which need not be a cue's."""
-        status = _LIBRARY.cuedesk_tracked(self._at, _thousandths(cue), _number(channel), ctypes.byref(self._byte))
-        if status:
-            raise self._fault(status, f"channel {channel}")
-        return self._byte.value
+        return self._told(_LIBRARY.cuedesk_tracked, self._byte, "channel", channel, _thousandths(cue), _number(channel))
 
     def fader(self, sub: int) -> int:
         """The fader of a submaster, 1 to 96; the show need not have it."""
-        status = _LIBRARY.cuedesk_fader(self._at, _number(sub), ctypes.byref(self._byte))
-        if status:
-            raise self._fault(status, f"submaster {sub}")
-        return self._byte.value
+        return self._told(_LIBRARY.cuedesk_fader, self._byte, "submaster", sub, _number(sub))
 
     def state(self) -> State:
         """Where the playback stands."""
@@ -333,6 +321,13 @@ class Desk:
             elif word == b"TEXT" and in_cue:
                 found[-1] = found[-1]._replace(label=_text_of(rest))
         return found
+
+    def _told(self, call: Callable[..., int], room: Any, kind: str, number: int, *words: int) -> Any:
+        """What a call of the library puts into the room that it is given; where it answers a fault, that of the thing of the number."""
+        status = call(self._at, *words, ctypes.byref(room))
+        if status:
+            raise self._fault(status, f"{kind} {number}")
+        return room.value
 
     def _reply_to(self, line: bytes) -> bytes:
         """The bytes of the reply to a line."""
