@@ -33,8 +33,8 @@ use Rattle.lx_desk.specs.declared.desk.Status.TheVariants as status
 use Rattle.lx_desk.specs.Output.{WritesPrefix, RepliesToTaken}
 use Rattle.lx_desk.specs.ShowRefusal.{RefusedBy}
 use Rattle.lx_desk.specs.Endings.{EndsJob, HasEnded}
-use Rattle.lx_desk.specs.Live.{live_session, live_after, HaveVersions, PlaysScript, AreServed, PlaysInFront, PlaysTaken, HasPlayedLive, PlaysWhole, LivesInFront}
-use Rattle.lx_desk.specs.Live.{LivesTaken}
+use Rattle.lx_desk.specs.Live.{live_session, live_after, LiveAllows, HaveVersions, PlaysScript, AreServed, PlaysInFront, PlaysTaken, HasPlayedLive}
+use Rattle.lx_desk.specs.Live.{PlaysWhole, LivesInFront, LivesTaken}
 use Rattle.lx_desk.specs.Live.{HasLived, PlaysToEnd, LivesToEnd, LacksMemory, HasFailedOutlet, DecidesInOrder}
 use Rattle.lx_desk.specs.Finished.{HasWanted}
 use Rattle.lx_desk.proofs.Inputs.{Says, means_of, session_long, session_fits, refusal_isnt_ok, front_nothing, if_known, both_known, over_loaded}
@@ -56,6 +56,8 @@ module _ (form : Form) (universes : ℕ) where
     reading = reading;
     read = read;
     failures = a.failures;
+    allows = subst (λ (ls : List (List ℕ)). LiveAllows reading.show ls a.failures (live_session reading.show ls a.failures).state.accepted)
+        (sym script) a.allows;
     text = subst (λ (ls : List (List ℕ)). Appends h h' (live_session reading.show ls a.failures).text) (sym script) a.text;
     versions = subst (λ (ls : List (List ℕ)). HaveVersions holds reading.show universes outlets outlets'
         (live_session reading.show ls a.failures).state.accepted) (sym script) a.versions;
@@ -115,6 +117,10 @@ module _ (form : Form) (universes : ℕ) where
             let s = ap lines_wanted script in
             let m = a.short in
             omega (arith, s, m, shown);
+        allows = subst (λ (k : ℕ). LiveAllows reading.show (script_of x) a.failures
+            (live_after reading.show (script_of x) a.failures k).state.accepted) done
+            (subst (λ (ls : List (List ℕ)). LiveAllows reading.show ls a.failures
+            (live_after reading.show ls a.failures n).state.accepted) (sym script) a.allows);
         text = subst (λ (k : ℕ). Appends h h' (live_after reading.show (script_of x) a.failures k).text) done
             (subst (λ (ls : List (List ℕ)). Appends h h' (live_after reading.show ls a.failures n).text) (sym script) a.text);
         served = subst (λ (k : ℕ). AreServed holds back failures wants reading.show universes outlets outlets'

@@ -13,7 +13,7 @@ use Rattle.lx_spec.specs.Text.{lines_of}
 use Rattle.lx_spec.specs.Show.{Show}
 use Rattle.lx_spec.specs.Desk.{opened}
 use Rattle.lx_spec.specs.Kept.{Kept}
-use Rattle.lx_spec.specs.Session.{begin_at, after_each, answered_lines, bytes_wanted}
+use Rattle.lx_spec.specs.Session.{Answering, Session, begin_at, after_each, answered_lines, Allows, bytes_wanted}
 use Rattle.lx_spec.specs.DeskSession.{DeskState, begun, desk_answering}
 use Rattle.lx_console.specs.ConsoleMeaning.{StandsFor}
 use Rattle.lx_session.specs.declared.fault.SessionFault.{SessionFault}
@@ -22,18 +22,21 @@ use Rattle.lx_session.specs.declared.tally.Tally.{Tally}
 use Rattle.lx_session.specs.Listening.{HasDone}
 use Rattle.lx_session.specs.ScriptAnswer.{AnsweredWhole, AnsweredPrefix, AnsweredTaken, ScriptAnswered}
 use Rattle.lx_session.specs.SessionOutcome.{KeepsLimit, HasSessionCause}
+use Rattle.lx_workers.specs.Engines.{leaves_room}
 use Rattle.lx_workers.specs.Places.{IsFull}
 use Rattle.lx_workers.specs.LiveOutcome.{AreDelivered}
 use Rattle.lx_desk.specs.declared.desk.Status.{Status}
 use Rattle.lx_desk.specs.declared.desk.Status.TheVariants as status
 use Rattle.lx_desk.specs.Faults.{status_for}
 use Rattle.lx_desk.specs.Endings.{HasCauseOf}
-use Rattle.lx_desk.specs.Live.{live_session, HaveVersions, PlaysScript, HaveGot, AreServed, PlaysInFront, PlaysTaken, HasPlayedLive, ArePlayed}
+use Rattle.lx_desk.specs.Live.{live_session, LiveAllows, HaveVersions, PlaysScript, HaveGot, AreServed, PlaysInFront, PlaysTaken, HasPlayedLive, ArePlayed}
 use Rattle.lx_desk.specs.Live.{OutletFailed, PlaysToEnd, LacksMemory, HasFailedOutlet, DecidesInOrder}
 use Rattle.lx_desk.specs.Finished.{Finishes}
 use Rattle.lx_desk.proofs.Finishing.{all_done, session_finishes}
 use Rattle.lx_desk.specs.Live.{HasLiveCause, TellsOutlets, TellsRun}
+use Rattle.std.specs.Io.KnownBytes.{Appends}
 use Rattle.lx_io.specs.Puts.{AppendsFront}
+use Rattle.lx_desk.proofs.AnyFailures.{alike}
 use Rattle.lx_desk.proofs.Inputs.{whole_front, both_known}
 
 -- what stands at a place of a front of a list, and in a list with more behind it
@@ -103,6 +106,41 @@ have_got {K = K} holds back failures wants show universes outlets used used' res
 abbrev Done : Show → (published unsent : List Command) → Kept → DeskState → Type 0
 Done show published unsent console = HasDone (λ commands. commands ≡ published ++ unsent) (opened show) console
 
+-- how an engine answers after which these commands are published, and then unsent
+abbrev engine_answering : (published unsent : List Command) → Answering (List ℕ)
+engine_answering published unsent = desk_answering (leaves_room (published ++ unsent))
+
+abbrev HasAnswered : Show → (published unsent : List Command) → Kept → ℕ → List ℕ → (unread left held held' : Option (List ℕ))
+    → Result Tally SessionFault → Type 0
+HasAnswered show published unsent console =
+    ScriptAnswered (engine_answering published unsent) (Done show published unsent console) (begun (opened show))
+
+-- these lines, answered by an engine, and so as the records of a live run tell it
+abbrev engine_over : (published unsent : List Command) → Show → List (Option ℕ) → List (List ℕ) → Session DeskState
+engine_over published unsent show failures lines = after_each (engine_answering published unsent) failures (begin_at (begun (opened show))) lines
+
+abbrev live_over : Show → List (Option ℕ) → List (List ℕ) → Session DeskState
+live_over show failures lines = after_each (desk_answering false) failures (begin_at (begun (opened show))) lines
+
+-- The two are the same, and so are their commands and where attempts failed.
+record IsLive (show : Show) (published unsent : List Command) (script lines : List (List ℕ)) (failures : List (Option ℕ)) : Type 0 where
+  same : engine_over published unsent show failures lines ≡ live_over show failures lines
+  accepted : (live_over show failures lines).state.accepted ≡ published ++ unsent
+  allows : LiveAllows show script failures (live_over show failures lines).state.accepted
+
+is_live : (show : Show) (published unsent : List Command) (console : Kept) (script lines : List (List ℕ)) (failures : List (Option ℕ))
+    → Allows (engine_answering published unsent) (begun (opened show)) script failures
+    → Done show published unsent console (engine_over published unsent show failures lines).state
+    → IsLive show published unsent script lines failures
+is_live show published unsent console script lines failures allows done =
+    let same = alike (leaves_room (published ++ unsent)) failures (begin_at (begun (opened show))) lines in
+    let accepted = ap (λ (s : Session DeskState). s.state.accepted) (sym same) ∙ done.listened in
+    record {
+      same = same;
+      accepted = accepted;
+      allows = subst (λ (l : List Command). LiveAllows show script failures l) (sym accepted) allows;
+    }
+
 -- What was played, as it is told: over a show, for this many universes.
 module _ {K : Type 0} (holds : K → Option (List ℕ)) (back : K → List ℕ) (failures wants : K → ℕ) (show : Show) (universes : ℕ)
     (outlets outlets' : List (Option K)) (published unsent : List Command)
@@ -112,37 +150,54 @@ module _ {K : Type 0} (holds : K → Option (List ℕ)) (back : K → List ℕ) 
   served commands is = record { published = published; held_back = unsent; commands_are = is; got = got }
 
   in_front : (bytes : List ℕ) (unread held held' : Option (List ℕ)) (console : Kept)
-      → AnsweredPrefix (desk_answering false) (Done show published unsent console) (begun (opened show)) bytes unread held held'
+      → AnsweredPrefix (engine_answering published unsent) (Done show published unsent console) (begun (opened show)) bytes unread held held'
       → PlaysInFront holds back failures wants show universes (lines_of bytes) held held' outlets outlets'
   in_front bytes unread held held' console a =
-      record { failures = a.failures; lines = a.lines; text = a.text; served = served _ a.stands.listened }
+      let live = is_live show published unsent console (lines_of bytes) (take a.lines (answered_lines (lines_of bytes))) a.failures a.allows
+      a.stands in
+      record {
+        failures = a.failures;
+        lines = a.lines;
+        allows = live.allows;
+        text = subst (λ (s : Session DeskState). AppendsFront held held' s.text) live.same a.text;
+        served = served _ live.accepted;
+      }
 
   whole_in_front : (script : List (List ℕ)) (held held' : Option (List ℕ)) (console : Kept) (tally : Tally)
-      → AnsweredWhole (desk_answering false) (Done show published unsent console) (begun (opened show)) script held held' tally
+      → AnsweredWhole (engine_answering published unsent) (Done show published unsent console) (begun (opened show)) script held held' tally
       → PlaysInFront holds back failures wants show universes script held held' outlets outlets'
   whole_in_front script held held' console tally a =
       let lines = answered_lines script in
+      let live = is_live show published unsent console script lines a.failures a.allows a.stands in
       let all : lines ≡ take (length lines) lines = sym (take_all (length lines) lines (omega arith)) in
-      let from = begin_at (begun (opened show)) in
       record {
         failures = a.failures;
         lines = length lines;
-        text = subst (λ (ls : List (List ℕ)). AppendsFront held held' (after_each (desk_answering false) a.failures from ls).text) all
-            (whole_front held held' (live_session show script a.failures).text a.text);
-        served = served _ (subst (λ (ls : List (List ℕ)).
-            (after_each (desk_answering false) a.failures from ls).state.accepted ≡ published ++ unsent) all a.stands.listened);
+        allows = subst (λ (ls : List (List ℕ)). LiveAllows show script a.failures (live_over show a.failures ls).state.accepted) all live.allows;
+        text = subst (λ (ls : List (List ℕ)). AppendsFront held held' (live_over show a.failures ls).text) all
+            (whole_front held held' (live_session show script a.failures).text
+            (subst (λ (s : Session DeskState). Appends held held' s.text) live.same a.text));
+        served = served _ (subst (λ (ls : List (List ℕ)). (live_over show a.failures ls).state.accepted ≡ published ++ unsent) all live.accepted);
       }
 
   taken_of : (before : ℕ) (bytes : List ℕ) (left held held' : Option (List ℕ)) (console : Kept)
-      → AnsweredTaken (desk_answering false) (Done show published unsent console) (begun (opened show)) before bytes left held held'
+      → AnsweredTaken (engine_answering published unsent) (Done show published unsent console) (begun (opened show)) before bytes left held held'
       → PlaysTaken holds back failures wants show universes before bytes left held held' outlets outlets'
   taken_of before bytes left held held' console a =
-      record { failures = a.failures; cut = a.cut; short = a.short; text = a.text; served = served _ a.stands.listened }
+      let live = is_live show published unsent console (lines_of bytes) (take a.cut.lines (answered_lines (lines_of bytes))) a.failures
+      a.allows a.stands in
+      record {
+        failures = a.failures;
+        cut = a.cut;
+        short = a.short;
+        allows = live.allows;
+        text = subst (λ (s : Session DeskState). Appends held held' s.text) live.same a.text;
+        served = served _ live.accepted;
+      }
 
   -- how a session that was played ended by a fault, by its status
   live_fault : (before : ℕ) (bytes : List ℕ) (unread left held held' : Option (List ℕ)) (console : Kept) (fault : SessionFault)
-      → ScriptAnswered (desk_answering false) (Done show published unsent console) (begun (opened show)) before bytes unread left held held'
-      (Err fault)
+      → HasAnswered show published unsent console before bytes unread left held held' (Err fault)
       → KeepsLimit before bytes (Err fault)
       → HasPlayedLive (status_for {A = Tally} (Err fault)) holds back failures wants show universes before bytes left held held' outlets outlets'
   live_fault before bytes unread left held held' console faults.ReadFault a limit = taken_of before bytes left held held' console a
@@ -160,16 +215,18 @@ plays : {K : Type 0} (holds : K → Option (List ℕ)) (back : K → List ℕ) (
     (held held' : Option (List ℕ)) (outlets used used' rest : List (Option K)) (results : List (Option SinkFault))
     (published unsent : List Command) (n : ℕ) (console : Kept) (tally : Tally) → used ≡ take universes outlets → length used ≡ universes
     → n ≡ length unsent → AreDelivered holds back failures wants show used used' results published
-    → AnsweredWhole (desk_answering false) (HasDone (λ commands. commands ≡ published ++ unsent) (opened show) console)
-    (begun (opened show)) script held held' tally
+    → AnsweredWhole (engine_answering published unsent) (Done show published unsent console) (begun (opened show)) script held held' tally
     → (n ≡ 0) × ((place : ℕ) (fault : Option SinkFault) → slice_get results place ≡ Some fault → fault ≡ None)
     → PlaysScript holds show universes script held held' outlets (used' ++ rest)
 plays holds back failures wants show universes script held held' outlets used used' rest results published unsent n console tally is count
-    counted d a ok = record {
+    counted d a ok =
+    let live = is_live show published unsent console script (answered_lines script) a.failures a.allows a.stands in
+    record {
       failures = a.failures;
-      text = a.text;
+      allows = live.allows;
+      text = subst (λ (s : Session DeskState). Appends held held' s.text) live.same a.text;
       versions = subst (λ (l : List Command). HaveVersions holds show universes outlets (used' ++ rest) l)
-          (sym (a.stands.listened ∙ none_held published unsent n counted ok.0))
+          (sym (live.accepted ∙ none_held published unsent n counted ok.0))
           (versions_of holds back failures wants show universes outlets used used' rest results published is count ok.1 d);
     }
 
@@ -194,7 +251,7 @@ module _ {K : Type 0} (holds : K → Option (List ℕ)) (back : K → List ℕ) 
   got = have_got holds back failures wants show universes outlets used used' rest results published is count behind d
 
   whole : (bytes : List ℕ) (held held' : Option (List ℕ)) (console : Kept) (tally : Tally)
-      → AnsweredWhole (desk_answering false) (Done show published unsent console) (begun (opened show)) (lines_of bytes) held held' tally
+      → AnsweredWhole (engine_answering published unsent) (Done show published unsent console) (begun (opened show)) (lines_of bytes) held held' tally
       → PlaysInFront holds back failures wants show universes (lines_of bytes) held held' outlets (used' ++ rest)
   whole bytes held held' console tally a =
       whole_in_front holds back failures wants show universes outlets (used' ++ rest) published unsent got (lines_of bytes) held held' console
@@ -202,7 +259,7 @@ module _ {K : Type 0} (holds : K → Option (List ℕ)) (back : K → List ℕ) 
 
   live_at : (bytes : List ℕ) (unread left held held' : Option (List ℕ)) (console : Kept) (session : Result Tally SessionFault) (s : Status)
       → TellsRun session results n s
-      → ScriptAnswered (desk_answering false) (Done show published unsent console) (begun (opened show)) before bytes unread left held held' session
+      → HasAnswered show published unsent console before bytes unread left held held' session
       → KeepsLimit before bytes session
       → HasPlayedLive s holds back failures wants show universes before bytes left held held' outlets (used' ++ rest)
   live_at bytes unread left held held' console (Ok tally) status.Ok tells a limit = (
@@ -226,8 +283,7 @@ module _ {K : Type 0} (holds : K → Option (List ℕ)) (back : K → List ℕ) 
   -- the same, where the source may tell no bytes
   pub has_played_live : (o unread left held held' : Option (List ℕ)) (console : Kept) (session : Result Tally SessionFault) (s : Status)
       → TellsRun session results n s
-      → IfSome o (λ bytes. ScriptAnswered (desk_answering false) (Done show published unsent console) (begun (opened show)) before bytes unread left held
-      held' session)
+      → IfSome o (λ bytes. HasAnswered show published unsent console before bytes unread left held held' session)
       → IfSome o (λ bytes. KeepsLimit before bytes session)
       → IfSome o (λ bytes. HasPlayedLive s holds back failures wants show universes before bytes left held held' outlets (used' ++ rest))
   has_played_live o unread left held held' console session s tells a limit =
@@ -235,20 +291,23 @@ module _ {K : Type 0} (holds : K → Option (List ℕ)) (back : K → List ℕ) 
 
   -- and in which order its faults are told
   to_end : (Told : List (Option SinkFault) → ℕ → Type 0) (bytes : List ℕ) (held held' : Option (List ℕ)) (console : Kept) (tally : Tally)
-      → AnsweredWhole (desk_answering false) (Done show published unsent console) (begun (opened show)) (lines_of bytes) held held' tally
+      → AnsweredWhole (engine_answering published unsent) (Done show published unsent console) (begun (opened show)) (lines_of bytes) held held' tally
       → Told results (length unsent)
       → PlaysToEnd Told holds back failures wants show universes (lines_of bytes) held held' outlets (used' ++ rest)
-  to_end Told bytes held held' console tally a told = record {
-    failures = a.failures;
-    text = a.text;
-    served = record { published = published; held_back = unsent; commands_are = a.stands.listened; got = got };
-    told = told;
-  }
+  to_end Told bytes held held' console tally a told =
+      let live = is_live show published unsent console (lines_of bytes) (answered_lines (lines_of bytes)) a.failures a.allows a.stands in
+      record {
+        failures = a.failures;
+        allows = live.allows;
+        text = subst (λ (s : Session DeskState). Appends held held' s.text) live.same a.text;
+        served = record { published = published; held_back = unsent; commands_are = live.accepted; got = got };
+        told = told;
+      }
 
   order_at : {S O : Type 0} (reads : S → ℕ) (writes output_wants : O → ℕ) (old new : Lines S) (output output' : O) (bytes : List ℕ)
       (unread left held held' : Option (List ℕ)) (console : Kept) (session : Result Tally SessionFault) (s : Status)
       → TellsRun session results n s
-      → ScriptAnswered (desk_answering false) (Done show published unsent console) (begun (opened show)) before bytes unread left held held' session
+      → HasAnswered show published unsent console before bytes unread left held held' session
       → KeepsLimit before bytes session → HasSessionCause reads writes output_wants old new output output' session
       → DecidesInOrder s (reads old.source.now) (reads new.source.now) writes output_wants output output' outlets (used' ++ rest)
       (λ Told. PlaysToEnd Told holds back failures wants show universes (lines_of bytes) held held' outlets (used' ++ rest)
@@ -283,8 +342,7 @@ module _ {K : Type 0} (holds : K → Option (List ℕ)) (back : K → List ℕ) 
   pub in_order : {S O : Type 0} (reads : S → ℕ) (writes output_wants : O → ℕ) (old new : Lines S) (output output' : O)
       (o unread left held held' : Option (List ℕ)) (console : Kept) (session : Result Tally SessionFault) (s : Status)
       → TellsRun session results n s
-      → IfSome o (λ bytes. ScriptAnswered (desk_answering false) (Done show published unsent console) (begun (opened show)) before bytes unread left held
-      held' session)
+      → IfSome o (λ bytes. HasAnswered show published unsent console before bytes unread left held held' session)
       → IfSome o (λ bytes. KeepsLimit before bytes session) → HasSessionCause reads writes output_wants old new output output' session
       → IfSome o (λ bytes. DecidesInOrder s (reads old.source.now) (reads new.source.now) writes output_wants output output' outlets
       (used' ++ rest)

@@ -16,11 +16,12 @@ use Rattle.lx_spec.specs.Text.{lines_of}
 use Rattle.lx_spec.specs.Show.{Show}
 use Rattle.lx_spec.specs.Desk.{opened}
 use Rattle.lx_spec.specs.CutInput.{CutOff}
-use Rattle.lx_spec.specs.Session.{Session, whole_session, session_after, lines_wanted, bytes_wanted}
+use Rattle.lx_spec.specs.Session.{Session, whole_session, session_after, Allows, lines_wanted, bytes_wanted}
 use Rattle.lx_spec.specs.DeskSession.{DeskState, begun, desk_answering}
 use Rattle.lx_spec.specs.Reading.{Reading, reads, script_of, lines_read}
 use Rattle.lx_spec.specs.ScriptOutput.{input_wanted}
 use Rattle.lx_workers.specs.Works.{HasAll}
+use Rattle.lx_workers.specs.Engines.{leaves_room}
 use Rattle.lx_workers.specs.LiveOutcome.{AreDelivered}
 use Rattle.lx_session.specs.Known.{Known}
 use Rattle.lx_session.specs.declared.fault.SessionFault.{SessionFault}
@@ -30,12 +31,16 @@ use Rattle.lx_desk.specs.declared.desk.Status.TheVariants as status
 use Rattle.lx_desk.specs.Faults.{status_for}
 use Rattle.lx_desk.specs.Endings.{HasEnded}
 
--- the session of a script that is played live over a show, and of its first n lines
+-- The session of a script that is played live over a show, and of its first n lines. Where attempts may fail doesn't matter to it.
 abbrev pub live_session : Show → List (List ℕ) → List (Option ℕ) → Session DeskState
 live_session show script failures = whole_session (desk_answering false) (begun (opened show)) script failures
 
 abbrev pub live_after : Show → List (List ℕ) → List (Option ℕ) → ℕ → Session DeskState
 live_after show script failures lines = session_after (desk_answering false) (begun (opened show)) script failures lines
+
+-- Attempts failed only at edits that the desk accepts, as long as fewer than 2^62 commands were accepted.
+abbrev pub LiveAllows : Show → List (List ℕ) → List (Option ℕ) → (accepted : List Command) → Type 0
+LiveAllows show script failures accepted = Allows (desk_answering (leaves_room accepted)) (begun (opened show)) script failures
 
 -- an outlet has the lines of versions of rising lists of commands, the last of which begins with these
 pub record HasVersions {K : Type 0} (holds : K → Known) (show : Show) (outlets' : List (Option K)) (place : ℕ) (start : K)
@@ -53,6 +58,7 @@ HaveVersions {K} holds show universes outlets outlets' list =
 pub record PlaysScript {K : Type 0} (outlet_holds : K → Known) (show : Show) (universes : ℕ) (script : List (List ℕ))
     (held held' : Known) (outlets outlets' : List (Option K)) : Type 0 where
   pub failures : List (Option ℕ)
+  pub allows : LiveAllows show script failures (live_session show script failures).state.accepted
   pub text : Appends held held' (live_session show script failures).text
   pub versions : HaveVersions outlet_holds show universes outlets outlets' (live_session show script failures).state.accepted
 
@@ -72,12 +78,13 @@ pub record AreServed {K : Type 0} (holds : K → Known) (back : K → List ℕ) 
   pub commands_are : commands ≡ published ++ held_back
   pub got : HaveGot holds back faults wants show universes outlets outlets' published
 
--- Up to this many lines of a script were answered, by a prefix of the replies, where any attempt may fail, and
--- the outlets got what was published of the commands that these lines came to.
+-- Up to this many lines of a script were answered, by a prefix of the replies, and the outlets got what was published of the commands that
+-- these lines came to.
 pub record PlaysInFront {K : Type 0} (outlet_holds : K → Known) (back : K → List ℕ) (faults wants : K → ℕ) (show : Show) (universes : ℕ)
     (script : List (List ℕ)) (held held' : Known) (outlets outlets' : List (Option K)) : Type 0 where
   pub failures : List (Option ℕ)
   pub lines : ℕ
+  pub allows : LiveAllows show script failures (live_after show script failures lines).state.accepted
   pub text : AppendsFront held held' (live_after show script failures lines).text
   pub served : AreServed outlet_holds back faults wants show universes outlets outlets' (live_after show script failures lines).state.accepted
 
@@ -87,6 +94,7 @@ pub record PlaysTaken {K : Type 0} (outlet_holds : K → Known) (back : K → Li
   pub failures : List (Option ℕ)
   pub cut : CutOff before bytes left
   pub short : cut.lines < lines_wanted (lines_of bytes)
+  pub allows : LiveAllows show (lines_of bytes) failures (live_after show (lines_of bytes) failures cut.lines).state.accepted
   pub text : Appends held held' (live_after show (lines_of bytes) failures cut.lines).text
   pub served : AreServed outlet_holds back faults wants show universes outlets outlets'
       (live_after show (lines_of bytes) failures cut.lines).state.accepted
@@ -116,6 +124,7 @@ pub record PlaysWhole {K : Type 0} (outlet_holds : K → Known) (universes : ℕ
   pub reading : Reading
   pub read : reads form bytes ≡ Ok reading
   pub failures : List (Option ℕ)
+  pub allows : LiveAllows reading.show (script_of bytes) failures (live_session reading.show (script_of bytes) failures).state.accepted
   pub text : Appends held held' (live_session reading.show (script_of bytes) failures).text
   pub versions : HaveVersions outlet_holds reading.show universes outlets outlets' (live_session reading.show (script_of bytes) failures).state.accepted
   pub within : length (input_wanted form bytes) ≤ INPUT_BYTES
@@ -137,6 +146,8 @@ pub record LivesTaken {K : Type 0} (holds : K → Known) (back : K → List ℕ)
   pub failures : List (Option ℕ)
   pub cut : CutOff 0 bytes left
   pub short : cut.lines < lines_read (lines_of bytes) + lines_wanted (script_of bytes)
+  pub allows : LiveAllows reading.show (script_of bytes) failures
+      (live_after reading.show (script_of bytes) failures (cut.lines - lines_read (lines_of bytes))).state.accepted
   pub text : Appends held held'
       (live_after reading.show (script_of bytes) failures (cut.lines - lines_read (lines_of bytes))).text
   pub served : AreServed holds back faults wants reading.show universes outlets outlets'
@@ -231,6 +242,7 @@ pub record PlaysToEnd {K : Type 0} (Told : List (Option SinkFault) → ℕ → T
     (faults wants : K → ℕ) (show : Show) (universes : ℕ) (script : List (List ℕ)) (held held' : Known) (outlets outlets' : List (Option K))
     : Type 0 where
   pub failures : List (Option ℕ)
+  pub allows : LiveAllows show script failures (live_session show script failures).state.accepted
   pub text : Appends held held' (live_session show script failures).text
   pub served : AreServed holds back faults wants show universes outlets outlets' (live_session show script failures).state.accepted
   pub told : Told served.got.results (length served.held_back)

@@ -7,7 +7,6 @@ use Rattle.lx_base.specs.declared.TheConstants.{INPUT_BYTES}
 use Rattle.lx_spec.specs.Text.{lines_of}
 use Rattle.lx_spec.specs.Session.{bytes_wanted}
 use Rattle.lx_desk.specs.Live.{HasPlayedLive, DecidesInOrder, PlaysToEnd}
-use Rattle.lx_desk.proofs.AnyFailures.{any_fails}
 use Rattle.lx_desk.proofs.LiveRuns.{full_take, are_played, has_played_live, live_cause, none_played, not_usage, in_order, run_finishes}
 use Rattle.lx_desk.proofs.live.play_live.Goals as goal
 
@@ -33,7 +32,7 @@ returns-in-Ok-play-clause-ended g c =
     (g.S.Source.left c.play.new.lines.source.now) (g.O.Sink.holds c.args.output.now) (g.O.Sink.holds c.play.new.output) c.args.outlets.now
     (c.play.new.outlets ++ c.split_at_mut-used.result.1.now))) same
     (has_played_live _ _ _ _ _ _ _ _ _ _ _ _ _ _ _ s.front s.front_len s.back p.unsent_is p.outlets_are _ _ _ _ _ _ _ _
-    c.status_of_run.ensures (any_fails _ _ _ _ _ _ _ _ _ _ p.session_is) c.in-Ok-play.ensures.limit)
+    c.status_of_run.ensures p.session_is c.in-Ok-play.ensures.limit)
 
 pub returns-in-Ok-play-clause-cause : goal.returns-in-Ok-play-clause-cause
 returns-in-Ok-play-clause-cause g c =
@@ -66,7 +65,7 @@ returns-in-Ok-play-clause-order g c =
     × (c.args.lines.now.taken + length (bytes_wanted bytes) ≤ INPUT_BYTES)))) same
     (in_order _ _ _ _ _ _ _ _ _ _ _ _ _ _ _ s.front s.front_len s.back p.unsent_is p.outlets_are g.S.Source.faults g.O.Sink.faults
     g.O.Sink.wants c.args.lines.now c.play.new.lines c.args.output.now c.play.new.output _ _ _ _ _ _ _ _
-    c.status_of_run.ensures (any_fails _ _ _ _ _ _ _ _ _ _ p.session_is) c.in-Ok-play.ensures.limit c.in-Ok-play.ensures.cause)
+    c.status_of_run.ensures p.session_is c.in-Ok-play.ensures.limit c.in-Ok-play.ensures.cause)
 
 pub returns-in-Ok-play-clause-finished : goal.returns-in-Ok-play-clause-finished
 returns-in-Ok-play-clause-finished g c =
