@@ -33,7 +33,7 @@ pub(crate) fn first_number(line: &[u8]) -> Option<(u32, &[u8])>
 fn number_behind(line: &[u8]) -> Option<(u32, &[u8])>
     ensures { IfSome result (λ p. FirstIsNumber (tokens line.now) p.0 (tokens p.1.now)) }
 {
-    let (number, rest) = first_digits(past_separators(line))?;
+    let (number, rest) = front_digits(past_separators(line))?;
     let others = past_end(rest)?;
     Some((number, others))
 }

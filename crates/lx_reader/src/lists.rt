@@ -280,7 +280,7 @@ fn plain_row(tokens: &mut Tokens) -> Option<PatchRow>
     let mut rest = *tokens;
     let chan = Chan::new(rest.take_number()?)?;
     let dimmer = Dimmer::new(rest.take_number()?)?;
-    let level = row_level(&mut rest)?;
+    let level = next_level(&mut rest)?;
     *tokens = rest;
     Some(PatchRow {
         dimmer,
