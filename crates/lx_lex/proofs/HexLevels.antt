@@ -1,5 +1,5 @@
--- Levels of two hexadecimal digits, as they are read where they stand.
-use Rattle.std.proofs.Common.{◌≡◌, ℕ, ◌+◌, ◌-◌, ◌*◌, ◌≤◌, Some, true, List, [], ◌∷◌, length, take, drop, get_or, refl, sym, ap, ◌∙◌, subst, inl, inr, arith}
+-- Levels that are letters, as they are read where they stand: two hexadecimal digits behind H, and FL.
+use Rattle.std.proofs.Common.{◌≡◌, ℕ, ◌+◌, ◌-◌, ◌*◌, ◌≤◌, Some, true, false, List, [], ◌∷◌, length, take, drop, get_or, refl, sym, ap, ◌∙◌, subst, inl, inr, arith}
 use Rattle.std.specs.Prelude.{◌&&◌, nat_le}
 use Rattle.std.proofs.lemmas.Bool.{cases_Bool}
 use Rattle.std.proofs.lemmas.Bool.Decides.{nat_tests}
@@ -22,6 +22,14 @@ hex_goes b v e = elim (cases_Bool (is_digit b)) [
   ]
 ]
 
+-- a token that stands at the front of a line
+front_token : (b : ℕ) (tail rest others : List ℕ) → b ∷ tail ≡ after_all is_separator (b ∷ tail) → begins_comment b ≡ false
+    → rest ≡ after_all (goes is_separator begins_comment) tail → EndsToken rest others
+    → tokens (b ∷ tail) ≡ take (length (b ∷ tail) - length rest) (b ∷ tail) ∷ tokens others
+front_token b tail rest others stands mark read ends =
+    (next-token is_separator begins_comment apart (b ∷ tail) (b ∷ tail) stands b tail rest refl mark read).0
+    ∙ ap (λ t. take (length (b ∷ tail) - length rest) (b ∷ tail) ∷ t) ends.same
+
 hex_here : (a b high low : ℕ) (rest others : List ℕ) → hex_value a ≡ Some high → hex_value b ≡ Some low → EndsToken rest others
     → FirstIsLevel (tokens (72 ∷ a ∷ b ∷ rest)) (16 * high + low) (tokens others)
 hex_here a b high low rest others first second ends =
@@ -34,8 +42,7 @@ hex_here a b high low rest others first second ends =
     record {
       token = 72 ∷ a ∷ b ∷ [];
       is_level = (λ i. hex_pair (first i) (second i));
-      first = (next-token is_separator begins_comment apart line line refl 72 (a ∷ b ∷ rest) rest refl refl read).0
-          ∙ ap (λ t. t ∷ tokens rest) front ∙ ap (λ t. (72 ∷ a ∷ b ∷ []) ∷ t) ends.same;
+      first = front_token 72 (a ∷ b ∷ rest) rest others refl refl read ends ∙ ap (λ t. t ∷ tokens others) front;
     }
 
 -- the same of a line by its places
@@ -50,3 +57,27 @@ hex_first (h ∷ a ∷ b ∷ rest) high low others long letter first second ends
     let so : FirstIsLevel (tokens (72 ∷ a ∷ b ∷ rest)) (16 * high + low) (tokens others) =
     hex_here a b high low rest others first second (subst (λ zs. EndsToken zs others) all ends) in
     subst (λ k. FirstIsLevel (tokens (k ∷ a ∷ b ∷ rest)) (16 * high + low) (tokens others)) (sym letter) so
+
+full_here : (rest others : List ℕ) → EndsToken rest others → FirstIsLevel (tokens (70 ∷ 76 ∷ rest)) 255 (tokens others)
+full_here rest others ends =
+    let line : List ℕ = 70 ∷ 76 ∷ rest in
+    let read : rest ≡ after_all (goes is_separator begins_comment) (76 ∷ rest) =
+    sym (after_all-yes (goes is_separator begins_comment) 76 rest refl ∙ ends.ends) in
+    let count : length line - length rest ≡ 2 = omega arith in
+    let front : take (length line - length rest) line ≡ 70 ∷ 76 ∷ [] = ap (λ k. take k line) count in
+    record {
+      token = 70 ∷ 76 ∷ [];
+      is_level = refl;
+      first = front_token 70 (76 ∷ rest) rest others refl refl read ends ∙ ap (λ t. t ∷ tokens others) front;
+    }
+
+-- the same of a line by its places
+pub full_first : (line others : List ℕ) → 2 ≤ length line → get_or line 0 0 ≡ 70 → get_or line 1 0 ≡ 76
+    → EndsToken (take (length line - 2) (drop 2 line)) others → FirstIsLevel (tokens line) 255 (tokens others)
+full_first [] others long first second ends = absurd (omega arith)
+full_first (f ∷ []) others long first second ends = absurd (omega arith)
+full_first (f ∷ l ∷ rest) others long first second ends =
+    let all : take (length (f ∷ l ∷ rest) - 2) rest ≡ rest = take_all (length (f ∷ l ∷ rest) - 2) rest (omega arith) in
+    let so : FirstIsLevel (tokens (70 ∷ 76 ∷ rest)) 255 (tokens others) = full_here rest others (subst (λ zs. EndsToken zs others) all ends) in
+    subst (λ k. FirstIsLevel (tokens (k ∷ l ∷ rest)) 255 (tokens others)) (sym first)
+    (subst (λ k. FirstIsLevel (tokens (70 ∷ k ∷ rest)) 255 (tokens others)) (sym second) so)

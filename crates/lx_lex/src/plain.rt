@@ -33,7 +33,7 @@ pub(crate) fn first_number(line: &[u8]) -> Option<(u32, &[u8])>
 fn number_behind(line: &[u8]) -> Option<(u32, &[u8])>
     ensures { IfSome result (λ p. FirstIsNumber (tokens line.now) p.0 (tokens p.1.now)) }
 {
-    let (number, rest) = first_digits(past_separators(line))?;
+    let (number, rest) = front_digits(past_separators(line))?;
     let others = past_end(rest)?;
     Some((number, others))
 }
@@ -68,6 +68,24 @@ pub(crate) fn first_hex(line: &[u8]) -> Option<(Level, &[u8])>
     let low = hex_value(*low)?;
     let others = past_end(rest)?;
     Some((16 * high + low, others))
+}
+
+/// The same where the token is `FL`.
+#[inline(always)]
+pub(crate) fn first_full(line: &[u8]) -> Option<(Level, &[u8])>
+    ensures { IfSome result (λ p. FirstIsLevel (tokens line.now) p.0 (tokens p.1.now)) }
+{
+    let [first, second, rest @ ..] = line else {
+        return None;
+    };
+    if *first != b'F' {
+        return None;
+    }
+    if *second != b'L' {
+        return None;
+    }
+    let others = past_end(rest)?;
+    Some((255, others))
 }
 
 /// The number that the digits at the front spell, where four bytes are left the first four of them, and what follows

@@ -1,6 +1,6 @@
 //! An iterator over the tokens of a line.
 
-use crate::plain::{first_hex, first_number, number_before};
+use crate::plain::{first_full, first_hex, first_number, number_before};
 use crate::ready::past_channel;
 use crate::scan::first_token;
 use lx_base::{Chan, Level};
@@ -81,6 +81,16 @@ impl<'a> Tokens<'a> {
         ensures { MatchOption result (self.new ≡ self.old) (λ level. FirstIsLevel (left self.old) level (left self.new)) }
     {
         let (level, rest) = first_hex(self.rest)?;
+        self.rest = rest;
+        Some(level)
+    }
+
+    /// The same where the token is `FL`.
+    #[inline(always)]
+    pub fn take_full(&mut self) -> Option<Level>
+        ensures { MatchOption result (self.new ≡ self.old) (λ level. FirstIsLevel (left self.old) level (left self.new)) }
+    {
+        let (level, rest) = first_full(self.rest)?;
         self.rest = rest;
         Some(level)
     }

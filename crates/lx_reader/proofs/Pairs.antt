@@ -10,7 +10,7 @@ use Rattle.lx_spec.specs.Limits.{desk_limits}
 use Rattle.lx_spec.specs.Numerals.{read_whole, read_level}
 use Rattle.lx_spec.specs.Fields.{pairs, triples, number}
 use Rattle.lx_spec.specs.FirstRefusal.{◌>>=◌}
-use Rattle.lx_reader.specs.FieldLists.{FirstIsMember, all_pairs, all_triples, onto}
+use Rattle.lx_reader.specs.FieldLists.{FirstIsMember, FirstIsRow, all_pairs, all_triples, onto}
 
 two_more : (n : ℕ) → suc (suc n) % 2 ≡ n % 2
 two_more n = omega arith
@@ -68,3 +68,10 @@ all_triples-first i c e l rest row chan dimmer level =
     ap (λ k. cond (k == 0) (triples desk_limits i (c ∷ e ∷ l ∷ rest)) (Err (ShortList i))) (three_more (length rest))
     ∙ ap (λ r. cond (length rest % 3 == 0) r (Err (ShortList i))) (triples_first i c e l rest row chan dimmer level)
     ∙ onto_if i (row ∷ []) (length rest % 3 == 0) (triples desk_limits i rest)
+
+-- the same, as the short ways tell it
+pub row_first : (i : ℕ) (all others : List (List ℕ)) (row : PatchRow) → FirstIsRow all row others
+    → all_triples i all ≡ onto (row ∷ []) (all_triples i others)
+row_first i all others row is =
+    ap (all_triples i) is.first
+    ∙ all_triples-first i is.chan_token is.dimmer_token is.level_token others row is.chan is.dimmer is.level

@@ -1,6 +1,6 @@
 -- The fields of a line, taken from the front of its tokens.
 use Rattle.std.specs.Prelude.{ℕ, ◌≡◌, ◌%◌, ◌==◌, Bool, Option, Some, None, Result, Ok, Err, List, [], ◌∷◌, ◌++◌, length, if◌then◌else◌}
-use Rattle.lx_base.specs.declared.TheConstants.{CHANNELS}
+use Rattle.lx_base.specs.declared.TheConstants.{CHANNELS, DIMMERS}
 use Rattle.lx_spec.specs.declared.Bad.{Bad}
 use Rattle.lx_spec.specs.declared.Bad.TheVariants.{Shape, Range}
 use Rattle.lx_spec.specs.declared.Member.{Member}
@@ -60,3 +60,13 @@ pub record FirstIsMember (all : List (List ℕ)) (m : Member) (others : List (Li
   pub chan : read_whole 1 CHANNELS chan_token ≡ Ok m.chan
   pub level : read_level level_token ≡ Ok m.level
   pub first : all ≡ chan_token ∷ level_token ∷ others
+
+-- a channel's token, a dimmer's token and a level's token, which are this row, and then the others
+pub record FirstIsRow (all : List (List ℕ)) (row : PatchRow) (others : List (List ℕ)) : Type 0 where
+  pub chan_token : List ℕ
+  pub dimmer_token : List ℕ
+  pub level_token : List ℕ
+  pub chan : read_whole 1 CHANNELS chan_token ≡ Ok row.chan
+  pub dimmer : read_whole 1 DIMMERS dimmer_token ≡ Ok row.dimmer
+  pub level : read_level level_token ≡ Ok row.level
+  pub first : all ≡ chan_token ∷ dimmer_token ∷ level_token ∷ others

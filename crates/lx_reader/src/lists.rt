@@ -6,11 +6,11 @@ ghost use Rattle.lx_base.specs.Numbers.{percent as percent_level};
 ghost use Rattle.lx_spec.specs.Numerals.{read_level};
 ghost use Rattle.lx_lex.specs.Left.{left};
 ghost use Rattle.lx_lex.specs.PlainNumber.{FirstIsLevel, FirstIsNumber};
-ghost use Rattle.lx_reader.specs.FieldLists.{FirstIsMember, fault_in, all_pairs, all_triples, onto};
+ghost use Rattle.lx_reader.specs.FieldLists.{FirstIsMember, FirstIsRow, fault_in, all_pairs, all_triples, onto};
 
 use crate::numbers::token_fault;
 use crate::percents::PERCENTS;
-use lx_base::{Chan, Level};
+use lx_base::{Chan, Dimmer, Level};
 use lx_lex::{Bad, Tokens, read_channel, read_dimmer, read_level};
 use lx_spec::{Member, PatchRow, TextFault};
 
@@ -142,8 +142,31 @@ fn plain_member(tokens: &mut Tokens) -> Option<Member>
 fn next_level(tokens: &mut Tokens) -> Option<Level>
     ensures { IfSome result (λ level. FirstIsLevel (left tokens.old) level (left tokens.new)) }
 {
-    if let Some(percent) = tokens.take_number() {
-        return plain_level(percent);
+    match tokens.take_number() {
+        Some(percent) => plain_level(percent),
+        None => other_level(tokens),
+    }
+}
+
+/// The same. It is quicker where the level is `FL`, as in most rows, and where it is a percentage with nothing before it and a space
+/// behind it.
+#[inline(always)]
+fn row_level(tokens: &mut Tokens) -> Option<Level>
+    ensures { IfSome result (λ level. FirstIsLevel (left tokens.old) level (left tokens.new)) }
+{
+    match tokens.take_number_before(b' ') {
+        Some(percent) => plain_level(percent),
+        None => other_level(tokens),
+    }
+}
+
+/// The same. It is quickest where the level is `FL` or `H` and two digits, with nothing before it.
+#[inline(always)]
+fn other_level(tokens: &mut Tokens) -> Option<Level>
+    ensures { IfSome result (λ level. FirstIsLevel (left tokens.old) level (left tokens.new)) }
+{
+    if let Some(level) = tokens.take_full() {
+        return Some(level);
     }
     if let Some(level) = tokens.take_hex() {
         return Some(level);
@@ -198,7 +221,76 @@ fn any_member(i: u32, tokens: &mut Tokens) -> Result<Option<Member>, TextFault>
 }
 
 /// The next channel, dimmer and level of a list of triples; none at its end. A fault is that of the whole list.
+#[inline(always)]
 pub(crate) fn next_row(i: u32, tokens: &mut Tokens) -> Result<Option<PatchRow>, TextFault>
+    ensures fewer { IfOk result (λ o. IfSome o (λ row. length (left tokens.new) < length (left tokens.old))) }
+    ensures list { MatchResult result
+        (λ o. MatchOption o (left tokens.old ≡ [])
+        (λ row. all_triples i (left tokens.old) ≡ onto (row ∷ []) (all_triples i (left tokens.new))))
+        (λ fault. all_triples i (left tokens.old) ≡ Err fault) }
+{
+    match near_row(tokens) {
+        Some(row) => Ok(Some(row)),
+        None => far_row(i, tokens),
+    }
+}
+
+/// The next channel, dimmer and level where `<` and `@` end the first two and nothing else stands before them, as in most lists, and
+/// all are within their ranges. Else no token is taken.
+#[inline(always)]
+fn near_row(tokens: &mut Tokens) -> Option<PatchRow>
+    ensures { MatchOption result (tokens.new ≡ tokens.old) (λ row. FirstIsRow (left tokens.old) row (left tokens.new)) }
+{
+    let mut rest = *tokens;
+    let chan = Chan::new(rest.take_number_before(b'<')?)?;
+    let dimmer = Dimmer::new(rest.take_number_before(b'@')?)?;
+    let level = row_level(&mut rest)?;
+    *tokens = rest;
+    Some(PatchRow {
+        dimmer,
+        chan,
+        level,
+    })
+}
+
+/// The same as `next_row`, where the tokens stand in another way.
+#[inline(never)]
+fn far_row(i: u32, tokens: &mut Tokens) -> Result<Option<PatchRow>, TextFault>
+    ensures fewer { IfOk result (λ o. IfSome o (λ row. length (left tokens.new) < length (left tokens.old))) }
+    ensures list { MatchResult result
+        (λ o. MatchOption o (left tokens.old ≡ [])
+        (λ row. all_triples i (left tokens.old) ≡ onto (row ∷ []) (all_triples i (left tokens.new))))
+        (λ fault. all_triples i (left tokens.old) ≡ Err fault) }
+{
+    if tokens.is_at_end() {
+        return Ok(None);
+    }
+    match plain_row(tokens) {
+        Some(row) => Ok(Some(row)),
+        None => any_row(i, tokens),
+    }
+}
+
+/// The next channel, dimmer and level where the first two are numbers of digits alone, as most are, and all are within their
+/// ranges. Else no token is taken.
+#[inline(always)]
+fn plain_row(tokens: &mut Tokens) -> Option<PatchRow>
+    ensures { MatchOption result (tokens.new ≡ tokens.old) (λ row. FirstIsRow (left tokens.old) row (left tokens.new)) }
+{
+    let mut rest = *tokens;
+    let chan = Chan::new(rest.take_number()?)?;
+    let dimmer = Dimmer::new(rest.take_number()?)?;
+    let level = next_level(&mut rest)?;
+    *tokens = rest;
+    Some(PatchRow {
+        dimmer,
+        chan,
+        level,
+    })
+}
+
+/// The same as `next_row`, in whatever form the tokens are.
+fn any_row(i: u32, tokens: &mut Tokens) -> Result<Option<PatchRow>, TextFault>
     ensures fewer { IfOk result (λ o. IfSome o (λ row. length (left tokens.new) < length (left tokens.old))) }
     ensures list { MatchResult result
         (λ o. MatchOption o (left tokens.old ≡ [])
