@@ -2,7 +2,7 @@
 use Rattle.std.proofs.Common.{◌≡◌, ℕ, zero, suc, List, [], ◌∷◌, Some, slice_get, IsSome, subst}
 use Rattle.std.specs.declared.option.Option.{Option}
 use Rattle.std.proofs.lemmas.Option.{same_Some}
-use Rattle.lx_crew.specs.OperatorWorks.{EachAt}
+use Rattle.lx_base.specs.Places.{EachAt}
 use Rattle.lx_workers.specs.Places.{IsFull}
 use Rattle.lx_program.specs.Places.{AreFilled}
 

@@ -24,7 +24,8 @@ use Rattle.lx_crew.specs.declared.rule.View.{View}
 use Rattle.lx_crew.specs.EngineAnswers.{said, HasAnswered}
 use Rattle.lx_crew.specs.CrewOutcome.{ScriptIsBack, HasWrittenTranscript, HasCrewed}
 use Rattle.lx_crew.specs.Entries.{of_place, is_last, has_last}
-use Rattle.lx_crew.specs.OperatorWorks.{EachAt, Retired, owned}
+use Rattle.lx_base.specs.Places.{EachAt}
+use Rattle.lx_crew.specs.OperatorWorks.{Retired, owned}
 use Rattle.lx_crew.specs.Rule.{engine_view, Learned}
 use Rattle.lx_crew.specs.Scripts.{ScriptHasEnded}
 use Rattle.lx_crew.specs.SentLines.{last_entry}

@@ -15,19 +15,11 @@ use Rattle.lx_crew.specs.declared.entry.Sent.{Sent}
 use Rattle.lx_crew.specs.declared.entry.Sent.TheVariants.{Line, LongLine, End, ReadFault, InputTooLong}
 use Rattle.lx_crew.specs.Rule.{engine_view, operator_view}
 use Rattle.lx_crew.specs.SentLines.{HasSentLines}
-use Rattle.lx_crew.specs.OperatorWorks.{EachAt, HasRunOperator, Hired, HasSentNothing, Works, Retired, owned}
+use Rattle.lx_base.specs.Places.{EachAt}
+use Rattle.lx_crew.specs.OperatorWorks.{HasRunOperator, Hired, HasSentNothing, Works, Retired, owned}
 use Rattle.std.proofs.lemmas.List.Elements.{filter-append}
 use Rattle.lx_crew.proofs.Lists.{or_none, none_behind, tail_of, head_last}
 use Rattle.crossbeam_queue.specs.Passes.{view, Pass, IsSamePass}
-
-pub each_snoc : {A : Type 0} (P : ℕ → A → Type 0) (xs : List A) (x : A) (n : ℕ) → EachAt P xs → n ≡ length xs → P n x
-    → EachAt P (xs ++ x ∷ [])
-each_snoc P [] x n h e p zero y is = let same : x ≡ y = cc in subst (λ z. P zero z) same (subst (λ k. P k x) e p)
-each_snoc P [] x n h e p (suc k) y is = absurd cc
-each_snoc P (z ∷ xs) x n h e p zero y is = h zero y is
-each_snoc P (z ∷ xs) x n h e p (suc k) y is =
-    each_snoc (λ i. P (suc i)) xs x (length xs) (λ i w q. h (suc i) w q) refl
-    (subst (λ i. P i x) (let t : n ≡ suc (length xs) = omega (arith, e) in t) p) k y is
 
 pub each_zip : {A B : Type 0} (R : A → B → Type 0) (P : ℕ → A → Type 0) (Q : ℕ → B → Type 0) (xs : List A) (ys : List B) → AllZip R xs ys
     → EachAt P xs → ((k : ℕ) (x : A) (y : B) → P k x → R x y → Q k y) → EachAt Q ys

@@ -7,10 +7,6 @@ use Rattle.lx_crew.specs.declared.operator.Operator.{Operator}
 use Rattle.lx_crew.specs.Rule.{operator_view}
 use Rattle.lx_crew.specs.SentLines.{HasSentLines}
 
--- the elements of a list, each at its place
-abbrev pub EachAt : {A : Type 0} → (ℕ → A → Type 0) → List A → Type 0
-EachAt {A} P xs = (k : ℕ) (x : A) → slice_get xs k ≡ Some x → P k x
-
 -- the work at place k is that of the operator there, over the source of that place, and has pushed nothing
 pub record Hired {S : Type 0} (Its : Pass Entry View → Type 0) (places : List (Option S)) (k : ℕ) (w : Operator S) : Type 0 where
   pub its : Its w.pass

@@ -10,7 +10,8 @@ ghost use Rattle.lx_base.specs.declared.TheConstants.{OPERATORS};
 ghost use Rattle.lx_crew.specs.Rule.{engine_view};
 ghost use Rattle.lx_crew.specs.EngineAnswers.{HasServedEntries, OutputCause};
 ghost use Rattle.lx_crew.specs.CrewOutcome.{HasCrewed};
-ghost use Rattle.lx_crew.specs.OperatorWorks.{EachAt, HasRunOperator, Hired, HasSentNothing, Works, owned};
+ghost use Rattle.lx_base.specs.Places.{EachAt};
+ghost use Rattle.lx_crew.specs.OperatorWorks.{HasRunOperator, Hired, HasSentNothing, Works, owned};
 
 use crate::engine::{CrewEngine, PLACES};
 use crate::entry::Entry;

@@ -17,7 +17,7 @@ use Rattle.lx_spec.specs.CrewText.{lines_up_to_quit, numbered_from, crew_text}
 use Rattle.lx_session.specs.declared.tally.Tally.{Tally}
 use Rattle.lx_crew.specs.declared.fault.OperatorFault.{OperatorFault}
 use Rattle.lx_crew.specs.declared.fault.OperatorFault.TheVariants as ends
-use Rattle.lx_crew.specs.OperatorWorks.{EachAt}
+use Rattle.lx_base.specs.Places.{EachAt}
 use Rattle.lx_crew.specs.Scripts.{AreLines, CutLines, ScriptHasEnded}
 use Rattle.lx_crew.specs.CrewOutcome.{ScriptIsBack, HasWrittenTranscript, HasCrewed}
 use Rattle.lx_crew.specs.Transcripts.{WholeTranscript, TranscriptPrefix}

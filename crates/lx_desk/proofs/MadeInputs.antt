@@ -13,18 +13,18 @@ one_more : (seed i : ℕ) → drawn_from seed (suc i) ≡ after_draw (drawn_from
 unfolding after_draw
 one_more seed i = refl
 
-step : (seed i j x : ℕ) → x ≡ drawn_from seed i → j ≡ i + 1 → after_draw x ≡ drawn_from seed j
-step seed i j x is next =
+one_draw : (seed i j x : ℕ) → x ≡ drawn_from seed i → j ≡ i + 1 → after_draw x ≡ drawn_from seed j
+one_draw seed i j x is next =
     let after : j ≡ suc i = omega (arith, next) in
     ap after_draw is ∙ sym (one_more seed i) ∙ ap (drawn_from seed) (sym after)
 
-two_steps : (seed i j x : ℕ) → x ≡ drawn_from seed i → j ≡ i + 2 → after_setting x ≡ drawn_from seed j
-two_steps seed i j x is next = step seed (i + 1) j (after_draw x) (step seed i (i + 1) x is refl) (omega (arith, next))
+two_draws : (seed i j x : ℕ) → x ≡ drawn_from seed i → j ≡ i + 2 → after_setting x ≡ drawn_from seed j
+two_draws seed i j x is next = one_draw seed (i + 1) j (after_draw x) (one_draw seed i (i + 1) x is refl) (omega (arith, next))
 
 chan_at : (seed i j x : ℕ) → x ≡ drawn_from seed i → j ≡ i + 1 → chan_text (setting_from x) ≡ chan_line seed j
 chan_at seed i j x is next =
     ap₂ (λ a b. line (codes "CHAN" ∷ (decimal (1 + a / 65536 % 512) ++ 64 ∷ decimal (b / 65536 % 101)) ∷ []))
-    (step seed i j x is next) (two_steps seed i (j + 1) x is (omega (arith, next)))
+    (one_draw seed i j x is next) (two_draws seed i (j + 1) x is (omega (arith, next)))
 
 pieces : (a b c d e f : List ℕ) → (a ++ b) ++ (c ++ (d ++ (e ++ (f ++ [])))) ≡ a ++ b ++ c ++ d ++ e ++ f
 pieces a b c d e f = simp (append_assoc, append-nil)
@@ -33,12 +33,12 @@ pieces a b c d e f = simp (append_assoc, append-nil)
 pub cue_is : (seed k x : ℕ) → x ≡ drawn_from seed (9 * k) → drawn_cue_text (k + 1) (drawn_cue x) ≡ made_cue seed (k + 1)
 cue_is seed k x is =
     let i : ℕ = 9 * (k + 1 - 1) + 1 in
-    let a : after_draw x ≡ drawn_from seed i = step seed (9 * k) i x is (omega arith) in
-    let b : after_setting (after_draw x) ≡ drawn_from seed (i + 2) = two_steps seed i (i + 2) (after_draw x) a refl in
+    let a : after_draw x ≡ drawn_from seed i = one_draw seed (9 * k) i x is (omega arith) in
+    let b : after_setting (after_draw x) ≡ drawn_from seed (i + 2) = two_draws seed i (i + 2) (after_draw x) a refl in
     let c : after_setting (after_setting (after_draw x)) ≡ drawn_from seed (i + 4) =
-    two_steps seed (i + 2) (i + 4) (after_setting (after_draw x)) b (omega arith) in
+    two_draws seed (i + 2) (i + 4) (after_setting (after_draw x)) b (omega arith) in
     let d : after_setting (after_setting (after_setting (after_draw x))) ≡ drawn_from seed (i + 6) =
-    two_steps seed (i + 4) (i + 6) (after_setting (after_setting (after_draw x))) c (omega arith) in
+    two_draws seed (i + 4) (i + 6) (after_setting (after_setting (after_draw x))) c (omega arith) in
     pieces (line (codes "CUE" ∷ decimal (k + 1) ∷ [])) (line (codes "UP" ∷ decimal (after_draw x / 65536 % 10) ∷ []))
     (chan_text (setting_from (after_draw x))) (chan_text (setting_from (after_setting (after_draw x))))
     (chan_text (setting_from (after_setting (after_setting (after_draw x)))))
@@ -55,8 +55,8 @@ cue_is seed k x is =
 pub after_cue_is : (seed k x : ℕ) → x ≡ drawn_from seed (9 * k) → after_cue x ≡ drawn_from seed (9 * (k + 1))
 after_cue_is seed k x is =
     let i : ℕ = 9 * k in
-    two_steps seed (i + 7) (9 * (k + 1)) _ (two_steps seed (i + 5) (i + 7) _
-    (two_steps seed (i + 3) (i + 5) _ (two_steps seed (i + 1) (i + 3) _ (step seed i (i + 1) x is refl) (omega arith)) (omega arith))
+    two_draws seed (i + 7) (9 * (k + 1)) _ (two_draws seed (i + 5) (i + 7) _
+    (two_draws seed (i + 3) (i + 5) _ (two_draws seed (i + 1) (i + 3) _ (one_draw seed i (i + 1) x is refl) (omega arith)) (omega arith))
     (omega arith)) (omega arith)
 
 -- the line that sets a level, in pieces
@@ -76,9 +76,9 @@ set_shape k c p = paired (codes "set ") k (codes " chan ") c (codes " at ") p (1
 pub turn_is : (seed k x : ℕ) → x ≡ drawn_from seed (9 * seed + 3 * k) → turn_text (k + 1) (turn_from x) ≡ made_turn seed (k + 1)
 turn_is seed k x is =
     let i : ℕ = 9 * seed + 3 * (k + 1 - 1) + 1 in
-    let a : after_draw x ≡ drawn_from seed i = step seed (9 * seed + 3 * k) i x is (omega arith) in
-    let b : after_draw (after_draw x) ≡ drawn_from seed (i + 1) = step seed i (i + 1) (after_draw x) a refl in
-    let c : after_setting (after_draw x) ≡ drawn_from seed (i + 2) = two_steps seed i (i + 2) (after_draw x) a refl in
+    let a : after_draw x ≡ drawn_from seed i = one_draw seed (9 * seed + 3 * k) i x is (omega arith) in
+    let b : after_draw (after_draw x) ≡ drawn_from seed (i + 1) = one_draw seed i (i + 1) (after_draw x) a refl in
+    let c : after_setting (after_draw x) ≡ drawn_from seed (i + 2) = two_draws seed i (i + 2) (after_draw x) a refl in
     ap₂ (λ (t : ℕ) (set : List ℕ). line (codes "go" ∷ []) ++ line (codes "tick" ∷ decimal (1 + t / 65536 % 100) ∷ []) ++ set ++ line
     (codes "frame" ∷ [])) a
     (set_shape (decimal (k + 1)) (decimal (1 + after_draw (after_draw x) / 65536 % 512))
@@ -89,7 +89,7 @@ turn_is seed k x is =
 pub after_turn_is : (seed k x : ℕ) → x ≡ drawn_from seed (9 * seed + 3 * k) → after_turn x ≡ drawn_from seed (9 * seed + 3 * (k + 1))
 after_turn_is seed k x is =
     let i : ℕ = 9 * seed + 3 * k in
-    two_steps seed (i + 1) (9 * seed + 3 * (k + 1)) _ (step seed i (i + 1) x is refl) (omega arith)
+    two_draws seed (i + 1) (9 * seed + 3 * (k + 1)) _ (one_draw seed i (i + 1) x is refl) (omega arith)
 
 -- texts of a row of numbers, split at one of them
 range_split : (f : ℕ → List ℕ) (a k m : ℕ)

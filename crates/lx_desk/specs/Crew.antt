@@ -20,7 +20,7 @@ use Rattle.lx_spec.specs.CrewText.{CrewEntry, lines_up_to_quit, of_operator, num
 use Rattle.lx_session.specs.Known.{Known}
 use Rattle.lx_crew.specs.declared.fault.OperatorFault.{OperatorFault}
 use Rattle.lx_crew.specs.declared.fault.OperatorFault.TheVariants as ends
-use Rattle.lx_crew.specs.OperatorWorks.{EachAt}
+use Rattle.lx_base.specs.Places.{EachAt}
 use Rattle.lx_crew.specs.CrewOutcome.{ScriptIsBack}
 use Rattle.lx_crew.specs.Transcripts.{TranscriptPrefix}
 use Rattle.lx_desk.specs.declared.desk.Status.{Status}

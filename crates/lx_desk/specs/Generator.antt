@@ -5,7 +5,7 @@ use Rattle.lx_spec.specs.ShowText.{line}
 use Rattle.lx_spec.specs.MakeOutput.{made_patch, made_cue}
 use Rattle.lx_desk.specs.declared.draws.Setting.{Setting}
 use Rattle.lx_desk.specs.declared.draws.DrawnCue.{DrawnCue}
-use Rattle.lx_desk.specs.declared.draws.Turn.{Turn}
+use Rattle.lx_desk.specs.declared.draws.DrawnTurn.{DrawnTurn}
 
 -- the number after a draw
 unfoldable pub after_draw : ℕ → ℕ
@@ -33,7 +33,7 @@ drawn_cue x =
 abbrev pub after_turn : ℕ → ℕ
 after_turn x = after_setting (after_draw x)
 
-abbrev pub turn_from : ℕ → Turn
+abbrev pub turn_from : ℕ → DrawnTurn
 turn_from x = record { ticks = 1 + after_draw x / 65536 % 100; setting = setting_from (after_draw x) }
 
 -- PATCH 1 c<d@100
@@ -57,7 +57,7 @@ set_text k s = codes "set " ++ decimal k ++ (codes " chan " ++ decimal s.channel
 abbrev pub go_text : ℕ → List ℕ
 go_text ticks = line (codes "go" ∷ []) ++ line (codes "tick" ∷ decimal ticks ∷ [])
 
-abbrev pub turn_text : ℕ → Turn → List ℕ
+abbrev pub turn_text : ℕ → DrawnTurn → List ℕ
 turn_text k turn = go_text turn.ticks ++ set_text k turn.setting ++ line (codes "frame" ∷ [])
 
 -- the show of this many cues

@@ -5,7 +5,7 @@ ghost use Rattle.lx_base.specs.declared.TheConstants.{OPERATORS};
 ghost use Rattle.lx_io.specs.Causes.{Rose};
 ghost use Rattle.lx_spec.specs.declared.Job.TheVariants.{Crew};
 ghost use Rattle.lx_spec.specs.Reading.{reads};
-ghost use Rattle.lx_crew.specs.OperatorWorks.{EachAt};
+ghost use Rattle.lx_base.specs.Places.{EachAt};
 ghost use Rattle.lx_desk.specs.Crew.{HasCrewCause, HasCrewEnded, KeepsOperators, KeepsPlaces, OperatorFailed, ServesOrWants};
 ghost use Rattle.lx_desk.specs.Finished.{Finishes, HasWanted};
 ghost use Rattle.lx_desk.specs.Crew.{TellsCrew, TellsOperators, WritesCrewFront, WritesFirstLines};

@@ -28,7 +28,7 @@ pub(crate) struct DrawnCue {
 
 /// A turn of the script: the ticks after its key, and the level that it sets.
 #[derive(Clone, Copy)]
-pub(crate) struct Turn {
+pub(crate) struct DrawnTurn {
     pub(crate) ticks: u32,
     pub(crate) setting: Setting,
 }
@@ -63,13 +63,13 @@ impl Draws {
     }
 
     /// A turn of the script, by three draws.
-    pub(crate) fn turn(&mut self) -> Turn
+    pub(crate) fn turn(&mut self) -> DrawnTurn
         ensures turn { result ≡ turn_from self.old.number }
         ensures next { self.new.number ≡ after_turn self.old.number }
     {
         let ticks = 1 + self.draw(100);
         let setting = self.setting();
-        Turn { ticks, setting }
+        DrawnTurn { ticks, setting }
     }
 
     /// A channel from 1 to 512 and a level from 0 to 100 percent, by two draws.

@@ -8,7 +8,7 @@ ghost use Rattle.lx_spec.specs.ShowText.{line};
 ghost use Rattle.lx_spec.specs.MakeOutput.{drawn_from, made_cue, made_patch, made_turn, made_input};
 ghost use Rattle.lx_desk.specs.Generator.{chan_text, cue_head, drawn_cue_text, go_text, made_show, patched_text, set_text, turn_text};
 
-use crate::draws::{DrawnCue, Draws, Setting, Turn};
+use crate::draws::{DrawnCue, DrawnTurn, Draws, Setting};
 use lx_io::{PlainSink, Sink, SinkFault, put_all};
 use lx_lex::put_whole;
 use std::alloc::{AllocError, Global};
@@ -137,7 +137,7 @@ fn put_turns<K: Sink>(cues: u32, draws: &mut Draws, sink: &mut K) -> Result<(), 
 }
 
 /// Appends the lines of a turn.
-fn put_turn<K: Sink>(number: u32, turn: &Turn, sink: &mut K) -> Result<(), SinkFault>
+fn put_turn<K: Sink>(number: u32, turn: &DrawnTurn, sink: &mut K) -> Result<(), SinkFault>
     ensures { Puts K.holds K.faults K.wants sink.old sink.new result (turn_text number turn.now) }
 {
     put_go(turn.ticks, sink)?;

@@ -18,7 +18,7 @@ ghost use Rattle.lx_embed.specs.Told.{Stands, Ticked};
 use crate::engine::Engine;
 use crate::open::open_text;
 use crate::reply::ReplyText;
-use crate::shown::{fader_of, is_universe, level_of, slots_of, tracked_of};
+use crate::shown::{fader_of, frame_of, is_universe, level_of, tracked_of};
 use crate::state::{PlaybackState, state_of};
 use crate::taken::Taken;
 use lx_base::{Level, UNIVERSE_SLOTS};
@@ -97,7 +97,7 @@ impl HostDesk {
         if !is_universe(universe) || out.len() != UNIVERSE_SLOTS {
             return false;
         }
-        let slots = slots_of(self.engine.console(), universe);
+        let slots = frame_of(self.engine.console(), universe);
         out.copy_from_slice(slots);
         self.taken.take(universe, slots);
         true
@@ -113,7 +113,7 @@ impl HostDesk {
         if !is_universe(universe) {
             return None;
         }
-        let slots = slots_of(self.engine.console(), universe);
+        let slots = frame_of(self.engine.console(), universe);
         Some(!self.taken.are(universe, slots))
     }
 

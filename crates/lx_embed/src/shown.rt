@@ -8,8 +8,8 @@ ghost use Rattle.lx_spec.specs.RecordedLevels.{on_stage};
 ghost use Rattle.lx_spec.specs.TrackedLevel.{tracked};
 ghost use Rattle.lx_console.specs.ConsoleMeaning.{StandsFor};
 
-use lx_base::{Chan, CueNo, Level, SubNo, UNIVERSE_SLOTS, UNIVERSES};
-use lx_console::Console;
+use lx_base::{Chan, CueNo, Level, SubNo, UNIVERSES};
+use lx_console::{Console, slots_of};
 
 /// Whether there is a universe of the number.
 pub(crate) fn is_universe(universe: u32) -> bool
@@ -19,14 +19,13 @@ pub(crate) fn is_universe(universe: u32) -> bool
 }
 
 /// The slots of a universe.
-pub(crate) fn slots_of(console: &Console, universe: u32) -> &[Level]
+pub(crate) fn frame_of(console: &Console, universe: u32) -> &[Level]
     requires least { 1 ≤ universe }
     requires most { universe ≤ UNIVERSES }
     ensures frame { (d : Desk) → StandsFor d console.now → result.now ≡ frame d universe }
     ensures room { length result.now ≡ UNIVERSE_SLOTS }
 {
-    let start = UNIVERSE_SLOTS * (universe as usize - 1);
-    &console.frames()[start..start + UNIVERSE_SLOTS]
+    slots_of(universe as u8, console.frames())
 }
 
 /// The level of a channel on stage. `None` exactly where the show has no such channel.

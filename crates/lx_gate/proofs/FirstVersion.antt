@@ -1,5 +1,5 @@
 -- The opening of a gate.
-use Rattle.std.proofs.Common.{◌≡◌, ℕ, zero, suc, ◌-◌, ◌*◌, ◌≤◌, List, [], ◌∷◌, ◌++◌, length, take, drop, replicate, refl, sym, ap, ◌∙◌}
+use Rattle.std.proofs.Common.{◌≡◌, ℕ, ◌-◌, ◌*◌, ◌≤◌, List, [], take, drop, replicate, refl, sym, ap, ◌∙◌}
 use Rattle.std.proofs.Common.{subst, arith}
 use Rattle.lx_base.specs.declared.TheConstants.{SLOTS, UNIVERSES}
 use Rattle.lx_spec.specs.Show.{Show}
@@ -8,17 +8,7 @@ use Rattle.lx_spec.specs.declared.Command.{Command}
 use Rattle.lx_console.specs.Slots.{universe as universe_in}
 use Rattle.std.proofs.lemmas.List.{take-replicate, drop-replicate}
 use Rattle.std.specs.List.{slice_range}
-use Rattle.lx_gate.specs.Places.{EachAt}
 use Rattle.lx_gate.specs.Readings.{nothing_told}
-
-pub each_snoc : {A : Type 0} (P : ℕ → A → Type 0) (xs : List A) (x : A) (n : ℕ) → EachAt P xs → n ≡ length xs → P n x
-    → EachAt P (xs ++ x ∷ [])
-each_snoc P [] x n h e p zero y is = let same : x ≡ y = cc in subst (λ z. P zero z) same (subst (λ k. P k x) e p)
-each_snoc P [] x n h e p (suc k) y is = absurd cc
-each_snoc P (z ∷ xs) x n h e p zero y is = h zero y is
-each_snoc P (z ∷ xs) x n h e p (suc k) y is =
-    each_snoc (λ i. P (suc i)) xs x (length xs) (λ i w q. h (suc i) w q) refl
-    (subst (λ i. P i x) (let t : n ≡ suc (length xs) = omega (arith, e) in t) p) k y is
 
 range_replicate : (a b n : ℕ) → a ≤ b → b ≤ n → slice_range {X = ℕ} (replicate n 0) a b ≡ replicate (b - a) 0
 range_replicate a b n low high = ap (λ (w : List ℕ). take (b - a) w) (drop-replicate {X = ℕ} a n 0)

@@ -3,7 +3,7 @@ ghost use Rattle.std.specs.Prelude.{◌≡◌, ◌+◌, ◌≤◌, [], replicate
 ghost use Rattle.lx_base.specs.declared.TheConstants.{SLOTS, UNIVERSES};
 ghost use Rattle.lx_spec.specs.Show.{Valid};
 ghost use Rattle.lx_gate.specs.Gates.{Published};
-ghost use Rattle.lx_gate.specs.Places.{EachAt};
+ghost use Rattle.lx_base.specs.Places.{EachAt};
 ghost use Rattle.lx_gate.specs.Readings.{IsNewTap};
 
 use crate::{EmptyHistory, Gate, GatePort, GateWriter, LrPort, Origin, Prefix, Tap, Version};

@@ -5,5 +5,5 @@ use Rattle.lx_spec.specs.EditedShow.{in_proportion}
 use Rattle.lx_groups.specs.declared.scaled.Members.{Members}
 
 -- the members that are left, each at its level in proportion
-abbrev pub left : Members → List Member
-left m = map (in_proportion m.level) m.rest.now
+abbrev pub members_left : Members → List Member
+members_left m = map (in_proportion m.level) m.rest.now

@@ -15,11 +15,11 @@ impl<'a> Iterator for Members<'a> {
     type Item = Member;
 
     ghost use Rattle.std.specs.Iterator.{item_count, YieldsFirst};
-    ghost use Rattle.lx_groups.specs.Left.{left};
+    ghost use Rattle.lx_groups.specs.Left.{members_left};
 
-    ghost next_gives = { YieldsFirst left };
+    ghost next_gives = { YieldsFirst members_left };
 
-    ghost remaining = { item_count left };
+    ghost remaining = { item_count members_left };
 
     fn next(&mut self) -> Option<Member> {
         let (first, rest) = self.rest.split_first()?;

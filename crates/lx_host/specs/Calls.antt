@@ -21,7 +21,7 @@ use Rattle.lx_embed.specs.Engines.{console_of}
 use Rattle.lx_embed.specs.Opened.{OpensText}
 use Rattle.lx_embed.specs.TakenSlots.{taken_of}
 use Rattle.lx_embed.specs.Told.{Stands, Ticked}
-use Rattle.lx_host.specs.declared.status.Playback.{Playback}
+use Rattle.lx_host.specs.declared.status.PlaybackReport.{PlaybackReport}
 use Rattle.lx_host.specs.declared.status.ShowReport.{ShowReport}
 use Rattle.lx_host.specs.declared.status.TheConstants.{OK, MEMORY, QUIT, MORE}
 use Rattle.lx_host.specs.Told.{show_report, playback_of}
@@ -126,10 +126,10 @@ abbrev pub TellsFader : Option HostDesk → ℕ → ℕ → Type 0
 TellsFader held sub level = IfSome held (λ host. level ≡ fader (console_of host.engine).faders sub)
 
 -- where the playback stands
-pub record IsToldAs (host : HostDesk) (playback : Playback) : Type 0 where
+pub record IsToldAs (host : HostDesk) (playback : PlaybackReport) : Type 0 where
   pub state : PlaybackState
   pub stands : Stands (console_of host.engine) state
   pub told : playback ≡ playback_of state
 
-abbrev pub TellsState : Option HostDesk → Playback → Type 0
+abbrev pub TellsState : Option HostDesk → PlaybackReport → Type 0
 TellsState held playback = IfSome held (λ host. IsToldAs host playback)

@@ -5,7 +5,7 @@ use Rattle.lx_reader.specs.declared.fault.ShowFault.{ShowFault}
 use Rattle.lx_reader.specs.declared.fault.ShowFault.TheVariants as faults
 use Rattle.lx_embed.specs.declared.state.PlaybackState.{PlaybackState}
 use Rattle.lx_embed.specs.declared.state.Span.{Span}
-use Rattle.lx_host.specs.declared.status.Playback.{Playback}
+use Rattle.lx_host.specs.declared.status.PlaybackReport.{PlaybackReport}
 use Rattle.lx_host.specs.declared.status.ShowReport.{ShowReport}
 use Rattle.lx_host.specs.declared.status.TheConstants.{MEMORY, SHOW_REFUSED, TOO_LONG}
 
@@ -26,7 +26,7 @@ show_report (faults.Text (texts.NoEndData i)) = record { fault = 7; line = i }
 show_report other = record { fault = 0; line = 0 }
 
 -- with 0 for what isn't there
-abbrev pub playback_of : PlaybackState → Playback
+abbrev pub playback_of : PlaybackState → PlaybackReport
 playback_of state =
     let newest : Span = unwrap_or state.newest (record { began = 0; ends = 0 }) in
     record {

@@ -25,8 +25,8 @@ use lx_reader::ShowFault;
 use lx_show::Form;
 use report::{playback_for, told};
 use status::{
-    AT_END, CLOSED, MEMORY, MORE, NOT_A_LINE, OK, OPEN, OUT_OF_RANGE, Playback, QUIT, ShowReport,
-    VERSION,
+    AT_END, CLOSED, MEMORY, MORE, NOT_A_LINE, OK, OPEN, OUT_OF_RANGE, PlaybackReport, QUIT,
+    ShowReport, VERSION,
 };
 use std::alloc::Global;
 
@@ -361,7 +361,11 @@ pub extern "C" fn cuedesk_fader(alloc: Global, desk: &mut CueDesk, sub: u32, lev
 ///
 /// OK; CLOSED.
 #[unsafe(no_mangle)]
-pub extern "C" fn cuedesk_state(alloc: Global, desk: &mut CueDesk, state: &mut Playback) -> u32
+pub extern "C" fn cuedesk_state(
+    alloc: Global,
+    desk: &mut CueDesk,
+    state: &mut PlaybackReport,
+) -> u32
     ensures state { TellsState desk.old.handle.held state.new }
     ensures closed { desk.old.handle.held ≡ None → (result ≡ CLOSED) × (state.new ≡ state.old) }
     ensures given { is_some desk.old.handle.held ≡ true → result ≡ OK }

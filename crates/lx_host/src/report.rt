@@ -3,7 +3,7 @@
 ghost use Rattle.std.specs.Prelude.{◌≡◌};
 ghost use Rattle.lx_host.specs.Told.{status_of, show_report, playback_of};
 
-use crate::status::{MEMORY, Playback, SHOW_REFUSED, ShowReport, TOO_LONG};
+use crate::status::{MEMORY, PlaybackReport, SHOW_REFUSED, ShowReport, TOO_LONG};
 use lx_base::CueNo;
 use lx_embed::{PlaybackState, Span};
 use lx_reader::ShowFault;
@@ -47,12 +47,12 @@ fn report_for(fault: TextFault) -> ShowReport
 }
 
 /// The state of a playback, with 0 for what isn't there.
-pub(crate) fn playback_for(state: PlaybackState) -> Playback
+pub(crate) fn playback_for(state: PlaybackState) -> PlaybackReport
     ensures { result ≡ playback_of state }
 {
     let next = state.next.unwrap_or(CueNo::BEFORE_FIRST);
     let newest = state.newest.unwrap_or(Span { began: 0, ends: 0 });
-    Playback {
+    PlaybackReport {
         moment: state.moment,
         position: state.position.get(),
         next: next.get(),

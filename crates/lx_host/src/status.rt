@@ -39,7 +39,7 @@ pub struct ShowReport {
 /// Where the playback of a desk stands.
 #[repr(C)]
 #[derive(Drop)]
-pub struct Playback {
+pub struct PlaybackReport {
     /// The present moment, in hundredths of a second since the opening.
     pub moment: u32,
     /// The cue of the newest live run, or the position at the last rest, in thousandths.

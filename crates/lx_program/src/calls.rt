@@ -5,7 +5,7 @@ ghost use Rattle.std.specs.List.{list_any};
 ghost use Rattle.lx_base.specs.declared.TheConstants.{OPERATORS, UNIVERSES};
 ghost use Rattle.lx_spec.specs.Job.{job_of};
 ghost use Rattle.lx_spec.specs.Reading.{reads};
-ghost use Rattle.lx_crew.specs.OperatorWorks.{EachAt};
+ghost use Rattle.lx_base.specs.Places.{EachAt};
 ghost use Rattle.lx_workers.specs.Places.{IsFull};
 ghost use Rattle.lx_desk.specs.Crew.{HasCrewCause, HasCrewEnded, KeepsOperators, WritesCrewFront};
 ghost use Rattle.lx_desk.specs.Endings.{AnswersWords, HasCauseOf, HasEnded};

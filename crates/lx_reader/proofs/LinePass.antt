@@ -23,7 +23,7 @@ use Rattle.lx_reader.specs.declared.fault.ShowFault.{ShowFault}
 use Rattle.lx_reader.specs.declared.fault.ShowFault.TheVariants as faults
 use Rattle.lx_reader.specs.declared.loaded.Loaded.{Loaded}
 use Rattle.lx_reader.specs.declared.reader.Reader.{Reader}
-use Rattle.lx_reader.specs.ReadingState.{first_state, step, final_reading}
+use Rattle.lx_reader.specs.ReadingState.{first_state, state_after, final_reading}
 use Rattle.lx_reader.specs.LineOutcome.{facts_of, state_of, CanGoOn, IsStep, Outcome}
 use Rattle.lx_reader.specs.HandedLines.{MeansShow, MeansFault, IsPastLimit}
 use Rattle.lx_reader.specs.Answer.{reading_of, HasRead, IsLoaded, OfText, CutShort, AnswerOf, FaultOf, TurnOf}
@@ -116,8 +116,8 @@ passage_more left rises old l l' r q done first passage turn going =
     more_by left rises old l l' r q turn.0 (entry_of (facts_of r (l.number + 1)) (without_cr turn.0)) first passage turn.1 refl turn.2 going
 
 -- ENDDATA adds nothing
-end_adds : (i : ℕ) (r : Reader) (e : Entry) → is_end e ≡ true → step i e (state_of r) ≡ state_of r
-end_adds i r e = elim e as (λ e. is_end e ≡ true → step i e (state_of r) ≡ state_of r) [ Ends ↦ λ is. refl | _ ↦ λ is. cc ]
+end_adds : (i : ℕ) (r : Reader) (e : Entry) → is_end e ≡ true → state_after i e (state_of r) ≡ state_of r
+end_adds i r e = elim e as (λ e. is_end e ≡ true → state_after i e (state_of r) ≡ state_of r) [ Ends ↦ λ is. refl | _ ↦ λ is. cc ]
 
 ended_by : {S : Type 0} (left : S → Option (List ℕ)) (rises : S → ℕ) (old l l' : Lines S) (form : Form) (r q : Reader) (loaded : Loaded)
     (raw : List ℕ) (x : Result Entry TextFault) → old.number ≡ 0 → Passage left rises old l r → HandedOut left rises l l' (raw ∷ [])

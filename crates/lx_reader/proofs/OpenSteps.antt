@@ -25,7 +25,7 @@ use Rattle.lx_reader.specs.FieldLists.{next_times}
 use Rattle.lx_reader.specs.LineOfCue.{ChangesCue, CueSays, HasParts, LabelSays, facts_at, is_own}
 use Rattle.lx_reader.specs.LineOutcome.{IsStep, Said, facts_of, state_of}
 use Rattle.lx_reader.specs.OpenRecord.{HasPartIn, IsOpen}
-use Rattle.lx_reader.specs.ReadingState.{ReadingState, cue_with, facts_in, placed_in, set_with, show_with, step, with_down, with_up}
+use Rattle.lx_reader.specs.ReadingState.{ReadingState, cue_with, facts_in, placed_in, set_with, show_with, state_after, with_down, with_up}
 use Rattle.lx_reader.specs.Settled.{CueFits, OpenFits, SetFits, filled_cue, filled_set, with_open}
 use Rattle.lx_reader.proofs.LineSteps.{times_ok}
 use Rattle.lx_reader.proofs.OpenCues.{own_fits}
@@ -43,9 +43,9 @@ changed_here key f x xs same =
 
 -- What an entry of a record's own comes to.
 step_own : (i : ℕ) (e : Entry) (t : ReadingState) → is_own e ≡ true
-    → step i e t ≡ record t { show = show_with (placed_in t e) t.show; part = unwrap_or (part_named e) t.part }
+    → state_after i e t ≡ record t { show = show_with (placed_in t e) t.show; part = unwrap_or (part_named e) t.part }
 step_own i e t = elim e as
-    (λ e. is_own e ≡ true → step i e t ≡ record t { show = show_with (placed_in t e) t.show; part = unwrap_or (part_named e) t.part }) [
+    (λ e. is_own e ≡ true → state_after i e t ≡ record t { show = show_with (placed_in t e) t.show; part = unwrap_or (part_named e) t.part }) [
       | NamesPart p ↦ λ own. refl
       | HasUp time delay ↦ λ own. refl
       | HasDown time delay ↦ λ own. refl

@@ -26,7 +26,7 @@ use Rattle.lx_lex.proofs.TakenLines.{next_too_long, all_texts, texts}
 use Rattle.lx_lex.proofs.HandingOut.{handed_none, handed_then}
 use Rattle.lx_lex.proofs.CuttingOff.{cut_off}
 use Rattle.lx_reader.specs.OpenRecord.{IsOpen}
-use Rattle.lx_reader.specs.ReadingState.{ReadingState, first_state, step, facts_in, final_reading}
+use Rattle.lx_reader.specs.ReadingState.{ReadingState, first_state, state_after, facts_in, final_reading}
 use Rattle.lx_reader.specs.HandedLines.{MeansShow, MeansFault, IsPastLimit, IsCutShort}
 use Rattle.lx_reader.proofs.ReadingStates.{state_open, skipped_few}
 use Rattle.lx_reader.proofs.ReadLines.{ReadSoFar, Ended, Refused, read_none, read_more, read_refused, read_ended, read_open, wanted_more}
@@ -72,11 +72,11 @@ lines_sound left rises old l t first past =
 pub lines_more : {S : Type 0} (left : S → Option (List ℕ)) (rises : S → ℕ) (old l l' : Lines S) (t : ReadingState) (raw : List ℕ)
     (e : Entry) → old.number ≡ 0 → PassedLines left rises old l t → HandedOut left rises l l' (raw ∷ [])
     → entry_of (facts_in t (l.number + 1)) (without_cr raw) ≡ Ok e → is_end e ≡ false
-    → PassedLines left rises old l' (step (l.number + 1) e t)
+    → PassedLines left rises old l' (state_after (l.number + 1) e t)
 lines_more left rises old l l' t raw e first past handed says goes_on = record {
   raws = past.raws ++ raw ∷ [];
   handed = handed_then left rises old l l' past.raws (raw ∷ []) past.handed handed;
-  so_far = subst (λ v. ReadSoFar v (step (l.number + 1) e t)) (sym (texts_more past.raws raw))
+  so_far = subst (λ v. ReadSoFar v (state_after (l.number + 1) e t)) (sym (texts_more past.raws raw))
       (read_more (map without_cr past.raws) t (without_cr raw) e (l.number + 1) past.so_far (next_number left rises old l t past first) says
       goes_on);
 }

@@ -15,7 +15,7 @@ use Rattle.lx_spec.specs.Facts.{Facts, first_facts, facts_after}
 use Rattle.lx_spec.specs.LineRules.{entry_by_tokens, entry_of}
 use Rattle.lx_spec.specs.Reading.{entries, reading_from, reads_lines, count_read, lines_read}
 use Rattle.lx_reader.specs.FieldLists.{onto}
-use Rattle.lx_reader.specs.ReadingState.{ReadingState, first_state, step, placed_in, facts_in, final_reading}
+use Rattle.lx_reader.specs.ReadingState.{ReadingState, first_state, state_after, placed_in, facts_in, final_reading}
 use Rattle.lx_reader.proofs.SectionLevels.{onto_nothing, onto_again}
 use Rattle.lx_reader.proofs.ReadingStates.{IsStateOf, state_none, state_more, state_facts, state_reading}
 
@@ -86,18 +86,18 @@ count_some facts (line ∷ more) = counted_some facts more (entry_of facts line)
 
 -- one more line that goes on
 pub read_more : (lines : List (List ℕ)) (t : ReadingState) (line : List ℕ) (e : Entry) (i : ℕ) → (so_far : ReadSoFar lines t)
-    → i ≡ length lines + 1 → entry_of (facts_in t i) line ≡ Ok e → is_end e ≡ false → ReadSoFar (lines ++ line ∷ []) (step i e t)
+    → i ≡ length lines + 1 → entry_of (facts_in t i) line ≡ Ok e → is_end e ≡ false → ReadSoFar (lines ++ line ∷ []) (state_after i e t)
 read_more lines t line e i so_far number says goes_on =
     let n : ℕ = length so_far.placed + 1 in
     let same : i ≡ n = omega (arith, so_far.count) in
     let s : PlacedEntry = placed_in t e in
     let placed : List PlacedEntry = so_far.placed ++ s ∷ [] in
     let says' : entry_of (facts_in t n) line ≡ Ok e = subst (λ k. entry_of (facts_in t k) line ≡ Ok e) same says in
-    let facts : facts_after (facts_in t n) e ≡ facts_in (step n e t) (n + 1) = state_facts so_far.placed t e so_far.state in
+    let facts : facts_after (facts_in t n) e ≡ facts_in (state_after n e t) (n + 1) = state_facts so_far.placed t e so_far.state in
     let count : length placed ≡ n = length-append so_far.placed (s ∷ []) in
-    let facts' : facts_after (facts_in t n) e ≡ facts_in (step n e t) (length placed + 1) = facts
-    ∙ (λ j. facts_in (step n e t) (sym count j + 1)) in
-    subst (λ k. ReadSoFar (lines ++ line ∷ []) (step k e t)) (sym same) (record {
+    let facts' : facts_after (facts_in t n) e ≡ facts_in (state_after n e t) (length placed + 1) = facts
+    ∙ (λ j. facts_in (state_after n e t) (sym count j + 1)) in
+    subst (λ k. ReadSoFar (lines ++ line ∷ []) (state_after k e t)) (sym same) (record {
       placed = placed;
       state = state_more so_far.placed t e so_far.state;
       count = omega (arith, count, so_far.count, length-append lines (line ∷ []));
@@ -106,10 +106,10 @@ read_more lines t line e i so_far number says goes_on =
           ∙ so_far.whole (line ∷ more)
           ∙ ap (onto so_far.placed) (line_entries (facts_in t n) line e more false says' goes_on
           ∙ ap (λ f. onto (s ∷ []) (entries f more)) facts')
-          ∙ onto_again so_far.placed (s ∷ []) (entries (facts_in (step n e t) (length placed + 1)) more);
+          ∙ onto_again so_far.placed (s ∷ []) (entries (facts_in (state_after n e t) (length placed + 1)) more);
       wanted = λ more.
           let next = line_count (facts_in t n) line e more false says' goes_on in
-          let rest : count_read (facts_after (facts_in t n) e) more ≡ count_read (facts_in (step n e t) (length placed + 1)) more =
+          let rest : count_read (facts_after (facts_in t n) e) more ≡ count_read (facts_in (state_after n e t) (length placed + 1)) more =
           ap (λ f. count_read f more) facts' in
           ap lines_read (append_assoc lines (line ∷ []) more) ∙ omega (arith, so_far.wanted (line ∷ more), next, rest, count);
     })

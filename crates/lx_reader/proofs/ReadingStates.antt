@@ -19,7 +19,7 @@ use Rattle.lx_spec.specs.Entry.{Entry, ClearsAll, PlacedEntry, channels_set, cle
 use Rattle.lx_spec.specs.Facts.{facts_after, with_cue_named}
 use Rattle.lx_spec.specs.Reading.{reading_from, numbers_begun, channels_named, last_in}
 use Rattle.lx_reader.specs.OpenRecord.{IsOpen}
-use Rattle.lx_reader.specs.ReadingState.{ReadingState, later, first_state, step, placed_in, facts_in, final_reading, show_with}
+use Rattle.lx_reader.specs.ReadingState.{ReadingState, later, first_state, state_after, placed_in, facts_in, final_reading, show_with}
 use Rattle.lx_reader.specs.ReadingState.{number_begun}
 use Rattle.lx_reader.proofs.LastEntries.{last_in-more}
 use Rattle.lx_reader.proofs.Shows.{show_so_far, show-more, greatest-from, IsRooted, IsBegun}
@@ -170,7 +170,7 @@ clear_begins : (e : Entry) → clears_all e ≡ true → section_begun e ≡ Som
 clear_begins e = elim e as (λ e. clears_all e ≡ true → section_begun e ≡ Some NoRecord) [ ClearsAll ↦ λ is. refl | _ ↦ λ is. cc ]
 
 cleared_by : (all : List PlacedEntry) (t : ReadingState) (e : Entry) (i : ℕ) (b : Bool) → clears_all e ≡ b → IsStateOf all t
-    → Cleared (all ++ placed_in t e ∷ []) t (step i e t)
+    → Cleared (all ++ placed_in t e ∷ []) t (state_after i e t)
 cleared_by all t e i true clears state =
     let none : since_cleared (all ++ placed_in t e ∷ []) ≡ [] = after_push (λ z. clears_all z.entry) all (placed_in t e) true clears in
     let begins : section_begun e ≡ Some NoRecord = clear_begins e clears in
@@ -200,7 +200,7 @@ skipped_by n true = refl
 skipped_by n false = omega arith
 
 pub state_more : (all : List PlacedEntry) (t : ReadingState) (e : Entry) → IsStateOf all t
-    → IsStateOf (all ++ placed_in t e ∷ []) (step (length all + 1) e t)
+    → IsStateOf (all ++ placed_in t e ∷ []) (state_after (length all + 1) e t)
 state_more all t e state =
     let each = cleared_by all t e (length all + 1) (clears_all e) refl state in
     record {
@@ -218,19 +218,19 @@ state_more all t e state =
 
 -- the facts of the state after it are those after the entry
 cues_after : (all : List PlacedEntry) (t : ReadingState) (e : Entry) (b : Bool) → clears_all e ≡ b → IsStateOf all t
-    → map (λ cue. cue.number) (step (length all + 1) e t).show.cues
+    → map (λ cue. cue.number) (state_after (length all + 1) e t).show.cues
     ≡ cond b [] (with_cue_named (number_begun cue_in e) (map (λ cue. cue.number) t.show.cues))
 cues_after all t e true clears state = ap (λ b. map (λ cue. cue.number) (cond b first_state.show (show_with (placed_in t e) t.show)).cues)
     clears
 cues_after all t e false clears state =
     let s : PlacedEntry = placed_in t e in
     let more : since_cleared (all ++ s ∷ []) ≡ since_cleared all ++ s ∷ [] = after_push (λ z. clears_all z.entry) all s false clears in
-    state_cues (all ++ s ∷ []) (step (length all + 1) e t) (state_more all t e state)
+    state_cues (all ++ s ∷ []) (state_after (length all + 1) e t) (state_more all t e state)
     ∙ ap (numbers_begun cue_in) more
     ∙ sym (cues_next (since_cleared all) s (number_begun cue_in e) (map (λ cue. cue.number) t.show.cues) refl (state_cues all t state))
 
 pub state_facts : (all : List PlacedEntry) (t : ReadingState) (e : Entry) → IsStateOf all t
-    → facts_after (facts_in t (length all + 1)) e ≡ facts_in (step (length all + 1) e t) (length all + 1 + 1)
+    → facts_after (facts_in t (length all + 1)) e ≡ facts_in (state_after (length all + 1) e t) (length all + 1 + 1)
 state_facts all t e state =
     let cues = cues_after all t e (clears_all e) refl state in
     λ j. record (facts_after (facts_in t (length all + 1)) e) { cues = sym cues j }

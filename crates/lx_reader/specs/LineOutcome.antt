@@ -10,7 +10,7 @@ use Rattle.lx_reader.specs.declared.reader.Reader.{Reader}
 use Rattle.lx_reader.specs.declared.fault.ShowFault.{ShowFault}
 use Rattle.lx_reader.specs.LineFaults.{IsFaultOf}
 use Rattle.lx_reader.specs.OpenRecord.{IsOpen}
-use Rattle.lx_reader.specs.ReadingState.{ReadingState, step, placed_in, facts_in}
+use Rattle.lx_reader.specs.ReadingState.{ReadingState, state_after, placed_in, facts_in}
 
 -- what the lines so far say
 abbrev pub state_of : Reader → ReadingState
@@ -40,7 +40,7 @@ pub record CanGoOn (r : Reader) (i : ℕ) : Type 0 where
 
 -- the reader went a step on with line i, which says this
 pub record IsStep (old new : Reader) (i : ℕ) (entry : Entry) : Type 0 where
-  pub state : state_of new ≡ step i entry (state_of old)
+  pub state : state_of new ≡ state_after i entry (state_of old)
   pub ended : new.ended ≡ is_end entry
 
 -- Where the line says something, the reader goes on. A fault is the definition's; lack of memory is free.

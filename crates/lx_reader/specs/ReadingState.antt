@@ -1,4 +1,4 @@
--- The state of a reading, and the step that one more entry is.
+-- The state of a reading, and the state after one more entry.
 use Rattle.std.specs.Prelude.{ℕ, ◌+◌, ◌==◌, ◌&&◌, Option, Some, None, List, [], map, fold, max, Bool, true, false, unwrap_or}
 use Rattle.std.specs.Prelude.{option_and_then, is_some, ◌||◌, if◌then◌else◌}
 use Rattle.lx_base.specs.declared.TheConstants.{DEFAULT_CHANNELS}
@@ -168,8 +168,8 @@ abbrev pub placed_in : ReadingState → Entry → PlacedEntry
 placed_in state entry = record { section = state.section; part = state.part; entry = entry }
 
 -- the state after line i, which says this
-abbrev pub step : ℕ → Entry → ReadingState → ReadingState
-step i entry state = record {
+abbrev pub state_after : ℕ → Entry → ReadingState → ReadingState
+state_after i entry state = record {
   show = if clears_all entry then empty_show else show_with (placed_in state entry) state.show;
   channels_set = if clears_all entry then None else later (channels_set entry) state.channels_set;
   skipped = if is_skipped entry then state.skipped + 1 else state.skipped;

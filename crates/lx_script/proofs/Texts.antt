@@ -7,7 +7,7 @@ use Rattle.std.proofs.Math.Seq.{take-add, take-append-add}
 use Rattle.std.proofs.lemmas.List.{take-take, take_more}
 use Rattle.std.specs.Prelude.{Bool, true, false, suc, ◌==◌, flat_map, codes, decimal, slice_range, if◌then◌else◌}
 use Rattle.std.specs.List.{enumerate_from}
-use Rattle.lx_script.specs.Cells.{cell, cells_from}
+use Rattle.lx_script.specs.Cells.{cell_text, cells_from}
 use Rattle.std.proofs.lemmas.Grind.{flat_map-append}
 use Rattle.lx_spec.specs.ShowText.{spaced}
 use Rattle.lx_spec.specs.Replies.{cells, frame_text}
@@ -25,7 +25,7 @@ one_word true word = refl
 one_word false word = append-nil (32 ∷ word)
 
 cells_from-first : (number level : ℕ) (levels : List ℕ)
-    → cells_from number (level ∷ levels) ≡ cell number level ++ cells_from (number + 1) levels
+    → cells_from number (level ∷ levels) ≡ cell_text number level ++ cells_from (number + 1) levels
 cells_from-first number level levels =
     let word : List ℕ = decimal number ++ 61 ∷ decimal level in
     flat_map-append (λ w. 32 ∷ w) (if level == 0 then [] else word ∷ [])
@@ -38,8 +38,8 @@ cells_from-append number [] ys = let same : number ≡ number + 0 = omega arith 
 cells_from-append number (x ∷ xs) ys =
     let same : number + 1 + length xs ≡ number + suc (length xs) = omega arith in
     cells_from-first number x (xs ++ ys)
-    ∙ ap (λ text. cell number x ++ text) (cells_from-append (number + 1) xs ys)
-    ∙ sym (append_assoc (cell number x) (cells_from (number + 1) xs) (cells_from (number + 1 + length xs) ys))
+    ∙ ap (λ text. cell_text number x ++ text) (cells_from-append (number + 1) xs ys)
+    ∙ sym (append_assoc (cell_text number x) (cells_from (number + 1) xs) (cells_from (number + 1 + length xs) ys))
     ∙ ap (λ text. text ++ cells_from (number + 1 + length xs) ys) (sym (cells_from-first number x xs))
     ∙ ap (λ n. cells_from number (x ∷ xs) ++ cells_from n ys) same
 
@@ -66,7 +66,7 @@ cells_more levels from end before within =
 
 -- the cell of a level more
 pub cells_next : (number at : ℕ) (levels : List ℕ) → at < length levels
-    → cells_from number (take (at + 1) levels) ≡ cells_from number (take at levels) ++ cell (number + at) (get_or levels at 0)
+    → cells_from number (take (at + 1) levels) ≡ cells_from number (take at levels) ++ cell_text (number + at) (get_or levels at 0)
 cells_next number at levels lt =
     let level : ℕ = get_or levels at 0 in
     let here : take (at + 1) levels ≡ take at levels ++ level ∷ [] = take_more levels at 0 lt in
@@ -74,7 +74,7 @@ cells_next number at levels lt =
     ap (cells_from number) here ∙ cells_from-append number (take at levels) (level ∷ [])
     ∙ ap (λ n. cells_from number (take at levels) ++ cells_from n (level ∷ [])) count
     ∙ ap (λ text. cells_from number (take at levels) ++ text)
-    (cells_from-first (number + at) level [] ∙ append-nil (cell (number + at) level))
+    (cells_from-first (number + at) level [] ∙ append-nil (cell_text (number + at) level))
 
 -- what was written behind the first bytes, as far as it is wanted
 pub front_of : (end at count : ℕ) (old new row : List ℕ) → at ≤ length old → at + count ≤ end → take end new ≡ take at old ++ row
@@ -88,7 +88,7 @@ front_of end at count old new row within fits is =
 pub cell_is : (number level width at count : ℕ) (old new : List ℕ) → at ≤ length old
     → take (at + width + (length (decimal level) + 1)) new ≡ take at old ++ (32 ∷ (decimal number ++ 61 ∷ decimal level))
     → count ≡ (if level == 0 then 0 else width + (length (decimal level) + 1))
-    → take (at + count) new ≡ take at old ++ cell number level
+    → take (at + count) new ≡ take at old ++ cell_text number level
 cell_is number level width at count old new within put is =
     let end : ℕ = at + width + (length (decimal level) + 1) in
     let choice : Bool → ℕ = λ b. if b then 0 else width + (length (decimal level) + 1) in

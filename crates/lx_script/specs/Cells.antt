@@ -9,5 +9,5 @@ cells_from number levels =
     (flat_map (λ e. if e.1 == 0 then [] else (decimal e.0 ++ 61 ∷ decimal e.1) ∷ []) (enumerate_from number levels))
 
 -- the same of one level
-abbrev pub cell : ℕ → ℕ → List ℕ
-cell number level = if level == 0 then [] else 32 ∷ (decimal number ++ 61 ∷ decimal level)
+abbrev pub cell_text : ℕ → ℕ → List ℕ
+cell_text number level = if level == 0 then [] else 32 ∷ (decimal number ++ 61 ∷ decimal level)

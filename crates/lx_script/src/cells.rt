@@ -4,7 +4,7 @@
 ghost use Rattle.std.specs.Prelude.{◌≡◌, ◌==◌, if◌then◌else◌, ℕ, ◌+◌, ◌*◌, ◌<◌, ◌≤◌, ◌^◌, ◌++◌, ◌∷◌, length, take, decimal, flat_map};
 ghost use Rattle.lx_io.specs.Puts.{Puts};
 ghost use Rattle.lx_spec.specs.Replies.{cells};
-ghost use Rattle.lx_script.specs.Cells.{cell, cells_from};
+ghost use Rattle.lx_script.specs.Cells.{cell_text, cells_from};
 ghost use Rattle.lx_script.specs.declared.cells.TheConstants.{NEAR, PIECE_CELLS};
 
 use crate::rows::{COUNTS, LEVELS, NUMBERS, PAIRS};
@@ -95,7 +95,7 @@ fn put_piece<K: Sink>(number: u64, levels: &[Level], sink: &mut K) -> Result<(),
 
 /// Appends the cell of a level.
 fn put_far<K: Sink>(number: u64, level: Level, sink: &mut K) -> Result<(), SinkFault>
-    ensures { Puts K.holds K.faults K.wants sink.old sink.new result (cell number level) }
+    ensures { Puts K.holds K.faults K.wants sink.old sink.new result (cell_text number level) }
 {
     if level == 0 {
         return Ok(());
@@ -156,7 +156,7 @@ fn write_cell(
     requires width { width ≡ length (decimal number) + 1 }
     requires room { at + CELL_BYTES ≤ TEXT_ROOM }
     ensures end { result ≤ at + CELL_BYTES }
-    ensures text { take result text.new ≡ take at text.old ++ cell number level }
+    ensures text { take result text.new ≡ take at text.old ++ cell_text number level }
 {
     let middle = write_number(number, width, text, at);
     write_level(level, text, middle);

@@ -35,7 +35,7 @@ pub fn of_member(entry: &Member)
 }
 
 /// A row's dimmer and channel are at least 1, and its level is at most 255.
-pub fn of_row(row: &PatchRow)
+pub(crate) fn of_row(row: &PatchRow)
     ensures dimmer { InRange DIMMERS row.now.dimmer }
     ensures chan { InRange CHANNELS row.now.chan }
     ensures level { IsLevel row.now.level }

@@ -7,7 +7,7 @@ ghost use Rattle.lx_spec.specs.Undo.{UndoState, opened_with, with_show, replaced
 ghost use Rattle.lx_edit.specs.PlanMeaning.{IsReady, planned};
 ghost use Rattle.lx_undo.specs.UndoDeskMeaning.{UndoStands, UndoSteps, TakesUndoStep};
 
-use crate::history::History;
+use crate::history::UndoPlans;
 use lx_base::CueNo;
 use lx_console::Console;
 use lx_edit::Plan;
@@ -24,7 +24,7 @@ use std::marker::Model;
 #[derive(Drop)]
 pub struct UndoDesk {
     console: Console,
-    history: History,
+    history: UndoPlans,
 }
 
 impl Model for UndoDesk {
@@ -46,7 +46,7 @@ impl UndoDesk {
     {
         Ok(UndoDesk {
             console: Console::open(alloc, show)?,
-            history: History::open(alloc, depth)?,
+            history: UndoPlans::open(alloc, depth)?,
         })
     }
 

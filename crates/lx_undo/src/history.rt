@@ -12,12 +12,12 @@ use std::marker::Model;
 /// The plans that take edits and records back, the one for the oldest show first, and those that make again what was
 /// taken back, the next one first: at most this many in both together.
 #[derive(Drop)]
-pub(crate) struct History {
+pub(crate) struct UndoPlans {
     back: HeapCircularBuffer<Plan>,
     forth: HeapCircularBuffer<Plan>,
 }
 
-impl Model for History {
+impl Model for UndoPlans {
     ghost use Rattle.std.specs.Prelude.{};
     ghost use Rattle.lx_undo.specs.Shows.{KeptPlans, FitsIn};
 
@@ -28,12 +28,12 @@ impl Model for History {
     ghost invariant = { λ h. FitsIn h.back.items h.forth.items h.back.capacity h.forth.capacity };
 }
 
-impl History {
+impl UndoPlans {
     /// No plans, and room for this many. An error comes where memory runs out.
-    pub(crate) fn open(alloc: Global, depth: usize) -> Result<History, AllocError>
+    pub(crate) fn open(alloc: Global, depth: usize) -> Result<UndoPlans, AllocError>
         ensures { IfOk result (λ h. h ≡ record { back = []; forth = []; depth = depth }) }
     {
-        Ok(History {
+        Ok(UndoPlans {
             back: HeapCircularBuffer::with_capacity(alloc, depth)?,
             forth: HeapCircularBuffer::with_capacity(alloc, depth)?,
         })

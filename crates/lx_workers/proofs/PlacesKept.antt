@@ -8,7 +8,7 @@ use mathlib.Core.List.{IsPrefix}
 use Rattle.lx_io.specs.declared.sink.SinkFault.{SinkFault}
 use Rattle.lx_spec.specs.declared.Command.{Command}
 use Rattle.lx_spec.specs.Show.{Show}
-use Rattle.lx_gate.specs.Places.{EachAt}
+use Rattle.lx_base.specs.Places.{EachAt}
 use Rattle.lx_gate.specs.Readings.{Tapped}
 use Rattle.lx_gate.proofs.Prefixes.{prefix_get}
 use Rattle.lx_workers.specs.declared.worker.Served.{Served}

@@ -14,7 +14,7 @@ use Rattle.lx_gate.specs.Frames.{IsFrame}
 use Rattle.lx_gate.specs.Readings.{Tapped, newest}
 use Rattle.lx_gate.proofs.Prefixes.{prefix_self, prefix_trans}
 use Rattle.lx_workers.specs.declared.worker.Served.{Served}
-use Rattle.lx_workers.specs.Lines.{line, HasFault, HasWrittenPart}
+use Rattle.lx_workers.specs.Lines.{stamped_line, HasFault, HasWrittenPart}
 use Rattle.lx_workers.specs.Works.{HasServed, HasStepped}
 use Rattle.lx_workers.proofs.WrittenLines.{goes_on, adds_line, adds_part, last_stays, none_written}
 use Rattle.lx_workers.proofs.TapSteps.{HasTaken, count_on, takes_on}
@@ -103,7 +103,7 @@ pub stepped_line : {K : Type 0} (holds : K → Option (List ℕ)) (back : K → 
     (served : Served) (slots : List ℕ) (stamp : Stamp)
     → served.fault ≡ None → tap'.universe ≡ tap.universe → IsPrefix (newest tap.told) (newest tap'.told) → HasTaken tap.told tap'.told
     → IsFrame show (newest tap'.told) tap.universe slots stamp → IfSome served.last (λ n. n < stamp.count)
-    → Appends (holds sink) (holds sink') (line tap.universe slots stamp) → faults sink' ≡ faults sink → wants sink' ≡ wants sink
+    → Appends (holds sink) (holds sink') (stamped_line tap.universe slots stamp) → faults sink' ≡ faults sink → wants sink' ≡ wants sink
     → back sink' ≡ []
     → HasStepped holds back faults wants show tap tap' sink sink' served
     (record served { takes = one_more served.takes; taken = min (served.taken + 1) (2 ^ 64 - 1); last = Some stamp.count })
@@ -112,7 +112,7 @@ stepped_line holds back faults wants show tap tap' sink sink' served slots stamp
     written = λ e. adds_line show start.universe (holds from) (holds sink) (holds sink') (newest tap.told) (newest tap'.told) served.taken
         served.last slots stamp p
         (subst (λ (n : ℕ). IsFrame show (newest tap'.told) n slots stamp) h.same_universe frame)
-        (subst (λ (n : ℕ). Appends (holds sink) (holds sink') (line n slots stamp)) h.same_universe text) fresh (h.written none);
+        (subst (λ (n : ℕ). Appends (holds sink) (holds sink') (stamped_line n slots stamp)) h.same_universe text) fresh (h.written none);
     part = λ f e. cc;
     cause = subst (λ (o : Option SinkFault). HasFault faults wants from sink' o) (sym none)
         (fault_none faults wants from sink sink' (subst (λ (o : Option SinkFault). HasFault faults wants from sink o) none h.cause) kept
@@ -137,7 +137,7 @@ pub stepped_fault : {K : Type 0} (holds : K → Option (List ℕ)) (back : K →
     (served : Served) (slots : List ℕ) (stamp : Stamp) (fault : SinkFault)
     → served.fault ≡ None → tap'.universe ≡ tap.universe → IsPrefix (newest tap.told) (newest tap'.told) → HasTaken tap.told tap'.told
     → IsFrame show (newest tap'.told) tap.universe slots stamp → IfSome served.last (λ n. n < stamp.count)
-    → Puts {T = Unit {0}} holds faults wants sink sink' (Err fault) (line tap.universe slots stamp)
+    → Puts {T = Unit {0}} holds faults wants sink sink' (Err fault) (stamped_line tap.universe slots stamp)
     → HasStepped holds back faults wants show tap tap' sink sink' served (record served { takes = one_more served.takes; fault = Some fault })
 stepped_fault holds back faults wants show tap tap' sink sink' served slots stamp fault none u p t frame fresh puts = record {
   serves = λ start from h. record {
@@ -147,7 +147,7 @@ stepped_fault holds back faults wants show tap tap' sink sink' served slots stam
         (adds_part holds faults wants show start.universe from sink sink' (newest tap.told) (newest tap'.told) served.taken served.last
         slots stamp fault p
         (subst (λ (n : ℕ). IsFrame show (newest tap'.told) n slots stamp) h.same_universe frame)
-        (subst (λ (n : ℕ). Puts {T = Unit {0}} holds faults wants sink sink' (Err fault) (line n slots stamp)) h.same_universe puts) fresh
+        (subst (λ (n : ℕ). Puts {T = Unit {0}} holds faults wants sink sink' (Err fault) (stamped_line n slots stamp)) h.same_universe puts) fresh
         (h.written none));
     cause = fault_then faults wants from sink sink' (Some fault)
         (subst (λ (o : Option SinkFault). HasFault faults wants from sink o) none h.cause)

@@ -17,7 +17,7 @@ use Rattle.lx_gate.specs.declared.stamp.Stamp.{Stamp}
 use Rattle.lx_gate.specs.Frames.{IsFrame, frame_after, moment_after}
 use Rattle.lx_gate.proofs.Prefixes.{prefix_self, prefix_trans, prefix_length}
 use Rattle.lx_spec.specs.Versions.{outlet_text, Older, Falling}
-use Rattle.lx_workers.specs.Lines.{line, newest_count, HasWritten, HasWrittenPart}
+use Rattle.lx_workers.specs.Lines.{stamped_line, newest_count, HasWritten, HasWrittenPart}
 
 versions-append : (show : Show) (u : ℕ) (xs ys : List (List Command))
     → versions_text show u (xs ++ ys) ≡ versions_text show u xs ++ versions_text show u ys
@@ -33,8 +33,8 @@ lines-newest show u list lists = ap (versions_text show u) (reverse-cons list li
 
 -- the line of a version
 line_is : (show : Show) (u : ℕ) (list : List Command) (slots : List ℕ) (stamp : Stamp) → IsFrame show list u slots stamp
-    → line u slots stamp ≡ version_text show u list
-unfolding line frame_after moment_after
+    → stamped_line u slots stamp ≡ version_text show u list
+unfolding stamped_line frame_after moment_after
 line_is show u list slots stamp frame = rw (frame.slots_are, frame.count_is, frame.moment_is) refl
 
 pub falls_on : (top top' : List Command) → IsPrefix top top' → (lists : List (List Command)) → Falling top lists → Falling top' lists
@@ -65,7 +65,7 @@ chain_on show u before after top top' taken last count p is fresh h =
 -- the line of a longer list was added
 pub adds_line : (show : Show) (u : ℕ) (before after after' : Option (List ℕ)) (top top' : List Command) (taken : ℕ) (last : Option ℕ)
     (slots : List ℕ) (stamp : Stamp) → IsPrefix top top'
-    → IsFrame show top' u slots stamp → Appends after after' (line u slots stamp) → IfSome last (λ n. n < stamp.count)
+    → IsFrame show top' u slots stamp → Appends after after' (stamped_line u slots stamp) → IfSome last (λ n. n < stamp.count)
     → HasWritten show u before after top taken last → HasWritten show u before after' top' (min (taken + 1) (2 ^ 64 - 1)) (Some stamp.count)
 adds_line show u before after after' top top' taken last slots stamp p frame is fresh h =
     let added : Appends after after' (version_text show u top') =
@@ -96,7 +96,7 @@ front_of show u before after after' list lists h k =
 pub adds_part : {K : Type 0} (holds : K → Option (List ℕ)) (faults wants : K → ℕ) (show : Show) (u : ℕ) (from sink sink' : K)
     (top top' : List Command) (taken : ℕ) (last : Option ℕ) (slots : List ℕ) (stamp : Stamp) (fault : SinkFault)
     → IsPrefix top top' → IsFrame show top' u slots stamp
-    → Puts {T = Unit {0}} holds faults wants sink sink' (Err fault) (line u slots stamp) → IfSome last (λ n. n < stamp.count)
+    → Puts {T = Unit {0}} holds faults wants sink sink' (Err fault) (stamped_line u slots stamp) → IfSome last (λ n. n < stamp.count)
     → HasWritten show u (holds from) (holds sink) top taken last → HasWrittenPart holds faults wants show u from sink' top' fault
 adds_part {K = K} holds faults wants show u from sink sink' top top' taken last slots stamp fault p frame is fresh h =
     let stopped : Puts {T = Unit {0}} holds faults wants sink sink' (Err fault) (version_text show u top') =

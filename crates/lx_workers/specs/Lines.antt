@@ -13,8 +13,8 @@ use Rattle.lx_spec.specs.Versions.{outlet_text, version_text, Falling}
 use Rattle.lx_gate.specs.declared.stamp.Stamp.{Stamp}
 
 -- the line of these slots under this stamp
-unfoldable pub line : ℕ → List ℕ → Stamp → List ℕ
-line universe slots stamp = frame_text (decimal stamp.count ∷ []) stamp.moment universe slots
+unfoldable pub stamped_line : ℕ → List ℕ → Stamp → List ℕ
+stamped_line universe slots stamp = frame_text (decimal stamp.count ∷ []) stamp.moment universe slots
 
 -- the number of commands of the newest list
 abbrev pub newest_count : List (List Command) → Option ℕ

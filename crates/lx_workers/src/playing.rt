@@ -10,7 +10,7 @@ ghost use Rattle.lx_console.specs.ConsoleMeaning.{StandsFor};
 ghost use Rattle.lx_session.specs.SessionOutcome.{HasSessionCause, KeepsLimit};
 ghost use Rattle.lx_gate.specs.Gates.{Published};
 ghost use Rattle.lx_gate.specs.Desks.{IsInStep};
-ghost use Rattle.lx_gate.specs.Places.{EachAt};
+ghost use Rattle.lx_base.specs.Places.{EachAt};
 ghost use Rattle.lx_gate.specs.Readings.{IsNewTap};
 ghost use Rattle.lx_io.specs.declared.sink.SinkFault.{SinkFault};
 ghost use Rattle.lx_workers.specs.Engines.{HasRunFrom};

@@ -4,7 +4,7 @@ ghost use mathlib.Core.List.{IsPrefix};
 ghost use Rattle.lx_io.specs.Causes.{Rose};
 ghost use Rattle.lx_io.specs.Puts.{Puts};
 ghost use Rattle.lx_gate.specs.Readings.{newest};
-ghost use Rattle.lx_workers.specs.Lines.{line};
+ghost use Rattle.lx_workers.specs.Lines.{stamped_line};
 ghost use Rattle.lx_workers.specs.Works.{HasServed, HasStepped, HasLooked};
 
 use crate::Halt;
@@ -101,14 +101,14 @@ pub(crate) fn step<P: Port, K: Sink, C: Pace>(
 }
 
 /// Appends the line of a version, and has the sink hand on what it keeps back.
-#[tactic(auto, using(lx_io::proofs::Chain::puts), unfolding(crate::specs::Lines::line))]
+#[tactic(auto, using(lx_io::proofs::Chain::puts), unfolding(crate::specs::Lines::stamped_line))]
 fn put_line<K: Sink>(
     universe: u8,
     slots: &[u8; 512],
     stamp: Stamp,
     sink: &mut K,
 ) -> Result<(), SinkFault>
-    ensures puts { Puts K.holds K.faults K.wants sink.old sink.new result (line universe slots.now stamp) }
+    ensures puts { Puts K.holds K.faults K.wants sink.old sink.new result (stamped_line universe slots.now stamp) }
     ensures handed_on { OnOk result (K.back sink.new ≡ []) }
 {
     put_frame(Some(stamp.count), stamp.moment, universe, slots, sink)?;

@@ -6,7 +6,8 @@ use Rattle.lx_crew.specs.declared.rule.View.{View}
 use Rattle.lx_crew.specs.Rule.{engine_view, operator_view}
 use Rattle.lx_crew.specs.OperatorWorks.{Hired}
 use Rattle.lx_crew.proofs.Rules.{forks}
-use Rattle.lx_crew.proofs.Works.{each_snoc, get_else, some_there, not_none, source_is}
+use Rattle.lx_base.proofs.Places.{each_snoc}
+use Rattle.lx_crew.proofs.Works.{get_else, some_there, not_none, source_is}
 use Rattle.lx_crew.proofs.running.hire.Goals as goal
 
 made_more : (v w : View) (n : ℕ) → v ≡ engine_view n [] [] → w ≡ record v { made = v.made + 1 } → w ≡ engine_view (n + 1) [] []

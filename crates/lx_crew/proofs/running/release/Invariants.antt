@@ -1,7 +1,8 @@
 use Rattle.std.proofs.Common.{◌≡◌, ◌≤◌, ◌<◌, ℕ, List, ◌++◌, length, map, slice_get, Some, vec_len}
 use Rattle.crossbeam_queue.specs.Passes.{view, IsPassOf, IsSamePass}
 use Rattle.lx_crew.specs.declared.entry.Entry.{Entry}
-use Rattle.lx_crew.specs.OperatorWorks.{EachAt, Works, owned}
+use Rattle.lx_base.specs.Places.{EachAt}
+use Rattle.lx_crew.specs.OperatorWorks.{Works, owned}
 use Rattle.lx_crew.proofs.running.release.Given as goal
 
 abbrev pub invariant-loop-work : goal.invariant-loop-work

@@ -1,7 +1,8 @@
 use Rattle.std.proofs.Common.{◌+◌, ◌∷◌, [], length, length-append, arith, sym, ap, ◌∙◌}
 use Rattle.lx_gate.specs.Readings.{IsNewTap}
 use Rattle.lx_gate.proofs.DarkDesk.{dark}
-use Rattle.lx_gate.proofs.FirstVersion.{first_frame, each_snoc, new_tap}
+use Rattle.lx_base.proofs.Places.{each_snoc}
+use Rattle.lx_gate.proofs.FirstVersion.{first_frame, new_tap}
 use Rattle.lx_gate.proofs.start.fill.Goals as goal
 
 pub new-requires-clause-opening : goal.new-requires-clause-opening

@@ -1,5 +1,5 @@
 use Rattle.std.proofs.Common.{◌++◌, ◌+◌, ◌∙◌, ap, sym, get_or, arith}
-use Rattle.lx_script.specs.Cells.{cell}
+use Rattle.lx_script.specs.Cells.{cell_text}
 use Rattle.lx_script.proofs.Texts.{cells_next}
 use Rattle.lx_script.proofs.cells.write_cells.Goals as goal
 
@@ -7,6 +7,6 @@ pub loop-at-preserved : goal.loop-at-preserved
 loop-at-preserved c = record {
   room = omega arith;
   text = c.write_cell-end.ensures.text
-      ∙ ap (λ text. text ++ cell (c.args.number + c.loop-at.at) (get_or c.args.levels.now c.loop-at.at 0)) c.loop-at.invariant.text
+      ∙ ap (λ text. text ++ cell_text (c.args.number + c.loop-at.at) (get_or c.args.levels.now c.loop-at.at 0)) c.loop-at.invariant.text
       ∙ sym (cells_next c.args.number c.loop-at.at c.args.levels.now c.loop-at-test.true);
 }
