@@ -36,7 +36,8 @@ CueNumber = Union[str, int, float, Decimal]
 
 # The version of the header that this was written from.
 _VERSION = 1
-_ROOM = 1 << 16
+_ROOM = ctypes.c_size_t(1 << 16)
+_SLOTS = ctypes.c_size_t(SLOTS)
 _CUE_MAX = 9_999_999
 _OK, _CLOSED, _OPEN, _MEMORY, _SHOW_REFUSED, _TOO_LONG, _NOT_A_LINE, _OUT_OF_RANGE, _QUIT, _AT_END, _MORE = range(11)
 _CAUSES = ["", "NoIdent", "BadNumber", "OutOfRange", "NotInRecord", "LineTooLong", "ShortList", "NoEndData"]
@@ -138,31 +139,14 @@ class _Playback(ctypes.Structure):
 
 
 def _loaded() -> ctypes.CDLL:
-    """The library, with the types of its calls."""
+    """The library, with the types of its calls' answers. Those of arguments aren't told, since looking at them takes longer than a call: a
+    size is passed as a c_size_t, anything else by its address or as an int of 32 bits."""
     here = os.path.dirname(os.path.abspath(__file__))
     places = [os.path.join(here, "libcuedesk.so.1"), os.path.join(os.path.dirname(here), "libcuedesk.so.1")]
     given = os.environ.get("CUEDESK_LIBRARY")
     library = ctypes.CDLL(given or next(filter(os.path.exists, places), "libcuedesk.so.1"))
-    word, size, byte, room = ctypes.c_uint32, ctypes.c_size_t, ctypes.c_uint8, ctypes.c_void_p
-    desk, text = ctypes.POINTER(_Desk), ctypes.c_char_p
-    calls: Dict[str, list] = {
-        "version": [],
-        "open": [desk, text, size, ctypes.c_bool, ctypes.POINTER(_Report)],
-        "open_undo": [desk, text, size, ctypes.c_bool, word, ctypes.POINTER(_Report)],
-        "close": [desk],
-        "command": [desk, text, size, room, size, ctypes.POINTER(size)],
-        "reply": [desk, size, room, size, ctypes.POINTER(size)],
-        "tick": [desk, word, ctypes.POINTER(word)],
-        "frame": [desk, word, room, size],
-        "changed": [desk, word, ctypes.POINTER(ctypes.c_bool)],
-        "level": [desk, word, ctypes.POINTER(byte)],
-        "tracked": [desk, word, word, ctypes.POINTER(byte)],
-        "fader": [desk, word, ctypes.POINTER(byte)],
-        "state": [desk, ctypes.POINTER(_Playback)],
-    }
-    for name, types in calls.items():
-        call = getattr(library, f"cuedesk_{name}")
-        call.argtypes, call.restype = types, None if name == "close" else word
+    for name in ("version", "open", "open_undo", "close", "command", "reply", "tick", "frame", "changed", "level", "tracked", "fader", "state"):
+        getattr(library, f"cuedesk_{name}").restype = None if name == "close" else ctypes.c_uint32
     if library.cuedesk_version() != _VERSION:
         raise ImportError(f"libcuedesk has version {library.cuedesk_version()}, and {_VERSION} is wanted")
     return library
@@ -211,16 +195,17 @@ class Desk:
         """
         self._desk = _Desk()
         self._at = ctypes.byref(self._desk)
-        self._room = ctypes.create_string_buffer(_ROOM)
+        self._room = ctypes.create_string_buffer(_ROOM.value)
         self._slots = ctypes.create_string_buffer(SLOTS)
         self._len, self._count, self._byte, self._flag = ctypes.c_size_t(), ctypes.c_uint32(), ctypes.c_uint8(), ctypes.c_bool()
         self._len_at, self._count_at = ctypes.byref(self._len), ctypes.byref(self._count)
         self._ended = False
         text, report = _bytes_of(show_text), _Report()
+        size = ctypes.c_size_t(len(text))
         if undo is None:
-            status = _LIBRARY.cuedesk_open(self._at, text, len(text), states, ctypes.byref(report))
+            status = _LIBRARY.cuedesk_open(self._at, text, size, bool(states), ctypes.byref(report))
         elif 0 <= undo < 1 << 32:
-            status = _LIBRARY.cuedesk_open_undo(self._at, text, len(text), states, undo, ctypes.byref(report))
+            status = _LIBRARY.cuedesk_open_undo(self._at, text, size, bool(states), undo, ctypes.byref(report))
         else:
             raise ValueError(f"undo={undo}: no depth")
         if status == _SHOW_REFUSED:
@@ -273,7 +258,7 @@ class Desk:
 
     def frame(self, universe: int = 1) -> bytes:
         """The 512 slots of a universe, 1 to 32, at the present moment. They are taken, as `changed` understands it."""
-        status = _LIBRARY.cuedesk_frame(self._at, _number(universe), self._slots, SLOTS)
+        status = _LIBRARY.cuedesk_frame(self._at, _number(universe), self._slots, _SLOTS)
         if status:
             raise self._fault(status, f"universe {universe}")
         return self._slots.raw
@@ -331,7 +316,7 @@ class Desk:
 
     def _reply_to(self, line: bytes) -> bytes:
         """The bytes of the reply to a line."""
-        status = _LIBRARY.cuedesk_command(self._at, line, len(line), self._room, _ROOM, self._len_at)
+        status = _LIBRARY.cuedesk_command(self._at, line, ctypes.c_size_t(len(line)), self._room, _ROOM, self._len_at)
         if status == _QUIT:
             self._ended = True
             return b""
@@ -344,7 +329,7 @@ class Desk:
     def _rest_of(self, length: int) -> bytes:
         """All bytes of a reply, of which the first stand in the room."""
         whole = ctypes.create_string_buffer(length)
-        status = _LIBRARY.cuedesk_reply(self._at, 0, whole, length, self._len_at)
+        status = _LIBRARY.cuedesk_reply(self._at, ctypes.c_size_t(0), whole, ctypes.c_size_t(length), self._len_at)
         if status:
             raise self._fault(status)
         return whole.raw

@@ -15,6 +15,7 @@ use Rattle.lx_session.specs.LineAnswer.{LineAnswer}
 use Rattle.lx_session.specs.OneAnswer.{OneAnswer}
 use Rattle.lx_embed.specs.declared.reply.ReplyText.{ReplyText}
 use Rattle.lx_embed.specs.Answered.{AnswersLine}
+use Rattle.lx_embed.specs.ReplyBytes.{reply_bytes}
 
 on_ok : {A E P Q : Type 0} (r : Result A E) → OnOk r P → (P → Q) → OnOk r Q
 on_ok (Ok x) p f = f p
@@ -26,7 +27,7 @@ on_err (Err e) p f = f p
 
 -- what a reply holds, and how often it wanted memory
 abbrev pub holds : ReplyText → Option (List ℕ)
-holds s = Some s.bytes.items
+holds s = Some (reply_bytes s)
 
 abbrev pub faults : ReplyText → ℕ
 faults s = 0
@@ -36,18 +37,18 @@ wants s = s.wants
 
 -- a line that was answered from the empty reply on
 pub line_answered : (by : Answering (List ℕ)) (Stands : by.State → Type 0) (state : by.State) (line : List ℕ)
-    (sink sink' : ReplyText) (result : Result Bool SinkFault) (tally : Tally) → sink.bytes.items ≡ []
+    (sink sink' : ReplyText) (result : Result Bool SinkFault) (tally : Tally) → reply_bytes sink ≡ []
     → OneAnswer by holds faults wants sink sink' result (begin_at state) line Stands tally
-    → IfOk result (λ more. more ≡ not (ends_script line)) → AnswersLine by Stands state line result sink'.bytes.items
+    → IfOk result (λ more. more ≡ not (ends_script line)) → AnswersLine by Stands state line result (reply_bytes sink')
 line_answered by Stands state line sink sink' result tally empty told more =
-    let whole : sink.bytes.items ++ told.reply ≡ told.next.text = ap (λ (xs : List ℕ). xs ++ told.reply) empty ∙ sym told.text in
+    let whole : reply_bytes sink ++ told.reply ≡ told.next.text = ap (λ (xs : List ℕ). xs ++ told.reply) empty ∙ sym told.text in
     record {
       next = told.next;
       failed = told.failed;
       goes_on = told.goes_on;
       stands = told.stands;
       text = on_ok result told.puts.whole (λ appended. appended ∙ whole);
-      front = on_err result told.puts.part (λ part. subst (λ (xs : List ℕ). StartsWith xs sink'.bytes.items) whole part.1);
+      front = on_err result told.puts.part (λ part. subst (λ (xs : List ℕ). StartsWith xs (reply_bytes sink')) whole part.1);
       more = more;
     }
 

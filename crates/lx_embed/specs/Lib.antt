@@ -1,3 +1,4 @@
+pub mod ReplyBytes
 pub mod Engines
 pub mod Answered
 pub mod Opened

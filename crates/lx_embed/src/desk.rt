@@ -12,6 +12,7 @@ ghost use Rattle.lx_console.specs.ConsoleMeaning.{StandsFor};
 ghost use Rattle.lx_embed.specs.Answered.{Answered};
 ghost use Rattle.lx_embed.specs.Engines.{console_of};
 ghost use Rattle.lx_embed.specs.Opened.{OpensText, RefusesShow};
+ghost use Rattle.lx_embed.specs.ReplyBytes.{reply_bytes};
 ghost use Rattle.lx_embed.specs.TakenSlots.{taken_of};
 ghost use Rattle.lx_embed.specs.Told.{Stands, Ticked};
 
@@ -62,7 +63,7 @@ impl HostDesk {
     ///
     /// A fault comes only where memory ran out for the reply: the line was done, and of its reply a front is kept.
     pub fn command(&mut self, line: &[u8]) -> Result<bool, SinkFault>
-        ensures answered { Answered self.old.engine self.new.engine line.now result self.new.reply.bytes.items }
+        ensures answered { Answered self.old.engine self.new.engine line.now result (reply_bytes self.new.reply) }
         ensures taken { self.new.taken ≡ self.old.taken }
     {
         self.engine.answer(line, &mut self.reply)
@@ -70,9 +71,9 @@ impl HostDesk {
 
     /// The reply to the last line.
     pub fn reply(&self) -> &[u8]
-        ensures { result.now ≡ self.now.reply.bytes.items }
+        ensures { result.now ≡ reply_bytes self.now.reply }
     {
-        self.reply.bytes.as_slice()
+        self.reply.as_slice()
     }
 
     /// Lets this many ticks go by, and says how many were accepted: all of them, unless the moment comes to its end.

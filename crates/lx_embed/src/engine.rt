@@ -11,6 +11,7 @@ ghost use Rattle.lx_console.specs.ConsoleMeaning.{StandsFor};
 ghost use Rattle.lx_undo.specs.UndoDeskMeaning.{UndoStands};
 ghost use Rattle.lx_embed.specs.Answered.{Answered, AnswersLine};
 ghost use Rattle.lx_embed.specs.Engines.{console_of, OpenedAs};
+ghost use Rattle.lx_embed.specs.ReplyBytes.{reply_bytes};
 ghost use Rattle.lx_embed.specs.Told.{Ticked};
 
 use crate::reply::ReplyText;
@@ -56,7 +57,7 @@ impl Engine {
     ///
     /// A fault comes only where memory ran out for the reply: the line was done, and of its reply a front is kept.
     pub(crate) fn answer(&mut self, line: &[u8], reply: &mut ReplyText) -> Result<bool, SinkFault>
-        ensures { Answered self.old self.new line.now result reply.new.bytes.items }
+        ensures { Answered self.old self.new line.now result (reply_bytes reply.new) }
     {
         reply.clear();
         match self {
@@ -86,9 +87,9 @@ fn answer_plain(
     line: &[u8],
     reply: &mut ReplyText,
 ) -> Result<bool, SinkFault>
-    requires { reply.old.bytes.items ≡ [] }
+    requires { reply_bytes reply.old ≡ [] }
     ensures { (d : Desk) → StandsFor d console.old
-        → AnswersLine (desk_answering true) (λ next. StandsFor next.desk console.new) (begun d) line.now result reply.new.bytes.items }
+        → AnswersLine (desk_answering true) (λ next. StandsFor next.desk console.new) (begun d) line.now result (reply_bytes reply.new) }
 {
     let mut tally = Tally::new();
     answer(&mut NoListener, console, Some(line), reply, &mut tally)
@@ -96,9 +97,9 @@ fn answer_plain(
 
 /// Does one line of the script of a desk with a history, whose reply is appended.
 fn answer_undo(desk: &mut UndoDesk, line: &[u8], reply: &mut ReplyText) -> Result<bool, SinkFault>
-    requires { reply.old.bytes.items ≡ [] }
+    requires { reply_bytes reply.old ≡ [] }
     ensures { (s : UndoState) → UndoStands s desk.old
-        → AnswersLine undo_answering (λ next. UndoStands next desk.new) s line.now result reply.new.bytes.items }
+        → AnswersLine undo_answering (λ next. UndoStands next desk.new) s line.now result (reply_bytes reply.new) }
 {
     let mut tally = Tally::new();
     desk.answer(Some(line), reply, &mut tally)

@@ -19,6 +19,7 @@ use Rattle.lx_embed.specs.declared.state.PlaybackState.{PlaybackState}
 use Rattle.lx_embed.specs.Answered.{Answered}
 use Rattle.lx_embed.specs.Engines.{console_of}
 use Rattle.lx_embed.specs.Opened.{OpensText}
+use Rattle.lx_embed.specs.ReplyBytes.{reply_bytes}
 use Rattle.lx_embed.specs.TakenSlots.{taken_of}
 use Rattle.lx_embed.specs.Told.{Stands, Ticked}
 use Rattle.lx_host.specs.declared.status.PlaybackReport.{PlaybackReport}
@@ -58,11 +59,11 @@ pub record DidLine (status : ℕ) (before now : HostDesk) (line : List ℕ) (roo
   pub answer : Result Bool SinkFault
   pub fits : Bool
   pub told : status ≡ tells answer fits
-  pub whole : (fits ≡ true) ↔ (length now.reply.bytes.items ≤ length room)
-  pub answers : Answered before.engine now.engine line answer now.reply.bytes.items
+  pub whole : (fits ≡ true) ↔ (length (reply_bytes now.reply) ≤ length room)
+  pub answers : Answered before.engine now.engine line answer (reply_bytes now.reply)
   pub taken : now.taken ≡ before.taken
-  pub length_told : count ≡ length now.reply.bytes.items
-  pub front : take (min count (length room)) room ≡ take (min count (length room)) now.reply.bytes.items
+  pub length_told : count ≡ length (reply_bytes now.reply)
+  pub front : take (min count (length room)) room ≡ take (min count (length room)) (reply_bytes now.reply)
 
 -- the line was done on an open desk
 abbrev pub Did : ℕ → Option HostDesk → List ℕ → Option HostDesk → List ℕ → ℕ → Type 0

@@ -14,6 +14,7 @@ ghost use Rattle.std.specs.Prelude.{◌≡◌, ◌≢◌, ◌≤◌, ◌<◌, �
 ghost use Rattle.lx_base.specs.declared.TheConstants.{CUE_MAX, INPUT_BYTES, SUBS, UNIVERSES, UNIVERSE_SLOTS};
 ghost use Rattle.lx_embed.specs.Answered.{is_bare};
 ghost use Rattle.lx_embed.specs.Opened.{RefusesShow};
+ghost use Rattle.lx_embed.specs.ReplyBytes.{reply_bytes};
 ghost use Rattle.lx_host.specs.declared.status.TheConstants.{OK, CLOSED, OPEN, SHOW_REFUSED, TOO_LONG, NOT_A_LINE, AT_END, OUT_OF_RANGE, VERSION};
 ghost use Rattle.lx_host.specs.Calls.{form_of_flag, tells, OpensDesk, Opens, Refused, Did, HasPart, Ticks, IsOver, ShowsFrame};
 ghost use Rattle.lx_host.specs.Calls.{IsChannel, TellsChange, TellsLevel, TellsTracked, TellsFader, TellsState};
@@ -195,7 +196,7 @@ pub extern "C" fn cuedesk_reply(
     out: &mut [u8],
     len: &mut usize,
 ) -> u32
-    ensures part { IfSome desk.old.handle.held (λ host. (result ≡ OK) × HasPart host.reply.bytes.items from out.new len.new) }
+    ensures part { IfSome desk.old.handle.held (λ host. (result ≡ OK) × HasPart (reply_bytes host.reply) from out.new len.new) }
     ensures closed { desk.old.handle.held ≡ None → (result ≡ CLOSED) × (out.new ≡ out.old) }
     ensures same { desk.new.handle.held ≡ desk.old.handle.held }
 {

@@ -6,6 +6,7 @@ ghost use Rattle.std.specs.Bool.{OnTrue};
 ghost use Rattle.std.specs.Io.KnownBytes.{Appends, Keeps};
 ghost use Rattle.lx_io.specs.Puts.{HasSinkCause, Puts};
 
+use crate::room::write_behind;
 use crate::{Sink, SinkFault, TEXT_ROOM, Text};
 use std::alloc::Global;
 
@@ -153,30 +154,6 @@ fn put_text_far<T: Text, K: Sink>(text: T, sink: &mut K) -> Result<(), SinkFault
     ensures { Puts K.holds K.faults K.wants sink.old sink.new result (T.bytes text) }
 {
     sink.put_text(&text)
-}
-
-/// Has a text write itself into room behind what is kept there, and says where it ends.
-#[tactic(auto, using(crate::proofs::Rooms::take_of_part))]
-#[inline(always)]
-fn write_behind<T: Text>(text: &T, room: &mut [u8], len: usize) -> usize
-    requires { len + TEXT_ROOM ≤ length room.old }
-    ensures within { result ≤ length room.old }
-    ensures text { take result room.new ≡ take len room.old ++ T.bytes text.now }
-{
-    len + write_text(text, &mut room[len..len + TEXT_ROOM])
-}
-
-/// Has a text write itself into a part of the room, and says where it ends there.
-#[inline(always)]
-fn write_text<T: Text>(text: &T, part: &mut [u8]) -> usize
-    requires { length part.old ≡ TEXT_ROOM }
-    ensures within { result ≤ TEXT_ROOM }
-    ensures text { take result part.new ≡ T.bytes text.now }
-{
-    match part.as_mut_array() {
-        Some(room) => text.write_into(room),
-        None => unreachable!(),
-    }
 }
 
 /// Hands bytes on until all of them are taken, or there is a fault. It says how many were taken.
