@@ -6,6 +6,8 @@
 # Run by hand on a quiet machine. `bench/live.sh files` instead plays 500 ticks by the program itself, into files, at its own pace.
 # `bench/live.sh pace [PROGRAM]` plays 3,000 ticks, a minute of show, at the program's own pace, alone and then beside two busy processes for each
 # processor, and says how late each moment of the show came by the machine's steady clock, beside the one that came earliest.
+# `bench/live.sh pipes [PROGRAM]` plays over 32 named pipes whose readers wait, in a fade of all slots: 50 ticks a second, and 500 masters a second,
+# since a tick keeps to its 20 ms. It says how long after a command's reply the whole line is at a reader (bench/outlets.c).
 set -eu
 top=$(cd "$(dirname "$0")/.." && pwd)
 copy=$(mktemp -d)
@@ -13,12 +15,14 @@ trap 'rm -rf "$copy"' EXIT
 python3 - "$copy" <<'PYTHON'
 import sys
 folder = sys.argv[1]
-head = ['IDENT 3:0', 'SET CHANNELS 2048']
-head += ['PATCH 1 ' + ' '.join('%d<%d@FL' % (1 + (d - 1) % 2048, d) for d in range(at, at + 64)) for at in range(1, 8193, 64)]
-head += ['CUE 1', 'UP 1:00'] + ['CHAN ' + ' '.join('%d@FL' % c for c in range(at, at + 64)) for at in range(1, 2049, 64)] + ['ENDDATA', 'go']
-for name, lines in (('live', ['tick'] * 3000), ('render', ['tick', 'frame'] * 3000), ('short', ['tick'] * 500)):
+def show(dimmers):
+    rows = ['PATCH 1 ' + ' '.join('%d<%d@FL' % (1 + (d - 1) % 2048, d) for d in range(at, at + 64)) for at in range(1, dimmers + 1, 64)]
+    moves = ['CHAN ' + ' '.join('%d@FL' % c for c in range(at, at + 64)) for at in range(1, 2049, 64)]
+    return ['IDENT 3:0', 'SET CHANNELS 2048', *rows, 'CUE 1', 'UP 1:00', *moves, 'ENDDATA']
+for name, dimmers, lines in (('live', 8192, ['go'] + ['tick'] * 3000), ('render', 8192, ['go'] + ['tick', 'frame'] * 3000),
+                             ('short', 8192, ['go'] + ['tick'] * 500), ('wide', 16384, [])):
     with open(folder + '/' + name, 'w') as out:
-        out.write('\n'.join(head + lines) + '\n')
+        out.write('\n'.join(show(dimmers) + lines) + '\n')
 PYTHON
 if [ "${1:-}" = files ]; then
     cd "$copy"
@@ -53,6 +57,15 @@ finally:
     for process in busy:
         process.kill()
 PYTHON
+    exit
+fi
+if [ "${1:-}" = pipes ]; then
+    program=$(realpath "${2:-$top/crates/cuedesk/out/cuedesk}")
+    cc -std=c99 -O2 -Wall -Wextra -o "$copy/outlets" "$top/bench/outlets.c"
+    echo 'ticks, 50 a second:'
+    mkdir "$copy/ticks" && (cd "$copy/ticks" && "$copy/outlets" "$program" "$copy/wide" 32 1000 20000 tick > told && cat told)
+    echo 'masters, 500 a second:'
+    mkdir "$copy/masters" && (cd "$copy/masters" && "$copy/outlets" "$program" "$copy/wide" 32 5000 2000 'master at 100' 'master at 99' > told && cat told)
     exit
 fi
 cp -a "$top/crates.txt" "$top/HANDLES" "$top/crates" "$copy"
