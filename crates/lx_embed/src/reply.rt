@@ -5,7 +5,6 @@ ghost use Rattle.std.specs.Prelude.{◌≡◌, ◌≤◌, ◌<◌, ◌+◌, ◌+
 ghost use Rattle.std.specs.Bool.{OnTrue};
 ghost use Rattle.std.specs.Io.KnownBytes.{WriteAppends, Keeps};
 ghost use Rattle.lx_io.specs.Puts.{HasSinkCause};
-ghost use Rattle.lx_embed.specs.ReplyBytes.{reply_bytes};
 
 use lx_io::{Sink, SinkFault, TEXT_ROOM, Text, write_behind};
 use std::alloc::Global;
@@ -25,6 +24,8 @@ pub struct ReplyText {
 }
 
 impl ReplyText {
+    ghost use Rattle.lx_embed.specs.ReplyBytes.{reply_bytes};
+
     /// The empty reply.
     pub(crate) fn new(alloc: Global) -> ReplyText
         ensures { reply_bytes result ≡ [] }
