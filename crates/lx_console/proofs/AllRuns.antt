@@ -1,21 +1,10 @@
 -- The console's levels and slots are those over all runs since the opening.
-use Rattle.std.specs.Prelude.{◌≡◌, ℕ, ◌+◌, ◌-◌, ◌*◌, ◌<◌, ◌≤◌, max, List, length, take, drop, map}
-use Rattle.std.specs.List.{range_with_len}
-use Rattle.std.proofs.Common.{arith, get_or, ◌∙◌, ap, sym, subst}
-use Rattle.std.proofs.lemmas.Grind.{common_steps}
-use Rattle.std.proofs.lemmas.List.{ext_get_or}
+use Rattle.lx_console.proofs.Imports.{◌≡◌, ℕ, ◌+◌, ◌-◌, ◌*◌, ◌<◌, ◌≤◌, max, List, length, take, drop, map, range_with_len, arith}
+use Rattle.lx_console.proofs.Imports.{get_or, ◌∙◌, ap, sym, subst, common_steps, ext_get_or, SLOTS, UNIVERSES, UNIVERSE_SLOTS, scaled, level}
+use Rattle.lx_console.proofs.Imports.{contribution, dimmer_value, out, frame, Desk, Kept, kept, KeepsRest, IsTable, StandsFor, level_now, out_now}
 use Rattle.std.proofs.lemmas.List.FromFn.{length-map-range_with_len, get_or-map-range_with_len}
-use Rattle.lx_base.specs.declared.TheConstants.{SLOTS, UNIVERSES, UNIVERSE_SLOTS}
-use Rattle.lx_base.specs.Numbers.{scaled}
-use Rattle.lx_spec.specs.Level.{level}
-use Rattle.lx_spec.specs.Output.{contribution, dimmer_value, out, frame}
-use Rattle.lx_spec.specs.Desk.{Desk}
-use Rattle.lx_spec.specs.Kept.{Kept, kept}
-use Rattle.lx_spec.specs.Laws.{KeepsRest}
 use Rattle.lx_spec.proofs.Rest.{level-rest}
-use Rattle.lx_mixer.specs.Table.{IsTable}
 use Rattle.lx_console.specs.Slots.{universe}
-use Rattle.lx_console.specs.ConsoleMeaning.{StandsFor, level_now, out_now}
 
 -- the live runs over the base give the level that all runs give
 pub over_all : (d : Desk) → KeepsRest d → (c : ℕ) → level_now (kept d) c ≡ level d.show 0 d.all c d.playback.moment

@@ -1,29 +1,15 @@
 -- Edited channels at which the playback doesn't look.
-use Rattle.std.proofs.Common.{◌≡◌, ℕ, ◌+◌, ◌<◌, ◌≤◌, inl, inr, Bool, true, false, cond, List, [], ◌∷◌, refl, ◌∙◌, sym, ap, subst, arith}
-use Rattle.std.specs.Prelude.{Option, Some, None, IfSome, option_map, option_and_then, is_some, unwrap_or, find, take, slice_index_or}
-use Rattle.std.specs.Prelude.{zero, suc, nat_lt, not, ◌||◌, ◌==◌, if◌then◌else◌}
-use Rattle.std.specs.Option.{option_map_or, IsSomeAnd}
-use Rattle.std.specs.List.{All}
-use Rattle.lx_spec.specs.declared.Move.{Move}
-use Rattle.lx_spec.specs.SortedList.{entry_at, entries_above}
-use Rattle.lx_spec.specs.Show.{Cue, Show, Valid}
-use Rattle.lx_spec.specs.TrackedLevel.{tracked, cue_of, move_in, decides}
-use Rattle.lx_spec.specs.EditedShow.{with_cue}
-use Rattle.lx_spec.specs.Run.{Run, first_entry}
-use Rattle.lx_spec.specs.Level.{level, last_cue}
-use Rattle.lx_spec.specs.Playback.{Playback}
+use Rattle.lx_console.proofs.Imports.{◌≡◌, ℕ, ◌+◌, ◌<◌, ◌≤◌, inl, inr, Bool, true, false, cond, List, [], ◌∷◌, refl, ◌∙◌, sym}
+use Rattle.lx_console.proofs.Imports.{ap, subst, arith, Option, Some, None, IfSome, option_map, option_and_then, is_some, unwrap_or, find, take, slice_index_or}
+use Rattle.lx_console.proofs.Imports.{zero, suc, nat_lt, not, ◌||◌, ◌==◌, if◌then◌else◌, option_map_or, IsSomeAnd, All, Move, entry_at}
+use Rattle.lx_console.proofs.Imports.{entries_above, Cue, Show, Valid, tracked, cue_of, move_in, decides, with_cue, Run, first_entry, level, last_cue, Playback}
+use Rattle.lx_console.proofs.Imports.{entry_at-placed_other, Plan, IsPast, IsReady, planned, KeptLevels as Levels, LevelsStandFor, StackStandsAt, PlacesCue}
+use Rattle.lx_console.proofs.Imports.{IsApart, IsUnseen, IsFrom, decided_at}
 use Rattle.lx_spec.proofs.Comparisons.{lt_from}
 use Rattle.lx_spec.proofs.Lists.{found_has, passes}
-use Rattle.lx_spec.proofs.SortedLists.{entry_at-placed_other}
-use Rattle.lx_edit.specs.declared.plans.Plan.{Plan}
-use Rattle.lx_edit.specs.CueChanges.{IsPast}
-use Rattle.lx_edit.specs.PlanMeaning.{IsReady, planned}
 use Rattle.lx_edit.proofs.ChangedColumns.{alike_past}
 use Rattle.lx_edit.proofs.Walks.{tracked_below-with_cue}
-use Rattle.lx_levels.specs.Stacks.{KeptLevels as Levels}
-use Rattle.lx_levels.specs.LevelsMeaning.{LevelsStandFor, StackStandsAt}
 use Rattle.lx_levels.specs.TimedFades.{timed_over}
-use Rattle.lx_console.specs.UnseenEdits.{PlacesCue, IsApart, IsUnseen, IsFrom, decided_at}
 
 -- a run of no use
 abbrev pub no_run : Run

@@ -1,22 +1,10 @@
 -- What an edit leaves as it was.
-use Rattle.std.specs.Prelude.{◌≡◌, ◌≢◌, ℕ, ◌+◌, ◌<◌, refl, Bool, false, Some, None, List, length}
-use Rattle.std.proofs.Common.{arith, ap, sym, ◌∙◌}
-use Rattle.lx_spec.specs.SortedList.{entry_at}
-use Rattle.lx_spec.specs.Show.{Show, Sub, InRange}
-use Rattle.lx_spec.specs.Output.{contribution}
+use Rattle.lx_console.proofs.Imports.{◌≡◌, ◌≢◌, ℕ, ◌+◌, ◌<◌, refl, Bool, false, Some, None, List, length, arith, ap, sym, ◌∙◌}
+use Rattle.lx_console.proofs.Imports.{entry_at, Show, Sub, InRange, contribution, Plan, KeepsOthers, IsReady, planned, dimmer_planned, plans_sub, has_chan}
+use Rattle.lx_console.proofs.Imports.{KeptLevels as Levels, LevelsStandFor, StackStandsAt, Playback, IsTable, others_stay, entry_at-placed_other}
 use Rattle.lx_spec.proofs.Columns.{level-columns}
-use Rattle.lx_edit.specs.declared.plans.Plan.{Plan}
 use Rattle.lx_edit.specs.declared.plans.Plan.TheVariants as plans
-use Rattle.lx_edit.specs.CueChanges.{KeepsOthers}
-use Rattle.lx_edit.specs.PlanMeaning.{IsReady, planned, dimmer_planned, plans_sub}
 use Rattle.lx_edit.specs.declared.chan_set.ChanSet.{ChanSet}
-use Rattle.lx_edit.specs.ChanSet.{has_chan}
-use Rattle.lx_levels.specs.Stacks.{KeptLevels as Levels}
-use Rattle.lx_levels.specs.LevelsMeaning.{LevelsStandFor, StackStandsAt}
-use Rattle.lx_spec.specs.Playback.{Playback}
-use Rattle.lx_mixer.specs.Table.{IsTable}
-use Rattle.lx_patch.proofs.Rows.{others_stay}
-use Rattle.lx_spec.proofs.SortedLists.{entry_at-placed_other}
 
 -- a plan leaves the channel count
 pub same_channels : (show : Show) (plan : Plan) → (planned show plan).channels ≡ show.channels

@@ -1,19 +1,8 @@
 -- An output shows a player when its outputs are mixed from the player's levels, and does so while nothing that goes out changes.
-use Rattle.std.specs.Prelude.{◌≡◌, ℕ, ◌+◌, ◌<◌, max, List, length, take, drop, ◌++◌}
-use Rattle.std.specs.List.{AllByRecursion}
-use Rattle.std.proofs.Common.{arith, ap, ◌∙◌, sym, subst}
-use Rattle.std.proofs.lemmas.Grind.{common_steps}
-use Rattle.lx_base.specs.Numbers.{scaled}
-use Rattle.lx_spec.specs.declared.PatchRow.{PatchRow}
-use Rattle.lx_spec.specs.Show.{ValidPatchRow}
-use Rattle.lx_spec.specs.Output.{contribution}
-use Rattle.lx_spec.specs.Kept.{Kept}
-use Rattle.lx_mixer.specs.Table.{IsTable}
-use Rattle.lx_patch.specs.DimmerTable.{StandsForPatch}
+use Rattle.lx_console.proofs.Imports.{◌≡◌, ℕ, ◌+◌, ◌<◌, max, List, length, take, drop, ◌++◌, AllByRecursion, arith, ap, ◌∙◌, sym}
+use Rattle.lx_console.proofs.Imports.{subst, common_steps, scaled, PatchRow, ValidPatchRow, contribution, Kept, IsTable, StandsForPatch, SamePatch, SameOutputs}
+use Rattle.lx_console.proofs.Imports.{level_now, out_now, Reaches, PatchesOwnChannels, SlotsStand, ShowsPlayer, IsMixedOutput}
 use Rattle.lx_console.specs.declared.kept_output.KeptOutput.{KeptOutput}
-use Rattle.lx_console.specs.Changes.{SamePatch, SameOutputs}
-use Rattle.lx_console.specs.ConsoleMeaning.{level_now, out_now}
-use Rattle.lx_console.specs.KeptOutput.{Reaches, PatchesOwnChannels, SlotsStand, ShowsPlayer, IsMixedOutput}
 
 -- a list written over the whole of another is itself
 pub written : (n : ℕ) (xs ys : List ℕ) → length xs ≡ n → take n (xs ++ drop (length xs) ys) ≡ xs

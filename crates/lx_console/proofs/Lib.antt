@@ -7,3 +7,4 @@ pub mod Obedience
 pub mod RunChanges
 pub mod PassedTicks
 pub mod Apart
+mod Imports

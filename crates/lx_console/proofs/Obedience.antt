@@ -1,28 +1,13 @@
 -- A console that stands for a desk obeys as the desk steps.
-use Rattle.std.specs.Prelude.{◌≡◌, ℕ, ◌-◌, List, [], ◌∷◌, ◌++◌, refl, Bool, true, false, cond, Result, Ok, Err, IsOk, slice_set, IsOkAnd}
-use Rattle.std.specs.Prelude.{IfOk, OnOk, OnErr, IfErr, MatchResult, IsTrue, IsFalse}
+use Rattle.lx_console.proofs.Imports.{◌≡◌, ℕ, ◌-◌, List, [], ◌∷◌, ◌++◌, refl, Bool, true, false, cond, Result, Ok, Err, IsOk, slice_set}
+use Rattle.lx_console.proofs.Imports.{IsOkAnd, IfOk, OnOk, OnErr, IfErr, MatchResult, IsTrue, IsFalse, ap, sym, subst, ◌∙◌, inl, inr, PlayKey, Command}
+use Rattle.lx_console.proofs.Imports.{Refusal, AbsentSub, ◌>>=◌, has_entry, Played, press, tick, edited, Desk, opened, step, after_play, after_command}
+use Rattle.lx_console.proofs.Imports.{replay, Kept, kept, KeepsRest, Show, kept-step, kept-replay, Plan, IsRefusal, planned, StandsFor, Obeys, Answers, Refuses}
 use Rattle.std.specs.Result.{result_unwrap_or}
-use Rattle.std.proofs.Common.{ap, sym, subst, ◌∙◌, inl, inr}
 use Rattle.std.proofs.lemmas.List.Sums.{fold-append}
 use Rattle.lx_spec.specs.declared.Edit.{Edit}
-use Rattle.lx_spec.specs.declared.PlayKey.{PlayKey}
 use Rattle.lx_spec.specs.declared.Key.TheVariants.{Play, Fader, Master}
-use Rattle.lx_spec.specs.declared.Command.{Command}
 use Rattle.lx_spec.specs.declared.Command.TheVariants as commands
-use Rattle.lx_spec.specs.declared.Refusal.{Refusal}
-use Rattle.lx_spec.specs.declared.Refusal.TheVariants.{AbsentSub}
-use Rattle.lx_spec.specs.FirstRefusal.{◌>>=◌}
-use Rattle.lx_spec.specs.SortedList.{has_entry}
-use Rattle.lx_spec.specs.Playback.{Played, press, tick}
-use Rattle.lx_spec.specs.EditedShow.{edited}
-use Rattle.lx_spec.specs.Desk.{Desk, opened, step, after_play, after_command, replay}
-use Rattle.lx_spec.specs.Kept.{Kept, kept}
-use Rattle.lx_spec.specs.Laws.{KeepsRest}
-use Rattle.lx_spec.specs.Show.{Show}
-use Rattle.lx_spec.proofs.RestKept.{kept-step, kept-replay}
-use Rattle.lx_edit.specs.declared.plans.Plan.{Plan}
-use Rattle.lx_edit.specs.PlanMeaning.{IsRefusal, planned}
-use Rattle.lx_console.specs.ConsoleMeaning.{StandsFor, Obeys, Answers, Refuses}
 
 -- a console that is all of a replayed desk but its list of runs stands for it
 pub stands_replay : (show : Show) (done : List Command) (console : Kept) → console ≡ kept (replay show done)

@@ -1,21 +1,9 @@
 -- What commands change of what goes out.
-use Rattle.std.specs.Prelude.{◌≡◌, ℕ, ◌+◌, ◌<◌, refl, Bool, true, false, Some, List}
-use Rattle.std.proofs.Common.{ap, sym, ◌∙◌, arith}
-use Rattle.lx_spec.specs.SortedList.{entry_at}
-use Rattle.lx_spec.specs.Show.{Show, Sub}
-use Rattle.lx_spec.specs.Output.{contribution}
-use Rattle.lx_spec.specs.Playback.{Playback}
-use Rattle.lx_spec.specs.Kept.{Kept}
-use Rattle.lx_edit.specs.declared.plans.Plan.{Plan}
+use Rattle.lx_console.proofs.Imports.{◌≡◌, ℕ, ◌+◌, ◌<◌, refl, Bool, true, false, Some, List, ap, sym, ◌∙◌, arith, entry_at, Show, Sub}
+use Rattle.lx_console.proofs.Imports.{contribution, Playback, Kept, Plan, IsReady, planned, dimmer_planned, plans_sub, KeptLevels as Levels, level_at}
+use Rattle.lx_console.proofs.Imports.{LevelsStandFor, kept_level, Change, SamePatch, Changes, of_levels, IsChangeOf}
 use Rattle.lx_edit.specs.declared.dirty.Dirty.{Dirty}
-use Rattle.lx_edit.specs.PlanMeaning.{IsReady, planned, dimmer_planned, plans_sub}
-use Rattle.lx_levels.specs.Stacks.{KeptLevels as Levels, level_at}
-use Rattle.lx_levels.specs.LevelsMeaning.{LevelsStandFor}
-use Rattle.lx_levels.proofs.Stands.{kept_level}
-use Rattle.lx_console.specs.declared.change.Change.{Change}
 use Rattle.lx_console.specs.declared.change.Change.TheVariants as changes
-use Rattle.lx_console.specs.Changes.{SamePatch, Changes, of_levels}
-use Rattle.lx_console.specs.KeptOutput.{IsChangeOf}
 use Rattle.lx_console.proofs.EditEffects.{same_channels, same_subs, same_patch, other_rows}
 
 -- the same show has the same channels and rows

@@ -1,17 +1,8 @@
 -- Ticks at which nothing but the moment changes are accepted one after another.
-use Rattle.std.specs.Prelude.{◌≡◌, ℕ, zero, suc, ◌+◌, ◌*◌, ◌<◌, Result, Ok, Err, IsOkAnd, IfOk}
-use Rattle.std.proofs.Common.{arith, ap, sym, subst, ◌∙◌}
-use Rattle.lx_base.specs.declared.TheConstants.{TICK_STEP}
+use Rattle.lx_console.proofs.Imports.{◌≡◌, ℕ, zero, suc, ◌+◌, ◌*◌, ◌<◌, Result, Ok, Err, IsOkAnd, IfOk, arith, ap, sym, subst, ◌∙◌}
+use Rattle.lx_console.proofs.Imports.{TICK_STEP, Refusal, ◌>>=◌, Playback, no_run, tick, Desk, step, after_play, Kept, kept, KeepsRest, kept-step}
+use Rattle.lx_console.proofs.Imports.{TicksPass, moments_later, StandsFor}
 use Rattle.lx_spec.specs.declared.Command.TheVariants as commands
-use Rattle.lx_spec.specs.declared.Refusal.{Refusal}
-use Rattle.lx_spec.specs.FirstRefusal.{◌>>=◌}
-use Rattle.lx_spec.specs.Playback.{Playback, no_run, tick}
-use Rattle.lx_spec.specs.Desk.{Desk, step, after_play}
-use Rattle.lx_spec.specs.Kept.{Kept, kept}
-use Rattle.lx_spec.specs.Laws.{KeepsRest}
-use Rattle.lx_spec.proofs.RestKept.{kept-step}
-use Rattle.lx_playback.specs.QuietTicks.{TicksPass, moments_later}
-use Rattle.lx_console.specs.ConsoleMeaning.{StandsFor}
 use Rattle.lx_console.specs.Ticks.{after_ticks}
 
 -- the console at a later moment

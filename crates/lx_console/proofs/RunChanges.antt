@@ -1,24 +1,10 @@
 -- What keys and ticks do to the live runs.
-use Rattle.std.specs.Prelude.{◌≡◌, ℕ, ◌+◌, Bool, true, false, cond, Option, Some, None, is_some, Result, Ok, Err, List, [], ◌∷◌, ◌==◌, refl}
-use Rattle.std.specs.Prelude.{IsTrue}
-use Rattle.std.specs.Option.{option_map_or}
-use Rattle.std.proofs.Common.{arith, ap, sym, ◌∙◌}
-use Rattle.lx_base.specs.declared.TheConstants.{TICK_END, TICK_STEP, BACK_TIME}
-use Rattle.lx_spec.specs.declared.PlayKey.{PlayKey}
+use Rattle.lx_console.proofs.Imports.{◌≡◌, ℕ, ◌+◌, Bool, true, false, cond, Option, Some, None, is_some, Result, Ok, Err, List, [], ◌∷◌}
+use Rattle.lx_console.proofs.Imports.{◌==◌, refl, IsTrue, option_map_or, arith, ap, sym, ◌∙◌, TICK_END, TICK_STEP, BACK_TIME, PlayKey, Refusal}
+use Rattle.lx_console.proofs.Imports.{NoCueAfter, NoCueBefore, PlaybackFull, TickLimit, ◌>>=◌, Cue, Show, cue_above, cue_below, Run, the_cue, Playback}
+use Rattle.lx_console.proofs.Imports.{Played, press, tick, ticked, followed, start_above, is_due, is_over, at_rest, rested, has_room, if_room, appended, run_of}
+use Rattle.lx_console.proofs.Imports.{run_whole, follow_of, position_of, comes_to_rest, KeptLevels as Levels, LevelsStandFor, StandsBefore, stands_over}
 use Rattle.lx_spec.specs.declared.PlayKey.TheVariants.{Go, Back, Goto, Settle}
-use Rattle.lx_spec.specs.declared.Refusal.{Refusal}
-use Rattle.lx_spec.specs.declared.Refusal.TheVariants.{NoCueAfter, NoCueBefore, PlaybackFull, TickLimit}
-use Rattle.lx_spec.specs.FirstRefusal.{◌>>=◌}
-use Rattle.lx_spec.specs.Show.{Cue, Show}
-use Rattle.lx_spec.specs.TrackedLevel.{cue_above, cue_below}
-use Rattle.lx_spec.specs.Run.{Run}
-use Rattle.lx_spec.specs.EditedShow.{the_cue}
-use Rattle.lx_spec.specs.Playback.{Playback, Played, press, tick, ticked, followed, start_above, is_due, is_over, at_rest, rested, has_room}
-use Rattle.lx_spec.specs.Playback.{if_room, appended, run_of, run_whole, follow_of, position_of}
-use Rattle.lx_playback.specs.Told.{comes_to_rest}
-use Rattle.lx_levels.specs.Stacks.{KeptLevels as Levels}
-use Rattle.lx_levels.specs.LevelsMeaning.{LevelsStandFor, StandsBefore}
-use Rattle.lx_levels.proofs.Stands.{stands_over}
 use Rattle.lx_console.specs.RunChanges.{IsStarted, IsSame, IsTicked}
 
 record IsFollowed (live : List Run) (base moment : ℕ) (played : Played) : Type 0 where

@@ -1,12 +1,7 @@
 -- The row of one dimmer is taken up into a table that has the others.
-use Rattle.std.specs.Prelude.{◌≡◌, ◌≢◌, ℕ, Some, None, List}
-use Rattle.std.proofs.Common.{arith, ap, sym, ◌∙◌, inl, inr}
+use Rattle.lx_console.proofs.Imports.{◌≡◌, ◌≢◌, ℕ, Some, None, List, arith, ap, sym, ◌∙◌, inl, inr, PatchRow, entry_at, placed, taken_out}
+use Rattle.lx_console.proofs.Imports.{DimmerTable, StandsForPatch, gone, others_stay, stands_alike, entry_at-placed_here, entry_at-placed_other, found_number}
 use Rattle.std.proofs.lemmas.Bool.{cases_order}
-use Rattle.lx_spec.specs.declared.PatchRow.{PatchRow}
-use Rattle.lx_spec.specs.SortedList.{entry_at, placed, taken_out}
-use Rattle.lx_patch.specs.DimmerTable.{DimmerTable, StandsForPatch}
-use Rattle.lx_patch.proofs.Rows.{gone, others_stay, stands_alike}
-use Rattle.lx_spec.proofs.SortedLists.{entry_at-placed_here, entry_at-placed_other, found_number}
 
 pub row_set : (rows before : List PatchRow) (d : ℕ) (row : PatchRow) (table : DimmerTable) → entry_at (λ x. x.dimmer) d rows ≡ Some row
     → ((e : ℕ) → e ≢ d → entry_at (λ x. x.dimmer) e rows ≡ entry_at (λ x. x.dimmer) e before)

@@ -1,37 +1,19 @@
 -- What is answered so far, and with one more entry.
-use Rattle.std.proofs.Common.{◌≡◌, inl, inr, ℕ, ◌+◌, Bool, false, true≢false, Option, Some, None, Result, Ok}
-use Rattle.std.proofs.Common.{Err, List, [], ◌∷◌, ◌++◌, length, take, drop, take-append-drop, refl, sym, ap, ◌∙◌, subst, append-nil}
-use Rattle.std.proofs.Common.{append_assoc, arith, length-append}
-use Rattle.std.specs.Prelude.{IfSome, is_some}
+use Rattle.lx_crew.proofs.Imports.{◌≡◌, inl, inr, ℕ, ◌+◌, Bool, false, true≢false, Option, Some, None, Result, Ok, Err, List, [], ◌∷◌}
+use Rattle.lx_crew.proofs.Imports.{◌++◌, length, take, drop, take-append-drop, refl, sym, ap, ◌∙◌, subst, append-nil, append_assoc, arith}
+use Rattle.lx_crew.proofs.Imports.{length-append, IfSome, is_some, Appends, Keeps, take-append_seam, length-replicate, LINE_BYTES, SinkFault, AppendsFront}
+use Rattle.lx_crew.proofs.Imports.{CrewEntry, op_text, named, after_entry, crew_answering, crew_text, Desk, Kept, line_of, Session, begin_at, AreAllowed}
+use Rattle.lx_crew.proofs.Imports.{DeskState, begun, IsAcceptedEdit, StandsFor, Tally, meaning_is, extends_line, Entry, Line, LongLine, text_in, long_line}
+use Rattle.lx_crew.proofs.Imports.{named_line, entries_of, said, NamedAnswer, AnswersNamed, IsDoneWithEntries, AnsweredAll, AnsweredPart, HasAnswered}
 use Rattle.std.specs.Result.{result_err}
-use Rattle.std.specs.Io.KnownBytes.{Appends, Keeps}
 use Rattle.std.proofs.KnownBytes.{Appends-nil, Appends-trans, Appends-kept}
-use Rattle.std.proofs.Math.Seq.{take-append_seam}
 use Rattle.std.proofs.lemmas.Grind.{flat_map-append}
-use Rattle.std.proofs.lemmas.List.{length-replicate}
-use Rattle.lx_base.specs.declared.TheConstants.{LINE_BYTES}
-use Rattle.lx_io.specs.declared.sink.SinkFault.{SinkFault}
-use Rattle.lx_io.specs.Puts.{AppendsFront}
 use Rattle.lx_io.proofs.Chain.{AppendsFront-is, AppendsFront-from}
-use Rattle.lx_spec.specs.CrewText.{CrewEntry, op_text, named, after_entry, crew_answering, crew_text}
-use Rattle.lx_spec.specs.Desk.{Desk}
-use Rattle.lx_spec.specs.Kept.{Kept}
-use Rattle.lx_spec.specs.Script.{line_of}
-use Rattle.lx_spec.specs.Session.{Session, begin_at, AreAllowed}
-use Rattle.lx_spec.specs.DeskSession.{DeskState, begun, IsAcceptedEdit}
-use Rattle.lx_console.specs.ConsoleMeaning.{StandsFor}
-use Rattle.lx_session.specs.declared.tally.Tally.{Tally}
 use Rattle.lx_session.specs.LineAnswer.{FromDesk}
 use Rattle.lx_session.specs.LineReply.{counts_in}
 use Rattle.lx_session.specs.LineState.{meaning_of}
-use Rattle.lx_session.proofs.HeardLines.{meaning_is, extends_line}
 use Rattle.lx_session.proofs.EachLine.{each-append, allowed-append}
-use Rattle.lx_crew.specs.declared.entry.Entry.{Entry}
 use Rattle.lx_crew.specs.declared.entry.LineText.{LineText}
-use Rattle.lx_crew.specs.declared.entry.Sent.TheVariants.{Line, LongLine}
-use Rattle.lx_crew.specs.Entries.{text_in}
-use Rattle.lx_crew.specs.EngineAnswers.{long_line, named_line, entries_of, said, NamedAnswer, AnswersNamed, IsDoneWithEntries, AnsweredAll}
-use Rattle.lx_crew.specs.EngineAnswers.{AnsweredPart, HasAnswered}
 
 -- a line that is too long is bad, whatever its text
 pub long_means : line_of long_line ≡ None

@@ -1,34 +1,11 @@
 -- What a crew came to, by what its operators and its engine did.
-use Rattle.std.proofs.Common.{◌≡◌, inl, inr, ℕ, zero, suc, ◌+◌, ◌<◌, ◌≤◌, ◌==◌, true, Option, Some, None, List, []}
-use Rattle.std.proofs.Common.{◌∷◌, ◌++◌, length, map, slice_get, refl, sym, ap, ◌∙◌, subst, add-one, arith}
-use Rattle.std.specs.List.{AllByRecursion}
-use Rattle.std.specs.Io.KnownBytes.{Appends}
-use Rattle.std.proofs.lemmas.Option.{slice_get_within}
-use Rattle.std.proofs.lemmas.List.Elements.{filter-append}
-use native.Mathlib.Decide.{dec_le}
-use Rattle.crossbeam_queue.specs.Passes.{Pass}
-use Rattle.lx_io.specs.declared.sink.SinkFault.{SinkFault}
-use Rattle.lx_io.specs.Puts.{AppendsFront}
-use Rattle.lx_spec.specs.CrewText.{crew_session}
-use Rattle.lx_spec.specs.Desk.{Desk}
-use Rattle.lx_spec.specs.Kept.{Kept}
-use Rattle.lx_spec.specs.Session.{Session}
-use Rattle.lx_spec.specs.DeskSession.{DeskState}
-use Rattle.lx_console.specs.ConsoleMeaning.{StandsFor}
-use Rattle.lx_session.specs.declared.tally.Tally.{Tally}
-use Rattle.lx_crew.specs.declared.entry.Entry.{Entry}
-use Rattle.lx_crew.specs.declared.fault.OperatorFault.{OperatorFault}
+use Rattle.lx_crew.proofs.Imports.{◌≡◌, inl, inr, ℕ, zero, suc, ◌+◌, ◌<◌, ◌≤◌, ◌==◌, true, Option, Some, None, List, [], ◌∷◌}
+use Rattle.lx_crew.proofs.Imports.{◌++◌, length, map, slice_get, refl, sym, ap, ◌∙◌, subst, add-one, arith, AllByRecursion, Appends, slice_get_within}
+use Rattle.lx_crew.proofs.Imports.{filter-append, dec_le, Pass, SinkFault, AppendsFront, crew_session, Desk, Kept, Session, DeskState, StandsFor, Tally, Entry}
+use Rattle.lx_crew.proofs.Imports.{OperatorFault, Operator, View, said, HasAnswered, of_place, is_last, has_last, EachAt, Retired, owned, engine_view, Learned}
+use Rattle.lx_crew.proofs.Imports.{ScriptHasEnded, last_entry}
 use Rattle.lx_crew.specs.declared.fault.OperatorFault.TheVariants.{ReadFault, InputTooLong}
-use Rattle.lx_crew.specs.declared.operator.Operator.{Operator}
-use Rattle.lx_crew.specs.declared.rule.View.{View}
-use Rattle.lx_crew.specs.EngineAnswers.{said, HasAnswered}
 use Rattle.lx_crew.specs.CrewOutcome.{ScriptIsBack, HasWrittenTranscript, HasCrewed}
-use Rattle.lx_crew.specs.Entries.{of_place, is_last, has_last}
-use Rattle.lx_base.specs.Places.{EachAt}
-use Rattle.lx_crew.specs.OperatorWorks.{Retired, owned}
-use Rattle.lx_crew.specs.Rule.{engine_view, Learned}
-use Rattle.lx_crew.specs.Scripts.{ScriptHasEnded}
-use Rattle.lx_crew.specs.SentLines.{last_entry}
 use Rattle.lx_crew.proofs.Lists.{none_front}
 use Rattle.lx_crew.proofs.MergedEntries.{SentAt, AllSent, IsTrueTo, true_entries, by_number, all_true, all_front, merged, merged_so_far}
 use Rattle.lx_crew.proofs.MergedEntries.{same_session, same_allows}

@@ -1,17 +1,8 @@
 -- What the engine came to, with one more entry.
-use Rattle.std.proofs.Common.{◌≡◌, ◌⊎◌, inl, inr, ⊎_elim, ℕ, ◌≤◌, Bool, true, Option, Some, List, [], ◌∷◌, ◌++◌, slice_get, refl, ap, sym}
-use Rattle.std.proofs.Common.{subst, ◌∙◌, arith}
-use Rattle.lx_io.specs.declared.sink.SinkFault.{SinkFault}
+use Rattle.lx_crew.proofs.Imports.{◌≡◌, ◌⊎◌, inl, inr, ⊎_elim, ℕ, ◌≤◌, Bool, true, Option, Some, List, [], ◌∷◌, ◌++◌, slice_get}
+use Rattle.lx_crew.proofs.Imports.{refl, ap, sym, subst, ◌∙◌, arith, SinkFault, Rose, Desk, Kept, Tally, Entry, View, of_place, is_last, has_last}
+use Rattle.lx_crew.proofs.Imports.{engine_view, Takes, HasAnswered, Marked, OutputCause}
 use Rattle.lx_io.specs.declared.sink.SinkFault.TheVariants.{Failed, Memory}
-use Rattle.lx_io.specs.Causes.{Rose}
-use Rattle.lx_spec.specs.Desk.{Desk}
-use Rattle.lx_spec.specs.Kept.{Kept}
-use Rattle.lx_session.specs.declared.tally.Tally.{Tally}
-use Rattle.lx_crew.specs.declared.entry.Entry.{Entry}
-use Rattle.lx_crew.specs.declared.rule.View.{View}
-use Rattle.lx_crew.specs.Entries.{of_place, is_last, has_last}
-use Rattle.lx_crew.specs.Rule.{engine_view, Takes}
-use Rattle.lx_crew.specs.EngineAnswers.{HasAnswered, Marked, OutputCause}
 use Rattle.lx_crew.proofs.Lists.{last_on, last_here}
 
 pub takes_on : (v w : View) (n : ℕ) (popped : List Entry) (e : Entry) → v ≡ engine_view n popped [] → Takes v e w

@@ -6,3 +6,4 @@ pub mod Rules
 pub mod SentLines
 pub mod EngineSteps
 pub mod Works
+mod Imports

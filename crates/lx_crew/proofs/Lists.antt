@@ -1,10 +1,7 @@
 -- Lists of entries.
-use Rattle.std.proofs.Common.{◌≡◌, ◌≢◌, ℕ, ◌+◌, ◌==◌, ◌||◌, Bool, true, false, true≢false, List, [], ◌∷◌, ◌++◌, length, sym}
-use Rattle.std.proofs.Common.{refl, subst, append-nil, eq-eqb, ne_eqb, arith}
-use Rattle.std.specs.List.{AllByRecursion}
-use Rattle.std.proofs.lemmas.List.Elements.{filter-append}
-use Rattle.lx_crew.specs.declared.entry.Entry.{Entry}
-use Rattle.lx_crew.specs.Entries.{of_place, Numbered, is_last, has_last}
+use Rattle.lx_crew.proofs.Imports.{◌≡◌, ◌≢◌, ℕ, ◌+◌, ◌==◌, ◌||◌, Bool, true, false, true≢false, List, [], ◌∷◌, ◌++◌}
+use Rattle.lx_crew.proofs.Imports.{length, sym, refl, subst, append-nil, eq-eqb, ne_eqb, arith, AllByRecursion, filter-append, Entry, of_place, Numbered}
+use Rattle.lx_crew.proofs.Imports.{is_last, has_last}
 
 pub all_map : {X : Type 0} (P Q : X → Type 0) (xs : List X) → ((x : X) → P x → Q x) → AllByRecursion P xs → AllByRecursion Q xs
 all_map P Q [] f h = tt

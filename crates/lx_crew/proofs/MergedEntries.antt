@@ -1,27 +1,12 @@
 -- The transcript's entries with the true texts of lines that are too long.
-use Rattle.std.proofs.Common.{◌≡◌, ℕ, zero, suc, ◌+◌, ◌-◌, ◌==◌, Bool, true, false, cond, List, [], ◌∷◌, ◌++◌}
-use Rattle.std.proofs.Common.{take, drop, refl, sym, ap, ◌∙◌}
-use Rattle.std.proofs.Common.{◌⊎◌, ⊎_elim, Option, None, true≢false, add-one, subst, eq-eqb}
-use Rattle.std.proofs.Common.{get_or, arith}
-use Rattle.std.specs.Prelude.{IfSome}
-use Rattle.std.specs.List.{AllByRecursion}
+use Rattle.lx_crew.proofs.Imports.{◌≡◌, ℕ, zero, suc, ◌+◌, ◌-◌, ◌==◌, Bool, true, false, cond, List, [], ◌∷◌, ◌++◌, take, drop}
+use Rattle.lx_crew.proofs.Imports.{refl, sym, ap, ◌∙◌, ◌⊎◌, ⊎_elim, Option, None, true≢false, add-one, subst, eq-eqb, get_or, arith, IfSome}
+use Rattle.lx_crew.proofs.Imports.{AllByRecursion, filter-append, CrewEntry, op_text, after_entry, crew_answering, crew_session, CrewAllows, Desk, line_of}
+use Rattle.lx_crew.proofs.Imports.{Session, begin_at, with_text, after_each, AreAllowed, DeskState, begun, after_meaning, IsAcceptedEdit, meaning_is, Entry}
+use Rattle.lx_crew.proofs.Imports.{Sent, Line, LongLine, End, ReadFault, InputTooLong, long_line, named_line, entries_of, said, of_place, is_last, HasText}
+use Rattle.lx_crew.proofs.Imports.{HaveLines, of_operator, numbered_from, Merged, MergedSoFar, length-replicate, LINE_BYTES}
 use Rattle.std.proofs.lemmas.Bool.Decides.{nat_tests}
-use Rattle.std.proofs.lemmas.List.Elements.{filter-append}
 use Rattle.lx_spec.specs.declared.Line.{Line as Meant}
-use Rattle.lx_spec.specs.CrewText.{CrewEntry, op_text, after_entry, crew_answering, crew_session, CrewAllows}
-use Rattle.lx_spec.specs.Desk.{Desk}
-use Rattle.lx_spec.specs.Script.{line_of}
-use Rattle.lx_spec.specs.Session.{Session, begin_at, with_text, after_each, AreAllowed}
-use Rattle.lx_spec.specs.DeskSession.{DeskState, begun, after_meaning, IsAcceptedEdit}
-use Rattle.lx_session.proofs.HeardLines.{meaning_is}
-use Rattle.lx_crew.specs.declared.entry.Entry.{Entry}
-use Rattle.lx_crew.specs.declared.entry.Sent.{Sent}
-use Rattle.lx_crew.specs.declared.entry.Sent.TheVariants.{Line, LongLine, End, ReadFault, InputTooLong}
-use Rattle.lx_crew.specs.EngineAnswers.{long_line, named_line, entries_of, said}
-use Rattle.lx_crew.specs.Entries.{of_place, is_last, HasText, HaveLines}
-use Rattle.lx_spec.specs.CrewText.{of_operator, numbered_from, Merged, MergedSoFar}
-use Rattle.std.proofs.lemmas.List.{length-replicate}
-use Rattle.lx_base.specs.declared.TheConstants.{LINE_BYTES}
 use Rattle.lx_crew.proofs.Lists.{none_front, tail_of}
 
 -- the text that stands for those of lines that are too long is bad

@@ -1,16 +1,12 @@
 -- Each step keeps the rule.
-use Rattle.std.proofs.Common.{◌≡◌, ◌≢◌, ℕ, zero, suc, ◌+◌, ◌<◌, ◌≤◌, ◌==◌, true, false, true≢false, cond, List, [], ◌∷◌, ◌++◌}
-use Rattle.std.proofs.Common.{length, set, sym, refl, ap, ◌∙◌, subst, inl, inr, ⊎_elim, ◌⊎◌, append_assoc, eq-eqb, ne_eqb}
-use Rattle.std.proofs.Common.{arith}
+use Rattle.lx_crew.proofs.Imports.{◌≡◌, ◌≢◌, ℕ, zero, suc, ◌+◌, ◌<◌, ◌≤◌, ◌==◌, true, false, true≢false, cond, List, []}
+use Rattle.lx_crew.proofs.Imports.{◌∷◌, ◌++◌, length, set, sym, refl, ap, ◌∙◌, subst, inl, inr, ⊎_elim, ◌⊎◌, append_assoc, eq-eqb}
+use Rattle.lx_crew.proofs.Imports.{ne_eqb, arith, ℕ_discrete, dec_le, Entry, View, of_place, Numbered, KeepsOrder, FitsPass, FitsOperator, FitsEngine}
+use Rattle.lx_crew.proofs.Imports.{AddsEntry, Takes, Learned, engine_view, operator_view, spent_view}
 use mathlib.Core.Option.{some, some-ne-none, some-injective}
-use native.Mathlib.Decide.{ℕ_discrete, dec_le}
 use lib.ListN.{get_elem?}
 use Rattle.crossbeam_queue.specs.Fifo.{Pushes, Pops, Forks, Merges, Learns}
 use Rattle.crossbeam_queue.proofs.Lists.{at_set}
-use Rattle.lx_crew.specs.declared.entry.Entry.{Entry}
-use Rattle.lx_crew.specs.declared.rule.View.{View}
-use Rattle.lx_crew.specs.Entries.{of_place, Numbered}
-use Rattle.lx_crew.specs.Rule.{KeepsOrder, FitsPass, FitsOperator, FitsEngine, AddsEntry, Takes, Learned, engine_view, operator_view, spent_view}
 use Rattle.lx_crew.proofs.Lists.{all_map, of_mine, of_other, numbered_snoc}
 
 abbrev All : (ℕ → View → Type 0) → List View → Type 0

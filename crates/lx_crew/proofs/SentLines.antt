@@ -1,36 +1,22 @@
 -- What an operator has sent of its lines.
-use Rattle.std.proofs.Common.{◌≡◌, ◌≢◌, inl, inr, ℕ, suc, ◌+◌, ◌≤◌, ◌<◌, Bool, true, false, cond, Option, Some, None, IfSome, IsTrue}
-use Rattle.std.proofs.Common.{List, [], ◌∷◌, ◌++◌, map, length, take, take_all, refl, sym, ap, ◌∙◌, subst, append-nil, arith}
-use Rattle.std.specs.Io.KnownBytes.{IsAtEnd}
-use Rattle.std.proofs.Math.Seq.{take-append_seam, take-append-add}
-use Rattle.std.proofs.lemmas.List.{map-append, length-map}
-use Rattle.lx_base.specs.declared.TheConstants.{INPUT_BYTES}
-use Rattle.lx_io.specs.Causes.{Rose}
+use Rattle.lx_crew.proofs.Imports.{◌≡◌, ◌≢◌, inl, inr, ℕ, suc, ◌+◌, ◌≤◌, ◌<◌, Bool, true, false, cond, Option, Some, None, IfSome}
+use Rattle.lx_crew.proofs.Imports.{IsTrue, List, [], ◌∷◌, ◌++◌, map, length, take, take_all, refl, sym, ap, ◌∙◌, subst, append-nil, arith}
+use Rattle.lx_crew.proofs.Imports.{IsAtEnd, take-append_seam, take-append-add, map-append, length-map, INPUT_BYTES, Rose, handed_none, handed_then, ends_script}
+use Rattle.lx_crew.proofs.Imports.{lines_wanted, bytes_wanted, is_quit, meaning_is, Entry, Sent, Line, LongLine, End, ReadFault, InputTooLong, OperatorFault}
+use Rattle.lx_crew.proofs.Imports.{View, HasText, HaveLines, text_in, operator_view, AreLines, ScriptHasEnded, TookNext, follows, last_entry, HasSentLines}
 use Rattle.lx_lex.specs.declared.lines.Lines.{Lines}
 use Rattle.lx_lex.specs.declared.lines.Step.TheVariants as steps
 use Rattle.lx_lex.specs.CutOff.{NotTaken}
 use Rattle.lx_lex.specs.Lines.{StepOf}
 use Rattle.lx_lex.specs.Unread.{unread, current_line}
 use Rattle.lx_lex.proofs.CuttingOff.{cut_off}
-use Rattle.lx_lex.proofs.HandingOut.{handed_none, handed_then}
 use Rattle.lx_lex.proofs.TakenLines.{all_texts}
 use Rattle.lx_spec.specs.Text.{without_cr, lines_of}
 use Rattle.lx_spec.specs.CutInput.{CutOff}
-use Rattle.lx_spec.specs.Session.{ends_script, lines_wanted, bytes_wanted, is_quit}
 use Rattle.lx_session.specs.LineOutcome.{PassedLine, QuitLine}
-use Rattle.lx_session.proofs.HeardLines.{meaning_is}
 use Rattle.lx_session.proofs.SoFar.{GoOn, Passed, go_on_append, begins, begins_more, ends_after, ends_here, fits, too_long, with_both, over}
-use Rattle.lx_crew.specs.declared.entry.Entry.{Entry}
-use Rattle.lx_crew.specs.declared.entry.Sent.{Sent}
-use Rattle.lx_crew.specs.declared.entry.Sent.TheVariants.{Line, LongLine, End, ReadFault, InputTooLong}
-use Rattle.lx_crew.specs.declared.fault.OperatorFault.{OperatorFault}
 use Rattle.lx_crew.specs.declared.fault.OperatorFault.TheVariants as ends
 use Rattle.lx_crew.specs.declared.follows.Follows.TheVariants as after
-use Rattle.lx_crew.specs.declared.rule.View.{View}
-use Rattle.lx_crew.specs.Entries.{HasText, HaveLines, text_in}
-use Rattle.lx_crew.specs.Rule.{operator_view}
-use Rattle.lx_crew.specs.Scripts.{AreLines, ScriptHasEnded}
-use Rattle.lx_crew.specs.SentLines.{TookNext, follows, last_entry, HasSentLines}
 
 -- A line that was taken goes on, or it is `quit`.
 branch_lines : (b : Bool) → cond b after.End after.Lines ≡ after.Lines → b ≡ false

@@ -1,25 +1,11 @@
 -- Lists of works and of places.
-use Rattle.std.proofs.Common.{true≢false, ◌==◌, true, false, ◌≡◌, ◌≢◌, ℕ, zero, suc, ◌+◌, ◌<◌, ◌≤◌, List, [], ◌∷◌, ◌++◌, length, map, set}
-use Rattle.std.proofs.Common.{get_or, slice_get, Option, Some, None, IsSome, sym, refl, ap, ◌∙◌, subst, inl, inr, ⊎_elim, ◌⊎◌, take, drop}
-use Rattle.std.proofs.Common.{drop_of_length-le, append-nil, arith}
-use Rattle.std.specs.List.{AllByRecursion, AllZip, All}
-use native.Mathlib.Decide.{ℕ_discrete}
-use Rattle.std.proofs.lemmas.Option.{slice_get_read, slice_get-get_or}
-use Rattle.std.proofs.lemmas.Slice.Zip.{AllZip-long}
-use Rattle.std.proofs.Math.Seq.{take-length}
-use Rattle.lx_crew.specs.declared.entry.Entry.{Entry}
-use Rattle.lx_crew.specs.declared.rule.View.{View}
-use Rattle.lx_crew.specs.declared.operator.Operator.{Operator}
-use Rattle.lx_crew.specs.Entries.{of_place, is_last, has_last, HasText, HaveLines}
-use Rattle.lx_crew.specs.declared.entry.Sent.{Sent}
-use Rattle.lx_crew.specs.declared.entry.Sent.TheVariants.{Line, LongLine, End, ReadFault, InputTooLong}
-use Rattle.lx_crew.specs.Rule.{engine_view, operator_view}
-use Rattle.lx_crew.specs.SentLines.{HasSentLines}
-use Rattle.lx_base.specs.Places.{EachAt}
-use Rattle.lx_crew.specs.OperatorWorks.{HasRunOperator, Hired, HasSentNothing, Works, Retired, owned}
-use Rattle.std.proofs.lemmas.List.Elements.{filter-append}
+use Rattle.lx_crew.proofs.Imports.{true≢false, ◌==◌, true, false, ◌≡◌, ◌≢◌, ℕ, zero, suc, ◌+◌, ◌<◌, ◌≤◌, List, [], ◌∷◌}
+use Rattle.lx_crew.proofs.Imports.{◌++◌, length, map, set, get_or, slice_get, Option, Some, None, IsSome, sym, refl, ap, ◌∙◌, subst, inl, inr}
+use Rattle.lx_crew.proofs.Imports.{⊎_elim, ◌⊎◌, take, drop, drop_of_length-le, append-nil, arith, AllByRecursion, AllZip, All, ℕ_discrete}
+use Rattle.lx_crew.proofs.Imports.{slice_get_read, slice_get-get_or, AllZip-long, take-length, Entry, View, Operator, of_place, is_last, has_last, HasText}
+use Rattle.lx_crew.proofs.Imports.{HaveLines, Sent, Line, LongLine, End, ReadFault, InputTooLong, engine_view, operator_view, HasSentLines, EachAt}
+use Rattle.lx_crew.proofs.Imports.{HasRunOperator, Hired, HasSentNothing, Works, Retired, owned, filter-append, view, Pass, IsSamePass}
 use Rattle.lx_crew.proofs.Lists.{or_none, none_behind, tail_of, head_last}
-use Rattle.crossbeam_queue.specs.Passes.{view, Pass, IsSamePass}
 
 pub each_zip : {A B : Type 0} (R : A → B → Type 0) (P : ℕ → A → Type 0) (Q : ℕ → B → Type 0) (xs : List A) (ys : List B) → AllZip R xs ys
     → EachAt P xs → ((k : ℕ) (x : A) (y : B) → P k x → R x y → Q k y) → EachAt Q ys

@@ -1,7 +1,6 @@
 -- A session of a desk is also one in which any attempt may fail.
-use Rattle.std.proofs.Common.{◌≡◌, ℕ, Bool, false, Option, Some, None, List, [], ◌∷◌, refl}
-use Rattle.lx_spec.specs.Session.{Session, after_each, AreAllowed}
-use Rattle.lx_spec.specs.DeskSession.{DeskState, after_line, desk_answering}
+use Rattle.lx_desk.proofs.Imports.{◌≡◌, ℕ, Bool, false, Option, Some, None, List, [], ◌∷◌, refl, Session, after_each, AreAllowed, DeskState}
+use Rattle.lx_desk.proofs.Imports.{after_line, desk_answering}
 
 pub each_allowed : (failures : List (Option ℕ)) (s : Session DeskState) (script : List (List ℕ))
     → AreAllowed (desk_answering false) failures s script

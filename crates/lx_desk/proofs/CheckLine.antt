@@ -1,8 +1,5 @@
 -- The line that `check` writes, in two pieces.
-use Rattle.std.proofs.Common.{◌≡◌, List, ℕ, [], ◌∷◌, ◌++◌, length, append_assoc, ap, ◌∙◌}
-use Rattle.std.specs.Prelude.{codes, decimal}
-use Rattle.lx_spec.specs.Reading.{Reading}
-use Rattle.lx_spec.specs.CheckOutput.{check_text}
+use Rattle.lx_desk.proofs.Imports.{◌≡◌, List, ℕ, [], ◌∷◌, ◌++◌, length, append_assoc, ap, ◌∙◌, codes, decimal, Reading, check_text}
 
 shape : (a b c d : List ℕ)
     → (codes "show cues " ++ (a ++ (codes " channels " ++ b))) ++ (codes " skipped " ++ (c ++ (codes " first " ++ (d ++ 10 ∷ []))))

@@ -1,29 +1,10 @@
 -- How a run of several operators ended, from its show and its crew.
-use Rattle.std.proofs.Common.{◌≡◌, inl, inr, ℕ, ◌+◌, ◌≤◌, Option, Some, None, Result, Ok, Err, IfSome, List, [], length, refl, sym, ap, ◌∙◌}
-use Rattle.std.proofs.Common.{subst}
-use Rattle.lx_base.specs.declared.TheConstants.{INPUT_BYTES}
-use Rattle.lx_io.specs.Causes.{Rose}
-use Rattle.lx_io.specs.Puts.{AppendsFront}
-use Rattle.lx_lex.specs.declared.lines.Lines.{Lines}
-use Rattle.lx_lex.specs.Unread.{unread}
-use Rattle.lx_lex.proofs.FirstLines.{first_lines-longer}
-use Rattle.lx_spec.specs.declared.Form.{Form}
-use Rattle.lx_spec.specs.declared.Job.TheVariants.{Crew}
-use Rattle.lx_spec.specs.declared.TextFault.{TextFault}
-use Rattle.lx_spec.specs.Text.{lines_of}
-use Rattle.lx_spec.specs.FaultLine.{over_show, fault_text}
-use Rattle.lx_spec.specs.Reading.{Reading, reads, lines_read}
-use Rattle.lx_spec.specs.Job.{show_wanted, output_of}
-use Rattle.lx_reader.specs.declared.loaded.Loaded.{Loaded}
-use Rattle.lx_reader.specs.declared.fault.ShowFault.{ShowFault}
-use Rattle.lx_reader.specs.Answer.{reading_of, HasRead}
-use Rattle.lx_desk.specs.declared.desk.Status.{Status}
+use Rattle.lx_desk.proofs.Imports.{◌≡◌, inl, inr, ℕ, ◌+◌, ◌≤◌, Option, Some, None, Result, Ok, Err, IfSome, List, [], length, refl, sym, ap}
+use Rattle.lx_desk.proofs.Imports.{◌∙◌, subst, INPUT_BYTES, Rose, AppendsFront, Lines, unread, first_lines-longer, Form, Crew, TextFault, lines_of}
+use Rattle.lx_desk.proofs.Imports.{over_show, fault_text, Reading, reads, lines_read, show_wanted, output_of, Loaded, ShowFault, reading_of, HasRead, Status}
+use Rattle.lx_desk.proofs.Imports.{WritesPrefix, RefusedBy, EndsJob, HasEnded, ServesOrWants, ServesNone, HasCrewEnded, WritesFirstLines, WritesCrewFront}
+use Rattle.lx_desk.proofs.Imports.{OperatorFailed, HasCrewCause}
 use Rattle.lx_desk.specs.declared.desk.Status.TheVariants as status
-use Rattle.lx_desk.specs.Output.{WritesPrefix}
-use Rattle.lx_desk.specs.ShowRefusal.{RefusedBy}
-use Rattle.lx_desk.specs.Endings.{EndsJob, HasEnded}
-use Rattle.lx_desk.specs.Crew.{ServesOrWants, ServesNone, HasCrewEnded, WritesFirstLines, WritesCrewFront}
-use Rattle.lx_desk.specs.Crew.{OperatorFailed, HasCrewCause}
 use Rattle.lx_desk.proofs.Inputs.{Says, IsOfShow, nothing_of_cut, means_of, told_fits, front_nothing, refusal_isnt_ok, if_known, both_known}
 use Rattle.lx_desk.proofs.Endings.{refusal_ends, refusal_ended}
 use Rattle.lx_desk.proofs.CrewRuns.{no_lines}

@@ -1,32 +1,18 @@
 -- What the status of a crew says of its output and of its operators.
-use Rattle.std.proofs.Common.{◌≡◌, ◌≢◌, inl, inr, ℕ, zero, suc, ◌+◌, ◌<◌, ◌≤◌, true, false, Option, Some, None, IfSome, IsSome}
-use Rattle.std.proofs.Common.{List, [], ◌∷◌, ◌++◌, length, take, drop, slice_get, refl, sym, ap, ◌∙◌, subst, arith, take_all, drop_at}
-use Rattle.std.proofs.Common.{length-append, length-drop, take-append-drop}
-use Rattle.std.specs.List.{AllByRecursion, position_or_len}
-use Rattle.std.proofs.lemmas.Option.{same_Some, slice_get_within}
-use Rattle.lx_io.specs.declared.sink.SinkFault.{SinkFault}
+use Rattle.lx_desk.proofs.Imports.{◌≡◌, ◌≢◌, inl, inr, ℕ, zero, suc, ◌+◌, ◌<◌, ◌≤◌, true, false, Option, Some, None, IfSome, IsSome}
+use Rattle.lx_desk.proofs.Imports.{List, [], ◌∷◌, ◌++◌, length, take, drop, slice_get, refl, sym, ap, ◌∙◌, subst, arith, take_all, drop_at}
+use Rattle.lx_desk.proofs.Imports.{length-append, length-drop, take-append-drop, AllByRecursion, position_or_len, same_Some, slice_get_within, SinkFault, Rose}
+use Rattle.lx_desk.proofs.Imports.{AppendsFront, lines_of, Show, opened, Kept, ends_script, lines_wanted, Tally, OperatorFault, EachAt, Status, IsLowest}
+use Rattle.lx_desk.proofs.Imports.{WritesTranscript, WritesLines, Serves, WritesFirstLines, KeepsPlaces, OperatorFailed, TellsOperators, TellsCrew, Finishes}
+use Rattle.lx_desk.proofs.Imports.{HasWanted}
 use Rattle.lx_io.specs.declared.sink.SinkFault.TheVariants as sinks
-use Rattle.lx_io.specs.Causes.{Rose}
-use Rattle.lx_io.specs.Puts.{AppendsFront}
-use Rattle.lx_spec.specs.Text.{lines_of}
-use Rattle.lx_spec.specs.Show.{Show}
-use Rattle.lx_spec.specs.Desk.{opened}
-use Rattle.lx_spec.specs.Kept.{Kept}
-use Rattle.lx_spec.specs.Session.{ends_script, lines_wanted}
 use Rattle.lx_spec.specs.CrewText.{lines_up_to_quit, numbered_from, crew_text}
-use Rattle.lx_session.specs.declared.tally.Tally.{Tally}
-use Rattle.lx_crew.specs.declared.fault.OperatorFault.{OperatorFault}
 use Rattle.lx_crew.specs.declared.fault.OperatorFault.TheVariants as ends
-use Rattle.lx_base.specs.Places.{EachAt}
 use Rattle.lx_crew.specs.Scripts.{AreLines, CutLines, ScriptHasEnded}
 use Rattle.lx_crew.specs.CrewOutcome.{ScriptIsBack, HasWrittenTranscript, HasCrewed}
 use Rattle.lx_crew.specs.Transcripts.{WholeTranscript, TranscriptPrefix}
 use Rattle.lx_crew.specs.EngineAnswers.{OutputCause}
-use Rattle.lx_desk.specs.declared.desk.Status.{Status}
 use Rattle.lx_desk.specs.declared.desk.Status.TheVariants as status
-use Rattle.lx_desk.specs.Crew.{IsLowest, WritesTranscript, WritesLines, Serves, WritesFirstLines, KeepsPlaces, OperatorFailed}
-use Rattle.lx_desk.specs.Crew.{TellsOperators, TellsCrew}
-use Rattle.lx_desk.specs.Finished.{Finishes, HasWanted}
 use Rattle.lx_desk.proofs.Inputs.{whole_front, front_nothing}
 use Rattle.lx_desk.proofs.Finishing.{all_done, not_done}
 use Rattle.lx_desk.proofs.LiveRuns.{get_take, get_before}

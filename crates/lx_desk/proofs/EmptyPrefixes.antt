@@ -1,13 +1,6 @@
 -- Where nothing was written, a prefix of what a job writes was.
-use Rattle.std.proofs.Common.{Option, Some, None, IfSome, List, ℕ, []}
-use Rattle.lx_spec.specs.declared.Form.TheVariants.{Moves}
-use Rattle.lx_spec.specs.declared.Job.{Job}
-use Rattle.lx_spec.specs.declared.Job.TheVariants.{Check, Sheet, Make, Script, Crew}
-use Rattle.lx_spec.specs.declared.ScriptKind.TheVariants.{Render}
-use Rattle.lx_spec.specs.Reading.{reads}
-use Rattle.lx_spec.specs.MakeOutput.{made_input}
-use Rattle.lx_spec.specs.Job.{output_of, JobAllows}
-use Rattle.lx_desk.specs.Output.{WritesPrefix}
+use Rattle.lx_desk.proofs.Imports.{Option, Some, None, IfSome, List, ℕ, [], Moves, Job, Check, Sheet, Make, Script, Crew, Render, reads, made_input}
+use Rattle.lx_desk.proofs.Imports.{output_of, JobAllows, WritesPrefix}
 use Rattle.lx_desk.proofs.Inputs.{front_nothing, none_failed}
 
 no_failures : (job : Job) (bytes : List ℕ) → JobAllows job bytes []

@@ -1,24 +1,10 @@
 -- What holds where a job ended, from what holds at each status.
-use Rattle.std.proofs.Common.{◌≡◌, ◌⊎◌, inl, inr, true, false, Option, Some, None, IfSome, List, ℕ, refl, sym, ap, subst}
-use Rattle.std.specs.Prelude.{if◌then◌else◌}
-use Rattle.lx_io.specs.Puts.{AppendsFront}
-use Rattle.std.specs.Io.KnownBytes.{Appends}
-use Rattle.lx_lex.specs.declared.lines.Lines.{Lines}
-use Rattle.lx_lex.specs.Unread.{unread}
-use Rattle.lx_spec.specs.declared.Form.{Form}
-use Rattle.lx_spec.specs.declared.Job.{Job}
-use Rattle.lx_spec.specs.declared.Job.TheVariants.{Script}
-use Rattle.lx_spec.specs.declared.ScriptKind.{ScriptKind}
-use Rattle.lx_spec.specs.ScriptKinds.{answering_of, opening_of}
-use Rattle.lx_spec.specs.Reading.{Reading}
-use Rattle.lx_reader.specs.declared.loaded.Loaded.{Loaded}
-use Rattle.lx_reader.specs.declared.fault.ShowFault.{ShowFault}
+use Rattle.lx_desk.proofs.Imports.{◌≡◌, ◌⊎◌, inl, inr, true, false, Option, Some, None, IfSome, List, ℕ, refl, sym, ap, subst}
+use Rattle.lx_desk.proofs.Imports.{if◌then◌else◌, AppendsFront, Appends, Lines, unread, Form, Job, Script, ScriptKind, answering_of, opening_of, Reading}
+use Rattle.lx_desk.proofs.Imports.{Loaded, ShowFault, reading_of, HasRead, Status, RefusedBy, status_kept, AnswersWords, EndsJob, EndsScript, HasEnded}
+use Rattle.lx_desk.proofs.Imports.{HasPlayed, at_once, is_live}
 use Rattle.lx_reader.specs.declared.fault.ShowFault.TheVariants as faults
-use Rattle.lx_reader.specs.Answer.{reading_of, HasRead}
-use Rattle.lx_desk.specs.declared.desk.Status.{Status}
 use Rattle.lx_desk.specs.declared.desk.Status.TheVariants as status
-use Rattle.lx_desk.specs.ShowRefusal.{RefusedBy, status_kept}
-use Rattle.lx_desk.specs.Endings.{AnswersWords, EndsJob, EndsScript, HasEnded, HasPlayed, at_once, is_live}
 use Rattle.lx_desk.proofs.Inputs.{Says, IsOverShow, IsOfShow, told_text, told_prefix, told_fits, session_text, session_front}
 use Rattle.lx_desk.proofs.Inputs.{session_long}
 use Rattle.lx_desk.proofs.Inputs.{session_fits, session_cut, refusal_cut, refusal_text, refusal_front, refusal_fits, refusal_long}

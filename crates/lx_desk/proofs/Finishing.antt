@@ -1,18 +1,9 @@
 -- What the end of a job says of the counts and of what is kept back, from the ends of its calls.
-use Rattle.std.proofs.Common.{◌≡◌, ◌⊎◌, inl, inr, ℕ, Result, Ok, Err, OnOk, Option, List, [], ◌∙◌, sym}
-use Rattle.std.specs.Prelude.{◌≢◌}
-use Rattle.lx_lex.specs.declared.lines.Lines.{Lines}
-use Rattle.lx_reader.specs.declared.fault.ShowFault.{ShowFault}
+use Rattle.lx_desk.proofs.Imports.{◌≡◌, ◌⊎◌, inl, inr, ℕ, Result, Ok, Err, OnOk, Option, List, [], ◌∙◌, sym, ◌≢◌, Lines, ShowFault}
+use Rattle.lx_desk.proofs.Imports.{SessionFault, Tally, HasSessionCause, Status, status_for, RefusedBy, status_kept, IsDone, Finishes, HasWanted}
 use Rattle.lx_reader.specs.declared.fault.ShowFault.TheVariants as shows
-use Rattle.lx_session.specs.declared.fault.SessionFault.{SessionFault}
 use Rattle.lx_session.specs.declared.fault.SessionFault.TheVariants as faults
-use Rattle.lx_session.specs.declared.tally.Tally.{Tally}
-use Rattle.lx_session.specs.SessionOutcome.{HasSessionCause}
-use Rattle.lx_desk.specs.declared.desk.Status.{Status}
 use Rattle.lx_desk.specs.declared.desk.Status.TheVariants as status
-use Rattle.lx_desk.specs.Faults.{status_for}
-use Rattle.lx_desk.specs.ShowRefusal.{RefusedBy, status_kept}
-use Rattle.lx_desk.specs.Finished.{IsDone, Finishes, HasWanted}
 use Rattle.lx_desk.proofs.Inputs.{kept_is}
 
 -- a status that isn't that of a job that was done

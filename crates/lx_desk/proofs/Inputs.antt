@@ -1,42 +1,18 @@
 -- How much of its input the program wants, and what it writes for it, from the reader's answer and the session's.
-use Rattle.std.proofs.Common.{◌≡◌, ◌⊎◌, inl, inr, ℕ, zero, suc, ◌+◌, ◌-◌, ◌<◌, ◌≤◌, false, true, eqb, cond, Option, Some, None, Result, Ok}
-use Rattle.std.proofs.Common.{Err, IfSome, IsErr, IsOk, List, [], ◌∷◌, ◌++◌, length, take, refl, sym, ap, ◌∙◌, subst, arith, length-append}
-use Rattle.std.proofs.Common.{append-nil, append_assoc, take_all}
-use Rattle.std.specs.Io.KnownBytes.{Appends, IsAtEnd}
+use Rattle.lx_desk.proofs.Imports.{◌≡◌, ◌⊎◌, inl, inr, ℕ, zero, suc, ◌+◌, ◌-◌, ◌<◌, ◌≤◌, false, true, eqb, cond, Option, Some}
+use Rattle.lx_desk.proofs.Imports.{None, Result, Ok, Err, IfSome, IsErr, IsOk, List, [], ◌∷◌, ◌++◌, length, take, refl, sym, ap, ◌∙◌, subst}
+use Rattle.lx_desk.proofs.Imports.{arith, length-append, append-nil, append_assoc, take_all, Appends, IsAtEnd, INPUT_BYTES, AppendsFront, AppendsFront-from}
+use Rattle.lx_desk.proofs.Imports.{Lines, LinesBetween, unread, first_lines-more, first_lines-longer, Form, TextFault, lines_of, Reading, reads, script_of}
+use Rattle.lx_desk.proofs.Imports.{lines_read, HasNoFeed, feeds, first_lines, answering_of, opening_of, script_session, first_replies, input_lines_wanted}
+use Rattle.lx_desk.proofs.Imports.{input_wanted, ScriptAllows, over_show, fault_text, Answering, whole_session, session_after, Allows, lines_wanted}
+use Rattle.lx_desk.proofs.Imports.{bytes_wanted, Loaded, ShowFault, reading_of, HasRead, OfText, CutShort, Status, Job, Check, Sheet, Script, ScriptKind}
+use Rattle.lx_desk.proofs.Imports.{check_text, sheet_text, show_of, output_of, JobAllows, wanted_of, show_wanted, WritesAll, WritesPrefix, WritesTaken}
+use Rattle.lx_desk.proofs.Imports.{RepliesToTaken, NothingOfCut, AnswersScript, AnswersInFront, AnswersTaken, RefusedBy, status_kept}
 use Rattle.std.proofs.KnownBytes.{Appends-nil}
-use Rattle.lx_base.specs.declared.TheConstants.{INPUT_BYTES}
-use Rattle.lx_io.specs.Puts.{AppendsFront}
-use Rattle.lx_io.proofs.Chain.{AppendsFront-from}
-use Rattle.lx_lex.specs.declared.lines.Lines.{Lines}
-use Rattle.lx_lex.specs.Lines.{LinesBetween}
-use Rattle.lx_lex.specs.Unread.{unread}
 use Rattle.lx_lex.proofs.TakenLines.{lines_within, fed_then}
-use Rattle.lx_lex.proofs.FirstLines.{first_lines-more, first_lines-longer}
-use Rattle.lx_spec.specs.declared.Form.{Form}
-use Rattle.lx_spec.specs.declared.TextFault.{TextFault}
-use Rattle.lx_spec.specs.Text.{lines_of}
-use Rattle.lx_spec.specs.Reading.{Reading, reads, script_of, lines_read}
-use Rattle.lx_spec.specs.CutInput.{HasNoFeed, feeds, first_lines}
-use Rattle.lx_spec.specs.ScriptKinds.{answering_of, opening_of}
-use Rattle.lx_spec.specs.ScriptOutput.{script_session, first_replies, input_lines_wanted, input_wanted, ScriptAllows}
-use Rattle.lx_spec.specs.FaultLine.{over_show, fault_text}
-use Rattle.lx_spec.specs.Session.{Answering, whole_session, session_after, Allows, lines_wanted, bytes_wanted}
-use Rattle.lx_reader.specs.declared.loaded.Loaded.{Loaded}
-use Rattle.lx_reader.specs.declared.fault.ShowFault.{ShowFault}
 use Rattle.lx_reader.specs.declared.fault.ShowFault.TheVariants as faults
 use Rattle.lx_reader.specs.HandedLines.{MeansFault, IsPastLimit, IsCutShort}
-use Rattle.lx_reader.specs.Answer.{reading_of, HasRead, OfText, CutShort}
-use Rattle.lx_desk.specs.declared.desk.Status.{Status}
 use Rattle.lx_desk.specs.declared.desk.Status.TheVariants as status
-use Rattle.lx_spec.specs.declared.Job.{Job}
-use Rattle.lx_spec.specs.declared.Job.TheVariants.{Check, Sheet, Script}
-use Rattle.lx_spec.specs.declared.ScriptKind.{ScriptKind}
-use Rattle.lx_spec.specs.CheckOutput.{check_text}
-use Rattle.lx_spec.specs.SheetOutput.{sheet_text}
-use Rattle.lx_spec.specs.Job.{show_of, output_of, JobAllows, wanted_of, show_wanted}
-use Rattle.lx_desk.specs.Output.{WritesAll, WritesPrefix, WritesTaken, RepliesToTaken, NothingOfCut, AnswersScript, AnswersInFront}
-use Rattle.lx_desk.specs.Output.{AnswersTaken}
-use Rattle.lx_desk.specs.ShowRefusal.{RefusedBy, status_kept}
 
 -- a whole text is a front of itself, and nothing is one of any
 pub whole_front : (a b : Option (List ℕ)) (text : List ℕ) → Appends a b text → AppendsFront a b text

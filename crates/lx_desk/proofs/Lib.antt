@@ -12,3 +12,4 @@ mod CrewRuns
 pub mod CrewEnds
 pub mod EmptyPrefixes
 mod MadeInputs
+mod Imports

@@ -1,42 +1,14 @@
 -- How a live run ended, from its show and its script.
-use Rattle.std.proofs.Common.{◌≡◌, ◌≢◌, ◌⊎◌, inl, inr, true, false, ℕ, ◌+◌, ◌-◌, ◌≤◌, Option, Some, None, Result, Ok, Err, IsOk, IfSome, List}
-use Rattle.std.proofs.Common.{[], ◌∷◌, ◌++◌, length, take, refl, sym, ap, ◌∙◌, subst, arith, append_assoc, length-append}
-use Rattle.std.specs.Io.KnownBytes.{Appends}
-use Rattle.lx_base.specs.declared.TheConstants.{INPUT_BYTES}
-use Rattle.lx_io.specs.declared.sink.SinkFault.{SinkFault}
-use Rattle.lx_io.specs.Causes.{Rose}
-use Rattle.lx_io.specs.Puts.{AppendsFront}
-use Rattle.lx_lex.specs.declared.lines.Lines.{Lines}
-use Rattle.lx_lex.specs.Lines.{LinesBetween}
-use Rattle.lx_lex.specs.Unread.{unread}
-use Rattle.lx_lex.proofs.FirstLines.{first_lines-more}
-use Rattle.lx_spec.specs.declared.Form.{Form}
-use Rattle.lx_spec.specs.declared.TextFault.{TextFault}
-use Rattle.lx_session.proofs.HeardLines.{desk_lawful}
-use Rattle.lx_session.proofs.ScriptEnds.{front_of_whole}
-use Rattle.lx_spec.specs.declared.Job.TheVariants.{Script}
-use Rattle.lx_spec.specs.declared.ScriptKind.TheVariants.{Live}
-use Rattle.lx_spec.specs.Text.{lines_of}
-use Rattle.lx_spec.specs.Desk.{opened}
-use Rattle.lx_spec.specs.CutInput.{HasNoFeed, first_lines}
-use Rattle.lx_spec.specs.FaultLine.{over_show}
-use Rattle.lx_spec.specs.Reading.{Reading, reads, script_of, lines_read}
-use Rattle.lx_spec.specs.ScriptOutput.{first_replies, input_lines_wanted, input_wanted, script_output, ScriptAllows}
-use Rattle.lx_spec.specs.Session.{begin_at, answered_lines, lines_wanted, bytes_wanted}
-use Rattle.lx_spec.specs.DeskSession.{begun, desk_answering}
-use Rattle.lx_spec.specs.Show.{Show}
-use Rattle.lx_reader.specs.declared.loaded.Loaded.{Loaded}
-use Rattle.lx_reader.specs.declared.fault.ShowFault.{ShowFault}
-use Rattle.lx_reader.specs.Answer.{reading_of, HasRead}
-use Rattle.lx_desk.specs.declared.desk.Status.{Status}
+use Rattle.lx_desk.proofs.Imports.{◌≡◌, ◌≢◌, ◌⊎◌, inl, inr, true, false, ℕ, ◌+◌, ◌-◌, ◌≤◌, Option, Some, None, Result, Ok}
+use Rattle.lx_desk.proofs.Imports.{Err, IsOk, IfSome, List, [], ◌∷◌, ◌++◌, length, take, refl, sym, ap, ◌∙◌, subst, arith, append_assoc}
+use Rattle.lx_desk.proofs.Imports.{length-append, Appends, INPUT_BYTES, SinkFault, Rose, AppendsFront, Lines, LinesBetween, unread, first_lines-more, Form}
+use Rattle.lx_desk.proofs.Imports.{TextFault, desk_lawful, front_of_whole, Script, Live, lines_of, opened, HasNoFeed, first_lines, over_show, Reading, reads}
+use Rattle.lx_desk.proofs.Imports.{script_of, lines_read, first_replies, input_lines_wanted, input_wanted, script_output, ScriptAllows, begin_at}
+use Rattle.lx_desk.proofs.Imports.{answered_lines, lines_wanted, bytes_wanted, begun, desk_answering, Show, Loaded, ShowFault, reading_of, HasRead, Status}
+use Rattle.lx_desk.proofs.Imports.{WritesPrefix, RepliesToTaken, RefusedBy, EndsJob, HasEnded, live_session, live_after, LiveAllows, HaveVersions, PlaysScript}
+use Rattle.lx_desk.proofs.Imports.{AreServed, PlaysInFront, PlaysTaken, HasPlayedLive, PlaysWhole, LivesInFront, LivesTaken, HasLived, PlaysToEnd, LivesToEnd}
+use Rattle.lx_desk.proofs.Imports.{LacksMemory, HasFailedOutlet, DecidesInOrder, HasWanted}
 use Rattle.lx_desk.specs.declared.desk.Status.TheVariants as status
-use Rattle.lx_desk.specs.Output.{WritesPrefix, RepliesToTaken}
-use Rattle.lx_desk.specs.ShowRefusal.{RefusedBy}
-use Rattle.lx_desk.specs.Endings.{EndsJob, HasEnded}
-use Rattle.lx_desk.specs.Live.{live_session, live_after, LiveAllows, HaveVersions, PlaysScript, AreServed, PlaysInFront, PlaysTaken, HasPlayedLive}
-use Rattle.lx_desk.specs.Live.{PlaysWhole, LivesInFront, LivesTaken}
-use Rattle.lx_desk.specs.Live.{HasLived, PlaysToEnd, LivesToEnd, LacksMemory, HasFailedOutlet, DecidesInOrder}
-use Rattle.lx_desk.specs.Finished.{HasWanted}
 use Rattle.lx_desk.proofs.Inputs.{Says, means_of, session_long, session_fits, refusal_isnt_ok, front_nothing, if_known, both_known, over_loaded}
 use Rattle.lx_desk.proofs.Inputs.{if_both, fed_behind, wanted_read, script_over}
 use Rattle.lx_desk.proofs.AnyFailures.{each_allowed}

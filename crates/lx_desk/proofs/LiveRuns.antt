@@ -1,41 +1,18 @@
 -- What the status of a live run says of its output and of its outlets.
-use Rattle.std.proofs.Common.{◌≡◌, ◌≢◌, inl, inr, ℕ, zero, suc, ◌<◌, ◌≤◌, Bool, true, false, ◌||◌, Option, Some, None, Result, Ok, Err}
-use Rattle.std.proofs.Common.{IfSome, List, [], ◌∷◌, ◌++◌, length, take, drop, slice_get, refl, sym, ap, ◌∙◌, subst, arith, append-nil}
-use Rattle.std.proofs.Common.{take_all, ◌+◌, OnOk}
-use Rattle.lx_base.specs.declared.TheConstants.{INPUT_BYTES}
-use Rattle.std.specs.List.{list_any}
-use Rattle.std.proofs.lemmas.Option.{same_Some}
-use Rattle.lx_io.specs.declared.sink.SinkFault.{SinkFault}
+use Rattle.lx_desk.proofs.Imports.{◌≡◌, ◌≢◌, inl, inr, ℕ, zero, suc, ◌<◌, ◌≤◌, Bool, true, false, ◌||◌, Option, Some, None, Result}
+use Rattle.lx_desk.proofs.Imports.{Ok, Err, IfSome, List, [], ◌∷◌, ◌++◌, length, take, drop, slice_get, refl, sym, ap, ◌∙◌, subst, arith}
+use Rattle.lx_desk.proofs.Imports.{append-nil, take_all, ◌+◌, OnOk, INPUT_BYTES, list_any, same_Some, SinkFault, Lines, Command, lines_of, Show, opened}
+use Rattle.lx_desk.proofs.Imports.{Kept, Answering, Session, begin_at, after_each, answered_lines, Allows, bytes_wanted, DeskState, begun, desk_answering}
+use Rattle.lx_desk.proofs.Imports.{StandsFor, SessionFault, Tally, HasDone, AnsweredWhole, AnsweredPrefix, AnsweredTaken, ScriptAnswered, KeepsLimit}
+use Rattle.lx_desk.proofs.Imports.{HasSessionCause, IsFull, Status, status_for, HasCauseOf, live_session, LiveAllows, HaveVersions, PlaysScript, HaveGot}
+use Rattle.lx_desk.proofs.Imports.{AreServed, PlaysInFront, PlaysTaken, HasPlayedLive, ArePlayed, OutletFailed, PlaysToEnd, LacksMemory, HasFailedOutlet}
+use Rattle.lx_desk.proofs.Imports.{DecidesInOrder, Finishes, HasLiveCause, TellsOutlets, TellsRun, Appends, AppendsFront}
 use Rattle.lx_io.specs.declared.sink.SinkFault.TheVariants as sinks
-use Rattle.lx_lex.specs.declared.lines.Lines.{Lines}
-use Rattle.lx_spec.specs.declared.Command.{Command}
-use Rattle.lx_spec.specs.Text.{lines_of}
-use Rattle.lx_spec.specs.Show.{Show}
-use Rattle.lx_spec.specs.Desk.{opened}
-use Rattle.lx_spec.specs.Kept.{Kept}
-use Rattle.lx_spec.specs.Session.{Answering, Session, begin_at, after_each, answered_lines, Allows, bytes_wanted}
-use Rattle.lx_spec.specs.DeskSession.{DeskState, begun, desk_answering}
-use Rattle.lx_console.specs.ConsoleMeaning.{StandsFor}
-use Rattle.lx_session.specs.declared.fault.SessionFault.{SessionFault}
 use Rattle.lx_session.specs.declared.fault.SessionFault.TheVariants as faults
-use Rattle.lx_session.specs.declared.tally.Tally.{Tally}
-use Rattle.lx_session.specs.Listening.{HasDone}
-use Rattle.lx_session.specs.ScriptAnswer.{AnsweredWhole, AnsweredPrefix, AnsweredTaken, ScriptAnswered}
-use Rattle.lx_session.specs.SessionOutcome.{KeepsLimit, HasSessionCause}
 use Rattle.lx_workers.specs.Engines.{leaves_room}
-use Rattle.lx_workers.specs.Places.{IsFull}
 use Rattle.lx_workers.specs.LiveOutcome.{AreDelivered}
-use Rattle.lx_desk.specs.declared.desk.Status.{Status}
 use Rattle.lx_desk.specs.declared.desk.Status.TheVariants as status
-use Rattle.lx_desk.specs.Faults.{status_for}
-use Rattle.lx_desk.specs.Endings.{HasCauseOf}
-use Rattle.lx_desk.specs.Live.{live_session, LiveAllows, HaveVersions, PlaysScript, HaveGot, AreServed, PlaysInFront, PlaysTaken, HasPlayedLive, ArePlayed}
-use Rattle.lx_desk.specs.Live.{OutletFailed, PlaysToEnd, LacksMemory, HasFailedOutlet, DecidesInOrder}
-use Rattle.lx_desk.specs.Finished.{Finishes}
 use Rattle.lx_desk.proofs.Finishing.{all_done, session_finishes}
-use Rattle.lx_desk.specs.Live.{HasLiveCause, TellsOutlets, TellsRun}
-use Rattle.std.specs.Io.KnownBytes.{Appends}
-use Rattle.lx_io.specs.Puts.{AppendsFront}
 use Rattle.lx_desk.proofs.AnyFailures.{alike}
 use Rattle.lx_desk.proofs.Inputs.{whole_front, both_known}
 

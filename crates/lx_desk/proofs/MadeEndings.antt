@@ -1,44 +1,16 @@
 -- What `make` writes, from the reader's answer and the session's.
-use Rattle.std.proofs.Common.{◌≡◌, ◌⊎◌, inl, inr, ℕ, ◌+◌, ◌≤◌, true, Option, Some, None, Result, Ok, Err, IfSome, IsOk, IsErr, List, []}
-use Rattle.std.proofs.Common.{◌∷◌, ◌++◌, length, sum, refl, sym, ap, ◌∙◌, subst, arith}
-use Rattle.std.specs.Prelude.{codes, decimal}
-use Rattle.std.specs.Io.KnownBytes.{Appends}
-use Rattle.lx_base.specs.declared.TheConstants.{INPUT_BYTES}
-use Rattle.lx_io.specs.Causes.{Rose}
-use Rattle.lx_io.specs.Puts.{AppendsFront}
-use Rattle.lx_lex.specs.declared.lines.Lines.{Lines}
-use Rattle.lx_lex.specs.Unread.{unread}
-use Rattle.lx_spec.specs.declared.Command.{Command}
-use Rattle.lx_spec.specs.declared.Form.TheVariants.{Moves}
-use Rattle.lx_spec.specs.declared.Job.TheVariants.{Make, Script}
-use Rattle.lx_spec.specs.declared.ScriptKind.TheVariants.{Render}
-use Rattle.lx_spec.specs.declared.TextFault.{TextFault}
-use Rattle.lx_spec.specs.Text.{lines_of}
-use Rattle.lx_spec.specs.Desk.{Desk, opened}
-use Rattle.lx_spec.specs.Kept.{Kept}
+use Rattle.lx_desk.proofs.Imports.{◌≡◌, ◌⊎◌, inl, inr, ℕ, ◌+◌, ◌≤◌, true, Option, Some, None, Result, Ok, Err, IfSome, IsOk, IsErr}
+use Rattle.lx_desk.proofs.Imports.{List, [], ◌∷◌, ◌++◌, length, sum, refl, sym, ap, ◌∙◌, subst, arith, codes, decimal, Appends, INPUT_BYTES}
+use Rattle.lx_desk.proofs.Imports.{Rose, AppendsFront, Lines, unread, Command, Moves, Make, Script, Render, TextFault, lines_of, Desk, opened, Kept, line}
+use Rattle.lx_desk.proofs.Imports.{Session, Counts, whole_session, Allows, bytes_wanted, DeskState, begun, desk_answering, Reading, reads, script_of, over_show}
+use Rattle.lx_desk.proofs.Imports.{fault_text, script_session, ScriptAllows, made_input, made_text, make_output, StandsFor, Tally, HasDone, AnsweredWhole}
+use Rattle.lx_desk.proofs.Imports.{Loaded, ShowFault, reading_of, HasRead, Status, WritesAll, WritesPrefix, RefusedBy, RefusesText, status_kept, EndsScript}
+use Rattle.lx_desk.proofs.Imports.{HasEnded, HasCauseOf, WritesWhole}
 use Rattle.lx_spec.specs.Output.{frame}
-use Rattle.lx_spec.specs.ShowText.{line}
-use Rattle.lx_spec.specs.Session.{Session, Counts, whole_session, Allows, bytes_wanted}
-use Rattle.lx_spec.specs.DeskSession.{DeskState, begun, desk_answering}
-use Rattle.lx_spec.specs.Reading.{Reading, reads, script_of}
-use Rattle.lx_spec.specs.FaultLine.{over_show, fault_text}
-use Rattle.lx_spec.specs.ScriptOutput.{script_session, ScriptAllows}
-use Rattle.lx_spec.specs.MakeOutput.{made_input, made_text, make_output}
-use Rattle.lx_console.specs.ConsoleMeaning.{StandsFor}
-use Rattle.lx_session.specs.declared.tally.Tally.{Tally}
 use Rattle.lx_session.specs.LineReply.{counts_in}
-use Rattle.lx_session.specs.Listening.{HasDone}
-use Rattle.lx_session.specs.ScriptAnswer.{AnsweredWhole}
-use Rattle.lx_reader.specs.declared.loaded.Loaded.{Loaded}
-use Rattle.lx_reader.specs.declared.fault.ShowFault.{ShowFault}
 use Rattle.lx_reader.specs.declared.fault.ShowFault.TheVariants as faults
-use Rattle.lx_reader.specs.Answer.{reading_of, HasRead}
-use Rattle.lx_desk.specs.declared.desk.Status.{Status}
 use Rattle.lx_desk.specs.declared.desk.Status.TheVariants as status
 use Rattle.lx_desk.specs.declared.make.Report.{Report}
-use Rattle.lx_desk.specs.Output.{WritesAll, WritesPrefix}
-use Rattle.lx_desk.specs.ShowRefusal.{RefusedBy, RefusesText, status_kept}
-use Rattle.lx_desk.specs.Endings.{EndsScript, HasEnded, HasCauseOf, WritesWhole}
 use Rattle.lx_desk.specs.Made.{HasTold, TellsSession, TellsInFront, report_of, report_text}
 use Rattle.lx_desk.proofs.Inputs.{Says, means_of, none_failed, script_over, front_nothing, over_loaded, refusal_fits, kept_is, if_known}
 use Rattle.lx_desk.proofs.Inputs.{both_known}

@@ -1,12 +1,9 @@
 -- What is drawn number by number is what the definition of the made input draws by its places.
-use Rattle.std.proofs.Common.{◌≡◌, ℕ, zero, suc, ◌+◌, ◌-◌, ◌*◌, ◌/◌, ◌%◌, ◌<◌, List, [], ◌∷◌, ◌++◌, refl, sym, ap, ap₂, ◌∙◌, append_assoc}
-use Rattle.std.proofs.Common.{append-nil, arith}
-use Rattle.std.specs.Prelude.{flat_map, codes, decimal}
-use Rattle.std.specs.List.{range_with_len}
-use Rattle.lx_spec.specs.ShowText.{line}
-use Rattle.lx_spec.specs.MakeOutput.{drawn_from, chan_line, made_cue, made_turn}
-use Rattle.lx_desk.specs.Generator.{after_draw, after_setting, after_cue, after_turn, setting_from, drawn_cue, turn_from, chan_text}
-use Rattle.lx_desk.specs.Generator.{drawn_cue_text, turn_text}
+use Rattle.lx_desk.proofs.Imports.{◌≡◌, ℕ, zero, suc, ◌+◌, ◌-◌, ◌*◌, ◌/◌, ◌%◌, ◌<◌, List, [], ◌∷◌, ◌++◌, refl, sym}
+use Rattle.lx_desk.proofs.Imports.{ap, ap₂, ◌∙◌, append_assoc, append-nil, arith, flat_map, codes, decimal, range_with_len, line, drawn_from, chan_line}
+use Rattle.lx_desk.proofs.Imports.{made_cue, made_turn, after_setting, after_cue, after_turn, setting_from, drawn_cue, turn_from, chan_text, drawn_cue_text}
+use Rattle.lx_desk.proofs.Imports.{turn_text}
+use Rattle.lx_desk.specs.Generator.{after_draw}
 
 -- one draw, and two
 one_more : (seed i : ℕ) → drawn_from seed (suc i) ≡ after_draw (drawn_from seed i)

@@ -1,22 +1,11 @@
 -- A script that was played, from what its session came to.
-use Rattle.std.proofs.Common.{◌≡◌, ℕ, Result, Ok, Err, OnOk, Option, IfSome, List, [], refl, sym, subst, arith, inl}
-use Rattle.lx_lex.specs.declared.lines.Lines.{Lines}
-use Rattle.lx_lex.specs.Unread.{bytes_taken, source_faults, source_left, unread}
-use Rattle.lx_spec.specs.Text.{lines_of}
-use Rattle.lx_spec.specs.Session.{Answering}
+use Rattle.lx_desk.proofs.Imports.{◌≡◌, ℕ, Result, Ok, Err, OnOk, Option, IfSome, List, [], refl, sym, subst, arith, inl, Lines, bytes_taken}
+use Rattle.lx_desk.proofs.Imports.{source_faults, source_left, unread, lines_of, Answering, SessionFault, Tally, HasSessionCause, KeepsLimit, AnsweredPrefix}
+use Rattle.lx_desk.proofs.Imports.{AnsweredTaken, ScriptAnswered, front_of_whole, first_of_whole, Status, status_for, AnswersInFront, AnswersTaken, HasPlayed}
+use Rattle.lx_desk.proofs.Imports.{Plays}
 use Rattle.lx_session.specs.OneAnswer.{IsLawful}
-use Rattle.lx_session.specs.declared.fault.SessionFault.{SessionFault}
 use Rattle.lx_session.specs.declared.fault.SessionFault.TheVariants as faults
-use Rattle.lx_session.specs.declared.tally.Tally.{Tally}
-use Rattle.lx_session.specs.SessionOutcome.{HasSessionCause, KeepsLimit}
-use Rattle.lx_session.specs.ScriptAnswer.{AnsweredPrefix, AnsweredTaken, ScriptAnswered}
-use Rattle.lx_session.proofs.ScriptEnds.{front_of_whole, first_of_whole}
-use Rattle.lx_desk.specs.declared.desk.Status.{Status}
 use Rattle.lx_desk.specs.declared.desk.Status.TheVariants as status
-use Rattle.lx_desk.specs.Faults.{status_for}
-use Rattle.lx_desk.specs.Output.{AnswersInFront, AnswersTaken}
-use Rattle.lx_desk.specs.Endings.{HasPlayed}
-use Rattle.lx_desk.specs.Plays.{Plays}
 use Rattle.lx_desk.proofs.Inputs.{whole_front, if_known, both_known, nothing_answered}
 use Rattle.lx_desk.proofs.Statuses.{ends_script, has_cause}
 use Rattle.lx_desk.proofs.Finishing.{not_done, session_finishes, session_wants}

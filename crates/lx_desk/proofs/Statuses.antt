@@ -1,12 +1,6 @@
 -- What the status of a session says of its end and its cause.
-use Rattle.std.proofs.Common.{Result, Ok, Err, ℕ}
-use Rattle.lx_lex.specs.declared.lines.Lines.{Lines}
-use Rattle.lx_session.specs.declared.fault.SessionFault.{SessionFault}
+use Rattle.lx_desk.proofs.Imports.{Result, Ok, Err, ℕ, Lines, SessionFault, Tally, HasSessionCause, status_for, EndsScript, HasCauseOf}
 use Rattle.lx_session.specs.declared.fault.SessionFault.TheVariants as faults
-use Rattle.lx_session.specs.declared.tally.Tally.{Tally}
-use Rattle.lx_session.specs.SessionOutcome.{HasSessionCause}
-use Rattle.lx_desk.specs.Faults.{status_for}
-use Rattle.lx_desk.specs.Endings.{EndsScript, HasCauseOf}
 
 pub ends_script : (r : Result Tally SessionFault) → EndsScript (status_for r)
 ends_script (Ok tally) = tt

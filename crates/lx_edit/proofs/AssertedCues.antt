@@ -1,14 +1,7 @@
 -- Whether the cues of a show are asserted, where one is placed or taken out.
-use Rattle.std.proofs.Common.{◌≡◌, ℕ, Bool, false, Some, None, refl, ◌∙◌, sym, ap, subst, inl, inr}
-use Rattle.std.specs.Prelude.{Option, IfSome}
-use Rattle.std.specs.Option.{option_map_or}
-use Rattle.std.proofs.lemmas.Bool.{cases_eq}
-use Rattle.lx_spec.specs.Show.{Cue, Show}
-use Rattle.lx_spec.specs.TrackedLevel.{asserts}
-use Rattle.lx_spec.specs.EditedShow.{with_cue, without_cue}
-use Rattle.lx_edit.specs.PlanMeaning.{with_above}
+use Rattle.lx_edit.proofs.Imports.{◌≡◌, ℕ, Bool, false, Some, None, refl, ◌∙◌, sym, ap, subst, inl, inr, Option, IfSome, option_map_or, cases_eq}
+use Rattle.lx_edit.proofs.Imports.{Cue, Show, asserts, with_cue, without_cue, with_above, entry_at-placed_here, entry_at-placed_other}
 use Rattle.lx_edit.proofs.ChangedColumns.{cue_gone, cue_stays}
-use Rattle.lx_spec.proofs.SortedLists.{entry_at-placed_here, entry_at-placed_other}
 
 abbrev flag : Option Cue → Bool
 flag o = option_map_or (λ cue. cue.asserted) o false

@@ -1,17 +1,10 @@
 -- Channels as bits.
-use Rattle.std.proofs.Common.{◌≡◌, ◌≢◌, ℕ, zero, suc, ◌+◌, ◌-◌, ◌*◌, ◌/◌, ◌%◌, ◌^◌, ◌<◌, ◌≤◌, Bool, true, false, List, length, get_or, set}
-use Rattle.std.proofs.Common.{replicate, refl, ◌∙◌, sym, ap, subst, inl, inr, arith, w64}
-use Rattle.std.specs.Prelude.{◌==◌, ◌||◌, ◌&&◌, bit_or, slice_index}
-use Rattle.std.specs.Int.{bit_at}
-use Rattle.std.proofs.lemmas.Bool.{cases_eq, false≢true}
-use Rattle.lx_base.specs.declared.TheConstants.{CHANNELS}
-use Rattle.std.proofs.lemmas.Bool.Decides.{nat_tests}
-use Rattle.std.proofs.lemmas.List.{get_or-replicate, get_or-set_same, get_or-set_other}
-use Rattle.std.proofs.lemmas.Nat.Bits.{bit_at-zero, bit_at_ones, bit_at_set_same, bit_at_set_other}
+use Rattle.lx_edit.proofs.Imports.{◌≡◌, ◌≢◌, ℕ, zero, suc, ◌+◌, ◌-◌, ◌*◌, ◌/◌, ◌%◌, ◌^◌, ◌<◌, ◌≤◌, Bool, true}
+use Rattle.lx_edit.proofs.Imports.{false, List, length, get_or, set, replicate, refl, ◌∙◌, sym, ap, subst, inl, inr, arith, w64, ◌==◌, ◌||◌}
+use Rattle.lx_edit.proofs.Imports.{◌&&◌, bit_or, slice_index, bit_at, cases_eq, false≢true, CHANNELS, nat_tests, get_or-replicate, get_or-set_same}
+use Rattle.lx_edit.proofs.Imports.{get_or-set_other, bit_at-zero, bit_at_ones, bit_at_set_same, bit_at_set_other, ChanSet, is_chan, eq_other, eq_true}
 use Rattle.std.proofs.Math.Nat.{div-add-mod}
-use Rattle.lx_edit.specs.declared.chan_set.ChanSet.{ChanSet}
-use Rattle.lx_edit.specs.ChanSet.{has_chan, is_chan}
-use Rattle.lx_spec.proofs.Comparisons.{eq_other, eq_true}
+use Rattle.lx_edit.specs.ChanSet.{has_chan}
 
 pub is_chan-in : (c : ℕ) → 1 ≤ c → c ≤ CHANNELS → is_chan c ≡ true
 is_chan-in c least most = grind (arith, nat_tests)

@@ -1,29 +1,16 @@
 -- Channels that see no difference where a cue is changed, added or taken out.
-use Rattle.std.proofs.Common.{◌≡◌, ℕ, ◌-◌, ◌<◌, ◌≤◌, Bool, true, false, cond, List, [], ◌∷◌, ◌++◌, map, Some, None, refl, ◌∙◌, sym, ap}
-use Rattle.std.proofs.Common.{subst, inl, inr, arith}
-use Rattle.std.specs.Prelude.{Option, option_map, find, IfSome, IsTrue, is_some, not, ◌||◌, ◌&&◌, ◌==◌, nat_le, reverse}
-use Rattle.std.specs.Option.{option_map_or, IsSomeAnd}
-use Rattle.std.specs.List.{AllByRecursion}
-use Rattle.std.proofs.lemmas.Bool.{cases_eq, cases_lt, false≢true}
-use Rattle.std.proofs.lemmas.Bool.Decides.{nat_tests}
-use Rattle.lx_base.specs.declared.TheConstants.{CHANNELS}
-use Rattle.lx_spec.specs.declared.Move.{Move}
-use Rattle.lx_spec.specs.SortedList.{IsStrictlySorted, entry_at, placed, taken_out, entries_above, entries_below}
-use Rattle.lx_spec.specs.Show.{Cue, Show, Valid, ValidCue}
-use Rattle.lx_spec.specs.TrackedLevel.{tracked, cue_of, move_of, move_in, level_in, decides}
-use Rattle.lx_spec.specs.EditedShow.{with_cue, without_cue}
-use Rattle.lx_show.specs.Around.{entries_up_to}
+use Rattle.lx_edit.proofs.Imports.{◌≡◌, ℕ, ◌-◌, ◌<◌, ◌≤◌, Bool, true, false, cond, List, [], ◌∷◌, ◌++◌, map, Some, None, refl}
+use Rattle.lx_edit.proofs.Imports.{◌∙◌, sym, ap, subst, inl, inr, arith, Option, option_map, find, IfSome, IsTrue, is_some, not, ◌||◌, ◌&&◌}
+use Rattle.lx_edit.proofs.Imports.{◌==◌, nat_le, reverse, option_map_or, IsSomeAnd, AllByRecursion, cases_eq, cases_lt, false≢true, nat_tests, CHANNELS}
+use Rattle.lx_edit.proofs.Imports.{Move, IsStrictlySorted, entry_at, placed, taken_out, entries_above, entries_below, Cue, Show, Valid, ValidCue, tracked}
+use Rattle.lx_edit.proofs.Imports.{cue_of, move_of, move_in, level_in, decides, with_cue, without_cue, entries_up_to, ChanSet, has_chan, move_by, is_block}
+use Rattle.lx_edit.proofs.Imports.{level_from, SameEntry, SameLevels, Grows, KeepsLevels, IsPast, KeepsAbove, le_true, all_reverse, each, filter_all}
+use Rattle.lx_edit.proofs.Imports.{find_in_filter, find_none, found_has, none_differs, entry_at-placed_here, entry_at-placed_other, found_number, has_placed}
+use Rattle.lx_edit.proofs.Imports.{placed_same}
 use Rattle.lx_sheet.proofs.Past.{tracked_past}
-use Rattle.lx_edit.specs.declared.chan_set.ChanSet.{ChanSet}
-use Rattle.lx_edit.specs.ChanSet.{has_chan}
-use Rattle.lx_edit.specs.CueChanges.{move_by, is_block, level_from, SameEntry, SameLevels, Grows, KeepsLevels, IsPast}
-use Rattle.lx_edit.specs.PlanMeaning.{KeepsAbove}
 use Rattle.lx_edit.proofs.KeptLevels.{above_placed}
 use Rattle.lx_edit.proofs.Lists.{map_append}
 use Rattle.lx_edit.proofs.Walks.{through, walked, tracked-with_cue, tracked-without_cue, tracked_below-with_cue, tracked_below-without_cue}
-use Rattle.lx_spec.proofs.Comparisons.{le_true}
-use Rattle.lx_spec.proofs.Lists.{all_reverse, each, filter_all, find_in_filter, find_none, found_has, none_differs}
-use Rattle.lx_spec.proofs.SortedLists.{entry_at-placed_here, entry_at-placed_other, found_number, has_placed, placed_same}
 
 level_step : (one other : Bool) (m : Option Move) (base : ℕ) → (m ≡ None → base ≡ 0)
     → cond (one || is_some m) (option_map_or (λ x. x.level) m 0) base ≡ cond (other || is_some m) (option_map_or (λ x. x.level) m 0) base

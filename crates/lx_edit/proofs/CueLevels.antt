@@ -1,25 +1,10 @@
 -- Cues with moves placed and taken out.
-use Rattle.std.proofs.Common.{◌≡◌, ℕ, zero, suc, ◌+◌, ◌-◌, ◌<◌, ◌≤◌, Bool, true, false, cond, List, [], ◌∷◌, ◌++◌, Some, None, refl, ◌∙◌}
-use Rattle.std.proofs.Common.{sym, ap, map, arith}
-use Rattle.std.specs.Prelude.{Option, IsTrue, IfSome, filter, ◌==◌, if◌then◌else◌}
-use Rattle.std.specs.Option.{option_map_or}
-use Rattle.std.specs.List.{AllByRecursion, range_with_len}
-use Rattle.lx_base.specs.Numbers.{Span}
-use Rattle.lx_spec.specs.declared.Part.{Part}
-use Rattle.lx_spec.specs.declared.Move.{Move}
-use Rattle.lx_spec.specs.declared.Member.{Member}
-use Rattle.lx_spec.specs.SortedList.{has_entry}
-use Rattle.lx_base.specs.declared.TheConstants.{CHANNELS}
-use Rattle.lx_spec.specs.Show.{Cue, Show, InRange, IsLevel, ValidCue, ValidMove, ValidMember}
-use Rattle.lx_spec.specs.TrackedLevel.{move_in}
-use Rattle.lx_spec.specs.EditedShow.{all_at, in_proportion, part_for, with_moves, without_moves, moves_for}
-use Rattle.lx_show.proofs.ChangedCues.{with_other_moves}
-use Rattle.lx_show.proofs.Stretches.{All-all_placed, IsStrictlySorted-all_placed}
-use Rattle.lx_edit.specs.Found.{Fits}
-use Rattle.lx_edit.specs.Kept.{base_moves}
+use Rattle.lx_edit.proofs.Imports.{◌≡◌, ℕ, zero, suc, ◌+◌, ◌-◌, ◌<◌, ◌≤◌, Bool, true, false, cond, List, [], ◌∷◌, ◌++◌}
+use Rattle.lx_edit.proofs.Imports.{Some, None, refl, ◌∙◌, sym, ap, map, arith, Option, IsTrue, IfSome, filter, ◌==◌, if◌then◌else◌}
+use Rattle.lx_edit.proofs.Imports.{option_map_or, AllByRecursion, range_with_len, Span, Part, Move, Member, has_entry, CHANNELS, Cue, Show, InRange, IsLevel}
+use Rattle.lx_edit.proofs.Imports.{ValidCue, ValidMove, ValidMember, move_in, all_at, in_proportion, part_for, with_moves, without_moves, moves_for}
+use Rattle.lx_edit.proofs.Imports.{with_other_moves, All-all_placed, IsStrictlySorted-all_placed, Fits, base_moves, found_has, kept_by, IsStrictlySorted-filter}
 use Rattle.lx_edit.proofs.Lists.{chosen_more, range_below}
-use Rattle.lx_spec.proofs.Lists.{found_has, kept_by}
-use Rattle.lx_spec.proofs.SortedLists.{IsStrictlySorted-filter}
 
 part_of_move : (channels : ℕ) (parts : List Part) (o : Option Move) → IsTrue (has_entry (λ x. x.number) 1 parts)
     → IfSome o (ValidMove channels parts) → IsTrue (has_entry (λ x. x.number) (option_map_or (λ m. m.part) o 1) parts)

@@ -1,22 +1,11 @@
 -- Plans that place one cue in the place of the one of its number.
-use Rattle.std.proofs.Common.{◌≡◌, ℕ, ◌≤◌, Bool, true, false, cond, List, [], ◌∷◌, length, Some, None, Ok, refl, ◌∙◌, sym, subst, map}
-use Rattle.std.proofs.Common.{arith}
-use Rattle.std.specs.Prelude.{Option, IsTrue, is_some, ◌||◌, nat_lt, ◌==◌, not}
-use Rattle.std.specs.List.{AllByRecursion}
-use Rattle.std.proofs.lemmas.Bool.{false≢true}
-use Rattle.std.proofs.lemmas.Bool.Decides.{nat_tests}
-use Rattle.lx_base.specs.declared.TheConstants.{CUES, PARTS}
-use Rattle.lx_spec.specs.declared.Part.{Part}
-use Rattle.lx_spec.specs.declared.Move.{Move}
+use Rattle.lx_edit.proofs.Imports.{◌≡◌, ℕ, ◌≤◌, Bool, true, false, cond, List, [], ◌∷◌, length, Some, None, Ok, refl, ◌∙◌, sym, subst}
+use Rattle.lx_edit.proofs.Imports.{map, arith, Option, IsTrue, is_some, ◌||◌, nat_lt, ◌==◌, not, AllByRecursion, false≢true, nat_tests, CUES, PARTS}
+use Rattle.lx_edit.proofs.Imports.{Part, Move, entry_at, has_entry, taken_out, Cue, Show, ValidCue, ValidPart, ValidMove, IsTime, edited, with_cue, with_time}
+use Rattle.lx_edit.proofs.Imports.{new_part, without_part, out_of_part, FoundCue, CanPlace, IsPlan, dimmer_edited, edits_sub, find_in_filter, kept_by}
+use Rattle.lx_edit.proofs.Imports.{IsStrictlySorted-filter, IsStrictlySorted-map, found_valid}
 use Rattle.lx_spec.specs.declared.Edit.{Edit}
-use Rattle.lx_spec.specs.SortedList.{entry_at, has_entry, taken_out}
-use Rattle.lx_spec.specs.Show.{Cue, Show, ValidCue, ValidPart, ValidMove, IsTime}
-use Rattle.lx_spec.specs.EditedShow.{edited, with_cue, with_time, new_part, without_part, out_of_part}
-use Rattle.lx_edit.specs.Found.{FoundCue}
 use Rattle.lx_edit.specs.declared.plans.Plan.TheVariants as plans
-use Rattle.lx_edit.specs.PlanMeaning.{CanPlace, IsPlan, dimmer_edited, edits_sub}
-use Rattle.lx_spec.proofs.Lists.{find_in_filter, kept_by}
-use Rattle.lx_spec.proofs.SortedLists.{IsStrictlySorted-filter, IsStrictlySorted-map, found_valid}
 
 -- a cue in the place of one that is there
 pub replaces : (show : Show) (n : ℕ) (old new : Cue) → FoundCue show n old → new.number ≡ old.number → ValidCue show.channels new

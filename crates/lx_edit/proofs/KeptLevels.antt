@@ -1,23 +1,11 @@
 -- Cue only: what the cue above a changed one tracks, and what it keeps.
-use Rattle.std.proofs.Common.{◌≡◌, ℕ, ◌-◌, ◌<◌, ◌≤◌, Bool, true, false, cond, List, [], ◌∷◌, Some, None, refl, ◌∙◌, sym, ap, subst, arith}
-use Rattle.std.specs.Prelude.{Option, IsTrue, IfSome, find, slice_get, not, is_some, ◌||◌, nat_lt, ◌==◌, unwrap_or}
-use Rattle.std.specs.Option.{option_copied}
-use denote.Ref.{Bor}
-use Rattle.std.proofs.lemmas.Bool.{false≢true}
-use Rattle.std.proofs.lemmas.Bool.Decides.{nat_tests}
-use Rattle.std.proofs.lemmas.List.Elements.{filter-append}
-use Rattle.lx_spec.specs.SortedList.{IsStrictlySorted, entry_at, has_entry, placed, entries_below, entries_above}
-use Rattle.lx_spec.specs.Show.{Cue, Show, ValidCue}
-use Rattle.lx_spec.specs.TrackedLevel.{tracked, decides, level_in, cue_above}
-use Rattle.lx_spec.specs.EditedShow.{with_cue}
-use Rattle.lx_show.specs.Around.{entries_up_to}
-use Rattle.lx_edit.specs.Found.{FoundCue}
-use Rattle.lx_edit.specs.Kept.{decided, decided_by}
-use Rattle.lx_base.specs.Numbers.{Span}
-use Rattle.lx_edit.specs.PlanMeaning.{changed_show, covers, CanPlace, IsAbove}
+use Rattle.lx_edit.proofs.Imports.{◌≡◌, ℕ, ◌-◌, ◌<◌, ◌≤◌, Bool, true, false, cond, List, [], ◌∷◌, Some, None, refl, ◌∙◌, sym}
+use Rattle.lx_edit.proofs.Imports.{ap, subst, arith, Option, IsTrue, IfSome, find, slice_get, not, is_some, ◌||◌, nat_lt, ◌==◌, unwrap_or}
+use Rattle.lx_edit.proofs.Imports.{option_copied, Bor, false≢true, nat_tests, filter-append, IsStrictlySorted, entry_at, has_entry, placed, entries_below}
+use Rattle.lx_edit.proofs.Imports.{entries_above, Cue, Show, ValidCue, tracked, decides, level_in, cue_above, with_cue, entries_up_to, FoundCue, decided}
+use Rattle.lx_edit.proofs.Imports.{decided_by, Span, changed_show, covers, CanPlace, IsAbove, lt_from, each, filter_all, filter_none, find_first}
+use Rattle.lx_edit.proofs.Imports.{find_in_filter, find_passes, none_differs, passes}
 use Rattle.lx_edit.proofs.Walks.{through, walked, tracked-with_cue, tracked-without_cue, up_to_first}
-use Rattle.lx_spec.proofs.Comparisons.{lt_from}
-use Rattle.lx_spec.proofs.Lists.{each, filter_all, filter_none, find_first, find_in_filter, find_passes, none_differs, passes}
 
 lt_self : (k : ℕ) → nat_lt k k ≡ false
 lt_self k = grind (arith, nat_tests)

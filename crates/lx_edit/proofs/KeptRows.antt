@@ -1,23 +1,13 @@
 -- Cue only: from the cue above the edited one on, each channel keeps its level.
-use Rattle.std.proofs.Common.{◌≡◌, ◌≢◌, ℕ, ◌-◌, ◌<◌, ◌≤◌, true, false, List, [], ◌∷◌, ◌++◌, Some, None, refl, ◌∙◌, sym, ap, subst, arith}
-use Rattle.std.specs.Prelude.{Option, IsTrue, IfSome, is_some, not, ◌&&◌, ◌==◌, nat_lt, nat_le}
-use Rattle.std.proofs.lemmas.Bool.{false≢true}
-use Rattle.std.proofs.lemmas.Bool.Decides.{nat_tests}
-use Rattle.lx_spec.specs.SortedList.{IsStrictlySorted, entry_at, placed, entries_below, entries_above}
-use Rattle.lx_spec.specs.Show.{Cue, Show, InRange}
-use Rattle.lx_spec.specs.TrackedLevel.{tracked, cue_of, cue_above}
-use Rattle.lx_spec.specs.EditedShow.{cue_only, with_cue, without_cue}
-use Rattle.lx_show.specs.Around.{entries_up_to}
-use Rattle.lx_edit.specs.Found.{FoundCue}
-use Rattle.lx_edit.specs.PlanMeaning.{changed_show, KeepsAbove}
+use Rattle.lx_edit.proofs.Imports.{◌≡◌, ◌≢◌, ℕ, ◌-◌, ◌<◌, ◌≤◌, true, false, List, [], ◌∷◌, ◌++◌, Some, None, refl}
+use Rattle.lx_edit.proofs.Imports.{◌∙◌, sym, ap, subst, arith, Option, IsTrue, IfSome, is_some, not, ◌&&◌, ◌==◌, nat_lt, nat_le, false≢true}
+use Rattle.lx_edit.proofs.Imports.{nat_tests, IsStrictlySorted, entry_at, placed, entries_below, entries_above, Cue, Show, InRange, tracked, cue_of, cue_above}
+use Rattle.lx_edit.proofs.Imports.{cue_only, with_cue, without_cue, entries_up_to, FoundCue, changed_show, KeepsAbove, and_known, each, filter_none, passes}
+use Rattle.lx_edit.proofs.Imports.{IsStrictlySorted-filter, all_above, all_below, below_and_above, entry_number, placed_same, split_there}
 use Rattle.lx_edit.proofs.KeptLevels.{above_differs, above_higher, above_placed, found_there}
 use Rattle.lx_edit.proofs.Lists.{filter_both, filter_same}
 use Rattle.lx_edit.proofs.Walks.{through, walked, tracked-with_cue}
-use Rattle.lx_spec.proofs.Comparisons.{and_known}
 use Rattle.lx_spec.proofs.CueOnly.{IsAround, kept_alone}
-use Rattle.lx_spec.proofs.Lists.{each, filter_none, passes}
-use Rattle.lx_spec.proofs.SortedLists.{IsStrictlySorted-filter, all_above, all_below, below_and_above, entry_number, placed_same}
-use Rattle.lx_spec.proofs.SortedLists.{split_there}
 
 -- the cues around the edited one, before and after
 around_found : (show : Show) (n : ℕ) (old : Cue) → IsStrictlySorted (λ x. x.number) show.cues → FoundCue show n old

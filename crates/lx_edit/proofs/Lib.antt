@@ -13,3 +13,4 @@ pub mod TakenBack
 pub mod NothingKept
 pub mod PlacedMoves
 pub mod MendedSheets
+mod Imports

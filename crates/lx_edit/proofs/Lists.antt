@@ -1,10 +1,7 @@
 -- Small facts on lists, tests and ranges of numbers.
-use Rattle.std.proofs.Common.{◌≡◌, ℕ, zero, suc, ◌+◌, ◌<◌, ◌≤◌, Bool, true, false, cond, List, [], ◌∷◌, ◌++◌, refl, ◌∙◌, sym, ap, map}
-use Rattle.std.proofs.Common.{arith}
-use Rattle.std.specs.Prelude.{filter, find, ◌&&◌}
-use Rattle.std.specs.List.{AllByRecursion, range_with_len}
-use Rattle.std.proofs.lemmas.List.Elements.{filter-append}
-use Rattle.std.proofs.lemmas.List.FromFn.{map-range_with_len_more}
+use Rattle.lx_edit.proofs.Imports.{◌≡◌, ℕ, zero, suc, ◌+◌, ◌<◌, ◌≤◌, Bool, true, false, cond, List, [], ◌∷◌, ◌++◌, refl}
+use Rattle.lx_edit.proofs.Imports.{◌∙◌, sym, ap, map, arith, filter, find, ◌&&◌, AllByRecursion, range_with_len, filter-append}
+use Rattle.lx_edit.proofs.Imports.{map-range_with_len_more}
 
 -- what all have, their images have
 pub all_map : {A B : Type 0} (P : A → Type 0) (Q : B → Type 0) (f : A → B) (xs : List A) → ((x : A) → P x → Q (f x)) → AllByRecursion P xs

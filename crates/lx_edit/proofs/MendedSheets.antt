@@ -1,18 +1,9 @@
 -- What is left to be mended of a sheet: its columns, and the marks of the cues that were placed.
-use Rattle.std.proofs.Common.{◌≡◌, ◌≢◌, ℕ, ◌<◌, ◌≤◌, Bool, true, false, Some, None, refl, ◌∙◌, sym, ap, subst, inl, inr}
-use Rattle.std.specs.Prelude.{Option, IfSome, IsTrue, is_some, ◌||◌}
-use Rattle.std.proofs.lemmas.Bool.{cases_eq}
+use Rattle.lx_edit.proofs.Imports.{◌≡◌, ◌≢◌, ℕ, ◌<◌, ◌≤◌, Bool, true, false, Some, None, refl, ◌∙◌, sym, ap, subst, inl, inr}
+use Rattle.lx_edit.proofs.Imports.{Option, IfSome, IsTrue, is_some, ◌||◌, cases_eq, Move, Cue, Show, cue_of, decides, move_in, tracked, with_cue}
+use Rattle.lx_edit.proofs.Imports.{entry_at-placed_here, entry_at-placed_other, Sheet, is_marked, level_of, numbers_of, IsMarked, IsMarkedAt, cue_numbers}
+use Rattle.lx_edit.proofs.Imports.{ChanSet, CanMend, IsPast, Replaced, with_move}
 use Rattle.std.proofs.lemmas.Option.{IfSome_then}
-use Rattle.lx_spec.specs.declared.Move.{Move}
-use Rattle.lx_spec.specs.Show.{Cue, Show}
-use Rattle.lx_spec.specs.TrackedLevel.{cue_of, decides, move_in, tracked}
-use Rattle.lx_spec.specs.EditedShow.{with_cue}
-use Rattle.lx_spec.proofs.SortedLists.{entry_at-placed_here, entry_at-placed_other}
-use Rattle.lx_sheet.specs.Rows.{Sheet, is_marked, level_of, numbers_of}
-use Rattle.lx_sheet.specs.SheetMeaning.{IsMarked, IsMarkedAt, cue_numbers}
-use Rattle.lx_edit.specs.declared.chan_set.ChanSet.{ChanSet}
-use Rattle.lx_edit.specs.CueChanges.{CanMend, IsPast, Replaced}
-use Rattle.lx_edit.specs.PlanMeaning.{with_move}
 use Rattle.lx_edit.proofs.ChangedColumns.{alike_past, numbers_with, others_with}
 use Rattle.lx_edit.proofs.Walks.{tracked_below-with_cue}
 

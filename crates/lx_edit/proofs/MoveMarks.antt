@@ -1,29 +1,11 @@
 -- Moves that are marked where they differ.
-use Rattle.std.proofs.lemmas.List.Folds.{find-append}
-use Rattle.std.proofs.Common.{◌≡◌, ℕ, zero, suc, ◌+◌, ◌-◌, ◌<◌, ◌≤◌, Bool, true, false, cond, List, [], ◌∷◌, ◌++◌, length, map, take, get_or, Some, None, drop}
-use Rattle.std.proofs.Common.{refl, ◌∙◌, sym, ap, subst, arith}
-use Rattle.std.specs.Prelude.{Option, IfSome, is_some, ◌||◌, ◌&&◌, ◌==◌, not, nat_le, nat_lt}
-use Rattle.std.specs.Option.{option_map_or, option_or}
-use Rattle.std.specs.List.{AllByRecursion, range_with_len}
-use Rattle.std.proofs.lemmas.Bool.Decides.{nat_tests}
-use Rattle.lx_base.specs.Numbers.{Span}
-use Rattle.lx_base.specs.declared.TheConstants.{CHANNELS}
-use Rattle.lx_spec.specs.declared.Part.{Part}
-use Rattle.std.proofs.lemmas.Bool.{false≢true, or_left}
-use Rattle.std.proofs.lemmas.List.{take_more, take-append-drop}
-use Rattle.lx_spec.specs.declared.Move.{Move}
-use Rattle.lx_spec.specs.SortedList.{all_placed, entry_at, entries_above, placed}
-use Rattle.lx_spec.specs.Show.{Cue, ValidCue, ValidMove}
-use Rattle.lx_spec.specs.EditedShow.{all_at, channels_in, part_for, with_levels, without_moves}
-use Rattle.lx_show.specs.Around.{entries_up_to}
-use Rattle.lx_spec.proofs.Comparisons.{eq_from, eq_other, eq_true, le_true, lt_true}
-use Rattle.lx_spec.proofs.Lists.{all_append, each, find_in_filter, find_none}
-use Rattle.lx_spec.proofs.SortedLists.{entry_at-placed_other, found_number, found_valid}
-use Rattle.lx_edit.specs.declared.chan_set.ChanSet.{ChanSet}
-use Rattle.lx_edit.specs.ChanSet.{has_chan}
-use Rattle.lx_edit.specs.CueChanges.{AreAmong, Grows, move_by, moves_of_cue}
-use Rattle.lx_edit.specs.Kept.{decided}
-use Rattle.lx_edit.specs.PlanMeaning.{SameOutside, covers}
+use Rattle.lx_edit.proofs.Imports.{find-append, ◌≡◌, ℕ, zero, suc, ◌+◌, ◌-◌, ◌<◌, ◌≤◌, Bool, true, false, cond, List, [], ◌∷◌}
+use Rattle.lx_edit.proofs.Imports.{◌++◌, length, map, take, get_or, Some, None, drop, refl, ◌∙◌, sym, ap, subst, arith, Option, IfSome, is_some}
+use Rattle.lx_edit.proofs.Imports.{◌||◌, ◌&&◌, ◌==◌, not, nat_le, nat_lt, option_map_or, option_or, AllByRecursion, range_with_len, nat_tests, Span}
+use Rattle.lx_edit.proofs.Imports.{CHANNELS, Part, false≢true, or_left, take_more, take-append-drop, Move, all_placed, entry_at, entries_above, placed, Cue}
+use Rattle.lx_edit.proofs.Imports.{ValidCue, ValidMove, all_at, channels_in, part_for, with_levels, without_moves, entries_up_to, eq_from, eq_other, eq_true}
+use Rattle.lx_edit.proofs.Imports.{le_true, lt_true, all_append, each, find_in_filter, find_none, entry_at-placed_other, found_number, found_valid, ChanSet}
+use Rattle.lx_edit.proofs.Imports.{has_chan, AreAmong, Grows, move_by, moves_of_cue, decided, SameOutside, covers}
 
 not_right : (a b : Bool) → (a || b) ≡ false → b ≡ false
 not_right true b is = absurd (false≢true (sym is))

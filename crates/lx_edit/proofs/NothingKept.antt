@@ -1,20 +1,10 @@
 -- Cue only, where the cue above decides the one channel that a move changes: nothing has to be kept there.
-use Rattle.std.proofs.Common.{◌≡◌, ℕ, ◌-◌, ◌<◌, Bool, true, false, cond, List, [], ◌∷◌, Some, None, refl, ◌∙◌, sym, ap, subst, arith, inl, inr, map}
-use Rattle.std.specs.Prelude.{Option, IfSome, find, filter, is_some, not, ◌==◌, ◌||◌, unwrap_or, nat_lt}
-use Rattle.std.specs.Option.{option_map_or}
-use Rattle.std.proofs.lemmas.Bool.{cases_eq}
-use Rattle.lx_spec.specs.declared.Move.{Move}
-use Rattle.lx_spec.specs.SortedList.{IsStrictlySorted, entry_at}
-use Rattle.lx_spec.specs.Show.{Cue, Show, Valid}
-use Rattle.lx_spec.specs.TrackedLevel.{cue_above, decides, level_in, move_in, tracked}
-use Rattle.lx_spec.specs.EditedShow.{with_cue, with_moves, cue_only, kept_above, channels_of}
-use Rattle.lx_spec.proofs.Lists.{find_has, none_differs}
-use Rattle.lx_spec.proofs.SortedLists.{IsStrictlySorted-filter, IsStrictlySorted-placed, entry_at-placed_other, placed_same}
-use Rattle.lx_edit.specs.Found.{FoundCue}
-use Rattle.lx_edit.specs.Kept.{decided}
-use Rattle.lx_edit.specs.PlanMeaning.{changed_show, with_move}
+use Rattle.lx_edit.proofs.Imports.{◌≡◌, ℕ, ◌-◌, ◌<◌, Bool, true, false, cond, List, [], ◌∷◌, Some, None, refl, ◌∙◌, sym, ap, subst}
+use Rattle.lx_edit.proofs.Imports.{arith, inl, inr, map, Option, IfSome, find, filter, is_some, not, ◌==◌, ◌||◌, unwrap_or, nat_lt, option_map_or}
+use Rattle.lx_edit.proofs.Imports.{cases_eq, Move, IsStrictlySorted, entry_at, Cue, Show, Valid, cue_above, decides, level_in, move_in, tracked, with_cue}
+use Rattle.lx_edit.proofs.Imports.{with_moves, cue_only, kept_above, channels_of, find_has, none_differs, IsStrictlySorted-filter, IsStrictlySorted-placed}
+use Rattle.lx_edit.proofs.Imports.{entry_at-placed_other, placed_same, FoundCue, decided, changed_show, with_move, first_here, first_other, some_same}
 use Rattle.lx_edit.proofs.KeptLevels.{above-before, above-changed, cue_above-changed, cue_least, none_through, same_through}
-use Rattle.lx_show.proofs.SameLists.{first_here, first_other, some_same}
 
 found_step : {A : Type 0} (key : A → ℕ) (p : A → Bool) (x y : A) (ys : List A) (b : Bool) → IsStrictlySorted key (y ∷ ys)
     → cond b (Some y) (find p ys) ≡ Some x → (find p ys ≡ Some x → entry_at key (key x) ys ≡ Some x)

@@ -1,27 +1,12 @@
 -- A cue with one of its moves replaced, and replaced back.
-use Rattle.std.proofs.Common.{◌≡◌, ℕ, ◌+◌, ◌-◌, ◌≤◌, false, List, [], ◌∷◌, Some, None, Ok, refl, ◌∙◌, sym, ap, subst, cond, arith, inl, inr, Bool, true}
-use Rattle.std.specs.Prelude.{Option, IsTrue, IfSome, is_some, ◌||◌}
-use Rattle.std.specs.Option.{IsSomeAnd, option_map_or}
-use Rattle.std.specs.List.{AllByRecursion, range_with_len}
-use Rattle.std.proofs.lemmas.Bool.{cases_eq}
-use Rattle.lx_base.specs.Numbers.{Span}
-use Rattle.lx_base.specs.declared.TheConstants.{CHANNELS}
-use Rattle.lx_spec.specs.declared.Edit.TheVariants.{Set}
-use Rattle.lx_spec.specs.declared.Move.{Move}
-use Rattle.lx_spec.specs.declared.Part.{Part}
-use Rattle.lx_spec.specs.SortedList.{entry_at, has_entry, placed}
-use Rattle.lx_spec.specs.Show.{Cue, Show, Valid, ValidCue, ValidMove, InRange, IsLevel}
-use Rattle.lx_spec.specs.TrackedLevel.{cue_of, cue_above, decides, move_in, tracked, asserts}
-use Rattle.lx_spec.specs.EditedShow.{with_cue, with_levels, all_at, channels_in, cue_only, part_for, edited}
-use Rattle.lx_spec.proofs.Comparisons.{le_true}
-use Rattle.lx_spec.proofs.SortedLists.{entry_at-placed_here, entry_at-placed_other, found_number, found_valid}
-use Rattle.lx_edit.specs.declared.chan_set.ChanSet.{ChanSet}
+use Rattle.lx_edit.proofs.Imports.{◌≡◌, ℕ, ◌+◌, ◌-◌, ◌≤◌, false, List, [], ◌∷◌, Some, None, Ok, refl, ◌∙◌, sym, ap, subst}
+use Rattle.lx_edit.proofs.Imports.{cond, arith, inl, inr, Bool, true, Option, IsTrue, IfSome, is_some, ◌||◌, IsSomeAnd, option_map_or, AllByRecursion}
+use Rattle.lx_edit.proofs.Imports.{range_with_len, cases_eq, Span, CHANNELS, Set, Move, Part, entry_at, has_entry, placed, Cue, Show, Valid, ValidCue}
+use Rattle.lx_edit.proofs.Imports.{ValidMove, InRange, IsLevel, cue_of, cue_above, decides, move_in, tracked, asserts, with_cue, with_levels, all_at}
+use Rattle.lx_edit.proofs.Imports.{channels_in, cue_only, part_for, edited, le_true, entry_at-placed_here, entry_at-placed_other, found_number, found_valid}
+use Rattle.lx_edit.proofs.Imports.{ChanSet, has_chan, SameEntry, FoundCue, GivenPart, IsWithin, with_move, with_move_in, with_moves_in, CanMove, CanReplace}
+use Rattle.lx_edit.proofs.Imports.{IsPlan, SameOutside, TakesBack}
 use Rattle.lx_edit.specs.declared.plans.Plan.TheVariants as plans
-use Rattle.lx_edit.specs.ChanSet.{has_chan}
-use Rattle.lx_edit.specs.CueChanges.{SameEntry}
-use Rattle.lx_edit.specs.Found.{FoundCue, GivenPart, IsWithin}
-use Rattle.lx_edit.specs.PlanMeaning.{with_move, with_move_in, with_moves_in, CanMove, CanReplace, IsPlan, SameOutside}
-use Rattle.lx_edit.specs.Undone.{TakesBack}
 use Rattle.lx_edit.proofs.AssertedCues.{asserts_with}
 use Rattle.lx_edit.proofs.CueLevels.{part_there}
 use Rattle.lx_edit.proofs.NothingKept.{nothing_kept}

@@ -1,12 +1,7 @@
 -- An entry changed and changed back leaves its list.
-use Rattle.std.proofs.Common.{◌≡◌, ℕ, List, Some, None, refl, ◌∙◌, sym, subst, inl, inr}
-use Rattle.std.specs.Prelude.{Option, IfSome}
-use Rattle.std.specs.List.{AllByRecursion}
-use Rattle.std.proofs.lemmas.Bool.{cases_eq}
-use Rattle.lx_spec.specs.SortedList.{IsStrictlySorted, entry_at, placed}
-use Rattle.lx_spec.proofs.SortedLists.{IsStrictlySorted-filter, IsStrictlySorted-placed, entry_at-placed_here, entry_at-placed_other, found_number, found_valid}
-use Rattle.lx_show.specs.ChangedEntry.{exchanged_at}
-use Rattle.lx_show.proofs.SameLists.{same_lists}
+use Rattle.lx_edit.proofs.Imports.{◌≡◌, ℕ, List, Some, None, refl, ◌∙◌, sym, subst, inl, inr, Option, IfSome, AllByRecursion, cases_eq}
+use Rattle.lx_edit.proofs.Imports.{IsStrictlySorted, entry_at, placed, IsStrictlySorted-filter, IsStrictlySorted-placed, entry_at-placed_here}
+use Rattle.lx_edit.proofs.Imports.{entry_at-placed_other, found_number, found_valid, exchanged_at, same_lists}
 use Rattle.lx_edit.proofs.ChangedColumns.{gone, stays}
 
 pub sorted_exchanged : {A : Type 0} (key : A → ℕ) (n : ℕ) (new : Option A) (xs : List A) → IsStrictlySorted key xs

@@ -1,22 +1,12 @@
 -- What takes a plan back makes the show before of the one after.
-use Rattle.std.proofs.Common.{◌≡◌, ℕ, ◌<◌, ◌≤◌, Bool, true, false, List, length, Some, None, refl, ◌∙◌, sym, ap, subst, arith}
-use Rattle.std.specs.Prelude.{Option, IfSome, IsTrue, is_some, ◌||◌, nat_lt}
-use Rattle.std.proofs.lemmas.Bool.{false≢true}
-use Rattle.std.proofs.lemmas.List.{length-append}
-use Rattle.lx_base.specs.declared.TheConstants.{CUES}
+use Rattle.lx_edit.proofs.Imports.{◌≡◌, ℕ, ◌<◌, ◌≤◌, Bool, true, false, List, length, Some, None, refl, ◌∙◌, sym, ap, subst, arith}
+use Rattle.lx_edit.proofs.Imports.{Option, IfSome, IsTrue, is_some, ◌||◌, nat_lt, false≢true, length-append, CUES, IsStrictlySorted, entry_at, has_entry}
+use Rattle.lx_edit.proofs.Imports.{placed, taken_out, entries_below, entries_above, Cue, Group, Sub, Show, Valid, ValidCue, ValidGroup, ValidSub, ValidPatchRow}
+use Rattle.lx_edit.proofs.Imports.{cue_of, tracked, with_cue, lt_true, below_and_above, entry_at-placed_here, entry_at-placed_other, found_number, found_valid}
+use Rattle.lx_edit.proofs.Imports.{has_placed, length-placed_there, one_between, exchanged_at, Plan, CanExchange, CanPlace, IsAbove, KeepsAbove, changed_show}
+use Rattle.lx_edit.proofs.Imports.{with_above, TakesBack, cue_instead}
 use Rattle.lx_spec.specs.declared.PatchRow.{PatchRow}
-use Rattle.lx_spec.specs.SortedList.{IsStrictlySorted, entry_at, has_entry, placed, taken_out, entries_below, entries_above}
-use Rattle.lx_spec.specs.Show.{Cue, Group, Sub, Show, Valid, ValidCue, ValidGroup, ValidSub, ValidPatchRow}
-use Rattle.lx_spec.specs.TrackedLevel.{cue_of, tracked}
-use Rattle.lx_spec.specs.EditedShow.{with_cue}
-use Rattle.lx_spec.proofs.Comparisons.{lt_true}
-use Rattle.lx_spec.proofs.SortedLists.{below_and_above, entry_at-placed_here, entry_at-placed_other, found_number, found_valid, has_placed}
-use Rattle.lx_spec.proofs.SortedLists.{length-placed_there, one_between}
-use Rattle.lx_show.specs.ChangedEntry.{exchanged_at}
-use Rattle.lx_edit.specs.declared.plans.Plan.{Plan}
 use Rattle.lx_edit.specs.declared.plans.Plan.TheVariants as plans
-use Rattle.lx_edit.specs.PlanMeaning.{CanExchange, CanPlace, IsAbove, KeepsAbove, changed_show, with_above}
-use Rattle.lx_edit.specs.Undone.{TakesBack, cue_instead}
 use Rattle.lx_edit.proofs.SameLists.{exchanged_back, exchanged_here, exchanged_other, both_back, found_all, found_here}
 
 or_right : (a b : Bool) → b ≡ true → IsTrue (a || b)

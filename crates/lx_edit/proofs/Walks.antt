@@ -1,22 +1,12 @@
 -- Tracking as a walk up the cues: what each makes of the level that tracks into it.
-use Rattle.std.proofs.Common.{◌≡◌, ℕ, ◌-◌, ◌<◌, ◌≤◌, Bool, true, false, cond, List, [], ◌∷◌, ◌++◌, Some, None, refl, ◌∙◌, sym, ap, subst}
-use Rattle.std.proofs.Common.{arith}
+use Rattle.lx_edit.proofs.Imports.{◌≡◌, ℕ, ◌-◌, ◌<◌, ◌≤◌, Bool, true, false, cond, List, [], ◌∷◌, ◌++◌, Some, None, refl}
+use Rattle.lx_edit.proofs.Imports.{◌∙◌, sym, ap, subst, arith, Option, find, fold, reverse, slice_get, ◌&&◌, nat_le, nat_lt, if◌then◌else◌}
+use Rattle.lx_edit.proofs.Imports.{option_map_or, option_or, nat_tests, find-append, fold-append, filter-append, IsStrictlySorted, placed, taken_out}
+use Rattle.lx_edit.proofs.Imports.{entries_below, entries_above, Cue, Show, tracked, decides, level_in, cue_above, with_cue, without_cue, entries_up_to}
+use Rattle.lx_edit.proofs.Imports.{and_known, le_false, le_true, each, filter_all, filter_none, find_both_last, find_first, none_differs, passes}
+use Rattle.lx_edit.proofs.Imports.{IsStrictlySorted-filter, below_and_above}
 use mathlib.Core.List.{reverse-cons}
-use Rattle.std.specs.Prelude.{Option, find, fold, reverse, slice_get, ◌&&◌, nat_le, nat_lt, if◌then◌else◌}
-use Rattle.std.specs.Option.{option_map_or, option_or}
-use Rattle.std.proofs.lemmas.Bool.Decides.{nat_tests}
-use Rattle.std.proofs.lemmas.List.Folds.{find-append}
-use Rattle.std.proofs.lemmas.List.Sums.{fold-append}
-use Rattle.std.proofs.lemmas.List.Elements.{filter-append}
-use Rattle.lx_spec.specs.SortedList.{IsStrictlySorted, placed, taken_out, entries_below, entries_above}
-use Rattle.lx_spec.specs.Show.{Cue, Show}
-use Rattle.lx_spec.specs.TrackedLevel.{tracked, decides, level_in, cue_above}
-use Rattle.lx_spec.specs.EditedShow.{with_cue, without_cue}
-use Rattle.lx_show.specs.Around.{entries_up_to}
 use Rattle.lx_edit.proofs.Lists.{filter_both, filter_same}
-use Rattle.lx_spec.proofs.Comparisons.{and_known, le_false, le_true}
-use Rattle.lx_spec.proofs.Lists.{each, filter_all, filter_none, find_both_last, find_first, none_differs, passes}
-use Rattle.lx_spec.proofs.SortedLists.{IsStrictlySorted-filter, below_and_above}
 
 -- what the cue makes of the level that tracks into it
 abbrev pub through : ℕ → ℕ → Cue → ℕ

@@ -2,3 +2,4 @@ mod TakenLists
 mod ReadTexts
 mod Lines
 mod TicksMore
+mod Imports

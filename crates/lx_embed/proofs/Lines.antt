@@ -1,15 +1,10 @@
 -- A line that was answered, as a host's desk keeps it.
-use Rattle.std.proofs.Common.{refl, ◌≡◌, ℕ, Bool, true, not, Option, Some, Result, Ok, Err, List, [], ◌++◌, ◌∙◌, ap, sym, subst}
-use Rattle.std.specs.Prelude.{IfOk, OnOk, OnErr}
+use Rattle.lx_embed.proofs.Imports.{refl, ◌≡◌, ℕ, Bool, true, not, Option, Some, Result, Ok, Err, List, [], ◌++◌, ◌∙◌, ap, sym, subst, IfOk}
+use Rattle.lx_embed.proofs.Imports.{OnOk, OnErr, Kept, Desk, Answering, begin_at, ends_script, begun, desk_answering, StandsFor}
 use Rattle.std.specs.Io.{StartsWith}
 use Rattle.lx_io.specs.declared.sink.SinkFault.{SinkFault}
 use Rattle.lx_spec.specs.declared.Command.{Command}
-use Rattle.lx_spec.specs.Kept.{Kept}
-use Rattle.lx_spec.specs.Desk.{Desk}
 use Rattle.lx_spec.specs.Script.{line_of}
-use Rattle.lx_spec.specs.Session.{Answering, begin_at, ends_script}
-use Rattle.lx_spec.specs.DeskSession.{begun, desk_answering}
-use Rattle.lx_console.specs.ConsoleMeaning.{StandsFor}
 use Rattle.lx_session.specs.declared.tally.Tally.{Tally}
 use Rattle.lx_session.specs.LineAnswer.{LineAnswer}
 use Rattle.lx_session.specs.OneAnswer.{OneAnswer}

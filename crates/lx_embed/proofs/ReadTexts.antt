@@ -1,7 +1,6 @@
 -- What the reader answers for a text that is lent whole.
-use Rattle.std.proofs.Common.{◌≡◌, ℕ, zero, suc, ◌+◌, ◌<◌, ◌≤◌, Bool, true, false, Option, Some, Ok, Err, IfSome}
-use Rattle.std.proofs.Common.{List, [], ◌∷◌, length, refl, subst, arith}
-use Rattle.std.specs.Prelude.{◌==◌, cond}
+use Rattle.lx_embed.proofs.Imports.{◌≡◌, ℕ, zero, suc, ◌+◌, ◌<◌, ◌≤◌, Bool, true, false, Option, Some, Ok, Err, IfSome, List, []}
+use Rattle.lx_embed.proofs.Imports.{◌∷◌, length, refl, subst, arith, ◌==◌, cond, reading_of, AnswerOf}
 use Rattle.lx_base.specs.declared.TheConstants.{INPUT_BYTES}
 use Rattle.lx_lex.specs.declared.lines.Lines.{Lines}
 use Rattle.lx_lex.specs.Unread.{unread}
@@ -13,7 +12,6 @@ use Rattle.lx_reader.specs.declared.loaded.Loaded.{Loaded}
 use Rattle.lx_reader.specs.declared.fault.ShowFault.{ShowFault}
 use Rattle.lx_reader.specs.declared.fault.ShowFault.TheVariants as faults
 use Rattle.lx_reader.specs.HandedLines.{MeansFault, IsPastLimit}
-use Rattle.lx_reader.specs.Answer.{reading_of, AnswerOf}
 use Rattle.lx_embed.specs.Opened.{RefusesShow}
 
 first_lines-within : (n : ℕ) (xs : List ℕ) → length (first_lines n xs) ≤ length xs

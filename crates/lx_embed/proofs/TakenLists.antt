@@ -1,7 +1,6 @@
 -- The slots that were taken, and whether they are the same.
-use Rattle.std.proofs.Common.{◌≡◌, ℕ, zero, suc, ◌<◌, Bool, true, false, not, cond, Option, Some, None, List, [], length, get_or, replicate, refl, sym, ap, subst, ◌∙◌, arith}
-use Rattle.std.specs.Prelude.{IfSome, is_some, slice_get, option_and_then, unwrap_or}
-use Rattle.std.proofs.lemmas.List.{ext_get_or}
+use Rattle.lx_embed.proofs.Imports.{◌≡◌, ℕ, zero, suc, ◌<◌, Bool, true, false, not, cond, Option, Some, None, List, [], length, get_or, replicate}
+use Rattle.lx_embed.proofs.Imports.{refl, sym, ap, subst, ◌∙◌, arith, IfSome, is_some, slice_get, option_and_then, unwrap_or, ext_get_or}
 use Rattle.std.proofs.lemmas.Option.{slice_get-get_or}
 use Rattle.lx_base.specs.Rows.{Agree, IsNextChange}
 use Rattle.lx_embed.specs.declared.taken.TakenSlots.{TakenSlots}

@@ -1,14 +1,9 @@
 -- Ticks after ticks.
-use Rattle.std.proofs.Common.{◌≡◌, ℕ, zero, suc, ◌+◌, ◌⊎◌, inl, inr, Result, Ok, Err, refl, sym, subst, arith}
-use Rattle.std.specs.Prelude.{OnOk, OnErr, Bool, true, false}
-use Rattle.std.specs.Result.{is_err, IsErr, IfErr, IsOkAnd}
+use Rattle.lx_embed.proofs.Imports.{◌≡◌, ℕ, zero, suc, ◌+◌, ◌⊎◌, inl, inr, Result, Ok, Err, refl, sym, subst, arith, OnOk, OnErr, Bool, true}
+use Rattle.lx_embed.proofs.Imports.{false, is_err, IsErr, IfErr, IsOkAnd, Desk, step, UndoState, undo_step, after_ticks, UndoKept, UndoStands, UndoWantsMemory}
 use Rattle.lx_spec.specs.declared.Command.TheVariants as commands
 use Rattle.lx_spec.specs.declared.Refusal.{Refusal}
 use Rattle.lx_spec.specs.FirstRefusal.{◌>>=◌}
-use Rattle.lx_spec.specs.Desk.{Desk, step}
-use Rattle.lx_spec.specs.Undo.{UndoState, undo_step}
-use Rattle.lx_console.specs.Ticks.{after_ticks}
-use Rattle.lx_undo.specs.UndoDeskMeaning.{UndoKept, UndoStands, UndoWantsMemory}
 
 abbrev IsFalse : Bool → Type 0
 IsFalse true = ⊥

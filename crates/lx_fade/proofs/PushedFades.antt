@@ -1,9 +1,6 @@
 -- A pushed fade is a fade over what the stack gave before.
-use Rattle.std.specs.Prelude.{◌≡◌, ℕ, ◌<◌, ◌≤◌, ◌-◌, Bool, true, false, cond, nat_lt, List, [], ◌∷◌, refl}
-use Rattle.std.proofs.Common.{arith, ◌∙◌}
-use Rattle.std.proofs.lemmas.Bool.Decides.{nat_tests}
-use Rattle.lx_spec.specs.Level.{faded, fade_over}
-use Rattle.lx_fade.specs.Fades.{Fade, stack_at, begun_by, pushed}
+use Rattle.lx_fade.proofs.Imports.{◌≡◌, ℕ, ◌<◌, ◌≤◌, ◌-◌, Bool, true, false, cond, nat_lt, List, [], ◌∷◌, refl, arith, ◌∙◌}
+use Rattle.lx_fade.proofs.Imports.{nat_tests, faded, fade_over, Fade, stack_at, begun_by, pushed}
 
 cut_step : (b : Bool) (bottom s m : ℕ) (fade : Fade) (older : List Fade) → nat_lt s fade.start ≡ b → m ≤ s
     → stack_at bottom (begun_by s older) m ≡ stack_at bottom older m

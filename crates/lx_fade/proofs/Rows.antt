@@ -1,14 +1,12 @@
 -- Stacks in rows: what their newest fade gives.
-use Rattle.std.specs.Prelude.{◌≡◌, ℕ, zero, suc, ◌+◌, ◌-◌, ◌*◌, ◌<◌, ◌≤◌, List, [], ◌∷◌, ◌++◌, drop, length, reverse, take}
-use Rattle.std.proofs.Common.{arith, get_or, refl, ◌∙◌, ap, sym, inl, inr}
+use Rattle.lx_fade.proofs.Imports.{◌≡◌, ℕ, zero, suc, ◌+◌, ◌-◌, ◌*◌, ◌<◌, ◌≤◌, List, [], ◌∷◌, ◌++◌, drop, length}
+use Rattle.lx_fade.proofs.Imports.{reverse, take, arith, get_or, refl, ◌∙◌, ap, sym, inl, inr, common_steps, Fade, fade_at, stack_at, begun_by}
+use Rattle.lx_fade.proofs.Imports.{stack_column, no_fade, stack_in}
 use Rattle.std.proofs.Math.Nat.{mul-le-mul_right}
 use Rattle.std.proofs.Math.Seq.{take-suc}
 use Rattle.std.proofs.lemmas.Bool.{cases_eq}
-use Rattle.std.proofs.lemmas.Grind.{common_steps}
 use Rattle.std.proofs.lemmas.List.{get_or_default}
 use Rattle.lx_spec.proofs.Comparisons.{lt_false, lt_true}
-use Rattle.lx_fade.specs.Fades.{Fade, fade_at, stack_at, begun_by}
-use Rattle.lx_fade.specs.Row.{stack_column, no_fade, stack_in}
 
 -- the newest fade of a column, and the others
 pub column_step : (block : List Fade) (channels k left : ℕ) → 0 < left

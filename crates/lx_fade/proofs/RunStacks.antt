@@ -1,12 +1,10 @@
 -- The stack of fades of a list of runs gives their level.
-use Rattle.std.specs.Prelude.{◌≡◌, ℕ, ◌≤◌, Bool, true, false, cond, List, [], ◌∷◌, refl}
-use Rattle.std.proofs.Common.{arith, ◌∙◌}
+use Rattle.lx_fade.proofs.Imports.{◌≡◌, ℕ, ◌≤◌, Bool, true, false, cond, List, [], ◌∷◌, refl, arith, ◌∙◌, level, last_cue, Fade}
+use Rattle.lx_fade.proofs.Imports.{stack_at}
 use Rattle.lx_spec.specs.Show.{Show}
 use Rattle.lx_spec.specs.TrackedLevel.{tracked}
 use Rattle.lx_spec.specs.Run.{Run, acts}
-use Rattle.lx_spec.specs.Level.{level, last_cue}
 use Rattle.lx_spec.proofs.Rest.{same_run}
-use Rattle.lx_fade.specs.Fades.{Fade, stack_at}
 use Rattle.lx_fade.specs.RunStack.{with_run, stack_of}
 use Rattle.lx_fade.proofs.PushedFades.{stack_at-pushed}
 

@@ -1,12 +1,8 @@
 -- A pushed fade begins last, and is the newest of a row.
-use Rattle.std.specs.Prelude.{◌≡◌, ℕ, ◌+◌, ◌<◌, ◌≤◌, Bool, true, false, cond, nat_lt, List, [], ◌∷◌, length, slice_set, refl}
+use Rattle.lx_fade.proofs.Imports.{◌≡◌, ℕ, ◌+◌, ◌<◌, ◌≤◌, Bool, true, false, cond, nat_lt, List, [], ◌∷◌, length, slice_set, refl}
+use Rattle.lx_fade.proofs.Imports.{arith, ◌∙◌, ap, sym, nat_tests, Fade, begun_by, pushed, StartsFall, stack_column, stack_in, common_steps}
 use Rattle.std.specs.List.{AllByRecursion}
-use Rattle.std.proofs.Common.{arith, ◌∙◌, ap, sym}
-use Rattle.std.proofs.lemmas.Bool.Decides.{nat_tests}
-use Rattle.lx_fade.specs.Fades.{Fade, begun_by, pushed, StartsFall}
-use Rattle.lx_fade.specs.Row.{stack_column, stack_in}
 use Rattle.lx_fade.proofs.Rows.{column_whole}
-use Rattle.std.proofs.lemmas.Grind.{common_steps}
 
 -- a fade written at the end of the stack is its newest
 pub stack_in-written : (row : List Fade) (kept : ℕ) (fade : Fade) → kept < length row

@@ -1,13 +1,9 @@
 -- The step that adds a batch keeps the rule of the history.
-use Rattle.std.proofs.Common.{◌≡◌, ℕ, ◌+◌, ◌<◌, ◌==◌, ◌≢◌, Bool, true, false, List, [], ◌∷◌, ◌++◌, length, refl, ap, sym, ◌∙◌, subst, arith}
-use Rattle.std.proofs.Common.{inl, append_assoc, length-append, None, MatchBool}
-use Rattle.std.proofs.lemmas.List.{append-nil}
-use Rattle.std.proofs.lemmas.Bool.Decides.{nat_tests}
-use mathlib.Core.List.{IsPrefix}
+use Rattle.lx_gate.proofs.Imports.{◌≡◌, ℕ, ◌+◌, ◌<◌, ◌==◌, ◌≢◌, Bool, true, false, List, [], ◌∷◌, ◌++◌, length, refl, ap}
+use Rattle.lx_gate.proofs.Imports.{sym, ◌∙◌, subst, arith, inl, append_assoc, length-append, None, MatchBool, append-nil, nat_tests, IsPrefix, Command}
+use Rattle.lx_gate.proofs.Imports.{flat, IsLonger}
 use prog.Atomic.{either}
 use Rattle.logbook.specs.Pages.{Cell, cell, keeps, no_nib, step, Moves, Goes}
-use Rattle.lx_spec.specs.declared.Command.{Command}
-use Rattle.lx_gate.specs.CommandLists.{flat, IsLonger}
 use Rattle.lx_gate.specs.Histories.{IsCounted, Adds}
 use Rattle.lx_gate.proofs.Prefixes.{prefix_whole, prefix_length}
 

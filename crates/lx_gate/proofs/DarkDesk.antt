@@ -1,20 +1,14 @@
 -- At the opening every slot is 0.
-use Rattle.std.proofs.Common.{◌≡◌, ℕ, zero, suc, ◌+◌, ◌-◌, ◌*◌, ◌/◌, ◌≤◌, max, Bool, false, cond, List, [], ◌∷◌, map, take, replicate}
-use Rattle.std.proofs.Common.{get_or, length, Some, None, refl, sym, ap, ◌∙◌, arith}
-use Rattle.std.specs.Prelude.{fold, nat_le}
-use Rattle.std.specs.List.{AllByRecursion}
+use Rattle.lx_gate.proofs.Imports.{◌≡◌, ℕ, zero, suc, ◌+◌, ◌-◌, ◌*◌, ◌/◌, ◌≤◌, max, Bool, false, cond, List, [], ◌∷◌, map}
+use Rattle.lx_gate.proofs.Imports.{take, replicate, get_or, length, Some, None, refl, sym, ap, ◌∙◌, arith, fold, nat_le, AllByRecursion, nat_tests}
+use Rattle.lx_gate.proofs.Imports.{take-replicate, drop-replicate, SUBS, SLOTS, Show, Cue, Valid, ValidCue, opened, frame, out, contribution, level_among}
+use Rattle.lx_gate.proofs.Imports.{dimmer_value, dimmers_of}
 use Rattle.std.specs.Option.{option_map_or}
 use Rattle.std.specs.declared.option.Option.{Option}
-use Rattle.std.proofs.lemmas.Bool.Decides.{nat_tests}
-use Rattle.std.proofs.lemmas.List.{take-replicate, drop-replicate}
 use Rattle.std.proofs.lemmas.List.FromFn.{length-range_with_len}
 use Rattle.lx_base.specs.Numbers.{scaled}
-use Rattle.lx_base.specs.declared.TheConstants.{SUBS, SLOTS}
 use Rattle.lx_spec.specs.declared.PatchRow.{PatchRow}
-use Rattle.lx_spec.specs.Show.{Show, Cue, Valid, ValidCue}
 use Rattle.lx_spec.specs.Run.{greatest}
-use Rattle.lx_spec.specs.Desk.{opened}
-use Rattle.lx_spec.specs.Output.{frame, out, contribution, level_among, dimmer_value, dimmers_of}
 use Rattle.lx_spec.specs.SortedList.{entry_at}
 use Rattle.lx_spec.proofs.Along.{along, tracked_on, tracked-along}
 use Rattle.lx_gate.specs.Frames.{AreFramesOf, frame_after}

@@ -1,20 +1,14 @@
 -- What a gate publishes of a console.
-use Rattle.std.proofs.Common.{◌≡◌, ℕ, ◌+◌, ◌-◌, ◌^◌, ◌<◌, ◌≤◌, List, [], ◌∷◌, ◌++◌, length, Result, Ok, Err, IsOkAnd, OnOk, OnErr, sym, ap}
-use Rattle.std.proofs.Common.{◌∙◌, subst, arith, length-append, append-nil, append_assoc}
+use Rattle.lx_gate.proofs.Imports.{◌≡◌, ℕ, ◌+◌, ◌-◌, ◌^◌, ◌<◌, ◌≤◌, List, [], ◌∷◌, ◌++◌, length, Result, Ok, Err}
+use Rattle.lx_gate.proofs.Imports.{IsOkAnd, OnOk, OnErr, sym, ap, ◌∙◌, subst, arith, length-append, append-nil, append_assoc, UNIVERSES, Command, Show}
+use Rattle.lx_gate.proofs.Imports.{Desk, replay, step, after_command, opened, frame, universe as universe_in, Published, IsEntered, HasSent, HasSentNone}
 use Rattle.std.specs.Result.{result_unwrap_or}
 use Rattle.std.proofs.lemmas.Grind.{fold-append}
-use Rattle.lx_base.specs.declared.TheConstants.{UNIVERSES}
-use Rattle.lx_spec.specs.declared.Command.{Command}
 use Rattle.lx_spec.specs.declared.Refusal.{Refusal}
-use Rattle.lx_spec.specs.Show.{Show}
-use Rattle.lx_spec.specs.Desk.{Desk, replay, step, after_command, opened}
-use Rattle.lx_spec.specs.Output.{frame}
 use Rattle.lx_spec.specs.Kept.{Kept}
-use Rattle.lx_console.specs.Slots.{universe as universe_in}
 use Rattle.lx_console.specs.ConsoleMeaning.{StandsFor}
 use Rattle.lx_gate.specs.Desks.{IsInStep}
 use Rattle.lx_gate.specs.Frames.{AreFramesOf, frame_after, moment_after}
-use Rattle.lx_gate.specs.Gates.{Published, IsEntered, HasSent, HasSentNone}
 use Rattle.lx_gate.proofs.UnsentCommands.{entered_push}
 
 -- the console's frames are those that the gate wants

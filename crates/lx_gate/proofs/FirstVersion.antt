@@ -1,14 +1,7 @@
 -- The opening of a gate.
-use Rattle.std.proofs.Common.{◌≡◌, ℕ, ◌-◌, ◌*◌, ◌≤◌, List, [], take, drop, replicate, refl, sym, ap, ◌∙◌}
-use Rattle.std.proofs.Common.{subst, arith}
-use Rattle.lx_base.specs.declared.TheConstants.{SLOTS, UNIVERSES}
-use Rattle.lx_spec.specs.Show.{Show}
+use Rattle.lx_gate.proofs.Imports.{◌≡◌, ℕ, ◌-◌, ◌*◌, ◌≤◌, List, [], take, drop, replicate, refl, sym, ap, ◌∙◌, subst, arith, SLOTS}
+use Rattle.lx_gate.proofs.Imports.{UNIVERSES, Show, Command, universe as universe_in, take-replicate, drop-replicate, slice_range, nothing_told}
 use Rattle.lx_gate.specs.Frames.{AreFramesOf, moment_after, IsVersion, IsFrame}
-use Rattle.lx_spec.specs.declared.Command.{Command}
-use Rattle.lx_console.specs.Slots.{universe as universe_in}
-use Rattle.std.proofs.lemmas.List.{take-replicate, drop-replicate}
-use Rattle.std.specs.List.{slice_range}
-use Rattle.lx_gate.specs.Readings.{nothing_told}
 
 range_replicate : (a b n : ℕ) → a ≤ b → b ≤ n → slice_range {X = ℕ} (replicate n 0) a b ≡ replicate (b - a) 0
 range_replicate a b n low high = ap (λ (w : List ℕ). take (b - a) w) (drop-replicate {X = ℕ} a n 0)

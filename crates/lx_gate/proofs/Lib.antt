@@ -5,3 +5,4 @@ pub mod FirstVersion
 pub mod DarkDesk
 pub mod UnsentCommands
 pub mod DeskSteps
+mod Imports

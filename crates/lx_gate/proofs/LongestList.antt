@@ -1,10 +1,7 @@
 -- The longer of two lists.
-use Rattle.std.proofs.Common.{◌≡◌, ◌<◌, ◌≤◌, true, false, inl, inr, List, length, ltb, arith}
+use Rattle.lx_gate.proofs.Imports.{◌≡◌, ◌<◌, ◌≤◌, true, false, inl, inr, List, length, ltb, arith, nat_tests, IsPrefix, Command, longest}
+use Rattle.lx_gate.proofs.Imports.{IsChained}
 use Rattle.std.proofs.lemmas.Bool.{cases_lt}
-use Rattle.std.proofs.lemmas.Bool.Decides.{nat_tests}
-use mathlib.Core.List.{IsPrefix}
-use Rattle.lx_spec.specs.declared.Command.{Command}
-use Rattle.lx_gate.specs.CommandLists.{longest, IsChained}
 use Rattle.lx_gate.proofs.Prefixes.{prefix_self, prefix_shorter, prefix_length}
 
 pub longest_second : (xs ys : List Command) → length xs < length ys → longest xs ys ≡ ys

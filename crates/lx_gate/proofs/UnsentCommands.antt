@@ -1,8 +1,6 @@
 -- Unsent commands of which the history has some already.
-use Rattle.std.proofs.Common.{◌≡◌, ◌-◌, ◌≤◌, List, [], ◌∷◌, ◌++◌, length, drop, refl, sym, ap, ◌∙◌, arith, append_assoc, length-append}
-use Rattle.std.proofs.lemmas.List.{append-nil}
-use Rattle.lx_spec.specs.declared.Command.{Command}
-use Rattle.lx_gate.specs.Gates.{Published, IsEntered}
+use Rattle.lx_gate.proofs.Imports.{◌≡◌, ◌-◌, ◌≤◌, List, [], ◌∷◌, ◌++◌, length, drop, refl, sym, ap, ◌∙◌, arith, append_assoc}
+use Rattle.lx_gate.proofs.Imports.{length-append, append-nil, Command, Published, IsEntered}
 use Rattle.lx_gate.proofs.Prefixes.{prefix_length}
 
 drop_append : {A : Type 0} (xs ys : List A) → drop (length xs) (xs ++ ys) ≡ ys

@@ -1,28 +1,13 @@
 -- What a handle leads to, as a box at its types.
-use Rattle.std.proofs.Common.{◌≡◌, ℕ, List, [], ◌∷◌, ◌++◌, refl, subst}
-use Rattle.std.specs.Prelude.{Bool, true, false, is_some}
-use mir.Syntax.{impl, tnil, dnil}
+use Rattle.lx_host.proofs.Imports.{◌≡◌, ℕ, List, [], ◌∷◌, ◌++◌, refl, subst, Bool, true, false, is_some, impl, tnil, dnil, Val, vptr, vstruct}
+use Rattle.lx_host.proofs.Imports.{vcons, vnil, of_list, never, fst∗, sem, Item, Goal, Seq, Step, step, ‵, ◌$◌, drop, fsplit, fjoin, fpick, fpack}
+use Rattle.lx_host.proofs.Imports.{rewrite, feq_i, feq_l, Ura, Logic, Valss, Ptr, block_ptr, null_ptr, ptr_val, in_a_block, Slot, plain, nothing, within, shape}
+use Rattle.lx_host.proofs.Imports.{Option, None, Some, Bx, τ, handle_owns, boxed}
 use mir.Raw.{raw as bare}
-use mir.Val.{Val, vptr, vstruct, vcons, vnil, of_list}
-use base.Logic.{never, fst∗}
-use types.Logic.{sem}
-use types.Kit.{Item, Goal, Seq, Step, step, ‵, ◌$◌, drop, fsplit, fjoin, fpick, fpack, rewrite, feq_i, feq_l}
-use seplogic.Ra.Ura.{Ura}
-use types.Logic.{Logic}
-use denote.RattleType.{Valss}
 use denote.Builtin.{RawPtr}
-use denote.RawPtr.{Ptr, block_ptr, null_ptr, ptr_val, in_a_block}
-use denote.Signature.{Slot, plain}
-use denote.Steps.{nothing}
-use denote.Struct.Struct.{within}
-use denote.Struct.Owning.{shape}
-use Rattle.std.specs.declared.option.Option.{Option}
-use Rattle.std.specs.declared.option.Option.TheVariants.{None, Some}
-use Rattle.std.proofs.BoxSteps.Form.{Bx, τ}
 use Rattle.std.specs.contracts.alloc.Global as Heap
 use Rattle.std.specs.contracts.impls.GlobalAllocator.TheImpl.{ghosts, dict}
 use Rattle.std.proofs.alloc.Global.TheLaws as heap
-use Rattle.lx_host.specs.Handle.{handle_owns, boxed}
 use Rattle.lx_embed.specs.contracts.desk.HostDesk as Host
 use Rattle.lx_embed.proofs.desk.HostDesk.TheLaws as host
 use Rattle.lx_host.specs.contracts.parts.Parts as Parts

@@ -1,14 +1,12 @@
 -- A refused show is told by the report of its fault.
-use Rattle.std.proofs.Common.{◌≡◌, ℕ, ◌<◌, List, length, arith}
+use Rattle.lx_host.proofs.Imports.{◌≡◌, ℕ, ◌<◌, List, length, arith, Form, Refused}
 use Rattle.lx_base.specs.declared.TheConstants.{INPUT_BYTES}
-use Rattle.lx_spec.specs.declared.Form.{Form}
 use Rattle.lx_reader.specs.declared.fault.ShowFault.{ShowFault}
 use Rattle.lx_reader.specs.declared.fault.ShowFault.TheVariants as faults
 use Rattle.lx_embed.specs.Opened.{RefusesShow}
 use Rattle.lx_host.specs.declared.status.ShowReport.{ShowReport}
 use Rattle.lx_host.specs.declared.status.TheConstants.{SHOW_REFUSED, TOO_LONG}
 use Rattle.lx_host.specs.Told.{status_of, show_report}
-use Rattle.lx_host.specs.Calls.{Refused}
 
 pub refused_told : (form : Form) (text : List ℕ) (fault : ShowFault) (s : ℕ) (report : ShowReport) → s ≡ status_of fault
     → s ≡ SHOW_REFUSED → report ≡ show_report fault → RefusesShow form text fault → Refused form text report

@@ -14,19 +14,13 @@
 --     returns-in_err-f g c = Puts-stops _ c.in_err-f.ensures c.from_residual.ensures
 --     returns-in_err-h g c = Puts-then c.in_ok-f.ensures (Puts-stops _ c.in_err-h.ensures c.from_residual-in_err-h.ensures)
 --     returns g c = Puts-is (Puts-then (Puts-then c.in_ok-f.ensures c.in_ok-h.ensures) c.k.ensures) (simp append_assoc)
-use Rattle.std.proofs.Common.{◌≡◌, ℕ, ◌+◌, ◌-◌, ◌<◌, ◌≤◌, List, [], ◌∷◌, ◌++◌, length, take, drop, get_or, Result, Ok, Err, Some, None}
-use Rattle.std.proofs.Common.{refl, sym, ap, ◌∙◌, append_assoc, append-nil, arith, length-append, length-take, add-one, drop-cons}
-use Rattle.std.proofs.Common.{take-append-drop}
-use Rattle.std.specs.Prelude.{Bool, flat_map, filter}
+use Rattle.lx_io.proofs.Imports.{◌≡◌, ℕ, ◌+◌, ◌-◌, ◌<◌, ◌≤◌, List, [], ◌∷◌, ◌++◌, length, take, drop, get_or, Result, Ok}
+use Rattle.lx_io.proofs.Imports.{Err, Some, None, refl, sym, ap, ◌∙◌, append_assoc, append-nil, arith, length-append, length-take, add-one, drop-cons}
+use Rattle.lx_io.proofs.Imports.{take-append-drop, Bool, flat_map, filter, Option, Appends, take-append-le, take_all, take-append-add, flat_map-append}
+use Rattle.lx_io.proofs.Imports.{AppendsFront, Puts}
 use Rattle.std.proofs.lemmas.List.Elements.{filter-append}
 use Rattle.std.specs.Result.{IsErr, IsErrAnd}
-use Rattle.std.specs.declared.option.Option.{Option}
-use Rattle.std.specs.Io.KnownBytes.{Appends}
-use Rattle.std.proofs.lemmas.List.{take-append-le, take_all}
-use Rattle.std.proofs.Math.Seq.{take-append-add}
-use Rattle.std.proofs.lemmas.Grind.{flat_map-append}
 use Rattle.lx_io.specs.declared.sink.SinkFault.{SinkFault}
-use Rattle.lx_io.specs.Puts.{AppendsFront, Puts}
 
 -- a front of a list is a front of a longer one
 pub front_along : (xs ys more : List ℕ) → take (length ys) xs ≡ ys → take (length ys) (xs ++ more) ≡ ys

@@ -1,11 +1,7 @@
 -- Bytes that are written into room, and bytes that are kept back there.
-use Rattle.std.proofs.Common.{◌≡◌, ℕ, ◌+◌, ◌≤◌, List, ◌++◌, length, take, drop, Some, None, sym, ap, ◌∙◌, append_assoc, take-append-drop}
-use Rattle.std.specs.declared.option.Option.{Option}
-use Rattle.std.specs.Io.KnownBytes.{Appends, Keeps}
-use Rattle.std.proofs.lemmas.List.{take-append-le, length-take-le}
-use Rattle.std.proofs.Math.Seq.{take-append-add}
+use Rattle.lx_io.proofs.Imports.{◌≡◌, ℕ, ◌+◌, ◌≤◌, List, ◌++◌, length, take, drop, Some, None, sym, ap, ◌∙◌, append_assoc}
+use Rattle.lx_io.proofs.Imports.{take-append-drop, Option, Appends, Keeps, take-append-le, length-take-le, take-append-add, with_kept}
 use borrow.Rule.Slice.PartMut.{put_mid}
-use Rattle.lx_io.specs.Kept.{with_kept}
 
 -- a part of the room was written, of which the first bytes count
 pub take_of_part : {X : Type 0} (a k : ℕ) (xs ys : List X) (r : ℕ) → a ≤ length xs → r ≤ length ys

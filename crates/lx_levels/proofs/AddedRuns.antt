@@ -1,20 +1,11 @@
 -- A run that is added to levels which stood for the playback before it.
-use Rattle.std.specs.Prelude.{◌≡◌, ℕ, zero, suc, ◌+◌, ◌-◌, ◌*◌, ◌/◌, ◌<◌, ◌≤◌, nat_lt, nat_le, Bool, true, false, cond, Some, List, [], ◌∷◌, length}
-use Rattle.std.specs.Prelude.{reverse, refl}
-use Rattle.std.proofs.lemmas.List.{get_or-reverse, length-reverse}
-use Rattle.std.proofs.Common.{arith, get_or, ◌∙◌, ap, sym, subst, inl, inr}
-use Rattle.std.proofs.lemmas.Bool.{cases_eq}
-use Rattle.lx_spec.specs.Show.{Show}
-use Rattle.lx_spec.specs.TrackedLevel.{tracked}
-use Rattle.lx_spec.specs.Run.{Run, acts, delay_of, time_of}
-use Rattle.lx_spec.specs.Level.{level, last_cue, run_over, fade_over, faded, moved_towards, rises_to}
-use Rattle.lx_spec.specs.Playback.{Playback}
-use Rattle.lx_spec.proofs.Rest.{same_run}
+use Rattle.lx_levels.proofs.Imports.{◌≡◌, ℕ, zero, suc, ◌+◌, ◌-◌, ◌*◌, ◌/◌, ◌<◌, ◌≤◌, nat_lt, nat_le, Bool, true, false, cond}
+use Rattle.lx_levels.proofs.Imports.{Some, List, [], ◌∷◌, length, reverse, refl, get_or-reverse, length-reverse, arith, get_or, ◌∙◌, ap, sym, subst}
+use Rattle.lx_levels.proofs.Imports.{inl, inr, cases_eq, Show, tracked, Run, acts, delay_of, time_of, level, last_cue, run_over, fade_over, faded}
+use Rattle.lx_levels.proofs.Imports.{moved_towards, rises_to, Playback, same_run, KeptLevels, stack_level, kept_stack, IsStill, StackStandsAt, StandsBefore}
+use Rattle.lx_levels.proofs.Imports.{IsElsewhere, IsAdded}
 use Rattle.lx_levels.proofs.Stands.{same_stack}
 use Rattle.lx_levels.proofs.HiddenRuns.{level_acted, level_passed}
-use Rattle.lx_levels.specs.Stacks.{KeptLevels, stack_level, kept_stack}
-use Rattle.lx_levels.specs.CurrentFades.{IsStill}
-use Rattle.lx_levels.specs.LevelsMeaning.{StackStandsAt, StandsBefore, IsElsewhere, IsAdded}
 
 heads : {A : Type 0} (x y : A) (xs ys : List A) → x ∷ xs ≡ y ∷ ys → x ≡ y
 heads x y xs ys same = cc

@@ -1,22 +1,12 @@
 -- Stacks laid out plane by plane.
-use Rattle.std.specs.Prelude.{◌≡◌, ◌≢◌, ◌⊎◌, ℕ, zero, suc, ◌+◌, ◌-◌, ◌*◌, ◌<◌, ◌≤◌, List, [], ◌∷◌, drop, length, min}
-use Rattle.std.proofs.Common.{arith, get_or, set, replicate, refl, ◌∙◌, ap, sym, subst, inl, inr}
-use Rattle.std.specs.List.{All}
-use Rattle.std.proofs.Math.ListN.{length-set}
-use Rattle.std.proofs.lemmas.Bool.{cases_eq, cases_lt}
-use Rattle.std.proofs.lemmas.Grind.{get_or-set_at}
-use Rattle.std.proofs.lemmas.List.{get_or-set_other, get_or_read, same_lists, get_or_past, get_or-replicate, length-drop}
-use Rattle.std.proofs.lemmas.List.{set-set}
+use Rattle.lx_levels.proofs.Imports.{◌≡◌, ◌≢◌, ◌⊎◌, ℕ, zero, suc, ◌+◌, ◌-◌, ◌*◌, ◌<◌, ◌≤◌, List, [], ◌∷◌, drop}
+use Rattle.lx_levels.proofs.Imports.{length, min, arith, get_or, set, replicate, refl, ◌∙◌, ap, sym, subst, inl, inr, All, length-set, cases_eq, cases_lt}
+use Rattle.lx_levels.proofs.Imports.{get_or-set_at, get_or-set_other, get_or_read, same_lists, get_or_past, get_or-replicate, length-drop, set-set, Fade}
+use Rattle.lx_levels.proofs.Imports.{stack_at, pushed, stack_column, no_fade, drop-stack_column, in_block, fade_over, NEVER, Stack, stack_level, no_stack}
 use Rattle.std.proofs.lemmas.List.FromFn.{length-map-range_with_len, get_or-map-range_with_len}
-use Rattle.lx_fade.specs.Fades.{Fade, stack_at, pushed}
-use Rattle.lx_fade.specs.Row.{stack_column, no_fade}
-use Rattle.lx_fade.proofs.Rows.{drop-stack_column, in_block}
 use Rattle.lx_fade.proofs.PushedFades.{stack_at-pushed}
-use Rattle.lx_spec.specs.Level.{fade_over}
-use Rattle.lx_fade.specs.declared.held.TheConstants.{NEVER}
 use Rattle.lx_sheet.proofs.Cells.{places_apart}
 use Rattle.lx_levels.specs.declared.racks.Racks.TheInside.{Inside}
-use Rattle.lx_levels.specs.Stacks.{Stack, stack_level, no_stack}
 use Rattle.lx_levels.specs.Columns.{IsLaidOut, stack_at_place, stacks_of}
 
 pub length-stack_column : (block : List Fade) (channels k n : ℕ) → length (stack_column block channels k n) ≡ n

@@ -1,12 +1,7 @@
 -- The entry that a run takes for a channel is one of its own.
-use Rattle.std.specs.Prelude.{◌≤◌, List, [], ◌∷◌, length, unwrap_or, option_and_then, ◌==◌, Some, None, ℕ}
-use Rattle.std.specs.List.{AllByRecursion}
-use Rattle.std.proofs.Common.{arith}
+use Rattle.lx_levels.proofs.Imports.{◌≤◌, List, [], ◌∷◌, length, unwrap_or, option_and_then, ◌==◌, Some, None, ℕ, AllByRecursion, arith}
+use Rattle.lx_levels.proofs.Imports.{entry_at, Show, move_of, Run, first_entry, entry_for}
 use Rattle.lx_spec.specs.declared.PartTimes.{PartTimes}
-use Rattle.lx_spec.specs.SortedList.{entry_at}
-use Rattle.lx_spec.specs.Show.{Show}
-use Rattle.lx_spec.specs.TrackedLevel.{move_of}
-use Rattle.lx_spec.specs.Run.{Run, first_entry, entry_for}
 use Rattle.lx_spec.proofs.Instant.{All-find}
 
 first_holds : (P : PartTimes → Type 0) (entries : List PartTimes) → 1 ≤ length entries → AllByRecursion P entries → P (first_entry entries)

@@ -1,8 +1,6 @@
 -- The entry at a place of a sorted list is the one of its number.
-use Rattle.std.specs.Prelude.{◌≡◌, ℕ, ◌<◌, Some, List, [], ◌∷◌, length}
-use Rattle.std.specs.List.{AllByRecursion}
-use Rattle.std.proofs.Common.{arith, get_or, zero, suc, refl, subst}
-use Rattle.lx_spec.specs.SortedList.{IsStrictlySorted, entry_at}
+use Rattle.lx_levels.proofs.Imports.{◌≡◌, ℕ, ◌<◌, Some, List, [], ◌∷◌, length, AllByRecursion, arith, get_or, zero, suc, refl, subst}
+use Rattle.lx_levels.proofs.Imports.{IsStrictlySorted, entry_at}
 use Rattle.lx_spec.proofs.Comparisons.{eq_true, eq_below}
 
 at_index : {A : Type 0} (P : A → Type 0) (xs : List A) (at : ℕ) (d : A) → AllByRecursion P xs → at < length xs → P (get_or xs at d)

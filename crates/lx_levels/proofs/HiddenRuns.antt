@@ -1,12 +1,8 @@
 -- What a run's fade hides of older runs, from a moment on.
-use Rattle.std.specs.Prelude.{◌≡◌, ℕ, ◌+◌, ◌-◌, ◌≤◌, Bool, true, false, cond, nat_lt, nat_le, List, ◌∷◌, refl}
-use Rattle.std.proofs.Common.{arith, ◌∙◌, sym}
+use Rattle.lx_levels.proofs.Imports.{◌≡◌, ℕ, ◌+◌, ◌-◌, ◌≤◌, Bool, true, false, cond, nat_lt, nat_le, List, ◌∷◌, refl, arith}
+use Rattle.lx_levels.proofs.Imports.{◌∙◌, sym, Show, tracked, Run, acts, entry_for, entry_extent, time_of, delay_of, level, last_cue, fade_over, run_over}
+use Rattle.lx_levels.proofs.Imports.{rises_to, same_run}
 use Rattle.std.proofs.lemmas.Bool.Decides.{nat_tests}
-use Rattle.lx_spec.specs.Show.{Show}
-use Rattle.lx_spec.specs.TrackedLevel.{tracked}
-use Rattle.lx_spec.specs.Run.{Run, acts, entry_for, entry_extent, time_of, delay_of}
-use Rattle.lx_spec.specs.Level.{level, last_cue, fade_over, run_over, rises_to}
-use Rattle.lx_spec.proofs.Rest.{same_run}
 
 lt_false : (m s : ℕ) → s ≤ m → nat_lt m s ≡ false
 lt_false m s h = grind (arith, nat_tests)

@@ -8,3 +8,4 @@ pub mod Looks
 pub mod Stands
 pub mod Found
 pub mod RunsInTurn
+mod Imports

@@ -1,10 +1,6 @@
 -- The levels at a number, read from its look.
-use Rattle.std.specs.Prelude.{◌≡◌, ℕ, ◌+◌, ◌<◌, List, Option, Some, None, IfSome}
-use Rattle.std.specs.Option.{option_map_or}
-use Rattle.std.proofs.Common.{arith, get_or, refl, ◌∙◌, sym}
-use Rattle.lx_spec.specs.Show.{Show}
-use Rattle.lx_spec.specs.TrackedLevel.{tracked}
-use Rattle.lx_sheet.specs.Rows.{Sheet, level_of}
+use Rattle.lx_levels.proofs.Imports.{◌≡◌, ℕ, ◌+◌, ◌<◌, List, Option, Some, None, IfSome, option_map_or, arith, get_or, refl, ◌∙◌, sym}
+use Rattle.lx_levels.proofs.Imports.{Show, tracked, Sheet, level_of}
 use Rattle.lx_sheet.specs.SheetMeaning.{RowsStandFor}
 
 in_look : {R : Type 0} (now : R → List ℕ) (sheet : Sheet) (n k : ℕ) (look : Option R)

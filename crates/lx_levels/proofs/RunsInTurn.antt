@@ -1,21 +1,10 @@
 -- Runs that are followed one after another.
-use Rattle.std.specs.Prelude.{◌≡◌, ℕ, ◌+◌, ◌<◌, ◌≤◌, true, false, List, [], ◌∷◌, ◌++◌, length, take, reverse}
-use Rattle.std.specs.Prelude.{Option, Some, None, IfSome, slice_set}
-use Rattle.std.specs.List.{All}
-use Rattle.std.proofs.Common.{arith, get_or, ap, sym, subst, inl, inr, ◌∙◌, add-one}
-use Rattle.std.proofs.lemmas.Bool.{cases_eq}
-use Rattle.std.proofs.lemmas.List.{get_or_default, get_or-set_other, get_or-set_same}
+use Rattle.lx_levels.proofs.Imports.{◌≡◌, ℕ, ◌+◌, ◌<◌, ◌≤◌, true, false, List, [], ◌∷◌, ◌++◌, length, take, reverse, Option}
+use Rattle.lx_levels.proofs.Imports.{Some, None, IfSome, slice_set, All, arith, get_or, ap, sym, subst, inl, inr, ◌∙◌, add-one, cases_eq, get_or_default}
+use Rattle.lx_levels.proofs.Imports.{get_or-set_other, get_or-set_same, common_steps, Show, tracked, Run, acts, entry_for, entry_extent, level, last_cue}
+use Rattle.lx_levels.proofs.Imports.{OldestFirst, Stack, stack_level, Act, IsReplayed, IsKnown, AreKnown, EachAct}
 use Rattle.std.proofs.Math.Seq.{take-suc}
-use Rattle.std.proofs.lemmas.Grind.{common_steps}
-use Rattle.lx_spec.specs.Show.{Show}
-use Rattle.lx_spec.specs.TrackedLevel.{tracked}
-use Rattle.lx_spec.specs.Run.{Run, acts, entry_for, entry_extent}
-use Rattle.lx_spec.specs.Level.{level, last_cue}
-use Rattle.lx_playback.specs.Valid.{OldestFirst}
-use Rattle.lx_levels.specs.Stacks.{Stack, stack_level}
 use Rattle.lx_levels.specs.TimedFades.{timed_over}
-use Rattle.lx_levels.specs.declared.replay.Act.{Act}
-use Rattle.lx_levels.specs.RunsInTurn.{IsReplayed, IsKnown, AreKnown, EachAct}
 use Rattle.lx_levels.proofs.HiddenRuns.{level_hidden, level_passed, level_pushed}
 
 -- one run more, the newest first

@@ -1,12 +1,6 @@
 -- What levels stand for under other words.
-use Rattle.std.specs.Prelude.{◌≡◌, ℕ, ◌+◌, ◌<◌, ◌≤◌, List, length}
-use Rattle.std.proofs.Common.{arith, ◌∙◌, ap, sym, subst}
-use Rattle.lx_spec.specs.Show.{Show}
-use Rattle.lx_spec.specs.Run.{Run}
-use Rattle.lx_spec.specs.Level.{level}
-use Rattle.lx_spec.specs.Playback.{Playback}
-use Rattle.lx_levels.specs.Stacks.{KeptLevels, Stack, stack_level, level_at, kept_stack}
-use Rattle.lx_levels.specs.LevelsMeaning.{LevelsStandFor, StackStandsAt}
+use Rattle.lx_levels.proofs.Imports.{◌≡◌, ℕ, ◌+◌, ◌<◌, ◌≤◌, List, length, arith, ◌∙◌, ap, sym, subst, Show, Run, level, Playback}
+use Rattle.lx_levels.proofs.Imports.{KeptLevels, Stack, stack_level, level_at, kept_stack, LevelsStandFor, StackStandsAt}
 
 -- the kept level is that of the definition
 pub kept_level : (show : Show) (p : Playback) (kept : KeptLevels) (k : ℕ) → LevelsStandFor show p kept → k < show.channels

@@ -1,15 +1,9 @@
 -- Channels that are under way, as time goes on.
-use Rattle.std.specs.Prelude.{◌≡◌, ◌≢◌, ℕ, ◌+◌, ◌<◌, ◌≤◌, List, length, slice_index_or}
-use Rattle.std.proofs.Common.{arith, get_or, set, get_or-set_other, replicate, lit<, refl, ◌∙◌, ap, sym, subst, inl, inr}
-use Rattle.std.proofs.lemmas.List.{length-replicate, get_or-replicate}
-use Rattle.lx_base.specs.declared.TheConstants.{CHANNELS}
-use Rattle.std.proofs.Math.ListN.{length-set}
-use Rattle.std.proofs.lemmas.Bool.{cases_eq}
-use Rattle.std.proofs.lemmas.Grind.{get_or-set_at}
-use Rattle.lx_fade.specs.declared.held.TheConstants.{NEVER}
+use Rattle.lx_levels.proofs.Imports.{◌≡◌, ◌≢◌, ℕ, ◌+◌, ◌<◌, ◌≤◌, List, length, slice_index_or, arith, get_or, set, get_or-set_other}
+use Rattle.lx_levels.proofs.Imports.{replicate, lit<, refl, ◌∙◌, ap, sym, subst, inl, inr, length-replicate, get_or-replicate, CHANNELS, length-set}
+use Rattle.lx_levels.proofs.Imports.{cases_eq, get_or-set_at, NEVER, Stack, stack_level, no_stack, Governs, StaysUntil, no_current, IsHeld, IsTold, LevelsReach}
+use Rattle.lx_levels.proofs.Imports.{IsRightAt, IsRightBut, IsWritten, IsAdvanced}
 use Rattle.lx_levels.specs.declared.current.Current.{Current}
-use Rattle.lx_levels.specs.Stacks.{Stack, stack_level, no_stack}
-use Rattle.lx_levels.specs.CurrentFades.{Governs, StaysUntil, no_current, IsHeld, IsTold, LevelsReach, IsRightAt, IsRightBut, IsWritten, IsAdvanced}
 
 -- the level that is kept is that of the stack
 pub level_now : (m k : ℕ) (stacks : List Stack) (currents : List Current) (levels holds : List ℕ) → IsTold m stacks currents levels holds k

@@ -1,13 +1,9 @@
 -- Where lines are cut off.
-use Rattle.std.proofs.Common.{◌≡◌, ◌⊎◌, inl, inr, ℕ, zero, suc, ◌+◌, ◌-◌, ◌≤◌, ◌<◌, Bool, true, false, Option, Some, None, IfSome, List, []}
-use Rattle.std.proofs.Common.{◌∷◌, ◌++◌, length, take, refl, sym, ap, ◌∙◌, subst, append-nil, append_assoc, arith}
-use Rattle.std.specs.Io.KnownBytes.{prepend_known}
-use Rattle.lx_base.specs.declared.TheConstants.{INPUT_BYTES}
-use Rattle.lx_spec.specs.CutInput.{HasNoFeed, feeds, first_lines, CutOff}
-use Rattle.lx_lex.specs.declared.lines.Lines.{Lines}
-use Rattle.lx_lex.specs.declared.lines.Step.TheVariants.{ReadFault, InputTooLong}
-use Rattle.lx_lex.specs.Lines.{feed_of, BytesBetween, LinesBetween, StepOf}
-use Rattle.lx_lex.specs.Unread.{held, unread, current_line}
+use Rattle.lx_lex.proofs.Imports.{◌≡◌, ◌⊎◌, inl, inr, ℕ, zero, suc, ◌+◌, ◌-◌, ◌≤◌, ◌<◌, Bool, true, false, Some, None, IfSome}
+use Rattle.lx_lex.proofs.Imports.{List, [], ◌∷◌, ◌++◌, length, take, refl, sym, ap, ◌∙◌, subst, append-nil, append_assoc, arith, prepend_known}
+use Rattle.lx_lex.proofs.Imports.{INPUT_BYTES, HasNoFeed, feeds, first_lines, CutOff, Lines, ReadFault, InputTooLong, feed_of, BytesBetween, LinesBetween}
+use Rattle.lx_lex.proofs.Imports.{StepOf, held, unread, current_line}
+use Rattle.std.proofs.Common.{Option}
 use Rattle.lx_lex.specs.CutOff.{NotTaken}
 
 -- the next line wasn't taken: a read failed, or the input is too long

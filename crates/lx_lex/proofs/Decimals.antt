@@ -1,11 +1,7 @@
 -- The digits and decimals of a number, written from left to right.
-use Rattle.std.proofs.Common.{◌≡◌, ◌≢◌, ◌⊎◌, inl, inr, ℕ, zero, suc, ◌+◌, ◌-◌, ◌*◌, ◌/◌, ◌%◌, ◌<◌, ◌≤◌, List, [], ◌∷◌, ◌++◌, length, take}
-use Rattle.std.proofs.Common.{set, refl, sym, ap, ◌∙◌, append-nil, append_assoc, decimal, arith}
-use Rattle.std.proofs.Math.Nat.{mod-lt}
-use Rattle.std.proofs.lemmas.Bool.{ne_eqb}
-use Rattle.std.proofs.lemmas.List.{take_more_set}
-use Rattle.itoa.proofs.Decimal.{length_one, length_two, length_pair}
-use Rattle.lx_spec.specs.Numerals.{decimals_of}
+use Rattle.lx_lex.proofs.Imports.{◌≡◌, ◌≢◌, ◌⊎◌, inl, inr, ℕ, zero, suc, ◌+◌, ◌-◌, ◌*◌, ◌/◌, ◌%◌, ◌<◌, ◌≤◌}
+use Rattle.lx_lex.proofs.Imports.{List, [], ◌∷◌, ◌++◌, length, take, set, refl, sym, ap, ◌∙◌, append-nil, append_assoc, decimal, arith, mod-lt}
+use Rattle.lx_lex.proofs.Imports.{ne_eqb, take_more_set, length_one, length_two, length_pair, decimals_of}
 use Rattle.lx_lex.specs.Texts.{decimals_text}
 
 pub length_three : (n : ℕ) → 100 ≤ n → n < 1000 → length (decimal n) ≡ 3

@@ -1,13 +1,9 @@
 -- How many of 32 bytes stand before the first LF among them.
-use Rattle.std.proofs.Common.{◌≡◌, ℕ, ◌+◌, ◌%◌, ◌^◌, ◌<◌, ◌≤◌, cond, eqb, not, List, map, length, replicate, w8}
-use Rattle.std.proofs.Common.{sym, ◌∙◌, arith}
-use Rattle.std.specs.List.{prefix_len}
-use Rattle.std.proofs.lemmas.Bool.{false≢true}
+use Rattle.lx_lex.proofs.Imports.{◌≡◌, ℕ, ◌+◌, ◌%◌, ◌^◌, ◌<◌, ◌≤◌, cond, eqb, not, List, map, length, replicate, w8, sym}
+use Rattle.lx_lex.proofs.Imports.{◌∙◌, arith, prefix_len, false≢true, count_trailing_zeros, Nowhere, Passes, is_byte}
 use Rattle.std.proofs.lemmas.Simd.{bitmask_splat, length-chunk, none_from_empty_mask, run_in_chunk_fails, run_in_chunk_le, run_in_chunk_stops}
 use Rattle.std.proofs.lemmas.Simd.{trailing_mask_l}
-use lib.Count.{count_trailing_zeros}
 use lib.Lanes.{chunk, mask_l, top, zip2}
-use Rattle.memchr.specs.Find.{Nowhere, Passes, is_byte}
 
 module _ (xs : List ℕ) (at : ℕ) (room : at + 32 ≤ length xs) where
   -- which of the bytes are LF, as bits

@@ -1,10 +1,6 @@
 -- The bytes of the first lines.
-use Rattle.std.proofs.Common.{◌≡◌, inl, inr, ℕ, zero, suc, ◌+◌, ◌≤◌, Bool, true, false, List, [], ◌∷◌, ◌++◌, length, refl, sym, ap, ◌∙◌}
-use Rattle.std.proofs.Common.{arith, zero-add}
-use Rattle.std.proofs.lemmas.Bool.{ne_eqb, cases_eq, eq-eqb}
-use Rattle.lx_spec.specs.CutInput.{HasNoFeed, first_lines}
-use Rattle.lx_spec.specs.Text.{cut_lines}
-use Rattle.lx_lex.specs.Lines.{feed_of}
+use Rattle.lx_lex.proofs.Imports.{◌≡◌, inl, inr, ℕ, zero, suc, ◌+◌, ◌≤◌, Bool, true, false, List, [], ◌∷◌, ◌++◌, length, refl, sym}
+use Rattle.lx_lex.proofs.Imports.{ap, ◌∙◌, arith, zero-add, ne_eqb, cases_eq, eq-eqb, HasNoFeed, first_lines, cut_lines, feed_of}
 
 -- a line with its LF, and the rest
 pub cut_lines-feed : (raw rest : List ℕ) → HasNoFeed raw → cut_lines (raw ++ 10 ∷ rest) ≡ raw ∷ cut_lines rest

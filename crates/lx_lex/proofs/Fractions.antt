@@ -1,10 +1,7 @@
 -- Decimals in parts of a unit that is a power of ten.
-use Rattle.std.proofs.Common.{◌≡◌, ℕ, zero, suc, ◌+◌, ◌-◌, ◌*◌, ◌/◌, ◌^◌, ◌<◌, ◌≤◌, false, nat_le, add-one, sym, ap, ◌∙◌, inl, inr, arith}
-use Rattle.std.proofs.lemmas.Nat.{pow-add}
-use Rattle.std.proofs.lemmas.Bool.{cases_lt}
-use Rattle.std.proofs.lemmas.Bool.Decides.{nat_tests}
-use Rattle.std.proofs.Math.Nat.{pow-succ', div-div-eq-div-mul, mul-div_cancel, mul-div-mul_right, div-eq_of_lt, mul-le-mul_right}
-use Rattle.std.proofs.Math.Nat.{le-div_iff_mul-le}
+use Rattle.lx_lex.proofs.Imports.{◌≡◌, ℕ, zero, suc, ◌+◌, ◌-◌, ◌*◌, ◌/◌, ◌^◌, ◌<◌, ◌≤◌, false, nat_le, add-one, sym, ap}
+use Rattle.lx_lex.proofs.Imports.{◌∙◌, inl, inr, arith, pow-add, cases_lt, nat_tests, pow-succ', div-div-eq-div-mul, mul-div_cancel, mul-div-mul_right}
+use Rattle.lx_lex.proofs.Imports.{div-eq_of_lt, mul-le-mul_right, le-div_iff_mul-le}
 
 pub ten_pos : (i : ℕ) → 0 < 10 ^ i
 ten_pos zero = omega arith

@@ -1,10 +1,7 @@
 -- How a loop over `advance` begins and goes on.
-use Rattle.std.proofs.Common.{◌≡◌, ℕ, ◌+◌, true, IsTrue, List, [], ◌∷◌, ◌++◌, refl, ◌∙◌, length-append, arith}
-use Rattle.std.specs.declared.option.Option.{Option}
-use Rattle.lx_lex.specs.declared.lines.Lines.{Lines}
+use Rattle.lx_lex.proofs.Imports.{◌≡◌, ℕ, ◌+◌, true, IsTrue, List, [], ◌∷◌, ◌++◌, refl, ◌∙◌, length-append, arith, Option, Lines}
+use Rattle.lx_lex.proofs.Imports.{LineBetween, unread}
 use Rattle.lx_lex.specs.LinesHandedOut.{HandedOut}
-use Rattle.lx_lex.specs.Lines.{LineBetween}
-use Rattle.lx_lex.specs.Unread.{unread}
 use Rattle.lx_lex.proofs.TakenLines.{no_line, one_line, then_lines}
 
 -- no line yet

@@ -1,12 +1,7 @@
 -- Levels that are letters, as they are read where they stand: two hexadecimal digits behind H, and FL.
-use Rattle.std.proofs.Common.{◌≡◌, ℕ, ◌+◌, ◌-◌, ◌*◌, ◌≤◌, Some, true, false, List, [], ◌∷◌, length, take, drop, get_or, refl, sym, ap, ◌∙◌, subst, inl, inr, arith}
-use Rattle.std.specs.Prelude.{◌&&◌, nat_le}
-use Rattle.std.proofs.lemmas.Bool.{cases_Bool}
-use Rattle.std.proofs.lemmas.Bool.Decides.{nat_tests}
-use Rattle.std.proofs.lemmas.List.{take_all}
-use Rattle.lx_spec.specs.Numerals.{is_digit, hex_pair, hex_value}
-use Rattle.lx_spec.specs.Text.{is_separator, begins_comment, after_all, tokens}
-use Rattle.lx_lex.specs.PlainNumber.{EndsToken, FirstIsLevel}
+use Rattle.lx_lex.proofs.Imports.{◌≡◌, ℕ, ◌+◌, ◌-◌, ◌*◌, ◌≤◌, Some, true, false, List, [], ◌∷◌, length, take, drop, get_or}
+use Rattle.lx_lex.proofs.Imports.{refl, sym, ap, ◌∙◌, subst, inl, inr, arith, ◌&&◌, nat_le, cases_Bool, nat_tests, take_all, is_digit, hex_pair}
+use Rattle.lx_lex.proofs.Imports.{hex_value, is_separator, begins_comment, after_all, tokens, EndsToken, FirstIsLevel}
 use Rattle.lx_lex.proofs.Separators.{apart}
 use Rattle.lx_lex.proofs.LineCuts.{goes, after_all-yes, next-token}
 

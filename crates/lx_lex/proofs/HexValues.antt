@@ -1,11 +1,7 @@
 -- The table of hexadecimal digits.
-use Rattle.std.proofs.Common.{◌≡◌, ℕ, ◌<◌, ◌≤◌, Some, None, refl, ap, sym, ◌∙◌, inl, inr, arith, map, get_or}
-use Rattle.std.specs.Prelude.{Option, unwrap_or, ◌&&◌, nat_le}
-use Rattle.std.specs.List.{range_with_len}
-use Rattle.std.proofs.lemmas.Bool.{cases_Bool}
-use Rattle.std.proofs.lemmas.Bool.Decides.{nat_tests}
-use Rattle.std.proofs.lemmas.List.FromFn.{get_or-map-range_with_len}
-use Rattle.lx_spec.specs.Numerals.{is_digit, hex_value}
+use Rattle.lx_lex.proofs.Imports.{◌≡◌, ℕ, ◌<◌, ◌≤◌, Some, None, refl, ap, sym, ◌∙◌, inl, inr, arith, map, get_or, unwrap_or, ◌&&◌}
+use Rattle.lx_lex.proofs.Imports.{nat_le, range_with_len, cases_Bool, nat_tests, get_or-map-range_with_len, is_digit, hex_value}
+use Rattle.std.specs.Prelude.{Option}
 use Rattle.lx_lex.specs.declared.hex.TheConstants.{VALUES}
 
 values_are : VALUES ≡ map (λ b. unwrap_or (hex_value b) 16) (range_with_len 0 256)

@@ -1,9 +1,8 @@
 -- Texts that are equal but for the case of their letters.
-use Rattle.std.proofs.Common.{◌≡◌, ℕ, Bool, true, List, [], ◌∷◌, map, refl, sym, ap, ◌∙◌, IsTrue, ◌↔◌, arith}
+use Rattle.lx_lex.proofs.Imports.{◌≡◌, ℕ, Bool, true, List, [], ◌∷◌, map, refl, sym, ap, ◌∙◌, IsTrue, ◌↔◌, arith, nat_tests}
+use Rattle.lx_lex.proofs.Imports.{same_from_decides, bytes_eq-Decides}
 use Rattle.std.specs.Char.{to_ascii_uppercase, to_ascii_lowercase}
 use Rattle.std.specs.Str.{bytes_eq}
-use Rattle.std.proofs.lemmas.Bool.Decides.{nat_tests, same_from_decides}
-use Rattle.std.proofs.lemmas.Slice.Eq.{bytes_eq-Decides}
 
 upper-lower : (b : ℕ) → to_ascii_uppercase (to_ascii_lowercase b) ≡ to_ascii_uppercase b
 upper-lower b = grind (arith, nat_tests)

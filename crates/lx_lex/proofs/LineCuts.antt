@@ -1,12 +1,8 @@
 -- How a line is cut into tokens, whatever the tests for separators and for the comment are.
-use Rattle.std.proofs.Common.{◌≡◌, ℕ, suc, ◌-◌, ◌≤◌, Bool, true, false, not, ◌||◌, ◌==◌, List, [], ◌∷◌, length, take, filter, refl, sym, ap}
-use Rattle.std.proofs.Common.{◌∙◌, inl, inr, arith}
-use Rattle.std.specs.List.{before_first, onto_first, slice_split, take_while, position_or_len}
-use Rattle.std.proofs.lemmas.Bool.{cases_Bool}
-use Rattle.std.proofs.lemmas.List.{length-take}
-use Rattle.std.proofs.lemmas.Grind.{common_steps}
+use Rattle.lx_lex.proofs.Imports.{◌≡◌, ℕ, suc, ◌-◌, ◌≤◌, Bool, true, false, not, ◌||◌, ◌==◌, List, [], ◌∷◌, length, take}
+use Rattle.lx_lex.proofs.Imports.{filter, refl, sym, ap, ◌∙◌, inl, inr, arith, before_first, onto_first, slice_split, take_while, position_or_len}
+use Rattle.lx_lex.proofs.Imports.{cases_Bool, length-take, common_steps, is_filled, after_all}
 use Rattle.std.proofs.lemmas.List.Splits.{slice_split-cons_yes, slice_split-cons_no}
-use Rattle.lx_spec.specs.Text.{is_filled, after_all}
 
 module _ (p : ℕ → Bool) where
   pub before_first-yes : (b : ℕ) (l : List ℕ) → p b ≡ true → before_first p (b ∷ l) ≡ []

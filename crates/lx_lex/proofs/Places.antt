@@ -1,9 +1,6 @@
 -- The first place at which a test passes.
-use Rattle.std.proofs.Common.{◌≡◌, ℕ, ◌+◌, ◌<◌, ◌≤◌, Bool, true, false, nat_lt, List, [], ◌∷◌, length, Some, None, refl, inl, inr, arith}
-use Rattle.std.specs.List.{list_any, before_first, after_first, position, position_or_len}
-use Rattle.std.proofs.lemmas.Bool.{cases_Bool}
-use Rattle.std.proofs.lemmas.Bool.Decides.{nat_tests}
-use Rattle.std.proofs.lemmas.List.{take_all, drop_all}
+use Rattle.lx_lex.proofs.Imports.{◌≡◌, ℕ, ◌+◌, ◌<◌, ◌≤◌, Bool, true, false, nat_lt, List, [], ◌∷◌, length, Some, None, refl, inl}
+use Rattle.lx_lex.proofs.Imports.{inr, arith, list_any, before_first, after_first, position, position_or_len, cases_Bool, nat_tests, take_all, drop_all}
 
 module _ (p : ℕ → Bool) where
   pub list_any-position : (l : List ℕ) → list_any p l ≡ nat_lt (position_or_len p l) (length l)

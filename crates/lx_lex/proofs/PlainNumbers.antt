@@ -1,17 +1,8 @@
 -- Numbers of digits alone, as they are read where they stand.
-use Rattle.std.proofs.Common.{◌≡◌, ℕ, ◌+◌, ◌-◌, ◌*◌, ◌<◌, ◌≤◌, true, false, List, [], ◌∷◌, ◌++◌, length, take, drop, get_or, refl, sym, ap}
-use Rattle.std.proofs.Common.{◌∙◌, append_assoc, append-nil, arith, length-append, subst}
-use Rattle.std.specs.Prelude.{◌==◌}
-use Rattle.std.specs.List.{list_all}
-use Rattle.std.proofs.lemmas.Bool.Decides.{nat_tests}
-use Rattle.std.proofs.lemmas.Grind.{fold-append}
-use Rattle.std.proofs.Math.Seq.{take-append_seam}
-use Rattle.std.proofs.lemmas.List.{take_all, drop_more, length-drop}
-use Rattle.std.proofs.lemmas.List.Folds.{list_all-append}
-use Rattle.lx_spec.specs.Numerals.{is_digit, is_number, number_of}
-use Rattle.lx_spec.specs.Text.{is_separator, begins_comment, after_all, tokens}
-use Rattle.lx_spec.proofs.Comparisons.{eq_from}
-use Rattle.lx_lex.specs.PlainNumber.{BeginsWithDigits, EndsToken, FirstIsNumber}
+use Rattle.lx_lex.proofs.Imports.{◌≡◌, ℕ, ◌+◌, ◌-◌, ◌*◌, ◌<◌, ◌≤◌, true, false, List, [], ◌∷◌, ◌++◌, length, take, drop}
+use Rattle.lx_lex.proofs.Imports.{get_or, refl, sym, ap, ◌∙◌, append_assoc, append-nil, arith, length-append, subst, ◌==◌, list_all, nat_tests}
+use Rattle.lx_lex.proofs.Imports.{fold-append, take-append_seam, take_all, drop_more, length-drop, list_all-append, is_digit, is_number, number_of}
+use Rattle.lx_lex.proofs.Imports.{is_separator, begins_comment, after_all, tokens, eq_from, BeginsWithDigits, EndsToken, FirstIsNumber}
 use Rattle.lx_lex.proofs.Separators.{apart}
 use Rattle.lx_lex.proofs.LineCuts.{goes, after_all-yes, next-token}
 

@@ -1,15 +1,8 @@
 -- Parts of a text, and bytes that are looked for in them.
-use Rattle.std.proofs.Common.{◌≡◌, ℕ, suc, ◌+◌, ◌-◌, ◌<◌, ◌≤◌, List, [], ◌∷◌, ◌++◌, length, take, drop, get_or, true, false, nat_lt, None}
-use Rattle.std.proofs.Common.{sym, ap, ◌∙◌, subst, inl, inr, arith, append_assoc, add-one}
-use Rattle.std.specs.Prelude.{slice_range}
-use Rattle.std.proofs.Math.Seq.{take-add, drop-cons}
-use Rattle.std.proofs.lemmas.Bool.{eqb-true, cases_lt, lt-ltb}
-use Rattle.std.proofs.lemmas.Bool.Decides.{nat_tests}
-use Rattle.std.proofs.lemmas.Grind.{common_steps}
-use Rattle.std.proofs.lemmas.List.{get_or-take, get_or-drop, drop-drop}
-use Rattle.std.proofs.lemmas.List.Folds.{list_any_at}
-use Rattle.memchr.specs.Find.{IsFirstByte, Nowhere, Passes, is_byte}
-use Rattle.lx_lex.specs.Unread.{has_feed}
+use Rattle.lx_lex.proofs.Imports.{◌≡◌, ℕ, suc, ◌+◌, ◌-◌, ◌<◌, ◌≤◌, List, [], ◌∷◌, ◌++◌, length, take, drop, get_or, true}
+use Rattle.lx_lex.proofs.Imports.{false, nat_lt, None, sym, ap, ◌∙◌, subst, inl, inr, arith, append_assoc, add-one, slice_range, take-add, drop-cons}
+use Rattle.lx_lex.proofs.Imports.{eqb-true, cases_lt, lt-ltb, nat_tests, common_steps, get_or-take, get_or-drop, drop-drop, list_any_at, IsFirstByte, Nowhere}
+use Rattle.lx_lex.proofs.Imports.{Passes, is_byte, has_feed}
 use Rattle.lx_lex.proofs.Feeds.{feed-none, has_feed-no_feed}
 
 module _ (xs : List ℕ) (s e : ℕ) where

@@ -1,16 +1,7 @@
 -- What was read of a source while a line was put together, and how the line's step ends.
-use Rattle.std.proofs.Common.{◌≡◌, ◌⊎◌, inl, inr, ℕ, ◌<◌, ◌≤◌, false, List, [], ◌++◌, length, Some, None, refl, sym, ap, ◌∙◌, subst, arith}
-use Rattle.std.specs.declared.option.Option.{Option}
-use Rattle.std.specs.Io.KnownBytes.{Consumes}
-use Rattle.std.proofs.KnownBytes.{Consumes-trans}
-use Rattle.std.proofs.lemmas.Bool.{cases_lt}
-use Rattle.lx_base.specs.declared.TheConstants.{LINE_BYTES}
-use Rattle.lx_spec.specs.CutInput.{HasNoFeed}
-use Rattle.lx_lex.specs.declared.lines.Lines.{Lines}
-use Rattle.lx_lex.specs.declared.lines.Step.{Step}
-use Rattle.lx_lex.specs.declared.lines.Step.TheVariants.{Line, LongLine}
-use Rattle.lx_lex.specs.Lines.{ReadsWhileUnfed, HasStepCause}
-use Rattle.lx_lex.specs.Unread.{held, has_feed}
+use Rattle.lx_lex.proofs.Imports.{◌≡◌, ◌⊎◌, inl, inr, ℕ, ◌<◌, ◌≤◌, false, List, [], ◌++◌, length, Some, None, refl, sym, ap}
+use Rattle.lx_lex.proofs.Imports.{◌∙◌, subst, arith, Option, Consumes, Consumes-trans, cases_lt, LINE_BYTES, HasNoFeed, Lines, Step, Line, LongLine}
+use Rattle.lx_lex.proofs.Imports.{ReadsWhileUnfed, HasStepCause, held, has_feed}
 use Rattle.lx_lex.proofs.Feeds.{no_feed-from}
 use Rattle.lx_lex.proofs.Progress.{HasNoFeed-append}
 

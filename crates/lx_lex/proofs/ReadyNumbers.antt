@@ -1,20 +1,10 @@
 -- The rows of the table of channels' numbers.
-use Rattle.std.proofs.Common.{◌≡◌, ℕ, ◌+◌, ◌-◌, ◌*◌, ◌/◌, ◌%◌, ◌<◌, ◌≤◌, true, List, [], ◌∷◌, ◌++◌, get_or, length, map, take, drop, decimal}
-use Rattle.std.proofs.Common.{arith, cond, inl, inr, refl, sym, ap, ◌∙◌, subst, append_assoc}
-use Rattle.std.specs.Prelude.{codes, eqb, nat_lt}
-use Rattle.std.specs.List.{list_all, range_with_len, starts_with}
-use Rattle.std.proofs.lemmas.Bool.{cases_Bool, cases_lt}
-use Rattle.std.proofs.lemmas.Bool.Decides.{Decides-eqb, nat_tests}
-use Rattle.std.proofs.lemmas.Fmt.{decimal_digit}
-use Rattle.std.proofs.lemmas.List.{length-drop, take_all}
-use Rattle.std.proofs.lemmas.List.FromFn.{get_or-map-range_with_len}
-use Rattle.std.proofs.lemmas.Slice.Eq.{starts_is}
-use Rattle.itoa.proofs.Decimal.{pair, decimal_two, decimal_pair}
-use Rattle.lx_spec.specs.Numerals.{is_digit, number_of}
-use Rattle.lx_spec.specs.Text.{is_separator, begins_comment, tokens}
-use Rattle.lx_spec.proofs.Comparisons.{lt_true, lt_false}
+use Rattle.lx_lex.proofs.Imports.{◌≡◌, ℕ, ◌+◌, ◌-◌, ◌*◌, ◌/◌, ◌%◌, ◌<◌, ◌≤◌, true, List, [], ◌∷◌, ◌++◌, get_or}
+use Rattle.lx_lex.proofs.Imports.{length, map, take, drop, decimal, arith, cond, inl, inr, refl, sym, ap, ◌∙◌, subst, append_assoc, codes, eqb, nat_lt}
+use Rattle.lx_lex.proofs.Imports.{list_all, range_with_len, starts_with, cases_Bool, cases_lt, Decides-eqb, nat_tests, decimal_digit, length-drop, take_all}
+use Rattle.lx_lex.proofs.Imports.{get_or-map-range_with_len, starts_is, pair, decimal_two, decimal_pair, is_digit, number_of, is_separator, begins_comment}
+use Rattle.lx_lex.proofs.Imports.{tokens, lt_true, lt_false, BeginsWithDigits, EndsToken, FirstIsNumber}
 use Rattle.lx_lex.specs.declared.names.TheConstants.{NUMBERS, DIGITS}
-use Rattle.lx_lex.specs.PlainNumber.{BeginsWithDigits, EndsToken, FirstIsNumber}
 use Rattle.lx_lex.proofs.LineCuts.{tokens_by-separator}
 use Rattle.lx_lex.proofs.PlainNumbers.{number_at_once}
 use Rattle.lx_lex.proofs.Separators.{apart}

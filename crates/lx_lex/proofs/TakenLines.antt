@@ -1,17 +1,9 @@
 -- Lines that were taken one after another: how a loop over `advance` begins, goes on and ends.
-use Rattle.std.proofs.Common.{◌≡◌, ◌⊎◌, inl, inr, ℕ, ◌+◌, ◌<◌, ◌≤◌, Bool, true, false, List, [], ◌∷◌, ◌++◌, length, map, Some, None}
-use Rattle.std.proofs.Common.{IfSome, refl, sym, ap, ◌∙◌, subst, append-nil, append_assoc, length-append, arith}
-use Rattle.std.specs.Prelude.{◌==◌}
-use Rattle.std.specs.declared.option.Option.{Option}
-use Rattle.std.specs.Io.KnownBytes.{IsAtEnd}
-use Rattle.std.proofs.KnownBytes.{Consumes-trans}
-use Rattle.std.proofs.lemmas.List.{map-append}
-use Rattle.lx_base.specs.declared.TheConstants.{INPUT_BYTES}
-use Rattle.lx_spec.specs.CutInput.{HasNoFeed, feeds, first_lines}
+use Rattle.lx_lex.proofs.Imports.{◌≡◌, ◌⊎◌, inl, inr, ℕ, ◌+◌, ◌<◌, ◌≤◌, Bool, true, false, List, [], ◌∷◌, ◌++◌, length}
+use Rattle.lx_lex.proofs.Imports.{map, Some, None, IfSome, refl, sym, ap, ◌∙◌, subst, append-nil, append_assoc, length-append, arith, ◌==◌, Option}
+use Rattle.lx_lex.proofs.Imports.{IsAtEnd, Consumes-trans, map-append, INPUT_BYTES, HasNoFeed, feeds, first_lines, cut_lines, without_cr, lines_of}
+use Rattle.lx_lex.proofs.Imports.{InputTooLong, feed_of, LineBetween, LinesBetween, StepOf}
 use Rattle.lx_lex.proofs.Feeds.{feeds-none, count_by-append, append_none}
-use Rattle.lx_spec.specs.Text.{cut_lines, without_cr, lines_of}
-use Rattle.lx_lex.specs.declared.lines.Step.TheVariants.{InputTooLong}
-use Rattle.lx_lex.specs.Lines.{feed_of, LineBetween, LinesBetween, StepOf}
 use Rattle.lx_lex.proofs.FirstLines.{cut_lines-feed, cut_lines-last, first_lines-none, first_lines-feed, first_lines-last}
 use Rattle.lx_lex.proofs.FirstLines.{first_lines-front, first_lines-more, first_lines-longer}
 

@@ -1,29 +1,16 @@
 -- What two lists keep stays filled in.
-use Rattle.std.proofs.Common.{◌≡◌, ℕ, ◌+◌, ◌<◌, Bool, false, true, cond, Ok, Err, refl, sym, ap, subst, ◌∙◌, arith}
-use Rattle.std.specs.Prelude.{Result, IsTrue, ◌==◌, max}
+use Rattle.lx_lists.proofs.Imports.{◌≡◌, ℕ, ◌+◌, ◌<◌, Bool, false, true, cond, Ok, Err, refl, sym, ap, subst, ◌∙◌, arith, Result, IsTrue}
+use Rattle.lx_lists.proofs.Imports.{◌==◌, max, TICK_STEP, TICK_END, scaled, Command, Refusal, TickLimit, ◌>>=◌, Show, Kept, contribution, Desk, step}
+use Rattle.lx_lists.proofs.Imports.{after_play, is_tick, commands_second, StandsFor, Obeys, Answers, level_now, Output, TwoKept, HasRoomForFrames, IsFilled}
+use Rattle.lx_lists.proofs.Imports.{AreKept}
 use Rattle.std.specs.Result.{IsOkAnd}
-use Rattle.lx_base.specs.declared.TheConstants.{TICK_STEP, TICK_END}
-use Rattle.lx_base.specs.Numbers.{scaled}
-use Rattle.lx_spec.specs.declared.Command.{Command}
 use Rattle.lx_spec.specs.declared.Command.TheVariants as commands
-use Rattle.lx_spec.specs.declared.Refusal.{Refusal}
-use Rattle.lx_spec.specs.declared.Refusal.TheVariants.{TickLimit}
-use Rattle.lx_spec.specs.FirstRefusal.{◌>>=◌}
-use Rattle.lx_spec.specs.Show.{Show}
-use Rattle.lx_spec.specs.Kept.{Kept}
-use Rattle.lx_spec.specs.Output.{contribution}
 use Rattle.lx_spec.specs.Playback.{ticked}
-use Rattle.lx_spec.specs.Desk.{Desk, step, after_play}
-use Rattle.lx_spec.specs.TwoLists.{is_tick, commands_second}
 use Rattle.lx_console.specs.declared.change.Change.{Change}
 use Rattle.lx_console.specs.declared.change.Change.TheVariants as changes
 use Rattle.lx_console.specs.Changes.{Changes, SameOutputs, is_nothing}
 use Rattle.lx_console.specs.KeptOutput.{Reaches}
-use Rattle.lx_console.specs.ConsoleMeaning.{StandsFor, Obeys, Answers, level_now}
 use Rattle.lx_console.proofs.KeptOutputs.{same_rows, same_table, same_slots}
-use Rattle.lx_lists.specs.declared.output.Output.{Output}
-use Rattle.lx_lists.specs.TwoListsMeaning.{TwoKept}
-use Rattle.lx_lists.specs.KeptLists.{HasRoomForFrames, IsFilled, AreKept}
 
 abbrev pub both : Kept → Kept → TwoKept
 both first second = record { first = first; second = second }

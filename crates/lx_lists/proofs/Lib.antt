@@ -7,3 +7,4 @@ pub mod TwoAnswers
 pub mod NextAttempt
 pub mod LineAnswers
 pub mod Replays
+mod Imports

@@ -1,18 +1,10 @@
 -- What a turn of a line means for its attempts.
-use Rattle.std.proofs.Common.{◌≡◌, ℕ, true, false, Option, Some, None, List, refl, sym, ap, subst, ◌∙◌}
-use Rattle.std.specs.Prelude.{IfOk, IfSome, IsTrue, Bool, Result, Ok, Err, not, if◌then◌else◌}
-use Rattle.lx_io.specs.declared.sink.SinkFault.{SinkFault}
-use Rattle.lx_spec.specs.declared.Line.{Line}
+use Rattle.lx_lists.proofs.Imports.{◌≡◌, ℕ, true, false, Option, Some, None, List, refl, sym, ap, subst, ◌∙◌, IfOk, IfSome, IsTrue, Bool, Result}
+use Rattle.lx_lists.proofs.Imports.{Ok, Err, not, if◌then◌else◌, SinkFault, Line, line_of, ends_script, is_quit, command_of, where_of_second}
+use Rattle.lx_lists.proofs.Imports.{is_of_second, commands_second, LineState, frame_of, meaning_of, unattempted, IsLine, meaning_is}
 use Rattle.lx_spec.specs.declared.Line.TheVariants as lines
-use Rattle.lx_spec.specs.Script.{line_of}
-use Rattle.lx_spec.specs.Session.{ends_script, is_quit}
-use Rattle.lx_spec.specs.DeskSession.{command_of}
-use Rattle.lx_spec.specs.TwoLists.{where_of_second, is_of_second, commands_second}
 use Rattle.lx_spec.specs.ValidEdit.{ValidLine}
 use Rattle.lx_spec.proofs.ValidLines.{line_of-valid}
-use Rattle.lx_session.specs.LineState.{LineState, frame_of, meaning_of, unattempted}
-use Rattle.lx_session.specs.OneAnswer.{IsLine}
-use Rattle.lx_session.proofs.HeardLines.{meaning_is}
 use Rattle.lx_lists.specs.SecondLines.{IsRestFor}
 use Rattle.lx_lists.proofs.SecondLines.{goes_on}
 

@@ -1,13 +1,8 @@
 -- The cues of each list: what is left of a show's once those of the other are taken out.
-use Rattle.std.proofs.Common.{◌≡◌, ℕ, zero, suc, ◌-◌, ◌<◌, ◌≤◌, Bool, true, false, cond, List, [], ◌∷◌, length, Some, None, refl, ◌∙◌, sym, ap}
-use Rattle.std.proofs.Common.{arith}
-use Rattle.std.specs.Prelude.{Option, IsTrue, filter, not, nat_lt, nat_le, ◌==◌, is_some, slice_get}
-use Rattle.std.specs.List.{AllByRecursion}
-use Rattle.lx_base.specs.declared.TheConstants.{SECOND_LIST}
-use Rattle.lx_spec.specs.SortedList.{IsStrictlySorted, entry_at, has_entry, taken_out}
-use Rattle.lx_spec.specs.Show.{Cue, Show}
+use Rattle.lx_lists.proofs.Imports.{◌≡◌, ℕ, zero, suc, ◌-◌, ◌<◌, ◌≤◌, Bool, true, false, cond, List, [], ◌∷◌, length, Some, None}
+use Rattle.lx_lists.proofs.Imports.{refl, ◌∙◌, sym, ap, arith, Option, IsTrue, filter, not, nat_lt, nat_le, ◌==◌, is_some, slice_get, AllByRecursion}
+use Rattle.lx_lists.proofs.Imports.{SECOND_LIST, IsStrictlySorted, entry_at, has_entry, taken_out, Cue, Show, first_show, second_show}
 use Rattle.lx_spec.specs.EditedShow.{without_cue}
-use Rattle.lx_spec.specs.TwoLists.{first_show, second_show}
 use Rattle.lx_spec.proofs.Comparisons.{lt_true, lt_false, lt_from, le_true, le_false, eq_true, eq_from}
 use Rattle.lx_spec.proofs.Lists.{each, filter_all, shorter}
 

@@ -1,26 +1,11 @@
 -- One attempt more of a line, and what it makes of the other list.
-use Rattle.std.proofs.Common.{◌≡◌, ◌-◌, true, false, Option, Some, None, Result, Ok, Err, List, [], ◌++◌}
-use Rattle.std.proofs.Common.{refl, sym, ap, subst, inl, inr, IsOkAnd}
-use Rattle.std.specs.Prelude.{◌⊎◌, OnErr, IsOk, filter, fold}
-use Rattle.std.specs.Result.{result_err, result_unwrap_or}
-use Rattle.std.proofs.lemmas.List.Sums.{fold-append}
+use Rattle.lx_lists.proofs.Imports.{◌≡◌, ◌-◌, true, false, Option, Some, None, Result, Ok, Err, List, [], ◌++◌, refl, sym, ap, subst, inl, inr}
+use Rattle.lx_lists.proofs.Imports.{IsOkAnd, ◌⊎◌, OnErr, IsOk, filter, fold, result_err, result_unwrap_or, fold-append, Command, Refusal, ◌>>=◌, Desk}
+use Rattle.lx_lists.proofs.Imports.{step, after_command, Kept, is_edit, begun, TwoDesks, is_tick, first_step, second_step, StandsFor, Obeys, Refuses, Attempted}
+use Rattle.lx_lists.proofs.Imports.{heard_of, LineState, next_of, unattempted, LineProgress, TwoKept, TwoStand, TakesStep, TwoWantMemory, TicksReach, Stays}
 use Rattle.std.proofs.lemmas.List.Elements.{filter-append}
-use Rattle.lx_spec.specs.declared.Command.{Command}
 use Rattle.lx_spec.specs.declared.Command.TheVariants as commands
-use Rattle.lx_spec.specs.declared.Refusal.{Refusal}
-use Rattle.lx_spec.specs.FirstRefusal.{◌>>=◌}
-use Rattle.lx_spec.specs.Desk.{Desk, step, after_command}
-use Rattle.lx_spec.specs.Kept.{Kept}
-use Rattle.lx_spec.specs.Desk.{is_edit}
-use Rattle.lx_spec.specs.DeskSession.{begun}
-use Rattle.lx_spec.specs.TwoLists.{TwoDesks, is_tick, first_step, second_step}
-use Rattle.lx_console.specs.ConsoleMeaning.{StandsFor, Obeys, Refuses}
-use Rattle.lx_session.specs.Attempts.{Attempted, heard_of}
-use Rattle.lx_session.specs.LineState.{LineState, next_of, unattempted}
-use Rattle.lx_session.specs.LineProgress.{LineProgress}
 use Rattle.lx_session.proofs.AttemptSteps.{nothing_yet, attempted}
-use Rattle.lx_lists.specs.TwoListsMeaning.{TwoKept, TwoStand, TakesStep, TwoWantMemory}
-use Rattle.lx_lists.specs.OtherList.{TicksReach, Stays}
 
 -- A command that is answered so was attempted.
 pub tick_attempted : {A : Type 0} (d : Desk) (answer : Result A Refusal) (before now : Kept) → StandsFor d before

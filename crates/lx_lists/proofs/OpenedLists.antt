@@ -1,12 +1,5 @@
 -- Both lists as they are opened.
-use Rattle.std.proofs.Common.{◌≡◌, sym, ap, ◌∙◌}
-use Rattle.lx_spec.specs.Show.{Show}
-use Rattle.lx_spec.specs.Kept.{Kept}
-use Rattle.lx_spec.specs.Desk.{opened}
-use Rattle.lx_spec.specs.TwoLists.{first_show, second_show}
-use Rattle.lx_console.specs.ConsoleMeaning.{StandsFor}
-use Rattle.lx_lists.specs.declared.output.Output.{Output}
-use Rattle.lx_lists.specs.KeptLists.{IsFilled, AreKept}
+use Rattle.lx_lists.proofs.Imports.{◌≡◌, sym, ap, ◌∙◌, Show, Kept, opened, first_show, second_show, StandsFor, Output, IsFilled, AreKept}
 use Rattle.lx_lists.proofs.KeptLists.{both}
 
 pub opened_channels : (show one other : Show) (first second : Kept) → one ≡ first_show show → other ≡ second_show show

@@ -1,19 +1,8 @@
 -- Calls of two lists one after another, from the opening on.
-use Rattle.std.specs.Prelude.{◌≡◌, ◌≢◌, ℕ, ◌≤◌, Bool, false, Result, Ok, Err, List, [], ◌∷◌, map, fold, OnErr, IsOkAnd}
-use Rattle.std.specs.List.{AllByRecursion}
-use Rattle.std.specs.Result.{result_unwrap_or}
-use Rattle.std.proofs.Common.{ap, sym, subst, inl, inr}
-use Rattle.std.proofs.lemmas.List.Sums.{fold-append}
-use Rattle.lx_base.specs.declared.TheConstants.{SLOTS, UNIVERSES}
-use Rattle.lx_spec.specs.declared.Refusal.{Refusal}
-use Rattle.lx_spec.specs.declared.Refusal.TheVariants.{Memory}
-use Rattle.lx_spec.specs.Show.{Show}
-use Rattle.lx_spec.specs.Output.{dimmer_value}
-use Rattle.lx_spec.specs.Desk.{is_edit}
-use Rattle.lx_spec.specs.TwoLists.{TwoDesks, opened_two, tick_step, frame_of_two}
-use Rattle.lx_mixer.specs.Table.{IsTable}
-use Rattle.lx_console.specs.Slots.{universe}
-use Rattle.lx_lists.specs.TwoListsMeaning.{TwoKept, TwoStand, Steps, TakesStep, out_of_both}
+use Rattle.lx_lists.proofs.Imports.{◌≡◌, ◌≢◌, ℕ, ◌≤◌, Bool, false, Result, Ok, Err, List, [], ◌∷◌, map, fold, OnErr, IsOkAnd}
+use Rattle.lx_lists.proofs.Imports.{AllByRecursion, result_unwrap_or, ap, sym, subst, inl, inr, fold-append, SLOTS, UNIVERSES, Refusal, Memory, Show}
+use Rattle.lx_lists.proofs.Imports.{dimmer_value, is_edit, TwoDesks, opened_two, tick_step, frame_of_two, IsTable, universe, TwoKept, TwoStand, Steps}
+use Rattle.lx_lists.proofs.Imports.{TakesStep, out_of_both}
 use Rattle.lx_lists.specs.Laws.{Call, First, Second, TickBoth, Done, IsAnswered, AreDone, after_call, call_step, replay_two}
 use Rattle.lx_lists.specs.Laws.{kept_after, accepted, if_accepted}
 use Rattle.lx_lists.proofs.TwoFrames.{frame_of_both}

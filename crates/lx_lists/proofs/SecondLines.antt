@@ -1,16 +1,12 @@
 -- Lines for the second list: such a line means nothing else, and none ends the script.
-use Rattle.std.proofs.Common.{◌≡◌, ℕ, ◌<◌, true, false, None, List, [], ◌∷◌, refl, sym, ap, subst, inl, inr, arith}
-use Rattle.std.specs.Prelude.{nat_lt, length, codes}
+use Rattle.lx_lists.proofs.Imports.{◌≡◌, ℕ, ◌<◌, true, false, None, List, [], ◌∷◌, refl, sym, ap, subst, inl, inr, arith, nat_lt, length}
+use Rattle.lx_lists.proofs.Imports.{codes, LINE_BYTES, line_of, meaning, ends_script, is_quit, is_for_second, leads_with_two}
 use Rattle.std.specs.Str.{bytes_eq}
 use Rattle.std.proofs.lemmas.Bool.{cases_Bool}
 use Rattle.std.proofs.lemmas.Bool.Decides.{nat_tests}
 use Rattle.std.proofs.lemmas.Slice.Eq.{bytes_eq-Decides}
-use Rattle.lx_base.specs.declared.TheConstants.{LINE_BYTES}
 use Rattle.lx_spec.specs.Text.{tokens}
 use Rattle.lx_spec.specs.Phrase.{Tokens}
-use Rattle.lx_spec.specs.Script.{line_of, meaning}
-use Rattle.lx_spec.specs.Session.{ends_script, is_quit}
-use Rattle.lx_spec.specs.TwoLists.{is_for_second, leads_with_two}
 
 no_word : (line token : List ℕ) (rest : Tokens) → bytes_eq token (codes "2") ≡ true → meaning line (token ∷ rest) ≡ None
 no_word line token rest is =

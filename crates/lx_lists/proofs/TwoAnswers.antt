@@ -1,24 +1,13 @@
 -- A line that was done on one of the lists was answered for both.
-use Rattle.std.proofs.Common.{◌≡◌, ℕ, Bool, true, false, Option, Some, None, Result, Ok, Err, List, [], refl, sym, ap, ◌∙◌, subst, OnOk}
-use Rattle.std.specs.Prelude.{filter, fold, if◌then◌else◌}
-use Rattle.lx_io.specs.declared.sink.SinkFault.{SinkFault}
+use Rattle.lx_lists.proofs.Imports.{◌≡◌, ℕ, Bool, true, false, Option, Some, None, Result, Ok, Err, List, [], refl, sym, ap, ◌∙◌, subst, OnOk}
+use Rattle.lx_lists.proofs.Imports.{filter, fold, if◌then◌else◌, SinkFault, Line, after_command, frame_text, line_of, Session, is_quit, with_text}
+use Rattle.lx_lists.proofs.Imports.{DeskState, Attempt, begun, tried, after_attempts, TwoDesks, is_tick, is_for_second, second_meaning, second_answer}
+use Rattle.lx_lists.proofs.Imports.{first_answer, two_answer, frame_of_two, TwoMayFail, two_answering, frame_of, ExtendsText, IsLawful, OneAnswer, TurnAnswer}
+use Rattle.lx_lists.proofs.Imports.{allowed_some, with_reply_is, counted_so, TwoKept, TwoStand, TicksReach, Stays}
 use Rattle.lx_io.specs.Puts.{Puts}
-use Rattle.lx_spec.specs.declared.Line.{Line}
 use Rattle.lx_spec.specs.declared.Line.TheVariants as lines
-use Rattle.lx_spec.specs.Desk.{after_command}
-use Rattle.lx_spec.specs.Replies.{frame_text}
-use Rattle.lx_spec.specs.Script.{line_of}
-use Rattle.lx_spec.specs.Session.{Session, is_quit, with_text}
-use Rattle.lx_spec.specs.DeskSession.{DeskState, Attempt, begun, tried, after_attempts}
-use Rattle.lx_spec.specs.TwoLists.{TwoDesks, is_tick, is_for_second, second_meaning, second_answer, first_answer, two_answer, frame_of_two}
-use Rattle.lx_spec.specs.TwoLists.{TwoMayFail, two_answering}
 use Rattle.lx_session.specs.declared.tally.Tally.{Tally}
 use Rattle.lx_session.specs.LineReply.{reply_to, counts_after, counts_in}
-use Rattle.lx_session.specs.LineState.{frame_of}
-use Rattle.lx_session.specs.OneAnswer.{ExtendsText, IsLawful, OneAnswer}
-use Rattle.lx_session.proofs.AnsweredLines.{TurnAnswer, allowed_some, with_reply_is, counted_so}
-use Rattle.lx_lists.specs.TwoListsMeaning.{TwoKept, TwoStand}
-use Rattle.lx_lists.specs.OtherList.{TicksReach, Stays}
 use Rattle.lx_lists.proofs.SecondLines.{quit_is_first}
 
 -- the state after the attempts of a line of the first list that asks for no frame, and of one of the second

@@ -1,15 +1,8 @@
 -- The slots of two lists are the frames of the two desks.
-use Rattle.std.proofs.Common.{◌≡◌, ℕ, ◌-◌, ◌*◌, ◌≤◌, max, List, [], ap, arith, ◌∙◌, subst}
-use Rattle.lx_base.specs.declared.TheConstants.{SLOTS, UNIVERSES, UNIVERSE_SLOTS}
-use Rattle.lx_base.specs.Numbers.{scaled}
-use Rattle.lx_spec.specs.Output.{contribution, dimmer_value}
-use Rattle.lx_spec.specs.Kept.{Kept, kept}
-use Rattle.lx_spec.specs.TwoLists.{TwoDesks, out_of_two, frame_of_two}
-use Rattle.lx_spec.specs.Replies.{frame_text}
-use Rattle.lx_mixer.specs.Table.{IsTable}
-use Rattle.lx_console.specs.Slots.{universe}
+use Rattle.lx_lists.proofs.Imports.{◌≡◌, ℕ, ◌-◌, ◌*◌, ◌≤◌, max, List, [], ap, arith, ◌∙◌, subst, SLOTS, UNIVERSES, UNIVERSE_SLOTS}
+use Rattle.lx_lists.proofs.Imports.{scaled, contribution, dimmer_value, Kept, kept, TwoDesks, out_of_two, frame_of_two, frame_text, IsTable, universe, TwoKept}
+use Rattle.lx_lists.proofs.Imports.{TwoStand, out_of_both}
 use Rattle.lx_console.proofs.AllRuns.{over_all, part}
-use Rattle.lx_lists.specs.TwoListsMeaning.{TwoKept, TwoStand, out_of_both}
 
 outputs : (s : TwoDesks) (t : TwoKept) → TwoStand s t → out_of_both t ≡ out_of_two s
 outputs s t stand =

@@ -1,9 +1,7 @@
 -- The greater of the levels in each lane.
-use Rattle.std.proofs.Common.{◌≡◌, ℕ, false, cond, ltb, max, List, length, get_or, map, w8, sym, ap, ◌∙◌, inl, inr, arith}
-use Rattle.std.proofs.lemmas.Bool.{cases_lt, lt-ltb, le-ltb, cond-true, cond-false}
-use Rattle.std.proofs.lemmas.Simd.{tops_compared, length-zip2, get_or-zip2, length-sel_l, get_or-sel_l}
-use lib.Lanes.{zip2, sel_l, top}
-use Rattle.lx_base.specs.Rows.{HasLanes}
+use Rattle.lx_mixer.proofs.Imports.{◌≡◌, ℕ, false, cond, ltb, max, List, length, get_or, map, w8, sym, ap, ◌∙◌, inl, inr, arith, cases_lt, lt-ltb}
+use Rattle.lx_mixer.proofs.Imports.{le-ltb, cond-true, cond-false, tops_compared, length-zip2, get_or-zip2, length-sel_l, get_or-sel_l, zip2, sel_l, top}
+use Rattle.lx_mixer.proofs.Imports.{HasLanes}
 
 chosen : (a b : ℕ) → cond (ltb a b) b a ≡ max a b
 chosen a b = elim (cases_lt a b) [

@@ -2,3 +2,4 @@ pub mod Greatest
 pub mod Tables
 pub mod Words
 pub mod Proportions
+mod Imports

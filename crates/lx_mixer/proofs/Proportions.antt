@@ -1,16 +1,10 @@
 -- Each level in proportion to one for all of them, by words, whose lower bytes go out.
-use Rattle.std.proofs.Common.{◌≡◌, ℕ, ◌+◌, ◌-◌, ◌*◌, ◌/◌, ◌<◌, ◌≤◌, List, ◌++◌, map, length, get_or, Fits, w8}
-use Rattle.std.proofs.Common.{zero, suc, refl, ap, ◌∙◌, arith, inl, inr}
+use Rattle.lx_mixer.proofs.Imports.{◌≡◌, ℕ, ◌+◌, ◌-◌, ◌*◌, ◌/◌, ◌<◌, ◌≤◌, List, ◌++◌, map, length, get_or, Fits, w8, zero}
+use Rattle.lx_mixer.proofs.Imports.{suc, refl, ap, ◌∙◌, arith, inl, inr, cases_lt, get_or_append_left, get_or-append_right, Each1-get_or}
+use Rattle.lx_mixer.proofs.Imports.{Each1-from_get_or, get_or_narrower, Each1, number_l, digits_l, pick_l, scaled, HasLanes, HasWords}
 use Rattle.std.specs.List.{range_with_len}
-use Rattle.std.proofs.lemmas.Bool.{cases_lt}
 use Rattle.std.proofs.lemmas.Nat.{mul-le}
-use Rattle.std.proofs.lemmas.List.{get_or_append_left, get_or-append_right}
 use Rattle.std.proofs.lemmas.List.FromFn.{get_or-map-range_with_len, length-map-range_with_len}
-use Rattle.std.proofs.lemmas.Simd.{Each1-get_or, Each1-from_get_or, get_or_narrower}
-use lib.Lanes.{Each1, number_l, digits_l, pick_l}
-use Rattle.lx_base.specs.Numbers.{scaled}
-use Rattle.lx_base.specs.Rows.{HasLanes}
-use Rattle.lx_mixer.specs.Mix.{HasWords}
 
 length-digits : (p n x : ℕ) → length (digits_l p n x) ≡ n
 length-digits p zero x = refl

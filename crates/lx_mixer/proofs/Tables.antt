@@ -1,10 +1,7 @@
 -- Tables: what they tell, one value of them changed, and a mix of two.
-use Rattle.std.specs.Prelude.{◌≡◌, ℕ, ◌+◌, ◌-◌, ◌≤◌, max, List, length, EachIndex}
-use Rattle.std.proofs.Common.{arith, get_or, set, get_or-set_other, ◌∙◌, ap, sym, inl, inr}
-use Rattle.std.proofs.Math.ListN.{length-set}
-use Rattle.std.proofs.lemmas.Bool.{cases_order}
+use Rattle.lx_mixer.proofs.Imports.{◌≡◌, ℕ, ◌+◌, ◌-◌, ◌≤◌, max, List, length, EachIndex, arith, get_or, set, get_or-set_other, ◌∙◌}
+use Rattle.lx_mixer.proofs.Imports.{ap, sym, inl, inr, length-set, cases_order, scaled}
 use Rattle.std.proofs.lemmas.Grind.{get_or-set_at}
-use Rattle.lx_base.specs.Numbers.{scaled}
 use Rattle.lx_mixer.specs.Table.{IsTable}
 
 -- a table tells the value of a number

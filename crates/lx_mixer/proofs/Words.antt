@@ -1,12 +1,8 @@
 -- The upper halves of levels' products.
-use Rattle.std.proofs.Common.{◌≡◌, ℕ, ◌*◌, ◌/◌, ◌%◌, ◌^◌, ◌<◌, ◌≤◌, List, [], ◌∷◌, map, length, get_or, replicate, Fits, w8, w16}
-use Rattle.std.proofs.Common.{ap, ◌∙◌, arith}
+use Rattle.lx_mixer.proofs.Imports.{◌≡◌, ℕ, ◌*◌, ◌/◌, ◌%◌, ◌^◌, ◌<◌, ◌≤◌, List, [], ◌∷◌, map, length, get_or, replicate}
+use Rattle.lx_mixer.proofs.Imports.{Fits, w8, w16, ap, ◌∙◌, arith, get_or-map, length-map, Each1-get_or, get_or-replicate, length-zip2, get_or-zip2}
+use Rattle.lx_mixer.proofs.Imports.{Each1, zip2, HasWords}
 use Rattle.std.proofs.Math.Nat.{mul-le-mul}
-use Rattle.std.proofs.Math.ListN.{get_or-map}
-use Rattle.std.proofs.lemmas.List.{length-map}
-use Rattle.std.proofs.lemmas.Simd.{Each1-get_or, get_or-replicate, length-zip2, get_or-zip2}
-use lib.Lanes.{Each1, zip2}
-use Rattle.lx_mixer.specs.Mix.{HasWords}
 
 product_fits : (a by : ℕ) → Fits w8 a → by < 65536 → a * by ≤ 16711425
 product_fits a by fits less = mul-le-mul {n₁ = a} {m₁ = by} {n₂ = 255} {m₂ = 65535} (omega (arith, fits.fits)) (omega arith)

@@ -1,12 +1,7 @@
 -- Chains of the dimmers that follow each channel, a dimmer more at a time from the last one on.
-use Rattle.std.specs.Prelude.{◌≡◌, ◌≢◌, ◌⊎◌, ℕ, ◌+◌, ◌<◌, ◌≤◌, List, length}
-use Rattle.std.proofs.Common.{arith, get_or, set, get_or-set_other, refl, ◌∙◌, ap, sym, subst, inl, inr}
-use Rattle.std.proofs.Math.ListN.{length-set}
-use Rattle.std.proofs.lemmas.Bool.{cases_eq, cases_lt}
-use Rattle.std.proofs.lemmas.Grind.{get_or-set_at}
-use Rattle.lx_base.specs.declared.TheConstants.{CHANNELS, SLOTS}
-use Rattle.lx_base.specs.Numbers.{scaled}
-use Rattle.lx_patch.specs.FollowerChains.{FollowsChannel, AreDimmersChained}
+use Rattle.lx_patch.proofs.Imports.{◌≡◌, ◌≢◌, ◌⊎◌, ℕ, ◌+◌, ◌<◌, ◌≤◌, List, length, arith, get_or, set, get_or-set_other, refl}
+use Rattle.lx_patch.proofs.Imports.{◌∙◌, ap, sym, subst, inl, inr, length-set, cases_eq, cases_lt, get_or-set_at, CHANNELS, SLOTS, scaled, FollowsChannel}
+use Rattle.lx_patch.proofs.Imports.{AreDimmersChained}
 
 -- a dimmer that is dark follows no channel
 pub chained_dark : (places levels first next : List ℕ) (from e : ℕ) → AreDimmersChained places levels first next from → e + 1 ≡ from

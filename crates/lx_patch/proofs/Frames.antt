@@ -1,17 +1,8 @@
 -- A table that stands for a show's patch reaches no further than the show's channels, and its slots are the values of the dimmers.
-use Rattle.std.specs.Prelude.{◌≡◌, ◌⊎◌, ℕ, ◌+◌, ◌-◌, ◌<◌, ◌≤◌, true, false, cond, ◌==◌, List, [], ◌∷◌, refl, Some}
-use Rattle.std.specs.List.{AllByRecursion}
-use Rattle.std.specs.Option.{option_map_or}
-use Rattle.std.proofs.Common.{arith, get_or, ◌∙◌, ap, inl, inr}
-use Rattle.lx_base.specs.declared.TheConstants.{SLOTS}
-use Rattle.lx_base.specs.Numbers.{scaled}
-use Rattle.lx_spec.specs.declared.PatchRow.{PatchRow}
-use Rattle.lx_spec.specs.SortedList.{entry_at}
+use Rattle.lx_patch.proofs.Imports.{◌≡◌, ◌⊎◌, ℕ, ◌+◌, ◌-◌, ◌<◌, ◌≤◌, true, false, cond, ◌==◌, List, [], ◌∷◌, refl}
+use Rattle.lx_patch.proofs.Imports.{Some, AllByRecursion, option_map_or, arith, get_or, ◌∙◌, ap, inl, inr, SLOTS, scaled, PatchRow, entry_at}
+use Rattle.lx_patch.proofs.Imports.{dimmer_value, IsTable, told, DimmerTable, place_of, proportion_of, StandsForPatch, ReachTable}
 use Rattle.lx_spec.specs.Show.{Show, Valid, ValidPatchRow}
-use Rattle.lx_spec.specs.Output.{dimmer_value}
-use Rattle.lx_mixer.specs.Table.{IsTable}
-use Rattle.lx_mixer.proofs.Tables.{told}
-use Rattle.lx_patch.specs.DimmerTable.{DimmerTable, place_of, proportion_of, StandsForPatch, ReachTable}
 
 -- each row's place is below the channel count, and a dimmer without a row has the first place at 0
 place_within : (n e : ℕ) (rows : List PatchRow) → AllByRecursion (ValidPatchRow n) rows → (place_of rows e < n)

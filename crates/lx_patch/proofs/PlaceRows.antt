@@ -1,16 +1,11 @@
 -- Places that follow one another.
-use Rattle.std.proofs.Common.{◌≡◌, ℕ, ◌+◌, ◌-◌, ◌%◌, ◌^◌, ◌<◌, ◌≤◌, Bool, false, cond, eqb, not, List, [], ◌∷◌, map}
-use Rattle.std.proofs.Common.{length, get_or, replicate, w16, refl, sym, ap, ◌∙◌, arith}
-use Rattle.std.specs.List.{range_with_len}
-use Rattle.std.proofs.lemmas.Bool.{not-true, not-false, eqb-true}
+use Rattle.lx_patch.proofs.Imports.{◌≡◌, ℕ, ◌+◌, ◌-◌, ◌%◌, ◌^◌, ◌<◌, ◌≤◌, Bool, false, cond, eqb, not, List, [], ◌∷◌}
+use Rattle.lx_patch.proofs.Imports.{map, length, get_or, replicate, w16, refl, sym, ap, ◌∙◌, arith, range_with_len, not-true, not-false, eqb-true}
+use Rattle.lx_patch.proofs.Imports.{get_or-replicate, length-replicate, length-zip2, get_or-zip2, length-chunk, get_or-chunk, tops_compared, mask_l-mod}
+use Rattle.lx_patch.proofs.Imports.{leading_from_mask_l, HasLanes, apart, AreInARow}
 use Rattle.std.proofs.lemmas.List.FromFn.{get_or-range_with_len}
 use Rattle.std.proofs.lemmas.List.Sums.{prefix_len_passes}
-use Rattle.std.proofs.lemmas.Simd.{get_or-replicate, length-replicate, length-zip2, get_or-zip2, length-chunk, get_or-chunk}
-use Rattle.std.proofs.lemmas.Simd.{tops_compared, mask_l-mod, leading_from_mask_l}
 use lib.Lanes.{chunk, zip2, mask_l, top}
-use Rattle.lx_base.specs.Rows.{HasLanes}
-use Rattle.lx_base.proofs.Lanes.{apart}
-use Rattle.lx_patch.specs.Slots.{AreInARow}
 
 abbrev pub steps : List ℕ
 steps = range_with_len 0 32

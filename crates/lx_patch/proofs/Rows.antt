@@ -1,15 +1,9 @@
 -- A table of the patch goes on standing for its rows, as they are placed and taken out.
-use Rattle.std.specs.Prelude.{◌≡◌, ℕ, ◌-◌, ◌<◌, ◌≤◌, Bool, true, false, not, ◌==◌, ◌&&◌, Option, None, List, [], ◌∷◌, find}
-use Rattle.std.specs.Option.{option_map_or}
-use Rattle.std.proofs.Common.{arith, length, get_or, drop, drop-cons, set, replicate, suc, ◌∙◌, ap, sym, inl, inr}
-use Rattle.std.proofs.lemmas.List.{length-replicate, get_or-replicate}
-use Rattle.std.proofs.lemmas.Bool.{cases_order}
+use Rattle.lx_patch.proofs.Imports.{◌≡◌, ℕ, ◌-◌, ◌<◌, ◌≤◌, Bool, true, false, not, ◌==◌, ◌&&◌, Option, None, List, [], ◌∷◌}
+use Rattle.lx_patch.proofs.Imports.{find, option_map_or, arith, length, get_or, drop, drop-cons, set, replicate, suc, ◌∙◌, ap, sym, inl, inr}
+use Rattle.lx_patch.proofs.Imports.{length-replicate, get_or-replicate, cases_order, SLOTS, PatchRow, entry_at, placed, taken_out, table_of_same, table-set}
+use Rattle.lx_patch.proofs.Imports.{DimmerTable, IsWired, place_of, proportion_of, StandsForPatch}
 use Rattle.std.proofs.lemmas.Bool.Decides.{nat_tests}
-use Rattle.lx_base.specs.declared.TheConstants.{SLOTS}
-use Rattle.lx_spec.specs.declared.PatchRow.{PatchRow}
-use Rattle.lx_spec.specs.SortedList.{entry_at, placed, taken_out}
-use Rattle.lx_mixer.proofs.Tables.{table_of_same, table-set}
-use Rattle.lx_patch.specs.DimmerTable.{DimmerTable, IsWired, place_of, proportion_of, StandsForPatch}
 use Rattle.lx_spec.proofs.Comparisons.{and_known, eq_other, eq_true}
 use Rattle.lx_spec.proofs.Lists.{each, find_both, find_none, passes}
 use Rattle.lx_spec.proofs.SortedLists.{entry_at-placed_here, entry_at-placed_other}

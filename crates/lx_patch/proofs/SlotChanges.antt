@@ -1,18 +1,7 @@
 -- Slots that follow outputs which changed, channel by channel.
-use Rattle.std.specs.Prelude.{◌≡◌, ◌≢◌, ◌⊎◌, ℕ, ◌+◌, ◌-◌, ◌<◌, ◌≤◌, Option, Some, None, List, length}
-use Rattle.std.specs.Option.{option_map_or}
-use Rattle.std.proofs.Common.{arith, get_or, refl, ◌∙◌, ap, sym, subst, inl, inr}
-use Rattle.std.proofs.lemmas.Bool.{cases_lt}
-use Rattle.lx_base.specs.declared.TheConstants.{SLOTS}
-use Rattle.lx_base.specs.Numbers.{scaled}
-use Rattle.lx_base.specs.Rows.{Agree}
-use Rattle.lx_spec.specs.declared.PatchRow.{PatchRow}
-use Rattle.lx_spec.specs.SortedList.{entry_at}
-use Rattle.lx_spec.specs.Output.{dimmer_value}
-use Rattle.lx_mixer.specs.Table.{IsTable}
-use Rattle.lx_patch.specs.DimmerTable.{DimmerTable, StandsForPatch, ReachTable}
-use Rattle.lx_patch.specs.FollowerChains.{AreDarkFrom}
-use Rattle.lx_patch.specs.Slots.{AreSlots, IsFollowed}
+use Rattle.lx_patch.proofs.Imports.{◌≡◌, ◌≢◌, ◌⊎◌, ℕ, ◌+◌, ◌-◌, ◌<◌, ◌≤◌, Option, Some, None, List, length, option_map_or}
+use Rattle.lx_patch.proofs.Imports.{arith, get_or, refl, ◌∙◌, ap, sym, subst, inl, inr, cases_lt, SLOTS, scaled, Agree, PatchRow, entry_at, dimmer_value}
+use Rattle.lx_patch.proofs.Imports.{IsTable, DimmerTable, StandsForPatch, ReachTable, AreDarkFrom, AreSlots, IsFollowed}
 
 -- in proportion to 0 everything is 0
 pub nothing : (x y : ℕ) → y ≡ 0 → scaled x y ≡ 0

@@ -1,11 +1,8 @@
 -- A list from its end: what holds of each element, and the order of runs.
-use Rattle.std.specs.Prelude.{◌≡◌, ℕ, ◌-◌, ◌<◌, ◌≤◌, zero, suc, List, [], ◌∷◌, length, reverse}
-use Rattle.std.specs.List.{All, AllByRecursion}
-use Rattle.std.proofs.Common.{arith, get_or, subst, ap, sym, ◌∙◌}
+use Rattle.lx_playback.proofs.Imports.{◌≡◌, ℕ, ◌-◌, ◌<◌, ◌≤◌, zero, suc, List, [], ◌∷◌, length, reverse, All, AllByRecursion, arith}
+use Rattle.lx_playback.proofs.Imports.{get_or, subst, ap, sym, ◌∙◌, Run, NewestFirst, OldestFirst, ValidRun}
 use Rattle.std.proofs.lemmas.List.{get_or-reverse, length-reverse, reverse-reverse}
 use Rattle.std.proofs.lemmas.List.Elements.{All-from_recursion}
-use Rattle.lx_spec.specs.Run.{Run}
-use Rattle.lx_playback.specs.Valid.{NewestFirst, OldestFirst, ValidRun}
 
 from_end : {X : Type 0} (xs : List X) (k : ℕ) (d : X) → k < length xs → get_or xs k d ≡ get_or (reverse xs) (length xs - 1 - k) d
 from_end {X} xs k d h =

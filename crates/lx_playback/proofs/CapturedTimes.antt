@@ -1,12 +1,7 @@
 -- A run captures its times from a valid cue: at least one entry, and no time above the longest.
-use Rattle.std.specs.Prelude.{◌≤◌, List, [], ◌∷◌, length, map, IsTrue}
-use Rattle.std.specs.List.{AllByRecursion}
-use Rattle.std.proofs.Common.{arith}
+use Rattle.lx_playback.proofs.Imports.{◌≤◌, List, [], ◌∷◌, length, map, IsTrue, AllByRecursion, arith, ValidPart, captured, ValidTimes}
 use Rattle.lx_spec.specs.declared.Part.{Part}
 use Rattle.lx_spec.specs.SortedList.{has_entry}
-use Rattle.lx_spec.specs.Show.{ValidPart}
-use Rattle.lx_spec.specs.Run.{captured}
-use Rattle.lx_playback.specs.Valid.{ValidTimes}
 
 pub captured_valid : (parts : List Part) → AllByRecursion ValidPart parts → AllByRecursion ValidTimes (map captured parts)
 captured_valid [] all = tt

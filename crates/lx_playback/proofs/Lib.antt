@@ -1,3 +1,4 @@
 pub mod CapturedTimes
 pub mod Backwards
 pub mod QuietTicks
+mod Imports

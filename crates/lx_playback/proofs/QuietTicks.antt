@@ -1,16 +1,10 @@
 -- While no follow is due and the playback doesn't come to rest, a tick changes nothing but the moment.
-use Rattle.std.specs.Prelude.{◌≡◌, ℕ, ◌+◌, ◌-◌, ◌*◌, ◌<◌, ◌≤◌, Bool, true, false, cond, ◌&&◌, ◌==◌, nat_lt, nat_le, Option, Some, None, Ok}
-use Rattle.std.specs.Prelude.{Err}
-use Rattle.std.specs.Prelude.{List, length, is_none}
-use Rattle.std.specs.List.{list_all}
+use Rattle.lx_playback.proofs.Imports.{◌≡◌, ℕ, ◌+◌, ◌-◌, ◌*◌, ◌<◌, ◌≤◌, Bool, true, false, cond, ◌&&◌, ◌==◌, nat_lt}
+use Rattle.lx_playback.proofs.Imports.{nat_le, Option, Some, None, Ok, Err, List, length, is_none, list_all, arith, ap, refl, ◌∙◌, TICK_STEP, TICK_END}
+use Rattle.lx_playback.proofs.Imports.{Show, Run, extent, Playback, Played, no_run, start_above, at_rest, is_over, followed, ticked, tick}
 use Rattle.std.specs.Option.{option_map_or}
-use Rattle.std.proofs.Common.{arith, ap, refl, ◌∙◌}
 use Rattle.std.proofs.lemmas.Bool.Decides.{nat_tests}
-use Rattle.lx_base.specs.declared.TheConstants.{TICK_STEP, TICK_END}
 use Rattle.lx_spec.specs.declared.Refusal.TheVariants.{TickLimit}
-use Rattle.lx_spec.specs.Show.{Show}
-use Rattle.lx_spec.specs.Run.{Run, extent}
-use Rattle.lx_spec.specs.Playback.{Playback, Played, no_run, start_above, at_rest, is_over, followed, ticked, tick}
 use Rattle.lx_playback.specs.QuietTicks.{IsStillAt, TicksPass, moments_later}
 
 -- the test whether all is over, where a follow is pending, no run is live, or a run isn't over

@@ -1,29 +1,21 @@
 -- clap takes each list of words of which none begins with a dash, and its one argument then has them as its values.
-use Rattle.std.proofs.Common.{◌≡◌, ◌∙◌, ◌≤◌, Bool, true, false, Option, Some, None, List, [], ◌∷◌, ◌++◌, length, fold, refl, sym, ap}
-use Rattle.std.proofs.Common.{append_assoc, append-nil, arith}
-use Rattle.std.specs.Prelude.{codes, ◌&&◌, ◌||◌, nat_le, option_and_then, if◌then◌else◌}
-use Rattle.std.specs.List.{list_all, list_any}
-use Rattle.std.specs.Str.{bytes_eq}
+use Rattle.lx_program.proofs.Imports.{◌≡◌, ◌∙◌, ◌≤◌, Bool, true, false, Option, Some, None, List, [], ◌∷◌, ◌++◌, length, fold, refl}
+use Rattle.lx_program.proofs.Imports.{sym, ap, append_assoc, append-nil, arith, codes, ◌&&◌, ◌||◌, nat_le, option_and_then, if◌then◌else◌}
+use Rattle.lx_program.proofs.Imports.{list_all, list_any, bytes_eq, nat_tests, long_of, short_of, long_of_rest, short_of_rest, strip_byte, usize_max, Text}
+use Rattle.lx_program.proofs.Imports.{Rule, Row, Held, Walk, Step, idle, positional, value, trailing, walked, walk, walk_from, nothing_held, word_met}
+use Rattle.lx_program.proofs.Imports.{after_step, long_or_other, short_or_plain, finished, reading_by, App, Shape, built, new_app, new_rule, with_rule, on_top}
+use Rattle.lx_program.proofs.Imports.{is_simple, matches_of, takes, other_passes, step_passes, default_passes, is_valid, turn_passes, flag_word_passes}
+use Rattle.lx_program.proofs.Imports.{bundle_passes, value_passes, settle_passes, level_passes, Append, option_map, unwrap_or, find, found_of, matched_of}
+use Rattle.lx_program.proofs.Imports.{raw_values, row_of, rows_of, all_of, begins_with_dash, values_of}
 use Rattle.std.specs.Option.{option_map_or}
-use Rattle.std.proofs.lemmas.Bool.Decides.{nat_tests}
-use Rattle.clap.specs.Lexer.{long_of, short_of, long_of_rest, short_of_rest, strip_byte, usize_max}
-use Rattle.clap.specs.Walk.{Text, Rule, Row, Held, Walk, Step, idle, positional, value, trailing, walked, walk, walk_from, nothing_held}
-use Rattle.clap.specs.Walk.{word_met, after_step, long_or_other, short_or_plain, finished, reading_by}
-use Rattle.clap.specs.Simple.{App, Shape, built, new_app, new_rule, with_rule, on_top, is_simple, matches_of}
-use Rattle.clap.specs.Takes.{takes, other_passes, step_passes, default_passes, is_valid, walk_passes, turn_passes, flag_word_passes}
-use Rattle.clap.specs.Takes.{bundle_passes, value_passes, settle_passes, level_passes}
-use Rattle.clap.specs.declared.builder.action.ArgAction.TheVariants.{Append}
+use Rattle.clap.specs.Takes.{walk_passes}
 use Rattle.clap.specs.declared.parser.matches.ValueSource.TheVariants.{CommandLine}
 use Rattle.clap.proofs.OnLiterals.{clap_on_literals}
 use Rattle.clap.proofs.TakesLemmas.{leaf_takes}
-use Rattle.std.specs.Prelude.{option_map, unwrap_or, find}
-use Rattle.clap.specs.Words.{found_of, matched_of, raw_values}
 use Rattle.clap.specs.Facts.{Entry}
-use Rattle.clap.specs.Walk.{row_of, rows_of, all_of}
 use Rattle.clap.proofs.WalkLemmas.{find_row}
 use Rattle.clap.specs.declared.parser.matches.ArgMatches.{ArgMatches}
 use Rattle.clap.specs.declared.parser.matches.Found.{Found}
-use Rattle.lx_program.specs.Words.{begins_with_dash, values_of}
 
 abbrev pub the_rule : Rule
 the_rule = record (new_rule (codes "word"))

@@ -1,18 +1,11 @@
 -- Words of which one begins with a dash name no job.
-use Rattle.std.proofs.Common.{◌≡◌, ◌∙◌, ℕ, ◌==◌, Bool, true, false, Option, Some, None, List, [], ◌∷◌, refl, sym, ap, subst, arith}
-use Rattle.std.specs.Prelude.{◌&&◌, ◌||◌, codes, option_map, option_and_then, if◌then◌else◌}
-use Rattle.std.specs.List.{list_any}
-use Rattle.std.specs.Str.{bytes_eq}
-use Rattle.std.proofs.lemmas.Bool.Decides.{nat_tests}
+use Rattle.lx_program.proofs.Imports.{◌≡◌, ◌∙◌, ℕ, ◌==◌, Bool, true, false, Option, Some, None, List, [], ◌∷◌, refl, sym, ap, subst}
+use Rattle.lx_program.proofs.Imports.{arith, ◌&&◌, ◌||◌, codes, option_map, option_and_then, if◌then◌else◌, list_any, bytes_eq, nat_tests, Form}
+use Rattle.lx_program.proofs.Imports.{Job, Check, Sheet, Make, Script, Crew, Render, Live, Undo, Two, job_of, form_of, plain_number, number_alone, counted_job}
+use Rattle.lx_program.proofs.Imports.{begins_with_dash}
 use Rattle.lx_base.specs.declared.TheConstants.{CUES, UNIVERSES, OPERATORS}
-use Rattle.lx_spec.specs.declared.Form.{Form}
 use Rattle.lx_spec.specs.declared.Form.TheVariants.{States}
-use Rattle.lx_spec.specs.declared.Job.{Job}
-use Rattle.lx_spec.specs.declared.Job.TheVariants.{Check, Sheet, Make, Script, Crew}
-use Rattle.lx_spec.specs.declared.ScriptKind.TheVariants.{Render, Live, Undo, Two}
 use Rattle.lx_spec.specs.Phrase.{ended}
-use Rattle.lx_spec.specs.Job.{job_of, form_of, plain_number, number_alone, counted_job}
-use Rattle.lx_program.specs.Words.{begins_with_dash}
 
 abbrev HasDash : List (List ℕ) → Type 0
 HasDash ws = list_any begins_with_dash ws ≡ true

@@ -1,10 +1,6 @@
 -- What holds of the job that words name holds of the words.
-use Rattle.std.proofs.Common.{◌≡◌, Option, Some, None, IfSome, List, ℕ, sym, subst}
-use Rattle.lx_spec.specs.declared.Form.{Form}
-use Rattle.lx_spec.specs.declared.Job.{Job}
-use Rattle.lx_spec.specs.declared.Job.TheVariants.{Check, Sheet, Make, Script, Crew}
-use Rattle.lx_spec.specs.declared.ScriptKind.TheVariants.{Render, Live, Undo, Two}
-use Rattle.lx_spec.specs.Job.{job_of, given_to}
+use Rattle.lx_program.proofs.Imports.{◌≡◌, Option, Some, None, IfSome, List, ℕ, sym, subst, Form, Job, Check, Sheet, Make, Script, Crew, Render, Live}
+use Rattle.lx_program.proofs.Imports.{Undo, Two, job_of, given_to}
 use Rattle.lx_program.specs.NamedJob.{OfCrew, OfJob, OfRun}
 
 pub of_job : (ws : List (List ℕ)) (left : Option (List ℕ)) (P : Job → List ℕ → Type 0) (job : Job) → job_of ws ≡ Some job

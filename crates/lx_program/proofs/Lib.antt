@@ -2,3 +2,4 @@ mod JobWords
 mod DashedWords
 mod ArgumentValues
 mod NothingBegun
+mod Imports

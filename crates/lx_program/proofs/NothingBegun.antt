@@ -1,12 +1,8 @@
 -- What holds of a live run and of a crew that were not begun, since memory ran out.
-use Rattle.std.proofs.Common.{Option, List, ℕ, refl, inl}
-use Rattle.lx_spec.specs.declared.Form.{Form}
-use Rattle.lx_spec.specs.declared.Job.TheVariants.{Script, Crew}
-use Rattle.lx_spec.specs.declared.ScriptKind.TheVariants.{Live}
+use Rattle.lx_program.proofs.Imports.{Option, List, ℕ, refl, inl, Form, Script, Crew, Live, unwritten}
 use Rattle.lx_desk.specs.declared.desk.Status.TheVariants as status
 use Rattle.lx_desk.specs.Live.{HasLived}
 use Rattle.lx_desk.specs.Crew.{HasCrewEnded}
-use Rattle.lx_desk.proofs.EmptyPrefixes.{unwritten}
 
 pub none_lived : {K : Type 0} (holds : K → Option (List ℕ)) (back : K → List ℕ) (faults wants : K → ℕ) (universes : ℕ) (form : Form)
     (bytes : List ℕ) (left held : Option (List ℕ)) (outlets : List (Option K))

@@ -1,21 +1,10 @@
 -- A cue from the entries in its sections, with one more.
-use Rattle.std.proofs.Common.{◌≡◌, ℕ, Bool, true, false, cond, List, [], ◌∷◌, ◌++◌, map, Option, Some, None, refl, ap, ◌∙◌, sym, append-nil}
-use Rattle.std.specs.Prelude.{filter, fold, flat_map, filter_map, unwrap_or, ◌==◌}
-use Rattle.std.specs.List.{cons_option}
-use Rattle.std.proofs.lemmas.Grind.{flat_map-append}
-use Rattle.std.proofs.lemmas.List.Sums.{fold-append}
-use Rattle.std.proofs.lemmas.List.Elements.{filter_map-append}
-use Rattle.lx_base.specs.declared.TheConstants.{DEFAULT_TIME}
-use Rattle.lx_spec.specs.declared.Part.{Part}
-use Rattle.lx_spec.specs.declared.Section.{Section}
-use Rattle.lx_spec.specs.Show.{Cue}
-use Rattle.lx_spec.specs.SortedList.{IsStrictlySorted, placed, has_entry, all_placed}
-use Rattle.lx_spec.specs.Entry.{Entry, PlacedEntry, HasUp, HasDown, NamesPart, part_named, follow_in, link_in, label_in, up_in, down_in}
-use Rattle.lx_spec.specs.Entry.{blocks, is_assert}
-use Rattle.lx_spec.specs.Reading.{last_of_each, last_in, moves_in, part_from, parts_from, label_from, cue_from}
-use Rattle.lx_spec.specs.EditedShow.{new_part}
-use Rattle.lx_show.specs.ChangedEntry.{changed}
-use Rattle.lx_reader.specs.ReadingState.{part_with_entry, with_up, with_down, parts_with, cue_with, change_by}
+use Rattle.lx_reader.proofs.Imports.{◌≡◌, ℕ, Bool, true, false, cond, List, [], ◌∷◌, ◌++◌, map, Option, Some, None, refl, ap, ◌∙◌, sym}
+use Rattle.lx_reader.proofs.Imports.{append-nil, filter, fold, flat_map, filter_map, unwrap_or, ◌==◌, cons_option, flat_map-append, fold-append}
+use Rattle.lx_reader.proofs.Imports.{filter_map-append, DEFAULT_TIME, Part, Section, Cue, IsStrictlySorted, placed, has_entry, all_placed, Entry, PlacedEntry}
+use Rattle.lx_reader.proofs.Imports.{HasUp, HasDown, NamesPart, part_named, follow_in, link_in, label_in, up_in, down_in, blocks, is_assert, last_of_each}
+use Rattle.lx_reader.proofs.Imports.{last_in, moves_in, part_from, parts_from, label_from, cue_from, new_part, changed, part_with_entry, with_up, with_down}
+use Rattle.lx_reader.proofs.Imports.{parts_with, cue_with, change_by}
 use Rattle.lx_reader.proofs.LastEntries.{last_in-more, any-more, unwrap-later, filter-more}
 use Rattle.lx_reader.proofs.MadeEntries.{cond_same, after_change}
 use Rattle.lx_reader.proofs.PlacedNumbers.{changed-made, map-placed, placed-there, has_made, eq-sym, eq-here, IsStrictlySorted-numbers}

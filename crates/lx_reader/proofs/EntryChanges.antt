@@ -1,9 +1,6 @@
 -- Entries that are changed one after another.
-use Rattle.std.proofs.Common.{◌≡◌, ℕ, List, Option, Some, None, refl, ap, ◌∙◌, sym}
-use Rattle.std.specs.Option.{option_map_or}
-use Rattle.lx_spec.specs.SortedList.{IsStrictlySorted, placed, entry_at}
-use Rattle.lx_spec.proofs.SortedLists.{entry_number, placed_same}
-use Rattle.lx_show.specs.ChangedEntry.{changed}
+use Rattle.lx_reader.proofs.Imports.{◌≡◌, ℕ, List, Option, Some, None, refl, ap, ◌∙◌, sym, option_map_or, IsStrictlySorted, placed, entry_at}
+use Rattle.lx_reader.proofs.Imports.{entry_number, placed_same, changed}
 
 -- what is changed alike becomes the same
 pub changed-alike : {A : Type 0} (key : A → ℕ) (n : ℕ) (f g : A → A) (xs : List A) (x : A) → entry_at key n xs ≡ Some x → f x ≡ g x

@@ -1,13 +1,7 @@
 -- Of what was not begun nothing was said, with one more entry.
-use Rattle.std.proofs.Common.{◌≡◌, ℕ, Bool, true, false, cond, List, [], ◌∷◌, ◌++◌, Option, refl, ap, ◌∙◌, sym, append-nil}
-use Rattle.std.specs.Prelude.{filter, fold, ◌==◌}
-use Rattle.std.specs.List.{cons_option}
-use Rattle.std.proofs.lemmas.Bool.{eqb-true}
-use Rattle.lx_spec.specs.SortedList.{placed, has_entry}
-use Rattle.lx_spec.specs.declared.Section.{Section}
-use Rattle.lx_spec.specs.Entry.{PlacedEntry, part_named, cue_in, group_in, sub_in}
-use Rattle.lx_spec.specs.Reading.{numbers_begun, stands_in}
-use Rattle.lx_reader.specs.ReadingState.{number_begun}
+use Rattle.lx_reader.proofs.Imports.{◌≡◌, ℕ, Bool, true, false, cond, List, [], ◌∷◌, ◌++◌, Option, refl, ap, ◌∙◌, sym, append-nil}
+use Rattle.lx_reader.proofs.Imports.{filter, fold, ◌==◌, cons_option, eqb-true, placed, has_entry, Section, PlacedEntry, part_named, cue_in, group_in}
+use Rattle.lx_reader.proofs.Imports.{sub_in, numbers_begun, stands_in, number_begun}
 use Rattle.lx_reader.proofs.LastEntries.{filter-more}
 use Rattle.lx_reader.proofs.PlacedNumbers.{has-all_placed}
 use Rattle.lx_reader.proofs.Cues.{parts_named, parts_named-more, HasPart}

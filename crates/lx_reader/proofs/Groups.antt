@@ -1,13 +1,7 @@
 -- A group or submaster from the entries in its sections, with one more.
-use Rattle.std.proofs.Common.{◌≡◌, ℕ, List, [], ◌∷◌, ◌++◌, refl, ap, ◌∙◌, append-nil}
-use Rattle.std.specs.Prelude.{flat_map}
-use Rattle.std.proofs.lemmas.Grind.{flat_map-append}
-use Rattle.std.proofs.lemmas.List.Sums.{fold-append}
-use Rattle.lx_spec.specs.Show.{MemberSet}
-use Rattle.lx_spec.specs.SortedList.{placed, all_placed}
-use Rattle.lx_spec.specs.Entry.{Entry, PlacedEntry, HasLevels, levels_in}
-use Rattle.lx_spec.specs.Reading.{last_of_each, members_from, group_from}
-use Rattle.lx_reader.specs.ReadingState.{set_with, change_by}
+use Rattle.lx_reader.proofs.Imports.{◌≡◌, ℕ, List, [], ◌∷◌, ◌++◌, refl, ap, ◌∙◌, append-nil, flat_map, flat_map-append, fold-append}
+use Rattle.lx_reader.proofs.Imports.{MemberSet, placed, all_placed, Entry, PlacedEntry, HasLevels, levels_in, last_of_each, members_from, group_from, set_with}
+use Rattle.lx_reader.proofs.Imports.{change_by}
 use Rattle.lx_reader.proofs.Cues.{label-more}
 use Rattle.lx_reader.proofs.MadeEntries.{after_change}
 

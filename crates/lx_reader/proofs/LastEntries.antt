@@ -1,12 +1,7 @@
 -- Lists of entries with one more at the end.
-use Rattle.std.proofs.Common.{◌≡◌, Bool, true, false, cond, List, [], ◌∷◌, ◌++◌, Option, Some, None, refl, ap, ◌∙◌}
-use Rattle.std.specs.Prelude.{◌||◌, filter, filter_map, unwrap_or}
-use Rattle.std.specs.List.{last_or, list_any, cons_option}
-use Rattle.std.proofs.lemmas.List.Elements.{filter-append, filter_map-append}
-use Rattle.std.proofs.lemmas.List.Folds.{list_any-append}
-use Rattle.lx_spec.specs.Entry.{Entry, PlacedEntry}
-use Rattle.lx_spec.specs.Reading.{last_in}
-use Rattle.lx_reader.specs.ReadingState.{later}
+use Rattle.lx_reader.proofs.Imports.{◌≡◌, Bool, true, false, cond, List, [], ◌∷◌, ◌++◌, Option, Some, None, refl, ap, ◌∙◌, ◌||◌}
+use Rattle.lx_reader.proofs.Imports.{filter, filter_map, unwrap_or, last_or, list_any, cons_option, filter-append, filter_map-append, list_any-append, Entry}
+use Rattle.lx_reader.proofs.Imports.{PlacedEntry, last_in, later}
 
 pub last_or-append : {A : Type 0} (o : Option A) (xs ys : List A) → last_or o (xs ++ ys) ≡ last_or (last_or o xs) ys
 last_or-append o [] ys = refl

@@ -1,21 +1,9 @@
 -- A line of levels, known by its first bytes.
-use Rattle.std.proofs.Common.{◌≡◌, ◌≤◌, Bool, true, false, cond, List, ◌∷◌, length, Err, refl, ap, ◌∙◌, ℕ}
-use Rattle.std.specs.Prelude.{◌&&◌, codes}
-use Rattle.lx_base.specs.declared.TheConstants.{LINE_BYTES}
-use Rattle.lx_spec.specs.declared.Move.{Move}
-use Rattle.lx_spec.specs.declared.Section.{Section}
-use Rattle.lx_spec.specs.declared.Section.TheVariants.{NoRecord, InCue, InGroup, InSub, Skipping}
-use Rattle.lx_spec.specs.declared.TextFault.TheVariants.{LineTooLong}
+use Rattle.lx_reader.proofs.Imports.{◌≡◌, ◌≤◌, Bool, true, false, cond, List, ◌∷◌, length, Err, refl, ap, ◌∙◌, ℕ, ◌&&◌, codes}
+use Rattle.lx_reader.proofs.Imports.{LINE_BYTES, Move, Section, NoRecord, InCue, InGroup, InSub, Skipping, LineTooLong, Facts, levels, entry_by_tokens}
+use Rattle.lx_reader.proofs.Imports.{entry_by_word, entry_of, Show, tokens, lt_false, Open, OpenFits, is_open, is_record}
 use Rattle.lx_spec.specs.declared.Word.TheVariants as words
-use Rattle.lx_spec.specs.Facts.{Facts}
-use Rattle.lx_spec.specs.Fields.{levels}
-use Rattle.lx_spec.specs.LineRules.{entry_by_tokens, entry_by_word, entry_of}
-use Rattle.lx_spec.specs.Show.{Show}
-use Rattle.lx_spec.specs.Text.{tokens}
-use Rattle.lx_spec.proofs.Comparisons.{lt_false}
-use Rattle.lx_reader.specs.declared.open_record.Open.{Open}
 use Rattle.lx_reader.specs.declared.open_record.Open.TheVariants as open_records
-use Rattle.lx_reader.specs.Settled.{OpenFits, is_open, is_record}
 
 pub both_true : (a b : Bool) → (a && b) ≡ true → (a ≡ true) × (b ≡ true)
 both_true true b both = (refl, both)

@@ -25,3 +25,4 @@ pub mod PassedLines
 pub mod LinePass
 pub mod WordTable
 pub mod LookMoves
+mod Imports

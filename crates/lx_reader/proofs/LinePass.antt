@@ -1,32 +1,12 @@
 -- A pass over the lines of a show text, by a reader.
-use Rattle.std.proofs.Common.{◌≡◌, ℕ, ◌+◌, ◌<◌, ◌≤◌, true, false, List, [], ◌∷◌, length, Option, None, Result, Ok, Err, refl, ap, ◌∙◌, sym}
-use Rattle.std.proofs.Common.{subst, inl, inr}
-use Rattle.std.specs.Prelude.{IfSome}
-use Rattle.std.specs.Result.{IsOkAnd, IsErrAnd}
-use Rattle.lx_base.specs.declared.TheConstants.{LINE_BYTES}
-use Rattle.lx_spec.specs.declared.Form.{Form}
-use Rattle.lx_spec.specs.declared.Section.TheVariants.{NoRecord}
-use Rattle.lx_spec.specs.declared.TextFault.{TextFault}
-use Rattle.lx_spec.specs.declared.TextFault.TheVariants.{LineTooLong}
-use Rattle.lx_spec.specs.Text.{without_cr}
-use Rattle.lx_spec.specs.Show.{Valid}
-use Rattle.lx_spec.specs.Entry.{Entry, Ends, is_end}
-use Rattle.lx_spec.specs.LineRules.{entry_of}
-use Rattle.lx_lex.specs.declared.lines.Lines.{Lines}
+use Rattle.lx_reader.proofs.Imports.{◌≡◌, ℕ, ◌+◌, ◌<◌, ◌≤◌, true, false, List, [], ◌∷◌, length, Option, None, Result, Ok, Err, refl}
+use Rattle.lx_reader.proofs.Imports.{ap, ◌∙◌, sym, subst, inl, inr, IfSome, IsOkAnd, IsErrAnd, LINE_BYTES, Form, NoRecord, TextFault, LineTooLong}
+use Rattle.lx_reader.proofs.Imports.{without_cr, Valid, Entry, Ends, is_end, entry_of, Lines, StepOf, NotTaken, HandedOut, too_long, unread, current_line}
+use Rattle.lx_reader.proofs.Imports.{ShowFault, Reader, first_state, state_after, final_reading, facts_of, state_of, CanGoOn, IsStep, Outcome, MeansShow}
+use Rattle.lx_reader.proofs.Imports.{MeansFault, IsPastLimit, reading_of, HasRead, IsLoaded, OfText, CutShort, AnswerOf, FaultOf, TurnOf}
 use Rattle.lx_lex.specs.declared.lines.Step.TheVariants as steps
-use Rattle.lx_lex.specs.Lines.{StepOf}
-use Rattle.lx_lex.specs.CutOff.{NotTaken}
-use Rattle.lx_lex.specs.LinesHandedOut.{HandedOut}
-use Rattle.lx_lex.proofs.CuttingOff.{too_long}
-use Rattle.lx_lex.specs.Unread.{unread, current_line}
-use Rattle.lx_reader.specs.declared.fault.ShowFault.{ShowFault}
 use Rattle.lx_reader.specs.declared.fault.ShowFault.TheVariants as faults
 use Rattle.lx_reader.specs.declared.loaded.Loaded.{Loaded}
-use Rattle.lx_reader.specs.declared.reader.Reader.{Reader}
-use Rattle.lx_reader.specs.ReadingState.{first_state, state_after, final_reading}
-use Rattle.lx_reader.specs.LineOutcome.{facts_of, state_of, CanGoOn, IsStep, Outcome}
-use Rattle.lx_reader.specs.HandedLines.{MeansShow, MeansFault, IsPastLimit}
-use Rattle.lx_reader.specs.Answer.{reading_of, HasRead, IsLoaded, OfText, CutShort, AnswerOf, FaultOf, TurnOf}
 use Rattle.lx_reader.proofs.ReadLines.{long_entry}
 use Rattle.lx_reader.proofs.PassedLines.{PassedLines, lines_none, lines_sound, lines_more, lines_ended, lines_refused, lines_open}
 use Rattle.lx_reader.proofs.PassedLines.{lines_past_limit, lines_cut}

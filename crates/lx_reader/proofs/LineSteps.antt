@@ -1,33 +1,15 @@
 -- What one line makes of the reader.
-use Rattle.std.proofs.Common.{◌≡◌, ℕ, ◌+◌, length, arith, Bool, true, false, cond, List, [], ◌∷◌, map, Option, Some, None, Result, Ok, Err}
-use Rattle.std.proofs.Common.{refl, ap, ◌∙◌, sym, subst}
-use Rattle.std.specs.Prelude.{◌||◌, ◌==◌, not, nat_lt, IfOk, IfErr, OnOk, is_ok, is_some}
-use Rattle.std.specs.List.{list_any}
-use Rattle.std.specs.Result.{IsOkAnd, IsErrAnd}
-use Rattle.lx_base.specs.declared.TheConstants.{CUES}
+use Rattle.lx_reader.proofs.Imports.{◌≡◌, ℕ, ◌+◌, length, arith, Bool, true, false, cond, List, [], ◌∷◌, map, Option, Some, None, Result, Ok}
+use Rattle.lx_reader.proofs.Imports.{Err, refl, ap, ◌∙◌, sym, subst, ◌||◌, ◌==◌, not, nat_lt, IfOk, IfErr, OnOk, is_ok, is_some, list_any}
+use Rattle.lx_reader.proofs.Imports.{IsOkAnd, IsErrAnd, CUES, entry_at, has_entry, TextFault, NoIdent, OutOfRange, PatchRow, desk_limits, read_time, read_whole}
+use Rattle.lx_reader.proofs.Imports.{read_cue_no, ◌>>=◌, IsTime, Cue, Show, Section, NoRecord, InCue, Skipping, Entry, Skipped, Begins, Patches, times}
+use Rattle.lx_reader.proofs.Imports.{number, delay_at, is_page_one, record_entry, if_few, entry_by_word, Reader, ShowFault, all_triples, next_times}
+use Rattle.lx_reader.proofs.Imports.{record_number, facts_of, state_of, IsStep, Outcome, with_rows, cue_with_entry}
 use Rattle.lx_spec.specs.declared.Bad.{Bad}
-use Rattle.lx_spec.specs.SortedList.{entry_at, has_entry}
-use Rattle.lx_spec.specs.declared.TextFault.{TextFault}
-use Rattle.lx_spec.specs.declared.TextFault.TheVariants.{NoIdent, OutOfRange}
 use Rattle.lx_spec.specs.declared.Word.TheVariants as words
-use Rattle.lx_spec.specs.declared.PatchRow.{PatchRow}
-use Rattle.lx_spec.specs.Limits.{desk_limits}
-use Rattle.lx_spec.specs.Numerals.{read_time, read_whole, read_cue_no}
-use Rattle.lx_spec.specs.FirstRefusal.{◌>>=◌}
-use Rattle.lx_spec.specs.Show.{IsTime, Cue, Show}
-use Rattle.lx_spec.specs.declared.Section.{Section}
-use Rattle.lx_spec.specs.declared.Section.TheVariants.{NoRecord, InCue, Skipping}
-use Rattle.lx_spec.specs.Entry.{Entry, Skipped, Begins, Patches}
-use Rattle.lx_spec.specs.Fields.{times, number, delay_at, is_page_one, record_entry}
-use Rattle.lx_spec.specs.LineRules.{if_few, entry_by_word}
 use Rattle.lx_spec.proofs.ValidLines.{time_in_range}
-use Rattle.lx_reader.specs.declared.reader.Reader.{Reader}
-use Rattle.lx_reader.specs.declared.fault.ShowFault.{ShowFault}
 use Rattle.lx_reader.specs.declared.fault.ShowFault.TheVariants as faults
-use Rattle.lx_reader.specs.FieldLists.{all_triples, next_times, record_number}
 use Rattle.lx_reader.specs.LineFaults.{IsFaultOf}
-use Rattle.lx_reader.specs.LineOutcome.{facts_of, state_of, IsStep, Outcome}
-use Rattle.lx_reader.specs.ReadingState.{with_rows, cue_with_entry}
 
 -- a time that was read is within the limit
 pub time_within : (r : Result ℕ Bad) (t : ℕ) (token : List ℕ) → r ≡ read_time token → r ≡ Ok t → IsTime t

@@ -1,25 +1,12 @@
 -- The moves of a look, channel by channel, and the cues whose looks become moves, from the last one on.
-use Rattle.std.proofs.Common.{◌≡◌, ℕ, suc, zero, ◌+◌, ◌<◌, ◌≤◌, Bool, true, false, cond, List, [], ◌∷◌, ◌++◌, map, length, take, drop}
-use Rattle.std.proofs.Common.{get_or, Option, Some, None, refl, ap, ◌∙◌, sym, subst, arith, add-one, append-nil, append_assoc, IsTrue}
-use Rattle.std.specs.Prelude.{filter, is_some, not, ◌==◌, ◌-◌, IfSome}
-use Rattle.std.specs.Option.{option_map_or, IsSomeAnd}
-use Rattle.std.specs.List.{AllByRecursion, range_with_len}
-use Rattle.std.proofs.Math.Seq.{take-append_seam}
-use Rattle.std.proofs.lemmas.List.{map-append}
-use Rattle.std.proofs.lemmas.List.Elements.{filter-append}
-use Rattle.lx_spec.specs.declared.Move.{Move}
-use Rattle.lx_spec.specs.declared.Part.{Part}
-use Rattle.lx_spec.specs.Looks.{from_looks}
-use Rattle.lx_spec.specs.SortedList.{IsStrictlySorted, placed, has_entry, entry_at, entries_below, entries_above}
-use Rattle.lx_spec.specs.Show.{Cue, Show, InRange, ValidMove, ValidCue, Valid}
-use Rattle.lx_spec.specs.TrackedLevel.{cue_of, move_in, level_in}
-use Rattle.lx_show.specs.ChangedEntry.{changed}
-use Rattle.lx_spec.proofs.Lists.{kept_by, find_has}
-use Rattle.lx_spec.proofs.SortedLists.{seam, goes_between, stands_between, all_at_seam, below_seam, above_seam}
-use Rattle.lx_spec.proofs.SortedLists.{All-placed, IsStrictlySorted-placed, entry_number, found_valid, length-placed_there}
-use Rattle.lx_show.proofs.ChangedCues.{with_other_moves}
-use Rattle.lx_show.proofs.ValidShows.{with_cues}
-use Rattle.lx_reader.specs.LookMoves.{last_look, look_changes, look_move, moves_up_to, with_look}
+use Rattle.lx_reader.proofs.Imports.{◌≡◌, ℕ, suc, zero, ◌+◌, ◌<◌, ◌≤◌, Bool, true, false, cond, List, [], ◌∷◌, ◌++◌, map}
+use Rattle.lx_reader.proofs.Imports.{length, take, drop, get_or, Option, Some, None, refl, ap, ◌∙◌, sym, subst, arith, add-one, append-nil, append_assoc}
+use Rattle.lx_reader.proofs.Imports.{IsTrue, filter, is_some, not, ◌==◌, ◌-◌, IfSome, option_map_or, IsSomeAnd, AllByRecursion, range_with_len}
+use Rattle.lx_reader.proofs.Imports.{take-append_seam, map-append, filter-append, Move, Part, from_looks, IsStrictlySorted, placed, has_entry, entry_at}
+use Rattle.lx_reader.proofs.Imports.{entries_below, entries_above, Cue, Show, InRange, ValidMove, ValidCue, Valid, cue_of, move_in, level_in, changed, kept_by}
+use Rattle.lx_reader.proofs.Imports.{find_has, seam, goes_between, stands_between, all_at_seam, below_seam, above_seam, All-placed, IsStrictlySorted-placed}
+use Rattle.lx_reader.proofs.Imports.{entry_number, found_valid, length-placed_there, with_other_moves, with_cues, last_look, look_changes, look_move}
+use Rattle.lx_reader.proofs.Imports.{moves_up_to, with_look}
 
 all_map : {A B : Type 0} (P : A → Type 0) (Q : B → Type 0) (f : A → B) (xs : List A) → ((x : A) → P x → Q (f x)) → AllByRecursion P xs
     → AllByRecursion Q (map f xs)

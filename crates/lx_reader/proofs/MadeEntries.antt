@@ -1,10 +1,6 @@
 -- Lists of entries made of rising numbers, with what one more entry of a text says.
-use Rattle.std.proofs.Common.{◌≡◌, ℕ, Bool, true, false, cond, List, [], map, Option, Some, None, refl, ap, ◌∙◌, sym}
-use Rattle.std.specs.Prelude.{fold, ◌==◌, IfSome}
-use Rattle.std.specs.List.{cons_option}
-use Rattle.std.specs.Option.{option_map_or}
-use Rattle.lx_spec.specs.SortedList.{IsStrictlySorted, placed, has_entry}
-use Rattle.lx_reader.specs.ReadingState.{with_named, changed_in}
+use Rattle.lx_reader.proofs.Imports.{◌≡◌, ℕ, Bool, true, false, cond, List, [], map, Option, Some, None, refl, ap, ◌∙◌, sym, fold, ◌==◌}
+use Rattle.lx_reader.proofs.Imports.{IfSome, cons_option, option_map_or, IsStrictlySorted, placed, has_entry, with_named, changed_in}
 use Rattle.lx_reader.proofs.PlacedNumbers.{changed-made, map-placed, placed-there, has_made, eq-sym, eq-here}
 
 pub cond_same : {A : Type 0} (b : Bool) (x : A) → cond b x x ≡ x

@@ -1,13 +1,6 @@
 -- The levels of a line: the greatest of their channels, and their moves.
-use Rattle.std.proofs.Common.{ℕ, ◌≤◌, List, [], ◌∷◌, map, IsTrue, arith}
-use Rattle.std.specs.Prelude.{fold, max}
-use Rattle.std.specs.List.{AllByRecursion}
-use Rattle.lx_base.specs.declared.TheConstants.{CHANNELS}
-use Rattle.lx_spec.specs.declared.Member.{Member}
-use Rattle.lx_spec.specs.declared.Part.{Part}
-use Rattle.lx_spec.specs.SortedList.{has_entry}
-use Rattle.lx_spec.specs.Show.{ValidMember, ValidMove}
-use Rattle.lx_reader.specs.ReadingState.{moves_of}
+use Rattle.lx_reader.proofs.Imports.{ℕ, ◌≤◌, List, [], ◌∷◌, map, IsTrue, arith, fold, max, AllByRecursion, CHANNELS, Member, Part, has_entry}
+use Rattle.lx_reader.proofs.Imports.{ValidMember, ValidMove, moves_of}
 
 -- the greatest of the channels
 abbrev pub greatest_of : ℕ → List Member → ℕ

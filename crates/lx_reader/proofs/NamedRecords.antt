@@ -1,18 +1,8 @@
 -- What the section is of was begun, and is there: before a line, and after it.
-use Rattle.std.proofs.Common.{◌≡◌, ℕ, true, cond, List, [], ◌∷◌, ◌++◌, Option, Some, None, refl, ap, ◌∙◌, sym, subst, IsTrue}
-use Rattle.std.specs.Prelude.{filter, filter_map, fold, map, is_some, unwrap_or, option_and_then}
-use Rattle.std.specs.List.{cons_option}
-use Rattle.std.specs.Option.{IsSomeAnd}
-use Rattle.std.proofs.lemmas.Bool.{eqb-true}
-use Rattle.lx_spec.specs.SortedList.{placed, has_entry}
-use Rattle.lx_spec.specs.TrackedLevel.{cue_of}
-use Rattle.lx_spec.specs.Facts.{with_cue_named}
-use Rattle.lx_spec.specs.declared.Section.{Section}
-use Rattle.lx_spec.specs.declared.Section.TheVariants.{NoRecord, InCue, InGroup, InSub, Skipping}
-use Rattle.lx_spec.specs.Entry.{PlacedEntry, section_begun, part_named, cue_in, group_in, sub_in}
-use Rattle.lx_spec.specs.Reading.{numbers_begun, stands_in, cue_from, group_from, sub_from}
-use Rattle.lx_reader.specs.OpenRecord.{HasPartIn, IsOpen}
-use Rattle.lx_reader.specs.ReadingState.{number_begun}
+use Rattle.lx_reader.proofs.Imports.{◌≡◌, ℕ, true, cond, List, [], ◌∷◌, ◌++◌, Option, Some, None, refl, ap, ◌∙◌, sym, subst, IsTrue}
+use Rattle.lx_reader.proofs.Imports.{filter, filter_map, fold, map, is_some, unwrap_or, option_and_then, cons_option, IsSomeAnd, eqb-true, placed, has_entry}
+use Rattle.lx_reader.proofs.Imports.{cue_of, with_cue_named, Section, NoRecord, InCue, InGroup, InSub, Skipping, PlacedEntry, section_begun, part_named, cue_in}
+use Rattle.lx_reader.proofs.Imports.{group_in, sub_in, numbers_begun, stands_in, cue_from, group_from, sub_from, HasPartIn, IsOpen, number_begun}
 use Rattle.lx_reader.proofs.LastEntries.{filter-more}
 use Rattle.lx_reader.proofs.PlacedNumbers.{entry_made, has_made, has-here, has-all_placed, eq-here}
 use Rattle.lx_reader.proofs.MadeEntries.{is_at}

@@ -1,26 +1,11 @@
 -- A cue that is open: what a line says of it, and that it stays valid.
-use Rattle.std.proofs.Common.{◌≡◌, ℕ, ◌≤◌, true, false, cond, List, Option, Some, None, ap, ◌∙◌, sym, subst, IsTrue, arith}
-use Rattle.std.specs.Prelude.{IfSome, ◌==◌}
-use Rattle.std.specs.List.{AllByRecursion}
-use Rattle.std.specs.Option.{option_map_or}
-use Rattle.lx_base.specs.declared.TheConstants.{PARTS}
-use Rattle.lx_spec.specs.declared.Member.{Member}
-use Rattle.lx_spec.specs.declared.Move.{Move}
-use Rattle.lx_spec.specs.declared.Part.{Part}
-use Rattle.lx_spec.specs.EditedShow.{new_part}
-use Rattle.lx_spec.specs.Entry.{Entry, NamesPart, HasUp, HasDown, Follows, Links, IsLabelled, Blocks, Asserts}
-use Rattle.lx_spec.specs.Show.{Cue, InRange, MemberSet, Show, ValidCue, ValidMember, ValidMove, ValidPart, ValidSet}
-use Rattle.lx_spec.specs.SortedList.{IsStrictlySorted, all_placed, entry_at, has_entry, placed}
-use Rattle.lx_spec.proofs.Lists.{each, find_has}
-use Rattle.lx_spec.proofs.SortedLists.{All-placed, IsStrictlySorted-placed, has_placed}
-use Rattle.lx_show.specs.ChangedEntry.{changed}
-use Rattle.lx_show.proofs.ChangedCues.{with_settings}
+use Rattle.lx_reader.proofs.Imports.{◌≡◌, ℕ, ◌≤◌, true, false, cond, List, Option, Some, None, ap, ◌∙◌, sym, subst, IsTrue, arith, IfSome}
+use Rattle.lx_reader.proofs.Imports.{◌==◌, AllByRecursion, option_map_or, PARTS, Member, Move, Part, new_part, Entry, NamesPart, HasUp, HasDown, Follows}
+use Rattle.lx_reader.proofs.Imports.{Links, IsLabelled, Blocks, Asserts, Cue, InRange, MemberSet, Show, ValidCue, ValidMember, ValidMove, ValidPart, ValidSet}
+use Rattle.lx_reader.proofs.Imports.{IsStrictlySorted, all_placed, entry_at, has_entry, placed, each, find_has, All-placed, IsStrictlySorted-placed, has_placed}
+use Rattle.lx_reader.proofs.Imports.{changed, with_settings, All-all_placed, IsStrictlySorted-all_placed, ChangesCue, HasRanges, is_own, cue_with, parts_with}
+use Rattle.lx_reader.proofs.Imports.{with_down, part_with_entry, with_up, members_of, CueFits, SetFits, filled_cue, filled_set}
 use Rattle.lx_show.proofs.PlacedEntries.{has_changed}
-use Rattle.lx_show.proofs.Stretches.{All-all_placed, IsStrictlySorted-all_placed}
-use Rattle.lx_reader.specs.LineOfCue.{ChangesCue, HasRanges, is_own}
-use Rattle.lx_reader.specs.ReadingState.{cue_with, parts_with, with_down, part_with_entry, with_up}
-use Rattle.lx_reader.specs.OpenMoves.{members_of}
-use Rattle.lx_reader.specs.Settled.{CueFits, SetFits, filled_cue, filled_set}
 
 -- A part that is changed.
 all_changed : {A : Type 0} (P : A → Type 0) (key : A → ℕ) (n : ℕ) (f : A → A) (xs : List A) → ((x : A) → P x → P (f x))

@@ -1,29 +1,11 @@
 -- Levels of a line that go to the open record.
-use Rattle.std.proofs.Common.{◌≡◌, ℕ, ◌≤◌, true, false, List, [], ◌++◌, map, Ok, refl, ap, ◌∙◌, sym, subst, append-nil, arith, IsTrue}
-use Rattle.std.specs.Prelude.{fold, max}
-use Rattle.std.specs.List.{AllByRecursion}
-use Rattle.std.specs.Result.{IsOkAnd}
-use Rattle.lx_base.specs.declared.TheConstants.{GROUPS, SUBS}
-use Rattle.lx_spec.specs.declared.Member.{Member}
-use Rattle.lx_spec.specs.declared.Move.{Move}
-use Rattle.lx_spec.specs.declared.Section.TheVariants.{InCue, InGroup, InSub}
-use Rattle.lx_spec.specs.Entry.{HasLevels}
-use Rattle.lx_spec.specs.Fields.{levels}
-use Rattle.lx_spec.specs.FirstRefusal.{◌>>=◌}
-use Rattle.lx_spec.specs.Limits.{desk_limits}
-use Rattle.lx_spec.specs.Show.{Cue, MemberSet, Show, ValidMember, ValidMove}
-use Rattle.lx_spec.specs.SortedList.{IsStrictlySorted, all_placed, has_entry, placed}
-use Rattle.lx_spec.proofs.Lists.{each}
-use Rattle.lx_show.proofs.Stretches.{All-all_placed, IsStrictlySorted-all_placed}
-use Rattle.lx_show.proofs.ValidShows.{wider, wider_cue, wider_members, wider_move}
-use Rattle.lx_reader.specs.declared.open_record.Open.{Open}
+use Rattle.lx_reader.proofs.Imports.{◌≡◌, ℕ, ◌≤◌, true, false, List, [], ◌++◌, map, Ok, refl, ap, ◌∙◌, sym, subst, append-nil, arith}
+use Rattle.lx_reader.proofs.Imports.{IsTrue, fold, max, AllByRecursion, IsOkAnd, GROUPS, SUBS, Member, Move, InCue, InGroup, InSub, HasLevels, levels}
+use Rattle.lx_reader.proofs.Imports.{◌>>=◌, desk_limits, Cue, MemberSet, Show, ValidMember, ValidMove, IsStrictlySorted, all_placed, has_entry, placed}
+use Rattle.lx_reader.proofs.Imports.{each, All-all_placed, IsStrictlySorted-all_placed, wider, wider_cue, wider_members, wider_move, Open, Reader, IsStep}
+use Rattle.lx_reader.proofs.Imports.{Outcome, state_of, ReadsLevels, members_of, IsOpen, cue_with, moves_of, set_with, show_with, CueFits, OpenFits, SetFits}
+use Rattle.lx_reader.proofs.Imports.{filled_cue, filled_set, is_open, with_open}
 use Rattle.lx_reader.specs.declared.open_record.Open.TheVariants as open_records
-use Rattle.lx_reader.specs.declared.reader.Reader.{Reader}
-use Rattle.lx_reader.specs.LineOutcome.{IsStep, Outcome, state_of}
-use Rattle.lx_reader.specs.OpenMoves.{ReadsLevels, members_of}
-use Rattle.lx_reader.specs.OpenRecord.{IsOpen}
-use Rattle.lx_reader.specs.ReadingState.{cue_with, moves_of, set_with, show_with}
-use Rattle.lx_reader.specs.Settled.{CueFits, OpenFits, SetFits, filled_cue, filled_set, is_open, with_open}
 use Rattle.lx_reader.proofs.Members.{greatest_each, greatest_least, moves_valid}
 use Rattle.lx_reader.proofs.OpenSteps.{changed_here, open_part, opened}
 use Rattle.lx_reader.proofs.PlacedOver.{all_placed_over, members_all_placed, members_of_moves, members_rise}

@@ -1,25 +1,10 @@
 -- Moves that are kept by channel.
-use Rattle.std.proofs.Common.{◌≡◌, ℕ, zero, suc, ◌+◌, ◌<◌, ◌≤◌, Bool, true, false, List, [], ◌∷◌, ◌++◌, length, take, drop, get_or, replicate, refl, ap, ◌∙◌}
-use Rattle.std.proofs.Common.{sym, subst, arith, append_assoc, append-nil, ◌-◌}
-use Rattle.std.proofs.Common.{map}
-use Rattle.std.specs.Prelude.{IfSome, if◌then◌else◌, slice_get, slice_set, fold, max}
-use Rattle.std.proofs.lemmas.Bool.{false≢true}
-use Rattle.std.proofs.lemmas.List.{drop-drop, drop_all}
-use Rattle.std.specs.List.{AllByRecursion}
-use Rattle.lx_spec.specs.declared.Move.{Move}
-use Rattle.lx_spec.specs.SortedList.{IsStrictlySorted, placed}
-use Rattle.lx_spec.proofs.Comparisons.{lt_true, lt_false}
-use Rattle.lx_spec.proofs.Lists.{each, all_append}
-use Rattle.lx_spec.proofs.SortedLists.{goes_between, stands_between}
-use Rattle.lx_reader.specs.OpenMoves.{AreNumbered, ReadsLevels, moves_there}
-use Rattle.lx_reader.specs.FieldLists.{all_pairs, onto}
-use Rattle.lx_reader.specs.ReadingState.{moves_of}
+use Rattle.lx_reader.proofs.Imports.{◌≡◌, ℕ, zero, suc, ◌+◌, ◌<◌, ◌≤◌, Bool, true, false, List, [], ◌∷◌, ◌++◌, length, take}
+use Rattle.lx_reader.proofs.Imports.{drop, get_or, replicate, refl, ap, ◌∙◌, sym, subst, arith, append_assoc, append-nil, ◌-◌, map, IfSome}
+use Rattle.lx_reader.proofs.Imports.{if◌then◌else◌, slice_get, slice_set, fold, max, false≢true, drop-drop, drop_all, AllByRecursion, Move}
+use Rattle.lx_reader.proofs.Imports.{IsStrictlySorted, placed, lt_true, lt_false, each, all_append, goes_between, stands_between, AreNumbered, ReadsLevels}
+use Rattle.lx_reader.proofs.Imports.{moves_there, all_pairs, onto, moves_of, CHANNELS, Member, ValidMember, map-append, fold-append}
 use Rattle.lx_reader.proofs.SectionLevels.{onto_again, onto_nothing}
-use Rattle.lx_base.specs.declared.TheConstants.{CHANNELS}
-use Rattle.lx_spec.specs.declared.Member.{Member}
-use Rattle.lx_spec.specs.Show.{ValidMember}
-use Rattle.std.proofs.lemmas.List.{map-append}
-use Rattle.std.proofs.lemmas.List.Sums.{fold-append}
 
 later : (c : ℕ) (m : Move) (moves : List Move) → AreNumbered c (m ∷ moves) → AreNumbered (c + 1) moves
 later c m moves numbered = λ k within.

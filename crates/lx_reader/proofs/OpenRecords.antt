@@ -1,26 +1,10 @@
 -- A record that begins: a new one, or one that was in the show, in whose place a bare one stands.
-use Rattle.std.proofs.Common.{◌≡◌, ℕ, ◌+◌, true, false, cond, List, [], Option, Some, None, Result, Ok, Err, refl, ap, ◌∙◌, sym, subst, IsTrue}
-use Rattle.std.specs.Prelude.{◌||◌, ◌==◌, not, is_some, length, nat_lt}
-use Rattle.std.specs.List.{AllByRecursion}
-use Rattle.std.specs.Result.{IsOkAnd}
-use Rattle.lx_base.specs.declared.TheConstants.{CUES, GROUPS, SUBS}
-use Rattle.lx_spec.specs.declared.Move.{Move}
-use Rattle.lx_spec.specs.declared.Section.{Section}
-use Rattle.lx_spec.specs.declared.Section.TheVariants.{InGroup, InSub, Skipping}
-use Rattle.lx_spec.specs.declared.TextFault.{TextFault}
-use Rattle.lx_spec.specs.declared.TextFault.TheVariants.{NoIdent}
-use Rattle.lx_spec.specs.Fields.{record_entry}
-use Rattle.lx_spec.specs.Numerals.{read_whole}
-use Rattle.lx_spec.specs.SortedList.{IsStrictlySorted, entry_at, has_entry, placed}
-use Rattle.lx_spec.specs.Show.{Cue, MemberSet, Show}
-use Rattle.lx_spec.proofs.SortedLists.{entry_at-placed_here, entry_number, found_valid, placed_again, placed_same}
-use Rattle.lx_reader.specs.declared.open_record.Open.{Open}
+use Rattle.lx_reader.proofs.Imports.{◌≡◌, ℕ, ◌+◌, true, false, cond, List, [], Option, Some, None, Result, Ok, Err, refl, ap, ◌∙◌, sym, subst}
+use Rattle.lx_reader.proofs.Imports.{IsTrue, ◌||◌, ◌==◌, not, is_some, length, nat_lt, AllByRecursion, IsOkAnd, CUES, GROUPS, SUBS, Move, Section}
+use Rattle.lx_reader.proofs.Imports.{InGroup, InSub, Skipping, TextFault, NoIdent, record_entry, read_whole, IsStrictlySorted, entry_at, has_entry, placed, Cue}
+use Rattle.lx_reader.proofs.Imports.{MemberSet, Show, entry_at-placed_here, entry_number, found_valid, placed_again, placed_same, Open, Reader, record_number}
+use Rattle.lx_reader.proofs.Imports.{IsStep, state_of, cue_with_entry, with_entry, with_set, with_open}
 use Rattle.lx_reader.specs.declared.open_record.Open.TheVariants as open_records
-use Rattle.lx_reader.specs.declared.reader.Reader.{Reader}
-use Rattle.lx_reader.specs.FieldLists.{record_number}
-use Rattle.lx_reader.specs.LineOutcome.{IsStep, state_of}
-use Rattle.lx_reader.specs.ReadingState.{cue_with_entry, with_entry, with_set}
-use Rattle.lx_reader.specs.Settled.{with_open}
 use Rattle.lx_reader.proofs.LineSteps.{record-said, record_said}
 use Rattle.lx_reader.proofs.OpenSteps.{opened}
 

@@ -1,32 +1,13 @@
 -- Lines that say something of the open record are steps of the reading.
-use Rattle.std.proofs.Common.{◌≡◌, ℕ, Bool, true, false, List, Option, Result, Ok, Err, refl, ap, ◌∙◌, sym}
-use Rattle.std.proofs.Common.{subst, IsTrue}
-use Rattle.std.specs.Prelude.{unwrap_or, OnOk}
-use Rattle.std.specs.Option.{IsSomeAnd, option_map_or}
-use Rattle.std.specs.Result.{IsErrAnd, IsOkAnd}
-use Rattle.lx_base.specs.declared.TheConstants.{GROUPS, SUBS}
-use Rattle.lx_spec.specs.declared.Move.{Move}
-use Rattle.lx_spec.specs.declared.Section.{Section}
-use Rattle.lx_spec.specs.declared.Section.TheVariants.{InCue, InGroup, InSub}
-use Rattle.lx_spec.specs.declared.TextFault.{TextFault}
-use Rattle.lx_spec.specs.declared.Word.{Word}
+use Rattle.lx_reader.proofs.Imports.{◌≡◌, ℕ, Bool, true, false, List, Option, Result, Ok, Err, refl, ap, ◌∙◌, sym, subst, IsTrue, unwrap_or, OnOk}
+use Rattle.lx_reader.proofs.Imports.{IsSomeAnd, option_map_or, IsErrAnd, IsOkAnd, GROUPS, SUBS, Move, Section, InCue, InGroup, InSub, TextFault, Word, Entry}
+use Rattle.lx_reader.proofs.Imports.{NamesPart, HasUp, HasDown, Follows, Links, IsLabelled, Blocks, Asserts, is_end, part_named, times, cue_entry, inner_entry}
+use Rattle.lx_reader.proofs.Imports.{members_entry, Cue, IsTime, MemberSet, Show, has_entry, placed, entry_at-placed_here, placed_again, changed, Open, Reader}
+use Rattle.lx_reader.proofs.Imports.{next_times, ChangesCue, CueSays, HasParts, LabelSays, facts_at, is_own, IsStep, Said, facts_of, state_of, HasPartIn}
+use Rattle.lx_reader.proofs.Imports.{IsOpen, ReadingState, cue_with, facts_in, placed_in, set_with, show_with, state_after, with_down, with_up, CueFits}
+use Rattle.lx_reader.proofs.Imports.{OpenFits, SetFits, filled_cue, filled_set, with_open}
 use Rattle.lx_spec.specs.declared.Word.TheVariants as words
-use Rattle.lx_spec.specs.Entry.{Entry, NamesPart, HasUp, HasDown, Follows, Links, IsLabelled, Blocks, Asserts, is_end, part_named}
-use Rattle.lx_spec.specs.Fields.{times}
-use Rattle.lx_spec.specs.LineRules.{cue_entry, inner_entry, members_entry}
-use Rattle.lx_spec.specs.Show.{Cue, IsTime, MemberSet, Show}
-use Rattle.lx_spec.specs.SortedList.{has_entry, placed}
-use Rattle.lx_spec.proofs.SortedLists.{entry_at-placed_here, placed_again}
-use Rattle.lx_show.specs.ChangedEntry.{changed}
-use Rattle.lx_reader.specs.declared.open_record.Open.{Open}
 use Rattle.lx_reader.specs.declared.open_record.Open.TheVariants as open_records
-use Rattle.lx_reader.specs.declared.reader.Reader.{Reader}
-use Rattle.lx_reader.specs.FieldLists.{next_times}
-use Rattle.lx_reader.specs.LineOfCue.{ChangesCue, CueSays, HasParts, LabelSays, facts_at, is_own}
-use Rattle.lx_reader.specs.LineOutcome.{IsStep, Said, facts_of, state_of}
-use Rattle.lx_reader.specs.OpenRecord.{HasPartIn, IsOpen}
-use Rattle.lx_reader.specs.ReadingState.{ReadingState, cue_with, facts_in, placed_in, set_with, show_with, state_after, with_down, with_up}
-use Rattle.lx_reader.specs.Settled.{CueFits, OpenFits, SetFits, filled_cue, filled_set, with_open}
 use Rattle.lx_reader.proofs.LineSteps.{times_ok}
 use Rattle.lx_reader.proofs.OpenCues.{own_fits}
 

@@ -1,16 +1,7 @@
 -- The lists of a line, with one more pair or triple.
-use Rattle.std.proofs.Common.{◌≡◌, ℕ, suc, ◌%◌, Bool, true, false, cond, List, [], ◌∷◌, length, Result, Ok, Err, refl, ap, ◌∙◌, arith}
-use Rattle.std.specs.Prelude.{◌==◌}
-use Rattle.lx_base.specs.declared.TheConstants.{CHANNELS, DIMMERS}
-use Rattle.lx_spec.specs.declared.Member.{Member}
-use Rattle.lx_spec.specs.declared.PatchRow.{PatchRow}
-use Rattle.lx_spec.specs.declared.TextFault.{TextFault}
-use Rattle.lx_spec.specs.declared.TextFault.TheVariants.{ShortList}
-use Rattle.lx_spec.specs.Limits.{desk_limits}
-use Rattle.lx_spec.specs.Numerals.{read_whole, read_level}
-use Rattle.lx_spec.specs.Fields.{pairs, triples, number}
-use Rattle.lx_spec.specs.FirstRefusal.{◌>>=◌}
-use Rattle.lx_reader.specs.FieldLists.{FirstIsMember, FirstIsRow, all_pairs, all_triples, onto}
+use Rattle.lx_reader.proofs.Imports.{◌≡◌, ℕ, suc, ◌%◌, Bool, true, false, cond, List, [], ◌∷◌, length, Result, Ok, Err, refl, ap, ◌∙◌}
+use Rattle.lx_reader.proofs.Imports.{arith, ◌==◌, CHANNELS, DIMMERS, Member, PatchRow, TextFault, ShortList, desk_limits, read_whole, read_level, pairs}
+use Rattle.lx_reader.proofs.Imports.{triples, number, ◌>>=◌, FirstIsMember, FirstIsRow, all_pairs, all_triples, onto}
 
 two_more : (n : ℕ) → suc (suc n) % 2 ≡ n % 2
 two_more n = omega arith

@@ -1,33 +1,15 @@
 -- Lines that were handed out, and the state that they come to.
-use Rattle.std.proofs.Common.{◌≡◌, ℕ, ◌<◌, ◌≤◌, ◌+◌, true, false, List, [], ◌∷◌, ◌++◌, map, length, take, Option, Some, None, Ok, Err, refl}
-use Rattle.std.proofs.Common.{ap, ◌∙◌, sym, subst, inl, inr, arith, append_assoc, length-append}
-use Rattle.std.specs.Prelude.{drop, IfSome}
+use Rattle.lx_reader.proofs.Imports.{◌≡◌, ℕ, ◌<◌, ◌≤◌, ◌+◌, true, false, List, [], ◌∷◌, ◌++◌, map, length, take, Option, Some}
+use Rattle.lx_reader.proofs.Imports.{None, Ok, Err, refl, ap, ◌∙◌, sym, subst, inl, inr, arith, append_assoc, length-append, drop, IfSome}
+use Rattle.lx_reader.proofs.Imports.{take-append_seam, map-append, length-map, INPUT_BYTES, Form, TextFault, NoEndData, desk_limits, without_cr, lines_of}
+use Rattle.lx_reader.proofs.Imports.{Entry, is_end, entry_of, reads_lines, lines_read, script_of, Lines, StepOf, LinesBetween, NotTaken, HandedOut, unread}
+use Rattle.lx_reader.proofs.Imports.{current_line, handed_none, handed_then, cut_off, IsOpen, ReadingState, first_state, state_after, facts_in, final_reading}
+use Rattle.lx_reader.proofs.Imports.{MeansShow, MeansFault, IsPastLimit, IsCutShort}
 use Rattle.std.specs.Io.KnownBytes.{IsAtEnd}
-use Rattle.std.proofs.Math.Seq.{take-append_seam}
-use Rattle.std.proofs.lemmas.List.{map-append, length-map}
-use Rattle.lx_base.specs.declared.TheConstants.{INPUT_BYTES}
-use Rattle.lx_spec.specs.declared.Form.{Form}
 use Rattle.lx_spec.specs.declared.Form.TheVariants.{Moves}
-use Rattle.lx_spec.specs.declared.TextFault.{TextFault}
-use Rattle.lx_spec.specs.declared.TextFault.TheVariants.{NoEndData}
-use Rattle.lx_spec.specs.Limits.{desk_limits}
-use Rattle.lx_spec.specs.Text.{without_cr, lines_of}
-use Rattle.lx_spec.specs.Entry.{Entry, is_end}
-use Rattle.lx_spec.specs.LineRules.{entry_of}
 use Rattle.lx_spec.specs.CutInput.{CutOff, first_lines}
-use Rattle.lx_spec.specs.Reading.{reads_lines, lines_read, script_of}
-use Rattle.lx_lex.specs.declared.lines.Lines.{Lines}
 use Rattle.lx_lex.specs.declared.lines.Step.TheVariants as steps
-use Rattle.lx_lex.specs.Lines.{StepOf, LinesBetween}
-use Rattle.lx_lex.specs.CutOff.{NotTaken}
-use Rattle.lx_lex.specs.LinesHandedOut.{HandedOut}
-use Rattle.lx_lex.specs.Unread.{unread, current_line}
 use Rattle.lx_lex.proofs.TakenLines.{next_too_long, all_texts, texts}
-use Rattle.lx_lex.proofs.HandingOut.{handed_none, handed_then}
-use Rattle.lx_lex.proofs.CuttingOff.{cut_off}
-use Rattle.lx_reader.specs.OpenRecord.{IsOpen}
-use Rattle.lx_reader.specs.ReadingState.{ReadingState, first_state, state_after, facts_in, final_reading}
-use Rattle.lx_reader.specs.HandedLines.{MeansShow, MeansFault, IsPastLimit, IsCutShort}
 use Rattle.lx_reader.proofs.ReadingStates.{state_open, skipped_few}
 use Rattle.lx_reader.proofs.ReadLines.{ReadSoFar, Ended, Refused, read_none, read_more, read_refused, read_ended, read_open, wanted_more}
 use Rattle.lx_reader.proofs.ReadLines.{wanted_one}

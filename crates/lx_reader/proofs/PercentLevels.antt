@@ -1,6 +1,5 @@
 -- The table of the levels of percentages.
-use Rattle.std.proofs.Common.{◌≡◌, ℕ, ◌<◌, refl, ap, ◌∙◌, arith, map, get_or}
-use Rattle.std.specs.List.{range_with_len}
+use Rattle.lx_reader.proofs.Imports.{◌≡◌, ℕ, ◌<◌, refl, ap, ◌∙◌, arith, map, get_or, range_with_len}
 use Rattle.std.proofs.lemmas.List.FromFn.{get_or-map-range_with_len}
 use Rattle.lx_base.specs.Numbers.{percent}
 use Rattle.lx_reader.specs.declared.percents.TheConstants.{PERCENTS}

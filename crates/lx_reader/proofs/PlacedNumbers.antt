@@ -1,17 +1,8 @@
 -- Lists made of rising numbers, with an entry placed.
-use Rattle.std.proofs.Common.{◌≡◌, ℕ, Bool, true, false, cond, List, [], ◌∷◌, ◌++◌, map, Option, Some, None, refl, ap, ◌∙◌, sym, subst}
-use Rattle.std.proofs.Common.{arith}
-use Rattle.std.specs.Prelude.{filter, fold, nat_lt, ◌==◌, is_some}
-use Rattle.std.specs.Option.{option_map_or}
-use Rattle.lx_show.specs.ChangedEntry.{changed}
-use Rattle.std.proofs.lemmas.List.{map-append}
-use Rattle.std.proofs.lemmas.Bool.{eqb-true}
-use Rattle.std.proofs.lemmas.Bool.Decides.{nat_tests}
-use Rattle.lx_spec.specs.SortedList.{IsStrictlySorted, placed, entry_at, has_entry}
-use Rattle.lx_spec.specs.Reading.{last_of_each}
-use Rattle.lx_spec.proofs.Comparisons.{above_is_other, below_is_other, eq_true}
-use Rattle.lx_show.proofs.Stretches.{IsStrictlySorted-all_placed}
-use Rattle.lx_spec.proofs.SortedLists.{entry_at-placed_here, entry_number, has_placed, placed_same}
+use Rattle.lx_reader.proofs.Imports.{◌≡◌, ℕ, Bool, true, false, cond, List, [], ◌∷◌, ◌++◌, map, Option, Some, None, refl, ap, ◌∙◌, sym}
+use Rattle.lx_reader.proofs.Imports.{subst, arith, filter, fold, nat_lt, ◌==◌, is_some, option_map_or, changed, map-append, eqb-true, nat_tests}
+use Rattle.lx_reader.proofs.Imports.{IsStrictlySorted, placed, entry_at, has_entry, last_of_each, above_is_other, below_is_other, eq_true}
+use Rattle.lx_reader.proofs.Imports.{IsStrictlySorted-all_placed, entry_at-placed_here, entry_number, has_placed, placed_same}
 
 pub eq-here : (n : ℕ) → (n == n) ≡ true
 eq-here n = eq_true n n refl

@@ -1,18 +1,9 @@
 -- A sorted list placed over another one: of each number its entry counts, where it has one.
-use Rattle.std.proofs.Common.{◌≡◌, ℕ, ◌<◌, Bool, true, false, cond, List, [], ◌∷◌, ◌++◌, Option, Some, None, refl, ap, ◌∙◌, sym, inl, inr, arith}
-use Rattle.std.specs.Prelude.{filter, fold, length, nat_lt}
-use Rattle.std.specs.List.{AllByRecursion}
-use Rattle.std.proofs.lemmas.Bool.{cases_eq}
-use Rattle.std.proofs.lemmas.List.{map-append}
-use Rattle.lx_spec.specs.declared.Member.{Member}
-use Rattle.lx_spec.specs.declared.Move.{Move}
-use Rattle.lx_spec.specs.SortedList.{IsStrictlySorted, all_placed, entry_at, placed}
-use Rattle.lx_spec.proofs.Lists.{each}
-use Rattle.lx_spec.proofs.SortedLists.{IsStrictlySorted-placed, entry_at-placed_here, entry_at-placed_other}
+use Rattle.lx_reader.proofs.Imports.{◌≡◌, ℕ, ◌<◌, Bool, true, false, cond, List, [], ◌∷◌, ◌++◌, Option, Some, None, refl, ap, ◌∙◌}
+use Rattle.lx_reader.proofs.Imports.{sym, inl, inr, arith, filter, fold, length, nat_lt, AllByRecursion, cases_eq, map-append, Member, Move, IsStrictlySorted}
+use Rattle.lx_reader.proofs.Imports.{all_placed, entry_at, placed, each, IsStrictlySorted-placed, entry_at-placed_here, entry_at-placed_other}
+use Rattle.lx_reader.proofs.Imports.{IsStrictlySorted-all_placed, members_of, later, moves_of}
 use Rattle.lx_show.proofs.SameLists.{first_here, first_other, none_low, same_lists}
-use Rattle.lx_show.proofs.Stretches.{IsStrictlySorted-all_placed}
-use Rattle.lx_reader.specs.OpenMoves.{members_of}
-use Rattle.lx_reader.specs.ReadingState.{later, moves_of}
 
 entry_over : {A : Type 0} (key : A → ℕ) (n : ℕ) (over xs : List A) → IsStrictlySorted key over
     → entry_at key n (all_placed key over xs) ≡ later (entry_at key n over) (entry_at key n xs)

@@ -1,21 +1,9 @@
 -- A show text that is read line by line.
-use Rattle.std.proofs.Common.{◌≡◌, ℕ, suc, ◌+◌, ◌<◌, ◌≤◌, Bool, true, false, cond, List, [], ◌∷◌, ◌++◌, length, drop, Result, Ok, Err, refl}
-use Rattle.std.proofs.Common.{ap, ◌∙◌, sym, subst, arith, add-one, append_assoc, append-nil, length-append}
-use Rattle.std.specs.Prelude.{nat_lt, IfSome}
-use Rattle.std.proofs.lemmas.Bool.Decides.{nat_tests}
-use Rattle.lx_base.specs.declared.TheConstants.{LINE_BYTES}
-use Rattle.lx_spec.specs.declared.Form.{Form}
-use Rattle.lx_spec.specs.declared.TextFault.{TextFault}
-use Rattle.lx_spec.specs.declared.TextFault.TheVariants.{NoEndData, LineTooLong}
-use Rattle.lx_spec.specs.Limits.{desk_limits}
-use Rattle.lx_spec.specs.Text.{tokens}
-use Rattle.lx_spec.specs.FirstRefusal.{◌>>=◌}
-use Rattle.lx_spec.specs.Entry.{Entry, PlacedEntry, is_end}
-use Rattle.lx_spec.specs.Facts.{Facts, first_facts, facts_after}
-use Rattle.lx_spec.specs.LineRules.{entry_by_tokens, entry_of}
-use Rattle.lx_spec.specs.Reading.{entries, reading_from, reads_lines, count_read, lines_read}
-use Rattle.lx_reader.specs.FieldLists.{onto}
-use Rattle.lx_reader.specs.ReadingState.{ReadingState, first_state, state_after, placed_in, facts_in, final_reading}
+use Rattle.lx_reader.proofs.Imports.{◌≡◌, ℕ, suc, ◌+◌, ◌<◌, ◌≤◌, Bool, true, false, cond, List, [], ◌∷◌, ◌++◌, length, drop}
+use Rattle.lx_reader.proofs.Imports.{Result, Ok, Err, refl, ap, ◌∙◌, sym, subst, arith, add-one, append_assoc, append-nil, length-append, nat_lt, IfSome}
+use Rattle.lx_reader.proofs.Imports.{nat_tests, LINE_BYTES, Form, TextFault, NoEndData, LineTooLong, desk_limits, tokens, ◌>>=◌, Entry, PlacedEntry, is_end}
+use Rattle.lx_reader.proofs.Imports.{Facts, first_facts, facts_after, entry_by_tokens, entry_of, entries, reading_from, reads_lines, count_read, lines_read}
+use Rattle.lx_reader.proofs.Imports.{onto, ReadingState, first_state, state_after, placed_in, facts_in, final_reading}
 use Rattle.lx_reader.proofs.SectionLevels.{onto_nothing, onto_again}
 use Rattle.lx_reader.proofs.ReadingStates.{IsStateOf, state_none, state_more, state_facts, state_reading}
 

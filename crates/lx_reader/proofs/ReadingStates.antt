@@ -1,26 +1,12 @@
 -- The states of a reading: each comes to the last of its entries for each thing.
-use Rattle.std.proofs.Common.{◌≡◌, ℕ, ◌+◌, ◌-◌, ◌<◌, ◌≤◌, Bool, true, false, cond, List, [], ◌∷◌, ◌++◌, map, length, drop, Option, Some}
-use Rattle.std.proofs.Common.{None, refl, ap, ◌∙◌, sym, subst, arith}
-use Rattle.std.specs.Prelude.{◌&&◌, ◌==◌, is_some, not, max, fold, flat_map, unwrap_or, count_by, position, IfSome}
-use Rattle.std.specs.Option.{option_map_or}
-use Rattle.std.specs.List.{after_last, suffix_len, prefix_len, position_or_len}
-use Rattle.std.proofs.lemmas.List.{reverse-append, drop-append-le, drop_all, length-append}
-use Rattle.std.proofs.lemmas.List.Sums.{fold-append, count_by-le-length}
-use Rattle.std.proofs.lemmas.List.Folds.{position_or_len_push}
-use Rattle.std.proofs.lemmas.Bool.{eqb-true}
-use Rattle.std.proofs.lemmas.Bool.Decides.{nat_tests}
-use Rattle.lx_spec.proofs.Comparisons.{eq_below, eq_true, lt_false, lt_true}
-use Rattle.lx_base.specs.declared.TheConstants.{DEFAULT_CHANNELS}
-use Rattle.lx_spec.specs.declared.Form.{Form}
-use Rattle.lx_spec.specs.Show.{Show}
-use Rattle.lx_spec.specs.Looks.{by_form}
-use Rattle.lx_spec.specs.declared.Section.TheVariants.{NoRecord}
-use Rattle.lx_spec.specs.Entry.{Entry, ClearsAll, PlacedEntry, channels_set, clears_all, is_skipped, section_begun, part_named, cue_in}
-use Rattle.lx_spec.specs.Facts.{facts_after, with_cue_named}
-use Rattle.lx_spec.specs.Reading.{reading_from, numbers_begun, channels_named, last_in}
-use Rattle.lx_reader.specs.OpenRecord.{IsOpen}
-use Rattle.lx_reader.specs.ReadingState.{ReadingState, later, first_state, state_after, placed_in, facts_in, final_reading, show_with}
-use Rattle.lx_reader.specs.ReadingState.{number_begun}
+use Rattle.lx_reader.proofs.Imports.{◌≡◌, ℕ, ◌+◌, ◌-◌, ◌<◌, ◌≤◌, Bool, true, false, cond, List, [], ◌∷◌, ◌++◌, map, length}
+use Rattle.lx_reader.proofs.Imports.{drop, Option, Some, None, refl, ap, ◌∙◌, sym, subst, arith, ◌&&◌, ◌==◌, is_some, not, max, fold, flat_map}
+use Rattle.lx_reader.proofs.Imports.{unwrap_or, count_by, position, IfSome, option_map_or, after_last, suffix_len, prefix_len, position_or_len, reverse-append}
+use Rattle.lx_reader.proofs.Imports.{drop-append-le, drop_all, length-append, fold-append, count_by-le-length, position_or_len_push, eqb-true, nat_tests}
+use Rattle.lx_reader.proofs.Imports.{eq_below, eq_true, lt_false, lt_true, DEFAULT_CHANNELS, Form, Show, by_form, NoRecord, Entry, ClearsAll, PlacedEntry}
+use Rattle.lx_reader.proofs.Imports.{channels_set, clears_all, is_skipped, section_begun, part_named, cue_in, facts_after, with_cue_named, reading_from}
+use Rattle.lx_reader.proofs.Imports.{numbers_begun, channels_named, last_in, IsOpen, ReadingState, later, first_state, state_after, placed_in, facts_in}
+use Rattle.lx_reader.proofs.Imports.{final_reading, show_with, number_begun}
 use Rattle.lx_reader.proofs.LastEntries.{last_in-more}
 use Rattle.lx_reader.proofs.Shows.{show_so_far, show-more, greatest-from, IsRooted, IsBegun}
 use Rattle.lx_reader.proofs.EntryRoots.{rooted-none, rooted-more}

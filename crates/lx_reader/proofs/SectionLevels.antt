@@ -1,13 +1,6 @@
 -- Entries that are put into a show one after another.
-use Rattle.std.proofs.Common.{◌≡◌, ℕ, false, List, [], ◌∷◌, ◌++◌, map, refl, ap, ◌∙◌, sym, append_assoc, IsTrue, Result, Ok, Err}
-use Rattle.std.specs.Prelude.{fold, max}
-use Rattle.std.proofs.lemmas.List.{map-append}
-use Rattle.std.proofs.lemmas.List.Sums.{fold-append}
-use Rattle.lx_spec.specs.declared.PatchRow.{PatchRow}
-use Rattle.lx_spec.specs.SortedList.{placed, all_placed}
-use Rattle.lx_spec.specs.Show.{Show}
-use Rattle.lx_reader.specs.ReadingState.{with_rows}
-use Rattle.lx_reader.specs.FieldLists.{all_triples, onto}
+use Rattle.lx_reader.proofs.Imports.{◌≡◌, ℕ, false, List, [], ◌∷◌, ◌++◌, map, refl, ap, ◌∙◌, sym, append_assoc, IsTrue, Result, Ok, Err}
+use Rattle.lx_reader.proofs.Imports.{fold, max, map-append, fold-append, PatchRow, placed, all_placed, Show, with_rows, all_triples, onto}
 
 pub rows-again : (xs ys : List PatchRow) (show : Show) → with_rows ys (with_rows xs show) ≡ with_rows (xs ++ ys) show
 rows-again xs ys show =

@@ -1,21 +1,10 @@
 -- The show of the entries, with one more.
-use Rattle.std.proofs.Common.{◌≡◌, ℕ, Bool, true, false, cond, List, [], ◌∷◌, ◌++◌, map, Option, Some, None, refl, ap, ◌∙◌, append-nil}
-use Rattle.std.proofs.Common.{arith}
-use Rattle.std.specs.Prelude.{◌==◌, filter, fold, flat_map, filter_map, option_and_then, max, IfSome}
-use Rattle.std.specs.List.{cons_option}
-use Rattle.std.proofs.lemmas.Grind.{flat_map-append}
-use Rattle.std.proofs.lemmas.List.Sums.{fold-append}
-use Rattle.std.proofs.lemmas.List.Elements.{filter_map-append}
-use Rattle.lx_spec.specs.Show.{Show}
-use Rattle.lx_spec.specs.SortedList.{placed, has_entry, all_placed}
-use Rattle.lx_spec.specs.declared.Section.{Section}
-use Rattle.lx_spec.specs.declared.Section.TheVariants.{NoRecord}
-use Rattle.lx_spec.specs.Entry.{Entry, Skipped, Identifies, Begins, ClearsAll, HasChannels, Patches, PlacedEntry, part_named, cue_in}
-use Rattle.lx_spec.specs.Entry.{group_in, sub_in, rows_in}
-use Rattle.lx_spec.specs.Reading.{last_of_each, numbers_begun, stands_in, each_record, cue_from, group_from, sub_from, channels_named}
-use Rattle.lx_spec.specs.Reading.{show_from}
-use Rattle.lx_spec.specs.EditedShow.{new_cue}
-use Rattle.lx_reader.specs.ReadingState.{with_named, changed_in, cue_with, set_with, change_by, number_begun, speaks, new_set, show_with}
+use Rattle.lx_reader.proofs.Imports.{◌≡◌, ℕ, Bool, true, false, cond, List, [], ◌∷◌, ◌++◌, map, Option, Some, None, refl, ap, ◌∙◌}
+use Rattle.lx_reader.proofs.Imports.{append-nil, arith, ◌==◌, filter, fold, flat_map, filter_map, option_and_then, max, IfSome, cons_option}
+use Rattle.lx_reader.proofs.Imports.{flat_map-append, fold-append, filter_map-append, Show, placed, has_entry, all_placed, Section, NoRecord, Entry, Skipped}
+use Rattle.lx_reader.proofs.Imports.{Identifies, Begins, ClearsAll, HasChannels, Patches, PlacedEntry, part_named, cue_in, group_in, sub_in, rows_in}
+use Rattle.lx_reader.proofs.Imports.{last_of_each, numbers_begun, stands_in, each_record, cue_from, group_from, sub_from, channels_named, show_from, new_cue}
+use Rattle.lx_reader.proofs.Imports.{with_named, changed_in, cue_with, set_with, change_by, number_begun, speaks, new_set, show_with}
 use Rattle.lx_reader.proofs.LastEntries.{filter-more}
 use Rattle.lx_reader.proofs.PlacedNumbers.{IsStrictlySorted-numbers}
 use Rattle.lx_reader.proofs.MadeEntries.{is_at, after_change, listed-more}

@@ -1,9 +1,5 @@
 -- The word that a token is, looked up in the table of words.
-use Rattle.std.proofs.Common.{◌≡◌, ℕ, List, Option, Some, None, refl, ap, ◌∙◌}
-use Rattle.std.specs.Prelude.{find, option_map, unwrap_or}
-use Rattle.std.specs.Option.{option_map_or}
-use Rattle.lx_spec.specs.declared.Word.{Word}
-use Rattle.lx_spec.specs.Text.{is_word}
+use Rattle.lx_reader.proofs.Imports.{◌≡◌, ℕ, List, Option, Some, None, refl, ap, ◌∙◌, find, option_map, unwrap_or, option_map_or, Word, is_word}
 use Rattle.lx_spec.specs.FirstWord.{spellings, dollar_word, word_of}
 use Rattle.lx_lex.specs.WordTable.{looked_up}
 

@@ -1,11 +1,6 @@
 -- The channels that are chosen one after the other.
-use Rattle.std.proofs.Common.{◌≡◌, ℕ, ◌+◌, ◌-◌, ◌≤◌, ◌<◌, Bool, List, [], ◌∷◌, ◌++◌, map, ◌∙◌, sym, ap, arith}
-use Rattle.std.specs.Prelude.{filter, if◌then◌else◌}
-use Rattle.std.specs.List.{AllByRecursion, range_with_len}
-use Rattle.lx_spec.specs.declared.Member.{Member}
-use Rattle.lx_spec.specs.Show.{Show}
-use Rattle.lx_spec.specs.RecordedLevels.{untracked}
-use Rattle.lx_spec.proofs.Lists.{kept_by}
+use Rattle.lx_record.proofs.Imports.{◌≡◌, ℕ, ◌+◌, ◌-◌, ◌≤◌, ◌<◌, Bool, List, [], ◌∷◌, ◌++◌, map, ◌∙◌, sym, ap, arith}
+use Rattle.lx_record.proofs.Imports.{filter, if◌then◌else◌, AllByRecursion, range_with_len, Member, Show, untracked, kept_by}
 use Rattle.lx_edit.proofs.Lists.{chosen_more, range_below}
 use Rattle.lx_record.proofs.RecordedCues.{is_untracked}
 

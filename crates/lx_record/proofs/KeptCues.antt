@@ -1,21 +1,10 @@
 -- A record of one cue alone: the moves by which the cue above it keeps its levels.
-use Rattle.std.proofs.Common.{◌≡◌, ℕ, zero, suc, ◌+◌, ◌<◌, ◌≤◌, Bool, true, false, cond, not, List, [], ◌∷◌, ◌++◌, map, Some, None, refl}
-use Rattle.std.proofs.Common.{◌∙◌, sym, ap}
-use Rattle.std.proofs.Common.{arith}
-use Rattle.std.specs.Prelude.{Option, find, filter, ◌==◌, ◌&&◌, nat_lt, option_map, if◌then◌else◌}
-use Rattle.std.specs.Option.{option_map_or}
-use Rattle.std.specs.List.{AllByRecursion, range_with_len}
-use Rattle.std.proofs.lemmas.Bool.Decides.{nat_tests}
-use Rattle.lx_spec.specs.SortedList.{IsStrictlySorted, entries_below, entries_above}
-use Rattle.lx_spec.specs.Show.{Cue, Show, InRange}
-use Rattle.lx_spec.specs.TrackedLevel.{cue_of, cue_above, tracked, decides, level_in}
-use Rattle.lx_spec.specs.EditedShow.{with_cue, with_moves, cue_only, kept_above, channels_of}
-use Rattle.lx_spec.proofs.Along.{tracked_on, along-same}
-use Rattle.lx_spec.proofs.Comparisons.{lt_true}
-use Rattle.lx_spec.proofs.CueOnly.{IsAround, above_is, kept, tracked_first}
-use Rattle.lx_spec.proofs.EditedCues.{around_cue, around_placed}
-use Rattle.lx_spec.proofs.Lists.{each, all_append}
-use Rattle.lx_record.specs.Cues.{comes_out_changed, kept_cue}
+use Rattle.lx_record.proofs.Imports.{◌≡◌, ℕ, zero, suc, ◌+◌, ◌<◌, ◌≤◌, Bool, true, false, cond, not, List, [], ◌∷◌, ◌++◌, map}
+use Rattle.lx_record.proofs.Imports.{Some, None, refl, ◌∙◌, sym, ap, arith, Option, find, filter, ◌==◌, ◌&&◌, nat_lt, option_map}
+use Rattle.lx_record.proofs.Imports.{if◌then◌else◌, option_map_or, AllByRecursion, range_with_len, nat_tests, IsStrictlySorted, entries_below}
+use Rattle.lx_record.proofs.Imports.{entries_above, Cue, Show, InRange, cue_of, cue_above, tracked, decides, level_in, with_cue, with_moves, cue_only}
+use Rattle.lx_record.proofs.Imports.{kept_above, channels_of, tracked_on, along-same, lt_true, IsAround, above_is, kept, tracked_first, around_cue}
+use Rattle.lx_record.proofs.Imports.{around_placed, each, all_append, comes_out_changed, kept_cue}
 use Rattle.lx_record.proofs.RecordedCues.{recorded_cue, level_recorded, tracked_at, around_none, number_of}
 
 agree_step : {A : Type 0} (x : A) (xs ys : List A) (b e : Bool) → b ≡ e → xs ≡ ys → cond b (x ∷ xs) xs ≡ cond e (x ∷ ys) ys

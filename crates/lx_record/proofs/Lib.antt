@@ -3,3 +3,4 @@ pub mod RecordLaws
 pub mod KeptCues
 pub mod ChosenChannels
 pub mod RecordAnswer
+mod Imports

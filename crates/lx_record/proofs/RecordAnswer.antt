@@ -1,24 +1,13 @@
 -- What a record answers, from what it places.
-use Rattle.std.proofs.Common.{◌≡◌, ℕ, Bool, true, false, Some, None, Ok, Err, refl, ◌∙◌, sym, ap, subst, inr}
-use Rattle.std.specs.Prelude.{Option, Result, IfSome, IsOk, IsTrue, MatchResult, is_some, ◌||◌, nat_lt, length, option_map}
-use Rattle.std.specs.Option.{option_map_or}
+use Rattle.lx_record.proofs.Imports.{◌≡◌, ℕ, Bool, true, false, Some, None, Ok, Err, refl, ◌∙◌, sym, ap, subst, inr, Option, Result, IfSome, IsOk}
+use Rattle.lx_record.proofs.Imports.{IsTrue, MatchResult, is_some, ◌||◌, nat_lt, length, option_map, option_map_or, CUES, Refusal, Memory, IsStrictlySorted}
+use Rattle.lx_record.proofs.Imports.{has_entry, Cue, Show, Valid, ValidCue, cue_of, cue_above, with_cue, recorded, with_recorded, CanPlace, IsAbove, with_above}
+use Rattle.lx_record.proofs.Imports.{StandsFor, level_now, kept_cue, IsRefused}
 use Rattle.std.specs.Result.{IsErrAnd}
-use Rattle.lx_base.specs.declared.TheConstants.{CUES}
-use Rattle.lx_spec.specs.declared.Refusal.{Refusal}
-use Rattle.lx_spec.specs.declared.Refusal.TheVariants.{Memory}
-use Rattle.lx_spec.specs.SortedList.{IsStrictlySorted, has_entry}
-use Rattle.lx_spec.specs.Show.{Cue, Show, Valid, ValidCue}
-use Rattle.lx_spec.specs.TrackedLevel.{cue_of, cue_above}
-use Rattle.lx_spec.specs.EditedShow.{with_cue}
-use Rattle.lx_spec.specs.RecordedLevels.{recorded, with_recorded}
 use Rattle.lx_spec.specs.Desk.{Desk}
 use Rattle.lx_spec.specs.Kept.{Kept, kept}
-use Rattle.lx_edit.specs.PlanMeaning.{CanPlace, IsAbove, with_above}
 use Rattle.lx_edit.proofs.KeptLevels.{above_fits, above_is}
-use Rattle.lx_console.specs.ConsoleMeaning.{StandsFor, level_now}
 use Rattle.lx_console.proofs.AllRuns.{over_all}
-use Rattle.lx_record.specs.Cues.{kept_cue}
-use Rattle.lx_record.specs.Records.{IsRefused}
 use Rattle.lx_record.proofs.RecordedCues.{recorded_cue, recorded_is, number_of}
 use Rattle.lx_record.proofs.KeptCues.{above_kept, only_is}
 

@@ -1,20 +1,9 @@
 -- The laws of records.
-use Rattle.std.proofs.Common.{◌≡◌, ◌≢◌, ℕ, Bool, true, false, cond, not, [], ◌∷◌, Some, None, Ok, Err, refl, ◌∙◌, sym, ap}
-use Rattle.std.proofs.Common.{inl, inr, arith}
-use Rattle.std.specs.Prelude.{Option, Result, IsTrue, is_some, ◌==◌, ◌||◌, nat_lt, length, option_and_then, unwrap_or}
-use Rattle.std.proofs.lemmas.Bool.{cases_Bool}
-use Rattle.std.proofs.lemmas.Bool.Decides.{nat_tests}
-use Rattle.lx_base.specs.declared.TheConstants.{CUES}
-use Rattle.lx_spec.specs.declared.Refusal.{Refusal}
-use Rattle.lx_spec.specs.SortedList.{entries_below, entries_above}
-use Rattle.lx_spec.specs.Show.{Cue, Show, Valid, InRange}
-use Rattle.lx_spec.specs.TrackedLevel.{cue_of, move_of, move_in, tracked}
-use Rattle.lx_spec.specs.EditedShow.{new_cue, with_cue, cue_only}
-use Rattle.lx_spec.specs.RecordedLevels.{with_recorded, on_stage}
-use Rattle.lx_spec.proofs.CueOnly.{kept_alone}
-use Rattle.lx_spec.proofs.EditedCues.{around_cue, around_placed, ok_is}
-use Rattle.lx_spec.proofs.SortedLists.{entry_at-placed_here}
-use Rattle.lx_record.specs.Cues.{cue_or_new}
+use Rattle.lx_record.proofs.Imports.{◌≡◌, ◌≢◌, ℕ, Bool, true, false, cond, not, [], ◌∷◌, Some, None, Ok, Err, refl, ◌∙◌, sym, ap, inl}
+use Rattle.lx_record.proofs.Imports.{inr, arith, Option, Result, IsTrue, is_some, ◌==◌, ◌||◌, nat_lt, length, option_and_then, unwrap_or, cases_Bool}
+use Rattle.lx_record.proofs.Imports.{nat_tests, CUES, Refusal, entries_below, entries_above, Cue, Show, Valid, InRange, cue_of, move_of, move_in, tracked}
+use Rattle.lx_record.proofs.Imports.{new_cue, with_cue, cue_only, with_recorded, on_stage, kept_alone, around_cue, around_placed, ok_is, entry_at-placed_here}
+use Rattle.lx_record.proofs.Imports.{cue_or_new}
 use Rattle.lx_record.specs.Laws.{LawOfRecords}
 use Rattle.lx_record.proofs.RecordedCues.{recorded_cue, stage_move, move_in-recorded, recorded_is, recorded_full, level_recorded}
 use Rattle.lx_record.proofs.RecordedCues.{only_here, cue_here, around_none, number_of}

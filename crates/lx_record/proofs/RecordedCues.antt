@@ -1,32 +1,15 @@
 -- The recorded cue, and what tracks at it and through it.
-use Rattle.std.proofs.Common.{◌≡◌, ℕ, ◌<◌, Bool, true, false, cond, not, List, [], ◌∷◌, ◌++◌, map, Some, None, Ok, Err, refl, ◌∙◌, sym}
-use Rattle.std.proofs.Common.{ap, subst}
-use Rattle.std.proofs.Common.{inl, inr, arith, append_assoc}
-use Rattle.std.specs.Prelude.{Option, Result, find, filter, fold, is_some, ◌==◌, ◌||◌, nat_lt, length, unwrap_or}
-use Rattle.std.specs.Option.{option_map_or}
-use Rattle.std.specs.List.{AllByRecursion}
-use Rattle.std.proofs.lemmas.Bool.{cases_Bool, false≢true}
-use Rattle.std.proofs.lemmas.Bool.Decides.{nat_tests}
-use Rattle.lx_base.specs.declared.TheConstants.{CUES}
+use Rattle.lx_record.proofs.Imports.{◌≡◌, ℕ, ◌<◌, Bool, true, false, cond, not, List, [], ◌∷◌, ◌++◌, map, Some, None, Ok, Err, refl}
+use Rattle.lx_record.proofs.Imports.{◌∙◌, sym, ap, subst, inl, inr, arith, append_assoc, Option, Result, find, filter, fold, is_some, ◌==◌, ◌||◌}
+use Rattle.lx_record.proofs.Imports.{nat_lt, length, unwrap_or, option_map_or, AllByRecursion, cases_Bool, false≢true, nat_tests, CUES, Move, Member, Refusal}
+use Rattle.lx_record.proofs.Imports.{AbsentCue, CueLimit, IsStrictlySorted, entry_at, entries_below, entries_above, placed, Cue, Show, InRange, cue_above}
+use Rattle.lx_record.proofs.Imports.{cue_of, move_in, tracked, edited, the_cue, new_cue, with_cue, with_levels, part_for, channels_of, cue_only, kept_above}
+use Rattle.lx_record.proofs.Imports.{untracked, with_recorded, tracked_on, along, tracked-along, along-append, along-past, step_in, IsAround, above_is, kept}
+use Rattle.lx_record.proofs.Imports.{kept_around, lt_true, around_cue, around_placed, around_absent, filter_all, entry_number, entry_at-placed_here}
+use Rattle.lx_record.proofs.Imports.{entry_at-placed_other, placed_again, cue_or_new}
 use Rattle.lx_spec.specs.declared.Edit.TheVariants.{MakeCue}
-use Rattle.lx_spec.specs.declared.Move.{Move}
-use Rattle.lx_spec.specs.declared.Member.{Member}
-use Rattle.lx_spec.specs.declared.Refusal.{Refusal}
-use Rattle.lx_spec.specs.declared.Refusal.TheVariants.{AbsentCue, CueLimit}
 use Rattle.lx_spec.specs.FirstRefusal.{◌>>=◌}
-use Rattle.lx_spec.specs.SortedList.{IsStrictlySorted, entry_at, entries_below, entries_above, placed}
-use Rattle.lx_spec.specs.Show.{Cue, Show, InRange}
-use Rattle.lx_spec.specs.TrackedLevel.{cue_above, cue_of, move_in, tracked}
-use Rattle.lx_spec.specs.EditedShow.{edited, the_cue, new_cue, with_cue, with_levels, part_for, channels_of, cue_only, kept_above}
-use Rattle.lx_spec.specs.RecordedLevels.{untracked, with_recorded}
-use Rattle.lx_spec.proofs.Along.{tracked_on, along, tracked-along, along-append, along-past, step_in}
-use Rattle.lx_spec.proofs.CueOnly.{IsAround, above_is, kept, kept_around}
-use Rattle.lx_spec.proofs.Comparisons.{lt_true}
-use Rattle.lx_spec.proofs.EditedCues.{around_cue, around_placed, around_absent}
 use Rattle.lx_spec.proofs.MovesFor.{placed_moves, passes_among, moved_level}
-use Rattle.lx_spec.proofs.Lists.{filter_all}
-use Rattle.lx_spec.proofs.SortedLists.{entry_number, entry_at-placed_here, entry_at-placed_other, placed_again}
-use Rattle.lx_record.specs.Cues.{cue_or_new}
 
 map_twice : {A B C : Type 0} (g : B → C) (f : A → B) (xs : List A) → map g (map f xs) ≡ map (λ x. g (f x)) xs
 map_twice g f [] = refl

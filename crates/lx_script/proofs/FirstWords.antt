@@ -1,20 +1,9 @@
 -- A first word is looked up, and its line means what the table of sentences says.
-use Rattle.std.proofs.Common.{◌≡◌, ℕ, ◌-◌, Option, None, List, ◌∷◌, [], ◌++◌, map, length, take, drop, true, refl, sym, ap, ◌∙◌, arith, inl, inr}
-use Rattle.std.specs.Prelude.{codes, eqb, find, option_and_then}
-use Rattle.std.specs.List.{starts_with}
+use Rattle.lx_script.proofs.Imports.{◌≡◌, ℕ, ◌-◌, Option, None, List, ◌∷◌, [], ◌++◌, map, length, take, drop, true, refl, sym, ap}
+use Rattle.lx_script.proofs.Imports.{◌∙◌, arith, inl, inr, codes, eqb, find, option_and_then, starts_with, cases_Bool, Decides-eqb, length-drop, take_all}
+use Rattle.lx_script.proofs.Imports.{starts_is, Line, begins_comment, is_word, tokens, Tokens, meaning, looked_up, before_first-no, FirstWord, first_words}
+use Rattle.lx_script.proofs.Imports.{sentence_of}
 use Rattle.std.specs.Option.{option_map_or}
-use Rattle.std.proofs.lemmas.Bool.{cases_Bool}
-use Rattle.std.proofs.lemmas.Bool.Decides.{Decides-eqb}
-use Rattle.std.proofs.lemmas.List.{length-drop, take_all}
-use Rattle.std.proofs.lemmas.Slice.Eq.{starts_is}
-use Rattle.lx_spec.specs.declared.Line.{Line}
-use Rattle.lx_spec.specs.Text.{begins_comment, is_word, tokens}
-use Rattle.lx_spec.specs.Phrase.{Tokens}
-use Rattle.lx_spec.specs.Script.{meaning}
-use Rattle.lx_lex.specs.WordTable.{looked_up}
-use Rattle.lx_lex.proofs.LineCuts.{before_first-no}
-use Rattle.lx_script.specs.declared.first_word.FirstWord.{FirstWord}
-use Rattle.lx_script.specs.FirstWords.{first_words, sentence_of}
 
 -- the sentences of a table of words
 abbrev sentences_by : List ℕ → List (List ℕ × FirstWord) → List (List ℕ × (Tokens → Option Line))

@@ -5,3 +5,4 @@ pub mod WordLengths
 pub mod Phrases
 pub mod UndoLines
 pub mod ReadLines
+mod Imports

@@ -1,8 +1,5 @@
 -- A phrase that may be absent, where its word is there.
-use Rattle.std.proofs.Common.{◌≡◌, ℕ, Option, Some, List, [], ◌∷◌, ap, inl, inr}
-use Rattle.std.proofs.lemmas.Bool.{cases_Bool}
-use Rattle.lx_spec.specs.Text.{is_word}
-use Rattle.lx_spec.specs.Phrase.{Tokens, word, optional}
+use Rattle.lx_script.proofs.Imports.{◌≡◌, ℕ, Option, Some, List, [], ◌∷◌, ap, inl, inr, cases_Bool, is_word, Tokens, word, optional}
 
 pub optional_there : {A : Type 0} (w : List ℕ) (rest more : Tokens) (follows : Tokens → Option A) (other : Option A)
     → word w rest ≡ Some more → optional w rest follows other ≡ follows more

@@ -1,20 +1,7 @@
 -- What a line means is valid, and a first word of a desk's line is none of the history's.
-use Rattle.std.proofs.Common.{◌≡◌, ℕ, Option, Some, None, List, ◌∷◌, false, subst, sym, ap, ◌∙◌, inl, inr, refl}
-use Rattle.std.specs.Prelude.{IfSome, codes, option_map, find}
-use Rattle.std.specs.Str.{str_to_ascii_uppercase, bytes_eq}
-use Rattle.std.proofs.lemmas.Bool.{cases_Bool}
-use Rattle.std.proofs.lemmas.Slice.Eq.{bytes_eq-Decides}
-use Rattle.lx_spec.specs.declared.Line.{Line}
-use Rattle.lx_spec.specs.Text.{is_word}
-use Rattle.lx_spec.specs.Phrase.{Tokens}
-use Rattle.lx_spec.specs.Script.{line_of}
-use Rattle.lx_spec.specs.UndoSession.{undo_meaning}
-use Rattle.lx_spec.specs.ValidEdit.{ValidLine}
-use Rattle.lx_spec.proofs.ValidLines.{line_of-valid}
-use Rattle.lx_lex.specs.WordTable.{looked_up}
-use Rattle.lx_script.specs.declared.first_word.FirstWord.{FirstWord}
-use Rattle.lx_script.specs.FirstWords.{first_words}
-use Rattle.lx_script.specs.LinesWithUndo.{IsReadOf, IsValidWithUndo}
+use Rattle.lx_script.proofs.Imports.{◌≡◌, ℕ, Option, Some, None, List, ◌∷◌, false, subst, sym, ap, ◌∙◌, inl, inr, refl, IfSome, codes}
+use Rattle.lx_script.proofs.Imports.{option_map, find, str_to_ascii_uppercase, bytes_eq, cases_Bool, bytes_eq-Decides, Line, is_word, Tokens, line_of}
+use Rattle.lx_script.proofs.Imports.{undo_meaning, ValidLine, line_of-valid, looked_up, FirstWord, first_words, IsReadOf, IsValidWithUndo}
 use Rattle.lx_script.specs.declared.undo_line.LineWithUndo.{LineWithUndo}
 use Rattle.lx_script.specs.declared.undo_line.LineWithUndo.TheVariants.{OfHistory, OfDesk}
 use Rattle.lx_spec.specs.declared.UndoLine.{UndoLine}

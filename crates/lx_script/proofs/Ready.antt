@@ -1,15 +1,9 @@
 -- The rows of the tables of ready texts.
-use Rattle.std.proofs.Common.{◌≡◌, ℕ, ◌+◌, ◌-◌, ◌/◌, ◌%◌, ◌<◌, ◌≤◌, List, [], ◌∷◌, ◌++◌, length, get_or, map, take, decimal, refl, ap}
-use Rattle.std.proofs.Common.{sym, ◌∙◌, arith, cond, inl, inr, ◌⊎◌}
-use Rattle.std.specs.List.{range_with_len}
+use Rattle.lx_script.proofs.Imports.{◌≡◌, ℕ, ◌+◌, ◌-◌, ◌/◌, ◌%◌, ◌<◌, ◌≤◌, List, [], ◌∷◌, ◌++◌, length, get_or, map}
+use Rattle.lx_script.proofs.Imports.{take, decimal, refl, ap, sym, ◌∙◌, arith, cond, inl, inr, ◌⊎◌, range_with_len, pair, decimal_pair, decimal_two}
+use Rattle.lx_script.proofs.Imports.{length_one, length_two, decimal_digit, length-decimal-le, nat_lt, ◌==◌, cases_Bool, cases_lt, lt_false, lt_true}
+use Rattle.lx_script.proofs.Imports.{length_three, length_four, COUNTS, LEVELS, NUMBERS, PAIRS}
 use Rattle.std.proofs.lemmas.List.FromFn.{get_or-map-range_with_len}
-use Rattle.itoa.proofs.Decimal.{pair, decimal_pair, decimal_two, length_one, length_two}
-use Rattle.std.proofs.lemmas.Fmt.{decimal_digit, length-decimal-le}
-use Rattle.std.specs.Prelude.{nat_lt, ◌==◌}
-use Rattle.std.proofs.lemmas.Bool.{cases_Bool, cases_lt}
-use Rattle.lx_spec.proofs.Comparisons.{lt_false, lt_true}
-use Rattle.lx_lex.proofs.Decimals.{length_three, length_four}
-use Rattle.lx_script.specs.declared.rows.TheConstants.{COUNTS, LEVELS, NUMBERS, PAIRS}
 
 -- a byte and a number of at most three digits, at the front of four bytes
 abbrev pub ready : ℕ → ℕ → List ℕ

@@ -1,16 +1,11 @@
 -- Words with spaces between them, and the cells of levels, as they are put one after another.
-use Rattle.std.proofs.Common.{◌≡◌, ℕ, ◌+◌, ◌-◌, ◌<◌, ◌≤◌, List, [], ◌∷◌, ◌++◌, length, take, drop, get_or, refl, sym, ap, ◌∙◌}
-use Rattle.std.proofs.Common.{append-nil, append_assoc, take-append-drop, arith, length-take}
-use Rattle.std.proofs.Common.{inl, inr}
-use Rattle.std.proofs.lemmas.Bool.{cases_Bool}
+use Rattle.lx_script.proofs.Imports.{◌≡◌, ℕ, ◌+◌, ◌-◌, ◌<◌, ◌≤◌, List, [], ◌∷◌, ◌++◌, length, take, drop, get_or, refl, sym}
+use Rattle.lx_script.proofs.Imports.{ap, ◌∙◌, append-nil, append_assoc, take-append-drop, arith, length-take, inl, inr, cases_Bool, take-take, take_more}
+use Rattle.lx_script.proofs.Imports.{Bool, true, false, suc, ◌==◌, flat_map, codes, decimal, slice_range, if◌then◌else◌, enumerate_from, cell_text}
+use Rattle.lx_script.proofs.Imports.{cells_from, cells, frame_text}
 use Rattle.std.proofs.Math.Seq.{take-add, take-append-add}
-use Rattle.std.proofs.lemmas.List.{take-take, take_more}
-use Rattle.std.specs.Prelude.{Bool, true, false, suc, ◌==◌, flat_map, codes, decimal, slice_range, if◌then◌else◌}
-use Rattle.std.specs.List.{enumerate_from}
-use Rattle.lx_script.specs.Cells.{cell_text, cells_from}
 use Rattle.std.proofs.lemmas.Grind.{flat_map-append}
 use Rattle.lx_spec.specs.ShowText.{spaced}
-use Rattle.lx_spec.specs.Replies.{cells, frame_text}
 
 -- words, each behind a space
 abbrev pub behind_spaces : List (List ℕ) → List ℕ

@@ -1,14 +1,8 @@
 -- Which lines ask nothing of the history.
-use Rattle.std.proofs.Common.{◌≡◌, ℕ, ◌-◌, ◌≤◌, Bool, true, false, None, List, [], ◌∷◌, length, take, get_or, refl}
-use Rattle.std.proofs.Common.{sym, ap, ◌∙◌, ◌==◌, not, arith}
-use Rattle.std.specs.List.{take_while}
-use Rattle.std.specs.Char.{to_ascii_uppercase}
-use Rattle.std.proofs.lemmas.Bool.Decides.{nat_tests}
-use Rattle.lx_spec.specs.Phrase.{Tokens}
-use Rattle.lx_spec.specs.Text.{tokens, is_separator, begins_comment, after_all}
-use Rattle.lx_spec.specs.UndoSession.{undo_meaning}
+use Rattle.lx_script.proofs.Imports.{◌≡◌, ℕ, ◌-◌, ◌≤◌, Bool, true, false, None, List, [], ◌∷◌, length, take, get_or, refl, sym, ap}
+use Rattle.lx_script.proofs.Imports.{◌∙◌, ◌==◌, not, arith, take_while, to_ascii_uppercase, nat_tests, Tokens, tokens, is_separator, begins_comment}
+use Rattle.lx_script.proofs.Imports.{after_all, undo_meaning, goes, next-token, take-after_all, take_while-yes, after_all-no}
 use Rattle.lx_lex.proofs.Separators.{apart}
-use Rattle.lx_lex.proofs.LineCuts.{goes, next-token, take-after_all, take_while-yes, after_all-no}
 use Rattle.lx_script.specs.UndoLines.{is_other_letter}
 
 -- a token that begins with such a letter is none of the three words

@@ -1,16 +1,7 @@
 -- A word is looked up among those of as many letters.
-use Rattle.std.proofs.Common.{◌≡◌, ℕ, ◌==◌, true, List, length, filter, sym, ap, ◌∙◌}
-use Rattle.std.specs.Prelude.{option_map}
-use Rattle.std.specs.Str.{str_to_ascii_uppercase}
-use Rattle.std.specs.Char.{to_ascii_uppercase}
-use Rattle.std.proofs.lemmas.List.{length-map}
-use Rattle.std.proofs.lemmas.Slice.Eq.{bytes_eq-Decides}
-use Rattle.lx_spec.proofs.Comparisons.{eq_true}
+use Rattle.lx_script.proofs.Imports.{◌≡◌, ℕ, ◌==◌, true, List, length, filter, sym, ap, ◌∙◌, option_map, str_to_ascii_uppercase}
+use Rattle.lx_script.proofs.Imports.{to_ascii_uppercase, length-map, bytes_eq-Decides, eq_true, is_word, looked_up, FirstWord, first_words}
 use Rattle.lx_spec.proofs.Lists.{find_in_filter}
-use Rattle.lx_spec.specs.Text.{is_word}
-use Rattle.lx_lex.specs.WordTable.{looked_up}
-use Rattle.lx_script.specs.declared.first_word.FirstWord.{FirstWord}
-use Rattle.lx_script.specs.FirstWords.{first_words}
 
 -- a token has as many letters as the word that it is
 same_length : (word token : List ℕ) → is_word word token ≡ true → length word ≡ length token

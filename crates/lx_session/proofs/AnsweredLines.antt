@@ -1,32 +1,17 @@
 -- A line that was attempted and replied to was answered.
-use Rattle.std.proofs.Common.{◌≡◌, ◌≤◌, IsOk, IfSome, ℕ, Bool, true, false, Option, Some, None, Result, Ok, Err, OnOk, List, [], ◌++◌, refl}
-use Rattle.std.proofs.Common.{sym, ap, ◌∙◌, subst, arith, append-nil}
-use Rattle.std.specs.Prelude.{is_some}
-use Rattle.lx_io.specs.declared.sink.SinkFault.{SinkFault}
-use Rattle.lx_io.specs.Puts.{Puts}
-use Rattle.lx_spec.specs.declared.Command.{Command}
+use Rattle.lx_session.proofs.Imports.{◌≡◌, ◌≤◌, IsOk, IfSome, ℕ, Bool, true, false, Option, Some, None, Result, Ok, Err, OnOk, List, [], ◌++◌}
+use Rattle.lx_session.proofs.Imports.{refl, sym, ap, ◌∙◌, subst, arith, append-nil, is_some, SinkFault, Puts, Command, Line, Refusal, Desk, step, is_edit}
+use Rattle.lx_session.proofs.Imports.{Kept, Session, Counts, bad_reply, frame, frame_text, DeskState, Attempt, command_of, count_of, tried, after_attempts}
+use Rattle.lx_session.proofs.Imports.{after_meaning, IsAcceptedEdit, MayFailAt, StandsFor, Tally, LineState, next_of, unattempted, LineProgress}
+use Rattle.lx_session.proofs.Imports.{CommandHasFailed, resumed, reply_to, reply_for, counts_after, counts_in, counted as counted_in, ListenedAttempt, heard_of}
+use Rattle.lx_session.proofs.Imports.{after_commands, LineAnswer}
 use Rattle.lx_spec.specs.declared.Command.TheVariants as commands
-use Rattle.lx_spec.specs.declared.Line.{Line}
 use Rattle.lx_spec.specs.declared.Line.TheVariants as lines
-use Rattle.lx_spec.specs.declared.Refusal.{Refusal}
-use Rattle.lx_spec.specs.Desk.{Desk, step, is_edit}
-use Rattle.lx_spec.specs.Kept.{Kept}
-use Rattle.lx_spec.specs.Session.{Session, Counts, bad_reply}
-use Rattle.lx_spec.specs.Output.{frame}
-use Rattle.lx_spec.specs.Replies.{frame_text}
-use Rattle.lx_spec.specs.DeskSession.{DeskState, Attempt, command_of, count_of, tried, after_attempts, after_meaning, IsAcceptedEdit, MayFailAt}
-use Rattle.lx_console.specs.ConsoleMeaning.{StandsFor}
-use Rattle.lx_session.specs.declared.tally.Tally.{Tally}
-use Rattle.lx_session.specs.LineState.{LineState, next_of, unattempted}
-use Rattle.lx_session.specs.LineProgress.{LineProgress, CommandHasFailed, resumed}
-use Rattle.lx_session.specs.LineReply.{reply_to, reply_for, counts_after, counts_in, counted as counted_in}
 use Rattle.lx_script.specs.declared.reply.Reply.{Reply}
 use Rattle.lx_script.specs.declared.reply.Reply.TheVariants as replies
 use Rattle.lx_script.specs.ReplyTexts.{reply_text}
-use Rattle.lx_session.specs.Attempts.{ListenedAttempt, heard_of, after_commands}
 use Rattle.lx_session.proofs.AttemptSteps.{attempted_so, nothing_yet}
 use Rattle.lx_session.proofs.Replies.{on_ok}
-use Rattle.lx_session.specs.LineAnswer.{LineAnswer}
 use Rattle.lx_session.proofs.RepliedLines.{IsReplied, over, finished}
 
 -- an edit whose attempt fails is the command of its line

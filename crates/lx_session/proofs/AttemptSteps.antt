@@ -1,26 +1,14 @@
 -- One more attempt at a line's command.
-use Rattle.std.proofs.Common.{◌≡◌, inl, inr, ◌≤◌, ◌<◌, ℕ, zero, suc, ◌+◌, ◌-◌, Bool, true, false, cond, ◌==◌, Option, Some, None}
-use Rattle.std.proofs.Common.{Result, Ok, Err, List, [], ◌∷◌, ◌++◌, IsOkAnd, refl, sym, ap, ◌∙◌, subst, arith, append-nil}
-use Rattle.std.proofs.Common.{append_assoc}
-use Rattle.std.specs.Prelude.{is_none, is_some}
-use Rattle.std.specs.Result.{result_unwrap_or}
-use Rattle.std.proofs.lemmas.List.Sums.{fold-append}
-use Rattle.std.proofs.lemmas.Bool.Decides.{nat_tests}
-use Rattle.lx_spec.specs.declared.Command.{Command}
+use Rattle.lx_session.proofs.Imports.{◌≡◌, inl, inr, ◌≤◌, ◌<◌, ℕ, zero, suc, ◌+◌, ◌-◌, Bool, true, false, cond, ◌==◌, Option}
+use Rattle.lx_session.proofs.Imports.{Some, None, Result, Ok, Err, List, [], ◌∷◌, ◌++◌, IsOkAnd, refl, sym, ap, ◌∙◌, subst, arith, append-nil}
+use Rattle.lx_session.proofs.Imports.{append_assoc, is_none, is_some, result_unwrap_or, fold-append, nat_tests, Command, Line, Refusal, Memory, Desk, step}
+use Rattle.lx_session.proofs.Imports.{after_command, Kept, kept, DeskState, Attempt, answered, attempt, and_then, command_of, attempts_of, attempts_for}
+use Rattle.lx_session.proofs.Imports.{StandsFor, LineState, next_of, Attempted, AcceptedStep, ListenedAttempt, heard_of, after_commands, resumed}
+use Rattle.lx_session.proofs.Imports.{CommandHasFailed, HasPassed, LineProgress}
 use Rattle.lx_spec.specs.declared.Command.TheVariants as commands
-use Rattle.lx_spec.specs.declared.Line.{Line}
-use Rattle.lx_spec.specs.declared.Refusal.{Refusal}
-use Rattle.lx_spec.specs.declared.Refusal.TheVariants.{Memory}
-use Rattle.lx_spec.specs.Desk.{Desk, step, after_command}
 use Rattle.lx_spec.specs.FirstRefusal.{◌>>=◌}
-use Rattle.lx_spec.specs.Kept.{Kept, kept}
-use Rattle.lx_spec.specs.DeskSession.{DeskState, Attempt, answered, attempt, and_then, command_of, attempts_of, attempts_for}
-use Rattle.lx_console.specs.ConsoleMeaning.{StandsFor}
 use Rattle.lx_console.specs.Ticks.{after_ticks}
 use Rattle.lx_console.proofs.PassedTicks.{rest_after}
-use Rattle.lx_session.specs.LineState.{LineState, next_of}
-use Rattle.lx_session.specs.Attempts.{Attempted, AcceptedStep, ListenedAttempt, heard_of, after_commands}
-use Rattle.lx_session.specs.LineProgress.{resumed, CommandHasFailed, HasPassed, LineProgress}
 
 -- nothing was attempted yet
 pub nothing_yet : (all : Bool) (heard : List Command → Type 0) (s : DeskState) (console : Kept) → StandsFor s.desk console → (turn : LineState)

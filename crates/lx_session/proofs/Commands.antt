@@ -1,13 +1,6 @@
 -- What the console's answer to a command comes to.
-use Rattle.std.proofs.Common.{◌≡◌, Bool, true, false, Option, Some, Result, Ok, Err, OnErr, inl, refl, sym, subst}
-use Rattle.std.specs.Result.{result_err}
-use Rattle.lx_spec.specs.declared.Command.{Command}
-use Rattle.lx_spec.specs.declared.Refusal.{Refusal}
-use Rattle.lx_spec.specs.declared.Refusal.TheVariants.{Memory}
-use Rattle.lx_spec.specs.Desk.{Desk}
-use Rattle.lx_spec.specs.Kept.{Kept}
-use Rattle.lx_console.specs.ConsoleMeaning.{StandsFor, Answers, Obeys}
-use Rattle.lx_session.specs.Attempts.{Attempted}
+use Rattle.lx_session.proofs.Imports.{◌≡◌, Bool, true, false, Option, Some, Result, Ok, Err, OnErr, inl, refl, sym, subst, result_err, Command, Refusal}
+use Rattle.lx_session.proofs.Imports.{Memory, Desk, Kept, StandsFor, Answers, Obeys, Attempted}
 
 answered_at : (d : Desk) (c : Command) (r : Result (Unit {0}) Refusal) (before after : Kept) → Answers d c r after → StandsFor d before
     → OnErr r (after ≡ before) → Attempted true d c (result_err r) after

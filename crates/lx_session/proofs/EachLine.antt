@@ -1,7 +1,6 @@
 -- The lines of a session in order, and the attempts of them that failed.
-use Rattle.std.proofs.Common.{◌≡◌, ℕ, suc, Option, None, List, [], ◌∷◌, ◌++◌, length, refl, sym, ap, ◌∙◌, arith, append_assoc, append-nil}
-use Rattle.lx_spec.specs.Session.{Session, Answering, after_each, AreAllowed}
-use Rattle.lx_session.specs.OneAnswer.{ExtendsText, IsLawful}
+use Rattle.lx_session.proofs.Imports.{◌≡◌, ℕ, suc, Option, None, List, [], ◌∷◌, ◌++◌, length, refl, sym, ap, ◌∙◌, arith, append_assoc}
+use Rattle.lx_session.proofs.Imports.{append-nil, Session, Answering, after_each, AreAllowed, ExtendsText, IsLawful}
 
 -- each only adds to the text
 extends_more : (by : Answering (List ℕ)) → IsLawful by → (failed : Option ℕ) (s next : Session by.State) (line : List ℕ)

@@ -1,27 +1,11 @@
 -- A line on a console beside a listener is a line of its session.
-use Rattle.std.proofs.Common.{◌≡◌, ◌<◌, Bool, true, false, cond, Option, Some, None, IfSome, Result, List, ◌++◌, length, ℕ, ◌∙◌, ap, sym, refl, subst, arith}
-use Rattle.std.specs.Prelude.{nat_lt}
-use Rattle.std.proofs.lemmas.Bool.Decides.{nat_tests}
-use Rattle.std.proofs.lemmas.List.Sums.{fold-append}
-use Rattle.lx_base.specs.declared.TheConstants.{LINE_BYTES}
-use Rattle.lx_io.specs.declared.sink.SinkFault.{SinkFault}
-use Rattle.lx_spec.specs.declared.Command.{Command}
-use Rattle.lx_spec.specs.declared.Line.{Line}
+use Rattle.lx_session.proofs.Imports.{◌≡◌, ◌<◌, Bool, true, false, cond, Option, Some, None, IfSome, Result, List, ◌++◌, length, ℕ, ◌∙◌}
+use Rattle.lx_session.proofs.Imports.{ap, sym, refl, subst, arith, nat_lt, nat_tests, fold-append, LINE_BYTES, SinkFault, Command, Line, Kept, Desk}
+use Rattle.lx_session.proofs.Imports.{after_command, tokens, Session, is_quit, DeskState, tried, after_meaning, MayFailAt, desk_answering, Tally}
+use Rattle.lx_session.proofs.Imports.{after_commands, Known, reply_to, meaning_of, IsLine, ExtendsText, IsLawful, OneAnswer, LineAnswer, Beginning, HasDone}
+use Rattle.lx_session.proofs.Imports.{HasHeard}
 use Rattle.lx_spec.specs.declared.Line.TheVariants as lines
-use Rattle.lx_spec.specs.Kept.{Kept}
-use Rattle.lx_spec.specs.Desk.{Desk, after_command}
-use Rattle.lx_spec.specs.Text.{tokens}
 use Rattle.lx_spec.specs.Script.{line_of, meaning}
-use Rattle.lx_spec.specs.Session.{Session, is_quit}
-use Rattle.lx_spec.specs.DeskSession.{DeskState, tried, after_meaning, MayFailAt, desk_answering}
-use Rattle.lx_session.specs.declared.tally.Tally.{Tally}
-use Rattle.lx_session.specs.Attempts.{after_commands}
-use Rattle.lx_session.specs.Known.{Known}
-use Rattle.lx_session.specs.LineReply.{reply_to}
-use Rattle.lx_session.specs.LineState.{meaning_of}
-use Rattle.lx_session.specs.OneAnswer.{IsLine, ExtendsText, IsLawful, OneAnswer}
-use Rattle.lx_session.specs.LineAnswer.{LineAnswer}
-use Rattle.lx_session.specs.Listening.{Beginning, HasDone, HasHeard}
 use Rattle.lx_session.proofs.RepliedLines.{finished}
 
 -- a line that is too long has no meaning

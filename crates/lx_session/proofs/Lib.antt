@@ -13,3 +13,4 @@ pub mod SoFar
 pub mod ScriptEnds
 pub mod Ends
 pub mod Rows
+mod Imports

@@ -1,24 +1,10 @@
 -- What taking a line comes to, from its parts.
-use Rattle.std.proofs.Common.{◌≡◌, inl, inr, ℕ, Bool, true, false, Option, Some, None, Result, Ok, Err, IsErr}
-use Rattle.std.proofs.Common.{IfSome, List, [], ◌∷◌, ◌++◌, ap, ◌∙◌, subst, sym, take}
-use Rattle.std.specs.Result.{IsErrAnd}
-use Rattle.std.specs.Io.KnownBytes.{Keeps, Appends, IsAtEnd}
-use Rattle.std.proofs.KnownBytes.{Keeps-trans}
-use Rattle.lx_io.specs.declared.sink.SinkFault.{SinkFault}
+use Rattle.lx_session.proofs.Imports.{◌≡◌, inl, inr, ℕ, Bool, true, false, Option, Some, None, Result, Ok, Err, IsErr, IfSome, List, [], ◌∷◌}
+use Rattle.lx_session.proofs.Imports.{◌++◌, ap, ◌∙◌, subst, sym, take, IsErrAnd, Keeps, Appends, IsAtEnd, Keeps-trans, SinkFault, AppendsFront}
+use Rattle.lx_session.proofs.Imports.{AppendsFront-is, AppendsFront-from, Lines, NotTaken, HandedOut, unread, without_cr, Session, Answering, SessionFault}
+use Rattle.lx_session.proofs.Imports.{Tally, Known, Untouched, SinkStop, FromSession, ReplyOutcome, UnreadLine, LineOutcome}
 use Rattle.lx_io.specs.declared.sink.SinkFault.TheVariants as sinks
-use Rattle.lx_io.specs.Puts.{AppendsFront}
-use Rattle.lx_io.proofs.Chain.{AppendsFront-is, AppendsFront-from}
-use Rattle.lx_lex.specs.declared.lines.Lines.{Lines}
-use Rattle.lx_lex.specs.CutOff.{NotTaken}
-use Rattle.lx_lex.specs.LinesHandedOut.{HandedOut}
-use Rattle.lx_lex.specs.Unread.{unread}
-use Rattle.lx_spec.specs.Text.{without_cr}
-use Rattle.lx_spec.specs.Session.{Session, Answering}
-use Rattle.lx_session.specs.declared.fault.SessionFault.{SessionFault}
-use Rattle.lx_session.specs.declared.tally.Tally.{Tally}
-use Rattle.lx_session.specs.Known.{Known}
 use Rattle.lx_session.specs.SessionFaults.{fault_of}
-use Rattle.lx_session.specs.LineOutcome.{Untouched, SinkStop, FromSession, ReplyOutcome, UnreadLine, LineOutcome}
 
 -- what is appended after bytes that were kept
 kept_appends : (a b c : Option (List ℕ)) (xs : List ℕ) → Keeps a b → Appends b c xs → Appends a c xs

@@ -1,21 +1,9 @@
 -- What a line's reply makes of a session.
-use Rattle.std.proofs.Common.{◌≡◌, ℕ, zero, suc, Bool, true, false, cond, ◌==◌, Option, Some, None, List, [], ◌∷◌, ◌++◌}
-use Rattle.std.proofs.Common.{refl, sym, ap, ◌∙◌, arith}
-use Rattle.std.specs.Prelude.{is_some, if◌then◌else◌}
-use Rattle.std.proofs.lemmas.Bool.Decides.{nat_tests}
-use Rattle.lx_spec.specs.declared.Command.{Command}
-use Rattle.lx_spec.specs.declared.Line.{Line}
+use Rattle.lx_session.proofs.Imports.{◌≡◌, ℕ, zero, suc, Bool, true, false, cond, ◌==◌, Option, Some, None, List, [], ◌∷◌, ◌++◌, refl}
+use Rattle.lx_session.proofs.Imports.{sym, ap, ◌∙◌, arith, is_some, if◌then◌else◌, nat_tests, Command, Line, Refusal, AbsentCue, cue_of, Desk}
+use Rattle.lx_session.proofs.Imports.{row_text, row_of, refused_text, Session, refused_reply, with_text, DeskState, Attempt, command_of, attempts_for}
+use Rattle.lx_session.proofs.Imports.{with_reply, LineState, next_of, resumed, stateless, reply_to, counts_after}
 use Rattle.lx_spec.specs.declared.Line.TheVariants as lines
-use Rattle.lx_spec.specs.declared.Refusal.{Refusal}
-use Rattle.lx_spec.specs.declared.Refusal.TheVariants.{AbsentCue}
-use Rattle.lx_spec.specs.TrackedLevel.{cue_of}
-use Rattle.lx_spec.specs.Desk.{Desk}
-use Rattle.lx_spec.specs.Replies.{row_text, row_of, refused_text}
-use Rattle.lx_spec.specs.Session.{Session, refused_reply, with_text}
-use Rattle.lx_spec.specs.DeskSession.{DeskState, Attempt, command_of, attempts_for, with_reply}
-use Rattle.lx_session.specs.LineState.{LineState, next_of}
-use Rattle.lx_session.specs.LineProgress.{resumed}
-use Rattle.lx_session.specs.LineReply.{stateless, reply_to, counts_after}
 
 -- where there is nothing more to attempt
 over_at : (meaning : Option Line) (left : ℕ) (refusal : Option Refusal) (t : DeskState)

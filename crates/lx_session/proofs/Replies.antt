@@ -1,17 +1,7 @@
 -- The replies of lines, as the code gives them.
-use Rattle.std.proofs.Common.{◌≡◌, ℕ, Bool, true, Option, Some, None, Result, Ok, Err, OnOk, [], sym, ap, ◌∙◌}
-use Rattle.std.specs.Prelude.{IfOk, not}
-use Rattle.lx_io.specs.declared.sink.SinkFault.{SinkFault}
-use Rattle.lx_spec.specs.declared.Line.{Line}
+use Rattle.lx_session.proofs.Imports.{◌≡◌, ℕ, Bool, true, Option, Some, None, Result, Ok, Err, OnOk, [], sym, ap, ◌∙◌, IfOk, not, SinkFault, Line}
+use Rattle.lx_session.proofs.Imports.{Refusal, Desk, frame, frame_text, Counts, is_quit, show_text, reply_to, counts_after, frame_of}
 use Rattle.lx_spec.specs.declared.Line.TheVariants as lines
-use Rattle.lx_spec.specs.declared.Refusal.{Refusal}
-use Rattle.lx_spec.specs.Desk.{Desk}
-use Rattle.lx_spec.specs.Output.{frame}
-use Rattle.lx_spec.specs.Replies.{frame_text}
-use Rattle.lx_spec.specs.Session.{Counts, is_quit}
-use Rattle.lx_spec.specs.ShowText.{show_text}
-use Rattle.lx_session.specs.LineReply.{reply_to, counts_after}
-use Rattle.lx_session.specs.LineState.{frame_of}
 
 -- a line that asks for a frame
 pub frame_is : (meaning : Option Line) (u : ℕ) → frame_of meaning ≡ Some u → meaning ≡ Some (lines.Frame u)

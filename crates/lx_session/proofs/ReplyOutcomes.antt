@@ -1,19 +1,9 @@
 -- What the answer to a line comes to, by how it ended.
-use Rattle.std.proofs.Common.{◌≡◌, ◌⊎◌, inl, inr, ℕ, zero, suc, Bool, true, false, not, Option, Some, None, Result, Ok, Err, IfOk}
-use Rattle.std.proofs.Common.{OnOk, OnErr, IsErr, List, [], ◌∷◌, ◌++◌, length, refl, sym, ap, ◌∙◌, subst, arith, append-nil, length-append}
-use Rattle.std.proofs.Common.{take}
-use Rattle.std.specs.Result.{IsErrAnd}
-use Rattle.std.specs.Io.KnownBytes.{Appends, Keeps}
-use Rattle.std.proofs.KnownBytes.{Keeps-trans}
-use Rattle.lx_io.specs.declared.sink.SinkFault.{SinkFault}
-use Rattle.lx_io.specs.Puts.{Puts, AppendsFront}
-use Rattle.lx_io.proofs.Chain.{AppendsFront-is}
-use Rattle.lx_spec.specs.Session.{Session, Answering, ends_script}
-use Rattle.lx_session.specs.declared.tally.Tally.{Tally}
-use Rattle.lx_session.specs.Known.{Known}
-use Rattle.lx_session.specs.LineReply.{counts_in}
-use Rattle.lx_session.specs.OneAnswer.{IsLine, IsLawful, GoesOnBy, OneAnswer}
-use Rattle.lx_session.specs.LineOutcome.{Untouched, ReplyPrefix, FromSession, ReplyOutcome}
+use Rattle.lx_session.proofs.Imports.{◌≡◌, ◌⊎◌, inl, inr, ℕ, zero, suc, Bool, true, false, not, Option, Some, None, Result, Ok, Err, IfOk, OnOk}
+use Rattle.lx_session.proofs.Imports.{OnErr, IsErr, List, [], ◌∷◌, ◌++◌, length, refl, sym, ap, ◌∙◌, subst, arith, append-nil, length-append}
+use Rattle.lx_session.proofs.Imports.{take, IsErrAnd, Appends, Keeps, Keeps-trans, SinkFault, Puts, AppendsFront, AppendsFront-is, Session, Answering}
+use Rattle.lx_session.proofs.Imports.{ends_script, Tally, Known, counts_in, IsLine, IsLawful, GoesOnBy, OneAnswer, Untouched, ReplyPrefix, FromSession}
+use Rattle.lx_session.proofs.Imports.{ReplyOutcome}
 
 not_not : (b : Bool) → true ≡ not b → b ≡ false
 not_not true e = cc

@@ -1,17 +1,8 @@
 -- The row line of a console.
-use Rattle.std.proofs.Common.{◌≡◌, ℕ, Bool, false, Option, Some, None, List, refl, sym, ap, ◌∙◌}
-use Rattle.std.specs.Prelude.{option_map, is_some, if◌then◌else◌}
+use Rattle.lx_session.proofs.Imports.{◌≡◌, ℕ, Bool, false, Option, Some, None, List, refl, sym, ap, ◌∙◌, option_map, is_some, if◌then◌else◌}
+use Rattle.lx_session.proofs.Imports.{Refusal, AbsentCue, Cue, Show, cue_of, Desk, Kept, row_of, row_text, refused_text, Session, with_text, refused_reply}
+use Rattle.lx_session.proofs.Imports.{StandsFor, stateless, reply_to}
 use Rattle.lx_spec.specs.declared.Line.TheVariants as lines
-use Rattle.lx_spec.specs.declared.Refusal.{Refusal}
-use Rattle.lx_spec.specs.declared.Refusal.TheVariants.{AbsentCue}
-use Rattle.lx_spec.specs.Show.{Cue, Show}
-use Rattle.lx_spec.specs.TrackedLevel.{cue_of}
-use Rattle.lx_spec.specs.Desk.{Desk}
-use Rattle.lx_spec.specs.Kept.{Kept}
-use Rattle.lx_spec.specs.Replies.{row_of, row_text, refused_text}
-use Rattle.lx_spec.specs.Session.{Session, with_text, refused_reply}
-use Rattle.lx_console.specs.ConsoleMeaning.{StandsFor}
-use Rattle.lx_session.specs.LineReply.{stateless, reply_to}
 
 -- no row, no cue
 absent : (o : Option Cue) (show : Show) (n : ℕ) → None ≡ option_map (λ (cue : Cue). row_of show n) o → is_some o ≡ false

@@ -1,34 +1,14 @@
 -- How a session ends.
-use Rattle.std.proofs.Common.{◌≡◌, ◌⊎◌, inl, inr, ℕ, ◌+◌, ◌<◌, true, Result, Ok, Err, IsErr, Option, Some}
-use Rattle.std.proofs.Common.{None, IfSome, List, [], ◌∷◌, ◌++◌, map, length, take, drop, take-append-drop, take_all, sym, ap, ◌∙◌}
-use Rattle.std.proofs.Common.{subst, append-nil, append_assoc, length-append, arith}
-use Rattle.std.specs.List.{position_or_len, before_first}
-use Rattle.std.specs.Result.{IsErrAnd}
-use Rattle.std.specs.Io.KnownBytes.{Appends, IsAtEnd}
-use Rattle.std.proofs.KnownBytes.{Appends-trans, Appends-kept}
+use Rattle.lx_session.proofs.Imports.{◌≡◌, ◌⊎◌, inl, inr, ℕ, ◌+◌, ◌<◌, true, Result, Ok, Err, IsErr, Option, Some, None, IfSome, List, []}
+use Rattle.lx_session.proofs.Imports.{◌∷◌, ◌++◌, map, length, take, drop, take-append-drop, take_all, sym, ap, ◌∙◌, subst, append-nil}
+use Rattle.lx_session.proofs.Imports.{append_assoc, length-append, arith, position_or_len, before_first, IsErrAnd, Appends, IsAtEnd, Appends-trans}
+use Rattle.lx_session.proofs.Imports.{Appends-kept, map-append, length-map, AppendsFront, AppendsFront-is, AppendsFront-from, Lines, unread, NotTaken}
+use Rattle.lx_session.proofs.Imports.{LinesBetween, handed_then, all_texts, without_cr, lines_of, first_lines, Session, Answering, begin_at, after_each}
+use Rattle.lx_session.proofs.Imports.{AreAllowed, ends_script, answered_lines, whole_session, session_after, Allows, Tally, Known, QuitLine, HalfAnsweredLine}
+use Rattle.lx_session.proofs.Imports.{Untouched, ScriptEnd, SinkStop, LineOutcome, counts_in, IsLawful, AnsweredWhole, AnsweredPrefix, AnsweredTaken}
+use Rattle.lx_session.proofs.Imports.{ScriptAnswered, KeepsLimit, SessionFault}
 use Rattle.std.proofs.Math.Seq.{take-append_seam, take-append-add}
-use Rattle.std.proofs.lemmas.List.{map-append, length-map}
-use Rattle.lx_io.specs.Puts.{AppendsFront}
-use Rattle.lx_io.proofs.Chain.{AppendsFront-is, AppendsFront-from}
-use Rattle.lx_lex.specs.declared.lines.Lines.{Lines}
-use Rattle.lx_lex.specs.Unread.{unread}
-use Rattle.lx_lex.specs.CutOff.{NotTaken}
-use Rattle.lx_lex.specs.Lines.{LinesBetween}
-use Rattle.lx_lex.proofs.HandingOut.{handed_then}
 use Rattle.lx_lex.proofs.CuttingOff.{cut_off}
-use Rattle.lx_lex.proofs.TakenLines.{all_texts}
-use Rattle.lx_spec.specs.Text.{without_cr, lines_of}
-use Rattle.lx_spec.specs.CutInput.{first_lines}
-use Rattle.lx_spec.specs.Session.{Session, Answering, begin_at, after_each, AreAllowed, ends_script, answered_lines}
-use Rattle.lx_spec.specs.Session.{whole_session, session_after, Allows}
-use Rattle.lx_session.specs.declared.tally.Tally.{Tally}
-use Rattle.lx_session.specs.Known.{Known}
-use Rattle.lx_session.specs.LineOutcome.{QuitLine, HalfAnsweredLine, Untouched, ScriptEnd, SinkStop, LineOutcome}
-use Rattle.lx_session.specs.LineReply.{counts_in}
-use Rattle.lx_session.specs.OneAnswer.{IsLawful}
-use Rattle.lx_session.specs.ScriptAnswer.{AnsweredWhole, AnsweredPrefix, AnsweredTaken, ScriptAnswered}
-use Rattle.lx_session.specs.SessionOutcome.{KeepsLimit}
-use Rattle.lx_session.specs.declared.fault.SessionFault.{SessionFault}
 use Rattle.lx_session.specs.declared.fault.SessionFault.TheVariants.{ReadFault, WriteFault, InputTooLong, Memory}
 use Rattle.lx_session.proofs.EachLine.{more_text, allowed_further}
 use Rattle.lx_session.proofs.SoFar.{GoOn, Done, SoFar, Passed, done_more, over, with_both}

@@ -1,12 +1,5 @@
 -- The frame line and the saved show of a console.
-use Rattle.std.proofs.Common.{◌≡◌, ℕ, List, [], ap, ◌∙◌}
-use Rattle.lx_spec.specs.Desk.{Desk}
-use Rattle.lx_spec.specs.Output.{frame}
-use Rattle.lx_spec.specs.Replies.{frame_text}
-use Rattle.lx_spec.specs.Show.{Show}
-use Rattle.lx_spec.specs.ShowText.{show_text}
-use Rattle.lx_spec.specs.Kept.{Kept}
-use Rattle.lx_console.specs.ConsoleMeaning.{StandsFor}
+use Rattle.lx_session.proofs.Imports.{◌≡◌, ℕ, List, [], ap, ◌∙◌, Desk, frame, frame_text, Show, show_text, Kept, StandsFor}
 
 pub frame_shown : (d : Desk) (console : Kept) (m u : ℕ) (slots : List ℕ) → StandsFor d console → m ≡ console.playback.moment
     → slots ≡ frame d u → frame_text [] m u slots ≡ frame_text [] d.playback.moment u (frame d u)

@@ -1,27 +1,13 @@
 -- How far a session has come.
-use Rattle.std.proofs.Common.{◌≡◌, ◌⊎◌, inl, inr, ℕ, zero, suc, ◌+◌, ◌≤◌, ◌<◌, true, false, cond, not, eqb}
-use Rattle.std.proofs.Common.{Option, Some, None, IfSome, IsTrue, List, [], ◌∷◌, ◌++◌, map, length}
-use Rattle.std.proofs.Common.{refl, sym, ap, ◌∙◌, subst, append-nil, append_assoc, length-append, arith}
-use Rattle.std.specs.List.{position_or_len, AllByRecursion}
-use Rattle.std.specs.Io.KnownBytes.{Appends, IsAtEnd}
-use Rattle.std.proofs.KnownBytes.{Appends-nil, Appends-trans}
-use Rattle.std.proofs.lemmas.List.{map-append, length-map}
-use Rattle.lx_base.specs.declared.TheConstants.{INPUT_BYTES}
-use Rattle.lx_lex.specs.declared.lines.Lines.{Lines}
-use Rattle.lx_lex.specs.LinesHandedOut.{HandedOut}
-use Rattle.lx_lex.specs.Unread.{unread, current_line}
-use Rattle.lx_lex.proofs.HandingOut.{handed_none, handed_then}
+use Rattle.lx_session.proofs.Imports.{◌≡◌, ◌⊎◌, inl, inr, ℕ, zero, suc, ◌+◌, ◌≤◌, ◌<◌, true, false, cond, not, eqb, Option, Some}
+use Rattle.lx_session.proofs.Imports.{None, IfSome, IsTrue, List, [], ◌∷◌, ◌++◌, map, length, refl, sym, ap, ◌∙◌, subst, append-nil}
+use Rattle.lx_session.proofs.Imports.{append_assoc, length-append, arith, position_or_len, AllByRecursion, Appends, IsAtEnd, Appends-nil, Appends-trans}
+use Rattle.lx_session.proofs.Imports.{map-append, length-map, INPUT_BYTES, Lines, HandedOut, unread, current_line, handed_none, handed_then, LinesBetween}
+use Rattle.lx_session.proofs.Imports.{StepOf, texts, lines_within, next_too_long, without_cr, lines_of, first_lines, Session, Answering, begin_at, after_each}
+use Rattle.lx_session.proofs.Imports.{AreAllowed, ends_script, lines_wanted, bytes_wanted, Tally, Known, DoneLine, PassedLine, QuitLine, AnsweredLine}
+use Rattle.lx_session.proofs.Imports.{counts_in}
 use Rattle.lx_lex.specs.declared.lines.Step.TheVariants.{InputTooLong}
-use Rattle.lx_lex.specs.Lines.{LinesBetween, StepOf}
-use Rattle.lx_lex.proofs.TakenLines.{texts, lines_within, next_too_long}
 use Rattle.lx_lex.proofs.FirstLines.{first_lines-longer}
-use Rattle.lx_spec.specs.Text.{without_cr, lines_of}
-use Rattle.lx_spec.specs.CutInput.{first_lines}
-use Rattle.lx_spec.specs.Session.{Session, Answering, begin_at, after_each, AreAllowed, ends_script, lines_wanted, bytes_wanted}
-use Rattle.lx_session.specs.declared.tally.Tally.{Tally}
-use Rattle.lx_session.specs.Known.{Known}
-use Rattle.lx_session.specs.LineOutcome.{DoneLine, PassedLine, QuitLine, AnsweredLine}
-use Rattle.lx_session.specs.LineReply.{counts_in}
 use Rattle.lx_session.proofs.EachLine.{each-append, allowed-append}
 
 -- no line ends the script

@@ -1,13 +1,9 @@
 -- The command to attempt next is a valid one.
-use Rattle.std.proofs.Common.{◌≡◌, Option, Some, None, IfSome, sym, subst, List, ℕ}
-use Rattle.lx_spec.specs.declared.Command.{Command}
+use Rattle.lx_session.proofs.Imports.{◌≡◌, Option, Some, None, IfSome, sym, subst, List, ℕ, Command, Line, command_of, LineState, meaning_of, next_of}
 use Rattle.lx_spec.specs.declared.Command.TheVariants as commands
-use Rattle.lx_spec.specs.declared.Line.{Line}
 use Rattle.lx_spec.specs.declared.Line.TheVariants as lines
-use Rattle.lx_spec.specs.DeskSession.{command_of}
 use Rattle.lx_spec.specs.ValidEdit.{ValidCommand, ValidLine}
 use Rattle.lx_spec.proofs.ValidLines.{line_of-valid}
-use Rattle.lx_session.specs.LineState.{LineState, meaning_of, next_of}
 use Rattle.lx_session.proofs.AttemptSteps.{next_is}
 
 valid_of : (meaning : Option Line) (c : Command) → IfSome meaning ValidLine → command_of meaning ≡ Some c → ValidCommand c

@@ -1,20 +1,9 @@
 -- The block reaches over the cues' own rows, whatever comes or goes, and what it grows by is at 0.
-use Rattle.std.proofs.Common.{◌≡◌, ℕ, zero, suc, ◌+◌, ◌-◌, ◌*◌, ◌<◌, ◌≤◌, List, ◌∷◌, ◌++◌, length, get_or, map}
-use Rattle.std.proofs.Common.{refl, ◌∙◌, sym, ap, subst, inl, inr, arith}
-use Rattle.std.specs.Prelude.{insert, remove, replicate}
-use Rattle.std.specs.List.{All, range_with_len}
-use Rattle.std.proofs.Math.Nat.{mul-le-mul_right}
-use Rattle.std.proofs.lemmas.Bool.{cases_lt}
-use Rattle.std.proofs.lemmas.List.{length-map, length-replicate, get_or-replicate, get_or-append_right, get_or_append_left, get_or_past}
-use Rattle.std.proofs.lemmas.List.{get_or_default}
-use Rattle.std.proofs.lemmas.List.FromFn.{length-range_with_len, get_or-range_with_len}
-use Rattle.std.proofs.lemmas.List.Sorted.{IsPermutation-insert, IsPermutation-remove, All-permutation}
-use Rattle.lx_spec.specs.Show.{Cue, Show}
-use Rattle.lx_spec.specs.SortedList.{IsStrictlySorted}
-use Rattle.lx_sheet.specs.declared.sheet.Place.{Place}
-use Rattle.lx_sheet.specs.declared.marks.Marks.{Marks}
-use Rattle.lx_sheet.specs.Block.{Covers, cell, own_rows, placed_from, row_at_place, width}
-use Rattle.lx_sheet.specs.SheetMeaning.{RowsStandFor}
+use Rattle.lx_sheet.proofs.Imports.{◌≡◌, ℕ, zero, suc, ◌+◌, ◌-◌, ◌*◌, ◌<◌, ◌≤◌, List, ◌∷◌, ◌++◌, length, get_or, map}
+use Rattle.lx_sheet.proofs.Imports.{refl, ◌∙◌, sym, ap, subst, inl, inr, arith, insert, remove, replicate, All, range_with_len, mul-le-mul_right}
+use Rattle.lx_sheet.proofs.Imports.{cases_lt, length-map, length-replicate, get_or-replicate, get_or-append_right, get_or_append_left, get_or_past}
+use Rattle.lx_sheet.proofs.Imports.{get_or_default, length-range_with_len, get_or-range_with_len, IsPermutation-insert, IsPermutation-remove, All-permutation}
+use Rattle.lx_sheet.proofs.Imports.{Cue, Show, IsStrictlySorted, Place, Marks, Covers, cell, own_rows, placed_from, row_at_place, width, RowsStandFor}
 use Rattle.lx_sheet.proofs.Cells.{cell_is, cell_past, cell_zero}
 use Rattle.lx_sheet.proofs.RowPool.{own-insert, own-remove, own-placed_from}
 use Rattle.lx_sheet.proofs.Rows.{count_up_to, last_value_same, level_of_block, numbers-rows_of, sheet_of}

@@ -1,13 +1,11 @@
 -- Levels at their places in a row and in the block.
-use Rattle.std.proofs.Common.{◌≡◌, ◌≢◌, ℕ, zero, suc, ◌+◌, ◌-◌, ◌*◌, ◌<◌, ◌≤◌, List, ◌∷◌, length, get_or, set, take, drop, refl, ◌∙◌, sym}
-use Rattle.std.proofs.Common.{ap, subst, inl, inr, arith}
-use Rattle.std.proofs.Math.Nat.{mul-le-mul_right}
+use Rattle.lx_sheet.proofs.Imports.{◌≡◌, ◌≢◌, ℕ, zero, suc, ◌+◌, ◌-◌, ◌*◌, ◌<◌, ◌≤◌, List, ◌∷◌, length, get_or, set}
+use Rattle.lx_sheet.proofs.Imports.{take, drop, refl, ◌∙◌, sym, ap, subst, inl, inr, arith, mul-le-mul_right, cases_lt, cases_order, get_or-take}
+use Rattle.lx_sheet.proofs.Imports.{get_or-drop, get_or_past, get_or-set_same, get_or-set_other, length-take, drop-take, Agree, level_in_look, last_value}
+use Rattle.lx_sheet.proofs.Imports.{width}
 use borrow.Rule.Slice.PartMut.{put_mid}
-use Rattle.std.proofs.lemmas.Bool.{cases_lt, cases_order}
-use Rattle.std.proofs.lemmas.List.{get_or-take, get_or-drop, get_or_past, get_or-set_same, get_or-set_other, length-take, drop-take}
 use Rattle.std.proofs.lemmas.Slice.{between-put_mid, take-put_mid_below, drop-put_mid}
-use Rattle.lx_base.specs.Rows.{Agree}
-use Rattle.lx_sheet.specs.Block.{cell, level_in_look, last_value, width}
+use Rattle.lx_sheet.specs.Block.{cell}
 
 one_below : (c : ℕ) → 1 ≤ c → suc (c - 1) ≡ c
 one_below c least = omega arith

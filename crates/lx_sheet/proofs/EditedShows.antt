@@ -1,10 +1,6 @@
 -- Cues listed with rows, and the numbers around a number.
-use Rattle.std.proofs.Common.{◌≡◌, ℕ, suc, ◌+◌, ◌<◌, true, false, cond, List, [], ◌∷◌, ◌++◌, length, map, refl, ◌∙◌, ap, arith}
-use Rattle.std.specs.Prelude.{nat_lt}
-use Rattle.std.specs.List.{AllByRecursion}
-use Rattle.lx_spec.specs.SortedList.{IsStrictlySorted, entries_below, entries_above}
-use Rattle.lx_spec.specs.Show.{Cue}
-use Rattle.lx_sheet.specs.Block.{placed_from}
+use Rattle.lx_sheet.proofs.Imports.{◌≡◌, ℕ, suc, ◌+◌, ◌<◌, true, false, cond, List, [], ◌∷◌, ◌++◌, length, map, refl, ◌∙◌, ap}
+use Rattle.lx_sheet.proofs.Imports.{arith, nat_lt, AllByRecursion, IsStrictlySorted, entries_below, entries_above, Cue, placed_from}
 
 -- the cues in order, each with a row
 pub numbers-placed_from : (row : ℕ) (cues : List Cue) → map (λ p. p.cue) (placed_from row cues) ≡ map (λ cue. cue.number) cues

@@ -1,21 +1,9 @@
 -- A column that was filled in from a cue on stands for the show.
-use Rattle.std.proofs.Common.{◌≡◌, ℕ, zero, suc, ◌+◌, ◌<◌, ◌≤◌, true, false, List, [], ◌∷◌, length, get_or, map, take, refl}
-use Rattle.std.proofs.Common.{◌∙◌, sym, ap, arith, inl, inr}
-use Rattle.std.specs.Prelude.{Option, Some, None, IfSome, find, option_map, slice_get}
-use Rattle.std.specs.Option.{IsSomeAnd}
-use Rattle.std.specs.List.{AllByRecursion}
-use Rattle.std.proofs.lemmas.Bool.{cases_lt}
-use Rattle.lx_spec.specs.SortedList.{IsStrictlySorted, entries_above, entries_below}
-use Rattle.lx_spec.specs.Show.{Cue, Show}
-use Rattle.lx_spec.specs.TrackedLevel.{decides, tracked}
-use Rattle.lx_spec.proofs.Comparisons.{le_false, le_true, lt_false, lt_true}
-use Rattle.lx_spec.proofs.Lists.{each, filter_all, filter_none, found_has, kept_by}
-use Rattle.lx_show.specs.Around.{entries_up_to}
-use Rattle.lx_sheet.specs.declared.sheet.Place.{Place}
-use Rattle.lx_sheet.specs.Rows.{level_by}
-use Rattle.lx_sheet.specs.Block.{rows_of, cue_level, last_value, count_under}
-use Rattle.lx_sheet.specs.After.{level_after, IsDecision, IsEnd, IsRight}
-use Rattle.lx_sheet.specs.SheetMeaning.{cue_numbers, next_decision}
+use Rattle.lx_sheet.proofs.Imports.{◌≡◌, ℕ, zero, suc, ◌+◌, ◌<◌, ◌≤◌, true, false, List, [], ◌∷◌, length, get_or, map, take, refl}
+use Rattle.lx_sheet.proofs.Imports.{◌∙◌, sym, ap, arith, inl, inr, Option, Some, None, IfSome, find, option_map, slice_get, IsSomeAnd, AllByRecursion}
+use Rattle.lx_sheet.proofs.Imports.{cases_lt, IsStrictlySorted, entries_above, entries_below, Cue, Show, decides, tracked, le_false, le_true, lt_false, lt_true}
+use Rattle.lx_sheet.proofs.Imports.{each, filter_all, filter_none, found_has, kept_by, entries_up_to, Place, level_by, rows_of, cue_level, last_value}
+use Rattle.lx_sheet.proofs.Imports.{count_under, level_after, IsDecision, IsEnd, IsRight, cue_numbers, next_decision}
 use Rattle.lx_sheet.proofs.RightRows.{IsOrderOf, column_right, count_under-map, last_right, none_left, right_at, right_below, sorted_numbers, until}
 
 -- a column whose rows up to a place were filled in, and whose rows from there on stood, where `last` is that place

@@ -1,31 +1,15 @@
 -- The row of a number, as it stands in the block, and what it is where the sheet stands for a show.
-use Rattle.std.proofs.Common.{◌≡◌, ◌≢◌, ℕ, zero, suc, ◌+◌, ◌-◌, ◌*◌, ◌<◌, ◌≤◌, true, false, cond, List, [], ◌∷◌, length, get_or, take}
-use Rattle.std.proofs.Common.{drop, map}
-use Rattle.std.proofs.Common.{Some, None, refl, ◌∙◌, sym, ap, subst, arith}
-use Rattle.std.specs.Prelude.{Option, is_some, option_map, slice_get, ◌==◌, ◌||◌}
-use Rattle.std.specs.List.{list_any}
-use Rattle.std.proofs.lemmas.Bool.{false≢true}
-use Rattle.std.proofs.lemmas.List.{length-take, length-drop, same_lists, get_or_default}
-use Rattle.std.proofs.lemmas.List.FromFn.{length-map-range_with_len, get_or-map-range_with_len}
-use Rattle.std.proofs.lemmas.List.Elements.{All-from_recursion}
-use Rattle.std.proofs.lemmas.Option.{slice_get-get_or}
-use Rattle.lx_spec.specs.SortedList.{IsStrictlySorted, entry_at}
-use Rattle.lx_show.specs.Indexes.{StandsAt}
-use Rattle.lx_spec.specs.Show.{Cue, Show}
-use Rattle.lx_spec.specs.TrackedLevel.{cue_of, tracked}
-use Rattle.lx_spec.specs.Replies.{row_of}
-use Rattle.lx_show.proofs.Indexes.{up_to_there}
-use Rattle.lx_sheet.specs.declared.sheet.Place.{Place}
-use Rattle.lx_sheet.specs.declared.marks.Marks.{Marks}
-use Rattle.lx_sheet.specs.Rows.{Row, level_by}
-use Rattle.lx_sheet.specs.Block.{Covers, row_at_place, rows_of, cell, cue_level, last_value, width}
-use Rattle.lx_sheet.specs.SheetMeaning.{RowsStandFor, cue_numbers}
+use Rattle.lx_sheet.proofs.Imports.{◌≡◌, ◌≢◌, ℕ, zero, suc, ◌+◌, ◌-◌, ◌*◌, ◌<◌, ◌≤◌, true, false, cond, List, [], ◌∷◌}
+use Rattle.lx_sheet.proofs.Imports.{length, get_or, take, drop, map, Some, None, refl, ◌∙◌, sym, ap, subst, arith, Option, is_some, option_map, slice_get}
+use Rattle.lx_sheet.proofs.Imports.{◌==◌, ◌||◌, list_any, false≢true, length-take, length-drop, same_lists, get_or_default, length-map-range_with_len}
+use Rattle.lx_sheet.proofs.Imports.{get_or-map-range_with_len, All-from_recursion, slice_get-get_or, IsStrictlySorted, entry_at, StandsAt, Cue, Show, cue_of}
+use Rattle.lx_sheet.proofs.Imports.{tracked, row_of, up_to_there, Place, Marks, Row, level_by, Covers, row_at_place, rows_of, cue_level, last_value, width}
+use Rattle.lx_sheet.proofs.Imports.{RowsStandFor, cue_numbers, eq_below, eq_true, found_number}
+use Rattle.lx_sheet.specs.Block.{cell}
 use Rattle.lx_sheet.proofs.Rows.{count_up_to, count_up_to-map, sheet_of, level_of_block, row_of_place, numbers-rows_of}
 use Rattle.lx_sheet.proofs.Cells.{last_value_some}
 use Rattle.lx_sheet.proofs.BlockReach.{covered_at}
 use Rattle.lx_sheet.proofs.RowPool.{row_is}
-use Rattle.lx_spec.proofs.Comparisons.{eq_below, eq_true}
-use Rattle.lx_spec.proofs.SortedLists.{found_number}
 
 -- a number is there as an entry's number
 has_number : {A : Type 0} (key : A → ℕ) (n : ℕ) (xs : List A) → is_some (entry_at key n xs) ≡ list_any (λ m. m == n) (map key xs)

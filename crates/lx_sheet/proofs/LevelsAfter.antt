@@ -1,11 +1,7 @@
 -- The levels after a list of cues, one cue on.
-use Rattle.std.proofs.Common.{◌≡◌, ℕ, ◌+◌, ◌<◌, true, false, cond, List, [], ◌∷◌, ◌++◌, length, get_or, take, refl, ◌∙◌, sym, ap}
-use Rattle.std.specs.Prelude.{Some, find, reverse}
-use Rattle.std.specs.Option.{option_map_or}
-use Rattle.std.proofs.lemmas.List.{take_more, reverse-append}
-use Rattle.lx_spec.specs.Show.{Cue}
-use Rattle.lx_spec.specs.TrackedLevel.{decides, level_in}
-use Rattle.lx_sheet.specs.After.{level_after, tracked_on}
+use Rattle.lx_sheet.proofs.Imports.{◌≡◌, ℕ, ◌+◌, ◌<◌, true, false, cond, List, [], ◌∷◌, ◌++◌, length, get_or, take, refl, ◌∙◌}
+use Rattle.lx_sheet.proofs.Imports.{sym, ap, Some, find, reverse, option_map_or, take_more, reverse-append, Cue, decides, level_in, tracked_on}
+use Rattle.lx_sheet.specs.After.{level_after}
 
 pub level_after-nil : (c : ℕ) → level_after [] c ≡ 0
 unfolding level_after

@@ -13,3 +13,4 @@ pub mod RowPool
 pub mod RightRows
 pub mod Rows
 pub mod ShiftedRows
+mod Imports

@@ -1,16 +1,7 @@
 -- Cues that were listed again, each with the row of its own place.
-use Rattle.std.proofs.Common.{◌≡◌, ℕ, ◌+◌, ◌<◌, List, length, get_or, map, take, ◌∙◌, sym, ap, subst, arith}
-use Rattle.std.specs.Prelude.{IfSome, slice_get}
-use Rattle.std.proofs.lemmas.List.FromFn.{get_or-range_with_len}
-use Rattle.std.proofs.lemmas.Option.{slice_get_within}
-use Rattle.lx_spec.specs.Show.{Cue, Show}
-use Rattle.lx_spec.specs.SortedList.{IsStrictlySorted}
-use Rattle.lx_sheet.specs.declared.marks.Marks.{Marks}
-use Rattle.lx_sheet.specs.declared.sheet.Place.{Place}
-use Rattle.lx_sheet.specs.Block.{cell, own_rows, placed_from, row_at_place}
-use Rattle.lx_sheet.specs.Marks.{IsMarkedFor}
-use Rattle.lx_sheet.specs.After.{level_after}
-use Rattle.lx_sheet.specs.SheetMeaning.{RowsStandFor}
+use Rattle.lx_sheet.proofs.Imports.{◌≡◌, ℕ, ◌+◌, ◌<◌, List, length, get_or, map, take, ◌∙◌, sym, ap, subst, arith, IfSome, slice_get}
+use Rattle.lx_sheet.proofs.Imports.{get_or-range_with_len, slice_get_within, Cue, Show, IsStrictlySorted, Marks, Place, cell, own_rows, placed_from}
+use Rattle.lx_sheet.proofs.Imports.{row_at_place, IsMarkedFor, level_after, RowsStandFor}
 use Rattle.lx_sheet.proofs.EditedShows.{IsStrictlySorted-placed_from, numbers-placed_from}
 use Rattle.lx_sheet.proofs.MarkedRows.{at_place, filled_stands}
 use Rattle.lx_sheet.proofs.RowPool.{own-placed_from}

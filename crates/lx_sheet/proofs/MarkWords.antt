@@ -1,19 +1,9 @@
 -- The words of marks, each at its place, and the bits that are set in them.
-use Rattle.std.proofs.Common.{◌≡◌, ℕ, suc, zero, ◌+◌, ◌*◌, ◌/◌, ◌%◌, ◌<◌, ◌≤◌, true, List, [], ◌∷◌, length, get_or, set}
-use Rattle.std.proofs.Common.{◌∙◌, sym, ap, subst, inl, inr, arith}
-use Rattle.std.specs.Prelude.{bit_or}
-use Rattle.std.specs.Int.{bit_at}
-use Rattle.std.proofs.lemmas.Bool.{cases_eq, false≢true}
-use Rattle.std.proofs.lemmas.List.{get_or-map, get_or-set_same, get_or-set_other, length-map}
-use Rattle.std.specs.List.{All}
-use Rattle.std.proofs.lemmas.List.Elements.{All-from_recursion, All-map}
+use Rattle.lx_sheet.proofs.Imports.{◌≡◌, ℕ, suc, zero, ◌+◌, ◌*◌, ◌/◌, ◌%◌, ◌<◌, ◌≤◌, true, List, [], ◌∷◌, length}
+use Rattle.lx_sheet.proofs.Imports.{get_or, set, ◌∙◌, sym, ap, subst, inl, inr, arith, bit_or, bit_at, cases_eq, false≢true, get_or-map}
+use Rattle.lx_sheet.proofs.Imports.{get_or-set_same, get_or-set_other, length-map, All, All-from_recursion, All-map, bit_at_or, bit_at-lt, Move, InRange}
+use Rattle.lx_sheet.proofs.Imports.{IsStrictlySorted, has_entry, eq_other, bit_of, chan_at, group_of, row_bit, word_place}
 use Rattle.std.proofs.lemmas.Nat.{same_from_place}
-use Rattle.std.proofs.lemmas.Nat.Bits.{bit_at_or, bit_at-lt}
-use Rattle.lx_spec.specs.declared.Move.{Move}
-use Rattle.lx_spec.specs.Show.{InRange}
-use Rattle.lx_spec.specs.SortedList.{IsStrictlySorted, has_entry}
-use Rattle.lx_spec.proofs.Comparisons.{eq_other}
-use Rattle.lx_sheet.specs.WordPlaces.{bit_of, chan_at, group_of, row_bit, word_place}
 
 in_tile : (k : ℕ) → k % 64 < 64
 in_tile k = omega arith

@@ -1,30 +1,13 @@
 -- The marks of rows: by their places in the order, and by the numbers of the cues.
-use Rattle.std.proofs.Common.{◌≡◌, ◌≢◌, ℕ, zero, suc, ◌+◌, ◌*◌, ◌/◌, ◌<◌, ◌≤◌, Bool, true, List, [], ◌∷◌, length, get_or, map, max, Some, None}
-use Rattle.std.proofs.Common.{refl, ◌∙◌, sym, ap, subst, inl, inr, arith}
-use Rattle.std.specs.Prelude.{Option, IfSome, ◌==◌, slice_get, slice_index_or}
-use Rattle.std.specs.Option.{option_map_or}
-use Rattle.std.specs.List.{range_with_len}
-use Rattle.std.proofs.Math.Nat.{mul-le-mul_right}
-use Rattle.std.proofs.lemmas.Bool.{cases_eq, cases_lt}
-use Rattle.std.proofs.lemmas.List.{get_or_default, get_or-map, get_or_past}
-use Rattle.std.proofs.lemmas.List.Elements.{All-from_recursion}
-use Rattle.std.proofs.lemmas.List.FromFn.{get_or-map-range_with_len, length-map-range_with_len}
-use Rattle.std.proofs.lemmas.Option.{slice_get-get_or, slice_get_within, get_or_from_slice_get}
-use Rattle.lx_spec.specs.SortedList.{IsStrictlySorted, entry_at}
-use Rattle.lx_spec.specs.Show.{Cue, InRange, Show, ValidCue}
-use Rattle.lx_spec.specs.TrackedLevel.{cue_of, decides}
-use Rattle.lx_spec.proofs.Comparisons.{eq_other, eq_true}
-use Rattle.lx_spec.proofs.Lists.{each, find_mapped, map_or_mapped}
-use Rattle.lx_show.specs.Indexes.{StandsAt}
-use Rattle.lx_show.proofs.Indexes.{stands_where}
-use Rattle.lx_sheet.specs.declared.marks.Marks.{Marks}
-use Rattle.lx_sheet.specs.declared.sheet.Place.{Place}
-use Rattle.lx_sheet.specs.Rows.{CueMarks, marked_by}
-use Rattle.lx_sheet.specs.Block.{AreApart, AreMarked, Covers, marks_of, own_rows, row_at_place, width}
-use Rattle.lx_sheet.specs.Marks.{IsGrown, IsMarkTable, IsMarkedFor, IsReached, Tells, has_mark}
-use Rattle.lx_sheet.specs.WordPlaces.{MovesWithin}
-use Rattle.lx_sheet.specs.After.{IsRight}
-use Rattle.lx_sheet.specs.SheetMeaning.{IsMarked, IsMarkedAt, RowsStandFor}
+use Rattle.lx_sheet.proofs.Imports.{◌≡◌, ◌≢◌, ℕ, zero, suc, ◌+◌, ◌*◌, ◌/◌, ◌<◌, ◌≤◌, Bool, true, List, [], ◌∷◌}
+use Rattle.lx_sheet.proofs.Imports.{length, get_or, map, max, Some, None, refl, ◌∙◌, sym, ap, subst, inl, inr, arith, Option, IfSome, ◌==◌, slice_get}
+use Rattle.lx_sheet.proofs.Imports.{slice_index_or, option_map_or, range_with_len, mul-le-mul_right, cases_eq, cases_lt, get_or_default, get_or-map}
+use Rattle.lx_sheet.proofs.Imports.{get_or_past, All-from_recursion, get_or-map-range_with_len, length-map-range_with_len, slice_get-get_or, slice_get_within}
+use Rattle.lx_sheet.proofs.Imports.{get_or_from_slice_get, IsStrictlySorted, entry_at, Cue, InRange, Show, ValidCue, cue_of, decides, eq_other, eq_true, each}
+use Rattle.lx_sheet.proofs.Imports.{find_mapped, map_or_mapped, StandsAt, stands_where, Marks, Place, CueMarks, AreApart, AreMarked, Covers, marks_of, own_rows}
+use Rattle.lx_sheet.proofs.Imports.{row_at_place, width, IsGrown, IsMarkTable, IsMarkedFor, IsReached, Tells, has_mark, MovesWithin, IsRight, IsMarked}
+use Rattle.lx_sheet.proofs.Imports.{IsMarkedAt, RowsStandFor}
+use Rattle.lx_sheet.specs.Rows.{marked_by}
 use Rattle.lx_sheet.proofs.BlockReach.{covered_at}
 use Rattle.lx_sheet.proofs.Found.{stands_number}
 use Rattle.lx_sheet.proofs.RightRows.{IsOrderOf, column_right, order_length}

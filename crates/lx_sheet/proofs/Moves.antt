@@ -1,19 +1,9 @@
 -- The moves of a cue placed one after another.
-use Rattle.std.proofs.Common.{◌≡◌, ◌≢◌, ℕ, zero, suc, ◌+◌, ◌-◌, ◌<◌, ◌≤◌, Bool, List, [], ◌∷◌, length, get_or, set, drop}
-use Rattle.std.proofs.Common.{Some, ◌∙◌, sym, ap, inl, inr, arith, subst}
-use Rattle.std.specs.Prelude.{Option, cond}
-use Rattle.std.specs.List.{AllByRecursion}
-use Rattle.std.specs.Option.{option_map_or}
-use Rattle.std.proofs.lemmas.Bool.{cases_eq}
-use Rattle.std.proofs.lemmas.List.{drop_more}
-use Rattle.lx_spec.specs.declared.Move.{Move}
-use Rattle.lx_spec.specs.Show.{InRange}
-use Rattle.lx_spec.specs.SortedList.{IsStrictlySorted, entry_at}
-use Rattle.lx_sheet.specs.Block.{level_in_look}
+use Rattle.lx_sheet.proofs.Imports.{◌≡◌, ◌≢◌, ℕ, zero, suc, ◌+◌, ◌-◌, ◌<◌, ◌≤◌, Bool, List, [], ◌∷◌, length, get_or, set}
+use Rattle.lx_sheet.proofs.Imports.{drop, Some, ◌∙◌, sym, ap, inl, inr, arith, subst, Option, cond, AllByRecursion, option_map_or, cases_eq, drop_more}
+use Rattle.lx_sheet.proofs.Imports.{Move, InRange, IsStrictlySorted, entry_at, level_in_look, eq_above, eq_other, eq_true, each, find_none}
+use Rattle.lx_sheet.proofs.Imports.{IsStrictlySorted-drop}
 use Rattle.lx_sheet.proofs.Cells.{level_in_look-set, level_in_look-other}
-use Rattle.lx_spec.proofs.Comparisons.{eq_above, eq_other, eq_true}
-use Rattle.lx_spec.proofs.Lists.{each, find_none}
-use Rattle.lx_spec.proofs.SortedLists.{IsStrictlySorted-drop}
 
 -- the level that the moves set, or the one before
 abbrev pub level_placed : List Move → ℕ → ℕ → ℕ

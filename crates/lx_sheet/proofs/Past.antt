@@ -1,19 +1,9 @@
 -- What is no channel of the show is at 0.
-use Rattle.std.proofs.Common.{◌≡◌, ℕ, ◌<◌, List, Some, None, refl, ◌∙◌, ap, zero, suc, arith}
-use Rattle.std.specs.Prelude.{Option, IfSome, reverse, nat_le, ◌==◌, ◌&&◌}
-use Rattle.std.specs.Option.{option_map_or}
-use Rattle.lx_spec.specs.declared.Move.{Move}
-use Rattle.lx_spec.specs.Show.{Cue, Show, Valid, ValidCue}
-use Rattle.lx_spec.specs.TrackedLevel.{decides, level_in, move_in, tracked}
-use Rattle.lx_sheet.specs.declared.sheet.Place.{Place}
-use Rattle.lx_sheet.specs.Rows.{level_by}
-use Rattle.lx_sheet.specs.Block.{rows_of, row_at_place, cue_level, last_value}
+use Rattle.lx_sheet.proofs.Imports.{◌≡◌, ℕ, ◌<◌, List, Some, None, refl, ◌∙◌, ap, zero, suc, arith, Option, IfSome, reverse, nat_le, ◌==◌}
+use Rattle.lx_sheet.proofs.Imports.{◌&&◌, option_map_or, Move, Cue, Show, Valid, ValidCue, decides, level_in, move_in, tracked, Place, level_by, rows_of}
+use Rattle.lx_sheet.proofs.Imports.{row_at_place, cue_level, last_value, IsStrictlySorted, map, eq_below, all_reverse, each, find_none, found_has}
 use Rattle.lx_sheet.proofs.Cells.{cell_past}
 use Rattle.lx_sheet.proofs.Rows.{count_up_to, level_of_block}
-use Rattle.lx_spec.specs.SortedList.{IsStrictlySorted}
-use Rattle.std.specs.Prelude.{map}
-use Rattle.lx_spec.proofs.Comparisons.{eq_below}
-use Rattle.lx_spec.proofs.Lists.{all_reverse, each, find_none, found_has}
 
 no_level : (channels c : ℕ) (cue : Cue) → channels < c → ValidCue channels cue → level_in cue c ≡ 0
 no_level channels c cue past valid =

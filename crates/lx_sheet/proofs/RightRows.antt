@@ -1,24 +1,11 @@
 -- Rows that hold the levels after the cues up to theirs, and the columns of a sheet that stands for a show.
-use Rattle.std.proofs.Common.{◌≡◌, ℕ, zero, suc, ◌+◌, ◌<◌, ◌≤◌, Bool, true, false, cond, List, [], ◌∷◌, length, get_or, take, map, refl}
-use Rattle.std.proofs.Common.{◌∙◌, sym, ap, subst, arith, inl, inr}
-use Rattle.std.specs.Prelude.{Option, Some, None, IfSome, filter, find, reverse, nat_le, nat_lt, ◌&&◌}
-use Rattle.std.specs.Option.{option_map_or}
-use Rattle.std.specs.List.{AllByRecursion}
-use Rattle.std.proofs.lemmas.Bool.{cases_lt}
-use Rattle.std.proofs.lemmas.List.{length-map}
-use Rattle.std.proofs.lemmas.List.Elements.{All-from_recursion}
-use Rattle.lx_spec.specs.SortedList.{IsStrictlySorted, entries_below}
-use Rattle.lx_spec.specs.Show.{Cue, Show}
-use Rattle.lx_spec.specs.TrackedLevel.{decides, level_in, tracked}
-use Rattle.lx_spec.proofs.Comparisons.{le_false, le_true, lt_false, lt_true}
-use Rattle.lx_spec.proofs.Lists.{each, filter_none, find_both_last, shorter}
-use Rattle.lx_show.specs.Around.{entries_up_to}
-use Rattle.lx_sheet.specs.declared.sheet.Place.{Place}
-use Rattle.lx_sheet.specs.declared.marks.Marks.{Marks}
-use Rattle.lx_sheet.specs.Rows.{Sheet, level_by, level_of}
-use Rattle.lx_sheet.specs.Block.{rows_of, cue_level, last_value, count_under}
-use Rattle.lx_sheet.specs.After.{level_after, IsRight, RowsFollow}
-use Rattle.lx_sheet.specs.SheetMeaning.{RowsStandFor, StandsFrom, cue_numbers}
+use Rattle.lx_sheet.proofs.Imports.{◌≡◌, ℕ, zero, suc, ◌+◌, ◌<◌, ◌≤◌, Bool, true, false, cond, List, [], ◌∷◌, length, get_or, take}
+use Rattle.lx_sheet.proofs.Imports.{map, refl, ◌∙◌, sym, ap, subst, arith, inl, inr, Option, Some, None, IfSome, filter, find, reverse, nat_le, nat_lt}
+use Rattle.lx_sheet.proofs.Imports.{◌&&◌, option_map_or, AllByRecursion, cases_lt, length-map, All-from_recursion, IsStrictlySorted, entries_below, Cue}
+use Rattle.lx_sheet.proofs.Imports.{Show, decides, level_in, tracked, le_false, le_true, lt_false, lt_true, each, filter_none, find_both_last, shorter}
+use Rattle.lx_sheet.proofs.Imports.{entries_up_to, Place, Marks, Sheet, level_by, level_of, rows_of, cue_level, last_value, count_under, IsRight, RowsFollow}
+use Rattle.lx_sheet.proofs.Imports.{RowsStandFor, StandsFrom, cue_numbers}
+use Rattle.lx_sheet.specs.After.{level_after}
 use Rattle.lx_sheet.proofs.Rows.{count_up_to, count_within, up_to_is_front, sheet_of, level_of_block, numbers-rows_of}
 use Rattle.lx_sheet.proofs.LevelsAfter.{level_after-nil}
 

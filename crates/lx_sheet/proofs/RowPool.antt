@@ -1,22 +1,14 @@
 -- The cues' own rows and the free ones: apart, and together all rows of the block, whatever comes or goes.
-use Rattle.std.proofs.Common.{◌≡◌, ◌≢◌, ℕ, zero, suc, ◌+◌, ◌<◌, ◌≤◌, false, List, [], ◌∷◌, ◌++◌, length, get_or, take, drop, refl, ◌∙◌, sym}
-use Rattle.std.proofs.Common.{ap, subst, inl, inr, arith}
-use Rattle.std.specs.Prelude.{insert, remove, reverse, ◌==◌}
-use Rattle.std.specs.List.{range_with_len}
+use Rattle.lx_sheet.proofs.Imports.{◌≡◌, ◌≢◌, ℕ, zero, suc, ◌+◌, ◌<◌, ◌≤◌, false, List, [], ◌∷◌, ◌++◌, length, get_or}
+use Rattle.lx_sheet.proofs.Imports.{take, drop, refl, ◌∙◌, sym, ap, subst, inl, inr, arith, insert, remove, reverse, ◌==◌, range_with_len}
+use Rattle.lx_sheet.proofs.Imports.{cases_order, false≢true, append_assoc, map-append, take-map, drop-map, length-map, length-append, get_or-map}
+use Rattle.lx_sheet.proofs.Imports.{get_or_append_left, length-range_with_len, get_or-range_with_len, IsPermutation-sym, IsPermutation-trans}
+use Rattle.lx_sheet.proofs.Imports.{IsPermutation-to_front, IsPermutation-append_left, IsPermutation-append_right, IsPermutation-reverse, IsPermutation-insert}
+use Rattle.lx_sheet.proofs.Imports.{IsPermutation-remove, All-permutation, length_permutation, CUES, Cue, eq_true, eq_below, Place, AreApart, IsPool, own_rows}
+use Rattle.lx_sheet.proofs.Imports.{placed_from, row_at_place}
 use Rattle.std.specs.List.Sorted.{IsPermutation}
-use Rattle.std.proofs.lemmas.Bool.{cases_order, false≢true}
 use Rattle.std.proofs.lemmas.Bool.Decides.{nat_tests}
-use Rattle.std.proofs.lemmas.List.{append_assoc, map-append, take-map, drop-map, length-map, length-append, get_or-map, get_or_append_left}
-use Rattle.std.proofs.lemmas.List.FromFn.{length-range_with_len, get_or-range_with_len}
-use Rattle.std.proofs.lemmas.List.Sorted.{IsPermutation-sym, IsPermutation-trans, IsPermutation-to_front, IsPermutation-append_left}
-use Rattle.std.proofs.lemmas.List.Sorted.{IsPermutation-append_right, IsPermutation-reverse}
-use Rattle.std.proofs.lemmas.List.Sorted.{IsPermutation-insert, IsPermutation-remove, All-permutation, length_permutation}
 use Rattle.std.proofs.lemmas.Map.Keys.{apart_from_distinct, IsDistinct-from_apart, IsDistinct-IsPermutation}
-use Rattle.lx_base.specs.declared.TheConstants.{CUES}
-use Rattle.lx_spec.specs.Show.{Cue}
-use Rattle.lx_spec.proofs.Comparisons.{eq_true, eq_below}
-use Rattle.lx_sheet.specs.declared.sheet.Place.{Place}
-use Rattle.lx_sheet.specs.Block.{AreApart, IsPool, own_rows, placed_from, row_at_place}
 
 -- the row of the cue that is read at a place
 pub row_is : (order : List Place) (k : ℕ) (p : Place) → k < length order → p ≡ get_or order k p → row_at_place order k ≡ p.row

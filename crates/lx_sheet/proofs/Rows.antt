@@ -1,19 +1,10 @@
 -- The rows of cues, by their places in the order, and the level that they give at a number.
-use Rattle.std.proofs.Common.{◌≡◌, ℕ, zero, suc, ◌-◌, ◌*◌, ◌<◌, ◌≤◌, true, false, cond, List, [], ◌∷◌, length, get_or, take, drop, map}
-use Rattle.std.proofs.Common.{Some, refl, ◌∙◌, sym, ap, arith, inl, inr}
-use Rattle.std.specs.Prelude.{Option, find, reverse, nat_le, slice_get}
-use Rattle.std.specs.Option.{option_map_or}
-use Rattle.std.specs.List.{AllByRecursion}
-use Rattle.std.proofs.lemmas.Bool.{cases_lt}
-use Rattle.std.proofs.lemmas.List.{length-map}
-use Rattle.lx_spec.specs.SortedList.{IsStrictlySorted}
-use Rattle.lx_show.specs.Around.{entries_up_to}
-use Rattle.lx_sheet.specs.declared.sheet.Place.{Place}
-use Rattle.lx_sheet.specs.declared.marks.Marks.{Marks}
-use Rattle.lx_sheet.specs.Rows.{Row, Sheet, level_by, level_in_row}
-use Rattle.lx_sheet.specs.Block.{marks_of, rows_of, cell, cue_level, last_value, width}
-use Rattle.lx_spec.proofs.Comparisons.{le_false, le_true}
-use Rattle.lx_spec.proofs.Lists.{each, filter_none, find_last, shorter}
+use Rattle.lx_sheet.proofs.Imports.{◌≡◌, ℕ, zero, suc, ◌-◌, ◌*◌, ◌<◌, ◌≤◌, true, false, cond, List, [], ◌∷◌, length, get_or}
+use Rattle.lx_sheet.proofs.Imports.{take, drop, map, Some, refl, ◌∙◌, sym, ap, arith, inl, inr, Option, find, reverse, nat_le, slice_get, option_map_or}
+use Rattle.lx_sheet.proofs.Imports.{AllByRecursion, cases_lt, length-map, IsStrictlySorted, entries_up_to, Place, Marks, Row, Sheet, level_in_row, marks_of}
+use Rattle.lx_sheet.proofs.Imports.{rows_of, cue_level, last_value, width, le_false, le_true, each, filter_none, find_last, shorter}
+use Rattle.lx_sheet.specs.Rows.{level_by}
+use Rattle.lx_sheet.specs.Block.{cell}
 
 -- how many of the numbers are up to this one
 abbrev pub count_up_to : ℕ → List ℕ → ℕ

@@ -1,25 +1,12 @@
 -- Rows whose cues stand at other places of the order once a cue came or went: they follow from one another as before.
-use Rattle.std.proofs.Common.{◌≡◌, ℕ, zero, suc, ◌+◌, ◌-◌, ◌<◌, ◌≤◌, true, false, List, [], ◌∷◌, ◌++◌, length, get_or, take, drop, map, Some}
-use Rattle.std.proofs.Common.{None, refl, ◌∙◌, sym, ap, subst, inl, inr, arith}
-use Rattle.std.specs.Prelude.{Option, IfSome, insert, remove, is_some, slice_get}
-use Rattle.std.proofs.lemmas.Bool.{cases_eq, cases_lt, false≢true}
-use Rattle.std.proofs.lemmas.List.{get_or-drop, get_or-take, get_or_default, take-take, take-map, drop-map, length-drop, length-append}
-use Rattle.std.proofs.lemmas.List.{length-map, length-take-le, map-append, take_at, drop_at, drop-drop}
-use Rattle.std.proofs.lemmas.Option.{slice_get-get_or, slice_get_within}
-use Rattle.lx_spec.specs.Show.{Cue, Show}
-use Rattle.lx_spec.specs.SortedList.{IsStrictlySorted, entry_at, entries_below, entries_above, taken_out}
-use Rattle.lx_spec.specs.EditedShow.{new_cue, with_cue, without_cue}
-use Rattle.lx_spec.specs.TrackedLevel.{cue_of}
-use Rattle.lx_spec.proofs.Comparisons.{eq_true, eq_other}
-use Rattle.lx_spec.proofs.Lists.{none_differs}
-use Rattle.lx_spec.proofs.SortedLists.{below_and_above, found_number, split_there}
-use Rattle.lx_show.specs.Indexes.{StandsAt, GoesAt}
-use Rattle.lx_sheet.specs.declared.sheet.Place.{Place}
-use Rattle.lx_sheet.specs.declared.marks.Marks.{Marks}
-use Rattle.lx_sheet.specs.Block.{AreMarked, own_rows, row_at_place, cell}
-use Rattle.lx_sheet.specs.Marks.{IsMarkedFor, has_mark}
-use Rattle.lx_sheet.specs.After.{level_after, tracked_on, IsRight, RowsFollow, FillsRows, IsPassed, IsLeft}
-use Rattle.lx_sheet.specs.SheetMeaning.{RowsStandFor, cue_numbers}
+use Rattle.lx_sheet.proofs.Imports.{◌≡◌, ℕ, zero, suc, ◌+◌, ◌-◌, ◌<◌, ◌≤◌, true, false, List, [], ◌∷◌, ◌++◌, length, get_or}
+use Rattle.lx_sheet.proofs.Imports.{take, drop, map, Some, None, refl, ◌∙◌, sym, ap, subst, inl, inr, arith, Option, IfSome, insert, remove, is_some}
+use Rattle.lx_sheet.proofs.Imports.{slice_get, cases_eq, cases_lt, false≢true, get_or-drop, get_or-take, get_or_default, take-take, take-map, drop-map}
+use Rattle.lx_sheet.proofs.Imports.{length-drop, length-append, length-map, length-take-le, map-append, take_at, drop_at, drop-drop, slice_get-get_or}
+use Rattle.lx_sheet.proofs.Imports.{slice_get_within, Cue, Show, IsStrictlySorted, entry_at, entries_below, entries_above, taken_out, new_cue, with_cue}
+use Rattle.lx_sheet.proofs.Imports.{without_cue, cue_of, eq_true, eq_other, none_differs, below_and_above, found_number, split_there, StandsAt, GoesAt, Place}
+use Rattle.lx_sheet.proofs.Imports.{Marks, AreMarked, own_rows, row_at_place, cell, IsMarkedFor, has_mark, level_after, tracked_on, IsRight, RowsFollow}
+use Rattle.lx_sheet.proofs.Imports.{FillsRows, IsPassed, IsLeft, RowsStandFor, cue_numbers}
 use Rattle.lx_sheet.proofs.EditedShows.{below-map, above-map}
 use Rattle.lx_sheet.proofs.Found.{same_numbers}
 use Rattle.lx_sheet.proofs.LevelsAfter.{level_after-take}

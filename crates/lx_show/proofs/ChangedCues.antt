@@ -1,16 +1,7 @@
 -- Cues, groups and submasters that stay valid where they are changed.
-use Rattle.std.proofs.Common.{ℕ, Bool, List}
-use Rattle.std.specs.Prelude.{Option, IfSome}
-use Rattle.std.specs.List.{AllByRecursion}
-use Rattle.lx_base.specs.declared.TheConstants.{CUE_MAX}
-use Rattle.lx_spec.specs.declared.Move.{Move}
-use Rattle.lx_spec.specs.declared.Member.{Member}
-use Rattle.lx_spec.specs.declared.Part.{Part}
-use Rattle.lx_spec.specs.SortedList.{IsStrictlySorted, placed}
-use Rattle.lx_spec.specs.Show.{Cue, ValidCue, ValidPart, ValidMove, ValidMember, ValidMembers, InRange}
-use Rattle.lx_spec.specs.Show.{IsTime, IsLabel}
-use Rattle.lx_spec.proofs.Lists.{each}
-use Rattle.lx_spec.proofs.SortedLists.{All-placed, IsStrictlySorted-placed, has_placed}
+use Rattle.lx_show.proofs.Imports.{ℕ, Bool, List, Option, IfSome, AllByRecursion, CUE_MAX, Move, Member, Part, IsStrictlySorted, placed, Cue, ValidCue}
+use Rattle.lx_show.proofs.Imports.{ValidPart, ValidMove, ValidMember, ValidMembers, InRange, IsTime, IsLabel, each, All-placed, IsStrictlySorted-placed}
+use Rattle.lx_show.proofs.Imports.{has_placed}
 
 -- other settings: block flag, assert flag, follow, link and label
 pub with_settings : (channels : ℕ) (cue : Cue) (block asserted : Bool) (follow link : Option ℕ) (label : List ℕ) → ValidCue channels cue

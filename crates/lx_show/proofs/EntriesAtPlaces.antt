@@ -1,15 +1,7 @@
 -- What stands at the place of a number in a stored show.
-use Rattle.std.proofs.Common.{◌≡◌, ℕ, List, get_or, Some, sym, subst, ap, ◌∙◌}
-use Rattle.std.specs.Prelude.{Option}
-use Rattle.std.specs.Option.{IsSomeAnd}
-use Rattle.lx_spec.specs.TrackedLevel.{cue_of}
-use Rattle.std.specs.List.{AllByRecursion}
-use Rattle.lx_spec.specs.SortedList.{entry_at}
-use Rattle.lx_show.specs.Indexes.{StandsAt}
-use Rattle.lx_spec.specs.Show.{Cue, Show, ValidCue}
-use Rattle.lx_show.specs.StoredShow.{IsStored}
+use Rattle.lx_show.proofs.Imports.{◌≡◌, ℕ, List, get_or, Some, sym, subst, ap, ◌∙◌, Option, IsSomeAnd, cue_of, AllByRecursion, entry_at, StandsAt}
+use Rattle.lx_show.proofs.Imports.{Cue, Show, ValidCue, IsStored, found_number, found_valid}
 use Rattle.lx_show.proofs.Indexes.{stands_entry}
-use Rattle.lx_spec.proofs.SortedLists.{found_number, found_valid}
 
 -- the entry of a number, as it is found at its place
 pub record Stands {A : Type 0} (P : A → Type 0) (key : A → ℕ) (n : ℕ) (xs : List A) (at : ℕ) (x : A) : Type 0 where

@@ -1,25 +1,15 @@
 -- The index of an entry in a sorted list.
-use Rattle.std.proofs.Common.{◌≡◌, ℕ, suc, ◌+◌, ◌-◌, ◌<◌, ◌≤◌, Bool, true, false, List, [], ◌∷◌, ◌++◌, length, get_or, set, take, drop}
-use Rattle.std.proofs.Common.{Some, refl, ◌∙◌, sym, ap, subst, inl, inr, arith, add-one, add-zero}
-use Rattle.std.specs.Prelude.{Option, insert, remove, nat_le, nat_lt, option_to_list, slice_get}
-use Rattle.std.specs.Option.{option_map_or}
-use Rattle.std.specs.List.{AllByRecursion}
+use Rattle.lx_show.proofs.Imports.{◌≡◌, ℕ, suc, ◌+◌, ◌-◌, ◌<◌, ◌≤◌, Bool, true, false, List, [], ◌∷◌, ◌++◌, length, get_or}
+use Rattle.lx_show.proofs.Imports.{set, take, drop, Some, refl, ◌∙◌, sym, ap, subst, inl, inr, arith, add-one, add-zero, Option, insert, remove, nat_le}
+use Rattle.lx_show.proofs.Imports.{nat_lt, option_to_list, slice_get, option_map_or, AllByRecursion, cases_lt, cases_order, false≢true, set_split}
+use Rattle.lx_show.proofs.Imports.{take-append-drop, get_or-take, get_or-drop, append-nil, length-take, length-drop, slice_get-get_or, InRange}
+use Rattle.lx_show.proofs.Imports.{IsStrictlySorted, entry_at, entries_below, entries_above, placed, taken_out, StandsAt, GoesAt, changed, eq_above, eq_below}
+use Rattle.lx_show.proofs.Imports.{eq_true, le_false, le_from, le_true, lt_false, lt_from, lt_true, each, filter_none, kept_by, passes, take_with}
+use Rattle.lx_show.proofs.Imports.{IsStrictlySorted-drop, IsStrictlySorted-filter, IsStrictlySorted-placed, above_seam, below_and_above, below_seam, few}
+use Rattle.lx_show.proofs.Imports.{found_number, goes_between, in_order, low_end, none_below, seam, stands_between, strictly_above}
 use Rattle.std.specs.List.Sorted.{IsPartitionPoint}
-use Rattle.std.proofs.lemmas.Bool.{cases_lt, cases_order, false≢true}
-use Rattle.std.proofs.lemmas.List.{set_split, take-append-drop, get_or-take, get_or-drop, append-nil, length-take}
-use Rattle.std.proofs.lemmas.List.{length-drop}
 use Rattle.std.proofs.lemmas.List.Elements.{recursion_from_All}
-use Rattle.std.proofs.lemmas.Option.{slice_get-get_or}
-use Rattle.lx_spec.specs.Show.{InRange}
-use Rattle.lx_spec.specs.SortedList.{IsStrictlySorted, entry_at, entries_below, entries_above, placed, taken_out}
-use Rattle.lx_show.specs.Indexes.{StandsAt, GoesAt}
 use Rattle.lx_show.specs.Around.{entries_up_to}
-use Rattle.lx_show.specs.ChangedEntry.{changed}
-use Rattle.lx_spec.proofs.Comparisons.{eq_above, eq_below, eq_true, le_false, le_from, le_true, lt_false, lt_from, lt_true}
-use Rattle.lx_spec.proofs.Lists.{each, filter_none, kept_by, passes, take_with}
-use Rattle.lx_spec.proofs.SortedLists.{IsStrictlySorted-drop, IsStrictlySorted-filter, IsStrictlySorted-placed, above_seam, below_and_above}
-use Rattle.lx_spec.proofs.SortedLists.{below_seam, few, found_number, goes_between, in_order, low_end, none_below, seam, stands_between}
-use Rattle.lx_spec.proofs.SortedLists.{strictly_above}
 
 -- the first entries of a list cut at a point are below the number, and the others not
 below_cut : {A : Type 0} (key : A → ℕ) (n : ℕ) (xs : List A) (at : ℕ) → at ≤ length xs

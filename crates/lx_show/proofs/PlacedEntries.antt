@@ -1,10 +1,5 @@
 -- What an entry placed into a sorted list leaves: what is found there, its length, and a second placing.
-use Rattle.std.proofs.Common.{ℕ, List, Some, None}
-use Rattle.std.specs.Prelude.{Option, IsTrue}
-use Rattle.std.specs.Option.{option_map_or}
-use Rattle.lx_spec.specs.SortedList.{entry_at, has_entry, placed}
-use Rattle.lx_show.specs.ChangedEntry.{changed}
-use Rattle.lx_spec.proofs.SortedLists.{has_placed}
+use Rattle.lx_show.proofs.Imports.{ℕ, List, Some, None, Option, IsTrue, option_map_or, entry_at, has_entry, placed, changed, has_placed}
 
 -- what is there stays there where an entry is changed
 pub has_changed : {A : Type 0} (key : A → ℕ) (n m : ℕ) (change : A → A) (xs : List A) → IsTrue (has_entry key m xs)

@@ -1,11 +1,7 @@
 -- Two sorted lists with the same entry of each number are the same list.
-use Rattle.std.proofs.Common.{◌≡◌, ℕ, ◌<◌, List, [], ◌∷◌, Some, None, refl, ◌∙◌, sym, ap, subst, inl, inr, arith}
-use Rattle.std.specs.Prelude.{Option}
-use Rattle.std.specs.List.{AllByRecursion}
-use Rattle.std.proofs.lemmas.Bool.{cases_eq, cases_order}
-use Rattle.lx_spec.specs.SortedList.{IsStrictlySorted, entry_at}
-use Rattle.lx_spec.proofs.Comparisons.{eq_true, eq_other, eq_above}
-use Rattle.lx_spec.proofs.Lists.{each, find_none, none_differs}
+use Rattle.lx_show.proofs.Imports.{◌≡◌, ℕ, ◌<◌, List, [], ◌∷◌, Some, None, refl, ◌∙◌, sym, ap, subst, inl, inr, arith, Option}
+use Rattle.lx_show.proofs.Imports.{AllByRecursion, cases_eq, cases_order, IsStrictlySorted, entry_at, eq_true, eq_other, eq_above, each, find_none}
+use Rattle.lx_show.proofs.Imports.{none_differs}
 
 pub none_low : {A : Type 0} (key : A → ℕ) (n : ℕ) (xs : List A) → AllByRecursion (λ y. n < key y) xs → entry_at key n xs ≡ None
 none_low key n xs all = find_none _ xs (each _ _ xs (λ y h. eq_above (key y) n h) all)

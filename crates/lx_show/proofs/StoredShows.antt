@@ -1,21 +1,11 @@
 -- Shows that stay stored where an entry is exchanged or changed in its place.
-use Rattle.std.proofs.Common.{◌≡◌, ℕ, ◌<◌, ◌≤◌, inl, inr, List, length, set, get_or, refl, arith, ap, sym, subst, ◌∙◌}
-use Rattle.std.specs.Prelude.{Bool, true, false, IsTrue, IfSome, Option, Some, None, not, nat_lt, ◌||◌, ◌==◌, ◌⊎◌}
-use Rattle.std.specs.List.{AllByRecursion}
-use Rattle.std.proofs.Math.ListN.{length-set}
-use Rattle.lx_base.specs.declared.TheConstants.{CUES, GROUPS, SUBS, DIMMERS}
-use Rattle.lx_spec.specs.declared.Move.{Move}
-use Rattle.lx_spec.specs.declared.PatchRow.{PatchRow}
-use Rattle.lx_spec.specs.SortedList.{IsStrictlySorted, has_entry, placed}
-use Rattle.lx_show.specs.Indexes.{StandsAt}
-use Rattle.lx_spec.specs.Show.{Cue, Group, Sub, Show, Valid, ValidCue, ValidGroup, ValidSub, ValidPatchRow}
-use Rattle.lx_show.specs.StoredShow.{IsStored}
-use Rattle.lx_show.specs.ChangedEntry.{changed, exchanged_at}
+use Rattle.lx_show.proofs.Imports.{◌≡◌, ℕ, ◌<◌, ◌≤◌, inl, inr, List, length, set, get_or, refl, arith, ap, sym, subst, ◌∙◌, Bool, true}
+use Rattle.lx_show.proofs.Imports.{false, IsTrue, IfSome, Option, Some, None, not, nat_lt, ◌||◌, ◌==◌, ◌⊎◌, AllByRecursion, length-set, CUES}
+use Rattle.lx_show.proofs.Imports.{GROUPS, SUBS, DIMMERS, Move, PatchRow, IsStrictlySorted, has_entry, placed, StandsAt, Cue, Group, Sub, Show, Valid, ValidCue}
+use Rattle.lx_show.proofs.Imports.{ValidGroup, ValidSub, ValidPatchRow, IsStored, changed, exchanged_at, lt_from, each, kept_by, shorter, All-placed}
+use Rattle.lx_show.proofs.Imports.{IsStrictlySorted-placed, few_in_range, length-placed, length-placed_there}
 use Rattle.lx_show.proofs.Indexes.{replaced, sorted_replaced, changed_there}
 use Rattle.lx_show.proofs.ValidShows.{with_cues, with_groups, with_subs, with_patch}
-use Rattle.lx_spec.proofs.Comparisons.{lt_from}
-use Rattle.lx_spec.proofs.Lists.{each, kept_by, shorter}
-use Rattle.lx_spec.proofs.SortedLists.{All-placed, IsStrictlySorted-placed, few_in_range, length-placed, length-placed_there}
 
 stored_cues : (show : Show) (new : List Cue) (a b c d e : ℕ) → IsStored show a b c d → e ≡ a → AllByRecursion (ValidCue show.channels) new
     → IsStrictlySorted (λ cue. cue.number) new → length new ≤ CUES → IsStored (record show { cues = new }) e b c d

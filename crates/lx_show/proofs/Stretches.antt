@@ -1,19 +1,12 @@
 -- Several entries placed into a sorted list.
-use Rattle.std.proofs.Common.{◌≡◌, ℕ, zero, suc, ◌+◌, ◌-◌, ◌<◌, ◌≤◌, List, [], ◌∷◌, ◌++◌, length, get_or, take, drop, Some, refl, ◌∙◌}
-use Rattle.std.proofs.Common.{sym, ap, subst, append_assoc, arith, add-one, inl, inr}
-use Rattle.std.specs.Prelude.{Option, slice_get, option_to_list, unwrap_or, filter, not, ◌&&◌, nat_le}
-use Rattle.std.specs.Option.{option_map}
-use Rattle.std.specs.List.{AllByRecursion}
-use Rattle.std.proofs.lemmas.Bool.{cases_lt}
-use Rattle.lx_spec.proofs.Comparisons.{lt_true, lt_false, le_true, le_false}
-use Rattle.std.proofs.lemmas.List.{take-append-drop, drop_more, take_all, length-drop, length-take}
+use Rattle.lx_show.proofs.Imports.{◌≡◌, ℕ, zero, suc, ◌+◌, ◌-◌, ◌<◌, ◌≤◌, List, [], ◌∷◌, ◌++◌, length, get_or, take, drop}
+use Rattle.lx_show.proofs.Imports.{Some, refl, ◌∙◌, sym, ap, subst, append_assoc, arith, add-one, inl, inr, Option, slice_get, option_to_list, unwrap_or}
+use Rattle.lx_show.proofs.Imports.{filter, not, ◌&&◌, nat_le, option_map, AllByRecursion, cases_lt, lt_true, lt_false, le_true, le_false, take-append-drop}
+use Rattle.lx_show.proofs.Imports.{drop_more, take_all, length-drop, length-take, slice_get-get_or, IsStrictlySorted, all_placed, placed, entries_below}
+use Rattle.lx_show.proofs.Imports.{entries_above, GoesAt, all_append, each, take_with, All-placed, IsStrictlySorted-placed, above_seam, all_above, all_below}
+use Rattle.lx_show.proofs.Imports.{goes_between, joined, none_below, seam}
 use Rattle.std.proofs.lemmas.List.Sums.{fold-append}
-use Rattle.std.proofs.lemmas.Option.{slice_get-get_or}
-use Rattle.lx_spec.specs.SortedList.{IsStrictlySorted, all_placed, placed, entries_below, entries_above}
-use Rattle.lx_show.specs.Indexes.{GoesAt}
 use Rattle.lx_show.specs.Stretch.{IsStretch}
-use Rattle.lx_spec.proofs.Lists.{all_append, each, take_with}
-use Rattle.lx_spec.proofs.SortedLists.{All-placed, IsStrictlySorted-placed, above_seam, all_above, all_below, goes_between, joined, none_below, seam}
 
 pub IsStrictlySorted-all_placed : {A : Type 0} (key : A → ℕ) (more xs : List A) → IsStrictlySorted key xs
     → IsStrictlySorted key (all_placed key more xs)

@@ -1,5 +1,5 @@
 -- Examples of accepted edits: whole scripts and what is written for them, by computation.
-use Rattle.std.specs.Prelude.{◌≡◌, ◌++◌, refl, codes}
+use Rattle.lx_spec.proofs.Imports.{◌≡◌, ◌++◌, refl, codes}
 use Rattle.std.specs.Fmt.{digits}
 use Rattle.lx_spec.proofs.ScriptTexts.{barred, played_barred}
 

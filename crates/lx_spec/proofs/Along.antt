@@ -1,13 +1,7 @@
 -- Tracking on one channel along a list of cues, from the first to the last, and lists sorted by number.
-use Rattle.std.proofs.Common.{◌≡◌, ℕ, ◌<◌, ◌≤◌, Bool, true, false, cond, List, [], ◌∷◌, ◌++◌, Some, None, refl, ◌∙◌, sym, ap, arith}
-use Rattle.std.specs.Prelude.{Option, find, reverse, nat_le, ◌==◌, ◌&&◌}
-use Rattle.std.specs.Option.{option_or, option_map_or}
-use Rattle.std.specs.List.{AllByRecursion}
-use mathlib.Core.List.{reverse-cons}
-use Rattle.std.proofs.lemmas.Bool.Decides.{nat_tests}
-use Rattle.std.proofs.lemmas.List.Folds.{find-append}
-use Rattle.lx_spec.specs.Show.{Cue, Show}
-use Rattle.lx_spec.specs.TrackedLevel.{decides, level_in, tracked}
+use Rattle.lx_spec.proofs.Imports.{◌≡◌, ℕ, ◌<◌, ◌≤◌, Bool, true, false, cond, List, [], ◌∷◌, ◌++◌, Some, None, refl, ◌∙◌, sym}
+use Rattle.lx_spec.proofs.Imports.{ap, arith, Option, find, reverse, nat_le, ◌==◌, ◌&&◌, option_or, option_map_or, AllByRecursion, reverse-cons}
+use Rattle.lx_spec.proofs.Imports.{nat_tests, find-append, Cue, Show, decides, level_in, tracked}
 use Rattle.lx_spec.proofs.Comparisons.{le_false, le_true}
 
 -- the level in a cue, from the one before

@@ -1,8 +1,6 @@
 -- Examples of asserted cues: whole scripts and what is written for them, by computation.
-use Rattle.std.specs.Prelude.{◌≡◌, ◌++◌, refl, codes}
+use Rattle.lx_spec.proofs.Imports.{◌≡◌, ◌++◌, refl, codes, Moves, check_output}
 use Rattle.std.specs.Fmt.{digits}
-use Rattle.lx_spec.specs.declared.Form.TheVariants.{Moves}
-use Rattle.lx_spec.specs.CheckOutput.{check_output}
 use Rattle.lx_spec.proofs.ScriptTexts.{barred, played_barred}
 
 -- a run acts on every channel as long as its cue is asserted; a cue that is deleted and made again is not

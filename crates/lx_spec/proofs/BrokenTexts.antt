@@ -1,9 +1,6 @@
 -- Show texts with a fault, and texts that look as if they had one, by computation.
-use Rattle.std.specs.Prelude.{◌≡◌, ℕ, replicate, List, [], ◌∷◌, refl, codes}
+use Rattle.lx_spec.proofs.Imports.{◌≡◌, ℕ, replicate, List, [], ◌∷◌, refl, codes, Moves, check_output, sheet_output}
 use Rattle.std.specs.Fmt.{digits}
-use Rattle.lx_spec.specs.declared.Form.TheVariants.{Moves}
-use Rattle.lx_spec.specs.CheckOutput.{check_output}
-use Rattle.lx_spec.specs.SheetOutput.{sheet_output}
 use Rattle.lx_spec.proofs.ScriptTexts.{text}
 
 -- what a check of the lines under an IDENT line gives

@@ -1,7 +1,5 @@
 -- What comparisons of numbers answer.
-use Rattle.std.proofs.Common.{◌≡◌, ℕ, ◌<◌, ◌≤◌, Bool, true, false, refl, arith}
-use Rattle.std.specs.Prelude.{nat_le, nat_lt, ◌==◌, ◌&&◌}
-use Rattle.std.proofs.lemmas.Bool.Decides.{nat_tests}
+use Rattle.lx_spec.proofs.Imports.{◌≡◌, ℕ, ◌<◌, ◌≤◌, Bool, true, false, refl, arith, nat_le, nat_lt, ◌==◌, ◌&&◌, nat_tests}
 
 -- what the tests say of numbers
 pub lt_true : (a b : ℕ) → a < b → nat_lt a b ≡ true

@@ -1,19 +1,10 @@
 -- Law of cue only, on one channel: the cues below the edited one are as they were, and the first above it comes to the level that
 -- it had there.
-use Rattle.std.proofs.Common.{◌≡◌, ◌≢◌, ℕ, ◌<◌, ◌≤◌, Bool, true, false, cond, not, List, [], ◌∷◌, ◌++◌, Some, None, refl, ◌∙◌, sym, ap, inl}
-use Rattle.std.proofs.Common.{inr, arith, append_assoc}
-use Rattle.std.specs.Prelude.{Option, IsTrue, find, filter, is_some, nat_lt, ◌==◌}
-use Rattle.std.specs.List.{AllByRecursion}
-use Rattle.std.specs.Option.{option_or, option_map_or}
-use Rattle.std.proofs.lemmas.Bool.{cases_order, cases_lt, cases_Bool, false≢true}
-use Rattle.std.proofs.lemmas.Bool.Decides.{nat_tests}
-use Rattle.std.proofs.lemmas.List.Elements.{filter-append}
-use Rattle.std.proofs.lemmas.List.Folds.{find-append}
-use Rattle.std.proofs.lemmas.List.{append-nil}
-use Rattle.lx_spec.specs.SortedList.{IsStrictlySorted, entry_at, entries_below, entries_above, placed}
-use Rattle.lx_spec.specs.Show.{Cue, Show, InRange}
-use Rattle.lx_spec.specs.TrackedLevel.{tracked, cue_of, cue_above}
-use Rattle.lx_spec.specs.EditedShow.{cue_only, kept_above, with_cue, with_moves, moves_for}
+use Rattle.lx_spec.proofs.Imports.{◌≡◌, ◌≢◌, ℕ, ◌<◌, ◌≤◌, Bool, true, false, cond, not, List, [], ◌∷◌, ◌++◌, Some, None, refl}
+use Rattle.lx_spec.proofs.Imports.{◌∙◌, sym, ap, inl, inr, arith, append_assoc, Option, IsTrue, find, filter, is_some, nat_lt, ◌==◌, AllByRecursion}
+use Rattle.lx_spec.proofs.Imports.{option_or, option_map_or, cases_order, cases_lt, cases_Bool, false≢true, nat_tests, filter-append, find-append, append-nil}
+use Rattle.lx_spec.proofs.Imports.{IsStrictlySorted, entry_at, entries_below, entries_above, placed, Cue, Show, InRange, tracked, cue_of, cue_above, cue_only}
+use Rattle.lx_spec.proofs.Imports.{kept_above, with_cue, with_moves, moves_for}
 use Rattle.lx_spec.proofs.Along.{tracked_on, along, tracked-along, along-append, along-past, along-same, step_in}
 use Rattle.lx_spec.proofs.MovesFor.{on_passing, on_other}
 use Rattle.lx_spec.proofs.Comparisons.{eq_other, lt_false, lt_true}

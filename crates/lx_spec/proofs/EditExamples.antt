@@ -1,9 +1,6 @@
 -- Examples of edits: whole scripts and what is written for them, by computation.
-use Rattle.std.specs.Prelude.{◌≡◌, None, Some, [], ◌∷◌, ◌++◌, refl, codes}
+use Rattle.lx_spec.proofs.Imports.{◌≡◌, None, Some, [], ◌∷◌, ◌++◌, refl, codes, Moves, Render, script_output}
 use Rattle.std.specs.Fmt.{digits}
-use Rattle.lx_spec.specs.declared.Form.TheVariants.{Moves}
-use Rattle.lx_spec.specs.declared.ScriptKind.TheVariants.{Render}
-use Rattle.lx_spec.specs.ScriptOutput.{script_output}
 use Rattle.lx_spec.proofs.ScriptTexts.{text, played, patched_show}
 
 -- a cue-only edit leaves the look of the cue above as it was; a second one changes nothing

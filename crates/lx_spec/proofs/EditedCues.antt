@@ -1,22 +1,11 @@
 -- Edits of one cue, by what stands around it: the laws of cue only and of block.
-use Rattle.std.proofs.Common.{◌≡◌, ◌≢◌, ℕ, ◌-◌, ◌≤◌, Bool, true, false, cond, not, List, [], ◌∷◌, ◌++◌, map, Some, None, Ok, Err, refl, ◌∙◌}
-use Rattle.std.proofs.Common.{sym, ap, subst, inl, inr, arith}
-use Rattle.std.specs.Prelude.{Option, Result, IsTrue, find, is_some, is_none, ◌==◌, ◌&&◌, ◌||◌}
-use Rattle.std.specs.Option.{option_map_or}
-use Rattle.std.specs.List.{AllByRecursion}
-use Rattle.std.proofs.lemmas.Bool.{cases_lt, cases_Bool, false≢true}
-use Rattle.std.proofs.lemmas.Bool.Decides.{nat_tests}
-use Rattle.lx_spec.specs.declared.Edit.{Edit}
-use Rattle.lx_spec.specs.declared.Edit.TheVariants.{DeleteCue, Set, SetGroup, Release, Block, Unblock}
-use Rattle.lx_spec.specs.declared.Move.{Move}
-use Rattle.lx_spec.specs.declared.Refusal.{Refusal}
-use Rattle.lx_spec.specs.FirstRefusal.{◌>>=◌}
-use Rattle.lx_spec.specs.SortedList.{IsStrictlySorted, entries_below, entries_above}
-use Rattle.lx_spec.specs.Show.{Cue, Show, Valid, ValidCue, InRange}
-use Rattle.lx_spec.specs.TrackedLevel.{tracked, cue_of, move_in, level_in}
-use Rattle.lx_spec.specs.EditedShow.{edited, cue_only, the_cue, the_given_part, the_channels, the_group, the_moves, with_cue, without_cue}
-use Rattle.lx_spec.specs.EditedShow.{with_levels, without_moves, all_at, in_proportion, with_moves, moves_for, blocked, unblocked}
-use Rattle.lx_spec.specs.Laws.{cue_alone, is_block_edit}
+use Rattle.lx_spec.proofs.Imports.{◌≡◌, ◌≢◌, ℕ, ◌-◌, ◌≤◌, Bool, true, false, cond, not, List, [], ◌∷◌, ◌++◌, map, Some, None}
+use Rattle.lx_spec.proofs.Imports.{Ok, Err, refl, ◌∙◌, sym, ap, subst, inl, inr, arith, Option, Result, IsTrue, find, is_some, is_none, ◌==◌}
+use Rattle.lx_spec.proofs.Imports.{◌&&◌, ◌||◌, option_map_or, AllByRecursion, cases_lt, cases_Bool, false≢true, nat_tests, Edit, DeleteCue, Set}
+use Rattle.lx_spec.proofs.Imports.{SetGroup, Release, Block, Unblock, Move, Refusal, ◌>>=◌, IsStrictlySorted, entries_below, entries_above, Cue, Show}
+use Rattle.lx_spec.proofs.Imports.{Valid, ValidCue, InRange, tracked, cue_of, move_in, level_in, edited, cue_only, the_cue, the_given_part, the_channels}
+use Rattle.lx_spec.proofs.Imports.{the_group, the_moves, with_cue, without_cue, with_levels, without_moves, all_at, in_proportion, with_moves, moves_for}
+use Rattle.lx_spec.proofs.Imports.{blocked, unblocked, cue_alone, is_block_edit}
 use Rattle.lx_spec.proofs.Along.{tracked_on, along, tracked-along, along-append, along-past, along-same, step_in, step_out}
 use Rattle.lx_spec.proofs.MovesFor.{on_passing, on_other}
 use Rattle.lx_spec.proofs.CueOnly.{IsAround, kept_alone, tracked_low}

@@ -1,10 +1,6 @@
 -- A show file as a desk might write it: what it means as moves and as looks, whole and cut short, by computation.
-use Rattle.std.specs.Prelude.{◌≡◌, ℕ, List, [], ◌∷◌, ◌++◌, refl, codes}
+use Rattle.lx_spec.proofs.Imports.{◌≡◌, ℕ, List, [], ◌∷◌, ◌++◌, refl, codes, Moves, States, check_output, Render, script_output}
 use Rattle.std.specs.Fmt.{digits}
-use Rattle.lx_spec.specs.declared.Form.TheVariants.{Moves, States}
-use Rattle.lx_spec.specs.CheckOutput.{check_output}
-use Rattle.lx_spec.specs.declared.ScriptKind.TheVariants.{Render}
-use Rattle.lx_spec.specs.ScriptOutput.{script_output}
 use Rattle.lx_spec.proofs.ScriptTexts.{text, crlf_text}
 
 abbrev uncut : List (List ℕ)

@@ -1,13 +1,8 @@
 -- The same text read under finer cue numbers: the definitions take the limits of a text as one record.
-use Rattle.std.specs.Prelude.{◌≡◌, ℕ, Result, Ok, Err, List, [], ◌∷◌, refl, codes}
-use Rattle.std.proofs.Common.{arith}
+use Rattle.lx_spec.proofs.Imports.{◌≡◌, ℕ, Result, Ok, Err, List, [], ◌∷◌, refl, codes, arith, Moves, Shape, desk_limits, read_cue_no}
+use Rattle.lx_spec.proofs.Imports.{decimal_text, Reading, reads_under}
 use Rattle.std.specs.Fmt.{digits}
-use Rattle.lx_spec.specs.declared.Form.TheVariants.{Moves}
-use Rattle.lx_spec.specs.declared.Bad.TheVariants.{Shape}
 use Rattle.lx_spec.specs.declared.TextFault.{TextFault}
-use Rattle.lx_spec.specs.Limits.{desk_limits}
-use Rattle.lx_spec.specs.Numerals.{read_cue_no, decimal_text}
-use Rattle.lx_spec.specs.Reading.{Reading, reads_under}
 use Rattle.lx_spec.specs.Finer.{HasOneDecimalMore, hundredths, finer}
 use Rattle.lx_spec.proofs.ScriptTexts.{text}
 

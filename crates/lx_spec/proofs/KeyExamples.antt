@@ -1,9 +1,6 @@
 -- Examples of keys, follows and outputs: whole scripts and what is written for them, by computation.
-use Rattle.std.specs.Prelude.{◌≡◌, replicate, [], ◌∷◌, ◌++◌, refl, codes}
+use Rattle.lx_spec.proofs.Imports.{◌≡◌, replicate, [], ◌∷◌, ◌++◌, refl, codes, Moves, Render, script_output}
 use Rattle.std.specs.Fmt.{digits}
-use Rattle.lx_spec.specs.declared.Form.TheVariants.{Moves}
-use Rattle.lx_spec.specs.declared.ScriptKind.TheVariants.{Render}
-use Rattle.lx_spec.specs.ScriptOutput.{script_output}
 use Rattle.lx_spec.proofs.ScriptTexts.{text, played}
 
 -- one cue, its frame, and the canonical text of its show

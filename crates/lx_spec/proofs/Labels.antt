@@ -1,13 +1,8 @@
 -- Labels: how one more byte changes the label that is made from bytes, and that a label is its own.
-use Rattle.std.specs.Prelude.{◌≡◌, ℕ, zero, suc, ◌<◌, ◌≤◌, Bool, true, false, cond, not, ◌==◌, ◌||◌, ◌&&◌, nat_lt, List, [], ◌∷◌, ◌++◌}
-use Rattle.std.specs.Prelude.{filter, take, length, refl, if◌then◌else◌, IsTrue}
-use Rattle.std.specs.List.{AllByRecursion}
-use Rattle.std.proofs.Common.{arith, ap, ◌∙◌, sym}
-use Rattle.std.proofs.lemmas.List.{append-nil, take-append-le, take_all, length-append, length-take, take-take}
-use Rattle.std.proofs.lemmas.List.Elements.{filter-append}
-use Rattle.std.proofs.lemmas.Bool.Decides.{nat_tests}
-use Rattle.lx_base.specs.declared.TheConstants.{LABEL_BYTES}
-use Rattle.lx_spec.specs.Text.{is_blank, is_filled, after_all, label_of}
+use Rattle.lx_spec.proofs.Imports.{◌≡◌, ℕ, zero, suc, ◌<◌, ◌≤◌, Bool, true, false, cond, not, ◌==◌, ◌||◌, ◌&&◌, nat_lt, List, []}
+use Rattle.lx_spec.proofs.Imports.{◌∷◌, ◌++◌, filter, take, length, refl, if◌then◌else◌, IsTrue, AllByRecursion, arith, ap, ◌∙◌, sym}
+use Rattle.lx_spec.proofs.Imports.{append-nil, take-append-le, take_all, length-append, length-take, take-take, filter-append, nat_tests, LABEL_BYTES, is_blank}
+use Rattle.lx_spec.proofs.Imports.{is_filled, after_all, label_of}
 
 -- no CR and no LF
 abbrev kept_byte : ℕ → Bool

@@ -1,15 +1,8 @@
 -- Examples at the limits: as many cues as may be, the last moment, and as many runs as may be live.
-use Rattle.std.specs.Prelude.{◌≡◌, ℕ, ◌*◌, ◌-◌, Option, Some, None, Ok, Err, [], ◌∷◌, map, replicate, refl, false}
-use Rattle.std.specs.List.{range_with_len}
-use Rattle.lx_base.specs.declared.TheConstants.{CUE_UNIT, CUES}
-use Rattle.lx_spec.specs.declared.Edit.TheVariants.{MakeCue, DeleteCue}
+use Rattle.lx_spec.proofs.Imports.{◌≡◌, ℕ, ◌*◌, ◌-◌, Option, Some, None, Ok, Err, [], ◌∷◌, map, replicate, refl, false, range_with_len}
+use Rattle.lx_spec.proofs.Imports.{CUE_UNIT, CUES, MakeCue, DeleteCue, CueLimit, TickLimit, ◌>>=◌, Show, new_cue, Playback, at_opening, run_of, run_whole}
+use Rattle.lx_spec.proofs.Imports.{appended, tick, Desk, opened, step}
 use Rattle.lx_spec.specs.declared.Command.TheVariants as commands
-use Rattle.lx_spec.specs.declared.Refusal.TheVariants.{CueLimit, TickLimit}
-use Rattle.lx_spec.specs.FirstRefusal.{◌>>=◌}
-use Rattle.lx_spec.specs.Show.{Show}
-use Rattle.lx_spec.specs.EditedShow.{new_cue}
-use Rattle.lx_spec.specs.Playback.{Playback, at_opening, run_of, run_whole, appended, tick}
-use Rattle.lx_spec.specs.Desk.{Desk, opened, step}
 
 -- a show of the cues 1 to the most
 abbrev full_show : Show

@@ -1,14 +1,9 @@
 -- What lists come to: all entries with a property, the entries that pass a test, the first or last of them, and maps.
-use Rattle.std.proofs.Common.{◌≡◌, ℕ, zero, suc, ◌-◌, ◌<◌, ◌≤◌, Bool, true, false, cond, List, [], ◌∷◌, ◌++◌, length, get_or, take, drop}
-use Rattle.std.proofs.Common.{Some, None, refl, ◌∙◌, sym, ap, subst, inl, inr, arith}
-use denote.Ref.{Bor}
-use Rattle.std.specs.Prelude.{Option, IfSome, filter, find, map, reverse, option_to_list, option_map, option_and_then, slice_get, ◌&&◌}
-use Rattle.std.specs.Option.{option_copied, option_map_or, option_or}
-use Rattle.std.specs.List.{AllByRecursion, refill}
-use mathlib.Core.List.{reverse-cons}
-use Rattle.std.proofs.lemmas.Bool.{cases_Bool, false≢true}
-use Rattle.std.proofs.lemmas.List.{length-reverse, get_or-reverse, append-nil, reverse-append, map-append}
-use Rattle.std.proofs.lemmas.List.Elements.{filter-append}
+use Rattle.lx_spec.proofs.Imports.{◌≡◌, ℕ, zero, suc, ◌-◌, ◌<◌, ◌≤◌, Bool, true, false, cond, List, [], ◌∷◌, ◌++◌, length}
+use Rattle.lx_spec.proofs.Imports.{get_or, take, drop, Some, None, refl, ◌∙◌, sym, ap, subst, inl, inr, arith, Bor, Option, IfSome, filter, find, map}
+use Rattle.lx_spec.proofs.Imports.{reverse, option_to_list, option_map, option_and_then, slice_get, ◌&&◌, option_copied, option_map_or, option_or}
+use Rattle.lx_spec.proofs.Imports.{AllByRecursion, refill, reverse-cons, cases_Bool, false≢true, length-reverse, get_or-reverse, append-nil, reverse-append}
+use Rattle.lx_spec.proofs.Imports.{map-append, filter-append}
 use Rattle.std.proofs.Math.Seq.{take-append_seam}
 use Rattle.std.proofs.lemmas.Option.{slice_get-get_or}
 use Rattle.lx_spec.proofs.Comparisons.{and_known}

@@ -1,17 +1,8 @@
 -- A cue with moves for the channels that pass a test.
-use Rattle.std.proofs.Common.{◌≡◌, ℕ, zero, suc, ◌+◌, ◌<◌, ◌≤◌, Bool, true, false, cond, List, [], ◌∷◌, map, Some, None, refl, ◌∙◌, sym, ap}
-use Rattle.std.proofs.Common.{inl, inr, arith}
-use Rattle.std.specs.Prelude.{Option, filter, fold, is_some, nat_lt, ◌==◌, ◌&&◌, ◌||◌}
-use Rattle.std.specs.Option.{option_map_or}
-use Rattle.std.specs.List.{list_any, range_with_len}
-use Rattle.std.proofs.lemmas.Bool.{cases_order, cases_lt, true≢false}
-use Rattle.std.proofs.lemmas.Bool.Decides.{nat_tests}
-use Rattle.std.proofs.lemmas.List.Folds.{find-append}
-use Rattle.lx_spec.specs.declared.Move.{Move}
-use Rattle.lx_spec.specs.SortedList.{entry_at, entries_below, entries_above, placed}
-use Rattle.lx_spec.specs.Show.{Cue, Show, InRange}
-use Rattle.lx_spec.specs.TrackedLevel.{move_in}
-use Rattle.lx_spec.specs.EditedShow.{channels_of, moves_for, with_moves}
+use Rattle.lx_spec.proofs.Imports.{◌≡◌, ℕ, zero, suc, ◌+◌, ◌<◌, ◌≤◌, Bool, true, false, cond, List, [], ◌∷◌, map, Some, None, refl}
+use Rattle.lx_spec.proofs.Imports.{◌∙◌, sym, ap, inl, inr, arith, Option, filter, fold, is_some, nat_lt, ◌==◌, ◌&&◌, ◌||◌, option_map_or}
+use Rattle.lx_spec.proofs.Imports.{list_any, range_with_len, cases_order, cases_lt, true≢false, nat_tests, find-append, Move, entry_at, entries_below}
+use Rattle.lx_spec.proofs.Imports.{entries_above, placed, Cue, Show, InRange, move_in, channels_of, moves_for, with_moves}
 use Rattle.lx_spec.proofs.Along.{tracked_on}
 use Rattle.lx_spec.proofs.Comparisons.{eq_other, eq_true, equal_above, equal_below}
 use Rattle.lx_spec.proofs.Lists.{each, find_in_filter, find_none, or_none}

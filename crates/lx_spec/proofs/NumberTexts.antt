@@ -1,10 +1,7 @@
 -- Number texts and their values, by computation.
-use Rattle.std.specs.Prelude.{◌≡◌, ◌*◌, ◌/◌, Ok, Err, refl, codes}
+use Rattle.lx_spec.proofs.Imports.{◌≡◌, ◌*◌, ◌/◌, Ok, Err, refl, codes, CUE_UNIT, Shape, Range, desk_limits, read_time, read_cue_no, read_level}
+use Rattle.lx_spec.proofs.Imports.{decimal_text, time_text, level_text}
 use Rattle.std.specs.Fmt.{digits}
-use Rattle.lx_base.specs.declared.TheConstants.{CUE_UNIT}
-use Rattle.lx_spec.specs.declared.Bad.TheVariants.{Shape, Range}
-use Rattle.lx_spec.specs.Limits.{desk_limits}
-use Rattle.lx_spec.specs.Numerals.{read_time, read_cue_no, read_level, decimal_text, time_text, level_text}
 
 -- times, in hundredths of a second
 

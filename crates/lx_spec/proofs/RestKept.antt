@@ -1,32 +1,15 @@
 -- Every command keeps what lets the runs before the last rest be forgotten.
-use Rattle.std.specs.Prelude.{◌≡◌, ℕ, ◌+◌, ◌-◌, ◌≤◌, max, Bool, true, false, cond, ◌&&◌, ◌==◌, nat_lt, nat_le, Option, Some, None, Result}
-use Rattle.std.specs.Prelude.{Ok, Err, List, [], ◌∷◌, refl, map, fold, is_some, is_none, length, if◌then◌else◌, unwrap_or, option_and_then}
-use Rattle.std.specs.Prelude.{IfOk, slice_set}
-use Rattle.std.specs.List.{AllByRecursion, list_all}
-use Rattle.std.specs.Option.{option_map_or}
-use Rattle.std.specs.Result.{result_unwrap_or}
-use Rattle.std.proofs.Common.{arith, ap, ◌∙◌}
-use Rattle.std.proofs.lemmas.Bool.Decides.{nat_tests}
-use Rattle.lx_spec.specs.declared.PartTimes.{PartTimes}
+use Rattle.lx_spec.proofs.Imports.{◌≡◌, ℕ, ◌+◌, ◌-◌, ◌≤◌, max, Bool, true, false, cond, ◌&&◌, ◌==◌, nat_lt, nat_le, Option, Some}
+use Rattle.lx_spec.proofs.Imports.{None, Result, Ok, Err, List, [], ◌∷◌, refl, map, fold, is_some, is_none, length, if◌then◌else◌, unwrap_or}
+use Rattle.lx_spec.proofs.Imports.{option_and_then, IfOk, slice_set, AllByRecursion, list_all, option_map_or, result_unwrap_or, arith, ap, ◌∙◌, nat_tests}
+use Rattle.lx_spec.proofs.Imports.{PartTimes, Go, Back, Goto, Settle, Play, Fader, Master, Command, Refusal, PlaybackFull, NoCueAfter, NoCueBefore, TickLimit}
+use Rattle.lx_spec.proofs.Imports.{AbsentSub, BACK_TIME, TICK_STEP, TICK_END, ◌>>=◌, entry_at, has_entry, Show, Cue, tracked, move_of, asserts, cue_above}
+use Rattle.lx_spec.proofs.Imports.{cue_below, Run, first_entry, entry_for, entry_extent, extent, time_of, delay_of, acts, level, last_cue, run_over, fade_over}
+use Rattle.lx_spec.proofs.Imports.{rises_to, edited, the_cue, Playback, Played, press, tick, ticked, followed, start_above, rested, at_rest, is_over, is_due}
+use Rattle.lx_spec.proofs.Imports.{has_room, appended, if_room, run_of, run_whole, follow_of, position_of, Desk, opened, step, after_play, after_command}
+use Rattle.lx_spec.proofs.Imports.{replay, KeepsRest, IsInstant}
 use Rattle.lx_spec.specs.declared.PlayKey.{PlayKey}
-use Rattle.lx_spec.specs.declared.PlayKey.TheVariants.{Go, Back, Goto, Settle}
-use Rattle.lx_spec.specs.declared.Key.TheVariants.{Play, Fader, Master}
-use Rattle.lx_spec.specs.declared.Command.{Command}
 use Rattle.lx_spec.specs.declared.Command.TheVariants as commands
-use Rattle.lx_spec.specs.declared.Refusal.{Refusal}
-use Rattle.lx_spec.specs.declared.Refusal.TheVariants.{PlaybackFull, NoCueAfter, NoCueBefore, TickLimit, AbsentSub}
-use Rattle.lx_base.specs.declared.TheConstants.{BACK_TIME, TICK_STEP, TICK_END}
-use Rattle.lx_spec.specs.FirstRefusal.{◌>>=◌}
-use Rattle.lx_spec.specs.SortedList.{entry_at, has_entry}
-use Rattle.lx_spec.specs.Show.{Show, Cue}
-use Rattle.lx_spec.specs.TrackedLevel.{tracked, move_of, asserts, cue_above, cue_below}
-use Rattle.lx_spec.specs.Run.{Run, first_entry, entry_for, entry_extent, extent, time_of, delay_of, acts}
-use Rattle.lx_spec.specs.Level.{level, last_cue, run_over, fade_over, rises_to}
-use Rattle.lx_spec.specs.EditedShow.{edited, the_cue}
-use Rattle.lx_spec.specs.Playback.{Playback, Played, press, tick, ticked, followed, start_above, rested, at_rest, is_over, is_due, has_room}
-use Rattle.lx_spec.specs.Playback.{appended, if_room, run_of, run_whole, follow_of, position_of}
-use Rattle.lx_spec.specs.Desk.{Desk, opened, step, after_play, after_command, replay}
-use Rattle.lx_spec.specs.Laws.{KeepsRest, IsInstant}
 use Rattle.lx_spec.proofs.Instant.{All-find, same_level, either, run_at_once}
 use Rattle.lx_spec.proofs.Rest.{level-rest, last_cue-over}
 

@@ -1,10 +1,8 @@
 -- Script lines: what they mean, and some that mean nothing, by computation.
-use Rattle.std.specs.Prelude.{◌≡◌, ◌*◌, ◌/◌, true, Some, None, refl, codes, replicate}
-use Rattle.lx_base.specs.declared.TheConstants.{CUE_UNIT}
+use Rattle.lx_spec.proofs.Imports.{◌≡◌, ◌*◌, ◌/◌, true, Some, None, refl, codes, replicate, CUE_UNIT, line_of}
 use Rattle.lx_spec.specs.declared.Line.TheVariants as lines
 use Rattle.lx_spec.specs.declared.Command.TheVariants as commands
 use Rattle.lx_spec.specs.declared.Edit.TheVariants as edits
-use Rattle.lx_spec.specs.Script.{line_of}
 
 set_line : line_of (codes "set 2.5 chan 1 thru 3 at 50 part 2 only")
     ≡ Some (lines.Command (commands.Edit (edits.Set (CUE_UNIT * 5 / 2) (Some 2) (record { first = 1; last = 3 }) 128 true)))

@@ -1,8 +1,5 @@
 -- Whole inputs of the examples: a show's lines and a script's lines, and the text that is written for them.
-use Rattle.std.specs.Prelude.{ℕ, ◌==◌, List, [], ◌∷◌, ◌++◌, flat_map, map, codes, if◌then◌else◌}
-use Rattle.lx_spec.specs.declared.Form.TheVariants.{Moves}
-use Rattle.lx_spec.specs.declared.ScriptKind.TheVariants.{Render}
-use Rattle.lx_spec.specs.ScriptOutput.{script_output}
+use Rattle.lx_spec.proofs.Imports.{ℕ, ◌==◌, List, [], ◌∷◌, ◌++◌, flat_map, map, codes, if◌then◌else◌, Moves, Render, script_output}
 
 -- the lines, each with its LF
 abbrev pub text : List (List ℕ) → List ℕ

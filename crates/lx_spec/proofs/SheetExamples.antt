@@ -1,16 +1,9 @@
 -- Examples of block cues in looks and in sheets, of a frame line with a count, and of the generator, by computation.
-use Rattle.std.specs.Prelude.{◌≡◌, List, [], ◌∷◌, ◌++◌, refl, codes, ℕ}
+use Rattle.lx_spec.proofs.Imports.{◌≡◌, List, [], ◌∷◌, ◌++◌, refl, codes, ℕ, Moves, States, SubMember, Fader, Show, sheet_output, reads}
+use Rattle.lx_spec.proofs.Imports.{Render, script_output, script_session}
 use Rattle.std.specs.Fmt.{digits}
-use Rattle.lx_spec.specs.declared.Form.TheVariants.{Moves, States}
-use Rattle.lx_spec.specs.declared.Edit.TheVariants.{SubMember}
-use Rattle.lx_spec.specs.declared.Key.TheVariants.{Fader}
 use Rattle.lx_spec.specs.declared.Command.TheVariants as commands
-use Rattle.lx_spec.specs.Show.{Show}
-use Rattle.lx_spec.specs.SheetOutput.{sheet_output}
-use Rattle.lx_spec.specs.Reading.{reads}
 use Rattle.lx_spec.specs.FaultLine.{over_show}
-use Rattle.lx_spec.specs.declared.ScriptKind.TheVariants.{Render}
-use Rattle.lx_spec.specs.ScriptOutput.{script_output, script_session}
 use Rattle.lx_spec.specs.MakeOutput.{made_cue, made_turn, made_text}
 use Rattle.lx_spec.specs.Versions.{versions_text}
 use Rattle.lx_spec.proofs.ScriptTexts.{barred}

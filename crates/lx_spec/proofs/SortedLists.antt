@@ -1,15 +1,10 @@
 -- Lists that are sorted by a number of their entries: cut at a number, filtered, changed, and with an entry placed.
-use Rattle.std.proofs.Common.{◌≡◌, ℕ, zero, suc, ◌+◌, ◌-◌, ◌<◌, ◌≤◌, Bool, true, false, cond, List, [], ◌∷◌, ◌++◌, length, get_or, take}
-use Rattle.std.proofs.Common.{drop, Some, None, refl, ◌∙◌, sym, ap, subst, inl, inr, arith}
-use Rattle.std.specs.Prelude.{Option, IfSome, IsTrue, filter, find, map, is_some, nat_lt, ◌==◌}
-use Rattle.std.specs.List.{AllByRecursion}
+use Rattle.lx_spec.proofs.Imports.{◌≡◌, ℕ, zero, suc, ◌+◌, ◌-◌, ◌<◌, ◌≤◌, Bool, true, false, cond, List, [], ◌∷◌, ◌++◌}
+use Rattle.lx_spec.proofs.Imports.{length, get_or, take, drop, Some, None, refl, ◌∙◌, sym, ap, subst, inl, inr, arith, Option, IfSome, IsTrue, filter}
+use Rattle.lx_spec.proofs.Imports.{find, map, is_some, nat_lt, ◌==◌, AllByRecursion, cases_order, false≢true, take-append-drop, drop_more, append-nil}
+use Rattle.lx_spec.proofs.Imports.{length-append, filter-append, All-from_recursion, find-append, InRange, IsStrictlySorted, entry_at, has_entry, entries_below}
+use Rattle.lx_spec.proofs.Imports.{entries_above, placed, taken_out}
 use Rattle.std.specs.List.Sorted.{IsNonDecreasingBy}
-use Rattle.std.proofs.lemmas.Bool.{cases_order, false≢true}
-use Rattle.std.proofs.lemmas.List.{take-append-drop, drop_more, append-nil, length-append}
-use Rattle.std.proofs.lemmas.List.Elements.{filter-append, All-from_recursion}
-use Rattle.std.proofs.lemmas.List.Folds.{find-append}
-use Rattle.lx_spec.specs.Show.{InRange}
-use Rattle.lx_spec.specs.SortedList.{IsStrictlySorted, entry_at, has_entry, entries_below, entries_above, placed, taken_out}
 use Rattle.lx_spec.proofs.Comparisons.{lt_true, lt_false, lt_from, eq_true, eq_other, eq_below, eq_above, eq_from, above_or_equal}
 use Rattle.lx_spec.proofs.Comparisons.{equal_below, equal_above, below_is_other, above_is_other}
 use Rattle.lx_spec.proofs.Lists.{each, all_append, kept_by, passes, filter_all, filter_none, find_none, find_after, find_passes, find_has}

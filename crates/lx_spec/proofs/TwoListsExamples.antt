@@ -1,10 +1,6 @@
 -- Worked examples: two cue lists beside each other. What is written for whole inputs, by computation.
-use Rattle.std.specs.Prelude.{◌≡◌, ℕ, List, [], ◌++◌, codes, refl}
+use Rattle.lx_spec.proofs.Imports.{◌≡◌, ℕ, List, [], ◌++◌, codes, refl, Moves, Script, Two, output_of}
 use Rattle.std.specs.Fmt.{digits}
-use Rattle.lx_spec.specs.declared.Form.TheVariants.{Moves}
-use Rattle.lx_spec.specs.declared.Job.TheVariants.{Script}
-use Rattle.lx_spec.specs.declared.ScriptKind.TheVariants.{Two}
-use Rattle.lx_spec.specs.Job.{output_of}
 use Rattle.lx_spec.proofs.ScriptTexts.{barred, played_barred}
 
 -- what is written by two lists over the show whose dimmer 1 follows channel 1, each as lines between bars

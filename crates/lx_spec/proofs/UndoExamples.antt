@@ -1,17 +1,8 @@
 -- Examples of record, undo and redo, by computation: a rising fade that is half way is recorded as a cue, and taken back.
-use Rattle.std.specs.Prelude.{◌≡◌, true, false, Ok, Err, List, [], ◌∷◌, fold, replicate, refl}
-use Rattle.std.specs.Result.{result_unwrap_or}
-use Rattle.lx_spec.specs.declared.Move.{Move}
-use Rattle.lx_spec.specs.declared.Command.{Command}
+use Rattle.lx_spec.proofs.Imports.{◌≡◌, true, false, Ok, Err, List, [], ◌∷◌, fold, replicate, refl, result_unwrap_or, Move, Command, MakeCue, Block}
+use Rattle.lx_spec.proofs.Imports.{Play, Go, AbsentCue, ◌>>=◌, Cue, Show, new_cue, new_part}
 use Rattle.lx_spec.specs.declared.Command.TheVariants as commands
-use Rattle.lx_spec.specs.declared.Edit.TheVariants.{MakeCue, Block}
-use Rattle.lx_spec.specs.declared.Key.TheVariants.{Play}
-use Rattle.lx_spec.specs.declared.PlayKey.TheVariants.{Go}
-use Rattle.lx_spec.specs.declared.Refusal.TheVariants.{AbsentCue}
 use Rattle.lx_spec.specs.declared.UndoFault.TheVariants.{NothingToUndo, NothingToRedo}
-use Rattle.lx_spec.specs.FirstRefusal.{◌>>=◌}
-use Rattle.lx_spec.specs.Show.{Cue, Show}
-use Rattle.lx_spec.specs.EditedShow.{new_cue, new_part}
 use Rattle.lx_spec.specs.RecordedLevels.{recorded}
 use Rattle.lx_spec.specs.Undo.{UndoState, opened_with, with_show, undo_step, record_step, undo, redo}
 

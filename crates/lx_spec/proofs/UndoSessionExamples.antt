@@ -1,12 +1,8 @@
 -- Worked examples: sessions with undo. What is written for whole inputs, by computation.
-use Rattle.std.specs.Prelude.{◌≡◌, ℕ, None, Some, true, false, List, [], ◌++◌, codes, refl}
+use Rattle.lx_spec.proofs.Imports.{◌≡◌, ℕ, None, Some, true, false, List, [], ◌++◌, codes, refl, Moves, Script, Undo, output_of}
 use Rattle.std.specs.Fmt.{digits}
-use Rattle.lx_spec.specs.declared.Form.TheVariants.{Moves}
-use Rattle.lx_spec.specs.declared.Job.TheVariants.{Script}
-use Rattle.lx_spec.specs.declared.ScriptKind.TheVariants.{Undo}
 use Rattle.lx_spec.specs.declared.UndoLine.TheVariants as asks
 use Rattle.lx_spec.specs.UndoSession.{undo_line_of}
-use Rattle.lx_spec.specs.Job.{output_of}
 use Rattle.lx_spec.proofs.ScriptTexts.{barred, played_barred}
 
 -- what is written with undo over the show whose dimmer 1 follows channel 1, each as lines between bars

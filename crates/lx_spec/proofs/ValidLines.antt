@@ -1,27 +1,18 @@
 -- Each command that a script line means is valid.
-use Rattle.std.specs.Prelude.{◌≡◌, ℕ, zero, suc, ◌+◌, ◌-◌, ◌*◌, ◌/◌, ◌^◌, ◌<◌, ◌≤◌, Bool, true, false, cond, ◌&&◌, nat_lt, nat_le, Option}
-use Rattle.std.specs.Prelude.{Some, None, Result, Ok, Err, List, [], ◌∷◌, length, fold, find, codes, refl, option_map, IfSome, IfOk}
-use Rattle.std.specs.Option.{option_map_or}
-use Rattle.std.specs.List.{AllByRecursion, list_all, list_any, before_first, after_first, position_or_len}
-use Rattle.std.proofs.Common.{arith, ap, sym, subst, ◌∙◌, mul_assoc}
-use Rattle.std.proofs.lemmas.List.{drop_all}
+use Rattle.lx_spec.proofs.Imports.{◌≡◌, ℕ, zero, suc, ◌+◌, ◌-◌, ◌*◌, ◌/◌, ◌^◌, ◌<◌, ◌≤◌, Bool, true, false, cond}
+use Rattle.lx_spec.proofs.Imports.{◌&&◌, nat_lt, nat_le, Option, Some, None, Result, Ok, Err, List, [], ◌∷◌, length, fold, find, codes, refl}
+use Rattle.lx_spec.proofs.Imports.{option_map, IfSome, IfOk, option_map_or, AllByRecursion, list_all, list_any, before_first, after_first, position_or_len}
+use Rattle.lx_spec.proofs.Imports.{arith, ap, sym, subst, ◌∙◌, mul_assoc, drop_all, nat_tests, CUE_MAX, PARTS, GROUPS, SUBS, DIMMERS, UNIVERSES}
+use Rattle.lx_spec.proofs.Imports.{LINE_BYTES, TICKS, TIME_MAX, Shape, Range, Edit, desk_limits, tokens, is_word, is_filled, is_digit, is_number, number_of}
+use Rattle.lx_spec.proofs.Imports.{ranged, read_whole, is_point, whole_part, has_point, decimals, is_decimal, decimal_value, read_seconds, is_colon, is_minutes}
+use Rattle.lx_spec.proofs.Imports.{read_minutes, read_time, read_cue_no, InRange, IsTime, cue_number, time, cue_edit, part_edit, set_channels, set_group}
+use Rattle.lx_spec.proofs.Imports.{set_line, delete_line, release_line, time_edit, time_line, follow_line, label_line, group_line, sub_line, patch_line}
+use Rattle.lx_spec.proofs.Imports.{unpatch_line, fader_line, master_line, goto_line, tick_line, frame_line, sheet_line, alone, sentences, meaning, line_of}
 use Rattle.std.proofs.Math.Nat.{pow-succ', div-lt_iff_lt-mul}
-use Rattle.std.proofs.lemmas.Bool.Decides.{nat_tests}
-use Rattle.lx_base.specs.declared.TheConstants.{CUE_MAX, PARTS, GROUPS, SUBS, DIMMERS, UNIVERSES, LINE_BYTES, TICKS, TIME_MAX}
 use Rattle.lx_spec.specs.declared.Bad.{Bad}
-use Rattle.lx_spec.specs.declared.Bad.TheVariants.{Shape, Range}
-use Rattle.lx_spec.specs.declared.Edit.{Edit}
 use Rattle.lx_spec.specs.declared.Line.{Line}
-use Rattle.lx_spec.specs.Limits.{desk_limits}
-use Rattle.lx_spec.specs.Text.{tokens, is_word, is_filled}
-use Rattle.lx_spec.specs.Numerals.{is_digit, is_number, number_of, ranged, read_whole, is_point, whole_part, has_point, decimals}
-use Rattle.lx_spec.specs.Numerals.{is_decimal, decimal_value, read_seconds, is_colon, is_minutes, read_minutes, read_time, read_cue_no}
-use Rattle.lx_spec.specs.Show.{InRange, IsTime}
 use Rattle.lx_spec.specs.Phrase.{Tokens, ◌>>=◌, word, read_as, value, ended, optional, channel, channels, at_level, in_part, only_or_end}
 use Rattle.lx_spec.specs.Phrase.{value_or}
-use Rattle.lx_spec.specs.Script.{cue_number, time, cue_edit, part_edit, set_channels, set_group, set_line, delete_line, release_line}
-use Rattle.lx_spec.specs.Script.{time_edit, time_line, follow_line, label_line, group_line, sub_line, patch_line, unpatch_line, fader_line}
-use Rattle.lx_spec.specs.Script.{master_line, goto_line, tick_line, frame_line, sheet_line, alone, sentences, meaning, line_of}
 use Rattle.lx_spec.specs.ValidEdit.{cue_edited, times_given, ValidEdit, ValidLine}
 
 -- Numbers that are read are in their range.

@@ -1,30 +1,15 @@
 -- A cue, a group and a submaster come back from what their lines say.
-use Rattle.std.specs.Prelude.{◌≡◌, ℕ, ◌<◌, Bool, true, false, cond, ◌||◌, ◌==◌, Option, Some, None, List, [], ◌∷◌, ◌++◌, map, filter, find}
-use Rattle.std.specs.Prelude.{flat_map, filter_map, unwrap_or, is_some, refl}
-use Rattle.std.specs.List.{AllByRecursion, list_any, last_or, cons_option}
-use Rattle.std.proofs.Common.{arith, ap, ◌∙◌, sym}
-use Rattle.std.proofs.lemmas.Bool.{eqb-true}
-use Rattle.std.proofs.lemmas.Bool.Decides.{nat_tests}
-use Rattle.std.proofs.lemmas.Grind.{flat_map-append}
-use Rattle.std.proofs.lemmas.List.Elements.{filter_map-append}
+use Rattle.lx_text_laws.proofs.Imports.{◌≡◌, ℕ, ◌<◌, Bool, true, false, cond, ◌||◌, ◌==◌, Option, Some, None, List, [], ◌∷◌, ◌++◌}
+use Rattle.lx_text_laws.proofs.Imports.{map, filter, find, flat_map, filter_map, unwrap_or, is_some, refl, AllByRecursion, list_any, last_or, cons_option}
+use Rattle.lx_text_laws.proofs.Imports.{arith, ap, ◌∙◌, sym, eqb-true, nat_tests, flat_map-append, filter_map-append, DEFAULT_TIME, Section, InCue}
+use Rattle.lx_text_laws.proofs.Imports.{InGroup, InSub, Part, Move, Member, IsStrictlySorted, Cue, Group, Sub, ValidPart, ValidMove, ValidCue, ValidGroup}
+use Rattle.lx_text_laws.proofs.Imports.{ValidSub, Entry, PlacedEntry, NamesPart, HasUp, HasDown, Follows, Links, IsLabelled, Blocks, Asserts, levels_in}
+use Rattle.lx_text_laws.proofs.Imports.{part_named, up_in, down_in, follow_in, link_in, label_in, blocks, is_assert, last_of_each, last_in, label_from}
+use Rattle.lx_text_laws.proofs.Imports.{part_from, moves_in, parts_from, cue_from, members_from, group_from, sub_from, eq_above, each, passes, find_none}
 use Rattle.std.proofs.lemmas.List.Concat.{flat_map_single}
-use Rattle.lx_base.specs.declared.TheConstants.{DEFAULT_TIME}
-use Rattle.lx_spec.specs.declared.Section.{Section}
-use Rattle.lx_spec.specs.declared.Section.TheVariants.{InCue, InGroup, InSub}
-use Rattle.lx_spec.specs.declared.Part.{Part}
-use Rattle.lx_spec.specs.declared.Move.{Move}
-use Rattle.lx_spec.specs.declared.Member.{Member}
-use Rattle.lx_spec.specs.SortedList.{IsStrictlySorted}
-use Rattle.lx_spec.specs.Show.{Cue, Group, Sub, ValidPart, ValidMove, ValidCue, ValidGroup, ValidSub}
-use Rattle.lx_spec.specs.Entry.{Entry, PlacedEntry, NamesPart, HasUp, HasDown, Follows, Links, IsLabelled, Blocks, Asserts}
-use Rattle.lx_spec.specs.Entry.{levels_in, part_named, up_in, down_in, follow_in, link_in, label_in, blocks, is_assert}
-use Rattle.lx_spec.specs.Reading.{last_of_each, last_in, label_from, part_from, moves_in, parts_from, cue_from, members_from, group_from}
-use Rattle.lx_spec.specs.Reading.{sub_from}
 use Rattle.lx_text_laws.proofs.Passage.{here}
 use Rattle.lx_text_laws.proofs.ShowEntries.{level_entry, member_entries, label_entries, move_entries, in_part, parts_entries, flag_entries}
 use Rattle.lx_text_laws.proofs.ShowEntries.{follow_entries, link_entries, cue_body, group_body, sub_body}
-use Rattle.lx_spec.proofs.Comparisons.{eq_above}
-use Rattle.lx_spec.proofs.Lists.{each, passes, find_none}
 use Rattle.lx_text_laws.proofs.SortedGroups.{All-both, All-each, All-map, last_of_each-same, last_of_each-grouped}
 use Rattle.lx_text_laws.proofs.Views.{filter_map-filter, flat_map-none, picked, picked-own, map-own}
 

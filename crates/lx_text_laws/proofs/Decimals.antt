@@ -1,22 +1,11 @@
 -- Times, cue numbers and levels that are written read back.
-use Rattle.std.specs.Prelude.{◌≡◌, ℕ, zero, suc, ◌+◌, ◌*◌, ◌/◌, ◌%◌, ◌^◌, ◌<◌, ◌≤◌, Bool, true, false, cond, not, ◌&&◌, ◌||◌, ◌==◌, nat_le}
-use Rattle.std.specs.Prelude.{Result, Ok, Err, List, [], ◌∷◌, ◌++◌, length, decimal, refl, if◌then◌else◌}
-use Rattle.std.specs.List.{list_all, list_any, before_first, after_first}
-use Rattle.std.proofs.Common.{arith, ap, ◌∙◌, sym, subst}
-use Rattle.std.proofs.lemmas.Bool.{and_parts}
-use Rattle.std.proofs.lemmas.Bool.Decides.{nat_tests}
-use Rattle.std.proofs.lemmas.Grind.{common_steps}
-use Rattle.std.proofs.lemmas.Fmt.{length-decimal-le}
-use Rattle.std.proofs.lemmas.List.{length-append, append-nil}
-use Rattle.lx_base.specs.declared.TheConstants.{TIME_MAX, CUE_UNIT, CUE_MAX}
-use Rattle.lx_spec.specs.declared.Bad.{Bad}
-use Rattle.lx_spec.specs.declared.Bad.TheVariants.{Shape}
-use Rattle.lx_spec.specs.Limits.{desk_limits}
-use Rattle.lx_spec.specs.Text.{is_filled}
-use Rattle.lx_spec.specs.Numerals.{is_digit, is_number, number_of, is_point, is_colon, whole_part, has_point, decimals, is_decimal}
-use Rattle.lx_spec.specs.Numerals.{decimal_value, ranged, read_minutes, read_seconds, read_time, read_cue_no, read_level, decimals_of}
-use Rattle.lx_spec.specs.Numerals.{decimal_text, time_text, level_text}
-use Rattle.lx_spec.specs.ShowText.{cue_number_text}
+use Rattle.lx_text_laws.proofs.Imports.{◌≡◌, ℕ, zero, suc, ◌+◌, ◌*◌, ◌/◌, ◌%◌, ◌^◌, ◌<◌, ◌≤◌, Bool, true, false, cond}
+use Rattle.lx_text_laws.proofs.Imports.{not, ◌&&◌, ◌||◌, ◌==◌, nat_le, Result, Ok, Err, List, [], ◌∷◌, ◌++◌, length, decimal, refl}
+use Rattle.lx_text_laws.proofs.Imports.{if◌then◌else◌, list_all, list_any, before_first, after_first, arith, ap, ◌∙◌, sym, subst, and_parts}
+use Rattle.lx_text_laws.proofs.Imports.{nat_tests, common_steps, length-decimal-le, length-append, append-nil, TIME_MAX, CUE_UNIT, CUE_MAX, Bad, Shape}
+use Rattle.lx_text_laws.proofs.Imports.{desk_limits, is_filled, is_digit, is_number, number_of, is_point, is_colon, whole_part, has_point, decimals, is_decimal}
+use Rattle.lx_text_laws.proofs.Imports.{decimal_value, ranged, read_minutes, read_seconds, read_time, read_cue_no, read_level, decimals_of, decimal_text}
+use Rattle.lx_text_laws.proofs.Imports.{time_text, level_text, cue_number_text}
 use Rattle.lx_text_laws.proofs.Tokens.{is_plain, stays, all-append, all-weaker}
 use Rattle.lx_text_laws.proofs.Digits.{decimal-digits, decimal-filled, decimal-number, decimal-value, ranged-within}
 

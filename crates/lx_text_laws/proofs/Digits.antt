@@ -1,17 +1,11 @@
 -- Numbers that are written in decimal digits read back.
-use Rattle.std.specs.Prelude.{◌≡◌, ℕ, ◌+◌, ◌-◌, ◌*◌, ◌^◌, ◌<◌, ◌≤◌, true, cond, ◌&&◌, nat_le, Ok, Err, List, [], ◌∷◌, length, fold, decimal}
-use Rattle.std.specs.Prelude.{refl}
-use Rattle.std.specs.List.{list_all}
+use Rattle.lx_text_laws.proofs.Imports.{◌≡◌, ℕ, ◌+◌, ◌-◌, ◌*◌, ◌^◌, ◌<◌, ◌≤◌, true, cond, ◌&&◌, nat_le, Ok, Err, List, []}
+use Rattle.lx_text_laws.proofs.Imports.{◌∷◌, length, fold, decimal, refl, list_all, arith, ap, ◌∙◌, nat_tests, decimal_is_IsNumeral, Shape, Range}
+use Rattle.lx_text_laws.proofs.Imports.{is_filled, is_digit, is_number, number_of, ranged, read_whole}
 use Rattle.std.specs.Str.Parse.{AllDigits, digits_value_after}
 use Rattle.std.specs.Char.{digit_value}
-use Rattle.std.proofs.Common.{arith, ap, ◌∙◌}
-use Rattle.std.proofs.lemmas.Bool.Decides.{nat_tests}
-use Rattle.std.proofs.lemmas.Fmt.{decimal_is_IsNumeral}
 use Rattle.std.proofs.lemmas.Str.Parse.{digit_from_value}
 use Rattle.std.proofs.lemmas.Str.{digit_value_digit}
-use Rattle.lx_spec.specs.declared.Bad.TheVariants.{Shape, Range}
-use Rattle.lx_spec.specs.Text.{is_filled}
-use Rattle.lx_spec.specs.Numerals.{is_digit, is_number, number_of, ranged, read_whole}
 use Rattle.lx_text_laws.proofs.Tokens.{is_plain}
 
 pub all_digits : (ds : List ℕ) → AllDigits 10 ds → list_all is_digit ds ≡ true

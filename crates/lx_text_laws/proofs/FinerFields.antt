@@ -1,25 +1,11 @@
 -- What a line's numbers and lists say under wider limits, where they could be read before.
-use Rattle.std.specs.Prelude.{◌≡◌, ℕ, zero, suc, ◌+◌, ◌*◌, ◌/◌, ◌%◌, ◌^◌, ◌<◌, ◌≤◌, Bool, true, false, cond, ◌&&◌, ◌==◌, nat_le, Some}
-use Rattle.std.specs.Prelude.{Result, Ok, Err, List, [], ◌∷◌, length, option_map, codes, IfOk, refl}
-use Rattle.std.proofs.Common.{arith, ap, ◌∙◌, sym, subst}
-use Rattle.std.proofs.lemmas.Bool.{and_parts}
-use Rattle.std.proofs.lemmas.Bool.Decides.{nat_tests}
+use Rattle.lx_text_laws.proofs.Imports.{◌≡◌, ℕ, zero, suc, ◌+◌, ◌*◌, ◌/◌, ◌%◌, ◌^◌, ◌<◌, ◌≤◌, Bool, true, false, cond}
+use Rattle.lx_text_laws.proofs.Imports.{◌&&◌, ◌==◌, nat_le, Some, Result, Ok, Err, List, [], ◌∷◌, length, option_map, codes, IfOk, refl, arith}
+use Rattle.lx_text_laws.proofs.Imports.{ap, ◌∙◌, sym, subst, and_parts, nat_tests, Bad, Shape, Range, TextFault, ShortList, ◌>>=◌, Limits, is_word}
+use Rattle.lx_text_laws.proofs.Imports.{is_number, number_of, whole_part, decimals, is_decimal, decimal_value, ranged, read_whole, read_level, read_time}
+use Rattle.lx_text_laws.proofs.Imports.{read_cue_no, number, numbered, delay_at, times, pairs, levels, triples, is_page_one, patch_entry, channels_entry}
+use Rattle.lx_text_laws.proofs.Imports.{record_entry, Section, NoRecord, InCue, Skipping, Entry, Skipped, Begins, Links, HasChannels, HasOneDecimalMore}
 use Rattle.std.proofs.Math.Nat.{pow-succ', one-le-pow, mul-div_cancel}
-use Rattle.lx_spec.specs.declared.Bad.{Bad}
-use Rattle.lx_spec.specs.declared.Bad.TheVariants.{Shape, Range}
-use Rattle.lx_spec.specs.declared.TextFault.{TextFault}
-use Rattle.lx_spec.specs.declared.TextFault.TheVariants.{ShortList}
-use Rattle.lx_spec.specs.FirstRefusal.{◌>>=◌}
-use Rattle.lx_spec.specs.Limits.{Limits}
-use Rattle.lx_spec.specs.Text.{is_word}
-use Rattle.lx_spec.specs.Numerals.{is_number, number_of, whole_part, decimals, is_decimal, decimal_value, ranged, read_whole, read_level}
-use Rattle.lx_spec.specs.Numerals.{read_time, read_cue_no}
-use Rattle.lx_spec.specs.Fields.{number, numbered, delay_at, times, pairs, levels, triples, is_page_one, patch_entry, channels_entry}
-use Rattle.lx_spec.specs.Fields.{record_entry}
-use Rattle.lx_spec.specs.declared.Section.{Section}
-use Rattle.lx_spec.specs.declared.Section.TheVariants.{NoRecord, InCue, Skipping}
-use Rattle.lx_spec.specs.Entry.{Entry, Skipped, Begins, Links, HasChannels}
-use Rattle.lx_spec.specs.Finer.{HasOneDecimalMore}
 
 -- What could be read is read as what f makes of it.
 abbrev pub Kept : {A B E : Type 0} → (A → B) → Result A E → Result B E → Type 0

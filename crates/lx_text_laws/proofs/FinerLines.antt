@@ -1,31 +1,15 @@
 -- What the lines of a text say under limits with a decimal more.
-use Rattle.std.specs.Prelude.{◌≡◌, ℕ, ◌+◌, ◌*◌, IfOk, Bool, true, false, cond, ◌||◌, ◌==◌, nat_lt, Some, None, Result, Ok, Err, List, []}
-use Rattle.std.specs.Prelude.{◌∷◌, length, map, codes, refl, if◌then◌else◌}
-use Rattle.std.specs.List.{list_any}
-use Rattle.std.proofs.Common.{arith, ap, ◌∙◌, sym, subst}
-use Rattle.std.proofs.lemmas.Bool.Decides.{nat_tests}
-use Rattle.std.proofs.lemmas.List.{length-map}
-use Rattle.lx_base.specs.declared.TheConstants.{PARTS, GROUPS, SUBS}
+use Rattle.lx_text_laws.proofs.Imports.{◌≡◌, ℕ, ◌+◌, ◌*◌, IfOk, Bool, true, false, cond, ◌||◌, ◌==◌, nat_lt, Some, None, Result, Ok}
+use Rattle.lx_text_laws.proofs.Imports.{Err, List, [], ◌∷◌, length, map, codes, refl, if◌then◌else◌, list_any, arith, ap, ◌∙◌, sym, subst}
+use Rattle.lx_text_laws.proofs.Imports.{nat_tests, length-map, PARTS, GROUPS, SUBS, TextFault, NoIdent, OutOfRange, LineTooLong, ◌>>=◌, Limits, tokens}
+use Rattle.lx_text_laws.proofs.Imports.{read_whole, read_time, read_cue_no, Facts, facts_after, with_cue_named, record_entry, Section, NoRecord, InCue, InGroup}
+use Rattle.lx_text_laws.proofs.Imports.{InSub, Skipping, Entry, PlacedEntry, Begins, Skipped, Links, NamesPart, HasUp, HasDown, Follows, Identifies, ClearsAll}
+use Rattle.lx_text_laws.proofs.Imports.{cue_in, is_end, is_too_long, is_makers_line, is_makers_record, is_unknown, is_unidentified, is_passed_over, if_few}
+use Rattle.lx_text_laws.proofs.Imports.{is_next, outer_entry, cue_entry, members_entry, stray_entry, inner_entry, entry_by_word, entry_by_tokens, entry_of}
+use Rattle.lx_text_laws.proofs.Imports.{entries, count_read, HasOneDecimalMore}
 use Rattle.lx_spec.specs.declared.Word.{Word}
 use Rattle.lx_spec.specs.declared.Word.TheVariants as words
-use Rattle.lx_spec.specs.declared.TextFault.{TextFault}
-use Rattle.lx_spec.specs.declared.TextFault.TheVariants.{NoIdent, OutOfRange, LineTooLong}
-use Rattle.lx_spec.specs.FirstRefusal.{◌>>=◌}
-use Rattle.lx_spec.specs.Limits.{Limits}
-use Rattle.lx_spec.specs.Text.{tokens}
-use Rattle.lx_spec.specs.Numerals.{read_whole, read_time, read_cue_no}
 use Rattle.lx_spec.specs.FirstWord.{word_of, is_inner}
-use Rattle.lx_spec.specs.Facts.{Facts, facts_after, with_cue_named}
-use Rattle.lx_spec.specs.Fields.{record_entry}
-use Rattle.lx_spec.specs.declared.Section.{Section}
-use Rattle.lx_spec.specs.declared.Section.TheVariants.{NoRecord, InCue, InGroup, InSub, Skipping}
-use Rattle.lx_spec.specs.Entry.{Entry, PlacedEntry, Begins, Skipped, Links, NamesPart, HasUp, HasDown, Follows, Identifies, ClearsAll}
-use Rattle.lx_spec.specs.Entry.{cue_in, is_end}
-use Rattle.lx_spec.specs.LineRules.{is_too_long, is_makers_line, is_makers_record, is_unknown, is_unidentified, is_passed_over, if_few}
-use Rattle.lx_spec.specs.LineRules.{is_next, outer_entry, cue_entry, members_entry, stray_entry, inner_entry, entry_by_word}
-use Rattle.lx_spec.specs.LineRules.{entry_by_tokens, entry_of}
-use Rattle.lx_spec.specs.Reading.{entries, count_read}
-use Rattle.lx_spec.specs.Finer.{HasOneDecimalMore}
 use Rattle.lx_text_laws.proofs.FinerLists.{any-mapped, tenfold-eq, placed-tenfold}
 use Rattle.lx_text_laws.proofs.FinerFields.{Kept, kept-same, kept-then, kept-either, kept-where, cue_no-kept, finer_section, finer_entry}
 use Rattle.lx_text_laws.proofs.FinerFields.{numbered-kept, times-kept, record_entry-kept, levels-kept, patch_entry-kept}

@@ -1,13 +1,8 @@
 -- What is asked of a list whose entries are mapped, and sorted lists under a map that keeps the order of their numbers.
-use Rattle.std.specs.Prelude.{◌≡◌, ℕ, ◌+◌, ◌-◌, ◌*◌, Bool, true, false, cond, not, ◌||◌, ◌==◌, nat_lt, Option, Some, None, List, [], ◌∷◌}
-use Rattle.std.specs.Prelude.{◌++◌, map, reverse, drop, filter, filter_map, flat_map, fold, option_map, position, count_by, refl}
-use Rattle.std.specs.List.{list_any, cons_option, last_or, after_last, prefix_len}
-use Rattle.std.proofs.Common.{arith, ap, ◌∙◌, sym}
-use Rattle.std.proofs.lemmas.Bool.Decides.{nat_tests}
-use Rattle.std.proofs.lemmas.List.{map-append, drop-map, length-map}
-use Rattle.lx_spec.specs.SortedList.{placed}
-use Rattle.lx_spec.specs.Reading.{last_of_each}
-use Rattle.lx_spec.proofs.Lists.{map_reversed}
+use Rattle.lx_text_laws.proofs.Imports.{◌≡◌, ℕ, ◌+◌, ◌-◌, ◌*◌, Bool, true, false, cond, not, ◌||◌, ◌==◌, nat_lt, Option, Some, None}
+use Rattle.lx_text_laws.proofs.Imports.{List, [], ◌∷◌, ◌++◌, map, reverse, drop, filter, filter_map, flat_map, fold, option_map, position, count_by}
+use Rattle.lx_text_laws.proofs.Imports.{refl, list_any, cons_option, last_or, after_last, prefix_len, arith, ap, ◌∙◌, sym, nat_tests, map-append}
+use Rattle.lx_text_laws.proofs.Imports.{drop-map, length-map, placed, last_of_each, map_reversed}
 
 module _ {A B : Type 0} (f : A → B) where
   pub filter-mapped : (p : B → Bool) (xs : List A) → filter p (map f xs) ≡ map f (filter (λ x. p (f x)) xs)

@@ -1,23 +1,12 @@
 -- The show of entries in finer steps is the show in finer steps.
-use Rattle.std.specs.Prelude.{◌≡◌, ℕ, ◌+◌, ◌*◌, max, Bool, false, ◌==◌, Option, Some, None, List, [], ◌∷◌, map, filter, fold, flat_map}
-use Rattle.std.specs.Prelude.{filter_map, option_map, option_and_then, unwrap_or, position, count_by, refl}
-use Rattle.std.specs.Option.{option_map_or}
-use Rattle.std.specs.List.{list_any, after_last, last_or}
-use Rattle.std.proofs.Common.{ap, ◌∙◌, sym}
-use Rattle.lx_base.specs.declared.TheConstants.{DEFAULT_CHANNELS, DEFAULT_TIME}
-use Rattle.lx_spec.specs.declared.Form.{Form}
-use Rattle.lx_spec.specs.declared.Form.TheVariants.{Moves, States}
-use Rattle.lx_spec.specs.declared.Section.{Section}
-use Rattle.lx_spec.specs.declared.Section.TheVariants.{InCue}
-use Rattle.lx_spec.specs.Show.{Cue, MemberSet, Show}
-use Rattle.lx_spec.specs.TrackedLevel.{level_in}
-use Rattle.lx_spec.specs.Looks.{look_moves, from_looks, by_form}
-use Rattle.lx_spec.specs.Entry.{Entry, PlacedEntry, Begins, Skipped, Links, section_begun, channels_set, rows_in, levels_in, part_named}
-use Rattle.lx_spec.specs.Entry.{up_in, down_in, follow_in, link_in, label_in, blocks, is_assert, is_skipped, clears_all, cue_in, group_in}
-use Rattle.lx_spec.specs.Entry.{sub_in}
-use Rattle.lx_spec.specs.Reading.{last_of_each, last_in, numbers_begun, stands_in, each_record, label_from, part_from, moves_in, parts_from}
-use Rattle.lx_spec.specs.Reading.{cue_from, members_from, group_from, sub_from, channels_named, show_from, reading_from}
-use Rattle.lx_spec.specs.Finer.{finer_cue, finer}
+use Rattle.lx_text_laws.proofs.Imports.{◌≡◌, ℕ, ◌+◌, ◌*◌, max, Bool, false, ◌==◌, Option, Some, None, List, [], ◌∷◌, map, filter}
+use Rattle.lx_text_laws.proofs.Imports.{fold, flat_map, filter_map, option_map, option_and_then, unwrap_or, position, count_by, refl, option_map_or, list_any}
+use Rattle.lx_text_laws.proofs.Imports.{after_last, last_or, ap, ◌∙◌, sym, DEFAULT_CHANNELS, DEFAULT_TIME, Form, Moves, States, Section, InCue, Cue}
+use Rattle.lx_text_laws.proofs.Imports.{MemberSet, Show, level_in, look_moves, from_looks, by_form, Entry, PlacedEntry, Begins, Skipped, Links, section_begun}
+use Rattle.lx_text_laws.proofs.Imports.{channels_set, rows_in, levels_in, part_named, up_in, down_in, follow_in, link_in, label_in, blocks, is_assert}
+use Rattle.lx_text_laws.proofs.Imports.{is_skipped, clears_all, cue_in, group_in, sub_in, last_of_each, last_in, numbers_begun, stands_in, each_record}
+use Rattle.lx_text_laws.proofs.Imports.{label_from, part_from, moves_in, parts_from, cue_from, members_from, group_from, sub_from, channels_named, show_from}
+use Rattle.lx_text_laws.proofs.Imports.{reading_from, finer_cue, finer}
 use Rattle.lx_text_laws.proofs.FinerLists.{filter-mapped, filter_map-mapped, flat_map-mapped, any-mapped, count-mapped, position-mapped}
 use Rattle.lx_text_laws.proofs.FinerLists.{after_last-mapped, last-mapped, filter_map-then, tenfold-eq, last_of_each-tenfold}
 use Rattle.lx_text_laws.proofs.FinerFields.{finer_section, finer_entry}

@@ -1,11 +1,6 @@
 -- A label that is its own has no line end, no blank before it and at most 240 bytes.
-use Rattle.std.specs.Prelude.{◌≡◌, ℕ, ◌≤◌, Bool, true, false, cond, ◌&&◌, List, [], ◌∷◌, filter, take, length, refl}
-use Rattle.std.specs.List.{list_all}
-use Rattle.std.proofs.Common.{arith, ap, ◌∙◌, sym}
-use Rattle.std.proofs.lemmas.List.{length-take}
-use Rattle.lx_base.specs.declared.TheConstants.{LABEL_BYTES}
-use Rattle.lx_spec.specs.Text.{is_blank, after_all}
-use Rattle.lx_spec.specs.Show.{IsLabel}
+use Rattle.lx_text_laws.proofs.Imports.{◌≡◌, ℕ, ◌≤◌, Bool, true, false, cond, ◌&&◌, List, [], ◌∷◌, filter, take, length, refl, list_all}
+use Rattle.lx_text_laws.proofs.Imports.{arith, ap, ◌∙◌, sym, length-take, LABEL_BYTES, is_blank, after_all, IsLabel}
 use Rattle.lx_text_laws.proofs.Tokens.{stays}
 
 filter_fewer : (test : ℕ → Bool) (xs : List ℕ) → length (filter test xs) ≤ length xs

@@ -18,3 +18,4 @@ pub mod FinerLines
 pub mod FinerShow
 pub mod OldTexts
 mod ReadBack
+mod Imports

@@ -1,31 +1,13 @@
 -- Each line of a show as it is written: what it says.
-use Rattle.std.specs.Prelude.{◌≡◌, ℕ, ◌+◌, ◌==◌, ◌^◌, ◌<◌, ◌≤◌, Bool, true, false, cond, ◌||◌, nat_lt, nat_le, Result, Ok, Err, List, []}
-use Rattle.std.specs.Prelude.{◌∷◌, ◌++◌, length, codes, decimal, refl}
-use Rattle.std.specs.List.{list_all, list_any}
-use Rattle.std.proofs.Common.{arith, ap, ◌∙◌}
-use Rattle.std.proofs.lemmas.Bool.Decides.{nat_tests}
-use Rattle.std.proofs.lemmas.List.{length-append}
-use Rattle.lx_base.specs.declared.TheConstants.{LINE_BYTES, CUES, CHANNELS, DIMMERS, PARTS, GROUPS, SUBS, CUE_MAX}
+use Rattle.lx_text_laws.proofs.Imports.{◌≡◌, ℕ, ◌+◌, ◌==◌, ◌^◌, ◌<◌, ◌≤◌, Bool, true, false, cond, ◌||◌, nat_lt, nat_le}
+use Rattle.lx_text_laws.proofs.Imports.{Result, Ok, Err, List, [], ◌∷◌, ◌++◌, length, codes, decimal, refl, list_all, list_any, arith, ap, ◌∙◌}
+use Rattle.lx_text_laws.proofs.Imports.{nat_tests, length-append, LINE_BYTES, CUES, CHANNELS, DIMMERS, PARTS, GROUPS, SUBS, CUE_MAX, TextFault, LineTooLong}
+use Rattle.lx_text_laws.proofs.Imports.{OutOfRange, Bad, ◌>>=◌, desk_limits, is_blank, is_filled, after_all, tokens, rest_after, label_of, read_time}
+use Rattle.lx_text_laws.proofs.Imports.{time_text, level_text, InRange, IsLabel, IsTime, IsLevel, Section, NoRecord, InCue, InGroup, InSub, Entry, Begins}
+use Rattle.lx_text_laws.proofs.Imports.{HasChannels, Patches, HasLevels, NamesPart, HasUp, HasDown, Follows, Links, IsLabelled, Blocks, Asserts, is_end, Facts}
+use Rattle.lx_text_laws.proofs.Imports.{facts_after, number, levels, entry_of, entry_by_word, entry_by_tokens, if_few, placed, line, spaced, at_text}
+use Rattle.lx_text_laws.proofs.Imports.{cue_number_text, lt_true, lt_false, length-placed}
 use Rattle.lx_spec.specs.declared.Word.TheVariants as words
-use Rattle.lx_spec.specs.declared.TextFault.{TextFault}
-use Rattle.lx_spec.specs.declared.TextFault.TheVariants.{LineTooLong, OutOfRange}
-use Rattle.lx_spec.specs.declared.Bad.{Bad}
-use Rattle.lx_spec.specs.FirstRefusal.{◌>>=◌}
-use Rattle.lx_spec.specs.Limits.{desk_limits}
-use Rattle.lx_spec.specs.Text.{is_blank, is_filled, after_all, tokens, rest_after, label_of}
-use Rattle.lx_spec.specs.Numerals.{read_time, time_text, level_text}
-use Rattle.lx_spec.specs.Show.{InRange, IsLabel, IsTime, IsLevel}
-use Rattle.lx_spec.specs.declared.Section.{Section}
-use Rattle.lx_spec.specs.declared.Section.TheVariants.{NoRecord, InCue, InGroup, InSub}
-use Rattle.lx_spec.specs.Entry.{Entry, Begins, HasChannels, Patches, HasLevels, NamesPart, HasUp, HasDown, Follows, Links, IsLabelled}
-use Rattle.lx_spec.specs.Entry.{Blocks, Asserts, is_end}
-use Rattle.lx_spec.specs.Facts.{Facts, facts_after}
-use Rattle.lx_spec.specs.Fields.{number, levels}
-use Rattle.lx_spec.specs.LineRules.{entry_of, entry_by_word, entry_by_tokens, if_few}
-use Rattle.lx_spec.specs.SortedList.{placed}
-use Rattle.lx_spec.specs.ShowText.{line, spaced, at_text, cue_number_text}
-use Rattle.lx_spec.proofs.Comparisons.{lt_true, lt_false}
-use Rattle.lx_spec.proofs.SortedLists.{length-placed}
 use Rattle.lx_text_laws.proofs.Tokens.{is_plain, stays, tokens-at, tokens-last, all-append}
 use Rattle.lx_text_laws.proofs.Digits.{read_whole-decimal}
 use Rattle.lx_text_laws.proofs.Decimals.{IsNumberText, number_plain, number_stays, whole_text, time_is_text, read_time-written, cue_is_text}

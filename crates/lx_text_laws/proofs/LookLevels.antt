@@ -1,29 +1,13 @@
 -- A text that is read as looks has the levels of its looks.
-use Rattle.std.specs.Prelude.{◌≡◌, ℕ, zero, suc, ◌+◌, ◌<◌, ◌≤◌, Bool, true, false, cond, not, ◌||◌, ◌&&◌, ◌==◌, nat_le, Option, Some, None}
-use Rattle.std.specs.Prelude.{Result, Ok, Err, List, [], ◌∷◌, map, filter, fold, filter_map, is_some, option_and_then, refl, if◌then◌else◌}
-use Rattle.std.specs.List.{AllByRecursion, list_any, range_with_len, after_last}
-use Rattle.std.specs.Option.{option_map_or}
-use Rattle.std.proofs.Common.{arith, ap, ◌∙◌, sym, subst}
-use Rattle.std.proofs.lemmas.Bool.{eqb-true}
-use Rattle.std.proofs.lemmas.Bool.Decides.{nat_tests}
-use Rattle.lx_spec.specs.declared.Move.{Move}
-use Rattle.lx_spec.specs.declared.Form.TheVariants.{Moves, States}
-use Rattle.lx_spec.specs.declared.TextFault.{TextFault}
-use Rattle.lx_spec.specs.FirstRefusal.{◌>>=◌}
-use Rattle.lx_spec.specs.Limits.{desk_limits}
-use Rattle.lx_spec.specs.Text.{lines_of}
-use Rattle.lx_spec.specs.SortedList.{IsStrictlySorted, entry_at, placed}
-use Rattle.lx_spec.specs.Show.{Cue, Show, InRange}
-use Rattle.lx_spec.specs.TrackedLevel.{cue_of, move_in, level_in, tracked}
+use Rattle.lx_text_laws.proofs.Imports.{◌≡◌, ℕ, zero, suc, ◌+◌, ◌<◌, ◌≤◌, Bool, true, false, cond, not, ◌||◌, ◌&&◌, ◌==◌}
+use Rattle.lx_text_laws.proofs.Imports.{nat_le, Option, Some, None, Result, Ok, Err, List, [], ◌∷◌, map, filter, fold, filter_map, is_some}
+use Rattle.lx_text_laws.proofs.Imports.{option_and_then, refl, if◌then◌else◌, AllByRecursion, list_any, range_with_len, after_last, option_map_or, arith}
+use Rattle.lx_text_laws.proofs.Imports.{ap, ◌∙◌, sym, subst, eqb-true, nat_tests, Move, Moves, States, TextFault, ◌>>=◌, desk_limits, lines_of}
+use Rattle.lx_text_laws.proofs.Imports.{IsStrictlySorted, entry_at, placed, Cue, Show, InRange, cue_of, move_in, level_in, tracked, Section, PlacedEntry}
+use Rattle.lx_text_laws.proofs.Imports.{cue_in, section_begun, clears_all, first_facts, look_moves, from_looks, by_form, Reading, entries, reads, reading_from}
+use Rattle.lx_text_laws.proofs.Imports.{numbers_begun, stands_in, cue_from, show_from, each, IsStrictlySorted-placed}
 use Rattle.lx_spec.specs.EditedShow.{channels_of}
-use Rattle.lx_spec.specs.declared.Section.{Section}
-use Rattle.lx_spec.specs.Entry.{PlacedEntry, cue_in, section_begun, clears_all}
-use Rattle.lx_spec.specs.Facts.{first_facts}
-use Rattle.lx_spec.specs.Looks.{look_moves, from_looks, by_form}
-use Rattle.lx_spec.specs.Reading.{Reading, entries, reads, reading_from, numbers_begun, stands_in, cue_from, show_from}
 use Rattle.lx_spec.proofs.Along.{tracked_on, along, tracked-along, step_in, along-past}
-use Rattle.lx_spec.proofs.Lists.{each}
-use Rattle.lx_spec.proofs.SortedLists.{IsStrictlySorted-placed}
 use Rattle.lx_text_laws.proofs.SortedGroups.{All-map}
 
 -- The moves of a look.

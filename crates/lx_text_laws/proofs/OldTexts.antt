@@ -1,16 +1,6 @@
 -- An old text is read as the same show in finer cue numbers.
-use Rattle.std.specs.Prelude.{◌≡◌, ℕ, Result, Ok, Err, List, map, IfOk}
-use Rattle.std.proofs.Common.{ap, ◌∙◌}
-use Rattle.lx_spec.specs.declared.Form.{Form}
-use Rattle.lx_spec.specs.declared.TextFault.{TextFault}
-use Rattle.lx_spec.specs.FirstRefusal.{◌>>=◌}
-use Rattle.lx_spec.specs.Limits.{Limits}
-use Rattle.lx_spec.specs.Text.{lines_of}
-use Rattle.lx_spec.specs.Entry.{PlacedEntry}
-use Rattle.lx_spec.specs.Facts.{first_facts}
-use Rattle.lx_spec.specs.Reading.{reading_from, entries, reads_under, count_read}
-use Rattle.lx_spec.specs.Finer.{HasOneDecimalMore}
-use Rattle.lx_text_laws.specs.OldTexts.{ReadsFiner}
+use Rattle.lx_text_laws.proofs.Imports.{◌≡◌, ℕ, Result, Ok, Err, List, map, IfOk, ap, ◌∙◌, Form, TextFault, ◌>>=◌, Limits, lines_of}
+use Rattle.lx_text_laws.proofs.Imports.{PlacedEntry, first_facts, reading_from, entries, reads_under, count_read, HasOneDecimalMore, ReadsFiner}
 use Rattle.lx_text_laws.proofs.FinerFields.{Kept}
 use Rattle.lx_text_laws.proofs.FinerLines.{finer_placed, entries-kept, count-kept}
 use Rattle.lx_text_laws.proofs.FinerShow.{reading-finer}

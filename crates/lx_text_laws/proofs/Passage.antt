@@ -1,17 +1,7 @@
 -- A passage of a text: what its lines say, and what is known after them.
-use Rattle.std.specs.Prelude.{◌≡◌, ℕ, ◌+◌, ◌≤◌, true, false, cond, Result, Ok, Err, List, [], ◌∷◌, ◌++◌, length, refl}
-use Rattle.std.specs.List.{list_all}
-use Rattle.std.proofs.Common.{arith, ap, ◌∙◌, sym, subst, append_assoc}
-use Rattle.lx_base.specs.declared.TheConstants.{CUES}
-use Rattle.lx_spec.specs.declared.TextFault.{TextFault}
-use Rattle.lx_spec.specs.FirstRefusal.{◌>>=◌}
-use Rattle.lx_spec.specs.Limits.{desk_limits}
-use Rattle.lx_spec.specs.Text.{lines_of}
-use Rattle.lx_spec.specs.declared.Section.{Section}
-use Rattle.lx_spec.specs.Entry.{Entry, PlacedEntry, is_end}
-use Rattle.lx_spec.specs.Facts.{Facts, facts_after}
-use Rattle.lx_spec.specs.LineRules.{entry_of}
-use Rattle.lx_spec.specs.Reading.{entries, count_read}
+use Rattle.lx_text_laws.proofs.Imports.{◌≡◌, ℕ, ◌+◌, ◌≤◌, true, false, cond, Result, Ok, Err, List, [], ◌∷◌, ◌++◌, length, refl}
+use Rattle.lx_text_laws.proofs.Imports.{list_all, arith, ap, ◌∙◌, sym, subst, append_assoc, CUES, TextFault, ◌>>=◌, desk_limits, lines_of, Section}
+use Rattle.lx_text_laws.proofs.Imports.{Entry, PlacedEntry, is_end, Facts, facts_after, entry_of, entries, count_read}
 use Rattle.lx_text_laws.proofs.Tokens.{stays, lines_of-line}
 
 abbrev pub here : Section → ℕ → Entry → PlacedEntry

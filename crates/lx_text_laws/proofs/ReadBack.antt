@@ -1,26 +1,16 @@
 -- What the reader answers for a text that is in memory whole, and for the canonical text of a show.
-use Rattle.std.proofs.Common.{◌≡◌, ◌⊎◌, inl, inr, ℕ, zero, suc, ◌+◌, ◌<◌, ◌≤◌, Bool, true, false, Option, Some, Result, Ok, Err, IfSome}
-use Rattle.std.proofs.Common.{IfOk, IfErr, List, [], ◌∷◌, length, refl, sym, ap, ◌∙◌, subst, arith}
-use Rattle.std.specs.Prelude.{◌==◌, cond}
+use Rattle.lx_text_laws.proofs.Imports.{◌≡◌, ◌⊎◌, inl, inr, ℕ, zero, suc, ◌+◌, ◌<◌, ◌≤◌, Bool, true, false, Option, Some, Result}
+use Rattle.lx_text_laws.proofs.Imports.{Ok, Err, IfSome, IfOk, IfErr, List, [], ◌∷◌, length, refl, sym, ap, ◌∙◌, subst, arith, ◌==◌, cond}
+use Rattle.lx_text_laws.proofs.Imports.{INPUT_BYTES, Form, Moves, TextFault, Limits, desk_limits, Show, Valid, show_text, first_lines, Reading, reads}
+use Rattle.lx_text_laws.proofs.Imports.{reads_under, HasOneDecimalMore, finer, ReadsFiner}
 use Rattle.std.specs.Result.{result_unwrap_or}
-use Rattle.lx_base.specs.declared.TheConstants.{INPUT_BYTES}
 use Rattle.lx_lex.specs.declared.lines.Lines.{Lines}
 use Rattle.lx_lex.specs.Unread.{unread}
-use Rattle.lx_spec.specs.declared.Form.{Form}
-use Rattle.lx_spec.specs.declared.Form.TheVariants.{Moves}
-use Rattle.lx_spec.specs.declared.TextFault.{TextFault}
-use Rattle.lx_spec.specs.Limits.{Limits, desk_limits}
-use Rattle.lx_spec.specs.Show.{Show, Valid}
-use Rattle.lx_spec.specs.ShowText.{show_text}
-use Rattle.lx_spec.specs.CutInput.{first_lines}
-use Rattle.lx_spec.specs.Reading.{Reading, reads, reads_under}
 use Rattle.lx_reader.specs.declared.loaded.Loaded.{Loaded}
 use Rattle.lx_reader.specs.declared.fault.ShowFault.{ShowFault}
 use Rattle.lx_reader.specs.declared.fault.ShowFault.TheVariants as faults
 use Rattle.lx_reader.specs.HandedLines.{MeansFault, IsPastLimit}
 use Rattle.lx_reader.specs.Answer.{reading_of, AnswerOf}
-use Rattle.lx_spec.specs.Finer.{HasOneDecimalMore, finer}
-use Rattle.lx_text_laws.specs.OldTexts.{ReadsFiner}
 use Rattle.lx_text_laws.specs.ReadAs.{ComesAsReading}
 use Rattle.lx_text_laws.proofs.WholeText.{reads_back}
 use Rattle.lx_text_laws.proofs.OldTexts.{old_texts}

@@ -1,27 +1,12 @@
 -- What a whole text means: the records, the patch, the channel count, and no skipped line.
-use Rattle.std.specs.Prelude.{◌≡◌, ℕ, zero, suc, ◌+◌, ◌-◌, ◌<◌, ◌≤◌, max, Bool, true, false, cond, not, ◌==◌, nat_lt, Option, Some, None}
-use Rattle.std.specs.Prelude.{List, [], ◌∷◌, ◌++◌, map, filter, fold, flat_map, filter_map, drop, length, get_or, unwrap_or}
-use Rattle.std.specs.Prelude.{option_and_then, is_none, count_by, position, refl}
-use Rattle.std.specs.List.{AllByRecursion, last_or, cons_option, after_last, position_or_len, suffix_len}
-use Rattle.std.specs.Option.{option_map_or}
-use Rattle.std.proofs.Common.{arith, ap, ◌∙◌, sym}
-use Rattle.std.proofs.lemmas.Bool.Decides.{nat_tests}
-use Rattle.std.proofs.lemmas.Grind.{flat_map-append}
-use Rattle.std.proofs.lemmas.List.{append-nil}
-use Rattle.std.proofs.lemmas.List.Elements.{filter-append, filter_map-append}
-use Rattle.std.proofs.lemmas.List.Sums.{suffix_len_is}
-use Rattle.lx_base.specs.declared.TheConstants.{DEFAULT_CHANNELS}
-use Rattle.lx_spec.specs.declared.Section.{Section}
-use Rattle.lx_spec.specs.declared.Section.TheVariants.{NoRecord}
-use Rattle.lx_spec.specs.declared.PatchRow.{PatchRow}
-use Rattle.lx_spec.specs.declared.Form.TheVariants.{Moves}
-use Rattle.lx_spec.specs.SortedList.{IsStrictlySorted}
-use Rattle.lx_spec.specs.Show.{Show, Valid, ValidCue, ValidGroup, ValidSub, ValidPatchRow}
-use Rattle.lx_spec.specs.Entry.{PlacedEntry, Identifies, section_begun, channels_set, rows_in, is_skipped, clears_all, cue_in, group_in}
-use Rattle.lx_spec.specs.Entry.{sub_in}
-use Rattle.lx_spec.specs.Reading.{last_of_each, last_in, numbers_begun, stands_in, each_record, cue_from, group_from, sub_from}
-use Rattle.lx_spec.specs.Reading.{channels_named, show_from, reading_from}
-use Rattle.lx_spec.proofs.Lists.{each, all_append, filter_all, filter_none}
+use Rattle.lx_text_laws.proofs.Imports.{◌≡◌, ℕ, zero, suc, ◌+◌, ◌-◌, ◌<◌, ◌≤◌, max, Bool, true, false, cond, not, ◌==◌, nat_lt}
+use Rattle.lx_text_laws.proofs.Imports.{Option, Some, None, List, [], ◌∷◌, ◌++◌, map, filter, fold, flat_map, filter_map, drop, length, get_or}
+use Rattle.lx_text_laws.proofs.Imports.{unwrap_or, option_and_then, is_none, count_by, position, refl, AllByRecursion, last_or, cons_option, after_last}
+use Rattle.lx_text_laws.proofs.Imports.{position_or_len, suffix_len, option_map_or, arith, ap, ◌∙◌, sym, nat_tests, flat_map-append, append-nil}
+use Rattle.lx_text_laws.proofs.Imports.{filter-append, filter_map-append, suffix_len_is, DEFAULT_CHANNELS, Section, NoRecord, PatchRow, Moves, IsStrictlySorted}
+use Rattle.lx_text_laws.proofs.Imports.{Show, Valid, ValidCue, ValidGroup, ValidSub, ValidPatchRow, PlacedEntry, Identifies, section_begun, channels_set}
+use Rattle.lx_text_laws.proofs.Imports.{rows_in, is_skipped, clears_all, cue_in, group_in, sub_in, last_of_each, last_in, numbers_begun, stands_in, each_record}
+use Rattle.lx_text_laws.proofs.Imports.{cue_from, group_from, sub_from, channels_named, show_from, reading_from, each, all_append, filter_all, filter_none}
 use Rattle.lx_text_laws.proofs.Passage.{here}
 use Rattle.lx_text_laws.proofs.ShowEntries.{cue_body, group_body, sub_body, Chunk, cue_chunk, group_chunk, sub_chunk, chunks_entries}
 use Rattle.lx_text_laws.proofs.ShowEntries.{patch_entries}

@@ -1,19 +1,11 @@
 -- A show comes back from the entries of its text.
-use Rattle.std.specs.Prelude.{◌≡◌, ℕ, ◌≤◌, Bool, true, false, ◌==◌, Option, Some, None, List, [], ◌∷◌, ◌++◌, map, filter, flat_map}
-use Rattle.std.specs.Prelude.{unwrap_or, is_none, refl}
-use Rattle.std.specs.List.{AllByRecursion, last_or}
-use Rattle.std.proofs.Common.{ap, ◌∙◌}
-use Rattle.lx_spec.specs.declared.Section.{Section}
-use Rattle.lx_spec.specs.declared.Section.TheVariants.{NoRecord, InCue, InGroup, InSub}
-use Rattle.lx_spec.specs.declared.Part.{Part}
-use Rattle.lx_spec.specs.declared.Move.{Move}
-use Rattle.lx_spec.specs.declared.Member.{Member}
-use Rattle.lx_spec.specs.Show.{Cue, Group, Sub, Show, Valid, ValidCue, ValidGroup, ValidSub, ValidMember, ValidMove}
-use Rattle.lx_spec.specs.Entry.{Entry, PlacedEntry, Identifies, HasChannels, HasLevels, NamesPart, HasUp, HasDown, Follows, Links}
-use Rattle.lx_spec.specs.Entry.{IsLabelled, Blocks, Asserts, section_begun, channels_set, rows_in, levels_in, part_named, up_in, down_in}
-use Rattle.lx_spec.specs.Entry.{follow_in, link_in, label_in, blocks, is_assert, is_skipped, clears_all}
-use Rattle.lx_spec.specs.Reading.{last_of_each, last_in, part_from, moves_in, parts_from, cue_from, group_from, sub_from, channels_named}
-use Rattle.lx_spec.proofs.Lists.{each, all_append, kept_by}
+use Rattle.lx_text_laws.proofs.Imports.{◌≡◌, ℕ, ◌≤◌, Bool, true, false, ◌==◌, Option, Some, None, List, [], ◌∷◌, ◌++◌, map, filter}
+use Rattle.lx_text_laws.proofs.Imports.{flat_map, unwrap_or, is_none, refl, AllByRecursion, last_or, ap, ◌∙◌, Section, NoRecord, InCue, InGroup, InSub}
+use Rattle.lx_text_laws.proofs.Imports.{Part, Move, Member, Cue, Group, Sub, Show, Valid, ValidCue, ValidGroup, ValidSub, ValidMember, ValidMove, Entry}
+use Rattle.lx_text_laws.proofs.Imports.{PlacedEntry, Identifies, HasChannels, HasLevels, NamesPart, HasUp, HasDown, Follows, Links, IsLabelled, Blocks, Asserts}
+use Rattle.lx_text_laws.proofs.Imports.{section_begun, channels_set, rows_in, levels_in, part_named, up_in, down_in, follow_in, link_in, label_in, blocks}
+use Rattle.lx_text_laws.proofs.Imports.{is_assert, is_skipped, clears_all, last_of_each, last_in, part_from, moves_in, parts_from, cue_from, group_from}
+use Rattle.lx_text_laws.proofs.Imports.{sub_from, channels_named, each, all_append, kept_by}
 use Rattle.lx_text_laws.proofs.Passage.{here}
 use Rattle.lx_text_laws.proofs.ShowEntries.{member_entries, label_entries, move_entries, in_part, parts_entries, flag_entries}
 use Rattle.lx_text_laws.proofs.ShowEntries.{follow_entries, link_entries, cue_body, group_body, sub_body, Chunk, cue_chunk, group_chunk}

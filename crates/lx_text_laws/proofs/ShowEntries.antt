@@ -1,24 +1,11 @@
 -- The entries of a show as it is written, piece by piece.
-use Rattle.std.specs.Prelude.{◌≡◌, ℕ, ◌+◌, Bool, true, false, ◌==◌, Option, Some, None, List, [], ◌∷◌, ◌++◌, map, filter, flat_map, codes}
-use Rattle.std.specs.Prelude.{decimal, refl, if◌then◌else◌, IfSome}
-use Rattle.std.specs.List.{AllByRecursion}
-use Rattle.std.proofs.Common.{arith, subst, append_assoc}
-use Rattle.lx_base.specs.declared.TheConstants.{CHANNELS, CUE_MAX}
-use Rattle.lx_spec.specs.declared.Section.{Section}
-use Rattle.lx_spec.specs.declared.Section.TheVariants.{NoRecord, InCue, InGroup, InSub}
-use Rattle.lx_spec.specs.declared.Part.{Part}
-use Rattle.lx_spec.specs.declared.Move.{Move}
-use Rattle.lx_spec.specs.declared.Member.{Member}
-use Rattle.lx_spec.specs.declared.PatchRow.{PatchRow}
-use Rattle.lx_spec.specs.Text.{is_filled}
-use Rattle.lx_spec.specs.Show.{Cue, Group, Sub, InRange, IsTime, IsLabel, ValidPart, ValidMove, ValidCue, ValidMember, ValidGroup, ValidSub}
-use Rattle.lx_spec.specs.Show.{ValidPatchRow}
-use Rattle.lx_spec.specs.Entry.{Entry, PlacedEntry, Begins, Patches, HasLevels, NamesPart, HasUp, HasDown, Follows, Links, IsLabelled}
-use Rattle.lx_spec.specs.Entry.{Blocks, Asserts}
-use Rattle.lx_spec.specs.ShowText.{line, cue_number_text, patch_text, label_text, member_text, group_text, sub_text, move_text, part_text}
-use Rattle.lx_spec.specs.ShowText.{block_text, assert_text, follow_text, link_text, cue_text}
-use Rattle.lx_spec.specs.Numerals.{time_text}
-use Rattle.lx_spec.proofs.Lists.{kept_by}
+use Rattle.lx_text_laws.proofs.Imports.{◌≡◌, ℕ, ◌+◌, Bool, true, false, ◌==◌, Option, Some, None, List, [], ◌∷◌, ◌++◌, map, filter}
+use Rattle.lx_text_laws.proofs.Imports.{flat_map, codes, decimal, refl, if◌then◌else◌, IfSome, AllByRecursion, arith, subst, append_assoc, CHANNELS}
+use Rattle.lx_text_laws.proofs.Imports.{CUE_MAX, Section, NoRecord, InCue, InGroup, InSub, Part, Move, Member, PatchRow, is_filled, Cue, Group, Sub, InRange}
+use Rattle.lx_text_laws.proofs.Imports.{IsTime, IsLabel, ValidPart, ValidMove, ValidCue, ValidMember, ValidGroup, ValidSub, ValidPatchRow, Entry, PlacedEntry}
+use Rattle.lx_text_laws.proofs.Imports.{Begins, Patches, HasLevels, NamesPart, HasUp, HasDown, Follows, Links, IsLabelled, Blocks, Asserts, line}
+use Rattle.lx_text_laws.proofs.Imports.{cue_number_text, patch_text, label_text, member_text, group_text, sub_text, move_text, part_text, block_text}
+use Rattle.lx_text_laws.proofs.Imports.{assert_text, follow_text, link_text, cue_text, time_text, kept_by}
 use Rattle.lx_text_laws.proofs.Passage.{here, Reads, reads_none, reads_then}
 use Rattle.lx_text_laws.proofs.LineTexts.{TakesLevels, level_reads, TakesLabel, label_reads, group_reads, sub_reads, cue_reads, patch_reads}
 use Rattle.lx_text_laws.proofs.LineTexts.{part_reads, up_reads, down_reads, follow_reads, link_reads, block_reads, assert_reads}

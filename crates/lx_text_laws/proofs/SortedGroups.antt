@@ -1,15 +1,8 @@
 -- A sorted list comes back from its entries, also where they are placed group by group.
-use Rattle.std.specs.Prelude.{◌≡◌, ℕ, ◌<◌, Bool, true, false, cond, ◌||◌, nat_lt, List, [], ◌∷◌, ◌++◌, map, filter, fold, flat_map, refl}
-use Rattle.std.specs.List.{AllByRecursion, list_any}
-use Rattle.std.proofs.Common.{arith, ap, ◌∙◌, sym, subst, append_assoc}
-use Rattle.std.proofs.lemmas.List.{append-nil}
-use Rattle.std.proofs.lemmas.List.Elements.{filter-append}
-use Rattle.std.proofs.lemmas.List.Sums.{fold-append}
-use Rattle.lx_spec.specs.SortedList.{IsStrictlySorted, placed}
-use Rattle.lx_spec.specs.Reading.{last_of_each}
-use Rattle.lx_spec.proofs.Comparisons.{lt_true, lt_false}
-use Rattle.lx_spec.proofs.Lists.{each, kept_by, filter_all, filter_none}
-use Rattle.lx_spec.proofs.SortedLists.{below_seam, above_seam}
+use Rattle.lx_text_laws.proofs.Imports.{◌≡◌, ℕ, ◌<◌, Bool, true, false, cond, ◌||◌, nat_lt, List, [], ◌∷◌, ◌++◌, map, filter, fold}
+use Rattle.lx_text_laws.proofs.Imports.{flat_map, refl, AllByRecursion, list_any, arith, ap, ◌∙◌, sym, subst, append_assoc, append-nil, filter-append}
+use Rattle.lx_text_laws.proofs.Imports.{fold-append, IsStrictlySorted, placed, last_of_each, lt_true, lt_false, each, kept_by, filter_all, filter_none}
+use Rattle.lx_text_laws.proofs.Imports.{below_seam, above_seam}
 
 pub All-both : {A : Type 0} (P Q R : A → Type 0) (xs : List A) → ((x : A) → P x → Q x → R x) → AllByRecursion P xs → AllByRecursion Q xs
     → AllByRecursion R xs

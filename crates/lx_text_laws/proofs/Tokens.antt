@@ -1,12 +1,8 @@
 -- The tokens and lines of a text whose words are plain.
-use Rattle.std.specs.Prelude.{◌≡◌, ℕ, Bool, true, false, cond, not, ◌||◌, ◌&&◌, ◌==◌, List, [], ◌∷◌, ◌++◌, map, filter, refl}
-use Rattle.std.specs.List.{list_all, before_first, slice_split, onto_first}
-use Rattle.std.proofs.Common.{arith, ap, ◌∙◌, sym}
-use Rattle.std.proofs.lemmas.Bool.{and_parts}
-use Rattle.std.proofs.lemmas.Bool.Decides.{nat_tests}
-use Rattle.std.proofs.lemmas.Grind.{common_steps}
+use Rattle.lx_text_laws.proofs.Imports.{◌≡◌, ℕ, Bool, true, false, cond, not, ◌||◌, ◌&&◌, ◌==◌, List, [], ◌∷◌, ◌++◌, map, filter}
+use Rattle.lx_text_laws.proofs.Imports.{refl, list_all, before_first, slice_split, onto_first, arith, ap, ◌∙◌, sym, and_parts, nat_tests, common_steps}
+use Rattle.lx_text_laws.proofs.Imports.{is_separator, begins_comment, is_filled, cut_lines, without_cr, lines_of, tokens}
 use Rattle.std.proofs.lemmas.List.Splits.{slice_split-cons_yes, slice_split-cons_no}
-use Rattle.lx_spec.specs.Text.{is_separator, begins_comment, is_filled, cut_lines, without_cr, lines_of, tokens}
 
 -- no separator, no comment and no line end
 abbrev pub is_plain : ℕ → Bool

@@ -1,11 +1,7 @@
 -- What a list of entries comes to in part: where some of them are left out, and for one number.
-use Rattle.std.specs.Prelude.{◌≡◌, ℕ, ◌<◌, Bool, true, false, cond, ◌||◌, ◌==◌, Option, None, List, [], ◌∷◌, ◌++◌, map, filter, flat_map}
-use Rattle.std.specs.Prelude.{filter_map, refl}
-use Rattle.std.specs.List.{AllByRecursion, list_any, cons_option}
-use Rattle.std.proofs.Common.{ap, ◌∙◌, sym}
-use Rattle.std.proofs.lemmas.List.{append-nil}
-use Rattle.lx_spec.specs.SortedList.{IsStrictlySorted}
-use Rattle.lx_spec.proofs.Comparisons.{eq_true, eq_below, eq_above}
+use Rattle.lx_text_laws.proofs.Imports.{◌≡◌, ℕ, ◌<◌, Bool, true, false, cond, ◌||◌, ◌==◌, Option, None, List, [], ◌∷◌, ◌++◌, map}
+use Rattle.lx_text_laws.proofs.Imports.{filter, flat_map, filter_map, refl, AllByRecursion, list_any, cons_option, ap, ◌∙◌, sym, append-nil}
+use Rattle.lx_text_laws.proofs.Imports.{IsStrictlySorted, eq_true, eq_below, eq_above}
 use Rattle.lx_text_laws.proofs.SortedGroups.{All-both}
 
 -- entries of which nothing is asked may be left out

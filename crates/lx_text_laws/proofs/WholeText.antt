@@ -1,25 +1,11 @@
 -- The whole text of a show reads back.
-use Rattle.std.specs.Prelude.{◌≡◌, ℕ, suc, ◌+◌, Bool, true, false, cond, ◌==◌, Ok, List, [], ◌∷◌, ◌++◌, map, flat_map, length, codes}
-use Rattle.std.specs.Prelude.{decimal, refl}
-use Rattle.std.specs.List.{AllByRecursion, onto_first}
-use Rattle.std.proofs.Common.{arith, ap, ◌∙◌, sym, append_assoc}
-use Rattle.std.proofs.lemmas.Grind.{flat_map-append}
-use Rattle.std.proofs.lemmas.List.{append-nil}
-use Rattle.lx_spec.specs.declared.Section.{Section}
-use Rattle.lx_spec.specs.declared.Section.TheVariants.{NoRecord}
-use Rattle.lx_spec.specs.declared.Form.TheVariants.{Moves}
-use Rattle.lx_spec.specs.FirstRefusal.{◌>>=◌}
-use Rattle.lx_spec.specs.Limits.{desk_limits}
-use Rattle.std.proofs.lemmas.List.{length-map}
-use Rattle.lx_spec.specs.CutInput.{first_lines}
-use Rattle.lx_spec.specs.Text.{cut_lines, without_cr, lines_of}
-use Rattle.lx_spec.specs.Show.{Cue, Show, Valid, ValidCue, ValidGroup, ValidSub}
-use Rattle.lx_spec.specs.Entry.{PlacedEntry, Identifies, HasChannels}
-use Rattle.lx_spec.specs.Facts.{first_facts}
-use Rattle.lx_spec.specs.Reading.{entries, reading_from, count_read, lines_read}
-use Rattle.lx_spec.specs.ShowText.{line, spaced, patch_text, group_text, sub_text, cue_text, show_text}
+use Rattle.lx_text_laws.proofs.Imports.{◌≡◌, ℕ, suc, ◌+◌, Bool, true, false, cond, ◌==◌, Ok, List, [], ◌∷◌, ◌++◌, map, flat_map}
+use Rattle.lx_text_laws.proofs.Imports.{length, codes, decimal, refl, AllByRecursion, onto_first, arith, ap, ◌∙◌, sym, append_assoc, flat_map-append}
+use Rattle.lx_text_laws.proofs.Imports.{append-nil, Section, NoRecord, Moves, ◌>>=◌, desk_limits, length-map, first_lines, cut_lines, without_cr, lines_of}
+use Rattle.lx_text_laws.proofs.Imports.{Cue, Show, Valid, ValidCue, ValidGroup, ValidSub, PlacedEntry, Identifies, HasChannels, first_facts, entries}
+use Rattle.lx_text_laws.proofs.Imports.{reading_from, count_read, lines_read, line, spaced, patch_text, group_text, sub_text, cue_text, show_text, each}
+use Rattle.lx_text_laws.proofs.Imports.{all_append}
 use Rattle.lx_text_laws.specs.RoundTrip.{ReadsBack}
-use Rattle.lx_spec.proofs.Lists.{each, all_append}
 use Rattle.lx_text_laws.proofs.Passage.{here, onto, Passage, then, line_passage, at, Reads, reads_then}
 use Rattle.lx_text_laws.proofs.LineTexts.{channels_reads}
 use Rattle.lx_text_laws.proofs.ShowEntries.{Chunk, ChunkReads, group_chunk, group_read, sub_chunk, sub_read, cue_chunk, cue_read}

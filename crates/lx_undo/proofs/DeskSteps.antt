@@ -1,20 +1,8 @@
 -- Keys and ticks leave the history, and are the desk's own steps.
-use Rattle.std.proofs.Common.{◌≡◌, Bool, false, Ok, Err, refl, ◌∙◌, sym, ap, subst, inl, inr}
-use Rattle.std.specs.Prelude.{Result, OnErr, ◌⊎◌, if◌then◌else◌}
-use Rattle.std.specs.Result.{IsOkAnd}
-use Rattle.std.proofs.lemmas.Bool.{true≢false}
-use Rattle.lx_spec.specs.declared.Edit.{Edit}
-use Rattle.lx_spec.specs.declared.Command.{Command}
+use Rattle.lx_undo.proofs.Imports.{◌≡◌, Bool, false, Ok, Err, refl, ◌∙◌, sym, ap, subst, inl, inr, Result, OnErr, ◌⊎◌, if◌then◌else◌}
+use Rattle.lx_undo.proofs.Imports.{IsOkAnd, true≢false, Edit, Command, Refusal, ◌>>=◌, Desk, step, Kept, is_edit, UndoState, replaced, undo_step}
+use Rattle.lx_undo.proofs.Imports.{StandsFor, Answers, Refuses, KeptPlans, UndoKept, UndoStands, TakesUndoStep, UndoWantsMemory, seen}
 use Rattle.lx_spec.specs.declared.Command.TheVariants as commands
-use Rattle.lx_spec.specs.declared.Refusal.{Refusal}
-use Rattle.lx_spec.specs.FirstRefusal.{◌>>=◌}
-use Rattle.lx_spec.specs.Desk.{Desk, step}
-use Rattle.lx_spec.specs.Kept.{Kept}
-use Rattle.lx_spec.specs.Desk.{is_edit}
-use Rattle.lx_spec.specs.Undo.{UndoState, replaced, undo_step}
-use Rattle.lx_console.specs.ConsoleMeaning.{StandsFor, Answers, Refuses}
-use Rattle.lx_undo.specs.Shows.{KeptPlans}
-use Rattle.lx_undo.specs.UndoDeskMeaning.{UndoKept, UndoStands, TakesUndoStep, UndoWantsMemory, seen}
 
 -- the same shows are kept
 pub record SameShows (before now : UndoKept) : Type 0 where

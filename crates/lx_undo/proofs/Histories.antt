@@ -1,22 +1,12 @@
 -- Lists of shows with one at an end, and the laws of undo and redo.
-use Rattle.std.proofs.Common.{◌≡◌, ℕ, suc, ◌-◌, ◌≤◌, Bool, true, List, [], ◌∷◌, ◌++◌, length, take, drop, Some}
-use Rattle.std.proofs.Common.{None, Ok, Err}
-use Rattle.std.proofs.Common.{refl, ◌∙◌, sym, ap, subst, arith, length-append}
-use Rattle.std.specs.Prelude.{Option, Result, slice_get}
-use Rattle.std.specs.Option.{option_map_or}
-use Rattle.std.specs.Result.{IsOkAnd}
-use Rattle.std.proofs.lemmas.List.{drop-append-le, take_at}
-use Rattle.lx_spec.specs.declared.Command.{Command}
+use Rattle.lx_undo.proofs.Imports.{◌≡◌, ℕ, suc, ◌-◌, ◌≤◌, Bool, true, List, [], ◌∷◌, ◌++◌, length, take, drop, Some, None, Ok, Err}
+use Rattle.lx_undo.proofs.Imports.{refl, ◌∙◌, sym, ap, subst, arith, length-append, Option, Result, slice_get, option_map_or, IsOkAnd, take_at, Command}
+use Rattle.lx_undo.proofs.Imports.{Edit, UndoFault, NothingToUndo, NothingToRedo, Show, Desk, step, is_edit, UndoState, last_of, replaced, with_show, undo_step}
+use Rattle.lx_undo.proofs.Imports.{record_step, back_to, forth_to, undo, redo}
+use Rattle.std.proofs.lemmas.List.{drop-append-le}
 use Rattle.lx_spec.specs.declared.Command.TheVariants as commands
-use Rattle.lx_spec.specs.declared.Edit.{Edit}
-use Rattle.lx_spec.specs.declared.UndoFault.{UndoFault}
-use Rattle.lx_spec.specs.declared.UndoFault.TheVariants.{NothingToUndo, NothingToRedo}
-use Rattle.lx_spec.specs.Show.{Show}
 use Rattle.lx_spec.specs.EditedShow.{edited}
-use Rattle.lx_spec.specs.Desk.{Desk, step}
-use Rattle.lx_spec.specs.Desk.{is_edit}
 use Rattle.lx_spec.specs.RecordedLevels.{recorded}
-use Rattle.lx_spec.specs.Undo.{UndoState, last_of, replaced, with_show, undo_step, record_step, back_to, forth_to, undo, redo}
 use Rattle.lx_spec.proofs.EditedCues.{bind_ok, ok_is}
 use Rattle.lx_undo.specs.Laws.{LawOfUndo}
 

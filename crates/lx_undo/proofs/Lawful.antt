@@ -1,19 +1,8 @@
 -- A line only adds to the text, and the line that ends the script leaves a session as it was.
-use Rattle.std.proofs.Common.{◌≡◌, ℕ, true, Option, Some, None, Result, Ok, Err, List, refl, ap, ◌∙◌}
-use Rattle.std.specs.Prelude.{is_some, if◌then◌else◌}
-use Rattle.std.specs.Option.{option_map_or}
-use Rattle.lx_spec.specs.declared.Line.{Line}
-use Rattle.lx_spec.specs.declared.Refusal.TheVariants.{Memory}
-use Rattle.lx_spec.specs.declared.UndoLine.{UndoLine}
-use Rattle.lx_spec.specs.Replies.{ok_text, refused_text}
-use Rattle.lx_spec.specs.Script.{line_of}
-use Rattle.lx_spec.specs.Session.{Session, ends_script, is_quit}
-use Rattle.lx_spec.specs.DeskSession.{begun, tried}
-use Rattle.lx_spec.specs.Undo.{UndoState}
-use Rattle.lx_spec.specs.UndoSession.{undo_line_of, undo_answer, undo_answering, asked, attempted, plain, after_asking, after_plain}
-use Rattle.lx_session.specs.LineReply.{reply_to}
-use Rattle.lx_session.specs.OneAnswer.{ExtendsText, IsLawful}
-use Rattle.lx_session.proofs.AnsweredLines.{with_reply_is}
+use Rattle.lx_undo.proofs.Imports.{◌≡◌, ℕ, true, Option, Some, None, Result, Ok, Err, List, refl, ap, ◌∙◌, is_some, if◌then◌else◌}
+use Rattle.lx_undo.proofs.Imports.{option_map_or, Line, Memory, UndoLine, ok_text, refused_text, line_of, Session, ends_script, is_quit, begun, tried}
+use Rattle.lx_undo.proofs.Imports.{UndoState, undo_line_of, undo_answer, undo_answering, asked, attempted, plain, after_asking, after_plain, reply_to}
+use Rattle.lx_undo.proofs.Imports.{ExtendsText, IsLawful, with_reply_is}
 use Rattle.lx_session.proofs.HeardLines.{quit_is}
 use Rattle.lx_undo.proofs.Lines.{quit_asks_nothing}
 use Rattle.lx_undo.proofs.LineAnswers.{plain_answer}

@@ -6,3 +6,4 @@ pub mod LineProgress
 pub mod Lines
 pub mod LineAnswers
 pub mod Lawful
+mod Imports

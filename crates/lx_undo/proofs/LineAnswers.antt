@@ -1,40 +1,17 @@
 -- A line that was done, and whose reply was put, was answered.
-use Rattle.std.proofs.Common.{◌≡◌, ℕ, ◌+◌, Bool, true, false, ◌==◌, Option, Some, None, Result, Ok, Err, OnOk, List}
-use Rattle.std.proofs.Common.{refl, sym, ap, ◌∙◌, subst, inl, inr, arith}
-use Rattle.std.specs.Prelude.{◌-◌, IfOk, is_some, not, if◌then◌else◌}
-use Rattle.std.specs.Option.{option_map_or}
-use Rattle.std.specs.Result.{IsOkAnd}
-use Rattle.std.specs.List.{list_any}
-use Rattle.std.proofs.lemmas.Bool.{cases_Bool}
+use Rattle.lx_undo.proofs.Imports.{◌≡◌, ℕ, ◌+◌, Bool, true, false, ◌==◌, Option, Some, None, Result, Ok, Err, OnOk, List, refl, sym, ap}
+use Rattle.lx_undo.proofs.Imports.{◌∙◌, subst, inl, inr, arith, ◌-◌, IfOk, is_some, not, if◌then◌else◌, option_map_or, IsOkAnd, list_any}
+use Rattle.lx_undo.proofs.Imports.{cases_Bool, Command, Line, Memory, UndoLine, Desk, Kept, is_edit, ok_text, refused_text, line_of, Session, ends_script}
+use Rattle.lx_undo.proofs.Imports.{is_quit, DeskState, Attempt, begun, after_attempts, UndoState, undo_line_of, undo_answer, undo_answering, asked, attempted}
+use Rattle.lx_undo.proofs.Imports.{plain, after_asking, after_plain, UndoMayFail, MayFailAsked, after_commands, LineProgress, reply_to, counts_after, counts_in}
+use Rattle.lx_undo.proofs.Imports.{LineState, next_of, unattempted, IsLine, OneAnswer, StandsFor, allowed_some, turn_answered, with_reply_is}
+use Rattle.lx_undo.proofs.Imports.{counted_so as counts_so, reached, HasReached, UndoKept, UndoStands}
 use Rattle.lx_io.specs.declared.sink.SinkFault.{SinkFault}
 use Rattle.lx_io.specs.Puts.{Puts}
-use Rattle.lx_spec.specs.declared.Command.{Command}
-use Rattle.lx_spec.specs.declared.Line.{Line}
-use Rattle.lx_spec.specs.declared.Refusal.TheVariants.{Memory}
-use Rattle.lx_spec.specs.declared.UndoLine.{UndoLine}
-use Rattle.lx_spec.specs.Desk.{Desk}
-use Rattle.lx_spec.specs.Kept.{Kept}
-use Rattle.lx_spec.specs.Desk.{is_edit}
-use Rattle.lx_spec.specs.Replies.{ok_text, refused_text}
-use Rattle.lx_spec.specs.Script.{line_of}
-use Rattle.lx_spec.specs.Session.{Session, ends_script, is_quit}
-use Rattle.lx_spec.specs.DeskSession.{DeskState, Attempt, begun, after_attempts}
-use Rattle.lx_spec.specs.Undo.{UndoState}
-use Rattle.lx_spec.specs.UndoSession.{undo_line_of, undo_answer, undo_answering, asked, attempted, plain, after_asking, after_plain}
-use Rattle.lx_spec.specs.UndoSession.{UndoMayFail, MayFailAsked}
 use Rattle.lx_session.specs.declared.tally.Tally.{Tally}
-use Rattle.lx_session.specs.Attempts.{after_commands}
-use Rattle.lx_session.specs.LineProgress.{LineProgress}
-use Rattle.lx_session.specs.LineReply.{reply_to, counts_after, counts_in}
-use Rattle.lx_session.specs.LineState.{LineState, next_of, unattempted}
-use Rattle.lx_session.specs.OneAnswer.{IsLine, OneAnswer}
-use Rattle.lx_console.specs.ConsoleMeaning.{StandsFor}
-use Rattle.lx_session.proofs.AnsweredLines.{allowed_some, turn_answered, with_reply_is, counted_so as counts_so}
 use Rattle.lx_undo.proofs.Lines.{goes_on}
 use Rattle.lx_undo.specs.declared.asked.Denial.{Denial}
 use Rattle.lx_undo.specs.HistoryLines.{HasAsked, denial_text, answer_text, counted_denial}
-use Rattle.lx_undo.specs.CommandProgress.{reached, HasReached}
-use Rattle.lx_undo.specs.UndoDeskMeaning.{UndoKept, UndoStands}
 
 -- the state after the line's commands, with the history
 plain_is : (s : UndoState) (t : DeskState) (done : List Command) → t.accepted ≡ done → t.desk ≡ after_commands s.desk done

@@ -1,28 +1,15 @@
 -- Commands of one line, one after another, bring a desk with its history to the state after them.
-use Rattle.std.proofs.Common.{◌≡◌, ℕ, ◌+◌, ◌-◌, ◌≤◌, ◌<◌, Bool, true, false, ◌||◌, Option, Some, None, Result, Ok, Err, List, [], ◌∷◌}
-use Rattle.std.proofs.Common.{◌++◌, length, refl, sym, ap, ◌∙◌, subst, arith, inl, inr, IsOkAnd, length-append, append-nil}
-use Rattle.std.specs.Prelude.{◌⊎◌, OnErr, IsOk, IfSome, if◌then◌else◌}
-use Rattle.std.specs.List.{list_any}
-use Rattle.std.specs.Result.{result_err, result_unwrap_or}
-use Rattle.std.proofs.lemmas.Bool.{cases_Bool}
+use Rattle.lx_undo.proofs.Imports.{◌≡◌, ℕ, ◌+◌, ◌-◌, ◌≤◌, ◌<◌, Bool, true, false, ◌||◌, Option, Some, None, Result, Ok, Err, List}
+use Rattle.lx_undo.proofs.Imports.{[], ◌∷◌, ◌++◌, length, refl, sym, ap, ◌∙◌, subst, arith, inl, inr, length-append, append-nil, ◌⊎◌}
+use Rattle.lx_undo.proofs.Imports.{OnErr, IsOk, IfSome, if◌then◌else◌, list_any, result_err, result_unwrap_or, cases_Bool, Command, Line, Refusal}
+use Rattle.lx_undo.proofs.Imports.{◌>>=◌, Desk, step, after_command, is_edit, begun, command_of, count_of, UndoState, replaced, undo_step, StandsFor}
+use Rattle.lx_undo.proofs.Imports.{Refuses, after_commands, LineState, next_of, unattempted, LineProgress, UndoKept, UndoStands, TakesUndoStep, UndoWantsMemory}
+use Rattle.lx_undo.proofs.Imports.{reached, HasReached}
+use Rattle.std.proofs.Common.{IsOkAnd}
 use Rattle.std.proofs.lemmas.List.Sums.{fold-append}
-use Rattle.lx_spec.specs.declared.Command.{Command}
 use Rattle.lx_spec.specs.declared.Command.TheVariants as commands
-use Rattle.lx_spec.specs.declared.Line.{Line}
 use Rattle.lx_spec.specs.declared.Line.TheVariants as lines
-use Rattle.lx_spec.specs.declared.Refusal.{Refusal}
-use Rattle.lx_spec.specs.FirstRefusal.{◌>>=◌}
-use Rattle.lx_spec.specs.Desk.{Desk, step, after_command}
-use Rattle.lx_spec.specs.Desk.{is_edit}
-use Rattle.lx_spec.specs.DeskSession.{begun, command_of, count_of}
-use Rattle.lx_spec.specs.Undo.{UndoState, replaced, undo_step}
-use Rattle.lx_console.specs.ConsoleMeaning.{StandsFor, Refuses}
-use Rattle.lx_session.specs.Attempts.{after_commands}
-use Rattle.lx_session.specs.LineState.{LineState, next_of, unattempted}
-use Rattle.lx_session.specs.LineProgress.{LineProgress}
 use Rattle.lx_session.proofs.AttemptSteps.{nothing_yet, next_is, attempted_at}
-use Rattle.lx_undo.specs.UndoDeskMeaning.{UndoKept, UndoStands, TakesUndoStep, UndoWantsMemory}
-use Rattle.lx_undo.specs.CommandProgress.{reached, HasReached}
 
 -- an edit is the one command of its line
 one_edit : (meaning : Option Line) (c : Command) → command_of meaning ≡ Some c → is_edit c ≡ true → count_of meaning ≤ 1

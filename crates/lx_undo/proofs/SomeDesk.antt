@@ -1,22 +1,15 @@
 -- Whatever a console keeps, it stands for some desk: one where the base was come to by a run without times.
-use Rattle.std.proofs.Common.{◌≡◌, ℕ, ◌≤◌, List, [], ◌∷◌, ◌++◌, Ok, Err, refl, ◌∙◌, ap, arith}
-use Rattle.std.specs.Prelude.{Bool, true, false, Result, OnErr, IfOk, IsOkAnd, if◌then◌else◌}
-use Rattle.std.specs.List.{AllByRecursion}
-use Rattle.lx_spec.specs.declared.Command.{Command}
+use Rattle.lx_undo.proofs.Imports.{◌≡◌, ℕ, ◌≤◌, List, [], ◌∷◌, ◌++◌, Ok, Err, refl, ◌∙◌, ap, arith, Bool, true, false, Result}
+use Rattle.lx_undo.proofs.Imports.{OnErr, IfOk, if◌then◌else◌, AllByRecursion, Command, Refusal, ◌>>=◌, is_edit, Show, Desk, step, Kept, StandsFor}
+use Rattle.lx_undo.proofs.Imports.{Answers}
+use Rattle.std.specs.Prelude.{IsOkAnd}
 use Rattle.lx_spec.specs.declared.Command.TheVariants as commands
 use Rattle.lx_spec.specs.declared.Key.TheVariants.{Play, Fader, Master}
-use Rattle.lx_spec.specs.declared.Refusal.{Refusal}
-use Rattle.lx_spec.specs.FirstRefusal.{◌>>=◌}
-use Rattle.lx_spec.specs.Desk.{is_edit}
-use Rattle.lx_spec.specs.Show.{Show}
 use Rattle.lx_spec.specs.SortedList.{has_entry}
 use Rattle.lx_spec.specs.Playback.{press, tick}
 use Rattle.lx_spec.specs.Run.{Run, no_times}
-use Rattle.lx_spec.specs.Desk.{Desk, step}
-use Rattle.lx_spec.specs.Kept.{Kept}
 use Rattle.lx_spec.specs.Laws.{IsInstant}
 use Rattle.lx_spec.proofs.Instant.{level-instant}
-use Rattle.lx_console.specs.ConsoleMeaning.{StandsFor, Answers}
 
 abbrev past : ℕ → Run
 past base = record { start = 0; cue = base; parts = no_times ∷ []; whole = true }

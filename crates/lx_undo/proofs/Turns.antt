@@ -1,19 +1,10 @@
 -- The shows that kept plans make in turn, as plans come and go.
-use Rattle.std.proofs.Common.{◌≡◌, ℕ, zero, suc, ◌-◌, List, [], ◌∷◌, ◌++◌, length, take, drop, Some, Ok, Err, refl, ◌∙◌, sym, ap, subst}
-use Rattle.std.specs.Prelude.{Option, Result, slice_get}
-use Rattle.std.specs.Option.{option_map_or}
-use Rattle.std.specs.Result.{IsOkAnd}
-use Rattle.lx_spec.specs.declared.UndoFault.{UndoFault}
-use Rattle.lx_spec.specs.declared.UndoFault.TheVariants.{NothingToUndo, NothingToRedo}
-use Rattle.lx_spec.specs.Show.{Show}
-use Rattle.lx_spec.specs.Kept.{Kept}
-use Rattle.lx_spec.specs.Undo.{UndoState, last_of, with_show, replaced, back_to, forth_to, undo, redo}
+use Rattle.lx_undo.proofs.Imports.{◌≡◌, ℕ, zero, suc, ◌-◌, List, [], ◌∷◌, ◌++◌, length, take, drop, Some, Ok, Err, refl, ◌∙◌, sym}
+use Rattle.lx_undo.proofs.Imports.{ap, subst, Option, Result, slice_get, option_map_or, IsOkAnd, UndoFault, NothingToUndo, NothingToRedo, Show, Kept, UndoState}
+use Rattle.lx_undo.proofs.Imports.{last_of, with_show, replaced, back_to, forth_to, undo, redo, planned, IsReady, StandsFor, KeptPlans, AllReady, ReadyBack}
+use Rattle.lx_undo.proofs.Imports.{ReadyForth, led_back, shows_before, shows_after, UndoKept, UndoStands, UndoSteps, seen}
 use Rattle.lx_edit.specs.declared.plans.Plan.{Plan}
-use Rattle.lx_edit.specs.PlanMeaning.{planned, IsReady}
 use Rattle.lx_edit.specs.Undone.{TakesBack}
-use Rattle.lx_console.specs.ConsoleMeaning.{StandsFor}
-use Rattle.lx_undo.specs.Shows.{KeptPlans, AllReady, ReadyBack, ReadyForth, led_back, shows_before, shows_after}
-use Rattle.lx_undo.specs.UndoDeskMeaning.{UndoKept, UndoStands, UndoSteps, seen}
 use Rattle.lx_undo.proofs.Histories.{but_last, last_is, with_first, with_last}
 
 -- One more plan behind the others.

@@ -1,15 +1,9 @@
 -- The engine's steps: a command is admitted, accepted and published.
-use Rattle.std.proofs.Common.{◌≡◌, ◌+◌, ◌-◌, ◌^◌, ◌<◌, true, List, [], ◌∷◌, ◌++◌, length, length-append, sym, ap, ◌∙◌, subst, arith}
+use Rattle.lx_workers.proofs.Imports.{◌≡◌, ◌+◌, ◌-◌, ◌^◌, ◌<◌, true, List, [], ◌∷◌, ◌++◌, length, length-append, sym, ap}
+use Rattle.lx_workers.proofs.Imports.{◌∙◌, subst, arith, Command, Show, replay, Kept, Published, IsInStep, accepted_of, leaves_room}
 use Rattle.std.proofs.lemmas.Bool.Decides.{nat_tests}
-use Rattle.lx_spec.specs.declared.Command.{Command}
-use Rattle.lx_spec.specs.Show.{Show}
-use Rattle.lx_spec.specs.Desk.{replay}
-use Rattle.lx_spec.specs.Kept.{Kept}
 use Rattle.lx_session.specs.Attempts.{AcceptedStep}
-use Rattle.lx_gate.specs.Gates.{Published}
-use Rattle.lx_gate.specs.Desks.{IsInStep}
 use Rattle.lx_gate.proofs.DeskSteps.{in_step_push}
-use Rattle.lx_workers.specs.Engines.{accepted_of, leaves_room}
 
 -- a command that is admitted can be counted
 counted : (gate : Published) (unsent : List Command) → leaves_room (accepted_of gate unsent) ≡ true

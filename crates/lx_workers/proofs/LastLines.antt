@@ -1,18 +1,8 @@
 -- The last take of a worker, after its note.
-use Rattle.std.proofs.Common.{◌≡◌, ℕ, List, [], ◌∷◌, length, Option, Some, true, inl, sym, ap, ◌∙◌, subst, arith}
-use Rattle.std.specs.Prelude.{is_some}
-use Rattle.std.specs.Io.KnownBytes.{Appends}
-use mathlib.Core.List.{IsPrefix}
-use Rattle.lx_io.specs.declared.sink.SinkFault.{SinkFault}
-use Rattle.lx_spec.specs.declared.Command.{Command}
-use Rattle.lx_spec.specs.Show.{Show}
-use Rattle.lx_gate.specs.CommandLists.{IsChained}
-use Rattle.lx_gate.specs.Readings.{Told, Tapped, newest, HasLearnt}
-use Rattle.lx_gate.proofs.Prefixes.{prefix_self, prefix_trans, prefix_whole}
-use Rattle.lx_workers.specs.declared.worker.Served.{Served}
-use Rattle.lx_spec.specs.Versions.{outlet_text, Falling}
-use Rattle.lx_workers.specs.Lines.{newest_count, HasWritten, HasWrittenPart}
-use Rattle.lx_workers.specs.Works.{HasServed, HasStepped, HasAll, HasOutletPart, Delivered}
+use Rattle.lx_workers.proofs.Imports.{◌≡◌, ℕ, List, [], ◌∷◌, length, Option, Some, true, inl, sym, ap, ◌∙◌, subst, arith, is_some, Appends}
+use Rattle.lx_workers.proofs.Imports.{IsPrefix, SinkFault, Command, Show, IsChained, Told, Tapped, newest, HasLearnt, prefix_self, prefix_trans, prefix_whole}
+use Rattle.lx_workers.proofs.Imports.{Served, outlet_text, Falling, newest_count, HasWritten, HasWrittenPart, HasServed, HasStepped, HasAll, HasOutletPart}
+use Rattle.lx_workers.proofs.Imports.{Delivered}
 use Rattle.lx_workers.proofs.WrittenLines.{goes_on, part_on}
 use Rattle.lx_workers.proofs.TapSteps.{learnt_begins, count_on}
 

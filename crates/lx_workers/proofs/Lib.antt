@@ -5,3 +5,4 @@ pub mod LastLines
 mod Runs
 mod PlacesKept
 mod EngineSteps
+mod Imports

@@ -1,19 +1,10 @@
 -- Places, and what stands in them.
-use Rattle.std.proofs.Common.{◌≡◌, ◌≢◌, ◌⊎◌, inl, inr, ℕ, zero, suc, ◌+◌, ◌-◌, ◌<◌, ◌≤◌, List, [], ◌∷◌, ◌++◌, length, replicate, Some, None}
-use Rattle.std.proofs.Common.{set, slice_get, IsSome, IsSomeAnd, refl, sym, ap, ◌∙◌, subst, arith, append_assoc, length-append}
+use Rattle.lx_workers.proofs.Imports.{◌≡◌, ◌≢◌, ◌⊎◌, inl, inr, ℕ, zero, suc, ◌+◌, ◌-◌, ◌<◌, ◌≤◌, List, [], ◌∷◌}
+use Rattle.lx_workers.proofs.Imports.{◌++◌, length, replicate, Some, None, set, slice_get, IsSome, IsSomeAnd, refl, sym, ap, ◌∙◌, subst, arith}
+use Rattle.lx_workers.proofs.Imports.{append_assoc, length-append, slice_get_within, same_Some, IsPrefix, SinkFault, Command, Show, EachAt, Tapped, prefix_get}
+use Rattle.lx_workers.proofs.Imports.{Served, HasServed, Delivered, IsFull, IsTaken, IsGiven, OutletIsBack}
 use Rattle.std.specs.declared.option.Option.{Option}
 use Rattle.std.specs.List.{AllZip}
-use Rattle.std.proofs.lemmas.Option.{slice_get_within, same_Some}
-use mathlib.Core.List.{IsPrefix}
-use Rattle.lx_io.specs.declared.sink.SinkFault.{SinkFault}
-use Rattle.lx_spec.specs.declared.Command.{Command}
-use Rattle.lx_spec.specs.Show.{Show}
-use Rattle.lx_base.specs.Places.{EachAt}
-use Rattle.lx_gate.specs.Readings.{Tapped}
-use Rattle.lx_gate.proofs.Prefixes.{prefix_get}
-use Rattle.lx_workers.specs.declared.worker.Served.{Served}
-use Rattle.lx_workers.specs.Works.{HasServed, Delivered}
-use Rattle.lx_workers.specs.Places.{IsFull, IsTaken, IsGiven, OutletIsBack}
 
 pub get-set_same : {X : Type 0} (xs : List X) (i : ℕ) (w : X) → i < length xs → slice_get (set xs i w) i ≡ Some w
 get-set_same [] i w h = absurd (omega arith)

@@ -1,23 +1,17 @@
 -- A session whose accepted commands are published, from the opening to its end.
-use Rattle.std.proofs.Common.{◌≡◌, ℕ, Bool, List, [], ◌++◌, Option, Some, None, Result, Ok, Err, IfSome, IsSomeAnd, refl, sym, ap}
-use Rattle.std.proofs.Common.{◌∙◌, subst, arith, append-nil}
+use Rattle.lx_workers.proofs.Imports.{◌≡◌, ℕ, Bool, List, [], ◌++◌, Option, Some, None, Result, Ok, Err, IfSome, IsSomeAnd, refl, sym, ap}
+use Rattle.lx_workers.proofs.Imports.{◌∙◌, subst, arith, append-nil, Command, Show, Desk, opened, Kept, Published, IsInStep, accepted_of, leaves_room}
+use Rattle.lx_workers.proofs.Imports.{HasAccepted, HasRun}
 use Rattle.lx_lex.specs.declared.lines.Lines.{Lines}
 use Rattle.lx_lex.specs.Unread.{bytes_taken, source_left, unread}
-use Rattle.lx_spec.specs.declared.Command.{Command}
-use Rattle.lx_spec.specs.Show.{Show}
-use Rattle.lx_spec.specs.Desk.{Desk, opened}
 use Rattle.lx_spec.specs.DeskSession.{DeskState, begun, desk_answering}
-use Rattle.lx_spec.specs.Kept.{Kept}
 use Rattle.lx_console.specs.ConsoleMeaning.{StandsFor}
 use Rattle.lx_session.specs.declared.fault.SessionFault.{SessionFault}
 use Rattle.lx_session.specs.declared.tally.Tally.{Tally}
 use Rattle.lx_session.specs.Listening.{HasDone}
 use Rattle.lx_session.specs.ScriptAnswer.{ScriptAnswered}
 use Rattle.lx_session.proofs.ScriptEnds.{stands_as}
-use Rattle.lx_gate.specs.Gates.{Published}
-use Rattle.lx_gate.specs.Desks.{IsInStep}
 use Rattle.lx_gate.proofs.UnsentCommands.{entered_none}
-use Rattle.lx_workers.specs.Engines.{accepted_of, leaves_room, HasAccepted, HasRun}
 
 -- what says of commands that they were heard of says something else of them
 abbrev Says : (List Command → Type 0) → (List Command → Type 0) → Type 0

@@ -1,12 +1,7 @@
 -- What a tap keeps grows.
-use Rattle.std.proofs.Common.{◌≡◌, ℕ, ◌⊎◌, inl, inr, ⊎_elim, ◌≤◌, ◌+◌, ◌-◌, ◌^◌, min, Bool, true, false, cond, ltb, List, length, sym, ap, subst, arith}
-use mathlib.Core.List.{IsPrefix}
-use Rattle.lx_io.specs.Causes.{Rose, one_more}
-use Rattle.lx_spec.specs.declared.Command.{Command}
-use Rattle.lx_gate.specs.CommandLists.{longest, IsChained}
-use Rattle.lx_gate.specs.Readings.{Told, newest, HasReadOn, HasMissed, HasLearnt}
-use Rattle.lx_gate.proofs.Prefixes.{prefix_self, prefix_trans}
-use Rattle.lx_workers.specs.Works.{HasLooked, HasTakenTimes, RoseOrSame}
+use Rattle.lx_workers.proofs.Imports.{◌≡◌, ℕ, ◌⊎◌, inl, inr, ⊎_elim, ◌≤◌, ◌+◌, ◌-◌, ◌^◌, min, Bool, true, false, cond, ltb}
+use Rattle.lx_workers.proofs.Imports.{List, length, sym, ap, subst, arith, IsPrefix, Rose, one_more, Command, longest, IsChained, Told, newest, HasReadOn}
+use Rattle.lx_workers.proofs.Imports.{HasMissed, HasLearnt, prefix_self, prefix_trans, HasLooked, HasTakenTimes, RoseOrSame}
 
 by_test : (b : Bool) (xs ys top : List Command) → IsPrefix xs top → IsPrefix ys top → IsPrefix (cond b ys xs) top
 by_test true xs ys top p q = q

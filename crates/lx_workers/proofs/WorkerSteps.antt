@@ -1,21 +1,9 @@
 -- A step of a worker: one take, and perhaps a line.
-use Rattle.std.proofs.Common.{◌≡◌, ℕ, ◌<◌, ◌≤◌, ◌+◌, ◌-◌, ◌^◌, min, List, [], length, Option, Some, None, Err, IfSome, IsSomeAnd, inl, refl}
-use Rattle.std.proofs.Common.{sym, ap, ◌∙◌, subst, arith}
-use mathlib.Core.List.{IsPrefix}
-use Rattle.std.specs.Io.KnownBytes.{Appends}
-use Rattle.lx_io.specs.declared.sink.SinkFault.{SinkFault}
+use Rattle.lx_workers.proofs.Imports.{◌≡◌, ℕ, ◌<◌, ◌≤◌, ◌+◌, ◌-◌, ◌^◌, min, List, [], length, Option, Some, None, Err, IfSome}
+use Rattle.lx_workers.proofs.Imports.{IsSomeAnd, inl, refl, sym, ap, ◌∙◌, subst, arith, IsPrefix, Appends, SinkFault, one_more, HasSinkCause, Puts}
+use Rattle.lx_workers.proofs.Imports.{same_Some, Show, Stamp, IsFrame, Tapped, newest, prefix_self, prefix_trans, Served, stamped_line, HasFault}
+use Rattle.lx_workers.proofs.Imports.{HasWrittenPart, HasServed, HasStepped}
 use Rattle.lx_io.specs.declared.sink.SinkFault.TheVariants.{Failed, Memory}
-use Rattle.lx_io.specs.Causes.{one_more}
-use Rattle.lx_io.specs.Puts.{HasSinkCause, Puts}
-use Rattle.std.proofs.lemmas.Option.{same_Some}
-use Rattle.lx_spec.specs.Show.{Show}
-use Rattle.lx_gate.specs.declared.stamp.Stamp.{Stamp}
-use Rattle.lx_gate.specs.Frames.{IsFrame}
-use Rattle.lx_gate.specs.Readings.{Tapped, newest}
-use Rattle.lx_gate.proofs.Prefixes.{prefix_self, prefix_trans}
-use Rattle.lx_workers.specs.declared.worker.Served.{Served}
-use Rattle.lx_workers.specs.Lines.{stamped_line, HasFault, HasWrittenPart}
-use Rattle.lx_workers.specs.Works.{HasServed, HasStepped}
 use Rattle.lx_workers.proofs.WrittenLines.{goes_on, adds_line, adds_part, last_stays, none_written}
 use Rattle.lx_workers.proofs.TapSteps.{HasTaken, count_on, takes_on}
 

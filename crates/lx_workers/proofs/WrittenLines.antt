@@ -1,23 +1,15 @@
 -- Lines that are added to those of rising lists.
-use Rattle.std.proofs.Common.{◌≡◌, ℕ, ◌<◌, ◌+◌, ◌-◌, ◌^◌, min, List, [], ◌∷◌, ◌++◌, length, take, Option, Some, None, Result, Ok, Err, IfSome}
-use Rattle.std.proofs.Common.{IsSomeAnd, ◌≤◌, refl, sym, ap, ◌∙◌, subst, append-nil, arith}
-use Rattle.std.specs.Prelude.{reverse}
-use mathlib.Core.List.{IsPrefix, reverse-cons}
-use Rattle.std.specs.Io.KnownBytes.{Appends, Keeps}
+use Rattle.lx_workers.proofs.Imports.{◌≡◌, ℕ, ◌<◌, ◌+◌, ◌-◌, ◌^◌, min, List, [], ◌∷◌, ◌++◌, length, take, Option, Some, None}
+use Rattle.lx_workers.proofs.Imports.{Result, Ok, Err, IfSome, IsSomeAnd, ◌≤◌, refl, sym, ap, ◌∙◌, subst, append-nil, arith, reverse, IsPrefix}
+use Rattle.lx_workers.proofs.Imports.{reverse-cons, Appends, Keeps, SinkFault, AppendsFront, HasSinkCause, Puts, Show, Command, version_text, versions_text}
+use Rattle.lx_workers.proofs.Imports.{Stamp, IsFrame, prefix_self, prefix_trans, prefix_length, Older, Falling, newest_count, HasWritten, HasWrittenPart}
 use Rattle.std.proofs.KnownBytes.{Appends-nil, Appends-trans, Appends-kept}
 use Rattle.std.proofs.Math.Seq.{take-append-add, take-length}
 use Rattle.std.proofs.lemmas.Grind.{flat_map-append}
-use Rattle.lx_io.specs.declared.sink.SinkFault.{SinkFault}
-use Rattle.lx_io.specs.Puts.{AppendsFront, HasSinkCause, Puts}
 use Rattle.lx_io.proofs.Chain.{AppendsFront-is, AppendsFront-from}
-use Rattle.lx_spec.specs.Show.{Show}
-use Rattle.lx_spec.specs.declared.Command.{Command}
-use Rattle.lx_spec.specs.Versions.{version_text, versions_text}
-use Rattle.lx_gate.specs.declared.stamp.Stamp.{Stamp}
-use Rattle.lx_gate.specs.Frames.{IsFrame, frame_after, moment_after}
-use Rattle.lx_gate.proofs.Prefixes.{prefix_self, prefix_trans, prefix_length}
-use Rattle.lx_spec.specs.Versions.{outlet_text, Older, Falling}
-use Rattle.lx_workers.specs.Lines.{stamped_line, newest_count, HasWritten, HasWrittenPart}
+use Rattle.lx_gate.specs.Frames.{frame_after, moment_after}
+use Rattle.lx_spec.specs.Versions.{outlet_text}
+use Rattle.lx_workers.specs.Lines.{stamped_line}
 
 versions-append : (show : Show) (u : ℕ) (xs ys : List (List Command))
     → versions_text show u (xs ++ ys) ≡ versions_text show u xs ++ versions_text show u ys

@@ -1,2 +1,3 @@
 pub mod TextPieces
 pub mod ReadyParts
+mod Imports

@@ -1,9 +1,7 @@
 -- The rows of the table of ready ends of lines.
-use Rattle.std.proofs.Common.{◌≡◌, ℕ, ◌<◌, List, [], ◌∷◌, ◌++◌, get_or, map, take, refl, ap, ◌∙◌, arith}
-use Rattle.std.specs.Prelude.{codes}
+use Rattle.lx_writer.proofs.Imports.{◌≡◌, ℕ, ◌<◌, List, [], ◌∷◌, ◌++◌, get_or, map, take, refl, ap, ◌∙◌, arith, codes, level_text}
 use Rattle.std.specs.List.{range_with_len}
 use Rattle.std.proofs.lemmas.List.FromFn.{get_or-map-range_with_len}
-use Rattle.lx_spec.specs.Numerals.{level_text}
 use Rattle.lx_writer.specs.declared.rows.TheConstants.{LEVELS}
 
 abbrev level_words : ℕ → List (List ℕ)

@@ -1,15 +1,12 @@
 -- Texts with a piece for each element, or for each that passes a test.
-use Rattle.std.proofs.Common.{◌≡◌, ℕ, ◌+◌, ◌-◌, ◌<◌, ◌≤◌, Bool, true, false, List, [], ◌∷◌, ◌++◌, length, get_or, take, drop, take-append-drop}
-use Rattle.std.proofs.Common.{refl, sym, ap, ◌∙◌, append_assoc, append-nil, cond, arith}
-use Rattle.std.specs.Prelude.{filter, flat_map, codes, decimal, slice_range}
+use Rattle.lx_writer.proofs.Imports.{◌≡◌, ℕ, ◌+◌, ◌-◌, ◌<◌, ◌≤◌, Bool, true, false, List, [], ◌∷◌, ◌++◌, length, get_or}
+use Rattle.lx_writer.proofs.Imports.{take, drop, take-append-drop, refl, sym, ap, ◌∙◌, append_assoc, append-nil, cond, arith, filter, flat_map, codes}
+use Rattle.lx_writer.proofs.Imports.{decimal, slice_range, take-take, length-take-le, length-append, PatchRow, Move, at_text, patch_text, move_text}
+use Rattle.lx_writer.proofs.Imports.{shifted_line}
 use Rattle.std.proofs.lemmas.Grind.{flat_map-append}
 use Rattle.std.proofs.lemmas.List.Elements.{filter-append}
-use Rattle.std.proofs.lemmas.List.{take_more, take-take, length-take-le, length-append}
+use Rattle.std.proofs.lemmas.List.{take_more}
 use Rattle.std.proofs.Math.Seq.{take-add, take-append_seam}
-use Rattle.lx_spec.specs.declared.PatchRow.{PatchRow}
-use Rattle.lx_spec.specs.declared.Move.{Move}
-use Rattle.lx_spec.specs.ShowText.{at_text, patch_text, move_text}
-use Rattle.lx_writer.specs.ShiftedLines.{shifted_line}
 
 -- one piece more, and the pieces around it
 pub pieces_more : {A : Type 0} (f : A → List ℕ) (xs : List A) (i : ℕ) (x : A) → i < length xs → x ≡ get_or xs i x

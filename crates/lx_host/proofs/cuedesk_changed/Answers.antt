@@ -1,6 +1,5 @@
-use Rattle.std.proofs.Common.{Option, Some, sym, subst}
-use Rattle.lx_embed.specs.declared.desk.HostDesk.{HostDesk}
-use Rattle.lx_host.specs.Calls.{TellsChange}
+use Rattle.lx_host.proofs.Imports.{sym, subst, HostDesk, TellsChange}
+use Rattle.std.proofs.Common.{Option, Some}
 use Rattle.lx_host.proofs.cuedesk_changed.Goals as goal
 
 pub returns-in-Some-clause-changed : goal.returns-in-Some-clause-changed

@@ -1,6 +1,5 @@
-use Rattle.std.proofs.Common.{rules, ◌≡◌, Option, Some, sym, subst}
-use Rattle.lx_embed.specs.declared.desk.HostDesk.{HostDesk}
-use Rattle.lx_host.specs.Calls.{Shows, ShowsFrame}
+use Rattle.lx_host.proofs.Imports.{rules, ◌≡◌, sym, subst, HostDesk, Shows, ShowsFrame}
+use Rattle.std.proofs.Common.{Option, Some}
 use Rattle.lx_host.proofs.cuedesk_frame.Goals as goal
 
 pub returns-then-copied-clause-frame : goal.returns-then-copied-clause-frame

@@ -1,6 +1,4 @@
-use Rattle.std.proofs.Common.{◌≡◌, ◌∙◌, sym, ap, subst}
-use Rattle.lx_spec.specs.declared.Form.{Form}
-use Rattle.lx_host.specs.Calls.{form_of_flag, Refused}
+use Rattle.lx_host.proofs.Imports.{◌≡◌, ◌∙◌, sym, ap, subst, Form, form_of_flag, Refused}
 use Rattle.lx_host.proofs.Told.{refused_told, long_told}
 use Rattle.lx_host.proofs.open_with.Goals as goal
 

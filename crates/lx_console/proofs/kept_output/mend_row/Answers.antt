@@ -1,4 +1,4 @@
-use Rattle.std.proofs.Common.{sym}
+use Rattle.lx_console.proofs.Imports.{sym}
 use Rattle.lx_console.proofs.TakenRows.{row_set, row_cleared}
 use Rattle.lx_console.proofs.kept_output.mend_row.Goals as goal
 

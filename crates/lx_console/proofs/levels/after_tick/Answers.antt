@@ -1,4 +1,4 @@
-use Rattle.std.proofs.Common.{◌∙◌, sym}
+use Rattle.lx_console.proofs.Imports.{◌∙◌, sym}
 use Rattle.lx_console.proofs.RunChanges.{stands_started, stands_same}
 use Rattle.lx_console.proofs.levels.after_tick.Goals as goal
 

@@ -1,5 +1,4 @@
-use Rattle.std.proofs.Common.{◌≡◌, ℕ, ◌<◌, length}
-use Rattle.lx_levels.specs.LevelsMeaning.{StackStandsAt}
+use Rattle.lx_console.proofs.Imports.{◌≡◌, ℕ, ◌<◌, length, StackStandsAt}
 use Rattle.lx_console.proofs.levels.recompute_all.Given as goal
 
 abbrev pub invariant-loop-k : goal.invariant-loop-k

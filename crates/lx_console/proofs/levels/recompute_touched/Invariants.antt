@@ -1,6 +1,4 @@
-use Rattle.std.proofs.Common.{◌≡◌, ℕ, ◌+◌, ◌-◌, ◌<◌, ◌≤◌, false, length}
-use Rattle.lx_edit.specs.ChanSet.{has_chan}
-use Rattle.lx_levels.specs.LevelsMeaning.{StackStandsAt}
+use Rattle.lx_console.proofs.Imports.{◌≡◌, ℕ, ◌+◌, ◌-◌, ◌<◌, ◌≤◌, false, length, has_chan, StackStandsAt}
 use Rattle.lx_console.proofs.levels.recompute_touched.Given as goal
 
 abbrev pub invariant-loop-k : goal.invariant-loop-k

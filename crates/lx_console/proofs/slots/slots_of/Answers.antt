@@ -1,4 +1,4 @@
-use Rattle.std.proofs.Common.{◌≡◌, ◌-◌, ◌+◌, ◌*◌, ap, arith, take, drop}
+use Rattle.lx_console.proofs.Imports.{◌≡◌, ◌-◌, ◌+◌, ◌*◌, ap, arith, take, drop}
 use Rattle.lx_console.proofs.slots.slots_of.Goals as goal
 
 pub returns-clause-slots : goal.returns-clause-slots

@@ -1,4 +1,4 @@
-use Rattle.lx_playback.specs.Told.{run_made}
+use Rattle.lx_console.proofs.Imports.{run_made}
 use Rattle.lx_console.proofs.RunChanges.{stands_before, not_both}
 use Rattle.lx_console.proofs.ticks.press_key.Goals as goal
 

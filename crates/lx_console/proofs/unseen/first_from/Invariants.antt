@@ -1,6 +1,4 @@
-use Rattle.std.proofs.Common.{ℕ, ◌<◌}
-use Rattle.std.specs.Prelude.{slice_index_or}
-use Rattle.lx_console.specs.UnseenEdits.{IsFrom}
+use Rattle.lx_console.proofs.Imports.{ℕ, ◌<◌, slice_index_or, IsFrom}
 use Rattle.lx_console.proofs.Apart.{no_run}
 use Rattle.lx_console.proofs.unseen.first_from.Given as goal
 

@@ -1,10 +1,5 @@
-use Rattle.std.proofs.Common.{◌≤◌, ℕ, List, sym, subst}
-use Rattle.lx_spec.specs.declared.Move.{Move}
-use Rattle.lx_edit.specs.declared.plans.Plan.{Plan}
-use Rattle.lx_edit.specs.PlanMeaning.{IsReady, planned, with_move}
+use Rattle.lx_console.proofs.Imports.{◌≤◌, ℕ, List, sym, subst, Move, Plan, IsReady, planned, with_move, Show, Valid, PlacesCue}
 use Rattle.lx_edit.proofs.PlacedMoves.{changed_is, moved, moved_all, moved_is}
-use Rattle.lx_spec.specs.Show.{Show, Valid}
-use Rattle.lx_console.specs.UnseenEdits.{PlacesCue}
 use Rattle.lx_console.proofs.unseen.placed_alone.Goals as goal
 
 pub returns-in-Move : goal.returns-in-Move

@@ -1,10 +1,5 @@
-use Rattle.std.proofs.Common.{◌≡◌, ℕ, ◌⊎◌, inl, inr, false, List, sym, subst, ap, ◌∙◌}
-use Rattle.std.specs.Prelude.{Option, take}
-use Rattle.std.specs.Option.{IsSomeAnd}
-use Rattle.lx_spec.specs.SortedList.{entries_above}
-use Rattle.lx_spec.specs.Show.{Cue}
-use Rattle.lx_edit.specs.ChanSet.{has_chan}
-use Rattle.lx_console.specs.UnseenEdits.{IsUnseen, decided_at}
+use Rattle.lx_console.proofs.Imports.{◌≡◌, ℕ, ◌⊎◌, inl, inr, false, List, sym, subst, ap, ◌∙◌, Option, take, IsSomeAnd, entries_above, Cue}
+use Rattle.lx_console.proofs.Imports.{has_chan, IsUnseen, decided_at}
 use Rattle.lx_console.proofs.Apart.{unseen_by}
 use Rattle.lx_console.proofs.unseen.seen.Goals as goal
 

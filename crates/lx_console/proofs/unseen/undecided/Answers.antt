@@ -1,6 +1,4 @@
-use Rattle.std.proofs.Common.{◌≡◌, ◌-◌, ◌+◌, ◌⊎◌, false, arith, subst}
-use Rattle.lx_edit.specs.ChanSet.{has_chan}
-use Rattle.lx_console.specs.UnseenEdits.{decided_at}
+use Rattle.lx_console.proofs.Imports.{◌≡◌, ◌-◌, ◌+◌, ◌⊎◌, false, arith, subst, has_chan, decided_at}
 use Rattle.lx_console.proofs.unseen.undecided.Goals as goal
 
 pub returns : goal.returns

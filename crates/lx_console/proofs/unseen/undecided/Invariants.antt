@@ -1,6 +1,4 @@
-use Rattle.std.proofs.Common.{◌≡◌, ℕ, ◌<◌, ◌⊎◌, false, ◌+◌, ◌-◌}
-use Rattle.lx_edit.specs.ChanSet.{has_chan}
-use Rattle.lx_console.specs.UnseenEdits.{decided_at}
+use Rattle.lx_console.proofs.Imports.{◌≡◌, ℕ, ◌<◌, ◌⊎◌, false, ◌+◌, ◌-◌, has_chan, decided_at}
 use Rattle.lx_console.proofs.unseen.undecided.Given as goal
 
 abbrev pub invariant-loop-k : goal.invariant-loop-k

@@ -1,5 +1,4 @@
-use Rattle.std.proofs.Common.{Some, ap, ◌∙◌}
-use Rattle.std.specs.Prelude.{option_copied}
+use Rattle.lx_crew.proofs.Imports.{Some, ap, ◌∙◌, option_copied}
 use Rattle.lx_crew.proofs.AnswerProgress.{IsSaid, said_text, said_long, none_is, answered_entry}
 use Rattle.lx_crew.proofs.answering.answer_entry.Goals as goal
 use Rattle.lx_crew.proofs.answering.answer_entry.Goals.{in-Line, in-LongLine}

@@ -1,7 +1,4 @@
-use Rattle.std.proofs.Common.{inl, inr, []}
-use Rattle.lx_spec.specs.CrewText.{op_text}
-use Rattle.lx_spec.specs.Session.{with_text}
-use Rattle.lx_crew.specs.EngineAnswers.{named_line}
+use Rattle.lx_crew.proofs.Imports.{inl, inr, [], op_text, with_text, named_line}
 use Rattle.lx_crew.proofs.answering.answer_line.Goals as goal
 
 pub returns-in_err-put_name-clause-answered : goal.returns-in_err-put_name-clause-answered

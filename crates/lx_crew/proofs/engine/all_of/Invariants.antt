@@ -1,4 +1,4 @@
-use Rattle.std.proofs.Common.{◌≡◌, ◌<◌, ℕ, true, slice_get, Some}
+use Rattle.lx_crew.proofs.Imports.{◌≡◌, ◌<◌, ℕ, true, slice_get, Some}
 use Rattle.lx_crew.proofs.engine.all_of.Given as goal
 
 abbrev pub invariant-loop-place : goal.invariant-loop-place

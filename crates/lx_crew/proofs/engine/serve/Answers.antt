@@ -1,5 +1,4 @@
-use Rattle.std.proofs.Common.{rules, [], ◌∷◌, ◌++◌, slice_get, ap, sym, ◌∙◌, arith}
-use Rattle.lx_spec.specs.Session.{Counts}
+use Rattle.lx_crew.proofs.Imports.{rules, [], ◌∷◌, ◌++◌, slice_get, ap, sym, ◌∙◌, arith, Counts}
 use Rattle.lx_crew.proofs.AnswerProgress.{answered_none}
 use Rattle.lx_crew.proofs.EngineSteps.{takes_on, ended_on, cause_none, cause_then, answered_same}
 use Rattle.lx_crew.proofs.engine.serve.Goals as goal

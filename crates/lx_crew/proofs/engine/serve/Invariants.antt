@@ -1,11 +1,5 @@
-use Rattle.std.proofs.Common.{◌≡◌, ◌≤◌, ◌+◌, ◌-◌, ◌^◌, ℕ, List, [], true, None, slice_get, Some}
-use Rattle.crossbeam_queue.specs.Passes.{view, IsSamePass}
-use Rattle.lx_spec.specs.Desk.{Desk}
-use Rattle.lx_console.specs.ConsoleMeaning.{StandsFor}
-use Rattle.lx_crew.specs.declared.entry.Entry.{Entry}
-use Rattle.lx_crew.specs.Entries.{of_place, has_last}
-use Rattle.lx_crew.specs.Rule.{engine_view}
-use Rattle.lx_crew.specs.EngineAnswers.{HasAnswered, OutputCause}
+use Rattle.lx_crew.proofs.Imports.{◌≡◌, ◌≤◌, ◌+◌, ◌-◌, ◌^◌, ℕ, List, [], true, None, slice_get, Some, view, IsSamePass, Desk}
+use Rattle.lx_crew.proofs.Imports.{StandsFor, Entry, of_place, has_last, engine_view, HasAnswered, OutputCause}
 use Rattle.lx_crew.proofs.engine.serve.Given as goal
 
 abbrev pub invariant-loop : goal.invariant-loop

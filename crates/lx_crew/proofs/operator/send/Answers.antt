@@ -1,4 +1,4 @@
-use Rattle.std.proofs.Common.{◌+◌, ap, ◌∙◌, sym, length}
+use Rattle.lx_crew.proofs.Imports.{◌+◌, ap, ◌∙◌, sym, length}
 use Rattle.lx_crew.proofs.Rules.{sends}
 use Rattle.lx_crew.proofs.operator.send.Goals as goal
 

@@ -1,5 +1,4 @@
-use Rattle.std.proofs.Common.{◌≡◌}
-use Rattle.crossbeam_queue.specs.Passes.{view, IsSamePass}
+use Rattle.lx_crew.proofs.Imports.{◌≡◌, view, IsSamePass}
 use Rattle.lx_crew.proofs.operator.send.Given as goal
 
 abbrev pub invariant-loop : goal.invariant-loop

@@ -1,8 +1,4 @@
-use Rattle.std.proofs.Common.{rules, ◌≡◌, ◌+◌, length, ap, sym, refl, ◌∙◌, subst, None, arith}
-use Rattle.std.proofs.lemmas.List.{length_push}
-use Rattle.crossbeam_queue.specs.Passes.{view}
-use Rattle.lx_crew.specs.declared.rule.View.{View}
-use Rattle.lx_crew.specs.SentLines.{HasSentLines}
+use Rattle.lx_crew.proofs.Imports.{rules, ◌≡◌, ◌+◌, length, ap, sym, refl, ◌∙◌, subst, None, arith, length_push, view, View, HasSentLines}
 use Rattle.lx_crew.proofs.SentLines.{sent_none, sent_more, sent_all, sent_to_quit, next_number, goes_on, quits, ends_so}
 use Rattle.lx_crew.proofs.operator.send_lines.Goals as goal
 

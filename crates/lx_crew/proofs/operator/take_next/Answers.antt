@@ -1,5 +1,4 @@
-use Rattle.std.proofs.Common.{◌∙◌}
-use Rattle.lx_lex.proofs.HandingOut.{handed_one}
+use Rattle.lx_crew.proofs.Imports.{◌∙◌, handed_one}
 use Rattle.lx_crew.proofs.operator.take_next.Goals as goal
 
 pub returns-in-Line-clause-took : goal.returns-in-Line-clause-took

@@ -1,8 +1,4 @@
-use Rattle.std.proofs.Common.{◌≡◌, [], length, slice_get, Some, ap, sym, subst, ◌∙◌, arith}
-use Rattle.std.proofs.lemmas.Slice.Zip.{AllZip-long}
-use Rattle.lx_crew.specs.declared.rule.View.{View}
-use Rattle.lx_base.specs.Places.{EachAt}
-use Rattle.lx_crew.specs.Rule.{Learned, engine_view}
+use Rattle.lx_crew.proofs.Imports.{◌≡◌, [], length, slice_get, Some, ap, sym, subst, ◌∙◌, arith, AllZip-long, View, EachAt, Learned, engine_view}
 use Rattle.lx_crew.proofs.Crews.{crewed}
 use Rattle.lx_crew.proofs.Rules.{begins, totals}
 use Rattle.lx_crew.proofs.Works.{ready_all, works_back, after_release, carries, retired, retired_works}

@@ -1,10 +1,5 @@
-use Rattle.std.proofs.Common.{rules, ◌≡◌, ◌+◌, ◌<◌, ℕ, [], length, refl, ap, sym}
-use Rattle.std.proofs.Common.{◌∙◌, length-set, arith}
-use Rattle.std.proofs.lemmas.List.{length_push}
-use Rattle.crossbeam_queue.specs.Passes.{IsPassOf}
-use Rattle.lx_crew.specs.declared.rule.View.{View}
-use Rattle.lx_crew.specs.Rule.{engine_view, operator_view}
-use Rattle.lx_crew.specs.OperatorWorks.{Hired}
+use Rattle.lx_crew.proofs.Imports.{rules, ◌≡◌, ◌+◌, ◌<◌, ℕ, [], length, refl, ap, sym, ◌∙◌, length-set, arith, length_push, IsPassOf}
+use Rattle.lx_crew.proofs.Imports.{View, engine_view, operator_view, Hired}
 use Rattle.lx_crew.proofs.Rules.{forks}
 use Rattle.lx_base.proofs.Places.{each_snoc}
 use Rattle.lx_crew.proofs.Works.{get_else, some_there, not_none, source_is}

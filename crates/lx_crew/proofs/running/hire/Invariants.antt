@@ -1,8 +1,5 @@
-use Rattle.std.proofs.Common.{◌≡◌, ◌≤◌, ℕ, [], length, slice_get, vec_len, vec_capacity}
-use Rattle.crossbeam_queue.specs.Passes.{view, IsPassOf, IsSamePass}
-use Rattle.lx_crew.specs.Rule.{engine_view}
-use Rattle.lx_base.specs.Places.{EachAt}
-use Rattle.lx_crew.specs.OperatorWorks.{Hired}
+use Rattle.lx_crew.proofs.Imports.{◌≡◌, ◌≤◌, ℕ, [], length, slice_get, vec_len, vec_capacity, view, IsPassOf, IsSamePass, engine_view, EachAt}
+use Rattle.lx_crew.proofs.Imports.{Hired}
 use Rattle.lx_crew.proofs.running.hire.Given as goal
 
 abbrev pub invariant-loop-place : goal.invariant-loop-place

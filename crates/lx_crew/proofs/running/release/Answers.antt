@@ -1,13 +1,5 @@
-use Rattle.std.proofs.Common.{rules, ◌≡◌, ◌+◌, ◌≤◌, ℕ, zero, suc, List, [], ◌++◌, ◌∷◌, length, map, Some}
-use Rattle.std.proofs.Common.{None, slice_get, refl, ap, sym, ◌∙◌, length-set}
-use Rattle.std.proofs.Common.{arith}
-use Rattle.std.proofs.lemmas.List.{length_push}
-use Rattle.std.proofs.lemmas.Option.{slice_get_within}
-use Rattle.crossbeam_queue.specs.Passes.{view}
-use Rattle.lx_crew.specs.declared.entry.Entry.{Entry}
-use Rattle.lx_crew.specs.declared.operator.Operator.{Operator}
-use Rattle.lx_crew.specs.declared.rule.View.{View}
-use Rattle.lx_crew.specs.OperatorWorks.{owned}
+use Rattle.lx_crew.proofs.Imports.{rules, ◌≡◌, ◌+◌, ◌≤◌, ℕ, zero, suc, List, [], ◌++◌, ◌∷◌, length, map, Some, None, slice_get}
+use Rattle.lx_crew.proofs.Imports.{refl, ap, sym, ◌∙◌, length-set, arith, length_push, slice_get_within, view, Entry, Operator, View, owned}
 use Rattle.lx_crew.proofs.Rules.{merges}
 use Rattle.lx_crew.proofs.Works.{each_init, map_snoc, told_more, none_more}
 use Rattle.lx_crew.proofs.running.release.Goals as goal

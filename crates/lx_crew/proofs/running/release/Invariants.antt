@@ -1,8 +1,5 @@
-use Rattle.std.proofs.Common.{◌≡◌, ◌≤◌, ◌<◌, ℕ, List, ◌++◌, length, map, slice_get, Some, vec_len}
-use Rattle.crossbeam_queue.specs.Passes.{view, IsPassOf, IsSamePass}
-use Rattle.lx_crew.specs.declared.entry.Entry.{Entry}
-use Rattle.lx_base.specs.Places.{EachAt}
-use Rattle.lx_crew.specs.OperatorWorks.{Works, owned}
+use Rattle.lx_crew.proofs.Imports.{◌≡◌, ◌≤◌, ◌<◌, ℕ, List, ◌++◌, length, map, slice_get, Some, vec_len, view, IsPassOf, IsSamePass, Entry}
+use Rattle.lx_crew.proofs.Imports.{EachAt, Works, owned}
 use Rattle.lx_crew.proofs.running.release.Given as goal
 
 abbrev pub invariant-loop-work : goal.invariant-loop-work

@@ -1,7 +1,4 @@
-use Rattle.std.proofs.Common.{[], ◌∷◌, ◌++◌, ap, length}
-use Rattle.std.specs.Prelude.{codes, decimal}
-use Rattle.lx_io.proofs.Chain.{Puts-then, Puts-stops, Puts-is}
-use Rattle.lx_reader.specs.Answer.{reading_of}
+use Rattle.lx_desk.proofs.Imports.{[], ◌∷◌, ◌++◌, ap, length, codes, decimal, Puts-then, Puts-stops, Puts-is, reading_of}
 use Rattle.lx_desk.proofs.CheckLine.{size_at}
 use Rattle.lx_desk.proofs.check.put_size.Goals as goal
 

@@ -1,6 +1,4 @@
-use Rattle.std.proofs.Common.{refl, IfSome, sym, ap, ◌∙◌, subst}
-use Rattle.lx_desk.specs.Crew.{HasCrewEnded}
-use Rattle.lx_desk.specs.Finished.{IsDone, Finishes}
+use Rattle.lx_desk.proofs.Imports.{refl, IfSome, sym, ap, ◌∙◌, subst, HasCrewEnded, IsDone, Finishes}
 use Rattle.lx_desk.proofs.Finishing.{after_reads, refusal_reads}
 use Rattle.lx_desk.proofs.CrewRuns.{kept_places}
 use Rattle.lx_desk.proofs.LiveEnds.{refused_words, refused_live}

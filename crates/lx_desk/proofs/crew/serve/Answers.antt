@@ -1,6 +1,4 @@
-use Rattle.std.proofs.Common.{inr, refl, ap, sym, subst, arith, IsSome, length, ◌≤◌}
-use Rattle.lx_spec.specs.Desk.{opened}
-use Rattle.lx_base.specs.Places.{EachAt}
+use Rattle.lx_desk.proofs.Imports.{inr, refl, ap, sym, subst, arith, IsSome, length, ◌≤◌, opened, EachAt}
 use Rattle.lx_desk.proofs.CrewRuns.{crew_finishes, crew_wants, crew_not_live, full_front, keeps_places, kept_places, joined, serves, served_front, no_lines, operator_failed}
 use Rattle.lx_desk.proofs.crew.serve.Goals as goal
 

@@ -1,5 +1,4 @@
-use Rattle.std.proofs.Common.{◌≡◌, ◌<◌, ℕ, Option, Some, None, slice_get}
-use Rattle.lx_crew.specs.declared.fault.OperatorFault.{OperatorFault}
+use Rattle.lx_desk.proofs.Imports.{◌≡◌, ◌<◌, ℕ, Option, Some, None, slice_get, OperatorFault}
 use Rattle.lx_desk.proofs.crew.status_of_operators.Given as goal
 
 abbrev pub invariant-loop-fault : goal.invariant-loop-fault

@@ -1,9 +1,4 @@
-use Rattle.std.proofs.Common.{ℕ, ◌+◌, ◌-◌, ap, ◌∙◌}
-use Rattle.std.specs.Prelude.{flat_map}
-use Rattle.std.specs.List.{range_with_len}
-use Rattle.lx_io.proofs.Chain.{Puts-then, Puts-stops, Puts-is}
-use Rattle.lx_spec.specs.MakeOutput.{made_cue}
-use Rattle.lx_desk.specs.Generator.{drawn_cue_text}
+use Rattle.lx_desk.proofs.Imports.{ℕ, ◌+◌, ◌-◌, ap, ◌∙◌, flat_map, range_with_len, Puts-then, Puts-stops, Puts-is, made_cue, drawn_cue_text}
 use Rattle.lx_desk.proofs.MadeInputs.{range_more, range_around, cue_is, after_cue_is}
 use Rattle.lx_desk.proofs.generator.put_cues.Goals as goal
 

@@ -1,10 +1,5 @@
-use Rattle.std.proofs.Common.{[], ◌∷◌, sym, append_assoc}
-use Rattle.std.specs.Prelude.{codes, flat_map}
-use Rattle.std.specs.List.{range_with_len}
-use Rattle.lx_io.proofs.Chain.{Puts-then, Puts-fails, Puts-stops, Puts-is}
-use Rattle.lx_spec.specs.ShowText.{line}
-use Rattle.lx_spec.specs.MakeOutput.{made_turn}
-use Rattle.lx_desk.specs.Generator.{made_show}
+use Rattle.lx_desk.proofs.Imports.{[], ◌∷◌, sym, append_assoc, codes, flat_map, range_with_len, Puts-then, Puts-fails, Puts-stops, Puts-is, line}
+use Rattle.lx_desk.proofs.Imports.{made_turn, made_show}
 use Rattle.lx_desk.proofs.generator.put_input.Goals as goal
 
 pub returns-in_err-put_show : goal.returns-in_err-put_show

@@ -1,8 +1,4 @@
-use Rattle.std.proofs.Common.{ℕ, ◌+◌, ◌-◌, refl}
-use Rattle.std.specs.Prelude.{flat_map}
-use Rattle.std.specs.List.{range_with_len}
-use Rattle.lx_io.proofs.Chain.{Puts-then, Puts-stops, Puts-is}
-use Rattle.lx_spec.specs.MakeOutput.{made_patch}
+use Rattle.lx_desk.proofs.Imports.{ℕ, ◌+◌, ◌-◌, refl, flat_map, range_with_len, Puts-then, Puts-stops, Puts-is, made_patch}
 use Rattle.lx_desk.proofs.MadeInputs.{range_more, range_around}
 use Rattle.lx_desk.proofs.generator.put_patch.Goals as goal
 

@@ -1,6 +1,4 @@
-use Rattle.std.proofs.Common.{[], ◌∷◌, ◌++◌}
-use Rattle.std.specs.Prelude.{codes, decimal}
-use Rattle.lx_io.proofs.Chain.{Puts-then, Puts-fails, Puts-stops}
+use Rattle.lx_desk.proofs.Imports.{[], ◌∷◌, ◌++◌, codes, decimal, Puts-then, Puts-fails, Puts-stops}
 use Rattle.lx_desk.proofs.generator.put_set.Goals as goal
 
 pub returns-in_err-put_number : goal.returns-in_err-put_number

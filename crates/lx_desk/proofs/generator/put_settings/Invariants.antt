@@ -1,7 +1,4 @@
-use Rattle.std.proofs.Common.{Ok, take}
-use Rattle.std.specs.Prelude.{flat_map}
-use Rattle.lx_io.specs.Puts.{Puts}
-use Rattle.lx_desk.specs.Generator.{chan_text}
+use Rattle.lx_desk.proofs.Imports.{Ok, take, flat_map, Puts, chan_text}
 use Rattle.lx_desk.proofs.generator.put_settings.Given as goal
 
 abbrev pub invariant-loop-setting : goal.invariant-loop-setting

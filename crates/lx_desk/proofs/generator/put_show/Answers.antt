@@ -1,9 +1,4 @@
-use Rattle.std.proofs.Common.{ℕ, List, [], ◌∷◌}
-use Rattle.std.specs.Prelude.{codes, flat_map}
-use Rattle.std.specs.List.{range_with_len}
-use Rattle.lx_io.proofs.Chain.{Puts-then, Puts-fails, Puts-stops}
-use Rattle.lx_spec.specs.ShowText.{line}
-use Rattle.lx_spec.specs.MakeOutput.{made_patch, made_cue}
+use Rattle.lx_desk.proofs.Imports.{ℕ, List, [], ◌∷◌, codes, flat_map, range_with_len, Puts-then, Puts-fails, Puts-stops, line, made_patch, made_cue}
 use Rattle.lx_desk.proofs.generator.put_show.Goals as goal
 
 abbrev end : List ℕ

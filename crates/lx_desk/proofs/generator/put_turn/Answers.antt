@@ -1,8 +1,4 @@
-use Rattle.std.proofs.Common.{[], ◌∷◌}
-use Rattle.std.specs.Prelude.{codes}
-use Rattle.lx_io.proofs.Chain.{Puts-then, Puts-fails, Puts-stops}
-use Rattle.lx_spec.specs.ShowText.{line}
-use Rattle.lx_desk.specs.Generator.{set_text}
+use Rattle.lx_desk.proofs.Imports.{[], ◌∷◌, codes, Puts-then, Puts-fails, Puts-stops, line, set_text}
 use Rattle.lx_desk.proofs.generator.put_turn.Goals as goal
 
 pub returns-in_err-put_go : goal.returns-in_err-put_go

@@ -1,8 +1,4 @@
-use Rattle.std.proofs.Common.{◌≡◌, ◌+◌, ◌*◌, Ok}
-use Rattle.std.specs.Prelude.{flat_map}
-use Rattle.std.specs.List.{range_with_len}
-use Rattle.lx_io.specs.Puts.{Puts}
-use Rattle.lx_spec.specs.MakeOutput.{drawn_from, made_turn}
+use Rattle.lx_desk.proofs.Imports.{◌≡◌, ◌+◌, ◌*◌, Ok, flat_map, range_with_len, Puts, drawn_from, made_turn}
 use Rattle.lx_desk.proofs.generator.put_turns.Given as goal
 
 abbrev pub invariant-loop-before : goal.invariant-loop-before

@@ -1,12 +1,5 @@
-use Rattle.std.proofs.Common.{rules, ◌≡◌, inr, ◌+◌, ◌++◌, ◌≤◌, IfSome, length, sym, ap, subst, arith}
-use Rattle.lx_lex.specs.Unread.{unread}
-use Rattle.lx_spec.specs.Kept.{Kept}
-use Rattle.lx_spec.specs.Show.{Show}
-use Rattle.lx_workers.specs.Places.{IsFull}
-use Rattle.lx_base.specs.declared.TheConstants.{INPUT_BYTES}
-use Rattle.lx_spec.specs.Text.{lines_of}
-use Rattle.lx_spec.specs.Session.{bytes_wanted}
-use Rattle.lx_desk.specs.Live.{HasPlayedLive, DecidesInOrder, PlaysToEnd}
+use Rattle.lx_desk.proofs.Imports.{rules, ◌≡◌, inr, ◌+◌, ◌++◌, ◌≤◌, IfSome, length, sym, ap, subst, arith, unread, Kept, Show, IsFull}
+use Rattle.lx_desk.proofs.Imports.{INPUT_BYTES, lines_of, bytes_wanted, HasPlayedLive, DecidesInOrder, PlaysToEnd}
 use Rattle.lx_desk.proofs.LiveRuns.{full_take, are_played, has_played_live, live_cause, none_played, not_usage, in_order, run_finishes}
 use Rattle.lx_desk.proofs.live.play_live.Goals as goal
 

@@ -1,6 +1,4 @@
-use Rattle.std.proofs.Common.{inl, refl, IfSome, sym, ap, ◌∙◌, subst}
-use Rattle.lx_desk.specs.Live.{HasLived, DecidesInOrder, LivesToEnd}
-use Rattle.lx_desk.specs.Finished.{IsDone, Finishes}
+use Rattle.lx_desk.proofs.Imports.{inl, refl, IfSome, sym, ap, ◌∙◌, subst, HasLived, DecidesInOrder, LivesToEnd, IsDone, Finishes}
 use Rattle.lx_desk.proofs.Finishing.{after_reads, refusal_reads}
 use Rattle.lx_desk.proofs.LiveEnds.{live_ended, live_order, all_refused, refused_lived, refused_words}
 use Rattle.lx_desk.proofs.live.run_live.Goals as goal

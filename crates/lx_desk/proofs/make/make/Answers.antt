@@ -1,4 +1,4 @@
-use Rattle.std.proofs.Common.{◌∙◌, ap, refl, Some, ℕ, List}
+use Rattle.lx_desk.proofs.Imports.{◌∙◌, ap, refl, Some, ℕ, List}
 use Rattle.lx_io.specs.Memory.{PlainBytes}
 use Rattle.lx_desk.proofs.Endings.{script_job}
 use Rattle.lx_desk.proofs.MadeEndings.{nothing_made, made_ended, made_front, made_refused, made_refused_front, no_read_fault}

@@ -1,7 +1,4 @@
-use Rattle.std.proofs.Common.{[], ◌∷◌}
-use Rattle.std.specs.Prelude.{codes, decimal}
-use Rattle.lx_io.proofs.Chain.{Puts-then, Puts-fails, Puts-stops}
-use Rattle.lx_spec.specs.ShowText.{line}
+use Rattle.lx_desk.proofs.Imports.{[], ◌∷◌, codes, decimal, Puts-then, Puts-fails, Puts-stops, line}
 use Rattle.lx_desk.proofs.make.put_report.Goals as goal
 
 pub returns-in_err-put_line : goal.returns-in_err-put_line

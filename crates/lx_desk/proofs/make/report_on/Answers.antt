@@ -1,5 +1,4 @@
-use Rattle.std.proofs.Common.{◌∙◌, ℕ, ap, ap₂, arith, sum}
-use Rattle.lx_spec.specs.Kept.{Kept}
+use Rattle.lx_desk.proofs.Imports.{◌∙◌, ℕ, ap, ap₂, arith, sum, Kept}
 use Rattle.lx_desk.proofs.make.report_on.Goals as goal
 
 pub first_universe-requires : goal.first_universe-requires

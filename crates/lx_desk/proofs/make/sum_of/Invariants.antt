@@ -1,4 +1,4 @@
-use Rattle.std.proofs.Common.{◌≡◌, ◌≤◌, ◌*◌, sum, take}
+use Rattle.lx_desk.proofs.Imports.{◌≡◌, ◌≤◌, ◌*◌, sum, take}
 use Rattle.lx_desk.proofs.make.sum_of.Given as goal
 
 abbrev pub invariant-loop-slot : goal.invariant-loop-slot

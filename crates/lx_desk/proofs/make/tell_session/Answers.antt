@@ -1,4 +1,4 @@
-use Rattle.lx_spec.specs.Desk.{opened}
+use Rattle.lx_desk.proofs.Imports.{opened}
 use Rattle.lx_desk.proofs.MadeEndings.{nothing_told, session_told, session_front_told, told_cause}
 use Rattle.lx_desk.proofs.make.tell_session.Goals as goal
 

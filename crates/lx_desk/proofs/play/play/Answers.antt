@@ -1,9 +1,4 @@
-use Rattle.std.proofs.Common.{true}
-use Rattle.lx_spec.specs.declared.ScriptKind.TheVariants.{Render}
-use Rattle.lx_spec.specs.Desk.{opened}
-use Rattle.lx_spec.specs.DeskSession.{desk_answering}
-use Rattle.lx_spec.specs.ScriptKinds.{answering_of, opening_of}
-use Rattle.lx_session.proofs.HeardLines.{desk_lawful}
+use Rattle.lx_desk.proofs.Imports.{true, Render, opened, desk_answering, answering_of, opening_of, desk_lawful}
 use Rattle.lx_desk.proofs.Played.{nothing_plays, session_plays}
 use Rattle.lx_desk.proofs.play.play.Goals as goal
 

@@ -1,7 +1,4 @@
-use Rattle.std.proofs.Common.{sym, subst}
-use Rattle.lx_spec.specs.declared.ScriptKind.{ScriptKind}
-use Rattle.lx_spec.specs.ScriptKinds.{answering_of, opening_of}
-use Rattle.lx_desk.specs.Plays.{Plays}
+use Rattle.lx_desk.proofs.Imports.{sym, subst, ScriptKind, answering_of, opening_of, Plays}
 use Rattle.lx_desk.proofs.script.play_script.Goals as goal
 
 pub returns-in-Render-clause-plays : goal.returns-in-Render-clause-plays

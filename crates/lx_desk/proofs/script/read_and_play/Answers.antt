@@ -1,9 +1,6 @@
-use Rattle.std.proofs.Common.{sym, ap, ◌∙◌, subst, IfSome}
-use Rattle.lx_spec.specs.declared.Job.TheVariants.{Script}
-use Rattle.lx_desk.specs.Endings.{HasEnded}
+use Rattle.lx_desk.proofs.Imports.{sym, ap, ◌∙◌, subst, IfSome, Script, HasEnded, IsDone, Finishes}
 use Rattle.lx_desk.proofs.Inputs.{session_front, refusal_front, script_over}
 use Rattle.lx_desk.proofs.Endings.{script_job, script_ended, refusal_ends, refusal_ended}
-use Rattle.lx_desk.specs.Finished.{IsDone, Finishes}
 use Rattle.lx_desk.proofs.Finishing.{after_reads, refusal_reads}
 use Rattle.lx_desk.proofs.script.read_and_play.Goals as goal
 

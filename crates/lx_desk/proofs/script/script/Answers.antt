@@ -1,5 +1,4 @@
-use Rattle.std.proofs.Common.{sym, ◌∙◌}
-use Rattle.lx_spec.specs.declared.Job.TheVariants.{Script}
+use Rattle.lx_desk.proofs.Imports.{sym, ◌∙◌, Script}
 use Rattle.lx_desk.proofs.EmptyPrefixes.{nothing_written}
 use Rattle.lx_desk.proofs.Endings.{words_here}
 use Rattle.lx_desk.proofs.script.script.Goals as goal

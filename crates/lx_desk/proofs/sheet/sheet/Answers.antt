@@ -1,11 +1,7 @@
-use Rattle.std.proofs.Common.{sym, ap, ◌∙◌, subst, IfSome}
-use Rattle.lx_spec.specs.declared.Job.TheVariants.{Sheet}
-use Rattle.lx_spec.specs.SheetOutput.{sheet_text}
+use Rattle.lx_desk.proofs.Imports.{sym, ap, ◌∙◌, subst, IfSome, Sheet, sheet_text, HasEnded, IsDone, Finishes}
 use Rattle.lx_desk.specs.declared.desk.Status.TheVariants as status
-use Rattle.lx_desk.specs.Endings.{HasEnded}
 use Rattle.lx_desk.proofs.Inputs.{told_prefix, refusal_front, sheet_tells}
 use Rattle.lx_desk.proofs.Endings.{told_ends, told_ended, refusal_ends, refusal_ended}
-use Rattle.lx_desk.specs.Finished.{IsDone, Finishes}
 use Rattle.lx_desk.proofs.Finishing.{after_reads, refusal_reads}
 use Rattle.lx_desk.proofs.sheet.sheet.Goals as goal
 

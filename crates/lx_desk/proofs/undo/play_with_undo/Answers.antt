@@ -1,4 +1,4 @@
-use Rattle.lx_base.specs.declared.TheConstants.{UNDO_DEPTH}
+use Rattle.lx_desk.proofs.Imports.{UNDO_DEPTH}
 use Rattle.lx_spec.specs.Undo.{opened_with}
 use Rattle.lx_spec.specs.UndoSession.{undo_answering}
 use Rattle.lx_undo.proofs.Lawful.{undo_lawful}

@@ -1,8 +1,5 @@
-use Rattle.std.proofs.Common.{◌≡◌, ℕ, List, Some, ap, sym, subst}
-use Rattle.lx_spec.specs.Show.{Cue}
-use Rattle.lx_spec.specs.SortedList.{entry_at}
+use Rattle.lx_edit.proofs.Imports.{◌≡◌, ℕ, List, Some, ap, sym, subst, Cue, entry_at, found_number, placed_same}
 use Rattle.lx_edit.proofs.absent.the_cue.Goals as goal
-use Rattle.lx_spec.proofs.SortedLists.{found_number, placed_same}
 
 pub returns-in-Some : goal.returns-in-Some
 returns-in-Some c =

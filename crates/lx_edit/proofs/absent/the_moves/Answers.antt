@@ -1,6 +1,4 @@
-use Rattle.std.proofs.Common.{◌≡◌, ◌+◌, ◌-◌, ◌∙◌, ap, sym, false, suc, ℕ, arith, rules}
-use Rattle.std.specs.Prelude.{is_none}
-use Rattle.lx_spec.specs.TrackedLevel.{move_in}
+use Rattle.lx_edit.proofs.Imports.{◌≡◌, ◌+◌, ◌-◌, ◌∙◌, ap, sym, false, suc, ℕ, arith, rules, is_none, move_in}
 use Rattle.lx_edit.proofs.Lists.{find_next}
 use Rattle.lx_edit.proofs.absent.the_moves.Goals as goal
 

@@ -1,7 +1,4 @@
-use Rattle.std.proofs.Common.{◌≡◌, ◌+◌, ◌-◌}
-use Rattle.std.specs.Prelude.{find, is_none}
-use Rattle.std.specs.List.{range_with_len}
-use Rattle.lx_spec.specs.TrackedLevel.{move_in}
+use Rattle.lx_edit.proofs.Imports.{◌≡◌, ◌+◌, ◌-◌, find, is_none, range_with_len, move_in}
 use Rattle.lx_edit.proofs.absent.the_moves.Given as goal
 
 abbrev pub invariant-loop-n : goal.invariant-loop-n

@@ -1,8 +1,4 @@
-use Rattle.std.proofs.Common.{◌∙◌, refl, sym, subst}
-use Rattle.lx_spec.specs.Show.{Cue}
-use Rattle.lx_edit.specs.declared.chan_set.ChanSet.{ChanSet}
-use Rattle.lx_edit.specs.CueChanges.{KeepsLevels}
-use Rattle.lx_edit.specs.PlanMeaning.{with_move}
+use Rattle.lx_edit.proofs.Imports.{◌∙◌, refl, sym, subst, Cue, ChanSet, KeepsLevels, with_move}
 use Rattle.lx_edit.proofs.ChangedColumns.{others_with}
 use Rattle.lx_edit.proofs.MendedSheets.{left_replaced, marked_moved}
 use Rattle.lx_edit.proofs.PlacedMoves.{moved, moved_is, was_there, sees_moved, move_back}

@@ -1,7 +1,4 @@
-use Rattle.std.proofs.Common.{◌∙◌, sym, subst}
-use Rattle.lx_spec.specs.Show.{Cue}
-use Rattle.lx_edit.specs.declared.chan_set.ChanSet.{ChanSet}
-use Rattle.lx_edit.specs.CueChanges.{KeepsLevels}
+use Rattle.lx_edit.proofs.Imports.{◌∙◌, sym, subst, Cue, ChanSet, KeepsLevels}
 use Rattle.lx_edit.proofs.ChangedColumns.{others_with}
 use Rattle.lx_edit.proofs.PlacedMoves.{moved_all, changed_is, moves_back, moves_were, sees_all}
 use Rattle.lx_edit.proofs.application.exchange_moves.Goals as goal

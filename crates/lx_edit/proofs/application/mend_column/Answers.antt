@@ -1,9 +1,4 @@
-use Rattle.std.proofs.Common.{◌≡◌, ℕ, sym, subst}
-use Rattle.std.specs.Prelude.{Option}
-use Rattle.lx_spec.specs.TrackedLevel.{tracked}
-use Rattle.lx_sheet.specs.Rows.{level_of}
-use Rattle.lx_sheet.specs.SheetMeaning.{next_decision}
-use Rattle.lx_edit.specs.CueChanges.{IsPast}
+use Rattle.lx_edit.proofs.Imports.{◌≡◌, ℕ, sym, subst, Option, tracked, level_of, next_decision, IsPast}
 use Rattle.lx_edit.proofs.ChangedColumns.{from_there}
 use Rattle.lx_edit.proofs.application.mend_column.Goals as goal
 

@@ -1,7 +1,4 @@
-use Rattle.std.proofs.Common.{◌≡◌, ◌<◌, inl, inr, refl, ap, ◌∙◌, false, ℕ, arith}
-use Rattle.std.proofs.lemmas.Bool.{cases_lt}
-use Rattle.lx_base.specs.declared.TheConstants.{CHANNELS}
-use Rattle.lx_edit.specs.ChanSet.{is_chan}
+use Rattle.lx_edit.proofs.Imports.{◌≡◌, ◌<◌, inl, inr, refl, ap, ◌∙◌, false, ℕ, arith, cases_lt, CHANNELS, is_chan}
 use Rattle.lx_edit.proofs.ChanBits.{has_chan-none, is_chan-past}
 use Rattle.lx_edit.proofs.application.mend_columns.Goals as goal
 

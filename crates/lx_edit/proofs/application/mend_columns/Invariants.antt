@@ -1,7 +1,4 @@
-use Rattle.std.proofs.Common.{◌≤◌, ◌<◌, ◌+◌, ◌-◌, ℕ}
-use Rattle.lx_base.specs.declared.TheConstants.{CHANNELS}
-use Rattle.lx_sheet.specs.SheetMeaning.{StandsIn}
-use Rattle.lx_edit.specs.CueChanges.{CanMend}
+use Rattle.lx_edit.proofs.Imports.{◌≤◌, ◌<◌, ◌+◌, ◌-◌, ℕ, CHANNELS, StandsIn, CanMend}
 use Rattle.lx_edit.proofs.application.mend_columns.Given as goal
 
 abbrev pub invariant-loop-k : goal.invariant-loop-k

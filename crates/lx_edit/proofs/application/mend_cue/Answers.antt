@@ -1,5 +1,4 @@
-use Rattle.std.proofs.Common.{◌∙◌, ap, sym}
-use Rattle.lx_spec.specs.Show.{Show}
+use Rattle.lx_edit.proofs.Imports.{◌∙◌, ap, sym, Show}
 use Rattle.lx_edit.proofs.MendedSheets.{left_replaced, marked_with}
 use Rattle.lx_edit.proofs.application.mend_cue.Goals as goal
 

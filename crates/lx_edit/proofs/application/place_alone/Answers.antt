@@ -1,12 +1,6 @@
-use Rattle.std.proofs.Common.{◌≡◌, true, ◌<◌, ◌≤◌, ◌∙◌, ℕ, ap, sym, subst}
-use Rattle.lx_spec.specs.Show.{Cue, Show, Valid}
-use Rattle.lx_spec.specs.TrackedLevel.{cue_of, tracked}
-use Rattle.lx_spec.specs.EditedShow.{with_cue}
-use Rattle.lx_sheet.specs.Rows.{level_of}
-use Rattle.lx_sheet.specs.SheetMeaning.{cue_numbers}
+use Rattle.lx_edit.proofs.Imports.{◌≡◌, true, ◌<◌, ◌≤◌, ◌∙◌, ℕ, ap, sym, subst, Cue, Show, Valid, cue_of, tracked, with_cue, level_of}
+use Rattle.lx_edit.proofs.Imports.{cue_numbers, KeepsAbove, TakesBack}
 use Rattle.lx_edit.specs.declared.plans.Plan.TheVariants as plans
-use Rattle.lx_edit.specs.PlanMeaning.{KeepsAbove}
-use Rattle.lx_edit.specs.Undone.{TakesBack}
 use Rattle.lx_edit.proofs.ChangedColumns.{alone_numbers, alone_below, alone_later, others_alone}
 use Rattle.lx_edit.proofs.MendedSheets.{marked_with}
 use Rattle.lx_edit.proofs.TakenBack.{alone_kept}

@@ -1,7 +1,4 @@
-use Rattle.std.proofs.Common.{◌≡◌, ap, sym, subst, ℕ, rules}
-use Rattle.std.specs.Prelude.{IsTrue, is_some}
-use Rattle.lx_spec.specs.Show.{Cue}
-use Rattle.lx_spec.specs.TrackedLevel.{cue_of}
+use Rattle.lx_edit.proofs.Imports.{◌≡◌, ap, sym, subst, ℕ, rules, IsTrue, is_some, Cue, cue_of}
 use Rattle.lx_edit.proofs.ChangedColumns.{others_with}
 use Rattle.lx_edit.proofs.application.place_cue.Goals as goal
 

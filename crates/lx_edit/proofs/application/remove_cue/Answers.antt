@@ -1,6 +1,4 @@
-use Rattle.std.proofs.Common.{sym, subst}
-use Rattle.lx_spec.specs.Show.{Show}
-use Rattle.lx_edit.specs.CueChanges.{SameLevels}
+use Rattle.lx_edit.proofs.Imports.{sym, subst, Show, SameLevels}
 use Rattle.lx_edit.proofs.ChangedColumns.{column_without}
 use Rattle.lx_edit.proofs.application.remove_cue.Goals as goal
 

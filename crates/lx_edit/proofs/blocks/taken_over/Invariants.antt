@@ -1,7 +1,4 @@
-use Rattle.std.proofs.Common.{◌≡◌, ◌-◌, map}
-use Rattle.std.specs.Prelude.{filter, is_none, not, ◌&&◌, ◌==◌}
-use Rattle.std.specs.List.{range_with_len}
-use Rattle.lx_spec.specs.TrackedLevel.{move_in, tracked}
+use Rattle.lx_edit.proofs.Imports.{◌≡◌, ◌-◌, map, filter, is_none, not, ◌&&◌, ◌==◌, range_with_len, move_in, tracked}
 use Rattle.lx_edit.proofs.blocks.taken_over.Given as goal
 
 abbrev pub invariant-loop-k : goal.invariant-loop-k

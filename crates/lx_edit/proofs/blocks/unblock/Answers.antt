@@ -1,7 +1,4 @@
-use Rattle.std.proofs.Common.{◌∙◌, sym, subst, ℕ, List}
-use Rattle.std.specs.List.{AllByRecursion}
-use Rattle.lx_spec.specs.declared.Move.{Move}
-use Rattle.lx_edit.specs.Found.{Fits}
+use Rattle.lx_edit.proofs.Imports.{◌∙◌, sym, subst, ℕ, List, AllByRecursion, Move, Fits}
 use Rattle.lx_edit.proofs.CueLevels.{chosen_fit}
 use Rattle.lx_edit.proofs.blocks.unblock.Goals as goal
 

@@ -1,14 +1,6 @@
-use Rattle.std.proofs.Common.{◌≡◌, ◌≤◌, ◌∙◌, ap, sym, subst, refl, false, None, Some, Ok, ℕ}
-use Rattle.std.specs.Prelude.{is_some}
-use Rattle.lx_base.specs.declared.TheConstants.{PARTS}
-use Rattle.lx_spec.specs.declared.Part.{Part}
-use Rattle.lx_spec.specs.declared.Edit.TheVariants.{AddPart}
-use Rattle.lx_spec.specs.SortedList.{has_entry}
-use Rattle.lx_spec.specs.Show.{Cue}
-use Rattle.lx_spec.specs.EditedShow.{with_part, new_part, with_cue, edited}
-use Rattle.lx_show.proofs.ChangedCues.{with_placed_part}
+use Rattle.lx_edit.proofs.Imports.{◌≡◌, ◌≤◌, ◌∙◌, ap, sym, subst, refl, false, None, Some, Ok, ℕ, is_some, PARTS, Part, AddPart, has_entry}
+use Rattle.lx_edit.proofs.Imports.{Cue, with_part, new_part, with_cue, edited, with_placed_part, IsPlan}
 use Rattle.lx_edit.specs.declared.plans.Plan.TheVariants as plans
-use Rattle.lx_edit.specs.PlanMeaning.{IsPlan}
 use Rattle.lx_edit.proofs.CuePlans.{places, valid_new_part}
 use Rattle.lx_edit.proofs.cue_edits.add_part.Goals as goal
 

@@ -1,11 +1,6 @@
-use Rattle.std.proofs.Common.{◌≡◌, ◌∙◌, ap, sym, subst, refl, false, None, Some, Ok, arith}
-use Rattle.std.specs.Prelude.{◌==◌}
-use Rattle.std.proofs.lemmas.Bool.Decides.{nat_tests}
-use Rattle.lx_spec.specs.declared.Edit.TheVariants.{DeletePart}
-use Rattle.lx_spec.specs.Show.{Cue}
-use Rattle.lx_spec.specs.EditedShow.{without_part, with_cue, edited}
+use Rattle.lx_edit.proofs.Imports.{◌≡◌, ◌∙◌, ap, sym, subst, refl, false, None, Some, Ok, arith, ◌==◌, nat_tests, DeletePart, Cue, without_part}
+use Rattle.lx_edit.proofs.Imports.{with_cue, edited, IsPlan}
 use Rattle.lx_edit.specs.declared.plans.Plan.TheVariants as plans
-use Rattle.lx_edit.specs.PlanMeaning.{IsPlan}
 use Rattle.lx_edit.proofs.CuePlans.{places, valid_without_part}
 use Rattle.lx_edit.proofs.cue_edits.delete_part.Goals as goal
 

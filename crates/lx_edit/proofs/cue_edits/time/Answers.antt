@@ -1,11 +1,6 @@
-use Rattle.std.proofs.Common.{◌≡◌, ◌∙◌, ap, sym, subst, refl, false, None, Some, Ok}
-use Rattle.lx_spec.specs.declared.Part.{Part}
-use Rattle.lx_spec.specs.declared.Edit.TheVariants.{Time}
-use Rattle.lx_spec.specs.Show.{Cue}
-use Rattle.lx_spec.specs.EditedShow.{with_part, with_time, with_cue, edited}
-use Rattle.lx_show.proofs.ChangedCues.{with_placed_part}
+use Rattle.lx_edit.proofs.Imports.{◌≡◌, ◌∙◌, ap, sym, subst, refl, false, None, Some, Ok, Part, Time, Cue, with_part, with_time, with_cue, edited}
+use Rattle.lx_edit.proofs.Imports.{with_placed_part, IsPlan}
 use Rattle.lx_edit.specs.declared.plans.Plan.TheVariants as plans
-use Rattle.lx_edit.specs.PlanMeaning.{IsPlan}
 use Rattle.lx_edit.proofs.CuePlans.{places, valid_part, valid_time}
 use Rattle.lx_edit.proofs.cue_edits.time.Goals as goal
 

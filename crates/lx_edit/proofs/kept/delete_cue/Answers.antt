@@ -1,7 +1,4 @@
-use Rattle.std.proofs.Common.{◌≤◌, ap, refl, ◌∙◌, sym, arith}
-use Rattle.lx_base.specs.Numbers.{Span}
-use Rattle.lx_base.specs.declared.TheConstants.{CHANNELS}
-use Rattle.lx_edit.specs.PlanMeaning.{covers}
+use Rattle.lx_edit.proofs.Imports.{◌≤◌, ap, refl, ◌∙◌, sym, arith, Span, CHANNELS, covers}
 use Rattle.lx_edit.proofs.MoveMarks.{not_covered}
 use Rattle.lx_edit.proofs.kept.delete_cue.Goals as goal
 

@@ -1,8 +1,5 @@
-use Rattle.std.proofs.Common.{◌≡◌, ◌-◌, ◌∙◌, ap, sym, Some, None, ℕ, rules}
-use Rattle.std.specs.Prelude.{not, ◌==◌}
-use Rattle.std.specs.Option.{option_copied}
-use Rattle.lx_spec.specs.TrackedLevel.{tracked, decides, level_in}
-use Rattle.lx_edit.specs.Kept.{decided, decided_by}
+use Rattle.lx_edit.proofs.Imports.{◌≡◌, ◌-◌, ◌∙◌, ap, sym, Some, None, ℕ, rules, not, ◌==◌, option_copied, tracked, decides, level_in}
+use Rattle.lx_edit.proofs.Imports.{decided, decided_by}
 use Rattle.lx_edit.proofs.KeptLevels.{above_both, differs_as, same_test, same_through}
 use Rattle.lx_edit.proofs.kept.differs.Goals as goal
 

@@ -1,15 +1,6 @@
-use Rattle.std.proofs.Common.{◌≡◌, ◌∙◌, ap, sym, subst, Bool, Some, List, [], length}
-use Rattle.std.proofs.lemmas.List.{nil_from_length}
-use Rattle.lx_spec.proofs.Comparisons.{eq_from}
-use Rattle.std.specs.Prelude.{Option}
-use Rattle.std.specs.Option.{option_copied, option_map_or}
-use Rattle.std.specs.List.{AllByRecursion}
-use Rattle.lx_spec.specs.declared.Move.{Move}
-use Rattle.lx_spec.specs.Show.{Cue, ValidCue}
-use Rattle.lx_spec.specs.TrackedLevel.{cue_above}
-use Rattle.lx_spec.specs.EditedShow.{cue_only, kept_above, with_cue, with_moves}
-use Rattle.lx_edit.specs.PlanMeaning.{changed_show}
-use Rattle.lx_edit.specs.Found.{Fits}
+use Rattle.lx_edit.proofs.Imports.{◌≡◌, ◌∙◌, ap, sym, subst, Bool, Some, List, [], length, nil_from_length, eq_from, Option, option_copied}
+use Rattle.lx_edit.proofs.Imports.{option_map_or, AllByRecursion, Move, Cue, ValidCue, cue_above, cue_only, kept_above, with_cue, with_moves, changed_show}
+use Rattle.lx_edit.proofs.Imports.{Fits}
 use Rattle.lx_edit.proofs.CueLevels.{chosen_fit}
 use Rattle.lx_edit.proofs.KeptLevels.{cue_above-changed, above_fits, above_is, cue_least, lent_number}
 use Rattle.lx_edit.proofs.KeptRows.{keeps_above}

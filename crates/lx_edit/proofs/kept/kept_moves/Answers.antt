@@ -1,9 +1,5 @@
-use Rattle.std.proofs.Common.{◌≡◌, ◌+◌, ◌-◌, ◌<◌, ◌≤◌, ◌∙◌, ap, sym, ℕ, List, Bool, false, arith, map}
-use Rattle.std.specs.Prelude.{not, ◌==◌}
-use Rattle.std.specs.Option.{option_copied}
-use Rattle.lx_spec.specs.declared.Move.{Move}
-use Rattle.lx_spec.specs.TrackedLevel.{tracked}
-use Rattle.lx_edit.specs.PlanMeaning.{changed_show}
+use Rattle.lx_edit.proofs.Imports.{◌≡◌, ◌+◌, ◌-◌, ◌<◌, ◌≤◌, ◌∙◌, ap, sym, ℕ, List, Bool, false, arith, map, not, ◌==◌}
+use Rattle.lx_edit.proofs.Imports.{option_copied, Move, tracked, changed_show}
 use Rattle.lx_edit.proofs.CueLevels.{chosen_next}
 use Rattle.lx_edit.proofs.KeptLevels.{outside_high, outside_low, unchanged}
 use Rattle.lx_edit.proofs.Lists.{none_past}

@@ -1,9 +1,4 @@
-use Rattle.std.proofs.Common.{◌≡◌, ◌-◌, map}
-use Rattle.std.specs.Prelude.{filter, not, ◌==◌}
-use Rattle.std.specs.Option.{option_copied}
-use Rattle.std.specs.List.{range_with_len}
-use Rattle.lx_spec.specs.TrackedLevel.{tracked}
-use Rattle.lx_edit.specs.PlanMeaning.{changed_show}
+use Rattle.lx_edit.proofs.Imports.{◌≡◌, ◌-◌, map, filter, not, ◌==◌, option_copied, range_with_len, tracked, changed_show}
 use Rattle.lx_edit.proofs.kept.kept_moves.Given as goal
 
 abbrev pub invariant-loop-k : goal.invariant-loop-k

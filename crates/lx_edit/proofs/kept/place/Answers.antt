@@ -1,12 +1,5 @@
-use Rattle.std.proofs.Common.{◌≡◌, ◌∙◌, ap, sym, subst, refl, List}
-use Rattle.std.specs.Prelude.{Option}
-use Rattle.std.specs.Option.{IsSomeAnd}
-use Rattle.std.specs.List.{AllByRecursion}
-use Rattle.lx_spec.specs.declared.Move.{Move}
-use Rattle.lx_spec.specs.declared.Part.{Part}
-use Rattle.lx_spec.specs.Show.{Cue, ValidMove}
-use Rattle.lx_spec.specs.EditedShow.{with_cue}
-use Rattle.lx_edit.specs.PlanMeaning.{SameOutside, with_above}
+use Rattle.lx_edit.proofs.Imports.{◌≡◌, ◌∙◌, ap, sym, subst, refl, List, Option, IsSomeAnd, AllByRecursion, Move, Part, Cue, ValidMove, with_cue}
+use Rattle.lx_edit.proofs.Imports.{SameOutside, with_above}
 use Rattle.lx_edit.proofs.MoveMarks.{decided_alike}
 use Rattle.lx_edit.proofs.PlacedMoves.{changed_is}
 use Rattle.lx_edit.proofs.kept.place.Goals as goal

@@ -1,6 +1,4 @@
-use Rattle.std.proofs.Common.{sym, subst}
-use Rattle.lx_spec.specs.Show.{Cue, ValidCue}
-use Rattle.lx_edit.specs.PlanMeaning.{SameOutside}
+use Rattle.lx_edit.proofs.Imports.{sym, subst, Cue, ValidCue, SameOutside}
 use Rattle.lx_edit.proofs.CueLevels.{valid_without_moves}
 use Rattle.lx_edit.proofs.MoveMarks.{released_outside}
 use Rattle.lx_edit.proofs.levels.release.Goals as goal

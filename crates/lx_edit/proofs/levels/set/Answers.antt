@@ -1,10 +1,5 @@
-use Rattle.std.proofs.Common.{◌≡◌, ◌∙◌, ◌+◌, ◌-◌, ◌≤◌, ap, sym, subst, ℕ, List, arith}
-use Rattle.std.specs.List.{AllByRecursion}
-use Rattle.lx_spec.specs.declared.Member.{Member}
-use Rattle.lx_spec.specs.Show.{Cue}
-use Rattle.lx_spec.specs.EditedShow.{all_at, channels_in, with_levels}
-use Rattle.lx_edit.specs.Found.{IsWithin}
-use Rattle.lx_edit.specs.PlanMeaning.{SameOutside}
+use Rattle.lx_edit.proofs.Imports.{◌≡◌, ◌∙◌, ◌+◌, ◌-◌, ◌≤◌, ap, sym, subst, ℕ, List, arith, AllByRecursion, Member, Cue, all_at}
+use Rattle.lx_edit.proofs.Imports.{channels_in, with_levels, IsWithin, SameOutside}
 use Rattle.lx_edit.proofs.CueLevels.{levels_within}
 use Rattle.lx_edit.proofs.MoveMarks.{set_outside}
 use Rattle.lx_edit.proofs.PlacedMoves.{set_one}

@@ -1,12 +1,5 @@
-use Rattle.std.proofs.Common.{◌≡◌, ◌∙◌, ◌≤◌, sym, subst, map, ℕ, List}
-use Rattle.std.specs.Prelude.{Option}
-use Rattle.std.specs.Option.{IsSomeAnd}
-use Rattle.std.specs.List.{AllByRecursion}
-use Rattle.lx_spec.specs.declared.Member.{Member}
-use Rattle.lx_base.specs.Numbers.{Span}
-use Rattle.lx_spec.specs.Show.{Cue, Group, ValidCue}
-use Rattle.lx_edit.specs.PlanMeaning.{SameOutside}
-use Rattle.lx_spec.specs.EditedShow.{in_proportion}
+use Rattle.lx_edit.proofs.Imports.{◌≡◌, ◌∙◌, ◌≤◌, sym, subst, map, ℕ, List, Option, IsSomeAnd, AllByRecursion, Member, Span, Cue, Group}
+use Rattle.lx_edit.proofs.Imports.{ValidCue, SameOutside, in_proportion}
 use Rattle.lx_edit.proofs.CueLevels.{proportion_within}
 use Rattle.lx_edit.proofs.MoveMarks.{valid_outside}
 use Rattle.lx_edit.proofs.levels.set_group.Goals as goal

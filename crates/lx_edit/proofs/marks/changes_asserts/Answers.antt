@@ -1,9 +1,4 @@
-use Rattle.std.proofs.Common.{◌≡◌, sym, subst}
-use Rattle.lx_spec.specs.declared.Move.{Move}
-use Rattle.lx_spec.specs.SortedList.{placed}
-use Rattle.lx_spec.specs.TrackedLevel.{asserts}
-use Rattle.lx_edit.specs.declared.plans.Plan.{Plan}
-use Rattle.lx_edit.specs.PlanMeaning.{planned}
+use Rattle.lx_edit.proofs.Imports.{◌≡◌, sym, subst, Move, placed, asserts, Plan, planned}
 use Rattle.lx_edit.proofs.AssertedCues.{asserts_above}
 use Rattle.lx_edit.proofs.PlacedMoves.{asserts_moved}
 use Rattle.lx_edit.proofs.marks.changes_asserts.Goals as goal

@@ -1,8 +1,4 @@
-use Rattle.std.proofs.Common.{◌≡◌, ◌∙◌, sym, subst}
-use Rattle.std.specs.Prelude.{Option}
-use Rattle.lx_spec.specs.Show.{Cue}
-use Rattle.lx_spec.specs.TrackedLevel.{asserts}
-use Rattle.lx_edit.specs.PlanMeaning.{changed_show}
+use Rattle.lx_edit.proofs.Imports.{◌≡◌, ◌∙◌, sym, subst, Option, Cue, asserts, changed_show}
 use Rattle.lx_edit.proofs.AssertedCues.{asserts_with, asserts_without}
 use Rattle.lx_edit.proofs.marks.changes_at.Goals as goal
 

@@ -1,8 +1,4 @@
-use Rattle.std.proofs.Common.{◌≡◌, ℕ, ◌∙◌, Some, ap, sym, arith}
-use Rattle.std.specs.Prelude.{◌||◌, ◌==◌}
-use Rattle.lx_spec.specs.declared.Move.{Move}
-use Rattle.lx_spec.specs.SortedList.{entry_at}
-use Rattle.lx_edit.specs.ChanSet.{has_chan}
+use Rattle.lx_edit.proofs.Imports.{◌≡◌, ℕ, ◌∙◌, Some, ap, sym, arith, ◌||◌, ◌==◌, Move, entry_at, has_chan}
 use Rattle.lx_edit.proofs.MoveMarks.{among_more, is_in, one_more}
 use Rattle.lx_edit.proofs.marks.mark_below.Goals as goal
 

@@ -1,6 +1,4 @@
-use Rattle.std.proofs.Common.{◌≤◌, ◌-◌, List, length, take}
-use Rattle.lx_spec.specs.declared.Move.{Move}
-use Rattle.lx_edit.specs.CueChanges.{AreAmong, Grows}
+use Rattle.lx_edit.proofs.Imports.{◌≤◌, ◌-◌, List, length, take, Move, AreAmong, Grows}
 use Rattle.lx_edit.proofs.marks.mark_below.Given as goal
 
 abbrev pub invariant-loop-next : goal.invariant-loop-next

@@ -1,9 +1,5 @@
-use Rattle.std.proofs.Common.{◌≡◌, ◌∙◌, ℕ, refl, ap, sym, subst, false, List, arith}
-use Rattle.std.proofs.lemmas.List.{get_or_default}
-use Rattle.lx_spec.specs.declared.Move.{Move}
-use Rattle.lx_spec.specs.SortedList.{entry_at}
-use Rattle.lx_show.proofs.Indexes.{stands_entry, stands_where}
-use Rattle.lx_edit.specs.ChanSet.{has_chan}
+use Rattle.lx_edit.proofs.Imports.{◌≡◌, ◌∙◌, ℕ, refl, ap, sym, subst, false, List, arith, get_or_default, Move, entry_at, stands_entry}
+use Rattle.lx_edit.proofs.Imports.{stands_where, has_chan}
 use Rattle.lx_edit.proofs.MoveMarks.{among_grown, among_more, one_more}
 use Rattle.lx_edit.proofs.marks.mark_beside.Goals as goal
 

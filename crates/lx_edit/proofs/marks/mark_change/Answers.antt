@@ -1,11 +1,5 @@
-use Rattle.std.proofs.Common.{◌≡◌, ◌-◌, ◌∙◌, ap, sym, subst, None, List}
-use Rattle.std.specs.Prelude.{Option}
-use Rattle.std.specs.Option.{option_copied}
-use Rattle.lx_spec.specs.declared.Move.{Move}
-use Rattle.lx_spec.specs.SortedList.{entry_at}
-use Rattle.lx_spec.specs.Show.{Cue}
-use Rattle.lx_spec.specs.TrackedLevel.{tracked}
-use Rattle.lx_edit.specs.CueChanges.{move_by, SameEntry}
+use Rattle.lx_edit.proofs.Imports.{◌≡◌, ◌-◌, ◌∙◌, ap, sym, subst, None, List, Option, option_copied, Move, entry_at, Cue, tracked, move_by}
+use Rattle.lx_edit.proofs.Imports.{SameEntry}
 use Rattle.lx_edit.proofs.ChangedColumns.{same_entry, nothing_tracks}
 use Rattle.lx_edit.proofs.MoveMarks.{move_by-moves}
 use Rattle.lx_edit.proofs.marks.mark_change.Goals as goal

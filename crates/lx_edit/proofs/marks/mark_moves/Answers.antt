@@ -1,6 +1,4 @@
-use Rattle.std.proofs.Common.{◌∙◌, ap, sym, List}
-use Rattle.lx_spec.specs.declared.Move.{Move}
-use Rattle.lx_spec.specs.SortedList.{entry_at}
+use Rattle.lx_edit.proofs.Imports.{◌∙◌, ap, sym, List, Move, entry_at}
 use Rattle.lx_edit.proofs.MoveMarks.{rest_same}
 use Rattle.lx_edit.proofs.marks.mark_moves.Goals as goal
 

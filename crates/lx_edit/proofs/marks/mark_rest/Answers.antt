@@ -1,8 +1,4 @@
-use Rattle.std.proofs.Common.{List, refl, subst, arith}
-use Rattle.std.proofs.lemmas.List.{take_all}
-use Rattle.lx_spec.specs.declared.Move.{Move}
-use Rattle.lx_show.proofs.Indexes.{stands_entry, stands_where}
-use Rattle.lx_edit.specs.CueChanges.{AreAmong}
+use Rattle.lx_edit.proofs.Imports.{List, refl, subst, arith, take_all, Move, stands_entry, stands_where, AreAmong}
 use Rattle.lx_edit.proofs.MoveMarks.{among_grown, among_more, same_moves}
 use Rattle.lx_edit.proofs.marks.mark_rest.Goals as goal
 

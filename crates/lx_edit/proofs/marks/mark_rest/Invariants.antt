@@ -1,5 +1,4 @@
-use Rattle.std.proofs.Common.{◌≤◌, length, take}
-use Rattle.lx_edit.specs.CueChanges.{AreAmong, Grows}
+use Rattle.lx_edit.proofs.Imports.{◌≤◌, length, take, AreAmong, Grows}
 use Rattle.lx_edit.proofs.marks.mark_rest.Given as goal
 
 abbrev pub invariant-loop-entry : goal.invariant-loop-entry

@@ -1,8 +1,4 @@
-use Rattle.std.proofs.Common.{◌≡◌, ◌≤◌, ◌<◌, ◌-◌, ℕ, false, None}
-use Rattle.std.specs.Option.{option_copied}
-use Rattle.lx_sheet.specs.Rows.{level_of}
-use Rattle.lx_edit.specs.ChanSet.{has_chan}
-use Rattle.lx_edit.specs.CueChanges.{move_by, Grows}
+use Rattle.lx_edit.proofs.Imports.{◌≡◌, ◌≤◌, ◌<◌, ◌-◌, ℕ, false, None, option_copied, level_of, has_chan, move_by, Grows}
 use Rattle.lx_edit.proofs.marks.mark_tracked.Given as goal
 
 abbrev pub invariant-loop-k : goal.invariant-loop-k

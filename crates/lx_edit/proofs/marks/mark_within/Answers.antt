@@ -1,12 +1,5 @@
-use Rattle.std.proofs.Common.{◌≡◌, ◌∙◌, ap, sym, subst, false, List, ℕ, Some, rules}
-use Rattle.std.specs.Prelude.{Option}
-use Rattle.std.specs.Option.{IsSomeAnd}
-use Rattle.lx_spec.specs.declared.Move.{Move}
-use Rattle.lx_spec.specs.SortedList.{entry_at}
-use Rattle.lx_spec.specs.Show.{Cue}
-use Rattle.lx_spec.specs.TrackedLevel.{cue_of, move_in}
-use Rattle.lx_edit.specs.ChanSet.{has_chan}
-use Rattle.lx_edit.specs.PlanMeaning.{SameOutside}
+use Rattle.lx_edit.proofs.Imports.{◌≡◌, ◌∙◌, ap, sym, subst, false, List, ℕ, Some, rules, Option, IsSomeAnd, Move, entry_at, Cue, cue_of, move_in}
+use Rattle.lx_edit.proofs.Imports.{has_chan, SameOutside}
 use Rattle.lx_edit.proofs.MoveMarks.{same_within}
 use Rattle.lx_edit.proofs.marks.mark_within.Goals as goal
 

@@ -1,7 +1,4 @@
-use Rattle.std.proofs.Common.{◌∙◌, sym, subst}
-use Rattle.lx_spec.specs.declared.Move.{Move}
-use Rattle.lx_spec.specs.SortedList.{IsStrictlySorted}
-use Rattle.lx_spec.proofs.SortedLists.{IsStrictlySorted-filter}
+use Rattle.lx_edit.proofs.Imports.{◌∙◌, sym, subst, Move, IsStrictlySorted, IsStrictlySorted-filter}
 use Rattle.lx_edit.proofs.MoveMarks.{part_has}
 use Rattle.lx_edit.proofs.marks.part_of.Goals as goal
 

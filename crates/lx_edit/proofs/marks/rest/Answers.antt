@@ -1,8 +1,4 @@
-use Rattle.std.proofs.Common.{sym, subst}
-use Rattle.lx_spec.specs.SortedList.{IsStrictlySorted}
-use Rattle.lx_spec.specs.declared.Move.{Move}
-use Rattle.lx_spec.proofs.SortedLists.{IsStrictlySorted-drop}
-use Rattle.lx_show.proofs.Stretches.{rest_of_slice}
+use Rattle.lx_edit.proofs.Imports.{sym, subst, IsStrictlySorted, Move, IsStrictlySorted-drop, rest_of_slice}
 use Rattle.lx_edit.proofs.marks.rest.Goals as goal
 
 pub returns-clause-sorted : goal.returns-clause-sorted

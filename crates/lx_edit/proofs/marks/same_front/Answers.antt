@@ -1,6 +1,4 @@
-use Rattle.std.proofs.Common.{◌≡◌, ◌+◌, ◌++◌, ◌∷◌, [], ◌∙◌, List, ap, sym, take, arith}
-use Rattle.std.proofs.lemmas.List.{take_more}
-use Rattle.lx_spec.specs.declared.Move.{Move}
+use Rattle.lx_edit.proofs.Imports.{◌≡◌, ◌+◌, ◌++◌, ◌∷◌, [], ◌∙◌, List, ap, sym, take, arith, take_more, Move}
 use Rattle.lx_edit.proofs.marks.same_front.Goals as goal
 
 pub loop-at-preserved : goal.loop-at-preserved

@@ -1,4 +1,4 @@
-use Rattle.std.proofs.Common.{◌≡◌, take}
+use Rattle.lx_edit.proofs.Imports.{◌≡◌, take}
 use Rattle.lx_edit.proofs.marks.same_front.Given as goal
 
 abbrev pub invariant-loop-at : goal.invariant-loop-at

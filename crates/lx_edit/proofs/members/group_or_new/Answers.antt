@@ -1,8 +1,4 @@
-use Rattle.std.proofs.Common.{◌≡◌, ◌∙◌, ℕ, ap, sym, Some}
-use Rattle.std.specs.Prelude.{Result, Ok, Err, IfOk}
-use Rattle.lx_spec.specs.SortedList.{entry_at}
-use Rattle.lx_spec.specs.Show.{Group}
-use Rattle.lx_spec.proofs.SortedLists.{found_number}
+use Rattle.lx_edit.proofs.Imports.{◌≡◌, ◌∙◌, ℕ, ap, sym, Some, Result, Ok, Err, IfOk, entry_at, Group, found_number}
 use Rattle.lx_edit.proofs.members.group_or_new.Goals as goal
 
 numbered : {E : Type 0} (r : Result Group E) (old : Group) (n : ℕ) → IfOk r (λ x. x ≡ old) → old.number ≡ n → IfOk r (λ x. x.number ≡ n)

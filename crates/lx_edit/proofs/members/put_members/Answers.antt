@@ -1,12 +1,5 @@
-use Rattle.std.proofs.Common.{◌∙◌, ap, sym, subst, List, take}
-use Rattle.std.proofs.lemmas.List.Sums.{fold_more}
-use Rattle.std.proofs.lemmas.List.Elements.{All-from_recursion}
-use Rattle.std.specs.Prelude.{◌≤◌}
-use Rattle.lx_spec.specs.declared.Member.{Member}
-use Rattle.lx_spec.specs.SortedList.{placed}
-use Rattle.lx_spec.specs.Show.{ValidMembers}
-use Rattle.lx_spec.specs.EditedShow.{with_members}
-use Rattle.lx_show.proofs.ChangedCues.{with_member}
+use Rattle.lx_edit.proofs.Imports.{◌∙◌, ap, sym, subst, List, take, fold_more, All-from_recursion, ◌≤◌, Member, placed, ValidMembers, with_members}
+use Rattle.lx_edit.proofs.Imports.{with_member}
 use Rattle.lx_edit.proofs.members.put_members.Goals as goal
 
 pub loop-member-preserved : goal.loop-member-preserved

@@ -1,6 +1,4 @@
-use Rattle.std.proofs.Common.{◌≡◌, take}
-use Rattle.lx_spec.specs.Show.{ValidMembers}
-use Rattle.lx_spec.specs.EditedShow.{with_members}
+use Rattle.lx_edit.proofs.Imports.{◌≡◌, take, ValidMembers, with_members}
 use Rattle.lx_edit.proofs.members.put_members.Given as goal
 
 abbrev pub invariant-loop-member : goal.invariant-loop-member

@@ -1,7 +1,4 @@
-use Rattle.std.proofs.Common.{◌∙◌, ◌+◌, ◌-◌, ◌≤◌, sym, subst, ℕ, List, arith}
-use Rattle.std.specs.List.{AllByRecursion}
-use Rattle.lx_spec.specs.declared.Member.{Member}
-use Rattle.lx_edit.specs.Found.{IsWithin}
+use Rattle.lx_edit.proofs.Imports.{◌∙◌, ◌+◌, ◌-◌, ◌≤◌, sym, subst, ℕ, List, arith, AllByRecursion, Member, IsWithin}
 use Rattle.lx_edit.proofs.CueLevels.{levels_within}
 use Rattle.lx_edit.proofs.members.sub_member.Goals as goal
 

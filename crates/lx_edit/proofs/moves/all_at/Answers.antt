@@ -1,8 +1,5 @@
-use Rattle.std.proofs.Common.{◌≡◌, ◌+◌, ◌-◌, ℕ, ◌∙◌, ap, sym, ◌++◌, ◌∷◌, [], List, arith}
-use Rattle.std.specs.List.{range_with_len}
-use Rattle.std.proofs.lemmas.List.FromFn.{map-range_with_len_more}
-use Rattle.lx_spec.specs.declared.Member.{Member}
-use Rattle.lx_spec.specs.EditedShow.{all_at}
+use Rattle.lx_edit.proofs.Imports.{◌≡◌, ◌+◌, ◌-◌, ℕ, ◌∙◌, ap, sym, ◌++◌, ◌∷◌, [], List, arith, range_with_len}
+use Rattle.lx_edit.proofs.Imports.{map-range_with_len_more, Member, all_at}
 use Rattle.lx_edit.proofs.moves.all_at.Goals as goal
 
 pub loop-n-preserved : goal.loop-n-preserved

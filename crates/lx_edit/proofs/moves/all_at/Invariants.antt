@@ -1,6 +1,4 @@
-use Rattle.std.proofs.Common.{◌≡◌, ◌-◌}
-use Rattle.std.specs.List.{range_with_len}
-use Rattle.lx_spec.specs.EditedShow.{all_at}
+use Rattle.lx_edit.proofs.Imports.{◌≡◌, ◌-◌, range_with_len, all_at}
 use Rattle.lx_edit.proofs.moves.all_at.Given as goal
 
 abbrev pub invariant-loop-n : goal.invariant-loop-n

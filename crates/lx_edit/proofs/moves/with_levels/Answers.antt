@@ -1,7 +1,4 @@
-use Rattle.std.proofs.Common.{◌∙◌, sym, subst, List}
-use Rattle.std.specs.List.{AllByRecursion}
-use Rattle.lx_spec.specs.declared.Move.{Move}
-use Rattle.lx_edit.specs.Found.{Fits}
+use Rattle.lx_edit.proofs.Imports.{◌∙◌, sym, subst, List, AllByRecursion, Move, Fits}
 use Rattle.lx_edit.proofs.CueLevels.{moves_fit}
 use Rattle.lx_edit.proofs.moves.with_levels.Goals as goal
 

@@ -1,6 +1,4 @@
-use Rattle.std.proofs.Common.{◌≡◌, sym, subst, rules}
-use Rattle.lx_spec.specs.Show.{ValidCue}
-use Rattle.lx_spec.specs.EditedShow.{with_moves}
+use Rattle.lx_edit.proofs.Imports.{◌≡◌, sym, subst, rules, ValidCue, with_moves}
 use Rattle.lx_edit.proofs.CueLevels.{valid_with_moves}
 use Rattle.lx_edit.proofs.moves.with_moves.Goals as goal
 

@@ -1,7 +1,4 @@
-use Rattle.std.proofs.Common.{true, sym}
-use Rattle.lx_spec.specs.Session.{begin_at}
-use Rattle.lx_spec.specs.DeskSession.{begun, desk_answering}
-use Rattle.lx_console.specs.ConsoleMeaning.{StandsFor}
+use Rattle.lx_embed.proofs.Imports.{true, sym, begin_at, begun, desk_answering, StandsFor}
 use Rattle.lx_embed.proofs.Lines.{line_answered, plain_answered}
 use Rattle.lx_embed.proofs.engine.answer_plain.Goals as goal
 

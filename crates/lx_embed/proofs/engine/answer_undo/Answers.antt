@@ -1,7 +1,5 @@
-use Rattle.std.proofs.Common.{refl, sym}
-use Rattle.lx_spec.specs.Session.{begin_at}
+use Rattle.lx_embed.proofs.Imports.{refl, sym, begin_at, UndoStands}
 use Rattle.lx_spec.specs.UndoSession.{undo_answering}
-use Rattle.lx_undo.specs.UndoDeskMeaning.{UndoStands}
 use Rattle.lx_embed.proofs.Lines.{line_answered, more_of}
 use Rattle.lx_embed.proofs.engine.answer_undo.Goals as goal
 

@@ -1,5 +1,4 @@
-use Rattle.std.proofs.Common.{ap, Err, arith}
-use Rattle.lx_reader.specs.Answer.{reading_of}
+use Rattle.lx_embed.proofs.Imports.{ap, Err, arith, reading_of}
 use Rattle.lx_embed.proofs.ReadTexts.{loads, refuses}
 use Rattle.lx_embed.proofs.open.open_text.Goals as goal
 

@@ -1,4 +1,4 @@
-use Rattle.std.proofs.Common.{◌∙◌}
+use Rattle.lx_embed.proofs.Imports.{◌∙◌}
 use Rattle.lx_embed.proofs.shown.frame_of.Goals as goal
 
 pub returns-clause-frame : goal.returns-clause-frame

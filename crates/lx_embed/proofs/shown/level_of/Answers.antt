@@ -1,4 +1,4 @@
-use Rattle.std.proofs.Common.{◌≡◌, ◌+◌, ◌-◌, ◌∙◌, ap, arith}
+use Rattle.lx_embed.proofs.Imports.{◌≡◌, ◌+◌, ◌-◌, ◌∙◌, ap, arith}
 use Rattle.lx_spec.specs.RecordedLevels.{on_stage}
 use Rattle.lx_embed.proofs.shown.level_of.Goals as goal
 

@@ -1,10 +1,5 @@
-use Rattle.std.proofs.Common.{◌≡◌, ℕ, ◌+◌, ◌-◌, ◌∙◌, sym, subst, arith}
-use Rattle.std.specs.Result.{IsOkAnd}
+use Rattle.lx_embed.proofs.Imports.{◌≡◌, ℕ, ◌+◌, ◌-◌, ◌∙◌, sym, subst, arith, IsOkAnd, Desk, step, Kept, StandsFor, after_ticks}
 use Rattle.lx_spec.specs.declared.Command.TheVariants as commands
-use Rattle.lx_spec.specs.Desk.{Desk, step}
-use Rattle.lx_spec.specs.Kept.{Kept}
-use Rattle.lx_console.specs.ConsoleMeaning.{StandsFor}
-use Rattle.lx_console.specs.Ticks.{after_ticks}
 use Rattle.lx_embed.proofs.TicksMore.{ticks_more, ticks_one, if_refused, if_accepted, refused_by}
 use Rattle.lx_embed.proofs.ticks.tick_plain.Goals as goal
 

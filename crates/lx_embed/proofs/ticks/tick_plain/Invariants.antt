@@ -1,8 +1,4 @@
-use Rattle.std.proofs.Common.{◌≤◌, ◌-◌}
-use Rattle.std.specs.Result.{IsOkAnd}
-use Rattle.lx_spec.specs.Desk.{Desk}
-use Rattle.lx_console.specs.ConsoleMeaning.{StandsFor}
-use Rattle.lx_console.specs.Ticks.{after_ticks}
+use Rattle.lx_embed.proofs.Imports.{◌≤◌, ◌-◌, IsOkAnd, Desk, StandsFor, after_ticks}
 use Rattle.lx_embed.proofs.ticks.tick_plain.Given as goal
 
 abbrev pub invariant-ticks : goal.invariant-ticks

@@ -1,8 +1,4 @@
-use Rattle.std.proofs.Common.{◌≡◌, ℕ, ◌+◌, ◌-◌, ◌∙◌, sym, subst, arith}
-use Rattle.std.specs.Result.{IsOkAnd}
-use Rattle.lx_spec.specs.Desk.{Desk}
-use Rattle.lx_console.specs.Ticks.{after_ticks}
-use Rattle.lx_undo.specs.UndoDeskMeaning.{UndoKept, UndoStands}
+use Rattle.lx_embed.proofs.Imports.{◌≡◌, ℕ, ◌+◌, ◌-◌, ◌∙◌, sym, subst, arith, IsOkAnd, Desk, after_ticks, UndoKept, UndoStands}
 use Rattle.lx_embed.proofs.TicksMore.{ticks_more, undo_one, if_refused, if_accepted, undo_refused}
 use Rattle.lx_embed.proofs.ticks.tick_undo.Goals as goal
 

@@ -1,8 +1,4 @@
-use Rattle.std.proofs.Common.{◌≤◌, ◌-◌}
-use Rattle.std.specs.Result.{IsOkAnd}
-use Rattle.lx_spec.specs.Undo.{UndoState}
-use Rattle.lx_console.specs.Ticks.{after_ticks}
-use Rattle.lx_undo.specs.UndoDeskMeaning.{UndoStands}
+use Rattle.lx_embed.proofs.Imports.{◌≤◌, ◌-◌, IsOkAnd, UndoState, after_ticks, UndoStands}
 use Rattle.lx_embed.proofs.ticks.tick_undo.Given as goal
 
 abbrev pub invariant-ticks : goal.invariant-ticks

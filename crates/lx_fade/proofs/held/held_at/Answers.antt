@@ -1,4 +1,4 @@
-use Rattle.std.proofs.Common.{arith}
+use Rattle.lx_fade.proofs.Imports.{arith}
 use Rattle.lx_fade.proofs.held.held_at.Goals as goal
 
 pub returns-then-fade-2-clause-later : goal.returns-then-fade-2-clause-later

@@ -1,6 +1,4 @@
-use Rattle.std.proofs.Common.{◌≤◌, ◌∙◌, sym, ap, arith}
-use Rattle.std.proofs.lemmas.Bool.Decides.{nat_tests}
-use Rattle.lx_fade.specs.Fades.{Fade}
+use Rattle.lx_fade.proofs.Imports.{◌≤◌, ◌∙◌, sym, ap, arith, nat_tests, Fade}
 use Rattle.lx_fade.proofs.Rows.{newest_kept, newest_left, read_is}
 use Rattle.lx_fade.proofs.stack.begun_in.Goals as goal
 

@@ -1,6 +1,4 @@
-use Rattle.std.proofs.Common.{◌≡◌, ◌≤◌}
-use Rattle.lx_fade.specs.Fades.{begun_by}
-use Rattle.lx_fade.specs.Row.{stack_column}
+use Rattle.lx_fade.proofs.Imports.{◌≡◌, ◌≤◌, begun_by, stack_column}
 use Rattle.lx_fade.proofs.stack.begun_in.Given as goal
 
 abbrev pub invariant-loop-kept : goal.invariant-loop-kept

@@ -1,5 +1,4 @@
-use Rattle.std.proofs.Common.{◌<◌, ◌≤◌, ◌∙◌, sym, ap, arith}
-use Rattle.lx_fade.specs.Fades.{Fade}
+use Rattle.lx_fade.proofs.Imports.{◌<◌, ◌≤◌, ◌∙◌, sym, ap, arith, Fade}
 use Rattle.lx_fade.proofs.Rows.{newest_begun, read_is}
 use Rattle.lx_fade.proofs.stack.newest_at.Goals as goal
 

@@ -1,6 +1,4 @@
-use Rattle.std.proofs.Common.{◌∙◌, ap, arith, List, subst, sym}
-use Rattle.lx_fade.specs.Fades.{Fade, stack_at, StartsFall}
-use Rattle.lx_fade.specs.Row.{stack_in}
+use Rattle.lx_fade.proofs.Imports.{◌∙◌, ap, arith, List, subst, sym, Fade, stack_at, StartsFall, stack_in}
 use Rattle.lx_fade.proofs.PushedFades.{stack_at-pushed}
 use Rattle.lx_fade.proofs.Stacks.{stack_in-pushed, StartsFall-pushed}
 use Rattle.lx_fade.proofs.stack.push_fade.Goals as goal

@@ -1,6 +1,4 @@
-use Rattle.std.proofs.Common.{◌≡◌, ◌∷◌, List, ap, arith, ◌∙◌}
-use Rattle.lx_fade.specs.Fades.{Fade, stack_at}
-use Rattle.lx_fade.specs.Row.{stack_column}
+use Rattle.lx_fade.proofs.Imports.{◌≡◌, ◌∷◌, List, ap, arith, ◌∙◌, Fade, stack_at, stack_column}
 use Rattle.lx_fade.proofs.PushedFades.{before_start}
 use Rattle.lx_fade.proofs.stack.push_in.Goals as goal
 

@@ -1,5 +1,4 @@
-use Rattle.std.proofs.Common.{◌∙◌, ap, List}
-use Rattle.lx_fade.specs.Fades.{Fade, stack_at}
+use Rattle.lx_fade.proofs.Imports.{◌∙◌, ap, List, Fade, stack_at}
 use Rattle.lx_fade.proofs.Rows.{column_whole}
 use Rattle.lx_fade.proofs.stack.value.Goals as goal
 

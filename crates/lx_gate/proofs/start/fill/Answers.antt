@@ -1,5 +1,4 @@
-use Rattle.std.proofs.Common.{◌+◌, ◌∷◌, [], length, length-append, arith, sym, ap, ◌∙◌}
-use Rattle.lx_gate.specs.Readings.{IsNewTap}
+use Rattle.lx_gate.proofs.Imports.{◌+◌, ◌∷◌, [], length, length-append, arith, sym, ap, ◌∙◌, IsNewTap}
 use Rattle.lx_gate.proofs.DarkDesk.{dark}
 use Rattle.lx_base.proofs.Places.{each_snoc}
 use Rattle.lx_gate.proofs.FirstVersion.{first_frame, new_tap}

@@ -1,6 +1,5 @@
-use Rattle.std.proofs.Common.{◌≡◌, ◌≤◌, length, vec_len, vec_capacity}
+use Rattle.lx_gate.proofs.Imports.{◌≡◌, ◌≤◌, length, vec_len, vec_capacity, IsNewTap}
 use Rattle.lx_base.specs.Places.{EachAt}
-use Rattle.lx_gate.specs.Readings.{IsNewTap}
 use Rattle.lx_gate.proofs.start.fill.Given as goal
 
 abbrev pub invariant-loop-place : goal.invariant-loop-place

@@ -1,4 +1,4 @@
-use Rattle.std.proofs.Common.{arith}
+use Rattle.lx_gate.proofs.Imports.{arith}
 use Rattle.lx_gate.specs.Notes.{commands_of_note}
 use Rattle.lx_gate.proofs.LongestList.{longest_second}
 use Rattle.lx_gate.proofs.FirstVersion.{frame_from}

@@ -1,5 +1,4 @@
-use Rattle.std.proofs.Common.{arith, length-drop, take_all}
-use Rattle.std.proofs.lemmas.Grind.{common_steps}
+use Rattle.lx_io.proofs.Imports.{arith, length-drop, take_all, common_steps}
 use Rattle.lx_io.proofs.Steps.{put_on}
 use Rattle.lx_io.proofs.buffered.pass_on.Goals as goal
 

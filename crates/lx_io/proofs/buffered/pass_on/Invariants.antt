@@ -1,5 +1,4 @@
-use Rattle.std.proofs.Common.{length, ◌-◌, ◌≤◌, take, Ok}
-use Rattle.lx_io.specs.Puts.{Puts}
+use Rattle.lx_io.proofs.Imports.{length, ◌-◌, ◌≤◌, take, Ok, Puts}
 use Rattle.lx_io.proofs.buffered.pass_on.Given as goal
 
 abbrev pub invariant-rest : goal.invariant-rest

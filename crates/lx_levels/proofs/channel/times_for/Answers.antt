@@ -1,5 +1,4 @@
-use Rattle.std.proofs.Common.{subst, sym}
-use Rattle.lx_playback.specs.Valid.{ValidTimes}
+use Rattle.lx_levels.proofs.Imports.{subst, sym, ValidTimes}
 use Rattle.lx_levels.proofs.Entries.{entry_holds}
 use Rattle.lx_levels.proofs.channel.times_for.Goals as goal
 

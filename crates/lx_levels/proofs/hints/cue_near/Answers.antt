@@ -1,8 +1,5 @@
-use Rattle.std.proofs.Common.{◌≡◌, ◌<◌, Some, List, length, get_or, ap, sym, subst, ◌∙◌, arith}
-use Rattle.std.proofs.Common.{ℕ}
-use Rattle.lx_spec.specs.SortedList.{IsStrictlySorted, entry_at}
-use Rattle.lx_spec.specs.Show.{Cue}
-use Rattle.lx_spec.specs.TrackedLevel.{cue_of}
+use Rattle.lx_levels.proofs.Imports.{◌≡◌, ◌<◌, Some, List, length, get_or, ap, sym, subst, ◌∙◌, arith, ℕ, IsStrictlySorted, entry_at, Cue}
+use Rattle.lx_levels.proofs.Imports.{cue_of}
 use Rattle.lx_show.proofs.Indexes.{stands_entry}
 use Rattle.lx_levels.proofs.Found.{entry_there}
 use Rattle.lx_levels.proofs.hints.cue_near.Goals as goal

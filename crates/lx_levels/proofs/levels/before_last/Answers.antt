@@ -1,5 +1,4 @@
-use Rattle.std.proofs.Common.{◌∙◌, ap, arith}
-use Rattle.lx_spec.specs.Run.{Run}
+use Rattle.lx_levels.proofs.Imports.{◌∙◌, ap, arith, Run}
 use Rattle.lx_levels.proofs.AddedRuns.{cue_before}
 use Rattle.lx_levels.proofs.levels.before_last.Goals as goal
 

@@ -1,5 +1,4 @@
-use Rattle.std.proofs.Common.{◌≡◌, true}
-use Rattle.lx_levels.specs.CurrentFades.{AreAt}
+use Rattle.lx_levels.proofs.Imports.{◌≡◌, true, AreAt}
 use Rattle.lx_levels.proofs.levels.block_is_at.Given as goal
 
 abbrev pub invariant-loop-i : goal.invariant-loop-i

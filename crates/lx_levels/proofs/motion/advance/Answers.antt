@@ -1,7 +1,5 @@
-use Rattle.std.proofs.Common.{◌≡◌, ℕ, ◌<◌, ◌≤◌, Bool, true, false, length, get_or, inl, inr, ◌∙◌, subst, sym, arith, refl}
-use Rattle.std.specs.Prelude.{◌||◌}
-use Rattle.std.proofs.lemmas.Bool.{cases_eq}
-use Rattle.std.proofs.lemmas.List.{get_or_read}
+use Rattle.lx_levels.proofs.Imports.{◌≡◌, ℕ, ◌<◌, ◌≤◌, Bool, true, false, length, get_or, inl, inr, ◌∙◌, subst, sym, arith, refl}
+use Rattle.lx_levels.proofs.Imports.{◌||◌, cases_eq, get_or_read}
 use Rattle.lx_levels.proofs.UnderWay.{advanced_next}
 use Rattle.lx_levels.proofs.motion.advance.Goals as goal
 

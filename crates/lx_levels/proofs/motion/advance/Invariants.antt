@@ -1,6 +1,4 @@
-use Rattle.std.proofs.Common.{◌≡◌, ℕ, ◌<◌, ◌≤◌, false, get_or, length}
-use Rattle.lx_fade.specs.declared.held.TheConstants.{NEVER}
-use Rattle.lx_levels.specs.CurrentFades.{IsAdvanced}
+use Rattle.lx_levels.proofs.Imports.{◌≡◌, ℕ, ◌<◌, ◌≤◌, false, get_or, length, NEVER, IsAdvanced}
 use Rattle.lx_levels.proofs.motion.advance.Given as goal
 
 abbrev pub invariant-loop-k : goal.invariant-loop-k

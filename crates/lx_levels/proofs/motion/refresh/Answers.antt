@@ -1,5 +1,4 @@
-use Rattle.std.proofs.Common.{get_or, refl}
-use Rattle.lx_levels.specs.Stacks.{no_stack}
+use Rattle.lx_levels.proofs.Imports.{get_or, refl, no_stack}
 use Rattle.lx_levels.proofs.UnderWay.{refreshed}
 use Rattle.lx_levels.proofs.motion.refresh.Goals as goal
 

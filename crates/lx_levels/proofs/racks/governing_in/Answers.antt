@@ -1,8 +1,5 @@
-use Rattle.std.proofs.Common.{◌≡◌, ◌≤◌, ◌<◌, ◌⊎◌, ◌∙◌, sym, ap, subst, arith}
-use Rattle.lx_fade.specs.Fades.{Fade, stack_at}
-use Rattle.lx_fade.specs.Row.{stack_column}
-use Rattle.lx_fade.specs.declared.held.TheConstants.{NEVER}
-use Rattle.lx_fade.proofs.Rows.{newest_begun, newest_waits, read_is}
+use Rattle.lx_levels.proofs.Imports.{◌≡◌, ◌≤◌, ◌<◌, ◌⊎◌, ◌∙◌, sym, ap, subst, arith, Fade, stack_at, stack_column, NEVER}
+use Rattle.lx_levels.proofs.Imports.{newest_begun, newest_waits, read_is}
 use Rattle.lx_levels.proofs.Columns.{before_lesser, start_comes}
 use Rattle.lx_levels.proofs.racks.governing_in.Goals as goal
 

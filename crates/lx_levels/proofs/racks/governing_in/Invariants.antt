@@ -1,7 +1,4 @@
-use Rattle.std.proofs.Common.{◌≡◌, ◌⊎◌, ℕ, ◌<◌, ◌≤◌}
-use Rattle.lx_fade.specs.Fades.{stack_at}
-use Rattle.lx_fade.specs.declared.held.TheConstants.{NEVER}
-use Rattle.lx_fade.specs.Row.{stack_column}
+use Rattle.lx_levels.proofs.Imports.{◌≡◌, ◌⊎◌, ℕ, ◌<◌, ◌≤◌, stack_at, NEVER, stack_column}
 use Rattle.lx_levels.proofs.racks.governing_in.Given as goal
 
 abbrev pub invariant-loop-left : goal.invariant-loop-left

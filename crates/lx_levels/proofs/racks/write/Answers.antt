@@ -1,5 +1,4 @@
-use Rattle.std.proofs.Common.{◌≡◌, ◌+◌, ◌*◌, ◌<◌, length, set, suc, ap, ◌∙◌, arith}
-use Rattle.lx_fade.specs.Row.{stack_column}
+use Rattle.lx_levels.proofs.Imports.{◌≡◌, ◌+◌, ◌*◌, ◌<◌, length, set, suc, ap, ◌∙◌, arith, stack_column}
 use Rattle.lx_levels.proofs.Columns.{written_here, written_other}
 use Rattle.lx_levels.proofs.racks.write.Goals as goal
 

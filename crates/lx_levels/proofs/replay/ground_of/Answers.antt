@@ -1,11 +1,5 @@
-use Rattle.std.proofs.Common.{◌≡◌, ◌+◌, ◌-◌, ◌<◌, ◌≤◌, ◌∙◌, ℕ, List, true, false, length, take, reverse, ap, sym, subst, arith}
-use Rattle.std.specs.Prelude.{Option, Some, None}
-use Rattle.lx_spec.specs.TrackedLevel.{tracked}
-use Rattle.lx_spec.specs.Run.{Run, acts}
-use Rattle.lx_spec.specs.Level.{last_cue}
-use Rattle.lx_playback.specs.Valid.{ValidRun}
-use Rattle.lx_levels.specs.declared.replay.Act.{Act}
-use Rattle.lx_levels.specs.RunsInTurn.{AreKnown, EachAct, IsValid}
+use Rattle.lx_levels.proofs.Imports.{◌≡◌, ◌+◌, ◌-◌, ◌<◌, ◌≤◌, ◌∙◌, ℕ, List, true, false, length, take, reverse, ap, sym, subst}
+use Rattle.lx_levels.proofs.Imports.{arith, Option, Some, None, tracked, Run, acts, last_cue, ValidRun, Act, AreKnown, EachAct, IsValid}
 use Rattle.lx_levels.proofs.RunsInTurn.{each_more, target_of, later_than, known_on, known_off, known_more}
 use Rattle.lx_levels.proofs.replay.ground_of.Goals as goal
 use Rattle.lx_levels.proofs.replay.ground_of.Goals.{then-acts+else-is_over, else-acts}

@@ -1,8 +1,4 @@
-use Rattle.std.proofs.Common.{◌≡◌, ◌≤◌, length}
-use Rattle.std.specs.Prelude.{reverse, take}
-use Rattle.lx_spec.specs.TrackedLevel.{tracked}
-use Rattle.lx_spec.specs.Level.{last_cue}
-use Rattle.lx_levels.specs.RunsInTurn.{AreKnown, EachAct, IsValid}
+use Rattle.lx_levels.proofs.Imports.{◌≡◌, ◌≤◌, length, reverse, take, tracked, last_cue, AreKnown, EachAct, IsValid}
 use Rattle.lx_levels.proofs.replay.ground_of.Given as goal
 
 abbrev pub invariant-loop-left : goal.invariant-loop-left

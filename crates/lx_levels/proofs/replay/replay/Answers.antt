@@ -1,13 +1,6 @@
-use Rattle.std.proofs.Common.{◌≡◌, ◌+◌, ◌<◌, ◌≤◌, ◌∙◌, ℕ, List, [], false, length, take, reverse, get_or, set, ap, sym, subst, arith}
-use Rattle.std.specs.Prelude.{Option, None}
-use Rattle.std.proofs.Math.ListN.{length-set}
-use Rattle.std.proofs.lemmas.List.{get_or_default}
-use Rattle.std.proofs.lemmas.Grind.{common_steps}
-use Rattle.lx_spec.specs.Run.{Run}
-use Rattle.lx_spec.specs.Level.{level}
-use Rattle.lx_levels.specs.Stacks.{Stack, stack_level, no_stack}
-use Rattle.lx_levels.specs.declared.replay.Act.{Act}
-use Rattle.lx_levels.specs.RunsInTurn.{IsReplayed}
+use Rattle.lx_levels.proofs.Imports.{◌≡◌, ◌+◌, ◌<◌, ◌≤◌, ◌∙◌, ℕ, List, [], false, length, take, reverse, get_or, set, ap, sym}
+use Rattle.lx_levels.proofs.Imports.{subst, arith, Option, None, length-set, get_or_default, common_steps, Run, level, Stack, stack_level, no_stack, Act}
+use Rattle.lx_levels.proofs.Imports.{IsReplayed}
 use Rattle.lx_levels.proofs.Columns.{set_again, set_is_there}
 use Rattle.lx_levels.proofs.RunsInTurn.{replayed_on, replayed_off}
 use Rattle.lx_levels.proofs.replay.replay.Goals as goal

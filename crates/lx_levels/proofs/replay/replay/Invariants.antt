@@ -1,8 +1,4 @@
-use Rattle.std.proofs.Common.{◌≡◌, ◌≤◌, ℕ, length, set}
-use Rattle.std.specs.Prelude.{slice_index_or}
-use Rattle.lx_spec.specs.Show.{Show}
-use Rattle.lx_levels.specs.Stacks.{no_stack}
-use Rattle.lx_levels.specs.RunsInTurn.{IsGround, IsReplayed}
+use Rattle.lx_levels.proofs.Imports.{◌≡◌, ◌≤◌, ℕ, length, set, slice_index_or, Show, no_stack, IsGround, IsReplayed}
 use Rattle.lx_levels.proofs.replay.replay.Given as goal
 
 abbrev pub invariant-loop-i : goal.invariant-loop-i

@@ -1,6 +1,5 @@
-use Rattle.std.proofs.Common.{◌≡◌, ◌≤◌, ℕ, suc, ◌+◌, ◌-◌, true, nat_le, length, ap, ◌∙◌, arith}
-use Rattle.std.proofs.lemmas.Bool.Decides.{nat_tests}
-use Rattle.lx_spec.specs.Text.{tokens, after_tokens, after_all, is_blank}
+use Rattle.lx_lex.proofs.Imports.{◌≡◌, ◌≤◌, ℕ, suc, ◌+◌, ◌-◌, true, nat_le, length, ap, ◌∙◌, arith, nat_tests, tokens, after_tokens}
+use Rattle.lx_lex.proofs.Imports.{after_all, is_blank}
 use Rattle.lx_lex.proofs.cut.rest_after.Goals as goal
 
 le-true : (k n : ℕ) → k ≤ n → nat_le k n ≡ true

@@ -1,5 +1,4 @@
-use Rattle.std.proofs.Common.{◌≡◌, ◌+◌, ◌-◌, length}
-use Rattle.lx_spec.specs.Text.{tokens, after_tokens}
+use Rattle.lx_lex.proofs.Imports.{◌≡◌, ◌+◌, ◌-◌, length, tokens, after_tokens}
 use Rattle.lx_lex.proofs.cut.rest_after.Given as goal
 
 abbrev pub invariant-loop : goal.invariant-loop

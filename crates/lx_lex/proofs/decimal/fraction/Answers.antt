@@ -1,9 +1,5 @@
-use Rattle.std.proofs.Common.{◌≡◌, ◌+◌, ◌-◌, ◌*◌, ◌/◌, ◌≤◌, refl, take, get_or, ap, sym, ◌∙◌, arith}
-use Rattle.std.proofs.Math.Nat.{mul-le-mul_right}
-use Rattle.std.proofs.lemmas.Grind.{common_steps}
-use Rattle.std.proofs.lemmas.List.Folds.{list_all_more}
-use Rattle.std.proofs.lemmas.List.Sums.{fold_more}
-use Rattle.lx_spec.specs.Numerals.{number_of}
+use Rattle.lx_lex.proofs.Imports.{◌≡◌, ◌+◌, ◌-◌, ◌*◌, ◌/◌, ◌≤◌, refl, take, get_or, ap, sym, ◌∙◌, arith, mul-le-mul_right}
+use Rattle.lx_lex.proofs.Imports.{common_steps, list_all_more, fold_more, number_of}
 use Rattle.lx_lex.proofs.Fractions.{fraction-more, step-more, ten_pos}
 use Rattle.lx_lex.proofs.decimal.fraction.Goals as goal
 

@@ -1,6 +1,4 @@
-use Rattle.std.proofs.Common.{◌≡◌, ◌+◌, ◌*◌, ◌/◌, ◌^◌, ◌<◌, ◌≤◌, true, take}
-use Rattle.std.specs.List.{list_all}
-use Rattle.lx_spec.specs.Numerals.{is_digit, number_of}
+use Rattle.lx_lex.proofs.Imports.{◌≡◌, ◌+◌, ◌*◌, ◌/◌, ◌^◌, ◌<◌, ◌≤◌, true, take, list_all, is_digit, number_of}
 use Rattle.lx_lex.proofs.decimal.fraction.Given as goal
 
 abbrev pub invariant-loop-b : goal.invariant-loop-b

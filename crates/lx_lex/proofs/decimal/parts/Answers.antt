@@ -1,6 +1,4 @@
-use Rattle.std.proofs.Common.{◌≡◌, Bool, true, false, ◌&&◌, ◌∙◌, refl, sym}
-use Rattle.lx_spec.specs.Text.{is_filled}
-use Rattle.lx_spec.specs.Numerals.{is_point}
+use Rattle.lx_lex.proofs.Imports.{◌≡◌, Bool, true, false, ◌&&◌, ◌∙◌, refl, sym, is_filled, is_point}
 use Rattle.lx_lex.proofs.LineCuts.{is_filled-length}
 use Rattle.lx_lex.proofs.Places.{before_first-none, after_first-none}
 use Rattle.lx_lex.proofs.decimal.parts.Goals as goal

@@ -1,5 +1,4 @@
-use Rattle.std.proofs.Common.{◌+◌, ◌-◌, ◌==◌, length, take, drop, sym, ◌∙◌, ap, rules, arith}
-use Rattle.std.proofs.lemmas.List.{take_all, length-drop}
+use Rattle.lx_lex.proofs.Imports.{◌+◌, ◌-◌, ◌==◌, length, take, drop, sym, ◌∙◌, ap, rules, arith, take_all, length-drop}
 use Rattle.lx_lex.proofs.Places.{position-none, position-some}
 use Rattle.lx_lex.proofs.digits.cut_at.Goals as goal
 

@@ -1,6 +1,4 @@
-use Rattle.std.proofs.Common.{◌≡◌, true, min, take}
-use Rattle.std.specs.List.{list_all}
-use Rattle.lx_spec.specs.Numerals.{is_digit, number_of}
+use Rattle.lx_lex.proofs.Imports.{◌≡◌, true, min, take, list_all, is_digit, number_of}
 use Rattle.lx_lex.specs.declared.digits.TheConstants.{TOO_GREAT}
 use Rattle.lx_lex.proofs.digits.number.Given as goal
 

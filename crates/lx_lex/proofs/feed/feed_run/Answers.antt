@@ -1,6 +1,4 @@
-use Rattle.std.proofs.Common.{◌<◌, ◌≤◌, ◌+◌, sym, ◌∙◌, subst, arith}
-use lib.Count.{count_trailing_zeros}
-use Rattle.memchr.specs.Find.{Nowhere, Passes, is_byte}
+use Rattle.lx_lex.proofs.Imports.{◌<◌, ◌≤◌, ◌+◌, sym, ◌∙◌, subst, arith, count_trailing_zeros, Nowhere, Passes, is_byte}
 use Rattle.lx_lex.proofs.FeedRuns.{feeds_is, none_in_run, run_found, run_most, run_none}
 use Rattle.lx_lex.proofs.feed.feed_run.Goals as goal
 

@@ -1,4 +1,4 @@
-use Rattle.memchr.specs.Find.{Nowhere, Passes, is_byte}
+use Rattle.lx_lex.proofs.Imports.{Nowhere, Passes, is_byte}
 use Rattle.lx_lex.proofs.feed.last_feed.Given as goal
 
 abbrev pub invariant-loop-place : goal.invariant-loop-place

@@ -1,5 +1,4 @@
-use Rattle.std.proofs.Common.{◌≤◌, ◌-◌}
-use Rattle.memchr.specs.Find.{Nowhere, Passes, is_byte}
+use Rattle.lx_lex.proofs.Imports.{◌≤◌, ◌-◌, Nowhere, Passes, is_byte}
 use Rattle.lx_lex.proofs.feed.next_lf.Given as goal
 
 abbrev pub invariant-loop-at : goal.invariant-loop-at

@@ -1,4 +1,4 @@
-use Rattle.std.proofs.Common.{refl, arith}
+use Rattle.lx_lex.proofs.Imports.{refl, arith}
 use Rattle.lx_lex.proofs.HexValues.{digit_value, no_value}
 use Rattle.lx_lex.proofs.hex.hex_value.Goals as goal
 

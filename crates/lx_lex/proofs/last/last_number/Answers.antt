@@ -1,5 +1,4 @@
-use Rattle.std.proofs.Common.{◌≡◌, arith}
-use Rattle.lx_spec.specs.Numerals.{number_of}
+use Rattle.lx_lex.proofs.Imports.{◌≡◌, arith, number_of}
 use Rattle.lx_lex.proofs.PlainNumbers.{digits_alone}
 use Rattle.lx_lex.proofs.last.last_number.Goals as goal
 

@@ -1,4 +1,4 @@
-use Rattle.std.proofs.Common.{◌∙◌}
+use Rattle.lx_lex.proofs.Imports.{◌∙◌}
 use Rattle.lx_lex.proofs.PlainNumbers.{digit_taken}
 use Rattle.lx_lex.proofs.plain.first_digits.Goals as goal
 

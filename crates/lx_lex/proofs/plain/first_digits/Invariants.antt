@@ -1,5 +1,4 @@
-use Rattle.std.proofs.Common.{length}
-use Rattle.lx_lex.specs.PlainNumber.{BeginsWithDigits}
+use Rattle.lx_lex.proofs.Imports.{length, BeginsWithDigits}
 use Rattle.lx_lex.proofs.plain.first_digits.Given as goal
 
 abbrev pub invariant-loop-rest : goal.invariant-loop-rest

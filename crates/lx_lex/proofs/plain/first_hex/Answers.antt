@@ -1,4 +1,4 @@
-use Rattle.std.proofs.Common.{sym, ◌∙◌}
+use Rattle.lx_lex.proofs.Imports.{sym, ◌∙◌}
 use Rattle.lx_lex.proofs.HexLevels.{hex_first}
 use Rattle.lx_lex.proofs.plain.first_hex.Goals as goal
 

@@ -1,4 +1,4 @@
-use Rattle.std.proofs.Common.{◌∙◌, arith}
+use Rattle.lx_lex.proofs.Imports.{◌∙◌, arith}
 use Rattle.lx_lex.proofs.PlainNumbers.{digit_at, first_at, rest_of}
 use Rattle.lx_lex.proofs.plain.four_digits.Goals as goal
 

@@ -1,6 +1,4 @@
-use Rattle.std.proofs.Common.{arith}
-use Rattle.std.proofs.lemmas.Fmt.{length-decimal-le}
-use Rattle.itoa.proofs.Decimal.{length_four}
+use Rattle.lx_lex.proofs.Imports.{arith, length-decimal-le, length_four}
 use Rattle.lx_lex.proofs.put.digits_of.Goals as goal
 
 pub loop-rest-init : goal.loop-rest-init

@@ -1,4 +1,4 @@
-use Rattle.std.proofs.Common.{◌+◌, ◌≡◌, ◌≤◌, decimal, length}
+use Rattle.lx_lex.proofs.Imports.{◌+◌, ◌≡◌, ◌≤◌, decimal, length}
 use Rattle.lx_lex.proofs.put.digits_of.Given as goal
 
 abbrev pub invariant-loop-rest : goal.invariant-loop-rest

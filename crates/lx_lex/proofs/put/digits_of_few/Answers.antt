@@ -1,5 +1,4 @@
-use Rattle.std.proofs.Common.{sym, arith}
-use Rattle.itoa.proofs.Decimal.{length_one, length_two}
+use Rattle.lx_lex.proofs.Imports.{sym, arith, length_one, length_two}
 use Rattle.lx_lex.proofs.Decimals.{length_three, length_four}
 use Rattle.lx_lex.proofs.put.digits_of_few.Goals as goal
 

@@ -1,4 +1,4 @@
-use Rattle.std.proofs.Common.{sym, ap, ◌∙◌, ◌++◌, take, inl, arith}
+use Rattle.lx_lex.proofs.Imports.{sym, ap, ◌∙◌, ◌++◌, take, inl, arith}
 use Rattle.lx_lex.proofs.Decimals.{decimals_text-some, goes_on, ended}
 use Rattle.lx_lex.proofs.put.write_decimals.Goals as goal
 

@@ -1,5 +1,4 @@
-use Rattle.std.proofs.Common.{◌-◌, ◌∷◌, ◌++◌, take}
-use Rattle.lx_spec.specs.Numerals.{decimals_of}
+use Rattle.lx_lex.proofs.Imports.{◌-◌, ◌∷◌, ◌++◌, take, decimals_of}
 use Rattle.lx_lex.proofs.Decimals.{Written}
 use Rattle.lx_lex.proofs.put.write_decimals.Given as goal
 

@@ -1,6 +1,4 @@
-use Rattle.std.proofs.Common.{◌++◌, ◌∙◌, sym, ap, take, arith}
-use Rattle.std.proofs.lemmas.Fmt.{decimal_digit}
-use Rattle.std.proofs.lemmas.List.{take_more_set}
+use Rattle.lx_lex.proofs.Imports.{◌++◌, ◌∙◌, sym, ap, take, arith, decimal_digit, take_more_set}
 use Rattle.lx_lex.proofs.put.write_digit.Goals as goal
 
 pub returns-clause-text : goal.returns-clause-text

@@ -1,7 +1,5 @@
-use Rattle.std.proofs.Common.{◌-◌, ◌∙◌, length, decimal, refl, sym}
+use Rattle.lx_lex.proofs.Imports.{◌-◌, ◌∙◌, length, decimal, refl, sym, CUE_UNIT, decimals}
 use Rattle.std.specs.Fmt.{digits}
-use Rattle.lx_base.specs.declared.TheConstants.{CUE_UNIT}
-use Rattle.lx_spec.specs.Numerals.{decimals}
 use Rattle.lx_lex.proofs.Fractions.{finer}
 use Rattle.lx_lex.proofs.read.read_cue_no.Goals as goal
 

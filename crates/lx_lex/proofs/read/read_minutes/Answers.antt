@@ -1,4 +1,4 @@
-use Rattle.std.proofs.Common.{refl}
+use Rattle.lx_lex.proofs.Imports.{refl}
 use Rattle.lx_lex.proofs.read.read_minutes.Goals as goal
 
 pub read-requires : goal.read-requires

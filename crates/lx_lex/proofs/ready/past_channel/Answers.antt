@@ -1,4 +1,4 @@
-use Rattle.std.proofs.Common.{◌∙◌, sym, arith}
+use Rattle.lx_lex.proofs.Imports.{◌∙◌, sym, arith}
 use Rattle.lx_lex.proofs.ReadyNumbers.{three_first, four_first}
 use Rattle.lx_lex.proofs.ready.past_channel.Goals as goal
 

@@ -1,4 +1,4 @@
-use Rattle.std.proofs.Common.{◌∙◌, decimal, length, ap, arith}
+use Rattle.lx_lex.proofs.Imports.{◌∙◌, decimal, length, ap, arith}
 use Rattle.lx_lex.proofs.ReadyNumbers.{digits_is, digits_few}
 use Rattle.lx_lex.proofs.ready.ready_digits.Goals as goal
 

@@ -1,4 +1,4 @@
-use Rattle.std.proofs.Common.{[], arith}
+use Rattle.lx_lex.proofs.Imports.{[], arith}
 use Rattle.lx_lex.proofs.ReadyNumbers.{number_of_row}
 use Rattle.lx_lex.proofs.ready.ready_number.Goals as goal
 

@@ -1,7 +1,5 @@
-use Rattle.std.proofs.Common.{◌≡◌, ◌∷◌, [], List, ℕ, ◌≤◌, ◌<◌, false, length, drop, get_or, refl, sym, take, ◌-◌, ◌∙◌, ap, arith}
-use Rattle.std.proofs.lemmas.Bool.Decides.{nat_tests}
-use Rattle.std.proofs.lemmas.List.{take_all}
-use Rattle.lx_spec.specs.Text.{is_separator, begins_comment, after_all}
+use Rattle.lx_lex.proofs.Imports.{◌≡◌, ◌∷◌, [], List, ℕ, ◌≤◌, ◌<◌, false, length, drop, get_or, refl, sym, take, ◌-◌, ◌∙◌, ap}
+use Rattle.lx_lex.proofs.Imports.{arith, nat_tests, take_all, is_separator, begins_comment, after_all}
 use Rattle.lx_lex.proofs.Separators.{apart}
 use Rattle.lx_lex.proofs.LineCuts.{next-nothing, next-comment, next-token, goes}
 use Rattle.lx_lex.proofs.scan.first_token.Goals as goal

@@ -1,5 +1,4 @@
-use Rattle.std.proofs.Common.{◌≡◌, length}
-use Rattle.lx_spec.specs.Text.{is_blank, after_all}
+use Rattle.lx_lex.proofs.Imports.{◌≡◌, length, is_blank, after_all}
 use Rattle.lx_lex.proofs.scan.past_blanks.Given as goal
 
 abbrev pub invariant-loop-rest : goal.invariant-loop-rest

@@ -1,5 +1,4 @@
-use Rattle.std.proofs.Common.{◌≡◌, length}
-use Rattle.lx_spec.specs.Text.{is_separator, after_all}
+use Rattle.lx_lex.proofs.Imports.{◌≡◌, length, is_separator, after_all}
 use Rattle.lx_lex.proofs.scan.past_separators.Given as goal
 
 abbrev pub invariant-loop-rest : goal.invariant-loop-rest

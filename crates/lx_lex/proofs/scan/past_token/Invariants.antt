@@ -1,5 +1,4 @@
-use Rattle.std.proofs.Common.{◌≡◌, ◌≤◌, ◌||◌, not, length}
-use Rattle.lx_spec.specs.Text.{is_separator, begins_comment, after_all}
+use Rattle.lx_lex.proofs.Imports.{◌≡◌, ◌≤◌, ◌||◌, not, length, is_separator, begins_comment, after_all}
 use Rattle.lx_lex.proofs.scan.past_token.Given as goal
 
 abbrev pub invariant-loop-rest : goal.invariant-loop-rest

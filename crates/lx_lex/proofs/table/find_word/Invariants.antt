@@ -1,4 +1,4 @@
-use Rattle.std.proofs.Common.{◌≡◌, drop}
+use Rattle.lx_lex.proofs.Imports.{◌≡◌, drop}
 use Rattle.lx_lex.specs.WordTable.{in_capitals, looked_up}
 use Rattle.lx_lex.proofs.table.find_word.Given as goal
 

@@ -1,9 +1,4 @@
-use Rattle.std.proofs.Common.{Option, true, sym, subst}
-use Rattle.std.specs.Result.{result_err}
-use Rattle.lx_spec.specs.declared.Command.{Command}
-use Rattle.lx_spec.specs.declared.Refusal.{Refusal}
-use Rattle.lx_session.specs.Attempts.{Attempted, heard_of}
-use Rattle.lx_lists.specs.OtherList.{TicksReach}
+use Rattle.lx_lists.proofs.Imports.{Option, true, sym, subst, result_err, Command, Refusal, Attempted, heard_of, TicksReach}
 use Rattle.lx_lists.proofs.NextAttempt.{tick_attempted, tick_reaches, first_attempted, first_reaches, other_tick, one_same, second_same}
 use Rattle.lx_lists.proofs.attempts.attempt.Goals as goal
 

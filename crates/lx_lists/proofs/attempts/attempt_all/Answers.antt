@@ -1,5 +1,4 @@
-use Rattle.std.proofs.Common.{◌∙◌, refl, sym, ap}
-use Rattle.lx_session.specs.LineState.{LineState}
+use Rattle.lx_lists.proofs.Imports.{◌∙◌, refl, sym, ap, LineState}
 use Rattle.lx_session.proofs.ValidNext.{valid_next}
 use Rattle.lx_lists.proofs.NextAttempt.{none_yet, one_more}
 use Rattle.lx_lists.proofs.attempts.attempt_all.Goals as goal

@@ -1,9 +1,4 @@
-use Rattle.std.proofs.Common.{◌≡◌, true}
-use Rattle.lx_spec.specs.DeskSession.{begun}
-use Rattle.lx_spec.specs.TwoLists.{TwoDesks}
-use Rattle.lx_session.specs.LineProgress.{LineProgress}
-use Rattle.lx_lists.specs.TwoListsMeaning.{TwoStand}
-use Rattle.lx_lists.specs.OtherList.{TicksReach}
+use Rattle.lx_lists.proofs.Imports.{◌≡◌, true, begun, TwoDesks, LineProgress, TwoStand, TicksReach}
 use Rattle.lx_lists.proofs.attempts.attempt_all.Given as goal
 
 abbrev pub invariant-commands : goal.invariant-commands

@@ -1,6 +1,4 @@
-use Rattle.std.proofs.Common.{Option, true, sym, subst}
-use Rattle.lx_spec.specs.declared.Refusal.{Refusal}
-use Rattle.lx_session.specs.Attempts.{Attempted}
+use Rattle.lx_lists.proofs.Imports.{Option, true, sym, subst, Refusal, Attempted}
 use Rattle.lx_lists.proofs.NextAttempt.{one_second, none_second, second_attempted}
 use Rattle.lx_lists.proofs.attempts.attempt_second.Goals as goal
 

@@ -1,4 +1,4 @@
-use Rattle.std.proofs.Common.{◌∙◌, true, append-nil, []}
+use Rattle.lx_lists.proofs.Imports.{◌∙◌, true, append-nil, []}
 use Rattle.lx_io.proofs.Chain.{Puts-is, Puts-ok, Puts-stops}
 use Rattle.lx_lists.proofs.TwoFrames.{frame_shown}
 use Rattle.lx_lists.proofs.frame.put_universe.Goals as goal

@@ -1,16 +1,6 @@
-use Rattle.std.proofs.Common.{◌≡◌, ℕ, ◌∙◌, true, Option, List, sym, ap, subst}
-use Rattle.std.specs.Prelude.{option_copied}
-use Rattle.lx_spec.specs.declared.Command.{Command}
-use Rattle.lx_spec.specs.Script.{line_of}
-use Rattle.lx_spec.specs.DeskSession.{begun}
-use Rattle.lx_console.specs.ConsoleMeaning.{StandsFor}
-use Rattle.lx_session.specs.LineProgress.{LineProgress}
-use Rattle.lx_session.specs.LineState.{LineState, frame_of, unattempted}
-use Rattle.lx_session.proofs.AnsweredLines.{turn_answered}
-use Rattle.lx_session.proofs.HeardLines.{meaning_is}
+use Rattle.lx_lists.proofs.Imports.{◌≡◌, ℕ, ◌∙◌, true, Option, List, sym, ap, subst, option_copied, Command, line_of, begun, StandsFor}
+use Rattle.lx_lists.proofs.Imports.{LineProgress, LineState, frame_of, unattempted, turn_answered, meaning_is, TwoKept, TicksReach}
 use Rattle.lx_session.proofs.Replies.{frame_is}
-use Rattle.lx_lists.specs.TwoListsMeaning.{TwoKept}
-use Rattle.lx_lists.specs.OtherList.{TicksReach}
 use Rattle.lx_lists.proofs.TwoAnswers.{answered_first, answered_frame}
 use Rattle.lx_lists.proofs.LineAnswers.{meant_by}
 use Rattle.lx_lists.proofs.session.answer_first.Goals as goal

@@ -1,15 +1,5 @@
-use Rattle.std.proofs.Common.{◌≡◌, ℕ, ◌∙◌, true, Option, List, sym, ap, subst}
-use Rattle.lx_spec.specs.declared.Command.{Command}
-use Rattle.lx_spec.specs.declared.Line.{Line}
-use Rattle.lx_spec.specs.Script.{line_of}
-use Rattle.lx_spec.specs.DeskSession.{begun}
-use Rattle.lx_spec.specs.TwoLists.{second_meaning, where_of_second}
-use Rattle.lx_console.specs.ConsoleMeaning.{StandsFor}
-use Rattle.lx_session.specs.LineProgress.{LineProgress}
-use Rattle.lx_session.specs.LineState.{LineState, unattempted}
-use Rattle.lx_session.proofs.AnsweredLines.{turn_answered}
-use Rattle.lx_lists.specs.TwoListsMeaning.{TwoKept}
-use Rattle.lx_lists.specs.OtherList.{Stays}
+use Rattle.lx_lists.proofs.Imports.{◌≡◌, ℕ, ◌∙◌, true, Option, List, sym, ap, subst, Command, Line, line_of, begun, second_meaning}
+use Rattle.lx_lists.proofs.Imports.{where_of_second, StandsFor, LineProgress, LineState, unattempted, turn_answered, TwoKept, Stays}
 use Rattle.lx_lists.proofs.TwoAnswers.{answered_second}
 use Rattle.lx_lists.proofs.LineAnswers.{second_start, second_valid, second_taken, second_more, second_no_frame}
 use Rattle.lx_lists.proofs.session.answer_second.Goals as goal

@@ -1,7 +1,4 @@
-use Rattle.std.proofs.Common.{◌≡◌, ℕ, ◌-◌, ap, sym, subst, arith, ◌∙◌, List, Some, length}
-use Rattle.std.specs.Prelude.{IsTrue, slice_get}
-use Rattle.lx_spec.specs.SortedList.{has_entry}
-use Rattle.lx_spec.specs.Show.{Cue}
+use Rattle.lx_lists.proofs.Imports.{◌≡◌, ℕ, ◌-◌, ap, sym, subst, arith, ◌∙◌, List, Some, length, IsTrue, slice_get, has_entry, Cue}
 use Rattle.lx_lists.proofs.ListCues.{all_first, stands_there}
 use Rattle.lx_lists.proofs.split.highest_of_second.Goals as goal
 

@@ -1,6 +1,4 @@
-use Rattle.std.proofs.Common.{◌<◌, ap, sym, subst, ◌∙◌, length}
-use Rattle.lx_spec.specs.Show.{Show}
-use Rattle.lx_spec.specs.TwoLists.{first_show}
+use Rattle.lx_lists.proofs.Imports.{◌<◌, ap, sym, subst, ◌∙◌, length, Show, first_show}
 use Rattle.lx_lists.proofs.ListCues.{one_less, first_left}
 use Rattle.lx_lists.proofs.split.leave_first.Goals as goal
 

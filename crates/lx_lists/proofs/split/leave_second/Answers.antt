@@ -1,6 +1,4 @@
-use Rattle.std.proofs.Common.{◌<◌, ap, sym, subst, ◌∙◌, length}
-use Rattle.lx_spec.specs.Show.{Show}
-use Rattle.lx_spec.specs.TwoLists.{second_show}
+use Rattle.lx_lists.proofs.Imports.{◌<◌, ap, sym, subst, ◌∙◌, length, Show, second_show}
 use Rattle.lx_lists.proofs.ListCues.{one_less, second_left}
 use Rattle.lx_lists.proofs.split.leave_second.Goals as goal
 

@@ -1,5 +1,4 @@
-use Rattle.std.proofs.Common.{◌≡◌, length}
-use Rattle.lx_spec.specs.TwoLists.{second_show}
+use Rattle.lx_lists.proofs.Imports.{◌≡◌, length, second_show}
 use Rattle.lx_lists.proofs.split.leave_second.Given as goal
 
 abbrev pub invariant-loop-n : goal.invariant-loop-n

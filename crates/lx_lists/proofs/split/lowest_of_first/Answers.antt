@@ -1,6 +1,4 @@
-use Rattle.std.proofs.Common.{ap, sym, arith, ◌∙◌, List}
-use Rattle.std.specs.Prelude.{slice_get}
-use Rattle.lx_spec.specs.Show.{Cue}
+use Rattle.lx_lists.proofs.Imports.{ap, sym, arith, ◌∙◌, List, slice_get, Cue}
 use Rattle.lx_lists.proofs.ListCues.{all_second}
 use Rattle.lx_lists.proofs.split.lowest_of_first.Goals as goal
 

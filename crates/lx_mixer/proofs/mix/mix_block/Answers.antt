@@ -1,5 +1,4 @@
-use Rattle.std.proofs.Common.{ℕ, ◌-◌, max, ◌∙◌, arith}
-use Rattle.lx_base.specs.Numbers.{scaled}
+use Rattle.lx_mixer.proofs.Imports.{ℕ, ◌-◌, max, ◌∙◌, arith, scaled}
 use Rattle.lx_base.proofs.Lanes.{stored_below, stored_at, loaded}
 use Rattle.lx_mixer.proofs.mix.mix_block.Goals as goal
 

@@ -1,5 +1,4 @@
-use Rattle.std.proofs.Common.{◌≡◌, ℕ, ◌<◌, ◌+◌, ◌*◌, slice_index}
-use Rattle.lx_mixer.specs.Mix.{IsMixed}
+use Rattle.lx_mixer.proofs.Imports.{◌≡◌, ℕ, ◌<◌, ◌+◌, ◌*◌, slice_index, IsMixed}
 use Rattle.lx_mixer.proofs.mix.mix_blocks.Given as goal
 
 abbrev pub invariant-loop-i : goal.invariant-loop-i

@@ -1,5 +1,4 @@
-use Rattle.std.proofs.Common.{◌*◌}
-use Rattle.lx_mixer.specs.Mix.{IsMixed}
+use Rattle.lx_mixer.proofs.Imports.{◌*◌, IsMixed}
 use Rattle.lx_mixer.proofs.mix.mix_into.Given as goal
 
 abbrev pub invariant-loop-i : goal.invariant-loop-i

@@ -1,4 +1,4 @@
-use Rattle.std.proofs.Common.{arith}
+use Rattle.lx_mixer.proofs.Imports.{arith}
 use Rattle.lx_mixer.proofs.Proportions.{proportions}
 use Rattle.lx_mixer.proofs.mix.under.Goals as goal
 

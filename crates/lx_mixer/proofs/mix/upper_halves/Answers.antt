@@ -1,4 +1,4 @@
-use Rattle.std.proofs.lemmas.Simd.{Each2-splat, Each1-zip2}
+use Rattle.lx_mixer.proofs.Imports.{Each2-splat, Each1-zip2}
 use Rattle.lx_mixer.proofs.Words.{halves_fit, upper_halves}
 use Rattle.lx_mixer.proofs.mix.upper_halves.Goals as goal
 

@@ -1,5 +1,4 @@
-use Rattle.std.proofs.Common.{◌≡◌, ℕ, ◌<◌, get_or, length}
-use Rattle.lx_base.specs.declared.TheConstants.{CHANNELS, SLOTS}
+use Rattle.lx_patch.proofs.Imports.{◌≡◌, ℕ, ◌<◌, get_or, length, CHANNELS, SLOTS}
 use Rattle.lx_patch.proofs.followers.clear.Given as goal
 
 abbrev pub invariant-loop-k : goal.invariant-loop-k

@@ -1,6 +1,4 @@
-use Rattle.std.proofs.Common.{◌≤◌}
-use Rattle.lx_base.specs.declared.TheConstants.{SLOTS}
-use Rattle.lx_patch.specs.FollowerChains.{AreDarkFrom}
+use Rattle.lx_patch.proofs.Imports.{◌≤◌, SLOTS, AreDarkFrom}
 use Rattle.lx_patch.proofs.followers.top_of.Given as goal
 
 abbrev pub invariant-loop-top : goal.invariant-loop-top

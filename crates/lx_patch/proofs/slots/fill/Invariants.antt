@@ -1,5 +1,4 @@
-use Rattle.std.proofs.Common.{◌≡◌, ℕ, ◌*◌, ◌≤◌, slice_index}
-use Rattle.lx_patch.specs.Slots.{AreSlots}
+use Rattle.lx_patch.proofs.Imports.{◌≡◌, ℕ, ◌*◌, ◌≤◌, slice_index, AreSlots}
 use Rattle.lx_patch.proofs.slots.fill.Given as goal
 
 abbrev pub invariant-loop-i : goal.invariant-loop-i

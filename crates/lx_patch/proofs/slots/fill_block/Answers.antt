@@ -1,7 +1,5 @@
-use Rattle.std.proofs.Common.{ℕ, ◌-◌, ◌+◌, ◌≡◌, get_or, ◌∙◌, ap, arith}
-use Rattle.std.proofs.lemmas.Simd.{get_or-put_chunk_above}
-use Rattle.lx_base.specs.Numbers.{scaled}
-use Rattle.lx_base.proofs.Lanes.{stored_below, stored_at, loaded}
+use Rattle.lx_patch.proofs.Imports.{ℕ, ◌-◌, ◌+◌, ◌≡◌, get_or, ◌∙◌, ap, arith, get_or-put_chunk_above, scaled, stored_below, stored_at}
+use Rattle.lx_patch.proofs.Imports.{loaded}
 use Rattle.lx_patch.proofs.slots.fill_block.Goals as goal
 
 pub returns-clause-before : goal.returns-clause-before

@@ -1,4 +1,4 @@
-use Rattle.std.proofs.Common.{arith, rules}
+use Rattle.lx_patch.proofs.Imports.{arith, rules}
 use Rattle.lx_patch.proofs.PlaceRows.{run_lanes, own_lanes}
 use Rattle.lx_patch.proofs.slots.gather.Goals.{then-first-outs+then-is_run, else-first-outs}
 use Rattle.lx_patch.proofs.slots.gather.Goals as goal

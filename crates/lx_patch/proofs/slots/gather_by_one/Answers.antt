@@ -1,7 +1,4 @@
-use Rattle.std.proofs.Common.{◌+◌, ℕ, get_or, get_or-set_other, ap, sym, ◌∙◌, inl, inr, arith}
-use Rattle.std.proofs.Math.ListN.{length-set}
-use Rattle.std.proofs.lemmas.Bool.{cases_eq}
-use Rattle.std.proofs.lemmas.Grind.{get_or-set_at}
+use Rattle.lx_patch.proofs.Imports.{◌+◌, ℕ, get_or, get_or-set_other, ap, sym, ◌∙◌, inl, inr, arith, length-set, cases_eq, get_or-set_at}
 use Rattle.lx_patch.proofs.slots.gather_by_one.Goals as goal
 
 pub loop-k-preserved : goal.loop-k-preserved

@@ -1,4 +1,4 @@
-use Rattle.std.proofs.Common.{◌≡◌, ℕ, ◌<◌, ◌+◌, length, slice_index}
+use Rattle.lx_patch.proofs.Imports.{◌≡◌, ℕ, ◌<◌, ◌+◌, length, slice_index}
 use Rattle.lx_patch.proofs.slots.gather_by_one.Given as goal
 
 abbrev pub invariant-loop-k : goal.invariant-loop-k

@@ -1,5 +1,4 @@
-use Rattle.std.proofs.Common.{refl, arith, get_or}
-use Rattle.std.proofs.lemmas.Bool.{eqb-true}
+use Rattle.lx_patch.proofs.Imports.{refl, arith, get_or, eqb-true}
 use Rattle.lx_patch.proofs.PlaceRows.{row_is}
 use Rattle.lx_patch.proofs.slots.is_run.Goals as goal
 

@@ -1,5 +1,4 @@
-use Rattle.std.proofs.Common.{◌≡◌, map, take}
-use Rattle.lx_spec.specs.Run.{captured}
+use Rattle.lx_playback.proofs.Imports.{◌≡◌, map, take, captured}
 use Rattle.lx_playback.proofs.run.captured_all.Given as goal
 
 abbrev pub invariant-loop-part : goal.invariant-loop-part

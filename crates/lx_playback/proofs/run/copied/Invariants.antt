@@ -1,4 +1,4 @@
-use Rattle.std.proofs.Common.{◌≡◌, take}
+use Rattle.lx_playback.proofs.Imports.{◌≡◌, take}
 use Rattle.lx_playback.proofs.run.copied.Given as goal
 
 abbrev pub invariant-loop-entry : goal.invariant-loop-entry

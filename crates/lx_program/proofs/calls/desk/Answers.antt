@@ -1,9 +1,6 @@
-use Rattle.std.proofs.Common.{List, ℕ, map}
-use Rattle.std.specs.Prelude.{string_bytes}
-use Rattle.lx_spec.specs.declared.Job.{Job}
+use Rattle.lx_program.proofs.Imports.{List, ℕ, map, string_bytes, Job, unwritten}
 use Rattle.lx_desk.specs.Output.{WritesPrefix}
 use Rattle.lx_desk.specs.Endings.{HasEnded}
-use Rattle.lx_desk.proofs.EmptyPrefixes.{unwritten}
 use Rattle.lx_program.proofs.JobWords.{of_job, of_each_job}
 use Rattle.lx_program.proofs.calls.desk.Goals as goal
 

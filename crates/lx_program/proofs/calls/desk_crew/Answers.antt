@@ -1,6 +1,4 @@
-use Rattle.std.proofs.Common.{map, refl}
-use Rattle.std.specs.Prelude.{string_bytes}
-use Rattle.lx_spec.specs.Job.{job_of}
+use Rattle.lx_program.proofs.Imports.{map, refl, string_bytes, job_of}
 use Rattle.lx_spec.specs.Reading.{reads}
 use Rattle.lx_desk.proofs.CrewEnds.{nothing_front}
 use Rattle.lx_program.proofs.JobWords.{of_each_crew}

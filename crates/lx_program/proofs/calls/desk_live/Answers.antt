@@ -1,6 +1,4 @@
-use Rattle.std.proofs.Common.{map}
-use Rattle.std.specs.Prelude.{string_bytes}
-use Rattle.lx_spec.specs.Job.{job_of}
+use Rattle.lx_program.proofs.Imports.{map, string_bytes, job_of}
 use Rattle.lx_program.proofs.JobWords.{of_each_run}
 use Rattle.lx_program.proofs.NothingBegun.{none_lived}
 use Rattle.lx_program.proofs.calls.desk_live.Goals as goal

@@ -1,7 +1,4 @@
-use Rattle.std.proofs.Common.{◌≡◌, map, drop}
-use Rattle.std.specs.Prelude.{string_bytes}
-use Rattle.std.specs.List.{list_any}
-use Rattle.lx_program.specs.Words.{begins_with_dash}
+use Rattle.lx_program.proofs.Imports.{◌≡◌, map, drop, string_bytes, list_any, begins_with_dash}
 use Rattle.lx_program.proofs.words.has_dash.Given as goal
 
 abbrev pub invariant-loop-word : goal.invariant-loop-word

@@ -1,12 +1,8 @@
-use Rattle.std.proofs.Common.{rules, true, ◌≡◌, ◌∙◌, ◌≤◌, Option, Some, None, IsSomeAnd, ap, ap₂, map, length, arith}
-use Rattle.std.specs.Prelude.{string_bytes}
+use Rattle.lx_program.proofs.Imports.{rules, true, ◌≡◌, ◌∙◌, ◌≤◌, Option, Some, None, IsSomeAnd, ap, ap₂, map, length, arith, string_bytes}
+use Rattle.lx_program.proofs.Imports.{App, Rule, app_of, is_simple, matches_of, rule_of, takes, with_rule, app_of_fields, on_top, usize_max, Append}
 use Rattle.std.proofs.lemmas.Result.{IfErr-weaker, IfOk-weaker}
 use Rattle.std.proofs.lemmas.List.{length-map}
-use Rattle.clap.specs.Words.{App, Rule, app_of, is_simple, matches_of, rule_of, takes, with_rule}
-use Rattle.clap.specs.Simple.{app_of_fields, on_top}
-use Rattle.clap.specs.Lexer.{usize_max}
 use Rattle.clap.specs.declared.builder.range.ValueRange.{ValueRange}
-use Rattle.clap.specs.declared.builder.action.ArgAction.TheVariants.{Append}
 use Rattle.lx_program.proofs.ArgumentValues.{the_rule, the_app, is_the_app, are_given, are_taken}
 use Rattle.lx_program.proofs.words.matches_of.Goals as goal
 

@@ -1,5 +1,4 @@
-use Rattle.std.proofs.Common.{◌∙◌, map, sym}
-use Rattle.std.specs.Prelude.{string_bytes}
+use Rattle.lx_program.proofs.Imports.{◌∙◌, map, sym, string_bytes}
 use Rattle.lx_program.proofs.DashedWords.{no_job}
 use Rattle.lx_program.proofs.words.words_of.Goals as goal
 

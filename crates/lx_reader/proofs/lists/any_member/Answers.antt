@@ -1,5 +1,4 @@
-use Rattle.std.proofs.Common.{◌∷◌, ap, ◌∙◌, sym}
-use Rattle.lx_reader.specs.FieldLists.{all_pairs}
+use Rattle.lx_reader.proofs.Imports.{◌∷◌, ap, ◌∙◌, sym, all_pairs}
 use Rattle.lx_reader.proofs.Pairs.{all_pairs-first}
 use Rattle.lx_reader.proofs.lists.any_member.Goals as goal
 

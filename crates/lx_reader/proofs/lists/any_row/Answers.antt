@@ -1,5 +1,4 @@
-use Rattle.std.proofs.Common.{◌∷◌, ap, ◌∙◌, sym}
-use Rattle.lx_reader.specs.FieldLists.{all_triples}
+use Rattle.lx_reader.proofs.Imports.{◌∷◌, ap, ◌∙◌, sym, all_triples}
 use Rattle.lx_reader.proofs.Pairs.{all_triples-first}
 use Rattle.lx_reader.proofs.lists.any_row.Goals as goal
 

@@ -1,4 +1,4 @@
-use Rattle.lx_lex.specs.Left.{left}
+use Rattle.lx_reader.proofs.Imports.{left}
 use Rattle.lx_reader.proofs.Pairs.{member_first}
 use Rattle.lx_reader.proofs.lists.next_member.Goals as goal
 

@@ -1,4 +1,4 @@
-use Rattle.lx_lex.specs.Left.{left}
+use Rattle.lx_reader.proofs.Imports.{left}
 use Rattle.lx_reader.proofs.Pairs.{row_first}
 use Rattle.lx_reader.proofs.lists.next_row.Goals as goal
 

@@ -1,4 +1,4 @@
-use Rattle.std.proofs.Common.{arith}
+use Rattle.lx_reader.proofs.Imports.{arith}
 use Rattle.lx_reader.proofs.PercentLevels.{percent_at}
 use Rattle.lx_reader.proofs.lists.plain_level.Goals as goal
 

@@ -1,4 +1,4 @@
-use Rattle.std.proofs.Common.{◌≡◌, take, refl}
+use Rattle.lx_reader.proofs.Imports.{◌≡◌, take, refl}
 use Rattle.lx_reader.proofs.LookMoves.{fit_at, changed_at, valid_at}
 use Rattle.lx_reader.proofs.looks.change_cue.Goals as goal
 

@@ -1,5 +1,4 @@
-use Rattle.std.proofs.Common.{sym, ap, ◌∙◌, arith}
-use Rattle.lx_spec.specs.TrackedLevel.{level_in}
+use Rattle.lx_reader.proofs.Imports.{sym, ap, ◌∙◌, arith, level_in}
 use Rattle.lx_reader.proofs.LookMoves.{last_look-at}
 use Rattle.lx_reader.proofs.looks.last_look.Goals as goal
 

@@ -1,4 +1,4 @@
-use Rattle.lx_reader.specs.LookMoves.{last_look}
+use Rattle.lx_reader.proofs.Imports.{last_look}
 use Rattle.lx_reader.proofs.LookMoves.{put_next}
 use Rattle.lx_reader.proofs.looks.look_moves.Goals as goal
 

@@ -1,5 +1,4 @@
-use Rattle.std.proofs.Common.{◌≡◌}
-use Rattle.lx_reader.specs.LookMoves.{last_look, moves_up_to}
+use Rattle.lx_reader.proofs.Imports.{◌≡◌, last_look, moves_up_to}
 use Rattle.lx_reader.proofs.looks.look_moves.Given as goal
 
 abbrev pub invariant-loop-n : goal.invariant-loop-n

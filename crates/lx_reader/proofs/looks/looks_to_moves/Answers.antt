@@ -1,4 +1,4 @@
-use Rattle.std.proofs.Common.{◌≡◌, ◌-◌, suc, subst, arith}
+use Rattle.lx_reader.proofs.Imports.{◌≡◌, ◌-◌, suc, subst, arith}
 use Rattle.lx_reader.proofs.LookMoves.{IsLooked, looked_next}
 use Rattle.lx_reader.proofs.looks.looks_to_moves.Goals as goal
 

@@ -1,4 +1,4 @@
-use Rattle.lx_spec.specs.Show.{Valid}
+use Rattle.lx_reader.proofs.Imports.{Valid}
 use Rattle.lx_reader.proofs.LookMoves.{IsLooked}
 use Rattle.lx_reader.proofs.looks.looks_to_moves.Given as goal
 

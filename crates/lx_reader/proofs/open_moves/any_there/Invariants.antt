@@ -1,5 +1,4 @@
-use Rattle.std.proofs.Common.{◌≡◌, ℕ, ◌<◌, false}
-use Rattle.std.specs.Prelude.{IfSome, slice_get}
+use Rattle.lx_reader.proofs.Imports.{◌≡◌, ℕ, ◌<◌, false, IfSome, slice_get}
 use Rattle.lx_reader.proofs.open_moves.any_there.Given as goal
 
 abbrev pub invariant-loop-there : goal.invariant-loop-there

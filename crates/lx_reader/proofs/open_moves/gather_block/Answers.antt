@@ -1,4 +1,4 @@
-use Rattle.std.proofs.Common.{◌∙◌, ◌++◌, ap, append-nil, sym, take}
+use Rattle.lx_reader.proofs.Imports.{◌∙◌, ◌++◌, ap, append-nil, sym, take}
 use Rattle.lx_reader.proofs.OpenMoves.{none_among}
 use Rattle.lx_reader.proofs.open_moves.gather_block.Goals as goal
 

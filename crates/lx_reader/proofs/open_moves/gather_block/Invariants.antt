@@ -1,5 +1,4 @@
-use Rattle.std.proofs.Common.{◌≡◌, ◌≤◌, ◌+◌, ◌++◌, drop, length, take}
-use Rattle.lx_reader.specs.OpenMoves.{moves_there}
+use Rattle.lx_reader.proofs.Imports.{◌≡◌, ◌≤◌, ◌+◌, ◌++◌, drop, length, take, moves_there}
 use Rattle.lx_reader.proofs.open_moves.gather_block.Given as goal
 
 abbrev pub invariant-loop-index : goal.invariant-loop-index

@@ -1,5 +1,4 @@
-use Rattle.std.proofs.Common.{◌+◌, ◌*◌, ◌∙◌, ◌++◌, ap, arith, drop, take}
-use Rattle.lx_reader.specs.OpenMoves.{moves_there}
+use Rattle.lx_reader.proofs.Imports.{◌+◌, ◌*◌, ◌∙◌, ◌++◌, ap, arith, drop, take, moves_there}
 use Rattle.lx_reader.proofs.OpenMoves.{block_then, none_left_over}
 use Rattle.lx_reader.proofs.open_moves.gather_blocks.Goals as goal
 

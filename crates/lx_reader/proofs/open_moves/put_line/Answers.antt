@@ -1,7 +1,4 @@
-use Rattle.std.proofs.Common.{ap, ◌∙◌, subst}
-use Rattle.lx_lex.specs.Left.{left}
-use Rattle.lx_reader.specs.FieldLists.{onto}
-use Rattle.lx_reader.specs.OpenMoves.{ReadsLevels}
+use Rattle.lx_reader.proofs.Imports.{ap, ◌∙◌, subst, left, onto, ReadsLevels}
 use Rattle.lx_reader.proofs.OpenMoves.{level_alone, levels_none, levels_then}
 use Rattle.lx_reader.proofs.open_moves.put_line.Goals as goal
 

@@ -1,6 +1,4 @@
-use Rattle.std.proofs.Common.{length}
-use Rattle.lx_lex.specs.Left.{left}
-use Rattle.lx_reader.specs.OpenMoves.{ReadsLevels}
+use Rattle.lx_reader.proofs.Imports.{length, left, ReadsLevels}
 use Rattle.lx_reader.proofs.open_moves.put_line.Given as goal
 
 abbrev pub invariant-loop-tokens : goal.invariant-loop-tokens

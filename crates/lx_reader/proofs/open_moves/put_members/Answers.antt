@@ -1,8 +1,4 @@
-use Rattle.std.proofs.Common.{◌∙◌, ap, sym, take, List, arith}
-use Rattle.std.proofs.lemmas.List.{take_all}
-use Rattle.std.proofs.lemmas.List.Sums.{fold_more}
-use Rattle.lx_spec.specs.declared.Member.{Member}
-use Rattle.lx_spec.specs.declared.Move.{Move}
+use Rattle.lx_reader.proofs.Imports.{◌∙◌, ap, sym, take, List, arith, take_all, fold_more, Member, Move}
 use Rattle.lx_reader.proofs.PlacedOver.{level_placed, levels_are_placed, levels_placed}
 use Rattle.lx_reader.proofs.open_moves.put_members.Goals as goal
 

@@ -1,4 +1,4 @@
-use Rattle.std.proofs.Common.{◌≡◌, take}
+use Rattle.lx_reader.proofs.Imports.{◌≡◌, take}
 use Rattle.lx_reader.proofs.PlacedOver.{levels_placed}
 use Rattle.lx_reader.proofs.open_moves.put_members.Given as goal
 

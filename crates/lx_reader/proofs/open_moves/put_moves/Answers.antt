@@ -1,5 +1,4 @@
-use Rattle.std.proofs.Common.{◌∙◌, length, sym}
-use Rattle.lx_spec.proofs.Comparisons.{eq_from}
+use Rattle.lx_reader.proofs.Imports.{◌∙◌, length, sym, eq_from}
 use Rattle.lx_reader.proofs.PlacedOver.{no_entries, placed_alone_at}
 use Rattle.lx_reader.proofs.open_moves.put_moves.Goals as goal
 

@@ -1,5 +1,4 @@
-use Rattle.std.proofs.Common.{arith, length, ap}
-use Rattle.lx_lex.specs.Left.{left}
+use Rattle.lx_reader.proofs.Imports.{arith, length, ap, left}
 use Rattle.lx_reader.proofs.OpenMoves.{level_alone, levels_none, levels_then}
 use Rattle.lx_reader.proofs.Pairs.{member_first}
 use Rattle.lx_reader.proofs.open_moves.put_near.Goals as goal

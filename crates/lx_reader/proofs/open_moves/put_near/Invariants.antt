@@ -1,6 +1,4 @@
-use Rattle.std.proofs.Common.{ℕ, ◌≤◌, length}
-use Rattle.lx_lex.specs.Left.{left}
-use Rattle.lx_reader.specs.OpenMoves.{ReadsLevels}
+use Rattle.lx_reader.proofs.Imports.{ℕ, ◌≤◌, length, left, ReadsLevels}
 use Rattle.lx_reader.proofs.open_moves.put_near.Given as goal
 
 abbrev pub invariant-loop-member : goal.invariant-loop-member

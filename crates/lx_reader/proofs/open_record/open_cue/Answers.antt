@@ -1,6 +1,4 @@
-use Rattle.std.proofs.Common.{ap, subst, sym}
-use Rattle.lx_spec.specs.EditedShow.{new_cue}
-use Rattle.lx_spec.specs.Show.{ValidCue}
+use Rattle.lx_reader.proofs.Imports.{ap, subst, sym, new_cue, ValidCue}
 use Rattle.lx_reader.proofs.OpenRecords.{number_there, put_back, valid_there, room_kept}
 use Rattle.lx_reader.proofs.open_record.open_cue.Goals as goal
 

@@ -1,6 +1,4 @@
-use Rattle.std.proofs.Common.{ap, subst, sym}
-use Rattle.lx_reader.specs.ReadingState.{new_set}
-use Rattle.lx_spec.specs.Show.{ValidGroup}
+use Rattle.lx_reader.proofs.Imports.{ap, subst, sym, new_set, ValidGroup}
 use Rattle.lx_reader.proofs.OpenRecords.{number_there, put_back, valid_there}
 use Rattle.lx_reader.proofs.open_record.open_group.Goals as goal
 

@@ -1,6 +1,4 @@
-use Rattle.std.proofs.Common.{ap, subst, sym}
-use Rattle.lx_reader.specs.ReadingState.{new_set}
-use Rattle.lx_spec.specs.Show.{ValidSub}
+use Rattle.lx_reader.proofs.Imports.{ap, subst, sym, new_set, ValidSub}
 use Rattle.lx_reader.proofs.OpenRecords.{number_there, put_back, valid_there}
 use Rattle.lx_reader.proofs.open_record.open_sub.Goals as goal
 

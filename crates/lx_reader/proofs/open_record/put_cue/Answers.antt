@@ -1,6 +1,4 @@
-use Rattle.std.proofs.Common.{◌∙◌, arith, subst, sym}
-use Rattle.lx_spec.specs.Show.{ValidCue}
-use Rattle.lx_spec.specs.SortedList.{placed}
+use Rattle.lx_reader.proofs.Imports.{◌∙◌, arith, subst, sym, ValidCue, placed}
 use Rattle.lx_reader.proofs.OpenCues.{cue_written, filled_valid, moves_within}
 use Rattle.lx_reader.proofs.open_record.put_cue.Goals as goal
 

@@ -1,7 +1,4 @@
-use Rattle.std.proofs.Common.{◌∙◌, subst, sym}
-use Rattle.lx_base.specs.declared.TheConstants.{SUBS}
-use Rattle.lx_spec.specs.Show.{ValidSet}
-use Rattle.lx_spec.specs.SortedList.{placed}
+use Rattle.lx_reader.proofs.Imports.{◌∙◌, subst, sym, SUBS, ValidSet, placed}
 use Rattle.lx_reader.proofs.OpenCues.{filled_set_valid, set_written}
 use Rattle.lx_reader.proofs.open_record.put_sub.Goals as goal
 

@@ -1,7 +1,4 @@
-use Rattle.std.proofs.Common.{◌≤◌, rules, subst, sym}
-use Rattle.lx_base.specs.declared.TheConstants.{CHANNELS}
-use Rattle.lx_spec.specs.Show.{Valid}
-use Rattle.lx_show.proofs.ValidShows.{with_channels}
+use Rattle.lx_reader.proofs.Imports.{◌≤◌, rules, subst, sym, CHANNELS, Valid, with_channels}
 use Rattle.lx_reader.proofs.pass.loaded.Goals as goal
 
 pub returns-clause-valid : goal.returns-clause-valid

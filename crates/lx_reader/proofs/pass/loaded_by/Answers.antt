@@ -1,5 +1,4 @@
-use Rattle.std.proofs.Common.{subst}
-use Rattle.lx_reader.specs.Answer.{IsLoaded}
+use Rattle.lx_reader.proofs.Imports.{subst, IsLoaded}
 use Rattle.lx_reader.proofs.pass.loaded_by.Goals as goal
 
 pub returns-in-Ok : goal.returns-in-Ok

@@ -1,9 +1,4 @@
-use Rattle.std.proofs.Common.{◌∙◌, refl}
-use Rattle.lx_lex.proofs.CuttingOff.{not_read}
-use Rattle.lx_lex.proofs.HandingOut.{handed_one}
-use Rattle.lx_spec.specs.LineRules.{entry_of}
-use Rattle.lx_reader.specs.LineOutcome.{facts_of}
-use Rattle.lx_reader.specs.Settled.{settled}
+use Rattle.lx_reader.proofs.Imports.{◌∙◌, refl, not_read, handed_one, entry_of, facts_of, settled}
 use Rattle.lx_reader.proofs.LinePass.{line_turn, long_turn, no_read_fault}
 use Rattle.lx_reader.proofs.pass.read_line.Goals as goal
 

@@ -1,5 +1,4 @@
-use Rattle.std.proofs.Common.{◌∙◌}
-use Rattle.lx_reader.specs.Settled.{settled}
+use Rattle.lx_reader.proofs.Imports.{◌∙◌, settled}
 use Rattle.lx_reader.proofs.LinePass.{passage_none, passage_ready, passage_more, passage_loaded, loaded_read, passage_fault, handed_on}
 use Rattle.lx_reader.proofs.pass.read_show.Goals as goal
 

@@ -1,5 +1,4 @@
-use Rattle.std.proofs.Common.{◌-◌}
-use Rattle.lx_reader.specs.Settled.{PassFits, settled}
+use Rattle.lx_reader.proofs.Imports.{◌-◌, PassFits, settled}
 use Rattle.lx_reader.proofs.LinePass.{Passage}
 use Rattle.lx_reader.proofs.pass.read_show.Given as goal
 

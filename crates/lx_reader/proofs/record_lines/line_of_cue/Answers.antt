@@ -1,9 +1,4 @@
-use Rattle.std.proofs.Common.{subst, sym}
-use Rattle.std.specs.Result.{IsOkAnd}
-use Rattle.lx_lex.specs.Left.{left}
-use Rattle.lx_spec.specs.Entry.{HasUp, HasDown}
-use Rattle.lx_spec.specs.LineRules.{cue_entry}
-use Rattle.lx_reader.specs.LineOfCue.{ChangesCue, CueSays, facts_at}
+use Rattle.lx_reader.proofs.Imports.{subst, sym, IsOkAnd, left, HasUp, HasDown, cue_entry, ChangesCue, CueSays, facts_at}
 use Rattle.lx_reader.proofs.LineSteps.{times_fault}
 use Rattle.lx_reader.proofs.OpenSteps.{cue_stops, down_says, up_says}
 use Rattle.lx_reader.proofs.record_lines.line_of_cue.Goals as goal

@@ -1,4 +1,4 @@
-use Rattle.lx_lex.specs.Left.{left}
+use Rattle.lx_reader.proofs.Imports.{left}
 use Rattle.lx_reader.proofs.SectionLevels.{rows_begin, rows_more}
 use Rattle.lx_reader.proofs.rows.put_rows.Goals as goal
 

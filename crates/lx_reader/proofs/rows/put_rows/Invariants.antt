@@ -1,5 +1,4 @@
-use Rattle.std.proofs.Common.{length}
-use Rattle.lx_lex.specs.Left.{left}
+use Rattle.lx_reader.proofs.Imports.{length, left}
 use Rattle.lx_reader.proofs.SectionLevels.{RowsSoFar}
 use Rattle.lx_reader.proofs.rows.put_rows.Given as goal
 

@@ -1,4 +1,4 @@
-use Rattle.std.proofs.Common.{Some, None, sym, ◌∙◌}
+use Rattle.lx_reader.proofs.Imports.{Some, None, sym, ◌∙◌}
 use Rattle.lx_reader.proofs.WordTable.{word_is_found}
 use Rattle.lx_reader.proofs.word.word_of.Goals as goal
 

@@ -1,9 +1,5 @@
-use Rattle.std.proofs.Common.{◌∙◌, sym, subst, ap, ℕ, List}
-use Rattle.std.specs.List.{AllByRecursion}
-use Rattle.lx_spec.specs.declared.Move.{Move}
-use Rattle.lx_spec.specs.Show.{Show}
+use Rattle.lx_record.proofs.Imports.{◌∙◌, sym, subst, ap, ℕ, List, AllByRecursion, Move, Show, chosen_fit}
 use Rattle.lx_edit.specs.Found.{Fits}
-use Rattle.lx_edit.proofs.CueLevels.{chosen_fit}
 use Rattle.lx_record.proofs.kept.keeping.Goals as goal
 
 pub with_moves-requires-clause-fits : goal.with_moves-requires-clause-fits

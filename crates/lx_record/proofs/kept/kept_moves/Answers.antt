@@ -1,7 +1,4 @@
-use Rattle.lx_spec.specs.TrackedLevel.{tracked}
-use Rattle.lx_console.specs.ConsoleMeaning.{level_now}
-use Rattle.lx_edit.proofs.CueLevels.{chosen_next}
-use Rattle.lx_record.specs.Cues.{comes_out_changed}
+use Rattle.lx_record.proofs.Imports.{tracked, level_now, chosen_next, comes_out_changed}
 use Rattle.lx_record.proofs.kept.kept_moves.Goals as goal
 
 pub loop-k-preserved : goal.loop-k-preserved

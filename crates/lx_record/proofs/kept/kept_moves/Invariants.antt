@@ -1,9 +1,4 @@
-use Rattle.std.proofs.Common.{◌≡◌, ◌-◌, map}
-use Rattle.std.specs.Prelude.{filter}
-use Rattle.std.specs.List.{range_with_len}
-use Rattle.lx_spec.specs.TrackedLevel.{tracked}
-use Rattle.lx_console.specs.ConsoleMeaning.{level_now}
-use Rattle.lx_record.specs.Cues.{comes_out_changed}
+use Rattle.lx_record.proofs.Imports.{◌≡◌, ◌-◌, map, filter, range_with_len, tracked, level_now, comes_out_changed}
 use Rattle.lx_record.proofs.kept.kept_moves.Given as goal
 
 abbrev pub invariant-loop-k : goal.invariant-loop-k

@@ -1,9 +1,5 @@
-use Rattle.std.proofs.Common.{◌∙◌, Ok, ap, sym}
-use Rattle.std.specs.Prelude.{Result}
-use Rattle.lx_spec.specs.declared.Refusal.{Refusal}
-use Rattle.lx_spec.specs.Show.{Show}
+use Rattle.lx_record.proofs.Imports.{◌∙◌, Ok, ap, sym, Result, Refusal, Show, planned}
 use Rattle.lx_edit.specs.declared.plans.Plan.{Plan}
-use Rattle.lx_edit.specs.PlanMeaning.{planned}
 use Rattle.lx_record.proofs.RecordAnswer.{of_stage}
 use Rattle.lx_record.proofs.record.plan_record.Goals as goal
 

@@ -1,8 +1,4 @@
-use Rattle.std.proofs.Common.{subst}
-use Rattle.std.specs.Prelude.{Result}
-use Rattle.lx_spec.specs.declared.Refusal.{Refusal}
-use Rattle.lx_spec.specs.Show.{Show}
-use Rattle.lx_record.specs.Records.{Records}
+use Rattle.lx_record.proofs.Imports.{subst, Result, Refusal, Show, Records}
 use Rattle.lx_record.proofs.RecordAnswer.{of_stage}
 use Rattle.lx_record.proofs.record.recorded.Goals as goal
 

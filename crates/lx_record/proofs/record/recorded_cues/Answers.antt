@@ -1,10 +1,5 @@
-use Rattle.std.proofs.Common.{◌≡◌, ◌∙◌, sym, ap, subst, Ok, arith}
-use Rattle.std.proofs.lemmas.Bool.{false≢true}
-use Rattle.std.specs.Prelude.{Option}
-use Rattle.lx_spec.specs.Show.{Cue, Show, ValidCue}
-use Rattle.lx_spec.specs.EditedShow.{with_cue}
-use Rattle.lx_console.specs.ConsoleMeaning.{level_now}
-use Rattle.lx_edit.specs.PlanMeaning.{CanPlace, with_above}
+use Rattle.lx_record.proofs.Imports.{◌≡◌, ◌∙◌, sym, ap, subst, Ok, arith, false≢true, Option, Cue, Show, ValidCue, with_cue, level_now, CanPlace}
+use Rattle.lx_record.proofs.Imports.{with_above}
 use Rattle.lx_record.proofs.RecordAnswer.{accepted, wants, cue_may, above_may, above_stands, recorded_number}
 use Rattle.lx_record.proofs.RecordedCues.{recorded_cue}
 use Rattle.lx_record.proofs.record.recorded_cues.Goals as goal

@@ -1,8 +1,4 @@
-use Rattle.std.proofs.Common.{◌∙◌, ◌≤◌, sym, subst, ap, ℕ, List}
-use Rattle.std.specs.List.{AllByRecursion}
-use Rattle.lx_spec.specs.declared.Member.{Member}
-use Rattle.lx_spec.specs.Show.{Show}
-use Rattle.lx_console.specs.ConsoleMeaning.{level_now}
+use Rattle.lx_record.proofs.Imports.{◌∙◌, ◌≤◌, sym, subst, ap, ℕ, List, AllByRecursion, Member, Show, level_now}
 use Rattle.lx_record.proofs.ChosenChannels.{untracked_within}
 use Rattle.lx_record.proofs.staged.staged.Goals as goal
 

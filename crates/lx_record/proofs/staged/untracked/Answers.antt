@@ -1,6 +1,4 @@
-use Rattle.std.specs.Prelude.{not, ◌==◌}
-use Rattle.lx_spec.specs.TrackedLevel.{tracked}
-use Rattle.lx_console.specs.ConsoleMeaning.{level_now}
+use Rattle.lx_record.proofs.Imports.{not, ◌==◌, tracked, level_now}
 use Rattle.lx_record.proofs.ChosenChannels.{member_next}
 use Rattle.lx_record.proofs.staged.untracked.Goals as goal
 

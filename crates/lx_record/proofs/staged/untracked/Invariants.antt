@@ -1,8 +1,4 @@
-use Rattle.std.proofs.Common.{◌≡◌, ◌-◌, map}
-use Rattle.std.specs.Prelude.{filter, not, ◌==◌}
-use Rattle.std.specs.List.{range_with_len}
-use Rattle.lx_spec.specs.TrackedLevel.{tracked}
-use Rattle.lx_console.specs.ConsoleMeaning.{level_now}
+use Rattle.lx_record.proofs.Imports.{◌≡◌, ◌-◌, map, filter, not, ◌==◌, range_with_len, tracked, level_now}
 use Rattle.lx_record.proofs.staged.untracked.Given as goal
 
 abbrev pub invariant-loop-k : goal.invariant-loop-k

@@ -1,4 +1,4 @@
-use Rattle.std.proofs.Common.{arith}
+use Rattle.lx_script.proofs.Imports.{arith}
 use Rattle.lx_script.proofs.Ready.{count_at, few_in_cell}
 use Rattle.lx_script.proofs.cells.count_of.Goals as goal
 

@@ -1,4 +1,4 @@
-use Rattle.std.proofs.Common.{inl, inr, arith, refl}
+use Rattle.lx_script.proofs.Imports.{inl, inr, arith, refl}
 use Rattle.lx_script.proofs.Ready.{same_digits}
 use Rattle.lx_script.proofs.cells.piece_end.Goals as goal
 use Rattle.lx_script.proofs.cells.piece_end.Goals.{then-from-lt9, else-from-lt9+then-from-lt99, else-from-lt9+else-from-lt99+then-from-lt999, else-from-lt9+else-from-lt99+else-from-lt999+then-from-lt-NEAR, else-from-lt9+else-from-lt99+else-from-lt999+else-from-lt-NEAR}

@@ -1,5 +1,4 @@
-use Rattle.std.proofs.Common.{Ok, arith}
-use Rattle.lx_io.proofs.Chain.{Puts-then, Puts-stops}
+use Rattle.lx_script.proofs.Imports.{Ok, arith, Puts-then, Puts-stops}
 use Rattle.lx_script.proofs.Texts.{cells_split, cells_more}
 use Rattle.lx_script.proofs.cells.put_cells.Goals as goal
 

@@ -1,7 +1,5 @@
-use Rattle.std.proofs.Common.{◌∷◌, ◌≤◌, ◌-◌, take, Ok, length}
-use Rattle.std.specs.Prelude.{flat_map}
+use Rattle.lx_script.proofs.Imports.{◌∷◌, ◌≤◌, ◌-◌, take, Ok, length, flat_map, cells}
 use Rattle.lx_io.specs.Puts.{Puts}
-use Rattle.lx_spec.specs.Replies.{cells}
 use Rattle.lx_script.proofs.cells.put_cells.Given as goal
 
 abbrev pub invariant-loop-from : goal.invariant-loop-from

@@ -1,6 +1,4 @@
-use Rattle.std.proofs.Common.{arith}
-use Rattle.itoa.proofs.Decimal.{length_one, length_two}
-use Rattle.lx_lex.proofs.Decimals.{length_three, length_four}
+use Rattle.lx_script.proofs.Imports.{arith, length_one, length_two, length_three, length_four}
 use Rattle.lx_script.proofs.cells.width_of.Goals as goal
 
 pub returns-then-number-lt10 : goal.returns-then-number-lt10

@@ -1,4 +1,4 @@
-use Rattle.std.proofs.Common.{◌≡◌, ◌+◌, List, ℕ, ◌∷◌, ◌++◌, ◌∙◌, ap, sym, append_assoc, decimal, length, take, arith}
+use Rattle.lx_script.proofs.Imports.{◌≡◌, ◌+◌, List, ℕ, ◌∷◌, ◌++◌, ◌∙◌, ap, sym, append_assoc, decimal, length, take, arith}
 use Rattle.lx_script.proofs.Texts.{cell_is}
 use Rattle.lx_script.proofs.cells.write_cell.Goals as goal
 

@@ -1,5 +1,4 @@
-use Rattle.std.proofs.Common.{◌++◌, ◌+◌, ◌∙◌, ap, sym, get_or, arith}
-use Rattle.lx_script.specs.Cells.{cell_text}
+use Rattle.lx_script.proofs.Imports.{◌++◌, ◌+◌, ◌∙◌, ap, sym, get_or, arith, cell_text}
 use Rattle.lx_script.proofs.Texts.{cells_next}
 use Rattle.lx_script.proofs.cells.write_cells.Goals as goal
 

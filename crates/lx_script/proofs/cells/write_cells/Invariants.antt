@@ -1,5 +1,4 @@
-use Rattle.std.proofs.Common.{◌≡◌, ◌*◌, ◌≤◌, take}
-use Rattle.lx_script.specs.Cells.{cells_from}
+use Rattle.lx_script.proofs.Imports.{◌≡◌, ◌*◌, ◌≤◌, take, cells_from}
 use Rattle.lx_script.proofs.cells.write_cells.Given as goal
 
 abbrev pub invariant-loop-at : goal.invariant-loop-at

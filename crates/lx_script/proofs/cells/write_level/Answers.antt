@@ -1,6 +1,5 @@
-use Rattle.std.proofs.Common.{◌≡◌, ◌+◌, ◌<◌, ◌∷◌, ◌++◌, ◌∙◌, [], ap, decimal, length, refl, take, get_or, arith}
-use Rattle.std.proofs.lemmas.Fmt.{length-decimal-le}
-use Rattle.lx_script.specs.declared.rows.TheConstants.{LEVELS}
+use Rattle.lx_script.proofs.Imports.{◌≡◌, ◌+◌, ◌<◌, ◌∷◌, ◌++◌, ◌∙◌, [], ap, decimal, length, refl, take, get_or, arith}
+use Rattle.lx_script.proofs.Imports.{length-decimal-le, LEVELS}
 use Rattle.lx_script.proofs.Ready.{level_row, ready_front}
 use Rattle.lx_script.proofs.Texts.{front_of}
 use Rattle.lx_script.proofs.cells.write_level.Goals as goal

@@ -1,6 +1,5 @@
-use Rattle.std.proofs.Common.{◌≡◌, ◌∷◌, ◌++◌, ◌∙◌, ◌/◌, ◌%◌, List, ℕ, [], ap, sym, append_assoc, decimal, take, get_or, arith}
-use Rattle.itoa.proofs.Decimal.{decimal_pair, length_two, pair}
-use Rattle.lx_script.specs.declared.rows.TheConstants.{NUMBERS}
+use Rattle.lx_script.proofs.Imports.{◌≡◌, ◌∷◌, ◌++◌, ◌∙◌, ◌/◌, ◌%◌, List, ℕ, [], ap, sym, append_assoc, decimal, take, get_or}
+use Rattle.lx_script.proofs.Imports.{arith, decimal_pair, length_two, pair, NUMBERS}
 use Rattle.lx_script.proofs.Ready.{number_row, pair_row, ready_front, three_at_most, four_at_least}
 use Rattle.lx_script.proofs.cells.write_number.Goals as goal
 

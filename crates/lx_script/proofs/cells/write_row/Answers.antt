@@ -1,4 +1,4 @@
-use Rattle.std.proofs.Common.{◌+◌, arith}
+use Rattle.lx_script.proofs.Imports.{◌+◌, arith}
 use Rattle.lx_script.proofs.Texts.{front_of}
 use Rattle.lx_script.proofs.cells.write_row.Goals as goal
 

@@ -1,8 +1,4 @@
-use Rattle.std.proofs.Common.{true, false, sym, ◌∙◌}
-use Rattle.std.specs.Prelude.{codes, option_and_then}
-use Rattle.lx_spec.specs.Phrase.{word}
-use Rattle.lx_spec.specs.Script.{time_edit}
-use Rattle.lx_lex.specs.Left.{left}
+use Rattle.lx_script.proofs.Imports.{true, false, sym, ◌∙◌, codes, option_and_then, word, time_edit, left}
 use Rattle.lx_script.proofs.Phrases.{optional_there}
 use Rattle.lx_script.proofs.edits.part_time.Goals as goal
 

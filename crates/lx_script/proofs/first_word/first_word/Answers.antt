@@ -1,4 +1,4 @@
-use Rattle.std.proofs.Common.{◌∙◌}
+use Rattle.lx_script.proofs.Imports.{◌∙◌}
 use Rattle.lx_script.proofs.WordLengths.{of_length}
 use Rattle.lx_script.proofs.first_word.first_word.Goals as goal
 

@@ -1,7 +1,5 @@
-use Rattle.std.proofs.Common.{[], ◌∷◌}
-use Rattle.lx_io.proofs.Chain.{Puts-then, Puts-stops}
+use Rattle.lx_script.proofs.Imports.{[], ◌∷◌, Puts-then, Puts-stops, count_words}
 use Rattle.lx_script.proofs.Texts.{frame_is}
-use Rattle.lx_script.specs.ReplyTexts.{count_words}
 use Rattle.lx_script.proofs.frame.put_frame.Goals as goal
 
 pub returns-in_err-put_head : goal.returns-in_err-put_head

@@ -1,7 +1,5 @@
-use Rattle.std.proofs.Common.{decimal}
-use Rattle.lx_io.proofs.Chain.{Puts-is, Puts-then, Puts-stops}
+use Rattle.lx_script.proofs.Imports.{decimal, Puts-is, Puts-then, Puts-stops, count_words}
 use Rattle.lx_script.proofs.Texts.{head_is}
-use Rattle.lx_script.specs.ReplyTexts.{count_words}
 use Rattle.lx_script.proofs.frame.put_head.Goals as goal
 
 pub returns-in_err-put_count_and : goal.returns-in_err-put_count_and

@@ -1,4 +1,4 @@
-use Rattle.std.proofs.Common.{◌∷◌, ◌∙◌, ap, sym, codes}
+use Rattle.lx_script.proofs.Imports.{◌∷◌, ◌∙◌, ap, sym, codes}
 use Rattle.lx_script.proofs.FirstWords.{frame_first}
 use Rattle.lx_script.proofs.line.behind_frame.Goals as goal
 

@@ -1,14 +1,8 @@
-use Rattle.std.proofs.Common.{◌≡◌, length, sym, ◌∙◌, subst}
-use Rattle.std.specs.Prelude.{IfSome, Some}
-use Rattle.std.proofs.lemmas.Bool.{le-ltb}
-use Rattle.lx_base.specs.declared.TheConstants.{LINE_BYTES}
+use Rattle.lx_script.proofs.Imports.{◌≡◌, length, sym, ◌∙◌, subst, IfSome, Some, le-ltb, LINE_BYTES, tokens, line_of, meaning, ValidLine}
+use Rattle.lx_script.proofs.Imports.{line_of-valid}
 use Rattle.lx_spec.specs.declared.Command.TheVariants as commands
 use Rattle.lx_spec.specs.declared.Key.TheVariants as keys
 use Rattle.lx_spec.specs.declared.Line.TheVariants as lines
-use Rattle.lx_spec.specs.Text.{tokens}
-use Rattle.lx_spec.specs.Script.{line_of, meaning}
-use Rattle.lx_spec.specs.ValidEdit.{ValidLine}
-use Rattle.lx_spec.proofs.ValidLines.{line_of-valid}
 use Rattle.lx_script.proofs.ReadLines.{valid_meaning}
 use Rattle.lx_script.proofs.line.read_line.Goals as goal
 

@@ -1,4 +1,4 @@
-use Rattle.std.proofs.Common.{sym}
+use Rattle.lx_script.proofs.Imports.{sym}
 use Rattle.lx_script.proofs.reply.put_refused.Goals as goal
 
 pub returns-in-AbsentCue : goal.returns-in-AbsentCue

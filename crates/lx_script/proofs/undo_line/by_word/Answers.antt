@@ -1,7 +1,4 @@
-use Rattle.std.proofs.Common.{sym, ◌∙◌, ap}
-use Rattle.std.specs.Prelude.{option_and_then}
-use Rattle.lx_lex.specs.Left.{left}
-use Rattle.lx_script.specs.FirstWords.{sentence_of}
+use Rattle.lx_script.proofs.Imports.{sym, ◌∙◌, ap, option_and_then, left, sentence_of}
 use Rattle.lx_script.proofs.FirstWords.{meaning_is}
 use Rattle.lx_script.proofs.ReadLines.{not_history}
 use Rattle.lx_script.proofs.undo_line.by_word.Goals as goal

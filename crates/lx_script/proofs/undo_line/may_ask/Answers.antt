@@ -1,4 +1,4 @@
-use Rattle.std.proofs.Common.{◌∙◌, sym}
+use Rattle.lx_script.proofs.Imports.{◌∙◌, sym}
 use Rattle.lx_script.proofs.UndoLines.{begins_otherwise, of_not}
 use Rattle.lx_script.proofs.undo_line.may_ask.Goals as goal
 

@@ -1,10 +1,4 @@
-use Rattle.std.proofs.Common.{◌≡◌, length, subst, sym}
-use Rattle.std.proofs.lemmas.Bool.{le-ltb}
-use Rattle.lx_base.specs.declared.TheConstants.{LINE_BYTES}
-use Rattle.lx_spec.specs.Text.{tokens}
-use Rattle.lx_spec.specs.Script.{line_of, meaning}
-use Rattle.lx_spec.specs.UndoSession.{undo_meaning}
-use Rattle.lx_script.specs.LinesWithUndo.{IsReadOf}
+use Rattle.lx_script.proofs.Imports.{◌≡◌, length, subst, sym, le-ltb, LINE_BYTES, tokens, line_of, meaning, undo_meaning, IsReadOf}
 use Rattle.lx_script.proofs.ReadLines.{valid_with_undo}
 use Rattle.lx_script.proofs.undo_line.read_line_with_undo.Goals as goal
 

@@ -1,5 +1,4 @@
-use Rattle.std.proofs.Common.{refl}
-use Rattle.lx_io.proofs.Chain.{Puts-is}
+use Rattle.lx_session.proofs.Imports.{refl, Puts-is}
 use Rattle.lx_session.proofs.Rows.{absent_reply}
 use Rattle.lx_session.proofs.finish.put_sheet.Goals as goal
 

@@ -1,5 +1,4 @@
-use Rattle.std.proofs.Common.{◌∙◌, true, append-nil, []}
-use Rattle.lx_io.proofs.Chain.{Puts-is, Puts-ok, Puts-stops}
+use Rattle.lx_session.proofs.Imports.{◌∙◌, true, append-nil, [], Puts-is, Puts-ok, Puts-stops}
 use Rattle.lx_session.proofs.ShownDesk.{show_saved}
 use Rattle.lx_session.proofs.finish.put_show.Goals as goal
 

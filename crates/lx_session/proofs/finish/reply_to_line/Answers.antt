@@ -1,7 +1,5 @@
-use Rattle.std.proofs.Common.{rules, ◌≡◌, Some, ap, sym}
+use Rattle.lx_session.proofs.Imports.{rules, ◌≡◌, Some, ap, sym, reply_to, counts_in, Puts-is}
 use Rattle.lx_spec.specs.declared.Line.TheVariants as lines
-use Rattle.lx_session.specs.LineReply.{reply_to, counts_in}
-use Rattle.lx_io.proofs.Chain.{Puts-is}
 use Rattle.lx_session.proofs.Replies.{save_reply, sheet_counts}
 use Rattle.lx_session.proofs.finish.reply_to_line.Goals as goal
 

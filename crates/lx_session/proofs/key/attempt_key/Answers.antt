@@ -1,5 +1,4 @@
-use Rattle.std.proofs.Common.{◌≡◌, true, false, ap, [], ◌∷◌}
-use Rattle.std.specs.Prelude.{is_none, not}
+use Rattle.lx_session.proofs.Imports.{◌≡◌, true, false, ap, [], ◌∷◌, is_none, not}
 use Rattle.lx_spec.specs.declared.Command.TheVariants as commands
 use Rattle.lx_session.proofs.AttemptSteps.{accepted_step, heard_accepted, heard_refused}
 use Rattle.lx_session.proofs.key.attempt_key.Goals as goal

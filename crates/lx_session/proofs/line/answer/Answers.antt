@@ -1,8 +1,7 @@
-use Rattle.std.proofs.Common.{Some, sym, subst}
+use Rattle.lx_session.proofs.Imports.{Some, sym, subst, LineAnswer}
 use Rattle.lx_spec.specs.declared.Command.TheVariants as commands
 use Rattle.lx_spec.specs.declared.Key.TheVariants as keys
 use Rattle.lx_spec.specs.declared.Line.TheVariants as lines
-use Rattle.lx_session.specs.LineAnswer.{LineAnswer}
 use Rattle.lx_session.proofs.line.answer.Goals as goal
 
 pub returns-in-Some-clause-answered : goal.returns-in-Some-clause-answered

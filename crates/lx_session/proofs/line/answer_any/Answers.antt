@@ -1,5 +1,4 @@
-use Rattle.std.proofs.Common.{Some, ap, sym, ◌∙◌, subst}
-use Rattle.lx_session.specs.LineAnswer.{LineAnswer}
+use Rattle.lx_session.proofs.Imports.{Some, ap, sym, ◌∙◌, subst, LineAnswer}
 use Rattle.lx_session.proofs.AnsweredLines.{bad_line, frame_line}
 use Rattle.lx_session.proofs.line.answer_any.Goals as goal
 

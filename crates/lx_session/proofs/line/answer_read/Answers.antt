@@ -1,5 +1,4 @@
-use Rattle.std.proofs.Common.{Some, subst}
-use Rattle.lx_session.specs.LineProgress.{LineProgress}
+use Rattle.lx_session.proofs.Imports.{Some, subst, LineProgress}
 use Rattle.lx_session.proofs.AnsweredLines.{answered}
 use Rattle.lx_session.proofs.line.answer_read.Goals as goal
 

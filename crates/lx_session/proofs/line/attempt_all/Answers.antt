@@ -1,7 +1,5 @@
-use Rattle.std.proofs.Common.{◌≡◌, ◌∙◌, ap, sym, Some, [], ◌∷◌}
+use Rattle.lx_session.proofs.Imports.{◌≡◌, ◌∙◌, ap, sym, Some, [], ◌∷◌, heard_of, next_of}
 use Rattle.lx_spec.specs.declared.Command.TheVariants as commands
-use Rattle.lx_session.specs.Attempts.{heard_of}
-use Rattle.lx_session.specs.LineState.{next_of}
 use Rattle.lx_session.proofs.AttemptSteps.{nothing_yet, attempted_so, admitted_so_far, passed}
 use Rattle.lx_session.proofs.ValidNext.{valid_next}
 use Rattle.lx_session.proofs.line.attempt_all.Goals as goal

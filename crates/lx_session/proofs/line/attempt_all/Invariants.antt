@@ -1,7 +1,4 @@
-use Rattle.std.proofs.Common.{◌≡◌, true}
-use Rattle.lx_spec.specs.DeskSession.{DeskState}
-use Rattle.lx_console.specs.ConsoleMeaning.{StandsFor}
-use Rattle.lx_session.specs.LineProgress.{LineProgress}
+use Rattle.lx_session.proofs.Imports.{◌≡◌, true, DeskState, StandsFor, LineProgress}
 use Rattle.lx_session.proofs.line.attempt_all.Given as goal
 
 abbrev pub invariant-commands : goal.invariant-commands

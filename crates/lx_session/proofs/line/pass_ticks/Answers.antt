@@ -1,4 +1,4 @@
-use Rattle.std.proofs.Common.{rules}
+use Rattle.lx_session.proofs.Imports.{rules}
 use Rattle.lx_session.proofs.line.pass_ticks.Goals as goal
 
 pub returns-clause-keeps : goal.returns-clause-keeps

@@ -1,8 +1,4 @@
-use Rattle.std.proofs.Common.{◌≡◌, false, true, Ok, IfSome, ap, subst, arith, refl, ◌∙◌}
-use Rattle.lx_lex.specs.Unread.{unread}
-use Rattle.lx_session.specs.LineOutcome.{LineOutcome}
-use Rattle.lx_session.specs.ScriptAnswer.{ScriptAnswered}
-use Rattle.lx_session.specs.SessionOutcome.{KeepsLimit}
+use Rattle.lx_session.proofs.Imports.{◌≡◌, false, true, Ok, IfSome, ap, subst, arith, refl, ◌∙◌, unread, LineOutcome, ScriptAnswered, KeepsLimit}
 use Rattle.lx_session.proofs.SoFar.{so_far_none, so_far_more, passed_none, passed_more, fits}
 use Rattle.lx_session.proofs.ScriptEnds.{so_far_ends, so_far_fails, fails_by_limit, through}
 use Rattle.lx_session.proofs.script.answer_each.Goals as goal

@@ -1,6 +1,4 @@
-use Rattle.std.proofs.Common.{◌≡◌, ◌-◌, Bool, true}
-use Rattle.lx_base.specs.declared.TheConstants.{INPUT_BYTES}
-use Rattle.lx_session.specs.LineReply.{IsUpTo}
+use Rattle.lx_session.proofs.Imports.{◌≡◌, ◌-◌, Bool, true, INPUT_BYTES, IsUpTo}
 use Rattle.lx_session.proofs.SoFar.{SoFar, Passed}
 use Rattle.lx_session.proofs.script.answer_each.Given as goal
 

@@ -1,4 +1,4 @@
-use Rattle.std.proofs.Common.{true}
+use Rattle.lx_session.proofs.Imports.{true}
 use Rattle.lx_session.proofs.script.answer_lines.Goals as goal
 
 pub returns-clause-outcome : goal.returns-clause-outcome

@@ -1,5 +1,4 @@
-use Rattle.std.proofs.Common.{refl}
-use Rattle.lx_spec.specs.DeskSession.{begun}
+use Rattle.lx_session.proofs.Imports.{refl, begun}
 use Rattle.lx_session.proofs.script.session_with.Goals as goal
 
 pub returns-clause-outcome : goal.returns-clause-outcome

@@ -1,4 +1,4 @@
-use Rattle.lx_session.specs.LineOutcome.{ReplyOutcome}
+use Rattle.lx_session.proofs.Imports.{ReplyOutcome}
 use Rattle.lx_session.proofs.ReplyOutcomes.{replied, ended, ended_unflushed, unwritten, through, tells_more}
 use Rattle.lx_session.proofs.take.give_reply.Goals as goal
 

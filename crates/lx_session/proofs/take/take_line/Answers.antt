@@ -1,5 +1,4 @@
-use Rattle.std.proofs.Common.{◌∙◌, inl, inr, false, refl}
-use Rattle.lx_lex.proofs.HandingOut.{handed_one}
+use Rattle.lx_session.proofs.Imports.{◌∙◌, inl, inr, false, refl, handed_one}
 use Rattle.lx_session.proofs.LineOutcomes.{answered, unwritten, end_unflushed, cut_off}
 use Rattle.lx_session.proofs.take.take_line.Goals as goal
 

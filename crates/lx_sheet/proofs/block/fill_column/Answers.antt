@@ -1,14 +1,6 @@
-use Rattle.std.proofs.Common.{◌≡◌, ◌≢◌, ℕ, ◌+◌, ◌*◌, ◌-◌, ◌<◌, ◌≤◌, false, cond, Bool, List, length, take, set, Option, Some}
-use Rattle.std.proofs.Common.{ap, sym, ◌∙◌, subst, inl, inr, arith}
-use Rattle.std.specs.Prelude.{IfSome, slice_get}
-use Rattle.std.proofs.lemmas.Bool.{cases_eq}
-use Rattle.std.proofs.lemmas.List.{get_or_default}
-use Rattle.std.proofs.lemmas.Option.{slice_get-get_or}
-use Rattle.lx_spec.specs.Show.{Cue}
-use Rattle.lx_spec.specs.TrackedLevel.{decides, level_in}
-use Rattle.lx_sheet.specs.declared.sheet.Place.{Place}
-use Rattle.lx_sheet.specs.Block.{cell, cue_level, row_at_place, last_value, width}
-use Rattle.lx_sheet.specs.After.{level_after, tracked_on}
+use Rattle.lx_sheet.proofs.Imports.{◌≡◌, ◌≢◌, ℕ, ◌+◌, ◌*◌, ◌-◌, ◌<◌, ◌≤◌, false, cond, Bool, List, length, take, set}
+use Rattle.lx_sheet.proofs.Imports.{Option, Some, ap, sym, ◌∙◌, subst, inl, inr, arith, IfSome, slice_get, cases_eq, get_or_default, slice_get-get_or}
+use Rattle.lx_sheet.proofs.Imports.{Cue, decides, level_in, Place, cell, cue_level, row_at_place, last_value, width, level_after, tracked_on}
 use Rattle.lx_sheet.proofs.Cells.{cell-set_here, cell-set_other}
 use Rattle.lx_sheet.proofs.BlockReach.{covered_at}
 use Rattle.lx_sheet.proofs.LevelsAfter.{level_after-take}

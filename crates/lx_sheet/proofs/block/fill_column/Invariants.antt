@@ -1,8 +1,5 @@
-use Rattle.std.proofs.Common.{◌≡◌, ◌≢◌, ℕ, ◌<◌, ◌≤◌, false, length, take, slice_get}
-use Rattle.std.specs.Prelude.{IfSome}
-use Rattle.lx_spec.specs.TrackedLevel.{decides}
-use Rattle.lx_sheet.specs.Block.{cell, cue_level, last_value}
-use Rattle.lx_sheet.specs.After.{level_after, IsRight}
+use Rattle.lx_sheet.proofs.Imports.{◌≡◌, ◌≢◌, ℕ, ◌<◌, ◌≤◌, false, length, take, slice_get, IfSome, decides, cell, cue_level, last_value}
+use Rattle.lx_sheet.proofs.Imports.{level_after, IsRight}
 use Rattle.lx_sheet.proofs.block.fill_column.Given as goal
 
 abbrev pub invariant-loop-place : goal.invariant-loop-place

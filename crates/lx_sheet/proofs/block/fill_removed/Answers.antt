@@ -1,8 +1,4 @@
-use Rattle.std.proofs.Common.{◌≡◌, ◌+◌, ◌-◌, ℕ, List, length, refl, ◌∙◌, subst, arith}
-use Rattle.lx_spec.specs.Show.{Cue}
-use Rattle.lx_sheet.specs.declared.sheet.Place.{Place}
-use Rattle.lx_sheet.specs.Block.{cell, level_in_look}
-use Rattle.lx_sheet.specs.After.{IsRight}
+use Rattle.lx_sheet.proofs.Imports.{◌≡◌, ◌+◌, ◌-◌, ℕ, List, length, refl, ◌∙◌, subst, arith, Cue, Place, cell, level_in_look, IsRight}
 use Rattle.lx_sheet.proofs.RightRows.{right_on}
 use Rattle.lx_sheet.proofs.block.fill_removed.Goals as goal
 

@@ -1,9 +1,5 @@
-use Rattle.std.proofs.Common.{◌≡◌, ◌≢◌, ℕ, ◌+◌, ◌-◌, ◌<◌, List, length, take, ap, sym, ◌∙◌, subst, inl, inr, arith}
-use Rattle.std.proofs.lemmas.Bool.{cases_eq, cases_lt}
-use Rattle.lx_spec.specs.Show.{Cue}
-use Rattle.lx_sheet.specs.declared.sheet.Place.{Place}
-use Rattle.lx_sheet.specs.Block.{cell, cue_level, row_at_place, level_in_look}
-use Rattle.lx_sheet.specs.After.{level_after, tracked_on, IsRight}
+use Rattle.lx_sheet.proofs.Imports.{◌≡◌, ◌≢◌, ℕ, ◌+◌, ◌-◌, ◌<◌, List, length, take, ap, sym, ◌∙◌, subst, inl, inr, arith}
+use Rattle.lx_sheet.proofs.Imports.{cases_eq, cases_lt, Cue, Place, cell, cue_level, row_at_place, level_in_look, level_after, tracked_on, IsRight}
 use Rattle.lx_sheet.proofs.LevelsAfter.{level_after-take}
 use Rattle.lx_sheet.proofs.RightRows.{right_on}
 use Rattle.lx_sheet.proofs.RowPool.{rows_differ}

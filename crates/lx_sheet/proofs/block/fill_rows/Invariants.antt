@@ -1,6 +1,4 @@
-use Rattle.std.proofs.Common.{◌≡◌, ℕ, ◌<◌, ◌≤◌, length, take}
-use Rattle.lx_sheet.specs.Block.{cue_level, level_in_look}
-use Rattle.lx_sheet.specs.After.{level_after, IsRight}
+use Rattle.lx_sheet.proofs.Imports.{◌≡◌, ℕ, ◌<◌, ◌≤◌, length, take, cue_level, level_in_look, level_after, IsRight}
 use Rattle.lx_sheet.proofs.block.fill_rows.Given as goal
 
 abbrev pub invariant-loop-place : goal.invariant-loop-place

@@ -1,10 +1,6 @@
-use Rattle.std.proofs.Common.{◌≡◌, ◌≤◌, Bool, ◌+◌, ◌-◌, ◌*◌, List, ℕ, true, Some, None, length, take, drop, ap, ◌∙◌, sym, subst, refl}
-use Rattle.std.proofs.Common.{arith}
-use Rattle.std.specs.Prelude.{Option, is_some, not}
-use Rattle.std.proofs.lemmas.Bool.{false≢true}
-use Rattle.std.proofs.lemmas.List.{length-take, length-drop}
-use Rattle.lx_base.specs.Rows.{Agree}
-use Rattle.lx_sheet.specs.Block.{cell, width}
+use Rattle.lx_sheet.proofs.Imports.{◌≡◌, ◌≤◌, Bool, ◌+◌, ◌-◌, ◌*◌, List, ℕ, true, Some, None, length, take, drop, ap, ◌∙◌, sym}
+use Rattle.lx_sheet.proofs.Imports.{subst, refl, arith, Option, is_some, not, false≢true, length-take, length-drop, Agree, width}
+use Rattle.lx_sheet.specs.Block.{cell}
 use Rattle.lx_sheet.proofs.Cells.{width_of, same_look}
 use Rattle.lx_sheet.proofs.block.holds.Goals as goal
 

@@ -1,5 +1,4 @@
-use Rattle.std.proofs.Common.{◌≡◌, ◌+◌, ◌-◌, ◌*◌, get_or, ap, sym, ◌∙◌, arith}
-use Rattle.lx_sheet.specs.Block.{cell, cue_level, width}
+use Rattle.lx_sheet.proofs.Imports.{◌≡◌, ◌+◌, ◌-◌, ◌*◌, get_or, ap, sym, ◌∙◌, arith, cell, cue_level, width}
 use Rattle.lx_sheet.proofs.Cells.{cell_is, last_value_some}
 use Rattle.lx_sheet.proofs.block.level_before.Goals as goal
 

@@ -1,7 +1,4 @@
-use Rattle.std.proofs.Common.{◌<◌, subst}
-use Rattle.std.proofs.lemmas.List.{get_or-map}
-use Rattle.lx_base.specs.declared.TheConstants.{CUES}
-use Rattle.lx_sheet.specs.declared.sheet.Place.{Place}
+use Rattle.lx_sheet.proofs.Imports.{◌<◌, subst, get_or-map, CUES, Place}
 use Rattle.lx_sheet.proofs.RowPool.{row_within}
 use Rattle.lx_sheet.proofs.block.own_row.Goals as goal
 

@@ -1,7 +1,4 @@
-use Rattle.std.proofs.Common.{◌≡◌, ◌-◌, ◌*◌, ◌++◌, ℕ, List, take, vec_len, ap, ◌∙◌, arith}
-use Rattle.std.specs.Prelude.{replicate}
-use Rattle.std.proofs.lemmas.List.{take_all}
-use Rattle.lx_sheet.specs.Block.{cell, width}
+use Rattle.lx_sheet.proofs.Imports.{◌≡◌, ◌-◌, ◌*◌, ◌++◌, ℕ, List, take, vec_len, ap, ◌∙◌, arith, replicate, take_all, cell, width}
 use Rattle.lx_sheet.proofs.BlockReach.{cell_grown}
 use Rattle.lx_sheet.proofs.block.reach.Goals as goal
 

@@ -1,5 +1,5 @@
-use Rattle.std.proofs.Common.{◌*◌, List, ℕ, length, take, drop, ap, ◌∙◌}
-use Rattle.lx_sheet.specs.Block.{cell, level_in_look, width}
+use Rattle.lx_sheet.proofs.Imports.{◌*◌, List, ℕ, length, take, drop, ap, ◌∙◌, level_in_look, width}
+use Rattle.lx_sheet.specs.Block.{cell}
 use Rattle.lx_sheet.proofs.Cells.{width_of}
 use Rattle.lx_sheet.proofs.block.read_row.Goals as goal
 

@@ -1,5 +1,5 @@
-use Rattle.std.proofs.Common.{◌+◌, ◌*◌, ◌≤◌, List, ℕ, length, ap, ◌∙◌, arith}
-use Rattle.lx_sheet.specs.Block.{cell, level_in_look, width}
+use Rattle.lx_sheet.proofs.Imports.{◌+◌, ◌*◌, ◌≤◌, List, ℕ, length, ap, ◌∙◌, arith, level_in_look, width}
+use Rattle.lx_sheet.specs.Block.{cell}
 use Rattle.lx_sheet.proofs.Cells.{row_here, row_other}
 use Rattle.lx_sheet.proofs.block.write_row.Goals as goal
 

@@ -1,7 +1,4 @@
-use Rattle.std.proofs.Common.{◌≡◌, length, map, ap, sym, ◌∙◌, subst, Some, ℕ, rules}
-use Rattle.std.specs.Prelude.{Option}
-use Rattle.lx_spec.specs.Show.{Cue}
-use Rattle.lx_sheet.specs.Block.{count_under}
+use Rattle.lx_sheet.proofs.Imports.{◌≡◌, length, map, ap, sym, ◌∙◌, subst, Some, ℕ, rules, Option, Cue, count_under}
 use Rattle.lx_sheet.proofs.RightRows.{count_under-map, until}
 use Rattle.lx_sheet.proofs.edits.count_below.Goals as goal
 

@@ -1,7 +1,4 @@
-use Rattle.std.proofs.Common.{length, sym, subst, arith}
-use Rattle.std.proofs.lemmas.List.Elements.{All-from_recursion}
-use Rattle.lx_spec.specs.declared.Move.{Move}
-use Rattle.lx_spec.specs.Show.{InRange}
+use Rattle.lx_sheet.proofs.Imports.{length, sym, subst, arith, All-from_recursion, Move, InRange}
 use Rattle.lx_sheet.proofs.Moves.{move_placed}
 use Rattle.lx_sheet.proofs.look.place_moves.Goals as goal
 

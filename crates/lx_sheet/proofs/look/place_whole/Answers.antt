@@ -1,6 +1,4 @@
-use Rattle.std.proofs.Common.{◌≡◌, ℕ, ◌+◌, ◌-◌, List, set, drop, subst, arith}
-use Rattle.lx_spec.specs.declared.Move.{Move}
-use Rattle.lx_sheet.specs.Block.{level_in_look}
+use Rattle.lx_sheet.proofs.Imports.{◌≡◌, ℕ, ◌+◌, ◌-◌, List, set, drop, subst, arith, Move, level_in_look}
 use Rattle.lx_sheet.proofs.Moves.{level_placed, move_placed, whole_row}
 use Rattle.lx_sheet.proofs.look.place_whole.Goals as goal
 

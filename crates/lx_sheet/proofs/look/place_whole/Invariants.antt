@@ -1,5 +1,4 @@
-use Rattle.std.proofs.Common.{◌≡◌, ℕ, drop}
-use Rattle.lx_sheet.specs.Block.{level_in_look}
+use Rattle.lx_sheet.proofs.Imports.{◌≡◌, ℕ, drop, level_in_look}
 use Rattle.lx_sheet.proofs.Moves.{level_placed}
 use Rattle.lx_sheet.proofs.look.place_whole.Given as goal
 

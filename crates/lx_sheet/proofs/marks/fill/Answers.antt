@@ -1,7 +1,5 @@
-use Rattle.std.proofs.Common.{◌≡◌, ◌≢◌, ℕ, ◌<◌, List, length, get_or, set, ap, sym, ◌∙◌, subst, inl, inr, arith}
-use Rattle.std.proofs.lemmas.Bool.{cases_eq}
-use Rattle.std.proofs.lemmas.List.{get_or-set_same}
-use Rattle.lx_sheet.specs.WordPlaces.{word_place}
+use Rattle.lx_sheet.proofs.Imports.{◌≡◌, ◌≢◌, ℕ, ◌<◌, List, length, get_or, set, ap, sym, ◌∙◌, subst, inl, inr, arith, cases_eq}
+use Rattle.lx_sheet.proofs.Imports.{get_or-set_same, word_place}
 use Rattle.lx_sheet.proofs.MarkWords.{place_within, word_other}
 use Rattle.lx_sheet.proofs.marks.fill.Goals as goal
 

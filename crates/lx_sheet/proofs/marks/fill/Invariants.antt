@@ -1,5 +1,4 @@
-use Rattle.std.proofs.Common.{◌≡◌, ◌≢◌, ℕ, ◌<◌, slice_index}
-use Rattle.lx_sheet.specs.WordPlaces.{word_place}
+use Rattle.lx_sheet.proofs.Imports.{◌≡◌, ◌≢◌, ℕ, ◌<◌, slice_index, word_place}
 use Rattle.lx_sheet.proofs.marks.fill.Given as goal
 
 abbrev pub invariant-loop-group : goal.invariant-loop-group

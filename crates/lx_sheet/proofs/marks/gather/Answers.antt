@@ -1,10 +1,5 @@
-use Rattle.std.proofs.Common.{◌≡◌, ℕ, ◌+◌, ◌-◌, List, get_or, ap, sym, ◌∙◌, subst, inl, inr, arith, w64}
-use Rattle.std.specs.Prelude.{bit_or}
-use Rattle.std.proofs.lemmas.Bool.{cases_eq}
-use Rattle.std.proofs.lemmas.Nat.Bits.{bit_at_ones, bit_at_set_same}
-use Rattle.std.specs.Int.{bit_at}
-use Rattle.lx_spec.specs.declared.Move.{Move}
-use Rattle.lx_sheet.specs.WordPlaces.{IsBitOf, bit_of, chan_at, group_of}
+use Rattle.lx_sheet.proofs.Imports.{◌≡◌, ℕ, ◌+◌, ◌-◌, List, get_or, ap, sym, ◌∙◌, subst, inl, inr, arith, w64, bit_or, cases_eq}
+use Rattle.lx_sheet.proofs.Imports.{bit_at_ones, bit_at_set_same, bit_at, Move, IsBitOf, bit_of, chan_at, group_of}
 use Rattle.lx_sheet.proofs.MarkWords.{bit_left, chan_is, same_group}
 use Rattle.lx_sheet.proofs.marks.gather.Goals as goal
 

@@ -1,5 +1,4 @@
-use Rattle.std.proofs.Common.{ℕ, ◌<◌, ◌≤◌}
-use Rattle.lx_sheet.specs.WordPlaces.{IsBitOf}
+use Rattle.lx_sheet.proofs.Imports.{ℕ, ◌<◌, ◌≤◌, IsBitOf}
 use Rattle.lx_sheet.proofs.marks.gather.Given as goal
 
 abbrev pub invariant-loop-end : goal.invariant-loop-end

@@ -1,8 +1,5 @@
-use Rattle.std.proofs.Common.{◌≡◌, ℕ, ◌+◌, ◌*◌, ◌/◌, ◌<◌, ◌≤◌, List, length, get_or, set, ap, sym, ◌∙◌, subst, inl, inr, arith}
-use Rattle.std.specs.Prelude.{bit_or}
-use Rattle.std.proofs.lemmas.Bool.{cases_lt}
-use Rattle.lx_spec.specs.declared.Move.{Move}
-use Rattle.lx_sheet.specs.WordPlaces.{chan_at, group_of, row_bit, word_place}
+use Rattle.lx_sheet.proofs.Imports.{◌≡◌, ℕ, ◌+◌, ◌*◌, ◌/◌, ◌<◌, ◌≤◌, List, length, get_or, set, ap, sym, ◌∙◌, subst, inl}
+use Rattle.lx_sheet.proofs.Imports.{inr, arith, bit_or, cases_lt, Move, chan_at, group_of, row_bit, word_place}
 use Rattle.lx_sheet.proofs.MarkWords.{bit_added, bit_kept, chan_found, chan_is, group_within, word_other}
 use Rattle.lx_sheet.proofs.marks.mark_moves.Goals as goal
 

@@ -1,5 +1,4 @@
-use Rattle.std.proofs.Common.{◌≡◌, ◌≢◌, ℕ, ◌-◌, ◌<◌, ◌≤◌, length, slice_index}
-use Rattle.lx_sheet.specs.WordPlaces.{chan_at, row_bit, word_place}
+use Rattle.lx_sheet.proofs.Imports.{◌≡◌, ◌≢◌, ℕ, ◌-◌, ◌<◌, ◌≤◌, length, slice_index, chan_at, row_bit, word_place}
 use Rattle.lx_sheet.proofs.marks.mark_moves.Given as goal
 
 abbrev pub invariant-loop-next : goal.invariant-loop-next

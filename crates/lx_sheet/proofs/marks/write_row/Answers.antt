@@ -1,7 +1,4 @@
-use Rattle.std.proofs.Common.{ap, ◌∙◌, arith}
-use Rattle.std.specs.Int.{bit_at}
-use Rattle.std.proofs.lemmas.Nat.Bits.{bit_at_ones}
-use Rattle.lx_sheet.specs.WordPlaces.{bit_of, group_of}
+use Rattle.lx_sheet.proofs.Imports.{ap, ◌∙◌, arith, bit_at, bit_at_ones, bit_of, group_of}
 use Rattle.lx_sheet.proofs.marks.write_row.Goals as goal
 
 pub returns-then-cue-clause-here : goal.returns-then-cue-clause-here

@@ -1,15 +1,7 @@
-use Rattle.std.proofs.Common.{◌≡◌, ℕ, ◌+◌, ◌*◌, ◌<◌, ◌≤◌, List, length, take, below_more, below_none, Some}
-use Rattle.std.proofs.Common.{sym, ap, ◌∙◌, subst, arith, rules}
-use Rattle.std.specs.Prelude.{Option, IfSome, slice_get}
+use Rattle.lx_sheet.proofs.Imports.{◌≡◌, ℕ, ◌+◌, ◌*◌, ◌<◌, ◌≤◌, List, length, take, below_more, below_none, Some, sym, ap, ◌∙◌}
+use Rattle.lx_sheet.proofs.Imports.{subst, arith, rules, Option, IfSome, slice_get, with_items_is, All-from_recursion, IfSome_then, slice_get-get_or, Cue}
+use Rattle.lx_sheet.proofs.Imports.{ValidCue, Marks, cell, level_in_look, width, IsMarkedFor, level_after, tracked_on}
 use Rattle.std.proofs.lemmas.Grind.{common_steps}
-use Rattle.std.proofs.lemmas.List.{with_items_is}
-use Rattle.std.proofs.lemmas.List.Elements.{All-from_recursion}
-use Rattle.std.proofs.lemmas.Option.{IfSome_then, slice_get-get_or}
-use Rattle.lx_spec.specs.Show.{Cue, ValidCue}
-use Rattle.lx_sheet.specs.declared.marks.Marks.{Marks}
-use Rattle.lx_sheet.specs.Block.{cell, level_in_look, width}
-use Rattle.lx_sheet.specs.Marks.{IsMarkedFor}
-use Rattle.lx_sheet.specs.After.{level_after, tracked_on}
 use Rattle.lx_sheet.proofs.LevelsAfter.{level_after-nil, level_after-take}
 use Rattle.lx_sheet.proofs.MarkedRows.{grown_on, moves_within, reached_grown}
 use Rattle.lx_sheet.proofs.opening.fill_all.Goals as goal

@@ -1,8 +1,5 @@
-use Rattle.std.proofs.Common.{◌≡◌, ℕ, ◌+◌, ◌*◌, ◌<◌, ◌≤◌, length, max, take, vec_capacity}
-use Rattle.std.specs.Prelude.{IfSome, slice_get}
-use Rattle.lx_sheet.specs.Block.{cell, level_in_look, width}
-use Rattle.lx_sheet.specs.Marks.{IsGrown, IsMarkedFor, IsReached}
-use Rattle.lx_sheet.specs.After.{level_after}
+use Rattle.lx_sheet.proofs.Imports.{◌≡◌, ℕ, ◌+◌, ◌*◌, ◌<◌, ◌≤◌, length, max, take, vec_capacity, IfSome, slice_get, cell}
+use Rattle.lx_sheet.proofs.Imports.{level_in_look, width, IsGrown, IsMarkedFor, IsReached, level_after}
 use Rattle.lx_sheet.proofs.opening.fill_all.Given as goal
 
 abbrev pub invariant-loop-place : goal.invariant-loop-place

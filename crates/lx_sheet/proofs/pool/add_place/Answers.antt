@@ -1,8 +1,4 @@
-use Rattle.std.proofs.Common.{List, sym, subst}
-use Rattle.lx_spec.specs.SortedList.{IsStrictlySorted}
-use Rattle.lx_show.proofs.Indexes.{sorted_added}
-use Rattle.lx_sheet.specs.declared.sheet.Place.{Place}
-use Rattle.lx_sheet.specs.Block.{IsPool}
+use Rattle.lx_sheet.proofs.Imports.{List, sym, subst, IsStrictlySorted, sorted_added, Place, IsPool}
 use Rattle.lx_sheet.proofs.RowPool.{pool_taken}
 use Rattle.lx_sheet.proofs.pool.add_place.Goals as goal
 

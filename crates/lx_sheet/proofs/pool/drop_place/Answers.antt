@@ -1,9 +1,4 @@
-use Rattle.std.proofs.Common.{◌<◌, List, length, sym, ap, ◌∙◌, subst, arith}
-use Rattle.lx_spec.specs.SortedList.{IsStrictlySorted}
-use Rattle.lx_spec.proofs.SortedLists.{IsStrictlySorted-filter}
-use Rattle.lx_show.proofs.Indexes.{without}
-use Rattle.lx_sheet.specs.declared.sheet.Place.{Place}
-use Rattle.lx_sheet.specs.Block.{IsPool}
+use Rattle.lx_sheet.proofs.Imports.{◌<◌, List, length, sym, ap, ◌∙◌, subst, arith, IsStrictlySorted, IsStrictlySorted-filter, without, Place, IsPool}
 use Rattle.lx_sheet.proofs.RowPool.{pool_freed}
 use Rattle.lx_sheet.proofs.pool.drop_place.Goals as goal
 

@@ -1,8 +1,5 @@
-use Rattle.std.proofs.Common.{◌≡◌, ◌+◌, ◌∷◌, [], ◌++◌, ℕ, List, length, take, sym, ap, ◌∙◌, arith}
-use Rattle.std.proofs.lemmas.List.{length-take, take_more}
-use Rattle.lx_spec.specs.Show.{Cue}
-use Rattle.lx_sheet.specs.declared.sheet.Place.{Place}
-use Rattle.lx_sheet.specs.Block.{placed_from}
+use Rattle.lx_sheet.proofs.Imports.{◌≡◌, ◌+◌, ◌∷◌, [], ◌++◌, ℕ, List, length, take, sym, ap, ◌∙◌, arith, length-take, take_more}
+use Rattle.lx_sheet.proofs.Imports.{Cue, Place, placed_from}
 use Rattle.lx_sheet.proofs.EditedShows.{placed_from-more}
 use Rattle.lx_sheet.proofs.RowPool.{length-placed_from}
 use Rattle.lx_sheet.proofs.pool.list_cues.Goals as goal

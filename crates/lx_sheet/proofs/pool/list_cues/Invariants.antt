@@ -1,5 +1,4 @@
-use Rattle.std.proofs.Common.{◌≡◌, take, vec_capacity}
-use Rattle.lx_sheet.specs.Block.{placed_from}
+use Rattle.lx_sheet.proofs.Imports.{◌≡◌, take, vec_capacity, placed_from}
 use Rattle.lx_sheet.proofs.pool.list_cues.Given as goal
 
 abbrev pub invariant-loop-row : goal.invariant-loop-row

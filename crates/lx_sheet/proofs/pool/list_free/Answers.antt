@@ -1,8 +1,5 @@
-use Rattle.std.proofs.Common.{◌≡◌, ◌+◌, ◌-◌, ◌∷◌, [], ◌++◌, ℕ, List, length, ap, ◌∙◌, arith}
-use Rattle.std.specs.Prelude.{reverse}
-use Rattle.std.specs.List.{range_with_len}
-use Rattle.std.proofs.lemmas.List.FromFn.{length-range_with_len}
-use Rattle.lx_base.specs.declared.TheConstants.{CUES}
+use Rattle.lx_sheet.proofs.Imports.{◌≡◌, ◌+◌, ◌-◌, ◌∷◌, [], ◌++◌, ℕ, List, length, ap, ◌∙◌, arith, reverse, range_with_len}
+use Rattle.lx_sheet.proofs.Imports.{length-range_with_len, CUES}
 use Rattle.lx_sheet.proofs.RowPool.{range_append}
 use Rattle.lx_sheet.proofs.pool.list_free.Goals as goal
 

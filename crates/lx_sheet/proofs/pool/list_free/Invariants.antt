@@ -1,5 +1,4 @@
-use Rattle.std.proofs.Common.{◌≡◌, ◌-◌, vec_capacity}
-use Rattle.std.specs.List.{range_with_len}
+use Rattle.lx_sheet.proofs.Imports.{◌≡◌, ◌-◌, vec_capacity, range_with_len}
 use Rattle.lx_sheet.proofs.pool.list_free.Given as goal
 
 abbrev pub invariant-loop-row : goal.invariant-loop-row

@@ -1,10 +1,5 @@
-use Rattle.std.proofs.Common.{◌≡◌, ◌+◌, ℕ, List, length, ap, ◌∙◌, arith}
-use Rattle.std.proofs.lemmas.List.{length-take}
-use Rattle.lx_spec.specs.SortedList.{IsStrictlySorted}
-use Rattle.lx_show.specs.Around.{entries_up_to}
-use Rattle.lx_show.specs.Indexes.{StandsAt, GoesAt}
-use Rattle.lx_show.proofs.Indexes.{stands_where, up_to_there, up_to_absent}
-use Rattle.lx_sheet.specs.declared.sheet.Place.{Place}
+use Rattle.lx_sheet.proofs.Imports.{◌≡◌, ◌+◌, ℕ, List, length, ap, ◌∙◌, arith, length-take, IsStrictlySorted, entries_up_to, StandsAt, GoesAt}
+use Rattle.lx_sheet.proofs.Imports.{stands_where, up_to_there, up_to_absent, Place}
 use Rattle.lx_sheet.proofs.sheet.count_near.Goals as goal
 
 -- the places up to a number that stands at a place, and to one that goes there

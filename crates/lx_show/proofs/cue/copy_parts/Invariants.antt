@@ -1,4 +1,4 @@
-use Rattle.std.proofs.Common.{◌≡◌, take}
+use Rattle.lx_show.proofs.Imports.{◌≡◌, take}
 use Rattle.lx_show.proofs.cue.copy_parts.Given as goal
 
 abbrev pub invariant-loop-part : goal.invariant-loop-part

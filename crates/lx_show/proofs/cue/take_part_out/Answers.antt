@@ -1,6 +1,4 @@
-use Rattle.std.proofs.Common.{◌∙◌, ap, ℕ}
-use Rattle.lx_spec.specs.declared.Part.{Part}
-use Rattle.lx_spec.specs.SortedList.{taken_out}
+use Rattle.lx_show.proofs.Imports.{◌∙◌, ap, ℕ, Part, taken_out}
 use Rattle.lx_show.proofs.Indexes.{without, none_to_take}
 use Rattle.lx_show.proofs.cue.take_part_out.Goals as goal
 

@@ -1,4 +1,4 @@
-use Rattle.std.proofs.Common.{◌≡◌, take, vec_capacity}
+use Rattle.lx_show.proofs.Imports.{◌≡◌, take, vec_capacity}
 use Rattle.lx_show.proofs.list.copy_in_room.Given as goal
 
 abbrev pub invariant-loop-x : goal.invariant-loop-x

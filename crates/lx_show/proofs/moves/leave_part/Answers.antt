@@ -1,7 +1,5 @@
-use Rattle.std.proofs.Common.{◌∙◌, ap, sym, set}
+use Rattle.lx_show.proofs.Imports.{◌∙◌, ap, sym, set, Move, out_of_part}
 use Rattle.std.proofs.lemmas.List.Edits.{map_over_more}
-use Rattle.lx_spec.specs.declared.Move.{Move}
-use Rattle.lx_spec.specs.EditedShow.{out_of_part}
 use Rattle.lx_show.proofs.moves.leave_part.Goals as goal
 
 pub loop-entry-preserved : goal.loop-entry-preserved

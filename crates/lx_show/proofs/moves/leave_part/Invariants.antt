@@ -1,5 +1,4 @@
-use Rattle.std.proofs.Common.{◌≡◌, map, take, drop, ◌++◌}
-use Rattle.lx_spec.specs.EditedShow.{out_of_part}
+use Rattle.lx_show.proofs.Imports.{◌≡◌, map, take, drop, ◌++◌, out_of_part}
 use Rattle.lx_show.proofs.moves.leave_part.Given as goal
 
 abbrev pub invariant-loop-entry : goal.invariant-loop-entry

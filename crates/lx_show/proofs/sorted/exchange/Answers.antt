@@ -1,6 +1,5 @@
-use Rattle.std.proofs.Common.{◌≡◌, set, subst, sym}
+use Rattle.lx_show.proofs.Imports.{◌≡◌, set, subst, sym, IsStrictlySorted, placed}
 use Rattle.lx_show.proofs.Indexes.{replaced, sorted_replaced}
-use Rattle.lx_spec.specs.SortedList.{IsStrictlySorted, placed}
 use Rattle.lx_show.proofs.sorted.exchange.Goals as goal
 
 pub returns-clause-items : goal.returns-clause-items

@@ -1,6 +1,4 @@
-use Rattle.std.proofs.Common.{◌<◌, ◌-◌, ◌∙◌, ℕ, ap, subst, arith}
-use Rattle.std.proofs.lemmas.List.{get_or_default}
-use Rattle.lx_spec.proofs.Comparisons.{lt_from}
+use Rattle.lx_show.proofs.Imports.{◌<◌, ◌-◌, ◌∙◌, ℕ, ap, subst, arith, get_or_default, lt_from}
 use Rattle.lx_show.proofs.Indexes.{goes_where, is_less}
 use Rattle.lx_show.proofs.sorted.goes_to.Goals as goal
 use Rattle.lx_show.proofs.sorted.goes_to.Goals.{then-at-gt0, else-at-gt0}

@@ -1,10 +1,8 @@
-use Rattle.std.proofs.Common.{rules, arith, nat_lt, sym, ap, ◌∙◌}
+use Rattle.lx_show.proofs.Imports.{rules, arith, nat_lt, sym, ap, ◌∙◌, get_or_default, in_order}
 use Rattle.std.proofs.lemmas.List.Sorted.{IsPartitionPoint-from_clause, IsPartitionedBy-ltb}
-use Rattle.std.proofs.lemmas.List.{get_or_default}
 use Rattle.lx_show.proofs.Indexes.{stands_where, goes_at}
 use Rattle.lx_show.proofs.sorted.halved.Goals as goal
 use Rattle.lx_show.proofs.sorted.halved.Goals.{else-at-xs-via-then-at-xs+else-key-n, else-at-xs-via-else-at-xs}
-use Rattle.lx_spec.proofs.SortedLists.{in_order}
 
 pub returns-then-key-n-clause-stands : goal.returns-then-key-n-clause-stands
 returns-then-key-n-clause-stands g c = stands_where g.T.Keyed.key c.args.n _ _ c.index-xs-at.result c.requires c.if-at-xs.true

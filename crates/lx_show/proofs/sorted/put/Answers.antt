@@ -1,6 +1,5 @@
-use Rattle.std.proofs.Common.{subst, sym}
+use Rattle.lx_show.proofs.Imports.{subst, sym, IsStrictlySorted}
 use Rattle.lx_show.proofs.Indexes.{replaced, sorted_replaced, sorted_added}
-use Rattle.lx_spec.specs.SortedList.{IsStrictlySorted}
 use Rattle.lx_show.proofs.sorted.put.Goals as goal
 
 pub returns-in-Ok-clause-ok : goal.returns-in-Ok-clause-ok

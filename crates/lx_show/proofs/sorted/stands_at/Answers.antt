@@ -1,5 +1,4 @@
-use Rattle.std.proofs.Common.{◌∙◌, sym}
-use Rattle.lx_spec.proofs.Comparisons.{eq_from}
+use Rattle.lx_show.proofs.Imports.{◌∙◌, sym, eq_from}
 use Rattle.lx_show.proofs.Indexes.{stands_where}
 use Rattle.lx_show.proofs.sorted.stands_at.Goals as goal
 

@@ -1,8 +1,6 @@
-use Rattle.std.proofs.Common.{◌∙◌, subst, sym}
-use Rattle.lx_spec.specs.SortedList.{IsStrictlySorted}
+use Rattle.lx_show.proofs.Imports.{◌∙◌, subst, sym, IsStrictlySorted, IsStrictlySorted-filter}
 use Rattle.lx_show.proofs.Indexes.{without, none_to_take}
 use Rattle.lx_show.proofs.sorted.take_out.Goals as goal
-use Rattle.lx_spec.proofs.SortedLists.{IsStrictlySorted-filter}
 
 pub returns-in-Ok-clause-items : goal.returns-in-Ok-clause-items
 returns-in-Ok-clause-items g c = c.remove.ensures.items

@@ -1,5 +1,4 @@
-use Rattle.std.proofs.Common.{◌≤◌, ◌∙◌, drop, subst, sym}
-use Rattle.std.specs.List.{AllByRecursion}
+use Rattle.lx_show.proofs.Imports.{◌≤◌, ◌∙◌, drop, subst, sym, AllByRecursion}
 use Rattle.lx_show.proofs.Stretches.{behind_gap}
 use Rattle.lx_show.proofs.stretch.end_of_gap.Goals as goal
 

@@ -1,5 +1,4 @@
-use Rattle.std.proofs.Common.{arith}
-use Rattle.std.proofs.lemmas.List.{length-drop}
+use Rattle.lx_show.proofs.Imports.{arith, length-drop}
 use Rattle.lx_show.proofs.Stretches.{rest_of_slice, rest_placed}
 use Rattle.lx_show.proofs.stretch.put_each.Goals as goal
 

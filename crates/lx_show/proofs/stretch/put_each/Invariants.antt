@@ -1,5 +1,4 @@
-use Rattle.std.proofs.Common.{◌≡◌, ◌+◌, ◌≤◌, length, vec_capacity}
-use Rattle.lx_spec.specs.SortedList.{IsStrictlySorted, all_placed}
+use Rattle.lx_show.proofs.Imports.{◌≡◌, ◌+◌, ◌≤◌, length, vec_capacity, IsStrictlySorted, all_placed}
 use Rattle.lx_show.proofs.stretch.put_each.Given as goal
 
 abbrev pub invariant-loop-rest : goal.invariant-loop-rest

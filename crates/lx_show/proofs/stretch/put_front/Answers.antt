@@ -1,6 +1,4 @@
-use Rattle.std.proofs.Common.{◌≤◌, ◌∙◌, drop, take, subst, sym}
-use Rattle.std.specs.List.{AllByRecursion}
-use Rattle.lx_spec.specs.SortedList.{IsStrictlySorted}
+use Rattle.lx_show.proofs.Imports.{◌≤◌, ◌∙◌, drop, take, subst, sym, AllByRecursion, IsStrictlySorted}
 use Rattle.lx_show.proofs.Indexes.{replaced, sorted_replaced}
 use Rattle.lx_show.proofs.Stretches.{IsStrictlySorted-all_placed, above_gap, first_then, stretch_added}
 use Rattle.lx_show.proofs.stretch.put_front.Goals as goal

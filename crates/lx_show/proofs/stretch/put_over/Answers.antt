@@ -1,4 +1,4 @@
-use Rattle.std.proofs.Common.{◌∙◌, refl, arith}
+use Rattle.lx_show.proofs.Imports.{◌∙◌, refl, arith}
 use Rattle.std.proofs.lemmas.List.{length-set}
 use Rattle.lx_show.proofs.Indexes.{replaced, sorted_replaced}
 use Rattle.lx_show.proofs.Stretches.{over_more}

@@ -1,5 +1,4 @@
-use Rattle.std.proofs.Common.{◌≡◌, ◌-◌, ◌<◌, ◌≤◌, length, take, drop, vec_capacity}
-use Rattle.lx_spec.specs.SortedList.{IsStrictlySorted, all_placed}
+use Rattle.lx_show.proofs.Imports.{◌≡◌, ◌-◌, ◌<◌, ◌≤◌, length, take, drop, vec_capacity, IsStrictlySorted, all_placed}
 use Rattle.lx_show.proofs.stretch.put_over.Given as goal
 
 abbrev pub invariant-loop-count : goal.invariant-loop-count

@@ -1,4 +1,4 @@
-use Rattle.std.proofs.Common.{◌+◌, ◌∙◌, take, subst, sym, arith}
+use Rattle.lx_show.proofs.Imports.{◌+◌, ◌∙◌, take, subst, sym, arith}
 use Rattle.lx_show.proofs.Stretches.{IsCounted, some_entries, stretch_begins, stretch_goes_on}
 use Rattle.lx_show.proofs.stretch.stretch.Goals as goal
 

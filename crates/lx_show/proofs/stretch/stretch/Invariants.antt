@@ -1,4 +1,4 @@
-use Rattle.std.proofs.Common.{◌<◌, ◌≤◌, ◌-◌, length, take}
+use Rattle.lx_show.proofs.Imports.{◌<◌, ◌≤◌, ◌-◌, length, take}
 use Rattle.lx_show.proofs.Stretches.{IsCounted}
 use Rattle.lx_show.proofs.stretch.stretch.Given as goal
 

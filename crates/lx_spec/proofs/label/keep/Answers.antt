@@ -1,7 +1,4 @@
-use Rattle.std.proofs.Common.{◌≡◌, ◌<◌, ◌≤◌, ◌==◌, ◌&&◌, length, false, sym, ◌∙◌, arith}
-use Rattle.std.proofs.lemmas.Bool.Decides.{nat_tests}
-use Rattle.lx_base.specs.declared.TheConstants.{LABEL_BYTES}
-use Rattle.lx_spec.specs.Text.{is_blank}
+use Rattle.lx_spec.proofs.Imports.{◌≡◌, ◌<◌, ◌≤◌, ◌==◌, ◌&&◌, length, false, sym, ◌∙◌, arith, nat_tests, LABEL_BYTES, is_blank}
 use Rattle.lx_spec.proofs.Labels.{one_more, with_full, with_first_blank, with_other}
 use Rattle.lx_spec.proofs.label.keep.Goals.{else-is_empty-via-then-is_empty+else-is_blank, else-is_empty-via-else-is_empty}
 use Rattle.lx_spec.proofs.label.keep.Goals as goal

@@ -1,6 +1,4 @@
-use Rattle.std.proofs.Common.{◌∙◌, ap, Some, arith}
-use Rattle.lx_io.specs.Memory.{PlainBytes}
-use Rattle.lx_spec.specs.Finer.{hundredths}
+use Rattle.lx_text_laws.proofs.Imports.{◌∙◌, ap, Some, arith, PlainBytes, hundredths}
 use Rattle.lx_spec.proofs.FinerNumbers.{one_decimal_more}
 use Rattle.lx_text_laws.proofs.ReadBack.{text_read, old_text_read}
 use Rattle.lx_text_laws.proofs.memory.read_text.Goals as goal

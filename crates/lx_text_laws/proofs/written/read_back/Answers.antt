@@ -1,6 +1,4 @@
-use Rattle.std.proofs.Common.{◌∙◌, ◌++◌, ap}
-use Rattle.lx_io.specs.Memory.{PlainStore}
-use Rattle.lx_spec.specs.ShowText.{show_text}
+use Rattle.lx_text_laws.proofs.Imports.{◌∙◌, ◌++◌, ap, PlainStore, show_text}
 use Rattle.lx_text_laws.proofs.ReadBack.{back_same, back_fault}
 use Rattle.lx_text_laws.proofs.written.read_back.Goals as goal
 

@@ -1,6 +1,4 @@
-use Rattle.std.proofs.Common.{◌∙◌, ap, sym, IfSome, subst}
-use Rattle.lx_spec.specs.ValidEdit.{ValidLine}
-use Rattle.lx_session.specs.LineState.{LineState, unattempted}
+use Rattle.lx_undo.proofs.Imports.{◌∙◌, ap, sym, IfSome, subst, ValidLine, LineState, unattempted}
 use Rattle.lx_undo.proofs.LineAnswers.{answered_line, more_by}
 use Rattle.lx_undo.proofs.session.answer_plain.Goals as goal
 

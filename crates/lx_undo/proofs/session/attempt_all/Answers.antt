@@ -1,6 +1,4 @@
-use Rattle.std.proofs.Common.{◌-◌, ◌∙◌, Option, refl, sym, ap}
-use Rattle.lx_spec.specs.declared.Refusal.{Refusal}
-use Rattle.lx_session.specs.LineState.{LineState}
+use Rattle.lx_undo.proofs.Imports.{◌-◌, ◌∙◌, Option, refl, sym, ap, Refusal, LineState}
 use Rattle.lx_session.proofs.ValidNext.{valid_next}
 use Rattle.lx_undo.proofs.LineProgress.{none_yet, one_more}
 use Rattle.lx_undo.proofs.session.attempt_all.Goals as goal

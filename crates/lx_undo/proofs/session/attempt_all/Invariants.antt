@@ -1,9 +1,4 @@
-use Rattle.std.proofs.Common.{◌≡◌, ◌-◌, true}
-use Rattle.lx_spec.specs.DeskSession.{begun}
-use Rattle.lx_spec.specs.Undo.{UndoState}
-use Rattle.lx_session.specs.LineProgress.{LineProgress}
-use Rattle.lx_undo.specs.UndoDeskMeaning.{UndoStands}
-use Rattle.lx_undo.specs.CommandProgress.{HasReached}
+use Rattle.lx_undo.proofs.Imports.{◌≡◌, ◌-◌, true, begun, UndoState, LineProgress, UndoStands, HasReached}
 use Rattle.lx_undo.proofs.session.attempt_all.Given as goal
 
 abbrev pub invariant-commands : goal.invariant-commands

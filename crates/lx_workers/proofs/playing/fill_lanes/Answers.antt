@@ -1,5 +1,4 @@
-use Rattle.std.proofs.Common.{◌≡◌, ◌+◌, ◌-◌, slice_get, None, length, vec_len, length-set, sym, ap, ◌∙◌, arith}
-use Rattle.lx_gate.specs.Readings.{Tapped}
+use Rattle.lx_workers.proofs.Imports.{◌≡◌, ◌+◌, ◌-◌, slice_get, None, length, vec_len, length-set, sym, ap, ◌∙◌, arith, Tapped}
 use Rattle.lx_base.proofs.Places.{each_snoc}
 use Rattle.lx_workers.proofs.PlacesKept.{length_snoc, each_left, each_last, get-set_other}
 use Rattle.lx_workers.proofs.playing.fill_lanes.Goals as goal

@@ -1,7 +1,4 @@
-use Rattle.std.proofs.Common.{◌≡◌, ◌≤◌, ◌<◌, ◌+◌, ℕ, length, vec_len, vec_capacity, slice_get}
-use Rattle.lx_base.specs.Places.{EachAt}
-use Rattle.lx_gate.specs.Readings.{IsNewTap}
-use Rattle.lx_workers.specs.Places.{IsTaken}
+use Rattle.lx_workers.proofs.Imports.{◌≡◌, ◌≤◌, ◌<◌, ◌+◌, ℕ, length, vec_len, vec_capacity, slice_get, EachAt, IsNewTap, IsTaken}
 use Rattle.lx_workers.proofs.playing.fill_lanes.Given as goal
 
 abbrev pub invariant-loop-tap : goal.invariant-loop-tap

@@ -1,9 +1,5 @@
-use Rattle.std.proofs.Common.{rules, ◌≡◌, ◌≢◌, inl, inr, ◌+◌, ◌-◌, ◌<◌, length, vec_len, length-set, refl, sym, ap, ◌∙◌, arith, set}
-use Rattle.std.proofs.Common.{slice_get}
-use Rattle.std.proofs.lemmas.Option.{slice_get_within}
-use Rattle.lx_gate.proofs.Prefixes.{prefix_self}
-use Rattle.lx_workers.specs.Places.{IsGiven}
-use Rattle.lx_workers.specs.declared.playing.TheConstants.{OUTLETS}
+use Rattle.lx_workers.proofs.Imports.{rules, ◌≡◌, ◌≢◌, inl, inr, ◌+◌, ◌-◌, ◌<◌, length, vec_len, length-set, refl, sym, ap, ◌∙◌}
+use Rattle.lx_workers.proofs.Imports.{arith, set, slice_get, slice_get_within, prefix_self, IsGiven, OUTLETS}
 use Rattle.lx_workers.proofs.PlacesKept.{length_snoc, prefix_less, at_last, back_more, given_on, get-set_same, get-set_cases, none_at}
 use Rattle.lx_workers.proofs.playing.give_back.Goals as goal
 

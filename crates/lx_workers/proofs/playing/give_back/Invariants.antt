@@ -1,8 +1,4 @@
-use Rattle.std.proofs.Common.{◌≡◌, ◌≤◌, ◌<◌, ◌-◌, ℕ, length, vec_len, slice_get, Some}
-use Rattle.lx_io.specs.declared.sink.SinkFault.{SinkFault}
-use mathlib.Core.List.{IsPrefix}
-use Rattle.lx_workers.specs.declared.playing.TheConstants.{OUTLETS}
-use Rattle.lx_workers.specs.Places.{IsGiven}
+use Rattle.lx_workers.proofs.Imports.{◌≡◌, ◌≤◌, ◌<◌, ◌-◌, ℕ, length, vec_len, slice_get, Some, SinkFault, IsPrefix, OUTLETS, IsGiven}
 use Rattle.lx_workers.proofs.playing.give_back.Given as goal
 
 abbrev pub invariant-loop-lane : goal.invariant-loop-lane

@@ -1,8 +1,6 @@
-use Rattle.std.proofs.Common.{rules, ◌≡◌, ◌-◌, ◌<◌, [], Some, length, vec_len, refl, sym, ◌∙◌, arith}
-use Rattle.std.proofs.lemmas.Option.{slice_get_within}
+use Rattle.lx_workers.proofs.Imports.{rules, ◌≡◌, ◌-◌, ◌<◌, [], Some, length, vec_len, refl, sym, ◌∙◌, arith, slice_get_within, HasRun}
 use Rattle.lx_workers.proofs.PlacesKept.{full_at, zip_at, get_within, is_back}
 use Rattle.lx_workers.proofs.Runs.{in_step_at, played_of, held_in}
-use Rattle.lx_workers.specs.Engines.{HasRun}
 use Rattle.lx_workers.proofs.playing.play_over.Goals as goal
 
 pub fill_lanes-lanes-requires-clause-full : goal.fill_lanes-lanes-requires-clause-full

@@ -1,5 +1,4 @@
-use Rattle.std.proofs.Common.{◌≡◌, None}
-use Rattle.lx_workers.specs.Works.{HasServed}
+use Rattle.lx_workers.proofs.Imports.{◌≡◌, None, HasServed}
 use Rattle.lx_workers.proofs.worker.serve.Given as goal
 
 abbrev pub invariant-loop : goal.invariant-loop

@@ -1,5 +1,4 @@
-use Rattle.std.proofs.Common.{rules, ◌∙◌}
-use Rattle.lx_gate.specs.Readings.{newest}
+use Rattle.lx_workers.proofs.Imports.{rules, ◌∙◌, newest}
 use Rattle.lx_workers.proofs.TapSteps.{longest_begins, taken}
 use Rattle.lx_workers.proofs.WorkerSteps.{stepped_none, stepped_line, stepped_fault}
 use Rattle.lx_workers.proofs.worker.step.Goals as goal

@@ -1,4 +1,4 @@
-use Rattle.lx_io.proofs.Chain.{Puts-stops}
+use Rattle.lx_writer.proofs.Imports.{Puts-stops}
 use Rattle.lx_writer.proofs.cue.put_follow_time.Goals as goal
 
 pub returns-in_err-put_all : goal.returns-in_err-put_all

@@ -1,6 +1,4 @@
-use Rattle.std.proofs.Common.{◌≡◌, length}
-use Rattle.std.specs.Prelude.{◌==◌, filter}
-use Rattle.lx_spec.specs.declared.Move.{Move}
+use Rattle.lx_writer.proofs.Imports.{◌≡◌, length, ◌==◌, filter, Move}
 use Rattle.lx_writer.proofs.lines.are_all_apart.Given as goal
 
 abbrev pub invariant-loop-rest : goal.invariant-loop-rest

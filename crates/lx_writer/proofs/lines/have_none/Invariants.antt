@@ -1,6 +1,4 @@
-use Rattle.std.proofs.Common.{◌≡◌, [], take}
-use Rattle.std.specs.Prelude.{◌==◌, filter}
-use Rattle.lx_spec.specs.declared.Move.{Move}
+use Rattle.lx_writer.proofs.Imports.{◌≡◌, [], take, ◌==◌, filter, Move}
 use Rattle.lx_writer.proofs.lines.have_none.Given as goal
 
 abbrev pub invariant-loop-entry : goal.invariant-loop-entry

@@ -1,8 +1,4 @@
-use Rattle.std.proofs.Common.{Ok, arith}
-use Rattle.std.specs.Prelude.{◌==◌}
-use Rattle.lx_io.proofs.Chain.{Puts-then, Puts-stops}
-use Rattle.lx_spec.specs.declared.Move.{Move}
-use Rattle.lx_spec.specs.ShowText.{move_text}
+use Rattle.lx_writer.proofs.Imports.{Ok, arith, ◌==◌, Puts-then, Puts-stops, Move, move_text}
 use Rattle.lx_writer.proofs.TextPieces.{kept_split, kept_more}
 use Rattle.lx_writer.proofs.lines.put_moves.Goals as goal
 

@@ -1,8 +1,4 @@
-use Rattle.std.proofs.Common.{◌≤◌, ◌-◌, take, Ok, length}
-use Rattle.std.specs.Prelude.{◌==◌, filter, flat_map}
-use Rattle.lx_io.specs.Puts.{Puts}
-use Rattle.lx_spec.specs.declared.Move.{Move}
-use Rattle.lx_spec.specs.ShowText.{move_text}
+use Rattle.lx_writer.proofs.Imports.{◌≤◌, ◌-◌, take, Ok, length, ◌==◌, filter, flat_map, Puts, Move, move_text}
 use Rattle.lx_writer.proofs.lines.put_moves.Given as goal
 
 abbrev pub invariant-loop-from : goal.invariant-loop-from

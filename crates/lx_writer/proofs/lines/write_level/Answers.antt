@@ -1,4 +1,4 @@
-use Rattle.std.proofs.Common.{[], ◌++◌, ◌∙◌, take, ap, arith}
+use Rattle.lx_writer.proofs.Imports.{[], ◌++◌, ◌∙◌, take, ap, arith}
 use Rattle.lx_writer.proofs.ReadyParts.{level_row}
 use Rattle.lx_writer.proofs.lines.write_level.Goals as goal
 

@@ -1,6 +1,4 @@
-use Rattle.std.proofs.Common.{List, ℕ, ◌∷◌, ◌++◌, ◌∙◌, append_assoc, decimal, take, ap}
-use Rattle.std.specs.Prelude.{codes}
-use Rattle.lx_spec.specs.Numerals.{level_text}
+use Rattle.lx_writer.proofs.Imports.{List, ℕ, ◌∷◌, ◌++◌, ◌∙◌, append_assoc, decimal, take, ap, codes, level_text}
 use Rattle.lx_writer.proofs.lines.write_line.Goals as goal
 
 pub returns-clause-text : goal.returns-clause-text

@@ -1,7 +1,4 @@
-use Rattle.std.proofs.Common.{◌∙◌, arith}
-use Rattle.std.specs.Prelude.{◌==◌, filter, flat_map}
-use Rattle.lx_spec.specs.declared.Move.{Move}
-use Rattle.lx_spec.specs.ShowText.{move_text}
+use Rattle.lx_writer.proofs.Imports.{◌∙◌, arith, ◌==◌, filter, flat_map, Move, move_text}
 use Rattle.lx_writer.proofs.TextPieces.{lines_shifted, without_word}
 use Rattle.lx_writer.proofs.lines.write_lines.Goals as goal
 

@@ -1,6 +1,4 @@
-use Rattle.std.proofs.Common.{◌≡◌, ◌+◌, ◌*◌, ◌≤◌, ◌++◌, length, take}
-use Rattle.std.specs.Prelude.{codes}
-use Rattle.lx_writer.specs.ShiftedLines.{shifted_lines}
+use Rattle.lx_writer.proofs.Imports.{◌≡◌, ◌+◌, ◌*◌, ◌≤◌, ◌++◌, length, take, codes, shifted_lines}
 use Rattle.lx_writer.proofs.lines.write_lines.Given as goal
 
 abbrev pub invariant-loop-four : goal.invariant-loop-four

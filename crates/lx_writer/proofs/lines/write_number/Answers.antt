@@ -1,4 +1,4 @@
-use Rattle.std.proofs.Common.{◌++◌, ◌∙◌, take, ap}
+use Rattle.lx_writer.proofs.Imports.{◌++◌, ◌∙◌, take, ap}
 use Rattle.lx_writer.proofs.lines.write_number.Goals as goal
 
 pub returns-clause-text : goal.returns-clause-text

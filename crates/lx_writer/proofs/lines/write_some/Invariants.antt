@@ -1,5 +1,4 @@
-use Rattle.std.proofs.Common.{◌≡◌, ◌+◌, ◌*◌, ◌≤◌, ◌++◌, length, take}
-use Rattle.lx_writer.specs.ShiftedLines.{shifted_lines}
+use Rattle.lx_writer.proofs.Imports.{◌≡◌, ◌+◌, ◌*◌, ◌≤◌, ◌++◌, length, take, shifted_lines}
 use Rattle.lx_writer.proofs.lines.write_some.Given as goal
 
 abbrev pub invariant-loop-entry : goal.invariant-loop-entry

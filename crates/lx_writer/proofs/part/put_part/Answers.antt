@@ -1,4 +1,4 @@
-use Rattle.lx_io.proofs.Chain.{Puts-then, Puts-stops, Puts-fails}
+use Rattle.lx_writer.proofs.Imports.{Puts-then, Puts-stops, Puts-fails}
 use Rattle.lx_writer.proofs.part.put_part.Goals as goal
 
 pub returns-in_err-put_number : goal.returns-in_err-put_number

@@ -1,6 +1,4 @@
-use Rattle.std.proofs.Common.{sym}
-use Rattle.lx_io.proofs.Chain.{Puts-then, Puts-stops, Puts-is}
-use Rattle.lx_spec.specs.ShowText.{part_text}
+use Rattle.lx_writer.proofs.Imports.{sym, Puts-then, Puts-stops, Puts-is, part_text}
 use Rattle.lx_writer.proofs.TextPieces.{pieces_more, pieces_around}
 use Rattle.lx_writer.proofs.part.put_parts.Goals as goal
 

@@ -1,7 +1,4 @@
-use Rattle.std.proofs.Common.{take, Ok}
-use Rattle.std.specs.Prelude.{flat_map}
-use Rattle.lx_io.specs.Puts.{Puts}
-use Rattle.lx_spec.specs.ShowText.{part_text}
+use Rattle.lx_writer.proofs.Imports.{take, Ok, flat_map, Puts, part_text}
 use Rattle.lx_writer.proofs.part.put_parts.Given as goal
 
 abbrev pub invariant-loop-part : goal.invariant-loop-part

@@ -1,6 +1,4 @@
-use Rattle.std.proofs.Common.{take, Ok}
-use Rattle.std.specs.Prelude.{flat_map}
-use Rattle.lx_io.specs.Puts.{Puts}
+use Rattle.lx_writer.proofs.Imports.{take, Ok, flat_map, Puts}
 use Rattle.lx_writer.proofs.pieces.write_each.Given as goal
 
 abbrev pub invariant-loop-entry : goal.invariant-loop-entry

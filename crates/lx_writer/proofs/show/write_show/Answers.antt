@@ -1,9 +1,6 @@
-use Rattle.std.proofs.Common.{List, [], ◌∷◌, ◌++◌, ap}
-use Rattle.std.specs.Prelude.{flat_map, codes, decimal}
-use Rattle.lx_io.proofs.Chain.{Puts-then, Puts-stops, Puts-fails, Puts-is}
-use Rattle.lx_spec.specs.declared.PatchRow.{PatchRow}
+use Rattle.lx_writer.proofs.Imports.{List, [], ◌∷◌, ◌++◌, ap, flat_map, codes, decimal, Puts-then, Puts-stops, Puts-fails, Puts-is, PatchRow, line}
+use Rattle.lx_writer.proofs.Imports.{patch_text, group_text, sub_text, cue_text}
 use Rattle.lx_spec.specs.Show.{Cue, Group, Sub}
-use Rattle.lx_spec.specs.ShowText.{line, patch_text, group_text, sub_text, cue_text}
 use Rattle.lx_writer.proofs.show.write_show.Goals as goal
 
 pub returns-in_err-put_head-clause-text : goal.returns-in_err-put_head-clause-text

@@ -1,10 +1,4 @@
-use Rattle.std.proofs.Common.{List, ℕ, sym, subst}
-use Rattle.lx_base.specs.declared.TheConstants.{SLOTS}
-use Rattle.lx_spec.specs.Output.{dimmer_value}
-use Rattle.lx_spec.specs.Kept.{Kept}
-use Rattle.lx_mixer.specs.Table.{IsTable}
-use Rattle.lx_patch.proofs.Frames.{patched}
-use Rattle.lx_console.specs.ConsoleMeaning.{out_now}
+use Rattle.lx_console.proofs.Imports.{List, ℕ, sym, subst, SLOTS, dimmer_value, Kept, IsTable, patched, out_now}
 use Rattle.lx_console.proofs.AllRuns.{frame_of_all}
 use Rattle.lx_console.proofs.console.Console.frames.Goals as goal
 

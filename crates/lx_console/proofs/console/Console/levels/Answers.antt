@@ -1,5 +1,4 @@
-use Rattle.std.proofs.Common.{subst, sym}
-use Rattle.lx_console.specs.ConsoleMeaning.{StandsFor}
+use Rattle.lx_console.proofs.Imports.{subst, sym, StandsFor}
 use Rattle.lx_console.proofs.console.Console.levels.Goals as goal
 
 pub returns-clause-all : goal.returns-clause-all

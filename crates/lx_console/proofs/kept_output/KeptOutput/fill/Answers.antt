@@ -1,9 +1,5 @@
-use Rattle.std.proofs.Common.{◌≡◌, ◌+◌, ◌-◌, ◌≤◌, ◌++◌, max, take, drop, List, ℕ, arith, length, get_or, subst, sym, ap, ◌∙◌}
-use Rattle.lx_base.specs.declared.TheConstants.{SLOTS}
-use Rattle.lx_base.specs.Numbers.{scaled}
-use Rattle.lx_spec.specs.Output.{contribution, dimmer_value}
-use Rattle.lx_mixer.specs.Table.{IsTable}
-use Rattle.lx_patch.proofs.Frames.{reaches}
+use Rattle.lx_console.proofs.Imports.{◌≡◌, ◌+◌, ◌-◌, ◌≤◌, ◌++◌, max, take, drop, List, ℕ, arith, length, get_or, subst, sym, ap}
+use Rattle.lx_console.proofs.Imports.{◌∙◌, SLOTS, scaled, contribution, dimmer_value, IsTable, reaches}
 use Rattle.lx_console.proofs.KeptOutputs.{written}
 use Rattle.lx_console.proofs.kept_output.KeptOutput.fill.Goals as goal
 

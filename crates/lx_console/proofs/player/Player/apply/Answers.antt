@@ -1,11 +1,7 @@
-use Rattle.std.proofs.Common.{◌≡◌, ℕ, ◌+◌, List, inl, inr, arith, sym, ap, subst, rules, ◌∙◌}
-use Rattle.lx_spec.specs.Show.{Show}
-use Rattle.lx_spec.specs.Kept.{Kept}
-use Rattle.lx_edit.specs.PlanMeaning.{planned}
+use Rattle.lx_console.proofs.Imports.{◌≡◌, ℕ, ◌+◌, List, inl, inr, arith, sym, ap, subst, rules, ◌∙◌, Show, Kept, planned, StackStandsAt}
+use Rattle.lx_console.proofs.Imports.{Changes}
 use Rattle.lx_edit.specs.Undone.{TakesBack}
-use Rattle.lx_levels.specs.LevelsMeaning.{StackStandsAt}
 use Rattle.lx_console.proofs.Apart.{placed_stands}
-use Rattle.lx_console.specs.Changes.{Changes}
 use Rattle.lx_console.proofs.EditEffects.{in_show, untouched_levels, same_contributions, same_reach, same_channels}
 use Rattle.lx_console.proofs.OutputChanges.{planned_changes}
 use Rattle.lx_console.proofs.Obedience.{stands_planned}

@@ -1,6 +1,4 @@
-use Rattle.std.proofs.Common.{subst, sym}
-use Rattle.lx_spec.specs.declared.Command.{Command}
-use Rattle.lx_console.specs.ConsoleMeaning.{Answers}
+use Rattle.lx_console.proofs.Imports.{subst, sym, Command, Answers}
 use Rattle.lx_console.proofs.Obedience.{answers, answers_edit}
 use Rattle.lx_console.proofs.player.Player.command.Goals as goal
 

@@ -1,7 +1,4 @@
-use Rattle.std.proofs.Common.{◌≡◌, Result, Ok, Err, OnErr, refl}
-use Rattle.lx_spec.specs.declared.Refusal.{Refusal}
-use Rattle.lx_spec.specs.Kept.{Kept}
-use Rattle.lx_console.specs.declared.change.Change.{Change}
+use Rattle.lx_console.proofs.Imports.{◌≡◌, Result, Ok, Err, OnErr, refl, Refusal, Kept, Change}
 use Rattle.lx_console.proofs.player.Player.edit.Goals as goal
 
 as_before : (r : Result Change Refusal) (k : Kept) → OnErr r (k ≡ k)

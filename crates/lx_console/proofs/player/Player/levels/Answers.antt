@@ -1,7 +1,4 @@
-use Rattle.std.proofs.Common.{subst}
-use Rattle.lx_spec.specs.Kept.{Kept}
-use Rattle.lx_mixer.specs.Table.{IsTable}
-use Rattle.lx_console.specs.ConsoleMeaning.{level_now}
+use Rattle.lx_console.proofs.Imports.{subst, Kept, IsTable, level_now}
 use Rattle.lx_console.proofs.AllRuns.{levels_of_all}
 use Rattle.lx_console.proofs.player.Player.levels.Goals as goal
 

@@ -1,7 +1,4 @@
-use Rattle.std.proofs.Common.{ℕ, List, ap, replicate, ◌∙◌}
-use Rattle.lx_base.specs.declared.TheConstants.{SUBS}
-use Rattle.lx_spec.specs.Playback.{Playback}
-use Rattle.lx_spec.proofs.RestKept.{kept-opened}
+use Rattle.lx_console.proofs.Imports.{ℕ, List, ap, replicate, ◌∙◌, SUBS, Playback, kept-opened}
 use Rattle.lx_console.proofs.player.Player.open.Goals as goal
 
 pub returns : goal.returns

@@ -1,12 +1,5 @@
-use Rattle.std.proofs.Common.{ℕ, ◌<◌, ◌≡◌, ap, sym, subst, ◌∙◌}
-use Rattle.lx_spec.specs.Playback.{Playback}
-use Rattle.lx_spec.specs.Kept.{Kept}
-use Rattle.lx_playback.specs.QuietTicks.{moments_later}
-use Rattle.lx_levels.specs.Stacks.{level_at}
-use Rattle.lx_levels.specs.LevelsMeaning.{LevelsStandFor}
-use Rattle.lx_console.specs.declared.change.Change.{Change}
-use Rattle.lx_console.specs.Changes.{Changes, of_levels}
-use Rattle.lx_console.specs.ConsoleMeaning.{StandsFor}
+use Rattle.lx_console.proofs.Imports.{ℕ, ◌<◌, ◌≡◌, ap, sym, subst, ◌∙◌, Playback, Kept, moments_later, level_at, LevelsStandFor, Change}
+use Rattle.lx_console.proofs.Imports.{Changes, of_levels, StandsFor}
 use Rattle.lx_console.proofs.OutputChanges.{played_changes}
 use Rattle.lx_console.proofs.PassedTicks.{ticks_passed}
 use Rattle.lx_console.proofs.player.Player.pass.Goals as goal

@@ -1,10 +1,6 @@
-use Rattle.std.proofs.Common.{ap, subst, sym}
-use Rattle.std.specs.Prelude.{IsOkAnd}
+use Rattle.lx_console.proofs.Imports.{ap, subst, sym, IsOkAnd, step, Kept, StandsFor, Obeys}
 use Rattle.lx_spec.specs.declared.Key.{Key}
 use Rattle.lx_spec.specs.declared.Command.TheVariants as commands
-use Rattle.lx_spec.specs.Desk.{step}
-use Rattle.lx_spec.specs.Kept.{Kept}
-use Rattle.lx_console.specs.ConsoleMeaning.{StandsFor, Obeys}
 use Rattle.lx_console.proofs.Obedience.{obeys_play, obeys_fader, obeys_master}
 use Rattle.lx_console.proofs.player.Player.press.Goals as goal
 

@@ -1,7 +1,4 @@
-use Rattle.std.proofs.Common.{◌∙◌, ap, sym, subst, ℕ, List}
-use Rattle.lx_spec.specs.Show.{Show}
-use Rattle.lx_spec.specs.Kept.{Kept}
-use Rattle.lx_console.specs.ConsoleMeaning.{StandsFor}
+use Rattle.lx_console.proofs.Imports.{◌∙◌, ap, sym, subst, ℕ, List, Show, Kept, StandsFor}
 use Rattle.lx_console.proofs.Obedience.{stands_with}
 use Rattle.lx_console.proofs.player.Player.replace_show.Goals as goal
 

@@ -1,5 +1,4 @@
-use Rattle.std.proofs.Common.{◌+◌, ap, ℕ}
-use Rattle.std.specs.Prelude.{◌*◌, ◌%◌}
+use Rattle.lx_desk.proofs.Imports.{◌+◌, ap, ℕ, ◌*◌, ◌%◌}
 use Rattle.lx_desk.specs.Generator.{after_draw}
 use Rattle.lx_desk.proofs.draws.Draws.draw.Goals as goal
 

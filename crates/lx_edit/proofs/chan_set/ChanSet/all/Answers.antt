@@ -1,5 +1,4 @@
-use Rattle.std.proofs.Common.{arith}
-use Rattle.lx_edit.specs.declared.chan_set.TheConstants.{WORDS}
+use Rattle.lx_edit.proofs.Imports.{arith, WORDS}
 use Rattle.lx_edit.proofs.ChanBits.{has_chan-full}
 use Rattle.lx_edit.proofs.chan_set.ChanSet.all.Goals as goal
 

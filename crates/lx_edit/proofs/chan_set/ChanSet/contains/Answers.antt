@@ -1,9 +1,6 @@
-use Rattle.std.proofs.Common.{◌≡◌, true, ◌-◌, ◌/◌, ◌%◌, ◌∙◌, ap, sym, subst, ℕ}
-use Rattle.std.specs.Prelude.{◌==◌, slice_index}
-use Rattle.std.specs.Int.{bit_at}
-use Rattle.std.proofs.lemmas.Nat.Bits.{shr_and_one}
+use Rattle.lx_edit.proofs.Imports.{◌≡◌, true, ◌-◌, ◌/◌, ◌%◌, ◌∙◌, ap, sym, subst, ℕ, ◌==◌, slice_index, bit_at, shr_and_one}
+use Rattle.lx_edit.proofs.Imports.{is_chan}
 use Rattle.lx_edit.proofs.ChanBits.{has_chan-at, is_chan-in}
-use Rattle.lx_edit.specs.ChanSet.{is_chan}
 use Rattle.lx_edit.proofs.chan_set.ChanSet.contains.Goals as goal
 
 pub returns : goal.returns

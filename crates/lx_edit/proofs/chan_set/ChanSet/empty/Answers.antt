@@ -1,4 +1,4 @@
-use Rattle.lx_edit.specs.declared.chan_set.TheConstants.{WORDS}
+use Rattle.lx_edit.proofs.Imports.{WORDS}
 use Rattle.lx_edit.proofs.ChanBits.{has_chan-empty}
 use Rattle.lx_edit.proofs.chan_set.ChanSet.empty.Goals as goal
 

@@ -1,6 +1,4 @@
-use Rattle.std.proofs.Common.{◌<◌, ◌-◌, ◌/◌, ◌∙◌, ap, length, ℕ, rules}
-use Rattle.std.specs.Prelude.{◌==◌, ◌||◌}
-use Rattle.lx_edit.specs.ChanSet.{has_chan}
+use Rattle.lx_edit.proofs.Imports.{◌<◌, ◌-◌, ◌/◌, ◌∙◌, ap, length, ℕ, rules, ◌==◌, ◌||◌, has_chan}
 use Rattle.lx_edit.proofs.ChanBits.{has_chan-with, is_chan-in}
 use Rattle.lx_edit.proofs.chan_set.ChanSet.insert.Goals as goal
 

@@ -1,6 +1,4 @@
-use Rattle.std.proofs.Common.{refl, arith}
-use Rattle.std.proofs.lemmas.Bool.{eqb-true}
-use Rattle.lx_edit.specs.ChanSet.{is_chan}
+use Rattle.lx_edit.proofs.Imports.{refl, arith, eqb-true, is_chan}
 use Rattle.lx_edit.proofs.ChanBits.{has_chan-clear}
 use Rattle.lx_edit.proofs.chan_set.ChanSet.is_clear_from.Goals as goal
 

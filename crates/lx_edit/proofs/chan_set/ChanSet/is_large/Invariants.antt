@@ -1,4 +1,4 @@
-use Rattle.std.proofs.Common.{◌≤◌, ◌*◌}
+use Rattle.lx_edit.proofs.Imports.{◌≤◌, ◌*◌}
 use Rattle.lx_edit.proofs.chan_set.ChanSet.is_large.Given as goal
 
 abbrev pub invariant-loop-word : goal.invariant-loop-word

@@ -1,8 +1,6 @@
-use Rattle.std.proofs.Common.{◌≡◌, Some, not, ◌∙◌, sym, ap, subst}
+use Rattle.lx_embed.proofs.Imports.{◌≡◌, Some, not, ◌∙◌, sym, ap, subst, Kept, StandsFor}
 use Rattle.std.proofs.lemmas.Bool.{not-false}
-use Rattle.lx_spec.specs.Kept.{Kept}
 use Rattle.lx_spec.specs.Output.{frame}
-use Rattle.lx_console.specs.ConsoleMeaning.{StandsFor}
 use Rattle.lx_embed.proofs.desk.HostDesk.changed.Goals as goal
 
 pub returns-clause-changed : goal.returns-clause-changed

@@ -1,4 +1,4 @@
-use Rattle.std.proofs.Common.{refl}
+use Rattle.lx_embed.proofs.Imports.{refl}
 use Rattle.lx_embed.proofs.engine.Engine.tick.Goals as goal
 
 pub returns-in-Undo-clause-end : goal.returns-in-Undo-clause-end

@@ -1,4 +1,4 @@
-use Rattle.std.proofs.Common.{rules, false, [], ◌-◌, arith}
+use Rattle.lx_embed.proofs.Imports.{rules, false, [], ◌-◌, arith}
 use Rattle.lx_embed.proofs.TakenLists.{taken_are, untaken_are}
 use Rattle.lx_embed.proofs.taken.Taken.are.Goals as goal
 

@@ -1,4 +1,4 @@
-use Rattle.std.proofs.Common.{◌-◌, refl}
+use Rattle.lx_embed.proofs.Imports.{◌-◌, refl}
 use Rattle.lx_embed.proofs.TakenLists.{none_taken}
 use Rattle.lx_embed.proofs.taken.Taken.nothing.Goals as goal
 

@@ -1,4 +1,4 @@
-use Rattle.std.proofs.Common.{◌∙◌}
+use Rattle.lx_gate.proofs.Imports.{◌∙◌}
 use Rattle.lx_gate.proofs.DeskSteps.{frames_are, moment_is, in_step_over, answered_same}
 use Rattle.lx_gate.proofs.desk.Gate+G+GateWriter+G.publish_desk.Goals as goal
 

@@ -1,4 +1,4 @@
-use Rattle.std.proofs.Common.{◌≡◌, ◌-◌, ◌++◌, length, drop, ap, ◌∙◌, arith}
+use Rattle.lx_gate.proofs.Imports.{◌≡◌, ◌-◌, ◌++◌, length, drop, ap, ◌∙◌, arith}
 use Rattle.lx_gate.proofs.UnsentCommands.{entered_whole, entered_known}
 use Rattle.lx_gate.proofs.gate.Gate+G+GateWriter+G.enter.Goals as goal
 

@@ -1,4 +1,4 @@
-use Rattle.std.proofs.Common.{◌++◌, sym, ap, ◌∙◌}
+use Rattle.lx_gate.proofs.Imports.{◌++◌, sym, ap, ◌∙◌}
 use Rattle.lx_gate.proofs.UnsentCommands.{entered_all}
 use Rattle.lx_gate.proofs.gate.Gate+G+GateWriter+G.publish.Goals as goal
 

@@ -1,6 +1,4 @@
-use Rattle.std.proofs.Common.{ap, subst, List}
-use mathlib.Core.List.{IsPrefix}
-use Rattle.lx_spec.specs.declared.Command.{Command}
+use Rattle.lx_gate.proofs.Imports.{ap, subst, List, IsPrefix, Command}
 use Rattle.lx_gate.proofs.BatchAddition.{flat_prefix}
 use Rattle.lx_gate.proofs.LongestList.{chained}
 use Rattle.lx_gate.proofs.history.Prefix.chain.Goals as goal

@@ -1,7 +1,5 @@
-use Rattle.std.proofs.Common.{◌≡◌, ◌+◌, ◌-◌, refl, sym, ◌∙◌, ap, subst, length, drop, List, arith}
-use Rattle.std.proofs.lemmas.List.{length-drop}
-use Rattle.lx_spec.specs.declared.Command.{Command}
-use Rattle.lx_gate.specs.CommandLists.{flat, IsLonger}
+use Rattle.lx_gate.proofs.Imports.{◌≡◌, ◌+◌, ◌-◌, refl, sym, ◌∙◌, ap, subst, length, drop, List, arith, length-drop, Command, flat}
+use Rattle.lx_gate.proofs.Imports.{IsLonger}
 use Rattle.lx_gate.proofs.BatchAddition.{adds_moves, adds_longer}
 use Rattle.lx_gate.proofs.history.Prefix.extend.Goals as goal
 

@@ -1,4 +1,4 @@
-use Rattle.std.proofs.Common.{rules}
+use Rattle.lx_gate.proofs.Imports.{rules}
 use Rattle.lx_gate.proofs.LongestList.{chained_before}
 use Rattle.lx_gate.proofs.port.LrPortGateReaderPort.read.Goals as goal
 

@@ -1,5 +1,4 @@
-use Rattle.std.proofs.Common.{subst}
-use Rattle.lx_spec.specs.Show.{Valid}
+use Rattle.lx_gate.proofs.Imports.{subst, Valid}
 use Rattle.lx_gate.proofs.DarkDesk.{dark}
 use Rattle.lx_gate.proofs.FirstVersion.{first_is}
 use Rattle.lx_gate.proofs.start.Gate+G+GateWriter+G.open.Goals as goal

@@ -1,18 +1,10 @@
 -- A handle may go to another thread: what it leads to may, and so may the right to free it.
 use mir.Raw.{raw}
-use base.Fraction.{full_share}
+use Rattle.lx_host.proofs.Imports.{full_share, Exit, unchanged, leaves, hidden, under, RattleType, lone, Ptr, block_ptr, null_ptr, lies_at, exits_of, shape}
+use Rattle.lx_host.proofs.Imports.{fields, to, Option, None, Some, handle_owns}
 use base.Shift.{Keyless}
-use denote.Exit.{Exit, unchanged, leaves, hidden, under}
-use denote.RattleType.{RattleType}
-use denote.Memory.{lone}
-use denote.RawPtr.{Ptr, block_ptr, null_ptr, lies_at}
-use denote.Struct.Struct.{exits_of}
-use denote.Struct.Owning.{shape, fields, to}
 use denote.Param.Send.{IsSend, Quiet, AllSend, part_keyless, owning_send, struct_send, sendable}
-use Rattle.std.specs.declared.option.Option.{Option}
-use Rattle.std.specs.declared.option.Option.TheVariants.{None, Some}
 use Rattle.std.proofs.Crossing.{frees}
-use Rattle.lx_host.specs.Handle.{handle_owns}
 use Rattle.lx_embed.specs.contracts.desk.HostDesk as Host
 use Rattle.lx_embed.proofs.desk.HostDesk.TheSendSync.{the_send as host}
 use Rattle.lx_host.specs.contracts.handle.Handle.{the_row, the_type}

@@ -1,35 +1,12 @@
 -- `into_parts` puts the allocator beside the pointer.
-use mathlib.Core.Path.{◌≡◌, refl, sym, subst}
-use mathlib.Core.List.{List, [], ◌∷◌, ◌++◌}
-use seplogic.Ra.Ura.{Ura}
-use mir.Val.{Val, vptr}
-use base.Logic.{SProp, ent, id⊢}
-use base.Fml.{ftrue, fsep}
-use prog.Memory.{Memory}
-use prog.Routine.{Routine}
-use prog.Wp.{WpFn, Tables}
-use types.Logic.{Logic}
-use contract.Monad.{Fun, fact}
-use contract.Running.{tables, tables_of}
-use sound.WpLaws.{WpFn-mono}
-use types.Kit.{Item, ‵, raw, ◌⊛◌, ◌$◌, ◌∵◌, !, qed, by, move, keep, drop, use1, join, split, fsplit, fjoin, suffices, done}
-use types.Part.{whole, sub, agg}
-use types.Run.{stop, fld, no_more, and_then, of_opd, returns, enter}
-use types.ByLocal.{alloc_all, pass_all, free_all, look_at, get, get_in, sets}
-use denote.Exit.{yes}
-use denote.RawPtr.{block_ptr}
-use denote.Memory.{part_at}
-use base.Fraction.{full_share}
-use denote.Signature.{type_at}
-use denote.Steps.{heard, nothing}
-use denote.Triple.Spec.{triple_of}
-use denote.Triple.Table.{entered}
-use denote.Triple.Walked.{says, Stays, stay_dropped, walk_of, ends_at, Goes-dropped, walk_Meets}
+use Rattle.lx_host.proofs.Imports.{◌≡◌, refl, sym, subst, List, [], ◌∷◌, ◌++◌, Ura, Val, vptr, SProp, ent, id⊢, ftrue, fsep, Memory, Routine}
+use Rattle.lx_host.proofs.Imports.{WpFn, Tables, Logic, Fun, fact, tables, WpFn-mono, Item, ‵, raw, ◌⊛◌, ◌$◌, ◌∵◌, !, qed, by, move, keep}
+use Rattle.lx_host.proofs.Imports.{drop, use1, join, split, fsplit, fjoin, suffices, done, whole, sub, agg, stop, fld, no_more, and_then, of_opd, returns}
+use Rattle.lx_host.proofs.Imports.{enter, alloc_all, pass_all, free_all, look_at, get, get_in, sets, yes, block_ptr, part_at, full_share, type_at, heard}
+use Rattle.lx_host.proofs.Imports.{nothing, triple_of, entered, says, Stays, stay_dropped, walk_of, ends_at, Goes-dropped, walk_Meets, is_some, true, token}
+use Rattle.lx_host.proofs.Imports.{handle_tells, D, R, τ, word, box_typed, box_in}
+use contract.Running.{tables_of}
 use mir.Raw.{raw as bare}
-use Rattle.std.specs.Prelude.{is_some, true}
-use Rattle.std.proofs.alloc.Calls.{token, handle_tells}
-use Rattle.std.proofs.BoxSteps.Form.{D, R, τ, word, box_typed}
-use Rattle.std.proofs.BoxSteps.Steps.{box_in}
 use Rattle.std.specs.contracts.alloc.Global as Heap
 use Rattle.lx_host.specs.contracts.handle.Handle as Handle
 use Rattle.lx_host.proofs.AsBox.{E, FromHandle as From, FromHeap, one, value_of, handle_out}

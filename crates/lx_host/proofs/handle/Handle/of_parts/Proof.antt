@@ -1,33 +1,11 @@
 -- `of_parts` keeps the pointer, and what the parts own goes with it.
-use mathlib.Core.Path.{refl, sym, subst}
-use mathlib.Core.List.{List, [], ◌∷◌, ◌++◌}
-use seplogic.Ra.Ura.{Ura}
-use mir.Val.{Val, vptr}
-use base.Logic.{SProp, ent, emp, id⊢}
-use base.Fml.{ftrue, fsep}
-use prog.Memory.{Memory}
-use prog.Routine.{Routine}
-use prog.Wp.{WpFn, Tables}
-use types.Logic.{Logic}
-use contract.Monad.{Fun}
-use contract.Running.{tables, tables_of}
-use sound.WpLaws.{WpFn-mono}
-use types.Kit.{Item, ‵, raw, ◌⊛◌, ◌$◌, ◌∵◌, !, qed, by, move, keep, drop, use1, join, split, fsplit, fjoin, fpack, suffices, done}
-use types.Part.{whole, sub, agg}
-use types.Run.{stop, fld, no_more, and_then, of_opd, returns, enter}
-use types.ByLocal.{alloc_all, pass_all, free_all, look_at, get, get_in, sets}
-use denote.Exit.{yes}
-use denote.RawPtr.{block_ptr}
-use denote.Signature.{type_at}
-use denote.Steps.{nothing}
-use denote.Triple.Spec.{triple_of}
-use denote.Triple.Table.{entered}
-use denote.Triple.Walked.{says, Stays, stay_dropped, walk_of, ends_at, Goes-dropped, walk_Meets}
-use Rattle.std.specs.declared.option.Option.TheVariants.{Some}
-use Rattle.std.proofs.BoxSteps.Form.{D, B, word, box_typed}
-use Rattle.std.proofs.BoxSteps.Steps.{box_out}
+use Rattle.lx_host.proofs.Imports.{refl, sym, subst, List, [], ◌∷◌, ◌++◌, Ura, Val, vptr, SProp, ent, emp, id⊢, ftrue, fsep, Memory, Routine, WpFn}
+use Rattle.lx_host.proofs.Imports.{Tables, Logic, Fun, tables, WpFn-mono, Item, ‵, raw, ◌⊛◌, ◌$◌, ◌∵◌, !, qed, by, move, keep, drop, use1}
+use Rattle.lx_host.proofs.Imports.{join, split, fsplit, fjoin, fpack, suffices, done, whole, sub, agg, stop, fld, no_more, and_then, of_opd, returns, enter}
+use Rattle.lx_host.proofs.Imports.{alloc_all, pass_all, free_all, look_at, get, get_in, sets, yes, block_ptr, type_at, nothing, triple_of, entered, says, Stays}
+use Rattle.lx_host.proofs.Imports.{stay_dropped, walk_of, ends_at, Goes-dropped, walk_Meets, Some, D, B, word, box_typed, box_out, handle_owns, boxed}
+use contract.Running.{tables_of}
 use Rattle.std.specs.contracts.alloc.Global as Heap
-use Rattle.lx_host.specs.Handle.{handle_owns, boxed}
 use Rattle.lx_host.proofs.AsBox.{E, FromParts as From, one, handle_in}
 use Rattle.lx_host.specs.contracts.handle.Handle.of_parts as F
 use Rattle.lx_host.specs.contracts.handle.Handle.of_parts.Key.{name as #self}

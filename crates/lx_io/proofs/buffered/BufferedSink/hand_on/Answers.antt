@@ -1,7 +1,5 @@
-use Rattle.std.proofs.Common.{take, ◌∙◌, sym, subst}
-use Rattle.std.specs.Io.KnownBytes.{Keeps}
+use Rattle.lx_io.proofs.Imports.{take, ◌∙◌, sym, subst, Keeps, with_kept}
 use Rattle.std.proofs.lemmas.Slice.{between_is}
-use Rattle.lx_io.specs.Kept.{with_kept}
 use Rattle.lx_io.proofs.Rooms.{kept_on}
 use Rattle.lx_io.proofs.buffered.BufferedSink.hand_on.Goals as goal
 

@@ -1,5 +1,4 @@
-use Rattle.std.proofs.Common.{arith}
-use Rattle.std.proofs.lemmas.Grind.{common_steps}
+use Rattle.lx_levels.proofs.Imports.{arith, common_steps}
 use Rattle.lx_levels.proofs.current.Current.held.Goals as goal
 
 pub returns-clause-stays : goal.returns-clause-stays

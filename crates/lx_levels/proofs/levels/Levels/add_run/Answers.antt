@@ -1,6 +1,4 @@
-use Rattle.std.proofs.Common.{◌-◌, List, get_or, sym, subst}
-use Rattle.lx_levels.specs.Stacks.{Stack, no_stack}
-use Rattle.lx_levels.specs.CurrentFades.{IsRightBut}
+use Rattle.lx_levels.proofs.Imports.{◌-◌, List, get_or, sym, subst, Stack, no_stack, IsRightBut}
 use Rattle.lx_levels.proofs.UnderWay.{right_but}
 use Rattle.lx_levels.proofs.levels.Levels.add_run.Goals as goal
 

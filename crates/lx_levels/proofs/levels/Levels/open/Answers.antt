@@ -1,7 +1,4 @@
-use Rattle.std.proofs.Common.{◌≡◌, ℕ, List, length, replicate, get_or, ap, ◌∙◌, arith}
-use Rattle.std.proofs.lemmas.List.{length-replicate, get_or-replicate}
-use Rattle.lx_base.specs.declared.TheConstants.{RUNS}
-use Rattle.lx_fade.specs.declared.held.TheConstants.{NEVER}
+use Rattle.lx_levels.proofs.Imports.{◌≡◌, ℕ, List, length, replicate, get_or, ap, ◌∙◌, arith, length-replicate, get_or-replicate, RUNS, NEVER}
 use Rattle.lx_levels.proofs.UnderWay.{opened_right}
 use Rattle.lx_levels.proofs.levels.Levels.open.Goals as goal
 

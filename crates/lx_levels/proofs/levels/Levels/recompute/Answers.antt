@@ -1,10 +1,5 @@
-use Rattle.std.proofs.Common.{◌≡◌, ◌+◌, ◌-◌, ◌∙◌, List, ap, arith, get_or, length, sym, subst}
-use Rattle.std.proofs.lemmas.List.{length-reverse}
-use Rattle.lx_spec.specs.Run.{Run}
-use Rattle.lx_spec.specs.Level.{level}
-use Rattle.lx_levels.specs.Stacks.{KeptLevels, Stack, stack_level, no_stack}
-use Rattle.lx_levels.specs.CurrentFades.{IsRightBut}
-use Rattle.lx_levels.specs.RunsInTurn.{IsGround}
+use Rattle.lx_levels.proofs.Imports.{◌≡◌, ◌+◌, ◌-◌, ◌∙◌, List, ap, arith, get_or, length, sym, subst, length-reverse, Run, level}
+use Rattle.lx_levels.proofs.Imports.{KeptLevels, Stack, stack_level, no_stack, IsRightBut, IsGround}
 use Rattle.lx_levels.proofs.Written.{written}
 use Rattle.lx_levels.proofs.UnderWay.{right_but}
 use Rattle.lx_levels.proofs.levels.Levels.recompute.Goals as goal

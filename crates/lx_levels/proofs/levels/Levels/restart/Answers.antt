@@ -1,6 +1,4 @@
-use Rattle.std.proofs.Common.{List, sym, subst}
-use Rattle.lx_levels.specs.Stacks.{Stack}
-use Rattle.lx_levels.specs.CurrentFades.{IsRightBut}
+use Rattle.lx_levels.proofs.Imports.{List, sym, subst, Stack, IsRightBut}
 use Rattle.lx_levels.proofs.UnderWay.{right_but}
 use Rattle.lx_levels.proofs.levels.Levels.restart.Goals as goal
 

@@ -1,5 +1,4 @@
-use Rattle.std.proofs.Common.{◌≡◌, ℕ, ◌<◌, List, length, get_or, ap, subst, sym, ◌∙◌, arith}
-use Rattle.lx_levels.specs.Stacks.{KeptLevels, level_at}
+use Rattle.lx_levels.proofs.Imports.{◌≡◌, ℕ, ◌<◌, List, length, get_or, ap, subst, sym, ◌∙◌, arith, KeptLevels, level_at}
 use Rattle.lx_levels.proofs.Stands.{kept_level}
 use Rattle.lx_levels.proofs.UnderWay.{level_now}
 use Rattle.lx_levels.proofs.levels.Levels.row.Goals as goal

@@ -1,11 +1,5 @@
-use Rattle.std.proofs.Common.{◌≡◌, ◌+◌, ◌-◌, ◌<◌, ◌≤◌, ℕ, ◌∙◌, ap, sym, subst, arith, slice_index}
-use Rattle.std.specs.Option.{option_map_or}
-use Rattle.lx_spec.specs.TrackedLevel.{tracked}
-use Rattle.lx_spec.specs.Run.{Run, acts}
-use Rattle.lx_spec.specs.Level.{last_cue}
-use Rattle.lx_levels.specs.Stacks.{kept_stack}
-use Rattle.lx_levels.specs.CurrentFades.{IsStill}
-use Rattle.lx_levels.specs.LevelsMeaning.{IsAdded}
+use Rattle.lx_levels.proofs.Imports.{◌≡◌, ◌+◌, ◌-◌, ◌<◌, ◌≤◌, ℕ, ◌∙◌, ap, sym, subst, arith, slice_index, option_map_or}
+use Rattle.lx_levels.proofs.Imports.{tracked, Run, acts, last_cue, kept_stack, IsStill, IsAdded}
 use Rattle.lx_levels.proofs.AddedRuns.{starts_now, still_up_to, channel_added, channel_passed, same_run_copied}
 use Rattle.lx_levels.proofs.Looks.{tracked_in_look}
 use Rattle.lx_levels.proofs.levels.Levels.run_added.Goals as goal

@@ -1,6 +1,4 @@
-use Rattle.std.proofs.Common.{◌≡◌, ◌≤◌, ◌-◌, ◌∷◌, List}
-use Rattle.lx_spec.specs.Run.{Run}
-use Rattle.lx_levels.specs.LevelsMeaning.{IsAdded}
+use Rattle.lx_levels.proofs.Imports.{◌≡◌, ◌≤◌, ◌-◌, ◌∷◌, List, Run, IsAdded}
 use Rattle.lx_levels.proofs.levels.Levels.run_added.Given as goal
 
 abbrev pub invariant-loop-k : goal.invariant-loop-k

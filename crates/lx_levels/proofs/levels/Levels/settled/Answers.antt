@@ -1,4 +1,4 @@
-use Rattle.std.proofs.Common.{arith}
+use Rattle.lx_levels.proofs.Imports.{arith}
 use Rattle.lx_levels.proofs.levels.Levels.settled.Goals as goal
 
 pub at-requires : goal.at-requires

@@ -1,6 +1,4 @@
-use Rattle.std.proofs.Common.{◌≡◌, ◌+◌, ℕ, ◌<◌, length, []}
-use Rattle.lx_sheet.specs.Rows.{level_of}
-use Rattle.lx_levels.specs.Stacks.{kept_stack}
+use Rattle.lx_levels.proofs.Imports.{◌≡◌, ◌+◌, ℕ, ◌<◌, length, [], level_of, kept_stack}
 use Rattle.lx_levels.proofs.levels.Levels.settled.Given as goal
 
 abbrev pub invariant-loop-k : goal.invariant-loop-k

@@ -1,5 +1,4 @@
-use Rattle.std.proofs.Common.{◌<◌, length, ap, subst, sym, ◌∙◌, arith}
-use Rattle.lx_levels.specs.Stacks.{KeptLevels, level_at}
+use Rattle.lx_levels.proofs.Imports.{◌<◌, length, ap, subst, sym, ◌∙◌, arith, KeptLevels, level_at}
 use Rattle.lx_levels.proofs.UnderWay.{level_now, same_level}
 use Rattle.lx_levels.proofs.levels.Levels.to_moment.Goals as goal
 

@@ -1,6 +1,4 @@
-use Rattle.std.proofs.Common.{sym, subst, arith}
-use Rattle.lx_levels.specs.Stacks.{Stack}
-use Rattle.lx_levels.specs.CurrentFades.{Governs}
+use Rattle.lx_levels.proofs.Imports.{sym, subst, arith, Stack, Governs}
 use Rattle.lx_levels.proofs.Columns.{place_within, reach_there, stack_there}
 use Rattle.lx_levels.proofs.racks.Racks.governing.Goals as goal
 

@@ -1,5 +1,5 @@
-use Rattle.std.proofs.Common.{◌≡◌, ◌*◌, ◌<◌, ◌≤◌, ℕ, List, length, replicate, get_or, ap, subst, sym, ◌∙◌, arith, rules}
-use Rattle.std.proofs.lemmas.List.{length-replicate, get_or-replicate}
+use Rattle.lx_levels.proofs.Imports.{◌≡◌, ◌*◌, ◌<◌, ◌≤◌, ℕ, List, length, replicate, get_or, ap, subst, sym, ◌∙◌, arith, rules}
+use Rattle.lx_levels.proofs.Imports.{length-replicate, get_or-replicate}
 use Rattle.lx_levels.proofs.Columns.{opened_empty, length-stacks_of}
 use Rattle.lx_levels.proofs.racks.Racks.open.Goals as goal
 

@@ -1,5 +1,4 @@
-use Rattle.std.proofs.Common.{get_or, arith}
-use Rattle.lx_levels.specs.Stacks.{no_stack}
+use Rattle.lx_levels.proofs.Imports.{get_or, arith, no_stack}
 use Rattle.lx_levels.proofs.Columns.{place_within, reach_there, stack_there, kept_there, pushed_here, pushed_level, pushed_few, set_is_there}
 use Rattle.lx_levels.proofs.racks.Racks.push.Goals as goal
 

@@ -1,13 +1,6 @@
-use Rattle.std.proofs.Common.{◌≡◌, ◌+◌, ◌-◌, ◌<◌, ◌≤◌, ◌*◌, ◌∙◌, ◌≢◌, ℕ, List, ◌∷◌, sym, ap, subst, length, get_or, drop, set, refl, inl}
-use Rattle.std.proofs.Common.{inr, arith}
-use Rattle.std.proofs.lemmas.Bool.{cases_eq}
-use Rattle.std.proofs.lemmas.List.{get_or-set_other}
-use Rattle.std.proofs.lemmas.Grind.{get_or-set_at}
-use Rattle.std.proofs.Math.ListN.{length-set}
-use Rattle.lx_fade.specs.Fades.{Fade}
-use Rattle.lx_levels.specs.Stacks.{Stack, no_stack}
-use Rattle.lx_fade.specs.Row.{stack_column}
-use Rattle.lx_fade.proofs.Rows.{drop-stack_column}
+use Rattle.lx_levels.proofs.Imports.{◌≡◌, ◌+◌, ◌-◌, ◌<◌, ◌≤◌, ◌*◌, ◌∙◌, ◌≢◌, ℕ, List, ◌∷◌, sym, ap, subst}
+use Rattle.lx_levels.proofs.Imports.{length, get_or, drop, set, refl, inl, inr, arith, cases_eq, get_or-set_other, get_or-set_at, length-set, Fade, Stack}
+use Rattle.lx_levels.proofs.Imports.{no_stack, stack_column, drop-stack_column}
 use Rattle.lx_levels.proofs.Columns.{length-stack_column, place_within, stack_read, stacks_set}
 use Rattle.lx_levels.proofs.racks.Racks.put.Goals as goal
 

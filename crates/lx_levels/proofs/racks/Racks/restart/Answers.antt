@@ -1,9 +1,5 @@
-use Rattle.std.proofs.Common.{◌<◌, ◌∙◌, ℕ, List, [], ap, get_or, set, refl, arith}
-use Rattle.std.proofs.lemmas.List.{get_or-set_other}
-use Rattle.std.proofs.lemmas.Grind.{get_or-set_at}
-use Rattle.lx_fade.specs.Fades.{Fade}
-use Rattle.lx_levels.specs.Stacks.{Stack}
-use Rattle.lx_fade.specs.Row.{stack_column}
+use Rattle.lx_levels.proofs.Imports.{◌<◌, ◌∙◌, ℕ, List, [], ap, get_or, set, refl, arith, get_or-set_other, get_or-set_at, Fade, Stack}
+use Rattle.lx_levels.proofs.Imports.{stack_column}
 use Rattle.lx_levels.proofs.Columns.{place_within, stacks_set}
 use Rattle.lx_levels.proofs.racks.Racks.restart.Goals as goal
 

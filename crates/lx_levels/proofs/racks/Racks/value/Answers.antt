@@ -1,5 +1,4 @@
-use Rattle.std.proofs.Common.{◌∙◌, sym, ap, arith}
-use Rattle.lx_levels.specs.Stacks.{Stack, stack_level}
+use Rattle.lx_levels.proofs.Imports.{◌∙◌, sym, ap, arith, Stack, stack_level}
 use Rattle.lx_levels.proofs.Columns.{place_within, reach_there, stack_there}
 use Rattle.lx_levels.proofs.racks.Racks.value.Goals as goal
 

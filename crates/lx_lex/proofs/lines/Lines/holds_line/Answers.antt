@@ -1,4 +1,4 @@
-use Rattle.std.proofs.Common.{sym, arith}
+use Rattle.lx_lex.proofs.Imports.{sym, arith}
 use Rattle.lx_lex.proofs.Ranges.{has_feed-range}
 use Rattle.lx_lex.proofs.lines.Lines.holds_line.Goals as goal
 

@@ -1,8 +1,5 @@
-use Rattle.std.proofs.Common.{◌≡◌, ◌+◌, ◌-◌, ◌≤◌, List, ℕ, length, true, refl, sym, ap, ◌∙◌, inl, subst, arith}
-use Rattle.std.specs.Prelude.{slice_range}
-use Rattle.std.proofs.lemmas.Grind.{common_steps}
-use Rattle.lx_spec.specs.Text.{without_cr}
-use Rattle.lx_lex.specs.Lines.{BytesBetween}
+use Rattle.lx_lex.proofs.Imports.{◌≡◌, ◌+◌, ◌-◌, ◌≤◌, List, ℕ, length, true, refl, sym, ap, ◌∙◌, inl, subst, arith, slice_range}
+use Rattle.lx_lex.proofs.Imports.{common_steps, without_cr, BytesBetween}
 use Rattle.lx_lex.proofs.Bytes.{without_cr-none}
 use Rattle.lx_lex.proofs.Ranges.{nowhere-part}
 use Rattle.lx_lex.proofs.lines.Lines.lend.Goals as goal

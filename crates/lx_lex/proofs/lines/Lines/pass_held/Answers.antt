@@ -1,4 +1,4 @@
-use Rattle.std.proofs.Common.{sym, arith, inl, inr, refl}
+use Rattle.lx_lex.proofs.Imports.{sym, arith, inl, inr, refl}
 use Rattle.lx_lex.proofs.HeldBytes.{passed}
 use Rattle.lx_lex.proofs.Ranges.{has_feed-range}
 use Rattle.lx_lex.proofs.lines.Lines.pass_held.Goals as goal

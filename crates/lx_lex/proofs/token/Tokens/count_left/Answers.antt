@@ -1,5 +1,4 @@
-use Rattle.std.proofs.Common.{inl, arith}
-use Rattle.lx_spec.specs.Text.{is_separator, begins_comment}
+use Rattle.lx_lex.proofs.Imports.{inl, arith, is_separator, begins_comment}
 use Rattle.lx_lex.specs.Left.{left}
 use Rattle.lx_lex.proofs.LineCuts.{length-tokens_by}
 use Rattle.lx_lex.proofs.token.Tokens.count_left.Goals as goal

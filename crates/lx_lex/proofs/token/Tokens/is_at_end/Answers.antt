@@ -1,4 +1,4 @@
-use Rattle.std.proofs.Common.{sym, ◌∙◌}
+use Rattle.lx_lex.proofs.Imports.{sym, ◌∙◌}
 use Rattle.lx_lex.specs.Left.{left}
 use Rattle.lx_lex.proofs.PlainNumbers.{none_left}
 use Rattle.lx_lex.proofs.token.Tokens.is_at_end.Goals as goal

@@ -1,4 +1,4 @@
-use Rattle.std.proofs.Common.{refl}
+use Rattle.lx_lex.proofs.Imports.{refl}
 use Rattle.lx_lex.specs.Left.{left}
 use Rattle.lx_lex.proofs.token.Tokens.of.Goals as goal
 

@@ -1,5 +1,4 @@
-use Rattle.std.proofs.Common.{length, ap, rules, arith}
-use Rattle.std.proofs.lemmas.Grind.{common_steps}
+use Rattle.lx_lex.proofs.Imports.{length, ap, rules, arith, common_steps}
 use Rattle.lx_lex.specs.Left.{left}
 use Rattle.lx_lex.proofs.token.TokensIterator.next.Goals as goal
 

@@ -1,9 +1,5 @@
-use Rattle.std.proofs.Common.{ℕ, List, sym, subst}
-use Rattle.lx_base.specs.declared.TheConstants.{SLOTS}
-use Rattle.lx_spec.specs.Output.{dimmer_value}
-use Rattle.lx_mixer.specs.Table.{IsTable}
+use Rattle.lx_lists.proofs.Imports.{ℕ, List, sym, subst, SLOTS, dimmer_value, IsTable, TwoKept, out_of_both}
 use Rattle.lx_patch.proofs.Frames.{patched}
-use Rattle.lx_lists.specs.TwoListsMeaning.{TwoKept, out_of_both}
 use Rattle.lx_lists.proofs.TwoFrames.{frame_of_both}
 use Rattle.lx_lists.proofs.KeptLists.{both}
 use Rattle.lx_lists.proofs.desk.TwoLists.frames.Goals as goal

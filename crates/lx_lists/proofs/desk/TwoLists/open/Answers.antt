@@ -1,8 +1,5 @@
-use Rattle.std.proofs.Common.{ap, sym, subst}
-use Rattle.lx_spec.specs.Show.{Show}
-use Rattle.lx_spec.specs.Kept.{Kept}
+use Rattle.lx_lists.proofs.Imports.{ap, sym, subst, Show, Kept, HasRoomForFrames}
 use Rattle.lx_patch.specs.DimmerTable.{StandsForPatch}
-use Rattle.lx_lists.specs.KeptLists.{HasRoomForFrames}
 use Rattle.lx_lists.proofs.OpenedLists.{opened_channels, opened_kept}
 use Rattle.lx_lists.proofs.desk.TwoLists.open.Goals as goal
 

@@ -1,4 +1,4 @@
-use Rattle.std.proofs.Common.{◌∙◌, sym}
+use Rattle.lx_lists.proofs.Imports.{◌∙◌, sym}
 use Rattle.lx_lists.proofs.KeptLists.{same_channels, same_outputs, as_before, filled_still, second_kept, second_no_tick}
 use Rattle.lx_lists.proofs.desk.TwoLists.second.Goals as goal
 

@@ -1,4 +1,4 @@
-use Rattle.std.proofs.Common.{◌∙◌, sym}
+use Rattle.lx_lists.proofs.Imports.{◌∙◌, sym}
 use Rattle.lx_lists.proofs.KeptLists.{both_channels, both_tick, same_outputs, filled_still, ticked_kept}
 use Rattle.lx_lists.proofs.desk.TwoLists.tick.Goals as goal
 

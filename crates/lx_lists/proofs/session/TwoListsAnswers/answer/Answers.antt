@@ -1,4 +1,4 @@
-use Rattle.std.specs.Prelude.{option_copied}
+use Rattle.lx_lists.proofs.Imports.{option_copied}
 use Rattle.lx_lists.proofs.LineAnswers.{second_quits}
 use Rattle.lx_lists.proofs.TwoAnswers.{two_lawful}
 use Rattle.lx_lists.proofs.session.TwoListsAnswers.answer.Goals as goal

@@ -1,5 +1,4 @@
-use Rattle.std.proofs.Common.{arith}
-use Rattle.std.proofs.lemmas.List.{get_or_read}
+use Rattle.lx_patch.proofs.Imports.{arith, get_or_read}
 use Rattle.lx_patch.proofs.Chains.{walk_begun, walk_next}
 use Rattle.lx_patch.proofs.followers.Followers.fill.Goals as goal
 

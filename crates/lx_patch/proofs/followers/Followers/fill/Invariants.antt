@@ -1,5 +1,4 @@
-use Rattle.std.proofs.Common.{◌-◌}
-use Rattle.lx_base.specs.declared.TheConstants.{SLOTS}
+use Rattle.lx_patch.proofs.Imports.{◌-◌, SLOTS}
 use Rattle.lx_patch.proofs.Chains.{IsWalked}
 use Rattle.lx_patch.proofs.followers.Followers.fill.Given as goal
 

@@ -1,6 +1,4 @@
-use Rattle.std.proofs.Common.{◌-◌, ◌<◌, arith, refl, get_or}
-use Rattle.lx_base.specs.declared.TheConstants.{CHANNELS}
-use Rattle.std.proofs.lemmas.List.{get_or_read}
+use Rattle.lx_patch.proofs.Imports.{◌-◌, ◌<◌, arith, refl, get_or, CHANNELS, get_or_read}
 use Rattle.lx_patch.proofs.Chains.{chained_dark, chained_lit}
 use Rattle.lx_patch.proofs.followers.Followers.link.Goals as goal
 

@@ -1,6 +1,4 @@
-use Rattle.std.proofs.Common.{◌≤◌}
-use Rattle.lx_base.specs.declared.TheConstants.{SLOTS}
-use Rattle.lx_patch.specs.FollowerChains.{AreDarkFrom, AreDimmersChained}
+use Rattle.lx_patch.proofs.Imports.{◌≤◌, SLOTS, AreDarkFrom, AreDimmersChained}
 use Rattle.lx_patch.proofs.followers.Followers.link.Given as goal
 
 abbrev pub invariant-loop-e : goal.invariant-loop-e

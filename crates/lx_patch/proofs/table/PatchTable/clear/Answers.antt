@@ -1,5 +1,4 @@
-use Rattle.std.proofs.Common.{subst, sym}
-use Rattle.lx_patch.specs.DimmerTable.{StandsForPatch}
+use Rattle.lx_patch.proofs.Imports.{subst, sym, StandsForPatch}
 use Rattle.lx_patch.proofs.table.PatchTable.clear.Goals as goal
 
 pub returns : goal.returns

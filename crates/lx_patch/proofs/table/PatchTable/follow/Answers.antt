@@ -1,6 +1,4 @@
-use Rattle.std.proofs.Common.{List, ℕ, refl, subst, sym, ap, ◌∙◌}
-use Rattle.lx_patch.specs.DimmerTable.{DimmerTable}
-use Rattle.lx_patch.specs.FollowerChains.{AreDarkFrom}
+use Rattle.lx_patch.proofs.Imports.{List, ℕ, refl, subst, sym, ap, ◌∙◌, DimmerTable, AreDarkFrom}
 use Rattle.lx_patch.proofs.SlotChanges.{table_of_all, table_of_lit}
 use Rattle.lx_patch.proofs.table.PatchTable.follow.Goals as goal
 

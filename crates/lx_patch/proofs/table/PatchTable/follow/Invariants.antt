@@ -1,6 +1,4 @@
-use Rattle.std.proofs.Common.{◌-◌, ◌≤◌, length}
-use Rattle.lx_base.specs.declared.TheConstants.{SLOTS}
-use Rattle.lx_patch.specs.Slots.{AreSlots, IsFollowed}
+use Rattle.lx_patch.proofs.Imports.{◌-◌, ◌≤◌, length, SLOTS, AreSlots, IsFollowed}
 use Rattle.lx_patch.proofs.table.PatchTable.follow.Given as goal
 
 abbrev pub invariant-loop-k : goal.invariant-loop-k

@@ -1,6 +1,4 @@
-use Rattle.std.proofs.Common.{◌≡◌, List, subst, sym, arith}
-use Rattle.lx_spec.specs.declared.PatchRow.{PatchRow}
-use Rattle.lx_patch.specs.DimmerTable.{StandsForPatch}
+use Rattle.lx_patch.proofs.Imports.{◌≡◌, List, subst, sym, arith, PatchRow, StandsForPatch}
 use Rattle.lx_patch.proofs.Rows.{stands_first, drop_before}
 use Rattle.lx_patch.proofs.wiring.Wiring.refresh.Goals as goal
 

@@ -1,5 +1,4 @@
-use Rattle.std.proofs.Common.{drop}
-use Rattle.lx_patch.specs.DimmerTable.{StandsForPatch}
+use Rattle.lx_patch.proofs.Imports.{drop, StandsForPatch}
 use Rattle.lx_patch.proofs.wiring.Wiring.refresh.Given as goal
 
 abbrev pub invariant-loop-i : goal.invariant-loop-i

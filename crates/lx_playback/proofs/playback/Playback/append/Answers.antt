@@ -1,7 +1,5 @@
-use Rattle.std.proofs.Common.{◌≡◌, ◌∷◌, List, arith, reverse, rules, subst, sym}
+use Rattle.lx_playback.proofs.Imports.{◌≡◌, ◌∷◌, List, arith, reverse, rules, subst, sym, Run, NewestFirst}
 use Rattle.std.proofs.lemmas.Grind.{common_steps}
-use Rattle.lx_spec.specs.Run.{Run}
-use Rattle.lx_playback.specs.Valid.{NewestFirst}
 use Rattle.lx_playback.proofs.Backwards.{newest_now}
 use Rattle.lx_playback.proofs.playback.Playback.append.Goals as goal
 

@@ -1,8 +1,4 @@
-use Rattle.std.proofs.Common.{List, reverse, subst, sym, ◌∙◌, ap}
-use Rattle.std.specs.List.{AllByRecursion}
-use Rattle.lx_spec.specs.Run.{Run}
-use Rattle.lx_spec.specs.Playback.{Playback}
-use Rattle.lx_playback.specs.Valid.{NewestFirst, ValidRun}
+use Rattle.lx_playback.proofs.Imports.{List, reverse, subst, sym, ◌∙◌, ap, AllByRecursion, Run, Playback, NewestFirst, ValidRun}
 use Rattle.lx_playback.proofs.Backwards.{All-backwards, oldest_first}
 use Rattle.lx_playback.proofs.playback.Playback.live.Goals as goal
 

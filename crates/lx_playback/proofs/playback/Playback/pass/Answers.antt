@@ -1,6 +1,4 @@
-use Rattle.std.proofs.Common.{arith, ap, ◌≡◌, ◌≤◌, ◌-◌, ◌*◌}
-use Rattle.lx_base.specs.declared.TheConstants.{TICK_STEP}
-use Rattle.lx_spec.specs.Playback.{Playback}
+use Rattle.lx_playback.proofs.Imports.{arith, ap, ◌≡◌, ◌≤◌, ◌-◌, ◌*◌, TICK_STEP, Playback}
 use Rattle.lx_playback.proofs.QuietTicks.{ticks_pass}
 use Rattle.lx_playback.proofs.playback.Playback.pass.Goals as goal
 

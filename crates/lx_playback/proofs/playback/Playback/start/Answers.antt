@@ -1,9 +1,5 @@
-use Rattle.std.proofs.Common.{arith, ◌∙◌, ◌≡◌, ◌≤◌, ap, length, List, map, subst, sym}
-use Rattle.std.specs.List.{AllByRecursion}
+use Rattle.lx_playback.proofs.Imports.{arith, ◌∙◌, ◌≡◌, ◌≤◌, ap, length, List, map, subst, sym, AllByRecursion, captured, Cue, ValidTimes}
 use Rattle.lx_spec.specs.declared.PartTimes.{PartTimes}
-use Rattle.lx_spec.specs.Run.{captured}
-use Rattle.lx_spec.specs.Show.{Cue}
-use Rattle.lx_playback.specs.Valid.{ValidTimes}
 use Rattle.lx_playback.proofs.CapturedTimes.{captured_valid, some_captured}
 use Rattle.lx_playback.proofs.playback.Playback.start.Goals as goal
 

@@ -1,8 +1,4 @@
-use Rattle.std.proofs.Common.{arith, ap, sym, subst, ◌∙◌, ◌≡◌, None, Some}
-use Rattle.std.specs.Prelude.{◌+◌, nat_le}
-use Rattle.std.specs.List.{list_all}
-use Rattle.lx_spec.specs.Run.{extent}
-use Rattle.lx_spec.specs.Playback.{Playback}
+use Rattle.lx_playback.proofs.Imports.{arith, ap, sym, subst, ◌∙◌, ◌≡◌, None, Some, ◌+◌, nat_le, list_all, extent, Playback}
 use Rattle.lx_playback.proofs.QuietTicks.{pending_still, live_still}
 use Rattle.lx_playback.proofs.playback.Playback.still_until.Goals as goal
 

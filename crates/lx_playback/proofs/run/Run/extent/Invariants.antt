@@ -1,6 +1,4 @@
-use Rattle.std.proofs.Common.{◌*◌, ◌≡◌, ◌≤◌, map, take}
-use Rattle.lx_base.specs.declared.TheConstants.{TIME_MAX}
-use Rattle.lx_spec.specs.Run.{entry_extent, greatest}
+use Rattle.lx_playback.proofs.Imports.{◌*◌, ◌≡◌, ◌≤◌, map, take, TIME_MAX, entry_extent, greatest}
 use Rattle.lx_playback.proofs.run.Run.extent.Given as goal
 
 abbrev pub invariant-loop-entry : goal.invariant-loop-entry

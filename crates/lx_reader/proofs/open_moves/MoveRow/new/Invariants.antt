@@ -1,5 +1,4 @@
-use Rattle.std.proofs.Common.{◌≡◌, ℕ, ◌+◌, ◌<◌, length}
-use Rattle.std.specs.Prelude.{IfSome, slice_get}
+use Rattle.lx_reader.proofs.Imports.{◌≡◌, ℕ, ◌+◌, ◌<◌, length, IfSome, slice_get}
 use Rattle.lx_reader.proofs.open_moves.MoveRow.new.Given as goal
 
 abbrev pub invariant-loop-index : goal.invariant-loop-index

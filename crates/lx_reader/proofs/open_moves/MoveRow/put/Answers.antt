@@ -1,5 +1,4 @@
-use Rattle.std.proofs.Common.{◌-◌, ◌∙◌, ap, arith}
-use Rattle.lx_spec.specs.SortedList.{placed}
+use Rattle.lx_reader.proofs.Imports.{◌-◌, ◌∙◌, ap, arith, placed}
 use Rattle.lx_reader.proofs.OpenMoves.{slot_written}
 use Rattle.lx_reader.proofs.open_moves.MoveRow.put.Goals as goal
 

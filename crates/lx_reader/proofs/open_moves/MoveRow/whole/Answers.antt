@@ -1,7 +1,4 @@
-use Rattle.std.proofs.Common.{◌≤◌, ◌∙◌, arith, subst, sym}
-use Rattle.std.specs.List.{AllByRecursion}
-use Rattle.lx_spec.specs.SortedList.{IsStrictlySorted}
-use Rattle.lx_spec.proofs.Lists.{each}
+use Rattle.lx_reader.proofs.Imports.{◌≤◌, ◌∙◌, arith, subst, sym, AllByRecursion, IsStrictlySorted, each}
 use Rattle.lx_reader.proofs.OpenMoves.{all_there, moves_rise}
 use Rattle.lx_reader.proofs.open_moves.MoveRow.whole.Goals as goal
 

@@ -1,5 +1,4 @@
-use Rattle.std.proofs.Common.{sym}
-use Rattle.lx_lex.specs.Left.{left}
+use Rattle.lx_reader.proofs.Imports.{sym, left}
 use Rattle.lx_reader.proofs.LineSteps.{rows_took}
 use Rattle.lx_reader.proofs.reader.Reader.patch_line.Goals as goal
 

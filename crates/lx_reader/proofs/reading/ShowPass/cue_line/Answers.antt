@@ -1,7 +1,5 @@
-use Rattle.std.proofs.Common.{◌∙◌, ap}
-use Rattle.lx_lex.specs.Left.{left}
+use Rattle.lx_reader.proofs.Imports.{◌∙◌, ap, left, settled, with_open}
 use Rattle.lx_reader.specs.declared.open_record.Open.TheVariants as open_records
-use Rattle.lx_reader.specs.Settled.{settled, with_open}
 use Rattle.lx_reader.proofs.LineSteps.{stops, cue_fault, cue_other_page, cue_full, cue_took}
 use Rattle.lx_reader.proofs.OpenRecords.{cue_opened, opened_none}
 use Rattle.lx_reader.proofs.OpenSteps.{opened}

@@ -1,7 +1,4 @@
-use Rattle.std.proofs.Common.{map, ◌≤◌, [], arith, subst}
-use Rattle.lx_base.specs.declared.TheConstants.{CHANNELS}
-use Rattle.lx_lex.specs.Left.{left}
-use Rattle.lx_reader.specs.OpenMoves.{ReadsLevels}
+use Rattle.lx_reader.proofs.Imports.{map, ◌≤◌, [], arith, subst, CHANNELS, left, ReadsLevels}
 use Rattle.lx_reader.proofs.Members.{greatest_least, greatest_most}
 use Rattle.lx_reader.proofs.OpenLevels.{levels_outcome, still_fits}
 use Rattle.lx_reader.proofs.reading.ShowPass.levels_line.Goals as goal

@@ -1,13 +1,6 @@
-use Rattle.std.proofs.Common.{◌≡◌, Ok, ap, subst, sym}
-use Rattle.lx_base.specs.declared.TheConstants.{GROUPS, SUBS}
-use Rattle.lx_spec.specs.declared.Section.TheVariants.{InGroup, InSub}
-use Rattle.lx_lex.specs.Left.{left}
-use Rattle.lx_spec.specs.LineRules.{cue_entry, inner_entry, members_entry}
-use Rattle.lx_spec.specs.Show.{MemberSet}
+use Rattle.lx_reader.proofs.Imports.{◌≡◌, Ok, ap, subst, sym, GROUPS, SUBS, InGroup, InSub, left, cue_entry, inner_entry, members_entry, MemberSet}
+use Rattle.lx_reader.proofs.Imports.{LabelSays, facts_at, Said, facts_of, SetFits, settled}
 use Rattle.lx_reader.specs.declared.open_record.Open.TheVariants as open_records
-use Rattle.lx_reader.specs.LineOfCue.{LabelSays, facts_at}
-use Rattle.lx_reader.specs.LineOutcome.{Said, facts_of}
-use Rattle.lx_reader.specs.Settled.{SetFits, settled}
 use Rattle.lx_reader.proofs.OpenSteps.{fits_in_cue, fits_in_group, fits_in_sub, opened, parts_open, relabelled, said_in_cue, said_in_group, said_in_sub}
 use Rattle.lx_reader.proofs.reading.ShowPass.says.Goals as goal
 

@@ -1,5 +1,4 @@
-use Rattle.std.proofs.Common.{subst, sym}
-use Rattle.lx_reader.specs.Settled.{OpenFits}
+use Rattle.lx_reader.proofs.Imports.{subst, sym, OpenFits}
 use Rattle.lx_reader.proofs.reading.ShowPass.settle.Goals as goal
 
 pub put_record-requires : goal.put_record-requires

@@ -1,7 +1,4 @@
-use Rattle.std.proofs.Common.{◌∙◌, subst, sym}
-use Rattle.lx_lex.specs.Left.{left}
-use Rattle.lx_reader.specs.LineOutcome.{Outcome, facts_of}
-use Rattle.lx_reader.specs.Settled.{settled}
+use Rattle.lx_reader.proofs.Imports.{◌∙◌, subst, sym, left, Outcome, facts_of, settled}
 use Rattle.lx_reader.proofs.LevelsLines.{both_true, inside_record, levels_entry}
 use Rattle.lx_reader.proofs.reading.ShowPass.step.Goals as goal
 

@@ -1,9 +1,5 @@
-use Rattle.std.proofs.Common.{◌∙◌, ap}
-use Rattle.lx_base.specs.declared.TheConstants.{SUBS}
-use Rattle.lx_spec.specs.declared.Section.TheVariants.{InSub}
-use Rattle.lx_lex.specs.Left.{left}
+use Rattle.lx_reader.proofs.Imports.{◌∙◌, ap, SUBS, InSub, left, settled, with_open}
 use Rattle.lx_reader.specs.declared.open_record.Open.TheVariants as open_records
-use Rattle.lx_reader.specs.Settled.{settled, with_open}
 use Rattle.lx_reader.proofs.LineSteps.{stops}
 use Rattle.lx_reader.proofs.OpenRecords.{sub_opened, sub_took, opened_none, set_fault, set_other_page}
 use Rattle.lx_reader.proofs.OpenSteps.{opened}

@@ -1,6 +1,4 @@
-use Rattle.std.proofs.Common.{subst}
-use Rattle.std.specs.Prelude.{option_copied}
-use Rattle.lx_session.specs.LineAnswer.{LineAnswer}
+use Rattle.lx_session.proofs.Imports.{subst, option_copied, LineAnswer}
 use Rattle.lx_session.proofs.HeardLines.{answered_heard, desk_lawful, meaning_is}
 use Rattle.lx_session.proofs.beside.AnyAnswersBesideConsole.answer_beside.Goals as goal
 

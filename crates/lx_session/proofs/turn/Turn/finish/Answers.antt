@@ -1,9 +1,4 @@
-use Rattle.std.proofs.Common.{ℕ, Option, sym, subst, ◌∙◌}
-use Rattle.std.specs.Prelude.{IfSome}
-use Rattle.lx_base.specs.declared.TheConstants.{UNIVERSES}
-use Rattle.lx_spec.specs.Show.{InRange}
-use Rattle.lx_io.proofs.Chain.{Puts-is}
-use Rattle.lx_console.specs.ConsoleMeaning.{StandsFor}
+use Rattle.lx_session.proofs.Imports.{ℕ, Option, sym, subst, ◌∙◌, IfSome, UNIVERSES, InRange, Puts-is, StandsFor}
 use Rattle.lx_session.proofs.Replies.{frame_is, frame_reply, frame_counts, frame_goes_on, on_ok}
 use Rattle.lx_session.proofs.turn.Turn.finish.Goals as goal
 

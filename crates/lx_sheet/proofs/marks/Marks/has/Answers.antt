@@ -1,10 +1,6 @@
-use Rattle.std.proofs.Common.{◌<◌, ℕ, List, length, get_or, ap, sym, ◌∙◌, subst, arith}
-use Rattle.std.specs.Prelude.{◌==◌}
-use Rattle.std.specs.Int.{bit_at}
-use Rattle.std.proofs.lemmas.List.{get_or_read}
-use Rattle.std.proofs.lemmas.Nat.Bits.{shr_and_one}
+use Rattle.lx_sheet.proofs.Imports.{◌<◌, ℕ, List, length, get_or, ap, sym, ◌∙◌, subst, arith, ◌==◌, bit_at, get_or_read, shr_and_one, bit_of}
+use Rattle.lx_sheet.proofs.Imports.{group_of, row_bit}
 use Rattle.lx_sheet.specs.Marks.{has_mark}
-use Rattle.lx_sheet.specs.WordPlaces.{bit_of, group_of, row_bit}
 use Rattle.lx_sheet.proofs.MarkWords.{place_within}
 use Rattle.lx_sheet.proofs.marks.Marks.has.Goals as goal
 

@@ -1,10 +1,6 @@
-use Rattle.std.proofs.Common.{◌≡◌, ◌+◌, ◌-◌, ◌/◌, ◌%◌, ◌++◌, ℕ, List, get_or, min, take, vec_len, ap, ◌∙◌, arith}
-use Rattle.std.specs.Prelude.{replicate, ◌==◌}
-use Rattle.std.specs.Int.{bit_at}
-use Rattle.std.proofs.Math.Nat.{mul-le-mul_right}
-use Rattle.std.proofs.lemmas.List.{take_all}
+use Rattle.lx_sheet.proofs.Imports.{◌≡◌, ◌+◌, ◌-◌, ◌/◌, ◌%◌, ◌++◌, ℕ, List, get_or, min, take, vec_len, ap, ◌∙◌, arith}
+use Rattle.lx_sheet.proofs.Imports.{replicate, ◌==◌, bit_at, mul-le-mul_right, take_all, bit_of, group_of, word_place}
 use Rattle.lx_sheet.specs.Marks.{has_mark}
-use Rattle.lx_sheet.specs.WordPlaces.{bit_of, group_of, word_place}
 use Rattle.lx_sheet.proofs.BlockReach.{grown}
 use Rattle.lx_sheet.proofs.marks.Marks.reach.Goals as goal
 

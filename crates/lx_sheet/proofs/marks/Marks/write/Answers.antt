@@ -1,9 +1,5 @@
-use Rattle.std.proofs.Common.{ℕ, List, ap, ◌∙◌, arith}
-use Rattle.std.specs.Prelude.{◌==◌}
-use Rattle.std.specs.Int.{bit_at}
-use Rattle.std.proofs.lemmas.List.{with_items_is}
+use Rattle.lx_sheet.proofs.Imports.{ℕ, List, ap, ◌∙◌, arith, ◌==◌, bit_at, with_items_is, bit_of, group_of, row_bit}
 use Rattle.lx_sheet.specs.Marks.{has_mark}
-use Rattle.lx_sheet.specs.WordPlaces.{bit_of, group_of, row_bit}
 use Rattle.lx_sheet.proofs.marks.Marks.write.Goals as goal
 
 pub returns-clause-here : goal.returns-clause-here

@@ -1,7 +1,4 @@
-use Rattle.std.proofs.Common.{◌≡◌, ℕ, List, length, ap, ◌∙◌}
-use Rattle.lx_show.specs.Around.{entries_up_to}
-use Rattle.lx_spec.specs.Show.{Cue}
-use Rattle.lx_sheet.specs.SheetMeaning.{next_decision}
+use Rattle.lx_sheet.proofs.Imports.{◌≡◌, ℕ, List, length, ap, ◌∙◌, entries_up_to, Cue, next_decision}
 use Rattle.lx_sheet.proofs.FilledColumns.{end_is_decision}
 use Rattle.lx_sheet.proofs.RightRows.{stands_from}
 use Rattle.lx_sheet.proofs.sheet.Sheet.changed_on.Goals as goal

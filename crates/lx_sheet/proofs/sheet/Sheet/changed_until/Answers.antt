@@ -1,5 +1,4 @@
-use Rattle.std.proofs.Common.{◌≡◌, List, length, ap, ◌∙◌, arith}
-use Rattle.lx_spec.specs.Show.{Cue}
+use Rattle.lx_sheet.proofs.Imports.{◌≡◌, List, length, ap, ◌∙◌, arith, Cue}
 use Rattle.lx_sheet.proofs.FilledColumns.{end_is}
 use Rattle.lx_sheet.proofs.RightRows.{last_within, stands_from, until}
 use Rattle.lx_sheet.proofs.sheet.Sheet.changed_until.Goals as goal

@@ -1,17 +1,6 @@
-use Rattle.std.proofs.Common.{◌≡◌, ℕ, ◌<◌, List, length, get_or, map, ap, sym, ◌∙◌, subst, arith}
-use Rattle.std.specs.Prelude.{IfSome, slice_get}
-use Rattle.std.proofs.lemmas.List.{length-map, with_items_is}
-use Rattle.std.proofs.lemmas.Option.{IfSome_then}
-use Rattle.lx_spec.specs.SortedList.{IsStrictlySorted}
-use Rattle.lx_spec.specs.Show.{Cue, Show}
-use Rattle.lx_spec.specs.TrackedLevel.{tracked}
-use Rattle.lx_sheet.specs.declared.marks.Marks.{Marks}
-use Rattle.lx_sheet.specs.declared.sheet.Place.{Place}
-use Rattle.lx_sheet.specs.Rows.{Sheet, level_by, level_of, numbers_of}
-use Rattle.lx_sheet.specs.Block.{AreApart, cell, count_under, own_rows, row_at_place, rows_of}
-use Rattle.lx_sheet.specs.Marks.{Tells}
-use Rattle.lx_sheet.specs.After.{IsEnd}
-use Rattle.lx_sheet.specs.SheetMeaning.{IsMarked, cue_numbers}
+use Rattle.lx_sheet.proofs.Imports.{◌≡◌, ℕ, ◌<◌, List, length, get_or, map, ap, sym, ◌∙◌, subst, arith, IfSome, slice_get, length-map}
+use Rattle.lx_sheet.proofs.Imports.{with_items_is, IfSome_then, IsStrictlySorted, Cue, Show, tracked, Marks, Place, Sheet, level_by, level_of, numbers_of}
+use Rattle.lx_sheet.proofs.Imports.{AreApart, cell, count_under, own_rows, row_at_place, rows_of, Tells, IsEnd, IsMarked, cue_numbers}
 use Rattle.lx_sheet.proofs.FilledColumns.{column_filled}
 use Rattle.lx_sheet.proofs.MarkedRows.{tells}
 use Rattle.lx_sheet.proofs.Past.{level_of_past, tracked_past}

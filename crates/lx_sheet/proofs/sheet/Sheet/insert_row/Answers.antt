@@ -1,20 +1,7 @@
-use Rattle.std.proofs.Common.{◌≡◌, ◌+◌, ◌*◌, ◌<◌, ◌≤◌, ℕ, List, length, ap, sym, ◌∙◌, subst, refl, arith}
-use Rattle.std.specs.Prelude.{IfSome, None, insert, max, slice_get}
-use Rattle.std.specs.List.{length_refill}
-use Rattle.std.specs.Vec.{with_items}
-use Rattle.std.proofs.lemmas.List.{with_items_is}
+use Rattle.lx_sheet.proofs.Imports.{◌≡◌, ◌+◌, ◌*◌, ◌<◌, ◌≤◌, ℕ, List, length, ap, sym, ◌∙◌, subst, refl, arith, IfSome, None}
+use Rattle.lx_sheet.proofs.Imports.{insert, max, slice_get, length_refill, with_items, with_items_is, CUES, IsStrictlySorted, Cue, Show, with_cue, cue_of}
+use Rattle.lx_sheet.proofs.Imports.{Marks, Place, AreApart, Covers, own_rows, row_at_place, width, IsMarkedFor, FillsRows, IsPassed, RowsStandFor}
 use Rattle.std.proofs.lemmas.List.Edits.{length-insert}
-use Rattle.lx_base.specs.declared.TheConstants.{CUES}
-use Rattle.lx_spec.specs.SortedList.{IsStrictlySorted}
-use Rattle.lx_spec.specs.Show.{Cue, Show}
-use Rattle.lx_spec.specs.EditedShow.{with_cue}
-use Rattle.lx_spec.specs.TrackedLevel.{cue_of}
-use Rattle.lx_sheet.specs.declared.marks.Marks.{Marks}
-use Rattle.lx_sheet.specs.declared.sheet.Place.{Place}
-use Rattle.lx_sheet.specs.Block.{AreApart, Covers, own_rows, row_at_place, width}
-use Rattle.lx_sheet.specs.Marks.{IsMarkedFor}
-use Rattle.lx_sheet.specs.After.{FillsRows, IsPassed}
-use Rattle.lx_sheet.specs.SheetMeaning.{RowsStandFor}
 use Rattle.lx_sheet.proofs.BlockReach.{covers_inserted, covers_lent, covers_longer, stands_same}
 use Rattle.lx_sheet.proofs.MarkedRows.{kept_places, marked_place, reached_grown, reached_more, table_grown}
 use Rattle.lx_sheet.proofs.RightRows.{order_of, order_length, rows_right}

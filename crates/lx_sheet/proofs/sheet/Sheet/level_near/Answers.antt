@@ -1,14 +1,9 @@
-use Rattle.std.proofs.Common.{◌≡◌, ℕ, ◌+◌, ◌-◌, ◌<◌, List, length, map, ap, sym, ◌∙◌, subst, arith}
-use Rattle.lx_show.specs.Around.{entries_up_to}
-use Rattle.std.specs.Prelude.{nat_le}
-use Rattle.lx_sheet.specs.declared.sheet.Place.{Place}
-use Rattle.lx_sheet.specs.Rows.{Sheet, level_of}
-use Rattle.lx_sheet.specs.Block.{AreApart, own_rows, cue_level, last_value}
+use Rattle.lx_sheet.proofs.Imports.{◌≡◌, ℕ, ◌+◌, ◌-◌, ◌<◌, List, length, map, ap, sym, ◌∙◌, subst, arith, entries_up_to, nat_le}
+use Rattle.lx_sheet.proofs.Imports.{Place, Sheet, level_of, AreApart, own_rows, cue_level, last_value, shorter}
 use Rattle.lx_sheet.proofs.RowPool.{own_apart}
 use Rattle.lx_sheet.proofs.Past.{level_of_past}
 use Rattle.lx_sheet.proofs.Rows.{count_up_to, count_up_to-map, level_of_block}
 use Rattle.lx_sheet.proofs.sheet.Sheet.level_near.Goals as goal
-use Rattle.lx_spec.proofs.Lists.{shorter}
 
 pub returns-then-at-self-clause-level : goal.returns-then-at-self-clause-level
 returns-then-at-self-clause-level c =

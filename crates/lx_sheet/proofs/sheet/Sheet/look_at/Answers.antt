@@ -1,10 +1,5 @@
-use Rattle.std.proofs.Common.{◌≡◌, ℕ, ◌+◌, ◌-◌, ◌*◌, ◌<◌, ◌≤◌, List, length, get_or, take, drop, map, ap, sym, ◌∙◌, subst, arith}
-use Rattle.std.specs.Prelude.{nat_le}
-use Rattle.lx_spec.proofs.Lists.{shorter}
-use Rattle.lx_show.specs.Around.{entries_up_to}
-use Rattle.lx_sheet.specs.declared.sheet.Place.{Place}
-use Rattle.lx_sheet.specs.Rows.{Sheet, level_of}
-use Rattle.lx_sheet.specs.Block.{AreApart, own_rows, row_at_place, width}
+use Rattle.lx_sheet.proofs.Imports.{◌≡◌, ℕ, ◌+◌, ◌-◌, ◌*◌, ◌<◌, ◌≤◌, List, length, get_or, take, drop, map, ap, sym, ◌∙◌}
+use Rattle.lx_sheet.proofs.Imports.{subst, arith, nat_le, shorter, entries_up_to, Place, Sheet, level_of, AreApart, own_rows, row_at_place, width}
 use Rattle.lx_sheet.proofs.Cells.{width_of}
 use Rattle.lx_sheet.proofs.BlockReach.{covered_at}
 use Rattle.lx_sheet.proofs.Found.{look_found, look_none}

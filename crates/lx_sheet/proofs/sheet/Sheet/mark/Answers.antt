@@ -1,9 +1,5 @@
-use Rattle.std.proofs.Common.{◌≡◌, ℕ, List, ap, sym, ◌∙◌, subst, arith}
-use Rattle.lx_sheet.specs.declared.sheet.Place.{Place}
-use Rattle.lx_sheet.specs.Rows.{Sheet, is_marked}
-use Rattle.lx_sheet.specs.Block.{AreApart, own_rows, row_at_place}
-use Rattle.lx_sheet.specs.Marks.{IsMarkedFor}
-use Rattle.lx_sheet.specs.SheetMeaning.{IsMarkedAt}
+use Rattle.lx_sheet.proofs.Imports.{◌≡◌, ℕ, List, ap, sym, ◌∙◌, subst, arith, Place, Sheet, is_marked, AreApart, own_rows, row_at_place}
+use Rattle.lx_sheet.proofs.Imports.{IsMarkedFor, IsMarkedAt}
 use Rattle.lx_sheet.proofs.Found.{absent_is, place_is}
 use Rattle.lx_sheet.proofs.MarkedRows.{marked_absent, marked_anew, marked_others}
 use Rattle.lx_sheet.proofs.RowPool.{own_apart}

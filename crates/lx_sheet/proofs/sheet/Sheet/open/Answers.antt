@@ -1,8 +1,4 @@
-use Rattle.std.proofs.Common.{◌≡◌, ◌-◌, List, [], length, ap, sym, subst, arith, rules}
-use Rattle.lx_base.specs.declared.TheConstants.{CUES}
-use Rattle.lx_spec.specs.SortedList.{IsStrictlySorted}
-use Rattle.lx_sheet.specs.declared.sheet.Place.{Place}
-use Rattle.lx_sheet.specs.Block.{Covers}
+use Rattle.lx_sheet.proofs.Imports.{◌≡◌, ◌-◌, List, [], length, ap, sym, subst, arith, rules, CUES, IsStrictlySorted, Place, Covers}
 use Rattle.lx_sheet.proofs.RowPool.{listed_pool}
 use Rattle.lx_sheet.proofs.sheet.Sheet.open.Goals as goal
 

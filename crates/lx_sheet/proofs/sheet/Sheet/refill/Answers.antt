@@ -1,15 +1,6 @@
-use Rattle.std.proofs.Common.{◌≡◌, ◌+◌, ◌*◌, ◌-◌, ◌<◌, ℕ, List, length, max, take, ap, sym, ◌∙◌, subst, arith}
-use Rattle.std.specs.Prelude.{IfSome, slice_get}
-use Rattle.std.specs.List.{length_refill}
-use Rattle.lx_base.specs.declared.TheConstants.{CUES}
-use Rattle.lx_spec.specs.SortedList.{IsStrictlySorted}
-use Rattle.lx_spec.specs.Show.{Cue}
-use Rattle.lx_sheet.specs.declared.marks.Marks.{Marks}
-use Rattle.lx_sheet.specs.declared.sheet.Place.{Place}
-use Rattle.lx_sheet.specs.Rows.{Sheet}
-use Rattle.lx_sheet.specs.Block.{cell, placed_from, width}
-use Rattle.lx_sheet.specs.Marks.{IsMarkedFor}
-use Rattle.lx_sheet.specs.After.{level_after}
+use Rattle.lx_sheet.proofs.Imports.{◌≡◌, ◌+◌, ◌*◌, ◌-◌, ◌<◌, ℕ, List, length, max, take, ap, sym, ◌∙◌, subst, arith, IfSome}
+use Rattle.lx_sheet.proofs.Imports.{slice_get, length_refill, CUES, IsStrictlySorted, Cue, Marks, Place, Sheet, cell, placed_from, width, IsMarkedFor}
+use Rattle.lx_sheet.proofs.Imports.{level_after}
 use Rattle.lx_sheet.proofs.BlockReach.{covers_listed}
 use Rattle.lx_sheet.proofs.EditedShows.{IsStrictlySorted-placed_from}
 use Rattle.lx_sheet.proofs.ListedRows.{listed_stands}

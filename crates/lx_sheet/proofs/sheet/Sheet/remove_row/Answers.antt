@@ -1,17 +1,6 @@
-use Rattle.std.proofs.Common.{◌≡◌, ◌+◌, ◌*◌, ◌<◌, ◌≤◌, refl, ℕ, List, length, ap, sym, ◌∙◌, subst, arith}
-use Rattle.std.specs.Prelude.{remove}
-use Rattle.std.specs.List.{length_refill}
-use Rattle.std.specs.Vec.{with_items}
-use Rattle.std.proofs.lemmas.List.{length-map, with_items_is}
-use Rattle.lx_base.specs.declared.TheConstants.{CUES}
-use Rattle.lx_spec.specs.SortedList.{IsStrictlySorted}
-use Rattle.lx_spec.specs.Show.{Cue, Show}
-use Rattle.lx_spec.specs.EditedShow.{without_cue}
-use Rattle.lx_sheet.specs.declared.marks.Marks.{Marks}
-use Rattle.lx_sheet.specs.declared.sheet.Place.{Place}
-use Rattle.lx_sheet.specs.Block.{AreApart, Covers, own_rows, width}
-use Rattle.lx_sheet.specs.After.{FillsRows, IsLeft}
-use Rattle.lx_sheet.specs.SheetMeaning.{RowsStandFor}
+use Rattle.lx_sheet.proofs.Imports.{◌≡◌, ◌+◌, ◌*◌, ◌<◌, ◌≤◌, refl, ℕ, List, length, ap, sym, ◌∙◌, subst, arith, remove}
+use Rattle.lx_sheet.proofs.Imports.{length_refill, with_items, length-map, with_items_is, CUES, IsStrictlySorted, Cue, Show, without_cue, Marks, Place}
+use Rattle.lx_sheet.proofs.Imports.{AreApart, Covers, own_rows, width, FillsRows, IsLeft, RowsStandFor}
 use Rattle.lx_sheet.proofs.BlockReach.{covered_at, covers_lent, covers_removed}
 use Rattle.lx_sheet.proofs.RightRows.{order_of, rows_right}
 use Rattle.lx_sheet.proofs.RowPool.{own_apart, row_within}

@@ -1,17 +1,6 @@
-use Rattle.std.proofs.Common.{◌≡◌, ◌+◌, ◌*◌, ◌<◌, ◌≤◌, ℕ, List, length, ap, sym, ◌∙◌, subst, arith}
-use Rattle.std.specs.Vec.{with_items}
-use Rattle.std.specs.Prelude.{IfSome, is_some, slice_get}
-use Rattle.std.proofs.lemmas.Bool.{false≢true}
-use Rattle.std.proofs.lemmas.List.{length-map, with_items_is}
-use Rattle.lx_spec.specs.SortedList.{IsStrictlySorted}
-use Rattle.lx_spec.specs.Show.{Cue, Show}
-use Rattle.lx_spec.specs.EditedShow.{with_cue}
-use Rattle.lx_sheet.specs.declared.marks.Marks.{Marks}
-use Rattle.lx_sheet.specs.declared.sheet.Place.{Place}
-use Rattle.lx_sheet.specs.Block.{AreApart, own_rows, row_at_place}
-use Rattle.lx_sheet.specs.Marks.{IsMarkedFor}
-use Rattle.lx_sheet.specs.After.{FillsRows}
-use Rattle.lx_sheet.specs.SheetMeaning.{RowsStandFor}
+use Rattle.lx_sheet.proofs.Imports.{◌≡◌, ◌+◌, ◌*◌, ◌<◌, ◌≤◌, ℕ, List, length, ap, sym, ◌∙◌, subst, arith, with_items, IfSome}
+use Rattle.lx_sheet.proofs.Imports.{is_some, slice_get, false≢true, length-map, with_items_is, IsStrictlySorted, Cue, Show, with_cue, Marks, Place, AreApart}
+use Rattle.lx_sheet.proofs.Imports.{own_rows, row_at_place, IsMarkedFor, FillsRows, RowsStandFor}
 use Rattle.lx_sheet.proofs.Found.{absent_is, place_is, same_numbers}
 use Rattle.lx_sheet.proofs.MarkedRows.{kept_places, marked_place}
 use Rattle.lx_sheet.proofs.RightRows.{order_of}

@@ -1,10 +1,5 @@
-use Rattle.std.proofs.Common.{◌≡◌, ℕ, ◌+◌, ◌-◌, ◌*◌, List, take, drop, ap, sym, ◌∙◌, subst, Some}
-use Rattle.std.specs.Prelude.{option_map}
-use Rattle.lx_spec.specs.Replies.{row_of}
-use Rattle.lx_sheet.specs.declared.sheet.Place.{Place}
-use Rattle.lx_sheet.specs.Rows.{Sheet, row_at, numbers_of}
-use Rattle.lx_sheet.specs.SheetMeaning.{RowsStandFor}
-use Rattle.lx_sheet.specs.Block.{row_at_place, AreApart, own_rows, width}
+use Rattle.lx_sheet.proofs.Imports.{◌≡◌, ℕ, ◌+◌, ◌-◌, ◌*◌, List, take, drop, ap, sym, ◌∙◌, subst, Some, option_map, row_of, Place}
+use Rattle.lx_sheet.proofs.Imports.{Sheet, row_at, numbers_of, RowsStandFor, row_at_place, AreApart, own_rows, width}
 use Rattle.lx_sheet.proofs.Cells.{width_of}
 use Rattle.lx_sheet.proofs.Found.{absent_is, place_is, row_found, row_absent, cue_found, cue_absent}
 use Rattle.lx_sheet.proofs.RowPool.{own_apart}

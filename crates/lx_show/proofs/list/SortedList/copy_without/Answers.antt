@@ -1,7 +1,4 @@
-use Rattle.std.proofs.Common.{◌++◌, ◌∙◌, ap, sym, subst}
-use Rattle.std.specs.Prelude.{filter, not, ◌&&◌, nat_le}
-use Rattle.lx_spec.specs.SortedList.{IsStrictlySorted, entries_below}
-use Rattle.lx_spec.proofs.SortedLists.{IsStrictlySorted-filter}
+use Rattle.lx_show.proofs.Imports.{◌++◌, ◌∙◌, ap, sym, subst, filter, not, ◌&&◌, nat_le, IsStrictlySorted, entries_below, IsStrictlySorted-filter}
 use Rattle.lx_show.proofs.Stretches.{around_range}
 use Rattle.lx_show.proofs.list.SortedList.copy_without.Goals as goal
 

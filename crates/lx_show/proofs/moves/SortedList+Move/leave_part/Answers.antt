@@ -1,11 +1,6 @@
-use Rattle.std.proofs.Common.{◌≡◌, ◌∙◌, ap, sym, subst, ℕ, map, true, false, cond, refl, length, arith}
-use Rattle.std.proofs.lemmas.List.{length-map, with_items_is}
-use Rattle.std.specs.Prelude.{◌==◌}
-use Rattle.lx_spec.specs.declared.Move.{Move}
-use Rattle.lx_spec.specs.SortedList.{IsStrictlySorted}
-use Rattle.lx_spec.specs.EditedShow.{out_of_part}
+use Rattle.lx_show.proofs.Imports.{◌≡◌, ◌∙◌, ap, sym, subst, ℕ, map, true, false, cond, refl, length, arith, length-map, with_items_is, ◌==◌}
+use Rattle.lx_show.proofs.Imports.{Move, IsStrictlySorted, out_of_part, IsStrictlySorted-map}
 use Rattle.lx_show.proofs.moves.SortedList+Move.leave_part.Goals as goal
-use Rattle.lx_spec.proofs.SortedLists.{IsStrictlySorted-map}
 
 same_channel : (p : ℕ) (m : Move) → (out_of_part p m).chan ≡ m.chan
 same_channel p m = elim (m.part == p) as (λ b. (cond b (record m { part = 1 }) m).chan ≡ m.chan) [ true ↦ refl | false ↦ refl ]

@@ -1,4 +1,4 @@
-use Rattle.std.proofs.Common.{arith}
+use Rattle.lx_show.proofs.Imports.{arith}
 use Rattle.lx_show.proofs.StoredShows.{few_groups, few_subs, few_rows}
 use Rattle.lx_show.proofs.show.Show.copy.Goals as goal
 

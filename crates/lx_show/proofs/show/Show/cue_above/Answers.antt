@@ -1,11 +1,6 @@
-use Rattle.std.proofs.Common.{◌≡◌, ◌∙◌, subst, ap, ℕ, List}
-use Rattle.std.specs.Prelude.{find, nat_lt, slice_get}
-use Rattle.std.specs.Option.{option_copied}
-use Rattle.std.specs.List.{AllByRecursion}
-use Rattle.lx_spec.specs.Show.{Cue, Show, ValidCue}
-use Rattle.lx_spec.specs.TrackedLevel.{cue_above}
+use Rattle.lx_show.proofs.Imports.{◌≡◌, ◌∙◌, subst, ap, ℕ, List, find, nat_lt, slice_get, option_copied, AllByRecursion, Cue, Show, ValidCue}
+use Rattle.lx_show.proofs.Imports.{cue_above, find_first, lent_has}
 use Rattle.lx_show.proofs.show.Show.cue_above.Goals as goal
-use Rattle.lx_spec.proofs.Lists.{find_first, lent_has}
 
 found : (c : goal.After-first) → option_copied c.first.result ≡ cue_above c.args.self.now c.args.n
 found c =

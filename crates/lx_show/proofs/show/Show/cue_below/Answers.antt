@@ -1,11 +1,6 @@
-use Rattle.std.proofs.Common.{◌≡◌, ◌∙◌, subst, ap, ℕ, List, length, ◌-◌}
-use Rattle.std.specs.Prelude.{find, reverse, nat_lt, slice_get}
-use Rattle.std.specs.Option.{option_copied}
-use Rattle.std.specs.List.{AllByRecursion}
-use Rattle.lx_spec.specs.Show.{Cue, Show, ValidCue}
-use Rattle.lx_spec.specs.TrackedLevel.{cue_below}
+use Rattle.lx_show.proofs.Imports.{◌≡◌, ◌∙◌, subst, ap, ℕ, List, length, ◌-◌, find, reverse, nat_lt, slice_get, option_copied, AllByRecursion}
+use Rattle.lx_show.proofs.Imports.{Cue, Show, ValidCue, cue_below, all_reverse, find_last, lent_has}
 use Rattle.lx_show.proofs.show.Show.cue_below.Goals as goal
-use Rattle.lx_spec.proofs.Lists.{all_reverse, find_last, lent_has}
 
 found : (c : goal.After-last) → option_copied c.last.result ≡ cue_below c.args.self.now c.args.n
 found c =

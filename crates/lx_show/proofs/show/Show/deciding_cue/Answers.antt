@@ -1,10 +1,5 @@
-use Rattle.std.proofs.Common.{◌∙◌, ap, ℕ, List}
-use Rattle.std.specs.Prelude.{find, reverse}
-use Rattle.lx_spec.specs.Show.{Cue, Show}
-use Rattle.lx_spec.specs.TrackedLevel.{decides}
-use Rattle.std.specs.Prelude.{Bool, nat_le, ◌&&◌}
+use Rattle.lx_show.proofs.Imports.{◌∙◌, ap, ℕ, List, find, reverse, Cue, Show, decides, Bool, nat_le, ◌&&◌, find_both_last}
 use Rattle.lx_show.proofs.show.Show.deciding_cue.Goals as goal
-use Rattle.lx_spec.proofs.Lists.{find_both_last}
 
 pub returns : goal.returns
 returns c =

@@ -1,8 +1,4 @@
-use Rattle.std.proofs.Common.{◌≡◌, List, Some, subst, sym}
-use Rattle.lx_spec.specs.declared.Move.{Move}
-use Rattle.lx_spec.specs.SortedList.{placed}
-use Rattle.lx_spec.specs.Show.{Cue, Show, ValidCue, ValidMove}
-use Rattle.lx_spec.specs.TrackedLevel.{move_in}
+use Rattle.lx_show.proofs.Imports.{◌≡◌, List, Some, subst, sym, Move, placed, Cue, Show, ValidCue, ValidMove, move_in}
 use Rattle.lx_show.proofs.ChangedCues.{with_move}
 use Rattle.lx_show.proofs.EntriesAtPlaces.{cue_stands, cue_has, cue_some}
 use Rattle.lx_show.proofs.StoredShows.{stored_changed_cue, cue_moves_changed}

@@ -1,10 +1,5 @@
-use Rattle.std.proofs.Common.{◌∙◌, subst, ap}
-use Rattle.std.specs.Prelude.{◌==◌, List, find}
-use Rattle.std.specs.List.{AllByRecursion}
-use Rattle.lx_spec.specs.Show.{Show, ValidPatchRow}
-use Rattle.lx_spec.specs.declared.PatchRow.{PatchRow}
+use Rattle.lx_show.proofs.Imports.{◌∙◌, subst, ap, ◌==◌, List, find, AllByRecursion, Show, ValidPatchRow, PatchRow, found_has}
 use Rattle.lx_show.proofs.show.Show.patch_of.Goals as goal
-use Rattle.lx_spec.proofs.Lists.{found_has}
 
 pub returns-clause-valid : goal.returns-clause-valid
 returns-clause-valid c =

@@ -1,8 +1,4 @@
-use Rattle.std.proofs.Common.{◌≡◌, List, subst, sym}
-use Rattle.std.specs.List.{AllByRecursion}
-use Rattle.lx_spec.specs.declared.Move.{Move}
-use Rattle.lx_spec.specs.SortedList.{IsStrictlySorted}
-use Rattle.lx_spec.specs.Show.{Cue, Show, ValidMove}
+use Rattle.lx_show.proofs.Imports.{◌≡◌, List, subst, sym, AllByRecursion, Move, IsStrictlySorted, Cue, Show, ValidMove}
 use Rattle.lx_show.proofs.ChangedCues.{with_other_moves}
 use Rattle.lx_show.proofs.EntriesAtPlaces.{cue_stands, cue_has, cue_some}
 use Rattle.lx_show.proofs.StoredShows.{stored_changed_cue, cue_moves_changed}

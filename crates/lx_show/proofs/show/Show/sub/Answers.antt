@@ -1,9 +1,5 @@
-use Rattle.std.proofs.Common.{◌∙◌, subst, ap}
-use Rattle.std.specs.Prelude.{◌==◌, List, find}
-use Rattle.std.specs.List.{AllByRecursion}
-use Rattle.lx_spec.specs.Show.{Sub, Show, ValidSub}
+use Rattle.lx_show.proofs.Imports.{◌∙◌, subst, ap, ◌==◌, List, find, AllByRecursion, Sub, Show, ValidSub, lent_has}
 use Rattle.lx_show.proofs.show.Show.sub.Goals as goal
-use Rattle.lx_spec.proofs.Lists.{lent_has}
 
 pub returns-clause-valid : goal.returns-clause-valid
 returns-clause-valid c =

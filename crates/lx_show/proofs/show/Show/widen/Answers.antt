@@ -1,5 +1,4 @@
-use Rattle.std.proofs.Common.{◌≤◌, subst, sym}
-use Rattle.lx_spec.specs.Show.{Show}
+use Rattle.lx_show.proofs.Imports.{◌≤◌, subst, sym, Show}
 use Rattle.lx_show.proofs.ValidShows.{with_channels}
 use Rattle.lx_show.proofs.show.Show.widen.Goals as goal
 

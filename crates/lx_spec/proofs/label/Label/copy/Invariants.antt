@@ -1,4 +1,4 @@
-use Rattle.std.proofs.Common.{◌≡◌, take}
+use Rattle.lx_spec.proofs.Imports.{◌≡◌, take}
 use Rattle.lx_spec.proofs.label.Label.copy.Given as goal
 
 abbrev pub invariant-loop-byte : goal.invariant-loop-byte

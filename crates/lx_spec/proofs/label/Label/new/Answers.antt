@@ -1,4 +1,4 @@
-use Rattle.std.proofs.Common.{take}
+use Rattle.lx_spec.proofs.Imports.{take}
 use Rattle.lx_spec.proofs.Labels.{label_of-is}
 use Rattle.lx_spec.proofs.label.Label.new.Goals as goal
 

@@ -1,5 +1,4 @@
-use Rattle.std.proofs.Common.{◌≡◌, take}
-use Rattle.lx_spec.specs.Text.{label_of}
+use Rattle.lx_spec.proofs.Imports.{◌≡◌, take, label_of}
 use Rattle.lx_spec.proofs.label.Label.new.Given as goal
 
 abbrev pub invariant-loop-byte : goal.invariant-loop-byte

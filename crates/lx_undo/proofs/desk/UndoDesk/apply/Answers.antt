@@ -1,9 +1,4 @@
-use Rattle.std.proofs.Common.{ap, sym, subst}
-use Rattle.lx_spec.specs.Show.{Show}
-use Rattle.lx_spec.specs.Undo.{with_show}
-use Rattle.lx_edit.specs.PlanMeaning.{planned}
-use Rattle.lx_console.specs.ConsoleMeaning.{StandsFor}
-use Rattle.lx_undo.specs.UndoDeskMeaning.{UndoKept, UndoStands}
+use Rattle.lx_undo.proofs.Imports.{ap, sym, subst, Show, with_show, planned, StandsFor, UndoKept, UndoStands}
 use Rattle.lx_undo.proofs.Turns.{ready_kept, stands_kept}
 use Rattle.lx_undo.proofs.desk.UndoDesk.apply.Goals as goal
 

@@ -1,7 +1,4 @@
-use Rattle.std.proofs.Common.{◌≡◌, ap, sym, subst, refl}
-use Rattle.lx_spec.specs.Show.{Show}
-use Rattle.lx_undo.specs.Shows.{AllReady, shows_before, shows_after}
-use Rattle.lx_undo.specs.UndoDeskMeaning.{UndoStands, seen}
+use Rattle.lx_undo.proofs.Imports.{◌≡◌, ap, sym, subst, refl, Show, AllReady, shows_before, shows_after, UndoStands, seen}
 use Rattle.lx_undo.proofs.DeskSteps.{takes_key, no_edit, unchanged_with}
 use Rattle.lx_undo.proofs.SomeDesk.{answered_leaves}
 use Rattle.lx_undo.proofs.desk.UndoDesk.command.Goals as goal

@@ -1,7 +1,4 @@
-use Rattle.std.proofs.Common.{[], ◌∷◌, ◌++◌, ap, sym, subst, ◌∙◌}
-use Rattle.lx_spec.specs.Kept.{Kept}
-use Rattle.lx_undo.specs.Shows.{KeptPlans}
-use Rattle.lx_undo.specs.UndoDeskMeaning.{UndoStands}
+use Rattle.lx_undo.proofs.Imports.{[], ◌∷◌, ◌++◌, ap, sym, subst, ◌∙◌, Kept, KeptPlans, UndoStands}
 use Rattle.lx_undo.proofs.Turns.{ready_redone, steps_forth}
 use Rattle.lx_undo.proofs.desk.UndoDesk.redo.Goals as goal
 

@@ -1,4 +1,4 @@
-use Rattle.std.proofs.Common.{sym, ap, ◌++◌, ◌∷◌, [], ◌∙◌, append_assoc}
+use Rattle.lx_workers.proofs.Imports.{sym, ap, ◌++◌, ◌∷◌, [], ◌∙◌, append_assoc}
 use Rattle.lx_workers.proofs.EngineSteps.{in_step_heard, left_room}
 use Rattle.lx_workers.proofs.engine.PublisherGateWriterListener.hear.Goals as goal
 

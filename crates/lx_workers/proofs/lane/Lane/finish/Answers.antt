@@ -1,8 +1,4 @@
-use Rattle.std.proofs.Common.{rules, List, ap, subst}
-use mathlib.Core.List.{IsPrefix}
-use Rattle.lx_spec.specs.declared.Command.{Command}
-use Rattle.lx_gate.specs.Readings.{Told}
-use Rattle.lx_gate.proofs.Prefixes.{prefix_self}
+use Rattle.lx_workers.proofs.Imports.{rules, List, ap, subst, IsPrefix, Command, Told, prefix_self}
 use Rattle.lx_workers.proofs.TapSteps.{note_begins}
 use Rattle.lx_workers.proofs.LastLines.{served_learnt, delivered_part, delivered_step}
 use Rattle.lx_workers.proofs.lane.Lane.finish.Goals as goal

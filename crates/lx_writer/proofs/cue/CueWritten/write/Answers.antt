@@ -1,9 +1,5 @@
-use Rattle.std.proofs.Common.{List, ap, ◌∙◌}
-use Rattle.std.specs.Prelude.{flat_map}
-use Rattle.lx_io.proofs.Chain.{Puts-then, Puts-stops, Puts-fails, Puts-is}
+use Rattle.lx_writer.proofs.Imports.{List, ap, ◌∙◌, flat_map, Puts-then, Puts-stops, Puts-fails, Puts-is, Move, label_text, part_text}
 use Rattle.lx_spec.specs.declared.Part.{Part}
-use Rattle.lx_spec.specs.declared.Move.{Move}
-use Rattle.lx_spec.specs.ShowText.{label_text, part_text}
 use Rattle.lx_writer.proofs.cue.CueWritten.write.Goals as goal
 
 pub returns-in_err-put_block : goal.returns-in_err-put_block

@@ -1,8 +1,5 @@
-use Rattle.std.proofs.Common.{List, ℕ, [], ◌∷◌, ◌++◌, ap, sym, ◌∙◌, append_assoc}
-use Rattle.std.specs.Prelude.{flat_map, codes, decimal}
-use Rattle.lx_io.proofs.Chain.{Puts-then, Puts-is}
-use Rattle.lx_spec.specs.declared.Member.{Member}
-use Rattle.lx_spec.specs.ShowText.{label_text, member_text}
+use Rattle.lx_writer.proofs.Imports.{List, ℕ, [], ◌∷◌, ◌++◌, ap, sym, ◌∙◌, append_assoc, flat_map, codes, decimal, Puts-then, Puts-is, Member}
+use Rattle.lx_writer.proofs.Imports.{label_text, member_text}
 use Rattle.lx_writer.proofs.record.GroupWritten.write.Goals as goal
 
 pub returns : goal.returns

@@ -1,7 +1,4 @@
-use Rattle.std.proofs.Common.{[], ◌∷◌, ◌++◌, ap}
-use Rattle.std.specs.Prelude.{codes, decimal}
-use Rattle.lx_io.proofs.Chain.{Puts-then, Puts-stops, Puts-is}
-use Rattle.lx_spec.specs.ShowText.{at_text}
+use Rattle.lx_writer.proofs.Imports.{[], ◌∷◌, ◌++◌, ap, codes, decimal, Puts-then, Puts-stops, Puts-is, at_text}
 use Rattle.lx_writer.proofs.TextPieces.{patch_is}
 use Rattle.lx_writer.proofs.show.PatchRowWritten.write.Goals as goal
 

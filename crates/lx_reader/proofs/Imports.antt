@@ -1,0 +1,78 @@
+-- What the proofs of this crate import from its specs and from other crates. It declares nothing.
+pub use Rattle.std.proofs.Common.{[], ℕ, ◌%◌, ◌&&◌, ◌*◌, ◌++◌, ◌+◌, ◌-◌, ◌<◌, ◌==◌, ◌||◌, ◌∙◌, ◌∷◌, ◌≡◌}
+pub use Rattle.std.proofs.Common.{◌≤◌, add-one, ap, append-nil, append_assoc, arith, Bool, codes, cond, count_by, drop, drop-drop, eqb-true, Err, false}
+pub use Rattle.std.proofs.Common.{filter, filter_map, find, flat_map, fold, get_or, IfErr, IfOk, IfSome, if◌then◌else◌, inl, inr, is_ok, is_some, IsTrue}
+pub use Rattle.std.proofs.Common.{length, length-append, List, map, max, nat_lt, None, not, Ok, OnOk, Option, option_and_then, option_map, position, refl}
+pub use Rattle.std.proofs.Common.{replicate, Result, rules, slice_get, slice_set, Some, subst, suc, sym, take, take_all, true, unwrap_or, zero}
+pub use Rattle.lx_base.specs.declared.TheConstants.{CHANNELS, CUES, DEFAULT_CHANNELS, DEFAULT_TIME, DIMMERS, GROUPS, INPUT_BYTES, LINE_BYTES, PARTS, SUBS}
+pub use Rattle.lx_lex.proofs.CuttingOff.{cut_off, not_read, too_long}
+pub use Rattle.lx_lex.proofs.HandingOut.{handed_none, handed_one, handed_then}
+pub use Rattle.lx_lex.specs.CutOff.{NotTaken}
+pub use Rattle.lx_lex.specs.Left.{left}
+pub use Rattle.lx_lex.specs.Lines.{LinesBetween, StepOf}
+pub use Rattle.lx_lex.specs.LinesHandedOut.{HandedOut}
+pub use Rattle.lx_lex.specs.Unread.{current_line, unread}
+pub use Rattle.lx_lex.specs.declared.lines.Lines.{Lines}
+pub use Rattle.lx_reader.specs.Answer.{AnswerOf, CutShort, FaultOf, HasRead, IsLoaded, OfText, reading_of, TurnOf}
+pub use Rattle.lx_reader.specs.FieldLists.{all_pairs, all_triples, FirstIsMember, FirstIsRow, next_times, onto, record_number}
+pub use Rattle.lx_reader.specs.HandedLines.{IsCutShort, IsPastLimit, MeansFault, MeansShow}
+pub use Rattle.lx_reader.specs.LineOfCue.{ChangesCue, CueSays, facts_at, HasParts, HasRanges, is_own, LabelSays}
+pub use Rattle.lx_reader.specs.LineOutcome.{CanGoOn, facts_of, IsStep, Outcome, Said, state_of}
+pub use Rattle.lx_reader.specs.LookMoves.{last_look, look_changes, look_move, moves_up_to, with_look}
+pub use Rattle.lx_reader.specs.OpenMoves.{AreNumbered, members_of, moves_there, ReadsLevels}
+pub use Rattle.lx_reader.specs.OpenRecord.{HasPartIn, IsOpen}
+pub use Rattle.lx_reader.specs.ReadingState.{change_by, changed_in, cue_with, cue_with_entry, facts_in, final_reading, first_state, later, moves_of, new_set}
+pub use Rattle.lx_reader.specs.ReadingState.{number_begun, part_with_entry, parts_with, placed_in, ReadingState, set_with, show_with, speaks, state_after}
+pub use Rattle.lx_reader.specs.ReadingState.{with_down, with_entry, with_named, with_rows, with_set, with_up}
+pub use Rattle.lx_reader.specs.Settled.{CueFits, filled_cue, filled_set, is_open, is_record, OpenFits, PassFits, SetFits, settled, with_open}
+pub use Rattle.lx_reader.specs.declared.fault.ShowFault.{ShowFault}
+pub use Rattle.lx_reader.specs.declared.open_record.Open.{Open}
+pub use Rattle.lx_reader.specs.declared.reader.Reader.{Reader}
+pub use Rattle.lx_show.proofs.ChangedCues.{with_other_moves, with_settings}
+pub use Rattle.lx_show.proofs.Stretches.{All-all_placed, IsStrictlySorted-all_placed}
+pub use Rattle.lx_show.proofs.ValidShows.{wider, wider_cue, wider_members, wider_move, with_channels, with_cues}
+pub use Rattle.lx_show.specs.ChangedEntry.{changed}
+pub use Rattle.lx_spec.proofs.Comparisons.{above_is_other, below_is_other, eq_below, eq_from, eq_true, lt_false, lt_true}
+pub use Rattle.lx_spec.proofs.Lists.{all_append, each, find_has, kept_by}
+pub use Rattle.lx_spec.proofs.SortedLists.{above_seam, All-placed, all_at_seam, below_seam, entry_at-placed_here, entry_at-placed_other, entry_number}
+pub use Rattle.lx_spec.proofs.SortedLists.{found_valid, goes_between, has_placed, IsStrictlySorted-placed, length-placed_there, placed_again, placed_same, seam}
+pub use Rattle.lx_spec.proofs.SortedLists.{stands_between}
+pub use Rattle.lx_spec.specs.EditedShow.{new_cue, new_part}
+pub use Rattle.lx_spec.specs.Entry.{Asserts, Begins, Blocks, blocks, channels_set, clears_all, ClearsAll, cue_in, down_in, Ends, Entry, follow_in, Follows}
+pub use Rattle.lx_spec.specs.Entry.{group_in, HasChannels, HasDown, HasLevels, HasUp, Identifies, is_assert, is_end, is_skipped, IsLabelled, label_in}
+pub use Rattle.lx_spec.specs.Entry.{levels_in, link_in, Links, NamesPart, part_named, Patches, PlacedEntry, rows_in, section_begun, Skipped, sub_in, up_in}
+pub use Rattle.lx_spec.specs.Facts.{Facts, facts_after, first_facts, with_cue_named}
+pub use Rattle.lx_spec.specs.Fields.{delay_at, is_page_one, levels, number, pairs, record_entry, times, triples}
+pub use Rattle.lx_spec.specs.FirstRefusal.{◌>>=◌}
+pub use Rattle.lx_spec.specs.Limits.{desk_limits}
+pub use Rattle.lx_spec.specs.LineRules.{cue_entry, entry_by_tokens, entry_by_word, entry_of, if_few, inner_entry, members_entry}
+pub use Rattle.lx_spec.specs.Looks.{by_form, from_looks}
+pub use Rattle.lx_spec.specs.Numerals.{read_cue_no, read_level, read_time, read_whole}
+pub use Rattle.lx_spec.specs.Reading.{channels_named, count_read, cue_from, each_record, entries, group_from, label_from, last_in, last_of_each, lines_read}
+pub use Rattle.lx_spec.specs.Reading.{members_from, moves_in, numbers_begun, part_from, parts_from, reading_from, reads_lines, script_of, show_from, stands_in}
+pub use Rattle.lx_spec.specs.Reading.{sub_from}
+pub use Rattle.lx_spec.specs.Show.{Cue, InRange, IsTime, MemberSet, Show, Valid, ValidCue, ValidGroup, ValidMember, ValidMove, ValidPart, ValidSet, ValidSub}
+pub use Rattle.lx_spec.specs.SortedList.{all_placed, entries_above, entries_below, entry_at, has_entry, IsStrictlySorted, placed}
+pub use Rattle.lx_spec.specs.Text.{is_word, lines_of, tokens, without_cr}
+pub use Rattle.lx_spec.specs.TrackedLevel.{cue_of, level_in, move_in}
+pub use Rattle.lx_spec.specs.declared.Form.{Form}
+pub use Rattle.lx_spec.specs.declared.Member.{Member}
+pub use Rattle.lx_spec.specs.declared.Move.{Move}
+pub use Rattle.lx_spec.specs.declared.Part.{Part}
+pub use Rattle.lx_spec.specs.declared.PatchRow.{PatchRow}
+pub use Rattle.lx_spec.specs.declared.Section.{Section}
+pub use Rattle.lx_spec.specs.declared.Section.TheVariants.{InCue, InGroup, InSub, NoRecord, Skipping}
+pub use Rattle.lx_spec.specs.declared.TextFault.{TextFault}
+pub use Rattle.lx_spec.specs.declared.TextFault.TheVariants.{LineTooLong, NoEndData, NoIdent, OutOfRange, ShortList}
+pub use Rattle.lx_spec.specs.declared.Word.{Word}
+pub use Rattle.std.proofs.Math.Seq.{take-append_seam}
+pub use Rattle.std.proofs.lemmas.Bool.{cases_eq, false≢true}
+pub use Rattle.std.proofs.lemmas.Bool.Decides.{nat_tests}
+pub use Rattle.std.proofs.lemmas.Grind.{flat_map-append}
+pub use Rattle.std.proofs.lemmas.List.{drop-append-le, drop_all, length-map, map-append, reverse-append}
+pub use Rattle.std.proofs.lemmas.List.Elements.{filter-append, filter_map-append}
+pub use Rattle.std.proofs.lemmas.List.Folds.{list_any-append, position_or_len_push}
+pub use Rattle.std.proofs.lemmas.List.Sums.{count_by-le-length, fold-append, fold_more}
+pub use Rattle.std.specs.List.{after_last, AllByRecursion, cons_option, last_or, list_any, position_or_len, prefix_len, range_with_len, suffix_len}
+pub use Rattle.std.specs.Option.{IsSomeAnd, option_map_or}
+pub use Rattle.std.specs.Result.{IsErrAnd, IsOkAnd}
