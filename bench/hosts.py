@@ -3,7 +3,7 @@
 
 Three shows: examples/first.asc, a hall of 300 cues that each move 120 of 512 channels, and one of 2,000 cues that each move 400 of 1,024. A line
 for each call: from C the median of fifteen rounds and the least of them, from Python the least of five; of the child process the median and the
-least of 2,000 round trips of one line over its pipes, and the processor time that `render` takes for a line of a long script. Behind a figure with
+least of 2,000 round trips of one line over its pipes. Last the same lines by the library and by `render`, in eight rounds in turn. Behind a figure with
 a bound stands the bound, and `OVER` where the least is above it.
 """
 import os
@@ -78,12 +78,24 @@ def by_child(name, program, text):
     child.wait()
 
 
-def by_render(name, program, text):
-    """What a line of a long script takes, without reading it: that of as many bad lines is left out, and stands alone."""
-    count = 200_000
-    for line in ('tick 1', 'frame 1', 'master at 50'):
-        took = line_time(program, text, [line] * count, ['']) * 1e9
-        told(name, 'render: line ' + line, took, took)
+def lines_from_c(program, file):
+    """The least nanoseconds of each line that the library does."""
+    rows = (line.split('\t') for line in subprocess.run([program, file], stdout=subprocess.PIPE, check=True, text=True).stdout.splitlines())
+    return {call.removeprefix('line ').split(',')[0]: float(least) for call, _, least in rows if call.startswith('line ')}
+
+
+def beside_render(name, bench, file, program, text):
+    """The same lines by the library and by `render`, in turn and from the same cue at rest: the machine's speed changes by the second."""
+    count, before = 200_000, ['goto 1', 'settle', 'master at 50']
+    by_library, by_render = {}, {}
+    for _ in range(8):
+        rows = lines_from_c(bench, file)
+        for line in ('tick 1', 'frame 1', 'master at 50'):
+            by_library.setdefault(line, []).append(rows[line])
+            by_render.setdefault(line, []).append(line_time(program, text, before + [line] * count, before) * 1e9)
+    for line in by_library:
+        told(name, 'library: line ' + line, statistics.median(by_library[line]), min(by_library[line]))
+        told(name, 'render: line ' + line, statistics.median(by_render[line]), min(by_render[line]))
 
 
 def main():
@@ -104,7 +116,7 @@ def main():
             from_c(name, bench, file)
         from_python('hall', shows['hall'])
         by_child('hall', program, shows['hall'])
-        by_render('hall', program, shows['hall'])
+        beside_render('hall', bench, os.path.join(build, 'hall.asc'), program, shows['hall'])
 
 
 if __name__ == '__main__':
