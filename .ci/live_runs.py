@@ -5,6 +5,7 @@ last against that of all commands. `program.py` calls each of `LIVE_RUNS` with t
 """
 import contextlib
 import os
+import select
 import subprocess
 import tempfile
 import time
@@ -28,6 +29,9 @@ ALL = ("IDENT 3:0\nPATCH 1 " + " ".join(f"{u}<{512 * (u - 1) + 16 * u}@FL" for u
 # All slots of a universe have numbers of three digits, so that its lines are nearly as long as a line can be.
 FULL = ("IDENT 3:0\nPATCH 1 " + " ".join(f"1<{d}@FL" for d in range(1, 257)) + "\nPATCH 1 " + " ".join(f"1<{d}@FL" for d in range(257, 513))
         + "\nCUE 1\nUP 1\nCHAN 1@FL\nENDDATA\ngo\ntick 50\nmaster at HC8\n").encode()
+
+# The same in two universes, of which the second has one slot, at the master.
+FULL_TWO = FULL.split(b"CUE 1")[0] + b"PATCH 1 2<513@FL\nCUE 1\nUP 0\nCHAN 1@FL 2@FL\nENDDATA\ngo\n"
 
 
 def file_of(folder, universe):
@@ -209,5 +213,68 @@ def keeps_its_pace(program):
     return wrong + ([] if (got, status) == ([b"frame 0 1\n"] + [b"ok\n"] * 61, 0) else [f"status {status}, {got[:3]}"])
 
 
+def over_pipes(folder, program, universes, show):
+    """A live run whose outlets are named pipes, and the ends that are read. Its first text, with the show, is sent."""
+    for universe in range(1, universes + 1):
+        os.mkfifo(file_of(folder, universe))
+    outlets = [os.open(file_of(folder, universe), os.O_RDONLY | os.O_NONBLOCK) for universe in range(1, universes + 1)]
+    run = Started([program, "run", str(universes)], stdin=subprocess.PIPE, stdout=subprocess.PIPE, cwd=folder)
+    run.stdin.write(show)
+    run.stdin.flush()
+    return run, outlets
+
+
+def read_until(outlet, ends, seconds=10):
+    """What is read of an outlet until it ends so, or the time is up."""
+    got, end = b"", time.monotonic() + seconds
+    while not any(got.endswith(each) for each in ends) and time.monotonic() < end:
+        if select.select([outlet], [], [], 0.1)[0]:
+            got += os.read(outlet, 1 << 20)
+    return got
+
+
+def a_reader_stops(program):
+    """A reader that stops reading holds up its own outlet alone. The outlet beside it gets each version at once; the first one's lines come later."""
+    levels = [100 - n % 2 for n in range(40)]
+    with tempfile.TemporaryDirectory() as folder:
+        run, outlets = over_pipes(folder, program, 2, FULL_TWO)
+        with run:
+            wrong = []
+            for n, level in enumerate(levels):
+                run.stdin.write(b"master at %d\n" % level)
+                run.stdin.flush()
+                line = b" 1=%d\n" % (255 * level // 100 if level < 100 else 255)
+                got = read_until(outlets[1], [line])
+                if not got.endswith(line):
+                    wrong.append(f"after command {n} the second outlet ends with {got[-60:]!r}")
+                    break
+            run.stdin.close()
+            os.set_blocking(outlets[0], True)
+            rest = b"".join(pieces_of(outlets[0]))
+            status = run.wait(TIME_LIMIT)
+        for outlet in outlets:
+            os.close(outlet)
+    last = count_of(rest.splitlines()[-1]) if rest.splitlines() else -1
+    return (wrong + ([] if (status, last) == (0, len(levels) + 1) else [f"status {status}, the first outlet ends with command {last}"]))[:5]
+
+
+def ends_at_once(program):
+    """A run ends as soon as its script does, while all workers rest: not for each of them a while later."""
+    wrong = []
+    with tempfile.TemporaryDirectory() as folder, Started([program, "run", "32"], stdin=subprocess.PIPE, stdout=subprocess.PIPE, cwd=folder) as run:
+        run.stdin.write(ALL)
+        run.stdin.flush()
+        while run.stdout.readline().startswith(b"ok"):
+            pass
+        time.sleep(0.2)
+        begin = time.monotonic()
+        run.stdin.close()
+        status = run.wait(TIME_LIMIT)
+        if (took := time.monotonic() - begin) > 2 or status:
+            wrong = [f"status {status}, {took:.3f} seconds after the script's end"]
+    return wrong
+
+
 LIVE_RUNS = [three_universes, full_device, all_universes, many_commits, very_many_commands, refused_show, session_before_outlet,
-             whole_lines, published_at_once, keeps_its_pace]
+             whole_lines, published_at_once, a_reader_stops, ends_at_once,
+             keeps_its_pace]

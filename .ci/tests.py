@@ -22,7 +22,7 @@ TOP = os.path.dirname(os.path.dirname(os.path.abspath(__file__)))
 TESTS = os.path.join(TOP, ".ci", "tests")
 SECONDS = 300
 # What tests need beyond what their crate stands on.
-ALSO = {"lx_workers": ["lx_show"]}
+ALSO = {"lx_workers": ["lx_show"], "lx_groups": ["lx_io"], "lx_sheet": ["lx_io"], "lx_subs": ["lx_io"]}
 # The crate that the tests stand in.
 TRIED = "lx_tried"
 # The test of a folder CRATE.memory that says how many allocations are left after its preparation, where the one of the number LATE is

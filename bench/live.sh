@@ -1,8 +1,9 @@
 #!/usr/bin/env bash
-# A live run of 3,000 ticks over 16 universes that are all under way, beside `render` of the same script with a frame line after each tick,
-# both in memory: a copy of the program is built whose `main` keeps output and outlets, and tells how long the job took. The live run is
-# played with a pace of none, and once with beats of a millisecond, by which the workers wait when a tick comes: then the engine's own time
-# from beat to beat is told. The copy stands on the proofs of the crates here (`rt all check` first); only its `main` is proved again.
+# A live run of 3,000 ticks over 32 universes that are all under way, or over as many as the first word says, beside `render` of the same script
+# with a frame line after each tick, both in memory: a copy of the program is built whose `main` keeps output and outlets, and tells how long the
+# job took. The live run is played with a pace of none, and with beats of a millisecond, so that the workers rest when a tick comes: then the
+# engine's own time from beat to beat is told, in a fade of a minute, and in one of five seconds, in which each tick changes all slots. The copy
+# stands on the proofs of the crates here (`rt all check` first); only its `main` is proved again.
 # Run by hand on a quiet machine. `bench/live.sh files` instead plays 500 ticks by the program itself, into files, at its own pace.
 # `bench/live.sh pace [PROGRAM]` plays 3,000 ticks, a minute of show, at the program's own pace, alone and then beside two busy processes for each
 # processor, and says how late each moment of the show came by the machine's steady clock, beside the one that came earliest.
@@ -12,22 +13,25 @@ set -eu
 top=$(cd "$(dirname "$0")/.." && pwd)
 copy=$(mktemp -d)
 trap 'rm -rf "$copy"' EXIT
-python3 - "$copy" <<'PYTHON'
+universes=32
+case "${1:-}" in [0-9]*) universes=$1 ;; esac
+python3 - "$copy" "$universes" <<'PYTHON'
 import sys
-folder = sys.argv[1]
-def show(dimmers):
+folder, slots = sys.argv[1], 512 * int(sys.argv[2])
+def show(dimmers, up):
     rows = ['PATCH 1 ' + ' '.join('%d<%d@FL' % (1 + (d - 1) % 2048, d) for d in range(at, at + 64)) for at in range(1, dimmers + 1, 64)]
     moves = ['CHAN ' + ' '.join('%d@FL' % c for c in range(at, at + 64)) for at in range(1, 2049, 64)]
-    return ['IDENT 3:0', 'SET CHANNELS 2048', *rows, 'CUE 1', 'UP 1:00', *moves, 'ENDDATA']
-for name, dimmers, lines in (('live', 8192, ['go'] + ['tick'] * 3000), ('render', 8192, ['go'] + ['tick', 'frame'] * 3000),
-                             ('short', 8192, ['go'] + ['tick'] * 500), ('wide', 16384, [])):
+    return ['IDENT 3:0', 'SET CHANNELS 2048', *rows, 'CUE 1', 'UP ' + up, *moves, 'ENDDATA']
+for name, dimmers, up, lines in (('live', slots, '1:00', ['go'] + ['tick'] * 3000), ('render', slots, '1:00', ['go'] + ['tick', 'frame'] * 3000),
+                                 ('short', slots, '1:00', ['go'] + ['tick'] * 500), ('fast', slots, '5', ['go'] + ['tick'] * 250),
+                                 ('wide', 16384, '1:00', [])):
     with open(folder + '/' + name, 'w') as out:
-        out.write('\n'.join(show(dimmers) + lines) + '\n')
+        out.write('\n'.join(show(dimmers, up) + lines) + '\n')
 PYTHON
 if [ "${1:-}" = files ]; then
     cd "$copy"
-    TIMEFORMAT='500 ticks into 16 files: %R s, %U s of processor time and %S s in the system'
-    time "$top/crates/cuedesk/out/cuedesk" run 16 < short > /dev/null
+    TIMEFORMAT='500 ticks into 32 files: %R s, %U s of processor time and %S s in the system'
+    time "$top/crates/cuedesk/out/cuedesk" run 32 < short > /dev/null
     wc -l universe-*.txt | tail -1
     exit
 fi
@@ -111,14 +115,6 @@ impl Pace for Timed<'_> {
         self.last.store(self.now(), SeqCst);
     }
 
-    fn pause(&self) {
-        if self.beat > 0 {
-            thread::sleep(self.rt, Duration::from_micros(self.beat));
-        } else {
-            thread::yield_now();
-        }
-    }
-
     fn taken(&self, _universe: u8, _count: u64) {}
 }
 
@@ -188,6 +184,7 @@ if [ ! -x out/cuedesk ]; then
 fi
 for turn in 1 2 3; do
     echo "render, a frame a tick: $(out/cuedesk render < "$copy/render")"
-    echo "live, a pace of none:   $(out/cuedesk run 16 < "$copy/live" || true)"
+    echo "live, a pace of none:   $(out/cuedesk run "$universes" < "$copy/live" || true)"
+    echo "live, beats of 1 ms:    $(BEAT=1 out/cuedesk run "$universes" < "$copy/short" || true)"
+    echo "the same, a fast fade:  $(BEAT=1 out/cuedesk run "$universes" < "$copy/fast" || true)"
 done
-echo "live, beats of 1 ms:    $(BEAT=1 out/cuedesk run 16 < "$copy/short" || true)"

@@ -4,6 +4,7 @@ ghost use Rattle.std.specs.Prelude.{◌≡◌, ℕ, ◌-◌, ◌/◌, ◌≤◌,
 ghost use Rattle.std.specs.Prelude.{OnErr, IfOk, IsOkAnd};
 ghost use Rattle.std.specs.Option.{option_copied};
 ghost use Rattle.lx_base.specs.declared.TheConstants.{SLOTS, TICK_END, TICK_STEP, UNIVERSES};
+ghost use Rattle.lx_io.specs.Causes.{HasCause};
 ghost use Rattle.lx_spec.specs.Level.{level};
 ghost use Rattle.lx_spec.specs.Playback.{position_of};
 ghost use Rattle.lx_spec.specs.TrackedLevel.{cue_of, tracked};
@@ -22,6 +23,7 @@ use crate::kept_output::KeptOutput;
 use crate::player::{Applied, Player};
 use lx_base::{Chan, CueNo, Level, Moment, SubNo};
 use lx_edit::Plan;
+use lx_io::{Heap, SystemHeap};
 use lx_playback::Playback;
 use lx_show::{Command, Key, Refusal, Show};
 use std::alloc::{AllocError, Global};
@@ -60,8 +62,16 @@ impl Console {
     pub fn open(alloc: Global, show: Show) -> Result<Console, AllocError>
         ensures { IfOk result (StandsFor (opened show)) }
     {
-        let player = Player::open(alloc, show)?;
-        let mut output = KeptOutput::open(alloc, player.show())?;
+        Console::open_in(&mut SystemHeap::new(alloc), show)
+    }
+
+    /// The same, by a heap. An error comes where the heap refuses memory.
+    pub fn open_in<H: Heap>(heap: &mut H, show: Show) -> Result<Console, AllocError>
+        ensures stands { IfOk result (StandsFor (opened show)) }
+        ensures cause { HasCause (H.refusals heap.old) (H.refusals heap.new) result }
+    {
+        let player = Player::open_in(heap, show)?;
+        let mut output = KeptOutput::open_in(heap, player.show())?;
         output.fill(player.levels(), &player);
         Ok(Console { player, output })
     }

@@ -1,12 +1,14 @@
 //! What goes out: the outputs of the channels, and the slots of the dimmers.
 
 ghost use Rattle.std.specs.Prelude.{◌≡◌, length, IfOk};
+ghost use Rattle.lx_io.specs.Causes.{HasCause};
 ghost use Rattle.lx_patch.specs.DimmerTable.{StandsForPatch};
 ghost use Rattle.lx_console.specs.KeptOutput.{Reaches, SlotsStand, IsMixedOutput, ShowsPlayer, ShowedPlayer, IsPatchedBut};
 
 use crate::change::Change;
 use crate::player::Player;
 use lx_base::{Dimmer, Level, SLOTS};
+use lx_io::{Heap, SystemHeap, filled};
 use lx_mixer::mix_into;
 use lx_patch::PatchTable;
 use lx_show::Show;
@@ -32,12 +34,21 @@ impl KeptOutput {
         ensures reaches { IfOk result (Reaches show.now.channels) }
         ensures patch { IfOk result (λ output. StandsForPatch show.now.patch output.table) }
     {
+        KeptOutput::open_in(&mut SystemHeap::new(alloc), show)
+    }
+
+    /// The same, by a heap. An error comes where the heap refuses memory.
+    pub fn open_in<H: Heap>(heap: &mut H, show: &Show) -> Result<KeptOutput, AllocError>
+        ensures reaches { IfOk result (Reaches show.now.channels) }
+        ensures patch { IfOk result (λ output. StandsForPatch show.now.patch output.table) }
+        ensures cause { HasCause (H.refusals heap.old) (H.refusals heap.new) result }
+    {
         let channels = show.channels() as usize;
         Ok(KeptOutput {
-            outs: vec![in alloc; 0; channels]?,
-            mixed: vec![in alloc; 0; channels]?,
-            table: PatchTable::open(alloc, show)?,
-            slots: vec![in alloc; 0; SLOTS]?,
+            outs: filled(heap, 0, channels)?,
+            mixed: filled(heap, 0, channels)?,
+            table: PatchTable::open_in(heap, show)?,
+            slots: filled(heap, 0, SLOTS)?,
         })
     }
 

@@ -3,6 +3,7 @@
 ghost use Rattle.std.specs.Prelude.{◌≡◌, ℕ, ◌+◌, ◌-◌, ◌/◌, ◌≤◌, [], None, false, length, min, option_map, slice_set};
 ghost use Rattle.std.specs.Prelude.{OnOk, OnErr, IfOk, IfErr, IsOkAnd, IsTrue, IsFalse};
 ghost use Rattle.std.specs.Option.{option_copied};
+ghost use Rattle.lx_io.specs.Causes.{HasCause};
 ghost use Rattle.lx_base.specs.declared.TheConstants.{TICK_END, TICK_STEP};
 ghost use Rattle.lx_spec.specs.SortedList.{has_entry};
 ghost use Rattle.lx_spec.specs.Show.{Valid};
@@ -30,6 +31,7 @@ use crate::unseen::{placed_alone, seen};
 use lx_base::{Chan, CueNo, Level, Moment, SubNo};
 use lx_edit::planning::plan;
 use lx_edit::{Exchanged, Plan};
+use lx_io::{Heap, SystemHeap};
 use lx_levels::Levels;
 use lx_playback::Playback;
 use lx_sheet::Sheet;
@@ -93,13 +95,21 @@ impl Player {
     pub fn open(alloc: Global, show: Show) -> Result<Player, AllocError>
         ensures { IfOk result (StandsFor (opened show)) }
     {
-        let sheet = Sheet::open(alloc, &show)?;
-        let playback = Playback::open(alloc)?;
-        let rack = SubRack::open(alloc, &show)?;
-        let mut levels = Levels::open(alloc, &show)?;
+        Player::open_in(&mut SystemHeap::new(alloc), show)
+    }
+
+    /// The same, by a heap. An error comes where the heap refuses memory.
+    pub fn open_in<H: Heap>(heap: &mut H, show: Show) -> Result<Player, AllocError>
+        ensures stands { IfOk result (StandsFor (opened show)) }
+        ensures cause { HasCause (H.refusals heap.old) (H.refusals heap.new) result }
+    {
+        let sheet = Sheet::open_in(heap, &show)?;
+        let playback = Playback::open_in(heap)?;
+        let rack = SubRack::open_in(heap, &show)?;
+        let mut levels = Levels::open_in(heap, &show)?;
         levels.settled(&sheet, &playback);
         Ok(Player {
-            alloc,
+            alloc: heap.allocator(),
             show,
             sheet,
             playback,
@@ -325,7 +335,7 @@ impl Player {
         ensures changes { IfOk result (λ change. Changes change self.old self.new) }
         ensures playback { self.new.playback ≡ self.old.playback }
     {
-        let plan = plan(self.alloc, &self.show, edit)?;
+        let plan = plan(&mut SystemHeap::new(self.alloc), &self.show, edit)?;
         Ok(self.apply(plan).change)
     }
 

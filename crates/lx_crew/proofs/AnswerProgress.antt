@@ -5,6 +5,7 @@ use Rattle.lx_crew.proofs.Imports.{length-append, IfSome, is_some, Appends, Keep
 use Rattle.lx_crew.proofs.Imports.{CrewEntry, op_text, named, after_entry, crew_answering, crew_text, Desk, Kept, line_of, Session, begin_at, AreAllowed}
 use Rattle.lx_crew.proofs.Imports.{DeskState, begun, IsAcceptedEdit, StandsFor, Tally, meaning_is, extends_line, Entry, Line, LongLine, text_in, long_line}
 use Rattle.lx_crew.proofs.Imports.{named_line, entries_of, said, NamedAnswer, AnswersNamed, IsDoneWithEntries, AnsweredAll, AnsweredPart, HasAnswered}
+use Rattle.lx_crew.proofs.Imports.{ToldBySink}
 use Rattle.std.specs.Result.{result_err}
 use Rattle.std.proofs.KnownBytes.{Appends-nil, Appends-trans, Appends-kept}
 use Rattle.std.proofs.lemmas.Grind.{flat_map-append}
@@ -53,12 +54,12 @@ front_of a b front rest text is p = AppendsFront-from a b text (length front)
     (subst (λ (v : List ℕ). Appends a b v) (sym (ap (take (length front)) is ∙ take-append_seam front rest)) p)
 
 -- one more line was answered
-answered_line : {K : Type 0} (holds : K → Option (List ℕ)) (faults wants : K → ℕ) (sink sink' : K) (b : Bool) (d : Desk)
+answered_line : {K : Type 0} (told : ToldBySink K) (sink sink' : K) (b : Bool) (d : Desk)
     (popped : List Entry) (start : Option (List ℕ)) (console console' : Kept) (tally tally' : Tally) (entry : Entry) (e : CrewEntry)
-    → (a : AnsweredAll d popped start (holds sink) console tally) → entries_of entry.place entry.number entry.sent ≡ e ∷ []
-    → NamedAnswer holds faults wants sink sink' (Ok b) a.now (op_text e) (line_of e.line) console' tally'
-    → AnsweredAll d (popped ++ entry ∷ []) start (holds sink') console' tally'
-answered_line holds faults wants sink sink' b d popped start console console' tally tally' entry e a is m =
+    → (a : AnsweredAll d popped start (told.holds sink) console tally) → entries_of entry.place entry.number entry.sent ≡ e ∷ []
+    → NamedAnswer told sink sink' (Ok b) a.now (op_text e) (line_of e.line) console' tally'
+    → AnsweredAll d (popped ++ entry ∷ []) start (told.holds sink') console' tally'
+answered_line told sink sink' b d popped start console console' tally tally' entry e a is m =
     let w = m.answer in
     let failures = a.failures ++ w.failed ∷ [] in
     record {
@@ -66,26 +67,26 @@ answered_line holds faults wants sink sink' b d popped start console console' ta
       now = w.next;
       done = subst (λ es. IsDoneWithEntries d es failures w.next) (sym (said_more popped entry (e ∷ []) is))
           (done_more d (said popped) a.failures a.now w.next e w.failed a.done w.goes_on.is w.goes_on.allowed);
-      text = subst (λ (x : List ℕ). Appends start (holds sink') x) (sym w.text)
-          (Appends-trans start (holds m.between) (holds sink') (a.now.text ++ op_text e) w.reply
-          (Appends-trans start (holds sink) (holds m.between) a.now.text (op_text e) a.text m.named) w.puts.whole);
+      text = subst (λ (x : List ℕ). Appends start (told.holds sink') x) (sym w.text)
+          (Appends-trans start (told.holds m.between) (told.holds sink') (a.now.text ++ op_text e) w.reply
+          (Appends-trans start (told.holds sink) (told.holds m.between) a.now.text (op_text e) a.text m.named) w.puts.whole);
       counts = w.counts;
       stands = w.stands;
     }
 
 -- or a prefix of its reply was written
-answered_front : {K : Type 0} (holds : K → Option (List ℕ)) (faults wants : K → ℕ) (sink sink' : K) (f : SinkFault) (d : Desk)
+answered_front : {K : Type 0} (told : ToldBySink K) (sink sink' : K) (f : SinkFault) (d : Desk)
     (popped : List Entry) (start : Option (List ℕ)) (console console' : Kept) (tally tally' : Tally) (entry : Entry) (e : CrewEntry)
-    → (a : AnsweredAll d popped start (holds sink) console tally) → entries_of entry.place entry.number entry.sent ≡ e ∷ []
-    → NamedAnswer holds faults wants sink sink' (Err f) a.now (op_text e) (line_of e.line) console' tally'
-    → AnsweredPart d (popped ++ entry ∷ []) start (holds sink')
-answered_front holds faults wants sink sink' f d popped start console console' tally tally' entry e a is m =
+    → (a : AnsweredAll d popped start (told.holds sink) console tally) → entries_of entry.place entry.number entry.sent ≡ e ∷ []
+    → NamedAnswer told sink sink' (Err f) a.now (op_text e) (line_of e.line) console' tally'
+    → AnsweredPart d (popped ++ entry ∷ []) start (told.holds sink')
+answered_front told sink sink' f d popped start console console' tally tally' entry e a is m =
     let w = m.answer in
     let failures = a.failures ++ w.failed ∷ [] in
     let done : IsDoneWithEntries d (said (popped ++ entry ∷ [])) failures w.next =
     subst (λ es. IsDoneWithEntries d es failures w.next) (sym (said_more popped entry (e ∷ []) is))
     (done_more d (said popped) a.failures a.now w.next e w.failed a.done w.goes_on.is w.goes_on.allowed) in
-    let part = AppendsFront-is (holds m.between) (holds sink') w.reply w.puts.part in
+    let part = AppendsFront-is (told.holds m.between) (told.holds sink') w.reply w.puts.part in
     let front = (a.now.text ++ op_text e) ++ take part.0 w.reply in
     let rest = drop part.0 w.reply in
     record {
@@ -94,12 +95,11 @@ answered_front holds faults wants sink sink' f d popped start console console' t
       are = sym (append-nil (popped ++ entry ∷ []));
       failures = failures;
       allows = done.allows;
-      text = front_of start (holds sink') front rest (crew_text d (said (popped ++ entry ∷ [])) failures)
-          (ap (λ s. s.text) done.is ∙ w.text
+      text = front_of start (told.holds sink') front rest (crew_text d (said (popped ++ entry ∷ [])) failures) (ap (λ s. s.text) done.is ∙ w.text
           ∙ ap (λ v. (a.now.text ++ op_text e) ++ v) (sym (take-append-drop part.0 w.reply))
           ∙ sym (append_assoc (a.now.text ++ op_text e) (take part.0 w.reply) rest))
-          (Appends-trans start (holds m.between) (holds sink') (a.now.text ++ op_text e) (take part.0 w.reply)
-          (Appends-trans start (holds sink) (holds m.between) a.now.text (op_text e) a.text m.named) part.1);
+          (Appends-trans start (told.holds m.between) (told.holds sink') (a.now.text ++ op_text e) (take part.0 w.reply)
+          (Appends-trans start (told.holds sink) (told.holds m.between) a.now.text (op_text e) a.text m.named) part.1);
     }
 
 -- or a prefix of its name
@@ -175,38 +175,36 @@ said_long entry given is none = record {
   means = ap meaning_of none ∙ sym long_means;
 }
 
-answered_by : {K : Type 0} (holds : K → Option (List ℕ)) (faults wants : K → ℕ) (sink sink' : K) (result : Result Bool SinkFault)
+answered_by : {K : Type 0} (told : ToldBySink K) (sink sink' : K) (result : Result Bool SinkFault)
     (d : Desk) (popped : List Entry) (start : Option (List ℕ)) (console console' : Kept) (tally tally' : Tally) (entry : Entry)
-    (e : CrewEntry) → (a : AnsweredAll d popped start (holds sink) console tally)
+    (e : CrewEntry) → (a : AnsweredAll d popped start (told.holds sink) console tally)
     → entries_of entry.place entry.number entry.sent ≡ e ∷ []
-    → AnswersNamed holds faults wants sink sink' result a.now (op_text e) (line_of e.line) console' tally'
-    → HasAnswered d (popped ++ entry ∷ []) start (holds sink') console' tally' (result_err result)
-answered_by holds faults wants sink sink' (Ok b) d popped start console console' tally tally' entry e a is (inl cut) =
+    → AnswersNamed told sink sink' result a.now (op_text e) (line_of e.line) console' tally'
+    → HasAnswered d (popped ++ entry ∷ []) start (told.holds sink') console' tally' (result_err result)
+answered_by told sink sink' (Ok b) d popped start console console' tally tally' entry e a is (inl cut) =
     absurd (true≢false (sym cut.0))
-answered_by holds faults wants sink sink' (Ok b) d popped start console console' tally tally' entry e a is (inr m) =
-    answered_line holds faults wants sink sink' b d popped start console console' tally tally' entry e a is m
-answered_by holds faults wants sink sink' (Err f) d popped start console console' tally tally' entry e a is (inl cut) =
-    answered_name d popped start (holds sink) (holds sink') console tally entry e a is cut.1
-answered_by holds faults wants sink sink' (Err f) d popped start console console' tally tally' entry e a is (inr m) =
-    answered_front holds faults wants sink sink' f d popped start console console' tally tally' entry e a is m
+answered_by told sink sink' (Ok b) d popped start console console' tally tally' entry e a is (inr m) =
+    answered_line told sink sink' b d popped start console console' tally tally' entry e a is m
+answered_by told sink sink' (Err f) d popped start console console' tally tally' entry e a is (inl cut) =
+    answered_name d popped start (told.holds sink) (told.holds sink') console tally entry e a is cut.1
+answered_by told sink sink' (Err f) d popped start console console' tally tally' entry e a is (inr m) =
+    answered_front told sink sink' f d popped start console console' tally tally' entry e a is m
 
 -- one more entry was answered, where the output had no fault before
-pub answered_entry : {K : Type 0} (holds : K → Option (List ℕ)) (faults wants : K → ℕ) (sink sink' : K) (result : Result Bool SinkFault)
+pub answered_entry : {K : Type 0} (told : ToldBySink K) (sink sink' : K) (result : Result Bool SinkFault)
     (d : Desk) (popped : List Entry) (start : Option (List ℕ)) (console console' : Kept) (tally tally' : Tally) (entry : Entry)
     (given : Option (List ℕ)) (output output' : Option SinkFault) → IsSaid entry given → output ≡ None → output' ≡ result_err result
-    → FromDesk console tally (λ s. AnswersNamed holds faults wants sink sink' result s (op_text (named_line entry.place entry.number []))
-    (meaning_of given) console' tally')
-    → HasAnswered d popped start (holds sink) console tally output
-    → HasAnswered d (popped ++ entry ∷ []) start (holds sink') console' tally' output'
-answered_entry holds faults wants sink sink' result d popped start console console' tally tally' entry given output output' has none is
+    → FromDesk console tally (λ s. AnswersNamed told sink sink' result s (op_text (named_line entry.place entry.number []))
+    (meaning_of given) console' tally') → HasAnswered d popped start (told.holds sink) console tally output
+    → HasAnswered d (popped ++ entry ∷ []) start (told.holds sink') console' tally' output'
+answered_entry told sink sink' result d popped start console console' tally tally' entry given output output' has none is
     done so_far =
-    let a : AnsweredAll d popped start (holds sink) console tally =
-    subst (λ o. HasAnswered d popped start (holds sink) console tally o) none so_far in
+    let a : AnsweredAll d popped start (told.holds sink) console tally =
+    subst (λ o. HasAnswered d popped start (told.holds sink) console tally o) none so_far in
     let e = named_line entry.place entry.number has.line in
-    subst (λ o. HasAnswered d (popped ++ entry ∷ []) start (holds sink') console' tally' o) (sym is)
-    (answered_by holds faults wants sink sink' result d popped start console console' tally tally' entry e a has.said
-    (subst (λ m. AnswersNamed holds faults wants sink sink' result a.now (op_text e) m console' tally') has.means
-    (done a.now a.stands a.counts)))
+    subst (λ o. HasAnswered d (popped ++ entry ∷ []) start (told.holds sink') console' tally' o) (sym is)
+    (answered_by told sink sink' result d popped start console console' tally tally' entry e a has.said
+    (subst (λ m. AnswersNamed told sink sink' result a.now (op_text e) m console' tally') has.means (done a.now a.stands a.counts)))
 
 -- an output without a fault
 pub none_is : (output : Option SinkFault) → false ≡ is_some output → output ≡ None

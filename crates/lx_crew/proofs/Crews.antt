@@ -3,7 +3,7 @@ use Rattle.lx_crew.proofs.Imports.{◌≡◌, inl, inr, ℕ, zero, suc, ◌+◌,
 use Rattle.lx_crew.proofs.Imports.{◌++◌, length, map, slice_get, refl, sym, ap, ◌∙◌, subst, add-one, arith, AllByRecursion, Appends, slice_get_within}
 use Rattle.lx_crew.proofs.Imports.{filter-append, dec_le, Pass, SinkFault, AppendsFront, crew_session, Desk, Kept, Session, DeskState, StandsFor, Tally, Entry}
 use Rattle.lx_crew.proofs.Imports.{OperatorFault, Operator, View, said, HasAnswered, of_place, is_last, has_last, EachAt, Retired, owned, engine_view, Learned}
-use Rattle.lx_crew.proofs.Imports.{ScriptHasEnded, last_entry}
+use Rattle.lx_crew.proofs.Imports.{ScriptHasEnded, last_entry, ToldBySink, ToldBySource}
 use Rattle.lx_crew.specs.declared.fault.OperatorFault.TheVariants.{ReadFault, InputTooLong}
 use Rattle.lx_crew.specs.CrewOutcome.{ScriptIsBack, HasWrittenTranscript, HasCrewed}
 use Rattle.lx_crew.proofs.Lists.{none_front}
@@ -37,9 +37,9 @@ none_at P lines (y ∷ ys) h (suc k) past =
     none_at (λ i. P (suc i)) (λ i z p. lines (suc i) z p) ys (λ i z e. h (suc i) z e) k (omega (arith, past))
 
 -- the lines of the operator at a place
-abbrev pub lines_of : {S : Type 0} (left : S → Option (List ℕ)) (faults : S → ℕ) (Its : Pass Entry View → Type 0) (places : List (Option S))
-    (ys : List (Operator S)) → EachAt (Retired left faults Its places) ys → ℕ → List (List ℕ)
-lines_of left faults Its places ys h = lines_from (Retired left faults Its places) (λ k y r. r.sent.lines) ys h
+abbrev pub lines_of : {S : Type 0} (told : ToldBySource S) (Its : Pass Entry View → Type 0) (places : List (Option S))
+    (ys : List (Operator S)) → EachAt (Retired told Its places) ys → ℕ → List (List ℕ)
+lines_of told Its places ys h = lines_from (Retired told Its places) (λ k y r. r.sent.lines) ys h
 
 last_ends : (fault : Option OperatorFault) → is_last (last_entry fault) ≡ true
 last_ends None = refl
@@ -47,24 +47,24 @@ last_ends (Some ReadFault) = refl
 last_ends (Some InputTooLong) = refl
 
 -- Each operator's entries among what was popped are those of its lines.
-sent_at : {S : Type 0} (left : S → Option (List ℕ)) (faults : S → ℕ) (Its : Pass Entry View → Type 0) (places : List (Option S))
-    (ys : List (Operator S)) (popped items : List Entry) (n : ℕ) (h : EachAt (Retired left faults Its places) ys) → length ys ≡ n
+sent_at : {S : Type 0} (told : ToldBySource S) (Its : Pass Entry View → Type 0) (places : List (Option S))
+    (ys : List (Operator S)) (popped items : List Entry) (n : ℕ) (h : EachAt (Retired told Its places) ys) → length ys ≡ n
     → Learned (engine_view n popped (map owned ys ++ [])) items → ((k : ℕ) → k < n → has_last (of_place k popped) ≡ true) → (k : ℕ)
-    → Dec (n ≤ k) → SentAt (lines_of left faults Its places ys h) k (of_place k popped)
-sent_at left faults Its places ys popped items n h len learned ended k (yes past) =
+    → Dec (n ≤ k) → SentAt (lines_of told Its places ys h) k (of_place k popped)
+sent_at told Its places ys popped items n h len learned ended k (yes past) =
     inr (
       none_front (of_place k popped) (of_place k items)
           (sym (filter-append (λ (x : Entry). x.place == k) popped items) ∙ learned.others k past),
-      none_at (Retired left faults Its places) (λ k y r. r.sent.lines) ys h k (omega (arith, len, past)),
+      none_at (Retired told Its places) (λ k y r. r.sent.lines) ys h k (omega (arith, len, past)),
     )
-sent_at left faults Its places ys popped items n h len learned ended k (no within) =
+sent_at told Its places ys popped items n h len learned ended k (no within) =
     let y = get_at ys k (omega (arith, len, within)) in
-    let t = told_at (Retired left faults Its places) (λ k y r. r.sent.lines) ys h k y.0 y.1 in
+    let t = told_at (Retired told Its places) (λ k y r. r.sent.lines) ys h k y.0 y.1 in
     let s = t.0.sent in
     inl (subst (AllSent k (of_place k popped)) (sym t.1) (record {
       front = s.entries;
       last = s.last;
-      are = complete left faults Its places ys popped items learned.lists k y.0 y.1 t.0 (ended k (omega (arith, within)));
+      are = complete told Its places ys popped items learned.lists k y.0 y.1 t.0 (ended k (omega (arith, within)));
       have = s.have;
       ends = ap is_last s.ends ∙ last_ends y.0.fault;
     }))
@@ -97,56 +97,55 @@ written d lines popped held held' console tally (Some fault) sent a =
     }
 
 -- An operator's source is back, and its lines are these.
-back_at : {S : Type 0} (left : S → Option (List ℕ)) (faults : S → ℕ) (Its : Pass Entry View → Type 0) (places places' : List (Option S))
-    (told : List (Option OperatorFault)) (ys : List (Operator S)) (h : EachAt (Retired left faults Its places) ys)
+back_at : {S : Type 0} (told_in : ToldBySource S) (Its : Pass Entry View → Type 0) (places places' : List (Option S))
+    (told : List (Option OperatorFault)) (ys : List (Operator S)) (h : EachAt (Retired told_in Its places) ys)
     → length ys ≡ length places → EachAt (λ k y. slice_get places' k ≡ Some (Some y.source)) ys
     → EachAt (λ k y. slice_get told k ≡ Some y.fault) ys → (place : ℕ) (start : S) → slice_get places place ≡ Some (Some start)
-    → ScriptIsBack left faults places' told place start (by_number (lines_of left faults Its places ys h) (place + 1))
-back_at left faults Its places places' told ys h len back says place start at =
+    → ScriptIsBack told_in places' told place start (by_number (lines_of told_in Its places ys h) (place + 1))
+back_at told_in Its places places' told ys h len back says place start at =
     let within = slice_get_within places place (Some start) at in
     let y = get_at ys place (omega (arith, len, within)) in
-    let t = told_at (Retired left faults Its places) (λ k y r. r.sent.lines) ys h place y.0 y.1 in
+    let t = told_at (Retired told_in Its places) (λ k y r. r.sent.lines) ys h place y.0 y.1 in
     let r = t.0 in
     let own : Some (Some r.start) ≡ Some (Some start) = sym r.source ∙ at in
     let from : r.start ≡ start = cc in
-    let lines = lines_of left faults Its places ys h in
+    let lines = lines_of told_in Its places ys h in
     let are : r.sent.lines ≡ by_number lines (place + 1) = sym (ap (by_number lines) (add-one place) ∙ t.1) in record {
       source = y.0.source;
       fault = y.0.fault;
       place_is = back place y.0 y.1;
       fault_is = says place y.0 y.1;
-      ended = subst (λ s. ScriptHasEnded left faults s y.0.source y.0.fault (by_number lines (place + 1))) from
-          (subst (λ ls. ScriptHasEnded left faults r.start y.0.source y.0.fault ls) are r.sent.ended);
+      ended = subst (λ s. ScriptHasEnded told_in s y.0.source y.0.fault (by_number lines (place + 1))) from
+          (subst (λ ls. ScriptHasEnded told_in r.start y.0.source y.0.fault ls) are r.sent.ended);
     }
 
-no_more : {S : Type 0} (left : S → Option (List ℕ)) (faults : S → ℕ) (Its : Pass Entry View → Type 0) (places : List (Option S))
-    (ys : List (Operator S)) (h : EachAt (Retired left faults Its places) ys) → length ys ≡ length places → (operator : ℕ)
-    → length places < operator → by_number (lines_of left faults Its places ys h) operator ≡ []
-no_more left faults Its places ys h len zero past = refl
-no_more left faults Its places ys h len (suc k) past =
-    none_at (Retired left faults Its places) (λ k y r. r.sent.lines) ys h k (omega (arith, len, past))
+no_more : {S : Type 0} (told : ToldBySource S) (Its : Pass Entry View → Type 0) (places : List (Option S))
+    (ys : List (Operator S)) (h : EachAt (Retired told Its places) ys) → length ys ≡ length places → (operator : ℕ)
+    → length places < operator → by_number (lines_of told Its places ys h) operator ≡ []
+no_more told Its places ys h len zero past = refl
+no_more told Its places ys h len (suc k) past =
+    none_at (Retired told Its places) (λ k y r. r.sent.lines) ys h k (omega (arith, len, past))
 
-pub crewed : {S K : Type 0} (left : S → Option (List ℕ)) (faults : S → ℕ) (holds : K → Option (List ℕ)) (Its : Pass Entry View → Type 0)
-    (d : Desk)
+pub crewed : {S K : Type 0} (told_in : ToldBySource S) (told_out : ToldBySink K) (Its : Pass Entry View → Type 0) (d : Desk)
     (places places' : List (Option S)) (sink sink' : K) (console : Kept) (tally : Tally) (output : Option SinkFault)
     (told : List (Option OperatorFault)) (ys : List (Operator S)) (popped items : List Entry) (n : ℕ)
-    → EachAt (Retired left faults Its places) ys → length ys ≡ n → n ≡ length places → Learned
+    → EachAt (Retired told_in Its places) ys → length ys ≡ n → n ≡ length places → Learned
     (engine_view n popped (map owned ys ++ [])) items
     → ((k : ℕ) → k < n → has_last (of_place k popped) ≡ true) → length places' ≡ length places
     → EachAt (λ k y. slice_get places' k ≡ Some (Some y.source)) ys → EachAt (λ k y. slice_get told k ≡ Some y.fault) ys
     → ((place : ℕ) (fault : OperatorFault) → slice_get told place ≡ Some (Some fault) → place < length places)
-    → HasAnswered d popped (holds sink) (holds sink') console tally output
-    → HasCrewed left faults holds d places places' sink sink' console tally output told
-crewed left faults holds Its d places places' sink sink' console tally output told ys popped items n h len all learned ended same back says
+    → HasAnswered d popped (told_out.holds sink) (told_out.holds sink') console tally output
+    → HasCrewed told_in told_out d places places' sink sink' console tally output told
+crewed told_in told_out Its d places places' sink sink' console tally output told ys popped items n h len all learned ended same back says
     others answered =
     let count : length ys ≡ length places = len ∙ all in
-    let lines = lines_of left faults Its places ys h in record {
+    let lines = lines_of told_in Its places ys h in record {
       lines = by_number lines;
       same_places = same;
-      each = back_at left faults Its places places' told ys h count back says;
+      each = back_at told_in Its places places' told ys h count back says;
       none = refl;
-      no_more = no_more left faults Its places ys h count;
+      no_more = no_more told_in Its places ys h count;
       others = others;
-      written = written d lines popped (holds sink) (holds sink') console tally output
-          (λ k. sent_at left faults Its places ys popped items n h len learned ended k (dec_le n k)) answered;
+      written = written d lines popped (told_out.holds sink) (told_out.holds sink') console tally output
+          (λ k. sent_at told_in Its places ys popped items n h len learned ended k (dec_le n k)) answered;
     }

@@ -1,7 +1,7 @@
 -- What the engine came to, with one more entry.
 use Rattle.lx_crew.proofs.Imports.{◌≡◌, ◌⊎◌, inl, inr, ⊎_elim, ℕ, ◌≤◌, Bool, true, Option, Some, List, [], ◌∷◌, ◌++◌, slice_get}
 use Rattle.lx_crew.proofs.Imports.{refl, ap, sym, subst, ◌∙◌, arith, SinkFault, Rose, Desk, Kept, Tally, Entry, View, of_place, is_last, has_last}
-use Rattle.lx_crew.proofs.Imports.{engine_view, Takes, HasAnswered, Marked, OutputCause}
+use Rattle.lx_crew.proofs.Imports.{engine_view, Takes, HasAnswered, Marked, OutputCause, ToldBySink}
 use Rattle.lx_io.specs.declared.sink.SinkFault.TheVariants.{Failed, Memory}
 use Rattle.lx_crew.proofs.Lists.{last_on, last_here}
 
@@ -15,9 +15,8 @@ pub ended_on : (before after : List Bool) (popped : List Entry) (e : Entry) → 
 ended_on before after popped e m h k is =
     ⊎_elim (λ b. last_on k popped e (h k b)) (λ (b : (e.place ≡ k) × (is_last e.sent ≡ true)). last_here k popped e b.0 b.1) (m k is)
 
-pub cause_none : {K : Type 0} (faults wants : K → ℕ) (sink : K) (output : Option SinkFault)
-    → OutputCause faults wants sink sink output output
-cause_none faults wants sink output = record {
+pub cause_none : {K : Type 0} (told : ToldBySink K) (sink : K) (output : Option SinkFault) → OutputCause told sink sink output output
+cause_none told sink output = record {
   later = omega arith;
   wants_later = omega arith;
   failed = λ is. inl is;
@@ -38,9 +37,9 @@ either_rose m n o P Q one two first second =
     (λ (rose : Rose n o). inr (rose_from m n o one rose)) second
 
 -- one step, and then another
-pub cause_then : {K : Type 0} (faults wants : K → ℕ) (a b c : K) (x y z : Option SinkFault) → OutputCause faults wants a b x y
-    → OutputCause faults wants b c y z → OutputCause faults wants a c x z
-cause_then faults wants a b c x y z p q =
+pub cause_then : {K : Type 0} (told : ToldBySink K) (a b c : K) (x y z : Option SinkFault) → OutputCause told a b x y
+    → OutputCause told b c y z → OutputCause told a c x z
+cause_then told a b c x y z p q =
     let later = p.later in
     let then = q.later in
     let wants_later = p.wants_later in
@@ -48,8 +47,8 @@ cause_then faults wants a b c x y z p q =
     record {
       later = omega (arith, later, then);
       wants_later = omega (arith, wants_later, wants_then);
-      failed = λ is. either_rose (faults a) (faults b) (faults c) (x ≡ Some Failed) (y ≡ Some Failed) later then p.failed (q.failed is);
-      memory = λ is. either_rose (wants a) (wants b) (wants c) (x ≡ Some Memory) (y ≡ Some Memory) wants_later wants_then p.memory
+      failed = λ is. either_rose (told.faults a) (told.faults b) (told.faults c) (x ≡ Some Failed) (y ≡ Some Failed) later then p.failed (q.failed is);
+      memory = λ is. either_rose (told.wants a) (told.wants b) (told.wants c) (x ≡ Some Memory) (y ≡ Some Memory) wants_later wants_then p.memory
           (q.memory is);
       kept = λ none.
           let last = q.kept none in
@@ -58,10 +57,10 @@ cause_then faults wants a b c x y z p q =
     }
 
 -- nothing was answered, and nothing was written
-pub answered_same : {K : Type 0} (holds : K → Option (List ℕ)) (sink sink' : K) (d : Desk) (popped : List Entry) (start : Option (List ℕ))
+pub answered_same : {K : Type 0} (told : ToldBySink K) (sink sink' : K) (d : Desk) (popped : List Entry) (start : Option (List ℕ))
     (console console' : Kept) (tally tally' : Tally) (output output' : Option SinkFault) → sink' ≡ sink → console' ≡ console
-    → tally' ≡ tally → output' ≡ output → HasAnswered d popped start (holds sink) console tally output
-    → HasAnswered d popped start (holds sink') console' tally' output'
-answered_same {K} holds sink sink' d popped start console console' tally tally' output output' s c t o so_far =
-    subst (λ (x : K × Kept × Tally × Option SinkFault). HasAnswered d popped start (holds x.0) x.1 x.2 x.3)
+    → tally' ≡ tally → output' ≡ output → HasAnswered d popped start (told.holds sink) console tally output
+    → HasAnswered d popped start (told.holds sink') console' tally' output'
+answered_same {K} told sink sink' d popped start console console' tally tally' output output' s c t o so_far =
+    subst (λ (x : K × Kept × Tally × Option SinkFault). HasAnswered d popped start (told.holds x.0) x.1 x.2 x.3)
     (λ i. (sym s i, sym c i, sym t i, sym o i)) so_far

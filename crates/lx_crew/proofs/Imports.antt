@@ -24,6 +24,7 @@ pub use Rattle.lx_crew.specs.declared.rule.View.{View}
 pub use Rattle.lx_io.specs.Causes.{Rose}
 pub use Rattle.lx_io.specs.Puts.{AppendsFront}
 pub use Rattle.lx_io.specs.declared.sink.SinkFault.{SinkFault}
+pub use Rattle.lx_io.specs.Told.{ToldBySink, ToldBySource}
 pub use Rattle.lx_lex.proofs.HandingOut.{handed_none, handed_one, handed_then}
 pub use Rattle.lx_session.proofs.HeardLines.{extends_line, meaning_is}
 pub use Rattle.lx_session.specs.declared.tally.Tally.{Tally}

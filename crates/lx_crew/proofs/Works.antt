@@ -4,7 +4,7 @@ use Rattle.lx_crew.proofs.Imports.{◌++◌, length, map, set, get_or, slice_get
 use Rattle.lx_crew.proofs.Imports.{⊎_elim, ◌⊎◌, take, drop, drop_of_length-le, append-nil, arith, AllByRecursion, AllZip, All, ℕ_discrete}
 use Rattle.lx_crew.proofs.Imports.{slice_get_read, slice_get-get_or, AllZip-long, take-length, Entry, View, Operator, of_place, is_last, has_last, HasText}
 use Rattle.lx_crew.proofs.Imports.{HaveLines, Sent, Line, LongLine, End, ReadFault, InputTooLong, engine_view, operator_view, HasSentLines, EachAt}
-use Rattle.lx_crew.proofs.Imports.{HasRunOperator, Hired, HasSentNothing, Works, Retired, owned, filter-append, view, Pass, IsSamePass}
+use Rattle.lx_crew.proofs.Imports.{HasRunOperator, Hired, HasSentNothing, Works, Retired, owned, filter-append, view, Pass, IsSamePass, ToldBySource}
 use Rattle.lx_crew.proofs.Lists.{or_none, none_behind, tail_of, head_last}
 
 pub each_zip : {A B : Type 0} (R : A → B → Type 0) (P : ℕ → A → Type 0) (Q : ℕ → B → Type 0) (xs : List A) (ys : List B) → AllZip R xs ys
@@ -112,22 +112,21 @@ get_at [] k lt = absurd (omega (arith, lt))
 get_at (x ∷ xs) zero lt = (x, refl)
 get_at (x ∷ xs) (suc k) lt = get_at xs k (omega (arith, lt))
 
-pub retired : {S : Type 0} (left : S → Option (List ℕ)) (faults : S → ℕ) (Its : Pass Entry View → Type 0)
+pub retired : {S : Type 0} (told : ToldBySource S) (Its : Pass Entry View → Type 0)
     (carry : (p q : Pass Entry View) → IsSamePass p q → Its p → Its q)
-    (places : List (Option S)) (xs ys : List (Operator S)) → AllZip (HasRunOperator left faults) xs ys → EachAt (Hired Its places) xs → EachAt
-    (Retired left faults Its places) ys
-retired left faults Its carry places xs ys z h = each_zip (HasRunOperator left faults) (Hired Its places) (Retired left faults Its places) xs ys z h
+    (places : List (Option S)) (xs ys : List (Operator S)) → AllZip (HasRunOperator told) xs ys → EachAt (Hired Its places) xs → EachAt
+    (Retired told Its places) ys
+retired told Its carry places xs ys z h = each_zip (HasRunOperator told) (Hired Its places) (Retired told Its places) xs ys z h
     (λ k x y p r. record {
       its = carry x.pass y.pass r.0 p.its;
       start = x.source;
       source = p.source;
-      sent = subst (λ (n : ℕ). HasSentLines left faults n x.source y.source (view y.pass) y.fault) p.place r.1;
+      sent = subst (λ (n : ℕ). HasSentLines told n x.source y.source (view y.pass) y.fault) p.place r.1;
     })
 
-pub retired_works : {S : Type 0} (left : S → Option (List ℕ)) (faults : S → ℕ) (Its : Pass Entry View → Type 0) (places : List (Option S))
-    (ys : List (Operator S))
-    → EachAt (Retired left faults Its places) ys → EachAt (Works Its) ys
-retired_works left faults Its places ys h k y is = let r = h k y is in (r.its, ap (λ (v : View). v.pushes) r.sent.view)
+pub retired_works : {S : Type 0} (told : ToldBySource S) (Its : Pass Entry View → Type 0) (places : List (Option S)) (ys : List (Operator S))
+    → EachAt (Retired told Its places) ys → EachAt (Works Its) ys
+retired_works told Its places ys h k y is = let r = h k y is in (r.its, ap (λ (v : View). v.pushes) r.sent.view)
 
 text_not_last : (s : Sent) (text : List ℕ) → HasText s text → is_last s ≡ false
 text_not_last (Line l) text h = refl
@@ -148,11 +147,11 @@ whole place n (k ∷ es) (l ∷ ls) last (x ∷ xs) ys h e is =
     (or_none (is_last x.sent) (has_last xs) (ap (λ (l : List Entry). head_last l) e ∙ text_not_last k.sent l h.1.1.0) is)
 
 -- an operator's entries among what was popped are all that it pushed
-pub complete : {S : Type 0} (left : S → Option (List ℕ)) (faults : S → ℕ) (Its : Pass Entry View → Type 0) (places : List (Option S))
+pub complete : {S : Type 0} (told : ToldBySource S) (Its : Pass Entry View → Type 0) (places : List (Option S))
     (ys : List (Operator S)) (popped items : List Entry) → AllByRecursion (λ (p : ℕ × List Entry). p.1 ≡ of_place p.0 (popped ++ items))
-    (map owned ys ++ []) → (k : ℕ) (y : Operator S) → slice_get ys k ≡ Some y → (r : Retired left faults Its places k y)
+    (map owned ys ++ []) → (k : ℕ) (y : Operator S) → slice_get ys k ≡ Some y → (r : Retired told Its places k y)
     → has_last (of_place k popped) ≡ true → of_place k popped ≡ r.sent.entries ++ r.sent.last ∷ []
-complete left faults Its places ys popped items kept k y is r ended =
+complete told Its places ys popped items kept k y is r ended =
     let s = r.sent in
     let own : (view y.pass).pushed ≡ of_place (view y.pass).place (popped ++ items) =
     map_at (λ (p : ℕ × List Entry). p.1 ≡ of_place p.0 (popped ++ items)) owned ys [] kept k y is in

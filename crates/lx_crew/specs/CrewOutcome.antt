@@ -1,6 +1,7 @@
 -- What a crew comes to.
 use Rattle.std.specs.Prelude.{◌≡◌, ℕ, ◌+◌, ◌<◌, List, [], length, Option, Some, None, slice_get}
 use Rattle.lx_io.specs.declared.sink.SinkFault.{SinkFault}
+use Rattle.lx_io.specs.Told.{ToldBySink, ToldBySource}
 use Rattle.lx_spec.specs.Desk.{Desk}
 use Rattle.lx_spec.specs.Kept.{Kept}
 use Rattle.lx_session.specs.declared.tally.Tally.{Tally}
@@ -9,13 +10,13 @@ use Rattle.lx_crew.specs.Scripts.{ScriptHasEnded}
 use Rattle.lx_crew.specs.Transcripts.{WholeTranscript, TranscriptPrefix}
 
 -- an operator's source is back in its place, and these were its lines
-pub record ScriptIsBack {S : Type 0} (left : S → Option (List ℕ)) (faults : S → ℕ) (places : List (Option S)) (told : List (Option OperatorFault))
+pub record ScriptIsBack {S : Type 0} (told_in : ToldBySource S) (places : List (Option S)) (told : List (Option OperatorFault))
     (place : ℕ) (start : S) (lines : List (List ℕ)) : Type 0 where
   pub source : S
   pub fault : Option OperatorFault
   pub place_is : slice_get places place ≡ Some (Some source)
   pub fault_is : slice_get told place ≡ Some fault
-  pub ended : ScriptHasEnded left faults start source fault lines
+  pub ended : ScriptHasEnded told_in start source fault lines
 
 -- the transcript, or a prefix of one where the output had a fault
 abbrev pub HasWrittenTranscript : Desk → (ℕ → List (List ℕ)) → (held held' : Option (List ℕ)) → Kept → Tally → Option SinkFault → Type 0
@@ -23,14 +24,14 @@ HasWrittenTranscript d lines held held' console tally None = WholeTranscript d l
 HasWrittenTranscript d lines held held' console tally (Some fault) = TranscriptPrefix d lines held held'
 
 -- Each place has its source again. `lines` are each operator's, which are numbered from 1; past them there are none, and no fault is told.
-pub record HasCrewed {S K : Type 0} (left : S → Option (List ℕ)) (reads : S → ℕ) (holds : K → Option (List ℕ)) (d : Desk)
+pub record HasCrewed {S K : Type 0} (told_in : ToldBySource S) (told_out : ToldBySink K) (d : Desk)
     (places places' : List (Option S)) (sink sink' : K) (console : Kept) (tally : Tally) (output : Option SinkFault)
     (told : List (Option OperatorFault)) : Type 0 where
   pub lines : ℕ → List (List ℕ)
   pub same_places : length places' ≡ length places
   pub each : (place : ℕ) (start : S) → slice_get places place ≡ Some (Some start)
-      → ScriptIsBack left reads places' told place start (lines (place + 1))
+      → ScriptIsBack told_in places' told place start (lines (place + 1))
   pub none : lines 0 ≡ []
   pub no_more : (operator : ℕ) → length places < operator → lines operator ≡ []
   pub others : (place : ℕ) (fault : OperatorFault) → slice_get told place ≡ Some (Some fault) → place < length places
-  pub written : HasWrittenTranscript d lines (holds sink) (holds sink') console tally output
+  pub written : HasWrittenTranscript d lines (told_out.holds sink) (told_out.holds sink') console tally output

@@ -7,6 +7,7 @@ use Rattle.lx_io.specs.declared.sink.SinkFault.{SinkFault}
 use Rattle.lx_io.specs.declared.sink.SinkFault.TheVariants.{Failed, Memory}
 use Rattle.lx_io.specs.Causes.{Rose}
 use Rattle.lx_io.specs.Puts.{AppendsFront}
+use Rattle.lx_io.specs.Told.{ToldBySink}
 use Rattle.lx_spec.specs.declared.Line.{Line as Meant}
 use Rattle.lx_spec.specs.CrewText.{CrewEntry, crew_session, crew_text, CrewAllows}
 use Rattle.lx_spec.specs.Desk.{Desk}
@@ -45,17 +46,17 @@ abbrev pub said : List Entry → List CrewEntry
 said entries = flat_map (λ (e : Entry). entries_of e.place e.number e.sent) entries
 
 -- The name of a line was written and the line done and answered, or a prefix of the name was written.
-pub record NamedAnswer {K : Type 0} (holds : K → Option (List ℕ)) (faults wants : K → ℕ) (sink sink' : K) (result : Result Bool SinkFault)
+pub record NamedAnswer {K : Type 0} (told : ToldBySink K) (sink sink' : K) (result : Result Bool SinkFault)
     (s : Session DeskState) (name : List ℕ) (meaning : Option Meant) (console : Kept) (tally : Tally) : Type 0 where
   pub between : K
-  pub named : Appends (holds sink) (holds between) name
-  pub answer : LineAnswer true (λ commands. Unit {0}) holds faults wants between sink' result (with_text s name) meaning console tally
+  pub named : Appends (told.holds sink) (told.holds between) name
+  pub answer : LineAnswer true (λ commands. Unit {0}) told between sink' result (with_text s name) meaning console tally
 
-abbrev pub AnswersNamed : {K : Type 0} → (K → Option (List ℕ)) → (K → ℕ) → (K → ℕ) → (sink sink' : K) → Result Bool SinkFault
+abbrev pub AnswersNamed : {K : Type 0} → ToldBySink K → (sink sink' : K) → Result Bool SinkFault
     → Session DeskState → List ℕ → Option Meant → Kept → Tally → Type 0
-AnswersNamed holds faults wants sink sink' result s name meaning console tally =
-    (IsErr result × AppendsFront (holds sink) (holds sink') name)
-    ⊎ NamedAnswer holds faults wants sink sink' result s name meaning console tally
+AnswersNamed told sink sink' result s name meaning console tally =
+    (IsErr result × AppendsFront (told.holds sink) (told.holds sink') name)
+    ⊎ NamedAnswer told sink sink' result s name meaning console tally
 
 -- The entries are done from a desk on, of each is told which attempt failed, if one did, and the session has come so far.
 pub record IsDoneWithEntries (d : Desk) (entries : List CrewEntry) (failures : List (Option ℕ)) (now : Session DeskState) : Type 0 where
@@ -88,12 +89,12 @@ HasAnswered d popped held held' console tally (Some fault) = AnsweredPart d popp
 
 -- Neither count of the output has fallen, and a fault that is new comes only where its own count rose. Where there is none now, there was
 -- none before, and both counts stand as they were.
-pub record OutputCause {K : Type 0} (faults wants : K → ℕ) (old new : K) (before after : Option SinkFault) : Type 0 where
-  pub later : faults old ≤ faults new
-  pub wants_later : wants old ≤ wants new
-  pub failed : after ≡ Some Failed → (before ≡ Some Failed) ⊎ Rose (faults old) (faults new)
-  pub memory : after ≡ Some Memory → (before ≡ Some Memory) ⊎ Rose (wants old) (wants new)
-  pub kept : after ≡ None → (before ≡ None) × (faults new ≡ faults old) × (wants new ≡ wants old)
+pub record OutputCause {K : Type 0} (told : ToldBySink K) (old new : K) (before after : Option SinkFault) : Type 0 where
+  pub later : told.faults old ≤ told.faults new
+  pub wants_later : told.wants old ≤ told.wants new
+  pub failed : after ≡ Some Failed → (before ≡ Some Failed) ⊎ Rose (told.faults old) (told.faults new)
+  pub memory : after ≡ Some Memory → (before ≡ Some Memory) ⊎ Rose (told.wants old) (told.wants new)
+  pub kept : after ≡ None → (before ≡ None) × (told.faults new ≡ told.faults old) × (told.wants new ≡ told.wants old)
 
 -- a place that is set now was set before, or the entry is the last of that operator
 abbrev pub Marked : Entry → List Bool → List Bool → Type 0
@@ -110,11 +111,11 @@ pub record NextEntry (v w : View) (held held' : Option (List ℕ)) (console cons
       → HasAnswered d (popped ++ entry ∷ []) start held' console' tally' output'
 
 -- The engine took entries to the last of each operator and answered them. Where the output had no fault it keeps nothing back.
-pub record HasServedEntries {K : Type 0} (holds : K → Option (List ℕ)) (back : K → List ℕ) (faults wants : K → ℕ) (operators : ℕ) (v : View)
+pub record HasServedEntries {K : Type 0} (told : ToldBySink K) (operators : ℕ) (v : View)
     (sink sink' : K) (console console' : Kept) (tally : Tally) (output : Option SinkFault) : Type 0 where
   pub popped : List Entry
   pub view : v ≡ engine_view operators popped []
   pub ended : (k : ℕ) → k < operators → has_last (of_place k popped) ≡ true
-  pub answered : (d : Desk) → StandsFor d console → HasAnswered d popped (holds sink) (holds sink') console' tally output
-  pub cause : OutputCause faults wants sink sink' None output
-  pub handed_on : output ≡ None → back sink' ≡ []
+  pub answered : (d : Desk) → StandsFor d console → HasAnswered d popped (told.holds sink) (told.holds sink') console' tally output
+  pub cause : OutputCause told sink sink' None output
+  pub handed_on : output ≡ None → told.back sink' ≡ []

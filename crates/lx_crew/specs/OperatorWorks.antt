@@ -1,5 +1,6 @@
 -- The works of the operators.
 use Rattle.std.specs.Prelude.{◌≡◌, ℕ, true, List, [], Option, Some, slice_get}
+use Rattle.lx_io.specs.Told.{ToldBySource}
 use Rattle.crossbeam_queue.specs.Passes.{view, IsPassOf, IsSamePass, Pass}
 use Rattle.lx_crew.specs.declared.entry.Entry.{Entry}
 use Rattle.lx_crew.specs.declared.rule.View.{View}
@@ -20,8 +21,8 @@ abbrev pub HasSentNothing : {S : Type 0} → Operator S → Type 0
 HasSentNothing w = IsPassOf w.queue.now w.pass × (view w.pass ≡ operator_view w.place [])
 
 -- what a work does: it pushed its lines
-abbrev pub HasRunOperator : {S : Type 0} → (S → Option (List ℕ)) → (S → ℕ) → Operator S → Operator S → Type 0
-HasRunOperator left faults x y = IsSamePass x.pass y.pass × HasSentLines left faults x.place x.source y.source (view y.pass) y.fault
+abbrev pub HasRunOperator : {S : Type 0} → ToldBySource S → Operator S → Operator S → Type 0
+HasRunOperator told x y = IsSamePass x.pass y.pass × HasSentLines told x.place x.source y.source (view y.pass) y.fault
 
 -- what its pass pushed
 abbrev pub owned : {S : Type 0} → Operator S → ℕ × List Entry
@@ -32,9 +33,9 @@ abbrev pub Works : {S : Type 0} → (Pass Entry View → Type 0) → ℕ → Ope
 Works Its k w = Its w.pass × ((view w.pass).pushes ≡ true)
 
 -- it pushed all its lines and its last entry, from its source before on
-pub record Retired {S : Type 0} (left : S → Option (List ℕ)) (faults : S → ℕ) (Its : Pass Entry View → Type 0) (places : List (Option S))
+pub record Retired {S : Type 0} (told : ToldBySource S) (Its : Pass Entry View → Type 0) (places : List (Option S))
     (k : ℕ) (w : Operator S) : Type 0 where
   pub its : Its w.pass
   pub start : S
   pub source : slice_get places k ≡ Some (Some start)
-  pub sent : HasSentLines left faults k start w.source (view w.pass) w.fault
+  pub sent : HasSentLines told k start w.source (view w.pass) w.fault

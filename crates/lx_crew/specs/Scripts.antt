@@ -3,6 +3,7 @@ use Rattle.std.specs.Prelude.{◌≡◌, ◌≢◌, ◌≤◌, ◌<◌, ℕ, fal
 use Rattle.std.specs.List.{AllByRecursion}
 use Rattle.lx_base.specs.declared.TheConstants.{INPUT_BYTES}
 use Rattle.lx_io.specs.Causes.{Rose}
+use Rattle.lx_io.specs.Told.{ToldBySource}
 use Rattle.lx_spec.specs.Text.{lines_of}
 use Rattle.lx_spec.specs.CutInput.{CutOff}
 use Rattle.lx_spec.specs.CrewText.{lines_up_to_quit}
@@ -30,9 +31,9 @@ AreLines (Some InputTooLong) bytes left lines = CutLines bytes left lines × (IN
 
 -- An operator ended, from its source before to its source after, with these lines. `ReadFault` is told only where the source's count rose,
 -- and where it isn't told the count stands as it was.
-pub record ScriptHasEnded {S : Type 0} (left : S → Option (List ℕ)) (faults : S → ℕ) (source source' : S) (fault : Option OperatorFault)
+pub record ScriptHasEnded {S : Type 0} (told : ToldBySource S) (source source' : S) (fault : Option OperatorFault)
     (lines : List (List ℕ)) : Type 0 where
-  pub are : IfSome (left source) (λ bytes. AreLines fault bytes (left source') lines)
-  pub later : faults source ≤ faults source'
-  pub failed : fault ≡ Some ReadFault → Rose (faults source) (faults source')
-  pub kept : fault ≢ Some ReadFault → faults source' ≡ faults source
+  pub are : IfSome (told.left source) (λ bytes. AreLines fault bytes (told.left source') lines)
+  pub later : told.faults source ≤ told.faults source'
+  pub failed : fault ≡ Some ReadFault → Rose (told.faults source) (told.faults source')
+  pub kept : fault ≢ Some ReadFault → told.faults source' ≡ told.faults source

@@ -2,6 +2,7 @@
 use Rattle.std.specs.Prelude.{◌≡◌, ◌++◌, ◌∷◌, ℕ, Option, Some, None, List, [], if◌then◌else◌}
 use Rattle.std.specs.Io.KnownBytes.{IsAtEnd}
 use Rattle.lx_io.specs.Causes.{Rose}
+use Rattle.lx_io.specs.Told.{ToldBySource}
 use Rattle.lx_lex.specs.declared.lines.Lines.{Lines}
 use Rattle.lx_lex.specs.declared.lines.Step.TheVariants as steps
 use Rattle.lx_lex.specs.CutOff.{NotTaken}
@@ -23,20 +24,20 @@ use Rattle.lx_crew.specs.Rule.{operator_view}
 use Rattle.lx_crew.specs.Scripts.{ScriptHasEnded}
 
 -- one line was handed out, and it is to be sent
-pub record TookLine {S : Type 0} (left : S → Option (List ℕ)) (faults : S → ℕ) (old new : Lines S) (sent : Sent) : Type 0 where
+pub record TookLine {S : Type 0} (told : ToldBySource S) (old new : Lines S) (sent : Sent) : Type 0 where
   pub raw : List ℕ
-  pub handed : HandedOut left faults old new (raw ∷ [])
+  pub handed : HandedOut told old new (raw ∷ [])
   pub text : HasText sent (without_cr raw)
 
 -- what is to be sent, by what was taken
-abbrev pub TookNext : {S : Type 0} → (S → Option (List ℕ)) → (S → ℕ) → (old new : Lines S) → Sent → Type 0
-TookNext left faults old new (Line l) = TookLine left faults old new (Line l)
-TookNext left faults old new LongLine = TookLine left faults old new LongLine
-TookNext left faults old new End = IsAtEnd (unread left old) × (faults new.source.now ≡ faults old.source.now)
-TookNext left faults old new ReadFault = NotTaken left old new × Rose (faults old.source.now) (faults new.source.now)
-TookNext left faults old new InputTooLong =
-    NotTaken left old new × StepOf steps.InputTooLong (unread left old) (unread left new) old.taken new.taken (current_line new)
-    × (faults new.source.now ≡ faults old.source.now)
+abbrev pub TookNext : {S : Type 0} → ToldBySource S → (old new : Lines S) → Sent → Type 0
+TookNext told old new (Line l) = TookLine told old new (Line l)
+TookNext told old new LongLine = TookLine told old new LongLine
+TookNext told old new End = IsAtEnd (unread told old) × (told.faults new.source.now ≡ told.faults old.source.now)
+TookNext told old new ReadFault = NotTaken told old new × Rose (told.faults old.source.now) (told.faults new.source.now)
+TookNext told old new InputTooLong =
+    NotTaken told old new × StepOf steps.InputTooLong (unread told old) (unread told new) old.taken new.taken (current_line new)
+    × (told.faults new.source.now ≡ told.faults old.source.now)
 
 -- what comes after it
 abbrev pub follows : Sent → Follows
@@ -53,7 +54,7 @@ last_entry (Some ends.ReadFault) = ReadFault
 last_entry (Some ends.InputTooLong) = InputTooLong
 
 -- From its source before to its source after the operator's pass pushed its lines, numbered from 1, and then how they ended.
-pub record HasSentLines {S : Type 0} (left : S → Option (List ℕ)) (faults : S → ℕ) (place : ℕ) (source source' : S) (v : View)
+pub record HasSentLines {S : Type 0} (told : ToldBySource S) (place : ℕ) (source source' : S) (v : View)
     (fault : Option OperatorFault) : Type 0 where
   pub lines : List (List ℕ)
   pub entries : List Entry
@@ -62,4 +63,4 @@ pub record HasSentLines {S : Type 0} (left : S → Option (List ℕ)) (faults : 
   pub have : HaveLines place 1 entries lines
   pub own : last.place ≡ place
   pub ends : last.sent ≡ last_entry fault
-  pub ended : ScriptHasEnded left faults source source' fault lines
+  pub ended : ScriptHasEnded told source source' fault lines

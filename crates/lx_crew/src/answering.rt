@@ -19,7 +19,7 @@ use lx_session::{NoListener, Tally, answer};
 
 /// Appends the name of a line: `op`, its operator from 1, and its number among that operator's lines.
 fn put_name<K: Sink>(place: u8, number: u32, sink: &mut K) -> Result<(), SinkFault>
-    ensures { Puts K.holds K.faults K.wants sink.old sink.new result (op_text (named_line place number [])) }
+    ensures { Puts K.Sink sink.old sink.new result (op_text (named_line place number [])) }
 {
     put_all(sink, b"op ")?;
     put_count_and(u64::from(place) + 1, b' ', sink)?;
@@ -37,9 +37,9 @@ fn answer_line<K: Sink>(
     tally: &mut Tally,
 ) -> Result<bool, SinkFault>
     requires room { TallyHasRoom tally.old }
-    ensures answered { FromDesk console.old tally.old (λ s. AnswersNamed K.holds K.faults K.wants sink.old sink.new result s
+    ensures answered { FromDesk console.old tally.old (λ s. AnswersNamed K.Sink sink.old sink.new result s
         (op_text (named_line place number [])) (meaning_of (option_copied line.entry)) console.new tally.new) }
-    ensures cause { HasSinkCause K.faults K.wants sink.old sink.new result }
+    ensures cause { HasSinkCause K.Sink sink.old sink.new result }
     ensures more { HasOneMore tally.old tally.new }
 {
     put_name(place, number, sink)?;
@@ -57,7 +57,7 @@ pub(crate) fn answer_entry<K: Sink>(
     requires room { TallyHasRoom tally.old }
     ensures answered { (d : Desk) (popped : List AnEntry) (start : _) → HasAnswered d popped start (K.holds sink.old) console.old tally.old
         output.old → HasAnswered d (popped ++ entry.now ∷ []) start (K.holds sink.new) console.new tally.new output.new }
-    ensures cause { OutputCause K.faults K.wants sink.old sink.new output.old output.new }
+    ensures cause { OutputCause K.Sink sink.old sink.new output.old output.new }
     ensures more { HasOneMore tally.old tally.new }
 {
     if output.is_some() {
@@ -76,7 +76,7 @@ pub(crate) fn flush<K: Sink>(sink: &mut K, output: &mut Option<SinkFault>)
     ensures answered { (d : Desk) (popped : List AnEntry) (start : _) (console : _) (tally : _)
         → HasAnswered d popped start (K.holds sink.old) console tally output.old
         → HasAnswered d popped start (K.holds sink.new) console tally output.new }
-    ensures cause { OutputCause K.faults K.wants sink.old sink.new output.old output.new }
+    ensures cause { OutputCause K.Sink sink.old sink.new output.old output.new }
     ensures handed_on { output.new ≡ None → K.back sink.new ≡ [] }
 {
     if output.is_some() {

@@ -48,7 +48,7 @@ impl<K: Sink> Work for CrewEngine<'_, '_, '_, '_, '_, K> {
         × ((y.console.ghost_name ≡ x.console.ghost_name)
         × ((y.sink.ghost_name ≡ x.sink.ghost_name)
         × (IsSamePass x.pass.now y.pass.now
-        × HasServedEntries K.holds K.back K.faults K.wants x.operators (view y.pass.now) x.sink.now y.sink.now x.console.now y.console.now y.tally
+        × HasServedEntries K.Sink x.operators (view y.pass.now) x.sink.now y.sink.now x.console.now y.console.now y.tally
         y.output))) };
 
     fn run<R: Wait>(&mut self, rt: &R) {
@@ -82,7 +82,7 @@ fn serve<R: Wait, K: Sink>(
     requires few { operators ≤ 4 }
     requires none { counts_in tally.old ≡ record { ok = 0; refused = 0; bad = 0 } }
     ensures queue { IsSamePass pass.old pass.new }
-    ensures served { HasServedEntries K.holds K.back K.faults K.wants operators (view pass.new) sink.old sink.new console.old console.new tally.new
+    ensures served { HasServedEntries K.Sink operators (view pass.new) sink.old sink.new console.old console.new tally.new
         result }
 {
     let mut ended = [false; PLACES];
@@ -125,7 +125,7 @@ fn take_one<K: Sink>(
         tally.old tally.new output.old output.new ended.old ended.new }
     ensures none { result ≡ false → (view pass.new ≡ view pass.old) × ((sink.new ≡ sink.old) × ((console.new ≡ console.old)
         × ((tally.new ≡ tally.old) × ((output.new ≡ output.old) × (ended.new ≡ ended.old))))) }
-    ensures cause { OutputCause K.faults K.wants sink.old sink.new output.old output.new }
+    ensures cause { OutputCause K.Sink sink.old sink.new output.old output.new }
     ensures more { HasOneMore tally.old tally.new }
 {
     let Some(entry) = queue.try_pop_as::<Gets>(pass) else {

@@ -34,7 +34,7 @@ pub struct Operator<'q, 'e, S> {
 impl<S: Source> Work for Operator<'_, '_, S> {
     ghost ready = { λ x. IsPassOf x.queue.now x.pass × (view x.pass ≡ operator_view x.place []) };
 
-    ghost done = { λ x y. IsSamePass x.pass y.pass × HasSentLines S.left S.faults x.place x.source y.source (view y.pass) y.fault };
+    ghost done = { λ x y. IsSamePass x.pass y.pass × HasSentLines S.Source x.place x.source y.source (view y.pass) y.fault };
 
     fn run<R: Wait>(&mut self, rt: &R) {
         self.fault = send_lines(
@@ -60,7 +60,7 @@ fn send_lines<R: Wait, S: Source>(
     requires queue { IsPassOf queue.now pass.old }
     requires view { view pass.old ≡ operator_view place [] }
     ensures queue { IsSamePass pass.old pass.new }
-    ensures sent { HasSentLines S.left S.faults place source.old source.new (view pass.new) result }
+    ensures sent { HasSentLines S.Source place source.old source.new (view pass.new) result }
 {
     let mut lines = Lines::new(source);
     for _ in rt.forever() {
@@ -99,7 +99,7 @@ fn send_lines<R: Wait, S: Source>(
 fn take_next<S: Source>(lines: &mut Lines<S>) -> Sent
     requires going { CanAdvance lines.old }
     ensures same_source { SameSource lines.old lines.new }
-    ensures took { TookNext S.left S.faults lines.old lines.new result }
+    ensures took { TookNext S.Source lines.old lines.new result }
     ensures later { S.faults lines.old.source.now ≤ S.faults lines.new.source.now }
 {
     match lines.advance() {

@@ -60,9 +60,9 @@ pub fn crew<R: Threads + Wait + Sync, S: Source + Send + Drop, K: Sink + Send>(
     requires most { length operators.old ≤ OPERATORS }
     requires full { EachAt (λ k place. IsSome place) operators.old }
     ensures err { OnErr result ((console.new ≡ console.old) × ((sink.new ≡ sink.old) × (operators.new ≡ operators.old))) }
-    ensures crewed { IfOk result (λ c. (d : Desk) → StandsFor d console.old → HasCrewed S.left S.faults K.holds d operators.old
+    ensures crewed { IfOk result (λ c. (d : Desk) → StandsFor d console.old → HasCrewed S.Source K.Sink d operators.old
         operators.new sink.old sink.new console.new c.tally c.output c.operators) }
-    ensures cause { IfOk result (λ c. OutputCause K.faults K.wants sink.old sink.new None c.output) }
+    ensures cause { IfOk result (λ c. OutputCause K.Sink sink.old sink.new None c.output) }
     ensures handed_on { IfOk result (λ c. c.output ≡ None → K.back sink.new ≡ []) }
 {
     let count = operators.len();
@@ -104,9 +104,9 @@ fn perform<'q, 'e, R: Threads + Wait + Sync, S: Source + Send, K: Sink + Send>(
     requires few { length works.old ≤ 4 }
     requires ready { All HasSentNothing works.old }
     ensures queue { IsSamePass pass.old pass.new }
-    ensures served { HasServedEntries K.holds K.back K.faults K.wants (length works.old) (view pass.new) sink.old sink.new console.old console.new
+    ensures served { HasServedEntries K.Sink (length works.old) (view pass.new) sink.old sink.new console.old console.new
         result.0 result.1 }
-    ensures ran { AllZip (HasRunOperator S.left S.faults) works.old works.new }
+    ensures ran { AllZip (HasRunOperator S.Source) works.old works.new }
 {
     let mut engine = CrewEngine {
         queue,

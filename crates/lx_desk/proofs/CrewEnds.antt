@@ -3,7 +3,7 @@ use Rattle.lx_desk.proofs.Imports.{◌≡◌, inl, inr, ℕ, ◌+◌, ◌≤◌,
 use Rattle.lx_desk.proofs.Imports.{◌∙◌, subst, INPUT_BYTES, Rose, AppendsFront, Lines, unread, first_lines-longer, Form, Crew, TextFault, lines_of}
 use Rattle.lx_desk.proofs.Imports.{over_show, fault_text, Reading, reads, lines_read, show_wanted, output_of, Loaded, ShowFault, reading_of, HasRead, Status}
 use Rattle.lx_desk.proofs.Imports.{WritesPrefix, RefusedBy, EndsJob, HasEnded, ServesOrWants, ServesNone, HasCrewEnded, WritesFirstLines, WritesCrewFront}
-use Rattle.lx_desk.proofs.Imports.{OperatorFailed, HasCrewCause}
+use Rattle.lx_desk.proofs.Imports.{OperatorFailed, HasCrewCause, ToldBySource}
 use Rattle.lx_desk.specs.declared.desk.Status.TheVariants as status
 use Rattle.lx_desk.proofs.Inputs.{Says, IsOfShow, nothing_of_cut, means_of, told_fits, front_nothing, refusal_isnt_ok, if_known, both_known}
 use Rattle.lx_desk.proofs.Endings.{refusal_ends, refusal_ended}
@@ -40,76 +40,72 @@ module _ (form : Form) (count : ℕ) where
   }
 
   -- a crew over a show that was read
-  pub crew_ended : {I S : Type 0} (inputs : I → Option (List ℕ)) (input_faults : I → ℕ) (left : S → Option (List ℕ)) (faults : S → ℕ)
+  pub crew_ended : {I S : Type 0} (told_in : ToldBySource I) (told : ToldBySource S)
       (a b : Lines I) (loaded : Loaded) (o rest h h' : Option (List ℕ)) (operators operators' : List (Option S)) (s : Status)
-      → unread inputs a ≡ o → a.taken ≡ 0 → HasRead inputs input_faults a b form loaded
-      → ServesOrWants left faults loaded.show count operators operators' h h' s
-      → IfSome o (λ x. HasCrewEnded left faults count form x rest operators operators' h h' s)
-  crew_ended inputs input_faults left faults a b loaded o rest h h' operators operators' s is none r served =
+      → unread told_in a ≡ o → a.taken ≡ 0 → HasRead told_in a b form loaded
+      → ServesOrWants told loaded.show count operators operators' h h' s
+      → IfSome o (λ x. HasCrewEnded told count form x rest operators operators' h h' s)
+  crew_ended told_in told a b loaded o rest h h' operators operators' s is none r served =
       both_known o (λ x. reads form x ≡ Ok (reading_of loaded)) (λ x. length (show_wanted x) ≤ INPUT_BYTES) _
       (subst (λ (v : Option (List ℕ)). IfSome v (λ x. reads form x ≡ Ok (reading_of loaded))) is r.means.text)
-      (told_fits form inputs input_faults a b loaded (Crew count form) (λ reading. []) crew_tells o is none r)
-      (λ x read fits. elim served [
+      (told_fits form told_in a b loaded (Crew count form) (λ reading. []) crew_tells o is none r) (λ x read fits. elim served [
         | inl wants ↦ inl (wanting x rest h h' operators operators' s wants.0 wants.1.0 wants.1.1)
         | inr answered ↦ inr (record { reading = reading_of loaded; read = read; within = fits; served = answered })
       ])
 
-  pub crew_front : {I S : Type 0} (inputs : I → Option (List ℕ)) (input_faults : I → ℕ) (left : S → Option (List ℕ)) (a b : Lines I)
-      (loaded : Loaded) (o h h' : Option (List ℕ)) (operators : List (Option S)) → unread inputs a ≡ o
-      → HasRead inputs input_faults a b form loaded
-      → WritesFirstLines left loaded.show count operators h h'
-      → IfSome o (λ x. WritesCrewFront left count operators h h' (reads form x))
-  crew_front inputs input_faults left a b loaded o h h' operators is r front =
+  pub crew_front : {I S : Type 0} (told_in : ToldBySource I) (told : ToldBySource S) (a b : Lines I)
+      (loaded : Loaded) (o h h' : Option (List ℕ)) (operators : List (Option S)) → unread told_in a ≡ o → HasRead told_in a b form loaded
+      → WritesFirstLines told loaded.show count operators h h' → IfSome o (λ x. WritesCrewFront told count operators h h' (reads form x))
+  crew_front told_in told a b loaded o h h' operators is r front =
       if_known o (λ x. reads form x ≡ Ok (reading_of loaded)) _
       (subst (λ (v : Option (List ℕ)). IfSome v (λ x. reads form x ≡ Ok (reading_of loaded))) is r.means.text)
-      (λ x read. subst (λ r. WritesCrewFront left count operators h h' r) (sym read) front)
+      (λ x read. subst (λ r. WritesCrewFront told count operators h h' r) (sym read) front)
 
   -- a show that isn't read
-  pub refused_ended : {I S : Type 0} (inputs : I → Option (List ℕ)) (left : S → Option (List ℕ)) (faults : S → ℕ) (a b : Lines I)
+  pub refused_ended : {I S : Type 0} (told_in : ToldBySource I) (told : ToldBySource S) (a b : Lines I)
       (o h h' : Option (List ℕ)) (operators : List (Option S)) (fault : ShowFault) (s : Status)
-      → unread inputs a ≡ o → a.taken ≡ 0 → Says form inputs a b fault → RefusedBy h h' fault s
-      → IfSome o (λ x. HasCrewEnded left faults count form x (inputs b.source.now) operators operators h h' s)
-  refused_ended inputs left faults a b o h h' operators fault s is none says by =
-      if_known o _ _ (refusal_ended form (Crew count form) (crew_tells.over) inputs a b o h h' fault s is none says by)
-      (λ x e. inl (record {
+      → unread told_in a ≡ o → a.taken ≡ 0 → Says form told_in a b fault → RefusedBy h h' fault s
+      → IfSome o (λ x. HasCrewEnded told count form x (told_in.left b.source.now) operators operators h h' s)
+  refused_ended told_in told a b o h h' operators fault s is none says by =
+      if_known o _ _ (refusal_ended form (Crew count form) (crew_tells.over) told_in a b o h h' fault s is none says by) (λ x e. inl (record {
         isnt_ok = λ ok. refusal_isnt_ok h h' fault s ⊥ by ok;
         isnt_live = λ live. subst EndsJob live (refusal_ends h h' fault s by);
         ended = e;
         untouched = refl;
       }))
 
-  pub nothing_front : {S : Type 0} (left : S → Option (List ℕ)) (h h' : Option (List ℕ)) (operators : List (Option S))
-      (r : Result Reading TextFault) → h' ≡ h → WritesCrewFront left count operators h h' r
-  nothing_front left h h' operators (Ok reading) kept = no_lines left reading.show count operators h h' kept
-  nothing_front left h h' operators (Err fault) kept =
+  pub nothing_front : {S : Type 0} (told : ToldBySource S) (h h' : Option (List ℕ)) (operators : List (Option S))
+      (r : Result Reading TextFault) → h' ≡ h → WritesCrewFront told count operators h h' r
+  nothing_front told h h' operators (Ok reading) kept = no_lines told reading.show count operators h h' kept
+  nothing_front told h h' operators (Err fault) kept =
       subst (λ (v : Option (List ℕ)). AppendsFront h v (fault_text fault)) (sym kept) (front_nothing h (fault_text fault))
 
-  nothing_known : {S : Type 0} (left : S → Option (List ℕ)) (o h h' : Option (List ℕ)) (operators : List (Option S)) → h' ≡ h
-      → IfSome o (λ x. WritesCrewFront left count operators h h' (reads form x))
-  nothing_known left None h h' operators kept = tt
-  nothing_known left (Some x) h h' operators kept = nothing_front left h h' operators (reads form x) kept
+  nothing_known : {S : Type 0} (told : ToldBySource S) (o h h' : Option (List ℕ)) (operators : List (Option S)) → h' ≡ h
+      → IfSome o (λ x. WritesCrewFront told count operators h h' (reads form x))
+  nothing_known told None h h' operators kept = tt
+  nothing_known told (Some x) h h' operators kept = nothing_front told h h' operators (reads form x) kept
 
-  pub refused_front : {I S : Type 0} (inputs : I → Option (List ℕ)) (left : S → Option (List ℕ)) (a b : Lines I)
+  pub refused_front : {I S : Type 0} (told_in : ToldBySource I) (operator_told : ToldBySource S) (a b : Lines I)
       (o h h' : Option (List ℕ)) (operators : List (Option S)) (fault : ShowFault) (s : Status)
-      → unread inputs a ≡ o → Says form inputs a b fault → RefusedBy h h' fault s
-      → IfSome o (λ x. WritesCrewFront left count operators h h' (reads form x))
-  refused_front inputs left a b o h h' operators fault s is says by = elim by [
-    | inl told ↦ subst (λ (v : Option (List ℕ)). IfSome v (λ x. WritesCrewFront left count operators h h' (reads form x))) is
-        (if_known (unread inputs a) _ _ (means_of form inputs a b fault told.text told.told says).text
-        (λ x text. subst (λ r. WritesCrewFront left count operators h h' r) (sym text) told.front))
-    | inr other ↦ nothing_known left o h h' operators other.kept
+      → unread told_in a ≡ o → Says form told_in a b fault → RefusedBy h h' fault s
+      → IfSome o (λ x. WritesCrewFront operator_told count operators h h' (reads form x))
+  refused_front told_in operator_told a b o h h' operators fault s is says by = elim by [
+    | inl told ↦ subst (λ (v : Option (List ℕ)). IfSome v (λ x. WritesCrewFront operator_told count operators h h' (reads form x))) is
+        (if_known (unread told_in a) _ _ (means_of form told_in a b fault told.text told.told says).text
+        (λ x text. subst (λ r. WritesCrewFront operator_told count operators h h' r) (sym text) told.front))
+    | inr other ↦ nothing_known operator_told o h h' operators other.kept
   ]
 
 -- each fault of the outside has its cause
-pub served_cause : {S : Type 0} (faults : S → ℕ) (s : Status) (reads reads' writes writes' count : ℕ)
+pub served_cause : {S : Type 0} (told : ToldBySource S) (s : Status) (reads reads' writes writes' count : ℕ)
     (operators operators' : List (Option S))
-    → (s ≡ status.ReadFault → OperatorFailed faults count operators operators') → (s ≡ status.WriteFault → Rose writes writes')
-    → HasCrewCause faults s reads reads' writes writes' count operators operators'
-served_cause faults status.ReadFault reads reads' writes writes' count operators operators' read write = inr (read refl)
-served_cause faults status.WriteFault reads reads' writes writes' count operators operators' read write = write refl
-served_cause faults status.Ok reads reads' writes writes' count operators operators' read write = tt
-served_cause faults status.ShowRefused reads reads' writes writes' count operators operators' read write = tt
-served_cause faults status.Usage reads reads' writes writes' count operators operators' read write = tt
-served_cause faults status.Memory reads reads' writes writes' count operators operators' read write = tt
-served_cause faults status.InputTooLong reads reads' writes writes' count operators operators' read write = tt
-served_cause faults status.Live reads reads' writes writes' count operators operators' read write = tt
+    → (s ≡ status.ReadFault → OperatorFailed told count operators operators') → (s ≡ status.WriteFault → Rose writes writes')
+    → HasCrewCause told s reads reads' writes writes' count operators operators'
+served_cause told status.ReadFault reads reads' writes writes' count operators operators' read write = inr (read refl)
+served_cause told status.WriteFault reads reads' writes writes' count operators operators' read write = write refl
+served_cause told status.Ok reads reads' writes writes' count operators operators' read write = tt
+served_cause told status.ShowRefused reads reads' writes writes' count operators operators' read write = tt
+served_cause told status.Usage reads reads' writes writes' count operators operators' read write = tt
+served_cause told status.Memory reads reads' writes writes' count operators operators' read write = tt
+served_cause told status.InputTooLong reads reads' writes writes' count operators operators' read write = tt
+served_cause told status.Live reads reads' writes writes' count operators operators' read write = tt

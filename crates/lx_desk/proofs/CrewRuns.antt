@@ -4,7 +4,7 @@ use Rattle.lx_desk.proofs.Imports.{List, [], ◌∷◌, ◌++◌, length, take, 
 use Rattle.lx_desk.proofs.Imports.{length-append, length-drop, take-append-drop, AllByRecursion, position_or_len, same_Some, slice_get_within, SinkFault, Rose}
 use Rattle.lx_desk.proofs.Imports.{AppendsFront, lines_of, Show, opened, Kept, ends_script, lines_wanted, Tally, OperatorFault, EachAt, Status, IsLowest}
 use Rattle.lx_desk.proofs.Imports.{WritesTranscript, WritesLines, Serves, WritesFirstLines, KeepsPlaces, OperatorFailed, TellsOperators, TellsCrew, Finishes}
-use Rattle.lx_desk.proofs.Imports.{HasWanted}
+use Rattle.lx_desk.proofs.Imports.{HasWanted, ToldBySink, ToldBySource}
 use Rattle.lx_io.specs.declared.sink.SinkFault.TheVariants as sinks
 use Rattle.lx_spec.specs.CrewText.{lines_up_to_quit, numbered_from, crew_text}
 use Rattle.lx_crew.specs.declared.fault.OperatorFault.TheVariants as ends
@@ -90,21 +90,21 @@ written_by show lines held held' console tally (Some sinks.Memory) told s w tell
     subst (λ (t : Status). WritesLines t show lines told held held') (sym tells) w
 
 -- an operator whose read failed
-read_rose : {S : Type 0} (left : S → Option (List ℕ)) (reads : S → ℕ) (places : List (Option S)) (told : List (Option OperatorFault))
-    (place : ℕ) (start : S) (lines : List (List ℕ)) (b : ScriptIsBack left reads places told place start lines)
-    → slice_get told place ≡ Some (Some ends.ReadFault) → Rose (reads start) (reads b.source)
-read_rose left reads places told place start lines b at = b.ended.failed (same_Some b.fault (Some ends.ReadFault) (sym b.fault_is ∙ at))
+read_rose : {S : Type 0} (told_in : ToldBySource S) (places : List (Option S)) (told : List (Option OperatorFault))
+    (place : ℕ) (start : S) (lines : List (List ℕ)) (b : ScriptIsBack told_in places told place start lines)
+    → slice_get told place ≡ Some (Some ends.ReadFault) → Rose (told_in.faults start) (told_in.faults b.source)
+read_rose told_in places told place start lines b at = b.ended.failed (same_Some b.fault (Some ends.ReadFault) (sym b.fault_is ∙ at))
 
 -- A crew over the first n operators.
-module _ {S K : Type 0} (left : S → Option (List ℕ)) (reads : S → ℕ) (holds : K → Option (List ℕ)) (show : Show) (count : ℕ)
+module _ {S K : Type 0} (told_in : ToldBySource S) (told_out : ToldBySink K) (show : Show) (count : ℕ)
     (operators used used' rest : List (Option S)) (sink sink' : K) (console : Kept) (tally : Tally) (output : Option SinkFault)
     (told : List (Option OperatorFault)) (is : used ≡ take count operators) (n : length used ≡ count) (behind : rest ≡ drop count operators)
-    (h : HasCrewed left reads holds (opened show) used used' sink sink' console tally output told) where
+    (h : HasCrewed told_in told_out (opened show) used used' sink sink' console tally output told) where
   same_count : length used' ≡ count
   same_count = h.same_places ∙ n
 
   back : (place : ℕ) (start : S) → place < count → slice_get operators place ≡ Some (Some start)
-      → ScriptIsBack left reads (used' ++ rest) told place start (h.lines (place + 1))
+      → ScriptIsBack told_in (used' ++ rest) told place start (h.lines (place + 1))
   back place start within at =
       let b = h.each place start (ap (λ l. slice_get l place) is ∙ (get_take count place operators within ∙ at)) in
       record {
@@ -116,14 +116,14 @@ module _ {S K : Type 0} (left : S → Option (List ℕ)) (reads : S → ℕ) (ho
       }
 
   pub serves : (s : Status) → TellsCrew output told s
-      → Serves left reads show count operators (used' ++ rest) (holds sink) (holds sink') s
+      → Serves told_in show count operators (used' ++ rest) (told_out.holds sink) (told_out.holds sink') s
   serves s tells = record {
     lines = h.lines;
     told = told;
     each = back;
     none = h.none;
     no_more = λ operator past. h.no_more operator (omega (arith, past, n));
-    written = written_by show h.lines (holds sink) (holds sink') console tally output told s h.written tells;
+    written = written_by show h.lines (told_out.holds sink) (told_out.holds sink') console tally output told s h.written tells;
   }
 
   full_used : EachAt (λ k source. IsSome source) used → EachAt (λ k source. IsSome source) used'
@@ -143,7 +143,7 @@ module _ {S K : Type 0} (left : S → Option (List ℕ)) (reads : S → ℕ) (ho
   }
 
   pub operator_failed : EachAt (λ k source. IsSome source) operators → count ≤ length operators → (s : Status) → TellsCrew output told s
-      → s ≡ status.ReadFault → OperatorFailed reads count operators (used' ++ rest)
+      → s ≡ status.ReadFault → OperatorFailed told_in count operators (used' ++ rest)
   operator_failed full most s tells failed =
       let lowest = lowest_failed output told s tells failed in
       let within : lowest.place < count = omega (arith, h.others lowest.place ends.ReadFault lowest.at, n) in
@@ -156,7 +156,7 @@ module _ {S K : Type 0} (left : S → Option (List ℕ)) (reads : S → ℕ) (ho
         new = b.source;
         before = from.1;
         after = b.place_is;
-        rose = read_rose left reads (used' ++ rest) told lowest.place from.0 (h.lines (lowest.place + 1)) b lowest.at;
+        rose = read_rose told_in (used' ++ rest) told lowest.place from.0 (h.lines (lowest.place + 1)) b lowest.at;
       }
 
 -- first lines of a script, of which none ends it, are first lines up to its end
@@ -193,23 +193,23 @@ lines_front None bytes left lines all = (
 lines_front (Some ends.ReadFault) bytes left lines c = cut_front bytes left lines c
 lines_front (Some ends.InputTooLong) bytes left lines c = cut_front bytes left lines c.0
 
-ended_front : {S : Type 0} (left : S → Option (List ℕ)) (reads : S → ℕ) (start source : S) (fault : Option OperatorFault)
-    (lines : List (List ℕ)) (bytes : List ℕ) → ScriptHasEnded left reads start source fault lines → left start ≡ Some bytes
+ended_front : {S : Type 0} (told : ToldBySource S) (start source : S) (fault : Option OperatorFault)
+    (lines : List (List ℕ)) (bytes : List ℕ) → ScriptHasEnded told start source fault lines → told.left start ≡ Some bytes
     → (m : ℕ) × (lines ≡ take m (lines_up_to_quit bytes))
-ended_front left reads start source fault lines bytes ended known =
-    lines_front fault bytes (left source) lines
-    (subst (λ (o : Option (List ℕ)). IfSome o (λ b. AreLines fault b (left source) lines)) known ended.are)
+ended_front told start source fault lines bytes ended known =
+    lines_front fault bytes (told.left source) lines
+    (subst (λ (o : Option (List ℕ)). IfSome o (λ b. AreLines fault b (told.left source) lines)) known ended.are)
 
 -- However a crew ended, it wrote a prefix of the text of first lines.
-module _ {S : Type 0} (left : S → Option (List ℕ)) (reads : S → ℕ) (show : Show) (count : ℕ) (operators operators' : List (Option S))
+module _ {S : Type 0} (told : ToldBySource S) (show : Show) (count : ℕ) (operators operators' : List (Option S))
     (held held' : Option (List ℕ)) where
-  all_front : (s : Status) → (h : Serves left reads show count operators operators' held held' s)
-      → WritesTranscript show h.lines held held' → WritesFirstLines left show count operators held held'
+  all_front : (s : Status) → (h : Serves told show count operators operators' held held' s)
+      → WritesTranscript show h.lines held held' → WritesFirstLines told show count operators held held'
   all_front s h w = record {
     entries = w.entries;
     each = λ place start bytes within at known.
         let b = h.each place start within at in
-        let first = ended_front left reads start b.source b.fault (h.lines (place + 1)) bytes b.ended known in
+        let first = ended_front told start b.source b.fault (h.lines (place + 1)) bytes b.ended known in
         (first.0, w.merged (place + 1) ∙ ap (numbered_from (place + 1) 1) first.1);
     none = w.merged 0 ∙ ap (numbered_from 0 1) h.none;
     no_more = λ operator past. w.merged operator ∙ ap (numbered_from operator 1) (h.no_more operator past);
@@ -218,13 +218,13 @@ module _ {S : Type 0} (left : S → Option (List ℕ)) (reads : S → ℕ) (show
     text = whole_front held held' (crew_text (opened show) w.entries w.failures) w.text;
   }
 
-  some_front : (s : Status) → (h : Serves left reads show count operators operators' held held' s)
-      → TranscriptPrefix (opened show) h.lines held held' → WritesFirstLines left show count operators held held'
+  some_front : (s : Status) → (h : Serves told show count operators operators' held held' s)
+      → TranscriptPrefix (opened show) h.lines held held' → WritesFirstLines told show count operators held held'
   some_front s h w = record {
     entries = w.entries;
     each = λ place start bytes within at known.
         let b = h.each place start within at in
-        let first = ended_front left reads start b.source b.fault (h.lines (place + 1)) bytes b.ended known in
+        let first = ended_front told start b.source b.fault (h.lines (place + 1)) bytes b.ended known in
         let so_far = w.merged (place + 1) in
         let less = first_of_first so_far.0 first.0 (lines_up_to_quit bytes) in
         (less.0, so_far.1 ∙ ap (numbered_from (place + 1) 1) (ap (take so_far.0) first.1 ∙ less.1));
@@ -238,8 +238,8 @@ module _ {S : Type 0} (left : S → Option (List ℕ)) (reads : S → ℕ) (show
     text = w.text;
   }
 
-  pub served_front : (s : Status) → Serves left reads show count operators operators' held held' s
-      → WritesFirstLines left show count operators held held'
+  pub served_front : (s : Status) → Serves told show count operators operators' held held' s
+      → WritesFirstLines told show count operators held held'
   served_front status.Ok h = all_front status.Ok h h.written.0
   served_front status.ReadFault h = all_front status.ReadFault h h.written.0
   served_front status.InputTooLong h = all_front status.InputTooLong h h.written.0
@@ -250,9 +250,9 @@ module _ {S : Type 0} (left : S → Option (List ℕ)) (reads : S → ℕ) (show
   served_front status.Live h = absurd h.written
 
 -- where nothing was written
-pub no_lines : {S : Type 0} (left : S → Option (List ℕ)) (show : Show) (count : ℕ) (operators : List (Option S))
-    (held held' : Option (List ℕ)) → held' ≡ held → WritesFirstLines left show count operators held held'
-no_lines left show count operators held held' kept = record {
+pub no_lines : {S : Type 0} (told : ToldBySource S) (show : Show) (count : ℕ) (operators : List (Option S))
+    (held held' : Option (List ℕ)) → held' ≡ held → WritesFirstLines told show count operators held held'
+no_lines told show count operators held held' kept = record {
   entries = [];
   each = λ place start bytes within at known. (0, refl);
   none = refl;
@@ -264,24 +264,24 @@ no_lines left show count operators held held' kept = record {
 }
 
 -- what a crew's status says of the output
-pub crew_finishes : {K : Type 0} (reads : ℕ) (writes wants : K → ℕ) (back : K → List ℕ) (sink sink' : K) (output : Option SinkFault)
-    (told : List (Option OperatorFault)) (s : Status) → TellsCrew output told s → OutputCause writes wants sink sink' None output
-    → (output ≡ None → back sink' ≡ []) → Finishes reads reads writes wants back sink sink' s
-crew_finishes reads writes wants back sink sink' None told s tells c none =
+pub crew_finishes : {K : Type 0} (reads : ℕ) (told_out : ToldBySink K) (sink sink' : K) (output : Option SinkFault)
+    (told : List (Option OperatorFault)) (s : Status) → TellsCrew output told s → OutputCause told_out sink sink' None output
+    → (output ≡ None → told_out.back sink' ≡ []) → Finishes reads reads told_out sink sink' s
+crew_finishes reads told_out sink sink' None told s tells c none =
     let kept = c.kept refl in
-    all_done reads reads writes wants back sink sink' s refl kept.1 kept.2 (none refl)
-crew_finishes reads writes wants back sink sink' (Some sinks.Failed) told s tells c none =
-    subst (λ (t : Status). Finishes reads reads writes wants back sink sink' t) (sym tells)
-    (not_done reads reads writes wants back sink sink' status.WriteFault (λ done. done))
-crew_finishes reads writes wants back sink sink' (Some sinks.Memory) told s tells c none =
-    subst (λ (t : Status). Finishes reads reads writes wants back sink sink' t) (sym tells)
-    (not_done reads reads writes wants back sink sink' status.Memory (λ done. done))
+    all_done reads reads told_out sink sink' s refl kept.1 kept.2 (none refl)
+crew_finishes reads told_out sink sink' (Some sinks.Failed) told s tells c none =
+    subst (λ (t : Status). Finishes reads reads told_out sink sink' t) (sym tells)
+    (not_done reads reads told_out sink sink' status.WriteFault (λ done. done))
+crew_finishes reads told_out sink sink' (Some sinks.Memory) told s tells c none =
+    subst (λ (t : Status). Finishes reads reads told_out sink sink' t) (sym tells)
+    (not_done reads reads told_out sink sink' status.Memory (λ done. done))
 
-pub crew_wants : {K : Type 0} (writes wants : K → ℕ) (sink sink' : K) (output : Option SinkFault) (told : List (Option OperatorFault))
-    (s : Status) → TellsCrew output told s → OutputCause writes wants sink sink' None output → HasWanted wants sink sink' s
-crew_wants writes wants sink sink' None told s tells c is = absurd (subst (λ (t : Status). TellsOperators told t) is tells)
-crew_wants writes wants sink sink' (Some sinks.Failed) told s tells c is = let odd : status.WriteFault ≡ status.Memory = sym tells ∙ is in cc
-crew_wants writes wants sink sink' (Some sinks.Memory) told s tells c is = elim (c.memory refl) [ inl odd ↦ cc | inr rose ↦ inr rose ]
+pub crew_wants : {K : Type 0} (told_out : ToldBySink K) (sink sink' : K) (output : Option SinkFault) (told : List (Option OperatorFault))
+    (s : Status) → TellsCrew output told s → OutputCause told_out sink sink' None output → HasWanted told_out sink sink' s
+crew_wants told_out sink sink' None told s tells c is = absurd (subst (λ (t : Status). TellsOperators told t) is tells)
+crew_wants told_out sink sink' (Some sinks.Failed) told s tells c is = let odd : status.WriteFault ≡ status.Memory = sym tells ∙ is in cc
+crew_wants told_out sink sink' (Some sinks.Memory) told s tells c is = elim (c.memory refl) [ inl odd ↦ cc | inr rose ↦ inr rose ]
 
 pub crew_not_live : (output : Option SinkFault) (told : List (Option OperatorFault)) (s : Status) → TellsCrew output told s → s ≢ status.Live
 crew_not_live None told s tells is = subst (λ (t : Status). TellsOperators told t) is tells

@@ -1,25 +1,26 @@
 -- What the end of a job says of the counts and of what is kept back, from the ends of its calls.
 use Rattle.lx_desk.proofs.Imports.{◌≡◌, ◌⊎◌, inl, inr, ℕ, Result, Ok, Err, OnOk, Option, List, [], ◌∙◌, sym, ◌≢◌, Lines, ShowFault}
 use Rattle.lx_desk.proofs.Imports.{SessionFault, Tally, HasSessionCause, Status, status_for, RefusedBy, status_kept, IsDone, Finishes, HasWanted}
+use Rattle.lx_desk.proofs.Imports.{ToldBySink, ToldBySource}
 use Rattle.lx_reader.specs.declared.fault.ShowFault.TheVariants as shows
 use Rattle.lx_session.specs.declared.fault.SessionFault.TheVariants as faults
 use Rattle.lx_desk.specs.declared.desk.Status.TheVariants as status
 use Rattle.lx_desk.proofs.Inputs.{kept_is}
 
 -- a status that isn't that of a job that was done
-pub not_done : {K : Type 0} (reads reads' : ℕ) (writes wants : K → ℕ) (back : K → List ℕ) (output output' : K) (s : Status) → (IsDone s → ⊥)
-    → Finishes reads reads' writes wants back output output' s
-not_done reads reads' writes wants back output output' s undone = record {
+pub not_done : {K : Type 0} (reads reads' : ℕ) (told : ToldBySink K) (output output' : K) (s : Status) → (IsDone s → ⊥)
+    → Finishes reads reads' told output output' s
+not_done reads reads' told output output' s undone = record {
   reads_kept = λ done. absurd (undone done);
   writes_kept = λ done. absurd (undone done);
   wants_kept = λ done. absurd (undone done);
   handed_on = λ done. absurd (undone done);
 }
 
-pub all_done : {K : Type 0} (reads reads' : ℕ) (writes wants : K → ℕ) (back : K → List ℕ) (output output' : K) (s : Status) → reads' ≡ reads
-    → writes output' ≡ writes output → wants output' ≡ wants output → back output' ≡ []
-    → Finishes reads reads' writes wants back output output' s
-all_done reads reads' writes wants back output output' s read write want back_none = record {
+pub all_done : {K : Type 0} (reads reads' : ℕ) (told : ToldBySink K) (output output' : K) (s : Status) → reads' ≡ reads
+    → told.faults output' ≡ told.faults output → told.wants output' ≡ told.wants output → told.back output' ≡ []
+    → Finishes reads reads' told output output' s
+all_done reads reads' told output output' s read write want back_none = record {
   reads_kept = λ done. read;
   writes_kept = λ done. write;
   wants_kept = λ done. want;
@@ -27,10 +28,9 @@ all_done reads reads' writes wants back output output' s read write want back_no
 }
 
 -- after reads of which none failed, where it was done
-pub after_reads : {K : Type 0} (reads reads' reads'' : ℕ) (writes wants : K → ℕ) (back : K → List ℕ) (output output' : K) (s : Status)
-    → (IsDone s → reads' ≡ reads) → Finishes reads' reads'' writes wants back output output' s
-    → Finishes reads reads'' writes wants back output output' s
-after_reads reads reads' reads'' writes wants back output output' s before f = record {
+pub after_reads : {K : Type 0} (reads reads' reads'' : ℕ) (told : ToldBySink K) (output output' : K) (s : Status)
+    → (IsDone s → reads' ≡ reads) → Finishes reads' reads'' told output output' s → Finishes reads reads'' told output output' s
+after_reads reads reads' reads'' told output output' s before f = record {
   reads_kept = λ done. f.reads_kept done ∙ before done;
   writes_kept = f.writes_kept;
   wants_kept = f.wants_kept;
@@ -38,27 +38,27 @@ after_reads reads reads' reads'' writes wants back output output' s before f = r
 }
 
 -- a session
-pub session_finishes : {S K : Type 0} (reads : S → ℕ) (writes wants : K → ℕ) (back : K → List ℕ) (old new : Lines S) (sink sink' : K)
-    (r : Result Tally SessionFault) → HasSessionCause reads writes wants old new sink sink' r → OnOk r (back sink' ≡ [])
-    → Finishes (reads old.source.now) (reads new.source.now) writes wants back sink sink' (status_for r)
-session_finishes reads writes wants back old new sink sink' (Ok tally) c none =
-    all_done (reads old.source.now) (reads new.source.now) writes wants back sink sink' status.Ok c.kept.0 c.kept.1 c.kept.2 none
-session_finishes reads writes wants back old new sink sink' (Err faults.ReadFault) c none =
-    not_done (reads old.source.now) (reads new.source.now) writes wants back sink sink' status.ReadFault (λ done. done)
-session_finishes reads writes wants back old new sink sink' (Err faults.WriteFault) c none =
-    not_done (reads old.source.now) (reads new.source.now) writes wants back sink sink' status.WriteFault (λ done. done)
-session_finishes reads writes wants back old new sink sink' (Err faults.InputTooLong) c none =
-    not_done (reads old.source.now) (reads new.source.now) writes wants back sink sink' status.InputTooLong (λ done. done)
-session_finishes reads writes wants back old new sink sink' (Err faults.Memory) c none =
-    not_done (reads old.source.now) (reads new.source.now) writes wants back sink sink' status.Memory (λ done. done)
+pub session_finishes : {S K : Type 0} (told_in : ToldBySource S) (told_out : ToldBySink K) (old new : Lines S) (sink sink' : K)
+    (r : Result Tally SessionFault) → HasSessionCause told_in told_out old new sink sink' r → OnOk r (told_out.back sink' ≡ [])
+    → Finishes (told_in.faults old.source.now) (told_in.faults new.source.now) told_out sink sink' (status_for r)
+session_finishes told_in told_out old new sink sink' (Ok tally) c none =
+    all_done (told_in.faults old.source.now) (told_in.faults new.source.now) told_out sink sink' status.Ok c.kept.0 c.kept.1 c.kept.2 none
+session_finishes told_in told_out old new sink sink' (Err faults.ReadFault) c none =
+    not_done (told_in.faults old.source.now) (told_in.faults new.source.now) told_out sink sink' status.ReadFault (λ done. done)
+session_finishes told_in told_out old new sink sink' (Err faults.WriteFault) c none =
+    not_done (told_in.faults old.source.now) (told_in.faults new.source.now) told_out sink sink' status.WriteFault (λ done. done)
+session_finishes told_in told_out old new sink sink' (Err faults.InputTooLong) c none =
+    not_done (told_in.faults old.source.now) (told_in.faults new.source.now) told_out sink sink' status.InputTooLong (λ done. done)
+session_finishes told_in told_out old new sink sink' (Err faults.Memory) c none =
+    not_done (told_in.faults old.source.now) (told_in.faults new.source.now) told_out sink sink' status.Memory (λ done. done)
 
-pub session_wants : {S K : Type 0} (reads : S → ℕ) (writes wants : K → ℕ) (old new : Lines S) (sink sink' : K)
-    (r : Result Tally SessionFault) → HasSessionCause reads writes wants old new sink sink' r → HasWanted wants sink sink' (status_for r)
-session_wants reads writes wants old new sink sink' (Ok tally) c = λ is. cc
-session_wants reads writes wants old new sink sink' (Err faults.ReadFault) c = λ is. cc
-session_wants reads writes wants old new sink sink' (Err faults.WriteFault) c = λ is. cc
-session_wants reads writes wants old new sink sink' (Err faults.InputTooLong) c = λ is. cc
-session_wants reads writes wants old new sink sink' (Err faults.Memory) c = λ is. inr c.failed
+pub session_wants : {S K : Type 0} (told_in : ToldBySource S) (told_out : ToldBySink K) (old new : Lines S) (sink sink' : K)
+    (r : Result Tally SessionFault) → HasSessionCause told_in told_out old new sink sink' r → HasWanted told_out sink sink' (status_for r)
+session_wants told_in told_out old new sink sink' (Ok tally) c = λ is. cc
+session_wants told_in told_out old new sink sink' (Err faults.ReadFault) c = λ is. cc
+session_wants told_in told_out old new sink sink' (Err faults.WriteFault) c = λ is. cc
+session_wants told_in told_out old new sink sink' (Err faults.InputTooLong) c = λ is. cc
+session_wants told_in told_out old new sink sink' (Err faults.Memory) c = λ is. inr c.failed
 
 -- a show that isn't read
 pub other_not_done : (fault : ShowFault) (s : Status) → status_kept fault s → IsDone s → ⊥

@@ -25,6 +25,7 @@ pub use Rattle.lx_io.proofs.Chain.{AppendsFront-from, Puts-fails, Puts-is, Puts-
 pub use Rattle.lx_io.specs.Causes.{Rose}
 pub use Rattle.lx_io.specs.Puts.{AppendsFront, Puts}
 pub use Rattle.lx_io.specs.declared.sink.SinkFault.{SinkFault}
+pub use Rattle.lx_io.specs.Told.{ToldBySink, ToldBySource}
 pub use Rattle.lx_lex.proofs.FirstLines.{first_lines-longer, first_lines-more}
 pub use Rattle.lx_lex.specs.Lines.{LinesBetween}
 pub use Rattle.lx_lex.specs.Unread.{bytes_taken, source_faults, source_left, unread}

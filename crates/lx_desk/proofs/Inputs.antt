@@ -7,7 +7,7 @@ use Rattle.lx_desk.proofs.Imports.{lines_read, HasNoFeed, feeds, first_lines, an
 use Rattle.lx_desk.proofs.Imports.{input_wanted, ScriptAllows, over_show, fault_text, Answering, whole_session, session_after, Allows, lines_wanted}
 use Rattle.lx_desk.proofs.Imports.{bytes_wanted, Loaded, ShowFault, reading_of, HasRead, OfText, CutShort, Status, Job, Check, Sheet, Script, ScriptKind}
 use Rattle.lx_desk.proofs.Imports.{check_text, sheet_text, show_of, output_of, JobAllows, wanted_of, show_wanted, WritesAll, WritesPrefix, WritesTaken}
-use Rattle.lx_desk.proofs.Imports.{RepliesToTaken, NothingOfCut, AnswersScript, AnswersInFront, AnswersTaken, RefusedBy, status_kept}
+use Rattle.lx_desk.proofs.Imports.{RepliesToTaken, NothingOfCut, AnswersScript, AnswersInFront, AnswersTaken, RefusedBy, status_kept, ToldBySource}
 use Rattle.std.proofs.KnownBytes.{Appends-nil}
 use Rattle.lx_lex.proofs.TakenLines.{lines_within, fed_then}
 use Rattle.lx_reader.specs.declared.fault.ShowFault.TheVariants as faults
@@ -126,33 +126,31 @@ module _ (form : Form) where
   over_show_read (Some x) None i j n raws reading P Q took count shown text script p f = absurd took.took
   over_show_read (Some x) (Some y) i j n raws reading P Q took count shown text script p f = f x y took (shown ∙ count) text script p
 
-  pub over_loaded : {S : Type 0} (left : S → Option (List ℕ)) (faults : S → ℕ) (a b : Lines S) (loaded : Loaded) (o : Option (List ℕ))
-      (P Q : List ℕ → Type 0) → unread left a ≡ o → HasRead left faults a b form loaded → IfSome (unread left b) P
+  pub over_loaded : {S : Type 0} (told : ToldBySource S) (a b : Lines S) (loaded : Loaded) (o : Option (List ℕ))
+      (P Q : List ℕ → Type 0) → unread told a ≡ o → HasRead told a b form loaded → IfSome (unread told b) P
       → ((x y : List ℕ) (raws : List (List ℕ)) → LinesBetween (Some x) (Some y) a.taken b.taken raws → lines_read (lines_of x) ≡ length raws
       → reads form x ≡ Ok (reading_of loaded) → script_of x ≡ lines_of y → P y → Q x) → IfSome o Q
-  over_loaded left faults a b loaded o P Q is r p f =
+  over_loaded told a b loaded o P Q is r p f =
       let m = r.means in
       subst (λ (v : Option (List ℕ)). IfSome v Q) is
-      (over_show_read (unread left a) (unread left b) a.taken b.taken (length m.front + 1) (m.front ++ m.last ∷ []) (reading_of loaded) P Q
+      (over_show_read (unread told a) (unread told b) a.taken b.taken (length m.front + 1) (m.front ++ m.last ∷ []) (reading_of loaded) P Q
       m.handed.took (one_more m.front m.last) m.wanted m.text m.script p
       (λ x y took shown text script q. f x y (m.front ++ m.last ∷ []) took shown text script q))
 
-  pub session_text : (kind : ScriptKind) {S : Type 0} (left : S → Option (List ℕ)) (faults : S → ℕ) (a b : Lines S) (loaded : Loaded)
-      (o h h' : Option (List ℕ)) → unread left a ≡ o → HasRead left faults a b form loaded
-      → IfSome (unread left b) (λ bytes. AnswersScript (answering_of kind) (opening_of kind loaded.show) (lines_of bytes) h h')
+  pub session_text : (kind : ScriptKind) {S : Type 0} (told : ToldBySource S) (a b : Lines S) (loaded : Loaded)
+      (o h h' : Option (List ℕ)) → unread told a ≡ o → HasRead told a b form loaded
+      → IfSome (unread told b) (λ bytes. AnswersScript (answering_of kind) (opening_of kind loaded.show) (lines_of bytes) h h')
       → IfSome o (λ bytes. WritesAll (Script kind form) bytes h h' × IsOk (show_of (Script kind form) bytes))
-  session_text kind left faults a b loaded o h h' is r answers =
-      over_loaded left faults a b loaded o
-      (λ bytes. AnswersScript (answering_of kind) (opening_of kind loaded.show) (lines_of bytes) h h') _ is r answers
+  session_text kind told a b loaded o h h' is r answers =
+      over_loaded told a b loaded o (λ bytes. AnswersScript (answering_of kind) (opening_of kind loaded.show) (lines_of bytes) h h') _ is r answers
       (λ x y raws took shown read script answer. answer_at kind x y (reading_of loaded) h h' read script answer)
 
-  pub session_front : (kind : ScriptKind) {S : Type 0} (left : S → Option (List ℕ)) (faults : S → ℕ) (a b : Lines S) (loaded : Loaded)
-      (o h h' : Option (List ℕ)) → unread left a ≡ o → HasRead left faults a b form loaded
-      → IfSome (unread left b) (λ bytes. AnswersInFront (answering_of kind) (opening_of kind loaded.show) (lines_of bytes) h h')
+  pub session_front : (kind : ScriptKind) {S : Type 0} (told : ToldBySource S) (a b : Lines S) (loaded : Loaded)
+      (o h h' : Option (List ℕ)) → unread told a ≡ o → HasRead told a b form loaded
+      → IfSome (unread told b) (λ bytes. AnswersInFront (answering_of kind) (opening_of kind loaded.show) (lines_of bytes) h h')
       → IfSome o (λ bytes. WritesPrefix (Script kind form) bytes h h')
-  session_front kind left faults a b loaded o h h' is r answers =
-      over_loaded left faults a b loaded o
-      (λ bytes. AnswersInFront (answering_of kind) (opening_of kind loaded.show) (lines_of bytes) h h') _ is r answers
+  session_front kind told a b loaded o h h' is r answers =
+      over_loaded told a b loaded o (λ bytes. AnswersInFront (answering_of kind) (opening_of kind loaded.show) (lines_of bytes) h h') _ is r answers
       (λ x y raws took shown read script answer. front_at kind x y (reading_of loaded) h h' read script answer)
 
   -- of a show that is read the lines that were handed out are wanted, and then those of the script
@@ -168,22 +166,20 @@ module _ (form : Form) where
       ∙ first_lines-more (length raws) (lines_wanted (lines_of y)) took.bytes y mine in
       omega (arith, ap length bytes, length-append took.bytes (bytes_wanted y), took.count)
 
-  pub session_long : {S : Type 0} (left : S → Option (List ℕ)) (faults : S → ℕ) (a b : Lines S) (loaded : Loaded) (o : Option (List ℕ))
-      → unread left a ≡ o → a.taken ≡ 0 → HasRead left faults a b form loaded
-      → IfSome (unread left b) (λ y. INPUT_BYTES < b.taken + length (bytes_wanted y))
+  pub session_long : {S : Type 0} (told : ToldBySource S) (a b : Lines S) (loaded : Loaded) (o : Option (List ℕ))
+      → unread told a ≡ o → a.taken ≡ 0 → HasRead told a b form loaded
+      → IfSome (unread told b) (λ y. INPUT_BYTES < b.taken + length (bytes_wanted y))
       → IfSome o (λ x. INPUT_BYTES < length (input_wanted form x))
-  session_long left faults a b loaded o is none r long =
-      over_loaded left faults a b loaded o (λ y. INPUT_BYTES < b.taken + length (bytes_wanted y)) _ is r long
-      (λ x y raws took shown read script past.
+  session_long told a b loaded o is none r long =
+      over_loaded told a b loaded o (λ y. INPUT_BYTES < b.taken + length (bytes_wanted y)) _ is r long (λ x y raws took shown read script past.
       omega (arith, past, wanted_read x y a.taken b.taken raws (reading_of loaded) none took shown read script))
 
-  pub session_fits : {S : Type 0} (left : S → Option (List ℕ)) (faults : S → ℕ) (a b : Lines S) (loaded : Loaded) (o : Option (List ℕ))
-      → unread left a ≡ o → a.taken ≡ 0 → HasRead left faults a b form loaded
-      → IfSome (unread left b) (λ y. b.taken + length (bytes_wanted y) ≤ INPUT_BYTES)
+  pub session_fits : {S : Type 0} (told : ToldBySource S) (a b : Lines S) (loaded : Loaded) (o : Option (List ℕ))
+      → unread told a ≡ o → a.taken ≡ 0 → HasRead told a b form loaded
+      → IfSome (unread told b) (λ y. b.taken + length (bytes_wanted y) ≤ INPUT_BYTES)
       → IfSome o (λ x. length (input_wanted form x) ≤ INPUT_BYTES)
-  session_fits left faults a b loaded o is none r fits =
-      over_loaded left faults a b loaded o (λ y. b.taken + length (bytes_wanted y) ≤ INPUT_BYTES) _ is r fits
-      (λ x y raws took shown read script within.
+  session_fits told a b loaded o is none r fits =
+      over_loaded told a b loaded o (λ y. b.taken + length (bytes_wanted y) ≤ INPUT_BYTES) _ is r fits (λ x y raws took shown read script within.
       omega (arith, within, wanted_read x y a.taken b.taken raws (reading_of loaded) none took shown read script))
 
   -- of a line that is wanted for the show one is wanted for the whole input
@@ -236,12 +232,12 @@ module _ (form : Form) where
             ∙ ap (λ ls. (session_after (answering_of kind) (opening_of kind reading.show) ls a.failures n).text) script)) a.text;
       }
 
-  pub session_cut : (kind : ScriptKind) {S : Type 0} (left : S → Option (List ℕ)) (faults : S → ℕ) (a b : Lines S) (loaded : Loaded)
-      (o rest h h' : Option (List ℕ)) → unread left a ≡ o → a.taken ≡ 0 → HasRead left faults a b form loaded
-      → IfSome (unread left b) (λ y. AnswersTaken (answering_of kind) (opening_of kind loaded.show) b.taken y rest h h')
+  pub session_cut : (kind : ScriptKind) {S : Type 0} (told : ToldBySource S) (a b : Lines S) (loaded : Loaded)
+      (o rest h h' : Option (List ℕ)) → unread told a ≡ o → a.taken ≡ 0 → HasRead told a b form loaded
+      → IfSome (unread told b) (λ y. AnswersTaken (answering_of kind) (opening_of kind loaded.show) b.taken y rest h h')
       → IfSome o (λ x. WritesTaken (Script kind form) x rest h h')
-  session_cut kind left faults a b loaded o rest h h' is none r answers =
-      over_loaded left faults a b loaded o (λ y. AnswersTaken (answering_of kind) (opening_of kind loaded.show) b.taken y rest h h') _ is r
+  session_cut kind told a b loaded o rest h h' is none r answers =
+      over_loaded told a b loaded o (λ y. AnswersTaken (answering_of kind) (opening_of kind loaded.show) b.taken y rest h h') _ is r
       answers
       (λ x y raws took shown read script answer.
       cut_behind kind x y rest h h' a.taken b.taken raws (reading_of loaded) none took shown read script answer)
@@ -362,35 +358,33 @@ module _ (form : Form) where
     text = subst (λ (t : List ℕ). AppendsFront h h' t) (sym (tells.output x ∙ ap (λ r. over_show r f) read)) text;
   }
 
-  pub told_text : {S : Type 0} (left : S → Option (List ℕ)) (faults : S → ℕ) (a b : Lines S) (loaded : Loaded) (job : Job)
-      (f : Reading → List ℕ) → IsOfShow job f → (o h h' : Option (List ℕ)) → unread left a ≡ o → HasRead left faults a b form loaded
+  pub told_text : {S : Type 0} (told : ToldBySource S) (a b : Lines S) (loaded : Loaded) (job : Job)
+      (f : Reading → List ℕ) → IsOfShow job f → (o h h' : Option (List ℕ)) → unread told a ≡ o → HasRead told a b form loaded
       → Appends h h' (f (reading_of loaded)) → IfSome o (λ x. WritesAll job x h h' × IsOk (show_of job x))
-  told_text left faults a b loaded job f tells o h h' is r text =
+  told_text told a b loaded job f tells o h h' is r text =
       subst (λ (v : Option (List ℕ)). IfSome v (λ x. WritesAll job x h h' × IsOk (show_of job x))) is
-      (if_known (unread left a) _ _ r.means.text (λ x read. told_at job f tells x h h' (reading_of loaded) read text))
+      (if_known (unread told a) _ _ r.means.text (λ x read. told_at job f tells x h h' (reading_of loaded) read text))
 
-  pub told_prefix : {S : Type 0} (left : S → Option (List ℕ)) (faults : S → ℕ) (a b : Lines S) (loaded : Loaded) (job : Job)
-      (f : Reading → List ℕ) → IsOfShow job f → (o h h' : Option (List ℕ)) → unread left a ≡ o → HasRead left faults a b form loaded
+  pub told_prefix : {S : Type 0} (told : ToldBySource S) (a b : Lines S) (loaded : Loaded) (job : Job)
+      (f : Reading → List ℕ) → IsOfShow job f → (o h h' : Option (List ℕ)) → unread told a ≡ o → HasRead told a b form loaded
       → AppendsFront h h' (f (reading_of loaded)) → IfSome o (λ x. WritesPrefix job x h h')
-  told_prefix left faults a b loaded job f tells o h h' is r text =
+  told_prefix told a b loaded job f tells o h h' is r text =
       subst (λ (v : Option (List ℕ)). IfSome v (λ x. WritesPrefix job x h h')) is
-      (if_known (unread left a) _ _ r.means.text (λ x read. told_front_at job f tells x h h' (reading_of loaded) read text))
+      (if_known (unread told a) _ _ r.means.text (λ x read. told_front_at job f tells x h h' (reading_of loaded) read text))
 
   told_fits_at : (job : Job) (f : Reading → List ℕ) → IsOfShow job f → (x : List ℕ) (i n : ℕ) → i ≡ 0 → lines_read (lines_of x) ≡ n
       → i + length (first_lines n x) ≤ INPUT_BYTES → length (wanted_of job x) ≤ INPUT_BYTES
   told_fits_at job f tells x i n none count fits = omega (arith, none, fits, ap length (tells.bytes x ∙ ap (λ k. first_lines k x) count))
 
-  pub told_fits : {S : Type 0} (left : S → Option (List ℕ)) (faults : S → ℕ) (a b : Lines S) (loaded : Loaded) (job : Job)
-      (f : Reading → List ℕ) → IsOfShow job f → (o : Option (List ℕ)) → unread left a ≡ o → a.taken ≡ 0
-      → HasRead left faults a b form loaded
-      → IfSome o (λ x. length (wanted_of job x) ≤ INPUT_BYTES)
-  told_fits left faults a b loaded job f tells o is none r =
+  pub told_fits : {S : Type 0} (told : ToldBySource S) (a b : Lines S) (loaded : Loaded) (job : Job)
+      (f : Reading → List ℕ) → IsOfShow job f → (o : Option (List ℕ)) → unread told a ≡ o → a.taken ≡ 0
+      → HasRead told a b form loaded → IfSome o (λ x. length (wanted_of job x) ≤ INPUT_BYTES)
+  told_fits told a b loaded job f tells o is none r =
       let m = r.means in
-      let fits : IfSome (unread left a) (λ x. a.taken + length (first_lines (length m.front + 1) x) ≤ INPUT_BYTES) =
-      lines_within (unread left a) (unread left b) a.taken b.taken (m.front ++ m.last ∷ []) (length m.front + 1) m.handed.took
+      let fits : IfSome (unread told a) (λ x. a.taken + length (first_lines (length m.front + 1) x) ≤ INPUT_BYTES) =
+      lines_within (unread told a) (unread told b) a.taken b.taken (m.front ++ m.last ∷ []) (length m.front + 1) m.handed.took
       (omega (arith, one_more m.front m.last)) in
-      subst (λ (v : Option (List ℕ)). IfSome v (λ x. length (wanted_of job x) ≤ INPUT_BYTES)) is
-      (both_known (unread left a) _ _ _ m.wanted fits
+      subst (λ (v : Option (List ℕ)). IfSome v (λ x. length (wanted_of job x) ≤ INPUT_BYTES)) is (both_known (unread told a) _ _ _ m.wanted fits
       (λ x count fit. told_fits_at job f tells x a.taken (length m.front + 1) none count fit))
 
   first_lines-length : (k : ℕ) (xs : List ℕ) → length (first_lines k xs) ≤ length xs
@@ -414,10 +408,10 @@ module _ (form : Form) where
             omega (arith, ap length bytes, first_lines-length n x, ap length all, took.count, took.within)
       ]
 
-  fault_fits : (job : Job) → IsOverShow job → {S : Type 0} (left : S → Option (List ℕ)) (a : Lines S) (fault : TextFault) → a.taken ≡ 0
-      → MeansFault left a form fault → IfSome (unread left a) (λ x. length (wanted_of job x) ≤ INPUT_BYTES)
-  fault_fits job over left a fault none m =
-      refused_fits job over (unread left a) m.unread_then a.taken m.taken_then m.count m.raws fault none m.took m.whole m.text m.wanted
+  fault_fits : (job : Job) → IsOverShow job → {S : Type 0} (told : ToldBySource S) (a : Lines S) (fault : TextFault) → a.taken ≡ 0
+      → MeansFault told a form fault → IfSome (unread told a) (λ x. length (wanted_of job x) ≤ INPUT_BYTES)
+  fault_fits job over told a fault none m =
+      refused_fits job over (unread told a) m.unread_then a.taken m.taken_then m.count m.raws fault none m.took m.whole m.text m.wanted
 
   text_at : (job : Job) → IsOverShow job → (o h h' : Option (List ℕ)) (fault : TextFault) → IfSome o (λ x. reads form x ≡ Err fault)
       → Appends h h' (fault_text fault) → IfSome o (λ x. WritesAll job x h h' × IsErr (show_of job x))
@@ -449,44 +443,43 @@ module _ (form : Form) where
       omega (arith, none, long.long, over.longer x long.n (omega (arith, lt)))
 
   -- What the reader's fault and the status of its refusal say.
-  abbrev pub Says : {S : Type 0} → (S → Option (List ℕ)) → Lines S → Lines S → ShowFault → Type 0
-  Says left a b fault = OfText (MeansFault left a form) (IfSome (unread left a) (IsPastLimit a.taken) × CutShort left a b)
-      (CutShort left a b) fault
+  abbrev pub Says : {S : Type 0} → ToldBySource S → Lines S → Lines S → ShowFault → Type 0
+  Says told a b fault = OfText (MeansFault told a form) (IfSome (unread told a) (IsPastLimit a.taken) × CutShort told a b) (CutShort told a b) fault
 
-  pub means_of : {S : Type 0} (left : S → Option (List ℕ)) (a b : Lines S) (fault : ShowFault) (text : TextFault) → fault ≡ faults.Text text
-      → Says left a b fault → MeansFault left a form text
-  means_of left a b fault text told says = subst (λ f. Says left a b f) told says
+  pub means_of : {S : Type 0} (told_in : ToldBySource S) (a b : Lines S) (fault : ShowFault) (text : TextFault) → fault ≡ faults.Text text
+      → Says told_in a b fault → MeansFault told_in a form text
+  means_of told_in a b fault text told says = subst (λ f. Says told_in a b f) told says
 
   not_refused : (fault : ShowFault) (s : Status) (P : Type 0) → status_kept fault s → s ≡ status.ShowRefused → P
   not_refused fault s P kept = kept_is fault s (λ f t. t ≡ status.ShowRefused → P) kept (λ is. absurd cc) (λ is. absurd cc)
       (λ is. absurd cc)
 
   pub refusal_text : (job : Job) → IsOverShow job
-      → {S : Type 0} (left : S → Option (List ℕ)) (a b : Lines S) (o h h' : Option (List ℕ)) (fault : ShowFault) (s : Status)
-      → unread left a ≡ o → Says left a b fault → RefusedBy h h' fault s → s ≡ status.ShowRefused
+      → {S : Type 0} (told : ToldBySource S) (a b : Lines S) (o h h' : Option (List ℕ)) (fault : ShowFault) (s : Status)
+      → unread told a ≡ o → Says told a b fault → RefusedBy h h' fault s → s ≡ status.ShowRefused
       → IfSome o (λ x. WritesAll job x h h' × IsErr (show_of job x))
-  refusal_text job over left a b o h h' fault s is says by refused = elim by [
+  refusal_text job over told a b o h h' fault s is says by refused = elim by [
     | inl text ↦ subst (λ (v : Option (List ℕ)). IfSome v (λ x. WritesAll job x h h' × IsErr (show_of job x))) is
-        (text_at job over (unread left a) h h' text.text (means_of left a b fault text.text text.told says).text (text.whole refused))
+        (text_at job over (unread told a) h h' text.text (means_of told a b fault text.text text.told says).text (text.whole refused))
     | inr other ↦ not_refused fault s (IfSome o (λ x. WritesAll job x h h' × IsErr (show_of job x))) other.is refused
   ]
 
   pub refusal_front : (job : Job) → IsOverShow job
-      → {S : Type 0} (left : S → Option (List ℕ)) (a b : Lines S) (o h h' : Option (List ℕ)) (fault : ShowFault) (s : Status)
-      → unread left a ≡ o → Says left a b fault → RefusedBy h h' fault s → IfSome o (λ x. WritesPrefix job x h h')
-  refusal_front job over left a b o h h' fault s is says by = elim by [
+      → {S : Type 0} (told : ToldBySource S) (a b : Lines S) (o h h' : Option (List ℕ)) (fault : ShowFault) (s : Status)
+      → unread told a ≡ o → Says told a b fault → RefusedBy h h' fault s → IfSome o (λ x. WritesPrefix job x h h')
+  refusal_front job over told a b o h h' fault s is says by = elim by [
     | inl text ↦ subst (λ (v : Option (List ℕ)). IfSome v (λ x. WritesPrefix job x h h')) is
-        (text_front job over (unread left a) h h' text.text (means_of left a b fault text.text text.told says).text text.front)
+        (text_front job over (unread told a) h h' text.text (means_of told a b fault text.text text.told says).text text.front)
     | inr other ↦ subst (λ (v : Option (List ℕ)). IfSome o (λ x. WritesPrefix job x h v)) (sym other.kept) (nothing_written job over o h)
   ]
 
   pub refusal_fits : (job : Job) → IsOverShow job
-      → {S : Type 0} (left : S → Option (List ℕ)) (a b : Lines S) (o h h' : Option (List ℕ)) (fault : ShowFault) (s : Status)
-      → unread left a ≡ o → a.taken ≡ 0 → Says left a b fault → RefusedBy h h' fault s → s ≡ status.ShowRefused
+      → {S : Type 0} (told : ToldBySource S) (a b : Lines S) (o h h' : Option (List ℕ)) (fault : ShowFault) (s : Status)
+      → unread told a ≡ o → a.taken ≡ 0 → Says told a b fault → RefusedBy h h' fault s → s ≡ status.ShowRefused
       → IfSome o (λ x. length (wanted_of job x) ≤ INPUT_BYTES)
-  refusal_fits job over left a b o h h' fault s is none says by refused = elim by [
+  refusal_fits job over told a b o h h' fault s is none says by refused = elim by [
     | inl text ↦ subst (λ (v : Option (List ℕ)). IfSome v (λ x. length (wanted_of job x) ≤ INPUT_BYTES)) is
-        (fault_fits job over left a text.text none (means_of left a b fault text.text text.told says))
+        (fault_fits job over told a text.text none (means_of told a b fault text.text text.told says))
     | inr other ↦ not_refused fault s (IfSome o (λ x. length (wanted_of job x) ≤ INPUT_BYTES)) other.is refused
   ]
 
@@ -499,19 +492,19 @@ module _ (form : Form) where
   kinds_long s P kinds is = elim kinds [ inl a ↦ absurd cc | inr b ↦ elim b [ inl x ↦ absurd cc | inr y ↦ absurd cc ] ]
 
   pub refusal_long : (job : Job) → IsOverShow job
-      → {S : Type 0} (left : S → Option (List ℕ)) (a b : Lines S) (o h h' : Option (List ℕ)) (fault : ShowFault) (s : Status)
-      → unread left a ≡ o → a.taken ≡ 0 → Says left a b fault → RefusedBy h h' fault s → s ≡ status.InputTooLong
+      → {S : Type 0} (told : ToldBySource S) (a b : Lines S) (o h h' : Option (List ℕ)) (fault : ShowFault) (s : Status)
+      → unread told a ≡ o → a.taken ≡ 0 → Says told a b fault → RefusedBy h h' fault s → s ≡ status.InputTooLong
       → IfSome o (λ x. INPUT_BYTES < length (wanted_of job x))
-  refusal_long job over left a b o h h' fault s is none says by long = elim by [
+  refusal_long job over told a b o h h' fault s is none says by long = elim by [
     | inl text ↦ kinds_long s (IfSome o (λ x. INPUT_BYTES < length (wanted_of job x))) text.kinds long
     | inr other ↦ subst (λ (v : Option (List ℕ)). IfSome v (λ x. INPUT_BYTES < length (wanted_of job x))) is
-        (long_input job over a.taken (unread left a) none (subst (λ f. Says left a b f) (long_kept fault s other.is long) says).0)
+        (long_input job over a.taken (unread told a) none (subst (λ f. Says told a b f) (long_kept fault s other.is long) says).0)
   ]
 
-  cut_kept : {S : Type 0} (left : S → Option (List ℕ)) (a b : Lines S) (fault : ShowFault) (s : Status) → status_kept fault s
-      → (s ≡ status.ReadFault) ⊎ (s ≡ status.InputTooLong) → Says left a b fault → CutShort left a b
-  cut_kept left a b fault s kept =
-      kept_is fault s (λ f t. (t ≡ status.ReadFault) ⊎ (t ≡ status.InputTooLong) → Says left a b f → CutShort left a b) kept
+  cut_kept : {S : Type 0} (told : ToldBySource S) (a b : Lines S) (fault : ShowFault) (s : Status) → status_kept fault s
+      → (s ≡ status.ReadFault) ⊎ (s ≡ status.InputTooLong) → Says told a b fault → CutShort told a b
+  cut_kept told a b fault s kept =
+      kept_is fault s (λ f t. (t ≡ status.ReadFault) ⊎ (t ≡ status.InputTooLong) → Says told a b f → CutShort told a b) kept
       (λ is says. says) (λ is says. says.1) (λ is says. elim is [ inl x ↦ absurd cc | inr y ↦ absurd cc ])
 
   kinds_cut : (s : Status) (P : Type 0) → (s ≡ status.ShowRefused) ⊎ ((s ≡ status.WriteFault) ⊎ (s ≡ status.Memory))
@@ -522,14 +515,14 @@ module _ (form : Form) where
   ]
 
   pub refusal_cut : (job : Job) → IsOverShow job
-      → {S : Type 0} (left : S → Option (List ℕ)) (a b : Lines S) (o h h' : Option (List ℕ)) (fault : ShowFault) (s : Status)
-      → unread left a ≡ o → a.taken ≡ 0 → Says left a b fault → RefusedBy h h' fault s
-      → (s ≡ status.ReadFault) ⊎ (s ≡ status.InputTooLong) → IfSome o (λ x. WritesTaken job x (left b.source.now) h h')
-  refusal_cut job over left a b o h h' fault s is none says by cut = elim by [
-    | inl text ↦ kinds_cut s (IfSome o (λ x. WritesTaken job x (left b.source.now) h h')) text.kinds cut
+      → {S : Type 0} (told : ToldBySource S) (a b : Lines S) (o h h' : Option (List ℕ)) (fault : ShowFault) (s : Status)
+      → unread told a ≡ o → a.taken ≡ 0 → Says told a b fault → RefusedBy h h' fault s
+      → (s ≡ status.ReadFault) ⊎ (s ≡ status.InputTooLong) → IfSome o (λ x. WritesTaken job x (told.left b.source.now) h h')
+  refusal_cut job over told a b o h h' fault s is none says by cut = elim by [
+    | inl text ↦ kinds_cut s (IfSome o (λ x. WritesTaken job x (told.left b.source.now) h h')) text.kinds cut
     | inr other ↦
-        subst (λ (v : Option (List ℕ)). IfSome o (λ x. WritesTaken job x (left b.source.now) h v)) (sym other.kept)
-        (subst (λ (v : Option (List ℕ)). IfSome v (λ x. WritesTaken job x (left b.source.now) h h)) is
-        (if_known (unread left a) _ _ (cut_kept left a b fault s other.is cut says)
-        (λ x short. over.cut x (left b.source.now) h a.taken none short)))
+        subst (λ (v : Option (List ℕ)). IfSome o (λ x. WritesTaken job x (told.left b.source.now) h v)) (sym other.kept)
+        (subst (λ (v : Option (List ℕ)). IfSome v (λ x. WritesTaken job x (told.left b.source.now) h h)) is
+        (if_known (unread told a) _ _ (cut_kept told a b fault s other.is cut says)
+        (λ x short. over.cut x (told.left b.source.now) h a.taken none short)))
   ]

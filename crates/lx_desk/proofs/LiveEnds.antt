@@ -7,7 +7,7 @@ use Rattle.lx_desk.proofs.Imports.{script_of, lines_read, first_replies, input_l
 use Rattle.lx_desk.proofs.Imports.{answered_lines, lines_wanted, bytes_wanted, begun, desk_answering, Show, Loaded, ShowFault, reading_of, HasRead, Status}
 use Rattle.lx_desk.proofs.Imports.{WritesPrefix, RepliesToTaken, RefusedBy, EndsJob, HasEnded, live_session, live_after, LiveAllows, HaveVersions, PlaysScript}
 use Rattle.lx_desk.proofs.Imports.{AreServed, PlaysInFront, PlaysTaken, HasPlayedLive, PlaysWhole, LivesInFront, LivesTaken, HasLived, PlaysToEnd, LivesToEnd}
-use Rattle.lx_desk.proofs.Imports.{LacksMemory, HasFailedOutlet, DecidesInOrder, HasWanted}
+use Rattle.lx_desk.proofs.Imports.{LacksMemory, HasFailedOutlet, DecidesInOrder, HasWanted, ToldBySink, ToldBySource}
 use Rattle.lx_desk.specs.declared.desk.Status.TheVariants as status
 use Rattle.lx_desk.proofs.Inputs.{Says, means_of, session_long, session_fits, refusal_isnt_ok, front_nothing, if_known, both_known, over_loaded}
 use Rattle.lx_desk.proofs.Inputs.{if_both, fed_behind, wanted_read, script_over}
@@ -20,30 +20,29 @@ module _ (form : Form) (universes : ℕ) where
   live_allows x failures (Ok reading) = each_allowed failures (begin_at (begun (opened reading.show))) (answered_lines (script_of x))
   live_allows x failures (Err fault) = tt
 
-  whole_at : {K : Type 0} (holds : K → Option (List ℕ)) (x y : List ℕ) (reading : Reading) (h h' : Option (List ℕ))
+  whole_at : {K : Type 0} (told : ToldBySink K) (x y : List ℕ) (reading : Reading) (h h' : Option (List ℕ))
       (outlets outlets' : List (Option K)) → reads form x ≡ Ok reading → script_of x ≡ lines_of y
-      → length (input_wanted form x) ≤ INPUT_BYTES → PlaysScript holds reading.show universes (lines_of y) h h' outlets outlets'
-      → PlaysWhole holds universes form x h h' outlets outlets'
-  whole_at holds x y reading h h' outlets outlets' read script fits a = record {
+      → length (input_wanted form x) ≤ INPUT_BYTES → PlaysScript told reading.show universes (lines_of y) h h' outlets outlets'
+      → PlaysWhole told universes form x h h' outlets outlets'
+  whole_at told x y reading h h' outlets outlets' read script fits a = record {
     reading = reading;
     read = read;
     failures = a.failures;
     allows = subst (λ (ls : List (List ℕ)). LiveAllows reading.show ls a.failures (live_session reading.show ls a.failures).state.accepted)
         (sym script) a.allows;
     text = subst (λ (ls : List (List ℕ)). Appends h h' (live_session reading.show ls a.failures).text) (sym script) a.text;
-    versions = subst (λ (ls : List (List ℕ)). HaveVersions holds reading.show universes outlets outlets'
+    versions = subst (λ (ls : List (List ℕ)). HaveVersions told reading.show universes outlets outlets'
         (live_session reading.show ls a.failures).state.accepted) (sym script) a.versions;
     within = fits;
   }
 
-  prefix_at : {K : Type 0} (holds : K → Option (List ℕ)) (back : K → List ℕ) (failures wants : K → ℕ) (x y : List ℕ) (reading : Reading)
-      (h h' : Option (List ℕ))
+  prefix_at : {K : Type 0} (told : ToldBySink K) (x y : List ℕ) (reading : Reading) (h h' : Option (List ℕ))
       (outlets outlets' : List (Option K)) → reads form x ≡ Ok reading → script_of x ≡ lines_of y
-      → PlaysInFront holds back failures wants reading.show universes (lines_of y) h h' outlets outlets'
-      → WritesPrefix (Script (Live universes) form) x h h' × LivesInFront holds back failures wants universes form x h h' outlets outlets'
-  prefix_at holds back failures wants x y reading h h' outlets outlets' read script a =
-      let plays : PlaysInFront holds back failures wants reading.show universes (script_of x) h h' outlets outlets' =
-      subst (λ (ls : List (List ℕ)). PlaysInFront holds back failures wants reading.show universes ls h h' outlets outlets') (sym script) a in
+      → PlaysInFront told reading.show universes (lines_of y) h h' outlets outlets'
+      → WritesPrefix (Script (Live universes) form) x h h' × LivesInFront told universes form x h h' outlets outlets'
+  prefix_at told x y reading h h' outlets outlets' read script a =
+      let plays : PlaysInFront told reading.show universes (script_of x) h h' outlets outlets' =
+      subst (λ (ls : List (List ℕ)). PlaysInFront told reading.show universes ls h h' outlets outlets') (sym script) a in
       let front = front_of_whole (desk_answering false) (desk_lawful false) (begun (opened reading.show)) (script_of x) plays.failures
       plays.lines h h' plays.text in (
         record {
@@ -55,13 +54,12 @@ module _ (form : Form) (universes : ℕ) where
         record { reading = reading; read = read; plays = plays },
       )
 
-  taken_at : {K : Type 0} (holds : K → Option (List ℕ)) (back : K → List ℕ) (failures wants : K → ℕ) (x y : List ℕ) (left h h' : Option (List ℕ))
+  taken_at : {K : Type 0} (told : ToldBySink K) (x y : List ℕ) (left h h' : Option (List ℕ))
       (outlets outlets' : List (Option K)) (i j : ℕ) (raws : List (List ℕ)) (reading : Reading) → i ≡ 0
       → LinesBetween (Some x) (Some y) i j raws
       → lines_read (lines_of x) ≡ length raws → reads form x ≡ Ok reading → script_of x ≡ lines_of y
-      → PlaysTaken holds back failures wants reading.show universes j y left h h' outlets outlets'
-      → LivesTaken holds back failures wants universes form x left h h' outlets outlets'
-  taken_at holds back failures wants x y left h h' outlets outlets' i j raws reading none took shown text script a =
+      → PlaysTaken told reading.show universes j y left h h' outlets outlets' → LivesTaken told universes form x left h h' outlets outlets'
+  taken_at told x y left h h' outlets outlets' i j raws reading none took shown text script a =
       let n = a.cut.lines in
       let mine : took.bytes ≡ first_lines (length raws) (took.bytes ++ y) = took.front ∙ ap (first_lines (length raws)) took.took in
       let first : first_lines (length raws + n) x ≡ took.bytes ++ first_lines n y = ap (first_lines (length raws + n)) took.took
@@ -95,17 +93,16 @@ module _ (form : Form) (universes : ℕ) where
             (live_after reading.show ls a.failures n).state.accepted) (sym script) a.allows);
         text = subst (λ (k : ℕ). Appends h h' (live_after reading.show (script_of x) a.failures k).text) done
             (subst (λ (ls : List (List ℕ)). Appends h h' (live_after reading.show ls a.failures n).text) (sym script) a.text);
-        served = subst (λ (k : ℕ). AreServed holds back failures wants reading.show universes outlets outlets'
+        served = subst (λ (k : ℕ). AreServed told reading.show universes outlets outlets'
             (live_after reading.show (script_of x) a.failures k).state.accepted) done
-            (subst (λ (ls : List (List ℕ)). AreServed holds back failures wants reading.show universes outlets outlets'
+            (subst (λ (ls : List (List ℕ)). AreServed told reading.show universes outlets outlets'
             (live_after reading.show ls a.failures n).state.accepted) (sym script) a.served);
       }
 
   -- the same, as it is told of a job
-  as_taken : {K : Type 0} (holds : K → Option (List ℕ)) (back : K → List ℕ) (failures wants : K → ℕ) (x : List ℕ) (left h h' : Option (List ℕ))
-      (outlets outlets' : List (Option K))
-      → LivesTaken holds back failures wants universes form x left h h' outlets outlets' → RepliesToTaken (Script (Live universes) form) x left h h'
-  as_taken holds back failures wants x left h h' outlets outlets' a = record {
+  as_taken : {K : Type 0} (told : ToldBySink K) (x : List ℕ) (left h h' : Option (List ℕ)) (outlets outlets' : List (Option K))
+      → LivesTaken told universes form x left h h' outlets outlets' → RepliesToTaken (Script (Live universes) form) x left h h'
+  as_taken told x left h h' outlets outlets' a = record {
     failures = a.failures;
     allows = live_allows x a.failures (reads form x);
     cut = a.cut;
@@ -125,66 +122,61 @@ module _ (form : Form) (universes : ℕ) where
       })
 
   -- a script over a show that was read
-  pub live_ended : {S K : Type 0} (left : S → Option (List ℕ)) (faults : S → ℕ) (holds : K → Option (List ℕ)) (back : K → List ℕ) (failures wants : K → ℕ)
+  pub live_ended : {S K : Type 0} (told_in : ToldBySource S) (told : ToldBySink K)
       (a b : Lines S) (loaded : Loaded) (o rest h h' : Option (List ℕ)) (outlets outlets' : List (Option K)) (s : Status)
-      → unread left a ≡ o → a.taken ≡ 0 → HasRead left faults a b form loaded
-      → IfSome (unread left b) (λ y. HasPlayedLive s holds back failures wants loaded.show universes b.taken y rest h h' outlets outlets')
-      → IfSome o (λ x. HasLived s holds back failures wants universes form x rest h h' outlets outlets')
-  live_ended left faults holds back failures wants a b loaded o rest h h' outlets outlets' status.Ok is none r p =
-      both_known o _ _ _ (session_fits form left faults a b loaded o is none r (if_known (unread left b) _ _ p (λ y q. q.1)))
-      (over_loaded form left faults a b loaded o (λ y. PlaysScript holds loaded.show universes (lines_of y) h h' outlets outlets')
-      (λ x. length (input_wanted form x) ≤ INPUT_BYTES → PlaysWhole holds universes form x h h' outlets outlets') is r
-      (if_known (unread left b) _ _ p (λ y q. q.0))
-      (λ x y raws took shown text script q fits. whole_at holds x y (reading_of loaded) h h' outlets outlets' text script fits q))
+      → unread told_in a ≡ o → a.taken ≡ 0 → HasRead told_in a b form loaded
+      → IfSome (unread told_in b) (λ y. HasPlayedLive s told loaded.show universes b.taken y rest h h' outlets outlets')
+      → IfSome o (λ x. HasLived s told universes form x rest h h' outlets outlets')
+  live_ended told_in told a b loaded o rest h h' outlets outlets' status.Ok is none r p =
+      both_known o _ _ _ (session_fits form told_in a b loaded o is none r (if_known (unread told_in b) _ _ p (λ y q. q.1)))
+      (over_loaded form told_in a b loaded o (λ y. PlaysScript told loaded.show universes (lines_of y) h h' outlets outlets')
+      (λ x. length (input_wanted form x) ≤ INPUT_BYTES → PlaysWhole told universes form x h h' outlets outlets') is r
+      (if_known (unread told_in b) _ _ p (λ y q. q.0))
+      (λ x y raws took shown text script q fits. whole_at told x y (reading_of loaded) h h' outlets outlets' text script fits q))
       (λ x fits f. f fits)
-  live_ended left faults holds back failures wants a b loaded o rest h h' outlets outlets' status.ReadFault is none r p =
-      over_loaded form left faults a b loaded o (λ y. PlaysTaken holds back failures wants loaded.show universes b.taken y rest h h' outlets outlets')
-      _ is r p
+  live_ended told_in told a b loaded o rest h h' outlets outlets' status.ReadFault is none r p =
+      over_loaded form told_in a b loaded o (λ y. PlaysTaken told loaded.show universes b.taken y rest h h' outlets outlets') _ is r p
       (λ x y raws took shown text script q.
-      let taken = taken_at holds back failures wants x y rest h h' outlets outlets' a.taken b.taken raws (reading_of loaded) none took shown text
+      let taken = taken_at told x y rest h h' outlets outlets' a.taken b.taken raws (reading_of loaded) none took shown text
       script q in
-      (as_taken holds back failures wants x rest h h' outlets outlets' taken, inr taken))
-  live_ended left faults holds back failures wants a b loaded o rest h h' outlets outlets' status.InputTooLong is none r p =
-      both_known o _ _ _
-      (over_loaded form left faults a b loaded o (λ y. PlaysTaken holds back failures wants loaded.show universes b.taken y rest h h' outlets
-      outlets') (λ x. LivesTaken holds back failures wants universes form x rest h h' outlets outlets') is r
-      (if_known (unread left b) _ _ p (λ y q. q.0))
-      (λ x y raws took shown text script q. taken_at holds back failures wants x y rest h h' outlets outlets' a.taken b.taken raws
+      (as_taken told x rest h h' outlets outlets' taken, inr taken))
+  live_ended told_in told a b loaded o rest h h' outlets outlets' status.InputTooLong is none r p =
+      both_known o _ _ _ (over_loaded form told_in a b loaded o (λ y. PlaysTaken told loaded.show universes b.taken y rest h h' outlets
+      outlets') (λ x. LivesTaken told universes form x rest h h' outlets outlets') is r (if_known (unread told_in b) _ _ p (λ y q. q.0))
+      (λ x y raws took shown text script q. taken_at told x y rest h h' outlets outlets' a.taken b.taken raws
       (reading_of loaded) none took shown text script q))
-      (session_long form left faults a b loaded o is none r (if_known (unread left b) _ _ p (λ y q. q.1)))
-      (λ x taken long. ((as_taken holds back failures wants x rest h h' outlets outlets' taken, long), inr taken))
-  live_ended left faults holds back failures wants a b loaded o rest h h' outlets outlets' status.WriteFault is none r p =
-      over_loaded form left faults a b loaded o (λ y. PlaysInFront holds back failures wants loaded.show universes (lines_of y) h h' outlets outlets')
-      _ is r p
+      (session_long form told_in a b loaded o is none r (if_known (unread told_in b) _ _ p (λ y q. q.1)))
+      (λ x taken long. ((as_taken told x rest h h' outlets outlets' taken, long), inr taken))
+  live_ended told_in told a b loaded o rest h h' outlets outlets' status.WriteFault is none r p =
+      over_loaded form told_in a b loaded o (λ y. PlaysInFront told loaded.show universes (lines_of y) h h' outlets outlets') _ is r p
       (λ x y raws took shown text script q. let w =
-      prefix_at holds back failures wants x y (reading_of loaded) h h' outlets outlets' text script q in (w.0, inr w.1))
-  live_ended left faults holds back failures wants a b loaded o rest h h' outlets outlets' status.Memory is none r p =
-      over_loaded form left faults a b loaded o (λ y. ((h' ≡ h) × (outlets' ≡ outlets))
-      ⊎ PlaysInFront holds back failures wants loaded.show universes (lines_of y) h h' outlets outlets') _ is r p
-      (λ x y raws took shown text script q. elim q [
+      prefix_at told x y (reading_of loaded) h h' outlets outlets' text script q in (w.0, inr w.1))
+  live_ended told_in told a b loaded o rest h h' outlets outlets' status.Memory is none r p =
+      over_loaded form told_in a b loaded o (λ y. ((h' ≡ h) × (outlets' ≡ outlets))
+      ⊎ PlaysInFront told loaded.show universes (lines_of y) h h' outlets outlets') _ is r p (λ x y raws took shown text script q. elim q [
         | inl kept ↦ (nothing_lived x h h' kept.0, inl (kept.1, λ ok. kept.0))
-        | inr plays ↦ let w = prefix_at holds back failures wants x y (reading_of loaded) h h' outlets outlets' text script plays in
+        | inr plays ↦ let w = prefix_at told x y (reading_of loaded) h h' outlets outlets' text script plays in
             (w.0, inr w.1)
       ])
-  live_ended left faults holds back failures wants a b loaded o rest h h' outlets outlets' status.ShowRefused is none r p =
-      over_loaded form left faults a b loaded o (λ y. ⊥) _ is r p (λ x y raws took shown text script q. absurd q)
-  live_ended left faults holds back failures wants a b loaded o rest h h' outlets outlets' status.Usage is none r p =
-      over_loaded form left faults a b loaded o (λ y. ⊥) _ is r p (λ x y raws took shown text script q. absurd q)
-  live_ended left faults holds back failures wants a b loaded o rest h h' outlets outlets' status.Live is none r p =
-      over_loaded form left faults a b loaded o (λ y. ⊥) _ is r p (λ x y raws took shown text script q. absurd q)
+  live_ended told_in told a b loaded o rest h h' outlets outlets' status.ShowRefused is none r p =
+      over_loaded form told_in a b loaded o (λ y. ⊥) _ is r p (λ x y raws took shown text script q. absurd q)
+  live_ended told_in told a b loaded o rest h h' outlets outlets' status.Usage is none r p =
+      over_loaded form told_in a b loaded o (λ y. ⊥) _ is r p (λ x y raws took shown text script q. absurd q)
+  live_ended told_in told a b loaded o rest h h' outlets outlets' status.Live is none r p =
+      over_loaded form told_in a b loaded o (λ y. ⊥) _ is r p (λ x y raws took shown text script q. absurd q)
 
-  refused_at : {K : Type 0} (holds : K → Option (List ℕ)) (back : K → List ℕ) (failures wants : K → ℕ) (x : List ℕ) (rest h h' : Option (List ℕ))
+  refused_at : {K : Type 0} (told : ToldBySink K) (x : List ℕ) (rest h h' : Option (List ℕ))
       (outlets : List (Option K)) (fault : ShowFault) (s : Status)
       → RefusedBy h h' fault s → HasEnded s (Script (Live universes) form) x rest h h' → (IsOk (reads form x) → h' ≡ h)
-      → HasLived s holds back failures wants universes form x rest h h' outlets outlets
-  refused_at holds back failures wants x rest h h' outlets fault status.Ok by e none = refusal_isnt_ok h h' fault status.Ok _ by refl
-  refused_at holds back failures wants x rest h h' outlets fault status.ShowRefused by e none = (e, refl)
-  refused_at holds back failures wants x rest h h' outlets fault status.Usage by e none = absurd e
-  refused_at holds back failures wants x rest h h' outlets fault status.ReadFault by e none = (e, inl (refl, none))
-  refused_at holds back failures wants x rest h h' outlets fault status.WriteFault by e none = (e, inl (refl, none))
-  refused_at holds back failures wants x rest h h' outlets fault status.Memory by e none = (e, inl (refl, none))
-  refused_at holds back failures wants x rest h h' outlets fault status.InputTooLong by e none = (e, inl (refl, none))
-  refused_at holds back failures wants x rest h h' outlets fault status.Live by e none = absurd (refusal_ends h h' fault status.Live by)
+      → HasLived s told universes form x rest h h' outlets outlets
+  refused_at told x rest h h' outlets fault status.Ok by e none = refusal_isnt_ok h h' fault status.Ok _ by refl
+  refused_at told x rest h h' outlets fault status.ShowRefused by e none = (e, refl)
+  refused_at told x rest h h' outlets fault status.Usage by e none = absurd e
+  refused_at told x rest h h' outlets fault status.ReadFault by e none = (e, inl (refl, none))
+  refused_at told x rest h h' outlets fault status.WriteFault by e none = (e, inl (refl, none))
+  refused_at told x rest h h' outlets fault status.Memory by e none = (e, inl (refl, none))
+  refused_at told x rest h h' outlets fault status.InputTooLong by e none = (e, inl (refl, none))
+  refused_at told x rest h h' outlets fault status.Live by e none = absurd (refusal_ends h h' fault status.Live by)
 
   -- of a show that isn't read, no script line is answered
   none_answered : (o h h' : Option (List ℕ)) (text : TextFault) → IfSome o (λ x. reads form x ≡ Err text)
@@ -195,33 +187,33 @@ module _ (form : Form) (universes : ℕ) where
   all_none None h h' kept = tt
   all_none (Some x) h h' kept = λ ok. kept
 
-  unanswered : {S : Type 0} (left : S → Option (List ℕ)) (a b : Lines S) (o h h' : Option (List ℕ)) (fault : ShowFault) (s : Status)
-      → unread left a ≡ o → Says form left a b fault → RefusedBy h h' fault s → IfSome o (λ x. IsOk (reads form x) → h' ≡ h)
-  unanswered left a b o h h' fault s is says by = elim by [
+  unanswered : {S : Type 0} (told : ToldBySource S) (a b : Lines S) (o h h' : Option (List ℕ)) (fault : ShowFault) (s : Status)
+      → unread told a ≡ o → Says form told a b fault → RefusedBy h h' fault s → IfSome o (λ x. IsOk (reads form x) → h' ≡ h)
+  unanswered told a b o h h' fault s is says by = elim by [
     | inl text ↦ subst (λ (v : Option (List ℕ)). IfSome v (λ x. IsOk (reads form x) → h' ≡ h)) is
-        (none_answered (unread left a) h h' text.text (means_of form left a b fault text.text text.told says).text)
+        (none_answered (unread told a) h h' text.text (means_of form told a b fault text.text text.told says).text)
     | inr other ↦ all_none o h h' other.kept
   ]
 
   -- a show that isn't read
-  pub refused_lived : {S K : Type 0} (left : S → Option (List ℕ)) (holds : K → Option (List ℕ)) (back : K → List ℕ) (failures wants : K → ℕ) (a b : Lines S)
+  pub refused_lived : {S K : Type 0} (told_in : ToldBySource S) (told : ToldBySink K) (a b : Lines S)
       (o h h' : Option (List ℕ)) (outlets : List (Option K)) (fault : ShowFault) (s : Status)
-      → unread left a ≡ o → a.taken ≡ 0 → Says form left a b fault → RefusedBy h h' fault s
-      → IfSome o (λ x. HasLived s holds back failures wants universes form x (left b.source.now) h h' outlets outlets)
-  refused_lived left holds back failures wants a b o h h' outlets fault s is none says by =
-      both_known o _ _ _ (refusal_ended form (Script (Live universes) form) (script_over form (Live universes)) left a b o h h' fault s is none says by)
-      (unanswered left a b o h h' fault s is says by)
-      (λ x e unread. refused_at holds back failures wants x (left b.source.now) h h' outlets fault s by e unread)
+      → unread told_in a ≡ o → a.taken ≡ 0 → Says form told_in a b fault → RefusedBy h h' fault s
+      → IfSome o (λ x. HasLived s told universes form x (told_in.left b.source.now) h h' outlets outlets)
+  refused_lived told_in told a b o h h' outlets fault s is none says by =
+      both_known o _ _ _ (refusal_ended form (Script (Live universes) form) (script_over form (Live universes)) told_in a b o h h' fault s is none says by)
+      (unanswered told_in a b o h h' fault s is says by)
+      (λ x e unread. refused_at told x (told_in.left b.source.now) h h' outlets fault s by e unread)
 
 -- In which order the faults of a live run are told, over a show that was read.
-module _ (form : Form) (universes : ℕ) {O K : Type 0} (holds : K → Option (List ℕ)) (back : K → List ℕ) (failures wants : K → ℕ)
-    (writes output_wants : O → ℕ) (output output' : O) (h h' : Option (List ℕ)) (outlets outlets' : List (Option K)) where
+module _ (form : Form) (universes : ℕ) {O K : Type 0} (told : ToldBySink K)
+    (told_out : ToldBySink O) (output output' : O) (h h' : Option (List ℕ)) (outlets outlets' : List (Option K)) where
   abbrev ToEnd : Show → List ℕ → ℕ → (List (Option SinkFault) → ℕ → Type 0) → Type 0
-  ToEnd show bytes before Told = PlaysToEnd Told holds back failures wants show universes (lines_of bytes) h h' outlets outlets'
+  ToEnd show bytes before Told = PlaysToEnd Told told show universes (lines_of bytes) h h' outlets outlets'
       × (before + length (bytes_wanted bytes) ≤ INPUT_BYTES)
 
   abbrev LivesTo : List ℕ → (List (Option SinkFault) → ℕ → Type 0) → Type 0
-  LivesTo x Told = LivesToEnd Told holds back failures wants universes form x h h' outlets outlets'
+  LivesTo x Told = LivesToEnd Told told universes form x h h' outlets outlets'
 
   lives_to : (Told : List (Option SinkFault) → ℕ → Type 0) (x y : List ℕ) (i j : ℕ) (raws : List (List ℕ)) (reading : Reading) → i ≡ 0
       → LinesBetween (Some x) (Some y) i j raws → lines_read (lines_of x) ≡ length raws → reads form x ≡ Ok reading
@@ -229,15 +221,14 @@ module _ (form : Form) (universes : ℕ) {O K : Type 0} (holds : K → Option (L
   lives_to Told x y i j raws reading none took shown read script p = record {
     reading = reading;
     read = read;
-    plays = subst (λ (ls : List (List ℕ)). PlaysToEnd Told holds back failures wants reading.show universes ls h h' outlets outlets')
-        (sym script) p.0;
+    plays = subst (λ (ls : List (List ℕ)). PlaysToEnd Told told reading.show universes ls h h' outlets outlets') (sym script) p.0;
     within = let w = p.1 in omega (arith, wanted_read form x y i j raws reading none took shown read script, w);
   }
 
   order_on : (s : Status) (reads reads' reads'' : ℕ) (P Q : (List (Option SinkFault) → ℕ → Type 0) → Type 0) → reads' ≡ reads
       → ((Told : List (Option SinkFault) → ℕ → Type 0) → P Told → Q Told)
-      → DecidesInOrder s reads' reads'' writes output_wants output output' outlets outlets' P
-      → DecidesInOrder s reads reads'' writes output_wants output output' outlets outlets' Q
+      → DecidesInOrder s reads' reads'' told_out output output' outlets outlets' P
+      → DecidesInOrder s reads reads'' told_out output output' outlets outlets' Q
   order_on status.WriteFault reads reads' reads'' P Q same f p = elim p [
     | inl failed ↦ inl failed
     | inr q ↦ inr (
@@ -259,40 +250,39 @@ module _ (form : Form) (universes : ℕ) {O K : Type 0} (holds : K → Option (L
   order_on status.InputTooLong reads reads' reads'' P Q same f p = tt
   order_on status.Live reads reads' reads'' P Q same f p = tt
 
-  pub live_order : {S : Type 0} (left : S → Option (List ℕ)) (faults : S → ℕ) (a b : Lines S) (loaded : Loaded) (o : Option (List ℕ))
-      (s : Status) (reads reads' reads'' : ℕ) → unread left a ≡ o → a.taken ≡ 0 → HasRead left faults a b form loaded → reads' ≡ reads
-      → IfSome (unread left b) (λ y. DecidesInOrder s reads' reads'' writes output_wants output output' outlets outlets'
-      (ToEnd loaded.show y b.taken))
-      → IfSome o (λ x. DecidesInOrder s reads reads'' writes output_wants output output' outlets outlets' (LivesTo x))
-  live_order left faults a b loaded o s reads reads' reads'' is none r same p =
-      over_loaded form left faults a b loaded o (λ y. DecidesInOrder s reads' reads'' writes output_wants output output' outlets outlets'
+  pub live_order : {S : Type 0} (told_in : ToldBySource S) (a b : Lines S) (loaded : Loaded) (o : Option (List ℕ))
+      (s : Status) (reads reads' reads'' : ℕ) → unread told_in a ≡ o → a.taken ≡ 0 → HasRead told_in a b form loaded → reads' ≡ reads
+      → IfSome (unread told_in b) (λ y. DecidesInOrder s reads' reads'' told_out output output' outlets outlets' (ToEnd loaded.show y b.taken))
+      → IfSome o (λ x. DecidesInOrder s reads reads'' told_out output output' outlets outlets' (LivesTo x))
+  live_order told_in a b loaded o s reads reads' reads'' is none r same p =
+      over_loaded form told_in a b loaded o (λ y. DecidesInOrder s reads' reads'' told_out output output' outlets outlets'
       (ToEnd loaded.show y b.taken)) _ is r p
       (λ x y raws took shown read script q. order_on s reads reads' reads'' (ToEnd loaded.show y b.taken) (LivesTo x) same
       (λ Told. lives_to Told x y a.taken b.taken raws (reading_of loaded) none took shown read script) q)
 
 -- and of one that wasn't
-order_refused : {O K : Type 0} (s : Status) (reads reads' : ℕ) (writes wants : O → ℕ) (output output' : O) (outlets : List (Option K))
-    (ToEnd : (List (Option SinkFault) → ℕ → Type 0) → Type 0) → (s ≡ status.WriteFault → Rose (writes output) (writes output'))
-    → HasWanted wants output output' s → DecidesInOrder s reads reads' writes wants output output' outlets outlets ToEnd
-order_refused status.WriteFault reads reads' writes wants output output' outlets ToEnd write memory = inl (write refl)
-order_refused status.Memory reads reads' writes wants output output' outlets ToEnd write memory = elim (memory refl) [
+order_refused : {O K : Type 0} (s : Status) (reads reads' : ℕ) (told : ToldBySink O) (output output' : O) (outlets : List (Option K))
+    (ToEnd : (List (Option SinkFault) → ℕ → Type 0) → Type 0) → (s ≡ status.WriteFault → Rose (told.faults output) (told.faults output'))
+    → HasWanted told output output' s → DecidesInOrder s reads reads' told output output' outlets outlets ToEnd
+order_refused status.WriteFault reads reads' told output output' outlets ToEnd write memory = inl (write refl)
+order_refused status.Memory reads reads' told output output' outlets ToEnd write memory = elim (memory refl) [
   | inl same ↦ inl (inl (same, refl))
   | inr rose ↦ inl (inr rose)
 ]
-order_refused status.Ok reads reads' writes wants output output' outlets ToEnd write memory = tt
-order_refused status.ShowRefused reads reads' writes wants output output' outlets ToEnd write memory = tt
-order_refused status.Usage reads reads' writes wants output output' outlets ToEnd write memory = tt
-order_refused status.ReadFault reads reads' writes wants output output' outlets ToEnd write memory = tt
-order_refused status.InputTooLong reads reads' writes wants output output' outlets ToEnd write memory = tt
-order_refused status.Live reads reads' writes wants output output' outlets ToEnd write memory = tt
+order_refused status.Ok reads reads' told output output' outlets ToEnd write memory = tt
+order_refused status.ShowRefused reads reads' told output output' outlets ToEnd write memory = tt
+order_refused status.Usage reads reads' told output output' outlets ToEnd write memory = tt
+order_refused status.ReadFault reads reads' told output output' outlets ToEnd write memory = tt
+order_refused status.InputTooLong reads reads' told output output' outlets ToEnd write memory = tt
+order_refused status.Live reads reads' told output output' outlets ToEnd write memory = tt
 
-pub all_refused : {O K : Type 0} (o : Option (List ℕ)) (s : Status) (reads reads' : ℕ) (writes wants : O → ℕ) (output output' : O)
+pub all_refused : {O K : Type 0} (o : Option (List ℕ)) (s : Status) (reads reads' : ℕ) (told : ToldBySink O) (output output' : O)
     (outlets : List (Option K)) (ToEnd : List ℕ → (List (Option SinkFault) → ℕ → Type 0) → Type 0)
-    → (s ≡ status.WriteFault → Rose (writes output) (writes output')) → HasWanted wants output output' s
-    → IfSome o (λ bytes. DecidesInOrder s reads reads' writes wants output output' outlets outlets (ToEnd bytes))
-all_refused None s reads reads' writes wants output output' outlets ToEnd write memory = tt
-all_refused (Some bytes) s reads reads' writes wants output output' outlets ToEnd write memory =
-    order_refused s reads reads' writes wants output output' outlets (ToEnd bytes) write memory
+    → (s ≡ status.WriteFault → Rose (told.faults output) (told.faults output')) → HasWanted told output output' s
+    → IfSome o (λ bytes. DecidesInOrder s reads reads' told output output' outlets outlets (ToEnd bytes))
+all_refused None s reads reads' told output output' outlets ToEnd write memory = tt
+all_refused (Some bytes) s reads reads' told output output' outlets ToEnd write memory =
+    order_refused s reads reads' told output output' outlets (ToEnd bytes) write memory
 
 -- the status of a refused show isn't that of words
 pub refused_words : (h h' : Option (List ℕ)) (fault : ShowFault) (s : Status) → RefusedBy h h' fault s → s ≢ status.Usage

@@ -6,7 +6,7 @@ use Rattle.lx_desk.proofs.Imports.{Kept, Answering, Session, begin_at, after_eac
 use Rattle.lx_desk.proofs.Imports.{StandsFor, SessionFault, Tally, HasDone, AnsweredWhole, AnsweredPrefix, AnsweredTaken, ScriptAnswered, KeepsLimit}
 use Rattle.lx_desk.proofs.Imports.{HasSessionCause, IsFull, Status, status_for, HasCauseOf, live_session, LiveAllows, HaveVersions, PlaysScript, HaveGot}
 use Rattle.lx_desk.proofs.Imports.{AreServed, PlaysInFront, PlaysTaken, HasPlayedLive, ArePlayed, OutletFailed, PlaysToEnd, LacksMemory, HasFailedOutlet}
-use Rattle.lx_desk.proofs.Imports.{DecidesInOrder, Finishes, HasLiveCause, TellsOutlets, TellsRun, Appends, AppendsFront}
+use Rattle.lx_desk.proofs.Imports.{DecidesInOrder, Finishes, HasLiveCause, TellsOutlets, TellsRun, Appends, AppendsFront, ToldBySink, ToldBySource}
 use Rattle.lx_io.specs.declared.sink.SinkFault.TheVariants as sinks
 use Rattle.lx_session.specs.declared.fault.SessionFault.TheVariants as faults
 use Rattle.lx_workers.specs.Engines.{leaves_room}
@@ -49,12 +49,12 @@ full_sink (None ∷ outlets) full zero lt = absurd cc
 full_sink (outlet ∷ outlets) full (suc place) lt = full_sink outlets full.1 place (omega arith)
 
 -- the outlets' lines are those of the list that was published
-versions_of : {K : Type 0} (holds : K → Option (List ℕ)) (back : K → List ℕ) (failures wants : K → ℕ) (show : Show) (universes : ℕ)
+versions_of : {K : Type 0} (told : ToldBySink K) (show : Show) (universes : ℕ)
     (outlets used used' : List (Option K)) (rest : List (Option K)) (results : List (Option SinkFault)) (list : List Command)
     → used ≡ take universes outlets → length used ≡ universes
     → ((place : ℕ) (fault : Option SinkFault) → slice_get results place ≡ Some fault → fault ≡ None)
-    → AreDelivered holds back failures wants show used used' results list → HaveVersions holds show universes outlets (used' ++ rest) list
-versions_of holds back failures wants show universes outlets used used' rest results list is n none d = λ place start within at.
+    → AreDelivered told show used used' results list → HaveVersions told show universes outlets (used' ++ rest) list
+versions_of told show universes outlets used used' rest results list is n none d = λ place start within at.
     let back = d.each place start (ap (λ l. slice_get l place) is ∙ (get_take universes place outlets within ∙ at)) in
     record {
       new = back.new;
@@ -63,18 +63,16 @@ versions_of holds back failures wants show universes outlets used used' rest res
     }
 
 -- the outlets in use got what they were to get, and the others are as they were
-abbrev have_got : {K : Type 0} (holds : K → Option (List ℕ)) (back : K → List ℕ) (failures wants : K → ℕ) (show : Show) (universes : ℕ)
+abbrev have_got : {K : Type 0} (told : ToldBySink K) (show : Show) (universes : ℕ)
     (outlets used used' rest : List (Option K)) (results : List (Option SinkFault)) (published : List Command)
     → used ≡ take universes outlets → length used ≡ universes → rest ≡ drop universes outlets
-    → AreDelivered holds back failures wants show used used' results published
-    → HaveGot holds back failures wants show universes outlets (used' ++ rest) published
-have_got {K = K} holds back failures wants show universes outlets used used' rest results published is count behind d =
+    → AreDelivered told show used used' results published → HaveGot told show universes outlets (used' ++ rest) published
+have_got {K = K} told show universes outlets used used' rest results published is count behind d =
     let n : length used' ≡ universes = d.same_places ∙ count in
     record {
       results = results;
-      delivered = subst (λ (u : List (Option K)). AreDelivered holds back failures wants show u (take universes (used' ++ rest)) results
-          published) is
-          (subst (λ (u : List (Option K)). AreDelivered holds back failures wants show used u results published)
+      delivered = subst (λ (u : List (Option K)). AreDelivered told show u (take universes (used' ++ rest)) results
+          published) is (subst (λ (u : List (Option K)). AreDelivered told show used u results published)
           (sym (ap (λ k. take k (used' ++ rest)) (sym n) ∙ take_before used' rest)) d);
       rest = ap (λ k. drop k (used' ++ rest)) (sym n) ∙ (drop_before used' rest ∙ behind);
     }
@@ -119,16 +117,14 @@ is_live show published unsent console script lines failures allows done =
     }
 
 -- What was played, as it is told: over a show, for this many universes.
-module _ {K : Type 0} (holds : K → Option (List ℕ)) (back : K → List ℕ) (failures wants : K → ℕ) (show : Show) (universes : ℕ)
-    (outlets outlets' : List (Option K)) (published unsent : List Command)
-    (got : HaveGot holds back failures wants show universes outlets outlets' published) where
-  served : (commands : List Command) → commands ≡ published ++ unsent
-      → AreServed holds back failures wants show universes outlets outlets' commands
+module _ {K : Type 0} (told : ToldBySink K) (show : Show) (universes : ℕ)
+    (outlets outlets' : List (Option K)) (published unsent : List Command) (got : HaveGot told show universes outlets outlets' published) where
+  served : (commands : List Command) → commands ≡ published ++ unsent → AreServed told show universes outlets outlets' commands
   served commands is = record { published = published; held_back = unsent; commands_are = is; got = got }
 
   in_front : (bytes : List ℕ) (unread held held' : Option (List ℕ)) (console : Kept)
       → AnsweredPrefix (engine_answering published unsent) (Done show published unsent console) (begun (opened show)) bytes unread held held'
-      → PlaysInFront holds back failures wants show universes (lines_of bytes) held held' outlets outlets'
+      → PlaysInFront told show universes (lines_of bytes) held held' outlets outlets'
   in_front bytes unread held held' console a =
       let live = is_live show published unsent console (lines_of bytes) (take a.lines (answered_lines (lines_of bytes))) a.failures a.allows
       a.stands in
@@ -142,7 +138,7 @@ module _ {K : Type 0} (holds : K → Option (List ℕ)) (back : K → List ℕ) 
 
   whole_in_front : (script : List (List ℕ)) (held held' : Option (List ℕ)) (console : Kept) (tally : Tally)
       → AnsweredWhole (engine_answering published unsent) (Done show published unsent console) (begun (opened show)) script held held' tally
-      → PlaysInFront holds back failures wants show universes script held held' outlets outlets'
+      → PlaysInFront told show universes script held held' outlets outlets'
   whole_in_front script held held' console tally a =
       let lines = answered_lines script in
       let live = is_live show published unsent console script lines a.failures a.allows a.stands in
@@ -159,7 +155,7 @@ module _ {K : Type 0} (holds : K → Option (List ℕ)) (back : K → List ℕ) 
 
   taken_of : (before : ℕ) (bytes : List ℕ) (left held held' : Option (List ℕ)) (console : Kept)
       → AnsweredTaken (engine_answering published unsent) (Done show published unsent console) (begun (opened show)) before bytes left held held'
-      → PlaysTaken holds back failures wants show universes before bytes left held held' outlets outlets'
+      → PlaysTaken told show universes before bytes left held held' outlets outlets'
   taken_of before bytes left held held' console a =
       let live = is_live show published unsent console (lines_of bytes) (take a.cut.lines (answered_lines (lines_of bytes))) a.failures
       a.allows a.stands in
@@ -176,7 +172,7 @@ module _ {K : Type 0} (holds : K → Option (List ℕ)) (back : K → List ℕ) 
   live_fault : (before : ℕ) (bytes : List ℕ) (unread left held held' : Option (List ℕ)) (console : Kept) (fault : SessionFault)
       → HasAnswered show published unsent console before bytes unread left held held' (Err fault)
       → KeepsLimit before bytes (Err fault)
-      → HasPlayedLive (status_for {A = Tally} (Err fault)) holds back failures wants show universes before bytes left held held' outlets outlets'
+      → HasPlayedLive (status_for {A = Tally} (Err fault)) told show universes before bytes left held held' outlets outlets'
   live_fault before bytes unread left held held' console faults.ReadFault a limit = taken_of before bytes left held held' console a
   live_fault before bytes unread left held held' console faults.InputTooLong a limit =
       (taken_of before bytes left held held' console a, limit)
@@ -188,59 +184,57 @@ none_held published [] n is none = append-nil published
 none_held published (command ∷ unsent) n is none = absurd (omega (arith, is, none))
 
 -- where all outlets had what they were to get
-plays : {K : Type 0} (holds : K → Option (List ℕ)) (back : K → List ℕ) (failures wants : K → ℕ) (show : Show) (universes : ℕ) (script : List (List ℕ))
+plays : {K : Type 0} (told : ToldBySink K) (show : Show) (universes : ℕ) (script : List (List ℕ))
     (held held' : Option (List ℕ)) (outlets used used' rest : List (Option K)) (results : List (Option SinkFault))
     (published unsent : List Command) (n : ℕ) (console : Kept) (tally : Tally) → used ≡ take universes outlets → length used ≡ universes
-    → n ≡ length unsent → AreDelivered holds back failures wants show used used' results published
+    → n ≡ length unsent → AreDelivered told show used used' results published
     → AnsweredWhole (engine_answering published unsent) (Done show published unsent console) (begun (opened show)) script held held' tally
     → (n ≡ 0) × ((place : ℕ) (fault : Option SinkFault) → slice_get results place ≡ Some fault → fault ≡ None)
-    → PlaysScript holds show universes script held held' outlets (used' ++ rest)
-plays holds back failures wants show universes script held held' outlets used used' rest results published unsent n console tally is count
+    → PlaysScript told show universes script held held' outlets (used' ++ rest)
+plays told show universes script held held' outlets used used' rest results published unsent n console tally is count
     counted d a ok =
     let live = is_live show published unsent console script (answered_lines script) a.failures a.allows a.stands in
     record {
       failures = a.failures;
       allows = live.allows;
       text = subst (λ (s : Session DeskState). Appends held held' s.text) live.same a.text;
-      versions = subst (λ (l : List Command). HaveVersions holds show universes outlets (used' ++ rest) l)
+      versions = subst (λ (l : List Command). HaveVersions told show universes outlets (used' ++ rest) l)
           (sym (live.accepted ∙ none_held published unsent n counted ok.0))
-          (versions_of holds back failures wants show universes outlets used used' rest results published is count ok.1 d);
+          (versions_of told show universes outlets used used' rest results published is count ok.1 d);
     }
 
 -- the session's own fault is told first
-session_order : {S O K : Type 0} (reads : S → ℕ) (writes wants : O → ℕ) (old new : Lines S) (output output' : O)
+session_order : {S O K : Type 0} (told_in : ToldBySource S) (told : ToldBySink O) (old new : Lines S) (output output' : O)
     (outlets outlets' : List (Option K)) (ToEnd : (List (Option SinkFault) → ℕ → Type 0) → Type 0) (fault : SessionFault)
-    → HasSessionCause {T = Tally} reads writes wants old new output output' (Err fault)
-    → DecidesInOrder (status_for {A = Tally} (Err fault)) (reads old.source.now) (reads new.source.now) writes wants output output' outlets
+    → HasSessionCause {T = Tally} told_in told old new output output' (Err fault)
+    → DecidesInOrder (status_for {A = Tally} (Err fault)) (told_in.faults old.source.now) (told_in.faults new.source.now) told output output' outlets
     outlets' ToEnd
-session_order reads writes wants old new output output' outlets outlets' ToEnd faults.ReadFault c = tt
-session_order reads writes wants old new output output' outlets outlets' ToEnd faults.WriteFault c = inl c.failed
-session_order reads writes wants old new output output' outlets outlets' ToEnd faults.InputTooLong c = tt
-session_order reads writes wants old new output output' outlets outlets' ToEnd faults.Memory c = inl (inr c.failed)
+session_order told_in told old new output output' outlets outlets' ToEnd faults.ReadFault c = tt
+session_order told_in told old new output output' outlets outlets' ToEnd faults.WriteFault c = inl c.failed
+session_order told_in told old new output output' outlets outlets' ToEnd faults.InputTooLong c = tt
+session_order told_in told old new output output' outlets outlets' ToEnd faults.Memory c = inl (inr c.failed)
 
 -- how a session that was played ended, by its status
-module _ {K : Type 0} (holds : K → Option (List ℕ)) (back : K → List ℕ) (failures wants : K → ℕ) (show : Show) (universes before : ℕ)
+module _ {K : Type 0} (outlet_told : ToldBySink K) (show : Show) (universes before : ℕ)
     (outlets used used' rest : List (Option K)) (results : List (Option SinkFault)) (published unsent : List Command) (n : ℕ)
     (is : used ≡ take universes outlets) (count : length used ≡ universes) (behind : rest ≡ drop universes outlets)
-    (counted : n ≡ length unsent)
-    (d : AreDelivered holds back failures wants show used used' results published) where
-  abbrev got : HaveGot holds back failures wants show universes outlets (used' ++ rest) published
-  got = have_got holds back failures wants show universes outlets used used' rest results published is count behind d
+    (counted : n ≡ length unsent) (d : AreDelivered outlet_told show used used' results published) where
+  abbrev got : HaveGot outlet_told show universes outlets (used' ++ rest) published
+  got = have_got outlet_told show universes outlets used used' rest results published is count behind d
 
   whole : (bytes : List ℕ) (held held' : Option (List ℕ)) (console : Kept) (tally : Tally)
       → AnsweredWhole (engine_answering published unsent) (Done show published unsent console) (begun (opened show)) (lines_of bytes) held held' tally
-      → PlaysInFront holds back failures wants show universes (lines_of bytes) held held' outlets (used' ++ rest)
+      → PlaysInFront outlet_told show universes (lines_of bytes) held held' outlets (used' ++ rest)
   whole bytes held held' console tally a =
-      whole_in_front holds back failures wants show universes outlets (used' ++ rest) published unsent got (lines_of bytes) held held' console
+      whole_in_front outlet_told show universes outlets (used' ++ rest) published unsent got (lines_of bytes) held held' console
       tally a
 
   live_at : (bytes : List ℕ) (unread left held held' : Option (List ℕ)) (console : Kept) (session : Result Tally SessionFault) (s : Status)
       → TellsRun session results n s
       → HasAnswered show published unsent console before bytes unread left held held' session
-      → KeepsLimit before bytes session
-      → HasPlayedLive s holds back failures wants show universes before bytes left held held' outlets (used' ++ rest)
+      → KeepsLimit before bytes session → HasPlayedLive s outlet_told show universes before bytes left held held' outlets (used' ++ rest)
   live_at bytes unread left held held' console (Ok tally) status.Ok tells a limit = (
-    plays holds back failures wants show universes (lines_of bytes) held held' outlets used used' rest results published unsent n console
+    plays outlet_told show universes (lines_of bytes) held held' outlets used used' rest results published unsent n console
         tally is count counted d a tells,
     limit,
   )
@@ -252,9 +246,8 @@ module _ {K : Type 0} (holds : K → Option (List ℕ)) (back : K → List ℕ) 
   live_at bytes unread left held held' console (Ok tally) status.InputTooLong tells a limit = absurd tells
   live_at bytes unread left held held' console (Ok tally) status.Live tells a limit = absurd tells
   live_at bytes unread left held held' console (Err fault) s tells a limit =
-      subst (λ (t : Status). HasPlayedLive t holds back failures wants show universes before bytes left held held' outlets (used' ++ rest))
-      (sym tells)
-      (live_fault holds back failures wants show universes outlets (used' ++ rest) published unsent got before bytes unread left held held'
+      subst (λ (t : Status). HasPlayedLive t outlet_told show universes before bytes left held held' outlets (used' ++ rest)) (sym tells)
+      (live_fault outlet_told show universes outlets (used' ++ rest) published unsent got before bytes unread left held held'
       console fault a limit)
 
   -- the same, where the source may tell no bytes
@@ -262,15 +255,14 @@ module _ {K : Type 0} (holds : K → Option (List ℕ)) (back : K → List ℕ) 
       → TellsRun session results n s
       → IfSome o (λ bytes. HasAnswered show published unsent console before bytes unread left held held' session)
       → IfSome o (λ bytes. KeepsLimit before bytes session)
-      → IfSome o (λ bytes. HasPlayedLive s holds back failures wants show universes before bytes left held held' outlets (used' ++ rest))
+      → IfSome o (λ bytes. HasPlayedLive s outlet_told show universes before bytes left held held' outlets (used' ++ rest))
   has_played_live o unread left held held' console session s tells a limit =
       both_known o _ _ _ a limit (λ bytes outcome keeps. live_at bytes unread left held held' console session s tells outcome keeps)
 
   -- and in which order its faults are told
   to_end : (Told : List (Option SinkFault) → ℕ → Type 0) (bytes : List ℕ) (held held' : Option (List ℕ)) (console : Kept) (tally : Tally)
       → AnsweredWhole (engine_answering published unsent) (Done show published unsent console) (begun (opened show)) (lines_of bytes) held held' tally
-      → Told results (length unsent)
-      → PlaysToEnd Told holds back failures wants show universes (lines_of bytes) held held' outlets (used' ++ rest)
+      → Told results (length unsent) → PlaysToEnd Told outlet_told show universes (lines_of bytes) held held' outlets (used' ++ rest)
   to_end Told bytes held held' console tally a told =
       let live = is_live show published unsent console (lines_of bytes) (answered_lines (lines_of bytes)) a.failures a.allows a.stands in
       record {
@@ -281,91 +273,88 @@ module _ {K : Type 0} (holds : K → Option (List ℕ)) (back : K → List ℕ) 
         told = told;
       }
 
-  order_at : {S O : Type 0} (reads : S → ℕ) (writes output_wants : O → ℕ) (old new : Lines S) (output output' : O) (bytes : List ℕ)
+  order_at : {S O : Type 0} (told_in : ToldBySource S) (told_out : ToldBySink O) (old new : Lines S) (output output' : O) (bytes : List ℕ)
       (unread left held held' : Option (List ℕ)) (console : Kept) (session : Result Tally SessionFault) (s : Status)
       → TellsRun session results n s
       → HasAnswered show published unsent console before bytes unread left held held' session
-      → KeepsLimit before bytes session → HasSessionCause reads writes output_wants old new output output' session
-      → DecidesInOrder s (reads old.source.now) (reads new.source.now) writes output_wants output output' outlets (used' ++ rest)
-      (λ Told. PlaysToEnd Told holds back failures wants show universes (lines_of bytes) held held' outlets (used' ++ rest)
+      → KeepsLimit before bytes session → HasSessionCause told_in told_out old new output output' session
+      → DecidesInOrder s (told_in.faults old.source.now) (told_in.faults new.source.now) told_out output output' outlets (used' ++ rest)
+      (λ Told. PlaysToEnd Told outlet_told show universes (lines_of bytes) held held' outlets (used' ++ rest)
       × (before + length (bytes_wanted bytes) ≤ INPUT_BYTES))
-  order_at reads writes output_wants old new output output' bytes unread left held held' console (Ok tally) status.WriteFault tells a limit
+  order_at told_in told_out old new output output' bytes unread left held held' console (Ok tally) status.WriteFault tells a limit
       c = inr (
         record { reads_kept = c.kept.0; writes_kept = c.kept.1; wants_kept = c.kept.2 },
         (to_end (λ told held_back. HasFailedOutlet told) bytes held held' console tally a tells, limit),
       )
-  order_at reads writes output_wants old new output output' bytes unread left held held' console (Ok tally) status.Memory tells a limit c =
+  order_at told_in told_out old new output output' bytes unread left held held' console (Ok tally) status.Memory tells a limit c =
       inr (
         record { reads_kept = c.kept.0; writes_kept = c.kept.1; wants_kept = c.kept.2 },
         (to_end LacksMemory bytes held held' console tally a (subst (λ k. LacksMemory results k) counted tells), limit),
       )
-  order_at reads writes output_wants old new output output' bytes unread left held held' console (Ok tally) status.Ok tells a limit c = tt
-  order_at reads writes output_wants old new output output' bytes unread left held held' console (Ok tally) status.ShowRefused tells a limit
+  order_at told_in told_out old new output output' bytes unread left held held' console (Ok tally) status.Ok tells a limit c = tt
+  order_at told_in told_out old new output output' bytes unread left held held' console (Ok tally) status.ShowRefused tells a limit
       c = tt
-  order_at reads writes output_wants old new output output' bytes unread left held held' console (Ok tally) status.Usage tells a limit c =
+  order_at told_in told_out old new output output' bytes unread left held held' console (Ok tally) status.Usage tells a limit c =
       tt
-  order_at reads writes output_wants old new output output' bytes unread left held held' console (Ok tally) status.ReadFault tells a limit
+  order_at told_in told_out old new output output' bytes unread left held held' console (Ok tally) status.ReadFault tells a limit
       c = tt
-  order_at reads writes output_wants old new output output' bytes unread left held held' console (Ok tally) status.InputTooLong tells a
+  order_at told_in told_out old new output output' bytes unread left held held' console (Ok tally) status.InputTooLong tells a
       limit c = tt
-  order_at reads writes output_wants old new output output' bytes unread left held held' console (Ok tally) status.Live tells a limit c = tt
-  order_at reads writes output_wants old new output output' bytes unread left held held' console (Err fault) s tells a limit c =
-      subst (λ (t : Status). DecidesInOrder t (reads old.source.now) (reads new.source.now) writes output_wants output output' outlets
-      (used' ++ rest)
-      (λ Told. PlaysToEnd Told holds back failures wants show universes (lines_of bytes) held held' outlets (used' ++ rest)
+  order_at told_in told_out old new output output' bytes unread left held held' console (Ok tally) status.Live tells a limit c = tt
+  order_at told_in told_out old new output output' bytes unread left held held' console (Err fault) s tells a limit c =
+      subst (λ (t : Status). DecidesInOrder t (told_in.faults old.source.now) (told_in.faults new.source.now) told_out output output' outlets
+      (used' ++ rest) (λ Told. PlaysToEnd Told outlet_told show universes (lines_of bytes) held held' outlets (used' ++ rest)
       × (before + length (bytes_wanted bytes) ≤ INPUT_BYTES))) (sym tells)
-      (session_order reads writes output_wants old new output output' outlets (used' ++ rest) _ fault c)
+      (session_order told_in told_out old new output output' outlets (used' ++ rest) _ fault c)
 
-  pub in_order : {S O : Type 0} (reads : S → ℕ) (writes output_wants : O → ℕ) (old new : Lines S) (output output' : O)
+  pub in_order : {S O : Type 0} (told_in : ToldBySource S) (told_out : ToldBySink O) (old new : Lines S) (output output' : O)
       (o unread left held held' : Option (List ℕ)) (console : Kept) (session : Result Tally SessionFault) (s : Status)
       → TellsRun session results n s
       → IfSome o (λ bytes. HasAnswered show published unsent console before bytes unread left held held' session)
-      → IfSome o (λ bytes. KeepsLimit before bytes session) → HasSessionCause reads writes output_wants old new output output' session
-      → IfSome o (λ bytes. DecidesInOrder s (reads old.source.now) (reads new.source.now) writes output_wants output output' outlets
-      (used' ++ rest)
-      (λ Told. PlaysToEnd Told holds back failures wants show universes (lines_of bytes) held held' outlets (used' ++ rest)
+      → IfSome o (λ bytes. KeepsLimit before bytes session) → HasSessionCause told_in told_out old new output output' session
+      → IfSome o (λ bytes. DecidesInOrder s (told_in.faults old.source.now) (told_in.faults new.source.now) told_out output output' outlets
+      (used' ++ rest) (λ Told. PlaysToEnd Told outlet_told show universes (lines_of bytes) held held' outlets (used' ++ rest)
       × (before + length (bytes_wanted bytes) ≤ INPUT_BYTES)))
-  in_order reads writes output_wants old new output output' o unread left held held' console session s tells a limit c =
-      both_known o _ _ _ a limit (λ bytes outcome keeps. order_at reads writes output_wants old new output output' bytes unread left held
+  in_order told_in told_out old new output output' o unread left held held' console session s tells a limit c =
+      both_known o _ _ _ a limit (λ bytes outcome keeps. order_at told_in told_out old new output output' bytes unread left held
       held' console session s tells outcome keeps c)
 
 -- a live run whose session had no fault is done where it tells none of the outlets
-pub run_finishes : {S O : Type 0} (reads : S → ℕ) (writes wants : O → ℕ) (back : O → List ℕ) (old new : Lines S) (output output' : O)
+pub run_finishes : {S O : Type 0} (told_in : ToldBySource S) (told_out : ToldBySink O) (old new : Lines S) (output output' : O)
     (session : Result Tally SessionFault) (results : List (Option SinkFault)) (n : ℕ) (s : Status) → TellsRun session results n s
-    → HasSessionCause reads writes wants old new output output' session → OnOk session (back output' ≡ [])
-    → Finishes (reads old.source.now) (reads new.source.now) writes wants back output output' s
-run_finishes reads writes wants back old new output output' (Ok tally) results n s tells c none =
-    all_done (reads old.source.now) (reads new.source.now) writes wants back output output' s c.kept.0 c.kept.1 c.kept.2 none
-run_finishes reads writes wants back old new output output' (Err fault) results n s tells c none =
-    subst (λ (t : Status). Finishes (reads old.source.now) (reads new.source.now) writes wants back output output' t) (sym tells)
-    (session_finishes reads writes wants back old new output output' (Err fault) c none)
+    → HasSessionCause told_in told_out old new output output' session → OnOk session (told_out.back output' ≡ [])
+    → Finishes (told_in.faults old.source.now) (told_in.faults new.source.now) told_out output output' s
+run_finishes told_in told_out old new output output' (Ok tally) results n s tells c none =
+    all_done (told_in.faults old.source.now) (told_in.faults new.source.now) told_out output output' s c.kept.0 c.kept.1 c.kept.2 none
+run_finishes told_in told_out old new output output' (Err fault) results n s tells c none =
+    subst (λ (t : Status). Finishes (told_in.faults old.source.now) (told_in.faults new.source.now) told_out output output' t) (sym tells)
+    (session_finishes told_in told_out old new output output' (Err fault) c none)
 
 -- where memory was wanted at the opening, nothing was read
-pub none_played : {K : Type 0} (holds : K → Option (List ℕ)) (back : K → List ℕ) (failures wants : K → ℕ) (show : Show) (universes before : ℕ)
+pub none_played : {K : Type 0} (told : ToldBySink K) (show : Show) (universes before : ℕ)
     (o left held held' : Option (List ℕ)) (outlets outlets' : List (Option K)) → held' ≡ held → outlets' ≡ outlets
-    → IfSome o (λ bytes. HasPlayedLive status.Memory holds back failures wants show universes before bytes left held held' outlets outlets')
-none_played holds back failures wants show universes before None left held held' outlets outlets' same kept = tt
-none_played holds back failures wants show universes before (Some bytes) left held held' outlets outlets' same kept = inl (same, kept)
+    → IfSome o (λ bytes. HasPlayedLive status.Memory told show universes before bytes left held held' outlets outlets')
+none_played told show universes before None left held held' outlets outlets' same kept = tt
+none_played told show universes before (Some bytes) left held held' outlets outlets' same kept = inl (same, kept)
 
 -- the outlets in use were played, and the others are as they were
-pub are_played : {K : Type 0} (holds : K → Option (List ℕ)) (back : K → List ℕ) (failures wants : K → ℕ) (show : Show) (universes : ℕ)
+pub are_played : {K : Type 0} (told : ToldBySink K) (show : Show) (universes : ℕ)
     (outlets used used' rest : List (Option K)) (results : List (Option SinkFault)) (published : List Command)
     → used ≡ take universes outlets → length used ≡ universes → rest ≡ drop universes outlets
-    → AreDelivered holds back failures wants show used used' results published
-    → ArePlayed holds back failures wants universes outlets (used' ++ rest)
-are_played holds back failures wants show universes outlets used used' rest results published is count behind d = record {
+    → AreDelivered told show used used' results published → ArePlayed told universes outlets (used' ++ rest)
+are_played told show universes outlets used used' rest results published is count behind d = record {
   show = show;
   published = published;
-  got = have_got holds back failures wants show universes outlets used used' rest results published is count behind d;
+  got = have_got told show universes outlets used used' rest results published is count behind d;
 }
 
 -- an outlet with a fault of the outside failed at a write
-failed_at : {K : Type 0} (holds : K → Option (List ℕ)) (back : K → List ℕ) (failures wants : K → ℕ) (show : Show) (universes : ℕ)
+failed_at : {K : Type 0} (told : ToldBySink K) (show : Show) (universes : ℕ)
     (outlets used used' rest : List (Option K)) (results : List (Option SinkFault)) (published : List Command) (place : ℕ)
     → used ≡ take universes outlets → length used ≡ universes → universes ≤ length outlets → IsFull outlets
-    → AreDelivered holds back failures wants show used used' results published
-    → slice_get results place ≡ Some (Some sinks.Failed) → OutletFailed failures outlets (used' ++ rest)
-failed_at holds back failures wants show universes outlets used used' rest results published place is count most full d at =
+    → AreDelivered told show used used' results published
+    → slice_get results place ≡ Some (Some sinks.Failed) → OutletFailed told outlets (used' ++ rest)
+failed_at told show universes outlets used used' rest results published place is count most full d at =
     let within : place < universes = omega (arith, d.others place sinks.Failed at, count) in
     let from = full_sink outlets full place (omega (arith, within, most)) in
     let back = d.each place from.0 (ap (λ l. slice_get l place) is ∙ (get_take universes place outlets within ∙ from.1)) in
@@ -378,46 +367,46 @@ failed_at holds back failures wants show universes outlets used used' rest resul
       rose = back.delivered.cause.failed (same_Some back.fault (Some sinks.Failed) (sym back.fault_is ∙ at));
     }
 
-session_cause : {S O K : Type 0} (reads : S → ℕ) (writes output_wants : O → ℕ) (failures : K → ℕ) (old new : Lines S) (output output' : O)
-    (outlets outlets' : List (Option K)) (fault : SessionFault)
-    → HasSessionCause {T = Tally} reads writes output_wants old new output output' (Err fault)
-    → HasLiveCause failures (status_for {A = Tally} (Err fault)) (reads old.source.now) (reads new.source.now) (writes output)
-    (writes output') outlets outlets'
-session_cause reads writes output_wants failures old new output output' outlets outlets' faults.ReadFault c = c.failed
-session_cause reads writes output_wants failures old new output output' outlets outlets' faults.WriteFault c = inl c.failed
-session_cause reads writes output_wants failures old new output output' outlets outlets' faults.InputTooLong c = tt
-session_cause reads writes output_wants failures old new output output' outlets outlets' faults.Memory c = tt
+session_cause : {S O K : Type 0} (told_in : ToldBySource S) (told_out : ToldBySink O) (told : ToldBySink K) (old new : Lines S) (output output' : O)
+    (outlets outlets' : List (Option K)) (fault : SessionFault) → HasSessionCause {T = Tally} told_in told_out old new output output' (Err fault)
+    → HasLiveCause told (status_for {A = Tally} (Err fault)) (told_in.faults old.source.now) (told_in.faults new.source.now) (told_out.faults output)
+    (told_out.faults output') outlets outlets'
+session_cause told_in told_out told old new output output' outlets outlets' faults.ReadFault c = c.failed
+session_cause told_in told_out told old new output output' outlets outlets' faults.WriteFault c = inl c.failed
+session_cause told_in told_out told old new output output' outlets outlets' faults.InputTooLong c = tt
+session_cause told_in told_out told old new output output' outlets outlets' faults.Memory c = tt
 
 -- each fault of the outside has its cause
-pub live_cause : {S O K : Type 0} (reads : S → ℕ) (writes output_wants : O → ℕ) (holds : K → Option (List ℕ)) (back : K → List ℕ) (failures wants : K → ℕ)
+pub live_cause : {S O K : Type 0} (told_in : ToldBySource S) (told_out : ToldBySink O) (told : ToldBySink K)
     (old new : Lines S) (output output' : O) (show : Show) (universes : ℕ) (outlets used used' rest : List (Option K))
     (results : List (Option SinkFault)) (published : List Command) (n : ℕ)
     (session : Result Tally SessionFault) (s : Status) → used ≡ take universes outlets → length used ≡ universes
-    → universes ≤ length outlets → IsFull outlets → AreDelivered holds back failures wants show used used' results published
-    → TellsRun session results n s → HasSessionCause reads writes output_wants old new output output' session
-    → HasLiveCause failures s (reads old.source.now) (reads new.source.now) (writes output) (writes output') outlets (used' ++ rest)
-live_cause reads writes output_wants holds back failures wants old new output output' show universes outlets used used' rest results published n
+    → universes ≤ length outlets → IsFull outlets → AreDelivered told show used used' results published
+    → TellsRun session results n s → HasSessionCause told_in told_out old new output output' session
+    → HasLiveCause told s (told_in.faults old.source.now) (told_in.faults new.source.now) (told_out.faults output) (told_out.faults output')
+    outlets (used' ++ rest)
+live_cause told_in told_out told old new output output' show universes outlets used used' rest results published n
     (Ok tally) status.Ok is count most full d tells c = tt
-live_cause reads writes output_wants holds back failures wants old new output output' show universes outlets used used' rest results published n
+live_cause told_in told_out told old new output output' show universes outlets used used' rest results published n
     (Ok tally) status.WriteFault is count most full d tells c =
-    inr (failed_at holds back failures wants show universes outlets used used' rest results published tells.0 is count most full d tells.1)
-live_cause reads writes output_wants holds back failures wants old new output output' show universes outlets used used' rest results published n
+    inr (failed_at told show universes outlets used used' rest results published tells.0 is count most full d tells.1)
+live_cause told_in told_out told old new output output' show universes outlets used used' rest results published n
     (Ok tally) status.Memory is count most full d tells c = tt
-live_cause reads writes output_wants holds back failures wants old new output output' show universes outlets used used' rest results published n
+live_cause told_in told_out told old new output output' show universes outlets used used' rest results published n
     (Ok tally) status.ShowRefused is count most full d tells c = tt
-live_cause reads writes output_wants holds back failures wants old new output output' show universes outlets used used' rest results published n
+live_cause told_in told_out told old new output output' show universes outlets used used' rest results published n
     (Ok tally) status.Usage is count most full d tells c = tt
-live_cause reads writes output_wants holds back failures wants old new output output' show universes outlets used used' rest results published n
+live_cause told_in told_out told old new output output' show universes outlets used used' rest results published n
     (Ok tally) status.ReadFault is count most full d tells c = absurd tells
-live_cause reads writes output_wants holds back failures wants old new output output' show universes outlets used used' rest results published n
+live_cause told_in told_out told old new output output' show universes outlets used used' rest results published n
     (Ok tally) status.InputTooLong is count most full d tells c = tt
-live_cause reads writes output_wants holds back failures wants old new output output' show universes outlets used used' rest results published n
+live_cause told_in told_out told old new output output' show universes outlets used used' rest results published n
     (Ok tally) status.Live is count most full d tells c = tt
-live_cause reads writes output_wants holds back failures wants old new output output' show universes outlets used used' rest results published n
+live_cause told_in told_out told old new output output' show universes outlets used used' rest results published n
     (Err fault) s is count most full d tells c =
-    subst (λ (t : Status). HasLiveCause failures t (reads old.source.now) (reads new.source.now) (writes output) (writes output') outlets
-    (used' ++ rest)) (sym tells)
-    (session_cause reads writes output_wants failures old new output output' outlets (used' ++ rest) fault c)
+    subst (λ (t : Status). HasLiveCause told t (told_in.faults old.source.now) (told_in.faults new.source.now) (told_out.faults output)
+    (told_out.faults output') outlets
+    (used' ++ rest)) (sym tells) (session_cause told_in told_out told old new output output' outlets (used' ++ rest) fault c)
 
 -- no live run ends as words that name none
 pub not_usage : (session : Result Tally SessionFault) (results : List (Option SinkFault)) (unsent : ℕ) (s : Status)

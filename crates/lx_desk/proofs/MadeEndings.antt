@@ -5,7 +5,7 @@ use Rattle.lx_desk.proofs.Imports.{Rose, AppendsFront, Lines, unread, Command, M
 use Rattle.lx_desk.proofs.Imports.{Session, Counts, whole_session, Allows, bytes_wanted, DeskState, begun, desk_answering, Reading, reads, script_of, over_show}
 use Rattle.lx_desk.proofs.Imports.{fault_text, script_session, ScriptAllows, made_input, made_text, make_output, StandsFor, Tally, HasDone, AnsweredWhole}
 use Rattle.lx_desk.proofs.Imports.{Loaded, ShowFault, reading_of, HasRead, Status, WritesAll, WritesPrefix, RefusedBy, RefusesText, status_kept, EndsScript}
-use Rattle.lx_desk.proofs.Imports.{HasEnded, HasCauseOf, WritesWhole}
+use Rattle.lx_desk.proofs.Imports.{HasEnded, HasCauseOf, WritesWhole, ToldBySource}
 use Rattle.lx_spec.specs.Output.{frame}
 use Rattle.lx_session.specs.LineReply.{counts_in}
 use Rattle.lx_reader.specs.declared.fault.ShowFault.TheVariants as faults
@@ -118,13 +118,12 @@ nothing_made n h h' kept = subst (λ v. WritesPrefix (Make n) [] h v) (sym kept)
     (record { failures = []; allows = none_failed Render (made_input n) (reads Moves (made_input n)); text = front_nothing h (make_output n []) })
 
 -- Of the input that is made of a number, over lines that hand it out.
-module _ (n : ℕ) {S : Type 0} (left : S → Option (List ℕ)) (a b : Lines S) (is : unread left a ≡ Some (made_input n)) (none : a.taken ≡ 0)
+module _ (n : ℕ) {S : Type 0} (told_in : ToldBySource S) (a b : Lines S) (is : unread told_in a ≡ Some (made_input n)) (none : a.taken ≡ 0)
   where
-    over_made : (faults : S → ℕ) (loaded : Loaded) (Q : List ℕ → Type 0) (R : Type 0) → HasRead left faults a b Moves loaded
-        → IfSome (unread left b) Q
+    over_made : (loaded : Loaded) (Q : List ℕ → Type 0) (R : Type 0) → HasRead told_in a b Moves loaded → IfSome (unread told_in b) Q
         → ((y : List ℕ) → reads Moves (made_input n) ≡ Ok (reading_of loaded) → script_of (made_input n) ≡ lines_of y → Q y → R) → R
-    over_made faults loaded Q R r p f =
-        over_loaded Moves left faults a b loaded (Some (made_input n)) Q (λ x. made_input n ≡ x → R) is r p
+    over_made loaded Q R r p f =
+        over_loaded Moves told_in a b loaded (Some (made_input n)) Q (λ x. made_input n ≡ x → R) is r p
         (λ x y raws took shown read script q e. f y (ap (reads Moves) e ∙ read) (ap script_of e ∙ script) q) refl
 
     script_allows : (y : List ℕ) (failures : List (Option ℕ)) (reading : Reading) → reads Moves (made_input n) ≡ Ok reading
@@ -159,44 +158,42 @@ module _ (n : ℕ) {S : Type 0} (left : S → Option (List ℕ)) (a b : Lines S)
       text = subst (λ (v : List ℕ). AppendsFront h h' v) (sym (script_text y t.failures reading read script)) t.text;
     }
 
-    pub made_front : (faults : S → ℕ) (loaded : Loaded) (h h' : Option (List ℕ)) → HasRead left faults a b Moves loaded
-        → IfSome (unread left b) (λ y. TellsInFront n (opened loaded.show) (lines_of y) h h') → WritesPrefix (Make n) [] h h'
-    made_front faults loaded h h' r p =
-        over_made faults loaded _ _ r p (λ y read script t. front_at h h' y (reading_of loaded) read script t)
+    pub made_front : (loaded : Loaded) (h h' : Option (List ℕ)) → HasRead told_in a b Moves loaded
+        → IfSome (unread told_in b) (λ y. TellsInFront n (opened loaded.show) (lines_of y) h h') → WritesPrefix (Make n) [] h h'
+    made_front loaded h h' r p =
+        over_made loaded _ _ r p (λ y read script t. front_at h h' y (reading_of loaded) read script t)
 
-    pub made_ended : (faults : S → ℕ) (loaded : Loaded) (rest h h' : Option (List ℕ)) (s : Status) → HasRead left faults a b Moves loaded
-        → EndsScript s
-        → IfSome (unread left b) (λ y. HasTold s n (opened loaded.show) b.taken y h h') → HasEnded s (Make n) [] rest h h'
-    made_ended faults loaded rest h h' status.Ok r ends p =
-        over_made faults loaded _ _ r p (λ y read script t. (
+    pub made_ended : (loaded : Loaded) (rest h h' : Option (List ℕ)) (s : Status) → HasRead told_in a b Moves loaded → EndsScript s
+        → IfSome (unread told_in b) (λ y. HasTold s n (opened loaded.show) b.taken y h h') → HasEnded s (Make n) [] rest h h'
+    made_ended loaded rest h h' status.Ok r ends p =
+        over_made loaded _ _ r p (λ y read script t. (
           record {
             text = whole_at h h' y (reading_of loaded) read script t.0;
-            within = session_fits Moves left faults a b loaded (Some (made_input n)) is none r
-                (if_known (unread left b) _ _ p (λ z q. q.1));
+            within = session_fits Moves told_in a b loaded (Some (made_input n)) is none r (if_known (unread told_in b) _ _ p (λ z q. q.1));
           },
           subst (λ (v : Result Reading TextFault). IsOk v) (sym read) refl,
         ))
-    made_ended faults loaded rest h h' status.ShowRefused r ends p = absurd ends
-    made_ended faults loaded rest h h' status.Usage r ends p = absurd ends
-    made_ended faults loaded rest h h' status.ReadFault r ends p = over_made faults loaded _ _ r p (λ y read script t. t)
-    made_ended faults loaded rest h h' status.WriteFault r ends p = made_front faults loaded h h' r p
-    made_ended faults loaded rest h h' status.Memory r ends p = made_front faults loaded h h' r p
-    made_ended faults loaded rest h h' status.InputTooLong r ends p = (
-      over_made faults loaded _ _ r p (λ y read script t. t.0),
-      session_long Moves left faults a b loaded (Some (made_input n)) is none r (if_known (unread left b) _ _ p (λ z q. q.1)),
+    made_ended loaded rest h h' status.ShowRefused r ends p = absurd ends
+    made_ended loaded rest h h' status.Usage r ends p = absurd ends
+    made_ended loaded rest h h' status.ReadFault r ends p = over_made loaded _ _ r p (λ y read script t. t)
+    made_ended loaded rest h h' status.WriteFault r ends p = made_front loaded h h' r p
+    made_ended loaded rest h h' status.Memory r ends p = made_front loaded h h' r p
+    made_ended loaded rest h h' status.InputTooLong r ends p = (
+      over_made loaded _ _ r p (λ y read script t. t.0),
+      session_long Moves told_in a b loaded (Some (made_input n)) is none r (if_known (unread told_in b) _ _ p (λ z q. q.1)),
     )
-    made_ended faults loaded rest h h' status.Live r ends p = absurd ends
+    made_ended loaded rest h h' status.Live r ends p = absurd ends
 
     -- a made show that isn't read
-    fault_is : (fault : ShowFault) (h h' : Option (List ℕ)) (s : Status) → Says Moves left a b fault → (t : RefusesText h h' fault s)
+    fault_is : (fault : ShowFault) (h h' : Option (List ℕ)) (s : Status) → Says Moves told_in a b fault → (t : RefusesText h h' fault s)
         → reads Moves (made_input n) ≡ Err t.text
     fault_is fault h h' s says t = subst (λ (v : Option (List ℕ)). IfSome v (λ x. reads Moves x ≡ Err t.text)) is
-        (means_of Moves left a b fault t.text t.told says).text
+        (means_of Moves told_in a b fault t.text t.told says).text
 
     line_is : (fault : TextFault) → reads Moves (made_input n) ≡ Err fault → make_output n [] ≡ fault_text fault
     line_is fault read = ap (λ r. over_show r (λ x. made_text n (script_session Render (made_input n) [] x))) read
 
-    refused_front : (fault : ShowFault) (h h' : Option (List ℕ)) (s : Status) → Says Moves left a b fault → RefusesText h h' fault s
+    refused_front : (fault : ShowFault) (h h' : Option (List ℕ)) (s : Status) → Says Moves told_in a b fault → RefusesText h h' fault s
         → WritesPrefix (Make n) [] h h'
     refused_front fault h h' s says t = record {
       failures = [];
@@ -204,7 +201,7 @@ module _ (n : ℕ) {S : Type 0} (left : S → Option (List ℕ)) (a b : Lines S)
       text = subst (λ (v : List ℕ). AppendsFront h h' v) (sym (line_is t.text (fault_is fault h h' s says t))) t.front;
     }
 
-    refused_whole : (fault : ShowFault) (h h' : Option (List ℕ)) (s : Status) → Says Moves left a b fault → RefusedBy h h' fault s
+    refused_whole : (fault : ShowFault) (h h' : Option (List ℕ)) (s : Status) → Says Moves told_in a b fault → RefusedBy h h' fault s
         → (t : RefusesText h h' fault s) → s ≡ status.ShowRefused
         → WritesWhole (Make n) [] h h' × IsErr (reads Moves (made_input n))
     refused_whole fault h h' s says by t refused =
@@ -215,25 +212,25 @@ module _ (n : ℕ) {S : Type 0} (left : S → Option (List ℕ)) (a b : Lines S)
               allows = none_failed Render (made_input n) (reads Moves (made_input n));
               text = subst (λ (v : List ℕ). Appends h h' v) (sym (line_is t.text read)) (t.whole refused);
             };
-            within = refusal_fits Moves (Script Render Moves) (script_over Moves Render) left a b (Some (made_input n)) h h' fault s is none says by
+            within = refusal_fits Moves (Script Render Moves) (script_over Moves Render) told_in a b (Some (made_input n)) h h' fault s is none says by
                 refused;
           },
           subst (λ (v : Result Reading TextFault). IsErr v) (sym read) refl,
         )
 
-    kept_made : (rest h h' : Option (List ℕ)) (fault : ShowFault) (s : Status) → Says Moves left a b fault → RefusedBy h h' fault s → h' ≡ h
+    kept_made : (rest h h' : Option (List ℕ)) (fault : ShowFault) (s : Status) → Says Moves told_in a b fault → RefusedBy h h' fault s → h' ≡ h
         → status_kept fault s → HasEnded s (Make n) [] rest h h'
     kept_made rest h h' fault s says by same kept =
-        kept_is fault s (λ f t. Says Moves left a b f → RefusedBy h h' f t → HasEnded t (Make n) [] rest h h') kept
-        (λ said told. same)
+        kept_is fault s (λ f t. Says Moves told_in a b f → RefusedBy h h' f t → HasEnded t (Make n) [] rest h h') kept (λ said told. same)
         (λ said told. (
           same,
-          refusal_long Moves (Script Render Moves) (script_over Moves Render) left a b (Some (made_input n)) h h' faults.InputTooLong status.InputTooLong is
+          refusal_long Moves (Script Render Moves) (script_over Moves Render) told_in a b (Some (made_input n)) h h' faults.InputTooLong
+              status.InputTooLong is
               none said told refl,
         ))
         (λ said told. nothing_made n h h' same) says by
 
-    pub made_refused : (rest h h' : Option (List ℕ)) (fault : ShowFault) (s : Status) → Says Moves left a b fault → RefusedBy h h' fault s
+    pub made_refused : (rest h h' : Option (List ℕ)) (fault : ShowFault) (s : Status) → Says Moves told_in a b fault → RefusedBy h h' fault s
         → HasEnded s (Make n) [] rest h h'
     made_refused rest h h' fault s says by = elim by [
       | inl t ↦ elim t.kinds [
@@ -246,7 +243,7 @@ module _ (n : ℕ) {S : Type 0} (left : S → Option (List ℕ)) (a b : Lines S)
       | inr other ↦ kept_made rest h h' fault s says (inr other) other.kept other.is
     ]
 
-    pub made_refused_front : (h h' : Option (List ℕ)) (fault : ShowFault) (s : Status) → Says Moves left a b fault → RefusedBy h h' fault s
+    pub made_refused_front : (h h' : Option (List ℕ)) (fault : ShowFault) (s : Status) → Says Moves told_in a b fault → RefusedBy h h' fault s
         → WritesPrefix (Make n) [] h h'
     made_refused_front h h' fault s says by =
         elim by [ inl t ↦ refused_front fault h h' s says t | inr other ↦ nothing_made n h h' other.kept ]

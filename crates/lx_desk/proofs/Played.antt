@@ -2,7 +2,7 @@
 use Rattle.lx_desk.proofs.Imports.{◌≡◌, ℕ, Result, Ok, Err, OnOk, Option, IfSome, List, [], refl, sym, subst, arith, inl, Lines, bytes_taken}
 use Rattle.lx_desk.proofs.Imports.{source_faults, source_left, unread, lines_of, Answering, SessionFault, Tally, HasSessionCause, KeepsLimit, AnsweredPrefix}
 use Rattle.lx_desk.proofs.Imports.{AnsweredTaken, ScriptAnswered, front_of_whole, first_of_whole, Status, status_for, AnswersInFront, AnswersTaken, HasPlayed}
-use Rattle.lx_desk.proofs.Imports.{Plays}
+use Rattle.lx_desk.proofs.Imports.{Plays, ToldBySink, ToldBySource}
 use Rattle.lx_session.specs.OneAnswer.{IsLawful}
 use Rattle.lx_session.specs.declared.fault.SessionFault.TheVariants as faults
 use Rattle.lx_desk.specs.declared.desk.Status.TheVariants as status
@@ -58,36 +58,36 @@ module _ (by : Answering (List ℕ)) (lawful : IsLawful by) (Stands : by.State �
   has_played before o unread left h h' (Err faults.Memory) p limit = if_known o _ _ p (λ xs a. front_by xs unread h h' a)
 
   -- A session was held.
-  pub session_plays : {S K : Type 0} (left : S → Option (List ℕ)) (reads : S → ℕ) (holds : K → Option (List ℕ)) (writes wants : K → ℕ)
-      (back : K → List ℕ) (old new : Lines S) (output output' : K) (r : Result Tally SessionFault) (s : Status) → s ≡ status_for r
-      → IfSome (unread left old) (λ bytes. ScriptAnswered by Stands state (bytes_taken old) bytes (unread left new) (source_left left new)
-      (holds output) (holds output') r)
-      → IfSome (unread left old) (λ bytes. KeepsLimit (bytes_taken old) bytes r)
-      → HasSessionCause reads writes wants old new output output' r → OnOk r (back output' ≡ [])
-      → Plays left reads holds writes wants back by state old new output output' s
-  session_plays left reads holds writes wants back old new output output' r s is outcome limit cause none =
-      subst (λ t. Plays left reads holds writes wants back by state old new output output' t) (sym is) (record {
+  pub session_plays : {S K : Type 0} (told_in : ToldBySource S) (told_out : ToldBySink K)
+      (old new : Lines S) (output output' : K) (r : Result Tally SessionFault) (s : Status) → s ≡ status_for r
+      → IfSome (unread told_in old) (λ bytes. ScriptAnswered by Stands state (bytes_taken old) bytes (unread told_in new) (source_left told_in new)
+      (told_out.holds output) (told_out.holds output') r) → IfSome (unread told_in old) (λ bytes. KeepsLimit (bytes_taken old) bytes r)
+      → HasSessionCause told_in told_out old new output output' r → OnOk r (told_out.back output' ≡ [])
+      → Plays told_in told_out by state old new output output' s
+  session_plays told_in told_out old new output output' r s is outcome limit cause none =
+      subst (λ t. Plays told_in told_out by state old new output output' t) (sym is) (record {
         works = ends_script r;
-        ended = has_played (bytes_taken old) (unread left old) (unread left new) (source_left left new) (holds output) (holds output') r
+        ended = has_played (bytes_taken old) (unread told_in old) (unread told_in new) (source_left told_in new) (told_out.holds output)
+            (told_out.holds output') r
             outcome limit;
-        front = answered_front (bytes_taken old) (unread left old) (unread left new) (source_left left new) (holds output) (holds output') r
+        front = answered_front (bytes_taken old) (unread told_in old) (unread told_in new) (source_left told_in new) (told_out.holds output)
+            (told_out.holds output') r
             outcome;
         later = cause.later;
-        cause = has_cause reads writes wants old new output output' r cause;
-        finished = session_finishes reads writes wants back old new output output' r cause none;
-        memory = session_wants reads writes wants old new output output' r cause;
+        cause = has_cause told_in told_out old new output output' r cause;
+        finished = session_finishes told_in told_out old new output output' r cause none;
+        memory = session_wants told_in told_out old new output output' r cause;
       })
 
 -- Memory was short at the opening: nothing was read or written.
-pub nothing_plays : {S K : Type 0} (by : Answering (List ℕ)) (state : by.State) (left : S → Option (List ℕ)) (reads : S → ℕ)
-    (holds : K → Option (List ℕ)) (writes wants : K → ℕ) (back : K → List ℕ) (lines : Lines S) (output : K)
-    → Plays left reads holds writes wants back by state lines lines output output status.Memory
-nothing_plays by state left reads holds writes wants back lines output = record {
+pub nothing_plays : {S K : Type 0} (by : Answering (List ℕ)) (state : by.State) (told_in : ToldBySource S)
+    (told_out : ToldBySink K) (lines : Lines S) (output : K) → Plays told_in told_out by state lines lines output output status.Memory
+nothing_plays by state told_in told_out lines output = record {
   works = tt;
-  ended = nothing_answered by state (unread left lines) (holds output);
-  front = nothing_answered by state (unread left lines) (holds output);
+  ended = nothing_answered by state (unread told_in lines) (told_out.holds output);
+  front = nothing_answered by state (unread told_in lines) (told_out.holds output);
   later = omega arith;
   cause = tt;
-  finished = not_done (source_faults reads lines) (source_faults reads lines) writes wants back output output status.Memory (λ done. done);
+  finished = not_done (source_faults told_in lines) (source_faults told_in lines) told_out output output status.Memory (λ done. done);
   memory = λ is. inl refl;
 }

@@ -7,6 +7,7 @@ use Rattle.lx_io.specs.declared.sink.SinkFault.{SinkFault}
 use Rattle.lx_io.specs.declared.sink.SinkFault.TheVariants.{Failed, Memory}
 use Rattle.lx_io.specs.Causes.{Rose}
 use Rattle.lx_io.specs.Puts.{AppendsFront}
+use Rattle.lx_io.specs.Told.{ToldBySource}
 use Rattle.lx_spec.specs.declared.Form.{Form}
 use Rattle.lx_spec.specs.declared.Job.{Job}
 use Rattle.lx_spec.specs.declared.Job.TheVariants.{Crew}
@@ -58,30 +59,30 @@ WritesLines other show lines told held held' = ⊥
 
 -- The first n operators were served over a show: each place has its source again, and `lines` has what was taken of it. Without a
 -- fault of its own these are all its lines up to `quit` or the end, and with one those that were taken whole. No others have lines.
-pub record Serves {S : Type 0} (left : S → Known) (faults : S → ℕ) (show : Show) (count : ℕ) (operators operators' : List (Option S))
+pub record Serves {S : Type 0} (told_in : ToldBySource S) (show : Show) (count : ℕ) (operators operators' : List (Option S))
     (held held' : Known) (s : Status) : Type 0 where
   pub lines : ℕ → List (List ℕ)
   pub told : List (Option OperatorFault)
   pub each : (place : ℕ) (start : S) → place < count → slice_get operators place ≡ Some (Some start)
-      → ScriptIsBack left faults operators' told place start (lines (place + 1))
+      → ScriptIsBack told_in operators' told place start (lines (place + 1))
   pub none : lines 0 ≡ []
   pub no_more : (operator : ℕ) → count < operator → lines operator ≡ []
   pub written : WritesLines s show lines told held held'
 
 -- the same, or memory ran out before the first line, and then nothing was read or written
-abbrev pub ServesOrWants : {S : Type 0} → (S → Known) → (S → ℕ) → Show → ℕ → (operators operators' : List (Option S))
+abbrev pub ServesOrWants : {S : Type 0} → ToldBySource S → Show → ℕ → (operators operators' : List (Option S))
     → (held held' : Known) → Status → Type 0
-ServesOrWants left faults show count operators operators' held held' s =
+ServesOrWants told show count operators operators' held held' s =
     ((s ≡ status.Memory) × ((held' ≡ held) × (operators' ≡ operators)))
-    ⊎ Serves left faults show count operators operators' held held' s
+    ⊎ Serves told show count operators operators' held held' s
 
 -- The show was read, and the operators were served over it.
-pub record ServesShow {S : Type 0} (left : S → Known) (faults : S → ℕ) (count : ℕ) (form : Form) (bytes : List ℕ)
+pub record ServesShow {S : Type 0} (told : ToldBySource S) (count : ℕ) (form : Form) (bytes : List ℕ)
     (operators operators' : List (Option S)) (held held' : Known) (s : Status) : Type 0 where
   pub reading : Reading
   pub read : reads form bytes ≡ Ok reading
   pub within : length (show_wanted bytes) ≤ INPUT_BYTES
-  pub served : Serves left faults reading.show count operators operators' held held' s
+  pub served : Serves told reading.show count operators operators' held held' s
 
 -- It ended as another job, before an operator's line was taken: the show is refused, or there was a fault.
 pub record ServesNone {S : Type 0} (count : ℕ) (form : Form) (bytes : List ℕ) (left : Known) (operators operators' : List (Option S))
@@ -91,19 +92,19 @@ pub record ServesNone {S : Type 0} (count : ℕ) (form : Form) (bytes : List ℕ
   pub ended : HasEnded s (Crew count form) bytes left held held'
   pub untouched : operators' ≡ operators
 
-abbrev pub HasCrewEnded : {S : Type 0} → (S → Known) → (S → ℕ) → ℕ → Form → List ℕ → Known → (operators operators' : List (Option S))
+abbrev pub HasCrewEnded : {S : Type 0} → ToldBySource S → ℕ → Form → List ℕ → Known → (operators operators' : List (Option S))
     → (held held' : Known) → Status → Type 0
-HasCrewEnded lefts faults count form bytes left operators operators' held held' s =
+HasCrewEnded told count form bytes left operators operators' held held' s =
     ServesNone count form bytes left operators operators' held held' s
-    ⊎ ServesShow lefts faults count form bytes operators operators' held held' s
+    ⊎ ServesShow told count form bytes operators operators' held held' s
 
 -- A prefix of the text of a crew was written: of each operator in use first lines up to `quit` or the end, numbered from 1, and of
 -- no other any. Attempts failed only at edits.
-pub record WritesFirstLines {S : Type 0} (left : S → Known) (show : Show) (count : ℕ) (operators : List (Option S)) (held held' : Known)
+pub record WritesFirstLines {S : Type 0} (told : ToldBySource S) (show : Show) (count : ℕ) (operators : List (Option S)) (held held' : Known)
     : Type 0 where
   pub entries : List CrewEntry
   pub each : (place : ℕ) (start : S) (bytes : List ℕ) → place < count → slice_get operators place ≡ Some (Some start)
-      → left start ≡ Some bytes
+      → told.left start ≡ Some bytes
       → (n : ℕ) × (of_operator (place + 1) entries ≡ numbered_from (place + 1) 1 (take n (lines_up_to_quit bytes)))
   pub none : of_operator 0 entries ≡ []
   pub no_more : (operator : ℕ) → count < operator → of_operator operator entries ≡ []
@@ -112,9 +113,9 @@ pub record WritesFirstLines {S : Type 0} (left : S → Known) (show : Show) (cou
   pub text : AppendsFront held held' (crew_text (opened show) entries failures)
 
 -- the same over the show that was read, or a prefix of the line of one that is refused
-abbrev pub WritesCrewFront : {S : Type 0} → (S → Known) → ℕ → List (Option S) → (held held' : Known) → Result Reading TextFault → Type 0
-WritesCrewFront left count operators held held' (Ok reading) = WritesFirstLines left reading.show count operators held held'
-WritesCrewFront left count operators held held' (Err fault) = AppendsFront held held' (fault_text fault)
+abbrev pub WritesCrewFront : {S : Type 0} → ToldBySource S → ℕ → List (Option S) → (held held' : Known) → Result Reading TextFault → Type 0
+WritesCrewFront told count operators held held' (Ok reading) = WritesFirstLines told reading.show count operators held held'
+WritesCrewFront told count operators held held' (Err fault) = AppendsFront held held' (fault_text fault)
 
 -- each place has a source, and those of the operators that aren't in use are as they were
 pub record KeepsPlaces {S : Type 0} (count : ℕ) (operators operators' : List (Option S)) : Type 0 where
@@ -131,23 +132,24 @@ KeepsOperators other s input input' output output' operators operators' =
     ((s ≡ status.Usage) ⊎ (s ≡ status.Memory)) × ((input' ≡ input) × ((output' ≡ output) × (operators' ≡ operators)))
 
 -- the count of failed reads of one of the operators in use rose
-pub record OperatorFailed {S : Type 0} (faults : S → ℕ) (count : ℕ) (operators operators' : List (Option S)) : Type 0 where
+pub record OperatorFailed {S : Type 0} (told : ToldBySource S) (count : ℕ) (operators operators' : List (Option S)) : Type 0 where
   pub place : ℕ
   pub within : place < count
   pub start : S
   pub new : S
   pub before : slice_get operators place ≡ Some (Some start)
   pub after : slice_get operators' place ≡ Some (Some new)
-  pub rose : Rose (faults start) (faults new)
+  pub rose : Rose (told.faults start) (told.faults new)
 
 -- ReadFault comes only where the count of failed reads of the input or of an operator in use rose, and WriteFault only where the
 -- output's of failed writes did.
-abbrev pub HasCrewCause : {S : Type 0} → (S → ℕ) → Status → (reads reads' writes writes' : ℕ) → ℕ → (operators operators' : List (Option S))
+abbrev pub HasCrewCause : {S : Type 0} → ToldBySource S → Status → (reads reads' writes writes' : ℕ) → ℕ
+    → (operators operators' : List (Option S))
     → Type 0
-HasCrewCause faults status.ReadFault reads reads' writes writes' count operators operators' =
-    Rose reads reads' ⊎ OperatorFailed faults count operators operators'
-HasCrewCause faults status.WriteFault reads reads' writes writes' count operators operators' = Rose writes writes'
-HasCrewCause faults other reads reads' writes writes' count operators operators' = Unit {0}
+HasCrewCause told status.ReadFault reads reads' writes writes' count operators operators' =
+    Rose reads reads' ⊎ OperatorFailed told count operators operators'
+HasCrewCause told status.WriteFault reads reads' writes writes' count operators operators' = Rose writes writes'
+HasCrewCause told other reads reads' writes writes' count operators operators' = Unit {0}
 
 -- what the status tells: the fault of the output, else that of the lowest operator that has one
 abbrev pub TellsOperators : List (Option OperatorFault) → Status → Type 0

@@ -70,8 +70,8 @@ HasCauseOf status.WriteFault reads reads' writes writes' = Rose writes writes'
 HasCauseOf other reads reads' writes writes' = Unit {0}
 
 -- The same of a script that is answered from a state on, before which this many bytes of the input were taken.
-abbrev pub HasPlayed : Status → (by : Answering (List ℕ)) → by.State → ℕ → List ℕ → Option (List ℕ) → Option (List ℕ) → Option (List ℕ)
-    → Type 0
+abbrev pub HasPlayed : Status → (by : Answering (List ℕ)) → by.State → ℕ → List ℕ → Option (List ℕ) → Option (List ℕ)
+    → Option (List ℕ) → Type 0
 HasPlayed status.Ok by state before bytes left held held' =
     AnswersScript by state (lines_of bytes) held held' × (before + length (bytes_wanted bytes) ≤ INPUT_BYTES)
 HasPlayed status.ReadFault by state before bytes left held held' = AnswersTaken by state before bytes left held held'

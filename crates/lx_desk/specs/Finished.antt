@@ -1,6 +1,7 @@
 -- What a status tells of the counts of faults, and of what is kept back.
-use Rattle.std.specs.Prelude.{◌≡◌, ◌⊎◌, ℕ, List, []}
+use Rattle.std.specs.Prelude.{◌≡◌, ◌⊎◌, ℕ, []}
 use Rattle.lx_io.specs.Causes.{Rose}
+use Rattle.lx_io.specs.Told.{ToldBySink}
 use Rattle.lx_desk.specs.declared.desk.Status.{Status}
 use Rattle.lx_desk.specs.declared.desk.Status.TheVariants as status
 
@@ -11,12 +12,12 @@ IsDone status.ShowRefused = Unit {0}
 IsDone other = ⊥
 
 -- A job that was done passed over no fault, and all that it wrote is handed on.
-pub record Finishes {K : Type 0} (reads reads' : ℕ) (writes wants : K → ℕ) (back : K → List ℕ) (output output' : K) (s : Status) : Type 0 where
+pub record Finishes {K : Type 0} (reads reads' : ℕ) (told : ToldBySink K) (output output' : K) (s : Status) : Type 0 where
   pub reads_kept : IsDone s → reads' ≡ reads
-  pub writes_kept : IsDone s → writes output' ≡ writes output
-  pub wants_kept : IsDone s → wants output' ≡ wants output
-  pub handed_on : IsDone s → back output' ≡ []
+  pub writes_kept : IsDone s → told.faults output' ≡ told.faults output
+  pub wants_kept : IsDone s → told.wants output' ≡ told.wants output
+  pub handed_on : IsDone s → told.back output' ≡ []
 
 -- Out of memory: before anything was written, or the output itself was.
-abbrev pub HasWanted : {K : Type 0} → (K → ℕ) → (output output' : K) → Status → Type 0
-HasWanted wants output output' s = s ≡ status.Memory → (output' ≡ output) ⊎ Rose (wants output) (wants output')
+abbrev pub HasWanted : {K : Type 0} → ToldBySink K → (output output' : K) → Status → Type 0
+HasWanted told output output' s = s ≡ status.Memory → (output' ≡ output) ⊎ Rose (told.wants output) (told.wants output')

@@ -7,6 +7,7 @@ use Rattle.lx_io.specs.declared.sink.SinkFault.{SinkFault}
 use Rattle.lx_io.specs.declared.sink.SinkFault.TheVariants.{Failed, Memory}
 use Rattle.lx_io.specs.Causes.{Rose}
 use Rattle.lx_io.specs.Puts.{AppendsFront}
+use Rattle.lx_io.specs.Told.{ToldBySink}
 use Rattle.lx_spec.specs.declared.Command.{Command}
 use Rattle.lx_spec.specs.declared.Form.{Form}
 use Rattle.lx_spec.specs.declared.Job.{Job}
@@ -43,103 +44,102 @@ abbrev pub LiveAllows : Show → List (List ℕ) → List (Option ℕ) → (acce
 LiveAllows show script failures accepted = Allows (desk_answering (leaves_room accepted)) (begun (opened show)) script failures
 
 -- an outlet has the lines of versions of rising lists of commands, the last of which begins with these
-pub record HasVersions {K : Type 0} (holds : K → Known) (show : Show) (outlets' : List (Option K)) (place : ℕ) (start : K)
+pub record HasVersions {K : Type 0} (told : ToldBySink K) (show : Show) (outlets' : List (Option K)) (place : ℕ) (start : K)
     (list : List Command) : Type 0 where
   pub new : K
   pub place_is : slice_get outlets' place ≡ Some (Some new)
-  pub all : HasAll show (place + 1) (holds start) (holds new) list
+  pub all : HasAll show (place + 1) (told.holds start) (told.holds new) list
 
-abbrev pub HaveVersions : {K : Type 0} → (K → Known) → Show → ℕ → List (Option K) → List (Option K) → List Command → Type 0
-HaveVersions {K} holds show universes outlets outlets' list =
+abbrev pub HaveVersions : {K : Type 0} → ToldBySink K → Show → ℕ → List (Option K) → List (Option K) → List Command → Type 0
+HaveVersions {K} told show universes outlets outlets' list =
     (place : ℕ) (start : K) → place < universes → slice_get outlets place ≡ Some (Some start)
-    → HasVersions holds show outlets' place start list
+    → HasVersions told show outlets' place start list
 
 -- A script was answered to its end, and each outlet's last line is that of a version after all accepted commands.
-pub record PlaysScript {K : Type 0} (outlet_holds : K → Known) (show : Show) (universes : ℕ) (script : List (List ℕ))
+pub record PlaysScript {K : Type 0} (told : ToldBySink K) (show : Show) (universes : ℕ) (script : List (List ℕ))
     (held held' : Known) (outlets outlets' : List (Option K)) : Type 0 where
   pub failures : List (Option ℕ)
   pub allows : LiveAllows show script failures (live_session show script failures).state.accepted
   pub text : Appends held held' (live_session show script failures).text
-  pub versions : HaveVersions outlet_holds show universes outlets outlets' (live_session show script failures).state.accepted
+  pub versions : HaveVersions told show universes outlets outlets' (live_session show script failures).state.accepted
 
 -- Each outlet in use got what it was to get of these published commands: the lines of versions of rising lists, the last of which begins
 -- with them. With a fault of its own it got such lines and a part of one more. The other outlets are as they were.
-pub record HaveGot {K : Type 0} (holds : K → Known) (back : K → List ℕ) (faults wants : K → ℕ) (show : Show) (universes : ℕ)
+pub record HaveGot {K : Type 0} (told : ToldBySink K) (show : Show) (universes : ℕ)
     (outlets outlets' : List (Option K)) (published : List Command) : Type 0 where
   pub results : List (Option SinkFault)
-  pub delivered : AreDelivered holds back faults wants show (take universes outlets) (take universes outlets') results published
+  pub delivered : AreDelivered told show (take universes outlets) (take universes outlets') results published
   pub rest : drop universes outlets' ≡ drop universes outlets
 
 -- all but the last n of these commands were published, and the outlets got what they were to get of these
-pub record AreServed {K : Type 0} (holds : K → Known) (back : K → List ℕ) (faults wants : K → ℕ) (show : Show) (universes : ℕ)
+pub record AreServed {K : Type 0} (told : ToldBySink K) (show : Show) (universes : ℕ)
     (outlets outlets' : List (Option K)) (commands : List Command) : Type 0 where
   pub published : List Command
   pub held_back : List Command
   pub commands_are : commands ≡ published ++ held_back
-  pub got : HaveGot holds back faults wants show universes outlets outlets' published
+  pub got : HaveGot told show universes outlets outlets' published
 
 -- Up to this many lines of a script were answered, by a prefix of the replies, and the outlets got what was published of the commands that
 -- these lines came to.
-pub record PlaysInFront {K : Type 0} (outlet_holds : K → Known) (back : K → List ℕ) (faults wants : K → ℕ) (show : Show) (universes : ℕ)
+pub record PlaysInFront {K : Type 0} (told : ToldBySink K) (show : Show) (universes : ℕ)
     (script : List (List ℕ)) (held held' : Known) (outlets outlets' : List (Option K)) : Type 0 where
   pub failures : List (Option ℕ)
   pub lines : ℕ
   pub allows : LiveAllows show script failures (live_after show script failures lines).state.accepted
   pub text : AppendsFront held held' (live_after show script failures lines).text
-  pub served : AreServed outlet_holds back faults wants show universes outlets outlets' (live_after show script failures lines).state.accepted
+  pub served : AreServed told show universes outlets outlets' (live_after show script failures lines).state.accepted
 
 -- The lines that were taken whole were answered, and the outlets got what was published of the commands that these lines came to.
-pub record PlaysTaken {K : Type 0} (outlet_holds : K → Known) (back : K → List ℕ) (faults wants : K → ℕ) (show : Show) (universes before : ℕ)
+pub record PlaysTaken {K : Type 0} (told : ToldBySink K) (show : Show) (universes before : ℕ)
     (bytes : List ℕ) (left held held' : Known) (outlets outlets' : List (Option K)) : Type 0 where
   pub failures : List (Option ℕ)
   pub cut : CutOff before bytes left
   pub short : cut.lines < lines_wanted (lines_of bytes)
   pub allows : LiveAllows show (lines_of bytes) failures (live_after show (lines_of bytes) failures cut.lines).state.accepted
   pub text : Appends held held' (live_after show (lines_of bytes) failures cut.lines).text
-  pub served : AreServed outlet_holds back faults wants show universes outlets outlets'
-      (live_after show (lines_of bytes) failures cut.lines).state.accepted
+  pub served : AreServed told show universes outlets outlets' (live_after show (lines_of bytes) failures cut.lines).state.accepted
 
 -- how a script over a show ended that was played live, before which this many bytes of the input were taken
-abbrev pub HasPlayedLive : {K : Type 0} → Status → (K → Known) → (K → List ℕ) → (faults wants : K → ℕ) → Show → (universes before : ℕ) → List ℕ
+abbrev pub HasPlayedLive : {K : Type 0} → Status → ToldBySink K → Show → (universes before : ℕ) → List ℕ
     → (left held held' : Known) → (outlets outlets' : List (Option K)) → Type 0
-HasPlayedLive status.Ok holds back faults wants show universes before bytes left held held' outlets outlets' =
-    PlaysScript holds show universes (lines_of bytes) held held' outlets outlets'
+HasPlayedLive status.Ok told show universes before bytes left held held' outlets outlets' =
+    PlaysScript told show universes (lines_of bytes) held held' outlets outlets'
     × (before + length (bytes_wanted bytes) ≤ INPUT_BYTES)
-HasPlayedLive status.ReadFault holds back faults wants show universes before bytes left held held' outlets outlets' =
-    PlaysTaken holds back faults wants show universes before bytes left held held' outlets outlets'
-HasPlayedLive status.InputTooLong holds back faults wants show universes before bytes left held held' outlets outlets' =
-    PlaysTaken holds back faults wants show universes before bytes left held held' outlets outlets'
+HasPlayedLive status.ReadFault told show universes before bytes left held held' outlets outlets' =
+    PlaysTaken told show universes before bytes left held held' outlets outlets'
+HasPlayedLive status.InputTooLong told show universes before bytes left held held' outlets outlets' =
+    PlaysTaken told show universes before bytes left held held' outlets outlets'
     × (INPUT_BYTES < before + length (bytes_wanted bytes))
-HasPlayedLive status.WriteFault holds back faults wants show universes before bytes left held held' outlets outlets' =
-    PlaysInFront holds back faults wants show universes (lines_of bytes) held held' outlets outlets'
-HasPlayedLive status.Memory holds back faults wants show universes before bytes left held held' outlets outlets' =
+HasPlayedLive status.WriteFault told show universes before bytes left held held' outlets outlets' =
+    PlaysInFront told show universes (lines_of bytes) held held' outlets outlets'
+HasPlayedLive status.Memory told show universes before bytes left held held' outlets outlets' =
     ((held' ≡ held) × (outlets' ≡ outlets))
-    ⊎ PlaysInFront holds back faults wants show universes (lines_of bytes) held held' outlets outlets'
-HasPlayedLive other holds back faults wants show universes before bytes left held held' outlets outlets' = ⊥
+    ⊎ PlaysInFront told show universes (lines_of bytes) held held' outlets outlets'
+HasPlayedLive other told show universes before bytes left held held' outlets outlets' = ⊥
 
 -- The show was read, the replies to the whole script were written, and each outlet's last line is that of a version after all commands
 -- that were accepted.
-pub record PlaysWhole {K : Type 0} (outlet_holds : K → Known) (universes : ℕ) (form : Form) (bytes : List ℕ)
+pub record PlaysWhole {K : Type 0} (told : ToldBySink K) (universes : ℕ) (form : Form) (bytes : List ℕ)
     (held held' : Known) (outlets outlets' : List (Option K)) : Type 0 where
   pub reading : Reading
   pub read : reads form bytes ≡ Ok reading
   pub failures : List (Option ℕ)
   pub allows : LiveAllows reading.show (script_of bytes) failures (live_session reading.show (script_of bytes) failures).state.accepted
   pub text : Appends held held' (live_session reading.show (script_of bytes) failures).text
-  pub versions : HaveVersions outlet_holds reading.show universes outlets outlets' (live_session reading.show (script_of bytes) failures).state.accepted
+  pub versions : HaveVersions told reading.show universes outlets outlets' (live_session reading.show (script_of bytes) failures).state.accepted
   pub within : length (input_wanted form bytes) ≤ INPUT_BYTES
 
 -- The show was read, up to this many lines of its script were answered, by a prefix of the replies, and the outlets got what was published
 -- of the commands that these lines came to.
-pub record LivesInFront {K : Type 0} (holds : K → Known) (back : K → List ℕ) (faults wants : K → ℕ) (universes : ℕ) (form : Form)
+pub record LivesInFront {K : Type 0} (told : ToldBySink K) (universes : ℕ) (form : Form)
     (bytes : List ℕ) (held held' : Known) (outlets outlets' : List (Option K)) : Type 0 where
   pub reading : Reading
   pub read : reads form bytes ≡ Ok reading
-  pub plays : PlaysInFront holds back faults wants reading.show universes (script_of bytes) held held' outlets outlets'
+  pub plays : PlaysInFront told reading.show universes (script_of bytes) held held' outlets outlets'
 
 -- The show was read, the script lines that were taken whole were answered, and the outlets got what was published of the commands that
 -- these lines came to.
-pub record LivesTaken {K : Type 0} (holds : K → Known) (back : K → List ℕ) (faults wants : K → ℕ) (universes : ℕ) (form : Form)
+pub record LivesTaken {K : Type 0} (told : ToldBySink K) (universes : ℕ) (form : Form)
     (bytes : List ℕ) (left held held' : Known) (outlets outlets' : List (Option K)) : Type 0 where
   pub reading : Reading
   pub read : reads form bytes ≡ Ok reading
@@ -150,7 +150,7 @@ pub record LivesTaken {K : Type 0} (holds : K → Known) (back : K → List ℕ)
       (live_after reading.show (script_of bytes) failures (cut.lines - lines_read (lines_of bytes))).state.accepted
   pub text : Appends held held'
       (live_after reading.show (script_of bytes) failures (cut.lines - lines_read (lines_of bytes))).text
-  pub served : AreServed holds back faults wants reading.show universes outlets outlets'
+  pub served : AreServed told reading.show universes outlets outlets'
       (live_after reading.show (script_of bytes) failures (cut.lines - lines_read (lines_of bytes))).state.accepted
 
 -- no line of a script was answered, and no outlet was written
@@ -160,58 +160,57 @@ NoneLived form bytes held held' outlets outlets' = (outlets' ≡ outlets) × (Is
 -- How the live run of a form over this many universes ended: with Ok as above; with ShowRefused as another job, and nothing in any outlet.
 -- Else it ended as another job with the status, and the outlets got nothing, or what was published of the commands that the lines which
 -- were answered came to.
-abbrev pub HasLived : {K : Type 0} → Status → (K → Known) → (K → List ℕ) → (faults wants : K → ℕ) → ℕ → Form → List ℕ
+abbrev pub HasLived : {K : Type 0} → Status → ToldBySink K → ℕ → Form → List ℕ
     → (left held held' : Known) → (outlets outlets' : List (Option K)) → Type 0
-HasLived status.Ok holds back faults wants universes form bytes left held held' outlets outlets' =
-    PlaysWhole holds universes form bytes held held' outlets outlets'
-HasLived status.ShowRefused holds back faults wants universes form bytes left held held' outlets outlets' =
+HasLived status.Ok told universes form bytes left held held' outlets outlets' =
+    PlaysWhole told universes form bytes held held' outlets outlets'
+HasLived status.ShowRefused told universes form bytes left held held' outlets outlets' =
     HasEnded status.ShowRefused (Script (Live universes) form) bytes left held held' × (outlets' ≡ outlets)
-HasLived status.ReadFault holds back faults wants universes form bytes left held held' outlets outlets' =
+HasLived status.ReadFault told universes form bytes left held held' outlets outlets' =
     HasEnded status.ReadFault (Script (Live universes) form) bytes left held held' × (NoneLived form bytes held held' outlets outlets'
-    ⊎ LivesTaken holds back faults wants universes form bytes left held held' outlets outlets')
-HasLived status.InputTooLong holds back faults wants universes form bytes left held held' outlets outlets' =
+    ⊎ LivesTaken told universes form bytes left held held' outlets outlets')
+HasLived status.InputTooLong told universes form bytes left held held' outlets outlets' =
     HasEnded status.InputTooLong (Script (Live universes) form) bytes left held held' × (NoneLived form bytes held held' outlets outlets'
-    ⊎ LivesTaken holds back faults wants universes form bytes left held held' outlets outlets')
-HasLived status.WriteFault holds back faults wants universes form bytes left held held' outlets outlets' =
+    ⊎ LivesTaken told universes form bytes left held held' outlets outlets')
+HasLived status.WriteFault told universes form bytes left held held' outlets outlets' =
     HasEnded status.WriteFault (Script (Live universes) form) bytes left held held' × (NoneLived form bytes held held' outlets outlets'
-    ⊎ LivesInFront holds back faults wants universes form bytes held held' outlets outlets')
-HasLived status.Memory holds back faults wants universes form bytes left held held' outlets outlets' =
+    ⊎ LivesInFront told universes form bytes held held' outlets outlets')
+HasLived status.Memory told universes form bytes left held held' outlets outlets' =
     HasEnded status.Memory (Script (Live universes) form) bytes left held held' × (NoneLived form bytes held held' outlets outlets'
-    ⊎ LivesInFront holds back faults wants universes form bytes held held' outlets outlets')
-HasLived other holds back faults wants universes form bytes left held held' outlets outlets' = ⊥
+    ⊎ LivesInFront told universes form bytes held held' outlets outlets')
+HasLived other told universes form bytes left held held' outlets outlets' = ⊥
 
 -- the outlets got what they were to get of some published commands over one show
-pub record ArePlayed {K : Type 0} (holds : K → Known) (back : K → List ℕ) (faults wants : K → ℕ) (universes : ℕ)
-    (outlets outlets' : List (Option K)) : Type 0 where
+pub record ArePlayed {K : Type 0} (told : ToldBySink K) (universes : ℕ) (outlets outlets' : List (Option K)) : Type 0 where
   pub show : Show
   pub published : List Command
-  pub got : HaveGot holds back faults wants show universes outlets outlets' published
+  pub got : HaveGot told show universes outlets outlets' published
 
 -- Words that name no live run are answered with Usage, unless memory ran out, and nothing is read or written; in a live run
 -- the outlets are as they were, or were played.
-abbrev pub KeepsOutlets : {I O K : Type 0} → (K → Known) → (K → List ℕ) → (faults wants : K → ℕ) → Option Job → Status → (input input' : I)
+abbrev pub KeepsOutlets : {I O K : Type 0} → ToldBySink K → Option Job → Status → (input input' : I)
     → (output output' : O) → (outlets outlets' : List (Option K)) → Type 0
-KeepsOutlets holds back faults wants (Some (Script (Live universes) form)) s input input' output output' outlets outlets' =
-    (s ≢ status.Usage) × ((outlets' ≡ outlets) ⊎ ArePlayed holds back faults wants universes outlets outlets')
-KeepsOutlets holds back faults wants other s input input' output output' outlets outlets' =
+KeepsOutlets told (Some (Script (Live universes) form)) s input input' output output' outlets outlets' =
+    (s ≢ status.Usage) × ((outlets' ≡ outlets) ⊎ ArePlayed told universes outlets outlets')
+KeepsOutlets told other s input input' output output' outlets outlets' =
     ((s ≡ status.Usage) ⊎ (s ≡ status.Memory)) × ((input' ≡ input) × ((output' ≡ output) × (outlets' ≡ outlets)))
 
 -- the count of failed writes of one of the outlets rose
-pub record OutletFailed {K : Type 0} (faults : K → ℕ) (outlets outlets' : List (Option K)) : Type 0 where
+pub record OutletFailed {K : Type 0} (told : ToldBySink K) (outlets outlets' : List (Option K)) : Type 0 where
   pub place : ℕ
   pub start : K
   pub new : K
   pub before : slice_get outlets place ≡ Some (Some start)
   pub after : slice_get outlets' place ≡ Some (Some new)
-  pub rose : Rose (faults start) (faults new)
+  pub rose : Rose (told.faults start) (told.faults new)
 
 -- ReadFault comes only where the count of failed reads rose, and WriteFault only where the output's or an outlet's of failed writes did.
-abbrev pub HasLiveCause : {K : Type 0} → (K → ℕ) → Status → (reads reads' writes writes' : ℕ) → (outlets outlets' : List (Option K))
+abbrev pub HasLiveCause : {K : Type 0} → ToldBySink K → Status → (reads reads' writes writes' : ℕ) → (outlets outlets' : List (Option K))
     → Type 0
-HasLiveCause faults status.ReadFault reads reads' writes writes' outlets outlets' = Rose reads reads'
-HasLiveCause faults status.WriteFault reads reads' writes writes' outlets outlets' = Rose writes writes' ⊎ OutletFailed faults outlets
+HasLiveCause told status.ReadFault reads reads' writes writes' outlets outlets' = Rose reads reads'
+HasLiveCause told status.WriteFault reads reads' writes writes' outlets outlets' = Rose writes writes' ⊎ OutletFailed told outlets
     outlets'
-HasLiveCause faults other reads reads' writes writes' outlets outlets' = Unit {0}
+HasLiveCause told other reads reads' writes writes' outlets outlets' = Unit {0}
 
 -- a write failed in an outlet
 abbrev pub HasFailedOutlet : List (Option SinkFault) → Type 0
@@ -238,38 +237,38 @@ TellsRun (Err fault) results unsent s = s ≡ status_for {A = Tally} (Err fault)
 
 -- A script was answered to its end, and the outlets got what was published of the commands that it came to; and so much is told of the
 -- outlets' faults and of how many commands were never published.
-pub record PlaysToEnd {K : Type 0} (Told : List (Option SinkFault) → ℕ → Type 0) (holds : K → Known) (back : K → List ℕ)
-    (faults wants : K → ℕ) (show : Show) (universes : ℕ) (script : List (List ℕ)) (held held' : Known) (outlets outlets' : List (Option K))
+pub record PlaysToEnd {K : Type 0} (Told : List (Option SinkFault) → ℕ → Type 0) (outlet_told : ToldBySink K)
+    (show : Show) (universes : ℕ) (script : List (List ℕ)) (held held' : Known) (outlets outlets' : List (Option K))
     : Type 0 where
   pub failures : List (Option ℕ)
   pub allows : LiveAllows show script failures (live_session show script failures).state.accepted
   pub text : Appends held held' (live_session show script failures).text
-  pub served : AreServed holds back faults wants show universes outlets outlets' (live_session show script failures).state.accepted
+  pub served : AreServed outlet_told show universes outlets outlets' (live_session show script failures).state.accepted
   pub told : Told served.got.results (length served.held_back)
 
 -- no read failed, and the output had no fault
-pub record NoneRose {O : Type 0} (reads reads' : ℕ) (writes wants : O → ℕ) (output output' : O) : Type 0 where
+pub record NoneRose {O : Type 0} (reads reads' : ℕ) (told : ToldBySink O) (output output' : O) : Type 0 where
   pub reads_kept : reads' ≡ reads
-  pub writes_kept : writes output' ≡ writes output
-  pub wants_kept : wants output' ≡ wants output
+  pub writes_kept : told.faults output' ≡ told.faults output
+  pub wants_kept : told.wants output' ≡ told.wants output
 
 -- The faults of a live run are told in this order. The session's own comes first, which is one of the input or of the output. Then, where
 -- the session had none and came to its end, comes a write that failed in an outlet, and then that memory was short.
-abbrev pub DecidesInOrder : {O K : Type 0} → Status → (reads reads' : ℕ) → (writes wants : O → ℕ) → (output output' : O)
+abbrev pub DecidesInOrder : {O K : Type 0} → Status → (reads reads' : ℕ) → (told : ToldBySink O) → (output output' : O)
     → (outlets outlets' : List (Option K)) → ((List (Option SinkFault) → ℕ → Type 0) → Type 0) → Type 0
-DecidesInOrder status.WriteFault reads reads' writes wants output output' outlets outlets' ToEnd =
-    Rose (writes output) (writes output')
-    ⊎ (NoneRose reads reads' writes wants output output' × ToEnd (λ results unsent. HasFailedOutlet results))
-DecidesInOrder status.Memory reads reads' writes wants output output' outlets outlets' ToEnd =
-    (((output' ≡ output) × (outlets' ≡ outlets)) ⊎ Rose (wants output) (wants output'))
-    ⊎ (NoneRose reads reads' writes wants output output' × ToEnd LacksMemory)
-DecidesInOrder other reads reads' writes wants output output' outlets outlets' ToEnd = Unit {0}
+DecidesInOrder status.WriteFault reads reads' told output output' outlets outlets' ToEnd =
+    Rose (told.faults output) (told.faults output')
+    ⊎ (NoneRose reads reads' told output output' × ToEnd (λ results unsent. HasFailedOutlet results))
+DecidesInOrder status.Memory reads reads' told output output' outlets outlets' ToEnd =
+    (((output' ≡ output) × (outlets' ≡ outlets)) ⊎ Rose (told.wants output) (told.wants output'))
+    ⊎ (NoneRose reads reads' told output output' × ToEnd LacksMemory)
+DecidesInOrder other reads reads' told output output' outlets outlets' ToEnd = Unit {0}
 
 -- The same of an input: its show was read, and the script behind it was played to its end, within the limit of the input.
-pub record LivesToEnd {K : Type 0} (Told : List (Option SinkFault) → ℕ → Type 0) (holds : K → Known) (back : K → List ℕ)
-    (faults wants : K → ℕ) (universes : ℕ) (form : Form) (bytes : List ℕ) (held held' : Known) (outlets outlets' : List (Option K))
+pub record LivesToEnd {K : Type 0} (Told : List (Option SinkFault) → ℕ → Type 0) (told : ToldBySink K)
+    (universes : ℕ) (form : Form) (bytes : List ℕ) (held held' : Known) (outlets outlets' : List (Option K))
     : Type 0 where
   pub reading : Reading
   pub read : reads form bytes ≡ Ok reading
-  pub plays : PlaysToEnd Told holds back faults wants reading.show universes (script_of bytes) held held' outlets outlets'
+  pub plays : PlaysToEnd Told told reading.show universes (script_of bytes) held held' outlets outlets'
   pub within : length (input_wanted form bytes) ≤ INPUT_BYTES

@@ -1,5 +1,6 @@
 -- What playing a script from a state on comes to, by its status.
-use Rattle.std.specs.Prelude.{◌≤◌, ℕ, Option, IfSome, List}
+use Rattle.std.specs.Prelude.{◌≤◌, ℕ, IfSome, List}
+use Rattle.lx_io.specs.Told.{ToldBySink, ToldBySource}
 use Rattle.lx_lex.specs.declared.lines.Lines.{Lines}
 use Rattle.lx_lex.specs.Unread.{bytes_taken, source_faults, source_left, unread}
 use Rattle.lx_spec.specs.Text.{lines_of}
@@ -10,13 +11,13 @@ use Rattle.lx_desk.specs.Endings.{EndsScript, HasPlayed, HasCauseOf}
 use Rattle.lx_desk.specs.Finished.{Finishes, HasWanted}
 
 -- The script that is left was answered from this state on, from lines to lines and from an output to an output.
-pub record Plays {S K : Type 0} (left : S → Option (List ℕ)) (reads : S → ℕ) (holds : K → Option (List ℕ)) (writes wants : K → ℕ)
-    (back : K → List ℕ) (by : Answering (List ℕ)) (state : by.State) (old new : Lines S) (output output' : K) (s : Status) : Type 0 where
+pub record Plays {S K : Type 0} (told_in : ToldBySource S) (told_out : ToldBySink K)
+    (by : Answering (List ℕ)) (state : by.State) (old new : Lines S) (output output' : K) (s : Status) : Type 0 where
   pub works : EndsScript s
-  pub ended : IfSome (unread left old)
-      (λ bytes. HasPlayed s by state (bytes_taken old) bytes (source_left left new) (holds output) (holds output'))
-  pub front : IfSome (unread left old) (λ bytes. AnswersInFront by state (lines_of bytes) (holds output) (holds output'))
-  pub later : source_faults reads old ≤ source_faults reads new
-  pub cause : HasCauseOf s (source_faults reads old) (source_faults reads new) (writes output) (writes output')
-  pub finished : Finishes (source_faults reads old) (source_faults reads new) writes wants back output output' s
-  pub memory : HasWanted wants output output' s
+  pub ended : IfSome (unread told_in old)
+      (λ bytes. HasPlayed s by state (bytes_taken old) bytes (source_left told_in new) (told_out.holds output) (told_out.holds output'))
+  pub front : IfSome (unread told_in old) (λ bytes. AnswersInFront by state (lines_of bytes) (told_out.holds output) (told_out.holds output'))
+  pub later : source_faults told_in old ≤ source_faults told_in new
+  pub cause : HasCauseOf s (source_faults told_in old) (source_faults told_in new) (told_out.faults output) (told_out.faults output')
+  pub finished : Finishes (source_faults told_in old) (source_faults told_in new) told_out output output' s
+  pub memory : HasWanted told_out output output' s

@@ -33,8 +33,8 @@ pub(crate) fn check<S: Source, K: Sink>(
         (K.holds output.new)) }
     ensures prefix { IfSome (S.left input.old) (λ bytes. WritesPrefix (Check form) bytes (K.holds output.old) (K.holds output.new)) }
     ensures cause { HasCauseOf result (S.faults input.old) (S.faults input.new) (K.faults output.old) (K.faults output.new) }
-    ensures finished { Finishes (S.faults input.old) (S.faults input.new) K.faults K.wants K.back output.old output.new result }
-    ensures memory { HasWanted K.wants output.old output.new result }
+    ensures finished { Finishes (S.faults input.old) (S.faults input.new) K.Sink output.old output.new result }
+    ensures memory { HasWanted K.Sink output.old output.new result }
 {
     let mut lines = Lines::new(input);
     match read_show(alloc, &mut lines, form) {
@@ -49,8 +49,8 @@ fn tell<K: Sink>(loaded: &Loaded, output: &mut K) -> Status
     ensures prefix { AppendsFront (K.holds output.old) (K.holds output.new) (check_text (reading_of loaded.now)) }
     ensures kinds { (result ≡ Status.Ok) ⊎ ((result ≡ Status.WriteFault) ⊎ (result ≡ Status.Memory)) }
     ensures write { result ≡ Status.WriteFault → Rose (K.faults output.old) (K.faults output.new) }
-    ensures finished { (reads : ℕ) → Finishes reads reads K.faults K.wants K.back output.old output.new result }
-    ensures memory { HasWanted K.wants output.old output.new result }
+    ensures finished { (reads : ℕ) → Finishes reads reads K.Sink output.old output.new result }
+    ensures memory { HasWanted K.Sink output.old output.new result }
 {
     match put_and_flush(loaded, output) {
         Ok(()) => Status::Ok,
@@ -61,7 +61,7 @@ fn tell<K: Sink>(loaded: &Loaded, output: &mut K) -> Status
 
 /// Appends the line, and flushes.
 fn put_and_flush<K: Sink>(loaded: &Loaded, output: &mut K) -> Result<(), SinkFault>
-    ensures puts { Puts K.holds K.faults K.wants output.old output.new result (check_text (reading_of loaded.now)) }
+    ensures puts { Puts K.Sink output.old output.new result (check_text (reading_of loaded.now)) }
     ensures handed_on { OnOk result (K.back output.new ≡ []) }
 {
     put_size(loaded, output)?;
@@ -70,7 +70,7 @@ fn put_and_flush<K: Sink>(loaded: &Loaded, output: &mut K) -> Result<(), SinkFau
 
 /// Appends the line `show cues A channels B skipped C first D`.
 fn put_size<K: Sink>(loaded: &Loaded, output: &mut K) -> Result<(), SinkFault>
-    ensures { Puts K.holds K.faults K.wants output.old output.new result (check_text (reading_of loaded.now)) }
+    ensures { Puts K.Sink output.old output.new result (check_text (reading_of loaded.now)) }
 {
     put_counts(loaded.show.cues().len(), loaded.show.channels(), output)?;
     put_skipped(loaded.skipped, loaded.first_skipped, output)
@@ -78,7 +78,7 @@ fn put_size<K: Sink>(loaded: &Loaded, output: &mut K) -> Result<(), SinkFault>
 
 /// Appends how many cues and channels there are.
 fn put_counts<K: Sink>(cues: usize, channels: u32, output: &mut K) -> Result<(), SinkFault>
-    ensures { Puts K.holds K.faults K.wants output.old output.new result
+    ensures { Puts K.Sink output.old output.new result
         (codes "show cues " ++ (decimal cues ++ (codes " channels " ++ decimal channels))) }
 {
     put_all(output, b"show cues ")?;
@@ -89,7 +89,7 @@ fn put_counts<K: Sink>(cues: usize, channels: u32, output: &mut K) -> Result<(),
 
 /// Appends how many lines were skipped, and which was the first.
 fn put_skipped<K: Sink>(skipped: u32, first: u32, output: &mut K) -> Result<(), SinkFault>
-    ensures { Puts K.holds K.faults K.wants output.old output.new result
+    ensures { Puts K.Sink output.old output.new result
         (codes " skipped " ++ (decimal skipped ++ (codes " first " ++ (decimal first ++ 10 ∷ [])))) }
 {
     put_all(output, b" skipped ")?;

@@ -47,14 +47,14 @@ pub fn run_crew<R: Threads + Wait + Sync, I: Source, S: Source + Send + Drop, K:
     requires full { EachAt (λ place source. IsSome source) operators.old }
     ensures words { KeepsOperators (Some (Crew count form)) result input.old input.new output.old output.new operators.old operators.new }
     ensures ended { IfSome (I.left input.old)
-        (λ bytes. HasCrewEnded S.left S.faults count form bytes (I.left input.new) operators.old operators.new
+        (λ bytes. HasCrewEnded S.Source count form bytes (I.left input.new) operators.old operators.new
         (K.holds output.old) (K.holds output.new) result) }
     ensures prefix { IfSome (I.left input.old)
-        (λ bytes. WritesCrewFront S.left count operators.old (K.holds output.old) (K.holds output.new) (reads form bytes)) }
-    ensures cause { HasCrewCause S.faults result (I.faults input.old) (I.faults input.new) (K.faults output.old) (K.faults output.new)
+        (λ bytes. WritesCrewFront S.Source count operators.old (K.holds output.old) (K.holds output.new) (reads form bytes)) }
+    ensures cause { HasCrewCause S.Source result (I.faults input.old) (I.faults input.new) (K.faults output.old) (K.faults output.new)
         count operators.old operators.new }
-    ensures finished { Finishes (I.faults input.old) (I.faults input.new) K.faults K.wants K.back output.old output.new result }
-    ensures memory { HasWanted K.wants output.old output.new result }
+    ensures finished { Finishes (I.faults input.old) (I.faults input.new) K.Sink output.old output.new result }
+    ensures memory { HasWanted K.Sink output.old output.new result }
 {
     let mut lines = Lines::new(input);
     match read_show(alloc, &mut lines, form) {
@@ -79,12 +79,12 @@ fn serve<R: Threads + Wait + Sync, S: Source + Send + Drop, K: Sink + Send>(
     ensures usage { result ≢ Status.Usage }
     ensures live { result ≢ Status.Live }
     ensures places { KeepsPlaces count operators.old operators.new }
-    ensures served { ServesOrWants S.left S.faults show count operators.old operators.new (K.holds output.old) (K.holds output.new) result }
-    ensures prefix { WritesFirstLines S.left show count operators.old (K.holds output.old) (K.holds output.new) }
-    ensures read { result ≡ Status.ReadFault → OperatorFailed S.faults count operators.old operators.new }
+    ensures served { ServesOrWants S.Source show count operators.old operators.new (K.holds output.old) (K.holds output.new) result }
+    ensures prefix { WritesFirstLines S.Source show count operators.old (K.holds output.old) (K.holds output.new) }
+    ensures read { result ≡ Status.ReadFault → OperatorFailed S.Source count operators.old operators.new }
     ensures write { result ≡ Status.WriteFault → Rose (K.faults output.old) (K.faults output.new) }
-    ensures finished { (reads : ℕ) → Finishes reads reads K.faults K.wants K.back output.old output.new result }
-    ensures memory { HasWanted K.wants output.old output.new result }
+    ensures finished { (reads : ℕ) → Finishes reads reads K.Sink output.old output.new result }
+    ensures memory { HasWanted K.Sink output.old output.new result }
 {
     let Ok(mut console) = Console::open(alloc, show) else {
         return Status::Memory;

@@ -54,9 +54,9 @@ pub fn run_job<S: Source, K: Sink>(alloc: Global, job: Job, input: &mut S, outpu
         (λ bytes. HasEnded result job bytes (S.left input.new) (K.holds output.old) (K.holds output.new)) }
     ensures prefix { IfSome (given_to job (S.left input.old)) (λ bytes. WritesPrefix job bytes (K.holds output.old) (K.holds output.new)) }
     ensures cause { HasCauseOf result (S.faults input.old) (S.faults input.new) (K.faults output.old) (K.faults output.new) }
-    ensures finished { Finishes (S.faults input.old) (S.faults input.new) K.faults K.wants K.back output.old output.new result }
+    ensures finished { Finishes (S.faults input.old) (S.faults input.new) K.Sink output.old output.new result }
     ensures unread { (cues : ℕ) → job ≡ Make cues → input.new ≡ input.old }
-    ensures memory { HasWanted K.wants output.old output.new result }
+    ensures memory { HasWanted K.Sink output.old output.new result }
 {
     match job {
         Job::Check(form) => check(alloc, form, input, output),

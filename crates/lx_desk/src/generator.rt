@@ -29,7 +29,7 @@ pub(crate) fn made_input(alloc: Global, cues: u32) -> Result<Vec<u8>, AllocError
 
 /// Appends the input.
 fn put_input<K: Sink>(cues: u32, sink: &mut K) -> Result<(), SinkFault>
-    ensures { Puts K.holds K.faults K.wants sink.old sink.new result (made_input cues) }
+    ensures { Puts K.Sink sink.old sink.new result (made_input cues) }
 {
     let mut draws = Draws::new(cues);
     put_show(cues, &mut draws, sink)?;
@@ -39,7 +39,7 @@ fn put_input<K: Sink>(cues: u32, sink: &mut K) -> Result<(), SinkFault>
 /// Appends the show.
 fn put_show<K: Sink>(cues: u32, draws: &mut Draws, sink: &mut K) -> Result<(), SinkFault>
     requires { draws.old.number ≡ cues }
-    ensures text { Puts K.holds K.faults K.wants sink.old sink.new result (made_show cues) }
+    ensures text { Puts K.Sink sink.old sink.new result (made_show cues) }
     ensures draws { OnOk result (draws.new.number ≡ drawn_from cues (9 * cues)) }
 {
     put_all(sink, b"IDENT 3:0\n")?;
@@ -50,7 +50,7 @@ fn put_show<K: Sink>(cues: u32, draws: &mut Draws, sink: &mut K) -> Result<(), S
 
 /// Appends the patch: each channel to the dimmer of its number, in full.
 fn put_patch<K: Sink>(sink: &mut K) -> Result<(), SinkFault>
-    ensures { Puts K.holds K.faults K.wants sink.old sink.new result (flat_map made_patch (range_with_len 1 512)) }
+    ensures { Puts K.Sink sink.old sink.new result (flat_map made_patch (range_with_len 1 512)) }
 {
     for before in 0..PATCHED {
         put_patched(before + 1, before + 1, sink)?;
@@ -60,7 +60,7 @@ fn put_patch<K: Sink>(sink: &mut K) -> Result<(), SinkFault>
 
 /// Appends the patch line of a channel and a dimmer.
 fn put_patched<K: Sink>(channel: u32, dimmer: u32, sink: &mut K) -> Result<(), SinkFault>
-    ensures { Puts K.holds K.faults K.wants sink.old sink.new result (patched_text channel dimmer) }
+    ensures { Puts K.Sink sink.old sink.new result (patched_text channel dimmer) }
 {
     put_number(b"PATCH 1 ", channel, sink)?;
     put_number(b"<", dimmer, sink)?;
@@ -70,7 +70,7 @@ fn put_patched<K: Sink>(channel: u32, dimmer: u32, sink: &mut K) -> Result<(), S
 /// Appends the cues, each of the draws that follow.
 fn put_cues<K: Sink>(cues: u32, draws: &mut Draws, sink: &mut K) -> Result<(), SinkFault>
     requires { draws.old.number ≡ cues }
-    ensures text { Puts K.holds K.faults K.wants sink.old sink.new result (flat_map (made_cue cues) (range_with_len 1 cues)) }
+    ensures text { Puts K.Sink sink.old sink.new result (flat_map (made_cue cues) (range_with_len 1 cues)) }
     ensures draws { OnOk result (draws.new.number ≡ drawn_from cues (9 * cues)) }
 {
     for before in 0..cues {
@@ -81,7 +81,7 @@ fn put_cues<K: Sink>(cues: u32, draws: &mut Draws, sink: &mut K) -> Result<(), S
 
 /// Appends the lines of a cue.
 fn put_cue<K: Sink>(number: u32, cue: &DrawnCue, sink: &mut K) -> Result<(), SinkFault>
-    ensures { Puts K.holds K.faults K.wants sink.old sink.new result (drawn_cue_text number cue.now) }
+    ensures { Puts K.Sink sink.old sink.new result (drawn_cue_text number cue.now) }
 {
     put_cue_head(number, cue.up, sink)?;
     put_settings(&cue.settings, sink)
@@ -89,7 +89,7 @@ fn put_cue<K: Sink>(number: u32, cue: &DrawnCue, sink: &mut K) -> Result<(), Sin
 
 /// Appends the levels of a cue.
 fn put_settings<K: Sink>(settings: &[Setting], sink: &mut K) -> Result<(), SinkFault>
-    ensures { Puts K.holds K.faults K.wants sink.old sink.new result (flat_map chan_text settings.now) }
+    ensures { Puts K.Sink sink.old sink.new result (flat_map chan_text settings.now) }
 {
     for setting in settings {
         put_setting(*setting, sink)?;
@@ -99,7 +99,7 @@ fn put_settings<K: Sink>(settings: &[Setting], sink: &mut K) -> Result<(), SinkF
 
 /// Appends the number and the time of a cue.
 fn put_cue_head<K: Sink>(number: u32, up: u32, sink: &mut K) -> Result<(), SinkFault>
-    ensures { Puts K.holds K.faults K.wants sink.old sink.new result (cue_head number up) }
+    ensures { Puts K.Sink sink.old sink.new result (cue_head number up) }
 {
     put_number(b"CUE ", number, sink)?;
     put_number(b"\nUP ", up, sink)?;
@@ -108,7 +108,7 @@ fn put_cue_head<K: Sink>(number: u32, up: u32, sink: &mut K) -> Result<(), SinkF
 
 /// Appends the line of a channel's level.
 fn put_setting<K: Sink>(setting: Setting, sink: &mut K) -> Result<(), SinkFault>
-    ensures { Puts K.holds K.faults K.wants sink.old sink.new result (chan_text setting) }
+    ensures { Puts K.Sink sink.old sink.new result (chan_text setting) }
 {
     put_number(b"CHAN ", setting.channel, sink)?;
     put_number(b"@", setting.percent, sink)?;
@@ -118,7 +118,7 @@ fn put_setting<K: Sink>(setting: Setting, sink: &mut K) -> Result<(), SinkFault>
 /// Appends the script.
 fn put_script<K: Sink>(cues: u32, draws: &mut Draws, sink: &mut K) -> Result<(), SinkFault>
     requires { draws.old.number ≡ drawn_from cues (9 * cues) }
-    ensures { Puts K.holds K.faults K.wants sink.old sink.new result
+    ensures { Puts K.Sink sink.old sink.new result
         (flat_map (made_turn cues) (range_with_len 1 cues) ++ line (codes "quit" ∷ [])) }
 {
     put_turns(cues, draws, sink)?;
@@ -128,7 +128,7 @@ fn put_script<K: Sink>(cues: u32, draws: &mut Draws, sink: &mut K) -> Result<(),
 /// Appends the turns of the script, each of the draws that follow.
 fn put_turns<K: Sink>(cues: u32, draws: &mut Draws, sink: &mut K) -> Result<(), SinkFault>
     requires { draws.old.number ≡ drawn_from cues (9 * cues) }
-    ensures { Puts K.holds K.faults K.wants sink.old sink.new result (flat_map (made_turn cues) (range_with_len 1 cues)) }
+    ensures { Puts K.Sink sink.old sink.new result (flat_map (made_turn cues) (range_with_len 1 cues)) }
 {
     for before in 0..cues {
         put_turn(before + 1, &draws.turn(), sink)?;
@@ -138,7 +138,7 @@ fn put_turns<K: Sink>(cues: u32, draws: &mut Draws, sink: &mut K) -> Result<(), 
 
 /// Appends the lines of a turn.
 fn put_turn<K: Sink>(number: u32, turn: &DrawnTurn, sink: &mut K) -> Result<(), SinkFault>
-    ensures { Puts K.holds K.faults K.wants sink.old sink.new result (turn_text number turn.now) }
+    ensures { Puts K.Sink sink.old sink.new result (turn_text number turn.now) }
 {
     put_go(turn.ticks, sink)?;
     put_set(number, turn.setting, sink)?;
@@ -147,7 +147,7 @@ fn put_turn<K: Sink>(number: u32, turn: &DrawnTurn, sink: &mut K) -> Result<(), 
 
 /// Appends the key and the ticks after it.
 fn put_go<K: Sink>(ticks: u32, sink: &mut K) -> Result<(), SinkFault>
-    ensures { Puts K.holds K.faults K.wants sink.old sink.new result (go_text ticks) }
+    ensures { Puts K.Sink sink.old sink.new result (go_text ticks) }
 {
     put_number(b"go\ntick ", ticks, sink)?;
     put_all(sink, b"\n")
@@ -155,7 +155,7 @@ fn put_go<K: Sink>(ticks: u32, sink: &mut K) -> Result<(), SinkFault>
 
 /// Appends the line that sets a level in a cue.
 fn put_set<K: Sink>(number: u32, setting: Setting, sink: &mut K) -> Result<(), SinkFault>
-    ensures { Puts K.holds K.faults K.wants sink.old sink.new result (set_text number setting) }
+    ensures { Puts K.Sink sink.old sink.new result (set_text number setting) }
 {
     put_number(b"set ", number, sink)?;
     put_number(b" chan ", setting.channel, sink)?;
@@ -164,7 +164,7 @@ fn put_set<K: Sink>(number: u32, setting: Setting, sink: &mut K) -> Result<(), S
 
 /// Appends a text, a number and a line end.
 fn put_last<K: Sink>(text: &[u8], number: u32, sink: &mut K) -> Result<(), SinkFault>
-    ensures { Puts K.holds K.faults K.wants sink.old sink.new result (text.now ++ decimal number ++ 10 ∷ []) }
+    ensures { Puts K.Sink sink.old sink.new result (text.now ++ decimal number ++ 10 ∷ []) }
 {
     put_number(text, number, sink)?;
     put_all(sink, b"\n")
@@ -172,7 +172,7 @@ fn put_last<K: Sink>(text: &[u8], number: u32, sink: &mut K) -> Result<(), SinkF
 
 /// Appends a text and a number.
 fn put_number<K: Sink>(text: &[u8], number: u32, sink: &mut K) -> Result<(), SinkFault>
-    ensures { Puts K.holds K.faults K.wants sink.old sink.new result (text.now ++ decimal number) }
+    ensures { Puts K.Sink sink.old sink.new result (text.now ++ decimal number) }
 {
     put_all(sink, text)?;
     put_whole(number, sink)

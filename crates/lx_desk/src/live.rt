@@ -56,19 +56,19 @@ pub fn run_live<
     requires most { universes ≤ UNIVERSES }
     requires all { length outlets.old ≡ UNIVERSES }
     requires full { IsFull outlets.old }
-    ensures outlets { KeepsOutlets K.holds K.back K.faults K.wants (Some (Script (Live universes) form)) result input.old input.new output.old
+    ensures outlets { KeepsOutlets K.Sink (Some (Script (Live universes) form)) result input.old input.new output.old
         output.new outlets.old outlets.new }
     ensures ended { IfSome (S.left input.old)
-        (λ bytes. HasLived result K.holds K.back K.faults K.wants universes form bytes (S.left input.new) (O.holds output.old)
+        (λ bytes. HasLived result K.Sink universes form bytes (S.left input.new) (O.holds output.old)
         (O.holds output.new) outlets.old outlets.new) }
-    ensures cause { HasLiveCause K.faults result (S.faults input.old) (S.faults input.new) (O.faults output.old) (O.faults output.new)
+    ensures cause { HasLiveCause K.Sink result (S.faults input.old) (S.faults input.new) (O.faults output.old) (O.faults output.new)
         outlets.old outlets.new }
     ensures order { IfSome (S.left input.old)
-        (λ bytes. DecidesInOrder result (S.faults input.old) (S.faults input.new) O.faults O.wants output.old output.new outlets.old
+        (λ bytes. DecidesInOrder result (S.faults input.old) (S.faults input.new) O.Sink output.old output.new outlets.old
         outlets.new
-        (λ Told. LivesToEnd Told K.holds K.back K.faults K.wants universes form bytes (O.holds output.old) (O.holds output.new)
+        (λ Told. LivesToEnd Told K.Sink universes form bytes (O.holds output.old) (O.holds output.new)
         outlets.old outlets.new)) }
-    ensures finished { Finishes (S.faults input.old) (S.faults input.new) O.faults O.wants O.back output.old output.new result }
+    ensures finished { Finishes (S.faults input.old) (S.faults input.new) O.Sink output.old output.new result }
 {
     let mut lines = Lines::new(input);
     match read_show(alloc, &mut lines, form) {
@@ -113,20 +113,20 @@ fn play_live<
     requires within { bytes_taken lines.old ≤ INPUT_BYTES }
     ensures same_source { SameSource lines.old lines.new }
     ensures usage { result ≢ Status.Usage }
-    ensures outlets { (outlets.new ≡ outlets.old) ⊎ ArePlayed K.holds K.back K.faults K.wants universes outlets.old outlets.new }
-    ensures ended { IfSome (unread S.left lines.old)
-        (λ bytes. HasPlayedLive result K.holds K.back K.faults K.wants show universes (bytes_taken lines.old) bytes
-        (source_left S.left lines.new) (O.holds output.old) (O.holds output.new) outlets.old outlets.new) }
-    ensures later { source_faults S.faults lines.old ≤ source_faults S.faults lines.new }
-    ensures cause { HasLiveCause K.faults result (source_faults S.faults lines.old) (source_faults S.faults lines.new)
+    ensures outlets { (outlets.new ≡ outlets.old) ⊎ ArePlayed K.Sink universes outlets.old outlets.new }
+    ensures ended { IfSome (unread S.Source lines.old)
+        (λ bytes. HasPlayedLive result K.Sink show universes (bytes_taken lines.old) bytes
+        (source_left S.Source lines.new) (O.holds output.old) (O.holds output.new) outlets.old outlets.new) }
+    ensures later { source_faults S.Source lines.old ≤ source_faults S.Source lines.new }
+    ensures cause { HasLiveCause K.Sink result (source_faults S.Source lines.old) (source_faults S.Source lines.new)
         (O.faults output.old) (O.faults output.new) outlets.old outlets.new }
-    ensures order { IfSome (unread S.left lines.old)
-        (λ bytes. DecidesInOrder result (source_faults S.faults lines.old) (source_faults S.faults lines.new) O.faults O.wants output.old
+    ensures order { IfSome (unread S.Source lines.old)
+        (λ bytes. DecidesInOrder result (source_faults S.Source lines.old) (source_faults S.Source lines.new) O.Sink output.old
         output.new outlets.old outlets.new
-        (λ Told. PlaysToEnd Told K.holds K.back K.faults K.wants show universes (lines_of bytes) (O.holds output.old)
+        (λ Told. PlaysToEnd Told K.Sink show universes (lines_of bytes) (O.holds output.old)
         (O.holds output.new) outlets.old outlets.new
         × (bytes_taken lines.old + length (bytes_wanted bytes) ≤ INPUT_BYTES))) }
-    ensures finished { Finishes (source_faults S.faults lines.old) (source_faults S.faults lines.new) O.faults O.wants O.back output.old
+    ensures finished { Finishes (source_faults S.Source lines.old) (source_faults S.Source lines.new) O.Sink output.old
         output.new result }
 {
     let Ok(mut console) = Console::open(alloc, show) else {

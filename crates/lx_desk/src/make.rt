@@ -59,8 +59,8 @@ pub(crate) fn make<K: Sink>(alloc: Global, cues: u32, output: &mut K) -> Status
     ensures ended { (left : Option (List ℕ)) → HasEnded result (jobs.Make cues) [] left (K.holds output.old) (K.holds output.new) }
     ensures prefix { WritesPrefix (jobs.Make cues) [] (K.holds output.old) (K.holds output.new) }
     ensures cause { (reads : ℕ) → HasCauseOf result reads reads (K.faults output.old) (K.faults output.new) }
-    ensures finished { (reads : ℕ) → Finishes reads reads K.faults K.wants K.back output.old output.new result }
-    ensures memory { HasWanted K.wants output.old output.new result }
+    ensures finished { (reads : ℕ) → Finishes reads reads K.Sink output.old output.new result }
+    ensures memory { HasWanted K.Sink output.old output.new result }
 {
     let Ok(input) = made_input(alloc, cues) else {
         return Status::Memory;
@@ -84,15 +84,15 @@ fn tell_session<S: Source, K: Sink>(
     requires going { IsTrue lines.old.going }
     requires within { lines.old.taken ≤ INPUT_BYTES }
     ensures works { EndsScript result }
-    ensures ended { IfSome (unread S.left lines.old)
+    ensures ended { IfSome (unread S.Source lines.old)
         (λ bytes. HasTold result cues (opened show) lines.old.taken bytes (K.holds output.old) (K.holds output.new)) }
-    ensures front { IfSome (unread S.left lines.old)
+    ensures front { IfSome (unread S.Source lines.old)
         (λ bytes. TellsInFront cues (opened show) (lines_of bytes) (K.holds output.old) (K.holds output.new)) }
     ensures cause { HasCauseOf result (S.faults lines.old.source.now) (S.faults lines.new.source.now) (K.faults output.old)
         (K.faults output.new) }
-    ensures finished { Finishes (S.faults lines.old.source.now) (S.faults lines.new.source.now) K.faults K.wants K.back output.old
+    ensures finished { Finishes (S.faults lines.old.source.now) (S.faults lines.new.source.now) K.Sink output.old
         output.new result }
-    ensures memory { HasWanted K.wants output.old output.new result }
+    ensures memory { HasWanted K.Sink output.old output.new result }
 {
     let Ok(mut console) = Console::open(alloc, show) else {
         return Status::Memory;
@@ -143,8 +143,8 @@ fn tell<K: Sink>(report: Report, output: &mut K) -> Status
     ensures prefix { AppendsFront (K.holds output.old) (K.holds output.new) (report_text report) }
     ensures kinds { (result ≡ Status.Ok) ⊎ ((result ≡ Status.WriteFault) ⊎ (result ≡ Status.Memory)) }
     ensures write { result ≡ Status.WriteFault → Rose (K.faults output.old) (K.faults output.new) }
-    ensures finished { (reads : ℕ) → Finishes reads reads K.faults K.wants K.back output.old output.new result }
-    ensures memory { HasWanted K.wants output.old output.new result }
+    ensures finished { (reads : ℕ) → Finishes reads reads K.Sink output.old output.new result }
+    ensures memory { HasWanted K.Sink output.old output.new result }
 {
     match put_and_flush(report, output) {
         Ok(()) => Status::Ok,
@@ -155,7 +155,7 @@ fn tell<K: Sink>(report: Report, output: &mut K) -> Status
 
 /// Appends the lines, and flushes.
 fn put_and_flush<K: Sink>(report: Report, output: &mut K) -> Result<(), SinkFault>
-    ensures puts { Puts K.holds K.faults K.wants output.old output.new result (report_text report) }
+    ensures puts { Puts K.Sink output.old output.new result (report_text report) }
     ensures handed_on { OnOk result (K.back output.new ≡ []) }
 {
     put_report(report, output)?;
@@ -164,7 +164,7 @@ fn put_and_flush<K: Sink>(report: Report, output: &mut K) -> Result<(), SinkFaul
 
 /// Appends the lines.
 fn put_report<K: Sink>(report: Report, output: &mut K) -> Result<(), SinkFault>
-    ensures { Puts K.holds K.faults K.wants output.old output.new result (report_text report) }
+    ensures { Puts K.Sink output.old output.new result (report_text report) }
 {
     put_line(b"cues", report.cues, output)?;
     put_line(b"moment", report.moment, output)?;
@@ -175,7 +175,7 @@ fn put_report<K: Sink>(report: Report, output: &mut K) -> Result<(), SinkFault>
 
 /// Appends a line of a word and a number.
 fn put_line<K: Sink>(word: &[u8], number: u64, output: &mut K) -> Result<(), SinkFault>
-    ensures { Puts K.holds K.faults K.wants output.old output.new result (line (word.now ∷ decimal number ∷ [])) }
+    ensures { Puts K.Sink output.old output.new result (line (word.now ∷ decimal number ∷ [])) }
 {
     put_all(output, word)?;
     put_all(output, b" ")?;

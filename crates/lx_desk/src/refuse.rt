@@ -20,8 +20,8 @@ use lx_spec::TextFault;
 pub(crate) fn refuse<K: Sink>(fault: ShowFault, output: &mut K) -> Status
     ensures refused { RefusedBy (K.holds output.old) (K.holds output.new) fault result }
     ensures write { result ≡ Status.WriteFault → Rose (K.faults output.old) (K.faults output.new) }
-    ensures finished { (reads : ℕ) → Finishes reads reads K.faults K.wants K.back output.old output.new result }
-    ensures memory { HasWanted K.wants output.old output.new result }
+    ensures finished { (reads : ℕ) → Finishes reads reads K.Sink output.old output.new result }
+    ensures memory { HasWanted K.Sink output.old output.new result }
 {
     match fault {
         ShowFault::Text(fault) => write_fault(fault, output),
@@ -37,7 +37,7 @@ fn write_fault<K: Sink>(fault: TextFault, output: &mut K) -> Status
     ensures front { AppendsFront (K.holds output.old) (K.holds output.new) (fault_text fault) }
     ensures kinds { (result ≡ Status.ShowRefused) ⊎ ((result ≡ Status.WriteFault) ⊎ (result ≡ Status.Memory)) }
     ensures write { result ≡ Status.WriteFault → Rose (K.faults output.old) (K.faults output.new) }
-    ensures finished { (reads : ℕ) → Finishes reads reads K.faults K.wants K.back output.old output.new result }
+    ensures finished { (reads : ℕ) → Finishes reads reads K.Sink output.old output.new result }
     ensures memory { result ≡ Status.Memory → Rose (K.wants output.old) (K.wants output.new) }
 {
     match put_and_flush(fault, output) {
@@ -49,7 +49,7 @@ fn write_fault<K: Sink>(fault: TextFault, output: &mut K) -> Status
 
 /// Appends the line of a refused show, and flushes.
 fn put_and_flush<K: Sink>(fault: TextFault, output: &mut K) -> Result<(), SinkFault>
-    ensures puts { Puts K.holds K.faults K.wants output.old output.new result (fault_text fault) }
+    ensures puts { Puts K.Sink output.old output.new result (fault_text fault) }
     ensures handed_on { OnOk result (K.back output.new ≡ []) }
 {
     put_fault(fault, output)?;
@@ -58,7 +58,7 @@ fn put_and_flush<K: Sink>(fault: TextFault, output: &mut K) -> Result<(), SinkFa
 
 /// Appends the line of a refused show.
 fn put_fault<K: Sink>(fault: TextFault, output: &mut K) -> Result<(), SinkFault>
-    ensures { Puts K.holds K.faults K.wants output.old output.new result (fault_text fault) }
+    ensures { Puts K.Sink output.old output.new result (fault_text fault) }
 {
     match fault {
         TextFault::NoIdent(line) => put_cause(b"NoIdent", line, output),
@@ -73,7 +73,7 @@ fn put_fault<K: Sink>(fault: TextFault, output: &mut K) -> Result<(), SinkFault>
 
 /// Appends `show CAUSE LINE`.
 fn put_cause<K: Sink>(cause: &[u8], line: u32, output: &mut K) -> Result<(), SinkFault>
-    ensures { Puts K.holds K.faults K.wants output.old output.new result (text_line (codes "show" ∷ cause.now ∷ decimal line ∷ [])) }
+    ensures { Puts K.Sink output.old output.new result (text_line (codes "show" ∷ cause.now ∷ decimal line ∷ [])) }
 {
     put_all(output, b"show ")?;
     put_all(output, cause)?;

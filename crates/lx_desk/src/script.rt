@@ -36,8 +36,8 @@ pub(crate) fn script<S: Source, K: Sink>(
     ensures prefix { IfSome (S.left input.old)
         (λ bytes. WritesPrefix (jobs.Script kind form) bytes (K.holds output.old) (K.holds output.new)) }
     ensures cause { HasCauseOf result (S.faults input.old) (S.faults input.new) (K.faults output.old) (K.faults output.new) }
-    ensures finished { Finishes (S.faults input.old) (S.faults input.new) K.faults K.wants K.back output.old output.new result }
-    ensures memory { HasWanted K.wants output.old output.new result }
+    ensures finished { Finishes (S.faults input.old) (S.faults input.new) K.Sink output.old output.new result }
+    ensures memory { HasWanted K.Sink output.old output.new result }
 {
     if is_live(kind) {
         return Status::Live;
@@ -67,8 +67,8 @@ fn read_and_play<S: Source, K: Sink>(
     ensures prefix { IfSome (S.left input.old)
         (λ bytes. WritesPrefix (jobs.Script kind form) bytes (K.holds output.old) (K.holds output.new)) }
     ensures cause { HasCauseOf result (S.faults input.old) (S.faults input.new) (K.faults output.old) (K.faults output.new) }
-    ensures finished { Finishes (S.faults input.old) (S.faults input.new) K.faults K.wants K.back output.old output.new result }
-    ensures memory { HasWanted K.wants output.old output.new result }
+    ensures finished { Finishes (S.faults input.old) (S.faults input.new) K.Sink output.old output.new result }
+    ensures memory { HasWanted K.Sink output.old output.new result }
 {
     let mut lines = Lines::new(input);
     match read_show(alloc, &mut lines, form) {
@@ -89,7 +89,7 @@ fn play_script<S: Source, K: Sink>(
     requires going { CanAdvance lines.old }
     requires within { bytes_taken lines.old ≤ INPUT_BYTES }
     ensures same_source { SameSource lines.old lines.new }
-    ensures plays { Plays S.left S.faults K.holds K.faults K.wants K.back (answering_of kind) (opening_of kind show) lines.old lines.new
+    ensures plays { Plays S.Source K.Sink (answering_of kind) (opening_of kind show) lines.old lines.new
         output.old output.new result }
 {
     match kind {

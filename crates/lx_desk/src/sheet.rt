@@ -34,8 +34,8 @@ pub(crate) fn sheet<S: Source, K: Sink>(
         (K.holds output.new)) }
     ensures prefix { IfSome (S.left input.old) (λ bytes. WritesPrefix (jobs.Sheet form) bytes (K.holds output.old) (K.holds output.new)) }
     ensures cause { HasCauseOf result (S.faults input.old) (S.faults input.new) (K.faults output.old) (K.faults output.new) }
-    ensures finished { Finishes (S.faults input.old) (S.faults input.new) K.faults K.wants K.back output.old output.new result }
-    ensures memory { HasWanted K.wants output.old output.new result }
+    ensures finished { Finishes (S.faults input.old) (S.faults input.new) K.Sink output.old output.new result }
+    ensures memory { HasWanted K.Sink output.old output.new result }
 {
     let mut lines = Lines::new(input);
     match read_show(alloc, &mut lines, form) {
@@ -50,8 +50,8 @@ fn list<K: Sink>(alloc: Global, show: &Show, output: &mut K) -> Status
     ensures prefix { AppendsFront (K.holds output.old) (K.holds output.new) (flat_map (cue_lines show.now) show.now.cues) }
     ensures kinds { (result ≡ Status.Ok) ⊎ ((result ≡ Status.WriteFault) ⊎ (result ≡ Status.Memory)) }
     ensures write { result ≡ Status.WriteFault → Rose (K.faults output.old) (K.faults output.new) }
-    ensures finished { (reads : ℕ) → Finishes reads reads K.faults K.wants K.back output.old output.new result }
-    ensures memory { HasWanted K.wants output.old output.new result }
+    ensures finished { (reads : ℕ) → Finishes reads reads K.Sink output.old output.new result }
+    ensures memory { HasWanted K.Sink output.old output.new result }
 {
     let Ok(sheet) = Sheet::open(alloc, show) else {
         return Status::Memory;
@@ -66,7 +66,7 @@ fn list<K: Sink>(alloc: Global, show: &Show, output: &mut K) -> Status
 /// Appends the list, and flushes.
 fn put_and_flush<K: Sink>(show: &Show, sheet: &Sheet, output: &mut K) -> Result<(), SinkFault>
     requires { RowsStandFor show.now sheet.now }
-    ensures puts { Puts K.holds K.faults K.wants output.old output.new result (flat_map (cue_lines show.now) show.now.cues) }
+    ensures puts { Puts K.Sink output.old output.new result (flat_map (cue_lines show.now) show.now.cues) }
     ensures handed_on { OnOk result (K.back output.new ≡ []) }
 {
     put_cue_list(show, sheet, output)?;

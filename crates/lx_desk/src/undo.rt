@@ -26,7 +26,7 @@ pub(crate) fn play_with_undo<S: Source, K: Sink>(
     requires going { CanAdvance lines.old }
     requires within { bytes_taken lines.old ≤ INPUT_BYTES }
     ensures same_source { SameSource lines.old lines.new }
-    ensures plays { Plays S.left S.faults K.holds K.faults K.wants K.back (answering_of Undo) (opening_of Undo show) lines.old lines.new
+    ensures plays { Plays S.Source K.Sink (answering_of Undo) (opening_of Undo show) lines.old lines.new
         output.old output.new result }
 {
     let Ok(mut desk) = UndoDesk::open(alloc, show, UNDO_DEPTH) else {

@@ -3,7 +3,7 @@ pub use Rattle.std.proofs.Common.{[], ℕ, ◌%◌, ◌&&◌, ◌*◌, ◌++◌,
 pub use Rattle.std.proofs.Common.{◌∷◌, ◌≡◌, ◌≢◌, ◌≤◌, ap, arith, bit_or, Bool, Bor, cond, drop, eqb-true, Err, false, filter, find}
 pub use Rattle.std.proofs.Common.{fold, get_or, get_or-set_other, get_or-set_same, IfOk, IfSome, if◌then◌else◌, inl, inr, is_none, is_some, IsTrue}
 pub use Rattle.std.proofs.Common.{length, length-append, List, map, nat_le, nat_lt, None, not, Ok, Option, option_map, refl, replicate, Result, reverse, rules}
-pub use Rattle.std.proofs.Common.{set, slice_get, slice_index, Some, subst, suc, sym, take, take-append-drop, take_all, true, unwrap_or, w64, zero}
+pub use Rattle.std.proofs.Common.{set, slice_get, slice_index, Some, subst, suc, sym, take, take-append-drop, take_all, true, unwrap_or, vec_capacity, w64, zero}
 pub use Rattle.lx_base.specs.Numbers.{Span}
 pub use Rattle.lx_base.specs.declared.TheConstants.{CHANNELS, CUES, PARTS}
 pub use Rattle.lx_edit.specs.ChanSet.{has_chan, is_chan}
@@ -44,7 +44,7 @@ pub use Rattle.lx_spec.specs.declared.Move.{Move}
 pub use Rattle.lx_spec.specs.declared.Part.{Part}
 pub use Rattle.std.proofs.lemmas.Bool.{cases_eq, cases_lt, false≢true, or_left}
 pub use Rattle.std.proofs.lemmas.Bool.Decides.{nat_tests}
-pub use Rattle.std.proofs.lemmas.List.{get_or-replicate, get_or_default, nil_from_length, take_more}
+pub use Rattle.std.proofs.lemmas.List.{get_or-replicate, get_or_default, map_more, nil_from_length, take_more}
 pub use Rattle.std.proofs.lemmas.List.Elements.{All-from_recursion, filter-append}
 pub use Rattle.std.proofs.lemmas.List.Folds.{find-append}
 pub use Rattle.std.proofs.lemmas.List.FromFn.{map-range_with_len_more}

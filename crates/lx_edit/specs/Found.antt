@@ -1,8 +1,10 @@
 -- What is known of the things that an edit names, once they were found.
-use Rattle.std.specs.Prelude.{◌≡◌, ℕ, ◌≤◌, IsTrue, Option, Some, IfSome, Ok, option_and_then, List}
+use Rattle.std.specs.Prelude.{◌≡◌, ℕ, ◌≤◌, IsTrue, Option, Some, IfSome, Result, Ok, Err, ◌≢◌, option_and_then, List}
 use Rattle.lx_base.specs.Numbers.{Span}
 use Rattle.lx_spec.specs.declared.Part.{Part}
 use Rattle.lx_spec.specs.declared.Move.{Move}
+use Rattle.lx_spec.specs.declared.Refusal.{Refusal}
+use Rattle.lx_spec.specs.declared.Refusal.TheVariants.{Memory}
 use Rattle.lx_spec.specs.SortedList.{entry_at, has_entry}
 use Rattle.lx_spec.specs.Show.{Cue, Show, Valid, ValidCue}
 use Rattle.lx_spec.specs.TrackedLevel.{cue_of}
@@ -31,3 +33,7 @@ pub record IsWithin (channels : ℕ) (range : Span) : Type 0 where
 pub record Fits (channels : ℕ) (parts : List Part) (m : Move) : Type 0 where
   pub chan : m.chan ≤ channels
   pub part : IsTrue (has_entry (λ p. p.number) m.part parts)
+
+-- what was looked for is absent: the refusal says so, and isn't want of memory
+abbrev pub IsAbsence : {T : Type 0} → Result T Refusal → Refusal → Type 0
+IsAbsence answer refusal = (answer ≡ Err refusal) × (refusal ≢ Memory)

@@ -6,14 +6,14 @@ ghost use Rattle.lx_spec.specs.Show.{ValidGroup};
 ghost use Rattle.lx_spec.specs.SortedList.{entry_at};
 ghost use Rattle.lx_spec.specs.TrackedLevel.{move_in};
 ghost use Rattle.lx_spec.specs.EditedShow.{the_cue, the_part, the_given_part, the_channels, the_group, the_moves, channels_in};
-ghost use Rattle.lx_edit.specs.Found.{FoundCue, GivenPart, IsWithin};
+ghost use Rattle.lx_edit.specs.Found.{FoundCue, GivenPart, IsAbsence, IsWithin};
 
 use lx_base::{CHANNELS, Chan, ChanRange, CueNo, GroupNo, PartNo};
 use lx_show::{Cue, Group, Part, Refusal, Show};
 
 /// The cue of the number.
 pub(crate) fn the_cue(show: &Show, n: CueNo) -> Result<&Cue, Refusal>
-    ensures { MatchResult result (λ cue. FoundCue show.now n cue.now) (λ refusal. the_cue show.now n ≡ Err refusal) }
+    ensures { MatchResult result (λ cue. FoundCue show.now n cue.now) (IsAbsence (the_cue show.now n)) }
 {
     match show.cue(n) {
         Some(cue) => Ok(cue),
@@ -24,7 +24,7 @@ pub(crate) fn the_cue(show: &Show, n: CueNo) -> Result<&Cue, Refusal>
 /// The cue's part of the number.
 pub(crate) fn the_part(cue: &Cue, p: PartNo) -> Result<Part, Refusal>
     ensures { MatchResult result (λ part. entry_at (λ x. x.number) p cue.now.parts ≡ Some part)
-        (λ refusal. the_part cue.now p ≡ Err refusal) }
+        (IsAbsence (the_part cue.now p)) }
 {
     match cue.part(p) {
         Some(part) => Ok(part),
@@ -34,7 +34,7 @@ pub(crate) fn the_part(cue: &Cue, p: PartNo) -> Result<Part, Refusal>
 
 /// The part that is given is the cue's, where one is given.
 pub(crate) fn the_given_part(cue: &Cue, given: Option<PartNo>) -> Result<Option<PartNo>, Refusal>
-    ensures { MatchResult result (GivenPart cue.now given) (λ refusal. the_given_part cue.now given ≡ Err refusal) }
+    ensures { MatchResult result (GivenPart cue.now given) (IsAbsence (the_given_part cue.now given)) }
 {
     match given {
         Some(p) => {
@@ -47,7 +47,7 @@ pub(crate) fn the_given_part(cue: &Cue, given: Option<PartNo>) -> Result<Option<
 
 /// The channels of the range are the show's; else the least that is not is the refusal.
 pub(crate) fn the_channels(show: &Show, range: ChanRange) -> Result<(), Refusal>
-    ensures { MatchResult result (λ _. IsWithin show.now.channels range) (λ refusal. the_channels show.now range ≡ Err refusal) }
+    ensures { MatchResult result (λ _. IsWithin show.now.channels range) (IsAbsence (the_channels show.now range)) }
 {
     let channels = show.channels();
     let last = range.last().get();
@@ -61,8 +61,8 @@ pub(crate) fn the_channels(show: &Show, range: ChanRange) -> Result<(), Refusal>
 /// The group of the number.
 pub(crate) fn the_group(show: &Show, g: GroupNo) -> Result<&Group, Refusal>
     ensures group { MatchResult result (λ group. entry_at (λ x. x.number) g show.now.groups ≡ Some group.now)
-        (λ refusal. the_group show.now g ≡ Err refusal) }
-    ensures valid { MatchResult result (λ group. ValidGroup show.now.channels group.now) (λ refusal. the_group show.now g ≡ Err refusal) }
+        (IsAbsence (the_group show.now g)) }
+    ensures valid { MatchResult result (λ group. ValidGroup show.now.channels group.now) (IsAbsence (the_group show.now g)) }
 {
     match show.group(g) {
         Some(group) => Ok(group),
@@ -73,7 +73,7 @@ pub(crate) fn the_group(show: &Show, g: GroupNo) -> Result<&Group, Refusal>
 /// Each channel of the range has a move in the cue; else the least that has none is the refusal.
 pub(crate) fn the_moves(cue: &Cue, range: ChanRange) -> Result<(), Refusal>
     ensures { MatchResult result (λ _. find (λ c. is_none (move_in cue.now c)) (channels_in range) ≡ None)
-        (λ refusal. the_moves cue.now (channels_in range) ≡ Err refusal) }
+        (IsAbsence (the_moves cue.now (channels_in range))) }
 {
     let first = range.first().get();
     let last = range.last().get();

@@ -2,6 +2,7 @@
 //! its look.
 
 ghost use Rattle.std.specs.Prelude.{◌≡◌, ◌-◌, ◌==◌, ◌&&◌, ℕ, not, is_none, IfOk, if◌then◌else◌, Some, None};
+ghost use Rattle.lx_io.specs.Causes.{HasCause, HasCauseOf};
 ghost use Rattle.lx_spec.specs.TrackedLevel.{move_in, tracked};
 ghost use Rattle.lx_spec.specs.EditedShow.{moves_for};
 ghost use Rattle.lx_edit.specs.PlanMeaning.{Plans};
@@ -10,19 +11,21 @@ use crate::absent::{channel, the_cue};
 use crate::moves::{add, with_moves};
 use crate::plans::Plan;
 use lx_base::{Chan, CueNo, Level};
+use lx_io::Heap;
 use lx_show::{Cue, Edit, Move, Refusal, Show};
-use std::alloc::{AllocError, Global};
+use std::alloc::AllocError;
 
 /// The cue becomes a block cue, with moves to the levels that track into it; nothing where it is one.
-pub(crate) fn block(alloc: Global, show: &Show, n: CueNo) -> Result<Plan, Refusal>
-    ensures { Plans show.now (Edit.Block n) result }
+pub(crate) fn block<H: Heap>(heap: &mut H, show: &Show, n: CueNo) -> Result<Plan, Refusal>
+    ensures plan { Plans show.now (Edit.Block n) result }
+    ensures cause { HasCauseOf Refusal.Memory (H.refusals heap.old) (H.refusals heap.new) result }
 {
     let old = the_cue(show, n)?;
     if old.block {
         return Ok(Plan::Nothing);
     }
-    let moves = taken_over(alloc, show, old)?;
-    let mut cue = with_moves(show.channels(), old, moves.as_slice())?;
+    let moves = taken_over(heap, show, old)?;
+    let mut cue = with_moves(heap, show.channels(), old, moves.as_slice())?;
     cue.block = true;
     Ok(Plan::Cue {
         number: n,
@@ -33,16 +36,17 @@ pub(crate) fn block(alloc: Global, show: &Show, n: CueNo) -> Result<Plan, Refusa
 }
 
 /// The moves of the channels that have none in the cue, to their tracked levels at it that aren't 0.
-fn taken_over(alloc: Global, show: &Show, cue: &Cue) -> Result<Vec<Move>, AllocError>
-    ensures { IfOk result (λ moves. moves.items
+fn taken_over<H: Heap>(heap: &mut H, show: &Show, cue: &Cue) -> Result<Vec<Move>, AllocError>
+    ensures items { IfOk result (λ moves. moves.items
         ≡ moves_for show.now (λ c. is_none (move_in cue.now c) && not (tracked show.now cue.now.number c == 0))
         (λ c. tracked show.now cue.now.number c)) }
+    ensures cause { HasCause (H.refusals heap.old) (H.refusals heap.new) result }
 {
-    let mut moves = Vec::new(alloc);
+    let mut moves = Vec::new(heap.allocator());
     for k in 1..show.channels() + 1 {
         let c = channel(k);
         let level = level_taken_over(show, cue, c);
-        add(&mut moves, c, level)?;
+        add(heap, &mut moves, c, level)?;
     }
     Ok(moves)
 }
@@ -60,15 +64,16 @@ fn level_taken_over(show: &Show, cue: &Cue, c: Chan) -> Option<Level>
 }
 
 /// The cue is no block cue any more, with moves to 0 for what would track into it; nothing where it is none.
-pub(crate) fn unblock(alloc: Global, show: &Show, n: CueNo) -> Result<Plan, Refusal>
-    ensures { Plans show.now (Edit.Unblock n) result }
+pub(crate) fn unblock<H: Heap>(heap: &mut H, show: &Show, n: CueNo) -> Result<Plan, Refusal>
+    ensures plan { Plans show.now (Edit.Unblock n) result }
+    ensures cause { HasCauseOf Refusal.Memory (H.refusals heap.old) (H.refusals heap.new) result }
 {
     let old = the_cue(show, n)?;
     if !old.block {
         return Ok(Plan::Nothing);
     }
-    let moves = kept_out(alloc, show, old)?;
-    let mut cue = with_moves(show.channels(), old, moves.as_slice())?;
+    let moves = kept_out(heap, show, old)?;
+    let mut cue = with_moves(heap, show.channels(), old, moves.as_slice())?;
     cue.block = false;
     Ok(Plan::Cue {
         number: n,
@@ -79,15 +84,16 @@ pub(crate) fn unblock(alloc: Global, show: &Show, n: CueNo) -> Result<Plan, Refu
 }
 
 /// The moves to 0 of the channels that have none in the cue, and whose tracked level below it isn't 0.
-fn kept_out(alloc: Global, show: &Show, cue: &Cue) -> Result<Vec<Move>, AllocError>
-    ensures { IfOk result (λ moves. moves.items
+fn kept_out<H: Heap>(heap: &mut H, show: &Show, cue: &Cue) -> Result<Vec<Move>, AllocError>
+    ensures items { IfOk result (λ moves. moves.items
         ≡ moves_for show.now (λ c. is_none (move_in cue.now c) && not (tracked show.now (cue.now.number - 1) c == 0)) (λ c. 0)) }
+    ensures cause { HasCause (H.refusals heap.old) (H.refusals heap.new) result }
 {
-    let mut moves = Vec::new(alloc);
+    let mut moves = Vec::new(heap.allocator());
     for k in 1..show.channels() + 1 {
         let c = channel(k);
         let level = level_kept_out(show, cue, c);
-        add(&mut moves, c, level)?;
+        add(heap, &mut moves, c, level)?;
     }
     Ok(moves)
 }

@@ -1,6 +1,7 @@
 //! Edits of one cue that leave its levels: its times, parts, follow and label, that it is asserted, and a new cue.
 
 ghost use Rattle.std.specs.Prelude.{◌≡◌, ◌≢◌, Err, IfSome};
+ghost use Rattle.lx_io.specs.Causes.{HasCauseOf};
 ghost use Rattle.lx_spec.specs.Show.{IsTime};
 ghost use Rattle.lx_spec.specs.EditedShow.{with_time};
 ghost use Rattle.lx_edit.specs.PlanMeaning.{Plans};
@@ -8,6 +9,7 @@ ghost use Rattle.lx_edit.specs.PlanMeaning.{Plans};
 use crate::absent::{the_cue, the_part};
 use crate::plans::Plan;
 use lx_base::{CUES, Cs, CueNo, PartNo};
+use lx_io::Heap;
 use lx_show::{Cue, Edit, Part, Refusal, Show, facts, new_part};
 use lx_spec::LabelText;
 use std::alloc::Global;
@@ -34,7 +36,8 @@ pub(crate) fn make_cue(alloc: Global, show: &Show, n: CueNo) -> Result<Plan, Ref
 }
 
 /// The part has the time and the delay, for rising channels or for falling ones.
-pub(crate) fn time(
+pub(crate) fn time<H: Heap>(
+    heap: &mut H,
     show: &Show,
     n: CueNo,
     p: PartNo,
@@ -44,11 +47,12 @@ pub(crate) fn time(
 ) -> Result<Plan, Refusal>
     requires time { IsTime time }
     requires delay { IsTime delay }
-    ensures { Plans show.now (Edit.Time n p rising time delay) result }
+    ensures plan { Plans show.now (Edit.Time n p rising time delay) result }
+    ensures cause { HasCauseOf Refusal.Memory (H.refusals heap.old) (H.refusals heap.new) result }
 {
     let old = the_cue(show, n)?;
     let part = the_part(old, p)?;
-    let mut cue = old.copy()?;
+    let mut cue = old.copy(heap)?;
     cue.put_part(with_time(part, rising, time, delay));
     Ok(Plan::Cue {
         number: n,
@@ -82,14 +86,20 @@ fn with_time(part: Part, rising: bool, time: Cs, delay: Cs) -> Part
 }
 
 /// A new part of the cue; nothing where it is there.
-pub(crate) fn add_part(show: &Show, n: CueNo, p: PartNo) -> Result<Plan, Refusal>
-    ensures { Plans show.now (Edit.AddPart n p) result }
+pub(crate) fn add_part<H: Heap>(
+    heap: &mut H,
+    show: &Show,
+    n: CueNo,
+    p: PartNo,
+) -> Result<Plan, Refusal>
+    ensures plan { Plans show.now (Edit.AddPart n p) result }
+    ensures cause { HasCauseOf Refusal.Memory (H.refusals heap.old) (H.refusals heap.new) result }
 {
     let old = the_cue(show, n)?;
     if old.part(p).is_some() {
         return Ok(Plan::Nothing);
     }
-    let mut cue = old.copy()?;
+    let mut cue = old.copy(heap)?;
     let _ = p.get();
     cue.put_part(new_part(p));
     Ok(Plan::Cue {
@@ -101,15 +111,21 @@ pub(crate) fn add_part(show: &Show, n: CueNo, p: PartNo) -> Result<Plan, Refusal
 }
 
 /// The part goes, and its moves go to part 1, which stays.
-pub(crate) fn delete_part(show: &Show, n: CueNo, p: PartNo) -> Result<Plan, Refusal>
-    ensures { Plans show.now (Edit.DeletePart n p) result }
+pub(crate) fn delete_part<H: Heap>(
+    heap: &mut H,
+    show: &Show,
+    n: CueNo,
+    p: PartNo,
+) -> Result<Plan, Refusal>
+    ensures plan { Plans show.now (Edit.DeletePart n p) result }
+    ensures cause { HasCauseOf Refusal.Memory (H.refusals heap.old) (H.refusals heap.new) result }
 {
     let old = the_cue(show, n)?;
     the_part(old, p)?;
     if p.get() == 1 {
         return Err(Refusal::BasePart);
     }
-    let mut cue = old.copy()?;
+    let mut cue = old.copy(heap)?;
     let _ = cue.drop_part(p);
     Ok(Plan::Cue {
         number: n,
@@ -120,10 +136,16 @@ pub(crate) fn delete_part(show: &Show, n: CueNo, p: PartNo) -> Result<Plan, Refu
 }
 
 /// The cue is asserted, or it is not.
-pub(crate) fn assert(show: &Show, n: CueNo, on: bool) -> Result<Plan, Refusal>
-    ensures { Plans show.now (Edit.Asserted n on) result }
+pub(crate) fn assert<H: Heap>(
+    heap: &mut H,
+    show: &Show,
+    n: CueNo,
+    on: bool,
+) -> Result<Plan, Refusal>
+    ensures plan { Plans show.now (Edit.Asserted n on) result }
+    ensures cause { HasCauseOf Refusal.Memory (H.refusals heap.old) (H.refusals heap.new) result }
 {
-    let mut cue = the_cue(show, n)?.copy()?;
+    let mut cue = the_cue(show, n)?.copy(heap)?;
     cue.asserted = on;
     Ok(Plan::Cue {
         number: n,
@@ -134,11 +156,17 @@ pub(crate) fn assert(show: &Show, n: CueNo, on: bool) -> Result<Plan, Refusal>
 }
 
 /// The cue above starts by itself so long after the cue, or not.
-pub(crate) fn follow(show: &Show, n: CueNo, after: Option<Cs>) -> Result<Plan, Refusal>
+pub(crate) fn follow<H: Heap>(
+    heap: &mut H,
+    show: &Show,
+    n: CueNo,
+    after: Option<Cs>,
+) -> Result<Plan, Refusal>
     requires { IfSome after IsTime }
-    ensures { Plans show.now (Edit.Follow n after) result }
+    ensures plan { Plans show.now (Edit.Follow n after) result }
+    ensures cause { HasCauseOf Refusal.Memory (H.refusals heap.old) (H.refusals heap.new) result }
 {
-    let mut cue = the_cue(show, n)?.copy()?;
+    let mut cue = the_cue(show, n)?.copy(heap)?;
     cue.follow = after;
     Ok(Plan::Cue {
         number: n,
@@ -149,10 +177,16 @@ pub(crate) fn follow(show: &Show, n: CueNo, after: Option<Cs>) -> Result<Plan, R
 }
 
 /// The cue has the label.
-pub(crate) fn name(show: &Show, n: CueNo, label: &LabelText) -> Result<Plan, Refusal>
-    ensures { Plans show.now (Edit.Name n label.now) result }
+pub(crate) fn name<H: Heap>(
+    heap: &mut H,
+    show: &Show,
+    n: CueNo,
+    label: &LabelText,
+) -> Result<Plan, Refusal>
+    ensures plan { Plans show.now (Edit.Name n label.now) result }
+    ensures cause { HasCauseOf Refusal.Memory (H.refusals heap.old) (H.refusals heap.new) result }
 {
-    let mut cue = the_cue(show, n)?.copy()?;
+    let mut cue = the_cue(show, n)?.copy(heap)?;
     let label = label.label();
     facts::of_label(&label);
     cue.label = label;

@@ -2,6 +2,7 @@
 
 ghost use Rattle.std.specs.Prelude.{◌≡◌, ℕ, true, false, ◌==◌, not, IfOk, IfSome, Some, None, if◌then◌else◌};
 ghost use Rattle.std.specs.Option.{option_copied};
+ghost use Rattle.lx_io.specs.Causes.{HasCause, HasCauseOf};
 ghost use Rattle.lx_spec.specs.Show.{ValidCue};
 ghost use Rattle.lx_spec.specs.TrackedLevel.{tracked, cue_above};
 ghost use Rattle.lx_spec.specs.EditedShow.{cue_only, with_cue, with_moves, moves_for};
@@ -14,15 +15,22 @@ use crate::blocks::below;
 use crate::moves::{add, with_moves};
 use crate::plans::Plan;
 use lx_base::{Chan, ChanRange, CueNo, Level};
+use lx_io::Heap;
 use lx_show::{Cue, Edit, Move, MoveList, Refusal, Show};
-use std::alloc::{AllocError, Global};
+use std::alloc::AllocError;
 
 /// The cue goes.
-pub(crate) fn delete_cue(alloc: Global, show: &Show, n: CueNo, only: bool) -> Result<Plan, Refusal>
-    ensures { Plans show.now (Edit.DeleteCue n only) result }
+pub(crate) fn delete_cue<H: Heap>(
+    heap: &mut H,
+    show: &Show,
+    n: CueNo,
+    only: bool,
+) -> Result<Plan, Refusal>
+    ensures plan { Plans show.now (Edit.DeleteCue n only) result }
+    ensures cause { HasCauseOf Refusal.Memory (H.refusals heap.old) (H.refusals heap.new) result }
 {
     let old = the_cue(show, n)?;
-    let above = kept_above(alloc, show, n, old, None, all_channels(), only)?;
+    let above = kept_above(heap, show, n, old, None, all_channels(), only)?;
     Ok(Plan::Cue {
         number: n,
         to: None,
@@ -33,8 +41,8 @@ pub(crate) fn delete_cue(alloc: Global, show: &Show, n: CueNo, only: bool) -> Re
 
 /// The plan that gives the cue the moves of the changed one or, where the one above it gets moves that keep its levels, places
 /// both. Outside the range the moves are those of the old one. An error comes where memory runs out.
-pub(crate) fn place(
-    alloc: Global,
+pub(crate) fn place<H: Heap>(
+    heap: &mut H,
     show: &Show,
     n: CueNo,
     old: &Cue,
@@ -47,9 +55,10 @@ pub(crate) fn place(
     requires valid { ValidCue show.now.channels cue }
     requires moves { cue ≡ record old.now { moves = cue.moves } }
     requires within { SameOutside within old.now.moves cue.moves }
-    ensures { IfOk result (PlansCues show.now (cue_only only show.now n (with_cue show.now cue))) }
+    ensures plan { IfOk result (PlansCues show.now (cue_only only show.now n (with_cue show.now cue))) }
+    ensures cause { HasCause (H.refusals heap.old) (H.refusals heap.new) result }
 {
-    match kept_above(alloc, show, n, old, Some(&cue), within, only)? {
+    match kept_above(heap, show, n, old, Some(&cue), within, only)? {
         Some(above) => Ok(Plan::Cue {
             number: n,
             to: Some(cue),
@@ -73,8 +82,8 @@ fn into_moves(cue: Cue) -> MoveList
 
 /// Cue only, the cue above the edited one, with the moves that keep its levels; none where no cue is above it, or it
 /// keeps them as it is. An error comes where memory runs out.
-fn kept_above(
-    alloc: Global,
+fn kept_above<H: Heap>(
+    heap: &mut H,
     show: &Show,
     n: CueNo,
     old: &Cue,
@@ -90,6 +99,7 @@ fn kept_above(
     ensures valid { IfOk result (λ above. IfSome above (CanPlace (changed_show show.now n (option_copied new.entry)))) }
     ensures higher { IfOk result (λ above. IfSome above (IsAbove show.now n)) }
     ensures keeps { IfOk result (λ above. IfSome above (KeepsAbove show.now (changed_show show.now n (option_copied new.entry)) n)) }
+    ensures cause { HasCause (H.refusals heap.old) (H.refusals heap.new) result }
 {
     if !only {
         return Ok(None);
@@ -97,17 +107,17 @@ fn kept_above(
     let Some(above) = show.cue_above(n) else {
         return Ok(None);
     };
-    let moves = kept_moves(alloc, show, n, old, new, above, within)?;
+    let moves = kept_moves(heap, show, n, old, new, above, within)?;
     let moves = moves.as_slice();
     if moves.is_empty() {
         return Ok(None);
     }
-    Ok(Some(with_moves(show.channels(), above, moves)?))
+    Ok(Some(with_moves(heap, show.channels(), above, moves)?))
 }
 
 /// The moves that keep the levels of the cue above. They are of channels of the range.
-fn kept_moves(
-    alloc: Global,
+fn kept_moves<H: Heap>(
+    heap: &mut H,
     show: &Show,
     n: CueNo,
     old: &Cue,
@@ -119,20 +129,21 @@ fn kept_moves(
     requires number { IfSome new (λ cue. cue.now.number ≡ n) }
     requires within { DecidesOutside within show.now.channels old.now (option_copied new) }
     requires above { cue_above show.now n ≡ Some above.now }
-    ensures { IfOk result (λ moves. moves.items
+    ensures items { IfOk result (λ moves. moves.items
         ≡ moves_for show.now (λ c. not
         (tracked show.now above.now.number c == tracked (changed_show show.now n (option_copied new.entry)) above.now.number c))
         (λ c. tracked show.now above.now.number c)) }
+    ensures cause { HasCause (H.refusals heap.old) (H.refusals heap.new) result }
 {
     let channels = show.channels();
     let first = within.first().get().min(channels + 1);
     let last = within.last().get().min(channels);
-    let mut moves = Vec::new(alloc);
+    let mut moves = Vec::new(heap.allocator());
     let mut near = 0;
     for k in first..last + 1 {
         let c = channel(k);
         let level = kept_level(show, n, old, new, above, c, &mut near);
-        add(&mut moves, c, level)?;
+        add(heap, &mut moves, c, level)?;
     }
     Ok(moves)
 }

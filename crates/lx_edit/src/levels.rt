@@ -1,6 +1,7 @@
 //! Edits of a cue's levels: channels set to a level, a group set, and channels released.
 
 ghost use Rattle.std.specs.Prelude.{◌≡◌, ℕ, IfOk, IfSome, IsTrue, true};
+ghost use Rattle.lx_io.specs.Causes.{HasCause, HasCauseOf};
 ghost use Rattle.lx_spec.specs.TrackedLevel.{cue_above, decides};
 ghost use Rattle.lx_spec.specs.SortedList.{has_entry};
 ghost use Rattle.lx_base.specs.declared.TheConstants.{CHANNELS};
@@ -13,12 +14,13 @@ use crate::kept::place;
 use crate::moves::{all_at, in_proportion, with_levels};
 use crate::plans::Plan;
 use lx_base::{Chan, ChanRange, CueNo, GroupNo, Level, PartNo};
+use lx_io::Heap;
 use lx_show::{Cue, Edit, Move, Refusal, Show};
-use std::alloc::{AllocError, Global};
+use std::alloc::AllocError;
 
 /// The channels of the range move to the level in the cue.
-pub(crate) fn set(
-    alloc: Global,
+pub(crate) fn set<H: Heap>(
+    heap: &mut H,
     show: &Show,
     n: CueNo,
     part: Option<PartNo>,
@@ -26,7 +28,8 @@ pub(crate) fn set(
     level: Level,
     only: bool,
 ) -> Result<Plan, Refusal>
-    ensures { Plans show.now (Edit.Set n part range level only) result }
+    ensures plan { Plans show.now (Edit.Set n part range level only) result }
+    ensures cause { HasCauseOf Refusal.Memory (H.refusals heap.old) (H.refusals heap.new) result }
 {
     let old = the_cue(show, n)?;
     let part = the_given_part(old, part)?;
@@ -34,9 +37,9 @@ pub(crate) fn set(
     if let Some(entry) = move_alone(show, n, old, part, range, level, only) {
         return Ok(Plan::Move { cue: n, to: entry });
     }
-    let members = all_at(alloc, range, level)?;
-    let cue = with_levels(alloc, show.channels(), old, part, members.as_slice())?;
-    Ok(place(alloc, show, n, old, cue, range, only)?)
+    let members = all_at(heap, range, level)?;
+    let cue = with_levels(heap, show.channels(), old, part, members.as_slice())?;
+    Ok(place(heap, show, n, old, cue, range, only)?)
 }
 
 /// The move of the range's one channel to the level, where the range is one channel, of which the cue has a move.
@@ -96,8 +99,8 @@ fn ends_above(show: &Show, n: CueNo, c: Chan) -> bool
 }
 
 /// The members of the group move to their levels in proportion to this one.
-pub(crate) fn set_group(
-    alloc: Global,
+pub(crate) fn set_group<H: Heap>(
+    heap: &mut H,
     show: &Show,
     n: CueNo,
     part: Option<PartNo>,
@@ -105,39 +108,42 @@ pub(crate) fn set_group(
     level: Level,
     only: bool,
 ) -> Result<Plan, Refusal>
-    ensures { Plans show.now (Edit.SetGroup n part g level only) result }
+    ensures plan { Plans show.now (Edit.SetGroup n part g level only) result }
+    ensures cause { HasCauseOf Refusal.Memory (H.refusals heap.old) (H.refusals heap.new) result }
 {
     let old = the_cue(show, n)?;
     let given = the_given_part(old, part)?;
     the_group(show, g)?;
-    let members = in_proportion(alloc, show, g, level)?;
-    let cue = with_levels(alloc, show.channels(), old, given, members.as_slice())?;
-    Ok(place(alloc, show, n, old, cue, all_channels(), only)?)
+    let members = in_proportion(heap, show, g, level)?;
+    let cue = with_levels(heap, show.channels(), old, given, members.as_slice())?;
+    Ok(place(heap, show, n, old, cue, all_channels(), only)?)
 }
 
 /// The channels of the range have no move in the cue any more.
-pub(crate) fn release(
-    alloc: Global,
+pub(crate) fn release<H: Heap>(
+    heap: &mut H,
     show: &Show,
     n: CueNo,
     range: ChanRange,
     only: bool,
 ) -> Result<Plan, Refusal>
-    ensures { Plans show.now (Edit.Release n range only) result }
+    ensures plan { Plans show.now (Edit.Release n range only) result }
+    ensures cause { HasCauseOf Refusal.Memory (H.refusals heap.old) (H.refusals heap.new) result }
 {
     let old = the_cue(show, n)?;
     the_channels(show, range)?;
     the_moves(old, range)?;
-    let cue = without_moves(old, range)?;
-    Ok(place(alloc, show, n, old, cue, range, only)?)
+    let cue = without_moves(heap, old, range)?;
+    Ok(place(heap, show, n, old, cue, range, only)?)
 }
 
 /// The cue without moves for the channels of the range. An error comes where memory runs out.
-fn without_moves(cue: &Cue, range: ChanRange) -> Result<Cue, AllocError>
-    ensures { IfOk result (λ changed. changed ≡ without_moves cue.now range) }
+fn without_moves<H: Heap>(heap: &mut H, cue: &Cue, range: ChanRange) -> Result<Cue, AllocError>
+    ensures cue { IfOk result (λ changed. changed ≡ without_moves cue.now range) }
+    ensures cause { HasCause (H.refusals heap.old) (H.refusals heap.new) result }
 {
     let moves = cue
         .moves
-        .copy_without(range.first().get(), range.last().get())?;
+        .copy_without(heap, range.first().get(), range.last().get())?;
     Ok(cue.with(moves))
 }

@@ -2,6 +2,7 @@
 
 ghost use Rattle.std.specs.Prelude.{◌≡◌, ℕ, ◌≤◌, IfOk, OnOk, unwrap_or};
 ghost use Rattle.std.specs.List.{AllByRecursion};
+ghost use Rattle.lx_io.specs.Causes.{HasCause, HasCauseOf};
 ghost use Rattle.lx_spec.specs.Show.{ValidMembers, ValidGroup, ValidSub};
 ghost use Rattle.lx_spec.specs.EditedShow.{with_members, set_or_new};
 ghost use Rattle.lx_edit.specs.PlanMeaning.{Plans};
@@ -10,23 +11,30 @@ use crate::absent::the_channels;
 use crate::moves::all_at;
 use crate::plans::Plan;
 use lx_base::{ChanRange, GroupNo, Level, SubNo};
+use lx_io::Heap;
 use lx_show::{Edit, Group, Member, MemberList, Refusal, Show, Sub, facts};
-use std::alloc::{AllocError, Global};
+use std::alloc::AllocError;
 
 /// The channels of the range are in the group at the level.
-pub(crate) fn group_member(
-    alloc: Global,
+pub(crate) fn group_member<H: Heap>(
+    heap: &mut H,
     show: &Show,
     g: GroupNo,
     range: ChanRange,
     level: Level,
 ) -> Result<Plan, Refusal>
-    ensures { Plans show.now (Edit.GroupMember g range level) result }
+    ensures plan { Plans show.now (Edit.GroupMember g range level) result }
+    ensures cause { HasCauseOf Refusal.Memory (H.refusals heap.old) (H.refusals heap.new) result }
 {
     the_channels(show, range)?;
-    let members = all_at(alloc, range, level)?;
-    let mut group = group_or_new(alloc, show, g)?;
-    put_members(show.channels(), &mut group.members, members.as_slice())?;
+    let members = all_at(heap, range, level)?;
+    let mut group = group_or_new(heap, show, g)?;
+    put_members(
+        heap,
+        show.channels(),
+        &mut group.members,
+        members.as_slice(),
+    )?;
     Ok(Plan::Group {
         number: g,
         to: Some(group),
@@ -34,19 +42,20 @@ pub(crate) fn group_member(
 }
 
 /// The channels of the range are in the submaster at the level.
-pub(crate) fn sub_member(
-    alloc: Global,
+pub(crate) fn sub_member<H: Heap>(
+    heap: &mut H,
     show: &Show,
     s: SubNo,
     range: ChanRange,
     level: Level,
 ) -> Result<Plan, Refusal>
-    ensures { Plans show.now (Edit.SubMember s range level) result }
+    ensures plan { Plans show.now (Edit.SubMember s range level) result }
+    ensures cause { HasCauseOf Refusal.Memory (H.refusals heap.old) (H.refusals heap.new) result }
 {
     the_channels(show, range)?;
-    let members = all_at(alloc, range, level)?;
-    let mut sub = sub_or_new(alloc, show, s)?;
-    put_members(show.channels(), &mut sub.members, members.as_slice())?;
+    let members = all_at(heap, range, level)?;
+    let mut sub = sub_or_new(heap, show, s)?;
+    put_members(heap, show.channels(), &mut sub.members, members.as_slice())?;
     Ok(Plan::Sub {
         number: s,
         to: Some(sub),
@@ -54,39 +63,47 @@ pub(crate) fn sub_member(
 }
 
 /// An equal group, or a new one where it is absent. An error comes where memory runs out.
-fn group_or_new(alloc: Global, show: &Show, g: GroupNo) -> Result<Group, AllocError>
+fn group_or_new<H: Heap>(heap: &mut H, show: &Show, g: GroupNo) -> Result<Group, AllocError>
     ensures group { IfOk result (λ group. group ≡ set_or_new show.now.groups g) }
     ensures number { IfOk result (λ group. group.number ≡ g) }
     ensures valid { IfOk result (ValidGroup show.now.channels) }
+    ensures cause { HasCause (H.refusals heap.old) (H.refusals heap.new) result }
 {
     match show.group(g) {
-        Some(group) => group.copy(),
-        None => Ok(Group::new(alloc, g)),
+        Some(group) => group.copy(heap),
+        None => Ok(Group::new(heap.allocator(), g)),
     }
 }
 
 /// An equal submaster, or a new one where it is absent. An error comes where memory runs out.
-fn sub_or_new(alloc: Global, show: &Show, s: SubNo) -> Result<Sub, AllocError>
+fn sub_or_new<H: Heap>(heap: &mut H, show: &Show, s: SubNo) -> Result<Sub, AllocError>
     ensures submaster { IfOk result (λ submaster. submaster ≡ set_or_new show.now.subs s) }
     ensures number { IfOk result (λ submaster. submaster.number ≡ s) }
     ensures valid { IfOk result (ValidSub show.now.channels) }
+    ensures cause { HasCause (H.refusals heap.old) (H.refusals heap.new) result }
 {
     match show.sub(s) {
-        Some(sub) => sub.copy(),
-        None => Ok(Sub::new(alloc, s)),
+        Some(sub) => sub.copy(heap),
+        None => Ok(Sub::new(heap.allocator(), s)),
     }
 }
 
 /// Places the members, each in the place of the one of its channel. An error comes where memory runs out.
-fn put_members(channels: u32, list: &mut MemberList, members: &[Member]) -> Result<(), AllocError>
+fn put_members<H: Heap>(
+    heap: &mut H,
+    channels: u32,
+    list: &mut MemberList,
+    members: &[Member],
+) -> Result<(), AllocError>
     requires valid { ValidMembers channels list.old }
     requires within { AllByRecursion (λ m. m.chan ≤ channels) members.now }
     ensures members { OnOk result (list.new ≡ with_members list.old members.now) }
     ensures valid { OnOk result (ValidMembers channels list.new) }
+    ensures cause { HasCause (H.refusals heap.old) (H.refusals heap.new) result }
 {
     for member in members {
         facts::of_member(member);
-        list.put(*member)?;
+        list.put(heap, *member)?;
     }
     Ok(())
 }

@@ -3,3 +3,4 @@ mod ReadTexts
 mod Lines
 mod TicksMore
 mod Imports
+mod LineEndRuns

@@ -1,8 +1,9 @@
 -- A line that was answered, as a host's desk keeps it.
-use Rattle.lx_embed.proofs.Imports.{refl, ◌≡◌, ℕ, Bool, true, not, Option, Some, Result, Ok, Err, List, [], ◌++◌, ◌∙◌, ap, sym, subst, IfOk}
+use Rattle.lx_embed.proofs.Imports.{refl, ◌≡◌, ℕ, Bool, true, not, Some, Result, Ok, Err, List, [], ◌++◌, ◌∙◌, ap, sym, subst, IfOk}
 use Rattle.lx_embed.proofs.Imports.{OnOk, OnErr, Kept, Desk, Answering, begin_at, ends_script, begun, desk_answering, StandsFor}
 use Rattle.std.specs.Io.{StartsWith}
 use Rattle.lx_io.specs.declared.sink.SinkFault.{SinkFault}
+use Rattle.lx_io.specs.Told.{ToldBySink}
 use Rattle.lx_spec.specs.declared.Command.{Command}
 use Rattle.lx_spec.specs.Script.{line_of}
 use Rattle.lx_session.specs.declared.tally.Tally.{Tally}
@@ -20,20 +21,14 @@ on_err : {A E P Q : Type 0} (r : Result A E) → OnErr r P → (P → Q) → OnE
 on_err (Ok x) p f = tt
 on_err (Err e) p f = f p
 
--- what a reply holds, and how often it wanted memory
-abbrev pub holds : ReplyText → Option (List ℕ)
-holds s = Some (reply_bytes s)
-
-abbrev pub faults : ReplyText → ℕ
-faults s = 0
-
-abbrev pub wants : ReplyText → ℕ
-wants s = s.wants
+-- what a reply tells
+abbrev pub told_by_reply : ToldBySink ReplyText
+told_by_reply = record { holds = λ s. Some (reply_bytes s); back = λ _. []; faults = λ _. 0; wants = λ s. s.wants }
 
 -- a line that was answered from the empty reply on
 pub line_answered : (by : Answering (List ℕ)) (Stands : by.State → Type 0) (state : by.State) (line : List ℕ)
     (sink sink' : ReplyText) (result : Result Bool SinkFault) (tally : Tally) → reply_bytes sink ≡ []
-    → OneAnswer by holds faults wants sink sink' result (begin_at state) line Stands tally
+    → OneAnswer by told_by_reply sink sink' result (begin_at state) line Stands tally
     → IfOk result (λ more. more ≡ not (ends_script line)) → AnswersLine by Stands state line result (reply_bytes sink')
 line_answered by Stands state line sink sink' result tally empty told more =
     let whole : reply_bytes sink ++ told.reply ≡ told.next.text = ap (λ (xs : List ℕ). xs ++ told.reply) empty ∙ sym told.text in
@@ -50,8 +45,8 @@ line_answered by Stands state line sink sink' result tally empty told more =
 -- a line that was answered on a plain desk's console
 pub plain_answered : (d : Desk) (line : List ℕ) (heard : List Command → Type 0) (sink sink' : ReplyText)
     (result : Result Bool SinkFault) (console : Kept) (tally : Tally)
-    → LineAnswer true heard holds faults wants sink sink' result (begin_at (begun d)) (line_of line) console tally
-    → OneAnswer (desk_answering true) holds faults wants sink sink' result (begin_at (begun d)) line (λ next. StandsFor next.desk console) tally
+    → LineAnswer true heard told_by_reply sink sink' result (begin_at (begun d)) (line_of line) console tally
+    → OneAnswer (desk_answering true) told_by_reply sink sink' result (begin_at (begun d)) line (λ next. StandsFor next.desk console) tally
 plain_answered d line heard sink sink' result console tally a =
     record {
       next = a.next;

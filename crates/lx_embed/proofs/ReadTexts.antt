@@ -2,6 +2,7 @@
 use Rattle.lx_embed.proofs.Imports.{◌≡◌, ℕ, zero, suc, ◌+◌, ◌<◌, ◌≤◌, Bool, true, false, Option, Some, Ok, Err, IfSome, List, []}
 use Rattle.lx_embed.proofs.Imports.{◌∷◌, length, refl, subst, arith, ◌==◌, cond, reading_of, AnswerOf}
 use Rattle.lx_base.specs.declared.TheConstants.{INPUT_BYTES}
+use Rattle.lx_io.specs.Told.{ToldBySource}
 use Rattle.lx_lex.specs.declared.lines.Lines.{Lines}
 use Rattle.lx_lex.specs.Unread.{unread}
 use Rattle.lx_spec.specs.declared.Form.{Form}
@@ -24,20 +25,20 @@ first_lines-within (suc n) (x ∷ xs) =
     either (x == 10)
 
 -- Over lines that hand the text out, of which none was taken.
-module _ (text : List ℕ) (form : Form) {S : Type 0} (left : S → Option (List ℕ)) (rises : S → ℕ) (a b : Lines S)
-    (is : unread left a ≡ Some text) (none : a.taken ≡ 0) where
-  fault_is : (fault : TextFault) → MeansFault left a form fault → reads form text ≡ Err fault
+module _ (text : List ℕ) (form : Form) {S : Type 0} (told : ToldBySource S) (a b : Lines S)
+    (is : unread told a ≡ Some text) (none : a.taken ≡ 0) where
+  fault_is : (fault : TextFault) → MeansFault told a form fault → reads form text ≡ Err fault
   fault_is fault means = subst (λ (v : Option (List ℕ)). IfSome v (λ bytes. reads form bytes ≡ Err fault)) is means.text
 
-  too_long : IfSome (unread left a) (IsPastLimit a.taken) → INPUT_BYTES < length text
+  too_long : IfSome (unread told a) (IsPastLimit a.taken) → INPUT_BYTES < length text
   too_long long =
       let past : IsPastLimit a.taken text = subst (λ (v : Option (List ℕ)). IfSome v (IsPastLimit a.taken)) is long in
       omega (arith, none, past.long, first_lines-within (past.n + 1) text)
 
-  pub loads : (loaded : Loaded) → AnswerOf left rises a b form (Ok loaded) → reads form text ≡ Ok (reading_of loaded)
+  pub loads : (loaded : Loaded) → AnswerOf told a b form (Ok loaded) → reads form text ≡ Ok (reading_of loaded)
   loads loaded answer = subst (λ (v : Option (List ℕ)). IfSome v (λ bytes. reads form bytes ≡ Ok (reading_of loaded))) is answer.means.text
 
-  pub refuses : (fault : ShowFault) → AnswerOf left rises a b form (Err fault) → (fault ≡ faults.ReadFault → ⊥) → RefusesShow form text fault
+  pub refuses : (fault : ShowFault) → AnswerOf told a b form (Err fault) → (fault ≡ faults.ReadFault → ⊥) → RefusesShow form text fault
   refuses (faults.Text fault) answer never = fault_is fault answer
   refuses faults.ReadFault answer never = never refl
   refuses faults.InputTooLong answer never = too_long answer.0

@@ -4,3 +4,4 @@ pub mod Answered
 pub mod Opened
 pub mod Told
 pub mod TakenSlots
+pub mod LineEnds

@@ -95,7 +95,9 @@ fn answer_plain(
     answer(&mut NoListener, console, Some(line), reply, &mut tally)
 }
 
-/// Does one line of the script of a desk with a history, whose reply is appended.
+/// Does one line of the script of a desk with a history, whose reply is appended. It is a function of its own, so that a line of a
+/// plain desk doesn't pay for its room.
+#[inline(never)]
 fn answer_undo(desk: &mut UndoDesk, line: &[u8], reply: &mut ReplyText) -> Result<bool, SinkFault>
     requires { reply_bytes reply.old ≡ [] }
     ensures { (s : UndoState) → UndoStands s desk.old

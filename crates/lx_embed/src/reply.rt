@@ -4,7 +4,7 @@
 ghost use Rattle.std.specs.Prelude.{◌≡◌, ◌≤◌, ◌<◌, ◌+◌, ◌++◌, [], Some, length, IsOk, IfOk, OnOk};
 ghost use Rattle.std.specs.Bool.{OnTrue};
 ghost use Rattle.std.specs.Io.KnownBytes.{WriteAppends, Keeps};
-ghost use Rattle.lx_io.specs.Puts.{HasSinkCause};
+ghost use Rattle.lx_io.specs.SinkCalls.{HasSinkCauseBy};
 
 use lx_io::{Sink, SinkFault, TEXT_ROOM, Text, write_behind};
 use std::alloc::Global;
@@ -69,7 +69,7 @@ impl ReplyText {
     fn ensure_room(&mut self, count: usize) -> Result<(), SinkFault>
         ensures bytes { reply_bytes self.new ≡ reply_bytes self.old }
         ensures room { OnOk result (self.new.len + count ≤ length self.new.room.items) }
-        ensures cause { HasSinkCause (λ _. 0) (λ s. s.wants) self.old self.new result }
+        ensures cause { HasSinkCauseBy (λ _. 0) (λ s. s.wants) self.old self.new result }
     {
         if self.room.len() - self.len < count {
             return self.make_room(count);
@@ -83,7 +83,7 @@ impl ReplyText {
     fn make_room(&mut self, count: usize) -> Result<(), SinkFault>
         ensures bytes { reply_bytes self.new ≡ reply_bytes self.old }
         ensures room { OnOk result (self.new.len + count ≤ length self.new.room.items) }
-        ensures cause { HasSinkCause (λ _. 0) (λ s. s.wants) self.old self.new result }
+        ensures cause { HasSinkCauseBy (λ _. 0) (λ s. s.wants) self.old self.new result }
     {
         if !self.open(count) {
             self.wants = self.wants.saturating_add(1);
@@ -122,7 +122,7 @@ impl Sink for ReplyText {
         requires { 0 < length piece.now }
         ensures bound { IfOk result (λ n. (0 < n) × (n ≤ length piece.now)) }
         ensures bytes { WriteAppends (Some (reply_bytes self.old)) (Some (reply_bytes self.new)) result piece.now }
-        ensures cause { HasSinkCause (λ _. 0) (λ s. s.wants) self.old self.new result }
+        ensures cause { HasSinkCauseBy (λ _. 0) (λ s. s.wants) self.old self.new result }
         ensures whole { IfOk result (λ n. n ≡ length piece.now) }
     {
         self.ensure_room(piece.len())?;
@@ -133,7 +133,7 @@ impl Sink for ReplyText {
     /// Nothing is kept back.
     fn flush(&mut self) -> Result<(), SinkFault>
         ensures holds { Keeps (Some (reply_bytes self.old)) (Some (reply_bytes self.new)) }
-        ensures cause { HasSinkCause (λ _. 0) (λ s. s.wants) self.old self.new result }
+        ensures cause { HasSinkCauseBy (λ _. 0) (λ s. s.wants) self.old self.new result }
         ensures ok { IsOk result }
     {
         Ok(())

@@ -1,5 +1,8 @@
 //! An iterator over the members of a group, scaled.
 
+ghost use Rattle.std.specs.Prelude.{◌≡◌, length};
+ghost use Rattle.lx_groups.specs.Left.{members_left};
+
 use lx_base::{Level, scale};
 use lx_show::Member;
 
@@ -9,6 +12,15 @@ use lx_show::Member;
 pub struct Members<'a> {
     pub(crate) rest: &'a [Member],
     pub(crate) level: Level,
+}
+
+impl<'a> Members<'a> {
+    /// How many members are left.
+    pub fn len(&self) -> usize
+        ensures { result ≡ length (members_left self.now) }
+    {
+        self.rest.len()
+    }
 }
 
 impl<'a> Iterator for Members<'a> {

@@ -1,12 +1,12 @@
 -- Texts that are put onto a sink one after another, each by a call whose contract says `Puts`.
 --
 -- How other crates use this. A function that appends a text ensures
---     Puts K.holds K.faults K.wants sink.old sink.new result TEXT
+--     Puts K.Sink sink.old sink.new result TEXT
 -- and makes its calls with `?`, as the tail, in a `match` or under an `if`. The module that holds such functions begins with
 --     #![tactic(auto, using(lx_io::proofs::Chain::puts))]
 -- and then they need no answer. Each `?` has a goal, so keep a row of calls to five or so. A loop with a call per element needs its invariant
 -- alone, which is `Puts` of what was put so far:
---     invariant-loop-x g l = Puts {T = Unit {0}} g.K.Sink.holds g.K.Sink.faults g.K.Sink.wants l.initial.sink l.sink (Ok tt)
+--     invariant-loop-x g l = Puts {T = Unit {0}} g.K.Sink l.initial.sink l.sink (Ok tt)
 --         (flat_map text_of (take l.x-index l.xs))
 -- where the contract's text is `flat_map text_of xs.now`; where an `if` passes some elements over, it is
 -- `flat_map text_of (filter test xs.now)`, and the invariant has `filter test (take l.x-index l.xs)`.
@@ -17,7 +17,7 @@
 use Rattle.lx_io.proofs.Imports.{◌≡◌, ℕ, ◌+◌, ◌-◌, ◌<◌, ◌≤◌, List, [], ◌∷◌, ◌++◌, length, take, drop, get_or, Result, Ok}
 use Rattle.lx_io.proofs.Imports.{Err, Some, None, refl, sym, ap, ◌∙◌, append_assoc, append-nil, arith, length-append, length-take, add-one, drop-cons}
 use Rattle.lx_io.proofs.Imports.{take-append-drop, Bool, flat_map, filter, Option, Appends, take-append-le, take_all, take-append-add, flat_map-append}
-use Rattle.lx_io.proofs.Imports.{AppendsFront, Puts}
+use Rattle.lx_io.proofs.Imports.{AppendsFront, PutsBy}
 use Rattle.std.proofs.lemmas.List.Elements.{filter-append}
 use Rattle.std.specs.Result.{IsErr, IsErrAnd}
 use Rattle.lx_io.specs.declared.sink.SinkFault.{SinkFault}
@@ -65,28 +65,28 @@ pub ruleset puts = (
 -- a text was put, and then another one
 pub Puts-then : {S T U : Type 0} {holds : S → Option (List ℕ)} {faults wants : S → ℕ} {a b c : S} {t : T} {r : Result U SinkFault}
     {xs ys : List ℕ}
-    → Puts holds faults wants a b (Ok t) xs → Puts holds faults wants b c r ys → Puts holds faults wants a c r (xs ++ ys)
+    → PutsBy holds faults wants a b (Ok t) xs → PutsBy holds faults wants b c r ys → PutsBy holds faults wants a c r (xs ++ ys)
 Puts-then p q = grind (arith, puts)
 
 -- a text was not put whole, and nothing was put after it
 pub Puts-fails : {S T U : Type 0} {holds : S → Option (List ℕ)} {faults wants : S → ℕ} {a b : S} {e : SinkFault} {xs : List ℕ} (ys : List ℕ)
-    → Puts {T = T} holds faults wants a b (Err e) xs → Puts {T = U} holds faults wants a b (Err e) (xs ++ ys)
+    → PutsBy {T = T} holds faults wants a b (Err e) xs → PutsBy {T = U} holds faults wants a b (Err e) (xs ++ ys)
 Puts-fails ys p = grind (arith, puts)
 
 -- the same, where the fault goes through a `?`
 pub Puts-stops : {S T U : Type 0} {holds : S → Option (List ℕ)} {faults wants : S → ℕ} {a b : S} {e : SinkFault} {r : Result U SinkFault}
     {xs : List ℕ} (ys : List ℕ)
-    → Puts {T = T} holds faults wants a b (Err e) xs → IsErr r × IsErrAnd r (λ y. y ≡ e) → Puts {T = U} holds faults wants a b r (xs ++ ys)
+    → PutsBy {T = T} holds faults wants a b (Err e) xs → IsErr r × IsErrAnd r (λ y. y ≡ e) → PutsBy {T = U} holds faults wants a b r (xs ++ ys)
 Puts-stops ys p is = grind (arith, puts)
 
 -- the same text, said otherwise
 pub Puts-is : {S T : Type 0} {holds : S → Option (List ℕ)} {faults wants : S → ℕ} {a b : S} {r : Result T SinkFault} {xs ys : List ℕ}
-    → Puts holds faults wants a b r xs → xs ≡ ys → Puts holds faults wants a b r ys
+    → PutsBy holds faults wants a b r xs → xs ≡ ys → PutsBy holds faults wants a b r ys
 Puts-is p e = grind (arith, puts)
 
 -- the same text, with another value
 pub Puts-ok : {S T U : Type 0} {holds : S → Option (List ℕ)} {faults wants : S → ℕ} {a b : S} {t : T} {xs : List ℕ} (u : U)
-    → Puts holds faults wants a b (Ok t) xs → Puts holds faults wants a b (Ok u) xs
+    → PutsBy holds faults wants a b (Ok t) xs → PutsBy holds faults wants a b (Ok u) xs
 Puts-ok u p = grind (arith, puts)
 
 -- a front of a text is as many of its first bytes as were appended

@@ -1,4 +1,4 @@
--- What contracts see of the sources and sinks over memory.
+-- What contracts see of the sources and sinks over memory, and of the heap for tests.
 use Rattle.std.specs.Prelude.{ℕ, Bool, ◌==◌, List, ◌++◌, drop, Result, Ok, Err, ⊤}
 use Rattle.std.specs.List.{list_any}
 use Rattle.lx_io.specs.Causes.{one_more}
@@ -53,3 +53,14 @@ abbrev pub HasFailed : {T : Type 0} → Result T SinkFault → Type 0
 HasFailed (Ok x) = ⊥
 HasFailed (Err Failed) = ⊤
 HasFailed (Err Memory) = ⊥
+
+-- the numbers of a heap's calls that are refused, how many calls wanted memory, and how many were refused
+pub record FailingHeap : Type 0 where
+  pub fails : List ℕ
+  pub calls : ℕ
+  pub refusals : ℕ
+
+-- the heap after a call that wanted memory and had this answer: it counts
+abbrev pub after_want : {T E : Type 0} → FailingHeap → Result T E → FailingHeap
+after_want heap (Ok x) = record heap { calls = one_more heap.calls }
+after_want heap (Err e) = record heap { calls = one_more heap.calls; refusals = one_more heap.refusals }

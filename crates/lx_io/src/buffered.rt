@@ -5,6 +5,7 @@ ghost use Rattle.std.specs.Prelude.{◌≡◌, ◌≤◌, ◌+◌, ◌-◌, ◌+
 ghost use Rattle.std.specs.Bool.{OnTrue};
 ghost use Rattle.std.specs.Io.KnownBytes.{Appends, Keeps};
 ghost use Rattle.lx_io.specs.Puts.{HasSinkCause, Puts};
+ghost use Rattle.lx_io.specs.SinkCalls.{HasSinkCauseBy, PutsBy};
 
 use crate::room::write_behind;
 use crate::{Sink, SinkFault, TEXT_ROOM, Text};
@@ -51,7 +52,7 @@ impl<K: Sink> BufferedSink<K> {
     fn hand_on(&mut self) -> Result<(), SinkFault>
         ensures holds { Keeps (with_kept (K.holds self.old.sink) (kept_back self.old))
             (with_kept (K.holds self.new.sink) (kept_back self.new)) }
-        ensures cause { HasSinkCause K.faults K.wants self.old.sink self.new.sink result }
+        ensures cause { HasSinkCause K.Sink self.old.sink self.new.sink result }
         ensures empty { OnOk result (self.new.len ≡ 0) }
     {
         let (count, passed) = pass_on(&self.room[..self.len], &mut self.sink);
@@ -87,7 +88,7 @@ impl<K: Sink> BufferedSink<K> {
     #[cold]
     #[inline(never)]
     fn put_far(&mut self, text: &[u8]) -> Result<(), SinkFault>
-        ensures { Puts (λ s. with_kept (K.holds s.sink) (kept_back s)) (λ s. K.faults s.sink) (λ s. K.wants s.sink)
+        ensures { PutsBy (λ s. with_kept (K.holds s.sink) (kept_back s)) (λ s. K.faults s.sink) (λ s. K.wants s.sink)
             self.old self.new result text.now }
     {
         if !self.make_room(text.len())? {
@@ -102,7 +103,7 @@ impl<K: Sink> BufferedSink<K> {
     fn ensure_room(&mut self, count: usize) -> Result<bool, SinkFault>
         ensures holds { Keeps (with_kept (K.holds self.old.sink) (kept_back self.old))
             (with_kept (K.holds self.new.sink) (kept_back self.new)) }
-        ensures cause { HasSinkCause K.faults K.wants self.old.sink self.new.sink result }
+        ensures cause { HasSinkCause K.Sink self.old.sink self.new.sink result }
         ensures room { IfOk result (λ there. MatchBool there (self.new.len + count ≤ length self.new.room.items) (self.new.len ≡ 0)) }
     {
         if self.room.len() - self.len < count {
@@ -118,7 +119,7 @@ impl<K: Sink> BufferedSink<K> {
     fn make_room(&mut self, count: usize) -> Result<bool, SinkFault>
         ensures holds { Keeps (with_kept (K.holds self.old.sink) (kept_back self.old))
             (with_kept (K.holds self.new.sink) (kept_back self.new)) }
-        ensures cause { HasSinkCause K.faults K.wants self.old.sink self.new.sink result }
+        ensures cause { HasSinkCause K.Sink self.old.sink self.new.sink result }
         ensures room { IfOk result (λ there. MatchBool there (self.new.len + count ≤ length self.new.room.items) (self.new.len ≡ 0)) }
     {
         if self.open(count) {
@@ -151,7 +152,7 @@ impl<K: Sink> BufferedSink<K> {
 #[cold]
 #[inline(never)]
 fn put_text_far<T: Text, K: Sink>(text: T, sink: &mut K) -> Result<(), SinkFault>
-    ensures { Puts K.holds K.faults K.wants sink.old sink.new result (T.bytes text) }
+    ensures { Puts K.Sink sink.old sink.new result (T.bytes text) }
 {
     sink.put_text(&text)
 }
@@ -161,7 +162,7 @@ fn pass_on<K: Sink>(bytes: &[u8], sink: &mut K) -> (usize, Result<(), SinkFault>
     ensures within { result.0 ≤ length bytes.now }
     ensures bytes { Appends (K.holds sink.old) (K.holds sink.new) (take result.0 bytes.now) }
     ensures whole { OnOk result.1 (result.0 ≡ length bytes.now) }
-    ensures cause { HasSinkCause K.faults K.wants sink.old sink.new result.1 }
+    ensures cause { HasSinkCause K.Sink sink.old sink.new result.1 }
 {
     let mut taken = 0;
     'rest: while taken < bytes.len() {
@@ -198,7 +199,7 @@ impl<K: Sink> Sink for BufferedSink<K> {
     fn flush(&mut self) -> Result<(), SinkFault>
         ensures holds { Keeps (with_kept (K.holds self.old.sink) (kept_back self.old))
             (with_kept (K.holds self.new.sink) (kept_back self.new)) }
-        ensures cause { HasSinkCause (λ s. K.faults s.sink) (λ s. K.wants s.sink) self.old self.new result }
+        ensures cause { HasSinkCauseBy (λ s. K.faults s.sink) (λ s. K.wants s.sink) self.old self.new result }
         ensures handed_on { OnOk result (K.back self.new.sink ++ kept_back self.new ≡ []) }
     {
         self.hand_on()?;

@@ -3,6 +3,7 @@
 ghost use Rattle.std.specs.Prelude.{◌≡◌, ◌≢◌, ℕ, ◌+◌, ◌-◌, ◌<◌, ◌≤◌, [], ◌∷◌, true, false, List, length, slice_index, slice_set, IfOk};
 ghost use Rattle.std.specs.Prelude.{IfSome};
 ghost use Rattle.std.specs.Option.{option_copied, option_map_or};
+ghost use Rattle.lx_io.specs.Causes.{HasCause};
 ghost use Rattle.lx_base.specs.declared.TheConstants.{RUNS, LANES, TICK_END};
 ghost use Rattle.lx_spec.specs.Show.{Show as ShowData, Valid};
 ghost use Rattle.lx_spec.specs.TrackedLevel.{tracked};
@@ -24,6 +25,7 @@ use crate::racks::Racks;
 use crate::replay::{Act, ground_of, replay};
 use lx_base::{Chan, CueNo, LANES, Level, Moment, RUNS};
 use lx_fade::NEVER;
+use lx_io::{Heap, SystemHeap, filled};
 use lx_playback::{Playback, Run};
 use lx_sheet::Sheet;
 use lx_show::Show;
@@ -71,16 +73,26 @@ impl Levels {
         ensures reach { IfOk result (λ levels. length levels.stacks ≡ show.now.channels) }
         ensures valid { Valid show.now }
     {
+        Levels::open_in(&mut SystemHeap::new(alloc), show)
+    }
+
+    /// The same, by a heap. An error comes where the heap refuses memory.
+    pub fn open_in<H: Heap>(heap: &mut H, show: &Show) -> Result<Levels, AllocError>
+        ensures moment { IfOk result (λ levels. levels.moment ≡ 0) }
+        ensures reach { IfOk result (λ levels. length levels.stacks ≡ show.now.channels) }
+        ensures valid { Valid show.now }
+        ensures cause { HasCause (H.refusals heap.old) (H.refusals heap.new) result }
+    {
         let channels = show.channels() as usize;
         Ok(Levels {
             moment: 0,
-            stacks: Racks::open(alloc, channels)?,
-            currents: vec![in alloc; Current::still(0, NEVER); channels]?,
-            levels: vec![in alloc; 0; channels]?,
-            holds: vec![in alloc; NEVER; channels]?,
+            stacks: Racks::open(heap, channels)?,
+            currents: filled(heap, Current::still(0, NEVER), channels)?,
+            levels: filled(heap, 0, channels)?,
+            holds: filled(heap, NEVER, channels)?,
             due: NEVER,
-            hints: vec![in alloc; NO_HINT; RUNS]?,
-            acts: vec![in alloc; None; RUNS]?,
+            hints: filled(heap, NO_HINT, RUNS)?,
+            acts: filled(heap, None, RUNS)?,
         })
     }
 

@@ -4,6 +4,7 @@ ghost use Rattle.std.specs.Prelude.{◌≡◌, ◌≢◌, ℕ, ◌+◌, ◌-◌,
 ghost use Rattle.std.specs.Prelude.{vec_capacity};
 ghost use Rattle.std.specs.Prelude.{IfOk};
 ghost use Rattle.std.specs.List.{All};
+ghost use Rattle.lx_io.specs.Causes.{HasCause};
 ghost use Rattle.lx_base.specs.declared.TheConstants.{CHANNELS, RUNS, TIME_MAX};
 ghost use Rattle.lx_spec.specs.Level.{fade_over};
 ghost use Rattle.lx_fade.specs.declared.held.TheConstants.{NEVER};
@@ -14,7 +15,8 @@ ghost use Rattle.lx_fade.specs.Row.{stack_column};
 use crate::current::Current;
 use lx_base::{Cs, Level, Moment, RUNS};
 use lx_fade::{Column, Fade, NEVER, push_in, value_in};
-use std::alloc::{AllocError, Global};
+use lx_io::{Heap, filled};
+use std::alloc::AllocError;
 use std::marker::Model;
 
 /// The fades of each channel, over the level at which it is until one of them has begun. There is room for as many
@@ -51,15 +53,16 @@ const NO_FADE: Fade = Fade {
 };
 
 impl Racks {
-    /// No fade on any of this many channels, over level 0.
-    pub(crate) fn open(alloc: Global, channels: usize) -> Result<Racks, AllocError>
+    /// No fade on any of this many channels, over level 0. An error comes where the heap refuses memory.
+    pub(crate) fn open<H: Heap>(heap: &mut H, channels: usize) -> Result<Racks, AllocError>
         requires { channels ≤ CHANNELS }
         ensures reach { IfOk result (λ racks. length racks ≡ channels) }
         ensures empty { IfOk result (λ racks. (k : ℕ) → slice_index_or racks k no_stack ≡ no_stack) }
+        ensures cause { HasCause (H.refusals heap.old) (H.refusals heap.new) result }
     {
-        let bottoms = vec![in alloc; 0; channels]?;
-        let counts = vec![in alloc; 0; channels]?;
-        let fades = Vec::with_capacity(alloc, RUNS * channels)?;
+        let bottoms = filled(heap, 0, channels)?;
+        let counts = filled(heap, 0, channels)?;
+        let fades = heap.room(RUNS * channels)?;
         Ok(Racks {
             channels,
             bottoms,

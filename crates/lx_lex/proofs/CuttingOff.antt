@@ -2,18 +2,18 @@
 use Rattle.lx_lex.proofs.Imports.{◌≡◌, ◌⊎◌, inl, inr, ℕ, zero, suc, ◌+◌, ◌-◌, ◌≤◌, ◌<◌, Bool, true, false, Some, None, IfSome}
 use Rattle.lx_lex.proofs.Imports.{List, [], ◌∷◌, ◌++◌, length, take, refl, sym, ap, ◌∙◌, subst, append-nil, append_assoc, arith, prepend_known}
 use Rattle.lx_lex.proofs.Imports.{INPUT_BYTES, HasNoFeed, feeds, first_lines, CutOff, Lines, ReadFault, InputTooLong, feed_of, BytesBetween, LinesBetween}
-use Rattle.lx_lex.proofs.Imports.{StepOf, held, unread, current_line}
+use Rattle.lx_lex.proofs.Imports.{StepOf, held, unread, current_line, ToldBySource}
 use Rattle.std.proofs.Common.{Option}
 use Rattle.lx_lex.specs.CutOff.{NotTaken}
 
 -- the next line wasn't taken: a read failed, or the input is too long
-pub not_read : {S : Type 0} (left : S → Option (List ℕ)) (old new : Lines S)
-    → StepOf ReadFault (unread left old) (unread left new) old.taken new.taken (current_line new) → held new ≡ [] → NotTaken left old new
-not_read left old new step none = record { raw = step.0; fed = false; took = step.1; stop = inr (refl, none) }
+pub not_read : {S : Type 0} (told : ToldBySource S) (old new : Lines S)
+    → StepOf ReadFault (unread told old) (unread told new) old.taken new.taken (current_line new) → held new ≡ [] → NotTaken told old new
+not_read told old new step none = record { raw = step.0; fed = false; took = step.1; stop = inr (refl, none) }
 
-pub too_long : {S : Type 0} (left : S → Option (List ℕ)) (old new : Lines S)
-    → StepOf InputTooLong (unread left old) (unread left new) old.taken new.taken (current_line new) → NotTaken left old new
-too_long left old new step = record { raw = step.0; fed = step.1; took = step.2; stop = inl step.3 }
+pub too_long : {S : Type 0} (told : ToldBySource S) (old new : Lines S)
+    → StepOf InputTooLong (unread told old) (unread told new) old.taken new.taken (current_line new) → NotTaken told old new
+too_long told old new step = record { raw = step.0; fed = step.1; took = step.2; stop = inl step.3 }
 
 no_feed-take : (k : ℕ) (xs : List ℕ) → HasNoFeed xs → HasNoFeed (take k xs)
 no_feed-take zero xs h = tt
@@ -67,8 +67,8 @@ cut_at (Some x) (Some y) (Some z) i j k more raws raw fed p q stop = (
   refl,
 )
 
-pub cut_off : {S : Type 0} (left : S → Option (List ℕ)) (a b c : Lines S) (raws : List (List ℕ))
-    → LinesBetween (unread left a) (unread left b) a.taken b.taken raws → NotTaken left b c
-    → IfSome (unread left a) (λ xs. (cut : CutOff a.taken xs (left c.source.now)) × (cut.lines ≡ length raws))
-cut_off left a b c raws p n = cut_at (unread left a) (unread left b) (left c.source.now) a.taken b.taken c.taken (held c) raws n.raw n.fed p
+pub cut_off : {S : Type 0} (told : ToldBySource S) (a b c : Lines S) (raws : List (List ℕ))
+    → LinesBetween (unread told a) (unread told b) a.taken b.taken raws → NotTaken told b c
+    → IfSome (unread told a) (λ xs. (cut : CutOff a.taken xs (told.left c.source.now)) × (cut.lines ≡ length raws))
+cut_off told a b c raws p n = cut_at (unread told a) (unread told b) (told.left c.source.now) a.taken b.taken c.taken (held c) raws n.raw n.fed p
     n.took n.stop

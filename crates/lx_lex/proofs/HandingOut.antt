@@ -1,13 +1,13 @@
 -- How a loop over `advance` begins and goes on.
-use Rattle.lx_lex.proofs.Imports.{◌≡◌, ℕ, ◌+◌, true, IsTrue, List, [], ◌∷◌, ◌++◌, refl, ◌∙◌, length-append, arith, Option, Lines}
-use Rattle.lx_lex.proofs.Imports.{LineBetween, unread}
+use Rattle.lx_lex.proofs.Imports.{◌≡◌, ℕ, ◌+◌, true, IsTrue, List, [], ◌∷◌, ◌++◌, refl, ◌∙◌, length-append, arith, Lines}
+use Rattle.lx_lex.proofs.Imports.{LineBetween, unread, ToldBySource}
 use Rattle.lx_lex.specs.LinesHandedOut.{HandedOut}
 use Rattle.lx_lex.proofs.TakenLines.{no_line, one_line, then_lines}
 
 -- no line yet
-pub handed_none : {S : Type 0} (left : S → Option (List ℕ)) (faults : S → ℕ) (a : Lines S) → IsTrue a.going → HandedOut left faults a a []
-handed_none left faults a going = record {
-  took = no_line (unread left a) a.taken (a.fewer going);
+pub handed_none : {S : Type 0} (told : ToldBySource S) (a : Lines S) → IsTrue a.going → HandedOut told a a []
+handed_none told a going = record {
+  took = no_line (unread told a) a.taken (a.fewer going);
   number = omega arith;
   going = going;
   same_reference = refl;
@@ -15,11 +15,11 @@ handed_none left faults a going = record {
 }
 
 -- the line of one step
-pub handed_one : {S : Type 0} (left : S → Option (List ℕ)) (faults : S → ℕ) (a b : Lines S) (raw : List ℕ)
-    → LineBetween (unread left a) (unread left b) a.taken b.taken raw → b.number ≡ a.number + 1 → b.going ≡ true
-    → b.source.ghost_name ≡ a.source.ghost_name → faults b.source.now ≡ faults a.source.now → HandedOut left faults a b (raw ∷ [])
-handed_one left faults a b raw took number going same kept = record {
-  took = one_line (unread left a) (unread left b) a.taken b.taken raw took;
+pub handed_one : {S : Type 0} (told : ToldBySource S) (a b : Lines S) (raw : List ℕ)
+    → LineBetween (unread told a) (unread told b) a.taken b.taken raw → b.number ≡ a.number + 1 → b.going ≡ true
+    → b.source.ghost_name ≡ a.source.ghost_name → told.faults b.source.now ≡ told.faults a.source.now → HandedOut told a b (raw ∷ [])
+handed_one told a b raw took number going same kept = record {
+  took = one_line (unread told a) (unread told b) a.taken b.taken raw took;
   number = number;
   going = going;
   same_reference = same;
@@ -27,10 +27,10 @@ handed_one left faults a b raw took number going same kept = record {
 }
 
 -- first these, and then those
-pub handed_then : {S : Type 0} (left : S → Option (List ℕ)) (faults : S → ℕ) (a b c : Lines S) (raws raws' : List (List ℕ))
-    → HandedOut left faults a b raws → HandedOut left faults b c raws' → HandedOut left faults a c (raws ++ raws')
-handed_then left faults a b c raws raws' p q = record {
-  took = then_lines (unread left a) (unread left b) (unread left c) a.taken b.taken c.taken raws raws' p.took q.took;
+pub handed_then : {S : Type 0} (told : ToldBySource S) (a b c : Lines S) (raws raws' : List (List ℕ))
+    → HandedOut told a b raws → HandedOut told b c raws' → HandedOut told a c (raws ++ raws')
+handed_then told a b c raws raws' p q = record {
+  took = then_lines (unread told a) (unread told b) (unread told c) a.taken b.taken c.taken raws raws' p.took q.took;
   number = omega (arith, p.number, q.number, length-append raws raws');
   going = q.going;
   same_reference = q.same_reference ∙ p.same_reference;

@@ -34,3 +34,4 @@ pub use Rattle.std.specs.List.{after_first, before_first, list_all, list_any, on
 pub use Rattle.std.specs.List.{starts_with, take_while}
 pub use Rattle.std.specs.declared.option.Option.{Option}
 pub use lib.Count.{count_trailing_zeros}
+pub use Rattle.lx_io.specs.Told.{ToldBySource}

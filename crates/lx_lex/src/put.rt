@@ -23,14 +23,14 @@ const WHOLE_DIGITS: usize = 20;
 
 /// Appends a whole number in decimal, without leading zeros.
 pub fn put_whole<K: Sink>(value: u32, sink: &mut K) -> Result<(), SinkFault>
-    ensures { Puts K.holds K.faults K.wants sink.old sink.new result (decimal value) }
+    ensures { Puts K.Sink sink.old sink.new result (decimal value) }
 {
     put_count(value as u64, sink)
 }
 
 /// Appends a count in decimal, without leading zeros.
 pub fn put_count<K: Sink>(value: u64, sink: &mut K) -> Result<(), SinkFault>
-    ensures { Puts K.holds K.faults K.wants sink.old sink.new result (decimal value) }
+    ensures { Puts K.Sink sink.old sink.new result (decimal value) }
 {
     sink.put_text(&Numeral {
         start: b"",
@@ -43,7 +43,7 @@ pub fn put_count<K: Sink>(value: u64, sink: &mut K) -> Result<(), SinkFault>
 
 /// Appends a count in decimal, without leading zeros, and a byte behind it, as one piece.
 pub fn put_count_and<K: Sink>(value: u64, behind: u8, sink: &mut K) -> Result<(), SinkFault>
-    ensures { Puts K.holds K.faults K.wants sink.old sink.new result (decimal value ++ behind ∷ []) }
+    ensures { Puts K.Sink sink.old sink.new result (decimal value ++ behind ∷ []) }
 {
     sink.put_text(&Numeral {
         start: b"",
@@ -57,14 +57,14 @@ pub fn put_count_and<K: Sink>(value: u64, behind: u8, sink: &mut K) -> Result<()
 /// Appends a number in hundredths, as a time in hundredths of a second: the whole part and, where they aren't 0, a
 /// point and the decimals without a trailing zero. 250 is `2.5`.
 pub fn put_hundredths<K: Sink>(value: u32, sink: &mut K) -> Result<(), SinkFault>
-    ensures { Puts K.holds K.faults K.wants sink.old sink.new result (time_text value) }
+    ensures { Puts K.Sink sink.old sink.new result (time_text value) }
 {
     put_decimal(value, 100, sink)
 }
 
 /// Appends a number in hundredths, as by `put_hundredths`, and a byte behind it, as one piece.
 pub fn put_hundredths_and<K: Sink>(value: u32, behind: u8, sink: &mut K) -> Result<(), SinkFault>
-    ensures { Puts K.holds K.faults K.wants sink.old sink.new result (time_text value ++ behind ∷ []) }
+    ensures { Puts K.Sink sink.old sink.new result (time_text value ++ behind ∷ []) }
 {
     put_decimal_and(value, 100, behind, sink)
 }
@@ -72,14 +72,14 @@ pub fn put_hundredths_and<K: Sink>(value: u32, behind: u8, sink: &mut K) -> Resu
 /// Appends a cue number: whole cues and, where they aren't 0, a point and the decimals without a trailing zero. How
 /// many decimals there can be follows from `CUE_UNIT`.
 pub fn put_cue_no<K: Sink>(number: CueNo, sink: &mut K) -> Result<(), SinkFault>
-    ensures { Puts K.holds K.faults K.wants sink.old sink.new result (decimal_text CUE_UNIT number) }
+    ensures { Puts K.Sink sink.old sink.new result (decimal_text CUE_UNIT number) }
 {
     put_decimal(number.get(), CUE_UNIT, sink)
 }
 
 /// Appends a cue number, as by `put_cue_no`, and a byte behind it, as one piece.
 pub fn put_cue_no_and<K: Sink>(number: CueNo, behind: u8, sink: &mut K) -> Result<(), SinkFault>
-    ensures { Puts K.holds K.faults K.wants sink.old sink.new result (decimal_text CUE_UNIT number ++ behind ∷ []) }
+    ensures { Puts K.Sink sink.old sink.new result (decimal_text CUE_UNIT number ++ behind ∷ []) }
 {
     put_decimal_and(number.get(), CUE_UNIT, behind, sink)
 }
@@ -93,7 +93,7 @@ pub fn put_cue_no_between<K: Sink>(
     sink: &mut K,
 ) -> Result<(), SinkFault>
     requires { length start.now ≤ 22 }
-    ensures { Puts K.holds K.faults K.wants sink.old sink.new result (start.now ++ (decimal_text CUE_UNIT number ++ behind ∷ [])) }
+    ensures { Puts K.Sink sink.old sink.new result (start.now ++ (decimal_text CUE_UNIT number ++ behind ∷ [])) }
 {
     sink.put_text(&Numeral {
         start,
@@ -107,7 +107,7 @@ pub fn put_cue_no_between<K: Sink>(
 /// Appends a level, 0 to 255: `H` and two hexadecimal digits, letters in upper case. 10 is `H0A`. This is the form of
 /// the ASCII text representation 3.0.
 pub fn put_level<K: Sink>(value: Level, sink: &mut K) -> Result<(), SinkFault>
-    ensures { Puts K.holds K.faults K.wants sink.old sink.new result (level_text value) }
+    ensures { Puts K.Sink sink.old sink.new result (level_text value) }
 {
     put_all(sink, &[b'H', hex_digit(value / 16), hex_digit(value % 16)])
 }
@@ -128,7 +128,7 @@ fn hex_digit(value: u8) -> u8
 fn put_decimal<K: Sink>(value: u32, unit: u32, sink: &mut K) -> Result<(), SinkFault>
     requires some { 0 < unit }
     requires few { unit ≤ 1000 }
-    ensures { Puts K.holds K.faults K.wants sink.old sink.new result (decimal_text unit value) }
+    ensures { Puts K.Sink sink.old sink.new result (decimal_text unit value) }
 {
     sink.put_text(&Numeral {
         start: b"",
@@ -148,7 +148,7 @@ fn put_decimal_and<K: Sink>(
 ) -> Result<(), SinkFault>
     requires some { 0 < unit }
     requires few { unit ≤ 1000 }
-    ensures { Puts K.holds K.faults K.wants sink.old sink.new result (decimal_text unit value ++ behind ∷ []) }
+    ensures { Puts K.Sink sink.old sink.new result (decimal_text unit value ++ behind ∷ []) }
 {
     sink.put_text(&Numeral {
         start: b"",

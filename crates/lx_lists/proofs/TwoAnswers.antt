@@ -5,6 +5,7 @@ use Rattle.lx_lists.proofs.Imports.{DeskState, Attempt, begun, tried, after_atte
 use Rattle.lx_lists.proofs.Imports.{first_answer, two_answer, frame_of_two, TwoMayFail, two_answering, frame_of, ExtendsText, IsLawful, OneAnswer, TurnAnswer}
 use Rattle.lx_lists.proofs.Imports.{allowed_some, with_reply_is, counted_so, TwoKept, TwoStand, TicksReach, Stays}
 use Rattle.lx_io.specs.Puts.{Puts}
+use Rattle.lx_io.specs.Told.{ToldBySink}
 use Rattle.lx_spec.specs.declared.Line.TheVariants as lines
 use Rattle.lx_session.specs.declared.tally.Tally.{Tally}
 use Rattle.lx_session.specs.LineReply.{reply_to, counts_after, counts_in}
@@ -44,12 +45,11 @@ for_second : (failed : Option ℕ) (s : Session TwoDesks) (line : List ℕ) → 
 for_second failed s line is =
     ap (λ (b : Bool). if b then second_answer failed s (second_meaning line) else first_answer failed s (line_of line)) is
 
-module _ {K T : Type 0} (holds : K → Option (List ℕ)) (faults wants : K → ℕ) (sink sink' : K) (result : Result T SinkFault)
+module _ {K T : Type 0} (told : ToldBySink K) (sink sink' : K) (result : Result T SinkFault)
     (s : Session TwoDesks) (line : List ℕ) (t : TwoKept) (tally : Tally) where
   pub answered_second : is_for_second line ≡ true
-      → TurnAnswer true (Stays s.state.first t.first) holds faults wants sink sink' result s.counts (begun s.state.second)
-      (second_meaning line) t.second tally
-      → OneAnswer two_answering holds faults wants sink sink' result s line (λ (state : TwoDesks). TwoStand state t) tally
+      → TurnAnswer true (Stays s.state.first t.first) told sink sink' result s.counts (begun s.state.second) (second_meaning line) t.second tally
+      → OneAnswer two_answering told sink sink' result s line (λ (state : TwoDesks). TwoStand state t) tally
   answered_second is a =
       let now : Attempt = record { state = a.now; refusal = a.refusal } in
       let next = on_second s (second_meaning line) now in
@@ -71,9 +71,8 @@ module _ {K T : Type 0} (holds : K → Option (List ℕ)) (faults wants : K → 
       }
 
   pub answered_first : is_for_second line ≡ false → frame_of (line_of line) ≡ None
-      → TurnAnswer true (TicksReach s.state.second t.second) holds faults wants sink sink' result s.counts (begun s.state.first)
-      (line_of line) t.first tally
-      → OneAnswer two_answering holds faults wants sink sink' result s line (λ (state : TwoDesks). TwoStand state t) tally
+      → TurnAnswer true (TicksReach s.state.second t.second) told sink sink' result s.counts (begun s.state.first) (line_of line) t.first tally
+      → OneAnswer two_answering told sink sink' result s line (λ (state : TwoDesks). TwoStand state t) tally
   answered_first is none a =
       let now : Attempt = record { state = a.now; refusal = a.refusal } in
       let next = on_first s (line_of line) now in
@@ -98,9 +97,8 @@ module _ {K T : Type 0} (holds : K → Option (List ℕ)) (faults wants : K → 
 
   -- a frame of both
   pub answered_frame : (u : ℕ) → is_for_second line ≡ false → line_of line ≡ Some (lines.Frame u) → TwoStand s.state t
-      → s.counts ≡ counts_in tally
-      → Puts holds faults wants sink sink' result (frame_text [] s.state.first.playback.moment u (frame_of_two s.state u))
-      → OneAnswer two_answering holds faults wants sink sink' result s line (λ (state : TwoDesks). TwoStand state t) tally
+      → s.counts ≡ counts_in tally → Puts told sink sink' result (frame_text [] s.state.first.playback.moment u (frame_of_two s.state u))
+      → OneAnswer two_answering told sink sink' result s line (λ (state : TwoDesks). TwoStand state t) tally
   answered_frame u is frame stand counts puts = record {
     next = with_text s (frame_text [] s.state.first.playback.moment u (frame_of_two s.state u));
     failed = None;

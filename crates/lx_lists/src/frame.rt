@@ -21,10 +21,10 @@ pub(crate) fn put_universe<K: Sink>(
     requires least { 1 ≤ universe }
     requires most { universe ≤ UNIVERSES }
     ensures text { (s : TwoDesks) → TwoStand s desk.now
-        → Puts K.holds K.faults K.wants sink.old sink.new result
+        → Puts K.Sink sink.old sink.new result
         (frame_text [] s.first.playback.moment universe (frame_of_two s universe)) }
     ensures more { IfOk result (λ more. more ≡ true) }
-    ensures cause { HasSinkCause K.faults K.wants sink.old sink.new result }
+    ensures cause { HasSinkCause K.Sink sink.old sink.new result }
 {
     let slots = slots_of(universe, desk.frames());
     put_frame(None, desk.moment(), universe, slots, sink)?;

@@ -38,11 +38,11 @@ pub fn two_session<S: Source, K: Sink>(
     requires within { bytes_taken lines.old ≤ INPUT_BYTES }
     ensures same_source { SameSource lines.old lines.new }
     ensures outcome { (state : TwoDesks) → TwoStand state desk.old
-        → IfSome (unread S.left lines.old)
+        → IfSome (unread S.Source lines.old)
         (λ bytes. ScriptAnswered two_answering (λ s. TwoStand s desk.new) state (bytes_taken lines.old) bytes
-        (unread S.left lines.new) (source_left S.left lines.new) (K.holds sink.old) (K.holds sink.new) result) }
-    ensures limit { IfSome (unread S.left lines.old) (λ bytes. KeepsLimit (bytes_taken lines.old) bytes result) }
-    ensures cause { HasSessionCause S.faults K.faults K.wants lines.old lines.new sink.old sink.new result }
+        (unread S.Source lines.new) (source_left S.Source lines.new) (K.holds sink.old) (K.holds sink.new) result) }
+    ensures limit { IfSome (unread S.Source lines.old) (λ bytes. KeepsLimit (bytes_taken lines.old) bytes result) }
+    ensures cause { HasSessionCause S.Source K.Sink lines.old lines.new sink.old sink.new result }
     ensures handed_on { OnOk result (K.back sink.new ≡ []) }
 {
     answer_lines(desk, lines, sink)
@@ -106,10 +106,10 @@ fn answer_second<K: Sink>(
     requires room { TallyHasRoom tally.old }
     ensures answered { (s : Session TwoDesks) (text : List ℕ) → TwoStand s.state desk.old → s.counts ≡ counts_in tally.old
         → IsRestFor text rest.now
-        → OneAnswer two_answering K.holds K.faults K.wants sink.old sink.new result s text (λ state. TwoStand state desk.new)
+        → OneAnswer two_answering K.Sink sink.old sink.new result s text (λ state. TwoStand state desk.new)
         tally.new }
     ensures more { IfOk result (λ more. more ≡ true) }
-    ensures cause { HasSinkCause K.faults K.wants sink.old sink.new result }
+    ensures cause { HasSinkCause K.Sink sink.old sink.new result }
     ensures counted { HasOneMore tally.old tally.new }
 {
     let mut turn = Turn::begin_second(rest);
@@ -128,10 +128,10 @@ fn answer_first<K: Sink>(
     requires room { TallyHasRoom tally.old }
     ensures answered { (s : Session TwoDesks) (text : List ℕ) → TwoStand s.state desk.old → s.counts ≡ counts_in tally.old
         → IsLine (option_copied line.entry) text → is_for_second text ≡ false
-        → OneAnswer two_answering K.holds K.faults K.wants sink.old sink.new result s text (λ state. TwoStand state desk.new)
+        → OneAnswer two_answering K.Sink sink.old sink.new result s text (λ state. TwoStand state desk.new)
         tally.new }
     ensures quit { IfOk result (λ more. (text : List ℕ) → IsLine (option_copied line.entry) text → more ≡ not (ends_script text)) }
-    ensures cause { HasSinkCause K.faults K.wants sink.old sink.new result }
+    ensures cause { HasSinkCause K.Sink sink.old sink.new result }
     ensures counted { HasOneMore tally.old tally.new }
 {
     let mut turn = Turn::begin(line);

@@ -1,12 +1,14 @@
 //! Which dimmers follow each channel.
 
 ghost use Rattle.std.specs.Prelude.{◌≡◌, ◌≢◌, ℕ, ◌<◌, ◌≤◌, ◌+◌, length, slice_index, IfOk};
+ghost use Rattle.lx_io.specs.Causes.{HasCause};
 ghost use Rattle.lx_base.specs.declared.TheConstants.{CHANNELS, SLOTS};
 ghost use Rattle.lx_base.specs.Numbers.{scaled};
 ghost use Rattle.lx_patch.specs.FollowerChains.{FollowsChannel, IsLinked, AreDarkFrom};
 
 use lx_base::{CHANNELS, LANES, Level, SLOTS, scale};
-use std::alloc::{AllocError, Global};
+use lx_io::{Heap, filled};
+use std::alloc::AllocError;
 
 /// The dimmers that follow each channel at more than 0, as chains: the first one of each channel, and after
 /// each dimmer the next one of its channel. A chain ends at `SLOTS`.
@@ -21,14 +23,15 @@ pub(crate) struct Followers {
 }
 
 impl Followers {
-    /// Chains without a dimmer. An error comes where memory runs out.
-    pub(crate) fn open(alloc: Global) -> Result<Followers, AllocError>
+    /// Chains without a dimmer. An error comes where the heap refuses memory.
+    pub(crate) fn open<H: Heap>(heap: &mut H) -> Result<Followers, AllocError>
         ensures first { IfOk result (λ followers. length followers.first.items ≡ CHANNELS) }
         ensures next { IfOk result (λ followers. length followers.next.items ≡ SLOTS) }
+        ensures cause { HasCause (H.refusals heap.old) (H.refusals heap.new) result }
     {
         Ok(Followers {
-            first: vec![in alloc; 0; CHANNELS as usize]?,
-            next: vec![in alloc; 0; SLOTS]?,
+            first: filled(heap, 0, CHANNELS as usize)?,
+            next: filled(heap, 0, SLOTS)?,
             top: 0,
         })
     }

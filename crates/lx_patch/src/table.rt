@@ -1,6 +1,7 @@
 //! A table of the patch.
 
 ghost use Rattle.std.specs.Prelude.{◌≡◌, ◌-◌, ◌≤◌, List, length, slice_index, IfOk};
+ghost use Rattle.lx_io.specs.Causes.{HasCause};
 ghost use Rattle.lx_base.specs.declared.TheConstants.{CHANNELS, SLOTS};
 ghost use Rattle.lx_spec.specs.declared.PatchRow.{PatchRow as Row};
 ghost use Rattle.lx_spec.specs.SortedList.{placed, taken_out};
@@ -13,6 +14,7 @@ use crate::followers::Followers;
 use crate::slots::fill;
 use crate::wiring::Wiring;
 use lx_base::{Dimmer, LANES, Level, SLOTS, next_change};
+use lx_io::{Heap, SystemHeap};
 use lx_show::{PatchRow, Show};
 use std::alloc::{AllocError, Global};
 use std::marker::Model;
@@ -47,9 +49,17 @@ impl PatchTable {
     pub fn open(alloc: Global, show: &Show) -> Result<PatchTable, AllocError>
         ensures { IfOk result (StandsForPatch show.now.patch) }
     {
-        let mut wiring = Wiring::open(alloc)?;
+        PatchTable::open_in(&mut SystemHeap::new(alloc), show)
+    }
+
+    /// The same, by a heap. An error comes where the heap refuses memory.
+    pub fn open_in<H: Heap>(heap: &mut H, show: &Show) -> Result<PatchTable, AllocError>
+        ensures stands { IfOk result (StandsForPatch show.now.patch) }
+        ensures cause { HasCause (H.refusals heap.old) (H.refusals heap.new) result }
+    {
+        let mut wiring = Wiring::open(heap)?;
         wiring.refresh(show);
-        let mut followers = Followers::open(alloc)?;
+        let mut followers = Followers::open(heap)?;
         followers.link(wiring.places(), wiring.levels());
         Ok(PatchTable { wiring, followers })
     }

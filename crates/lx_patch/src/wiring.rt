@@ -1,14 +1,16 @@
 //! The channel and the level of each dimmer.
 
 ghost use Rattle.std.specs.Prelude.{◌≡◌, ◌<◌, ℕ, List, length, slice_index};
+ghost use Rattle.lx_io.specs.Causes.{HasCause};
 ghost use Rattle.lx_base.specs.declared.TheConstants.{CHANNELS, SLOTS};
 ghost use Rattle.lx_spec.specs.declared.PatchRow.{PatchRow as Row};
 ghost use Rattle.lx_spec.specs.SortedList.{placed, taken_out};
 ghost use Rattle.lx_patch.specs.DimmerTable.{StandsForPatch};
 
 use lx_base::{Dimmer, Level, SLOTS};
+use lx_io::{Heap, filled};
 use lx_show::{PatchRow, Show};
-use std::alloc::{AllocError, Global};
+use std::alloc::AllocError;
 use std::marker::Model;
 
 /// What each dimmer follows, and in which proportion.
@@ -31,11 +33,13 @@ impl Model for Wiring {
 }
 
 impl Wiring {
-    /// No dimmer follows a channel. An error comes where memory runs out.
-    pub(crate) fn open(alloc: Global) -> Result<Wiring, AllocError> {
+    /// No dimmer follows a channel. An error comes where the heap refuses memory.
+    pub(crate) fn open<H: Heap>(heap: &mut H) -> Result<Wiring, AllocError>
+        ensures cause { HasCause (H.refusals heap.old) (H.refusals heap.new) result }
+    {
         Ok(Wiring {
-            places: vec![in alloc; 0; SLOTS]?,
-            levels: vec![in alloc; 0; SLOTS]?,
+            places: filled(heap, 0, SLOTS)?,
+            levels: filled(heap, 0, SLOTS)?,
         })
     }
 

@@ -2,6 +2,7 @@
 
 ghost use Rattle.std.specs.Prelude.{◌≡◌, ℕ, ◌+◌, ◌-◌, ◌/◌, ◌<◌, ◌≤◌, ◌==◌, [], ◌∷◌, None, min, not, reverse, length, nat_le, IfOk, IsTrue, IsFalse};
 ghost use Rattle.std.specs.List.{All, list_all};
+ghost use Rattle.lx_io.specs.Causes.{HasCause};
 ghost use Rattle.lx_spec.specs.Run.{extent};
 ghost use Rattle.lx_spec.specs.Playback.{at_opening, position_of, has_room, is_over, is_due, at_rest};
 ghost use Rattle.lx_base.specs.declared.TheConstants.{TICK_END, TICK_STEP};
@@ -10,6 +11,7 @@ ghost use Rattle.lx_playback.specs.Valid.{OldestFirst, ValidPlayback, ValidRun};
 
 use crate::run::Run;
 use lx_base::{CueNo, Moment, RUNS, TICK_END, TICK_STEP};
+use lx_io::{Heap, SystemHeap};
 use std::alloc::{AllocError, Global};
 use std::marker::Model;
 
@@ -45,10 +47,18 @@ impl Playback {
     pub fn open(alloc: Global) -> Result<Playback, AllocError>
         ensures { IfOk result (λ playback. playback ≡ at_opening) }
     {
+        Playback::open_in(&mut SystemHeap::new(alloc))
+    }
+
+    /// The same, by a heap. An error comes where the heap refuses memory.
+    pub fn open_in<H: Heap>(heap: &mut H) -> Result<Playback, AllocError>
+        ensures playback { IfOk result (λ playback. playback ≡ at_opening) }
+        ensures cause { HasCause (H.refusals heap.old) (H.refusals heap.new) result }
+    {
         Ok(Playback {
             moment: 0,
             base: before_first(),
-            live: Vec::with_capacity(alloc, RUNS)?,
+            live: heap.room(RUNS)?,
             pending: None,
             over_at: 0,
         })

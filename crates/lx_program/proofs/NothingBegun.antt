@@ -3,17 +3,18 @@ use Rattle.lx_program.proofs.Imports.{Option, List, ℕ, refl, inl, Form, Script
 use Rattle.lx_desk.specs.declared.desk.Status.TheVariants as status
 use Rattle.lx_desk.specs.Live.{HasLived}
 use Rattle.lx_desk.specs.Crew.{HasCrewEnded}
+use Rattle.lx_io.specs.Told.{ToldBySink, ToldBySource}
 
-pub none_lived : {K : Type 0} (holds : K → Option (List ℕ)) (back : K → List ℕ) (faults wants : K → ℕ) (universes : ℕ) (form : Form)
+pub none_lived : {K : Type 0} (told : ToldBySink K) (universes : ℕ) (form : Form)
     (bytes : List ℕ) (left held : Option (List ℕ)) (outlets : List (Option K))
-    → HasLived status.Memory holds back faults wants universes form bytes left held held outlets outlets
-none_lived holds back faults wants universes form bytes left held outlets =
+    → HasLived status.Memory told universes form bytes left held held outlets outlets
+none_lived told universes form bytes left held outlets =
     (unwritten (Script (Live universes) form) bytes held, inl (refl, λ read. refl))
 
-pub none_served : {S : Type 0} (lefts : S → Option (List ℕ)) (faults : S → ℕ) (count : ℕ) (form : Form) (bytes : List ℕ)
+pub none_served : {S : Type 0} (told : ToldBySource S) (count : ℕ) (form : Form) (bytes : List ℕ)
     (left held : Option (List ℕ)) (operators : List (Option S))
-    → HasCrewEnded lefts faults count form bytes left operators operators held held status.Memory
-none_served lefts faults count form bytes left held operators = inl (record {
+    → HasCrewEnded told count form bytes left operators operators held held status.Memory
+none_served told count form bytes left held operators = inl (record {
   isnt_ok = λ odd. cc;
   isnt_live = λ odd. cc;
   ended = unwritten (Crew count form) bytes held;

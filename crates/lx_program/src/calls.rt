@@ -52,8 +52,8 @@ pub fn desk<S: Source, K: Sink>(
     // handed on. Memory is told only before anything is written, or where the output itself is out of memory; and never where a
     // word begins with a dash.
     ensures cause { HasCauseOf result (S.faults input.old) (S.faults input.new) (K.faults output.old) (K.faults output.new) }
-    ensures finished { Finishes (S.faults input.old) (S.faults input.new) K.faults K.wants K.back output.old output.new result }
-    ensures memory { HasWanted K.wants output.old output.new result }
+    ensures finished { Finishes (S.faults input.old) (S.faults input.new) K.Sink output.old output.new result }
+    ensures memory { HasWanted K.Sink output.old output.new result }
     ensures dash { list_any begins_with_dash (map string_bytes words.now) ≡ true → result ≡ Status.Usage }
 
     // `make` reads nothing.
@@ -95,26 +95,26 @@ pub fn desk_live<
     requires full { IsFull outlets.old }
     // Usage exactly where the words name no live run, unless memory ran out, and then nothing is read or written.
     // The outlets past the universes are never touched.
-    ensures outlets { KeepsOutlets K.holds K.back K.faults K.wants (job_of (map string_bytes words.now)) result input.old input.new output.old
+    ensures outlets { KeepsOutlets K.Sink (job_of (map string_bytes words.now)) result input.old input.new output.old
         output.new outlets.old outlets.new }
 
     // What was read and written, by the status: with Ok the whole output, and each outlet up to the version of all accepted commands.
     // After a fault each outlet has what was published of the commands of the lines that were answered. By it and by `order`
     // Memory refuses only edits, as said above.
     ensures ended { OfRun (job_of (map string_bytes words.now)) (S.left input.old)
-        (λ universes form bytes. HasLived result K.holds K.back K.faults K.wants universes form bytes (S.left input.new) (O.holds output.old)
+        (λ universes form bytes. HasLived result K.Sink universes form bytes (S.left input.new) (O.holds output.old)
         (O.holds output.new) outlets.old outlets.new) }
 
     // ReadFault and WriteFault have their causes, and faults are told in their order. With Ok and ShowRefused no fault was passed over,
     // and all that was written on the output is handed on.
-    ensures cause { HasLiveCause K.faults result (S.faults input.old) (S.faults input.new) (O.faults output.old) (O.faults output.new)
+    ensures cause { HasLiveCause K.Sink result (S.faults input.old) (S.faults input.new) (O.faults output.old) (O.faults output.new)
         outlets.old outlets.new }
     ensures order { OfRun (job_of (map string_bytes words.now)) (S.left input.old)
-        (λ universes form bytes. DecidesInOrder result (S.faults input.old) (S.faults input.new) O.faults O.wants output.old output.new
+        (λ universes form bytes. DecidesInOrder result (S.faults input.old) (S.faults input.new) O.Sink output.old output.new
         outlets.old outlets.new
-        (λ Told. LivesToEnd Told K.holds K.back K.faults K.wants universes form bytes (O.holds output.old) (O.holds output.new)
+        (λ Told. LivesToEnd Told K.Sink universes form bytes (O.holds output.old) (O.holds output.new)
         outlets.old outlets.new)) }
-    ensures finished { Finishes (S.faults input.old) (S.faults input.new) O.faults O.wants O.back output.old output.new result }
+    ensures finished { Finishes (S.faults input.old) (S.faults input.new) O.Sink output.old output.new result }
 {
     match live_run_of(alloc, words) {
         Ok((universes, form)) => {
@@ -152,18 +152,18 @@ pub fn desk_crew<R: Threads + Wait + Sync, I: Source, S: Source + Send + Drop, K
     // After a fault of an operator it has those of its lines that were taken whole; after a fault of the output it is a prefix of such a text.
     // A show that is refused, or couldn't be read, ends as another job's, and no operator's source is read.
     ensures ended { OfCrew (job_of (map string_bytes words.now)) (I.left input.old)
-        (λ count form bytes. HasCrewEnded S.left S.faults count form bytes (I.left input.new) operators.old operators.new
+        (λ count form bytes. HasCrewEnded S.Source count form bytes (I.left input.new) operators.old operators.new
         (K.holds output.old) (K.holds output.new) result) }
 
     // After every status it is a prefix of such a text, or of the line of a refused show.
     ensures prefix { OfCrew (job_of (map string_bytes words.now)) (I.left input.old)
-        (λ count form bytes. WritesCrewFront S.left count operators.old (K.holds output.old) (K.holds output.new) (reads form bytes)) }
+        (λ count form bytes. WritesCrewFront S.Source count operators.old (K.holds output.old) (K.holds output.new) (reads form bytes)) }
 
     // ReadFault and WriteFault have their causes. With Ok and ShowRefused no fault of the input or the output was passed over, and all
     // that was written is handed on. Memory is told only before anything is written, or where the output itself is out of memory.
-    ensures finished { Finishes (I.faults input.old) (I.faults input.new) K.faults K.wants K.back output.old output.new result }
-    ensures memory { HasWanted K.wants output.old output.new result }
-    ensures cause { HasCrewCause S.faults result (I.faults input.old) (I.faults input.new) (K.faults output.old) (K.faults output.new)
+    ensures finished { Finishes (I.faults input.old) (I.faults input.new) K.Sink output.old output.new result }
+    ensures memory { HasWanted K.Sink output.old output.new result }
+    ensures cause { HasCrewCause S.Source result (I.faults input.old) (I.faults input.new) (K.faults output.old) (K.faults output.new)
         (in_use (job_of (map string_bytes words.now))) operators.old operators.new }
 {
     match crew_of(alloc, words) {

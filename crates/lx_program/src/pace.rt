@@ -15,7 +15,7 @@ const LONG_PAUSE: u64 = 1_000_000_000;
 
 /// The pace of the desk's clock. The n-th beat ends n times 20 milliseconds after the start, by the machine's steady clock, or at
 /// once where that is past: so beats don't drift, and an engine that is late catches up. Where more than a second went by since
-/// the last beat ended, the pace starts again. A worker waits 2 milliseconds between two looks for something new.
+/// the last beat ended, the pace starts again.
 #[derive(Drop)]
 pub struct DeskPace<'r, R> {
     rt: &'r R,
@@ -66,10 +66,6 @@ impl<R: Clock> Pace for DeskPace<'_, R> {
         if self.keep_time().is_err() {
             thread::sleep(self.rt, Duration::from_nanos(BEAT));
         }
-    }
-
-    fn pause(&self) {
-        thread::sleep(self.rt, Duration::from_millis(2));
     }
 
     fn taken(&self, _universe: u8, _count: u64) {}

@@ -14,7 +14,7 @@ pub use Rattle.lx_lex.specs.LinesHandedOut.{HandedOut}
 pub use Rattle.lx_lex.specs.Unread.{current_line, unread}
 pub use Rattle.lx_lex.specs.declared.lines.Lines.{Lines}
 pub use Rattle.lx_reader.specs.Answer.{AnswerOf, CutShort, FaultOf, HasRead, IsLoaded, OfText, reading_of, TurnOf}
-pub use Rattle.lx_reader.specs.FieldLists.{all_pairs, all_triples, FirstIsMember, FirstIsRow, next_times, onto, record_number}
+pub use Rattle.lx_reader.specs.FieldLists.{all_pairs, all_triples, FirstIsMember, FirstIsRow, FirstIsWord, next_times, onto, record_number}
 pub use Rattle.lx_reader.specs.HandedLines.{IsCutShort, IsPastLimit, MeansFault, MeansShow}
 pub use Rattle.lx_reader.specs.LineOfCue.{ChangesCue, CueSays, facts_at, HasParts, HasRanges, is_own, LabelSays}
 pub use Rattle.lx_reader.specs.LineOutcome.{CanGoOn, facts_of, IsStep, Outcome, Said, state_of}
@@ -76,3 +76,4 @@ pub use Rattle.std.proofs.lemmas.List.Sums.{count_by-le-length, fold-append, fol
 pub use Rattle.std.specs.List.{after_last, AllByRecursion, cons_option, last_or, list_any, position_or_len, prefix_len, range_with_len, suffix_len}
 pub use Rattle.std.specs.Option.{IsSomeAnd, option_map_or}
 pub use Rattle.std.specs.Result.{IsErrAnd, IsOkAnd}
+pub use Rattle.lx_io.specs.Told.{ToldBySource}

@@ -1,7 +1,14 @@
--- A line of levels, known by its first bytes.
-use Rattle.lx_reader.proofs.Imports.{◌≡◌, ◌≤◌, Bool, true, false, cond, List, ◌∷◌, length, Err, refl, ap, ◌∙◌, ℕ, ◌&&◌, codes}
-use Rattle.lx_reader.proofs.Imports.{LINE_BYTES, Move, Section, NoRecord, InCue, InGroup, InSub, Skipping, LineTooLong, Facts, levels, entry_by_tokens}
-use Rattle.lx_reader.proofs.Imports.{entry_by_word, entry_of, Show, tokens, lt_false, Open, OpenFits, is_open, is_record}
+-- Lines known by their first word or by their first bytes.
+use Rattle.lx_reader.proofs.Imports.{◌≡◌, ◌≤◌, Bool, true, false, cond, List, [], ◌∷◌, ◌++◌, filter, length, Err, refl, ap, sym, ◌∙◌, ℕ, ◌&&◌, codes, take, take_all, arith}
+use Rattle.lx_reader.proofs.Imports.{LINE_BYTES, Move, Section, NoRecord, InCue, InGroup, InSub, Skipping, LineTooLong, Facts, Word, levels, entry_by_tokens}
+use Rattle.lx_reader.proofs.Imports.{entry_by_word, entry_of, FirstIsWord, Show, tokens, lt_false, Open, OpenFits, is_open, is_record}
+use Rattle.std.proofs.Common.{◌-◌, drop, eqb, length-drop}
+use Rattle.std.proofs.lemmas.Bool.Decides.{Decides-eqb}
+use Rattle.std.proofs.lemmas.Slice.Eq.{starts_is}
+use Rattle.std.proofs.lemmas.List.Splits.{slice_split-cons_yes, slice_split-cons_no}
+use Rattle.std.specs.List.{before_first, onto_first, slice_split, starts_with}
+use Rattle.lx_lex.proofs.LineCuts.{before_first-no}
+use Rattle.lx_spec.specs.Text.{begins_comment, is_filled, is_separator}
 use Rattle.lx_spec.specs.declared.Word.TheVariants as words
 use Rattle.lx_reader.specs.declared.open_record.Open.TheVariants as open_records
 
@@ -25,10 +32,50 @@ levels_in_record facts line rest (InCue n) is = refl
 levels_in_record facts line rest (InGroup g) is = refl
 levels_in_record facts line rest (InSub s) is = refl
 
+-- what a line says goes by its first word
+pub entry_by_first : (facts : Facts) (line : List ℕ) (word : Word) (rest : List (List ℕ)) → length line ≤ LINE_BYTES
+    → FirstIsWord (tokens line) word rest → entry_of facts line ≡ entry_by_word facts line word rest
+entry_by_first facts line word rest short first =
+    ap (λ b. cond b (Err (LineTooLong facts.number)) (entry_by_tokens facts line (tokens line))) (lt_false LINE_BYTES (length line) short)
+    ∙ ap (entry_by_tokens facts line) first.first
+    ∙ ap (λ w. entry_by_word facts line w rest) first.is_word
+
 pub levels_entry : (facts : Facts) (line : List ℕ) (rest : List (List ℕ)) → length line ≤ LINE_BYTES → tokens line ≡ codes "CHAN" ∷ rest
     → facts.identified ≡ true → is_record facts.section ≡ true → entry_of facts line ≡ levels facts.limits facts.number rest
 levels_entry facts line rest short cut identified inside =
-    ap (λ b. cond b (Err (LineTooLong facts.number)) (entry_by_tokens facts line (tokens line))) (lt_false LINE_BYTES (length line) short)
-    ∙ ap (entry_by_tokens facts line) cut
+    entry_by_first facts line words.Chan rest short (record { token = codes "CHAN"; is_word = refl; first = cut })
     ∙ (λ j. entry_by_word (record facts { identified = identified j }) line words.Chan rest)
     ∙ levels_in_record facts line rest facts.section inside
+
+-- the pieces of a line between separators, before the comment
+abbrev pieces : List ℕ → List (List ℕ)
+pieces line = slice_split is_separator (before_first begins_comment line)
+
+piece_on : (b : ℕ) (line : List ℕ) → is_separator b ≡ false → begins_comment b ≡ false → pieces (b ∷ line) ≡ onto_first b (pieces line)
+piece_on b line other no_mark =
+    ap (slice_split is_separator) (before_first-no begins_comment b line no_mark)
+    ∙ slice_split-cons_no is_separator b (before_first begins_comment line) other
+
+piece_ends : (b : ℕ) (line : List ℕ) → is_separator b ≡ true → begins_comment b ≡ false → pieces (b ∷ line) ≡ [] ∷ pieces line
+piece_ends b line separates no_mark =
+    ap (slice_split is_separator) (before_first-no begins_comment b line no_mark)
+    ∙ slice_split-cons_yes is_separator b (before_first begins_comment line) separates
+
+rows_cut : (rest : List ℕ) → tokens (codes "PATCH " ++ rest) ≡ codes "PATCH" ∷ tokens rest
+rows_cut rest =
+    ap (filter is_filled) (piece_on 80 (codes "ATCH " ++ rest) refl refl
+    ∙ ap (onto_first 80) (piece_on 65 (codes "TCH " ++ rest) refl refl
+    ∙ ap (onto_first 65) (piece_on 84 (codes "CH " ++ rest) refl refl
+    ∙ ap (onto_first 84) (piece_on 67 (codes "H " ++ rest) refl refl
+    ∙ ap (onto_first 67) (piece_on 72 (codes " " ++ rest) refl refl
+    ∙ ap (onto_first 72) (piece_ends 32 rest refl refl))))))
+
+-- a line that begins with PATCH and a space
+pub rows_tokens : (line : List ℕ) → starts_with eqb line (codes "PATCH ") ≡ true
+    → tokens line ≡ codes "PATCH" ∷ tokens (take (length line - 6) (drop 6 line))
+rows_tokens line begins =
+    let is : line ≡ codes "PATCH " ++ drop 6 line
+    = (starts_is Decides-eqb line (codes "PATCH ") (starts_with eqb line (codes "PATCH ")) refl).0 begins in
+    ap tokens is
+    ∙ rows_cut (drop 6 line)
+    ∙ ap (λ xs. codes "PATCH" ∷ tokens xs) (sym (take_all (length line - 6) (drop 6 line) (rw length-drop (omega arith))))

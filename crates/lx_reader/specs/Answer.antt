@@ -1,7 +1,7 @@
 -- What reading a show from the lines of a source comes to.
 use Rattle.std.specs.Prelude.{◌≡◌, ◌≤◌, ◌⊎◌, ℕ, ◌+◌, Result, Ok, Err, List, [], ◌∷◌, IfSome}
-use Rattle.std.specs.declared.option.Option.{Option}
 use Rattle.std.specs.Io.KnownBytes.{IsAtEnd}
+use Rattle.lx_io.specs.Told.{ToldBySource}
 use Rattle.lx_spec.specs.declared.TextFault.{TextFault}
 use Rattle.lx_spec.specs.declared.TextFault.TheVariants.{NoEndData}
 use Rattle.lx_spec.specs.declared.Form.{Form}
@@ -28,9 +28,9 @@ abbrev pub reading_of : Loaded → Reading
 reading_of loaded = record { show = loaded.show; skipped = loaded.skipped; first_skipped = loaded.first_skipped }
 
 -- the lines up to ENDDATA were handed out, and mean what was read, which is valid
-pub record HasRead {S : Type 0} (left : S → Option (List ℕ)) (faults : S → ℕ) (old new : Lines S) (form : Form) (loaded : Loaded)
+pub record HasRead {S : Type 0} (told : ToldBySource S) (old new : Lines S) (form : Form) (loaded : Loaded)
     : Type 0 where
-  pub means : MeansShow left faults old new form (reading_of loaded)
+  pub means : MeansShow told old new form (reading_of loaded)
   pub valid : Valid loaded.show
 
 -- what holds of a fault: of a text, of an input that is too long, or of a read
@@ -41,33 +41,29 @@ OfText P long cut faults.ReadFault = cut
 OfText P long cut other = Unit {0}
 
 -- the lines that were taken whole are too few
-abbrev pub CutShort : {S : Type 0} → (S → Option (List ℕ)) → Lines S → Lines S → Type 0
-CutShort left old new = IfSome (unread left old) (λ bytes. IsCutShort old.taken bytes (left new.source.now))
+abbrev pub CutShort : {S : Type 0} → ToldBySource S → Lines S → Lines S → Type 0
+CutShort told old new = IfSome (unread told old) (λ bytes. IsCutShort old.taken bytes (told.left new.source.now))
 
 -- what the answer says: the show, or the first fault of the text, or that there was none before the input was too long or a read failed
-abbrev pub AnswerOf : {S : Type 0} → (S → Option (List ℕ)) → (S → ℕ) → Lines S → Lines S → Form → Result Loaded ShowFault → Type 0
-AnswerOf left rises old new form (Ok loaded) = HasRead left rises old new form loaded
-AnswerOf left rises old new form (Err fault) =
-    OfText (MeansFault left old form)
-    (IfSome (unread left old) (IsPastLimit old.taken) × CutShort left old new)
-    (CutShort left old new) fault
+abbrev pub AnswerOf : {S : Type 0} → ToldBySource S → Lines S → Lines S → Form → Result Loaded ShowFault → Type 0
+AnswerOf told old new form (Ok loaded) = HasRead told old new form loaded
+AnswerOf told old new form (Err fault) =
+    OfText (MeansFault told old form) (IfSome (unread told old) (IsPastLimit old.taken) × CutShort told old new) (CutShort told old new) fault
 
 -- the line that was handed out has the fault, or no line is left
-abbrev pub FaultOf : {S : Type 0} → (S → Option (List ℕ)) → (S → ℕ) → Lines S → Lines S → Reader → TextFault → Type 0
-FaultOf left rises old new r fault =
-    ((raw : List ℕ) × HandedOut left rises old new (raw ∷ []) × (entry_of (facts_of r (old.number + 1)) (without_cr raw) ≡ Err fault))
-    ⊎ (IsAtEnd (unread left old) × (fault ≡ NoEndData (old.number + 1)))
+abbrev pub FaultOf : {S : Type 0} → ToldBySource S → Lines S → Lines S → Reader → TextFault → Type 0
+FaultOf told old new r fault =
+    ((raw : List ℕ) × HandedOut told old new (raw ∷ []) × (entry_of (facts_of r (old.number + 1)) (without_cr raw) ≡ Err fault))
+    ⊎ (IsAtEnd (unread told old) × (fault ≡ NoEndData (old.number + 1)))
 
 -- what one line comes to: it was handed out and taken up, or has a fault, or isn't there
-abbrev pub TurnOf : {S : Type 0} → (S → Option (List ℕ)) → (S → ℕ) → Lines S → Lines S → Reader → Reader → Result (Unit {0}) ShowFault
-    → Type 0
-TurnOf left rises old new r q (Ok done) =
-    (raw : List ℕ) × HandedOut left rises old new (raw ∷ [])
+abbrev pub TurnOf : {S : Type 0} → ToldBySource S → Lines S → Lines S → Reader → Reader → Result (Unit {0}) ShowFault → Type 0
+TurnOf told old new r q (Ok done) =
+    (raw : List ℕ) × HandedOut told old new (raw ∷ [])
     × Outcome r q (old.number + 1) (Ok done) (entry_of (facts_of r (old.number + 1)) (without_cr raw))
-TurnOf left rises old new r q (Err fault) =
-    OfText (FaultOf left rises old new r)
-    (StepOf steps.InputTooLong (unread left old) (unread left new) old.taken new.taken (current_line new))
-    (NotTaken left old new) fault
+TurnOf told old new r q (Err fault) =
+    OfText (FaultOf told old new r) (StepOf steps.InputTooLong (unread told old) (unread told new) old.taken new.taken (current_line new))
+    (NotTaken told old new) fault
 
 -- what was read, by its form; only memory may run out
 pub record HasLoaded (form : Form) (r : Reader) (loaded : Loaded) : Type 0 where

@@ -6,9 +6,11 @@ use Rattle.lx_spec.specs.declared.Bad.TheVariants.{Shape, Range}
 use Rattle.lx_spec.specs.declared.Member.{Member}
 use Rattle.lx_spec.specs.declared.PatchRow.{PatchRow}
 use Rattle.lx_spec.specs.declared.TextFault.{TextFault}
+use Rattle.lx_spec.specs.declared.Word.{Word}
 use Rattle.lx_spec.specs.declared.TextFault.TheVariants.{BadNumber, OutOfRange, ShortList}
 use Rattle.lx_spec.specs.Limits.{desk_limits}
 use Rattle.lx_spec.specs.FirstRefusal.{◌>>=◌}
+use Rattle.lx_spec.specs.FirstWord.{word_of}
 use Rattle.lx_spec.specs.Numerals.{read_level, read_time, read_whole}
 use Rattle.lx_spec.specs.Fields.{pairs, triples, number, next, delay_at, is_page_one}
 
@@ -70,3 +72,15 @@ pub record FirstIsRow (all : List (List ℕ)) (row : PatchRow) (others : List (L
   pub dimmer : read_whole 1 DIMMERS dimmer_token ≡ Ok row.dimmer
   pub level : read_level level_token ≡ Ok row.level
   pub first : all ≡ chan_token ∷ dimmer_token ∷ level_token ∷ others
+
+-- a token that is this word, and then the others
+pub record FirstIsWord (all : List (List ℕ)) (word : Word) (others : List (List ℕ)) : Type 0 where
+  pub token : List ℕ
+  pub is_word : word_of token ≡ word
+  pub first : all ≡ token ∷ others
+
+-- a page's token, which is page 1 or not, and then the others
+pub record FirstIsPage (all : List (List ℕ)) (one : Bool) (others : List (List ℕ)) : Type 0 where
+  pub token : List ℕ
+  pub is_one : is_page_one (token ∷ []) ≡ one
+  pub first : all ≡ token ∷ others

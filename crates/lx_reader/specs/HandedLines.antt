@@ -3,6 +3,7 @@ use Rattle.std.specs.Prelude.{◌≡◌, ◌⊎◌, ℕ, ◌+◌, ◌<◌, Ok, E
 use Rattle.std.specs.declared.option.Option.{Option}
 use Rattle.std.specs.Io.KnownBytes.{IsAtEnd}
 use Rattle.lx_base.specs.declared.TheConstants.{INPUT_BYTES}
+use Rattle.lx_io.specs.Told.{ToldBySource}
 use Rattle.lx_spec.specs.declared.Form.{Form}
 use Rattle.lx_spec.specs.declared.Form.TheVariants.{Moves}
 use Rattle.lx_spec.specs.Limits.{desk_limits}
@@ -18,28 +19,28 @@ use Rattle.lx_lex.specs.Unread.{unread}
 
 -- The lines up to ENDDATA, each without its LF, were handed out, and this is what they mean. Where the source tells its bytes, it is
 -- what its text means, of which no further line is wanted for the show, and the script is the lines that are left.
-pub record MeansShow {S : Type 0} (left : S → Option (List ℕ)) (faults : S → ℕ) (old new : Lines S) (form : Form) (reading : Reading)
+pub record MeansShow {S : Type 0} (told : ToldBySource S) (old new : Lines S) (form : Form) (reading : Reading)
     : Type 0 where
   pub front : List (List ℕ)
   pub last : List ℕ
-  pub handed : HandedOut left faults old new (front ++ last ∷ [])
+  pub handed : HandedOut told old new (front ++ last ∷ [])
   pub lines : reads_lines desk_limits form (map without_cr (front ++ last ∷ [])) ≡ Ok reading
-  pub text : IfSome (unread left old) (λ bytes. reads form bytes ≡ Ok reading)
-  pub wanted : IfSome (unread left old) (λ bytes. lines_read (lines_of bytes) ≡ length front + 1)
-  pub script : IfSome (unread left old) (λ bytes. IfSome (unread left new) (λ rest. script_of bytes ≡ lines_of rest))
+  pub text : IfSome (unread told old) (λ bytes. reads form bytes ≡ Ok reading)
+  pub wanted : IfSome (unread told old) (λ bytes. lines_read (lines_of bytes) ≡ length front + 1)
+  pub script : IfSome (unread told old) (λ bytes. IfSome (unread told new) (λ rest. script_of bytes ≡ lines_of rest))
 
 -- These lines were handed out, and the last of them has the fault, or nothing is left after them. Where the source tells its bytes,
 -- it is the fault of its text, of which this many lines are wanted.
-pub record MeansFault {S : Type 0} (left : S → Option (List ℕ)) (old : Lines S) (form : Form) (fault : TextFault) : Type 0 where
+pub record MeansFault {S : Type 0} (told : ToldBySource S) (old : Lines S) (form : Form) (fault : TextFault) : Type 0 where
   pub raws : List (List ℕ)
   pub unread_then : Option (List ℕ)
   pub taken_then : ℕ
-  pub took : LinesBetween (unread left old) unread_then old.taken taken_then raws
+  pub took : LinesBetween (unread told old) unread_then old.taken taken_then raws
   pub count : ℕ
   pub whole : (length raws ≡ count) ⊎ IsAtEnd unread_then
   pub lines : reads_lines desk_limits form (map without_cr raws) ≡ Err fault
-  pub text : IfSome (unread left old) (λ bytes. reads form bytes ≡ Err fault)
-  pub wanted : IfSome (unread left old) (λ bytes. lines_read (lines_of bytes) ≡ count)
+  pub text : IfSome (unread told old) (λ bytes. reads form bytes ≡ Err fault)
+  pub wanted : IfSome (unread told old) (λ bytes. lines_read (lines_of bytes) ≡ count)
 
 -- the first n lines don't end the reading, so that more are wanted, and the next one has a byte past the limit of the input
 pub record IsPastLimit (taken : ℕ) (bytes : List ℕ) : Type 0 where

@@ -16,7 +16,7 @@ pub enum ShowFault {
     /// The input is longer than 67,108,864 bytes.
     #[error("the input is too long")]
     InputTooLong,
-    /// There was no memory.
+    /// There was no memory. Only where the heap refused some.
     #[error("out of memory")]
     Memory,
 }

@@ -20,4 +20,4 @@ mod word;
 
 pub use fault::ShowFault;
 pub use loaded::Loaded;
-pub use pass::read_show;
+pub use pass::{read_show, read_show_in};

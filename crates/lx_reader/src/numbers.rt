@@ -1,6 +1,6 @@
 //! The numbers of a line, by their ranges, and the faults of those that it lacks.
 
-ghost use Rattle.std.specs.Prelude.{◌≡◌, ◌∷◌, [], IfOk};
+ghost use Rattle.std.specs.Prelude.{◌≡◌, ◌∷◌, [], IfOk, MatchOption};
 ghost use Rattle.lx_base.specs.declared.TheConstants.{CHANNELS, GROUPS, PARTS, SUBS};
 ghost use Rattle.lx_spec.specs.Limits.{desk_limits};
 ghost use Rattle.lx_spec.specs.Numerals.{read_cue_no, read_time, read_whole};
@@ -8,7 +8,7 @@ ghost use Rattle.lx_spec.specs.Fields.{delay_at, is_page_one, number};
 ghost use Rattle.lx_spec.specs.Show.{IsTime};
 ghost use Rattle.lx_lex.specs.Left.{left};
 ghost use Rattle.lx_reader.specs.FieldLists.{token_fault};
-ghost use Rattle.lx_reader.specs.FieldLists.{next_number, next_times, record_number};
+ghost use Rattle.lx_reader.specs.FieldLists.{FirstIsPage, next_number, next_times, record_number};
 
 use lx_base::{Chan, Cs, CueNo, GroupNo, PartNo, SubNo};
 use lx_lex::{
@@ -112,8 +112,19 @@ fn is_page_one(mut tokens: Tokens) -> bool
     }
 }
 
+/// Takes the page of a line, and says whether it is page 1. None where no token is left.
+#[inline(always)]
+pub(crate) fn take_page(tokens: &mut Tokens) -> Option<bool>
+    ensures { MatchOption result (left tokens.old ≡ []) (λ one. FirstIsPage (left tokens.old) one (left tokens.new)) }
+{
+    match tokens.take_number() {
+        Some(page) => Some(page == 1),
+        None => Some(is_one(tokens.next()?)),
+    }
+}
+
 /// The token is the page 1.
-pub(crate) fn is_one(page: &[u8]) -> bool
+fn is_one(page: &[u8]) -> bool
     ensures { result ≡ is_page_one (page.now ∷ []) }
 {
     read_whole(page, 1, 1).is_ok()

@@ -1,9 +1,10 @@
 //! The levels of the record that is open, as moves by channel: a level takes one write, however many the record has.
 
 ghost use Rattle.std.specs.Prelude.{◌≡◌, ◌≤◌, ℕ, ◌<◌, ◌+◌, ◌++◌, ◌∷◌, [], Err, false, true, is_some, length, max, slice_get, take, if◌then◌else◌};
-ghost use Rattle.std.specs.Prelude.{IfOk, IfErr, IfSome, OnOk};
+ghost use Rattle.std.specs.Prelude.{IfOk, IfErr, IfSome, OnOk, vec_capacity};
 ghost use Rattle.std.specs.List.{AllByRecursion};
 ghost use Rattle.std.specs.Option.{option_map_or};
+ghost use Rattle.lx_io.specs.Causes.{HasCause, HasCauseOf};
 ghost use Rattle.lx_base.specs.declared.TheConstants.{CHANNELS};
 ghost use Rattle.lx_spec.specs.Show.{ValidMember};
 ghost use Rattle.lx_spec.specs.SortedList.{IsStrictlySorted, all_placed, placed};
@@ -15,6 +16,7 @@ ghost use Rattle.lx_reader.specs.OpenMoves.{ReadsLevels, members_of, moves_there
 use crate::fault::ShowFault;
 use crate::lists::{far_member, first_guess, guess_behind, near_member};
 use lx_base::{CHANNELS, Chan, PartNo};
+use lx_io::Heap;
 use lx_lex::Tokens;
 use lx_show::{MemberList, MoveList};
 use lx_spec::{Member, Move, TextFault};
@@ -94,9 +96,9 @@ impl OpenMoves {
 
     /// Places the levels of a line as moves in a part, each in place of the one of its channel, and answers the greatest of
     /// their channels and this number. A line with a fault leaves those before it here.
-    pub(crate) fn put_line(
+    pub(crate) fn put_line<H: Heap>(
         &mut self,
-        alloc: Global,
+        heap: &mut H,
         i: u32,
         tokens: Tokens,
         part: PartNo,
@@ -104,9 +106,10 @@ impl OpenMoves {
     ) -> Result<u32, ShowFault>
         ensures levels { IfOk result (λ greatest. ReadsLevels i part least (left tokens.entry) [] greatest self.old self.new) }
         ensures fault { IfErr result (λ stop. IsFaultOf stop (all_pairs i (left tokens.entry))) }
+        ensures cause { HasCauseOf ShowFault.Memory (H.refusals heap.old) (H.refusals heap.new) result }
     {
         if !self.used {
-            begin(alloc, &mut self.row)?;
+            begin(heap, &mut self.row)?;
             self.used = true;
         }
         match &mut self.row {
@@ -116,30 +119,36 @@ impl OpenMoves {
     }
 
     /// Places the moves in a cue's. None is of a channel above this one.
-    pub(crate) fn put_in_cue(
+    pub(crate) fn put_in_cue<H: Heap>(
         &mut self,
-        alloc: Global,
+        heap: &mut H,
         channels: u32,
         list: &mut MoveList,
     ) -> Result<(), AllocError>
         requires most { channels ≤ CHANNELS }
         requires within { AllByRecursion (λ m. m.chan ≤ channels) self.old }
-        ensures { OnOk result (list.new ≡ all_placed (λ m. m.chan) self.old list.old) }
+        ensures list { OnOk result (list.new ≡ all_placed (λ m. m.chan) self.old list.old) }
+        ensures cause { HasCause (H.refusals heap.old) (H.refusals heap.new) result }
     {
         match &self.row {
-            Some(row) if self.used => put_row(alloc, row, channels as usize, &mut self.list, list),
+            Some(row) if self.used => put_row(heap, row, channels as usize, &mut self.list, list),
             _ => Ok(()),
         }
     }
 
     /// Places their levels in those of a group or submaster.
-    pub(crate) fn put_in_set(&mut self, list: &mut MemberList) -> Result<(), AllocError>
-        ensures { OnOk result (list.new ≡ all_placed (λ m. m.chan) (members_of self.old) list.old) }
+    pub(crate) fn put_in_set<H: Heap>(
+        &mut self,
+        heap: &mut H,
+        list: &mut MemberList,
+    ) -> Result<(), AllocError>
+        ensures list { OnOk result (list.new ≡ all_placed (λ m. m.chan) (members_of self.old) list.old) }
+        ensures cause { HasCause (H.refusals heap.old) (H.refusals heap.new) result }
     {
         match &self.row {
             Some(row) if self.used => {
-                let len = gather(row, &mut self.list)?;
-                put_members(&self.list[..len], list)
+                let len = gather(heap, row, &mut self.list)?;
+                put_members(heap, &self.list[..len], list)
             }
             _ => Ok(()),
         }
@@ -214,24 +223,26 @@ impl MoveRow {
 
 /// Makes the row where there is none, and empties the one that there is.
 #[inline(never)]
-fn begin(alloc: Global, row: &mut Option<Box<MoveRow>>) -> Result<(), AllocError>
+fn begin<H: Heap>(heap: &mut H, row: &mut Option<Box<MoveRow>>) -> Result<(), AllocError>
     ensures made { OnOk result (is_some row.new ≡ true) }
     ensures empty { OnOk result (option_map_or (λ r. r.value) row.new [] ≡ []) }
+    ensures cause { HasCause (H.refusals heap.old) (H.refusals heap.new) result }
 {
     if let Some(row) = row {
         row.clear();
         return Ok(());
     }
-    *row = Some(made_row(alloc)?);
+    *row = Some(made_row(heap)?);
     Ok(())
 }
 
 /// A row of which no move is there. It is made apart, so that no line pays for room on the stack that would hold one.
 #[inline(never)]
-fn made_row(alloc: Global) -> Result<Box<MoveRow>, AllocError>
-    ensures { IfOk result (λ row. row.value ≡ []) }
+fn made_row<H: Heap>(heap: &mut H) -> Result<Box<MoveRow>, AllocError>
+    ensures empty { IfOk result (λ row. row.value ≡ []) }
+    ensures cause { HasCause (H.refusals heap.old) (H.refusals heap.new) result }
 {
-    Ok(Box::new(alloc, MoveRow::new())?)
+    heap.boxed(MoveRow::new())
 }
 
 /// Whether all of them are there. It has no early end, so that the compiler looks at many at once.
@@ -292,19 +303,32 @@ fn gather_block(moves: &[Move], there: &[bool], list: &mut [Move], at: usize) ->
 }
 
 /// Writes a row's moves at the front of a list, and says how many they are.
-fn gather(row: &MoveRow, list: &mut Vec<Move>) -> Result<usize, AllocError>
+fn gather<H: Heap>(heap: &mut H, row: &MoveRow, list: &mut Vec<Move>) -> Result<usize, AllocError>
     ensures most { IfOk result (λ len. len ≤ length list.new.items) }
     ensures list { IfOk result (λ len. take len list.new.items ≡ row.now) }
+    ensures cause { HasCause (H.refusals heap.old) (H.refusals heap.new) result }
 {
     if list.len() < SLOTS {
-        list.resize(SLOTS, any_move(0))?;
+        heap.reserve(list, SLOTS - list.len())?;
+        lengthen(list);
     }
     Ok(row.gather(list))
 }
 
+/// Makes the list as long as there are channels. There is room for that.
+fn lengthen(list: &mut Vec<Move>)
+    requires { CHANNELS ≤ vec_capacity list.old }
+    ensures { CHANNELS ≤ length list.new.items }
+{
+    match list.resize(SLOTS, any_move(0)) {
+        Ok(()) => {}
+        Err(_) => unreachable!(),
+    }
+}
+
 /// Places a row's moves in a list. None is of a channel behind the first ones.
-fn put_row(
-    alloc: Global,
+fn put_row<H: Heap>(
+    heap: &mut H,
     row: &MoveRow,
     count: usize,
     room: &mut Vec<Move>,
@@ -312,36 +336,44 @@ fn put_row(
 ) -> Result<(), AllocError>
     requires most { count ≤ CHANNELS }
     requires within { AllByRecursion (λ m. m.chan ≤ count) row.now }
-    ensures { OnOk result (list.new ≡ all_placed (λ m. m.chan) row.now list.old) }
+    ensures list { OnOk result (list.new ≡ all_placed (λ m. m.chan) row.now list.old) }
+    ensures cause { HasCause (H.refusals heap.old) (H.refusals heap.new) result }
 {
     if let Some(all) = row.whole(count) {
-        return put_moves(alloc, all, list);
+        return put_moves(heap, all, list);
     }
-    let len = gather(row, room)?;
-    put_moves(alloc, &room[..len], list)
+    let len = gather(heap, row, room)?;
+    put_moves(heap, &room[..len], list)
 }
 
 /// Places moves, which are sorted by channel, in a list: they become the list where it was empty.
-fn put_moves(alloc: Global, moves: &[Move], list: &mut MoveList) -> Result<(), AllocError>
+fn put_moves<H: Heap>(heap: &mut H, moves: &[Move], list: &mut MoveList) -> Result<(), AllocError>
     requires { IsStrictlySorted (λ m. m.chan) moves.now }
-    ensures { OnOk result (list.new ≡ all_placed (λ m. m.chan) moves.now list.old) }
+    ensures list { OnOk result (list.new ≡ all_placed (λ m. m.chan) moves.now list.old) }
+    ensures cause { HasCause (H.refusals heap.old) (H.refusals heap.new) result }
 {
     if !list.as_slice().is_empty() {
-        return list.put_each(moves);
+        return list.put_each(heap, moves);
     }
-    *list = MoveList::of_sorted(alloc, moves)?;
+    *list = MoveList::of_sorted(heap, moves)?;
     Ok(())
 }
 
 /// Places the levels of moves in a list.
-fn put_members(moves: &[Move], list: &mut MemberList) -> Result<(), AllocError>
-    ensures { OnOk result (list.new ≡ all_placed (λ m. m.chan) (members_of moves.now) list.old) }
+fn put_members<H: Heap>(
+    heap: &mut H,
+    moves: &[Move],
+    list: &mut MemberList,
+) -> Result<(), AllocError>
+    ensures list { OnOk result (list.new ≡ all_placed (λ m. m.chan) (members_of moves.now) list.old) }
+    ensures cause { HasCause (H.refusals heap.old) (H.refusals heap.new) result }
 {
     for entry in moves {
-        list.put(Member {
+        let member = Member {
             chan: entry.chan,
             level: entry.level,
-        })?;
+        };
+        list.put(heap, member)?;
     }
     Ok(())
 }

@@ -1,6 +1,7 @@
 //! The record that is open: a cue, group or submaster of which the lines say more. It is kept apart from the show, and is put into it once.
 
 ghost use Rattle.std.specs.Prelude.{◌≡◌, ◌≢◌, ◌||◌, length, nat_lt, IsTrue, OnOk};
+ghost use Rattle.lx_io.specs.Causes.{HasCause};
 ghost use Rattle.lx_base.specs.declared.TheConstants.{CUES, GROUPS, SUBS};
 ghost use Rattle.lx_spec.specs.declared.Section.{Section};
 ghost use Rattle.lx_spec.specs.SortedList.{has_entry, placed};
@@ -11,6 +12,7 @@ ghost use Rattle.lx_reader.specs.Settled.{CueFits, OpenFits, SetFits, is_open, w
 
 use crate::open_moves::OpenMoves;
 use lx_base::{CueNo, GroupNo, SubNo};
+use lx_io::Heap;
 use lx_show::sorted::entry_of;
 use lx_show::{Cue, Group, Show, Sub};
 use std::alloc::{AllocError, Global};
@@ -36,55 +38,69 @@ impl Open {
 }
 
 /// Puts the record into the show, with its levels.
-pub(crate) fn put_record(
-    alloc: Global,
+pub(crate) fn put_record<H: Heap>(
+    heap: &mut H,
     show: &mut Show,
     held: Open,
     moves: &mut OpenMoves,
 ) -> Result<(), AllocError>
     requires { (section : Section) × OpenFits show.old section moves.old held }
-    ensures { OnOk result (show.new ≡ with_open held moves.old show.old) }
+    ensures show { OnOk result (show.new ≡ with_open held moves.old show.old) }
+    ensures cause { HasCause (H.refusals heap.old) (H.refusals heap.new) result }
 {
     match held {
         Open::None => Ok(()),
-        Open::Cue(cue) => put_cue(alloc, show, cue, moves),
-        Open::Group(group) => put_group(show, group, moves),
-        Open::Sub(sub) => put_sub(show, sub, moves),
+        Open::Cue(cue) => put_cue(heap, show, cue, moves),
+        Open::Group(group) => put_group(heap, show, group, moves),
+        Open::Sub(sub) => put_sub(heap, show, sub, moves),
     }
 }
 
 /// The same for a cue.
-fn put_cue(
-    alloc: Global,
+fn put_cue<H: Heap>(
+    heap: &mut H,
     show: &mut Show,
     mut cue: Cue,
     moves: &mut OpenMoves,
 ) -> Result<(), AllocError>
     requires { CueFits show.old moves.old cue }
-    ensures { OnOk result (show.new ≡ with_open (open_records.Cue cue) moves.old show.old) }
+    ensures show { OnOk result (show.new ≡ with_open (open_records.Cue cue) moves.old show.old) }
+    ensures cause { HasCause (H.refusals heap.old) (H.refusals heap.new) result }
 {
     let channels = show.channels();
-    moves.put_in_cue(alloc, channels, &mut cue.moves)?;
+    moves.put_in_cue(heap, channels, &mut cue.moves)?;
     show.put_cue(cue);
     Ok(())
 }
 
 /// The same for a group.
-fn put_group(show: &mut Show, mut group: Group, moves: &mut OpenMoves) -> Result<(), AllocError>
+fn put_group<H: Heap>(
+    heap: &mut H,
+    show: &mut Show,
+    mut group: Group,
+    moves: &mut OpenMoves,
+) -> Result<(), AllocError>
     requires { SetFits GROUPS show.old moves.old group }
-    ensures { OnOk result (show.new ≡ with_open (open_records.Group group) moves.old show.old) }
+    ensures show { OnOk result (show.new ≡ with_open (open_records.Group group) moves.old show.old) }
+    ensures cause { HasCause (H.refusals heap.old) (H.refusals heap.new) result }
 {
-    moves.put_in_set(&mut group.members)?;
+    moves.put_in_set(heap, &mut group.members)?;
     show.put_group(group);
     Ok(())
 }
 
 /// The same for a submaster.
-fn put_sub(show: &mut Show, mut sub: Sub, moves: &mut OpenMoves) -> Result<(), AllocError>
+fn put_sub<H: Heap>(
+    heap: &mut H,
+    show: &mut Show,
+    mut sub: Sub,
+    moves: &mut OpenMoves,
+) -> Result<(), AllocError>
     requires { SetFits SUBS show.old moves.old sub }
-    ensures { OnOk result (show.new ≡ with_open (open_records.Sub sub) moves.old show.old) }
+    ensures show { OnOk result (show.new ≡ with_open (open_records.Sub sub) moves.old show.old) }
+    ensures cause { HasCause (H.refusals heap.old) (H.refusals heap.new) result }
 {
-    moves.put_in_set(&mut sub.members)?;
+    moves.put_in_set(heap, &mut sub.members)?;
     show.put_sub(sub);
     Ok(())
 }

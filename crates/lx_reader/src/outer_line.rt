@@ -1,6 +1,6 @@
 //! The lines that stand outside of records.
 
-ghost use Rattle.std.specs.Prelude.{◌≡◌, ◌==◌, ◌<◌, ◌+◌, Ok, true, [], OnOk, if◌then◌else◌};
+ghost use Rattle.std.specs.Prelude.{◌≡◌, ◌≢◌, ◌==◌, ◌<◌, ◌+◌, Ok, Err, true, [], OnOk, if◌then◌else◌};
 ghost use Rattle.lx_spec.specs.declared.Section.TheVariants.{NoRecord, Skipping};
 ghost use Rattle.lx_spec.specs.declared.Word.TheVariants as words;
 ghost use Rattle.lx_spec.specs.Limits.{desk_limits};
@@ -11,7 +11,7 @@ ghost use Rattle.lx_lex.specs.Left.{left};
 ghost use Rattle.lx_reader.specs.LineOutcome.{CanGoOn, facts_of, Outcome};
 
 use crate::fault::ShowFault;
-use crate::numbers::{is_one, next_channel};
+use crate::numbers::{next_channel, take_page};
 use crate::reader::Reader;
 use crate::rows::put_rows;
 use lx_lex::{Tokens, word_is};
@@ -45,7 +45,8 @@ impl Reader {
     /// `IDENT 3:0`
     pub(crate) fn ident_line(&mut self, i: u32, tokens: Tokens) -> Result<(), ShowFault>
         requires { CanGoOn self.old i }
-        ensures { Outcome self.old self.new i result (entry_by_word (facts_of self.old i) [] words.Ident (left tokens.entry)) }
+        ensures outcome { Outcome self.old self.new i result (entry_by_word (facts_of self.old i) [] words.Ident (left tokens.entry)) }
+        ensures memory { result ≢ Err ShowFault.Memory }
     {
         if !is_next(tokens, b"3:0") {
             return Err(ShowFault::Text(TextFault::NoIdent(i)));
@@ -74,7 +75,8 @@ impl Reader {
     pub(crate) fn set_line(&mut self, i: u32, mut tokens: Tokens) -> Result<(), ShowFault>
         requires ready { CanGoOn self.old i }
         requires identified { self.old.identified ≡ true }
-        ensures { Outcome self.old self.new i result (entry_by_word (facts_of self.old i) [] words.Set (left tokens.entry)) }
+        ensures outcome { Outcome self.old self.new i result (entry_by_word (facts_of self.old i) [] words.Set (left tokens.entry)) }
+        ensures memory { result ≢ Err ShowFault.Memory }
     {
         self.enter(Section::NoRecord);
         match tokens.next() {
@@ -92,12 +94,13 @@ impl Reader {
         requires identified { self.old.identified ≡ true }
         ensures outcome { Outcome self.old self.new i result (entry_by_word (facts_of self.old i) [] words.Patch (left tokens.entry)) }
         ensures section { OnOk result (self.new.section ≡ NoRecord) }
+        ensures memory { result ≢ Err ShowFault.Memory }
     {
-        let Some(page) = tokens.next() else {
+        let Some(one) = take_page(&mut tokens) else {
             return Err(ShowFault::Text(TextFault::ShortList(i)));
         };
         self.enter(Section::NoRecord);
-        if !is_one(page) {
+        if !one {
             self.skip(i);
             return Ok(());
         }

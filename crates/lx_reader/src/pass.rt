@@ -1,7 +1,7 @@
 //! The pass over the lines of a show text.
 
 ghost use Rattle.std.specs.Prelude.{◌≡◌, ◌≢◌, ◌≤◌, ◌+◌, Err, IfSome, IsTrue, OnOk};
-ghost use Rattle.lx_io.specs.Causes.{Rose};
+ghost use Rattle.lx_io.specs.Causes.{HasCauseOf, Rose};
 ghost use Rattle.lx_spec.specs.Show.{Valid};
 ghost use Rattle.lx_reader.specs.LineOutcome.{CanGoOn, state_of};
 ghost use Rattle.lx_reader.specs.ReadingState.{final_reading};
@@ -14,7 +14,7 @@ use crate::looks::looks_to_moves;
 use crate::reader::Reader;
 use crate::reading::ShowPass;
 use lx_base::DEFAULT_CHANNELS;
-use lx_io::Source;
+use lx_io::{Heap, Source, SystemHeap};
 use lx_lex::{Lines, Step};
 use lx_show::Show;
 use lx_spec::{Form, TextFault};
@@ -25,7 +25,7 @@ use std::alloc::Global;
 ///
 /// `ReadFault` comes only where a read failed, and no failed read is passed over. The faults that carry a line name the first line that
 /// has one. Lines that aren't known are skipped and
-/// counted.
+/// counted. All memory is of the process, and `Memory` comes where it gives none.
 pub fn read_show<S: Source>(
     alloc: Global,
     lines: &mut Lines<S>,
@@ -34,27 +34,46 @@ pub fn read_show<S: Source>(
     requires going { IsTrue lines.old.going }
     requires first { lines.old.number ≡ 0 }
     ensures same_reference { lines.new.source.ghost_name ≡ lines.old.source.ghost_name }
-    ensures answer { AnswerOf S.left S.faults lines.old lines.new form result }
+    ensures answer { AnswerOf S.Source lines.old lines.new form result }
     ensures later { S.faults lines.old.source.now ≤ S.faults lines.new.source.now }
     ensures read { result ≡ Err ShowFault.ReadFault → Rose (S.faults lines.old.source.now) (S.faults lines.new.source.now) }
     ensures kept { result ≢ Err ShowFault.ReadFault → S.faults lines.new.source.now ≡ S.faults lines.old.source.now }
 {
-    let mut reader = match Show::new(alloc, 1) {
-        Ok(show) => ShowPass::new(alloc, show),
+    read_show_in(&mut SystemHeap::new(alloc), lines, form)
+}
+
+/// Reads a show text as `read_show` does, with all its memory from this heap. `Memory` comes only where the heap refused in this call,
+/// and with any other answer the heap's count stands as it was.
+pub fn read_show_in<H: Heap, S: Source>(
+    heap: &mut H,
+    lines: &mut Lines<S>,
+    form: Form,
+) -> Result<Loaded, ShowFault>
+    requires going { IsTrue lines.old.going }
+    requires first { lines.old.number ≡ 0 }
+    ensures same_reference { lines.new.source.ghost_name ≡ lines.old.source.ghost_name }
+    ensures answer { AnswerOf S.Source lines.old lines.new form result }
+    ensures later { S.faults lines.old.source.now ≤ S.faults lines.new.source.now }
+    ensures read { result ≡ Err ShowFault.ReadFault → Rose (S.faults lines.old.source.now) (S.faults lines.new.source.now) }
+    ensures kept { result ≢ Err ShowFault.ReadFault → S.faults lines.new.source.now ≡ S.faults lines.old.source.now }
+    ensures cause { HasCauseOf ShowFault.Memory (H.refusals heap.old) (H.refusals heap.new) result }
+{
+    let mut reader = match Show::new_in(heap, 1) {
+        Ok(show) => ShowPass::new(heap.allocator(), show),
         Err(_) => return Err(ShowFault::Memory),
     };
     loop {
-        read_line(alloc, lines, &mut reader)?;
+        read_line(heap, lines, &mut reader)?;
         if reader.reader.ended {
-            return loaded_by(alloc, reader, form);
+            return loaded_by(heap, reader, form);
         }
     }
 }
 
 /// Reads one line, and goes a step on with it.
 #[inline(always)]
-fn read_line<S: Source>(
-    alloc: Global,
+fn read_line<H: Heap, S: Source>(
+    heap: &mut H,
     lines: &mut Lines<S>,
     reader: &mut ShowPass,
 ) -> Result<(), ShowFault>
@@ -62,14 +81,15 @@ fn read_line<S: Source>(
     requires ready { CanGoOn (settled reader.old) (lines.old.number + 1) }
     requires fits { PassFits reader.old }
     ensures same_reference { lines.new.source.ghost_name ≡ lines.old.source.ghost_name }
-    ensures turn { TurnOf S.left S.faults lines.old lines.new (settled reader.old) (settled reader.new) result }
+    ensures turn { TurnOf S.Source lines.old lines.new (settled reader.old) (settled reader.new) result }
     ensures fits { OnOk result (PassFits reader.new) }
     ensures later { S.faults lines.old.source.now ≤ S.faults lines.new.source.now }
     ensures read { result ≡ Err ShowFault.ReadFault → Rose (S.faults lines.old.source.now) (S.faults lines.new.source.now) }
     ensures kept { result ≢ Err ShowFault.ReadFault → S.faults lines.new.source.now ≡ S.faults lines.old.source.now }
+    ensures cause { HasCauseOf ShowFault.Memory (H.refusals heap.old) (H.refusals heap.new) result }
 {
     match lines.advance() {
-        Step::Line => reader.step(alloc, lines.number(), lines.line()),
+        Step::Line => reader.step(heap, lines.number(), lines.line()),
         Step::LongLine => Err(ShowFault::Text(TextFault::LineTooLong(lines.number()))),
         Step::End => Err(ShowFault::Text(TextFault::NoEndData(lines.number() + 1))),
         Step::ReadFault => Err(ShowFault::ReadFault),
@@ -78,25 +98,27 @@ fn read_line<S: Source>(
 }
 
 /// What was read, in the form of the text.
-fn loaded_by(alloc: Global, reading: ShowPass, form: Form) -> Result<Loaded, ShowFault>
+fn loaded_by<H: Heap>(heap: &mut H, reading: ShowPass, form: Form) -> Result<Loaded, ShowFault>
     requires { PassFits reading }
-    ensures { IsLoaded form (settled reading) result }
+    ensures loaded { IsLoaded form (settled reading) result }
+    ensures cause { HasCauseOf ShowFault.Memory (H.refusals heap.old) (H.refusals heap.new) result }
 {
     let mut reading = reading;
-    match reading.settle(alloc) {
-        Ok(()) => loaded_in_form(alloc, reading.reader, form),
+    match reading.settle(heap) {
+        Ok(()) => loaded_in_form(heap, reading.reader, form),
         Err(_) => Err(ShowFault::Memory),
     }
 }
 
 /// The same, once the moves of the last cue were put into it.
-fn loaded_in_form(alloc: Global, reader: Reader, form: Form) -> Result<Loaded, ShowFault>
-    ensures { IsLoaded form reader result }
+fn loaded_in_form<H: Heap>(heap: &mut H, reader: Reader, form: Form) -> Result<Loaded, ShowFault>
+    ensures loaded { IsLoaded form reader result }
+    ensures cause { HasCauseOf ShowFault.Memory (H.refusals heap.old) (H.refusals heap.new) result }
 {
     let mut loaded = loaded(reader);
     match form {
         Form::Moves => Ok(loaded),
-        Form::States => match looks_to_moves(alloc, &mut loaded.show) {
+        Form::States => match looks_to_moves(heap, &mut loaded.show) {
             Ok(()) => Ok(loaded),
             Err(_) => Err(ShowFault::Memory),
         },

@@ -1,7 +1,8 @@
 //! A pass over the lines of a show text. The record that is open is kept apart from the show, and its levels apart from it, by channel, until
 //! the next record begins.
 
-ghost use Rattle.std.specs.Prelude.{◌≡◌, ◌≤◌, ◌∷◌, ◌&&◌, None, [], false, true, codes, length, OnOk, IfSome};
+ghost use Rattle.std.specs.Prelude.{◌≡◌, ◌≢◌, ◌≤◌, ◌∷◌, ◌&&◌, None, Err, [], false, true, codes, length, OnOk, IfSome};
+ghost use Rattle.lx_io.specs.Causes.{HasCause, HasCauseOf};
 ghost use Rattle.lx_base.specs.declared.TheConstants.{LINE_BYTES};
 ghost use Rattle.lx_spec.specs.declared.Section.TheVariants.{NoRecord};
 ghost use Rattle.lx_spec.specs.declared.Word.TheVariants as words;
@@ -22,7 +23,8 @@ use crate::open_moves::OpenMoves;
 use crate::open_record::{Open, open_cue, open_group, open_sub, put_record};
 use crate::reader::Reader;
 use crate::record_lines::{line_of_cue, line_of_set};
-use crate::word::word_of;
+use crate::word::first_word;
+use lx_io::Heap;
 use lx_lex::{Tokens, tokens};
 use lx_show::Show;
 use lx_spec::{Section, TextFault, Word};
@@ -58,14 +60,30 @@ impl ShowPass {
     }
 
     /// Puts the open record into the show, with its levels.
-    pub(crate) fn settle(&mut self, alloc: Global) -> Result<(), AllocError>
+    pub(crate) fn settle<H: Heap>(&mut self, heap: &mut H) -> Result<(), AllocError>
         requires { PassFits self.old }
         ensures reader { OnOk result (self.new.reader ≡ settled self.old) }
         ensures none { OnOk result (self.new.held ≡ open_records.None) }
         ensures empty { OnOk result (self.new.moves ≡ []) }
+        ensures cause { HasCause (H.refusals heap.old) (H.refusals heap.new) result }
+    {
+        match self.held {
+            Open::None => Ok(()),
+            _ => self.put_held(heap),
+        }
+    }
+
+    /// The same, where a record is open.
+    #[inline(never)]
+    fn put_held<H: Heap>(&mut self, heap: &mut H) -> Result<(), AllocError>
+        requires { PassFits self.old }
+        ensures reader { OnOk result (self.new.reader ≡ settled self.old) }
+        ensures none { OnOk result (self.new.held ≡ open_records.None) }
+        ensures empty { OnOk result (self.new.moves ≡ []) }
+        ensures cause { HasCause (H.refusals heap.old) (H.refusals heap.new) result }
     {
         let held = mem::replace(&mut self.held, Open::None);
-        put_record(alloc, &mut self.reader.show, held, &mut self.moves)?;
+        put_record(heap, &mut self.reader.show, held, &mut self.moves)?;
         self.moves.clear();
         Ok(())
     }
@@ -73,16 +91,22 @@ impl ShowPass {
     /// Goes on with line i, which isn't too long. Most lines are levels of the open record: they go straight to them, and all that any
     /// other line needs stands apart.
     #[inline(always)]
-    pub(crate) fn step(&mut self, alloc: Global, i: u32, line: &[u8]) -> Result<(), ShowFault>
+    pub(crate) fn step<H: Heap>(
+        &mut self,
+        heap: &mut H,
+        i: u32,
+        line: &[u8],
+    ) -> Result<(), ShowFault>
         requires short { length line.now ≤ LINE_BYTES }
         requires ready { CanGoOn (settled self.old) i }
         requires fits { PassFits self.old }
         ensures outcome { Outcome (settled self.old) (settled self.new) i result (entry_of (facts_of (settled self.old) i) line.now) }
         ensures fits { OnOk result (PassFits self.new) }
+        ensures cause { HasCauseOf ShowFault.Memory (H.refusals heap.old) (H.refusals heap.new) result }
     {
         match levels_of(line) {
-            Some(levels) if self.takes_levels() => self.levels_line(alloc, i, levels),
-            _ => self.line_by_word(alloc, i, line),
+            Some(levels) if self.takes_levels() => self.levels_line(heap, i, levels),
+            _ => self.line_by_word(heap, i, line),
         }
     }
 
@@ -96,24 +120,24 @@ impl ShowPass {
 
     /// The same, where the line's first word has to be found.
     #[inline(never)]
-    fn line_by_word(&mut self, alloc: Global, i: u32, line: &[u8]) -> Result<(), ShowFault>
+    fn line_by_word<H: Heap>(&mut self, heap: &mut H, i: u32, line: &[u8]) -> Result<(), ShowFault>
         requires short { length line.now ≤ LINE_BYTES }
         requires ready { CanGoOn (settled self.old) i }
         requires fits { PassFits self.old }
         ensures outcome { Outcome (settled self.old) (settled self.new) i result (entry_of (facts_of (settled self.old) i) line.now) }
         ensures fits { OnOk result (PassFits self.new) }
+        ensures cause { HasCauseOf ShowFault.Memory (H.refusals heap.old) (H.refusals heap.new) result }
     {
-        let mut tokens = tokens(line);
-        let Some(first) = tokens.next() else {
-            return Ok(());
-        };
-        self.line_of_word(alloc, i, line, word_of(first), tokens)
+        match first_word(line) {
+            Some((word, tokens)) => self.line_of_word(heap, i, line, word, tokens),
+            None => Ok(()),
+        }
     }
 
     /// A line of this word, which these tokens follow. The rules are tried in their order.
-    fn line_of_word(
+    fn line_of_word<H: Heap>(
         &mut self,
-        alloc: Global,
+        heap: &mut H,
         i: u32,
         line: &[u8],
         word: Word,
@@ -124,6 +148,7 @@ impl ShowPass {
         ensures outcome { Outcome (settled self.old) (settled self.new) i result
             (entry_by_word (facts_of (settled self.old) i) line.now word (left tokens.entry)) }
         ensures fits { OnOk result (PassFits self.new) }
+        ensures cause { HasCauseOf ShowFault.Memory (H.refusals heap.old) (H.refusals heap.new) result }
     {
         match word {
             Word::TwoDollars => {
@@ -135,8 +160,8 @@ impl ShowPass {
                 Ok(())
             }
             Word::EndData => self.end_line(i),
-            _ if is_inner(word) => self.inner_line(alloc, i, line, word, tokens),
-            _ => self.outer_line(alloc, i, word, tokens),
+            _ if is_inner(word) => self.inner_line(heap, i, line, word, tokens),
+            _ => self.outer_line(heap, i, word, tokens),
         }
     }
 
@@ -147,6 +172,7 @@ impl ShowPass {
         ensures outcome { Outcome (settled self.old) (settled self.new) i result
             (entry_by_word (facts_of (settled self.old) i) [] words.EndData []) }
         ensures fits { OnOk result (PassFits self.new) }
+        ensures memory { result ≢ Err ShowFault.Memory }
     {
         if !self.reader.identified {
             return Err(ShowFault::Text(TextFault::NoIdent(i)));
@@ -156,9 +182,9 @@ impl ShowPass {
     }
 
     /// A line that ends a record, and maybe begins one. The open one is put into the show before.
-    fn outer_line(
+    fn outer_line<H: Heap>(
         &mut self,
-        alloc: Global,
+        heap: &mut H,
         i: u32,
         word: Word,
         tokens: Tokens,
@@ -169,15 +195,16 @@ impl ShowPass {
         ensures outcome { Outcome (settled self.old) (settled self.new) i result
             (entry_by_word (facts_of (settled self.old) i) [] word (left tokens.entry)) }
         ensures fits { OnOk result (PassFits self.new) }
+        ensures cause { HasCauseOf ShowFault.Memory (H.refusals heap.old) (H.refusals heap.new) result }
     {
-        self.settle(alloc)?;
-        self.line_outside(alloc, i, word, tokens)
+        self.settle(heap)?;
+        self.line_outside(heap, i, word, tokens)
     }
 
     /// The same, where no record is open.
-    fn line_outside(
+    fn line_outside<H: Heap>(
         &mut self,
-        alloc: Global,
+        heap: &mut H,
         i: u32,
         word: Word,
         tokens: Tokens,
@@ -189,6 +216,7 @@ impl ShowPass {
         ensures outcome { Outcome self.old.reader (settled self.new) i result
             (entry_by_word (facts_of self.old.reader i) [] word (left tokens.entry)) }
         ensures fits { OnOk result (PassFits self.new) }
+        ensures cause { HasCauseOf ShowFault.Memory (H.refusals heap.old) (H.refusals heap.new) result }
     {
         match word {
             Word::OneDollar => {
@@ -200,15 +228,15 @@ impl ShowPass {
                 self.reader.enter(Section::NoRecord);
                 Ok(())
             }
-            _ if self.reader.identified => self.known_line(alloc, i, word, tokens),
+            _ if self.reader.identified => self.known_line(heap, i, word, tokens),
             _ => Err(ShowFault::Text(TextFault::NoIdent(i))),
         }
     }
 
     /// The same, once IDENT was read.
-    fn known_line(
+    fn known_line<H: Heap>(
         &mut self,
-        alloc: Global,
+        heap: &mut H,
         i: u32,
         word: Word,
         tokens: Tokens,
@@ -221,11 +249,12 @@ impl ShowPass {
         ensures outcome { Outcome self.old.reader (settled self.new) i result
             (entry_by_word (facts_of self.old.reader i) [] word (left tokens.entry)) }
         ensures fits { OnOk result (PassFits self.new) }
+        ensures cause { HasCauseOf ShowFault.Memory (H.refusals heap.old) (H.refusals heap.new) result }
     {
         match word {
-            Word::Cue => self.cue_line(alloc, i, tokens),
-            Word::Group => self.group_line(alloc, i, tokens),
-            Word::Sub => self.sub_line(alloc, i, tokens),
+            Word::Cue => self.cue_line(heap, i, tokens),
+            Word::Group => self.group_line(heap, i, tokens),
+            Word::Sub => self.sub_line(heap, i, tokens),
             Word::Clear => {
                 self.reader.clear_line(i, tokens);
                 Ok(())
@@ -237,7 +266,7 @@ impl ShowPass {
     }
 
     /// `CUE n`
-    fn cue_line(&mut self, alloc: Global, i: u32, tokens: Tokens) -> Result<(), ShowFault>
+    fn cue_line<H: Heap>(&mut self, heap: &mut H, i: u32, tokens: Tokens) -> Result<(), ShowFault>
         requires ready { CanGoOn self.old.reader i }
         requires identified { self.old.reader.identified ≡ true }
         requires none { self.old.held ≡ open_records.None }
@@ -245,6 +274,7 @@ impl ShowPass {
         ensures outcome { Outcome self.old.reader (settled self.new) i result
             (entry_by_word (facts_of self.old.reader i) [] words.Cue (left tokens.entry)) }
         ensures fits { OnOk result (PassFits self.new) }
+        ensures cause { HasCauseOf ShowFault.Memory (H.refusals heap.old) (H.refusals heap.new) result }
     {
         let Some(n) = cue_of_record(i, tokens)? else {
             self.reader.skip_record(i);
@@ -253,13 +283,13 @@ impl ShowPass {
         if !self.reader.show.has_room_for(n) {
             return Err(ShowFault::Text(TextFault::OutOfRange(i)));
         }
-        self.held = Open::Cue(open_cue(alloc, &mut self.reader.show, n));
+        self.held = Open::Cue(open_cue(heap.allocator(), &mut self.reader.show, n));
         self.reader.enter(Section::InCue(n));
         Ok(())
     }
 
     /// `GROUP n`
-    fn group_line(&mut self, alloc: Global, i: u32, tokens: Tokens) -> Result<(), ShowFault>
+    fn group_line<H: Heap>(&mut self, heap: &mut H, i: u32, tokens: Tokens) -> Result<(), ShowFault>
         requires ready { CanGoOn self.old.reader i }
         requires identified { self.old.reader.identified ≡ true }
         requires none { self.old.held ≡ open_records.None }
@@ -267,18 +297,19 @@ impl ShowPass {
         ensures outcome { Outcome self.old.reader (settled self.new) i result
             (entry_by_word (facts_of self.old.reader i) [] words.Group (left tokens.entry)) }
         ensures fits { OnOk result (PassFits self.new) }
+        ensures cause { HasCauseOf ShowFault.Memory (H.refusals heap.old) (H.refusals heap.new) result }
     {
         let Some(g) = group_of_record(i, tokens)? else {
             self.reader.skip_record(i);
             return Ok(());
         };
-        self.held = Open::Group(open_group(alloc, &mut self.reader.show, g));
+        self.held = Open::Group(open_group(heap.allocator(), &mut self.reader.show, g));
         self.reader.enter(Section::InGroup(g));
         Ok(())
     }
 
     /// `SUB n`
-    fn sub_line(&mut self, alloc: Global, i: u32, tokens: Tokens) -> Result<(), ShowFault>
+    fn sub_line<H: Heap>(&mut self, heap: &mut H, i: u32, tokens: Tokens) -> Result<(), ShowFault>
         requires ready { CanGoOn self.old.reader i }
         requires identified { self.old.reader.identified ≡ true }
         requires none { self.old.held ≡ open_records.None }
@@ -286,20 +317,21 @@ impl ShowPass {
         ensures outcome { Outcome self.old.reader (settled self.new) i result
             (entry_by_word (facts_of self.old.reader i) [] words.Sub (left tokens.entry)) }
         ensures fits { OnOk result (PassFits self.new) }
+        ensures cause { HasCauseOf ShowFault.Memory (H.refusals heap.old) (H.refusals heap.new) result }
     {
         let Some(s) = sub_of_record(i, tokens)? else {
             self.reader.skip_record(i);
             return Ok(());
         };
-        self.held = Open::Sub(open_sub(alloc, &mut self.reader.show, s));
+        self.held = Open::Sub(open_sub(heap.allocator(), &mut self.reader.show, s));
         self.reader.enter(Section::InSub(s));
         Ok(())
     }
 
     /// A line of a word that belongs within a record.
-    fn inner_line(
+    fn inner_line<H: Heap>(
         &mut self,
-        alloc: Global,
+        heap: &mut H,
         i: u32,
         line: &[u8],
         word: Word,
@@ -311,6 +343,7 @@ impl ShowPass {
         ensures outcome { Outcome (settled self.old) (settled self.new) i result
             (entry_by_word (facts_of (settled self.old) i) line.now word (left tokens.entry)) }
         ensures fits { OnOk result (PassFits self.new) }
+        ensures cause { HasCauseOf ShowFault.Memory (H.refusals heap.old) (H.refusals heap.new) result }
     {
         if is_makers_line(self.reader.section, word) {
             self.reader.skip(i);
@@ -325,7 +358,7 @@ impl ShowPass {
                 self.reader.skip(i);
                 Ok(())
             }
-            _ => self.line_of_record(alloc, i, line, word, tokens),
+            _ => self.line_of_record(heap, i, line, word, tokens),
         }
     }
 
@@ -336,6 +369,7 @@ impl ShowPass {
         requires outside { self.old.reader.section ≡ NoRecord }
         ensures outcome { Outcome (settled self.old) (settled self.new) i result (stray_entry (facts_of (settled self.old) i) word) }
         ensures fits { OnOk result (PassFits self.new) }
+        ensures memory { result ≢ Err ShowFault.Memory }
     {
         match word {
             Word::Text => {
@@ -347,9 +381,9 @@ impl ShowPass {
     }
 
     /// Such a line within a record.
-    fn line_of_record(
+    fn line_of_record<H: Heap>(
         &mut self,
-        alloc: Global,
+        heap: &mut H,
         i: u32,
         line: &[u8],
         word: Word,
@@ -361,9 +395,10 @@ impl ShowPass {
         ensures outcome { Outcome (settled self.old) (settled self.new) i result
             (inner_entry self.old.reader.section (facts_of (settled self.old) i) line.now word (left tokens.entry)) }
         ensures fits { OnOk result (PassFits self.new) }
+        ensures cause { HasCauseOf ShowFault.Memory (H.refusals heap.old) (H.refusals heap.new) result }
     {
         if is_levels(word) {
-            return self.levels_line(alloc, i, tokens);
+            return self.levels_line(heap, i, tokens);
         }
         if !self.says(i, line, word, tokens)? {
             self.reader.skip(i);
@@ -391,17 +426,23 @@ impl ShowPass {
 
     /// `CHAN` with levels of the open record.
     #[inline(always)]
-    fn levels_line(&mut self, alloc: Global, i: u32, tokens: Tokens) -> Result<(), ShowFault>
+    fn levels_line<H: Heap>(
+        &mut self,
+        heap: &mut H,
+        i: u32,
+        tokens: Tokens,
+    ) -> Result<(), ShowFault>
         requires ready { CanGoOn (settled self.old) i }
         requires fits { PassFits self.old }
         requires open_one { is_open self.old.held ≡ true }
         ensures outcome { Outcome (settled self.old) (settled self.new) i result (levels desk_limits i (left tokens.entry)) }
         ensures fits { OnOk result (PassFits self.new) }
+        ensures cause { HasCauseOf ShowFault.Memory (H.refusals heap.old) (H.refusals heap.new) result }
     {
         let channels = self.reader.show.channels();
         let greatest = self
             .moves
-            .put_line(alloc, i, tokens, self.reader.part, channels)?;
+            .put_line(heap, i, tokens, self.reader.part, channels)?;
         self.reader.show.widen(greatest);
         Ok(())
     }

@@ -1,6 +1,6 @@
 //! The rows of a line are put into the patch.
 
-ghost use Rattle.std.specs.Prelude.{◌≡◌, ◌≤◌, ◌∷◌, [], max, OnOk, IfErr};
+ghost use Rattle.std.specs.Prelude.{◌≡◌, ◌≢◌, ◌≤◌, Err, ◌∷◌, [], max, OnOk, IfErr};
 ghost use Rattle.std.specs.Result.{IsOkAnd};
 ghost use Rattle.lx_lex.specs.Left.{left};
 ghost use Rattle.lx_reader.specs.FieldLists.{all_triples};
@@ -35,6 +35,7 @@ fn put_patch_row(show: &mut Show, row: PatchRow)
 pub(crate) fn put_rows(show: &mut Show, i: u32, mut tokens: Tokens) -> Result<(), ShowFault>
     ensures show { OnOk result (IsOkAnd (all_triples i (left tokens.entry)) (λ rows. show.new ≡ with_rows rows show.old)) }
     ensures stop { IfErr result (λ stop. IsFaultOf stop (all_triples i (left tokens.entry))) }
+    ensures memory { result ≢ Err ShowFault.Memory }
 {
     loop {
         match next_row(i, &mut tokens) {

@@ -1,9 +1,12 @@
 //! The first word of a line.
 
-ghost use Rattle.std.specs.Prelude.{◌≡◌};
+ghost use Rattle.std.specs.Prelude.{◌≡◌, ◌∷◌, [], codes, IfSome, MatchOption};
 ghost use Rattle.lx_spec.specs.FirstWord.{dollar_word, word_of};
+ghost use Rattle.lx_spec.specs.Text.{tokens};
+ghost use Rattle.lx_lex.specs.Left.{left};
+ghost use Rattle.lx_reader.specs.FieldLists.{FirstIsWord};
 
-use lx_lex::find_word;
+use lx_lex::{Tokens, find_word, tokens};
 use lx_spec::Word;
 
 /// How the words are spelled, in capitals.
@@ -29,8 +32,33 @@ static SPELLINGS: [(&[u8], Word); 19] = [
     (b"$$ASSERT", Word::Assert),
 ];
 
+/// The word that a line begins with and the tokens behind it. None where the line has no token.
+#[inline(always)]
+pub(crate) fn first_word(line: &[u8]) -> Option<(Word, Tokens<'_>)>
+    ensures { MatchOption result (tokens line.now ≡ []) (λ p. FirstIsWord (tokens line.now) p.0 (left p.1)) }
+{
+    if let Some(rows) = rows_of(line) {
+        return Some((Word::Patch, rows));
+    }
+    let mut tokens = tokens(line);
+    let first = tokens.next()?;
+    Some((word_of(first), tokens))
+}
+
+/// The tokens behind the first one where that is PATCH in capitals and a space follows at once, as in most lines of rows.
+#[inline(always)]
+fn rows_of(line: &[u8]) -> Option<Tokens<'_>>
+    ensures { IfSome result (λ rows. tokens line.now ≡ codes "PATCH" ∷ left rows) }
+{
+    if line.starts_with(b"PATCH ") {
+        Some(tokens(&line[6..]))
+    } else {
+        None
+    }
+}
+
 /// The word that a token is, whatever the case of its letters.
-pub(crate) fn word_of(token: &[u8]) -> Word
+fn word_of(token: &[u8]) -> Word
     ensures { result ≡ word_of token.now }
 {
     match find_word(&SPELLINGS, token) {

@@ -11,6 +11,7 @@ use crate::staged::level_on_stage;
 use lx_base::{Chan, CueNo, Level};
 use lx_console::Console;
 use lx_edit::{add, channel, with_moves};
+use lx_io::SystemHeap;
 use lx_show::{Cue, Move};
 use std::alloc::AllocError;
 
@@ -38,7 +39,13 @@ fn keeping(console: &Console, above: &Cue) -> Result<Cue, AllocError>
     ensures valid { IfOk result (ValidCue console.now.show.channels) }
 {
     let moves = kept_moves(console, above)?;
-    with_moves(console.show().channels(), above, moves.as_slice())
+    let mut heap = SystemHeap::new(console.allocator());
+    with_moves(
+        &mut heap,
+        console.show().channels(),
+        above,
+        moves.as_slice(),
+    )
 }
 
 /// Those moves.
@@ -46,11 +53,12 @@ fn kept_moves(console: &Console, above: &Cue) -> Result<Vec<Move>, AllocError>
     ensures { IfOk result (λ moves. moves.items ≡ moves_for console.now.show (comes_out_changed (level_now console.now) console.now.show above.now)
         (tracked console.now.show above.now.number)) }
 {
+    let mut heap = SystemHeap::new(console.allocator());
     let mut moves = Vec::new(console.allocator());
     for k in 1..console.show().channels() + 1 {
         let c = channel(k);
         let level = kept_level(console, above, c);
-        add(&mut moves, c, level)?;
+        add(&mut heap, &mut moves, c, level)?;
     }
     Ok(moves)
 }

@@ -11,6 +11,7 @@ ghost use Rattle.lx_record.specs.Cues.{cue_or_new};
 use lx_base::{Chan, CueNo, Level};
 use lx_console::Console;
 use lx_edit::{channel, with_levels};
+use lx_io::SystemHeap;
 use lx_show::{Cue, Member};
 use std::alloc::AllocError;
 
@@ -23,13 +24,13 @@ pub(crate) fn staged(console: &Console, n: CueNo) -> Result<Cue, AllocError>
     ensures valid { IfOk result (ValidCue console.now.show.channels) }
 {
     let show = console.show();
-    let alloc = console.allocator();
+    let mut heap = SystemHeap::new(console.allocator());
     let members = untracked(console, n)?;
     match show.cue(n) {
-        Some(cue) => with_levels(alloc, show.channels(), cue, None, members.as_slice()),
+        Some(cue) => with_levels(&mut heap, show.channels(), cue, None, members.as_slice()),
         None => {
-            let cue = Cue::new(alloc, n);
-            with_levels(alloc, show.channels(), &cue, None, members.as_slice())
+            let cue = Cue::new(console.allocator(), n);
+            with_levels(&mut heap, show.channels(), &cue, None, members.as_slice())
         }
     }
 }

@@ -15,7 +15,7 @@ use lx_show::Cue;
 /// has, and its label if there is one. A fault is the sink's own, and then a prefix of the line was
 /// appended.
 pub(crate) fn put_cue_line<K: Sink>(cue: &Cue, sink: &mut K) -> Result<(), SinkFault>
-    ensures { Puts K.holds K.faults K.wants sink.old sink.new result (cue_line cue.now) }
+    ensures { Puts K.Sink sink.old sink.new result (cue_line cue.now) }
 {
     put_kind(cue, sink)?;
     put_counts(cue, sink)?;
@@ -25,7 +25,7 @@ pub(crate) fn put_cue_line<K: Sink>(cue: &Cue, sink: &mut K) -> Result<(), SinkF
 
 /// Appends `cue`, the number and the kind.
 fn put_kind<K: Sink>(cue: &Cue, sink: &mut K) -> Result<(), SinkFault>
-    ensures { Puts K.holds K.faults K.wants sink.old sink.new result
+    ensures { Puts K.Sink sink.old sink.new result
         (codes "cue " ++ (cue_number_text cue.now.number ++ 32 ∷ kind_word cue.now.block)) }
 {
     put_all(sink, b"cue ")?;
@@ -42,7 +42,7 @@ fn kind_behind(block: bool) -> &'static [u8]
 
 /// Appends a space and a count, twice.
 fn put_counts<K: Sink>(cue: &Cue, sink: &mut K) -> Result<(), SinkFault>
-    ensures { Puts K.holds K.faults K.wants sink.old sink.new result
+    ensures { Puts K.Sink sink.old sink.new result
         (32 ∷ decimal (length cue.now.parts) ++ 32 ∷ decimal (length cue.now.moves)) }
 {
     put_all(sink, b" ")?;
@@ -53,7 +53,7 @@ fn put_counts<K: Sink>(cue: &Cue, sink: &mut K) -> Result<(), SinkFault>
 
 /// Appends a space and the label, where there is one.
 fn put_label<K: Sink>(cue: &Cue, sink: &mut K) -> Result<(), SinkFault>
-    ensures { Puts K.holds K.faults K.wants sink.old sink.new result (label_behind cue.now.label) }
+    ensures { Puts K.Sink sink.old sink.new result (label_behind cue.now.label) }
 {
     let label = cue.label.as_slice();
     if label.is_empty() {

@@ -20,7 +20,7 @@ use lx_show::{Cue, Show};
 /// stands for the show. A fault is the sink's own, and then a prefix of the list was appended.
 pub fn put_cue_list<K: Sink>(show: &Show, sheet: &Sheet, sink: &mut K) -> Result<(), SinkFault>
     requires { RowsStandFor show.now sheet.now }
-    ensures { Puts K.holds K.faults K.wants sink.old sink.new result (flat_map (cue_lines show.now) show.now.cues) }
+    ensures { Puts K.Sink sink.old sink.new result (flat_map (cue_lines show.now) show.now.cues) }
 {
     for cue in show.cues() {
         put_cue(cue, row_in(show, sheet, cue), sink)?;
@@ -30,7 +30,7 @@ pub fn put_cue_list<K: Sink>(show: &Show, sheet: &Sheet, sink: &mut K) -> Result
 
 /// Appends the two lines of a cue.
 fn put_cue<K: Sink>(cue: &Cue, row: &[Level], sink: &mut K) -> Result<(), SinkFault>
-    ensures { Puts K.holds K.faults K.wants sink.old sink.new result (cue_line cue.now ++ row_text cue.now.number row.now) }
+    ensures { Puts K.Sink sink.old sink.new result (cue_line cue.now ++ row_text cue.now.number row.now) }
 {
     put_cue_line(cue, sink)?;
     put_row(cue.number, row, sink)

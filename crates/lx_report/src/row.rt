@@ -13,7 +13,7 @@ use lx_script::put_cells;
 /// `channel=level` in decimal. The level of channel c stands at place c - 1. A fault is the sink's own, and
 /// then a prefix of the line was appended.
 pub fn put_row<K: Sink>(n: CueNo, row: &[Level], sink: &mut K) -> Result<(), SinkFault>
-    ensures { Puts K.holds K.faults K.wants sink.old sink.new result (row_text n row.now) }
+    ensures { Puts K.Sink sink.old sink.new result (row_text n row.now) }
 {
     put_all(sink, b"row ")?;
     put_cue_no(n, sink)?;

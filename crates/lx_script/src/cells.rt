@@ -25,7 +25,7 @@ const NEAR: usize = 9_999;
 /// Appends ` number=level` in decimal for each level that isn't 0, rising, the first level's number being 1. A fault is
 /// the sink's own, and then a prefix of the text was appended.
 pub fn put_cells<K: Sink>(levels: &[Level], sink: &mut K) -> Result<(), SinkFault>
-    ensures { Puts K.holds K.faults K.wants sink.old sink.new result (flat_map (λ word. 32 ∷ word) (cells levels.now)) }
+    ensures { Puts K.Sink sink.old sink.new result (flat_map (λ word. 32 ∷ word) (cells levels.now)) }
 {
     let mut from = 0;
     while from < levels.len() {
@@ -85,7 +85,7 @@ fn put_piece<K: Sink>(number: u64, levels: &[Level], sink: &mut K) -> Result<(),
     requires near { number ≤ NEAR → (n : ℕ) → number ≤ n → n < number + length levels.now
         → (n ≤ NEAR) × (length (decimal n) ≡ length (decimal number)) }
     requires far { NEAR < number → length levels.now ≡ 1 }
-    ensures { Puts K.holds K.faults K.wants sink.old sink.new result (cells_from number levels.now) }
+    ensures { Puts K.Sink sink.old sink.new result (cells_from number levels.now) }
 {
     if number > NEAR as u64 {
         return put_far(number, levels[0], sink);
@@ -95,7 +95,7 @@ fn put_piece<K: Sink>(number: u64, levels: &[Level], sink: &mut K) -> Result<(),
 
 /// Appends the cell of a level.
 fn put_far<K: Sink>(number: u64, level: Level, sink: &mut K) -> Result<(), SinkFault>
-    ensures { Puts K.holds K.faults K.wants sink.old sink.new result (cell_text number level) }
+    ensures { Puts K.Sink sink.old sink.new result (cell_text number level) }
 {
     if level == 0 {
         return Ok(());

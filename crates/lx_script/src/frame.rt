@@ -22,7 +22,7 @@ pub fn put_frame<K: Sink>(
     sink: &mut K,
 ) -> Result<(), SinkFault>
     requires { length slots.now ≡ UNIVERSE_SLOTS }
-    ensures { Puts K.holds K.faults K.wants sink.old sink.new result (frame_text (count_words count) m universe slots.now) }
+    ensures { Puts K.Sink sink.old sink.new result (frame_text (count_words count) m universe slots.now) }
 {
     put_head(count, m, universe, sink)?;
     put_cells(slots, sink)?;
@@ -36,7 +36,7 @@ fn put_head<K: Sink>(
     universe: u8,
     sink: &mut K,
 ) -> Result<(), SinkFault>
-    ensures { Puts K.holds K.faults K.wants sink.old sink.new result
+    ensures { Puts K.Sink sink.old sink.new result
         (codes "frame" ++ (flat_map (λ word. 32 ∷ word) (count_words count) ++ (32 ∷ decimal m ++ 32 ∷ decimal universe))) }
 {
     put_start(count, sink)?;
@@ -46,7 +46,7 @@ fn put_head<K: Sink>(
 
 /// Appends `frame`, the count where there is one, and a space behind each.
 fn put_start<K: Sink>(count: Option<u64>, sink: &mut K) -> Result<(), SinkFault>
-    ensures { Puts K.holds K.faults K.wants sink.old sink.new result
+    ensures { Puts K.Sink sink.old sink.new result
         (codes "frame" ++ (flat_map (λ word. 32 ∷ word) (count_words count) ++ 32 ∷ [])) }
 {
     put_all(sink, b"frame ")?;

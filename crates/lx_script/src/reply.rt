@@ -27,7 +27,7 @@ pub enum Reply {
 /// own, and then a prefix of the line was appended.
 #[inline(always)]
 pub fn put_reply<K: Sink>(reply: &Reply, sink: &mut K) -> Result<(), SinkFault>
-    ensures { Puts K.holds K.faults K.wants sink.old sink.new result (reply_text reply.now) }
+    ensures { Puts K.Sink sink.old sink.new result (reply_text reply.now) }
 {
     match reply {
         Reply::Ok => put_all(sink, b"ok\n"),
@@ -40,7 +40,7 @@ pub fn put_reply<K: Sink>(reply: &Reply, sink: &mut K) -> Result<(), SinkFault>
 /// it and one more. It is a function of its own, so that `ok` and `bad` don't pay for the room of its texts.
 #[inline(never)]
 fn put_refused<K: Sink>(refusal: &Refusal, sink: &mut K) -> Result<(), SinkFault>
-    ensures { Puts K.holds K.faults K.wants sink.old sink.new result (refused_text refusal.now) }
+    ensures { Puts K.Sink sink.old sink.new result (refused_text refusal.now) }
 {
     match refusal {
         Refusal::AbsentCue(cue) => put_of_cue(b"refused AbsentCue ", *cue, sink),
@@ -78,14 +78,14 @@ fn put_refused<K: Sink>(refusal: &Refusal, sink: &mut K) -> Result<(), SinkFault
 #[inline(always)]
 fn put_of_cue<K: Sink>(start: &[u8], cue: CueNo, sink: &mut K) -> Result<(), SinkFault>
     requires { length start.now ≤ 22 }
-    ensures { Puts K.holds K.faults K.wants sink.old sink.new result (start.now ++ (cue_number_text cue ++ 10 ∷ [])) }
+    ensures { Puts K.Sink sink.old sink.new result (start.now ++ (cue_number_text cue ++ 10 ∷ [])) }
 {
     put_cue_no_between(start, cue, b'\n', sink)
 }
 
 /// Appends the start of a line and the whole number that ends it.
 fn put_of_number<K: Sink>(start: &[u8], number: u32, sink: &mut K) -> Result<(), SinkFault>
-    ensures { Puts K.holds K.faults K.wants sink.old sink.new result (start.now ++ (decimal number ++ 10 ∷ [])) }
+    ensures { Puts K.Sink sink.old sink.new result (start.now ++ (decimal number ++ 10 ∷ [])) }
 {
     put_all(sink, start)?;
     put_count_and(u64::from(number), b'\n', sink)
@@ -93,7 +93,7 @@ fn put_of_number<K: Sink>(start: &[u8], number: u32, sink: &mut K) -> Result<(),
 
 /// Appends the start of a line, a cue number and the number of what is in the cue, which ends the line.
 fn put_in_cue<K: Sink>(start: &[u8], cue: CueNo, number: u32, sink: &mut K) -> Result<(), SinkFault>
-    ensures { Puts K.holds K.faults K.wants sink.old sink.new result
+    ensures { Puts K.Sink sink.old sink.new result
         (start.now ++ ((cue_number_text cue ++ 32 ∷ decimal number) ++ 10 ∷ [])) }
 {
     put_all(sink, start)?;

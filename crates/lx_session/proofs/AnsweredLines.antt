@@ -4,7 +4,7 @@ use Rattle.lx_session.proofs.Imports.{refl, sym, ap, ◌∙◌, subst, arith, ap
 use Rattle.lx_session.proofs.Imports.{Kept, Session, Counts, bad_reply, frame, frame_text, DeskState, Attempt, command_of, count_of, tried, after_attempts}
 use Rattle.lx_session.proofs.Imports.{after_meaning, IsAcceptedEdit, MayFailAt, StandsFor, Tally, LineState, next_of, unattempted, LineProgress}
 use Rattle.lx_session.proofs.Imports.{CommandHasFailed, resumed, reply_to, reply_for, counts_after, counts_in, counted as counted_in, ListenedAttempt, heard_of}
-use Rattle.lx_session.proofs.Imports.{after_commands, LineAnswer}
+use Rattle.lx_session.proofs.Imports.{after_commands, LineAnswer, ToldBySink}
 use Rattle.lx_spec.specs.declared.Command.TheVariants as commands
 use Rattle.lx_spec.specs.declared.Line.TheVariants as lines
 use Rattle.lx_script.specs.declared.reply.Reply.{Reply}
@@ -82,7 +82,7 @@ at_an_edit all heard s meaning turn console t is every =
     (t.still (one_attempt t.now.desk meaning w) (refused_then turn.refusal (t.at None) t.not_yet is)) w
 
 -- A line was attempted at a desk, in a session of any kind that had counted so, and replied to.
-pub record TurnAnswer {K T : Type 0} (all : Bool) (heard : List Command → Type 0) (holds : K → Option (List ℕ)) (faults wants : K → ℕ)
+pub record TurnAnswer {K T : Type 0} (all : Bool) (heard : List Command → Type 0) (told : ToldBySink K)
     (sink sink' : K) (result : Result T SinkFault) (counted : Counts) (start : DeskState) (meaning : Option Line) (console : Kept)
     (tally : Tally) : Type 0 where
   pub failed : Option ℕ
@@ -95,7 +95,7 @@ pub record TurnAnswer {K T : Type 0} (all : Bool) (heard : List Command → Type
   pub desk : now.desk ≡ after_commands start.desk commands
   pub listened : heard commands
   pub stands : StandsFor now.desk console
-  pub puts : Puts holds faults wants sink sink' result (reply_to now.desk meaning refusal)
+  pub puts : Puts told sink sink' result (reply_to now.desk meaning refusal)
   pub counts : OnOk result (counts_after now.desk counted meaning refusal ≡ counts_in tally)
 
 -- a fact where the answer is Ok, from another
@@ -108,14 +108,14 @@ counts_are : (d : Desk) (own : Counts) (meaning meaning' : Option Line) (refusal
 counts_are d own meaning meaning' refusal before after same counted e =
     ap (λ (c : Counts). counts_after d c meaning refusal) counted ∙ sym (e ∙ ap (λ (m : Option Line). counts_after d before m refusal) same)
 
-pub turn_answered : {K T : Type 0} (all : Bool) (heard : List Command → Type 0) (holds : K → Option (List ℕ)) (faults wants : K → ℕ)
+pub turn_answered : {K T : Type 0} (all : Bool) (heard : List Command → Type 0) (told : ToldBySink K)
     (sink sink' : K) (result : Result T SinkFault) (own : Counts) (start : DeskState) (meaning : Option Line) (turn : LineState)
     (console : Kept) (before after : Tally)
     → LineProgress all heard start (unattempted meaning) turn console → next_of turn ≡ None → own ≡ counts_in before
-    → ((d : Desk) → StandsFor d console → Puts holds faults wants sink sink' result (reply_to d turn.meaning turn.refusal))
+    → ((d : Desk) → StandsFor d console → Puts told sink sink' result (reply_to d turn.meaning turn.refusal))
     → ((d : Desk) → StandsFor d console → OnOk result (counts_in after ≡ counts_after d (counts_in before) turn.meaning turn.refusal))
-    → TurnAnswer all heard holds faults wants sink sink' result own start meaning console after
-turn_answered all heard holds faults wants sink sink' result own start meaning turn console before after t done counted puts counts =
+    → TurnAnswer all heard told sink sink' result own start meaning console after
+turn_answered all heard told sink sink' result own start meaning turn console before after t done counted puts counts =
     let same : turn.meaning ≡ meaning = t.meaning in
     record {
       failed = t.at None;
@@ -128,7 +128,7 @@ turn_answered all heard holds faults wants sink sink' result own start meaning t
       desk = t.desk;
       listened = t.listened;
       stands = t.stands;
-      puts = subst (λ m. Puts holds faults wants sink sink' result (reply_to t.now.desk m turn.refusal)) same (puts t.now.desk t.stands);
+      puts = subst (λ m. Puts told sink sink' result (reply_to t.now.desk m turn.refusal)) same (puts t.now.desk t.stands);
       counts = over_ok result _ _ (λ e. counts_are t.now.desk own meaning turn.meaning turn.refusal (counts_in before) (counts_in after) same
           counted e) (counts t.now.desk t.stands);
     }
@@ -144,11 +144,11 @@ counted_so (Ok x) next told after is e = is ∙ e
 counted_so (Err x) next told after is e = tt
 
 -- a line of the desk's own session
-pub line_answered : {K T : Type 0} (all : Bool) (heard : List Command → Type 0) (holds : K → Option (List ℕ)) (faults wants : K → ℕ)
+pub line_answered : {K T : Type 0} (all : Bool) (heard : List Command → Type 0) (told : ToldBySink K)
     (sink sink' : K) (result : Result T SinkFault) (s : Session DeskState) (meaning : Option Line) (console : Kept) (tally : Tally)
-    → TurnAnswer all heard holds faults wants sink sink' result s.counts s.state meaning console tally
-    → LineAnswer all heard holds faults wants sink sink' result s meaning console tally
-line_answered all heard holds faults wants sink sink' result s meaning console tally a =
+    → TurnAnswer all heard told sink sink' result s.counts s.state meaning console tally
+    → LineAnswer all heard told sink sink' result s meaning console tally
+line_answered all heard told sink sink' result s meaning console tally a =
     let t : Attempt = record { state = a.now; refusal = a.refusal } in
     let r = with_reply_is s meaning t a.now in
     record {
@@ -170,16 +170,16 @@ line_answered all heard holds faults wants sink sink' result s meaning console t
           (counts_in tally) r.counts a.counts;
     }
 
-pub answered : {K T : Type 0} (all : Bool) (heard : List Command → Type 0) (holds : K → Option (List ℕ)) (faults wants : K → ℕ)
+pub answered : {K T : Type 0} (all : Bool) (heard : List Command → Type 0) (told : ToldBySink K)
     (sink sink' : K) (result : Result T SinkFault) (s : Session DeskState) (meaning : Option Line) (turn : LineState) (console : Kept)
     (before after : Tally)
     → LineProgress all heard s.state (unattempted meaning) turn console → next_of turn ≡ None → s.counts ≡ counts_in before
-    → ((d : Desk) → StandsFor d console → Puts holds faults wants sink sink' result (reply_to d turn.meaning turn.refusal))
+    → ((d : Desk) → StandsFor d console → Puts told sink sink' result (reply_to d turn.meaning turn.refusal))
     → ((d : Desk) → StandsFor d console → OnOk result (counts_in after ≡ counts_after d (counts_in before) turn.meaning turn.refusal))
-    → LineAnswer all heard holds faults wants sink sink' result s meaning console after
-answered all heard holds faults wants sink sink' result s meaning turn console before after t done counted puts counts =
-    line_answered all heard holds faults wants sink sink' result s meaning console after
-    (turn_answered all heard holds faults wants sink sink' result s.counts s.state meaning turn console before after t done counted puts counts)
+    → LineAnswer all heard told sink sink' result s meaning console after
+answered all heard told sink sink' result s meaning turn console before after t done counted puts counts =
+    line_answered all heard told sink sink' result s meaning console after
+    (turn_answered all heard told sink sink' result s.counts s.state meaning turn console before after t done counted puts counts)
 
 -- the reply to one command, and what it counts
 reply_is : (d : Desk) (command : Command) (refusal : Option Refusal)
@@ -198,33 +198,31 @@ none_left meaning None = refl
 none_left meaning (Some r) = refl
 
 -- A line of one command, which was attempted and replied to.
-pub one_command : {K T : Type 0} (all : Bool) (heard : List Command → Type 0) (holds : K → Option (List ℕ)) (faults wants : K → ℕ)
+pub one_command : {K T : Type 0} (all : Bool) (heard : List Command → Type 0) (told : ToldBySink K)
     (sink sink' : K) (result : Result T SinkFault) (s : Session DeskState) (command : Command) (refusal : Option Refusal)
     (before_it after_it : Kept) (before after : Tally) → StandsFor s.state.desk before_it → s.counts ≡ counts_in before
     → ((d : Desk) → StandsFor d before_it → ListenedAttempt all d command refusal after_it) → heard (heard_of command refusal)
-    → (reply : Reply) → reply ≡ reply_for refusal → Puts holds faults wants sink sink' result (reply_text reply)
+    → (reply : Reply) → reply ≡ reply_for refusal → Puts told sink sink' result (reply_text reply)
     → counts_in after ≡ counted_in reply (counts_in before)
-    → LineAnswer all heard holds faults wants sink sink' result s (Some (lines.Command command)) after_it after
-one_command all heard holds faults wants sink sink' result s command refusal before_it after_it before after stands counted attempt h
+    → LineAnswer all heard told sink sink' result s (Some (lines.Command command)) after_it after
+one_command all heard told sink sink' result s command refusal before_it after_it before after stands counted attempt h
     reply is puts counts =
     let meaning : Option Line = Some (lines.Command command) in
     let old : LineState = unattempted meaning in
-    answered all heard holds faults wants sink sink' result s meaning (record { meaning = meaning; left = 0; refusal = refusal }) after_it
+    answered all heard told sink sink' result s meaning (record { meaning = meaning; left = 0; refusal = refusal }) after_it
     before after
     (attempted_so all (λ done. done ≡ []) heard s.state old old (record { meaning = meaning; left = 0; refusal = refusal }) command refusal
     before_it after_it (nothing_yet all (λ done. done ≡ []) s.state before_it stands old refl refl) refl attempt
     (λ done none. subst (λ first. heard (first ++ heard_of command refusal)) (sym none) h) refl)
-    (none_left meaning refusal) counted
-    (λ d here. subst (Puts holds faults wants sink sink' result) (ap reply_text is ∙ reply_is d command refusal) puts)
+    (none_left meaning refusal) counted (λ d here. subst (Puts told sink sink' result) (ap reply_text is ∙ reply_is d command refusal) puts)
     (λ d here. on_ok result _ (counts ∙ ap (λ r. counted_in r (counts_in before)) is ∙ counts_is d (counts_in before) command refusal))
 
 -- A bad line attempts nothing, and was replied to.
-pub bad_line : {K T : Type 0} (all : Bool) (heard : List Command → Type 0) (holds : K → Option (List ℕ)) (faults wants : K → ℕ)
+pub bad_line : {K T : Type 0} (all : Bool) (heard : List Command → Type 0) (told : ToldBySink K)
     (sink sink' : K) (result : Result T SinkFault) (s : Session DeskState) (console : Kept) (before after : Tally) → StandsFor s.state.desk console
-    → s.counts ≡ counts_in before → heard [] → Puts holds faults wants sink sink' result (reply_text replies.Bad)
-    → counts_in after ≡ counted_in replies.Bad (counts_in before)
-    → LineAnswer all heard holds faults wants sink sink' result s None console after
-bad_line all heard holds faults wants sink sink' result s console before after stands counted h puts counts = record {
+    → s.counts ≡ counts_in before → heard [] → Puts told sink sink' result (reply_text replies.Bad)
+    → counts_in after ≡ counted_in replies.Bad (counts_in before) → LineAnswer all heard told sink sink' result s None console after
+bad_line all heard told sink sink' result s console before after stands counted h puts counts = record {
   next = bad_reply s;
   failed = None;
   goes_on = record {
@@ -244,12 +242,12 @@ bad_line all heard holds faults wants sink sink' result s console before after s
 }
 
 -- A line that asks for a frame attempts nothing, and was answered by the frame's text.
-pub frame_line : {K T : Type 0} (all : Bool) (heard : List Command → Type 0) (holds : K → Option (List ℕ)) (faults wants : K → ℕ)
+pub frame_line : {K T : Type 0} (all : Bool) (heard : List Command → Type 0) (told : ToldBySink K)
     (sink sink' : K) (result : Result T SinkFault) (s : Session DeskState) (u : ℕ) (console : Kept) (tally : Tally)
     → StandsFor s.state.desk console → s.counts ≡ counts_in tally → heard []
-    → Puts holds faults wants sink sink' result (frame_text [] s.state.desk.playback.moment u (frame s.state.desk u))
-    → LineAnswer all heard holds faults wants sink sink' result s (Some (lines.Frame u)) console tally
-frame_line all heard holds faults wants sink sink' result s u console tally stands counted h puts = record {
+    → Puts told sink sink' result (frame_text [] s.state.desk.playback.moment u (frame s.state.desk u))
+    → LineAnswer all heard told sink sink' result s (Some (lines.Frame u)) console tally
+frame_line all heard told sink sink' result s u console tally stands counted h puts = record {
   next = after_meaning None s (Some (lines.Frame u));
   failed = None;
   goes_on = record {

@@ -2,8 +2,8 @@
 use Rattle.lx_session.proofs.Imports.{◌≡◌, ◌<◌, Bool, true, false, cond, Option, Some, None, IfSome, Result, List, ◌++◌, length, ℕ, ◌∙◌}
 use Rattle.lx_session.proofs.Imports.{ap, sym, refl, subst, arith, nat_lt, nat_tests, fold-append, LINE_BYTES, SinkFault, Command, Line, Kept, Desk}
 use Rattle.lx_session.proofs.Imports.{after_command, tokens, Session, is_quit, DeskState, tried, after_meaning, MayFailAt, desk_answering, Tally}
-use Rattle.lx_session.proofs.Imports.{after_commands, Known, reply_to, meaning_of, IsLine, ExtendsText, IsLawful, OneAnswer, LineAnswer, Beginning, HasDone}
-use Rattle.lx_session.proofs.Imports.{HasHeard}
+use Rattle.lx_session.proofs.Imports.{after_commands, reply_to, meaning_of, IsLine, ExtendsText, IsLawful, OneAnswer, LineAnswer, Beginning, HasDone}
+use Rattle.lx_session.proofs.Imports.{HasHeard, ToldBySink}
 use Rattle.lx_spec.specs.declared.Line.TheVariants as lines
 use Rattle.lx_spec.specs.Script.{line_of, meaning}
 use Rattle.lx_session.proofs.RepliedLines.{finished}
@@ -64,13 +64,12 @@ may_fail false true so_far d meaning (Some k) may = let no : false ≡ true = so
 
 -- a line that was answered on the console was answered for the state
 pub answered_heard : {K T L : Type 0} (all_here all : Bool) → (all ≡ true → all_here ≡ true) → (heard : L → L → List Command → Type 0) (since : Beginning L) (first now : L)
-    (holds : K → Known) (faults wants : K → ℕ) (sink sink' : K) (result : Result T SinkFault) (s : Session DeskState) (text : List ℕ)
+    (told : ToldBySink K) (sink sink' : K) (result : Result T SinkFault) (s : Session DeskState) (text : List ℕ)
     (before console : Kept) (tally : Tally)
     → ((last : L) (done more : List Command) → heard last first done → heard first now more → heard last now (done ++ more))
-    → HasHeard heard since s.state first before
-    → LineAnswer all_here (heard first now) holds faults wants sink sink' result s (line_of text) console tally
-    → OneAnswer (desk_answering all) holds faults wants sink sink' result s text (λ state. HasHeard heard since state now console) tally
-answered_heard all_here all so_far heard since first now holds faults wants sink sink' result s text before console tally both h a = record {
+    → HasHeard heard since s.state first before → LineAnswer all_here (heard first now) told sink sink' result s (line_of text) console tally
+    → OneAnswer (desk_answering all) told sink sink' result s text (λ state. HasHeard heard since state now console) tally
+answered_heard all_here all so_far heard since first now told sink sink' result s text before console tally both h a = record {
   next = a.next;
   failed = a.failed;
   goes_on = record { is = a.goes_on.is; allowed = may_fail all_here all so_far s.state.desk (line_of text) a.failed a.goes_on.allowed };

@@ -8,6 +8,7 @@ pub use Rattle.lx_console.specs.ConsoleMeaning.{Answers, Obeys, StandsFor}
 pub use Rattle.lx_io.proofs.Chain.{AppendsFront-from, AppendsFront-is, Puts-is, Puts-ok, Puts-stops}
 pub use Rattle.lx_io.specs.Puts.{AppendsFront, Puts}
 pub use Rattle.lx_io.specs.declared.sink.SinkFault.{SinkFault}
+pub use Rattle.lx_io.specs.Told.{ToldBySink, ToldBySource}
 pub use Rattle.lx_lex.proofs.HandingOut.{handed_none, handed_one, handed_then}
 pub use Rattle.lx_lex.proofs.TakenLines.{all_texts, lines_within, next_too_long, texts}
 pub use Rattle.lx_lex.specs.CutOff.{NotTaken}

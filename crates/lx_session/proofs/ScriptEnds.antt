@@ -6,7 +6,7 @@ use Rattle.lx_session.proofs.Imports.{Appends-kept, map-append, length-map, Appe
 use Rattle.lx_session.proofs.Imports.{LinesBetween, handed_then, all_texts, without_cr, lines_of, first_lines, Session, Answering, begin_at, after_each}
 use Rattle.lx_session.proofs.Imports.{AreAllowed, ends_script, answered_lines, whole_session, session_after, Allows, Tally, Known, QuitLine, HalfAnsweredLine}
 use Rattle.lx_session.proofs.Imports.{Untouched, ScriptEnd, SinkStop, LineOutcome, counts_in, IsLawful, AnsweredWhole, AnsweredPrefix, AnsweredTaken}
-use Rattle.lx_session.proofs.Imports.{ScriptAnswered, KeepsLimit, SessionFault}
+use Rattle.lx_session.proofs.Imports.{ScriptAnswered, KeepsLimit, SessionFault, ToldBySource}
 use Rattle.std.proofs.Math.Seq.{take-append_seam, take-append-add}
 use Rattle.lx_lex.proofs.CuttingOff.{cut_off}
 use Rattle.lx_session.specs.declared.fault.SessionFault.TheVariants.{ReadFault, WriteFault, InputTooLong, Memory}
@@ -47,22 +47,20 @@ answers_all by Stands state script lines failures now h h' tally is done appende
 
 -- The script has ended: the whole text was written.
 pub so_far_ends : {S : Type 0} (by : Answering (List ℕ)) (Stood Stands : by.State → Type 0)
-    (left : S → Known) (faults : S → ℕ) (a b c : Lines S) (state : by.State) (tally tally' : Tally) (h h' h'' : Known)
-    → (s : SoFar by Stood left faults a b state tally h h') → ScriptEnd Stands h' h'' s.now tally'
-    → IsAtEnd (unread left b) ⊎ QuitLine left faults b c
-    → IfSome (unread left a) (λ bytes. AnsweredWhole by Stands state (lines_of bytes) h h'' tally')
-so_far_ends by Stood Stands left faults a b c state tally tally' h h' h'' s e how =
+    (told : ToldBySource S) (a b c : Lines S) (state : by.State) (tally tally' : Tally) (h h' h'' : Known)
+    → (s : SoFar by Stood told a b state tally h h') → ScriptEnd Stands h' h'' s.now tally' → IsAtEnd (unread told b) ⊎ QuitLine told b c
+    → IfSome (unread told a) (λ bytes. AnsweredWhole by Stands state (lines_of bytes) h h'' tally')
+so_far_ends by Stood Stands told a b c state tally tally' h h' h'' s e how =
     let lines = map without_cr s.raws in
     let appended = Appends-kept h h' h'' s.now.text s.appended e.same.kept in
     elim how [
       | inl end ↦
-          over (unread left a) (λ xs. lines_of xs ≡ lines) _
-          (all_texts (unread left a) (unread left b) a.taken b.taken s.raws s.handed.took end)
+          over (unread told a) (λ xs. lines_of xs ≡ lines) _ (all_texts (unread told a) (unread told b) a.taken b.taken s.raws s.handed.took end)
           (λ xs is. answers_all by Stands state (lines_of xs) lines s.failures s.now h h'' tally'
           (ap (before_first ends_script) is ∙ before_all lines s.done.go_on) s.done appended e.same.stands e.counts)
       | inr q ↦
-          over (unread left a) _ _ (begins_more (unread left a) (unread left c) a.taken c.taken s.raws q.raw
-          (handed_then left faults a b c s.raws (q.raw ∷ []) s.handed q.handed).took)
+          over (unread told a) _ _ (begins_more (unread told a) (unread told c) a.taken c.taken s.raws q.raw
+          (handed_then told a b c s.raws (q.raw ∷ []) s.handed q.handed).took)
           (λ xs is. answers_all by Stands state (lines_of xs) lines s.failures s.now h h'' tally'
           (ap (before_first ends_script) is.1 ∙ before_quit lines (without_cr q.raw) is.0 s.done.go_on q.quits) s.done appended
           e.same.stands e.counts)
@@ -132,48 +130,45 @@ answers_front by Stands state xs o lines rest failures now n h h' written more i
 
 -- between two lines
 stops : {S : Type 0} (by : Answering (List ℕ)) (Stood Stands : by.State → Type 0)
-    (left : S → Known) (faults : S → ℕ) (a b c : Lines S) (state : by.State) (tally : Tally) (h h' h'' : Known)
-    → (s : SoFar by Stood left faults a b state tally h h') → Untouched Stands h' h'' s.now
-    → IfSome (unread left b) (λ xs. IfSome (unread left c) (λ ys. xs ≡ ys))
-    → IfSome (unread left a) (λ bytes. AnsweredPrefix by Stands state bytes (unread left c) h h'')
-stops by Stood Stands left faults a b c state tally h h' h'' s u same =
+    (told : ToldBySource S) (a b c : Lines S) (state : by.State) (tally : Tally) (h h' h'' : Known)
+    → (s : SoFar by Stood told a b state tally h h') → Untouched Stands h' h'' s.now
+    → IfSome (unread told b) (λ xs. IfSome (unread told c) (λ ys. xs ≡ ys))
+    → IfSome (unread told a) (λ bytes. AnsweredPrefix by Stands state bytes (unread told c) h h'')
+stops by Stood Stands told a b c state tally h h' h'' s u same =
     let lines = map without_cr s.raws in
-    with_both (unread left a) _ _ _ (begins (unread left a) (unread left b) a.taken b.taken s.raws s.handed.took)
-    (handed_still (unread left a) (unread left b) (unread left c) a.taken b.taken s.raws s.handed.took same) (λ xs is handed.
-    answers_front by Stands state xs (unread left c) lines (before_first ends_script is.0) s.failures s.now
-    (length s.raws) h h'' s.now.text []
+    with_both (unread told a) _ _ _ (begins (unread told a) (unread told b) a.taken b.taken s.raws s.handed.took)
+    (handed_still (unread told a) (unread told b) (unread told c) a.taken b.taken s.raws s.handed.took same) (λ xs is handed.
+    answers_front by Stands state xs (unread told c) lines (before_first ends_script is.0) s.failures s.now (length s.raws) h h'' s.now.text []
     (ap (before_first ends_script) is.1 ∙ before_end lines is.0 s.done.go_on) (take_raws s.raws (before_first ends_script is.0)) s.done
     handed
     (sym (append-nil s.now.text)) (Appends-kept h h' h'' s.now.text s.appended u.kept) u.stands)
 
 -- after the line that ends the script
 stops_at_quit : {S : Type 0} (by : Answering (List ℕ)) (Stood Stands : by.State → Type 0)
-    (left : S → Known) (faults : S → ℕ) (a b c : Lines S) (state : by.State) (tally : Tally) (h h' h'' : Known)
-    → (s : SoFar by Stood left faults a b state tally h h') → Untouched Stands h' h'' s.now → QuitLine left faults b c
-    → IfSome (unread left a) (λ bytes. AnsweredPrefix by Stands state bytes (unread left c) h h'')
-stops_at_quit by Stood Stands left faults a b c state tally h h' h'' s u q =
+    (told : ToldBySource S) (a b c : Lines S) (state : by.State) (tally : Tally) (h h' h'' : Known)
+    → (s : SoFar by Stood told a b state tally h h') → Untouched Stands h' h'' s.now → QuitLine told b c
+    → IfSome (unread told a) (λ bytes. AnsweredPrefix by Stands state bytes (unread told c) h h'')
+stops_at_quit by Stood Stands told a b c state tally h h' h'' s u q =
     let lines = map without_cr s.raws in
-    let both = handed_then left faults a b c s.raws (q.raw ∷ []) s.handed q.handed in
-    with_both (unread left a) _ _ _ (begins_more (unread left a) (unread left c) a.taken c.taken s.raws q.raw both.took)
-    (handed_all (unread left a) (unread left c) a.taken c.taken (s.raws ++ q.raw ∷ []) both.took) (λ xs is handed.
-    answers_front by Stands state xs (unread left c) lines [] s.failures s.now (length (s.raws ++ q.raw ∷ [])) h h''
-    s.now.text []
+    let both = handed_then told a b c s.raws (q.raw ∷ []) s.handed q.handed in
+    with_both (unread told a) _ _ _ (begins_more (unread told a) (unread told c) a.taken c.taken s.raws q.raw both.took)
+    (handed_all (unread told a) (unread told c) a.taken c.taken (s.raws ++ q.raw ∷ []) both.took) (λ xs is handed.
+    answers_front by Stands state xs (unread told c) lines [] s.failures s.now (length (s.raws ++ q.raw ∷ [])) h h'' s.now.text []
     (ap (before_first ends_script) is.1 ∙ before_quit lines (without_cr q.raw) is.0 s.done.go_on q.quits ∙ sym (append-nil lines))
     (take_past s.raws q.raw) s.done handed
     (sym (append-nil s.now.text)) (Appends-kept h h' h'' s.now.text s.appended u.kept) u.stands)
 
 -- within a reply
 stops_in_reply : {S : Type 0} (by : Answering (List ℕ)) (Stood Stands : by.State → Type 0)
-    (left : S → Known) (faults : S → ℕ) (a b c : Lines S) (state : by.State) (tally : Tally) (h h' h'' : Known)
-    → (s : SoFar by Stood left faults a b state tally h h')
-    → HalfAnsweredLine by Stands left faults b c h' h'' s.now
-    → IfSome (unread left a) (λ bytes. AnsweredPrefix by Stands state bytes (unread left c) h h'')
-stops_in_reply by Stood Stands left faults a b c state tally h h' h'' s t =
+    (told : ToldBySource S) (a b c : Lines S) (state : by.State) (tally : Tally) (h h' h'' : Known) → (s : SoFar by Stood told a b state tally h h')
+    → HalfAnsweredLine by Stands told b c h' h'' s.now
+    → IfSome (unread told a) (λ bytes. AnsweredPrefix by Stands state bytes (unread told c) h h'')
+stops_in_reply by Stood Stands told a b c state tally h h' h'' s t =
     let w = t.part.done in
     let raws = s.raws ++ t.raw ∷ [] in
     let lines = map without_cr raws in
     let failures = s.failures ++ w.failed ∷ [] in
-    let both = handed_then left faults a b c s.raws (t.raw ∷ []) s.handed t.handed in
+    let both = handed_then told a b c s.raws (t.raw ∷ []) s.handed t.handed in
     let reply = t.part.reply in
     let part = AppendsFront-is h' h'' reply t.part.front in
     let front = take part.0 reply in
@@ -181,35 +176,35 @@ stops_in_reply by Stood Stands left faults a b c state tally h h' h'' s t =
     let done : Done by state lines failures w.next =
     subst (λ ls. Done by state ls failures w.next) (sym (map-append without_cr s.raws (t.raw ∷ [])))
     (done_more by Stands state (map without_cr s.raws) s.failures s.now (without_cr t.raw) reply s.done w) in
-    with_both (unread left a) _ _ _ (begins (unread left a) (unread left c) a.taken c.taken raws both.took)
-    (handed_all (unread left a) (unread left c) a.taken c.taken raws both.took) (λ xs is handed.
-    answers_front by Stands state xs (unread left c) lines (before_first ends_script is.0) failures w.next
+    with_both (unread told a) _ _ _ (begins (unread told a) (unread told c) a.taken c.taken raws both.took)
+    (handed_all (unread told a) (unread told c) a.taken c.taken raws both.took) (λ xs is handed.
+    answers_front by Stands state xs (unread told c) lines (before_first ends_script is.0) failures w.next
     (length raws) h h'' (s.now.text ++ front) rest
     (ap (before_first ends_script) is.1 ∙ before_end lines is.0 done.go_on) (take_raws raws (before_first ends_script is.0)) done handed
     (w.text ∙ ap (λ v. s.now.text ++ v) (sym (take-append-drop part.0 reply)) ∙ sym (append_assoc s.now.text front rest))
     (Appends-trans h h' h'' s.now.text front s.appended part.1) w.stands)
 
 so_far_stops : {S : Type 0} (by : Answering (List ℕ)) (Stood Stands : by.State → Type 0)
-    (left : S → Known) (faults : S → ℕ) (a b c : Lines S) (state : by.State) (tally : Tally) (h h' h'' : Known)
-    → (s : SoFar by Stood left faults a b state tally h h') → SinkStop by Stands left faults b c h' h'' s.now
-    → IfSome (unread left a) (λ bytes. AnsweredPrefix by Stands state bytes (unread left c) h h'')
-so_far_stops by Stood Stands left faults a b c state tally h h' h'' s how = elim how [
+    (told : ToldBySource S) (a b c : Lines S) (state : by.State) (tally : Tally) (h h' h'' : Known)
+    → (s : SoFar by Stood told a b state tally h h') → SinkStop by Stands told b c h' h'' s.now
+    → IfSome (unread told a) (λ bytes. AnsweredPrefix by Stands state bytes (unread told c) h h'')
+so_far_stops by Stood Stands told a b c state tally h h' h'' s how = elim how [
   | inl whole ↦ elim whole.1 [
-    | inl same ↦ stops by Stood Stands left faults a b c state tally h h' h'' s whole.0 same
-    | inr quit ↦ stops_at_quit by Stood Stands left faults a b c state tally h h' h'' s whole.0 quit
+    | inl same ↦ stops by Stood Stands told a b c state tally h h' h'' s whole.0 same
+    | inr quit ↦ stops_at_quit by Stood Stands told a b c state tally h h' h'' s whole.0 quit
   ]
-  | inr part ↦ stops_in_reply by Stood Stands left faults a b c state tally h h' h'' s part
+  | inr part ↦ stops_in_reply by Stood Stands told a b c state tally h h' h'' s part
 ]
 
 -- The source failed, or its limit was passed.
 so_far_unread : {S : Type 0} (by : Answering (List ℕ)) (Stood Stands : by.State → Type 0)
-    (left : S → Known) (faults : S → ℕ) (a b c : Lines S) (state : by.State) (tally : Tally) (h h' h'' : Known)
-    → (s : SoFar by Stood left faults a b state tally h h') → Untouched Stands h' h'' s.now → NotTaken left b c
-    → IfSome (unread left a) (λ bytes. AnsweredTaken by Stands state a.taken bytes (left c.source.now) h h'')
-so_far_unread by Stood Stands left faults a b c state tally h h' h'' s u n =
+    (told : ToldBySource S) (a b c : Lines S) (state : by.State) (tally : Tally) (h h' h'' : Known)
+    → (s : SoFar by Stood told a b state tally h h') → Untouched Stands h' h'' s.now → NotTaken told b c
+    → IfSome (unread told a) (λ bytes. AnsweredTaken by Stands state a.taken bytes (told.left c.source.now) h h'')
+so_far_unread by Stood Stands told a b c state tally h h' h'' s u n =
     let lines = map without_cr s.raws in
-    with_both (unread left a) _ _ _ (begins (unread left a) (unread left b) a.taken b.taken s.raws s.handed.took)
-    (cut_off left a b c s.raws s.handed.took n) (λ xs is cut.
+    with_both (unread told a) _ _ _ (begins (unread told a) (unread told b) a.taken b.taken s.raws s.handed.took)
+    (cut_off told a b c s.raws s.handed.took n) (λ xs is cut.
     let rest = before_first ends_script is.0 in
     let before : answered_lines (lines_of xs) ≡ lines ++ rest = ap answered_lines is.1 ∙ before_end lines is.0 s.done.go_on in
     let now : session_after by state (lines_of xs) s.failures cut.0.lines ≡ s.now =
@@ -227,20 +222,19 @@ so_far_unread by Stood Stands left faults a b c state tally h h' h'' s u n =
     })
 
 -- The session ended by a fault.
-pub so_far_fails : {S Since : Type 0} (by : Answering (List ℕ)) (Stood Stands : Since → by.State → Type 0) (since : Since) (left : S → Known)
-    (faults : S → ℕ) (a b c : Lines S) (state : by.State) (tally tally' : Tally) (h h' h'' : Known) (fault : SessionFault)
-    → SoFar by (Stood since) left faults a b state tally h h'
-    → LineOutcome by Stood Stands left faults b c h' h'' tally tally' (Err fault)
-    → IfSome (unread left a)
-    (λ bytes. ScriptAnswered by (Stands since) state a.taken bytes (unread left c) (left c.source.now) h h'' (Err fault))
-so_far_fails by Stood Stands since left faults a b c state tally tally' h h' h'' ReadFault s o =
-    so_far_unread by (Stood since) (Stands since) left faults a b c state tally h h' h'' s (o.same since s.now s.stands s.counts) o.cut
-so_far_fails by Stood Stands since left faults a b c state tally tally' h h' h'' InputTooLong s o =
-    so_far_unread by (Stood since) (Stands since) left faults a b c state tally h h' h'' s (o.0.same since s.now s.stands s.counts) o.0.cut
-so_far_fails by Stood Stands since left faults a b c state tally tally' h h' h'' WriteFault s o =
-    so_far_stops by (Stood since) (Stands since) left faults a b c state tally h h' h'' s (o since s.now s.stands s.counts)
-so_far_fails by Stood Stands since left faults a b c state tally tally' h h' h'' Memory s o =
-    so_far_stops by (Stood since) (Stands since) left faults a b c state tally h h' h'' s (o since s.now s.stands s.counts)
+pub so_far_fails : {S Since : Type 0} (by : Answering (List ℕ)) (Stood Stands : Since → by.State → Type 0) (since : Since) (told : ToldBySource S)
+    (a b c : Lines S) (state : by.State) (tally tally' : Tally) (h h' h'' : Known) (fault : SessionFault)
+    → SoFar by (Stood since) told a b state tally h h' → LineOutcome by Stood Stands told b c h' h'' tally tally' (Err fault)
+    → IfSome (unread told a)
+    (λ bytes. ScriptAnswered by (Stands since) state a.taken bytes (unread told c) (told.left c.source.now) h h'' (Err fault))
+so_far_fails by Stood Stands since told a b c state tally tally' h h' h'' ReadFault s o =
+    so_far_unread by (Stood since) (Stands since) told a b c state tally h h' h'' s (o.same since s.now s.stands s.counts) o.cut
+so_far_fails by Stood Stands since told a b c state tally tally' h h' h'' InputTooLong s o =
+    so_far_unread by (Stood since) (Stands since) told a b c state tally h h' h'' s (o.0.same since s.now s.stands s.counts) o.0.cut
+so_far_fails by Stood Stands since told a b c state tally tally' h h' h'' WriteFault s o =
+    so_far_stops by (Stood since) (Stands since) told a b c state tally h h' h'' s (o since s.now s.stands s.counts)
+so_far_fails by Stood Stands since told a b c state tally tally' h h' h'' Memory s o =
+    so_far_stops by (Stood since) (Stands since) told a b c state tally h h' h'' s (o since s.now s.stands s.counts)
 
 -- The limit of the input.
 always : (o : Option (List ℕ)) (P : List ℕ → Type 0) → ((xs : List ℕ) → P xs) → IfSome o P
@@ -248,13 +242,13 @@ always None P f = tt
 always (Some xs) P f = f xs
 
 pub fails_by_limit : {S Since : Type 0} (by : Answering (List ℕ)) (Stood Stands : Since → by.State → Type 0)
-    (left : S → Known) (faults : S → ℕ) (a b c : Lines S) (tally tally' : Tally) (h' h'' : Known) (fault : SessionFault)
-    → Passed left faults a b → LineOutcome by Stood Stands left faults b c h' h'' tally tally' (Err fault)
-    → IfSome (unread left a) (λ bytes. KeepsLimit a.taken bytes (Err fault))
-fails_by_limit by Stood Stands left faults a b c tally tally' h' h'' ReadFault passed o = always (unread left a) _ (λ xs. tt)
-fails_by_limit by Stood Stands left faults a b c tally tally' h' h'' InputTooLong passed o = too_long left faults a b c passed o.1
-fails_by_limit by Stood Stands left faults a b c tally tally' h' h'' WriteFault passed o = always (unread left a) _ (λ xs. tt)
-fails_by_limit by Stood Stands left faults a b c tally tally' h' h'' Memory passed o = always (unread left a) _ (λ xs. tt)
+    (told : ToldBySource S) (a b c : Lines S) (tally tally' : Tally) (h' h'' : Known) (fault : SessionFault)
+    → Passed told a b → LineOutcome by Stood Stands told b c h' h'' tally tally' (Err fault)
+    → IfSome (unread told a) (λ bytes. KeepsLimit a.taken bytes (Err fault))
+fails_by_limit by Stood Stands told a b c tally tally' h' h'' ReadFault passed o = always (unread told a) _ (λ xs. tt)
+fails_by_limit by Stood Stands told a b c tally tally' h' h'' InputTooLong passed o = too_long told a b c passed o.1
+fails_by_limit by Stood Stands told a b c tally tally' h' h'' WriteFault passed o = always (unread told a) _ (λ xs. tt)
+fails_by_limit by Stood Stands told a b c tally tally' h' h'' Memory passed o = always (unread told a) _ (λ xs. tt)
 
 -- The replies to the first lines are a front of the replies to all.
 more_of_whole : (by : Answering (List ℕ)) → IsLawful by → (state : by.State) (script : List (List ℕ)) (failures : List (Option ℕ)) (n : ℕ)

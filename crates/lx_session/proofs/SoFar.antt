@@ -5,7 +5,7 @@ use Rattle.lx_session.proofs.Imports.{append_assoc, length-append, arith, positi
 use Rattle.lx_session.proofs.Imports.{map-append, length-map, INPUT_BYTES, Lines, HandedOut, unread, current_line, handed_none, handed_then, LinesBetween}
 use Rattle.lx_session.proofs.Imports.{StepOf, texts, lines_within, next_too_long, without_cr, lines_of, first_lines, Session, Answering, begin_at, after_each}
 use Rattle.lx_session.proofs.Imports.{AreAllowed, ends_script, lines_wanted, bytes_wanted, Tally, Known, DoneLine, PassedLine, QuitLine, AnsweredLine}
-use Rattle.lx_session.proofs.Imports.{counts_in}
+use Rattle.lx_session.proofs.Imports.{counts_in, ToldBySource}
 use Rattle.lx_lex.specs.declared.lines.Step.TheVariants.{InputTooLong}
 use Rattle.lx_lex.proofs.FirstLines.{first_lines-longer}
 use Rattle.lx_session.proofs.EachLine.{each-append, allowed-append}
@@ -45,10 +45,10 @@ done_more by Stands state script failures now line reply done w =
     }
 
 -- The lines that were handed out from a to b are done and answered, and what answers stands for the state after them.
-pub record SoFar {S : Type 0} (by : Answering (List ℕ)) (Stands : by.State → Type 0) (left : S → Known) (faults : S → ℕ) (a b : Lines S)
+pub record SoFar {S : Type 0} (by : Answering (List ℕ)) (Stands : by.State → Type 0) (told : ToldBySource S) (a b : Lines S)
     (state : by.State) (tally : Tally) (h h' : Known) : Type 0 where
   pub raws : List (List ℕ)
-  pub handed : HandedOut left faults a b raws
+  pub handed : HandedOut told a b raws
   pub failures : List (Option ℕ)
   pub now : Session by.State
   pub done : Done by state (map without_cr raws) failures now
@@ -56,12 +56,12 @@ pub record SoFar {S : Type 0} (by : Answering (List ℕ)) (Stands : by.State →
   pub appended : Appends h h' now.text
   pub counts : now.counts ≡ counts_in tally
 
-pub so_far_none : {S : Type 0} (by : Answering (List ℕ)) (Stands : by.State → Type 0) (left : S → Known) (faults : S → ℕ) (a : Lines S)
+pub so_far_none : {S : Type 0} (by : Answering (List ℕ)) (Stands : by.State → Type 0) (told : ToldBySource S) (a : Lines S)
     (state : by.State) (tally : Tally) (h : Known) → IsTrue a.going → Stands state
-    → counts_in tally ≡ record { ok = 0; refused = 0; bad = 0 } → SoFar by Stands left faults a a state tally h h
-so_far_none by Stands left faults a state tally h going stands counts = record {
+    → counts_in tally ≡ record { ok = 0; refused = 0; bad = 0 } → SoFar by Stands told a a state tally h h
+so_far_none by Stands told a state tally h going stands counts = record {
   raws = [];
-  handed = handed_none left faults a going;
+  handed = handed_none told a going;
   failures = [];
   now = begin_at state;
   done = done_none by state;
@@ -70,15 +70,15 @@ so_far_none by Stands left faults a state tally h going stands counts = record {
   counts = sym counts;
 }
 
-pub so_far_more : {S : Type 0} (by : Answering (List ℕ)) (Stood Stands : by.State → Type 0) (left : S → Known) (faults : S → ℕ)
+pub so_far_more : {S : Type 0} (by : Answering (List ℕ)) (Stood Stands : by.State → Type 0) (told : ToldBySource S)
     (a b c : Lines S) (state : by.State) (tally tally' : Tally) (h h' h'' : Known)
-    → (s : SoFar by Stood left faults a b state tally h h') → AnsweredLine by Stands left faults b c h' h'' s.now tally'
-    → SoFar by Stands left faults a c state tally' h h''
-so_far_more by Stood Stands left faults a b c state tally tally' h h' h'' s t =
+    → (s : SoFar by Stood told a b state tally h h') → AnsweredLine by Stands told b c h' h'' s.now tally'
+    → SoFar by Stands told a c state tally' h h''
+so_far_more by Stood Stands told a b c state tally tally' h h' h'' s t =
     let w = t.whole.done in
     record {
       raws = s.raws ++ t.raw ∷ [];
-      handed = handed_then left faults a b c s.raws (t.raw ∷ []) s.handed t.handed;
+      handed = handed_then told a b c s.raws (t.raw ∷ []) s.handed t.handed;
       failures = s.failures ++ w.failed ∷ [];
       now = w.next;
       done = subst (λ ls. Done by state ls (s.failures ++ w.failed ∷ []) w.next) (sym (map-append without_cr s.raws (t.raw ∷ [])))
@@ -90,19 +90,18 @@ so_far_more by Stood Stands left faults a b c state tally tally' h h' h'' s t =
     }
 
 -- These lines were handed out from a to b, and none of them ends the script.
-pub record Passed {S : Type 0} (left : S → Option (List ℕ)) (faults : S → ℕ) (a b : Lines S) : Type 0 where
+pub record Passed {S : Type 0} (told : ToldBySource S) (a b : Lines S) : Type 0 where
   pub raws : List (List ℕ)
-  pub handed : HandedOut left faults a b raws
+  pub handed : HandedOut told a b raws
   pub go_on : GoOn (map without_cr raws)
 
-pub passed_none : {S : Type 0} (left : S → Option (List ℕ)) (faults : S → ℕ) (a : Lines S) → IsTrue a.going → Passed left faults a a
-passed_none left faults a going = record { raws = []; handed = handed_none left faults a going; go_on = tt }
+pub passed_none : {S : Type 0} (told : ToldBySource S) (a : Lines S) → IsTrue a.going → Passed told a a
+passed_none told a going = record { raws = []; handed = handed_none told a going; go_on = tt }
 
-pub passed_more : {S : Type 0} (left : S → Option (List ℕ)) (faults : S → ℕ) (a b c : Lines S) → Passed left faults a b
-    → PassedLine left faults b c → Passed left faults a c
-passed_more left faults a b c p one = record {
+pub passed_more : {S : Type 0} (told : ToldBySource S) (a b c : Lines S) → Passed told a b → PassedLine told b c → Passed told a c
+passed_more told a b c p one = record {
   raws = p.raws ++ one.raw ∷ [];
-  handed = handed_then left faults a b c p.raws (one.raw ∷ []) p.handed one.handed;
+  handed = handed_then told a b c p.raws (one.raw ∷ []) p.handed one.handed;
   go_on = subst GoOn (sym (map-append without_cr p.raws (one.raw ∷ [])))
       (go_on_append (map without_cr p.raws) (without_cr one.raw) p.go_on one.more);
 }
@@ -163,14 +162,14 @@ all_within (Some x) (Some y) i j raws p end =
     omega (arith, first_lines-length (lines_wanted (lines_of x)) x, ap length all, p.count, p.within)
 
 -- at the end of the input they are within its limit, and likewise where a line ended the script
-fits_by_quit : {S : Type 0} (left : S → Option (List ℕ)) (faults : S → ℕ) (a b c : Lines S) → Passed left faults a b
-    → QuitLine left faults b c → IfSome (unread left a) (λ bytes. a.taken + length (bytes_wanted bytes) ≤ INPUT_BYTES)
-fits_by_quit left faults a b c s q =
+fits_by_quit : {S : Type 0} (told : ToldBySource S) (a b c : Lines S) → Passed told a b
+    → QuitLine told b c → IfSome (unread told a) (λ bytes. a.taken + length (bytes_wanted bytes) ≤ INPUT_BYTES)
+fits_by_quit told a b c s q =
     let line = without_cr q.raw in
-    let both = handed_then left faults a b c s.raws (q.raw ∷ []) s.handed q.handed in
+    let both = handed_then told a b c s.raws (q.raw ∷ []) s.handed q.handed in
     let n = length (s.raws ++ q.raw ∷ []) in
-    with_both (unread left a) _ _ _ (begins_more (unread left a) (unread left c) a.taken c.taken s.raws q.raw both.took)
-    (lines_within (unread left a) (unread left c) a.taken c.taken (s.raws ++ q.raw ∷ []) n both.took (omega arith)) (λ xs e le.
+    with_both (unread told a) _ _ _ (begins_more (unread told a) (unread told c) a.taken c.taken s.raws q.raw both.took)
+    (lines_within (unread told a) (unread told c) a.taken c.taken (s.raws ++ q.raw ∷ []) n both.took (omega arith)) (λ xs e le.
     let wanted : lines_wanted (lines_of xs) ≡ n =
     ap (λ ls. position_or_len ends_script ls + 1) e.1
     ∙ omega (
@@ -182,21 +181,21 @@ fits_by_quit left faults a b c s q =
     ) in
     omega (arith, le, ap (λ k. length (first_lines k xs)) wanted))
 
-pub fits : {S : Type 0} (left : S → Option (List ℕ)) (faults : S → ℕ) (a b c : Lines S) → Passed left faults a b → IsAtEnd (unread left b)
-    ⊎ QuitLine left faults b c → IfSome (unread left a) (λ bytes. a.taken + length (bytes_wanted bytes) ≤ INPUT_BYTES)
-fits left faults a b c s how = elim how [
-  | inl end ↦ all_within (unread left a) (unread left b) a.taken b.taken s.raws s.handed.took end
-  | inr quit ↦ fits_by_quit left faults a b c s quit
+pub fits : {S : Type 0} (told : ToldBySource S) (a b c : Lines S) → Passed told a b → IsAtEnd (unread told b)
+    ⊎ QuitLine told b c → IfSome (unread told a) (λ bytes. a.taken + length (bytes_wanted bytes) ≤ INPUT_BYTES)
+fits told a b c s how = elim how [
+  | inl end ↦ all_within (unread told a) (unread told b) a.taken b.taken s.raws s.handed.took end
+  | inr quit ↦ fits_by_quit told a b c s quit
 ]
 
 -- the next line is past the limit: so are the bytes that the script wants
-pub too_long : {S : Type 0} (left : S → Option (List ℕ)) (faults : S → ℕ) (a b c : Lines S) → Passed left faults a b
-    → StepOf InputTooLong (unread left b) (unread left c) b.taken c.taken (current_line c)
-    → IfSome (unread left a) (λ bytes. INPUT_BYTES < a.taken + length (bytes_wanted bytes))
-too_long left faults a b c s step =
+pub too_long : {S : Type 0} (told : ToldBySource S) (a b c : Lines S) → Passed told a b
+    → StepOf InputTooLong (unread told b) (unread told c) b.taken c.taken (current_line c)
+    → IfSome (unread told a) (λ bytes. INPUT_BYTES < a.taken + length (bytes_wanted bytes))
+too_long told a b c s step =
     let n = length s.raws + 1 in
-    with_both (unread left a) _ _ _ (begins (unread left a) (unread left b) a.taken b.taken s.raws s.handed.took)
-    (next_too_long (unread left a) (unread left b) (unread left c) a.taken b.taken c.taken s.raws (current_line c) n s.handed.took step refl)
+    with_both (unread told a) _ _ _ (begins (unread told a) (unread told b) a.taken b.taken s.raws s.handed.took)
+    (next_too_long (unread told a) (unread told b) (unread told c) a.taken b.taken c.taken s.raws (current_line c) n s.handed.took step refl)
     (λ xs e lt.
     let wanted : n ≤ lines_wanted (lines_of xs) =
     let is = ap (λ ls. position_or_len ends_script ls + 1) e.1 in

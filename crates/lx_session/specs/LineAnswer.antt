@@ -2,6 +2,7 @@
 use Rattle.std.specs.Prelude.{◌≡◌, ℕ, Bool, Option, IfSome, Result, List, ◌++◌, OnOk}
 use Rattle.lx_io.specs.declared.sink.SinkFault.{SinkFault}
 use Rattle.lx_io.specs.Puts.{Puts}
+use Rattle.lx_io.specs.Told.{ToldBySink}
 use Rattle.lx_spec.specs.declared.Command.{Command}
 use Rattle.lx_spec.specs.declared.Line.{Line}
 use Rattle.lx_spec.specs.Kept.{Kept}
@@ -24,7 +25,7 @@ pub record GoesOn (all : Bool) (heard : List Command → Type 0) (s next : Sessi
   pub listened : heard commands
 
 -- The line was done: the console stands for the desk after it, and its reply was appended, or at a fault a prefix of it.
-pub record LineAnswer {K T : Type 0} (all : Bool) (heard : List Command → Type 0) (holds : K → Option (List ℕ)) (faults wants : K → ℕ)
+pub record LineAnswer {K T : Type 0} (all : Bool) (heard : List Command → Type 0) (told : ToldBySink K)
     (sink sink' : K) (result : Result T SinkFault) (s : Session DeskState) (meaning : Option Line) (console : Kept) (tally : Tally)
     : Type 0 where
   pub next : Session DeskState
@@ -33,7 +34,7 @@ pub record LineAnswer {K T : Type 0} (all : Bool) (heard : List Command → Type
   pub stands : StandsFor next.state.desk console
   pub reply : List ℕ
   pub text : next.text ≡ s.text ++ reply
-  pub puts : Puts holds faults wants sink sink' result reply
+  pub puts : Puts told sink sink' result reply
   pub counts : OnOk result (next.counts ≡ counts_in tally)
 
 -- what holds of a session for whose desk the console stood, and which had counted this many

@@ -3,6 +3,7 @@ use Rattle.std.specs.Prelude.{◌≡◌, ◌⊎◌, ℕ, Bool, true, false, Opti
 use Rattle.std.specs.Io.KnownBytes.{Appends, Keeps, IsAtEnd}
 use Rattle.lx_io.specs.declared.sink.SinkFault.{SinkFault}
 use Rattle.lx_io.specs.Puts.{AppendsFront}
+use Rattle.lx_io.specs.Told.{ToldBySource}
 use Rattle.lx_lex.specs.declared.lines.Lines.{Lines}
 use Rattle.lx_lex.specs.declared.lines.Step.TheVariants as steps
 use Rattle.lx_lex.specs.CutOff.{NotTaken}
@@ -45,29 +46,29 @@ pub record ReplyPrefix (by : Answering (List ℕ)) (Stands : by.State → Type 0
   pub front : AppendsFront held held' reply
 
 -- one line was handed out, which doesn't end the script
-pub record PassedLine {S : Type 0} (left : S → Known) (faults : S → ℕ) (old new : Lines S) : Type 0 where
+pub record PassedLine {S : Type 0} (told : ToldBySource S) (old new : Lines S) : Type 0 where
   pub raw : List ℕ
-  pub handed : HandedOut left faults old new (raw ∷ [])
+  pub handed : HandedOut told old new (raw ∷ [])
   pub more : ends_script (without_cr raw) ≡ false
 
 -- one line was handed out, which ends the script
-pub record QuitLine {S : Type 0} (left : S → Known) (faults : S → ℕ) (old new : Lines S) : Type 0 where
+pub record QuitLine {S : Type 0} (told : ToldBySource S) (old new : Lines S) : Type 0 where
   pub raw : List ℕ
-  pub handed : HandedOut left faults old new (raw ∷ [])
+  pub handed : HandedOut told old new (raw ∷ [])
   pub quits : ends_script (without_cr raw) ≡ true
 
 -- one line was handed out and done, and its whole reply was written
 pub record AnsweredLine {S : Type 0} (by : Answering (List ℕ)) (Stands : by.State → Type 0)
-    (left : S → Known) (faults : S → ℕ) (old new : Lines S) (held held' : Known) (s : Session by.State) (tally : Tally) : Type 0 where
+    (told : ToldBySource S) (old new : Lines S) (held held' : Known) (s : Session by.State) (tally : Tally) : Type 0 where
   pub raw : List ℕ
-  pub handed : HandedOut left faults old new (raw ∷ [])
+  pub handed : HandedOut told old new (raw ∷ [])
   pub whole : WholeReply by Stands held held' s (without_cr raw) tally
 
 -- one line was handed out and done, and a prefix of its reply was written
 pub record HalfAnsweredLine {S : Type 0} (by : Answering (List ℕ)) (Stands : by.State → Type 0)
-    (left : S → Known) (faults : S → ℕ) (old new : Lines S) (held held' : Known) (s : Session by.State) : Type 0 where
+    (told : ToldBySource S) (old new : Lines S) (held held' : Known) (s : Session by.State) : Type 0 where
   pub raw : List ℕ
-  pub handed : HandedOut left faults old new (raw ∷ [])
+  pub handed : HandedOut told old new (raw ∷ [])
   pub part : ReplyPrefix by Stands held held' s (without_cr raw)
 
 -- no line was done and nothing was written
@@ -81,15 +82,15 @@ pub record ScriptEnd {State : Type 0} (Stands : State → Type 0) (held held' : 
   pub counts : s.counts ≡ counts_in tally
 
 -- no line more was taken, or the one that ends the script
-abbrev pub NoLineMore : {S : Type 0} → (S → Known) → (S → ℕ) → (old new : Lines S) → Type 0
-NoLineMore left faults old new = IfSome (unread left old) (λ xs. IfSome (unread left new) (λ ys. xs ≡ ys)) ⊎ QuitLine left faults old new
+abbrev pub NoLineMore : {S : Type 0} → ToldBySource S → (old new : Lines S) → Type 0
+NoLineMore told old new = IfSome (unread told old) (λ xs. IfSome (unread told new) (λ ys. xs ≡ ys)) ⊎ QuitLine told old new
 
 -- the sink failed: no line was done and nothing more written, or a line was done and a prefix of its reply written
-abbrev pub SinkStop : {S : Type 0} → (by : Answering (List ℕ)) → (by.State → Type 0) → (S → Known) → (S → ℕ)
+abbrev pub SinkStop : {S : Type 0} → (by : Answering (List ℕ)) → (by.State → Type 0) → ToldBySource S
     → (old new : Lines S) → (held held' : Known) → Session by.State → Type 0
-SinkStop by Stands left faults old new held held' s =
-    (Untouched Stands held held' s × NoLineMore left faults old new)
-    ⊎ HalfAnsweredLine by Stands left faults old new held held' s
+SinkStop by Stands told old new held held' s =
+    (Untouched Stands held held' s × NoLineMore told old new)
+    ⊎ HalfAnsweredLine by Stands told old new held held' s
 
 -- What holds of a session at whose state what answers stood, since it began so, and which had counted this many.
 abbrev pub FromSession : {Since State : Type 0} → (Since → State → Type 0) → Tally → (Since → Session State → Type 0) → Type 0
@@ -107,31 +108,31 @@ ReplyOutcome by Stood Stands held held' counted tally line (Err fault) =
     (λ since s. (Untouched (Stands since) held held' s × (ends_script line ≡ true)) ⊎ ReplyPrefix by (Stands since) held held' s line)
 
 -- the script couldn't be read on
-pub record UnreadLine {S Since State : Type 0} (Stood Stands : Since → State → Type 0) (left : S → Known) (old new : Lines S) (held held' : Known)
+pub record UnreadLine {S Since State : Type 0} (Stood Stands : Since → State → Type 0) (told : ToldBySource S) (old new : Lines S) (held held' : Known)
     (counted : Tally) : Type 0 where
-  pub cut : NotTaken left old new
+  pub cut : NotTaken told old new
   pub same : FromSession Stood counted (λ since s. Untouched (Stands since) held held' s)
 
-abbrev pub FaultOutcome : {S Since : Type 0} → (by : Answering (List ℕ)) → (Stood Stands : Since → by.State → Type 0) → (S → Known)
-    → (S → ℕ) → (old new : Lines S) → (held held' : Known) → Tally → SessionFault → Type 0
-FaultOutcome by Stood Stands left faults old new held held' counted ReadFault =
-    UnreadLine Stood Stands left old new held held' counted
-FaultOutcome by Stood Stands left faults old new held held' counted InputTooLong =
-    UnreadLine Stood Stands left old new held held' counted
-    × StepOf steps.InputTooLong (unread left old) (unread left new) old.taken new.taken (current_line new)
-FaultOutcome by Stood Stands left faults old new held held' counted WriteFault =
-    FromSession Stood counted (λ since s. SinkStop by (Stands since) left faults old new held held' s)
-FaultOutcome by Stood Stands left faults old new held held' counted Memory =
-    FromSession Stood counted (λ since s. SinkStop by (Stands since) left faults old new held held' s)
+abbrev pub FaultOutcome : {S Since : Type 0} → (by : Answering (List ℕ)) → (Stood Stands : Since → by.State → Type 0) → ToldBySource S
+    → (old new : Lines S) → (held held' : Known) → Tally → SessionFault → Type 0
+FaultOutcome by Stood Stands told old new held held' counted ReadFault =
+    UnreadLine Stood Stands told old new held held' counted
+FaultOutcome by Stood Stands told old new held held' counted InputTooLong =
+    UnreadLine Stood Stands told old new held held' counted
+    × StepOf steps.InputTooLong (unread told old) (unread told new) old.taken new.taken (current_line new)
+FaultOutcome by Stood Stands told old new held held' counted WriteFault =
+    FromSession Stood counted (λ since s. SinkStop by (Stands since) told old new held held' s)
+FaultOutcome by Stood Stands told old new held held' counted Memory =
+    FromSession Stood counted (λ since s. SinkStop by (Stands since) told old new held held' s)
 
 -- Ok(true): a line was answered, and the session goes on. Ok(false): the script has ended.
-abbrev pub LineOutcome : {S Since : Type 0} → (by : Answering (List ℕ)) → (Stood Stands : Since → by.State → Type 0) → (S → Known)
-    → (S → ℕ) → (old new : Lines S) → (held held' : Known) → (counted tally : Tally) → Result Bool SessionFault → Type 0
-LineOutcome by Stood Stands left faults old new held held' counted tally (Ok true) =
-    PassedLine left faults old new
-    × FromSession Stood counted (λ since s. AnsweredLine by (Stands since) left faults old new held held' s tally)
-LineOutcome by Stood Stands left faults old new held held' counted tally (Ok false) =
-    (IsAtEnd (unread left old) ⊎ QuitLine left faults old new)
+abbrev pub LineOutcome : {S Since : Type 0} → (by : Answering (List ℕ)) → (Stood Stands : Since → by.State → Type 0) → ToldBySource S
+    → (old new : Lines S) → (held held' : Known) → (counted tally : Tally) → Result Bool SessionFault → Type 0
+LineOutcome by Stood Stands told old new held held' counted tally (Ok true) =
+    PassedLine told old new
+    × FromSession Stood counted (λ since s. AnsweredLine by (Stands since) told old new held held' s tally)
+LineOutcome by Stood Stands told old new held held' counted tally (Ok false) =
+    (IsAtEnd (unread told old) ⊎ QuitLine told old new)
     × FromSession Stood counted (λ since s. ScriptEnd (Stands since) held held' s tally)
-LineOutcome by Stood Stands left faults old new held held' counted tally (Err fault) =
-    FaultOutcome by Stood Stands left faults old new held held' counted fault
+LineOutcome by Stood Stands told old new held held' counted tally (Err fault) =
+    FaultOutcome by Stood Stands told old new held held' counted fault

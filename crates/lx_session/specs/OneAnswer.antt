@@ -3,6 +3,7 @@ use Rattle.std.specs.Prelude.{◌≡◌, ℕ, ◌<◌, true, Option, Some, None,
 use Rattle.lx_base.specs.declared.TheConstants.{LINE_BYTES}
 use Rattle.lx_io.specs.declared.sink.SinkFault.{SinkFault}
 use Rattle.lx_io.specs.Puts.{Puts}
+use Rattle.lx_io.specs.Told.{ToldBySink}
 use Rattle.lx_spec.specs.Session.{Session, Answering, ends_script}
 use Rattle.lx_session.specs.declared.tally.Tally.{Tally}
 use Rattle.lx_session.specs.LineReply.{counts_in}
@@ -28,7 +29,7 @@ pub record GoesOnBy (by : Answering (List ℕ)) (s next : Session by.State) (lin
   pub allowed : IfSome failed (λ attempt. by.MayFail s.state line)
 
 -- The line was done: what answers stands for the state after it, and the reply was appended, or at a fault a prefix of it.
-pub record OneAnswer {K T : Type 0} (by : Answering (List ℕ)) (holds : K → Option (List ℕ)) (faults wants : K → ℕ) (sink sink' : K)
+pub record OneAnswer {K T : Type 0} (by : Answering (List ℕ)) (told : ToldBySink K) (sink sink' : K)
     (result : Result T SinkFault) (s : Session by.State) (line : List ℕ) (Stands : by.State → Type 0) (tally : Tally) : Type 0 where
   pub next : Session by.State
   pub failed : Option ℕ
@@ -36,5 +37,5 @@ pub record OneAnswer {K T : Type 0} (by : Answering (List ℕ)) (holds : K → O
   pub stands : Stands next.state
   pub reply : List ℕ
   pub text : next.text ≡ s.text ++ reply
-  pub puts : Puts holds faults wants sink sink' result reply
+  pub puts : Puts told sink sink' result reply
   pub counts : OnOk result (next.counts ≡ counts_in tally)

@@ -2,6 +2,7 @@
 use Rattle.std.specs.Prelude.{◌≡◌, ◌≤◌, ◌<◌, ℕ, ◌+◌, IfErr, OnOk, Result, Ok, Err, List, length}
 use Rattle.lx_base.specs.declared.TheConstants.{INPUT_BYTES}
 use Rattle.lx_io.specs.Causes.{Rose}
+use Rattle.lx_io.specs.Told.{ToldBySink, ToldBySource}
 use Rattle.lx_lex.specs.declared.lines.Lines.{Lines}
 use Rattle.lx_spec.specs.Session.{bytes_wanted}
 use Rattle.lx_session.specs.declared.fault.SessionFault.{SessionFault}
@@ -22,11 +23,13 @@ HasRisen InputTooLong reads reads' faults faults' wants wants' = Unit {0}
 HasRisen Memory reads reads' faults faults' wants wants' = Rose wants wants'
 
 -- no count has fallen, a fault comes only where its own count rose, and an Ok only where all stand as they were
-pub record HasSessionCause {S K T : Type 0} (reads : S → ℕ) (faults wants : K → ℕ) (old new : Lines S) (sink sink' : K)
+pub record HasSessionCause {S K T : Type 0} (told_in : ToldBySource S) (told_out : ToldBySink K) (old new : Lines S) (sink sink' : K)
     (result : Result T SessionFault) : Type 0 where
-  pub later : reads old.source.now ≤ reads new.source.now
-  pub sink_later : faults sink ≤ faults sink'
-  pub wants_later : wants sink ≤ wants sink'
+  pub later : told_in.faults old.source.now ≤ told_in.faults new.source.now
+  pub sink_later : told_out.faults sink ≤ told_out.faults sink'
+  pub wants_later : told_out.wants sink ≤ told_out.wants sink'
   pub failed : IfErr result
-      (λ fault. HasRisen fault (reads old.source.now) (reads new.source.now) (faults sink) (faults sink') (wants sink) (wants sink'))
-  pub kept : OnOk result ((reads new.source.now ≡ reads old.source.now) × (faults sink' ≡ faults sink) × (wants sink' ≡ wants sink))
+      (λ fault. HasRisen fault (told_in.faults old.source.now) (told_in.faults new.source.now) (told_out.faults sink) (told_out.faults sink')
+      (told_out.wants sink) (told_out.wants sink'))
+  pub kept : OnOk result ((told_in.faults new.source.now ≡ told_in.faults old.source.now) × (told_out.faults sink' ≡ told_out.faults sink)
+      × (told_out.wants sink' ≡ told_out.wants sink))

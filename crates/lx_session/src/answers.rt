@@ -34,10 +34,10 @@ pub trait Answers {
         requires room { TallyHasRoom tally.old }
         ensures answered { (s : Session by.State) (text : List ℕ) → stands s.state self.old → s.counts ≡ counts_in tally.old
             → IsLine (option_copied line.entry) text
-            → OneAnswer by K.holds K.faults K.wants sink.old sink.new result s text (λ state. stands state self.new)
+            → OneAnswer by K.Sink sink.old sink.new result s text (λ state. stands state self.new)
             tally.new }
         ensures quit { IfOk result (λ more. (text : List ℕ) → IsLine (option_copied line.entry) text → more ≡ not (ends_script text)) }
-        ensures cause { HasSinkCause K.faults K.wants sink.old sink.new result }
+        ensures cause { HasSinkCause K.Sink sink.old sink.new result }
         ensures more { HasOneMore tally.old tally.new }
         ensures lawful { IsLawful by };
 }

@@ -45,12 +45,12 @@ pub(crate) trait AnswersBeside<D> {
         ensures answered { (all : Bool) → (all ≡ true → admitted_all self.new ≡ true) → (since : Since) (s : Session (by all).State)
             (text : List ℕ) → stands since all s.state self.old lent.old
             → s.counts ≡ counts_in tally.old → IsLine (option_copied line.entry) text
-            → OneAnswer (by all) K.holds K.faults K.wants sink.old sink.new result s text
+            → OneAnswer (by all) K.Sink sink.old sink.new result s text
             (λ state. stands since all state self.new lent.new)
             tally.new }
         ensures all { admitted_all self.new ≡ true → admitted_all self.old ≡ true }
         ensures quit { IfOk result (λ more. (text : List ℕ) → IsLine (option_copied line.entry) text → more ≡ not (ends_script text)) }
-        ensures cause { HasSinkCause K.faults K.wants sink.old sink.new result }
+        ensures cause { HasSinkCause K.Sink sink.old sink.new result }
         ensures more { HasOneMore tally.old tally.new }
         ensures lawful { (all : Bool) → IsLawful (by all) };
 }

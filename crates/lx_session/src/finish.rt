@@ -37,9 +37,9 @@ impl<'a> Turn<'a> {
     ) -> Result<bool, SinkFault>
         requires over { next_of self.now ≡ None }
         requires room { TallyHasRoom tally.old }
-        ensures cause { HasSinkCause K.faults K.wants sink.old sink.new result }
+        ensures cause { HasSinkCause K.Sink sink.old sink.new result }
         ensures text { (d : Desk) → StandsFor d console.now
-            → Puts K.holds K.faults K.wants sink.old sink.new result (reply_to d self.now.meaning self.now.refusal) }
+            → Puts K.Sink sink.old sink.new result (reply_to d self.now.meaning self.now.refusal) }
         ensures counts { (d : Desk) → StandsFor d console.now
             → OnOk result (counts_in tally.new ≡ counts_after d (counts_in tally.old) self.now.meaning self.now.refusal) }
         ensures quit { IfOk result (λ more. more ≡ not (is_quit self.now.meaning)) }
@@ -61,9 +61,9 @@ impl<'a> Turn<'a> {
         requires over { next_of self.now ≡ None }
         requires no_frame { frame_of self.now.meaning ≡ None }
         requires room { TallyHasRoom tally.old }
-        ensures cause { HasSinkCause K.faults K.wants sink.old sink.new result }
+        ensures cause { HasSinkCause K.Sink sink.old sink.new result }
         ensures text { (d : Desk) → StandsFor d player.now
-            → Puts K.holds K.faults K.wants sink.old sink.new result (reply_to d self.now.meaning self.now.refusal) }
+            → Puts K.Sink sink.old sink.new result (reply_to d self.now.meaning self.now.refusal) }
         ensures counts { (d : Desk) → StandsFor d player.now
             → OnOk result (counts_in tally.new ≡ counts_after d (counts_in tally.old) self.now.meaning self.now.refusal) }
         ensures quit { IfOk result (λ more. more ≡ not (is_quit self.now.meaning)) }
@@ -83,9 +83,9 @@ fn reply_to_line<K: Sink>(
 ) -> Result<bool, SinkFault>
     requires no_frame { frame_of line.now ≡ None }
     requires room { TallyHasRoom tally.old }
-    ensures cause { HasSinkCause K.faults K.wants sink.old sink.new result }
+    ensures cause { HasSinkCause K.Sink sink.old sink.new result }
     ensures text { (d : Desk) → StandsFor d player.now
-        → Puts K.holds K.faults K.wants sink.old sink.new result (reply_to d line.now refusal) }
+        → Puts K.Sink sink.old sink.new result (reply_to d line.now refusal) }
     ensures counts { (d : Desk) → StandsFor d player.now
         → OnOk result (counts_in tally.new ≡ counts_after d (counts_in tally.old) line.now refusal) }
     ensures quit { IfOk result (λ more. more ≡ not (is_quit line.now)) }
@@ -121,7 +121,7 @@ pub(crate) fn give<K: Sink>(
     tally: &mut Tally,
 ) -> Result<bool, SinkFault>
     requires room { TallyHasRoom tally.old }
-    ensures text { Puts K.holds K.faults K.wants sink.old sink.new result (reply_text reply) }
+    ensures text { Puts K.Sink sink.old sink.new result (reply_text reply) }
     ensures counts { counts_in tally.new ≡ counted reply (counts_in tally.old) }
     ensures counted { HasOneMore tally.old tally.new }
     ensures more { IfOk result (λ more. more ≡ true) }
@@ -144,9 +144,9 @@ fn put_sheet<K: Sink>(
     tally: &mut Tally,
 ) -> Result<bool, SinkFault>
     requires room { TallyHasRoom tally.old }
-    ensures cause { HasSinkCause K.faults K.wants sink.old sink.new result }
+    ensures cause { HasSinkCause K.Sink sink.old sink.new result }
     ensures text { (d : Desk) → StandsFor d player.now
-        → Puts K.holds K.faults K.wants sink.old sink.new result (reply_to d (Some (Line.SheetOf n)) refusal) }
+        → Puts K.Sink sink.old sink.new result (reply_to d (Some (Line.SheetOf n)) refusal) }
     ensures counts { (d : Desk) → StandsFor d player.now
         → OnOk result (counts_in tally.new ≡ counts_after d (counts_in tally.old) (Some (Line.SheetOf n)) refusal) }
     ensures more { IfOk result (λ more. more ≡ true) }
@@ -160,7 +160,7 @@ fn put_sheet<K: Sink>(
 
 /// Appends a row line.
 fn give_row<K: Sink>(n: CueNo, row: &[Level], sink: &mut K) -> Result<bool, SinkFault>
-    ensures text { Puts K.holds K.faults K.wants sink.old sink.new result (row_text n row.now) }
+    ensures text { Puts K.Sink sink.old sink.new result (row_text n row.now) }
     ensures more { IfOk result (λ more. more ≡ true) }
 {
     put_row(n, row, sink)?;
@@ -169,8 +169,8 @@ fn give_row<K: Sink>(n: CueNo, row: &[Level], sink: &mut K) -> Result<bool, Sink
 
 /// Appends the canonical text of the show.
 fn put_show<K: Sink>(player: &Player, sink: &mut K) -> Result<bool, SinkFault>
-    ensures cause { HasSinkCause K.faults K.wants sink.old sink.new result }
-    ensures text { (d : Desk) → StandsFor d player.now → Puts K.holds K.faults K.wants sink.old sink.new result (show_text d.show) }
+    ensures cause { HasSinkCause K.Sink sink.old sink.new result }
+    ensures text { (d : Desk) → StandsFor d player.now → Puts K.Sink sink.old sink.new result (show_text d.show) }
     ensures more { IfOk result (λ more. more ≡ true) }
 {
     write_show(player.show(), sink)?;
@@ -185,9 +185,9 @@ pub(crate) fn put_universe<K: Sink>(
 ) -> Result<bool, SinkFault>
     requires least { 1 ≤ universe }
     requires most { universe ≤ UNIVERSES }
-    ensures cause { HasSinkCause K.faults K.wants sink.old sink.new result }
+    ensures cause { HasSinkCause K.Sink sink.old sink.new result }
     ensures text { (d : Desk) → StandsFor d console.now
-        → Puts K.holds K.faults K.wants sink.old sink.new result (frame_text [] d.playback.moment universe (frame d universe)) }
+        → Puts K.Sink sink.old sink.new result (frame_text [] d.playback.moment universe (frame d universe)) }
     ensures more { IfOk result (λ more. more ≡ true) }
 {
     let slots = slots_of(universe, console.frames());

@@ -39,11 +39,11 @@ pub fn answer<L: Listener, K: Sink>(
     requires keeps { L.keeps listener.old console.old }
     ensures keeps { L.keeps listener.new console.new }
     ensures answered { FromDesk console.old tally.old
-        (λ s. LineAnswer (L.admitted_all listener.new) (L.heard listener.old listener.new) K.holds K.faults K.wants sink.old sink.new result s
+        (λ s. LineAnswer (L.admitted_all listener.new) (L.heard listener.old listener.new) K.Sink sink.old sink.new result s
         (meaning_of (option_copied line.entry)) console.new tally.new) }
     ensures all { L.admitted_all listener.new ≡ true → L.admitted_all listener.old ≡ true }
     ensures quit { IfOk result (λ more. more ≡ not (is_quit (meaning_of (option_copied line.entry)))) }
-    ensures cause { HasSinkCause K.faults K.wants sink.old sink.new result }
+    ensures cause { HasSinkCause K.Sink sink.old sink.new result }
     ensures more { HasOneMore tally.old tally.new }
 {
     if let Some(key) = read_lone_key(line) {
@@ -73,11 +73,11 @@ fn answer_any<L: Listener, K: Sink>(
     requires keeps { L.keeps listener.old console.old }
     ensures keeps { L.keeps listener.new console.new }
     ensures answered { FromDesk console.old tally.old
-        (λ s. LineAnswer (L.admitted_all listener.new) (L.heard listener.old listener.new) K.holds K.faults K.wants sink.old sink.new result s
+        (λ s. LineAnswer (L.admitted_all listener.new) (L.heard listener.old listener.new) K.Sink sink.old sink.new result s
         (meaning_of (option_copied line.entry)) console.new tally.new) }
     ensures all { L.admitted_all listener.new ≡ true → L.admitted_all listener.old ≡ true }
     ensures quit { IfOk result (λ more. more ≡ not (is_quit (meaning_of (option_copied line.entry)))) }
-    ensures cause { HasSinkCause K.faults K.wants sink.old sink.new result }
+    ensures cause { HasSinkCause K.Sink sink.old sink.new result }
     ensures more { HasOneMore tally.old tally.new }
 {
     match read_turn(line) {
@@ -102,11 +102,11 @@ fn answer_read<L: Listener, K: Sink>(
     requires keeps { L.keeps listener.old console.old }
     ensures keeps { L.keeps listener.new console.new }
     ensures answered { FromDesk console.old tally.old
-        (λ s. LineAnswer (L.admitted_all listener.new) (L.heard listener.old listener.new) K.holds K.faults K.wants sink.old sink.new result s
+        (λ s. LineAnswer (L.admitted_all listener.new) (L.heard listener.old listener.new) K.Sink sink.old sink.new result s
         (Some line.entry) console.new tally.new) }
     ensures all { L.admitted_all listener.new ≡ true → L.admitted_all listener.old ≡ true }
     ensures quit { IfOk result (λ more. more ≡ not (is_quit (Some line.entry))) }
-    ensures cause { HasSinkCause K.faults K.wants sink.old sink.new result }
+    ensures cause { HasSinkCause K.Sink sink.old sink.new result }
     ensures more { HasOneMore tally.old tally.new }
 {
     let mut turn = Turn::of(Some(line));

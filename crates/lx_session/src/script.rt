@@ -36,11 +36,11 @@ pub fn session<S: Source, K: Sink>(
     requires within { bytes_taken lines.old ≤ INPUT_BYTES }
     ensures same_source { SameSource lines.old lines.new }
     ensures outcome { (d : Desk) → StandsFor d console.old
-        → IfSome (unread S.left lines.old)
+        → IfSome (unread S.Source lines.old)
         (λ bytes. ScriptAnswered (desk_answering true) (HasDone (λ commands. Unit {0}) d console.new) (begun d) (bytes_taken lines.old) bytes
-        (unread S.left lines.new) (source_left S.left lines.new) (K.holds sink.old) (K.holds sink.new) result) }
-    ensures limit { IfSome (unread S.left lines.old) (λ bytes. KeepsLimit (bytes_taken lines.old) bytes result) }
-    ensures cause { HasSessionCause S.faults K.faults K.wants lines.old lines.new sink.old sink.new result }
+        (unread S.Source lines.new) (source_left S.Source lines.new) (K.holds sink.old) (K.holds sink.new) result) }
+    ensures limit { IfSome (unread S.Source lines.old) (λ bytes. KeepsLimit (bytes_taken lines.old) bytes result) }
+    ensures cause { HasSessionCause S.Source K.Sink lines.old lines.new sink.old sink.new result }
     ensures handed_on { OnOk result (K.back sink.new ≡ []) }
 {
     session_with(&mut NoListener, console, lines, sink)
@@ -60,11 +60,11 @@ pub fn session_with<L: Listener, S: Source, K: Sink>(
     ensures same_source { SameSource lines.old lines.new }
     ensures keeps { L.keeps listener.new console.new }
     ensures outcome { (d : Desk) → StandsFor d console.old
-        → IfSome (unread S.left lines.old)
+        → IfSome (unread S.Source lines.old)
         (λ bytes. ScriptAnswered (desk_answering (L.admitted_all listener.new)) (HasDone (L.heard listener.old listener.new) d console.new) (begun d)
-        (bytes_taken lines.old) bytes (unread S.left lines.new) (source_left S.left lines.new) (K.holds sink.old) (K.holds sink.new) result) }
-    ensures limit { IfSome (unread S.left lines.old) (λ bytes. KeepsLimit (bytes_taken lines.old) bytes result) }
-    ensures cause { HasSessionCause S.faults K.faults K.wants lines.old lines.new sink.old sink.new result }
+        (bytes_taken lines.old) bytes (unread S.Source lines.new) (source_left S.Source lines.new) (K.holds sink.old) (K.holds sink.new) result) }
+    ensures limit { IfSome (unread S.Source lines.old) (λ bytes. KeepsLimit (bytes_taken lines.old) bytes result) }
+    ensures cause { HasSessionCause S.Source K.Sink lines.old lines.new sink.old sink.new result }
     ensures handed_on { OnOk result (K.back sink.new ≡ []) }
 {
     answer_each(listener, console, lines, sink)
@@ -86,11 +86,11 @@ pub fn answer_lines<A: Answers, S: Source, K: Sink>(
     requires within { bytes_taken lines.old ≤ INPUT_BYTES }
     ensures same_source { SameSource lines.old lines.new }
     ensures outcome { (state : A.by.State) → A.stands state answerer.old
-        → IfSome (unread S.left lines.old)
+        → IfSome (unread S.Source lines.old)
         (λ bytes. ScriptAnswered A.by (λ s. A.stands s answerer.new) state (bytes_taken lines.old) bytes
-        (unread S.left lines.new) (source_left S.left lines.new) (K.holds sink.old) (K.holds sink.new) result) }
-    ensures limit { IfSome (unread S.left lines.old) (λ bytes. KeepsLimit (bytes_taken lines.old) bytes result) }
-    ensures cause { HasSessionCause S.faults K.faults K.wants lines.old lines.new sink.old sink.new result }
+        (unread S.Source lines.new) (source_left S.Source lines.new) (K.holds sink.old) (K.holds sink.new) result) }
+    ensures limit { IfSome (unread S.Source lines.old) (λ bytes. KeepsLimit (bytes_taken lines.old) bytes result) }
+    ensures cause { HasSessionCause S.Source K.Sink lines.old lines.new sink.old sink.new result }
     ensures handed_on { OnOk result (K.back sink.new ≡ []) }
 {
     answer_each(answerer, &mut (), lines, sink)
@@ -110,11 +110,11 @@ fn answer_each<D, A: AnswersBeside<D>, S: Source, K: Sink>(
     ensures keeps { A.keeps answerer.new lent.new }
     ensures outcome { (all : Bool) → (all ≡ true → A.admitted_all answerer.new ≡ true) → (since : A.Since) (state : (A.by all).State)
         → A.stands since all state answerer.old lent.old
-        → IfSome (unread S.left lines.old)
+        → IfSome (unread S.Source lines.old)
         (λ bytes. ScriptAnswered (A.by all) (λ s. A.stands since all s answerer.new lent.new) state (bytes_taken lines.old) bytes
-        (unread S.left lines.new) (source_left S.left lines.new) (K.holds sink.old) (K.holds sink.new) result) }
-    ensures limit { IfSome (unread S.left lines.old) (λ bytes. KeepsLimit (bytes_taken lines.old) bytes result) }
-    ensures cause { HasSessionCause S.faults K.faults K.wants lines.old lines.new sink.old sink.new result }
+        (unread S.Source lines.new) (source_left S.Source lines.new) (K.holds sink.old) (K.holds sink.new) result) }
+    ensures limit { IfSome (unread S.Source lines.old) (λ bytes. KeepsLimit (bytes_taken lines.old) bytes result) }
+    ensures cause { HasSessionCause S.Source K.Sink lines.old lines.new sink.old sink.new result }
     ensures handed_on { OnOk result (K.back sink.new ≡ []) }
 {
     let mut tally = Tally::new();

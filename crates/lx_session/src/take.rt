@@ -32,11 +32,11 @@ pub(crate) fn take_line<D, A: AnswersBeside<D>, S: Source, K: Sink>(
     ensures keeps { A.keeps answerer.new lent.new }
     ensures outcome { (all : Bool) → (all ≡ true → A.admitted_all answerer.new ≡ true)
         → LineOutcome (A.by all) (λ since state. A.stands since all state answerer.old lent.old)
-        (λ since state. A.stands since all state answerer.new lent.new) S.left S.faults lines.old lines.new (K.holds sink.old) (K.holds sink.new) tally.old
+        (λ since state. A.stands since all state answerer.new lent.new) S.Source lines.old lines.new (K.holds sink.old) (K.holds sink.new) tally.old
         tally.new result }
     ensures all { A.admitted_all answerer.new ≡ true → A.admitted_all answerer.old ≡ true }
-    ensures cause { HasSessionCause S.faults K.faults K.wants lines.old lines.new sink.old sink.new result }
-    ensures waits { WaitsFlushed K.holds K.back lines.old lines.new sink.old }
+    ensures cause { HasSessionCause S.Source K.Sink lines.old lines.new sink.old sink.new result }
+    ensures waits { WaitsFlushed K.Sink lines.old lines.new sink.old }
     ensures handed_on { IfOk result (λ more. more ≡ false → K.back sink.new ≡ []) }
     ensures more { HasOneMore tally.old tally.new }
 {
@@ -57,7 +57,7 @@ pub(crate) fn take_line<D, A: AnswersBeside<D>, S: Source, K: Sink>(
 fn flush_before_wait<S: Source, K: Sink>(lines: &Lines<S>, sink: &mut K) -> Result<(), SinkFault>
     ensures holds { Keeps (K.holds sink.old) (K.holds sink.new) }
     ensures handed_on { OnOk result ((has_feed (held lines.now) ≡ true) ⊎ (K.back sink.new ≡ [])) }
-    ensures cause { HasSinkCause K.faults K.wants sink.old sink.new result }
+    ensures cause { HasSinkCause K.Sink sink.old sink.new result }
 {
     if lines.holds_line() {
         Ok(())
@@ -84,7 +84,7 @@ fn give_reply<D, A: AnswersBeside<D>, K: Sink>(
         (λ since state. A.stands since all state answerer.new lent.new)
         (K.holds sink.old) (K.holds sink.new) tally.old tally.new text result }
     ensures all { A.admitted_all answerer.new ≡ true → A.admitted_all answerer.old ≡ true }
-    ensures cause { HasSinkCause K.faults K.wants sink.old sink.new result }
+    ensures cause { HasSinkCause K.Sink sink.old sink.new result }
     ensures handed_on { IfOk result (λ more. more ≡ false → K.back sink.new ≡ []) }
     ensures more { HasOneMore tally.old tally.new }
 {

@@ -4,6 +4,7 @@
 ghost use Rattle.std.specs.Prelude.{◌≡◌, ◌≢◌, ℕ, ◌+◌, ◌-◌, ◌*◌, ◌/◌, ◌%◌, ◌^◌, ◌<◌, ◌≤◌, true, IfOk, is_some, length, slice_index, vec_capacity};
 ghost use Rattle.std.specs.Int.{bit_at};
 ghost use Rattle.std.specs.List.{All};
+ghost use Rattle.lx_io.specs.Causes.{HasCause};
 ghost use Rattle.lx_base.specs.declared.TheConstants.{CUES, CHANNELS};
 ghost use Rattle.lx_spec.specs.SortedList.{IsStrictlySorted, has_entry};
 ghost use Rattle.lx_spec.specs.Show.{InRange};
@@ -11,8 +12,9 @@ ghost use Rattle.lx_spec.specs.TrackedLevel.{decides};
 ghost use Rattle.lx_sheet.specs.WordPlaces.{IsBitOf, MovesWithin, bit_of, group_of, word_place, row_bit, words_over};
 
 use lx_base::{CUES, Chan};
+use lx_io::Heap;
 use lx_show::{Cue, Move};
-use std::alloc::{AllocError, Global};
+use std::alloc::AllocError;
 
 /// This many rows stand side by side: their words of one group of channels follow one another.
 const TILE: usize = 64;
@@ -35,15 +37,17 @@ pub(crate) struct Marks {
 impl Marks {
     ghost use Rattle.lx_sheet.specs.Marks.{IsMarkTable, IsGrown, IsReached, IsMarkedFor, has_mark};
 
-    /// A table for this many channels, with room for all rows. Nothing of it is written yet.
-    pub(crate) fn open(alloc: Global, channels: usize) -> Result<Marks, AllocError>
+    /// A table for this many channels, with room for all rows. Nothing of it is written yet. An error comes where the heap refuses
+    /// memory.
+    pub(crate) fn open<H: Heap>(heap: &mut H, channels: usize) -> Result<Marks, AllocError>
         requires { channels ≤ CHANNELS }
-        ensures { IfOk result (IsMarkTable channels) }
+        ensures table { IfOk result (IsMarkTable channels) }
+        ensures cause { HasCause (H.refusals heap.old) (H.refusals heap.new) result }
     {
         let groups = channels.div_ceil(GROUP);
         Ok(Marks {
             groups,
-            words: Vec::with_capacity(alloc, words_of(CUES, groups))?,
+            words: heap.room(words_of(CUES, groups))?,
         })
     }
 

@@ -2,6 +2,7 @@
 
 ghost use Rattle.std.specs.Prelude.{◌≡◌, ℕ, ◌+◌, ◌<◌, None, IfOk, IfSome, length, option_map, slice_index};
 ghost use Rattle.std.specs.Option.{option_copied};
+ghost use Rattle.lx_io.specs.Causes.{HasCause};
 ghost use Rattle.lx_spec.specs.SortedList.{IsStrictlySorted};
 ghost use Rattle.lx_spec.specs.Show.{Show as ShowData};
 ghost use Rattle.lx_spec.specs.TrackedLevel.{cue_of, tracked};
@@ -14,6 +15,7 @@ use crate::block::{ROW_GAP, level_before, own_row};
 use crate::marks::Marks;
 use crate::pool::list_free;
 use lx_base::{CUE_UNIT, CUES, Chan, CueNo, Level};
+use lx_io::{Heap, SystemHeap, filled};
 use lx_show::Show;
 use lx_show::sorted::{Keyed, index_of};
 use std::alloc::{AllocError, Global};
@@ -79,16 +81,24 @@ impl Sheet {
     pub fn open(alloc: Global, show: &Show) -> Result<Sheet, AllocError>
         ensures { IfOk result (RowsStandFor show.now) }
     {
+        Sheet::open_in(&mut SystemHeap::new(alloc), show)
+    }
+
+    /// The same, by a heap. An error comes where the heap refuses memory.
+    pub fn open_in<H: Heap>(heap: &mut H, show: &Show) -> Result<Sheet, AllocError>
+        ensures rows { IfOk result (RowsStandFor show.now) }
+        ensures cause { HasCause (H.refusals heap.old) (H.refusals heap.new) result }
+    {
         let channels = show.channels() as usize;
-        let mut free = Vec::with_capacity(alloc, CUES)?;
+        let mut free = heap.room(CUES)?;
         list_free(&mut free, 0);
         let mut sheet = Sheet {
             channels,
-            order: Vec::with_capacity(alloc, CUES)?,
+            order: heap.room(CUES)?,
             free,
-            levels: Vec::with_capacity(alloc, CUES * (channels + ROW_GAP))?,
-            look: vec![in alloc; 0; channels]?,
-            marks: Marks::open(alloc, channels)?,
+            levels: heap.room(CUES * (channels + ROW_GAP))?,
+            look: filled(heap, 0, channels)?,
+            marks: Marks::open(heap, channels)?,
         };
         sheet.refill(show);
         Ok(sheet)

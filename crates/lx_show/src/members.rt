@@ -1,12 +1,14 @@
 //! Channels with levels under one number: groups and submasters.
 
 ghost use Rattle.std.specs.Prelude.{◌≡◌, ℕ, [], None, OnOk, OnErr, IfOk};
+ghost use Rattle.lx_io.specs.Causes.{HasCause};
 ghost use Rattle.lx_spec.specs.SortedList.{entry_at, placed};
 ghost use Rattle.lx_spec.specs.Show.{ValidGroup, ValidSub};
 
 use crate::list::{Copied, SortedList};
 use crate::sorted::Keyed;
 use lx_base::{GroupNo, SubNo};
+use lx_io::Heap;
 use lx_spec::{Label, Member};
 use std::alloc::{AllocError, Global};
 use std::marker::Model;
@@ -73,8 +75,8 @@ impl<N: Keyed + Copy + Drop> Keyed for MemberSet<N> {
 }
 
 impl<N: Keyed + Copy + Drop> Copied for MemberSet<N> {
-    fn copied(&self) -> Result<Self, AllocError> {
-        self.copy()
+    fn copied<H: Heap>(&self, heap: &mut H) -> Result<Self, AllocError> {
+        self.copy(heap)
     }
 }
 
@@ -111,24 +113,26 @@ impl MemberSet<SubNo> {
 }
 
 impl<N: Keyed + Copy + Drop> MemberSet<N> {
-    /// An equal group or submaster. An error comes where memory runs out.
-    pub fn copy(&self) -> Result<Self, AllocError>
-        ensures { IfOk result (λ set. set ≡ self.now) }
+    /// An equal group or submaster. An error comes where the heap refuses memory.
+    pub fn copy<H: Heap>(&self, heap: &mut H) -> Result<Self, AllocError>
+        ensures set { IfOk result (λ set. set ≡ self.now) }
+        ensures cause { HasCause (H.refusals heap.old) (H.refusals heap.new) result }
     {
         Ok(MemberSet {
             number: self.number,
             label: self.label.copy(),
-            members: self.members.copy()?,
+            members: self.members.copy(heap)?,
         })
     }
 
-    /// Places the member, in place of the one of its channel. An error comes where memory runs out, only where the
+    /// Places the member, in place of the one of its channel. An error comes where the heap refuses room, only where the
     /// channel is no member yet, and leaves the group or submaster as it was.
-    pub fn put_member(&mut self, entry: Member) -> Result<(), AllocError>
+    pub fn put_member<H: Heap>(&mut self, heap: &mut H, entry: Member) -> Result<(), AllocError>
         ensures ok { OnOk result (self.new ≡ record self.old { members = placed (λ m. m.chan) entry self.old.members }) }
         ensures err { OnErr result (self.new ≡ self.old) }
         ensures absent { OnErr result (entry_at (λ m. m.chan) entry.chan self.old.members ≡ None) }
+        ensures cause { HasCause (H.refusals heap.old) (H.refusals heap.new) result }
     {
-        self.members.put(entry)
+        self.members.put(heap, entry)
     }
 }

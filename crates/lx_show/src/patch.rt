@@ -2,6 +2,7 @@
 
 use crate::list::Copied;
 use crate::sorted::Keyed;
+use lx_io::Heap;
 use lx_spec::PatchRow;
 use std::alloc::AllocError;
 
@@ -14,7 +15,7 @@ impl Keyed for PatchRow {
 }
 
 impl Copied for PatchRow {
-    fn copied(&self) -> Result<PatchRow, AllocError> {
+    fn copied<H: Heap>(&self, _heap: &mut H) -> Result<PatchRow, AllocError> {
         Ok(*self)
     }
 }

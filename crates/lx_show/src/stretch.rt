@@ -4,16 +4,20 @@
 ghost use Rattle.std.specs.Prelude.{◌≡◌, ◌<◌, true, ◌≤◌, ◌+◌, ◌-◌, ◌++◌, Some, length, take, drop, slice_get, vec_capacity, OnOk, OnErr};
 ghost use Rattle.std.specs.Option.{option_map};
 ghost use Rattle.std.specs.List.{AllByRecursion};
+ghost use Rattle.lx_io.specs.Causes.{HasCause};
 ghost use Rattle.lx_spec.specs.SortedList.{IsStrictlySorted, all_placed};
 ghost use Rattle.lx_show.specs.Indexes.{StandsAt};
 ghost use Rattle.lx_show.specs.Stretch.{IsStretch};
 
 use crate::sorted::{Keyed, index_near, stands_at};
+use lx_io::Heap;
 use std::alloc::AllocError;
 
 /// Places each of the entries in turn, in place of the one of its number. They are looked for first at the index after
-/// the entry that was placed last, which is kept in `next`. The room for all of them is taken before.
-pub fn put_each<T: Keyed + Copy + Drop>(
+/// the entry that was placed last, which is kept in `next`. The room for all of them is taken before, and an error comes only where
+/// the heap refuses it.
+pub fn put_each<H: Heap, T: Keyed + Copy + Drop>(
+    heap: &mut H,
     xs: &mut Vec<T>,
     next: &mut usize,
     more: &[T],
@@ -22,8 +26,9 @@ pub fn put_each<T: Keyed + Copy + Drop>(
     ensures ok { OnOk result (xs.new.items ≡ all_placed T.key more.now xs.old.items) }
     ensures sorted { IsStrictlySorted T.key xs.new.items }
     ensures err { OnErr result (xs.new.items ≡ xs.old.items) }
+    ensures cause { HasCause (H.refusals heap.old) (H.refusals heap.new) result }
 {
-    xs.reserve(more.len())?;
+    heap.reserve(xs, more.len())?;
     let mut rest = more;
     while !rest.is_empty() {
         let count = put_front(xs, next, rest);

@@ -1,6 +1,7 @@
 //! The faders of the submasters, and what they give.
 
 ghost use Rattle.std.specs.Prelude.{◌≡◌, ◌-◌, ℕ, length, replicate, slice_set, IfOk};
+ghost use Rattle.lx_io.specs.Causes.{HasCause};
 ghost use Rattle.lx_base.specs.declared.TheConstants.{SUBS};
 ghost use Rattle.lx_spec.specs.Show.{Show as ShowData};
 ghost use Rattle.lx_spec.specs.Output.{contribution, fader};
@@ -9,6 +10,7 @@ ghost use Rattle.lx_subs.specs.Faders.{StandsForSubs};
 
 use crate::contributions::fill;
 use lx_base::{Level, SUBS, SubNo};
+use lx_io::{Heap, SystemHeap, filled};
 use lx_show::Show;
 use std::alloc::{AllocError, Global};
 use std::marker::Model;
@@ -41,9 +43,18 @@ impl SubRack {
         ensures stands { IfOk result (StandsForSubs show.now) }
         ensures faders { IfOk result (λ rack. rack.faders ≡ replicate SUBS 0) }
     {
+        SubRack::open_in(&mut SystemHeap::new(alloc), show)
+    }
+
+    /// The same, by a heap. An error comes where the heap refuses memory.
+    pub fn open_in<H: Heap>(heap: &mut H, show: &Show) -> Result<SubRack, AllocError>
+        ensures stands { IfOk result (StandsForSubs show.now) }
+        ensures faders { IfOk result (λ rack. rack.faders ≡ replicate SUBS 0) }
+        ensures cause { HasCause (H.refusals heap.old) (H.refusals heap.new) result }
+    {
         let mut rack = SubRack {
-            faders: vec![in alloc; 0; SUBS as usize]?,
-            contributions: vec![in alloc; 0; show.channels() as usize]?,
+            faders: filled(heap, 0, SUBS as usize)?,
+            contributions: filled(heap, 0, show.channels() as usize)?,
         };
         rack.changed(show);
         Ok(rack)

@@ -4,6 +4,7 @@ use Rattle.lx_text_laws.proofs.Imports.{Ok, Err, IfSome, IfOk, IfErr, List, [], 
 use Rattle.lx_text_laws.proofs.Imports.{INPUT_BYTES, Form, Moves, TextFault, Limits, desk_limits, Show, Valid, show_text, first_lines, Reading, reads}
 use Rattle.lx_text_laws.proofs.Imports.{reads_under, HasOneDecimalMore, finer, ReadsFiner}
 use Rattle.std.specs.Result.{result_unwrap_or}
+use Rattle.lx_io.specs.Told.{ToldBySource}
 use Rattle.lx_lex.specs.declared.lines.Lines.{Lines}
 use Rattle.lx_lex.specs.Unread.{unread}
 use Rattle.lx_reader.specs.declared.loaded.Loaded.{Loaded}
@@ -25,21 +26,21 @@ first_lines-within (suc n) (x ∷ xs) =
     either (x == 10)
 
 -- Over lines that hand the text out, of which none was taken.
-module _ (text : List ℕ) (form : Form) {S : Type 0} (left : S → Option (List ℕ)) (rises : S → ℕ) (a b : Lines S)
-    (is : unread left a ≡ Some text) (none : a.taken ≡ 0) where
-  no_fault : {P : Type 0} (reading : Reading) → reads form text ≡ Ok reading → (fault : TextFault) → MeansFault left a form fault → P
+module _ (text : List ℕ) (form : Form) {S : Type 0} (told_in : ToldBySource S) (a b : Lines S)
+    (is : unread told_in a ≡ Some text) (none : a.taken ≡ 0) where
+  no_fault : {P : Type 0} (reading : Reading) → reads form text ≡ Ok reading → (fault : TextFault) → MeansFault told_in a form fault → P
   no_fault reading reads_ok fault means =
       let told : reads form text ≡ Err fault =
       subst (λ (v : Option (List ℕ)). IfSome v (λ bytes. reads form bytes ≡ Err fault)) is means.text in
       let bad : Ok reading ≡ Err fault = sym reads_ok ∙ told in
       absurd cc
 
-  too_long : IfSome (unread left a) (IsPastLimit a.taken) → INPUT_BYTES < length text
+  too_long : IfSome (unread told_in a) (IsPastLimit a.taken) → INPUT_BYTES < length text
   too_long long =
       let past : IsPastLimit a.taken text = subst (λ (v : Option (List ℕ)). IfSome v (IsPastLimit a.taken)) is long in
       omega (arith, none, past.long, first_lines-within (past.n + 1) text)
 
-  read_as : (reading : Reading) → reads form text ≡ Ok reading → (r : Result Loaded ShowFault) → AnswerOf left rises a b form r
+  read_as : (reading : Reading) → reads form text ≡ Ok reading → (r : Result Loaded ShowFault) → AnswerOf told_in a b form r
       → (r ≡ Err faults.ReadFault → ⊥) → ComesAsReading text reading r
   read_as reading reads_ok (Ok loaded) answer never =
       let told : reads form text ≡ Ok (reading_of loaded) =
@@ -50,7 +51,7 @@ module _ (text : List ℕ) (form : Form) {S : Type 0} (left : S → Option (List
   read_as reading reads_ok (Err faults.InputTooLong) answer never = inr (refl, too_long answer.0)
   read_as reading reads_ok (Err faults.Memory) answer never = inl refl
 
-  module _ (r : Result Loaded ShowFault) (answer : AnswerOf left rises a b form r) (never : r ≡ Err faults.ReadFault → ⊥) where
+  module _ (r : Result Loaded ShowFault) (answer : AnswerOf told_in a b form r) (never : r ≡ Err faults.ReadFault → ⊥) where
     as_read : (v : Result Reading TextFault) → reads form text ≡ v → IfOk v (λ reading. ComesAsReading text reading r)
     as_read (Ok reading) reads_ok = read_as reading reads_ok r answer never
     as_read (Err fault) fails = tt

@@ -8,6 +8,7 @@ use Rattle.lx_undo.proofs.Imports.{LineState, next_of, unattempted, IsLine, OneA
 use Rattle.lx_undo.proofs.Imports.{counted_so as counts_so, reached, HasReached, UndoKept, UndoStands}
 use Rattle.lx_io.specs.declared.sink.SinkFault.{SinkFault}
 use Rattle.lx_io.specs.Puts.{Puts}
+use Rattle.lx_io.specs.Told.{ToldBySink}
 use Rattle.lx_session.specs.declared.tally.Tally.{Tally}
 use Rattle.lx_undo.proofs.Lines.{goes_on}
 use Rattle.lx_undo.specs.declared.asked.Denial.{Denial}
@@ -41,12 +42,12 @@ done_by : (s : UndoState) (what : UndoLine) (u : UndoKept) (r : Result UndoState
 done_by s what u (Ok next) is stands = (next, is, stands)
 done_by s what u (Err text) is stands = absurd stands
 
-module _ {K T : Type 0} (holds : K → Option (List ℕ)) (faults wants : K → ℕ) (sink sink' : K) (result : Result T SinkFault)
+module _ {K T : Type 0} (told : ToldBySink K) (sink sink' : K) (result : Result T SinkFault)
     (s : Session UndoState) (line : List ℕ) (what : UndoLine) (u : UndoKept) (before after : Tally)
     (is : undo_line_of line ≡ Some what) (counted_so : s.counts ≡ counts_in before) where
   done : HasAsked s.state what None u → counts_in after ≡ counted_denial None (counts_in before)
-      → Puts holds faults wants sink sink' result (answer_text None)
-      → OneAnswer undo_answering holds faults wants sink sink' result s line (λ (state : UndoState). UndoStands state u) after
+      → Puts told sink sink' result (answer_text None)
+      → OneAnswer undo_answering told sink sink' result s line (λ (state : UndoState). UndoStands state u) after
   done did counts puts =
       let n = done_by s.state what u (after_asking s.state what) refl did in
       record {
@@ -63,9 +64,8 @@ module _ {K T : Type 0} (holds : K → Option (List ℕ)) (faults wants : K → 
   refused : (denial : Denial) (failed : Option ℕ)
       → (if is_some failed then Err (refused_text Memory) else after_asking s.state what) ≡ Err (denial_text denial)
       → (is_some failed ≡ true → MayFailAsked s.state what) → UndoStands s.state u
-      → counts_in after ≡ counted_denial (Some denial) (counts_in before)
-      → Puts holds faults wants sink sink' result (answer_text (Some denial))
-      → OneAnswer undo_answering holds faults wants sink sink' result s line (λ (state : UndoState). UndoStands state u) after
+      → counts_in after ≡ counted_denial (Some denial) (counts_in before) → Puts told sink sink' result (answer_text (Some denial))
+      → OneAnswer undo_answering told sink sink' result s line (λ (state : UndoState). UndoStands state u) after
   refused denial failed comes may stands counts puts = record {
     next = attempted s (Err (denial_text denial));
     failed = failed;
@@ -82,8 +82,8 @@ module _ {K T : Type 0} (holds : K → Option (List ℕ)) (faults wants : K → 
 
   -- Of a line that asks something of the history.
   pub answered_asked : (denial : Option Denial) → HasAsked s.state what denial u → counts_in after ≡ counted_denial denial (counts_in before)
-      → Puts holds faults wants sink sink' result (answer_text denial)
-      → OneAnswer undo_answering holds faults wants sink sink' result s line (λ (state : UndoState). UndoStands state u) after
+      → Puts told sink sink' result (answer_text denial)
+      → OneAnswer undo_answering told sink sink' result s line (λ (state : UndoState). UndoStands state u) after
   answered_asked None did counts puts = done did counts puts
   answered_asked (Some denial) did counts puts = elim did.1 [
     | inl own ↦ refused denial None own (λ e. cc) did.0 counts puts
@@ -91,20 +91,20 @@ module _ {K T : Type 0} (holds : K → Option (List ℕ)) (faults wants : K → 
   ]
 
 -- Of a line that asks nothing of the history, from its attempts and the reply that was put.
-pub answered_line : {K T : Type 0} (holds : K → Option (List ℕ)) (faults wants : K → ℕ) (sink sink' : K) (result : Result T SinkFault)
+pub answered_line : {K T : Type 0} (told : ToldBySink K) (sink sink' : K) (result : Result T SinkFault)
     (s : Session UndoState) (text : List ℕ) (meaning : Option Line) (start turn : LineState) (u : UndoKept) (console : Kept)
     (before after : Tally) → start ≡ unattempted meaning → console ≡ u.console → meaning ≡ line_of text → undo_line_of text ≡ None
     → s.counts ≡ counts_in before
     → LineProgress true (HasReached s.state u (start.left - turn.left)) (begun s.state.desk) start turn u.console → next_of turn ≡ None
-    → ((d : Desk) → StandsFor d console → Puts holds faults wants sink sink' result (reply_to d turn.meaning turn.refusal))
+    → ((d : Desk) → StandsFor d console → Puts told sink sink' result (reply_to d turn.meaning turn.refusal))
     → ((d : Desk) → StandsFor d console → OnOk result (counts_in after ≡ counts_after d (counts_in before) turn.meaning turn.refusal))
-    → OneAnswer undo_answering holds faults wants sink sink' result s text (λ (state : UndoState). UndoStands state u) after
-answered_line holds faults wants sink sink' result s text meant start turn u console before after begun_so same is none counted_so t over puts
+    → OneAnswer undo_answering told sink sink' result s text (λ (state : UndoState). UndoStands state u) after
+answered_line told sink sink' result s text meant start turn u console before after begun_so same is none counted_so t over puts
     counts =
     let heard : List Command → Type 0 = HasReached s.state u (start.left - turn.left) in
     let meaning = line_of text in
     let from : start ≡ unattempted meaning = begun_so ∙ ap unattempted is in
-    let a = turn_answered true heard holds faults wants sink sink' result s.counts (begun s.state.desk) meaning turn u.console before after
+    let a = turn_answered true heard told sink sink' result s.counts (begun s.state.desk) meaning turn u.console before after
     (subst (λ (v : LineState). LineProgress true heard (begun s.state.desk) v turn u.console) from t) over counted_so
     (λ d stands. puts d (subst (StandsFor d) (sym same) stands)) (λ d stands. counts d (subst (StandsFor d) (sym same) stands)) in
     let now : Attempt = record { state = a.now; refusal = a.refusal } in

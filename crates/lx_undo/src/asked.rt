@@ -51,7 +51,7 @@ pub(crate) fn give<K: Sink>(
     tally: &mut Tally,
 ) -> Result<bool, SinkFault>
     requires room { TallyHasRoom tally.old }
-    ensures text { Puts K.holds K.faults K.wants sink.old sink.new result (answer_text denial) }
+    ensures text { Puts K.Sink sink.old sink.new result (answer_text denial) }
     ensures counts { counts_in tally.new ≡ counted_denial denial (counts_in tally.old) }
     ensures counted_denial { HasOneMore tally.old tally.new }
     ensures more { IfOk result (λ more. more ≡ true) }
@@ -66,7 +66,7 @@ pub(crate) fn give<K: Sink>(
 
 /// Appends the reply to what was done or denied.
 fn put_answer<K: Sink>(denial: Option<Denial>, sink: &mut K) -> Result<(), SinkFault>
-    ensures { Puts K.holds K.faults K.wants sink.old sink.new result (answer_text denial) }
+    ensures { Puts K.Sink sink.old sink.new result (answer_text denial) }
 {
     match denial {
         None => put_reply(&Reply::Ok, sink),

@@ -12,6 +12,7 @@ use lx_base::CueNo;
 use lx_console::Console;
 use lx_edit::Plan;
 use lx_edit::planning::plan;
+use lx_io::SystemHeap;
 use lx_record::plan_record;
 use lx_show::{Command, Edit, Refusal, Show};
 use lx_spec::UndoFault;
@@ -79,7 +80,8 @@ impl UndoDesk {
         ensures steps { (s : UndoState) → UndoStands s self.old → TakesUndoStep true (undo_step s (Command.Edit edit.now)) result self.new }
         ensures unchanged { OnErr result (self.new ≡ self.old) }
     {
-        let plan = plan(self.console.allocator(), self.console.show(), edit)?;
+        let mut heap = SystemHeap::new(self.console.allocator());
+        let plan = plan(&mut heap, self.console.show(), edit)?;
         self.apply(plan);
         Ok(())
     }

@@ -45,11 +45,11 @@ pub fn undo_session<S: Source, K: Sink>(
     requires within { bytes_taken lines.old ≤ INPUT_BYTES }
     ensures same_source { SameSource lines.old lines.new }
     ensures outcome { (state : UndoState) → UndoStands state desk.old
-        → IfSome (unread S.left lines.old)
+        → IfSome (unread S.Source lines.old)
         (λ bytes. ScriptAnswered undo_answering (λ s. UndoStands s desk.new) state (bytes_taken lines.old) bytes
-        (unread S.left lines.new) (source_left S.left lines.new) (K.holds sink.old) (K.holds sink.new) result) }
-    ensures limit { IfSome (unread S.left lines.old) (λ bytes. KeepsLimit (bytes_taken lines.old) bytes result) }
-    ensures cause { HasSessionCause S.faults K.faults K.wants lines.old lines.new sink.old sink.new result }
+        (unread S.Source lines.new) (source_left S.Source lines.new) (K.holds sink.old) (K.holds sink.new) result) }
+    ensures limit { IfSome (unread S.Source lines.old) (λ bytes. KeepsLimit (bytes_taken lines.old) bytes result) }
+    ensures cause { HasSessionCause S.Source K.Sink lines.old lines.new sink.old sink.new result }
     ensures handed_on { OnOk result (K.back sink.new ≡ []) }
 {
     answer_lines(desk, lines, sink)
@@ -98,10 +98,10 @@ fn answer_asked<K: Sink>(
     requires room { TallyHasRoom tally.old }
     ensures answered { (s : Session UndoState) (text : List ℕ) → UndoStands s.state desk.old → s.counts ≡ counts_in tally.old
         → undo_line_of text ≡ Some what
-        → OneAnswer undo_answering K.holds K.faults K.wants sink.old sink.new result s text
+        → OneAnswer undo_answering K.Sink sink.old sink.new result s text
         (λ state. UndoStands state desk.new) tally.new }
     ensures more { IfOk result (λ more. more ≡ true) }
-    ensures cause { HasSinkCause K.faults K.wants sink.old sink.new result }
+    ensures cause { HasSinkCause K.Sink sink.old sink.new result }
     ensures counted { HasOneMore tally.old tally.new }
 {
     let denial = ask(desk, what);
@@ -120,10 +120,10 @@ fn answer_plain<K: Sink>(
     requires room { TallyHasRoom tally.old }
     ensures answered { (s : Session UndoState) (text : List ℕ) → UndoStands s.state desk.old → s.counts ≡ counts_in tally.old
         → meaning.entry ≡ line_of text → undo_line_of text ≡ None
-        → OneAnswer undo_answering K.holds K.faults K.wants sink.old sink.new result s text
+        → OneAnswer undo_answering K.Sink sink.old sink.new result s text
         (λ state. UndoStands state desk.new) tally.new }
     ensures quit { IfOk result (λ more. (text : List ℕ) → meaning.entry ≡ line_of text → more ≡ not (ends_script text)) }
-    ensures cause { HasSinkCause K.faults K.wants sink.old sink.new result }
+    ensures cause { HasSinkCause K.Sink sink.old sink.new result }
     ensures counted { HasOneMore tally.old tally.new }
 {
     let mut turn = Turn::of(meaning);

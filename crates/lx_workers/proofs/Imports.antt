@@ -14,6 +14,7 @@ pub use Rattle.lx_gate.specs.declared.stamp.Stamp.{Stamp}
 pub use Rattle.lx_io.specs.Causes.{one_more, Rose}
 pub use Rattle.lx_io.specs.Puts.{AppendsFront, HasSinkCause, Puts}
 pub use Rattle.lx_io.specs.declared.sink.SinkFault.{SinkFault}
+pub use Rattle.lx_io.specs.Told.{ToldBySink}
 pub use Rattle.lx_spec.specs.Desk.{Desk, opened, replay}
 pub use Rattle.lx_spec.specs.Kept.{Kept}
 pub use Rattle.lx_spec.specs.Show.{Show}

@@ -2,7 +2,7 @@
 use Rattle.lx_workers.proofs.Imports.{◌≡◌, ◌≢◌, ◌⊎◌, inl, inr, ℕ, zero, suc, ◌+◌, ◌-◌, ◌<◌, ◌≤◌, List, [], ◌∷◌}
 use Rattle.lx_workers.proofs.Imports.{◌++◌, length, replicate, Some, None, set, slice_get, IsSome, IsSomeAnd, refl, sym, ap, ◌∙◌, subst, arith}
 use Rattle.lx_workers.proofs.Imports.{append_assoc, length-append, slice_get_within, same_Some, IsPrefix, SinkFault, Command, Show, EachAt, Tapped, prefix_get}
-use Rattle.lx_workers.proofs.Imports.{Served, HasServed, Delivered, IsFull, IsTaken, IsGiven, OutletIsBack}
+use Rattle.lx_workers.proofs.Imports.{Served, HasServed, Delivered, IsFull, IsTaken, IsGiven, OutletIsBack, ToldBySink}
 use Rattle.std.specs.declared.option.Option.{Option}
 use Rattle.std.specs.List.{AllZip}
 
@@ -83,13 +83,12 @@ back_more all Q Q' n len lane whole here keep new before k x is le = elim (split
 ]
 
 -- what stands elsewhere stays
-pub given_on : {K : Type 0} (holds : K → Option (List ℕ)) (back : K → List ℕ) (faults wants : K → ℕ) (show : Show) (outlets outlets' : List (Option K))
+pub given_on : {K : Type 0} (told : ToldBySink K) (show : Show) (outlets outlets' : List (Option K))
     (results results' : List (Option SinkFault)) (published : List Command) (place at : ℕ) (o : Option K) (f : Option SinkFault)
     (tap : Tapped) (sink : K) (served : Served)
     → outlets' ≡ set outlets at o → results' ≡ set results at f → place ≢ at
-    → IsGiven holds back faults wants show outlets results published place tap sink served
-    → IsGiven holds back faults wants show outlets' results' published place tap sink served
-given_on holds back faults wants show outlets outlets' results results' published place at o f tap sink served is is' other g = record {
+    → IsGiven told show outlets results published place tap sink served → IsGiven told show outlets' results' published place tap sink served
+given_on told show outlets outlets' results results' published place at o f tap sink served is is' other g = record {
   new = g.new;
   fault = g.fault;
   place_is = ap (λ l. slice_get l place) is ∙ get-set_other outlets at place o other ∙ g.place_is;
@@ -115,14 +114,13 @@ pub length_snoc : {X : Type 0} (all xs : List X) (x : X) → all ≡ xs ++ x ∷
 length_snoc all xs x e = let n = length-append xs (x ∷ []) in omega (arith, ap length e, n)
 
 -- the sink of a place came out of it, was served and came back
-pub is_back : {K : Type 0} (holds : K → Option (List ℕ)) (back : K → List ℕ) (faults wants : K → ℕ) (show : Show) (outlets outlets' : List (Option K))
+pub is_back : {K : Type 0} (outlet_told : ToldBySink K) (show : Show) (outlets outlets' : List (Option K))
     (results : List (Option SinkFault)) (published : List Command) (place k n m : ℕ) (start : K) (tap tap' : Tapped) (sink sink' : K)
     (served : Served)
     → slice_get outlets place ≡ Some (Some start) → place < n → k ≡ n - 1 - place → m ≡ n → IsTaken outlets n k tap sink
-    → HasServed holds back faults wants show tap tap' sink sink' served
-    → IsGiven holds back faults wants show outlets' results published (m - 1 - k) tap' sink' served
-    → OutletIsBack holds back faults wants show outlets' results published place start
-is_back {K = K} holds back faults wants show outlets outlets' results published place k n m start tap tap' sink sink' served is within at same t
+    → HasServed outlet_told show tap tap' sink sink' served → IsGiven outlet_told show outlets' results published (m - 1 - k) tap' sink' served
+    → OutletIsBack outlet_told show outlets' results published place start
+is_back {K = K} outlet_told show outlets outlets' results published place k n m start tap tap' sink sink' served is within at same t
     h g =
     let here : m - 1 - k ≡ place = omega (arith, within, at, same) in
     let universe : tap.universe ≡ place + 1 = omega (arith, t.universe_is, within, at) in
@@ -135,6 +133,6 @@ is_back {K = K} holds back faults wants show outlets outlets' results published 
       fault = g.fault;
       place_is = ap (slice_get outlets') (sym here) ∙ g.place_is;
       fault_is = ap (slice_get results) (sym here) ∙ g.fault_is;
-      delivered = subst (λ (w : K). Delivered holds back faults wants show (place + 1) w g.new published g.fault) mine
-          (subst (λ (v : ℕ). Delivered holds back faults wants show v sink g.new published g.fault) universe told);
+      delivered = subst (λ (w : K). Delivered outlet_told show (place + 1) w g.new published g.fault) mine
+          (subst (λ (v : ℕ). Delivered outlet_told show v sink g.new published g.fault) universe told);
     }

@@ -2,15 +2,16 @@
 use Rattle.lx_workers.proofs.Imports.{◌≡◌, ℕ, ◌<◌, ◌≤◌, ◌+◌, ◌-◌, ◌^◌, min, List, [], length, Option, Some, None, Err, IfSome}
 use Rattle.lx_workers.proofs.Imports.{IsSomeAnd, inl, refl, sym, ap, ◌∙◌, subst, arith, IsPrefix, Appends, SinkFault, one_more, HasSinkCause, Puts}
 use Rattle.lx_workers.proofs.Imports.{same_Some, Show, Stamp, IsFrame, Tapped, newest, prefix_self, prefix_trans, Served, stamped_line, HasFault}
-use Rattle.lx_workers.proofs.Imports.{HasWrittenPart, HasServed, HasStepped}
+use Rattle.lx_workers.proofs.Imports.{HasWrittenPart, HasServed, HasStepped, ToldBySink}
 use Rattle.lx_io.specs.declared.sink.SinkFault.TheVariants.{Failed, Memory}
 use Rattle.lx_workers.proofs.WrittenLines.{goes_on, adds_line, adds_part, last_stays, none_written}
 use Rattle.lx_workers.proofs.TapSteps.{HasTaken, count_on, takes_on}
 
 -- no fault behind none
-pub fault_none : {S : Type 0} (faults wants : S → ℕ) (a b c : S) → HasFault faults wants a b None → faults c ≡ faults b → wants c ≡ wants b
-    → HasFault faults wants a c None
-fault_none faults wants a b c h l w =
+pub fault_none : {S : Type 0} (told : ToldBySink S) (a b c : S) → HasFault told a b None → told.faults c ≡ told.faults b → told.wants c
+    ≡ told.wants b
+    → HasFault told a c None
+fault_none told a b c h l w =
     let same = h.kept refl in
     record {
       later = omega (arith, h.later, l);
@@ -21,9 +22,9 @@ fault_none faults wants a b c h l w =
     }
 
 -- a fault behind none
-pub fault_then : {S : Type 0} (faults wants : S → ℕ) (a b c : S) (fault : Option SinkFault) → HasFault faults wants a b None
-    → HasFault faults wants b c fault → HasFault faults wants a c fault
-fault_then faults wants a b c fault h k = record {
+pub fault_then : {S : Type 0} (told : ToldBySink S) (a b c : S) (fault : Option SinkFault) → HasFault told a b None
+    → HasFault told b c fault → HasFault told a c fault
+fault_then told a b c fault h k = record {
   later = omega (arith, h.later, k.later);
   wants_later = omega (arith, h.wants_later, k.wants_later);
   failed = λ e. let r = k.failed e in omega (arith, h.later, r);
@@ -32,9 +33,9 @@ fault_then faults wants a b c fault h k = record {
 }
 
 -- the sink's own fault
-fault_is : {S : Type 0} (faults wants : S → ℕ) (a b : S) (fault : SinkFault) → HasSinkCause {T = Unit {0}} faults wants a b (Err fault)
-    → HasFault faults wants a b (Some fault)
-fault_is faults wants a b fault k = record {
+fault_is : {S : Type 0} (told : ToldBySink S) (a b : S) (fault : SinkFault) → HasSinkCause {T = Unit {0}} told a b (Err fault)
+    → HasFault told a b (Some fault)
+fault_is told a b fault k = record {
   later = k.later;
   wants_later = k.wants_later;
   failed = λ e. k.failed (same_Some fault Failed e);
@@ -43,10 +44,10 @@ fault_is faults wants a b fault k = record {
 }
 
 -- before the first take
-pub served_none : {K : Type 0} (holds : K → Option (List ℕ)) (back : K → List ℕ) (faults wants : K → ℕ) (show : Show) (tap : Tapped) (sink : K)
-    → HasServed holds back faults wants show tap tap sink sink (record { takes = 0; taken = 0; last = None; fault = None })
-served_none holds back faults wants show tap sink = record {
-  written = λ e. none_written show tap.universe (holds sink) (newest tap.told);
+pub served_none : {K : Type 0} (told : ToldBySink K) (show : Show) (tap : Tapped) (sink : K)
+    → HasServed told show tap tap sink sink (record { takes = 0; taken = 0; last = None; fault = None })
+served_none told show tap sink = record {
+  written = λ e. none_written show tap.universe (told.holds sink) (newest tap.told);
   part = λ f e. cc;
   cause = record { later = omega arith; wants_later = omega arith; failed = λ e. cc; memory = λ e. cc; kept = λ e. (refl, refl) };
   handed_on = λ count none last. cc;
@@ -59,14 +60,13 @@ served_none holds back faults wants show tap sink = record {
 }
 
 -- nothing newer was taken
-pub stepped_none : {K : Type 0} (holds : K → Option (List ℕ)) (back : K → List ℕ) (faults wants : K → ℕ) (show : Show) (tap tap' : Tapped) (sink : K)
-    (served : Served) (count : ℕ)
+pub stepped_none : {K : Type 0} (told : ToldBySink K) (show : Show) (tap tap' : Tapped) (sink : K) (served : Served) (count : ℕ)
     → served.fault ≡ None → tap'.universe ≡ tap.universe → IsPrefix (newest tap.told) (newest tap'.told) → HasTaken tap.told tap'.told
     → count ≡ length (newest tap'.told) → IsSomeAnd served.last (λ n. count ≤ n)
-    → HasStepped holds back faults wants show tap tap' sink sink served (record served { takes = one_more served.takes })
-stepped_none holds back faults wants show tap tap' sink served count none u p t is stale = record {
+    → HasStepped told show tap tap' sink sink served (record served { takes = one_more served.takes })
+stepped_none told show tap tap' sink served count none u p t is stale = record {
   serves = λ start from h. record {
-    written = λ e. goes_on show start.universe (holds from) (holds sink) (newest tap.told) (newest tap'.told) served.taken served.last p
+    written = λ e. goes_on show start.universe (told.holds from) (told.holds sink) (newest tap.told) (newest tap'.told) served.taken served.last p
         (h.written e);
     part = λ f e. cc;
     cause = h.cause;
@@ -82,28 +82,28 @@ stepped_none holds back faults wants show tap tap' sink served count none u p t 
   seen = t.seen;
   same_learnt = t.learnt;
   takes = refl;
-  last = λ start from h e. last_stays show start.universe (holds from) (holds sink) (newest tap.told) (newest tap'.told) served.taken
+  last = λ start from h e. last_stays show start.universe (told.holds from) (told.holds sink) (newest tap.told) (newest tap'.told) served.taken
       served.last count p is stale (h.written none);
 }
 
 -- a newer version was taken, and its line was written
-pub stepped_line : {K : Type 0} (holds : K → Option (List ℕ)) (back : K → List ℕ) (faults wants : K → ℕ) (show : Show) (tap tap' : Tapped) (sink sink' : K)
+pub stepped_line : {K : Type 0} (told : ToldBySink K) (show : Show) (tap tap' : Tapped) (sink sink' : K)
     (served : Served) (slots : List ℕ) (stamp : Stamp)
     → served.fault ≡ None → tap'.universe ≡ tap.universe → IsPrefix (newest tap.told) (newest tap'.told) → HasTaken tap.told tap'.told
     → IsFrame show (newest tap'.told) tap.universe slots stamp → IfSome served.last (λ n. n < stamp.count)
-    → Appends (holds sink) (holds sink') (stamped_line tap.universe slots stamp) → faults sink' ≡ faults sink → wants sink' ≡ wants sink
-    → back sink' ≡ []
-    → HasStepped holds back faults wants show tap tap' sink sink' served
+    → Appends (told.holds sink) (told.holds sink') (stamped_line tap.universe slots stamp) → told.faults sink' ≡ told.faults sink
+    → told.wants sink' ≡ told.wants sink
+    → told.back sink' ≡ [] → HasStepped told show tap tap' sink sink' served
     (record served { takes = one_more served.takes; taken = min (served.taken + 1) (2 ^ 64 - 1); last = Some stamp.count })
-stepped_line holds back faults wants show tap tap' sink sink' served slots stamp none u p t frame fresh text kept wants_kept handed_on = record {
+stepped_line told show tap tap' sink sink' served slots stamp none u p t frame fresh text kept wants_kept handed_on = record {
   serves = λ start from h. record {
-    written = λ e. adds_line show start.universe (holds from) (holds sink) (holds sink') (newest tap.told) (newest tap'.told) served.taken
+    written = λ e. adds_line show start.universe (told.holds from) (told.holds sink) (told.holds sink') (newest tap.told) (newest tap'.told) served.taken
         served.last slots stamp p
         (subst (λ (n : ℕ). IsFrame show (newest tap'.told) n slots stamp) h.same_universe frame)
-        (subst (λ (n : ℕ). Appends (holds sink) (holds sink') (stamped_line n slots stamp)) h.same_universe text) fresh (h.written none);
+        (subst (λ (n : ℕ). Appends (told.holds sink) (told.holds sink') (stamped_line n slots stamp)) h.same_universe text) fresh (h.written none);
     part = λ f e. cc;
-    cause = subst (λ (o : Option SinkFault). HasFault faults wants from sink' o) (sym none)
-        (fault_none faults wants from sink sink' (subst (λ (o : Option SinkFault). HasFault faults wants from sink o) none h.cause) kept
+    cause = subst (λ (o : Option SinkFault). HasFault told from sink' o) (sym none)
+        (fault_none told from sink sink' (subst (λ (o : Option SinkFault). HasFault told from sink o) none h.cause) kept
         wants_kept);
     handed_on = λ count e last. handed_on;
     goes_on = prefix_trans (newest start.told) (newest tap.told) (newest tap'.told) h.goes_on p;
@@ -121,25 +121,23 @@ stepped_line holds back faults wants show tap tap' sink sink' served slots stamp
 }
 
 -- a newer version was taken, and the sink failed in its line
-pub stepped_fault : {K : Type 0} (holds : K → Option (List ℕ)) (back : K → List ℕ) (faults wants : K → ℕ) (show : Show) (tap tap' : Tapped) (sink sink' : K)
+pub stepped_fault : {K : Type 0} (told : ToldBySink K) (show : Show) (tap tap' : Tapped) (sink sink' : K)
     (served : Served) (slots : List ℕ) (stamp : Stamp) (fault : SinkFault)
     → served.fault ≡ None → tap'.universe ≡ tap.universe → IsPrefix (newest tap.told) (newest tap'.told) → HasTaken tap.told tap'.told
     → IsFrame show (newest tap'.told) tap.universe slots stamp → IfSome served.last (λ n. n < stamp.count)
-    → Puts {T = Unit {0}} holds faults wants sink sink' (Err fault) (stamped_line tap.universe slots stamp)
-    → HasStepped holds back faults wants show tap tap' sink sink' served (record served { takes = one_more served.takes; fault = Some fault })
-stepped_fault holds back faults wants show tap tap' sink sink' served slots stamp fault none u p t frame fresh puts = record {
+    → Puts {T = Unit {0}} told sink sink' (Err fault) (stamped_line tap.universe slots stamp)
+    → HasStepped told show tap tap' sink sink' served (record served { takes = one_more served.takes; fault = Some fault })
+stepped_fault told show tap tap' sink sink' served slots stamp fault none u p t frame fresh puts = record {
   serves = λ start from h. record {
     written = λ e. cc;
-    part = λ f e. subst (λ (g : SinkFault). HasWrittenPart holds faults wants show start.universe from sink' (newest tap'.told) g)
-        (same_Some fault f e)
-        (adds_part holds faults wants show start.universe from sink sink' (newest tap.told) (newest tap'.told) served.taken served.last
+    part = λ f e. subst (λ (g : SinkFault). HasWrittenPart told show start.universe from sink' (newest tap'.told) g) (same_Some fault f e)
+        (adds_part told show start.universe from sink sink' (newest tap.told) (newest tap'.told) served.taken served.last
         slots stamp fault p
         (subst (λ (n : ℕ). IsFrame show (newest tap'.told) n slots stamp) h.same_universe frame)
-        (subst (λ (n : ℕ). Puts {T = Unit {0}} holds faults wants sink sink' (Err fault) (stamped_line n slots stamp)) h.same_universe puts) fresh
+        (subst (λ (n : ℕ). Puts {T = Unit {0}} told sink sink' (Err fault) (stamped_line n slots stamp)) h.same_universe puts) fresh
         (h.written none));
-    cause = fault_then faults wants from sink sink' (Some fault)
-        (subst (λ (o : Option SinkFault). HasFault faults wants from sink o) none h.cause)
-        (fault_is faults wants sink sink' fault puts.cause);
+    cause = fault_then told from sink sink' (Some fault) (subst (λ (o : Option SinkFault). HasFault told from sink o) none h.cause)
+        (fault_is told sink sink' fault puts.cause);
     handed_on = λ count e last. cc;
     goes_on = prefix_trans (newest start.told) (newest tap.told) (newest tap'.told) h.goes_on p;
     seen = prefix_trans start.told.seen tap.told.seen tap'.told.seen h.seen t.seen;

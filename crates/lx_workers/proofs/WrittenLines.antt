@@ -3,6 +3,7 @@ use Rattle.lx_workers.proofs.Imports.{◌≡◌, ℕ, ◌<◌, ◌+◌, ◌-◌,
 use Rattle.lx_workers.proofs.Imports.{Result, Ok, Err, IfSome, IsSomeAnd, ◌≤◌, refl, sym, ap, ◌∙◌, subst, append-nil, arith, reverse, IsPrefix}
 use Rattle.lx_workers.proofs.Imports.{reverse-cons, Appends, Keeps, SinkFault, AppendsFront, HasSinkCause, Puts, Show, Command, version_text, versions_text}
 use Rattle.lx_workers.proofs.Imports.{Stamp, IsFrame, prefix_self, prefix_trans, prefix_length, Older, Falling, newest_count, HasWritten, HasWrittenPart}
+use Rattle.lx_workers.proofs.Imports.{ToldBySink}
 use Rattle.std.proofs.KnownBytes.{Appends-nil, Appends-trans, Appends-kept}
 use Rattle.std.proofs.Math.Seq.{take-append-add, take-length}
 use Rattle.std.proofs.lemmas.Grind.{flat_map-append}
@@ -85,29 +86,29 @@ front_of show u before after after' list lists h k =
     (subst (λ (w : List ℕ). Appends before after' w) (sym (take-append-add lines (version_text show u list) front.0)) text))
 
 -- a part of the line was added, and then the sink had a fault
-pub adds_part : {K : Type 0} (holds : K → Option (List ℕ)) (faults wants : K → ℕ) (show : Show) (u : ℕ) (from sink sink' : K)
+pub adds_part : {K : Type 0} (told : ToldBySink K) (show : Show) (u : ℕ) (from sink sink' : K)
     (top top' : List Command) (taken : ℕ) (last : Option ℕ) (slots : List ℕ) (stamp : Stamp) (fault : SinkFault)
     → IsPrefix top top' → IsFrame show top' u slots stamp
-    → Puts {T = Unit {0}} holds faults wants sink sink' (Err fault) (stamped_line u slots stamp) → IfSome last (λ n. n < stamp.count)
-    → HasWritten show u (holds from) (holds sink) top taken last → HasWrittenPart holds faults wants show u from sink' top' fault
-adds_part {K = K} holds faults wants show u from sink sink' top top' taken last slots stamp fault p frame is fresh h =
-    let stopped : Puts {T = Unit {0}} holds faults wants sink sink' (Err fault) (version_text show u top') =
-    subst (λ (w : List ℕ). Puts {T = Unit {0}} holds faults wants sink sink' (Err fault) w) (line_is show u top' slots stamp frame) is in
+    → Puts {T = Unit {0}} told sink sink' (Err fault) (stamped_line u slots stamp) → IfSome last (λ n. n < stamp.count)
+    → HasWritten show u (told.holds from) (told.holds sink) top taken last → HasWrittenPart told show u from sink' top' fault
+adds_part {K = K} told show u from sink sink' top top' taken last slots stamp fault p frame is fresh h =
+    let stopped : Puts {T = Unit {0}} told sink sink' (Err fault) (version_text show u top') =
+    subst (λ (w : List ℕ). Puts {T = Unit {0}} told sink sink' (Err fault) w) (line_is show u top' slots stamp frame) is in
     record {
       newest = top';
       earlier = h.lists;
-      chain = chain_on show u (holds from) (holds sink) top top' taken last stamp.count p frame.count_is fresh h;
-      text = front_of show u (holds from) (holds sink) (holds sink') top' h.lists h.text stopped.part;
+      chain = chain_on show u (told.holds from) (told.holds sink) top top' taken last stamp.count p frame.count_is fresh h;
+      text = front_of show u (told.holds from) (told.holds sink) (told.holds sink') top' h.lists h.text stopped.part;
       last = sink;
       whole = h.text;
       stopped = stopped;
     }
 
 -- nothing more was written, and the list that the lines lead up to went on
-pub part_on : {K : Type 0} (holds : K → Option (List ℕ)) (faults wants : K → ℕ) (show : Show) (u : ℕ) (from sink : K)
+pub part_on : {K : Type 0} (told : ToldBySink K) (show : Show) (u : ℕ) (from sink : K)
     (top top' : List Command) (fault : SinkFault) → IsPrefix top top'
-    → HasWrittenPart holds faults wants show u from sink top fault → HasWrittenPart holds faults wants show u from sink top' fault
-part_on holds faults wants show u from sink top top' fault p h = record {
+    → HasWrittenPart told show u from sink top fault → HasWrittenPart told show u from sink top' fault
+part_on told show u from sink top top' fault p h = record {
   newest = h.newest;
   earlier = h.earlier;
   chain = falls_on top top' p (h.newest ∷ h.earlier) h.chain;
@@ -138,11 +139,10 @@ pub last_stays : (show : Show) (u : ℕ) (before after : Option (List ℕ)) (top
 last_stays show u before after top top' taken last count p c k h = whole top top' last h.lists count p h.chain h.last_is c k
 
 -- a text was put, and the sink flushed
-pub puts_flushed : {K T U : Type 0} (holds : K → Option (List ℕ)) (faults wants : K → ℕ) (a b c : K) (t : T) (r : Result U SinkFault)
-    (text : List ℕ) → Puts holds faults wants a b (Ok t) text → Keeps (holds b) (holds c) → HasSinkCause faults wants b c r
-    → Puts holds faults wants a c r text
-puts_flushed holds faults wants a b c t (Ok u) text p kept cause = record {
-  whole = Appends-kept (holds a) (holds b) (holds c) text p.whole kept;
+pub puts_flushed : {K T U : Type 0} (told : ToldBySink K) (a b c : K) (t : T) (r : Result U SinkFault)
+    (text : List ℕ) → Puts told a b (Ok t) text → Keeps (told.holds b) (told.holds c) → HasSinkCause told b c r → Puts told a c r text
+puts_flushed told a b c t (Ok u) text p kept cause = record {
+  whole = Appends-kept (told.holds a) (told.holds b) (told.holds c) text p.whole kept;
   part = tt;
   cause = record {
     later = omega (arith, p.cause.later, cause.later);
@@ -152,11 +152,11 @@ puts_flushed holds faults wants a b c t (Ok u) text p kept cause = record {
     kept = (cause.kept.0 ∙ p.cause.kept.0, cause.kept.1 ∙ p.cause.kept.1);
   };
 }
-puts_flushed holds faults wants a b c t (Err e) text p kept cause = record {
+puts_flushed told a b c t (Err e) text p kept cause = record {
   whole = tt;
-  part = AppendsFront-from (holds a) (holds c) text (length text)
-      (subst (λ (w : List ℕ). Appends (holds a) (holds c) w) (sym (take-length text))
-      (Appends-kept (holds a) (holds b) (holds c) text p.whole kept));
+  part = AppendsFront-from (told.holds a) (told.holds c) text (length text)
+      (subst (λ (w : List ℕ). Appends (told.holds a) (told.holds c) w) (sym (take-length text))
+      (Appends-kept (told.holds a) (told.holds b) (told.holds c) text p.whole kept));
   cause = record {
     later = omega (arith, p.cause.later, cause.later);
     wants_later = omega (arith, p.cause.wants_later, cause.wants_later);

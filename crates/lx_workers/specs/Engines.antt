@@ -1,8 +1,9 @@
 -- The engine's commands: those that are published, and then those that aren't yet.
-use Rattle.std.specs.Prelude.{◌≡◌, ℕ, ◌^◌, List, [], ◌++◌, length, Bool, ltb, Option, Result, IfSome, OnOk}
+use Rattle.std.specs.Prelude.{◌≡◌, ◌^◌, List, [], ◌++◌, length, Bool, ltb, Option, Result, IfSome, OnOk}
 use Rattle.std.specs.Prelude.{IsSomeAnd}
 use mathlib.Core.Path.{sym, ap, ◌∙◌}
 use mathlib.Core.List.{append-nil, append_assoc}
+use Rattle.lx_io.specs.Told.{ToldBySink, ToldBySource}
 use Rattle.lx_lex.specs.declared.lines.Lines.{Lines}
 use Rattle.lx_lex.specs.Unread.{SameSource, bytes_taken, source_left, unread}
 use Rattle.lx_spec.specs.Show.{Show}
@@ -43,22 +44,22 @@ accepted_both gate unsent gate' unsent' gate'' unsent'' before after one two =
 
 -- A session was played. The console stands for the desk after all commands, and those that its lines came to are published or unsent. It
 -- answered as a session in which every command is admitted, unless there were too many to count.
-pub record HasRun {S K : Type 0} (left : S → Option (List ℕ)) (reads : S → ℕ) (holds : K → Option (List ℕ)) (back : K → List ℕ)
-    (faults wants : K → ℕ) (show : Show) (gate : Published) (unsent : List Command) (console : Kept) (lines : Lines S) (output : K)
+pub record HasRun {S K : Type 0} (told_in : ToldBySource S) (told_out : ToldBySink K)
+    (show : Show) (gate : Published) (unsent : List Command) (console : Kept) (lines : Lines S) (output : K)
     (gate' : Published) (unsent' : List Command) (console' : Kept) (lines' : Lines S) (output' : K) (result : Result Tally SessionFault)
     : Type 0 where
   pub in_step : IsInStep show gate' unsent' console'
   pub same_source : SameSource lines lines'
-  pub outcome : (d : Desk) → StandsFor d console → IfSome (unread left lines) (λ bytes.
+  pub outcome : (d : Desk) → StandsFor d console → IfSome (unread told_in lines) (λ bytes.
       ScriptAnswered (desk_answering (leaves_room (accepted_of gate' unsent'))) (HasDone (HasAccepted gate unsent gate' unsent') d console')
-      (begun d) (bytes_taken lines) bytes (unread left lines') (source_left left lines') (holds output) (holds output') result)
-  pub limit : IfSome (unread left lines) (λ bytes. KeepsLimit (bytes_taken lines) bytes result)
-  pub cause : HasSessionCause reads faults wants lines lines' output output' result
-  pub handed_on : OnOk result (back output' ≡ [])
+      (begun d) (bytes_taken lines) bytes (unread told_in lines') (source_left told_in lines') (told_out.holds output) (told_out.holds output') result)
+  pub limit : IfSome (unread told_in lines) (λ bytes. KeepsLimit (bytes_taken lines) bytes result)
+  pub cause : HasSessionCause told_in told_out lines lines' output output' result
+  pub handed_on : OnOk result (told_out.back output' ≡ [])
 
 -- the same of a gate that is there, with nothing unsent before
-abbrev pub HasRunFrom : {S K : Type 0} → (S → Option (List ℕ)) → (S → ℕ) → (K → Option (List ℕ)) → (K → List ℕ) → (K → ℕ) → (K → ℕ) → Show
+abbrev pub HasRunFrom : {S K : Type 0} → ToldBySource S → ToldBySink K → Show
     → Option Published → Kept → Lines S → K → Option Published → List Command → Kept → Lines S → K → Result Tally SessionFault → Type 0
-HasRunFrom left reads holds back faults wants show gate console lines output gate' unsent' console' lines' output' result =
+HasRunFrom told_in told_out show gate console lines output gate' unsent' console' lines' output' result =
     IsSomeAnd gate (λ held. IsSomeAnd gate' (λ held'.
-    HasRun left reads holds back faults wants show held [] console lines output held' unsent' console' lines' output' result))
+    HasRun told_in told_out show held [] console lines output held' unsent' console' lines' output' result))

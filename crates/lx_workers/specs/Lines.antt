@@ -6,6 +6,7 @@ use Rattle.lx_io.specs.declared.sink.SinkFault.{SinkFault}
 use Rattle.lx_io.specs.declared.sink.SinkFault.TheVariants.{Failed, Memory}
 use Rattle.lx_io.specs.Causes.{Rose}
 use Rattle.lx_io.specs.Puts.{AppendsFront, Puts}
+use Rattle.lx_io.specs.Told.{ToldBySink}
 use Rattle.lx_spec.specs.declared.Command.{Command}
 use Rattle.lx_spec.specs.Show.{Show}
 use Rattle.lx_spec.specs.Replies.{frame_text}
@@ -31,20 +32,20 @@ pub record HasWritten (show : Show) (universe : ℕ) (before after : Option (Lis
   pub last_is : last ≡ newest_count lists
 
 -- the lines of rising lists were appended, and then a part of one more, in which the sink answered the fault; nothing came after that
-pub record HasWrittenPart {K : Type 0} (holds : K → Option (List ℕ)) (faults wants : K → ℕ) (show : Show) (universe : ℕ)
+pub record HasWrittenPart {K : Type 0} (told : ToldBySink K) (show : Show) (universe : ℕ)
     (sink sink' : K) (top : List Command) (fault : SinkFault) : Type 0 where
   pub newest : List Command
   pub earlier : List (List Command)
   pub chain : Falling top (newest ∷ earlier)
-  pub text : AppendsFront (holds sink) (holds sink') (outlet_text show universe (newest ∷ earlier))
+  pub text : AppendsFront (told.holds sink) (told.holds sink') (outlet_text show universe (newest ∷ earlier))
   pub last : K
-  pub whole : Appends (holds sink) (holds last) (outlet_text show universe earlier)
-  pub stopped : Puts {T = Unit {0}} holds faults wants last sink' (Err fault) (version_text show universe newest)
+  pub whole : Appends (told.holds sink) (told.holds last) (outlet_text show universe earlier)
+  pub stopped : Puts {T = Unit {0}} told last sink' (Err fault) (version_text show universe newest)
 
 -- neither count of a sink has fallen, a fault comes only where its own count rose, and without one both stand as they were
-pub record HasFault {S : Type 0} (faults wants : S → ℕ) (old new : S) (fault : Option SinkFault) : Type 0 where
-  pub later : faults old ≤ faults new
-  pub wants_later : wants old ≤ wants new
-  pub failed : fault ≡ Some Failed → Rose (faults old) (faults new)
-  pub memory : fault ≡ Some Memory → Rose (wants old) (wants new)
-  pub kept : fault ≡ None → (faults new ≡ faults old) × (wants new ≡ wants old)
+pub record HasFault {S : Type 0} (told : ToldBySink S) (old new : S) (fault : Option SinkFault) : Type 0 where
+  pub later : told.faults old ≤ told.faults new
+  pub wants_later : told.wants old ≤ told.wants new
+  pub failed : fault ≡ Some Failed → Rose (told.faults old) (told.faults new)
+  pub memory : fault ≡ Some Memory → Rose (told.wants old) (told.wants new)
+  pub kept : fault ≡ None → (told.faults new ≡ told.faults old) × (told.wants new ≡ told.wants old)

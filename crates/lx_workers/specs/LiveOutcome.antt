@@ -2,6 +2,7 @@
 use Rattle.std.specs.Prelude.{◌≡◌, ℕ, ◌<◌, List, ◌++◌, length, Some, IfSome, slice_get, Result}
 use Rattle.std.specs.declared.option.Option.{Option}
 use Rattle.lx_io.specs.declared.sink.SinkFault.{SinkFault}
+use Rattle.lx_io.specs.Told.{ToldBySink, ToldBySource}
 use Rattle.lx_lex.specs.declared.lines.Lines.{Lines}
 use Rattle.lx_lex.specs.Unread.{bytes_taken, source_left, unread}
 use Rattle.lx_spec.specs.declared.Command.{Command}
@@ -18,26 +19,26 @@ use Rattle.lx_workers.specs.Engines.{leaves_room}
 use Rattle.lx_workers.specs.Places.{OutletIsBack}
 
 -- Each place has its sink back, with what it was to get of these published commands; past the places no fault is told.
-pub record AreDelivered {K : Type 0} (holds : K → Option (List ℕ)) (back : K → List ℕ) (faults wants : K → ℕ) (show : Show)
+pub record AreDelivered {K : Type 0} (told : ToldBySink K) (show : Show)
     (outlets outlets' : List (Option K)) (results : List (Option SinkFault)) (published : List Command) : Type 0 where
   pub same_places : length outlets' ≡ length outlets
   pub each : (place : ℕ) (start : K) → slice_get outlets place ≡ Some (Some start)
-      → OutletIsBack holds back faults wants show outlets' results published place start
+      → OutletIsBack told show outlets' results published place start
   pub others : (place : ℕ) (fault : SinkFault) → slice_get results place ≡ Some (Some fault) → place < length outlets
 
 -- A script was answered as in a session that admits every command, unless there were too many to count. The commands that its lines came to
 -- are published up to the last n, the console stands for the desk after them all, and each outlet has what it was to get of those that are
 -- published.
-pub record HasPlayedScript {S O K : Type 0} (left : S → Option (List ℕ)) (holds : O → Option (List ℕ)) (outlet_holds : K → Option (List ℕ))
-    (outlet_back : K → List ℕ) (faults wants : K → ℕ) (show : Show)
+pub record HasPlayedScript {S O K : Type 0} (told_in : ToldBySource S) (told_out : ToldBySink O) (told : ToldBySink K) (show : Show)
     (lines lines' : Lines S) (output output' : O) (outlets outlets' : List (Option K)) (console : Kept)
     (session : Result Tally SessionFault) (results : List (Option SinkFault)) (unsent : ℕ) : Type 0 where
   pub published : List Command
   pub held_back : List Command
   pub unsent_is : unsent ≡ length held_back
   pub stands : StandsFor (replay show (published ++ held_back)) console
-  pub session_is : IfSome (unread left lines) (λ bytes.
+  pub session_is : IfSome (unread told_in lines) (λ bytes.
       ScriptAnswered (desk_answering (leaves_room (published ++ held_back)))
       (HasDone (λ commands. commands ≡ published ++ held_back) (opened show) console)
-      (begun (opened show)) (bytes_taken lines) bytes (unread left lines') (source_left left lines') (holds output) (holds output') session)
-  pub outlets_are : AreDelivered outlet_holds outlet_back faults wants show outlets outlets' results published
+      (begun (opened show)) (bytes_taken lines) bytes (unread told_in lines') (source_left told_in lines') (told_out.holds output)
+      (told_out.holds output') session)
+  pub outlets_are : AreDelivered told show outlets outlets' results published

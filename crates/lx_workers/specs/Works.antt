@@ -5,6 +5,7 @@ use Rattle.std.specs.Io.KnownBytes.{Appends}
 use mathlib.Core.List.{IsPrefix}
 use Rattle.lx_io.specs.declared.sink.SinkFault.{SinkFault}
 use Rattle.lx_io.specs.Causes.{Rose, one_more}
+use Rattle.lx_io.specs.Told.{ToldBySink}
 use Rattle.lx_spec.specs.declared.Command.{Command}
 use Rattle.lx_spec.specs.Show.{Show}
 use Rattle.lx_gate.specs.Readings.{Tapped, Told, newest}
@@ -22,13 +23,11 @@ HasTakenTimes before now takes = min (before.reads + before.misses + takes) (2 ^
 
 -- From the tap and the sink before to those after a worker's run. Behind a line without a fault the sink keeps nothing back. What the port
 -- has seen never falls.
-pub record HasServed {K : Type 0} (holds : K → Option (List ℕ)) (back : K → List ℕ) (faults wants : K → ℕ) (show : Show)
-    (tap tap' : Tapped) (sink sink' : K) (served : Served) : Type 0 where
-  pub written : served.fault ≡ None → HasWritten show tap.universe (holds sink) (holds sink') (newest tap'.told) served.taken served.last
-  pub part : (f : SinkFault) → served.fault ≡ Some f
-      → HasWrittenPart holds faults wants show tap.universe sink sink' (newest tap'.told) f
-  pub cause : HasFault faults wants sink sink' served.fault
-  pub handed_on : (count : ℕ) → served.fault ≡ None → served.last ≡ Some count → back sink' ≡ []
+pub record HasServed {K : Type 0} (told : ToldBySink K) (show : Show) (tap tap' : Tapped) (sink sink' : K) (served : Served) : Type 0 where
+  pub written : served.fault ≡ None → HasWritten show tap.universe (told.holds sink) (told.holds sink') (newest tap'.told) served.taken served.last
+  pub part : (f : SinkFault) → served.fault ≡ Some f → HasWrittenPart told show tap.universe sink sink' (newest tap'.told) f
+  pub cause : HasFault told sink sink' served.fault
+  pub handed_on : (count : ℕ) → served.fault ≡ None → served.last ≡ Some count → told.back sink' ≡ []
   pub goes_on : IsPrefix (newest tap.told) (newest tap'.told)
   pub seen : IsPrefix tap.told.seen tap'.told.seen
   pub takes : HasTakenTimes tap.told tap'.told served.takes
@@ -37,15 +36,13 @@ pub record HasServed {K : Type 0} (holds : K → Option (List ℕ)) (back : K �
   pub misses : RoseOrSame tap.told.misses tap'.told.misses
 
 -- a step of a worker that had no fault: what was served up to it is served up to its end
-pub record HasStepped {K : Type 0} (holds : K → Option (List ℕ)) (back : K → List ℕ) (faults wants : K → ℕ) (show : Show)
-    (tap tap' : Tapped) (sink sink' : K) (served served' : Served) : Type 0 where
-  pub serves : (start : Tapped) (from : K) → HasServed holds back faults wants show start tap from sink served
-      → HasServed holds back faults wants show start tap' from sink' served'
+pub record HasStepped {K : Type 0} (told : ToldBySink K) (show : Show) (tap tap' : Tapped) (sink sink' : K) (served served' : Served) : Type 0 where
+  pub serves : (start : Tapped) (from : K) → HasServed told show start tap from sink served → HasServed told show start tap' from sink' served'
   pub goes_on : IsPrefix (newest tap.told) (newest tap'.told)
   pub seen : IsPrefix tap.told.seen tap'.told.seen
   pub same_learnt : tap'.told.learnt ≡ tap.told.learnt
   pub takes : served'.takes ≡ one_more served.takes
-  pub last : (start : Tapped) (from : K) → HasServed holds back faults wants show start tap from sink served → served'.fault ≡ None
+  pub last : (start : Tapped) (from : K) → HasServed told show start tap from sink served → served'.fault ≡ None
       → served'.last ≡ Some (length (newest tap'.told))
 
 -- the tap's port had a reading or a miss
@@ -61,16 +58,16 @@ pub record HasAll (show : Show) (universe : ℕ) (before after : Option (List �
   pub text : Appends before after (outlet_text show universe (top ∷ earlier))
 
 -- where it failed, such lines and a part of one more; they are of prefixes of a list that begins with what was published
-pub record HasOutletPart {K : Type 0} (holds : K → Option (List ℕ)) (faults wants : K → ℕ) (show : Show) (universe : ℕ)
+pub record HasOutletPart {K : Type 0} (told : ToldBySink K) (show : Show) (universe : ℕ)
     (sink sink' : K) (published : List Command) (fault : SinkFault) : Type 0 where
   pub top : List Command
   pub begins : IsPrefix published top
-  pub part : HasWrittenPart holds faults wants show universe sink sink' top fault
+  pub part : HasWrittenPart told show universe sink sink' top fault
 
 -- What an outlet got, and its fault. Without one it keeps nothing back.
-pub record Delivered {K : Type 0} (holds : K → Option (List ℕ)) (back : K → List ℕ) (faults wants : K → ℕ) (show : Show) (universe : ℕ)
+pub record Delivered {K : Type 0} (told : ToldBySink K) (show : Show) (universe : ℕ)
     (sink sink' : K) (published : List Command) (fault : Option SinkFault) : Type 0 where
-  pub whole : fault ≡ None → HasAll show universe (holds sink) (holds sink') published
-  pub part : (f : SinkFault) → fault ≡ Some f → HasOutletPart holds faults wants show universe sink sink' published f
-  pub cause : HasFault faults wants sink sink' fault
-  pub handed_on : fault ≡ None → back sink' ≡ []
+  pub whole : fault ≡ None → HasAll show universe (told.holds sink) (told.holds sink') published
+  pub part : (f : SinkFault) → fault ≡ Some f → HasOutletPart told show universe sink sink' published f
+  pub cause : HasFault told sink sink' fault
+  pub handed_on : fault ≡ None → told.back sink' ≡ []

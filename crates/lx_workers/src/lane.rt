@@ -25,7 +25,7 @@ pub struct Lane<'a, P: Port, K, C> {
 impl<P: Port, K: Sink, C: Pace> Work for Lane<'_, P, K, C> {
     ghost ready = { λ x. Unit {0} };
 
-    ghost done = { λ x y. HasServed K.holds K.back K.faults K.wants P.show x.tap y.tap x.sink y.sink y.served };
+    ghost done = { λ x y. HasServed K.Sink P.show x.tap y.tap x.sink y.sink y.served };
 
     fn run<R: Wait>(&mut self, rt: &R) {
         self.served = serve(
@@ -44,8 +44,8 @@ impl<P: Port, K: Sink, C: Pace> Lane<'_, P, K, C> {
     pub fn finish(&mut self, note: Note)
         requires gate { IsNoteOf P.show P.book note }
         ensures delivered { (start : Tapped) (from : K)
-            → HasServed K.holds K.back K.faults K.wants P.show start self.old.tap from self.old.sink self.old.served
-            → Delivered K.holds K.back K.faults K.wants P.show start.universe from self.new.sink (commands_of_note note) self.new.served.fault }
+            → HasServed K.Sink P.show start self.old.tap from self.old.sink self.old.served
+            → Delivered K.Sink P.show start.universe from self.new.sink (commands_of_note note) self.new.served.fault }
         ensures seen { IsPrefix self.old.tap.told.seen self.new.tap.told.seen }
         ensures unwritten { IsSome self.old.served.fault → self.new.sink ≡ self.old.sink }
     {

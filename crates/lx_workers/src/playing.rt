@@ -52,8 +52,9 @@ pub struct Played {
 /// outlet that had no fault gets the line of what is published last. Each line is handed on at once, and all replies are
 /// where the session ended Ok.
 ///
-/// A command for which no room can be had is refused with `Memory`. A fault of an outlet ends that outlet alone: it isn't
-/// written again. `AllocError` comes only before the first line, and then nothing was read or written.
+/// As long as fewer than 2^62 commands were accepted each command is admitted, so that `Memory` refuses only an edit that the desk
+/// accepts. A fault of an outlet ends that outlet alone: it isn't written again. `AllocError` comes only before the first line, and then
+/// nothing was read or written.
 pub fn play<
     R: Threads + Wait + Sync,
     S: Source + Send,
@@ -78,10 +79,10 @@ pub fn play<
     ensures err { OnErr result ((console.new ≡ console.old)
         × ((lines.new ≡ lines.old) × ((output.new ≡ output.old) × (outlets.new ≡ outlets.old)))) }
     ensures same_source { SameSource lines.old lines.new }
-    ensures played { IfOk result (λ p. HasPlayedScript S.left O.holds K.holds K.back K.faults K.wants console.old.show lines.old lines.new output.old
+    ensures played { IfOk result (λ p. HasPlayedScript S.Source O.Sink K.Sink console.old.show lines.old lines.new output.old
         output.new outlets.old outlets.new console.new p.session p.outlets p.unsent) }
-    ensures limit { IfOk result (λ p. IfSome (unread S.left lines.old) (λ bytes. KeepsLimit (bytes_taken lines.old) bytes p.session)) }
-    ensures cause { IfOk result (λ p. HasSessionCause S.faults O.faults O.wants lines.old lines.new output.old output.new p.session) }
+    ensures limit { IfOk result (λ p. IfSome (unread S.Source lines.old) (λ bytes. KeepsLimit (bytes_taken lines.old) bytes p.session)) }
+    ensures cause { IfOk result (λ p. HasSessionCause S.Source O.Sink lines.old lines.new output.old output.new p.session) }
     ensures handed_on { IfOk result (λ p. OnOk p.session (O.back output.new ≡ [])) }
 {
     play_over::<Brand, R, S, O, K, C>(
@@ -125,13 +126,13 @@ fn play_over<
     ensures err { OnErr result ((console.new ≡ console.old)
         × ((lines.new ≡ lines.old) × ((output.new ≡ output.old) × (outlets.new ≡ outlets.old)))) }
     ensures same_source { SameSource lines.old lines.new }
-    ensures played { IfOk result (λ p. HasPlayedScript S.left O.holds K.holds K.back K.faults K.wants G.show lines.old lines.new output.old
+    ensures played { IfOk result (λ p. HasPlayedScript S.Source O.Sink K.Sink G.show lines.old lines.new output.old
         output.new outlets.old outlets.new console.new p.session p.outlets p.unsent) }
-    ensures limit { IfOk result (λ p. IfSome (unread S.left lines.old) (λ bytes. KeepsLimit (bytes_taken lines.old) bytes p.session)) }
-    ensures cause { IfOk result (λ p. HasSessionCause S.faults O.faults O.wants lines.old lines.new output.old output.new p.session) }
+    ensures limit { IfOk result (λ p. IfSome (unread S.Source lines.old) (λ bytes. KeepsLimit (bytes_taken lines.old) bytes p.session)) }
+    ensures cause { IfOk result (λ p. HasSessionCause S.Source O.Sink lines.old lines.new output.old output.new p.session) }
     ensures handed_on { IfOk result (λ p. OnOk p.session (O.back output.new ≡ [])) }
 {
-    let stop = Stop::new();
+    let stop = Stop::new(outlets.len() as u64);
     let lanes = Vec::with_capacity(alloc, outlets.len())?;
     let (gate, taps) = Gate::<G, GateWriter<G>>::open(
         alloc,
@@ -191,10 +192,10 @@ fn perform<
     requires in_step { IsSomeAnd gate.old (λ held. IsInStep G.show held [] console.old) }
     requires going { CanAdvance lines.old }
     requires within { bytes_taken lines.old ≤ INPUT_BYTES }
-    ensures engine { HasRunFrom S.left S.faults O.holds O.back O.faults O.wants G.show gate.old console.old lines.old output.old gate.new
+    ensures engine { HasRunFrom S.Source O.Sink G.show gate.old console.old lines.old output.old gate.new
         unsent.new console.new lines.new output.new result.1 }
     ensures count { vec_len result.0 ≡ vec_len lanes.entry }
-    ensures lanes { AllZip (λ x y. HasServed K.holds K.back K.faults K.wants G.show x.tap y.tap x.sink y.sink y.served) lanes.entry.items
+    ensures lanes { AllZip (λ x y. HasServed K.Sink G.show x.tap y.tap x.sink y.sink y.served) lanes.entry.items
         result.0.items }
 {
     let mut engine = LiveEngine {
@@ -254,7 +255,7 @@ fn give_back<G: Origin, K: Sink + Drop, C: Pace>(
     requires count { vec_len lanes ≡ length outlets.old }
     requires most { length outlets.old ≤ OUTLETS }
     ensures same { length outlets.new ≡ length outlets.old }
-    ensures back { EachAt (λ k x. IsGiven K.holds K.back K.faults K.wants G.show outlets.new result gate.now.published
+    ensures back { EachAt (λ k x. IsGiven K.Sink G.show outlets.new result gate.now.published
         (length outlets.old - 1 - k) x.tap x.sink x.served) lanes.entry.items }
     ensures others { (place : ℕ) (fault : SinkFault) → slice_get result place ≡ Some (Some fault) → place < length outlets.old }
 {

@@ -40,7 +40,7 @@ impl<G: Origin, S: Source, K: Sink, C: Pace> Work
         × ((y.output.ghost_name ≡ x.output.ghost_name)
         × ((y.gate.ghost_name ≡ x.gate.ghost_name)
         × ((y.unsent.ghost_name ≡ x.unsent.ghost_name)
-        × HasRunFrom S.left S.faults K.holds K.back K.faults K.wants G.show x.gate.now x.console.now x.lines.now x.output.now y.gate.now
+        × HasRunFrom S.Source K.Sink G.show x.gate.now x.console.now x.lines.now x.output.now y.gate.now
         y.unsent.now y.console.now y.lines.now y.output.now y.session)))) };
 
     fn run<R: Wait>(&mut self, rt: &R) {
@@ -74,7 +74,7 @@ fn run_script<G: Origin, R: Wait, S: Source, K: Sink, C: Pace>(
     requires in_step { IsSomeAnd gate.old (λ held. IsInStep G.show held [] console.old) }
     requires going { CanAdvance lines.old }
     requires within { bytes_taken lines.old ≤ INPUT_BYTES }
-    ensures { HasRunFrom S.left S.faults K.holds K.back K.faults K.wants G.show gate.old console.old lines.old output.old gate.new
+    ensures { HasRunFrom S.Source K.Sink G.show gate.old console.old lines.old output.old gate.new
         unsent.new console.new lines.new output.new result }
 {
     let Some(held) = gate.take() else {
@@ -113,7 +113,7 @@ fn answer_script<R: Wait, G: Origin, S: Source, K: Sink, C: Pace>(
     requires in_step { IsInStep G.show publisher.old.gate publisher.old.unsent console.old }
     requires going { CanAdvance lines.old }
     requires within { bytes_taken lines.old ≤ INPUT_BYTES }
-    ensures { HasRun S.left S.faults K.holds K.back K.faults K.wants G.show publisher.old.gate publisher.old.unsent console.old
+    ensures { HasRun S.Source K.Sink G.show publisher.old.gate publisher.old.unsent console.old
         lines.old output.old publisher.new.gate publisher.new.unsent console.new lines.new output.new result }
 {
     let session = session_with(publisher, console, lines, output);

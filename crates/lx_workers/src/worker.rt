@@ -45,7 +45,7 @@ pub fn serve<R: Wait, P: Port, K: Sink, C: Pace, H: Halt>(
     pace: &C,
     halt: &mut H,
 ) -> Served
-    ensures served { HasServed K.holds K.back K.faults K.wants P.show tap.old tap.new sink.old sink.new result }
+    ensures served { HasServed K.Sink P.show tap.old tap.new sink.old sink.new result }
     ensures seen { IsPrefix tap.old.told.seen tap.new.told.seen }
     ensures learnt { tap.new.told.learnt ≡ tap.old.told.learnt }
     ensures last { result.fault ≡ None → result.last ≡ Some (length (newest tap.new.told)) }
@@ -61,7 +61,7 @@ pub fn serve<R: Wait, P: Port, K: Sink, C: Pace, H: Halt>(
             return served;
         }
         if !halt.has_news() {
-            pace.pause();
+            halt.rest(rt);
             continue;
         }
         step(tap, sink, pace, &mut served);
@@ -80,14 +80,13 @@ pub(crate) fn step<P: Port, K: Sink, C: Pace>(
     served: &mut Served,
 )
     requires { served.old.fault ≡ None }
-    ensures stepped { HasStepped K.holds K.back K.faults K.wants P.show tap.old tap.new sink.old sink.new served.old served.new }
+    ensures stepped { HasStepped K.Sink P.show tap.old tap.new sink.old sink.new served.old served.new }
     ensures looked { HasLooked tap.old.told tap.new.told }
 {
     let mut slots = [0; 512];
     let stamp = tap.take(&mut slots);
     served.takes = served.takes.saturating_add(1);
     if !is_newer(stamp.count, served.last) {
-        pace.pause();
         return;
     }
     match put_line(tap.universe(), &slots, stamp, sink) {
@@ -108,7 +107,7 @@ fn put_line<K: Sink>(
     stamp: Stamp,
     sink: &mut K,
 ) -> Result<(), SinkFault>
-    ensures puts { Puts K.holds K.faults K.wants sink.old sink.new result (stamped_line universe slots.now stamp) }
+    ensures puts { Puts K.Sink sink.old sink.new result (stamped_line universe slots.now stamp) }
     ensures handed_on { OnOk result (K.back sink.new ≡ []) }
 {
     put_frame(Some(stamp.count), stamp.moment, universe, slots, sink)?;

@@ -33,7 +33,7 @@ impl Written for Cue {
 
 /// Appends the line that makes a block cue, where it is one.
 fn put_block<K: Sink>(block: bool, sink: &mut K) -> Result<(), SinkFault>
-    ensures { Puts K.holds K.faults K.wants sink.old sink.new result (block_text block) }
+    ensures { Puts K.Sink sink.old sink.new result (block_text block) }
 {
     if block {
         put_all(sink, b"$$BLOCK\n")
@@ -44,7 +44,7 @@ fn put_block<K: Sink>(block: bool, sink: &mut K) -> Result<(), SinkFault>
 
 /// Appends the line that makes an asserted cue, where it is one.
 fn put_assert<K: Sink>(asserted: bool, sink: &mut K) -> Result<(), SinkFault>
-    ensures { Puts K.holds K.faults K.wants sink.old sink.new result (assert_text asserted) }
+    ensures { Puts K.Sink sink.old sink.new result (assert_text asserted) }
 {
     if asserted {
         put_all(sink, b"$$ASSERT\n")
@@ -55,7 +55,7 @@ fn put_assert<K: Sink>(asserted: bool, sink: &mut K) -> Result<(), SinkFault>
 
 /// Appends the line of the follow time, where there is one.
 fn put_follow<K: Sink>(follow: Option<Cs>, sink: &mut K) -> Result<(), SinkFault>
-    ensures { Puts K.holds K.faults K.wants sink.old sink.new result (follow_text follow) }
+    ensures { Puts K.Sink sink.old sink.new result (follow_text follow) }
 {
     match follow {
         Some(time) => put_follow_time(time, sink),
@@ -65,7 +65,7 @@ fn put_follow<K: Sink>(follow: Option<Cs>, sink: &mut K) -> Result<(), SinkFault
 
 /// Appends the line of a follow time.
 fn put_follow_time<K: Sink>(time: Cs, sink: &mut K) -> Result<(), SinkFault>
-    ensures { Puts K.holds K.faults K.wants sink.old sink.new result (line (codes "FOLLOWON" ∷ time_text time ∷ [])) }
+    ensures { Puts K.Sink sink.old sink.new result (line (codes "FOLLOWON" ∷ time_text time ∷ [])) }
 {
     put_all(sink, b"FOLLOWON ")?;
     put_hundredths_and(time, b'\n', sink)
@@ -73,7 +73,7 @@ fn put_follow_time<K: Sink>(time: Cs, sink: &mut K) -> Result<(), SinkFault>
 
 /// Appends the line of the link, where there is one.
 fn put_link<K: Sink>(link: Option<CueNo>, sink: &mut K) -> Result<(), SinkFault>
-    ensures { Puts K.holds K.faults K.wants sink.old sink.new result (link_text link) }
+    ensures { Puts K.Sink sink.old sink.new result (link_text link) }
 {
     match link {
         Some(number) => put_cue_number(b"LINK ", number, sink),
@@ -83,7 +83,7 @@ fn put_link<K: Sink>(link: Option<CueNo>, sink: &mut K) -> Result<(), SinkFault>
 
 /// Appends the line of a cue number: `start` is its word and a space.
 fn put_cue_number<K: Sink>(start: &[u8], number: CueNo, sink: &mut K) -> Result<(), SinkFault>
-    ensures { Puts K.holds K.faults K.wants sink.old sink.new result (start.now ++ cue_number_text number ++ 10 ∷ []) }
+    ensures { Puts K.Sink sink.old sink.new result (start.now ++ cue_number_text number ++ 10 ∷ []) }
 {
     put_all(sink, start)?;
     put_cue_no_and(number, b'\n', sink)

@@ -35,7 +35,7 @@ pub(crate) fn put_moves<K: Sink>(
     part: PartNo,
     sink: &mut K,
 ) -> Result<(), SinkFault>
-    ensures { Puts K.holds K.faults K.wants sink.old sink.new result (flat_map move_text (filter (λ entry. entry.part == part) moves.now)) }
+    ensures { Puts K.Sink sink.old sink.new result (flat_map move_text (filter (λ entry. entry.part == part) moves.now)) }
 {
     let mut from = 0;
     while from < moves.len() {
@@ -66,7 +66,7 @@ impl Text for MoveLines<'_> {
 /// parts, it is passed over whole.
 fn put_piece<K: Sink>(moves: &[Move], part: PartNo, sink: &mut K) -> Result<(), SinkFault>
     requires { length moves.now ≤ PIECE_MOVES }
-    ensures { Puts K.holds K.faults K.wants sink.old sink.new result (flat_map move_text (filter (λ entry. entry.part == part) moves.now)) }
+    ensures { Puts K.Sink sink.old sink.new result (flat_map move_text (filter (λ entry. entry.part == part) moves.now)) }
 {
     if are_apart(moves, part) {
         return Ok(());

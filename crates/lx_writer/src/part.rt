@@ -19,7 +19,7 @@ pub(crate) fn put_parts<K: Sink>(
     parts: &[Part],
     sink: &mut K,
 ) -> Result<(), SinkFault>
-    ensures { Puts K.holds K.faults K.wants sink.old sink.new result (flat_map (part_text moves.now) parts.now) }
+    ensures { Puts K.Sink sink.old sink.new result (flat_map (part_text moves.now) parts.now) }
 {
     for part in parts {
         put_part(moves, part, sink)?;
@@ -29,7 +29,7 @@ pub(crate) fn put_parts<K: Sink>(
 
 /// Appends a part: its number, its times, and those of the moves that stand in it.
 fn put_part<K: Sink>(moves: &[Move], part: &Part, sink: &mut K) -> Result<(), SinkFault>
-    ensures { Puts K.holds K.faults K.wants sink.old sink.new result (part_text moves.now part.now) }
+    ensures { Puts K.Sink sink.old sink.new result (part_text moves.now part.now) }
 {
     put_number(part.number, sink)?;
     put_time(b"UP ", part.up, part.up_delay, sink)?;
@@ -39,14 +39,14 @@ fn put_part<K: Sink>(moves: &[Move], part: &Part, sink: &mut K) -> Result<(), Si
 
 /// Appends the line of a part's number.
 fn put_number<K: Sink>(number: PartNo, sink: &mut K) -> Result<(), SinkFault>
-    ensures { Puts K.holds K.faults K.wants sink.old sink.new result (line (codes "PART" ∷ decimal number ∷ [])) }
+    ensures { Puts K.Sink sink.old sink.new result (line (codes "PART" ∷ decimal number ∷ [])) }
 {
     put_between(b"PART ", number.get(), b'\n', sink)
 }
 
 /// Appends the line of a time and a delay: `start` is its word and a space.
 fn put_time<K: Sink>(start: &[u8], time: Cs, delay: Cs, sink: &mut K) -> Result<(), SinkFault>
-    ensures { Puts K.holds K.faults K.wants sink.old sink.new result ((start.now ++ (time_text time ++ 32 ∷ time_text delay)) ++ 10 ∷ []) }
+    ensures { Puts K.Sink sink.old sink.new result ((start.now ++ (time_text time ++ 32 ∷ time_text delay)) ++ 10 ∷ []) }
 {
     put_all(sink, start)?;
     put_hundredths_and(time, b' ', sink)?;

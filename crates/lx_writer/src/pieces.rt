@@ -16,12 +16,12 @@ pub(crate) trait Written {
 
     /// Appends its lines.
     fn write<K: Sink>(&self, sink: &mut K) -> Result<(), SinkFault>
-        ensures { Puts K.holds K.faults K.wants sink.old sink.new result (text self.now) };
+        ensures { Puts K.Sink sink.old sink.new result (text self.now) };
 }
 
 /// Appends the lines of each entry, in order.
 pub(crate) fn write_each<T: Written, K: Sink>(entries: &[T], sink: &mut K) -> Result<(), SinkFault>
-    ensures { Puts K.holds K.faults K.wants sink.old sink.new result (flat_map T.text entries.now) }
+    ensures { Puts K.Sink sink.old sink.new result (flat_map T.text entries.now) }
 {
     for entry in entries {
         entry.write(sink)?;

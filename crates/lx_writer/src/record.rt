@@ -37,7 +37,7 @@ impl Written for Sub {
 
 /// Appends what follows the number of a group or submaster: its label and its members.
 fn put_members<K: Sink>(label: &[u8], members: &[Member], sink: &mut K) -> Result<(), SinkFault>
-    ensures { Puts K.holds K.faults K.wants sink.old sink.new result (label_text label.now ++ flat_map member_text members.now) }
+    ensures { Puts K.Sink sink.old sink.new result (label_text label.now ++ flat_map member_text members.now) }
 {
     put_label(label, sink)?;
     write_each(members, sink)
@@ -60,7 +60,7 @@ pub(crate) fn put_between<K: Sink>(
     behind: u8,
     sink: &mut K,
 ) -> Result<(), SinkFault>
-    ensures { Puts K.holds K.faults K.wants sink.old sink.new result (before.now ++ decimal number ++ behind ∷ []) }
+    ensures { Puts K.Sink sink.old sink.new result (before.now ++ decimal number ++ behind ∷ []) }
 {
     put_all(sink, before)?;
     put_count_and(u64::from(number), behind, sink)
@@ -68,7 +68,7 @@ pub(crate) fn put_between<K: Sink>(
 
 /// Appends the line of a label, where there is one.
 pub(crate) fn put_label<K: Sink>(label: &[u8], sink: &mut K) -> Result<(), SinkFault>
-    ensures { Puts K.holds K.faults K.wants sink.old sink.new result (label_text label.now) }
+    ensures { Puts K.Sink sink.old sink.new result (label_text label.now) }
 {
     if label.is_empty() {
         return Ok(());
@@ -80,7 +80,7 @@ pub(crate) fn put_label<K: Sink>(label: &[u8], sink: &mut K) -> Result<(), SinkF
 
 /// Appends the line of a channel and its level.
 pub(crate) fn put_channel<K: Sink>(chan: Chan, level: Level, sink: &mut K) -> Result<(), SinkFault>
-    ensures { Puts K.holds K.faults K.wants sink.old sink.new result (line (codes "CHAN" ∷ at_text chan level ∷ [])) }
+    ensures { Puts K.Sink sink.old sink.new result (line (codes "CHAN" ∷ at_text chan level ∷ [])) }
 {
     put_all(sink, b"CHAN ")?;
     put_at_level(chan.get(), level, sink)?;
@@ -93,7 +93,7 @@ pub(crate) fn put_at_level<K: Sink>(
     level: Level,
     sink: &mut K,
 ) -> Result<(), SinkFault>
-    ensures { Puts K.holds K.faults K.wants sink.old sink.new result (at_text number level) }
+    ensures { Puts K.Sink sink.old sink.new result (at_text number level) }
 {
     put_count_and(u64::from(number), b'@', sink)?;
     put_level(level, sink)

@@ -15,7 +15,7 @@ use lx_show::{PatchRow, Show};
 /// patch rows, the groups, the submasters and the cues, each sorted by number, and `ENDDATA`. It takes no memory. A
 /// fault is the sink's own, and then a prefix of the text was appended.
 pub fn write_show<K: Sink>(show: &Show, sink: &mut K) -> Result<(), SinkFault>
-    ensures text { Puts K.holds K.faults K.wants sink.old sink.new result (show_text show.now) }
+    ensures text { Puts K.Sink sink.old sink.new result (show_text show.now) }
     ensures valid { Valid show.now }
 {
     put_head(show.channels(), sink)?;
@@ -28,7 +28,7 @@ pub fn write_show<K: Sink>(show: &Show, sink: &mut K) -> Result<(), SinkFault>
 
 /// Appends the line of the version and that of the channel count.
 fn put_head<K: Sink>(channels: u32, sink: &mut K) -> Result<(), SinkFault>
-    ensures { Puts K.holds K.faults K.wants sink.old sink.new result
+    ensures { Puts K.Sink sink.old sink.new result
         (line (codes "IDENT" ∷ codes "3:0" ∷ []) ++ line (codes "SET" ∷ codes "CHANNELS" ∷ decimal channels ∷ [])) }
 {
     put_between(b"IDENT 3:0\nSET CHANNELS ", channels, b'\n', sink)

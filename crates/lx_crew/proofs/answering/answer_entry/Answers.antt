@@ -11,6 +11,6 @@ returns-clause-answered g c =
       | in-LongLine w ↦ said_long c.args.entry.now _ w.in-LongLine.is (ap option_copied w.line-is)
     ] in
     λ d popped start so_far.
-    answered_entry g.K.Sink.holds g.K.Sink.faults g.K.Sink.wants c.args.sink.now c.answer_line.new.sink c.answer_line.result d popped start
+    answered_entry g.K.Sink c.args.sink.now c.answer_line.new.sink c.answer_line.result d popped start
     _ _ c.args.tally.now c.answer_line.new.tally c.args.entry.now (option_copied c.match-entry.line) c.args.output.now _ said
     (none_is c.args.output.now c.if-is_some.ensures) c.err.ensures.value c.answer_line.ensures.answered so_far

@@ -13,7 +13,7 @@ loop-init g c =
       view = c.requires.view;
       ended = search rules;
       answered = λ d stands. answered_none d _ _ c.args.tally.now stands none;
-      cause = cause_none _ _ _ _;
+      cause = cause_none _ _ _;
       ok = omega (arith, ap (λ (n : Counts). n.ok) none);
       refused = omega (arith, ap (λ (n : Counts). n.refused) none);
       bad = omega (arith, ap (λ (n : Counts). n.bad) none);
@@ -26,7 +26,7 @@ returns-then-all_of-clause-served g c =
       view = i.view;
       ended = λ k below. i.ended k (c.all_of.ensures c.if-all_of.true k below);
       answered = λ d stands. c.flush.ensures.answered d i.popped _ _ _ (i.answered d stands);
-      cause = cause_then _ _ _ _ _ _ _ _ i.cause c.flush.ensures.cause;
+      cause = cause_then _ _ _ _ _ _ _ i.cause c.flush.ensures.cause;
       handed_on = c.flush.ensures.handed_on;
     }
 
@@ -41,9 +41,8 @@ loop-preserved-then-not-take_one g c =
       view = n.0 ∙ i.view;
       ended = λ k is. i.ended k (ap (λ marks. slice_get marks k) (sym n.1.1.1.1.1) ∙ is);
       answered = λ d stands. c.flush-then-not-take_one.ensures.answered d i.popped _ _ _
-          (answered_same g.K.Sink.holds _ _ d i.popped _ _ _ _ _ _ _ n.1.0 n.1.1.0 n.1.1.1.0 n.1.1.1.1.0 (i.answered d stands));
-      cause = cause_then _ _ _ _ _ _ _ _ (cause_then _ _ _ _ _ _ _ _ i.cause c.take_one.ensures.cause)
-          c.flush-then-not-take_one.ensures.cause;
+          (answered_same g.K.Sink _ _ d i.popped _ _ _ _ _ _ _ n.1.0 n.1.1.0 n.1.1.1.0 n.1.1.1.1.0 (i.answered d stands));
+      cause = cause_then _ _ _ _ _ _ _ (cause_then _ _ _ _ _ _ _ i.cause c.take_one.ensures.cause) c.flush-then-not-take_one.ensures.cause;
       ok = search rules;
       refused = search rules;
       bad = search rules;
@@ -60,7 +59,7 @@ loop-preserved g c =
       view = takes_on _ _ _ _ _ i.view t.takes;
       ended = ended_on _ _ _ _ t.marked i.ended;
       answered = λ d stands. t.answered d i.popped _ (i.answered d stands);
-      cause = cause_then _ _ _ _ _ _ _ _ i.cause c.take_one.ensures.cause;
+      cause = cause_then _ _ _ _ _ _ _ i.cause c.take_one.ensures.cause;
       ok = search rules;
       refused = search rules;
       bad = search rules;

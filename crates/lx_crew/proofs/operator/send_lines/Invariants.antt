@@ -8,5 +8,5 @@ invariant-loop g l = record {
   finite : (goal.iterator-loop g).is_finite l.iterator';
   same : IsSamePass l.initial.pass l.pass;
   name : l.lines.source.ghost_name ≡ l.initial.lines.source.ghost_name;
-  so_far : SentSoFar g.S.Source.left g.S.Source.faults l.place l.initial.lines l.lines (view l.pass);
+  so_far : SentSoFar g.S.Source l.place l.initial.lines l.lines (view l.pass);
 }

@@ -25,9 +25,9 @@ perform-output-requires-clause-ready g c κs within = rw c.as_mut_slice.ensures.
 pub release-faults-requires-clause-works : goal.release-faults-requires-clause-works
 release-faults-requires-clause-works g c =
     let zip = rw c.as_mut_slice.ensures.value at c.perform-output.ensures.ran in
-    let ran = retired _ _ _ (carries _) _ _ _ zip c.hire.ensures.works in
+    let ran = retired _ _ (carries _) _ _ _ zip c.hire.ensures.works in
     rw (works_back _ c.hire.new.works.items c.perform-output.new.works c.hire.new.works.len (omega (arith, c.hire.new.works.ok.0)) zip)
-    (retired_works _ _ _ _ _ ran)
+    (retired_works _ _ _ _ ran)
 
 pub learn_as-requires-clause-rule : goal.learn_as-requires-clause-rule
 learn_as-requires-clause-rule g c =
@@ -36,14 +36,14 @@ learn_as-requires-clause-rule g c =
 pub returns-clause-crewed : goal.returns-clause-crewed
 returns-clause-crewed g c = λ d stands.
     let zip = rw c.as_mut_slice.ensures.value at c.perform-output.ensures.ran in
-    let ran = retired _ _ _ (carries _) _ _ _ zip c.hire.ensures.works in
+    let ran = retired _ _ (carries _) _ _ _ zip c.hire.ensures.works in
     let served = c.perform-output.ensures.served in
     let works = c.perform-output.new.works in
     let same = works_back _ c.hire.new.works.items works c.hire.new.works.len (omega (arith, c.hire.new.works.ok.0)) zip in
     let size : length c.as_mut_slice.result.now ≡ length c.hire.new.works.items = ap length c.as_mut_slice.ensures.value in
     let knows = after_release _ _ (length c.as_mut_slice.result.now) served.popped _ works same served.view c.release-faults.ensures.kept in
     let learned = subst (λ (v : View). Learned v c.learn_as.ensures.rule.0) knows c.learn_as.ensures.rule.1 in
-    crewed _ _ _ _ d _ _ _ _ _ _ _ _ works served.popped c.learn_as.ensures.rule.0 (length c.as_mut_slice.result.now) ran
+    crewed _ _ _ d _ _ _ _ _ _ _ _ works served.popped c.learn_as.ensures.rule.0 (length c.as_mut_slice.result.now) ran
     (AllZip-long _ _ _ zip ∙ sym size) (size ∙ c.hire.ensures.count) learned served.ended
     (c.release-faults.ensures.same ∙ c.hire.ensures.same)
     (subst (λ ws. EachAt (λ k work. slice_get c.release-faults.new.operators k ≡ Some (Some work.source)) ws) same

@@ -7,13 +7,12 @@ use Rattle.lx_desk.proofs.crew.run_crew.Goals as goal
 
 pub returns-in-Ok-clause-ended : goal.returns-in-Ok-clause-ended
 returns-in-Ok-clause-ended g c =
-    crew_ended c.args.form c.args.count _ _ _ _ _ _ c.in-Ok.loaded _ _ _ _ _ _ c.serve.result c.new-lines.ensures.unread
+    crew_ended c.args.form c.args.count _ _ _ _ c.in-Ok.loaded _ _ _ _ _ _ c.serve.result c.new-lines.ensures.unread
     c.new-lines.ensures.taken c.in-Ok.ensures.answer c.serve.ensures.served
 
 pub returns-in-Ok-clause-prefix : goal.returns-in-Ok-clause-prefix
 returns-in-Ok-clause-prefix g c =
-    crew_front c.args.form c.args.count _ _ _ _ _ c.in-Ok.loaded _ _ _ _ c.new-lines.ensures.unread c.in-Ok.ensures.answer
-    c.serve.ensures.prefix
+    crew_front c.args.form c.args.count _ _ _ _ c.in-Ok.loaded _ _ _ _ c.new-lines.ensures.unread c.in-Ok.ensures.answer c.serve.ensures.prefix
 
 pub returns-in-Ok-clause-cause : goal.returns-in-Ok-clause-cause
 returns-in-Ok-clause-cause g c = served_cause _ c.serve.result _ _ _ _ _ _ _ c.serve.ensures.read c.serve.ensures.write
@@ -29,9 +28,9 @@ pub returns-in-Err-clause-ended : goal.returns-in-Err-clause-ended
 returns-in-Err-clause-ended g c =
     let same = c.input-1.given.1 (sym (c.in-Err.ensures.same_reference ∙ c.new-lines.ensures.same_reference)) in
     subst (λ v. IfSome (g.I.Source.left c.args.input.now)
-    (λ bytes. HasCrewEnded g.S.Source.left g.S.Source.faults c.args.count c.args.form bytes (g.I.Source.left v) c.args.operators.now
+    (λ bytes. HasCrewEnded g.S.Source c.args.count c.args.form bytes (g.I.Source.left v) c.args.operators.now
     c.args.operators.now (g.K.Sink.holds c.args.output.now) (g.K.Sink.holds c.refuse.new.output) c.refuse.result)) (sym same)
-    (refused_ended c.args.form c.args.count _ _ _ c.new-lines.result c.read_show.new.lines _ _ _ _ c.in-Err.fault c.refuse.result
+    (refused_ended c.args.form c.args.count _ _ c.new-lines.result c.read_show.new.lines _ _ _ _ c.in-Err.fault c.refuse.result
     c.new-lines.ensures.unread c.new-lines.ensures.taken c.in-Err.ensures.answer c.refuse.ensures.refused)
 
 pub returns-in-Err-clause-prefix : goal.returns-in-Err-clause-prefix
@@ -43,15 +42,15 @@ pub returns-in-Ok-clause-finished : goal.returns-in-Ok-clause-finished
 returns-in-Ok-clause-finished g c =
     let same = c.input-1.given.1 (sym (c.in-Ok.ensures.same_reference ∙ c.new-lines.ensures.same_reference)) in
     let kept = c.in-Ok.ensures.kept (λ odd. cc) ∙ ap g.I.Source.faults c.new-lines.ensures.source in
-    subst (λ v. Finishes (g.I.Source.faults c.args.input.now) (g.I.Source.faults v) g.K.Sink.faults g.K.Sink.wants g.K.Sink.back
+    subst (λ v. Finishes (g.I.Source.faults c.args.input.now) (g.I.Source.faults v) g.K.Sink
     c.args.output.now c.serve.new.output c.serve.result) (sym same)
-    (after_reads _ _ _ _ _ _ _ _ c.serve.result (λ done. kept) (c.serve.ensures.finished (g.I.Source.faults c.read_show.new.lines.source.now)))
+    (after_reads _ _ _ _ _ _ c.serve.result (λ done. kept) (c.serve.ensures.finished (g.I.Source.faults c.read_show.new.lines.source.now)))
 
 pub returns-in-Err-clause-finished : goal.returns-in-Err-clause-finished
 returns-in-Err-clause-finished g c =
     let same = c.input-1.given.1 (sym (c.in-Err.ensures.same_reference ∙ c.new-lines.ensures.same_reference)) in
     let kept = λ (done : IsDone c.refuse.result). refusal_reads _ _ c.in-Err.fault c.refuse.result _ _ c.refuse.ensures.refused
     (λ other. c.in-Err.ensures.kept (λ is. other (cc))) done ∙ ap g.I.Source.faults c.new-lines.ensures.source in
-    subst (λ v. Finishes (g.I.Source.faults c.args.input.now) (g.I.Source.faults v) g.K.Sink.faults g.K.Sink.wants g.K.Sink.back
+    subst (λ v. Finishes (g.I.Source.faults c.args.input.now) (g.I.Source.faults v) g.K.Sink
     c.args.output.now c.refuse.new.output c.refuse.result) (sym same)
-    (after_reads _ _ _ _ _ _ _ _ c.refuse.result kept (c.refuse.ensures.finished (g.I.Source.faults c.read_show.new.lines.source.now)))
+    (after_reads _ _ _ _ _ _ c.refuse.result kept (c.refuse.ensures.finished (g.I.Source.faults c.read_show.new.lines.source.now)))

@@ -14,27 +14,26 @@ pub returns-in-Ok-crew-clause-places : goal.returns-in-Ok-crew-clause-places
 returns-in-Ok-crew-clause-places g c =
     let s = c.split_at_mut-used.ensures in
     let most : c.args.count ≤ length c.args.operators.now = omega (arith, c.requires.most, c.requires.all) in
-    keeps_places _ _ _ _ _ _ _ _ _ _ _ _ _ _ _ s.front s.front_len s.back
+    keeps_places _ _ _ _ _ _ _ _ _ _ _ _ _ _ s.front s.front_len s.back
     (c.in-Ok-crew.ensures.crewed (opened c.args.show) c.in-Ok.ensures) c.requires.full most
 
 pub returns-in-Ok-crew-clause-served : goal.returns-in-Ok-crew-clause-served
 returns-in-Ok-crew-clause-served g c =
     let s = c.split_at_mut-used.ensures in
-    inr (serves _ _ _ _ _ _ _ _ _ _ _ _ _ _ _ s.front s.front_len s.back
+    inr (serves _ _ _ _ _ _ _ _ _ _ _ _ _ _ s.front s.front_len s.back
     (c.in-Ok-crew.ensures.crewed (opened c.args.show) c.in-Ok.ensures) c.status_of_crew.result c.status_of_crew.ensures)
 
 pub returns-in-Ok-crew-clause-prefix : goal.returns-in-Ok-crew-clause-prefix
 returns-in-Ok-crew-clause-prefix g c =
     let s = c.split_at_mut-used.ensures in
-    served_front _ _ _ _ _ _ _ _ c.status_of_crew.result
-    (serves _ _ _ _ _ _ _ _ _ _ _ _ _ _ _ s.front s.front_len s.back
+    served_front _ _ _ _ _ _ _ c.status_of_crew.result (serves _ _ _ _ _ _ _ _ _ _ _ _ _ _ s.front s.front_len s.back
     (c.in-Ok-crew.ensures.crewed (opened c.args.show) c.in-Ok.ensures) c.status_of_crew.result c.status_of_crew.ensures)
 
 pub returns-in-Ok-crew-clause-read : goal.returns-in-Ok-crew-clause-read
 returns-in-Ok-crew-clause-read g c =
     let s = c.split_at_mut-used.ensures in
     let most : c.args.count ≤ length c.args.operators.now = omega (arith, c.requires.most, c.requires.all) in
-    operator_failed _ _ _ _ _ _ _ _ _ _ _ _ _ _ _ s.front s.front_len s.back
+    operator_failed _ _ _ _ _ _ _ _ _ _ _ _ _ _ s.front s.front_len s.back
     (c.in-Ok-crew.ensures.crewed (opened c.args.show) c.in-Ok.ensures) c.requires.full most c.status_of_crew.result c.status_of_crew.ensures
 
 pub returns-clause-places : goal.returns-clause-places
@@ -50,9 +49,8 @@ returns-in-Ok-crew-clause-live g c = crew_not_live _ _ c.status_of_crew.result c
 
 pub returns-in-Ok-crew-clause-finished : goal.returns-in-Ok-crew-clause-finished
 returns-in-Ok-crew-clause-finished g c = λ reads.
-    crew_finishes reads g.K.Sink.faults g.K.Sink.wants g.K.Sink.back _ _ _ _ c.status_of_crew.result c.status_of_crew.ensures
-    c.in-Ok-crew.ensures.cause c.in-Ok-crew.ensures.handed_on
+    crew_finishes reads g.K.Sink _ _ _ _ c.status_of_crew.result c.status_of_crew.ensures c.in-Ok-crew.ensures.cause c.in-Ok-crew.ensures.handed_on
 
 pub returns-in-Ok-crew-clause-memory : goal.returns-in-Ok-crew-clause-memory
 returns-in-Ok-crew-clause-memory g c =
-    crew_wants g.K.Sink.faults g.K.Sink.wants _ _ _ _ c.status_of_crew.result c.status_of_crew.ensures c.in-Ok-crew.ensures.cause
+    crew_wants g.K.Sink _ _ _ _ c.status_of_crew.result c.status_of_crew.ensures c.in-Ok-crew.ensures.cause

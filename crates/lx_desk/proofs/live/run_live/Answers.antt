@@ -10,11 +10,10 @@ pub returns-in-Ok-clause-ended : goal.returns-in-Ok-clause-ended
 returns-in-Ok-clause-ended g c =
     let same = c.input-1.given.1 (sym (c.play_live.ensures.same_source ∙ c.in-Ok.ensures.same_reference
     ∙ c.new-lines.ensures.same_reference)) in
-    subst (λ v. IfSome (g.S.Source.left c.args.input.now)
-    (λ bytes. HasLived c.play_live.result g.K.Sink.holds g.K.Sink.back g.K.Sink.faults g.K.Sink.wants c.args.universes c.args.form bytes
+    subst (λ v. IfSome (g.S.Source.left c.args.input.now) (λ bytes. HasLived c.play_live.result g.K.Sink c.args.universes c.args.form bytes
     (g.S.Source.left v)
     (g.O.Sink.holds c.args.output.now) (g.O.Sink.holds c.play_live.new.output) c.args.outlets.now c.play_live.new.outlets)) (sym same)
-    (live_ended c.args.form c.args.universes _ _ _ _ _ _ _ _ c.in-Ok.loaded _ _ _ _ _ _ c.play_live.result c.new-lines.ensures.unread
+    (live_ended c.args.form c.args.universes _ _ _ _ c.in-Ok.loaded _ _ _ _ _ _ c.play_live.result c.new-lines.ensures.unread
     c.new-lines.ensures.taken c.in-Ok.ensures.answer c.play_live.ensures.ended)
 
 pub returns-in-Err-clause-outlets : goal.returns-in-Err-clause-outlets
@@ -23,11 +22,10 @@ returns-in-Err-clause-outlets g c = (refused_words _ _ c.in-Err.fault c.refuse.r
 pub returns-in-Err-clause-ended : goal.returns-in-Err-clause-ended
 returns-in-Err-clause-ended g c =
     let same = c.in-Err.input-in-Err-1-own.given.1 (sym (c.in-Err.ensures.same_reference ∙ c.new-lines.ensures.same_reference)) in
-    subst (λ v. IfSome (g.S.Source.left c.args.input.now)
-    (λ bytes. HasLived c.refuse.result g.K.Sink.holds g.K.Sink.back g.K.Sink.faults g.K.Sink.wants c.args.universes c.args.form bytes
+    subst (λ v. IfSome (g.S.Source.left c.args.input.now) (λ bytes. HasLived c.refuse.result g.K.Sink c.args.universes c.args.form bytes
     (g.S.Source.left v)
     (g.O.Sink.holds c.args.output.now) (g.O.Sink.holds c.refuse.new.output) c.args.outlets.now c.args.outlets.now)) (sym same)
-    (refused_lived c.args.form c.args.universes _ _ _ _ _ c.new-lines.result c.read_show.new.lines _ _ _ _ c.in-Err.fault c.refuse.result
+    (refused_lived c.args.form c.args.universes _ _ c.new-lines.result c.read_show.new.lines _ _ _ _ c.in-Err.fault c.refuse.result
     c.new-lines.ensures.unread c.new-lines.ensures.taken c.in-Err.ensures.answer c.refuse.ensures.refused)
 
 pub returns-in-Ok-clause-order : goal.returns-in-Ok-clause-order
@@ -36,12 +34,12 @@ returns-in-Ok-clause-order g c =
     ∙ c.new-lines.ensures.same_reference)) in
     let kept = c.in-Ok.ensures.kept (λ odd. cc) ∙ ap g.S.Source.faults c.new-lines.ensures.source in
     subst (λ v. IfSome (g.S.Source.left c.args.input.now)
-    (λ bytes. DecidesInOrder c.play_live.result (g.S.Source.faults c.args.input.now) (g.S.Source.faults v) g.O.Sink.faults g.O.Sink.wants
+    (λ bytes. DecidesInOrder c.play_live.result (g.S.Source.faults c.args.input.now) (g.S.Source.faults v) g.O.Sink
     c.args.output.now c.play_live.new.output c.args.outlets.now c.play_live.new.outlets
-    (λ Told. LivesToEnd Told g.K.Sink.holds g.K.Sink.back g.K.Sink.faults g.K.Sink.wants c.args.universes c.args.form bytes
+    (λ Told. LivesToEnd Told g.K.Sink c.args.universes c.args.form bytes
     (g.O.Sink.holds c.args.output.now) (g.O.Sink.holds c.play_live.new.output) c.args.outlets.now c.play_live.new.outlets))) (sym same)
-    (live_order c.args.form c.args.universes g.K.Sink.holds g.K.Sink.back g.K.Sink.faults g.K.Sink.wants g.O.Sink.faults g.O.Sink.wants _ _
-    _ _ _ _ _ _ _ _ c.in-Ok.loaded _ c.play_live.result _ _ _ c.new-lines.ensures.unread c.new-lines.ensures.taken
+    (live_order c.args.form c.args.universes g.K.Sink g.O.Sink _ _
+    _ _ _ _ _ _ _ c.in-Ok.loaded _ c.play_live.result _ _ _ c.new-lines.ensures.unread c.new-lines.ensures.taken
     c.in-Ok.ensures.answer kept c.play_live.ensures.order)
 
 pub returns-in-Ok-clause-finished : goal.returns-in-Ok-clause-finished
@@ -49,14 +47,13 @@ returns-in-Ok-clause-finished g c =
     let same = c.input-1.given.1 (sym (c.play_live.ensures.same_source ∙ c.in-Ok.ensures.same_reference
     ∙ c.new-lines.ensures.same_reference)) in
     let kept = c.in-Ok.ensures.kept (λ odd. cc) ∙ ap g.S.Source.faults c.new-lines.ensures.source in
-    subst (λ v. Finishes (g.S.Source.faults c.args.input.now) (g.S.Source.faults v) g.O.Sink.faults g.O.Sink.wants g.O.Sink.back
+    subst (λ v. Finishes (g.S.Source.faults c.args.input.now) (g.S.Source.faults v) g.O.Sink
     c.args.output.now c.play_live.new.output c.play_live.result) (sym same)
-    (after_reads _ _ _ _ _ _ _ _ c.play_live.result (λ done. kept) c.play_live.ensures.finished)
+    (after_reads _ _ _ _ _ _ c.play_live.result (λ done. kept) c.play_live.ensures.finished)
 
 pub returns-in-Err-clause-order : goal.returns-in-Err-clause-order
 returns-in-Err-clause-order g c =
-    all_refused _ c.refuse.result _ _ g.O.Sink.faults g.O.Sink.wants _ _ c.args.outlets.now
-    (λ bytes Told. LivesToEnd Told g.K.Sink.holds g.K.Sink.back g.K.Sink.faults g.K.Sink.wants c.args.universes c.args.form bytes
+    all_refused _ c.refuse.result _ _ g.O.Sink _ _ c.args.outlets.now (λ bytes Told. LivesToEnd Told g.K.Sink c.args.universes c.args.form bytes
     (g.O.Sink.holds c.args.output.now) (g.O.Sink.holds c.refuse.new.output) c.args.outlets.now c.args.outlets.now)
     c.refuse.ensures.write c.refuse.ensures.memory
 
@@ -65,6 +62,6 @@ returns-in-Err-clause-finished g c =
     let same = c.in-Err.input-in-Err-1-own.given.1 (sym (c.in-Err.ensures.same_reference ∙ c.new-lines.ensures.same_reference)) in
     let kept = λ (done : IsDone c.refuse.result). refusal_reads _ _ c.in-Err.fault c.refuse.result _ _ c.refuse.ensures.refused
     (λ other. c.in-Err.ensures.kept (λ is. other (cc))) done ∙ ap g.S.Source.faults c.new-lines.ensures.source in
-    subst (λ v. Finishes (g.S.Source.faults c.args.input.now) (g.S.Source.faults v) g.O.Sink.faults g.O.Sink.wants g.O.Sink.back
+    subst (λ v. Finishes (g.S.Source.faults c.args.input.now) (g.S.Source.faults v) g.O.Sink
     c.args.output.now c.refuse.new.output c.refuse.result) (sym same)
-    (after_reads _ _ _ _ _ _ _ _ c.refuse.result kept (c.refuse.ensures.finished (g.S.Source.faults c.read_show.new.lines.source.now)))
+    (after_reads _ _ _ _ _ _ c.refuse.result kept (c.refuse.ensures.finished (g.S.Source.faults c.read_show.new.lines.source.now)))

@@ -17,14 +17,14 @@ pub returns-in-Ok-read_show-clause-ended : goal.returns-in-Ok-read_show-clause-e
 returns-in-Ok-read_show-clause-ended g c = λ rest.
     let is = c.new-lines.ensures.unread ∙ ap (λ (s : PlainBytes). Some s.left) c.new-input.ensures
     ∙ ap (λ (b : List ℕ). Some b) c.in-Ok.ensures in
-    made_ended c.args.cues _ c.new-lines.result c.read_show.new.lines is c.new-lines.ensures.taken _ c.in-Ok-read_show.loaded rest _ _
+    made_ended c.args.cues _ c.new-lines.result c.read_show.new.lines is c.new-lines.ensures.taken c.in-Ok-read_show.loaded rest _ _
     c.tell_session.result c.in-Ok-read_show.ensures.answer c.tell_session.ensures.works c.tell_session.ensures.ended
 
 pub returns-in-Ok-read_show-clause-prefix : goal.returns-in-Ok-read_show-clause-prefix
 returns-in-Ok-read_show-clause-prefix g c =
     let is = c.new-lines.ensures.unread ∙ ap (λ (s : PlainBytes). Some s.left) c.new-input.ensures
     ∙ ap (λ (b : List ℕ). Some b) c.in-Ok.ensures in
-    made_front c.args.cues _ c.new-lines.result c.read_show.new.lines is c.new-lines.ensures.taken _ c.in-Ok-read_show.loaded _ _
+    made_front c.args.cues _ c.new-lines.result c.read_show.new.lines is c.new-lines.ensures.taken c.in-Ok-read_show.loaded _ _
     c.in-Ok-read_show.ensures.answer c.tell_session.ensures.front
 
 pub returns-in-Ok-read_show-clause-cause : goal.returns-in-Ok-read_show-clause-cause

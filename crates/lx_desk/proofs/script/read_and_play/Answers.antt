@@ -14,12 +14,12 @@ returns-in-Ok-clause-ended g c =
     subst (λ v. IfSome (g.S.Source.left c.args.input.now)
     (λ bytes. HasEnded c.play_script.result (Script c.args.kind c.args.form) bytes (g.S.Source.left v)
     (g.K.Sink.holds c.args.output.now) (g.K.Sink.holds c.play_script.new.output))) (sym same)
-    (script_ended c.args.form c.args.kind _ _ _ _ c.in-Ok.loaded _ _ _ _ c.play_script.result
+    (script_ended c.args.form c.args.kind _ _ _ c.in-Ok.loaded _ _ _ _ c.play_script.result
     c.new-lines.ensures.unread c.new-lines.ensures.taken c.in-Ok.ensures.answer c.play_script.ensures.plays.works
     c.play_script.ensures.plays.ended)
 
 pub returns-in-Ok-clause-prefix : goal.returns-in-Ok-clause-prefix
-returns-in-Ok-clause-prefix g c = session_front c.args.form c.args.kind _ _ _ _
+returns-in-Ok-clause-prefix g c = session_front c.args.form c.args.kind _ _ _
     c.in-Ok.loaded _ _ _ c.new-lines.ensures.unread c.in-Ok.ensures.answer c.play_script.ensures.plays.front
 
 pub returns-in-Err-clause-works : goal.returns-in-Err-clause-works
@@ -44,15 +44,15 @@ returns-in-Ok-clause-finished g c =
     let same = c.input-1.given.1 (sym (c.play_script.ensures.same_source ∙ c.in-Ok.ensures.same_reference
     ∙ c.new-lines.ensures.same_reference)) in
     let kept = c.in-Ok.ensures.kept (λ odd. cc) ∙ ap g.S.Source.faults c.new-lines.ensures.source in
-    subst (λ v. Finishes (g.S.Source.faults c.args.input.now) (g.S.Source.faults v) g.K.Sink.faults g.K.Sink.wants g.K.Sink.back
+    subst (λ v. Finishes (g.S.Source.faults c.args.input.now) (g.S.Source.faults v) g.K.Sink
     c.args.output.now c.play_script.new.output c.play_script.result) (sym same)
-    (after_reads _ _ _ _ _ _ _ _ c.play_script.result (λ done. kept) c.play_script.ensures.plays.finished)
+    (after_reads _ _ _ _ _ _ c.play_script.result (λ done. kept) c.play_script.ensures.plays.finished)
 
 pub returns-in-Err-clause-finished : goal.returns-in-Err-clause-finished
 returns-in-Err-clause-finished g c =
     let same = c.in-Err.input-in-Err-1-own.given.1 (sym (c.in-Err.ensures.same_reference ∙ c.new-lines.ensures.same_reference)) in
     let kept = λ (done : IsDone c.refuse.result). refusal_reads _ _ c.in-Err.fault c.refuse.result _ _ c.refuse.ensures.refused
     (λ other. c.in-Err.ensures.kept (λ is. other (cc))) done ∙ ap g.S.Source.faults c.new-lines.ensures.source in
-    subst (λ v. Finishes (g.S.Source.faults c.args.input.now) (g.S.Source.faults v) g.K.Sink.faults g.K.Sink.wants g.K.Sink.back
+    subst (λ v. Finishes (g.S.Source.faults c.args.input.now) (g.S.Source.faults v) g.K.Sink
     c.args.output.now c.refuse.new.output c.refuse.result) (sym same)
-    (after_reads _ _ _ _ _ _ _ _ c.refuse.result kept (c.refuse.ensures.finished (g.S.Source.faults c.read_show.new.lines.source.now)))
+    (after_reads _ _ _ _ _ _ c.refuse.result kept (c.refuse.ensures.finished (g.S.Source.faults c.read_show.new.lines.source.now)))

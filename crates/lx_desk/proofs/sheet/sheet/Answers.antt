@@ -10,12 +10,12 @@ returns-in-Ok-clause-works g c = told_ends c.list.result status.Ok tt c.list.ens
 
 pub returns-in-Ok-clause-ended : goal.returns-in-Ok-clause-ended
 returns-in-Ok-clause-ended g c =
-    told_ended c.args.form _ _ _ _ c.in-Ok.loaded (Sheet c.args.form) sheet_text (sheet_tells c.args.form) _ _ _ _ c.list.result
+    told_ended c.args.form _ _ _ c.in-Ok.loaded (Sheet c.args.form) sheet_text (sheet_tells c.args.form) _ _ _ _ c.list.result
     c.new-lines.ensures.unread c.new-lines.ensures.taken c.in-Ok.ensures.answer c.list.ensures.kinds c.list.ensures.ok
     c.list.ensures.prefix
 
 pub returns-in-Ok-clause-prefix : goal.returns-in-Ok-clause-prefix
-returns-in-Ok-clause-prefix g c = told_prefix c.args.form _ _ _ _ c.in-Ok.loaded (Sheet c.args.form) sheet_text (sheet_tells c.args.form) _
+returns-in-Ok-clause-prefix g c = told_prefix c.args.form _ _ _ c.in-Ok.loaded (Sheet c.args.form) sheet_text (sheet_tells c.args.form) _
     _ _ c.new-lines.ensures.unread c.in-Ok.ensures.answer c.list.ensures.prefix
 
 pub returns-in-Err-clause-works : goal.returns-in-Err-clause-works
@@ -39,15 +39,15 @@ pub returns-in-Ok-clause-finished : goal.returns-in-Ok-clause-finished
 returns-in-Ok-clause-finished g c =
     let same = c.input-1.given.1 (sym (c.in-Ok.ensures.same_reference ∙ c.new-lines.ensures.same_reference)) in
     let kept = c.in-Ok.ensures.kept (λ odd. cc) ∙ ap g.S.Source.faults c.new-lines.ensures.source in
-    subst (λ v. Finishes (g.S.Source.faults c.args.input.now) (g.S.Source.faults v) g.K.Sink.faults g.K.Sink.wants g.K.Sink.back
+    subst (λ v. Finishes (g.S.Source.faults c.args.input.now) (g.S.Source.faults v) g.K.Sink
     c.args.output.now c.list.new.output c.list.result) (sym same)
-    (after_reads _ _ _ _ _ _ _ _ c.list.result (λ done. kept) (c.list.ensures.finished (g.S.Source.faults c.read_show.new.lines.source.now)))
+    (after_reads _ _ _ _ _ _ c.list.result (λ done. kept) (c.list.ensures.finished (g.S.Source.faults c.read_show.new.lines.source.now)))
 
 pub returns-in-Err-clause-finished : goal.returns-in-Err-clause-finished
 returns-in-Err-clause-finished g c =
     let same = c.input-1.given.1 (sym (c.in-Err.ensures.same_reference ∙ c.new-lines.ensures.same_reference)) in
     let kept = λ (done : IsDone c.refuse.result). refusal_reads _ _ c.in-Err.fault c.refuse.result _ _ c.refuse.ensures.refused
     (λ other. c.in-Err.ensures.kept (λ is. other (cc))) done ∙ ap g.S.Source.faults c.new-lines.ensures.source in
-    subst (λ v. Finishes (g.S.Source.faults c.args.input.now) (g.S.Source.faults v) g.K.Sink.faults g.K.Sink.wants g.K.Sink.back
+    subst (λ v. Finishes (g.S.Source.faults c.args.input.now) (g.S.Source.faults v) g.K.Sink
     c.args.output.now c.refuse.new.output c.refuse.result) (sym same)
-    (after_reads _ _ _ _ _ _ _ _ c.refuse.result kept (c.refuse.ensures.finished (g.S.Source.faults c.read_show.new.lines.source.now)))
+    (after_reads _ _ _ _ _ _ c.refuse.result kept (c.refuse.ensures.finished (g.S.Source.faults c.read_show.new.lines.source.now)))

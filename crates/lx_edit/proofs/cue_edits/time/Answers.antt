@@ -4,14 +4,14 @@ use Rattle.lx_edit.specs.declared.plans.Plan.TheVariants as plans
 use Rattle.lx_edit.proofs.CuePlans.{places, valid_part, valid_time}
 use Rattle.lx_edit.proofs.cue_edits.time.Goals as goal
 
-pub returns : goal.returns
-returns c =
+pub returns-clause-plan : goal.returns-clause-plan
+returns-clause-plan g c =
     let show = c.args.show.now in
     let old = c.in_ok-old.old.now in
     let here = c.in_ok-old.ensures in
     let part = with_time c.in_ok-part.part c.args.rising c.args.time c.args.delay in
     let is : c.put_part.new.self ≡ with_part old part = c.put_part.ensures
-    ∙ ap (λ (q : Cue). with_part q c.with_time.result) c.in_ok-cue.ensures ∙ ap (λ (x : Part). with_part old x) c.with_time.ensures in
+    ∙ ap (λ (q : Cue). with_part q c.with_time.result) c.in_ok-cue.ensures.cue ∙ ap (λ (x : Part). with_part old x) c.with_time.ensures in
     let made : edited show (Time c.args.n c.args.p c.args.rising c.args.time c.args.delay) ≡ Ok (with_cue show (with_part old part)) =
     rw (here.found, c.in_ok-part.ensures) refl in
     let valid = with_placed_part show.channels old part here.valid

@@ -4,8 +4,8 @@ use Rattle.lx_edit.proofs.MoveMarks.{decided_alike}
 use Rattle.lx_edit.proofs.PlacedMoves.{changed_is}
 use Rattle.lx_edit.proofs.kept.place.Goals as goal
 
-pub returns-in-None : goal.returns-in-None
-returns-in-None c =
+pub returns-in-None-clause-plan : goal.returns-in-None-clause-plan
+returns-in-None-clause-plan g c =
     let show = c.args.show.now in
     let old : Cue = c.args.old.now in
     let cue : Cue = c.args.cue in
@@ -30,5 +30,5 @@ returns-in-None c =
     }
 
 pub kept_above-requires-clause-within : goal.kept_above-requires-clause-within
-kept_above-requires-clause-within c = λ x range out.
+kept_above-requires-clause-within g c = λ x range out.
     decided_alike c.args.old.now c.args.cue x c.requires.moves (c.requires.within x out)

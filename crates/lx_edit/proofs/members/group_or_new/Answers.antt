@@ -6,7 +6,7 @@ numbered (Ok x) old n same is = ap (λ (y : Group). y.number) same ∙ is
 numbered (Err fault) old n same is = tt
 
 pub returns-in-Some-clause-number : goal.returns-in-Some-clause-number
-returns-in-Some-clause-number c =
+returns-in-Some-clause-number g c =
     let old : Group = c.in-Some.group.now in
     let found : entry_at (λ (x : Group). x.number) c.args.g c.args.show.now.groups ≡ Some old = sym c.in-Some.ensures.group in
-    numbered c.copy.result old c.args.g c.copy.ensures (sym (found_number (λ (x : Group). x.number) c.args.g c.args.show.now.groups old found))
+    numbered c.copy.result old c.args.g c.copy.ensures.set (sym (found_number (λ (x : Group). x.number) c.args.g c.args.show.now.groups old found))

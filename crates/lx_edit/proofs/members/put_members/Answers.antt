@@ -3,7 +3,7 @@ use Rattle.lx_edit.proofs.Imports.{with_member}
 use Rattle.lx_edit.proofs.members.put_members.Goals as goal
 
 pub loop-member-preserved : goal.loop-member-preserved
-loop-member-preserved c =
+loop-member-preserved g c =
     let channels = c.args.channels in
     let start = c.args.list.now in
     let members = c.args.members.now in
@@ -20,4 +20,5 @@ loop-member-preserved c =
       valid = subst (ValidMembers channels) (sym c.in_ok-put.ensures.ok)
           (with_member channels member c.loop-member.list c.loop-member.invariant.valid
           (record { chan = record { least = c.of_member.ensures.chan.least; most = within }; level = c.of_member.ensures.level }));
+      count = c.in_ok-put.ensures.cause.kept ∙ c.loop-member.invariant.count;
     }

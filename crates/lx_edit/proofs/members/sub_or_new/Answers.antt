@@ -6,7 +6,7 @@ numbered (Ok x) old n same is = ap (λ (y : Sub). y.number) same ∙ is
 numbered (Err fault) old n same is = tt
 
 pub returns-in-Some-clause-number : goal.returns-in-Some-clause-number
-returns-in-Some-clause-number c =
+returns-in-Some-clause-number g c =
     let old : Sub = c.in-Some.sub.now in
     let found : entry_at (λ (x : Sub). x.number) c.args.s c.args.show.now.subs ≡ Some old = sym c.in-Some.ensures.sub in
-    numbered c.copy.result old c.args.s c.copy.ensures (sym (found_number (λ (x : Sub). x.number) c.args.s c.args.show.now.subs old found))
+    numbered c.copy.result old c.args.s c.copy.ensures.set (sym (found_number (λ (x : Sub). x.number) c.args.s c.args.show.now.subs old found))

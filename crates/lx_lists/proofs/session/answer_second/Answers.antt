@@ -24,9 +24,9 @@ returns-clause-answered g c = λ s text stands counted is.
     let meaning : Option Line = second_meaning text in
     let from : c.begin_second-turn.result ≡ unattempted meaning = c.begin_second-turn.ensures
     ∙ ap (λ (rest : List ℕ). unattempted (where_of_second (line_of rest))) is.is in
-    answered_second g.K.Sink.holds g.K.Sink.faults g.K.Sink.wants c.args.sink.now c.finish_without_frame.new.sink
+    answered_second g.K.Sink c.args.sink.now c.finish_without_frame.new.sink
     c.finish_without_frame.result s text desk c.finish_without_frame.new.tally is.second
-    (turn_answered true heard g.K.Sink.holds g.K.Sink.faults g.K.Sink.wants c.args.sink.now c.finish_without_frame.new.sink
+    (turn_answered true heard g.K.Sink c.args.sink.now c.finish_without_frame.new.sink
     c.finish_without_frame.result s.counts (begun s.state.second) meaning c.attempt_second.new.turn desk.second c.args.tally.now
     c.finish_without_frame.new.tally
     (subst (λ (v : LineState). LineProgress true heard (begun s.state.second) v c.attempt_second.new.turn desk.second) from

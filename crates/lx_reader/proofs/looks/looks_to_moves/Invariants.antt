@@ -1,12 +1,13 @@
-use Rattle.lx_reader.proofs.Imports.{Valid}
+use Rattle.lx_reader.proofs.Imports.{◌≡◌, Valid}
 use Rattle.lx_reader.proofs.LookMoves.{IsLooked}
 use Rattle.lx_reader.proofs.looks.looks_to_moves.Given as goal
 
 abbrev pub invariant-loop-left : goal.invariant-loop-left
-invariant-loop-left l = record {
+invariant-loop-left g l = record {
   looked : IsLooked l.left l.fn.show l.show;
   valid : Valid l.show;
+  count : g.H.Heap.refusals l.heap ≡ g.H.Heap.refusals l.fn.heap;
 }
 
 abbrev pub decreases-loop-left : goal.decreases-loop-left
-decreases-loop-left l = l.left
+decreases-loop-left g l = l.left

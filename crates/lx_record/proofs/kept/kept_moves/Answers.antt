@@ -7,4 +7,4 @@ loop-k-preserved c =
     let above = c.args.above.now in
     chosen_next (comes_out_changed (level_now c.args.console.now) show above) (λ x. tracked show above.number x) c.loop-k.k
     c.channel-c.result c.loop-k.moves.items c.add.new.moves.items c.kept_level-level.result c.loop-k.auto.k c.loop-k.invariant
-    c.channel-c.ensures c.kept_level-level.ensures c.in_ok-add.ensures
+    c.channel-c.ensures c.kept_level-level.ensures c.in_ok-add.ensures.items

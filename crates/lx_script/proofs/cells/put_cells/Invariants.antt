@@ -5,8 +5,7 @@ use Rattle.lx_script.proofs.cells.put_cells.Given as goal
 abbrev pub invariant-loop-from : goal.invariant-loop-from
 invariant-loop-from g l = record {
   within : l.from ≤ length l.levels;
-  put : Puts {T = Unit {0}} g.K.Sink.holds g.K.Sink.faults g.K.Sink.wants l.initial.sink l.sink (Ok tt)
-      (flat_map (λ word. 32 ∷ word) (cells (take l.from l.levels)));
+  put : Puts {T = Unit {0}} g.K.Sink l.initial.sink l.sink (Ok tt) (flat_map (λ word. 32 ∷ word) (cells (take l.from l.levels)));
 }
 
 abbrev pub decreases-loop-from : goal.decreases-loop-from

@@ -8,6 +8,5 @@ pub returns-in-Some-clause-answered : goal.returns-in-Some-clause-answered
 returns-in-Some-clause-answered g c = λ s stands counted.
     subst
     (λ m. LineAnswer (g.L.Listener.admitted_all c.answer_key.new.listener) (g.L.Listener.heard c.args.listener.now c.answer_key.new.listener)
-    g.K.Sink.holds g.K.Sink.faults g.K.Sink.wants c.args.sink.now c.answer_key.new.sink c.answer_key.result s m c.answer_key.new.console c.answer_key.new.tally)
-    (sym c.in-Some.ensures)
+    g.K.Sink c.args.sink.now c.answer_key.new.sink c.answer_key.result s m c.answer_key.new.console c.answer_key.new.tally) (sym c.in-Some.ensures)
     (c.answer_key.ensures.answered s stands counted)

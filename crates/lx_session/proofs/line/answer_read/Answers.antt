@@ -5,7 +5,7 @@ use Rattle.lx_session.proofs.line.answer_read.Goals as goal
 pub returns-clause-answered : goal.returns-clause-answered
 returns-clause-answered g c = λ s stands counted.
     let heard = g.L.Listener.heard c.args.listener.now c.attempt_all.new.listener in
-    answered (g.L.Listener.admitted_all c.attempt_all.new.listener) heard g.K.Sink.holds g.K.Sink.faults g.K.Sink.wants c.args.sink.now c.finish.new.sink c.finish.result s
+    answered (g.L.Listener.admitted_all c.attempt_all.new.listener) heard g.K.Sink c.args.sink.now c.finish.new.sink c.finish.result s
     (Some c.args.line) c.attempt_all.new.turn c.attempt_all.new.console c.args.tally.now c.finish.new.tally
     (subst (λ t. LineProgress (g.L.Listener.admitted_all c.attempt_all.new.listener) heard s.state t c.attempt_all.new.turn c.attempt_all.new.console) c.of-turn.ensures
     (c.attempt_all.ensures.tried s.state stands))

@@ -6,8 +6,8 @@ use Rattle.lx_session.proofs.script.answer_each.Goals as goal
 pub script-init : goal.script-init
 script-init g c = record {
   keeps = c.requires.keeps;
-  passed = passed_none _ _ _ c.requires.going;
-  so_far = λ all every since state stands. so_far_none _ (λ s. g.A.AnswersBeside.stands since all s c.args.answerer.now c.args.lent.now) _ _ _ state _ _
+  passed = passed_none _ _ c.requires.going;
+  so_far = λ all every since state stands. so_far_none _ (λ s. g.A.AnswersBeside.stands since all s c.args.answerer.now c.args.lent.now) _ _ state _ _
       c.requires.going stands c.new-tally.ensures;
   few = record {
     ok = let e = ap (λ t. t.ok) c.new-tally.ensures in omega (arith, e);
@@ -24,21 +24,21 @@ script-preserved g c =
     let e = c.take_line.ensures in
     let stood : g.A.AnswersBeside.Since → (g.A.AnswersBeside.by false).State → Type 0 = λ since s. g.A.AnswersBeside.stands since false s c.script.answerer c.script.lent in
     let stands : g.A.AnswersBeside.Since → (g.A.AnswersBeside.by false).State → Type 0 = λ since s. g.A.AnswersBeside.stands since false s c.take_line.new.answerer c.take_line.new.lent in
-    let o = subst (λ b. LineOutcome (g.A.AnswersBeside.by false) stood stands g.S.Source.left g.S.Source.faults
+    let o = subst (λ b. LineOutcome (g.A.AnswersBeside.by false) stood stands g.S.Source
     c.script.lines c.take_line.new.lines (g.K.Sink.holds c.script.sink) (g.K.Sink.holds c.take_line.new.sink) c.script.tally
     c.take_line.new.tally (Ok b)) c.if-branch.true (c.in_ok-take_line.ensures.outcome false (λ no. absurd cc)) in
     let number = o.0.handed.number in
     record {
       keeps = e.keeps;
-      passed = passed_more g.S.Source.left g.S.Source.faults c.args.lines.now c.script.lines c.take_line.new.lines i.passed o.0;
+      passed = passed_more g.S.Source c.args.lines.now c.script.lines c.take_line.new.lines i.passed o.0;
       so_far = λ all every since state stood_at.
           let stood : g.A.AnswersBeside.Since → (g.A.AnswersBeside.by all).State → Type 0 = λ since s. g.A.AnswersBeside.stands since all s c.script.answerer c.script.lent in
           let stands : g.A.AnswersBeside.Since → (g.A.AnswersBeside.by all).State → Type 0 = λ since s. g.A.AnswersBeside.stands since all s c.take_line.new.answerer c.take_line.new.lent in
-          let o = subst (λ b. LineOutcome (g.A.AnswersBeside.by all) stood stands g.S.Source.left g.S.Source.faults
+          let o = subst (λ b. LineOutcome (g.A.AnswersBeside.by all) stood stands g.S.Source
           c.script.lines c.take_line.new.lines (g.K.Sink.holds c.script.sink) (g.K.Sink.holds c.take_line.new.sink) c.script.tally
           c.take_line.new.tally (Ok b)) c.if-branch.true (c.in_ok-take_line.ensures.outcome all every) in
           let s = i.so_far all (λ is. e.all (every is)) since state stood_at in
-          so_far_more _ (stood since) (stands since) g.S.Source.left g.S.Source.faults c.args.lines.now c.script.lines c.take_line.new.lines state
+          so_far_more _ (stood since) (stands since) g.S.Source c.args.lines.now c.script.lines c.take_line.new.lines state
           c.script.tally c.take_line.new.tally (g.K.Sink.holds c.args.sink.now) (g.K.Sink.holds c.script.sink)
           (g.K.Sink.holds c.take_line.new.sink) s (o.1 since s.now s.stands s.counts);
       few = record {
@@ -54,21 +54,21 @@ pub returns-in_err-take_line-clause-outcome : goal.returns-in_err-take_line-clau
 returns-in_err-take_line-clause-outcome g c = λ all every since state stood_at.
     let stood : g.A.AnswersBeside.Since → (g.A.AnswersBeside.by all).State → Type 0 = λ since s. g.A.AnswersBeside.stands since all s c.script.answerer c.script.lent in
     let stands : g.A.AnswersBeside.Since → (g.A.AnswersBeside.by all).State → Type 0 = λ since s. g.A.AnswersBeside.stands since all s c.take_line.new.answerer c.take_line.new.lent in
-    through (λ r. IfSome (unread g.S.Source.left c.args.lines.now)
+    through (λ r. IfSome (unread g.S.Source c.args.lines.now)
     (λ bytes. ScriptAnswered (g.A.AnswersBeside.by all) (stands since) state c.args.lines.now.taken bytes
-    (unread g.S.Source.left c.take_line.new.lines) (g.S.Source.left c.take_line.new.lines.source.now) (g.K.Sink.holds c.args.sink.now)
+    (unread g.S.Source c.take_line.new.lines) (g.S.Source.left c.take_line.new.lines.source.now) (g.K.Sink.holds c.args.sink.now)
     (g.K.Sink.holds c.take_line.new.sink) r)) c.from_residual.result c.in_err-take_line.field-0.0 c.from_residual.ensures
-    (so_far_fails _ stood stands since g.S.Source.left g.S.Source.faults c.args.lines.now c.script.lines c.take_line.new.lines state
+    (so_far_fails _ stood stands since g.S.Source c.args.lines.now c.script.lines c.take_line.new.lines state
     c.script.tally c.take_line.new.tally (g.K.Sink.holds c.args.sink.now) (g.K.Sink.holds c.script.sink)
     (g.K.Sink.holds c.take_line.new.sink) c.in_err-take_line.field-0.0 (c.script.invariant.so_far all (λ is. c.take_line.ensures.all (every is)) since state stood_at)
     (c.in_err-take_line.ensures.outcome all every))
 
 pub returns-in_err-take_line-clause-limit : goal.returns-in_err-take_line-clause-limit
 returns-in_err-take_line-clause-limit g c =
-    through (λ r. IfSome (unread g.S.Source.left c.args.lines.now) (λ bytes. KeepsLimit c.args.lines.now.taken bytes r))
+    through (λ r. IfSome (unread g.S.Source c.args.lines.now) (λ bytes. KeepsLimit c.args.lines.now.taken bytes r))
     c.from_residual.result c.in_err-take_line.field-0.0 c.from_residual.ensures
     (fails_by_limit (g.A.AnswersBeside.by false) (λ since s. g.A.AnswersBeside.stands since false s c.script.answerer c.script.lent)
-    (λ since s. g.A.AnswersBeside.stands since false s c.take_line.new.answerer c.take_line.new.lent) g.S.Source.left g.S.Source.faults c.args.lines.now
+    (λ since s. g.A.AnswersBeside.stands since false s c.take_line.new.answerer c.take_line.new.lent) g.S.Source c.args.lines.now
     c.script.lines c.take_line.new.lines c.script.tally c.take_line.new.tally (g.K.Sink.holds c.script.sink)
     (g.K.Sink.holds c.take_line.new.sink) c.in_err-take_line.field-0.0 c.script.invariant.passed
     (c.in_err-take_line.ensures.outcome false (λ no. absurd cc)))
@@ -77,11 +77,11 @@ pub returns-clause-outcome : goal.returns-clause-outcome
 returns-clause-outcome g c = λ all every since state stood_at.
     let stood : g.A.AnswersBeside.Since → (g.A.AnswersBeside.by all).State → Type 0 = λ since s. g.A.AnswersBeside.stands since all s c.script.answerer c.script.lent in
     let stands : g.A.AnswersBeside.Since → (g.A.AnswersBeside.by all).State → Type 0 = λ since s. g.A.AnswersBeside.stands since all s c.take_line.new.answerer c.take_line.new.lent in
-    let o = subst (λ b. LineOutcome (g.A.AnswersBeside.by all) stood stands g.S.Source.left g.S.Source.faults
+    let o = subst (λ b. LineOutcome (g.A.AnswersBeside.by all) stood stands g.S.Source
     c.script.lines c.take_line.new.lines (g.K.Sink.holds c.script.sink) (g.K.Sink.holds c.take_line.new.sink) c.script.tally
     c.take_line.new.tally (Ok b)) c.if-branch.false (c.in_ok-take_line.ensures.outcome all every) in
     let s = c.script.invariant.so_far all (λ is. c.take_line.ensures.all (every is)) since state stood_at in
-    so_far_ends _ (stood since) (stands since) g.S.Source.left g.S.Source.faults c.args.lines.now c.script.lines c.take_line.new.lines state
+    so_far_ends _ (stood since) (stands since) g.S.Source c.args.lines.now c.script.lines c.take_line.new.lines state
     c.script.tally c.take_line.new.tally (g.K.Sink.holds c.args.sink.now) (g.K.Sink.holds c.script.sink)
     (g.K.Sink.holds c.take_line.new.sink) s (o.1 since s.now s.stands s.counts) o.0
 
@@ -89,16 +89,16 @@ pub returns-clause-limit : goal.returns-clause-limit
 returns-clause-limit g c =
     let o = subst (λ b. LineOutcome (g.A.AnswersBeside.by false)
     (λ since s. g.A.AnswersBeside.stands since false s c.script.answerer c.script.lent)
-    (λ since s. g.A.AnswersBeside.stands since false s c.take_line.new.answerer c.take_line.new.lent) g.S.Source.left g.S.Source.faults
+    (λ since s. g.A.AnswersBeside.stands since false s c.take_line.new.answerer c.take_line.new.lent) g.S.Source
     c.script.lines c.take_line.new.lines (g.K.Sink.holds c.script.sink) (g.K.Sink.holds c.take_line.new.sink) c.script.tally
     c.take_line.new.tally (Ok b)) c.if-branch.false (c.in_ok-take_line.ensures.outcome false (λ no. absurd cc)) in
-    fits g.S.Source.left g.S.Source.faults c.args.lines.now c.script.lines c.take_line.new.lines c.script.invariant.passed o.0
+    fits g.S.Source c.args.lines.now c.script.lines c.take_line.new.lines c.script.invariant.passed o.0
 
 pub script-smaller : goal.script-smaller
 script-smaller g c =
     let o = subst (λ b. LineOutcome (g.A.AnswersBeside.by false)
     (λ since s. g.A.AnswersBeside.stands since false s c.script.answerer c.script.lent)
-    (λ since s. g.A.AnswersBeside.stands since false s c.take_line.new.answerer c.take_line.new.lent) g.S.Source.left g.S.Source.faults
+    (λ since s. g.A.AnswersBeside.stands since false s c.take_line.new.answerer c.take_line.new.lent) g.S.Source
     c.script.lines c.take_line.new.lines (g.K.Sink.holds c.script.sink) (g.K.Sink.holds c.take_line.new.sink) c.script.tally
     c.take_line.new.tally (Ok b)) c.if-branch.true (c.in_ok-take_line.ensures.outcome false (λ no. absurd cc)) in
     let number = o.0.handed.number in

@@ -5,12 +5,12 @@ use Rattle.lx_session.proofs.script.answer_each.Given as goal
 abbrev pub invariant-script : goal.invariant-script
 invariant-script g l = record {
   keeps : g.A.AnswersBeside.keeps l.answerer l.lent;
-  passed : Passed g.S.Source.left g.S.Source.faults l.fn.lines l.lines;
+  passed : Passed g.S.Source l.fn.lines l.lines;
   so_far : (all : Bool) → (all ≡ true → g.A.AnswersBeside.admitted_all l.answerer ≡ true)
       → (since : g.A.AnswersBeside.Since) (state : (g.A.AnswersBeside.by all).State)
       → g.A.AnswersBeside.stands since all state l.fn.answerer l.fn.lent
-      → SoFar (g.A.AnswersBeside.by all) (λ s. g.A.AnswersBeside.stands since all s l.answerer l.lent) g.S.Source.left
-      g.S.Source.faults l.fn.lines l.lines state l.tally (g.K.Sink.holds l.fn.sink) (g.K.Sink.holds l.sink);
+      → SoFar (g.A.AnswersBeside.by all) (λ s. g.A.AnswersBeside.stands since all s l.answerer l.lent) g.S.Source
+      l.fn.lines l.lines state l.tally (g.K.Sink.holds l.fn.sink) (g.K.Sink.holds l.sink);
   few : IsUpTo l.lines.number l.tally;
   sink_kept : g.K.Sink.faults l.sink ≡ g.K.Sink.faults l.fn.sink;
   wants_kept : g.K.Sink.wants l.sink ≡ g.K.Sink.wants l.fn.sink;

@@ -1,4 +1,4 @@
-use Rattle.lx_show.proofs.Imports.{subst, sym, IsStrictlySorted}
+use Rattle.lx_show.proofs.Imports.{◌∙◌, ap, insert, subst, sym, IsStrictlySorted}
 use Rattle.lx_show.proofs.Indexes.{replaced, sorted_replaced, sorted_added}
 use Rattle.lx_show.proofs.sorted.put.Goals as goal
 
@@ -9,7 +9,8 @@ pub returns-in-Ok-clause-sorted : goal.returns-in-Ok-clause-sorted
 returns-in-Ok-clause-sorted g c = sorted_replaced _ _ _ _ c.args.x c.in-Ok.at c.key.ensures c.as_slice.ensures.value c.in-Ok.ensures.stands
     c.requires
 
-pub returns-in_ok-insert-in-Err-clause-sorted : goal.returns-in_ok-insert-in-Err-clause-sorted
-returns-in_ok-insert-in-Err-clause-sorted g c =
-    subst (IsStrictlySorted g.T.Keyed.key) (sym c.in_ok-insert-in-Err.ensures.items)
+pub returns-in_ok-reserve-in-Err-clause-sorted : goal.returns-in_ok-reserve-in-Err-clause-sorted
+returns-in_ok-reserve-in-Err-clause-sorted g c =
+    subst (IsStrictlySorted g.T.Keyed.key) (sym (c.insert_in_room.ensures.items
+    ∙ ap (λ xs. insert xs c.in-Err.at c.args.x) c.in_ok-reserve-in-Err.ensures.items))
     (sorted_added _ _ _ _ c.args.x c.in-Err.at c.key.ensures c.as_slice.ensures.value c.in-Err.ensures.goes c.requires)

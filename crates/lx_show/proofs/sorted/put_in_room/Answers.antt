@@ -12,7 +12,7 @@ returns-in-Ok-clause-sorted g c = subst (λ y. IsStrictlySorted g.T.Keyed.key (s
     (sym c.replace.ensures.after)
     (sorted_replaced _ _ _ _ c.args.x c.in-Ok.at c.key.ensures c.as_slice.ensures.value c.in-Ok.ensures.stands c.requires.sorted)
 
-pub returns-in-Ok-insert-clause-sorted : goal.returns-in-Ok-insert-clause-sorted
-returns-in-Ok-insert-clause-sorted g c =
-    subst (IsStrictlySorted g.T.Keyed.key) (sym c.in-Ok-insert.ensures.items)
+pub returns-in-Err-clause-sorted : goal.returns-in-Err-clause-sorted
+returns-in-Err-clause-sorted g c =
+    subst (IsStrictlySorted g.T.Keyed.key) (sym c.insert_in_room.ensures.items)
     (sorted_added _ _ _ _ c.args.x c.in-Err.at c.key.ensures c.as_slice.ensures.value c.in-Err.ensures.goes c.requires.sorted)

@@ -6,13 +6,13 @@ use Rattle.lx_text_laws.proofs.memory.read_text.Goals as goal
 pub returns-clause-read : goal.returns-clause-read
 returns-clause-read c =
     let is = c.new-lines.ensures.unread ∙ ap (λ (s : PlainBytes). Some s.left) c.new-source.ensures in
-    text_read c.args.text.items c.args.form _ _ c.new-lines.result c.read_show.new.lines is c.new-lines.ensures.taken
+    text_read c.args.text.items c.args.form _ c.new-lines.result c.read_show.new.lines is c.new-lines.ensures.taken
     c.read_show.result c.read_show.ensures.answer
     (λ failed. let rose = c.read_show.ensures.read failed in absurd (omega (arith, rose)))
 
 pub returns-clause-old : goal.returns-clause-old
 returns-clause-old c =
     let is = c.new-lines.ensures.unread ∙ ap (λ (s : PlainBytes). Some s.left) c.new-source.ensures in
-    old_text_read c.args.text.items c.args.form _ _ c.new-lines.result c.read_show.new.lines is c.new-lines.ensures.taken
+    old_text_read c.args.text.items c.args.form _ c.new-lines.result c.read_show.new.lines is c.new-lines.ensures.taken
     c.read_show.result c.read_show.ensures.answer
     (λ failed. let rose = c.read_show.ensures.read failed in absurd (omega (arith, rose))) hundredths one_decimal_more

@@ -3,6 +3,6 @@ use Rattle.lx_undo.proofs.session.answer_asked.Goals as goal
 
 pub returns-clause-answered : goal.returns-clause-answered
 returns-clause-answered g c = λ s text stands counted is.
-    answered_asked g.K.Sink.holds g.K.Sink.faults g.K.Sink.wants c.args.sink.now c.give.new.sink c.give.result s text c.args.what
+    answered_asked g.K.Sink c.args.sink.now c.give.new.sink c.give.result s text c.args.what
     c.ask-denial.new.desk c.args.tally.now c.give.new.tally is counted c.ask-denial.result (c.ask-denial.ensures s.state stands)
     c.give.ensures.counts c.give.ensures.text

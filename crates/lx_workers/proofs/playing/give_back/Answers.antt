@@ -28,7 +28,7 @@ loop-lane-preserved g c =
     (let e : vec_len c.args.lanes ≡ length c.args.lanes.items = search rules in sym e ∙ c.requires.count) in
     let place = length c.args.outlets.now - 1 - c.len.result in
     let within : place < length c.args.outlets.now = omega (arith, n, h.few, at) in
-    let new : IsGiven g.K.Sink.holds g.K.Sink.back g.K.Sink.faults g.K.Sink.wants g.G.Origin.show c.put_sink.new.outlets
+    let new : IsGiven g.K.Sink g.G.Origin.show c.put_sink.new.outlets
     (set c.loop-lane.faults place c.finish.new.self.served.fault) c.args.gate.now.published
     (length c.args.outlets.now - 1 - vec_len c.pop.new.self) c.in-Some.lane.tap c.in-Some.lane.sink c.in-Some.lane.served = record {
       new = c.finish.new.self.sink;
@@ -49,13 +49,12 @@ loop-lane-preserved g c =
       others = λ p fault is. elim (get-set_cases c.loop-lane.faults place p _ _ is)
           [ inl e ↦ omega (arith, e, within) | inr e ↦ h.others p fault e ];
       lanes = prefix_less _ _ _ _ items h.lanes;
-      back = back_more c.args.lanes.items (λ p x. IsGiven g.K.Sink.holds g.K.Sink.back g.K.Sink.faults g.K.Sink.wants g.G.Origin.show c.loop-lane.outlets
-          c.loop-lane.faults c.args.gate.now.published p x.tap x.sink x.served)
-          (λ p x. IsGiven g.K.Sink.holds g.K.Sink.back g.K.Sink.faults g.K.Sink.wants g.G.Origin.show c.put_sink.new.outlets
+      back = back_more c.args.lanes.items (λ p x. IsGiven g.K.Sink g.G.Origin.show c.loop-lane.outlets
+          c.loop-lane.faults c.args.gate.now.published p x.tap x.sink x.served) (λ p x. IsGiven g.K.Sink g.G.Origin.show c.put_sink.new.outlets
           (set c.loop-lane.faults place c.finish.new.self.served.fault) c.args.gate.now.published p x.tap x.sink x.served)
           (length c.args.outlets.now) (vec_len c.pop.new.self) c.in-Some.lane whole
           (ap (λ j. slice_get c.args.lanes.items j) lanes_len ∙ at_last _ _ _ _ items h.lanes)
-          (λ k x lt above before. given_on _ _ _ _ _ _ _ _ _ _ _ _ _ _ _ _ _ c.put_sink.ensures.after refl
+          (λ k x lt above before. given_on _ _ _ _ _ _ _ _ _ _ _ _ _ _ c.put_sink.ensures.after refl
           (let o : length c.args.outlets.now - 1 - k ≢ place =
           λ (e : length c.args.outlets.now - 1 - k ≡ place). absurd (omega (arith, e, lt, above, at)) in o) before)
           new

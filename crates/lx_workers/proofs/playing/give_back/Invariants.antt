@@ -11,8 +11,7 @@ invariant-loop-lane g l = record {
   others : (place : ℕ) (fault : SinkFault) → slice_get l.faults place ≡ Some (Some fault) → place < length l.initial.outlets;
   lanes : IsPrefix l.lanes.items l.initial.lanes.items;
   back : (k : ℕ) (x : _) → slice_get l.initial.lanes.items k ≡ Some x → vec_len l.lanes ≤ k
-      → IsGiven g.K.Sink.holds g.K.Sink.back g.K.Sink.faults g.K.Sink.wants g.G.Origin.show l.outlets l.faults l.gate.published
-      (length l.initial.outlets - 1 - k) x.tap x.sink x.served;
+      → IsGiven g.K.Sink g.G.Origin.show l.outlets l.faults l.gate.published (length l.initial.outlets - 1 - k) x.tap x.sink x.served;
 }
 
 abbrev pub decreases-loop-lane : goal.decreases-loop-lane

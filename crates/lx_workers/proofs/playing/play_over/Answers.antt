@@ -12,7 +12,7 @@ perform-lanes-requires-clause-in_step g c = λ κs bounds. in_step_at _ _ _ _ c.
 pub returns-clause-played : goal.returns-clause-played
 returns-clause-played g c =
     let run = held_in c.perform-lanes.new.gate c.in-Some.gate
-    (λ held. HasRun g.S.Source.left g.S.Source.faults g.O.Sink.holds g.O.Sink.back g.O.Sink.faults g.O.Sink.wants g.G.Origin.show c.in_ok-gate.gate []
+    (λ held. HasRun g.S.Source g.O.Sink g.G.Origin.show c.in_ok-gate.gate []
     c.args.console.now c.args.lines.now c.args.output.now held c.perform-lanes.new.unsent c.perform-lanes.new.console
     c.perform-lanes.new.lines c.perform-lanes.new.output c.perform-lanes.result.1)
     c.in-Some.is c.perform-lanes.ensures.engine in
@@ -21,7 +21,7 @@ returns-clause-played g c =
       held_back = c.perform-lanes.new.unsent;
       unsent_is = c.len.ensures;
       stands = run.in_step.stands;
-      session_is = played_of g.S.Source.left g.S.Source.faults g.O.Sink.holds g.O.Sink.back g.O.Sink.faults g.O.Sink.wants g.G.Origin.show c.in_ok-gate.gate
+      session_is = played_of g.S.Source g.O.Sink g.G.Origin.show c.in_ok-gate.gate
           [] c.args.console.now c.args.lines.now c.args.output.now c.in-Some.gate c.perform-lanes.new.unsent
           c.perform-lanes.new.console c.perform-lanes.new.lines c.perform-lanes.new.output c.perform-lanes.result.1
           c.in_ok-gate.ensures.gate refl c.requires.opened run;
@@ -36,7 +36,7 @@ returns-clause-played g c =
             (omega (arith, within, count, items)) in
             let x = zip_at _ c.fill_lanes-lanes.result.items c.perform-lanes.result.0.items (length c.args.outlets.now - 1 - place) y.0
             c.perform-lanes.ensures.lanes y.1 in
-            is_back g.K.Sink.holds g.K.Sink.back g.K.Sink.faults g.K.Sink.wants g.G.Origin.show c.args.outlets.now c.give_back-faults.new.outlets
+            is_back g.K.Sink g.G.Origin.show c.args.outlets.now c.give_back-faults.new.outlets
             c.give_back-faults.result c.in-Some.gate.published place (length c.args.outlets.now - 1 - place) (length c.args.outlets.now)
             (length c.fill_lanes-lanes.new.outlets) start x.0.tap y.0.tap x.0.sink y.0.sink y.0.served is within refl c.fill_lanes-lanes.ensures.same
             (c.fill_lanes-lanes.ensures.lanes (length c.args.outlets.now - 1 - place) x.0 x.1) x.2

@@ -11,7 +11,7 @@ pub returns : goal.returns
 returns g c =
     let s = c.session_with-session in
     let e = s.ensures in
-    run_on g.S.Source.left g.S.Source.faults g.K.Sink.holds g.K.Sink.back g.K.Sink.faults g.K.Sink.wants g.G.Origin.show c.args.publisher.now.gate
+    run_on g.S.Source g.K.Sink g.G.Origin.show c.args.publisher.now.gate
     c.args.publisher.now.unsent c.args.console.now c.args.lines.now c.args.output.now s.new.listener.gate
     s.new.listener.unsent s.new.console s.new.lines s.new.sink s.result c.publish.new.gate
     c.publish.new.unsent

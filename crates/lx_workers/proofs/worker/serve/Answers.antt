@@ -6,7 +6,7 @@ pub loop-init : goal.loop-init
 loop-init g c = record {
   can = tt;
   finite = tt;
-  served = rw c.none-served.ensures (served_none _ _ _ _ _ c.args.tap.now c.args.sink.now);
+  served = rw c.none-served.ensures (served_none _ _ c.args.tap.now c.args.sink.now);
   learnt = refl;
   none = ap (λ s. s.fault) c.none-served.ensures;
 }

@@ -4,7 +4,7 @@ use Rattle.lx_writer.proofs.lines.put_moves.Given as goal
 abbrev pub invariant-loop-from : goal.invariant-loop-from
 invariant-loop-from g l = record {
   within : l.from ≤ length l.moves;
-  put : Puts {T = Unit {0}} g.K.Sink.holds g.K.Sink.faults g.K.Sink.wants l.initial.sink l.sink (Ok tt)
+  put : Puts {T = Unit {0}} g.K.Sink l.initial.sink l.sink (Ok tt)
       (flat_map move_text (filter (λ (entry : Move). entry.part == l.part) (take l.from l.moves)));
 }
 

@@ -6,18 +6,18 @@ use Rattle.lx_reader.proofs.OpenSteps.{opened}
 use Rattle.lx_reader.proofs.reading.ShowPass.group_line.Goals as goal
 
 pub returns-in_err-g-clause-outcome : goal.returns-in_err-g-clause-outcome
-returns-in_err-g-clause-outcome c =
+returns-in_err-g-clause-outcome g c =
     stops c.args.self.now.reader (settled c.args.self.now) c.args.i c.from_residual.result _ c.in_err-g.field-0.0 c.from_residual.ensures.1
     (set_fault c.args.self.now.reader c.args.i InGroup GROUPS (left c.args.tokens) c.in_err-g.field-0.0 c.requires.identified c.in_err-g.ensures)
 
 pub returns-in_default-clause-outcome : goal.returns-in_default-clause-outcome
-returns-in_default-clause-outcome c =
+returns-in_default-clause-outcome g c =
     let x = c.args.self.now in
     set_other_page x.reader _ c.args.i InGroup GROUPS (left c.args.tokens) c.in_ok-g.field-0 c.in_ok-g.ensures c.in_default.is c.requires.identified
     c.requires.ready.going (opened_none c.skip_record.new.self x.held x.moves c.requires.none ∙ c.skip_record.ensures)
 
 pub returns-clause-outcome : goal.returns-clause-outcome
-returns-clause-outcome c =
+returns-clause-outcome g c =
     let x = c.args.self.now in
     let group = c.open_group.result in
     group_took x.reader _ (with_open (open_records.Group group) x.moves c.open_group.new.show) c.args.i c.in-Some.g (left c.args.tokens) c.in_ok-g.field-0

@@ -4,19 +4,19 @@ use Rattle.lx_reader.proofs.OpenLevels.{levels_outcome, still_fits}
 use Rattle.lx_reader.proofs.reading.ShowPass.levels_line.Goals as goal
 
 pub widen-requires-clause-least : goal.widen-requires-clause-least
-widen-requires-clause-least c =
+widen-requires-clause-least g c =
     let read = c.in_ok-greatest.ensures.levels in
     omega (arith, read.is_greatest, c.channels-channels.ensures.channels, greatest_least c.channels-channels.result (map (λ m. m.chan) read.members))
 
 pub widen-requires-clause-most : goal.widen-requires-clause-most
-widen-requires-clause-most c =
+widen-requires-clause-most g c =
     let read = c.in_ok-greatest.ensures.levels in
     let few : c.channels-channels.result ≤ CHANNELS =
     omega (arith, c.channels-channels.ensures.channels, c.channels-channels.ensures.valid.channels.most) in
     omega (arith, read.is_greatest, greatest_most c.channels-channels.result read.members few read.valid)
 
 pub returns-clause-outcome : goal.returns-clause-outcome
-returns-clause-outcome c =
+returns-clause-outcome g c =
     let g = c.args.self.now in
     let read = subst
     (λ n. ReadsLevels c.args.i g.reader.part n (left c.args.tokens) [] c.in_ok-greatest.greatest g.moves c.put_line.new.self)
@@ -25,7 +25,7 @@ returns-clause-outcome c =
     c.widen.ensures c.requires.open_one c.requires.ready.going c.requires.fits
 
 pub returns-clause-fits : goal.returns-clause-fits
-returns-clause-fits c =
+returns-clause-fits g c =
     let g = c.args.self.now in
     let read = subst
     (λ n. ReadsLevels c.args.i g.reader.part n (left c.args.tokens) [] c.in_ok-greatest.greatest g.moves c.put_line.new.self)

@@ -3,7 +3,7 @@ use Rattle.lx_reader.proofs.LevelsLines.{both_true, inside_record, levels_entry}
 use Rattle.lx_reader.proofs.reading.ShowPass.step.Goals as goal
 
 pub returns-in-Some-clause-outcome : goal.returns-in-Some-clause-outcome
-returns-in-Some-clause-outcome c =
+returns-in-Some-clause-outcome g c =
     let g = c.args.self.now in
     let takes = both_true _ _ (sym c.takes_levels.ensures ∙ c.if-takes_levels.true) in
     subst (Outcome (settled g) (settled c.levels_line.new.self) c.args.i c.levels_line.result)

@@ -5,16 +5,14 @@ use Rattle.lx_workers.proofs.lane.Lane.finish.Goals as goal
 
 pub returns-then-is_some-clause-delivered : goal.returns-then-is_some-clause-delivered
 returns-then-is_some-clause-delivered g c = λ start from h.
-    delivered_part _ _ _ _ _ start _ from _ _ _
-    (served_learnt _ _ _ _ _ start _ _ from _ _ _ h c.learn.ensures.learnt c.learn.ensures.chained c.learn.ensures.universe)
-    (search rules)
+    delivered_part _ _ start _ from _ _ _
+    (served_learnt _ _ start _ _ from _ _ _ h c.learn.ensures.learnt c.learn.ensures.chained c.learn.ensures.universe) (search rules)
     (note_begins _ _ _ _ c.learn.ensures.learnt c.learn.ensures.chained (prefix_self _))
 
 pub returns-clause-delivered : goal.returns-clause-delivered
 returns-clause-delivered g c = λ start from h.
-    delivered_step _ _ _ _ _ start _ _ from _ _ _ _ _
-    (served_learnt _ _ _ _ _ start _ _ from _ _ _ h c.learn.ensures.learnt c.learn.ensures.chained c.learn.ensures.universe)
-    c.step.ensures.stepped
+    delivered_step _ _ start _ _ from _ _ _ _ _
+    (served_learnt _ _ start _ _ from _ _ _ h c.learn.ensures.learnt c.learn.ensures.chained c.learn.ensures.universe) c.step.ensures.stepped
     (note_begins _ _ _ _ c.learn.ensures.learnt c.learn.ensures.chained (prefix_self _))
 
 pub returns-clause-seen : goal.returns-clause-seen
