@@ -11,5 +11,5 @@ returns-clause-reaches g c = record {
 pub returns-clause-cause : goal.returns-clause-cause
 returns-clause-cause g c =
     let kept = c.in_ok-filled-3.ensures.cause.kept ∙ c.in_ok-open_in.ensures.cause.kept ∙ c.in_ok-filled-2.ensures.cause.kept
-        ∙ c.in_ok-filled.ensures.cause.kept in
+    ∙ c.in_ok-filled.ensures.cause.kept in
     record { later = omega (arith, kept); kept = kept; failed = tt }
