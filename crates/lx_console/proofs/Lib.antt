@@ -3,6 +3,7 @@ pub mod EditEffects
 pub mod OutputChanges
 pub mod TakenRows
 pub mod AllRuns
+pub mod NoMemory
 pub mod Obedience
 pub mod RunChanges
 pub mod PassedTicks

@@ -1,10 +1,10 @@
 //! The console: a player, and the output that shows it.
 
-ghost use Rattle.std.specs.Prelude.{◌≡◌, ℕ, ◌-◌, ◌/◌, ◌≤◌, [], None, min, option_map};
+ghost use Rattle.std.specs.Prelude.{◌≡◌, ◌≢◌, ℕ, ◌-◌, ◌/◌, ◌≤◌, [], None, Err, min, option_map};
 ghost use Rattle.std.specs.Prelude.{OnErr, IfOk, IsOkAnd};
 ghost use Rattle.std.specs.Option.{option_copied};
 ghost use Rattle.lx_base.specs.declared.TheConstants.{SLOTS, TICK_END, TICK_STEP, UNIVERSES};
-ghost use Rattle.lx_io.specs.Causes.{HasCause};
+ghost use Rattle.lx_io.specs.Causes.{HasCause, HasCauseOf};
 ghost use Rattle.lx_spec.specs.Level.{level};
 ghost use Rattle.lx_spec.specs.Playback.{position_of};
 ghost use Rattle.lx_spec.specs.TrackedLevel.{cue_of, tracked};
@@ -179,6 +179,7 @@ impl Console {
     pub fn press(&mut self, key: Key) -> Result<(), Refusal>
         ensures obeys { (d : Desk) → StandsFor d self.old → Obeys d (Command.Key key) result self.new }
         ensures unchanged { OnErr result (self.new ≡ self.old) }
+        ensures memory { result ≢ Err Refusal.Memory }
     {
         let change = self.player.press(key)?;
         self.output.follow(change, &self.player);
@@ -192,6 +193,7 @@ impl Console {
     pub fn tick(&mut self) -> Result<(), Refusal>
         ensures obeys { (d : Desk) → StandsFor d self.old → Obeys d Command.Tick result self.new }
         ensures unchanged { OnErr result (self.new ≡ self.old) }
+        ensures memory { result ≢ Err Refusal.Memory }
     {
         let change = self.player.tick()?;
         self.output.follow(change, &self.player);
@@ -223,7 +225,18 @@ impl Console {
         ensures answers { (d : Desk) → StandsFor d self.old → Answers d command.now result self.new }
         ensures unchanged { OnErr result (self.new ≡ self.old) }
     {
-        let change = self.player.command(command)?;
+        let mut heap = SystemHeap::new(self.allocator());
+        self.command_in(&mut heap, command)
+    }
+
+    /// The same, by a heap. An edit is refused with `Memory` only where the heap refused memory in this call. Keys and ticks take none.
+    pub fn command_in<H: Heap>(&mut self, heap: &mut H, command: &Command) -> Result<(), Refusal>
+        requires { ValidCommand command.now }
+        ensures answers { (d : Desk) → StandsFor d self.old → Answers d command.now result self.new }
+        ensures unchanged { OnErr result (self.new ≡ self.old) }
+        ensures cause { HasCauseOf Refusal.Memory (H.refusals heap.old) (H.refusals heap.new) result }
+    {
+        let change = self.player.command_in(heap, command)?;
         self.output.follow(change, &self.player);
         Ok(())
     }

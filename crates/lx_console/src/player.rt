@@ -1,9 +1,9 @@
 //! The player: a desk's state, with the levels that its playback gives.
 
-ghost use Rattle.std.specs.Prelude.{◌≡◌, ℕ, ◌+◌, ◌-◌, ◌/◌, ◌≤◌, [], None, false, length, min, option_map, slice_set};
+ghost use Rattle.std.specs.Prelude.{◌≡◌, ◌≢◌, ℕ, ◌+◌, ◌-◌, ◌/◌, ◌≤◌, [], None, Err, false, length, min, option_map, slice_set};
 ghost use Rattle.std.specs.Prelude.{OnOk, OnErr, IfOk, IfErr, IsOkAnd, IsTrue, IsFalse};
 ghost use Rattle.std.specs.Option.{option_copied};
-ghost use Rattle.lx_io.specs.Causes.{HasCause};
+ghost use Rattle.lx_io.specs.Causes.{HasCause, HasCauseOf};
 ghost use Rattle.lx_base.specs.declared.TheConstants.{TICK_END, TICK_STEP};
 ghost use Rattle.lx_spec.specs.SortedList.{has_entry};
 ghost use Rattle.lx_spec.specs.Show.{Valid};
@@ -216,6 +216,7 @@ impl Player {
         ensures unchanged { OnErr result (self.new ≡ self.old) }
         ensures changes { IfOk result (λ change. Changes change self.old self.new) }
         ensures moment { self.new.playback.moment ≡ self.old.playback.moment }
+        ensures memory { result ≢ Err Refusal.Memory }
     {
         match key {
             Key::Play(key) => self.play(key),
@@ -237,6 +238,7 @@ impl Player {
         ensures changes { IfOk result (λ change. Changes change self.old self.new) }
         ensures show { self.new.show ≡ self.old.show }
         ensures moment { OnOk result (self.new.playback.moment ≡ self.old.playback.moment + TICK_STEP) }
+        ensures memory { result ≢ Err Refusal.Memory }
     {
         self.advance()
     }
@@ -272,8 +274,25 @@ impl Player {
         ensures changes { IfOk result (λ change. Changes change self.old self.new) }
         ensures moment { is_tick command.now ≡ false → self.new.playback.moment ≡ self.old.playback.moment }
     {
+        let mut heap = SystemHeap::new(self.allocator());
+        self.command_in(&mut heap, command)
+    }
+
+    /// The same, by a heap. An edit is refused with `Memory` only where the heap refused memory in this call. Keys and ticks take none.
+    pub fn command_in<H: Heap>(
+        &mut self,
+        heap: &mut H,
+        command: &Command,
+    ) -> Result<Change, Refusal>
+        requires { ValidCommand command.now }
+        ensures answers { (d : Desk) → StandsFor d self.old → Answers d command.now result self.new }
+        ensures unchanged { OnErr result (self.new ≡ self.old) }
+        ensures changes { IfOk result (λ change. Changes change self.old self.new) }
+        ensures moment { is_tick command.now ≡ false → self.new.playback.moment ≡ self.old.playback.moment }
+        ensures cause { HasCauseOf Refusal.Memory (H.refusals heap.old) (H.refusals heap.new) result }
+    {
         match command {
-            Command::Edit(edit) => self.edit(edit),
+            Command::Edit(edit) => self.edit(heap, edit),
             Command::Key(key) => self.press(*key),
             Command::Tick => self.tick(),
         }
@@ -327,15 +346,16 @@ impl Player {
 
 impl Player {
     /// An edit, planned whole and applied whole.
-    fn edit(&mut self, edit: &Edit) -> Result<Change, Refusal>
+    fn edit<H: Heap>(&mut self, heap: &mut H, edit: &Edit) -> Result<Change, Refusal>
         requires { ValidEdit edit.now }
         ensures ok { OnOk result (IsOkAnd (edited self.old.show edit.now) (λ show. self.new ≡ record self.old { show = show })) }
         ensures err { IfErr result (IsRefusal self.old.show edit.now) }
         ensures unchanged { OnErr result (self.new ≡ self.old) }
         ensures changes { IfOk result (λ change. Changes change self.old self.new) }
         ensures playback { self.new.playback ≡ self.old.playback }
+        ensures cause { HasCauseOf Refusal.Memory (H.refusals heap.old) (H.refusals heap.new) result }
     {
-        let plan = plan(&mut SystemHeap::new(self.alloc), &self.show, edit)?;
+        let plan = plan(heap, &self.show, edit)?;
         Ok(self.apply(plan).change)
     }
 

@@ -6,4 +6,4 @@ as_before (Ok change) k = tt
 as_before (Err refusal) k = refl
 
 pub returns-in_err-plan-clause-unchanged : goal.returns-in_err-plan-clause-unchanged
-returns-in_err-plan-clause-unchanged c = as_before c.from_residual.result c.args.self.now
+returns-in_err-plan-clause-unchanged g c = as_before c.from_residual.result c.args.self.now

@@ -1,6 +1,7 @@
 use Rattle.lx_console.proofs.Imports.{ap, subst, sym, IsOkAnd, step, Kept, StandsFor, Obeys}
 use Rattle.lx_spec.specs.declared.Key.{Key}
 use Rattle.lx_spec.specs.declared.Command.TheVariants as commands
+use Rattle.lx_console.proofs.NoMemory.{key_never, fader_never}
 use Rattle.lx_console.proofs.Obedience.{obeys_play, obeys_fader, obeys_master}
 use Rattle.lx_console.proofs.player.Player.press.Goals as goal
 
@@ -29,3 +30,10 @@ returns-in-Master-clause-obeys c = λ d stands.
           (ap (λ (k : Kept). record k { master = c.in-Master.level }) c.self.view_is));
       err = tt;
     }
+
+pub returns-in-Play-clause-memory : goal.returns-in-Play-clause-memory
+returns-in-Play-clause-memory c =
+    key_never c.args.self.now.show c.args.self.now.playback c.in-Play.key c.play.result c.play.ensures.err
+
+pub returns-in-Fader-clause-memory : goal.returns-in-Fader-clause-memory
+returns-in-Fader-clause-memory c = fader_never c.in-Fader.sub c.set_fader.result c.set_fader.ensures.err
